@@ -1,0 +1,9 @@
+pub mod Mode
+pub mod Finding
+pub mod Mnemonic
+pub mod MnemonicLaws
+pub mod Opcodes
+pub mod Mos6502
+pub mod Cpu
+pub mod OpcodeLaws
+pub mod CpuLaws

@@ -1,0 +1,75 @@
+//! The CPUs by name.
+
+ghost use Rattle.std.specs.Prelude.{◌≡◌, ◌↔◌, Some};
+ghost use Rattle.std.specs.Str.{str_to_ascii_lowercase};
+ghost use Rattle.isa65.specs.Cpu.{first_cpu_named};
+
+use crate::mnemonic::{Mnemonic, is_same_word};
+use crate::mode::Mode;
+use crate::mos_6502::Mos6502;
+use crate::op::Op;
+use crate::opcode_set::OpcodeSet;
+
+/// A CPU whose opcodes are known. As an [`OpcodeSet`] it is the set of its own opcodes.
+#[derive(Clone, Copy, Debug, PartialEq, Eq)]
+pub enum Cpu {
+    /// The MOS 6502, with its documented opcodes.
+    M6502,
+}
+
+/// Each CPU once.
+const ALL: [Cpu; 1] = [Cpu::M6502];
+
+impl Cpu {
+    ghost use Rattle.isa65.specs.declared.cpu.Cpu.{Cpu};
+    ghost use Rattle.isa65.specs.Cpu.{cpu_text, cpu_named};
+
+    /// The CPU's name as ca65's `.setcpu` takes it.
+    pub fn text(self) -> &'static [u8]
+        ensures { result.now ≡ cpu_text self }
+    {
+        match self {
+            Cpu::M6502 => b"6502",
+        }
+    }
+
+    /// The CPU whose name the bytes are, in any letter case.
+    #[tactic(auto, unfolding(crate::specs::Cpu::cpu_named))]
+    pub fn from_bytes(bytes: &[u8]) -> Option<Cpu>
+        ensures value { result ≡ cpu_named bytes.now }
+
+        // The bytes name c exactly where they are its text, but for case.
+        ensures named { (c : Cpu) → (result ≡ Some c) ↔ (str_to_ascii_lowercase bytes.now ≡ str_to_ascii_lowercase (cpu_text c)) }
+    {
+        first_of(&ALL, bytes)
+    }
+}
+
+/// The first of these CPUs whose name the bytes are.
+fn first_of(cpus: &[Cpu], bytes: &[u8]) -> Option<Cpu>
+    ensures { result ≡ first_cpu_named bytes.now cpus.now }
+{
+    cpus.iter()
+        .copied()
+        .find(|cpu| is_same_word(cpu.text(), bytes))
+}
+
+impl OpcodeSet for Cpu {
+    ghost use Rattle.isa65.specs.Cpu.{table_of};
+    ghost use Rattle.isa65.specs.CpuLaws.{table_of-sound};
+    ghost use Rattle.isa65.specs.OpcodeLaws.{opcode-lt, encoded-decoded, written_alike};
+
+    ghost table = { table_of };
+
+    fn decode(&self, byte: u8) -> Option<Op> {
+        match self {
+            Cpu::M6502 => Mos6502.decode(byte),
+        }
+    }
+
+    ghost is_byte = { λ s b op h. opcode-lt (table_of s) (table_of-sound s) b op h };
+
+    ghost inverse = { λ s b op. encoded-decoded (table_of s) (table_of-sound s) b op };
+
+    ghost sizes = { λ s m x y p q same. written_alike (table_of s) (table_of-sound s) m x y p q same };
+}

@@ -1,0 +1,28 @@
+//! Instructions without their operands.
+
+ghost use Rattle.std.specs.Prelude.{◌≡◌};
+ghost use Rattle.isa65.specs.Opcodes.{sibling_in};
+
+use crate::mnemonic::Mnemonic;
+use crate::mode::Mode;
+use crate::opcode_set::OpcodeSet;
+
+/// What an opcode stands for.
+#[derive(Clone, Copy, Debug, PartialEq, Eq)]
+pub struct Op {
+    pub mnemonic: Mnemonic,
+    pub mode: Mode,
+}
+
+impl Op {
+    /// The zero-page mode that is written like this absolute one, where the set has the same
+    /// mnemonic in that mode too. An assembler then takes the shorter form for an operand below
+    /// $100, unless `a:` stands before it.
+    pub fn sibling<S: OpcodeSet>(self, set: &S) -> Option<Mode>
+        ensures { result ≡ sibling_in (S.table set.now) self }
+    {
+        let mode = self.mode.zero_page()?;
+        set.encode(self.mnemonic, mode)?;
+        Some(mode)
+    }
+}

@@ -1,0 +1,54 @@
+//! What the opcodes of a CPU stand for.
+
+ghost use Rattle.std.specs.Prelude.{◌≡◌, ◌↔◌, ◌<◌, ◌⊎◌, ℕ, Some, IsSome, IsTrue};
+ghost use Rattle.isa65.specs.declared.mnemonic.Mnemonic.{Mnemonic};
+ghost use Rattle.isa65.specs.declared.mode.Mode.{Mode};
+ghost use Rattle.isa65.specs.declared.op.Op.{Op};
+ghost use Rattle.isa65.specs.Mode.{written, IsZeroPageOf};
+ghost use Rattle.isa65.specs.Opcodes.{Table, decoded, encoded};
+
+use crate::mnemonic::Mnemonic;
+use crate::mode::Mode;
+use crate::op::Op;
+
+/// The opcodes of a CPU.
+///
+/// An implementation gives its table and `decode`, and proves three laws of the table: an opcode is
+/// a byte, `encode` is the inverse of `decode`, and modes of a mnemonic that are written alike are a
+/// zero-page and absolute pair.
+pub trait OpcodeSet {
+    /// Each opcode with its mnemonic and mode.
+    ghost table: { Self → Table };
+
+    /// What an opcode stands for, or none where it is undefined. Takes constant time.
+    fn decode(&self, byte: u8) -> Option<Op>
+        ensures { result ≡ decoded (table self.now) byte };
+
+    /// The opcode of a mnemonic in a mode, or none where it has no such form.
+    fn encode(&self, mnemonic: Mnemonic, mode: Mode) -> Option<u8>
+        ensures { result ≡ encoded (table self.now) mnemonic mode }
+    {
+        let op = Op { mnemonic, mode };
+        for byte in 0..=u8::MAX {
+            if is_this(self.decode(byte), op) {
+                return Some(byte);
+            }
+        }
+        None
+    }
+
+    /// An opcode is a byte.
+    ghost is_byte: { (s : Self) (b : ℕ) (op : Op) → decoded (table s) b ≡ Some op → b < 256 };
+
+    /// A pair has an opcode exactly where that opcode stands for the pair.
+    ghost inverse: { (s : Self) (b : ℕ) (op : Op) → (encoded (table s) op.mnemonic op.mode ≡ Some b) ↔ (decoded (table s) b ≡ Some op) };
+
+    /// Two modes of a mnemonic that are written alike differ in the size of their operand alone.
+    ghost sizes: { (s : Self) (m : Mnemonic) (x y : Mode) → IsSome (encoded (table s) m x) → IsSome (encoded (table s) m y) → written x ≡ written y → (x ≡ y) ⊎ (IsZeroPageOf x y ⊎ IsZeroPageOf y x) };
+}
+
+fn is_this(found: Option<Op>, op: Op) -> bool
+    ensures { IsTrue result ↔ (found ≡ Some op) }
+{
+    found == Some(op)
+}
