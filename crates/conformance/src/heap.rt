@@ -1,0 +1,54 @@
+//! Memory that refuses one growth, for tests.
+
+use std::alloc::{AllocError, Allocator};
+use std::cell::Cell;
+
+/// Memory that grants so many growths, refuses the one behind them, and grants those that follow.
+pub struct Refusing<B: Allocator> {
+    inner: B,
+    left: Cell<u64>,
+}
+
+impl<B: Allocator> Refusing<B> {
+    /// Over other memory, with this many growths before the one that is refused.
+    pub fn after(inner: B, granted: u64) -> Refusing<B> {
+        Refusing {
+            inner,
+            left: Cell::new(granted),
+        }
+    }
+
+    /// How many growths are left before the one that is refused. Behind it the count goes on down from
+    /// the last value.
+    pub fn left(&self) -> u64 {
+        self.left.get()
+    }
+}
+
+impl<B: Allocator> Drop for Refusing<B> {
+    fn drop(self) {
+        let Self { inner: _, left: _ } = self;
+    }
+}
+
+/// Counts a growth, and says whether it is the one that is refused.
+fn is_refused(left: &Cell<u64>) -> bool {
+    let before = left.get();
+    left.set(before.wrapping_sub(1));
+    before == 0
+}
+
+unsafe impl<B: Allocator> Allocator for Refusing<B> {
+    ghost dealloc_token = { λ heap ty ptr. B.dealloc_token heap.inner ty ptr };
+
+    fn allocate(&self, size: usize, align: usize) -> Result<*mut u8, AllocError> {
+        if is_refused(&self.left) {
+            return Err(AllocError);
+        }
+        self.inner.allocate(size, align)
+    }
+
+    unsafe fn deallocate(&self, ptr: *mut u8, size: usize, align: usize) {
+        self.inner.deallocate(ptr, size, align);
+    }
+}

@@ -1,0 +1,7 @@
+//! Tests that cross crates: whole runs over memory, over devices that fail, and over memory that is
+//! refused.
+#![tactic(auto)]
+
+pub mod heap;
+#[cfg(test)]
+mod tests;

@@ -1,0 +1,7 @@
+mod assembled;
+mod devices;
+mod failing;
+mod memory;
+mod refused;
+mod rows;
+mod runs;

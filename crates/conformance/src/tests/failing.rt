@@ -1,0 +1,154 @@
+// Runs over devices that fail.
+use crate::tests::devices::{Cut, Endless, Fault, Short};
+use crate::tests::runs::{THREE, THREE_LISTING, named};
+use da65::{RunFault, Status, Told, run};
+use std::test::Fail;
+
+#[test]
+fn a_reader_that_fails(rt: HostRuntime) -> Result<(), Fail> {
+    for given in 0..4 {
+        let mut listing = Vec::new(rt.alloc());
+        let mut messages = Vec::new(rt.alloc());
+        let reader = Cut {
+            bytes: &THREE[..given],
+            fails: true,
+        };
+        let result = run(
+            rt.alloc(),
+            &named(rt.alloc(), None)?,
+            &[],
+            &[],
+            &mut Told::new(reader),
+            &mut Told::new(&mut listing),
+            &mut Told::new(&mut messages),
+        );
+        assert_eq!(rt; result, Ok(Status::Refused), "after {given}");
+        assert!(rt; listing.is_empty());
+        assert_eq!(rt;
+            messages.as_slice(),
+            b"da65: cannot read the input\n".as_slice()
+        );
+    }
+    Ok(())
+}
+
+#[test]
+fn a_reader_of_single_bytes(rt: HostRuntime) -> Result<(), Fail> {
+    let mut listing = Vec::new(rt.alloc());
+    let mut messages = Vec::new(rt.alloc());
+    let reader = Cut {
+        bytes: THREE,
+        fails: false,
+    };
+    let result = run(
+        rt.alloc(),
+        &named(rt.alloc(), None)?,
+        &[],
+        &[],
+        &mut Told::new(reader),
+        &mut Told::new(&mut listing),
+        &mut Told::new(&mut messages),
+    );
+    assert_eq!(rt; result, Ok(Status::Done));
+    assert_eq!(rt; listing.as_slice(), THREE_LISTING);
+    assert!(rt; messages.is_empty());
+    Ok(())
+}
+
+#[test]
+fn an_input_without_end(rt: HostRuntime) -> Result<(), Fail> {
+    let mut listing = Vec::new(rt.alloc());
+    let mut messages = Vec::new(rt.alloc());
+    let mut reader = Endless { given: 0 };
+    let result = run(
+        rt.alloc(),
+        &named(rt.alloc(), None)?,
+        &[],
+        &[],
+        &mut Told::new(&mut reader),
+        &mut Told::new(&mut listing),
+        &mut Told::new(&mut messages),
+    );
+    assert_eq!(rt; result, Ok(Status::Refused));
+    assert_eq!(rt; reader.given, 65_537);
+    assert!(rt; listing.is_empty());
+    assert_eq!(rt;
+        messages.as_slice(),
+        b"da65: input is too large\n".as_slice()
+    );
+    Ok(())
+}
+
+#[test]
+fn a_writer_that_fails_or_takes_none(rt: HostRuntime) -> Result<(), Fail> {
+    for fault in [Fault::Fails, Fault::TakesNone] {
+        for room in 0..THREE_LISTING.len() {
+            let mut out = Short::new(rt.alloc(), room, fault);
+            let mut messages = Vec::new(rt.alloc());
+            let result = run(
+                rt.alloc(),
+                &named(rt.alloc(), None)?,
+                &[],
+                &[],
+                &mut Told::new(THREE),
+                &mut Told::new(&mut out),
+                &mut Told::new(&mut messages),
+            );
+            assert_eq!(rt; result, Err(RunFault::Write), "after {room}");
+            assert_eq!(rt;
+                out.bytes.as_slice(),
+                &THREE_LISTING[..room],
+                "after {room}"
+            );
+            assert!(rt; messages.is_empty());
+        }
+    }
+    Ok(())
+}
+
+#[test]
+fn a_writer_that_takes_ten_bytes(rt: HostRuntime) -> Result<(), Fail> {
+    let mut out = Short::new(rt.alloc(), 10, Fault::Fails);
+    let mut messages = Vec::new(rt.alloc());
+    let result = run(
+        rt.alloc(),
+        &named(rt.alloc(), None)?,
+        &[],
+        &[],
+        &mut Told::new(THREE),
+        &mut Told::new(&mut out),
+        &mut Told::new(&mut messages),
+    );
+    assert_eq!(rt; result, Err(RunFault::Write));
+    assert_eq!(rt; out.bytes.as_slice(), b"; da65 lis".as_slice());
+    Ok(())
+}
+
+const EMPTY_MESSAGE: &[u8] = b"da65: input is empty\n";
+
+#[test]
+fn messages_that_fail_or_take_none(rt: HostRuntime) -> Result<(), Fail> {
+    for fault in [Fault::Fails, Fault::TakesNone] {
+        for room in 0..EMPTY_MESSAGE.len() {
+            let mut listing = Vec::new(rt.alloc());
+            let mut messages = Short::new(rt.alloc(), room, fault);
+            let result = run(
+                rt.alloc(),
+                &named(rt.alloc(), None)?,
+                &[],
+                &[],
+                &mut Told::new([].as_slice()),
+                &mut Told::new(&mut listing),
+                &mut Told::new(&mut messages),
+            );
+            assert_eq!(rt; result, Err(RunFault::Messages), "after {room}");
+            assert!(rt; listing.is_empty());
+            assert_eq!(rt;
+                messages.bytes.as_slice(),
+                &EMPTY_MESSAGE[..room],
+                "after {room}"
+            );
+        }
+    }
+    Ok(())
+}

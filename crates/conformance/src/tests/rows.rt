@@ -1,0 +1,147 @@
+// Worked rows, each with ample memory.
+use crate::tests::runs::{HEADER, THREE, THREE_LISTING, named, run_over};
+use da65::{Options, Status};
+use std::test::Fail;
+
+#[test]
+fn three_bytes(rt: HostRuntime) -> Result<(), Fail> {
+    let ran = run_over(rt.alloc(), rt.alloc(), &named(rt.alloc(), None)?, THREE);
+    assert_eq!(rt; ran.result, Ok(Status::Done));
+    assert_eq!(rt; ran.listing.as_slice(), THREE_LISTING);
+    assert!(rt; ran.messages.is_empty());
+    Ok(())
+}
+
+/// An image from a start on, and the lines behind the header.
+pub struct Row {
+    pub start: u16,
+    pub image: &'static [u8],
+    pub body: &'static [u8],
+}
+
+pub const BODIES: &[Row] = &[
+    // forced absolute, and a store without a zero-page form
+    Row {
+        start: 0x1000,
+        image: &[0xAD, 0x12, 0x00, 0x99, 0x12, 0x00, 0x4C, 0x14, 0x00],
+        body: b"        lda     a:$0012\n        sta     $0012,y\n        jmp     $0014\n",
+    },
+    // a branch to itself
+    Row {
+        start: 0x1000,
+        image: &[0xD0, 0xFE],
+        body: b"        bne     $1000\n",
+    },
+    // a jump into itself
+    Row {
+        start: 0x1000,
+        image: &[0x4C, 0x01, 0x10],
+        body: b"        jmp     $1001\n",
+    },
+    // a zero-page operand, and an absolute one below $100
+    Row {
+        start: 0x0000,
+        image: &[0xA5, 0x04, 0xAD, 0x04, 0x00],
+        body: b"        lda     $04\n        lda     a:$0004\n",
+    },
+    // an undefined opcode
+    Row {
+        start: 0x1000,
+        image: &[0x02, 0xEA],
+        body: b"        .byte   $02\n        nop\n",
+    },
+    // a cut instruction
+    Row {
+        start: 0x1000,
+        image: &[0x20],
+        body: b"        .byte   $20\n",
+    },
+    // the text `HI` and a line feed
+    Row {
+        start: 0xFFFD,
+        image: &[0x48, 0x49, 0x0A],
+        body: b"        pha\n        eor     #$0A\n",
+    },
+    // a branch out of the address space, forward
+    Row {
+        start: 0xFFFC,
+        image: &[0xD0, 0x7F, 0xEA, 0xEA],
+        body: b"        .byte   $D0,$7F\n        nop\n        nop\n",
+    },
+];
+
+#[test]
+fn number_only_bodies(rt: HostRuntime) -> Result<(), Fail> {
+    for row in BODIES {
+        let options = named(rt.alloc(), Some(row.start))?;
+        let ran = run_over(rt.alloc(), rt.alloc(), &options, row.image);
+        assert_eq!(rt; ran.result, Ok(Status::Done));
+        assert_eq!(rt; ran.listing.as_slice().strip_prefix(HEADER), Some(row.body));
+        assert!(rt; ran.messages.is_empty());
+    }
+    Ok(())
+}
+
+#[test]
+fn as_many_bytes_as_addresses(rt: HostRuntime) -> Result<(), Fail> {
+    let image = vec![in rt.alloc(); 0u8; 65_536]?;
+    let ran = run_over(rt.alloc(), rt.alloc(), &named(rt.alloc(), None)?, &image);
+    assert_eq!(rt; ran.result, Ok(Status::Done));
+    let body = ran.listing.as_slice().strip_prefix(HEADER).ok_or("header")?;
+    assert_eq!(rt; body.len(), 65_536 * 12);
+    for line in body.chunks(12) {
+        assert_eq!(rt; line, b"        brk\n".as_slice());
+    }
+    Ok(())
+}
+
+/// A start, how many bytes 00 there are, and the message.
+struct Refusal {
+    start: Option<u16>,
+    count: usize,
+    message: &'static [u8],
+}
+
+const REFUSALS: &[Refusal] = &[
+    Refusal {
+        start: None,
+        count: 65_537,
+        message: b"da65: input is too large\n",
+    },
+    Refusal {
+        start: Some(0xFFFF),
+        count: 2,
+        message: b"da65: input is too large\n",
+    },
+    Refusal {
+        start: None,
+        count: 0,
+        message: b"da65: input is empty\n",
+    },
+];
+
+#[test]
+fn size_limits(rt: HostRuntime) -> Result<(), Fail> {
+    for refusal in REFUSALS {
+        let image = vec![in rt.alloc(); 0u8; refusal.count]?;
+        let options = named(rt.alloc(), refusal.start)?;
+        let ran = run_over(rt.alloc(), rt.alloc(), &options, &image);
+        assert_eq!(rt; ran.result, Ok(Status::Refused));
+        assert!(rt; ran.listing.is_empty());
+        assert_eq!(rt; ran.messages.as_slice(), refusal.message);
+    }
+    Ok(())
+}
+
+#[test]
+fn no_input_name(rt: HostRuntime) -> Result<(), Fail> {
+    let options: Options = Options::new(None, None);
+    let ran = run_over(rt.alloc(), rt.alloc(), &options, THREE);
+    assert_eq!(rt; ran.result, Ok(Status::Refused));
+    assert!(rt; ran.listing.is_empty());
+    assert_eq!(rt;
+        ran.messages.as_slice(),
+        b"da65: no input file\n".as_slice()
+    );
+    Ok(())
+}

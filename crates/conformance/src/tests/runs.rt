@@ -1,0 +1,45 @@
+// Runs over memory.
+use da65::{Options, RunFault, Status, Told, run};
+use std::alloc::{AllocError, Allocator, Global};
+
+/// What every listing of the 6502 begins with.
+pub const HEADER: &[u8] = b"; da65 listing\n\n        .setcpu \"6502\"\n\n";
+
+/// Three bytes, and their listing from the last address on.
+pub const THREE: &[u8] = &[0xA9, 0x01, 0x60];
+
+pub const THREE_LISTING: &[u8] =
+    b"; da65 listing\n\n        .setcpu \"6502\"\n\n        lda     #$01\n        rts\n";
+
+/// What a run answered, and what it wrote.
+#[derive(Debug, Drop)]
+pub struct Ran {
+    pub result: Result<Status, RunFault>,
+    pub listing: Vec<u8>,
+    pub messages: Vec<u8>,
+}
+
+/// Options with an input name and this start.
+pub fn named(alloc: Global, start: Option<u16>) -> Result<Options, AllocError> {
+    Ok(Options::new(Some(String::from_str(alloc, "image.bin")?), start))
+}
+
+/// A run with these options over memory, with ample memory but for `heap`.
+pub fn run_over<A: Allocator>(alloc: Global, heap: A, options: &Options, image: &[u8]) -> Ran {
+    let mut listing = Vec::new(alloc);
+    let mut messages = Vec::new(alloc);
+    let result = run(
+        heap,
+        options,
+        &[],
+        &[],
+        &mut Told::new(image),
+        &mut Told::new(&mut listing),
+        &mut Told::new(&mut messages),
+    );
+    Ran {
+        result,
+        listing,
+        messages,
+    }
+}

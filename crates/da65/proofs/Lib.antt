@@ -1,0 +1,17 @@
+pub mod ReadLemmas
+pub mod TakenLemmas
+pub mod LineLemmas
+pub mod ItemLemmas
+pub mod NextLemmas
+pub mod RunLemmas
+pub mod Rows
+pub mod LineLaws
+pub mod FieldLaws
+pub mod ModeLaws
+pub mod WrittenLaws
+pub mod StandsLaws
+pub mod ListingLaws
+pub mod Reassembly
+pub mod PrintLaws
+pub mod TextLaws
+pub mod RunLaws

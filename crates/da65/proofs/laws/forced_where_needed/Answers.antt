@@ -1,0 +1,5 @@
+use Rattle.da65.proofs.Reassembly.{forced_where_needed}
+use Rattle.da65.proofs.laws.forced_where_needed.Goals as goal
+
+pub returns : goal.returns
+returns c = forced_where_needed

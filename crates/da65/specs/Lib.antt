@@ -1,0 +1,13 @@
+pub mod Device
+pub mod Told
+pub mod ImageView
+pub mod Image
+pub mod Items
+pub mod Statements
+pub mod Listing
+pub mod Lines
+pub mod OptionsView
+pub mod Outcome
+pub mod Running
+pub mod ReassemblyLaw
+pub mod RunLaw

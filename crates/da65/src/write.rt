@@ -1,0 +1,22 @@
+//! Writing all of some bytes.
+
+ghost use Rattle.std.specs.Prelude.{OnOk, OnErr};
+ghost use Rattle.std.specs.Io.KnownBytes.{Appends};
+ghost use Rattle.da65.specs.Device.{Counts, AppendsFront};
+
+use crate::device::{DeviceFault, Sink};
+
+/// Writes the bytes, write after write, until all are taken or one write fails. No write is tried again.
+#[tactic(auto, using(crate::proofs::TakenLemmas::taken_more, crate::proofs::TakenLemmas::taken_all))]
+pub fn write_whole<W: Sink>(out: &mut W, bytes: &[u8]) -> Result<(), DeviceFault>
+    ensures whole { OnOk result (Appends (W.taken out.old) (W.taken out.new) bytes.now) }
+    ensures front { OnErr result (AppendsFront (W.taken out.old) (W.taken out.new) bytes.now) }
+    ensures count { Counts (W.faults out.old) (W.faults out.new) result }
+{
+    let mut rest = bytes;
+    'writes: while !rest.is_empty() {
+        let n = out.write_some(rest)?;
+        rest = &rest[n..];
+    }
+    Ok(())
+}

@@ -1,0 +1,127 @@
+-- Values that are read have the form of their attributes.
+use Rattle.std.proofs.Common.{◌≡◌, ◌≤◌, ℕ, Bool, List, [], ◌∷◌, ◌++◌, true, false, ap, append_assoc, arith}
+use Rattle.std.specs.Prelude.{IfOk, IfSome, Option, Some, None, Result, Ok, nat_le}
+use Rattle.std.specs.List.{AllByRecursion, flat_map}
+use Rattle.std.specs.Option.{unwrap_or}
+use Rattle.std.proofs.lemmas.Bool.Decides.{nat_tests}
+use denote.Enum.Bare.{same_true}
+use Rattle.info65.specs.contracts.attribute.Attribute as attribute_type
+use Rattle.info65.specs.Attributes.{form_of}
+use Rattle.isa65.specs.Cpu.{cpu_named}
+use Rattle.info65.specs.Grammar.{Item, Spells, end_items, given_items, group_items, without_marks}
+use Rattle.info65.specs.Groups.{AreFormed, GivenView, GroupView, global_given, global_part, is_of, value_in}
+use Rattle.info65.specs.Lexemes.{KindView, number, string}
+use Rattle.info65.specs.Reader.{groups_of, read}
+use Rattle.info65.specs.Settings.{as_number, settings_of}
+use Rattle.info65.specs.Tokens.{TokenView, tokens_of}
+use Rattle.info65.specs.Values.{HasForm, ValueView, a_number, cpu_value, in_form, is_file_name, is_on_command_line, name_value, value_of}
+use Rattle.info65.specs.Views.{AreInLimits, OptionsView}
+use Rattle.info65.specs.declared.attribute.Attribute.{Attribute}
+use Rattle.info65.specs.declared.attribute.Attribute.TheVariants as attribute
+use Rattle.info65.specs.declared.attribute.Form.{Form}
+use Rattle.info65.specs.declared.attribute.Form.TheVariants as form
+use Rattle.info65.specs.declared.attribute.GroupKind.{GroupKind}
+use Rattle.info65.specs.declared.attribute.GroupKind.TheVariants as group_kind
+use Rattle.isa65.specs.declared.cpu.Cpu.{Cpu}
+use Rattle.info65.specs.declared.fault.InfoFault.{InfoFault}
+use Rattle.info65.proofs.Accepting.{by_test, groups_accepted}
+
+name_formed : (o : OptionsView) (a : Attribute) (line : ℕ) (text : List ℕ) → IfOk (name_value o a line text) (HasForm form.FileName)
+unfolding name_value
+name_formed o a line text =
+    by_test (is_file_name text)
+    (λ h. by_test (is_on_command_line o a) (λ g. rw (h, g) tt) (λ g. rw (h, g) h))
+    (λ h. rw h tt)
+
+cpu_formed : (line : ℕ) (c : Option Cpu) → IfOk (cpu_value line c) (HasForm form.CpuText)
+cpu_formed line (Some c) = tt
+cpu_formed line None = tt
+
+formed : (o : OptionsView) (a : Attribute) (line : ℕ) (f : Form) (k : KindView) → IfOk (in_form o a line f k) (HasForm f)
+formed o a line form.FileName (string text) = name_formed o a line text
+formed o a line form.CpuText (string text) = cpu_formed line (cpu_named text)
+formed o a line form.Address (number n) = by_test (nat_le n 0xFFFF) (λ h. rw h (grind (arith, nat_tests, h))) (λ h. rw h tt)
+formed o a line (form.Number low high) (number n) =
+    by_test (nat_le low n) (λ g. by_test (nat_le n high) (λ h. rw (g, h) (grind (arith, nat_tests, g), grind (arith, nat_tests, h))) (λ h. rw (g, h) tt)) (λ g. rw g tt)
+formed o a line _ _ = tt
+
+at : {A : Type 0} (P : A → Type 0) (r : Result A InfoFault) (x : A) → r ≡ Ok x → IfOk r P → P x
+at P r x e h = rw e at h
+
+value_formed : (o : OptionsView) (a : Attribute) (t : TokenView) (v : ValueView) → value_of o a t ≡ Ok v → HasForm (form_of a) v
+unfolding value_of
+value_formed o a t v e = at (HasForm (form_of a)) (value_of o a t) v e (formed o a t.line (form_of a) t.kind)
+
+given_formed : (o : OptionsView) (k : GroupKind) (given : List GivenView) (rest : List Item) (ts : List TokenView) → Spells o (flat_map (given_items k) given ++ rest) ts → AreFormed given × ((more : List TokenView) × Spells o rest more)
+given_formed o k [] rest ts h = (tt, (ts, h))
+given_formed o k (g ∷ gs) rest [] h = absurd h
+given_formed o k (g ∷ gs) rest (t ∷ []) h = absurd h.1
+given_formed o k (g ∷ gs) rest (t ∷ u ∷ []) h = absurd h.1.1
+given_formed o k (g ∷ gs) rest (t ∷ u ∷ v ∷ ts) h =
+    let more = given_formed o k gs rest ts h.1.1.1 in ((value_formed o g.attribute u g.value h.1.0, more.0), more.1)
+
+end_passed : (o : OptionsView) (b : Bool) (rest : List Item) (ts : List TokenView) → Spells o (end_items b ++ rest) ts → (more : List TokenView) × Spells o rest more
+end_passed o true rest [] h = absurd h
+end_passed o true rest (t ∷ []) h = absurd h.1
+end_passed o true rest (t ∷ u ∷ ts) h = (ts, h.1.1)
+end_passed o false rest [] h = absurd h
+end_passed o false rest (t ∷ ts) h = (ts, h.1)
+
+abbrev GroupsFormed : List GroupView → Type 0
+GroupsFormed gs = AllByRecursion (λ g. AreFormed g.given) gs
+
+groups_formed : (o : OptionsView) (spelling : List (GroupView × Bool)) (ts : List TokenView) → Spells o (flat_map group_items spelling) ts → GroupsFormed (without_marks spelling)
+groups_formed o [] ts h = tt
+groups_formed o (g ∷ gs) [] h = absurd h
+groups_formed o (g ∷ gs) (t ∷ []) h = absurd h.1
+groups_formed o (g ∷ gs) (t ∷ u ∷ ts) h =
+    let inner : Spells o (flat_map (given_items g.0.kind) g.0.given ++ (end_items g.1 ++ flat_map group_items gs)) ts =
+    let e = append_assoc (flat_map (given_items g.0.kind) g.0.given) (end_items g.1) (flat_map group_items gs) in rw e at h.1.1 in
+    let given = given_formed o g.0.kind g.0.given (end_items g.1 ++ flat_map group_items gs) ts inner in
+    let more = end_passed o g.1 (flat_map group_items gs) given.1.0 given.1.1 in
+    (given.0, groups_formed o gs more.0 more.1)
+
+append_formed : (xs ys : List GivenView) → AreFormed xs → AreFormed ys → AreFormed (xs ++ ys)
+append_formed [] ys h i = i
+append_formed (x ∷ xs) ys h i = (h.0, append_formed xs ys h.1 i)
+
+part_formed : (k : GroupKind) (given : List GivenView) → AreFormed given → AreFormed (global_part (record { kind = k; given = given }))
+part_formed group_kind.Global given h = h
+
+all_formed : (groups : List GroupView) → GroupsFormed groups → AreFormed (global_given groups)
+unfolding global_given
+all_formed [] h = tt
+all_formed (g ∷ gs) h = append_formed (global_part g) (global_given gs) (part_formed g.kind g.given h.0) (all_formed gs h.1)
+
+-- what the groups GLOBAL of an accepted text give has the form of its attribute
+pub read_formed : (o : OptionsView) (bytes : List ℕ) (groups : List GroupView) → groups_of o bytes ≡ Ok groups → AreFormed (global_given groups)
+unfolding groups_of read
+read_formed o bytes groups e =
+    let a = groups_accepted o (tokens_of 1 bytes).tokens (tokens_of 1 bytes).ending groups e in
+    all_formed groups (rw a.1.of at (groups_formed o a.1.spelling (tokens_of 1 bytes).tokens a.1.spelled))
+
+found_formed : (a : Attribute) (given : List GivenView) → AreFormed given → IfSome (value_in a given) (HasForm (form_of a))
+unfolding value_in
+found_formed a [] h = tt
+found_formed a (g ∷ gs) h =
+    by_test (is_of a g)
+    (λ e. let same : a ≡ g.attribute = same_true attribute_type.the_type tt a g.attribute e in rw e (rw (ap form_of same) h.0))
+    (λ e. rw e (found_formed a gs h.1))
+
+offset_in : (v : Option ValueView) → IfSome v (HasForm (form.Number 0 16_777_216)) → unwrap_or (as_number v) 0 ≤ 16_777_216
+offset_in (Some (a_number n)) h = h.1
+offset_in (Some _) h = omega arith
+offset_in None h = omega arith
+
+size_in : (v : Option ValueView) → IfSome v (HasForm (form.Number 1 0x1_0000)) → IfSome (as_number v) (λ n. (1 ≤ n) × (n ≤ 0x1_0000))
+size_in (Some (a_number n)) h = h
+size_in (Some _) h = tt
+size_in None h = tt
+
+-- the settings of such values are in their limits
+pub settings_in_limits : (o : OptionsView) (given : List GivenView) → AreFormed given → AreInLimits (settings_of o given)
+unfolding settings_of form_of
+settings_in_limits o given h = record {
+  offset = offset_in (value_in attribute.InputOffset given) (found_formed attribute.InputOffset given h);
+  size = size_in (value_in attribute.InputSize given) (found_formed attribute.InputSize given h);
+}

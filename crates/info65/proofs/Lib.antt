@@ -1,0 +1,10 @@
+pub mod Accepting
+pub mod FormLemmas
+pub mod GroupLemmas
+pub mod Laws
+pub mod NameLemmas
+pub mod NumberLemmas
+pub mod OnceLemmas
+pub mod ReaderLemmas
+pub mod StandLemmas
+pub mod TokenLemmas

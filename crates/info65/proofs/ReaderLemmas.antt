@@ -1,0 +1,165 @@
+-- One token more, at each place.
+use Rattle.std.proofs.Common.{◌≡◌, ◌∙◌, ℕ, Bool, ◌&&◌, List, [], ◌∷◌, ◌++◌, true, false, refl, ap, inl, inr, sym}
+use Rattle.std.specs.Prelude.{Result, Ok, Err, Some, None}
+use Rattle.info65.specs.Faults.{Fails, fault, ◌>>=◌}
+use Rattle.info65.specs.Attributes.{group_named}
+use Rattle.info65.specs.Groups.{GivenView, GroupView, closing_fault}
+use Rattle.info65.specs.Lexemes.{KindView, semicolon}
+use Rattle.info65.specs.Reader.{Leads, Place, after_group, at_attribute, at_brace, at_group, at_semicolon, attribute_at, behind, closed, closed_by, finish, group, inside, is_semicolon, one, opened, opening, outside, place_after, read, read_from, read_token, step, valued, wanted}
+use Rattle.info65.specs.Steps.{kind_seen}
+use Rattle.info65.specs.Tokens.{Stream, TokenView, ended, refused, with_token}
+use Rattle.info65.specs.Values.{ValueView, value_of}
+use Rattle.info65.specs.Views.{OptionsView}
+use Rattle.info65.specs.declared.attribute.Attribute.{Attribute}
+use Rattle.info65.specs.declared.attribute.GroupKind.{GroupKind}
+use Rattle.info65.specs.declared.fault.InfoFault.{InfoFault}
+use Rattle.info65.specs.declared.fault.InfoFaultKind.TheVariants.{Expected, UnknownGroup}
+use Rattle.info65.specs.declared.token.TokenKind.{TokenKind}
+use Rattle.info65.specs.declared.token.TokenKind.TheVariants as kind
+
+-- the next token is read
+pub read_next : (o : OptionsView) (p : Place) (b : List GroupView) (t : TokenView) (old new : Stream) → old ≡ with_token t new → read o p b old ≡ read_token o p b t new
+unfolding read read_token read_from
+read_next o p b t old new is = ap (read o p b) is
+
+-- no token is left
+read_none : (o : OptionsView) (p : Place) (b : List GroupView) (old : Stream) → old.tokens ≡ [] → read o p b old ≡ finish p b old.ending
+unfolding read read_from
+read_none o p b old is = ap (λ (ts : List TokenView). read_from o p b ts old.ending) is
+
+-- a token that is taken
+token_taken : (o : OptionsView) (p q : Place) (b c : List GroupView) (t : TokenView) (rest : Stream) → step o p b t ≡ Ok (q, c) → read_token o p b t rest ≡ read o q c rest
+unfolding read_token
+token_taken o p q b c t rest is = ap (λ r. r >>= λ x. read o x.0 x.1 rest) is
+
+-- a token that is refused
+token_refused : (o : OptionsView) (p : Place) (b : List GroupView) (t : TokenView) (rest : Stream) (e : InfoFault) → step o p b t ≡ Err e → read_token o p b t rest ≡ Err e
+unfolding read_token
+token_refused o p b t rest e is = ap (λ r. r >>= λ x. read o x.0 x.1 rest) is
+
+-- the end or a fault, where a token is due
+pub missing : (o : OptionsView) (p : Place) (b : List GroupView) (old : Stream) (e : InfoFault) → finish p b old.ending ≡ Err (wanted old.ending) → (old.tokens ≡ []) × (wanted old.ending ≡ e) → read o p b old ≡ Err e
+missing o p b old e due is = read_none o p b old is.0 ∙ due ∙ ap (λ w. Err w) is.1
+
+-- a token of another kind
+brace_no : (k : GroupKind) (b : List GroupView) (t : TokenView) (x : TokenKind) → (x ≡ kind.OpenBrace → ⊥) → at_brace b k t (kind_seen x) ≡ Err (fault t.line Expected)
+brace_no k b t kind.OpenBrace isnt = absurd (isnt refl)
+brace_no k b t _ isnt = refl
+
+semicolon_no : (k : GroupKind) (given : List GivenView) (b : List GroupView) (t : TokenView) (x : TokenKind) → (x ≡ kind.Semicolon → ⊥) → at_semicolon b k given t (kind_seen x) ≡ Err (fault t.line Expected)
+semicolon_no k given b t kind.Semicolon isnt = absurd (isnt refl)
+semicolon_no k given b t _ isnt = refl
+
+group_no : (b : List GroupView) (t : TokenView) (x : TokenKind) → (x ≡ kind.Word → ⊥) → at_group b t (kind_seen x) ≡ Err (fault t.line Expected)
+group_no b t kind.Word isnt = absurd (isnt refl)
+group_no b t _ isnt = refl
+
+attribute_no : (k : GroupKind) (given : List GivenView) (b : List GroupView) (t : TokenView) (x : TokenKind) → (x ≡ kind.Word → ⊥) → (x ≡ kind.CloseBrace → ⊥) → at_attribute b k given t (kind_seen x) ≡ Err (fault t.line Expected)
+attribute_no k given b t kind.Word isnt other = absurd (isnt refl)
+attribute_no k given b t kind.CloseBrace isnt other = absurd (other refl)
+attribute_no k given b t _ isnt other = refl
+
+after_no : (b : List GroupView) (t : TokenView) (x : KindView) → is_semicolon x ≡ false → after_group b t x ≡ at_group b t x
+after_no b t semicolon isnt = absurd cc
+after_no b t _ isnt = refl
+
+after_yes : (b : List GroupView) (t : TokenView) (x : KindView) → is_semicolon x ≡ true → after_group b t x ≡ Ok (outside, b)
+after_yes b t semicolon is = refl
+after_yes b t _ is = absurd cc
+
+-- ---- each token at each place
+
+pub brace_taken : (o : OptionsView) (k : GroupKind) (b : List GroupView) (t : TokenView) (x : TokenKind) (rest : Stream) → t.kind ≡ kind_seen x → x ≡ kind.OpenBrace → read_token o (opening k) b t rest ≡ read o (inside k []) b rest
+unfolding step
+brace_taken o k b t x rest is brace = token_taken o (opening k) (inside k []) b b t rest (ap (at_brace b k t) (is ∙ ap kind_seen brace))
+
+pub brace_refused : (o : OptionsView) (k : GroupKind) (b : List GroupView) (t : TokenView) (x : TokenKind) (rest : Stream) → t.kind ≡ kind_seen x → (x ≡ kind.OpenBrace → ⊥) → read_token o (opening k) b t rest ≡ Err (fault t.line Expected)
+unfolding step
+brace_refused o k b t x rest is isnt = token_refused o (opening k) b t rest _ (ap (at_brace b k t) is ∙ brace_no k b t x isnt)
+
+pub separator_taken : (o : OptionsView) (k : GroupKind) (given : List GivenView) (b : List GroupView) (t : TokenView) (x : TokenKind) (rest : Stream) → t.kind ≡ kind_seen x → x ≡ kind.Semicolon → read_token o (behind k given) b t rest ≡ read o (inside k given) b rest
+unfolding step
+separator_taken o k given b t x rest is mark = token_taken o (behind k given) (inside k given) b b t rest (ap (at_semicolon b k given t) (is ∙ ap kind_seen mark))
+
+pub separator_refused : (o : OptionsView) (k : GroupKind) (given : List GivenView) (b : List GroupView) (t : TokenView) (x : TokenKind) (rest : Stream) → t.kind ≡ kind_seen x → (x ≡ kind.Semicolon → ⊥) → read_token o (behind k given) b t rest ≡ Err (fault t.line Expected)
+unfolding step
+separator_refused o k given b t x rest is isnt = token_refused o (behind k given) b t rest _ (ap (at_semicolon b k given t) is ∙ semicolon_no k given b t x isnt)
+
+pub group_refused : (o : OptionsView) (b : List GroupView) (t : TokenView) (x : TokenKind) (rest : Stream) → t.kind ≡ kind_seen x → (x ≡ kind.Word → ⊥) → read_token o outside b t rest ≡ Err (fault t.line Expected)
+unfolding step
+group_refused o b t x rest is isnt = token_refused o outside b t rest _ (ap (at_group b t) is ∙ group_no b t x isnt)
+
+pub group_taken : (o : OptionsView) (b : List GroupView) (t : TokenView) (x : TokenKind) (rest : Stream) (k : GroupKind) → t.kind ≡ kind_seen x → x ≡ kind.Word → group_named t.text ≡ Some k → read_token o outside b t rest ≡ read o (opening k) b rest
+unfolding step
+group_taken o b t x rest k is word named = token_taken o outside (opening k) b b t rest (ap (at_group b t) (is ∙ ap kind_seen word) ∙ ap (opened b t.line) named)
+
+pub group_unknown : (o : OptionsView) (b : List GroupView) (t : TokenView) (x : TokenKind) (rest : Stream) → t.kind ≡ kind_seen x → x ≡ kind.Word → group_named t.text ≡ None → read_token o outside b t rest ≡ Err (fault t.line UnknownGroup)
+unfolding step
+group_unknown o b t x rest is word named = token_refused o outside b t rest _ (ap (at_group b t) (is ∙ ap kind_seen word) ∙ ap (opened b t.line) named)
+
+pub attribute_read : (o : OptionsView) (k : GroupKind) (given : List GivenView) (b : List GroupView) (t : TokenView) (x : TokenKind) (rest : Stream) (r : Result Attribute InfoFault) → t.kind ≡ kind_seen x → x ≡ kind.Word → r ≡ attribute_at b k given t → Leads (read_token o (inside k given) b t rest) r (λ a. read o (valued k given a) b rest)
+unfolding step
+attribute_read o k given b t x rest (Ok a) is word found = token_taken o (inside k given) (valued k given a) b b t rest (ap (at_attribute b k given t) (is ∙ ap kind_seen word) ∙ ap (λ r. r >>= λ a. Ok (valued k given a, b)) (sym found))
+attribute_read o k given b t x rest (Err e) is word found = token_refused o (inside k given) b t rest e (ap (at_attribute b k given t) (is ∙ ap kind_seen word) ∙ ap (λ r. r >>= λ a. Ok (valued k given a, b)) (sym found))
+
+pub attribute_refused : (o : OptionsView) (k : GroupKind) (given : List GivenView) (b : List GroupView) (t : TokenView) (x : TokenKind) (rest : Stream) → t.kind ≡ kind_seen x → (x ≡ kind.Word → ⊥) → (x ≡ kind.CloseBrace → ⊥) → read_token o (inside k given) b t rest ≡ Err (fault t.line Expected)
+unfolding step
+attribute_refused o k given b t x rest is isnt other = token_refused o (inside k given) b t rest _ (ap (at_attribute b k given t) is ∙ attribute_no k given b t x isnt other)
+
+pub close_read : (o : OptionsView) (k : GroupKind) (given : List GivenView) (b : List GroupView) (t : TokenView) (x : TokenKind) (rest : Stream) → t.kind ≡ kind_seen x → x ≡ kind.CloseBrace → step o (inside k given) b t ≡ closed_by b k given t.line (closing_fault b k given)
+unfolding step
+close_read o k given b t x rest is brace = ap (at_attribute b k given t) (is ∙ ap kind_seen brace)
+
+pub close_taken : (o : OptionsView) (k : GroupKind) (given : List GivenView) (b : List GroupView) (t : TokenView) (x : TokenKind) (rest : Stream) → t.kind ≡ kind_seen x → x ≡ kind.CloseBrace → closed_by b k given t.line (closing_fault b k given) ≡ Ok (closed, b ++ group k given ∷ []) → read_token o (inside k given) b t rest ≡ read o closed (b ++ group k given ∷ []) rest
+close_taken o k given b t x rest is brace whole = token_taken o (inside k given) closed b (b ++ group k given ∷ []) t rest (close_read o k given b t x rest is brace ∙ whole)
+
+pub close_refused : (o : OptionsView) (k : GroupKind) (given : List GivenView) (b : List GroupView) (t : TokenView) (x : TokenKind) (rest : Stream) (e : InfoFault) → t.kind ≡ kind_seen x → x ≡ kind.CloseBrace → closed_by b k given t.line (closing_fault b k given) ≡ Err e → read_token o (inside k given) b t rest ≡ Err e
+close_refused o k given b t x rest e is brace whole = token_refused o (inside k given) b t rest e (close_read o k given b t x rest is brace ∙ whole)
+
+pub value_taken : (o : OptionsView) (k : GroupKind) (given : List GivenView) (a : Attribute) (b : List GroupView) (t : TokenView) (rest : Stream) (v : ValueView) → value_of o a t ≡ Ok v → read_token o (valued k given a) b t rest ≡ read o (behind k (given ++ one a v ∷ [])) b rest
+unfolding step
+value_taken o k given a b t rest v is = token_taken o (valued k given a) (behind k (given ++ one a v ∷ [])) b b t rest (ap (λ r. r >>= λ v. Ok (behind k (given ++ one a v ∷ []), b)) is)
+
+pub value_refused : (o : OptionsView) (k : GroupKind) (given : List GivenView) (a : Attribute) (b : List GroupView) (t : TokenView) (rest : Stream) (e : InfoFault) → value_of o a t ≡ Err e → read_token o (valued k given a) b t rest ≡ Err e
+unfolding step
+value_refused o k given a b t rest e is = token_refused o (valued k given a) b t rest e (ap (λ r. r >>= λ v. Ok (behind k (given ++ one a v ∷ []), b)) is)
+
+-- ---- between two groups
+
+pub between_end : (o : OptionsView) (after : Bool) (b : List GroupView) (old : Stream) (line : ℕ) → old ≡ ended line → read o (place_after after) b old ≡ Ok b
+unfolding read read_from finish
+between_end o true b old line is = ap (read o closed b) is
+between_end o false b old line is = ap (read o outside b) is
+
+pub between_fault : (o : OptionsView) (after : Bool) (b : List GroupView) (old : Stream) (e : InfoFault) → old ≡ refused e → read o (place_after after) b old ≡ Err e
+unfolding read read_from finish
+between_fault o true b old e is = ap (read o closed b) is
+between_fault o false b old e is = ap (read o outside b) is
+
+semicolon_passed : (o : OptionsView) (b : List GroupView) (t : TokenView) (rest : Stream) → is_semicolon t.kind ≡ true → read_token o closed b t rest ≡ read o outside b rest
+unfolding step
+semicolon_passed o b t rest is = token_taken o closed outside b b t rest (after_yes b t t.kind is)
+
+group_next : (o : OptionsView) (b : List GroupView) (t : TokenView) (rest : Stream) → is_semicolon t.kind ≡ false → read_token o closed b t rest ≡ read_token o outside b t rest
+unfolding read_token step
+group_next o b t rest isnt = ap (λ r. r >>= λ x. read o x.0 x.1 rest) (after_no b t t.kind isnt)
+
+pub between_separator : (o : OptionsView) (after : Bool) (b : List GroupView) (t : TokenView) (old new : Stream) → old ≡ with_token t new → after ≡ true → is_semicolon t.kind ≡ true → read o (place_after after) b old ≡ read o outside b new
+between_separator o true b t old new is on mark = read_next o closed b t old new is ∙ semicolon_passed o b t new mark
+between_separator o false b t old new is on mark = cc
+
+pub between_group : (o : OptionsView) (after : Bool) (b : List GroupView) (t : TokenView) (old new : Stream) → old ≡ with_token t new → (after && is_semicolon t.kind) ≡ false → read o (place_after after) b old ≡ read_token o outside b t new
+between_group o true b t old new is other = read_next o closed b t old new is ∙ group_next o b t new other
+between_group o false b t old new is other = read_next o outside b t old new is
+
+pub and_no : (a b : Bool) → b ≡ false → (a && b) ≡ false
+and_no true b is = is
+and_no false b is = refl
+
+pub no_and : (a b : Bool) → a ≡ false → (a && b) ≡ false
+no_and a b is = rw is refl
+
+-- a refusal of what is the same
+pub fails_along : {A : Type 0} {r s : Result A InfoFault} {e : InfoFault} → r ≡ s → Fails e s → Fails e r
+fails_along is (inl h) = inl (is ∙ h)
+fails_along is (inr h) = inr h

@@ -1,0 +1,37 @@
+-- The groups of an information file, their attributes, and what the values of these have to be.
+use Rattle.std.specs.Prelude.{ℕ, List, Option, Some, None, codes, if◌then◌else◌}
+use Rattle.std.specs.Str.{str_eq_ignore_ascii_case}
+use Rattle.info65.specs.declared.attribute.GroupKind.{GroupKind}
+use Rattle.info65.specs.declared.attribute.GroupKind.TheVariants as group
+use Rattle.info65.specs.declared.attribute.Attribute.{Attribute}
+use Rattle.info65.specs.declared.attribute.Attribute.TheVariants as attribute
+use Rattle.info65.specs.declared.attribute.Form.{Form}
+use Rattle.info65.specs.declared.attribute.Form.TheVariants as form
+
+-- the group of this name, with letters of any case
+unfoldable pub group_named : List ℕ → Option GroupKind
+group_named text =
+    if str_eq_ignore_ascii_case text (codes "GLOBAL") then Some group.Global
+    else None
+
+-- the attribute of a group by its name, with letters of any case
+unfoldable pub attribute_named : GroupKind → List ℕ → Option Attribute
+attribute_named group.Global text =
+    if str_eq_ignore_ascii_case text (codes "INPUTNAME") then Some attribute.InputName
+    else (if str_eq_ignore_ascii_case text (codes "OUTPUTNAME") then Some attribute.OutputName
+    else (if str_eq_ignore_ascii_case text (codes "INPUTOFFS") then Some attribute.InputOffset
+    else (if str_eq_ignore_ascii_case text (codes "INPUTSIZE") then Some attribute.InputSize
+    else (if str_eq_ignore_ascii_case text (codes "STARTADDR") then Some attribute.StartAddress
+    else (if str_eq_ignore_ascii_case text (codes "CPU") then Some attribute.Cpu
+    else (if str_eq_ignore_ascii_case text (codes "PAGELENGTH") then Some attribute.PageLength
+    else None))))))
+
+-- what the value of an attribute has to be
+unfoldable pub form_of : Attribute → Form
+form_of attribute.InputName = form.FileName
+form_of attribute.OutputName = form.FileName
+form_of attribute.InputOffset = form.Number 0 16_777_216
+form_of attribute.InputSize = form.Number 1 0x1_0000
+form_of attribute.StartAddress = form.Address
+form_of attribute.Cpu = form.CpuText
+form_of attribute.PageLength = form.Number 0 0

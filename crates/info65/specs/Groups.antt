@@ -1,0 +1,58 @@
+-- Groups, and what must hold of a group behind those before it.
+use Rattle.std.specs.Prelude.{◌||◌, Bool, List, Option, None, option_map}
+use Rattle.std.specs.List.{AllByRecursion, find, flat_map, list_any}
+use denote.Enum.Bare.{sameb}
+use Rattle.info65.specs.contracts.attribute.Attribute as attribute_type
+use Rattle.info65.specs.Attributes.{form_of}
+use Rattle.info65.specs.Values.{HasForm, ValueView}
+use Rattle.info65.specs.declared.attribute.Attribute.{Attribute}
+use Rattle.info65.specs.declared.attribute.GroupKind.{GroupKind}
+use Rattle.info65.specs.declared.attribute.GroupKind.TheVariants as group
+use Rattle.info65.specs.declared.fault.InfoFaultKind.{InfoFaultKind}
+
+-- an attribute and its value
+pub record GivenView : Type 0 where
+  pub attribute : Attribute
+  pub value : ValueView
+
+-- a group, and what is given in it
+pub record GroupView : Type 0 where
+  pub kind : GroupKind
+  pub given : List GivenView
+
+abbrev pub is_of : Attribute → GivenView → Bool
+is_of a g = sameb attribute_type.the_type a g.attribute
+
+-- the attribute is given
+unfoldable pub has : Attribute → List GivenView → Bool
+has a given = list_any (is_of a) given
+
+-- the value that the attribute is given
+unfoldable pub value_in : Attribute → List GivenView → Option ValueView
+value_in a given = option_map (λ g. g.value) (find (is_of a) given)
+
+abbrev pub global_part : GroupView → List GivenView
+global_part g = if_global g.kind g.given
+  where
+    if_global : GroupKind → List GivenView → List GivenView
+    if_global group.Global given = given
+
+-- what all groups GLOBAL give: they count as one
+unfoldable pub global_given : List GroupView → List GivenView
+global_given groups = flat_map global_part groups
+
+-- what counts as given in the same group, where a group of this kind follows these
+abbrev pub given_before : List GroupView → GroupKind → List GivenView
+given_before before group.Global = global_given before
+
+-- the attribute was given before in its group
+unfoldable pub is_given : List GroupView → GroupKind → List GivenView → Attribute → Bool
+is_given before k given a = has a (given_before before k) || has a given
+
+-- the fault of a group at its closing brace: a group GLOBAL needs nothing
+unfoldable pub closing_fault : List GroupView → GroupKind → List GivenView → Option InfoFaultKind
+closing_fault before group.Global given = None
+
+-- each value has the form of its attribute
+abbrev pub AreFormed : List GivenView → Type 0
+AreFormed given = AllByRecursion (λ g. HasForm (form_of g.attribute) g.value) given

@@ -1,0 +1,14 @@
+pub mod Attributes
+pub mod Faults
+pub mod Given
+pub mod Grammar
+pub mod Groups
+pub mod Laws
+pub mod Lexemes
+pub mod Reader
+pub mod Settings
+pub mod Standing
+pub mod Steps
+pub mod Tokens
+pub mod Values
+pub mod Views

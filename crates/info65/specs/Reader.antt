@@ -1,0 +1,142 @@
+-- Reading groups token by token: what may come next, and the first fault.
+use Rattle.std.specs.Prelude.{◌≡◌, ℕ, Bool, true, false, List, [], ◌∷◌, ◌++◌, Option, Some, None, Result, Ok, Err, length, nat_lt, if◌then◌else◌}
+use Rattle.info65.specs.Attributes.{attribute_named, group_named}
+use Rattle.info65.specs.Faults.{Fails, fault, ◌>>=◌}
+use Rattle.info65.specs.Groups.{GivenView, GroupView, closing_fault, is_given}
+use Rattle.info65.specs.Lexemes.{KindView, word, opening_brace, closing_brace, semicolon}
+use Rattle.info65.specs.Settings.{info_of}
+use Rattle.info65.specs.Tokens.{Stream, TokenView, tokens_of}
+use Rattle.info65.specs.Values.{ValueView, value_of}
+use Rattle.info65.specs.Views.{InfoView, OptionsView}
+use Rattle.info65.specs.declared.attribute.Attribute.{Attribute}
+use Rattle.info65.specs.declared.attribute.GroupKind.{GroupKind}
+use Rattle.info65.specs.declared.fault.InfoFault.{InfoFault}
+use Rattle.info65.specs.declared.fault.InfoFaultKind.{InfoFaultKind}
+use Rattle.info65.specs.declared.fault.InfoFaultKind.TheVariants.{Expected, GivenTwice, TooLarge, UnknownAttribute, UnknownGroup}
+
+-- What may come next: a group or the end; these or a `;`; the opening brace of a group; an attribute of
+-- the open group or its closing brace; the value of an attribute; the `;` behind it. The open group has
+-- its kind and what is given in it so far.
+pub data Place : Type 0 where
+  outside closed : Place
+  opening : GroupKind → Place
+  inside : GroupKind → List GivenView → Place
+  valued : GroupKind → List GivenView → Attribute → Place
+  behind : GroupKind → List GivenView → Place
+
+-- the place, and the groups that are closed
+abbrev pub State : Type 0
+State = Place × List GroupView
+
+abbrev pub group : GroupKind → List GivenView → GroupView
+group k given = record { kind = k; given = given }
+
+abbrev pub one : Attribute → ValueView → GivenView
+one a v = record { attribute = a; value = v }
+
+abbrev pub opened : List GroupView → ℕ → Option GroupKind → Result State InfoFault
+opened before line (Some k) = Ok (opening k, before)
+opened before line None = Err (fault line UnknownGroup)
+
+-- the name of a group
+abbrev pub at_group : List GroupView → TokenView → KindView → Result State InfoFault
+at_group before t word = opened before t.line (group_named t.text)
+at_group before t _ = Err (fault t.line Expected)
+
+-- a `;` behind a group, or the name of the next
+abbrev pub after_group : List GroupView → TokenView → KindView → Result State InfoFault
+after_group before t semicolon = Ok (outside, before)
+after_group before t k = at_group before t k
+
+abbrev pub at_brace : List GroupView → GroupKind → TokenView → KindView → Result State InfoFault
+at_brace before k t opening_brace = Ok (inside k [], before)
+at_brace before k t _ = Err (fault t.line Expected)
+
+abbrev pub named : List GroupView → GroupKind → List GivenView → ℕ → Option Attribute → Result Attribute InfoFault
+named before k given line (Some a) = if is_given before k given a then Err (fault line GivenTwice) else Ok a
+named before k given line None = Err (fault line UnknownAttribute)
+
+-- the attribute that a name begins
+unfoldable pub attribute_at : List GroupView → GroupKind → List GivenView → TokenView → Result Attribute InfoFault
+attribute_at before k given t = named before k given t.line (attribute_named k t.text)
+
+abbrev pub closed_by : List GroupView → GroupKind → List GivenView → ℕ → Option InfoFaultKind → Result State InfoFault
+closed_by before k given line None = Ok (closed, before ++ group k given ∷ [])
+closed_by before k given line (Some f) = Err (fault line f)
+
+-- the name of an attribute, or the end of the group
+abbrev pub at_attribute : List GroupView → GroupKind → List GivenView → TokenView → KindView → Result State InfoFault
+at_attribute before k given t closing_brace = closed_by before k given t.line (closing_fault before k given)
+at_attribute before k given t word = attribute_at before k given t >>= λ a. Ok (valued k given a, before)
+at_attribute before k given t _ = Err (fault t.line Expected)
+
+abbrev pub at_semicolon : List GroupView → GroupKind → List GivenView → TokenView → KindView → Result State InfoFault
+at_semicolon before k given t semicolon = Ok (inside k given, before)
+at_semicolon before k given t _ = Err (fault t.line Expected)
+
+-- one token more, or its fault
+unfoldable pub step : OptionsView → Place → List GroupView → TokenView → Result State InfoFault
+step o outside before t = at_group before t t.kind
+step o closed before t = after_group before t t.kind
+step o (opening k) before t = at_brace before k t t.kind
+step o (inside k given) before t = at_attribute before k given t t.kind
+step o (valued k given a) before t = value_of o a t >>= λ v. Ok (behind k (given ++ one a v ∷ []), before)
+step o (behind k given) before t = at_semicolon before k given t t.kind
+
+-- the end is here, or the fault of a token, where a token is due
+abbrev pub wanted : Result ℕ InfoFault → InfoFault
+wanted (Ok line) = fault line Expected
+wanted (Err e) = e
+
+abbrev pub done : List GroupView → Result ℕ InfoFault → Result (List GroupView) InfoFault
+done before (Ok line) = Ok before
+done before (Err e) = Err e
+
+unfoldable pub finish : Place → List GroupView → Result ℕ InfoFault → Result (List GroupView) InfoFault
+finish outside before ending = done before ending
+finish closed before ending = done before ending
+finish _ before ending = Err (wanted ending)
+
+unfoldable pub read_from : OptionsView → Place → List GroupView → List TokenView → Result ℕ InfoFault → Result (List GroupView) InfoFault
+read_from o p before [] ending = finish p before ending
+read_from o p before (t ∷ ts) ending = step o p before t >>= λ q. read_from o q.0 q.1 ts ending
+
+-- what is read from here on: all groups, or the first fault
+unfoldable pub read : OptionsView → Place → List GroupView → Stream → Result (List GroupView) InfoFault
+read o p before stream = read_from o p before stream.tokens stream.ending
+
+-- the same, with this token before them
+unfoldable pub read_token : OptionsView → Place → List GroupView → TokenView → Stream → Result (List GroupView) InfoFault
+read_token o p before t stream = step o p before t >>= λ q. read o q.0 q.1 stream
+
+-- the groups of a text
+unfoldable pub groups_of : OptionsView → List ℕ → Result (List GroupView) InfoFault
+groups_of o bytes = read o outside [] (tokens_of 1 bytes)
+
+-- What an information file says under some options, or the fault that it is refused for: a file above
+-- 1,048,576 bytes is too large, before all else.
+unfoldable pub information : OptionsView → List ℕ → Result InfoView InfoFault
+information o bytes =
+    if nat_lt 1_048_576 (length bytes) then Err (fault 1 TooLarge)
+    else groups_of o bytes >>= λ groups. Ok (info_of o groups)
+
+-- ---- what the parts of a reader answer
+
+abbrev pub is_semicolon : KindView → Bool
+is_semicolon semicolon = true
+is_semicolon _ = false
+
+-- where a reader stands between two groups
+abbrev pub place_after : Bool → Place
+place_after true = closed
+place_after false = outside
+
+-- a part reads on to where `on` begins, or meets the first fault
+abbrev pub Leads : {R X : Type 0} → Result R InfoFault → Result X InfoFault → (X → Result R InfoFault) → Type 0
+Leads whole (Ok x) on = whole ≡ on x
+Leads whole (Err e) on = whole ≡ Err e
+
+-- the same for a part that takes memory
+abbrev pub Grows : {R X : Type 0} → Result R InfoFault → Result X InfoFault → (X → Result R InfoFault) → Type 0
+Grows whole (Ok x) on = whole ≡ on x
+Grows whole (Err e) on = Fails e whole

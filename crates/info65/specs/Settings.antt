@@ -1,0 +1,40 @@
+-- The settings: what the command line gives wins over the groups GLOBAL, and these over the defaults.
+use Rattle.std.specs.Prelude.{ℕ, List, Option, Some, None}
+use Rattle.std.specs.Option.{option_or, unwrap_or}
+use Rattle.isa65.specs.declared.cpu.Cpu.{Cpu}
+use Rattle.isa65.specs.declared.cpu.Cpu.TheVariants.{M6502}
+use Rattle.info65.specs.Groups.{GivenView, GroupView, global_given, value_in}
+use Rattle.info65.specs.Values.{ValueView, a_name, a_number, an_address, a_cpu}
+use Rattle.info65.specs.Views.{InfoView, OptionsView, SettingsView}
+use Rattle.info65.specs.declared.attribute.Attribute.TheVariants as attribute
+
+abbrev pub as_name : Option ValueView → Option (List ℕ)
+as_name (Some (a_name text)) = Some text
+as_name _ = None
+
+abbrev pub as_number : Option ValueView → Option ℕ
+as_number (Some (a_number n)) = Some n
+as_number _ = None
+
+abbrev pub as_address : Option ValueView → Option ℕ
+as_address (Some (an_address n)) = Some n
+as_address _ = None
+
+abbrev pub as_cpu : Option ValueView → Option Cpu
+as_cpu (Some (a_cpu c)) = Some c
+as_cpu _ = None
+
+-- the settings that options and the groups GLOBAL give
+unfoldable pub settings_of : OptionsView → List GivenView → SettingsView
+settings_of o given = record {
+  input = option_or o.input (as_name (value_in attribute.InputName given));
+  output = option_or o.output (as_name (value_in attribute.OutputName given));
+  offset = unwrap_or (as_number (value_in attribute.InputOffset given)) 0;
+  size = as_number (value_in attribute.InputSize given);
+  start = option_or o.start (as_address (value_in attribute.StartAddress given));
+  cpu = unwrap_or (option_or o.cpu (as_cpu (value_in attribute.Cpu given))) M6502;
+}
+
+-- what groups say, merged with the options
+abbrev pub info_of : OptionsView → List GroupView → InfoView
+info_of o groups = record { settings = settings_of o (global_given groups) }

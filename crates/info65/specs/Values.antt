@@ -1,0 +1,77 @@
+-- Values of attributes, and their faults.
+use Rattle.std.specs.Prelude.{◌≡◌, ◌≤◌, ℕ, Bool, true, false, ◌&&◌, not, List, Option, Some, None, Result, Ok, Err, length, is_some, nat_le, if◌then◌else◌}
+use Rattle.std.specs.List.{list_all}
+use Rattle.isa65.specs.declared.cpu.Cpu.{Cpu}
+use Rattle.info65.specs.Attributes.{form_of}
+use Rattle.isa65.specs.Cpu.{cpu_named}
+use Rattle.info65.specs.Faults.{fault}
+use Rattle.info65.specs.Lexemes.{KindView, number, string}
+use Rattle.info65.specs.Tokens.{TokenView}
+use Rattle.info65.specs.Views.{OptionsView}
+use Rattle.info65.specs.declared.attribute.Attribute.{Attribute}
+use Rattle.info65.specs.declared.attribute.Attribute.TheVariants as attribute
+use Rattle.info65.specs.declared.attribute.Form.{Form}
+use Rattle.info65.specs.declared.attribute.Form.TheVariants as form
+use Rattle.info65.specs.declared.fault.InfoFault.{InfoFault}
+use Rattle.info65.specs.declared.fault.InfoFaultKind.TheVariants.{Expected, OutOfRange, BadName, NameConflict}
+
+-- the value of an attribute
+pub data ValueView : Type 0 where
+  a_name : List ℕ → ValueView
+  a_number : ℕ → ValueView
+  an_address : ℕ → ValueView
+  a_cpu : Cpu → ValueView
+
+-- bytes of $20 to $7E
+abbrev pub are_printable : List ℕ → Bool
+are_printable text = list_all (λ b. nat_le 0x20 b && nat_le b 0x7E) text
+
+-- 1 to 255 bytes of $20 to $7E
+unfoldable pub is_file_name : List ℕ → Bool
+is_file_name text = nat_le 1 (length text) && (nat_le (length text) 255 && are_printable text)
+
+-- the command line gives what this attribute names
+unfoldable pub is_on_command_line : OptionsView → Attribute → Bool
+is_on_command_line o attribute.InputName = is_some o.input
+is_on_command_line o attribute.OutputName = is_some o.output
+is_on_command_line o _ = false
+
+-- a file name that the command line does not give
+unfoldable pub name_value : OptionsView → Attribute → ℕ → List ℕ → Result ValueView InfoFault
+name_value o a line text =
+    if not (is_file_name text) then Err (fault line BadName)
+    else (if is_on_command_line o a then Err (fault line NameConflict)
+    else Ok (a_name text))
+
+-- a number within its limits
+abbrev pub number_value : ℕ → ℕ → ℕ → ℕ → Result ValueView InfoFault
+number_value low high line n = if nat_le low n && nat_le n high then Ok (a_number n) else Err (fault line OutOfRange)
+
+abbrev pub address_value : ℕ → ℕ → Result ValueView InfoFault
+address_value line n = if nat_le n 0xFFFF then Ok (an_address n) else Err (fault line OutOfRange)
+
+-- the text of a CPU
+abbrev pub cpu_value : ℕ → Option Cpu → Result ValueView InfoFault
+cpu_value line (Some c) = Ok (a_cpu c)
+cpu_value line None = Err (fault line OutOfRange)
+
+-- a token of the kind that the form takes, or something else was expected
+abbrev pub in_form : OptionsView → Attribute → ℕ → Form → KindView → Result ValueView InfoFault
+in_form o a line form.FileName (string text) = name_value o a line text
+in_form o a line form.CpuText (string text) = cpu_value line (cpu_named text)
+in_form o a line form.Address (number n) = address_value line n
+in_form o a line (form.Number low high) (number n) = number_value low high line n
+in_form o a line _ _ = Err (fault line Expected)
+
+-- The value of an attribute, or the first of its faults: another kind of token, beside its limits, no
+-- file name, a name that the command line gives too.
+unfoldable pub value_of : OptionsView → Attribute → TokenView → Result ValueView InfoFault
+value_of o a t = in_form o a t.line (form_of a) t.kind
+
+-- a value of this form
+abbrev pub HasForm : Form → ValueView → Type 0
+HasForm form.FileName (a_name text) = is_file_name text ≡ true
+HasForm form.CpuText (a_cpu c) = Unit {0}
+HasForm form.Address (an_address n) = n ≤ 0xFFFF
+HasForm (form.Number low high) (a_number n) = (low ≤ n) × (n ≤ high)
+HasForm _ _ = ⊥

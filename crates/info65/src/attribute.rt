@@ -1,0 +1,96 @@
+//! The groups of an information file, their attributes, and what the values of these have to be.
+
+ghost use Rattle.std.specs.Prelude.{◌≡◌};
+ghost use Rattle.info65.specs.Attributes.{attribute_named, form_of, group_named};
+
+/// What a group is about.
+#[derive(Clone, Copy, Debug, PartialEq, Eq)]
+pub enum GroupKind {
+    Global,
+}
+
+/// An attribute of a group.
+#[derive(Clone, Copy, Debug, PartialEq, Eq)]
+pub enum Attribute {
+    InputName,
+    OutputName,
+    InputOffset,
+    InputSize,
+    StartAddress,
+    Cpu,
+    PageLength,
+}
+
+/// What the value of an attribute has to be.
+#[derive(Clone, Copy, Debug, PartialEq, Eq)]
+pub enum Form {
+    /// A string that can name a file.
+    FileName,
+    /// A string with the text of a CPU.
+    CpuText,
+    /// A number from 0 to $FFFF.
+    Address,
+    /// A number, both limits among those that it can be.
+    Number { low: u32, high: u32 },
+}
+
+/// The group of this name, with letters of any case.
+#[tactic(auto, unfolding(crate::specs::Attributes::group_named))]
+pub fn group_named(text: &[u8]) -> Option<GroupKind>
+    ensures { result ≡ group_named text.now }
+{
+    if text.eq_ignore_ascii_case(b"GLOBAL") {
+        Some(GroupKind::Global)
+    } else {
+        None
+    }
+}
+
+/// The attribute of a group by its name, with letters of any case.
+#[tactic(auto, unfolding(crate::specs::Attributes::attribute_named))]
+pub fn attribute_named(kind: GroupKind, text: &[u8]) -> Option<Attribute>
+    ensures { result ≡ attribute_named kind text.now }
+{
+    match kind {
+        GroupKind::Global => {
+            if text.eq_ignore_ascii_case(b"INPUTNAME") {
+                Some(Attribute::InputName)
+            } else if text.eq_ignore_ascii_case(b"OUTPUTNAME") {
+                Some(Attribute::OutputName)
+            } else if text.eq_ignore_ascii_case(b"INPUTOFFS") {
+                Some(Attribute::InputOffset)
+            } else if text.eq_ignore_ascii_case(b"INPUTSIZE") {
+                Some(Attribute::InputSize)
+            } else if text.eq_ignore_ascii_case(b"STARTADDR") {
+                Some(Attribute::StartAddress)
+            } else if text.eq_ignore_ascii_case(b"CPU") {
+                Some(Attribute::Cpu)
+            } else if text.eq_ignore_ascii_case(b"PAGELENGTH") {
+                Some(Attribute::PageLength)
+            } else {
+                None
+            }
+        }
+    }
+}
+
+/// What the value of an attribute has to be.
+#[tactic(auto, unfolding(crate::specs::Attributes::form_of))]
+pub fn form_of(attribute: Attribute) -> Form
+    ensures { result ≡ form_of attribute }
+{
+    match attribute {
+        Attribute::InputName | Attribute::OutputName => Form::FileName,
+        Attribute::InputOffset => Form::Number {
+            low: 0,
+            high: 16_777_216,
+        },
+        Attribute::InputSize => Form::Number {
+            low: 1,
+            high: 0x1_0000,
+        },
+        Attribute::StartAddress => Form::Address,
+        Attribute::Cpu => Form::CpuText,
+        Attribute::PageLength => Form::Number { low: 0, high: 0 },
+    }
+}

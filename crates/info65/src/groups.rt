@@ -1,0 +1,100 @@
+//! What must hold of a group behind those before it.
+
+ghost use Rattle.std.specs.Prelude.{◌≡◌, List, map, option_map};
+ghost use Rattle.info65.specs.Given.{given_seen, group_seen, value_seen};
+ghost use Rattle.info65.specs.Groups.{GivenView, GroupView, closing_fault, given_before, global_given, global_part, has, is_given, value_in};
+
+use crate::attribute::{Attribute, GroupKind};
+use crate::fault::InfoFaultKind;
+use crate::given::{Given, Group, Value};
+use std::alloc::Allocator;
+
+#[tactic(auto, unfolding(crate::specs::Groups::has))]
+fn has(given: &[Given], attribute: Attribute) -> bool
+    ensures { result ≡ has attribute (map given_seen given.now) }
+{
+    for each in given {
+        if attribute == each.attribute {
+            return true;
+        }
+    }
+    false
+}
+
+// The attribute is given in a group GLOBAL.
+fn has_global<A: Allocator>(groups: &[Group<A>], attribute: Attribute) -> bool
+    ensures { result ≡ has attribute (global_given (map group_seen groups.now)) }
+{
+    for group in groups {
+        if has(global_part(group), attribute) {
+            return true;
+        }
+    }
+    false
+}
+
+fn global_part<'a, 'b, A: Allocator>(group: &'b Group<'a, A>) -> &'b [Given<'a>]
+    ensures { map given_seen result.now ≡ global_part (group_seen group.now) }
+{
+    match group.kind {
+        GroupKind::Global => group.given.as_slice(),
+    }
+}
+
+/// The attribute was given before in its group.
+#[tactic(auto, unfolding(crate::specs::Groups::is_given))]
+pub fn is_given<A: Allocator>(
+    before: &[Group<A>],
+    kind: GroupKind,
+    given: &[Given],
+    attribute: Attribute,
+) -> bool
+    ensures { result ≡ is_given (map group_seen before.now) kind (map given_seen given.now) attribute }
+{
+    has_before(before, kind, attribute) || has(given, attribute)
+}
+
+fn has_before<A: Allocator>(before: &[Group<A>], kind: GroupKind, attribute: Attribute) -> bool
+    ensures { result ≡ has attribute (given_before (map group_seen before.now) kind) }
+{
+    match kind {
+        GroupKind::Global => has_global(before, attribute),
+    }
+}
+
+/// The fault of a group at its closing brace.
+#[tactic(auto, unfolding(crate::specs::Groups::closing_fault))]
+pub fn closing_fault(kind: GroupKind) -> Option<InfoFaultKind>
+    ensures { (before : List GroupView) (given : List GivenView) → result ≡ closing_fault before kind given }
+{
+    match kind {
+        GroupKind::Global => None,
+    }
+}
+
+#[tactic(auto, unfolding(crate::specs::Groups::value_in))]
+fn value_in<'a>(given: &[Given<'a>], attribute: Attribute) -> Option<Value<'a>>
+    ensures { option_map value_seen result ≡ value_in attribute (map given_seen given.now) }
+{
+    for each in given {
+        if attribute == each.attribute {
+            return Some(each.value);
+        }
+    }
+    None
+}
+
+/// The value that the groups GLOBAL give the attribute.
+pub fn global_value<'a, A: Allocator>(
+    groups: &[Group<'a, A>],
+    attribute: Attribute,
+) -> Option<Value<'a>>
+    ensures { option_map value_seen result ≡ value_in attribute (global_given (map group_seen groups.now)) }
+{
+    for group in groups {
+        if let Some(value) = value_in(global_part(group), attribute) {
+            return Some(value);
+        }
+    }
+    None
+}

@@ -1,0 +1,29 @@
+//! Laws of information files.
+
+ghost use Rattle.info65.specs.Laws.{AcceptsFiles, GlobalOnce, RefusesFirst};
+ghost use Rattle.info65.specs.Standing.{TokensStand};
+
+/// A text is accepted exactly where its whole token list splits into groups that keep every condition.
+#[tactic(auto, using(crate::proofs::Laws::accepts_files))]
+pub fn accepts_files()
+    ensures { AcceptsFiles }
+{}
+
+/// A refusal is the fault of the first token at which the tokens so far have one, or that of the end.
+#[tactic(auto, using(crate::proofs::Laws::refuses_first))]
+pub fn refuses_first()
+    ensures { RefusesFirst }
+{}
+
+/// The tokens of a text stand in it in their order, each as the slice of the text that it takes, with
+/// nothing but blanks and comments between them, and the line feeds before a token count its line.
+#[tactic(auto, using(crate::proofs::StandLemmas::tokens_stand))]
+pub fn tokens_stand()
+    ensures { TokensStand }
+{}
+
+/// In an accepted file no attribute of the groups GLOBAL stands twice.
+#[tactic(auto, using(crate::proofs::OnceLemmas::global_once))]
+pub fn global_once()
+    ensures { GlobalOnce }
+{}

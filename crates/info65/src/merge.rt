@@ -1,0 +1,99 @@
+//! The settings that options and groups give.
+
+ghost use Rattle.std.specs.Prelude.{◌≡◌, Ok, map, option_map};
+ghost use Rattle.std.specs.Option.{option_or};
+ghost use Rattle.info65.specs.Faults.{Gives};
+ghost use Rattle.info65.specs.Given.{group_seen, value_seen};
+ghost use Rattle.info65.specs.Groups.{AreFormed, global_given};
+ghost use Rattle.info65.specs.Settings.{as_address, as_cpu, as_name, as_number, settings_of};
+ghost use Rattle.info65.specs.Views.{name_seen};
+
+use crate::attribute::Attribute;
+use crate::fault::InfoFault;
+use crate::given::{Group, Value};
+use crate::groups::global_value;
+use crate::options::Options;
+use crate::settings::Settings;
+use isa65::Cpu;
+use std::alloc::Allocator;
+
+/// The settings that options and the groups GLOBAL give: what the command line gives wins.
+#[tactic(auto, unfolding(crate::specs::Settings::settings_of))]
+pub fn settings_of<'a, A: Allocator + Copy, B: Allocator>(
+    alloc: A,
+    options: &Options<B>,
+    groups: &[Group<'a, A>],
+) -> Result<Settings<A>, InfoFault>
+    requires { AreFormed (global_given (map group_seen groups.now)) }
+    ensures { Gives (λ s. s) result (Ok (settings_of options.now (global_given (map group_seen groups.now)))) }
+{
+    let input_given = as_name(global_value(groups, Attribute::InputName));
+    let output_given = as_name(global_value(groups, Attribute::OutputName));
+    let offset_given = as_number(global_value(groups, Attribute::InputOffset));
+    let size = as_number(global_value(groups, Attribute::InputSize));
+    let start_given = as_address(global_value(groups, Attribute::StartAddress));
+    let cpu_given = as_cpu(global_value(groups, Attribute::Cpu));
+    let input = first_name(alloc, &options.input, input_given)?;
+    let output = first_name(alloc, &options.output, output_given)?;
+    Ok(Settings {
+        input,
+        output,
+        offset: offset_given.unwrap_or(0),
+        size,
+        start: options.start.or(start_given),
+        cpu: options.cpu.or(cpu_given).unwrap_or(Cpu::M6502),
+    })
+}
+
+// The name of the command line, or else that of the file.
+fn first_name<A: Allocator, B: Allocator>(
+    alloc: A,
+    chosen: &Option<String<B>>,
+    given: Option<&str>,
+) -> Result<Option<String<A>>, InfoFault>
+    ensures { Gives name_seen result (Ok (option_or (name_seen chosen.now) (option_map (λ s. s.now) given.entry))) }
+{
+    match chosen {
+        Some(name) => Ok(Some(String::from_str(alloc, name.as_str())?)),
+        None => match given {
+            Some(name) => Ok(Some(String::from_str(alloc, name)?)),
+            None => Ok(None),
+        },
+    }
+}
+
+fn as_name<'a>(value: Option<Value<'a>>) -> Option<&'a str>
+    ensures { option_map (λ s. s.now) result ≡ as_name (option_map value_seen value.entry) }
+{
+    match value {
+        Some(Value::Name(name)) => Some(name),
+        _ => None,
+    }
+}
+
+fn as_number(value: Option<Value>) -> Option<u32>
+    ensures { result ≡ as_number (option_map value_seen value.entry) }
+{
+    match value {
+        Some(Value::Number(number)) => Some(number),
+        _ => None,
+    }
+}
+
+fn as_address(value: Option<Value>) -> Option<u16>
+    ensures { result ≡ as_address (option_map value_seen value.entry) }
+{
+    match value {
+        Some(Value::Address(address)) => Some(address),
+        _ => None,
+    }
+}
+
+fn as_cpu(value: Option<Value>) -> Option<Cpu>
+    ensures { result ≡ as_cpu (option_map value_seen value.entry) }
+{
+    match value {
+        Some(Value::Cpu(cpu)) => Some(cpu),
+        _ => None,
+    }
+}

@@ -1,0 +1,228 @@
+//! The groups of an information file, token by token.
+
+ghost use Rattle.std.specs.Prelude.{◌≡◌, ◌≤◌, ◌∷◌, ◌++◌, IfErr, IfOk, List, Ok, [], length, map};
+ghost use Rattle.info65.specs.Faults.{Gives, fault};
+ghost use Rattle.info65.specs.Given.{given_seen, group_seen, value_seen};
+ghost use Rattle.info65.specs.Groups.{GivenView, GroupView, closing_fault};
+ghost use Rattle.info65.specs.Reader.{Grows, Leads, attribute_at, behind, closed, closed_by, group, groups_of, inside, is_semicolon, one, opening, outside, read, read_token, valued, wanted};
+ghost use Rattle.info65.specs.Steps.{Sees, kind_seen, seen};
+ghost use Rattle.info65.specs.Tokens.{Stream, with_token};
+ghost use Rattle.info65.specs.Views.{OptionsView};
+ghost use Rattle.info65.specs.declared.attribute.GroupKind.{GroupKind};
+ghost use Rattle.info65.specs.declared.attribute.Attribute.{Attribute};
+ghost use Rattle.info65.specs.declared.fault.InfoFaultKind.TheVariants.{Expected};
+ghost use Rattle.info65.specs.declared.token.TokenKind.TheVariants.{Word};
+
+use crate::attribute::{Attribute, GroupKind, attribute_named, group_named};
+use crate::fault::{InfoFault, InfoFaultKind};
+use crate::given::{Given, Group, Value};
+use crate::groups::{closing_fault, is_given};
+use crate::lexer::{Lexer, Next};
+use crate::options::Options;
+use crate::token::{Token, TokenKind};
+use crate::values::value_of;
+use std::alloc::Allocator;
+
+/// The groups of an information file, or its first fault.
+pub fn read_groups<'a, A: Allocator + Copy, B: Allocator>(
+    alloc: A,
+    options: &Options<B>,
+    bytes: &'a [u8],
+) -> Result<Vec<Group<'a, A>, A>, InfoFault>
+    requires { length bytes.now ≤ 1_048_576 }
+    ensures { Gives (λ groups. map group_seen groups.items) result (groups_of options.now bytes.entry.now) }
+{
+    let mut lexer = Lexer::new(bytes);
+    let mut groups = Vec::new(alloc);
+    let mut after_group = false;
+    'groups: loop {
+        match lexer.next()? {
+            Next::End(_) => return Ok(groups),
+            Next::Token(token) => {
+                if after_group && is_semicolon(token.kind) {
+                    after_group = false;
+                } else {
+                    let next = group(alloc, options, &mut lexer, groups.as_slice(), token)?;
+                    groups.push(next)?;
+                    after_group = true;
+                }
+            }
+        }
+    }
+}
+
+fn is_semicolon(kind: TokenKind) -> bool
+    ensures { result ≡ is_semicolon (kind_seen kind.entry) }
+{
+    matches!(kind, TokenKind::Semicolon)
+}
+
+fn expected(line: u32) -> InfoFault
+    ensures { result ≡ fault line Expected }
+{
+    InfoFault::new(line, InfoFaultKind::Expected)
+}
+
+// The token that is due.
+fn due<'a>(lexer: &mut Lexer<'a>) -> Result<Token<'a>, InfoFault>
+    ensures shorter { length lexer.new.tokens ≤ length lexer.old.tokens }
+    ensures ok { IfOk result (λ t. lexer.old ≡ with_token (seen t) lexer.new) }
+    ensures err { IfErr result (λ e. (lexer.old.tokens ≡ []) × (wanted lexer.old.ending ≡ e)) }
+{
+    match lexer.next()? {
+        Next::Token(token) => Ok(token),
+        Next::End(line) => Err(expected(line)),
+    }
+}
+
+// A group behind those before it, of which this token is the name.
+fn group<'a, A: Allocator + Copy, B: Allocator>(
+    alloc: A,
+    options: &Options<B>,
+    lexer: &mut Lexer<'a>,
+    before: &[Group<'a, A>],
+    name: Token<'a>,
+) -> Result<Group<'a, A>, InfoFault>
+    ensures read { Grows (read_token options.now outside (map group_seen before.now) (seen name.entry) lexer.old) result (λ g. read options.now closed (map group_seen before.now ++ group_seen g ∷ []) lexer.new) }
+    ensures shorter { length lexer.new.tokens ≤ length lexer.old.tokens }
+{
+    let kind = group_kind(name)?;
+    brace(lexer)?;
+    attributes(alloc, options, lexer, before, kind)
+}
+
+fn group_kind(name: Token) -> Result<GroupKind, InfoFault>
+    ensures { (o : OptionsView) (before : List GroupView) (rest : Stream) → Leads (read_token o outside before (seen name.entry) rest) result (λ k. read o (opening k) before rest) }
+{
+    match name.kind {
+        TokenKind::Word => match group_named(name.text) {
+            Some(kind) => Ok(kind),
+            None => Err(InfoFault::new(name.line, InfoFaultKind::UnknownGroup)),
+        },
+        _ => Err(expected(name.line)),
+    }
+}
+
+fn brace(lexer: &mut Lexer) -> Result<(), InfoFault>
+    ensures read { (o : OptionsView) (k : GroupKind) (before : List GroupView) → Leads (read o (opening k) before lexer.old) result (λ _. read o (inside k []) before lexer.new) }
+    ensures shorter { length lexer.new.tokens ≤ length lexer.old.tokens }
+{
+    let token = due(lexer)?;
+    match token.kind {
+        TokenKind::OpenBrace => Ok(()),
+        _ => Err(expected(token.line)),
+    }
+}
+
+fn separator(lexer: &mut Lexer) -> Result<(), InfoFault>
+    ensures read { (o : OptionsView) (k : GroupKind) (given : List GivenView) (before : List GroupView) → Leads (read o (behind k given) before lexer.old) result (λ _. read o (inside k given) before lexer.new) }
+    ensures shorter { length lexer.new.tokens ≤ length lexer.old.tokens }
+{
+    let token = due(lexer)?;
+    match token.kind {
+        TokenKind::Semicolon => Ok(()),
+        _ => Err(expected(token.line)),
+    }
+}
+
+fn value<'a, B: Allocator>(
+    options: &Options<B>,
+    lexer: &mut Lexer<'a>,
+    attribute: Attribute,
+) -> Result<Value<'a>, InfoFault>
+    ensures read { (k : GroupKind) (given : List GivenView) (before : List GroupView) → Leads (read options.now (valued k given attribute) before lexer.old) result (λ v. read options.now (behind k (given ++ one attribute (value_seen v) ∷ [])) before lexer.new) }
+    ensures shorter { length lexer.new.tokens ≤ length lexer.old.tokens }
+{
+    let token = due(lexer)?;
+    value_of(options, attribute, token)
+}
+
+// What is given in a group, up to its closing brace.
+fn attributes<'a, A: Allocator + Copy, B: Allocator>(
+    alloc: A,
+    options: &Options<B>,
+    lexer: &mut Lexer<'a>,
+    before: &[Group<'a, A>],
+    kind: GroupKind,
+) -> Result<Group<'a, A>, InfoFault>
+    ensures read { Grows (read options.now (inside kind []) (map group_seen before.now) lexer.old) result (λ g. read options.now closed (map group_seen before.now ++ group_seen g ∷ []) lexer.new) }
+    ensures shorter { length lexer.new.tokens ≤ length lexer.old.tokens }
+{
+    let mut given = Vec::new(alloc);
+    'attributes: loop {
+        let name = due(lexer)?;
+        match name.kind {
+            TokenKind::CloseBrace => {
+                is_whole(kind, name.line)?;
+                return Ok(Group { kind, given });
+            }
+            TokenKind::Word => {
+                let next = attribute(options, lexer, before, kind, given.as_slice(), name)?;
+                given.push(next)?;
+            }
+            _ => return Err(expected(name.line)),
+        }
+    }
+}
+
+// A group may close here.
+fn is_whole(kind: GroupKind, line: u32) -> Result<(), InfoFault>
+    ensures { (before : List GroupView) (given : List GivenView) → Leads (closed_by before kind given line (closing_fault before kind given)) result (λ _. Ok (closed, before ++ group kind given ∷ [])) }
+{
+    match closing_fault(kind) {
+        Some(fault) => Err(InfoFault::new(line, fault)),
+        None => Ok(()),
+    }
+}
+
+// An attribute, of which this word is the name, its value and the `;` behind it.
+fn attribute<'a, A: Allocator, B: Allocator>(
+    options: &Options<B>,
+    lexer: &mut Lexer<'a>,
+    before: &[Group<'a, A>],
+    kind: GroupKind,
+    given: &[Given<'a>],
+    name: Token<'a>,
+) -> Result<Given<'a>, InfoFault>
+    requires { name.kind ≡ Word }
+    ensures read { Leads (read_token options.now (inside kind (map given_seen given.now)) (map group_seen before.now) (seen name.entry) lexer.old) result (λ g. read options.now (inside kind (map given_seen given.now ++ given_seen g ∷ [])) (map group_seen before.now) lexer.new) }
+    ensures shorter { length lexer.new.tokens ≤ length lexer.old.tokens }
+{
+    let attribute = attribute_name(before, kind, given, name)?;
+    let value = value(options, lexer, attribute)?;
+    separator(lexer)?;
+    Ok(Given { attribute, value })
+}
+
+fn attribute_name<A: Allocator>(
+    before: &[Group<A>],
+    kind: GroupKind,
+    given: &[Given],
+    name: Token,
+) -> Result<Attribute, InfoFault>
+    requires { name.kind ≡ Word }
+    ensures { (o : OptionsView) (rest : Stream) → Leads (read_token o (inside kind (map given_seen given.now)) (map group_seen before.now) (seen name.entry) rest) result (λ a. read o (valued kind (map given_seen given.now) a) (map group_seen before.now) rest) }
+{
+    attribute_at(before, kind, given, name)
+}
+
+#[tactic(auto, unfolding(crate::specs::Reader::attribute_at))]
+fn attribute_at<A: Allocator>(
+    before: &[Group<A>],
+    kind: GroupKind,
+    given: &[Given],
+    name: Token,
+) -> Result<Attribute, InfoFault>
+    ensures { result ≡ attribute_at (map group_seen before.now) kind (map given_seen given.now) (seen name.entry) }
+{
+    match attribute_named(kind, name.text) {
+        Some(attribute) => {
+            if is_given(before, kind, given, attribute) {
+                Err(InfoFault::new(name.line, InfoFaultKind::GivenTwice))
+            } else {
+                Ok(attribute)
+            }
+        }
+        None => Err(InfoFault::new(name.line, InfoFaultKind::UnknownAttribute)),
+    }
+}

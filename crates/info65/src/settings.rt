@@ -1,0 +1,33 @@
+//! The settings of a run.
+
+use isa65::Cpu;
+use std::alloc::{Allocator, Global};
+use std::marker::Model;
+
+/// What decides how an image is read and listed: the options of the command line, the groups GLOBAL of
+/// the information file, and the defaults. A contract sees the names as lists of bytes.
+#[derive(Drop)]
+pub struct Settings<A: Allocator = Global> {
+    /// The name of the input file.
+    pub input: Option<String<A>>,
+    /// The name of the output file; without one it is standard output.
+    pub output: Option<String<A>>,
+    /// How many bytes of the input are passed over, 0 to 16,777,216; 0 by default.
+    pub offset: u32,
+    /// How many bytes are taken, 1 to 65,536; without a size all to the end.
+    pub size: Option<u32>,
+    /// The address of the first byte; without one the image ends at $FFFF.
+    pub start: Option<u16>,
+    /// The CPU; the 6502 by default.
+    pub cpu: Cpu,
+}
+
+impl<A: Allocator> Model for Settings<A> {
+    ghost use Rattle.info65.specs.Views.{AreInLimits, SettingsView, name_seen};
+
+    ghost Value = { SettingsView };
+
+    ghost view = { λ s. record { input = name_seen s.input; output = name_seen s.output; offset = s.offset; size = s.size; start = s.start; cpu = s.cpu } };
+
+    ghost invariant = { λ s. AreInLimits (record { input = name_seen s.input; output = name_seen s.output; offset = s.offset; size = s.size; start = s.start; cpu = s.cpu }) };
+}

@@ -1,0 +1,109 @@
+//! Values of attributes.
+
+ghost use Rattle.std.specs.Prelude.{◌≡◌, option_map};
+ghost use Rattle.info65.specs.Given.{value_seen};
+ghost use Rattle.info65.specs.Steps.{Sees, seen};
+ghost use Rattle.info65.specs.Values.{address_value, are_printable, cpu_value, is_file_name, is_on_command_line, name_value, number_value, value_of};
+
+use crate::attribute::{Attribute, Form, form_of};
+use crate::fault::{InfoFault, InfoFaultKind};
+use crate::given::Value;
+use crate::options::Options;
+use crate::token::{Token, TokenKind};
+use isa65::Cpu;
+use std::alloc::Allocator;
+
+#[tactic(auto, unfolding(crate::specs::Values::is_on_command_line))]
+fn is_on_command_line<A: Allocator>(options: &Options<A>, attribute: Attribute) -> bool
+    ensures { result ≡ is_on_command_line options.now attribute }
+{
+    match attribute {
+        Attribute::InputName => options.input.is_some(),
+        Attribute::OutputName => options.output.is_some(),
+        _ => false,
+    }
+}
+
+fn are_printable(text: &[u8]) -> bool
+    ensures { result ≡ are_printable text.now }
+{
+    text.iter().all(|byte| *byte >= 0x20 && *byte <= 0x7E)
+}
+
+#[tactic(auto, unfolding(crate::specs::Values::is_file_name))]
+fn is_file_name(text: &[u8]) -> bool
+    ensures { result ≡ is_file_name text.now }
+{
+    text.len() >= 1 && text.len() <= 255 && are_printable(text)
+}
+
+#[tactic(auto, unfolding(crate::specs::Values::name_value))]
+fn name_value<'a, A: Allocator>(
+    options: &Options<A>,
+    attribute: Attribute,
+    line: u32,
+    text: &'a [u8],
+) -> Result<Value<'a>, InfoFault>
+    ensures { Sees value_seen result (name_value options.now attribute line text.entry.now) }
+{
+    if !is_file_name(text) {
+        return Err(InfoFault::new(line, InfoFaultKind::BadName));
+    }
+    if is_on_command_line(options, attribute) {
+        return Err(InfoFault::new(line, InfoFaultKind::NameConflict));
+    }
+    match str::from_utf8(text) {
+        Ok(name) => Ok(Value::Name(name)),
+        Err(_) => Err(InfoFault::new(line, InfoFaultKind::BadName)),
+    }
+}
+
+fn number_value<'a>(low: u32, high: u32, line: u32, number: u32) -> Result<Value<'a>, InfoFault>
+    ensures { Sees value_seen result (number_value low high line number) }
+{
+    if low <= number && number <= high {
+        Ok(Value::Number(number))
+    } else {
+        Err(InfoFault::new(line, InfoFaultKind::OutOfRange))
+    }
+}
+
+fn address_value<'a>(line: u32, number: u32) -> Result<Value<'a>, InfoFault>
+    ensures { Sees value_seen result (address_value line number) }
+{
+    if number <= 0xFFFF {
+        Ok(Value::Address(number as u16))
+    } else {
+        Err(InfoFault::new(line, InfoFaultKind::OutOfRange))
+    }
+}
+
+fn cpu_value<'a>(line: u32, cpu: Option<Cpu>) -> Result<Value<'a>, InfoFault>
+    ensures { Sees value_seen result (cpu_value line cpu) }
+{
+    match cpu {
+        Some(cpu) => Ok(Value::Cpu(cpu)),
+        None => Err(InfoFault::new(line, InfoFaultKind::OutOfRange)),
+    }
+}
+
+/// The value of an attribute, or the first of its faults.
+#[tactic(auto, unfolding(crate::specs::Values::value_of))]
+pub fn value_of<'a, A: Allocator>(
+    options: &Options<A>,
+    attribute: Attribute,
+    token: Token<'a>,
+) -> Result<Value<'a>, InfoFault>
+    ensures { Sees value_seen result (value_of options.now attribute (seen token.entry)) }
+{
+    let line = token.line;
+    match (form_of(attribute), token.kind) {
+        (Form::FileName, TokenKind::Text(text)) => name_value(options, attribute, line, text),
+        (Form::CpuText, TokenKind::Text(text)) => cpu_value(line, Cpu::from_bytes(text)),
+        (Form::Address, TokenKind::Number(number)) => address_value(line, number),
+        (Form::Number { low, high }, TokenKind::Number(number)) => {
+            number_value(low, high, line, number)
+        }
+        _ => Err(InfoFault::new(line, InfoFaultKind::Expected)),
+    }
+}

@@ -1,0 +1,96 @@
+-- Going by what a test, an option or a list turns out to be; what stands in front; words in any case.
+use Rattle.std.proofs.Common.{◌≡◌, ℕ, Bool, true, false, List, [], ◌∷◌, drop, Option, Some, None, refl, sym, ap, ◌∙◌}
+use Rattle.std.specs.Prelude.{◌&&◌, ◌||◌, not, codes, is_some}
+use Rattle.std.specs.List.{list_any}
+use Rattle.std.specs.Str.{str_to_ascii_lowercase}
+use Rattle.std.proofs.lemmas.Bool.{eqb-true}
+use Rattle.std.proofs.lemmas.Slice.Eq.{bytes_eq-Decides}
+use Rattle.isa65.specs.declared.mnemonic.Mnemonic.{Mnemonic}
+use Rattle.isa65.specs.declared.mnemonic.Mnemonic.TheVariants.{Adc}
+use Rattle.isa65.specs.Mnemonic.{text_of, mnemonic_named}
+use Rattle.isa65.specs.MnemonicLaws.{mnemonic_named-is, mnemonic_named-text_of}
+use Rattle.stmt65.specs.Parts.{Part, Word, Number, Define, Mark, number_of}
+use Rattle.stmt65.specs.Names.{same, letters, is_reserved, has_name_form, is_name}
+use Rattle.stmt65.specs.Reading.{is_mark, is_define, is_word_here, is_number_here, number_in}
+
+pub by_test : {P : Type 0} (b : Bool) → (b ≡ true → P) → (b ≡ false → P) → P
+by_test true f g = f refl
+by_test false f g = g refl
+
+pub by_option : {A P : Type 0} (o : Option A) → ((x : A) → o ≡ Some x → P) → (o ≡ None → P) → P
+by_option (Some x) f g = f x refl
+by_option None f g = g refl
+
+pub by_list : {A P : Type 0} (xs : List A) → (xs ≡ [] → P) → ((y : A) → (ys : List A) → xs ≡ y ∷ ys → P) → P
+by_list [] f g = f refl
+by_list (x ∷ xs) f g = g x xs refl
+
+pub both : (a b : Bool) → (a && b) ≡ true → (a ≡ true) × (b ≡ true)
+both true b h = (refl, h)
+both false b h = absurd cc
+
+pub neither : (a b : Bool) → (a || b) ≡ false → (a ≡ false) × (b ≡ false)
+neither true b h = absurd cc
+neither false b h = (refl, h)
+
+pub not_true : (b : Bool) → not b ≡ true → b ≡ false
+not_true true h = absurd cc
+not_true false h = refl
+
+pub mark_is : (b : ℕ) (ps : List Part) → is_mark b ps ≡ true → ps ≡ Mark b ∷ drop 1 ps
+mark_is b (Mark c ∷ ps) e = ap (λ (d : ℕ). Mark d ∷ ps) (eqb-true c b e)
+mark_is b _ e = absurd cc
+
+pub define_is : (ps : List Part) → is_define ps ≡ true → ps ≡ Define ∷ drop 1 ps
+define_is (Define ∷ ps) e = refl
+define_is _ e = absurd cc
+
+pub word_is : (text : List ℕ) (ps : List Part) → is_word_here text ps ≡ true → (w : List ℕ) × (same w text ≡ true) × (ps ≡ Word w ∷ drop 1 ps)
+word_is text (Word w ∷ ps) e = (w, e, refl)
+word_is text _ e = absurd cc
+
+pub number_is : (ps : List Part) (n : ℕ × List Part) → number_in ps ≡ Some n → (text : List ℕ) × (n.0 ≡ number_of text) × (ps ≡ Number text ∷ n.1)
+number_is (Number t ∷ ps) n e =
+    let s : (number_of t, ps) ≡ n = cc in
+    (t, sym (ap (λ (m : ℕ × List Part). m.0) s), ap (λ (m : ℕ × List Part). Number t ∷ m.1) s)
+number_is _ n e = absurd cc
+
+pub number_here_is : (text : List ℕ) (ps : List Part) → is_number_here text ps ≡ true → ps ≡ Number text ∷ drop 1 ps
+number_here_is text (Number t ∷ ps) e = ap (λ (s : List ℕ). Number s ∷ ps) ((bytes_eq-Decides t text).0 e)
+number_here_is text _ e = absurd cc
+
+-- a word is one text only
+pub other : (w s t : List ℕ) → same w s ≡ true → same s t ≡ false → same w t ≡ false
+other w s t h g = let e : str_to_ascii_lowercase w ≡ str_to_ascii_lowercase s = (bytes_eq-Decides _ _).0 h in rw e g
+
+lowercase-text_of : (m : Mnemonic) → str_to_ascii_lowercase (text_of m) ≡ text_of m
+lowercase-text_of m = (mnemonic_named-is (text_of m) m).0 (mnemonic_named-text_of m)
+
+pub mnemonic_is : (w : List ℕ) (m : Mnemonic) → mnemonic_named w ≡ Some m → same w (text_of m) ≡ true
+mnemonic_is w m h = (bytes_eq-Decides _ _).1 ((mnemonic_named-is w m).0 h ∙ sym (lowercase-text_of m))
+
+pub mnemonic_again : (w : List ℕ) (m : Mnemonic) → same w (text_of m) ≡ true → mnemonic_named w ≡ Some m
+mnemonic_again w m h = (mnemonic_named-is w m).1 ((bytes_eq-Decides _ _).0 h ∙ lowercase-text_of m)
+
+-- what is none of the operations that begin with a dot
+pub record HasNoDot (t : List ℕ) : Type 0 where
+  pub byte : same t (codes ".byte") ≡ false
+  pub word : same t (codes ".word") ≡ false
+  pub dbyt : same t (codes ".dbyt") ≡ false
+  pub addr : same t (codes ".addr") ≡ false
+  pub segment : same t (codes ".segment") ≡ false
+  pub code : same t (codes ".code") ≡ false
+  pub set_cpu : same t (codes ".setcpu") ≡ false
+
+pub no_dot : (m : Mnemonic) → HasNoDot (text_of m)
+no_dot Adc = record { byte = refl; word = refl; dbyt = refl; addr = refl; segment = refl; code = refl; set_cpu = refl }
+no_dot _ = record { byte = refl; word = refl; dbyt = refl; addr = refl; segment = refl; code = refl; set_cpu = refl }
+
+-- a name is none of the operand words
+pub no_letter : (w : List ℕ) → is_name w ≡ true → (same w (codes "a") ≡ false) × (same w (codes "x") ≡ false) × (same w (codes "y") ≡ false)
+unfolding is_name is_reserved
+no_letter w h =
+    let any = (neither (is_some (mnemonic_named w)) (list_any (same w) letters) (not_true _ (both (has_name_form w) _ h).1)).1 in
+    let a = neither (same w (codes "a")) _ any in let f = neither (same w (codes "f")) _ a.1 in let s = neither (same w (codes "s")) _ f.1 in
+    let x = neither (same w (codes "x")) _ s.1 in let y = neither (same w (codes "y")) _ x.1 in
+    (a.0, x.0, y.0)

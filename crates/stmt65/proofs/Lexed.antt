@@ -1,0 +1,209 @@
+-- The parts of a text that is printed, where what follows it ends its last word.
+use Rattle.std.proofs.Common.{◌≡◌, ℕ, zero, suc, Bool, true, false, eqb, ltb, ◌+◌, ◌/◌, ◌%◌, ◌<◌, ◌≤◌, List, [], ◌∷◌, ◌++◌, length, drop, min, replicate, refl, sym, ap, ◌∙◌, arith}
+use Rattle.std.specs.List.{prefix_len, list_all}
+use Rattle.std.specs.Char.{digit_value, is_ascii_hexdigit, is_ascii_digit}
+use Rattle.std.specs.Str.Parse.{AllDigits}
+use Rattle.std.specs.Fmt.{decimal}
+use Rattle.std.proofs.lemmas.Bool.{lt-ltb, ltb-true}
+use Rattle.std.proofs.lemmas.Bool.Decides.{nat_tests}
+use Rattle.std.proofs.lemmas.Fmt.{decimal_is_IsNumeral, decimal_nonempty}
+use Rattle.std.proofs.lemmas.List.{take_at, drop_at, drop-drop}
+use Rattle.std.proofs.lemmas.Str.Parse.{digit_from_value}
+use Rattle.stmt65.specs.Digits.{hex_digit, hex2, hex4, offset_text}
+use Rattle.stmt65.specs.Lexing.{is_blank, is_word_start, is_word_byte, is_text_byte, part_at, parts}
+use Rattle.stmt65.specs.Parts.{Word, Number, Text, Mark, begins_with, number_of}
+use Rattle.stmt65.proofs.PartLemmas.{parts_blank, parts_part}
+use Rattle.stmt65.proofs.Cases.{both}
+
+-- whether the list begins with an element that passes
+abbrev pub begins : (ℕ → Bool) → List ℕ → Bool
+begins p [] = false
+begins p (x ∷ xs) = p x
+
+-- what may follow a word or a number, so that it ends there
+abbrev pub Ends : List ℕ → Type 0
+Ends rest = begins is_word_byte rest ≡ false
+
+-- a word: how it begins, and how it goes on
+abbrev pub IsWordText : List ℕ → Type 0
+IsWordText [] = ⊥
+IsWordText (b ∷ w) = (is_word_start b ≡ true) × (list_all is_word_byte w ≡ true)
+
+prefix_stop : (p : ℕ → Bool) (xs ys : List ℕ) → list_all p xs ≡ true → begins p ys ≡ false → prefix_len p (xs ++ ys) ≡ length xs
+prefix_stop p [] [] h g = refl
+prefix_stop p [] (y ∷ ys) h g = rw g refl
+prefix_stop p (x ∷ xs) ys h g = let a = both (p x) (list_all p xs) h in rw a.0 (omega (arith, prefix_stop p xs ys a.1 g))
+
+-- ---- words
+
+no_blank : (b : ℕ) → is_word_start b ≡ true → is_blank b ≡ false
+no_blank b h = grind (arith, nat_tests)
+
+no_remark : (b : ℕ) → is_word_start b ≡ true → eqb b 59 ≡ false
+no_remark b h = grind (arith, nat_tests)
+
+word_part : (b : ℕ) (w rest : List ℕ) → is_word_start b ≡ true → list_all is_word_byte w ≡ true → Ends rest → part_at b (w ++ rest) ≡ (Word (b ∷ w), length w)
+unfolding part_at
+word_part b w rest h g e = rw (h, prefix_stop is_word_byte w rest g e, take_at w rest (length w) refl) refl
+
+pub parts_word : (w rest : List ℕ) → IsWordText w → Ends rest → parts (w ++ rest) ≡ Word w ∷ parts rest
+parts_word [] rest h e = absurd h
+parts_word (b ∷ w) rest h e =
+    parts_part b (w ++ rest) (no_blank b h.0) (no_remark b h.0) ∙ rw (word_part b w rest h.0 h.1 e, drop_at w rest (length w) refl) refl
+
+pub parts_blanks : (n : ℕ) (rest : List ℕ) → parts (replicate n 32 ++ rest) ≡ parts rest
+parts_blanks zero rest = refl
+parts_blanks (suc n) rest = parts_blank 32 (replicate n 32 ++ rest) refl ∙ parts_blanks n rest
+
+-- ---- bytes by themselves
+
+pub parts_hash : (rest : List ℕ) → parts (35 ∷ rest) ≡ Mark 35 ∷ parts rest
+unfolding part_at
+parts_hash rest = parts_part 35 rest refl refl
+
+pub parts_open : (rest : List ℕ) → parts (40 ∷ rest) ≡ Mark 40 ∷ parts rest
+unfolding part_at
+parts_open rest = parts_part 40 rest refl refl
+
+pub parts_close : (rest : List ℕ) → parts (41 ∷ rest) ≡ Mark 41 ∷ parts rest
+unfolding part_at
+parts_close rest = parts_part 41 rest refl refl
+
+pub parts_plus : (rest : List ℕ) → parts (43 ∷ rest) ≡ Mark 43 ∷ parts rest
+unfolding part_at
+parts_plus rest = parts_part 43 rest refl refl
+
+pub parts_comma : (rest : List ℕ) → parts (44 ∷ rest) ≡ Mark 44 ∷ parts rest
+unfolding part_at
+parts_comma rest = parts_part 44 rest refl refl
+
+-- the `:` of `a:`, where no `=` follows
+pub parts_colon : (rest : List ℕ) → begins_with 61 rest ≡ false → parts (58 ∷ rest) ≡ Mark 58 ∷ parts rest
+unfolding part_at
+parts_colon rest h = parts_part 58 rest refl refl ∙ rw h refl
+
+-- ---- strings
+
+text_part : (t rest : List ℕ) → list_all is_text_byte t ≡ true → part_at 34 (t ++ 34 ∷ rest) ≡ (Text t, length t + 1)
+unfolding part_at
+text_part t rest h =
+    rw (prefix_stop is_text_byte t (34 ∷ rest) h refl, take_at t (34 ∷ rest) (length t) refl, drop_at t (34 ∷ rest) (length t) refl) refl
+
+pub parts_text : (t rest : List ℕ) → list_all is_text_byte t ≡ true → parts (34 ∷ (t ++ 34 ∷ rest)) ≡ Text t ∷ parts rest
+parts_text t rest h =
+    let d : drop (length t + 1) (t ++ 34 ∷ rest) ≡ rest = sym (drop-drop 1 (length t) (t ++ 34 ∷ rest)) ∙ ap (drop 1) (drop_at t (34 ∷ rest) (length t) refl) in
+    parts_part 34 (t ++ 34 ∷ rest) refl refl ∙ rw (text_part t rest h, d) refl
+
+-- ---- numbers in hex digits
+
+hex_is_digit : (d : ℕ) → d < 16 → is_ascii_hexdigit (hex_digit d) ≡ true
+hex_is_digit d lt = grind (arith, nat_tests)
+
+hex_value : (d : ℕ) → d < 16 → digit_value (hex_digit d) ≡ d
+hex_value d lt = grind (arith, nat_tests)
+
+hex_is_word : (b : ℕ) → is_word_byte b ≡ false → is_ascii_hexdigit b ≡ false
+hex_is_word b h = grind (arith, nat_tests)
+
+digit_is_word : (b : ℕ) → is_word_byte b ≡ false → is_ascii_digit b ≡ false
+digit_is_word b h = grind (arith, nat_tests)
+
+ends_hex : (rest : List ℕ) → Ends rest → begins is_ascii_hexdigit rest ≡ false
+ends_hex [] h = refl
+ends_hex (b ∷ rest) h = hex_is_word b h
+
+ends_digit : (rest : List ℕ) → Ends rest → begins is_ascii_digit rest ≡ false
+ends_digit [] h = refl
+ends_digit (b ∷ rest) h = digit_is_word b h
+
+hex_part : (ds rest : List ℕ) → list_all is_ascii_hexdigit ds ≡ true → 0 < length ds → length ds ≤ 8 → Ends rest → part_at 36 (ds ++ rest) ≡ (Number (36 ∷ ds), length ds)
+unfolding part_at
+hex_part ds rest h pos le e =
+    let a = prefix_stop is_ascii_hexdigit ds rest h (ends_hex rest e) in
+    let m : min 8 (length ds) ≡ length ds = omega arith in
+    let t : ltb 0 (length ds) ≡ true = lt-ltb 0 (length ds) pos in
+    rw (a, m, t, take_at ds rest (length ds) refl) refl
+
+parts_hex : (ds rest : List ℕ) → list_all is_ascii_hexdigit ds ≡ true → 0 < length ds → length ds ≤ 8 → Ends rest → parts (36 ∷ (ds ++ rest)) ≡ Number (36 ∷ ds) ∷ parts rest
+parts_hex ds rest h pos le e =
+    parts_part 36 (ds ++ rest) refl refl ∙ rw (hex_part ds rest h pos le e, drop_at ds rest (length ds) refl) refl
+
+below_16 : (n : ℕ) → n % 16 < 16
+below_16 n = omega arith
+
+pub parts_hex2 : (n : ℕ) (rest : List ℕ) → Ends rest → parts (hex2 n ++ rest) ≡ Number (hex2 n) ∷ parts rest
+parts_hex2 n rest e =
+    parts_hex (hex_digit (n / 16 % 16) ∷ hex_digit (n % 16) ∷ []) rest (rw (hex_is_digit (n / 16 % 16) (below_16 (n / 16)), hex_is_digit (n % 16) (below_16 n)) refl) (omega arith) (omega arith) e
+
+pub parts_hex4 : (n : ℕ) (rest : List ℕ) → Ends rest → parts (hex4 n ++ rest) ≡ Number (hex4 n) ∷ parts rest
+parts_hex4 n rest e =
+    parts_hex (hex_digit (n / 4096 % 16) ∷ hex_digit (n / 256 % 16) ∷ hex_digit (n / 16 % 16) ∷ hex_digit (n % 16) ∷ []) rest (rw (hex_is_digit (n / 4096 % 16) (below_16 (n / 4096)), hex_is_digit (n / 256 % 16) (below_16 (n / 256)), hex_is_digit (n / 16 % 16) (below_16 (n / 16)), hex_is_digit (n % 16) (below_16 n)) refl) (omega arith) (omega arith) e
+
+pub number_of-hex2 : (n : ℕ) → n < 256 → n ≡ number_of (hex2 n)
+unfolding number_of
+number_of-hex2 n lt = rw (hex_value (n / 16 % 16) (below_16 (n / 16)), hex_value (n % 16) (below_16 n)) (omega arith)
+
+pub number_of-hex4 : (n : ℕ) → n < 65536 → n ≡ number_of (hex4 n)
+unfolding number_of
+number_of-hex4 n lt = rw (hex_value (n / 4096 % 16) (below_16 (n / 4096)), hex_value (n / 256 % 16) (below_16 (n / 256)), hex_value (n / 16 % 16) (below_16 (n / 16)), hex_value (n % 16) (below_16 n)) (omega arith)
+
+-- ---- numbers in decimal
+
+is_digit : (d : ℕ) → digit_value d < 10 → is_ascii_digit d ≡ true
+is_digit d h = let r = digit_from_value d h in grind (arith, nat_tests)
+
+digits_pass : (ds : List ℕ) → AllDigits 10 ds → list_all is_ascii_digit ds ≡ true
+digits_pass [] h = refl
+digits_pass (d ∷ ds) h = rw (is_digit d h.0, digits_pass ds h.1) refl
+
+digit_no_word : (d : ℕ) → is_ascii_digit d ≡ true → is_word_start d ≡ false
+digit_no_word d h = grind (arith, nat_tests)
+
+digit_no_blank : (b : ℕ) → is_ascii_digit b ≡ true → is_blank b ≡ false
+digit_no_blank b h = grind (arith, nat_tests)
+
+digit_no_remark : (b : ℕ) → is_ascii_digit b ≡ true → eqb b 59 ≡ false
+digit_no_remark b h = grind (arith, nat_tests)
+
+digit_no_dollar : (b : ℕ) → is_ascii_digit b ≡ true → eqb b 36 ≡ false
+digit_no_dollar b h = grind (arith, nat_tests)
+
+decimal_part : (d : ℕ) (ds rest : List ℕ) → list_all is_ascii_digit (d ∷ ds) ≡ true → Ends rest → part_at d (ds ++ rest) ≡ (Number (d ∷ ds), length ds)
+unfolding part_at
+decimal_part d ds rest h e =
+    let a = both (is_ascii_digit d) (list_all is_ascii_digit ds) h in
+    rw (digit_no_word d a.0, a.0, prefix_stop is_ascii_digit ds rest a.1 (ends_digit rest e), take_at ds rest (length ds) refl) refl
+
+parts_digits : (ds rest : List ℕ) → 0 < length ds → list_all is_ascii_digit ds ≡ true → Ends rest → parts (ds ++ rest) ≡ Number ds ∷ parts rest
+parts_digits [] rest lt h e = absurd (omega arith)
+parts_digits (d ∷ ds) rest lt h e =
+    let f = (both (is_ascii_digit d) (list_all is_ascii_digit ds) h).0 in
+    parts_part d (ds ++ rest) (digit_no_blank d f) (digit_no_remark d f) ∙ rw (decimal_part d ds rest h e, drop_at ds rest (length ds) refl) refl
+
+pub parts_decimal : (n : ℕ) (rest : List ℕ) → n < 65536 → Ends rest → parts (decimal n ++ rest) ≡ Number (decimal n) ∷ parts rest
+parts_decimal n rest lt e =
+    parts_digits (decimal n) rest (decimal_nonempty n (omega arith)) (digits_pass (decimal n) (decimal_is_IsNumeral n (omega arith)).0.1) e
+
+no_dollar : (ds : List ℕ) → list_all is_ascii_digit ds ≡ true → begins_with 36 ds ≡ false
+no_dollar [] h = refl
+no_dollar (d ∷ ds) h = digit_no_dollar d (both (is_ascii_digit d) (list_all is_ascii_digit ds) h).0
+
+pub number_of-decimal : (n : ℕ) → n < 65536 → n ≡ number_of (decimal n)
+unfolding number_of
+number_of-decimal n lt =
+    let d = decimal_is_IsNumeral n (omega arith) in
+    rw (no_dollar (decimal n) (digits_pass (decimal n) d.0.1), d.1) (omega arith)
+
+-- ---- what is added to a name
+
+pub record OffsetParts (text : List ℕ) (n : ℕ) (rest : List ℕ) : Type 0 where
+  pub lexes : parts (text ++ rest) ≡ Number text ∷ parts rest
+  pub counts : n ≡ number_of text
+
+pub offset_parts : (h : Bool) (n : ℕ) (rest : List ℕ) → n < 65536 → Ends rest → OffsetParts (offset_text h n) n rest
+offset_parts false n rest lt e = record { lexes = parts_decimal n rest lt e; counts = number_of-decimal n lt }
+offset_parts true n rest lt e = go (ltb n 256) refl
+  where
+    go : (t : Bool) → ltb n 256 ≡ t → OffsetParts (offset_text true n) n rest
+    go true f = rw f (record { lexes = parts_hex2 n rest e; counts = number_of-hex2 n (ltb-true n 256 f) })
+    go false f = rw f (record { lexes = parts_hex4 n rest e; counts = number_of-hex4 n lt })

@@ -1,0 +1,89 @@
+-- What a pass has done, line after line.
+use Rattle.std.proofs.Common.{◌≡◌, ℕ, ◌+◌, List, [], ◌∷◌, ◌++◌, map, Option, Some, None, refl, sym, ap, ◌∙◌, append_assoc}
+use Rattle.std.specs.Prelude.{Result, Ok, Err}
+use Rattle.std.proofs.lemmas.List.{append-nil}
+use Rattle.stmt65.specs.declared.fault.AsmFault.{AsmFault}
+use Rattle.stmt65.specs.declared.fault.AsmFaultKind.{AsmFaultKind}
+use Rattle.stmt65.specs.Said.{Said}
+use Rattle.stmt65.specs.Lines.{text_lines}
+use Rattle.stmt65.specs.Lexing.{parts}
+use Rattle.stmt65.specs.Reading.{reading_of}
+use Rattle.stmt65.specs.Symbols.{Definition}
+use Rattle.stmt65.specs.Meaning.{State, after, bytes_of, coded, fault_of, final, initial, meaning, meaning_of, readings, unless, with_front}
+use Rattle.stmt65.specs.MeaningViews.{held_after, held_definition, held_final}
+use Rattle.stmt65.proofs.MeaningLaws.{fault-all, bytes-all}
+
+readings_more : (text line rest : List ℕ) → text_lines text ≡ line ∷ text_lines rest → readings text ≡ reading_of (parts line) ∷ readings rest
+readings_more text line rest e = ap (map (λ l. reading_of (parts l))) e
+
+readings_nil : (text : List ℕ) → text_lines text ≡ [] → readings text ≡ []
+readings_nil text e = ap (map (λ l. reading_of (parts l))) e
+
+-- ---- the first pass
+
+final_cons : (s : State) (r : Option Said) (rs : List (Option Said)) → held_final s (r ∷ rs) ≡ held_final (held_after s r) rs
+unfolding held_final
+final_cons s r rs = refl
+
+final_nil : (s : State) → held_final s [] ≡ s
+unfolding held_final
+final_nil s = refl
+
+pub final_step : (s t : State) (text line rest : List ℕ) (all : State) → held_final s (readings text) ≡ all → text_lines text ≡ line ∷ text_lines rest → t ≡ held_after s (reading_of (parts line)) → held_final t (readings rest) ≡ all
+final_step s t text line rest all h e k =
+    ap (λ (u : State). held_final u (readings rest)) k ∙ sym (final_cons s (reading_of (parts line)) (readings rest)) ∙ ap (held_final s) (sym (readings_more text line rest e)) ∙ h
+
+pub final_end : (s : State) (text : List ℕ) (all : State) → held_final s (readings text) ≡ all → text_lines text ≡ [] → s.above ≡ all.above
+final_end s text all h e = ap (λ (t : State). t.above) (sym (final_nil s) ∙ ap (held_final s) (sym (readings_nil text e)) ∙ h)
+
+pub ruleset finals = (final_step, final_end)
+
+-- ---- the second pass; the code has the definitions `names` of all lines, held
+
+coded_cons : (all : List Definition) (n : ℕ) (s : State) (r : Option Said) (rs : List (Option Said)) → coded all n s (r ∷ rs) ≡ unless n (fault_of all s r) (with_front (bytes_of all s r) (coded all (n + 1) (after s r) rs))
+unfolding coded
+coded_cons all n s r rs = refl
+
+coded_nil : (all : List Definition) (n : ℕ) (s : State) → coded all n s [] ≡ Ok []
+unfolding coded
+coded_nil all n s = refl
+
+front-front : (a b : List ℕ) (m : Result (List ℕ) AsmFault) → with_front a (with_front b m) ≡ with_front (a ++ b) m
+front-front a b (Ok bytes) = ap (λ (l : List ℕ). Ok l) (sym (append_assoc a b bytes))
+front-front a b (Err f) = refl
+
+front-nil : (m : Result (List ℕ) AsmFault) → with_front [] m ≡ m
+front-nil (Ok bytes) = refl
+front-nil (Err f) = refl
+
+pub pass_start : (start : ℕ) (text : List ℕ) (s : State) (out : List ℕ) → s ≡ initial start → out ≡ []
+    → with_front out (coded (final (initial start) (readings text)).above 1 s (readings text)) ≡ meaning start text
+unfolding meaning meaning_of
+pass_start start text s out e f = rw (e, f) (front-nil (coded (final (initial start) (readings text)).above 1 (initial start) (readings text)))
+
+pub coded_step : (all names : List Definition) (n : ℕ) (s t : State) (text line rest : List ℕ) (out more : List ℕ) (total : Result (List ℕ) AsmFault)
+    → names ≡ map held_definition all → with_front out (coded all n s (readings text)) ≡ total → text_lines text ≡ line ∷ text_lines rest
+    → None ≡ fault_of names s (reading_of (parts line)) → more ≡ out ++ bytes_of names s (reading_of (parts line)) → t ≡ after s (reading_of (parts line))
+    → with_front more (coded all (n + 1) t (readings rest)) ≡ total
+coded_step all names n s t text line rest out more total same h e f g k =
+    let r = reading_of (parts line) in
+    let tail = coded all (n + 1) (after s r) (readings rest) in
+    let f' : None ≡ fault_of all s r = f ∙ ap (λ (ds : List Definition). fault_of ds s r) same ∙ fault-all all s r in
+    let g' : more ≡ out ++ bytes_of all s r = g ∙ ap (λ (ds : List Definition). out ++ bytes_of ds s r) same ∙ ap (λ (l : List ℕ). out ++ l) (bytes-all all s r) in
+    rw (g', k) (sym (front-front out (bytes_of all s r) tail)
+    ∙ ap (λ (o : Option AsmFaultKind). with_front out (unless n o (with_front (bytes_of all s r) tail))) f'
+    ∙ ap (with_front out) (sym (coded_cons all n s r (readings rest)) ∙ ap (coded all n s) (sym (readings_more text line rest e))) ∙ h)
+
+pub coded_fault : (all names : List Definition) (n : ℕ) (s : State) (text line rest : List ℕ) (out : List ℕ) (kind : AsmFaultKind) (total : Result (List ℕ) AsmFault)
+    → names ≡ map held_definition all → with_front out (coded all n s (readings text)) ≡ total → text_lines text ≡ line ∷ text_lines rest
+    → Some kind ≡ fault_of names s (reading_of (parts line)) → total ≡ Err (record { line = n; kind = kind })
+coded_fault all names n s text line rest out kind total same h e f =
+    let r = reading_of (parts line) in
+    let f' : Some kind ≡ fault_of all s r = f ∙ ap (λ (ds : List Definition). fault_of ds s r) same ∙ fault-all all s r in
+    sym h ∙ ap (with_front out) (ap (coded all n s) (readings_more text line rest e) ∙ coded_cons all n s r (readings rest)
+    ∙ ap (λ (o : Option AsmFaultKind). unless n o (with_front (bytes_of all s r) (coded all (n + 1) (after s r) (readings rest)))) (sym f'))
+
+pub coded_end : (all : List Definition) (n : ℕ) (s : State) (text : List ℕ) (out : List ℕ) (total : Result (List ℕ) AsmFault)
+    → with_front out (coded all n s (readings text)) ≡ total → text_lines text ≡ [] → total ≡ Ok out
+coded_end all n s text out total h e =
+    sym h ∙ ap (with_front out) (ap (coded all n s) (readings_nil text e) ∙ coded_nil all n s) ∙ ap (λ (l : List ℕ). Ok l) (append-nil out)

@@ -1,0 +1,318 @@
+-- What is read is spelled so.
+use Rattle.std.proofs.Common.{◌≡◌, ℕ, zero, suc, Bool, true, false, cond, append_assoc, List, [], ◌∷◌, ◌++◌, length, drop, Option, Some, None, refl, sym, ap, ◌∙◌, inl, inr}
+use Rattle.std.specs.Prelude.{codes, IfSome}
+use Rattle.std.proofs.lemmas.List.{append-nil}
+use Rattle.isa65.specs.Mnemonic.{text_of, mnemonic_named}
+use Rattle.stmt65.specs.Said.{Value, Form, Hash, Both, Operation, Instr, Data, Words, Dbyts, Addrs, SetCpu}
+use Rattle.stmt65.specs.Parts.{Part, Word, Number, Text, Define, Mark}
+use Rattle.stmt65.specs.Names.{same, has_name_form, is_name}
+use Rattle.stmt65.specs.Reading.{is_mark, is_define, is_word_here, is_number_here, number_in, ◌>>=◌, less_one, named_at, next_value, whole, tail_at, inner_at, form_of, joined, list_of, next_datum, text_in, data_of, segment_of, set_cpu_of, instruction_of, operation_at, operation_of, constant_of, line_at, reading_of}
+use Rattle.stmt65.specs.Spelling.{Item, word, mark, define, name, number, string, quoted_name, value, data_list, value_list, IsPlus, IsValue, IsDatum, prefix_items, IsList, IsItem, Spells, form_items, operation_items, IsSpelling}
+use Rattle.stmt65.proofs.Cases.{by_test, by_option, by_list, mark_is, define_is, word_is, number_is, number_here_is, mnemonic_is}
+
+-- ps begins with parts of which Is holds, and then come the parts rest
+pub record Fronts (Is : List Part → Type 0) (ps rest : List Part) : Type 0 where
+  pub front : List Part
+  pub split : ps ≡ front ++ rest
+  pub is : Is front
+
+-- ---- items in front
+
+at_mark : (b : ℕ) (is : List Item) (ps : List Part) → is_mark b ps ≡ true → Spells is (drop 1 ps) → Spells (mark b ∷ is) ps
+unfolding Spells
+at_mark b is ps h g = (Mark b ∷ [], drop 1 ps, mark_is b ps h, refl, g)
+
+at_word : (text : List ℕ) (is : List Item) (ps : List Part) → is_word_here text ps ≡ true → Spells is (drop 1 ps) → Spells (word text ∷ is) ps
+unfolding Spells
+at_word text is ps h g = let w = word_is text ps h in (Word w.0 ∷ [], drop 1 ps, w.2, (w.0, w.1, refl), g)
+
+at_value : (v : Value) (is : List Item) (ps rest : List Part) → Fronts (IsValue v) ps rest → Spells is rest → Spells (value v ∷ is) ps
+unfolding Spells
+at_value v is ps rest f g = (f.front, rest, f.split, f.is, g)
+
+at_end : Spells [] []
+unfolding Spells
+at_end = refl
+
+-- ---- values
+
+-- the parts behind a name and what is added to it
+less_read : (w : List ℕ) (n : ℕ) (plus ps rest : List Part) → is_name w ≡ true → IsPlus n plus → ps ≡ Word w ∷ (plus ++ rest) → IfSome (less_one w n rest) (λ v. Fronts (IsValue v.0) ps v.1)
+unfolding less_one
+less_read w n plus ps rest named p e =
+    by_test (is_mark 45 rest)
+    (λ m. rw m (by_test (is_number_here (codes "1") (drop 1 rest))
+    (λ one. rw one (record {
+      front = Word w ∷ (plus ++ Mark 45 ∷ Number (codes "1") ∷ []);
+      split = e ∙ ap (λ (r : List Part). Word w ∷ r) (ap (λ (r : List Part). plus ++ r) (mark_is 45 rest m ∙ ap (λ (r : List Part). Mark 45 ∷ r) (number_here_is (codes "1") (drop 1 rest) one)) ∙ sym (append_assoc plus (Mark 45 ∷ Number (codes "1") ∷ []) (drop 1 (drop 1 rest))));
+      is = (plus, Mark 45 ∷ Number (codes "1") ∷ [], refl, named, p, refl);
+    }))
+    (λ one. rw one tt)))
+    (λ m. rw m (record { front = Word w ∷ (plus ++ []); split = e ∙ ap (λ (r : List Part). Word w ∷ (r ++ rest)) (sym (append-nil plus)); is = (plus, [], refl, named, p, refl) }))
+
+named_read : (w : List ℕ) (ps : List Part) → is_name w ≡ true → IfSome (named_at w ps) (λ v. Fronts (IsValue v.0) (Word w ∷ ps) v.1)
+unfolding named_at
+named_read w ps n =
+    by_test (is_mark 43 ps)
+    (λ plus. rw plus (by_option (number_in (drop 1 ps))
+    (λ k e. let t = number_is (drop 1 ps) k e in
+    rw e (less_read w k.0 (Mark 43 ∷ Number t.0 ∷ []) (Word w ∷ ps) k.1 n (inr (t.0, t.1, refl)) (ap (λ (qs : List Part). Word w ∷ qs) (mark_is 43 ps plus ∙ ap (λ (qs : List Part). Mark 43 ∷ qs) t.2))))
+    (λ e. rw e tt)))
+    (λ plus. rw plus (less_read w 0 [] (Word w ∷ ps) ps n (inl (refl, refl)) refl))
+
+pub value_read : (ps : List Part) → IfSome (next_value ps) (λ v. Fronts (IsValue v.0) ps v.1)
+unfolding next_value
+value_read (Number t ∷ ps) = record { front = Number t ∷ []; split = refl; is = (t, refl, refl) }
+value_read (Word w ∷ ps) = by_test (is_name w) (λ n. rw n (named_read w ps n)) (λ n. rw n tt)
+value_read [] = tt
+value_read (Text t ∷ ps) = tt
+value_read (Define ∷ ps) = tt
+value_read (Mark b ∷ ps) = tt
+
+pub datum_read : (ps : List Part) → IfSome (next_datum ps) (λ x. Fronts (IsDatum x.0) ps x.1)
+unfolding next_datum
+datum_read (Number t ∷ ps) = record { front = Number t ∷ []; split = refl; is = (t, refl, refl) }
+datum_read (Text t ∷ ps) = record { front = Text t ∷ []; split = refl; is = refl }
+datum_read [] = tt
+datum_read (Word w ∷ ps) = tt
+datum_read (Define ∷ ps) = tt
+datum_read (Mark b ∷ ps) = tt
+
+-- what holds of what is read, where something is read
+pub at : {A : Type 0} (P : A → Type 0) (o : Option A) (x : A) → o ≡ Some x → IfSome o P → P x
+at P o x e h = rw e at h
+
+-- ---- operands
+
+-- the items behind a value that stands first
+second_read : (prefix : Bool) (v : Value) (ps : List Part) → is_mark 44 ps ≡ true
+    → IfSome (cond prefix None (next_value (drop 1 ps) >>= λ w. whole (Both v w.0) w.1)) (λ f. (is : List Item) × (form_items f ≡ prefix_items prefix ++ value v ∷ is) × Spells is ps)
+second_read true v ps comma = tt
+second_read false v ps comma =
+    by_option (next_value (drop 1 ps))
+    (λ w e. let f = at (λ w. Fronts (IsValue w.0) (drop 1 ps) w.1) (next_value (drop 1 ps)) w e (value_read (drop 1 ps)) in
+    rw e (by_list w.1 (λ end. rw end (mark 44 ∷ value w.0 ∷ [], refl, at_mark 44 _ ps comma (at_value w.0 [] (drop 1 ps) w.1 f (rw end at_end)))) (λ q qs e. rw e tt)))
+    (λ e. rw e tt)
+
+tail_read : (prefix : Bool) (v : Value) (ps : List Part) → IfSome (tail_at prefix v ps) (λ f. (is : List Item) × (form_items f ≡ prefix_items prefix ++ value v ∷ is) × Spells is ps)
+unfolding tail_at
+tail_read prefix v ps =
+    by_test (is_mark 44 ps)
+    (λ comma. rw comma (by_test (is_word_here (codes "x") (drop 1 ps))
+    (λ x. rw x (by_list (drop 1 (drop 1 ps)) (λ end. rw end (mark 44 ∷ word (codes "x") ∷ [], refl, at_mark 44 _ ps comma (at_word (codes "x") [] (drop 1 ps) x (rw end at_end)))) (λ q qs e. rw e tt)))
+    (λ x. rw x (by_test (is_word_here (codes "y") (drop 1 ps))
+    (λ y. rw y (by_list (drop 1 (drop 1 ps)) (λ end. rw end (mark 44 ∷ word (codes "y") ∷ [], refl, at_mark 44 _ ps comma (at_word (codes "y") [] (drop 1 ps) y (rw end at_end)))) (λ q qs e. rw e tt)))
+    (λ y. rw y (second_read prefix v ps comma))))))
+    (λ comma. rw comma (by_list ps (λ end. rw end ([], refl, at_end)) (λ q qs e. rw e tt)))
+
+-- the items behind `(` and a value
+inner_read : (v : Value) (ps : List Part) → IfSome (inner_at v ps) (λ f. (is : List Item) × (form_items f ≡ mark 40 ∷ value v ∷ is) × Spells is ps)
+unfolding inner_at
+inner_read v ps =
+    by_test (is_mark 41 ps)
+    (λ close. rw close (by_test (is_mark 44 (drop 1 ps))
+    (λ comma. rw comma (by_test (is_word_here (codes "y") (drop 1 (drop 1 ps)))
+    (λ y. rw y (by_list (drop 1 (drop 1 (drop 1 ps)))
+    (λ end. rw end (mark 41 ∷ mark 44 ∷ word (codes "y") ∷ [], refl, at_mark 41 _ ps close (at_mark 44 _ (drop 1 ps) comma (at_word (codes "y") [] (drop 1 (drop 1 ps)) y (rw end at_end)))))
+    (λ q qs e. rw e tt)))
+    (λ y. rw y tt)))
+    (λ comma. rw comma (by_list (drop 1 ps) (λ end. rw end (mark 41 ∷ [], refl, at_mark 41 [] ps close (rw end at_end))) (λ q qs e. rw e tt)))))
+    (λ close. rw close (by_test (is_mark 44 ps)
+    (λ comma. rw comma (by_test (is_word_here (codes "x") (drop 1 ps))
+    (λ x. rw x (by_test (is_mark 41 (drop 1 (drop 1 ps)))
+    (λ late. rw late (by_list (drop 1 (drop 1 (drop 1 ps)))
+    (λ end. rw end (mark 44 ∷ word (codes "x") ∷ mark 41 ∷ [], refl, at_mark 44 _ ps comma (at_word (codes "x") _ (drop 1 ps) x (at_mark 41 [] (drop 1 (drop 1 ps)) late (rw end at_end)))))
+    (λ q qs e. rw e tt)))
+    (λ late. rw late tt)))
+    (λ x. rw x tt)))
+    (λ comma. rw comma tt)))
+
+-- a value, and then what is read behind it
+value_then : (ps : List Part) (k : Value → List Part → Option Form) (before : List Item)
+    → ((v : Value) (rest : List Part) → IfSome (k v rest) (λ f. (is : List Item) × (form_items f ≡ before ++ value v ∷ is) × Spells is rest))
+    → IfSome (next_value ps >>= λ v. k v.0 v.1) (λ f. (is : List Item) × (form_items f ≡ before ++ is) × Spells is ps)
+value_then ps k before h =
+    by_option (next_value ps)
+    (λ v e. rw e (by_option (k v.0 v.1)
+    (λ f g. let q = at (λ f. (is : List Item) × (form_items f ≡ before ++ value v.0 ∷ is) × Spells is v.1) (k v.0 v.1) f g (h v.0 v.1) in
+    rw g (value v.0 ∷ q.0, q.1, at_value v.0 q.0 ps v.1 (at (λ w. Fronts (IsValue w.0) ps w.1) (next_value ps) v e (value_read ps)) q.2))
+    (λ g. rw g tt)))
+    (λ e. rw e tt)
+
+-- such items behind the items of what stands before them
+joins : (o : Option Form) (before : List Item) (ps full : List Part)
+    → ((is : List Item) → Spells is ps → Spells (before ++ is) full)
+    → IfSome o (λ f. (is : List Item) × (form_items f ≡ before ++ is) × Spells is ps)
+    → IfSome o (λ f. Spells (form_items f) full)
+joins None before ps full h g = tt
+joins (Some f) before ps full h g = rw g.1 (h g.0 g.2)
+
+hash_read : (v : Value) (ps : List Part) → IfSome (whole (Hash v) ps) (λ f. (is : List Item) × (form_items f ≡ (mark 35 ∷ []) ++ value v ∷ is) × Spells is ps)
+hash_read v [] = ([], refl, at_end)
+hash_read v (p ∷ ps) = tt
+
+pub form_read : (ps : List Part) → IfSome (form_of ps) (λ f. Spells (form_items f) ps)
+unfolding form_of
+form_read ps =
+    by_test (is_mark 35 ps)
+    (λ hash. rw hash (joins _ (mark 35 ∷ []) (drop 1 ps) ps (λ is h. at_mark 35 is ps hash h) (value_then (drop 1 ps) (λ v rest. whole (Hash v) rest) (mark 35 ∷ []) hash_read)))
+    (λ hash. rw hash (by_test (is_mark 40 ps)
+    (λ paren. rw paren (joins _ (mark 40 ∷ []) (drop 1 ps) ps (λ is h. at_mark 40 is ps paren h) (value_then (drop 1 ps) inner_at (mark 40 ∷ []) inner_read)))
+    (λ paren. rw paren (by_test (is_word_here (codes "a") ps)
+    (λ a. rw a (by_test (is_mark 58 (drop 1 ps))
+    (λ colon. rw colon (joins _ (prefix_items true) (drop 1 (drop 1 ps)) ps (λ is h. at_word (codes "a") _ ps a (at_mark 58 is (drop 1 ps) colon h)) (value_then (drop 1 (drop 1 ps)) (tail_at true) (prefix_items true) (tail_read true))))
+    (λ colon. rw colon (by_list (drop 1 ps) (λ end. rw end (at_word (codes "a") [] ps a (rw end at_end))) (λ q qs e. rw e tt)))))
+    (λ a. rw a (by_list ps
+    (λ end. rw end at_end)
+    (λ q qs e. rw e (joins _ [] (q ∷ qs) (q ∷ qs) (λ is h. h) (value_then (q ∷ qs) (tail_at false) [] (tail_read false))))))))))
+
+-- ---- lists
+
+pub joined_read : {A : Type 0} (Is : A → List Part → Type 0) (read : List Part → Option (A × List Part))
+    → ((ps : List Part) → IfSome (read ps) (λ x. Fronts (Is x.0) ps x.1))
+    → (most : ℕ) (ps : List Part) → IfSome (joined read most ps) (λ xs. IsList Is xs ps)
+unfolding joined
+joined_read {A = A} Is read h zero ps = tt
+joined_read {A = A} Is read h (suc most) ps =
+    by_option (read ps)
+    (λ x e. let f = at (λ x. Fronts (Is x.0) ps x.1) (read ps) x e (h ps) in
+    rw e (by_test (is_mark 44 x.1)
+    (λ comma. rw comma (by_option (joined read most (drop 1 x.1))
+    (λ xs g. rw g (more x.0 xs ps x.1 f comma (at (λ xs. IsList Is xs (drop 1 x.1)) (joined read most (drop 1 x.1)) xs g (joined_read Is read h most (drop 1 x.1)))))
+    (λ g. rw g tt)))
+    (λ comma. rw comma (by_list x.1 (λ end. rw end (last x.0 ps x.1 f end)) (λ q qs e. rw e tt)))))
+    (λ e. rw e tt)
+  where
+    more : (x : A) (xs : List A) (ps rest : List Part) → Fronts (Is x) ps rest → is_mark 44 rest ≡ true → IsList Is xs (drop 1 rest) → IsList Is (x ∷ xs) ps
+    more x [] ps rest f comma g = absurd g
+    more x (y ∷ ys) ps rest f comma g = (f.front, drop 1 rest, f.split ∙ ap (λ (r : List Part). f.front ++ r) (mark_is 44 rest comma), f.is, g)
+
+    last : (x : A) (ps rest : List Part) → Fronts (Is x) ps rest → rest ≡ [] → Is x ps
+    last x ps rest f end = let e : ps ≡ f.front = f.split ∙ ap (λ (r : List Part). f.front ++ r) end ∙ append-nil f.front in rw e f.is
+
+-- ---- operations and lines
+
+-- an item behind a word
+one_behind : (text : List ℕ) (i : Item) (w : List ℕ) (ps : List Part) → same w text ≡ true → IsItem i ps → Spells (word text ∷ i ∷ []) (Word w ∷ ps)
+unfolding Spells
+one_behind text i w ps h g = (Word w ∷ [], ps, refl, (w, h, refl), (ps, [], sym (append-nil ps), g, refl))
+
+word_front : (text : List ℕ) (is : List Item) (w : List ℕ) (ps : List Part) → same w text ≡ true → Spells is ps → Spells (word text ∷ is) (Word w ∷ ps)
+unfolding Spells
+word_front text is w ps h g = (Word w ∷ [], ps, refl, (w, h, refl), g)
+
+name_front : (is : List Item) (w : List ℕ) (ps : List Part) → is_name w ≡ true → Spells is ps → Spells (name w ∷ is) (Word w ∷ ps)
+unfolding Spells
+name_front is w ps h g = (Word w ∷ [], ps, refl, (h, refl), g)
+
+at_define : (is : List Item) (ps : List Part) → is_define ps ≡ true → Spells is (drop 1 ps) → Spells (define ∷ is) ps
+unfolding Spells
+at_define is ps h g = (Define ∷ [], drop 1 ps, define_is ps h, refl, g)
+
+at_number : (is : List Item) (ps : List Part) (n : ℕ × List Part) → number_in ps ≡ Some n → Spells is n.1 → Spells (number n.0 ∷ is) ps
+unfolding Spells
+at_number is ps n h g = let t = number_is ps n h in (Number t.0 ∷ [], n.1, t.2, (t.0, t.1, refl), g)
+
+text_read : (ps : List Part) → IfSome (text_in ps) (λ t. ps ≡ Text t ∷ [])
+unfolding text_in
+text_read (Text t ∷ ps) = by_list ps (λ end. rw end refl) (λ q qs e. rw e tt)
+text_read [] = tt
+text_read (Word v ∷ ps) = tt
+text_read (Number n ∷ ps) = tt
+text_read (Define ∷ ps) = tt
+text_read (Mark b ∷ ps) = tt
+
+-- the same of another thing that is made of what is read
+then_read : {A : Type 0} (P : A → Type 0) (o : Option A) (make : A → Operation) (full : List Part)
+    → IfSome o P → ((x : A) → P x → Spells (operation_items (make x)) full) → IfSome (o >>= λ x. Some (make x)) (λ o. Spells (operation_items o) full)
+then_read P None make full h k = tt
+then_read P (Some x) make full h k = k x h
+
+data_read : (w : List ℕ) (ps : List Part) → same w (codes ".byte") ≡ true → IfSome (data_of ps) (λ o. Spells (operation_items o) (Word w ∷ ps))
+data_read w ps t = then_read (λ xs. IsList IsDatum xs ps) (list_of next_datum ps) Data (Word w ∷ ps) (joined_read IsDatum next_datum datum_read (suc (length ps)) ps) (λ xs h. one_behind (codes ".byte") (data_list xs) w ps t h)
+
+-- an operation that takes expressions
+values_read : (text : List ℕ) (make : List Value → Operation) → ((vs : List Value) → operation_items (make vs) ≡ word text ∷ value_list vs ∷ [])
+    → (w : List ℕ) (ps : List Part) → same w text ≡ true → IfSome (list_of next_value ps >>= λ vs. Some (make vs)) (λ o. Spells (operation_items o) (Word w ∷ ps))
+values_read text make items w ps t = then_read (λ vs. IsList IsValue vs ps) (list_of next_value ps) make (Word w ∷ ps) (joined_read IsValue next_value value_read (suc (length ps)) ps) (λ vs h. rw (items vs) (one_behind text (value_list vs) w ps t h))
+
+segment_read : (w : List ℕ) (ps : List Part) → same w (codes ".segment") ≡ true → IfSome (segment_of ps) (λ o. Spells (operation_items o) (Word w ∷ ps))
+segment_read w ps t =
+    by_option (text_in ps)
+    (λ name e. rw e (by_test (has_name_form name)
+    (λ n. rw n (one_behind (codes ".segment") (quoted_name name) w ps t (n, at (λ name. ps ≡ Text name ∷ []) (text_in ps) name e (text_read ps))))
+    (λ n. rw n tt)))
+    (λ e. rw e tt)
+
+set_cpu_read : (w : List ℕ) (ps : List Part) → same w (codes ".setcpu") ≡ true → IfSome (set_cpu_of ps) (λ o. Spells (operation_items o) (Word w ∷ ps))
+set_cpu_read w ps t = then_read (λ name. ps ≡ Text name ∷ []) (text_in ps) SetCpu (Word w ∷ ps) (text_read ps) (λ name h. one_behind (codes ".setcpu") (string name) w ps t h)
+
+instruction_read : (w : List ℕ) (ps : List Part) → IfSome (instruction_of w ps) (λ o. Spells (operation_items o) (Word w ∷ ps))
+instruction_read w ps =
+    by_option (mnemonic_named w)
+    (λ m e. rw e (then_read (λ f. Spells (form_items f) ps) (form_of ps) (Instr m) (Word w ∷ ps) (form_read ps) (λ f h. word_front (text_of m) (form_items f) w ps (mnemonic_is w m e) h)))
+    (λ e. rw e tt)
+
+operation_read : (w : List ℕ) (ps : List Part) → IfSome (operation_at w ps) (λ o. Spells (operation_items o) (Word w ∷ ps))
+unfolding operation_at
+operation_read w ps =
+    by_test (same w (codes ".byte")) (λ t. rw t (data_read w ps t))
+    (λ f. rw f (by_test (same w (codes ".word")) (λ t. rw t (values_read (codes ".word") Words (λ vs. refl) w ps t))
+    (λ f. rw f (by_test (same w (codes ".dbyt")) (λ t. rw t (values_read (codes ".dbyt") Dbyts (λ vs. refl) w ps t))
+    (λ f. rw f (by_test (same w (codes ".addr")) (λ t. rw t (values_read (codes ".addr") Addrs (λ vs. refl) w ps t))
+    (λ f. rw f (by_test (same w (codes ".segment")) (λ t. rw t (segment_read w ps t))
+    (λ f. rw f (by_test (same w (codes ".code")) (λ t. rw t (by_list ps (λ end. rw end (word_front (codes ".code") [] w [] t at_end)) (λ q qs e. rw e tt)))
+    (λ f. rw f (by_test (same w (codes ".setcpu")) (λ t. rw t (set_cpu_read w ps t))
+    (λ f. rw f (instruction_read w ps))))))))))))))
+
+operation_of_read : (ps : List Part) → IfSome (operation_of ps) (λ o. Spells (operation_items o) ps)
+unfolding operation_of
+operation_of_read [] = at_end
+operation_of_read (Word w ∷ ps) = operation_read w ps
+operation_of_read (Number n ∷ ps) = tt
+operation_of_read (Text t ∷ ps) = tt
+operation_of_read (Define ∷ ps) = tt
+operation_of_read (Mark b ∷ ps) = tt
+
+constant_read : (w : List ℕ) (ps : List Part) → is_name w ≡ true → is_define ps ≡ true → IfSome (constant_of w (drop 1 ps)) (λ r. IsSpelling r (Word w ∷ ps))
+unfolding constant_of
+constant_read w ps n d =
+    by_test (is_mark 42 (drop 1 ps))
+    (λ star. rw star (by_test (is_mark 43 (drop 1 (drop 1 ps)))
+    (λ plus. rw plus (by_option (number_in (drop 1 (drop 1 (drop 1 ps))))
+    (λ k e. rw e (by_list k.1
+    (λ end. rw end (name_front _ w ps n (at_define _ ps d (at_mark 42 _ (drop 1 ps) star (at_mark 43 _ (drop 1 (drop 1 ps)) plus (at_number [] (drop 1 (drop 1 (drop 1 ps))) k e (rw end at_end)))))))
+    (λ q qs g. rw g tt)))
+    (λ e. rw e tt)))
+    (λ plus. rw plus tt)))
+    (λ star. rw star (by_option (number_in (drop 1 ps))
+    (λ k e. rw e (by_list k.1
+    (λ end. rw end (name_front _ w ps n (at_define _ ps d (at_number [] (drop 1 ps) k e (rw end at_end)))))
+    (λ q qs g. rw g tt)))
+    (λ e. rw e tt)))
+
+line_read : (w : List ℕ) (ps : List Part) → IfSome (line_at w ps) (λ r. IsSpelling r (Word w ∷ ps))
+unfolding line_at
+line_read w ps =
+    by_test (is_mark 58 ps)
+    (λ colon. rw colon (by_test (is_name w)
+    (λ n. rw n (by_option (operation_of (drop 1 ps))
+    (λ o e. rw e (name_front _ w ps n (at_mark 58 _ ps colon (at (λ o. Spells (operation_items o) (drop 1 ps)) (operation_of (drop 1 ps)) o e (operation_of_read (drop 1 ps))))))
+    (λ e. rw e tt)))
+    (λ n. rw n tt)))
+    (λ colon. rw colon (by_test (is_define ps)
+    (λ d. rw d (by_test (is_name w)
+    (λ n. rw n (constant_read w ps n d))
+    (λ n. rw n tt)))
+    (λ d. rw d (by_option (operation_at w ps)
+    (λ o e. rw e (at (λ o. Spells (operation_items o) (Word w ∷ ps)) (operation_at w ps) o e (operation_read w ps)))
+    (λ e. rw e tt)))))
+
+pub reading_read : (ps : List Part) → IfSome (reading_of ps) (λ r. IsSpelling r ps)
+unfolding reading_of
+reading_read [] = at_end
+reading_read (Word w ∷ ps) = line_read w ps
+reading_read (Number n ∷ ps) = tt
+reading_read (Text t ∷ ps) = tt
+reading_read (Define ∷ ps) = tt
+reading_read (Mark b ∷ ps) = tt

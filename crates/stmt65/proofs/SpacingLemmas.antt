@@ -1,0 +1,229 @@
+-- The lexer takes the parts that stand in the line.
+use Rattle.std.proofs.Common.{◌≡◌, ℕ, zero, suc, Bool, true, false, eqb, ◌+◌, ◌<◌, ◌≤◌, List, [], ◌∷◌, ◌++◌, length, take, drop, refl, sym, ap, subst, ◌∙◌, arith, inl, inr, append_assoc}
+use Rattle.std.specs.Prelude.{◌⊎◌, ◌&&◌, ◌||◌, nat_lt}
+use Rattle.std.specs.List.{prefix_len, list_all}
+use Rattle.std.specs.Char.{is_ascii_digit, is_ascii_hexdigit}
+use Rattle.std.proofs.lemmas.Bool.{ltb-true, lt-ltb, eqb-true}
+use Rattle.std.proofs.lemmas.Bool.Decides.{nat_tests}
+use Rattle.std.proofs.lemmas.List.{take_at, drop_at, length-append, length-drop, length-take, length-take-le, take-append-drop}
+use Rattle.stmt65.specs.Parts.{Part, Word, Number, Text, Define, Mark, begins_with}
+use Rattle.stmt65.specs.Lexing.{is_blank, is_word_start, is_word_byte, is_text_byte, hex_len, part_at, parts}
+use Rattle.stmt65.specs.Spacing.{IsDecimal, IsHex, is_alone, IsText, IsRemark, IsSpacing}
+use Rattle.stmt65.specs.ReadingLaws.{TakesParts}
+use Rattle.stmt65.proofs.PartLemmas.{parts_nil, parts_blank, parts_remark, parts_part}
+use Rattle.stmt65.proofs.Cases.{by_test, both, neither, not_true}
+
+-- ---- runs of bytes
+
+-- a run is at least as long as what passes in front
+at_least : (p : ℕ → Bool) (xs ys : List ℕ) → list_all p xs ≡ true → length xs ≤ prefix_len p (xs ++ ys)
+at_least p [] ys h = omega arith
+at_least p (x ∷ xs) ys h = let b = both (p x) (list_all p xs) h in rw b.0 (omega (arith, at_least p xs ys b.1))
+
+run_passes : (p : ℕ → Bool) (n : ℕ) (xs : List ℕ) → n ≤ prefix_len p xs → list_all p (take n xs) ≡ true
+run_passes p zero xs le = refl
+run_passes p (suc n) [] le = refl
+run_passes p (suc n) (x ∷ xs) le = by_test (p x)
+    (λ t. let le : suc n ≤ 1 + prefix_len p xs = rw t at le in rw t (run_passes p n xs (omega arith)))
+    (λ t. let le : suc n ≤ 0 = rw t at le in absurd (omega arith))
+
+run_fits : (p : ℕ → Bool) (xs : List ℕ) → prefix_len p xs ≤ length xs
+run_fits p [] = omega arith
+run_fits p (x ∷ xs) = by_test (p x) (λ t. rw t (omega (arith, run_fits p xs))) (λ t. rw t (omega arith))
+
+-- a run that ends before y
+run_stops : (p : ℕ → Bool) (xs ys : List ℕ) (y : ℕ) → list_all p xs ≡ true → p y ≡ false → prefix_len p (xs ++ y ∷ ys) ≡ length xs
+run_stops p [] ys y h g = rw g refl
+run_stops p (x ∷ xs) ys y h g = let b = both (p x) (list_all p xs) h in rw b.0 (omega (arith, run_stops p xs ys y b.1 g))
+
+-- ---- the part in front
+
+-- What the lexer takes is a part, and it fits.
+record Takes (b : ℕ) (bs : List ℕ) (p : Part) (k : ℕ) : Type 0 where
+  text : IsText p (b ∷ take k bs)
+  fits : k ≤ length bs
+
+stays_alone : (b : ℕ) → is_blank b ≡ false → eqb b 59 ≡ false → is_word_start b ≡ false → is_ascii_digit b ≡ false → is_alone b ≡ true
+stays_alone b h g w d = rw (h, g, w, d) refl
+
+quoted : (bs : List ℕ) → begins_with 34 bs ≡ true → bs ≡ 34 ∷ drop 1 bs
+quoted [] h = absurd cc
+quoted (c ∷ cs) h = ap (λ (d : ℕ). d ∷ cs) (eqb-true c 34 h)
+
+equals : (bs : List ℕ) → begins_with 61 bs ≡ true → bs ≡ 61 ∷ drop 1 bs
+equals [] h = absurd cc
+equals (c ∷ cs) h = ap (λ (d : ℕ). d ∷ cs) (eqb-true c 61 h)
+
+taken : (b : ℕ) (bs : List ℕ) → is_blank b ≡ false → eqb b 59 ≡ false → Takes b bs (part_at b bs).0 (part_at b bs).1
+unfolding part_at
+taken b bs h g =
+    by_test (is_word_start b)
+    (λ w. rw w (record { text = (refl, (w, run_passes is_word_byte (prefix_len is_word_byte bs) bs (omega arith))); fits = run_fits is_word_byte bs }))
+    (λ w. rw w (by_test (is_ascii_digit b)
+    (λ d. rw d (record { text = (refl, inl (omega arith, rw d (run_passes is_ascii_digit (prefix_len is_ascii_digit bs) bs (omega arith)))); fits = run_fits is_ascii_digit bs }))
+    (λ d. rw d (by_test (eqb b 36 && nat_lt 0 (hex_len bs))
+    (λ x. let e = both (eqb b 36) (nat_lt 0 (hex_len bs)) x in let pos = ltb-true 0 (hex_len bs) e.1 in
+    let long = length-take (hex_len bs) bs in
+    rw x (record { text = (refl, inr (take (hex_len bs) bs, ap (λ (c : ℕ). c ∷ take (hex_len bs) bs) (eqb-true b 36 e.0), omega (arith, long, run_fits is_ascii_hexdigit bs), omega (arith, long), run_passes is_ascii_hexdigit (hex_len bs) bs (omega arith))); fits = omega (arith, run_fits is_ascii_hexdigit bs) }))
+    (λ x. rw x (by_test (eqb b 34 && begins_with 34 (drop (prefix_len is_text_byte bs) bs))
+    (λ t. let e = both (eqb b 34) (begins_with 34 (drop (prefix_len is_text_byte bs) bs)) t in
+    rw t (text_taken b bs (prefix_len is_text_byte bs) (eqb-true b 34 e.0) (quoted _ e.1) (run_passes is_text_byte (prefix_len is_text_byte bs) bs (omega arith)) (run_fits is_text_byte bs)))
+    (λ t. rw t (by_test (eqb b 58 && begins_with 61 bs)
+    (λ c. let e = both (eqb b 58) (begins_with 61 bs) c in rw c (define_taken b bs (eqb-true b 58 e.0) (equals bs e.1)))
+    (λ c. rw c (record { text = (refl, stays_alone b h g w d); fits = omega arith }))))))))))
+  where
+    text_taken : (b : ℕ) (bs : List ℕ) (n : ℕ) → b ≡ 34 → drop n bs ≡ 34 ∷ drop 1 (drop n bs) → list_all is_text_byte (take n bs) ≡ true → n ≤ length bs → Takes b bs (Text (take n bs)) (n + 1)
+    text_taken b bs n e q passes le =
+        let split : bs ≡ take n bs ++ 34 ∷ drop 1 (drop n bs) = sym (take-append-drop n bs) ∙ ap (λ (r : List ℕ). take n bs ++ r) q in
+        let long : length (take n bs) ≡ n = omega (arith, length-take n bs) in
+        let cut : take (n + 1) bs ≡ take n bs ++ 34 ∷ [] =
+        ap (take (n + 1)) (split ∙ sym (append_assoc (take n bs) (34 ∷ []) (drop 1 (drop n bs)))) ∙ take_at (take n bs ++ 34 ∷ []) (drop 1 (drop n bs)) (n + 1) (omega (arith, long, length-append (take n bs) (34 ∷ []))) in
+        record { text = (rw (e, cut) refl, passes); fits = omega (arith, ap length split, length-append (take n bs) (34 ∷ drop 1 (drop n bs)), long) }
+
+    define_taken : (b : ℕ) (bs : List ℕ) → b ≡ 58 → bs ≡ 61 ∷ drop 1 bs → Takes b bs Define 1
+    define_taken b [] e q = absurd (omega (arith, ap length q))
+    define_taken b (c ∷ cs) e q = record { text = rw (e, ap (take 1) q) refl; fits = omega arith }
+
+-- ---- no part is longer, and one as long is the same
+
+record IsBest (found : Part × ℕ) (q : Part) (n : ℕ) : Type 0 where
+  bound : n ≤ found.1 + 1
+  same : n ≡ found.1 + 1 → q ≡ found.0
+
+digit_starts_none : (b : ℕ) → is_ascii_digit b ≡ true → is_word_start b ≡ false
+digit_starts_none b h = grind (arith, nat_tests)
+
+best_word : (b : ℕ) (w more : List ℕ) → is_word_start b ≡ true → list_all is_word_byte w ≡ true → IsBest (part_at b (w ++ more)) (Word (b ∷ w)) (suc (length w))
+unfolding part_at
+best_word b w more h g = rw h (record { bound = omega (arith, at_least is_word_byte w more g); same = λ e. let k : prefix_len is_word_byte (w ++ more) ≡ length w = omega arith in rw (k, take_at w more (length w) refl) refl })
+
+best_decimal : (b : ℕ) (ds more : List ℕ) → is_ascii_digit b ≡ true → list_all is_ascii_digit ds ≡ true → IsBest (part_at b (ds ++ more)) (Number (b ∷ ds)) (suc (length ds))
+unfolding part_at
+best_decimal b ds more h g = rw (digit_starts_none b h, h) (record { bound = omega (arith, at_least is_ascii_digit ds more g); same = λ e. let k : prefix_len is_ascii_digit (ds ++ more) ≡ length ds = omega arith in rw (k, take_at ds more (length ds) refl) refl })
+
+best_hex : (ds more : List ℕ) → list_all is_ascii_hexdigit ds ≡ true → 0 < length ds → length ds ≤ 8 → IsBest (part_at 36 (ds ++ more)) (Number (36 ∷ ds)) (suc (length ds))
+unfolding part_at
+best_hex ds more g pos le =
+    let l = at_least is_ascii_hexdigit ds more g in
+    let t : nat_lt 0 (hex_len (ds ++ more)) ≡ true = lt-ltb 0 (hex_len (ds ++ more)) (omega arith) in
+    rw t (record { bound = omega arith; same = λ e. let k : hex_len (ds ++ more) ≡ length ds = omega arith in rw (k, take_at ds more (length ds) refl) refl })
+
+best_text : (t more : List ℕ) → list_all is_text_byte t ≡ true → IsBest (part_at 34 (t ++ 34 ∷ more)) (Text t) (suc (length t + 1))
+unfolding part_at
+best_text t more g = rw (run_stops is_text_byte t more 34 g refl, drop_at t (34 ∷ more) (length t) refl, take_at t (34 ∷ more) (length t) refl) (record { bound = omega arith; same = λ e. refl })
+
+best_define : (more : List ℕ) → IsBest (part_at 58 (61 ∷ more)) Define 2
+unfolding part_at
+best_define more = record { bound = omega arith; same = λ e. refl }
+
+alone_begins : (b : ℕ) → is_alone b ≡ true → (is_word_start b ≡ false) × (is_ascii_digit b ≡ false)
+alone_begins b h = let n = neither (eqb b 59) _ (neither (is_blank b) _ (not_true (is_blank b || (eqb b 59 || (is_word_start b || is_ascii_digit b))) h)).1 in neither (is_word_start b) _ n.1
+
+best_mark : (b : ℕ) (bs : List ℕ) → is_alone b ≡ true → IsBest (part_at b bs) (Mark b) 1
+unfolding part_at
+best_mark b bs h =
+    let a = alone_begins b h in
+    rw (a.0, a.1) (by_test (eqb b 36 && nat_lt 0 (hex_len bs))
+    (λ x. let e = ltb-true 0 (hex_len bs) (both (eqb b 36) (nat_lt 0 (hex_len bs)) x).1 in rw x (record { bound = omega arith; same = λ k. absurd (omega arith) }))
+    (λ x. rw x (by_test (eqb b 34 && begins_with 34 (drop (prefix_len is_text_byte bs) bs))
+    (λ t. rw t (record { bound = omega arith; same = λ k. absurd (omega arith) }))
+    (λ t. rw t (by_test (eqb b 58 && begins_with 61 bs)
+    (λ c. rw c (record { bound = omega arith; same = λ k. absurd (omega arith) }))
+    (λ c. rw c (record { bound = omega arith; same = λ k. refl })))))))
+
+abbrev IsBestOf : List ℕ → Part → ℕ → Type 0
+IsBestOf [] q n = Unit {0}
+IsBestOf (b ∷ bs) q n = IsBest (part_at b bs) q n
+
+best_number : (t more : List ℕ) → IsDecimal t ⊎ IsHex t → IsBestOf (t ++ more) (Number t) (length t)
+best_number [] more (inl d) = absurd (omega (arith, d.0))
+best_number (b ∷ t) more (inl d) = let e = both (is_ascii_digit b) (list_all is_ascii_digit t) d.1 in best_decimal b t more e.0 e.1
+best_number t more (inr x) = subst (λ (u : List ℕ). IsBestOf (u ++ more) (Number u) (length u)) (sym x.1) (best_hex x.0 more x.4 x.2 x.3)
+
+best_of : (q : Part) (text more : List ℕ) → IsText q text → IsBestOf (text ++ more) q (length text)
+best_of (Word []) text more h = absurd h.1
+best_of (Word (c ∷ w)) text more h = rw h.0 (best_word c w more h.1.0 h.1.1)
+best_of (Number t) text more h = rw h.0 (best_number t more h.1)
+best_of (Text t) text more h = rw h.0 (rw (append_assoc t (34 ∷ []) more, length-append t (34 ∷ [])) (best_text t more h.1))
+best_of Define text more h = rw h (best_define more)
+best_of (Mark b) text more h = rw h.0 (best_mark b more h.1)
+
+-- a part in front of these bytes
+best : (b : ℕ) (bs : List ℕ) (q : Part) (text more : List ℕ) → b ∷ bs ≡ text ++ more → IsText q text → IsBest (part_at b bs) q (length text)
+best b bs q text more e h = subst (λ (l : List ℕ). IsBestOf l q (length text)) (sym e) (best_of q text more h)
+
+-- ---- the law
+
+parts_blanks : (blanks rest : List ℕ) → list_all is_blank blanks ≡ true → parts (blanks ++ rest) ≡ parts rest
+parts_blanks [] rest h = refl
+parts_blanks (b ∷ bs) rest h = let e = both (is_blank b) (list_all is_blank bs) h in parts_blank b (bs ++ rest) e.0 ∙ parts_blanks bs rest e.1
+
+blank_in_front : (ps : List Part) (b : ℕ) (bs : List ℕ) → is_blank b ≡ true → IsSpacing ps bs → IsSpacing ps (b ∷ bs)
+blank_in_front [] b bs h s = (b ∷ s.0, s.1, ap (λ (r : List ℕ). b ∷ r) s.2, rw h s.3, s.4)
+blank_in_front (p ∷ ps) b bs h s = (b ∷ s.0, s.1, s.2, ap (λ (r : List ℕ). b ∷ r) s.3, rw h s.4, s.5, s.6, s.7)
+
+spaced : (n : ℕ) (line : List ℕ) → length line ≤ n → IsSpacing (parts line) line
+spaced n [] le = rw parts_nil ([], [], refl, refl, inl refl)
+spaced zero (b ∷ bs) le = absurd (omega arith)
+spaced (suc n) (b ∷ bs) le =
+    by_test (is_blank b)
+    (λ h. rw (parts_blank b bs h) (blank_in_front (parts bs) b bs h (spaced n bs (omega arith))))
+    (λ h. by_test (eqb b 59)
+    (λ g. let e = eqb-true b 59 g in rw e (rw (parts_remark bs) ([], 59 ∷ bs, refl, refl, inr (bs, refl))))
+    (λ g. let t = taken b bs h g in let k = (part_at b bs).1 in
+    let split : b ∷ (take k bs ++ drop k bs) ≡ b ∷ bs = ap (λ (r : List ℕ). b ∷ r) (take-append-drop k bs) in
+    rw (parts_part b bs h g) (
+      [],
+      b ∷ take k bs,
+      drop k bs,
+      sym split,
+      refl,
+      t.text,
+      λ q other more e q_is. omega (arith, (best b bs q other more (sym split ∙ e) q_is).bound, length-take-le k bs t.fits),
+      spaced n (drop k bs) (omega (arith, length-drop k bs)),
+    )))
+
+word_begins : (b : ℕ) → is_word_start b ≡ true → (is_blank b ≡ false) × (eqb b 59 ≡ false)
+word_begins b h = (grind (arith, nat_tests), grind (arith, nat_tests))
+
+digit_begins : (b : ℕ) → is_ascii_digit b ≡ true → (is_blank b ≡ false) × (eqb b 59 ≡ false)
+digit_begins b h = (grind (arith, nat_tests), grind (arith, nat_tests))
+
+number_begins : (t : List ℕ) → IsDecimal t ⊎ IsHex t → (b : ℕ) × (bs : List ℕ) × (t ≡ b ∷ bs) × (is_blank b ≡ false) × (eqb b 59 ≡ false)
+number_begins [] (inl d) = absurd (omega (arith, d.0))
+number_begins (b ∷ t) (inl d) = let e = digit_begins b (both (is_ascii_digit b) (list_all is_ascii_digit t) d.1).0 in (b, t, refl, e.0, e.1)
+number_begins t (inr x) = (36, x.0, x.1, refl, refl)
+
+text_begins : (p : Part) (text : List ℕ) → IsText p text → (b : ℕ) × (bs : List ℕ) × (text ≡ b ∷ bs) × (is_blank b ≡ false) × (eqb b 59 ≡ false)
+text_begins (Word []) text h = absurd h.1
+text_begins (Word (c ∷ w)) text h = let e = word_begins c h.1.0 in (c, w, h.0, e.0, e.1)
+text_begins (Number t) text h = rw h.0 (number_begins t h.1)
+text_begins (Text t) text h = (34, t ++ 34 ∷ [], h.0, refl, refl)
+text_begins Define text h = (58, 61 ∷ [], h, refl, refl)
+text_begins (Mark b) text h =
+    let n = neither (is_blank b) _ (not_true (is_blank b || (eqb b 59 || (is_word_start b || is_ascii_digit b))) h.1) in
+    (b, [], h.0, n.0, (neither (eqb b 59) (is_word_start b || is_ascii_digit b) n.1).0)
+
+again : (ps : List Part) (line : List ℕ) → IsSpacing ps line → parts line ≡ ps
+again [] line s = rw s.2 (parts_blanks s.0 s.1 s.3 ∙ go s.4)
+  where
+    go : {rest : List ℕ} → IsRemark rest → parts rest ≡ []
+    go (inl e) = rw e parts_nil
+    go (inr e) = rw e.1 (parts_remark e.0)
+again (p ∷ ps) line s =
+    let t = text_begins p s.1 s.5 in
+    let k = (part_at t.0 (t.1 ++ s.2)).1 in
+    let whole : s.1 ++ s.2 ≡ t.0 ∷ (t.1 ++ s.2) = ap (λ (r : List ℕ). r ++ s.2) t.2 in
+    let found = taken t.0 (t.1 ++ s.2) t.3 t.4 in
+    let split : t.0 ∷ (t.1 ++ s.2) ≡ (t.0 ∷ take k (t.1 ++ s.2)) ++ drop k (t.1 ++ s.2) = ap (λ (r : List ℕ). t.0 ∷ r) (sym (take-append-drop k (t.1 ++ s.2))) in
+    let low = s.6 (part_at t.0 (t.1 ++ s.2)).0 (t.0 ∷ take k (t.1 ++ s.2)) (drop k (t.1 ++ s.2)) (whole ∙ split) found.text in
+    let b = best t.0 (t.1 ++ s.2) p s.1 s.2 (sym whole) s.5 in
+    let len : length s.1 ≡ k + 1 = omega (arith, b.bound, low, length-take-le k (t.1 ++ s.2) found.fits) in
+    let more : length t.1 ≡ k = omega (arith, len, ap length t.2) in
+    rw s.3 (parts_blanks s.0 (s.1 ++ s.2) s.4 ∙ ap parts whole ∙ parts_part t.0 (t.1 ++ s.2) t.3 t.4
+    ∙ ap (λ (q : Part). q ∷ parts (drop k (t.1 ++ s.2))) (sym (b.same len))
+    ∙ ap (λ (r : List ℕ). p ∷ parts r) (drop_at t.1 s.2 k more)
+    ∙ ap (λ (qs : List Part). p ∷ qs) (again ps s.2 s.7))
+
+pub takes_parts : TakesParts
+takes_parts line ps = (λ e. rw e at (spaced (length line) line (omega arith)), λ s. again ps line s)

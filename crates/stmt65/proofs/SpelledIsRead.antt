@@ -1,0 +1,295 @@
+-- What is spelled so is read.
+use Rattle.std.proofs.Common.{◌≡◌, ℕ, zero, suc, Bool, true, false, eqb, List, [], ◌∷◌, ◌++◌, length, ◌≤◌, Option, Some, None, refl, sym, ap, ◌∙◌, arith, inl, inr, append_assoc}
+use Rattle.std.specs.Prelude.{codes}
+use Rattle.std.proofs.lemmas.List.{append-nil, length-append}
+use Rattle.isa65.specs.Mnemonic.{text_of}
+use Rattle.stmt65.specs.Said.{Value, Plain, Named, Form, Empty, Accumulator, Hash, Straight, WithX, WithY, Both, Indirect, IndirectX, IndirectY, Datum, Byte, Bytes, Operation, Nothing, Instr, Data, Words, Dbyts, Addrs, Segment, Code, SetCpu, Said, Constant, Here, Stated}
+use Rattle.stmt65.specs.Parts.{Part, Word, Number, Define, Mark, number_of}
+use Rattle.stmt65.specs.Names.{same, is_name}
+use Rattle.stmt65.specs.Reading.{is_mark, is_define, is_word_here, is_nil, less_one, named_at, next_value, tail_at, inner_at, form_of, joined, next_datum, text_in, operation_at, operation_of, constant_of, line_at, reading_of}
+use Rattle.stmt65.specs.Spelling.{Item, word, mark, define, name, number, string, quoted_name, value, data_list, value_list, IsPlus, IsLess, IsValue, IsDatum, prefix_items, IsList, IsItem, Spells, form_items, operation_items, IsSpelling}
+use Rattle.stmt65.proofs.Cases.{other, no_letter, no_dot, mnemonic_again}
+
+-- ---- items in front
+
+pub nothing_left : (ps : List Part) → Spells [] ps → ps ≡ []
+unfolding Spells
+nothing_left ps h = h
+
+un_mark : (b : ℕ) (is : List Item) (ps : List Part) → Spells (mark b ∷ is) ps → (rest : List Part) × (ps ≡ Mark b ∷ rest) × Spells is rest
+unfolding Spells
+un_mark b is ps h = (h.1, rw (h.2, h.3) refl, h.4)
+
+un_word : (text : List ℕ) (is : List Item) (ps : List Part) → Spells (word text ∷ is) ps → (w : List ℕ) × (rest : List Part) × (ps ≡ Word w ∷ rest) × (same w text ≡ true) × Spells is rest
+unfolding Spells
+un_word text is ps h = (h.3.0, h.1, rw (h.2, h.3.2) refl, h.3.1, h.4)
+
+un_name : (w : List ℕ) (is : List Item) (ps : List Part) → Spells (name w ∷ is) ps → (rest : List Part) × (ps ≡ Word w ∷ rest) × (is_name w ≡ true) × Spells is rest
+unfolding Spells
+un_name w is ps h = (h.1, rw (h.2, h.3.1) refl, h.3.0, h.4)
+
+un_define : (is : List Item) (ps : List Part) → Spells (define ∷ is) ps → (rest : List Part) × (ps ≡ Define ∷ rest) × Spells is rest
+unfolding Spells
+un_define is ps h = (h.1, rw (h.2, h.3) refl, h.4)
+
+un_number : (n : ℕ) (ps : List Part) → Spells (number n ∷ []) ps → (text : List ℕ) × (n ≡ number_of text) × (ps ≡ Number text ∷ [])
+unfolding Spells
+un_number n ps h = (h.3.0, h.3.1, rw (h.2, h.3.2, h.4) refl)
+
+un_last : (i : Item) (ps : List Part) → Spells (i ∷ []) ps → IsItem i ps
+unfolding Spells
+un_last i ps h = let e : ps ≡ h.0 = h.2 ∙ ap (λ (r : List Part). h.0 ++ r) h.4 ∙ append-nil h.0 in rw e h.3
+
+un_value : (v : Value) (is : List Item) (ps : List Part) → Spells (value v ∷ is) ps → (front : List Part) × (rest : List Part) × (ps ≡ front ++ rest) × IsValue v front × Spells is rest
+unfolding Spells
+un_value v is ps h = h
+
+-- ---- values
+
+-- what may follow a value
+pub record Stops (ps : List Part) : Type 0 where
+  pub plus : is_mark 43 ps ≡ false
+  pub minus : is_mark 45 ps ≡ false
+
+stops_nil : Stops []
+stops_nil = record { plus = refl; minus = refl }
+
+stops_mark : (b : ℕ) (ps : List Part) → eqb b 43 ≡ false → eqb b 45 ≡ false → Stops (Mark b ∷ ps)
+stops_mark b ps p m = record { plus = p; minus = m }
+
+less_again : (w : List ℕ) (n : ℕ) (less : Bool) (minus rest : List Part) → IsLess less minus → Stops rest → less_one w n (minus ++ rest) ≡ Some (Named w n less, rest)
+unfolding less_one
+less_again w n true minus rest h stop = rw h refl
+less_again w n false minus rest h stop = rw h (rw stop.minus refl)
+
+no_plus : (less : Bool) (minus rest : List Part) → IsLess less minus → Stops rest → is_mark 43 (minus ++ rest) ≡ false
+no_plus true minus rest h stop = rw h refl
+no_plus false minus rest h stop = rw h stop.plus
+
+named_again : (w : List ℕ) (n : ℕ) (less : Bool) (plus minus rest : List Part) → IsPlus n plus → IsLess less minus → Stops rest → named_at w (plus ++ (minus ++ rest)) ≡ Some (Named w n less, rest)
+unfolding named_at
+named_again w n less plus minus rest (inl e) h stop = rw (e.0, e.1) (rw (no_plus less minus rest h stop) (less_again w 0 less minus rest h stop))
+named_again w n less plus minus rest (inr e) h stop = rw (e.2, ← e.1) (less_again w n less minus rest h stop)
+
+pub value_again : (v : Value) (front rest : List Part) → IsValue v front → Stops rest → next_value (front ++ rest) ≡ Some (v, rest)
+unfolding next_value
+value_again (Plain n) front rest h stop = rw (h.2, ← h.1) refl
+value_again (Named w n less) front rest h stop = rw (h.2, append_assoc h.0 h.1 rest) (rw h.3 (named_again w n less h.0 h.1 rest h.4 h.5 stop))
+
+-- what begins with a value begins with no mark, no `:=` and no letter
+record Begins (ps : List Part) : Type 0 where
+  mark : (b : ℕ) → is_mark b ps ≡ false
+  define : is_define ps ≡ false
+  a : is_word_here (codes "a") ps ≡ false
+  x : is_word_here (codes "x") ps ≡ false
+  y : is_word_here (codes "y") ps ≡ false
+  some : is_nil ps ≡ false
+
+word_begins : (w : List ℕ) (rest : List Part) → is_name w ≡ true → Begins (Word w ∷ rest)
+word_begins w rest h = let n = no_letter w h in record { mark = λ b. refl; define = refl; a = n.0; x = n.1; y = n.2; some = refl }
+
+value_begins : (v : Value) (front rest : List Part) → IsValue v front → Begins (front ++ rest)
+value_begins (Plain n) front rest h = rw h.2 (record { mark = λ b. refl; define = refl; a = refl; x = refl; y = refl; some = refl })
+value_begins (Named w n less) front rest h = rw h.2 (word_begins w ((h.0 ++ h.1) ++ rest) h.3)
+
+-- a value that stands first in an operand
+first_value : (v : Value) (front rest : List Part) → IsValue v front → Stops rest → form_of (front ++ rest) ≡ tail_at false v rest
+unfolding form_of
+first_value v front rest h stop =
+    let b = value_begins v front rest h in rw (b.mark 35, b.mark 40, b.a, b.some, value_again v front rest h stop) refl
+
+-- ---- operands
+
+-- an operand that begins with a value, with or without `a:`
+straight : (prefix : Bool) (v : Value) (is : List Item) (ps : List Part) (f : Form)
+    → Spells (prefix_items prefix ++ value v ∷ is) ps
+    → ((rest : List Part) → Spells is rest → Stops rest × (tail_at prefix v rest ≡ Some f))
+    → form_of ps ≡ Some f
+unfolding form_of
+straight true v is ps f h k =
+    let a = un_word (codes "a") _ ps h in let c = un_mark 58 _ a.1 a.4 in let e = un_value v is c.0 c.2 in let t = k e.1 e.4 in
+    rw (a.2, c.1, e.2, a.3, value_again v e.0 e.1 e.3 t.0) t.1
+straight false v is ps f h k =
+    let e = un_value v is ps h in let t = k e.1 e.4 in
+    rw e.2 (first_value v e.0 e.1 e.3 t.0 ∙ t.1)
+
+-- an operand that begins with `(` and a value
+bracketed : (v : Value) (is : List Item) (ps : List Part) (f : Form)
+    → Spells (mark 40 ∷ value v ∷ is) ps
+    → ((rest : List Part) → Spells is rest → Stops rest × (inner_at v rest ≡ Some f))
+    → form_of ps ≡ Some f
+unfolding form_of
+bracketed v is ps f h k =
+    let m = un_mark 40 _ ps h in let e = un_value v is m.0 m.2 in let t = k e.1 e.4 in
+    rw (m.1, e.2, value_again v e.0 e.1 e.3 t.0) t.1
+
+pub form_again : (f : Form) (ps : List Part) → Spells (form_items f) ps → form_of ps ≡ Some f
+unfolding form_of tail_at inner_at
+form_again Empty ps h = rw (nothing_left ps h) refl
+form_again Accumulator ps h = let a = un_word (codes "a") [] ps h in rw (a.2, nothing_left a.1 a.4, a.3) refl
+form_again (Hash v) ps h =
+    let m = un_mark 35 _ ps h in let e = un_value v [] m.0 m.2 in
+    rw (m.1, e.2, nothing_left e.1 e.4, value_again v e.0 [] e.3 stops_nil) refl
+form_again (Straight prefix v) ps h = straight prefix v [] ps _ h (λ rest g. rw (nothing_left rest g) (stops_nil, refl))
+form_again (WithX prefix v) ps h =
+    straight prefix v _ ps _ h (λ rest g. let c = un_mark 44 _ rest g in let x = un_word (codes "x") [] c.0 c.2 in
+    rw (c.1, x.2, nothing_left x.1 x.4) (stops_mark 44 _ refl refl, rw x.3 refl))
+form_again (WithY prefix v) ps h =
+    straight prefix v _ ps _ h (λ rest g. let c = un_mark 44 _ rest g in let y = un_word (codes "y") [] c.0 c.2 in
+    rw (c.1, y.2, nothing_left y.1 y.4) (stops_mark 44 _ refl refl, rw (other y.0 (codes "y") (codes "x") y.3 refl, y.3) refl))
+form_again (Both v u) ps h =
+    straight false v _ ps _ h (λ rest g. let c = un_mark 44 _ rest g in let e = un_value u [] c.0 c.2 in let b = value_begins u e.0 [] e.3 in
+    rw (c.1, e.2, nothing_left e.1 e.4) (stops_mark 44 _ refl refl, rw (b.x, b.y, value_again u e.0 [] e.3 stops_nil) refl))
+form_again (Indirect v) ps h =
+    bracketed v _ ps _ h (λ rest g. let c = un_mark 41 [] rest g in rw (c.1, nothing_left c.0 c.2) (stops_mark 41 _ refl refl, refl))
+form_again (IndirectX v) ps h =
+    bracketed v _ ps _ h (λ rest g. let c = un_mark 44 _ rest g in let x = un_word (codes "x") _ c.0 c.2 in let d = un_mark 41 [] x.1 x.4 in
+    rw (c.1, x.2, d.1, nothing_left d.0 d.2) (stops_mark 44 _ refl refl, rw x.3 refl))
+form_again (IndirectY v) ps h =
+    bracketed v _ ps _ h (λ rest g. let d = un_mark 41 _ rest g in let c = un_mark 44 _ d.0 d.2 in let y = un_word (codes "y") [] c.0 c.2 in
+    rw (d.1, c.1, y.2, nothing_left y.1 y.4) (stops_mark 41 _ refl refl, rw y.3 refl))
+
+-- ---- lists
+
+datum_again : (x : Datum) (front rest : List Part) → IsDatum x front → Stops rest → next_datum (front ++ rest) ≡ Some (x, rest)
+unfolding next_datum
+datum_again (Byte n) front rest h stop = rw (h.2, ← h.1) refl
+datum_again (Bytes t) front rest h stop = rw h refl
+
+joined_again : {A : Type 0} (Is : A → List Part → Type 0) (read : List Part → Option (A × List Part))
+    → ((x : A) (front rest : List Part) → Is x front → Stops rest → read (front ++ rest) ≡ Some (x, rest))
+    → (xs : List A) (most : ℕ) (ps : List Part) → IsList Is xs ps → length ps ≤ most → joined read (suc most) ps ≡ Some xs
+unfolding joined
+joined_again Is read again [] most ps h le = absurd h
+joined_again Is read again (x ∷ []) most ps h le = rw (sym (append-nil ps)) (rw (again x ps [] h stops_nil) refl)
+joined_again Is read again (x ∷ y ∷ ys) zero ps h le = absurd (omega (arith, ap length h.2, length-append h.0 (Mark 44 ∷ h.1)))
+joined_again Is read again (x ∷ y ∷ ys) (suc most) ps h le =
+    let r = joined_again Is read again (y ∷ ys) most h.1 h.4 (omega (arith, ap length h.2, length-append h.0 (Mark 44 ∷ h.1))) in
+    rw h.2 (rw (again x h.0 (Mark 44 ∷ h.1) h.3 (stops_mark 44 h.1 refl refl)) (rw r refl))
+
+-- ---- operations and lines
+
+operation_again : (o : Operation) (ps : List Part) → Spells (operation_items o) ps → operation_of ps ≡ Some o
+unfolding operation_of operation_at text_in
+operation_again Nothing ps h = rw (nothing_left ps h) refl
+operation_again (Instr m f) ps h =
+    let w = un_word (text_of m) (form_items f) ps h in
+    let d = no_dot m in
+    let not = λ (t : List ℕ) (e : same (text_of m) t ≡ false). other w.0 (text_of m) t w.3 e in
+    rw w.2 (rw (not _ d.byte, not _ d.word, not _ d.dbyt, not _ d.addr, not _ d.segment, not _ d.code, not _ d.set_cpu, mnemonic_again w.0 m w.3, form_again f w.1 w.4) refl)
+operation_again (Data xs) ps h =
+    let w = un_word (codes ".byte") (data_list xs ∷ []) ps h in
+    rw (w.2, w.3, joined_again IsDatum next_datum datum_again xs (length w.1) w.1 (un_last (data_list xs) w.1 w.4) (omega arith)) refl
+operation_again (Words vs) ps h =
+    let w = un_word (codes ".word") (value_list vs ∷ []) ps h in
+    rw (w.2, other w.0 (codes ".word") (codes ".byte") w.3 refl, w.3, joined_again IsValue next_value value_again vs (length w.1) w.1 (un_last (value_list vs) w.1 w.4) (omega arith)) refl
+operation_again (Dbyts vs) ps h =
+    let w = un_word (codes ".dbyt") (value_list vs ∷ []) ps h in
+    rw (w.2, other w.0 (codes ".dbyt") (codes ".byte") w.3 refl, other w.0 (codes ".dbyt") (codes ".word") w.3 refl, w.3, joined_again IsValue next_value value_again vs (length w.1) w.1 (un_last (value_list vs) w.1 w.4) (omega arith)) refl
+operation_again (Addrs vs) ps h =
+    let w = un_word (codes ".addr") (value_list vs ∷ []) ps h in
+    rw (w.2, other w.0 (codes ".addr") (codes ".byte") w.3 refl, other w.0 (codes ".addr") (codes ".word") w.3 refl, other w.0 (codes ".addr") (codes ".dbyt") w.3 refl, w.3, joined_again IsValue next_value value_again vs (length w.1) w.1 (un_last (value_list vs) w.1 w.4) (omega arith)) refl
+operation_again (Segment t) ps h =
+    let w = un_word (codes ".segment") (quoted_name t ∷ []) ps h in
+    let q = un_last (quoted_name t) w.1 w.4 in
+    rw (w.2, other w.0 (codes ".segment") (codes ".byte") w.3 refl, other w.0 (codes ".segment") (codes ".word") w.3 refl, other w.0 (codes ".segment") (codes ".dbyt") w.3 refl, other w.0 (codes ".segment") (codes ".addr") w.3 refl, w.3, q.1, q.0) refl
+operation_again Code ps h =
+    let w = un_word (codes ".code") [] ps h in
+    rw (w.2, other w.0 (codes ".code") (codes ".byte") w.3 refl, other w.0 (codes ".code") (codes ".word") w.3 refl, other w.0 (codes ".code") (codes ".dbyt") w.3 refl, other w.0 (codes ".code") (codes ".addr") w.3 refl, other w.0 (codes ".code") (codes ".segment") w.3 refl, w.3, nothing_left w.1 w.4) refl
+operation_again (SetCpu t) ps h =
+    let w = un_word (codes ".setcpu") (string t ∷ []) ps h in
+    rw (w.2, other w.0 (codes ".setcpu") (codes ".byte") w.3 refl, other w.0 (codes ".setcpu") (codes ".word") w.3 refl, other w.0 (codes ".setcpu") (codes ".dbyt") w.3 refl, other w.0 (codes ".setcpu") (codes ".addr") w.3 refl, other w.0 (codes ".setcpu") (codes ".segment") w.3 refl, other w.0 (codes ".setcpu") (codes ".code") w.3 refl, w.3, un_last (string t) w.1 w.4) refl
+
+-- what stands behind the word of an operation is no `:` and no `:=`
+record IsPlain (ps : List Part) : Type 0 where
+  colon : is_mark 58 ps ≡ false
+  define : is_define ps ≡ false
+
+begins_plain : (ps : List Part) → Begins ps → IsPlain ps
+begins_plain ps b = record { colon = b.mark 58; define = b.define }
+
+value_plain : (v : Value) (is : List Item) (ps : List Part) → Spells (value v ∷ is) ps → IsPlain ps
+value_plain v is ps h = let e = un_value v is ps h in rw e.2 (begins_plain (e.0 ++ e.1) (value_begins v e.0 e.1 e.3))
+
+mark_plain : (b : ℕ) (is : List Item) (ps : List Part) → eqb b 58 ≡ false → Spells (mark b ∷ is) ps → IsPlain ps
+mark_plain b is ps e h = let m = un_mark b is ps h in rw m.1 (record { colon = e; define = refl })
+
+word_plain : (text : List ℕ) (is : List Item) (ps : List Part) → Spells (word text ∷ is) ps → IsPlain ps
+word_plain text is ps h = let w = un_word text is ps h in rw w.2 (record { colon = refl; define = refl })
+
+prefix_plain : (prefix : Bool) (v : Value) (is : List Item) (ps : List Part) → Spells (prefix_items prefix ++ value v ∷ is) ps → IsPlain ps
+prefix_plain true v is ps h = word_plain (codes "a") _ ps h
+prefix_plain false v is ps h = value_plain v is ps h
+
+form_plain : (f : Form) (ps : List Part) → Spells (form_items f) ps → IsPlain ps
+form_plain Empty ps h = rw (nothing_left ps h) (record { colon = refl; define = refl })
+form_plain Accumulator ps h = word_plain (codes "a") [] ps h
+form_plain (Hash v) ps h = mark_plain 35 _ ps refl h
+form_plain (Straight prefix v) ps h = prefix_plain prefix v _ ps h
+form_plain (WithX prefix v) ps h = prefix_plain prefix v _ ps h
+form_plain (WithY prefix v) ps h = prefix_plain prefix v _ ps h
+form_plain (Both v u) ps h = value_plain v _ ps h
+form_plain (Indirect v) ps h = mark_plain 40 _ ps refl h
+form_plain (IndirectX v) ps h = mark_plain 40 _ ps refl h
+form_plain (IndirectY v) ps h = mark_plain 40 _ ps refl h
+
+list_plain : {A : Type 0} (Is : A → List Part → Type 0) → ((x : A) (front rest : List Part) → Is x front → IsPlain (front ++ rest)) → (xs : List A) (ps : List Part) → IsList Is xs ps → IsPlain ps
+list_plain Is plain [] ps h = absurd h
+list_plain Is plain (x ∷ []) ps h = rw (sym (append-nil ps)) (plain x ps [] h)
+list_plain Is plain (x ∷ y ∷ ys) ps h = rw h.2 (plain x h.0 (Mark 44 ∷ h.1) h.3)
+
+datum_plain : (x : Datum) (front rest : List Part) → IsDatum x front → IsPlain (front ++ rest)
+datum_plain (Byte n) front rest h = rw h.2 (record { colon = refl; define = refl })
+datum_plain (Bytes t) front rest h = rw h (record { colon = refl; define = refl })
+
+value_front_plain : (v : Value) (front rest : List Part) → IsValue v front → IsPlain (front ++ rest)
+value_front_plain v front rest h = begins_plain (front ++ rest) (value_begins v front rest h)
+
+-- an operation without a label
+unlabelled : (o : Operation) (w : List ℕ) (rest : List Part) → IsPlain rest → operation_of (Word w ∷ rest) ≡ Some o → reading_of (Word w ∷ rest) ≡ Some (Stated None o)
+unfolding reading_of line_at operation_of
+unlabelled o w rest p e = rw (p.colon, p.define, e) refl
+
+stated_again : (o : Operation) (ps : List Part) → Spells (operation_items o) ps → reading_of ps ≡ Some (Stated None o)
+unfolding reading_of
+stated_again Nothing ps h = rw (nothing_left ps h) refl
+stated_again (Instr m f) ps h =
+    let w = un_word (text_of m) (form_items f) ps h in
+    rw w.2 (unlabelled (Instr m f) w.0 w.1 (form_plain f w.1 w.4) (rw w.2 at (operation_again (Instr m f) ps h)))
+stated_again (Data xs) ps h =
+    let w = un_word (codes ".byte") (data_list xs ∷ []) ps h in
+    rw w.2 (unlabelled (Data xs) w.0 w.1 (list_plain IsDatum datum_plain xs w.1 (un_last (data_list xs) w.1 w.4)) (rw w.2 at (operation_again (Data xs) ps h)))
+stated_again (Words vs) ps h =
+    let w = un_word (codes ".word") (value_list vs ∷ []) ps h in
+    rw w.2 (unlabelled (Words vs) w.0 w.1 (list_plain IsValue value_front_plain vs w.1 (un_last (value_list vs) w.1 w.4)) (rw w.2 at (operation_again (Words vs) ps h)))
+stated_again (Dbyts vs) ps h =
+    let w = un_word (codes ".dbyt") (value_list vs ∷ []) ps h in
+    rw w.2 (unlabelled (Dbyts vs) w.0 w.1 (list_plain IsValue value_front_plain vs w.1 (un_last (value_list vs) w.1 w.4)) (rw w.2 at (operation_again (Dbyts vs) ps h)))
+stated_again (Addrs vs) ps h =
+    let w = un_word (codes ".addr") (value_list vs ∷ []) ps h in
+    rw w.2 (unlabelled (Addrs vs) w.0 w.1 (list_plain IsValue value_front_plain vs w.1 (un_last (value_list vs) w.1 w.4)) (rw w.2 at (operation_again (Addrs vs) ps h)))
+stated_again (Segment t) ps h =
+    let w = un_word (codes ".segment") (quoted_name t ∷ []) ps h in
+    rw w.2 (unlabelled (Segment t) w.0 w.1 (rw (un_last (quoted_name t) w.1 w.4).1 (record { colon = refl; define = refl })) (rw w.2 at (operation_again (Segment t) ps h)))
+stated_again Code ps h =
+    let w = un_word (codes ".code") [] ps h in
+    rw w.2 (unlabelled Code w.0 w.1 (rw (nothing_left w.1 w.4) (record { colon = refl; define = refl })) (rw w.2 at (operation_again Code ps h)))
+stated_again (SetCpu t) ps h =
+    let w = un_word (codes ".setcpu") (string t ∷ []) ps h in
+    rw w.2 (unlabelled (SetCpu t) w.0 w.1 (rw (un_last (string t) w.1 w.4) (record { colon = refl; define = refl })) (rw w.2 at (operation_again (SetCpu t) ps h)))
+
+pub line_again : (r : Said) (ps : List Part) → IsSpelling r ps → reading_of ps ≡ Some r
+unfolding reading_of line_at constant_of
+line_again (Constant w n) ps h =
+    let name = un_name w _ ps h in let d = un_define _ name.0 name.3 in
+    let t = un_number n d.0 d.2 in
+    rw (name.1, d.1, t.2) (rw (name.2, ← t.1) refl)
+line_again (Here w n) ps h =
+    let name = un_name w _ ps h in let d = un_define _ name.0 name.3 in
+    let star = un_mark 42 _ d.0 d.2 in let plus = un_mark 43 _ star.0 star.2 in
+    let t = un_number n plus.0 plus.2 in
+    rw (name.1, d.1, star.1, plus.1, t.2) (rw (name.2, ← t.1) refl)
+line_again (Stated None o) ps h = stated_again o ps h
+line_again (Stated (Some w) o) ps h =
+    let name = un_name w _ ps h in let colon = un_mark 58 _ name.0 name.3 in
+    rw (name.1, colon.1) (rw (name.2, operation_again o colon.0 colon.2) refl)

@@ -1,0 +1,18 @@
+-- Numbers as text.
+use Rattle.std.specs.Prelude.{ℕ, ◌+◌, ◌/◌, ◌%◌, Bool, List, [], ◌∷◌, decimal, nat_lt, if◌then◌else◌}
+
+-- a hex digit, in upper case
+abbrev pub hex_digit : ℕ → ℕ
+hex_digit d = if nat_lt d 10 then 48 + d else 55 + d
+
+-- `$hh`, the two low digits
+abbrev pub hex2 : ℕ → List ℕ
+hex2 n = 36 ∷ hex_digit (n / 16 % 16) ∷ hex_digit (n % 16) ∷ []
+
+-- `$hhhh`, the four low digits
+abbrev pub hex4 : ℕ → List ℕ
+hex4 n = 36 ∷ hex_digit (n / 4096 % 16) ∷ hex_digit (n / 256 % 16) ∷ hex_digit (n / 16 % 16) ∷ hex_digit (n % 16) ∷ []
+
+-- what is added to a name: in decimal; or, in hex digits, two below $100 and else four
+abbrev pub offset_text : Bool → ℕ → List ℕ
+offset_text hexoffs n = if hexoffs then (if nat_lt n 256 then hex2 n else hex4 n) else decimal n

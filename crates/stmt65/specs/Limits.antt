@@ -1,0 +1,9 @@
+-- Numbers that keep the limits of their type.
+use Rattle.std.specs.Prelude.{◌≡◌, ℕ, ◌≤◌, Result, MatchResult}
+use Rattle.stmt65.specs.declared.columns.LimitError.{LimitError}
+
+-- the number becomes a value exactly where it is within the limits, else an error that holds it
+abbrev pub ConvertsWithin : ℕ → ℕ → ℕ → Result ℕ LimitError → Type 0
+ConvertsWithin least greatest n r = MatchResult r
+    (λ value. (value ≡ n) × ((least ≤ n) × (n ≤ greatest)))
+    (λ error. (error.0 ≡ n) × ¬ ((least ≤ n) × (n ≤ greatest)))

@@ -1,0 +1,144 @@
+//! The assembler: two passes over the lines of a text.
+
+ghost use Rattle.std.specs.Prelude.{◌≡◌, ◌++◌, Some, IfOk, OnOk, IfNone};
+ghost use Rattle.std.specs.List.{flat_map};
+ghost use Rattle.stmt65.specs.Lexing.{parts};
+ghost use Rattle.stmt65.specs.Reading.{reading_of};
+ghost use Rattle.stmt65.specs.SaidViews.{said_of};
+ghost use Rattle.stmt65.specs.Coding.{field_bytes};
+ghost use Rattle.stmt65.specs.Meaning.{after, bytes_of, fault_of, initial, meaning, readings};
+ghost use Rattle.stmt65.specs.MeaningViews.{state_of, fields_in, held_after, held_final};
+ghost use Rattle.stmt65.specs.Answer.{Assembles};
+
+use crate::emit::put_coded;
+use crate::fault::{AsmFault, AsmFaultKind};
+use crate::line_faults::fault_of;
+use crate::lines::first_line;
+use crate::reading::read_line;
+use crate::said::Said;
+use crate::state::{Placed, State, first_state, go_below, place};
+use crate::symbols::Symbols;
+use std::alloc::{AllocError, Allocator};
+
+/// Goes on below a line, whatever it says.
+#[tactic(auto, unfolding(crate::specs::MeaningViews::held_after))]
+fn pass_line<'a, 'b, A: Allocator>(
+    alloc: &'b A,
+    state: &mut State<'a, &'b A>,
+    line: &'a [u8],
+) -> Result<(), AllocError>
+    ensures { OnOk result (state_of state.new ≡ held_after (state_of state.old) (reading_of (parts line.now))) }
+{
+    match read_line(alloc, line)? {
+        Some(said) => {
+            let placed = place(state, &said);
+            go_below(state, &said, placed)
+        }
+        None => Ok(()),
+    }
+}
+
+/// The names that the text defines.
+#[tactic(auto, using(crate::proofs::PassLaws::finals))]
+fn names_of<'a, 'b, A: Allocator>(
+    alloc: &'b A,
+    text: &'a [u8],
+    start: u16,
+) -> Result<Symbols<'a, &'b A>, AllocError>
+    ensures { IfOk result (λ names. names ≡ (held_final (initial start) (readings text.now)).above) }
+{
+    let mut state = first_state(alloc, start)?;
+    let mut rest = text;
+    'lines: while let Some((line, after)) = first_line(rest) {
+        pass_line(alloc, &mut state, line)?;
+        rest = after;
+    }
+    Ok(state.above)
+}
+
+fn put_placed<A: Allocator + Clone, B: Allocator>(
+    out: &mut Vec<u8, B>,
+    all: &Symbols<'_, A>,
+    placed: Placed,
+) -> Result<(), AllocError>
+    ensures { OnOk result (out.new.items ≡ out.old.items ++ flat_map (field_bytes all.now placed.entry.next) (fields_in placed.entry.coded)) }
+{
+    match placed.coded {
+        Some(coded) => put_coded(out, all, placed.next, coded),
+        None => Ok(()),
+    }
+}
+
+/// Adds the bytes of a line and goes on below it, or gives its lowest fault.
+fn code_said<'a, A: Allocator + Clone, B: Allocator, C: Allocator>(
+    all: &Symbols<'_, A>,
+    state: &mut State<'a, A>,
+    said: &Said<'a, B>,
+    out: &mut Vec<u8, C>,
+) -> Result<Option<AsmFaultKind>, AllocError>
+    ensures fault { IfOk result (λ kind. kind ≡ fault_of all.now (state_of state.old) (Some (said_of said.now))) }
+    ensures bytes { IfOk result (λ kind. IfNone kind (out.new.items ≡ out.old.items ++ bytes_of all.now (state_of state.old) (Some (said_of said.now)))) }
+    ensures below { IfOk result (λ kind. IfNone kind (state_of state.new ≡ after (state_of state.old) (Some (said_of said.now)))) }
+{
+    let placed = place(state, said);
+    if let Some(kind) = fault_of(all, state, said, placed) {
+        return Ok(Some(kind));
+    }
+    put_placed(out, all, placed)?;
+    go_below(state, said, placed)?;
+    Ok(None)
+}
+
+/// The same of a line as it is written.
+#[tactic(auto, unfolding(crate::specs::Meaning::fault_of))]
+fn code_line<'a, 'b, A: Allocator, C: Allocator>(
+    alloc: &'b A,
+    all: &Symbols<'_, &'b A>,
+    state: &mut State<'a, &'b A>,
+    line: &'a [u8],
+    out: &mut Vec<u8, C>,
+) -> Result<Option<AsmFaultKind>, AllocError>
+    ensures fault { IfOk result (λ kind. kind ≡ fault_of all.now (state_of state.old) (reading_of (parts line.now))) }
+    ensures bytes { IfOk result (λ kind. IfNone kind (out.new.items ≡ out.old.items ++ bytes_of all.now (state_of state.old) (reading_of (parts line.now)))) }
+    ensures below { IfOk result (λ kind. IfNone kind (state_of state.new ≡ after (state_of state.old) (reading_of (parts line.now)))) }
+{
+    match read_line(alloc, line)? {
+        Some(said) => code_said(all, state, &said, out),
+        None => Ok(Some(AsmFaultKind::Syntax)),
+    }
+}
+
+/// The bytes that a text of ca65 assembler means from a start address, or the fault of its lowest
+/// line that has one, and on that line the lowest.
+///
+/// The text is lines that end by a line feed. Each stands at `start` plus the number of bytes before
+/// it, and is coded by the CPU of the last `.setcpu` line above, else by the 6502. An operand has
+/// zero-page size where its value is below $100, no `a:` stands before it, and each name in it is
+/// defined as `name := number` on a line above.
+///
+/// A fault of kind `Memory`, at line 0, comes only where a growth was refused.
+#[tactic(auto, unfolding(crate::specs::Meaning::meaning))]
+pub fn assemble<A: Allocator + Clone>(
+    alloc: A,
+    text: &[u8],
+    start: u16,
+) -> Result<Vec<u8, A>, AsmFault>
+    ensures { Assembles result (meaning start text.now) }
+{
+    let mut out = Vec::new(alloc.clone()?);
+    let all = names_of(&alloc, text, start)?;
+    let mut state = first_state(&alloc, start)?;
+    let mut rest = text;
+    let mut number = 1;
+    'lines: while let Some((line, after)) = first_line(rest) {
+        if let Some(kind) = code_line(&alloc, &all, &mut state, line, &mut out)? {
+            return Err(AsmFault { line: number, kind });
+        }
+        rest = after;
+        number += 1;
+    }
+    Ok(out)
+}
+
+#[cfg(test)]
+mod tests;

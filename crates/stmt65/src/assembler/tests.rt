@@ -1,0 +1,400 @@
+use crate::{AsmFault, AsmFaultKind, assemble};
+use std::alloc::{AllocError, Global};
+use std::process::Abort;
+use std::test::Fail;
+
+fn gives(rt: &impl Abort, alloc: Global, text: &str, start: u16, bytes: &[u8]) -> Result<(), Fail> {
+    let found = assemble(alloc, text.as_bytes(), start)?;
+    assert_eq!(rt; found.as_slice(), bytes, "{text}");
+    Ok(())
+}
+
+fn fails(rt: &impl Abort, alloc: Global, text: &str, start: u16, line: usize, kind: AsmFaultKind) {
+    let fault = assemble(alloc, text.as_bytes(), start).err();
+    assert_eq!(rt; fault, Some(AsmFault { line, kind }), "{text}");
+}
+
+#[test]
+fn small_texts(rt: HostRuntime) -> Result<(), Fail> {
+    let a = rt.alloc();
+    let sizes = "lda $12\nlda a:$12\nsta $12,y\n";
+    gives(
+        &rt,
+        a,
+        sizes,
+        0x1000,
+        &[0xA5, 0x12, 0xAD, 0x12, 0, 0x99, 0x12, 0],
+    )?;
+    gives(&rt, a, "lda v\nv := $12\n", 0x1000, &[0xAD, 0x12, 0])?;
+    gives(&rt, a, "v := $12\nlda v\n", 0x1000, &[0xA5, 0x12])?;
+    gives(&rt, a, "", 0x1000, &[])?;
+    gives(&rt, a, "nop", 0xFFFF, &[0xEA])?;
+    gives(
+        &rt,
+        a,
+        "foo: jmp foo\nLDA #1\n",
+        0x1000,
+        &[0x4C, 0, 0x10, 0xA9, 1],
+    )?;
+    gives(&rt, a, "self: bne self\n", 0x1000, &[0xD0, 0xFE])?;
+    gives(
+        &rt,
+        a,
+        "bne $0F82\nbne $1083\n",
+        0x1000,
+        &[0xD0, 0x80, 0xD0, 0x7F],
+    )?;
+    Ok(())
+}
+
+#[test]
+fn every_operand_form(rt: HostRuntime) -> Result<(), Fail> {
+    let a = rt.alloc();
+    gives(&rt, a, "brk\nasl a\nlda #$FF\n", 0, &[0, 0x0A, 0xA9, 0xFF])?;
+    gives(
+        &rt,
+        a,
+        "lda $12\nlda $12,x\nldx $12,y\n",
+        0,
+        &[0xA5, 0x12, 0xB5, 0x12, 0xB6, 0x12],
+    )?;
+    gives(
+        &rt,
+        a,
+        "lda $1234\nlda $1234,x\n",
+        0,
+        &[0xAD, 0x34, 0x12, 0xBD, 0x34, 0x12],
+    )?;
+    gives(
+        &rt,
+        a,
+        "lda $1234,y\njmp ($1234)\n",
+        0,
+        &[0xB9, 0x34, 0x12, 0x6C, 0x34, 0x12],
+    )?;
+    gives(
+        &rt,
+        a,
+        "lda ($12,x)\nlda ($12),y\n",
+        0,
+        &[0xA1, 0x12, 0xB1, 0x12],
+    )?;
+    gives(
+        &rt,
+        a,
+        "jmp ($12)\njsr $12\n",
+        0,
+        &[0x6C, 0x12, 0, 0x20, 0x12, 0],
+    )?;
+    gives(
+        &rt,
+        a,
+        "lda a:$12,x\nlda a:$12,y\n",
+        0,
+        &[0xBD, 0x12, 0, 0xB9, 0x12, 0],
+    )?;
+    gives(
+        &rt,
+        a,
+        "zp := 2\nlda (zp,x)\nlda zp+$FD\nlda zp-1\n",
+        0,
+        &[0xA1, 2, 0xA5, 0xFF, 0xA5, 1],
+    )?;
+    gives(
+        &rt,
+        a,
+        "zp := 2\nlda zp+$FE\nlda zp+$FF-1\n",
+        0,
+        &[0xAD, 0, 1, 0xAD, 0, 1],
+    )?;
+    Ok(())
+}
+
+#[test]
+fn data_and_lines_without_bytes(rt: HostRuntime) -> Result<(), Fail> {
+    let a = rt.alloc();
+    gives(
+        &rt,
+        a,
+        ".byte 1,\"A;b\",$ff,\"\"\n",
+        0,
+        &[1, 0x41, 0x3B, 0x62, 0xFF],
+    )?;
+    gives(
+        &rt,
+        a,
+        ".word $1234,2\n.dbyt $1234,2\n",
+        0,
+        &[0x34, 0x12, 2, 0, 0x12, 0x34, 0, 2],
+    )?;
+    gives(
+        &rt,
+        a,
+        ".addr foo,foo+1\nfoo:\n.word foo-1\n",
+        0x1000,
+        &[4, 0x10, 5, 0x10, 3, 0x10],
+    )?;
+    gives(
+        &rt,
+        a,
+        "v := $1234\n.dbyt v,v+1-1\n",
+        0,
+        &[0x12, 0x34, 0x12, 0x34],
+    )?;
+    gives(
+        &rt,
+        a,
+        "nop\n.segment \"B\"\nx2:\n.code\n.addr x2\n",
+        0x1000,
+        &[0xEA, 1, 0x10],
+    )?;
+    gives(
+        &rt,
+        a,
+        "; none\n\n  \t\nin := * + 2\n.addr in\n",
+        0x1000,
+        &[2, 0x10],
+    )?;
+    gives(&rt, a, ".setcpu \"6502\"\nnop ; here\n", 0, &[0xEA])?;
+    Ok(())
+}
+
+#[test]
+fn one_line_for_each_fault(rt: HostRuntime) -> Result<(), Fail> {
+    let a = rt.alloc();
+    fails(
+        &rt,
+        a,
+        "bne foo\nfrob $12\nfoo:\n",
+        0x1000,
+        2,
+        AsmFaultKind::Syntax,
+    );
+    fails(
+        &rt,
+        a,
+        "jmp foo\nfoo: frob\n",
+        0x1000,
+        1,
+        AsmFaultKind::Undefined,
+    );
+    fails(
+        &rt,
+        a,
+        ".setcpu \"6809\"\n",
+        0x1000,
+        1,
+        AsmFaultKind::UnknownCpu,
+    );
+    fails(&rt, a, "bra $1000\n", 0x1000, 1, AsmFaultKind::NoSuchForm);
+    fails(&rt, a, "jmp foo\n", 0x1000, 1, AsmFaultKind::Undefined);
+    fails(
+        &rt,
+        a,
+        "foo:\nfoo: nop\n",
+        0x1000,
+        2,
+        AsmFaultKind::DefinedTwice,
+    );
+    fails(&rt, a, "bne $2000\n", 0x1000, 1, AsmFaultKind::OutOfRange);
+    fails(&rt, a, "lda #1\n", 0xFFFF, 1, AsmFaultKind::PastEnd);
+    Ok(())
+}
+
+#[test]
+fn lowest_line_then_lowest_fault(rt: HostRuntime) -> Result<(), Fail> {
+    let a = rt.alloc();
+    fails(
+        &rt,
+        a,
+        "nop\nlda #$100\nfrob\n",
+        0,
+        2,
+        AsmFaultKind::OutOfRange,
+    );
+    fails(
+        &rt,
+        a,
+        "foo:\nfoo: lda bar\n",
+        0,
+        2,
+        AsmFaultKind::Undefined,
+    );
+    fails(
+        &rt,
+        a,
+        "foo:\nfoo: lda #$100\n",
+        0,
+        2,
+        AsmFaultKind::DefinedTwice,
+    );
+    fails(
+        &rt,
+        a,
+        "foo:\nfoo: stx bar,x\n",
+        0,
+        2,
+        AsmFaultKind::NoSuchForm,
+    );
+    fails(
+        &rt,
+        a,
+        "foo:\nfoo: .setcpu \"z80\"\n",
+        0,
+        2,
+        AsmFaultKind::UnknownCpu,
+    );
+    fails(&rt, a, "lda #$100\n", 0xFFFF, 1, AsmFaultKind::OutOfRange);
+    fails(
+        &rt,
+        a,
+        "jmp foo\n.setcpu \"z80\"\nfoo: stx $12,x\n",
+        0,
+        2,
+        AsmFaultKind::UnknownCpu,
+    );
+    Ok(())
+}
+
+#[test]
+fn values_without_room(rt: HostRuntime) -> Result<(), Fail> {
+    let a = rt.alloc();
+    fails(&rt, a, ".byte $100\n", 0, 1, AsmFaultKind::OutOfRange);
+    fails(&rt, a, ".word $10000\n", 0, 1, AsmFaultKind::OutOfRange);
+    fails(&rt, a, "v := $10000\n", 0, 1, AsmFaultKind::OutOfRange);
+    fails(&rt, a, "v := * + 1\n", 0xFFFF, 1, AsmFaultKind::OutOfRange);
+    fails(&rt, a, "nop\nend:\n", 0xFFFF, 2, AsmFaultKind::OutOfRange);
+    fails(
+        &rt,
+        a,
+        "zp := 0\nlda zp-1\n",
+        0,
+        2,
+        AsmFaultKind::OutOfRange,
+    );
+    fails(
+        &rt,
+        a,
+        "zp := 0\n.word zp-1\n",
+        0,
+        2,
+        AsmFaultKind::OutOfRange,
+    );
+    fails(
+        &rt,
+        a,
+        "lda $1234,y\nldx $1234,x\n",
+        0,
+        2,
+        AsmFaultKind::NoSuchForm,
+    );
+    fails(&rt, a, "stx $1234,y\n", 0, 1, AsmFaultKind::OutOfRange);
+    fails(&rt, a, "foo: lda (foo),y\n", 0, 1, AsmFaultKind::OutOfRange);
+    fails(&rt, a, "bne $0F81\n", 0x1000, 1, AsmFaultKind::OutOfRange);
+    fails(&rt, a, "bne $1082\n", 0x1000, 1, AsmFaultKind::OutOfRange);
+    fails(&rt, a, "bne $0000\n", 0xFFF0, 1, AsmFaultKind::OutOfRange);
+    fails(&rt, a, "bne a:$1000\n", 0x1000, 1, AsmFaultKind::NoSuchForm);
+    fails(&rt, a, "nop a:$1000\n", 0x1000, 1, AsmFaultKind::NoSuchForm);
+    fails(&rt, a, "lda a:($12),y\n", 0, 1, AsmFaultKind::Syntax);
+    fails(&rt, a, ".byte\n", 0, 1, AsmFaultKind::Syntax);
+    fails(&rt, a, "nop\r\n", 0, 1, AsmFaultKind::Syntax);
+    Ok(())
+}
+
+fn hex_digit(n: u8) -> u8 {
+    match n % 16 {
+        0 => b'0',
+        1 => b'1',
+        2 => b'2',
+        3 => b'3',
+        4 => b'4',
+        5 => b'5',
+        6 => b'6',
+        7 => b'7',
+        8 => b'8',
+        9 => b'9',
+        10 => b'A',
+        11 => b'B',
+        12 => b'C',
+        13 => b'D',
+        14 => b'E',
+        _ => b'F',
+    }
+}
+
+fn put_label(text: &mut Vec<u8>, n: u16) -> Result<(), AllocError> {
+    text.push(b'L')?;
+    for shift in [12u32, 8, 4, 0] {
+        text.push(hex_digit(((n >> shift) % 16) as u8))?;
+    }
+    Ok(())
+}
+
+#[test]
+fn each_byte_value_in_a_table(rt: HostRuntime) -> Result<(), Fail> {
+    let a = rt.alloc();
+    for value in 0..=255u8 {
+        let mut text = Vec::new(a);
+        let mut bytes = Vec::new(a);
+        for line in 0..96 {
+            text.extend_from_slice(if line % 2 == 0 {
+                b".byte "
+            } else {
+                b"\t.BYTE "
+            })?;
+            for item in 0..8 {
+                if item != 0 {
+                    text.push(b',')?;
+                }
+                text.push(b'$')?;
+                text.push(hex_digit(value / 16))?;
+                text.push(hex_digit(value))?;
+                bytes.push(value)?;
+            }
+            text.push(b'\n')?;
+        }
+        let found = assemble(a, text.as_slice(), 0x1000)?;
+        assert_eq!(rt; found.len(), 768);
+        assert_eq!(rt; found.as_slice(), bytes.as_slice());
+    }
+    Ok(())
+}
+
+/// A label on each line, and a branch to it: 32,745 names.
+#[test]
+fn as_many_names_as_lines(rt: HostRuntime) -> Result<(), Fail> {
+    let a = rt.alloc();
+    let mut text = Vec::new(a);
+    for n in 0..32745u16 {
+        put_label(&mut text, n)?;
+        text.extend_from_slice(b": bne ")?;
+        put_label(&mut text, n)?;
+        text.push(b'\n')?;
+    }
+    let found = assemble(a, text.as_slice(), 0)?;
+    assert_eq!(rt; found.len(), 65490);
+    for pair in found.chunks(2) {
+        assert_eq!(rt; pair, [0xD0, 0xFE].as_slice());
+    }
+    Ok(())
+}
+
+/// Each byte of the address space by a line of its own, and then one more.
+#[test]
+fn as_many_lines_as_bytes(rt: HostRuntime) -> Result<(), Fail> {
+    let a = rt.alloc();
+    let mut text = Vec::new(a);
+    for _ in 0..65536u32 {
+        text.extend_from_slice(b"sed\n")?;
+    }
+    let found = assemble(a, text.as_slice(), 0)?;
+    assert_eq!(rt; found.len(), 65536);
+    text.extend_from_slice(b"sed\n")?;
+    let fault = assemble(a, text.as_slice(), 0).err();
+    let past = AsmFault {
+        line: 65537,
+        kind: AsmFaultKind::PastEnd,
+    };
+    assert_eq!(rt; fault, Some(past));
+    Ok(())
+}

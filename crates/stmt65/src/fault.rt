@@ -1,0 +1,56 @@
+//! Why a text has no bytes.
+
+ghost use Rattle.std.specs.Prelude.{◌≡◌};
+
+use std::alloc::AllocError;
+use thiserror::Error;
+
+/// What is wrong with a line of a text, in the order in which the kinds of one line count.
+#[derive(Clone, Copy, Debug, PartialEq, Eq, Error)]
+pub enum AsmFaultKind {
+    /// The line is none that the assembler knows.
+    #[error("syntax error")]
+    Syntax,
+    /// `.setcpu` with a text that is no CPU's.
+    #[error("unknown CPU")]
+    UnknownCpu,
+    /// The CPU has no such form of the mnemonic.
+    #[error("no such form")]
+    NoSuchForm,
+    /// A name that the text nowhere defines.
+    #[error("undefined name")]
+    Undefined,
+    /// A name that a line above defines.
+    #[error("name defined twice")]
+    DefinedTwice,
+    /// A value that has no room.
+    #[error("value out of range")]
+    OutOfRange,
+    /// A byte past $FFFF.
+    #[error("past the end of the address space")]
+    PastEnd,
+    /// Memory was refused.
+    #[error("out of memory")]
+    Memory,
+}
+
+/// A fault of a text: the line from 1, or 0 where memory was refused, and what is wrong with it.
+#[derive(Clone, Copy, Debug, PartialEq, Eq, Error)]
+#[error("line {line}: {kind}")]
+pub struct AsmFault {
+    pub line: usize,
+    pub kind: AsmFaultKind,
+}
+
+impl From<AllocError> for AsmFault {
+    ghost use Rattle.stmt65.specs.Answer.{out_of_memory};
+
+    ghost from_gives = { λ _ e. e ≡ out_of_memory };
+
+    fn from(_: AllocError) -> Self {
+        AsmFault {
+            line: 0,
+            kind: AsmFaultKind::Memory,
+        }
+    }
+}

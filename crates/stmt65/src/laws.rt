@@ -1,0 +1,27 @@
+//! What the reading of a line is to what is written in it.
+
+ghost use Rattle.stmt65.specs.ReadingLaws.{ReadsSpellings, SpellsOne, TakesParts, ReadsLines};
+
+/// The parts of a line are read as a statement exactly where they are a spelling of it.
+#[tactic(auto, using(crate::proofs::LineLemmas::reads_spellings))]
+pub fn reads_spellings()
+    ensures { ReadsSpellings }
+{}
+
+/// The parts of a line are a spelling of one statement at most.
+#[tactic(auto, using(crate::proofs::LineLemmas::spells_one))]
+pub fn spells_one()
+    ensures { SpellsOne }
+{}
+
+/// The lexer takes the parts that stand in the line, each as long as it can be.
+#[tactic(auto, using(crate::proofs::SpacingLemmas::takes_parts))]
+pub fn takes_parts()
+    ensures { TakesParts }
+{}
+
+/// A line is read as a statement exactly where it is a spacing of a spelling of it.
+#[tactic(auto, using(crate::proofs::LineLemmas::reads_lines))]
+pub fn reads_lines()
+    ensures { ReadsLines }
+{}

@@ -1,0 +1,190 @@
+//! The parts of a line, each taken as long as it can be.
+
+ghost use Rattle.std.specs.Prelude.{◌≡◌, ◌+◌, ◌<◌, ◌≤◌, [], ◌∷◌, length, min, MatchOption, drop, slice_index, false};
+ghost use Rattle.std.specs.List.{prefix_len};
+ghost use Rattle.std.specs.Char.{is_ascii_digit, is_ascii_hexdigit, digit_value};
+ghost use Rattle.std.specs.Str.Parse.{digits_value};
+ghost use Rattle.stmt65.specs.Parts.{number_of};
+ghost use Rattle.stmt65.specs.Lexing.{is_blank, is_word_start, is_word_byte, is_text_byte, hex_len, part_at, parts};
+ghost use Rattle.stmt65.specs.PartViews.{part_of};
+
+/// What stands in a line: words and numbers as they are written, the bytes between the quotes of a
+/// string, `:=`, and any other byte by itself.
+#[derive(Clone, Copy, Debug)]
+pub enum Part<'a> {
+    Word(&'a [u8]),
+    Number(&'a [u8]),
+    Text(&'a [u8]),
+    Define,
+    Mark(u8),
+}
+
+fn is_blank(b: u8) -> bool
+    ensures { result ≡ is_blank b }
+{
+    b == b' ' || b == b'\t'
+}
+
+fn is_word_start(b: u8) -> bool
+    ensures { result ≡ is_word_start b }
+{
+    b.is_ascii_alphabetic() || b == b'_' || b == b'.'
+}
+
+/// Whether the byte is a letter, a digit or `_`.
+pub fn is_word_byte(b: u8) -> bool
+    ensures { result ≡ is_word_byte b }
+{
+    b.is_ascii_alphanumeric() || b == b'_'
+}
+
+fn is_text_byte(b: u8) -> bool
+    ensures { result ≡ is_text_byte b }
+{
+    b > 0x1F && b < 0x7F && b != b'"'
+}
+
+fn word_len(bytes: &[u8]) -> usize
+    ensures value { result ≡ prefix_len is_word_byte bytes.now }
+    ensures fits { result ≤ length bytes.now }
+{
+    bytes.iter().take_while(|b| is_word_byte(**b)).count()
+}
+
+fn digits_len(bytes: &[u8]) -> usize
+    ensures value { result ≡ prefix_len is_ascii_digit bytes.now }
+    ensures fits { result ≤ length bytes.now }
+{
+    bytes.iter().take_while(|b| b.is_ascii_digit()).count()
+}
+
+fn hex_digits_len(bytes: &[u8]) -> usize
+    ensures value { result ≡ prefix_len is_ascii_hexdigit bytes.now }
+    ensures fits { result ≤ length bytes.now }
+{
+    bytes.iter().take_while(|b| b.is_ascii_hexdigit()).count()
+}
+
+/// How many hex digits a `$` before the bytes takes.
+fn hex_len(bytes: &[u8]) -> usize
+    ensures value { result ≡ hex_len bytes.now }
+    ensures fits { result ≤ length bytes.now }
+{
+    let len = hex_digits_len(bytes);
+    if len < 8 { len } else { 8 }
+}
+
+fn text_len(bytes: &[u8]) -> usize
+    ensures value { result ≡ prefix_len is_text_byte bytes.now }
+    ensures fits { result ≤ length bytes.now }
+{
+    bytes.iter().take_while(|b| is_text_byte(**b)).count()
+}
+
+/// The part that begins with the first byte, and how many of the bytes after it belong to it.
+#[tactic(auto, unfolding(crate::specs::Lexing::part_at))]
+fn part_at(bytes: &[u8]) -> (Part<'_>, usize)
+    requires { 0 < length bytes.now }
+    ensures part { part_of result.0 ≡ (part_at (slice_index bytes.now 0) (drop 1 bytes.now)).0 }
+    ensures more { result.1 ≡ (part_at (slice_index bytes.now 0) (drop 1 bytes.now)).1 }
+    ensures fits { result.1 < length bytes.now }
+{
+    let [first, after @ ..] = bytes else {
+        unreachable!()
+    };
+    let first = *first;
+    if is_word_start(first) {
+        let len = word_len(after);
+        return (Part::Word(&bytes[..len + 1]), len);
+    }
+    if first.is_ascii_digit() {
+        let len = digits_len(after);
+        return (Part::Number(&bytes[..len + 1]), len);
+    }
+    if first == b'$' {
+        let len = hex_len(after);
+        if len > 0 {
+            return (Part::Number(&bytes[..len + 1]), len);
+        }
+    }
+    if first == b'"' {
+        let len = text_len(after);
+        if len < after.len() && after[len] == b'"' {
+            return (Part::Text(&after[..len]), len + 1);
+        }
+    }
+    if first == b':' && !after.is_empty() && after[0] == b'=' {
+        return (Part::Define, 1);
+    }
+    (Part::Mark(first), 0)
+}
+
+/// The bytes from the first on that is no blank.
+#[tactic(auto, using(crate::proofs::PartLemmas::lexing))]
+fn after_blanks(bytes: &[u8]) -> &[u8]
+    ensures parts { parts result.now ≡ parts bytes.now }
+    ensures stop { 0 < length result.now → is_blank (slice_index result.now 0) ≡ false }
+{
+    for (i, b) in bytes.iter().enumerate() {
+        if !is_blank(*b) {
+            return &bytes[i..];
+        }
+    }
+    &[]
+}
+
+/// The first part of the line, and the bytes after it.
+#[tactic(auto, using(crate::proofs::PartLemmas::lexing))]
+pub fn first_part(bytes: &[u8]) -> Option<(Part<'_>, &[u8])>
+    ensures { MatchOption result (parts bytes.now ≡ [])
+        (λ found. parts bytes.now ≡ part_of found.0 ∷ parts found.1.now) }
+{
+    let bytes = after_blanks(bytes);
+    match bytes {
+        [] => None,
+        [first, ..] => {
+            if *first == b';' {
+                return None;
+            }
+            let (part, more) = part_at(bytes);
+            Some((part, &bytes[more + 1..]))
+        }
+    }
+}
+
+/// What the text of a number counts: decimal digits, or `$` and hex digits. Where that is
+/// 2^64 - 1 or more the answer is 2^64 - 1.
+#[tactic(auto, unfolding(crate::specs::Parts::number_of))]
+pub fn number_of(text: &[u8]) -> u64
+    ensures { result ≡ number_of text.now }
+{
+    match text {
+        [b'$', digits @ ..] => value_of_digits(16, digits),
+        _ => value_of_digits(10, text),
+    }
+}
+
+#[tactic(auto, using(crate::proofs::NumberLemmas::capped_more))]
+fn value_of_digits(radix: u64, digits: &[u8]) -> u64
+    requires { 0 < radix }
+    ensures { result ≡ min (digits_value radix digits.now) 18446744073709551615 }
+{
+    let mut n: u64 = 0;
+    'digits: for d in digits {
+        n = n
+            .saturating_mul(radix)
+            .saturating_add(u64::from(value_of_digit(*d)));
+    }
+    n
+}
+
+fn value_of_digit(d: u8) -> u8
+    ensures { result ≡ digit_value d }
+{
+    match d {
+        b'0'..=b'9' => d - b'0',
+        b'A'..=b'Z' => d - b'A' + 10,
+        b'a'..=b'z' => d - b'a' + 10,
+        _ => 36,
+    }
+}

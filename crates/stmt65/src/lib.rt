@@ -1,0 +1,51 @@
+//! Statements of 6502 assembler text in the grammar of ca65: printing, reading and assembling.
+//!
+//! Printing: a [`Statement`] with its [`Expr`]s and [`Operands`] is what one line of a listing says.
+//! [`put_line`] prints it at its [`Columns`], with the [`Remarks`] that stand beside it.
+//!
+//! Reading: [`read_line`] answers what a line says, a [`Said`], or that it says nothing. `lexer` cuts
+//! a line into parts, `parts` is a cursor over them, and `names`, `expressions`, `operands`,
+//! `operations` and `reading` take from it what they are named for. The functions of `laws` promise
+//! that a line is read as something exactly where it is a spelling of it.
+//!
+//! Assembling: [`assemble`] answers the bytes that a text means from a start, or its first fault. It
+//! goes over the lines twice: once for the names (`symbols`), once for the bytes (`coding`, `emit`).
+#![tactic(auto)]
+
+mod assembler;
+mod coding;
+mod coding_laws;
+mod columns;
+mod emit;
+mod expressions;
+mod fault;
+mod field_bytes;
+mod laws;
+mod lexer;
+mod line_faults;
+mod lines;
+mod names;
+mod operands;
+mod operations;
+mod parts;
+mod print;
+mod reading;
+mod remarks;
+mod said;
+mod state;
+mod statement;
+mod symbols;
+#[cfg(test)]
+mod tests;
+mod values;
+
+pub use assembler::assemble;
+pub use coding_laws::codes_alike;
+pub use columns::{Column, Columns, LabelBreak, LimitError};
+pub use fault::{AsmFault, AsmFaultKind};
+pub use laws::{reads_lines, reads_spellings, spells_one, takes_parts};
+pub use print::{Line, put_line};
+pub use reading::read_line;
+pub use remarks::{Level, Remarks};
+pub use said::{Datum, Form, Operation, Said, Value};
+pub use statement::{Expr, Operands, Statement};

@@ -1,0 +1,34 @@
+//! The fields of a line.
+
+ghost use Rattle.std.specs.Prelude.{◌≡◌, ◌+◌, ◌<◌, ◌≤◌, max, ◌++◌, length};
+ghost use Rattle.arrayvec.specs.ArrayVec.{array_vec_len};
+ghost use Rattle.stmt65.specs.Line.{filled};
+
+use super::Line;
+use crate::columns::Column;
+
+pub(super) fn put(out: &mut Line, bytes: &[u8])
+    requires { array_vec_len out.old + length bytes.now ≤ 512 }
+    ensures { out.new.items ≡ out.old.items ++ bytes.now }
+{
+    let taken = out.try_extend_from_slice(bytes);
+    prove!(taken.is_ok());
+}
+
+/// Makes the line ready for a field at the column.
+#[tactic(auto, unfolding(crate::specs::Line::filled))]
+pub(super) fn start_field(out: &mut Line, column: Column)
+    requires { array_vec_len out.old < 391 }
+    ensures items { out.new.items ≡ filled out.old.items column }
+    ensures len { array_vec_len out.new ≤ max (array_vec_len out.old + 1) 120 }
+{
+    let len = out.len();
+    let column = column.get() as usize;
+    if len + 1 < column {
+        for _ in len + 1..column {
+            out.push(b' ');
+        }
+    } else if len != 0 {
+        out.push(b' ');
+    }
+}

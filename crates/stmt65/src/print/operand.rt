@@ -1,0 +1,152 @@
+//! The operands of an instruction.
+
+ghost use Rattle.std.specs.Prelude.{◌≡◌, ◌+◌, ◌≤◌, ◌++◌, length};
+ghost use Rattle.arrayvec.specs.ArrayVec.{array_vec_len};
+ghost use Rattle.stmt65.specs.Operands.{named_text, short_text, long_text, prefix_text, bare_text, operand_text};
+ghost use Rattle.stmt65.specs.Printable.{IsShort, IsLong, IsWrittenIn};
+ghost use Rattle.stmt65.specs.Widths.{IsWordWide, AreWordWide};
+
+use super::Line;
+use super::digits::{put_hex2, put_hex4, put_offset};
+use super::fields::put;
+use crate::statement::{Expr, Operands};
+use isa65::Mode;
+
+fn put_named(out: &mut Line, hexoffs: bool, name: &[u8], offset: u16)
+    requires { array_vec_len out.old + length name.now + 6 ≤ 512 }
+    ensures items { out.new.items ≡ out.old.items ++ named_text hexoffs name.now offset }
+    ensures len { array_vec_len out.new ≤ array_vec_len out.old + length name.now + 6 }
+{
+    put(out, name);
+    if offset != 0 {
+        out.push(b'+');
+        put_offset(out, hexoffs, offset);
+    }
+}
+
+/// An expression whose number has two digits.
+fn put_short(out: &mut Line, hexoffs: bool, expr: Expr)
+    requires room { array_vec_len out.old ≤ 400 }
+    requires short { IsShort expr }
+    ensures items { out.new.items ≡ out.old.items ++ short_text hexoffs expr.entry }
+    ensures len { array_vec_len out.new ≤ array_vec_len out.old + 86 }
+    ensures width { IsWordWide expr.entry }
+{
+    match expr {
+        Expr::Number(number) => put_hex2(out, number as u8),
+        Expr::Name(name, offset) => put_named(out, hexoffs, name, offset),
+    }
+}
+
+/// An expression whose number has four digits.
+fn put_long(out: &mut Line, hexoffs: bool, expr: Expr)
+    requires room { array_vec_len out.old ≤ 400 }
+    requires long { IsLong expr }
+    ensures items { out.new.items ≡ out.old.items ++ long_text hexoffs expr.entry }
+    ensures len { array_vec_len out.new ≤ array_vec_len out.old + 86 }
+    ensures width { IsWordWide expr.entry }
+{
+    match expr {
+        Expr::Number(number) => put_hex4(out, number),
+        Expr::Name(name, offset) => put_named(out, hexoffs, name, offset),
+    }
+}
+
+/// An expression whose number has two digits, between two texts.
+fn put_short_between(out: &mut Line, hexoffs: bool, before: &[u8], expr: Expr, after: &[u8])
+    requires room { array_vec_len out.old ≤ 300 }
+    requires short { IsShort expr }
+    requires before_fits { length before.now ≤ 3 }
+    requires after_fits { length after.now ≤ 3 }
+    ensures items { out.new.items ≡ out.old.items ++ (before.now ++ short_text hexoffs expr.entry ++ after.now) }
+    ensures len { array_vec_len out.new ≤ array_vec_len out.old + 92 }
+    ensures width { IsWordWide expr.entry }
+{
+    put(out, before);
+    put_short(out, hexoffs, expr);
+    put(out, after);
+}
+
+/// An expression whose number has four digits, between two texts.
+fn put_long_between(out: &mut Line, hexoffs: bool, before: &[u8], expr: Expr, after: &[u8])
+    requires room { array_vec_len out.old ≤ 300 }
+    requires long { IsLong expr }
+    requires before_fits { length before.now ≤ 3 }
+    requires after_fits { length after.now ≤ 3 }
+    ensures items { out.new.items ≡ out.old.items ++ (before.now ++ long_text hexoffs expr.entry ++ after.now) }
+    ensures len { array_vec_len out.new ≤ array_vec_len out.old + 92 }
+    ensures width { IsWordWide expr.entry }
+{
+    put(out, before);
+    put_long(out, hexoffs, expr);
+    put(out, after);
+}
+
+/// What stands before an operand that is forced to be absolute.
+fn prefix(absolute: bool) -> &'static [u8]
+    ensures text { result.now ≡ prefix_text absolute }
+    ensures len { length result.now ≤ 3 }
+{
+    if absolute { b"a:" } else { b"" }
+}
+
+#[tactic(auto, unfolding(crate::specs::Operands::operand_text))]
+fn put_one(out: &mut Line, hexoffs: bool, mode: Mode, absolute: bool, expr: Expr)
+    requires room { array_vec_len out.old ≤ 200 }
+    requires written { IsWrittenIn mode (Operands.One expr) }
+    ensures items { out.new.items ≡ out.old.items ++ operand_text hexoffs mode absolute (Operands.One expr.entry) }
+    ensures len { array_vec_len out.new ≤ array_vec_len out.old + 200 }
+    ensures width { AreWordWide (Operands.One expr.entry) }
+{
+    match mode {
+        Mode::Imp | Mode::Acc | Mode::Zprel => {}
+        Mode::Imm => put_short_between(out, hexoffs, b"#", expr, b""),
+        Mode::Zp => put_short_between(out, hexoffs, b"", expr, b""),
+        Mode::Zpx => put_short_between(out, hexoffs, b"", expr, b",x"),
+        Mode::Zpy => put_short_between(out, hexoffs, b"", expr, b",y"),
+        Mode::Abs => put_long_between(out, hexoffs, prefix(absolute), expr, b""),
+        Mode::Absx => put_long_between(out, hexoffs, prefix(absolute), expr, b",x"),
+        Mode::Absy => put_long_between(out, hexoffs, prefix(absolute), expr, b",y"),
+        Mode::Ind => put_long_between(out, hexoffs, b"(", expr, b")"),
+        Mode::Indx => put_short_between(out, hexoffs, b"(", expr, b",x)"),
+        Mode::Indy => put_short_between(out, hexoffs, b"(", expr, b"),y"),
+        Mode::Zpind => put_short_between(out, hexoffs, b"(", expr, b")"),
+        Mode::Absindx => put_long_between(out, hexoffs, b"(", expr, b",x)"),
+        Mode::Rel => put_long_between(out, hexoffs, b"", expr, b""),
+    }
+}
+
+/// The operand of a mode that takes no expression.
+fn bare(mode: Mode) -> &'static [u8]
+    ensures text { result.now ≡ bare_text mode }
+    ensures len { length result.now ≤ 1 }
+{
+    match mode {
+        Mode::Acc => b"a",
+        _ => b"",
+    }
+}
+
+#[tactic(auto, using(crate::proofs::OperandTexts::operands_as_many))]
+pub(super) fn put_operands(
+    out: &mut Line,
+    hexoffs: bool,
+    mode: Mode,
+    absolute: bool,
+    operands: Operands,
+)
+    requires room { array_vec_len out.old ≤ 200 }
+    requires written { IsWrittenIn mode operands }
+    ensures items { out.new.items ≡ out.old.items ++ operand_text hexoffs mode absolute operands.entry }
+    ensures len { array_vec_len out.new ≤ array_vec_len out.old + 200 }
+    ensures width { AreWordWide operands.entry }
+{
+    match operands {
+        Operands::None => put(out, bare(mode)),
+        Operands::One(expr) => put_one(out, hexoffs, mode, absolute, expr),
+        Operands::Two(first, second) => {
+            put_short_between(out, hexoffs, b"", first, b",");
+            put_long_between(out, hexoffs, b"", second, b"");
+        }
+    }
+}

@@ -1,0 +1,310 @@
+use crate::{Datum, Form, Operation, Said, Value, read_line};
+use std::alloc::{AllocError, Global};
+use std::test::Fail;
+
+fn text(bytes: &[u8]) -> &str {
+    str::from_utf8(bytes).unwrap_or("?")
+}
+
+fn put_value(out: &mut String, value: &Value) -> Result<(), AllocError> {
+    match *value {
+        Value::Plain(n) => write!(out, "{n}"),
+        Value::Named(name, plus, less) => {
+            let name = text(name);
+            let less = if less { "-1" } else { "" };
+            write!(out, "{name}+{plus}{less}")
+        }
+    }
+}
+
+fn put_values(out: &mut String, values: &[Value]) -> Result<(), AllocError> {
+    for value in values {
+        out.push_str(" ")?;
+        put_value(out, value)?;
+    }
+    Ok(())
+}
+
+fn put_data(out: &mut String, data: &[Datum]) -> Result<(), AllocError> {
+    for datum in data {
+        match *datum {
+            Datum::Byte(n) => write!(out, " {n}")?,
+            Datum::Bytes(bytes) => {
+                let bytes = text(bytes);
+                write!(out, " \"{bytes}\"")?;
+            }
+        }
+    }
+    Ok(())
+}
+
+fn put_prefixed(out: &mut String, prefix: bool, value: &Value) -> Result<(), AllocError> {
+    if prefix {
+        out.push_str("a:")?;
+    }
+    put_value(out, value)
+}
+
+fn put_form(out: &mut String, form: &Form) -> Result<(), AllocError> {
+    let behind = match form {
+        Form::Empty => "",
+        Form::Accumulator => " A",
+        Form::Hash(value) => {
+            out.push_str(" #")?;
+            put_value(out, value)?;
+            ""
+        }
+        Form::Straight(prefix, value) => {
+            out.push_str(" ")?;
+            put_prefixed(out, *prefix, value)?;
+            ""
+        }
+        Form::WithX(prefix, value) => {
+            out.push_str(" ")?;
+            put_prefixed(out, *prefix, value)?;
+            ",X"
+        }
+        Form::WithY(prefix, value) => {
+            out.push_str(" ")?;
+            put_prefixed(out, *prefix, value)?;
+            ",Y"
+        }
+        Form::Both(first, second) => {
+            out.push_str(" ")?;
+            put_value(out, first)?;
+            out.push_str(",")?;
+            put_value(out, second)?;
+            ""
+        }
+        Form::Indirect(value) => {
+            out.push_str(" (")?;
+            put_value(out, value)?;
+            ")"
+        }
+        Form::IndirectX(value) => {
+            out.push_str(" (")?;
+            put_value(out, value)?;
+            ",X)"
+        }
+        Form::IndirectY(value) => {
+            out.push_str(" (")?;
+            put_value(out, value)?;
+            "),Y"
+        }
+    };
+    out.push_str(behind)
+}
+
+fn put_operation(out: &mut String, operation: &Operation) -> Result<(), AllocError> {
+    match operation {
+        Operation::Nothing => Ok(()),
+        Operation::Instr(mnemonic, form) => {
+            out.push_str(text(mnemonic.text()))?;
+            put_form(out, form)
+        }
+        Operation::Data(data) => {
+            out.push_str("byte")?;
+            put_data(out, data)
+        }
+        Operation::Words(values) => {
+            out.push_str("word")?;
+            put_values(out, values)
+        }
+        Operation::Dbyts(values) => {
+            out.push_str("dbyt")?;
+            put_values(out, values)
+        }
+        Operation::Addrs(values) => {
+            out.push_str("addr")?;
+            put_values(out, values)
+        }
+        Operation::Segment(name) => {
+            out.push_str("segment ")?;
+            out.push_str(text(name))
+        }
+        Operation::Code => out.push_str("code"),
+        Operation::SetCpu(cpu) => {
+            out.push_str("setcpu ")?;
+            out.push_str(text(cpu))
+        }
+    }
+}
+
+/// What the line says in one spelling, or `Syntax`.
+fn said(alloc: Global, line: &[u8]) -> Result<String, AllocError> {
+    let mut out = String::new(alloc);
+    match read_line(alloc, line)? {
+        None => out.push_str("Syntax")?,
+        Some(Said::Constant(name, n)) => {
+            let name = text(name);
+            write!(out, "{name} := {n}")?;
+        }
+        Some(Said::Here(name, n)) => {
+            let name = text(name);
+            write!(out, "{name} := * + {n}")?;
+        }
+        Some(Said::Stated(label, operation)) => {
+            if let Some(name) = label {
+                let name = text(name);
+                write!(out, "{name}: ")?;
+            }
+            put_operation(&mut out, &operation)?;
+        }
+    }
+    Ok(out)
+}
+
+/// Each form, with blanks, remarks and letter case.
+#[test]
+fn accepted_lines(rt: HostRuntime) -> Result<(), Fail> {
+    let rows = [
+        (b"".as_slice(), ""),
+        (b" \t ", ""),
+        (b" ; lda $12 \" \r\x80", ""),
+        (b"Loop:", "Loop: "),
+        (b"wai:", "wai: "),
+        (b"Loop : nop ; wait", "Loop: nop"),
+        (b"_1:.CODE", "_1: code"),
+        (b"v:=$fF", "v := 255"),
+        (b" v := 010", "v := 10"),
+        (b"v := * + $10", "v := * + 16"),
+        (b"v:=*+1", "v := * + 1"),
+        (b"RTS", "rts"),
+        (b"aSl A", "asl A"),
+        (b"asl", "asl"),
+        (b"lda # $01", "lda #1"),
+        (b"lda#name", "lda #name+0"),
+        (b"lda Name", "lda Name+0"),
+        (b"lda name + 2", "lda name+2"),
+        (b"lda name-1", "lda name+0-1"),
+        (b"lda name + $0A - 1", "lda name+10-1"),
+        (b"lda A:name,X", "lda a:name+0,X"),
+        (b"lda a : 5 , y", "lda a:5,Y"),
+        (b"lda $12345678", "lda 305419896"),
+        (b"lda 99999999999999999999", "lda 18446744073709551615"),
+        (b"jmp (name)", "jmp (name+0)"),
+        (b"lda ($12,X)", "lda (18,X)"),
+        (b"lda ($12),Y", "lda (18),Y"),
+        (b"bbr0 $12,name+1", "bbr0 18,name+1"),
+        (b"bne a:$1000", "bne a:4096"),
+        (b".byte \"\"", "byte \"\""),
+        (b".Byte 1,\"aB; ,'\" , $FF", "byte 1 \"aB; ,'\" 255"),
+        (b".word name-1,$FFFF", "word name+0-1 65535"),
+        (b".dbyt 1, 2", "dbyt 1 2"),
+        (b".ADDR name+1", "addr name+1"),
+        (b".segment \"lda\"", "segment lda"),
+        (b".segment \"X\"", "segment X"),
+        (b".SetCpu \"6809 \"", "setcpu 6809 "),
+        (b".setcpu \"\"", "setcpu "),
+    ];
+    for (line, want) in rows {
+        let found = said(rt.alloc(), line)?;
+        assert_eq!(rt; found.as_str(), want);
+    }
+    Ok(())
+}
+
+/// Each line says nothing that the grammar has.
+#[test]
+fn refused_lines(rt: HostRuntime) -> Result<(), Fail> {
+    let rows = [
+        // The 1 that is taken off is the digit itself.
+        b"lda name-$1".as_slice(),
+        b"lda name-01",
+        b"lda name-2",
+        b"lda name-1+1",
+        b"lda 5-1",
+        b"lda 5+1",
+        b"lda name+name",
+        // Data wants operands, and `.byte` no names.
+        b".byte",
+        b".word ;",
+        b".dbyt",
+        b".addr",
+        b".byte 1,",
+        b".byte ,1",
+        b".byte name",
+        b".word \"ab\"",
+        b".dword 1",
+        b".code 1",
+        // Strings are closed on their line, and hold printable ASCII.
+        b".byte \"ab",
+        b".byte \"a\tb\"",
+        b".byte \"a\x80\"",
+        // A segment's name has the form of a name.
+        b".segment \"\"",
+        b".segment \"1a\"",
+        b".segment \"a.b\"",
+        b".segment code",
+        b".setcpu 6502",
+        // `a:` stands before an expression by itself.
+        b"bbr0 a:$12,name",
+        b"lda a:($12),y",
+        b"lda a:",
+        b"lda #a:5",
+        b"lda ($12),x",
+        b"lda ($12,y)",
+        b"lda ($12",
+        b"lda $12,z",
+        // A carriage return is a byte as any other.
+        b"nop\r",
+        b"\r",
+        // Reserved words are no names, in any case.
+        b"A:",
+        b"z := 1",
+        b"lda s",
+        b"LdA:",
+        b"rmb7:",
+        b"Wai2: .dword",
+        b".name:",
+        b"v := name",
+        b"v := *",
+        b"v := * - 1",
+        b"v : = 1",
+        b"v := 1 2",
+        b"label: v := 1",
+        b"label: label: nop",
+        // Numbers end where their digits do.
+        b"lda $",
+        b"lda $G",
+        b"lda $123456789",
+        b"lda 12ab",
+        b"frob",
+        b"frob $12",
+        b"nop nop",
+        b"12",
+        b"\"\"",
+    ];
+    for line in rows {
+        let found = said(rt.alloc(), line)?;
+        assert_eq!(rt; found.as_str(), "Syntax");
+    }
+    Ok(())
+}
+
+/// The first bytes of `lda #$01`, one more each time.
+#[test]
+fn prefixes_of_an_immediate(rt: HostRuntime) -> Result<(), Fail> {
+    let line = b"lda #$01".as_slice();
+    let rows = [
+        "", "Syntax", "Syntax", "lda", "lda", "Syntax", "Syntax", "lda #0", "lda #1",
+    ];
+    for (n, want) in rows.iter().enumerate() {
+        let (front, _) = line.split_at(n);
+        let found = said(rt.alloc(), front)?;
+        assert_eq!(rt; found.as_str(), *want);
+    }
+    Ok(())
+}
+
+/// 80 bytes are a name, 81 are none.
+#[test]
+fn longest_name(rt: HostRuntime) -> Result<(), Fail> {
+    let mut line: Vec<u8> = vec![in rt.alloc(); b'n'; 80]?;
+    line.push(b':')?;
+    assert_eq!(rt; said(rt.alloc(), line.as_slice())?.len(), 82);
+    let mut line: Vec<u8> = vec![in rt.alloc(); b'n'; 81]?;
+    line.push(b':')?;
+    assert_eq!(rt; said(rt.alloc(), line.as_slice())?.as_str(), "Syntax");
+    Ok(())
+}
