@@ -5,3 +5,4 @@ mod memory;
 mod refused;
 mod rows;
 mod runs;
+mod settings;

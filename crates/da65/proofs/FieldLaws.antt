@@ -7,8 +7,8 @@ use Rattle.std.proofs.lemmas.List.Elements.{All-head, All-tail}
 use Rattle.stmt65.specs.Said.{Plain, Byte}
 use Rattle.stmt65.specs.Symbols.{Definition, value_in, is_known, word_in, has_zero_page_size}
 use Rattle.stmt65.specs.Coding.{Field, Fixed, Single, ZeroPage, LowFirst, Distance, is_field_known, field_fits, field_bytes, field_len, coding_len, datum_fields, is_near, distance}
+use Rattle.map65.specs.ImageView.{AreBytes}
 use Rattle.da65.specs.Statements.{target_of}
-use Rattle.da65.specs.ReassemblyLaw.{AreBytes}
 
 -- ---- numbers
 

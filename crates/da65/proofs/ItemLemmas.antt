@@ -6,7 +6,7 @@ use Rattle.isa65.specs.Opcodes.{Table, decoded}
 use Rattle.isa65.specs.declared.mode.Mode.{Mode}
 use Rattle.isa65.specs.declared.mode.Mode.TheVariants.{Imp}
 use Rattle.isa65.specs.declared.op.Op.{Op}
-use Rattle.da65.specs.ImageView.{ImageView}
+use Rattle.map65.specs.ImageView.{ImageView}
 use Rattle.da65.specs.Items.{BeginsItem, ItemLaw, addresses, begins, bytes_from, end_of, instruction_in, is_inside, item_addresses, left_at, size_at, size_of, whole_in}
 use Rattle.da65.specs.Lines.{IsItemPlace, items_from}
 

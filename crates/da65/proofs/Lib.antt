@@ -1,10 +1,7 @@
-pub mod ReadLemmas
 pub mod TakenLemmas
 pub mod LineLemmas
 pub mod ItemLemmas
 pub mod NextLemmas
-pub mod RunLemmas
-pub mod Rows
 pub mod LineLaws
 pub mod FieldLaws
 pub mod ModeLaws
@@ -15,3 +12,7 @@ pub mod Reassembly
 pub mod PrintLaws
 pub mod TextLaws
 pub mod RunLaws
+pub mod CommandLemmas
+pub mod MatchLemmas
+pub mod NumberLemmas
+pub mod Rows

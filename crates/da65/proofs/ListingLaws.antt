@@ -15,11 +15,11 @@ use Rattle.stmt65.specs.SaidBack.{statement_said}
 use Rattle.stmt65.specs.Symbols.{Definition}
 use Rattle.stmt65.specs.Coding.{coding, coding_len}
 use Rattle.stmt65.specs.Meaning.{State, operation_in, final, fault_of, bytes_of, after, fields_of, next_of, cpu_after, defined_by, has_unknown_cpu, has_no_form, is_undefined, is_twice, is_out_of_range, is_past_end}
-use Rattle.da65.specs.ImageView.{ImageView, IsPlaced}
+use Rattle.map65.specs.ImageView.{AreBytes, ImageView, IsPlaced}
 use Rattle.da65.specs.Items.{instruction_in, size_at, size_of}
 use Rattle.da65.specs.Lines.{IsItemPlace, items_from}
 use Rattle.da65.specs.Statements.{held, statement_at, statement_in}
-use Rattle.da65.specs.ReassemblyLaw.{AreBytes, header_statements, item_in, reading_of_statement, readings_of, statements_of}
+use Rattle.da65.specs.ReassemblyLaw.{header_statements, item_in, reading_of_statement, readings_of, statements_of}
 use Rattle.da65.proofs.FieldLaws.{no_fields}
 use Rattle.da65.proofs.ItemLemmas.{bytes_from-index, first-place, items-end, items-first, items-next, next-place, size_at-fits, size_at-index, size_at-positive}
 use Rattle.da65.proofs.LineLaws.{Block, block_append, block_none, block_one}

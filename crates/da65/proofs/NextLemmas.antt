@@ -3,7 +3,7 @@ use Rattle.std.proofs.Common.{◌≡◌, ◌∙◌, ℕ, ◌+◌, ◌<◌, ◌�
 use Rattle.isa65.specs.Cpu.{table_of}
 use Rattle.isa65.specs.declared.cpu.Cpu.{Cpu}
 use Rattle.stmt65.specs.declared.statement.Statement.TheVariants.{SetCpu, Blank, Remark}
-use Rattle.da65.specs.ImageView.{ImageView, IsPlaced}
+use Rattle.map65.specs.ImageView.{ImageView, IsPlaced}
 use Rattle.da65.specs.Items.{instruction_in, size_at, size_of}
 use Rattle.da65.specs.Lines.{IsItemPlace, IsPlace, item_lines_from, items_from, lines_from}
 use Rattle.da65.specs.Listing.{header_lines, item_line, line, lines_of}

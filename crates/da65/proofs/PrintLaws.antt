@@ -20,10 +20,10 @@ use Rattle.stmt65.specs.SaidBack.{HasNames, HasNamesIn, PrintsAs, statement_said
 use Rattle.stmt65.specs.Widths.{AreWordWide, IsInWidth}
 use Rattle.stmt65.proofs.OneLine.{one_line}
 use Rattle.stmt65.proofs.ReadBack.{reads_back}
+use Rattle.map65.specs.ImageView.{AreBytes}
 use Rattle.da65.specs.Items.{instruction_in}
 use Rattle.da65.specs.Listing.{line, no_remarks}
 use Rattle.da65.specs.Statements.{byte_of, word_of, bytes_statement, is_forced, operands_of, statement_in, statement_of, target_of, written}
-use Rattle.da65.specs.ReassemblyLaw.{AreBytes}
 use Rattle.da65.proofs.FieldLaws.{target_is}
 use Rattle.da65.proofs.StandsLaws.{at_some, begins_with, len_positive}
 

@@ -21,9 +21,10 @@ use Rattle.stmt65.specs.SaidBack.{form_said, statement_said}
 use Rattle.stmt65.specs.Symbols.{Definition}
 use Rattle.stmt65.specs.Coding.{Field, Fixed, coding, datum_fields}
 use Rattle.stmt65.specs.Meaning.{State, operation_in, fields_of, next_of, defined_by, has_unknown_cpu, has_no_form, is_undefined, is_twice, is_out_of_range, is_past_end, fault_of, bytes_of, cpu_after, after}
+use Rattle.map65.specs.ImageView.{AreBytes}
 use Rattle.da65.specs.Items.{instruction_in, size_of, whole_in}
 use Rattle.da65.specs.Statements.{operands_of, is_forced, written, statement_of, statement_in, bytes_statement}
-use Rattle.da65.specs.ReassemblyLaw.{AreBytes, fields_in, CodesInMode, IsWritten, item_in}
+use Rattle.da65.specs.ReassemblyLaw.{fields_in, CodesInMode, IsWritten, item_in}
 use Rattle.da65.proofs.FieldLaws.{FieldsGive, fixed_gives, data_give}
 use Rattle.da65.proofs.WrittenLaws.{code_written, codes_other, bytes_written}
 

@@ -3,7 +3,7 @@ use Rattle.std.proofs.Common.{subst, ◌∷◌, ◌≡◌, ℕ, ◌-◌, List, �
 use Rattle.std.proofs.lemmas.List.{take-append-drop, take_rest, append-nil, nil_from_length}
 use Rattle.std.specs.Io.KnownBytes.{Appends}
 use Rattle.da65.specs.Listing.{text_of}
-use Rattle.da65.specs.Device.{HasTaken, AppendsFront}
+use Rattle.map65.specs.Device.{HasTaken, AppendsFront}
 
 -- two growths are one
 pub Appends-more : (old mid new : Option (List ℕ)) (a b : List ℕ) → Appends old mid a → Appends mid new b → Appends old new (a ++ b)

@@ -15,11 +15,11 @@ use Rattle.stmt65.specs.Lexing.{parts}
 use Rattle.stmt65.specs.Reading.{reading_of}
 use Rattle.stmt65.specs.Lines.{onto_first, text_lines}
 use Rattle.stmt65.specs.Meaning.{meaning, meaning_of, readings}
-use Rattle.da65.specs.ImageView.{ImageView, IsPlaced}
+use Rattle.map65.specs.ImageView.{AreBytes, ImageView, IsPlaced}
 use Rattle.da65.specs.Items.{addresses, begins, item_addresses}
 use Rattle.da65.specs.Listing.{header_lines, item_line, line, lines_of, text_of}
 use Rattle.da65.specs.Statements.{held, statement_at, statement_in}
-use Rattle.da65.specs.ReassemblyLaw.{AreBytes, TextGivesImage, reading_of_statement, statements_of}
+use Rattle.da65.specs.ReassemblyLaw.{TextGivesImage, reading_of_statement, statements_of}
 use Rattle.da65.proofs.ItemLemmas.{bytes_from-index}
 use Rattle.da65.proofs.PrintLaws.{CanPrint, item_prints, prints}
 use Rattle.da65.proofs.Reassembly.{listing_gives_image}

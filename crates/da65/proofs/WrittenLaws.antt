@@ -15,8 +15,9 @@ use Rattle.stmt65.specs.Said.{Plain, Instr, Straight, WithX, WithY}
 use Rattle.stmt65.specs.SaidBack.{form_said}
 use Rattle.stmt65.specs.Symbols.{Definition, has_zero_page_size}
 use Rattle.stmt65.specs.Coding.{Fixed, ZeroPage, LowFirst, Distance, coding}
+use Rattle.map65.specs.ImageView.{AreBytes}
 use Rattle.da65.specs.Statements.{byte_of, word_of, is_forced, operands_of, target_of}
-use Rattle.da65.specs.ReassemblyLaw.{AreBytes, fields_in}
+use Rattle.da65.specs.ReassemblyLaw.{fields_in}
 use Rattle.da65.proofs.FieldLaws.{FieldsGive, no_fields, single_gives, zero_page_gives, word_gives, distance_gives, small_number, large_number, target_is}
 use Rattle.da65.proofs.ModeLaws.{codes_imp, codes_acc, codes_imm, codes_zp, codes_zpx, codes_zpy, codes_forced, codes_forced_x, codes_forced_y, codes_large, codes_large_x, codes_large_y, codes_alone, codes_alone_x, codes_alone_y, codes_rel, codes_zprel, codes_zpind, codes_ind, codes_indx, codes_absindx, codes_indy}
 

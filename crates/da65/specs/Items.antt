@@ -4,7 +4,7 @@ use Rattle.std.specs.List.{filter}
 use Rattle.isa65.specs.Mode.{len_of}
 use Rattle.isa65.specs.Opcodes.{Table, decoded}
 use Rattle.isa65.specs.declared.op.Op.{Op}
-use Rattle.da65.specs.ImageView.{ImageView}
+use Rattle.map65.specs.ImageView.{ImageView}
 
 -- the first address behind the image
 abbrev pub end_of : ImageView → ℕ

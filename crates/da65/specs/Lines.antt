@@ -5,7 +5,7 @@ use Rattle.isa65.specs.Cpu.{table_of}
 use Rattle.isa65.specs.Opcodes.{Table}
 use Rattle.isa65.specs.declared.cpu.Cpu.{Cpu}
 use Rattle.stmt65.specs.declared.statement.Statement.TheVariants.{SetCpu, Blank}
-use Rattle.da65.specs.ImageView.{ImageView, IsPlaced}
+use Rattle.map65.specs.ImageView.{ImageView, IsPlaced}
 use Rattle.da65.specs.Items.{addresses, begins, left_at}
 use Rattle.da65.specs.Listing.{item_line, line, lines_of}
 use Rattle.da65.specs.declared.lines.Place.{Place}

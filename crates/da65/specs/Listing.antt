@@ -7,7 +7,7 @@ use Rattle.stmt65.specs.Line.{line_of}
 use Rattle.stmt65.specs.declared.remarks.Remarks.{Remarks}
 use Rattle.stmt65.specs.declared.statement.Statement.{Statement}
 use Rattle.stmt65.specs.declared.statement.Statement.TheVariants.{SetCpu, Blank, Remark}
-use Rattle.da65.specs.ImageView.{ImageView}
+use Rattle.map65.specs.ImageView.{ImageView}
 use Rattle.da65.specs.Items.{item_addresses}
 use Rattle.da65.specs.Statements.{held, statement_at}
 

@@ -1,12 +1,15 @@
--- What a run gives, as a function of its options and its input.
-use Rattle.std.specs.Prelude.{ℕ, Bool, if◌then◌else◌, List, [], ◌∷◌, ◌++◌, codes, is_some, Result, Ok, Err}
-use Rattle.isa65.specs.declared.cpu.Cpu.TheVariants.{M6502}
-use Rattle.da65.specs.Image.{image_of}
-use Rattle.da65.specs.ImageView.{ImageView}
+-- What a run gives, as a function of its options, its information file and its input.
+use Rattle.std.specs.Prelude.{ℕ, Bool, if◌then◌else◌, List, [], ◌∷◌, ◌++◌, codes, decimal, is_some, Result, Ok, Err}
+use Rattle.isa65.specs.declared.cpu.Cpu.{Cpu}
+use Rattle.info65.specs.Faults.{fault_text}
+use Rattle.info65.specs.Reader.{information}
+use Rattle.info65.specs.Views.{InfoView, OptionsView, SettingsView}
+use Rattle.info65.specs.declared.fault.InfoFault.{InfoFault}
+use Rattle.map65.specs.Image.{image_of}
+use Rattle.map65.specs.ImageView.{ImageView}
+use Rattle.map65.specs.declared.image.ImageFault.{ImageFault}
+use Rattle.map65.specs.declared.image.ImageFault.TheVariants.{Empty, TooLarge, Short, Read, Memory}
 use Rattle.da65.specs.Listing.{lines_of, text_of}
-use Rattle.da65.specs.OptionsView.{OptionsView}
-use Rattle.da65.specs.declared.image.ImageFault.{ImageFault}
-use Rattle.da65.specs.declared.image.ImageFault.TheVariants.{Empty, TooLarge, Read, Memory}
 use Rattle.da65.specs.declared.outcome.Status.{Status}
 use Rattle.da65.specs.declared.outcome.Status.TheVariants.{Done, Refused}
 
@@ -17,12 +20,17 @@ pub record Outcome : Type 0 where
 
 -- ---- messages, each one line
 
-abbrev pub no_input_message : List ℕ
+-- why an information file is refused: the line of the fault in decimal, and its text
+unfoldable pub info_message : InfoFault → List ℕ
+info_message fault = codes "da65: info:" ++ decimal fault.line ++ codes ": " ++ fault_text fault.kind ++ 10 ∷ []
+
+unfoldable pub no_input_message : List ℕ
 no_input_message = codes "da65: no input file" ++ 10 ∷ []
 
 -- why an input gives no image; want of memory is no refusal and has no message
 unfoldable pub image_message : ImageFault → List ℕ
 image_message Read = codes "da65: cannot read the input" ++ 10 ∷ []
+image_message Short = codes "da65: input is too short" ++ 10 ∷ []
 image_message Empty = codes "da65: input is empty" ++ 10 ∷ []
 image_message TooLarge = codes "da65: input is too large" ++ 10 ∷ []
 image_message Memory = []
@@ -34,15 +42,23 @@ abbrev pub refused : List ℕ → Outcome
 refused message = record { listing = []; messages = message; status = Refused }
 
 -- the listing of an image, and no message
-abbrev pub done : ImageView → Outcome
-done image = record { listing = text_of (lines_of M6502 image); messages = []; status = Done }
+abbrev pub done : Cpu → ImageView → Outcome
+done cpu image = record { listing = text_of (lines_of cpu image); messages = []; status = Done }
 
-abbrev pub outcome_by : Result ImageView ImageFault → Outcome
-outcome_by (Ok image) = done image
-outcome_by (Err fault) = refused (image_message fault)
+abbrev pub outcome_by_image : Cpu → Result ImageView ImageFault → Outcome
+outcome_by_image cpu (Ok image) = done cpu image
+outcome_by_image cpu (Err fault) = refused (image_message fault)
 
--- The outcome for these options and an input of these bytes, whose reader failed or not within what is asked of it: without an
--- input name a refusal; else that of the image.
-abbrev pub outcome_of : OptionsView → List ℕ → Bool → Outcome
-outcome_of options bytes failed =
-    if is_some options.input then outcome_by (image_of options.start bytes failed) else refused no_input_message
+-- without an input name a refusal; else that of the image
+abbrev pub outcome_by_settings : SettingsView → List ℕ → Bool → Outcome
+outcome_by_settings s bytes failed =
+    if is_some s.input then outcome_by_image s.cpu (image_of s bytes failed) else refused no_input_message
+
+abbrev pub outcome_by_info : Result InfoView InfoFault → List ℕ → Bool → Outcome
+outcome_by_info (Ok i) bytes failed = outcome_by_settings i.settings bytes failed
+outcome_by_info (Err fault) bytes failed = refused (info_message fault)
+
+-- The outcome for these options, an information file of these bytes, and an input of these bytes whose reader failed or not
+-- within what is asked of it.
+abbrev pub outcome_of : OptionsView → List ℕ → List ℕ → Bool → Outcome
+outcome_of options info bytes failed = outcome_by_info (information options info) bytes failed

@@ -1,5 +1,5 @@
 -- The listing of an image, assembled from the image's start, gives the image's bytes.
-use Rattle.std.specs.Prelude.{◌≡◌, ◌↔◌, ℕ, ◌+◌, ◌<◌, ◌≤◌, Bool, true, false, List, [], ◌∷◌, ◌++◌, length, map, take, codes, Option, Some, None, Ok, All}
+use Rattle.std.specs.Prelude.{◌≡◌, ◌↔◌, ℕ, ◌+◌, ◌<◌, ◌≤◌, Bool, true, false, List, [], ◌∷◌, ◌++◌, length, map, take, codes, Option, Some, None, Ok}
 use Rattle.isa65.specs.Cpu.{table_of}
 use Rattle.isa65.specs.Opcodes.{Table, encoded}
 use Rattle.isa65.specs.declared.cpu.Cpu.{Cpu}
@@ -15,7 +15,7 @@ use Rattle.stmt65.specs.SaidBack.{value_said, form_said, statement_said}
 use Rattle.stmt65.specs.Symbols.{Definition}
 use Rattle.stmt65.specs.Coding.{Field, Fixed, Single, ZeroPage, LowFirst, Distance, coding, distance, is_near}
 use Rattle.stmt65.specs.Meaning.{State, fault_of, bytes_of, after, meaning, meaning_of}
-use Rattle.da65.specs.ImageView.{ImageView, IsPlaced}
+use Rattle.map65.specs.ImageView.{AreBytes, ImageView, IsPlaced}
 use Rattle.da65.specs.Items.{instruction_in, item_addresses, size_of}
 use Rattle.da65.specs.Listing.{lines_of, text_of}
 use Rattle.da65.specs.Statements.{held, is_forced, operands_of, statement_at, statement_in, target_of}
@@ -35,9 +35,6 @@ reading_of_statement s = Some (statement_said s)
 -- what each line of a listing says
 abbrev pub readings_of : Cpu → ImageView → List (Option Said)
 readings_of cpu image = map reading_of_statement (statements_of cpu image)
-
-abbrev pub AreBytes : List ℕ → Type 0
-AreBytes bytes = All (λ b. b < 256) bytes
 
 -- ---- instructions
 

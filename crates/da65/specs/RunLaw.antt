@@ -1,21 +1,34 @@
--- What a run that is done wrote, assembled, gives back its input.
-use Rattle.std.specs.Prelude.{◌≡◌, ℕ, List, length, Option, Result, Ok, Err}
+-- What a run that is done wrote, assembled, gives back the image.
+use Rattle.std.specs.Prelude.{◌≡◌, ℕ, Bool, List, Option, Result, Ok, Err}
 use Rattle.std.specs.Io.KnownBytes.{Appends}
 use Rattle.stmt65.specs.Meaning.{meaning}
-use Rattle.da65.specs.Image.{start_of}
-use Rattle.da65.specs.OptionsView.{OptionsView}
+use Rattle.info65.specs.Views.{InfoView}
+use Rattle.info65.specs.declared.fault.InfoFault.{InfoFault}
+use Rattle.map65.specs.Image.{image_of}
+use Rattle.map65.specs.ImageView.{ImageView}
+use Rattle.map65.specs.declared.image.ImageFault.{ImageFault}
 use Rattle.da65.specs.declared.outcome.RunFault.{RunFault}
 use Rattle.da65.specs.declared.outcome.Status.{Status}
 use Rattle.da65.specs.declared.outcome.Status.TheVariants.{Done, Refused}
 
--- a text was written that means these bytes, from this start
-pub record Took (start : ℕ) (bytes : List ℕ) (old new : Option (List ℕ)) : Type 0 where
+-- a text was written that means the image's bytes, from its start
+pub record Took (image : ImageView) (old new : Option (List ℕ)) : Type 0 where
   pub text : List ℕ
   pub taken : Appends old new text
-  pub means : meaning start text ≡ Ok bytes
+  pub means : meaning image.start text ≡ Ok image.bytes
 
--- where the answer is Done, what was written on the output means the input's bytes, from the image's start
-abbrev pub Reassembles : Result Status RunFault → OptionsView → List ℕ → Option (List ℕ) → Option (List ℕ) → Type 0
-Reassembles (Ok Done) options bytes old new = Took (start_of options.start (length bytes)) bytes old new
-Reassembles (Ok Refused) options bytes old new = Unit {0}
-Reassembles (Err fault) options bytes old new = Unit {0}
+-- there is an image, and such a text was written
+abbrev pub TookImage : Result ImageView ImageFault → Option (List ℕ) → Option (List ℕ) → Type 0
+TookImage (Ok image) old new = Took image old new
+TookImage (Err fault) old new = ⊥
+
+-- the same of the image that the information file and an input give, whose reader failed or not
+abbrev pub TookImageOf : Result InfoView InfoFault → List ℕ → Bool → Option (List ℕ) → Option (List ℕ) → Type 0
+TookImageOf (Ok i) bytes failed old new = TookImage (image_of i.settings bytes failed) old new
+TookImageOf (Err fault) bytes failed old new = ⊥
+
+-- where the answer is Done, what was written on the output means the image's bytes, from its start
+abbrev pub Reassembles : Result Status RunFault → Result InfoView InfoFault → List ℕ → Bool → Option (List ℕ) → Option (List ℕ) → Type 0
+Reassembles (Ok Done) info bytes failed old new = TookImageOf info bytes failed old new
+Reassembles (Ok Refused) info bytes failed old new = Unit {0}
+Reassembles (Err fault) info bytes failed old new = Unit {0}

@@ -1,11 +1,14 @@
 -- What was written, for each answer of a run.
 use Rattle.std.specs.Prelude.{◌≡◌, ◌⊎◌, ℕ, List, Option, Result, Ok, Err}
 use Rattle.std.specs.Io.KnownBytes.{Keeps, Appends}
+use Rattle.info65.specs.Views.{InfoView}
+use Rattle.info65.specs.declared.fault.InfoFault.{InfoFault}
+use Rattle.map65.specs.Device.{one_more, AppendsFront}
+use Rattle.map65.specs.Image.{limit_of}
 use Rattle.da65.specs.declared.outcome.Status.{Status}
 use Rattle.da65.specs.declared.outcome.Status.TheVariants.{Done, Refused}
 use Rattle.da65.specs.declared.outcome.RunFault.{RunFault}
 use Rattle.da65.specs.declared.outcome.RunFault.TheVariants.{Memory, Write, Messages}
-use Rattle.da65.specs.Device.{one_more, AppendsFront}
 use Rattle.da65.specs.Outcome.{Outcome}
 
 -- the outcome was given whole; or what failed took a front of its part, and what comes after it took nothing
@@ -22,6 +25,19 @@ Refuses (Ok Done) message old new = ⊥
 Refuses (Err Messages) message old new = AppendsFront old new message
 Refuses (Err Memory) message old new = ⊥
 Refuses (Err Write) message old new = ⊥
+
+-- the same, or memory was refused before and nothing was written
+abbrev pub RefusesOrGivesUp : Result Status RunFault → List ℕ → Option (List ℕ) → Option (List ℕ) → Type 0
+RefusesOrGivesUp (Ok Refused) message old new = Appends old new message
+RefusesOrGivesUp (Ok Done) message old new = ⊥
+RefusesOrGivesUp (Err Messages) message old new = AppendsFront old new message
+RefusesOrGivesUp (Err Memory) message old new = Keeps old new
+RefusesOrGivesUp (Err Write) message old new = ⊥
+
+-- how many bytes of the input are read at most: none where the information file is refused
+abbrev pub most_read : Result InfoView InfoFault → ℕ
+most_read (Ok i) = limit_of i.settings
+most_read (Err fault) = 0
 
 -- the count of failed writes of the listing rises by one exactly where the answer is that one failed
 abbrev pub OutCount : Result Status RunFault → ℕ → ℕ → Type 0

@@ -13,7 +13,7 @@ use Rattle.stmt65.specs.declared.statement.Operands.{Operands}
 use Rattle.stmt65.specs.declared.statement.Operands.TheVariants as operands
 use Rattle.stmt65.specs.declared.statement.Statement.{Statement}
 use Rattle.stmt65.specs.declared.statement.Statement.TheVariants.{Instr, Bytes, SetCpu, Blank, Remark}
-use Rattle.da65.specs.ImageView.{ImageView}
+use Rattle.map65.specs.ImageView.{ImageView}
 use Rattle.da65.specs.Items.{bytes_from, instruction_in}
 
 -- ---- statements that hold their texts

@@ -1,27 +1,36 @@
 //! Listings of binary images as ca65 source.
 //!
-//! [`run`] reads an image from a [`Source`], lists it on a [`Sink`] and tells on another why an input is
-//! refused. [`Told`] makes readers and writers of std such devices.
+//! [`run`] reads an information file and then an image from a [`Source`], lists it on a [`Sink`] and
+//! tells on another why it is refused. [`options_of`] reads a command line, and [`needs`] gives the names
+//! of the files that a run asks for. [`Told`] makes readers and writers of std such devices.
 #![tactic(auto)]
 
-mod device;
-mod image;
+mod command;
+mod help;
 mod items;
 mod laws;
 mod lines;
-mod options;
+mod messages;
+mod needed_files;
+mod needing;
+mod number;
 mod outcome;
 mod running;
 mod statements;
-mod told;
+mod usage;
+mod usage_fault;
 mod write;
 
-pub use device::{DeviceFault, Sink, Source};
+pub use help::{help_text, version_text};
+pub use info65::Options;
 pub use laws::{
     forced_where_needed, item_gives_its_bytes, listing_gives_image, mode_is_chosen_back,
     target_is_in_range, text_gives_image, unwritten_is_bytes, written_is_instruction,
 };
-pub use options::Options;
+pub use map65::{DeviceFault, Sink, Source, Told};
+pub use needed_files::Needs;
+pub use needing::needs;
 pub use outcome::{RunFault, Status};
 pub use running::{File, run};
-pub use told::Told;
+pub use usage::options_of;
+pub use usage_fault::UsageFault;

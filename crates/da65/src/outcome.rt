@@ -1,9 +1,5 @@
 //! What a run answers.
 
-ghost use Rattle.std.specs.Prelude.{◌≡◌};
-ghost use Rattle.da65.specs.Outcome.{image_message};
-
-use crate::image::ImageFault;
 use thiserror::Error;
 
 /// How a run ended that met no fault.
@@ -11,7 +7,7 @@ use thiserror::Error;
 pub enum Status {
     /// The listing was written.
     Done,
-    /// The input was refused: nothing was written but one message.
+    /// The information file or the input was refused: nothing was written but one message.
     Refused,
 }
 
@@ -27,17 +23,4 @@ pub enum RunFault {
     /// A write of the messages failed. The listing was written, and a front of the messages.
     #[error("cannot write the messages")]
     Messages,
-}
-
-/// The message of an input that gives no image: one line.
-#[tactic(auto, unfolding(crate::specs::Outcome::image_message))]
-pub fn image_message(fault: ImageFault) -> &'static [u8]
-    ensures { result.now ≡ image_message fault }
-{
-    match fault {
-        ImageFault::Read => b"da65: cannot read the input\n",
-        ImageFault::Empty => b"da65: input is empty\n",
-        ImageFault::TooLarge => b"da65: input is too large\n",
-        ImageFault::Memory => b"",
-    }
 }

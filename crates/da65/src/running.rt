@@ -1,19 +1,20 @@
-//! From an input to a listing and messages.
+//! From an information file and an input to a listing and messages.
 
-ghost use Rattle.std.specs.Prelude.{◌≡◌, ◌-◌, ◌^◌, ◌<◌, [], nat_lt, IfSome, IfOk, IsErrOf};
+ghost use Rattle.std.specs.Prelude.{◌≡◌, ◌-◌, ◌^◌, ◌<◌, nat_lt, IfSome, IfOk, IsErrOf};
 ghost use Rattle.std.specs.Io.KnownBytes.{Keeps};
-ghost use Rattle.da65.specs.Device.{TakesUpTo};
-ghost use Rattle.da65.specs.Outcome.{outcome_of};
+ghost use Rattle.info65.specs.Faults.{out_of_memory};
+ghost use Rattle.info65.specs.Reader.{information};
+ghost use Rattle.map65.specs.Device.{TakesUpTo};
+ghost use Rattle.da65.specs.Outcome.{image_message, info_message, outcome_of};
 ghost use Rattle.da65.specs.RunLaw.{Reassembles};
-ghost use Rattle.da65.specs.Running.{Writes, Refuses, OutCount, MessagesCount, FailsAtMostOnce};
+ghost use Rattle.da65.specs.Running.{Writes, Refuses, RefusesOrGivesUp, OutCount, MessagesCount, FailsAtMostOnce, most_read};
 
-use crate::device::{Sink, Source};
-use crate::image::{ImageFault, read_image};
 use crate::lines::{Lines, write_lines};
-use crate::options::Options;
-use crate::outcome::{RunFault, Status, image_message};
+use crate::messages::{image_message, info_message, no_input_message};
+use crate::outcome::{RunFault, Status};
 use crate::write::write_whole;
-use isa65::Cpu;
+use info65::{InfoFault, InfoFaultKind, Options, read_info};
+use map65::{ImageFault, Sink, Source, read_image};
 use std::alloc::Allocator;
 
 /// A file that a caller hands in, by its name.
@@ -34,16 +35,43 @@ fn refuse<M: Sink>(msgs: &mut M, message: &[u8]) -> Result<Status, RunFault>
     }
 }
 
+/// Writes the one message of an information file that is refused, or gives up where its reading met no
+/// memory.
+fn refuse_info<M: Sink>(msgs: &mut M, fault: InfoFault) -> Result<Status, RunFault>
+    ensures text { RefusesOrGivesUp result (info_message fault) (M.taken msgs.old) (M.taken msgs.new) }
+    ensures memory { fault ≡ out_of_memory → IsErrOf result RunFault.Memory }
+    ensures count { MessagesCount result (M.faults msgs.old) (M.faults msgs.new) }
+{
+    if fault.kind == InfoFaultKind::Memory {
+        return Err(RunFault::Memory);
+    }
+    refuse(msgs, info_message(fault).as_slice())
+}
+
+/// Writes the one message of an input that gives no image, or gives up where its reading met no memory.
+fn refuse_image<M: Sink>(msgs: &mut M, fault: ImageFault) -> Result<Status, RunFault>
+    ensures text { RefusesOrGivesUp result (image_message fault) (M.taken msgs.old) (M.taken msgs.new) }
+    ensures memory { fault ≡ ImageFault.Memory → IsErrOf result RunFault.Memory }
+    ensures count { MessagesCount result (M.faults msgs.old) (M.faults msgs.new) }
+{
+    match fault {
+        ImageFault::Memory => Err(RunFault::Memory),
+        _ => refuse(msgs, image_message(fault)),
+    }
+}
+
 /// Lists the input on `out` as source for ca65, and writes on `msgs` why it is refused.
 ///
-/// The first of these refuses it, with one message and no listing: there is no input name, the reader
-/// fails, the input is empty, it is too large (more than 65,536 bytes, or past $FFFF from its start on).
-/// At most 65,537 bytes are read.
+/// The options of the command line and the information file `info`, of which no file is the empty one,
+/// give the settings. The first of these refuses the run, with one message and no listing: the
+/// information file has a fault; there is no input name; the reader fails; the input has fewer bytes than
+/// INPUTSIZE says behind the first INPUTOFFS; it is empty; it is too large (more than 65,536 bytes, or
+/// past $FFFF from its start on). Help and version play no part.
 ///
-/// All memory is taken before the first byte is written, so after `Memory` nothing was. A write that
-/// fails, or that takes no byte, is the fault `Write` or `Messages`, and is not tried again. `info` is the
-/// information file, which is empty, and `files` are not looked at.
-pub fn run<A: Allocator, N: Allocator, R: Source, W: Sink, M: Sink>(
+/// Behind INPUTOFFS bytes at most INPUTSIZE bytes are read, or without a size 65,537. All memory is taken
+/// before the first byte is written, so after `Memory` nothing was. A write that fails, or that takes no
+/// byte, is the fault `Write` or `Messages`, and is not tried again. `files` are not looked at.
+pub fn run<A: Allocator + Copy, N: Allocator, R: Source, W: Sink, M: Sink>(
     alloc: A,
     options: &Options<N>,
     info: &[u8],
@@ -52,39 +80,42 @@ pub fn run<A: Allocator, N: Allocator, R: Source, W: Sink, M: Sink>(
     out: &mut W,
     msgs: &mut M,
 ) -> Result<Status, RunFault>
-    requires { info.now ≡ [] }
-    // The listing, the messages and the status are those of the options and the input.
+    // The listing, the messages and the status are those of the options, the information file and the input.
     ensures answer { R.faults input.old < 2 ^ 64 - 1 → IfSome (R.left input.old) (λ bytes.
-        Writes result (outcome_of options.now bytes (nat_lt (R.faults input.old) (R.faults input.new)))
+        Writes result (outcome_of options.now info.entry.now bytes (nat_lt (R.faults input.old) (R.faults input.new)))
         (W.taken out.old) (W.taken out.new) (M.taken msgs.old) (M.taken msgs.new)) }
 
-    // What was written where the answer is Done means the input's bytes, from the image's start.
+    // What was written where the answer is Done means the image's bytes, from its start.
     ensures reassembles { R.faults input.old < 2 ^ 64 - 1 → IfSome (R.left input.old) (λ bytes.
-        Reassembles result options.now bytes (W.taken out.old) (W.taken out.new)) }
+        Reassembles result (information options.now info.entry.now) bytes (nat_lt (R.faults input.old) (R.faults input.new))
+        (W.taken out.old) (W.taken out.new)) }
 
     // These need nothing of the reader.
     ensures memory { IsErrOf result RunFault.Memory → Keeps (W.taken out.old) (W.taken out.new) }
     ensures memory_messages { IsErrOf result RunFault.Memory → Keeps (M.taken msgs.old) (M.taken msgs.new) }
     ensures write { IsErrOf result RunFault.Write → Keeps (M.taken msgs.old) (M.taken msgs.new) }
     ensures refused { IfOk result (λ status. status ≡ Status.Refused → Keeps (W.taken out.old) (W.taken out.new)) }
-    ensures reads { TakesUpTo 65537 (R.left input.old) (R.left input.new) }
+    ensures reads { TakesUpTo (most_read (information options.now info.entry.now)) (R.left input.old) (R.left input.new) }
 
     // Each fault is told, and no other.
     ensures out_count { OutCount result (W.faults out.old) (W.faults out.new) }
     ensures messages_count { MessagesCount result (M.faults msgs.old) (M.faults msgs.new) }
     ensures input_count { FailsAtMostOnce (R.faults input.old) (R.faults input.new) }
 {
-    let _ = info;
     let _ = files;
-    if options.input().is_none() {
-        return refuse(msgs, b"da65: no input file\n");
-    }
-    let image = match read_image(alloc, options.start(), input) {
-        Ok(image) => image,
-        Err(ImageFault::Memory) => return Err(RunFault::Memory),
-        Err(fault) => return refuse(msgs, image_message(fault)),
+    let info = match read_info(alloc, options, info) {
+        Ok(info) => info,
+        Err(fault) => return refuse_info(msgs, fault),
     };
-    match write_lines(Lines::new(Cpu::M6502, &image), out) {
+    let settings = info.settings();
+    if settings.input.is_none() {
+        return refuse(msgs, no_input_message());
+    }
+    let image = match read_image(alloc, &info, input) {
+        Ok(image) => image,
+        Err(fault) => return refuse_image(msgs, fault),
+    };
+    match write_lines(Lines::new(settings.cpu, &image), out) {
         Ok(()) => Ok(Status::Done),
         Err(_) => Err(RunFault::Write),
     }

@@ -2,9 +2,9 @@
 
 ghost use Rattle.std.specs.Prelude.{OnOk, OnErr};
 ghost use Rattle.std.specs.Io.KnownBytes.{Appends};
-ghost use Rattle.da65.specs.Device.{Counts, AppendsFront};
+ghost use Rattle.map65.specs.Device.{Counts, AppendsFront};
 
-use crate::device::{DeviceFault, Sink};
+use map65::{DeviceFault, Sink};
 
 /// Writes the bytes, write after write, until all are taken or one write fails. No write is tried again.
 #[tactic(auto, using(crate::proofs::TakenLemmas::taken_more, crate::proofs::TakenLemmas::taken_all))]

@@ -1,6 +1,6 @@
 // Worked rows, each with ample memory.
 use crate::tests::runs::{HEADER, THREE, THREE_LISTING, named, run_over};
-use da65::{Options, Status};
+use da65::Status;
 use std::test::Fail;
 
 #[test]
@@ -130,18 +130,5 @@ fn size_limits(rt: HostRuntime) -> Result<(), Fail> {
         assert!(rt; ran.listing.is_empty());
         assert_eq!(rt; ran.messages.as_slice(), refusal.message);
     }
-    Ok(())
-}
-
-#[test]
-fn no_input_name(rt: HostRuntime) -> Result<(), Fail> {
-    let options: Options = Options::new(None, None);
-    let ran = run_over(rt.alloc(), rt.alloc(), &options, THREE);
-    assert_eq!(rt; ran.result, Ok(Status::Refused));
-    assert!(rt; ran.listing.is_empty());
-    assert_eq!(rt;
-        ran.messages.as_slice(),
-        b"da65: no input file\n".as_slice()
-    );
     Ok(())
 }

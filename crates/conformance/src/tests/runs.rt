@@ -21,17 +21,36 @@ pub struct Ran {
 
 /// Options with an input name and this start.
 pub fn named(alloc: Global, start: Option<u16>) -> Result<Options, AllocError> {
-    Ok(Options::new(Some(String::from_str(alloc, "image.bin")?), start))
+    let mut options = Options::none();
+    options.input = Some(String::from_str(alloc, "image.bin")?);
+    options.start = start;
+    Ok(options)
 }
 
-/// A run with these options over memory, with ample memory but for `heap`.
-pub fn run_over<A: Allocator>(alloc: Global, heap: A, options: &Options, image: &[u8]) -> Ran {
+/// A run with these options over memory, without an information file, with ample memory but for `heap`.
+pub fn run_over<A: Allocator + Copy>(
+    alloc: Global,
+    heap: A,
+    options: &Options,
+    image: &[u8],
+) -> Ran {
+    run_with(alloc, heap, options, &[], image)
+}
+
+/// The same with an information file.
+pub fn run_with<A: Allocator + Copy>(
+    alloc: Global,
+    heap: A,
+    options: &Options,
+    info: &[u8],
+    image: &[u8],
+) -> Ran {
     let mut listing = Vec::new(alloc);
     let mut messages = Vec::new(alloc);
     let result = run(
         heap,
         options,
-        &[],
+        info,
         &[],
         &mut Told::new(image),
         &mut Told::new(&mut listing),

@@ -1,5 +1,5 @@
 use Rattle.std.proofs.Common.{◌≡◌, length}
-use Rattle.da65.specs.Device.{HasTaken}
+use Rattle.map65.specs.Device.{HasTaken}
 use Rattle.da65.specs.Listing.{text_of}
 use Rattle.da65.proofs.lines.write_lines.Given as goal
 

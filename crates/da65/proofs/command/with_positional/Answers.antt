@@ -1,0 +1,7 @@
+use Rattle.std.proofs.Common.{refl}
+use Rattle.std.proofs.lemmas.Result.{IfOk-weaker}
+use Rattle.da65.proofs.CommandLemmas.{with_arg}
+use Rattle.da65.proofs.command.with_positional.Goals as goal
+
+pub returns : goal.returns
+returns c = IfOk-weaker c.arg.result _ _ (λ new adds. with_arg adds refl (record { rule = c.new.ensures.rule; here = c.new.ensures.optional.1 })) c.arg.ensures

@@ -1,0 +1,11 @@
+use Rattle.std.proofs.Common.{◌≡◌, ◌≤◌, min, drop}
+use Rattle.std.specs.Str.Parse.{digits_value, digits_value_after}
+use Rattle.da65.specs.Number.{are_digits}
+use Rattle.da65.proofs.number.number_in.Given as goal
+
+abbrev pub invariant-reads : goal.invariant-reads
+invariant-reads l = record {
+  capped : l.value ≤ l.limit;
+  digits : are_digits l.radix (drop l.digit-index l.digits) ≡ are_digits l.radix l.digits;
+  value : min (digits_value_after l.radix l.value (drop l.digit-index l.digits)) l.limit ≡ min (digits_value l.radix l.digits) l.limit;
+}

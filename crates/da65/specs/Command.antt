@@ -1,0 +1,49 @@
+-- The command, as `clap` sees it, and what it makes of the words.
+use Rattle.std.specs.Prelude.{◌≡◌, ℕ, List, [], ◌∷◌, Option, Some, None, Result, IfOk, codes, true}
+use Rattle.clap.specs.Words.{App, Kinds, Row, Rule, Text, app_of, fault_of, matches_of, new_app, new_rule, with_rule}
+use Rattle.clap.specs.Simple.{on_top}
+use Rattle.clap.specs.declared.Command.{Command}
+use Rattle.clap.specs.declared.builder.ArgAction.{ArgAction}
+use Rattle.clap.specs.declared.builder.ArgAction.TheVariants.{SetTrue}
+use Rattle.da65.specs.Choices.{Choice, choices, input_id}
+
+abbrev pub short_in : Text → Option ℕ
+short_in [] = None
+short_in (c ∷ cs) = Some c
+
+abbrev pub long_in : Text → Option Text
+long_in [] = None
+long_in (c ∷ cs) = Some (c ∷ cs)
+
+-- an option without a value is a flag; else it takes one value, as every argument of `clap`
+abbrev pub action_in : Text → Option ArgAction
+action_in [] = Some SetTrue
+action_in (c ∷ cs) = None
+
+-- an option as `clap`'s argument
+abbrev pub rule_for : Choice → Rule
+rule_for c = record (new_rule c.id) { short = short_in c.short; long = long_in c.long; action = action_in c.value }
+
+-- the program's name, with no help and no version of `clap`'s own
+abbrev pub bare : App
+bare = on_top (λ s. record s { disable_help_flag = true; disable_version_flag = true }) (new_app (codes "da65"))
+
+abbrev pub with_choices : App → List Choice → App
+with_choices a [] = a
+with_choices a (c ∷ cs) = with_choices (with_rule a (rule_for c)) cs
+
+-- the command: each option of the table, and at most one input name
+unfoldable pub app : App
+app = with_rule (with_choices bare choices) (new_rule input_id)
+
+-- a command with one argument more
+abbrev pub AddsRule : {E : Type 0} → Command → Rule → Result Command E → Type 0
+AddsRule old r result = IfOk result (λ c. app_of c ≡ with_rule (app_of old) r)
+
+-- the matches of the words
+unfoldable pub rows_on : List Text → List Row
+rows_on words = matches_of app words
+
+-- the faults of the words: none where they are accepted
+unfoldable pub faults_on : List Text → Kinds
+faults_on words = fault_of app words

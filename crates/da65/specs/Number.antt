@@ -1,0 +1,25 @@
+-- Numbers as they are written on the command line.
+use Rattle.std.specs.Prelude.{ℕ, List, Result, Ok, Err, Bool, ◌||◌, drop, codes, nat_eq, nat_le, length, ◌==◌, if◌then◌else◌}
+use Rattle.std.specs.List.{list_all, starts_with}
+use Rattle.std.specs.Char.{is_digit}
+use Rattle.std.specs.Str.Parse.{digits_value}
+use Rattle.da65.specs.declared.usage_fault.UsageFault.{UsageFault}
+use Rattle.da65.specs.declared.usage_fault.UsageFault.TheVariants.{BadNumber, OutOfRange}
+
+abbrev pub are_digits : ℕ → List ℕ → Bool
+are_digits radix ds = list_all (λ d. is_digit d radix) ds
+
+-- the number that the digits write; without a digit it is malformed, and so with any other byte
+unfoldable pub number_in : ℕ → ℕ → List ℕ → Result ℕ UsageFault
+number_in radix most ds =
+    if length ds == 0 then Err BadNumber
+    else (if are_digits radix ds then (if nat_le (digits_value radix ds) most then Ok (digits_value radix ds) else Err OutOfRange)
+    else Err BadNumber)
+
+-- hexadecimal after `$`, `0x` or `0X`, octal after `0`, else decimal
+unfoldable pub address_in : List ℕ → Result ℕ UsageFault
+address_in text =
+    if starts_with nat_eq text (codes "$") then number_in 16 0xFFFF (drop 1 text)
+    else (if starts_with nat_eq text (codes "0x") || starts_with nat_eq text (codes "0X") then number_in 16 0xFFFF (drop 2 text)
+    else (if starts_with nat_eq text (codes "0") then number_in 8 0xFFFF text
+    else number_in 10 0xFFFF text))

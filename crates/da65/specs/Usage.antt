@@ -1,0 +1,69 @@
+-- The options that the words give.
+use Rattle.std.specs.Prelude.{◌≡◌, ◌==◌, Bool, false, List, Option, Some, None, Result, Ok, Err, codes, length, if◌then◌else◌}
+use Rattle.std.specs.Str.{bytes_eq}
+use Rattle.std.specs.Option.{option_map_or}
+use Rattle.clap.specs.Words.{Row, Text, first_of}
+use Rattle.isa65.specs.Cpu.{cpu_named}
+use Rattle.isa65.specs.declared.cpu.Cpu.{Cpu}
+use Rattle.info65.specs.Views.{OptionsView}
+use Rattle.da65.specs.Choices.{cpu_choice, help_choice, info_choice, input_id, output_choice, start_choice, version_choice}
+use Rattle.da65.specs.Command.{faults_on, rows_on}
+use Rattle.da65.specs.Number.{address_in}
+use Rattle.da65.specs.declared.usage_fault.UsageFault.{UsageFault}
+use Rattle.da65.specs.declared.usage_fault.UsageFault.TheVariants.{Words, OutOfRange, Memory}
+
+-- a refusal is that of the definition, unless memory was refused
+abbrev pub Fails : {A : Type 0} → UsageFault → Result A UsageFault → Type 0
+Fails Memory defined = Unit {0}
+Fails e defined = defined ≡ Err e
+
+-- what a call answers, seen by `seen`, is what the definition gives, unless memory was refused
+abbrev pub Gives : {X A : Type 0} → (X → A) → Result X UsageFault → Result A UsageFault → Type 0
+Gives seen (Ok x) defined = defined ≡ Ok (seen x)
+Gives seen (Err e) defined = Fails e defined
+
+-- a chain that stops at its first fault
+infixl 10 ◌>>=◌
+abbrev pub ◌>>=◌ : {A B : Type 0} → Result A UsageFault → (A → Result B UsageFault) → Result B UsageFault
+(Ok x) >>= f = f x
+(Err e) >>= f = Err e
+
+-- the value of an option, where it is given
+abbrev pub given : {A : Type 0} → (Text → Result A UsageFault) → Option Text → Result (Option A) UsageFault
+given read None = Ok None
+given read (Some text) = read text >>= λ x. Ok (Some x)
+
+-- a flag is set where its value is `true`
+abbrev pub is_set : Text → List Row → Bool
+is_set id rows = option_map_or (λ t. bytes_eq t (codes "true")) (first_of id rows) false
+
+abbrev pub known : Option Cpu → Result Cpu UsageFault
+known (Some c) = Ok c
+known None = Err OutOfRange
+
+-- the CPU of this name
+abbrev pub cpu_in : Text → Result Cpu UsageFault
+cpu_in text = known (cpu_named text)
+
+-- the matches, where the words are accepted
+unfoldable pub accepted : List Text → Result (List Row) UsageFault
+accepted words = if length (faults_on words) == 0 then Ok (rows_on words) else Err Words
+
+-- the options of the matches, or the first fault in the order of the option table
+unfoldable pub options_in : List Row → Result OptionsView UsageFault
+options_in rows = do
+  start ← given address_in (first_of start_choice.id rows)
+  cpu ← given cpu_in (first_of cpu_choice.id rows)
+  Ok (record {
+    info = first_of info_choice.id rows;
+    input = first_of input_id rows;
+    output = first_of output_choice.id rows;
+    start = start;
+    cpu = cpu;
+    help = is_set help_choice.id rows;
+    version = is_set version_choice.id rows;
+  })
+
+-- the options of the words, of which the first is the program's name
+unfoldable pub usage_of : List Text → Result OptionsView UsageFault
+usage_of words = accepted words >>= options_in

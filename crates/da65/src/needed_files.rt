@@ -1,0 +1,68 @@
+//! The files that a run asks for.
+
+ghost use Rattle.std.specs.Prelude.{◌≡◌, IfOk};
+ghost use Rattle.info65.specs.Views.{name_seen};
+ghost use Rattle.da65.specs.NeededFiles.{needs_of, nothing};
+
+use info65::Info;
+use std::alloc::{AllocError, Allocator, Global};
+use std::marker::Model;
+
+/// The names of the files that a run asks for. A contract sees each as a list of bytes.
+#[derive(Drop)]
+pub struct Needs<A: Allocator = Global> {
+    /// The name of the input file.
+    pub input: Option<String<A>>,
+    /// The name of the output file; without one it is standard output.
+    pub output: Option<String<A>>,
+    /// The names of the include files, in the order of their groups.
+    pub includes: Vec<String<A>, A>,
+}
+
+impl<A: Allocator> Model for Needs<A> {
+    ghost use Rattle.std.specs.Prelude.{map};
+    ghost use Rattle.std.specs.String.{string_bytes};
+    ghost use Rattle.info65.specs.Views.{name_seen};
+    ghost use Rattle.da65.specs.NeedsView.{NeedsView};
+
+    ghost Value = { NeedsView };
+
+    ghost view = { λ n. record { input = name_seen n.input; output = name_seen n.output; includes = map string_bytes n.includes.items } };
+}
+
+/// The names in the settings.
+pub(crate) fn needs_of<A: Allocator + Copy>(
+    alloc: A,
+    info: &Info<A>,
+) -> Result<Needs<A>, AllocError>
+    ensures { IfOk result (λ n. n ≡ needs_of info.now) }
+{
+    let settings = info.settings();
+    let input = copied(alloc, &settings.input)?;
+    let output = copied(alloc, &settings.output)?;
+    Ok(Needs {
+        input,
+        output,
+        includes: Vec::new(alloc),
+    })
+}
+
+/// No name at all.
+pub(crate) fn nothing<A: Allocator>(alloc: A) -> Needs<A>
+    ensures { result ≡ nothing }
+{
+    Needs {
+        input: None,
+        output: None,
+        includes: Vec::new(alloc),
+    }
+}
+
+fn copied<A: Allocator>(alloc: A, name: &Option<String<A>>) -> Result<Option<String<A>>, AllocError>
+    ensures { IfOk result (λ n. name_seen n ≡ name_seen name.now) }
+{
+    match name {
+        Some(name) => Ok(Some(String::from_str(alloc, name.as_str())?)),
+        None => Ok(None),
+    }
+}

@@ -1,0 +1,33 @@
+//! The files that a run asks for, by options and information file.
+
+ghost use Rattle.std.specs.Prelude.{◌≡◌, IfOk};
+ghost use Rattle.info65.specs.Reader.{information};
+ghost use Rattle.da65.specs.NeededFiles.{needs_in};
+
+use crate::needed_files::{Needs, needs_of, nothing};
+use info65::{InfoFaultKind, Options, read_info};
+use std::alloc::{AllocError, Allocator};
+
+/// The names that the options and the information file give. Where the information file is refused
+/// there is none: no file is opened or created then.
+pub fn needs<A: Allocator + Copy, B: Allocator>(
+    alloc: A,
+    options: &Options<B>,
+    info: &[u8],
+) -> Result<Needs<A>, AllocError>
+    ensures { IfOk result (λ n. n ≡ needs_in (information options.now info.now)) }
+{
+    match read_info(alloc, options, info) {
+        Ok(info) => needs_of(alloc, &info),
+        Err(fault) => {
+            if fault.kind == InfoFaultKind::Memory {
+                Err(AllocError)
+            } else {
+                Ok(nothing(alloc))
+            }
+        }
+    }
+}
+
+#[cfg(test)]
+mod tests;

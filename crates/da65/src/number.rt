@@ -1,0 +1,49 @@
+//! Numbers as they are written on the command line.
+
+ghost use Rattle.std.specs.Prelude.{IfOk, ◌≡◌, ◌≤◌};
+ghost use Rattle.da65.specs.Number.{address_in, number_in};
+
+use crate::usage_fault::UsageFault;
+
+/// The number that the digits write, at most `most`.
+#[tactic(auto, unfolding(crate::specs::Number::number_in))]
+fn number_in(digits: &[u8], radix: u32, most: u32) -> Result<u32, UsageFault>
+    requires low { 2 ≤ radix }
+    requires high { radix ≤ 36 }
+    ensures value { result ≡ number_in radix most digits.now }
+    ensures small { IfOk result (λ n. n ≤ most) }
+{
+    if digits.is_empty() {
+        return Err(UsageFault::BadNumber);
+    }
+    let limit = u64::from(most) + 1;
+    let mut value: u64 = 0;
+    'reads: for digit in digits {
+        match char::from(*digit).to_digit(radix) {
+            Some(unit) => value = (value * u64::from(radix) + u64::from(unit)).min(limit),
+            None => return Err(UsageFault::BadNumber),
+        }
+    }
+    if value == limit {
+        Err(UsageFault::OutOfRange)
+    } else {
+        Ok(value as u32)
+    }
+}
+
+/// An address from 0 to $FFFF: hexadecimal after `$`, `0x` or `0X`, octal after `0`, else decimal.
+#[tactic(auto, unfolding(crate::specs::Number::address_in))]
+pub(crate) fn address_in(text: &[u8]) -> Result<u16, UsageFault>
+    ensures { result ≡ address_in text.now }
+{
+    let (radix, digits) = if text.starts_with(b"$") {
+        (16, &text[1..])
+    } else if text.starts_with(b"0x") || text.starts_with(b"0X") {
+        (16, &text[2..])
+    } else if text.starts_with(b"0") {
+        (8, text)
+    } else {
+        (10, text)
+    };
+    Ok(number_in(digits, radix, 0xFFFF)? as u16)
+}

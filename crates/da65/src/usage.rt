@@ -1,0 +1,126 @@
+//! The options that the words of a command line give.
+
+ghost use Rattle.std.specs.Prelude.{◌≡◌, map, option_map};
+ghost use Rattle.std.specs.String.{string_bytes};
+ghost use Rattle.clap.specs.Words.{first_of, found_of, rows_of};
+ghost use Rattle.info65.specs.Views.{name_seen};
+ghost use Rattle.da65.specs.Usage.{Gives, accepted, cpu_in, given, is_set, options_in, usage_of};
+ghost use Rattle.da65.specs.Number.{address_in};
+
+use crate::command::matches_of_words;
+use crate::number::address_in;
+use crate::usage_fault::UsageFault;
+use clap::ArgMatches;
+use clap::error::ErrorKind;
+use info65::Options;
+use isa65::Cpu;
+use std::alloc::Global;
+
+/// The options that the words give. The first word is the program's name.
+///
+/// Each option and the input name stand at most once. The words are refused as `Words` where one of
+/// them fits no option or a value is missing; then a start address that is no number or above $FFFF
+/// is refused, and then a CPU that is not known. Help and version are options like the others: the
+/// other words must be accepted beside them.
+#[tactic(auto, unfolding(crate::specs::Usage::usage_of))]
+pub fn options_of(alloc: Global, words: &[String]) -> Result<Options, UsageFault>
+    ensures { Gives (λ o. o) result (usage_of (map string_bytes words.now)) }
+{
+    let matches = accepted(alloc, words)?;
+    options_in(alloc, &matches)
+}
+
+// The matches, where `clap` takes the words.
+#[tactic(auto, unfolding(crate::specs::Usage::accepted))]
+fn accepted<'a>(alloc: Global, words: &'a [String]) -> Result<ArgMatches<'a>, UsageFault>
+    ensures { Gives (λ m. rows_of (found_of m)) result (accepted (map string_bytes words.entry.now)) }
+{
+    match matches_of_words(alloc, words) {
+        Ok(matches) => Ok(matches),
+        Err(error) => {
+            if error.kind() == ErrorKind::OutOfMemory {
+                Err(UsageFault::Memory)
+            } else {
+                Err(UsageFault::Words)
+            }
+        }
+    }
+}
+
+// The options of the matches: what can be refused first, in the order of the option table.
+#[tactic(auto, unfolding(crate::specs::Usage::options_in))]
+fn options_in(alloc: Global, matches: &ArgMatches) -> Result<Options, UsageFault>
+    ensures { Gives (λ o. o) result (options_in (rows_of (found_of matches.now))) }
+{
+    let start = start_in(text_of(matches, "start"))?;
+    let cpu = chosen_cpu(text_of(matches, "cpu"))?;
+    let info = owned(alloc, text_of(matches, "info"))?;
+    let input = owned(alloc, text_of(matches, "input"))?;
+    let output = owned(alloc, text_of(matches, "output"))?;
+    let help = is_set(matches, "help");
+    let version = is_set(matches, "version");
+    Ok(Options {
+        info,
+        input,
+        output,
+        start,
+        cpu,
+        help,
+        version,
+    })
+}
+
+#[tactic(auto, using(crate::proofs::MatchLemmas::read_rows))]
+fn text_of<'a>(matches: &ArgMatches<'a>, id: &str) -> Option<&'a str>
+    ensures { option_map (λ s. s.now) result ≡ first_of id.now (rows_of (found_of matches.now)) }
+{
+    matches.get_str(id)
+}
+
+fn is_set(matches: &ArgMatches, id: &str) -> bool
+    ensures { result ≡ is_set id.now (rows_of (found_of matches.now)) }
+{
+    match text_of(matches, id) {
+        Some(text) => text == "true",
+        None => false,
+    }
+}
+
+fn start_in(text: Option<&str>) -> Result<Option<u16>, UsageFault>
+    ensures { result ≡ given address_in (option_map (λ s. s.now) text.entry) }
+{
+    match text {
+        Some(text) => Ok(Some(address_in(text.as_bytes())?)),
+        None => Ok(None),
+    }
+}
+
+fn chosen_cpu(text: Option<&str>) -> Result<Option<Cpu>, UsageFault>
+    ensures { result ≡ given cpu_in (option_map (λ s. s.now) text.entry) }
+{
+    match text {
+        Some(text) => Ok(Some(cpu_in(text)?)),
+        None => Ok(None),
+    }
+}
+
+fn owned(alloc: Global, text: Option<&str>) -> Result<Option<String>, UsageFault>
+    ensures { Gives (λ o. name_seen o) result (Ok (option_map (λ s. s.now) text.entry)) }
+{
+    match text {
+        Some(text) => Ok(Some(String::from_str(alloc, text)?)),
+        None => Ok(None),
+    }
+}
+
+fn cpu_in(text: &str) -> Result<Cpu, UsageFault>
+    ensures { result ≡ cpu_in text.now }
+{
+    match Cpu::from_bytes(text.as_bytes()) {
+        Some(cpu) => Ok(cpu),
+        None => Err(UsageFault::OutOfRange),
+    }
+}
+
+#[cfg(test)]
+mod tests;

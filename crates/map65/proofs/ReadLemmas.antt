@@ -1,0 +1,179 @@
+-- What a reader has left after one read and then another, and which image its bytes give.
+use Rattle.std.proofs.Common.{drop-drop, ◌≡◌, ℕ, ◌+◌, ◌<◌, ◌≤◌, ◌==◌, ◌||◌, refl, Bool, false, nat_lt, arith, length-append, List, [], ◌++◌, length, take, drop, Option, None, Some, IfSome, Result, Ok, Err, sym, ◌∙◌, ap, append_assoc, ⊎_elim}
+use Rattle.std.proofs.Math.Seq.{drop-append_seam}
+use Rattle.std.proofs.lemmas.List.{append-nil, take_at, take_all, length-take, drop_all}
+use Rattle.std.proofs.lemmas.Bool.{le-ltb, cases_lt, cond_both}
+use Rattle.std.proofs.lemmas.Bool.Decides.{nat_tests}
+use Rattle.std.specs.Io.KnownBytes.{Consumes, IsAtEnd, Keeps}
+use Rattle.info65.specs.Views.{SettingsView}
+use Rattle.map65.specs.Device.{TakesUpTo}
+use Rattle.map65.specs.Image.{GivesImage, IsReadTo, ReadCount, StopsAt, asked_of, image_by, image_of, is_short, most_of, sized, start_of}
+use Rattle.map65.specs.ImageView.{ImageView}
+use Rattle.map65.specs.Passing.{IsAllTaken, Takes}
+use Rattle.map65.specs.declared.image.ImageFault.{ImageFault}
+use Rattle.map65.specs.declared.image.ImageFault.TheVariants.{Empty, TooLarge, Short}
+
+-- ---- reads, one after the other
+
+-- two pieces are one
+pub took_more : (old mid new : Option (List ℕ)) (a b : List ℕ) → Consumes old mid a → Consumes mid new b → Consumes old new (a ++ b)
+took_more None mid new a b f g = tt
+took_more (Some xs) None new a b f g = absurd f
+took_more (Some xs) (Some ys) None a b f g = absurd g
+took_more (Some xs) (Some ys) (Some zs) a b f g = rw (f, g, append_assoc)
+
+-- a read that failed took none
+took_none : (old mid new : Option (List ℕ)) (a : List ℕ) → Consumes old mid a → Keeps mid new → Consumes old new a
+took_none None mid new a f g = tt
+took_none (Some xs) None new a f g = absurd f
+took_none (Some xs) (Some ys) None a f g = absurd g
+took_none (Some xs) (Some ys) (Some zs) a f g = rw g f
+
+-- at the end, all was taken
+pub took_all : (old new : Option (List ℕ)) (bytes : List ℕ) (limit : ℕ) → Consumes old new bytes → IsAtEnd new → length bytes ≤ limit → IfSome old (λ xs. bytes ≡ take limit xs)
+took_all None new bytes limit f e h = tt
+took_all (Some xs) None bytes limit f e h = absurd f
+took_all (Some xs) (Some ys) bytes limit f e h =
+    let whole : xs ≡ bytes = f ∙ (ap (λ r. bytes ++ r) e ∙ append-nil bytes) in
+    rw whole (sym (take_all limit bytes h))
+
+-- at the limit, that much was
+pub took_limit : (old new : Option (List ℕ)) (bytes : List ℕ) (limit : ℕ) → Consumes old new bytes → length bytes ≡ limit → IfSome old (λ xs. bytes ≡ take limit xs)
+took_limit None new bytes limit f h = tt
+took_limit (Some xs) None bytes limit f h = absurd f
+took_limit (Some xs) (Some ys) bytes limit f h = rw f (sym (take_at bytes ys limit h))
+
+-- at the end, nothing is left behind the limit
+pub rest_end : (old new : Option (List ℕ)) (bytes : List ℕ) (limit : ℕ) → Consumes old new bytes → IsAtEnd new → length bytes ≤ limit → IsReadTo limit old new
+rest_end None new bytes limit f e h = tt
+rest_end (Some xs) None bytes limit f e h = absurd f
+rest_end (Some xs) (Some ys) bytes limit f e h =
+    let whole : xs ≡ bytes = f ∙ (ap (λ r. bytes ++ r) e ∙ append-nil bytes) in
+    ap Some (e ∙ sym (ap (drop limit) whole ∙ drop_all limit bytes h))
+
+drop_at : (bytes ys : List ℕ) (limit : ℕ) → length bytes ≡ limit → drop limit (bytes ++ ys) ≡ ys
+drop_at bytes ys limit is = rw (← is) (drop-append_seam bytes ys)
+
+-- at the limit, what is left stands behind it
+pub rest_limit : (old new : Option (List ℕ)) (bytes : List ℕ) (limit : ℕ) → Consumes old new bytes → length bytes ≡ limit → IsReadTo limit old new
+rest_limit None new bytes limit f h = tt
+rest_limit (Some xs) None bytes limit f h = absurd f
+rest_limit (Some xs) (Some ys) bytes limit f h = ap Some (sym (ap (drop limit) f ∙ drop_at bytes ys limit h))
+
+-- what was taken at first, and then in a read, is within the limit
+pub took_up_to : (old mid new : Option (List ℕ)) (a b : List ℕ) (limit : ℕ) → Consumes old mid a → Consumes mid new b → length a + length b ≤ limit → TakesUpTo limit old new
+took_up_to old mid new a b limit f g h = record {
+  bytes = a ++ b;
+  bound = omega (arith, length-append a b);
+  taken = took_more old mid new a b f g;
+}
+
+-- ---- bytes that are passed over
+
+same_bytes : (old : Option (List ℕ)) → Consumes old old []
+same_bytes None = tt
+same_bytes (Some xs) = refl
+
+pub takes_none : (old : Option (List ℕ)) (n : ℕ) → n ≡ 0 → Takes n old old
+takes_none old n is = record { bytes = []; count_is = sym is; taken = same_bytes old }
+
+pub takes_more : (old mid new : Option (List ℕ)) (b : List ℕ) (n m : ℕ) → Takes n old mid → Consumes mid new b → n + length b ≡ m → Takes m old new
+takes_more old mid new b n m t g is = record {
+  bytes = t.bytes ++ b;
+  count_is = omega (arith, length-append t.bytes b, t.count_is, is);
+  taken = took_more old mid new t.bytes b t.taken g;
+}
+
+pub takes_kept : (old mid new : Option (List ℕ)) (n limit : ℕ) → Takes n old mid → Keeps mid new → n ≤ limit → TakesUpTo limit old new
+takes_kept old mid new n limit t g le = record { bytes = t.bytes; bound = omega (arith, t.count_is); taken = took_none old mid new t.bytes t.taken g }
+
+pub takes_up_to : (old new : Option (List ℕ)) (n limit : ℕ) → Takes n old new → n ≤ limit → TakesUpTo limit old new
+takes_up_to old new n limit t le = record { bytes = t.bytes; bound = omega (arith, t.count_is); taken = t.taken }
+
+pub passed_all : (old new : Option (List ℕ)) (n : ℕ) → Takes n old new → IsReadTo n old new
+passed_all old new n t = rest_limit old new t.bytes n t.taken t.count_is
+
+all_taken : (old new : Option (List ℕ)) (bytes : List ℕ) (limit : ℕ) → Consumes old new bytes → IsAtEnd new → length bytes ≤ limit → IsAllTaken limit old new
+all_taken None new bytes limit f e h = tt
+all_taken (Some xs) None bytes limit f e h = absurd f
+all_taken (Some xs) (Some ys) bytes limit f e h =
+    let whole : xs ≡ bytes = f ∙ (ap (λ r. bytes ++ r) e ∙ append-nil bytes) in
+    (ap (drop limit) whole ∙ drop_all limit bytes h, ap Some e)
+
+pub passed_end : (old mid new : Option (List ℕ)) (b : List ℕ) (n limit : ℕ) → Takes n old mid → Consumes mid new b → IsAtEnd new → n + length b ≤ limit → IsAllTaken limit old new
+passed_end old mid new b n limit t g e le = all_taken old new (t.bytes ++ b) limit (took_more old mid new t.bytes b t.taken g) e (omega (arith, length-append t.bytes b, t.count_is))
+
+-- ---- which image some bytes give
+
+-- what holds of each answer holds of the image of some bytes
+image_cases : (P : Result ImageView ImageFault → Type 0) (start size : Option ℕ) (xs : List ℕ) → P (Err Short) → P (Err Empty) → P (Err TooLarge) → ((v : ImageView) → P (Ok v)) → P (image_by start size xs)
+unfolding image_by
+image_cases P start size xs short empty large ok =
+    cond_both (is_short size (length xs)) _ _ P (λ _. short)
+    (λ _. cond_both (length xs == 0) _ _ P (λ _. empty)
+    (λ _. cond_both (nat_lt 65536 (length xs) || nat_lt 65536 (start_of start (length xs) + length xs)) _ _ P (λ _. large) (λ _. ok _)))
+
+-- more bytes than an image may have are too many, from any start
+too_large : (start : Option ℕ) (xs : List ℕ) → 65536 < length xs → image_by start None xs ≡ Err TooLarge
+unfolding image_by
+too_large start xs many = grind (arith, nat_tests)
+
+-- as many bytes as are taken decide what all that are asked for do
+pub image_by-take : (start size : Option ℕ) (xs : List ℕ) → image_by start size (take (most_of size) xs) ≡ image_by start size (sized size xs)
+image_by-take start None xs =
+    ⊎_elim
+    (λ few. ap (λ (b : List ℕ). image_by start None b) (take_all 65537 xs (omega (arith, few))))
+    (λ many. too_large start (take 65537 xs) (omega (arith, many, length-take 65537 xs)) ∙ sym (too_large start xs (omega (arith, many))))
+    (cases_lt (length xs) 65537)
+image_by-take start (Some n) xs = refl
+
+-- bytes alone say nothing of the reader and of memory
+pub of_bytes : (start size : Option ℕ) (xs : List ℕ) (n : ℕ) → ReadCount (image_by start size xs) n n
+of_bytes start size xs n = image_cases (λ r. ReadCount r n n) start size xs refl refl refl (λ v. refl)
+
+-- reading went as far as it had to
+pub stops_there : (start size : Option ℕ) (xs : List ℕ) (limit : ℕ) (old new : Option (List ℕ)) → IsReadTo limit old new → StopsAt (image_by start size xs) limit old new
+stops_there start size xs limit old new is = image_cases (λ r. StopsAt r limit old new) start size xs is is is (λ v. is)
+
+-- an answer is its own
+gives_same : (start size : Option ℕ) (xs : List ℕ) → GivesImage (image_by start size xs) (image_by start size xs)
+gives_same start size xs = image_cases (λ r. GivesImage r r) start size xs refl refl refl (λ v. refl)
+
+image_calm : (s : SettingsView) (xs : List ℕ) (b : Bool) → b ≡ false → image_of s xs b ≡ image_by s.start s.size (asked_of s xs)
+unfolding image_of
+image_calm s xs b is = rw is refl
+
+-- the answer to the bytes that were taken is that to all of them
+pub image_seen : (left : Option (List ℕ)) (old new : ℕ) (s : SettingsView) (offset most : ℕ) (bytes : List ℕ) (answer : Result ImageView ImageFault) → new ≡ old → answer ≡ image_by s.start s.size bytes → offset ≡ s.offset → most ≡ most_of s.size → IfSome left (λ xs. bytes ≡ take most (drop offset xs)) → IfSome left (λ xs. GivesImage answer (image_of s xs (nat_lt old new)))
+image_seen None old new s offset most bytes answer same is at many all = tt
+image_seen (Some xs) old new s offset most bytes answer same is at many all =
+    let calm : nat_lt old new ≡ false = le-ltb old new (omega arith) in
+    let there : bytes ≡ take (most_of s.size) (drop s.offset xs) = all ∙ ap (λ n. take n (drop offset xs)) many ∙ ap (λ n. take (most_of s.size) (drop n xs)) at in
+    let whole : image_of s xs (nat_lt old new) ≡ image_by s.start s.size bytes =
+    image_calm s xs (nat_lt old new) calm ∙ sym (image_by-take s.start s.size (drop s.offset xs)) ∙ ap (image_by s.start s.size) (sym there)
+    in
+    rw (whole, is) (gives_same s.start s.size bytes)
+
+-- ---- what is taken behind bytes that were passed over
+
+pub behind_bytes : (old mid : Option (List ℕ)) (items : List ℕ) (offset limit : ℕ) → IsReadTo offset old mid → IfSome mid (λ xs. items ≡ take limit xs) → IfSome old (λ xs. items ≡ take limit (drop offset xs))
+behind_bytes None mid items offset limit p q = tt
+behind_bytes (Some xs) mid items offset limit p q = rw p at q
+
+pub behind_rest : (old mid new : Option (List ℕ)) (offset limit : ℕ) → IsReadTo offset old mid → IsReadTo limit mid new → IsReadTo (offset + limit) old new
+behind_rest None mid new offset limit p q = tt
+behind_rest (Some xs) mid new offset limit p q = let r : new ≡ Some (drop limit (drop offset xs)) = rw p at q in r ∙ ap Some (drop-drop limit offset xs)
+
+pub behind_bound : (old mid new : Option (List ℕ)) (offset limit : ℕ) → TakesUpTo offset old mid → TakesUpTo limit mid new → TakesUpTo (offset + limit) old new
+behind_bound old mid new offset limit p q = took_up_to old mid new p.bytes q.bytes (offset + limit) p.taken q.taken (omega (arith, p.bound, q.bound))
+
+pub bound_more : (old new : Option (List ℕ)) (offset limit : ℕ) → TakesUpTo offset old new → TakesUpTo (offset + limit) old new
+bound_more old new offset limit p = record { bytes = p.bytes; bound = omega (arith, p.bound); taken = p.taken }
+
+pub end_bytes : (old new : Option (List ℕ)) (offset limit : ℕ) → IsAllTaken offset old new → IfSome old (λ xs. [] ≡ take limit (drop offset xs))
+end_bytes None new offset limit p = tt
+end_bytes (Some xs) new offset limit p = sym (ap (take limit) p.0 ∙ take_all limit [] (omega arith))
+
+pub end_rest : (old new : Option (List ℕ)) (offset limit : ℕ) → IsAllTaken offset old new → IsReadTo (offset + limit) old new
+end_rest None new offset limit p = tt
+end_rest (Some xs) new offset limit p = p.1 ∙ ap Some (sym (sym (drop-drop limit offset xs) ∙ ap (drop limit) p.0 ∙ drop_all limit [] (omega arith)))

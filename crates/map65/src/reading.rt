@@ -1,0 +1,118 @@
+//! Reading an image.
+
+ghost use Rattle.std.specs.Prelude.{◌≡◌, ◌+◌, ◌-◌, ◌^◌, ◌<◌, ◌≤◌, take, drop, nat_lt, IfSome, IfOk, length};
+ghost use Rattle.map65.specs.Device.{Counts, TakesUpTo};
+ghost use Rattle.map65.specs.Image.{GivesImage, IsReadTo, ReadCount, StopsAt, TakeCount, image_of, limit_of, most_of};
+ghost use Rattle.map65.specs.ImageView.{AreBytes, IsPlaced};
+ghost use Rattle.map65.specs.Passing.{Passes};
+
+use crate::device::{DeviceFault, Source};
+use crate::image::{Image, ImageFault};
+use info65::Info;
+use std::alloc::Allocator;
+
+/// What one read takes at most.
+const CHUNK: usize = 4096;
+
+/// What is taken at most where no size is given: one byte more than an image may have.
+const LIMIT: usize = 65_537;
+
+/// Passes over so many bytes without storing them. False where the end came first.
+fn pass_over<R: Source>(input: &mut R, count: usize) -> Result<bool, DeviceFault>
+    ensures passed { Passes result count (R.left input.old) (R.left input.new) }
+    ensures bound { TakesUpTo count (R.left input.old) (R.left input.new) }
+    ensures count { Counts (R.faults input.old) (R.faults input.new) result }
+{
+    let mut chunk = [0u8; CHUNK];
+    let mut left = count;
+    'passes: while 0 < left {
+        let room = CHUNK.min(left);
+        let n = input.read_some(&mut chunk[..room])?;
+        if n == 0 {
+            return Ok(false);
+        }
+        left -= n;
+    }
+    Ok(true)
+}
+
+/// The bytes up to the end or the limit.
+#[tactic(auto, using(crate::proofs::ReadLemmas::took_more, crate::proofs::ReadLemmas::took_all, crate::proofs::ReadLemmas::took_limit, crate::proofs::ReadLemmas::rest_end, crate::proofs::ReadLemmas::rest_limit))]
+fn take_up_to<A: Allocator, R: Source>(
+    alloc: A,
+    input: &mut R,
+    limit: usize,
+) -> Result<Vec<u8, A>, ImageFault>
+    ensures bytes { IfOk result (λ v. IfSome (R.left input.old) (λ xs. v.items ≡ take limit xs)) }
+    ensures rest { IfOk result (λ _. IsReadTo limit (R.left input.old) (R.left input.new)) }
+    ensures bound { TakesUpTo limit (R.left input.old) (R.left input.new) }
+    ensures count { TakeCount result (R.faults input.old) (R.faults input.new) }
+{
+    let mut bytes = Vec::new(alloc);
+    let mut chunk = [0u8; CHUNK];
+    'reads: while bytes.len() < limit {
+        let room = CHUNK.min(limit - bytes.len());
+        let n = input.read_some(&mut chunk[..room])?;
+        if n == 0 {
+            return Ok(bytes);
+        }
+        bytes.extend_from_slice(&chunk[..n])?;
+    }
+    Ok(bytes)
+}
+
+/// The bytes behind the first `offset`, up to the end or `limit` of them.
+#[tactic(auto, using(crate::proofs::ReadLemmas::behind_bound))]
+fn take_behind<A: Allocator, R: Source>(
+    alloc: A,
+    input: &mut R,
+    offset: usize,
+    limit: usize,
+) -> Result<Vec<u8, A>, ImageFault>
+    ensures bytes { IfOk result (λ v. IfSome (R.left input.old) (λ xs. v.items ≡ take limit (drop offset xs))) }
+    ensures rest { IfOk result (λ _. IsReadTo (offset + limit) (R.left input.old) (R.left input.new)) }
+    ensures bound { TakesUpTo (offset + limit) (R.left input.old) (R.left input.new) }
+    ensures count { TakeCount result (R.faults input.old) (R.faults input.new) }
+{
+    if pass_over(input, offset)? {
+        take_up_to(alloc, input, limit)
+    } else {
+        Ok(Vec::new(alloc))
+    }
+}
+
+fn most_of(size: Option<u32>) -> usize
+    ensures { result ≡ most_of size }
+{
+    match size {
+        Some(size) => size as usize,
+        None => LIMIT,
+    }
+}
+
+/// Reads the image that the settings ask for: INPUTOFFS bytes are passed over, then INPUTSIZE bytes are
+/// taken, or without a size all to the end.
+///
+/// Reading stops at the end, at a failed read, or where INPUTOFFS and INPUTSIZE bytes were taken; without
+/// a size one byte more than an image may have is taken. The faults, in their order: `Read` where the
+/// reader failed, `Short` where fewer than INPUTSIZE bytes came, `Empty`, `TooLarge`; `Memory` only where
+/// memory was refused.
+#[tactic(auto, unfolding(crate::specs::Image::image_of))]
+pub fn read_image<A: Allocator, R: Source>(
+    alloc: A,
+    info: &Info<A>,
+    input: &mut R,
+) -> Result<Image<A>, ImageFault>
+    ensures image { R.faults input.old < 2 ^ 64 - 1 → IfSome (R.left input.old) (λ xs.
+        GivesImage result (image_of info.now.settings xs (nat_lt (R.faults input.old) (R.faults input.new)))) }
+    ensures placed { IfOk result (λ image. IsPlaced image) }
+    ensures are_bytes { IfOk result (λ image. AreBytes image.bytes) }
+    ensures rest { StopsAt result (limit_of info.now.settings) (R.left input.old) (R.left input.new) }
+    ensures bound { TakesUpTo (limit_of info.now.settings) (R.left input.old) (R.left input.new) }
+    ensures count { ReadCount result (R.faults input.old) (R.faults input.new) }
+{
+    let settings = info.settings();
+    let offset = settings.offset as usize;
+    let bytes = take_behind(alloc, input, offset, most_of(settings.size))?;
+    Image::from_bytes(settings.start, settings.size, bytes)
+}

@@ -1,0 +1,3 @@
+//! Images of worked examples, and devices that fail.
+
+mod reading;

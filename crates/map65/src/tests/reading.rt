@@ -1,0 +1,210 @@
+//! Which image an input gives, and devices that fail.
+ghost use Rattle.std.specs.Prelude.{Some};
+
+use crate::{DeviceFault, ImageFault, Sink, Told, read_image};
+use info65::{Info, Options, read_info};
+use std::alloc::Global;
+use std::io;
+use std::io::{ErrorKind, Read, Write};
+use std::process::Abort;
+use std::test::Fail;
+
+/// What a tape gives at a time, which is no divisor of what is asked of it.
+const AT_ONCE: usize = 1009;
+
+/// Gives its bytes, a few at a time, and then ends or fails, and counts what it gave.
+#[derive(Drop)]
+struct Tape<'a> {
+    bytes: &'a [u8],
+    fails: bool,
+    given: usize,
+}
+
+impl Read for Tape<'_> {
+    ghost remaining = { λ s. Some s.bytes.now };
+
+    fn read(&mut self, buf: &mut [u8]) -> io::Result<usize> {
+        if self.fails && self.bytes.is_empty() {
+            return Err(io::Error::from(ErrorKind::Other));
+        }
+        let n = buf.len().min(AT_ONCE);
+        let room = &mut buf[..n];
+        let n = self.bytes.read(room)?;
+        self.given = self.given.saturating_add(n);
+        Ok(n)
+    }
+}
+
+fn tape_of(bytes: &[u8], fails: bool) -> Tape<'_> {
+    Tape {
+        bytes,
+        fails,
+        given: 0,
+    }
+}
+
+/// What an information file says that asks for this offset, and perhaps this size and this start.
+fn info_of(
+    alloc: Global,
+    offset: u32,
+    size: Option<u32>,
+    start: Option<u16>,
+) -> Result<Info, Fail> {
+    let mut text = format!(in alloc; "GLOBAL {{ INPUTOFFS {offset}; ")?;
+    if let Some(size) = size {
+        text.push_str(&format!(in alloc; "INPUTSIZE {size}; ")?)?;
+    }
+    if let Some(start) = start {
+        text.push_str(&format!(in alloc; "STARTADDR {start}; ")?)?;
+    }
+    text.push_str("}")?;
+    Ok(read_info(alloc, &Options::<Global>::none(), text.as_bytes())?)
+}
+
+/// What is read by this information file from a tape of `count` bytes 7: the start and the
+/// number of bytes, or the fault; and how many bytes the tape gave.
+fn reads(
+    rt: &impl Abort,
+    alloc: Global,
+    count: usize,
+    fails: bool,
+    info: Info,
+) -> Result<(Result<(u16, usize), ImageFault>, usize), Fail> {
+    let bytes = vec![in alloc; 7u8; count]?;
+    let mut input = tape_of(bytes.as_slice(), fails);
+    let seen = match read_image(alloc, &info, &mut Told::new(&mut input)) {
+        Ok(image) => {
+            assert!(rt; image.bytes().iter().all(|byte| *byte == 7));
+            Ok((image.start(), image.bytes().len()))
+        }
+        Err(fault) => Err(fault),
+    };
+    Ok((seen, input.given))
+}
+
+/// Bytes on the tape, INPUTOFFS, INPUTSIZE and the start; then the image's start and bytes or the fault,
+/// and how many bytes the tape gave.
+type Reading = (
+    usize,
+    u32,
+    Option<u32>,
+    Option<u16>,
+    Result<(u16, usize), ImageFault>,
+    usize,
+);
+
+const READINGS: [Reading; 20] = [
+    (0, 0, None, None, Err(ImageFault::Empty), 0),
+    (3, 0, None, None, Ok((0xFFFD, 3)), 3),
+    (3, 0, None, Some(0x1000), Ok((0x1000, 3)), 3),
+    (3, 0, None, Some(0xFFFD), Ok((0xFFFD, 3)), 3),
+    (3, 0, None, Some(0xFFFE), Err(ImageFault::TooLarge), 3),
+    (65_536, 0, None, None, Ok((0, 65_536)), 65_536),
+    (65_537, 0, None, None, Err(ImageFault::TooLarge), 65_537),
+    (70_000, 0, None, None, Err(ImageFault::TooLarge), 65_537),
+    (70_000, 5, None, None, Err(ImageFault::TooLarge), 65_542),
+    (70_000, 10_000, None, None, Ok((0x15A0, 60_000)), 70_000),
+    (70_000, 0, Some(65_536), None, Ok((0, 65_536)), 65_536),
+    (
+        65_535,
+        0,
+        Some(65_536),
+        None,
+        Err(ImageFault::Short),
+        65_535,
+    ),
+    (10, 2, Some(3), None, Ok((0xFFFD, 3)), 5),
+    (10, 7, Some(3), Some(0), Ok((0, 3)), 10),
+    (10, 8, Some(3), None, Err(ImageFault::Short), 10),
+    (10, 11, Some(3), None, Err(ImageFault::Short), 10),
+    (0, 0, Some(1), None, Err(ImageFault::Short), 0),
+    (3, 3, None, None, Err(ImageFault::Empty), 3),
+    (3, 16_777_216, None, None, Err(ImageFault::Empty), 3),
+    (2, 0, Some(2), Some(0xFFFF), Err(ImageFault::TooLarge), 2),
+];
+
+#[test]
+fn bytes_that_the_settings_ask_for(rt: HostRuntime) -> Result<(), Fail> {
+    for (count, offset, size, start, want, given) in READINGS {
+        let info = info_of(rt.alloc(), offset, size, start)?;
+        let read = reads(&rt, rt.alloc(), count, false, info)?;
+        assert_eq!(rt; read.0, want, "{count} {offset}");
+        assert_eq!(rt; read.1, given, "{count} {offset}");
+    }
+    Ok(())
+}
+
+#[test]
+fn a_reader_that_fails(rt: HostRuntime) -> Result<(), Fail> {
+    let fault = Err(ImageFault::Read);
+    let cases = [
+        (0, 0, None, fault),
+        (3, 0, None, fault),
+        (3, 0, Some(4), fault),
+        (3, 4, None, fault),
+        (3, 3, Some(1), fault),
+        (3, 0, Some(3), Ok((0xFFFD, 3))),
+        (3, 1, Some(2), Ok((0xFFFE, 2))),
+        (65_536, 0, None, fault),
+        (65_537, 0, None, Err(ImageFault::TooLarge)),
+    ];
+    for (count, offset, size, want) in cases {
+        let info = info_of(rt.alloc(), offset, size, None)?;
+        let read = reads(&rt, rt.alloc(), count, true, info)?;
+        assert_eq!(rt; read.0, want, "{count} {offset}");
+        assert_eq!(rt; read.1, count, "{count} {offset}");
+    }
+    Ok(())
+}
+
+#[test]
+fn texts_of_faults(rt: HostRuntime) -> Result<(), Fail> {
+    let texts = [
+        (ImageFault::Empty, "input is empty"),
+        (ImageFault::TooLarge, "input is too large"),
+        (ImageFault::Short, "input is too short"),
+        (ImageFault::Read, "cannot read the input"),
+        (ImageFault::Memory, "out of memory"),
+    ];
+    for (fault, text) in texts {
+        assert_eq!(rt; format!(in rt.alloc(); "{fault}")?.as_str(), text);
+    }
+    Ok(())
+}
+
+/// Takes some bytes, then none, then fails.
+#[derive(Drop)]
+struct Full {
+    room: usize,
+    fails: bool,
+}
+
+impl Write for Full {
+    fn write(&mut self, buf: &[u8]) -> io::Result<usize> {
+        if self.fails {
+            return Err(io::Error::from(ErrorKind::Other));
+        }
+        let n = buf.len().min(self.room);
+        self.room -= n;
+        self.fails = n == 0 && !buf.is_empty();
+        Ok(n)
+    }
+
+    fn flush(&mut self) -> io::Result<()> {
+        Ok(())
+    }
+}
+
+#[test]
+fn a_write_that_takes_no_byte_has_failed(rt: HostRuntime) -> Result<(), Fail> {
+    let mut out = Told::new(Full {
+        room: 3,
+        fails: false,
+    });
+    assert_eq!(rt; out.write_some(b""), Ok(0));
+    assert_eq!(rt; out.write_some(b"ab"), Ok(2));
+    assert_eq!(rt; out.write_some(b"cd"), Ok(1));
+    assert_eq!(rt; out.write_some(b"d"), Err(DeviceFault));
+    assert_eq!(rt; out.write_some(b"d"), Err(DeviceFault));
+    Ok(())
+}
