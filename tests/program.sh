@@ -3,6 +3,7 @@
 # Usage: tests/program.sh PROGRAM
 set -u
 program=$(realpath "$1")
+root=$(realpath "$(dirname "$0")/..")
 work=$(mktemp -d)
 trap 'rm -rf "$work"' EXIT
 cd "$work" || exit 1
@@ -53,6 +54,9 @@ printf 'GLOBAL {\n@' >bad.info
 # Too many bytes, and as many as there may be: comments.
 { printf '#'; head -c 1048576 /dev/zero | tr '\0' '#'; } >large.info
 head -c 1048576 large.info >largest.info
+printf 'GLOBAL { STARTADDR $1000; };\nRANGE { START $1000; SIZE 3; TYPE WordTable; };' >words.info
+printf 'GLOBAL { STARTADDR $1000; };\nRANGE { START $1001; END $1001; TYPE Skip; };' >skip.info
+printf 'RANGE { START $1000; END $10FF; TYPE CODE; };\nRANGE { START $10FF; SIZE 2; TYPE SKIP; };' >overlap.info
 mkdir folder
 
 runs 'help' 0 "$help" '' -h
@@ -70,6 +74,17 @@ holds 'names in the information file' three.s "$three"
 runs 'settings' 0 "$header        ora     (\$60,x)\n" '' -i settings.info three.bin
 runs 'the command line wins' 0 "$header        ora     (\$60,x)\n" '' -S 0x2000 --cpu 6502 -i settings.info three.bin
 runs 'the largest information file' 0 "$three" '' -i largest.info three.bin
+
+runs 'a range' 0 "$header        .word   \$01A9\n        .byte   \$60\n" '' -i words.info three.bin
+runs 'skipped bytes' 0 "$header        .byte   \$A9\n        rts\n" \
+    'da65: warning: skipped bytes, the listing does not assemble to the image\n' -i skip.info three.bin
+hello="$header        ldx     #\$00\n        lda     \$F00E,x\n        jsr     \$FFD2\n        inx\n        cpx     #\$0A\n"
+hello+='        bne     $F002\n        rts\n        .byte   "SAY ",$22,"HI",$22,$0D,$00\n        .word   $F000,$F00E,$1234\n'
+hello+='        .dbyt   $1234,$5678\n        .byte   $01,$02,$03,$04,$05,$06,$07,$08\n        .byte   $09,$0A\n'
+(cd "$root" && "$program" -i examples/hello.info -o "$work/hello.s") || fails 'the example with tables' 'status'
+holds 'the example with tables' hello.s "$hello"
+runs 'ranges that overlap' 1 '' 'da65: info:2: ranges overlap\n' -i overlap.info -o new.s three.bin
+is_absent 'ranges that overlap' new.s
 
 echo old >out.s
 runs 'the output is created empty before a refusal' 1 '' 'da65: input is empty\n' -o out.s empty.bin

@@ -2,6 +2,7 @@ mod assembled;
 mod devices;
 mod failing;
 mod memory;
+mod ranges;
 mod refused;
 mod rows;
 mod runs;

@@ -24,7 +24,7 @@ pub large_number : (above : List Definition) (n : ℕ) → nat_lt n 256 ≡ fals
 unfolding has_zero_page_size
 large_number above n h = h
 
-number_known : (all : List Definition) (n : ℕ) → is_known all (Plain n) ≡ true
+pub number_known : (all : List Definition) (n : ℕ) → is_known all (Plain n) ≡ true
 unfolding is_known
 number_known all n = refl
 
@@ -76,10 +76,10 @@ zero_page_gives Full next n fields bytes h rest =
     (λ all full. rw (word_of_number all n (omega arith), lt-ltb n 256 h) refl)
     (λ all full. rw (word_of_number all n (omega arith)) (ap (λ (b : ℕ). b ∷ []) (low_byte n h))) rest
 
-word_low : (b c : ℕ) → b < 256 → (b + 256 * c) % 256 ≡ b
+pub word_low : (b c : ℕ) → b < 256 → (b + 256 * c) % 256 ≡ b
 word_low b c h = omega arith
 
-word_high : (b c : ℕ) → b < 256 → (b + 256 * c) / 256 ≡ c
+pub word_high : (b c : ℕ) → b < 256 → (b + 256 * c) / 256 ≡ c
 word_high b c h = omega arith
 
 pub word_gives : (Full : List Definition → Type 0) (next b c : ℕ) (fields : List Field) (bytes : List ℕ) → b < 256 → c < 256 → FieldsGive Full next fields bytes

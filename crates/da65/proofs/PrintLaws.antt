@@ -1,8 +1,8 @@
 -- Each statement of a listing can be printed, and its line reads as it.
-use Rattle.std.proofs.Common.{◌≡◌, ℕ, true, ◌+◌, ◌<◌, ◌≤◌, List, [], ◌∷◌, length, take, Option, Some, None, refl, arith}
+use Rattle.std.proofs.Common.{◌≡◌, ◌⊎◌, inl, inr, ℕ, true, ◌+◌, ◌<◌, ◌≤◌, List, [], ◌∷◌, length, take, Option, Some, None, refl, arith}
 use Rattle.std.specs.Prelude.{IfSome, nat_lt, slice_index}
 use Rattle.std.specs.List.{list_all}
-use Rattle.std.proofs.lemmas.Bool.{and_from, lt-ltb}
+use Rattle.std.proofs.lemmas.Bool.{and_from, cond_both, lt-ltb, ltb-false, ltb-true}
 use Rattle.std.proofs.lemmas.List.{length-take-le}
 use Rattle.std.proofs.lemmas.List.Elements.{All-head, All-tail, All-take}
 use Rattle.isa65.specs.Mode.{len_of}
@@ -11,29 +11,32 @@ use Rattle.isa65.specs.declared.mnemonic.Mnemonic.{Mnemonic}
 use Rattle.isa65.specs.declared.mode.Mode.{Mode}
 use Rattle.isa65.specs.declared.mode.Mode.TheVariants.{Imp, Acc, Imm, Zp, Zpx, Zpy, Abs, Absx, Absy, Ind, Indx, Indy, Zpind, Absindx, Rel, Zprel}
 use Rattle.isa65.specs.declared.op.Op.{Op}
-use Rattle.stmt65.specs.declared.statement.Operands.{Operands}
-use Rattle.stmt65.specs.declared.statement.Statement.{Statement}
+use Rattle.info65.specs.declared.range.RangeType.{RangeType}
+use Rattle.info65.specs.declared.range.RangeType.TheVariants as role
+use Rattle.stmt65.specs.Views as view
+use Rattle.stmt65.specs.Views.{OperandsView, StatementView}
 use Rattle.stmt65.specs.Columns.{default_columns}
 use Rattle.stmt65.specs.Line.{line_of}
-use Rattle.stmt65.specs.Printable.{IsPrintable, IsWrittenIn, MayBeForced}
+use Rattle.stmt65.specs.Printable.{IsPrintable, IsTable, IsWrittenIn, MayBeForced}
 use Rattle.stmt65.specs.SaidBack.{HasNames, HasNamesIn, PrintsAs, statement_said}
 use Rattle.stmt65.specs.Widths.{AreWordWide, IsInWidth}
 use Rattle.stmt65.proofs.OneLine.{one_line}
 use Rattle.stmt65.proofs.ReadBack.{reads_back}
 use Rattle.map65.specs.ImageView.{AreBytes}
-use Rattle.da65.specs.Items.{instruction_in}
+use Rattle.da65.specs.Instructions.{instruction_in}
 use Rattle.da65.specs.Listing.{line, no_remarks}
-use Rattle.da65.specs.Statements.{byte_of, word_of, bytes_statement, is_forced, operands_of, statement_in, statement_of, target_of, written}
+use Rattle.da65.specs.Statements.{byte_of, word_of, bytes_statement, is_forced, operands_of, statement_for, statement_in, statement_of, target_of, words_or_byte, written}
+use Rattle.da65.specs.Shapes.{AreWords, IsGroupOf}
 use Rattle.da65.proofs.FieldLaws.{target_is}
 use Rattle.da65.proofs.StandsLaws.{at_some, begins_with, len_positive}
 
 -- what `put_line` takes, with the widths that its types keep
-pub record CanPrint (s : Statement) : Type 0 where
+pub record CanPrint (s : StatementView) : Type 0 where
   pub printable : IsPrintable s
   pub width : IsInWidth s
   pub names : HasNames s
 
-pub prints : (s : Statement) → CanPrint s → PrintsAs (line s) (statement_said s)
+pub prints : (s : StatementView) → CanPrint s → PrintsAs (line s) (statement_said s)
 unfolding line
 prints s h = record {
   line = line_of default_columns s no_remarks;
@@ -65,7 +68,7 @@ word_small bytes are long =
     omega arith
 
 -- what the operands of a mode keep
-record Keep (mode : Mode) (os : Operands) : Type 0 where
+record Keep (mode : Mode) (os : OperandsView) : Type 0 where
   form : IsWrittenIn mode os
   width : AreWordWide os
   names : HasNamesIn os
@@ -116,7 +119,7 @@ pub item_prints : (t : Table) (a : ℕ) (bytes : List ℕ) → AreBytes bytes �
 unfolding statement_in
 item_prints t a bytes are some room = go (instruction_in t bytes) refl
   where
-    with_operands : (op : Op) → instruction_in t bytes ≡ Some op → (o : Option Operands) → operands_of op.mode a bytes ≡ o → CanPrint (written t op bytes o)
+    with_operands : (op : Op) → instruction_in t bytes ≡ Some op → (o : Option OperandsView) → operands_of op.mode a bytes ≡ o → CanPrint (written t op bytes o)
     with_operands op e None f = bytes_print (len_of op.mode) bytes are (len_positive op.mode) (len_small op.mode) (begins_with t bytes op e).long
     with_operands op e (Some os) f =
         let long : len_of op.mode ≤ length bytes = (begins_with t bytes op e).long in
@@ -126,3 +129,37 @@ item_prints t a bytes are some room = go (instruction_in t bytes) refl
     go : (o : Option Op) → instruction_in t bytes ≡ o → CanPrint (statement_of t a bytes o)
     go None e = bytes_print 1 bytes are (omega arith) (omega arith) (omega arith)
     go (Some op) e = with_operands op e (operands_of op.mode a bytes) refl
+
+-- ---- groups
+
+-- all of some bytes
+short_prints : (bytes : List ℕ) → AreBytes bytes → 0 < length bytes → length bytes ≤ 8 → CanPrint (view.bytes bytes)
+short_prints bytes are some high = record { printable = (omega (arith, some), high); width = bytes_pass bytes are; names = tt }
+
+text_prints : (bytes : List ℕ) → AreBytes bytes → 0 < length bytes → length bytes ≤ 16 → CanPrint (view.text bytes)
+text_prints bytes are some high = record { printable = (omega (arith, some), high); width = bytes_pass bytes are; names = tt }
+
+words_print : (bytes : List ℕ) → AreBytes bytes → IsTable bytes → CanPrint (view.words bytes)
+words_print bytes are is = record { printable = is; width = bytes_pass bytes are; names = tt }
+
+dbyts_print : (bytes : List ℕ) → AreBytes bytes → IsTable bytes → CanPrint (view.dbyts bytes)
+dbyts_print bytes are is = record { printable = is; width = bytes_pass bytes are; names = tt }
+
+either_prints : (whole : StatementView) (bytes : List ℕ) → AreBytes bytes → 0 < length bytes → (length bytes ≡ 1) ⊎ AreWords bytes → (IsTable bytes → CanPrint whole) → CanPrint (words_or_byte whole bytes)
+either_prints whole bytes are some group print =
+    cond_both (nat_lt (length bytes) 2) (view.bytes bytes) whole CanPrint
+    (λ one. short_prints bytes are some (omega (arith, ltb-true (length bytes) 2 one)))
+    (λ more. print (table (ltb-false (length bytes) 2 more) group))
+  where
+    table : 2 ≤ length bytes → (length bytes ≡ 1) ⊎ AreWords bytes → IsTable bytes
+    table more (inl one) = absurd (omega (arith, more, one))
+    table more (inr are) = (are.0, (more, are.1))
+
+pub group_prints : (t : Table) (r : RangeType) (a : ℕ) (bytes : List ℕ) → AreBytes bytes → 0 < length bytes → a + length bytes ≤ 65536 → IsGroupOf t r bytes → CanPrint (statement_for t r a bytes)
+unfolding statement_for
+group_prints t role.Code a bytes are some room of = item_prints t a bytes are some room
+group_prints t role.ByteTable a bytes are some room of = short_prints bytes are some of
+group_prints t role.WordTable a bytes are some room of = either_prints (view.words bytes) bytes are some of (words_print bytes are)
+group_prints t role.DbyteTable a bytes are some room of = either_prints (view.dbyts bytes) bytes are some of (dbyts_print bytes are)
+group_prints t role.TextTable a bytes are some room of = text_prints bytes are some of
+group_prints t role.Skip a bytes are some room of = absurd of

@@ -3,16 +3,17 @@ use Rattle.std.proofs.Common.{◌≡◌, ℕ, ◌≤◌, refl, subst, List, leng
 use Rattle.std.proofs.lemmas.List.{length-take}
 use Rattle.isa65.specs.Mode.{len_of}
 use Rattle.isa65.specs.declared.op.Op.{Op}
-use Rattle.stmt65.specs.declared.statement.Operands.{Operands}
-use Rattle.stmt65.specs.declared.statement.Statement.TheVariants as statement
+use Rattle.stmt65.specs.Views as view
+use Rattle.stmt65.specs.Views.{OperandsView}
 use Rattle.stmt65.specs.Said.{Said}
 use Rattle.stmt65.specs.Symbols.{Definition}
 use Rattle.stmt65.specs.Meaning.{initial, meaning_of}
 use Rattle.isa65.specs.Cpu.{table_of}
-use Rattle.da65.specs.Items.{instruction_in, size_of}
-use Rattle.da65.specs.Statements.{held, is_forced, operands_of, statement_in, statement_of, written}
-use Rattle.da65.specs.ReassemblyLaw.{WrittenIsInstruction, UnwrittenIsBytes, ModeIsChosenBack, ForcedWhereNeeded, TargetIsInRange, GivesBytes, ItemGivesItsBytes, ListingGivesImage, item_in}
+use Rattle.da65.specs.Instructions.{instruction_in, size_of}
+use Rattle.da65.specs.Statements.{is_forced, operands_of, statement_for, statement_in, statement_of, written}
+use Rattle.da65.specs.ReassemblyLaw.{WrittenIsInstruction, UnwrittenIsBytes, ModeIsChosenBack, ForcedWhereNeeded, TargetIsInRange, GivesBytes, GroupGivesItsBytes, ItemGivesItsBytes, ListingGivesImage, item_in}
 use Rattle.da65.proofs.FieldLaws.{target_is}
+use Rattle.da65.proofs.GroupLaws.{group_stands}
 use Rattle.da65.proofs.StandsLaws.{after_unlabelled, bytes_stand, codes_in_mode, item_stands, no_fault, not_forced}
 use Rattle.da65.proofs.ListingLaws.{listing_block, unlabelled}
 
@@ -24,12 +25,12 @@ pub unwritten_is_bytes : UnwrittenIsBytes
 unfolding statement_in
 unwritten_is_bytes t a bytes are none = go (instruction_in t bytes) refl
   where
-    with_operands : (op : Op) → instruction_in t bytes ≡ Some op → (o : Option Operands) → operands_of op.mode a bytes ≡ o
-        → written t op bytes o ≡ statement.Bytes (held (take (len_of op.mode) bytes))
+    with_operands : (op : Op) → instruction_in t bytes ≡ Some op → (o : Option OperandsView) → operands_of op.mode a bytes ≡ o
+        → written t op bytes o ≡ view.bytes (take (len_of op.mode) bytes)
     with_operands op e None f = refl
     with_operands op e (Some os) f = absurd (none op os (record { are_bytes = are; begins = e; has = f }))
 
-    go : (o : Option Op) → instruction_in t bytes ≡ o → statement_of t a bytes o ≡ statement.Bytes (held (take (size_of o) bytes))
+    go : (o : Option Op) → instruction_in t bytes ≡ o → statement_of t a bytes o ≡ view.bytes (take (size_of o) bytes)
     go None e = refl
     go (Some op) e = with_operands op e (operands_of op.mode a bytes) refl
 
@@ -58,8 +59,17 @@ item_gives_its_bytes all s bytes are some room =
       leads = after_unlabelled Any s _ _ h;
     })
 
+pub group_gives_its_bytes : GroupGivesItsBytes
+group_gives_its_bytes all s r bytes are some room of =
+    let h = group_stands Any s r bytes are some room of in
+    subst (λ (said : Said). GivesBytes all s said bytes) (unlabelled (statement_for (table_of s.cpu) r s.at bytes)) (record {
+      no_fault = no_fault Any s _ bytes h room all tt;
+      gives = bytes_stand Any s _ _ bytes h all tt;
+      leads = after_unlabelled Any s _ bytes h;
+    })
+
 pub listing_gives_image : ListingGivesImage
 unfolding meaning_of
-listing_gives_image cpu image placed are =
-    let b = listing_block Any Any cpu image placed are (initial image.start) refl tt in
+listing_gives_image m placed are none =
+    let b = listing_block Any Any m placed are none (initial m.image.start) refl tt in
     b.codes _ tt 1

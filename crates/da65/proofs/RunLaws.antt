@@ -1,25 +1,30 @@
 -- What a run that is done wrote, assembled, gives back its image.
-use Rattle.std.proofs.Common.{◌≡◌, ℕ, Bool, List, Option, ap, ◌∙◌}
-use Rattle.std.specs.Prelude.{IfSome, Some, None, Result, Ok}
+use Rattle.std.proofs.Common.{◌≡◌, ℕ, false, List, Option, ap, ◌∙◌}
+use Rattle.std.specs.Prelude.{IfOk, Result, Ok, Err}
 use Rattle.std.specs.Io.KnownBytes.{Appends}
-use Rattle.isa65.specs.declared.cpu.Cpu.{Cpu}
 use Rattle.stmt65.specs.Meaning.{meaning}
 use Rattle.info65.specs.Views.{InfoView}
-use Rattle.info65.specs.declared.fault.InfoFault.{InfoFault}
-use Rattle.map65.specs.Image.{image_of}
 use Rattle.map65.specs.ImageView.{AreBytes, ImageView, IsPlaced}
+use Rattle.map65.specs.MapView.{MapView}
+use Rattle.da65.specs.Groups.{skips}
 use Rattle.da65.specs.Listing.{lines_of, text_of}
-use Rattle.da65.specs.RunLaw.{TookImageOf}
+use Rattle.da65.specs.RunLaw.{Took}
+use Rattle.da65.specs.declared.outcome.RunFault.{RunFault}
+use Rattle.da65.specs.declared.outcome.Status.{Status}
 use Rattle.da65.proofs.TextLaws.{text_gives_image}
 
--- the lines of an image mean it
-pub lines_mean : (cpu : Cpu) (image : ImageView) (lines : List (List ℕ)) → IsPlaced image → AreBytes image.bytes → lines ≡ lines_of cpu image → meaning image.start (text_of lines) ≡ Ok image.bytes
-lines_mean cpu image lines placed are l = ap (λ (ls : List (List ℕ)). meaning image.start (text_of ls)) l ∙ text_gives_image cpu image placed are
+-- the lines of a map without skipped bytes were written, so the image is meant
+pub lines_took : (m : MapView) (lines : List (List ℕ)) (old new : Option (List ℕ)) → IsPlaced m.image → AreBytes m.image.bytes → lines ≡ lines_of m → Appends old new (text_of lines) → skips m ≡ false → Took m.image old new
+lines_took m lines old new placed are l taken none = record {
+  text = text_of lines;
+  taken = taken;
+  means = ap (λ (ls : List (List ℕ)). meaning m.image.start (text_of ls)) l ∙ text_gives_image m placed are none;
+}
 
--- of a run that read an image, and wrote its listing line by line
-pub lines_reassemble : (cpu : Cpu) (left : Option (List ℕ)) (info : Result InfoView InfoFault) (i : InfoView) (failed : Bool) (image : ImageView) (lines : List (List ℕ)) (old new : Option (List ℕ))
-    → info ≡ Ok i → IsPlaced image → AreBytes image.bytes → IfSome left (λ bytes. image_of i.settings bytes failed ≡ Ok image) → lines ≡ lines_of cpu image → Appends old new (text_of lines)
-    → IfSome left (λ bytes. TookImageOf info bytes failed old new)
-lines_reassemble cpu None info i failed image lines old new given placed are is l taken = tt
-lines_reassemble cpu (Some bytes) info i failed image lines old new given placed are is l taken =
-    rw given (rw is (record { text = text_of lines; taken = taken; means = lines_mean cpu image lines placed are l }))
+-- the same of a run that was done, by a map that was built from an image
+pub listing_took : (result : Result Status RunFault) (i : InfoView) (m : MapView) (image : ImageView) (lines : List (List ℕ)) (old new : Option (List ℕ))
+    → m ≡ record { info = i; image = image } → IsPlaced image → AreBytes image.bytes → lines ≡ lines_of m → Appends old new (text_of lines)
+    → IfOk result (λ status. skips m ≡ false → Took image old new)
+listing_took (Ok status) i m image lines old new built placed are l taken =
+    rw built (lines_took (record { info = i; image = image }) lines old new placed are (l ∙ ap lines_of built) taken)
+listing_took (Err fault) i m image lines old new built placed are l taken = tt

@@ -14,15 +14,15 @@ use Rattle.isa65.specs.declared.cpu.Cpu.{Cpu}
 use Rattle.isa65.specs.declared.mode.Mode.{Mode}
 use Rattle.isa65.specs.declared.mode.Mode.TheVariants.{Imp}
 use Rattle.isa65.specs.declared.op.Op.{Op}
-use Rattle.stmt65.specs.declared.statement.Operands.{Operands}
-use Rattle.stmt65.specs.declared.statement.Statement.TheVariants as statement
+use Rattle.stmt65.specs.Views as view
+use Rattle.stmt65.specs.Views.{OperandsView}
 use Rattle.stmt65.specs.Said.{Byte, Operation, Instr, Data, Stated}
 use Rattle.stmt65.specs.SaidBack.{form_said, statement_said}
 use Rattle.stmt65.specs.Symbols.{Definition}
 use Rattle.stmt65.specs.Coding.{Field, Fixed, coding, datum_fields}
 use Rattle.stmt65.specs.Meaning.{State, operation_in, fields_of, next_of, defined_by, has_unknown_cpu, has_no_form, is_undefined, is_twice, is_out_of_range, is_past_end, fault_of, bytes_of, cpu_after, after}
 use Rattle.map65.specs.ImageView.{AreBytes}
-use Rattle.da65.specs.Items.{instruction_in, size_of, whole_in}
+use Rattle.da65.specs.Instructions.{instruction_in, size_of, whole_in}
 use Rattle.da65.specs.Statements.{operands_of, is_forced, written, statement_of, statement_in, bytes_statement}
 use Rattle.da65.specs.ReassemblyLaw.{fields_in, CodesInMode, IsWritten, item_in}
 use Rattle.da65.proofs.FieldLaws.{FieldsGive, fixed_gives, data_give}
@@ -139,7 +139,7 @@ pub len_positive : (m : Mode) → 1 ≤ len_of m
 len_positive Imp = omega arith
 len_positive _ = omega arith
 
-pub codes_in_mode : (cpu : Cpu) (above : List Definition) (a : ℕ) (bytes : List ℕ) (op : Op) (os : Operands) (absolute : Bool)
+pub codes_in_mode : (cpu : Cpu) (above : List Definition) (a : ℕ) (bytes : List ℕ) (op : Op) (os : OperandsView) (absolute : Bool)
     → IsWritten (table_of cpu) a bytes op os → is_forced (table_of cpu) op bytes ≡ absolute → CodesInMode cpu above op absolute os
 codes_in_mode cpu above a bytes op os absolute h e =
     let is = begins_with (table_of cpu) bytes op h.begins in
@@ -152,7 +152,7 @@ codes_in_mode cpu above a bytes op os absolute h e =
     }
 
 -- without `a:` it is coded in its mode where none stands
-pub not_forced : (cpu : Cpu) (above : List Definition) (a : ℕ) (bytes : List ℕ) (op : Op) (os : Operands)
+pub not_forced : (cpu : Cpu) (above : List Definition) (a : ℕ) (bytes : List ℕ) (op : Op) (os : OperandsView)
     → IsWritten (table_of cpu) a bytes op os → CodesInMode cpu above op false os → is_forced (table_of cpu) op bytes ≡ false
 not_forced cpu above a bytes op os h codes = go (is_forced (table_of cpu) op bytes) refl
   where
@@ -161,8 +161,8 @@ not_forced cpu above a bytes op os h codes = go (is_forced (table_of cpu) op byt
     go true e = absurd (at_some (λ os. coding cpu above (Instr op.mnemonic (form_said op.mode false os)) ≡ Some (Fixed codes.opcode ∷ fields_in op.mode os) → ⊥)
         (operands_of op.mode a bytes) os h.has (codes_other cpu above op.mnemonic codes.opcode op.mode a bytes e) codes.coded)
 
-pub instruction_stands : (Full : List Definition → Type 0) (s : State) (bytes : List ℕ) (op : Op) (os : Operands) → IsWritten (table_of s.cpu) s.at bytes op os → s.at + length bytes ≤ 65536
-    → Stands Full s (operation_in (statement_said (statement.Instr op (is_forced (table_of s.cpu) op bytes) os))) (take (len_of op.mode) bytes)
+pub instruction_stands : (Full : List Definition → Type 0) (s : State) (bytes : List ℕ) (op : Op) (os : OperandsView) → IsWritten (table_of s.cpu) s.at bytes op os → s.at + length bytes ≤ 65536
+    → Stands Full s (operation_in (statement_said (view.instr op (is_forced (table_of s.cpu) op bytes) os))) (take (len_of op.mode) bytes)
 unfolding has_unknown_cpu cpu_after codes_in_mode
 instruction_stands Full s bytes op os h room =
     let is = begins_with (table_of s.cpu) bytes op h.begins in
@@ -191,7 +191,7 @@ item_stands Full s bytes are some room = go (instruction_in (table_of s.cpu) byt
     data_of : (n : ℕ) → Stands Full s (operation_in (statement_said (bytes_statement n bytes))) (take n bytes)
     data_of n = data_stands Full s (take n bytes) (All-take (λ b. b < 256) n bytes are)
 
-    with_operands : (op : Op) → instruction_in (table_of s.cpu) bytes ≡ Some op → (o : Option Operands) → operands_of op.mode s.at bytes ≡ o
+    with_operands : (op : Op) → instruction_in (table_of s.cpu) bytes ≡ Some op → (o : Option OperandsView) → operands_of op.mode s.at bytes ≡ o
         → Stands Full s (operation_in (statement_said (written (table_of s.cpu) op bytes o))) (take (len_of op.mode) bytes)
     with_operands op e None f = data_of (len_of op.mode)
     with_operands op e (Some os) f = instruction_stands Full s bytes op os (record { are_bytes = are; begins = e; has = f }) room

@@ -10,7 +10,7 @@ use Rattle.isa65.specs.declared.cpu.Cpu.{Cpu}
 use Rattle.isa65.specs.declared.mnemonic.Mnemonic.{Mnemonic}
 use Rattle.isa65.specs.declared.mode.Mode.{Mode}
 use Rattle.isa65.specs.declared.mode.Mode.TheVariants.{Imp, Acc, Imm, Zp, Zpx, Zpy, Abs, Absx, Absy, Ind, Indx, Indy, Zpind, Absindx, Rel, Zprel}
-use Rattle.stmt65.specs.declared.statement.Operands.{Operands}
+use Rattle.stmt65.specs.Views.{OperandsView}
 use Rattle.stmt65.specs.Said.{Plain, Instr, Straight, WithX, WithY}
 use Rattle.stmt65.specs.SaidBack.{form_said}
 use Rattle.stmt65.specs.Symbols.{Definition, has_zero_page_size}
@@ -42,7 +42,7 @@ long_give : (Full : List Definition → Type 0) (next b c d : ℕ) (bytes : List
 long_give Full next b c d bytes h g = word_gives Full next c d [] [] h g (no_fields Full next)
 
 -- the bytes behind the opcode
-abbrev pub OperandsGive : (List Definition → Type 0) → Mode → ℕ → List ℕ → Option Operands → Type 0
+abbrev pub OperandsGive : (List Definition → Type 0) → Mode → ℕ → List ℕ → Option OperandsView → Type 0
 OperandsGive Full mode next behind o = IfSome o (λ os. FieldsGive Full next (fields_in mode os) behind)
 
 two_give : (Full : List Definition → Type 0) (mode : Mode) (a b c : ℕ) (bytes : List ℕ) → len_of mode ≡ 2 → c < 256 → a + 2 ≤ 65536 → OperandsGive Full mode (a + 2) (c ∷ []) (operands_of mode a (b ∷ c ∷ bytes))
@@ -96,7 +96,7 @@ three_give Full Rel a b c d bytes e h g room = absurd cc
 
 -- ---- how an operand is coded, in each mode
 
-abbrev pub OperandsCode : Cpu → List Definition → Mnemonic → Mode → ℕ → Bool → Option Operands → Type 0
+abbrev pub OperandsCode : Cpu → List Definition → Mnemonic → Mode → ℕ → Bool → Option OperandsView → Type 0
 OperandsCode cpu above m mode b absolute o = IfSome o (λ os. coding cpu above (Instr m (form_said mode absolute os)) ≡ Some (Fixed b ∷ fields_in mode os))
 
 -- ---- `a:` where it is needed

@@ -1,7 +1,8 @@
 pub mod Choices
 pub mod Command
+pub mod Groups
 pub mod Help
-pub mod Items
+pub mod Instructions
 pub mod Lines
 pub mod Listing
 pub mod NeededFiles
@@ -11,5 +12,6 @@ pub mod Outcome
 pub mod ReassemblyLaw
 pub mod RunLaw
 pub mod Running
+pub mod Shapes
 pub mod Statements
 pub mod Usage

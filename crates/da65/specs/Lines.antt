@@ -1,35 +1,24 @@
 -- The lines of a listing that are left from a place on.
-use Rattle.std.specs.Prelude.{◌≡◌, ℕ, ◌+◌, ◌-◌, ◌≤◌, List, ◌∷◌, length, map}
-use Rattle.std.specs.List.{filter}
-use Rattle.isa65.specs.Cpu.{table_of}
-use Rattle.isa65.specs.Opcodes.{Table}
-use Rattle.isa65.specs.declared.cpu.Cpu.{Cpu}
-use Rattle.stmt65.specs.declared.statement.Statement.TheVariants.{SetCpu, Blank}
-use Rattle.map65.specs.ImageView.{ImageView, IsPlaced}
-use Rattle.da65.specs.Items.{addresses, begins, left_at}
-use Rattle.da65.specs.Listing.{item_line, line, lines_of}
+use Rattle.std.specs.Prelude.{ℕ, List, ◌∷◌, map}
+use Rattle.map65.specs.ImageView.{IsPlaced}
+use Rattle.map65.specs.MapView.{MapView}
+use Rattle.da65.specs.Groups.{IsGroupPlace, groups_from}
+use Rattle.da65.specs.Listing.{group_line, line, lines_of}
 use Rattle.da65.specs.declared.lines.Place.{Place}
-use Rattle.da65.specs.declared.lines.Place.TheVariants.{Title, AfterTitle, CpuLine, AfterCpu, Item}
+use Rattle.da65.specs.declared.lines.Place.TheVariants.{Title, AfterTitle, CpuLine, AfterCpu, Group}
+use Rattle.stmt65.specs.Views as view
 
--- the addresses from the k-th on at which items begin
-unfoldable pub items_from : Table → ImageView → ℕ → List ℕ
-items_from t image k = filter (begins t image) (addresses (length image.bytes - k) (image.start + k))
+-- the lines of the groups from the k-th byte on
+unfoldable pub group_lines_from : MapView → ℕ → List (List ℕ)
+group_lines_from m k = map (group_line m) (groups_from m k)
 
-unfoldable pub item_lines_from : Cpu → ImageView → ℕ → List (List ℕ)
-item_lines_from cpu image k = map (item_line cpu image) (items_from (table_of cpu) image k)
+abbrev pub lines_from : Place → MapView → List (List ℕ)
+lines_from Title m = lines_of m
+lines_from AfterTitle m = line view.blank ∷ line (view.set_cpu m.info.settings.cpu) ∷ line view.blank ∷ group_lines_from m 0
+lines_from CpuLine m = line (view.set_cpu m.info.settings.cpu) ∷ line view.blank ∷ group_lines_from m 0
+lines_from AfterCpu m = line view.blank ∷ group_lines_from m 0
+lines_from (Group k) m = group_lines_from m k
 
-abbrev pub lines_from : Place → Cpu → ImageView → List (List ℕ)
-lines_from Title cpu image = lines_of cpu image
-lines_from AfterTitle cpu image = line Blank ∷ line (SetCpu cpu) ∷ line Blank ∷ item_lines_from cpu image 0
-lines_from CpuLine cpu image = line (SetCpu cpu) ∷ line Blank ∷ item_lines_from cpu image 0
-lines_from AfterCpu cpu image = line Blank ∷ item_lines_from cpu image 0
-lines_from (Item k) cpu image = item_lines_from cpu image k
-
--- an item begins with the k-th byte, or the image ends before it
-pub record IsItemPlace (t : Table) (image : ImageView) (k : ℕ) : Type 0 where
-  pub bound : k ≤ length image.bytes
-  pub begin : left_at t image k ≡ 0
-
-abbrev pub IsPlace : Place → Cpu → ImageView → Type 0
-IsPlace (Item k) cpu image = IsPlaced image × IsItemPlace (table_of cpu) image k
-IsPlace _ cpu image = IsPlaced image × Unit {0}
+abbrev pub IsPlace : Place → MapView → Type 0
+IsPlace (Group k) m = IsPlaced m.image × IsGroupPlace m k
+IsPlace _ m = IsPlaced m.image × Unit {0}

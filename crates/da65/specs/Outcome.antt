@@ -1,14 +1,15 @@
 -- What a run gives, as a function of its options, its information file and its input.
 use Rattle.std.specs.Prelude.{ℕ, Bool, if◌then◌else◌, List, [], ◌∷◌, ◌++◌, codes, decimal, is_some, Result, Ok, Err}
-use Rattle.isa65.specs.declared.cpu.Cpu.{Cpu}
 use Rattle.info65.specs.Faults.{fault_text}
 use Rattle.info65.specs.Reader.{information}
-use Rattle.info65.specs.Views.{InfoView, OptionsView, SettingsView}
+use Rattle.info65.specs.Views.{InfoView, OptionsView}
 use Rattle.info65.specs.declared.fault.InfoFault.{InfoFault}
 use Rattle.map65.specs.Image.{image_of}
 use Rattle.map65.specs.ImageView.{ImageView}
+use Rattle.map65.specs.MapView.{MapView}
 use Rattle.map65.specs.declared.image.ImageFault.{ImageFault}
 use Rattle.map65.specs.declared.image.ImageFault.TheVariants.{Empty, TooLarge, Short, Read, Memory}
+use Rattle.da65.specs.Groups.{skips}
 use Rattle.da65.specs.Listing.{lines_of, text_of}
 use Rattle.da65.specs.declared.outcome.Status.{Status}
 use Rattle.da65.specs.declared.outcome.Status.TheVariants.{Done, Refused}
@@ -35,27 +36,34 @@ image_message Empty = codes "da65: input is empty" ++ 10 ∷ []
 image_message TooLarge = codes "da65: input is too large" ++ 10 ∷ []
 image_message Memory = []
 
+unfoldable pub skipped_warning : List ℕ
+skipped_warning = codes "da65: warning: skipped bytes, the listing does not assemble to the image" ++ 10 ∷ []
+
+-- the warnings that apply to a listing, each one line
+abbrev pub warnings : MapView → List ℕ
+warnings m = if skips m then skipped_warning else []
+
 -- ---- the outcome
 
 -- a refusal: no listing, and one message
 abbrev pub refused : List ℕ → Outcome
 refused message = record { listing = []; messages = message; status = Refused }
 
--- the listing of an image, and no message
-abbrev pub done : Cpu → ImageView → Outcome
-done cpu image = record { listing = text_of (lines_of cpu image); messages = []; status = Done }
+-- the listing of a map, and the warnings that apply
+abbrev pub done : MapView → Outcome
+done m = record { listing = text_of (lines_of m); messages = warnings m; status = Done }
 
-abbrev pub outcome_by_image : Cpu → Result ImageView ImageFault → Outcome
-outcome_by_image cpu (Ok image) = done cpu image
-outcome_by_image cpu (Err fault) = refused (image_message fault)
+abbrev pub outcome_by_image : InfoView → Result ImageView ImageFault → Outcome
+outcome_by_image i (Ok image) = done (record { info = i; image = image })
+outcome_by_image i (Err fault) = refused (image_message fault)
 
--- without an input name a refusal; else that of the image
-abbrev pub outcome_by_settings : SettingsView → List ℕ → Bool → Outcome
-outcome_by_settings s bytes failed =
-    if is_some s.input then outcome_by_image s.cpu (image_of s bytes failed) else refused no_input_message
+-- without an input name a refusal; else by the image
+abbrev pub outcome_by_input : InfoView → List ℕ → Bool → Outcome
+outcome_by_input i bytes failed =
+    if is_some i.settings.input then outcome_by_image i (image_of i.settings bytes failed) else refused no_input_message
 
 abbrev pub outcome_by_info : Result InfoView InfoFault → List ℕ → Bool → Outcome
-outcome_by_info (Ok i) bytes failed = outcome_by_settings i.settings bytes failed
+outcome_by_info (Ok i) bytes failed = outcome_by_input i bytes failed
 outcome_by_info (Err fault) bytes failed = refused (info_message fault)
 
 -- The outcome for these options, an information file of these bytes, and an input of these bytes whose reader failed or not

@@ -1,5 +1,5 @@
 -- What a run that is done wrote, assembled, gives back the image.
-use Rattle.std.specs.Prelude.{◌≡◌, ℕ, Bool, List, Option, Result, Ok, Err}
+use Rattle.std.specs.Prelude.{◌≡◌, ℕ, Bool, false, List, Option, Result, Ok, Err}
 use Rattle.std.specs.Io.KnownBytes.{Appends}
 use Rattle.stmt65.specs.Meaning.{meaning}
 use Rattle.info65.specs.Views.{InfoView}
@@ -7,6 +7,7 @@ use Rattle.info65.specs.declared.fault.InfoFault.{InfoFault}
 use Rattle.map65.specs.Image.{image_of}
 use Rattle.map65.specs.ImageView.{ImageView}
 use Rattle.map65.specs.declared.image.ImageFault.{ImageFault}
+use Rattle.da65.specs.Groups.{skips}
 use Rattle.da65.specs.declared.outcome.RunFault.{RunFault}
 use Rattle.da65.specs.declared.outcome.Status.{Status}
 use Rattle.da65.specs.declared.outcome.Status.TheVariants.{Done, Refused}
@@ -17,17 +18,17 @@ pub record Took (image : ImageView) (old new : Option (List ℕ)) : Type 0 where
   pub taken : Appends old new text
   pub means : meaning image.start text ≡ Ok image.bytes
 
--- there is an image, and such a text was written
-abbrev pub TookImage : Result ImageView ImageFault → Option (List ℕ) → Option (List ℕ) → Type 0
-TookImage (Ok image) old new = Took image old new
-TookImage (Err fault) old new = ⊥
+-- there is an image, and where none of its bytes is skipped such a text was written
+abbrev pub TookImage : InfoView → Result ImageView ImageFault → Option (List ℕ) → Option (List ℕ) → Type 0
+TookImage i (Ok image) old new = skips (record { info = i; image = image }) ≡ false → Took image old new
+TookImage i (Err fault) old new = ⊥
 
 -- the same of the image that the information file and an input give, whose reader failed or not
 abbrev pub TookImageOf : Result InfoView InfoFault → List ℕ → Bool → Option (List ℕ) → Option (List ℕ) → Type 0
-TookImageOf (Ok i) bytes failed old new = TookImage (image_of i.settings bytes failed) old new
+TookImageOf (Ok i) bytes failed old new = TookImage i (image_of i.settings bytes failed) old new
 TookImageOf (Err fault) bytes failed old new = ⊥
 
--- where the answer is Done, what was written on the output means the image's bytes, from its start
+-- where the answer is Done and no byte of the image is skipped, what was written on the output means the image's bytes, from its start
 abbrev pub Reassembles : Result Status RunFault → Result InfoView InfoFault → List ℕ → Bool → Option (List ℕ) → Option (List ℕ) → Type 0
 Reassembles (Ok Done) info bytes failed old new = TookImageOf info bytes failed old new
 Reassembles (Ok Refused) info bytes failed old new = Unit {0}

@@ -34,6 +34,14 @@ RefusesOrGivesUp (Err Messages) message old new = AppendsFront old new message
 RefusesOrGivesUp (Err Memory) message old new = Keeps old new
 RefusesOrGivesUp (Err Write) message old new = ⊥
 
+-- a run that is done wrote its warnings whole, or failed and wrote a front of them
+abbrev pub Warns : Result Status RunFault → List ℕ → Option (List ℕ) → Option (List ℕ) → Type 0
+Warns (Ok Done) warnings old new = Appends old new warnings
+Warns (Ok Refused) warnings old new = ⊥
+Warns (Err Messages) warnings old new = AppendsFront old new warnings
+Warns (Err Memory) warnings old new = ⊥
+Warns (Err Write) warnings old new = ⊥
+
 -- how many bytes of the input are read at most: none where the information file is refused
 abbrev pub most_read : Result InfoView InfoFault → ℕ
 most_read (Ok i) = limit_of i.settings

@@ -6,8 +6,9 @@
 #![tactic(auto)]
 
 mod command;
+mod groups;
 mod help;
-mod items;
+mod instructions;
 mod laws;
 mod lines;
 mod messages;
@@ -24,8 +25,9 @@ mod write;
 pub use help::{help_text, version_text};
 pub use info65::Options;
 pub use laws::{
-    forced_where_needed, item_gives_its_bytes, listing_gives_image, mode_is_chosen_back,
-    target_is_in_range, text_gives_image, unwritten_is_bytes, written_is_instruction,
+    forced_where_needed, group_gives_its_bytes, group_law, groups_are_groups, item_gives_its_bytes,
+    listing_gives_image, mode_is_chosen_back, target_is_in_range, text_gives_image,
+    unwritten_is_bytes, written_is_instruction,
 };
 pub use map65::{DeviceFault, Sink, Source, Told};
 pub use needed_files::Needs;

@@ -1,22 +1,23 @@
 //! The lines of a listing, one at a time.
 
-ghost use Rattle.std.specs.Prelude.{◌≡◌, ◌+◌, ◌-◌, ◌<◌, ◌≤◌, [], ◌∷◌, length, OnOk, OnErr};
+ghost use Rattle.std.specs.Prelude.{◌≡◌, ◌+◌, ◌<◌, ◌≤◌, false, [], ◌∷◌, length, OnOk, OnErr};
 ghost use Rattle.std.specs.Bool.{OnTrue, OnFalse};
 ghost use Rattle.std.specs.Io.KnownBytes.{Appends};
-ghost use Rattle.isa65.specs.Cpu.{table_of};
 ghost use Rattle.stmt65.specs.Printable.{IsPrintable};
+ghost use Rattle.stmt65.specs.Views.{statement_seen};
 ghost use Rattle.map65.specs.Device.{Counts, AppendsFront};
-ghost use Rattle.map65.specs.ImageView.{IsPlaced};
-ghost use Rattle.da65.specs.Items.{ItemLaw, instruction_in, size_of};
-ghost use Rattle.da65.specs.Listing.{line, lines_of, text_of};
-ghost use Rattle.da65.specs.Statements.{held_statement, statement_in};
+ghost use Rattle.map65.specs.Roles.{is_skip, role_of};
+ghost use Rattle.da65.specs.Groups.{IsGroupPlace, group_len};
+ghost use Rattle.da65.specs.Lines.{group_lines_from};
+ghost use Rattle.da65.specs.Listing.{group_line, line, lines_of, text_of};
 
-use crate::items::{instruction_in, size_of};
-use crate::statements::statement_in;
+use crate::groups::{group_len, is_skipped, role_inside};
+use crate::statements::statement_for;
 use crate::write::write_whole;
+use info65::Info;
 use isa65::Cpu;
-use map65::{DeviceFault, Image, Sink};
-use std::alloc::Allocator;
+use map65::{DeviceFault, Image, Map, Sink};
+use std::alloc::{Allocator, Global};
 use std::marker::Model;
 use stmt65::{Columns, Level, Line, Remarks, Statement, put_line};
 
@@ -31,35 +32,38 @@ enum Place {
     CpuLine,
     /// The empty line behind it.
     AfterCpu,
-    /// The item that begins with the byte of this index, or the end.
-    Item(usize),
+    /// The group that begins with the byte of this index, or behind it where it is skipped, or the end.
+    Group(usize),
 }
 
 /// The lines of a listing that are left.
-#[derive(Debug, Drop)]
-pub struct Lines<'a> {
-    cpu: Cpu,
-    start: u16,
-    bytes: &'a [u8],
+#[derive(Drop)]
+pub struct Lines<'a, A: Allocator = Global> {
+    info: &'a Info<A>,
+    image: &'a Image<A>,
+    map: &'a Map<'a, A>,
     place: Place,
 }
 
-impl<'a> Model for Lines<'a> {
+impl<'a, A: Allocator> Model for Lines<'a, A> {
     ghost use Rattle.std.specs.Prelude.{ℕ, List};
 
     ghost Value = { List (List ℕ) };
 
-    ghost use Rattle.da65.specs.Lines.{lines_from, IsPlace};
+    ghost use Rattle.da65.specs.Lines.{lines_from};
 
-    ghost view = { λ l. lines_from l.place l.cpu (record { start = l.start; bytes = l.bytes.now }) };
+    ghost view = { λ l. lines_from l.place l.map.now };
 
-    ghost invariant = { λ l. IsPlace l.place l.cpu (record { start = l.start; bytes = l.bytes.now }) };
+    ghost use Rattle.std.specs.Prelude.{◌≡◌};
+    ghost use Rattle.da65.specs.Lines.{IsPlace};
+
+    ghost invariant = { λ l. IsPlace l.place l.map.now × (l.map.now ≡ record { info = l.info.now; image = l.image.now }) };
 }
 
 /// Replaces the buffer by the line of a statement at the default columns.
 fn put_statement(out: &mut Line, statement: &Statement<'_>)
-    requires { IsPrintable statement.now }
-    ensures { out.new.items ≡ line (held_statement statement.now) }
+    requires { IsPrintable (statement_seen statement.now) }
+    ensures { out.new.items ≡ line (statement_seen statement.now) }
 {
     let remarks = Remarks {
         level: Level::default(),
@@ -71,29 +75,64 @@ fn put_statement(out: &mut Line, statement: &Statement<'_>)
     put_line(out, &Columns::default(), statement, &remarks);
 }
 
-/// Replaces the buffer by the line of the item that begins with the first of these bytes, which run to
-/// the image's end, and gives how many bytes the item has.
-fn put_item(out: &mut Line, cpu: Cpu, address: u16, bytes: &[u8]) -> usize
-    requires some { 0 < length bytes.now }
-    requires room { address + length bytes.now ≤ 65536 }
-    ensures line { out.new.items ≡ line (statement_in (table_of cpu) address bytes.now) }
-    ensures size { result ≡ size_of (instruction_in (table_of cpu) bytes.now) }
+/// The first byte from this one on that is not skipped, or the end.
+fn shown_from<A: Allocator>(map: &Map<'_, A>, image: &Image<A>, from: usize) -> usize
+    requires image { map.now.image ≡ image.now }
+    requires place { IsGroupPlace map.now from }
+    ensures lines { group_lines_from map.now result ≡ group_lines_from map.now from }
+    ensures place { IsGroupPlace map.now result }
+    ensures shown { result < length map.now.image.bytes → is_skip (role_of map.now.info (map.now.image.start + result)) ≡ false }
 {
-    let instruction = instruction_in(&cpu, bytes);
-    put_statement(out, &statement_in(&cpu, address, bytes, instruction));
-    size_of(instruction)
+    let start = image.start() as usize;
+    let count = image.bytes().len();
+    let mut at = from;
+    'bytes: while at < count {
+        if !is_skipped(map, (start + at) as u16) {
+            return at;
+        }
+        at += 1;
+    }
+    at
 }
 
-impl<'a> Lines<'a> {
-    /// All lines of the listing of an image.
-    pub fn new<A: Allocator>(cpu: Cpu, image: &'a Image<A>) -> Lines<'a>
-        ensures lines { result ≡ lines_of cpu image.entry.now }
-        ensures items { ItemLaw (table_of cpu) image.entry.now }
+/// Replaces the buffer by the line of the group that begins with the byte of this index, which is not
+/// skipped, and gives how many bytes the group has.
+fn put_group<A: Allocator>(
+    out: &mut Line,
+    cpu: Cpu,
+    map: &Map<'_, A>,
+    image: &Image<A>,
+    at: usize,
+) -> usize
+    requires cpu { map.now.info.settings.cpu ≡ cpu }
+    requires image { map.now.image ≡ image.now }
+    requires inside { at < length map.now.image.bytes }
+    requires place { IsGroupPlace map.now at }
+    requires shown { is_skip (role_of map.now.info (map.now.image.start + at)) ≡ false }
+    ensures line { out.new.items ≡ group_line map.now (map.now.image.start + at) }
+    ensures len { result ≡ group_len map.now (map.now.image.start + at) }
+    ensures place { IsGroupPlace map.now (at + result) }
+{
+    let (_, rest) = image.bytes().split_at(at);
+    let address = (image.start() as usize + at) as u16;
+    let role = role_inside(map, address);
+    let len = group_len(map, role, address as usize);
+    let (bytes, _) = rest.split_at(len);
+    put_statement(out, &statement_for(&cpu, role, address, bytes));
+    len
+}
+
+impl<'a, A: Allocator> Lines<'a, A> {
+    /// All lines of the listing of an image, by a map that was built from these two.
+    pub fn new(info: &'a Info<A>, image: &'a Image<A>, map: &'a Map<'a, A>) -> Lines<'a, A>
+        requires { map.now ≡ record { info = info.now; image = image.now } }
+        ensures lines { result ≡ lines_of map.entry.now }
     {
+        let _ = image.bytes();
         Lines {
-            cpu,
-            start: image.start(),
-            bytes: image.bytes(),
+            info,
+            image,
+            map,
             place: Place::Title,
         }
     }
@@ -117,21 +156,23 @@ impl<'a> Lines<'a> {
                 self.place = Place::CpuLine;
             }
             Place::CpuLine => {
-                put_statement(out, &Statement::SetCpu(self.cpu));
+                put_statement(out, &Statement::SetCpu(self.info.settings().cpu));
                 self.place = Place::AfterCpu;
             }
             Place::AfterCpu => {
                 put_statement(out, &Statement::Blank);
-                self.place = Place::Item(0);
+                self.place = Place::Group(0);
             }
-            Place::Item(at) => {
-                if at == self.bytes.len() {
+            Place::Group(from) => {
+                let at = shown_from(self.map, self.image, from);
+                if at == self.image.bytes().len() {
                     out.clear();
+                    self.place = Place::Group(at);
                     return false;
                 }
-                let (_, bytes) = self.bytes.split_at(at);
-                let size = put_item(out, self.cpu, self.start + at as u16, bytes);
-                self.place = Place::Item(at + size);
+                let cpu = self.info.settings().cpu;
+                let len = put_group(out, cpu, self.map, self.image, at);
+                self.place = Place::Group(at + len);
             }
         }
         true
@@ -140,7 +181,10 @@ impl<'a> Lines<'a> {
 
 /// Writes the lines that are left, one after the other. Takes no memory.
 #[tactic(auto, using(crate::proofs::TakenLemmas::line_taken, crate::proofs::TakenLemmas::front_taken), unfolding(crate::specs::Listing::text_of))]
-pub fn write_lines<W: Sink>(mut lines: Lines<'_>, out: &mut W) -> Result<(), DeviceFault>
+pub fn write_lines<A: Allocator, W: Sink>(
+    mut lines: Lines<'_, A>,
+    out: &mut W,
+) -> Result<(), DeviceFault>
     ensures whole { OnOk result (Appends (W.taken out.old) (W.taken out.new) (text_of lines.entry)) }
     ensures front { OnErr result (AppendsFront (W.taken out.old) (W.taken out.new) (text_of lines.entry)) }
     ensures count { Counts (W.faults out.old) (W.faults out.new) result }

@@ -1,8 +1,8 @@
 //! The messages of a run, each one line.
 
-ghost use Rattle.std.specs.Prelude.{◌≡◌, ◌+◌, ◌≤◌, ◌++◌, decimal, length};
+ghost use Rattle.std.specs.Prelude.{◌≡◌, ◌+◌, ◌≤◌, ◌++◌, [], decimal, length, if◌then◌else◌};
 ghost use Rattle.arrayvec.specs.ArrayVec.{array_vec_len};
-ghost use Rattle.da65.specs.Outcome.{image_message, info_message, no_input_message};
+ghost use Rattle.da65.specs.Outcome.{image_message, info_message, no_input_message, skipped_warning};
 
 use arrayvec::ArrayVec;
 use info65::InfoFault;
@@ -63,4 +63,19 @@ pub fn image_message(fault: ImageFault) -> &'static [u8]
         ImageFault::TooLarge => b"da65: input is too large\n",
         ImageFault::Memory => b"",
     }
+}
+
+/// The warning that bytes are skipped.
+#[tactic(auto, unfolding(crate::specs::Outcome::skipped_warning))]
+pub fn skipped_warning() -> &'static [u8]
+    ensures { result.now ≡ skipped_warning }
+{
+    b"da65: warning: skipped bytes, the listing does not assemble to the image\n"
+}
+
+/// The warnings behind a listing, of an image that has skipped bytes or not.
+pub fn warnings(has_skipped: bool) -> &'static [u8]
+    ensures { result.now ≡ (if has_skipped then skipped_warning else []) }
+{
+    if has_skipped { skipped_warning() } else { b"" }
 }

@@ -1,20 +1,23 @@
 //! From an information file and an input to a listing and messages.
 
-ghost use Rattle.std.specs.Prelude.{◌≡◌, ◌-◌, ◌^◌, ◌<◌, nat_lt, IfSome, IfOk, IsErrOf};
+ghost use Rattle.std.specs.Prelude.{◌≡◌, ◌-◌, ◌^◌, ◌<◌, nat_lt, false, IfSome, IfOk, IsErrOf};
 ghost use Rattle.std.specs.Io.KnownBytes.{Keeps};
 ghost use Rattle.info65.specs.Faults.{out_of_memory};
 ghost use Rattle.info65.specs.Reader.{information};
 ghost use Rattle.map65.specs.Device.{TakesUpTo};
-ghost use Rattle.da65.specs.Outcome.{image_message, info_message, outcome_of};
-ghost use Rattle.da65.specs.RunLaw.{Reassembles};
-ghost use Rattle.da65.specs.Running.{Writes, Refuses, RefusesOrGivesUp, OutCount, MessagesCount, FailsAtMostOnce, most_read};
+ghost use Rattle.map65.specs.ImageView.{AreBytes, IsPlaced};
+ghost use Rattle.da65.specs.Groups.{skips};
+ghost use Rattle.da65.specs.Outcome.{done, image_message, info_message, outcome_of};
+ghost use Rattle.da65.specs.RunLaw.{Reassembles, Took};
+ghost use Rattle.da65.specs.Running.{Writes, Refuses, RefusesOrGivesUp, Warns, OutCount, MessagesCount, FailsAtMostOnce, most_read};
 
+use crate::groups::has_skipped;
 use crate::lines::{Lines, write_lines};
-use crate::messages::{image_message, info_message, no_input_message};
+use crate::messages::{image_message, info_message, no_input_message, warnings};
 use crate::outcome::{RunFault, Status};
 use crate::write::write_whole;
-use info65::{InfoFault, InfoFaultKind, Options, read_info};
-use map65::{ImageFault, Sink, Source, read_image};
+use info65::{Info, InfoFault, InfoFaultKind, Options, read_info};
+use map65::{Image, ImageFault, Map, Sink, Source, read_image};
 use std::alloc::Allocator;
 
 /// A file that a caller hands in, by its name.
@@ -60,6 +63,41 @@ fn refuse_image<M: Sink>(msgs: &mut M, fault: ImageFault) -> Result<Status, RunF
     }
 }
 
+/// Writes the warnings behind a listing.
+fn warn<M: Sink>(msgs: &mut M, warnings: &[u8]) -> Result<Status, RunFault>
+    ensures text { Warns result warnings.now (M.taken msgs.old) (M.taken msgs.new) }
+    ensures count { MessagesCount result (M.faults msgs.old) (M.faults msgs.new) }
+{
+    match write_whole(msgs, warnings) {
+        Ok(()) => Ok(Status::Done),
+        Err(_) => Err(RunFault::Messages),
+    }
+}
+
+/// Writes the listing of an image, by a map that was built from these two, and then the warnings that
+/// apply. Takes no memory.
+fn list<A: Allocator, W: Sink, M: Sink>(
+    info: &Info<A>,
+    image: &Image<A>,
+    map: &Map<'_, A>,
+    out: &mut W,
+    msgs: &mut M,
+) -> Result<Status, RunFault>
+    requires built { map.now ≡ record { info = info.now; image = image.now } }
+    requires placed { IsPlaced image.now }
+    requires are_bytes { AreBytes image.now.bytes }
+    ensures text { Writes result (done map.now) (W.taken out.old) (W.taken out.new) (M.taken msgs.old) (M.taken msgs.new) }
+    ensures reassembles { IfOk result (λ status. skips map.now ≡ false → Took image.now (W.taken out.old) (W.taken out.new)) }
+    ensures out_count { OutCount result (W.faults out.old) (W.faults out.new) }
+    ensures messages_count { MessagesCount result (M.faults msgs.old) (M.faults msgs.new) }
+{
+    let warnings = warnings(has_skipped(map, image));
+    match write_lines(Lines::new(info, image, map), out) {
+        Ok(()) => warn(msgs, warnings),
+        Err(_) => Err(RunFault::Write),
+    }
+}
+
 /// Lists the input on `out` as source for ca65, and writes on `msgs` why it is refused.
 ///
 /// The options of the command line and the information file `info`, of which no file is the empty one,
@@ -68,9 +106,14 @@ fn refuse_image<M: Sink>(msgs: &mut M, fault: ImageFault) -> Result<Status, RunF
 /// INPUTSIZE says behind the first INPUTOFFS; it is empty; it is too large (more than 65,536 bytes, or
 /// past $FFFF from its start on). Help and version play no part.
 ///
+/// The type of the RANGE that has an address says how its byte is listed: as code, where there is none; on
+/// one line with its neighbours of the same type, up to 8 bytes, 16 bytes of text or 4 words; or, with
+/// SKIP, not at all. Where a byte of the image is skipped, a warning follows the listing on `msgs`.
+///
 /// Behind INPUTOFFS bytes at most INPUTSIZE bytes are read, or without a size 65,537. All memory is taken
 /// before the first byte is written, so after `Memory` nothing was. A write that fails, or that takes no
-/// byte, is the fault `Write` or `Messages`, and is not tried again. `files` are not looked at.
+/// byte, is the fault `Write` or `Messages`, and is not tried again; a warning that fails leaves the
+/// listing whole. `files` are not looked at.
 pub fn run<A: Allocator + Copy, N: Allocator, R: Source, W: Sink, M: Sink>(
     alloc: A,
     options: &Options<N>,
@@ -85,7 +128,7 @@ pub fn run<A: Allocator + Copy, N: Allocator, R: Source, W: Sink, M: Sink>(
         Writes result (outcome_of options.now info.entry.now bytes (nat_lt (R.faults input.old) (R.faults input.new)))
         (W.taken out.old) (W.taken out.new) (M.taken msgs.old) (M.taken msgs.new)) }
 
-    // What was written where the answer is Done means the image's bytes, from its start.
+    // What was written where the answer is Done, and no byte of the image is skipped, means the image's bytes, from its start.
     ensures reassembles { R.faults input.old < 2 ^ 64 - 1 → IfSome (R.left input.old) (λ bytes.
         Reassembles result (information options.now info.entry.now) bytes (nat_lt (R.faults input.old) (R.faults input.new))
         (W.taken out.old) (W.taken out.new)) }
@@ -115,8 +158,9 @@ pub fn run<A: Allocator + Copy, N: Allocator, R: Source, W: Sink, M: Sink>(
         Ok(image) => image,
         Err(fault) => return refuse_image(msgs, fault),
     };
-    match write_lines(Lines::new(settings.cpu, &image), out) {
-        Ok(()) => Ok(Status::Done),
-        Err(_) => Err(RunFault::Write),
-    }
+    let map = match Map::build(alloc, &info, &image) {
+        Ok(map) => map,
+        Err(_) => return Err(RunFault::Memory),
+    };
+    list(&info, &image, &map, out, msgs)
 }

@@ -1,11 +1,15 @@
-//! The statement of an item.
+//! The statement of a group.
 
-ghost use Rattle.std.specs.Prelude.{◌≡◌, ◌+◌, ◌<◌, ◌≤◌, length, IfSome};
+ghost use Rattle.std.specs.Prelude.{◌≡◌, ◌+◌, ◌<◌, ◌≤◌, length, IfSome, option_map};
 ghost use Rattle.isa65.specs.Mode.{len_of};
 ghost use Rattle.stmt65.specs.Printable.{IsPrintable, IsWrittenIn};
-ghost use Rattle.da65.specs.Items.{instruction_in, size_of};
-ghost use Rattle.da65.specs.Statements.{byte_of, word_of, target_of, operands_of, is_forced, held_operands, held_statement, statement_in};
+ghost use Rattle.stmt65.specs.Views.{operands_seen, statement_seen};
+ghost use Rattle.da65.specs.Instructions.{instruction_in};
+ghost use Rattle.da65.specs.Shapes.{IsGroupOf};
+ghost use Rattle.da65.specs.Statements.{byte_of, word_of, target_of, operands_of, is_forced, statement_for, statement_in};
 
+use crate::instructions::instruction_in;
+use info65::RangeType;
 use isa65::{Mode, Op, OpcodeSet};
 use stmt65::{Expr, Operands, Statement};
 
@@ -47,9 +51,8 @@ fn target_of(next: u32, byte: u8) -> Option<u16>
 fn operands_of(mode: Mode, address: u16, bytes: &[u8]) -> Option<Operands<'static>>
     requires all { len_of mode ≤ length bytes.now }
     requires room { address + length bytes.now ≤ 65536 }
-    ensures value { result ≡ operands_of mode address bytes.now }
-    ensures written { IfSome result (IsWrittenIn mode) }
-    ensures numbers { IfSome result (λ os. held_operands os ≡ os) }
+    ensures value { option_map operands_seen result ≡ operands_of mode address bytes.now }
+    ensures written { IfSome result (λ os. IsWrittenIn mode (operands_seen os)) }
 {
     let number = match mode {
         Mode::Imp | Mode::Acc => return Some(Operands::None),
@@ -77,10 +80,10 @@ fn is_forced<S: OpcodeSet>(set: &S, op: Op, bytes: &[u8]) -> bool
     }
 }
 
-/// The statement of the item that begins with the first of these bytes, at this address. The bytes are
-/// those to the image's end, and `instruction` is the one that they begin with.
-#[tactic(auto, unfolding(crate::specs::Statements::statement_in, crate::specs::Items::instruction_in))]
-pub fn statement_in<'a, S: OpcodeSet>(
+/// The statement of code at this address that has these bytes, of which `instruction` is the one that
+/// they begin with.
+#[tactic(auto, unfolding(crate::specs::Statements::statement_in, crate::specs::Instructions::instruction_in))]
+fn statement_in<'a, S: OpcodeSet>(
     set: &S,
     address: u16,
     bytes: &'a [u8],
@@ -89,8 +92,8 @@ pub fn statement_in<'a, S: OpcodeSet>(
     requires some { 0 < length bytes.now }
     requires room { address + length bytes.now ≤ 65536 }
     requires first { instruction ≡ instruction_in (S.table set.now) bytes.now }
-    ensures value { held_statement result ≡ statement_in (S.table set.now) address bytes.entry.now }
-    ensures printable { IsPrintable result }
+    ensures value { statement_seen result ≡ statement_in (S.table set.now) address bytes.entry.now }
+    ensures printable { IsPrintable (statement_seen result) }
 {
     let Some(op) = instruction else {
         let (item, _) = bytes.split_at(1);
@@ -106,5 +109,41 @@ pub fn statement_in<'a, S: OpcodeSet>(
             let (item, _) = bytes.split_at(op.mode.len() as usize);
             Statement::Bytes(item)
         }
+    }
+}
+
+/// The statement of the group of this role at this address that has these bytes.
+#[tactic(auto, unfolding(crate::specs::Statements::statement_for))]
+pub fn statement_for<'a, S: OpcodeSet>(
+    set: &S,
+    role: RangeType,
+    address: u16,
+    bytes: &'a [u8],
+) -> Statement<'a>
+    requires some { 0 < length bytes.now }
+    requires room { address + length bytes.now ≤ 65536 }
+    requires group { IsGroupOf (S.table set.now) role bytes.now }
+    ensures value { statement_seen result ≡ statement_for (S.table set.now) role address bytes.entry.now }
+    ensures printable { IsPrintable (statement_seen result) }
+{
+    match role {
+        RangeType::Code => statement_in(set, address, bytes, instruction_in(set, bytes)),
+        RangeType::ByteTable => Statement::Bytes(bytes),
+        RangeType::WordTable => {
+            if bytes.len() < 2 {
+                Statement::Bytes(bytes)
+            } else {
+                Statement::Words(bytes)
+            }
+        }
+        RangeType::DbyteTable => {
+            if bytes.len() < 2 {
+                Statement::Bytes(bytes)
+            } else {
+                Statement::Dbyts(bytes)
+            }
+        }
+        RangeType::TextTable => Statement::Text(bytes),
+        RangeType::Skip => Statement::Blank,
     }
 }

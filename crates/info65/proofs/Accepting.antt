@@ -4,9 +4,10 @@ use Rattle.std.specs.Prelude.{Result, Ok, Err, IfOk, IsOk, Option, Some, None, �
 use Rattle.std.specs.List.{flat_map}
 use Rattle.std.proofs.lemmas.List.{append-nil}
 use Rattle.info65.specs.Attributes.{attribute_named, group_named}
+use Rattle.info65.specs.Closing.{closing_fault}
 use Rattle.info65.specs.Faults.{◌>>=◌}
 use Rattle.info65.specs.Grammar.{Accepts, AreGroups, AreNew, IsToken, Item, Spells, end_items, given_items, group_items, mark, value, without_marks}
-use Rattle.info65.specs.Groups.{GivenView, GroupView, closing_fault, is_given}
+use Rattle.info65.specs.Groups.{GivenView, GroupView, is_given}
 use Rattle.info65.specs.Lexemes.{KindView, word, opening_brace, closing_brace, semicolon}
 use Rattle.info65.specs.Reader.{Place, State, after_group, at_attribute, at_brace, at_group, at_semicolon, attribute_at, behind, closed, closed_by, finish, group, inside, named, one, opened, opening, outside, read_from, step, valued}
 use Rattle.info65.specs.Tokens.{TokenView}

@@ -6,15 +6,15 @@ use Rattle.std.specs.Option.{unwrap_or}
 use Rattle.std.proofs.lemmas.Bool.Decides.{nat_tests}
 use denote.Enum.Bare.{same_true}
 use Rattle.info65.specs.contracts.attribute.Attribute as attribute_type
-use Rattle.info65.specs.Attributes.{form_of}
+use Rattle.info65.specs.Attributes.{form_of, type_named}
 use Rattle.isa65.specs.Cpu.{cpu_named}
 use Rattle.info65.specs.Grammar.{Item, Spells, end_items, given_items, group_items, without_marks}
 use Rattle.info65.specs.Groups.{AreFormed, GivenView, GroupView, global_given, global_part, is_of, value_in}
-use Rattle.info65.specs.Lexemes.{KindView, number, string}
+use Rattle.info65.specs.Lexemes.{KindView, number, string, word}
 use Rattle.info65.specs.Reader.{groups_of, read}
-use Rattle.info65.specs.Settings.{as_number, settings_of}
+use Rattle.info65.specs.Settings.{settings_of}
 use Rattle.info65.specs.Tokens.{TokenView, tokens_of}
-use Rattle.info65.specs.Values.{HasForm, ValueView, a_number, cpu_value, in_form, is_file_name, is_on_command_line, name_value, value_of}
+use Rattle.info65.specs.Values.{HasForm, ValueView, a_number, as_number, cpu_value, in_form, is_file_name, is_on_command_line, name_value, type_value, value_of}
 use Rattle.info65.specs.Views.{AreInLimits, OptionsView}
 use Rattle.info65.specs.declared.attribute.Attribute.{Attribute}
 use Rattle.info65.specs.declared.attribute.Attribute.TheVariants as attribute
@@ -24,6 +24,7 @@ use Rattle.info65.specs.declared.attribute.GroupKind.{GroupKind}
 use Rattle.info65.specs.declared.attribute.GroupKind.TheVariants as group_kind
 use Rattle.isa65.specs.declared.cpu.Cpu.{Cpu}
 use Rattle.info65.specs.declared.fault.InfoFault.{InfoFault}
+use Rattle.info65.specs.declared.range.RangeType.{RangeType}
 use Rattle.info65.proofs.Accepting.{by_test, groups_accepted}
 
 name_formed : (o : OptionsView) (a : Attribute) (line : ℕ) (text : List ℕ) → IfOk (name_value o a line text) (HasForm form.FileName)
@@ -37,20 +38,25 @@ cpu_formed : (line : ℕ) (c : Option Cpu) → IfOk (cpu_value line c) (HasForm 
 cpu_formed line (Some c) = tt
 cpu_formed line None = tt
 
-formed : (o : OptionsView) (a : Attribute) (line : ℕ) (f : Form) (k : KindView) → IfOk (in_form o a line f k) (HasForm f)
-formed o a line form.FileName (string text) = name_formed o a line text
-formed o a line form.CpuText (string text) = cpu_formed line (cpu_named text)
-formed o a line form.Address (number n) = by_test (nat_le n 0xFFFF) (λ h. rw h (grind (arith, nat_tests, h))) (λ h. rw h tt)
-formed o a line (form.Number low high) (number n) =
+type_formed : (line : ℕ) (r : Option RangeType) → IfOk (type_value line r) (HasForm form.TypeWord)
+type_formed line (Some r) = tt
+type_formed line None = tt
+
+formed : (o : OptionsView) (a : Attribute) (line : ℕ) (source : List ℕ) (f : Form) (k : KindView) → IfOk (in_form o a line source f k) (HasForm f)
+formed o a line source form.FileName (string text) = name_formed o a line text
+formed o a line source form.CpuText (string text) = cpu_formed line (cpu_named text)
+formed o a line source form.TypeWord word = type_formed line (type_named source)
+formed o a line source form.Address (number n) = by_test (nat_le n 0xFFFF) (λ h. rw h (grind (arith, nat_tests, h))) (λ h. rw h tt)
+formed o a line source (form.Number low high) (number n) =
     by_test (nat_le low n) (λ g. by_test (nat_le n high) (λ h. rw (g, h) (grind (arith, nat_tests, g), grind (arith, nat_tests, h))) (λ h. rw (g, h) tt)) (λ g. rw g tt)
-formed o a line _ _ = tt
+formed o a line source _ _ = tt
 
 at : {A : Type 0} (P : A → Type 0) (r : Result A InfoFault) (x : A) → r ≡ Ok x → IfOk r P → P x
 at P r x e h = rw e at h
 
 value_formed : (o : OptionsView) (a : Attribute) (t : TokenView) (v : ValueView) → value_of o a t ≡ Ok v → HasForm (form_of a) v
 unfolding value_of
-value_formed o a t v e = at (HasForm (form_of a)) (value_of o a t) v e (formed o a t.line (form_of a) t.kind)
+value_formed o a t v e = at (HasForm (form_of a)) (value_of o a t) v e (formed o a t.line t.text (form_of a) t.kind)
 
 given_formed : (o : OptionsView) (k : GroupKind) (given : List GivenView) (rest : List Item) (ts : List TokenView) → Spells o (flat_map (given_items k) given ++ rest) ts → AreFormed given × ((more : List TokenView) × Spells o rest more)
 given_formed o k [] rest ts h = (tt, (ts, h))
@@ -67,10 +73,10 @@ end_passed o true rest (t ∷ u ∷ ts) h = (ts, h.1.1)
 end_passed o false rest [] h = absurd h
 end_passed o false rest (t ∷ ts) h = (ts, h.1)
 
-abbrev GroupsFormed : List GroupView → Type 0
+abbrev pub GroupsFormed : List GroupView → Type 0
 GroupsFormed gs = AllByRecursion (λ g. AreFormed g.given) gs
 
-groups_formed : (o : OptionsView) (spelling : List (GroupView × Bool)) (ts : List TokenView) → Spells o (flat_map group_items spelling) ts → GroupsFormed (without_marks spelling)
+pub groups_formed : (o : OptionsView) (spelling : List (GroupView × Bool)) (ts : List TokenView) → Spells o (flat_map group_items spelling) ts → GroupsFormed (without_marks spelling)
 groups_formed o [] ts h = tt
 groups_formed o (g ∷ gs) [] h = absurd h
 groups_formed o (g ∷ gs) (t ∷ []) h = absurd h.1
@@ -87,6 +93,7 @@ append_formed (x ∷ xs) ys h i = (h.0, append_formed xs ys h.1 i)
 
 part_formed : (k : GroupKind) (given : List GivenView) → AreFormed given → AreFormed (global_part (record { kind = k; given = given }))
 part_formed group_kind.Global given h = h
+part_formed _ given h = tt
 
 all_formed : (groups : List GroupView) → GroupsFormed groups → AreFormed (global_given groups)
 unfolding global_given
@@ -100,7 +107,7 @@ read_formed o bytes groups e =
     let a = groups_accepted o (tokens_of 1 bytes).tokens (tokens_of 1 bytes).ending groups e in
     all_formed groups (rw a.1.of at (groups_formed o a.1.spelling (tokens_of 1 bytes).tokens a.1.spelled))
 
-found_formed : (a : Attribute) (given : List GivenView) → AreFormed given → IfSome (value_in a given) (HasForm (form_of a))
+pub found_formed : (a : Attribute) (given : List GivenView) → AreFormed given → IfSome (value_in a given) (HasForm (form_of a))
 unfolding value_in
 found_formed a [] h = tt
 found_formed a (g ∷ gs) h =
@@ -113,7 +120,7 @@ offset_in (Some (a_number n)) h = h.1
 offset_in (Some _) h = omega arith
 offset_in None h = omega arith
 
-size_in : (v : Option ValueView) → IfSome v (HasForm (form.Number 1 0x1_0000)) → IfSome (as_number v) (λ n. (1 ≤ n) × (n ≤ 0x1_0000))
+pub size_in : (v : Option ValueView) → IfSome v (HasForm (form.Number 1 0x1_0000)) → IfSome (as_number v) (λ n. (1 ≤ n) × (n ≤ 0x1_0000))
 size_in (Some (a_number n)) h = h
 size_in (Some _) h = tt
 size_in None h = tt

@@ -5,6 +5,7 @@ pub mod Laws
 pub mod NameLemmas
 pub mod NumberLemmas
 pub mod OnceLemmas
+pub mod RangeLemmas
 pub mod ReaderLemmas
 pub mod StandLemmas
 pub mod TokenLemmas

@@ -1,15 +1,17 @@
--- No attribute of the groups GLOBAL stands twice.
-use Rattle.std.proofs.Common.{◌≡◌, ◌∙◌, ◌||◌, Bool, List, [], ◌∷◌, ◌++◌, append_assoc, ap, false, refl, sym, true}
-use Rattle.std.specs.List.{flat_map}
+-- No attribute of the groups GLOBAL stands twice, and none in another group.
+use Rattle.std.proofs.Common.{◌≡◌, ◌∙◌, ◌&&◌, ◌||◌, Bool, List, [], ◌∷◌, ◌++◌, append_assoc, ap, false, refl, sym, true}
+use Rattle.std.specs.List.{AllByRecursion, flat_map}
 use Rattle.std.proofs.lemmas.List.{append-nil}
 use Rattle.std.proofs.lemmas.List.Folds.{list_any-append}
 use Rattle.std.proofs.lemmas.Grind.{flat_map-append}
 use denote.Enum.Bare.{false_same, sameb, same_false}
 use Rattle.info65.specs.contracts.attribute.Attribute as attribute_type
 use Rattle.info65.specs.Grammar.{AreGroups, AreNew}
-use Rattle.info65.specs.Groups.{GivenView, GroupView, global_given, global_part, given_before, has, is_given, is_of}
-use Rattle.info65.specs.Laws.{AreOnce, GlobalOnce}
+use Rattle.info65.specs.Groups.{GivenView, GroupView, global_given, global_part, given_before, has, has_instead, is_given, is_of}
+use Rattle.info65.specs.Laws.{AreOnce, GivenOnce, GlobalOnce, IsOnce}
+use Rattle.info65.specs.Values.{ValueView}
 use Rattle.info65.specs.declared.attribute.Attribute.{Attribute}
+use Rattle.info65.specs.declared.attribute.Attribute.TheVariants as attribute
 use Rattle.info65.specs.declared.attribute.GroupKind.{GroupKind}
 use Rattle.info65.specs.declared.attribute.GroupKind.TheVariants as group
 
@@ -49,8 +51,9 @@ new_once : (before : List GroupView) (k : GroupKind) (given more : List GivenVie
 unfolding is_given
 new_once before k given [] h once = rw (append-nil given) once
 new_once before k given (x ∷ xs) h once =
-    let parts = neither (has x.attribute (given_before before k)) (has x.attribute given) h.0 in
-    let free = has_append x.attribute (given_before before k) given ∙ or_no (has x.attribute (given_before before k)) (has x.attribute given) parts.0 parts.1 in
+    let parts = neither (has x.attribute (given_before before k)) (has x.attribute given || has_instead x.attribute given) h.0 in
+    let inner = neither (has x.attribute given) (has_instead x.attribute given) parts.1 in
+    let free = has_append x.attribute (given_before before k) given ∙ or_no (has x.attribute (given_before before k)) (has x.attribute given) parts.0 inner.0 in
     let more = once_more (given_before before k ++ given) x once free in
     let next : AreOnce (given_before before k ++ (given ++ x ∷ [])) = rw (append_assoc (given_before before k) given (x ∷ [])) at more in
     let all = new_once before k (given ++ x ∷ []) xs h.1 next in
@@ -64,6 +67,7 @@ group_once : (before : List GroupView) (k : GroupKind) (given : List GivenView) 
 group_once before group.Global given h once =
     let start : AreOnce (global_given before ++ []) = rw (append-nil (global_given before)) once in
     rw (global_more before (record { kind = group.Global; given = given })) (new_once before group.Global [] given h start)
+group_once before k given h once = rw (global_more before (record { kind = k; given = given })) (rw (append-nil (global_given before)) once)
 
 groups_once : (before gs : List GroupView) → AreGroups before gs → AreOnce (global_given before) → AreOnce (global_given (before ++ gs))
 groups_once before [] h once = rw (append-nil before) once
@@ -74,3 +78,57 @@ groups_once before (g ∷ gs) h once =
 pub global_once : GlobalOnce
 unfolding global_given
 global_once o ts groups a = groups_once [] groups a.keeps tt
+
+-- ---- each group by itself
+
+and_no : (a b : Bool) → a ≡ false → (a && b) ≡ false
+and_no a b h = rw h refl
+
+no_and : (a b : Bool) → b ≡ false → (a && b) ≡ false
+no_and true b h = h
+no_and false b h = refl
+
+has_more : (a : Attribute) (given : List GivenView) (g : GivenView) → is_of a g ≡ false → has a (given ++ g ∷ []) ≡ has a given
+has_more a given g h = has_append a given (g ∷ []) ∙ ap (λ b. has a given || b) (has_one a g ∙ or_no (is_of a g) false h refl) ∙ or_last (has a given)
+  where
+    or_last : (b : Bool) → (b || false) ≡ b
+    or_last true = refl
+    or_last false = refl
+
+abbrev Either : List GivenView → Type 0
+Either given = (has attribute.End given && has attribute.Size given) ≡ false
+
+-- END and SIZE stay as they were
+kept : (given : List GivenView) (g : GivenView) → is_of attribute.End g ≡ false → is_of attribute.Size g ≡ false → Either given → Either (given ++ g ∷ [])
+kept given g e s h = rw (has_more attribute.End given g e, has_more attribute.Size given g s) h
+
+either_more : (given : List GivenView) (a : Attribute) (v : ValueView) → has_instead a given ≡ false → Either given → Either (given ++ record { attribute = a; value = v } ∷ [])
+unfolding has_instead
+either_more given attribute.End v n h = no_and _ _ (has_more attribute.Size given (record { attribute = attribute.End; value = v }) refl ∙ n)
+either_more given attribute.Size v n h = and_no _ _ (has_more attribute.End given (record { attribute = attribute.Size; value = v }) refl ∙ n)
+either_more given _ v n h = kept given _ refl refl h
+
+record Alone (given : List GivenView) : Type 0 where
+  once : AreOnce given
+  either : Either given
+
+alone_more : (before : List GroupView) (k : GroupKind) (given more : List GivenView) → AreNew before k given more → Alone given → Alone (given ++ more)
+unfolding is_given
+alone_more before k given [] h old = rw (append-nil given) old
+alone_more before k given (x ∷ xs) h old =
+    let parts = neither (has x.attribute (given_before before k)) (has x.attribute given || has_instead x.attribute given) h.0 in
+    let inner = neither (has x.attribute given) (has_instead x.attribute given) parts.1 in
+    let next : Alone (given ++ x ∷ []) = record { once = once_more given x old.once inner.0; either = either_more given x.attribute x.value inner.1 old.either } in
+    let all = alone_more before k (given ++ x ∷ []) xs h.1 next in rw (append_assoc given (x ∷ []) xs) at all
+
+none_alone : Alone []
+unfolding has
+none_alone = record { once = tt; either = refl }
+
+groups_alone : (before gs : List GroupView) → AreGroups before gs → AllByRecursion IsOnce gs
+groups_alone before [] h = tt
+groups_alone before (g ∷ gs) h =
+    let a = alone_more before g.kind [] g.given h.0.new none_alone in (record { once = a.once; either = a.either }, groups_alone (before ++ g ∷ []) gs h.1)
+
+pub given_once : GivenOnce
+given_once o ts groups a = groups_alone [] groups a.keeps

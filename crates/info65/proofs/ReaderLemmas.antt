@@ -3,7 +3,8 @@ use Rattle.std.proofs.Common.{◌≡◌, ◌∙◌, ℕ, Bool, ◌&&◌, List, [
 use Rattle.std.specs.Prelude.{Result, Ok, Err, Some, None}
 use Rattle.info65.specs.Faults.{Fails, fault, ◌>>=◌}
 use Rattle.info65.specs.Attributes.{group_named}
-use Rattle.info65.specs.Groups.{GivenView, GroupView, closing_fault}
+use Rattle.info65.specs.Closing.{closing_fault}
+use Rattle.info65.specs.Groups.{GivenView, GroupView}
 use Rattle.info65.specs.Lexemes.{KindView, semicolon}
 use Rattle.info65.specs.Reader.{Leads, Place, after_group, at_attribute, at_brace, at_group, at_semicolon, attribute_at, behind, closed, closed_by, finish, group, inside, is_semicolon, one, opened, opening, outside, place_after, read, read_from, read_token, step, valued, wanted}
 use Rattle.info65.specs.Steps.{kind_seen}

@@ -1,4 +1,4 @@
--- The groups of an information file, their attributes, and what the values of these have to be.
+-- The groups of an information file, their attributes, what the values of these have to be, and the type words.
 use Rattle.std.specs.Prelude.{ℕ, List, Option, Some, None, codes, if◌then◌else◌}
 use Rattle.std.specs.Str.{str_eq_ignore_ascii_case}
 use Rattle.info65.specs.declared.attribute.GroupKind.{GroupKind}
@@ -7,12 +7,15 @@ use Rattle.info65.specs.declared.attribute.Attribute.{Attribute}
 use Rattle.info65.specs.declared.attribute.Attribute.TheVariants as attribute
 use Rattle.info65.specs.declared.attribute.Form.{Form}
 use Rattle.info65.specs.declared.attribute.Form.TheVariants as form
+use Rattle.info65.specs.declared.range.RangeType.{RangeType}
+use Rattle.info65.specs.declared.range.RangeType.TheVariants as range_type
 
 -- the group of this name, with letters of any case
 unfoldable pub group_named : List ℕ → Option GroupKind
 group_named text =
     if str_eq_ignore_ascii_case text (codes "GLOBAL") then Some group.Global
-    else None
+    else (if str_eq_ignore_ascii_case text (codes "RANGE") then Some group.Range
+    else None)
 
 -- the attribute of a group by its name, with letters of any case
 unfoldable pub attribute_named : GroupKind → List ℕ → Option Attribute
@@ -25,6 +28,12 @@ attribute_named group.Global text =
     else (if str_eq_ignore_ascii_case text (codes "CPU") then Some attribute.Cpu
     else (if str_eq_ignore_ascii_case text (codes "PAGELENGTH") then Some attribute.PageLength
     else None))))))
+attribute_named group.Range text =
+    if str_eq_ignore_ascii_case text (codes "START") then Some attribute.Start
+    else (if str_eq_ignore_ascii_case text (codes "END") then Some attribute.End
+    else (if str_eq_ignore_ascii_case text (codes "SIZE") then Some attribute.Size
+    else (if str_eq_ignore_ascii_case text (codes "TYPE") then Some attribute.Role
+    else None)))
 
 -- what the value of an attribute has to be
 unfoldable pub form_of : Attribute → Form
@@ -35,3 +44,18 @@ form_of attribute.InputSize = form.Number 1 0x1_0000
 form_of attribute.StartAddress = form.Address
 form_of attribute.Cpu = form.CpuText
 form_of attribute.PageLength = form.Number 0 0
+form_of attribute.Start = form.Address
+form_of attribute.End = form.Address
+form_of attribute.Size = form.Number 1 0x1_0000
+form_of attribute.Role = form.TypeWord
+
+-- what the bytes of a range are, by a type word with letters of any case
+unfoldable pub type_named : List ℕ → Option RangeType
+type_named text =
+    if str_eq_ignore_ascii_case text (codes "CODE") then Some range_type.Code
+    else (if str_eq_ignore_ascii_case text (codes "BYTETABLE") then Some range_type.ByteTable
+    else (if str_eq_ignore_ascii_case text (codes "WORDTABLE") then Some range_type.WordTable
+    else (if str_eq_ignore_ascii_case text (codes "DBYTETABLE") then Some range_type.DbyteTable
+    else (if str_eq_ignore_ascii_case text (codes "TEXTTABLE") then Some range_type.TextTable
+    else (if str_eq_ignore_ascii_case text (codes "SKIP") then Some range_type.Skip
+    else None)))))

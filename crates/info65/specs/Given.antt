@@ -1,6 +1,6 @@
 -- What contracts see of groups: names as lists of bytes.
 use Rattle.std.specs.Prelude.{map}
-use Rattle.info65.specs.Values.{ValueView, a_name, a_number, an_address, a_cpu}
+use Rattle.info65.specs.Values.{ValueView, a_name, a_number, an_address, a_cpu, a_type}
 use Rattle.info65.specs.Groups.{GivenView, GroupView}
 use Rattle.info65.specs.declared.given.Value.{Value}
 use Rattle.info65.specs.declared.given.Value.TheVariants as value
@@ -12,6 +12,7 @@ value_seen (value.Name text) = a_name text.now
 value_seen (value.Number n) = a_number n
 value_seen (value.Address n) = an_address n
 value_seen (value.Cpu c) = a_cpu c
+value_seen (value.Role r) = a_type r
 
 abbrev pub given_seen : Given → GivenView
 given_seen g = record { attribute = g.attribute; value = value_seen g.value }

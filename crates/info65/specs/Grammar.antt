@@ -2,7 +2,8 @@
 use Rattle.std.specs.Prelude.{◌≡◌, ◌≤◌, ℕ, Bool, true, false, List, [], ◌∷◌, ◌++◌, Some, None, Ok, IsOk, length}
 use Rattle.std.specs.List.{flat_map}
 use Rattle.info65.specs.Attributes.{attribute_named, group_named}
-use Rattle.info65.specs.Groups.{GivenView, GroupView, closing_fault, is_given}
+use Rattle.info65.specs.Closing.{closing_fault}
+use Rattle.info65.specs.Groups.{GivenView, GroupView, is_given}
 use Rattle.info65.specs.Lexemes.{KindView, word, opening_brace, closing_brace, semicolon}
 use Rattle.info65.specs.Settings.{info_of}
 use Rattle.info65.specs.Tokens.{TokenView, tokens_of}

@@ -1,14 +1,14 @@
--- Groups, and what must hold of a group behind those before it.
-use Rattle.std.specs.Prelude.{◌||◌, Bool, List, Option, None, option_map}
+-- Groups, and what is given in them.
+use Rattle.std.specs.Prelude.{◌||◌, Bool, false, List, [], Option, option_map}
 use Rattle.std.specs.List.{AllByRecursion, find, flat_map, list_any}
 use denote.Enum.Bare.{sameb}
 use Rattle.info65.specs.contracts.attribute.Attribute as attribute_type
 use Rattle.info65.specs.Attributes.{form_of}
 use Rattle.info65.specs.Values.{HasForm, ValueView}
 use Rattle.info65.specs.declared.attribute.Attribute.{Attribute}
+use Rattle.info65.specs.declared.attribute.Attribute.TheVariants as attribute
 use Rattle.info65.specs.declared.attribute.GroupKind.{GroupKind}
 use Rattle.info65.specs.declared.attribute.GroupKind.TheVariants as group
-use Rattle.info65.specs.declared.fault.InfoFaultKind.{InfoFaultKind}
 
 -- an attribute and its value
 pub record GivenView : Type 0 where
@@ -36,6 +36,7 @@ global_part g = if_global g.kind g.given
   where
     if_global : GroupKind → List GivenView → List GivenView
     if_global group.Global given = given
+    if_global _ given = []
 
 -- what all groups GLOBAL give: they count as one
 unfoldable pub global_given : List GroupView → List GivenView
@@ -44,14 +45,17 @@ global_given groups = flat_map global_part groups
 -- what counts as given in the same group, where a group of this kind follows these
 abbrev pub given_before : List GroupView → GroupKind → List GivenView
 given_before before group.Global = global_given before
+given_before before _ = []
 
--- the attribute was given before in its group
+-- END and SIZE say the same in two ways: the other of the two is given
+unfoldable pub has_instead : Attribute → List GivenView → Bool
+has_instead attribute.End given = has attribute.Size given
+has_instead attribute.Size given = has attribute.End given
+has_instead _ given = false
+
+-- the attribute was given before in its group; END and SIZE count as one
 unfoldable pub is_given : List GroupView → GroupKind → List GivenView → Attribute → Bool
-is_given before k given a = has a (given_before before k) || has a given
-
--- the fault of a group at its closing brace: a group GLOBAL needs nothing
-unfoldable pub closing_fault : List GroupView → GroupKind → List GivenView → Option InfoFaultKind
-closing_fault before group.Global given = None
+is_given before k given a = has a (given_before before k) || (has a given || has_instead a given)
 
 -- each value has the form of its attribute
 abbrev pub AreFormed : List GivenView → Type 0

@@ -1,13 +1,21 @@
 -- Laws of information files.
-use Rattle.std.specs.Prelude.{◌≡◌, ◌⊎◌, ◌↔◌, ◌≤◌, ◌<◌, ℕ, false, List, [], ◌∷◌, ◌++◌, Ok, Err, Result, length}
+use Rattle.std.specs.Prelude.{◌≡◌, ◌⊎◌, ◌↔◌, ◌≤◌, ◌<◌, ◌+◌, ◌-◌, ◌&&◌, ℕ, true, false, List, [], ◌∷◌, ◌++◌, Ok, Err, Some, Result, Any, length}
+use Rattle.std.specs.List.{AllByRecursion}
+use Rattle.info65.specs.Closing.{closing_fault}
 use Rattle.info65.specs.Faults.{fault}
 use Rattle.info65.specs.Grammar.{Accepts, IsInformation}
-use Rattle.info65.specs.Groups.{GivenView, GroupView, global_given, has}
+use Rattle.info65.specs.Groups.{GivenView, GroupView, global_given, has, value_in}
+use Rattle.info65.specs.Ranges.{AreRanges, has_address, range_in, ranges_of}
 use Rattle.info65.specs.Reader.{information, outside, read_from}
 use Rattle.info65.specs.Tokens.{TokenView, tokens_of}
+use Rattle.info65.specs.Values.{a_number, a_type, an_address}
 use Rattle.info65.specs.Views.{InfoView, OptionsView}
+use Rattle.info65.specs.declared.attribute.Attribute.TheVariants as attribute
+use Rattle.info65.specs.declared.attribute.GroupKind.{GroupKind}
+use Rattle.info65.specs.declared.attribute.GroupKind.TheVariants as group
 use Rattle.info65.specs.declared.fault.InfoFault.{InfoFault}
-use Rattle.info65.specs.declared.fault.InfoFaultKind.TheVariants.{Expected, TooLarge}
+use Rattle.info65.specs.declared.fault.InfoFaultKind.TheVariants.{Expected, RangesOverlap, TooLarge}
+use Rattle.info65.specs.declared.range.RangeSpec.{RangeSpec}
 
 -- A text is accepted, and says this, exactly where it is an information file that says this.
 abbrev pub AcceptsFiles : Type 0
@@ -51,3 +59,45 @@ AreOnce (g ∷ gs) = (has g.attribute gs ≡ false) × AreOnce gs
 -- In an accepted file no attribute of the groups GLOBAL stands twice, be it in one group or in two.
 abbrev pub GlobalOnce : Type 0
 GlobalOnce = (o : OptionsView) (ts : List TokenView) (groups : List GroupView) → Accepts o ts groups → AreOnce (global_given groups)
+
+-- no attribute stands twice in a group, and not both END and SIZE do
+pub record IsOnce (g : GroupView) : Type 0 where
+  pub once : AreOnce g.given
+  pub either : (has attribute.End g.given && has attribute.Size g.given) ≡ false
+
+-- In an accepted file no group has an attribute twice, nor both END and SIZE.
+abbrev pub GivenOnce : Type 0
+GivenOnce = (o : OptionsView) (ts : List TokenView) (groups : List GroupView) → Accepts o ts groups → AllByRecursion IsOnce groups
+
+-- What is given in a group RANGE says this range: START is its first address, TYPE its role, and END is
+-- its last address or SIZE the number of its addresses.
+pub record SaysRange (given : List GivenView) (r : RangeSpec) : Type 0 where
+  pub first : value_in attribute.Start given ≡ Some (an_address r.first)
+  pub last : (value_in attribute.End given ≡ Some (an_address r.last)) ⊎ (value_in attribute.Size given ≡ Some (a_number (r.last + 1 - r.first)))
+  pub role : value_in attribute.Role given ≡ Some (a_type r.role)
+
+-- a group RANGE says the first of the ranges, and any other group says none
+abbrev pub Says : GroupKind → List GivenView → List RangeSpec → (List RangeSpec → Type 0) → Type 0
+Says group.Range given [] others = ⊥
+Says group.Range given (r ∷ rs) others = SaysRange given r × others rs
+Says _ given rs others = others rs
+
+-- the ranges are those that the groups RANGE say, one a group, in the order of the groups
+abbrev pub AreSaid : List GroupView → List RangeSpec → Type 0
+AreSaid [] rs = rs ≡ []
+AreSaid (g ∷ gs) rs = Says g.kind g.given rs (AreSaid gs)
+
+-- The ranges of an information file are those that its groups RANGE say; none ends before it begins, and
+-- no address belongs to two of them.
+abbrev pub RangesApart : Type 0
+RangesApart = (o : OptionsView) (bytes : List ℕ) (info : InfoView) (i : IsInformation o bytes info) → AreSaid i.groups info.ranges × AreRanges info.ranges
+
+-- an address belongs to both ranges
+abbrev pub Share : RangeSpec → RangeSpec → Type 0
+Share r q = (a : ℕ) × (has_address r a ≡ true) × (has_address q a ≡ true)
+
+-- A group RANGE that says a range is refused for an overlap exactly where the range shares an address with
+-- that of a group before it.
+abbrev pub OverlapsShare : Type 0
+OverlapsShare = (before : List GroupView) (given : List GivenView) (r : RangeSpec) → range_in given ≡ Ok r
+    → (closing_fault before group.Range given ≡ Some RangesOverlap) ↔ Any (Share r) (ranges_of before)

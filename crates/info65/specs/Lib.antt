@@ -1,12 +1,15 @@
 pub mod Attributes
+pub mod Closing
 pub mod Faults
 pub mod Given
 pub mod Grammar
 pub mod Groups
 pub mod Laws
 pub mod Lexemes
+pub mod Ranges
 pub mod Reader
 pub mod Settings
+pub mod Sound
 pub mod Standing
 pub mod Steps
 pub mod Tokens

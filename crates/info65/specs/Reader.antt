@@ -1,8 +1,9 @@
 -- Reading groups token by token: what may come next, and the first fault.
 use Rattle.std.specs.Prelude.{◌≡◌, ℕ, Bool, true, false, List, [], ◌∷◌, ◌++◌, Option, Some, None, Result, Ok, Err, length, nat_lt, if◌then◌else◌}
 use Rattle.info65.specs.Attributes.{attribute_named, group_named}
+use Rattle.info65.specs.Closing.{closing_fault}
 use Rattle.info65.specs.Faults.{Fails, fault, ◌>>=◌}
-use Rattle.info65.specs.Groups.{GivenView, GroupView, closing_fault, is_given}
+use Rattle.info65.specs.Groups.{GivenView, GroupView, is_given}
 use Rattle.info65.specs.Lexemes.{KindView, word, opening_brace, closing_brace, semicolon}
 use Rattle.info65.specs.Settings.{info_of}
 use Rattle.info65.specs.Tokens.{Stream, TokenView, tokens_of}

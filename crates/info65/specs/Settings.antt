@@ -1,28 +1,12 @@
 -- The settings: what the command line gives wins over the groups GLOBAL, and these over the defaults.
-use Rattle.std.specs.Prelude.{ℕ, List, Option, Some, None}
+use Rattle.std.specs.Prelude.{List}
 use Rattle.std.specs.Option.{option_or, unwrap_or}
-use Rattle.isa65.specs.declared.cpu.Cpu.{Cpu}
 use Rattle.isa65.specs.declared.cpu.Cpu.TheVariants.{M6502}
 use Rattle.info65.specs.Groups.{GivenView, GroupView, global_given, value_in}
-use Rattle.info65.specs.Values.{ValueView, a_name, a_number, an_address, a_cpu}
+use Rattle.info65.specs.Ranges.{ranges_of}
+use Rattle.info65.specs.Values.{as_name, as_number, as_address, as_cpu}
 use Rattle.info65.specs.Views.{InfoView, OptionsView, SettingsView}
 use Rattle.info65.specs.declared.attribute.Attribute.TheVariants as attribute
-
-abbrev pub as_name : Option ValueView → Option (List ℕ)
-as_name (Some (a_name text)) = Some text
-as_name _ = None
-
-abbrev pub as_number : Option ValueView → Option ℕ
-as_number (Some (a_number n)) = Some n
-as_number _ = None
-
-abbrev pub as_address : Option ValueView → Option ℕ
-as_address (Some (an_address n)) = Some n
-as_address _ = None
-
-abbrev pub as_cpu : Option ValueView → Option Cpu
-as_cpu (Some (a_cpu c)) = Some c
-as_cpu _ = None
 
 -- the settings that options and the groups GLOBAL give
 unfoldable pub settings_of : OptionsView → List GivenView → SettingsView
@@ -37,4 +21,4 @@ settings_of o given = record {
 
 -- what groups say, merged with the options
 abbrev pub info_of : OptionsView → List GroupView → InfoView
-info_of o groups = record { settings = settings_of o (global_given groups) }
+info_of o groups = record { settings = settings_of o (global_given groups); ranges = ranges_of groups }

@@ -2,10 +2,10 @@
 use Rattle.std.specs.Prelude.{◌≡◌, ◌≤◌, ℕ, Bool, true, false, ◌&&◌, not, List, Option, Some, None, Result, Ok, Err, length, is_some, nat_le, if◌then◌else◌}
 use Rattle.std.specs.List.{list_all}
 use Rattle.isa65.specs.declared.cpu.Cpu.{Cpu}
-use Rattle.info65.specs.Attributes.{form_of}
+use Rattle.info65.specs.Attributes.{form_of, type_named}
 use Rattle.isa65.specs.Cpu.{cpu_named}
 use Rattle.info65.specs.Faults.{fault}
-use Rattle.info65.specs.Lexemes.{KindView, number, string}
+use Rattle.info65.specs.Lexemes.{KindView, number, string, word}
 use Rattle.info65.specs.Tokens.{TokenView}
 use Rattle.info65.specs.Views.{OptionsView}
 use Rattle.info65.specs.declared.attribute.Attribute.{Attribute}
@@ -14,6 +14,7 @@ use Rattle.info65.specs.declared.attribute.Form.{Form}
 use Rattle.info65.specs.declared.attribute.Form.TheVariants as form
 use Rattle.info65.specs.declared.fault.InfoFault.{InfoFault}
 use Rattle.info65.specs.declared.fault.InfoFaultKind.TheVariants.{Expected, OutOfRange, BadName, NameConflict}
+use Rattle.info65.specs.declared.range.RangeType.{RangeType}
 
 -- the value of an attribute
 pub data ValueView : Type 0 where
@@ -21,6 +22,27 @@ pub data ValueView : Type 0 where
   a_number : ℕ → ValueView
   an_address : ℕ → ValueView
   a_cpu : Cpu → ValueView
+  a_type : RangeType → ValueView
+
+abbrev pub as_name : Option ValueView → Option (List ℕ)
+as_name (Some (a_name text)) = Some text
+as_name _ = None
+
+abbrev pub as_number : Option ValueView → Option ℕ
+as_number (Some (a_number n)) = Some n
+as_number _ = None
+
+abbrev pub as_address : Option ValueView → Option ℕ
+as_address (Some (an_address n)) = Some n
+as_address _ = None
+
+abbrev pub as_cpu : Option ValueView → Option Cpu
+as_cpu (Some (a_cpu c)) = Some c
+as_cpu _ = None
+
+abbrev pub as_type : Option ValueView → Option RangeType
+as_type (Some (a_type r)) = Some r
+as_type _ = None
 
 -- bytes of $20 to $7E
 abbrev pub are_printable : List ℕ → Bool
@@ -55,23 +77,30 @@ abbrev pub cpu_value : ℕ → Option Cpu → Result ValueView InfoFault
 cpu_value line (Some c) = Ok (a_cpu c)
 cpu_value line None = Err (fault line OutOfRange)
 
--- a token of the kind that the form takes, or something else was expected
-abbrev pub in_form : OptionsView → Attribute → ℕ → Form → KindView → Result ValueView InfoFault
-in_form o a line form.FileName (string text) = name_value o a line text
-in_form o a line form.CpuText (string text) = cpu_value line (cpu_named text)
-in_form o a line form.Address (number n) = address_value line n
-in_form o a line (form.Number low high) (number n) = number_value low high line n
-in_form o a line _ _ = Err (fault line Expected)
+-- a type word
+abbrev pub type_value : ℕ → Option RangeType → Result ValueView InfoFault
+type_value line (Some r) = Ok (a_type r)
+type_value line None = Err (fault line Expected)
 
--- The value of an attribute, or the first of its faults: another kind of token, beside its limits, no
--- file name, a name that the command line gives too.
+-- a token of the kind that the form takes, or something else was expected
+abbrev pub in_form : OptionsView → Attribute → ℕ → List ℕ → Form → KindView → Result ValueView InfoFault
+in_form o a line source form.FileName (string text) = name_value o a line text
+in_form o a line source form.CpuText (string text) = cpu_value line (cpu_named text)
+in_form o a line source form.Address (number n) = address_value line n
+in_form o a line source (form.Number low high) (number n) = number_value low high line n
+in_form o a line source form.TypeWord word = type_value line (type_named source)
+in_form o a line source _ _ = Err (fault line Expected)
+
+-- The value of an attribute, or the first of its faults: another kind of token or an unknown type word,
+-- beside its limits, no file name, a name that the command line gives too.
 unfoldable pub value_of : OptionsView → Attribute → TokenView → Result ValueView InfoFault
-value_of o a t = in_form o a t.line (form_of a) t.kind
+value_of o a t = in_form o a t.line t.text (form_of a) t.kind
 
 -- a value of this form
 abbrev pub HasForm : Form → ValueView → Type 0
 HasForm form.FileName (a_name text) = is_file_name text ≡ true
 HasForm form.CpuText (a_cpu c) = Unit {0}
 HasForm form.Address (an_address n) = n ≤ 0xFFFF
+HasForm form.TypeWord (a_type r) = Unit {0}
 HasForm (form.Number low high) (a_number n) = (low ≤ n) × (n ≤ high)
 HasForm _ _ = ⊥

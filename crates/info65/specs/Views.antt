@@ -2,6 +2,7 @@
 use Rattle.std.specs.Prelude.{◌≤◌, ℕ, Bool, false, IfSome, List, Option, None, option_map, String}
 use Rattle.std.specs.String.{string_bytes}
 use Rattle.isa65.specs.declared.cpu.Cpu.{Cpu}
+use Rattle.info65.specs.declared.range.RangeSpec.{RangeSpec}
 
 abbrev pub name_seen : {Z : Type 0} → Option (String Z) → Option (List ℕ)
 name_seen = option_map string_bytes
@@ -36,3 +37,4 @@ pub record AreInLimits (s : SettingsView) : Type 0 where
 -- what an information file says
 pub record InfoView : Type 0 where
   pub settings : SettingsView
+  pub ranges : List RangeSpec

@@ -1,12 +1,17 @@
-//! The groups of an information file, their attributes, and what the values of these have to be.
+//! The groups of an information file, their attributes, what the values of these have to be, and the
+//! type words.
 
 ghost use Rattle.std.specs.Prelude.{◌≡◌};
-ghost use Rattle.info65.specs.Attributes.{attribute_named, form_of, group_named};
+ghost use Rattle.info65.specs.Attributes.{attribute_named, form_of, group_named, type_named};
+ghost use Rattle.info65.specs.declared.attribute.GroupKind.TheVariants.{Global, Range};
+
+use crate::range::RangeType;
 
 /// What a group is about.
 #[derive(Clone, Copy, Debug, PartialEq, Eq)]
 pub enum GroupKind {
     Global,
+    Range,
 }
 
 /// An attribute of a group.
@@ -19,6 +24,11 @@ pub enum Attribute {
     StartAddress,
     Cpu,
     PageLength,
+    Start,
+    End,
+    Size,
+    /// TYPE, whose word is the role of the addresses.
+    Role,
 }
 
 /// What the value of an attribute has to be.
@@ -32,6 +42,8 @@ pub enum Form {
     Address,
     /// A number, both limits among those that it can be.
     Number { low: u32, high: u32 },
+    /// A type word.
+    TypeWord,
 }
 
 /// The group of this name, with letters of any case.
@@ -41,36 +53,60 @@ pub fn group_named(text: &[u8]) -> Option<GroupKind>
 {
     if text.eq_ignore_ascii_case(b"GLOBAL") {
         Some(GroupKind::Global)
+    } else if text.eq_ignore_ascii_case(b"RANGE") {
+        Some(GroupKind::Range)
     } else {
         None
     }
 }
 
 /// The attribute of a group by its name, with letters of any case.
-#[tactic(auto, unfolding(crate::specs::Attributes::attribute_named))]
 pub fn attribute_named(kind: GroupKind, text: &[u8]) -> Option<Attribute>
     ensures { result ≡ attribute_named kind text.now }
 {
     match kind {
-        GroupKind::Global => {
-            if text.eq_ignore_ascii_case(b"INPUTNAME") {
-                Some(Attribute::InputName)
-            } else if text.eq_ignore_ascii_case(b"OUTPUTNAME") {
-                Some(Attribute::OutputName)
-            } else if text.eq_ignore_ascii_case(b"INPUTOFFS") {
-                Some(Attribute::InputOffset)
-            } else if text.eq_ignore_ascii_case(b"INPUTSIZE") {
-                Some(Attribute::InputSize)
-            } else if text.eq_ignore_ascii_case(b"STARTADDR") {
-                Some(Attribute::StartAddress)
-            } else if text.eq_ignore_ascii_case(b"CPU") {
-                Some(Attribute::Cpu)
-            } else if text.eq_ignore_ascii_case(b"PAGELENGTH") {
-                Some(Attribute::PageLength)
-            } else {
-                None
-            }
-        }
+        GroupKind::Global => global_attribute(text),
+        GroupKind::Range => range_attribute(text),
+    }
+}
+
+#[tactic(auto, unfolding(crate::specs::Attributes::attribute_named))]
+fn global_attribute(text: &[u8]) -> Option<Attribute>
+    ensures { result ≡ attribute_named Global text.now }
+{
+    if text.eq_ignore_ascii_case(b"INPUTNAME") {
+        Some(Attribute::InputName)
+    } else if text.eq_ignore_ascii_case(b"OUTPUTNAME") {
+        Some(Attribute::OutputName)
+    } else if text.eq_ignore_ascii_case(b"INPUTOFFS") {
+        Some(Attribute::InputOffset)
+    } else if text.eq_ignore_ascii_case(b"INPUTSIZE") {
+        Some(Attribute::InputSize)
+    } else if text.eq_ignore_ascii_case(b"STARTADDR") {
+        Some(Attribute::StartAddress)
+    } else if text.eq_ignore_ascii_case(b"CPU") {
+        Some(Attribute::Cpu)
+    } else if text.eq_ignore_ascii_case(b"PAGELENGTH") {
+        Some(Attribute::PageLength)
+    } else {
+        None
+    }
+}
+
+#[tactic(auto, unfolding(crate::specs::Attributes::attribute_named))]
+fn range_attribute(text: &[u8]) -> Option<Attribute>
+    ensures { result ≡ attribute_named Range text.now }
+{
+    if text.eq_ignore_ascii_case(b"START") {
+        Some(Attribute::Start)
+    } else if text.eq_ignore_ascii_case(b"END") {
+        Some(Attribute::End)
+    } else if text.eq_ignore_ascii_case(b"SIZE") {
+        Some(Attribute::Size)
+    } else if text.eq_ignore_ascii_case(b"TYPE") {
+        Some(Attribute::Role)
+    } else {
+        None
     }
 }
 
@@ -85,12 +121,35 @@ pub fn form_of(attribute: Attribute) -> Form
             low: 0,
             high: 16_777_216,
         },
-        Attribute::InputSize => Form::Number {
+        Attribute::InputSize | Attribute::Size => Form::Number {
             low: 1,
             high: 0x1_0000,
         },
-        Attribute::StartAddress => Form::Address,
+        Attribute::StartAddress | Attribute::Start | Attribute::End => Form::Address,
         Attribute::Cpu => Form::CpuText,
         Attribute::PageLength => Form::Number { low: 0, high: 0 },
+        Attribute::Role => Form::TypeWord,
+    }
+}
+
+/// What the bytes of a range are, by a type word with letters of any case.
+#[tactic(auto, unfolding(crate::specs::Attributes::type_named))]
+pub fn type_named(text: &[u8]) -> Option<RangeType>
+    ensures { result ≡ type_named text.now }
+{
+    if text.eq_ignore_ascii_case(b"CODE") {
+        Some(RangeType::Code)
+    } else if text.eq_ignore_ascii_case(b"BYTETABLE") {
+        Some(RangeType::ByteTable)
+    } else if text.eq_ignore_ascii_case(b"WORDTABLE") {
+        Some(RangeType::WordTable)
+    } else if text.eq_ignore_ascii_case(b"DBYTETABLE") {
+        Some(RangeType::DbyteTable)
+    } else if text.eq_ignore_ascii_case(b"TEXTTABLE") {
+        Some(RangeType::TextTable)
+    } else if text.eq_ignore_ascii_case(b"SKIP") {
+        Some(RangeType::Skip)
+    } else {
+        None
     }
 }

@@ -1,11 +1,10 @@
-//! What must hold of a group behind those before it.
+//! What is given in groups.
 
-ghost use Rattle.std.specs.Prelude.{◌≡◌, List, map, option_map};
+ghost use Rattle.std.specs.Prelude.{◌≡◌, map, option_map};
 ghost use Rattle.info65.specs.Given.{given_seen, group_seen, value_seen};
-ghost use Rattle.info65.specs.Groups.{GivenView, GroupView, closing_fault, given_before, global_given, global_part, has, is_given, value_in};
+ghost use Rattle.info65.specs.Groups.{given_before, global_given, global_part, has, has_instead, is_given, value_in};
 
 use crate::attribute::{Attribute, GroupKind};
-use crate::fault::InfoFaultKind;
 use crate::given::{Given, Group, Value};
 use std::alloc::Allocator;
 
@@ -38,10 +37,11 @@ fn global_part<'a, 'b, A: Allocator>(group: &'b Group<'a, A>) -> &'b [Given<'a>]
 {
     match group.kind {
         GroupKind::Global => group.given.as_slice(),
+        GroupKind::Range => &[],
     }
 }
 
-/// The attribute was given before in its group.
+/// The attribute was given before in its group, where END and SIZE count as one.
 #[tactic(auto, unfolding(crate::specs::Groups::is_given))]
 pub fn is_given<A: Allocator>(
     before: &[Group<A>],
@@ -51,7 +51,18 @@ pub fn is_given<A: Allocator>(
 ) -> bool
     ensures { result ≡ is_given (map group_seen before.now) kind (map given_seen given.now) attribute }
 {
-    has_before(before, kind, attribute) || has(given, attribute)
+    has_before(before, kind, attribute) || has(given, attribute) || has_instead(given, attribute)
+}
+
+#[tactic(auto, unfolding(crate::specs::Groups::has_instead))]
+fn has_instead(given: &[Given], attribute: Attribute) -> bool
+    ensures { result ≡ has_instead attribute (map given_seen given.now) }
+{
+    match attribute {
+        Attribute::End => has(given, Attribute::Size),
+        Attribute::Size => has(given, Attribute::End),
+        _ => false,
+    }
 }
 
 fn has_before<A: Allocator>(before: &[Group<A>], kind: GroupKind, attribute: Attribute) -> bool
@@ -59,21 +70,13 @@ fn has_before<A: Allocator>(before: &[Group<A>], kind: GroupKind, attribute: Att
 {
     match kind {
         GroupKind::Global => has_global(before, attribute),
+        GroupKind::Range => false,
     }
 }
 
-/// The fault of a group at its closing brace.
-#[tactic(auto, unfolding(crate::specs::Groups::closing_fault))]
-pub fn closing_fault(kind: GroupKind) -> Option<InfoFaultKind>
-    ensures { (before : List GroupView) (given : List GivenView) → result ≡ closing_fault before kind given }
-{
-    match kind {
-        GroupKind::Global => None,
-    }
-}
-
+/// The value that the attribute is given.
 #[tactic(auto, unfolding(crate::specs::Groups::value_in))]
-fn value_in<'a>(given: &[Given<'a>], attribute: Attribute) -> Option<Value<'a>>
+pub fn value_in<'a>(given: &[Given<'a>], attribute: Attribute) -> Option<Value<'a>>
     ensures { option_map value_seen result ≡ value_in attribute (map given_seen given.now) }
 {
     for each in given {

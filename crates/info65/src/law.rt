@@ -1,6 +1,6 @@
 //! Laws of information files.
 
-ghost use Rattle.info65.specs.Laws.{AcceptsFiles, GlobalOnce, RefusesFirst};
+ghost use Rattle.info65.specs.Laws.{AcceptsFiles, GivenOnce, GlobalOnce, OverlapsShare, RangesApart, RefusesFirst};
 ghost use Rattle.info65.specs.Standing.{TokensStand};
 
 /// A text is accepted exactly where its whole token list splits into groups that keep every condition.
@@ -26,4 +26,22 @@ pub fn tokens_stand()
 #[tactic(auto, using(crate::proofs::OnceLemmas::global_once))]
 pub fn global_once()
     ensures { GlobalOnce }
+{}
+
+/// In an accepted file no attribute stands twice in a group, and not both END and SIZE do.
+#[tactic(auto, using(crate::proofs::OnceLemmas::given_once))]
+pub fn given_once()
+    ensures { GivenOnce }
+{}
+
+/// The ranges of an accepted file are those that its groups RANGE say, and no address belongs to two.
+#[tactic(auto, using(crate::proofs::RangeLemmas::ranges_apart))]
+pub fn ranges_apart()
+    ensures { RangesApart }
+{}
+
+/// A group RANGE is refused for an overlap exactly where its range shares an address with one before it.
+#[tactic(auto, using(crate::proofs::RangeLemmas::overlaps_share))]
+pub fn overlaps_share()
+    ensures { OverlapsShare }
 {}

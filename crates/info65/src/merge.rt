@@ -3,14 +3,14 @@
 ghost use Rattle.std.specs.Prelude.{◌≡◌, Ok, map, option_map};
 ghost use Rattle.std.specs.Option.{option_or};
 ghost use Rattle.info65.specs.Faults.{Gives};
-ghost use Rattle.info65.specs.Given.{group_seen, value_seen};
+ghost use Rattle.info65.specs.Given.{group_seen};
 ghost use Rattle.info65.specs.Groups.{AreFormed, global_given};
-ghost use Rattle.info65.specs.Settings.{as_address, as_cpu, as_name, as_number, settings_of};
+ghost use Rattle.info65.specs.Settings.{settings_of};
 ghost use Rattle.info65.specs.Views.{name_seen};
 
 use crate::attribute::Attribute;
 use crate::fault::InfoFault;
-use crate::given::{Group, Value};
+use crate::given::{Group, as_address, as_cpu, as_name, as_number};
 use crate::groups::global_value;
 use crate::options::Options;
 use crate::settings::Settings;
@@ -59,41 +59,5 @@ fn first_name<A: Allocator, B: Allocator>(
             Some(name) => Ok(Some(String::from_str(alloc, name)?)),
             None => Ok(None),
         },
-    }
-}
-
-fn as_name<'a>(value: Option<Value<'a>>) -> Option<&'a str>
-    ensures { option_map (λ s. s.now) result ≡ as_name (option_map value_seen value.entry) }
-{
-    match value {
-        Some(Value::Name(name)) => Some(name),
-        _ => None,
-    }
-}
-
-fn as_number(value: Option<Value>) -> Option<u32>
-    ensures { result ≡ as_number (option_map value_seen value.entry) }
-{
-    match value {
-        Some(Value::Number(number)) => Some(number),
-        _ => None,
-    }
-}
-
-fn as_address(value: Option<Value>) -> Option<u16>
-    ensures { result ≡ as_address (option_map value_seen value.entry) }
-{
-    match value {
-        Some(Value::Address(address)) => Some(address),
-        _ => None,
-    }
-}
-
-fn as_cpu(value: Option<Value>) -> Option<Cpu>
-    ensures { result ≡ as_cpu (option_map value_seen value.entry) }
-{
-    match value {
-        Some(Value::Cpu(cpu)) => Some(cpu),
-        _ => None,
     }
 }

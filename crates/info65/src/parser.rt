@@ -1,9 +1,10 @@
 //! The groups of an information file, token by token.
 
 ghost use Rattle.std.specs.Prelude.{◌≡◌, ◌≤◌, ◌∷◌, ◌++◌, IfErr, IfOk, List, Ok, [], length, map};
+ghost use Rattle.info65.specs.Closing.{closing_fault};
 ghost use Rattle.info65.specs.Faults.{Gives, fault};
 ghost use Rattle.info65.specs.Given.{given_seen, group_seen, value_seen};
-ghost use Rattle.info65.specs.Groups.{GivenView, GroupView, closing_fault};
+ghost use Rattle.info65.specs.Groups.{GivenView, GroupView};
 ghost use Rattle.info65.specs.Reader.{Grows, Leads, attribute_at, behind, closed, closed_by, group, groups_of, inside, is_semicolon, one, opening, outside, read, read_token, valued, wanted};
 ghost use Rattle.info65.specs.Steps.{Sees, kind_seen, seen};
 ghost use Rattle.info65.specs.Tokens.{Stream, with_token};
@@ -14,9 +15,10 @@ ghost use Rattle.info65.specs.declared.fault.InfoFaultKind.TheVariants.{Expected
 ghost use Rattle.info65.specs.declared.token.TokenKind.TheVariants.{Word};
 
 use crate::attribute::{Attribute, GroupKind, attribute_named, group_named};
+use crate::closing::closing_fault;
 use crate::fault::{InfoFault, InfoFaultKind};
 use crate::given::{Given, Group, Value};
-use crate::groups::{closing_fault, is_given};
+use crate::groups::is_given;
 use crate::lexer::{Lexer, Next};
 use crate::options::Options;
 use crate::token::{Token, TokenKind};
@@ -153,7 +155,7 @@ fn attributes<'a, A: Allocator + Copy, B: Allocator>(
         let name = due(lexer)?;
         match name.kind {
             TokenKind::CloseBrace => {
-                is_whole(kind, name.line)?;
+                is_whole(before, kind, given.as_slice(), name.line)?;
                 return Ok(Group { kind, given });
             }
             TokenKind::Word => {
@@ -166,10 +168,15 @@ fn attributes<'a, A: Allocator + Copy, B: Allocator>(
 }
 
 // A group may close here.
-fn is_whole(kind: GroupKind, line: u32) -> Result<(), InfoFault>
-    ensures { (before : List GroupView) (given : List GivenView) → Leads (closed_by before kind given line (closing_fault before kind given)) result (λ _. Ok (closed, before ++ group kind given ∷ [])) }
+fn is_whole<A: Allocator>(
+    before: &[Group<A>],
+    kind: GroupKind,
+    given: &[Given],
+    line: u32,
+) -> Result<(), InfoFault>
+    ensures { Leads (closed_by (map group_seen before.now) kind (map given_seen given.now) line (closing_fault (map group_seen before.now) kind (map given_seen given.now))) result (λ _. Ok (closed, map group_seen before.now ++ group kind (map given_seen given.now) ∷ [])) }
 {
-    match closing_fault(kind) {
+    match closing_fault(before, kind, given) {
         Some(fault) => Err(InfoFault::new(line, fault)),
         None => Ok(()),
     }

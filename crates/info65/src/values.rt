@@ -3,12 +3,13 @@
 ghost use Rattle.std.specs.Prelude.{◌≡◌, option_map};
 ghost use Rattle.info65.specs.Given.{value_seen};
 ghost use Rattle.info65.specs.Steps.{Sees, seen};
-ghost use Rattle.info65.specs.Values.{address_value, are_printable, cpu_value, is_file_name, is_on_command_line, name_value, number_value, value_of};
+ghost use Rattle.info65.specs.Values.{address_value, are_printable, cpu_value, is_file_name, is_on_command_line, name_value, number_value, type_value, value_of};
 
-use crate::attribute::{Attribute, Form, form_of};
+use crate::attribute::{Attribute, Form, form_of, type_named};
 use crate::fault::{InfoFault, InfoFaultKind};
 use crate::given::Value;
 use crate::options::Options;
+use crate::range::RangeType;
 use crate::token::{Token, TokenKind};
 use isa65::Cpu;
 use std::alloc::Allocator;
@@ -87,6 +88,15 @@ fn cpu_value<'a>(line: u32, cpu: Option<Cpu>) -> Result<Value<'a>, InfoFault>
     }
 }
 
+fn type_value<'a>(line: u32, role: Option<RangeType>) -> Result<Value<'a>, InfoFault>
+    ensures { Sees value_seen result (type_value line role) }
+{
+    match role {
+        Some(role) => Ok(Value::Role(role)),
+        None => Err(InfoFault::new(line, InfoFaultKind::Expected)),
+    }
+}
+
 /// The value of an attribute, or the first of its faults.
 #[tactic(auto, unfolding(crate::specs::Values::value_of))]
 pub fn value_of<'a, A: Allocator>(
@@ -104,6 +114,7 @@ pub fn value_of<'a, A: Allocator>(
         (Form::Number { low, high }, TokenKind::Number(number)) => {
             number_value(low, high, line, number)
         }
+        (Form::TypeWord, TokenKind::Word) => type_value(line, type_named(token.text)),
         _ => Err(InfoFault::new(line, InfoFaultKind::Expected)),
     }
 }

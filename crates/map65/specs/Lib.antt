@@ -1,5 +1,11 @@
+pub mod Cells
 pub mod Device
 pub mod Image
 pub mod ImageView
+pub mod Items
+pub mod MapView
 pub mod Passing
+pub mod Pieces
+pub mod Roles
+pub mod Steps
 pub mod Told

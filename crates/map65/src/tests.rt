@@ -1,3 +1,5 @@
-//! Images of worked examples, and devices that fail.
+//! Images and maps of worked examples, and devices that fail.
 
+mod code;
+mod map;
 mod reading;

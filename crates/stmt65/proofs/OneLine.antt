@@ -17,24 +17,23 @@ use Rattle.isa65.specs.declared.mnemonic.Mnemonic.TheVariants.{Adc}
 use Rattle.isa65.specs.declared.mode.Mode.{Mode}
 use Rattle.isa65.specs.declared.mode.Mode.TheVariants.{Imp, Acc, Imm, Zp, Zpx, Zpy, Abs, Absx, Absy, Ind, Indx, Indy, Zpind, Absindx, Rel, Zprel}
 use Rattle.stmt65.specs.declared.columns.Columns.{Columns}
-use Rattle.stmt65.specs.declared.remarks.Remarks.{Remarks}
-use Rattle.stmt65.specs.declared.statement.Expr.{Expr}
-use Rattle.stmt65.specs.declared.statement.Expr.TheVariants as expr
-use Rattle.stmt65.specs.declared.statement.Operands.{Operands}
-use Rattle.stmt65.specs.declared.statement.Operands.TheVariants as operands
-use Rattle.stmt65.specs.declared.statement.Statement.{Statement}
-use Rattle.stmt65.specs.declared.statement.Statement.TheVariants as statement
 use Rattle.stmt65.specs.Digits.{hex_digit, hex2, hex4, offset_text}
 use Rattle.stmt65.specs.Line.{filled, with_fields, line_of}
 use Rattle.stmt65.specs.Operands.{named_text, short_text, long_text, prefix_text, operand_text}
 use Rattle.stmt65.specs.Printable.{IsWrittenIn, IsPrintable}
-use Rattle.stmt65.specs.Statements.{next_byte, bytes_text, quoted, alone, with_operands, instr_fields}
-use Rattle.stmt65.specs.Lexing.{is_word_start, is_word_byte}
+use Rattle.stmt65.specs.Said.{Datum}
+use Rattle.stmt65.specs.Said as said
+use Rattle.stmt65.specs.Tables.{low_words, high_words, text_said}
+use Rattle.stmt65.specs.Statements.{next_byte, bytes_text, quoted, datum_text, datum_behind, data_text, word_behind, words_text, alone, with_operands, instr_fields}
+use Rattle.stmt65.specs.Lexing.{is_word_start, is_word_byte, is_text_byte}
 use Rattle.stmt65.specs.Names.{is_name}
 use Rattle.stmt65.specs.SaidBack.{HasNames}
 use Rattle.stmt65.specs.Widths.{IsInWidth}
+use Rattle.stmt65.specs.Views.{ExprView, OperandsView, StatementView, RemarksView}
+use Rattle.stmt65.specs.Views as view
 use Rattle.stmt65.proofs.Lexed.{IsWordText}
 use Rattle.stmt65.proofs.ReadBack.{IsRead, AreRead, are_read, name_word}
+use Rattle.stmt65.proofs.TableReads.{is_sound, said_sound}
 use Rattle.stmt65.proofs.Cases.{both}
 
 abbrev pub in_line : ℕ → Bool
@@ -59,6 +58,9 @@ word_byte b h = grind (arith, nat_tests)
 
 word_start : (b : ℕ) → is_word_start b ≡ true → in_line b ≡ true
 word_start b h = grind (arith, nat_tests)
+
+text_byte : (b : ℕ) → is_text_byte b ≡ true → in_line b ≡ true
+text_byte b h = grind (arith, nat_tests)
 
 digit : (b : ℕ) → is_ascii_digit b ≡ true → in_line b ≡ true
 digit b h = grind (arith, nat_tests)
@@ -104,13 +106,13 @@ named_line h name offset n lt = go (eqb offset 0) refl
     go true f = rw f (word_line name (name_word name n))
     go false f = rw f (joined (name ++ codes "+") (offset_text h offset) (joined name (codes "+") (word_line name (name_word name n)) refl) (offset_line h offset lt))
 
-two_line : (h : Bool) (e : Expr) → IsRead e → InLine (short_text h e)
-two_line h (expr.Number n) has = hex2_line n
-two_line h (expr.Name name offset) has = named_line h name.now offset has.0 has.1
+two_line : (h : Bool) (e : ExprView) → IsRead e → InLine (short_text h e)
+two_line h (view.number n) has = hex2_line n
+two_line h (view.name name offset) has = named_line h name offset has.0 has.1
 
-four_line : (h : Bool) (e : Expr) → IsRead e → InLine (long_text h e)
-four_line h (expr.Number n) has = hex4_line n
-four_line h (expr.Name name offset) has = named_line h name.now offset has.0 has.1
+four_line : (h : Bool) (e : ExprView) → IsRead e → InLine (long_text h e)
+four_line h (view.number n) has = hex4_line n
+four_line h (view.name name offset) has = named_line h name offset has.0 has.1
 
 prefix_line : (a : Bool) → InLine (prefix_text a)
 prefix_line true = refl
@@ -121,24 +123,24 @@ prefix_line false = refl
 between : (before text after : List ℕ) → InLine before → InLine text → InLine after → InLine (before ++ text ++ after)
 between before text after h g i = joined (before ++ text) after (joined before text h g) i
 
-operand_line : (h : Bool) (m : Mode) (a : Bool) (os : Operands) → IsWrittenIn m os → AreRead os → InLine (operand_text h m a os)
+operand_line : (h : Bool) (m : Mode) (a : Bool) (os : OperandsView) → IsWrittenIn m os → AreRead os → InLine (operand_text h m a os)
 unfolding operand_text
-operand_line h Imp a operands.None w n = refl
-operand_line h Acc a operands.None w n = refl
-operand_line h Imm a (operands.One e) w n = joined (codes "#") (short_text h e) refl (two_line h e n)
-operand_line h Zp a (operands.One e) w n = two_line h e n
-operand_line h Zpx a (operands.One e) w n = joined (short_text h e) (codes ",x") (two_line h e n) refl
-operand_line h Zpy a (operands.One e) w n = joined (short_text h e) (codes ",y") (two_line h e n) refl
-operand_line h Abs a (operands.One e) w n = joined (prefix_text a) (long_text h e) (prefix_line a) (four_line h e n)
-operand_line h Absx a (operands.One e) w n = between (prefix_text a) (long_text h e) (codes ",x") (prefix_line a) (four_line h e n) refl
-operand_line h Absy a (operands.One e) w n = between (prefix_text a) (long_text h e) (codes ",y") (prefix_line a) (four_line h e n) refl
-operand_line h Ind a (operands.One e) w n = between (codes "(") (long_text h e) (codes ")") refl (four_line h e n) refl
-operand_line h Indx a (operands.One e) w n = between (codes "(") (short_text h e) (codes ",x)") refl (two_line h e n) refl
-operand_line h Indy a (operands.One e) w n = between (codes "(") (short_text h e) (codes "),y") refl (two_line h e n) refl
-operand_line h Zpind a (operands.One e) w n = between (codes "(") (short_text h e) (codes ")") refl (two_line h e n) refl
-operand_line h Absindx a (operands.One e) w n = between (codes "(") (long_text h e) (codes ",x)") refl (four_line h e n) refl
-operand_line h Rel a (operands.One e) w n = four_line h e n
-operand_line h Zprel a (operands.Two e f) w n = between (short_text h e) (codes ",") (long_text h f) (two_line h e n.0) refl (four_line h f n.1)
+operand_line h Imp a view.none w n = refl
+operand_line h Acc a view.none w n = refl
+operand_line h Imm a (view.one e) w n = joined (codes "#") (short_text h e) refl (two_line h e n)
+operand_line h Zp a (view.one e) w n = two_line h e n
+operand_line h Zpx a (view.one e) w n = joined (short_text h e) (codes ",x") (two_line h e n) refl
+operand_line h Zpy a (view.one e) w n = joined (short_text h e) (codes ",y") (two_line h e n) refl
+operand_line h Abs a (view.one e) w n = joined (prefix_text a) (long_text h e) (prefix_line a) (four_line h e n)
+operand_line h Absx a (view.one e) w n = between (prefix_text a) (long_text h e) (codes ",x") (prefix_line a) (four_line h e n) refl
+operand_line h Absy a (view.one e) w n = between (prefix_text a) (long_text h e) (codes ",y") (prefix_line a) (four_line h e n) refl
+operand_line h Ind a (view.one e) w n = between (codes "(") (long_text h e) (codes ")") refl (four_line h e n) refl
+operand_line h Indx a (view.one e) w n = between (codes "(") (short_text h e) (codes ",x)") refl (two_line h e n) refl
+operand_line h Indy a (view.one e) w n = between (codes "(") (short_text h e) (codes "),y") refl (two_line h e n) refl
+operand_line h Zpind a (view.one e) w n = between (codes "(") (short_text h e) (codes ")") refl (two_line h e n) refl
+operand_line h Absindx a (view.one e) w n = between (codes "(") (long_text h e) (codes ",x)") refl (four_line h e n) refl
+operand_line h Rel a (view.one e) w n = four_line h e n
+operand_line h Zprel a (view.two e f) w n = between (short_text h e) (codes ",") (long_text h f) (two_line h e n.0) refl (four_line h f n.1)
 operand_line h _ a _ w n = absurd w
 
 -- ---- the other texts
@@ -151,6 +153,32 @@ bytes_line : (bs : List ℕ) → InLine (bytes_text bs)
 unfolding bytes_text
 bytes_line [] = refl
 bytes_line (b ∷ bs) = joined (hex2 b) (flat_map next_byte bs) (hex2_line b) (more_line bs)
+
+words_behind_line : (ws : List ℕ) → InLine (flat_map word_behind ws)
+words_behind_line [] = refl
+words_behind_line (w ∷ ws) = joined (word_behind w) (flat_map word_behind ws) (joined (codes ",") (hex4 w) refl (hex4_line w)) (words_behind_line ws)
+
+words_line : (ws : List ℕ) → InLine (words_text ws)
+unfolding words_text
+words_line [] = refl
+words_line (w ∷ ws) = joined (hex4 w) (flat_map word_behind ws) (hex4_line w) (words_behind_line ws)
+
+datum_line : (d : Datum) → is_sound d ≡ true → InLine (datum_text d)
+datum_line (said.Byte b) h = hex2_line b
+datum_line (said.Bytes t) h = between (codes "\"") t (codes "\"") refl (all_as is_text_byte text_byte t h) refl
+
+data_behind_line : (ds : List Datum) → list_all is_sound ds ≡ true → InLine (flat_map datum_behind ds)
+data_behind_line [] h = refl
+data_behind_line (d ∷ ds) h =
+    let a = both (is_sound d) (list_all is_sound ds) h in
+    joined (datum_behind d) (flat_map datum_behind ds) (joined (codes ",") (datum_text d) refl (datum_line d a.0)) (data_behind_line ds a.1)
+
+data_line : (ds : List Datum) → list_all is_sound ds ≡ true → InLine (data_text ds)
+unfolding data_text
+data_line [] h = refl
+data_line (d ∷ ds) h =
+    let a = both (is_sound d) (list_all is_sound ds) h in
+    joined (datum_text d) (flat_map datum_behind ds) (datum_line d a.0) (data_behind_line ds a.1)
 
 cpu_line : (cpu : Cpu) → InLine (quoted (cpu_text cpu))
 cpu_line M6502 = refl
@@ -179,15 +207,18 @@ alone_line c w h = field_line [] c.mnemonic w refl h
 with_line : (c : Columns) (w operands : List ℕ) → InLine w → InLine operands → InLine (with_fields [] (with_operands c w operands))
 with_line c w operands h g = field_line (filled [] c.mnemonic ++ w) c.argument operands (field_line [] c.mnemonic w refl h) g
 
-instr_line : (c : Columns) (h : Bool) (m : Mnemonic) (mode : Mode) (a : Bool) (os : Operands) → IsWrittenIn mode os → AreRead os → InLine (with_fields [] (instr_fields c h (record { mnemonic = m; mode = mode }) a os))
+instr_line : (c : Columns) (h : Bool) (m : Mnemonic) (mode : Mode) (a : Bool) (os : OperandsView) → IsWrittenIn mode os → AreRead os → InLine (with_fields [] (instr_fields c h (record { mnemonic = m; mode = mode }) a os))
 instr_line c h m Imp a os w n = alone_line c (text_of m) (mnemonic_line m)
 instr_line c h m mode a os w n = with_line c (text_of m) (operand_text h mode a os) (mnemonic_line m) (operand_line h mode a os w n)
 
 -- the line of a statement is one line
-pub one_line : (c : Columns) (s : Statement) (r : Remarks) → IsPrintable s → IsInWidth s → HasNames s → InLine (line_of c s r)
+pub one_line : (c : Columns) (s : StatementView) (r : RemarksView) → IsPrintable s → IsInWidth s → HasNames s → InLine (line_of c s r)
 unfolding line_of
-one_line c (statement.Instr op a os) r p w n = instr_line c r.hexoffs op.mnemonic op.mode a os p.0 (are_read os n w)
-one_line c (statement.Bytes bytes) r p w n = with_line c (codes ".byte") (bytes_text bytes.now) refl (bytes_line bytes.now)
-one_line c (statement.SetCpu cpu) r p w n = with_line c (codes ".setcpu") (quoted (cpu_text cpu)) refl (cpu_line cpu)
-one_line c statement.Blank r p w n = refl
-one_line c (statement.Remark text) r p w n = field_line [] 1 (codes "; " ++ text.now) refl (joined (codes "; ") text.now refl p.1)
+one_line c (view.instr op a os) r p w n = instr_line c r.hexoffs op.mnemonic op.mode a os p.0 (are_read os n w)
+one_line c (view.bytes bs) r p w n = with_line c (codes ".byte") (bytes_text bs) refl (bytes_line bs)
+one_line c (view.text bs) r p w n = with_line c (codes ".byte") (data_text (text_said bs)) refl (data_line (text_said bs) (said_sound bs w))
+one_line c (view.words bs) r p w n = with_line c (codes ".word") (words_text (low_words bs)) refl (words_line (low_words bs))
+one_line c (view.dbyts bs) r p w n = with_line c (codes ".dbyt") (words_text (high_words bs)) refl (words_line (high_words bs))
+one_line c (view.set_cpu cpu) r p w n = with_line c (codes ".setcpu") (quoted (cpu_text cpu)) refl (cpu_line cpu)
+one_line c view.blank r p w n = refl
+one_line c (view.remark text) r p w n = field_line [] 1 (codes "; " ++ text) refl (joined (codes "; ") text refl p.1)

@@ -20,7 +20,7 @@ at_least : (p : ℕ → Bool) (xs ys : List ℕ) → list_all p xs ≡ true → 
 at_least p [] ys h = omega arith
 at_least p (x ∷ xs) ys h = let b = both (p x) (list_all p xs) h in rw b.0 (omega (arith, at_least p xs ys b.1))
 
-run_passes : (p : ℕ → Bool) (n : ℕ) (xs : List ℕ) → n ≤ prefix_len p xs → list_all p (take n xs) ≡ true
+pub run_passes : (p : ℕ → Bool) (n : ℕ) (xs : List ℕ) → n ≤ prefix_len p xs → list_all p (take n xs) ≡ true
 run_passes p zero xs le = refl
 run_passes p (suc n) [] le = refl
 run_passes p (suc n) (x ∷ xs) le = by_test (p x)

@@ -1,7 +1,9 @@
 pub mod Limits
 pub mod Columns
 pub mod Digits
+pub mod Views
 pub mod Operands
+pub mod Tables
 pub mod Statements
 pub mod Line
 pub mod Printable
@@ -25,6 +27,7 @@ pub mod SymbolViews
 pub mod Coding
 pub mod CodingViews
 pub mod CodingLaws
+pub mod TableLaws
 pub mod Meaning
 pub mod MeaningViews
 pub mod Answer

@@ -1,9 +1,8 @@
 -- A line as fields at their columns.
 use Rattle.std.specs.Prelude.{ℕ, ◌-◌, List, [], ◌∷◌, ◌++◌, length, replicate, nat_lt, ◌==◌, if◌then◌else◌}
 use Rattle.stmt65.specs.declared.columns.Columns.{Columns}
-use Rattle.stmt65.specs.declared.remarks.Remarks.{Remarks}
-use Rattle.stmt65.specs.declared.statement.Statement.{Statement}
 use Rattle.stmt65.specs.Statements.{Field, fields_of}
+use Rattle.stmt65.specs.Views.{StatementView, RemarksView}
 
 -- A line that is ready for a field at this column: a shorter line is filled with blanks; else, where it is not empty, one blank is added.
 unfoldable pub filled : List ℕ → ℕ → List ℕ
@@ -16,5 +15,5 @@ with_fields line [] = line
 with_fields line (field ∷ fields) = with_fields (filled line field.0 ++ field.1) fields
 
 -- The line of a statement, without its line feed.
-unfoldable pub line_of : Columns → Statement → Remarks → List ℕ
+unfoldable pub line_of : Columns → StatementView → RemarksView → List ℕ
 line_of c s r = with_fields [] (fields_of c s r)

@@ -1,52 +1,48 @@
 -- What a caller of `put_line` takes care of: the limits within which a line has at most 512 bytes, and says what its statement says.
-use Rattle.std.specs.Prelude.{◌≡◌, ℕ, ◌<◌, ◌≤◌, Bool, true, false, not, List, length, ◌==◌}
+use Rattle.std.specs.Prelude.{◌≡◌, ℕ, ◌%◌, ◌<◌, ◌≤◌, Bool, true, false, not, List, length, ◌==◌}
 use Rattle.std.specs.List.{list_all}
 use Rattle.isa65.specs.declared.mode.Mode.{Mode}
 use Rattle.isa65.specs.declared.mode.Mode.TheVariants.{Imp, Acc, Imm, Zp, Zpx, Zpy, Abs, Absx, Absy, Ind, Indx, Indy, Zpind, Absindx, Rel, Zprel}
-use Rattle.stmt65.specs.declared.statement.Expr.{Expr}
-use Rattle.stmt65.specs.declared.statement.Expr.TheVariants.{Number, Name}
-use Rattle.stmt65.specs.declared.statement.Operands.{Operands}
-use Rattle.stmt65.specs.declared.statement.Operands.TheVariants as operands
-use Rattle.stmt65.specs.declared.statement.Statement.{Statement}
-use Rattle.stmt65.specs.declared.statement.Statement.TheVariants.{Instr, Bytes, SetCpu, Blank, Remark}
+use Rattle.stmt65.specs.Views.{ExprView, OperandsView, StatementView}
+use Rattle.stmt65.specs.Views as view
 
 -- a number below $100, without a name
-abbrev pub IsByte : Expr → Type 0
-IsByte (Number n) = n < 256
-IsByte (Name name offset) = ⊥
+abbrev pub IsByte : ExprView → Type 0
+IsByte (view.number n) = n < 256
+IsByte (view.name name offset) = ⊥
 
 -- a name has 1 to 80 bytes
 abbrev pub IsNameLong : List ℕ → Type 0
 IsNameLong name = (1 ≤ length name) × (length name ≤ 80)
 
 -- what can stand where numbers have two digits: a number below $100, or a name
-abbrev pub IsShort : Expr → Type 0
-IsShort (Number n) = n < 256
-IsShort (Name name offset) = IsNameLong name.now
+abbrev pub IsShort : ExprView → Type 0
+IsShort (view.number n) = n < 256
+IsShort (view.name name offset) = IsNameLong name
 
 -- what can stand where numbers have four digits
-abbrev pub IsLong : Expr → Type 0
-IsLong (Number n) = Unit {0}
-IsLong (Name name offset) = IsNameLong name.now
+abbrev pub IsLong : ExprView → Type 0
+IsLong (view.number n) = Unit {0}
+IsLong (view.name name offset) = IsNameLong name
 
 -- The operands are as many as the mode writes, and can stand there.
-abbrev pub IsWrittenIn : Mode → Operands → Type 0
-IsWrittenIn Imp operands.None = Unit {0}
-IsWrittenIn Acc operands.None = Unit {0}
-IsWrittenIn Imm (operands.One e) = IsByte e
-IsWrittenIn Zp (operands.One e) = IsShort e
-IsWrittenIn Zpx (operands.One e) = IsShort e
-IsWrittenIn Zpy (operands.One e) = IsShort e
-IsWrittenIn Abs (operands.One e) = IsLong e
-IsWrittenIn Absx (operands.One e) = IsLong e
-IsWrittenIn Absy (operands.One e) = IsLong e
-IsWrittenIn Ind (operands.One e) = IsLong e
-IsWrittenIn Indx (operands.One e) = IsShort e
-IsWrittenIn Indy (operands.One e) = IsShort e
-IsWrittenIn Zpind (operands.One e) = IsShort e
-IsWrittenIn Absindx (operands.One e) = IsLong e
-IsWrittenIn Rel (operands.One e) = IsLong e
-IsWrittenIn Zprel (operands.Two e f) = IsShort e × IsLong f
+abbrev pub IsWrittenIn : Mode → OperandsView → Type 0
+IsWrittenIn Imp view.none = Unit {0}
+IsWrittenIn Acc view.none = Unit {0}
+IsWrittenIn Imm (view.one e) = IsByte e
+IsWrittenIn Zp (view.one e) = IsShort e
+IsWrittenIn Zpx (view.one e) = IsShort e
+IsWrittenIn Zpy (view.one e) = IsShort e
+IsWrittenIn Abs (view.one e) = IsLong e
+IsWrittenIn Absx (view.one e) = IsLong e
+IsWrittenIn Absy (view.one e) = IsLong e
+IsWrittenIn Ind (view.one e) = IsLong e
+IsWrittenIn Indx (view.one e) = IsShort e
+IsWrittenIn Indy (view.one e) = IsShort e
+IsWrittenIn Zpind (view.one e) = IsShort e
+IsWrittenIn Absindx (view.one e) = IsLong e
+IsWrittenIn Rel (view.one e) = IsLong e
+IsWrittenIn Zprel (view.two e f) = IsShort e × IsLong f
 IsWrittenIn _ _ = ⊥
 
 -- `a:` stands in the absolute modes alone
@@ -56,10 +52,17 @@ MayBeForced Absx absolute = Unit {0}
 MayBeForced Absy absolute = Unit {0}
 MayBeForced _ absolute = absolute ≡ false
 
+-- a line of a word table has 1 to 4 words
+abbrev pub IsTable : List ℕ → Type 0
+IsTable bytes = (length bytes % 2 ≡ 0) × ((2 ≤ length bytes) × (length bytes ≤ 8))
+
 -- The statement keeps the limits of its kind.
-abbrev pub IsPrintable : Statement → Type 0
-IsPrintable (Instr op absolute operands) = IsWrittenIn op.mode operands × MayBeForced op.mode absolute
-IsPrintable (Bytes bytes) = (1 ≤ length bytes.now) × (length bytes.now ≤ 8)
-IsPrintable (SetCpu cpu) = Unit {0}
-IsPrintable Blank = Unit {0}
-IsPrintable (Remark text) = (length text.now ≤ 200) × (list_all (λ b. not (b == 10)) text.now ≡ true)
+abbrev pub IsPrintable : StatementView → Type 0
+IsPrintable (view.instr op absolute operands) = IsWrittenIn op.mode operands × MayBeForced op.mode absolute
+IsPrintable (view.bytes bs) = (1 ≤ length bs) × (length bs ≤ 8)
+IsPrintable (view.text bs) = (1 ≤ length bs) × (length bs ≤ 16)
+IsPrintable (view.words bs) = IsTable bs
+IsPrintable (view.dbyts bs) = IsTable bs
+IsPrintable (view.set_cpu cpu) = Unit {0}
+IsPrintable view.blank = Unit {0}
+IsPrintable (view.remark text) = (length text ≤ 200) × (list_all (λ b. not (b == 10)) text ≡ true)

@@ -1,27 +1,30 @@
 -- The widths of the numbers in a statement, as its types have them.
-use Rattle.std.specs.Prelude.{◌≡◌, ◌<◌, true, nat_lt}
+use Rattle.std.specs.Prelude.{◌≡◌, ℕ, ◌<◌, true, List, nat_lt}
 use Rattle.std.specs.List.{list_all}
-use Rattle.stmt65.specs.declared.statement.Expr.{Expr}
-use Rattle.stmt65.specs.declared.statement.Expr.TheVariants.{Number, Name}
-use Rattle.stmt65.specs.declared.statement.Operands.{Operands}
-use Rattle.stmt65.specs.declared.statement.Operands.TheVariants as operands
-use Rattle.stmt65.specs.declared.statement.Statement.{Statement}
-use Rattle.stmt65.specs.declared.statement.Statement.TheVariants.{Instr, Bytes, SetCpu, Blank, Remark}
+use Rattle.stmt65.specs.Views.{ExprView, OperandsView, StatementView}
+use Rattle.stmt65.specs.Views as view
 
 -- numbers and offsets have 16 bits
-abbrev pub IsWordWide : Expr → Type 0
-IsWordWide (Number n) = n < 65536
-IsWordWide (Name name offset) = offset < 65536
+abbrev pub IsWordWide : ExprView → Type 0
+IsWordWide (view.number n) = n < 65536
+IsWordWide (view.name name offset) = offset < 65536
 
-abbrev pub AreWordWide : Operands → Type 0
-AreWordWide operands.None = Unit {0}
-AreWordWide (operands.One e) = IsWordWide e
-AreWordWide (operands.Two e f) = IsWordWide e × IsWordWide f
+abbrev pub AreWordWide : OperandsView → Type 0
+AreWordWide view.none = Unit {0}
+AreWordWide (view.one e) = IsWordWide e
+AreWordWide (view.two e f) = IsWordWide e × IsWordWide f
 
 -- bytes have 8 bits
-abbrev pub IsInWidth : Statement → Type 0
-IsInWidth (Instr op absolute operands) = AreWordWide operands
-IsInWidth (Bytes bytes) = list_all (λ b. nat_lt b 256) bytes.now ≡ true
-IsInWidth (SetCpu cpu) = Unit {0}
-IsInWidth Blank = Unit {0}
-IsInWidth (Remark text) = Unit {0}
+abbrev pub AreBytes : List ℕ → Type 0
+AreBytes bytes = list_all (λ b. nat_lt b 256) bytes ≡ true
+
+-- The numbers of the statement are within their widths.
+abbrev pub IsInWidth : StatementView → Type 0
+IsInWidth (view.instr op absolute operands) = AreWordWide operands
+IsInWidth (view.bytes bs) = AreBytes bs
+IsInWidth (view.text bs) = AreBytes bs
+IsInWidth (view.words bs) = AreBytes bs
+IsInWidth (view.dbyts bs) = AreBytes bs
+IsInWidth (view.set_cpu cpu) = Unit {0}
+IsInWidth view.blank = Unit {0}
+IsInWidth (view.remark text) = Unit {0}

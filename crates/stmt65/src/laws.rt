@@ -1,6 +1,7 @@
-//! What the reading of a line is to what is written in it.
+//! What the reading of a line is to what is written in it, and the cutting of a text to its bytes.
 
 ghost use Rattle.stmt65.specs.ReadingLaws.{ReadsSpellings, SpellsOne, TakesParts, ReadsLines};
+ghost use Rattle.stmt65.specs.TableLaws.{CutsTexts};
 
 /// The parts of a line are read as a statement exactly where they are a spelling of it.
 #[tactic(auto, using(crate::proofs::LineLemmas::reads_spellings))]
@@ -24,4 +25,9 @@ pub fn takes_parts()
 #[tactic(auto, using(crate::proofs::LineLemmas::reads_lines))]
 pub fn reads_lines()
     ensures { ReadsLines }
+{}
+
+/// A text is cut into the longest stretches and the bytes between, and in no other way.
+pub fn cuts_texts()
+    ensures { CutsTexts }
 {}

@@ -43,7 +43,7 @@ pub use assembler::assemble;
 pub use coding_laws::codes_alike;
 pub use columns::{Column, Columns, LabelBreak, LimitError};
 pub use fault::{AsmFault, AsmFaultKind};
-pub use laws::{reads_lines, reads_spellings, spells_one, takes_parts};
+pub use laws::{cuts_texts, reads_lines, reads_spellings, spells_one, takes_parts};
 pub use print::{Line, put_line};
 pub use reading::read_line;
 pub use remarks::{Level, Remarks};

@@ -34,6 +34,13 @@ pub enum Statement<'a> {
     },
     /// `.byte` and 1 to 8 bytes.
     Bytes(&'a [u8]),
+    /// `.byte` and 1 to 16 bytes as text: each longest stretch of $20 to $7E without `"` and `\` in
+    /// double quotes, each other byte as a number.
+    Text(&'a [u8]),
+    /// `.word` and the words of 2, 4, 6 or 8 bytes, low byte first.
+    Words(&'a [u8]),
+    /// `.dbyt` and the words of 2, 4, 6 or 8 bytes, high byte first.
+    Dbyts(&'a [u8]),
     /// `.setcpu` and the CPU's name.
     SetCpu(Cpu),
     /// An empty line.

@@ -1,6 +1,7 @@
 ghost use Rattle.std.specs.Prelude.{◌≡◌, false, None};
 ghost use Rattle.isa65.specs.declared.op.Op.{Op};
 ghost use Rattle.stmt65.specs.Printable.{IsPrintable};
+ghost use Rattle.stmt65.specs.Views.{statement_seen};
 
 use crate::{
     Column, Columns, Expr, LabelBreak, Level, LimitError, Line, Operands, Remarks, Statement,
@@ -12,7 +13,7 @@ use std::test::Fail;
 
 /// A line that holds something already, then the statement's, without remarks.
 fn shows(rt: &impl Abort, columns: &Columns, hexoffs: bool, statement: &Statement, want: &[u8])
-    requires { IsPrintable statement.now }
+    requires { IsPrintable (statement_seen statement.now) }
 {
     let remarks = Remarks {
         level: Level::default(),

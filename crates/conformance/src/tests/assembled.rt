@@ -1,6 +1,7 @@
 // Listings that are assembled back to their images.
+use crate::tests::ranges::{RANGED, START, run_ranged};
 use crate::tests::rows::BODIES;
-use crate::tests::runs::{THREE, named, run_over};
+use crate::tests::runs::{THREE, named, run_over, run_with};
 use da65::Status;
 use std::alloc::Global;
 use std::ops::RangeInclusive;
@@ -25,6 +26,19 @@ fn worked_rows(rt: HostRuntime) -> Result<(), Fail> {
     }
     let zeros = vec![in rt.alloc(); 0u8; 65_536]?;
     there_and_back(&rt, rt.alloc(), 0, &zeros)
+}
+
+#[test]
+fn rows_with_ranges(rt: HostRuntime) -> Result<(), Fail> {
+    for row in RANGED {
+        if !row.skips {
+            let ran = run_ranged(rt.alloc(), row.info, row.image)?;
+            assert_eq!(rt; ran.result, Ok(Status::Done), "{}", row.info);
+            let bytes = assemble(rt.alloc(), &ran.listing, START)?;
+            assert_eq!(rt; bytes.as_slice(), row.image, "{}", row.info);
+        }
+    }
+    Ok(())
 }
 
 /// An image of 768 bytes of each of these values.
@@ -56,15 +70,58 @@ fn byte_values_c0_to_ff(rt: HostRuntime) -> Result<(), Fail> {
     byte_values(&rt, rt.alloc(), 0xC0..=0xFF)
 }
 
-#[test]
-fn mixed_bytes(rt: HostRuntime) -> Result<(), Fail> {
-    let mut image = Vec::new(rt.alloc());
+/// Mixed bytes, the same at each call.
+fn mixed(alloc: Global, count: usize) -> Result<Vec<u8>, Fail> {
+    let mut bytes = Vec::new(alloc);
     let mut state = 1u64;
-    for _ in 0..65_536 {
+    for _ in 0..count {
         state = state
             .wrapping_mul(6_364_136_223_846_793_005)
             .wrapping_add(1_442_695_040_888_963_407);
-        image.push((state >> 56) as u8)?;
+        bytes.push((state >> 56) as u8)?;
     }
-    there_and_back(&rt, rt.alloc(), 0, &image)
+    Ok(bytes)
+}
+
+#[test]
+fn mixed_bytes(rt: HostRuntime) -> Result<(), Fail> {
+    there_and_back(&rt, rt.alloc(), 0, &mixed(rt.alloc(), 65_536)?)
+}
+
+/// As many mixed bytes as there are addresses, all of this type.
+fn mixed_bytes_as(rt: &impl Abort, alloc: Global, role: &str) -> Result<(), Fail> {
+    let image = mixed(alloc, 65_536)?;
+    let info = format!(in alloc; "RANGE {{ START 0; END $FFFF; TYPE {role}; }}")?;
+    let options = named(alloc, Some(0))?;
+    let ran = run_with(alloc, alloc, &options, info.as_bytes(), &image);
+    assert_eq!(rt; ran.result, Ok(Status::Done));
+    assert!(rt; ran.messages.is_empty());
+    let bytes = assemble(alloc, &ran.listing, 0)?;
+    assert!(rt; bytes.as_slice() == image.as_slice(), "as {role}");
+    Ok(())
+}
+
+#[test]
+fn mixed_bytes_as_code(rt: HostRuntime) -> Result<(), Fail> {
+    mixed_bytes_as(&rt, rt.alloc(), "CODE")
+}
+
+#[test]
+fn mixed_bytes_as_bytes(rt: HostRuntime) -> Result<(), Fail> {
+    mixed_bytes_as(&rt, rt.alloc(), "BYTETABLE")
+}
+
+#[test]
+fn mixed_bytes_as_words(rt: HostRuntime) -> Result<(), Fail> {
+    mixed_bytes_as(&rt, rt.alloc(), "WORDTABLE")
+}
+
+#[test]
+fn mixed_bytes_as_dbyts(rt: HostRuntime) -> Result<(), Fail> {
+    mixed_bytes_as(&rt, rt.alloc(), "DBYTETABLE")
+}
+
+#[test]
+fn mixed_bytes_as_text(rt: HostRuntime) -> Result<(), Fail> {
+    mixed_bytes_as(&rt, rt.alloc(), "TEXTTABLE")
 }

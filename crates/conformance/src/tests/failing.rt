@@ -1,5 +1,6 @@
 // Runs over devices that fail.
 use crate::tests::devices::{Cut, Endless, Fault, Short};
+use crate::tests::ranges::{START, WARNING};
 use crate::tests::runs::{THREE, THREE_LISTING, named};
 use da65::{RunFault, Status, Told, run};
 use std::test::Fail;
@@ -149,6 +150,61 @@ fn messages_that_fail_or_take_none(rt: HostRuntime) -> Result<(), Fail> {
                 "after {room}"
             );
         }
+    }
+    Ok(())
+}
+
+const SKIPPING: &[u8] = b"RANGE { START $1001; END $1002; TYPE SKIP; };";
+
+const SKIPPED_LISTING: &[u8] =
+    b"; da65 listing\n\n        .setcpu \"6502\"\n\n        nop\n        nop\n";
+
+/// The listing is whole before the warning is written.
+#[test]
+fn a_warning_that_fails_or_takes_none(rt: HostRuntime) -> Result<(), Fail> {
+    for fault in [Fault::Fails, Fault::TakesNone] {
+        for room in 0..WARNING.len() {
+            let mut listing = Vec::new(rt.alloc());
+            let mut messages = Short::new(rt.alloc(), room, fault);
+            let result = run(
+                rt.alloc(),
+                &named(rt.alloc(), Some(START))?,
+                SKIPPING,
+                &[],
+                &mut Told::new([0xEA, 0x20, 0x30, 0xEA].as_slice()),
+                &mut Told::new(&mut listing),
+                &mut Told::new(&mut messages),
+            );
+            assert_eq!(rt; result, Err(RunFault::Messages), "after {room}");
+            assert_eq!(rt; listing.as_slice(), SKIPPED_LISTING, "after {room}");
+            assert_eq!(rt; messages.bytes.as_slice(), &WARNING[..room], "after {room}");
+        }
+    }
+    Ok(())
+}
+
+/// Where the listing fails, no warning is written.
+#[test]
+fn a_listing_that_fails_has_no_warning(rt: HostRuntime) -> Result<(), Fail> {
+    for room in 0..SKIPPED_LISTING.len() {
+        let mut out = Short::new(rt.alloc(), room, Fault::Fails);
+        let mut messages = Vec::new(rt.alloc());
+        let result = run(
+            rt.alloc(),
+            &named(rt.alloc(), Some(START))?,
+            SKIPPING,
+            &[],
+            &mut Told::new([0xEA, 0x20, 0x30, 0xEA].as_slice()),
+            &mut Told::new(&mut out),
+            &mut Told::new(&mut messages),
+        );
+        assert_eq!(rt; result, Err(RunFault::Write), "after {room}");
+        assert_eq!(rt;
+            out.bytes.as_slice(),
+            &SKIPPED_LISTING[..room],
+            "after {room}"
+        );
+        assert!(rt; messages.is_empty(), "after {room}");
     }
     Ok(())
 }

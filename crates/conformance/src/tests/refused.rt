@@ -1,6 +1,10 @@
 // Calls that take memory, each growth refused in turn.
 use crate::heap::Refusing;
+use crate::tests::ranges::WARNING;
+use crate::tests::runs::{HEADER, run_with};
+use da65::{RunFault, Status, Told};
 use info65::{InfoFault, InfoFaultKind, Options, read_info};
+use map65::{Map, read_image};
 use std::alloc::Global;
 use std::test::Fail;
 use stmt65::{AsmFault, AsmFaultKind, assemble};
@@ -56,5 +60,71 @@ fn assembler(rt: HostRuntime) -> Result<(), Fail> {
         }
     }
     assert!(rt; 0 < refused && refused < MANY);
+    Ok(())
+}
+
+/// An information file with ranges, an image at the start that it gives, and its lines behind the header.
+const RANGES: &[u8] = b"GLOBAL { STARTADDR $1000; INPUTNAME \"a.bin\"; }\n\
+    RANGE { START $1001; SIZE 3; TYPE WORDTABLE; }\n\
+    RANGE { START $1004; SIZE 1; TYPE SKIP; }\n\
+    RANGE { START $1005; END $1006; TYPE TEXTTABLE; }\n";
+
+const IMAGE: &[u8] = &[0xEA, 1, 2, 3, 0xFF, 0x41, 0x42];
+
+const BODY: &[u8] =
+    b"        nop\n        .word   $0201\n        .byte   $03\n        .byte   \"AB\"\n";
+
+#[test]
+fn run_with_ranges(rt: HostRuntime) -> Result<(), Fail> {
+    let mut refused = 0u64;
+    for granted in 0..MANY {
+        let heap = Refusing::after(rt.alloc(), granted);
+        let ran = run_with(rt.alloc(), &heap, &Options::none(), RANGES, IMAGE);
+        if heap.left() <= granted {
+            assert_eq!(rt; ran.result, Ok(Status::Done));
+            assert_eq!(rt; ran.listing.as_slice().strip_prefix(HEADER), Some(BODY));
+            assert_eq!(rt; ran.messages.as_slice(), WARNING);
+        } else {
+            refused = refused.saturating_add(1);
+            assert_eq!(rt; ran.result, Err(RunFault::Memory), "after {granted}");
+            assert!(rt; ran.listing.is_empty() && ran.messages.is_empty());
+        }
+    }
+    assert!(rt; 2 < refused && refused < MANY);
+    Ok(())
+}
+
+/// A run grows where its information file, its image and its map do, and the map once.
+#[test]
+fn run_grows_as_its_parts(rt: HostRuntime) -> Result<(), Fail> {
+    let options = Options::<Global>::none();
+    let heap = Refusing::after(rt.alloc(), u64::MAX);
+    let info = read_info(&heap, &options, RANGES)?;
+    let image = read_image(&heap, &info, &mut Told::new(IMAGE))?;
+    let before = heap.left();
+    assert!(rt; Map::build(&heap, &info, &image).is_ok());
+    let parts = u64::MAX - heap.left();
+    assert_eq!(rt; before.wrapping_sub(heap.left()), 1);
+
+    let counted = Refusing::after(rt.alloc(), u64::MAX);
+    let ran = run_with(rt.alloc(), &counted, &options, RANGES, IMAGE);
+    assert_eq!(rt; ran.result, Ok(Status::Done));
+    assert_eq!(rt; u64::MAX - counted.left(), parts);
+    Ok(())
+}
+
+/// The map's growth is the last one of a run.
+#[test]
+fn map_without_memory(rt: HostRuntime) -> Result<(), Fail> {
+    let options = Options::<Global>::none();
+    let counted = Refusing::after(rt.alloc(), u64::MAX);
+    let ran = run_with(rt.alloc(), &counted, &options, RANGES, IMAGE);
+    assert_eq!(rt; ran.result, Ok(Status::Done));
+    let granted = (u64::MAX - counted.left()).saturating_sub(1);
+    let heap = Refusing::after(rt.alloc(), granted);
+    let info = read_info(&heap, &options, RANGES)?;
+    let image = read_image(&heap, &info, &mut Told::new(IMAGE))?;
+    assert_eq!(rt; heap.left(), 0);
+    assert!(rt; Map::build(&heap, &info, &image).is_err());
     Ok(())
 }

@@ -97,7 +97,7 @@ const REFUSED: &[(&str, u32, InfoFaultKind)] = &[
     ("GLOBAL { STARTADDR GLOBAL; }", 1, InfoFaultKind::Expected),
     ("GLOBAL GLOBAL", 1, InfoFaultKind::Expected),
     // groups and attributes that are not known
-    ("RANGE { START 0; };", 1, InfoFaultKind::UnknownGroup),
+    ("LABEL { ADDR 0; };", 1, InfoFaultKind::UnknownGroup),
     (
         "GLOBAL { COMMENTS 1; };",
         1,
@@ -106,7 +106,7 @@ const REFUSED: &[(&str, u32, InfoFaultKind)] = &[
     ("GLOBAL { CPU \"65C02\"; };", 1, InfoFaultKind::OutOfRange),
 ];
 
-fn are_refused(
+pub fn are_refused(
     rt: &impl Abort,
     alloc: Global,
     options: &Options,

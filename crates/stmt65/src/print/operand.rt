@@ -4,6 +4,7 @@ ghost use Rattle.std.specs.Prelude.{◌≡◌, ◌+◌, ◌≤◌, ◌++◌, len
 ghost use Rattle.arrayvec.specs.ArrayVec.{array_vec_len};
 ghost use Rattle.stmt65.specs.Operands.{named_text, short_text, long_text, prefix_text, bare_text, operand_text};
 ghost use Rattle.stmt65.specs.Printable.{IsShort, IsLong, IsWrittenIn};
+ghost use Rattle.stmt65.specs.Views.{one, expr_seen, operands_seen};
 ghost use Rattle.stmt65.specs.Widths.{IsWordWide, AreWordWide};
 
 use super::Line;
@@ -27,10 +28,10 @@ fn put_named(out: &mut Line, hexoffs: bool, name: &[u8], offset: u16)
 /// An expression whose number has two digits.
 fn put_short(out: &mut Line, hexoffs: bool, expr: Expr)
     requires room { array_vec_len out.old ≤ 400 }
-    requires short { IsShort expr }
-    ensures items { out.new.items ≡ out.old.items ++ short_text hexoffs expr.entry }
+    requires short { IsShort (expr_seen expr) }
+    ensures items { out.new.items ≡ out.old.items ++ short_text hexoffs (expr_seen expr.entry) }
     ensures len { array_vec_len out.new ≤ array_vec_len out.old + 86 }
-    ensures width { IsWordWide expr.entry }
+    ensures width { IsWordWide (expr_seen expr.entry) }
 {
     match expr {
         Expr::Number(number) => put_hex2(out, number as u8),
@@ -41,10 +42,10 @@ fn put_short(out: &mut Line, hexoffs: bool, expr: Expr)
 /// An expression whose number has four digits.
 fn put_long(out: &mut Line, hexoffs: bool, expr: Expr)
     requires room { array_vec_len out.old ≤ 400 }
-    requires long { IsLong expr }
-    ensures items { out.new.items ≡ out.old.items ++ long_text hexoffs expr.entry }
+    requires long { IsLong (expr_seen expr) }
+    ensures items { out.new.items ≡ out.old.items ++ long_text hexoffs (expr_seen expr.entry) }
     ensures len { array_vec_len out.new ≤ array_vec_len out.old + 86 }
-    ensures width { IsWordWide expr.entry }
+    ensures width { IsWordWide (expr_seen expr.entry) }
 {
     match expr {
         Expr::Number(number) => put_hex4(out, number),
@@ -55,12 +56,12 @@ fn put_long(out: &mut Line, hexoffs: bool, expr: Expr)
 /// An expression whose number has two digits, between two texts.
 fn put_short_between(out: &mut Line, hexoffs: bool, before: &[u8], expr: Expr, after: &[u8])
     requires room { array_vec_len out.old ≤ 300 }
-    requires short { IsShort expr }
+    requires short { IsShort (expr_seen expr) }
     requires before_fits { length before.now ≤ 3 }
     requires after_fits { length after.now ≤ 3 }
-    ensures items { out.new.items ≡ out.old.items ++ (before.now ++ short_text hexoffs expr.entry ++ after.now) }
+    ensures items { out.new.items ≡ out.old.items ++ (before.now ++ short_text hexoffs (expr_seen expr.entry) ++ after.now) }
     ensures len { array_vec_len out.new ≤ array_vec_len out.old + 92 }
-    ensures width { IsWordWide expr.entry }
+    ensures width { IsWordWide (expr_seen expr.entry) }
 {
     put(out, before);
     put_short(out, hexoffs, expr);
@@ -70,12 +71,12 @@ fn put_short_between(out: &mut Line, hexoffs: bool, before: &[u8], expr: Expr, a
 /// An expression whose number has four digits, between two texts.
 fn put_long_between(out: &mut Line, hexoffs: bool, before: &[u8], expr: Expr, after: &[u8])
     requires room { array_vec_len out.old ≤ 300 }
-    requires long { IsLong expr }
+    requires long { IsLong (expr_seen expr) }
     requires before_fits { length before.now ≤ 3 }
     requires after_fits { length after.now ≤ 3 }
-    ensures items { out.new.items ≡ out.old.items ++ (before.now ++ long_text hexoffs expr.entry ++ after.now) }
+    ensures items { out.new.items ≡ out.old.items ++ (before.now ++ long_text hexoffs (expr_seen expr.entry) ++ after.now) }
     ensures len { array_vec_len out.new ≤ array_vec_len out.old + 92 }
-    ensures width { IsWordWide expr.entry }
+    ensures width { IsWordWide (expr_seen expr.entry) }
 {
     put(out, before);
     put_long(out, hexoffs, expr);
@@ -93,10 +94,10 @@ fn prefix(absolute: bool) -> &'static [u8]
 #[tactic(auto, unfolding(crate::specs::Operands::operand_text))]
 fn put_one(out: &mut Line, hexoffs: bool, mode: Mode, absolute: bool, expr: Expr)
     requires room { array_vec_len out.old ≤ 200 }
-    requires written { IsWrittenIn mode (Operands.One expr) }
-    ensures items { out.new.items ≡ out.old.items ++ operand_text hexoffs mode absolute (Operands.One expr.entry) }
+    requires written { IsWrittenIn mode (one (expr_seen expr)) }
+    ensures items { out.new.items ≡ out.old.items ++ operand_text hexoffs mode absolute (one (expr_seen expr.entry)) }
     ensures len { array_vec_len out.new ≤ array_vec_len out.old + 200 }
-    ensures width { AreWordWide (Operands.One expr.entry) }
+    ensures width { AreWordWide (one (expr_seen expr.entry)) }
 {
     match mode {
         Mode::Imp | Mode::Acc | Mode::Zprel => {}
@@ -136,10 +137,10 @@ pub(super) fn put_operands(
     operands: Operands,
 )
     requires room { array_vec_len out.old ≤ 200 }
-    requires written { IsWrittenIn mode operands }
-    ensures items { out.new.items ≡ out.old.items ++ operand_text hexoffs mode absolute operands.entry }
+    requires written { IsWrittenIn mode (operands_seen operands) }
+    ensures items { out.new.items ≡ out.old.items ++ operand_text hexoffs mode absolute (operands_seen operands.entry) }
     ensures len { array_vec_len out.new ≤ array_vec_len out.old + 200 }
-    ensures width { AreWordWide operands.entry }
+    ensures width { AreWordWide (operands_seen operands.entry) }
 {
     match operands {
         Operands::None => put(out, bare(mode)),

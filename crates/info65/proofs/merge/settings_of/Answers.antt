@@ -3,7 +3,8 @@ use Rattle.std.specs.Prelude.{IfSome, Option}
 use Rattle.std.specs.Option.{unwrap_or}
 use Rattle.info65.specs.Given.{group_seen}
 use Rattle.info65.specs.Groups.{global_given}
-use Rattle.info65.specs.Settings.{as_number, settings_of}
+use Rattle.info65.specs.Settings.{settings_of}
+use Rattle.info65.specs.Values.{as_number}
 use Rattle.info65.proofs.FormLemmas.{settings_in_limits}
 use Rattle.info65.proofs.merge.settings_of.Goals as goal
 

@@ -19,7 +19,7 @@ returns-in_err-is_whole-in-CloseBrace-clause-read g c =
     let k = c.args.kind in
     let given = map given_seen c.attributes.given.items in
     let before = map group_seen c.args.before.now in
-    rw (p.1, p.2) (inl (sym c.attributes.invariant.same ∙ read_next o (inside k given) before _ _ _ c.in_ok-name.ensures.ok ∙ close_refused o k given before _ _ _ _ refl c.in-CloseBrace.is (c.in_err-is_whole-in-CloseBrace.ensures before given)))
+    rw (p.1, p.2) (inl (sym c.attributes.invariant.same ∙ read_next o (inside k given) before _ _ _ c.in_ok-name.ensures.ok ∙ close_refused o k given before _ _ _ _ refl c.in-CloseBrace.is (rw c.as_slice.ensures.value at c.in_err-is_whole-in-CloseBrace.ensures)))
 
 pub returns-in-CloseBrace-clause-read : goal.returns-in-CloseBrace-clause-read
 returns-in-CloseBrace-clause-read g c =
@@ -27,13 +27,13 @@ returns-in-CloseBrace-clause-read g c =
     let k = c.args.kind in
     let given = map given_seen c.attributes.given.items in
     let before = map group_seen c.args.before.now in
-    sym c.attributes.invariant.same ∙ read_next o (inside k given) before _ _ _ c.in_ok-name.ensures.ok ∙ close_taken o k given before _ _ _ refl c.in-CloseBrace.is (c.in_ok-is_whole-in-CloseBrace.ensures before given)
+    sym c.attributes.invariant.same ∙ read_next o (inside k given) before _ _ _ c.in_ok-name.ensures.ok ∙ close_taken o k given before _ _ _ refl c.in-CloseBrace.is (rw c.as_slice.ensures.value at c.in_ok-is_whole-in-CloseBrace.ensures)
 
 pub returns-in_err-next-in-Word-clause-read : goal.returns-in_err-next-in-Word-clause-read
 returns-in_err-next-in-Word-clause-read g c =
     let p = err_from_is_err_and c.from_residual-in_err-next-in-Word.result c.from_residual-in_err-next-in-Word.ensures.1 in
     let place = inside c.args.kind (map given_seen c.attributes.given.items) in
-    let said = rw c.as_slice.ensures.value at c.in_err-next-in-Word.ensures.read in
+    let said = rw c.as_slice-in-Word.ensures.value at c.in_err-next-in-Word.ensures.read in
     rw (p.1, p.2) (inl (sym c.attributes.invariant.same ∙ read_next c.args.options.now place (map group_seen c.args.before.now) _ _ _ c.in_ok-name.ensures.ok ∙ said))
 
 pub attributes-preserved : goal.attributes-preserved
@@ -43,7 +43,7 @@ attributes-preserved g c =
     let given = map given_seen c.attributes.given.items in
     let before = map group_seen c.args.before.now in
     let pushed = ap (map given_seen) c.in_ok-push-in-Word.ensures.items ∙ map-append given_seen c.attributes.given.items (c.in_ok-next-in-Word.next ∷ []) in
-    let said = rw c.as_slice.ensures.value at c.in_ok-next-in-Word.ensures.read in
+    let said = rw c.as_slice-in-Word.ensures.value at c.in_ok-next-in-Word.ensures.read in
     record {
       same = ap (λ l. read o (inside k l) before c.attribute.new.lexer) pushed ∙ sym said ∙ sym (read_next o (inside k given) before _ _ _ c.in_ok-name.ensures.ok) ∙ c.attributes.invariant.same;
       shorter = omega (arith, c.in_ok-next-in-Word.ensures.shorter, c.in_ok-name.ensures.shorter, c.attributes.invariant.shorter);

@@ -1,4 +1,5 @@
 use Rattle.stmt65.specs.Line.{line_of}
+use Rattle.stmt65.specs.Views.{statement_seen, remarks_seen}
 use Rattle.stmt65.proofs.OneLine.{one_line}
 use Rattle.stmt65.proofs.ReadBack.{reads_back}
 use Rattle.stmt65.proofs.print.put_line.Goals as goal
@@ -6,8 +7,8 @@ use Rattle.stmt65.proofs.print.put_line.Goals as goal
 pub returns-clause-reads : goal.returns-clause-reads
 unfolding line_of
 returns-clause-reads c = λ names. record {
-  line = line_of c.args.columns.now c.args.statement.now c.args.remarks.now;
+  line = line_of c.args.columns.now (statement_seen c.args.statement.now) (remarks_seen c.args.remarks.now);
   ends = cc;
-  one_line = one_line c.args.columns.now c.args.statement.now c.args.remarks.now c.requires.printable c.put_statement.ensures.width names;
-  reads = reads_back c.args.columns.now c.args.statement.now c.args.remarks.now c.requires.printable c.put_statement.ensures.width names;
+  one_line = one_line c.args.columns.now (statement_seen c.args.statement.now) (remarks_seen c.args.remarks.now) c.requires.printable c.put_statement.ensures.width names;
+  reads = reads_back c.args.columns.now (statement_seen c.args.statement.now) (remarks_seen c.args.remarks.now) c.requires.printable c.put_statement.ensures.width names;
 }

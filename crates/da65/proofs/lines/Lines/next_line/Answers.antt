@@ -1,29 +1,34 @@
-use Rattle.std.proofs.Common.{◌∙◌, ◌<◌, length, refl, arith}
-use Rattle.da65.proofs.NextLemmas.{at_item, first_item, left_at_place, lines-end, lines-next, lines-title, place-next, placed}
+use Rattle.std.proofs.Common.{◌∙◌, ◌<◌, length, arith, refl, sym}
+use Rattle.da65.proofs.GroupLemmas.{first_place}
+use Rattle.da65.proofs.NextLemmas.{end-told, left_at_place, lines-end, lines-next, lines-title, placed}
 use Rattle.da65.proofs.lines.Lines.next_line.Goals as goal
 
 pub invariant_of-self-in-AfterCpu : goal.invariant_of-self-in-AfterCpu
-invariant_of-self-in-AfterCpu c = (placed c.self.inside.place _ _ c.self.invariant, first_item _ _)
+invariant_of-self-in-AfterCpu g c = ((placed c.self.inside.place _ c.self.invariant.0, first_place _), c.self.invariant.1)
 
-pub returns-then-at-self-clause-end : goal.returns-then-at-self-clause-end
-returns-then-at-self-clause-end c = left_at_place _ _ _ _ _ c.in-Item.is c.self.view_is ∙ lines-end _ _ _ c.if-at-self.true
+pub returns-then-at-bytes-clause-still : goal.returns-then-at-bytes-clause-still
+returns-then-at-bytes-clause-still g c = lines-end _ _ (c.if-at-bytes.true ∙ end-told _ _ _ _ c.self.invariant.1 c.bytes.ensures.bytes)
 
-pub returns-then-at-self-clause-still : goal.returns-then-at-self-clause-still
-returns-then-at-self-clause-still c = left_at_place _ _ _ _ _ c.in-Item.is c.self.view_is ∙ lines-end _ _ _ c.if-at-self.true
+pub returns-then-at-bytes-clause-end : goal.returns-then-at-bytes-clause-end
+returns-then-at-bytes-clause-end g c =
+    left_at_place _ _ _ _ c.in-Group.is c.self.view_is
+    ∙ sym c.shown_from-at.ensures.lines
+    ∙ lines-end _ _ (c.if-at-bytes.true ∙ end-told _ _ _ _ c.self.invariant.1 c.bytes.ensures.bytes)
 
-pub invariant_of-self-in-Item : goal.invariant_of-self-in-Item
-invariant_of-self-in-Item c =
-    let here = at_item _ _ _ _ c.in-Item.is c.self.invariant in
-    let low : c.in-Item.at < length c.self.inside.bytes.now = omega (arith, here.bound, c.if-at-self.false) in
-    (placed c.self.inside.place _ _ c.self.invariant, place-next _ _ _ _ here low (rw c.split_at.ensures.back at c.put_item-size.ensures.size))
+pub overflow_add-self : goal.overflow_add-self
+overflow_add-self g c = omega (arith, c.put_group-len.ensures.place.bound, (placed c.self.inside.place _ c.self.invariant.0).room)
+
+pub invariant_of-self-in-Group : goal.invariant_of-self-in-Group
+invariant_of-self-in-Group g c = ((placed c.self.inside.place _ c.self.invariant.0, c.put_group-len.ensures.place), c.self.invariant.1)
 
 pub returns-in-Title-clause-next : goal.returns-in-Title-clause-next
-returns-in-Title-clause-next c = left_at_place _ _ _ _ _ c.in-Title.is c.self.view_is ∙ lines-title _ _ ∙ rw c.put_statement.ensures refl
+returns-in-Title-clause-next g c = left_at_place _ _ _ _ c.in-Title.is c.self.view_is ∙ lines-title _ ∙ rw c.put_statement.ensures refl
 
-pub returns-else-at-self-clause-next : goal.returns-else-at-self-clause-next
-returns-else-at-self-clause-next c =
-    let here = at_item _ _ _ _ c.in-Item.is c.self.invariant in
-    let low : c.in-Item.at < length c.self.inside.bytes.now = omega (arith, here.bound, c.if-at-self.false) in
-    left_at_place _ _ _ _ _ c.in-Item.is c.self.view_is
-    ∙ lines-next _ _ _ _ here low (rw c.split_at.ensures.back at c.put_item-size.ensures.size)
-    ∙ rw (c.put_item-size.ensures.line, c.split_at.ensures.back) refl
+pub returns-else-at-bytes-clause-next : goal.returns-else-at-bytes-clause-next
+returns-else-at-bytes-clause-next g c =
+    let count = end-told _ _ _ _ c.self.invariant.1 c.bytes.ensures.bytes in
+    let low : c.shown_from-at.result < length c.self.inside.map.now.image.bytes = omega (arith, c.shown_from-at.ensures.place.bound, c.if-at-bytes.false, count) in
+    left_at_place _ _ _ _ c.in-Group.is c.self.view_is
+    ∙ sym c.shown_from-at.ensures.lines
+    ∙ lines-next _ _ c.shown_from-at.ensures.place low (c.shown_from-at.ensures.shown low)
+    ∙ rw (c.put_group-len.ensures.line, c.put_group-len.ensures.len) refl

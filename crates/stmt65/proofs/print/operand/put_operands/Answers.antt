@@ -1,5 +1,6 @@
 use Rattle.std.proofs.Common.{arith}
 use Rattle.std.proofs.lemmas.Grind.{common_steps}
+use Rattle.stmt65.specs.Views.{expr_seen}
 use Rattle.stmt65.proofs.OperandTexts.{none_text, operands_as_many}
 use Rattle.stmt65.proofs.print.operand.put_operands.Goals as goal
 
@@ -8,5 +9,5 @@ returns-in-None-clause-items c = rw (c.in-None.is, none_text c.args.hexoffs c.ar
 
 pub returns-in-Two-clause-items : goal.returns-in-Two-clause-items
 returns-in-Two-clause-items c =
-    let h = operands_as_many c.args.hexoffs c.args.mode c.args.absolute c.in-Two.first c.in-Two.second (rw c.in-Two.is at c.requires.written) in
+    let h = operands_as_many c.args.hexoffs c.args.mode c.args.absolute (expr_seen c.in-Two.first) (expr_seen c.in-Two.second) (rw c.in-Two.is at c.requires.written) in
     rw (c.in-Two.is, h.text) (grind (arith, common_steps))

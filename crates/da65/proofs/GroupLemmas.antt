@@ -1,0 +1,339 @@
+-- Groups, byte by byte.
+use Rattle.std.proofs.Common.{◌≡◌, ◌≢◌, ◌∙◌, ℕ, zero, suc, ◌+◌, ◌-◌, ◌<◌, ◌≤◌, ◌&&◌, ◌==◌, nat_le, nat_lt, not, Bool, true, false, List, [], ◌∷◌, length, refl, ap, sym, subst, arith, ⊎_elim, if◌then◌else◌}
+use Rattle.std.proofs.lemmas.Bool.{and_parts, and_from, cond-true, cond-false, cond_both, cases_eq, cases_lt, eq-eqb, ne_eqb, eqb-true, lt-ltb, ltb-true, leb-true, le-leb, not-true}
+use Rattle.info65.specs.declared.range.RangeType.{RangeType}
+use Rattle.info65.specs.declared.range.RangeType.TheVariants as role
+use Rattle.map65.specs.ImageView.{end_of, is_inside}
+use Rattle.map65.specs.Items.{item_len, size_at, unit_of}
+use Rattle.map65.specs.MapView.{MapView}
+use Rattle.map65.specs.Pieces.{is_joined}
+use Rattle.map65.specs.Roles.{is_skip, role_of}
+use Rattle.map65.specs.Steps.{addresses, left_at}
+use Rattle.map65.proofs.ItemLemmas.{item-len-at, left-behind, left-begun, left-first, left-going, left-inside, size-fits, size-positive, skip-size}
+use Rattle.da65.specs.Groups.{IsGroupPlace, begins, goes_on, group_addresses, group_len, groups_from, is_whole, limit_at, more_at, stride_at}
+
+-- ---- items
+
+-- what is known where an item begins
+pub record ItemBegins (m : MapView) (a : ℕ) : Type 0 where
+  pub low : m.image.start ≤ a
+  pub high : a < end_of m.image
+  pub shown : is_skip (role_of m.info a) ≡ false
+  pub none : left_at (size_at m) m.image.start (a - m.image.start) ≡ 0
+  pub size : item_len m a ≡ size_at m a
+
+abbrev has_item : MapView → ℕ → Bool
+has_item m a = is_inside m.image a && (not (is_skip (role_of m.info a)) && left_at (size_at m) m.image.start (a - m.image.start) == 0)
+
+item-test : (m : MapView) (a : ℕ) → 0 < item_len m a → has_item m a ≡ true
+unfolding item_len
+item-test m a =
+    cond_both (has_item m a) (size_at m a) 0 (λ n. 0 < n → has_item m a ≡ true) (λ is some. is) (λ _ some. absurd (omega (arith, some)))
+
+item-len-true : (m : MapView) (a : ℕ) → has_item m a ≡ true → item_len m a ≡ size_at m a
+unfolding item_len
+item-len-true m a is = cond-true (has_item m a) _ _ is
+
+pub item-begun : (m : MapView) (a : ℕ) → 0 < item_len m a → ItemBegins m a
+item-begun m a some =
+    let is = item-test m a some in
+    let both = and_parts (is_inside m.image a) (not (is_skip (role_of m.info a)) && left_at (size_at m) m.image.start (a - m.image.start) == 0) is in
+    let bounds = and_parts (nat_le m.image.start a) (nat_lt a (end_of m.image)) both.0 in
+    let behind = and_parts (not (is_skip (role_of m.info a))) (left_at (size_at m) m.image.start (a - m.image.start) == 0) both.1 in
+    record {
+      low = leb-true m.image.start a bounds.0;
+      high = ltb-true a (end_of m.image) bounds.1;
+      shown = not-true (is_skip (role_of m.info a)) behind.0;
+      none = eqb-true (left_at (size_at m) m.image.start (a - m.image.start)) 0 behind.1;
+      size = item-len-true m a is;
+    }
+
+-- an item that is as long as its role's has a byte
+pub unit-positive : (r : RangeType) → 1 ≤ unit_of r
+unit-positive role.Code = omega arith
+unit-positive role.ByteTable = omega arith
+unit-positive role.WordTable = omega arith
+unit-positive role.DbyteTable = omega arith
+unit-positive role.TextTable = omega arith
+unit-positive role.Skip = omega arith
+
+-- ---- the items that go on
+
+-- what is known of an item that goes on
+pub record GoesOn (m : MapView) (a : ℕ) : Type 0 where
+  pub joined : is_joined m a ≡ true
+  pub whole : item_len m a ≡ unit_of (role_of m.info a)
+  pub some : 0 < item_len m a
+
+pub item-goes-on : (m : MapView) (a : ℕ) → goes_on m a ≡ true → GoesOn m a
+unfolding goes_on
+item-goes-on m a is =
+    let both = and_parts (is_joined m a) (is_whole m a) is in
+    let whole : item_len m a ≡ unit_of (role_of m.info a) = eqb-true (item_len m a) (unit_of (role_of m.info a)) both.1 in
+    record { joined = both.0; whole = whole; some = omega (arith, whole, unit-positive (role_of m.info a)) }
+
+pub more-none : (m : MapView) (a : ℕ) → more_at m 0 a ≡ 0
+unfolding more_at
+more-none m a = refl
+
+pub more-true : (m : MapView) (n a : ℕ) → goes_on m a ≡ true → more_at m (suc n) a ≡ item_len m a + more_at m n (a + item_len m a)
+unfolding more_at
+more-true m n a is = cond-true (goes_on m a) _ _ is
+
+pub more-false : (m : MapView) (n a : ℕ) → goes_on m a ≡ false → more_at m (suc n) a ≡ 0
+unfolding more_at
+more-false m n a is = cond-false (goes_on m a) _ _ is
+
+-- where the items end that go on from the k-th byte, whose address is a
+record MoreEnds (m : MapView) (n k a : ℕ) : Type 0 where
+  fits : k + more_at m n a ≤ length m.image.bytes
+  item : left_at (size_at m) m.image.start (k + more_at m n a) ≡ 0
+
+none-ends : (m : MapView) (n k a : ℕ) → more_at m n a ≡ 0 → k ≤ length m.image.bytes → left_at (size_at m) m.image.start k ≡ 0 → MoreEnds m n k a
+none-ends m n k a none bound item =
+    let place : k + more_at m n a ≡ k = omega (arith, none) in
+    record { fits = omega (arith, none, bound); item = ap (left_at (size_at m) m.image.start) place ∙ item }
+
+-- where an item begins with the k-th byte, it ends where none is under way
+record ItemEnds (m : MapView) (k len : ℕ) : Type 0 where
+  fits : k + len ≤ length m.image.bytes
+  item : left_at (size_at m) m.image.start (k + len) ≡ 0
+
+item-ends : (m : MapView) (k len : ℕ) → k < length m.image.bytes → len ≡ size_at m (m.image.start + k) → left_at (size_at m) m.image.start k ≡ 0 → ItemEnds m k len
+item-ends m k len low same none =
+    let place : k + len ≡ k + size_at m (m.image.start + k) = omega (arith, same) in
+    record {
+      fits = omega (arith, same, size-fits m k low);
+      item = ap (left_at (size_at m) m.image.start) place ∙ left-behind (size_at m) (size-positive m) m.image.start k none;
+    }
+
+more-ends : (m : MapView) (n k a : ℕ) → a ≡ m.image.start + k → k ≤ length m.image.bytes → left_at (size_at m) m.image.start k ≡ 0 → MoreEnds m n k a
+more-ends m zero k a e bound item = none-ends m zero k a (more-none m a) bound item
+more-ends m (suc n) k a e bound item = go (goes_on m a) refl (more-ends m n)
+  where
+    go : (t : Bool) → goes_on m a ≡ t → ((k a : ℕ) → a ≡ m.image.start + k → k ≤ length m.image.bytes → left_at (size_at m) m.image.start k ≡ 0 → MoreEnds m n k a) → MoreEnds m (suc n) k a
+    go false is behind = none-ends m (suc n) k a (more-false m n a is) bound item
+    go true is behind =
+        let begun = item-begun m a (item-goes-on m a is).some in
+        let low : k < length m.image.bytes = omega (arith, begun.high, e) in
+        let ends = item-ends m k (item_len m a) low (begun.size ∙ ap (size_at m) e) item in
+        let others = behind (k + item_len m a) (a + item_len m a) (omega (arith, e)) ends.fits ends.item in
+        let more = more-true m n a is in
+        let place : k + more_at m (suc n) a ≡ k + item_len m a + more_at m n (a + item_len m a) = omega (arith, more) in
+        record { fits = omega (arith, others.fits, more); item = ap (left_at (size_at m) m.image.start) place ∙ others.item }
+
+-- ---- the group at a place
+
+pub item-begins : (m : MapView) (k : ℕ) → IsGroupPlace m k → k < length m.image.bytes → is_skip (role_of m.info (m.image.start + k)) ≡ false → 0 < item_len m (m.image.start + k)
+item-begins m k here low shown = omega (arith, item-len-at m k low shown here.item, size-positive m (m.image.start + k))
+
+-- the group ends where no item is under way
+group-ends : (m : MapView) (k : ℕ) → IsGroupPlace m k → k < length m.image.bytes → is_skip (role_of m.info (m.image.start + k)) ≡ false → ItemEnds m k (group_len m (m.image.start + k))
+unfolding group_len
+group-ends m k here low shown =
+    let a : ℕ = m.image.start + k in
+    let first = item-ends m k (item_len m a) low (item-len-at m k low shown here.item) here.item in
+    let others = more-ends m (limit_at m a - 1) (k + item_len m a) (a + item_len m a) (omega arith) first.fits first.item in
+    let place : k + (item_len m a + more_at m (limit_at m a - 1) (a + item_len m a)) ≡ k + item_len m a + more_at m (limit_at m a - 1) (a + item_len m a) = omega arith in
+    record { fits = omega (arith, others.fits); item = ap (left_at (size_at m) m.image.start) place ∙ others.item }
+
+pub group-fits : (m : MapView) (k : ℕ) → IsGroupPlace m k → k < length m.image.bytes → is_skip (role_of m.info (m.image.start + k)) ≡ false → k + group_len m (m.image.start + k) ≤ length m.image.bytes
+group-fits m k here low shown = (group-ends m k here low shown).fits
+
+pub group-some : (m : MapView) (k : ℕ) → IsGroupPlace m k → k < length m.image.bytes → is_skip (role_of m.info (m.image.start + k)) ≡ false → 1 ≤ group_len m (m.image.start + k)
+unfolding group_len
+group-some m k here low shown = omega (arith, item-begins m k here low shown)
+
+-- ---- from place to place
+
+-- where a step of at least one byte ends none is under way
+left-step : (size : ℕ → ℕ) (start k n : ℕ) → n ≡ size (start + k) → 1 ≤ n → left_at size start k ≡ 0 → left_at size start (k + n) ≡ 0
+left-step size start k n same some none =
+    let place : k + n ≡ suc k + (n - 1) = omega (arith, some) in
+    ap (left_at size start) place ∙ left-inside size start k (n - 1) none (omega (arith, same, some)) ∙ omega (arith, same)
+
+pub stride-skip : (m : MapView) (a : ℕ) → is_skip (role_of m.info a) ≡ true → stride_at m a ≡ 1
+unfolding stride_at
+stride-skip m a is = cond-true (is_skip (role_of m.info a)) _ _ is
+
+pub stride-group : (m : MapView) (a : ℕ) → is_skip (role_of m.info a) ≡ false → stride_at m a ≡ group_len m a
+unfolding stride_at
+stride-group m a is = cond-false (is_skip (role_of m.info a)) _ _ is
+
+pub first_place : (m : MapView) → IsGroupPlace m 0
+first_place m = record { bound = omega arith; group = left-first (stride_at m) m.image.start; item = left-first (size_at m) m.image.start }
+
+pub place-skip : (m : MapView) (k : ℕ) → IsGroupPlace m k → k < length m.image.bytes → is_skip (role_of m.info (m.image.start + k)) ≡ true → IsGroupPlace m (k + 1)
+place-skip m k here low skip = record {
+  bound = omega (arith, low);
+  group = left-step (stride_at m) m.image.start k 1 (sym (stride-skip m (m.image.start + k) skip)) (omega arith) here.group;
+  item = left-step (size_at m) m.image.start k 1 (sym (skip-size m (m.image.start + k) skip)) (omega arith) here.item;
+}
+
+pub place-next : (m : MapView) (k : ℕ) → IsGroupPlace m k → k < length m.image.bytes → is_skip (role_of m.info (m.image.start + k)) ≡ false → IsGroupPlace m (k + group_len m (m.image.start + k))
+place-next m k here low shown =
+    let ends = group-ends m k here low shown in
+    record {
+      bound = ends.fits;
+      group = left-step (stride_at m) m.image.start k (group_len m (m.image.start + k)) (sym (stride-group m (m.image.start + k) shown)) (group-some m k here low shown) here.group;
+      item = ends.item;
+    }
+
+-- ---- where a group begins, by the byte's index
+
+begins-index : (m : MapView) (k : ℕ) → begins m (m.image.start + k) ≡ (is_inside m.image (m.image.start + k) && (not (is_skip (role_of m.info (m.image.start + k))) && left_at (stride_at m) m.image.start k == 0))
+unfolding begins
+begins-index m k =
+    let same : m.image.start + k - m.image.start ≡ k = omega arith in
+    ap (λ (n : ℕ). is_inside m.image (m.image.start + k) && (not (is_skip (role_of m.info (m.image.start + k))) && left_at (stride_at m) m.image.start n == 0)) same
+
+pub inside-index : (m : MapView) (k : ℕ) → k < length m.image.bytes → is_inside m.image (m.image.start + k) ≡ true
+inside-index m k low = and_from _ _ (le-leb m.image.start (m.image.start + k) (omega arith)) (lt-ltb (m.image.start + k) (end_of m.image) (omega (arith, low)))
+
+pub begins-true : (m : MapView) (k : ℕ) → k < length m.image.bytes → is_skip (role_of m.info (m.image.start + k)) ≡ false → left_at (stride_at m) m.image.start k ≡ 0 → begins m (m.image.start + k) ≡ true
+begins-true m k low shown none =
+    begins-index m k ∙ and_from _ _ (inside-index m k low) (and_from _ _ (ap not shown) (eq-eqb (left_at (stride_at m) m.image.start k) 0 none))
+
+begins-skip : (m : MapView) (k : ℕ) → k < length m.image.bytes → is_skip (role_of m.info (m.image.start + k)) ≡ true → begins m (m.image.start + k) ≡ false
+begins-skip m k low skip = begins-index m k ∙ rw (inside-index m k low, skip) refl
+
+begins-inside : (m : MapView) (k : ℕ) → k < length m.image.bytes → left_at (stride_at m) m.image.start k ≢ 0 → begins m (m.image.start + k) ≡ false
+begins-inside m k low some = begins-index m k ∙ rw (ne_eqb (left_at (stride_at m) m.image.start k) 0 some) (and-false (is_inside m.image (m.image.start + k)) (not (is_skip (role_of m.info (m.image.start + k)))))
+  where
+    and-false : (s t : Bool) → (s && (t && false)) ≡ false
+    and-false true true = refl
+    and-false true false = refl
+    and-false false t = refl
+
+-- ---- the groups that are left
+
+groups-step : (m : MapView) (k : ℕ) → k < length m.image.bytes → groups_from m k ≡ (if begins m (m.image.start + k) then (m.image.start + k) ∷ groups_from m (k + 1) else groups_from m (k + 1))
+unfolding groups_from addresses
+groups-step m k low =
+    let more : length m.image.bytes - k ≡ suc (length m.image.bytes - (k + 1)) = omega (arith, low) in
+    let next : m.image.start + k + 1 ≡ m.image.start + (k + 1) = omega arith in
+    rw (more, next) refl
+
+groups-yes : (m : MapView) (k : ℕ) → k < length m.image.bytes → begins m (m.image.start + k) ≡ true → groups_from m k ≡ (m.image.start + k) ∷ groups_from m (k + 1)
+groups-yes m k low is = groups-step m k low ∙ cond-true _ _ _ is
+
+groups-no : (m : MapView) (k : ℕ) → k < length m.image.bytes → begins m (m.image.start + k) ≡ false → groups_from m k ≡ groups_from m (k + 1)
+groups-no m k low is = groups-step m k low ∙ cond-false _ _ _ is
+
+-- no group begins before the one that is under way ends
+groups-pass : (m : MapView) (n k : ℕ) → left_at (stride_at m) m.image.start k ≡ n → k + n ≤ length m.image.bytes → groups_from m k ≡ groups_from m (k + n)
+groups-pass m zero k is low = let place : k ≡ k + 0 = omega arith in ap (groups_from m) place
+groups-pass m (suc n) k is low =
+    let some : left_at (stride_at m) m.image.start k ≢ 0 = λ none. absurd (omega (arith, is, none)) in
+    let next : k + 1 ≡ suc k = omega arith in
+    let left : left_at (stride_at m) m.image.start (k + 1) ≡ n = ap (left_at (stride_at m) m.image.start) next ∙ left-going (stride_at m) m.image.start k some ∙ omega (arith, is) in
+    let place : k + 1 + n ≡ k + suc n = omega arith in
+    let inside : k < length m.image.bytes = omega (arith, low) in
+    groups-no m k inside (begins-inside m k inside some) ∙ groups-pass m n (k + 1) left (omega (arith, low)) ∙ ap (groups_from m) place
+
+-- the groups of the whole image
+pub groups-first : (m : MapView) → group_addresses m ≡ groups_from m 0
+unfolding groups_from group_addresses
+groups-first m =
+    let place : m.image.start + 0 ≡ m.image.start = omega arith in
+    let count : length m.image.bytes - 0 ≡ length m.image.bytes = omega arith in
+    rw (place, count) refl
+
+pub groups-end : (m : MapView) (k : ℕ) → k ≡ length m.image.bytes → groups_from m k ≡ []
+unfolding groups_from addresses
+groups-end m k end = let none : length m.image.bytes - k ≡ 0 = omega (arith, end) in rw none refl
+
+-- a skipped byte is passed over
+pub groups-skip : (m : MapView) (k : ℕ) → IsGroupPlace m k → k < length m.image.bytes → is_skip (role_of m.info (m.image.start + k)) ≡ true → groups_from m k ≡ groups_from m (k + 1)
+groups-skip m k here low skip = groups-no m k low (begins-skip m k low skip)
+
+-- the group of the k-th byte, and those behind it
+pub groups-next : (m : MapView) (k : ℕ) → IsGroupPlace m k → k < length m.image.bytes → is_skip (role_of m.info (m.image.start + k)) ≡ false
+    → groups_from m k ≡ (m.image.start + k) ∷ groups_from m (k + group_len m (m.image.start + k))
+groups-next m k here low shown =
+    let len : ℕ = group_len m (m.image.start + k) in
+    let some : 1 ≤ len = group-some m k here low shown in
+    let fits : k + len ≤ length m.image.bytes = group-fits m k here low shown in
+    let next : k + 1 ≡ suc k = omega arith in
+    let left : left_at (stride_at m) m.image.start (k + 1) ≡ len - 1 =
+    ap (left_at (stride_at m) m.image.start) next ∙ left-begun (stride_at m) m.image.start k here.group ∙ ap (λ (n : ℕ). n - 1) (stride-group m (m.image.start + k) shown) in
+    let place : k + 1 + (len - 1) ≡ k + len = omega (arith, some) in
+    groups-yes m k low (begins-true m k low shown here.group) ∙ ap (λ (rest : List ℕ). (m.image.start + k) ∷ rest) (groups-pass m (len - 1) (k + 1) left (omega (arith, some, fits)) ∙ ap (groups_from m) place)
+
+-- ---- a group begins at a place alone
+
+-- what is known where a group begins
+pub record GroupBegins (m : MapView) (a : ℕ) : Type 0 where
+  pub low : m.image.start ≤ a
+  pub high : a < end_of m.image
+  pub shown : is_skip (role_of m.info a) ≡ false
+  pub none : left_at (stride_at m) m.image.start (a - m.image.start) ≡ 0
+
+pub group-begun : (m : MapView) (a : ℕ) → begins m a ≡ true → GroupBegins m a
+unfolding begins
+group-begun m a is =
+    let both = and_parts (is_inside m.image a) (not (is_skip (role_of m.info a)) && left_at (stride_at m) m.image.start (a - m.image.start) == 0) is in
+    let bounds = and_parts (nat_le m.image.start a) (nat_lt a (end_of m.image)) both.0 in
+    let behind = and_parts (not (is_skip (role_of m.info a))) (left_at (stride_at m) m.image.start (a - m.image.start) == 0) both.1 in
+    record {
+      low = leb-true m.image.start a bounds.0;
+      high = ltb-true a (end_of m.image) bounds.1;
+      shown = not-true (is_skip (role_of m.info a)) behind.0;
+      none = eqb-true (left_at (stride_at m) m.image.start (a - m.image.start)) 0 behind.1;
+    }
+
+-- the step from a place: to the next one, which lies behind it
+pub record Step (m : MapView) (p : ℕ) : Type 0 where
+  pub some : 1 ≤ stride_at m (m.image.start + p)
+  pub next : IsGroupPlace m (p + stride_at m (m.image.start + p))
+
+pub place-step : (m : MapView) (p : ℕ) → IsGroupPlace m p → p < length m.image.bytes → Step m p
+place-step m p here low = go (is_skip (role_of m.info (m.image.start + p))) refl
+  where
+    go : (t : Bool) → is_skip (role_of m.info (m.image.start + p)) ≡ t → Step m p
+    go true e =
+        let one : stride_at m (m.image.start + p) ≡ 1 = stride-skip m (m.image.start + p) e in
+        record { some = omega (arith, one); next = rw one (place-skip m p here low e) }
+    go false e =
+        let len : stride_at m (m.image.start + p) ≡ group_len m (m.image.start + p) = stride-group m (m.image.start + p) e in
+        record { some = omega (arith, len, group-some m p here low e); next = rw len (place-next m p here low e) }
+
+-- within a step its bytes are left
+pub left-within : (size : ℕ → ℕ) (start p k : ℕ) → left_at size start p ≡ 0 → p < k → k < p + size (start + p) → left_at size start k ≢ 0
+left-within size start p k here low high none =
+    let i : ℕ = k - p - 1 in
+    let place : k ≡ suc p + i = omega (arith, low) in
+    let left = left-inside size start p i here (omega (arith, low, high)) in
+    let none' : left_at size start (suc p + i) ≡ 0 = sym (ap (left_at size start) place) ∙ none in
+    omega (arith, left, none', low, high)
+
+-- the place from which the step goes that has the k-th byte
+pub record Holder (m : MapView) (k : ℕ) : Type 0 where
+  pub first : ℕ
+  pub place : IsGroupPlace m first
+  pub low : first ≤ k
+  pub reach : k < first + stride_at m (m.image.start + first)
+
+hold : (m : MapView) (n p k : ℕ) → k < p + n → p ≤ k → k < length m.image.bytes → IsGroupPlace m p → Holder m k
+hold m zero p k fuel low high here = absurd (omega (arith, fuel, low))
+hold m (suc n) p k fuel low high here =
+    let step = place-step m p here (omega (arith, low, high)) in
+    let next : ℕ = p + stride_at m (m.image.start + p) in
+    ⊎_elim
+    (λ within. record { first = p; place = here; low = low; reach = within })
+    (λ behind. hold m n next k (omega (arith, fuel, step.some)) behind high step.next)
+    (cases_lt k next)
+
+pub holder : (m : MapView) (k : ℕ) → k < length m.image.bytes → Holder m k
+holder m k high = hold m (suc k) 0 k (omega arith) (omega arith) high (first_place m)
+
+-- a group begins at a place alone
+pub place-of : (m : MapView) (a : ℕ) → begins m a ≡ true → IsGroupPlace m (a - m.image.start)
+place-of m a is =
+    let known = group-begun m a is in
+    let k : ℕ = a - m.image.start in
+    let held = holder m k (omega (arith, known.low, known.high)) in
+    ⊎_elim
+    (λ same. subst (IsGroupPlace m) (sym same) held.place)
+    (λ other. absurd (left-within (stride_at m) m.image.start held.first k held.place.group (omega (arith, held.low, other)) held.reach known.none))
+    (cases_eq k held.first)

@@ -1,0 +1,100 @@
+-- Line groups: the items that stand on one line.
+use Rattle.std.specs.Prelude.{◌≡◌, ◌↔◌, ◌⊎◌, ℕ, zero, suc, ◌+◌, ◌-◌, ◌*◌, ◌%◌, ◌<◌, ◌≤◌, ◌==◌, ◌&&◌, not, Bool, true, false, List, length, take, if◌then◌else◌}
+use Rattle.std.specs.List.{filter, list_any}
+use Rattle.info65.specs.declared.range.RangeType.{RangeType}
+use Rattle.info65.specs.declared.range.RangeType.TheVariants as role
+use Rattle.map65.specs.ImageView.{bytes_from, is_inside}
+use Rattle.map65.specs.Items.{item_len, size_at, unit_of}
+use Rattle.map65.specs.MapView.{MapView}
+use Rattle.map65.specs.Pieces.{AreOnePiece, IsFirst, is_joined}
+use Rattle.map65.specs.Roles.{is_skip, role_of}
+use Rattle.map65.specs.Steps.{addresses, left_at}
+
+-- how many items a line takes at most
+abbrev pub limit_of : RangeType → ℕ
+limit_of role.Code = 1
+limit_of role.ByteTable = 8
+limit_of role.WordTable = 4
+limit_of role.DbyteTable = 4
+limit_of role.TextTable = 16
+limit_of role.Skip = 1
+
+-- the item at an address is as long as those of its role's tables: it is not left over
+abbrev pub is_whole : MapView → ℕ → Bool
+is_whole m a = item_len m a == unit_of (role_of m.info a)
+
+-- how many items the line takes that begins with the item at an address: a byte that is left over stands alone
+abbrev pub limit_at : MapView → ℕ → ℕ
+limit_at m a = if is_whole m a then limit_of (role_of m.info a) else 1
+
+-- the item at an address may stand on the line of the one before it: it is of the same piece and whole
+unfoldable pub goes_on : MapView → ℕ → Bool
+goes_on m a = is_joined m a && is_whole m a
+
+-- how many bytes the items have that go on from an address, of n at most
+unfoldable pub more_at : MapView → ℕ → ℕ → ℕ
+more_at m zero a = 0
+more_at m (suc n) a = if goes_on m a then item_len m a + more_at m n (a + item_len m a) else 0
+
+-- how many bytes the group has that begins with the item at an address: that item, and those that go on, as many as the line takes
+unfoldable pub group_len : MapView → ℕ → ℕ
+group_len m a = item_len m a + more_at m (limit_at m a - 1) (a + item_len m a)
+
+-- from a group to the next one; a skipped byte has none, and is passed over
+unfoldable pub stride_at : MapView → ℕ → ℕ
+stride_at m a = if is_skip (role_of m.info a) then 1 else group_len m a
+
+-- a group begins at the address: groups follow each other
+unfoldable pub begins : MapView → ℕ → Bool
+begins m a = is_inside m.image a && (not (is_skip (role_of m.info a)) && left_at (stride_at m) m.image.start (a - m.image.start) == 0)
+
+-- the bytes of the group that begins at an address
+abbrev pub group_bytes : MapView → ℕ → List ℕ
+group_bytes m a = take (group_len m a) (bytes_from m.image a)
+
+-- The addresses of the image at which groups begin, in their order.
+unfoldable pub group_addresses : MapView → List ℕ
+group_addresses m = filter (begins m) (addresses (length m.image.bytes) m.image.start)
+
+-- ---- what is left from a byte on
+
+-- the addresses from the k-th byte on at which groups begin
+unfoldable pub groups_from : MapView → ℕ → List ℕ
+groups_from m k = filter (begins m) (addresses (length m.image.bytes - k) (m.image.start + k))
+
+-- a group begins with the k-th byte or it is skipped, or the image ends before it
+pub record IsGroupPlace (m : MapView) (k : ℕ) : Type 0 where
+  pub bound : k ≤ length m.image.bytes
+  pub group : left_at (stride_at m) m.image.start k ≡ 0
+  pub item : left_at (size_at m) m.image.start k ≡ 0
+
+-- ---- skipped bytes
+
+-- a byte of the image is skipped
+unfoldable pub skips : MapView → Bool
+skips m = list_any (λ a. is_skip (role_of m.info a)) (addresses (length m.image.bytes) m.image.start)
+
+-- ---- the law above
+
+-- a whole item, the k-th of its piece counted from 0
+pub record IsItemOf (m : MapView) (a k : ℕ) : Type 0 where
+  pub first : ℕ
+  pub is_first : IsFirst m first
+  pub one_piece : AreOnePiece m first a
+  pub place : a ≡ first + k * unit_of (role_of m.info a)
+
+-- it is item k of its piece, and the items of a line divide k
+pub record BeginsFullLine (m : MapView) (a limit : ℕ) : Type 0 where
+  pub index : ℕ
+  pub item : IsItemOf m a index
+  pub divides : index % limit ≡ 0
+
+-- the item at an address is the first of its line
+abbrev pub BeginsLine : MapView → ℕ → RangeType → Type 0
+BeginsLine m a role.Code = Unit {0}
+BeginsLine m a r = (is_whole m a ≡ false) ⊎ BeginsFullLine m a (limit_of r)
+
+-- A group begins at an address exactly where an item begins there that is of code, is left over, or is item k of its piece, and the
+-- items of a line divide k.
+abbrev pub GroupLaw : MapView → Type 0
+GroupLaw m = (a : ℕ) → (begins m a ≡ true) ↔ ((0 < item_len m a) × BeginsLine m a (role_of m.info a))

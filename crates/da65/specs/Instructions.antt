@@ -1,0 +1,20 @@
+-- The instruction that some bytes begin with.
+use Rattle.std.specs.Prelude.{ℕ, nat_le, List, [], ◌∷◌, length, Option, Some, None, if◌then◌else◌}
+use Rattle.isa65.specs.Mode.{len_of}
+use Rattle.isa65.specs.Opcodes.{Table, decoded}
+use Rattle.isa65.specs.declared.op.Op.{Op}
+
+-- an instruction that has all of its bytes among so many
+abbrev pub whole_in : ℕ → Option Op → Option Op
+whole_in count None = None
+whole_in count (Some op) = if nat_le (len_of op.mode) count then Some op else None
+
+-- The instruction that some bytes begin with: none where the first is an undefined opcode, or where an instruction of it is cut.
+unfoldable pub instruction_in : Table → List ℕ → Option Op
+instruction_in t [] = None
+instruction_in t (b ∷ bytes) = whole_in (length (b ∷ bytes)) (decoded t b)
+
+-- an undefined or cut opcode is an item of one byte
+abbrev pub size_of : Option Op → ℕ
+size_of None = 1
+size_of (Some op) = len_of op.mode

@@ -1,0 +1,183 @@
+//! Line groups: the items that stand on one line.
+
+ghost use Rattle.std.specs.Prelude.{◌≡◌, ◌+◌, ◌<◌, ◌≤◌, true};
+ghost use Rattle.map65.specs.ImageView.{IsPlaced, end_of, is_inside};
+ghost use Rattle.map65.specs.Items.{item_len};
+ghost use Rattle.map65.specs.Pieces.{is_joined};
+ghost use Rattle.map65.specs.Roles.{is_skip, role_at, role_of};
+ghost use Rattle.da65.specs.Groups.{goes_on, group_len, is_whole, limit_at, limit_of, more_at, skips};
+
+use info65::RangeType;
+use map65::{Image, Map, unit_of};
+use std::alloc::Allocator;
+
+/// The number of addresses, $10000.
+const ADDRESSES: usize = 65_536;
+
+/// How many items a line of this role takes at most.
+fn limit_of(role: RangeType) -> usize
+    ensures limit { result ≡ limit_of role }
+    ensures some { 1 ≤ result }
+{
+    match role {
+        RangeType::Code | RangeType::Skip => 1,
+        RangeType::ByteTable => 8,
+        RangeType::WordTable | RangeType::DbyteTable => 4,
+        RangeType::TextTable => 16,
+    }
+}
+
+/// The role of an address, none outside the image.
+fn role_of<A: Allocator>(map: &Map<'_, A>, address: usize) -> Option<RangeType>
+    requires { IsPlaced map.now.image }
+    ensures { result ≡ role_at map.now address }
+{
+    if address < ADDRESSES {
+        map.role(address as u16)
+    } else {
+        None
+    }
+}
+
+/// How long the item is that begins at the address, and 0 where none does.
+fn item_len<A: Allocator>(map: &Map<'_, A>, address: usize) -> usize
+    requires { IsPlaced map.now.image }
+    ensures len { result ≡ item_len map.now address }
+    ensures fits { 0 < result → address + result ≤ end_of map.now.image }
+{
+    if address < ADDRESSES {
+        map.item_len(address as u16) as usize
+    } else {
+        0
+    }
+}
+
+/// Whether the address lies in the image and in the piece of the address before it.
+fn is_joined<A: Allocator>(map: &Map<'_, A>, address: usize) -> bool
+    requires { IsPlaced map.now.image }
+    ensures { result ≡ is_joined map.now address }
+{
+    if address == 0 {
+        return false;
+    }
+    let Some(before) = role_of(map, address - 1) else {
+        return false;
+    };
+    let Some(role) = role_of(map, address) else {
+        return false;
+    };
+    before == role
+}
+
+/// Whether the item at an address of this role is as long as those of the role's tables: it is not left
+/// over.
+fn is_whole<A: Allocator>(map: &Map<'_, A>, role: RangeType, address: usize) -> bool
+    requires placed { IsPlaced map.now.image }
+    requires role { role_of map.now.info address ≡ role }
+    ensures { result ≡ is_whole map.now address }
+{
+    item_len(map, address) == unit_of(role) as usize
+}
+
+/// Whether the item at an address may stand on the line of the one before it: it is of the same piece and
+/// whole.
+#[tactic(auto, unfolding(crate::specs::Groups::goes_on))]
+fn goes_on<A: Allocator>(map: &Map<'_, A>, address: usize) -> bool
+    requires { IsPlaced map.now.image }
+    ensures { result ≡ goes_on map.now address }
+{
+    let Some(role) = role_of(map, address) else {
+        return false;
+    };
+    if is_joined(map, address) {
+        is_whole(map, role, address)
+    } else {
+        false
+    }
+}
+
+/// How many bytes the items have that go on from an address, of so many at most.
+#[tactic(auto, unfolding(crate::specs::Groups::more_at))]
+fn more_at<A: Allocator>(map: &Map<'_, A>, limit: usize, address: usize) -> usize
+    requires placed { IsPlaced map.now.image }
+    requires inside { address ≤ end_of map.now.image }
+    ensures bytes { result ≡ more_at map.now limit address }
+    ensures fits { address + result ≤ end_of map.now.image }
+{
+    let mut at = address;
+    let mut left = limit;
+    'items: while 0 < left {
+        if !goes_on(map, at) {
+            return at - address;
+        }
+        at += item_len(map, at);
+        left -= 1;
+    }
+    at - address
+}
+
+/// How many items the line takes that begins with the item at an address of this role.
+fn limit_at<A: Allocator>(map: &Map<'_, A>, role: RangeType, address: usize) -> usize
+    requires placed { IsPlaced map.now.image }
+    requires role { role_of map.now.info address ≡ role }
+    ensures limit { result ≡ limit_at map.now address }
+    ensures some { 1 ≤ result }
+{
+    if is_whole(map, role, address) {
+        limit_of(role)
+    } else {
+        1
+    }
+}
+
+/// How many bytes the group has that begins with the item at an address of this role: that item, and
+/// those that go on, as many as the line takes. Takes no memory.
+#[tactic(auto, unfolding(crate::specs::Groups::group_len))]
+pub fn group_len<A: Allocator>(map: &Map<'_, A>, role: RangeType, address: usize) -> usize
+    requires placed { IsPlaced map.now.image }
+    requires role { role_of map.now.info address ≡ role }
+    requires begins { 0 < item_len map.now address }
+    ensures len { result ≡ group_len map.now address }
+    ensures fits { address + result ≤ end_of map.now.image }
+{
+    let first = item_len(map, address);
+    let more = limit_at(map, role, address) - 1;
+    first + more_at(map, more, address + first)
+}
+
+/// The role of an address of the image.
+pub fn role_inside<A: Allocator>(map: &Map<'_, A>, address: u16) -> RangeType
+    requires { is_inside map.now.image address ≡ true }
+    ensures { result ≡ role_of map.now.info address }
+{
+    match map.role(address) {
+        Some(role) => role,
+        None => RangeType::Code,
+    }
+}
+
+/// Whether the byte at an address of the image is skipped.
+pub fn is_skipped<A: Allocator>(map: &Map<'_, A>, address: u16) -> bool
+    requires { is_inside map.now.image address ≡ true }
+    ensures { result ≡ is_skip (role_of map.now.info address) }
+{
+    matches!(role_inside(map, address), RangeType::Skip)
+}
+
+/// Whether a byte of the image is skipped. Takes no memory.
+#[tactic(auto, unfolding(crate::specs::Groups::skips))]
+pub fn has_skipped<A: Allocator>(map: &Map<'_, A>, image: &Image<A>) -> bool
+    requires { map.now.image ≡ image.now }
+    ensures { result ≡ skips map.now }
+{
+    let start = image.start() as usize;
+    let count = image.bytes().len();
+    let mut at = 0;
+    'bytes: while at < count {
+        if is_skipped(map, (start + at) as u16) {
+            return true;
+        }
+        at += 1;
+    }
+    false
+}

@@ -1,0 +1,277 @@
+-- The ranges of an accepted file: what their groups say, and that no two share an address.
+use Rattle.std.proofs.Common.{◌≡◌, ◌∙◌, ◌≤◌, ◌<◌, ◌+◌, ◌-◌, ◌&&◌, ◌||◌, ℕ, zero, suc, Bool, List, [], ◌∷◌, ◌++◌, true, false, ap, append_assoc, arith, drop, get_or, inl, inr, length, map, refl, subst, sym}
+use Rattle.std.specs.Prelude.{All, AllPairs, Any, IfSome, Option, Some, None, Result, Ok, Err, ◌⊎◌, nat_le}
+use Rattle.std.specs.List.{flat_map, list_any}
+use Rattle.std.proofs.lemmas.Bool.Decides.{nat_tests}
+use Rattle.std.proofs.lemmas.List.{append-nil, at_drop_all, at_drop_more}
+use Rattle.std.proofs.lemmas.List.Elements.{All-append}
+use Rattle.std.proofs.lemmas.List.Folds.{Any-from_list_any, list_any-append, list_any_at, list_any-from_Any}
+use Rattle.std.proofs.lemmas.List.Quantifiers.{all_pairs_push}
+use Rattle.std.proofs.lemmas.Grind.{flat_map-append}
+use Rattle.info65.specs.Attributes.{form_of}
+use Rattle.info65.specs.Closing.{closing_fault, range_fault}
+use Rattle.info65.specs.Given.{group_seen}
+use Rattle.info65.specs.Grammar.{AreGroups}
+use Rattle.info65.specs.Groups.{AreFormed, GivenView, GroupView, value_in}
+use Rattle.info65.specs.Laws.{AreSaid, OverlapsShare, RangesApart, SaysRange, Share}
+use Rattle.info65.specs.Ranges.{AreApart, AreRanges, last_from, overlaps, range_between, range_from, range_in, range_part, ranges_of}
+use Rattle.info65.specs.Reader.{groups_of, read}
+use Rattle.info65.specs.Tokens.{tokens_of}
+use Rattle.info65.specs.Values.{ValueView, a_number, a_type, an_address, as_address, as_number, as_type}
+use Rattle.info65.specs.Views.{OptionsView}
+use Rattle.info65.specs.declared.attribute.Attribute.TheVariants as attribute
+use Rattle.info65.specs.declared.attribute.GroupKind.{GroupKind}
+use Rattle.info65.specs.declared.attribute.GroupKind.TheVariants as kind
+use Rattle.info65.specs.declared.fault.InfoFaultKind.{InfoFaultKind}
+use Rattle.info65.specs.declared.fault.InfoFaultKind.TheVariants.{OutOfRange, RangesOverlap}
+use Rattle.info65.specs.declared.given.Group.{Group}
+use Rattle.info65.specs.declared.range.RangeSpec.{RangeSpec}
+use Rattle.info65.specs.declared.range.RangeType.{RangeType}
+use Rattle.info65.proofs.Accepting.{by_test, groups_accepted}
+use Rattle.info65.proofs.FormLemmas.{GroupsFormed, found_formed, groups_formed, size_in}
+
+-- ---- group by group
+
+-- the group at a place of the list is the next
+pub ranges_next : {Z : Type 0} (gs : List (Group Z)) (i : ℕ) (x : Group Z) → i < length gs → x ≡ get_or gs i x
+    → ranges_of (map group_seen (drop i gs)) ≡ range_part (group_seen x) ++ ranges_of (map group_seen (drop (i + 1) gs))
+unfolding ranges_of
+ranges_next gs i x here is =
+    at_drop_more (λ l. ranges_of (map group_seen l)) gs i x here
+    ∙ ap (λ y. ranges_of (group_seen y ∷ map group_seen (drop (i + 1) gs))) (sym is)
+
+pub ranges_none : {Z : Type 0} (gs : List (Group Z)) (i : ℕ) → length gs ≤ i → ranges_of (map group_seen (drop i gs)) ≡ []
+unfolding ranges_of
+ranges_none gs i past = at_drop_all (λ l. ranges_of (map group_seen l)) gs i past
+
+or_yes : (a b : Bool) → a ≡ true → (a || b) ≡ true
+or_yes a b h = rw h refl
+
+or_none : (a b : Bool) → a ≡ false → (a || b) ≡ b
+or_none a b h = rw h refl
+
+-- an overlap, looked for group by group
+any_more : {Z : Type 0} (r : RangeSpec) (gs : List (Group Z)) (i : ℕ) (x : Group Z) → i < length gs → x ≡ get_or gs i x
+    → list_any (overlaps r) (ranges_of (map group_seen (drop i gs))) ≡ (list_any (overlaps r) (range_part (group_seen x)) || list_any (overlaps r) (ranges_of (map group_seen (drop (i + 1) gs))))
+any_more r gs i x here is = ap (list_any (overlaps r)) (ranges_next gs i x here is) ∙ list_any-append (overlaps r) (range_part (group_seen x)) (ranges_of (map group_seen (drop (i + 1) gs)))
+
+pub any_found : {Z : Type 0} (r : RangeSpec) (gs : List (Group Z)) (i : ℕ) (x : Group Z) → i < length gs → x ≡ get_or gs i x → list_any (overlaps r) (range_part (group_seen x)) ≡ true
+    → list_any (overlaps r) (ranges_of (map group_seen (drop i gs))) ≡ true
+any_found r gs i x here is found = any_more r gs i x here is ∙ or_yes (list_any (overlaps r) (range_part (group_seen x))) (list_any (overlaps r) (ranges_of (map group_seen (drop (i + 1) gs)))) found
+
+pub any_next : {Z : Type 0} (r : RangeSpec) (gs : List (Group Z)) (i : ℕ) (x : Group Z) → i < length gs → x ≡ get_or gs i x → list_any (overlaps r) (range_part (group_seen x)) ≡ false
+    → list_any (overlaps r) (ranges_of (map group_seen (drop i gs))) ≡ list_any (overlaps r) (ranges_of (map group_seen (drop (i + 1) gs)))
+any_next r gs i x here is free = any_more r gs i x here is ∙ or_none (list_any (overlaps r) (range_part (group_seen x))) (list_any (overlaps r) (ranges_of (map group_seen (drop (i + 1) gs)))) free
+
+pub any_none : {Z : Type 0} (r : RangeSpec) (gs : List (Group Z)) (i : ℕ) → length gs ≤ i → list_any (overlaps r) (ranges_of (map group_seen (drop i gs))) ≡ false
+any_none r gs i past = ap (list_any (overlaps r)) (ranges_none gs i past)
+
+ranges_more : (before : List GroupView) (g : GroupView) → ranges_of (before ++ g ∷ []) ≡ ranges_of before ++ range_part g
+unfolding ranges_of
+ranges_more before g = flat_map-append range_part before (g ∷ []) ∙ ap (λ l. flat_map range_part before ++ l) (append-nil (range_part g))
+
+-- ---- what a group says
+
+and_parts : (a b : Bool) → (a && b) ≡ true → (a ≡ true) × (b ≡ true)
+and_parts true b h = (refl, h)
+and_parts false b h = absurd cc
+
+record IsFrom (s e z : Option ℕ) (t : Option RangeType) (r : RangeSpec) : Type 0 where
+  first : s ≡ Some r.first
+  last : (e ≡ Some r.last) ⊎ (z ≡ Some (r.last + 1 - r.first))
+  role : t ≡ Some r.role
+  ordered : r.first ≤ r.last
+
+between : (f l : ℕ) (t : RangeType) (r : RangeSpec) → range_between f t (Some l) ≡ Ok r → (r.first ≡ f) × (r.last ≡ l) × (r.role ≡ t) × (f ≤ l)
+between f l t r h =
+    by_test (nat_le f l && nat_le l 0xFFFF)
+    (λ within. let p = and_parts (nat_le f l) (nat_le l 0xFFFF) within in
+    let i : ◌≡◌ {A = Result RangeSpec InfoFaultKind} (Ok (record { first = f; last = l; role = t })) (Ok r) = rw within at h in
+    (cc, cc, cc, grind (arith, nat_tests, p.0)))
+    (λ out. let i : ◌≡◌ {A = Result RangeSpec InfoFaultKind} (Err OutOfRange) (Ok r) = rw out at h in absurd cc)
+
+from : (s e z : Option ℕ) (t : Option RangeType) (r : RangeSpec) → IfSome z (λ n. 1 ≤ n) → range_from s e z t ≡ Ok r → IsFrom s e z t r
+from (Some f) (Some l) z (Some t) r h i =
+    let b = between f l t r i in record { first = ap (λ n. Some n) (sym b.0); last = inl (ap (λ n. Some n) (sym b.1)); role = ap (λ n. Some n) (sym b.2); ordered = rw (b.0, b.1) b.3 }
+from (Some f) None (Some n) (Some t) r h i =
+    let b = between f (f + n - 1) t r i in
+    let m : n ≡ r.last + 1 - r.first = omega (arith, h, b.0, b.1) in
+    record { first = ap (λ n. Some n) (sym b.0); last = inr (ap (λ n. Some n) m); role = ap (λ n. Some n) (sym b.2); ordered = rw (b.0, b.1) b.3 }
+from (Some f) None None (Some t) r h i = absurd cc
+from (Some f) e z None r h i = absurd cc
+from None e z t r h i = absurd cc
+
+address_is : (v : Option ValueView) (n : ℕ) → as_address v ≡ Some n → v ≡ Some (an_address n)
+address_is (Some (an_address m)) n h = let e : m ≡ n = cc in ap (λ x. Some (an_address x)) e
+address_is (Some _) n h = absurd cc
+address_is None n h = absurd cc
+
+number_is : (v : Option ValueView) (n : ℕ) → as_number v ≡ Some n → v ≡ Some (a_number n)
+number_is (Some (a_number m)) n h = let e : m ≡ n = cc in ap (λ x. Some (a_number x)) e
+number_is (Some _) n h = absurd cc
+number_is None n h = absurd cc
+
+type_is : (v : Option ValueView) (t : RangeType) → as_type v ≡ Some t → v ≡ Some (a_type t)
+type_is (Some (a_type u)) t h = let e : u ≡ t = cc in ap (λ x. Some (a_type x)) e
+type_is (Some _) t h = absurd cc
+type_is None t h = absurd cc
+
+some_low : (z : Option ℕ) → IfSome z (λ n. (1 ≤ n) × (n ≤ 0x1_0000)) → IfSome z (λ n. 1 ≤ n)
+some_low (Some n) h = h.0
+some_low None h = tt
+
+last_is : (e z : Option ValueView) (l n : ℕ) → (as_address e ≡ Some l) ⊎ (as_number z ≡ Some n) → (e ≡ Some (an_address l)) ⊎ (z ≡ Some (a_number n))
+last_is e z l n (inl h) = inl (address_is e l h)
+last_is e z l n (inr h) = inr (number_is z n h)
+
+says : (given : List GivenView) (r : RangeSpec) → AreFormed given → range_in given ≡ Ok r → SaysRange given r
+unfolding range_in form_of
+says given r f h =
+    let low = some_low (as_number (value_in attribute.Size given)) (size_in (value_in attribute.Size given) (found_formed attribute.Size given f)) in
+    let i = from (as_address (value_in attribute.Start given)) (as_address (value_in attribute.End given)) (as_number (value_in attribute.Size given)) (as_type (value_in attribute.Role given)) r low h in
+    record {
+      first = address_is (value_in attribute.Start given) r.first i.first;
+      last = last_is (value_in attribute.End given) (value_in attribute.Size given) r.last (r.last + 1 - r.first) i.last;
+      role = type_is (value_in attribute.Role given) r.role i.role;
+    }
+
+-- ---- each range is ordered
+
+ordered_between : (f : ℕ) (t : RangeType) (l : Option ℕ) (r : RangeSpec) → range_between f t l ≡ Ok r → r.first ≤ r.last
+ordered_between f t (Some l) r h = let b = between f l t r h in rw (b.0, b.1) b.3
+ordered_between f t None r h = absurd cc
+
+ordered_from : (s e z : Option ℕ) (t : Option RangeType) (r : RangeSpec) → range_from s e z t ≡ Ok r → r.first ≤ r.last
+ordered_from (Some f) e z (Some t) r h = ordered_between f t (last_from f e z) r h
+ordered_from (Some f) e z None r h = absurd cc
+ordered_from None e z t r h = absurd cc
+
+pub ordered_in : (given : List GivenView) (r : RangeSpec) → range_in given ≡ Ok r → r.first ≤ r.last
+unfolding range_in
+ordered_in given r h = ordered_from (as_address (value_in attribute.Start given)) (as_address (value_in attribute.End given)) (as_number (value_in attribute.Size given)) (as_type (value_in attribute.Role given)) r h
+
+abbrev Ordered : List RangeSpec → Type 0
+Ordered rs = All (λ r. r.first ≤ r.last) rs
+
+ordered_none : Ordered []
+ordered_none k d l = absurd (omega (arith, l))
+
+ordered_one : (r : RangeSpec) → r.first ≤ r.last → Ordered (r ∷ [])
+ordered_one r h zero d l = h
+ordered_one r h (suc k) d l = absurd (omega (arith, l))
+
+ordered_part : (k : GroupKind) (given : List GivenView) (x : Result RangeSpec InfoFaultKind) → range_in given ≡ x → Ordered (range_part (record { kind = k; given = given }))
+ordered_part kind.Range given (Ok r) e = rw e (ordered_one r (ordered_in given r e))
+ordered_part kind.Range given (Err f) e = rw e ordered_none
+ordered_part kind.Global given x e = ordered_none
+
+pub ranges_ordered : (groups : List GroupView) → Ordered (ranges_of groups)
+unfolding ranges_of
+ranges_ordered [] = ordered_none
+ranges_ordered (g ∷ gs) = All-append (λ r. r.first ≤ r.last) (range_part g) (ranges_of gs) (ordered_part g.kind g.given (range_in g.given) refl) (ranges_ordered gs)
+
+-- ---- two ranges overlap where they share an address
+
+overlap_shared : (r q : RangeSpec) → r.first ≤ r.last → q.first ≤ q.last → overlaps r q ≡ true → Share r q
+unfolding overlaps
+overlap_shared r q ro qo h =
+    let p = and_parts (nat_le r.first q.last) (nat_le q.first r.last) h in
+    by_test (nat_le r.first q.first)
+    (λ low. (q.first, rw (low, p.1) refl, let e : nat_le q.first q.first ≡ true = grind (arith, nat_tests) in let f : nat_le q.first q.last ≡ true = grind (arith, nat_tests, qo) in rw (e, f) refl))
+    (λ high. let g : nat_le q.first r.first ≡ true = grind (arith, nat_tests, high) in
+    let e : nat_le r.first r.first ≡ true = grind (arith, nat_tests) in let f : nat_le r.first r.last ≡ true = grind (arith, nat_tests, ro) in (r.first, rw (e, f) refl, rw (g, p.0) refl))
+
+shared_overlap : (r q : RangeSpec) → Share r q → overlaps r q ≡ true
+unfolding overlaps
+shared_overlap r q h =
+    let a = and_parts (nat_le r.first h.0) (nat_le h.0 r.last) h.1 in
+    let b = and_parts (nat_le q.first h.0) (nat_le h.0 q.last) h.2 in
+    let e : nat_le r.first q.last ≡ true = grind (arith, nat_tests, a.0, b.1) in
+    let f : nat_le q.first r.last ≡ true = grind (arith, nat_tests, a.1, b.0) in
+    rw (e, f) refl
+
+-- an overlap with one of some ranges
+any_shared : (r : RangeSpec) (rs : List RangeSpec) → r.first ≤ r.last → Ordered rs → Any (λ q. overlaps r q ≡ true) rs → Any (Share r) rs
+any_shared r rs ro so h =
+    let q : RangeSpec = h.1 in
+    let qo : q.first ≤ q.last = subst (λ (x : RangeSpec). x.first ≤ x.last) h.3 (so h.0 q h.2) in (h.0, q, h.2, h.3, overlap_shared r q ro qo h.4)
+
+shared_any : (r : RangeSpec) (rs : List RangeSpec) → Any (Share r) rs → Any (λ q. overlaps r q ≡ true) rs
+shared_any r rs h = (h.0, h.1, h.2, h.3, shared_overlap r h.1 h.4)
+
+refused_overlap : (r : RangeSpec) (rs : List RangeSpec) → range_fault rs (Ok r) ≡ Some RangesOverlap → list_any (overlaps r) rs ≡ true
+refused_overlap r rs h =
+    by_test (list_any (overlaps r) rs)
+    (λ yes. yes)
+    (λ no. let i : ◌≡◌ {A = Option InfoFaultKind} None (Some RangesOverlap) = rw no at h in absurd cc)
+
+pub overlaps_share : OverlapsShare
+unfolding closing_fault
+overlaps_share before given r is = (
+  λ h. let i : range_fault (ranges_of before) (Ok r) ≡ Some RangesOverlap = rw is at h in
+      any_shared r (ranges_of before) (ordered_in given r is) (ranges_ordered before) (Any-from_list_any (overlaps r) (ranges_of before) (refused_overlap r (ranges_of before) i)),
+  λ h. let yes = list_any-from_Any (overlaps r) (ranges_of before) (shared_any r (ranges_of before) h) in rw (is, yes) refl,
+)
+
+-- ---- no two share an address
+
+-- a group RANGE that closes
+record Closes (before : List GroupView) (given : List GivenView) : Type 0 where
+  range : RangeSpec
+  is : range_in given ≡ Ok range
+  free : list_any (overlaps range) (ranges_of before) ≡ false
+
+closed_range : (before : List GroupView) (given : List GivenView) (x : Result RangeSpec InfoFaultKind) → range_in given ≡ x → range_fault (ranges_of before) x ≡ None → Closes before given
+closed_range before given (Err f) e h = absurd cc
+closed_range before given (Ok r) e h =
+    by_test (list_any (overlaps r) (ranges_of before))
+    (λ yes. let i : ◌≡◌ {A = Option InfoFaultKind} (Some RangesOverlap) None = rw yes at h in absurd cc)
+    (λ no. record { range = r; is = e; free = no })
+
+closes : (before : List GroupView) (given : List GivenView) → closing_fault before kind.Range given ≡ None → Closes before given
+unfolding closing_fault
+closes before given h = closed_range before given (range_in given) refl h
+
+apart_from : (r : RangeSpec) (rs : List RangeSpec) → list_any (overlaps r) rs ≡ false → (k : ℕ) (d : RangeSpec) → k < length rs → AreApart (get_or rs k d) r
+apart_from r rs free k d l a there here =
+    let yes = list_any_at (overlaps r) rs k d l (shared_overlap r (get_or rs k d) (a, here, there)) in absurd (let e : true ≡ false = sym yes ∙ free in cc)
+
+pairs_more : (before : List GroupView) (k : GroupKind) (given : List GivenView) → closing_fault before k given ≡ None → AllPairs AreApart (ranges_of before) → AllPairs AreApart (ranges_of before ++ range_part (record { kind = k; given = given }))
+pairs_more before kind.Global given h old = rw (append-nil (ranges_of before)) old
+pairs_more before kind.Range given h old =
+    let c = closes before given h in
+    rw c.is (all_pairs_push AreApart (ranges_of before) c.range old (apart_from c.range (ranges_of before) c.free))
+
+groups_apart : (before gs : List GroupView) → AreGroups before gs → AllPairs AreApart (ranges_of before) → AllPairs AreApart (ranges_of (before ++ gs))
+groups_apart before [] h old = rw (append-nil before) old
+groups_apart before (g ∷ gs) h old =
+    let more : AllPairs AreApart (ranges_of (before ++ g ∷ [])) = rw (ranges_more before g) (pairs_more before g.kind g.given h.0.closes old) in
+    let all = groups_apart (before ++ g ∷ []) gs h.1 more in rw (append_assoc before (g ∷ []) gs) at all
+
+none_apart : AllPairs AreApart (ranges_of [])
+unfolding ranges_of
+none_apart i j d lt l = absurd (omega (arith, l))
+
+-- groups that keep every condition have such ranges
+pub groups_sound : (groups : List GroupView) → AreGroups [] groups → AreRanges (ranges_of groups)
+groups_sound groups h = record { disjoint = record { each = groups_apart [] groups h none_apart }; ordered = ranges_ordered groups }
+
+said_more : (before : List GroupView) (k : GroupKind) (given : List GivenView) (gs : List GroupView) → closing_fault before k given ≡ None → AreFormed given → AreSaid gs (ranges_of gs) → AreSaid (record { kind = k; given = given } ∷ gs) (range_part (record { kind = k; given = given }) ++ ranges_of gs)
+said_more before kind.Global given gs h f said = said
+said_more before kind.Range given gs h f said = let c = closes before given h in rw c.is (says given c.range f c.is, said)
+
+groups_said : (before gs : List GroupView) → AreGroups before gs → GroupsFormed gs → AreSaid gs (ranges_of gs)
+unfolding ranges_of
+groups_said before [] h f = refl
+groups_said before (g ∷ gs) h f = said_more before g.kind g.given gs h.0.closes f.0 (groups_said (before ++ g ∷ []) gs h.1 f.1)
+
+pub ranges_apart : RangesApart
+ranges_apart o bytes info i =
+    let formed : GroupsFormed i.groups = subst GroupsFormed i.accepts.of (groups_formed o i.accepts.spelling (tokens_of 1 bytes).tokens i.accepts.spelled) in
+    rw i.says (groups_said [] i.groups i.accepts.keeps formed, groups_sound i.groups i.accepts.keeps)
+
+-- the ranges of the groups of an accepted text
+pub read_sound : (o : OptionsView) (bytes : List ℕ) (groups : List GroupView) → groups_of o bytes ≡ Ok groups → AreRanges (ranges_of groups)
+unfolding groups_of read
+read_sound o bytes groups e =
+    let a = groups_accepted o (tokens_of 1 bytes).tokens (tokens_of 1 bytes).ending groups e in groups_sound groups a.1.keeps

@@ -1,0 +1,7 @@
+use Rattle.std.proofs.Common.{refl}
+use Rattle.info65.specs.Groups.{has}
+use Rattle.info65.proofs.groups.has_before.Goals as goal
+
+pub returns-in-Range : goal.returns-in-Range
+unfolding has
+returns-in-Range g c = rw c.in-Range.is refl

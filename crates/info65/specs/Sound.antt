@@ -1,0 +1,8 @@
+-- What holds of all that an information file says.
+use Rattle.info65.specs.Ranges.{AreRanges}
+use Rattle.info65.specs.Views.{AreInLimits, InfoView}
+
+-- the settings are in their limits, and the ranges are ranges of one file
+pub record IsSound (i : InfoView) : Type 0 where
+  pub limits : AreInLimits i.settings
+  pub ranges : AreRanges i.ranges

@@ -1,0 +1,108 @@
+//! The ranges that groups RANGE say.
+
+ghost use Rattle.std.specs.Prelude.{◌≡◌, Ok, map, option_to_list};
+ghost use Rattle.std.specs.List.{list_any};
+ghost use Rattle.info65.specs.Faults.{Gives};
+ghost use Rattle.info65.specs.Given.{given_seen, group_seen};
+ghost use Rattle.info65.specs.Ranges.{last_from, overlaps, range_between, range_in, range_part, ranges_of};
+
+use crate::attribute::{Attribute, GroupKind};
+use crate::fault::{InfoFault, InfoFaultKind};
+use crate::given::{Given, Group, as_address, as_number, as_type};
+use crate::groups::value_in;
+use crate::range::{RangeSpec, RangeType, overlaps};
+use std::alloc::Allocator;
+
+/// The range that a group RANGE says by what is given in it. It is Missing where START, TYPE, or both END
+/// and SIZE are not given, and OutOfRange where it ends before it begins or past $FFFF.
+#[tactic(auto, unfolding(crate::specs::Ranges::range_in))]
+pub fn range_in(given: &[Given]) -> Result<RangeSpec, InfoFaultKind>
+    ensures { result ≡ range_in (map given_seen given.now) }
+{
+    let first = as_address(value_in(given, Attribute::Start));
+    let end = as_address(value_in(given, Attribute::End));
+    let size = as_number(value_in(given, Attribute::Size));
+    let role = as_type(value_in(given, Attribute::Role));
+    match (first, role) {
+        (Some(first), Some(role)) => range_between(first, role, last_from(first, end, size)),
+        _ => Err(InfoFaultKind::Missing),
+    }
+}
+
+// The last address by END or SIZE, which may lie past $FFFF.
+fn last_from(first: u16, end: Option<u16>, size: Option<u32>) -> Option<u64>
+    ensures { result ≡ last_from first end size }
+{
+    match (end, size) {
+        (Some(last), _) => Some(u64::from(last)),
+        (None, Some(size)) => Some((u64::from(first) + u64::from(size)).saturating_sub(1)),
+        (None, None) => None,
+    }
+}
+
+fn range_between(first: u16, role: RangeType, last: Option<u64>) -> Result<RangeSpec, InfoFaultKind>
+    ensures { result ≡ range_between first role last }
+{
+    match last {
+        None => Err(InfoFaultKind::Missing),
+        Some(last) => {
+            if u64::from(first) <= last && last <= 0xFFFF {
+                Ok(RangeSpec {
+                    first,
+                    last: last as u16,
+                    role,
+                })
+            } else {
+                Err(InfoFaultKind::OutOfRange)
+            }
+        }
+    }
+}
+
+// The range of a group RANGE.
+fn range_part<A: Allocator>(group: &Group<A>) -> Option<RangeSpec>
+    ensures { option_to_list result ≡ range_part (group_seen group.now) }
+{
+    match group.kind {
+        GroupKind::Range => range_in(group.given.as_slice()).ok(),
+        GroupKind::Global => None,
+    }
+}
+
+// The range overlaps that of this group.
+fn overlaps_part<A: Allocator>(group: &Group<A>, range: RangeSpec) -> bool
+    ensures { result ≡ list_any (overlaps range) (range_part (group_seen group.now)) }
+{
+    match range_part(group) {
+        Some(other) => overlaps(range, other),
+        None => false,
+    }
+}
+
+/// The range overlaps that of one of the groups.
+pub fn overlaps_any<A: Allocator>(groups: &[Group<A>], range: RangeSpec) -> bool
+    ensures { result ≡ list_any (overlaps range) (ranges_of (map group_seen groups.now)) }
+{
+    for group in groups {
+        if overlaps_part(group, range) {
+            return true;
+        }
+    }
+    false
+}
+
+/// The ranges of the groups RANGE, in the order of the groups.
+pub fn ranges_of<A: Allocator + Copy, B: Allocator>(
+    alloc: A,
+    groups: &[Group<B>],
+) -> Result<Vec<RangeSpec, A>, InfoFault>
+    ensures { Gives (λ ranges. ranges.items) result (Ok (ranges_of (map group_seen groups.now))) }
+{
+    let mut ranges = Vec::new(alloc);
+    for group in groups {
+        if let Some(range) = range_part(group) {
+            ranges.push(range)?;
+        }
+    }
+    Ok(ranges)
+}

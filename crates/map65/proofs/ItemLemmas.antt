@@ -1,0 +1,176 @@
+-- Items, byte by byte.
+use Rattle.std.proofs.Common.{◌≡◌, ◌≢◌, ◌∙◌, ℕ, zero, suc, ◌+◌, ◌-◌, ◌<◌, ◌≤◌, ◌&&◌, ◌==◌, nat_lt, not, true, false, length, Option, Some, None, refl, ap, sym, arith, ⊎_elim}
+use Rattle.std.proofs.lemmas.Bool.{false≢true, and_parts, and_from, cond-true, cond-false, cond_both, cases_eq, eq-eqb, ne_eqb, lt-ltb, ltb-true, le-leb}
+use denote.Enum.Bare.{same_true, true_same}
+use Rattle.isa65.specs.Mode.{len_of}
+use Rattle.isa65.specs.declared.mode.Mode.{Mode}
+use Rattle.isa65.specs.declared.mode.Mode.TheVariants.{Imp}
+use Rattle.isa65.specs.declared.op.Op.{Op}
+use Rattle.isa65.specs.Opcodes.{decoded}
+use Rattle.info65.specs.contracts.range.RangeType as range_type
+use Rattle.info65.specs.declared.range.RangeType.{RangeType}
+use Rattle.info65.specs.declared.range.RangeType.TheVariants.{Code, ByteTable, WordTable, DbyteTable, TextTable, Skip}
+use Rattle.map65.specs.ImageView.{byte_at, end_of, is_inside}
+use Rattle.map65.specs.Items.{code_size, item_len, size_at, size_for, wanted_at}
+use Rattle.map65.specs.MapView.{MapView, opcodes}
+use Rattle.map65.specs.Pieces.{AreOnePiece, are_joined, is_joined}
+use Rattle.map65.specs.Roles.{is_role, is_skip, role_of}
+use Rattle.map65.specs.Steps.{left_at}
+
+-- ---- pieces
+
+pub joined-role : (m : MapView) (a : ℕ) → is_joined m a ≡ true → (role_of m.info (a - 1) ≡ role_of m.info a) × ((m.image.start < a) × (a < end_of m.image))
+unfolding is_joined
+joined-role m a is =
+    let behind = and_parts (nat_lt m.image.start a) (nat_lt a (end_of m.image) && is_role (role_of m.info (a - 1)) (role_of m.info a)) is in
+    let before = and_parts (nat_lt a (end_of m.image)) (is_role (role_of m.info (a - 1)) (role_of m.info a)) behind.1 in
+    (same_true range_type.the_type tt (role_of m.info (a - 1)) (role_of m.info a) before.1, (ltb-true m.image.start a behind.0, ltb-true a (end_of m.image) before.0))
+
+pub joined-if : (m : MapView) (a : ℕ) → m.image.start < a → a < end_of m.image → role_of m.info (a - 1) ≡ role_of m.info a → is_joined m a ≡ true
+unfolding is_joined
+joined-if m a low high same =
+    and_from _ _ (lt-ltb m.image.start a low) (and_from _ _ (lt-ltb a (end_of m.image) high) (true_same range_type.the_type (role_of m.info (a - 1)) (role_of m.info a) same))
+
+pub are_joined-none : (m : MapView) (a : ℕ) → are_joined m 0 a ≡ true
+unfolding are_joined
+are_joined-none m a = refl
+
+pub are_joined-suc : (m : MapView) (n a : ℕ) → are_joined m (suc n) a ≡ (is_joined m (a + 1) && are_joined m n (a + 1))
+unfolding are_joined
+are_joined-suc m n a = refl
+
+-- addresses that are joined one by one lie in one piece
+pub joined-piece : (m : MapView) (n a : ℕ) → are_joined m n a ≡ true → AreOnePiece m a (a + n)
+joined-piece m zero a are x low high = absurd (omega arith)
+joined-piece m (suc n) a are x low high =
+    let parts = and_parts (is_joined m (a + 1)) (are_joined m n (a + 1)) (sym (are_joined-suc m n a) ∙ are) in
+    ⊎_elim
+    (λ next. ap (is_joined m) next ∙ parts.0)
+    (λ other. joined-piece m n (a + 1) parts.1 x (omega (arith, other)) (omega arith))
+    (cases_eq x (a + 1))
+
+role-after : (m : MapView) (n b : ℕ) → AreOnePiece m b (b + n) → role_of m.info (b + n) ≡ role_of m.info b
+role-after m zero b piece = let place : b + 0 ≡ b = omega arith in ap (role_of m.info) place
+role-after m (suc n) b piece =
+    let before = role-after m n b (λ x low high. piece x low (omega arith)) in
+    let joined = joined-role m (b + suc n) (piece (b + suc n) (omega arith) (omega arith)) in
+    let place : b + suc n - 1 ≡ b + n = omega arith in
+    sym joined.0 ∙ ap (role_of m.info) place ∙ before
+
+-- a piece has one role
+pub one-role : (m : MapView) (b a : ℕ) → b ≤ a → AreOnePiece m b a → role_of m.info a ≡ role_of m.info b
+one-role m b a le piece =
+    let n : ℕ = a - b in
+    let place : a ≡ b + n = omega arith in
+    ap (role_of m.info) place ∙ role-after m n b (λ x low high. piece x low (omega arith))
+
+-- ---- sizes
+
+len-positive : (x : Mode) → 1 ≤ len_of x
+len-positive Imp = omega arith
+len-positive _ = omega arith
+
+code_size-positive : (o : Option Op) → 1 ≤ code_size o
+code_size-positive None = omega arith
+code_size-positive (Some op) = len-positive op.mode
+
+size_for-positive : (m : MapView) (r : RangeType) (b : ℕ) → 1 ≤ size_for m r b
+size_for-positive m Code b = code_size-positive (decoded (opcodes m) b)
+size_for-positive m ByteTable b = omega arith
+size_for-positive m WordTable b = omega arith
+size_for-positive m DbyteTable b = omega arith
+size_for-positive m TextTable b = omega arith
+size_for-positive m Skip b = omega arith
+
+size_for-skip : (m : MapView) (r : RangeType) (b : ℕ) → is_skip r ≡ true → size_for m r b ≡ 1
+size_for-skip m Skip b is = refl
+size_for-skip m Code b is = absurd (false≢true is)
+size_for-skip m ByteTable b is = absurd (false≢true is)
+size_for-skip m WordTable b is = absurd (false≢true is)
+size_for-skip m DbyteTable b is = absurd (false≢true is)
+size_for-skip m TextTable b is = absurd (false≢true is)
+
+pub wanted-positive : (m : MapView) (a : ℕ) → 1 ≤ wanted_at m a
+unfolding wanted_at
+wanted-positive m a = size_for-positive m (role_of m.info a) (byte_at m.image a)
+
+-- every item has a byte
+pub size-positive : (m : MapView) (a : ℕ) → 1 ≤ size_at m a
+unfolding size_at
+size-positive m a =
+    cond_both (are_joined m (wanted_at m a - 1) a) (wanted_at m a) 1 (λ n. 1 ≤ n) (λ _. wanted-positive m a) (λ _. omega arith)
+
+pub skip-size : (m : MapView) (a : ℕ) → is_skip (role_of m.info a) ≡ true → size_at m a ≡ 1
+unfolding size_at wanted_at
+skip-size m a skip =
+    let one = size_for-skip m (role_of m.info a) (byte_at m.image a) skip in
+    cond_both (are_joined m (wanted_at m a - 1) a) (wanted_at m a) 1 (λ n. n ≡ 1) (λ _. one) (λ _. refl)
+
+size-joined : (m : MapView) (a : ℕ) → are_joined m (size_at m a - 1) a ≡ true
+unfolding size_at
+size-joined m a =
+    cond_both (are_joined m (wanted_at m a - 1) a) (wanted_at m a) 1 (λ n. are_joined m (n - 1) a ≡ true) (λ are. are) (λ _. are_joined-none m a)
+
+-- the bytes of an item lie in one piece
+pub size-one-piece : (m : MapView) (a : ℕ) → AreOnePiece m a (a + size_at m a - 1)
+size-one-piece m a x low high = joined-piece m (size_at m a - 1) a (size-joined m a) x low (omega (arith, size-positive m a))
+
+-- an item that begins in the image ends there
+pub size-fits : (m : MapView) (k : ℕ) → k < length m.image.bytes → k + size_at m (m.image.start + k) ≤ length m.image.bytes
+size-fits m k inside =
+    let a : ℕ = m.image.start + k in
+    let some : 1 ≤ size_at m a = size-positive m a in
+    ⊎_elim
+    (λ one. omega (arith, one))
+    (λ more.
+    let last : ℕ = a + size_at m a - 1 in
+    let joined = joined-role m last (size-one-piece m a last (omega (arith, more, some)) (omega arith)) in
+    omega (arith, joined.1.1, some))
+    (cases_eq (size_at m a) 1)
+
+-- ---- how many bytes are left of an item
+
+pub left-first : (size : ℕ → ℕ) (start : ℕ) → left_at size start 0 ≡ 0
+unfolding left_at
+left-first size start = refl
+
+-- in the first byte of an item
+pub left-begun : (size : ℕ → ℕ) (start k : ℕ) → left_at size start k ≡ 0 → left_at size start (suc k) ≡ size (start + k) - 1
+unfolding left_at
+left-begun size start k none = cond-true (left_at size start k == 0) _ _ (eq-eqb (left_at size start k) 0 none)
+
+-- in a further byte
+pub left-going : (size : ℕ → ℕ) (start k : ℕ) → left_at size start k ≢ 0 → left_at size start (suc k) ≡ left_at size start k - 1
+unfolding left_at
+left-going size start k some = cond-false (left_at size start k == 0) _ _ (ne_eqb (left_at size start k) 0 some)
+
+-- behind the first byte of an item its bytes count down
+pub left-inside : (size : ℕ → ℕ) (start k i : ℕ) → left_at size start k ≡ 0 → i < size (start + k) → left_at size start (suc k + i) ≡ size (start + k) - 1 - i
+left-inside size start k zero none within =
+    let place : suc k + 0 ≡ suc k = omega arith in
+    ap (left_at size start) place ∙ left-begun size start k none ∙ omega arith
+left-inside size start k (suc i) none within =
+    let before = left-inside size start k i none (omega arith) in
+    let place : suc k + suc i ≡ suc (suc k + i) = omega arith in
+    ap (left_at size start) place ∙ left-going size start (suc k + i) (omega (arith, before)) ∙ omega (arith, before)
+
+-- where an item ends none is under way
+pub left-behind : (size : ℕ → ℕ) → ((a : ℕ) → 1 ≤ size a) → (start k : ℕ) → left_at size start k ≡ 0 → left_at size start (k + size (start + k)) ≡ 0
+left-behind size positive start k none =
+    let n : ℕ = size (start + k) in
+    let some : 1 ≤ n = positive (start + k) in
+    let place : k + n ≡ suc k + (n - 1) = omega arith in
+    ap (left_at size start) place ∙ left-inside size start k (n - 1) none (omega arith) ∙ omega arith
+
+-- ---- items
+
+inside-index : (m : MapView) (k : ℕ) → k < length m.image.bytes → is_inside m.image (m.image.start + k) ≡ true
+inside-index m k low = and_from _ _ (le-leb m.image.start (m.image.start + k) (omega arith)) (lt-ltb (m.image.start + k) (end_of m.image) (omega arith))
+
+-- where no item is under way one begins, unless the byte is skipped
+pub item-len-at : (m : MapView) (k : ℕ) → k < length m.image.bytes → is_skip (role_of m.info (m.image.start + k)) ≡ false → left_at (size_at m) m.image.start k ≡ 0 → item_len m (m.image.start + k) ≡ size_at m (m.image.start + k)
+unfolding item_len
+item-len-at m k low shown none =
+    let same : m.image.start + k - m.image.start ≡ k = omega arith in
+    let begun : left_at (size_at m) m.image.start (m.image.start + k - m.image.start) ≡ 0 = ap (left_at (size_at m) m.image.start) same ∙ none in
+    cond-true _ _ _ (and_from _ _ (inside-index m k low) (and_from _ _ (ap not shown) (eq-eqb _ 0 begun)))

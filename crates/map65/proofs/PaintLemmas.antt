@@ -1,0 +1,86 @@
+-- Roles that are written into cells.
+use Rattle.std.proofs.Common.{◌≡◌, ◌≢◌, ◌∙◌, ℕ, ◌+◌, ◌<◌, ◌≤◌, ◌&&◌, Bool, true, false, Some, None, List, [], ◌∷◌, drop, length, get_or, set, refl, ap, sym, arith, ⊎_elim, max, min, if◌then◌else◌}
+use Rattle.std.proofs.lemmas.Bool.{cases_eq}
+use Rattle.std.proofs.lemmas.Bool.Decides.{nat_tests}
+use Rattle.std.proofs.lemmas.List.{drop_more, get_or-set_other, get_or-set_same}
+use Rattle.info65.specs.Ranges.{has_address}
+use Rattle.info65.specs.declared.range.RangeSpec.{RangeSpec}
+use Rattle.info65.specs.declared.range.RangeType.{RangeType}
+use Rattle.info65.specs.declared.range.RangeType.TheVariants.{Code}
+use Rattle.map65.specs.Cells.{AreMarkedBelow, ArePainted, cell_of, code_of, painted, painted_by, role_by}
+use Rattle.map65.specs.ImageView.{ImageView, end_of, is_inside}
+use Rattle.map65.specs.MapView.{MapView}
+use Rattle.map65.specs.Roles.{role_at, role_in}
+
+-- ---- one cell after the other
+
+pub painted-none : (from : ℕ) (r : RangeType) (old a : ℕ) → painted from from r old a ≡ old
+unfolding painted
+painted-none from r old a = grind (arith, nat_tests)
+
+painted-here : (from at : ℕ) (r : RangeType) (old : ℕ) → from ≤ at → painted from (at + 1) r old at ≡ cell_of (Some r) 0
+unfolding painted
+painted-here from at r old low = grind (arith, nat_tests)
+
+painted-other : (from at : ℕ) (r : RangeType) (old a : ℕ) → a ≢ at → painted from (at + 1) r old a ≡ painted from at r old a
+unfolding painted
+painted-other from at r old a other = grind (arith, nat_tests)
+
+pub painted-next : (from at : ℕ) (r : RangeType) (old cells : List ℕ) (c : ℕ) → from ≤ at → at < length cells → c ≡ cell_of (Some r) 0 → ((a : ℕ) → a < 65536 → get_or cells a 0 ≡ painted from at r (get_or old a 0) a) → (a : ℕ) → a < 65536 → get_or (set cells at c) a 0 ≡ painted from (at + 1) r (get_or old a 0) a
+painted-next from at r old cells c low room is so_far a below =
+    ⊎_elim
+    (λ same. rw same (rw get_or-set_same (is ∙ sym (painted-here from at r (get_or old at 0) low))))
+    (λ other. rw (get_or-set_other cells at a c 0 other) (so_far a below ∙ sym (painted-other from at r (get_or old a 0) a other)))
+    (cases_eq a at)
+
+-- ---- one range after the other
+
+-- the addresses that a range has of the image
+pub painted-range : (image : ImageView) (range : RangeSpec) (from to old a : ℕ) → from ≡ max range.first image.start → to ≡ max (min (range.last + 1) (end_of image)) from → painted from to range.role old a ≡ painted_by image range old a
+unfolding painted painted_by
+painted-range image range from to old a low high = grind (arith, nat_tests)
+
+painted_by-next : (image : ImageView) (r : RangeSpec) (rs : List RangeSpec) (a : ℕ) → painted_by image r (cell_of (role_by image rs a) 0) a ≡ cell_of (role_by image (r ∷ rs) a) 0
+unfolding painted_by role_by role_in
+painted_by-next image r rs a = by_tests (is_inside image a) (has_address r a) where
+  by_tests : (inside has : Bool) → (if inside && has then cell_of (Some r.role) 0 else cell_of (if inside then Some (role_in rs a) else None) 0) ≡ cell_of (if inside then Some (if has then r.role else role_in rs a) else None) 0
+  by_tests true true = refl
+  by_tests true false = refl
+  by_tests false has = refl
+
+pub painted-more : (image : ImageView) (ranges : List RangeSpec) (n : ℕ) (d : RangeSpec) (old new : List ℕ) → n < length ranges → ArePainted image (drop (n + 1) ranges) old → length new ≡ 65536 → ((a : ℕ) → a < 65536 → get_or new a 0 ≡ painted_by image (get_or ranges n d) (get_or old a 0) a) → ArePainted image (drop n ranges) new
+painted-more image ranges n d old new below so_far count each = record {
+  count = count;
+  each = λ a room.
+      let r : RangeSpec = get_or ranges n d in
+      each a room
+      ∙ ap (λ (old : ℕ). painted_by image r old a) (so_far.each a room)
+      ∙ painted_by-next image r (drop (n + 1) ranges) a
+      ∙ sym (ap (λ (rs : List RangeSpec). cell_of (role_by image rs a) 0) (drop_more ranges n d below));
+}
+
+painted-code : (image : ImageView) (a : ℕ) → painted image.start (end_of image) Code 0 a ≡ cell_of (role_by image [] a) 0
+unfolding painted role_by role_in cell_of code_of
+painted-code image a = by_test (is_inside image a) where
+  by_test : (inside : Bool) → (if inside then cell_of (Some Code) 0 else 0) ≡ cell_of (if inside then Some Code else None) 0
+  by_test true = refl
+  by_test false = refl
+
+-- before the ranges, the image is code
+pub code-painted : (image : ImageView) (from to : ℕ) (old new : List ℕ) → from ≡ image.start → to ≡ end_of image → length new ≡ 65536 → ((a : ℕ) → a < 65536 → get_or old a 0 ≡ 0) → ((a : ℕ) → a < 65536 → get_or new a 0 ≡ painted from to Code (get_or old a 0) a) → ArePainted image [] new
+code-painted image from to old new low high count blank each = record {
+  count = count;
+  each = λ a room. each a room ∙ ap (λ (old : ℕ). painted from to Code old a) (blank a room) ∙ rw (low, high) (painted-code image a);
+}
+
+role_by-all : (m : MapView) (a : ℕ) → role_by m.image m.info.ranges a ≡ role_at m a
+unfolding role_by role_at
+role_by-all m a = refl
+
+-- after them, no item is marked yet
+pub none-marked : (m : MapView) (n : ℕ) (cells : List ℕ) → n ≡ 0 → ArePainted m.image (drop n m.info.ranges) cells → AreMarkedBelow m 0 cells
+none-marked m n cells none are = record {
+  count = are.count;
+  marked = λ a room before. absurd (omega arith);
+  plain = λ a room after. are.each a room ∙ ap (λ (k : ℕ). cell_of (role_by m.image (drop k m.info.ranges) a) 0) none ∙ ap (λ r. cell_of r 0) (role_by-all m a);
+}

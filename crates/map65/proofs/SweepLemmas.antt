@@ -1,0 +1,294 @@
+-- Items that are marked in cells.
+use Rattle.std.proofs.Common.{◌≡◌, ◌≢◌, ◌∙◌, ℕ, suc, ◌+◌, ◌-◌, ◌%◌, ◌<◌, ◌≤◌, ◌&&◌, ◌==◌, nat_le, nat_lt, not, Bool, true, false, Option, Some, None, List, length, get_or, set, unwrap_or, refl, ap, sym, arith, ⊎_elim, if◌then◌else◌}
+use Rattle.std.proofs.Math.ListN.{length-set}
+use Rattle.std.proofs.lemmas.Bool.{and_parts, and_from, cases_eq, cases_lt, cond-true, cond-false, cond_both, eq-eqb, eqb-true, le-leb, lt-ltb, ltb-true, ne_eqb}
+use Rattle.std.specs.Cmp.{both_ways}
+use Rattle.std.proofs.lemmas.List.{get_or-set_other, get_or-set_same}
+use Rattle.isa65.specs.Mode.{len_of}
+use Rattle.isa65.specs.Opcodes.{decoded}
+use Rattle.isa65.specs.declared.mode.Mode.{Mode}
+use Rattle.isa65.specs.declared.mode.Mode.TheVariants.{Imp}
+use Rattle.isa65.specs.declared.op.Op.{Op}
+use Rattle.info65.specs.declared.range.RangeType.{RangeType}
+use Rattle.info65.specs.declared.range.RangeType.TheVariants.{Code, ByteTable, WordTable, DbyteTable, TextTable, Skip}
+use Rattle.map65.proofs.CellLemmas.{cell-role, cell-small, code-small, coded-code}
+use Rattle.map65.proofs.ItemLaws.{begun}
+use Rattle.map65.proofs.ItemLemmas.{are_joined-none, are_joined-suc, item-len-at, joined-if, joined-role, left-behind, left-first, left-inside, size-fits, size-positive}
+use Rattle.map65.specs.Cells.{AreCells, AreMarkedBelow, are_alike, cell_of, code_of, coded, is_same_role, lay_at, role_in_cell}
+use Rattle.map65.specs.ImageView.{byte_at, end_of, is_inside}
+use Rattle.map65.specs.Items.{code_size, item_len, size_at, size_for, wanted_at}
+use Rattle.map65.specs.MapView.{MapView, opcodes}
+use Rattle.map65.specs.Pieces.{are_joined, is_joined}
+use Rattle.map65.specs.Roles.{is_skip, role_at, role_of}
+use Rattle.map65.specs.Steps.{left_at}
+
+-- ---- roles
+
+role_at-inside : (m : MapView) (a : ℕ) → m.image.start ≤ a → a < end_of m.image → role_at m a ≡ Some (role_of m.info a)
+unfolding role_at
+role_at-inside m a low high = cond-true (is_inside m.image a) _ _ (and_from _ _ (le-leb m.image.start a low) (lt-ltb a (end_of m.image) high))
+
+role_at-some : (m : MapView) (a : ℕ) (r : RangeType) → role_at m a ≡ Some r → is_inside m.image a ≡ true
+unfolding role_at
+role_at-some m a r = cond_both (is_inside m.image a) (Some (role_of m.info a)) None (λ (o : Option RangeType). o ≡ Some r → is_inside m.image a ≡ true) (λ is _. is) (λ _ none. absurd cc)
+
+-- a cell without a length says its role
+pub role-here : (m : MapView) (a at : ℕ) (cells : List ℕ) (o : Option RangeType) (r : RangeType) → at ≡ a → m.image.start ≤ a → a < end_of m.image → a < 65536 → AreMarkedBelow m a cells → o ≡ role_in_cell (get_or cells at 0) → r ≡ unwrap_or o Code → r ≡ role_of m.info a
+role-here m a at cells o r place low high room old says is =
+    let cell : get_or cells at 0 ≡ cell_of (role_at m a) 0 = ap (λ (k : ℕ). get_or cells k 0) place ∙ old.plain a room (omega arith) in
+    let small : cell_of (role_at m a) 0 < 128 = cell-small (role_at m a) 0 (omega arith) in
+    let role : role_in_cell (get_or cells at 0) ≡ role_at m a = cell-role (get_or cells at 0) (role_at m a) 0 (omega arith) (omega (arith, cell, small)) in
+    is ∙ ap (λ (o : Option RangeType). unwrap_or o Code) (says ∙ role ∙ role_at-inside m a low high)
+
+-- ---- pieces
+
+plain-code : (c : ℕ) (r : Option RangeType) → c ≡ cell_of r 0 → c % 16 ≡ code_of r
+unfolding cell_of
+plain-code c r is = omega (arith, is, code-small r)
+
+same-code : (r q : Option RangeType) → code_of r ≡ code_of q → r ≡ q
+same-code r q is = sym (coded-code r) ∙ ap coded is ∙ coded-code q
+
+same-role : (c d : ℕ) → is_same_role c d ≡ true → c % 16 ≡ d % 16
+unfolding is_same_role
+same-role c d is = eqb-true (c % 16) (d % 16) is
+
+role-same : (c d : ℕ) → c % 16 ≡ d % 16 → is_same_role c d ≡ true
+unfolding is_same_role
+role-same c d is = eq-eqb (c % 16) (d % 16) is
+
+some-same : (r q : RangeType) → Some r ≡ Some q → r ≡ q
+some-same r q is = cc
+
+module _ (m : MapView) (n a : ℕ) (cells : List ℕ) (old : AreMarkedBelow m n cells) (room : end_of m.image ≤ 65536) (low : m.image.start ≤ n) (behind : n < a) (high : a - 1 < end_of m.image) where
+  before-code : get_or cells (a - 1) 0 % 16 ≡ code_of (role_at m (a - 1))
+  before-code = plain-code _ (role_at m (a - 1)) (old.plain (a - 1) (omega (arith, room, high)) (omega (arith, behind)))
+
+  here-code : a < 65536 → get_or cells a 0 % 16 ≡ code_of (role_at m a)
+  here-code below = plain-code _ (role_at m a) (old.plain a below (omega (arith, behind)))
+
+  joined-alike : are_alike cells a ≡ true → is_joined m a ≡ true
+  unfolding are_alike
+  joined-alike alike =
+      let parts = and_parts (nat_lt a (length cells)) (is_same_role (get_or cells (a - 1) 0) (get_or cells a 0)) alike in
+      let below : a < 65536 = omega (arith, ltb-true a (length cells) parts.0, old.count) in
+      let same : role_at m (a - 1) ≡ role_at m a = same-code _ _ (sym before-code ∙ same-role _ _ parts.1 ∙ here-code below) in
+      let first : role_at m (a - 1) ≡ Some (role_of m.info (a - 1)) = role_at-inside m (a - 1) (omega (arith, low, behind)) high in
+      let inside = and_parts (nat_le m.image.start a) (nat_lt a (end_of m.image)) (role_at-some m a _ (sym same ∙ first)) in
+      let last : a < end_of m.image = ltb-true a (end_of m.image) inside.1 in
+      let second : role_at m a ≡ Some (role_of m.info a) = role_at-inside m a (omega (arith, low, behind)) last in
+      joined-if m a (omega (arith, low, behind)) last (some-same _ _ (sym first ∙ same ∙ second))
+
+  alike-joined : is_joined m a ≡ true → are_alike cells a ≡ true
+  unfolding are_alike
+  alike-joined joined =
+      let is = joined-role m a joined in
+      let last : a < end_of m.image = is.1.1 in
+      let below : a < 65536 = omega (arith, room, last) in
+      let same : role_at m (a - 1) ≡ role_at m a = role_at-inside m (a - 1) (omega (arith, low, behind)) high ∙ ap Some is.0 ∙ sym (role_at-inside m a (omega (arith, low, behind)) last) in
+      and_from _ _ (lt-ltb a (length cells) (omega (arith, below, old.count))) (role-same _ _ (before-code ∙ ap code_of same ∙ sym (here-code below)))
+
+  -- the cells tell where a piece ends, as far as no length is marked
+  joined-cells : are_alike cells a ≡ is_joined m a
+  joined-cells = both_ways (are_alike cells a) (is_joined m a) joined-alike alike-joined
+
+-- the answer of the test is whether the address is joined
+pub joined-answer : (m : MapView) (n a at : ℕ) (cells : List ℕ) (answer b : Bool) → at ≡ a → AreMarkedBelow m n cells → end_of m.image ≤ 65536 → m.image.start ≤ n → n < a → a - 1 < end_of m.image → answer ≡ are_alike cells at → answer ≡ b → is_joined m a ≡ b
+joined-answer m n a at cells answer b place old room low behind high says is =
+    sym (joined-cells m n a cells old room low behind high) ∙ sym (ap (are_alike cells) place) ∙ sym says ∙ is
+
+-- ---- sizes
+
+are_joined-next : (m : MapView) (n i a : ℕ) → i < n → are_joined m (n - i) (a + i) ≡ (is_joined m (a + i + 1) && are_joined m (n - (i + 1)) (a + (i + 1)))
+are_joined-next m n i a below =
+    let more : n - i ≡ suc (n - (i + 1)) = omega arith in
+    let next : a + i + 1 ≡ a + (i + 1) = omega arith in
+    ap (λ (k : ℕ). are_joined m k (a + i)) more ∙ are_joined-suc m (n - (i + 1)) (a + i) ∙ ap (λ (b : ℕ). is_joined m (a + i + 1) && are_joined m (n - (i + 1)) b) next
+
+-- one byte more of the piece
+pub size-more : (m : MapView) (n i a : ℕ) → i < n → is_joined m (a + i + 1) ≡ true → are_joined m (n - i) (a + i) ≡ are_joined m n a → are_joined m (n - (i + 1)) (a + (i + 1)) ≡ are_joined m n a
+size-more m n i a below joined so_far =
+    let here : are_joined m (n - i) (a + i) ≡ are_joined m (n - (i + 1)) (a + (i + 1)) = are_joined-next m n i a below ∙ rw joined refl in
+    sym here ∙ so_far
+
+-- the piece ends before
+pub size-cut : (m : MapView) (w i a : ℕ) → w ≡ wanted_at m a → i < w - 1 → is_joined m (a + i + 1) ≡ false → are_joined m (w - 1 - i) (a + i) ≡ are_joined m (w - 1) a → 1 ≡ size_at m a
+unfolding size_at
+size-cut m w i a is below apart so_far =
+    let here : are_joined m (w - 1 - i) (a + i) ≡ false = are_joined-next m (w - 1) i a below ∙ rw apart refl in
+    let cut : are_joined m (wanted_at m a - 1) a ≡ false = sym (ap (λ (k : ℕ). are_joined m (k - 1) a) is) ∙ sym so_far ∙ here in
+    sym (cond-false _ (wanted_at m a) 1 cut)
+
+-- the piece has room
+pub size-whole : (m : MapView) (w i a : ℕ) → w ≡ wanted_at m a → w - 1 ≤ i → are_joined m (w - 1 - i) (a + i) ≡ are_joined m (w - 1) a → w ≡ size_at m a
+unfolding size_at
+size-whole m w i a is past so_far =
+    let none : w - 1 - i ≡ 0 = omega arith in
+    let here : are_joined m (w - 1 - i) (a + i) ≡ true = ap (λ (k : ℕ). are_joined m k (a + i)) none ∙ are_joined-none m (a + i) in
+    let whole : are_joined m (wanted_at m a - 1) a ≡ true = sym (ap (λ (k : ℕ). are_joined m (k - 1) a) is) ∙ sym so_far ∙ here in
+    is ∙ sym (cond-true _ (wanted_at m a) 1 whole)
+
+len-small : (x : Mode) → len_of x ≤ 3
+len-small Imp = omega arith
+len-small _ = omega arith
+
+code_size-small : (o : Option Op) → code_size o ≤ 3
+code_size-small None = omega arith
+code_size-small (Some op) = len-small op.mode
+
+size_for-small : (m : MapView) (r : RangeType) (b : ℕ) → size_for m r b ≤ 3
+size_for-small m Code b = code_size-small (decoded (opcodes m) b)
+size_for-small m ByteTable b = omega arith
+size_for-small m WordTable b = omega arith
+size_for-small m DbyteTable b = omega arith
+size_for-small m TextTable b = omega arith
+size_for-small m Skip b = omega arith
+
+wanted-small : (m : MapView) (a : ℕ) → wanted_at m a ≤ 3
+unfolding wanted_at
+wanted-small m a = size_for-small m (role_of m.info a) (byte_at m.image a)
+
+size-small : (m : MapView) (a : ℕ) → size_at m a ≤ 3
+unfolding size_at
+size-small m a = cond_both (are_joined m (wanted_at m a - 1) a) (wanted_at m a) 1 (λ n. n ≤ 3) (λ _. wanted-small m a) (λ _. omega arith)
+
+pub item-small : (m : MapView) (a : ℕ) → item_len m a ≤ 3
+unfolding item_len
+item-small m a =
+    cond_both (is_inside m.image a && (not (is_skip (role_of m.info a)) && left_at (size_at m) m.image.start (a - m.image.start) == 0)) (size_at m a) 0 (λ n. n ≤ 3) (λ _. size-small m a) (λ _. omega arith)
+
+-- an item ends in the image
+pub item-fits : (m : MapView) (a : ℕ) → 0 < item_len m a → a + item_len m a ≤ end_of m.image
+item-fits m a some =
+    let is = begun m a some in
+    let k : ℕ = a - m.image.start in
+    let place : m.image.start + k ≡ a = omega (arith, is.low) in
+    let same : size_at m (m.image.start + k) ≡ size_at m a = ap (size_at m) place in
+    omega (arith, size-fits m k (omega (arith, is.low, is.high)), same, is.len, place)
+
+-- ---- where no item begins
+
+item-inner : (m : MapView) (a : ℕ) → left_at (size_at m) m.image.start (a - m.image.start) ≢ 0 → item_len m a ≡ 0
+unfolding item_len
+item-inner m a some =
+    let none : (left_at (size_at m) m.image.start (a - m.image.start) == 0) ≡ false = ne_eqb (left_at (size_at m) m.image.start (a - m.image.start)) 0 some in
+    no_third (is_inside m.image a) (not (is_skip (role_of m.info a))) _ (size_at m a) none
+  where
+    no_third : (x y z : Bool) (n : ℕ) → z ≡ false → (if x && (y && z) then n else 0) ≡ 0
+    no_third true true z n is = rw is refl
+    no_third true false z n is = refl
+    no_third false y z n is = refl
+
+item-skip : (m : MapView) (a : ℕ) → is_skip (role_of m.info a) ≡ true → item_len m a ≡ 0
+unfolding item_len
+item-skip m a skip = no_second (is_inside m.image a) _ (left_at (size_at m) m.image.start (a - m.image.start) == 0) (size_at m a) (ap not skip)
+  where
+    no_second : (x y z : Bool) (n : ℕ) → y ≡ false → (if x && (y && z) then n else 0) ≡ 0
+    no_second true y z n is = rw is refl
+    no_second false y z n is = refl
+
+item-before : (m : MapView) (a : ℕ) → a < m.image.start → item_len m a ≡ 0
+item-before m a before =
+    ⊎_elim
+    (λ none. none)
+    (λ some. absurd (omega (arith, before, (begun m a (omega (arith, some))).low)))
+    (cases_eq (item_len m a) 0)
+
+item-past : (m : MapView) (a : ℕ) → end_of m.image ≤ a → item_len m a ≡ 0
+item-past m a past =
+    ⊎_elim
+    (λ none. none)
+    (λ some. absurd (omega (arith, past, (begun m a (omega (arith, some))).high)))
+    (cases_eq (item_len m a) 0)
+
+-- ---- the cells after one item more
+
+-- an item at n, of so many bytes
+module _ (m : MapView) (n len : ℕ) (low : m.image.start ≤ n) (begins : left_at (size_at m) m.image.start (n - m.image.start) ≡ 0) (is : len ≡ size_at m n) where
+  size-here : size_at m (m.image.start + (n - m.image.start)) ≡ len
+  size-here = let place : m.image.start + (n - m.image.start) ≡ n = omega (arith, low) in ap (size_at m) place ∙ sym is
+
+  pub next-begins : left_at (size_at m) m.image.start (n + len - m.image.start) ≡ 0
+  next-begins =
+      let place : n + len - m.image.start ≡ n - m.image.start + size_at m (m.image.start + (n - m.image.start)) = omega (arith, low, size-here) in
+      ap (left_at (size_at m) m.image.start) place ∙ left-behind (size_at m) (size-positive m) m.image.start (n - m.image.start) begins
+
+  inside-item : (a : ℕ) → n < a → a < n + len → item_len m a ≡ 0
+  inside-item a after before =
+      let k : ℕ = n - m.image.start in
+      let i : ℕ = a - n - 1 in
+      let place : a - m.image.start ≡ suc k + i = omega (arith, low, after) in
+      let left = left-inside (size_at m) m.image.start k i begins (omega (arith, size-here, after, before)) in
+      item-inner m a (λ none. omega (arith, sym (ap (left_at (size_at m) m.image.start) place) ∙ none, left, size-here, after, before))
+
+module _ (m : MapView) (n len : ℕ) (cells : List ℕ) (low : m.image.start ≤ n) (high : n < end_of m.image) (room : n < 65536) (begins : left_at (size_at m) m.image.start (n - m.image.start) ≡ 0) (is : len ≡ size_at m n) (old : AreMarkedBelow m n cells) where
+  lay-none : (a : ℕ) → item_len m a ≡ 0 → lay_at m a ≡ cell_of (role_at m a) 0
+  lay-none a none = ap (cell_of (role_at m a)) none
+
+  elsewhere : (a : ℕ) → a ≢ n → a < 65536 → a < n + len → get_or cells a 0 ≡ lay_at m a
+  elsewhere a other below before =
+      ⊎_elim
+      (λ earlier. old.marked a below earlier)
+      (λ later. old.plain a below later ∙ sym (lay-none a (inside-item m n len low begins is a (omega (arith, other, later)) before)))
+      (cases_lt a n)
+
+  item-here : is_skip (role_of m.info n) ≡ false → item_len m n ≡ len
+  item-here shown =
+      let k : ℕ = n - m.image.start in
+      let place : m.image.start + k ≡ n = omega (arith, low) in
+      sym (ap (item_len m) place) ∙ item-len-at m k (omega (arith, low, high)) (ap (λ (x : ℕ). is_skip (role_of m.info x)) place ∙ shown) begins ∙ ap (size_at m) place ∙ sym is
+
+  pub item-marked : (r : RangeType) (c : ℕ) → r ≡ role_of m.info n → c ≡ cell_of (Some r) len → is_skip r ≡ false → AreMarkedBelow m (n + len) (set cells n c)
+  item-marked r c role cell shown = record {
+    count = length-set cells n c ∙ old.count;
+    marked = λ a below before.
+        ⊎_elim
+        (λ same.
+        let lt : n < length cells = omega (arith, old.count, room) in
+        let here : c ≡ lay_at m n = cell ∙ ap (λ (q : RangeType). cell_of (Some q) len) role ∙ ap (λ q. cell_of q len) (sym (role_at-inside m n low high)) ∙ ap (cell_of (role_at m n)) (sym (item-here (sym (ap is_skip role) ∙ shown))) in
+        rw same (rw get_or-set_same here))
+        (λ other. rw (get_or-set_other cells n a c 0 other) (elsewhere a other below before))
+        (cases_eq a n);
+    plain = λ a below after.
+        let other : a ≢ n = λ same. absurd (omega (arith, same, after, size-positive m n, is)) in
+        rw (get_or-set_other cells n a c 0 other) (old.plain a below (omega (arith, after)));
+  }
+
+  pub skip-marked : (r : RangeType) → r ≡ role_of m.info n → is_skip r ≡ true → AreMarkedBelow m (n + len) cells
+  skip-marked r role skip = record {
+    count = old.count;
+    marked = λ a below before.
+        ⊎_elim
+        (λ same. rw same (old.plain n room (omega arith) ∙ sym (lay-none n (item-skip m n (sym (ap is_skip role) ∙ skip)))))
+        (λ other. elsewhere a other below before)
+        (cases_eq a n);
+    plain = λ a below after. old.plain a below (omega (arith, after));
+  }
+
+-- ---- the sweep's two ends
+
+pub first-begins : (m : MapView) (n : ℕ) → n ≡ m.image.start → left_at (size_at m) m.image.start (n - m.image.start) ≡ 0
+first-begins m n is = let none : n - m.image.start ≡ 0 = omega (arith, is) in ap (left_at (size_at m) m.image.start) none ∙ left-first (size_at m) m.image.start
+
+pub marked-none : (m : MapView) (n : ℕ) (cells : List ℕ) → n ≡ m.image.start → AreMarkedBelow m 0 cells → AreMarkedBelow m n cells
+marked-none m n cells is old = record {
+  count = old.count;
+  marked = λ a below before. old.plain a below (omega arith) ∙ sym (ap (cell_of (role_at m a)) (item-before m a (omega (arith, is, before))));
+  plain = λ a below after. old.plain a below (omega arith);
+}
+
+all-laid : (m : MapView) (n : ℕ) (cells : List ℕ) → end_of m.image ≤ n → AreMarkedBelow m n cells → (a : ℕ) → a < 65536 → get_or cells a 0 ≡ lay_at m a
+all-laid m n cells past old a below =
+    ⊎_elim
+    (λ before. old.marked a below before)
+    (λ after. old.plain a below after ∙ sym (ap (cell_of (role_at m a)) (item-past m a (omega (arith, past, after)))))
+    (cases_lt a n)
+
+lay-small : (m : MapView) (a : ℕ) → lay_at m a < 128
+lay-small m a = cell-small (role_at m a) (item_len m a) (omega (arith, item-small m a))
+
+pub all-marked : (m : MapView) (n : ℕ) (cells : List ℕ) → end_of m.image ≤ n → AreMarkedBelow m n cells → AreCells m cells
+all-marked m n cells past old = record {
+  laid = record { count = old.count; each = λ a below. omega (arith, all-laid m n cells past old a below, lay-small m a) };
+  bits = record { each = λ a below. omega (arith, all-laid m n cells past old a below, lay-small m a) };
+}

@@ -1,0 +1,22 @@
+use Rattle.std.proofs.Common.{◌≡◌, ◌∙◌, ◌≤◌, ap, arith, length}
+use Rattle.map65.specs.ImageView.{end_of}
+use Rattle.map65.specs.MapView.{MapView}
+use Rattle.map65.proofs.SweepLemmas.{all-marked, first-begins, marked-none}
+use Rattle.map65.proofs.sweep.mark_items.Goals as goal
+
+pub items-init : goal.items-init
+items-init g c =
+    let m : MapView = record { info = c.args.info.now; image = c.args.image.now } in
+    let at : c.from-at.result ≡ c.args.image.now.start = c.from-at.ensures ∙ c.start.ensures in
+    record {
+      low = omega (arith, at);
+      begins = first-begins m _ at;
+      marked = marked-none m _ c.args.cells.now at c.requires;
+    }
+
+pub returns : goal.returns
+returns g c =
+    let m : MapView = record { info = c.args.info.now; image = c.args.image.now } in
+    let bytes = ap length c.bytes.ensures.bytes in
+    let past : end_of c.args.image.now ≤ c.items.at = omega (arith, c.from-at.ensures ∙ c.start.ensures, bytes, c.items-test.false) in
+    all-marked m c.items.at c.items.cells past c.items.invariant.marked

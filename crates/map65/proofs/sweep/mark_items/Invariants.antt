@@ -1,0 +1,18 @@
+use Rattle.std.proofs.Common.{◌≡◌, ◌-◌, ◌≤◌}
+use Rattle.map65.specs.Cells.{AreMarkedBelow}
+use Rattle.map65.specs.Items.{size_at}
+use Rattle.map65.specs.MapView.{MapView}
+use Rattle.map65.specs.Steps.{left_at}
+use Rattle.map65.proofs.sweep.mark_items.Given as goal
+
+abbrev pub invariant-items : goal.invariant-items
+invariant-items g l =
+    let m : MapView = record { info = l.info; image = l.image } in
+    record {
+      low : l.image.start ≤ l.at;
+      begins : left_at (size_at m) l.image.start (l.at - l.image.start) ≡ 0;
+      marked : AreMarkedBelow m l.at l.cells;
+    }
+
+abbrev pub decreases-items : goal.decreases-items
+decreases-items g l = l.end - l.at

@@ -1,0 +1,42 @@
+-- The role of an address.
+use Rattle.std.specs.Prelude.{◌≡◌, ℕ, Bool, true, false, List, [], ◌∷◌, All, Option, Some, None, if◌then◌else◌}
+use denote.Enum.Bare.{sameb}
+use Rattle.info65.specs.contracts.range.RangeType as range_type
+use Rattle.info65.specs.Ranges.{AreDisjoint, has_address}
+use Rattle.info65.specs.Views.{InfoView}
+use Rattle.info65.specs.declared.range.RangeSpec.{RangeSpec}
+use Rattle.info65.specs.declared.range.RangeType.{RangeType}
+use Rattle.info65.specs.declared.range.RangeType.TheVariants as role
+use Rattle.map65.specs.ImageView.{is_inside}
+use Rattle.map65.specs.MapView.{MapView}
+
+-- the type of the range that has the address, else code; no two ranges of an information file share one
+unfoldable pub role_in : List RangeSpec → ℕ → RangeType
+role_in [] a = role.Code
+role_in (r ∷ rs) a = if has_address r a then r.role else role_in rs a
+
+abbrev pub role_of : InfoView → ℕ → RangeType
+role_of info a = role_in info.ranges a
+
+-- The role of an address: none outside the image.
+unfoldable pub role_at : MapView → ℕ → Option RangeType
+role_at m a = if is_inside m.image a then Some (role_of m.info a) else None
+
+abbrev pub is_role : RangeType → RangeType → Bool
+is_role r q = sameb range_type.the_type r q
+
+-- bytes of this role are not listed
+abbrev pub is_skip : RangeType → Bool
+is_skip role.Skip = true
+is_skip _ = false
+
+-- ---- the law above
+
+-- The role of an address in a range is that range's type, and where no range has the address it is CODE.
+pub record HasRoles (ranges : List RangeSpec) : Type 0 where
+  pub within : All (λ r. (a : ℕ) → has_address r a ≡ true → role_in ranges a ≡ r.role) ranges
+  pub outside : (a : ℕ) → All (λ r. has_address r a ≡ false) ranges → role_in ranges a ≡ role.Code
+
+-- This holds where no two ranges share an address, as in an information file.
+abbrev pub RoleLaw : List RangeSpec → Type 0
+RoleLaw ranges = AreDisjoint ranges → HasRoles ranges

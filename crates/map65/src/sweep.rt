@@ -1,0 +1,195 @@
+//! The sweeps that write roles and items into the cells.
+
+ghost use Rattle.std.specs.Prelude.{◌≡◌, ◌+◌, ◌-◌, ◌<◌, ◌≤◌, ℕ, [], length, slice_index};
+ghost use Rattle.isa65.specs.Cpu.{table_of};
+ghost use Rattle.isa65.specs.Opcodes.{decoded};
+ghost use Rattle.map65.specs.Cells.{AreCells, AreMarkedBelow, ArePainted, are_alike, painted, painted_by};
+ghost use Rattle.map65.specs.ImageView.{IsPlaced, end_of};
+ghost use Rattle.map65.specs.Items.{code_size, size_at, unit_of, wanted_at};
+ghost use Rattle.map65.specs.Roles.{is_skip, role_of};
+ghost use Rattle.map65.specs.Steps.{left_at};
+
+use crate::cells::{cell_of, is_same_role, role_in};
+use crate::image::Image;
+use info65::{Info, RangeSpec, RangeType};
+use isa65::{Cpu, OpcodeSet};
+use std::alloc::Allocator;
+
+// ---- roles
+
+/// Writes the role into the cells from one address on, below another.
+fn paint(cells: &mut [u16], from: usize, to: usize, role: RangeType)
+    requires count { length cells.old ≡ 65536 }
+    requires order { from ≤ to }
+    requires room { to ≤ 65536 }
+    ensures count { length cells.new ≡ 65536 }
+    ensures each { (a : ℕ) → a < 65536 → slice_index cells.new a ≡ painted from to role (slice_index cells.old a) a }
+{
+    let cell = cell_of(Some(role), 0);
+    for at in from..to {
+        cells[at] = cell;
+    }
+}
+
+/// Writes the role of the range into the cells of the image's addresses that it has.
+fn paint_range<A: Allocator>(cells: &mut [u16], image: &Image<A>, range: RangeSpec)
+    requires count { length cells.old ≡ 65536 }
+    ensures count { length cells.new ≡ 65536 }
+    ensures each { (a : ℕ) → a < 65536 → slice_index cells.new a ≡ painted_by image.now range (slice_index cells.old a) a }
+{
+    let start = usize::from(image.start());
+    let end = start + image.bytes().len();
+    let from = usize::from(range.first).max(start);
+    let to = (usize::from(range.last) + 1).min(end).max(from);
+    paint(cells, from, to, range.role);
+}
+
+/// Writes CODE into the cells of the image.
+fn paint_code<A: Allocator>(cells: &mut [u16], image: &Image<A>)
+    requires count { length cells.old ≡ 65536 }
+    requires blank { (a : ℕ) → a < 65536 → slice_index cells.old a ≡ 0 }
+    ensures { ArePainted image.now [] cells.new }
+{
+    let start = usize::from(image.start());
+    let end = start + image.bytes().len();
+    paint(cells, start, end, RangeType::Code);
+}
+
+/// Writes the role of each address of the image into its cell.
+///
+/// The ranges are written from the last to the first, each over what stands there.
+pub fn mark_roles<A: Allocator>(cells: &mut [u16], info: &Info<A>, image: &Image<A>)
+    requires count { length cells.old ≡ 65536 }
+    requires blank { (a : ℕ) → a < 65536 → slice_index cells.old a ≡ 0 }
+    ensures { AreMarkedBelow (record { info = info.now; image = image.now }) 0 cells.new }
+{
+    paint_code(cells, image);
+    let ranges = info.ranges();
+    let mut left = ranges.len();
+    'painting: while 0 < left {
+        left -= 1;
+        let range = ranges[left];
+        paint_range(cells, image, range);
+    }
+}
+
+// ---- items
+
+/// The address lies in the piece of the one before it.
+#[tactic(auto, unfolding(crate::specs::Cells::are_alike))]
+fn is_joined(cells: &[u16], at: usize) -> bool
+    requires { 0 < at }
+    ensures { result ≡ are_alike cells.now at }
+{
+    at < cells.len() && is_same_role(cells[at - 1], cells[at])
+}
+
+/// How many bytes an item of a table of this role has, where its piece has room; of no table 1.
+pub fn unit_of(role: RangeType) -> u8
+    ensures value { result ≡ unit_of role }
+    ensures positive { 1 ≤ result }
+    ensures small { result ≤ 3 }
+{
+    match role {
+        RangeType::WordTable | RangeType::DbyteTable => 2,
+        RangeType::Code | RangeType::ByteTable | RangeType::TextTable | RangeType::Skip => 1,
+    }
+}
+
+fn code_size(cpu: Cpu, byte: u8) -> u8
+    ensures value { result ≡ code_size (decoded (table_of cpu) byte) }
+    ensures positive { 1 ≤ result }
+    ensures small { result ≤ 3 }
+{
+    match cpu.decode(byte) {
+        Some(op) => op.mode.len(),
+        None => 1,
+    }
+}
+
+/// How many bytes an item of this role has that begins at the address, where its piece has room.
+#[tactic(auto, unfolding(crate::specs::Items::wanted_at))]
+fn wanted_at<A: Allocator>(info: &Info<A>, image: &Image<A>, role: RangeType, address: u16) -> u8
+    requires low { image.now.start ≤ address }
+    requires high { address < end_of image.now }
+    requires role { role ≡ role_of info.now address }
+    ensures value { result ≡ wanted_at (record { info = info.now; image = image.now }) address }
+    ensures positive { 1 ≤ result }
+    ensures small { result ≤ 3 }
+{
+    match role {
+        RangeType::Code => {
+            let bytes = image.bytes();
+            let byte = bytes[usize::from(address - image.start())];
+            code_size(info.settings().cpu, byte)
+        }
+        _ => unit_of(role),
+    }
+}
+
+/// How many bytes the item has that begins at the address: one where its piece ends before.
+fn size_at<A: Allocator>(
+    cells: &[u16],
+    info: &Info<A>,
+    image: &Image<A>,
+    role: RangeType,
+    address: u16,
+) -> u8
+    requires placed { IsPlaced image.now }
+    requires low { image.now.start ≤ address }
+    requires high { address < end_of image.now }
+    requires role { role ≡ role_of info.now address }
+    requires marked { AreMarkedBelow (record { info = info.now; image = image.now }) address cells.now }
+    ensures value { result ≡ size_at (record { info = info.now; image = image.now }) address }
+    ensures positive { 1 ≤ result }
+    ensures small { result ≤ 3 }
+{
+    let wanted = wanted_at(info, image, role, address);
+    let first = usize::from(address);
+    for i in 0..wanted - 1 {
+        if !is_joined(cells, first + usize::from(i) + 1) {
+            return 1;
+        }
+    }
+    wanted
+}
+
+fn is_skip(role: RangeType) -> bool
+    ensures { result ≡ is_skip role }
+{
+    matches!(role, RangeType::Skip)
+}
+
+/// Marks the item that begins at the address, and says how many bytes it has. A skipped byte is none.
+fn mark_item<A: Allocator>(cells: &mut [u16], info: &Info<A>, image: &Image<A>, address: u16) -> u8
+    requires placed { IsPlaced image.now }
+    requires low { image.now.start ≤ address }
+    requires high { address < end_of image.now }
+    requires begins { left_at (size_at (record { info = info.now; image = image.now })) image.now.start (address - image.now.start) ≡ 0 }
+    requires marked { AreMarkedBelow (record { info = info.now; image = image.now }) address cells.old }
+    ensures positive { 1 ≤ result }
+    ensures small { result ≤ 3 }
+    ensures begins { left_at (size_at (record { info = info.now; image = image.now })) image.now.start (address + result - image.now.start) ≡ 0 }
+    ensures marked { AreMarkedBelow (record { info = info.now; image = image.now }) (address + result) cells.new }
+{
+    let at = usize::from(address);
+    let role = role_in(cells[at]).unwrap_or(RangeType::Code);
+    let len = size_at(cells, info, image, role, address);
+    if !is_skip(role) {
+        cells[at] = cell_of(Some(role), len);
+    }
+    len
+}
+
+/// Writes the length of each item into the cell where it begins.
+pub fn mark_items<A: Allocator>(cells: &mut [u16], info: &Info<A>, image: &Image<A>)
+    requires { AreMarkedBelow (record { info = info.now; image = image.now }) 0 cells.old }
+    ensures { AreCells (record { info = info.now; image = image.now }) cells.new }
+{
+    let mut at = usize::from(image.start());
+    let end = at + image.bytes().len();
+    'items: while at < end {
+        let len = mark_item(cells, info, image, at as u16);
+        at += usize::from(len);
+    }
+}

@@ -1,0 +1,112 @@
+//! Roles and items of images of which every address is code.
+
+use crate::{Image, Map};
+use info65::{Info, Options, RangeType, read_info};
+use std::alloc::Global;
+use std::process::Abort;
+use std::test::Fail;
+
+fn no_ranges(alloc: Global) -> Result<Info, Fail> {
+    Ok(read_info(alloc, &Options::<Global>::none(), b"")?)
+}
+
+/// An image of so many of one byte, that ends at $FFFF.
+fn image_of(alloc: Global, byte: u8, count: usize) -> Result<Image, Fail> {
+    Ok(Image::from_bytes(None, None, vec![in alloc; byte; count]?)?)
+}
+
+/// The start, the bytes, and how long the item is that begins at each.
+const IMAGES: [(&str, u16, &[u8], &[u8]); 8] = [
+    (
+        "one instruction a length",
+        0x1000,
+        &[0xEA, 0xA9, 1, 0x8D, 2, 3],
+        &[1, 2, 0, 3, 0, 0],
+    ),
+    (
+        "cut at the image's end",
+        0x1000,
+        &[0xEA, 0x20, 1],
+        &[1, 1, 1],
+    ),
+    (
+        "reading goes on behind a cut opcode",
+        0x1000,
+        &[0x20, 0xEA],
+        &[1, 1],
+    ),
+    ("cut to one byte", 0x1000, &[0xA9], &[1]),
+    ("undefined opcodes", 0x1000, &[0x02, 0xFF, 0xEA], &[1, 1, 1]),
+    (
+        "up to the last address",
+        0xFFFD,
+        &[0x4C, 0, 0x10],
+        &[3, 0, 0],
+    ),
+    ("cut at the last address", 0xFFFE, &[0x4C, 0], &[1, 1]),
+    ("from address 0", 0, &[0xD0, 0xFE], &[2, 0]),
+];
+
+#[test]
+fn items_of_code(rt: HostRuntime) -> Result<(), Fail> {
+    let alloc = rt.alloc();
+    let info = no_ranges(alloc)?;
+    for (name, start, bytes, lens) in IMAGES {
+        let image = Image::from_bytes(Some(start), None, Vec::from_slice(alloc, bytes)?)?;
+        let map = Map::build(alloc, &info, &image)?;
+        let mut address = start;
+        for len in lens {
+            assert_eq!(rt; map.item_len(address), *len, "{name} {address:04x}");
+            assert_eq!(rt;
+                map.role(address),
+                Some(RangeType::Code),
+                "{name} {address:04x}"
+            );
+            address = address.wrapping_add(1);
+        }
+    }
+    Ok(())
+}
+
+#[test]
+fn addresses_outside_the_image(rt: HostRuntime) -> Result<(), Fail> {
+    let alloc = rt.alloc();
+    let info = no_ranges(alloc)?;
+    let image = Image::from_bytes(Some(0x1000), None, Vec::from_slice(alloc, b"\xEA\xEA")?)?;
+    let map = Map::build(alloc, &info, &image)?;
+    for address in [0, 0x0FFF, 0x1002, 0x8000, 0xFFFF] {
+        assert_eq!(rt; map.role(address), None, "{address:04x}");
+        assert_eq!(rt; map.item_len(address), 0, "{address:04x}");
+    }
+    Ok(())
+}
+
+/// A byte, and how long its instruction is.
+const OPCODES: [(u8, u8); 4] = [(0xEA, 1), (0xA9, 2), (0x20, 3), (0x02, 1)];
+
+#[test]
+fn a_full_image_of_one_opcode(rt: HostRuntime) -> Result<(), Fail> {
+    let alloc = rt.alloc();
+    let info = no_ranges(alloc)?;
+    for (byte, size) in OPCODES {
+        let image = image_of(alloc, byte, 65_536)?;
+        let map = Map::build(alloc, &info, &image)?;
+        for address in 0..=u16::MAX {
+            // $10000 is a multiple of 1 and 2, and one more than a multiple of 3.
+            let want = if size == 3 && address == u16::MAX {
+                1
+            } else if address % u16::from(size) == 0 {
+                size
+            } else {
+                0
+            };
+            assert_eq!(rt; map.item_len(address), want, "{byte:02x} {address:04x}");
+            assert_eq!(rt;
+                map.role(address),
+                Some(RangeType::Code),
+                "{byte:02x} {address:04x}"
+            );
+        }
+    }
+    Ok(())
+}

@@ -1,0 +1,186 @@
+//! Roles and items of images with ranges.
+
+use crate::{Image, Map};
+use info65::{Info, Options, RangeType, read_info};
+use std::alloc::Global;
+use std::process::Abort;
+use std::test::Fail;
+
+fn info_of(alloc: Global, text: &str) -> Result<Info, Fail> {
+    Ok(read_info(alloc, &Options::<Global>::none(), text.as_bytes())?)
+}
+
+/// An image of so many of one byte, that ends at $FFFF.
+fn image_of(alloc: Global, byte: u8, count: usize) -> Result<Image, Fail> {
+    Ok(Image::from_bytes(None, None, vec![in alloc; byte; count]?)?)
+}
+
+/// The bytes from $1000 on, the information file, and for each byte its role and how long the item is that
+/// begins there.
+struct Listed {
+    name: &'static str,
+    bytes: &'static [u8],
+    info: &'static str,
+    marks: &'static [(RangeType, u8)],
+}
+
+use RangeType::{ByteTable, Code, DbyteTable, Skip, TextTable, WordTable};
+
+const LISTED: &[Listed] = &[
+    Listed {
+        name: "an instruction that would run into a table is cut",
+        bytes: &[0xEA, 0x20, 1, 2],
+        info: "RANGE { START $1002; END $1003; TYPE BYTETABLE; };",
+        marks: &[(Code, 1), (Code, 1), (ByteTable, 1), (ByteTable, 1)],
+    },
+    Listed {
+        name: "an instruction that ends before a table is whole",
+        bytes: &[0x20, 1, 2, 3],
+        info: "RANGE { START $1003; END $1003; TYPE BYTETABLE; };",
+        marks: &[(Code, 3), (Code, 0), (Code, 0), (ByteTable, 1)],
+    },
+    Listed {
+        name: "a byte is left over of a word table",
+        bytes: &[1, 2, 3],
+        info: "RANGE { START $1000; SIZE 3; TYPE WORDTABLE; };",
+        marks: &[(WordTable, 2), (WordTable, 0), (WordTable, 1)],
+    },
+    Listed {
+        name: "words, high byte first",
+        bytes: &[1, 2],
+        info: "RANGE { START $1000; END $1001; TYPE DBYTETABLE; };",
+        marks: &[(DbyteTable, 2), (DbyteTable, 0)],
+    },
+    Listed {
+        name: "neighbouring byte tables",
+        bytes: &[1, 2],
+        info: "RANGE { START $1000; SIZE 1; TYPE BYTETABLE; };\
+               RANGE { START $1001; SIZE 1; TYPE BYTETABLE; };",
+        marks: &[(ByteTable, 1), (ByteTable, 1)],
+    },
+    Listed {
+        name: "a word lies in neighbouring ranges of one run, whatever their order",
+        bytes: &[1, 2],
+        info: "RANGE { START $1001; SIZE 1; TYPE WORDTABLE; };\
+               RANGE { START $1000; SIZE 1; TYPE WORDTABLE; };",
+        marks: &[(WordTable, 2), (WordTable, 0)],
+    },
+    Listed {
+        name: "an instruction goes on in a range of code",
+        bytes: &[0x20, 1, 2],
+        info: "RANGE { START $1001; END $1001; TYPE CODE; };",
+        marks: &[(Code, 3), (Code, 0), (Code, 0)],
+    },
+    Listed {
+        name: "words of two orders are two runs",
+        bytes: &[1, 2, 3, 4],
+        info: "RANGE { START $1000; SIZE 1; TYPE WORDTABLE; };\
+               RANGE { START $1001; SIZE 3; TYPE DBYTETABLE; };",
+        marks: &[
+            (WordTable, 1),
+            (DbyteTable, 2),
+            (DbyteTable, 0),
+            (DbyteTable, 1),
+        ],
+    },
+    Listed {
+        name: "a skipped byte has no item",
+        bytes: &[0xEA],
+        info: "RANGE { START $1000; END $1000; TYPE SKIP; };",
+        marks: &[(Skip, 0)],
+    },
+    Listed {
+        name: "an instruction that would run into skipped bytes is cut",
+        bytes: &[0xEA, 0x20, 0x30, 0xEA],
+        info: "RANGE { START $1001; END $1002; TYPE SKIP; };",
+        marks: &[(Code, 1), (Skip, 0), (Skip, 0), (Code, 1)],
+    },
+    Listed {
+        name: "nine bytes",
+        bytes: &[0; 9],
+        info: "RANGE { START $1000; SIZE 9; TYPE BYTETABLE; };",
+        marks: &[(ByteTable, 1); 9],
+    },
+    Listed {
+        name: "text",
+        bytes: &[0x48, 0x22, 0x5C, 0x49, 0x0D],
+        info: "RANGE { START $1000; END $1004; TYPE TEXTTABLE; };",
+        marks: &[(TextTable, 1); 5],
+    },
+    Listed {
+        name: "ranges beside the image",
+        bytes: &[0x20, 1, 2],
+        info: "RANGE { START 0; END $0FFF; TYPE BYTETABLE; };\
+               RANGE { START $1003; END $FFFF; TYPE SKIP; };",
+        marks: &[(Code, 3), (Code, 0), (Code, 0)],
+    },
+    Listed {
+        name: "ranges that begin before the image and end behind it",
+        bytes: &[1, 2, 3, 0xEA, 4, 5],
+        info: "RANGE { START $0FFF; END $1002; TYPE WORDTABLE; };\
+               RANGE { START $1004; END $1010; TYPE DBYTETABLE; };",
+        marks: &[
+            (WordTable, 2),
+            (WordTable, 0),
+            (WordTable, 1),
+            (Code, 1),
+            (DbyteTable, 2),
+            (DbyteTable, 0),
+        ],
+    },
+];
+
+#[test]
+fn roles_and_items(rt: HostRuntime) -> Result<(), Fail> {
+    let alloc = rt.alloc();
+    for listed in LISTED {
+        let name = listed.name;
+        let info = info_of(alloc, listed.info)?;
+        let bytes = Vec::from_slice(alloc, listed.bytes)?;
+        let image = Image::from_bytes(Some(0x1000), None, bytes)?;
+        let map = Map::build(alloc, &info, &image)?;
+        let mut address = 0x1000u16;
+        for (role, len) in listed.marks {
+            assert_eq!(rt; map.role(address), Some(*role), "{name} {address:04x}");
+            assert_eq!(rt; map.item_len(address), *len, "{name} {address:04x}");
+            address = address.wrapping_add(1);
+        }
+        for outside in [0, 0x0FFF, address, 0xFFFF] {
+            assert_eq!(rt; map.role(outside), None, "{name} {outside:04x}");
+            assert_eq!(rt; map.item_len(outside), 0, "{name} {outside:04x}");
+        }
+    }
+    Ok(())
+}
+
+/// A type, its name, and how many bytes an item of bytes 0 has; none where no item begins.
+const TYPES: [(RangeType, &str, u16); 6] = [
+    (Code, "CODE", 1),
+    (ByteTable, "BYTETABLE", 1),
+    (WordTable, "WORDTABLE", 2),
+    (DbyteTable, "DBYTETABLE", 2),
+    (TextTable, "TEXTTABLE", 1),
+    (Skip, "SKIP", 0),
+];
+
+#[test]
+fn a_full_image_of_one_range(rt: HostRuntime) -> Result<(), Fail> {
+    let alloc = rt.alloc();
+    for (role, word, size) in TYPES {
+        let text = format!(in alloc; "RANGE {{ START 0; END $FFFF; TYPE {word}; }};")?;
+        let info = info_of(alloc, text.as_str())?;
+        let image = image_of(alloc, 0u8, 65_536)?;
+        let map = Map::build(alloc, &info, &image)?;
+        for address in 0..=u16::MAX {
+            let begins = size == 1 || size == 2 && address % 2 == 0;
+            let want = if begins { size } else { 0 };
+            assert_eq!(rt; map.role(address), Some(role), "{word} {address:04x}");
+            assert_eq!(rt;
+                u16::from(map.item_len(address)),
+                want,
+                "{word} {address:04x}"
+            );
+        }
+    }
+    Ok(())
+}

@@ -1,0 +1,180 @@
+ghost use Rattle.std.specs.Prelude.{◌≡◌};
+ghost use Rattle.stmt65.specs.Printable.{IsPrintable};
+ghost use Rattle.stmt65.specs.Views.{statement_seen};
+
+use crate::{Column, Columns, Level, Line, Remarks, Statement, assemble, put_line};
+use std::alloc::Global;
+use std::process::Abort;
+use std::test::Fail;
+
+/// The line of the statement, and the bytes that it assembles to.
+fn shows(
+    rt: &impl Abort,
+    alloc: Global,
+    columns: &Columns,
+    statement: &Statement,
+    want: &[u8],
+    bytes: &[u8],
+) -> Result<(), Fail>
+    requires { IsPrintable (statement_seen statement.now) }
+{
+    let remarks = Remarks {
+        level: Level::default(),
+        hexoffs: false,
+        address: 0x1000,
+        bytes,
+        label: None,
+    };
+    let mut line = Line::new();
+    put_line(&mut line, columns, statement, &remarks);
+    assert_eq!(rt; line.as_slice(), want);
+    let found = assemble(alloc, line.as_slice(), 0x1000)?;
+    assert_eq!(rt; found.as_slice(), bytes);
+    Ok(())
+}
+
+fn spaced(before: usize, operation: &str, between: usize, operands: &str) -> Line {
+    let mut line = Line::new();
+    for _ in 0..before {
+        let _ = line.try_push(b' ');
+    }
+    let _ = line.try_extend_from_slice(operation.as_bytes());
+    for _ in 0..between {
+        let _ = line.try_push(b' ');
+    }
+    let _ = line.try_extend_from_slice(operands.as_bytes());
+    let _ = line.try_push(b'\n');
+    line
+}
+
+/// The same at the default columns, and with both fields at the first and at the last column.
+fn shows_everywhere(
+    rt: &impl Abort,
+    alloc: Global,
+    statement: &Statement,
+    operation: &str,
+    operands: &str,
+    bytes: &[u8],
+) -> Result<(), Fail>
+    requires { IsPrintable (statement_seen statement.now) }
+{
+    let first = Column::try_from(1)?;
+    let last = Column::try_from(120)?;
+    let mut columns = Columns::default();
+    let want = spaced(8, operation, 3, operands);
+    shows(rt, alloc, &columns, statement, want.as_slice(), bytes)?;
+    columns.mnemonic = first;
+    columns.argument = first;
+    let want = spaced(0, operation, 1, operands);
+    shows(rt, alloc, &columns, statement, want.as_slice(), bytes)?;
+    columns.argument = last;
+    let want = spaced(0, operation, 114, operands);
+    shows(rt, alloc, &columns, statement, want.as_slice(), bytes)?;
+    columns.mnemonic = last;
+    let want = spaced(119, operation, 1, operands);
+    shows(rt, alloc, &columns, statement, want.as_slice(), bytes)
+}
+
+#[test]
+fn text(rt: HostRuntime) -> Result<(), Fail> {
+    let a = rt.alloc();
+    shows_everywhere(
+        &rt,
+        a,
+        &Statement::Text(b"\x48\x22\x5C\x49\x0D"),
+        ".byte",
+        r#""H",$22,$5C,"I",$0D"#,
+        b"\x48\x22\x5C\x49\x0D",
+    )?;
+    shows_everywhere(
+        &rt,
+        a,
+        &Statement::Text(b"0123456789ABCDEF"),
+        ".byte",
+        r#""0123456789ABCDEF""#,
+        b"0123456789ABCDEF",
+    )?;
+    shows_everywhere(
+        &rt,
+        a,
+        &Statement::Text(br#""""""""""""""""""#),
+        ".byte",
+        "$22,$22,$22,$22,$22,$22,$22,$22,$22,$22,$22,$22,$22,$22,$22,$22",
+        br#""""""""""""""""""#,
+    )?;
+    shows_everywhere(
+        &rt,
+        a,
+        &Statement::Text(b"a;b"),
+        ".byte",
+        r#""a;b""#,
+        b"a;b",
+    )?;
+    shows_everywhere(
+        &rt,
+        a,
+        &Statement::Text(b"  a b  "),
+        ".byte",
+        r#""  a b  ""#,
+        b"  a b  ",
+    )
+}
+
+#[test]
+fn text_at_its_edges(rt: HostRuntime) -> Result<(), Fail> {
+    let a = rt.alloc();
+    shows_everywhere(
+        &rt,
+        a,
+        &Statement::Text(b"\x1F\x20\x7E\x7F"),
+        ".byte",
+        r#"$1F," ~",$7F"#,
+        b"\x1F\x20\x7E\x7F",
+    )?;
+    shows_everywhere(&rt, a, &Statement::Text(b"\n"), ".byte", "$0A", b"\n")?;
+    shows_everywhere(
+        &rt,
+        a,
+        &Statement::Text(b"ab\0cd"),
+        ".byte",
+        r#""ab",$00,"cd""#,
+        b"ab\0cd",
+    )
+}
+
+#[test]
+fn words(rt: HostRuntime) -> Result<(), Fail> {
+    let a = rt.alloc();
+    shows_everywhere(
+        &rt,
+        a,
+        &Statement::Words(b"\x01\x02"),
+        ".word",
+        "$0201",
+        b"\x01\x02",
+    )?;
+    shows_everywhere(
+        &rt,
+        a,
+        &Statement::Words(b"\x34\x12\x01\x00\xFF\xFF\x00\xC0"),
+        ".word",
+        "$1234,$0001,$FFFF,$C000",
+        b"\x34\x12\x01\x00\xFF\xFF\x00\xC0",
+    )?;
+    shows_everywhere(
+        &rt,
+        a,
+        &Statement::Dbyts(b"\x01\x02"),
+        ".dbyt",
+        "$0102",
+        b"\x01\x02",
+    )?;
+    shows_everywhere(
+        &rt,
+        a,
+        &Statement::Dbyts(b"\x12\x34\x00\x01\xFF\xFF\xC0\x00"),
+        ".dbyt",
+        "$1234,$0001,$FFFF,$C000",
+        b"\x12\x34\x00\x01\xFF\xFF\xC0\x00",
+    )
+}
