@@ -128,6 +128,7 @@ impl<'a, A: Allocator> Lines<'a, A> {
         requires { map.now ≡ record { info = info.now; image = image.now } }
         ensures lines { result ≡ lines_of map.entry.now }
     {
+        // The limits of an image are known where its bytes are looked at.
         let _ = image.bytes();
         Lines {
             info,
