@@ -76,14 +76,14 @@ skips m = list_any (λ a. is_skip (role_of m.info a)) (addresses (length m.image
 
 -- ---- the law above
 
--- a whole item, the k-th of its piece counted from 0
+-- the address is where item k of its piece begins, counted from 0, if all before it are of its table's unit
 pub record IsItemOf (m : MapView) (a k : ℕ) : Type 0 where
   pub first : ℕ
   pub is_first : IsFirst m first
   pub one_piece : AreOnePiece m first a
   pub place : a ≡ first + k * unit_of (role_of m.info a)
 
--- it is item k of its piece, and the items of a line divide k
+-- it is where item k of its piece begins, and the number of items that a line takes divides k
 pub record BeginsFullLine (m : MapView) (a limit : ℕ) : Type 0 where
   pub index : ℕ
   pub item : IsItemOf m a index
@@ -95,6 +95,6 @@ BeginsLine m a role.Code = Unit {0}
 BeginsLine m a r = (is_whole m a ≡ false) ⊎ BeginsFullLine m a (limit_of r)
 
 -- A group begins at an address exactly where an item begins there that is of code, is left over, or is item k of its piece, and the
--- items of a line divide k.
+-- number of items that a line takes divides k.
 abbrev pub GroupLaw : MapView → Type 0
 GroupLaw m = (a : ℕ) → (begins m a ≡ true) ↔ ((0 < item_len m a) × BeginsLine m a (role_of m.info a))
