@@ -1,7 +1,12 @@
-# `make` builds the program into bin/da65 and lists an example with it.
-# `make test` is the merge gate: the built program on real files, then every proof from nothing, the edits that must
-# fail, the tests and the stored run.
-.PHONY: all test clean
+# `make` proves the program, builds it into bin/da65 and lists an example with it.
+# `make test` is the merge gate: the built program on real files, its listings through ca65 where ca65 is installed,
+# then every proof from nothing, the edits that must fail, the tests and the stored run.
+# `make speed` compares the program with cc65's da65, which needs cc65 and valgrind.
+# RTFLAGS goes to the prover, as in `make RTFLAGS="--jobs 1"`.
+RTFLAGS ?=
+SHELL := bash
+.SHELLFLAGS := -eu -o pipefail -c
+.PHONY: all test speed clean
 
 all: bin/da65
 	bin/da65 examples/three.bin
@@ -9,13 +14,19 @@ all: bin/da65
 sources := crates.txt $(shell find crates -name out -prune -o \( -name '*.rt' -o -name '*.antt' \) -print)
 
 bin/da65: $(sources)
-	mkdir -p bin
-	cd crates/da65_cli && rt run -- ../../examples/three.bin >../../bin/build.log 2>&1 || { cat ../../bin/build.log; exit 1; }
-	cp crates/da65_cli/out/da65_cli bin/da65
+	@mkdir -p bin
+	@echo 'Proving and building bin/da65. From a fresh checkout this takes some six minutes on four cores,'
+	@echo 'after a small edit less. The prover says what it has checked, and bin/build.log keeps that.'
+	@cd crates/da65_cli && rt run $(RTFLAGS) -- --version 2>&1 | tee ../../bin/build.log
+	@cp crates/da65_cli/out/da65_cli bin/da65
 
 test: bin/da65
 	tests/program.sh bin/da65
+	tests/ca65.sh bin/da65 10
 	rt ci
+
+speed: bin/da65
+	tests/speed.sh bin/da65
 
 clean:
 	rm -rf bin crates/*/out

@@ -20,9 +20,21 @@ runs() {
     printf '%b' "$err" | cmp -s - stderr || fails "$name" "standard error: $(cat stderr)"
 }
 
+# ends NAME STATUS GOT STDERR: the program ended with this status and this text on standard error, in the file stderr.
+ends() {
+    [ "$3" = "$2" ] || fails "$1" "status $3 and not $2"
+    printf '%b' "$4" | cmp -s - stderr || fails "$1" "standard error: $(cat stderr)"
+}
+
 # holds NAME FILE TEXT: the file has exactly this text.
 holds() {
     printf '%b' "$3" | cmp -s - "$2" || fails "$1" "$2 has another text"
+}
+
+# is_prefix NAME FILE SIZE WHOLE: the file has exactly this many bytes, and is a prefix of another.
+is_prefix() {
+    [ "$(wc -c <"$2")" = "$3" ] || fails "$1" "$2 has $(wc -c <"$2") bytes and not $3"
+    head -c "$3" "$4" | cmp -s - "$2" || fails "$1" "$2 is no prefix of $4"
 }
 
 # is_absent NAME FILE
@@ -40,6 +52,7 @@ help+='  -i, --info name          information file\n'
 help+='  -o name                  output file\n'
 help+='  -S, --start-addr addr    start address\n'
 help+='  --cpu type               6502 or 65C02\n'
+help+='  --hexoffs                offsets in hexadecimal\n'
 help+='  -h, --help               this text\n'
 help+='  -V, --version            version\n'
 header='; da65 listing\n\n        .setcpu "6502"\n\n'
@@ -57,6 +70,7 @@ head -c 1048576 large.info >largest.info
 printf 'GLOBAL { STARTADDR $1000; };\nRANGE { START $1000; SIZE 3; TYPE WordTable; };' >words.info
 printf 'GLOBAL { STARTADDR $1000; };\nRANGE { START $1001; END $1001; TYPE Skip; };' >skip.info
 printf 'RANGE { START $1000; END $10FF; TYPE CODE; };\nRANGE { START $10FF; SIZE 2; TYPE SKIP; };' >overlap.info
+printf 'GLOBAL { STARTADDR $1000; };' >settings_start.info
 mkdir folder
 
 runs 'help' 0 "$help" '' -h
@@ -78,11 +92,11 @@ runs 'the largest information file' 0 "$three" '' -i largest.info three.bin
 runs 'a range' 0 "$header        .word   \$01A9\n        .byte   \$60\n" '' -i words.info three.bin
 runs 'skipped bytes' 0 "$header        .byte   \$A9\n        rts\n" \
     'da65: warning: skipped bytes, the listing does not assemble to the image\n' -i skip.info three.bin
-hello="$header        ldx     #\$00\n        lda     \$F00E,x\n        jsr     \$FFD2\n        inx\n        cpx     #\$0A\n"
-hello+='        bne     $F002\n        rts\n        .byte   "SAY ",$22,"HI",$22,$0D,$00\n        .word   $F000,$F00E,$1234\n'
-hello+='        .dbyt   $1234,$5678\n        .byte   $01,$02,$03,$04,$05,$06,$07,$08\n        .byte   $09,$0A\n'
-(cd "$root" && "$program" -i examples/hello.info -o "$work/hello.s") || fails 'the example with tables' 'status'
-holds 'the example with tables' hello.s "$hello"
+hello="${header}CHROUT          := \$FFD2\n\nLF000:  ldx     #\$00\nLF002:  lda     message,x\n        jsr     CHROUT\n        inx\n        cpx     #\$0A\n"
+hello+='        bne     LF002\n        rts\nmessage: .byte  "SAY ",$22,"HI",$22,$0D,$00\nvectors: .addr  LF000\n        .addr   message\n'
+hello+='        .word   $1234\n        .dbyt   $1234,$5678\n        .byte   $01,$02,$03,$04,$05,$06,$07,$08\n        .byte   $09,$0A\n'
+(cd "$root" && "$program" -i examples/hello.info -o "$work/hello.s") || fails 'the example with tables and names' 'status'
+holds 'the example with tables and names' hello.s "$hello"
 runs 'ranges that overlap' 1 '' 'da65: info:2: ranges overlap\n' -i overlap.info -o new.s three.bin
 is_absent 'ranges that overlap' new.s
 
@@ -119,9 +133,88 @@ runs 'an argument that is no text' 1 '' 'da65: bad arguments\n' "$(printf 'a\xff
 
 "$program" /dev/stdin <three.bin >stdout 2>stderr || fails 'standard input' 'status'
 holds 'standard input' stdout "$three"
+"$program" -o out.s /dev/stdin <three.bin >stdout 2>stderr
+ends 'standard input to a file' 0 $? ''
+holds 'standard input to a file' stdout ''
+holds 'standard input to a file' out.s "$three"
+
+# Bytes of an information file that come in two pieces.
+{ printf 'GLOBAL { STARTADDR $1000; };\n'; sleep 0.3; printf 'RANGE { START $1000; SIZE 3; TYPE BYTETABLE; };'; } |
+    "$program" -i /dev/stdin three.bin >stdout 2>stderr
+ends 'an information file from a pipe' 0 $? ''
+holds 'an information file from a pipe' stdout "$header        .byte   \$A9,\$01,\$60\n"
+
+# More bytes than an information file may have, without an end.
+(ulimit -v 1000000; timeout 60 "$program" -i /dev/zero three.bin >stdout 2>stderr)
+ends 'an information file without an end' 1 $? 'da65: info:1: too large\n'
+holds 'an information file without an end' stdout ''
+
+printf '\xd0\xfe' >branch.bin
+runs 'a start address beside an information file' 0 "${header}L2000:  bne     L2000\n" '' -S 0x2000 -i settings_start.info branch.bin
+
+# ---- which of the listing and the messages is written, and when, if one of them fails
+
+skipped="$header        .byte   \$A9\n        rts\n"
+warning='da65: warning: skipped bytes, the listing does not assemble to the image\n'
+
+"$program" -i skip.info three.bin >both 2>&1
+[ $? = 0 ] || fails 'both streams on one file' 'status'
+holds 'both streams on one file' both "$skipped$warning"
+
+# Standard error is closed, and the output file must not take its place.
+"$program" -i skip.info -o out.s three.bin >stdout 2>&-
+[ $? = 1 ] || fails 'a closed standard error' 'status'
+holds 'a closed standard error' out.s "$skipped"
+"$program" -i skip.info -o out.s /dev/stdin <three.bin 2>&-
+[ $? = 1 ] || fails 'a closed standard error beside standard input' 'status'
+holds 'a closed standard error beside standard input' out.s "$skipped"
+"$program" -i skip.info -o out.s three.bin <&- >&- 2>&-
+[ $? = 1 ] || fails 'no standard stream' 'status'
+holds 'no standard stream' out.s "$skipped"
+
+# 64 KiB of nop, one line each.
+head -c 65536 /dev/zero | tr '\0' '\352' >large.bin
+"$program" large.bin >large.s 2>stderr
+ends 'a large listing' 0 $? ''
+[ "$(wc -l <large.s)" = 65540 ] || fails 'a large listing' 'lines'
+
+# The file may have 256 KiB, which is in the middle of a write.
+(trap '' XFSZ; ulimit -f 256; exec "$program" -o cut.s large.bin 2>stderr)
+ends 'a file that is full in the middle of a listing' 1 $? 'da65: cannot write the listing\n'
+is_prefix 'a file that is full in the middle of a listing' cut.s 262144 large.s
+printf 'GLOBAL { STARTADDR $0000; };\nRANGE { START $FFFF; SIZE 1; TYPE SKIP; };' >skip_last.info
+(trap '' XFSZ; ulimit -f 256; exec "$program" -i skip_last.info -o cut.s large.bin 2>stderr)
+ends 'no warning after a listing that was cut' 1 $? 'da65: cannot write the listing\n'
+is_prefix 'no warning after a listing that was cut' cut.s 262144 large.s
+
+# A pipe that is full and does not wait: a second try would wait for its reader and go through.
+{ dd if=/dev/null oflag=nonblock status=none; "$program" large.bin 2>stderr; echo $? >status; } | { sleep 0.5; cat >piped.s; }
+ends 'a write that fails once' 1 "$(cat status)" 'da65: cannot write the listing\n'
+is_prefix 'a write that fails once' piped.s "$(wc -c <piped.s)" large.s
+
 if [ -e /dev/full ]; then
-    "$program" three.bin >/dev/full 2>stderr && fails 'a full output' 'status 0'
-    holds 'a full output' stderr 'da65: cannot write the listing\n'
+    "$program" three.bin >/dev/full 2>stderr
+    ends 'a full output' 1 $? 'da65: cannot write the listing\n'
+    "$program" large.bin >/dev/full 2>stderr
+    ends 'a large listing on a full output' 1 $? 'da65: cannot write the listing\n'
+    "$program" -i skip.info three.bin >/dev/full 2>stderr
+    ends 'a full output gets no warning' 1 $? 'da65: cannot write the listing\n'
+    "$program" -h >/dev/full 2>stderr
+    ends 'help on a full output' 1 $? ''
+    "$program" -V >/dev/full 2>stderr
+    ends 'the version on a full output' 1 $? ''
+
+    : >stderr
+    "$program" -i skip.info -o out.s three.bin >stdout 2>/dev/full
+    ends 'a full standard error' 1 $? ''
+    holds 'a full standard error' out.s "$skipped"
+    holds 'a full standard error' stdout ''
+    "$program" -i skip.info three.bin >stdout 2>/dev/full
+    ends 'a full standard error, the listing on standard output' 1 $? ''
+    holds 'a full standard error, the listing on standard output' stdout "$skipped"
+    "$program" empty.bin >stdout 2>/dev/full
+    ends 'a refusal on a full standard error' 1 $? ''
+    holds 'a refusal on a full standard error' stdout ''
 fi
 
 [ "$failed" = 0 ] && echo 'program: every test passed'

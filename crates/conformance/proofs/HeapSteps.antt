@@ -1,4 +1,4 @@
--- A count of growths at a call: what it is handed, and what a caller has of it. Assumes `Logic`.
+-- A count of allocations at a call: what it is handed, and what a caller has of it. Assumes `Logic`.
 use Rattle.std.proofs.Common.{◌≡◌, ℕ, Bool, List, [], ◌∷◌, refl, ap}
 use seplogic.Ra.Ura.{Ura}
 use mir.Val.{Val, vbool, vptr}

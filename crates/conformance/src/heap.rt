@@ -1,16 +1,16 @@
-//! Memory that refuses one growth, for tests.
+//! Memory that refuses one allocation, for tests.
 
 use std::alloc::{AllocError, Allocator};
 use std::cell::Cell;
 
-/// Memory that grants so many growths, refuses the one behind them, and grants those that follow.
+/// Memory that grants some allocations, refuses the next one, and grants those after it.
 pub struct Refusing<B: Allocator> {
     inner: B,
     left: Cell<u64>,
 }
 
 impl<B: Allocator> Refusing<B> {
-    /// Over other memory, with this many growths before the one that is refused.
+    /// Over other memory. The first `granted` allocations are granted.
     pub fn after(inner: B, granted: u64) -> Refusing<B> {
         Refusing {
             inner,
@@ -18,8 +18,8 @@ impl<B: Allocator> Refusing<B> {
         }
     }
 
-    /// How many growths are left before the one that is refused. Behind it the count goes on down from
-    /// the last value.
+    /// How many allocations are left before the one that is refused. After that one the count goes on
+    /// down from the largest value.
     pub fn left(&self) -> u64 {
         self.left.get()
     }
@@ -31,7 +31,7 @@ impl<B: Allocator> Drop for Refusing<B> {
     }
 }
 
-/// Counts a growth, and says whether it is the one that is refused.
+/// Counts an allocation, and returns whether it is the one that is refused.
 fn is_refused(left: &Cell<u64>) -> bool {
     let before = left.get();
     left.set(before.wrapping_sub(1));

@@ -1,8 +1,12 @@
+mod ample;
 mod assembled;
 mod devices;
 mod failing;
+mod images;
 mod memory;
+mod names;
 mod ranges;
+mod refusals;
 mod refused;
 mod rows;
 mod runs;

@@ -1,19 +1,20 @@
 -- Where groups begin, in terms of items and pieces.
 use Rattle.std.proofs.Common.{◌≡◌, ◌∙◌, ◌⊎◌, inl, inr, ℕ, suc, ◌+◌, ◌-◌, ◌*◌, ◌%◌, ◌<◌, Bool, true, false, length, refl, sym, ap, subst, arith, ⊎_elim}
 use Rattle.std.proofs.Math.Nat.{add-mul}
-use Rattle.std.proofs.lemmas.Bool.{cases_eq, eq-eqb, eqb-true, true≢false}
+use Rattle.std.proofs.lemmas.Bool.{cases_eq, cases_lt, eq-eqb, eqb-true, true≢false}
 use Rattle.info65.specs.declared.range.RangeType.{RangeType}
 use Rattle.info65.specs.declared.range.RangeType.TheVariants as role
-use Rattle.map65.specs.Items.{item_len, size_at, unit_of}
+use Rattle.map65.specs.Items.{item_len, size_at}
 use Rattle.map65.specs.MapView.{MapView}
 use Rattle.map65.specs.Pieces.{AreOnePiece}
-use Rattle.map65.specs.Roles.{is_skip, role_of}
-use Rattle.map65.specs.Steps.{left_at}
+use Rattle.map65.specs.Roles.{is_skip, role_of, unit_of}
+use Rattle.map65.specs.Spans.{left_at}
 use Rattle.map65.proofs.ItemLemmas.{one-role}
 use Rattle.da65.specs.Groups.{BeginsFullLine, BeginsLine, GroupLaw, IsGroupPlace, IsItemOf, begins, group_len, is_whole, limit_at, limit_of, stride_at}
+use Rattle.da65.proofs.DefinedLemmas.{IsTable, group-unnamed}
 use Rattle.da65.proofs.GroupLemmas.{begins-true, group-begun, holder, item-begins, item-begun, item-goes-on, place-of, stride-group, stride-skip}
 use Rattle.da65.proofs.InsideLemmas.{Further, group-piece, item-inside}
-use Rattle.da65.proofs.PieceLines.{IsTable, each-full, join, not-full, one-count}
+use Rattle.da65.proofs.PieceLines.{each-full, join, not-full, one-count}
 use Rattle.da65.proofs.ShapeLemmas.{limit-code, limit-other, limit-whole}
 
 -- a byte that is left over, or item k of its piece, where the items of a line divide k
@@ -22,22 +23,24 @@ BeginsTable m a r = (is_whole m a ≡ false) ⊎ BeginsFullLine m a (limit_of r)
 
 -- ---- what begins with a group
 
-table-line : (m : MapView) (k : ℕ) (r : RangeType) → IsTable m r → is_skip r ≡ false → IsGroupPlace m k → k < length m.image.bytes → role_of m.info (m.image.start + k) ≡ r → BeginsTable m (m.image.start + k) r
-table-line m k r table listed here low role-is = go (is_whole m (m.image.start + k)) refl
+table-line : (m : MapView) (k : ℕ) (r : RangeType) → IsTable m r → IsGroupPlace m k → k < length m.image.bytes → role_of m.info (m.image.start + k) ≡ r → BeginsTable m (m.image.start + k) r
+table-line m k r table here low role-is = go (is_whole m (m.image.start + k)) refl
   where
     go : (t : Bool) → is_whole m (m.image.start + k) ≡ t → BeginsTable m (m.image.start + k) r
     go false is = inl is
-    go true is = let line = each-full m r table listed k here low role-is is in inr (record { index = line.count; item = line.item; divides = line.full })
+    go true is = let line = each-full m r table k here low role-is is in inr (record { index = line.count; item = line.item; divides = line.full })
 
 group-line : (m : MapView) (k : ℕ) → IsGroupPlace m k → k < length m.image.bytes → is_skip (role_of m.info (m.image.start + k)) ≡ false → BeginsLine m (m.image.start + k) (role_of m.info (m.image.start + k))
 group-line m k here low shown = go (role_of m.info (m.image.start + k)) refl
   where
     go : (r : RangeType) → role_of m.info (m.image.start + k) ≡ r → BeginsLine m (m.image.start + k) r
     go role.Code e = tt
-    go role.ByteTable e = table-line m k role.ByteTable (λ b. refl) refl here low e
-    go role.WordTable e = table-line m k role.WordTable (λ b. refl) refl here low e
-    go role.DbyteTable e = table-line m k role.DbyteTable (λ b. refl) refl here low e
-    go role.TextTable e = table-line m k role.TextTable (λ b. refl) refl here low e
+    go role.ByteTable e = table-line m k role.ByteTable (record { sizes = λ b. refl; listed = refl; other = refl }) here low e
+    go role.WordTable e = table-line m k role.WordTable (record { sizes = λ b. refl; listed = refl; other = refl }) here low e
+    go role.DbyteTable e = table-line m k role.DbyteTable (record { sizes = λ b. refl; listed = refl; other = refl }) here low e
+    go role.AddrTable e = table-line m k role.AddrTable (record { sizes = λ b. refl; listed = refl; other = refl }) here low e
+    go role.RtsTable e = table-line m k role.RtsTable (record { sizes = λ b. refl; listed = refl; other = refl }) here low e
+    go role.TextTable e = table-line m k role.TextTable (record { sizes = λ b. refl; listed = refl; other = refl }) here low e
     go role.Skip e = absurd (true≢false (sym (ap is_skip e) ∙ shown))
 
 begins-then : (m : MapView) (a : ℕ) → begins m a ≡ true → (0 < item_len m a) × BeginsLine m a (role_of m.info a)
@@ -84,24 +87,29 @@ module _ (m : MapView) (p k : ℕ) (h : Behind m p k) (r : RangeType) (role-is :
   no-code : limit_at m a ≡ 1 → ⊥
   no-code one = omega (arith, further.bound, one)
 
-  no-table : IsTable m r → is_skip r ≡ false → BeginsTable m (m.image.start + k) r → ⊥
-  no-table table listed (inl cut) = true≢false (sym (eq-eqb (item_len m (m.image.start + k)) (unit_of (role_of m.info (m.image.start + k))) (item-goes-on m (m.image.start + k) further.goes).whole) ∙ cut)
-  no-table table listed (inr own) = go (is_whole m a) refl
+  no-table : IsTable m r → BeginsTable m (m.image.start + k) r → ⊥
+  no-table table (inl cut) = true≢false (sym (eq-eqb (item_len m (m.image.start + k)) (unit_of (role_of m.info (m.image.start + k))) (item-goes-on m (m.image.start + k) further.goes).whole) ∙ cut)
+  no-table table (inr own) = go (is_whole m a) refl
     where
       go : (t : Bool) → is_whole m a ≡ t → ⊥
       go false is = no-code (limit-other m a is)
       go true is =
           let unit : item_len m a ≡ unit_of r = eqb-true (item_len m a) (unit_of (role_of m.info a)) is ∙ ap unit_of role-a in
           let limit : limit_at m a ≡ limit_of r = limit-whole m a is ∙ ap limit_of role-a in
-          let line = each-full m r table listed p h.here inside role-a is in
+          let line = each-full m r table p h.here inside role-a is in
           let i : ℕ = suc further.count in
           let before : a ≡ line.item.first + line.count * unit_of r = line.item.place ∙ ap (λ (r : RangeType). line.item.first + line.count * unit_of r) role-a in
           let step : i * unit_of r ≡ further.count * unit_of r + unit_of r = omega arith in
           let all : line.item.first + (line.count + i) * unit_of r ≡ m.image.start + k = omega (arith, add-mul line.count i (unit_of r), step, before, further.place, unit) in
           let item : IsItemOf m (m.image.start + k) (line.count + i) = record {
             first = line.item.first;
-            is_first = line.item.is_first;
+            is_start = line.item.is_start;
             one_piece = join m line.item.first a (m.image.start + k) line.item.one_piece (behind-piece m p k h);
+            unnamed = λ x after before'.
+                ⊎_elim
+                (λ behind. group-unnamed m r p x h.here inside h.shown role-a table behind (omega (arith, before', h.high)))
+                (λ here. line.item.unnamed x after here)
+                (cases_lt a x);
             place = sym all ∙ sym (ap (λ (r' : RangeType). line.item.first + (line.count + i) * unit_of r') role-is);
           } in
           let divides : (line.count + i) % limit_of r ≡ 0 = ap (λ (n : ℕ). n % limit_of r) (one-count m (m.image.start + k) (line.count + i) own.index item own.item) ∙ own.divides in
@@ -112,10 +120,12 @@ no-line m p k h line = go (role_of m.info (m.image.start + k)) refl line
   where
     go : (r : RangeType) → role_of m.info (m.image.start + k) ≡ r → BeginsLine m (m.image.start + k) r → ⊥
     go role.Code e line = no-code m p k h role.Code e (limit-code m (m.image.start + p) (behind-same m p k h ∙ e))
-    go role.ByteTable e line = no-table m p k h role.ByteTable e (λ b. refl) refl line
-    go role.WordTable e line = no-table m p k h role.WordTable e (λ b. refl) refl line
-    go role.DbyteTable e line = no-table m p k h role.DbyteTable e (λ b. refl) refl line
-    go role.TextTable e line = no-table m p k h role.TextTable e (λ b. refl) refl line
+    go role.ByteTable e line = no-table m p k h role.ByteTable e (record { sizes = λ b. refl; listed = refl; other = refl }) line
+    go role.WordTable e line = no-table m p k h role.WordTable e (record { sizes = λ b. refl; listed = refl; other = refl }) line
+    go role.DbyteTable e line = no-table m p k h role.DbyteTable e (record { sizes = λ b. refl; listed = refl; other = refl }) line
+    go role.AddrTable e line = no-table m p k h role.AddrTable e (record { sizes = λ b. refl; listed = refl; other = refl }) line
+    go role.RtsTable e line = no-table m p k h role.RtsTable e (record { sizes = λ b. refl; listed = refl; other = refl }) line
+    go role.TextTable e line = no-table m p k h role.TextTable e (record { sizes = λ b. refl; listed = refl; other = refl }) line
     go role.Skip e line = true≢false (sym (ap is_skip (behind-same m p k h ∙ e)) ∙ h.shown)
 
 begins-at : (m : MapView) (k : ℕ) → k < length m.image.bytes → is_skip (role_of m.info (m.image.start + k)) ≡ false → left_at (size_at m) m.image.start k ≡ 0

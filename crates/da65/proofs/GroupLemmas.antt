@@ -4,13 +4,13 @@ use Rattle.std.proofs.lemmas.Bool.{and_parts, and_from, cond-true, cond-false, c
 use Rattle.info65.specs.declared.range.RangeType.{RangeType}
 use Rattle.info65.specs.declared.range.RangeType.TheVariants as role
 use Rattle.map65.specs.ImageView.{end_of, is_inside}
-use Rattle.map65.specs.Items.{item_len, size_at, unit_of}
+use Rattle.map65.specs.Items.{item_len, size_at}
 use Rattle.map65.specs.MapView.{MapView}
 use Rattle.map65.specs.Pieces.{is_joined}
-use Rattle.map65.specs.Roles.{is_skip, role_of}
-use Rattle.map65.specs.Steps.{addresses, left_at}
+use Rattle.map65.specs.Roles.{is_skip, role_of, unit_of}
+use Rattle.map65.specs.Spans.{addresses, left_at}
 use Rattle.map65.proofs.ItemLemmas.{item-len-at, left-behind, left-begun, left-first, left-going, left-inside, size-fits, size-positive, skip-size}
-use Rattle.da65.specs.Groups.{IsGroupPlace, begins, goes_on, group_addresses, group_len, groups_from, is_whole, limit_at, more_at, stride_at}
+use Rattle.da65.specs.Groups.{IsGroupPlace, begins, goes_on, group_addresses, group_len, groups_from, is_defined, is_whole, limit_at, more_at, stride_at}
 
 -- ---- items
 
@@ -54,6 +54,8 @@ unit-positive role.Code = omega arith
 unit-positive role.ByteTable = omega arith
 unit-positive role.WordTable = omega arith
 unit-positive role.DbyteTable = omega arith
+unit-positive role.AddrTable = omega arith
+unit-positive role.RtsTable = omega arith
 unit-positive role.TextTable = omega arith
 unit-positive role.Skip = omega arith
 
@@ -64,13 +66,15 @@ pub record GoesOn (m : MapView) (a : ℕ) : Type 0 where
   pub joined : is_joined m a ≡ true
   pub whole : item_len m a ≡ unit_of (role_of m.info a)
   pub some : 0 < item_len m a
+  pub unnamed : is_defined m a ≡ false
 
 pub item-goes-on : (m : MapView) (a : ℕ) → goes_on m a ≡ true → GoesOn m a
 unfolding goes_on
 item-goes-on m a is =
-    let both = and_parts (is_joined m a) (is_whole m a) is in
-    let whole : item_len m a ≡ unit_of (role_of m.info a) = eqb-true (item_len m a) (unit_of (role_of m.info a)) both.1 in
-    record { joined = both.0; whole = whole; some = omega (arith, whole, unit-positive (role_of m.info a)) }
+    let both = and_parts (is_joined m a) (is_whole m a && not (is_defined m a)) is in
+    let more = and_parts (is_whole m a) (not (is_defined m a)) both.1 in
+    let whole : item_len m a ≡ unit_of (role_of m.info a) = eqb-true (item_len m a) (unit_of (role_of m.info a)) more.0 in
+    record { joined = both.0; whole = whole; some = omega (arith, whole, unit-positive (role_of m.info a)); unnamed = not-true (is_defined m a) more.1 }
 
 pub more-none : (m : MapView) (a : ℕ) → more_at m 0 a ≡ 0
 unfolding more_at
@@ -197,7 +201,7 @@ begins-true m k low shown none =
 begins-skip : (m : MapView) (k : ℕ) → k < length m.image.bytes → is_skip (role_of m.info (m.image.start + k)) ≡ true → begins m (m.image.start + k) ≡ false
 begins-skip m k low skip = begins-index m k ∙ rw (inside-index m k low, skip) refl
 
-begins-inside : (m : MapView) (k : ℕ) → k < length m.image.bytes → left_at (stride_at m) m.image.start k ≢ 0 → begins m (m.image.start + k) ≡ false
+pub begins-inside : (m : MapView) (k : ℕ) → k < length m.image.bytes → left_at (stride_at m) m.image.start k ≢ 0 → begins m (m.image.start + k) ≡ false
 begins-inside m k low some = begins-index m k ∙ rw (ne_eqb (left_at (stride_at m) m.image.start k) 0 some) (and-false (is_inside m.image (m.image.start + k)) (not (is_skip (role_of m.info (m.image.start + k)))))
   where
     and-false : (s t : Bool) → (s && (t && false)) ≡ false

@@ -5,16 +5,16 @@ use Rattle.std.proofs.lemmas.List.{append-nil}
 use Rattle.isa65.specs.declared.cpu.Cpu.{Cpu}
 use Rattle.stmt65.specs.declared.fault.AsmFault.{AsmFault}
 use Rattle.stmt65.specs.declared.fault.AsmFaultKind.{AsmFaultKind}
-use Rattle.stmt65.specs.Said.{Said}
+use Rattle.stmt65.specs.SourceLine.{SourceLine}
 use Rattle.stmt65.specs.Symbols.{Definition}
 use Rattle.stmt65.specs.Meaning.{State, final, after, coded, unless, with_front, fault_of, bytes_of}
 
-final-append : (s : State) (xs ys : List (Option Said)) → final s (xs ++ ys) ≡ final (final s xs) ys
+final-append : (s : State) (xs ys : List (Option SourceLine)) → final s (xs ++ ys) ≡ final (final s xs) ys
 unfolding final
 final-append s [] ys = refl
 final-append s (x ∷ xs) ys = final-append (after s x) xs ys
 
-final-one : (s : State) (x : Option Said) → final s (x ∷ []) ≡ after s x
+final-one : (s : State) (x : Option SourceLine) → final s (x ∷ []) ≡ after s x
 unfolding final
 final-one s x = refl
 
@@ -26,7 +26,7 @@ coded-none : (all : List Definition) (n : ℕ) (s : State) → coded all n s [] 
 unfolding coded
 coded-none all n s = refl
 
-coded-append : (all : List Definition) (n : ℕ) (s : State) (xs ys : List (Option Said)) (bs cs : List ℕ)
+coded-append : (all : List Definition) (n : ℕ) (s : State) (xs ys : List (Option SourceLine)) (bs cs : List ℕ)
     → coded all n s xs ≡ Ok bs → ((k : ℕ) → coded all k (final s xs) ys ≡ Ok cs) → coded all n s (xs ++ ys) ≡ Ok (bs ++ cs)
 unfolding coded final
 coded-append all n s [] ys bs cs h g = let e : [] ≡ bs = cc in rw (← e) (g n)
@@ -44,13 +44,13 @@ coded-append all n s (x ∷ xs) ys bs cs h g =
     go None e (Err b) f h ih = let h' = rw (e, f) at h in absurd cc
     go (Some k) e r f h ih = let h' = rw e at h in absurd cc
 
-coded-one : (all : List Definition) (n : ℕ) (s : State) (x : Option Said) (bs : List ℕ) → fault_of all s x ≡ None → bytes_of all s x ≡ bs → coded all n s (x ∷ []) ≡ Ok bs
+coded-one : (all : List Definition) (n : ℕ) (s : State) (x : Option SourceLine) (bs : List ℕ) → fault_of all s x ≡ None → bytes_of all s x ≡ bs → coded all n s (x ∷ []) ≡ Ok bs
 unfolding coded
 coded-one all n s x bs e f = rw (e, f) (ap (λ (l : List ℕ). Ok l) (append-nil bs))
 
 -- From the state s the lines lead to the address `at` and the CPU, where Above holds of the definitions; and, for each table of all
 -- definitions of the text of which Full holds, they give the bytes without a fault.
-pub record Block (Full : List Definition → Type 0) (s : State) (lines : List (Option Said)) (bytes : List ℕ) (at : ℕ) (cpu : Cpu) (Above : List Definition → Type 0) : Type 0 where
+pub record Block (Full : List Definition → Type 0) (s : State) (lines : List (Option SourceLine)) (bytes : List ℕ) (at : ℕ) (cpu : Cpu) (Above : List Definition → Type 0) : Type 0 where
   pub reaches : (final s lines).at ≡ at
   pub cpu_is : (final s lines).cpu ≡ cpu
   pub above : Above (final s lines).above
@@ -64,7 +64,7 @@ block_none Full Above s at cpu e f h = record {
   codes = λ all full n. coded-none all n s;
 }
 
-pub block_append : (Full P Q : List Definition → Type 0) (s : State) (xs ys : List (Option Said)) (bs cs : List ℕ) (a b : ℕ) (c d : Cpu)
+pub block_append : (Full P Q : List Definition → Type 0) (s : State) (xs ys : List (Option SourceLine)) (bs cs : List ℕ) (a b : ℕ) (c d : Cpu)
     → Block Full s xs bs a c P → Block Full (final s xs) ys cs b d Q → Block Full s (xs ++ ys) (bs ++ cs) b d Q
 block_append Full P Q s xs ys bs cs a b c d h g = record {
   reaches = ap (λ (t : State). t.at) (final-append s xs ys) ∙ g.reaches;
@@ -73,12 +73,12 @@ block_append Full P Q s xs ys bs cs a b c d h g = record {
   codes = λ all full n. coded-append all n s xs ys bs cs (h.codes all full n) (λ k. g.codes all full k);
 }
 
-pub block_one : (Full Above : List Definition → Type 0) (s t : State) (said : Said) (bytes : List ℕ) → after s (Some said) ≡ t → Above t.above
-    → ((all : List Definition) → Full all → fault_of all s (Some said) ≡ None)
-    → ((all : List Definition) → Full all → bytes_of all s (Some said) ≡ bytes) → Block Full s (Some said ∷ []) bytes t.at t.cpu Above
-block_one Full Above s t said bytes e h f g = record {
-  reaches = ap (λ (u : State). u.at) (final-one s (Some said) ∙ e);
-  cpu_is = ap (λ (u : State). u.cpu) (final-one s (Some said) ∙ e);
-  above = rw (final-one s (Some said), e) h;
-  codes = λ all full n. coded-one all n s (Some said) bytes (f all full) (g all full);
+pub block_one : (Full Above : List Definition → Type 0) (s t : State) (source : SourceLine) (bytes : List ℕ) → after s (Some source) ≡ t → Above t.above
+    → ((all : List Definition) → Full all → fault_of all s (Some source) ≡ None)
+    → ((all : List Definition) → Full all → bytes_of all s (Some source) ≡ bytes) → Block Full s (Some source ∷ []) bytes t.at t.cpu Above
+block_one Full Above s t source bytes e h f g = record {
+  reaches = ap (λ (u : State). u.at) (final-one s (Some source) ∙ e);
+  cpu_is = ap (λ (u : State). u.cpu) (final-one s (Some source) ∙ e);
+  above = rw (final-one s (Some source), e) h;
+  codes = λ all full n. coded-one all n s (Some source) bytes (f all full) (g all full);
 }

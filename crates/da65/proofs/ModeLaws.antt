@@ -10,7 +10,8 @@ use Rattle.isa65.specs.declared.cpu.Cpu.{Cpu}
 use Rattle.isa65.specs.declared.mnemonic.Mnemonic.{Mnemonic}
 use Rattle.isa65.specs.declared.mode.Mode.{Mode}
 use Rattle.isa65.specs.declared.mode.Mode.TheVariants.{Imp, Acc, Imm, Zp, Zpx, Zpy, Abs, Absx, Absy, Ind, Indx, Indy, Zpind, Absindx, Rel, Zprel}
-use Rattle.stmt65.specs.Said.{Value, Instr, Empty, Accumulator, Hash, Straight, WithX, WithY, Both, Indirect, IndirectX, IndirectY}
+use Rattle.stmt65.specs.SourceLine.{Value, Instr, Empty, Accumulator, Immediate, Direct, DirectX, DirectY, Two, Indirect, IndirectX, IndirectY}
+use Rattle.stmt65.specs.declared.source_line.AddressSize.TheVariants.{Absolute, Automatic}
 use Rattle.stmt65.specs.Symbols.{Definition, has_zero_page_size}
 use Rattle.stmt65.specs.Coding.{Fixed, Single, ZeroPage, LowFirst, Distance, coding, ways}
 
@@ -60,82 +61,82 @@ module _ (cpu : Cpu) (above : List Definition) (m : Mnemonic) (b : ℕ) where
   unfolding coding ways
   codes_acc h = rw h refl
 
-  pub codes_imm : (v : Value) → encoded (table_of cpu) m Imm ≡ Some b → coding cpu above (Instr m (Hash v)) ≡ Some (Fixed b ∷ Single v ∷ [])
+  pub codes_imm : (v : Value) → encoded (table_of cpu) m Imm ≡ Some b → coding cpu above (Instr m (Immediate v)) ≡ Some (Fixed b ∷ Single v ∷ [])
   unfolding coding ways
   codes_imm v h = rw h refl
 
-  pub codes_zp : (v : Value) → encoded (table_of cpu) m Zp ≡ Some b → has_zero_page_size above v ≡ true → coding cpu above (Instr m (Straight false v)) ≡ Some (Fixed b ∷ ZeroPage true v ∷ [])
+  pub codes_zp : (v : Value) → encoded (table_of cpu) m Zp ≡ Some b → has_zero_page_size above v ≡ true → coding cpu above (Instr m (Direct Automatic v)) ≡ Some (Fixed b ∷ ZeroPage v ∷ [])
   unfolding coding ways
   codes_zp v h size = rw (size, h) refl
 
-  pub codes_zpx : (v : Value) → encoded (table_of cpu) m Zpx ≡ Some b → has_zero_page_size above v ≡ true → coding cpu above (Instr m (WithX false v)) ≡ Some (Fixed b ∷ ZeroPage true v ∷ [])
+  pub codes_zpx : (v : Value) → encoded (table_of cpu) m Zpx ≡ Some b → has_zero_page_size above v ≡ true → coding cpu above (Instr m (DirectX Automatic v)) ≡ Some (Fixed b ∷ ZeroPage v ∷ [])
   unfolding coding ways
   codes_zpx v h size = rw (size, h) refl
 
-  pub codes_zpy : (v : Value) → encoded (table_of cpu) m Zpy ≡ Some b → has_zero_page_size above v ≡ true → coding cpu above (Instr m (WithY false v)) ≡ Some (Fixed b ∷ ZeroPage true v ∷ [])
+  pub codes_zpy : (v : Value) → encoded (table_of cpu) m Zpy ≡ Some b → has_zero_page_size above v ≡ true → coding cpu above (Instr m (DirectY Automatic v)) ≡ Some (Fixed b ∷ ZeroPage v ∷ [])
   unfolding coding ways
   codes_zpy v h size = rw (size, h) refl
 
-  pub codes_forced : (v : Value) → encoded (table_of cpu) m Abs ≡ Some b → coding cpu above (Instr m (Straight true v)) ≡ Some (Fixed b ∷ LowFirst v ∷ [])
+  pub codes_forced : (v : Value) → encoded (table_of cpu) m Abs ≡ Some b → coding cpu above (Instr m (Direct Absolute v)) ≡ Some (Fixed b ∷ LowFirst v ∷ [])
   unfolding coding ways
   codes_forced v h = rw h refl
 
-  pub codes_forced_x : (v : Value) → encoded (table_of cpu) m Absx ≡ Some b → coding cpu above (Instr m (WithX true v)) ≡ Some (Fixed b ∷ LowFirst v ∷ [])
+  pub codes_forced_x : (v : Value) → encoded (table_of cpu) m Absx ≡ Some b → coding cpu above (Instr m (DirectX Absolute v)) ≡ Some (Fixed b ∷ LowFirst v ∷ [])
   unfolding coding ways
   codes_forced_x v h = rw h refl
 
-  pub codes_forced_y : (v : Value) → encoded (table_of cpu) m Absy ≡ Some b → coding cpu above (Instr m (WithY true v)) ≡ Some (Fixed b ∷ LowFirst v ∷ [])
+  pub codes_forced_y : (v : Value) → encoded (table_of cpu) m Absy ≡ Some b → coding cpu above (Instr m (DirectY Absolute v)) ≡ Some (Fixed b ∷ LowFirst v ∷ [])
   unfolding coding ways
   codes_forced_y v h = rw h refl
 
   -- without `a:`, of a large operand
-  pub codes_large : (v : Value) → encoded (table_of cpu) m Abs ≡ Some b → has_zero_page_size above v ≡ false → coding cpu above (Instr m (Straight false v)) ≡ Some (Fixed b ∷ LowFirst v ∷ [])
+  pub codes_large : (v : Value) → encoded (table_of cpu) m Abs ≡ Some b → has_zero_page_size above v ≡ false → coding cpu above (Instr m (Direct Automatic v)) ≡ Some (Fixed b ∷ LowFirst v ∷ [])
   unfolding coding ways
   codes_large v h size = rw (size, h) refl
 
-  pub codes_large_x : (v : Value) → encoded (table_of cpu) m Absx ≡ Some b → has_zero_page_size above v ≡ false → coding cpu above (Instr m (WithX false v)) ≡ Some (Fixed b ∷ LowFirst v ∷ [])
+  pub codes_large_x : (v : Value) → encoded (table_of cpu) m Absx ≡ Some b → has_zero_page_size above v ≡ false → coding cpu above (Instr m (DirectX Automatic v)) ≡ Some (Fixed b ∷ LowFirst v ∷ [])
   unfolding coding ways
   codes_large_x v h size = rw (size, h) refl
 
-  pub codes_large_y : (v : Value) → encoded (table_of cpu) m Absy ≡ Some b → has_zero_page_size above v ≡ false → coding cpu above (Instr m (WithY false v)) ≡ Some (Fixed b ∷ LowFirst v ∷ [])
+  pub codes_large_y : (v : Value) → encoded (table_of cpu) m Absy ≡ Some b → has_zero_page_size above v ≡ false → coding cpu above (Instr m (DirectY Automatic v)) ≡ Some (Fixed b ∷ LowFirst v ∷ [])
   unfolding coding ways
   codes_large_y v h size = rw (size, h) refl
 
   -- without `a:`, of a mnemonic that has no zero-page mode
   pub codes_alone : (v : Value) → encoded (table_of cpu) m Abs ≡ Some b → encoded (table_of cpu) m Zp ≡ None → (size : Bool) → has_zero_page_size above v ≡ size
-      → coding cpu above (Instr m (Straight false v)) ≡ Some (Fixed b ∷ LowFirst v ∷ [])
+      → coding cpu above (Instr m (Direct Automatic v)) ≡ Some (Fixed b ∷ LowFirst v ∷ [])
   unfolding coding ways
   codes_alone v h none true size = rw (size, none, h) refl
   codes_alone v h none false size = rw (size, h) refl
 
   pub codes_alone_x : (v : Value) → encoded (table_of cpu) m Absx ≡ Some b → encoded (table_of cpu) m Zpx ≡ None → (size : Bool) → has_zero_page_size above v ≡ size
-      → coding cpu above (Instr m (WithX false v)) ≡ Some (Fixed b ∷ LowFirst v ∷ [])
+      → coding cpu above (Instr m (DirectX Automatic v)) ≡ Some (Fixed b ∷ LowFirst v ∷ [])
   unfolding coding ways
   codes_alone_x v h none true size = rw (size, none, h) refl
   codes_alone_x v h none false size = rw (size, h) refl
 
   pub codes_alone_y : (v : Value) → encoded (table_of cpu) m Absy ≡ Some b → encoded (table_of cpu) m Zpy ≡ None → (size : Bool) → has_zero_page_size above v ≡ size
-      → coding cpu above (Instr m (WithY false v)) ≡ Some (Fixed b ∷ LowFirst v ∷ [])
+      → coding cpu above (Instr m (DirectY Automatic v)) ≡ Some (Fixed b ∷ LowFirst v ∷ [])
   unfolding coding ways
   codes_alone_y v h none true size = rw (size, none, h) refl
   codes_alone_y v h none false size = rw (size, h) refl
 
   relative_alone : (v : Value) → encoded (table_of cpu) m Rel ≡ Some b → encoded (table_of cpu) m Zp ≡ None → encoded (table_of cpu) m Abs ≡ None → (size : Bool) → has_zero_page_size above v ≡ size
-      → coding cpu above (Instr m (Straight false v)) ≡ Some (Fixed b ∷ Distance v ∷ [])
+      → coding cpu above (Instr m (Direct Automatic v)) ≡ Some (Fixed b ∷ Distance v ∷ [])
   unfolding coding ways
   relative_alone v h no_zp no_abs true size = rw (size, no_zp, no_abs, h) refl
   relative_alone v h no_zp no_abs false size = rw (size, no_abs, no_zp, h) refl
 
-  pub codes_rel : (v : Value) → encoded (table_of cpu) m Rel ≡ Some b → coding cpu above (Instr m (Straight false v)) ≡ Some (Fixed b ∷ Distance v ∷ [])
+  pub codes_rel : (v : Value) → encoded (table_of cpu) m Rel ≡ Some b → coding cpu above (Instr m (Direct Automatic v)) ≡ Some (Fixed b ∷ Distance v ∷ [])
   codes_rel v h =
       let sound = table_of-sound cpu in
       relative_alone v h (absent (table_of cpu) sound m Zp Rel b h refl rel_not_zp) (absent (table_of cpu) sound m Abs Rel b h refl rel_not_abs) (has_zero_page_size above v) refl
 
-  pub codes_zprel : (v w : Value) → encoded (table_of cpu) m Zprel ≡ Some b → has_zero_page_size above v ≡ true → coding cpu above (Instr m (Both v w)) ≡ Some (Fixed b ∷ ZeroPage true v ∷ Distance w ∷ [])
+  pub codes_zprel : (v w : Value) → encoded (table_of cpu) m Zprel ≡ Some b → has_zero_page_size above v ≡ true → coding cpu above (Instr m (Two v w)) ≡ Some (Fixed b ∷ ZeroPage v ∷ Distance w ∷ [])
   unfolding coding ways
   codes_zprel v w h size = rw (size, h) refl
 
-  pub codes_zpind : (v : Value) → encoded (table_of cpu) m Zpind ≡ Some b → has_zero_page_size above v ≡ true → coding cpu above (Instr m (Indirect v)) ≡ Some (Fixed b ∷ ZeroPage true v ∷ [])
+  pub codes_zpind : (v : Value) → encoded (table_of cpu) m Zpind ≡ Some b → has_zero_page_size above v ≡ true → coding cpu above (Instr m (Indirect v)) ≡ Some (Fixed b ∷ ZeroPage v ∷ [])
   unfolding coding ways
   codes_zpind v h size = rw (size, h) refl
 
@@ -146,7 +147,7 @@ module _ (cpu : Cpu) (above : List Definition) (m : Mnemonic) (b : ℕ) where
   pub codes_ind : (v : Value) → encoded (table_of cpu) m Ind ≡ Some b → coding cpu above (Instr m (Indirect v)) ≡ Some (Fixed b ∷ LowFirst v ∷ [])
   codes_ind v h = indirect_alone v h (absent (table_of cpu) (table_of-sound cpu) m Zpind Ind b h refl ind_not_zpind)
 
-  pub codes_indx : (v : Value) → encoded (table_of cpu) m Indx ≡ Some b → has_zero_page_size above v ≡ true → coding cpu above (Instr m (IndirectX v)) ≡ Some (Fixed b ∷ ZeroPage true v ∷ [])
+  pub codes_indx : (v : Value) → encoded (table_of cpu) m Indx ≡ Some b → has_zero_page_size above v ≡ true → coding cpu above (Instr m (IndirectX v)) ≡ Some (Fixed b ∷ ZeroPage v ∷ [])
   unfolding coding ways
   codes_indx v h size = rw (size, h) refl
 
@@ -157,6 +158,6 @@ module _ (cpu : Cpu) (above : List Definition) (m : Mnemonic) (b : ℕ) where
   pub codes_absindx : (v : Value) → encoded (table_of cpu) m Absindx ≡ Some b → coding cpu above (Instr m (IndirectX v)) ≡ Some (Fixed b ∷ LowFirst v ∷ [])
   codes_absindx v h = indexed_alone v h (absent (table_of cpu) (table_of-sound cpu) m Indx Absindx b h refl absindx_not_indx)
 
-  pub codes_indy : (v : Value) → encoded (table_of cpu) m Indy ≡ Some b → has_zero_page_size above v ≡ true → coding cpu above (Instr m (IndirectY v)) ≡ Some (Fixed b ∷ ZeroPage true v ∷ [])
+  pub codes_indy : (v : Value) → encoded (table_of cpu) m Indy ≡ Some b → has_zero_page_size above v ≡ true → coding cpu above (Instr m (IndirectY v)) ≡ Some (Fixed b ∷ ZeroPage v ∷ [])
   unfolding coding ways
   codes_indy v h size = rw (size, h) refl

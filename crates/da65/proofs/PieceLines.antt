@@ -1,31 +1,30 @@
 -- The lines of a table: a group begins with each so-manieth item of its piece.
-use Rattle.std.proofs.Common.{◌≡◌, ◌∙◌, ◌⊎◌, inl, inr, ℕ, suc, ◌+◌, ◌-◌, ◌*◌, ◌%◌, ◌<◌, ◌≤◌, Bool, true, false, length, refl, sym, ap, arith, ⊎_elim}
+use Rattle.std.proofs.Common.{◌≡◌, ◌∙◌, ◌⊎◌, inl, inr, ℕ, suc, ◌+◌, ◌-◌, ◌*◌, ◌%◌, ◌<◌, ◌≤◌, not, Bool, true, false, length, refl, sym, ap, arith, ⊎_elim}
 use Rattle.std.proofs.Math.Nat.{add-mod_right, add-mul, mod-add-mod, mod-eq_of_lt}
 use Rattle.std.proofs.lemmas.Bool.{and_from, cases_eq, cases_lt, cond-true, eq-eqb, eqb-true, true≢false}
 use Rattle.info65.specs.declared.range.RangeType.{RangeType}
 use Rattle.info65.specs.declared.range.RangeType.TheVariants as role
-use Rattle.map65.specs.Items.{item_len, size_at, size_for, unit_of, wanted_at}
+use Rattle.map65.specs.Items.{item_len, size_at, wanted_at}
 use Rattle.map65.specs.MapView.{MapView}
-use Rattle.map65.specs.Pieces.{AreOnePiece, IsFirst, are_joined, is_joined}
-use Rattle.map65.specs.Roles.{is_skip, role_of}
+use Rattle.map65.specs.Pieces.{AreOnePiece, are_joined, is_joined}
+use Rattle.map65.specs.Roles.{is_skip, role_of, unit_of}
 use Rattle.map65.proofs.ItemLemmas.{item-len-at, joined-role, one-role}
-use Rattle.da65.specs.Groups.{IsGroupPlace, IsItemOf, goes_on, group_len, is_whole, limit_at, limit_of, more_at, stride_at}
+use Rattle.da65.specs.Groups.{IsGroupPlace, IsItemOf, IsStart, goes_on, group_len, is_defined, is_whole, limit_at, limit_of, more_at, stride_at}
 use Rattle.da65.proofs.GroupLemmas.{group-some, stride-group, stride-skip}
 use Rattle.da65.proofs.InsideLemmas.{full-more, group-piece}
+use Rattle.da65.proofs.DefinedLemmas.{IsTable, group-unnamed}
 use Rattle.da65.proofs.PlaceLemmas.{Leads, each-place}
 use Rattle.da65.proofs.ShapeLemmas.{behind-role, group-one, limit-other, limit-whole, one-more, size-is, wanted-of}
 
 -- ---- roles of tables
-
--- each item of the role has the same size, but a byte that is left over
-abbrev pub IsTable : MapView → RangeType → Type 0
-IsTable m r = (b : ℕ) → size_for m r b ≡ unit_of r
 
 unit-small : (r : RangeType) → (unit_of r ≡ 1) ⊎ (unit_of r ≡ 2)
 unit-small role.Code = inl refl
 unit-small role.ByteTable = inl refl
 unit-small role.WordTable = inr refl
 unit-small role.DbyteTable = inr refl
+unit-small role.AddrTable = inr refl
+unit-small role.RtsTable = inr refl
 unit-small role.TextTable = inl refl
 unit-small role.Skip = inl refl
 
@@ -34,6 +33,8 @@ limit-positive role.Code = omega arith
 limit-positive role.ByteTable = omega arith
 limit-positive role.WordTable = omega arith
 limit-positive role.DbyteTable = omega arith
+limit-positive role.AddrTable = omega arith
+limit-positive role.RtsTable = omega arith
 limit-positive role.TextTable = omega arith
 limit-positive role.Skip = omega arith
 
@@ -42,6 +43,8 @@ none-over role.Code = refl
 none-over role.ByteTable = refl
 none-over role.WordTable = refl
 none-over role.DbyteTable = refl
+none-over role.AddrTable = refl
+none-over role.RtsTable = refl
 none-over role.TextTable = refl
 none-over role.Skip = refl
 
@@ -64,9 +67,9 @@ unit-joined m a r wanted joined = by-unit (unit-small r) (size-is m a)
         let count : wanted_at m a - 1 ≡ 1 = omega (arith, wanted, u) in
         size-whole m a (ap (λ (n : ℕ). are_joined m n a) count ∙ joined-one m a joined) ∙ wanted
 
-goes-on-if : (m : MapView) (a : ℕ) → is_joined m a ≡ true → is_whole m a ≡ true → goes_on m a ≡ true
+goes-on-if : (m : MapView) (a : ℕ) → is_joined m a ≡ true → is_whole m a ≡ true → is_defined m a ≡ false → goes_on m a ≡ true
 unfolding goes_on
-goes-on-if m a joined whole = and_from _ _ joined whole
+goes-on-if m a joined whole unnamed = and_from _ _ joined (and_from _ _ whole (ap not unnamed))
 
 group-is : (m : MapView) (a : ℕ) → group_len m a ≡ item_len m a + more_at m (limit_at m a - 1) (a + item_len m a)
 unfolding group_len
@@ -84,10 +87,16 @@ pub record BeginsFull (m : MapView) (r : RangeType) (k : ℕ) : Type 0 where
 abbrev pub FullAt : MapView → RangeType → ℕ → Type 0
 FullAt m r k = k < length m.image.bytes → role_of m.info (m.image.start + k) ≡ r → is_whole m (m.image.start + k) ≡ true → BeginsFull m r k
 
-first-full : (m : MapView) (r : RangeType) (k : ℕ) → IsFirst m (m.image.start + k) → BeginsFull m r k
-first-full m r k first = record {
+first-full : (m : MapView) (r : RangeType) (k : ℕ) → IsStart m (m.image.start + k) → BeginsFull m r k
+first-full m r k start = record {
   count = 0;
-  item = record { first = m.image.start + k; is_first = first; one_piece = λ x low high. absurd (omega (arith, low, high)); place = omega arith };
+  item = record {
+    first = m.image.start + k;
+    is_start = start;
+    one_piece = λ x low high. absurd (omega (arith, low, high));
+    unnamed = λ x low high. absurd (omega (arith, low, high));
+    place = omega arith;
+  };
   full = none-over r;
 }
 
@@ -100,11 +109,11 @@ join-one : (m : MapView) (b a c : ℕ) → AreOnePiece m b (a - 1) → a ≡ c �
 join-one m b a c front same joined x low high =
     ⊎_elim (λ equal. ap (is_joined m) equal ∙ joined) (λ other. front x low (omega (arith, high, same, other))) (cases_eq x c)
 
-module _ (m : MapView) (r : RangeType) (table : IsTable m r) (listed : is_skip r ≡ false) where
+module _ (m : MapView) (r : RangeType) (table : IsTable m r) where
   -- behind a group of the piece
   behind-group : (p n : ℕ) → IsGroupPlace m p → p < length m.image.bytes → is_skip (role_of m.info (m.image.start + p)) ≡ false → FullAt m r p → n ≡ group_len m (m.image.start + p)
-      → is_joined m (m.image.start + (p + n)) ≡ true → role_of m.info (m.image.start + (p + n)) ≡ r → is_whole m (m.image.start + (p + n)) ≡ true → BeginsFull m r (p + n)
-  behind-group p n here low shown known len joined role-is whole = go (is_whole m a) refl
+      → is_joined m (m.image.start + (p + n)) ≡ true → is_defined m (m.image.start + (p + n)) ≡ false → role_of m.info (m.image.start + (p + n)) ≡ r → is_whole m (m.image.start + (p + n)) ≡ true → BeginsFull m r (p + n)
+  behind-group p n here low shown known len joined unnamed role-is whole = go (is_whole m a) refl
     where
       a : ℕ
       a = m.image.start + p
@@ -122,7 +131,7 @@ module _ (m : MapView) (r : RangeType) (table : IsTable m r) (listed : is_skip r
       begun = item-len-at m p low shown here.item
 
       wanted : wanted_at m a ≡ unit_of r
-      wanted = wanted-of m a r role-a ∙ table _
+      wanted = wanted-of m a r role-a ∙ table.sizes _
 
       -- it can't be a byte that is left over
       size : is_whole m a ≡ false → size_at m a ≡ unit_of r
@@ -141,7 +150,7 @@ module _ (m : MapView) (r : RangeType) (table : IsTable m r) (listed : is_skip r
           let others : ℕ = more_at m (limit_at m a - 1) (a + item_len m a) in
           let place : a + item_len m a + others ≡ next = omega (arith, len, group-is m a) in
           let more : others ≡ (limit_at m a - 1) * unit_of r =
-          full-more m (limit_at m a - 1) (a + item_len m a) r (λ on. behind-role m a (item_len m a) begun on ∙ role-a) (ap (goes_on m) place ∙ goes-on-if m next joined whole) in
+          full-more m (limit_at m a - 1) (a + item_len m a) r (λ on. behind-role m a (item_len m a) begun on ∙ role-a) (ap (goes_on m) place ∙ goes-on-if m next joined whole unnamed) in
           let count : suc (limit_at m a - 1) ≡ limit_of r = omega (arith, limit, limit-positive r) in
           len ∙ group-is m a ∙ one-more (item_len m a) (unit_of r) (limit_at m a - 1) others unit more ∙ ap (λ (c : ℕ). c * unit_of r) count
 
@@ -156,42 +165,54 @@ module _ (m : MapView) (r : RangeType) (table : IsTable m r) (listed : is_skip r
             count = line.count + limit_of r;
             item = record {
               first = line.item.first;
-              is_first = line.item.is_first;
+              is_start = line.item.is_start;
               one_piece = join m line.item.first a next line.item.one_piece piece;
+              unnamed = λ x after before.
+                  ⊎_elim
+                  (λ behind.
+                  ⊎_elim
+                  (λ same. ap (is_defined m) same ∙ unnamed)
+                  (λ other. group-unnamed m r p x here low shown role-a table behind (omega (arith, before, other, len)))
+                  (cases_eq x next))
+                  (λ here. line.item.unnamed x after here)
+                  (cases_lt a x);
               place = sym all ∙ sym (ap (λ (r' : RangeType). line.item.first + (line.count + limit_of r) * unit_of r') role-is);
             };
             full = add-mod_right line.count (limit_of r) ∙ line.full;
           }
 
   next-full : Leads m (FullAt m r)
-  next-full p here low known high role-is whole = go (is_joined m (m.image.start + (p + stride_at m (m.image.start + p)))) refl (is_skip (role_of m.info (m.image.start + p))) refl
+  next-full p here low known high role-is whole =
+      go (is_joined m next) refl (is_defined m next) refl (is_skip (role_of m.info (m.image.start + p))) refl
     where
       next : ℕ
       next = m.image.start + (p + stride_at m (m.image.start + p))
 
-      go : (t : Bool) → is_joined m next ≡ t → (u : Bool) → is_skip (role_of m.info (m.image.start + p)) ≡ u → BeginsFull m r (p + stride_at m (m.image.start + p))
-      go false e u f = first-full m r (p + stride_at m (m.image.start + p)) (inr e)
-      go true e true f =
+      go : (t : Bool) → is_joined m next ≡ t → (n : Bool) → is_defined m next ≡ n → (u : Bool) → is_skip (role_of m.info (m.image.start + p)) ≡ u → BeginsFull m r (p + stride_at m (m.image.start + p))
+      go false e n d u f = first-full m r (p + stride_at m (m.image.start + p)) (inl (inr e))
+      go true e true d u f = first-full m r (p + stride_at m (m.image.start + p)) (inr d)
+      go true e false d true f =
           let place : m.image.start + p ≡ next - 1 = omega (arith, stride-skip m (m.image.start + p) f) in
           let same : role_of m.info (m.image.start + p) ≡ r = ap (role_of m.info) place ∙ (joined-role m next e).0 ∙ role-is in
-          absurd (true≢false (sym f ∙ ap is_skip same ∙ listed))
-      go true e false f = behind-group p (stride_at m (m.image.start + p)) here low f known (stride-group m (m.image.start + p) f) e role-is whole
+          absurd (true≢false (sym f ∙ ap is_skip same ∙ table.listed))
+      go true e false d false f = behind-group p (stride_at m (m.image.start + p)) here low f known (stride-group m (m.image.start + p) f) e d role-is whole
 
   pub each-full : (k : ℕ) → IsGroupPlace m k → FullAt m r k
-  each-full k here = each-place m (FullAt m r) (λ low role-is whole. let place : m.image.start + 0 ≡ m.image.start = omega arith in first-full m r 0 (inl place)) next-full k here
+  each-full k here = each-place m (FullAt m r) (λ low role-is whole. let place : m.image.start + 0 ≡ m.image.start = omega arith in first-full m r 0 (inl (inl place))) next-full k here
 
 -- ---- items are counted in one way
 
-not-before : (m : MapView) (a f g : ℕ) → IsFirst m g → AreOnePiece m f a → f < g → g ≤ a → ⊥
-not-before m a f g (inl start) piece low high = let joined = joined-role m g (piece g low high) in omega (arith, joined.1.0, start)
-not-before m a f g (inr apart) piece low high = true≢false (sym (piece g low high) ∙ apart)
+not-before : (m : MapView) (a k g : ℕ) (item : IsItemOf m a k) → IsStart m g → item.first < g → g ≤ a → ⊥
+not-before m a k g item (inl (inl start)) low high = let joined = joined-role m g (item.one_piece g low high) in omega (arith, joined.1.0, start)
+not-before m a k g item (inl (inr apart)) low high = true≢false (sym (item.one_piece g low high) ∙ apart)
+not-before m a k g item (inr named) low high = true≢false (sym named ∙ item.unnamed g low high)
 
-one-first : (m : MapView) (a f g : ℕ) → IsFirst m f → IsFirst m g → AreOnePiece m f a → AreOnePiece m g a → f ≤ a → g ≤ a → f ≡ g
-one-first m a f g is_f is_g piece_f piece_g low_f low_g =
+one-first : (m : MapView) (a k c : ℕ) (item : IsItemOf m a k) (other : IsItemOf m a c) → item.first ≤ a → other.first ≤ a → item.first ≡ other.first
+one-first m a k c item other low_f low_g =
     ⊎_elim
-    (λ less. absurd (not-before m a f g is_g piece_f less low_g))
-    (λ more. ⊎_elim (λ same. same) (λ other. absurd (not-before m a g f is_f piece_g (omega (arith, more, other)) low_f)) (cases_eq f g))
-    (cases_lt f g)
+    (λ less. absurd (not-before m a k other.first item other.is_start less low_g))
+    (λ more. ⊎_elim (λ same. same) (λ apart. absurd (not-before m a c item.first other item.is_start (omega (arith, more, apart)) low_f)) (cases_eq item.first other.first))
+    (cases_lt item.first other.first)
 
 same-count : (f a u k c : ℕ) → (u ≡ 1) ⊎ (u ≡ 2) → a ≡ f + k * u → a ≡ f + c * u → k ≡ c
 same-count f a u k c (inl e) h g = let h' = rw e at h in let g' = rw e at g in omega (arith, h', g')
@@ -200,7 +221,7 @@ same-count f a u k c (inr e) h g = let h' = rw e at h in let g' = rw e at g in o
 pub one-count : (m : MapView) (a k c : ℕ) → IsItemOf m a k → IsItemOf m a c → k ≡ c
 one-count m a k c item other =
     let unit : ℕ = unit_of (role_of m.info a) in
-    let first : item.first ≡ other.first = one-first m a item.first other.first item.is_first other.is_first item.one_piece other.one_piece (omega (arith, item.place)) (omega (arith, other.place)) in
+    let first : item.first ≡ other.first = one-first m a k c item other (omega (arith, item.place)) (omega (arith, other.place)) in
     same-count other.first a unit k c (unit-small (role_of m.info a)) (item.place ∙ ap (λ (f : ℕ). f + k * unit) first) other.place
 
 pub not-full : (limit c i : ℕ) → c % limit ≡ 0 → (c + i) % limit ≡ 0 → 1 ≤ i → i < limit → ⊥

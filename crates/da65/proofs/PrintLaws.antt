@@ -1,8 +1,8 @@
--- Each statement of a listing can be printed, and its line reads as it.
-use Rattle.std.proofs.Common.{◌≡◌, ◌⊎◌, inl, inr, ℕ, true, ◌+◌, ◌<◌, ◌≤◌, List, [], ◌∷◌, length, take, Option, Some, None, refl, arith}
-use Rattle.std.specs.Prelude.{IfSome, nat_lt, slice_index}
+-- Each line of a listing can be printed, and reads as its statement with its label.
+use Rattle.std.proofs.Common.{◌≡◌, ◌⊎◌, inl, inr, ℕ, Bool, true, ◌+◌, ◌<◌, ◌≤◌, List, [], ◌∷◌, length, take, Option, Some, None, refl, arith}
+use Rattle.std.specs.Prelude.{IfSome, nat_lt, slice_index, ◌==◌}
 use Rattle.std.specs.List.{list_all}
-use Rattle.std.proofs.lemmas.Bool.{and_from, cond_both, lt-ltb, ltb-false, ltb-true}
+use Rattle.std.proofs.lemmas.Bool.{and_from, cond_both, eqb-false, lt-ltb, ltb-false, ltb-true}
 use Rattle.std.proofs.lemmas.List.{length-take-le}
 use Rattle.std.proofs.lemmas.List.Elements.{All-head, All-tail, All-take}
 use Rattle.isa65.specs.Mode.{len_of}
@@ -14,35 +14,46 @@ use Rattle.isa65.specs.declared.op.Op.{Op}
 use Rattle.info65.specs.declared.range.RangeType.{RangeType}
 use Rattle.info65.specs.declared.range.RangeType.TheVariants as role
 use Rattle.stmt65.specs.Views as view
-use Rattle.stmt65.specs.Views.{OperandsView, StatementView}
+use Rattle.stmt65.specs.Views.{ExprView, OperandsView, StatementView}
 use Rattle.stmt65.specs.Columns.{default_columns}
 use Rattle.stmt65.specs.Line.{line_of}
-use Rattle.stmt65.specs.Printable.{IsPrintable, IsTable, IsWrittenIn, MayBeForced}
-use Rattle.stmt65.specs.SaidBack.{HasNames, HasNamesIn, PrintsAs, statement_said}
-use Rattle.stmt65.specs.Widths.{AreWordWide, IsInWidth}
+use Rattle.stmt65.specs.Printable.{IsLong, IsPrintable, IsShort, IsTable, IsWrittenIn, MayBeForced, MayBeLabelled}
+use Rattle.stmt65.specs.Printed.{HasLabelName, HasName, HasNames, HasNamesIn, PrintsAs, source_line, with_label}
+use Rattle.stmt65.specs.Widths.{AreWordWide, IsInWidth, IsWordWide}
 use Rattle.stmt65.proofs.OneLine.{one_line}
 use Rattle.stmt65.proofs.ReadBack.{reads_back}
 use Rattle.map65.specs.ImageView.{AreBytes}
+use Rattle.map65.specs.Names.{Base}
+use Rattle.map65.specs.Targets.{byte_of, entry_of, target_of, word_of}
+use Rattle.da65.specs.BaseNames.{Names}
 use Rattle.da65.specs.Instructions.{instruction_in}
-use Rattle.da65.specs.Listing.{line, no_remarks}
-use Rattle.da65.specs.Statements.{byte_of, word_of, bytes_statement, is_forced, operands_of, statement_for, statement_in, statement_of, target_of, words_or_byte, written}
+use Rattle.da65.specs.Listing.{ListingLine, line_text, remarks_of}
+use Rattle.da65.specs.Statements.{addr_from, address_entry, address_expr, bytes_statement, constant_base, expr_from, is_forced, operands_of, return_entry, rts_from, rts_to, statement_for, statement_in, statement_of, words_or_byte, written, zero_page_expr}
 use Rattle.da65.specs.Shapes.{AreWords, IsGroupOf}
-use Rattle.da65.proofs.FieldLaws.{target_is}
+use Rattle.da65.proofs.FragmentLaws.{target_is}
+use Rattle.da65.proofs.NameTexts.{IsNameText}
+use Rattle.da65.proofs.TargetBounds.{byte-small, entry-small, word-small}
 use Rattle.da65.proofs.StandsLaws.{at_some, begins_with, len_positive}
 
 -- what `put_line` takes, with the widths that its types keep
-pub record CanPrint (s : StatementView) : Type 0 where
+pub record StatementPrints (s : StatementView) : Type 0 where
   pub printable : IsPrintable s
   pub width : IsInWidth s
   pub names : HasNames s
 
-pub prints : (s : StatementView) → CanPrint s → PrintsAs (line s) (statement_said s)
-unfolding line
-prints s h = record {
-  line = line_of default_columns s no_remarks;
+-- the same of a line, with the label before its statement
+pub record CanPrint (l : ListingLine) : Type 0 where
+  pub statement : StatementPrints l.statement
+  pub room : MayBeLabelled default_columns l.label l.statement
+  pub label : HasLabelName l.label
+
+pub prints : (hexoffs : Bool) (l : ListingLine) → CanPrint l → PrintsAs (line_text hexoffs l) (with_label l.label (source_line l.statement))
+unfolding line_text
+prints hexoffs l h = record {
+  line = line_of default_columns l.statement (remarks_of hexoffs l.label);
   ends = refl;
-  one_line = one_line default_columns s no_remarks h.printable h.width h.names;
-  reads = reads_back default_columns s no_remarks h.printable h.width h.names;
+  one_line = one_line default_columns l.statement (remarks_of hexoffs l.label) h.statement.printable h.statement.width h.statement.names h.label;
+  reads = reads_back default_columns l.statement (remarks_of hexoffs l.label) h.statement.printable h.statement.width h.statement.names h.room h.label;
 }
 
 -- ---- bytes
@@ -51,21 +62,49 @@ bytes_pass : (bytes : List ℕ) → AreBytes bytes → list_all (λ b. nat_lt b 
 bytes_pass [] h = refl
 bytes_pass (b ∷ bytes) h = and_from _ _ (lt-ltb b 256 (All-head (λ b. b < 256) b bytes h)) (bytes_pass bytes (All-tail (λ b. b < 256) b bytes h))
 
-bytes_print : (n : ℕ) (bytes : List ℕ) → AreBytes bytes → 1 ≤ n → n ≤ 8 → n ≤ length bytes → CanPrint (bytes_statement n bytes)
+bytes_print : (n : ℕ) (bytes : List ℕ) → AreBytes bytes → 1 ≤ n → n ≤ 8 → n ≤ length bytes → StatementPrints (bytes_statement n bytes)
 bytes_print n bytes are low high long =
     let count : length (take n bytes) ≡ n = length-take-le n bytes long in
     record { printable = (omega arith, omega arith); width = bytes_pass (take n bytes) (All-take (λ b. b < 256) n bytes are); names = tt }
 
+-- ---- expressions
+
+-- the names have texts that read as names
+pub record HaveTexts (m : Names) : Type 0 where
+  pub texts : (a : ℕ) (b : Base) → m.base_at a ≡ Some b → IsNameText b.text
+
+record ShortPrints (e : ExprView) : Type 0 where
+  form : IsShort e
+  width : IsWordWide e
+  name : HasName e
+
+record LongPrints (e : ExprView) : Type 0 where
+  form : IsLong e
+  width : IsWordWide e
+  name : HasName e
+
+short_prints_expr : (m : Names) (a : ℕ) → HaveTexts m → a < 256 → ShortPrints (zero_page_expr m a)
+unfolding zero_page_expr
+short_prints_expr m a h low = go (m.base_at a) refl
+  where
+    number : ShortPrints (view.number a)
+    number = record { form = low; width = omega (arith, low); name = tt }
+
+    go : (o : Option Base) → m.base_at a ≡ o → ShortPrints (expr_from a (constant_base m o))
+    go None e = number
+    go (Some b) e =
+        let text : IsNameText b.text = h.texts a b e in
+        cond_both (m.has_constant b.address) (Some b) None (λ o. ShortPrints (expr_from a o)) (λ _. record { form = text.long; width = omega (arith, low); name = text.name }) (λ _. number)
+
+long_prints_expr : (m : Names) (a : ℕ) → HaveTexts m → a < 65536 → LongPrints (address_expr m a)
+unfolding address_expr
+long_prints_expr m a h low = go (m.base_at a) refl
+  where
+    go : (o : Option Base) → m.base_at a ≡ o → LongPrints (expr_from a o)
+    go None e = record { form = tt; width = low; name = tt }
+    go (Some b) e = let text : IsNameText b.text = h.texts a b e in record { form = text.long; width = omega (arith, low); name = text.name }
+
 -- ---- operands
-
-byte_small : (bytes : List ℕ) → AreBytes bytes → 2 ≤ length bytes → byte_of bytes < 256
-byte_small bytes are long = are 1 0 (omega arith)
-
-word_small : (bytes : List ℕ) → AreBytes bytes → 3 ≤ length bytes → word_of bytes < 65536
-word_small bytes are long =
-    let low : byte_of bytes < 256 = are 1 0 (omega arith) in
-    let high : slice_index bytes 2 < 256 = are 2 0 (omega arith) in
-    omega arith
 
 -- what the operands of a mode keep
 record Keep (mode : Mode) (os : OperandsView) : Type 0 where
@@ -73,35 +112,39 @@ record Keep (mode : Mode) (os : OperandsView) : Type 0 where
   width : AreWordWide os
   names : HasNamesIn os
 
-operands_print : (mode : Mode) (a : ℕ) (bytes : List ℕ) → AreBytes bytes → len_of mode ≤ length bytes → a + len_of mode ≤ 65536 → IfSome (operands_of mode a bytes) (Keep mode)
+operands_print : (m : Names) → HaveTexts m → (mode : Mode) (a : ℕ) (bytes : List ℕ) → AreBytes bytes → len_of mode ≤ length bytes → a + len_of mode ≤ 65536 → IfSome (operands_of m mode a bytes) (Keep mode)
 unfolding operands_of
-operands_print Imp a bytes are long room = record { form = tt; width = tt; names = tt }
-operands_print Acc a bytes are long room = record { form = tt; width = tt; names = tt }
-operands_print Imm a bytes are long room = let small = byte_small bytes are long in record { form = small; width = omega arith; names = tt }
-operands_print Zp a bytes are long room = let small = byte_small bytes are long in record { form = small; width = omega arith; names = tt }
-operands_print Zpx a bytes are long room = let small = byte_small bytes are long in record { form = small; width = omega arith; names = tt }
-operands_print Zpy a bytes are long room = let small = byte_small bytes are long in record { form = small; width = omega arith; names = tt }
-operands_print Indx a bytes are long room = let small = byte_small bytes are long in record { form = small; width = omega arith; names = tt }
-operands_print Indy a bytes are long room = let small = byte_small bytes are long in record { form = small; width = omega arith; names = tt }
-operands_print Zpind a bytes are long room = let small = byte_small bytes are long in record { form = small; width = omega arith; names = tt }
-operands_print Abs a bytes are long room = record { form = tt; width = word_small bytes are long; names = tt }
-operands_print Absx a bytes are long room = record { form = tt; width = word_small bytes are long; names = tt }
-operands_print Absy a bytes are long room = record { form = tt; width = word_small bytes are long; names = tt }
-operands_print Ind a bytes are long room = record { form = tt; width = word_small bytes are long; names = tt }
-operands_print Absindx a bytes are long room = record { form = tt; width = word_small bytes are long; names = tt }
-operands_print Rel a bytes are long room = go (target_of (a + 2) (byte_of bytes)) refl
+operands_print m h Imp a bytes are long room = record { form = tt; width = tt; names = tt }
+operands_print m h Acc a bytes are long room = record { form = tt; width = tt; names = tt }
+operands_print m h Imm a bytes are long room = let small = byte-small bytes are 1 in record { form = small; width = omega (arith, small); names = tt }
+operands_print m h Zp a bytes are long room = let e = short_prints_expr m (byte_of bytes) h (byte-small bytes are 1) in record { form = e.form; width = e.width; names = e.name }
+operands_print m h Zpx a bytes are long room = let e = short_prints_expr m (byte_of bytes) h (byte-small bytes are 1) in record { form = e.form; width = e.width; names = e.name }
+operands_print m h Zpy a bytes are long room = let e = short_prints_expr m (byte_of bytes) h (byte-small bytes are 1) in record { form = e.form; width = e.width; names = e.name }
+operands_print m h Indx a bytes are long room = let e = short_prints_expr m (byte_of bytes) h (byte-small bytes are 1) in record { form = e.form; width = e.width; names = e.name }
+operands_print m h Indy a bytes are long room = let e = short_prints_expr m (byte_of bytes) h (byte-small bytes are 1) in record { form = e.form; width = e.width; names = e.name }
+operands_print m h Zpind a bytes are long room = let e = short_prints_expr m (byte_of bytes) h (byte-small bytes are 1) in record { form = e.form; width = e.width; names = e.name }
+operands_print m h Abs a bytes are long room = let e = long_prints_expr m (word_of bytes) h (word-small bytes are) in record { form = e.form; width = e.width; names = e.name }
+operands_print m h Absx a bytes are long room = let e = long_prints_expr m (word_of bytes) h (word-small bytes are) in record { form = e.form; width = e.width; names = e.name }
+operands_print m h Absy a bytes are long room = let e = long_prints_expr m (word_of bytes) h (word-small bytes are) in record { form = e.form; width = e.width; names = e.name }
+operands_print m h Ind a bytes are long room = let e = long_prints_expr m (word_of bytes) h (word-small bytes are) in record { form = e.form; width = e.width; names = e.name }
+operands_print m h Absindx a bytes are long room = let e = long_prints_expr m (word_of bytes) h (word-small bytes are) in record { form = e.form; width = e.width; names = e.name }
+operands_print m h Rel a bytes are long room = go (target_of (a + 2) (byte_of bytes)) refl
   where
-    go : (o : Option ℕ) → target_of (a + 2) (byte_of bytes) ≡ o → IfSome (operands_of Rel a bytes) (Keep Rel)
-    go None e = rw e tt
-    go (Some t) e = let is = target_is (a + 2) (byte_of bytes) t room (byte_small bytes are long) e in rw e (record { form = tt; width = is.room; names = tt })
-operands_print Zprel a bytes are long room = go (target_of (a + 3) (slice_index bytes 2)) refl
-  where
-    go : (o : Option ℕ) → target_of (a + 3) (slice_index bytes 2) ≡ o → IfSome (operands_of Zprel a bytes) (Keep Zprel)
+    go : (o : Option ℕ) → target_of (a + 2) (byte_of bytes) ≡ o → IfSome (operands_of m Rel a bytes) (Keep Rel)
     go None e = rw e tt
     go (Some t) e =
-        let is = target_is (a + 3) (slice_index bytes 2) t room (are 2 0 (omega arith)) e in
-        let small : byte_of bytes < 256 = byte_small bytes are (omega arith) in
-        rw e (record { form = (small, tt); width = (omega arith, is.room); names = (tt, tt) })
+        let is = target_is (a + 2) (byte_of bytes) t room (byte-small bytes are 1) e in
+        let expr = long_prints_expr m t h is.room in
+        rw e (record { form = expr.form; width = expr.width; names = expr.name })
+operands_print m h Zprel a bytes are long room = go (target_of (a + 3) (slice_index bytes 2)) refl
+  where
+    go : (o : Option ℕ) → target_of (a + 3) (slice_index bytes 2) ≡ o → IfSome (operands_of m Zprel a bytes) (Keep Zprel)
+    go None e = rw e tt
+    go (Some t) e =
+        let is = target_is (a + 3) (slice_index bytes 2) t room (byte-small bytes are 2) e in
+        let front = short_prints_expr m (byte_of bytes) h (byte-small bytes are 1) in
+        let back = long_prints_expr m t h is.room in
+        rw e (record { form = (front.form, back.form); width = (front.width, back.width); names = (front.name, back.name) })
 
 may_be_forced : (t : Table) (m : Mnemonic) (mode : Mode) (bytes : List ℕ) → MayBeForced mode (is_forced t (record { mnemonic = m; mode = mode }) bytes)
 may_be_forced t m Abs bytes = tt
@@ -115,51 +158,80 @@ len_small : (m : Mode) → len_of m ≤ 8
 len_small Imp = omega arith
 len_small _ = omega arith
 
-pub item_prints : (t : Table) (a : ℕ) (bytes : List ℕ) → AreBytes bytes → 0 < length bytes → a + length bytes ≤ 65536 → CanPrint (statement_in t a bytes)
+item_prints : (m : Names) → HaveTexts m → (t : Table) (a : ℕ) (bytes : List ℕ) → AreBytes bytes → 0 < length bytes → a + length bytes ≤ 65536 → StatementPrints (statement_in m t a bytes)
 unfolding statement_in
-item_prints t a bytes are some room = go (instruction_in t bytes) refl
+item_prints m h t a bytes are some room = go (instruction_in t bytes) refl
   where
-    with_operands : (op : Op) → instruction_in t bytes ≡ Some op → (o : Option OperandsView) → operands_of op.mode a bytes ≡ o → CanPrint (written t op bytes o)
+    with_operands : (op : Op) → instruction_in t bytes ≡ Some op → (o : Option OperandsView) → operands_of m op.mode a bytes ≡ o → StatementPrints (written t op bytes o)
     with_operands op e None f = bytes_print (len_of op.mode) bytes are (len_positive op.mode) (len_small op.mode) (begins_with t bytes op e).long
     with_operands op e (Some os) f =
         let long : len_of op.mode ≤ length bytes = (begins_with t bytes op e).long in
-        let keep = at_some (Keep op.mode) (operands_of op.mode a bytes) os f (operands_print op.mode a bytes are long (omega arith)) in
+        let keep = at_some (Keep op.mode) (operands_of m op.mode a bytes) os f (operands_print m h op.mode a bytes are long (omega arith)) in
         record { printable = (keep.form, may_be_forced t op.mnemonic op.mode bytes); width = keep.width; names = keep.names }
 
-    go : (o : Option Op) → instruction_in t bytes ≡ o → CanPrint (statement_of t a bytes o)
+    go : (o : Option Op) → instruction_in t bytes ≡ o → StatementPrints (statement_of m t a bytes o)
     go None e = bytes_print 1 bytes are (omega arith) (omega arith) (omega arith)
-    go (Some op) e = with_operands op e (operands_of op.mode a bytes) refl
+    go (Some op) e = with_operands op e (operands_of m op.mode a bytes) refl
 
 -- ---- groups
 
 -- all of some bytes
-short_prints : (bytes : List ℕ) → AreBytes bytes → 0 < length bytes → length bytes ≤ 8 → CanPrint (view.bytes bytes)
+short_prints : (bytes : List ℕ) → AreBytes bytes → 0 < length bytes → length bytes ≤ 8 → StatementPrints (view.bytes bytes)
 short_prints bytes are some high = record { printable = (omega (arith, some), high); width = bytes_pass bytes are; names = tt }
 
-text_prints : (bytes : List ℕ) → AreBytes bytes → 0 < length bytes → length bytes ≤ 16 → CanPrint (view.text bytes)
+text_prints : (bytes : List ℕ) → AreBytes bytes → 0 < length bytes → length bytes ≤ 16 → StatementPrints (view.text bytes)
 text_prints bytes are some high = record { printable = (omega (arith, some), high); width = bytes_pass bytes are; names = tt }
 
-words_print : (bytes : List ℕ) → AreBytes bytes → IsTable bytes → CanPrint (view.words bytes)
+words_print : (bytes : List ℕ) → AreBytes bytes → IsTable bytes → StatementPrints (view.words bytes)
 words_print bytes are is = record { printable = is; width = bytes_pass bytes are; names = tt }
 
-dbyts_print : (bytes : List ℕ) → AreBytes bytes → IsTable bytes → CanPrint (view.dbyts bytes)
+dbyts_print : (bytes : List ℕ) → AreBytes bytes → IsTable bytes → StatementPrints (view.dbyts bytes)
 dbyts_print bytes are is = record { printable = is; width = bytes_pass bytes are; names = tt }
 
-either_prints : (whole : StatementView) (bytes : List ℕ) → AreBytes bytes → 0 < length bytes → (length bytes ≡ 1) ⊎ AreWords bytes → (IsTable bytes → CanPrint whole) → CanPrint (words_or_byte whole bytes)
-either_prints whole bytes are some group print =
-    cond_both (nat_lt (length bytes) 2) (view.bytes bytes) whole CanPrint
+either_prints : (whole : StatementView) (bytes : List ℕ) → AreBytes bytes → 0 < length bytes → (2 ≤ length bytes → StatementPrints whole) → StatementPrints (words_or_byte whole bytes)
+either_prints whole bytes are some print =
+    cond_both (nat_lt (length bytes) 2) (view.bytes bytes) whole StatementPrints
     (λ one. short_prints bytes are some (omega (arith, ltb-true (length bytes) 2 one)))
-    (λ more. print (table (ltb-false (length bytes) 2 more) group))
-  where
-    table : 2 ≤ length bytes → (length bytes ≡ 1) ⊎ AreWords bytes → IsTable bytes
-    table more (inl one) = absurd (omega (arith, more, one))
-    table more (inr are) = (are.0, (more, are.1))
+    (λ more. print (ltb-false (length bytes) 2 more))
 
-pub group_prints : (t : Table) (r : RangeType) (a : ℕ) (bytes : List ℕ) → AreBytes bytes → 0 < length bytes → a + length bytes ≤ 65536 → IsGroupOf t r bytes → CanPrint (statement_for t r a bytes)
+table_of_words : (bytes : List ℕ) → 2 ≤ length bytes → (length bytes ≡ 1) ⊎ AreWords bytes → IsTable bytes
+table_of_words bytes more (inl one) = absurd (omega (arith, more, one))
+table_of_words bytes more (inr are) = (are.0, (more, are.1))
+
+two_of : (bytes : List ℕ) → 2 ≤ length bytes → (length bytes ≡ 1) ⊎ (length bytes ≡ 2) → length bytes ≡ 2
+two_of bytes more (inl one) = absurd (omega (arith, more, one))
+two_of bytes more (inr two) = two
+
+-- a word as a number
+word_prints : (bytes : List ℕ) → AreBytes bytes → length bytes ≡ 2 → StatementPrints (view.words bytes)
+word_prints bytes are two = words_print bytes are (omega (arith, two), (omega (arith, two), omega (arith, two)))
+
+address_prints : (m : Names) → HaveTexts m → (bytes : List ℕ) → AreBytes bytes → length bytes ≡ 2 → StatementPrints (address_entry m bytes)
+unfolding address_entry
+address_prints m h bytes are two = go (m.base_at (entry_of bytes)) refl
+  where
+    go : (o : Option Base) → m.base_at (entry_of bytes) ≡ o → StatementPrints (addr_from bytes (entry_of bytes) o)
+    go None e = word_prints bytes are two
+    go (Some b) e = let text : IsNameText b.text = h.texts (entry_of bytes) b e in record { printable = text.long; width = omega (arith, entry-small bytes are); names = text.name }
+
+return_prints : (m : Names) → HaveTexts m → (bytes : List ℕ) → AreBytes bytes → length bytes ≡ 2 → StatementPrints (return_entry m bytes)
+unfolding return_entry
+return_prints m h bytes are two =
+    cond_both (entry_of bytes == 65535) None (Some (entry_of bytes + 1)) (λ o. StatementPrints (rts_to m bytes o))
+    (λ _. record { printable = tt; width = tt; names = tt })
+    (λ other. go (omega (arith, entry-small bytes are, eqb-false (entry_of bytes) 65535 other)) (m.base_at (entry_of bytes + 1)) refl)
+  where
+    go : entry_of bytes + 1 < 65536 → (o : Option Base) → m.base_at (entry_of bytes + 1) ≡ o → StatementPrints (rts_from bytes (entry_of bytes + 1) o)
+    go low None e = word_prints bytes are two
+    go low (Some b) e = let text : IsNameText b.text = h.texts (entry_of bytes + 1) b e in record { printable = text.long; width = omega (arith, low); names = text.name }
+
+pub group_prints : (m : Names) → HaveTexts m → (t : Table) (r : RangeType) (a : ℕ) (bytes : List ℕ) → AreBytes bytes → 0 < length bytes → a + length bytes ≤ 65536 → IsGroupOf t r bytes → StatementPrints (statement_for m t r a bytes)
 unfolding statement_for
-group_prints t role.Code a bytes are some room of = item_prints t a bytes are some room
-group_prints t role.ByteTable a bytes are some room of = short_prints bytes are some of
-group_prints t role.WordTable a bytes are some room of = either_prints (view.words bytes) bytes are some of (words_print bytes are)
-group_prints t role.DbyteTable a bytes are some room of = either_prints (view.dbyts bytes) bytes are some of (dbyts_print bytes are)
-group_prints t role.TextTable a bytes are some room of = text_prints bytes are some of
-group_prints t role.Skip a bytes are some room of = absurd of
+group_prints m h t role.Code a bytes are some room of = item_prints m h t a bytes are some room
+group_prints m h t role.ByteTable a bytes are some room of = short_prints bytes are some of
+group_prints m h t role.WordTable a bytes are some room of = either_prints (view.words bytes) bytes are some (λ more. words_print bytes are (table_of_words bytes more of))
+group_prints m h t role.DbyteTable a bytes are some room of = either_prints (view.dbyts bytes) bytes are some (λ more. dbyts_print bytes are (table_of_words bytes more of))
+group_prints m h t role.AddrTable a bytes are some room of = either_prints (address_entry m bytes) bytes are some (λ more. address_prints m h bytes are (two_of bytes more of))
+group_prints m h t role.RtsTable a bytes are some room of = either_prints (return_entry m bytes) bytes are some (λ more. return_prints m h bytes are (two_of bytes more of))
+group_prints m h t role.TextTable a bytes are some room of = text_prints bytes are some of
+group_prints m h t role.Skip a bytes are some room of = absurd of

@@ -1,14 +1,21 @@
 -- Roles, items and pieces, by what a map tells.
-use Rattle.std.proofs.Common.{◌≡◌, ℕ, ◌-◌, ◌<◌, ◌≤◌, ◌&&◌, nat_le, nat_lt, Bool, true, false, Some, None, refl, sym, arith}
+use Rattle.std.proofs.Common.{◌≡◌, ◌∙◌, ℕ, suc, ◌+◌, ◌-◌, ◌<◌, ◌≤◌, ◌&&◌, ◌||◌, ◌==◌, nat_le, nat_lt, not, Bool, true, false, List, [], ◌∷◌, Option, Some, None, get_or, length, refl, ap, sym, arith}
 use Rattle.std.proofs.lemmas.Option.{cond_some, none-some}
-use Rattle.std.proofs.lemmas.Bool.{and_parts, and_from, both_ways, cond-false, cond_both, lt-ltb, ltb-true, leb-true, le-leb}
+use Rattle.std.specs.List.{list_any}
+use Rattle.std.proofs.lemmas.Bool.{and_parts, and_from, both_ways, cond-false, cond_both, eq-eqb, eqb-true, false≢true, lt-ltb, ltb-true, leb-true, le-leb}
+use Rattle.info65.proofs.CoveringLemmas.{own_address_wins}
+use Rattle.info65.specs.Names.{AreNames, covering, name_at}
+use Rattle.info65.specs.Views.{NameView}
 use Rattle.info65.specs.declared.range.RangeType.{RangeType}
 use Rattle.map65.specs.ImageView.{IsPlaced, end_of, is_inside}
 use Rattle.map65.specs.Items.{item_len}
 use Rattle.map65.specs.MapView.{MapView}
-use Rattle.map65.specs.Pieces.{is_joined}
-use Rattle.map65.specs.Roles.{is_role, role_at, role_of}
-use Rattle.da65.specs.Groups.{goes_on}
+use Rattle.map65.specs.Names.{Base, base_at, given_base}
+use Rattle.map65.specs.Pieces.{is_in_run, is_joined, is_own}
+use Rattle.map65.proofs.NameLemmas.{base-covered}
+use Rattle.map65.specs.Roles.{is_role, is_wide, role_at, role_of}
+use Rattle.da65.specs.BaseNames as base_names
+use Rattle.da65.specs.Groups.{goes_on, is_defined, is_whole}
 
 -- ---- inside the image
 
@@ -24,7 +31,7 @@ inside-bounds m a is =
 pub bounds-inside : (m : MapView) (a : ℕ) → m.image.start ≤ a → a < end_of m.image → is_inside m.image a ≡ true
 bounds-inside m a low high = and_from _ _ (le-leb m.image.start a low) (lt-ltb a (end_of m.image) high)
 
--- no address behind $FFFF lies in the image
+-- no address after $FFFF lies in the image
 outside : (m : MapView) (a : ℕ) → IsPlaced m.image → 65536 ≤ a → is_inside m.image a ≡ false
 outside m a placed far = go (is_inside m.image a) refl
   where
@@ -51,46 +58,96 @@ pub item-outside : (m : MapView) (a : ℕ) → IsPlaced m.image → 65536 ≤ a 
 unfolding item_len
 item-outside m a placed far = rw (outside m a placed far) refl
 
--- ---- pieces
+-- ---- runs
 
-pub record Joined (m : MapView) (a : ℕ) : Type 0 where
+pub record InRun (m : MapView) (a : ℕ) : Type 0 where
   pub low : m.image.start < a
   pub high : a < end_of m.image
 
-pub joined-bounds : (m : MapView) (a : ℕ) → is_joined m a ≡ true → Joined m a
-unfolding is_joined
-joined-bounds m a is =
+pub run-bounds : (m : MapView) (a : ℕ) → is_in_run m a ≡ true → InRun m a
+unfolding is_in_run
+run-bounds m a is =
     let both = and_parts (nat_lt m.image.start a) (nat_lt a (end_of m.image) && is_role (role_of m.info (a - 1)) (role_of m.info a)) is in
     let behind = and_parts (nat_lt a (end_of m.image)) (is_role (role_of m.info (a - 1)) (role_of m.info a)) both.1 in
     record { low = ltb-true m.image.start a both.0; high = ltb-true a (end_of m.image) behind.0 }
 
-not-joined : (m : MapView) (a : ℕ) → (Joined m a → ⊥) → is_joined m a ≡ false
-not-joined m a never = go (is_joined m a) refl
+not-in-run : (m : MapView) (a : ℕ) → (InRun m a → ⊥) → is_in_run m a ≡ false
+not-in-run m a never = go (is_in_run m a) refl
   where
-    go : (t : Bool) → is_joined m a ≡ t → t ≡ false
+    go : (t : Bool) → is_in_run m a ≡ t → t ≡ false
     go false is = refl
-    go true is = absurd (never (joined-bounds m a is))
+    go true is = absurd (never (run-bounds m a is))
 
-pub joined-first : (m : MapView) (a : ℕ) → a ≡ 0 → is_joined m a ≡ false
-joined-first m a first = not-joined m a (λ j. omega (arith, first, j.low))
+pub run-first : (m : MapView) (a : ℕ) → a ≡ 0 → is_in_run m a ≡ false
+run-first m a first = not-in-run m a (λ j. omega (arith, first, j.low))
 
-pub joined-behind : (m : MapView) (a : ℕ) → role_at m (a - 1) ≡ None → is_joined m a ≡ false
-joined-behind m a none =
-    not-joined m a (λ j. both_ways (is_inside m.image (a - 1)) (role-none m (a - 1) none) (bounds-inside m (a - 1) (omega (arith, j.low)) (omega (arith, j.high))))
+pub run-behind : (m : MapView) (a : ℕ) → role_at m (a - 1) ≡ None → is_in_run m a ≡ false
+run-behind m a none =
+    not-in-run m a (λ j. both_ways (is_inside m.image (a - 1)) (role-none m (a - 1) none) (bounds-inside m (a - 1) (omega (arith, j.low)) (omega (arith, j.high))))
 
-pub joined-outside : (m : MapView) (a : ℕ) → role_at m a ≡ None → is_joined m a ≡ false
-joined-outside m a none =
-    not-joined m a (λ j. both_ways (is_inside m.image a) (role-none m a none) (bounds-inside m a (omega (arith, j.low)) j.high))
+pub run-outside : (m : MapView) (a : ℕ) → role_at m a ≡ None → is_in_run m a ≡ false
+run-outside m a none =
+    not-in-run m a (λ j. both_ways (is_inside m.image a) (role-none m a none) (bounds-inside m a (omega (arith, j.low)) j.high))
 
-pub joined-roles : (m : MapView) (a : ℕ) (q r : RangeType) → 0 < a → role_at m (a - 1) ≡ Some q → role_at m a ≡ Some r → is_joined m a ≡ is_role q r
-unfolding is_joined
-joined-roles m a q r some before here =
+pub run-roles : (m : MapView) (a : ℕ) (q r : RangeType) → 0 < a → role_at m (a - 1) ≡ Some q → role_at m a ≡ Some r → is_in_run m a ≡ is_role q r
+unfolding is_in_run
+run-roles m a q r some before here =
     let p = role-some m (a - 1) q before in
     let h = role-some m a r here in
     let low : m.image.start < a = omega (arith, some, (inside-bounds m (a - 1) p.0).low) in
     rw (lt-ltb m.image.start a low, lt-ltb a (end_of m.image) (inside-bounds m a h.0).high, p.1, h.1) refl
 
--- no item behind the image goes on
-pub outside-stops : (m : MapView) (a : ℕ) → role_at m a ≡ None → goes_on m a ≡ false
-unfolding goes_on
-outside-stops m a none = rw (joined-outside m a none) refl
+-- ---- items that go on
+
+-- a given name defines its own address
+record Given (names : List NameView) (a : ℕ) : Type 0 where
+  index : ℕ
+  low : index < length names
+  here : (name_at names index).address ≡ a
+
+given-any : (names : List NameView) (a : ℕ) → list_any (λ (n : NameView). n.address == a) names ≡ true → Given names a
+given-any [] a is = absurd (false≢true is)
+given-any (n ∷ ns) a is = go (n.address == a) refl is (given-any ns a)
+  where
+    go : (t : Bool) → (n.address == a) ≡ t → (t || list_any (λ (n : NameView). n.address == a) ns) ≡ true → (list_any (λ (n : NameView). n.address == a) ns ≡ true → Given ns a) → Given (n ∷ ns) a
+    go true e h more = record { index = 0; low = omega arith; here = eqb-true n.address a e }
+    go false e h more = let g : Given ns a = more h in record { index = suc g.index; low = omega (arith, g.low); here = g.here }
+
+given-own : (names : List NameView) (a : ℕ) → is_own names a ≡ true → Given names a
+unfolding is_own
+given-own names a is = given-any names a is
+
+own-defined : (m : MapView) (a : ℕ) → AreNames m.info.names → is_own m.info.names a ≡ true → is_defined m a ≡ true
+own-defined m a are is =
+    let g : Given m.info.names a = given-own m.info.names a is in
+    let wins : covering m.info.names a ≡ Some (name_at m.info.names g.index) = sym (ap (covering m.info.names) g.here) ∙ own_address_wins m.info.names are g.index g.low in
+    ap (λ (o : Option Base). base_names.is_own a o) (base-covered m a (name_at m.info.names g.index) wins) ∙ eq-eqb (name_at m.info.names g.index).address a g.here
+
+goes-by : (r wide own whole named : Bool) → (own ≡ true → named ≡ true) → ((r && not (wide && own)) && (whole && not named)) ≡ (r && (whole && not named))
+goes-by false wide own whole named known = refl
+goes-by true false own whole named known = refl
+goes-by true true false whole named known = refl
+goes-by true true true true true known = refl
+goes-by true true true false named known = refl
+goes-by true true true true false known = absurd (let no : false ≡ true = known refl in cc)
+
+-- the item at an address of a run goes on if it is whole and not defined by name
+pub goes-run : (m : MapView) (a : ℕ) → AreNames m.info.names → goes_on m a ≡ (is_in_run m a && (is_whole m a && not (is_defined m a)))
+unfolding goes_on is_joined
+goes-run m a are = goes-by (is_in_run m a) (is_wide (role_of m.info a)) (is_own m.info.names a) (is_whole m a) (is_defined m a) (own-defined m a are)
+
+pub stops-run : (m : MapView) (a : ℕ) → AreNames m.info.names → is_in_run m a ≡ false → goes_on m a ≡ false
+stops-run m a are is = goes-run m a are ∙ rw is refl
+
+pub stops-whole : (m : MapView) (a : ℕ) → AreNames m.info.names → is_in_run m a ≡ true → is_whole m a ≡ false → goes_on m a ≡ false
+stops-whole m a are run is = goes-run m a are ∙ rw (run, is) refl
+
+pub goes-unnamed : (m : MapView) (a : ℕ) → AreNames m.info.names → is_in_run m a ≡ true → is_whole m a ≡ true → goes_on m a ≡ not (is_defined m a)
+goes-unnamed m a are run is = goes-run m a are ∙ rw (run, is) refl
+
+-- no item after the image goes on
+pub outside-stops : (m : MapView) (a : ℕ) → AreNames m.info.names → role_at m a ≡ None → goes_on m a ≡ false
+outside-stops m a are none = stops-run m a are (run-outside m a none)
+
+pub role-low : (m : MapView) (a : ℕ) (r : RangeType) → IsPlaced m.image → role_at m a ≡ Some r → a < 65536
+role-low m a r placed is = omega (arith, placed.room, (inside-bounds m a (role-some m a r is).0).high)

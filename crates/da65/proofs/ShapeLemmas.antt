@@ -11,10 +11,10 @@ use Rattle.isa65.specs.declared.op.Op.{Op}
 use Rattle.info65.specs.declared.range.RangeType.{RangeType}
 use Rattle.info65.specs.declared.range.RangeType.TheVariants as role
 use Rattle.map65.specs.ImageView.{byte_at, bytes_from}
-use Rattle.map65.specs.Items.{code_size, item_len, size_at, size_for, unit_of, wanted_at}
+use Rattle.map65.specs.Items.{code_size, item_len, size_at, size_for, wanted_at}
 use Rattle.map65.specs.MapView.{MapView, opcodes}
 use Rattle.map65.specs.Pieces.{are_joined, is_joined}
-use Rattle.map65.specs.Roles.{is_skip, role_of}
+use Rattle.map65.specs.Roles.{is_skip, role_of, unit_of}
 use Rattle.map65.proofs.ItemLemmas.{item-len-at, joined-role, one-role, size-one-piece, size-positive}
 use Rattle.da65.specs.Groups.{IsGroupPlace, goes_on, group_bytes, group_len, is_whole, limit_at, limit_of, more_at}
 use Rattle.da65.specs.Instructions.{instruction_in, size_of, whole_in}
@@ -168,11 +168,17 @@ module _ (m : MapView) (k : ℕ) (here : IsGroupPlace m k) (low : k < length m.i
   long : length (group_bytes m (m.image.start + k)) ≡ group_len m (m.image.start + k)
   long = group-long m k (group-fits m k here low shown)
 
-  words : (r : RangeType) → limit_of r ≡ 4 → unit_of r ≡ 2 → IsLong r (group_len m (m.image.start + k)) → (length (group_bytes m (m.image.start + k)) ≡ 1) ⊎ AreWords (group_bytes m (m.image.start + k))
+  words : (r : RangeType) → limit_of r ≤ 4 → unit_of r ≡ 2 → IsLong r (group_len m (m.image.start + k)) → (length (group_bytes m (m.image.start + k)) ≡ 1) ⊎ AreWords (group_bytes m (m.image.start + k))
   words r limit unit (inl one) = inl (long ∙ one)
   words r limit unit (inr some) =
       let two : group_len m (m.image.start + k) ≡ suc some.count * 2 = some.is ∙ ap (λ (n : ℕ). suc some.count * n) unit in
       inr (omega (arith, long, two), omega (arith, long, two, some.bound, limit))
+
+  pair : (r : RangeType) → limit_of r ≡ 1 → unit_of r ≡ 2 → IsLong r (group_len m (m.image.start + k)) → (length (group_bytes m (m.image.start + k)) ≡ 1) ⊎ (length (group_bytes m (m.image.start + k)) ≡ 2)
+  pair r limit unit (inl one) = inl (long ∙ one)
+  pair r limit unit (inr some) =
+      let two : group_len m (m.image.start + k) ≡ suc some.count * 2 = some.is ∙ ap (λ (n : ℕ). suc some.count * n) unit in
+      inr (omega (arith, long, two, some.bound, limit))
 
   single_bytes : (r : RangeType) → unit_of r ≡ 1 → 1 ≤ limit_of r → IsLong r (group_len m (m.image.start + k)) → length (group_bytes m (m.image.start + k)) ≤ limit_of r
   single_bytes r unit limit (inl one) = omega (arith, long, one, limit)
@@ -194,8 +200,10 @@ module _ (m : MapView) (k : ℕ) (here : IsGroupPlace m k) (low : k < length m.i
       go : (r : RangeType) → role_of m.info (m.image.start + k) ≡ r → IsGroupOf (opcodes m) r (group_bytes m (m.image.start + k))
       go role.Code e = code e
       go role.ByteTable e = single_bytes role.ByteTable refl (omega arith) (table-long m (m.image.start + k) role.ByteTable e (wanted-of m (m.image.start + k) role.ByteTable e) begun)
-      go role.WordTable e = words role.WordTable refl refl (table-long m (m.image.start + k) role.WordTable e (wanted-of m (m.image.start + k) role.WordTable e) begun)
-      go role.DbyteTable e = words role.DbyteTable refl refl (table-long m (m.image.start + k) role.DbyteTable e (wanted-of m (m.image.start + k) role.DbyteTable e) begun)
+      go role.WordTable e = words role.WordTable (omega arith) refl (table-long m (m.image.start + k) role.WordTable e (wanted-of m (m.image.start + k) role.WordTable e) begun)
+      go role.DbyteTable e = words role.DbyteTable (omega arith) refl (table-long m (m.image.start + k) role.DbyteTable e (wanted-of m (m.image.start + k) role.DbyteTable e) begun)
+      go role.AddrTable e = pair role.AddrTable refl refl (table-long m (m.image.start + k) role.AddrTable e (wanted-of m (m.image.start + k) role.AddrTable e) begun)
+      go role.RtsTable e = pair role.RtsTable refl refl (table-long m (m.image.start + k) role.RtsTable e (wanted-of m (m.image.start + k) role.RtsTable e) begun)
       go role.TextTable e = single_bytes role.TextTable refl (omega arith) (table-long m (m.image.start + k) role.TextTable e (wanted-of m (m.image.start + k) role.TextTable e) begun)
       go role.Skip e = absurd (true≢false (sym (ap is_skip e) ∙ shown))
 

@@ -3,7 +3,7 @@ use Rattle.std.proofs.Common.{◌≡◌, ◌∙◌, ℕ, suc, ◌+◌, ◌-◌, 
 use Rattle.std.specs.List.{list_any}
 use Rattle.map65.specs.Items.{item_len}
 use Rattle.map65.specs.MapView.{MapView}
-use Rattle.map65.specs.Steps.{addresses}
+use Rattle.map65.specs.Spans.{addresses}
 use Rattle.da65.specs.Groups.{goes_on, more_at}
 use Rattle.da65.proofs.GroupLemmas.{more-true}
 

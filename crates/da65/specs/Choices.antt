@@ -26,6 +26,9 @@ start_choice = record { id = codes "start"; short = codes "S"; long = codes "sta
 abbrev pub cpu_choice : Choice
 cpu_choice = record { id = codes "cpu"; short = none; long = codes "cpu"; value = codes "type"; purpose = codes "6502 or 65C02" }
 
+abbrev pub hexoffs_choice : Choice
+hexoffs_choice = record { id = codes "hexoffs"; short = none; long = codes "hexoffs"; value = none; purpose = codes "offsets in hexadecimal" }
+
 abbrev pub help_choice : Choice
 help_choice = record { id = codes "help"; short = codes "h"; long = codes "help"; value = none; purpose = codes "this text" }
 
@@ -34,7 +37,7 @@ version_choice = record { id = codes "version"; short = codes "V"; long = codes 
 
 -- the option table
 abbrev pub choices : List Choice
-choices = info_choice ∷ output_choice ∷ start_choice ∷ cpu_choice ∷ help_choice ∷ version_choice ∷ []
+choices = info_choice ∷ output_choice ∷ start_choice ∷ cpu_choice ∷ hexoffs_choice ∷ help_choice ∷ version_choice ∷ []
 
 -- the id of the input name, which is no option
 abbrev pub input_id : Text

@@ -1,8 +1,7 @@
--- The command, as `clap` sees it, and what it makes of the words.
-use Rattle.std.specs.Prelude.{◌≡◌, ℕ, List, [], ◌∷◌, Option, Some, None, Result, IfOk, codes, true}
-use Rattle.clap.specs.Words.{App, Kinds, Row, Rule, Text, app_of, fault_of, matches_of, new_app, new_rule, with_rule}
+-- The command as `clap` sees it: its options and the input name, and how it reads the words.
+use Rattle.std.specs.Prelude.{ℕ, List, [], ◌∷◌, Option, Some, None, codes, true}
+use Rattle.clap.specs.Words.{App, Kinds, Row, Rule, Text, fault_of, matches_of, new_app, new_rule, with_rule}
 use Rattle.clap.specs.Simple.{on_top}
-use Rattle.clap.specs.declared.Command.{Command}
 use Rattle.clap.specs.declared.builder.ArgAction.{ArgAction}
 use Rattle.clap.specs.declared.builder.ArgAction.TheVariants.{SetTrue}
 use Rattle.da65.specs.Choices.{Choice, choices, input_id}
@@ -15,7 +14,7 @@ abbrev pub long_in : Text → Option Text
 long_in [] = None
 long_in (c ∷ cs) = Some (c ∷ cs)
 
--- an option without a value is a flag; else it takes one value, as every argument of `clap`
+-- an option without a value is a flag; any other takes one value, as `clap`'s arguments do
 abbrev pub action_in : Text → Option ArgAction
 action_in [] = Some SetTrue
 action_in (c ∷ cs) = None
@@ -32,18 +31,14 @@ abbrev pub with_choices : App → List Choice → App
 with_choices a [] = a
 with_choices a (c ∷ cs) = with_choices (with_rule a (rule_for c)) cs
 
--- the command: each option of the table, and at most one input name
+-- the command: each option of the table, and an optional input name; each may be given once
 unfoldable pub app : App
 app = with_rule (with_choices bare choices) (new_rule input_id)
 
--- a command with one argument more
-abbrev pub AddsRule : {E : Type 0} → Command → Rule → Result Command E → Type 0
-AddsRule old r result = IfOk result (λ c. app_of c ≡ with_rule (app_of old) r)
-
--- the matches of the words
+-- the matches of the words, if they are accepted
 unfoldable pub rows_on : List Text → List Row
 rows_on words = matches_of app words
 
--- the faults of the words: none where they are accepted
+-- why the words are refused; empty if they are accepted
 unfoldable pub faults_on : List Text → Kinds
 faults_on words = fault_of app words

@@ -1,14 +1,20 @@
 -- Line groups: the items that stand on one line.
+--
+-- A group is one item, or several neighbouring items of one piece of a table: at most 8 bytes, 4 words or dbytes, 1 address, 1 return
+-- entry, or 16 bytes of text. The items of a piece are counted from 0 at its start, and again from 0 at each item that is defined by
+-- name; item k belongs to group k divided by the limit. So a group breaks before an item that is defined by name. An item of code and a
+-- leftover byte of a table stand alone.
 use Rattle.std.specs.Prelude.{◌≡◌, ◌↔◌, ◌⊎◌, ℕ, zero, suc, ◌+◌, ◌-◌, ◌*◌, ◌%◌, ◌<◌, ◌≤◌, ◌==◌, ◌&&◌, not, Bool, true, false, List, length, take, if◌then◌else◌}
 use Rattle.std.specs.List.{filter, list_any}
 use Rattle.info65.specs.declared.range.RangeType.{RangeType}
 use Rattle.info65.specs.declared.range.RangeType.TheVariants as role
 use Rattle.map65.specs.ImageView.{bytes_from, is_inside}
-use Rattle.map65.specs.Items.{item_len, size_at, unit_of}
+use Rattle.map65.specs.Items.{item_len, size_at}
 use Rattle.map65.specs.MapView.{MapView}
 use Rattle.map65.specs.Pieces.{AreOnePiece, IsFirst, is_joined}
-use Rattle.map65.specs.Roles.{is_skip, role_of}
-use Rattle.map65.specs.Steps.{addresses, left_at}
+use Rattle.map65.specs.Roles.{is_skip, role_of, unit_of}
+use Rattle.map65.specs.Spans.{addresses, left_at}
+use Rattle.da65.specs.BaseNames.{is_base, names_of}
 
 -- how many items a line takes at most
 abbrev pub limit_of : RangeType → ℕ
@@ -16,6 +22,8 @@ limit_of role.Code = 1
 limit_of role.ByteTable = 8
 limit_of role.WordTable = 4
 limit_of role.DbyteTable = 4
+limit_of role.AddrTable = 1
+limit_of role.RtsTable = 1
 limit_of role.TextTable = 16
 limit_of role.Skip = 1
 
@@ -23,13 +31,17 @@ limit_of role.Skip = 1
 abbrev pub is_whole : MapView → ℕ → Bool
 is_whole m a = item_len m a == unit_of (role_of m.info a)
 
--- how many items the line takes that begins with the item at an address: a byte that is left over stands alone
+-- how many items the line takes that begins with the item at an address: a leftover byte stands alone
 abbrev pub limit_at : MapView → ℕ → ℕ
 limit_at m a = if is_whole m a then limit_of (role_of m.info a) else 1
 
--- the item at an address may stand on the line of the one before it: it is of the same piece and whole
+-- the address is defined by name
+abbrev pub is_defined : MapView → ℕ → Bool
+is_defined m a = is_base (names_of m) a
+
+-- the item at an address may stand on the line of the one before it: it is of the same piece, whole, and not defined by name
 unfoldable pub goes_on : MapView → ℕ → Bool
-goes_on m a = is_joined m a && is_whole m a
+goes_on m a = is_joined m a && (is_whole m a && not (is_defined m a))
 
 -- how many bytes the items have that go on from an address, of n at most
 unfoldable pub more_at : MapView → ℕ → ℕ → ℕ
@@ -74,16 +86,21 @@ pub record IsGroupPlace (m : MapView) (k : ℕ) : Type 0 where
 unfoldable pub skips : MapView → Bool
 skips m = list_any (λ a. is_skip (role_of m.info a)) (addresses (length m.image.bytes) m.image.start)
 
--- ---- the law above
+-- ---- the law
 
--- the address is where item k of its piece begins, counted from 0, if all before it are of its table's unit
+-- the items of a piece are counted from here: the address is the first of the piece, or is defined by name
+abbrev pub IsStart : MapView → ℕ → Type 0
+IsStart m a = IsFirst m a ⊎ (is_defined m a ≡ true)
+
+-- the address is where item k begins, counted from the last such address, if all items before it are of their table's unit
 pub record IsItemOf (m : MapView) (a k : ℕ) : Type 0 where
   pub first : ℕ
-  pub is_first : IsFirst m first
+  pub is_start : IsStart m first
   pub one_piece : AreOnePiece m first a
+  pub unnamed : (x : ℕ) → first < x → x ≤ a → is_defined m x ≡ false
   pub place : a ≡ first + k * unit_of (role_of m.info a)
 
--- it is where item k of its piece begins, and the number of items that a line takes divides k
+-- it is where item k begins, and the number of items that a line takes divides k
 pub record BeginsFullLine (m : MapView) (a limit : ℕ) : Type 0 where
   pub index : ℕ
   pub item : IsItemOf m a index
@@ -94,7 +111,7 @@ abbrev pub BeginsLine : MapView → ℕ → RangeType → Type 0
 BeginsLine m a role.Code = Unit {0}
 BeginsLine m a r = (is_whole m a ≡ false) ⊎ BeginsFullLine m a (limit_of r)
 
--- A group begins at an address exactly where an item begins there that is of code, is left over, or is item k of its piece, and the
--- number of items that a line takes divides k.
+-- A group begins at an address exactly when an item begins there that is of code, is left over, or is item k of its piece, counted again
+-- from each item that is defined by name, and the number of items that a line takes divides k.
 abbrev pub GroupLaw : MapView → Type 0
 GroupLaw m = (a : ℕ) → (begins m a ≡ true) ↔ ((0 < item_len m a) × BeginsLine m a (role_of m.info a))

@@ -1,8 +1,11 @@
+pub mod BaseNames
 pub mod Choices
+pub mod Code
 pub mod Command
 pub mod Groups
 pub mod Help
 pub mod Instructions
+pub mod KnownNames
 pub mod Lines
 pub mod Listing
 pub mod NeededFiles
@@ -15,3 +18,4 @@ pub mod Running
 pub mod Shapes
 pub mod Statements
 pub mod Usage
+pub mod ListingRows

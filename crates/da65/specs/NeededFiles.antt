@@ -1,4 +1,4 @@
--- The names of the files that a run asks for.
+-- The names of the files that a run needs.
 use Rattle.std.specs.Prelude.{[], None, Result, Ok, Err}
 use Rattle.info65.specs.Views.{InfoView}
 use Rattle.info65.specs.declared.fault.InfoFault.{InfoFault}
@@ -11,7 +11,7 @@ nothing = record { input = None; output = None; includes = [] }
 abbrev pub needs_of : InfoView → NeedsView
 needs_of i = record { input = i.settings.input; output = i.settings.output; includes = [] }
 
--- the names, or nothing where the information file is refused
+-- the names; none if the information file is refused
 abbrev pub needs_in : Result InfoView InfoFault → NeedsView
 needs_in (Ok i) = needs_of i
 needs_in (Err e) = nothing

@@ -1,7 +1,7 @@
--- What a contract sees of the names that a run asks for: lists of bytes.
+-- The names of the files that a run needs, as contracts see them: lists of bytes.
 use Rattle.std.specs.Prelude.{ℕ, List, Option}
 
--- the names of the files that a run asks for
+-- an input name, an output name, and the names of the include files in the order of their groups
 pub record NeedsView : Type 0 where
   pub input : Option (List ℕ)
   pub output : Option (List ℕ)

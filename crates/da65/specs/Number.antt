@@ -1,15 +1,12 @@
 -- Numbers as they are written on the command line.
-use Rattle.std.specs.Prelude.{ℕ, List, Result, Ok, Err, Bool, ◌||◌, drop, codes, nat_eq, nat_le, length, ◌==◌, if◌then◌else◌}
-use Rattle.std.specs.List.{list_all, starts_with}
-use Rattle.std.specs.Char.{is_digit}
+use Rattle.std.specs.Prelude.{ℕ, List, Result, Ok, Err, ◌||◌, drop, codes, nat_eq, nat_le, length, ◌==◌, if◌then◌else◌}
+use Rattle.std.specs.List.{starts_with}
 use Rattle.std.specs.Str.Parse.{digits_value}
+use Rattle.info65.specs.Lexemes.{are_digits}
 use Rattle.da65.specs.declared.usage_fault.UsageFault.{UsageFault}
 use Rattle.da65.specs.declared.usage_fault.UsageFault.TheVariants.{BadNumber, OutOfRange}
 
-abbrev pub are_digits : ℕ → List ℕ → Bool
-are_digits radix ds = list_all (λ d. is_digit d radix) ds
-
--- the number that the digits write; without a digit it is malformed, and so with any other byte
+-- the number that the digits write, at most `most`; no digit, or any other byte, is a bad number
 unfoldable pub number_in : ℕ → ℕ → List ℕ → Result ℕ UsageFault
 number_in radix most ds =
     if length ds == 0 then Err BadNumber

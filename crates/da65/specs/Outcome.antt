@@ -1,4 +1,4 @@
--- What a run gives, as a function of its options, its information file and its input.
+-- What a run writes and returns, as a function of its options, its information file and its input.
 use Rattle.std.specs.Prelude.{ℕ, Bool, if◌then◌else◌, List, [], ◌∷◌, ◌++◌, codes, decimal, is_some, Result, Ok, Err}
 use Rattle.info65.specs.Faults.{fault_text}
 use Rattle.info65.specs.Reader.{information}
@@ -28,7 +28,7 @@ info_message fault = codes "da65: info:" ++ decimal fault.line ++ codes ": " ++ 
 unfoldable pub no_input_message : List ℕ
 no_input_message = codes "da65: no input file" ++ 10 ∷ []
 
--- why an input gives no image; want of memory is no refusal and has no message
+-- why an input is refused; running out of memory is no refusal and has no message
 unfoldable pub image_message : ImageFault → List ℕ
 image_message Read = codes "da65: cannot read the input" ++ 10 ∷ []
 image_message Short = codes "da65: input is too short" ++ 10 ∷ []
@@ -46,8 +46,8 @@ warnings m = if skips m then skipped_warning else []
 -- ---- the outcome
 
 -- a refusal: no listing, and one message
-abbrev pub refused : List ℕ → Outcome
-refused message = record { listing = []; messages = message; status = Refused }
+abbrev pub refusal_with : List ℕ → Outcome
+refusal_with message = record { listing = []; messages = message; status = Refused }
 
 -- the listing of a map, and the warnings that apply
 abbrev pub done : MapView → Outcome
@@ -55,18 +55,18 @@ done m = record { listing = text_of (lines_of m); messages = warnings m; status 
 
 abbrev pub outcome_by_image : InfoView → Result ImageView ImageFault → Outcome
 outcome_by_image i (Ok image) = done (record { info = i; image = image })
-outcome_by_image i (Err fault) = refused (image_message fault)
+outcome_by_image i (Err fault) = refusal_with (image_message fault)
 
--- without an input name a refusal; else by the image
+-- a refusal without an input name, else by the image
 abbrev pub outcome_by_input : InfoView → List ℕ → Bool → Outcome
 outcome_by_input i bytes failed =
-    if is_some i.settings.input then outcome_by_image i (image_of i.settings bytes failed) else refused no_input_message
+    if is_some i.settings.input then outcome_by_image i (image_of i.settings bytes failed) else refusal_with no_input_message
 
 abbrev pub outcome_by_info : Result InfoView InfoFault → List ℕ → Bool → Outcome
 outcome_by_info (Ok i) bytes failed = outcome_by_input i bytes failed
-outcome_by_info (Err fault) bytes failed = refused (info_message fault)
+outcome_by_info (Err fault) bytes failed = refusal_with (info_message fault)
 
--- The outcome for these options, an information file of these bytes, and an input of these bytes whose reader failed or not
--- within what is asked of it.
+-- The outcome for these options, the bytes of the information file, and the bytes of the input. `failed` says whether a read failed
+-- among those that are asked of the input.
 abbrev pub outcome_of : OptionsView → List ℕ → List ℕ → Bool → Outcome
 outcome_of options info bytes failed = outcome_by_info (information options info) bytes failed

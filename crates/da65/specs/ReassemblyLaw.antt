@@ -1,5 +1,5 @@
 -- The listing of an image, assembled from the image's start, gives the image's bytes.
-use Rattle.std.specs.Prelude.{◌≡◌, ◌↔◌, ℕ, ◌+◌, ◌<◌, ◌≤◌, Bool, true, false, List, [], ◌∷◌, ◌++◌, length, map, take, codes, Option, Some, None, Ok}
+use Rattle.std.specs.Prelude.{◌≡◌, ◌↔◌, ℕ, ◌+◌, ◌-◌, ◌<◌, ◌≤◌, Bool, true, false, List, [], ◌∷◌, length, map, take, Option, Some, None, Ok}
 use Rattle.isa65.specs.Cpu.{table_of}
 use Rattle.isa65.specs.Opcodes.{Table, encoded}
 use Rattle.isa65.specs.declared.cpu.Cpu.{Cpu}
@@ -7,37 +7,62 @@ use Rattle.isa65.specs.declared.mode.Mode.{Mode}
 use Rattle.isa65.specs.declared.mode.Mode.TheVariants.{Imm, Zp, Zpx, Zpy, Abs, Absx, Absy, Ind, Indx, Indy, Zpind, Absindx, Rel, Zprel}
 use Rattle.isa65.specs.declared.op.Op.{Op}
 use Rattle.stmt65.specs.Views as view
-use Rattle.stmt65.specs.Views.{OperandsView, StatementView}
-use Rattle.stmt65.specs.Said.{Instr, Said}
-use Rattle.stmt65.specs.SaidBack.{value_said, form_said, statement_said}
-use Rattle.stmt65.specs.Symbols.{Definition}
-use Rattle.stmt65.specs.Coding.{Field, Fixed, Single, ZeroPage, LowFirst, Distance, coding, distance, is_near}
-use Rattle.stmt65.specs.Meaning.{State, fault_of, bytes_of, after, meaning, meaning_of}
+use Rattle.stmt65.specs.Views.{OperandsView}
+use Rattle.stmt65.specs.SourceLine.{Instr, NameValue, SourceLine}
+use Rattle.stmt65.specs.declared.source_line.Minus.TheVariants.{One}
+use Rattle.stmt65.specs.Printed.{source_value, source_form, source_line, with_label}
+use Rattle.stmt65.specs.Symbols.{Definition, value_in}
+use Rattle.stmt65.specs.Coding.{Fragment, Fixed, Single, ZeroPage, LowFirst, Distance, coding, distance, is_near}
+use Rattle.stmt65.specs.Meaning.{State, fault_of, bytes_of, after, final, initial, meaning, meaning_of}
+use Rattle.info65.specs.Names as given
 use Rattle.info65.specs.declared.range.RangeType.{RangeType}
-use Rattle.map65.specs.ImageView.{AreBytes, IsPlaced, end_of}
+use Rattle.map65.specs.ImageView.{AreBytes, ImageView, IsPlaced, end_of}
 use Rattle.map65.specs.MapView.{MapView, opcodes}
+use Rattle.map65.specs.Names.{Base}
 use Rattle.map65.specs.Roles.{role_of}
-use Rattle.da65.specs.Groups.{begins, group_addresses, group_bytes, group_len, skips}
+use Rattle.map65.specs.Targets.{target_of, word_of}
+use Rattle.da65.specs.BaseNames.{AreSound, Names, base_name, is_base, names_of}
+use Rattle.da65.specs.Groups.{begins, group_bytes, group_len, skips}
 use Rattle.da65.specs.Instructions.{instruction_in, size_of}
-use Rattle.da65.specs.Listing.{lines_of, text_of}
+use Rattle.da65.specs.KnownNames.{KnowsAll, KnowsConstants, definition_of, definitions_of}
+use Rattle.da65.specs.Listing.{ListingLine, lines_of, listing, text_of}
 use Rattle.da65.specs.Shapes.{IsGroupOf}
-use Rattle.da65.specs.Statements.{is_forced, operands_of, statement_at, statement_for, statement_in, target_of}
+use Rattle.da65.specs.Statements.{address_expr, constant_base, is_forced, operands_of, statement_for, statement_in, zero_page_expr}
 
 -- ---- what a listing says
 
-abbrev pub header_statements : Cpu → List StatementView
-header_statements cpu = view.remark (codes "da65 listing") ∷ view.blank ∷ view.set_cpu cpu ∷ view.blank ∷ []
-
--- the statements of a listing: its header, then one for each group
-unfoldable pub statements_of : MapView → List StatementView
-statements_of m = header_statements m.info.settings.cpu ++ map (statement_at m) (group_addresses m)
-
-abbrev pub reading_of_statement : StatementView → Option Said
-reading_of_statement s = Some (statement_said s)
+-- a line, as it is read
+abbrev pub reading_of_line : ListingLine → Option SourceLine
+reading_of_line l = Some (with_label l.label (source_line l.statement))
 
 -- what each line of a listing says
-abbrev pub readings_of : MapView → List (Option Said)
-readings_of m = map reading_of_statement (statements_of m)
+abbrev pub readings_of : MapView → List (Option SourceLine)
+readings_of m = map reading_of_line (listing m)
+
+-- ---- names
+
+-- The names of a map are such that a listing assembles back: no two bases share a text, each lies in the address space, and none after
+-- the address that it is for.
+abbrev pub NamesAreSound : Type 0
+NamesAreSound = (m : MapView) → IsPlaced m.image → AreBytes m.image.bytes → given.AreNames m.info.names → skips m ≡ false → AreSound m.image (names_of m)
+
+-- Each base is defined in the listing exactly once, and its value is its address.
+abbrev pub NamesAreDefinedOnce : Type 0
+NamesAreDefinedOnce = (m : MapView) (b : ℕ) → IsPlaced m.image → AreBytes m.image.bytes → given.AreNames m.info.names → skips m ≡ false
+    → is_base (names_of m) b ≡ true
+    → definitions_of (base_name (names_of m) b) (final (initial m.image.start) (readings_of m)).above ≡ definition_of (names_of m) b ∷ []
+
+-- ---- expressions
+
+-- an address by its name or as a number, an operand in the zero page, and an entry of a return table, which is the address before
+pub record HaveTheirValues (m : Names) (all : List Definition) : Type 0 where
+  pub address : (a : ℕ) → value_in all (source_value (address_expr m a)) ≡ Some a
+  pub zero_page : (a : ℕ) → value_in all (source_value (zero_page_expr m a)) ≡ Some a
+  pub return : (a : ℕ) (b : Base) → 0 < a → m.base_at a ≡ Some b → value_in all (NameValue b.text (a - b.address) One) ≡ Some (a - 1)
+
+-- Each expression has the address or the word that it stands for.
+abbrev pub ExpressionsHaveTheirValues : Type 0
+ExpressionsHaveTheirValues = (image : ImageView) (m : Names) (all : List Definition) → AreSound image m → KnowsAll m all → HaveTheirValues m all
 
 -- ---- instructions
 
@@ -45,55 +70,61 @@ readings_of m = map reading_of_statement (statements_of m)
 abbrev pub item_in : Table → List ℕ → List ℕ
 item_in t bytes = take (size_of (instruction_in t bytes)) bytes
 
--- what the bytes behind the opcode stand for, in each mode
-abbrev pub fields_in : Mode → OperandsView → List Field
-fields_in Imm (view.one e) = Single (value_said e) ∷ []
-fields_in Zp (view.one e) = ZeroPage true (value_said e) ∷ []
-fields_in Zpx (view.one e) = ZeroPage true (value_said e) ∷ []
-fields_in Zpy (view.one e) = ZeroPage true (value_said e) ∷ []
-fields_in Abs (view.one e) = LowFirst (value_said e) ∷ []
-fields_in Absx (view.one e) = LowFirst (value_said e) ∷ []
-fields_in Absy (view.one e) = LowFirst (value_said e) ∷ []
-fields_in Ind (view.one e) = LowFirst (value_said e) ∷ []
-fields_in Indx (view.one e) = ZeroPage true (value_said e) ∷ []
-fields_in Indy (view.one e) = ZeroPage true (value_said e) ∷ []
-fields_in Zpind (view.one e) = ZeroPage true (value_said e) ∷ []
-fields_in Absindx (view.one e) = LowFirst (value_said e) ∷ []
-fields_in Rel (view.one e) = Distance (value_said e) ∷ []
-fields_in Zprel (view.two e f) = ZeroPage true (value_said e) ∷ Distance (value_said f) ∷ []
-fields_in _ _ = []
+-- what the bytes after the opcode stand for, in each mode
+abbrev pub fragments_in : Mode → OperandsView → List Fragment
+fragments_in Imm (view.one e) = Single (source_value e) ∷ []
+fragments_in Zp (view.one e) = ZeroPage (source_value e) ∷ []
+fragments_in Zpx (view.one e) = ZeroPage (source_value e) ∷ []
+fragments_in Zpy (view.one e) = ZeroPage (source_value e) ∷ []
+fragments_in Abs (view.one e) = LowFirst (source_value e) ∷ []
+fragments_in Absx (view.one e) = LowFirst (source_value e) ∷ []
+fragments_in Absy (view.one e) = LowFirst (source_value e) ∷ []
+fragments_in Ind (view.one e) = LowFirst (source_value e) ∷ []
+fragments_in Indx (view.one e) = ZeroPage (source_value e) ∷ []
+fragments_in Indy (view.one e) = ZeroPage (source_value e) ∷ []
+fragments_in Zpind (view.one e) = ZeroPage (source_value e) ∷ []
+fragments_in Absindx (view.one e) = LowFirst (source_value e) ∷ []
+fragments_in Rel (view.one e) = Distance (source_value e) ∷ []
+fragments_in Zprel (view.two e f) = ZeroPage (source_value e) ∷ Distance (source_value f) ∷ []
+fragments_in _ _ = []
 
--- written with `a:` or without, the instruction is coded by an opcode of its own mnemonic and mode, with the fields of that mode
+-- written with `a:` or without, the instruction is coded by an opcode of its own mnemonic and mode, with the fragments of that mode
 pub record CodesInMode (cpu : Cpu) (above : List Definition) (op : Op) (absolute : Bool) (os : OperandsView) : Type 0 where
   pub opcode : ℕ
   pub is_opcode : encoded (table_of cpu) op.mnemonic op.mode ≡ Some opcode
-  pub coded : coding cpu above (Instr op.mnemonic (form_said op.mode absolute os)) ≡ Some (Fixed opcode ∷ fields_in op.mode os)
+  pub coded : coding cpu above (Instr op.mnemonic (source_form op.mode absolute os)) ≡ Some (Fixed opcode ∷ fragments_in op.mode os)
 
 -- bytes that begin with an instruction whose operands can be written
-pub record IsWritten (t : Table) (a : ℕ) (bytes : List ℕ) (op : Op) (os : OperandsView) : Type 0 where
+pub record IsWritten (m : Names) (t : Table) (a : ℕ) (bytes : List ℕ) (op : Op) (os : OperandsView) : Type 0 where
   pub are_bytes : AreBytes bytes
   pub begins : instruction_in t bytes ≡ Some op
-  pub has : operands_of op.mode a bytes ≡ Some os
+  pub has : operands_of m op.mode a bytes ≡ Some os
 
--- The statement of an item is its instruction, where that can be written.
+-- The statement of an item is its instruction, if that can be written.
 abbrev pub WrittenIsInstruction : Type 0
-WrittenIsInstruction = (t : Table) (a : ℕ) (bytes : List ℕ) (op : Op) (os : OperandsView)
-    → IsWritten t a bytes op os → statement_in t a bytes ≡ view.instr op (is_forced t op bytes) os
+WrittenIsInstruction = (m : Names) (t : Table) (a : ℕ) (bytes : List ℕ) (op : Op) (os : OperandsView)
+    → IsWritten m t a bytes op os → statement_in m t a bytes ≡ view.instr op (is_forced t op bytes) os
 
--- Else it is the item's bytes: of an undefined and a cut opcode, and of an instruction whose target leaves the address space.
+-- Otherwise it is the item's bytes: of an undefined and a cut opcode, and of an instruction whose target leaves the address space.
 abbrev pub UnwrittenIsBytes : Type 0
-UnwrittenIsBytes = (t : Table) (a : ℕ) (bytes : List ℕ) → AreBytes bytes → ((op : Op) (os : OperandsView) → IsWritten t a bytes op os → ⊥)
-    → statement_in t a bytes ≡ view.bytes (item_in t bytes)
+UnwrittenIsBytes = (m : Names) (t : Table) (a : ℕ) (bytes : List ℕ) → AreBytes bytes → ((op : Op) (os : OperandsView) → IsWritten m t a bytes op os → ⊥)
+    → statement_in m t a bytes ≡ view.bytes (item_in t bytes)
 
--- Each instruction is coded in the mode that it was decoded from: zero page or absolute is chosen back.
+-- Each instruction is coded in the mode that it was decoded from, below the constant lines: zero page or absolute is chosen back.
 abbrev pub ModeIsChosenBack : Type 0
-ModeIsChosenBack = (cpu : Cpu) (above : List Definition) (a : ℕ) (bytes : List ℕ) (op : Op) (os : OperandsView)
-    → IsWritten (table_of cpu) a bytes op os → CodesInMode cpu above op (is_forced (table_of cpu) op bytes) os
+ModeIsChosenBack = (image : ImageView) (m : Names) (p : ℕ → Bool) (cpu : Cpu) (above : List Definition) (a : ℕ) (bytes : List ℕ) (op : Op) (os : OperandsView)
+    → AreSound image m → KnowsConstants m p above → IsWritten m (table_of cpu) a bytes op os → CodesInMode cpu above op (is_forced (table_of cpu) op bytes) os
 
--- `a:` stands exactly where without it another mode would be taken.
+-- an address without a name, or with one whose base a constant line defines: an assembler knows whether it lies in the zero page
+abbrev pub HasKnownSize : Names → ℕ → Type 0
+HasKnownSize m a = constant_base m (m.base_at a) ≡ m.base_at a
+
+-- `a:` stands exactly where without it another mode would be taken, unless the operand goes by the name of a label, which is never taken
+-- for an address in the zero page.
 abbrev pub ForcedWhereNeeded : Type 0
-ForcedWhereNeeded = (cpu : Cpu) (above : List Definition) (a : ℕ) (bytes : List ℕ) (op : Op) (os : OperandsView)
-    → IsWritten (table_of cpu) a bytes op os → CodesInMode cpu above op false os ↔ (is_forced (table_of cpu) op bytes ≡ false)
+ForcedWhereNeeded = (image : ImageView) (m : Names) (p : ℕ → Bool) (cpu : Cpu) (above : List Definition) (a : ℕ) (bytes : List ℕ) (op : Op) (os : OperandsView)
+    → AreSound image m → KnowsConstants m p above → IsWritten m (table_of cpu) a bytes op os → HasKnownSize m (word_of bytes)
+    → CodesInMode cpu above op false os ↔ (is_forced (table_of cpu) op bytes ≡ false)
 
 -- A target that is written lies in the address space and in range, and its distance is the byte that was decoded.
 abbrev pub TargetIsInRange : Type 0
@@ -102,16 +133,18 @@ TargetIsInRange = (next b target : ℕ) → next ≤ 65536 → b < 256 → targe
 
 -- ---- items of code
 
--- in this state, whatever a text defines besides, a line has no fault, gives the bytes, and leads to the address behind them
-pub record GivesBytes (all : List Definition) (s : State) (said : Said) (bytes : List ℕ) : Type 0 where
-  pub no_fault : fault_of all s (Some said) ≡ None
-  pub gives : bytes_of all s (Some said) ≡ bytes
-  pub leads : after s (Some said) ≡ record { at = s.at + length bytes; cpu = s.cpu; above = s.above }
+-- in this state, whatever a text defines besides, a line has no fault, gives the bytes, and leads to the address after them
+pub record GivesBytes (all : List Definition) (s : State) (source : SourceLine) (bytes : List ℕ) : Type 0 where
+  pub no_fault : fault_of all s (Some source) ≡ None
+  pub gives : bytes_of all s (Some source) ≡ bytes
+  pub leads : after s (Some source) ≡ record { at = s.at + length bytes; cpu = s.cpu; above = s.above }
 
--- The statement of each item of code gives the item's bytes: of an instruction, and of a cut, an undefined and one whose target leaves the address space.
+-- The statement of each item of code gives the item's bytes, below the constant lines in a text that defines all names: of an instruction,
+-- and of a cut, an undefined and one whose target leaves the address space.
 abbrev pub ItemGivesItsBytes : Type 0
-ItemGivesItsBytes = (all : List Definition) (s : State) (bytes : List ℕ) → AreBytes bytes → 0 < length bytes → s.at + length bytes ≤ 65536
-    → GivesBytes all s (statement_said (statement_in (table_of s.cpu) s.at bytes)) (item_in (table_of s.cpu) bytes)
+ItemGivesItsBytes = (image : ImageView) (m : Names) (p : ℕ → Bool) (all : List Definition) (s : State) (bytes : List ℕ)
+    → AreSound image m → KnowsAll m all → KnowsConstants m p s.above → AreBytes bytes → 0 < length bytes → s.at + length bytes ≤ 65536
+    → GivesBytes all s (source_line (statement_in m (table_of s.cpu) s.at bytes)) (item_in (table_of s.cpu) bytes)
 
 -- ---- groups
 
@@ -126,19 +159,20 @@ pub record IsGroup (m : MapView) (a : ℕ) : Type 0 where
 abbrev pub GroupsAreGroups : Type 0
 GroupsAreGroups = (m : MapView) (a : ℕ) → begins m a ≡ true → IsGroup m a
 
--- The statement of each group gives the group's bytes.
+-- The statement of each group gives the group's bytes, below the constant lines in a text that defines all names.
 abbrev pub GroupGivesItsBytes : Type 0
-GroupGivesItsBytes = (all : List Definition) (s : State) (r : RangeType) (bytes : List ℕ) → AreBytes bytes → 0 < length bytes → s.at + length bytes ≤ 65536
-    → IsGroupOf (table_of s.cpu) r bytes → GivesBytes all s (statement_said (statement_for (table_of s.cpu) r s.at bytes)) bytes
+GroupGivesItsBytes = (image : ImageView) (m : Names) (p : ℕ → Bool) (all : List Definition) (s : State) (r : RangeType) (bytes : List ℕ)
+    → AreSound image m → KnowsAll m all → KnowsConstants m p s.above → AreBytes bytes → 0 < length bytes → s.at + length bytes ≤ 65536
+    → IsGroupOf (table_of s.cpu) r bytes → GivesBytes all s (source_line (statement_for m (table_of s.cpu) r s.at bytes)) bytes
 
 -- ---- the whole
 
 -- What the lines of a listing without skipped bytes say means, from the image's start, the image's bytes.
 abbrev pub ListingGivesImage : Type 0
-ListingGivesImage = (m : MapView) → IsPlaced m.image → AreBytes m.image.bytes → skips m ≡ false
+ListingGivesImage = (m : MapView) → IsPlaced m.image → AreBytes m.image.bytes → given.AreNames m.info.names → skips m ≡ false
     → meaning_of m.image.start (readings_of m) ≡ Ok m.image.bytes
 
 -- The text of such a listing means, from the image's start, the image's bytes.
 abbrev pub TextGivesImage : Type 0
-TextGivesImage = (m : MapView) → IsPlaced m.image → AreBytes m.image.bytes → skips m ≡ false
+TextGivesImage = (m : MapView) → IsPlaced m.image → AreBytes m.image.bytes → given.AreNames m.info.names → skips m ≡ false
     → meaning m.image.start (text_of (lines_of m)) ≡ Ok m.image.bytes

@@ -1,5 +1,10 @@
--- The statement of a group.
-use Rattle.std.specs.Prelude.{ℕ, ◌+◌, ◌-◌, ◌*◌, ◌&&◌, nat_le, nat_lt, Bool, if◌then◌else◌, List, length, slice_index, take, Option, Some, None, is_some}
+-- The statement of a group, with its operands by name.
+--
+-- An absolute operand and the target of a branch go by name if the address has one. An operand in the zero page goes by name only if a
+-- constant line defines the base of the name. Each entry of an address or return table goes by its target's name. Anything else is a
+-- number. `a:` stands before an absolute operand below $100 if the mnemonic has the zero-page mode that is written alike. An undefined or
+-- cut opcode, an instruction whose target leaves the address space, and a leftover byte are written as bytes.
+use Rattle.std.specs.Prelude.{ℕ, ◌+◌, ◌-◌, ◌&&◌, nat_lt, Bool, if◌then◌else◌, List, length, slice_index, take, Option, Some, None, is_some}
 use Rattle.std.specs.Option.{option_map}
 use Rattle.isa65.specs.Mode.{len_of}
 use Rattle.isa65.specs.Opcodes.{Table, sibling_in}
@@ -7,88 +12,127 @@ use Rattle.isa65.specs.declared.mode.Mode.{Mode}
 use Rattle.isa65.specs.declared.mode.Mode.TheVariants.{Imp, Acc, Imm, Zp, Zpx, Zpy, Abs, Absx, Absy, Ind, Indx, Indy, Zpind, Absindx, Rel, Zprel}
 use Rattle.isa65.specs.declared.op.Op.{Op}
 use Rattle.stmt65.specs.Views as view
-use Rattle.stmt65.specs.Views.{OperandsView, StatementView}
+use Rattle.stmt65.specs.Views.{ExprView, OperandsView, StatementView, TargetView}
 use Rattle.info65.specs.declared.range.RangeType.{RangeType}
 use Rattle.info65.specs.declared.range.RangeType.TheVariants as role
 use Rattle.map65.specs.MapView.{MapView, opcodes}
+use Rattle.map65.specs.Names.{Base}
 use Rattle.map65.specs.Roles.{role_of}
+use Rattle.map65.specs.Targets.{byte_of, entry_of, return_target, target_of, word_of}
+use Rattle.da65.specs.BaseNames.{Names, names_of}
 use Rattle.da65.specs.Groups.{group_bytes}
 use Rattle.da65.specs.Instructions.{instruction_in}
 
+-- ---- expressions
+
+-- a number; or the name of a base, and how far the address lies after it
+abbrev pub expr_from : ℕ → Option Base → ExprView
+expr_from a None = view.number a
+expr_from a (Some b) = view.name b.text (a - b.address)
+
+-- an address goes by its name, if it has one
+unfoldable pub address_expr : Names → ℕ → ExprView
+address_expr m a = expr_from a (m.base_at a)
+
+-- a base that a constant line defines, if this is one
+abbrev pub constant_base : Names → Option Base → Option Base
+constant_base m None = None
+constant_base m (Some b) = if m.has_constant b.address then Some b else None
+
+-- An operand in the zero page goes by name only if a constant line defines its base: otherwise an assembler takes it for an absolute one.
+unfoldable pub zero_page_expr : Names → ℕ → ExprView
+zero_page_expr m a = expr_from a (constant_base m (m.base_at a))
+
 -- ---- operands, of an instruction's bytes
 
--- the byte behind the opcode, and the word there, low byte first
-abbrev pub byte_of : List ℕ → ℕ
-byte_of bytes = slice_index bytes 1
+abbrev pub one : ExprView → Option OperandsView
+one e = Some (view.one e)
 
-abbrev pub word_of : List ℕ → ℕ
-word_of bytes = slice_index bytes 1 + 256 * slice_index bytes 2
+-- The operands of an instruction in a mode at an address: none if its target leaves the address space.
+unfoldable pub operands_of : Names → Mode → ℕ → List ℕ → Option OperandsView
+operands_of m Imp a bytes = Some view.none
+operands_of m Acc a bytes = Some view.none
+operands_of m Imm a bytes = one (view.number (byte_of bytes))
+operands_of m Zp a bytes = one (zero_page_expr m (byte_of bytes))
+operands_of m Zpx a bytes = one (zero_page_expr m (byte_of bytes))
+operands_of m Zpy a bytes = one (zero_page_expr m (byte_of bytes))
+operands_of m Abs a bytes = one (address_expr m (word_of bytes))
+operands_of m Absx a bytes = one (address_expr m (word_of bytes))
+operands_of m Absy a bytes = one (address_expr m (word_of bytes))
+operands_of m Ind a bytes = one (address_expr m (word_of bytes))
+operands_of m Indx a bytes = one (zero_page_expr m (byte_of bytes))
+operands_of m Indy a bytes = one (zero_page_expr m (byte_of bytes))
+operands_of m Zpind a bytes = one (zero_page_expr m (byte_of bytes))
+operands_of m Absindx a bytes = one (address_expr m (word_of bytes))
+operands_of m Rel a bytes = option_map (λ t. view.one (address_expr m t)) (target_of (a + 2) (byte_of bytes))
+operands_of m Zprel a bytes = option_map (λ t. view.two (zero_page_expr m (byte_of bytes)) (address_expr m t)) (target_of (a + 3) (slice_index bytes 2))
 
--- The target of a branch: the address behind the instruction plus a signed byte, where that lies in $0000 to $FFFF. A byte
--- below $80 leads forward; any other leads back, by what it lacks of $100.
-unfoldable pub target_of : ℕ → ℕ → Option ℕ
-target_of next b =
-    if nat_lt b 128 then (if nat_lt (next + b) 65536 then Some (next + b) else None)
-    else (if nat_le (256 - b) next then Some (next - (256 - b)) else None)
-
-abbrev pub one : ℕ → Option OperandsView
-one n = Some (view.one (view.number n))
-
--- The operands as numbers, of an instruction in a mode at an address: none where its target leaves the address space.
-unfoldable pub operands_of : Mode → ℕ → List ℕ → Option OperandsView
-operands_of Imp a bytes = Some view.none
-operands_of Acc a bytes = Some view.none
-operands_of Imm a bytes = one (byte_of bytes)
-operands_of Zp a bytes = one (byte_of bytes)
-operands_of Zpx a bytes = one (byte_of bytes)
-operands_of Zpy a bytes = one (byte_of bytes)
-operands_of Abs a bytes = one (word_of bytes)
-operands_of Absx a bytes = one (word_of bytes)
-operands_of Absy a bytes = one (word_of bytes)
-operands_of Ind a bytes = one (word_of bytes)
-operands_of Indx a bytes = one (byte_of bytes)
-operands_of Indy a bytes = one (byte_of bytes)
-operands_of Zpind a bytes = one (byte_of bytes)
-operands_of Absindx a bytes = one (word_of bytes)
-operands_of Rel a bytes = option_map (λ t. view.one (view.number t)) (target_of (a + 2) (byte_of bytes))
-operands_of Zprel a bytes = option_map (λ t. view.two (view.number (byte_of bytes)) (view.number t)) (target_of (a + 3) (slice_index bytes 2))
-
--- `a:` stands before an absolute operand below $100 where the mnemonic has the zero-page mode that is written alike, which an
+-- `a:` stands before an absolute operand below $100 if the mnemonic has the zero-page mode that is written alike, which an
 -- assembler would take
 abbrev pub is_forced : Table → Op → List ℕ → Bool
 is_forced t op bytes = is_some (sibling_in t op) && nat_lt (word_of bytes) 256
 
--- ---- the statement
+-- ---- code
 
 abbrev pub bytes_statement : ℕ → List ℕ → StatementView
 bytes_statement count bytes = view.bytes (take count bytes)
 
--- an instruction with its operands; where they can't be written, its bytes
+-- an instruction with its operands; if they can't be written, its bytes
 abbrev pub written : Table → Op → List ℕ → Option OperandsView → StatementView
 written t op bytes (Some os) = view.instr op (is_forced t op bytes) os
 written t op bytes None = bytes_statement (len_of op.mode) bytes
 
-abbrev pub statement_of : Table → ℕ → List ℕ → Option Op → StatementView
-statement_of t a bytes (Some op) = written t op bytes (operands_of op.mode a bytes)
-statement_of t a bytes None = bytes_statement 1 bytes
+abbrev pub statement_of : Names → Table → ℕ → List ℕ → Option Op → StatementView
+statement_of m t a bytes (Some op) = written t op bytes (operands_of m op.mode a bytes)
+statement_of m t a bytes None = bytes_statement 1 bytes
 
 -- the statement of code that has these bytes: its instruction, or its bytes
-unfoldable pub statement_in : Table → ℕ → List ℕ → StatementView
-statement_in t a bytes = statement_of t a bytes (instruction_in t bytes)
+unfoldable pub statement_in : Names → Table → ℕ → List ℕ → StatementView
+statement_in m t a bytes = statement_of m t a bytes (instruction_in t bytes)
 
--- words where there are at least two bytes, else the byte that is left over
+-- ---- entries of tables
+
+-- the name of an address
+abbrev pub target_by : ℕ → Base → TargetView
+target_by a b = record { name = b.text; offset = a - b.address }
+
+-- an entry by the name of its target, or as a number
+abbrev pub addr_from : List ℕ → ℕ → Option Base → StatementView
+addr_from bytes a None = view.words bytes
+addr_from bytes a (Some b) = view.addr (target_by a b)
+
+unfoldable pub address_entry : Names → List ℕ → StatementView
+address_entry m bytes = addr_from bytes (entry_of bytes) (m.base_at (entry_of bytes))
+
+abbrev pub rts_from : List ℕ → ℕ → Option Base → StatementView
+rts_from bytes a None = view.words bytes
+rts_from bytes a (Some b) = view.rts (Some (target_by a b))
+
+abbrev pub rts_to : Names → List ℕ → Option ℕ → StatementView
+rts_to m bytes None = view.rts None
+rts_to m bytes (Some a) = rts_from bytes a (m.base_at a)
+
+-- the entry $FFFF leads to no address
+unfoldable pub return_entry : Names → List ℕ → StatementView
+return_entry m bytes = rts_to m bytes (return_target (entry_of bytes))
+
+-- ---- the statement
+
+-- words if there are at least two bytes, else the leftover byte
 abbrev pub words_or_byte : StatementView → List ℕ → StatementView
 words_or_byte table bytes = if nat_lt (length bytes) 2 then view.bytes bytes else table
 
 -- The statement of a group of a role, at an address, that has these bytes. Skipped bytes have none.
-unfoldable pub statement_for : Table → RangeType → ℕ → List ℕ → StatementView
-statement_for t role.Code a bytes = statement_in t a bytes
-statement_for t role.ByteTable a bytes = view.bytes bytes
-statement_for t role.WordTable a bytes = words_or_byte (view.words bytes) bytes
-statement_for t role.DbyteTable a bytes = words_or_byte (view.dbyts bytes) bytes
-statement_for t role.TextTable a bytes = view.text bytes
-statement_for t role.Skip a bytes = view.blank
+unfoldable pub statement_for : Names → Table → RangeType → ℕ → List ℕ → StatementView
+statement_for m t role.Code a bytes = statement_in m t a bytes
+statement_for m t role.ByteTable a bytes = view.bytes bytes
+statement_for m t role.WordTable a bytes = words_or_byte (view.words bytes) bytes
+statement_for m t role.DbyteTable a bytes = words_or_byte (view.dbyts bytes) bytes
+statement_for m t role.AddrTable a bytes = words_or_byte (address_entry m bytes) bytes
+statement_for m t role.RtsTable a bytes = words_or_byte (return_entry m bytes) bytes
+statement_for m t role.TextTable a bytes = view.text bytes
+statement_for m t role.Skip a bytes = view.blank
 
 -- The statement of the group that begins at an address.
 abbrev pub statement_at : MapView → ℕ → StatementView
-statement_at m a = statement_for (opcodes m) (role_of m.info a) a (group_bytes m a)
+statement_at m a = statement_for (names_of m) (opcodes m) (role_of m.info a) a (group_bytes m a)

@@ -1,4 +1,4 @@
--- The options that the words give.
+-- The options of a command line.
 use Rattle.std.specs.Prelude.{◌≡◌, ◌==◌, Bool, false, List, Option, Some, None, Result, Ok, Err, codes, length, if◌then◌else◌}
 use Rattle.std.specs.Str.{bytes_eq}
 use Rattle.std.specs.Option.{option_map_or}
@@ -6,18 +6,18 @@ use Rattle.clap.specs.Words.{Row, Text, first_of}
 use Rattle.isa65.specs.Cpu.{cpu_named}
 use Rattle.isa65.specs.declared.cpu.Cpu.{Cpu}
 use Rattle.info65.specs.Views.{OptionsView}
-use Rattle.da65.specs.Choices.{cpu_choice, help_choice, info_choice, input_id, output_choice, start_choice, version_choice}
+use Rattle.da65.specs.Choices.{cpu_choice, help_choice, hexoffs_choice, info_choice, input_id, output_choice, start_choice, version_choice}
 use Rattle.da65.specs.Command.{faults_on, rows_on}
 use Rattle.da65.specs.Number.{address_in}
 use Rattle.da65.specs.declared.usage_fault.UsageFault.{UsageFault}
 use Rattle.da65.specs.declared.usage_fault.UsageFault.TheVariants.{Words, OutOfRange, Memory}
 
--- a refusal is that of the definition, unless memory was refused
+-- the fault is the one of the definition, unless memory ran out
 abbrev pub Fails : {A : Type 0} → UsageFault → Result A UsageFault → Type 0
 Fails Memory defined = Unit {0}
 Fails e defined = defined ≡ Err e
 
--- what a call answers, seen by `seen`, is what the definition gives, unless memory was refused
+-- the result, seen by `seen`, is the one of the definition, unless memory ran out
 abbrev pub Gives : {X A : Type 0} → (X → A) → Result X UsageFault → Result A UsageFault → Type 0
 Gives seen (Ok x) defined = defined ≡ Ok (seen x)
 Gives seen (Err e) defined = Fails e defined
@@ -28,12 +28,12 @@ abbrev pub ◌>>=◌ : {A B : Type 0} → Result A UsageFault → (A → Result 
 (Ok x) >>= f = f x
 (Err e) >>= f = Err e
 
--- the value of an option, where it is given
+-- the value of an option, if it is given
 abbrev pub given : {A : Type 0} → (Text → Result A UsageFault) → Option Text → Result (Option A) UsageFault
 given read None = Ok None
 given read (Some text) = read text >>= λ x. Ok (Some x)
 
--- a flag is set where its value is `true`
+-- a flag is set if its value is `true`
 abbrev pub is_set : Text → List Row → Bool
 is_set id rows = option_map_or (λ t. bytes_eq t (codes "true")) (first_of id rows) false
 
@@ -45,7 +45,7 @@ known None = Err OutOfRange
 abbrev pub cpu_in : Text → Result Cpu UsageFault
 cpu_in text = known (cpu_named text)
 
--- the matches, where the words are accepted
+-- the matches, if the words are accepted
 unfoldable pub accepted : List Text → Result (List Row) UsageFault
 accepted words = if length (faults_on words) == 0 then Ok (rows_on words) else Err Words
 
@@ -60,6 +60,7 @@ options_in rows = do
     output = first_of output_choice.id rows;
     start = start;
     cpu = cpu;
+    hexoffs = is_set hexoffs_choice.id rows;
     help = is_set help_choice.id rows;
     version = is_set version_choice.id rows;
   })

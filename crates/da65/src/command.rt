@@ -4,12 +4,13 @@ ghost use Rattle.std.specs.Prelude.{◌≡◌, IfOk, map};
 ghost use Rattle.std.specs.String.{string_bytes};
 ghost use Rattle.clap.specs.Words.{FailsBy, app_of, found_of, new_rule, rows_of};
 ghost use Rattle.clap.specs.declared.builder.ArgAction.TheVariants.{SetTrue};
-ghost use Rattle.da65.specs.Command.{AddsRule, app, bare, faults_on, rows_on};
+ghost use Rattle.da65.specs.Code.CommandRules.{AddsRule};
+ghost use Rattle.da65.specs.Command.{app, bare, faults_on, rows_on};
 
 use clap::{Arg, ArgAction, ArgMatches, Command, Error};
 use std::alloc::{AllocError, Global};
 
-/// The matches of the words. The first word is the program's name.
+/// Reads the words. The first word is the program's name.
 pub(crate) fn matches_of_words<'a>(
     alloc: Global,
     words: &'a [String],
@@ -21,7 +22,7 @@ pub(crate) fn matches_of_words<'a>(
     command.try_get_matches_from(words)
 }
 
-// Each option of the table, in its order, and the input name.
+/// The options in the order of their table, and the input name.
 fn whole_command<'a>(alloc: Global) -> Result<Command<'a>, AllocError>
     ensures { IfOk result (λ c. app_of c ≡ app) }
 {
@@ -30,6 +31,7 @@ fn whole_command<'a>(alloc: Global) -> Result<Command<'a>, AllocError>
     let command = with_short(alloc, command, "output", 'o')?;
     let command = with_short_option(alloc, command, "start", 'S', "start-addr")?;
     let command = with_option(alloc, command, "cpu", "cpu")?;
+    let command = with_long_flag(alloc, command, "hexoffs", "hexoffs")?;
     let command = with_flag(alloc, command, "help", 'h', "help")?;
     let command = with_flag(alloc, command, "version", 'V', "version")?;
     let command = with_positional(alloc, command, "input")?;
@@ -87,6 +89,17 @@ fn with_flag<'a>(
     )
 }
 
+fn with_long_flag<'a>(
+    alloc: Global,
+    command: Command<'a>,
+    id: &'a str,
+    long: &'a str,
+) -> Result<Command<'a>, AllocError>
+    ensures { AddsRule command.entry (record (new_rule id.entry.now) { long = Some long.entry.now; action = Some SetTrue }) result }
+{
+    command.arg(Arg::new(alloc, id).long(long).action(ArgAction::SetTrue))
+}
+
 fn with_positional<'a>(
     alloc: Global,
     command: Command<'a>,
@@ -97,7 +110,7 @@ fn with_positional<'a>(
     command.arg(Arg::new(alloc, id))
 }
 
-// The program's name, with no help and no version of `clap`'s own.
+/// The program's name, without `clap`'s own help and version.
 fn bare_command<'a>(alloc: Global) -> Command<'a>
     ensures { app_of result ≡ bare }
 {

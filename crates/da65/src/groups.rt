@@ -1,18 +1,20 @@
 //! Line groups: the items that stand on one line.
 
 ghost use Rattle.std.specs.Prelude.{◌≡◌, ◌+◌, ◌<◌, ◌≤◌, true};
+ghost use Rattle.info65.specs.Names.{AreNames};
 ghost use Rattle.map65.specs.ImageView.{IsPlaced, end_of, is_inside};
 ghost use Rattle.map65.specs.Items.{item_len};
-ghost use Rattle.map65.specs.Pieces.{is_joined};
+ghost use Rattle.map65.specs.Pieces.{is_in_run};
 ghost use Rattle.map65.specs.Roles.{is_skip, role_at, role_of};
 ghost use Rattle.da65.specs.Groups.{goes_on, group_len, is_whole, limit_at, limit_of, more_at, skips};
 
+use crate::names::is_defined;
 use info65::RangeType;
 use map65::{Image, Map, unit_of};
 use std::alloc::Allocator;
 
 /// The number of addresses, $10000.
-const ADDRESSES: usize = 65_536;
+pub const ADDRESSES: usize = 65_536;
 
 /// How many items a line of this role takes at most.
 fn limit_of(role: RangeType) -> usize
@@ -20,7 +22,7 @@ fn limit_of(role: RangeType) -> usize
     ensures some { 1 ≤ result }
 {
     match role {
-        RangeType::Code | RangeType::Skip => 1,
+        RangeType::Code | RangeType::AddrTable | RangeType::RtsTable | RangeType::Skip => 1,
         RangeType::ByteTable => 8,
         RangeType::WordTable | RangeType::DbyteTable => 4,
         RangeType::TextTable => 16,
@@ -52,10 +54,10 @@ fn item_len<A: Allocator>(map: &Map<'_, A>, address: usize) -> usize
     }
 }
 
-/// Whether the address lies in the image and in the piece of the address before it.
-fn is_joined<A: Allocator>(map: &Map<'_, A>, address: usize) -> bool
+/// Whether the address lies in the run of the address before it.
+fn is_in_run<A: Allocator>(map: &Map<'_, A>, address: usize) -> bool
     requires { IsPlaced map.now.image }
-    ensures { result ≡ is_joined map.now address }
+    ensures { result ≡ is_in_run map.now address }
 {
     if address == 0 {
         return false;
@@ -79,27 +81,31 @@ fn is_whole<A: Allocator>(map: &Map<'_, A>, role: RangeType, address: usize) -> 
     item_len(map, address) == unit_of(role) as usize
 }
 
-/// Whether the item at an address may stand on the line of the one before it: it is of the same piece and
-/// whole.
-#[tactic(auto, unfolding(crate::specs::Groups::goes_on))]
+/// Whether the item at an address may stand on the line of the one before it: it is of the same piece,
+/// whole, and not defined by name. A given name that cuts a run defines its address, so that the run is
+/// looked at here, and not the piece.
 fn goes_on<A: Allocator>(map: &Map<'_, A>, address: usize) -> bool
-    requires { IsPlaced map.now.image }
+    requires placed { IsPlaced map.now.image }
+    requires names { AreNames map.now.info.names }
     ensures { result ≡ goes_on map.now address }
 {
     let Some(role) = role_of(map, address) else {
         return false;
     };
-    if is_joined(map, address) {
-        is_whole(map, role, address)
-    } else {
-        false
+    if !is_in_run(map, address) {
+        return false;
     }
+    if !is_whole(map, role, address) {
+        return false;
+    }
+    !is_defined(map, address as u16)
 }
 
 /// How many bytes the items have that go on from an address, of so many at most.
 #[tactic(auto, unfolding(crate::specs::Groups::more_at))]
 fn more_at<A: Allocator>(map: &Map<'_, A>, limit: usize, address: usize) -> usize
     requires placed { IsPlaced map.now.image }
+    requires names { AreNames map.now.info.names }
     requires inside { address ≤ end_of map.now.image }
     ensures bytes { result ≡ more_at map.now limit address }
     ensures fits { address + result ≤ end_of map.now.image }
@@ -135,6 +141,7 @@ fn limit_at<A: Allocator>(map: &Map<'_, A>, role: RangeType, address: usize) -> 
 #[tactic(auto, unfolding(crate::specs::Groups::group_len))]
 pub fn group_len<A: Allocator>(map: &Map<'_, A>, role: RangeType, address: usize) -> usize
     requires placed { IsPlaced map.now.image }
+    requires names { AreNames map.now.info.names }
     requires role { role_of map.now.info address ≡ role }
     requires begins { 0 < item_len map.now address }
     ensures len { result ≡ group_len map.now address }

@@ -3,7 +3,7 @@
 ghost use Rattle.std.specs.Prelude.{◌≡◌};
 ghost use Rattle.da65.specs.Help.{help_text, version_text};
 
-/// What `--help` prints: how the program is called, and a line for each option.
+/// What `--help` prints: the usage line, and a line for each option.
 pub fn help_text() -> &'static str
     ensures { result.now ≡ help_text }
 {
@@ -12,6 +12,7 @@ pub fn help_text() -> &'static str
      -o name                  output file\n  \
      -S, --start-addr addr    start address\n  \
      --cpu type               6502 or 65C02\n  \
+     --hexoffs                offsets in hexadecimal\n  \
      -h, --help               this text\n  \
      -V, --version            version\n"
 }

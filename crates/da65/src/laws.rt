@@ -1,15 +1,48 @@
-//! The laws of reassembly.
+//! The laws of the listing and of its reassembly.
 
 ghost use Rattle.map65.specs.MapView.{MapView};
 ghost use Rattle.da65.specs.Groups.{GroupLaw};
-ghost use Rattle.da65.specs.ReassemblyLaw.{WrittenIsInstruction, UnwrittenIsBytes, ModeIsChosenBack, ForcedWhereNeeded, TargetIsInRange, ItemGivesItsBytes, GroupsAreGroups, GroupGivesItsBytes, ListingGivesImage, TextGivesImage};
+ghost use Rattle.da65.specs.ListingRows.{WorkedListings};
+ghost use Rattle.da65.specs.ReassemblyLaw.{NamesAreSound, NamesAreDefinedOnce, ExpressionsHaveTheirValues, WrittenIsInstruction, UnwrittenIsBytes, ModeIsChosenBack, ForcedWhereNeeded, TargetIsInRange, ItemGivesItsBytes, GroupsAreGroups, GroupGivesItsBytes, ListingGivesImage, TextGivesImage};
 
-/// The statement of an item of code is its instruction, where that can be written.
+/// The worked examples have these listings.
+pub fn worked_listings()
+    ensures { WorkedListings }
+{}
+
+/// A group begins where an item begins that is of code, is left over, or is item k of its piece, counted
+/// again from each item that is defined by name, and the items of a line divide k.
+pub fn group_law()
+    ensures { (m : MapView) → GroupLaw m }
+{}
+
+/// The bytes of each group are one item of code, a line of a table of its role, or a leftover byte.
+pub fn groups_are_groups()
+    ensures { GroupsAreGroups }
+{}
+
+/// No two bases of a map share a text, each lies in the address space, and none after the address that it
+/// is for.
+pub fn names_are_sound()
+    ensures { NamesAreSound }
+{}
+
+/// Each base is defined in the listing exactly once, and its value is its address.
+pub fn names_are_defined_once()
+    ensures { NamesAreDefinedOnce }
+{}
+
+/// Each expression has the address or the word that it stands for.
+pub fn expressions_have_their_values()
+    ensures { ExpressionsHaveTheirValues }
+{}
+
+/// The statement of an item of code is its instruction, if that can be written.
 pub fn written_is_instruction()
     ensures { WrittenIsInstruction }
 {}
 
-/// Else it is the item's bytes.
+/// Otherwise it is the item's bytes.
 pub fn unwritten_is_bytes()
     ensures { UnwrittenIsBytes }
 {}
@@ -19,7 +52,8 @@ pub fn mode_is_chosen_back()
     ensures { ModeIsChosenBack }
 {}
 
-/// `a:` stands exactly where an assembler would take another mode without it.
+/// `a:` stands exactly where an assembler would take another mode without it, unless the operand goes by
+/// the name of a label.
 pub fn forced_where_needed()
     ensures { ForcedWhereNeeded }
 {}
@@ -34,22 +68,13 @@ pub fn item_gives_its_bytes()
     ensures { ItemGivesItsBytes }
 {}
 
-/// A group begins where an item begins that is of code, is left over, or is item k of its piece, and the items of a line divide k.
-pub fn group_law()
-    ensures { (m : MapView) → GroupLaw m }
-{}
-
-/// The bytes of each group are one item of code, a line of a table of its role, or a byte that is left over.
-pub fn groups_are_groups()
-    ensures { GroupsAreGroups }
-{}
-
 /// The statement of each group gives the group's bytes, without a fault.
 pub fn group_gives_its_bytes()
     ensures { GroupGivesItsBytes }
 {}
 
-/// What the listing of an image without skipped bytes says, assembled from the image's start, gives the image's bytes.
+/// What the listing of an image without skipped bytes says, assembled from the image's start, gives the
+/// image's bytes.
 pub fn listing_gives_image()
     ensures { ListingGivesImage }
 {}

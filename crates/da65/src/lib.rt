@@ -12,6 +12,7 @@ mod instructions;
 mod laws;
 mod lines;
 mod messages;
+mod names;
 mod needed_files;
 mod needing;
 mod number;
@@ -25,10 +26,12 @@ mod write;
 pub use help::{help_text, version_text};
 pub use info65::Options;
 pub use laws::{
-    forced_where_needed, group_gives_its_bytes, group_law, groups_are_groups, item_gives_its_bytes,
-    listing_gives_image, mode_is_chosen_back, target_is_in_range, text_gives_image,
-    unwritten_is_bytes, written_is_instruction,
+    expressions_have_their_values, forced_where_needed, group_gives_its_bytes, group_law,
+    groups_are_groups, item_gives_its_bytes, listing_gives_image, mode_is_chosen_back,
+    names_are_defined_once, names_are_sound, target_is_in_range, text_gives_image,
+    unwritten_is_bytes, worked_listings, written_is_instruction,
 };
+pub use lines::{Lines, write_lines};
 pub use map65::{DeviceFault, Sink, Source, Told};
 pub use needed_files::Needs;
 pub use needing::needs;
@@ -36,3 +39,4 @@ pub use outcome::{RunFault, Status};
 pub use running::{File, run};
 pub use usage::options_of;
 pub use usage_fault::UsageFault;
+pub use write::write_whole;

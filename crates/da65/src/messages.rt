@@ -29,7 +29,7 @@ fn put_decimal(out: &mut Message, number: u32)
     put(out, buffer.format(number).as_bytes());
 }
 
-/// The message of an information file that is refused: the line, and the text of the fault.
+/// The message of a refused information file: the line, and the text of the fault.
 #[tactic(auto, unfolding(crate::specs::Outcome::info_message))]
 pub fn info_message(fault: InfoFault) -> Message
     ensures { result.items ≡ info_message fault }
@@ -43,7 +43,7 @@ pub fn info_message(fault: InfoFault) -> Message
     out
 }
 
-/// The message where no input is named.
+/// The message if no input is named.
 #[tactic(auto, unfolding(crate::specs::Outcome::no_input_message))]
 pub fn no_input_message() -> &'static [u8]
     ensures { result.now ≡ no_input_message }
@@ -51,7 +51,7 @@ pub fn no_input_message() -> &'static [u8]
     b"da65: no input file\n"
 }
 
-/// The message of an input that gives no image.
+/// The message of a refused input. Running out of memory has none.
 #[tactic(auto, unfolding(crate::specs::Outcome::image_message))]
 pub fn image_message(fault: ImageFault) -> &'static [u8]
     ensures { result.now ≡ image_message fault }
@@ -73,7 +73,7 @@ pub fn skipped_warning() -> &'static [u8]
     b"da65: warning: skipped bytes, the listing does not assemble to the image\n"
 }
 
-/// The warnings behind a listing, of an image that has skipped bytes or not.
+/// The warnings after a listing.
 pub fn warnings(has_skipped: bool) -> &'static [u8]
     ensures { result.now ≡ (if has_skipped then skipped_warning else []) }
 {

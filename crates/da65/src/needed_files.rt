@@ -1,4 +1,4 @@
-//! The files that a run asks for.
+//! The files that a run needs.
 
 ghost use Rattle.std.specs.Prelude.{◌≡◌, IfOk};
 ghost use Rattle.info65.specs.Views.{name_seen};
@@ -8,7 +8,7 @@ use info65::Info;
 use std::alloc::{AllocError, Allocator, Global};
 use std::marker::Model;
 
-/// The names of the files that a run asks for. A contract sees each as a list of bytes.
+/// The names of the files that a run needs. A contract sees each as a list of bytes.
 #[derive(Drop)]
 pub struct Needs<A: Allocator = Global> {
     /// The name of the input file.

@@ -1,4 +1,4 @@
-//! The files that a run asks for, by options and information file.
+//! Which files a run needs, by its options and its information file.
 
 ghost use Rattle.std.specs.Prelude.{◌≡◌, IfOk};
 ghost use Rattle.info65.specs.Reader.{information};
@@ -8,8 +8,8 @@ use crate::needed_files::{Needs, needs_of, nothing};
 use info65::{InfoFaultKind, Options, read_info};
 use std::alloc::{AllocError, Allocator};
 
-/// The names that the options and the information file give. Where the information file is refused
-/// there is none: no file is opened or created then.
+/// Returns the names of the files that a run needs. If the information file is refused there are none, and
+/// no file is to be opened or created. Fails only if memory runs out.
 pub fn needs<A: Allocator + Copy, B: Allocator>(
     alloc: A,
     options: &Options<B>,

@@ -5,7 +5,7 @@ ghost use Rattle.da65.specs.Number.{address_in, number_in};
 
 use crate::usage_fault::UsageFault;
 
-/// The number that the digits write, at most `most`.
+/// The number that the digits write. Fails if it is above `most`.
 #[tactic(auto, unfolding(crate::specs::Number::number_in))]
 fn number_in(digits: &[u8], radix: u32, most: u32) -> Result<u32, UsageFault>
     requires low { 2 ≤ radix }

@@ -1,15 +1,16 @@
 //! From an information file and an input to a listing and messages.
 
-ghost use Rattle.std.specs.Prelude.{◌≡◌, ◌-◌, ◌^◌, ◌<◌, nat_lt, false, IfSome, IfOk, IsErrOf};
+ghost use Rattle.std.specs.Prelude.{◌≡◌, ◌-◌, ◌^◌, ◌<◌, false, IfSome, IfOk, IsErrOf};
 ghost use Rattle.std.specs.Io.KnownBytes.{Keeps};
 ghost use Rattle.info65.specs.Faults.{out_of_memory};
 ghost use Rattle.info65.specs.Reader.{information};
-ghost use Rattle.map65.specs.Device.{TakesUpTo};
+ghost use Rattle.map65.specs.Device.{TakesUpTo, has_failed};
 ghost use Rattle.map65.specs.ImageView.{AreBytes, IsPlaced};
 ghost use Rattle.da65.specs.Groups.{skips};
 ghost use Rattle.da65.specs.Outcome.{done, image_message, info_message, outcome_of};
 ghost use Rattle.da65.specs.RunLaw.{Reassembles, Took};
-ghost use Rattle.da65.specs.Running.{Writes, Refuses, RefusesOrGivesUp, Warns, OutCount, MessagesCount, FailsAtMostOnce, most_read};
+ghost use Rattle.da65.specs.Code.Refusals.{RefusesOrGivesUp, Tells};
+ghost use Rattle.da65.specs.Running.{Writes, OutCount, MessagesCount, FailsAtMostOnce, most_read};
 
 use crate::groups::has_skipped;
 use crate::lines::{Lines, write_lines};
@@ -20,16 +21,18 @@ use info65::{Info, InfoFault, InfoFaultKind, Options, read_info};
 use map65::{Image, ImageFault, Map, Sink, Source, read_image};
 use std::alloc::Allocator;
 
-/// A file that a caller hands in, by its name.
+/// A file that a caller hands in. Include files are to be handed in like this.
 #[derive(Clone, Copy, Debug, PartialEq, Eq)]
 pub struct File<'a> {
+    /// The name by which the information file includes it.
     pub name: &'a str,
+    /// Its whole contents.
     pub bytes: &'a [u8],
 }
 
-/// Writes the one message of a refusal.
+/// Writes the message of a refusal, which is its only one.
 fn refuse<M: Sink>(msgs: &mut M, message: &[u8]) -> Result<Status, RunFault>
-    ensures text { Refuses result message.now (M.taken msgs.old) (M.taken msgs.new) }
+    ensures text { Tells result Status.Refused message.now (M.taken msgs.old) (M.taken msgs.new) }
     ensures count { MessagesCount result (M.faults msgs.old) (M.faults msgs.new) }
 {
     match write_whole(msgs, message) {
@@ -38,7 +41,7 @@ fn refuse<M: Sink>(msgs: &mut M, message: &[u8]) -> Result<Status, RunFault>
     }
 }
 
-/// Writes the one message of an information file that is refused, or gives up where its reading met no
+/// Writes the message of an information file that is refused, or gives up if its reading ran out of
 /// memory.
 fn refuse_info<M: Sink>(msgs: &mut M, fault: InfoFault) -> Result<Status, RunFault>
     ensures text { RefusesOrGivesUp result (info_message fault) (M.taken msgs.old) (M.taken msgs.new) }
@@ -51,7 +54,7 @@ fn refuse_info<M: Sink>(msgs: &mut M, fault: InfoFault) -> Result<Status, RunFau
     refuse(msgs, info_message(fault).as_slice())
 }
 
-/// Writes the one message of an input that gives no image, or gives up where its reading met no memory.
+/// Writes the message of an input that is refused, or gives up if its reading ran out of memory.
 fn refuse_image<M: Sink>(msgs: &mut M, fault: ImageFault) -> Result<Status, RunFault>
     ensures text { RefusesOrGivesUp result (image_message fault) (M.taken msgs.old) (M.taken msgs.new) }
     ensures memory { fault ≡ ImageFault.Memory → IsErrOf result RunFault.Memory }
@@ -63,9 +66,9 @@ fn refuse_image<M: Sink>(msgs: &mut M, fault: ImageFault) -> Result<Status, RunF
     }
 }
 
-/// Writes the warnings behind a listing.
+/// Writes the warnings after a listing.
 fn warn<M: Sink>(msgs: &mut M, warnings: &[u8]) -> Result<Status, RunFault>
-    ensures text { Warns result warnings.now (M.taken msgs.old) (M.taken msgs.new) }
+    ensures text { Tells result Status.Done warnings.now (M.taken msgs.old) (M.taken msgs.new) }
     ensures count { MessagesCount result (M.faults msgs.old) (M.faults msgs.new) }
 {
     match write_whole(msgs, warnings) {
@@ -74,9 +77,9 @@ fn warn<M: Sink>(msgs: &mut M, warnings: &[u8]) -> Result<Status, RunFault>
     }
 }
 
-/// Writes the listing of an image, by a map that was built from these two, and then the warnings that
-/// apply. Takes no memory.
-fn list<A: Allocator, W: Sink, M: Sink>(
+/// Writes the listing of an image and then its warnings. The map is the one of these two. Allocates
+/// nothing.
+fn write_listing<A: Allocator, W: Sink, M: Sink>(
     info: &Info<A>,
     image: &Image<A>,
     map: &Map<'_, A>,
@@ -91,6 +94,8 @@ fn list<A: Allocator, W: Sink, M: Sink>(
     ensures out_count { OutCount result (W.faults out.old) (W.faults out.new) }
     ensures messages_count { MessagesCount result (M.faults msgs.old) (M.faults msgs.new) }
 {
+    // What holds of all given names is known where they are counted.
+    let _ = info.given_count();
     let warnings = warnings(has_skipped(map, image));
     match write_lines(Lines::new(info, image, map), out) {
         Ok(()) => warn(msgs, warnings),
@@ -98,22 +103,23 @@ fn list<A: Allocator, W: Sink, M: Sink>(
     }
 }
 
-/// Lists the input on `out` as source for ca65, and writes on `msgs` why it is refused.
+/// Lists the input on `out` as source for ca65. If it is refused, the reason goes to `msgs`.
 ///
-/// The options of the command line and the information file `info`, of which no file is the empty one,
-/// give the settings. The first of these refuses the run, with one message and no listing: the
-/// information file has a fault; there is no input name; the reader fails; the input has fewer bytes than
-/// INPUTSIZE says behind the first INPUTOFFS; it is empty; it is too large (more than 65,536 bytes, or
-/// past $FFFF from its start on). Help and version play no part.
+/// The options of the command line and the information file `info` give the settings; no information file
+/// is the same as an empty one. A run is refused, with one message and no listing, for the first of these
+/// reasons: the information file has a fault; there is no input name; a read fails; the input has fewer
+/// than INPUTSIZE bytes after the first INPUTOFFS; it is empty; it is too large (more than 65,536 bytes,
+/// or it extends past $FFFF). Help and version play no part.
 ///
 /// The type of the RANGE that has an address says how its byte is listed: as code, where there is none; on
 /// one line with its neighbours of the same type, up to 8 bytes, 16 bytes of text or 4 words; or, with
 /// SKIP, not at all. Where a byte of the image is skipped, a warning follows the listing on `msgs`.
 ///
-/// Behind INPUTOFFS bytes at most INPUTSIZE bytes are read, or without a size 65,537. All memory is taken
-/// before the first byte is written, so after `Memory` nothing was. A write that fails, or that takes no
-/// byte, is the fault `Write` or `Messages`, and is not tried again; a warning that fails leaves the
-/// listing whole. `files` are not looked at.
+/// After INPUTOFFS bytes at most INPUTSIZE bytes are read, or 65,537 without a size. Nothing is read
+/// without an input name. All memory is allocated before the first byte is written, so `Memory` means that
+/// nothing was written. If a write fails or takes no byte, it is not tried again, and the result is `Write`
+/// for the listing and `Messages` for a message. The listing is whole when a warning is written. `files`
+/// are not used yet.
 pub fn run<A: Allocator + Copy, N: Allocator, R: Source, W: Sink, M: Sink>(
     alloc: A,
     options: &Options<N>,
@@ -125,22 +131,22 @@ pub fn run<A: Allocator + Copy, N: Allocator, R: Source, W: Sink, M: Sink>(
 ) -> Result<Status, RunFault>
     // The listing, the messages and the status are those of the options, the information file and the input.
     ensures answer { R.faults input.old < 2 ^ 64 - 1 → IfSome (R.left input.old) (λ bytes.
-        Writes result (outcome_of options.now info.entry.now bytes (nat_lt (R.faults input.old) (R.faults input.new)))
+        Writes result (outcome_of options.now info.entry.now bytes (has_failed (R.faults input.old) (R.faults input.new)))
         (W.taken out.old) (W.taken out.new) (M.taken msgs.old) (M.taken msgs.new)) }
 
-    // What was written where the answer is Done, and no byte of the image is skipped, means the image's bytes, from its start.
+    // If the result is Done and no byte of the image is skipped, what was written on `out` assembles to the image.
     ensures reassembles { R.faults input.old < 2 ^ 64 - 1 → IfSome (R.left input.old) (λ bytes.
-        Reassembles result (information options.now info.entry.now) bytes (nat_lt (R.faults input.old) (R.faults input.new))
+        Reassembles result (information options.now info.entry.now) bytes (has_failed (R.faults input.old) (R.faults input.new))
         (W.taken out.old) (W.taken out.new)) }
 
-    // These need nothing of the reader.
+    // These hold for every reader.
     ensures memory { IsErrOf result RunFault.Memory → Keeps (W.taken out.old) (W.taken out.new) }
     ensures memory_messages { IsErrOf result RunFault.Memory → Keeps (M.taken msgs.old) (M.taken msgs.new) }
     ensures write { IsErrOf result RunFault.Write → Keeps (M.taken msgs.old) (M.taken msgs.new) }
     ensures refused { IfOk result (λ status. status ≡ Status.Refused → Keeps (W.taken out.old) (W.taken out.new)) }
     ensures reads { TakesUpTo (most_read (information options.now info.entry.now)) (R.left input.old) (R.left input.new) }
 
-    // Each fault is told, and no other.
+    // A failed write is reported, and nothing else is reported as one.
     ensures out_count { OutCount result (W.faults out.old) (W.faults out.new) }
     ensures messages_count { MessagesCount result (M.faults msgs.old) (M.faults msgs.new) }
     ensures input_count { FailsAtMostOnce (R.faults input.old) (R.faults input.new) }
@@ -162,5 +168,8 @@ pub fn run<A: Allocator + Copy, N: Allocator, R: Source, W: Sink, M: Sink>(
         Ok(map) => map,
         Err(_) => return Err(RunFault::Memory),
     };
-    list(&info, &image, &map, out, msgs)
+    write_listing(&info, &image, &map, out, msgs)
 }
+
+#[cfg(test)]
+mod tests;

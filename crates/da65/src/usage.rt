@@ -1,4 +1,4 @@
-//! The options that the words of a command line give.
+//! The options of a command line.
 
 ghost use Rattle.std.specs.Prelude.{◌≡◌, map, option_map};
 ghost use Rattle.std.specs.String.{string_bytes};
@@ -16,12 +16,12 @@ use info65::Options;
 use isa65::Cpu;
 use std::alloc::Global;
 
-/// The options that the words give. The first word is the program's name.
+/// Returns the options of a command line. The first word is the program's name.
 ///
-/// Each option and the input name stand at most once. The words are refused as `Words` where one of
-/// them fits no option or a value is missing; then a start address that is no number or above $FFFF
-/// is refused, and then a CPU that is not known. Help and version are options like the others: the
-/// other words must be accepted beside them.
+/// Each option and the input name may be given once. Fails with `Words` if a word fits no option, an option
+/// is given twice or a value is missing; else with the fault of the start address, if it is not a number or
+/// above $FFFF; else with `OutOfRange` if the CPU is unknown. Help and version are options like the others:
+/// the other words are checked beside them. `Memory` is returned only if memory ran out.
 #[tactic(auto, unfolding(crate::specs::Usage::usage_of))]
 pub fn options_of(alloc: Global, words: &[String]) -> Result<Options, UsageFault>
     ensures { Gives (λ o. o) result (usage_of (map string_bytes words.now)) }
@@ -30,7 +30,7 @@ pub fn options_of(alloc: Global, words: &[String]) -> Result<Options, UsageFault
     options_in(alloc, &matches)
 }
 
-// The matches, where `clap` takes the words.
+/// The matches, if `clap` accepts the words.
 #[tactic(auto, unfolding(crate::specs::Usage::accepted))]
 fn accepted<'a>(alloc: Global, words: &'a [String]) -> Result<ArgMatches<'a>, UsageFault>
     ensures { Gives (λ m. rows_of (found_of m)) result (accepted (map string_bytes words.entry.now)) }
@@ -47,7 +47,7 @@ fn accepted<'a>(alloc: Global, words: &'a [String]) -> Result<ArgMatches<'a>, Us
     }
 }
 
-// The options of the matches: what can be refused first, in the order of the option table.
+/// The options of the matches. Those that can be refused come first, in the order of the option table.
 #[tactic(auto, unfolding(crate::specs::Usage::options_in))]
 fn options_in(alloc: Global, matches: &ArgMatches) -> Result<Options, UsageFault>
     ensures { Gives (λ o. o) result (options_in (rows_of (found_of matches.now))) }
@@ -57,6 +57,7 @@ fn options_in(alloc: Global, matches: &ArgMatches) -> Result<Options, UsageFault
     let info = owned(alloc, text_of(matches, "info"))?;
     let input = owned(alloc, text_of(matches, "input"))?;
     let output = owned(alloc, text_of(matches, "output"))?;
+    let hexoffs = is_set(matches, "hexoffs");
     let help = is_set(matches, "help");
     let version = is_set(matches, "version");
     Ok(Options {
@@ -65,6 +66,7 @@ fn options_in(alloc: Global, matches: &ArgMatches) -> Result<Options, UsageFault
         output,
         start,
         cpu,
+        hexoffs,
         help,
         version,
     })

@@ -1,23 +1,23 @@
-//! What a command line can be refused for.
+//! Why a command line is refused.
 
 ghost use Rattle.std.specs.Prelude.{◌≡◌};
 
 use std::alloc::AllocError;
 use thiserror::Error;
 
-/// Why a command line gives no options. The texts are those of the program's messages, behind its name.
+/// Why a command line has no options. The texts are those of the program's messages, after its name.
 #[derive(Clone, Copy, Debug, PartialEq, Eq, Error)]
 pub enum UsageFault {
-    /// A word that no option takes, an option or the input name given twice, or a value that is missing.
+    /// An unknown option, one word too many, an option given twice, or a value that is missing.
     #[error("bad arguments")]
     Words,
-    /// A number that is not written as one.
+    /// Text that is not a number.
     #[error("bad number")]
     BadNumber,
-    /// A number beside its limits, or a CPU that is not known.
+    /// A number outside its limits, or an unknown CPU.
     #[error("argument out of range")]
     OutOfRange,
-    /// A growth of memory was refused.
+    /// Memory ran out.
     #[error("out of memory")]
     Memory,
 }

@@ -1,16 +1,18 @@
 //! Writing all of some bytes.
 
-ghost use Rattle.std.specs.Prelude.{OnOk, OnErr};
+ghost use Rattle.std.specs.Prelude.{◌<◌, length, OnOk, OnErr};
 ghost use Rattle.std.specs.Io.KnownBytes.{Appends};
 ghost use Rattle.map65.specs.Device.{Counts, AppendsFront};
 
 use map65::{DeviceFault, Sink};
 
-/// Writes the bytes, write after write, until all are taken or one write fails. No write is tried again.
+/// Writes all bytes, or fails at the first write that fails, with a prefix of them written. No write is
+/// tried again, and without a byte there is none.
 #[tactic(auto, using(crate::proofs::TakenLemmas::taken_more, crate::proofs::TakenLemmas::taken_all))]
 pub fn write_whole<W: Sink>(out: &mut W, bytes: &[u8]) -> Result<(), DeviceFault>
     ensures whole { OnOk result (Appends (W.taken out.old) (W.taken out.new) bytes.now) }
     ensures front { OnErr result (AppendsFront (W.taken out.old) (W.taken out.new) bytes.now) }
+    ensures some { OnErr result (0 < length bytes.now) }
     ensures count { Counts (W.faults out.old) (W.faults out.new) result }
 {
     let mut rest = bytes;

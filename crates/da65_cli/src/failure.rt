@@ -5,12 +5,13 @@ use std::alloc::{AllocError, AllocFailed};
 use std::io::{Error as IoError, ErrorKind};
 use thiserror::Error;
 
-/// What ends the program without a listing, apart from a refusal, which `run` tells by itself.
+/// What ends the program early. A refusal is none of these, since `run` writes its message.
 #[derive(Debug, Drop, Error)]
 pub enum Failure {
-    /// The command line gives no options.
+    /// The command line is refused.
     #[error("{0}")]
     Usage(UsageFault),
+    /// Memory ran out.
     #[error("out of memory")]
     Memory,
     /// The information file of this name can't be read, or the input of this name can't be opened.
@@ -19,15 +20,16 @@ pub enum Failure {
     /// The output file of this name can't be created.
     #[error("cannot create {0}")]
     Creating(String),
+    /// A write of the listing failed.
     #[error("cannot write the listing")]
     Listing,
-    /// Standard error takes no message, or standard output no help text: nothing more is said.
+    /// A write of a message, of the help text or of the version failed. Nothing more is said.
     #[error("cannot write the messages")]
     Messages,
 }
 
 impl Failure {
-    /// Of a file of this name that can't be read.
+    /// The failure of a file of this name that can't be read.
     pub fn of_reading(error: &IoError, name: String) -> Failure {
         match error.kind() {
             ErrorKind::OutOfMemory => Failure::Memory,
@@ -35,7 +37,7 @@ impl Failure {
         }
     }
 
-    /// Of a file of this name that can't be created.
+    /// The failure of a file of this name that can't be created.
     pub fn of_creating(error: &IoError, name: String) -> Failure {
         match error.kind() {
             ErrorKind::OutOfMemory => Failure::Memory,
@@ -44,7 +46,7 @@ impl Failure {
     }
 }
 
-/// Of the program's arguments: they are no UTF-8, or there is no memory for them.
+/// The arguments of the program are not valid UTF-8, or there is no memory for them.
 impl From<IoError> for Failure {
     fn from(error: IoError) -> Failure {
         match error.kind() {
@@ -85,3 +87,6 @@ impl From<RunFault> for Failure {
         }
     }
 }
+
+#[cfg(test)]
+mod tests;

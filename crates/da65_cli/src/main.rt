@@ -2,18 +2,23 @@
 //!
 //! In order: the options, then help or version, the information file, the input, the output file, which
 //! is created empty, and the run. The listing goes to the output file or to standard output, messages go
-//! to standard error. The status is 0 where the listing, the help text or the version was written, else 1.
+//! to standard error once the whole listing is written. The status is 0 if the listing, the help text or
+//! the version was written, else 1.
 #![tactic(auto)]
 
+mod buffered;
 mod failure;
+mod held;
 mod information;
+mod listing;
 
 use da65::{Needs, Options, Status, Told, help_text, needs, options_of, version_text};
 use failure::Failure;
 use information::information;
+use listing::{Listed, run_buffered};
 use std::env;
 use std::fs::File;
-use std::io::{BufWriter, Read, Write};
+use std::io::{Read, Write};
 use std::process::ExitCode;
 
 /// The options of the program's words.
@@ -33,36 +38,30 @@ fn tell(rt: &HostRuntime, text: &str) -> Result<Status, Failure> {
     }
 }
 
-/// Lists the input on the output, through a buffer. What a failed write or flush leaves in the buffer is
-/// given up.
-fn list<R: Read + Drop, W: Write + Drop>(
+/// Lists the input on the output.
+fn list_on<R: Read + Drop, W: Write + Drop>(
     rt: &HostRuntime,
     options: &Options,
     info: &[u8],
     input: R,
     output: W,
 ) -> Result<Status, Failure> {
-    let mut buffer = BufWriter::new(rt.alloc(), output).map_err(|_| Failure::Memory)?;
-    let result = da65::run(
+    let listed = run_buffered(
         rt.alloc(),
         options,
         info,
-        &[],
         &mut Told::new(input),
-        &mut Told::new(&mut buffer),
+        Told::new(output),
         &mut Told::new(rt.stderr()),
     );
-    let flushed = match &result {
-        Ok(_) => buffer.flush(),
-        Err(_) => Ok(()),
-    };
-    let _unwritten = buffer.into_parts();
-    let status = result?;
-    flushed.map_err(|_| Failure::Listing)?;
-    Ok(status)
+    let Listed {
+        output: _output,
+        result,
+    } = listed;
+    Ok(result?)
 }
 
-/// Lists the input on the output file of this name, which is created empty, or else on standard output.
+/// Lists the input on the output file of this name, which is created empty, or on standard output.
 fn list_to<R: Read + Drop>(
     rt: &HostRuntime,
     options: &Options,
@@ -71,16 +70,15 @@ fn list_to<R: Read + Drop>(
     output: Option<String>,
 ) -> Result<Status, Failure> {
     let Some(name) = output else {
-        return list(rt, options, info, input, rt.stdout());
+        return list_on(rt, options, info, input, rt.stdout());
     };
     match File::create(rt, name.as_str()) {
-        Ok(file) => list(rt, options, info, input, file),
+        Ok(file) => list_on(rt, options, info, input, file),
         Err(error) => Err(Failure::of_creating(&error, name)),
     }
 }
 
-/// Lists the input that is named. Without an input name the run tells why it is refused, and no output
-/// file is created.
+/// Lists the named input. Without an input name the run is refused, and no output file is created.
 fn list_needed(
     rt: &HostRuntime,
     options: &Options,
@@ -89,7 +87,7 @@ fn list_needed(
 ) -> Result<Status, Failure> {
     let Needs { input, output, .. } = needed;
     let Some(name) = input else {
-        return list(rt, options, info, [].as_slice(), rt.stdout());
+        return list_on(rt, options, info, [].as_slice(), rt.stdout());
     };
     // A pipe that another user made can be read, but not opened by its name.
     if name.as_str() == "/dev/stdin" {
@@ -114,7 +112,16 @@ fn program(rt: &HostRuntime) -> Result<Status, Failure> {
     list_needed(rt, &options, &info, needed)
 }
 
+/// Takes the number of a standard stream that is closed, which would else go to the next file.
+fn placeholder(rt: &HostRuntime) -> Option<File> {
+    File::open(rt, "/dev/null").ok()
+}
+
 fn main(rt: HostRuntime) -> ExitCode {
+    // Without these, messages to a closed standard error could end up in the output file.
+    let _input = placeholder(&rt);
+    let _output = placeholder(&rt);
+    let _errors = placeholder(&rt);
     match program(&rt) {
         Ok(Status::Done) => ExitCode::SUCCESS,
         Ok(Status::Refused) | Err(Failure::Messages) => ExitCode::FAILURE,

@@ -7,7 +7,7 @@ use Rattle.info65.specs.Attributes.{attribute_named, group_named}
 use Rattle.info65.specs.Closing.{closing_fault}
 use Rattle.info65.specs.Faults.{◌>>=◌}
 use Rattle.info65.specs.Grammar.{Accepts, AreGroups, AreNew, IsToken, Item, Spells, end_items, given_items, group_items, mark, value, without_marks}
-use Rattle.info65.specs.Groups.{GivenView, GroupView, is_given}
+use Rattle.info65.specs.Groups.{AssignmentView, GroupView, is_given}
 use Rattle.info65.specs.Lexemes.{KindView, word, opening_brace, closing_brace, semicolon}
 use Rattle.info65.specs.Reader.{Place, State, after_group, at_attribute, at_brace, at_group, at_semicolon, attribute_at, behind, closed, closed_by, finish, group, inside, named, one, opened, opening, outside, read_from, step, valued}
 use Rattle.info65.specs.Tokens.{TokenView}
@@ -65,21 +65,21 @@ brace_read : (o : OptionsView) (before : List GroupView) (g : GroupKind) (t : To
 brace_read o before g t opening_brace e = (e, refl)
 brace_read o before g t _ e = tt
 
-closed_read : (o : OptionsView) (before : List GroupView) (g : GroupKind) (given : List GivenView) (t : TokenView) (f : Option InfoFaultKind) → t.kind ≡ closing_brace → closing_fault before g given ≡ f → IfOk (closed_by before g given t.line f) (Step o (inside g given) before t)
+closed_read : (o : OptionsView) (before : List GroupView) (g : GroupKind) (given : List AssignmentView) (t : TokenView) (f : Option InfoFaultKind) → t.kind ≡ closing_brace → closing_fault before g given ≡ f → IfOk (closed_by before g given t.line f) (Step o (inside g given) before t)
 closed_read o before g given t None w e = inl (w, e, refl)
 closed_read o before g given t (Some f) w e = tt
 
-named_read : (o : OptionsView) (before : List GroupView) (g : GroupKind) (given : List GivenView) (t : TokenView) (n : Option Attribute) → t.kind ≡ word → attribute_named g t.text ≡ n → IfOk (named before g given t.line n >>= λ a. Ok (valued g given a, before)) (Step o (inside g given) before t)
+named_read : (o : OptionsView) (before : List GroupView) (g : GroupKind) (given : List AssignmentView) (t : TokenView) (n : Option Attribute) → t.kind ≡ word → attribute_named g t.text ≡ n → IfOk (named before g given t.line n >>= λ a. Ok (valued g given a, before)) (Step o (inside g given) before t)
 named_read o before g given t None w e = tt
 named_read o before g given t (Some a) w e = by_test (is_given before g given a) (λ n. rw n tt) (λ n. rw n (inr (a, w, e, n, refl)))
 
-inside_read : (o : OptionsView) (before : List GroupView) (g : GroupKind) (given : List GivenView) (t : TokenView) (k : KindView) → t.kind ≡ k → IfOk (at_attribute before g given t k) (Step o (inside g given) before t)
+inside_read : (o : OptionsView) (before : List GroupView) (g : GroupKind) (given : List AssignmentView) (t : TokenView) (k : KindView) → t.kind ≡ k → IfOk (at_attribute before g given t k) (Step o (inside g given) before t)
 unfolding attribute_at
 inside_read o before g given t closing_brace e = closed_read o before g given t (closing_fault before g given) e refl
 inside_read o before g given t word e = named_read o before g given t (attribute_named g t.text) e refl
 inside_read o before g given t _ e = tt
 
-semicolon_read : (o : OptionsView) (before : List GroupView) (g : GroupKind) (given : List GivenView) (t : TokenView) (k : KindView) → t.kind ≡ k → IfOk (at_semicolon before g given t k) (Step o (behind g given) before t)
+semicolon_read : (o : OptionsView) (before : List GroupView) (g : GroupKind) (given : List AssignmentView) (t : TokenView) (k : KindView) → t.kind ≡ k → IfOk (at_semicolon before g given t k) (Step o (behind g given) before t)
 semicolon_read o before g given t semicolon e = (e, refl)
 semicolon_read o before g given t _ e = tt
 
@@ -114,8 +114,8 @@ record Outside (o : OptionsView) (items : List Item) (before : List GroupView) (
   keeps : AreGroups before (without_marks spelling)
   gives : before ++ without_marks spelling ≡ result
 
-record Inside (o : OptionsView) (items : List Item) (k : GroupKind) (given : List GivenView) (before : List GroupView) (ts : List TokenView) (result : List GroupView) : Type 0 where
-  more : List GivenView
+record Inside (o : OptionsView) (items : List Item) (k : GroupKind) (given : List AssignmentView) (before : List GroupView) (ts : List TokenView) (result : List GroupView) : Type 0 where
+  more : List AssignmentView
   closed : Bool
   spelling : List (GroupView × Bool)
   spelled : Spells o (items ++ ((flat_map (given_items k) more ++ end_items closed) ++ file_items spelling)) ts
@@ -133,10 +133,10 @@ Rest o (valued k given a) before ts r = (v : ValueView) × Inside o (value a v �
 Rest o (behind k given) before ts r = Inside o (mark semicolon ∷ []) k given before ts r
 
 -- the same with a token in front, which is that item
-pushed : (o : OptionsView) (i : Item) (items : List Item) (k : GroupKind) (given : List GivenView) (before : List GroupView) (t : TokenView) (ts : List TokenView) (r : List GroupView) → IsToken o i t → Inside o items k given before ts r → Inside o (i ∷ items) k given before (t ∷ ts) r
+pushed : (o : OptionsView) (i : Item) (items : List Item) (k : GroupKind) (given : List AssignmentView) (before : List GroupView) (t : TokenView) (ts : List TokenView) (r : List GroupView) → IsToken o i t → Inside o items k given before ts r → Inside o (i ∷ items) k given before (t ∷ ts) r
 pushed o i items k given before t ts r h x = record { more = x.more; closed = x.closed; spelling = x.spelling; spelled = (h, x.spelled); new = x.new; closes = x.closes; keeps = x.keeps; gives = x.gives }
 
-popped : (o : OptionsView) (i : Item) (items : List Item) (k : GroupKind) (given : List GivenView) (before : List GroupView) (t : TokenView) (ts : List TokenView) (r : List GroupView) → Inside o (i ∷ items) k given before (t ∷ ts) r → IsToken o i t × Inside o items k given before ts r
+popped : (o : OptionsView) (i : Item) (items : List Item) (k : GroupKind) (given : List AssignmentView) (before : List GroupView) (t : TokenView) (ts : List TokenView) (r : List GroupView) → Inside o (i ∷ items) k given before (t ∷ ts) r → IsToken o i t × Inside o items k given before ts r
 popped o i items k given before t ts r x = (x.spelled.0, record { more = x.more; closed = x.closed; spelling = x.spelling; spelled = x.spelled.1; new = x.new; closes = x.closes; keeps = x.keeps; gives = x.gives })
 
 group_front : (o : OptionsView) (k : GroupKind) (before : List GroupView) (t : TokenView) (ts : List TokenView) (r : List GroupView) → t.kind ≡ word → group_named t.text ≡ Some k → Inside o (mark opening_brace ∷ []) k [] before ts r → Outside o [] before (t ∷ ts) r
@@ -148,14 +148,14 @@ group_front o k before t ts r w g i = record {
 }
 
 -- the end of a group
-close_front : (o : OptionsView) (b : Bool) (k : GroupKind) (given : List GivenView) (before : List GroupView) (t : TokenView) (ts : List TokenView) (r : List GroupView) → closing_fault before k given ≡ None
+close_front : (o : OptionsView) (b : Bool) (k : GroupKind) (given : List AssignmentView) (before : List GroupView) (t : TokenView) (ts : List TokenView) (r : List GroupView) → closing_fault before k given ≡ None
     → (spelling : List (GroupView × Bool)) → Spells o (end_items b ++ file_items spelling) (t ∷ ts) → AreGroups (before ++ group k given ∷ []) (without_marks spelling) → (before ++ group k given ∷ []) ++ without_marks spelling ≡ r
     → Inside o [] k given before (t ∷ ts) r
 close_front o b k given before t ts r c spelling h keeps gives =
     let e = append-nil given in
     record { more = []; closed = b; spelling = spelling; spelled = h; new = tt; closes = rw e c; keeps = rw e keeps; gives = rw e gives }
 
-name_front : (o : OptionsView) (a : Attribute) (k : GroupKind) (given : List GivenView) (before : List GroupView) (t : TokenView) (ts : List TokenView) (r : List GroupView) → t.kind ≡ word → attribute_named k t.text ≡ Some a → is_given before k given a ≡ false → Rest o (valued k given a) before ts r → Inside o [] k given before (t ∷ ts) r
+name_front : (o : OptionsView) (a : Attribute) (k : GroupKind) (given : List AssignmentView) (before : List GroupView) (t : TokenView) (ts : List TokenView) (r : List GroupView) → t.kind ≡ word → attribute_named k t.text ≡ Some a → is_given before k given a ≡ false → Rest o (valued k given a) before ts r → Inside o [] k given before (t ∷ ts) r
 name_front o a k given before t ts r w n g h =
     let i = h.1 in let e = append_assoc given (one a h.0 ∷ []) i.more in
     record { more = one a h.0 ∷ i.more; closed = i.closed; spelling = i.spelling; spelled = ((w, n), i.spelled); new = (g, i.new); closes = rw e at i.closes; keeps = rw e at i.keeps; gives = rw e at i.gives }
@@ -195,7 +195,7 @@ group_off o before t ts r (g ∷ gs) h keeps e = (
   },
 )
 
-inside_off : (o : OptionsView) (k : GroupKind) (given : List GivenView) (before : List GroupView) (t : TokenView) (ts : List TokenView) (r : List GroupView) (more : List GivenView) (b : Bool) (spelling : List (GroupView × Bool))
+inside_off : (o : OptionsView) (k : GroupKind) (given : List AssignmentView) (before : List GroupView) (t : TokenView) (ts : List TokenView) (r : List GroupView) (more : List AssignmentView) (b : Bool) (spelling : List (GroupView × Bool))
     → Spells o ((flat_map (given_items k) more ++ end_items b) ++ file_items spelling) (t ∷ ts) → AreNew before k given more → closing_fault before k (given ++ more) ≡ None
     → AreGroups (before ++ group k (given ++ more) ∷ []) (without_marks spelling) → (before ++ group k (given ++ more) ∷ []) ++ without_marks spelling ≡ r
     → (q : State) × Step o (inside k given) before t q × Rest o q.0 q.1 ts r
@@ -225,7 +225,7 @@ no_groups : (o : OptionsView) (before r : List GroupView) (spelling : List (Grou
 no_groups o before r [] h e = sym (append-nil before) ∙ e
 no_groups o before r (g ∷ gs) h e = absurd h
 
-not_inside : (o : OptionsView) (k : GroupKind) (more : List GivenView) (b : Bool) (spelling : List (GroupView × Bool)) → Spells o ((flat_map (given_items k) more ++ end_items b) ++ file_items spelling) [] → ⊥
+not_inside : (o : OptionsView) (k : GroupKind) (more : List AssignmentView) (b : Bool) (spelling : List (GroupView × Bool)) → Spells o ((flat_map (given_items k) more ++ end_items b) ++ file_items spelling) [] → ⊥
 not_inside o k [] true spelling h = h
 not_inside o k [] false spelling h = h
 not_inside o k (x ∷ xs) b spelling h = h

@@ -1,20 +1,22 @@
 -- Values that are read have the form of their attributes.
-use Rattle.std.proofs.Common.{◌≡◌, ◌≤◌, ℕ, Bool, List, [], ◌∷◌, ◌++◌, true, false, ap, append_assoc, arith}
-use Rattle.std.specs.Prelude.{IfOk, IfSome, Option, Some, None, Result, Ok, nat_le}
+use Rattle.std.proofs.Common.{◌≡◌, ◌≤◌, ℕ, Bool, List, [], ◌∷◌, ◌++◌, ◌∙◌, true, false, ap, append_assoc, arith}
+use Rattle.std.specs.Prelude.{IfOk, IfSome, option_map, Option, Some, None, Result, Ok, nat_le}
 use Rattle.std.specs.List.{AllByRecursion, flat_map}
 use Rattle.std.specs.Option.{unwrap_or}
 use Rattle.std.proofs.lemmas.Bool.Decides.{nat_tests}
+use denote.Bor.{Bor}
 use denote.Enum.Bare.{same_true}
 use Rattle.info65.specs.contracts.attribute.Attribute as attribute_type
-use Rattle.info65.specs.Attributes.{form_of, type_named}
+use Rattle.info65.specs.Attributes.{boolean_named, form_of, type_named}
 use Rattle.isa65.specs.Cpu.{cpu_named}
 use Rattle.info65.specs.Grammar.{Item, Spells, end_items, given_items, group_items, without_marks}
-use Rattle.info65.specs.Groups.{AreFormed, GivenView, GroupView, global_given, global_part, is_of, value_in}
+use Rattle.info65.specs.Groups.{AreFormed, AssignmentView, GroupView, global_given, global_part, is_of, value_in}
 use Rattle.info65.specs.Lexemes.{KindView, number, string, word}
+use Rattle.info65.specs.Names.{has_name_form}
 use Rattle.info65.specs.Reader.{groups_of, read}
 use Rattle.info65.specs.Settings.{settings_of}
 use Rattle.info65.specs.Tokens.{TokenView, tokens_of}
-use Rattle.info65.specs.Values.{HasForm, ValueView, a_number, as_number, cpu_value, in_form, is_file_name, is_on_command_line, name_value, type_value, value_of}
+use Rattle.info65.specs.Values.{HasForm, ValueView, a_number, a_name, as_name, as_number, boolean_of, boolean_value, cpu_value, in_form, is_file_name, is_on_command_line, label_value, name_value, type_value, value_of}
 use Rattle.info65.specs.Views.{AreInLimits, OptionsView}
 use Rattle.info65.specs.declared.attribute.Attribute.{Attribute}
 use Rattle.info65.specs.declared.attribute.Attribute.TheVariants as attribute
@@ -42,10 +44,20 @@ type_formed : (line : ℕ) (r : Option RangeType) → IfOk (type_value line r) (
 type_formed line (Some r) = tt
 type_formed line None = tt
 
+label_formed : (line : ℕ) (text : List ℕ) → IfOk (label_value line text) (HasForm form.Name)
+label_formed line text = by_test (has_name_form text) (λ h. rw h h) (λ h. rw h tt)
+
+boolean_formed : (line : ℕ) (b : Option Bool) → IfOk (boolean_value line b) (HasForm form.Boolean)
+boolean_formed line (Some b) = tt
+boolean_formed line None = tt
+
 formed : (o : OptionsView) (a : Attribute) (line : ℕ) (source : List ℕ) (f : Form) (k : KindView) → IfOk (in_form o a line source f k) (HasForm f)
 formed o a line source form.FileName (string text) = name_formed o a line text
 formed o a line source form.CpuText (string text) = cpu_formed line (cpu_named text)
 formed o a line source form.TypeWord word = type_formed line (type_named source)
+formed o a line source form.Name (string text) = label_formed line text
+formed o a line source form.Boolean word = boolean_formed line (boolean_named source)
+formed o a line source form.Boolean (number n) = boolean_formed line (boolean_of n)
 formed o a line source form.Address (number n) = by_test (nat_le n 0xFFFF) (λ h. rw h (grind (arith, nat_tests, h))) (λ h. rw h tt)
 formed o a line source (form.Number low high) (number n) =
     by_test (nat_le low n) (λ g. by_test (nat_le n high) (λ h. rw (g, h) (grind (arith, nat_tests, g), grind (arith, nat_tests, h))) (λ h. rw (g, h) tt)) (λ g. rw g tt)
@@ -58,7 +70,7 @@ value_formed : (o : OptionsView) (a : Attribute) (t : TokenView) (v : ValueView)
 unfolding value_of
 value_formed o a t v e = at (HasForm (form_of a)) (value_of o a t) v e (formed o a t.line t.text (form_of a) t.kind)
 
-given_formed : (o : OptionsView) (k : GroupKind) (given : List GivenView) (rest : List Item) (ts : List TokenView) → Spells o (flat_map (given_items k) given ++ rest) ts → AreFormed given × ((more : List TokenView) × Spells o rest more)
+given_formed : (o : OptionsView) (k : GroupKind) (given : List AssignmentView) (rest : List Item) (ts : List TokenView) → Spells o (flat_map (given_items k) given ++ rest) ts → AreFormed given × ((more : List TokenView) × Spells o rest more)
 given_formed o k [] rest ts h = (tt, (ts, h))
 given_formed o k (g ∷ gs) rest [] h = absurd h
 given_formed o k (g ∷ gs) rest (t ∷ []) h = absurd h.1
@@ -87,11 +99,11 @@ groups_formed o (g ∷ gs) (t ∷ u ∷ ts) h =
     let more = end_passed o g.1 (flat_map group_items gs) given.1.0 given.1.1 in
     (given.0, groups_formed o gs more.0 more.1)
 
-append_formed : (xs ys : List GivenView) → AreFormed xs → AreFormed ys → AreFormed (xs ++ ys)
+append_formed : (xs ys : List AssignmentView) → AreFormed xs → AreFormed ys → AreFormed (xs ++ ys)
 append_formed [] ys h i = i
 append_formed (x ∷ xs) ys h i = (h.0, append_formed xs ys h.1 i)
 
-part_formed : (k : GroupKind) (given : List GivenView) → AreFormed given → AreFormed (global_part (record { kind = k; given = given }))
+part_formed : (k : GroupKind) (given : List AssignmentView) → AreFormed given → AreFormed (global_part (record { kind = k; given = given }))
 part_formed group_kind.Global given h = h
 part_formed _ given h = tt
 
@@ -107,7 +119,7 @@ read_formed o bytes groups e =
     let a = groups_accepted o (tokens_of 1 bytes).tokens (tokens_of 1 bytes).ending groups e in
     all_formed groups (rw a.1.of at (groups_formed o a.1.spelling (tokens_of 1 bytes).tokens a.1.spelled))
 
-pub found_formed : (a : Attribute) (given : List GivenView) → AreFormed given → IfSome (value_in a given) (HasForm (form_of a))
+pub found_formed : (a : Attribute) (given : List AssignmentView) → AreFormed given → IfSome (value_in a given) (HasForm (form_of a))
 unfolding value_in
 found_formed a [] h = tt
 found_formed a (g ∷ gs) h =
@@ -125,10 +137,25 @@ size_in (Some (a_number n)) h = h
 size_in (Some _) h = tt
 size_in None h = tt
 
+file_name_in : (v : Option ValueView) → IfSome v (HasForm form.FileName) → IfSome (as_name v) (λ t. is_file_name t ≡ true)
+file_name_in (Some (a_name t)) h = h
+file_name_in (Some _) h = tt
+file_name_in None h = tt
+
+-- the names of files among such values are file names
+pub file_name_formed : (a : Attribute) (given : List AssignmentView) → form_of a ≡ form.FileName → AreFormed given → IfSome (as_name (value_in a given)) (λ t. is_file_name t ≡ true)
+file_name_formed a given is h = file_name_in (value_in a given) (rw is at (found_formed a given h))
+
 -- the settings of such values are in their limits
-pub settings_in_limits : (o : OptionsView) (given : List GivenView) → AreFormed given → AreInLimits (settings_of o given)
+pub settings_in_limits : (o : OptionsView) (given : List AssignmentView) → AreFormed given → AreInLimits (settings_of o given)
 unfolding settings_of form_of
 settings_in_limits o given h = record {
   offset = offset_in (value_in attribute.InputOffset given) (found_formed attribute.InputOffset given h);
   size = size_in (value_in attribute.InputSize given) (found_formed attribute.InputSize given h);
 }
+
+-- what is lent has the form of what is seen of it
+pub lent_name : (o : Option (Bor (List ℕ))) (p : Option (List ℕ)) → option_map (λ s. s.now) o ≡ p → IfSome p (λ t. is_file_name t ≡ true) → IfSome o (λ s. is_file_name s.now ≡ true)
+lent_name None p e h = tt
+lent_name (Some s) (Some t) e h = let same : s.now ≡ t = cc in ap is_file_name same ∙ h
+lent_name (Some s) None e h = absurd cc

@@ -5,16 +5,16 @@ use Rattle.std.specs.List.{find}
 use Rattle.std.specs.Option.{option_or}
 use Rattle.std.proofs.lemmas.List.{at_drop_all, at_drop_more}
 use Rattle.std.proofs.lemmas.List.Folds.{find-append, list_any-append}
-use Rattle.info65.specs.Given.{group_seen}
-use Rattle.info65.specs.Groups.{GivenView, GroupView, global_given, global_part, has, is_of, value_in}
+use Rattle.info65.specs.Code.Groups.{group_seen}
+use Rattle.info65.specs.Groups.{AssignmentView, GroupView, global_given, global_part, has, is_of, value_in}
 use Rattle.info65.specs.declared.attribute.Attribute.{Attribute}
-use Rattle.info65.specs.declared.given.Group.{Group}
+use Rattle.info65.specs.declared.assignment.Group.{Group}
 
 has_next : (a : Attribute) (g : GroupView) (gs : List GroupView) → has a (global_given (g ∷ gs)) ≡ (has a (global_part g) || has a (global_given gs))
 unfolding has global_given
 has_next a g gs = list_any-append (is_of a) (global_part g) (global_given gs)
 
-map_or : (x y : Option GivenView) → option_map (λ g. g.value) (option_or x y) ≡ option_or (option_map (λ g. g.value) x) (option_map (λ g. g.value) y)
+map_or : (x y : Option AssignmentView) → option_map (λ g. g.value) (option_or x y) ≡ option_or (option_map (λ g. g.value) x) (option_map (λ g. g.value) y)
 map_or None y = refl
 map_or (Some x) y = refl
 

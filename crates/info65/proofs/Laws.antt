@@ -6,7 +6,7 @@ use Rattle.std.proofs.lemmas.Bool.Decides.{nat_tests}
 use Rattle.info65.specs.Faults.{fault, ◌>>=◌}
 use Rattle.info65.specs.Grammar.{IsInformation}
 use Rattle.info65.specs.Groups.{GroupView}
-use Rattle.info65.specs.Laws.{AcceptsFiles, IsOfEnd, IsOfToken, RefusesFirst}
+use Rattle.info65.specs.Laws.{AcceptsFiles, IsOfEnd, IsOfToken, Reaches, RefusesFirst}
 use Rattle.info65.specs.Reader.{Place, State, closed, finish, groups_of, information, outside, read, read_from, step}
 use Rattle.info65.specs.Settings.{info_of}
 use Rattle.info65.specs.Tokens.{TokenView, tokens_of}
@@ -50,6 +50,10 @@ record OfToken (o : OptionsView) (p : Place) (before : List GroupView) (ts : Lis
   more : List TokenView
   parts : ts ≡ front ++ token ∷ more
   faultless : Faultless o p before front
+  place : Place
+  groups : List GroupView
+  reached : Reaches o p before front place groups
+  is : step o place groups token ≡ Err e
   refuses : (others : List TokenView) (ending : Result ℕ InfoFault) → read_from o p before ((front ++ token ∷ []) ++ others) ending ≡ Err e
 
 record OfEnd (o : OptionsView) (p : Place) (before : List GroupView) (ts : List TokenView) (ending : Result ℕ InfoFault) (e : InfoFault) : Type 0 where
@@ -88,6 +92,10 @@ first o p before (t ∷ ts) ending e h =
         more = x.more;
         parts = ap (λ (r : List TokenView). t ∷ r) x.parts;
         faultless = more_faultless o p before t x.front q g x.faultless;
+        place = x.place;
+        groups = x.groups;
+        reached = (q, g, x.reached);
+        is = x.is;
         refuses = λ others end. rw g (x.refuses others end);
       })
       | inr x ↦ inr (record { faultless = more_faultless o p before t ts q g x.faultless; ends = x.ends })
@@ -99,11 +107,15 @@ first o p before (t ∷ ts) ending e h =
       more = ts;
       parts = refl;
       faultless = none_faultless o p before;
+      place = p;
+      groups = before;
+      reached = (refl, refl);
+      is = let same : f ≡ e = cc in g ∙ ap (λ x. Err x) same;
       refuses = λ others end. rw g i;
     }))
 
 as_law : (o : OptionsView) (ts : List TokenView) (ending : Result ℕ InfoFault) (e : InfoFault) → OfToken o outside [] ts e ⊎ OfEnd o outside [] ts ending e → IsOfToken o ts e ⊎ IsOfEnd o ts ending e
-as_law o ts ending e (inl x) = inl (record { front = x.front; token = x.token; more = x.more; parts = x.parts; faultless = x.faultless; refuses = x.refuses })
+as_law o ts ending e (inl x) = inl (record { front = x.front; token = x.token; more = x.more; parts = x.parts; faultless = x.faultless; place = x.place; before = x.groups; reached = x.reached; is = x.is; refuses = x.refuses })
 as_law o ts ending e (inr x) = inr (record { faultless = x.faultless; ends = x.ends })
 
 refused_by : (o : OptionsView) (bytes : List ℕ) (e : InfoFault) (r : Result (List GroupView) InfoFault) → groups_of o bytes ≡ r → (r >>= λ groups. Ok (info_of o groups)) ≡ Err e → groups_of o bytes ≡ Err e

@@ -1,10 +1,14 @@
 pub mod Accepting
+pub mod CoveringLemmas
 pub mod FormLemmas
 pub mod GroupLemmas
+pub mod IndexLemmas
 pub mod Laws
 pub mod NameLemmas
+pub mod NamesLemmas
 pub mod NumberLemmas
 pub mod OnceLemmas
+pub mod PoolLemmas
 pub mod RangeLemmas
 pub mod ReaderLemmas
 pub mod StandLemmas

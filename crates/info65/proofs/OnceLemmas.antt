@@ -7,7 +7,7 @@ use Rattle.std.proofs.lemmas.Grind.{flat_map-append}
 use denote.Enum.Bare.{false_same, sameb, same_false}
 use Rattle.info65.specs.contracts.attribute.Attribute as attribute_type
 use Rattle.info65.specs.Grammar.{AreGroups, AreNew}
-use Rattle.info65.specs.Groups.{GivenView, GroupView, global_given, global_part, given_before, has, has_instead, is_given, is_of}
+use Rattle.info65.specs.Groups.{AssignmentView, GroupView, global_given, global_part, given_before, has, has_instead, is_given, is_of}
 use Rattle.info65.specs.Laws.{AreOnce, GivenOnce, GlobalOnce, IsOnce}
 use Rattle.info65.specs.Values.{ValueView}
 use Rattle.info65.specs.declared.attribute.Attribute.{Attribute}
@@ -25,20 +25,20 @@ neither false b h = (refl, h)
 or_no : (a b : Bool) → a ≡ false → b ≡ false → (a || b) ≡ false
 or_no a b h i = rw h i
 
-has_append : (a : Attribute) (xs ys : List GivenView) → has a (xs ++ ys) ≡ (has a xs || has a ys)
+has_append : (a : Attribute) (xs ys : List AssignmentView) → has a (xs ++ ys) ≡ (has a xs || has a ys)
 unfolding has
 has_append a xs ys = list_any-append (is_of a) xs ys
 
-has_one : (a : Attribute) (g : GivenView) → has a (g ∷ []) ≡ (is_of a g || false)
+has_one : (a : Attribute) (g : AssignmentView) → has a (g ∷ []) ≡ (is_of a g || false)
 unfolding has
 has_one a g = refl
 
-has_cons : (a : Attribute) (x : GivenView) (xs : List GivenView) → has a (x ∷ xs) ≡ (is_of a x || has a xs)
+has_cons : (a : Attribute) (x : AssignmentView) (xs : List AssignmentView) → has a (x ∷ xs) ≡ (is_of a x || has a xs)
 unfolding has
 has_cons a x xs = refl
 
 -- one attribute more, which does not stand before
-once_more : (xs : List GivenView) (g : GivenView) → AreOnce xs → has g.attribute xs ≡ false → AreOnce (xs ++ g ∷ [])
+once_more : (xs : List AssignmentView) (g : AssignmentView) → AreOnce xs → has g.attribute xs ≡ false → AreOnce (xs ++ g ∷ [])
 unfolding has
 once_more [] g h n = (refl, tt)
 once_more (x ∷ xs) g h n =
@@ -47,7 +47,7 @@ once_more (x ∷ xs) g h n =
     let one : has x.attribute (g ∷ []) ≡ false = has_one x.attribute g ∙ or_no (is_of x.attribute g) false apart refl in
     (has_append x.attribute xs (g ∷ []) ∙ or_no (has x.attribute xs) (has x.attribute (g ∷ [])) h.0 one, once_more xs g h.1 parts.1)
 
-new_once : (before : List GroupView) (k : GroupKind) (given more : List GivenView) → AreNew before k given more → AreOnce (given_before before k ++ given) → AreOnce (given_before before k ++ (given ++ more))
+new_once : (before : List GroupView) (k : GroupKind) (given more : List AssignmentView) → AreNew before k given more → AreOnce (given_before before k ++ given) → AreOnce (given_before before k ++ (given ++ more))
 unfolding is_given
 new_once before k given [] h once = rw (append-nil given) once
 new_once before k given (x ∷ xs) h once =
@@ -63,7 +63,7 @@ global_more : (before : List GroupView) (g : GroupView) → global_given (before
 unfolding global_given
 global_more before g = flat_map-append global_part before (g ∷ []) ∙ ap (λ l. flat_map global_part before ++ l) (append-nil (global_part g))
 
-group_once : (before : List GroupView) (k : GroupKind) (given : List GivenView) → AreNew before k [] given → AreOnce (global_given before) → AreOnce (global_given (before ++ record { kind = k; given = given } ∷ []))
+group_once : (before : List GroupView) (k : GroupKind) (given : List AssignmentView) → AreNew before k [] given → AreOnce (global_given before) → AreOnce (global_given (before ++ record { kind = k; given = given } ∷ []))
 group_once before group.Global given h once =
     let start : AreOnce (global_given before ++ []) = rw (append-nil (global_given before)) once in
     rw (global_more before (record { kind = group.Global; given = given })) (new_once before group.Global [] given h start)
@@ -88,31 +88,31 @@ no_and : (a b : Bool) → b ≡ false → (a && b) ≡ false
 no_and true b h = h
 no_and false b h = refl
 
-has_more : (a : Attribute) (given : List GivenView) (g : GivenView) → is_of a g ≡ false → has a (given ++ g ∷ []) ≡ has a given
+has_more : (a : Attribute) (given : List AssignmentView) (g : AssignmentView) → is_of a g ≡ false → has a (given ++ g ∷ []) ≡ has a given
 has_more a given g h = has_append a given (g ∷ []) ∙ ap (λ b. has a given || b) (has_one a g ∙ or_no (is_of a g) false h refl) ∙ or_last (has a given)
   where
     or_last : (b : Bool) → (b || false) ≡ b
     or_last true = refl
     or_last false = refl
 
-abbrev Either : List GivenView → Type 0
+abbrev Either : List AssignmentView → Type 0
 Either given = (has attribute.End given && has attribute.Size given) ≡ false
 
 -- END and SIZE stay as they were
-kept : (given : List GivenView) (g : GivenView) → is_of attribute.End g ≡ false → is_of attribute.Size g ≡ false → Either given → Either (given ++ g ∷ [])
+kept : (given : List AssignmentView) (g : AssignmentView) → is_of attribute.End g ≡ false → is_of attribute.Size g ≡ false → Either given → Either (given ++ g ∷ [])
 kept given g e s h = rw (has_more attribute.End given g e, has_more attribute.Size given g s) h
 
-either_more : (given : List GivenView) (a : Attribute) (v : ValueView) → has_instead a given ≡ false → Either given → Either (given ++ record { attribute = a; value = v } ∷ [])
+either_more : (given : List AssignmentView) (a : Attribute) (v : ValueView) → has_instead a given ≡ false → Either given → Either (given ++ record { attribute = a; value = v } ∷ [])
 unfolding has_instead
 either_more given attribute.End v n h = no_and _ _ (has_more attribute.Size given (record { attribute = attribute.End; value = v }) refl ∙ n)
 either_more given attribute.Size v n h = and_no _ _ (has_more attribute.End given (record { attribute = attribute.Size; value = v }) refl ∙ n)
 either_more given _ v n h = kept given _ refl refl h
 
-record Alone (given : List GivenView) : Type 0 where
+record Alone (given : List AssignmentView) : Type 0 where
   once : AreOnce given
   either : Either given
 
-alone_more : (before : List GroupView) (k : GroupKind) (given more : List GivenView) → AreNew before k given more → Alone given → Alone (given ++ more)
+alone_more : (before : List GroupView) (k : GroupKind) (given more : List AssignmentView) → AreNew before k given more → Alone given → Alone (given ++ more)
 unfolding is_given
 alone_more before k given [] h old = rw (append-nil given) old
 alone_more before k given (x ∷ xs) h old =

@@ -9,22 +9,24 @@ use Rattle.std.proofs.lemmas.List.Folds.{Any-from_list_any, list_any-append, lis
 use Rattle.std.proofs.lemmas.List.Quantifiers.{all_pairs_push}
 use Rattle.std.proofs.lemmas.Grind.{flat_map-append}
 use Rattle.info65.specs.Attributes.{form_of}
-use Rattle.info65.specs.Closing.{closing_fault, range_fault}
-use Rattle.info65.specs.Given.{group_seen}
+use Rattle.info65.specs.Closing.{closing_fault, fault_after, optional_name_fault, range_fault}
+use Rattle.info65.specs.Code.Groups.{group_seen}
 use Rattle.info65.specs.Grammar.{AreGroups}
-use Rattle.info65.specs.Groups.{AreFormed, GivenView, GroupView, value_in}
+use Rattle.info65.specs.Groups.{AreFormed, AssignmentView, GroupView, value_in}
+use Rattle.info65.specs.Labels.{is_at, is_elsewhere, name_fault, names_said, range_name}
 use Rattle.info65.specs.Laws.{AreSaid, OverlapsShare, RangesApart, SaysRange, Share}
+use Rattle.info65.specs.Names.{is_reserved}
 use Rattle.info65.specs.Ranges.{AreApart, AreRanges, last_from, overlaps, range_between, range_from, range_in, range_part, ranges_of}
 use Rattle.info65.specs.Reader.{groups_of, read}
 use Rattle.info65.specs.Tokens.{tokens_of}
 use Rattle.info65.specs.Values.{ValueView, a_number, a_type, an_address, as_address, as_number, as_type}
-use Rattle.info65.specs.Views.{OptionsView}
+use Rattle.info65.specs.Views.{NameView, OptionsView}
 use Rattle.info65.specs.declared.attribute.Attribute.TheVariants as attribute
 use Rattle.info65.specs.declared.attribute.GroupKind.{GroupKind}
 use Rattle.info65.specs.declared.attribute.GroupKind.TheVariants as kind
 use Rattle.info65.specs.declared.fault.InfoFaultKind.{InfoFaultKind}
-use Rattle.info65.specs.declared.fault.InfoFaultKind.TheVariants.{OutOfRange, RangesOverlap}
-use Rattle.info65.specs.declared.given.Group.{Group}
+use Rattle.info65.specs.declared.fault.InfoFaultKind.TheVariants.{AddressTwice, NameTwice, OutOfRange, RangesOverlap, ReservedName}
+use Rattle.info65.specs.declared.assignment.Group.{Group}
 use Rattle.info65.specs.declared.range.RangeSpec.{RangeSpec}
 use Rattle.info65.specs.declared.range.RangeType.{RangeType}
 use Rattle.info65.proofs.Accepting.{by_test, groups_accepted}
@@ -44,29 +46,7 @@ pub ranges_none : {Z : Type 0} (gs : List (Group Z)) (i : ℕ) → length gs ≤
 unfolding ranges_of
 ranges_none gs i past = at_drop_all (λ l. ranges_of (map group_seen l)) gs i past
 
-or_yes : (a b : Bool) → a ≡ true → (a || b) ≡ true
-or_yes a b h = rw h refl
-
-or_none : (a b : Bool) → a ≡ false → (a || b) ≡ b
-or_none a b h = rw h refl
-
--- an overlap, looked for group by group
-any_more : {Z : Type 0} (r : RangeSpec) (gs : List (Group Z)) (i : ℕ) (x : Group Z) → i < length gs → x ≡ get_or gs i x
-    → list_any (overlaps r) (ranges_of (map group_seen (drop i gs))) ≡ (list_any (overlaps r) (range_part (group_seen x)) || list_any (overlaps r) (ranges_of (map group_seen (drop (i + 1) gs))))
-any_more r gs i x here is = ap (list_any (overlaps r)) (ranges_next gs i x here is) ∙ list_any-append (overlaps r) (range_part (group_seen x)) (ranges_of (map group_seen (drop (i + 1) gs)))
-
-pub any_found : {Z : Type 0} (r : RangeSpec) (gs : List (Group Z)) (i : ℕ) (x : Group Z) → i < length gs → x ≡ get_or gs i x → list_any (overlaps r) (range_part (group_seen x)) ≡ true
-    → list_any (overlaps r) (ranges_of (map group_seen (drop i gs))) ≡ true
-any_found r gs i x here is found = any_more r gs i x here is ∙ or_yes (list_any (overlaps r) (range_part (group_seen x))) (list_any (overlaps r) (ranges_of (map group_seen (drop (i + 1) gs)))) found
-
-pub any_next : {Z : Type 0} (r : RangeSpec) (gs : List (Group Z)) (i : ℕ) (x : Group Z) → i < length gs → x ≡ get_or gs i x → list_any (overlaps r) (range_part (group_seen x)) ≡ false
-    → list_any (overlaps r) (ranges_of (map group_seen (drop i gs))) ≡ list_any (overlaps r) (ranges_of (map group_seen (drop (i + 1) gs)))
-any_next r gs i x here is free = any_more r gs i x here is ∙ or_none (list_any (overlaps r) (range_part (group_seen x))) (list_any (overlaps r) (ranges_of (map group_seen (drop (i + 1) gs)))) free
-
-pub any_none : {Z : Type 0} (r : RangeSpec) (gs : List (Group Z)) (i : ℕ) → length gs ≤ i → list_any (overlaps r) (ranges_of (map group_seen (drop i gs))) ≡ false
-any_none r gs i past = ap (list_any (overlaps r)) (ranges_none gs i past)
-
-ranges_more : (before : List GroupView) (g : GroupView) → ranges_of (before ++ g ∷ []) ≡ ranges_of before ++ range_part g
+pub ranges_more : (before : List GroupView) (g : GroupView) → ranges_of (before ++ g ∷ []) ≡ ranges_of before ++ range_part g
 unfolding ranges_of
 ranges_more before g = flat_map-append range_part before (g ∷ []) ∙ ap (λ l. flat_map range_part before ++ l) (append-nil (range_part g))
 
@@ -82,12 +62,12 @@ record IsFrom (s e z : Option ℕ) (t : Option RangeType) (r : RangeSpec) : Type
   role : t ≡ Some r.role
   ordered : r.first ≤ r.last
 
-between : (f l : ℕ) (t : RangeType) (r : RangeSpec) → range_between f t (Some l) ≡ Ok r → (r.first ≡ f) × (r.last ≡ l) × (r.role ≡ t) × (f ≤ l)
+between : (f l : ℕ) (t : RangeType) (r : RangeSpec) → range_between f t (Some l) ≡ Ok r → (r.first ≡ f) × (r.last ≡ l) × (r.role ≡ t) × (f ≤ l) × (l ≤ 0xFFFF)
 between f l t r h =
     by_test (nat_le f l && nat_le l 0xFFFF)
     (λ within. let p = and_parts (nat_le f l) (nat_le l 0xFFFF) within in
     let i : ◌≡◌ {A = Result RangeSpec InfoFaultKind} (Ok (record { first = f; last = l; role = t })) (Ok r) = rw within at h in
-    (cc, cc, cc, grind (arith, nat_tests, p.0)))
+    (cc, cc, cc, grind (arith, nat_tests, p.0), grind (arith, nat_tests, p.1)))
     (λ out. let i : ◌≡◌ {A = Result RangeSpec InfoFaultKind} (Err OutOfRange) (Ok r) = rw out at h in absurd cc)
 
 from : (s e z : Option ℕ) (t : Option RangeType) (r : RangeSpec) → IfSome z (λ n. 1 ≤ n) → range_from s e z t ≡ Ok r → IsFrom s e z t r
@@ -124,7 +104,7 @@ last_is : (e z : Option ValueView) (l n : ℕ) → (as_address e ≡ Some l) ⊎
 last_is e z l n (inl h) = inl (address_is e l h)
 last_is e z l n (inr h) = inr (number_is z n h)
 
-says : (given : List GivenView) (r : RangeSpec) → AreFormed given → range_in given ≡ Ok r → SaysRange given r
+says : (given : List AssignmentView) (r : RangeSpec) → AreFormed given → range_in given ≡ Ok r → SaysRange given r
 unfolding range_in form_of
 says given r f h =
     let low = some_low (as_number (value_in attribute.Size given)) (size_in (value_in attribute.Size given) (found_formed attribute.Size given f)) in
@@ -146,9 +126,23 @@ ordered_from (Some f) e z (Some t) r h = ordered_between f t (last_from f e z) r
 ordered_from (Some f) e z None r h = absurd cc
 ordered_from None e z t r h = absurd cc
 
-pub ordered_in : (given : List GivenView) (r : RangeSpec) → range_in given ≡ Ok r → r.first ≤ r.last
+pub ordered_in : (given : List AssignmentView) (r : RangeSpec) → range_in given ≡ Ok r → r.first ≤ r.last
 unfolding range_in
 ordered_in given r h = ordered_from (as_address (value_in attribute.Start given)) (as_address (value_in attribute.End given)) (as_number (value_in attribute.Size given)) (as_type (value_in attribute.Role given)) r h
+
+low_between : (f : ℕ) (t : RangeType) (l : Option ℕ) (r : RangeSpec) → range_between f t l ≡ Ok r → r.last ≤ 0xFFFF
+low_between f t (Some l) r h = let b = between f l t r h in rw b.1 b.4
+low_between f t None r h = absurd cc
+
+low_from : (s e z : Option ℕ) (t : Option RangeType) (r : RangeSpec) → range_from s e z t ≡ Ok r → r.last ≤ 0xFFFF
+low_from (Some f) e z (Some t) r h = low_between f t (last_from f e z) r h
+low_from (Some f) e z None r h = absurd cc
+low_from None e z t r h = absurd cc
+
+-- a range ends at or below $FFFF
+pub low_in : (given : List AssignmentView) (r : RangeSpec) → range_in given ≡ Ok r → r.last ≤ 0xFFFF
+unfolding range_in
+low_in given r h = low_from (as_address (value_in attribute.Start given)) (as_address (value_in attribute.End given)) (as_number (value_in attribute.Size given)) (as_type (value_in attribute.Role given)) r h
 
 abbrev Ordered : List RangeSpec → Type 0
 Ordered rs = All (λ r. r.first ≤ r.last) rs
@@ -160,10 +154,11 @@ ordered_one : (r : RangeSpec) → r.first ≤ r.last → Ordered (r ∷ [])
 ordered_one r h zero d l = h
 ordered_one r h (suc k) d l = absurd (omega (arith, l))
 
-ordered_part : (k : GroupKind) (given : List GivenView) (x : Result RangeSpec InfoFaultKind) → range_in given ≡ x → Ordered (range_part (record { kind = k; given = given }))
+ordered_part : (k : GroupKind) (given : List AssignmentView) (x : Result RangeSpec InfoFaultKind) → range_in given ≡ x → Ordered (range_part (record { kind = k; given = given }))
 ordered_part kind.Range given (Ok r) e = rw e (ordered_one r (ordered_in given r e))
 ordered_part kind.Range given (Err f) e = rw e ordered_none
 ordered_part kind.Global given x e = ordered_none
+ordered_part kind.Label given x e = ordered_none
 
 pub ranges_ordered : (groups : List GroupView) → Ordered (ranges_of groups)
 unfolding ranges_of
@@ -181,7 +176,7 @@ overlap_shared r q ro qo h =
     (λ high. let g : nat_le q.first r.first ≡ true = grind (arith, nat_tests, high) in
     let e : nat_le r.first r.first ≡ true = grind (arith, nat_tests) in let f : nat_le r.first r.last ≡ true = grind (arith, nat_tests, ro) in (r.first, rw (e, f) refl, rw (g, p.0) refl))
 
-shared_overlap : (r q : RangeSpec) → Share r q → overlaps r q ≡ true
+pub shared_overlap : (r q : RangeSpec) → Share r q → overlaps r q ≡ true
 unfolding overlaps
 shared_overlap r q h =
     let a = and_parts (nat_le r.first h.0) (nat_le h.0 r.last) h.1 in
@@ -191,7 +186,7 @@ shared_overlap r q h =
     rw (e, f) refl
 
 -- an overlap with one of some ranges
-any_shared : (r : RangeSpec) (rs : List RangeSpec) → r.first ≤ r.last → Ordered rs → Any (λ q. overlaps r q ≡ true) rs → Any (Share r) rs
+pub any_shared : (r : RangeSpec) (rs : List RangeSpec) → r.first ≤ r.last → Ordered rs → Any (λ q. overlaps r q ≡ true) rs → Any (Share r) rs
 any_shared r rs ro so h =
     let q : RangeSpec = h.1 in
     let qo : q.first ≤ q.last = subst (λ (x : RangeSpec). x.first ≤ x.last) h.3 (so h.0 q h.2) in (h.0, q, h.2, h.3, overlap_shared r q ro qo h.4)
@@ -199,47 +194,65 @@ any_shared r rs ro so h =
 shared_any : (r : RangeSpec) (rs : List RangeSpec) → Any (Share r) rs → Any (λ q. overlaps r q ≡ true) rs
 shared_any r rs h = (h.0, h.1, h.2, h.3, shared_overlap r h.1 h.4)
 
-refused_overlap : (r : RangeSpec) (rs : List RangeSpec) → range_fault rs (Ok r) ≡ Some RangesOverlap → list_any (overlaps r) rs ≡ true
-refused_overlap r rs h =
+-- a name is not refused for an overlap
+other_fault : (names : List NameView) (n : NameView) → name_fault names n ≡ Some RangesOverlap → ⊥
+unfolding name_fault
+other_fault names n h =
+    by_test (is_reserved n.address n.text)
+    (λ yes. let i : ◌≡◌ {A = Option InfoFaultKind} (Some ReservedName) (Some RangesOverlap) = rw yes at h in absurd cc)
+    (λ no. by_test (list_any (is_elsewhere n) names)
+    (λ yes. let i : ◌≡◌ {A = Option InfoFaultKind} (Some NameTwice) (Some RangesOverlap) = rw (no, yes) at h in absurd cc)
+    (λ once. by_test (list_any (is_at n.address) names)
+    (λ yes. let i : ◌≡◌ {A = Option InfoFaultKind} (Some AddressTwice) (Some RangesOverlap) = rw (no, once, yes) at h in absurd cc)
+    (λ free. let i : ◌≡◌ {A = Option InfoFaultKind} None (Some RangesOverlap) = rw (no, once, free) at h in absurd cc)))
+
+other_fault_of : (names : List NameView) (n : Option NameView) → optional_name_fault names n ≡ Some RangesOverlap → ⊥
+other_fault_of names None h = absurd cc
+other_fault_of names (Some n) h = other_fault names n h
+
+refused_overlap : (r : RangeSpec) (rs : List RangeSpec) (names : List NameView) (given : List AssignmentView) → range_fault rs names given (Ok r) ≡ Some RangesOverlap → list_any (overlaps r) rs ≡ true
+refused_overlap r rs names given h =
     by_test (list_any (overlaps r) rs)
     (λ yes. yes)
-    (λ no. let i : ◌≡◌ {A = Option InfoFaultKind} None (Some RangesOverlap) = rw no at h in absurd cc)
+    (λ no. let i : optional_name_fault names (range_name given r) ≡ Some RangesOverlap = rw no at h in absurd (other_fault_of names (range_name given r) i))
 
 pub overlaps_share : OverlapsShare
-unfolding closing_fault
+unfolding closing_fault fault_after
 overlaps_share before given r is = (
-  λ h. let i : range_fault (ranges_of before) (Ok r) ≡ Some RangesOverlap = rw is at h in
-      any_shared r (ranges_of before) (ordered_in given r is) (ranges_ordered before) (Any-from_list_any (overlaps r) (ranges_of before) (refused_overlap r (ranges_of before) i)),
+  λ h. let i : range_fault (ranges_of before) (names_said before) given (Ok r) ≡ Some RangesOverlap = rw is at h in
+      any_shared r (ranges_of before) (ordered_in given r is) (ranges_ordered before) (Any-from_list_any (overlaps r) (ranges_of before) (refused_overlap r (ranges_of before) (names_said before) given i)),
   λ h. let yes = list_any-from_Any (overlaps r) (ranges_of before) (shared_any r (ranges_of before) h) in rw (is, yes) refl,
 )
 
 -- ---- no two share an address
 
 -- a group RANGE that closes
-record Closes (before : List GroupView) (given : List GivenView) : Type 0 where
-  range : RangeSpec
-  is : range_in given ≡ Ok range
-  free : list_any (overlaps range) (ranges_of before) ≡ false
+pub record ClosesRange (ranges : List RangeSpec) (names : List NameView) (given : List AssignmentView) : Type 0 where
+  pub range : RangeSpec
+  pub is : range_in given ≡ Ok range
+  pub free : list_any (overlaps range) ranges ≡ false
+  pub named : optional_name_fault names (range_name given range) ≡ None
 
-closed_range : (before : List GroupView) (given : List GivenView) (x : Result RangeSpec InfoFaultKind) → range_in given ≡ x → range_fault (ranges_of before) x ≡ None → Closes before given
-closed_range before given (Err f) e h = absurd cc
-closed_range before given (Ok r) e h =
-    by_test (list_any (overlaps r) (ranges_of before))
+closed_range : (ranges : List RangeSpec) (names : List NameView) (given : List AssignmentView) (x : Result RangeSpec InfoFaultKind) → range_in given ≡ x → range_fault ranges names given x ≡ None → ClosesRange ranges names given
+closed_range ranges names given (Err f) e h = absurd cc
+closed_range ranges names given (Ok r) e h =
+    by_test (list_any (overlaps r) ranges)
     (λ yes. let i : ◌≡◌ {A = Option InfoFaultKind} (Some RangesOverlap) None = rw yes at h in absurd cc)
-    (λ no. record { range = r; is = e; free = no })
+    (λ no. record { range = r; is = e; free = no; named = rw no at h })
 
-closes : (before : List GroupView) (given : List GivenView) → closing_fault before kind.Range given ≡ None → Closes before given
-unfolding closing_fault
-closes before given h = closed_range before given (range_in given) refl h
+pub closes_range : (before : List GroupView) (given : List AssignmentView) → closing_fault before kind.Range given ≡ None → ClosesRange (ranges_of before) (names_said before) given
+unfolding closing_fault fault_after
+closes_range before given h = closed_range (ranges_of before) (names_said before) given (range_in given) refl h
 
 apart_from : (r : RangeSpec) (rs : List RangeSpec) → list_any (overlaps r) rs ≡ false → (k : ℕ) (d : RangeSpec) → k < length rs → AreApart (get_or rs k d) r
 apart_from r rs free k d l a there here =
     let yes = list_any_at (overlaps r) rs k d l (shared_overlap r (get_or rs k d) (a, here, there)) in absurd (let e : true ≡ false = sym yes ∙ free in cc)
 
-pairs_more : (before : List GroupView) (k : GroupKind) (given : List GivenView) → closing_fault before k given ≡ None → AllPairs AreApart (ranges_of before) → AllPairs AreApart (ranges_of before ++ range_part (record { kind = k; given = given }))
+pairs_more : (before : List GroupView) (k : GroupKind) (given : List AssignmentView) → closing_fault before k given ≡ None → AllPairs AreApart (ranges_of before) → AllPairs AreApart (ranges_of before ++ range_part (record { kind = k; given = given }))
 pairs_more before kind.Global given h old = rw (append-nil (ranges_of before)) old
+pairs_more before kind.Label given h old = rw (append-nil (ranges_of before)) old
 pairs_more before kind.Range given h old =
-    let c = closes before given h in
+    let c = closes_range before given h in
     rw c.is (all_pairs_push AreApart (ranges_of before) c.range old (apart_from c.range (ranges_of before) c.free))
 
 groups_apart : (before gs : List GroupView) → AreGroups before gs → AllPairs AreApart (ranges_of before) → AllPairs AreApart (ranges_of (before ++ gs))
@@ -256,9 +269,10 @@ none_apart i j d lt l = absurd (omega (arith, l))
 pub groups_sound : (groups : List GroupView) → AreGroups [] groups → AreRanges (ranges_of groups)
 groups_sound groups h = record { disjoint = record { each = groups_apart [] groups h none_apart }; ordered = ranges_ordered groups }
 
-said_more : (before : List GroupView) (k : GroupKind) (given : List GivenView) (gs : List GroupView) → closing_fault before k given ≡ None → AreFormed given → AreSaid gs (ranges_of gs) → AreSaid (record { kind = k; given = given } ∷ gs) (range_part (record { kind = k; given = given }) ++ ranges_of gs)
+said_more : (before : List GroupView) (k : GroupKind) (given : List AssignmentView) (gs : List GroupView) → closing_fault before k given ≡ None → AreFormed given → AreSaid gs (ranges_of gs) → AreSaid (record { kind = k; given = given } ∷ gs) (range_part (record { kind = k; given = given }) ++ ranges_of gs)
 said_more before kind.Global given gs h f said = said
-said_more before kind.Range given gs h f said = let c = closes before given h in rw c.is (says given c.range f c.is, said)
+said_more before kind.Label given gs h f said = said
+said_more before kind.Range given gs h f said = let c = closes_range before given h in rw c.is (says given c.range f c.is, said)
 
 groups_said : (before gs : List GroupView) → AreGroups before gs → GroupsFormed gs → AreSaid gs (ranges_of gs)
 unfolding ranges_of

@@ -4,10 +4,11 @@ use Rattle.std.specs.Prelude.{Result, Ok, Err, Some, None}
 use Rattle.info65.specs.Faults.{Fails, fault, ◌>>=◌}
 use Rattle.info65.specs.Attributes.{group_named}
 use Rattle.info65.specs.Closing.{closing_fault}
-use Rattle.info65.specs.Groups.{GivenView, GroupView}
+use Rattle.info65.specs.Groups.{AssignmentView, GroupView}
 use Rattle.info65.specs.Lexemes.{KindView, semicolon}
-use Rattle.info65.specs.Reader.{Leads, Place, after_group, at_attribute, at_brace, at_group, at_semicolon, attribute_at, behind, closed, closed_by, finish, group, inside, is_semicolon, one, opened, opening, outside, place_after, read, read_from, read_token, step, valued, wanted}
-use Rattle.info65.specs.Steps.{kind_seen}
+use Rattle.info65.specs.Code.Reading.{Leads, is_semicolon, place_after}
+use Rattle.info65.specs.Reader.{Place, after_group, at_attribute, at_brace, at_group, at_semicolon, attribute_at, behind, closed, closed_by, finish, group, inside, one, opened, opening, outside, read, read_from, read_token, step, valued, wanted}
+use Rattle.info65.specs.Code.Steps.{kind_seen}
 use Rattle.info65.specs.Tokens.{Stream, TokenView, ended, refused, with_token}
 use Rattle.info65.specs.Values.{ValueView, value_of}
 use Rattle.info65.specs.Views.{OptionsView}
@@ -47,7 +48,7 @@ brace_no : (k : GroupKind) (b : List GroupView) (t : TokenView) (x : TokenKind) 
 brace_no k b t kind.OpenBrace isnt = absurd (isnt refl)
 brace_no k b t _ isnt = refl
 
-semicolon_no : (k : GroupKind) (given : List GivenView) (b : List GroupView) (t : TokenView) (x : TokenKind) → (x ≡ kind.Semicolon → ⊥) → at_semicolon b k given t (kind_seen x) ≡ Err (fault t.line Expected)
+semicolon_no : (k : GroupKind) (given : List AssignmentView) (b : List GroupView) (t : TokenView) (x : TokenKind) → (x ≡ kind.Semicolon → ⊥) → at_semicolon b k given t (kind_seen x) ≡ Err (fault t.line Expected)
 semicolon_no k given b t kind.Semicolon isnt = absurd (isnt refl)
 semicolon_no k given b t _ isnt = refl
 
@@ -55,7 +56,7 @@ group_no : (b : List GroupView) (t : TokenView) (x : TokenKind) → (x ≡ kind.
 group_no b t kind.Word isnt = absurd (isnt refl)
 group_no b t _ isnt = refl
 
-attribute_no : (k : GroupKind) (given : List GivenView) (b : List GroupView) (t : TokenView) (x : TokenKind) → (x ≡ kind.Word → ⊥) → (x ≡ kind.CloseBrace → ⊥) → at_attribute b k given t (kind_seen x) ≡ Err (fault t.line Expected)
+attribute_no : (k : GroupKind) (given : List AssignmentView) (b : List GroupView) (t : TokenView) (x : TokenKind) → (x ≡ kind.Word → ⊥) → (x ≡ kind.CloseBrace → ⊥) → at_attribute b k given t (kind_seen x) ≡ Err (fault t.line Expected)
 attribute_no k given b t kind.Word isnt other = absurd (isnt refl)
 attribute_no k given b t kind.CloseBrace isnt other = absurd (other refl)
 attribute_no k given b t _ isnt other = refl
@@ -78,11 +79,11 @@ pub brace_refused : (o : OptionsView) (k : GroupKind) (b : List GroupView) (t : 
 unfolding step
 brace_refused o k b t x rest is isnt = token_refused o (opening k) b t rest _ (ap (at_brace b k t) is ∙ brace_no k b t x isnt)
 
-pub separator_taken : (o : OptionsView) (k : GroupKind) (given : List GivenView) (b : List GroupView) (t : TokenView) (x : TokenKind) (rest : Stream) → t.kind ≡ kind_seen x → x ≡ kind.Semicolon → read_token o (behind k given) b t rest ≡ read o (inside k given) b rest
+pub separator_taken : (o : OptionsView) (k : GroupKind) (given : List AssignmentView) (b : List GroupView) (t : TokenView) (x : TokenKind) (rest : Stream) → t.kind ≡ kind_seen x → x ≡ kind.Semicolon → read_token o (behind k given) b t rest ≡ read o (inside k given) b rest
 unfolding step
 separator_taken o k given b t x rest is mark = token_taken o (behind k given) (inside k given) b b t rest (ap (at_semicolon b k given t) (is ∙ ap kind_seen mark))
 
-pub separator_refused : (o : OptionsView) (k : GroupKind) (given : List GivenView) (b : List GroupView) (t : TokenView) (x : TokenKind) (rest : Stream) → t.kind ≡ kind_seen x → (x ≡ kind.Semicolon → ⊥) → read_token o (behind k given) b t rest ≡ Err (fault t.line Expected)
+pub separator_refused : (o : OptionsView) (k : GroupKind) (given : List AssignmentView) (b : List GroupView) (t : TokenView) (x : TokenKind) (rest : Stream) → t.kind ≡ kind_seen x → (x ≡ kind.Semicolon → ⊥) → read_token o (behind k given) b t rest ≡ Err (fault t.line Expected)
 unfolding step
 separator_refused o k given b t x rest is isnt = token_refused o (behind k given) b t rest _ (ap (at_semicolon b k given t) is ∙ semicolon_no k given b t x isnt)
 
@@ -98,30 +99,30 @@ pub group_unknown : (o : OptionsView) (b : List GroupView) (t : TokenView) (x : 
 unfolding step
 group_unknown o b t x rest is word named = token_refused o outside b t rest _ (ap (at_group b t) (is ∙ ap kind_seen word) ∙ ap (opened b t.line) named)
 
-pub attribute_read : (o : OptionsView) (k : GroupKind) (given : List GivenView) (b : List GroupView) (t : TokenView) (x : TokenKind) (rest : Stream) (r : Result Attribute InfoFault) → t.kind ≡ kind_seen x → x ≡ kind.Word → r ≡ attribute_at b k given t → Leads (read_token o (inside k given) b t rest) r (λ a. read o (valued k given a) b rest)
+pub attribute_read : (o : OptionsView) (k : GroupKind) (given : List AssignmentView) (b : List GroupView) (t : TokenView) (x : TokenKind) (rest : Stream) (r : Result Attribute InfoFault) → t.kind ≡ kind_seen x → x ≡ kind.Word → r ≡ attribute_at b k given t → Leads (read_token o (inside k given) b t rest) r (λ a. read o (valued k given a) b rest)
 unfolding step
 attribute_read o k given b t x rest (Ok a) is word found = token_taken o (inside k given) (valued k given a) b b t rest (ap (at_attribute b k given t) (is ∙ ap kind_seen word) ∙ ap (λ r. r >>= λ a. Ok (valued k given a, b)) (sym found))
 attribute_read o k given b t x rest (Err e) is word found = token_refused o (inside k given) b t rest e (ap (at_attribute b k given t) (is ∙ ap kind_seen word) ∙ ap (λ r. r >>= λ a. Ok (valued k given a, b)) (sym found))
 
-pub attribute_refused : (o : OptionsView) (k : GroupKind) (given : List GivenView) (b : List GroupView) (t : TokenView) (x : TokenKind) (rest : Stream) → t.kind ≡ kind_seen x → (x ≡ kind.Word → ⊥) → (x ≡ kind.CloseBrace → ⊥) → read_token o (inside k given) b t rest ≡ Err (fault t.line Expected)
+pub attribute_refused : (o : OptionsView) (k : GroupKind) (given : List AssignmentView) (b : List GroupView) (t : TokenView) (x : TokenKind) (rest : Stream) → t.kind ≡ kind_seen x → (x ≡ kind.Word → ⊥) → (x ≡ kind.CloseBrace → ⊥) → read_token o (inside k given) b t rest ≡ Err (fault t.line Expected)
 unfolding step
 attribute_refused o k given b t x rest is isnt other = token_refused o (inside k given) b t rest _ (ap (at_attribute b k given t) is ∙ attribute_no k given b t x isnt other)
 
-pub close_read : (o : OptionsView) (k : GroupKind) (given : List GivenView) (b : List GroupView) (t : TokenView) (x : TokenKind) (rest : Stream) → t.kind ≡ kind_seen x → x ≡ kind.CloseBrace → step o (inside k given) b t ≡ closed_by b k given t.line (closing_fault b k given)
+pub close_read : (o : OptionsView) (k : GroupKind) (given : List AssignmentView) (b : List GroupView) (t : TokenView) (x : TokenKind) (rest : Stream) → t.kind ≡ kind_seen x → x ≡ kind.CloseBrace → step o (inside k given) b t ≡ closed_by b k given t.line (closing_fault b k given)
 unfolding step
 close_read o k given b t x rest is brace = ap (at_attribute b k given t) (is ∙ ap kind_seen brace)
 
-pub close_taken : (o : OptionsView) (k : GroupKind) (given : List GivenView) (b : List GroupView) (t : TokenView) (x : TokenKind) (rest : Stream) → t.kind ≡ kind_seen x → x ≡ kind.CloseBrace → closed_by b k given t.line (closing_fault b k given) ≡ Ok (closed, b ++ group k given ∷ []) → read_token o (inside k given) b t rest ≡ read o closed (b ++ group k given ∷ []) rest
+pub close_taken : (o : OptionsView) (k : GroupKind) (given : List AssignmentView) (b : List GroupView) (t : TokenView) (x : TokenKind) (rest : Stream) → t.kind ≡ kind_seen x → x ≡ kind.CloseBrace → closed_by b k given t.line (closing_fault b k given) ≡ Ok (closed, b ++ group k given ∷ []) → read_token o (inside k given) b t rest ≡ read o closed (b ++ group k given ∷ []) rest
 close_taken o k given b t x rest is brace whole = token_taken o (inside k given) closed b (b ++ group k given ∷ []) t rest (close_read o k given b t x rest is brace ∙ whole)
 
-pub close_refused : (o : OptionsView) (k : GroupKind) (given : List GivenView) (b : List GroupView) (t : TokenView) (x : TokenKind) (rest : Stream) (e : InfoFault) → t.kind ≡ kind_seen x → x ≡ kind.CloseBrace → closed_by b k given t.line (closing_fault b k given) ≡ Err e → read_token o (inside k given) b t rest ≡ Err e
+pub close_refused : (o : OptionsView) (k : GroupKind) (given : List AssignmentView) (b : List GroupView) (t : TokenView) (x : TokenKind) (rest : Stream) (e : InfoFault) → t.kind ≡ kind_seen x → x ≡ kind.CloseBrace → closed_by b k given t.line (closing_fault b k given) ≡ Err e → read_token o (inside k given) b t rest ≡ Err e
 close_refused o k given b t x rest e is brace whole = token_refused o (inside k given) b t rest e (close_read o k given b t x rest is brace ∙ whole)
 
-pub value_taken : (o : OptionsView) (k : GroupKind) (given : List GivenView) (a : Attribute) (b : List GroupView) (t : TokenView) (rest : Stream) (v : ValueView) → value_of o a t ≡ Ok v → read_token o (valued k given a) b t rest ≡ read o (behind k (given ++ one a v ∷ [])) b rest
+pub value_taken : (o : OptionsView) (k : GroupKind) (given : List AssignmentView) (a : Attribute) (b : List GroupView) (t : TokenView) (rest : Stream) (v : ValueView) → value_of o a t ≡ Ok v → read_token o (valued k given a) b t rest ≡ read o (behind k (given ++ one a v ∷ [])) b rest
 unfolding step
 value_taken o k given a b t rest v is = token_taken o (valued k given a) (behind k (given ++ one a v ∷ [])) b b t rest (ap (λ r. r >>= λ v. Ok (behind k (given ++ one a v ∷ []), b)) is)
 
-pub value_refused : (o : OptionsView) (k : GroupKind) (given : List GivenView) (a : Attribute) (b : List GroupView) (t : TokenView) (rest : Stream) (e : InfoFault) → value_of o a t ≡ Err e → read_token o (valued k given a) b t rest ≡ Err e
+pub value_refused : (o : OptionsView) (k : GroupKind) (given : List AssignmentView) (a : Attribute) (b : List GroupView) (t : TokenView) (rest : Stream) (e : InfoFault) → value_of o a t ≡ Err e → read_token o (valued k given a) b t rest ≡ Err e
 unfolding step
 value_refused o k given a b t rest e is = token_refused o (valued k given a) b t rest e (ap (λ r. r >>= λ v. Ok (behind k (given ++ one a v ∷ []), b)) is)
 

@@ -3,7 +3,7 @@ use Rattle.std.proofs.Common.{◌≡◌, ◌∙◌, ◌==◌, ◌+◌, ℕ, zero
 use Rattle.std.specs.Prelude.{Result, Ok, Err}
 use Rattle.std.proofs.lemmas.List.{append-nil}
 use Rattle.info65.specs.Lexemes.{LexemeView, lexeme_at}
-use Rattle.info65.specs.Standing.{Stand, TokensStand, feeds, is_gap}
+use Rattle.info65.specs.Standing.{Stand, TokensStand, feeds, is_gap, is_solid}
 use Rattle.info65.specs.Tokens.{Stream, TokenView, ended, found, is_blank, opens_comment, tokens_after}
 use Rattle.info65.specs.declared.fault.InfoFault.{InfoFault}
 use Rattle.info65.proofs.Accepting.{by_test}
@@ -26,6 +26,7 @@ pushed b bs from to first next [] (Err e) g h = record {
   rest = h.rest;
   parts = ap (λ (l : List ℕ). b ∷ l) h.parts;
   blank = g.gap false h.gap h.rest h.parts h.blank (λ e. absurd cc);
+  solid = h.solid;
   is = ap (λ n. lexeme_at n h.rest) (sym (g.counted h.gap)) ∙ h.is;
 }
 pushed b bs from to first next (t ∷ ts) ending g h =
@@ -74,10 +75,10 @@ comment_goes b bs line isnt solid opens = record {
 }
 
 -- a token, or what is none, at the front
-begins : (line b : ℕ) (bs : List ℕ) (after : ℕ → Stream) → ((more : ℕ) → StandIn false line (drop more bs) (after more)) → (r : Result LexemeView InfoFault) → lexeme_at line (b ∷ bs) ≡ r → StandIn false line (b ∷ bs) (found line (b ∷ bs) r after)
-begins line b bs after stand (Err e) is =
-    let here : line + 0 ≡ line = omega arith in record { gap = []; rest = b ∷ bs; parts = refl; blank = refl; is = ap (λ n. lexeme_at n (b ∷ bs)) here ∙ is }
-begins line b bs after stand (Ok p) is = (
+begins : (line b : ℕ) (bs : List ℕ) (after : ℕ → Stream) → ((more : ℕ) → StandIn false line (drop more bs) (after more)) → (r : Result LexemeView InfoFault) → is_solid (b ∷ bs) ≡ true → lexeme_at line (b ∷ bs) ≡ r → StandIn false line (b ∷ bs) (found line (b ∷ bs) r after)
+begins line b bs after stand (Err e) solid is =
+    let here : line + 0 ≡ line = omega arith in record { gap = []; rest = b ∷ bs; parts = refl; blank = refl; solid = solid; is = ap (λ n. lexeme_at n (b ∷ bs)) here ∙ is }
+begins line b bs after stand (Ok p) solid is = (
   b ∷ bs,
   p.more,
   record { gap = []; parts = refl; blank = refl; counted = omega arith; is = is; text = refl },
@@ -101,7 +102,7 @@ stands zero c line (b ∷ bs) =
     (λ blank. rw (other, off, blank) (pushed b bs false false line line _ _ (blank_goes b bs line other blank) (stands 0 false line bs)))
     (λ solid. by_test (opens_comment (b ∷ bs))
     (λ opens. rw (other, off, solid, opens) (pushed b bs false true line line _ _ (comment_goes b bs line other solid opens) (stands 0 true line bs)))
-    (λ closed. rw (other, off, solid, closed) (begins line b bs (λ more. tokens_after more false line bs) (λ more. stands more false line bs) (lexeme_at line (b ∷ bs)) refl)))))
+    (λ closed. rw (other, off, solid, closed) (begins line b bs (λ more. tokens_after more false line bs) (λ more. stands more false line bs) (lexeme_at line (b ∷ bs)) (rw (other, solid, closed) refl) refl)))))
 
 pub tokens_stand : TokensStand
 tokens_stand bytes = stands 0 false 1 bytes

@@ -1,5 +1,6 @@
--- The groups of an information file, their attributes, what the values of these have to be, and the type words.
-use Rattle.std.specs.Prelude.{ℕ, List, Option, Some, None, codes, if◌then◌else◌}
+-- The groups of an information file, their attributes, what the values of these have to be, and the words
+-- that stand for a type or a boolean.
+use Rattle.std.specs.Prelude.{Bool, true, false, ℕ, List, Option, Some, None, codes, if◌then◌else◌}
 use Rattle.std.specs.Str.{str_eq_ignore_ascii_case}
 use Rattle.info65.specs.declared.attribute.GroupKind.{GroupKind}
 use Rattle.info65.specs.declared.attribute.GroupKind.TheVariants as group
@@ -15,7 +16,8 @@ unfoldable pub group_named : List ℕ → Option GroupKind
 group_named text =
     if str_eq_ignore_ascii_case text (codes "GLOBAL") then Some group.Global
     else (if str_eq_ignore_ascii_case text (codes "RANGE") then Some group.Range
-    else None)
+    else (if str_eq_ignore_ascii_case text (codes "LABEL") then Some group.Label
+    else None))
 
 -- the attribute of a group by its name, with letters of any case
 unfoldable pub attribute_named : GroupKind → List ℕ → Option Attribute
@@ -26,14 +28,21 @@ attribute_named group.Global text =
     else (if str_eq_ignore_ascii_case text (codes "INPUTSIZE") then Some attribute.InputSize
     else (if str_eq_ignore_ascii_case text (codes "STARTADDR") then Some attribute.StartAddress
     else (if str_eq_ignore_ascii_case text (codes "CPU") then Some attribute.Cpu
+    else (if str_eq_ignore_ascii_case text (codes "HEXOFFS") then Some attribute.HexOffsets
     else (if str_eq_ignore_ascii_case text (codes "PAGELENGTH") then Some attribute.PageLength
-    else None))))))
+    else None)))))))
 attribute_named group.Range text =
     if str_eq_ignore_ascii_case text (codes "START") then Some attribute.Start
     else (if str_eq_ignore_ascii_case text (codes "END") then Some attribute.End
     else (if str_eq_ignore_ascii_case text (codes "SIZE") then Some attribute.Size
     else (if str_eq_ignore_ascii_case text (codes "TYPE") then Some attribute.Role
-    else None)))
+    else (if str_eq_ignore_ascii_case text (codes "NAME") then Some attribute.Name
+    else None))))
+attribute_named group.Label text =
+    if str_eq_ignore_ascii_case text (codes "ADDR") then Some attribute.Address
+    else (if str_eq_ignore_ascii_case text (codes "NAME") then Some attribute.Name
+    else (if str_eq_ignore_ascii_case text (codes "SIZE") then Some attribute.Size
+    else None))
 
 -- what the value of an attribute has to be
 unfoldable pub form_of : Attribute → Form
@@ -43,11 +52,14 @@ form_of attribute.InputOffset = form.Number 0 16_777_216
 form_of attribute.InputSize = form.Number 1 0x1_0000
 form_of attribute.StartAddress = form.Address
 form_of attribute.Cpu = form.CpuText
+form_of attribute.HexOffsets = form.Boolean
 form_of attribute.PageLength = form.Number 0 0
 form_of attribute.Start = form.Address
 form_of attribute.End = form.Address
 form_of attribute.Size = form.Number 1 0x1_0000
 form_of attribute.Role = form.TypeWord
+form_of attribute.Name = form.Name
+form_of attribute.Address = form.Address
 
 -- what the bytes of a range are, by a type word with letters of any case
 unfoldable pub type_named : List ℕ → Option RangeType
@@ -56,6 +68,19 @@ type_named text =
     else (if str_eq_ignore_ascii_case text (codes "BYTETABLE") then Some range_type.ByteTable
     else (if str_eq_ignore_ascii_case text (codes "WORDTABLE") then Some range_type.WordTable
     else (if str_eq_ignore_ascii_case text (codes "DBYTETABLE") then Some range_type.DbyteTable
+    else (if str_eq_ignore_ascii_case text (codes "ADDRTABLE") then Some range_type.AddrTable
+    else (if str_eq_ignore_ascii_case text (codes "RTSTABLE") then Some range_type.RtsTable
     else (if str_eq_ignore_ascii_case text (codes "TEXTTABLE") then Some range_type.TextTable
     else (if str_eq_ignore_ascii_case text (codes "SKIP") then Some range_type.Skip
+    else None)))))))
+
+-- a boolean word, with letters of any case
+unfoldable pub boolean_named : List ℕ → Option Bool
+boolean_named text =
+    if str_eq_ignore_ascii_case text (codes "ON") then Some true
+    else (if str_eq_ignore_ascii_case text (codes "TRUE") then Some true
+    else (if str_eq_ignore_ascii_case text (codes "YES") then Some true
+    else (if str_eq_ignore_ascii_case text (codes "OFF") then Some false
+    else (if str_eq_ignore_ascii_case text (codes "FALSE") then Some false
+    else (if str_eq_ignore_ascii_case text (codes "NO") then Some false
     else None)))))

@@ -30,7 +30,7 @@ fault_text kind.Memory = codes "out of memory"
 abbrev pub fault : ℕ → InfoFaultKind → InfoFault
 fault line k = record { line = line; kind = k }
 
--- want of memory stands at line 0
+-- out of memory has line 0
 abbrev pub out_of_memory : InfoFault
 out_of_memory = fault 0 kind.Memory
 
@@ -40,11 +40,11 @@ abbrev pub ◌>>=◌ : {A B : Type 0} → Result A InfoFault → (A → Result B
 (Ok x) >>= f = f x
 (Err e) >>= f = Err e
 
--- a refusal is that of the definition, unless memory was refused
+-- a refusal is that of the definition, unless an allocation failed
 abbrev pub Fails : {A : Type 0} → InfoFault → Result A InfoFault → Type 0
 Fails e defined = (defined ≡ Err e) ⊎ (e ≡ out_of_memory)
 
--- what a call answers, seen by `seen`, is what the definition gives, unless memory was refused
+-- what a call returns, seen by `seen`, is what the definition gives, unless an allocation failed
 abbrev pub Gives : {X A : Type 0} → (X → A) → Result X InfoFault → Result A InfoFault → Type 0
 Gives seen (Ok x) defined = defined ≡ Ok (seen x)
 Gives seen (Err e) defined = Fails e defined

@@ -3,7 +3,7 @@ use Rattle.std.specs.Prelude.{◌≡◌, ◌≤◌, ℕ, Bool, true, false, List
 use Rattle.std.specs.List.{flat_map}
 use Rattle.info65.specs.Attributes.{attribute_named, group_named}
 use Rattle.info65.specs.Closing.{closing_fault}
-use Rattle.info65.specs.Groups.{GivenView, GroupView, is_given}
+use Rattle.info65.specs.Groups.{AssignmentView, GroupView, is_given}
 use Rattle.info65.specs.Lexemes.{KindView, word, opening_brace, closing_brace, semicolon}
 use Rattle.info65.specs.Settings.{info_of}
 use Rattle.info65.specs.Tokens.{TokenView, tokens_of}
@@ -34,7 +34,7 @@ Spells o (i ∷ is) [] = ⊥
 Spells o (i ∷ is) (t ∷ ts) = IsToken o i t × Spells o is ts
 
 -- ATTRIBUTE value ;
-abbrev pub given_items : GroupKind → GivenView → List Item
+abbrev pub given_items : GroupKind → AssignmentView → List Item
 given_items k g = attribute_name k g.attribute ∷ value g.attribute g.value ∷ mark semicolon ∷ []
 
 -- a closing brace, and perhaps a `;`
@@ -42,16 +42,16 @@ abbrev pub end_items : Bool → List Item
 end_items true = mark closing_brace ∷ mark semicolon ∷ []
 end_items false = mark closing_brace ∷ []
 
--- NAME { ATTRIBUTE value ; .. }, and whether a `;` stands behind it
+-- NAME { ATTRIBUTE value ; .. }, and whether a `;` follows it
 abbrev pub group_items : GroupView × Bool → List Item
 group_items g = group_name g.0.kind ∷ mark opening_brace ∷ (flat_map (given_items g.0.kind) g.0.given ++ end_items g.1)
 
 -- none of these attributes was given before it
-abbrev pub AreNew : List GroupView → GroupKind → List GivenView → List GivenView → Type 0
+abbrev pub AreNew : List GroupView → GroupKind → List AssignmentView → List AssignmentView → Type 0
 AreNew before k given [] = Unit {0}
 AreNew before k given (x ∷ xs) = (is_given before k given x.attribute ≡ false) × AreNew before k (given ++ x ∷ []) xs
 
--- a group that may stand behind those before it
+-- a group that may stand after those before it
 pub record IsGroup (before : List GroupView) (g : GroupView) : Type 0 where
   pub new : AreNew before g.kind [] g.given
   pub closes : closing_fault before g.kind g.given ≡ None

@@ -4,9 +4,9 @@ use Rattle.std.specs.List.{AllByRecursion}
 use Rattle.info65.specs.Closing.{closing_fault}
 use Rattle.info65.specs.Faults.{fault}
 use Rattle.info65.specs.Grammar.{Accepts, IsInformation}
-use Rattle.info65.specs.Groups.{GivenView, GroupView, global_given, has, value_in}
+use Rattle.info65.specs.Groups.{AssignmentView, GroupView, global_given, has, value_in}
 use Rattle.info65.specs.Ranges.{AreRanges, has_address, range_in, ranges_of}
-use Rattle.info65.specs.Reader.{information, outside, read_from}
+use Rattle.info65.specs.Reader.{Place, State, information, outside, read_from, step}
 use Rattle.info65.specs.Tokens.{TokenView, tokens_of}
 use Rattle.info65.specs.Values.{a_number, a_type, an_address}
 use Rattle.info65.specs.Views.{InfoView, OptionsView}
@@ -29,13 +29,23 @@ IsFaultless o ts = (line : ℕ) → ((groups : List GroupView) × (read_from o o
 abbrev pub Refuses : OptionsView → List TokenView → InfoFault → Type 0
 Refuses o ts e = (more : List TokenView) (ending : Result ℕ InfoFault) → read_from o outside [] (ts ++ more) ending ≡ Err e
 
--- the fault of a token: those before it have none, and with it there is one, whatever follows
+-- reading goes from one place, after some groups, over these tokens to another
+abbrev pub Reaches : OptionsView → Place → List GroupView → List TokenView → Place → List GroupView → Type 0
+Reaches o p before [] q after = (p ≡ q) × (before ≡ after)
+Reaches o p before (t ∷ ts) q after = (next : State) × (step o p before t ≡ Ok next) × Reaches o next.0 next.1 ts q after
+
+-- The fault of a token: those before it have none, and reading them goes to a place where the token has
+-- this fault; whatever follows, it is the refusal.
 pub record IsOfToken (o : OptionsView) (ts : List TokenView) (e : InfoFault) : Type 0 where
   pub front : List TokenView
   pub token : TokenView
   pub more : List TokenView
   pub parts : ts ≡ front ++ token ∷ more
   pub faultless : IsFaultless o front
+  pub place : Place
+  pub before : List GroupView
+  pub reached : Reaches o outside [] front place before
+  pub is : step o place before token ≡ Err e
   pub refuses : Refuses o (front ++ token ∷ []) e
 
 -- the fault of the end: the tokens have none, and where they end something is missing or a token has a
@@ -52,7 +62,7 @@ RefusesFirst = (o : OptionsView) (bytes : List ℕ) (e : InfoFault) → informat
     ⊎ ((length bytes ≤ 1_048_576) × (IsOfToken o (tokens_of 1 bytes).tokens e ⊎ IsOfEnd o (tokens_of 1 bytes).tokens (tokens_of 1 bytes).ending e))
 
 -- no attribute stands twice
-abbrev pub AreOnce : List GivenView → Type 0
+abbrev pub AreOnce : List AssignmentView → Type 0
 AreOnce [] = Unit {0}
 AreOnce (g ∷ gs) = (has g.attribute gs ≡ false) × AreOnce gs
 
@@ -71,13 +81,13 @@ GivenOnce = (o : OptionsView) (ts : List TokenView) (groups : List GroupView) �
 
 -- What is given in a group RANGE says this range: START is its first address, TYPE its role, and END is
 -- its last address or SIZE the number of its addresses.
-pub record SaysRange (given : List GivenView) (r : RangeSpec) : Type 0 where
+pub record SaysRange (given : List AssignmentView) (r : RangeSpec) : Type 0 where
   pub first : value_in attribute.Start given ≡ Some (an_address r.first)
   pub last : (value_in attribute.End given ≡ Some (an_address r.last)) ⊎ (value_in attribute.Size given ≡ Some (a_number (r.last + 1 - r.first)))
   pub role : value_in attribute.Role given ≡ Some (a_type r.role)
 
 -- a group RANGE says the first of the ranges, and any other group says none
-abbrev pub Says : GroupKind → List GivenView → List RangeSpec → (List RangeSpec → Type 0) → Type 0
+abbrev pub Says : GroupKind → List AssignmentView → List RangeSpec → (List RangeSpec → Type 0) → Type 0
 Says group.Range given [] others = ⊥
 Says group.Range given (r ∷ rs) others = SaysRange given r × others rs
 Says _ given rs others = others rs
@@ -99,5 +109,5 @@ Share r q = (a : ℕ) × (has_address r a ≡ true) × (has_address q a ≡ true
 -- A group RANGE that says a range is refused for an overlap exactly where the range shares an address with
 -- that of a group before it.
 abbrev pub OverlapsShare : Type 0
-OverlapsShare = (before : List GroupView) (given : List GivenView) (r : RangeSpec) → range_in given ≡ Ok r
+OverlapsShare = (before : List GroupView) (given : List AssignmentView) (r : RangeSpec) → range_in given ≡ Ok r
     → (closing_fault before group.Range given ≡ Some RangesOverlap) ↔ Any (Share r) (ranges_of before)

@@ -71,7 +71,7 @@ string_at line rest =
     else (if slice_index rest n == 13 || slice_index rest n == 10 then Err (fault line OpenString)
     else Err (fault line BadByte)))
 
--- one byte $20 to $7E, and an apostrophe behind it
+-- one byte $20 to $7E, and an apostrophe after it
 unfoldable pub character_at : ℕ → List ℕ → Result LexemeView InfoFault
 character_at line rest =
     if nat_le 2 (length rest) && (nat_le 0x20 (slice_index rest 0) && (nat_le (slice_index rest 0) 0x7E && slice_index rest 1 == 39))

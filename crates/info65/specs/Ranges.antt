@@ -1,7 +1,7 @@
 -- Ranges: their addresses, what a group RANGE says, and what holds of all ranges of a file.
 use Rattle.std.specs.Prelude.{◌≡◌, ◌≤◌, ◌&&◌, ◌+◌, ◌-◌, ℕ, Bool, true, List, [], ◌∷◌, Option, Some, None, Result, Ok, Err, All, AllPairs, nat_le, if◌then◌else◌}
 use Rattle.std.specs.List.{flat_map}
-use Rattle.info65.specs.Groups.{GivenView, GroupView, value_in}
+use Rattle.info65.specs.Groups.{AssignmentView, GroupView, value_in}
 use Rattle.info65.specs.Values.{as_address, as_number, as_type}
 use Rattle.info65.specs.declared.attribute.Attribute.TheVariants as attribute
 use Rattle.info65.specs.declared.attribute.GroupKind.{GroupKind}
@@ -53,7 +53,7 @@ range_from (Some first) end size (Some role) = range_between first role (last_fr
 range_from _ end size _ = Err Missing
 
 -- the range that a group RANGE says by what is given in it, or the fault that it has by itself
-unfoldable pub range_in : List GivenView → Result RangeSpec InfoFaultKind
+unfoldable pub range_in : List AssignmentView → Result RangeSpec InfoFaultKind
 range_in given = range_from (as_address (value_in attribute.Start given)) (as_address (value_in attribute.End given)) (as_number (value_in attribute.Size given)) (as_type (value_in attribute.Role given))
 
 abbrev pub range_part : GroupView → List RangeSpec

@@ -2,8 +2,8 @@
 use Rattle.std.specs.Prelude.{◌≡◌, ℕ, Bool, true, false, List, [], ◌∷◌, ◌++◌, Option, Some, None, Result, Ok, Err, length, nat_lt, if◌then◌else◌}
 use Rattle.info65.specs.Attributes.{attribute_named, group_named}
 use Rattle.info65.specs.Closing.{closing_fault}
-use Rattle.info65.specs.Faults.{Fails, fault, ◌>>=◌}
-use Rattle.info65.specs.Groups.{GivenView, GroupView, is_given}
+use Rattle.info65.specs.Faults.{fault, ◌>>=◌}
+use Rattle.info65.specs.Groups.{AssignmentView, GroupView, is_given}
 use Rattle.info65.specs.Lexemes.{KindView, word, opening_brace, closing_brace, semicolon}
 use Rattle.info65.specs.Settings.{info_of}
 use Rattle.info65.specs.Tokens.{Stream, TokenView, tokens_of}
@@ -15,24 +15,35 @@ use Rattle.info65.specs.declared.fault.InfoFault.{InfoFault}
 use Rattle.info65.specs.declared.fault.InfoFaultKind.{InfoFaultKind}
 use Rattle.info65.specs.declared.fault.InfoFaultKind.TheVariants.{Expected, GivenTwice, TooLarge, UnknownAttribute, UnknownGroup}
 
--- What may come next: a group or the end; these or a `;`; the opening brace of a group; an attribute of
--- the open group or its closing brace; the value of an attribute; the `;` behind it. The open group has
--- its kind and what is given in it so far.
+-- Where the reader is, what is due there, and the faults of the token in their order:
+--
+--   place      what is due                                   faults
+--   outside    the name of a group, or the end               Expected, UnknownGroup
+--   closed     the same, or a `;` after the group            Expected, UnknownGroup
+--   opening    `{`                                           Expected
+--   inside     the name of an attribute                      Expected, UnknownAttribute, GivenTwice
+--              or `}`                                        Missing, OutOfRange, RangesOverlap,
+--                                                            ReservedName, NameTwice, AddressTwice
+--   valued     the value of the attribute                    Expected, OutOfRange, BadName, NameConflict
+--   behind     `;`                                           Expected
+--
+-- The end at any other place is Expected, and a token that has a fault of its own (BadByte, OpenString,
+-- BadNumber) is refused for that. The open group has its kind and what is given in it so far.
 pub data Place : Type 0 where
   outside closed : Place
   opening : GroupKind → Place
-  inside : GroupKind → List GivenView → Place
-  valued : GroupKind → List GivenView → Attribute → Place
-  behind : GroupKind → List GivenView → Place
+  inside : GroupKind → List AssignmentView → Place
+  valued : GroupKind → List AssignmentView → Attribute → Place
+  behind : GroupKind → List AssignmentView → Place
 
 -- the place, and the groups that are closed
 abbrev pub State : Type 0
 State = Place × List GroupView
 
-abbrev pub group : GroupKind → List GivenView → GroupView
+abbrev pub group : GroupKind → List AssignmentView → GroupView
 group k given = record { kind = k; given = given }
 
-abbrev pub one : Attribute → ValueView → GivenView
+abbrev pub one : Attribute → ValueView → AssignmentView
 one a v = record { attribute = a; value = v }
 
 abbrev pub opened : List GroupView → ℕ → Option GroupKind → Result State InfoFault
@@ -44,7 +55,7 @@ abbrev pub at_group : List GroupView → TokenView → KindView → Result State
 at_group before t word = opened before t.line (group_named t.text)
 at_group before t _ = Err (fault t.line Expected)
 
--- a `;` behind a group, or the name of the next
+-- a `;` after a group, or the name of the next
 abbrev pub after_group : List GroupView → TokenView → KindView → Result State InfoFault
 after_group before t semicolon = Ok (outside, before)
 after_group before t k = at_group before t k
@@ -53,25 +64,25 @@ abbrev pub at_brace : List GroupView → GroupKind → TokenView → KindView �
 at_brace before k t opening_brace = Ok (inside k [], before)
 at_brace before k t _ = Err (fault t.line Expected)
 
-abbrev pub named : List GroupView → GroupKind → List GivenView → ℕ → Option Attribute → Result Attribute InfoFault
+abbrev pub named : List GroupView → GroupKind → List AssignmentView → ℕ → Option Attribute → Result Attribute InfoFault
 named before k given line (Some a) = if is_given before k given a then Err (fault line GivenTwice) else Ok a
 named before k given line None = Err (fault line UnknownAttribute)
 
 -- the attribute that a name begins
-unfoldable pub attribute_at : List GroupView → GroupKind → List GivenView → TokenView → Result Attribute InfoFault
+unfoldable pub attribute_at : List GroupView → GroupKind → List AssignmentView → TokenView → Result Attribute InfoFault
 attribute_at before k given t = named before k given t.line (attribute_named k t.text)
 
-abbrev pub closed_by : List GroupView → GroupKind → List GivenView → ℕ → Option InfoFaultKind → Result State InfoFault
+abbrev pub closed_by : List GroupView → GroupKind → List AssignmentView → ℕ → Option InfoFaultKind → Result State InfoFault
 closed_by before k given line None = Ok (closed, before ++ group k given ∷ [])
 closed_by before k given line (Some f) = Err (fault line f)
 
 -- the name of an attribute, or the end of the group
-abbrev pub at_attribute : List GroupView → GroupKind → List GivenView → TokenView → KindView → Result State InfoFault
+abbrev pub at_attribute : List GroupView → GroupKind → List AssignmentView → TokenView → KindView → Result State InfoFault
 at_attribute before k given t closing_brace = closed_by before k given t.line (closing_fault before k given)
 at_attribute before k given t word = attribute_at before k given t >>= λ a. Ok (valued k given a, before)
 at_attribute before k given t _ = Err (fault t.line Expected)
 
-abbrev pub at_semicolon : List GroupView → GroupKind → List GivenView → TokenView → KindView → Result State InfoFault
+abbrev pub at_semicolon : List GroupView → GroupKind → List AssignmentView → TokenView → KindView → Result State InfoFault
 at_semicolon before k given t semicolon = Ok (inside k given, before)
 at_semicolon before k given t _ = Err (fault t.line Expected)
 
@@ -120,24 +131,3 @@ unfoldable pub information : OptionsView → List ℕ → Result InfoView InfoFa
 information o bytes =
     if nat_lt 1_048_576 (length bytes) then Err (fault 1 TooLarge)
     else groups_of o bytes >>= λ groups. Ok (info_of o groups)
-
--- ---- what the parts of a reader answer
-
-abbrev pub is_semicolon : KindView → Bool
-is_semicolon semicolon = true
-is_semicolon _ = false
-
--- where a reader stands between two groups
-abbrev pub place_after : Bool → Place
-place_after true = closed
-place_after false = outside
-
--- a part reads on to where `on` begins, or meets the first fault
-abbrev pub Leads : {R X : Type 0} → Result R InfoFault → Result X InfoFault → (X → Result R InfoFault) → Type 0
-Leads whole (Ok x) on = whole ≡ on x
-Leads whole (Err e) on = whole ≡ Err e
-
--- the same for a part that takes memory
-abbrev pub Grows : {R X : Type 0} → Result R InfoFault → Result X InfoFault → (X → Result R InfoFault) → Type 0
-Grows whole (Ok x) on = whole ≡ on x
-Grows whole (Err e) on = Fails e whole

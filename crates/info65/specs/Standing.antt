@@ -1,5 +1,5 @@
 -- Where the tokens of a text stand in it.
-use Rattle.std.specs.Prelude.{◌≡◌, ◌==◌, ◌+◌, ℕ, Bool, true, false, not, List, [], ◌∷◌, ◌++◌, Result, Ok, Err, take, drop, if◌then◌else◌}
+use Rattle.std.specs.Prelude.{◌≡◌, ◌==◌, ◌+◌, ◌||◌, ℕ, Bool, true, false, not, List, [], ◌∷◌, ◌++◌, Result, Ok, Err, take, drop, if◌then◌else◌}
 use Rattle.info65.specs.Lexemes.{lexeme_at}
 use Rattle.info65.specs.Tokens.{TokenView, is_blank, opens_comment, tokens_of}
 use Rattle.info65.specs.declared.fault.InfoFault.{InfoFault}
@@ -20,7 +20,7 @@ is_gap last in_comment (b ∷ bs) =
     else (if opens_comment (b ∷ bs) then is_gap last true bs
     else false)))
 
--- Behind a gap on a line stands this token: its line is that of the gap's end, it is what its first byte
+-- After a gap on a line stands this token: its line is that of the gap's end, it is what its first byte
 -- begins there, and it takes `more` bytes after its first.
 pub record IsNext (in_comment : Bool) (line : ℕ) (bytes : List ℕ) (t : TokenView) (rest : List ℕ) (more : ℕ) : Type 0 where
   pub gap : List ℕ
@@ -30,12 +30,18 @@ pub record IsNext (in_comment : Bool) (line : ℕ) (bytes : List ℕ) (t : Token
   pub is : lexeme_at t.line rest ≡ Ok (record { kind = t.kind; more = more })
   pub text : t.text ≡ take (more + 1) rest
 
--- Behind a gap stands what is no token.
+-- a byte that is no blank, no line feed, and does not begin a comment
+abbrev pub is_solid : List ℕ → Bool
+is_solid [] = false
+is_solid (b ∷ bs) = not (b == 10 || (is_blank b || opens_comment (b ∷ bs)))
+
+-- After a gap stands a byte that belongs to no gap, and no token begins with it.
 pub record IsNoToken (in_comment : Bool) (line : ℕ) (bytes : List ℕ) (e : InfoFault) : Type 0 where
   pub gap : List ℕ
   pub rest : List ℕ
   pub parts : bytes ≡ gap ++ rest
   pub blank : is_gap false in_comment gap ≡ true
+  pub solid : is_solid rest ≡ true
   pub is : lexeme_at (line + feeds gap) rest ≡ Err e
 
 -- only a gap is left, and its end has this line
@@ -47,7 +53,7 @@ abbrev pub Ends : Bool → ℕ → List ℕ → Result ℕ InfoFault → Type 0
 Ends in_comment line bytes (Ok last) = IsGap in_comment line bytes last
 Ends in_comment line bytes (Err e) = IsNoToken in_comment line bytes e
 
--- these tokens stand in the bytes, one behind the other, and then they end so
+-- these tokens stand in the bytes, one after the other, and then they end so
 abbrev pub Stand : Bool → ℕ → List ℕ → List TokenView → Result ℕ InfoFault → Type 0
 Stand in_comment line bytes [] ending = Ends in_comment line bytes ending
 Stand in_comment line bytes (t ∷ ts) ending = (rest : List ℕ) × (more : ℕ) × IsNext in_comment line bytes t rest more × Stand false t.line (drop (more + 1) rest) ts ending

@@ -1,11 +1,12 @@
 -- Values of attributes, and their faults.
-use Rattle.std.specs.Prelude.{◌≡◌, ◌≤◌, ℕ, Bool, true, false, ◌&&◌, not, List, Option, Some, None, Result, Ok, Err, length, is_some, nat_le, if◌then◌else◌}
+use Rattle.std.specs.Prelude.{◌≡◌, ◌≤◌, ℕ, Bool, true, false, ◌&&◌, ◌==◌, not, List, Option, Some, None, Result, Ok, Err, length, is_some, nat_le, if◌then◌else◌}
 use Rattle.std.specs.List.{list_all}
 use Rattle.isa65.specs.declared.cpu.Cpu.{Cpu}
-use Rattle.info65.specs.Attributes.{form_of, type_named}
+use Rattle.info65.specs.Attributes.{boolean_named, form_of, type_named}
 use Rattle.isa65.specs.Cpu.{cpu_named}
 use Rattle.info65.specs.Faults.{fault}
 use Rattle.info65.specs.Lexemes.{KindView, number, string, word}
+use Rattle.info65.specs.Names.{has_name_form}
 use Rattle.info65.specs.Tokens.{TokenView}
 use Rattle.info65.specs.Views.{OptionsView}
 use Rattle.info65.specs.declared.attribute.Attribute.{Attribute}
@@ -22,6 +23,7 @@ pub data ValueView : Type 0 where
   a_number : ℕ → ValueView
   an_address : ℕ → ValueView
   a_cpu : Cpu → ValueView
+  a_boolean : Bool → ValueView
   a_type : RangeType → ValueView
 
 abbrev pub as_name : Option ValueView → Option (List ℕ)
@@ -39,6 +41,10 @@ as_address _ = None
 abbrev pub as_cpu : Option ValueView → Option Cpu
 as_cpu (Some (a_cpu c)) = Some c
 as_cpu _ = None
+
+abbrev pub as_boolean : Option ValueView → Option Bool
+as_boolean (Some (a_boolean b)) = Some b
+as_boolean _ = None
 
 abbrev pub as_type : Option ValueView → Option RangeType
 as_type (Some (a_type r)) = Some r
@@ -65,6 +71,10 @@ name_value o a line text =
     else (if is_on_command_line o a then Err (fault line NameConflict)
     else Ok (a_name text))
 
+-- a text of the form of a name of addresses
+abbrev pub label_value : ℕ → List ℕ → Result ValueView InfoFault
+label_value line text = if has_name_form text then Ok (a_name text) else Err (fault line BadName)
+
 -- a number within its limits
 abbrev pub number_value : ℕ → ℕ → ℕ → ℕ → Result ValueView InfoFault
 number_value low high line n = if nat_le low n && nat_le n high then Ok (a_number n) else Err (fault line OutOfRange)
@@ -82,17 +92,28 @@ abbrev pub type_value : ℕ → Option RangeType → Result ValueView InfoFault
 type_value line (Some r) = Ok (a_type r)
 type_value line None = Err (fault line Expected)
 
+-- a boolean: its word, or the number 0 or 1
+abbrev pub boolean_value : ℕ → Option Bool → Result ValueView InfoFault
+boolean_value line (Some b) = Ok (a_boolean b)
+boolean_value line None = Err (fault line Expected)
+
+abbrev pub boolean_of : ℕ → Option Bool
+boolean_of n = if n == 0 then Some false else (if n == 1 then Some true else None)
+
 -- a token of the kind that the form takes, or something else was expected
 abbrev pub in_form : OptionsView → Attribute → ℕ → List ℕ → Form → KindView → Result ValueView InfoFault
 in_form o a line source form.FileName (string text) = name_value o a line text
 in_form o a line source form.CpuText (string text) = cpu_value line (cpu_named text)
 in_form o a line source form.Address (number n) = address_value line n
 in_form o a line source (form.Number low high) (number n) = number_value low high line n
+in_form o a line source form.Name (string text) = label_value line text
+in_form o a line source form.Boolean word = boolean_value line (boolean_named source)
+in_form o a line source form.Boolean (number n) = boolean_value line (boolean_of n)
 in_form o a line source form.TypeWord word = type_value line (type_named source)
 in_form o a line source _ _ = Err (fault line Expected)
 
--- The value of an attribute, or the first of its faults: another kind of token or an unknown type word,
--- beside its limits, no file name, a name that the command line gives too.
+-- The value of an attribute, or the first of its faults: another kind of token or an unknown word,
+-- outside its limits, not of the form of a name, a file name that the command line gives too.
 unfoldable pub value_of : OptionsView → Attribute → TokenView → Result ValueView InfoFault
 value_of o a t = in_form o a t.line t.text (form_of a) t.kind
 
@@ -102,5 +123,7 @@ HasForm form.FileName (a_name text) = is_file_name text ≡ true
 HasForm form.CpuText (a_cpu c) = Unit {0}
 HasForm form.Address (an_address n) = n ≤ 0xFFFF
 HasForm form.TypeWord (a_type r) = Unit {0}
+HasForm form.Name (a_name text) = has_name_form text ≡ true
+HasForm form.Boolean (a_boolean b) = Unit {0}
 HasForm (form.Number low high) (a_number n) = (low ≤ n) × (n ≤ high)
 HasForm _ _ = ⊥

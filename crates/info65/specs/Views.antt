@@ -14,11 +14,12 @@ pub record OptionsView : Type 0 where
   pub output : Option (List ℕ)
   pub start : Option ℕ
   pub cpu : Option Cpu
+  pub hexoffs : Bool
   pub help : Bool
   pub version : Bool
 
 abbrev pub no_options : OptionsView
-no_options = record { info = None; input = None; output = None; start = None; cpu = None; help = false; version = false }
+no_options = record { info = None; input = None; output = None; start = None; cpu = None; hexoffs = false; help = false; version = false }
 
 -- what decides how an image is read and listed
 pub record SettingsView : Type 0 where
@@ -28,13 +29,22 @@ pub record SettingsView : Type 0 where
   pub size : Option ℕ
   pub start : Option ℕ
   pub cpu : Cpu
+  pub hexoffs : Bool
 
 -- the limits of the numbers of the settings
 pub record AreInLimits (s : SettingsView) : Type 0 where
   pub offset : s.offset ≤ 16_777_216
   pub size : IfSome s.size (λ n. (1 ≤ n) × (n ≤ 0x1_0000))
 
--- what an information file says
+-- a name: its own address, how many addresses it is for from that on, its text, and its comment
+pub record NameView : Type 0 where
+  pub address : ℕ
+  pub size : ℕ
+  pub text : List ℕ
+  pub comment : Option (List ℕ)
+
+-- what an information file says; its names ascend by address
 pub record InfoView : Type 0 where
   pub settings : SettingsView
   pub ranges : List RangeSpec
+  pub names : List NameView

@@ -2,33 +2,53 @@
 //! type words.
 
 ghost use Rattle.std.specs.Prelude.{◌≡◌};
-ghost use Rattle.info65.specs.Attributes.{attribute_named, form_of, group_named, type_named};
-ghost use Rattle.info65.specs.declared.attribute.GroupKind.TheVariants.{Global, Range};
+ghost use Rattle.info65.specs.Attributes.{attribute_named, boolean_named, form_of, group_named, type_named};
+ghost use Rattle.info65.specs.declared.attribute.GroupKind.TheVariants.{Global, Label, Range};
 
 use crate::range::RangeType;
 
 /// What a group is about.
 #[derive(Clone, Copy, Debug, PartialEq, Eq)]
 pub enum GroupKind {
+    /// GLOBAL: the settings.
     Global,
+    /// RANGE: what the bytes of some addresses are.
     Range,
+    /// LABEL: the name of an address.
+    Label,
 }
 
 /// An attribute of a group.
 #[derive(Clone, Copy, Debug, PartialEq, Eq)]
 pub enum Attribute {
+    /// INPUTNAME: the name of the input file.
     InputName,
+    /// OUTPUTNAME: the name of the output file.
     OutputName,
+    /// INPUTOFFS: how many bytes of the input are passed over.
     InputOffset,
+    /// INPUTSIZE: how many bytes are taken.
     InputSize,
+    /// STARTADDR: the address of the first byte.
     StartAddress,
+    /// CPU: the CPU by its text.
     Cpu,
+    /// HEXOFFS: offsets are written in hexadecimal.
+    HexOffsets,
+    /// PAGELENGTH, which can only be 0.
     PageLength,
+    /// START: the first address of a range.
     Start,
+    /// END: the last address of a range.
     End,
+    /// SIZE: the number of addresses of a range or of a label.
     Size,
     /// TYPE, whose word is the role of the addresses.
     Role,
+    /// NAME: the name of a label, or of the first address of a range.
+    Name,
+    /// ADDR: the address of a label.
+    Address,
 }
 
 /// What the value of an attribute has to be.
@@ -44,6 +64,10 @@ pub enum Form {
     Number { low: u32, high: u32 },
     /// A type word.
     TypeWord,
+    /// A string that can name an address.
+    Name,
+    /// A boolean word, or the number 0 or 1.
+    Boolean,
 }
 
 /// The group of this name, with letters of any case.
@@ -55,6 +79,8 @@ pub fn group_named(text: &[u8]) -> Option<GroupKind>
         Some(GroupKind::Global)
     } else if text.eq_ignore_ascii_case(b"RANGE") {
         Some(GroupKind::Range)
+    } else if text.eq_ignore_ascii_case(b"LABEL") {
+        Some(GroupKind::Label)
     } else {
         None
     }
@@ -67,6 +93,7 @@ pub fn attribute_named(kind: GroupKind, text: &[u8]) -> Option<Attribute>
     match kind {
         GroupKind::Global => global_attribute(text),
         GroupKind::Range => range_attribute(text),
+        GroupKind::Label => label_attribute(text),
     }
 }
 
@@ -86,6 +113,8 @@ fn global_attribute(text: &[u8]) -> Option<Attribute>
         Some(Attribute::StartAddress)
     } else if text.eq_ignore_ascii_case(b"CPU") {
         Some(Attribute::Cpu)
+    } else if text.eq_ignore_ascii_case(b"HEXOFFS") {
+        Some(Attribute::HexOffsets)
     } else if text.eq_ignore_ascii_case(b"PAGELENGTH") {
         Some(Attribute::PageLength)
     } else {
@@ -105,6 +134,23 @@ fn range_attribute(text: &[u8]) -> Option<Attribute>
         Some(Attribute::Size)
     } else if text.eq_ignore_ascii_case(b"TYPE") {
         Some(Attribute::Role)
+    } else if text.eq_ignore_ascii_case(b"NAME") {
+        Some(Attribute::Name)
+    } else {
+        None
+    }
+}
+
+#[tactic(auto, unfolding(crate::specs::Attributes::attribute_named))]
+fn label_attribute(text: &[u8]) -> Option<Attribute>
+    ensures { result ≡ attribute_named Label text.now }
+{
+    if text.eq_ignore_ascii_case(b"ADDR") {
+        Some(Attribute::Address)
+    } else if text.eq_ignore_ascii_case(b"NAME") {
+        Some(Attribute::Name)
+    } else if text.eq_ignore_ascii_case(b"SIZE") {
+        Some(Attribute::Size)
     } else {
         None
     }
@@ -125,10 +171,14 @@ pub fn form_of(attribute: Attribute) -> Form
             low: 1,
             high: 0x1_0000,
         },
-        Attribute::StartAddress | Attribute::Start | Attribute::End => Form::Address,
+        Attribute::StartAddress | Attribute::Start | Attribute::End | Attribute::Address => {
+            Form::Address
+        }
         Attribute::Cpu => Form::CpuText,
         Attribute::PageLength => Form::Number { low: 0, high: 0 },
         Attribute::Role => Form::TypeWord,
+        Attribute::Name => Form::Name,
+        Attribute::HexOffsets => Form::Boolean,
     }
 }
 
@@ -145,10 +195,36 @@ pub fn type_named(text: &[u8]) -> Option<RangeType>
         Some(RangeType::WordTable)
     } else if text.eq_ignore_ascii_case(b"DBYTETABLE") {
         Some(RangeType::DbyteTable)
+    } else if text.eq_ignore_ascii_case(b"ADDRTABLE") {
+        Some(RangeType::AddrTable)
+    } else if text.eq_ignore_ascii_case(b"RTSTABLE") {
+        Some(RangeType::RtsTable)
     } else if text.eq_ignore_ascii_case(b"TEXTTABLE") {
         Some(RangeType::TextTable)
     } else if text.eq_ignore_ascii_case(b"SKIP") {
         Some(RangeType::Skip)
+    } else {
+        None
+    }
+}
+
+/// What a boolean word says, with letters of any case.
+#[tactic(auto, unfolding(crate::specs::Attributes::boolean_named))]
+pub fn boolean_named(text: &[u8]) -> Option<bool>
+    ensures { result ≡ boolean_named text.now }
+{
+    if text.eq_ignore_ascii_case(b"ON") {
+        Some(true)
+    } else if text.eq_ignore_ascii_case(b"TRUE") {
+        Some(true)
+    } else if text.eq_ignore_ascii_case(b"YES") {
+        Some(true)
+    } else if text.eq_ignore_ascii_case(b"OFF") {
+        Some(false)
+    } else if text.eq_ignore_ascii_case(b"FALSE") {
+        Some(false)
+    } else if text.eq_ignore_ascii_case(b"NO") {
+        Some(false)
     } else {
         None
     }

@@ -15,13 +15,13 @@ pub enum InfoFaultKind {
     /// A string that meets the end of its line or of the file.
     #[error("string not closed")]
     OpenString,
-    /// A number without a digit, above 2^32 - 1, or with a letter or `_` directly behind it.
+    /// A number without a digit, above 2^32 - 1, or with a letter or `_` directly after it.
     #[error("bad number")]
     BadNumber,
     /// Another token, or the end of the file, where something else had to stand.
     #[error("something else expected")]
     Expected,
-    /// A group that nothing has this name for.
+    /// An unknown group name.
     #[error("unknown group")]
     UnknownGroup,
     /// An attribute that the group does not have.
@@ -30,19 +30,19 @@ pub enum InfoFaultKind {
     /// An attribute that the group has been given before.
     #[error("attribute given twice")]
     GivenTwice,
-    /// A closing brace before all that the group needs.
+    /// A closing brace before everything that the group needs was given.
     #[error("attribute missing")]
     Missing,
-    /// A value beside the limits of its attribute.
+    /// A value outside the limits of its attribute.
     #[error("value out of range")]
     OutOfRange,
-    /// A range that shares an address with one before it.
+    /// A range that shares an address with an earlier one.
     #[error("ranges overlap")]
     RangesOverlap,
-    /// A segment that shares an address with one before it.
+    /// A segment that shares an address with an earlier one.
     #[error("segments overlap")]
     SegmentsOverlap,
-    /// A name or a text that has not the form or the length of its attribute.
+    /// A name or a text without the form or the length of its attribute.
     #[error("bad name")]
     BadName,
     /// A name that is a mnemonic, a register or the default name of another address.
@@ -54,16 +54,16 @@ pub enum InfoFaultKind {
     /// An address that has a name.
     #[error("address named twice")]
     AddressTwice,
-    /// A line of an include that is no definition of a name.
+    /// A line of an include file that does not define a name.
     #[error("bad include line")]
     BadInclude,
     /// A file name that the command line gives too.
     #[error("name given in both places")]
     NameConflict,
-    /// A file above 1,048,576 bytes, or one include too many.
+    /// A file of more than 1,048,576 bytes, or one include file too many.
     #[error("too large")]
     TooLarge,
-    /// A growth of memory was refused.
+    /// An allocation failed.
     #[error("out of memory")]
     Memory,
 }
@@ -97,7 +97,7 @@ impl InfoFaultKind {
     }
 }
 
-/// A fault and the line where it stands, counted from 1 by line feeds. Want of memory stands at line 0.
+/// A fault and the line where it stands, counted from 1 by line feeds. Out of memory has line 0.
 #[derive(Clone, Copy, Debug, PartialEq, Eq, Error)]
 #[error("{line}: {kind}")]
 pub struct InfoFault {
@@ -113,7 +113,7 @@ impl InfoFault {
         InfoFault { line, kind }
     }
 
-    /// Want of memory.
+    /// Out of memory.
     pub(crate) const MEMORY: InfoFault = InfoFault {
         line: 0,
         kind: InfoFaultKind::Memory,

@@ -1,16 +1,16 @@
 //! What is given in groups.
 
 ghost use Rattle.std.specs.Prelude.{◌≡◌, map, option_map};
-ghost use Rattle.info65.specs.Given.{given_seen, group_seen, value_seen};
+ghost use Rattle.info65.specs.Code.Groups.{assignment_seen, group_seen, value_seen};
 ghost use Rattle.info65.specs.Groups.{given_before, global_given, global_part, has, has_instead, is_given, value_in};
 
+use crate::assignment::{Assignment, Group, Value};
 use crate::attribute::{Attribute, GroupKind};
-use crate::given::{Given, Group, Value};
 use std::alloc::Allocator;
 
 #[tactic(auto, unfolding(crate::specs::Groups::has))]
-fn has(given: &[Given], attribute: Attribute) -> bool
-    ensures { result ≡ has attribute (map given_seen given.now) }
+fn has(given: &[Assignment], attribute: Attribute) -> bool
+    ensures { result ≡ has attribute (map assignment_seen given.now) }
 {
     for each in given {
         if attribute == each.attribute {
@@ -32,12 +32,12 @@ fn has_global<A: Allocator>(groups: &[Group<A>], attribute: Attribute) -> bool
     false
 }
 
-fn global_part<'a, 'b, A: Allocator>(group: &'b Group<'a, A>) -> &'b [Given<'a>]
-    ensures { map given_seen result.now ≡ global_part (group_seen group.now) }
+fn global_part<'a, 'b, A: Allocator>(group: &'b Group<'a, A>) -> &'b [Assignment<'a>]
+    ensures { map assignment_seen result.now ≡ global_part (group_seen group.now) }
 {
     match group.kind {
         GroupKind::Global => group.given.as_slice(),
-        GroupKind::Range => &[],
+        GroupKind::Range | GroupKind::Label => &[],
     }
 }
 
@@ -46,17 +46,17 @@ fn global_part<'a, 'b, A: Allocator>(group: &'b Group<'a, A>) -> &'b [Given<'a>]
 pub fn is_given<A: Allocator>(
     before: &[Group<A>],
     kind: GroupKind,
-    given: &[Given],
+    given: &[Assignment],
     attribute: Attribute,
 ) -> bool
-    ensures { result ≡ is_given (map group_seen before.now) kind (map given_seen given.now) attribute }
+    ensures { result ≡ is_given (map group_seen before.now) kind (map assignment_seen given.now) attribute }
 {
     has_before(before, kind, attribute) || has(given, attribute) || has_instead(given, attribute)
 }
 
 #[tactic(auto, unfolding(crate::specs::Groups::has_instead))]
-fn has_instead(given: &[Given], attribute: Attribute) -> bool
-    ensures { result ≡ has_instead attribute (map given_seen given.now) }
+fn has_instead(given: &[Assignment], attribute: Attribute) -> bool
+    ensures { result ≡ has_instead attribute (map assignment_seen given.now) }
 {
     match attribute {
         Attribute::End => has(given, Attribute::Size),
@@ -71,13 +71,14 @@ fn has_before<A: Allocator>(before: &[Group<A>], kind: GroupKind, attribute: Att
     match kind {
         GroupKind::Global => has_global(before, attribute),
         GroupKind::Range => false,
+        GroupKind::Label => false,
     }
 }
 
 /// The value that the attribute is given.
 #[tactic(auto, unfolding(crate::specs::Groups::value_in))]
-pub fn value_in<'a>(given: &[Given<'a>], attribute: Attribute) -> Option<Value<'a>>
-    ensures { option_map value_seen result ≡ value_in attribute (map given_seen given.now) }
+pub fn value_in<'a>(given: &[Assignment<'a>], attribute: Attribute) -> Option<Value<'a>>
+    ensures { option_map value_seen result ≡ value_in attribute (map assignment_seen given.now) }
 {
     for each in given {
         if attribute == each.attribute {

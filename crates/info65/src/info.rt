@@ -6,8 +6,10 @@ ghost use Rattle.info65.specs.Reader.{information};
 
 use crate::fault::{InfoFault, InfoFaultKind};
 use crate::merge::settings_of;
+use crate::name::Given;
 use crate::options::Options;
 use crate::parser::read_groups;
+use crate::pool::Pool;
 use crate::range::RangeSpec;
 use crate::range_groups::ranges_of;
 use crate::settings::Settings;
@@ -17,11 +19,12 @@ use std::marker::Model;
 // The bytes that an information file has at most.
 const MOST_BYTES: usize = 1_048_576;
 
-/// An information file that was accepted, merged with the options.
+/// An information file that was accepted, merged with the options. The bytes of all names stand in one pool.
 #[derive(Drop)]
 pub struct Info<A: Allocator = Global> {
     settings: Settings<A>,
     ranges: Vec<RangeSpec, A>,
+    names: Pool<A>,
 }
 
 impl<A: Allocator> Model for Info<A> {
@@ -30,13 +33,15 @@ impl<A: Allocator> Model for Info<A> {
 
     ghost Value = { InfoView };
 
-    ghost view = { λ i. record { settings = i.settings; ranges = i.ranges.items } };
+    ghost view = { λ i. record { settings = i.settings; ranges = i.ranges.items; names = i.names } };
 
-    ghost invariant = { λ i. IsSound (record { settings = i.settings; ranges = i.ranges.items }) };
+    ghost invariant = { λ i. IsSound (record { settings = i.settings; ranges = i.ranges.items; names = i.names }) };
 }
 
 impl<A: Allocator> Info<A> {
-    ghost use Rattle.std.specs.Prelude.{◌≡◌};
+    ghost use Rattle.std.specs.Prelude.{◌≡◌, ◌<◌, length, option_map};
+    ghost use Rattle.info65.specs.Code.Names.{given_seen};
+    ghost use Rattle.info65.specs.Names.{AreNames, covering, name_at};
     ghost use Rattle.info65.specs.Ranges.{AreRanges};
     ghost use Rattle.info65.specs.Views.{AreInLimits};
 
@@ -55,15 +60,42 @@ impl<A: Allocator> Info<A> {
     {
         self.ranges.as_slice()
     }
+
+    /// How many names are given.
+    pub fn given_count(&self) -> usize
+        ensures count { result ≡ length self.now.names }
+        ensures sound { AreNames self.now.names }
+    {
+        self.names.count()
+    }
+
+    /// The given name at this place, by address.
+    pub fn given(&self, index: usize) -> Given<'_>
+        requires { index < length self.now.names }
+        ensures name { given_seen result ≡ name_at self.now.names index }
+        ensures sound { AreNames self.now.names }
+    {
+        self.names.given(index)
+    }
+
+    /// The given name of an address: of those that are for it the one with the highest address of its own.
+    /// It takes a time that grows with the logarithm of the number of names.
+    pub fn covering(&self, address: u16) -> Option<Given<'_>>
+        ensures name { option_map given_seen result ≡ covering self.now.names address }
+        ensures sound { AreNames self.now.names }
+    {
+        self.names.covering(address)
+    }
 }
 
 /// Reads an information file under the options of the command line. No information file is the empty one.
 ///
-/// The grammar is that of the da65 Users Guide, with the group GLOBAL and its attributes INPUTNAME,
-/// OUTPUTNAME, INPUTOFFS, INPUTSIZE, STARTADDR, CPU and PAGELENGTH, and the group RANGE and its attributes
-/// START, END, SIZE and TYPE. A file is accepted exactly where its tokens are groups that keep every
-/// condition; else it is refused for the first fault from left to right, with that fault's line. Above
-/// 1,048,576 bytes it is TooLarge at line 1. Memory at line 0 comes only where a growth was refused.
+/// The grammar is that of the da65 Users Guide, with these groups and attributes: GLOBAL with INPUTNAME,
+/// OUTPUTNAME, INPUTOFFS, INPUTSIZE, STARTADDR, CPU, HEXOFFS and PAGELENGTH; RANGE with START, END, SIZE,
+/// TYPE and NAME; LABEL with ADDR, NAME and SIZE. A file is accepted exactly when its tokens are groups
+/// that keep every condition; else it is refused for the first fault from left to right, with that fault's
+/// line. A file of more than 1,048,576 bytes is TooLarge at line 1. It returns Memory at line 0 only if an
+/// allocation failed. The time grows with the size of the file: no group is read again at a closing brace.
 #[tactic(auto, unfolding(crate::specs::Reader::information))]
 pub fn read_info<A: Allocator + Copy, B: Allocator>(
     alloc: A,
@@ -75,8 +107,13 @@ pub fn read_info<A: Allocator + Copy, B: Allocator>(
     if bytes.len() > MOST_BYTES {
         return Err(InfoFault::new(1, InfoFaultKind::TooLarge));
     }
-    let groups = read_groups(alloc, options, bytes)?;
-    let settings = settings_of(alloc, options, groups.as_slice())?;
-    let ranges = ranges_of(alloc, groups.as_slice())?;
-    Ok(Info { settings, ranges })
+    let closed = read_groups(alloc, options, bytes)?;
+    let settings = settings_of(alloc, options, closed.groups())?;
+    let ranges = ranges_of(alloc, closed.groups())?;
+    let names = closed.names(alloc)?;
+    Ok(Info {
+        settings,
+        ranges,
+        names,
+    })
 }

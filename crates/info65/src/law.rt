@@ -1,6 +1,7 @@
 //! Laws of information files.
 
 ghost use Rattle.info65.specs.Laws.{AcceptsFiles, GivenOnce, GlobalOnce, OverlapsShare, RangesApart, RefusesFirst};
+ghost use Rattle.info65.specs.NameLaws.{CoversHighest, NamesGiven, OwnAddressWins};
 ghost use Rattle.info65.specs.Standing.{TokensStand};
 
 /// A text is accepted exactly where its whole token list splits into groups that keep every condition.
@@ -44,4 +45,23 @@ pub fn ranges_apart()
 #[tactic(auto, using(crate::proofs::RangeLemmas::overlaps_share))]
 pub fn overlaps_share()
     ensures { OverlapsShare }
+{}
+
+/// Of the names that cover an address the one with the highest address of its own is its name.
+#[tactic(auto, using(crate::proofs::CoveringLemmas::covers_highest))]
+pub fn covers_highest()
+    ensures { CoversHighest }
+{}
+
+/// The name of an address that is a name's own is that name, whatever else covers it.
+#[tactic(auto, using(crate::proofs::CoveringLemmas::own_address_wins))]
+pub fn own_address_wins()
+    ensures { OwnAddressWins }
+{}
+
+/// The names of an accepted file are exactly those that its groups LABEL and RANGE say. They ascend by
+/// address, no two have one text, and none is reserved.
+#[tactic(auto, using(crate::proofs::NamesLemmas::names_given))]
+pub fn names_given()
+    ensures { NamesGiven }
 {}

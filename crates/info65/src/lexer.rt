@@ -17,7 +17,7 @@ pub(crate) enum Next<'a> {
 
 /// The tokens of an information file that are left, and how they end: on a line, or with the first fault
 /// of a token. Tokens, comments and their faults are those of the da65 Users Guide, with the limits that
-/// `TokenKind` names. It takes no memory.
+/// `TokenKind` names. It allocates nothing.
 #[derive(Drop)]
 pub struct Lexer<'a> {
     bytes: &'a [u8],
@@ -36,7 +36,7 @@ impl<'a> Model for Lexer<'a> {
 }
 
 impl<'a> Lexer<'a> {
-    ghost use Rattle.info65.specs.Steps.{Hands, Steps};
+    ghost use Rattle.info65.specs.Code.Steps.{Hands, Steps};
 
     /// The tokens of these bytes, of which there are at most 1,048,576.
     pub fn new(bytes: &'a [u8]) -> Self

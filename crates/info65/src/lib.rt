@@ -1,26 +1,33 @@
-//! The information file of da65: its tokens, its groups, the settings that it and a command line give, and
-//! the ranges of addresses that it declares.
+//! The information file of da65: its tokens, its groups, and what they and a command line give together:
+//! settings, ranges of addresses and names of addresses.
 //!
-//! [`read_info`] reads a whole file under the [`Options`] of a command line and gives an [`Info`], whose
-//! [`Settings`] are merged and in their limits, and of whose ranges, each a [`RangeSpec`], no two share an
-//! address. [`Lexer`] gives the tokens alone. A refusal is an [`InfoFault`]: a line and an
-//! [`InfoFaultKind`]. The groups, attributes and type words that are known are rows of the tables in
-//! `attribute`, and what a group needs at its end is a row in `closing`; `law` has the laws on which files
-//! are accepted and where one is refused.
+//! [`read_info`] reads a whole file under the [`Options`] of a command line. It returns an [`Info`], whose
+//! [`Settings`] are merged and in their limits, whose ranges, each a [`RangeSpec`], share no address, and
+//! whose names, each a [`Given`], ascend by address. [`Lexer`] gives the tokens alone. A refusal is an
+//! [`InfoFault`]: a line and an [`InfoFaultKind`].
+//!
+//! The known groups, attributes and words are tables in `attribute`. `parser` reads groups, `closed` keeps
+//! those that are closed, `index` finds their ranges and names, and `pool` keeps the names of an `Info`.
+//! `law` has the laws on which files are accepted and why one is refused.
 #![tactic(auto)]
 
+mod assignment;
 mod attribute;
-mod closing;
+mod closed;
 mod fault;
-mod given;
 mod groups;
+mod index;
 mod info;
+mod label_groups;
 mod law;
 mod lexeme;
 mod lexer;
 mod merge;
+mod name;
+mod names;
 mod options;
 mod parser;
+mod pool;
 mod range;
 mod range_groups;
 mod settings;
@@ -32,10 +39,11 @@ mod values;
 pub use fault::{InfoFault, InfoFaultKind};
 pub use info::{Info, read_info};
 pub use law::{
-    accepts_files, given_once, global_once, overlaps_share, ranges_apart, refuses_first,
-    tokens_stand,
+    accepts_files, covers_highest, given_once, global_once, names_given, overlaps_share,
+    own_address_wins, ranges_apart, refuses_first, tokens_stand,
 };
 pub use lexer::Lexer;
+pub use name::Given;
 pub use options::Options;
 pub use range::{RangeSpec, RangeType};
 pub use settings::Settings;

@@ -1,16 +1,18 @@
 //! The settings that options and groups give.
 
-ghost use Rattle.std.specs.Prelude.{◌≡◌, Ok, map, option_map};
+ghost use Rattle.std.specs.Prelude.{◌≡◌, IfSome, Ok, map, option_map, true};
 ghost use Rattle.std.specs.Option.{option_or};
 ghost use Rattle.info65.specs.Faults.{Gives};
-ghost use Rattle.info65.specs.Given.{group_seen};
+ghost use Rattle.info65.specs.Code.Groups.{group_seen};
 ghost use Rattle.info65.specs.Groups.{AreFormed, global_given};
 ghost use Rattle.info65.specs.Settings.{settings_of};
+ghost use Rattle.std.specs.String.{string_bytes};
+ghost use Rattle.info65.specs.Values.{is_file_name};
 ghost use Rattle.info65.specs.Views.{name_seen};
 
+use crate::assignment::{Group, as_address, as_boolean, as_cpu, as_name, as_number};
 use crate::attribute::Attribute;
 use crate::fault::InfoFault;
-use crate::given::{Group, as_address, as_cpu, as_name, as_number};
 use crate::groups::global_value;
 use crate::options::Options;
 use crate::settings::Settings;
@@ -30,6 +32,7 @@ pub fn settings_of<'a, A: Allocator + Copy, B: Allocator>(
     let input_given = as_name(global_value(groups, Attribute::InputName));
     let output_given = as_name(global_value(groups, Attribute::OutputName));
     let offset_given = as_number(global_value(groups, Attribute::InputOffset));
+    let hexoffs_given = as_boolean(global_value(groups, Attribute::HexOffsets));
     let size = as_number(global_value(groups, Attribute::InputSize));
     let start_given = as_address(global_value(groups, Attribute::StartAddress));
     let cpu_given = as_cpu(global_value(groups, Attribute::Cpu));
@@ -42,21 +45,32 @@ pub fn settings_of<'a, A: Allocator + Copy, B: Allocator>(
         size,
         start: options.start.or(start_given),
         cpu: options.cpu.or(cpu_given).unwrap_or(Cpu::M6502),
+        hexoffs: options.hexoffs || hexoffs_given.unwrap_or(false),
     })
+}
+
+// The text of a file name, which is ASCII.
+fn text_of<A: Allocator>(alloc: A, name: &[u8]) -> Result<String<A>, InfoFault>
+    requires { is_file_name name.now ≡ true }
+    ensures { Gives (λ s. string_bytes s) result (Ok name.now) }
+{
+    let text = str::from_utf8(name).unwrap();
+    Ok(String::from_str(alloc, text)?)
 }
 
 // The name of the command line, or else that of the file.
 fn first_name<A: Allocator, B: Allocator>(
     alloc: A,
     chosen: &Option<String<B>>,
-    given: Option<&str>,
+    given: Option<&[u8]>,
 ) -> Result<Option<String<A>>, InfoFault>
+    requires { IfSome given (λ s. is_file_name s.now ≡ true) }
     ensures { Gives name_seen result (Ok (option_or (name_seen chosen.now) (option_map (λ s. s.now) given.entry))) }
 {
     match chosen {
         Some(name) => Ok(Some(String::from_str(alloc, name.as_str())?)),
         None => match given {
-            Some(name) => Ok(Some(String::from_str(alloc, name)?)),
+            Some(name) => Ok(Some(text_of(alloc, name)?)),
             None => Ok(None),
         },
     }

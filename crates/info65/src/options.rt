@@ -17,6 +17,8 @@ pub struct Options<A: Allocator = Global> {
     pub start: Option<u16>,
     /// The CPU whose opcodes the image has.
     pub cpu: Option<Cpu>,
+    /// Offsets are written in hexadecimal.
+    pub hexoffs: bool,
     /// The help text is asked for.
     pub help: bool,
     /// The version is asked for.
@@ -28,7 +30,7 @@ impl<A: Allocator> Model for Options<A> {
 
     ghost Value = { OptionsView };
 
-    ghost view = { λ o. record { info = name_seen o.info; input = name_seen o.input; output = name_seen o.output; start = o.start; cpu = o.cpu; help = o.help; version = o.version } };
+    ghost view = { λ o. record { info = name_seen o.info; input = name_seen o.input; output = name_seen o.output; start = o.start; cpu = o.cpu; hexoffs = o.hexoffs; help = o.help; version = o.version } };
 }
 
 impl<A: Allocator> Options<A> {
@@ -45,6 +47,7 @@ impl<A: Allocator> Options<A> {
             output: None,
             start: None,
             cpu: None,
+            hexoffs: false,
             help: false,
             version: false,
         }

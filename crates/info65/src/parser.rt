@@ -1,12 +1,13 @@
 //! The groups of an information file, token by token.
 
-ghost use Rattle.std.specs.Prelude.{◌≡◌, ◌≤◌, ◌∷◌, ◌++◌, IfErr, IfOk, List, Ok, [], length, map};
+ghost use Rattle.std.specs.Prelude.{◌≡◌, ◌≤◌, ◌∷◌, ◌++◌, IfErr, IfOk, List, None, Ok, [], length, map};
 ghost use Rattle.info65.specs.Closing.{closing_fault};
 ghost use Rattle.info65.specs.Faults.{Gives, fault};
-ghost use Rattle.info65.specs.Given.{given_seen, group_seen, value_seen};
-ghost use Rattle.info65.specs.Groups.{GivenView, GroupView};
-ghost use Rattle.info65.specs.Reader.{Grows, Leads, attribute_at, behind, closed, closed_by, group, groups_of, inside, is_semicolon, one, opening, outside, read, read_token, valued, wanted};
-ghost use Rattle.info65.specs.Steps.{Sees, kind_seen, seen};
+ghost use Rattle.info65.specs.Code.Groups.{assignment_seen, group_seen, value_seen};
+ghost use Rattle.info65.specs.Groups.{AssignmentView, GroupView};
+ghost use Rattle.info65.specs.Code.Reading.{Grows, Leads, is_semicolon};
+ghost use Rattle.info65.specs.Reader.{attribute_at, behind, closed, closed_by, group, groups_of, inside, one, opening, outside, read, read_token, valued, wanted};
+ghost use Rattle.info65.specs.Code.Steps.{Sees, kind_seen, seen};
 ghost use Rattle.info65.specs.Tokens.{Stream, with_token};
 ghost use Rattle.info65.specs.Views.{OptionsView};
 ghost use Rattle.info65.specs.declared.attribute.GroupKind.{GroupKind};
@@ -14,11 +15,10 @@ ghost use Rattle.info65.specs.declared.attribute.Attribute.{Attribute};
 ghost use Rattle.info65.specs.declared.fault.InfoFaultKind.TheVariants.{Expected};
 ghost use Rattle.info65.specs.declared.token.TokenKind.TheVariants.{Word};
 
+use crate::assignment::{Assignment, Group, Value};
 use crate::attribute::{Attribute, GroupKind, attribute_named, group_named};
-use crate::closing::closing_fault;
+use crate::closed::Closed;
 use crate::fault::{InfoFault, InfoFaultKind};
-use crate::given::{Given, Group, Value};
-use crate::groups::is_given;
 use crate::lexer::{Lexer, Next};
 use crate::options::Options;
 use crate::token::{Token, TokenKind};
@@ -30,12 +30,12 @@ pub fn read_groups<'a, A: Allocator + Copy, B: Allocator>(
     alloc: A,
     options: &Options<B>,
     bytes: &'a [u8],
-) -> Result<Vec<Group<'a, A>, A>, InfoFault>
+) -> Result<Closed<'a, A>, InfoFault>
     requires { length bytes.now ≤ 1_048_576 }
-    ensures { Gives (λ groups. map group_seen groups.items) result (groups_of options.now bytes.entry.now) }
+    ensures { Gives (λ groups. groups) result (groups_of options.now bytes.entry.now) }
 {
     let mut lexer = Lexer::new(bytes);
-    let mut groups = Vec::new(alloc);
+    let mut groups = Closed::new(alloc)?;
     let mut after_group = false;
     'groups: loop {
         match lexer.next()? {
@@ -44,8 +44,8 @@ pub fn read_groups<'a, A: Allocator + Copy, B: Allocator>(
                 if after_group && is_semicolon(token.kind) {
                     after_group = false;
                 } else {
-                    let next = group(alloc, options, &mut lexer, groups.as_slice(), token)?;
-                    groups.push(next)?;
+                    let next = group(alloc, options, &mut lexer, &groups, token)?;
+                    groups = groups.with(next)?;
                     after_group = true;
                 }
             }
@@ -77,15 +77,16 @@ fn due<'a>(lexer: &mut Lexer<'a>) -> Result<Token<'a>, InfoFault>
     }
 }
 
-// A group behind those before it, of which this token is the name.
+// A group after those before it, of which this token is the name.
 fn group<'a, A: Allocator + Copy, B: Allocator>(
     alloc: A,
     options: &Options<B>,
     lexer: &mut Lexer<'a>,
-    before: &[Group<'a, A>],
+    before: &Closed<'a, A>,
     name: Token<'a>,
 ) -> Result<Group<'a, A>, InfoFault>
-    ensures read { Grows (read_token options.now outside (map group_seen before.now) (seen name.entry) lexer.old) result (λ g. read options.now closed (map group_seen before.now ++ group_seen g ∷ []) lexer.new) }
+    ensures closes { IfOk result (λ g. closing_fault before.now g.kind (map assignment_seen g.given.items) ≡ None) }
+    ensures read { Grows (read_token options.now outside before.now (seen name.entry) lexer.old) result (λ g. read options.now closed (before.now ++ group_seen g ∷ []) lexer.new) }
     ensures shorter { length lexer.new.tokens ≤ length lexer.old.tokens }
 {
     let kind = group_kind(name)?;
@@ -117,7 +118,7 @@ fn brace(lexer: &mut Lexer) -> Result<(), InfoFault>
 }
 
 fn separator(lexer: &mut Lexer) -> Result<(), InfoFault>
-    ensures read { (o : OptionsView) (k : GroupKind) (given : List GivenView) (before : List GroupView) → Leads (read o (behind k given) before lexer.old) result (λ _. read o (inside k given) before lexer.new) }
+    ensures read { (o : OptionsView) (k : GroupKind) (given : List AssignmentView) (before : List GroupView) → Leads (read o (behind k given) before lexer.old) result (λ _. read o (inside k given) before lexer.new) }
     ensures shorter { length lexer.new.tokens ≤ length lexer.old.tokens }
 {
     let token = due(lexer)?;
@@ -132,7 +133,7 @@ fn value<'a, B: Allocator>(
     lexer: &mut Lexer<'a>,
     attribute: Attribute,
 ) -> Result<Value<'a>, InfoFault>
-    ensures read { (k : GroupKind) (given : List GivenView) (before : List GroupView) → Leads (read options.now (valued k given attribute) before lexer.old) result (λ v. read options.now (behind k (given ++ one attribute (value_seen v) ∷ [])) before lexer.new) }
+    ensures read { (k : GroupKind) (given : List AssignmentView) (before : List GroupView) → Leads (read options.now (valued k given attribute) before lexer.old) result (λ v. read options.now (behind k (given ++ one attribute (value_seen v) ∷ [])) before lexer.new) }
     ensures shorter { length lexer.new.tokens ≤ length lexer.old.tokens }
 {
     let token = due(lexer)?;
@@ -144,10 +145,11 @@ fn attributes<'a, A: Allocator + Copy, B: Allocator>(
     alloc: A,
     options: &Options<B>,
     lexer: &mut Lexer<'a>,
-    before: &[Group<'a, A>],
+    before: &Closed<'a, A>,
     kind: GroupKind,
 ) -> Result<Group<'a, A>, InfoFault>
-    ensures read { Grows (read options.now (inside kind []) (map group_seen before.now) lexer.old) result (λ g. read options.now closed (map group_seen before.now ++ group_seen g ∷ []) lexer.new) }
+    ensures closes { IfOk result (λ g. closing_fault before.now g.kind (map assignment_seen g.given.items) ≡ None) }
+    ensures read { Grows (read options.now (inside kind []) before.now lexer.old) result (λ g. read options.now closed (before.now ++ group_seen g ∷ []) lexer.new) }
     ensures shorter { length lexer.new.tokens ≤ length lexer.old.tokens }
 {
     let mut given = Vec::new(alloc);
@@ -168,63 +170,64 @@ fn attributes<'a, A: Allocator + Copy, B: Allocator>(
 }
 
 // A group may close here.
-fn is_whole<A: Allocator>(
-    before: &[Group<A>],
+fn is_whole<'a, A: Allocator + Copy>(
+    before: &Closed<'a, A>,
     kind: GroupKind,
-    given: &[Given],
+    given: &[Assignment<'a>],
     line: u32,
 ) -> Result<(), InfoFault>
-    ensures { Leads (closed_by (map group_seen before.now) kind (map given_seen given.now) line (closing_fault (map group_seen before.now) kind (map given_seen given.now))) result (λ _. Ok (closed, map group_seen before.now ++ group kind (map given_seen given.now) ∷ [])) }
+    ensures closes { IfOk result (λ _. closing_fault before.now kind (map assignment_seen given.now) ≡ None) }
+    ensures read { Leads (closed_by before.now kind (map assignment_seen given.now) line (closing_fault before.now kind (map assignment_seen given.now))) result (λ _. Ok (closed, before.now ++ group kind (map assignment_seen given.now) ∷ [])) }
 {
-    match closing_fault(before, kind, given) {
+    match before.closing_fault(kind, given) {
         Some(fault) => Err(InfoFault::new(line, fault)),
         None => Ok(()),
     }
 }
 
-// An attribute, of which this word is the name, its value and the `;` behind it.
-fn attribute<'a, A: Allocator, B: Allocator>(
+// An attribute, of which this word is the name, its value and the `;` after it.
+fn attribute<'a, A: Allocator + Copy, B: Allocator>(
     options: &Options<B>,
     lexer: &mut Lexer<'a>,
-    before: &[Group<'a, A>],
+    before: &Closed<'a, A>,
     kind: GroupKind,
-    given: &[Given<'a>],
+    given: &[Assignment<'a>],
     name: Token<'a>,
-) -> Result<Given<'a>, InfoFault>
+) -> Result<Assignment<'a>, InfoFault>
     requires { name.kind ≡ Word }
-    ensures read { Leads (read_token options.now (inside kind (map given_seen given.now)) (map group_seen before.now) (seen name.entry) lexer.old) result (λ g. read options.now (inside kind (map given_seen given.now ++ given_seen g ∷ [])) (map group_seen before.now) lexer.new) }
+    ensures read { Leads (read_token options.now (inside kind (map assignment_seen given.now)) before.now (seen name.entry) lexer.old) result (λ g. read options.now (inside kind (map assignment_seen given.now ++ assignment_seen g ∷ [])) before.now lexer.new) }
     ensures shorter { length lexer.new.tokens ≤ length lexer.old.tokens }
 {
     let attribute = attribute_name(before, kind, given, name)?;
     let value = value(options, lexer, attribute)?;
     separator(lexer)?;
-    Ok(Given { attribute, value })
+    Ok(Assignment { attribute, value })
 }
 
-fn attribute_name<A: Allocator>(
-    before: &[Group<A>],
+fn attribute_name<'a, A: Allocator + Copy>(
+    before: &Closed<'a, A>,
     kind: GroupKind,
-    given: &[Given],
+    given: &[Assignment],
     name: Token,
 ) -> Result<Attribute, InfoFault>
     requires { name.kind ≡ Word }
-    ensures { (o : OptionsView) (rest : Stream) → Leads (read_token o (inside kind (map given_seen given.now)) (map group_seen before.now) (seen name.entry) rest) result (λ a. read o (valued kind (map given_seen given.now) a) (map group_seen before.now) rest) }
+    ensures { (o : OptionsView) (rest : Stream) → Leads (read_token o (inside kind (map assignment_seen given.now)) before.now (seen name.entry) rest) result (λ a. read o (valued kind (map assignment_seen given.now) a) before.now rest) }
 {
     attribute_at(before, kind, given, name)
 }
 
 #[tactic(auto, unfolding(crate::specs::Reader::attribute_at))]
-fn attribute_at<A: Allocator>(
-    before: &[Group<A>],
+fn attribute_at<'a, A: Allocator + Copy>(
+    before: &Closed<'a, A>,
     kind: GroupKind,
-    given: &[Given],
+    given: &[Assignment],
     name: Token,
 ) -> Result<Attribute, InfoFault>
-    ensures { result ≡ attribute_at (map group_seen before.now) kind (map given_seen given.now) (seen name.entry) }
+    ensures { result ≡ attribute_at before.now kind (map assignment_seen given.now) (seen name.entry) }
 {
     match attribute_named(kind, name.text) {
         Some(attribute) => {
-            if is_given(before, kind, given, attribute) {
+            if before.is_given(kind, given, attribute) {
                 Err(InfoFault::new(name.line, InfoFaultKind::GivenTwice))
             } else {
                 Ok(attribute)

@@ -1,8 +1,5 @@
 //! A range of addresses and what its bytes are.
 
-ghost use Rattle.std.specs.Prelude.{◌≡◌};
-ghost use Rattle.info65.specs.Ranges.{overlaps};
-
 /// What the bytes of a range are. Each is a type word of the da65 Users Guide.
 #[derive(Clone, Copy, Debug, PartialEq, Eq)]
 pub enum RangeType {
@@ -14,6 +11,10 @@ pub enum RangeType {
     WordTable,
     /// DBYTETABLE: words, high byte first.
     DbyteTable,
+    /// ADDRTABLE: addresses, low byte first.
+    AddrTable,
+    /// RTSTABLE: addresses less 1, low byte first, as RTS takes them from the stack.
+    RtsTable,
     /// TEXTTABLE: text.
     TextTable,
     /// SKIP: bytes that are not listed.
@@ -26,12 +27,4 @@ pub struct RangeSpec {
     pub first: u16,
     pub last: u16,
     pub role: RangeType,
-}
-
-/// An address belongs to both ranges.
-#[tactic(auto, unfolding(crate::specs::Ranges::overlaps))]
-pub(crate) fn overlaps(range: RangeSpec, other: RangeSpec) -> bool
-    ensures { result ≡ overlaps range other }
-{
-    range.first <= other.last && other.first <= range.last
 }

@@ -1,23 +1,22 @@
 //! The ranges that groups RANGE say.
 
 ghost use Rattle.std.specs.Prelude.{◌≡◌, Ok, map, option_to_list};
-ghost use Rattle.std.specs.List.{list_any};
 ghost use Rattle.info65.specs.Faults.{Gives};
-ghost use Rattle.info65.specs.Given.{given_seen, group_seen};
-ghost use Rattle.info65.specs.Ranges.{last_from, overlaps, range_between, range_in, range_part, ranges_of};
+ghost use Rattle.info65.specs.Code.Groups.{assignment_seen, group_seen};
+ghost use Rattle.info65.specs.Ranges.{last_from, range_between, range_in, range_part, ranges_of};
 
+use crate::assignment::{Assignment, Group, as_address, as_number, as_type};
 use crate::attribute::{Attribute, GroupKind};
 use crate::fault::{InfoFault, InfoFaultKind};
-use crate::given::{Given, Group, as_address, as_number, as_type};
 use crate::groups::value_in;
-use crate::range::{RangeSpec, RangeType, overlaps};
+use crate::range::{RangeSpec, RangeType};
 use std::alloc::Allocator;
 
 /// The range that a group RANGE says by what is given in it. It is Missing where START, TYPE, or both END
 /// and SIZE are not given, and OutOfRange where it ends before it begins or past $FFFF.
 #[tactic(auto, unfolding(crate::specs::Ranges::range_in))]
-pub fn range_in(given: &[Given]) -> Result<RangeSpec, InfoFaultKind>
-    ensures { result ≡ range_in (map given_seen given.now) }
+pub fn range_in(given: &[Assignment]) -> Result<RangeSpec, InfoFaultKind>
+    ensures { result ≡ range_in (map assignment_seen given.now) }
 {
     let first = as_address(value_in(given, Attribute::Start));
     let end = as_address(value_in(given, Attribute::End));
@@ -65,30 +64,8 @@ fn range_part<A: Allocator>(group: &Group<A>) -> Option<RangeSpec>
 {
     match group.kind {
         GroupKind::Range => range_in(group.given.as_slice()).ok(),
-        GroupKind::Global => None,
+        GroupKind::Global | GroupKind::Label => None,
     }
-}
-
-// The range overlaps that of this group.
-fn overlaps_part<A: Allocator>(group: &Group<A>, range: RangeSpec) -> bool
-    ensures { result ≡ list_any (overlaps range) (range_part (group_seen group.now)) }
-{
-    match range_part(group) {
-        Some(other) => overlaps(range, other),
-        None => false,
-    }
-}
-
-/// The range overlaps that of one of the groups.
-pub fn overlaps_any<A: Allocator>(groups: &[Group<A>], range: RangeSpec) -> bool
-    ensures { result ≡ list_any (overlaps range) (ranges_of (map group_seen groups.now)) }
-{
-    for group in groups {
-        if overlaps_part(group, range) {
-            return true;
-        }
-    }
-    false
 }
 
 /// The ranges of the groups RANGE, in the order of the groups.

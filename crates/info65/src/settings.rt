@@ -20,6 +20,8 @@ pub struct Settings<A: Allocator = Global> {
     pub start: Option<u16>,
     /// The CPU; the 6502 by default.
     pub cpu: Cpu,
+    /// Offsets are written in hexadecimal; off by default.
+    pub hexoffs: bool,
 }
 
 impl<A: Allocator> Model for Settings<A> {
@@ -27,7 +29,7 @@ impl<A: Allocator> Model for Settings<A> {
 
     ghost Value = { SettingsView };
 
-    ghost view = { λ s. record { input = name_seen s.input; output = name_seen s.output; offset = s.offset; size = s.size; start = s.start; cpu = s.cpu } };
+    ghost view = { λ s. record { input = name_seen s.input; output = name_seen s.output; offset = s.offset; size = s.size; start = s.start; cpu = s.cpu; hexoffs = s.hexoffs } };
 
-    ghost invariant = { λ s. AreInLimits (record { input = name_seen s.input; output = name_seen s.output; offset = s.offset; size = s.size; start = s.start; cpu = s.cpu }) };
+    ghost invariant = { λ s. AreInLimits (record { input = name_seen s.input; output = name_seen s.output; offset = s.offset; size = s.size; start = s.start; cpu = s.cpu; hexoffs = s.hexoffs }) };
 }

@@ -1,3 +1,5 @@
 mod files;
+mod large;
 mod lexing;
+mod names;
 mod ranges;

@@ -1,13 +1,14 @@
 //! Values of attributes.
 
 ghost use Rattle.std.specs.Prelude.{◌≡◌, option_map};
-ghost use Rattle.info65.specs.Given.{value_seen};
-ghost use Rattle.info65.specs.Steps.{Sees, seen};
-ghost use Rattle.info65.specs.Values.{address_value, are_printable, cpu_value, is_file_name, is_on_command_line, name_value, number_value, type_value, value_of};
+ghost use Rattle.info65.specs.Code.Groups.{value_seen};
+ghost use Rattle.info65.specs.Code.Steps.{Sees, seen};
+ghost use Rattle.info65.specs.Values.{address_value, are_printable, boolean_of, boolean_value, cpu_value, is_file_name, is_on_command_line, label_value, name_value, number_value, type_value, value_of};
 
-use crate::attribute::{Attribute, Form, form_of, type_named};
+use crate::assignment::Value;
+use crate::attribute::{Attribute, Form, boolean_named, form_of, type_named};
 use crate::fault::{InfoFault, InfoFaultKind};
-use crate::given::Value;
+use crate::names::has_name_form;
 use crate::options::Options;
 use crate::range::RangeType;
 use crate::token::{Token, TokenKind};
@@ -53,9 +54,16 @@ fn name_value<'a, A: Allocator>(
     if is_on_command_line(options, attribute) {
         return Err(InfoFault::new(line, InfoFaultKind::NameConflict));
     }
-    match str::from_utf8(text) {
-        Ok(name) => Ok(Value::Name(name)),
-        Err(_) => Err(InfoFault::new(line, InfoFaultKind::BadName)),
+    Ok(Value::Name(text))
+}
+
+fn label_value<'a>(line: u32, text: &'a [u8]) -> Result<Value<'a>, InfoFault>
+    ensures { Sees value_seen result (label_value line text.entry.now) }
+{
+    if has_name_form(text) {
+        Ok(Value::Name(text))
+    } else {
+        Err(InfoFault::new(line, InfoFaultKind::BadName))
     }
 }
 
@@ -97,6 +105,25 @@ fn type_value<'a>(line: u32, role: Option<RangeType>) -> Result<Value<'a>, InfoF
     }
 }
 
+fn boolean_value<'a>(line: u32, on: Option<bool>) -> Result<Value<'a>, InfoFault>
+    ensures { Sees value_seen result (boolean_value line on) }
+{
+    match on {
+        Some(on) => Ok(Value::Boolean(on)),
+        None => Err(InfoFault::new(line, InfoFaultKind::Expected)),
+    }
+}
+
+fn boolean_of(number: u32) -> Option<bool>
+    ensures { result ≡ boolean_of number }
+{
+    match number {
+        0 => Some(false),
+        1 => Some(true),
+        _ => None,
+    }
+}
+
 /// The value of an attribute, or the first of its faults.
 #[tactic(auto, unfolding(crate::specs::Values::value_of))]
 pub fn value_of<'a, A: Allocator>(
@@ -114,6 +141,9 @@ pub fn value_of<'a, A: Allocator>(
         (Form::Number { low, high }, TokenKind::Number(number)) => {
             number_value(low, high, line, number)
         }
+        (Form::Name, TokenKind::Text(text)) => label_value(line, text),
+        (Form::Boolean, TokenKind::Word) => boolean_value(line, boolean_named(token.text)),
+        (Form::Boolean, TokenKind::Number(number)) => boolean_value(line, boolean_of(number)),
         (Form::TypeWord, TokenKind::Word) => type_value(line, type_named(token.text)),
         _ => Err(InfoFault::new(line, InfoFaultKind::Expected)),
     }

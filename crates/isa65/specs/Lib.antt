@@ -1,9 +1,11 @@
+-- the rules: modes, mnemonics, opcode tables, CPUs
 pub mod Mode
-pub mod Finding
 pub mod Mnemonic
-pub mod MnemonicLaws
 pub mod Opcodes
 pub mod Mos6502
 pub mod Cpu
+-- what holds of them
+pub mod Finding
+pub mod MnemonicLaws
 pub mod OpcodeLaws
 pub mod CpuLaws

@@ -105,10 +105,10 @@ text_of Smb5 = codes "smb5"
 text_of Smb6 = codes "smb6"
 text_of Smb7 = codes "smb7"
 
--- the first of these mnemonics whose text the bytes are, in any case
+-- the first of these mnemonics that the bytes spell, in any letter case
 abbrev pub first_named : List ℕ → List Mnemonic → Option Mnemonic
 first_named bytes mnemonics = find (λ m. str_eq_ignore_ascii_case (text_of m) bytes) mnemonics
 
--- the mnemonic that the bytes name
+-- the mnemonic that the bytes spell, in any letter case
 unfoldable pub mnemonic_named : List ℕ → Option Mnemonic
 mnemonic_named bytes = first_named bytes ALL

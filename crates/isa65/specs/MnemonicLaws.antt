@@ -18,7 +18,7 @@ find-text_of : (m : Mnemonic) → find (λ n. bytes_eq (str_to_ascii_lowercase (
 find-text_of Adc = refl
 find-text_of _ = refl
 
--- bytes name m exactly where they are its text, but for case
+-- bytes name m exactly when they are its text, but for case
 pub mnemonic_named-is : (bytes : List ℕ) (m : Mnemonic) → (mnemonic_named bytes ≡ Some m) ↔ (str_to_ascii_lowercase bytes ≡ text_of m)
 unfolding mnemonic_named
 mnemonic_named-is bytes m = (

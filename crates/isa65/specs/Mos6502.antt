@@ -4,7 +4,7 @@ use Rattle.isa65.specs.Opcodes.{Table, none, in_columns, in_mode}
 use Rattle.isa65.specs.declared.mode.Mode.TheVariants.{Imp, Acc, Imm, Zp, Zpx, Zpy, Abs, Absx, Absy, Ind, Indx, Indy, Rel}
 use Rattle.isa65.specs.declared.mnemonic.Mnemonic.TheVariants.{Adc, And, Asl, Bcc, Bcs, Beq, Bit, Bmi, Bne, Bpl, Brk, Bvc, Bvs, Clc, Cld, Cli, Clv, Cmp, Cpx, Cpy, Dec, Dex, Dey, Eor, Inc, Inx, Iny, Jmp, Jsr, Lda, Ldx, Ldy, Lsr, Nop, Ora, Pha, Php, Pla, Plp, Rol, Ror, Rti, Rts, Sbc, Sec, Sed, Sei, Sta, Stx, Sty, Tax, Tay, Tsx, Txa, Txs, Tya}
 
--- loads, stores, arithmetic and logic of the accumulator
+-- loads, stores, arithmetic and logic with the accumulator
 abbrev pub arithmetic : Table
 arithmetic =
     in_columns (Imm ∷ Zp ∷ Zpx ∷ Abs ∷ Absx ∷ Absy ∷ Indx ∷ Indy ∷ [])
@@ -17,7 +17,7 @@ arithmetic =
     (Sbc, 0xE9 ∷ 0xE5 ∷ 0xF5 ∷ 0xED ∷ 0xFD ∷ 0xF9 ∷ 0xE1 ∷ 0xF1 ∷ []) ∷
     (Sta, none ∷ 0x85 ∷ 0x95 ∷ 0x8D ∷ 0x9D ∷ 0x99 ∷ 0x81 ∷ 0x91 ∷ []) ∷ [])
 
--- shifts, and what counts memory up or down
+-- shifts, increments and decrements
 abbrev pub shifts : Table
 shifts =
     in_columns (Acc ∷ Zp ∷ Zpx ∷ Abs ∷ Absx ∷ [])

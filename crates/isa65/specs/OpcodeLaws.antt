@@ -1,4 +1,4 @@
--- What a test over a whole table says of each entry.
+-- What a test of a whole table says of each entry.
 use Rattle.std.specs.Prelude.{◌≡◌, ◌⊎◌, ◌↔◌, ◌<◌, ◌||◌, not, nat_lt, IsSome, ℕ, Bool, true, false, ◌&&◌, [], ◌∷◌, map, Option, Some, None, ◌==◌, refl}
 use Rattle.std.proofs.Common.{inl, inr, ap}
 use Rattle.std.proofs.lemmas.Bool.{cond_both, eqb-true, ltb-true, and_parts, or_cases, both_ways, not-true}
@@ -55,14 +55,15 @@ is_zero_page_of x y = is_mode x (zero_page_of y)
 abbrev pub differ_in_size : Entry → Entry → Bool
 differ_in_size e f = not (sameb mnemonic.the_type e.1 f.1) || not (bytes_eq (written e.2) (written f.2)) || sameb mode.the_type e.2 f.2 || is_zero_page_of e.2 f.2 || is_zero_page_of f.2 e.2
 
--- the tests of a whole table: a look-up by opcode finds each entry, and so does one by pair; opcodes are bytes; modes written alike
+-- the tests of a whole table: a look-up by opcode finds each entry, and so does one by mnemonic and mode; each opcode is a byte;
+-- two modes of a mnemonic that are written alike are a zero-page and absolute pair
 pub record IsSound (t : Table) : Type 0 where
   pub by_opcode : map (λ e. decoded t e.0) t ≡ map (λ e. Some (record { mnemonic = e.1; mode = e.2 })) t
   pub by_pair : map (λ e. encoded t e.1 e.2) t ≡ map (λ e. Some e.0) t
   pub bytes : map (λ e. nat_lt e.0 256) t ≡ map (λ e. true) t
   pub sizes : map (λ e. list_all (differ_in_size e) t) t ≡ map (λ e. true) t
 
--- a look-up that finds one, finds an entry
+-- an opcode that a look-up finds is that of an entry
 some_entry : (t : Table) (m : Mnemonic) (x : Mode) (o : Option ℕ) → encoded t m x ≡ o → IsSome o → (b : ℕ) × InTable (b, m, x) t
 some_entry t m x None e h = cc
 some_entry t m x (Some b) e h = (b, encoded-entry t m x b e)

@@ -1,4 +1,4 @@
--- Tables of opcodes, and what is looked up in them.
+-- Tables of opcodes, and look-ups in them.
 use Rattle.std.specs.Prelude.{◌≡◌, ◌⊎◌, ℕ, ◌==◌, ◌&&◌, List, [], ◌∷◌, ◌++◌, Option, Some, None, is_some, if◌then◌else◌, option_and_then}
 use denote.Enum.Bare.{sameb}
 use Rattle.isa65.specs.Mode.{zero_page_of}
@@ -39,7 +39,7 @@ in_mode x (row ∷ rows) = (row.1, row.0, x) ∷ in_mode x rows
 
 -- ---- look-ups
 
--- the entry stands in the table
+-- the entry is one of the table
 abbrev pub InTable : Entry → Table → Type 0
 InTable e [] = ⊥
 InTable e (x ∷ t) = (x ≡ e) ⊎ InTable e t
@@ -54,6 +54,6 @@ abbrev pub encoded : Table → Mnemonic → Mode → Option ℕ
 encoded [] m x = None
 encoded (e ∷ t) m x = if sameb mnemonic.the_type e.1 m && sameb mode.the_type e.2 x then Some e.0 else encoded t m x
 
--- the zero-page mode written like this absolute one, where the mnemonic has it
+-- the zero-page mode that is written like this absolute one, if the mnemonic has it
 abbrev pub sibling_in : Table → Op → Option Mode
 sibling_in t op = option_and_then (λ x. if is_some (encoded t op.mnemonic x) then Some x else None) (zero_page_of op.mode)

@@ -10,7 +10,7 @@ use crate::mos_6502::Mos6502;
 use crate::op::Op;
 use crate::opcode_set::OpcodeSet;
 
-/// A CPU whose opcodes are known. As an [`OpcodeSet`] it is the set of its own opcodes.
+/// A CPU whose opcodes are known. It is itself an [`OpcodeSet`], that of its opcodes.
 #[derive(Clone, Copy, Debug, PartialEq, Eq)]
 pub enum Cpu {
     /// The MOS 6502, with its documented opcodes.
@@ -22,9 +22,10 @@ const ALL: [Cpu; 1] = [Cpu::M6502];
 
 impl Cpu {
     ghost use Rattle.isa65.specs.declared.cpu.Cpu.{Cpu};
-    ghost use Rattle.isa65.specs.Cpu.{cpu_text, cpu_named};
+    ghost use Rattle.isa65.specs.Cpu.{cpu_text, cpu_named, IsNameOf};
 
-    /// The CPU's name as ca65's `.setcpu` takes it.
+    /// The CPU's name as ca65's `.setcpu` takes it in quotes: at most eight printable bytes, none of
+    /// them a quote.
     pub fn text(self) -> &'static [u8]
         ensures { result.now ≡ cpu_text self }
     {
@@ -33,19 +34,22 @@ impl Cpu {
         }
     }
 
-    /// The CPU whose name the bytes are, in any letter case.
+    /// The CPU that the bytes name in any letter case, if there is one.
     #[tactic(auto, unfolding(crate::specs::Cpu::cpu_named))]
     pub fn from_bytes(bytes: &[u8]) -> Option<Cpu>
         ensures value { result ≡ cpu_named bytes.now }
 
-        // The bytes name c exactly where they are its text, but for case.
+        // The bytes name c exactly when they are its text, but for case.
         ensures named { (c : Cpu) → (result ≡ Some c) ↔ (str_to_ascii_lowercase bytes.now ≡ str_to_ascii_lowercase (cpu_text c)) }
+
+        // The text of each CPU fits in quotes, and names that CPU.
+        ensures names { (c : Cpu) → IsNameOf c (cpu_text c) }
     {
         first_of(&ALL, bytes)
     }
 }
 
-/// The first of these CPUs whose name the bytes are.
+/// The first of these CPUs that the bytes name, if there is one.
 fn first_of(cpus: &[Cpu], bytes: &[u8]) -> Option<Cpu>
     ensures { result ≡ first_cpu_named bytes.now cpus.now }
 {
@@ -64,6 +68,12 @@ impl OpcodeSet for Cpu {
     fn decode(&self, byte: u8) -> Option<Op> {
         match self {
             Cpu::M6502 => Mos6502.decode(byte),
+        }
+    }
+
+    fn sibling(&self, op: Op) -> Option<Mode> {
+        match self {
+            Cpu::M6502 => Mos6502.sibling(op),
         }
     }
 

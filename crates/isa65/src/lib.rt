@@ -1,8 +1,8 @@
 //! The instruction sets of the 6502 family: mnemonics, addressing modes and opcodes.
 //!
-//! [`Mnemonic`] and [`Mode`] are those of every CPU that is planned, an [`Op`] is one of each, and an
-//! [`OpcodeSet`] says which byte stands for which `Op`, by laws that every set keeps. [`Mos6502`] is
-//! the set of the MOS 6502, and a [`Cpu`] is the set that it names.
+//! A [`Mnemonic`] and a [`Mode`] together are an [`Op`], and an [`OpcodeSet`] says which byte stands
+//! for which `Op`, by laws that every set keeps. [`Mos6502`] is the set of the MOS 6502. A [`Cpu`] is
+//! the set of the CPU that it names.
 #![tactic(auto)]
 
 mod cpu;

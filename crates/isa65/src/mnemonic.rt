@@ -4,105 +4,201 @@ ghost use Rattle.std.specs.Prelude.{◌≡◌, ◌↔◌, Some};
 ghost use Rattle.std.specs.Str.{str_eq_ignore_ascii_case, str_to_ascii_lowercase};
 ghost use Rattle.isa65.specs.Mnemonic.{text_of, first_named, mnemonic_named};
 
-/// What an instruction is called: the 56 mnemonics of the 6502, then the 8 that the 65SC02 adds,
-/// then the 32 bit instructions of the 65C02.
+/// The name of an instruction: the 56 of the 6502, the 8 that the 65SC02 adds, and the 32 bit
+/// instructions of the 65C02, in this order.
 #[derive(Clone, Copy, Debug, PartialEq, Eq)]
 pub enum Mnemonic {
+    /// Adds memory and the carry to the accumulator.
     Adc,
+    /// Ands memory into the accumulator.
     And,
+    /// Shifts left by one bit.
     Asl,
+    /// Branches if the carry is clear.
     Bcc,
+    /// Branches if the carry is set.
     Bcs,
+    /// Branches if the last result was zero.
     Beq,
+    /// Tests the bits of memory against the accumulator.
     Bit,
+    /// Branches if the last result was negative.
     Bmi,
+    /// Branches if the last result was not zero.
     Bne,
+    /// Branches if the last result was not negative.
     Bpl,
+    /// Breaks: calls the interrupt handler.
     Brk,
+    /// Branches if there was no overflow.
     Bvc,
+    /// Branches if there was an overflow.
     Bvs,
+    /// Clears the carry.
     Clc,
+    /// Clears decimal mode.
     Cld,
+    /// Enables interrupts.
     Cli,
+    /// Clears the overflow flag.
     Clv,
+    /// Compares memory with the accumulator.
     Cmp,
+    /// Compares memory with X.
     Cpx,
+    /// Compares memory with Y.
     Cpy,
+    /// Decrements memory, or on later CPUs the accumulator.
     Dec,
+    /// Decrements X.
     Dex,
+    /// Decrements Y.
     Dey,
+    /// Exclusive-ors memory into the accumulator.
     Eor,
+    /// Increments memory, or on later CPUs the accumulator.
     Inc,
+    /// Increments X.
     Inx,
+    /// Increments Y.
     Iny,
+    /// Jumps.
     Jmp,
+    /// Calls a subroutine.
     Jsr,
+    /// Loads the accumulator.
     Lda,
+    /// Loads X.
     Ldx,
+    /// Loads Y.
     Ldy,
+    /// Shifts right by one bit.
     Lsr,
+    /// Does nothing.
     Nop,
+    /// Ors memory into the accumulator.
     Ora,
+    /// Pushes the accumulator.
     Pha,
+    /// Pushes the flags.
     Php,
+    /// Pulls the accumulator.
     Pla,
+    /// Pulls the flags.
     Plp,
+    /// Rotates left through the carry.
     Rol,
+    /// Rotates right through the carry.
     Ror,
+    /// Returns from an interrupt.
     Rti,
+    /// Returns from a subroutine.
     Rts,
+    /// Subtracts memory and the borrow from the accumulator.
     Sbc,
+    /// Sets the carry.
     Sec,
+    /// Sets decimal mode.
     Sed,
+    /// Disables interrupts.
     Sei,
+    /// Stores the accumulator.
     Sta,
+    /// Stores X.
     Stx,
+    /// Stores Y.
     Sty,
+    /// Copies the accumulator to X.
     Tax,
+    /// Copies the accumulator to Y.
     Tay,
+    /// Copies the stack pointer to X.
     Tsx,
+    /// Copies X to the accumulator.
     Txa,
+    /// Copies X to the stack pointer.
     Txs,
+    /// Copies Y to the accumulator.
     Tya,
+    /// Branches always.
     Bra,
+    /// Pushes X.
     Phx,
+    /// Pushes Y.
     Phy,
+    /// Pulls X.
     Plx,
+    /// Pulls Y.
     Ply,
+    /// Stores zero.
     Stz,
+    /// Tests and resets the bits of the accumulator in memory.
     Trb,
+    /// Tests and sets the bits of the accumulator in memory.
     Tsb,
+    /// Branches if bit 0 of a zero-page byte is clear.
     Bbr0,
+    /// Branches if bit 1 of a zero-page byte is clear.
     Bbr1,
+    /// Branches if bit 2 of a zero-page byte is clear.
     Bbr2,
+    /// Branches if bit 3 of a zero-page byte is clear.
     Bbr3,
+    /// Branches if bit 4 of a zero-page byte is clear.
     Bbr4,
+    /// Branches if bit 5 of a zero-page byte is clear.
     Bbr5,
+    /// Branches if bit 6 of a zero-page byte is clear.
     Bbr6,
+    /// Branches if bit 7 of a zero-page byte is clear.
     Bbr7,
+    /// Branches if bit 0 of a zero-page byte is set.
     Bbs0,
+    /// Branches if bit 1 of a zero-page byte is set.
     Bbs1,
+    /// Branches if bit 2 of a zero-page byte is set.
     Bbs2,
+    /// Branches if bit 3 of a zero-page byte is set.
     Bbs3,
+    /// Branches if bit 4 of a zero-page byte is set.
     Bbs4,
+    /// Branches if bit 5 of a zero-page byte is set.
     Bbs5,
+    /// Branches if bit 6 of a zero-page byte is set.
     Bbs6,
+    /// Branches if bit 7 of a zero-page byte is set.
     Bbs7,
+    /// Clears bit 0 of a zero-page byte.
     Rmb0,
+    /// Clears bit 1 of a zero-page byte.
     Rmb1,
+    /// Clears bit 2 of a zero-page byte.
     Rmb2,
+    /// Clears bit 3 of a zero-page byte.
     Rmb3,
+    /// Clears bit 4 of a zero-page byte.
     Rmb4,
+    /// Clears bit 5 of a zero-page byte.
     Rmb5,
+    /// Clears bit 6 of a zero-page byte.
     Rmb6,
+    /// Clears bit 7 of a zero-page byte.
     Rmb7,
+    /// Sets bit 0 of a zero-page byte.
     Smb0,
+    /// Sets bit 1 of a zero-page byte.
     Smb1,
+    /// Sets bit 2 of a zero-page byte.
     Smb2,
+    /// Sets bit 3 of a zero-page byte.
     Smb3,
+    /// Sets bit 4 of a zero-page byte.
     Smb4,
+    /// Sets bit 5 of a zero-page byte.
     Smb5,
+    /// Sets bit 6 of a zero-page byte.
     Smb6,
+    /// Sets bit 7 of a zero-page byte.
     Smb7,
 }
 
@@ -313,19 +409,19 @@ impl Mnemonic {
         }
     }
 
-    /// The mnemonic that the bytes spell, in any letter case.
+    /// The mnemonic that the bytes spell in any letter case, if there is one.
     #[tactic(auto, unfolding(crate::specs::Mnemonic::mnemonic_named))]
     pub fn from_bytes(bytes: &[u8]) -> Option<Mnemonic>
         ensures value { result ≡ mnemonic_named bytes.now }
 
-        // The bytes name m exactly where they are its text, but for case.
+        // The bytes name m exactly when they are its text, but for case.
         ensures named { (m : Mnemonic) → (result ≡ Some m) ↔ (str_to_ascii_lowercase bytes.now ≡ text_of m) }
     {
         named_in(&ALL, bytes)
     }
 }
 
-/// The first of these mnemonics that the bytes spell.
+/// The first of these mnemonics that the bytes spell, if there is one.
 fn named_in(mnemonics: &[Mnemonic], bytes: &[u8]) -> Option<Mnemonic>
     ensures { result ≡ first_named bytes.now mnemonics.now }
 {

@@ -41,7 +41,7 @@ pub enum Mode {
 }
 
 impl Mode {
-    /// How many bytes an instruction of this mode has, with its opcode: 1 to 3.
+    /// The length of an instruction of this mode, opcode included: 1 to 3 bytes.
     pub fn len(self) -> u8
         ensures { result ≡ len_of self }
     {
@@ -60,7 +60,7 @@ impl Mode {
     }
 
     /// The zero-page mode that is written like this absolute one: `Zp` for `Abs`, `Zpx` for `Absx`,
-    /// `Zpy` for `Absy`, else none.
+    /// `Zpy` for `Absy`, and `None` for every other mode.
     pub fn zero_page(self) -> Option<Mode>
         ensures { result ≡ zero_page_of self }
     {

@@ -10,19 +10,19 @@ use crate::opcode_set::OpcodeSet;
 /// What an opcode stands for.
 #[derive(Clone, Copy, Debug, PartialEq, Eq)]
 pub struct Op {
+    /// What the instruction is called.
     pub mnemonic: Mnemonic,
+    /// How it names its operand.
     pub mode: Mode,
 }
 
 impl Op {
-    /// The zero-page mode that is written like this absolute one, where the set has the same
-    /// mnemonic in that mode too. An assembler then takes the shorter form for an operand below
-    /// $100, unless `a:` stands before it.
+    /// The zero-page mode that is written like this absolute one, if the set has the same mnemonic
+    /// in that mode too. An assembler then takes the shorter form for an operand below $100, unless
+    /// `a:` stands before it.
     pub fn sibling<S: OpcodeSet>(self, set: &S) -> Option<Mode>
         ensures { result ≡ sibling_in (S.table set.now) self }
     {
-        let mode = self.mode.zero_page()?;
-        set.encode(self.mnemonic, mode)?;
-        Some(mode)
+        set.sibling(self)
     }
 }

@@ -5,7 +5,7 @@ ghost use Rattle.isa65.specs.declared.mnemonic.Mnemonic.{Mnemonic};
 ghost use Rattle.isa65.specs.declared.mode.Mode.{Mode};
 ghost use Rattle.isa65.specs.declared.op.Op.{Op};
 ghost use Rattle.isa65.specs.Mode.{written, IsZeroPageOf};
-ghost use Rattle.isa65.specs.Opcodes.{Table, decoded, encoded};
+ghost use Rattle.isa65.specs.Opcodes.{Table, decoded, encoded, sibling_in};
 
 use crate::mnemonic::Mnemonic;
 use crate::mode::Mode;
@@ -13,18 +13,23 @@ use crate::op::Op;
 
 /// The opcodes of a CPU.
 ///
-/// An implementation gives its table and `decode`, and proves three laws of the table: an opcode is
-/// a byte, `encode` is the inverse of `decode`, and modes of a mnemonic that are written alike are a
-/// zero-page and absolute pair.
+/// An implementation gives its table, `decode` and `sibling`, and proves three laws of the table: an
+/// opcode is a byte, `encode` is the inverse of `decode`, and two modes of a mnemonic that are written
+/// alike are a zero-page and absolute pair.
 pub trait OpcodeSet {
     /// Each opcode with its mnemonic and mode.
     ghost table: { Self → Table };
 
-    /// What an opcode stands for, or none where it is undefined. Takes constant time.
+    /// What an opcode stands for, or `None` if it is undefined. Takes constant time.
     fn decode(&self, byte: u8) -> Option<Op>
         ensures { result ≡ decoded (table self.now) byte };
 
-    /// The opcode of a mnemonic in a mode, or none where it has no such form.
+    /// The zero-page mode that is written like the absolute mode of `op`, if the mnemonic has it.
+    /// Takes constant time.
+    fn sibling(&self, op: Op) -> Option<Mode>
+        ensures { result ≡ sibling_in (table self.now) op };
+
+    /// The opcode of a mnemonic in a mode, or `None` if it has no such form. Searches all opcodes.
     fn encode(&self, mnemonic: Mnemonic, mode: Mode) -> Option<u8>
         ensures { result ≡ encoded (table self.now) mnemonic mode }
     {

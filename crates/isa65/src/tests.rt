@@ -1,54 +1,152 @@
 use crate::{Cpu, Mnemonic, Mode, Mos6502, Op, OpcodeSet};
+use std::alloc::Global;
 use std::process::Abort;
 use std::test::Fail;
 
-/// The set's opcodes encode back, and there are so many.
-fn count_and_encode<S: OpcodeSet>(rt: &impl Abort, set: &S) -> usize {
-    let mut defined = 0usize;
+/// The data sheet's table of opcodes: columns are addressing modes, `--` is no such form.
+const DATA_SHEET: [&str; 6] = [
+    "    imm zp zpx abs absx absy indx indy
+    adc 69  65 75  6D  7D   79   61   71
+    and 29  25 35  2D  3D   39   21   31
+    cmp C9  C5 D5  CD  DD   D9   C1   D1
+    eor 49  45 55  4D  5D   59   41   51
+    lda A9  A5 B5  AD  BD   B9   A1   B1
+    ora 09  05 15  0D  1D   19   01   11
+    sbc E9  E5 F5  ED  FD   F9   E1   F1
+    sta --  85 95  8D  9D   99   81   91",
+    "    acc zp zpx abs absx
+    asl 0A  06 16  0E  1E
+    lsr 4A  46 56  4E  5E
+    rol 2A  26 36  2E  3E
+    ror 6A  66 76  6E  7E
+    dec --  C6 D6  CE  DE
+    inc --  E6 F6  EE  FE",
+    "    imm zp zpx zpy abs absx absy
+    ldx A2  A6 --  B6  AE  --   BE
+    ldy A0  A4 B4  --  AC  BC   --
+    stx --  86 --  96  8E  --   --
+    sty --  84 94  --  8C  --   --
+    cpx E0  E4 --  --  EC  --   --
+    cpy C0  C4 --  --  CC  --   --
+    bit --  24 --  --  2C  --   --",
+    "    abs ind
+    jmp 4C  6C
+    jsr 20  --",
+    "    rel
+    bpl 10
+    bmi 30
+    bvc 50
+    bvs 70
+    bcc 90
+    bcs B0
+    bne D0
+    beq F0",
+    "    imp
+    brk 00
+    php 08
+    clc 18
+    plp 28
+    sec 38
+    rti 40
+    pha 48
+    cli 58
+    rts 60
+    pla 68
+    sei 78
+    dey 88
+    txa 8A
+    tya 98
+    txs 9A
+    tay A8
+    tax AA
+    clv B8
+    tsx BA
+    iny C8
+    dex CA
+    cld D8
+    inx E8
+    nop EA
+    sed F8",
+];
+
+/// The mode that a column of the data sheet is headed by.
+fn column_mode(heading: &str) -> Option<Mode> {
+    let mode = match heading {
+        "imp" => Mode::Imp,
+        "acc" => Mode::Acc,
+        "imm" => Mode::Imm,
+        "zp" => Mode::Zp,
+        "zpx" => Mode::Zpx,
+        "zpy" => Mode::Zpy,
+        "abs" => Mode::Abs,
+        "absx" => Mode::Absx,
+        "absy" => Mode::Absy,
+        "ind" => Mode::Ind,
+        "indx" => Mode::Indx,
+        "indy" => Mode::Indy,
+        "rel" => Mode::Rel,
+        _ => return None,
+    };
+    Some(mode)
+}
+
+/// Enters a row of the data sheet: what each opcode of this mnemonic stands for.
+fn enter_row(
+    rt: &impl Abort,
+    headings: &str,
+    row: &str,
+    table: &mut [Option<Op>],
+) -> Result<(), Fail> {
+    let mut cells = row.split_whitespace();
+    let name = cells.next().ok_or("no mnemonic")?;
+    let mnemonic = Mnemonic::from_bytes(name.as_bytes()).ok_or("no such mnemonic")?;
+    for heading in headings.split_whitespace() {
+        let mode = column_mode(heading).ok_or("no such mode")?;
+        let cell = cells.next().ok_or("too few cells")?;
+        if cell != "--" {
+            let byte = usize::from_str_radix(cell, 16)?;
+            let entry = table.get_mut(byte).ok_or("not a byte")?;
+            assert_eq!(rt; *entry, None, "{cell} stands twice");
+            *entry = Some(Op { mnemonic, mode });
+        }
+    }
+    assert!(rt; cells.next().is_none());
+    Ok(())
+}
+
+/// What each byte stands for by the data sheet.
+fn data_sheet(rt: &impl Abort, alloc: Global) -> Result<Vec<Option<Op>>, Fail> {
+    let mut table = vec![in alloc; None; 256]?;
+    for part in DATA_SHEET {
+        let mut lines = part.lines();
+        let headings = lines.next().ok_or("no headings")?;
+        for row in lines {
+            enter_row(rt, headings, row, &mut table)?;
+        }
+    }
+    Ok(table)
+}
+
+/// Decodes each byte as the table does, and encodes what it stands for back.
+fn agrees<S: OpcodeSet>(rt: &impl Abort, set: &S, table: &[Option<Op>]) {
     for byte in 0..=u8::MAX {
-        if let Some(op) = set.decode(byte) {
-            defined = defined.saturating_add(1);
+        let op = table.get(usize::from(byte)).copied().flatten();
+        assert_eq!(rt; set.decode(byte), op, "{byte:02x}");
+        if let Some(op) = op {
             assert_eq!(rt; set.encode(op.mnemonic, op.mode), Some(byte), "{byte:02x}");
         }
     }
-    defined
 }
 
 #[test]
-fn all_bytes(rt: HostRuntime) {
-    assert_eq!(rt; count_and_encode(&rt, &Mos6502), 151);
-    assert_eq!(rt; count_and_encode(&rt, &Cpu::M6502), 151);
-}
-
-/// Rows of the data sheet.
-#[test]
-fn published_rows(rt: HostRuntime) {
-    let rows = [
-        (0x69, Mnemonic::Adc, Mode::Imm),
-        (0x91, Mnemonic::Sta, Mode::Indy),
-        (0x0A, Mnemonic::Asl, Mode::Acc),
-        (0xB6, Mnemonic::Ldx, Mode::Zpy),
-        (0xBE, Mnemonic::Ldx, Mode::Absy),
-        (0xBC, Mnemonic::Ldy, Mode::Absx),
-        (0x6C, Mnemonic::Jmp, Mode::Ind),
-        (0x20, Mnemonic::Jsr, Mode::Abs),
-        (0xD0, Mnemonic::Bne, Mode::Rel),
-        (0x00, Mnemonic::Brk, Mode::Imp),
-    ];
-    for (byte, mnemonic, mode) in rows {
-        assert_eq!(rt;
-            Cpu::M6502.decode(byte),
-            Some(Op { mnemonic, mode }),
-            "{byte:02x}"
-        );
-        assert_eq!(rt; Cpu::M6502.encode(mnemonic, mode), Some(byte), "{byte:02x}");
-    }
-    // The 65C02 has these, the 6502 does not.
-    for byte in [0x02, 0x12, 0x1A, 0x80, 0x89, 0xDA, 0xFF] {
-        assert_eq!(rt; Cpu::M6502.decode(byte), None, "{byte:02x}");
-    }
+fn all_bytes_by_the_data_sheet(rt: HostRuntime) -> Result<(), Fail> {
+    let table = data_sheet(&rt, rt.alloc())?;
+    assert_eq!(rt; table.iter().filter(|op| op.is_some()).count(), 151);
+    agrees(&rt, &Mos6502, &table);
+    agrees(&rt, &Cpu::M6502, &table);
     assert_eq!(rt; Cpu::M6502.encode(Mnemonic::Sta, Mode::Imm), None);
     assert_eq!(rt; Cpu::M6502.encode(Mnemonic::Bra, Mode::Rel), None);
+    Ok(())
 }
 
 /// The 96 mnemonics, as the opcode tables write them.
@@ -76,27 +174,47 @@ fn texts_read_back(rt: HostRuntime) -> Result<(), Fail> {
 }
 
 #[test]
-fn lengths_and_siblings(rt: HostRuntime) {
+fn lengths(rt: HostRuntime) {
     assert_eq!(rt; Mode::Acc.len(), 1);
     assert_eq!(rt; Mode::Zpind.len(), 2);
     assert_eq!(rt; Mode::Zprel.len(), 3);
-    let absolute = |mnemonic: Mnemonic, mode: Mode| Op { mnemonic, mode };
-    assert_eq!(rt;
-        absolute(Mnemonic::Lda, Mode::Abs).sibling(&Cpu::M6502),
-        Some(Mode::Zp)
-    );
-    assert_eq!(rt;
-        absolute(Mnemonic::Sta, Mode::Absy).sibling(&Cpu::M6502),
-        None
-    );
-    assert_eq!(rt;
-        absolute(Mnemonic::Jmp, Mode::Abs).sibling(&Cpu::M6502),
-        None
-    );
-    assert_eq!(rt;
-        absolute(Mnemonic::Lda, Mode::Zp).sibling(&Cpu::M6502),
-        None
-    );
+}
+
+/// The sibling of each mnemonic and mode is the zero-page form that the data sheet has for it.
+#[test]
+fn siblings_by_the_data_sheet(rt: HostRuntime) -> Result<(), Fail> {
+    let table = data_sheet(&rt, rt.alloc())?;
+    let mut count = 0usize;
+    for text in TEXTS.split_whitespace() {
+        let mnemonic = Mnemonic::from_bytes(text.as_bytes()).ok_or("no such mnemonic")?;
+        for (mode, short) in [
+            (Mode::Abs, Mode::Zp),
+            (Mode::Absx, Mode::Zpx),
+            (Mode::Absy, Mode::Zpy),
+        ] {
+            let zero_page = Some(Op {
+                mnemonic,
+                mode: short,
+            });
+            let expected = if table.contains(&zero_page) {
+                Some(short)
+            } else {
+                None
+            };
+            let op = Op { mnemonic, mode };
+            assert_eq!(rt; op.sibling(&Cpu::M6502), expected, "{op:?}");
+            count = count.saturating_add(usize::from(expected.is_some()));
+        }
+    }
+    assert_eq!(rt; count, 39);
+    for mode in [Mode::Imm, Mode::Zp, Mode::Ind, Mode::Rel] {
+        let op = Op {
+            mnemonic: Mnemonic::Lda,
+            mode,
+        };
+        assert_eq!(rt; op.sibling(&Cpu::M6502), None);
+    }
+    Ok(())
 }
 
 #[test]

@@ -1,8 +1,10 @@
 -- Cells, address by address.
-use Rattle.std.proofs.Common.{◌≡◌, ◌∙◌, ℕ, ◌%◌, ◌<◌, Option, Some, None, refl, ap, arith}
+use Rattle.std.proofs.Common.{◌≡◌, ◌≢◌, ◌∙◌, ℕ, ◌+◌, ◌/◌, ◌%◌, ◌==◌, ◌<◌, Bool, true, false, List, Option, Some, None, length, get_or, set, refl, ap, sym, subst, arith, ⊎_elim}
+use Rattle.std.proofs.lemmas.Bool.{cases_eq, cond_both, eq-eqb, ne_eqb}
+use Rattle.std.proofs.lemmas.List.{get_or-set_other, get_or-set_same}
 use Rattle.info65.specs.declared.range.RangeType.{RangeType}
-use Rattle.info65.specs.declared.range.RangeType.TheVariants.{Code, ByteTable, WordTable, DbyteTable, TextTable, Skip}
-use Rattle.map65.specs.Cells.{CellLaw, cell_of, code_of, coded, len_in_cell, role_in_cell}
+use Rattle.info65.specs.declared.range.RangeType.TheVariants.{Code, ByteTable, WordTable, DbyteTable, AddrTable, RtsTable, TextTable, Skip}
+use Rattle.map65.specs.Code.Cells.{CellLaw, HasBits, bit, cell_of, code_of, coded, has_bit, is_wide_cell, is_wide_role, len_in_cell, role_in_cell, with_bit, with_len}
 
 -- ---- one cell
 
@@ -10,11 +12,7 @@ pub code-small : (r : Option RangeType) → code_of r < 16
 unfolding code_of
 code-small None = omega arith
 code-small (Some Code) = omega arith
-code-small (Some ByteTable) = omega arith
-code-small (Some WordTable) = omega arith
-code-small (Some DbyteTable) = omega arith
-code-small (Some TextTable) = omega arith
-code-small (Some Skip) = omega arith
+code-small (Some _) = omega arith
 
 pub coded-code : (r : Option RangeType) → coded (code_of r) ≡ r
 unfolding code_of coded
@@ -23,6 +21,8 @@ coded-code (Some Code) = refl
 coded-code (Some ByteTable) = refl
 coded-code (Some WordTable) = refl
 coded-code (Some DbyteTable) = refl
+coded-code (Some AddrTable) = refl
+coded-code (Some RtsTable) = refl
 coded-code (Some TextTable) = refl
 coded-code (Some Skip) = refl
 
@@ -46,3 +46,50 @@ cell_law r n small =
     let low : cell_of r n < 128 = cell-small r n small in
     let whole : cell_of r n % 128 ≡ cell_of r n = omega (arith, low) in
     record { role = cell-role (cell_of r n) r n small whole; len = cell-len (cell_of r n) r n small whole; rest = omega (arith, low) }
+
+pub cell-wide : (c : ℕ) (r : Option RangeType) (n : ℕ) → n < 8 → c % 128 ≡ cell_of r n → is_wide_cell c ≡ is_wide_role r
+cell-wide c r n small is = ap is_wide_role (cell-role c r n small is)
+
+-- ---- a length, and the bit, that are added to a cell
+
+pub with_len-lay : (c : ℕ) (r : Option RangeType) (n : ℕ) → n < 8 → c % 128 ≡ cell_of r 0 → with_len c n % 128 ≡ cell_of r n
+unfolding with_len cell_of
+with_len-lay c r n small is = omega (arith, is, code-small r)
+
+pub with_len-rest : (c : ℕ) (r : Option RangeType) (n : ℕ) → n < 8 → c % 128 ≡ cell_of r 0 → with_len c n / 128 ≡ c / 128
+unfolding with_len cell_of
+with_len-rest c r n small is = omega (arith, is, code-small r)
+
+has_bit-is : (c : ℕ) (b : Bool) → c / 128 ≡ bit b → has_bit c ≡ b
+unfolding has_bit
+has_bit-is c true is = eq-eqb (c / 128 % 2) 1 (omega (arith, is))
+has_bit-is c false is = ne_eqb (c / 128 % 2) 1 (omega (arith, is))
+
+pub with_bit-lay : (c : ℕ) → with_bit c % 128 ≡ c % 128
+unfolding with_bit
+with_bit-lay c = cond_both (has_bit c) c (c + 128) (λ (x : ℕ). x % 128 ≡ c % 128) (λ _. refl) (λ _. omega arith)
+
+pub with_bit-rest : (c : ℕ) (b : Bool) → c / 128 ≡ bit b → with_bit c / 128 ≡ 1
+unfolding with_bit
+with_bit-rest c true is = rw (has_bit-is c true is) is
+with_bit-rest c false is = rw (has_bit-is c false is) (omega (arith, is))
+
+-- ---- all cells
+
+pub bit-small : (b : Bool) → bit b < 2
+bit-small true = omega arith
+bit-small false = omega arith
+
+pub bits-test : (p : ℕ → Bool) (cells : List ℕ) (a : ℕ) → HasBits p cells → a < 65536 → has_bit (get_or cells a 0) ≡ p a
+bits-test p cells a bits room = has_bit-is (get_or cells a 0) (p a) (bits.each a room)
+
+pub bits-as : (p q : ℕ → Bool) (cells : List ℕ) → ((a : ℕ) → a < 65536 → p a ≡ q a) → HasBits p cells → HasBits q cells
+bits-as p q cells same bits = record { each = λ a room. bits.each a room ∙ ap bit (same a room) }
+
+-- what holds of each cell after one was set: it holds of that one, and of the others as they were
+pub set-cell : (P : ℕ → ℕ → Type 0) (cells : List ℕ) (n c : ℕ) → n < length cells → P n c → ((a : ℕ) → a < 65536 → a ≢ n → P a (get_or cells a 0)) → (a : ℕ) → a < 65536 → P a (get_or (set cells n c) a 0)
+set-cell P cells n c room here others a below =
+    ⊎_elim
+    (λ same. subst (λ (x : ℕ). P x (get_or (set cells n c) x 0)) (sym same) (subst (P n) (sym (get_or-set_same cells n c 0 room)) here))
+    (λ other. subst (P a) (sym (get_or-set_other cells n a c 0 other)) (others a below other))
+    (cases_eq a n)

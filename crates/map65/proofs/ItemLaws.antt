@@ -3,15 +3,15 @@ use Rattle.std.proofs.Common.{◌≡◌, refl, ◌≢◌, ◌∙◌, inl, inr, �
 use Rattle.std.proofs.lemmas.Bool.{and_from, and_parts, both_ways, cases_Bool, cases_eq, cond-true, cond_both, eqb-true, leb-true, ltb-true, not-true}
 use Rattle.map65.proofs.ItemLemmas.{are_joined-none, are_joined-suc, item-len-at, joined-piece, left-begun, left-behind, left-first, left-going, one-role, size-one-piece, size-positive, wanted-positive}
 use Rattle.map65.specs.ImageView.{end_of, is_inside}
-use Rattle.map65.specs.Items.{Begins, EndsBefore, ItemLaw, SizeLaw, item_len, size_at, wanted_at}
+use Rattle.map65.specs.Items.{AreItems, CanBegin, EndsBefore, ItemLaw, item_len, size_at, wanted_at}
 use Rattle.map65.specs.MapView.{MapView}
 use Rattle.map65.specs.Pieces.{AreOnePiece, are_joined, is_joined}
 use Rattle.map65.specs.Roles.{is_skip, role_of}
-use Rattle.map65.specs.Steps.{left_at}
+use Rattle.map65.specs.Spans.{left_at}
 
--- ---- the step that a byte lies in
+-- ---- the span that a byte lies in
 
--- the step that has the j-th byte, and how far it reaches
+-- the span of the j-th byte, and how far it reaches
 pub record Holder (size : ℕ → ℕ) (start j : ℕ) : Type 0 where
   pub first : ℕ
   pub low : first ≤ j
@@ -72,13 +72,13 @@ begins-inside m a inside shown none =
 
 -- ---- the law
 
--- the bytes behind an item's first one are joined
+-- each byte of an item after its first is joined
 left-joined : (m : MapView) (j : ℕ) → left_at (size_at m) m.image.start (suc j) ≢ 0 → is_joined m (m.image.start + suc j) ≡ true
 left-joined m j some =
     let h = holder (size_at m) (size-positive m) m.image.start j in
     size-one-piece m (m.image.start + h.first) (m.image.start + suc j) (omega (arith, h.low)) (omega (arith, h.reach, some))
 
--- what is joined to the last byte of an item that ends there lies in its piece
+-- what is joined to the last byte of an item lies in its piece
 item-piece : (m : MapView) (b a : ℕ) → b + size_at m b ≡ a → is_joined m a ≡ true → AreOnePiece m b a
 item-piece m b a ends joined x low high =
     ⊎_elim
@@ -86,8 +86,8 @@ item-piece m b a ends joined x low high =
     (λ other. size-one-piece m b x low (omega (arith, other, ends)))
     (cases_eq x a)
 
--- the item that ends before an address behind the start at which none is under way
-ends-before : (m : MapView) (j : ℕ) → is_skip (role_of m.info (m.image.start + suc j)) ≡ false → m.image.start + suc j < end_of m.image → left_at (size_at m) m.image.start (suc j) ≡ 0 → is_joined m (m.image.start + suc j) ≡ true → EndsBefore m (m.image.start + suc j)
+-- the item that ends just before a joined address that no item covers from before
+ends-before : (m : MapView) (j : ℕ) → is_skip (role_of m.info (m.image.start + suc j)) ≡ false → m.image.start + suc j < end_of m.image → left_at (size_at m) m.image.start (suc j) ≡ 0 → is_joined m (m.image.start + suc j) ≡ true → EndsBefore m (item_len m) (m.image.start + suc j)
 ends-before m j shown high none joined =
     let h = holder (size_at m) (size-positive m) m.image.start j in
     let a : ℕ = m.image.start + suc j in
@@ -99,7 +99,7 @@ ends-before m j shown high none joined =
     let len : item_len m b ≡ size_at m b = item-len-at m h.first (omega (arith, h.low, high)) first_shown h.begin in
     record { item = b; begins = omega (arith, len, size-positive m b); ends = omega (arith, len, ends); piece = piece }
 
-item-then : (m : MapView) (a : ℕ) → 0 < item_len m a → Begins m a
+item-then : (m : MapView) (a : ℕ) → 0 < item_len m a → CanBegin m (item_len m) a
 item-then m a some =
     let is = begun m a some in
     record {
@@ -134,7 +134,7 @@ left-apart m a low apart =
     (cases_eq (left_at (size_at m) m.image.start (suc j)) 0))
     (cases_eq a m.image.start)
 
-left-after : (m : MapView) (a : ℕ) → EndsBefore m a → left_at (size_at m) m.image.start (a - m.image.start) ≡ 0
+left-after : (m : MapView) (a : ℕ) → EndsBefore m (item_len m) a → left_at (size_at m) m.image.start (a - m.image.start) ≡ 0
 left-after m a e =
     let is = begun m e.item e.begins in
     let k : ℕ = e.item - m.image.start in
@@ -143,7 +143,7 @@ left-after m a e =
     let place : a - m.image.start ≡ k + size_at m (m.image.start + k) = omega (arith, size, e.ends, is.len, item) in
     ap (left_at (size_at m) m.image.start) place ∙ left-behind (size_at m) (size-positive m) m.image.start k is.none
 
-item-if : (m : MapView) (a : ℕ) → Begins m a → 0 < item_len m a
+item-if : (m : MapView) (a : ℕ) → CanBegin m (item_len m) a → 0 < item_len m a
 item-if m a is =
     let low = leb-true m.image.start a (and_parts (nat_le m.image.start a) (nat_lt a (end_of m.image)) is.inside).0 in
     begins-inside m a is.inside is.shown (
@@ -154,9 +154,6 @@ item-if m a is =
     first)
     (λ behind. left-after m a behind)
     is.place)
-
-pub item_law : (m : MapView) → ItemLaw m
-item_law m a = (item-then m a, item-if m a)
 
 -- ---- how long it is
 
@@ -177,8 +174,54 @@ size-cut m a apart =
     (λ are. absurd (apart (λ x low high. joined-piece m (wanted_at m a - 1) a are x low (omega (arith, high, wanted-positive m a)))))
     (λ _. refl)
 
-pub size_law : (m : MapView) → SizeLaw m
-size_law m = record {
+counted : (m : MapView) → AreItems m (item_len m)
+counted m = record {
+  begins = λ a. (item-then m a, item-if m a);
   whole = λ a some piece. (begun m a some).len ∙ size-whole m a piece;
   cut = λ a some apart. (begun m a some).len ∙ size-cut m a apart;
 }
+
+-- ---- no others
+
+-- an item that one of two lengths has before the address, the other has too
+moved-end : (m : MapView) (len other : ℕ → ℕ) (a : ℕ) → ((b : ℕ) → b < a → len b ≡ other b) → EndsBefore m len a → EndsBefore m other a
+moved-end m len other a same e =
+    let here : len e.item ≡ other e.item = same e.item (omega (arith, e.begins, e.ends)) in
+    record { item = e.item; begins = omega (arith, e.begins, here); ends = omega (arith, e.ends, here); piece = e.piece }
+
+moved : (m : MapView) (len other : ℕ → ℕ) (a : ℕ) → ((b : ℕ) → b < a → len b ≡ other b) → CanBegin m len a → CanBegin m other a
+moved m len other a same is = record {
+  inside = is.inside;
+  shown = is.shown;
+  place = ⊎_elim (λ first. inl first) (λ after. inr (moved-end m len other a same after)) is.place;
+}
+
+same-size : (m : MapView) (len other : ℕ → ℕ) → AreItems m len → AreItems m other → (a : ℕ) → 0 < len a → 0 < other a → len a ≡ other a
+same-size m len other are are_too a some some_too =
+    ⊎_elim
+    (λ joined.
+    let piece : AreOnePiece m a (a + wanted_at m a - 1) = λ x low high. joined-piece m (wanted_at m a - 1) a joined x low (omega (arith, high, wanted-positive m a)) in
+    are.whole a some piece ∙ sym (are_too.whole a some_too piece))
+    (λ apart.
+    let cut : AreOnePiece m a (a + wanted_at m a - 1) → ⊥ = λ piece. both_ways (are_joined m (wanted_at m a - 1) a) apart (piece-joined m (wanted_at m a - 1) a (λ x low high. piece x low (omega (arith, high, wanted-positive m a)))) in
+    are.cut a some cut ∙ sym (are_too.cut a some_too cut))
+    (cases_Bool (are_joined m (wanted_at m a - 1) a))
+
+same-len : (m : MapView) (len other : ℕ → ℕ) → AreItems m len → AreItems m other → (a : ℕ) → ((b : ℕ) → b < a → len b ≡ other b) → len a ≡ other a
+same-len m len other are are_too a same =
+    ⊎_elim
+    (λ none.
+    ⊎_elim
+    (λ none_too. none ∙ sym none_too)
+    (λ some_too. absurd (omega (arith, none, (are.begins a).1 (moved m other len a (λ b below. sym (same b below)) ((are_too.begins a).0 (omega (arith, some_too)))))))
+    (cases_eq (other a) 0))
+    (λ some. same-size m len other are are_too a (omega (arith, some)) ((are_too.begins a).1 (moved m len other a same ((are.begins a).0 (omega (arith, some))))))
+    (cases_eq (len a) 0)
+
+same-below : (m : MapView) (len other : ℕ → ℕ) → AreItems m len → AreItems m other → (n a : ℕ) → a < n → len a ≡ other a
+same-below m len other are are_too zero a below = absurd (omega arith)
+same-below m len other are are_too (suc n) a below =
+    same-len m len other are are_too a (λ b before. same-below m len other are are_too n b (omega arith))
+
+pub item_law : (m : MapView) → ItemLaw m
+item_law m = record { items = counted m; only = λ len are a. same-below m len (item_len m) are (counted m) (suc a) a (omega arith) }

@@ -1,6 +1,6 @@
 -- Items, byte by byte.
-use Rattle.std.proofs.Common.{◌≡◌, ◌≢◌, ◌∙◌, ℕ, zero, suc, ◌+◌, ◌-◌, ◌<◌, ◌≤◌, ◌&&◌, ◌==◌, nat_lt, not, true, false, length, Option, Some, None, refl, ap, sym, arith, ⊎_elim}
-use Rattle.std.proofs.lemmas.Bool.{false≢true, and_parts, and_from, cond-true, cond-false, cond_both, cases_eq, eq-eqb, ne_eqb, lt-ltb, ltb-true, le-leb}
+use Rattle.std.proofs.Common.{◌≡◌, ◌≢◌, ◌∙◌, ℕ, zero, suc, ◌+◌, ◌-◌, ◌<◌, ◌≤◌, ◌&&◌, ◌==◌, nat_lt, not, Bool, true, false, length, Option, Some, None, refl, ap, sym, arith, ⊎_elim}
+use Rattle.std.proofs.lemmas.Bool.{false≢true, and_parts, and_from, cond-true, cond-false, cond_both, cases_eq, eq-eqb, ne_eqb, lt-ltb, ltb-true, le-leb, not-true}
 use denote.Enum.Bare.{same_true, true_same}
 use Rattle.isa65.specs.Mode.{len_of}
 use Rattle.isa65.specs.declared.mode.Mode.{Mode}
@@ -9,27 +9,46 @@ use Rattle.isa65.specs.declared.op.Op.{Op}
 use Rattle.isa65.specs.Opcodes.{decoded}
 use Rattle.info65.specs.contracts.range.RangeType as range_type
 use Rattle.info65.specs.declared.range.RangeType.{RangeType}
-use Rattle.info65.specs.declared.range.RangeType.TheVariants.{Code, ByteTable, WordTable, DbyteTable, TextTable, Skip}
+use Rattle.info65.specs.declared.range.RangeType.TheVariants.{Code, Skip}
 use Rattle.map65.specs.ImageView.{byte_at, end_of, is_inside}
 use Rattle.map65.specs.Items.{code_size, item_len, size_at, size_for, wanted_at}
 use Rattle.map65.specs.MapView.{MapView, opcodes}
-use Rattle.map65.specs.Pieces.{AreOnePiece, are_joined, is_joined}
-use Rattle.map65.specs.Roles.{is_role, is_skip, role_of}
-use Rattle.map65.specs.Steps.{left_at}
+use Rattle.map65.specs.Pieces.{AreOnePiece, AreOneRun, are_joined, is_in_run, is_joined, is_own}
+use Rattle.map65.specs.Roles.{is_role, is_skip, is_wide, role_of}
+use Rattle.map65.specs.Spans.{left_at}
 
 -- ---- pieces
 
-pub joined-role : (m : MapView) (a : ℕ) → is_joined m a ≡ true → (role_of m.info (a - 1) ≡ role_of m.info a) × ((m.image.start < a) × (a < end_of m.image))
-unfolding is_joined
-joined-role m a is =
-    let behind = and_parts (nat_lt m.image.start a) (nat_lt a (end_of m.image) && is_role (role_of m.info (a - 1)) (role_of m.info a)) is in
-    let before = and_parts (nat_lt a (end_of m.image)) (is_role (role_of m.info (a - 1)) (role_of m.info a)) behind.1 in
-    (same_true range_type.the_type tt (role_of m.info (a - 1)) (role_of m.info a) before.1, (ltb-true m.image.start a behind.0, ltb-true a (end_of m.image) before.0))
+pub run-role : (m : MapView) (a : ℕ) → is_in_run m a ≡ true → (role_of m.info (a - 1) ≡ role_of m.info a) × ((m.image.start < a) × (a < end_of m.image))
+unfolding is_in_run
+run-role m a is =
+    let after = and_parts (nat_lt m.image.start a) (nat_lt a (end_of m.image) && is_role (role_of m.info (a - 1)) (role_of m.info a)) is in
+    let before = and_parts (nat_lt a (end_of m.image)) (is_role (role_of m.info (a - 1)) (role_of m.info a)) after.1 in
+    (same_true range_type.the_type tt (role_of m.info (a - 1)) (role_of m.info a) before.1, (ltb-true m.image.start a after.0, ltb-true a (end_of m.image) before.0))
 
-pub joined-if : (m : MapView) (a : ℕ) → m.image.start < a → a < end_of m.image → role_of m.info (a - 1) ≡ role_of m.info a → is_joined m a ≡ true
-unfolding is_joined
-joined-if m a low high same =
+pub run-if : (m : MapView) (a : ℕ) → m.image.start < a → a < end_of m.image → role_of m.info (a - 1) ≡ role_of m.info a → is_in_run m a ≡ true
+unfolding is_in_run
+run-if m a low high same =
     and_from _ _ (lt-ltb m.image.start a low) (and_from _ _ (lt-ltb a (end_of m.image) high) (true_same range_type.the_type (role_of m.info (a - 1)) (role_of m.info a) same))
+
+-- a given name cuts the run before the address
+abbrev pub is_cut_at : MapView → ℕ → Bool
+is_cut_at m a = is_wide (role_of m.info a) && is_own m.info.names a
+
+pub joined-run : (m : MapView) (a : ℕ) → is_joined m a ≡ true → is_in_run m a ≡ true
+unfolding is_joined
+joined-run m a is = (and_parts (is_in_run m a) (not (is_cut_at m a)) is).0
+
+pub joined-uncut : (m : MapView) (a : ℕ) → is_joined m a ≡ true → is_cut_at m a ≡ false
+unfolding is_joined
+joined-uncut m a is = not-true (is_cut_at m a) (and_parts (is_in_run m a) (not (is_cut_at m a)) is).1
+
+pub joined-if : (m : MapView) (a : ℕ) → is_in_run m a ≡ true → is_cut_at m a ≡ false → is_joined m a ≡ true
+unfolding is_joined
+joined-if m a run uncut = and_from _ _ run (ap not uncut)
+
+pub joined-role : (m : MapView) (a : ℕ) → is_joined m a ≡ true → (role_of m.info (a - 1) ≡ role_of m.info a) × ((m.image.start < a) × (a < end_of m.image))
+joined-role m a is = run-role m a (joined-run m a is)
 
 pub are_joined-none : (m : MapView) (a : ℕ) → are_joined m 0 a ≡ true
 unfolding are_joined
@@ -49,20 +68,24 @@ joined-piece m (suc n) a are x low high =
     (λ other. joined-piece m n (a + 1) parts.1 x (omega (arith, other)) (omega arith))
     (cases_eq x (a + 1))
 
-role-after : (m : MapView) (n b : ℕ) → AreOnePiece m b (b + n) → role_of m.info (b + n) ≡ role_of m.info b
-role-after m zero b piece = let place : b + 0 ≡ b = omega arith in ap (role_of m.info) place
-role-after m (suc n) b piece =
-    let before = role-after m n b (λ x low high. piece x low (omega arith)) in
-    let joined = joined-role m (b + suc n) (piece (b + suc n) (omega arith) (omega arith)) in
+role-after : (m : MapView) (n b : ℕ) → AreOneRun m b (b + n) → role_of m.info (b + n) ≡ role_of m.info b
+role-after m zero b run = let place : b + 0 ≡ b = omega arith in ap (role_of m.info) place
+role-after m (suc n) b run =
+    let before = role-after m n b (λ x low high. run x low (omega arith)) in
+    let joined = run-role m (b + suc n) (run (b + suc n) (omega arith) (omega arith)) in
     let place : b + suc n - 1 ≡ b + n = omega arith in
     sym joined.0 ∙ ap (role_of m.info) place ∙ before
 
--- a piece has one role
-pub one-role : (m : MapView) (b a : ℕ) → b ≤ a → AreOnePiece m b a → role_of m.info a ≡ role_of m.info b
-one-role m b a le piece =
+-- a run has one role
+pub one-run-role : (m : MapView) (b a : ℕ) → b ≤ a → AreOneRun m b a → role_of m.info a ≡ role_of m.info b
+one-run-role m b a le run =
     let n : ℕ = a - b in
     let place : a ≡ b + n = omega arith in
-    ap (role_of m.info) place ∙ role-after m n b (λ x low high. piece x low (omega arith))
+    ap (role_of m.info) place ∙ role-after m n b (λ x low high. run x low (omega arith))
+
+-- and so has a piece
+pub one-role : (m : MapView) (b a : ℕ) → b ≤ a → AreOnePiece m b a → role_of m.info a ≡ role_of m.info b
+one-role m b a le piece = one-run-role m b a le (λ x low high. joined-run m x (piece x low high))
 
 -- ---- sizes
 
@@ -76,19 +99,11 @@ code_size-positive (Some op) = len-positive op.mode
 
 size_for-positive : (m : MapView) (r : RangeType) (b : ℕ) → 1 ≤ size_for m r b
 size_for-positive m Code b = code_size-positive (decoded (opcodes m) b)
-size_for-positive m ByteTable b = omega arith
-size_for-positive m WordTable b = omega arith
-size_for-positive m DbyteTable b = omega arith
-size_for-positive m TextTable b = omega arith
-size_for-positive m Skip b = omega arith
+size_for-positive m _ b = omega arith
 
 size_for-skip : (m : MapView) (r : RangeType) (b : ℕ) → is_skip r ≡ true → size_for m r b ≡ 1
 size_for-skip m Skip b is = refl
-size_for-skip m Code b is = absurd (false≢true is)
-size_for-skip m ByteTable b is = absurd (false≢true is)
-size_for-skip m WordTable b is = absurd (false≢true is)
-size_for-skip m DbyteTable b is = absurd (false≢true is)
-size_for-skip m TextTable b is = absurd (false≢true is)
+size_for-skip m _ b is = absurd (false≢true is)
 
 pub wanted-positive : (m : MapView) (a : ℕ) → 1 ≤ wanted_at m a
 unfolding wanted_at
@@ -128,23 +143,23 @@ size-fits m k inside =
     omega (arith, joined.1.1, some))
     (cases_eq (size_at m a) 1)
 
--- ---- how many bytes are left of an item
+-- ---- how many bytes are left of a span
 
 pub left-first : (size : ℕ → ℕ) (start : ℕ) → left_at size start 0 ≡ 0
 unfolding left_at
 left-first size start = refl
 
--- in the first byte of an item
+-- at its first byte
 pub left-begun : (size : ℕ → ℕ) (start k : ℕ) → left_at size start k ≡ 0 → left_at size start (suc k) ≡ size (start + k) - 1
 unfolding left_at
 left-begun size start k none = cond-true (left_at size start k == 0) _ _ (eq-eqb (left_at size start k) 0 none)
 
--- in a further byte
+-- at a further byte
 pub left-going : (size : ℕ → ℕ) (start k : ℕ) → left_at size start k ≢ 0 → left_at size start (suc k) ≡ left_at size start k - 1
 unfolding left_at
 left-going size start k some = cond-false (left_at size start k == 0) _ _ (ne_eqb (left_at size start k) 0 some)
 
--- behind the first byte of an item its bytes count down
+-- after the first byte of a span its bytes count down
 pub left-inside : (size : ℕ → ℕ) (start k i : ℕ) → left_at size start k ≡ 0 → i < size (start + k) → left_at size start (suc k + i) ≡ size (start + k) - 1 - i
 left-inside size start k zero none within =
     let place : suc k + 0 ≡ suc k = omega arith in
@@ -154,7 +169,7 @@ left-inside size start k (suc i) none within =
     let place : suc k + suc i ≡ suc (suc k + i) = omega arith in
     ap (left_at size start) place ∙ left-going size start (suc k + i) (omega (arith, before)) ∙ omega (arith, before)
 
--- where an item ends none is under way
+-- at the end of a span none is left
 pub left-behind : (size : ℕ → ℕ) → ((a : ℕ) → 1 ≤ size a) → (start k : ℕ) → left_at size start k ≡ 0 → left_at size start (k + size (start + k)) ≡ 0
 left-behind size positive start k none =
     let n : ℕ = size (start + k) in
@@ -167,7 +182,7 @@ left-behind size positive start k none =
 inside-index : (m : MapView) (k : ℕ) → k < length m.image.bytes → is_inside m.image (m.image.start + k) ≡ true
 inside-index m k low = and_from _ _ (le-leb m.image.start (m.image.start + k) (omega arith)) (lt-ltb (m.image.start + k) (end_of m.image) (omega arith))
 
--- where no item is under way one begins, unless the byte is skipped
+-- an item begins where no other is left, unless the byte is skipped
 pub item-len-at : (m : MapView) (k : ℕ) → k < length m.image.bytes → is_skip (role_of m.info (m.image.start + k)) ≡ false → left_at (size_at m) m.image.start k ≡ 0 → item_len m (m.image.start + k) ≡ size_at m (m.image.start + k)
 unfolding item_len
 item-len-at m k low shown none =

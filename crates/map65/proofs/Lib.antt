@@ -1,7 +1,12 @@
+pub mod BaseLaws
 pub mod CellLemmas
 pub mod ItemLaws
 pub mod ItemLemmas
+pub mod NameLemmas
+pub mod NameLaws
+pub mod NamingLemmas
 pub mod PaintLemmas
 pub mod PieceLaws
 pub mod ReadLemmas
 pub mod SweepLemmas
+pub mod TargetLemmas

@@ -7,7 +7,9 @@ use Rattle.info65.specs.Ranges.{has_address}
 use Rattle.info65.specs.declared.range.RangeSpec.{RangeSpec}
 use Rattle.info65.specs.declared.range.RangeType.{RangeType}
 use Rattle.info65.specs.declared.range.RangeType.TheVariants.{Code}
-use Rattle.map65.specs.Cells.{AreMarkedBelow, ArePainted, cell_of, code_of, painted, painted_by, role_by}
+use Rattle.map65.proofs.CellLemmas.{cell-small, set-cell}
+use Rattle.map65.specs.Code.Cells.{HasBits, cell_of, code_of, nowhere}
+use Rattle.map65.specs.Code.Marking.{AreMarkedBelow, ArePainted, painted, painted_by, role_by}
 use Rattle.map65.specs.ImageView.{ImageView, end_of, is_inside}
 use Rattle.map65.specs.MapView.{MapView}
 use Rattle.map65.specs.Roles.{role_at, role_in}
@@ -27,15 +29,14 @@ unfolding painted
 painted-other from at r old a other = grind (arith, nat_tests)
 
 pub painted-next : (from at : ℕ) (r : RangeType) (old cells : List ℕ) (c : ℕ) → from ≤ at → at < length cells → c ≡ cell_of (Some r) 0 → ((a : ℕ) → a < 65536 → get_or cells a 0 ≡ painted from at r (get_or old a 0) a) → (a : ℕ) → a < 65536 → get_or (set cells at c) a 0 ≡ painted from (at + 1) r (get_or old a 0) a
-painted-next from at r old cells c low room is so_far a below =
-    ⊎_elim
-    (λ same. rw same (rw get_or-set_same (is ∙ sym (painted-here from at r (get_or old at 0) low))))
-    (λ other. rw (get_or-set_other cells at a c 0 other) (so_far a below ∙ sym (painted-other from at r (get_or old a 0) a other)))
-    (cases_eq a at)
+painted-next from at r old cells c low room is so_far =
+    set-cell (λ a x. x ≡ painted from (at + 1) r (get_or old a 0) a) cells at c room
+    (is ∙ sym (painted-here from at r (get_or old at 0) low))
+    (λ a below other. so_far a below ∙ sym (painted-other from at r (get_or old a 0) a other))
 
 -- ---- one range after the other
 
--- the addresses that a range has of the image
+-- the addresses of the image that belong to a range
 pub painted-range : (image : ImageView) (range : RangeSpec) (from to old a : ℕ) → from ≡ max range.first image.start → to ≡ max (min (range.last + 1) (end_of image)) from → painted from to range.role old a ≡ painted_by image range old a
 unfolding painted painted_by
 painted-range image range from to old a low high = grind (arith, nat_tests)
@@ -77,10 +78,18 @@ role_by-all : (m : MapView) (a : ℕ) → role_by m.image m.info.ranges a ≡ ro
 unfolding role_by role_at
 role_by-all m a = refl
 
+plain-cell : (m : MapView) (n a : ℕ) (cells : List ℕ) → n ≡ 0 → ArePainted m.image (drop n m.info.ranges) cells → a < 65536 → get_or cells a 0 ≡ cell_of (role_at m a) 0
+plain-cell m n a cells none are room =
+    are.each a room ∙ ap (λ (k : ℕ). cell_of (role_by m.image (drop k m.info.ranges) a) 0) none ∙ ap (λ r. cell_of r 0) (role_by-all m a)
+
 -- after them, no item is marked yet
 pub none-marked : (m : MapView) (n : ℕ) (cells : List ℕ) → n ≡ 0 → ArePainted m.image (drop n m.info.ranges) cells → AreMarkedBelow m 0 cells
 none-marked m n cells none are = record {
   count = are.count;
   marked = λ a room before. absurd (omega arith);
-  plain = λ a room after. are.each a room ∙ ap (λ (k : ℕ). cell_of (role_by m.image (drop k m.info.ranges) a) 0) none ∙ ap (λ r. cell_of r 0) (role_by-all m a);
+  plain = λ a room after. omega (arith, plain-cell m n a cells none are room, cell-small (role_at m a) 0 (omega arith));
 }
+
+-- and no cell has a bit
+pub none-bits : (m : MapView) (n : ℕ) (cells : List ℕ) → n ≡ 0 → ArePainted m.image (drop n m.info.ranges) cells → HasBits nowhere cells
+none-bits m n cells none are = record { each = λ a room. omega (arith, plain-cell m n a cells none are room, cell-small (role_at m a) 0 (omega arith)) }

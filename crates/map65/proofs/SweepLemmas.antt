@@ -1,7 +1,7 @@
 -- Items that are marked in cells.
-use Rattle.std.proofs.Common.{◌≡◌, ◌≢◌, ◌∙◌, ℕ, suc, ◌+◌, ◌-◌, ◌%◌, ◌<◌, ◌≤◌, ◌&&◌, ◌==◌, nat_le, nat_lt, not, Bool, true, false, Option, Some, None, List, length, get_or, set, unwrap_or, refl, ap, sym, arith, ⊎_elim, if◌then◌else◌}
+use Rattle.std.proofs.Common.{◌≡◌, ◌≢◌, ◌∙◌, ℕ, suc, ◌+◌, ◌-◌, ◌/◌, ◌%◌, ◌<◌, ◌≤◌, ◌&&◌, ◌==◌, nat_le, nat_lt, not, Bool, true, false, Option, Some, None, List, length, get_or, set, unwrap_or, refl, ap, sym, arith, ⊎_elim, if◌then◌else◌}
 use Rattle.std.proofs.Math.ListN.{length-set}
-use Rattle.std.proofs.lemmas.Bool.{and_parts, and_from, cases_eq, cases_lt, cond-true, cond-false, cond_both, eq-eqb, eqb-true, le-leb, lt-ltb, ltb-true, ne_eqb}
+use Rattle.std.proofs.lemmas.Bool.{and_parts, and_from, cases_eq, cases_lt, cond-true, cond-false, cond_both, eq-eqb, eqb-true, le-leb, lt-ltb, ltb-true, ne_eqb, not-true}
 use Rattle.std.specs.Cmp.{both_ways}
 use Rattle.std.proofs.lemmas.List.{get_or-set_other, get_or-set_same}
 use Rattle.isa65.specs.Mode.{len_of}
@@ -10,21 +10,22 @@ use Rattle.isa65.specs.declared.mode.Mode.{Mode}
 use Rattle.isa65.specs.declared.mode.Mode.TheVariants.{Imp}
 use Rattle.isa65.specs.declared.op.Op.{Op}
 use Rattle.info65.specs.declared.range.RangeType.{RangeType}
-use Rattle.info65.specs.declared.range.RangeType.TheVariants.{Code, ByteTable, WordTable, DbyteTable, TextTable, Skip}
-use Rattle.map65.proofs.CellLemmas.{cell-role, cell-small, code-small, coded-code}
+use Rattle.info65.specs.declared.range.RangeType.TheVariants.{Code}
+use Rattle.map65.proofs.CellLemmas.{bits-test, cell-role, cell-wide, code-small, coded-code, set-cell, with_len-lay, with_len-rest}
 use Rattle.map65.proofs.ItemLaws.{begun}
-use Rattle.map65.proofs.ItemLemmas.{are_joined-none, are_joined-suc, item-len-at, joined-if, joined-role, left-behind, left-first, left-inside, size-fits, size-positive}
-use Rattle.map65.specs.Cells.{AreCells, AreMarkedBelow, are_alike, cell_of, code_of, coded, is_same_role, lay_at, role_in_cell}
+use Rattle.map65.proofs.ItemLemmas.{are_joined-none, are_joined-suc, is_cut_at, item-len-at, joined-if, joined-role, joined-uncut, left-behind, left-first, left-inside, run-if, run-role, size-fits, size-positive}
+use Rattle.map65.specs.Code.Cells.{HasBits, IsLaid, bit, cell_of, code_of, coded, has_bit, is_cut, is_same_role, is_wide_cell, is_wide_role, lay_at, role_in_cell, with_len}
+use Rattle.map65.specs.Code.Marking.{AreMarkedBelow, is_joined_in}
 use Rattle.map65.specs.ImageView.{byte_at, end_of, is_inside}
 use Rattle.map65.specs.Items.{code_size, item_len, size_at, size_for, wanted_at}
 use Rattle.map65.specs.MapView.{MapView, opcodes}
-use Rattle.map65.specs.Pieces.{are_joined, is_joined}
-use Rattle.map65.specs.Roles.{is_skip, role_at, role_of}
-use Rattle.map65.specs.Steps.{left_at}
+use Rattle.map65.specs.Pieces.{are_joined, is_in_run, is_joined, is_own}
+use Rattle.map65.specs.Roles.{is_skip, is_wide, role_at, role_of}
+use Rattle.map65.specs.Spans.{left_at}
 
 -- ---- roles
 
-role_at-inside : (m : MapView) (a : ℕ) → m.image.start ≤ a → a < end_of m.image → role_at m a ≡ Some (role_of m.info a)
+pub role_at-inside : (m : MapView) (a : ℕ) → m.image.start ≤ a → a < end_of m.image → role_at m a ≡ Some (role_of m.info a)
 unfolding role_at
 role_at-inside m a low high = cond-true (is_inside m.image a) _ _ (and_from _ _ (le-leb m.image.start a low) (lt-ltb a (end_of m.image) high))
 
@@ -32,17 +33,16 @@ role_at-some : (m : MapView) (a : ℕ) (r : RangeType) → role_at m a ≡ Some 
 unfolding role_at
 role_at-some m a r = cond_both (is_inside m.image a) (Some (role_of m.info a)) None (λ (o : Option RangeType). o ≡ Some r → is_inside m.image a ≡ true) (λ is _. is) (λ _ none. absurd cc)
 
--- a cell without a length says its role
+-- a cell without a length holds its role
 pub role-here : (m : MapView) (a at : ℕ) (cells : List ℕ) (o : Option RangeType) (r : RangeType) → at ≡ a → m.image.start ≤ a → a < end_of m.image → a < 65536 → AreMarkedBelow m a cells → o ≡ role_in_cell (get_or cells at 0) → r ≡ unwrap_or o Code → r ≡ role_of m.info a
 role-here m a at cells o r place low high room old says is =
-    let cell : get_or cells at 0 ≡ cell_of (role_at m a) 0 = ap (λ (k : ℕ). get_or cells k 0) place ∙ old.plain a room (omega arith) in
-    let small : cell_of (role_at m a) 0 < 128 = cell-small (role_at m a) 0 (omega arith) in
-    let role : role_in_cell (get_or cells at 0) ≡ role_at m a = cell-role (get_or cells at 0) (role_at m a) 0 (omega arith) (omega (arith, cell, small)) in
+    let cell : get_or cells at 0 % 128 ≡ cell_of (role_at m a) 0 = ap (λ (k : ℕ). get_or cells k 0 % 128) place ∙ old.plain a room (omega arith) in
+    let role : role_in_cell (get_or cells at 0) ≡ role_at m a = cell-role (get_or cells at 0) (role_at m a) 0 (omega arith) cell in
     is ∙ ap (λ (o : Option RangeType). unwrap_or o Code) (says ∙ role ∙ role_at-inside m a low high)
 
 -- ---- pieces
 
-plain-code : (c : ℕ) (r : Option RangeType) → c ≡ cell_of r 0 → c % 16 ≡ code_of r
+plain-code : (c : ℕ) (r : Option RangeType) → c % 128 ≡ cell_of r 0 → c % 16 ≡ code_of r
 unfolding cell_of
 plain-code c r is = omega (arith, is, code-small r)
 
@@ -60,42 +60,64 @@ role-same c d is = eq-eqb (c % 16) (d % 16) is
 some-same : (r q : RangeType) → Some r ≡ Some q → r ≡ q
 some-same r q is = cc
 
-module _ (m : MapView) (n a : ℕ) (cells : List ℕ) (old : AreMarkedBelow m n cells) (room : end_of m.image ≤ 65536) (low : m.image.start ≤ n) (behind : n < a) (high : a - 1 < end_of m.image) where
+and-turned : (p q r s : Bool) → p ≡ s → q ≡ r → (p && q) ≡ (r && s)
+and-turned true true r s first second = rw (sym first, sym second) refl
+and-turned true false r s first second = rw (sym first, sym second) refl
+and-turned false true r s first second = rw (sym first, sym second) refl
+and-turned false false r s first second = rw (sym first, sym second) refl
+
+module _ (m : MapView) (n a : ℕ) (cells : List ℕ) (old : AreMarkedBelow m n cells) (own : HasBits (is_own m.info.names) cells) (room : end_of m.image ≤ 65536) (low : m.image.start ≤ n) (after : n < a) (high : a - 1 < end_of m.image) where
   before-code : get_or cells (a - 1) 0 % 16 ≡ code_of (role_at m (a - 1))
-  before-code = plain-code _ (role_at m (a - 1)) (old.plain (a - 1) (omega (arith, room, high)) (omega (arith, behind)))
+  before-code = plain-code _ (role_at m (a - 1)) (old.plain (a - 1) (omega (arith, room, high)) (omega (arith, after)))
 
   here-code : a < 65536 → get_or cells a 0 % 16 ≡ code_of (role_at m a)
-  here-code below = plain-code _ (role_at m a) (old.plain a below (omega (arith, behind)))
+  here-code below = plain-code _ (role_at m a) (old.plain a below (omega (arith, after)))
 
-  joined-alike : are_alike cells a ≡ true → is_joined m a ≡ true
-  unfolding are_alike
-  joined-alike alike =
-      let parts = and_parts (nat_lt a (length cells)) (is_same_role (get_or cells (a - 1) 0) (get_or cells a 0)) alike in
-      let below : a < 65536 = omega (arith, ltb-true a (length cells) parts.0, old.count) in
-      let same : role_at m (a - 1) ≡ role_at m a = same-code _ _ (sym before-code ∙ same-role _ _ parts.1 ∙ here-code below) in
-      let first : role_at m (a - 1) ≡ Some (role_of m.info (a - 1)) = role_at-inside m (a - 1) (omega (arith, low, behind)) high in
+  -- the cells say where a run ends
+  run-alike : a < 65536 → is_same_role (get_or cells (a - 1) 0) (get_or cells a 0) ≡ true → is_in_run m a ≡ true
+  run-alike below alike =
+      let same : role_at m (a - 1) ≡ role_at m a = same-code _ _ (sym before-code ∙ same-role _ _ alike ∙ here-code below) in
+      let first : role_at m (a - 1) ≡ Some (role_of m.info (a - 1)) = role_at-inside m (a - 1) (omega (arith, low, after)) high in
       let inside = and_parts (nat_le m.image.start a) (nat_lt a (end_of m.image)) (role_at-some m a _ (sym same ∙ first)) in
       let last : a < end_of m.image = ltb-true a (end_of m.image) inside.1 in
-      let second : role_at m a ≡ Some (role_of m.info a) = role_at-inside m a (omega (arith, low, behind)) last in
-      joined-if m a (omega (arith, low, behind)) last (some-same _ _ (sym first ∙ same ∙ second))
+      let second : role_at m a ≡ Some (role_of m.info a) = role_at-inside m a (omega (arith, low, after)) last in
+      run-if m a (omega (arith, low, after)) last (some-same _ _ (sym first ∙ same ∙ second))
 
-  alike-joined : is_joined m a ≡ true → are_alike cells a ≡ true
-  unfolding are_alike
+  alike-run : a < end_of m.image → role_of m.info (a - 1) ≡ role_of m.info a → is_same_role (get_or cells (a - 1) 0) (get_or cells a 0) ≡ true
+  alike-run last is =
+      let below : a < 65536 = omega (arith, room, last) in
+      let same : role_at m (a - 1) ≡ role_at m a = role_at-inside m (a - 1) (omega (arith, low, after)) high ∙ ap Some is ∙ sym (role_at-inside m a (omega (arith, low, after)) last) in
+      role-same _ _ (before-code ∙ ap code_of same ∙ sym (here-code below))
+
+  -- and where a given name cuts it
+  cut-cell : a < end_of m.image → is_cut (get_or cells a 0) ≡ is_cut_at m a
+  cut-cell last =
+      let below : a < 65536 = omega (arith, room, last) in
+      let wide : is_wide_cell (get_or cells a 0) ≡ is_wide (role_of m.info a) = cell-wide (get_or cells a 0) (role_at m a) 0 (omega arith) (old.plain a below (omega (arith, after))) ∙ ap is_wide_role (role_at-inside m a (omega (arith, low, after)) last) in
+      and-turned (has_bit (get_or cells a 0)) (is_wide_cell (get_or cells a 0)) (is_wide (role_of m.info a)) (is_own m.info.names a) (bits-test (is_own m.info.names) cells a own below) wide
+
+  joined-alike : is_joined_in cells a ≡ true → is_joined m a ≡ true
+  unfolding is_joined_in
+  joined-alike is =
+      let outer = and_parts (nat_lt a (length cells)) (is_same_role (get_or cells (a - 1) 0) (get_or cells a 0) && not (is_cut (get_or cells a 0))) is in
+      let inner = and_parts (is_same_role (get_or cells (a - 1) 0) (get_or cells a 0)) (not (is_cut (get_or cells a 0))) outer.1 in
+      let run = run-alike (omega (arith, ltb-true a (length cells) outer.0, old.count)) inner.0 in
+      joined-if m a run (sym (cut-cell (run-role m a run).1.1) ∙ not-true (is_cut (get_or cells a 0)) inner.1)
+
+  alike-joined : is_joined m a ≡ true → is_joined_in cells a ≡ true
+  unfolding is_joined_in
   alike-joined joined =
       let is = joined-role m a joined in
       let last : a < end_of m.image = is.1.1 in
-      let below : a < 65536 = omega (arith, room, last) in
-      let same : role_at m (a - 1) ≡ role_at m a = role_at-inside m (a - 1) (omega (arith, low, behind)) high ∙ ap Some is.0 ∙ sym (role_at-inside m a (omega (arith, low, behind)) last) in
-      and_from _ _ (lt-ltb a (length cells) (omega (arith, below, old.count))) (role-same _ _ (before-code ∙ ap code_of same ∙ sym (here-code below)))
+      and_from _ _ (lt-ltb a (length cells) (omega (arith, room, last, old.count))) (and_from _ _ (alike-run last is.0) (ap not (cut-cell last ∙ joined-uncut m a joined)))
 
-  -- the cells tell where a piece ends, as far as no length is marked
-  joined-cells : are_alike cells a ≡ is_joined m a
-  joined-cells = both_ways (are_alike cells a) (is_joined m a) joined-alike alike-joined
+  joined-cells : is_joined_in cells a ≡ is_joined m a
+  joined-cells = both_ways (is_joined_in cells a) (is_joined m a) joined-alike alike-joined
 
--- the answer of the test is whether the address is joined
-pub joined-answer : (m : MapView) (n a at : ℕ) (cells : List ℕ) (answer b : Bool) → at ≡ a → AreMarkedBelow m n cells → end_of m.image ≤ 65536 → m.image.start ≤ n → n < a → a - 1 < end_of m.image → answer ≡ are_alike cells at → answer ≡ b → is_joined m a ≡ b
-joined-answer m n a at cells answer b place old room low behind high says is =
-    sym (joined-cells m n a cells old room low behind high) ∙ sym (ap (are_alike cells) place) ∙ sym says ∙ is
+-- the result of the test is whether the address is joined
+pub joined-answer : (m : MapView) (n a at : ℕ) (cells : List ℕ) (answer b : Bool) → at ≡ a → AreMarkedBelow m n cells → HasBits (is_own m.info.names) cells → end_of m.image ≤ 65536 → m.image.start ≤ n → n < a → a - 1 < end_of m.image → answer ≡ is_joined_in cells at → answer ≡ b → is_joined m a ≡ b
+joined-answer m n a at cells answer b place old own room low after high says is =
+    sym (joined-cells m n a cells old own room low after high) ∙ sym (ap (is_joined_in cells) place) ∙ sym says ∙ is
 
 -- ---- sizes
 
@@ -138,11 +160,7 @@ code_size-small (Some op) = len-small op.mode
 
 size_for-small : (m : MapView) (r : RangeType) (b : ℕ) → size_for m r b ≤ 3
 size_for-small m Code b = code_size-small (decoded (opcodes m) b)
-size_for-small m ByteTable b = omega arith
-size_for-small m WordTable b = omega arith
-size_for-small m DbyteTable b = omega arith
-size_for-small m TextTable b = omega arith
-size_for-small m Skip b = omega arith
+size_for-small m _ b = omega arith
 
 wanted-small : (m : MapView) (a : ℕ) → wanted_at m a ≤ 3
 unfolding wanted_at
@@ -213,7 +231,7 @@ module _ (m : MapView) (n len : ℕ) (low : m.image.start ≤ n) (begins : left_
       let place : n + len - m.image.start ≡ n - m.image.start + size_at m (m.image.start + (n - m.image.start)) = omega (arith, low, size-here) in
       ap (left_at (size_at m) m.image.start) place ∙ left-behind (size_at m) (size-positive m) m.image.start (n - m.image.start) begins
 
-  inside-item : (a : ℕ) → n < a → a < n + len → item_len m a ≡ 0
+  pub inside-item : (a : ℕ) → n < a → a < n + len → item_len m a ≡ 0
   inside-item a after before =
       let k : ℕ = n - m.image.start in
       let i : ℕ = a - n - 1 in
@@ -225,7 +243,7 @@ module _ (m : MapView) (n len : ℕ) (cells : List ℕ) (low : m.image.start ≤
   lay-none : (a : ℕ) → item_len m a ≡ 0 → lay_at m a ≡ cell_of (role_at m a) 0
   lay-none a none = ap (cell_of (role_at m a)) none
 
-  elsewhere : (a : ℕ) → a ≢ n → a < 65536 → a < n + len → get_or cells a 0 ≡ lay_at m a
+  elsewhere : (a : ℕ) → a ≢ n → a < 65536 → a < n + len → get_or cells a 0 % 128 ≡ lay_at m a
   elsewhere a other below before =
       ⊎_elim
       (λ earlier. old.marked a below earlier)
@@ -238,28 +256,39 @@ module _ (m : MapView) (n len : ℕ) (cells : List ℕ) (low : m.image.start ≤
       let place : m.image.start + k ≡ n = omega (arith, low) in
       sym (ap (item_len m) place) ∙ item-len-at m k (omega (arith, low, high)) (ap (λ (x : ℕ). is_skip (role_of m.info x)) place ∙ shown) begins ∙ ap (size_at m) place ∙ sym is
 
-  pub item-marked : (r : RangeType) (c : ℕ) → r ≡ role_of m.info n → c ≡ cell_of (Some r) len → is_skip r ≡ false → AreMarkedBelow m (n + len) (set cells n c)
-  item-marked r c role cell shown = record {
-    count = length-set cells n c ∙ old.count;
-    marked = λ a below before.
-        ⊎_elim
-        (λ same.
-        let lt : n < length cells = omega (arith, old.count, room) in
-        let here : c ≡ lay_at m n = cell ∙ ap (λ (q : RangeType). cell_of (Some q) len) role ∙ ap (λ q. cell_of q len) (sym (role_at-inside m n low high)) ∙ ap (cell_of (role_at m n)) (sym (item-here (sym (ap is_skip role) ∙ shown))) in
-        rw same (rw get_or-set_same here))
-        (λ other. rw (get_or-set_other cells n a c 0 other) (elsewhere a other below before))
-        (cases_eq a n);
-    plain = λ a below after.
-        let other : a ≢ n = λ same. absurd (omega (arith, same, after, size-positive m n, is)) in
-        rw (get_or-set_other cells n a c 0 other) (old.plain a below (omega (arith, after)));
-  }
+  here-plain : get_or cells n 0 % 128 ≡ cell_of (role_at m n) 0
+  here-plain = old.plain n room (omega arith)
 
-  pub skip-marked : (r : RangeType) → r ≡ role_of m.info n → is_skip r ≡ true → AreMarkedBelow m (n + len) cells
-  skip-marked r role skip = record {
+  len-fits : len < 8
+  len-fits = omega (arith, is, size-small m n)
+
+  pub item-marked : (c : ℕ) → c ≡ with_len (get_or cells n 0) len → is_skip (role_of m.info n) ≡ false → AreMarkedBelow m (n + len) (set cells n c)
+  item-marked c cell shown =
+      let lt : n < length cells = omega (arith, old.count, room) in
+      let here : c % 128 ≡ lay_at m n = ap (λ (x : ℕ). x % 128) cell ∙ with_len-lay (get_or cells n 0) (role_at m n) len len-fits here-plain ∙ ap (cell_of (role_at m n)) (sym (item-here shown)) in
+      record {
+        count = length-set cells n c ∙ old.count;
+        marked = set-cell (λ a x. a < n + len → x % 128 ≡ lay_at m a) cells n c lt (λ before. here) (λ a below other before. elsewhere a other below before);
+        plain = set-cell (λ a x. n + len ≤ a → x % 128 ≡ cell_of (role_at m a) 0) cells n c lt
+            (λ after. absurd (omega (arith, after, size-positive m n, is)))
+            (λ a below other after. old.plain a below (omega (arith, after)));
+      }
+
+  pub item-bits : (p : ℕ → Bool) (c : ℕ) → c ≡ with_len (get_or cells n 0) len → HasBits p cells → HasBits p (set cells n c)
+  item-bits p c cell bits =
+      let lt : n < length cells = omega (arith, old.count, room) in
+      record {
+        each = set-cell (λ a x. x / 128 ≡ bit (p a)) cells n c lt
+            (ap (λ (x : ℕ). x / 128) cell ∙ with_len-rest (get_or cells n 0) (role_at m n) len len-fits here-plain ∙ bits.each n room)
+            (λ a below other. bits.each a below);
+      }
+
+  pub skip-marked : is_skip (role_of m.info n) ≡ true → AreMarkedBelow m (n + len) cells
+  skip-marked skip = record {
     count = old.count;
     marked = λ a below before.
         ⊎_elim
-        (λ same. rw same (old.plain n room (omega arith) ∙ sym (lay-none n (item-skip m n (sym (ap is_skip role) ∙ skip)))))
+        (λ same. rw same (old.plain n room (omega arith) ∙ sym (lay-none n (item-skip m n skip))))
         (λ other. elsewhere a other below before)
         (cases_eq a n);
     plain = λ a below after. old.plain a below (omega (arith, after));
@@ -277,18 +306,12 @@ marked-none m n cells is old = record {
   plain = λ a below after. old.plain a below (omega arith);
 }
 
-all-laid : (m : MapView) (n : ℕ) (cells : List ℕ) → end_of m.image ≤ n → AreMarkedBelow m n cells → (a : ℕ) → a < 65536 → get_or cells a 0 ≡ lay_at m a
-all-laid m n cells past old a below =
-    ⊎_elim
-    (λ before. old.marked a below before)
-    (λ after. old.plain a below after ∙ sym (ap (cell_of (role_at m a)) (item-past m a (omega (arith, past, after)))))
-    (cases_lt a n)
-
-lay-small : (m : MapView) (a : ℕ) → lay_at m a < 128
-lay-small m a = cell-small (role_at m a) (item_len m a) (omega (arith, item-small m a))
-
-pub all-marked : (m : MapView) (n : ℕ) (cells : List ℕ) → end_of m.image ≤ n → AreMarkedBelow m n cells → AreCells m cells
+pub all-marked : (m : MapView) (n : ℕ) (cells : List ℕ) → end_of m.image ≤ n → AreMarkedBelow m n cells → IsLaid m cells
 all-marked m n cells past old = record {
-  laid = record { count = old.count; each = λ a below. omega (arith, all-laid m n cells past old a below, lay-small m a) };
-  bits = record { each = λ a below. omega (arith, all-laid m n cells past old a below, lay-small m a) };
+  count = old.count;
+  each = λ a below.
+      ⊎_elim
+      (λ before. old.marked a below before)
+      (λ after. old.plain a below after ∙ sym (ap (cell_of (role_at m a)) (item-past m a (omega (arith, past, after)))))
+      (cases_lt a n);
 }

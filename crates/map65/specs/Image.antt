@@ -8,31 +8,31 @@ use Rattle.map65.specs.ImageView.{ImageView}
 
 -- ---- what is asked of the reader
 
--- of some bytes the first ones where a size is given, else all
+-- as many of some bytes as the size says; without a size all of them
 abbrev pub sized : Option ℕ → List ℕ → List ℕ
 sized None bytes = bytes
 sized (Some n) bytes = take n bytes
 
--- the bytes behind those that are passed over, as many as the size says or all
+-- the bytes after the offset, as many as the size says or all
 abbrev pub asked_of : SettingsView → List ℕ → List ℕ
 asked_of s bytes = sized s.size (drop s.offset bytes)
 
--- how many bytes are taken at most behind those that are passed over: without a size one more than an image may have
+-- how many bytes are read at most after the offset: without a size one more than an image may have
 abbrev pub most_of : Option ℕ → ℕ
 most_of None = 65537
 most_of (Some n) = n
 
--- how many bytes are read at most
-abbrev pub limit_of : SettingsView → ℕ
-limit_of s = s.offset + most_of s.size
+-- how many bytes are read at most, from the first one of the input on
+abbrev pub read_limit : SettingsView → ℕ
+read_limit s = s.offset + most_of s.size
 
--- the bytes that are told were taken up to the limit, or to the end where that comes first
+-- Reading went on to the limit, or to the end if the input is shorter. For a reader that tells its bytes.
 abbrev pub IsReadTo : ℕ → Option (List ℕ) → Option (List ℕ) → Type 0
 IsReadTo limit old new = IfSome old (λ xs. new ≡ Some (drop limit xs))
 
 -- ---- the image of some bytes
 
--- the start that was given, else the one from which so many bytes end at $FFFF
+-- the given start; without one, the start from which that many bytes end at $FFFF
 abbrev pub start_of : Option ℕ → ℕ → ℕ
 start_of (Some start) count = start
 start_of None count = 65536 - count
@@ -42,7 +42,7 @@ abbrev pub is_short : Option ℕ → ℕ → Bool
 is_short None count = false
 is_short (Some n) count = nat_lt count n
 
--- the image of the bytes that came, with a start and a size that were given or not
+-- The image of the bytes that were read, by the given start and size, if any.
 unfoldable pub image_by : Option ℕ → Option ℕ → List ℕ → Result ImageView ImageFault
 image_by start size bytes =
     if is_short size (length bytes) then Err Short
@@ -50,13 +50,13 @@ image_by start size bytes =
     else (if nat_lt 65536 (length bytes) || nat_lt 65536 (start_of start (length bytes) + length bytes) then Err TooLarge
     else Ok (record { start = start_of start (length bytes); bytes = bytes })))
 
--- The image by the settings, of an input of these bytes whose reader failed or not within what is asked of it.
+-- The image by the settings. `failed` says whether a read failed among those that are asked of the input.
 unfoldable pub image_of : SettingsView → List ℕ → Bool → Result ImageView ImageFault
 image_of s bytes failed = if failed then Err Read else image_by s.start s.size (asked_of s bytes)
 
 -- ---- the answer
 
--- the answer is this one, unless memory was refused
+-- the result is the expected one, unless memory ran out
 abbrev pub GivesImage : Result ImageView ImageFault → Result ImageView ImageFault → Type 0
 GivesImage (Ok image) expected = expected ≡ Ok image
 GivesImage (Err Empty) expected = expected ≡ Err Empty
@@ -65,7 +65,7 @@ GivesImage (Err Short) expected = expected ≡ Err Short
 GivesImage (Err Read) expected = expected ≡ Err Read
 GivesImage (Err Memory) expected = ⊤
 
--- the count of failed reads rises by one exactly where the answer says that the reader failed
+-- the count of failed reads rises by one exactly when the result is Read
 abbrev pub ReadCount : {T : Type 0} → Result T ImageFault → ℕ → ℕ → Type 0
 ReadCount (Ok v) old new = new ≡ old
 ReadCount (Err Empty) old new = new ≡ old
@@ -74,7 +74,7 @@ ReadCount (Err Short) old new = new ≡ old
 ReadCount (Err Read) old new = new ≡ one_more old
 ReadCount (Err Memory) old new = new ≡ old
 
--- reading went on to the end or the limit, unless the reader failed or memory was refused
+-- reading went on to the limit or the end, unless a read failed or memory ran out
 abbrev pub StopsAt : {T : Type 0} → Result T ImageFault → ℕ → Option (List ℕ) → Option (List ℕ) → Type 0
 StopsAt (Ok v) limit old new = IsReadTo limit old new
 StopsAt (Err Empty) limit old new = IsReadTo limit old new
@@ -83,7 +83,7 @@ StopsAt (Err Short) limit old new = IsReadTo limit old new
 StopsAt (Err Read) limit old new = ⊤
 StopsAt (Err Memory) limit old new = ⊤
 
--- an answer that refuses no bytes
+-- the same of a reader that refuses no bytes: its only faults are Read and Memory
 abbrev pub TakeCount : {T : Type 0} → Result T ImageFault → ℕ → ℕ → Type 0
 TakeCount (Ok v) old new = new ≡ old
 TakeCount (Err Empty) old new = ⊥

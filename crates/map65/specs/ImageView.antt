@@ -14,7 +14,7 @@ pub record IsPlaced (image : ImageView) : Type 0 where
 abbrev pub AreBytes : List ℕ → Type 0
 AreBytes bytes = All (λ b. b < 256) bytes
 
--- the first address behind the image
+-- the first address after the image
 abbrev pub end_of : ImageView → ℕ
 end_of image = image.start + length image.bytes
 

@@ -1,11 +1,14 @@
-pub mod Cells
+pub mod Bases
 pub mod Device
 pub mod Image
 pub mod ImageView
 pub mod Items
 pub mod MapView
+pub mod Names
 pub mod Passing
 pub mod Pieces
 pub mod Roles
-pub mod Steps
+pub mod Spans
+pub mod Targets
 pub mod Told
+pub mod Code

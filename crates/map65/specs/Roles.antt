@@ -1,5 +1,5 @@
 -- The role of an address.
-use Rattle.std.specs.Prelude.{◌≡◌, ℕ, Bool, true, false, List, [], ◌∷◌, All, Option, Some, None, if◌then◌else◌}
+use Rattle.std.specs.Prelude.{◌≡◌, ℕ, Bool, true, false, List, [], ◌∷◌, All, Option, Some, None, nat_lt, if◌then◌else◌}
 use denote.Enum.Bare.{sameb}
 use Rattle.info65.specs.contracts.range.RangeType as range_type
 use Rattle.info65.specs.Ranges.{AreDisjoint, has_address}
@@ -10,7 +10,7 @@ use Rattle.info65.specs.declared.range.RangeType.TheVariants as role
 use Rattle.map65.specs.ImageView.{is_inside}
 use Rattle.map65.specs.MapView.{MapView}
 
--- the type of the range that has the address, else code; no two ranges of an information file share one
+-- the type of the range that the address belongs to, else code; in an information file no address belongs to two ranges
 unfoldable pub role_in : List RangeSpec → ℕ → RangeType
 role_in [] a = role.Code
 role_in (r ∷ rs) a = if has_address r a then r.role else role_in rs a
@@ -18,7 +18,7 @@ role_in (r ∷ rs) a = if has_address r a then r.role else role_in rs a
 abbrev pub role_of : InfoView → ℕ → RangeType
 role_of info a = role_in info.ranges a
 
--- The role of an address: none outside the image.
+-- the role of an address; none outside the image
 unfoldable pub role_at : MapView → ℕ → Option RangeType
 role_at m a = if is_inside m.image a then Some (role_of m.info a) else None
 
@@ -30,13 +30,28 @@ abbrev pub is_skip : RangeType → Bool
 is_skip role.Skip = true
 is_skip _ = false
 
--- ---- the law above
+-- how many bytes an entry of a table has
+abbrev pub unit_of : RangeType → ℕ
+unit_of role.Code = 1
+unit_of role.ByteTable = 1
+unit_of role.WordTable = 2
+unit_of role.DbyteTable = 2
+unit_of role.AddrTable = 2
+unit_of role.RtsTable = 2
+unit_of role.TextTable = 1
+unit_of role.Skip = 1
 
--- The role of an address in a range is that range's type, and where no range has the address it is CODE.
+-- a table whose entries have more than one byte
+abbrev pub is_wide : RangeType → Bool
+is_wide r = nat_lt 1 (unit_of r)
+
+-- ---- the law
+
+-- The role of an address is the type of the range that it belongs to, and CODE if it belongs to none.
 pub record HasRoles (ranges : List RangeSpec) : Type 0 where
   pub within : All (λ r. (a : ℕ) → has_address r a ≡ true → role_in ranges a ≡ r.role) ranges
   pub outside : (a : ℕ) → All (λ r. has_address r a ≡ false) ranges → role_in ranges a ≡ role.Code
 
--- This holds where no two ranges share an address, as in an information file.
+-- This holds if no address belongs to two ranges, as in an information file.
 abbrev pub RoleLaw : List RangeSpec → Type 0
 RoleLaw ranges = AreDisjoint ranges → HasRoles ranges

@@ -1,4 +1,4 @@
--- What a device over a reader or a writer of std holds.
+-- What a `Told` holds.
 use Rattle.std.specs.Prelude.{ℕ}
 use Rattle.map65.specs.declared.told.Told.{Told}
 

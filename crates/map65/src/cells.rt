@@ -1,12 +1,13 @@
-//! Cells: a role and the length of an item in one number of 16 bits.
+//! Cells: a role, the length of an item, and one bit for a name, packed into 16 bits.
 
 ghost use Rattle.std.specs.Prelude.{◌≡◌, ◌<◌, ℕ, IfOk, slice_index, vec_len};
-ghost use Rattle.map65.specs.Cells.{cell_of, code_of, coded, is_same_role, len_in_cell, role_in_cell};
+ghost use Rattle.map65.specs.Code.Cells.{cell_of, code_of, coded, has_bit, is_same_role, is_wide_cell, len_in_cell, role_in_cell, with_bit, with_len};
 
+use crate::roles::is_wide;
 use info65::RangeType;
 use std::alloc::{AllocError, Allocator};
 
-#[tactic(auto, unfolding(crate::specs::Cells::code_of))]
+#[tactic(auto, unfolding(crate::specs::Code::Cells::code_of))]
 fn code_of(role: Option<RangeType>) -> u16
     ensures value { result ≡ code_of role }
     ensures small { result < 16 }
@@ -17,12 +18,14 @@ fn code_of(role: Option<RangeType>) -> u16
         Some(RangeType::ByteTable) => 2,
         Some(RangeType::WordTable) => 3,
         Some(RangeType::DbyteTable) => 4,
+        Some(RangeType::AddrTable) => 5,
+        Some(RangeType::RtsTable) => 6,
         Some(RangeType::TextTable) => 7,
         Some(RangeType::Skip) => 8,
     }
 }
 
-#[tactic(auto, unfolding(crate::specs::Cells::coded))]
+#[tactic(auto, unfolding(crate::specs::Code::Cells::coded))]
 fn coded(code: u16) -> Option<RangeType>
     ensures { result ≡ coded code }
 {
@@ -31,14 +34,16 @@ fn coded(code: u16) -> Option<RangeType>
         2 => Some(RangeType::ByteTable),
         3 => Some(RangeType::WordTable),
         4 => Some(RangeType::DbyteTable),
+        5 => Some(RangeType::AddrTable),
+        6 => Some(RangeType::RtsTable),
         7 => Some(RangeType::TextTable),
         8 => Some(RangeType::Skip),
         _ => None,
     }
 }
 
-/// The cell of a role and an item's length, which is below 8.
-#[tactic(auto, unfolding(crate::specs::Cells::cell_of))]
+/// Packs a role and an item's length, which is below 8, without a name.
+#[tactic(auto, unfolding(crate::specs::Code::Cells::cell_of))]
 pub fn cell_of(role: Option<RangeType>, len: u8) -> u16
     requires { len < 8 }
     ensures { result ≡ cell_of role len }
@@ -46,24 +51,24 @@ pub fn cell_of(role: Option<RangeType>, len: u8) -> u16
     code_of(role) + 16 * u16::from(len)
 }
 
-/// The role that a cell says.
-#[tactic(auto, unfolding(crate::specs::Cells::role_in_cell))]
+/// Returns the role that a cell holds.
+#[tactic(auto, unfolding(crate::specs::Code::Cells::role_in_cell))]
 pub fn role_in(cell: u16) -> Option<RangeType>
     ensures { result ≡ role_in_cell cell }
 {
     coded(cell % 16)
 }
 
-/// Both cells say the same role.
-#[tactic(auto, unfolding(crate::specs::Cells::is_same_role))]
+/// Returns whether both cells hold the same role.
+#[tactic(auto, unfolding(crate::specs::Code::Cells::is_same_role))]
 pub fn is_same_role(cell: u16, other: u16) -> bool
     ensures { result ≡ is_same_role cell other }
 {
     cell % 16 == other % 16
 }
 
-/// The length of an item that a cell says.
-#[tactic(auto, unfolding(crate::specs::Cells::len_in_cell))]
+/// Returns the length of an item that a cell holds.
+#[tactic(auto, unfolding(crate::specs::Code::Cells::len_in_cell))]
 pub fn len_in(cell: u16) -> u8
     ensures value { result ≡ len_in_cell cell }
     ensures small { result < 8 }
@@ -71,7 +76,44 @@ pub fn len_in(cell: u16) -> u8
     (cell / 16 % 8) as u8
 }
 
-/// Cells that hold 0.
+/// Returns whether a cell's role is a table whose entries have more than one byte.
+#[tactic(auto, unfolding(crate::specs::Code::Cells::role_in_cell))]
+pub fn is_wide_cell(cell: u16) -> bool
+    ensures { result ≡ is_wide_cell cell }
+{
+    match role_in(cell) {
+        Some(role) => is_wide(role),
+        None => false,
+    }
+}
+
+/// Adds the length of an item to a cell that has none.
+#[tactic(auto, unfolding(crate::specs::Code::Cells::with_len))]
+pub fn with_len(cell: u16, len: u8) -> u16
+    requires cell { cell < 256 }
+    requires len { len < 8 }
+    ensures { result ≡ with_len cell len }
+{
+    cell + 16 * u16::from(len)
+}
+
+/// Returns whether a cell has its bit for a name.
+#[tactic(auto, unfolding(crate::specs::Code::Cells::has_bit))]
+pub fn has_bit(cell: u16) -> bool
+    ensures { result ≡ has_bit cell }
+{
+    cell / 128 % 2 == 1
+}
+
+/// Sets a cell's bit for a name.
+#[tactic(auto, unfolding(crate::specs::Code::Cells::has_bit, crate::specs::Code::Cells::with_bit))]
+pub fn with_bit(cell: u16) -> u16
+    ensures { result ≡ with_bit cell }
+{
+    if has_bit(cell) { cell } else { cell + 128 }
+}
+
+/// Returns cells that hold 0.
 pub fn blank_cells<A: Allocator>(alloc: A, count: usize) -> Result<Vec<u16, A>, AllocError>
     ensures count { IfOk result (λ v. vec_len v ≡ count) }
     ensures blank { IfOk result (λ v. (a : ℕ) → a < count → slice_index v.items a ≡ 0) }

@@ -1,4 +1,4 @@
-//! What gives bytes, and what takes them.
+//! Devices: where bytes are read from and written to.
 
 ghost use Rattle.std.specs.Prelude.{ℕ, ◌<◌, ◌≤◌, List, length, IfOk, Option};
 ghost use Rattle.std.specs.Io.KnownBytes.{ReadConsumes, WriteAppends};
@@ -11,32 +11,32 @@ use thiserror::Error;
 #[error("a read or a write failed")]
 pub struct DeviceFault;
 
-/// What gives bytes.
+/// Where bytes are read from.
 pub trait Source {
-    /// The bytes that are left, where the device tells them.
+    /// The bytes that are left, if the device tells them.
     ghost left: { Self → Option (List ℕ) };
 
-    /// How many reads failed. The count stays at the last value of 64 bits.
+    /// How many reads have failed. The count stays at 2^64 - 1.
     ghost faults: { Self → ℕ };
 
-    /// Reads once, into the front of `buf`, and gives how many bytes that were. No byte is given at the
-    /// end, and into a buffer of no byte.
+    /// Reads once into the beginning of `buf`, and returns the number of bytes. That is 0 at the end, and
+    /// for an empty buffer.
     fn read_some(&mut self, buf: &mut [u8]) -> Result<usize, DeviceFault>
         ensures bound { IfOk result (λ n. n ≤ length buf.new) }
         ensures bytes { ReadConsumes (left self.old) (left self.new) result buf.new }
         ensures count { Counts (faults self.old) (faults self.new) result };
 }
 
-/// What takes bytes.
+/// Where bytes are written to.
 pub trait Sink {
-    /// The bytes that were taken, where the device tells them.
+    /// The bytes that were written, if the device tells them.
     ghost taken: { Self → Option (List ℕ) };
 
-    /// How many writes failed. The count stays at the last value of 64 bits.
+    /// How many writes have failed. The count stays at 2^64 - 1.
     ghost faults: { Self → ℕ };
 
-    /// Writes once, from the front of `bytes`, and gives how many bytes were taken. A write that takes
-    /// none of some bytes has failed.
+    /// Writes once, from the beginning of `bytes`, and returns how many bytes the device took. A write of
+    /// at least one byte fails if the device takes none.
     fn write_some(&mut self, bytes: &[u8]) -> Result<usize, DeviceFault>
         ensures bound { IfOk result (λ n. n ≤ length bytes.now) }
         ensures progress { IfOk result (λ n. 0 < length bytes.now → 0 < n) }

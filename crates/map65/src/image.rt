@@ -11,9 +11,9 @@ use std::marker::Model;
 use thiserror::Error;
 
 /// The number of addresses, $10000.
-const ADDRESSES: usize = 65_536;
+pub(crate) const ADDRESSES: usize = 65_536;
 
-/// Bytes at the addresses from a start on: 1 to 65,536 of them, the last at or below $FFFF.
+/// 1 to 65,536 bytes at consecutive addresses, the last at or below $FFFF.
 #[derive(Debug, Drop)]
 pub struct Image<A: Allocator = Global> {
     start: u16,
@@ -31,14 +31,14 @@ impl<A: Allocator> Model for Image<A> {
 }
 
 impl<A: Allocator> Image<A> {
-    /// The address of the first byte.
+    /// Returns the address of the first byte.
     pub fn start(&self) -> u16
         ensures { result ≡ self.now.start }
     {
         self.start
     }
 
-    /// The bytes, from the one at the start on.
+    /// Returns the bytes, the one at the start first.
     pub fn bytes(&self) -> &[u8]
         ensures bytes { result.now ≡ self.now.bytes }
         ensures placed { IsPlaced self.now }
@@ -46,8 +46,8 @@ impl<A: Allocator> Image<A> {
         self.bytes.as_slice()
     }
 
-    /// The image of the bytes that came, with a start and a size that were given or not: `Short` where
-    /// there are fewer bytes than the size says, else `Empty` or `TooLarge`.
+    /// Makes an image of the bytes that were read, with the start and the size of the settings. Fails with
+    /// `Short` if there are fewer bytes than the size, then with `Empty`, then with `TooLarge`.
     #[tactic(auto, unfolding(crate::specs::Image::image_by))]
     pub(crate) fn from_bytes(
         start: Option<u16>,
@@ -90,19 +90,19 @@ fn is_short(size: Option<u32>, count: usize) -> bool
 /// Why an input gives no image. The texts are those of da65's messages.
 #[derive(Clone, Copy, Debug, PartialEq, Eq, Error)]
 pub enum ImageFault {
-    /// No byte came.
+    /// The input has no byte.
     #[error("input is empty")]
     Empty,
-    /// More than 65,536 bytes came, or they do not fit below $10000 from the start on.
+    /// The input has more than 65,536 bytes, or its last byte would lie above $FFFF.
     #[error("input is too large")]
     TooLarge,
-    /// Fewer bytes came than INPUTSIZE says.
+    /// The input has fewer bytes than INPUTSIZE asks for.
     #[error("input is too short")]
     Short,
     /// The reader failed.
     #[error("cannot read the input")]
     Read,
-    /// Memory was refused.
+    /// An allocation was refused.
     #[error("out of memory")]
     Memory,
 }

@@ -1,34 +1,64 @@
-//! Laws of roles, pieces, items and cells.
+//! The laws of roles, pieces, items and cells, each stated by a function that does nothing.
 
 ghost use Rattle.std.specs.Prelude.{List};
+ghost use Rattle.info65.specs.Names.{AreNames};
 ghost use Rattle.info65.specs.declared.range.RangeSpec.{RangeSpec};
-ghost use Rattle.map65.specs.Cells.{CellLaw};
-ghost use Rattle.map65.specs.Items.{ItemLaw, SizeLaw};
+ghost use Rattle.map65.specs.Bases.{BaseLaw, PlaceLaw};
+ghost use Rattle.map65.specs.Code.Cells.{CellLaw};
+ghost use Rattle.map65.specs.Items.{ItemLaw};
 ghost use Rattle.map65.specs.MapView.{MapView};
-ghost use Rattle.map65.specs.Pieces.{PieceLaw};
+ghost use Rattle.map65.specs.Names.{HomeLaw, NameLaw, WantedLaw};
+ghost use Rattle.map65.specs.Pieces.{PieceLaw, RunLaw};
 ghost use Rattle.map65.specs.Roles.{RoleLaw};
 
-/// The role of an address is the type of its range, else CODE.
+/// The role of an address is the type of the range that it belongs to, else CODE.
 pub fn role_law()
     ensures { (ranges : List RangeSpec) → RoleLaw ranges }
 {}
 
-/// A piece is a stretch of the image of one role, and the longest.
+/// A run is a longest stretch of the image of one role.
+pub fn run_law()
+    ensures { (m : MapView) → RunLaw m }
+{}
+
+/// In a table whose entries have more than one byte, given names cut a run into pieces; elsewhere a run is one
+/// piece.
 pub fn piece_law()
     ensures { (m : MapView) → PieceLaw m }
 {}
 
-/// Items follow each other from the start of each piece.
+/// Items follow each other from the start of each piece, each as long as its opcode or its table asks if its piece
+/// has room.
 pub fn item_law()
     ensures { (m : MapView) → ItemLaw m }
 {}
 
-/// An item has as many bytes as its instruction or its table's unit, where its piece has room, else one.
-pub fn size_law()
-    ensures { (m : MapView) → SizeLaw m }
-{}
-
-/// What is packed into a cell is unpacked from it.
+/// A role and a length that are packed into a cell are read from it.
 pub fn cell_law()
     ensures { CellLaw }
+{}
+
+/// An address inside an item of a table whose entries have more than one byte belongs to the item's first byte.
+pub fn home_law()
+    ensures { (m : MapView) → HomeLaw m }
+{}
+
+/// An address is marked if it is a target, or the first byte of an item that a target lies inside.
+pub fn wanted_law()
+    ensures { (m : MapView) → WantedLaw m }
+{}
+
+/// The name of an address is that of the first case of the rule that applies.
+pub fn name_law()
+    ensures { (m : MapView) → AreNames m.info.names → NameLaw m }
+{}
+
+/// The base of an address's name lies outside the image, begins an item, or lies inside an item of code.
+pub fn place_law()
+    ensures { (m : MapView) → PlaceLaw m }
+{}
+
+/// A base is not after the addresses that it names, is the name of its own address, and has a text of its own.
+pub fn base_law()
+    ensures { (m : MapView) → AreNames m.info.names → BaseLaw m }
 {}

@@ -1,10 +1,10 @@
-//! The image of a listing, what each of its bytes is, and the devices that are read and written.
+//! The image that is listed, what each of its bytes is, and the devices that are read and written.
 //!
-//! A [`Source`] gives the input, and a [`Sink`] takes what is written; [`Told`] makes them of std's
-//! readers and writers. [`read_image`] makes an [`Image`] of the bytes that the settings of an `Info`
-//! ask for, and [`Map::build`] the [`Map`] of an image: the role of each address and the length of the
-//! item that begins there. `cells` packs both into a number, `sweep` writes them for a whole image;
-//! `laws` has the laws of roles, pieces, items and cells.
+//! Input comes from a [`Source`], and output goes to a [`Sink`]; [`Told`] makes them from any
+//! `std::io::Read` or `Write`. [`read_image`] reads the [`Image`] that the settings of an `Info` ask for, and
+//! [`Map::build`] builds its [`Map`]: the role of each address, and the length of the item that begins
+//! there. `cells` packs both into 16 bits, `sweep` writes the cells of a whole image, and `laws` states
+//! the laws of roles, pieces, items and cells.
 #![tactic(auto)]
 
 mod cells;
@@ -12,16 +12,25 @@ mod device;
 mod image;
 mod laws;
 mod map;
+mod name;
+mod naming;
 mod reading;
+mod roles;
 mod sweep;
+mod target;
 #[cfg(test)]
 mod tests;
 mod told;
 
 pub use device::{DeviceFault, Sink, Source};
 pub use image::{Image, ImageFault};
-pub use laws::{cell_law, item_law, piece_law, role_law, size_law};
+pub use laws::{
+    base_law, cell_law, home_law, item_law, name_law, piece_law, place_law, role_law, run_law,
+    wanted_law,
+};
 pub use map::Map;
-pub use reading::read_image;
-pub use sweep::unit_of;
+pub use name::{NameBuf, NameKind, Place};
+pub use reading::{read_image, take_up_to};
+pub use roles::unit_of;
+pub use target::{target_of, word_of};
 pub use told::Told;

@@ -1,22 +1,25 @@
 //! The map of an image.
 
-ghost use Rattle.std.specs.Prelude.{◌≡◌, ◌+◌, ◌<◌, ◌≤◌, ℕ, IfOk, length, slice_index};
-ghost use Rattle.map65.specs.Cells.{AreCells};
+ghost use Rattle.std.specs.Prelude.{◌≡◌, ◌+◌, ◌-◌, ◌<◌, ◌≤◌, ℕ, IfOk, IfSome, length, option_map, slice_index};
+ghost use Rattle.info65.specs.Code.Names.{given_seen};
+ghost use Rattle.info65.specs.Names.{covering, default_name};
+ghost use Rattle.map65.specs.Code.Cells.{AreCells, has_bit, len_in_cell, role_in_cell};
 ghost use Rattle.map65.specs.ImageView.{end_of};
 ghost use Rattle.map65.specs.Items.{item_len};
+ghost use Rattle.map65.specs.Names.{given_base, has_name, home, home_base, kind_at, kind_by, place_in, place_of, text_at};
 ghost use Rattle.map65.specs.Roles.{role_at};
 
-use crate::cells::{blank_cells, len_in, role_in};
-use crate::image::Image;
+use crate::cells::{blank_cells, has_bit, len_in, role_in};
+use crate::image::{ADDRESSES, Image};
+use crate::name::{NameBuf, NameKind, Place, put_default, put_text};
+use crate::naming::{home_of, mark_covered, mark_own, mark_targets};
+use crate::roles::is_skip;
 use crate::sweep::{mark_items, mark_roles};
-use info65::{Info, RangeType};
+use info65::{Given, Info, RangeType};
 use std::alloc::{AllocError, Allocator, Global};
 use std::marker::Model;
 
-/// The number of addresses, $10000.
-const ADDRESSES: usize = 65_536;
-
-/// What each address of an image is. It borrows the information and the image that it was built from.
+/// What each address of an image is. A map borrows the information and the image that it was built from.
 #[derive(Drop)]
 pub struct Map<'a, A: Allocator = Global> {
     info: &'a Info<A>,
@@ -31,13 +34,13 @@ impl<'a, A: Allocator> Model for Map<'a, A> {
 
     ghost view = { λ m. record { info = m.info.now; image = m.image.now } };
 
-    ghost use Rattle.map65.specs.Cells.{AreCells};
+    ghost use Rattle.map65.specs.Code.Cells.{AreCells};
 
     ghost invariant = { λ m. AreCells (record { info = m.info.now; image = m.image.now }) m.cells.items };
 }
 
 impl<'a, A: Allocator> Map<'a, A> {
-    /// The map of an image.
+    /// Builds the map of an image. Fails if memory for its 65,536 cells is refused.
     pub fn build(alloc: A, info: &'a Info<A>, image: &'a Image<A>) -> Result<Map<'a, A>, AllocError>
         ensures { IfOk result (λ m. m ≡ record { info = info.entry.now; image = image.entry.now }) }
     {
@@ -46,28 +49,135 @@ impl<'a, A: Allocator> Map<'a, A> {
         Ok(Map { info, image, cells })
     }
 
-    /// The role of an address, none outside the image.
+    /// Returns the role of an address, and `None` outside the image.
     pub fn role(&self, address: u16) -> Option<RangeType>
         ensures { result ≡ role_at self.now address }
     {
-        role_in(self.cells[usize::from(address)])
+        role_in(self.cell(address))
     }
 
-    /// How long the item is that begins at the address, and 0 where none does.
+    /// Returns the length of the item that begins at the address, and 0 if none does.
     pub fn item_len(&self, address: u16) -> u8
         ensures value { result ≡ item_len self.now address }
         ensures fits { 0 < result → address + result ≤ end_of self.now.image }
     {
-        len_in(self.cells[usize::from(address)])
+        len_in(self.cell(address))
+    }
+
+    /// Returns whether the address has a name.
+    pub fn has_name(&self, address: u16) -> bool
+        ensures { result ≡ has_name self.now address }
+    {
+        has_bit(self.cell(address))
+    }
+
+    /// Returns where the base name of an address's name is defined and how far the address lies after the address of
+    /// that name, and puts the base name in the buffer. If the address has no name, the buffer is empty.
+    pub fn name(&self, address: u16, name: &mut NameBuf) -> Option<NameKind>
+        ensures kind { result ≡ kind_at self.now address }
+        ensures text { name.new.items ≡ text_at self.now address }
+    {
+        name.clear();
+        if !has_bit(self.cell(address)) {
+            return None;
+        }
+        if let Some(given) = self.given(address) {
+            return Some(self.put_given(given, address, name));
+        }
+        Some(self.put_home(address, name))
+    }
+
+    fn cell(&self, address: u16) -> u16
+        ensures role { role_in_cell result ≡ role_at self.now address }
+        ensures len { len_in_cell result ≡ item_len self.now address }
+        ensures named { has_bit result ≡ has_name self.now address }
+    {
+        self.cells[usize::from(address)]
+    }
+
+    /// The first byte of the item that the address lies inside, in a table whose entries have more than one byte, and
+    /// any other address itself.
+    fn home(&self, address: u16) -> u16
+        ensures value { result ≡ home self.now address }
+        ensures below { result ≤ address }
+    {
+        home_of(self.cells.as_slice(), address)
+    }
+
+    /// The name that is given to the address.
+    fn given(&self, address: u16) -> Option<Given<'_>>
+        ensures value { option_map given_seen result ≡ covering self.now.info.names address }
+        ensures short { IfSome result (λ n. length n.text.now ≤ 80) }
+        ensures below { IfSome result (λ n. n.address ≤ address) }
+    {
+        self.info.covering(address)
+    }
+
+    /// The place of a base at this address.
+    #[tactic(auto, unfolding(crate::specs::Names::place_of))]
+    fn place_of(&self, address: u16) -> Place
+        ensures { result ≡ place_of self.now address }
+    {
+        let cell = self.cell(address);
+        place_in(role_in(cell), len_in(cell))
+    }
+
+    /// Puts a given name in the buffer.
+    fn put_given(&self, given: Given<'_>, address: u16, name: &mut NameBuf) -> NameKind
+        requires short { length given.text.now ≤ 80 }
+        requires below { given.address ≤ address }
+        ensures kind { result ≡ kind_by self.now address (given_base (given_seen given.entry)) }
+        ensures text { name.new.items ≡ given.entry.text.now }
+    {
+        put_text(name, given.text);
+        NameKind {
+            place: self.place_of(given.address),
+            offset: address - given.address,
+        }
+    }
+
+    /// Puts the name of the first byte of the address's item in the buffer.
+    fn put_home(&self, address: u16, name: &mut NameBuf) -> NameKind
+        ensures kind { result ≡ kind_by self.now address (home_base self.now address) }
+        ensures text { name.new.items ≡ (home_base self.now address).text }
+    {
+        let home = self.home(address);
+        if let Some(given) = self.given(home) {
+            return self.put_given(given, address, name);
+        }
+        put_default(name, home);
+        NameKind {
+            place: self.place_of(home),
+            offset: address - home,
+        }
     }
 }
 
-/// Marks roles and items in cells that hold 0.
+/// Writes roles, items and names into cells that hold 0.
 fn mark_all<A: Allocator>(cells: &mut [u16], info: &Info<A>, image: &Image<A>)
     requires count { length cells.old ≡ 65536 }
     requires blank { (a : ℕ) → a < 65536 → slice_index cells.old a ≡ 0 }
     ensures { AreCells (record { info = info.now; image = image.now }) cells.new }
 {
     mark_roles(cells, info, image);
+    mark_own(cells, info);
     mark_items(cells, info, image);
+    mark_covered(cells, info);
+    mark_targets(cells, info, image);
+}
+
+/// The place of a base, by the role of its address and the length of the item that begins there.
+fn place_in(role: Option<RangeType>, len: u8) -> Place
+    ensures { result ≡ place_in role len }
+{
+    let Some(role) = role else {
+        return Place::Constant;
+    };
+    if is_skip(role) {
+        Place::Constant
+    } else if len == 0 {
+        Place::Forward
+    } else {
+        Place::Label
+    }
 }

@@ -1,8 +1,8 @@
 //! Reading an image.
 
-ghost use Rattle.std.specs.Prelude.{◌≡◌, ◌+◌, ◌-◌, ◌^◌, ◌<◌, ◌≤◌, take, drop, nat_lt, IfSome, IfOk, length};
-ghost use Rattle.map65.specs.Device.{Counts, TakesUpTo};
-ghost use Rattle.map65.specs.Image.{GivesImage, IsReadTo, ReadCount, StopsAt, TakeCount, image_of, limit_of, most_of};
+ghost use Rattle.std.specs.Prelude.{◌≡◌, ◌+◌, ◌-◌, ◌^◌, ◌<◌, ◌≤◌, take, drop, IfSome, IfOk, length};
+ghost use Rattle.map65.specs.Device.{Counts, TakesUpTo, has_failed};
+ghost use Rattle.map65.specs.Image.{GivesImage, IsReadTo, ReadCount, StopsAt, TakeCount, image_of, read_limit, most_of};
 ghost use Rattle.map65.specs.ImageView.{AreBytes, IsPlaced};
 ghost use Rattle.map65.specs.Passing.{Passes};
 
@@ -11,13 +11,13 @@ use crate::image::{Image, ImageFault};
 use info65::Info;
 use std::alloc::Allocator;
 
-/// What one read takes at most.
+/// The most that one read takes.
 const CHUNK: usize = 4096;
 
-/// What is taken at most where no size is given: one byte more than an image may have.
+/// The most that is read if no size is given: one byte more than an image may have.
 const LIMIT: usize = 65_537;
 
-/// Passes over so many bytes without storing them. False where the end came first.
+/// Passes over this many bytes without storing them. Returns false if the input ends before.
 fn pass_over<R: Source>(input: &mut R, count: usize) -> Result<bool, DeviceFault>
     ensures passed { Passes result count (R.left input.old) (R.left input.new) }
     ensures bound { TakesUpTo count (R.left input.old) (R.left input.new) }
@@ -36,9 +36,10 @@ fn pass_over<R: Source>(input: &mut R, count: usize) -> Result<bool, DeviceFault
     Ok(true)
 }
 
-/// The bytes up to the end or the limit.
+/// Reads up to the end of the input, or up to `limit` bytes. Fails with `Read` if a read fails, which is not
+/// tried again, and with `Memory` if it runs out of memory.
 #[tactic(auto, using(crate::proofs::ReadLemmas::took_more, crate::proofs::ReadLemmas::took_all, crate::proofs::ReadLemmas::took_limit, crate::proofs::ReadLemmas::rest_end, crate::proofs::ReadLemmas::rest_limit))]
-fn take_up_to<A: Allocator, R: Source>(
+pub fn take_up_to<A: Allocator, R: Source>(
     alloc: A,
     input: &mut R,
     limit: usize,
@@ -61,7 +62,7 @@ fn take_up_to<A: Allocator, R: Source>(
     Ok(bytes)
 }
 
-/// The bytes behind the first `offset`, up to the end or `limit` of them.
+/// The bytes after the first `offset`, up to the end or `limit` of them.
 #[tactic(auto, using(crate::proofs::ReadLemmas::behind_bound))]
 fn take_behind<A: Allocator, R: Source>(
     alloc: A,
@@ -90,13 +91,13 @@ fn most_of(size: Option<u32>) -> usize
     }
 }
 
-/// Reads the image that the settings ask for: INPUTOFFS bytes are passed over, then INPUTSIZE bytes are
-/// taken, or without a size all to the end.
+/// Reads the image that the settings ask for: passes over INPUTOFFS bytes, then reads INPUTSIZE bytes, or
+/// without a size everything up to the end.
 ///
-/// Reading stops at the end, at a failed read, or where INPUTOFFS and INPUTSIZE bytes were taken; without
-/// a size one byte more than an image may have is taken. The faults, in their order: `Read` where the
-/// reader failed, `Short` where fewer than INPUTSIZE bytes came, `Empty`, `TooLarge`; `Memory` only where
-/// memory was refused.
+/// Reading stops at the end, at a failed read, or after INPUTOFFS and INPUTSIZE bytes; without a size, one
+/// byte more than an image may have is read. The faults, in their order: `Read` if a read failed, `Short`
+/// if the input has fewer than INPUTSIZE bytes, `Empty`, `TooLarge`. `Memory` is returned only if memory
+/// ran out.
 #[tactic(auto, unfolding(crate::specs::Image::image_of))]
 pub fn read_image<A: Allocator, R: Source>(
     alloc: A,
@@ -104,11 +105,11 @@ pub fn read_image<A: Allocator, R: Source>(
     input: &mut R,
 ) -> Result<Image<A>, ImageFault>
     ensures image { R.faults input.old < 2 ^ 64 - 1 → IfSome (R.left input.old) (λ xs.
-        GivesImage result (image_of info.now.settings xs (nat_lt (R.faults input.old) (R.faults input.new)))) }
+        GivesImage result (image_of info.now.settings xs (has_failed (R.faults input.old) (R.faults input.new)))) }
     ensures placed { IfOk result (λ image. IsPlaced image) }
     ensures are_bytes { IfOk result (λ image. AreBytes image.bytes) }
-    ensures rest { StopsAt result (limit_of info.now.settings) (R.left input.old) (R.left input.new) }
-    ensures bound { TakesUpTo (limit_of info.now.settings) (R.left input.old) (R.left input.new) }
+    ensures rest { StopsAt result (read_limit info.now.settings) (R.left input.old) (R.left input.new) }
+    ensures bound { TakesUpTo (read_limit info.now.settings) (R.left input.old) (R.left input.new) }
     ensures count { ReadCount result (R.faults input.old) (R.faults input.new) }
 {
     let settings = info.settings();

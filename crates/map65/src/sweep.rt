@@ -1,23 +1,26 @@
-//! The sweeps that write roles and items into the cells.
+//! The sweeps that write roles, and then items, into the cells of a map.
 
 ghost use Rattle.std.specs.Prelude.{◌≡◌, ◌+◌, ◌-◌, ◌<◌, ◌≤◌, ℕ, [], length, slice_index};
 ghost use Rattle.isa65.specs.Cpu.{table_of};
 ghost use Rattle.isa65.specs.Opcodes.{decoded};
-ghost use Rattle.map65.specs.Cells.{AreCells, AreMarkedBelow, ArePainted, are_alike, painted, painted_by};
+ghost use Rattle.map65.specs.Code.Cells.{HasBits, IsLaid, is_cut, nowhere};
+ghost use Rattle.map65.specs.Code.Marking.{AreMarkedBelow, ArePainted, is_joined_in, painted, painted_by};
 ghost use Rattle.map65.specs.ImageView.{IsPlaced, end_of};
-ghost use Rattle.map65.specs.Items.{code_size, size_at, unit_of, wanted_at};
-ghost use Rattle.map65.specs.Roles.{is_skip, role_of};
-ghost use Rattle.map65.specs.Steps.{left_at};
+ghost use Rattle.map65.specs.Items.{code_size, size_at, wanted_at};
+ghost use Rattle.map65.specs.Pieces.{is_own};
+ghost use Rattle.map65.specs.Roles.{role_of};
+ghost use Rattle.map65.specs.Spans.{left_at};
 
-use crate::cells::{cell_of, is_same_role, role_in};
+use crate::cells::{cell_of, has_bit, is_same_role, is_wide_cell, role_in, with_len};
 use crate::image::Image;
+use crate::roles::{is_skip, unit_of};
 use info65::{Info, RangeSpec, RangeType};
 use isa65::{Cpu, OpcodeSet};
 use std::alloc::Allocator;
 
 // ---- roles
 
-/// Writes the role into the cells from one address on, below another.
+/// Writes the role into the cells from `from` to before `to`.
 fn paint(cells: &mut [u16], from: usize, to: usize, role: RangeType)
     requires count { length cells.old ≡ 65536 }
     requires order { from ≤ to }
@@ -31,7 +34,7 @@ fn paint(cells: &mut [u16], from: usize, to: usize, role: RangeType)
     }
 }
 
-/// Writes the role of the range into the cells of the image's addresses that it has.
+/// Writes the role of the range into the cells of those addresses of the image that belong to it.
 fn paint_range<A: Allocator>(cells: &mut [u16], image: &Image<A>, range: RangeSpec)
     requires count { length cells.old ≡ 65536 }
     ensures count { length cells.new ≡ 65536 }
@@ -57,11 +60,12 @@ fn paint_code<A: Allocator>(cells: &mut [u16], image: &Image<A>)
 
 /// Writes the role of each address of the image into its cell.
 ///
-/// The ranges are written from the last to the first, each over what stands there.
+/// The ranges are written from the last to the first, each over what the cells held.
 pub fn mark_roles<A: Allocator>(cells: &mut [u16], info: &Info<A>, image: &Image<A>)
     requires count { length cells.old ≡ 65536 }
     requires blank { (a : ℕ) → a < 65536 → slice_index cells.old a ≡ 0 }
-    ensures { AreMarkedBelow (record { info = info.now; image = image.now }) 0 cells.new }
+    ensures marked { AreMarkedBelow (record { info = info.now; image = image.now }) 0 cells.new }
+    ensures bits { HasBits nowhere cells.new }
 {
     paint_code(cells, image);
     let ranges = info.ranges();
@@ -75,25 +79,21 @@ pub fn mark_roles<A: Allocator>(cells: &mut [u16], info: &Info<A>, image: &Image
 
 // ---- items
 
-/// The address lies in the piece of the one before it.
-#[tactic(auto, unfolding(crate::specs::Cells::are_alike))]
-fn is_joined(cells: &[u16], at: usize) -> bool
-    requires { 0 < at }
-    ensures { result ≡ are_alike cells.now at }
+/// A given name cuts the run before the address of this cell: in a table whose entries have more than one byte
+/// it has the address as its own.
+fn is_cut(cell: u16) -> bool
+    ensures { result ≡ is_cut cell }
 {
-    at < cells.len() && is_same_role(cells[at - 1], cells[at])
+    has_bit(cell) && is_wide_cell(cell)
 }
 
-/// How many bytes an item of a table of this role has, where its piece has room; of no table 1.
-pub fn unit_of(role: RangeType) -> u8
-    ensures value { result ≡ unit_of role }
-    ensures positive { 1 ≤ result }
-    ensures small { result ≤ 3 }
+/// The address lies in the piece of the one before it.
+#[tactic(auto, unfolding(crate::specs::Code::Marking::is_joined_in))]
+fn is_joined_in(cells: &[u16], at: usize) -> bool
+    requires { 0 < at }
+    ensures { result ≡ is_joined_in cells.now at }
 {
-    match role {
-        RangeType::WordTable | RangeType::DbyteTable => 2,
-        RangeType::Code | RangeType::ByteTable | RangeType::TextTable | RangeType::Skip => 1,
-    }
+    at < cells.len() && is_same_role(cells[at - 1], cells[at]) && !is_cut(cells[at])
 }
 
 fn code_size(cpu: Cpu, byte: u8) -> u8
@@ -107,7 +107,7 @@ fn code_size(cpu: Cpu, byte: u8) -> u8
     }
 }
 
-/// How many bytes an item of this role has that begins at the address, where its piece has room.
+/// Returns the length of an item of this role that begins at the address, if its piece has room for it.
 #[tactic(auto, unfolding(crate::specs::Items::wanted_at))]
 fn wanted_at<A: Allocator>(info: &Info<A>, image: &Image<A>, role: RangeType, address: u16) -> u8
     requires low { image.now.start ≤ address }
@@ -127,7 +127,7 @@ fn wanted_at<A: Allocator>(info: &Info<A>, image: &Image<A>, role: RangeType, ad
     }
 }
 
-/// How many bytes the item has that begins at the address: one where its piece ends before.
+/// Returns the length of the item that begins at the address: 1 if its piece ends before it would.
 fn size_at<A: Allocator>(
     cells: &[u16],
     info: &Info<A>,
@@ -140,6 +140,7 @@ fn size_at<A: Allocator>(
     requires high { address < end_of image.now }
     requires role { role ≡ role_of info.now address }
     requires marked { AreMarkedBelow (record { info = info.now; image = image.now }) address cells.now }
+    requires own { HasBits (is_own info.now.names) cells.now }
     ensures value { result ≡ size_at (record { info = info.now; image = image.now }) address }
     ensures positive { 1 ≤ result }
     ensures small { result ≤ 3 }
@@ -147,44 +148,43 @@ fn size_at<A: Allocator>(
     let wanted = wanted_at(info, image, role, address);
     let first = usize::from(address);
     for i in 0..wanted - 1 {
-        if !is_joined(cells, first + usize::from(i) + 1) {
+        if !is_joined_in(cells, first + usize::from(i) + 1) {
             return 1;
         }
     }
     wanted
 }
 
-fn is_skip(role: RangeType) -> bool
-    ensures { result ≡ is_skip role }
-{
-    matches!(role, RangeType::Skip)
-}
-
-/// Marks the item that begins at the address, and says how many bytes it has. A skipped byte is none.
+/// Writes the length of the item that begins at the address, and returns it. A skipped byte is no item, and
+/// has length 1.
 fn mark_item<A: Allocator>(cells: &mut [u16], info: &Info<A>, image: &Image<A>, address: u16) -> u8
     requires placed { IsPlaced image.now }
     requires low { image.now.start ≤ address }
     requires high { address < end_of image.now }
     requires begins { left_at (size_at (record { info = info.now; image = image.now })) image.now.start (address - image.now.start) ≡ 0 }
     requires marked { AreMarkedBelow (record { info = info.now; image = image.now }) address cells.old }
+    requires own { HasBits (is_own info.now.names) cells.old }
     ensures positive { 1 ≤ result }
     ensures small { result ≤ 3 }
     ensures begins { left_at (size_at (record { info = info.now; image = image.now })) image.now.start (address + result - image.now.start) ≡ 0 }
     ensures marked { AreMarkedBelow (record { info = info.now; image = image.now }) (address + result) cells.new }
+    ensures own { HasBits (is_own info.now.names) cells.new }
 {
     let at = usize::from(address);
     let role = role_in(cells[at]).unwrap_or(RangeType::Code);
     let len = size_at(cells, info, image, role, address);
     if !is_skip(role) {
-        cells[at] = cell_of(Some(role), len);
+        cells[at] = with_len(cells[at], len);
     }
     len
 }
 
 /// Writes the length of each item into the cell where it begins.
 pub fn mark_items<A: Allocator>(cells: &mut [u16], info: &Info<A>, image: &Image<A>)
-    requires { AreMarkedBelow (record { info = info.now; image = image.now }) 0 cells.old }
-    ensures { AreCells (record { info = info.now; image = image.now }) cells.new }
+    requires marked { AreMarkedBelow (record { info = info.now; image = image.now }) 0 cells.old }
+    requires own { HasBits (is_own info.now.names) cells.old }
+    ensures laid { IsLaid (record { info = info.now; image = image.now }) cells.new }
+    ensures own { HasBits (is_own info.now.names) cells.new }
 {
     let mut at = usize::from(image.start());
     let end = at + image.bytes().len();

@@ -2,4 +2,6 @@
 
 mod code;
 mod map;
+mod names;
 mod reading;
+mod rules;

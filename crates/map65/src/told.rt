@@ -1,4 +1,4 @@
-//! Readers and writers of std as devices.
+//! Any `std::io::Read` or `Write` as a device.
 
 ghost use Rattle.std.specs.Prelude.{◌≡◌};
 ghost use Rattle.map65.specs.Told.{told_inner, told_faults};
@@ -6,7 +6,7 @@ ghost use Rattle.map65.specs.Told.{told_inner, told_faults};
 use crate::device::{DeviceFault, Sink, Source};
 use std::io::{Read, Write};
 
-/// A reader or a writer of std, with a count of the calls that failed.
+/// A `std::io::Read` or `Write`, with a count of its calls that failed. No call is tried again.
 #[derive(Debug, Drop)]
 pub struct Told<T> {
     inner: T,
@@ -14,7 +14,7 @@ pub struct Told<T> {
 }
 
 impl<T> Told<T> {
-    /// Over a reader or a writer none of whose calls has failed yet.
+    /// Wraps a reader or a writer. The count begins at 0.
     pub fn new(inner: T) -> Told<T>
         ensures inner { told_inner result ≡ inner }
         ensures faults { told_faults result ≡ 0 }
@@ -54,3 +54,6 @@ impl<T: Write> Sink for Told<T> {
         }
     }
 }
+
+#[cfg(test)]
+mod tests;

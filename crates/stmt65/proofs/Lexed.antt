@@ -11,7 +11,7 @@ use Rattle.std.proofs.lemmas.List.{take_at, drop_at, drop-drop}
 use Rattle.std.proofs.lemmas.Str.Parse.{digit_from_value}
 use Rattle.stmt65.specs.Digits.{hex_digit, hex2, hex4, offset_text}
 use Rattle.stmt65.specs.Lexing.{is_blank, is_word_start, is_word_byte, is_text_byte, part_at, parts}
-use Rattle.stmt65.specs.Parts.{Word, Number, Text, Mark, begins_with, number_of}
+use Rattle.stmt65.specs.Parts.{Word, Number, Text, Define, Mark, begins_with, number_of}
 use Rattle.stmt65.proofs.PartLemmas.{parts_blank, parts_part}
 use Rattle.stmt65.proofs.Cases.{both}
 
@@ -77,7 +77,20 @@ pub parts_comma : (rest : List ℕ) → parts (44 ∷ rest) ≡ Mark 44 ∷ part
 unfolding part_at
 parts_comma rest = parts_part 44 rest refl refl
 
--- the `:` of `a:`, where no `=` follows
+pub parts_star : (rest : List ℕ) → parts (42 ∷ rest) ≡ Mark 42 ∷ parts rest
+unfolding part_at
+parts_star rest = parts_part 42 rest refl refl
+
+pub parts_minus : (rest : List ℕ) → parts (45 ∷ rest) ≡ Mark 45 ∷ parts rest
+unfolding part_at
+parts_minus rest = parts_part 45 rest refl refl
+
+-- `:=`
+pub parts_define : (rest : List ℕ) → parts (58 ∷ 61 ∷ rest) ≡ Define ∷ parts rest
+unfolding part_at
+parts_define rest = parts_part 58 (61 ∷ rest) refl refl
+
+-- the `:` of a label or of `a:`, where no `=` follows
 pub parts_colon : (rest : List ℕ) → begins_with 61 rest ≡ false → parts (58 ∷ rest) ≡ Mark 58 ∷ parts rest
 unfolding part_at
 parts_colon rest h = parts_part 58 rest refl refl ∙ rw h refl
@@ -174,7 +187,7 @@ decimal_part d ds rest h e =
     let a = both (is_ascii_digit d) (list_all is_ascii_digit ds) h in
     rw (digit_no_word d a.0, a.0, prefix_stop is_ascii_digit ds rest a.1 (ends_digit rest e), take_at ds rest (length ds) refl) refl
 
-parts_digits : (ds rest : List ℕ) → 0 < length ds → list_all is_ascii_digit ds ≡ true → Ends rest → parts (ds ++ rest) ≡ Number ds ∷ parts rest
+pub parts_digits : (ds rest : List ℕ) → 0 < length ds → list_all is_ascii_digit ds ≡ true → Ends rest → parts (ds ++ rest) ≡ Number ds ∷ parts rest
 parts_digits [] rest lt h e = absurd (omega arith)
 parts_digits (d ∷ ds) rest lt h e =
     let f = (both (is_ascii_digit d) (list_all is_ascii_digit ds) h).0 in

@@ -8,6 +8,7 @@ pub mod SpelledIsRead
 pub mod LineLemmas
 pub mod TableLists
 pub mod OperandTexts
+pub mod PatternLemmas
 pub mod TableTexts
 pub mod WidthLemmas
 pub mod Rows
@@ -18,8 +19,10 @@ pub mod OneLine
 pub mod LineLaws
 pub mod MeaningRows
 pub mod SymbolLaws
-pub mod CodingLaws
-pub mod TableLaws
-pub mod MeaningLaws
+pub mod CodingLemmas
+pub mod CutLemmas
+pub mod HeldLemmas
 pub mod PassLaws
-pub mod WayLemmas
+pub mod TextLemmas
+pub mod ModeLemmas
+pub mod FaultLemmas

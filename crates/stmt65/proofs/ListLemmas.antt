@@ -3,7 +3,8 @@ use Rattle.std.proofs.Common.{◌≡◌, ℕ, zero, suc, Bool, true, false, cond
 use Rattle.std.specs.Prelude.{map, codes}
 use Rattle.std.proofs.lemmas.List.{length-drop}
 use Rattle.std.proofs.lemmas.Option.{some_pair_parts, option_and_then_some}
-use Rattle.stmt65.specs.Said.{Value, Plain, Named, Datum, Byte, Bytes}
+use Rattle.stmt65.specs.SourceLine.{Value, NumberValue, NameValue, Datum, NumberDatum, StringDatum}
+use Rattle.stmt65.specs.declared.source_line.Minus.TheVariants.{Zero, One}
 use Rattle.stmt65.specs.Parts.{Part, Word, Number, Text, number_of}
 use Rattle.stmt65.specs.Names.{is_name}
 use Rattle.stmt65.specs.Reading.{◌>>=◌, is_mark, is_nil, is_number_here, number_in, whole, less_one, named_at, next_value, next_datum, joined, list_of}
@@ -93,9 +94,9 @@ unfolding less_one
 less_one-shorter w n ps v e = go (is_mark 45 ps) (is_number_here (codes "1") (drop 1 ps)) refl refl
   where
     go : (a b : Bool) → is_mark 45 ps ≡ a → is_number_here (codes "1") (drop 1 ps) ≡ b → length v.1 ≤ length ps
-    go false b f g = let e' = rw f at e in omega (arith, ap length (some_pair_parts (Named w n false) v.0 ps v.1 e').1)
+    go false b f g = let e' = rw f at e in omega (arith, ap length (some_pair_parts (NameValue w n Zero) v.0 ps v.1 e').1)
     go true false f g = let e' = rw (f, g) at e in absurd cc
-    go true true f g = let e' = rw (f, g) at e in omega (arith, ap length (some_pair_parts (Named w n true) v.0 (drop 1 (drop 1 ps)) v.1 e').1, length-drop 1 ps, length-drop 1 (drop 1 ps))
+    go true true f g = let e' = rw (f, g) at e in omega (arith, ap length (some_pair_parts (NameValue w n One) v.0 (drop 1 (drop 1 ps)) v.1 e').1, length-drop 1 ps, length-drop 1 (drop 1 ps))
 
 named_at-shorter : (w : List ℕ) (ps : List Part) (v : Value × List Part) → named_at w ps ≡ Some v → length v.1 ≤ length ps
 unfolding named_at
@@ -110,7 +111,7 @@ named_at-shorter w ps v e = go (is_mark 43 ps) refl
 
 next_value-shorter : (ps : List Part) (v : Value × List Part) → next_value ps ≡ Some v → length v.1 < length ps
 unfolding next_value
-next_value-shorter (Number t ∷ ps) v e = omega (arith, ap length (some_pair_parts (Plain (number_of t)) v.0 ps v.1 e).1)
+next_value-shorter (Number t ∷ ps) v e = omega (arith, ap length (some_pair_parts (NumberValue (number_of t)) v.0 ps v.1 e).1)
 next_value-shorter (Word w ∷ ps) v e = go (is_name w) refl
   where
     go : (a : Bool) → is_name w ≡ a → length v.1 < suc (length ps)
@@ -120,8 +121,8 @@ next_value-shorter _ v e = absurd cc
 
 next_datum-shorter : (ps : List Part) (x : Datum × List Part) → next_datum ps ≡ Some x → length x.1 < length ps
 unfolding next_datum
-next_datum-shorter (Number t ∷ ps) x e = omega (arith, ap length (some_pair_parts (Byte (number_of t)) x.0 ps x.1 e).1)
-next_datum-shorter (Text t ∷ ps) x e = omega (arith, ap length (some_pair_parts (Bytes t) x.0 ps x.1 e).1)
+next_datum-shorter (Number t ∷ ps) x e = omega (arith, ap length (some_pair_parts (NumberDatum (number_of t)) x.0 ps x.1 e).1)
+next_datum-shorter (Text t ∷ ps) x e = omega (arith, ap length (some_pair_parts (StringDatum t) x.0 ps x.1 e).1)
 next_datum-shorter _ x e = absurd cc
 
 pub next_value-Shortens : Shortens next_value

@@ -1,5 +1,5 @@
 -- A printed line has no line feed before its end.
-use Rattle.std.proofs.Common.{◌≡◌, ℕ, zero, suc, Bool, true, false, eqb, ltb, ◌-◌, ◌/◌, ◌%◌, ◌<◌, List, [], ◌∷◌, ◌++◌, length, replicate, refl, arith}
+use Rattle.std.proofs.Common.{◌≡◌, ℕ, zero, suc, Bool, true, false, eqb, ltb, ◌-◌, ◌/◌, ◌%◌, ◌<◌, List, [], ◌∷◌, ◌++◌, length, replicate, Option, Some, None, refl, arith}
 use Rattle.std.specs.Prelude.{◌==◌, not, codes}
 use Rattle.std.specs.List.{list_all, flat_map}
 use Rattle.std.specs.Char.{digit_value, is_ascii_digit}
@@ -11,7 +11,7 @@ use Rattle.std.proofs.lemmas.Str.Parse.{digit_from_value}
 use Rattle.isa65.specs.Cpu.{cpu_text}
 use Rattle.isa65.specs.Mnemonic.{text_of}
 use Rattle.isa65.specs.declared.cpu.Cpu.{Cpu}
-use Rattle.isa65.specs.declared.cpu.Cpu.TheVariants.{M6502}
+use Rattle.isa65.specs.CpuLaws.{cpu_name}
 use Rattle.isa65.specs.declared.mnemonic.Mnemonic.{Mnemonic}
 use Rattle.isa65.specs.declared.mnemonic.Mnemonic.TheVariants.{Adc}
 use Rattle.isa65.specs.declared.mode.Mode.{Mode}
@@ -21,19 +21,19 @@ use Rattle.stmt65.specs.Digits.{hex_digit, hex2, hex4, offset_text}
 use Rattle.stmt65.specs.Line.{filled, with_fields, line_of}
 use Rattle.stmt65.specs.Operands.{named_text, short_text, long_text, prefix_text, operand_text}
 use Rattle.stmt65.specs.Printable.{IsWrittenIn, IsPrintable}
-use Rattle.stmt65.specs.Said.{Datum}
-use Rattle.stmt65.specs.Said as said
-use Rattle.stmt65.specs.Tables.{low_words, high_words, text_said}
-use Rattle.stmt65.specs.Statements.{next_byte, bytes_text, quoted, datum_text, datum_behind, data_text, word_behind, words_text, alone, with_operands, instr_fields}
+use Rattle.stmt65.specs.SourceLine.{Datum}
+use Rattle.stmt65.specs.SourceLine as source
+use Rattle.stmt65.specs.Tables.{low_words, high_words, cut_text}
+use Rattle.stmt65.specs.Statements.{next_byte, bytes_text, quoted, datum_text, datum_behind, data_text, word_behind, words_text, alone, with_operands, return_text, distance_text, instr_fields, label_fields, definition_fields, fields_of}
 use Rattle.stmt65.specs.Lexing.{is_word_start, is_word_byte, is_text_byte}
 use Rattle.stmt65.specs.Names.{is_name}
-use Rattle.stmt65.specs.SaidBack.{HasNames}
+use Rattle.stmt65.specs.Printed.{HasNames, HasLabelName}
 use Rattle.stmt65.specs.Widths.{IsInWidth}
-use Rattle.stmt65.specs.Views.{ExprView, OperandsView, StatementView, RemarksView}
+use Rattle.stmt65.specs.Views.{ExprView, OperandsView, TargetView, StatementView, RemarksView}
 use Rattle.stmt65.specs.Views as view
 use Rattle.stmt65.proofs.Lexed.{IsWordText}
 use Rattle.stmt65.proofs.ReadBack.{IsRead, AreRead, are_read, name_word}
-use Rattle.stmt65.proofs.TableReads.{is_sound, said_sound}
+use Rattle.stmt65.proofs.TableReads.{is_sound, cut_sound}
 use Rattle.stmt65.proofs.Cases.{both}
 
 abbrev pub in_line : ℕ → Bool
@@ -164,8 +164,8 @@ words_line [] = refl
 words_line (w ∷ ws) = joined (hex4 w) (flat_map word_behind ws) (hex4_line w) (words_behind_line ws)
 
 datum_line : (d : Datum) → is_sound d ≡ true → InLine (datum_text d)
-datum_line (said.Byte b) h = hex2_line b
-datum_line (said.Bytes t) h = between (codes "\"") t (codes "\"") refl (all_as is_text_byte text_byte t h) refl
+datum_line (source.NumberDatum b) h = hex2_line b
+datum_line (source.StringDatum t) h = between (codes "\"") t (codes "\"") refl (all_as is_text_byte text_byte t h) refl
 
 data_behind_line : (ds : List Datum) → list_all is_sound ds ≡ true → InLine (flat_map datum_behind ds)
 data_behind_line [] h = refl
@@ -181,7 +181,7 @@ data_line (d ∷ ds) h =
     joined (datum_text d) (flat_map datum_behind ds) (datum_line d a.0) (data_behind_line ds a.1)
 
 cpu_line : (cpu : Cpu) → InLine (quoted (cpu_text cpu))
-cpu_line M6502 = refl
+cpu_line cpu = between (codes "\"") (cpu_text cpu) (codes "\"") refl (all_as is_text_byte text_byte (cpu_text cpu) (cpu_name cpu).quotable) refl
 
 mnemonic_line : (m : Mnemonic) → InLine (text_of m)
 mnemonic_line Adc = refl
@@ -201,24 +201,59 @@ filled_line line column h = go (ltb (length line) (column - 1)) (eqb (length lin
 field_line : (line : List ℕ) (column : ℕ) (text : List ℕ) → InLine line → InLine text → InLine (filled line column ++ text)
 field_line line column text h g = joined (filled line column) text (filled_line line column h) g
 
-alone_line : (c : Columns) (w : List ℕ) → InLine w → InLine (with_fields [] (alone c w))
-alone_line c w h = field_line [] c.mnemonic w refl h
+alone_line : (line : List ℕ) (c : Columns) (w : List ℕ) → InLine line → InLine w → InLine (with_fields line (alone c w))
+alone_line line c w l h = field_line line c.mnemonic w l h
 
-with_line : (c : Columns) (w operands : List ℕ) → InLine w → InLine operands → InLine (with_fields [] (with_operands c w operands))
-with_line c w operands h g = field_line (filled [] c.mnemonic ++ w) c.argument operands (field_line [] c.mnemonic w refl h) g
+with_line : (line : List ℕ) (c : Columns) (w operands : List ℕ) → InLine line → InLine w → InLine operands → InLine (with_fields line (with_operands c w operands))
+with_line line c w operands l h g = field_line (filled line c.mnemonic ++ w) c.argument operands (field_line line c.mnemonic w l h) g
 
-instr_line : (c : Columns) (h : Bool) (m : Mnemonic) (mode : Mode) (a : Bool) (os : OperandsView) → IsWrittenIn mode os → AreRead os → InLine (with_fields [] (instr_fields c h (record { mnemonic = m; mode = mode }) a os))
-instr_line c h m Imp a os w n = alone_line c (text_of m) (mnemonic_line m)
-instr_line c h m mode a os w n = with_line c (text_of m) (operand_text h mode a os) (mnemonic_line m) (operand_line h mode a os w n)
+instr_line : (line : List ℕ) (c : Columns) (h : Bool) (m : Mnemonic) (mode : Mode) (a : Bool) (os : OperandsView) → InLine line → IsWrittenIn mode os → AreRead os
+    → InLine (with_fields line (instr_fields c h (record { mnemonic = m; mode = mode }) a os))
+instr_line line c h m Imp a os l w n = alone_line line c (text_of m) l (mnemonic_line m)
+instr_line line c h m mode a os l w n = with_line line c (text_of m) (operand_text h mode a os) l (mnemonic_line m) (operand_line h mode a os w n)
+
+-- ---- names
+
+name_line : (name : List ℕ) → is_name name ≡ true → InLine name
+name_line name n = word_line name (name_word name n)
+
+label_line : (line name : List ℕ) → InLine line → is_name name ≡ true → InLine (with_fields line (label_fields (Some name)))
+label_line line name l n = field_line line 1 (name ++ codes ":") l (joined name (codes ":") (name_line name n) refl)
+
+-- the line before its statement
+start_line : (label : Option (List ℕ)) → HasLabelName label → InLine (with_fields [] (label_fields label))
+start_line None n = refl
+start_line (Some name) n = label_line [] name refl n
+
+definition_line : (line : List ℕ) (c : Columns) (name value : List ℕ) → InLine line → is_name name ≡ true → InLine value → InLine (with_fields line (definition_fields c name value))
+definition_line line c name value l n v =
+    field_line (filled line 1 ++ name) c.argument (codes ":= " ++ value) (field_line line 1 name l (name_line name n)) (joined (codes ":= ") value refl v)
+
+return_line : (h : Bool) (t : TargetView) → is_name t.name ≡ true → t.offset < 65536 → InLine (return_text h (Some t))
+return_line h t n w = joined (named_text h t.name t.offset) (codes "-1") (named_line h t.name t.offset n w) refl
+
+distance_line : (h : Bool) (n : ℕ) → n < 65536 → InLine (distance_text h n)
+distance_line true n lt = hex4_line n
+distance_line false n lt = offset_line false n lt
+
+-- the line goes on with the fields of a statement
+fields_line : (line : List ℕ) (c : Columns) (h : Bool) (s : StatementView) → InLine line → IsPrintable s → IsInWidth s → HasNames s → InLine (with_fields line (fields_of c h s))
+fields_line line c h (view.instr op a os) l p w n = instr_line line c h op.mnemonic op.mode a os l p.0 (are_read os n w)
+fields_line line c h (view.bytes bs) l p w n = with_line line c (codes ".byte") (bytes_text bs) l refl (bytes_line bs)
+fields_line line c h (view.text bs) l p w n = with_line line c (codes ".byte") (data_text (cut_text bs)) l refl (data_line (cut_text bs) (cut_sound bs w))
+fields_line line c h (view.words bs) l p w n = with_line line c (codes ".word") (words_text (low_words bs)) l refl (words_line (low_words bs))
+fields_line line c h (view.dbyts bs) l p w n = with_line line c (codes ".dbyt") (words_text (high_words bs)) l refl (words_line (high_words bs))
+fields_line line c h (view.addr t) l p w n = with_line line c (codes ".addr") (named_text h t.name t.offset) l refl (named_line h t.name t.offset n w)
+fields_line line c h (view.rts None) l p w n = with_line line c (codes ".word") (codes "$FFFF") l refl refl
+fields_line line c h (view.rts (Some t)) l p w n = with_line line c (codes ".word") (return_text h (Some t)) l refl (return_line h t n w)
+fields_line line c h (view.label name) l p w n = label_line line name l n
+fields_line line c h (view.assignment name m) l p w n = definition_line line c name (hex4 m) l n (hex4_line m)
+fields_line line c h (view.forward name m) l p w n = definition_line line c name (codes "* + " ++ distance_text h m) l n (joined (codes "* + ") (distance_text h m) refl (distance_line h m w))
+fields_line line c h (view.set_cpu cpu) l p w n = with_line line c (codes ".setcpu") (quoted (cpu_text cpu)) l refl (cpu_line cpu)
+fields_line line c h view.blank l p w n = l
+fields_line line c h (view.remark text) l p w n = field_line line 1 (codes "; " ++ text) l (joined (codes "; ") text refl p.1)
 
 -- the line of a statement is one line
-pub one_line : (c : Columns) (s : StatementView) (r : RemarksView) → IsPrintable s → IsInWidth s → HasNames s → InLine (line_of c s r)
+pub one_line : (c : Columns) (s : StatementView) (r : RemarksView) → IsPrintable s → IsInWidth s → HasNames s → HasLabelName r.label → InLine (line_of c s r)
 unfolding line_of
-one_line c (view.instr op a os) r p w n = instr_line c r.hexoffs op.mnemonic op.mode a os p.0 (are_read os n w)
-one_line c (view.bytes bs) r p w n = with_line c (codes ".byte") (bytes_text bs) refl (bytes_line bs)
-one_line c (view.text bs) r p w n = with_line c (codes ".byte") (data_text (text_said bs)) refl (data_line (text_said bs) (said_sound bs w))
-one_line c (view.words bs) r p w n = with_line c (codes ".word") (words_text (low_words bs)) refl (words_line (low_words bs))
-one_line c (view.dbyts bs) r p w n = with_line c (codes ".dbyt") (words_text (high_words bs)) refl (words_line (high_words bs))
-one_line c (view.set_cpu cpu) r p w n = with_line c (codes ".setcpu") (quoted (cpu_text cpu)) refl (cpu_line cpu)
-one_line c view.blank r p w n = refl
-one_line c (view.remark text) r p w n = field_line [] 1 (codes "; " ++ text) refl (joined (codes "; ") text refl p.1)
+one_line c s r p w n label = fields_line (with_fields [] (label_fields r.label)) c r.hexoffs s (start_line r.label label) p w n

@@ -4,7 +4,7 @@ use Rattle.std.specs.Prelude.{codes}
 use Rattle.isa65.specs.Cpu.{cpu_text}
 use Rattle.isa65.specs.Mnemonic.{text_of}
 use Rattle.isa65.specs.declared.cpu.Cpu.{Cpu}
-use Rattle.isa65.specs.declared.cpu.Cpu.TheVariants.{M6502}
+use Rattle.isa65.specs.CpuLaws.{cpu_name}
 use Rattle.isa65.specs.declared.mnemonic.Mnemonic.{Mnemonic}
 use Rattle.isa65.specs.declared.mnemonic.Mnemonic.TheVariants.{Adc}
 use Rattle.isa65.specs.declared.mode.Mode.{Mode}
@@ -19,7 +19,7 @@ mnemonic_len Adc = omega arith
 mnemonic_len _ = omega arith
 
 pub cpu_len : (c : Cpu) → length (cpu_text c) ≤ 8
-cpu_len M6502 = omega arith
+cpu_len c = (cpu_name c).short
 
 -- a mode with no operands
 pub none_text : (h : Bool) (m : Mode) (a : Bool) → operand_text h m a view.none ≡ bare_text m

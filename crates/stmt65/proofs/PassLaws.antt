@@ -4,14 +4,14 @@ use Rattle.std.specs.Prelude.{Result, Ok, Err}
 use Rattle.std.proofs.lemmas.List.{append-nil}
 use Rattle.stmt65.specs.declared.fault.AsmFault.{AsmFault}
 use Rattle.stmt65.specs.declared.fault.AsmFaultKind.{AsmFaultKind}
-use Rattle.stmt65.specs.Said.{Said}
+use Rattle.stmt65.specs.SourceLine.{SourceLine}
 use Rattle.stmt65.specs.Lines.{text_lines}
 use Rattle.stmt65.specs.Lexing.{parts}
 use Rattle.stmt65.specs.Reading.{reading_of}
 use Rattle.stmt65.specs.Symbols.{Definition}
 use Rattle.stmt65.specs.Meaning.{State, after, bytes_of, coded, fault_of, final, initial, meaning, meaning_of, readings, unless, with_front}
-use Rattle.stmt65.specs.MeaningViews.{held_after, held_definition, held_final}
-use Rattle.stmt65.proofs.MeaningLaws.{fault-all, bytes-all}
+use Rattle.stmt65.specs.code.MeaningViews.{held_after, held_definition, held_final}
+use Rattle.stmt65.proofs.HeldLemmas.{fault-all, bytes-all}
 
 readings_more : (text line rest : List ℕ) → text_lines text ≡ line ∷ text_lines rest → readings text ≡ reading_of (parts line) ∷ readings rest
 readings_more text line rest e = ap (map (λ l. reading_of (parts l))) e
@@ -21,7 +21,7 @@ readings_nil text e = ap (map (λ l. reading_of (parts l))) e
 
 -- ---- the first pass
 
-final_cons : (s : State) (r : Option Said) (rs : List (Option Said)) → held_final s (r ∷ rs) ≡ held_final (held_after s r) rs
+final_cons : (s : State) (r : Option SourceLine) (rs : List (Option SourceLine)) → held_final s (r ∷ rs) ≡ held_final (held_after s r) rs
 unfolding held_final
 final_cons s r rs = refl
 
@@ -40,7 +40,7 @@ pub ruleset finals = (final_step, final_end)
 
 -- ---- the second pass; the code has the definitions `names` of all lines, held
 
-coded_cons : (all : List Definition) (n : ℕ) (s : State) (r : Option Said) (rs : List (Option Said)) → coded all n s (r ∷ rs) ≡ unless n (fault_of all s r) (with_front (bytes_of all s r) (coded all (n + 1) (after s r) rs))
+coded_cons : (all : List Definition) (n : ℕ) (s : State) (r : Option SourceLine) (rs : List (Option SourceLine)) → coded all n s (r ∷ rs) ≡ unless n (fault_of all s r) (with_front (bytes_of all s r) (coded all (n + 1) (after s r) rs))
 unfolding coded
 coded_cons all n s r rs = refl
 

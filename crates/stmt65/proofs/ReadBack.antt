@@ -1,5 +1,5 @@
 -- The line of a statement is a spelling of that statement, so it reads as it.
-use Rattle.std.proofs.Common.{◌≡◌, ℕ, suc, Bool, true, false, eqb, ltb, ◌-◌, ◌<◌, ◌≤◌, List, [], ◌∷◌, ◌++◌, length, replicate, refl, sym, ap, ◌∙◌, arith, inl, inr, append_assoc}
+use Rattle.std.proofs.Common.{◌≡◌, ℕ, suc, Bool, Option, None, true, false, eqb, ltb, ◌-◌, ◌<◌, ◌≤◌, List, [], ◌∷◌, ◌++◌, length, replicate, refl, sym, ap, ◌∙◌, arith, inl, inr, append_assoc}
 use Rattle.std.specs.Prelude.{◌&&◌, ◌||◌, codes, map, Some}
 use Rattle.std.specs.List.{list_all}
 use Rattle.std.specs.Str.{str_to_ascii_lowercase}
@@ -11,32 +11,34 @@ use Rattle.std.proofs.lemmas.Slice.Eq.{bytes_eq-Decides}
 use Rattle.isa65.specs.Cpu.{cpu_text}
 use Rattle.isa65.specs.Mnemonic.{text_of}
 use Rattle.isa65.specs.declared.cpu.Cpu.{Cpu}
-use Rattle.isa65.specs.declared.cpu.Cpu.TheVariants.{M6502}
+use Rattle.isa65.specs.CpuLaws.{cpu_name}
 use Rattle.isa65.specs.declared.mnemonic.Mnemonic.{Mnemonic}
 use Rattle.isa65.specs.declared.mnemonic.Mnemonic.TheVariants.{Adc}
 use Rattle.isa65.specs.declared.mode.Mode.{Mode}
 use Rattle.isa65.specs.declared.mode.Mode.TheVariants.{Imp, Acc, Imm, Zp, Zpx, Zpy, Abs, Absx, Absy, Ind, Indx, Indy, Zpind, Absindx, Rel, Zprel}
 use Rattle.stmt65.specs.declared.coding.ByteOrder.{ByteOrder}
-use Rattle.stmt65.specs.declared.coding.ByteOrder.TheVariants.{LowFirst, HighFirst}
+use Rattle.stmt65.specs.declared.coding.ByteOrder.TheVariants.{LittleEndian, BigEndian}
 use Rattle.stmt65.specs.declared.columns.Columns.{Columns}
 use Rattle.stmt65.specs.Digits.{hex2, hex4, offset_text}
 use Rattle.stmt65.specs.Line.{filled, with_fields, line_of}
 use Rattle.stmt65.specs.Operands.{named_text, short_text, long_text, prefix_text, operand_text}
-use Rattle.stmt65.specs.Printable.{IsByte, IsShort, IsWrittenIn, IsPrintable}
-use Rattle.stmt65.specs.Statements.{bytes_text, quoted, data_text, words_text, alone, with_operands, instr_fields, remark_fields}
-use Rattle.stmt65.specs.Said.{Value, Plain, Named, Byte}
-use Rattle.stmt65.specs.Tables.{low_words, high_words, words_in, text_said}
-use Rattle.stmt65.specs.Parts.{Part, Word, Number, Text, Mark, begins_with}
+use Rattle.stmt65.specs.Printable.{IsByte, IsShort, IsWrittenIn, IsPrintable, MayBeLabelled}
+use Rattle.stmt65.specs.Statements.{bytes_text, quoted, data_text, words_text, alone, with_operands, return_text, distance_text, instr_fields, label_fields, definition_fields, remark_fields, fields_of}
+use Rattle.stmt65.specs.SourceLine.{Value, NumberValue, NameValue, NumberDatum, Empty, Operation, Nothing, Instr, SetCpu, Assignment, PlaceAssignment, Statement}
+use Rattle.stmt65.specs.declared.source_line.Minus.TheVariants.{Zero, One}
+use Rattle.stmt65.specs.Tables.{low_words, high_words, words_in, cut_text}
+use Rattle.stmt65.specs.Parts.{Part, Word, Number, Text, Define, Mark, begins_with}
 use Rattle.stmt65.specs.Lexing.{is_word_start, is_word_byte, is_text_byte, parts}
 use Rattle.stmt65.specs.Names.{has_name_form, is_name}
 use Rattle.stmt65.specs.Reading.{reading_of}
-use Rattle.stmt65.specs.Spelling.{Item, word, mark, string, value, data_list, value_list, IsValue, IsItem, Spells, prefix_items, form_items, IsSpelling}
-use Rattle.stmt65.specs.SaidBack.{value_said, form_said, statement_said, HasName, HasNamesIn, HasNames}
+use Rattle.stmt65.specs.Spelling as item
+use Rattle.stmt65.specs.Spelling.{Item, word, mark, define, number, string, value, data_list, value_list, IsValue, IsItem, Spells, prefix_items, form_items, operation_items, IsSpelling}
+use Rattle.stmt65.specs.Printed.{address_size, source_value, source_form, source_line, with_label, HasName, HasNamesIn, HasNames, HasLabelName}
 use Rattle.stmt65.specs.Widths.{IsWordWide, AreWordWide, AreBytes, IsInWidth}
-use Rattle.stmt65.specs.Views.{ExprView, OperandsView, StatementView, RemarksView}
+use Rattle.stmt65.specs.Views.{ExprView, OperandsView, TargetView, StatementView, RemarksView}
 use Rattle.stmt65.specs.Views as view
 use Rattle.stmt65.proofs.SpelledIsRead.{line_again}
-use Rattle.stmt65.proofs.Lexed.{Ends, IsWordText, parts_word, parts_blanks, parts_hash, parts_open, parts_close, parts_plus, parts_comma, parts_colon, parts_text, parts_hex2, parts_hex4, number_of-hex2, number_of-hex4, offset_parts}
+use Rattle.stmt65.proofs.Lexed.{Ends, IsWordText, parts_word, parts_blanks, parts_hash, parts_open, parts_close, parts_plus, parts_comma, parts_star, parts_minus, parts_define, parts_colon, parts_text, parts_hex2, parts_hex4, number_of-hex2, number_of-hex4, parts_digits, parts_decimal, number_of-decimal, OffsetParts, offset_parts}
 use Rattle.stmt65.proofs.PartLemmas.{parts_nil, parts_remark}
 use Rattle.stmt65.proofs.Cases.{both}
 use Rattle.stmt65.proofs.TableReads.{bytes_listed, words_listed, text_listed}
@@ -99,10 +101,10 @@ name_word (b ∷ w) h =
     let parts = both (is_ascii_alphabetic b || eqb b 95) (list_all is_word_byte w) front in
     (letter_starts b parts.0, parts.1)
 
-named_parts : (h : Bool) (name rest : List ℕ) (offset : ℕ) → is_name name ≡ true → offset < 65536 → Ends rest → ValueParts (named_text h name offset) (Named name offset false) rest
+named_parts : (h : Bool) (name rest : List ℕ) (offset : ℕ) → is_name name ≡ true → offset < 65536 → Ends rest → ValueParts (named_text h name offset) (NameValue name offset Zero) rest
 named_parts h name rest offset n lt e = go (eqb offset 0) refl
   where
-    go : (t : Bool) → eqb offset 0 ≡ t → ValueParts (named_text h name offset) (Named name offset false) rest
+    go : (t : Bool) → eqb offset 0 ≡ t → ValueParts (named_text h name offset) (NameValue name offset Zero) rest
     go true f = rw f (record {
       front = Word name ∷ [];
       lexes = parts_word name rest (name_word name n) e;
@@ -118,11 +120,11 @@ named_parts h name rest offset n lt e = go (eqb offset 0) refl
           spells = (Mark 43 ∷ Number (offset_text h offset) ∷ [], [], refl, n, inr (offset_text h offset, o.counts, refl), refl);
         })
 
-two_parts : (h : Bool) (e : ExprView) (rest : List ℕ) → IsShort e → IsRead e → Ends rest → ValueParts (short_text h e) (value_said e) rest
+two_parts : (h : Bool) (e : ExprView) (rest : List ℕ) → IsShort e → IsRead e → Ends rest → ValueParts (short_text h e) (source_value e) rest
 two_parts h (view.number n) rest s has e = record { front = Number (hex2 n) ∷ []; lexes = parts_hex2 n rest e; spells = (hex2 n, number_of-hex2 n s, refl) }
 two_parts h (view.name name offset) rest s has e = named_parts h name rest offset has.0 has.1 e
 
-four_parts : (h : Bool) (e : ExprView) (rest : List ℕ) → IsRead e → Ends rest → ValueParts (long_text h e) (value_said e) rest
+four_parts : (h : Bool) (e : ExprView) (rest : List ℕ) → IsRead e → Ends rest → ValueParts (long_text h e) (source_value e) rest
 four_parts h (view.number n) rest has e = record { front = Number (hex4 n) ∷ []; lexes = parts_hex4 n rest e; spells = (hex4 n, number_of-hex4 n has, refl) }
 four_parts h (view.name name offset) rest has e = named_parts h name rest offset has.0 has.1 e
 
@@ -149,16 +151,16 @@ x_close = marked 44 _ (codes ",x)") (parts (codes "x)")) (parts_comma (codes "x)
 
 -- ---- expressions and what stands around them
 
-short_then : (h : Bool) (e : ExprView) (is : List Item) (rest : List ℕ) → IsShort e → IsRead e → Ends rest → Spells is (parts rest) → Spells (value (value_said e) ∷ is) (parts (short_text h e ++ rest))
-short_then h e is rest s has ends t = valued (value_said e) is (short_text h e) rest (two_parts h e rest s has ends) t
+short_then : (h : Bool) (e : ExprView) (is : List Item) (rest : List ℕ) → IsShort e → IsRead e → Ends rest → Spells is (parts rest) → Spells (value (source_value e) ∷ is) (parts (short_text h e ++ rest))
+short_then h e is rest s has ends t = valued (source_value e) is (short_text h e) rest (two_parts h e rest s has ends) t
 
-long_then : (h : Bool) (e : ExprView) (is : List Item) (rest : List ℕ) → IsRead e → Ends rest → Spells is (parts rest) → Spells (value (value_said e) ∷ is) (parts (long_text h e ++ rest))
-long_then h e is rest has ends t = valued (value_said e) is (long_text h e) rest (four_parts h e rest has ends) t
+long_then : (h : Bool) (e : ExprView) (is : List Item) (rest : List ℕ) → IsRead e → Ends rest → Spells is (parts rest) → Spells (value (source_value e) ∷ is) (parts (long_text h e ++ rest))
+long_then h e is rest has ends t = valued (source_value e) is (long_text h e) rest (four_parts h e rest has ends) t
 
-short_alone : (h : Bool) (e : ExprView) → IsShort e → IsRead e → Spells (value (value_said e) ∷ []) (parts (short_text h e))
+short_alone : (h : Bool) (e : ExprView) → IsShort e → IsRead e → Spells (value (source_value e) ∷ []) (parts (short_text h e))
 short_alone h e s has = let t = short_then h e [] [] s has refl nothing in rw append-nil at t
 
-long_alone : (h : Bool) (e : ExprView) → IsRead e → Spells (value (value_said e) ∷ []) (parts (long_text h e))
+long_alone : (h : Bool) (e : ExprView) → IsRead e → Spells (value (source_value e) ∷ []) (parts (long_text h e))
 long_alone h e has = let t = long_then h e [] [] has refl nothing in rw append-nil at t
 
 opened : (is : List Item) (rest : List ℕ) → Spells is (parts rest) → Spells (mark 40 ∷ is) (parts (40 ∷ rest))
@@ -178,16 +180,16 @@ no_equals h (view.name name offset) rest has = go name (name_word name has.0) (e
     go (b ∷ w) i false f = rw f (word_no_equals b i.0)
 
 -- an absolute operand, with `a:` or without
-forced : (h a : Bool) (e : ExprView) (is : List Item) (rest : List ℕ) → IsRead e → Ends rest → Spells is (parts rest) → Spells (prefix_items a ++ value (value_said e) ∷ is) (parts (prefix_text a ++ (long_text h e ++ rest)))
+forced : (h a : Bool) (e : ExprView) (is : List Item) (rest : List ℕ) → IsRead e → Ends rest → Spells is (parts rest) → Spells (prefix_items (address_size a) ++ value (source_value e) ∷ is) (parts (prefix_text a ++ (long_text h e ++ rest)))
 forced h false e is rest has ends t = long_then h e is rest has ends t
 forced h true e is rest has ends t =
     worded (codes "a") _ (97 ∷ 58 ∷ (long_text h e ++ rest)) (parts (58 ∷ (long_text h e ++ rest))) (parts_word (codes "a") (58 ∷ (long_text h e ++ rest)) (refl, refl) refl)
     (marked 58 _ (58 ∷ (long_text h e ++ rest)) (parts (long_text h e ++ rest)) (parts_colon (long_text h e ++ rest) (no_equals h e rest has)) (long_then h e is rest has ends t))
 
-forced_then : (h a : Bool) (e : ExprView) (is : List Item) (rest : List ℕ) → IsRead e → Ends rest → Spells is (parts rest) → Spells (prefix_items a ++ value (value_said e) ∷ is) (parts (prefix_text a ++ long_text h e ++ rest))
+forced_then : (h a : Bool) (e : ExprView) (is : List Item) (rest : List ℕ) → IsRead e → Ends rest → Spells is (parts rest) → Spells (prefix_items (address_size a) ++ value (source_value e) ∷ is) (parts (prefix_text a ++ long_text h e ++ rest))
 forced_then h a e is rest has ends t = let f = forced h a e is rest has ends t in rw append_assoc f
 
-forced_alone : (h a : Bool) (e : ExprView) → IsRead e → Spells (prefix_items a ++ value (value_said e) ∷ []) (parts (prefix_text a ++ long_text h e))
+forced_alone : (h a : Bool) (e : ExprView) → IsRead e → Spells (prefix_items (address_size a) ++ value (source_value e) ∷ []) (parts (prefix_text a ++ long_text h e))
 forced_alone h a e has = let f = forced h a e [] [] has refl nothing in rw append-nil at f
 
 byte_short : (e : ExprView) → IsByte e → IsShort e
@@ -196,8 +198,8 @@ byte_short (view.name name offset) b = absurd b
 
 -- ---- the operands of each mode
 
-pub operand_spelled : (h : Bool) (m : Mode) (a : Bool) (os : OperandsView) → IsWrittenIn m os → AreRead os → Spells (form_items (form_said m a os)) (parts (operand_text h m a os))
-unfolding operand_text form_said
+pub operand_spelled : (h : Bool) (m : Mode) (a : Bool) (os : OperandsView) → IsWrittenIn m os → AreRead os → Spells (form_items (source_form m a os)) (parts (operand_text h m a os))
+unfolding operand_text source_form
 operand_spelled h Imp a view.none w n = nothing
 operand_spelled h Acc a view.none w n = one_word 97 (refl, refl)
 operand_spelled h Imm a (view.one e) w n = marked 35 _ (35 ∷ short_text h e) (parts (short_text h e)) (parts_hash (short_text h e)) (short_alone h e (byte_short e w) n)
@@ -224,24 +226,21 @@ last : (i : Item) (ps : List Part) → IsItem i ps → Spells (i ∷ []) ps
 unfolding Spells
 last i ps h = (ps, [], sym (append-nil ps), h, refl)
 
-bytes_spelled : (bs : List ℕ) → 1 ≤ length bs → AreBytes bs → Spells (data_list (map Byte bs) ∷ []) (parts (bytes_text bs))
-bytes_spelled bs lt h = last (data_list (map Byte bs)) (parts (bytes_text bs)) (bytes_listed bs lt h)
+bytes_spelled : (bs : List ℕ) → 1 ≤ length bs → AreBytes bs → Spells (data_list (map NumberDatum bs) ∷ []) (parts (bytes_text bs))
+bytes_spelled bs lt h = last (data_list (map NumberDatum bs)) (parts (bytes_text bs)) (bytes_listed bs lt h)
 
-text_spelled : (bs : List ℕ) → 1 ≤ length bs → AreBytes bs → Spells (data_list (text_said bs) ∷ []) (parts (data_text (text_said bs)))
-text_spelled bs lt h = last (data_list (text_said bs)) (parts (data_text (text_said bs))) (text_listed bs lt h)
+text_spelled : (bs : List ℕ) → 1 ≤ length bs → AreBytes bs → Spells (data_list (cut_text bs) ∷ []) (parts (data_text (cut_text bs)))
+text_spelled bs lt h = last (data_list (cut_text bs)) (parts (data_text (cut_text bs))) (text_listed bs lt h)
 
-words_spelled : (o : ByteOrder) (bs : List ℕ) → 2 ≤ length bs → AreBytes bs → Spells (value_list (map Plain (words_in o bs)) ∷ []) (parts (words_text (words_in o bs)))
-words_spelled o bs lt h = last (value_list (map Plain (words_in o bs))) (parts (words_text (words_in o bs))) (words_listed o bs lt h)
+words_spelled : (o : ByteOrder) (bs : List ℕ) → 2 ≤ length bs → AreBytes bs → Spells (value_list (map NumberValue (words_in o bs)) ∷ []) (parts (words_text (words_in o bs)))
+words_spelled o bs lt h = last (value_list (map NumberValue (words_in o bs))) (parts (words_text (words_in o bs))) (words_listed o bs lt h)
 
 -- ---- the name of a CPU
-
-cpu_is_text : (cpu : Cpu) → list_all is_text_byte (cpu_text cpu) ≡ true
-cpu_is_text M6502 = refl
 
 cpu_spelled : (cpu : Cpu) → Spells (string (cpu_text cpu) ∷ []) (parts (quoted (cpu_text cpu)))
 cpu_spelled cpu =
     last (string (cpu_text cpu)) (parts (quoted (cpu_text cpu)))
-    (parts_text (cpu_text cpu) [] (cpu_is_text cpu) ∙ ap (λ (ps : List Part). Text (cpu_text cpu) ∷ ps) parts_nil)
+    (parts_text (cpu_text cpu) [] (cpu_name cpu).quotable ∙ ap (λ (ps : List Part). Text (cpu_text cpu) ∷ ps) parts_nil)
 
 -- ---- fields
 
@@ -272,61 +271,205 @@ blank_between (b ∷ bs) column lt = go (ltb (suc (length bs)) (column - 1)) ref
         in record { count = column - 2 - suc (length bs); blanks = rw (e, k) refl }
     go false e = record { count = 0; blanks = rw (e, ne_eqb (suc (length bs)) 0 (λ z. absurd (omega arith))) refl }
 
-parts_operation : (column : ℕ) (w rest : List ℕ) → IsWordText w → Ends rest → parts ((filled [] column ++ w) ++ rest) ≡ Word w ∷ parts rest
-parts_operation column w rest h e =
-    let b = blank_start column in
-    ap parts (append_assoc (filled [] column) w rest ∙ ap (λ (l : List ℕ). l ++ (w ++ rest)) b.blanks)
-    ∙ parts_blanks b.count (w ++ rest) ∙ parts_word w rest h e
+-- the line has these parts, and a field that follows it has its own
+abbrev pub Leads : List ℕ → List Part → Type 0
+Leads line ps = (column : ℕ) (rest : List ℕ) → parts (filled line column ++ rest) ≡ ps ++ parts rest
 
-parts_alone : (c : Columns) (w : List ℕ) → IsWordText w → parts (with_fields [] (alone c w)) ≡ Word w ∷ parts []
-parts_alone c w h = ap parts (sym (append-nil (filled [] c.mnemonic ++ w))) ∙ parts_operation c.mnemonic w [] h refl
+leads_nothing : Leads [] []
+leads_nothing column rest =
+    let b = blank_start column in ap (λ (l : List ℕ). parts (l ++ rest)) b.blanks ∙ parts_blanks b.count rest
+
+-- a blank follows a line that is not empty
+leads_by_blank : (line : List ℕ) (ps : List Part) → 0 < length line → ((rest : List ℕ) → parts (line ++ (32 ∷ rest)) ≡ ps ++ parts (32 ∷ rest)) → Leads line ps
+leads_by_blank line ps some same column rest =
+    let f = blank_between line column some in
+    let shape : filled line column ++ rest ≡ line ++ (32 ∷ (replicate f.count 32 ++ rest)) = ap (λ (l : List ℕ). l ++ rest) f.blanks ∙ simp append_assoc in
+    ap parts shape ∙ same (replicate f.count 32 ++ rest) ∙ ap (λ (qs : List Part). ps ++ qs) (parts_blanks (suc f.count) rest)
 
 long_word : (line w : List ℕ) → IsWordText w → 0 < length (line ++ w)
 long_word line [] h = absurd h
 long_word line (b ∷ w) h = omega (arith, length-append line (b ∷ w))
 
-parts_with : (c : Columns) (w operands : List ℕ) → IsWordText w → parts (with_fields [] (with_operands c w operands)) ≡ Word w ∷ parts operands
-parts_with c w operands h =
-    let line = filled [] c.mnemonic ++ w in
-    let f = blank_between line c.argument (long_word (filled [] c.mnemonic) w h) in
-    let shape : filled line c.argument ++ operands ≡ line ++ (32 ∷ (replicate f.count 32 ++ operands)) =
-    ap (λ (l : List ℕ). l ++ operands) f.blanks ∙ simp append_assoc in
-    ap parts shape ∙ parts_operation c.mnemonic w (32 ∷ (replicate f.count 32 ++ operands)) h refl
-    ∙ ap (λ (ps : List Part). Word w ∷ ps) (parts_blanks (suc f.count) operands)
+-- a line, and a word as its next field
+word_after : (line : List ℕ) (ps : List Part) (column : ℕ) (w rest : List ℕ) → Leads line ps → IsWordText w → Ends rest → parts ((filled line column ++ w) ++ rest) ≡ ps ++ Word w ∷ parts rest
+word_after line ps column w rest l h e =
+    ap parts (append_assoc (filled line column) w rest) ∙ l column (w ++ rest) ∙ ap (λ (qs : List Part). ps ++ qs) (parts_word w rest h e)
 
--- ---- each statement
+leads_word : (line : List ℕ) (ps : List Part) (column : ℕ) (w : List ℕ) → Leads line ps → IsWordText w → Leads (filled line column ++ w) (ps ++ Word w ∷ [])
+leads_word line ps column w l h =
+    leads_by_blank (filled line column ++ w) (ps ++ Word w ∷ []) (long_word (filled line column) w h)
+    (λ rest. word_after line ps column w (32 ∷ rest) l h refl ∙ sym (append_assoc ps (Word w ∷ []) (parts (32 ∷ rest))))
+
+-- a name and `:`
+colon_after : (column : ℕ) (name rest : List ℕ) → is_name name ≡ true → begins_with 61 rest ≡ false → parts ((filled [] column ++ (name ++ codes ":")) ++ rest) ≡ Word name ∷ Mark 58 ∷ parts rest
+colon_after column name rest n e =
+    let shape : (filled [] column ++ (name ++ codes ":")) ++ rest ≡ filled [] column ++ (name ++ (58 ∷ rest)) = simp append_assoc in
+    ap parts shape ∙ leads_nothing column (name ++ (58 ∷ rest)) ∙ parts_word name (58 ∷ rest) (name_word name n) refl
+    ∙ ap (λ (qs : List Part). Word name ∷ qs) (parts_colon rest e)
+
+leads_label : (name : List ℕ) → is_name name ≡ true → Leads (with_fields [] (label_fields (Some name))) (Word name ∷ Mark 58 ∷ [])
+leads_label name n =
+    let some : 0 < length (filled [] 1 ++ (name ++ codes ":")) = omega (arith, length-append (filled [] 1) (name ++ codes ":"), length-append name (codes ":")) in
+    leads_by_blank (filled [] 1 ++ (name ++ codes ":")) (Word name ∷ Mark 58 ∷ []) some (λ rest. colon_after 1 name (32 ∷ rest) n refl)
+
+-- ---- labels
+
+abbrev pub label_parts : Option (List ℕ) → List Part
+label_parts None = []
+label_parts (Some name) = Word name ∷ Mark 58 ∷ []
+
+leads_start : (label : Option (List ℕ)) → HasLabelName label → Leads (with_fields [] (label_fields label)) (label_parts label)
+leads_start None n = leads_nothing
+leads_start (Some name) n = leads_label name n
+
+named : (w : List ℕ) (is : List Item) (ps qs : List Part) → is_name w ≡ true → qs ≡ Word w ∷ ps → Spells is ps → Spells (item.name w ∷ is) qs
+unfolding Spells
+named w is ps qs n e h = (Word w ∷ [], ps, e, (n, refl), h)
+
+a_mark : (b : ℕ) (is : List Item) (ps : List Part) → Spells is ps → Spells (mark b ∷ is) (Mark b ∷ ps)
+unfolding Spells
+a_mark b is ps h = (Mark b ∷ [], ps, refl, refl, h)
+
+-- an operation is spelled, with the label before it
+labelled : (label : Option (List ℕ)) (o : Operation) (ps : List Part) → HasLabelName label → Spells (operation_items o) ps → IsSpelling (with_label label (Statement None o)) (label_parts label ++ ps)
+labelled None o ps n h = h
+labelled (Some w) o ps n h = named w (mark 58 ∷ operation_items o) (Mark 58 ∷ ps) _ n refl (a_mark 58 (operation_items o) ps h)
+
+-- ---- operations
+
+parts_alone : (line : List ℕ) (ps : List Part) (c : Columns) (w : List ℕ) → Leads line ps → IsWordText w → parts (with_fields line (alone c w)) ≡ ps ++ Word w ∷ parts []
+parts_alone line ps c w l h = ap parts (sym (append-nil (filled line c.mnemonic ++ w))) ∙ word_after line ps c.mnemonic w [] l h refl
+
+parts_with : (line : List ℕ) (ps : List Part) (c : Columns) (w operands : List ℕ) → Leads line ps → IsWordText w → parts (with_fields line (with_operands c w operands)) ≡ ps ++ Word w ∷ parts operands
+parts_with line ps c w operands l h = leads_word line ps c.mnemonic w l h c.argument operands ∙ append_assoc ps (Word w ∷ []) (parts operands)
 
 mnemonic_word : (m : Mnemonic) → IsWordText (text_of m)
 mnemonic_word Adc = (refl, refl)
 mnemonic_word _ = (refl, refl)
 
-operated : (c : Columns) (w operands : List ℕ) (is : List Item) → IsWordText w → Spells is (parts operands) → Spells (word w ∷ is) (parts (with_fields [] (with_operands c w operands)))
-operated c w operands is h t = worded w is (with_fields [] (with_operands c w operands)) (parts operands) (parts_with c w operands h) t
+a_word : (w : List ℕ) (is : List Item) (ps : List Part) → Spells is ps → Spells (word w ∷ is) (Word w ∷ ps)
+unfolding Spells
+a_word w is ps h = (Word w ∷ [], ps, refl, (w, (bytes_eq-Decides (str_to_ascii_lowercase w) (str_to_ascii_lowercase w)).1 refl, refl), h)
 
-instr_spelled : (c : Columns) (h : Bool) (m : Mnemonic) (mode : Mode) (a : Bool) (os : OperandsView) → IsWrittenIn mode os → AreRead os
-    → Spells (word (text_of m) ∷ form_items (form_said mode a os)) (parts (with_fields [] (instr_fields c h (record { mnemonic = m; mode = mode }) a os)))
-unfolding operand_text
-instr_spelled c h m Imp a view.none w n =
-    worded (text_of m) _ (with_fields [] (alone c (text_of m))) (parts []) (parts_alone c (text_of m) (mnemonic_word m)) (operand_spelled h Imp a view.none w n)
-instr_spelled c h m Imp a (view.one e) w n = absurd w
-instr_spelled c h m Imp a (view.two e f) w n = absurd w
-instr_spelled c h m mode a os w n = operated c (text_of m) (operand_text h mode a os) _ (mnemonic_word m) (operand_spelled h mode a os w n)
+-- an operation with operands, behind a label or none
+operated : (label : Option (List ℕ)) (c : Columns) (w operands : List ℕ) (o : Operation) (is : List Item) → HasLabelName label → operation_items o ≡ word w ∷ is → IsWordText w → Spells is (parts operands)
+    → IsSpelling (with_label label (Statement None o)) (parts (with_fields (with_fields [] (label_fields label)) (with_operands c w operands)))
+operated label c w operands o is n e h t =
+    let line = with_fields [] (label_fields label) in
+    rw (parts_with line (label_parts label) c w operands (leads_start label n) h)
+    (labelled label o (Word w ∷ parts operands) n (rw e (a_word w is (parts operands) t)))
+
+unoperated : (label : Option (List ℕ)) (c : Columns) (w : List ℕ) (o : Operation) → HasLabelName label → operation_items o ≡ word w ∷ [] → IsWordText w
+    → IsSpelling (with_label label (Statement None o)) (parts (with_fields (with_fields [] (label_fields label)) (alone c w)))
+unoperated label c w o n e h =
+    let line = with_fields [] (label_fields label) in
+    rw (parts_alone line (label_parts label) c w (leads_start label n) h)
+    (labelled label o (Word w ∷ parts []) n (rw e (a_word w [] (parts []) nothing)))
+
+instr_spelled : (label : Option (List ℕ)) (c : Columns) (h : Bool) (m : Mnemonic) (mode : Mode) (a : Bool) (os : OperandsView) → HasLabelName label → IsWrittenIn mode os → AreRead os
+    → IsSpelling (with_label label (Statement None (Instr m (source_form mode a os)))) (parts (with_fields (with_fields [] (label_fields label)) (instr_fields c h (record { mnemonic = m; mode = mode }) a os)))
+unfolding source_form
+instr_spelled label c h m Imp a view.none l w n = unoperated label c (text_of m) (Instr m Empty) l refl (mnemonic_word m)
+instr_spelled label c h m Imp a (view.one e) l w n = absurd w
+instr_spelled label c h m Imp a (view.two e f) l w n = absurd w
+instr_spelled label c h m mode a os l w n = operated label c (text_of m) (operand_text h mode a os) (Instr m (source_form mode a os)) _ l refl (mnemonic_word m) (operand_spelled h mode a os w n)
+
+-- ---- table entries that are names
+
+addr_spelled : (h : Bool) (t : TargetView) → is_name t.name ≡ true → t.offset < 65536 → Spells (value_list (NameValue t.name t.offset Zero ∷ []) ∷ []) (parts (named_text h t.name t.offset))
+addr_spelled h t n w =
+    let p = named_parts h t.name [] t.offset n w refl in
+    let shape : parts (named_text h t.name t.offset) ≡ p.front = ap parts (sym (append-nil (named_text h t.name t.offset))) ∙ p.lexes ∙ ap (λ (qs : List Part). p.front ++ qs) parts_nil ∙ append-nil p.front in
+    last (value_list (NameValue t.name t.offset Zero ∷ [])) (parts (named_text h t.name t.offset)) (rw shape p.spells)
+
+minus_one : parts (codes "-1") ≡ Mark 45 ∷ Number (codes "1") ∷ []
+minus_one = parts_minus (codes "1") ∙ ap (λ (qs : List Part). Mark 45 ∷ qs) (parts_digits (codes "1") [] (omega arith) refl refl ∙ ap (λ (qs : List Part). Number (codes "1") ∷ qs) parts_nil)
+
+less_one : (w : List ℕ) (n : ℕ) (front : List Part) → IsValue (NameValue w n Zero) front → IsValue (NameValue w n One) (front ++ (Mark 45 ∷ Number (codes "1") ∷ []))
+less_one w n front v =
+    let minus : List Part = Mark 45 ∷ Number (codes "1") ∷ [] in
+    (v.0, minus, rw (v.2, v.5) (ap (λ (qs : List Part). Word w ∷ qs) (append_assoc v.0 [] minus)), v.3, v.4, refl)
+
+return_spelled : (h : Bool) (t : TargetView) → is_name t.name ≡ true → t.offset < 65536 → Spells (value_list (NameValue t.name t.offset One ∷ []) ∷ []) (parts (return_text h (Some t)))
+return_spelled h t n w =
+    let p = named_parts h t.name (codes "-1") t.offset n w refl in
+    last (value_list (NameValue t.name t.offset One ∷ [])) (parts (return_text h (Some t)))
+    (rw (p.lexes, minus_one) (less_one t.name t.offset p.front p.spells))
+
+no_target_spelled : Spells (value_list (NumberValue 0xFFFF ∷ []) ∷ []) (parts (codes "$FFFF"))
+no_target_spelled =
+    last (value_list (NumberValue 0xFFFF ∷ [])) (parts (codes "$FFFF"))
+    (codes "$FFFF", number_of-hex4 0xFFFF (omega arith), parts_hex4 0xFFFF [] refl ∙ ap (λ (qs : List Part). Number (codes "$FFFF") ∷ qs) parts_nil)
+
+-- ---- names alone, and definitions
+
+label_spelled : (name : List ℕ) → is_name name ≡ true → IsSpelling (Statement (Some name) Nothing) (parts (with_fields [] (label_fields (Some name))))
+unfolding Spells
+label_spelled name n =
+    let all : parts (filled [] 1 ++ (name ++ codes ":")) ≡ Word name ∷ Mark 58 ∷ [] =
+    ap parts (sym (append-nil (filled [] 1 ++ (name ++ codes ":")))) ∙ colon_after 1 name [] n refl ∙ ap (λ (qs : List Part). Word name ∷ Mark 58 ∷ qs) parts_nil in
+    rw all (labelled (Some name) Nothing [] n refl)
+
+definition_parts : (c : Columns) (name text : List ℕ) → is_name name ≡ true → parts (with_fields [] (definition_fields c name text)) ≡ Word name ∷ Define ∷ parts text
+definition_parts c name text n =
+    leads_word [] [] 1 name leads_nothing (name_word name n) c.argument (codes ":= " ++ text)
+    ∙ ap (λ (qs : List Part). Word name ∷ qs) (parts_define (32 ∷ text) ∙ ap (λ (qs : List Part). Define ∷ qs) (parts_blanks 1 text))
+
+defined : (is : List Item) (ps : List Part) → Spells is ps → Spells (define ∷ is) (Define ∷ ps)
+unfolding Spells
+defined is ps h = (Define ∷ [], ps, refl, refl, h)
+
+assignment_spelled : (c : Columns) (name : List ℕ) (n : ℕ) → is_name name ≡ true → n < 65536 → IsSpelling (Assignment name n) (parts (with_fields [] (definition_fields c name (hex4 n))))
+assignment_spelled c name n is lt =
+    let number_parts : parts (hex4 n) ≡ Number (hex4 n) ∷ [] = ap parts (sym (append-nil (hex4 n))) ∙ parts_hex4 n [] refl ∙ ap (λ (qs : List Part). Number (hex4 n) ∷ qs) parts_nil in
+    rw (definition_parts c name (hex4 n) is, number_parts)
+    (named name _ (Define ∷ Number (hex4 n) ∷ []) _ is refl (defined _ _ (last (number n) (Number (hex4 n) ∷ []) (hex4 n, number_of-hex4 n lt, refl))))
+
+-- the text of a distance is a number
+distance_parts : (h : Bool) (n : ℕ) → n < 65536 → OffsetParts (distance_text h n) n []
+distance_parts true n lt = record { lexes = parts_hex4 n [] refl; counts = number_of-hex4 n lt }
+distance_parts false n lt = record { lexes = parts_decimal n [] lt refl; counts = number_of-decimal n lt }
+
+place_parts : (text : List ℕ) → parts (codes "* + " ++ text) ≡ Mark 42 ∷ Mark 43 ∷ parts text
+place_parts text =
+    parts_star (32 ∷ 43 ∷ 32 ∷ text) ∙ ap (λ (qs : List Part). Mark 42 ∷ qs) (parts_blanks 1 (43 ∷ 32 ∷ text) ∙ parts_plus (32 ∷ text) ∙ ap (λ (qs : List Part). Mark 43 ∷ qs) (parts_blanks 1 text))
+
+forward_spelled : (c : Columns) (h : Bool) (name : List ℕ) (n : ℕ) → is_name name ≡ true → n < 65536
+    → IsSpelling (PlaceAssignment name n) (parts (with_fields [] (definition_fields c name (codes "* + " ++ distance_text h n))))
+forward_spelled c h name n is lt =
+    let d = distance_parts h n lt in
+    let number_parts : parts (distance_text h n) ≡ Number (distance_text h n) ∷ [] = ap parts (sym (append-nil (distance_text h n))) ∙ d.lexes ∙ ap (λ (qs : List Part). Number (distance_text h n) ∷ qs) parts_nil in
+    rw (definition_parts c name (codes "* + " ++ distance_text h n) is, place_parts (distance_text h n), number_parts)
+    (named name _ (Define ∷ Mark 42 ∷ Mark 43 ∷ Number (distance_text h n) ∷ []) _ is refl
+    (defined _ _ (a_mark 42 _ _ (a_mark 43 _ _ (last (number n) (Number (distance_text h n) ∷ []) (distance_text h n, d.counts, refl))))))
+
+-- ---- each statement
 
 remark_spelled : (text : List ℕ) → Spells [] (parts (with_fields [] (remark_fields text)))
 unfolding Spells filled
 remark_spelled text = parts_remark (32 ∷ text)
 
-spelled_back : (c : Columns) (s : StatementView) (r : RemarksView) → IsPrintable s → IsInWidth s → HasNames s → IsSpelling (statement_said s) (parts (line_of c s r))
-unfolding line_of
-spelled_back c (view.instr op a os) r p w n = instr_spelled c r.hexoffs op.mnemonic op.mode a os p.0 (are_read os n w)
-spelled_back c (view.bytes bs) r p w n = operated c (codes ".byte") (bytes_text bs) _ (refl, refl) (bytes_spelled bs p.0 w)
-spelled_back c (view.text bs) r p w n = operated c (codes ".byte") (data_text (text_said bs)) _ (refl, refl) (text_spelled bs p.0 w)
-spelled_back c (view.words bs) r p w n = operated c (codes ".word") (words_text (low_words bs)) _ (refl, refl) (words_spelled LowFirst bs p.1.0 w)
-spelled_back c (view.dbyts bs) r p w n = operated c (codes ".dbyt") (words_text (high_words bs)) _ (refl, refl) (words_spelled HighFirst bs p.1.0 w)
-spelled_back c (view.set_cpu cpu) r p w n = operated c (codes ".setcpu") (quoted (cpu_text cpu)) _ (refl, refl) (cpu_spelled cpu)
-spelled_back c view.blank r p w n = nothing
-spelled_back c (view.remark text) r p w n = remark_spelled text
+-- the line of a statement is a spelling of it
+spelled_back : (c : Columns) (h : Bool) (label : Option (List ℕ)) (s : StatementView) → IsPrintable s → IsInWidth s → HasNames s → MayBeLabelled c label s → HasLabelName label
+    → IsSpelling (with_label label (source_line s)) (parts (with_fields (with_fields [] (label_fields label)) (fields_of c h s)))
+spelled_back c h label (view.instr op a os) p w n m l = instr_spelled label c h op.mnemonic op.mode a os l p.0 (are_read os n w)
+spelled_back c h label (view.bytes bs) p w n m l = operated label c (codes ".byte") (bytes_text bs) _ _ l refl (refl, refl) (bytes_spelled bs p.0 w)
+spelled_back c h label (view.text bs) p w n m l = operated label c (codes ".byte") (data_text (cut_text bs)) _ _ l refl (refl, refl) (text_spelled bs p.0 w)
+spelled_back c h label (view.words bs) p w n m l = operated label c (codes ".word") (words_text (low_words bs)) _ _ l refl (refl, refl) (words_spelled LittleEndian bs p.1.0 w)
+spelled_back c h label (view.dbyts bs) p w n m l = operated label c (codes ".dbyt") (words_text (high_words bs)) _ _ l refl (refl, refl) (words_spelled BigEndian bs p.1.0 w)
+spelled_back c h label (view.addr t) p w n m l = operated label c (codes ".addr") (named_text h t.name t.offset) _ _ l refl (refl, refl) (addr_spelled h t n w)
+spelled_back c h label (view.rts None) p w n m l = operated label c (codes ".word") (codes "$FFFF") _ _ l refl (refl, refl) no_target_spelled
+spelled_back c h label (view.rts (Some t)) p w n m l = operated label c (codes ".word") (return_text h (Some t)) _ _ l refl (refl, refl) (return_spelled h t n w)
+spelled_back c h None (view.label name) p w n m l = label_spelled name n
+spelled_back c h None (view.assignment name k) p w n m l = assignment_spelled c name k n w
+spelled_back c h None (view.forward name k) p w n m l = forward_spelled c h name k n w
+spelled_back c h None (view.set_cpu cpu) p w n m l = operated None c (codes ".setcpu") (quoted (cpu_text cpu)) (SetCpu (cpu_text cpu)) (string (cpu_text cpu) ∷ []) l refl (refl, refl) (cpu_spelled cpu)
+spelled_back c h None view.blank p w n m l = nothing
+spelled_back c h None (view.remark text) p w n m l = remark_spelled text
+spelled_back c h (Some name) _ p w n m l = absurd m.0
 
--- the line of a statement reads as that statement
-pub reads_back : (c : Columns) (s : StatementView) (r : RemarksView) → IsPrintable s → IsInWidth s → HasNames s → reading_of (parts (line_of c s r)) ≡ Some (statement_said s)
-reads_back c s r p w n = line_again (statement_said s) (parts (line_of c s r)) (spelled_back c s r p w n)
+-- the line of a statement reads as that statement with its label
+pub reads_back : (c : Columns) (s : StatementView) (r : RemarksView) → IsPrintable s → IsInWidth s → HasNames s → MayBeLabelled c r.label s → HasLabelName r.label
+    → reading_of (parts (line_of c s r)) ≡ Some (with_label r.label (source_line s))
+unfolding line_of
+reads_back c s r p w n m l = line_again (with_label r.label (source_line s)) (parts (line_of c s r)) (spelled_back c r.hexoffs r.label s p w n m l)

@@ -1,12 +1,14 @@
 -- What is read is spelled so.
-use Rattle.std.proofs.Common.{◌≡◌, ℕ, zero, suc, Bool, true, false, cond, append_assoc, List, [], ◌∷◌, ◌++◌, length, drop, Option, Some, None, refl, sym, ap, ◌∙◌, inl, inr}
+use Rattle.std.proofs.Common.{◌≡◌, ℕ, zero, suc, true, cond, append_assoc, List, [], ◌∷◌, ◌++◌, length, drop, Option, Some, None, refl, sym, ap, ◌∙◌, inl, inr}
 use Rattle.std.specs.Prelude.{codes, IfSome}
 use Rattle.std.proofs.lemmas.List.{append-nil}
 use Rattle.isa65.specs.Mnemonic.{text_of, mnemonic_named}
-use Rattle.stmt65.specs.Said.{Value, Form, Hash, Both, Operation, Instr, Data, Words, Dbyts, Addrs, SetCpu}
+use Rattle.stmt65.specs.declared.source_line.AddressSize.{AddressSize}
+use Rattle.stmt65.specs.declared.source_line.AddressSize.TheVariants.{Absolute, Automatic}
+use Rattle.stmt65.specs.SourceLine.{Value, Form, Immediate, Two, Operation, Instr, Data, Words, Dbyts, Addrs, SetCpu}
 use Rattle.stmt65.specs.Parts.{Part, Word, Number, Text, Define, Mark}
 use Rattle.stmt65.specs.Names.{same, has_name_form, is_name}
-use Rattle.stmt65.specs.Reading.{is_mark, is_define, is_word_here, is_number_here, number_in, ◌>>=◌, less_one, named_at, next_value, whole, tail_at, inner_at, form_of, joined, list_of, next_datum, text_in, data_of, segment_of, set_cpu_of, instruction_of, operation_at, operation_of, constant_of, line_at, reading_of}
+use Rattle.stmt65.specs.Reading.{is_absolute, is_mark, is_define, is_word_here, is_number_here, number_in, ◌>>=◌, less_one, named_at, next_value, whole, tail_at, inner_at, form_of, joined, list_of, next_datum, text_in, data_of, segment_of, set_cpu_of, instruction_of, operation_at, operation_of, constant_of, line_at, reading_of}
 use Rattle.stmt65.specs.Spelling.{Item, word, mark, define, name, number, string, quoted_name, value, data_list, value_list, IsPlus, IsValue, IsDatum, prefix_items, IsList, IsItem, Spells, form_items, operation_items, IsSpelling}
 use Rattle.stmt65.proofs.Cases.{by_test, by_option, by_list, mark_is, define_is, word_is, number_is, number_here_is, mnemonic_is}
 
@@ -85,24 +87,24 @@ at P o x e h = rw e at h
 -- ---- operands
 
 -- the items behind a value that stands first
-second_read : (prefix : Bool) (v : Value) (ps : List Part) → is_mark 44 ps ≡ true
-    → IfSome (cond prefix None (next_value (drop 1 ps) >>= λ w. whole (Both v w.0) w.1)) (λ f. (is : List Item) × (form_items f ≡ prefix_items prefix ++ value v ∷ is) × Spells is ps)
-second_read true v ps comma = tt
-second_read false v ps comma =
+second_read : (size : AddressSize) (v : Value) (ps : List Part) → is_mark 44 ps ≡ true
+    → IfSome (cond (is_absolute size) None (next_value (drop 1 ps) >>= λ w. whole (Two v w.0) w.1)) (λ f. (is : List Item) × (form_items f ≡ prefix_items size ++ value v ∷ is) × Spells is ps)
+second_read Absolute v ps comma = tt
+second_read Automatic v ps comma =
     by_option (next_value (drop 1 ps))
     (λ w e. let f = at (λ w. Fronts (IsValue w.0) (drop 1 ps) w.1) (next_value (drop 1 ps)) w e (value_read (drop 1 ps)) in
     rw e (by_list w.1 (λ end. rw end (mark 44 ∷ value w.0 ∷ [], refl, at_mark 44 _ ps comma (at_value w.0 [] (drop 1 ps) w.1 f (rw end at_end)))) (λ q qs e. rw e tt)))
     (λ e. rw e tt)
 
-tail_read : (prefix : Bool) (v : Value) (ps : List Part) → IfSome (tail_at prefix v ps) (λ f. (is : List Item) × (form_items f ≡ prefix_items prefix ++ value v ∷ is) × Spells is ps)
+tail_read : (size : AddressSize) (v : Value) (ps : List Part) → IfSome (tail_at size v ps) (λ f. (is : List Item) × (form_items f ≡ prefix_items size ++ value v ∷ is) × Spells is ps)
 unfolding tail_at
-tail_read prefix v ps =
+tail_read size v ps =
     by_test (is_mark 44 ps)
     (λ comma. rw comma (by_test (is_word_here (codes "x") (drop 1 ps))
     (λ x. rw x (by_list (drop 1 (drop 1 ps)) (λ end. rw end (mark 44 ∷ word (codes "x") ∷ [], refl, at_mark 44 _ ps comma (at_word (codes "x") [] (drop 1 ps) x (rw end at_end)))) (λ q qs e. rw e tt)))
     (λ x. rw x (by_test (is_word_here (codes "y") (drop 1 ps))
     (λ y. rw y (by_list (drop 1 (drop 1 ps)) (λ end. rw end (mark 44 ∷ word (codes "y") ∷ [], refl, at_mark 44 _ ps comma (at_word (codes "y") [] (drop 1 ps) y (rw end at_end)))) (λ q qs e. rw e tt)))
-    (λ y. rw y (second_read prefix v ps comma))))))
+    (λ y. rw y (second_read size v ps comma))))))
     (λ comma. rw comma (by_list ps (λ end. rw end ([], refl, at_end)) (λ q qs e. rw e tt)))
 
 -- the items behind `(` and a value
@@ -147,7 +149,7 @@ joins : (o : Option Form) (before : List Item) (ps full : List Part)
 joins None before ps full h g = tt
 joins (Some f) before ps full h g = rw g.1 (h g.0 g.2)
 
-hash_read : (v : Value) (ps : List Part) → IfSome (whole (Hash v) ps) (λ f. (is : List Item) × (form_items f ≡ (mark 35 ∷ []) ++ value v ∷ is) × Spells is ps)
+hash_read : (v : Value) (ps : List Part) → IfSome (whole (Immediate v) ps) (λ f. (is : List Item) × (form_items f ≡ (mark 35 ∷ []) ++ value v ∷ is) × Spells is ps)
 hash_read v [] = ([], refl, at_end)
 hash_read v (p ∷ ps) = tt
 
@@ -155,16 +157,16 @@ pub form_read : (ps : List Part) → IfSome (form_of ps) (λ f. Spells (form_ite
 unfolding form_of
 form_read ps =
     by_test (is_mark 35 ps)
-    (λ hash. rw hash (joins _ (mark 35 ∷ []) (drop 1 ps) ps (λ is h. at_mark 35 is ps hash h) (value_then (drop 1 ps) (λ v rest. whole (Hash v) rest) (mark 35 ∷ []) hash_read)))
+    (λ hash. rw hash (joins _ (mark 35 ∷ []) (drop 1 ps) ps (λ is h. at_mark 35 is ps hash h) (value_then (drop 1 ps) (λ v rest. whole (Immediate v) rest) (mark 35 ∷ []) hash_read)))
     (λ hash. rw hash (by_test (is_mark 40 ps)
     (λ paren. rw paren (joins _ (mark 40 ∷ []) (drop 1 ps) ps (λ is h. at_mark 40 is ps paren h) (value_then (drop 1 ps) inner_at (mark 40 ∷ []) inner_read)))
     (λ paren. rw paren (by_test (is_word_here (codes "a") ps)
     (λ a. rw a (by_test (is_mark 58 (drop 1 ps))
-    (λ colon. rw colon (joins _ (prefix_items true) (drop 1 (drop 1 ps)) ps (λ is h. at_word (codes "a") _ ps a (at_mark 58 is (drop 1 ps) colon h)) (value_then (drop 1 (drop 1 ps)) (tail_at true) (prefix_items true) (tail_read true))))
+    (λ colon. rw colon (joins _ (prefix_items Absolute) (drop 1 (drop 1 ps)) ps (λ is h. at_word (codes "a") _ ps a (at_mark 58 is (drop 1 ps) colon h)) (value_then (drop 1 (drop 1 ps)) (tail_at Absolute) (prefix_items Absolute) (tail_read Absolute))))
     (λ colon. rw colon (by_list (drop 1 ps) (λ end. rw end (at_word (codes "a") [] ps a (rw end at_end))) (λ q qs e. rw e tt)))))
     (λ a. rw a (by_list ps
     (λ end. rw end at_end)
-    (λ q qs e. rw e (joins _ [] (q ∷ qs) (q ∷ qs) (λ is h. h) (value_then (q ∷ qs) (tail_at false) [] (tail_read false))))))))))
+    (λ q qs e. rw e (joins _ [] (q ∷ qs) (q ∷ qs) (λ is h. h) (value_then (q ∷ qs) (tail_at Automatic) [] (tail_read Automatic))))))))))
 
 -- ---- lists
 

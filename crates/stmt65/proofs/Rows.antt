@@ -1,31 +1,91 @@
 -- The definitions at lines of listings.
-use Rattle.std.proofs.Common.{◌≡◌, true, false, [], ◌∷◌, refl}
-use Rattle.std.specs.Prelude.{codes}
+use Rattle.std.proofs.Common.{◌≡◌, ℕ, Bool, true, false, List, [], ◌∷◌, ◌++◌, Option, Some, None, refl}
+use Rattle.std.specs.Prelude.{codes, decimal}
 use Rattle.isa65.specs.declared.cpu.Cpu.TheVariants.{M6502}
-use Rattle.isa65.specs.declared.mnemonic.Mnemonic.TheVariants.{Lda, Sta}
-use Rattle.isa65.specs.declared.mode.Mode.TheVariants.{Abs, Absy}
+use Rattle.isa65.specs.declared.mnemonic.Mnemonic.TheVariants.{Bne, Lda, Sta}
+use Rattle.isa65.specs.declared.mode.Mode.TheVariants.{Imm, Abs, Absy, Rel}
 use Rattle.stmt65.specs.Columns.{default_columns}
 use Rattle.stmt65.specs.Line.{filled, line_of}
 use Rattle.stmt65.specs.Operands.{operand_text}
 use Rattle.stmt65.specs.Statements.{data_text, words_text}
-use Rattle.stmt65.specs.Tables.{low_words, high_words, text_said}
-use Rattle.stmt65.specs.Views.{RemarksView}
+use Rattle.stmt65.specs.Tables.{low_words, high_words, cut_text}
+use Rattle.stmt65.specs.Views.{RemarksView, StatementView, TargetView}
 use Rattle.stmt65.specs.Views as view
 
-row : (r : RemarksView) → line_of default_columns (view.instr (record { mnemonic = Lda; mode = Abs }) true (view.one (view.number 0x12))) r ≡ codes "        lda     a:$0012"
-unfolding line_of filled operand_text
-row r = refl
+-- remarks of level 0, with this label
+remarks : Bool → Option (List ℕ) → RemarksView
+remarks hexoffs label = record { level = 0; hexoffs = hexoffs; address = 0x1000; bytes = []; label = label }
 
-row_y : (r : RemarksView) → line_of default_columns (view.instr (record { mnemonic = Sta; mode = Absy }) false (view.one (view.number 0x12))) r ≡ codes "        sta     $0012,y"
-unfolding line_of filled operand_text
-row_y r = refl
+-- the line of a statement, of a statement with a label, and with offsets in hex digits
+shown : StatementView → List ℕ
+unfolding remarks
+shown s = line_of default_columns s (remarks false None)
 
-set_cpu : (r : RemarksView) → line_of default_columns (view.set_cpu M6502) r ≡ codes "        .setcpu \"6502\""
-unfolding line_of filled
-set_cpu r = refl
+labelled : List ℕ → StatementView → List ℕ
+unfolding remarks
+labelled name s = line_of default_columns s (remarks false (Some name))
 
-text : data_text (text_said (0x48 ∷ 0x22 ∷ 0x5C ∷ 0x49 ∷ 0x0D ∷ [])) ≡ codes "\"H\",$22,$5C,\"I\",$0D"
-unfolding data_text text_said
+hex_shown : StatementView → List ℕ
+unfolding remarks
+hex_shown s = line_of default_columns s (remarks true None)
+
+target : List ℕ → ℕ → TargetView
+target name offset = record { name = name; offset = offset }
+
+row : shown (view.instr (record { mnemonic = Lda; mode = Abs }) true (view.one (view.number 0x12))) ≡ codes "        lda     a:$0012"
+unfolding shown remarks line_of filled operand_text
+row = refl
+
+row_y : shown (view.instr (record { mnemonic = Sta; mode = Absy }) false (view.one (view.number 0x12))) ≡ codes "        sta     $0012,y"
+unfolding shown remarks line_of filled operand_text
+row_y = refl
+
+set_cpu : shown (view.set_cpu M6502) ≡ codes "        .setcpu \"6502\""
+unfolding shown remarks line_of filled
+set_cpu = refl
+
+branch_to_itself : labelled (codes "L1000") (view.instr (record { mnemonic = Bne; mode = Rel }) false (view.one (view.name (codes "L1000") 0))) ≡ codes "L1000:  bne     L1000"
+unfolding labelled remarks line_of filled operand_text
+branch_to_itself = refl
+
+long_label : shown (view.label (codes "longname")) ≡ codes "longname:"
+unfolding shown remarks line_of filled
+long_label = refl
+
+label_of_seven_bytes : labelled (codes "chrout7") (view.instr (record { mnemonic = Lda; mode = Imm }) false (view.one (view.number 1))) ≡ codes "chrout7: lda    #$01"
+unfolding labelled remarks line_of filled operand_text
+label_of_seven_bytes = refl
+
+assignment : shown (view.assignment (codes "buf") 0xFE) ≡ codes "buf             := $00FE"
+unfolding shown remarks line_of filled
+assignment = refl
+
+forward : shown (view.forward (codes "L1001") 1) ≡ codes "L1001           := * + " ++ decimal 1
+unfolding shown remarks line_of filled
+forward = refl
+
+forward_in_hex : hex_shown (view.forward (codes "L1001") 1) ≡ codes "L1001           := * + $0001"
+unfolding hex_shown remarks line_of filled
+forward_in_hex = refl
+
+address_entry : shown (view.addr (target (codes "L2002") 0)) ≡ codes "        .addr   L2002"
+unfolding shown target remarks line_of filled
+address_entry = refl
+
+address_entry_in_hex : hex_shown (view.addr (target (codes "L2002") 1)) ≡ codes "        .addr   L2002+$01"
+unfolding hex_shown target remarks line_of filled
+address_entry_in_hex = refl
+
+return_entry : shown (view.rts (Some (target (codes "L1000") 0))) ≡ codes "        .word   L1000-1"
+unfolding shown target remarks line_of filled
+return_entry = refl
+
+last_return_entry : labelled (codes "L1000") (view.rts None) ≡ codes "L1000:  .word   $FFFF"
+unfolding labelled remarks line_of filled
+last_return_entry = refl
+
+text : data_text (cut_text (0x48 ∷ 0x22 ∷ 0x5C ∷ 0x49 ∷ 0x0D ∷ [])) ≡ codes "\"H\",$22,$5C,\"I\",$0D"
+unfolding data_text cut_text
 text = refl
 
 words : words_text (low_words (0x01 ∷ 0x02 ∷ 0x03 ∷ 0x04 ∷ [])) ≡ codes "$0201,$0403"

@@ -1,13 +1,17 @@
 -- What is spelled so is read.
-use Rattle.std.proofs.Common.{◌≡◌, ℕ, zero, suc, Bool, true, false, eqb, List, [], ◌∷◌, ◌++◌, length, ◌≤◌, Option, Some, None, refl, sym, ap, ◌∙◌, arith, inl, inr, append_assoc}
+use Rattle.std.proofs.Common.{◌≡◌, ℕ, zero, suc, true, false, eqb, List, [], ◌∷◌, ◌++◌, length, ◌≤◌, Option, Some, None, refl, sym, ap, ◌∙◌, arith, inl, inr, append_assoc}
 use Rattle.std.specs.Prelude.{codes}
 use Rattle.std.proofs.lemmas.List.{append-nil, length-append}
 use Rattle.isa65.specs.Mnemonic.{text_of}
-use Rattle.stmt65.specs.Said.{Value, Plain, Named, Form, Empty, Accumulator, Hash, Straight, WithX, WithY, Both, Indirect, IndirectX, IndirectY, Datum, Byte, Bytes, Operation, Nothing, Instr, Data, Words, Dbyts, Addrs, Segment, Code, SetCpu, Said, Constant, Here, Stated}
+use Rattle.stmt65.specs.declared.source_line.AddressSize.{AddressSize}
+use Rattle.stmt65.specs.declared.source_line.AddressSize.TheVariants.{Absolute, Automatic}
+use Rattle.stmt65.specs.declared.source_line.Minus.{Minus}
+use Rattle.stmt65.specs.declared.source_line.Minus.TheVariants.{Zero, One}
+use Rattle.stmt65.specs.SourceLine.{Value, NumberValue, NameValue, Form, Empty, Accumulator, Immediate, Direct, DirectX, DirectY, Two, Indirect, IndirectX, IndirectY, Datum, NumberDatum, StringDatum, Operation, Nothing, Instr, Data, Words, Dbyts, Addrs, Segment, Code, SetCpu, SourceLine, Assignment, PlaceAssignment, Statement}
 use Rattle.stmt65.specs.Parts.{Part, Word, Number, Define, Mark, number_of}
 use Rattle.stmt65.specs.Names.{same, is_name}
 use Rattle.stmt65.specs.Reading.{is_mark, is_define, is_word_here, is_nil, less_one, named_at, next_value, tail_at, inner_at, form_of, joined, next_datum, text_in, operation_at, operation_of, constant_of, line_at, reading_of}
-use Rattle.stmt65.specs.Spelling.{Item, word, mark, define, name, number, string, quoted_name, value, data_list, value_list, IsPlus, IsLess, IsValue, IsDatum, prefix_items, IsList, IsItem, Spells, form_items, operation_items, IsSpelling}
+use Rattle.stmt65.specs.Spelling.{Item, word, mark, define, name, number, string, quoted_name, value, data_list, value_list, IsPlus, IsMinus, IsValue, IsDatum, prefix_items, IsList, IsItem, Spells, form_items, operation_items, IsSpelling}
 use Rattle.stmt65.proofs.Cases.{other, no_letter, no_dot, mnemonic_again}
 
 -- ---- items in front
@@ -57,24 +61,24 @@ stops_nil = record { plus = refl; minus = refl }
 stops_mark : (b : ℕ) (ps : List Part) → eqb b 43 ≡ false → eqb b 45 ≡ false → Stops (Mark b ∷ ps)
 stops_mark b ps p m = record { plus = p; minus = m }
 
-less_again : (w : List ℕ) (n : ℕ) (less : Bool) (minus rest : List Part) → IsLess less minus → Stops rest → less_one w n (minus ++ rest) ≡ Some (Named w n less, rest)
+less_again : (w : List ℕ) (n : ℕ) (less : Minus) (minus rest : List Part) → IsMinus less minus → Stops rest → less_one w n (minus ++ rest) ≡ Some (NameValue w n less, rest)
 unfolding less_one
-less_again w n true minus rest h stop = rw h refl
-less_again w n false minus rest h stop = rw h (rw stop.minus refl)
+less_again w n One minus rest h stop = rw h refl
+less_again w n Zero minus rest h stop = rw h (rw stop.minus refl)
 
-no_plus : (less : Bool) (minus rest : List Part) → IsLess less minus → Stops rest → is_mark 43 (minus ++ rest) ≡ false
-no_plus true minus rest h stop = rw h refl
-no_plus false minus rest h stop = rw h stop.plus
+no_plus : (less : Minus) (minus rest : List Part) → IsMinus less minus → Stops rest → is_mark 43 (minus ++ rest) ≡ false
+no_plus One minus rest h stop = rw h refl
+no_plus Zero minus rest h stop = rw h stop.plus
 
-named_again : (w : List ℕ) (n : ℕ) (less : Bool) (plus minus rest : List Part) → IsPlus n plus → IsLess less minus → Stops rest → named_at w (plus ++ (minus ++ rest)) ≡ Some (Named w n less, rest)
+named_again : (w : List ℕ) (n : ℕ) (less : Minus) (plus minus rest : List Part) → IsPlus n plus → IsMinus less minus → Stops rest → named_at w (plus ++ (minus ++ rest)) ≡ Some (NameValue w n less, rest)
 unfolding named_at
 named_again w n less plus minus rest (inl e) h stop = rw (e.0, e.1) (rw (no_plus less minus rest h stop) (less_again w 0 less minus rest h stop))
 named_again w n less plus minus rest (inr e) h stop = rw (e.2, ← e.1) (less_again w n less minus rest h stop)
 
 pub value_again : (v : Value) (front rest : List Part) → IsValue v front → Stops rest → next_value (front ++ rest) ≡ Some (v, rest)
 unfolding next_value
-value_again (Plain n) front rest h stop = rw (h.2, ← h.1) refl
-value_again (Named w n less) front rest h stop = rw (h.2, append_assoc h.0 h.1 rest) (rw h.3 (named_again w n less h.0 h.1 rest h.4 h.5 stop))
+value_again (NumberValue n) front rest h stop = rw (h.2, ← h.1) refl
+value_again (NameValue w n less) front rest h stop = rw (h.2, append_assoc h.0 h.1 rest) (rw h.3 (named_again w n less h.0 h.1 rest h.4 h.5 stop))
 
 -- what begins with a value begins with no mark, no `:=` and no letter
 record Begins (ps : List Part) : Type 0 where
@@ -89,11 +93,11 @@ word_begins : (w : List ℕ) (rest : List Part) → is_name w ≡ true → Begin
 word_begins w rest h = let n = no_letter w h in record { mark = λ b. refl; define = refl; a = n.0; x = n.1; y = n.2; some = refl }
 
 value_begins : (v : Value) (front rest : List Part) → IsValue v front → Begins (front ++ rest)
-value_begins (Plain n) front rest h = rw h.2 (record { mark = λ b. refl; define = refl; a = refl; x = refl; y = refl; some = refl })
-value_begins (Named w n less) front rest h = rw h.2 (word_begins w ((h.0 ++ h.1) ++ rest) h.3)
+value_begins (NumberValue n) front rest h = rw h.2 (record { mark = λ b. refl; define = refl; a = refl; x = refl; y = refl; some = refl })
+value_begins (NameValue w n less) front rest h = rw h.2 (word_begins w ((h.0 ++ h.1) ++ rest) h.3)
 
 -- a value that stands first in an operand
-first_value : (v : Value) (front rest : List Part) → IsValue v front → Stops rest → form_of (front ++ rest) ≡ tail_at false v rest
+first_value : (v : Value) (front rest : List Part) → IsValue v front → Stops rest → form_of (front ++ rest) ≡ tail_at Automatic v rest
 unfolding form_of
 first_value v front rest h stop =
     let b = value_begins v front rest h in rw (b.mark 35, b.mark 40, b.a, b.some, value_again v front rest h stop) refl
@@ -101,15 +105,15 @@ first_value v front rest h stop =
 -- ---- operands
 
 -- an operand that begins with a value, with or without `a:`
-straight : (prefix : Bool) (v : Value) (is : List Item) (ps : List Part) (f : Form)
-    → Spells (prefix_items prefix ++ value v ∷ is) ps
-    → ((rest : List Part) → Spells is rest → Stops rest × (tail_at prefix v rest ≡ Some f))
+direct : (size : AddressSize) (v : Value) (is : List Item) (ps : List Part) (f : Form)
+    → Spells (prefix_items size ++ value v ∷ is) ps
+    → ((rest : List Part) → Spells is rest → Stops rest × (tail_at size v rest ≡ Some f))
     → form_of ps ≡ Some f
 unfolding form_of
-straight true v is ps f h k =
+direct Absolute v is ps f h k =
     let a = un_word (codes "a") _ ps h in let c = un_mark 58 _ a.1 a.4 in let e = un_value v is c.0 c.2 in let t = k e.1 e.4 in
     rw (a.2, c.1, e.2, a.3, value_again v e.0 e.1 e.3 t.0) t.1
-straight false v is ps f h k =
+direct Automatic v is ps f h k =
     let e = un_value v is ps h in let t = k e.1 e.4 in
     rw e.2 (first_value v e.0 e.1 e.3 t.0 ∙ t.1)
 
@@ -127,18 +131,18 @@ pub form_again : (f : Form) (ps : List Part) → Spells (form_items f) ps → fo
 unfolding form_of tail_at inner_at
 form_again Empty ps h = rw (nothing_left ps h) refl
 form_again Accumulator ps h = let a = un_word (codes "a") [] ps h in rw (a.2, nothing_left a.1 a.4, a.3) refl
-form_again (Hash v) ps h =
+form_again (Immediate v) ps h =
     let m = un_mark 35 _ ps h in let e = un_value v [] m.0 m.2 in
     rw (m.1, e.2, nothing_left e.1 e.4, value_again v e.0 [] e.3 stops_nil) refl
-form_again (Straight prefix v) ps h = straight prefix v [] ps _ h (λ rest g. rw (nothing_left rest g) (stops_nil, refl))
-form_again (WithX prefix v) ps h =
-    straight prefix v _ ps _ h (λ rest g. let c = un_mark 44 _ rest g in let x = un_word (codes "x") [] c.0 c.2 in
+form_again (Direct size v) ps h = direct size v [] ps _ h (λ rest g. rw (nothing_left rest g) (stops_nil, refl))
+form_again (DirectX size v) ps h =
+    direct size v _ ps _ h (λ rest g. let c = un_mark 44 _ rest g in let x = un_word (codes "x") [] c.0 c.2 in
     rw (c.1, x.2, nothing_left x.1 x.4) (stops_mark 44 _ refl refl, rw x.3 refl))
-form_again (WithY prefix v) ps h =
-    straight prefix v _ ps _ h (λ rest g. let c = un_mark 44 _ rest g in let y = un_word (codes "y") [] c.0 c.2 in
+form_again (DirectY size v) ps h =
+    direct size v _ ps _ h (λ rest g. let c = un_mark 44 _ rest g in let y = un_word (codes "y") [] c.0 c.2 in
     rw (c.1, y.2, nothing_left y.1 y.4) (stops_mark 44 _ refl refl, rw (other y.0 (codes "y") (codes "x") y.3 refl, y.3) refl))
-form_again (Both v u) ps h =
-    straight false v _ ps _ h (λ rest g. let c = un_mark 44 _ rest g in let e = un_value u [] c.0 c.2 in let b = value_begins u e.0 [] e.3 in
+form_again (Two v u) ps h =
+    direct Automatic v _ ps _ h (λ rest g. let c = un_mark 44 _ rest g in let e = un_value u [] c.0 c.2 in let b = value_begins u e.0 [] e.3 in
     rw (c.1, e.2, nothing_left e.1 e.4) (stops_mark 44 _ refl refl, rw (b.x, b.y, value_again u e.0 [] e.3 stops_nil) refl))
 form_again (Indirect v) ps h =
     bracketed v _ ps _ h (λ rest g. let c = un_mark 41 [] rest g in rw (c.1, nothing_left c.0 c.2) (stops_mark 41 _ refl refl, refl))
@@ -153,8 +157,8 @@ form_again (IndirectY v) ps h =
 
 datum_again : (x : Datum) (front rest : List Part) → IsDatum x front → Stops rest → next_datum (front ++ rest) ≡ Some (x, rest)
 unfolding next_datum
-datum_again (Byte n) front rest h stop = rw (h.2, ← h.1) refl
-datum_again (Bytes t) front rest h stop = rw h refl
+datum_again (NumberDatum n) front rest h stop = rw (h.2, ← h.1) refl
+datum_again (StringDatum t) front rest h stop = rw h refl
 
 joined_again : {A : Type 0} (Is : A → List Part → Type 0) (read : List Part → Option (A × List Part))
     → ((x : A) (front rest : List Part) → Is x front → Stops rest → read (front ++ rest) ≡ Some (x, rest))
@@ -217,18 +221,18 @@ mark_plain b is ps e h = let m = un_mark b is ps h in rw m.1 (record { colon = e
 word_plain : (text : List ℕ) (is : List Item) (ps : List Part) → Spells (word text ∷ is) ps → IsPlain ps
 word_plain text is ps h = let w = un_word text is ps h in rw w.2 (record { colon = refl; define = refl })
 
-prefix_plain : (prefix : Bool) (v : Value) (is : List Item) (ps : List Part) → Spells (prefix_items prefix ++ value v ∷ is) ps → IsPlain ps
-prefix_plain true v is ps h = word_plain (codes "a") _ ps h
-prefix_plain false v is ps h = value_plain v is ps h
+prefix_plain : (size : AddressSize) (v : Value) (is : List Item) (ps : List Part) → Spells (prefix_items size ++ value v ∷ is) ps → IsPlain ps
+prefix_plain Absolute v is ps h = word_plain (codes "a") _ ps h
+prefix_plain Automatic v is ps h = value_plain v is ps h
 
 form_plain : (f : Form) (ps : List Part) → Spells (form_items f) ps → IsPlain ps
 form_plain Empty ps h = rw (nothing_left ps h) (record { colon = refl; define = refl })
 form_plain Accumulator ps h = word_plain (codes "a") [] ps h
-form_plain (Hash v) ps h = mark_plain 35 _ ps refl h
-form_plain (Straight prefix v) ps h = prefix_plain prefix v _ ps h
-form_plain (WithX prefix v) ps h = prefix_plain prefix v _ ps h
-form_plain (WithY prefix v) ps h = prefix_plain prefix v _ ps h
-form_plain (Both v u) ps h = value_plain v _ ps h
+form_plain (Immediate v) ps h = mark_plain 35 _ ps refl h
+form_plain (Direct size v) ps h = prefix_plain size v _ ps h
+form_plain (DirectX size v) ps h = prefix_plain size v _ ps h
+form_plain (DirectY size v) ps h = prefix_plain size v _ ps h
+form_plain (Two v u) ps h = value_plain v _ ps h
 form_plain (Indirect v) ps h = mark_plain 40 _ ps refl h
 form_plain (IndirectX v) ps h = mark_plain 40 _ ps refl h
 form_plain (IndirectY v) ps h = mark_plain 40 _ ps refl h
@@ -239,18 +243,18 @@ list_plain Is plain (x ∷ []) ps h = rw (sym (append-nil ps)) (plain x ps [] h)
 list_plain Is plain (x ∷ y ∷ ys) ps h = rw h.2 (plain x h.0 (Mark 44 ∷ h.1) h.3)
 
 datum_plain : (x : Datum) (front rest : List Part) → IsDatum x front → IsPlain (front ++ rest)
-datum_plain (Byte n) front rest h = rw h.2 (record { colon = refl; define = refl })
-datum_plain (Bytes t) front rest h = rw h (record { colon = refl; define = refl })
+datum_plain (NumberDatum n) front rest h = rw h.2 (record { colon = refl; define = refl })
+datum_plain (StringDatum t) front rest h = rw h (record { colon = refl; define = refl })
 
 value_front_plain : (v : Value) (front rest : List Part) → IsValue v front → IsPlain (front ++ rest)
 value_front_plain v front rest h = begins_plain (front ++ rest) (value_begins v front rest h)
 
 -- an operation without a label
-unlabelled : (o : Operation) (w : List ℕ) (rest : List Part) → IsPlain rest → operation_of (Word w ∷ rest) ≡ Some o → reading_of (Word w ∷ rest) ≡ Some (Stated None o)
+unlabelled : (o : Operation) (w : List ℕ) (rest : List Part) → IsPlain rest → operation_of (Word w ∷ rest) ≡ Some o → reading_of (Word w ∷ rest) ≡ Some (Statement None o)
 unfolding reading_of line_at operation_of
 unlabelled o w rest p e = rw (p.colon, p.define, e) refl
 
-stated_again : (o : Operation) (ps : List Part) → Spells (operation_items o) ps → reading_of ps ≡ Some (Stated None o)
+stated_again : (o : Operation) (ps : List Part) → Spells (operation_items o) ps → reading_of ps ≡ Some (Statement None o)
 unfolding reading_of
 stated_again Nothing ps h = rw (nothing_left ps h) refl
 stated_again (Instr m f) ps h =
@@ -278,18 +282,18 @@ stated_again (SetCpu t) ps h =
     let w = un_word (codes ".setcpu") (string t ∷ []) ps h in
     rw w.2 (unlabelled (SetCpu t) w.0 w.1 (rw (un_last (string t) w.1 w.4) (record { colon = refl; define = refl })) (rw w.2 at (operation_again (SetCpu t) ps h)))
 
-pub line_again : (r : Said) (ps : List Part) → IsSpelling r ps → reading_of ps ≡ Some r
+pub line_again : (r : SourceLine) (ps : List Part) → IsSpelling r ps → reading_of ps ≡ Some r
 unfolding reading_of line_at constant_of
-line_again (Constant w n) ps h =
+line_again (Assignment w n) ps h =
     let name = un_name w _ ps h in let d = un_define _ name.0 name.3 in
     let t = un_number n d.0 d.2 in
     rw (name.1, d.1, t.2) (rw (name.2, ← t.1) refl)
-line_again (Here w n) ps h =
+line_again (PlaceAssignment w n) ps h =
     let name = un_name w _ ps h in let d = un_define _ name.0 name.3 in
     let star = un_mark 42 _ d.0 d.2 in let plus = un_mark 43 _ star.0 star.2 in
     let t = un_number n plus.0 plus.2 in
     rw (name.1, d.1, star.1, plus.1, t.2) (rw (name.2, ← t.1) refl)
-line_again (Stated None o) ps h = stated_again o ps h
-line_again (Stated (Some w) o) ps h =
+line_again (Statement None o) ps h = stated_again o ps h
+line_again (Statement (Some w) o) ps h =
     let name = un_name w _ ps h in let colon = un_mark 58 _ name.0 name.3 in
     rw (name.1, colon.1) (rw (name.2, operation_again o colon.0 colon.2) refl)

@@ -1,10 +1,10 @@
 -- The words and the stretches of a table, from the front on.
 use Rattle.std.proofs.Common.{◌≡◌, ℕ, suc, Bool, true, false, ◌+◌, ◌≤◌, List, [], ◌∷◌, ◌++◌, length, drop, refl, ap, ◌∙◌, arith}
 use Rattle.std.specs.List.{prefix_len, list_all}
-use Rattle.stmt65.specs.Said.{Byte, Bytes}
-use Rattle.stmt65.specs.Tables.{low_words, high_words, words_in, word_of, is_plain, onto_stretch, text_said}
+use Rattle.stmt65.specs.SourceLine.{NumberDatum, StringDatum}
+use Rattle.stmt65.specs.Tables.{low_words, high_words, words_in, word_of, is_plain, onto_stretch, cut_text}
 use Rattle.stmt65.specs.declared.coding.ByteOrder.{ByteOrder}
-use Rattle.stmt65.specs.declared.coding.ByteOrder.TheVariants.{LowFirst, HighFirst}
+use Rattle.stmt65.specs.declared.coding.ByteOrder.TheVariants.{LittleEndian, BigEndian}
 use Rattle.stmt65.proofs.Cases.{both}
 use Rattle.stmt65.proofs.Lexed.{begins}
 
@@ -12,47 +12,47 @@ use Rattle.stmt65.proofs.Lexed.{begins}
 
 pub words_nil : (o : ByteOrder) → words_in o [] ≡ []
 unfolding low_words high_words
-words_nil LowFirst = refl
-words_nil HighFirst = refl
+words_nil LittleEndian = refl
+words_nil BigEndian = refl
 
 pub words_one : (o : ByteOrder) (b : ℕ) → words_in o (b ∷ []) ≡ []
 unfolding low_words high_words
-words_one LowFirst b = refl
-words_one HighFirst b = refl
+words_one LittleEndian b = refl
+words_one BigEndian b = refl
 
 pub words_more : (o : ByteOrder) (a b : ℕ) (bs : List ℕ) → words_in o (a ∷ b ∷ bs) ≡ word_of o a b ∷ words_in o bs
 unfolding low_words high_words
-words_more LowFirst a b bs = refl
-words_more HighFirst a b bs = refl
+words_more LittleEndian a b bs = refl
+words_more BigEndian a b bs = refl
 
 -- ---- text
 
-pub said_nil : text_said [] ≡ []
-unfolding text_said
-said_nil = refl
+pub cut_nil : cut_text [] ≡ []
+unfolding cut_text
+cut_nil = refl
 
 -- a byte that is not plain
-pub said_single : (b : ℕ) (bs : List ℕ) → is_plain b ≡ false → text_said (b ∷ bs) ≡ Byte b ∷ text_said bs
-unfolding text_said
-said_single b bs h = rw h refl
+pub cut_single : (b : ℕ) (bs : List ℕ) → is_plain b ≡ false → cut_text (b ∷ bs) ≡ NumberDatum b ∷ cut_text bs
+unfolding cut_text
+cut_single b bs h = rw h refl
 
 -- a plain byte
-pub said_onto : (b : ℕ) (bs : List ℕ) → is_plain b ≡ true → text_said (b ∷ bs) ≡ onto_stretch b (text_said bs)
-unfolding text_said
-said_onto b bs h = rw h refl
+pub cut_onto : (b : ℕ) (bs : List ℕ) → is_plain b ≡ true → cut_text (b ∷ bs) ≡ onto_stretch b (cut_text bs)
+unfolding cut_text
+cut_onto b bs h = rw h refl
 
 -- the last byte of a stretch
-said_last : (b : ℕ) (rest : List ℕ) → is_plain b ≡ true → begins is_plain rest ≡ false → text_said (b ∷ rest) ≡ Bytes (b ∷ []) ∷ text_said rest
-said_last b [] h e = said_onto b [] h ∙ rw said_nil refl
-said_last b (c ∷ cs) h e = said_onto b (c ∷ cs) h ∙ rw (said_single c cs e) refl
+cut_last : (b : ℕ) (rest : List ℕ) → is_plain b ≡ true → begins is_plain rest ≡ false → cut_text (b ∷ rest) ≡ StringDatum (b ∷ []) ∷ cut_text rest
+cut_last b [] h e = cut_onto b [] h ∙ rw cut_nil refl
+cut_last b (c ∷ cs) h e = cut_onto b (c ∷ cs) h ∙ rw (cut_single c cs e) refl
 
 -- a stretch that is as long as can be
-pub said_stretch : (t rest : List ℕ) → 1 ≤ length t → list_all is_plain t ≡ true → begins is_plain rest ≡ false → text_said (t ++ rest) ≡ Bytes t ∷ text_said rest
-said_stretch [] rest lt h e = absurd (omega arith)
-said_stretch (b ∷ []) rest lt h e = said_last b rest (both (is_plain b) true h).0 e
-said_stretch (b ∷ c ∷ t) rest lt h e =
+pub cut_stretch : (t rest : List ℕ) → 1 ≤ length t → list_all is_plain t ≡ true → begins is_plain rest ≡ false → cut_text (t ++ rest) ≡ StringDatum t ∷ cut_text rest
+cut_stretch [] rest lt h e = absurd (omega arith)
+cut_stretch (b ∷ []) rest lt h e = cut_last b rest (both (is_plain b) true h).0 e
+cut_stretch (b ∷ c ∷ t) rest lt h e =
     let p = both (is_plain b) (list_all is_plain (c ∷ t)) h in
-    said_onto b (c ∷ (t ++ rest)) p.0 ∙ ap (onto_stretch b) (said_stretch (c ∷ t) rest (omega arith) p.1 e)
+    cut_onto b (c ∷ (t ++ rest)) p.0 ∙ ap (onto_stretch b) (cut_stretch (c ∷ t) rest (omega arith) p.1 e)
 
 -- where a run ends, what follows does not pass
 pub run_ends : (p : ℕ → Bool) (xs : List ℕ) → begins p (drop (prefix_len p xs) xs) ≡ false

@@ -4,12 +4,12 @@ use Rattle.std.specs.List.{prefix_len, flat_map}
 use Rattle.std.proofs.lemmas.List.{append-nil, take-append-drop, length-take-le}
 use Rattle.std.proofs.lemmas.List.Sums.{prefix_len-le-length}
 use Rattle.stmt65.specs.declared.coding.ByteOrder.{ByteOrder}
-use Rattle.stmt65.specs.Said.{Datum, Byte, Bytes}
+use Rattle.stmt65.specs.SourceLine.{Datum, NumberDatum, StringDatum}
 use Rattle.stmt65.specs.Digits.{hex2, hex4}
 use Rattle.stmt65.specs.Statements.{data_text, datum_behind, words_text, word_behind, quoted}
-use Rattle.stmt65.specs.Tables.{words_in, word_of, is_plain, text_said}
+use Rattle.stmt65.specs.Tables.{words_in, word_of, is_plain, cut_text}
 use Rattle.stmt65.proofs.SpacingLemmas.{run_passes}
-use Rattle.stmt65.proofs.TableLists.{words_nil, words_one, words_more, said_nil, said_single, said_stretch, run_ends}
+use Rattle.stmt65.proofs.TableLists.{words_nil, words_one, words_more, cut_nil, cut_single, cut_stretch, run_ends}
 
 -- ---- words
 
@@ -41,49 +41,49 @@ words_end o (a ∷ b ∷ bs) out text le e = absurd (omega arith)
 
 -- ---- text
 
-first_single : (bytes : List ℕ) → 1 ≤ length bytes → prefix_len is_plain bytes ≡ 0 → data_text (text_said bytes) ≡ hex2 (get_or bytes 0 0) ++ flat_map datum_behind (text_said (drop 1 bytes))
+first_single : (bytes : List ℕ) → 1 ≤ length bytes → prefix_len is_plain bytes ≡ 0 → data_text (cut_text bytes) ≡ hex2 (get_or bytes 0 0) ++ flat_map datum_behind (cut_text (drop 1 bytes))
 unfolding data_text
 first_single [] lt e = absurd (omega arith)
 first_single (b ∷ bs) lt e = go (is_plain b) refl
   where
-    go : (t : Bool) → is_plain b ≡ t → data_text (text_said (b ∷ bs)) ≡ hex2 b ++ flat_map datum_behind (text_said bs)
+    go : (t : Bool) → is_plain b ≡ t → data_text (cut_text (b ∷ bs)) ≡ hex2 b ++ flat_map datum_behind (cut_text bs)
     go true h = let e' = rw h at e in absurd (omega arith)
-    go false h = rw (said_single b bs h) refl
+    go false h = rw (cut_single b bs h) refl
 
 -- a byte that is not plain is put, and the others are left
 pub single_put : (bytes rest old new : List ℕ) → 1 ≤ length bytes → prefix_len is_plain bytes ≡ 0 → rest ≡ drop 1 bytes → new ≡ old ++ hex2 (get_or bytes 0 0)
-    → new ++ flat_map datum_behind (text_said rest) ≡ old ++ data_text (text_said bytes)
+    → new ++ flat_map datum_behind (cut_text rest) ≡ old ++ data_text (cut_text bytes)
 single_put bytes rest old new lt e r n = rw (n, r, first_single bytes lt e) (append_assoc old _ _)
 
 first_stretch : (bytes : List ℕ) → 1 ≤ prefix_len is_plain bytes
-    → data_text (text_said bytes) ≡ quoted (take (prefix_len is_plain bytes) bytes) ++ flat_map datum_behind (text_said (drop (prefix_len is_plain bytes) bytes))
+    → data_text (cut_text bytes) ≡ quoted (take (prefix_len is_plain bytes) bytes) ++ flat_map datum_behind (cut_text (drop (prefix_len is_plain bytes) bytes))
 unfolding data_text
 first_stretch bytes lt =
     let n = prefix_len is_plain bytes in
     let long : 1 ≤ length (take (prefix_len is_plain bytes) bytes) = omega (arith, length-take-le (prefix_len is_plain bytes) bytes (prefix_len-le-length is_plain bytes)) in
-    let said = said_stretch (take n bytes) (drop n bytes) long (run_passes is_plain n bytes (omega arith)) (run_ends is_plain bytes) in
-    ap (λ (l : List ℕ). data_text (text_said l)) (sym (take-append-drop n bytes)) ∙ ap data_text said
+    let source = cut_stretch (take n bytes) (drop n bytes) long (run_passes is_plain n bytes (omega arith)) (run_ends is_plain bytes) in
+    ap (λ (l : List ℕ). data_text (cut_text l)) (sym (take-append-drop n bytes)) ∙ ap data_text source
 
 -- the longest stretch is put, and the others are left
 pub stretch_put : (bytes front rest old new : List ℕ) (n : ℕ) → n ≡ prefix_len is_plain bytes → 1 ≤ n → front ≡ take n bytes → rest ≡ drop n bytes → new ≡ ((old ++ 34 ∷ []) ++ front) ++ 34 ∷ []
-    → new ++ flat_map datum_behind (text_said rest) ≡ old ++ data_text (text_said bytes)
+    → new ++ flat_map datum_behind (cut_text rest) ≡ old ++ data_text (cut_text bytes)
 stretch_put bytes front rest old new n e lt f r w = rw (w, f, r, e, first_stretch bytes (omega arith)) (simp append_assoc)
 
-text_behind : (bytes : List ℕ) → 1 ≤ length bytes → flat_map datum_behind (text_said bytes) ≡ 44 ∷ data_text (text_said bytes)
-unfolding text_said data_text
+text_behind : (bytes : List ℕ) → 1 ≤ length bytes → flat_map datum_behind (cut_text bytes) ≡ 44 ∷ data_text (cut_text bytes)
+unfolding cut_text data_text
 text_behind [] lt = absurd (omega arith)
-text_behind (b ∷ bs) lt = go (is_plain b) (text_said bs) refl refl
+text_behind (b ∷ bs) lt = go (is_plain b) (cut_text bs) refl refl
   where
-    go : (t : Bool) (ds : List Datum) → is_plain b ≡ t → text_said bs ≡ ds → flat_map datum_behind (text_said (b ∷ bs)) ≡ 44 ∷ data_text (text_said (b ∷ bs))
+    go : (t : Bool) (ds : List Datum) → is_plain b ≡ t → cut_text bs ≡ ds → flat_map datum_behind (cut_text (b ∷ bs)) ≡ 44 ∷ data_text (cut_text (b ∷ bs))
     go false ds h e = rw h refl
     go true [] h e = rw (h, e) refl
-    go true (Byte c ∷ ds) h e = rw (h, e) refl
-    go true (Bytes t ∷ ds) h e = rw (h, e) refl
+    go true (NumberDatum c ∷ ds) h e = rw (h, e) refl
+    go true (StringDatum t ∷ ds) h e = rw (h, e) refl
 
 -- a comma is put, and the text that is left
-pub text_step : (bytes out new text : List ℕ) → 1 ≤ length bytes → out ++ flat_map datum_behind (text_said bytes) ≡ text → new ≡ (out ++ 44 ∷ []) ++ data_text (text_said bytes) → new ≡ text
-text_step bytes out new text lt e n = n ∙ append_assoc out (44 ∷ []) (data_text (text_said bytes)) ∙ ap (λ (l : List ℕ). out ++ l) (sym (text_behind bytes lt)) ∙ e
+pub text_step : (bytes out new text : List ℕ) → 1 ≤ length bytes → out ++ flat_map datum_behind (cut_text bytes) ≡ text → new ≡ (out ++ 44 ∷ []) ++ data_text (cut_text bytes) → new ≡ text
+text_step bytes out new text lt e n = n ∙ append_assoc out (44 ∷ []) (data_text (cut_text bytes)) ∙ ap (λ (l : List ℕ). out ++ l) (sym (text_behind bytes lt)) ∙ e
 
-pub text_end : (bytes out text : List ℕ) → length bytes ≡ 0 → out ++ flat_map datum_behind (text_said bytes) ≡ text → out ≡ text
-text_end [] out text le e = rw (said_nil, append-nil) at e
+pub text_end : (bytes out text : List ℕ) → length bytes ≡ 0 → out ++ flat_map datum_behind (cut_text bytes) ≡ text → out ≡ text
+text_end [] out text le e = rw (cut_nil, append-nil) at e
 text_end (b ∷ bs) out text le e = absurd (omega arith)

@@ -1,5 +1,11 @@
--- The columns of a listing whose options say nothing of them.
+-- The columns of a listing, and which labels stand on the line of their statement.
+use Rattle.std.specs.Prelude.{ℕ, ◌+◌, Bool, ◌&&◌, List, length, nat_le, nat_lt}
 use Rattle.stmt65.specs.declared.columns.Columns.{Columns}
 
+-- those of a listing whose options say nothing of them
 abbrev pub default_columns : Columns
 default_columns = record { mnemonic = 9; argument = 17; comment = 49; text = 81; label_break = 7 }
+
+-- The name has at most as many bytes as the label break, and their number plus 1 is below the mnemonic column.
+abbrev pub fits_label : Columns → List ℕ → Bool
+fits_label c name = nat_le (length name) c.label_break && nat_lt (length name + 1) c.mnemonic

@@ -35,7 +35,7 @@ part_at b bs =
     else (if (b == colon) && begins_with equals bs then (Define, 1)
     else (Mark b, 0)))))
 
--- the parts behind so many bytes that belong to the part before
+-- the parts after this many bytes that belong to the part before
 unfoldable pub parts_after : ℕ → List ℕ → List Part
 parts_after skip [] = []
 parts_after (suc skip) (b ∷ bs) = parts_after skip bs

@@ -2,7 +2,7 @@
 use Rattle.std.specs.Prelude.{◌≡◌, ℕ, ◌≤◌, Result, MatchResult}
 use Rattle.stmt65.specs.declared.columns.LimitError.{LimitError}
 
--- the number becomes a value exactly where it is within the limits, else an error that holds it
+-- the number becomes a value exactly when it is within the limits; else the error holds it
 abbrev pub ConvertsWithin : ℕ → ℕ → ℕ → Result ℕ LimitError → Type 0
 ConvertsWithin least greatest n r = MatchResult r
     (λ value. (value ≡ n) × ((least ≤ n) × (n ≤ greatest)))

@@ -1,10 +1,10 @@
 -- A line as fields at their columns.
 use Rattle.std.specs.Prelude.{ℕ, ◌-◌, List, [], ◌∷◌, ◌++◌, length, replicate, nat_lt, ◌==◌, if◌then◌else◌}
 use Rattle.stmt65.specs.declared.columns.Columns.{Columns}
-use Rattle.stmt65.specs.Statements.{Field, fields_of}
+use Rattle.stmt65.specs.Statements.{Field, label_fields, fields_of}
 use Rattle.stmt65.specs.Views.{StatementView, RemarksView}
 
--- A line that is ready for a field at this column: a shorter line is filled with blanks; else, where it is not empty, one blank is added.
+-- A line that is ready for a field at this column: a shorter line is filled with blanks; to any other that is not empty one blank is added.
 unfoldable pub filled : List ℕ → ℕ → List ℕ
 filled line column = if nat_lt (length line) (column - 1) then line ++ replicate (column - 1 - length line) 32
     else (if length line == 0 then [] else line ++ 32 ∷ [])
@@ -14,6 +14,6 @@ abbrev pub with_fields : List ℕ → List Field → List ℕ
 with_fields line [] = line
 with_fields line (field ∷ fields) = with_fields (filled line field.0 ++ field.1) fields
 
--- The line of a statement, without its line feed.
+-- The line of a statement, without its line feed: the label, then the fields of the statement.
 unfoldable pub line_of : Columns → StatementView → RemarksView → List ℕ
-line_of c s r = with_fields [] (fields_of c s r)
+line_of c s r = with_fields (with_fields [] (label_fields r.label)) (fields_of c r.hexoffs s)

@@ -6,13 +6,13 @@ use Rattle.isa65.specs.declared.cpu.Cpu.TheVariants.{M6502}
 use Rattle.stmt65.specs.declared.fault.AsmFault.{AsmFault}
 use Rattle.stmt65.specs.declared.fault.AsmFaultKind.{AsmFaultKind}
 use Rattle.stmt65.specs.declared.fault.AsmFaultKind.TheVariants.{Syntax, UnknownCpu, NoSuchForm, Undefined, DefinedTwice, OutOfRange, PastEnd}
-use Rattle.stmt65.specs.Said.{Operation, Nothing, SetCpu, Said, Constant, Here, Stated}
+use Rattle.stmt65.specs.SourceLine.{Operation, Nothing, SetCpu, SourceLine, Assignment, PlaceAssignment, Statement}
 use Rattle.stmt65.specs.Lines.{text_lines}
 use Rattle.stmt65.specs.Lexing.{parts}
 use Rattle.stmt65.specs.Reading.{reading_of}
 use Rattle.stmt65.specs.Symbols.{Definition, find_name}
 use Rattle.isa65.specs.Cpu.{cpu_named}
-use Rattle.stmt65.specs.Coding.{Field, field_fits, field_bytes, is_field_known, coding, coding_len}
+use Rattle.stmt65.specs.Coding.{Fragment, fragment_fits, fragment_bytes, is_fragment_known, coding, coding_len}
 
 -- what stands above a line: its address, the CPU, and the definitions in their order
 pub record State : Type 0 where
@@ -22,90 +22,103 @@ pub record State : Type 0 where
 
 -- ---- a line in its state
 
-abbrev pub operation_in : Said → Operation
-operation_in (Constant name n) = Nothing
-operation_in (Here name n) = Nothing
-operation_in (Stated label operation) = operation
+abbrev pub operation_in : SourceLine → Operation
+operation_in (Assignment name n) = Nothing
+operation_in (PlaceAssignment name n) = Nothing
+operation_in (Statement label operation) = operation
 
 -- what each byte of the line stands for; a form that the CPU has not gives none
-unfoldable pub fields_of : State → Said → List Field
-fields_of s said = unwrap_or (coding s.cpu s.above (operation_in said)) []
+unfoldable pub fragments_of : State → SourceLine → List Fragment
+fragments_of s source = unwrap_or (coding s.cpu s.above (operation_in source)) []
 
 -- the address after the line
-unfoldable pub next_of : State → Said → ℕ
-next_of s said = s.at + coding_len (fields_of s said)
+unfoldable pub next_of : State → SourceLine → ℕ
+next_of s source = s.at + coding_len (fragments_of s source)
+
+-- the CPU that the text of `.setcpu` names, in any letter case
+abbrev pub cpu_set : List ℕ → Option Cpu
+cpu_set text = cpu_named text
 
 -- what the line defines
-unfoldable pub defined_by : ℕ → Said → List Definition
-defined_by at (Constant name n) = record { name = name; value = n; constant = true } ∷ []
-defined_by at (Here name n) = record { name = name; value = at + n; constant = false } ∷ []
-defined_by at (Stated None operation) = []
-defined_by at (Stated (Some name) operation) = record { name = name; value = at; constant = false } ∷ []
+unfoldable pub defined_by : ℕ → SourceLine → List Definition
+defined_by at (Assignment name n) = record { name = name; value = n; constant = true } ∷ []
+defined_by at (PlaceAssignment name n) = record { name = name; value = at + n; constant = false } ∷ []
+defined_by at (Statement None operation) = []
+defined_by at (Statement (Some name) operation) = record { name = name; value = at; constant = false } ∷ []
 
 -- ---- faults, each a test of its own
 
 -- `.setcpu` with a text that is no CPU's
 unfoldable pub has_unknown_cpu : Operation → Bool
-has_unknown_cpu (SetCpu text) = not (is_some (cpu_named text))
+has_unknown_cpu (SetCpu text) = not (is_some (cpu_set text))
 has_unknown_cpu _ = false
 
 -- a mnemonic without this form on the CPU
-unfoldable pub has_no_form : State → Said → Bool
-has_no_form s said = not (is_some (coding s.cpu s.above (operation_in said)))
+unfoldable pub has_no_form : State → SourceLine → Bool
+has_no_form s source = not (is_some (coding s.cpu s.above (operation_in source)))
 
--- a name that the text nowhere defines
-unfoldable pub is_undefined : List Definition → State → Said → Bool
-is_undefined all s said = not (list_all (is_field_known all) (fields_of s said))
+-- a name that no line of the text defines
+unfoldable pub is_undefined : List Definition → State → SourceLine → Bool
+is_undefined all s source = not (list_all (is_fragment_known all) (fragments_of s source))
 
 -- a name that a line above defines
-unfoldable pub is_twice : State → Said → Bool
-is_twice s said = list_any (λ d. is_some (find_name d.name s.above)) (defined_by s.at said)
+unfoldable pub is_twice : State → SourceLine → Bool
+is_twice s source = list_any (λ d. is_some (find_name d.name s.above)) (defined_by s.at source)
 
 -- a definition or an operand whose value has no room
-unfoldable pub is_out_of_range : List Definition → State → Said → Bool
-is_out_of_range all s said =
-    list_any (λ d. nat_lt 65535 d.value) (defined_by s.at said) || not (list_all (field_fits all (next_of s said)) (fields_of s said))
+unfoldable pub is_out_of_range : List Definition → State → SourceLine → Bool
+is_out_of_range all s source =
+    list_any (λ d. nat_lt 65535 d.value) (defined_by s.at source) || not (list_all (fragment_fits all (next_of s source)) (fragments_of s source))
 
 -- a byte past $FFFF
-unfoldable pub is_past_end : State → Said → Bool
-is_past_end s said = nat_lt 65536 (next_of s said)
+unfoldable pub is_past_end : State → SourceLine → Bool
+is_past_end s source = nat_lt 65536 (next_of s source)
 
--- of the tests, in the order of their faults, the first that holds
-abbrev pub lowest : Bool → Bool → Bool → Bool → Bool → Bool → Option AsmFaultKind
-lowest unknown_cpu no_form undefined twice out_of_range past_end =
-    if unknown_cpu then Some UnknownCpu
-    else (if no_form then Some NoSuchForm
-    else (if undefined then Some Undefined
-    else (if twice then Some DefinedTwice
-    else (if out_of_range then Some OutOfRange
-    else (if past_end then Some PastEnd else None)))))
+-- a kind of fault, and whether the line has it
+abbrev pub Test : Type 0
+Test = AsmFaultKind × Bool
 
--- the lowest fault of a line; `all` are the definitions of the whole text
-unfoldable pub fault_of : List Definition → State → Option Said → Option AsmFaultKind
+-- the first kind whose test holds
+abbrev pub first_of : List Test → Option AsmFaultKind
+first_of [] = None
+first_of (t ∷ ts) = if t.1 then Some t.0 else first_of ts
+
+-- the tests of a line, lowest kind first; `all` are the definitions of the whole text
+abbrev pub tests_of : List Definition → State → SourceLine → List Test
+tests_of all s source =
+    (UnknownCpu, has_unknown_cpu (operation_in source)) ∷
+    (NoSuchForm, has_no_form s source) ∷
+    (Undefined, is_undefined all s source) ∷
+    (DefinedTwice, is_twice s source) ∷
+    (OutOfRange, is_out_of_range all s source) ∷
+    (PastEnd, is_past_end s source) ∷ []
+
+-- the lowest fault of a line
+unfoldable pub fault_of : List Definition → State → Option SourceLine → Option AsmFaultKind
 fault_of all s None = Some Syntax
-fault_of all s (Some said) = lowest (has_unknown_cpu (operation_in said)) (has_no_form s said) (is_undefined all s said) (is_twice s said) (is_out_of_range all s said) (is_past_end s said)
+fault_of all s (Some source) = first_of (tests_of all s source)
 
 -- ---- bytes
 
 -- the bytes of a line that has no fault
-unfoldable pub bytes_of : List Definition → State → Option Said → List ℕ
+unfoldable pub bytes_of : List Definition → State → Option SourceLine → List ℕ
 bytes_of all s None = []
-bytes_of all s (Some said) = flat_map (field_bytes all (next_of s said)) (fields_of s said)
+bytes_of all s (Some source) = flat_map (fragment_bytes all (next_of s source)) (fragments_of s source)
 
 -- ---- a line after the other
 
 -- an unknown CPU leaves it as it was
 unfoldable pub cpu_after : Cpu → Operation → Cpu
-cpu_after cpu (SetCpu text) = unwrap_or (cpu_named text) cpu
+cpu_after cpu (SetCpu text) = unwrap_or (cpu_set text) cpu
 cpu_after cpu _ = cpu
 
 -- a line that is none defines nothing and has no length
-unfoldable pub after : State → Option Said → State
+unfoldable pub after : State → Option SourceLine → State
 after s None = s
-after s (Some said) = record { at = next_of s said; cpu = cpu_after s.cpu (operation_in said); above = s.above ++ defined_by s.at said }
+after s (Some source) = record { at = next_of s source; cpu = cpu_after s.cpu (operation_in source); above = s.above ++ defined_by s.at source }
 
 -- below all lines
-unfoldable pub final : State → List (Option Said) → State
+unfoldable pub final : State → List (Option SourceLine) → State
 final s [] = s
 final s (l ∷ ls) = final (after s l) ls
 
@@ -119,7 +132,7 @@ unless n None there = there
 unless n (Some kind) there = Err (record { line = n; kind = kind })
 
 -- the bytes of the lines from the n-th on, or the first fault
-unfoldable pub coded : List Definition → ℕ → State → List (Option Said) → Result (List ℕ) AsmFault
+unfoldable pub coded : List Definition → ℕ → State → List (Option SourceLine) → Result (List ℕ) AsmFault
 coded all n s [] = Ok []
 coded all n s (l ∷ ls) = unless n (fault_of all s l) (with_front (bytes_of all s l) (coded all (n + 1) (after s l) ls))
 
@@ -130,11 +143,11 @@ abbrev pub initial : ℕ → State
 initial start = record { at = start; cpu = M6502; above = [] }
 
 -- what lines mean that are read already
-unfoldable pub meaning_of : ℕ → List (Option Said) → Result (List ℕ) AsmFault
+unfoldable pub meaning_of : ℕ → List (Option SourceLine) → Result (List ℕ) AsmFault
 meaning_of start ls = coded (final (initial start) ls).above 1 (initial start) ls
 
 -- what the lines of a text say
-abbrev pub readings : List ℕ → List (Option Said)
+abbrev pub readings : List ℕ → List (Option SourceLine)
 readings text = map (λ l. reading_of (parts l)) (text_lines text)
 
 -- the meaning of a text from a start

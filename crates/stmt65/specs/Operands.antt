@@ -20,7 +20,7 @@ abbrev pub long_text : Bool → ExprView → List ℕ
 long_text hexoffs (view.number n) = hex4 n
 long_text hexoffs (view.name name offset) = named_text hexoffs name offset
 
--- what forces the absolute form
+-- the prefix that makes an operand absolute
 abbrev pub prefix_text : Bool → List ℕ
 prefix_text true = codes "a:"
 prefix_text false = []
@@ -30,7 +30,7 @@ abbrev pub bare_text : Mode → List ℕ
 bare_text Acc = codes "a"
 bare_text _ = []
 
--- The operands of an instruction in its mode, where they are as many as the mode writes. h says whether offsets have hex digits,
+-- The operands of an instruction in its mode, if they are as many as the mode writes. h says whether offsets have hex digits,
 -- `absolute` whether `a:` stands before the expression.
 unfoldable pub operand_text : Bool → Mode → Bool → OperandsView → List ℕ
 operand_text h Imp absolute view.none = []

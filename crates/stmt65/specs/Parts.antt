@@ -1,5 +1,5 @@
 -- The parts of a line, and what a number counts.
-use Rattle.std.specs.Prelude.{ℕ, Bool, false, List, [], ◌∷◌, drop, min, ◌==◌, if◌then◌else◌}
+use Rattle.std.specs.Prelude.{ℕ, Bool, false, List, [], ◌∷◌, drop, ◌==◌, if◌then◌else◌}
 use Rattle.std.specs.Str.Parse.{digits_value}
 use Rattle.stmt65.specs.Signs.{dollar}
 
@@ -15,6 +15,6 @@ abbrev pub begins_with : ℕ → List ℕ → Bool
 begins_with b [] = false
 begins_with b (c ∷ cs) = c == b
 
--- decimal digits, or `$` and hex digits; from 2^64 - 1 on all count the same, since nothing that a line says is that large
+-- what a number counts as it is written: decimal digits, or `$` and hex digits
 unfoldable pub number_of : List ℕ → ℕ
-number_of text = min (if begins_with dollar text then digits_value 16 (drop 1 text) else digits_value 10 text) 18446744073709551615
+number_of text = if begins_with dollar text then digits_value 16 (drop 1 text) else digits_value 10 text

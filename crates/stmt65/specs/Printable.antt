@@ -1,8 +1,10 @@
--- What a caller of `put_line` takes care of: the limits within which a line has at most 512 bytes, and says what its statement says.
-use Rattle.std.specs.Prelude.{◌≡◌, ℕ, ◌%◌, ◌<◌, ◌≤◌, Bool, true, false, not, List, length, ◌==◌}
+-- What a caller of `put_line` keeps: the limits within which a line has at most 512 bytes and reads as its statement.
+use Rattle.std.specs.Prelude.{◌≡◌, ℕ, ◌%◌, ◌<◌, ◌≤◌, Bool, true, false, not, List, length, ◌==◌, Option, Some, None}
 use Rattle.std.specs.List.{list_all}
 use Rattle.isa65.specs.declared.mode.Mode.{Mode}
 use Rattle.isa65.specs.declared.mode.Mode.TheVariants.{Imp, Acc, Imm, Zp, Zpx, Zpy, Abs, Absx, Absy, Ind, Indx, Indy, Zpind, Absindx, Rel, Zprel}
+use Rattle.stmt65.specs.declared.columns.Columns.{Columns}
+use Rattle.stmt65.specs.Columns.{fits_label}
 use Rattle.stmt65.specs.Views.{ExprView, OperandsView, StatementView}
 use Rattle.stmt65.specs.Views as view
 
@@ -63,6 +65,28 @@ IsPrintable (view.bytes bs) = (1 ≤ length bs) × (length bs ≤ 8)
 IsPrintable (view.text bs) = (1 ≤ length bs) × (length bs ≤ 16)
 IsPrintable (view.words bs) = IsTable bs
 IsPrintable (view.dbyts bs) = IsTable bs
+IsPrintable (view.addr t) = IsNameLong t.name
+IsPrintable (view.rts None) = Unit {0}
+IsPrintable (view.rts (Some t)) = IsNameLong t.name
+IsPrintable (view.label name) = IsNameLong name
+IsPrintable (view.assignment name n) = IsNameLong name
+IsPrintable (view.forward name n) = IsNameLong name
 IsPrintable (view.set_cpu cpu) = Unit {0}
 IsPrintable view.blank = Unit {0}
 IsPrintable (view.remark text) = (length text ≤ 200) × (list_all (λ b. not (b == 10)) text ≡ true)
+
+-- an instruction or data
+abbrev pub TakesLabel : StatementView → Type 0
+TakesLabel (view.instr op absolute operands) = Unit {0}
+TakesLabel (view.bytes bs) = Unit {0}
+TakesLabel (view.text bs) = Unit {0}
+TakesLabel (view.words bs) = Unit {0}
+TakesLabel (view.dbyts bs) = Unit {0}
+TakesLabel (view.addr t) = Unit {0}
+TakesLabel (view.rts t) = Unit {0}
+TakesLabel _ = ⊥
+
+-- A label stands only on the line of an instruction or of data, if it fits there. Any other label takes a line of its own.
+abbrev pub MayBeLabelled : Columns → Option (List ℕ) → StatementView → Type 0
+MayBeLabelled c None s = Unit {0}
+MayBeLabelled c (Some name) s = TakesLabel s × IsNameLong name × (fits_label c name ≡ true)

@@ -1,8 +1,14 @@
 -- How a line is spelled: what is written, item by item.
-use Rattle.std.specs.Prelude.{◌≡◌, ◌⊎◌, ℕ, Bool, true, false, List, [], ◌∷◌, ◌++◌, codes, Some, None}
+use Rattle.std.specs.Prelude.{◌≡◌, ◌⊎◌, ℕ, true, List, [], ◌∷◌, ◌++◌, codes, ◌==◌, if◌then◌else◌, Some, None}
+use Rattle.std.specs.Char.{is_ascii_alphabetic}
 use Rattle.isa65.specs.Mnemonic.{text_of}
-use Rattle.stmt65.specs.Signs.{hash, left_paren, right_paren, star, plus, comma, minus, colon}
-use Rattle.stmt65.specs.Said.{Value, Plain, Named, Form, Empty, Accumulator, Hash, Straight, WithX, WithY, Both, Indirect, IndirectX, IndirectY, Datum, Byte, Bytes, Operation, Nothing, Instr, Data, Words, Dbyts, Addrs, Segment, Code, SetCpu, Said, Constant, Here, Stated}
+use Rattle.stmt65.specs.Signs.{star, plus, comma, minus, colon}
+use Rattle.stmt65.specs.declared.source_line.AddressSize.{AddressSize}
+use Rattle.stmt65.specs.declared.source_line.AddressSize.TheVariants.{Absolute, Automatic}
+use Rattle.stmt65.specs.declared.source_line.Minus.{Minus}
+use Rattle.stmt65.specs.declared.source_line.Minus.TheVariants.{Zero, One}
+use Rattle.stmt65.specs.SourceLine.{Value, NumberValue, NameValue, Form, Datum, NumberDatum, StringDatum, Operation, Nothing, Instr, Data, Words, Dbyts, Addrs, Segment, Code, SetCpu, SourceLine, Assignment, PlaceAssignment, Statement}
+use Rattle.stmt65.specs.Forms.{form_text, form_values, form_size, expression}
 use Rattle.stmt65.specs.Parts.{Part, Word, Number, Text, Define, Mark, number_of}
 use Rattle.stmt65.specs.Names.{same, has_name_form, is_name}
 
@@ -29,19 +35,19 @@ abbrev pub IsPlus : ℕ → List Part → Type 0
 IsPlus n ps = ((n ≡ 0) × (ps ≡ [])) ⊎ ((text : List ℕ) × (n ≡ number_of text) × (ps ≡ Mark plus ∷ Number text ∷ []))
 
 -- `-` and the digit 1, or nothing
-abbrev pub IsLess : Bool → List Part → Type 0
-IsLess true ps = ps ≡ Mark minus ∷ Number (codes "1") ∷ []
-IsLess false ps = ps ≡ []
+abbrev pub IsMinus : Minus → List Part → Type 0
+IsMinus One ps = ps ≡ Mark minus ∷ Number (codes "1") ∷ []
+IsMinus Zero ps = ps ≡ []
 
 -- a number; or a name, perhaps `+` and a number, perhaps `-1`
 abbrev pub IsValue : Value → List Part → Type 0
-IsValue (Plain n) ps = IsNumber n ps
-IsValue (Named w n less) ps = (added : List Part) × (taken : List Part) × (ps ≡ Word w ∷ (added ++ taken)) × (is_name w ≡ true) × IsPlus n added × IsLess less taken
+IsValue (NumberValue n) ps = IsNumber n ps
+IsValue (NameValue w n less) ps = (added : List Part) × (taken : List Part) × (ps ≡ Word w ∷ (added ++ taken)) × (is_name w ≡ true) × IsPlus n added × IsMinus less taken
 
 -- a number or a string
 abbrev pub IsDatum : Datum → List Part → Type 0
-IsDatum (Byte n) ps = IsNumber n ps
-IsDatum (Bytes t) ps = ps ≡ Text t ∷ []
+IsDatum (NumberDatum n) ps = IsNumber n ps
+IsDatum (StringDatum t) ps = ps ≡ Text t ∷ []
 
 -- one or more, joined by commas
 abbrev pub IsList : {A : Type 0} → (A → List Part → Type 0) → List A → List Part → Type 0
@@ -68,22 +74,23 @@ Spells [] ps = ps ≡ []
 Spells (i ∷ is) ps = (front : List Part) × (rest : List Part) × (ps ≡ front ++ rest) × IsItem i front × Spells is rest
 
 -- `a:` or nothing
-abbrev pub prefix_items : Bool → List Item
-prefix_items true = word (codes "a") ∷ mark colon ∷ []
-prefix_items false = []
+abbrev pub prefix_items : AddressSize → List Item
+prefix_items Absolute = word (codes "a") ∷ mark colon ∷ []
+prefix_items Automatic = []
 
--- the written forms of an operand: `a`, `#E`, `E`, `E,x`, `E,y`, `E,E`, `(E)`, `(E,x)`, `(E),y`
+-- what a character of a pattern stands for by itself: a letter is a word
+abbrev pub pattern_item : ℕ → Item
+pattern_item c = if is_ascii_alphabetic c then word (c ∷ []) else mark c
+
+-- a pattern, with the next of the expressions for each E
+abbrev pub pattern_items : List ℕ → List Value → List Item
+pattern_items [] vs = []
+pattern_items (c ∷ pattern) [] = pattern_item c ∷ pattern_items pattern []
+pattern_items (c ∷ pattern) (v ∷ vs) = if c == expression then value v ∷ pattern_items pattern vs else pattern_item c ∷ pattern_items pattern (v ∷ vs)
+
+-- an operand: its pattern, after an optional `a:`
 abbrev pub form_items : Form → List Item
-form_items Empty = []
-form_items Accumulator = word (codes "a") ∷ []
-form_items (Hash v) = mark hash ∷ value v ∷ []
-form_items (Straight prefix v) = prefix_items prefix ++ value v ∷ []
-form_items (WithX prefix v) = prefix_items prefix ++ value v ∷ mark comma ∷ word (codes "x") ∷ []
-form_items (WithY prefix v) = prefix_items prefix ++ value v ∷ mark comma ∷ word (codes "y") ∷ []
-form_items (Both v w) = value v ∷ mark comma ∷ value w ∷ []
-form_items (Indirect v) = mark left_paren ∷ value v ∷ mark right_paren ∷ []
-form_items (IndirectX v) = mark left_paren ∷ value v ∷ mark comma ∷ word (codes "x") ∷ mark right_paren ∷ []
-form_items (IndirectY v) = mark left_paren ∷ value v ∷ mark right_paren ∷ mark comma ∷ word (codes "y") ∷ []
+form_items form = prefix_items (form_size form) ++ pattern_items (form_text form) (form_values form)
 
 -- a mnemonic and its operand, or an operation of the assembler and what it takes
 abbrev pub operation_items : Operation → List Item
@@ -97,13 +104,13 @@ operation_items (Segment t) = word (codes ".segment") ∷ quoted_name t ∷ []
 operation_items Code = word (codes ".code") ∷ []
 operation_items (SetCpu t) = word (codes ".setcpu") ∷ string t ∷ []
 
--- `name := number`, `name := * + n`, or an operation, perhaps behind `name:`
-abbrev pub line_items : Said → List Item
-line_items (Constant w n) = name w ∷ define ∷ number n ∷ []
-line_items (Here w n) = name w ∷ define ∷ mark star ∷ mark plus ∷ number n ∷ []
-line_items (Stated None o) = operation_items o
-line_items (Stated (Some w) o) = name w ∷ mark colon ∷ operation_items o
+-- `name := number`, `name := * + n`, or an operation, after an optional `name:`
+abbrev pub line_items : SourceLine → List Item
+line_items (Assignment w n) = name w ∷ define ∷ number n ∷ []
+line_items (PlaceAssignment w n) = name w ∷ define ∷ mark star ∷ mark plus ∷ number n ∷ []
+line_items (Statement None o) = operation_items o
+line_items (Statement (Some w) o) = name w ∷ mark colon ∷ operation_items o
 
 -- ps is a spelling of the line
-abbrev pub IsSpelling : Said → List Part → Type 0
+abbrev pub IsSpelling : SourceLine → List Part → Type 0
 IsSpelling r ps = Spells (line_items r) ps

@@ -1,5 +1,5 @@
 -- The operation and operands of each statement, as the fields of its line.
-use Rattle.std.specs.Prelude.{ℕ, Bool, true, false, List, [], ◌∷◌, ◌++◌, codes, if◌then◌else◌}
+use Rattle.std.specs.Prelude.{ℕ, Bool, true, false, List, [], ◌∷◌, ◌++◌, codes, decimal, if◌then◌else◌, Option, Some, None}
 use Rattle.std.specs.List.{flat_map}
 use Rattle.isa65.specs.declared.mode.Mode.{Mode}
 use Rattle.isa65.specs.declared.mode.Mode.TheVariants.{Imp}
@@ -7,21 +7,21 @@ use Rattle.isa65.specs.declared.op.Op.{Op}
 use Rattle.isa65.specs.Cpu.{cpu_text}
 use Rattle.isa65.specs.Mnemonic.{text_of}
 use Rattle.stmt65.specs.declared.coding.ByteOrder.{ByteOrder}
-use Rattle.stmt65.specs.declared.coding.ByteOrder.TheVariants.{LowFirst, HighFirst}
+use Rattle.stmt65.specs.declared.coding.ByteOrder.TheVariants.{LittleEndian, BigEndian}
 use Rattle.stmt65.specs.declared.columns.Columns.{Columns}
 use Rattle.stmt65.specs.Digits.{hex2, hex4}
-use Rattle.stmt65.specs.Operands.{operand_text}
-use Rattle.stmt65.specs.Said.{Datum}
-use Rattle.stmt65.specs.Said as said
-use Rattle.stmt65.specs.Tables.{low_words, high_words, text_said}
-use Rattle.stmt65.specs.Views.{OperandsView, StatementView, RemarksView}
+use Rattle.stmt65.specs.Operands.{named_text, operand_text}
+use Rattle.stmt65.specs.SourceLine.{Datum}
+use Rattle.stmt65.specs.SourceLine as source
+use Rattle.stmt65.specs.Tables.{low_words, high_words, cut_text}
+use Rattle.stmt65.specs.Views.{OperandsView, StatementView, TargetView}
 use Rattle.stmt65.specs.Views as view
 
 -- a column, and the text that stands there
 abbrev pub Field : Type 0
 Field = ℕ × List ℕ
 
--- a byte behind others
+-- a byte after others
 abbrev pub next_byte : ℕ → List ℕ
 next_byte b = codes "," ++ hex2 b
 
@@ -36,10 +36,10 @@ quoted text = codes "\"" ++ text ++ codes "\""
 
 -- a byte in two hex digits, a stretch of text in double quotes
 abbrev pub datum_text : Datum → List ℕ
-datum_text (said.Byte b) = hex2 b
-datum_text (said.Bytes stretch) = quoted stretch
+datum_text (source.NumberDatum b) = hex2 b
+datum_text (source.StringDatum stretch) = quoted stretch
 
--- one behind others
+-- a byte or a stretch after others
 abbrev pub datum_behind : Datum → List ℕ
 datum_behind d = codes "," ++ datum_text d
 
@@ -48,7 +48,7 @@ unfoldable pub data_text : List Datum → List ℕ
 data_text [] = []
 data_text (d ∷ ds) = datum_text d ++ flat_map datum_behind ds
 
--- a word behind others
+-- a word after others
 abbrev pub word_behind : ℕ → List ℕ
 word_behind w = codes "," ++ hex4 w
 
@@ -59,8 +59,17 @@ words_text (w ∷ ws) = hex4 w ++ flat_map word_behind ws
 
 -- the operation whose words are in this order
 abbrev pub words_operation : ByteOrder → List ℕ
-words_operation LowFirst = codes ".word"
-words_operation HighFirst = codes ".dbyt"
+words_operation LittleEndian = codes ".word"
+words_operation BigEndian = codes ".dbyt"
+
+-- the entry of a return table: the target, less 1; or, without a target, the word $FFFF
+abbrev pub return_text : Bool → Option TargetView → List ℕ
+return_text hexoffs None = codes "$FFFF"
+return_text hexoffs (Some t) = named_text hexoffs t.name t.offset ++ codes "-1"
+
+-- the distance of a name from its own line: in decimal, or in four hex digits
+abbrev pub distance_text : Bool → ℕ → List ℕ
+distance_text hexoffs n = if hexoffs then hex4 n else decimal n
 
 -- every mode but `Imp` writes an operand
 abbrev pub has_operand : Mode → Bool
@@ -71,11 +80,11 @@ has_operand _ = true
 abbrev pub alone : Columns → List ℕ → List Field
 alone c operation = (c.mnemonic, operation) ∷ []
 
--- and its operands at theirs
+-- an operation, and its operands at their column
 abbrev pub with_operands : Columns → List ℕ → List ℕ → List Field
 with_operands c operation operands = (c.mnemonic, operation) ∷ (c.argument, operands) ∷ []
 
--- a mnemonic, and its operand where its mode has one
+-- a mnemonic, and its operand if its mode has one
 abbrev pub instr_fields : Columns → Bool → Op → Bool → OperandsView → List Field
 instr_fields c hexoffs op absolute operands =
     if has_operand op.mode then with_operands c (text_of op.mnemonic) (operand_text hexoffs op.mode absolute operands) else alone c (text_of op.mnemonic)
@@ -84,13 +93,27 @@ instr_fields c hexoffs op absolute operands =
 abbrev pub remark_fields : List ℕ → List Field
 remark_fields text = (1, codes "; " ++ text) ∷ []
 
--- The fields of a statement's line.
-abbrev pub fields_of : Columns → StatementView → RemarksView → List Field
-fields_of c (view.instr op absolute operands) r = instr_fields c r.hexoffs op absolute operands
-fields_of c (view.bytes bs) r = with_operands c (codes ".byte") (bytes_text bs)
-fields_of c (view.text bs) r = with_operands c (codes ".byte") (data_text (text_said bs))
-fields_of c (view.words bs) r = with_operands c (codes ".word") (words_text (low_words bs))
-fields_of c (view.dbyts bs) r = with_operands c (codes ".dbyt") (words_text (high_words bs))
-fields_of c (view.set_cpu cpu) r = with_operands c (codes ".setcpu") (quoted (cpu_text cpu))
-fields_of c view.blank r = []
-fields_of c (view.remark text) r = remark_fields text
+-- a label begins the line
+abbrev pub label_fields : Option (List ℕ) → List Field
+label_fields None = []
+label_fields (Some name) = (1, name ++ codes ":") ∷ []
+
+-- a name begins the line, and its value stands at the argument column
+abbrev pub definition_fields : Columns → List ℕ → List ℕ → List Field
+definition_fields c name value = (1, name) ∷ (c.argument, codes ":= " ++ value) ∷ []
+
+-- The fields of a statement. `hexoffs` says whether offsets have hex digits.
+abbrev pub fields_of : Columns → Bool → StatementView → List Field
+fields_of c hexoffs (view.instr op absolute operands) = instr_fields c hexoffs op absolute operands
+fields_of c hexoffs (view.bytes bs) = with_operands c (codes ".byte") (bytes_text bs)
+fields_of c hexoffs (view.text bs) = with_operands c (codes ".byte") (data_text (cut_text bs))
+fields_of c hexoffs (view.words bs) = with_operands c (codes ".word") (words_text (low_words bs))
+fields_of c hexoffs (view.dbyts bs) = with_operands c (codes ".dbyt") (words_text (high_words bs))
+fields_of c hexoffs (view.addr t) = with_operands c (codes ".addr") (named_text hexoffs t.name t.offset)
+fields_of c hexoffs (view.rts t) = with_operands c (codes ".word") (return_text hexoffs t)
+fields_of c hexoffs (view.label name) = label_fields (Some name)
+fields_of c hexoffs (view.assignment name n) = definition_fields c name (hex4 n)
+fields_of c hexoffs (view.forward name n) = definition_fields c name (codes "* + " ++ distance_text hexoffs n)
+fields_of c hexoffs (view.set_cpu cpu) = with_operands c (codes ".setcpu") (quoted (cpu_text cpu))
+fields_of c hexoffs view.blank = []
+fields_of c hexoffs (view.remark text) = remark_fields text

@@ -1,7 +1,9 @@
 -- The names that a text defines, and the value and size of an expression.
 use Rattle.std.specs.Prelude.{ℕ, ◌+◌, ◌-◌, Bool, true, false, ◌&&◌, List, [], ◌∷◌, nat_lt, ◌==◌, if◌then◌else◌, Option, Some, None, is_some, option_and_then}
 use Rattle.std.specs.Str.{bytes_eq}
-use Rattle.stmt65.specs.Said.{Value, Plain, Named}
+use Rattle.stmt65.specs.declared.source_line.Minus.{Minus}
+use Rattle.stmt65.specs.declared.source_line.Minus.TheVariants.{Zero, One}
+use Rattle.stmt65.specs.SourceLine.{Value, NumberValue, NameValue}
 
 -- a name, its value, and whether a line `name := number` gives it
 pub record Definition : Type 0 where
@@ -14,30 +16,30 @@ unfoldable pub find_name : List ℕ → List Definition → Option Definition
 find_name name [] = None
 find_name name (d ∷ ds) = if bytes_eq d.name name then Some d else find_name name ds
 
--- a whole number, less 1 where the Bool says so; none where that lies below 0
-abbrev pub lowered : Bool → ℕ → Option ℕ
-lowered false v = Some v
-lowered true v = if v == 0 then None else Some (v - 1)
+-- the difference, or none if it is below 0
+abbrev pub lowered : Minus → ℕ → Option ℕ
+lowered Zero v = Some v
+lowered One v = if v == 0 then None else Some (v - 1)
 
--- the value of an expression; none where it lies below 0 or the name is undefined
+-- the value of an expression; none if it is below 0 or the name is undefined
 unfoldable pub value_in : List Definition → Value → Option ℕ
-value_in all (Plain n) = Some n
-value_in all (Named w n less) = option_and_then (λ d. lowered less (d.value + n)) (find_name w all)
+value_in all (NumberValue n) = Some n
+value_in all (NameValue w n minus) = option_and_then (λ d. lowered minus (d.value + n)) (find_name w all)
 
 -- whether each name in the expression has a definition
 unfoldable pub is_known : List Definition → Value → Bool
-is_known all (Plain n) = true
-is_known all (Named w n less) = is_some (find_name w all)
+is_known all (NumberValue n) = true
+is_known all (NameValue w n minus) = is_some (find_name w all)
 
 abbrev pub below : ℕ → Option ℕ → Option ℕ
 below limit None = None
 below limit (Some n) = if nat_lt n limit then Some n else None
 
--- the value where it lies in 0 to $FFFF
+-- the value if it is from 0 to $FFFF
 unfoldable pub word_in : List Definition → Value → Option ℕ
 word_in all v = below 65536 (value_in all v)
 
--- the value where it lies in 0 to $FF
+-- the value if it is from 0 to $FF
 abbrev pub byte_in : List Definition → Value → Option ℕ
 byte_in all v = below 256 (word_in all v)
 
@@ -52,5 +54,5 @@ is_constant (Some d) = d.constant
 
 -- zero-page size, by the lines above: the value is below $100, and a name has its first definition as `name := number` there
 unfoldable pub has_zero_page_size : List Definition → Value → Bool
-has_zero_page_size above (Plain n) = nat_lt n 256
-has_zero_page_size above (Named w n less) = is_constant (find_name w above) && is_small (value_in above (Named w n less))
+has_zero_page_size above (NumberValue n) = nat_lt n 256
+has_zero_page_size above (NameValue w n minus) = is_constant (find_name w above) && is_small (value_in above (NameValue w n minus))

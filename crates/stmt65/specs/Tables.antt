@@ -1,9 +1,9 @@
 -- What the bytes of a table say: words, or text with single bytes between.
 use Rattle.std.specs.Prelude.{ℕ, ◌+◌, ◌*◌, Bool, ◌&&◌, not, List, [], ◌∷◌, nat_lt, ◌==◌, if◌then◌else◌}
 use Rattle.stmt65.specs.Signs.{quote, backslash}
-use Rattle.stmt65.specs.Said.{Datum, Byte, Bytes}
+use Rattle.stmt65.specs.SourceLine.{Datum, NumberDatum, StringDatum}
 use Rattle.stmt65.specs.declared.coding.ByteOrder.{ByteOrder}
-use Rattle.stmt65.specs.declared.coding.ByteOrder.TheVariants.{LowFirst, HighFirst}
+use Rattle.stmt65.specs.declared.coding.ByteOrder.TheVariants.{LittleEndian, BigEndian}
 
 -- ---- words
 
@@ -21,13 +21,13 @@ high_words (a ∷ b ∷ bs) = (b + 256 * a) ∷ high_words bs
 
 -- the word of two bytes
 abbrev pub word_of : ByteOrder → ℕ → ℕ → ℕ
-word_of LowFirst a b = a + 256 * b
-word_of HighFirst a b = b + 256 * a
+word_of LittleEndian a b = a + 256 * b
+word_of BigEndian a b = b + 256 * a
 
 -- the words of a table in either order
 abbrev pub words_in : ByteOrder → List ℕ → List ℕ
-words_in LowFirst bytes = low_words bytes
-words_in HighFirst bytes = high_words bytes
+words_in LittleEndian bytes = low_words bytes
+words_in BigEndian bytes = high_words bytes
 
 -- ---- text
 
@@ -37,14 +37,14 @@ is_plain b = nat_lt 0x1F b && nat_lt b 0x7F && not (b == quote) && not (b == bac
 
 -- a plain byte before the rest of a text: it joins a stretch that follows, or is one of its own
 abbrev pub onto_stretch : ℕ → List Datum → List Datum
-onto_stretch b (Bytes stretch ∷ ds) = Bytes (b ∷ stretch) ∷ ds
-onto_stretch b ds = Bytes (b ∷ []) ∷ ds
+onto_stretch b (StringDatum stretch ∷ ds) = StringDatum (b ∷ stretch) ∷ ds
+onto_stretch b ds = StringDatum (b ∷ []) ∷ ds
 
 -- a byte before the rest of a text
 abbrev pub onto_text : ℕ → List Datum → List Datum
-onto_text b ds = if is_plain b then onto_stretch b ds else Byte b ∷ ds
+onto_text b ds = if is_plain b then onto_stretch b ds else NumberDatum b ∷ ds
 
 -- the longest stretches of plain bytes, and each other byte by itself
-unfoldable pub text_said : List ℕ → List Datum
-text_said [] = []
-text_said (b ∷ bs) = onto_text b (text_said bs)
+unfoldable pub cut_text : List ℕ → List Datum
+cut_text [] = []
+cut_text (b ∷ bs) = onto_text b (cut_text bs)

@@ -4,10 +4,10 @@ ghost use Rattle.std.specs.Prelude.{◌≡◌, ◌++◌, Some, IfOk, OnOk, IfNon
 ghost use Rattle.std.specs.List.{flat_map};
 ghost use Rattle.stmt65.specs.Lexing.{parts};
 ghost use Rattle.stmt65.specs.Reading.{reading_of};
-ghost use Rattle.stmt65.specs.SaidViews.{said_of};
-ghost use Rattle.stmt65.specs.Coding.{field_bytes};
+ghost use Rattle.stmt65.specs.code.SourceLineViews.{source_of};
+ghost use Rattle.stmt65.specs.Coding.{fragment_bytes};
 ghost use Rattle.stmt65.specs.Meaning.{after, bytes_of, fault_of, initial, meaning, readings};
-ghost use Rattle.stmt65.specs.MeaningViews.{state_of, fields_in, held_after, held_final};
+ghost use Rattle.stmt65.specs.code.MeaningViews.{state_of, fragments_in, held_after, held_final};
 ghost use Rattle.stmt65.specs.Answer.{Assembles};
 
 use crate::emit::put_coded;
@@ -15,13 +15,13 @@ use crate::fault::{AsmFault, AsmFaultKind};
 use crate::line_faults::fault_of;
 use crate::lines::first_line;
 use crate::reading::read_line;
-use crate::said::Said;
-use crate::state::{Placed, State, first_state, go_below, place};
+use crate::source_line::SourceLine;
+use crate::state::{Placed, State, advance, first_state, place};
 use crate::symbols::Symbols;
 use std::alloc::{AllocError, Allocator};
 
 /// Goes on below a line, whatever it says.
-#[tactic(auto, unfolding(crate::specs::MeaningViews::held_after))]
+#[tactic(auto, unfolding(crate::specs::code::MeaningViews::held_after))]
 fn pass_line<'a, 'b, A: Allocator>(
     alloc: &'b A,
     state: &mut State<'a, &'b A>,
@@ -30,9 +30,9 @@ fn pass_line<'a, 'b, A: Allocator>(
     ensures { OnOk result (state_of state.new ≡ held_after (state_of state.old) (reading_of (parts line.now))) }
 {
     match read_line(alloc, line)? {
-        Some(said) => {
-            let placed = place(state, &said);
-            go_below(state, &said, placed)
+        Some(source) => {
+            let placed = place(state, &source);
+            advance(state, &source, placed)
         }
         None => Ok(()),
     }
@@ -61,7 +61,7 @@ fn put_placed<A: Allocator + Clone, B: Allocator>(
     all: &Symbols<'_, A>,
     placed: Placed,
 ) -> Result<(), AllocError>
-    ensures { OnOk result (out.new.items ≡ out.old.items ++ flat_map (field_bytes all.now placed.entry.next) (fields_in placed.entry.coded)) }
+    ensures { OnOk result (out.new.items ≡ out.old.items ++ flat_map (fragment_bytes all.now placed.entry.next) (fragments_in placed.entry.coded)) }
 {
     match placed.coded {
         Some(coded) => put_coded(out, all, placed.next, coded),
@@ -70,22 +70,22 @@ fn put_placed<A: Allocator + Clone, B: Allocator>(
 }
 
 /// Adds the bytes of a line and goes on below it, or gives its lowest fault.
-fn code_said<'a, A: Allocator + Clone, B: Allocator, C: Allocator>(
+fn code_source<'a, A: Allocator + Clone, B: Allocator, C: Allocator>(
     all: &Symbols<'_, A>,
     state: &mut State<'a, A>,
-    said: &Said<'a, B>,
+    source: &SourceLine<'a, B>,
     out: &mut Vec<u8, C>,
 ) -> Result<Option<AsmFaultKind>, AllocError>
-    ensures fault { IfOk result (λ kind. kind ≡ fault_of all.now (state_of state.old) (Some (said_of said.now))) }
-    ensures bytes { IfOk result (λ kind. IfNone kind (out.new.items ≡ out.old.items ++ bytes_of all.now (state_of state.old) (Some (said_of said.now)))) }
-    ensures below { IfOk result (λ kind. IfNone kind (state_of state.new ≡ after (state_of state.old) (Some (said_of said.now)))) }
+    ensures fault { IfOk result (λ kind. kind ≡ fault_of all.now (state_of state.old) (Some (source_of source.now))) }
+    ensures bytes { IfOk result (λ kind. IfNone kind (out.new.items ≡ out.old.items ++ bytes_of all.now (state_of state.old) (Some (source_of source.now)))) }
+    ensures below { IfOk result (λ kind. IfNone kind (state_of state.new ≡ after (state_of state.old) (Some (source_of source.now)))) }
 {
-    let placed = place(state, said);
-    if let Some(kind) = fault_of(all, state, said, placed) {
+    let placed = place(state, source);
+    if let Some(kind) = fault_of(all, state, source, placed) {
         return Ok(Some(kind));
     }
     put_placed(out, all, placed)?;
-    go_below(state, said, placed)?;
+    advance(state, source, placed)?;
     Ok(None)
 }
 
@@ -103,7 +103,7 @@ fn code_line<'a, 'b, A: Allocator, C: Allocator>(
     ensures below { IfOk result (λ kind. IfNone kind (state_of state.new ≡ after (state_of state.old) (reading_of (parts line.now)))) }
 {
     match read_line(alloc, line)? {
-        Some(said) => code_said(all, state, &said, out),
+        Some(source) => code_source(all, state, &source, out),
         None => Ok(Some(AsmFaultKind::Syntax)),
     }
 }
@@ -113,10 +113,10 @@ fn code_line<'a, 'b, A: Allocator, C: Allocator>(
 ///
 /// The text is lines that end by a line feed. Each stands at `start` plus the number of bytes before
 /// it, and is coded by the CPU of the last `.setcpu` line above, else by the 6502. An operand has
-/// zero-page size where its value is below $100, no `a:` stands before it, and each name in it is
+/// zero-page size if its value is below $100, no `a:` stands before it, and each name in it is
 /// defined as `name := number` on a line above.
 ///
-/// A fault of kind `Memory`, at line 0, comes only where a growth was refused.
+/// A fault of kind `Memory`, at line 0, comes only if an allocation was refused.
 #[tactic(auto, unfolding(crate::specs::Meaning::meaning))]
 pub fn assemble<A: Allocator + Clone>(
     alloc: A,

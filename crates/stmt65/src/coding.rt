@@ -2,12 +2,13 @@
 
 ghost use Rattle.std.specs.Prelude.{◌≡◌, [], ◌∷◌, false};
 ghost use Rattle.std.specs.Option.{option_map};
-ghost use Rattle.stmt65.specs.SaidViews.{value_of, form_of, operation_of};
-ghost use Rattle.stmt65.specs.Said.{Straight};
+ghost use Rattle.stmt65.specs.code.SourceLineViews.{value_of, form_of, operation_of};
+ghost use Rattle.stmt65.specs.SourceLine.{Direct};
+ghost use Rattle.stmt65.specs.declared.source_line.AddressSize.TheVariants.{Automatic};
 ghost use Rattle.stmt65.specs.Coding.{LowFirst, zero_page, by_size, ways, first_way, coding};
-ghost use Rattle.stmt65.specs.CodingViews.{field_of, operand_of, instruction_of, coded_of};
+ghost use Rattle.stmt65.specs.code.CodingViews.{fragment_of, operand_of, instruction_of, coded_of};
 
-use crate::said::{Datum, Form, Operation, Value};
+use crate::source_line::{AddressSize, Datum, Form, Operation, Value};
 use crate::symbols::Symbols;
 use crate::values::has_zero_page_size;
 use isa65::{Cpu, Mnemonic, Mode, OpcodeSet};
@@ -15,13 +16,15 @@ use std::alloc::Allocator;
 
 /// A byte of a statement, or two.
 #[derive(Clone, Copy, Debug)]
-pub enum Field<'a> {
+pub enum Fragment<'a> {
     /// A byte that the line itself gives: an opcode, or a byte of a string.
     Fixed(u8),
     /// A value from 0 to $FF.
     Single(Value<'a>),
-    /// A zero-page address, and whether the operand has zero-page size, as it must have.
-    ZeroPage(bool, Value<'a>),
+    /// A zero-page address.
+    ZeroPage(Value<'a>),
+    /// The operand of a zero-page mode that has not zero-page size, so it never fits.
+    Oversized(Value<'a>),
     /// A word, low byte first.
     LowFirst(Value<'a>),
     /// A word, high byte first.
@@ -30,12 +33,12 @@ pub enum Field<'a> {
     Distance(Value<'a>),
 }
 
-/// What stands behind an opcode.
+/// What follows an opcode.
 #[derive(Clone, Copy, Debug)]
 pub enum Operand<'a> {
     None,
-    One(Field<'a>),
-    Two(Field<'a>, Field<'a>),
+    One(Fragment<'a>),
+    Two(Fragment<'a>, Fragment<'a>),
 }
 
 /// An opcode and its operand.
@@ -48,8 +51,10 @@ pub struct Instruction<'a> {
 /// Which byte of a word comes first.
 #[derive(Clone, Copy, Debug)]
 pub enum ByteOrder {
-    LowFirst,
-    HighFirst,
+    /// Low byte first.
+    LittleEndian,
+    /// High byte first.
+    BigEndian,
 }
 
 /// The coding of an operation.
@@ -61,7 +66,7 @@ pub enum Coded<'s, 'a> {
     Words(ByteOrder, &'s [Value<'a>]),
 }
 
-/// A mode, and what then stands behind the opcode.
+/// A mode, and what then follows the opcode.
 type Way<'a> = (Mode, Operand<'a>);
 
 fn way<'a>(cpu: Cpu, mnemonic: Mnemonic, way: Way<'a>) -> Option<Instruction<'a>>
@@ -73,7 +78,7 @@ fn way<'a>(cpu: Cpu, mnemonic: Mnemonic, way: Way<'a>) -> Option<Instruction<'a>
 }
 
 /// The first of two ways whose mode the mnemonic has.
-#[tactic(auto, using(crate::proofs::CodingLaws::tries))]
+#[tactic(auto, using(crate::proofs::CodingLemmas::tries))]
 fn first_way<'a>(
     cpu: Cpu,
     mnemonic: Mnemonic,
@@ -89,13 +94,17 @@ fn first_way<'a>(
 }
 
 /// An operand that only the zero page has.
-fn zero_page<'a, A: Allocator + Clone>(above: &Symbols<'_, A>, value: Value<'a>) -> Field<'a>
-    ensures { field_of result ≡ zero_page above.now (value_of value.entry) }
+fn zero_page<'a, A: Allocator + Clone>(above: &Symbols<'_, A>, value: Value<'a>) -> Fragment<'a>
+    ensures { fragment_of result ≡ zero_page above.now (value_of value.entry) }
 {
-    Field::ZeroPage(has_zero_page_size(above, value), value)
+    if has_zero_page_size(above, value) {
+        Fragment::ZeroPage(value)
+    } else {
+        Fragment::Oversized(value)
+    }
 }
 
-/// The zero-page mode first where the operand has that size, else the absolute one.
+/// The zero-page mode first if the operand has that size, else the absolute one.
 fn by_size<'a, A: Allocator + Clone>(
     cpu: Cpu,
     above: &Symbols<'_, A>,
@@ -106,24 +115,24 @@ fn by_size<'a, A: Allocator + Clone>(
 ) -> Option<Instruction<'a>>
     ensures { option_map instruction_of result ≡ first_way cpu mnemonic (by_size above.now short long (value_of value.entry)) }
 {
-    let absolute = (long, Operand::One(Field::LowFirst(value)));
+    let absolute = (long, Operand::One(Fragment::LowFirst(value)));
     if has_zero_page_size(above, value) {
-        let zero_page = (short, Operand::One(Field::ZeroPage(true, value)));
+        let zero_page = (short, Operand::One(Fragment::ZeroPage(value)));
         return first_way(cpu, mnemonic, zero_page, absolute);
     }
-    let zero_page = (short, Operand::One(Field::ZeroPage(false, value)));
+    let zero_page = (short, Operand::One(Fragment::Oversized(value)));
     first_way(cpu, mnemonic, absolute, zero_page)
 }
 
 /// An expression alone: by size, else relative.
-#[tactic(auto, using(crate::proofs::CodingLaws::after_sizes), unfolding(crate::specs::Coding::ways))]
-fn straight<'a, A: Allocator + Clone>(
+#[tactic(auto, using(crate::proofs::CodingLemmas::after_sizes), unfolding(crate::specs::Coding::ways))]
+fn direct<'a, A: Allocator + Clone>(
     cpu: Cpu,
     above: &Symbols<'_, A>,
     mnemonic: Mnemonic,
     value: Value<'a>,
 ) -> Option<Instruction<'a>>
-    ensures { option_map instruction_of result ≡ first_way cpu mnemonic (ways above.now (Straight false (value_of value.entry))) }
+    ensures { option_map instruction_of result ≡ first_way cpu mnemonic (ways above.now (Direct Automatic (value_of value.entry))) }
 {
     if let Some(found) = by_size(cpu, above, mnemonic, Mode::Zp, Mode::Abs, value) {
         return Some(found);
@@ -131,11 +140,11 @@ fn straight<'a, A: Allocator + Clone>(
     way(
         cpu,
         mnemonic,
-        (Mode::Rel, Operand::One(Field::Distance(value))),
+        (Mode::Rel, Operand::One(Fragment::Distance(value))),
     )
 }
 
-/// The absolute mode alone, as behind `a:`.
+/// The absolute mode alone, as after `a:`.
 fn absolute<'a>(
     cpu: Cpu,
     mnemonic: Mnemonic,
@@ -144,7 +153,11 @@ fn absolute<'a>(
 ) -> Option<Instruction<'a>>
     ensures { option_map instruction_of result ≡ first_way cpu mnemonic ((mode, LowFirst (value_of value.entry) ∷ []) ∷ []) }
 {
-    way(cpu, mnemonic, (mode, Operand::One(Field::LowFirst(value))))
+    way(
+        cpu,
+        mnemonic,
+        (mode, Operand::One(Fragment::LowFirst(value))),
+    )
 }
 
 /// A mode that only the zero page has, else one that takes either size.
@@ -159,11 +172,11 @@ fn indirect<'a, A: Allocator + Clone>(
     ensures { option_map instruction_of result ≡ first_way cpu mnemonic ((short, zero_page above.now (value_of value.entry) ∷ []) ∷ (long, LowFirst (value_of value.entry) ∷ []) ∷ []) }
 {
     let zero_page = (short, Operand::One(zero_page(above, value)));
-    let absolute = (long, Operand::One(Field::LowFirst(value)));
+    let absolute = (long, Operand::One(Fragment::LowFirst(value)));
     first_way(cpu, mnemonic, zero_page, absolute)
 }
 
-/// The coding of an instruction, or none where the mnemonic has no mode of the written form.
+/// The coding of an instruction, or `None` if the mnemonic has no mode of the written form.
 #[tactic(auto, unfolding(crate::specs::Coding::ways))]
 fn instruction_in<'a, A: Allocator + Clone>(
     cpu: Cpu,
@@ -176,15 +189,33 @@ fn instruction_in<'a, A: Allocator + Clone>(
     match form {
         Form::Empty => way(cpu, mnemonic, (Mode::Imp, Operand::None)),
         Form::Accumulator => way(cpu, mnemonic, (Mode::Acc, Operand::None)),
-        Form::Hash(v) => way(cpu, mnemonic, (Mode::Imm, Operand::One(Field::Single(v)))),
-        Form::Straight(true, v) => absolute(cpu, mnemonic, Mode::Abs, v),
-        Form::Straight(false, v) => straight(cpu, above, mnemonic, v),
-        Form::WithX(true, v) => absolute(cpu, mnemonic, Mode::Absx, v),
-        Form::WithX(false, v) => by_size(cpu, above, mnemonic, Mode::Zpx, Mode::Absx, v),
-        Form::WithY(true, v) => absolute(cpu, mnemonic, Mode::Absy, v),
-        Form::WithY(false, v) => by_size(cpu, above, mnemonic, Mode::Zpy, Mode::Absy, v),
-        Form::Both(v, w) => {
-            let operand = Operand::Two(zero_page(above, v), Field::Distance(w));
+        Form::Immediate(v) => way(
+            cpu,
+            mnemonic,
+            (Mode::Imm, Operand::One(Fragment::Single(v))),
+        ),
+        Form::Direct(AddressSize::Absolute, v) => absolute(cpu, mnemonic, Mode::Abs, v),
+        Form::Direct(AddressSize::Automatic, v) => direct(cpu, above, mnemonic, v),
+        Form::DirectX(AddressSize::Absolute, v) => absolute(cpu, mnemonic, Mode::Absx, v),
+        Form::DirectX(AddressSize::Automatic, v) => by_size(
+            cpu,
+            above,
+            mnemonic,
+            Mode::Zpx,
+            Mode::Absx,
+            v,
+        ),
+        Form::DirectY(AddressSize::Absolute, v) => absolute(cpu, mnemonic, Mode::Absy, v),
+        Form::DirectY(AddressSize::Automatic, v) => by_size(
+            cpu,
+            above,
+            mnemonic,
+            Mode::Zpy,
+            Mode::Absy,
+            v,
+        ),
+        Form::Two(v, w) => {
+            let operand = Operand::Two(zero_page(above, v), Fragment::Distance(w));
             way(cpu, mnemonic, (Mode::Zprel, operand))
         }
         Form::Indirect(v) => indirect(cpu, above, mnemonic, Mode::Zpind, Mode::Ind, v),
@@ -196,7 +227,7 @@ fn instruction_in<'a, A: Allocator + Clone>(
     }
 }
 
-/// The coding of an operation, or none where a mnemonic has no mode of the written form.
+/// The coding of an operation, or `None` if a mnemonic has no mode of the written form.
 #[tactic(auto, unfolding(crate::specs::Coding::coding))]
 pub fn coding<'s, 'a, A: Allocator + Clone, B: Allocator>(
     cpu: Cpu,
@@ -211,9 +242,9 @@ pub fn coding<'s, 'a, A: Allocator + Clone, B: Allocator>(
             Some(Coded::Instruction(instruction))
         }
         Operation::Data(data) => Some(Coded::Data(data)),
-        Operation::Words(values) => Some(Coded::Words(ByteOrder::LowFirst, values)),
-        Operation::Dbyts(values) => Some(Coded::Words(ByteOrder::HighFirst, values)),
-        Operation::Addrs(values) => Some(Coded::Words(ByteOrder::LowFirst, values)),
+        Operation::Words(values) => Some(Coded::Words(ByteOrder::LittleEndian, values)),
+        Operation::Dbyts(values) => Some(Coded::Words(ByteOrder::BigEndian, values)),
+        Operation::Addrs(values) => Some(Coded::Words(ByteOrder::LittleEndian, values)),
         Operation::Nothing | Operation::Segment(_) | Operation::Code | Operation::SetCpu(_) => {
             Some(Coded::Nothing)
         }

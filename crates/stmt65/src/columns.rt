@@ -3,101 +3,86 @@
 use std::marker::Model;
 use thiserror::Error;
 
-/// A number outside the limits of the type that it was to have.
+/// A number outside the limits of a type.
 #[derive(Clone, Copy, Debug, PartialEq, Eq, Error)]
 #[error("{0} is out of range")]
 pub struct LimitError(pub u8);
 
-/// A column of a line, 1 to 120.
+/// A number from `LEAST` to `GREATEST`.
 #[derive(Clone, Copy, Debug, PartialEq, Eq)]
-pub struct Column {
+pub struct Within<const LEAST: u8, const GREATEST: u8> {
     number: u8,
 }
 
-impl Model for Column {
+impl<const LEAST: u8, const GREATEST: u8> Model for Within<LEAST, GREATEST> {
     ghost use Rattle.std.specs.Prelude.{ℕ, ◌≤◌};
 
     ghost Value = { ℕ };
 
-    ghost view = { λ c. c.number };
+    ghost view = { λ w. w.number };
 
-    ghost invariant = { λ c. (1 ≤ c.number) × (c.number ≤ 120) };
+    ghost invariant = { λ w. (LEAST ≤ w.number) × (w.number ≤ GREATEST) };
 
     ghost inverse = { λ n. record { number = n } };
 }
 
-impl Column {
+impl<const LEAST: u8, const GREATEST: u8> Within<LEAST, GREATEST> {
     ghost use Rattle.std.specs.Prelude.{◌≡◌, ◌≤◌};
 
-    /// The column's number, 1 to 120.
+    /// The number.
     pub fn get(self) -> u8
-        ensures value { result ≡ self }
-        ensures least { 1 ≤ result }
-        ensures greatest { result ≤ 120 }
+        ensures value { result ≡ self.entry }
+        ensures least { LEAST ≤ result }
+        ensures greatest { result ≤ GREATEST }
     {
         self.number
     }
 }
 
-impl TryFrom<u8> for Column {
+impl<const LEAST: u8, const GREATEST: u8> TryFrom<u8> for Within<LEAST, GREATEST> {
     ghost use Rattle.stmt65.specs.Limits.{ConvertsWithin};
 
     type Error = LimitError;
 
-    ghost try_from_gives = { ConvertsWithin 1 120 };
+    ghost try_from_gives = { ConvertsWithin LEAST GREATEST };
 
     fn try_from(number: u8) -> Result<Self, LimitError> {
-        if 1 <= number && number <= 120 {
-            Ok(Column { number })
+        if LEAST <= number && number <= GREATEST {
+            Ok(Within { number })
         } else {
             Err(LimitError(number))
         }
     }
 }
 
-/// How many bytes the longest name has that stands on the line of its statement, 0 to 120.
-#[derive(Clone, Copy, Debug, PartialEq, Eq)]
-pub struct LabelBreak {
-    bytes: u8,
-}
+/// A column of a line, 1 to 120.
+pub type Column = Within<1, 120>;
 
-impl Model for LabelBreak {
-    ghost use Rattle.std.specs.Prelude.{ℕ, ◌≤◌};
+/// The length of the longest label that stands on the line of its statement, 0 to 120 bytes.
+pub type LabelBreak = Within<0, 120>;
 
-    ghost Value = { ℕ };
+/// How much a listing remarks: 0 nothing, 4 the most.
+pub type Level = Within<0, 4>;
 
-    ghost view = { λ b. b.bytes };
+impl Column {
+    ghost use Rattle.std.specs.Prelude.{◌≡◌};
 
-    ghost invariant = { λ b. b.bytes ≤ 120 };
-
-    ghost inverse = { λ n. record { bytes = n } };
-}
-
-impl LabelBreak {
-    ghost use Rattle.std.specs.Prelude.{◌≡◌, ◌≤◌};
-
-    /// The number of bytes, 0 to 120.
-    pub fn get(self) -> u8
-        ensures value { result ≡ self }
-        ensures greatest { result ≤ 120 }
+    /// Column 1.
+    pub fn first() -> Self
+        ensures { result ≡ 1 }
     {
-        self.bytes
+        Within { number: 1 }
     }
 }
 
-impl TryFrom<u8> for LabelBreak {
-    ghost use Rattle.stmt65.specs.Limits.{ConvertsWithin};
+/// No remarks.
+impl Default for Level {
+    ghost use Rattle.std.specs.Prelude.{◌≡◌};
 
-    type Error = LimitError;
+    ghost is_default = { λ l. l ≡ 0 };
 
-    ghost try_from_gives = { ConvertsWithin 0 120 };
-
-    fn try_from(bytes: u8) -> Result<Self, LimitError> {
-        if bytes <= 120 {
-            Ok(LabelBreak { bytes })
-        } else {
-            Err(LimitError(bytes))
-        }
+    fn default() -> Self {
+        Within { number: 0 }
     }
 }
 
@@ -108,15 +93,30 @@ pub struct Columns {
     pub mnemonic: Column,
     /// Of operands.
     pub argument: Column,
-    /// Of the remark behind a statement.
+    /// Of the remark after a statement.
     pub comment: Column,
-    /// Of the bytes as characters, behind that remark.
+    /// Of the bytes as characters, after that remark.
     pub text: Column,
-    /// A longer label stands on a line of its own.
+    /// A label with more bytes stands on a line of its own.
     pub label_break: LabelBreak,
 }
 
-/// Those of a listing whose options say nothing of them: 9, 17, 49 and 81, and a label break of 7.
+impl Columns {
+    ghost use Rattle.std.specs.Prelude.{◌≡◌};
+    ghost use Rattle.stmt65.specs.Columns.{fits_label};
+
+    /// Whether a label of this name stands on the line of its statement, if that is an instruction or
+    /// data: the name has at most as many bytes as the label break, and their number plus 1 is below
+    /// the mnemonic column.
+    pub fn fits_label(&self, name: &[u8]) -> bool
+        ensures { result ≡ fits_label self.now name.now }
+    {
+        name.len() <= self.label_break.get() as usize
+            && name.len() + 1 < self.mnemonic.get() as usize
+    }
+}
+
+/// The columns of a listing whose options set none: 9, 17, 49 and 81, and a label break of 7.
 impl Default for Columns {
     ghost use Rattle.std.specs.Prelude.{◌≡◌};
     ghost use Rattle.stmt65.specs.Columns.{default_columns};
@@ -125,11 +125,11 @@ impl Default for Columns {
 
     fn default() -> Self {
         Columns {
-            mnemonic: Column { number: 9 },
-            argument: Column { number: 17 },
-            comment: Column { number: 49 },
-            text: Column { number: 81 },
-            label_break: LabelBreak { bytes: 7 },
+            mnemonic: Within { number: 9 },
+            argument: Within { number: 17 },
+            comment: Within { number: 49 },
+            text: Within { number: 81 },
+            label_break: Within { number: 7 },
         }
     }
 }

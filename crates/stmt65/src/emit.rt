@@ -2,18 +2,19 @@
 
 ghost use Rattle.std.specs.Prelude.{◌≡◌, ◌≤◌, ◌++◌, OnOk};
 ghost use Rattle.std.specs.List.{list_all, flat_map};
-ghost use Rattle.stmt65.specs.SaidViews.{value_of, datum_of};
-ghost use Rattle.stmt65.specs.Coding.{datum_fields, is_field_known, field_len, field_fits, field_bytes, coding_len};
-ghost use Rattle.stmt65.specs.CodingViews.{field_of, operand_of, instruction_of, word_field, data_fields, word_fields, coded_of, held};
+ghost use Rattle.stmt65.specs.code.SourceLineViews.{value_of, datum_of};
+ghost use Rattle.stmt65.specs.Coding.{datum_fragments, is_fragment_known, fragment_len, fragment_fits, fragment_bytes, coding_len};
+ghost use Rattle.stmt65.specs.code.CodingViews.{fragment_of, operand_of, instruction_of, word_fragment, data_fragments, word_fragments, coded_of};
+ghost use Rattle.stmt65.specs.code.Held.{held};
 
-use crate::coding::{ByteOrder, Coded, Field, Instruction, Operand};
-use crate::field_bytes::{field_fits, is_field_known, put_field};
-use crate::said::{Datum, Value};
+use crate::coding::{ByteOrder, Coded, Fragment, Instruction, Operand};
+use crate::fragment_bytes::{fragment_fits, is_fragment_known, put_fragment};
+use crate::source_line::{Datum, Value};
 use crate::symbols::Symbols;
 use std::alloc::{AllocError, Allocator};
 
-/// How many bytes the coding has; from 2^64 - 1 on all lengths count the same.
-#[tactic(auto, using(crate::proofs::CodingLaws::word_fields_len), unfolding(crate::specs::Coding::coding_len))]
+/// How many bytes the coding has; 2^64 - 1 in place of every greater length.
+#[tactic(auto, using(crate::proofs::CodingLemmas::word_fragments_len), unfolding(crate::specs::Coding::coding_len))]
 pub fn coded_len(coded: Coded) -> u64
     ensures { result ≡ held (coding_len (coded_of coded.entry)) }
 {
@@ -31,33 +32,37 @@ fn instruction_len(instruction: Instruction) -> u64
 {
     match instruction.operand {
         Operand::None => 1,
-        Operand::One(field) => 1 + field_len(field),
-        Operand::Two(first, second) => 1 + field_len(first) + field_len(second),
+        Operand::One(fragment) => 1 + fragment_len(fragment),
+        Operand::Two(first, second) => 1 + fragment_len(first) + fragment_len(second),
     }
 }
 
-fn field_len(field: Field) -> u64
-    ensures value { result ≡ field_len (field_of field.entry) }
+fn fragment_len(fragment: Fragment) -> u64
+    ensures value { result ≡ fragment_len (fragment_of fragment.entry) }
     ensures small { result ≤ 2 }
 {
-    match field {
-        Field::LowFirst(_) | Field::HighFirst(_) => 2,
-        Field::Fixed(_) | Field::Single(_) | Field::ZeroPage(_, _) | Field::Distance(_) => 1,
+    match fragment {
+        Fragment::LowFirst(_) | Fragment::HighFirst(_) => 2,
+        Fragment::Fixed(_)
+        | Fragment::Single(_)
+        | Fragment::ZeroPage(_)
+        | Fragment::Oversized(_)
+        | Fragment::Distance(_) => 1,
     }
 }
 
-#[tactic(auto, using(crate::proofs::CodingLaws::datum_len), unfolding(crate::specs::Coding::coding_len))]
+#[tactic(auto, using(crate::proofs::CodingLemmas::datum_len), unfolding(crate::specs::Coding::coding_len))]
 fn datum_len(datum: Datum) -> u64
-    ensures { result ≡ coding_len (datum_fields (datum_of datum.entry)) }
+    ensures { result ≡ coding_len (datum_fragments (datum_of datum.entry)) }
 {
     match datum {
-        Datum::Byte(_) => 1,
-        Datum::Bytes(bytes) => bytes.len() as u64,
+        Datum::Number(_) => 1,
+        Datum::String(bytes) => bytes.len() as u64,
     }
 }
 
 fn data_len(items: &[Datum]) -> u64
-    ensures { result ≡ held (coding_len (data_fields items.now)) }
+    ensures { result ≡ held (coding_len (data_fragments items.now)) }
 {
     let mut len: u64 = 0;
     for datum in items {
@@ -68,7 +73,7 @@ fn data_len(items: &[Datum]) -> u64
 
 /// Whether each name in the coding has a definition.
 pub fn are_known<A: Allocator + Clone>(names: &Symbols<'_, A>, coded: Coded) -> bool
-    ensures { result ≡ list_all (is_field_known names.now) (coded_of coded.entry) }
+    ensures { result ≡ list_all (is_fragment_known names.now) (coded_of coded.entry) }
 {
     match coded {
         Coded::Nothing => true,
@@ -79,23 +84,23 @@ pub fn are_known<A: Allocator + Clone>(names: &Symbols<'_, A>, coded: Coded) -> 
 }
 
 fn is_operand_known<A: Allocator + Clone>(names: &Symbols<'_, A>, operand: Operand) -> bool
-    ensures { result ≡ list_all (is_field_known names.now) (operand_of operand.entry) }
+    ensures { result ≡ list_all (is_fragment_known names.now) (operand_of operand.entry) }
 {
     match operand {
         Operand::None => true,
-        Operand::One(field) => is_field_known(names, field),
+        Operand::One(fragment) => is_fragment_known(names, fragment),
         Operand::Two(first, second) => {
-            is_field_known(names, first) && is_field_known(names, second)
+            is_fragment_known(names, first) && is_fragment_known(names, second)
         }
     }
 }
 
-fn word_field<'a>(order: ByteOrder, value: Value<'a>) -> Field<'a>
-    ensures { field_of result ≡ word_field order (value_of value.entry) }
+fn word_fragment<'a>(order: ByteOrder, value: Value<'a>) -> Fragment<'a>
+    ensures { fragment_of result ≡ word_fragment order (value_of value.entry) }
 {
     match order {
-        ByteOrder::LowFirst => Field::LowFirst(value),
-        ByteOrder::HighFirst => Field::HighFirst(value),
+        ByteOrder::LittleEndian => Fragment::LowFirst(value),
+        ByteOrder::BigEndian => Fragment::HighFirst(value),
     }
 }
 
@@ -104,10 +109,10 @@ fn are_words_known<A: Allocator + Clone>(
     order: ByteOrder,
     values: &[Value],
 ) -> bool
-    ensures { result ≡ list_all (is_field_known names.now) (word_fields order values.now) }
+    ensures { result ≡ list_all (is_fragment_known names.now) (word_fragments order values.now) }
 {
     for value in values {
-        if !is_field_known(names, word_field(order, *value)) {
+        if !is_fragment_known(names, word_fragment(order, *value)) {
             return false;
         }
     }
@@ -115,9 +120,9 @@ fn are_words_known<A: Allocator + Clone>(
 }
 
 /// Whether the coding has room for its values; `next` is the address after it.
-#[tactic(auto, unfolding(crate::specs::Coding::field_fits))]
+#[tactic(auto, unfolding(crate::specs::Coding::fragment_fits))]
 pub fn fits<A: Allocator + Clone>(names: &Symbols<'_, A>, next: u64, coded: Coded) -> bool
-    ensures { result ≡ list_all (field_fits names.now next) (coded_of coded.entry) }
+    ensures { result ≡ list_all (fragment_fits names.now next) (coded_of coded.entry) }
 {
     match coded {
         Coded::Nothing => true,
@@ -128,30 +133,30 @@ pub fn fits<A: Allocator + Clone>(names: &Symbols<'_, A>, next: u64, coded: Code
 }
 
 fn operand_fits<A: Allocator + Clone>(names: &Symbols<'_, A>, next: u64, operand: Operand) -> bool
-    ensures { result ≡ list_all (field_fits names.now next) (operand_of operand.entry) }
+    ensures { result ≡ list_all (fragment_fits names.now next) (operand_of operand.entry) }
 {
     match operand {
         Operand::None => true,
-        Operand::One(field) => field_fits(names, next, field),
+        Operand::One(fragment) => fragment_fits(names, next, fragment),
         Operand::Two(first, second) => {
-            field_fits(names, next, first) && field_fits(names, next, second)
+            fragment_fits(names, next, first) && fragment_fits(names, next, second)
         }
     }
 }
 
-#[tactic(auto, using(crate::proofs::CodingLaws::string_fits))]
+#[tactic(auto, using(crate::proofs::CodingLemmas::string_fits))]
 fn datum_fits<A: Allocator + Clone>(names: &Symbols<'_, A>, next: u64, datum: Datum) -> bool
-    ensures { result ≡ list_all (field_fits names.now next) (datum_fields (datum_of datum.entry)) }
+    ensures { result ≡ list_all (fragment_fits names.now next) (datum_fragments (datum_of datum.entry)) }
 {
     match datum {
-        Datum::Byte(n) => field_fits(names, next, Field::Single(Value::Plain(n))),
-        Datum::Bytes(_) => true,
+        Datum::Number(n) => fragment_fits(names, next, Fragment::Single(Value::Number(n))),
+        Datum::String(_) => true,
     }
 }
 
-#[tactic(auto, using(crate::proofs::CodingLaws::list_all_append))]
+#[tactic(auto, using(crate::proofs::CodingLemmas::list_all_append))]
 fn data_fit<A: Allocator + Clone>(names: &Symbols<'_, A>, next: u64, items: &[Datum]) -> bool
-    ensures { result ≡ list_all (field_fits names.now next) (data_fields items.now) }
+    ensures { result ≡ list_all (fragment_fits names.now next) (data_fragments items.now) }
 {
     for datum in items {
         if !datum_fits(names, next, *datum) {
@@ -167,10 +172,10 @@ fn words_fit<A: Allocator + Clone>(
     order: ByteOrder,
     values: &[Value],
 ) -> bool
-    ensures { result ≡ list_all (field_fits names.now next) (word_fields order values.now) }
+    ensures { result ≡ list_all (fragment_fits names.now next) (word_fragments order values.now) }
 {
     for value in values {
-        if !field_fits(names, next, word_field(order, *value)) {
+        if !fragment_fits(names, next, word_fragment(order, *value)) {
             return false;
         }
     }
@@ -184,7 +189,7 @@ pub fn put_coded<A: Allocator + Clone, B: Allocator>(
     next: u64,
     coded: Coded,
 ) -> Result<(), AllocError>
-    ensures { OnOk result (out.new.items ≡ out.old.items ++ flat_map (field_bytes names.now next) (coded_of coded.entry)) }
+    ensures { OnOk result (out.new.items ≡ out.old.items ++ flat_map (fragment_bytes names.now next) (coded_of coded.entry)) }
 {
     match coded {
         Coded::Nothing => Ok(()),
@@ -200,9 +205,9 @@ fn put_instruction<A: Allocator + Clone, B: Allocator>(
     next: u64,
     instruction: Instruction,
 ) -> Result<(), AllocError>
-    ensures { OnOk result (out.new.items ≡ out.old.items ++ flat_map (field_bytes names.now next) (instruction_of instruction.entry)) }
+    ensures { OnOk result (out.new.items ≡ out.old.items ++ flat_map (fragment_bytes names.now next) (instruction_of instruction.entry)) }
 {
-    put_field(out, names, next, Field::Fixed(instruction.opcode))?;
+    put_fragment(out, names, next, Fragment::Fixed(instruction.opcode))?;
     put_operand(out, names, next, instruction.operand)
 }
 
@@ -212,30 +217,30 @@ fn put_operand<A: Allocator + Clone, B: Allocator>(
     next: u64,
     operand: Operand,
 ) -> Result<(), AllocError>
-    ensures { OnOk result (out.new.items ≡ out.old.items ++ flat_map (field_bytes names.now next) (operand_of operand.entry)) }
+    ensures { OnOk result (out.new.items ≡ out.old.items ++ flat_map (fragment_bytes names.now next) (operand_of operand.entry)) }
 {
     match operand {
         Operand::None => Ok(()),
-        Operand::One(field) => put_field(out, names, next, field),
+        Operand::One(fragment) => put_fragment(out, names, next, fragment),
         Operand::Two(first, second) => {
-            put_field(out, names, next, first)?;
-            put_field(out, names, next, second)
+            put_fragment(out, names, next, first)?;
+            put_fragment(out, names, next, second)
         }
     }
 }
 
-#[tactic(auto, using(crate::proofs::CodingLaws::string_bytes))]
+#[tactic(auto, using(crate::proofs::CodingLemmas::string_bytes))]
 fn put_datum<A: Allocator + Clone, B: Allocator>(
     out: &mut Vec<u8, B>,
     names: &Symbols<'_, A>,
     next: u64,
     datum: Datum,
 ) -> Result<(), AllocError>
-    ensures { OnOk result (out.new.items ≡ out.old.items ++ flat_map (field_bytes names.now next) (datum_fields (datum_of datum.entry))) }
+    ensures { OnOk result (out.new.items ≡ out.old.items ++ flat_map (fragment_bytes names.now next) (datum_fragments (datum_of datum.entry))) }
 {
     match datum {
-        Datum::Byte(n) => put_field(out, names, next, Field::Single(Value::Plain(n))),
-        Datum::Bytes(bytes) => out.extend_from_slice(bytes),
+        Datum::Number(n) => put_fragment(out, names, next, Fragment::Single(Value::Number(n))),
+        Datum::String(bytes) => out.extend_from_slice(bytes),
     }
 }
 
@@ -245,7 +250,7 @@ fn put_data<A: Allocator + Clone, B: Allocator>(
     next: u64,
     items: &[Datum],
 ) -> Result<(), AllocError>
-    ensures { OnOk result (out.new.items ≡ out.old.items ++ flat_map (field_bytes names.now next) (data_fields items.now)) }
+    ensures { OnOk result (out.new.items ≡ out.old.items ++ flat_map (fragment_bytes names.now next) (data_fragments items.now)) }
 {
     for datum in items {
         put_datum(out, names, next, *datum)?;
@@ -260,10 +265,10 @@ fn put_words<A: Allocator + Clone, B: Allocator>(
     order: ByteOrder,
     values: &[Value],
 ) -> Result<(), AllocError>
-    ensures { OnOk result (out.new.items ≡ out.old.items ++ flat_map (field_bytes names.now next) (word_fields order values.now)) }
+    ensures { OnOk result (out.new.items ≡ out.old.items ++ flat_map (fragment_bytes names.now next) (word_fragments order values.now)) }
 {
     for value in values {
-        put_field(out, names, next, word_field(order, *value))?;
+        put_fragment(out, names, next, word_fragment(order, *value))?;
     }
     Ok(())
 }

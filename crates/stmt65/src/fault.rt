@@ -17,7 +17,7 @@ pub enum AsmFaultKind {
     /// The CPU has no such form of the mnemonic.
     #[error("no such form")]
     NoSuchForm,
-    /// A name that the text nowhere defines.
+    /// A name that no line of the text defines.
     #[error("undefined name")]
     Undefined,
     /// A name that a line above defines.
@@ -34,7 +34,7 @@ pub enum AsmFaultKind {
     Memory,
 }
 
-/// A fault of a text: the line from 1, or 0 where memory was refused, and what is wrong with it.
+/// A fault of a text: the line from 1, or 0 if memory was refused, and what is wrong with it.
 #[derive(Clone, Copy, Debug, PartialEq, Eq, Error)]
 #[error("line {line}: {kind}")]
 pub struct AsmFault {

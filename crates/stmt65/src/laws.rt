@@ -2,8 +2,9 @@
 
 ghost use Rattle.stmt65.specs.ReadingLaws.{ReadsSpellings, SpellsOne, TakesParts, ReadsLines};
 ghost use Rattle.stmt65.specs.TableLaws.{CutsTexts};
+ghost use Rattle.stmt65.specs.PatternLaws.{PrintsPatterns};
 
-/// The parts of a line are read as a statement exactly where they are a spelling of it.
+/// The parts of a line are read as a statement exactly when they are a spelling of it.
 #[tactic(auto, using(crate::proofs::LineLemmas::reads_spellings))]
 pub fn reads_spellings()
     ensures { ReadsSpellings }
@@ -15,13 +16,13 @@ pub fn spells_one()
     ensures { SpellsOne }
 {}
 
-/// The lexer takes the parts that stand in the line, each as long as it can be.
+/// The lexer takes the parts of the line, each as long as it can be.
 #[tactic(auto, using(crate::proofs::SpacingLemmas::takes_parts))]
 pub fn takes_parts()
     ensures { TakesParts }
 {}
 
-/// A line is read as a statement exactly where it is a spacing of a spelling of it.
+/// A line is read as a statement exactly when it is a spacing of a spelling of it.
 #[tactic(auto, using(crate::proofs::LineLemmas::reads_lines))]
 pub fn reads_lines()
     ensures { ReadsLines }
@@ -30,4 +31,9 @@ pub fn reads_lines()
 /// A text is cut into the longest stretches and the bytes between, and in no other way.
 pub fn cuts_texts()
     ensures { CutsTexts }
+{}
+
+/// What is printed of an operand is the pattern of its mode with the expressions in it.
+pub fn prints_patterns()
+    ensures { PrintsPatterns }
 {}

@@ -1,12 +1,10 @@
 //! The parts of a line, each taken as long as it can be.
 
-ghost use Rattle.std.specs.Prelude.{◌≡◌, ◌+◌, ◌<◌, ◌≤◌, [], ◌∷◌, length, min, MatchOption, drop, slice_index, false};
+ghost use Rattle.std.specs.Prelude.{◌≡◌, ◌+◌, ◌<◌, ◌≤◌, [], ◌∷◌, length, MatchOption, drop, slice_index, false};
 ghost use Rattle.std.specs.List.{prefix_len};
-ghost use Rattle.std.specs.Char.{is_ascii_digit, is_ascii_hexdigit, digit_value};
-ghost use Rattle.std.specs.Str.Parse.{digits_value};
-ghost use Rattle.stmt65.specs.Parts.{number_of};
+ghost use Rattle.std.specs.Char.{is_ascii_digit, is_ascii_hexdigit};
 ghost use Rattle.stmt65.specs.Lexing.{is_blank, is_word_start, is_word_byte, is_text_byte, hex_len, part_at, parts};
-ghost use Rattle.stmt65.specs.PartViews.{part_of};
+ghost use Rattle.stmt65.specs.code.PartViews.{part_of};
 
 /// What stands in a line: words and numbers as they are written, the bytes between the quotes of a
 /// string, `:=`, and any other byte by itself.
@@ -149,42 +147,5 @@ pub fn first_part(bytes: &[u8]) -> Option<(Part<'_>, &[u8])>
             let (part, more) = part_at(bytes);
             Some((part, &bytes[more + 1..]))
         }
-    }
-}
-
-/// What the text of a number counts: decimal digits, or `$` and hex digits. Where that is
-/// 2^64 - 1 or more the answer is 2^64 - 1.
-#[tactic(auto, unfolding(crate::specs::Parts::number_of))]
-pub fn number_of(text: &[u8]) -> u64
-    ensures { result ≡ number_of text.now }
-{
-    match text {
-        [b'$', digits @ ..] => value_of_digits(16, digits),
-        _ => value_of_digits(10, text),
-    }
-}
-
-#[tactic(auto, using(crate::proofs::NumberLemmas::capped_more))]
-fn value_of_digits(radix: u64, digits: &[u8]) -> u64
-    requires { 0 < radix }
-    ensures { result ≡ min (digits_value radix digits.now) 18446744073709551615 }
-{
-    let mut n: u64 = 0;
-    'digits: for d in digits {
-        n = n
-            .saturating_mul(radix)
-            .saturating_add(u64::from(value_of_digit(*d)));
-    }
-    n
-}
-
-fn value_of_digit(d: u8) -> u8
-    ensures { result ≡ digit_value d }
-{
-    match d {
-        b'0'..=b'9' => d - b'0',
-        b'A'..=b'Z' => d - b'A' + 10,
-        b'a'..=b'z' => d - b'a' + 10,
-        _ => 36,
     }
 }

@@ -3,7 +3,7 @@
 //! Printing: a [`Statement`] with its [`Expr`]s and [`Operands`] is what one line of a listing says.
 //! [`put_line`] prints it at its [`Columns`], with the [`Remarks`] that stand beside it.
 //!
-//! Reading: [`read_line`] answers what a line says, a [`Said`], or that it says nothing. `lexer` cuts
+//! Reading: [`read_line`] answers what a line says, a [`SourceLine`], or that it says nothing. `lexer` cuts
 //! a line into parts, `parts` is a cursor over them, and `names`, `expressions`, `operands`,
 //! `operations` and `reading` take from it what they are named for. The functions of `laws` promise
 //! that a line is read as something exactly where it is a spelling of it.
@@ -14,24 +14,25 @@
 
 mod assembler;
 mod coding;
-mod coding_laws;
 mod columns;
 mod emit;
 mod expressions;
 mod fault;
-mod field_bytes;
+mod fragment_bytes;
 mod laws;
 mod lexer;
 mod line_faults;
 mod lines;
+mod meaning_laws;
 mod names;
+mod numeral;
 mod operands;
 mod operations;
 mod parts;
 mod print;
 mod reading;
 mod remarks;
-mod said;
+mod source_line;
 mod state;
 mod statement;
 mod symbols;
@@ -40,12 +41,17 @@ mod tests;
 mod values;
 
 pub use assembler::assemble;
-pub use coding_laws::codes_alike;
-pub use columns::{Column, Columns, LabelBreak, LimitError};
+pub use columns::{Column, Columns, LabelBreak, Level, LimitError, Within};
 pub use fault::{AsmFault, AsmFaultKind};
-pub use laws::{cuts_texts, reads_lines, reads_spellings, spells_one, takes_parts};
+pub use laws::{
+    cuts_texts, prints_patterns, reads_lines, reads_spellings, spells_one, takes_parts,
+};
+pub use meaning_laws::{
+    codes_alike, finds_lowest_fault, means_first_fault, means_its_lines, takes_modes,
+};
+pub use numeral::Numeral;
 pub use print::{Line, put_line};
 pub use reading::read_line;
-pub use remarks::{Level, Remarks};
-pub use said::{Datum, Form, Operation, Said, Value};
-pub use statement::{Expr, Operands, Statement};
+pub use remarks::Remarks;
+pub use source_line::{AddressSize, Datum, Form, Minus, Operation, SourceLine, Value};
+pub use statement::{Expr, Operands, Statement, Target};

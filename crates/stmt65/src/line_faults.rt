@@ -2,33 +2,35 @@
 
 ghost use Rattle.std.specs.Prelude.{◌≡◌, ◌||◌, not, nat_lt, is_some, Some};
 ghost use Rattle.std.specs.List.{list_any, list_all};
-ghost use Rattle.stmt65.specs.SaidViews.{said_of};
+ghost use Rattle.stmt65.specs.code.SourceLineViews.{source_of};
 ghost use Rattle.stmt65.specs.Symbols.{find_name};
-ghost use Rattle.stmt65.specs.Coding.{is_field_known, field_fits};
-ghost use Rattle.stmt65.specs.Meaning.{operation_in, has_unknown_cpu, lowest, fault_of};
-ghost use Rattle.stmt65.specs.MeaningViews.{state_of, fields_in, definitions_in, IsPlaced};
+ghost use Rattle.stmt65.specs.Coding.{is_fragment_known, fragment_fits};
+ghost use Rattle.stmt65.specs.Meaning.{operation_in, has_unknown_cpu, first_of, fault_of};
+ghost use Rattle.stmt65.specs.code.MeaningViews.{state_of, fragments_in, definitions_in, IsPlaced};
 
 use crate::coding::Coded;
 use crate::emit::{are_known, fits};
 use crate::fault::AsmFaultKind;
-use crate::said::{Operation, Said};
-use crate::state::{Placed, State};
+use crate::source_line::{Operation, SourceLine};
+use crate::state::{Placed, State, cpu_set};
 use crate::symbols::{Definition, Symbols};
-use isa65::Cpu;
 use std::alloc::Allocator;
 
 #[tactic(auto, unfolding(crate::specs::Meaning::has_unknown_cpu))]
-fn has_unknown_cpu<'a, B: Allocator>(said: &Said<'a, B>) -> bool
-    ensures { result ≡ has_unknown_cpu (operation_in (said_of said.now)) }
+fn has_unknown_cpu<'a, B: Allocator>(source: &SourceLine<'a, B>) -> bool
+    ensures { result ≡ has_unknown_cpu (operation_in (source_of source.now)) }
 {
-    match said {
-        Said::Stated(_, Operation::SetCpu(text)) => Cpu::from_bytes(text).is_none(),
+    match source {
+        SourceLine::Statement {
+            operation: Operation::SetCpu(text),
+            ..
+        } => cpu_set(text).is_none(),
         _ => false,
     }
 }
 
 fn is_known<A: Allocator + Clone>(all: &Symbols<'_, A>, coded: Option<Coded>) -> bool
-    ensures { result ≡ list_all (is_field_known all.now) (fields_in coded.entry) }
+    ensures { result ≡ list_all (is_fragment_known all.now) (fragments_in coded.entry) }
 {
     match coded {
         Some(coded) => are_known(all, coded),
@@ -37,7 +39,7 @@ fn is_known<A: Allocator + Clone>(all: &Symbols<'_, A>, coded: Option<Coded>) ->
 }
 
 fn has_room<A: Allocator + Clone>(all: &Symbols<'_, A>, next: u64, coded: Option<Coded>) -> bool
-    ensures { result ≡ list_all (field_fits all.now next) (fields_in coded.entry) }
+    ensures { result ≡ list_all (fragment_fits all.now next) (fragments_in coded.entry) }
 {
     match coded {
         Some(coded) => fits(all, next, coded),
@@ -64,55 +66,42 @@ fn is_large(definition: Option<Definition>) -> bool
 }
 
 fn is_out_of_range<A: Allocator + Clone>(all: &Symbols<'_, A>, placed: Placed) -> bool
-    ensures { result ≡ (list_any (λ d. nat_lt 65535 d.value) (definitions_in placed.entry.definition) || not (list_all (field_fits all.now placed.entry.next) (fields_in placed.entry.coded))) }
+    ensures { result ≡ (list_any (λ d. nat_lt 65535 d.value) (definitions_in placed.entry.definition) || not (list_all (fragment_fits all.now placed.entry.next) (fragments_in placed.entry.coded))) }
 {
     is_large(placed.definition) || !has_room(all, placed.next, placed.coded)
 }
 
-/// Of the tests, in the order of their faults, the first that holds.
-fn lowest(
-    unknown_cpu: bool,
-    no_form: bool,
-    undefined: bool,
-    twice: bool,
-    out_of_range: bool,
-    past_end: bool,
-) -> Option<AsmFaultKind>
-    ensures { result ≡ lowest unknown_cpu no_form undefined twice out_of_range past_end }
+/// The first kind whose test holds.
+fn first_of(tests: &[(AsmFaultKind, bool)]) -> Option<AsmFaultKind>
+    ensures { result ≡ first_of tests.now }
 {
-    if unknown_cpu {
-        Some(AsmFaultKind::UnknownCpu)
-    } else if no_form {
-        Some(AsmFaultKind::NoSuchForm)
-    } else if undefined {
-        Some(AsmFaultKind::Undefined)
-    } else if twice {
-        Some(AsmFaultKind::DefinedTwice)
-    } else if out_of_range {
-        Some(AsmFaultKind::OutOfRange)
-    } else if past_end {
-        Some(AsmFaultKind::PastEnd)
-    } else {
-        None
+    for (kind, holds) in tests {
+        if *holds {
+            return Some(*kind);
+        }
     }
+    None
 }
 
 /// The lowest fault of a line in its state; `all` are the definitions of the whole text.
 pub fn fault_of<'a, A: Allocator + Clone, B: Allocator>(
     all: &Symbols<'_, A>,
     state: &State<'_, A>,
-    said: &Said<'a, B>,
+    source: &SourceLine<'a, B>,
     placed: Placed<'_, 'a>,
 ) -> Option<AsmFaultKind>
-    requires { IsPlaced placed (state_of state.now) (said_of said.now) }
-    ensures { result ≡ fault_of all.now (state_of state.now) (Some (said_of said.now)) }
+    requires { IsPlaced placed (state_of state.now) (source_of source.now) }
+    ensures { result ≡ fault_of all.now (state_of state.now) (Some (source_of source.now)) }
 {
-    lowest(
-        has_unknown_cpu(said),
-        placed.coded.is_none(),
-        !is_known(all, placed.coded),
-        is_above(&state.above, placed.definition),
-        is_out_of_range(all, placed),
-        placed.next > 65536,
-    )
+    first_of(&[
+        (AsmFaultKind::UnknownCpu, has_unknown_cpu(source)),
+        (AsmFaultKind::NoSuchForm, placed.coded.is_none()),
+        (AsmFaultKind::Undefined, !is_known(all, placed.coded)),
+        (
+            AsmFaultKind::DefinedTwice,
+            is_above(&state.above, placed.definition),
+        ),
+        (AsmFaultKind::OutOfRange, is_out_of_range(all, placed)),
+        (AsmFaultKind::PastEnd, placed.next > 65536),
+    ])
 }

@@ -1,40 +1,46 @@
 //! The written forms of an operand.
 
 ghost use Rattle.std.specs.Prelude.{◌≡◌};
-ghost use Rattle.stmt65.specs.Found.{Gives};
-ghost use Rattle.stmt65.specs.SaidViews.{value_of, form_of as form_of_code};
-ghost use Rattle.stmt65.specs.Reading.{whole, tail_at, inner_at, form_of};
+ghost use Rattle.stmt65.specs.code.Found.{Gives};
+ghost use Rattle.stmt65.specs.code.SourceLineViews.{value_of, form_of as form_of_code};
+ghost use Rattle.stmt65.specs.Reading.{whole, is_absolute, tail_at, inner_at, form_of};
 
 use crate::expressions::next_value;
 use crate::parts::Parts;
-use crate::said::{Form, Value};
+use crate::source_line::{AddressSize, Form, Value};
 
-/// The form, where nothing is left.
+/// The form, if nothing is left.
 fn whole<'a>(form: Form<'a>, parts: &Parts<'a>) -> Option<Form<'a>>
     ensures { Gives form_of_code result (whole (form_of_code form.entry) parts.now) }
 {
     if parts.is_done() { Some(form) } else { None }
 }
 
-/// Behind the expression that stands first; `prefix` says whether `a:` stands before it.
+fn is_absolute(size: AddressSize) -> bool
+    ensures { result ≡ is_absolute size }
+{
+    matches!(size, AddressSize::Absolute)
+}
+
+/// After the first expression; `size` says whether `a:` stands before it.
 #[tactic(auto, unfolding(crate::specs::Reading::tail_at))]
-fn tail_at<'a>(prefix: bool, value: Value<'a>, parts: &mut Parts<'a>) -> Option<Form<'a>>
-    ensures { Gives form_of_code result (tail_at prefix (value_of value.entry) parts.old) }
+fn tail_at<'a>(size: AddressSize, value: Value<'a>, parts: &mut Parts<'a>) -> Option<Form<'a>>
+    ensures { Gives form_of_code result (tail_at size (value_of value.entry) parts.old) }
 {
     if !parts.eat(b',') {
-        return whole(Form::Straight(prefix, value), parts);
+        return whole(Form::Direct(size, value), parts);
     }
     if parts.eat_word(b"x") {
-        return whole(Form::WithX(prefix, value), parts);
+        return whole(Form::DirectX(size, value), parts);
     }
     if parts.eat_word(b"y") {
-        return whole(Form::WithY(prefix, value), parts);
+        return whole(Form::DirectY(size, value), parts);
     }
-    if prefix {
+    if is_absolute(size) {
         return None;
     }
     let second = next_value(parts)?;
-    whole(Form::Both(value, second), parts)
+    whole(Form::Two(value, second), parts)
 }
 
 /// Behind `(` and an expression.
@@ -63,14 +69,14 @@ fn inner_at<'a>(value: Value<'a>, parts: &mut Parts<'a>) -> Option<Form<'a>>
     whole(Form::IndirectX(value), parts)
 }
 
-/// The operand that is all what stands behind a mnemonic.
+/// The operand: everything after a mnemonic.
 #[tactic(auto, unfolding(crate::specs::Reading::form_of))]
 pub fn form_of<'a>(parts: &mut Parts<'a>) -> Option<Form<'a>>
     ensures { Gives form_of_code result (form_of parts.old) }
 {
     if parts.eat(b'#') {
         let value = next_value(parts)?;
-        return whole(Form::Hash(value), parts);
+        return whole(Form::Immediate(value), parts);
     }
     if parts.eat(b'(') {
         let value = next_value(parts)?;
@@ -81,11 +87,11 @@ pub fn form_of<'a>(parts: &mut Parts<'a>) -> Option<Form<'a>>
             return whole(Form::Accumulator, parts);
         }
         let value = next_value(parts)?;
-        return tail_at(true, value, parts);
+        return tail_at(AddressSize::Absolute, value, parts);
     }
     if parts.is_done() {
         return Some(Form::Empty);
     }
     let value = next_value(parts)?;
-    tail_at(false, value, parts)
+    tail_at(AddressSize::Automatic, value, parts)
 }

@@ -1,33 +1,34 @@
 //! Operations: a mnemonic with its operand, or an operation of the assembler.
 
 ghost use Rattle.std.specs.Prelude.{◌≡◌, IfOk, map};
-ghost use Rattle.stmt65.specs.Found.{Reads, Gives};
-ghost use Rattle.stmt65.specs.SaidViews.{datum_of, value_of, operation_of as operation_of_code};
+ghost use Rattle.stmt65.specs.code.Found.{Reads, Gives};
+ghost use Rattle.stmt65.specs.code.SourceLineViews.{datum_of, value_of, operation_of as operation_of_code};
 ghost use Rattle.stmt65.specs.Reading.{next_value, next_datum, list_of, text_in, data_of, words_of, dbyts_of, addrs_of, segment_of, set_cpu_of, instruction_of, whole, operation_at, operation_of};
-ghost use Rattle.stmt65.specs.Said.{Code};
+ghost use Rattle.stmt65.specs.SourceLine.{Code};
 
 use crate::expressions::next_value;
-use crate::lexer::{Part, number_of};
+use crate::lexer::Part;
 use crate::names::{has_name_form, is_word};
+use crate::numeral::Numeral;
 use crate::operands::form_of;
 use crate::parts::Parts;
-use crate::said::{Datum, Operation, Value};
+use crate::source_line::{Datum, Operation, Value};
 use isa65::Mnemonic;
 use std::alloc::{AllocError, Allocator};
 
-/// The number or string that stands in front.
+/// The next number or string.
 #[tactic(auto, unfolding(crate::specs::Reading::next_datum))]
 fn next_datum<'a>(parts: &mut Parts<'a>) -> Option<Datum<'a>>
     ensures { Reads datum_of result (next_datum parts.old) parts.new }
 {
     match parts.next()? {
-        Part::Number(text) => Some(Datum::Byte(number_of(text))),
-        Part::Text(text) => Some(Datum::Bytes(text)),
+        Part::Number(text) => Some(Datum::Number(Numeral { text })),
+        Part::Text(text) => Some(Datum::String(text)),
         _ => None,
     }
 }
 
-/// Numbers and strings joined by commas, with nothing behind them.
+/// Numbers and strings joined by commas, with nothing after them.
 fn data_in<'a, A: Allocator>(
     alloc: A,
     parts: &mut Parts<'a>,
@@ -49,7 +50,7 @@ fn data_in<'a, A: Allocator>(
     }
 }
 
-/// Expressions joined by commas, with nothing behind them.
+/// Expressions joined by commas, with nothing after them.
 fn values_in<'a, A: Allocator>(
     alloc: A,
     parts: &mut Parts<'a>,
@@ -201,7 +202,7 @@ pub fn operation_at<'a, A: Allocator>(
     Ok(instruction(word, parts))
 }
 
-/// The operation that is all what is left, or nothing.
+/// The operation: everything that is left, or nothing.
 #[tactic(auto, unfolding(crate::specs::Reading::operation_of))]
 pub fn operation_of<'a, A: Allocator>(
     alloc: A,

@@ -3,11 +3,13 @@
 ghost use Rattle.std.specs.Prelude.{◌≡◌, [], ◌∷◌, MatchOption, drop};
 ghost use Rattle.std.specs.Bool.{OnTrue, OnFalse};
 ghost use Rattle.stmt65.specs.Lexing.{parts};
-ghost use Rattle.stmt65.specs.PartViews.{part_of};
-ghost use Rattle.stmt65.specs.Found.{Reads};
+ghost use Rattle.stmt65.specs.code.PartViews.{part_of};
+ghost use Rattle.stmt65.specs.code.Found.{Reads};
+ghost use Rattle.stmt65.specs.code.SourceLineViews.{numeral_of};
 ghost use Rattle.stmt65.specs.Reading.{is_mark, is_define, is_word_here, is_number_here, is_nil, number_in};
 
-use crate::lexer::{Part, first_part, number_of};
+use crate::lexer::{Part, first_part};
+use crate::numeral::Numeral;
 use std::marker::Model;
 
 /// The parts of a line that are left, which contracts see as their list.
@@ -44,7 +46,7 @@ impl<'a> Parts<'a> {
         Some(part)
     }
 
-    /// Takes the next part where it is this byte by itself.
+    /// Takes the next part if it is this byte by itself.
     pub fn eat(&mut self, mark: u8) -> bool
         ensures value { result ≡ is_mark mark self.old }
         ensures taken { OnTrue result (self.new ≡ drop 1 self.old) }
@@ -59,7 +61,7 @@ impl<'a> Parts<'a> {
         false
     }
 
-    /// Takes the next part where it is this word, in any letter case.
+    /// Takes the next part if it is this word, in any letter case.
     pub fn eat_word(&mut self, word: &[u8]) -> bool
         ensures value { result ≡ is_word_here word.now self.old }
         ensures taken { OnTrue result (self.new ≡ drop 1 self.old) }
@@ -74,7 +76,7 @@ impl<'a> Parts<'a> {
         false
     }
 
-    /// Takes the next part where it is a number that is written so.
+    /// Takes the next part if it is a number that is written so.
     pub fn eat_number(&mut self, text: &[u8]) -> bool
         ensures value { result ≡ is_number_here text.now self.old }
         ensures taken { OnTrue result (self.new ≡ drop 1 self.old) }
@@ -89,7 +91,7 @@ impl<'a> Parts<'a> {
         false
     }
 
-    /// Takes the next part where it is `:=`.
+    /// Takes the next part if it is `:=`.
     pub fn eat_define(&mut self) -> bool
         ensures value { result ≡ is_define self.old }
         ensures taken { OnTrue result (self.new ≡ drop 1 self.old) }
@@ -102,12 +104,12 @@ impl<'a> Parts<'a> {
         false
     }
 
-    /// Takes the next part where it is a number, and answers what it counts.
-    pub fn number(&mut self) -> Option<u64>
-        ensures { Reads (λ n. n) result (number_in self.old) self.new }
+    /// Takes the next part if it is a number.
+    pub fn number(&mut self) -> Option<Numeral<'a>>
+        ensures { Reads numeral_of result (number_in self.old) self.new }
     {
         if let Some(Part::Number(text)) = self.next() {
-            return Some(number_of(text));
+            return Some(Numeral { text });
         }
         None
     }

@@ -1,32 +1,40 @@
 //! Printing a statement as a line.
 
+mod definitions;
 mod digits;
 mod fields;
+#[cfg(test)]
+mod name_tests;
 mod operand;
 mod tables;
 #[cfg(test)]
 mod tests;
 
-ghost use Rattle.std.specs.Prelude.{◌≡◌, ◌+◌, ◌<◌, ◌≤◌, ◌*◌, [], ◌∷◌, ◌++◌, length, codes, None};
+ghost use Rattle.std.specs.Prelude.{◌≡◌, ◌+◌, ◌<◌, ◌≤◌, ◌*◌, [], ◌∷◌, ◌++◌, length, codes, Some, IfSome};
+ghost use Rattle.std.specs.Option.{option_copied, option_map};
 ghost use Rattle.arrayvec.specs.ArrayVec.{array_vec_len};
 ghost use Rattle.isa65.specs.Cpu.{cpu_text};
 ghost use Rattle.stmt65.specs.Line.{filled, with_fields, line_of};
-ghost use Rattle.stmt65.specs.Printable.{IsWrittenIn, IsTable, IsPrintable};
-ghost use Rattle.stmt65.specs.SaidBack.{HasNames, PrintsAs, statement_said};
-ghost use Rattle.stmt65.specs.Statements.{bytes_text, quoted, data_text, words_text, words_operation, has_operand, instr_fields, with_operands, remark_fields, fields_of};
-ghost use Rattle.stmt65.specs.Tables.{words_in, text_said};
-ghost use Rattle.stmt65.specs.Views.{operands_seen, statement_seen, remarks_seen};
+ghost use Rattle.stmt65.specs.Printable.{IsNameLong, IsWrittenIn, IsTable, IsPrintable, MayBeLabelled};
+ghost use Rattle.stmt65.specs.Printed.{HasNames, HasLabelName, PrintsAs, source_line, with_label};
+ghost use Rattle.stmt65.specs.Statements.{bytes_text, quoted, data_text, words_text, words_operation, has_operand, return_text, distance_text, instr_fields, with_operands, label_fields, definition_fields, remark_fields, fields_of};
+ghost use Rattle.stmt65.specs.Tables.{words_in, cut_text};
+ghost use Rattle.stmt65.specs.Views.{operands_seen, target_seen, statement_seen, remarks_seen};
+ghost use Rattle.stmt65.specs.Views as view;
+ghost use Rattle.stmt65.specs.Digits.{hex4};
+ghost use Rattle.stmt65.specs.Operands.{named_text};
 ghost use Rattle.stmt65.specs.Widths.{AreWordWide, AreBytes, IsInWidth};
 
 use crate::coding::ByteOrder;
-use crate::columns::Columns;
+use crate::columns::{Column, Columns};
 use crate::remarks::Remarks;
-use crate::statement::{Operands, Statement};
+use crate::statement::{Operands, Statement, Target};
 use arrayvec::ArrayVec;
+use definitions::{put_const, put_forward, put_label};
 use digits::put_hex2;
 use fields::{put, start_field};
 use isa65::{Cpu, Mode, Op};
-use operand::put_operands;
+use operand::{put_named, put_operands};
 use tables::{put_text, put_words};
 
 /// The bytes of a line, with its line feed.
@@ -39,7 +47,7 @@ fn has_operand(mode: Mode) -> bool
 }
 
 fn put_operation(out: &mut Line, columns: &Columns, operation: &[u8])
-    requires room { array_vec_len out.old ≤ 81 }
+    requires room { array_vec_len out.old ≤ 82 }
     requires short { length operation.now ≤ 8 }
     ensures items { out.new.items ≡ filled out.old.items columns.now.mnemonic ++ operation.now }
     ensures len { array_vec_len out.new ≤ 128 }
@@ -57,10 +65,10 @@ fn put_instr(
     absolute: bool,
     operands: Operands,
 )
-    requires room { array_vec_len out.old ≤ 81 }
+    requires room { array_vec_len out.old ≤ 82 }
     requires written { IsWrittenIn op.mode (operands_seen operands) }
     ensures items { out.new.items ≡ with_fields out.old.items (instr_fields columns.now hexoffs op absolute (operands_seen operands.entry)) }
-    ensures len { array_vec_len out.new < 512 }
+    ensures len { array_vec_len out.new ≤ 340 }
     ensures width { AreWordWide (operands_seen operands.entry) }
 {
     put_operation(out, columns, op.mnemonic.text());
@@ -87,11 +95,11 @@ fn put_bytes(out: &mut Line, bytes: &[u8])
 }
 
 fn put_data(out: &mut Line, columns: &Columns, bytes: &[u8])
-    requires room { array_vec_len out.old ≤ 81 }
+    requires room { array_vec_len out.old ≤ 82 }
     requires some { 1 ≤ length bytes.now }
     requires few { length bytes.now ≤ 8 }
     ensures items { out.new.items ≡ with_fields out.old.items (with_operands columns.now (codes ".byte") (bytes_text bytes.now)) }
-    ensures len { array_vec_len out.new < 512 }
+    ensures len { array_vec_len out.new ≤ 340 }
     ensures width { AreBytes bytes.now }
 {
     put_operation(out, columns, b".byte");
@@ -100,11 +108,11 @@ fn put_data(out: &mut Line, columns: &Columns, bytes: &[u8])
 }
 
 fn put_text_data(out: &mut Line, columns: &Columns, bytes: &[u8])
-    requires room { array_vec_len out.old ≤ 81 }
+    requires room { array_vec_len out.old ≤ 82 }
     requires some { 1 ≤ length bytes.now }
     requires few { length bytes.now ≤ 16 }
-    ensures items { out.new.items ≡ with_fields out.old.items (with_operands columns.now (codes ".byte") (data_text (text_said bytes.now))) }
-    ensures len { array_vec_len out.new < 512 }
+    ensures items { out.new.items ≡ with_fields out.old.items (with_operands columns.now (codes ".byte") (data_text (cut_text bytes.now))) }
+    ensures len { array_vec_len out.new ≤ 340 }
     ensures width { AreBytes bytes.now }
 {
     put_operation(out, columns, b".byte");
@@ -117,16 +125,16 @@ fn words_operation(order: ByteOrder) -> &'static [u8]
     ensures len { length result.now ≤ 8 }
 {
     match order {
-        ByteOrder::LowFirst => b".word",
-        ByteOrder::HighFirst => b".dbyt",
+        ByteOrder::LittleEndian => b".word",
+        ByteOrder::BigEndian => b".dbyt",
     }
 }
 
 fn put_word_data(out: &mut Line, columns: &Columns, order: ByteOrder, bytes: &[u8])
-    requires room { array_vec_len out.old ≤ 81 }
+    requires room { array_vec_len out.old ≤ 82 }
     requires table { IsTable bytes.now }
     ensures items { out.new.items ≡ with_fields out.old.items (with_operands columns.now (words_operation order) (words_text (words_in order bytes.now))) }
-    ensures len { array_vec_len out.new < 512 }
+    ensures len { array_vec_len out.new ≤ 340 }
     ensures width { AreBytes bytes.now }
 {
     put_operation(out, columns, words_operation(order));
@@ -136,9 +144,9 @@ fn put_word_data(out: &mut Line, columns: &Columns, order: ByteOrder, bytes: &[u
 
 #[tactic(auto, using(crate::proofs::OperandTexts::cpu_len))]
 fn put_set_cpu(out: &mut Line, columns: &Columns, cpu: Cpu)
-    requires room { array_vec_len out.old ≤ 81 }
+    requires room { array_vec_len out.old ≤ 82 }
     ensures items { out.new.items ≡ with_fields out.old.items (with_operands columns.now (codes ".setcpu") (quoted (cpu_text cpu))) }
-    ensures len { array_vec_len out.new < 512 }
+    ensures len { array_vec_len out.new ≤ 340 }
 {
     put_operation(out, columns, b".setcpu");
     start_field(out, columns.argument);
@@ -147,23 +155,64 @@ fn put_set_cpu(out: &mut Line, columns: &Columns, cpu: Cpu)
     out.push(b'"');
 }
 
-#[tactic(auto, unfolding(crate::specs::Line::filled))]
+fn put_addr(out: &mut Line, columns: &Columns, hexoffs: bool, target: Target)
+    requires room { array_vec_len out.old ≤ 82 }
+    requires name { IsNameLong target.name.now }
+    ensures items { out.new.items ≡ with_fields out.old.items (with_operands columns.now (codes ".addr") (named_text hexoffs target.entry.name.now target.entry.offset)) }
+    ensures len { array_vec_len out.new ≤ 340 }
+    ensures width { target.entry.offset < 65536 }
+{
+    put_operation(out, columns, b".addr");
+    start_field(out, columns.argument);
+    put_named(out, hexoffs, target.name, target.offset);
+}
+
+/// Appends the entry of a return table.
+fn put_return(out: &mut Line, hexoffs: bool, target: Option<Target>)
+    requires room { array_vec_len out.old ≤ 200 }
+    requires name { IsPrintable (view.rts (option_map target_seen target)) }
+    ensures items { out.new.items ≡ out.old.items ++ return_text hexoffs (option_map target_seen target.entry) }
+    ensures len { array_vec_len out.new ≤ array_vec_len out.old + 88 }
+    ensures width { IsInWidth (view.rts (option_map target_seen target.entry)) }
+{
+    match target {
+        Some(Target { name, offset }) => {
+            put_named(out, hexoffs, name, offset);
+            put(out, b"-1");
+        }
+        None => put(out, b"$FFFF"),
+    }
+}
+
+fn put_rts(out: &mut Line, columns: &Columns, hexoffs: bool, target: Option<Target>)
+    requires room { array_vec_len out.old ≤ 82 }
+    requires name { IsPrintable (view.rts (option_map target_seen target)) }
+    ensures items { out.new.items ≡ with_fields out.old.items (with_operands columns.now (codes ".word") (return_text hexoffs (option_map target_seen target.entry))) }
+    ensures len { array_vec_len out.new ≤ 340 }
+    ensures width { IsInWidth (view.rts (option_map target_seen target.entry)) }
+{
+    put_operation(out, columns, b".word");
+    start_field(out, columns.argument);
+    put_return(out, hexoffs, target);
+}
+
 fn put_remark(out: &mut Line, text: &[u8])
-    requires empty { out.old.items ≡ [] }
+    requires room { array_vec_len out.old ≤ 82 }
     requires fits { length text.now ≤ 200 }
     ensures items { out.new.items ≡ with_fields out.old.items (remark_fields text.now) }
-    ensures len { array_vec_len out.new < 512 }
+    ensures len { array_vec_len out.new ≤ 340 }
 {
+    start_field(out, Column::first());
     put(out, b"; ");
     put(out, text);
 }
 
 /// Appends the fields of the statement.
-fn put_statement(out: &mut Line, columns: &Columns, statement: &Statement, remarks: &Remarks)
-    requires empty { out.old.items ≡ [] }
+fn put_fields(out: &mut Line, columns: &Columns, hexoffs: bool, statement: &Statement)
+    requires room { array_vec_len out.old ≤ 82 }
     requires printable { IsPrintable (statement_seen statement.now) }
-    ensures items { out.new.items ≡ with_fields out.old.items (fields_of columns.now (statement_seen statement.now) (remarks_seen remarks.now)) }
-    ensures len { array_vec_len out.new < 512 }
+    ensures items { out.new.items ≡ with_fields out.old.items (fields_of columns.now hexoffs (statement_seen statement.now)) }
+    ensures len { array_vec_len out.new ≤ 340 }
     ensures width { IsInWidth (statement_seen statement.now) }
 {
     match *statement {
@@ -171,37 +220,58 @@ fn put_statement(out: &mut Line, columns: &Columns, statement: &Statement, remar
             op,
             absolute,
             operands,
-        } => put_instr(out, columns, remarks.hexoffs, op, absolute, operands),
+        } => put_instr(out, columns, hexoffs, op, absolute, operands),
         Statement::Bytes(bytes) => put_data(out, columns, bytes),
         Statement::Text(bytes) => put_text_data(out, columns, bytes),
-        Statement::Words(bytes) => put_word_data(out, columns, ByteOrder::LowFirst, bytes),
-        Statement::Dbyts(bytes) => put_word_data(out, columns, ByteOrder::HighFirst, bytes),
+        Statement::Words(bytes) => put_word_data(out, columns, ByteOrder::LittleEndian, bytes),
+        Statement::Dbyts(bytes) => put_word_data(out, columns, ByteOrder::BigEndian, bytes),
+        Statement::Addr(target) => put_addr(out, columns, hexoffs, target),
+        Statement::Rts(target) => put_rts(out, columns, hexoffs, target),
+        Statement::Label(name) => put_label(out, name),
+        Statement::Const(name, number) => put_const(out, columns, name, number),
+        Statement::Forward(name, distance) => put_forward(out, columns, hexoffs, name, distance),
         Statement::SetCpu(cpu) => put_set_cpu(out, columns, cpu),
         Statement::Blank => {}
         Statement::Remark(text) => put_remark(out, text),
     }
 }
 
+/// Begins an empty line with the label, if there is one.
+fn start_line(out: &mut Line, label: Option<&[u8]>)
+    requires empty { out.old.items ≡ [] }
+    requires name { IfSome (option_copied label) IsNameLong }
+    ensures items { out.new.items ≡ with_fields [] (label_fields (option_copied label.entry)) }
+    ensures len { array_vec_len out.new ≤ 82 }
+{
+    if let Some(name) = label {
+        put_label(out, name);
+    }
+}
+
 /// Replaces `out` by the line of the statement at these columns, with its line feed.
 ///
-/// Takes no memory. A caller keeps the limits of each kind of statement: the operands are as many
-/// as the mode writes and the operand of `Imm` is a number, a number that is written with two
+/// Allocates nothing. The caller keeps the limits of each kind of statement: there are as many
+/// operands as the mode writes, the operand of `Imm` is a number, a number that is written with two
 /// digits is below $100, `absolute` stands in the absolute modes alone, there are 1 to 8 bytes, 1
 /// to 16 of text and 2, 4, 6 or 8 of words, a name has 1 to 80 bytes, and a remark at most 200
-/// without a line feed. No label stands before the statement, and the level is 0.
+/// without a line feed. A label stands before an instruction or data alone; its name has at most as
+/// many bytes as the label break, and that number plus 1 is below the mnemonic column. The level is
+/// 0.
 ///
-/// Where the names in the operands are names that ca65 takes, none of them reserved, the line
-/// reads as this statement; reading is a function of the line, so it reads as no other.
+/// If the names in the statement and the label are names that ca65 takes, none of them reserved, the
+/// line reads as this statement with this label; reading is a function of the line, so it reads as
+/// no other.
 #[tactic(auto, unfolding(crate::specs::Line::line_of))]
 pub fn put_line(out: &mut Line, columns: &Columns, statement: &Statement, remarks: &Remarks)
     requires printable { IsPrintable (statement_seen statement.now) }
     requires level { remarks.now.level ≡ 0 }
-    requires label { remarks.now.label ≡ None }
+    requires label { MayBeLabelled columns.now (option_copied remarks.now.label) (statement_seen statement.now) }
     ensures line { out.new.items ≡ line_of columns.now (statement_seen statement.now) (remarks_seen remarks.now) ++ 10 ∷ [] }
     ensures fits { array_vec_len out.new ≤ 512 }
-    ensures reads { HasNames (statement_seen statement.now) → PrintsAs out.new.items (statement_said (statement_seen statement.now)) }
+    ensures reads { HasNames (statement_seen statement.now) → HasLabelName (option_copied remarks.now.label) → PrintsAs out.new.items (with_label (option_copied remarks.now.label) (source_line (statement_seen statement.now))) }
 {
     out.clear();
-    put_statement(out, columns, statement, remarks);
+    start_line(out, remarks.label);
+    put_fields(out, columns, remarks.hexoffs, statement);
     out.push(b'\n');
 }

@@ -2,8 +2,8 @@
 
 ghost use Rattle.std.specs.Prelude.{◌≡◌, IfOk, Option, Some, None};
 ghost use Rattle.std.specs.Option.{option_copied, option_map};
-ghost use Rattle.stmt65.specs.Found.{Gives};
-ghost use Rattle.stmt65.specs.SaidViews.{operation_of, said_of};
+ghost use Rattle.stmt65.specs.code.Found.{Gives};
+ghost use Rattle.stmt65.specs.code.SourceLineViews.{operation_of, source_of};
 ghost use Rattle.stmt65.specs.Lexing.{parts};
 ghost use Rattle.stmt65.specs.Reading.{constant_of, stated, line_at, reading_of};
 
@@ -11,16 +11,16 @@ use crate::lexer::Part;
 use crate::names::is_name;
 use crate::operations::{operation_at, operation_of};
 use crate::parts::Parts;
-use crate::said::{Operation, Said};
+use crate::source_line::{Operation, SourceLine};
 use std::alloc::{AllocError, Allocator};
 
 #[cfg(test)]
-mod tests;
+pub mod tests;
 
 /// Behind the name and `:=`.
 #[tactic(auto, unfolding(crate::specs::Reading::constant_of))]
-fn constant_of<'a, A: Allocator>(name: &'a [u8], parts: &mut Parts<'a>) -> Option<Said<'a, A>>
-    ensures { Gives said_of result (constant_of name.now parts.old) }
+fn constant_of<'a, A: Allocator>(name: &'a [u8], parts: &mut Parts<'a>) -> Option<SourceLine<'a, A>>
+    ensures { Gives source_of result (constant_of name.now parts.old) }
 {
     if parts.eat(b'*') {
         if !parts.eat(b'+') {
@@ -30,24 +30,24 @@ fn constant_of<'a, A: Allocator>(name: &'a [u8], parts: &mut Parts<'a>) -> Optio
         if !parts.is_done() {
             return None;
         }
-        return Some(Said::Here(name, plus));
+        return Some(SourceLine::PlaceAssignment(name, plus));
     }
     let value = parts.number()?;
     if !parts.is_done() {
         return None;
     }
-    Some(Said::Constant(name, value))
+    Some(SourceLine::Assignment(name, value))
 }
 
-/// The operation, where there is one, behind the label, where there is one.
+/// The operation, if there is one, after the optional label.
 fn stated<'a, A: Allocator>(
     label: Option<&'a [u8]>,
     operation: Option<Operation<'a, A>>,
-) -> Option<Said<'a, A>>
-    ensures { Gives said_of result (stated (option_copied label.entry) (option_map operation_of operation.entry)) }
+) -> Option<SourceLine<'a, A>>
+    ensures { Gives source_of result (stated (option_copied label.entry) (option_map operation_of operation.entry)) }
 {
     let operation = operation?;
-    Some(Said::Stated(label, operation))
+    Some(SourceLine::Statement { label, operation })
 }
 
 /// A line that begins with the word.
@@ -56,8 +56,8 @@ fn line_at<'a, A: Allocator>(
     alloc: A,
     word: &'a [u8],
     parts: &mut Parts<'a>,
-) -> Result<Option<Said<'a, A>>, AllocError>
-    ensures { IfOk result (λ found. Gives said_of found (line_at word.now parts.old)) }
+) -> Result<Option<SourceLine<'a, A>>, AllocError>
+    ensures { IfOk result (λ found. Gives source_of found (line_at word.now parts.old)) }
 {
     if parts.eat(b':') {
         if !is_name(word) {
@@ -81,25 +81,28 @@ fn line_at<'a, A: Allocator>(
 fn read_parts<'a, A: Allocator>(
     alloc: A,
     parts: &mut Parts<'a>,
-) -> Result<Option<Said<'a, A>>, AllocError>
-    ensures { IfOk result (λ found. Gives said_of found (reading_of parts.old)) }
+) -> Result<Option<SourceLine<'a, A>>, AllocError>
+    ensures { IfOk result (λ found. Gives source_of found (reading_of parts.old)) }
 {
     match parts.next() {
-        None => Ok(Some(Said::Stated(None, Operation::Nothing))),
+        None => Ok(Some(SourceLine::Statement {
+            label: None,
+            operation: Operation::Nothing,
+        })),
         Some(Part::Word(word)) => line_at(alloc, word, parts),
         Some(_) => Ok(None),
     }
 }
 
-/// What a line, without its line feed, says; `None` where it is no line of assembler text. The
+/// What a line, without its line feed, says; `None` if it is no line of assembler text. The
 /// names and strings of the answer are borrowed from the line.
 ///
-/// An error is want of memory for a list of operands, and comes from a growth that was refused.
+/// Fails if an allocation for a list of operands is refused.
 pub fn read_line<'a, A: Allocator>(
     alloc: A,
     line: &'a [u8],
-) -> Result<Option<Said<'a, A>>, AllocError>
-    ensures { IfOk result (λ found. Gives said_of found (reading_of (parts line.now))) }
+) -> Result<Option<SourceLine<'a, A>>, AllocError>
+    ensures { IfOk result (λ found. Gives source_of found (reading_of (parts line.now))) }
 {
     let mut parts = Parts::new(line);
     read_parts(alloc, &mut parts)

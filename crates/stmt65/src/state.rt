@@ -2,15 +2,16 @@
 
 ghost use Rattle.std.specs.Prelude.{◌≡◌, ◌++◌, Some, map, IfOk, OnOk};
 ghost use Rattle.std.specs.Option.{option_map};
-ghost use Rattle.stmt65.specs.SaidViews.{said_of, operation_of};
+ghost use Rattle.stmt65.specs.code.SourceLineViews.{source_of, operation_of};
 ghost use Rattle.stmt65.specs.Coding.{coding, coding_len};
-ghost use Rattle.stmt65.specs.CodingViews.{coded_of, held};
-ghost use Rattle.stmt65.specs.Meaning.{cpu_after, operation_in, defined_by, initial};
-ghost use Rattle.stmt65.specs.MeaningViews.{state_of, held_definition, definitions_in, fields_in, IsPlaced, held_after};
+ghost use Rattle.stmt65.specs.code.CodingViews.{coded_of};
+ghost use Rattle.stmt65.specs.code.Held.{held};
+ghost use Rattle.stmt65.specs.Meaning.{cpu_set, cpu_after, operation_in, defined_by, initial};
+ghost use Rattle.stmt65.specs.code.MeaningViews.{state_of, held_definition, definitions_in, fragments_in, IsPlaced, held_after};
 
 use crate::coding::{Coded, coding};
 use crate::emit::coded_len;
-use crate::said::{Operation, Said};
+use crate::source_line::{Operation, SourceLine};
 use crate::symbols::{Definition, Symbols};
 use isa65::Cpu;
 use std::alloc::{AllocError, Allocator, Global};
@@ -18,13 +19,13 @@ use std::alloc::{AllocError, Allocator, Global};
 /// What stands above a line: its address, the CPU, and the definitions.
 #[derive(Drop)]
 pub struct State<'a, A: Allocator = Global> {
-    /// From 2^64 - 1 on all addresses count the same.
+    /// 2^64 - 1 in place of every greater address.
     pub address: u64,
     pub cpu: Cpu,
     pub above: Symbols<'a, A>,
 }
 
-/// A line in its state: what its bytes stand for, or none where the CPU has no such form, the
+/// A line in its state: what its bytes stand for, or `None` if the CPU has no such form, the
 /// address after it, and what it defines.
 #[derive(Clone, Copy, Debug)]
 pub struct Placed<'s, 'a> {
@@ -51,19 +52,19 @@ pub fn first_state<'a, A: Allocator + Clone>(
 #[tactic(auto, unfolding(crate::specs::Coding::coding))]
 fn coding_in<'s, 'a, A: Allocator + Clone, B: Allocator>(
     state: &State<'_, A>,
-    said: &'s Said<'a, B>,
+    source: &'s SourceLine<'a, B>,
 ) -> Option<Coded<'s, 'a>>
-    ensures { option_map coded_of result ≡ coding state.now.cpu state.now.above (operation_in (said_of said.now)) }
+    ensures { option_map coded_of result ≡ coding state.now.cpu state.now.above (operation_in (source_of source.now)) }
 {
-    match said {
-        Said::Stated(_, operation) => coding(state.cpu, &state.above, operation),
-        Said::Constant(_, _) | Said::Here(_, _) => Some(Coded::Nothing),
+    match source {
+        SourceLine::Statement { operation, .. } => coding(state.cpu, &state.above, operation),
+        SourceLine::Assignment(_, _) | SourceLine::PlaceAssignment(_, _) => Some(Coded::Nothing),
     }
 }
 
 #[tactic(auto, unfolding(crate::specs::Coding::coding_len))]
 fn length_of(coded: Option<Coded>) -> u64
-    ensures { result ≡ held (coding_len (fields_in coded.entry)) }
+    ensures { result ≡ held (coding_len (fragments_in coded.entry)) }
 {
     match coded {
         Some(coded) => coded_len(coded),
@@ -73,51 +74,67 @@ fn length_of(coded: Option<Coded>) -> u64
 
 /// What a line at this address defines.
 #[tactic(auto, unfolding(crate::specs::Meaning::defined_by))]
-fn definition_in<'a, B: Allocator>(address: u64, said: &Said<'a, B>) -> Option<Definition<'a>>
-    ensures { definitions_in result ≡ map held_definition (defined_by address (said_of said.now)) }
+fn definition_in<'a, B: Allocator>(
+    address: u64,
+    source: &SourceLine<'a, B>,
+) -> Option<Definition<'a>>
+    ensures { definitions_in result ≡ map held_definition (defined_by address (source_of source.now)) }
 {
-    match said {
-        Said::Constant(name, n) => Some(Definition {
+    match source {
+        SourceLine::Assignment(name, n) => Some(Definition {
             name: *name,
-            value: *n,
+            value: n.value(),
             constant: true,
         }),
-        Said::Here(name, n) => Some(Definition {
+        SourceLine::PlaceAssignment(name, n) => Some(Definition {
             name: *name,
-            value: address.saturating_add(*n),
+            value: address.saturating_add(n.value()),
             constant: false,
         }),
-        Said::Stated(Some(name), _) => Some(Definition {
+        SourceLine::Statement {
+            label: Some(name),
+            ..
+        } => Some(Definition {
             name: *name,
             value: address,
             constant: false,
         }),
-        Said::Stated(None, _) => None,
+        SourceLine::Statement { label: None, .. } => None,
     }
 }
 
 /// The line in its state.
 pub fn place<'s, 'a, A: Allocator + Clone, B: Allocator>(
     state: &State<'_, A>,
-    said: &'s Said<'a, B>,
+    source: &'s SourceLine<'a, B>,
 ) -> Placed<'s, 'a>
-    ensures { IsPlaced result (state_of state.now) (said_of said.now) }
+    ensures { IsPlaced result (state_of state.now) (source_of source.now) }
 {
-    let coded = coding_in(state, said);
+    let coded = coding_in(state, source);
     Placed {
         coded,
         next: state.address.saturating_add(length_of(coded)),
-        definition: definition_in(state.address, said),
+        definition: definition_in(state.address, source),
     }
+}
+
+/// The CPU that the text of `.setcpu` names, in any letter case.
+pub fn cpu_set(text: &[u8]) -> Option<Cpu>
+    ensures { result ≡ cpu_set text.now }
+{
+    Cpu::from_bytes(text)
 }
 
 /// An unknown CPU leaves it as it was.
 #[tactic(auto, unfolding(crate::specs::Meaning::cpu_after))]
-fn cpu_after<'a, B: Allocator>(cpu: Cpu, said: &Said<'a, B>) -> Cpu
-    ensures { result ≡ cpu_after cpu (operation_in (said_of said.now)) }
+fn cpu_after<'a, B: Allocator>(cpu: Cpu, source: &SourceLine<'a, B>) -> Cpu
+    ensures { result ≡ cpu_after cpu (operation_in (source_of source.now)) }
 {
-    match said {
-        Said::Stated(_, Operation::SetCpu(text)) => Cpu::from_bytes(text).unwrap_or(cpu),
+    match source {
+        SourceLine::Statement {
+            operation: Operation::SetCpu(text),
+            ..
+        } => cpu_set(text).unwrap_or(cpu),
         _ => cpu,
     }
 }
@@ -135,17 +152,17 @@ fn define<'a, A: Allocator + Clone>(
 }
 
 /// Goes on below the line.
-#[tactic(auto, unfolding(crate::specs::MeaningViews::held_after))]
-pub fn go_below<'a, A: Allocator + Clone, B: Allocator>(
+#[tactic(auto, unfolding(crate::specs::code::MeaningViews::held_after))]
+pub fn advance<'a, A: Allocator + Clone, B: Allocator>(
     state: &mut State<'a, A>,
-    said: &Said<'a, B>,
+    source: &SourceLine<'a, B>,
     placed: Placed<'_, 'a>,
 ) -> Result<(), AllocError>
-    requires { IsPlaced placed (state_of state.old) (said_of said.now) }
-    ensures { OnOk result (state_of state.new ≡ held_after (state_of state.old) (Some (said_of said.now))) }
+    requires { IsPlaced placed (state_of state.old) (source_of source.now) }
+    ensures { OnOk result (state_of state.new ≡ held_after (state_of state.old) (Some (source_of source.now))) }
 {
     define(&mut state.above, placed.definition)?;
-    state.cpu = cpu_after(state.cpu, said);
+    state.cpu = cpu_after(state.cpu, source);
     state.address = placed.next;
     Ok(())
 }

@@ -1,4 +1,4 @@
-//! What a line of assembler text says, before it is text.
+//! What a line of a listing says.
 
 use isa65::{Cpu, Op};
 
@@ -16,10 +16,19 @@ pub enum Expr<'a> {
 pub enum Operands<'a> {
     /// Those of `Imp` and `Acc`.
     None,
-    /// That of all other modes but `Zprel`.
+    /// That of every other mode except `Zprel`.
     One(Expr<'a>),
     /// Those of `Zprel`: the zero-page address, then the target.
     Two(Expr<'a>, Expr<'a>),
+}
+
+/// The target of a table entry.
+#[derive(Clone, Copy, Debug, PartialEq, Eq)]
+pub struct Target<'a> {
+    /// A name of 1 to 80 bytes.
+    pub name: &'a [u8],
+    /// What is added to its value; `+0` is not written.
+    pub offset: u16,
 }
 
 /// A statement, a remark or an empty line.
@@ -41,6 +50,16 @@ pub enum Statement<'a> {
     Words(&'a [u8]),
     /// `.dbyt` and the words of 2, 4, 6 or 8 bytes, high byte first.
     Dbyts(&'a [u8]),
+    /// `.addr` and the target.
+    Addr(Target<'a>),
+    /// `.word` and the target, then `-1`; without a target the word is `$FFFF`.
+    Rts(Option<Target<'a>>),
+    /// A name and `:`, on a line of their own.
+    Label(&'a [u8]),
+    /// A name, `:=` and a number in four hex digits.
+    Const(&'a [u8], u16),
+    /// A name, `:= * +` and a number: in decimal, or in four hex digits.
+    Forward(&'a [u8], u16),
     /// `.setcpu` and the CPU's name.
     SetCpu(Cpu),
     /// An empty line.

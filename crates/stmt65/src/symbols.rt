@@ -3,7 +3,7 @@
 ghost use Rattle.std.specs.Prelude.{◌≡◌, ◌++◌, [], ◌∷◌, IfOk, OnOk, map};
 ghost use Rattle.std.specs.Option.{option_map};
 ghost use Rattle.stmt65.specs.Symbols.{find_name};
-ghost use Rattle.stmt65.specs.SymbolViews.{definition_of};
+ghost use Rattle.stmt65.specs.code.SymbolViews.{definition_of};
 
 use std::alloc::{AllocError, Allocator, Global};
 use std::collections::BTreeMap;
@@ -13,7 +13,7 @@ use std::marker::Model;
 #[derive(Clone, Copy, Debug)]
 pub struct Definition<'a> {
     pub name: &'a [u8],
-    /// From 2^64 - 1 on all values count the same.
+    /// 2^64 - 1 in place of every greater value.
     pub value: u64,
     pub constant: bool,
 }
@@ -29,7 +29,7 @@ pub struct Symbols<'a, A: Allocator = Global> {
 impl<'a, A: Allocator> Model for Symbols<'a, A> {
     ghost use Rattle.std.specs.Prelude.{List, map};
     ghost use Rattle.stmt65.specs.Symbols.{Definition};
-    ghost use Rattle.stmt65.specs.SymbolViews.{definition_of, IsIndex};
+    ghost use Rattle.stmt65.specs.code.SymbolViews.{definition_of, IsIndex};
 
     ghost Value = { List Definition };
 
@@ -57,7 +57,7 @@ impl<'a, A: Allocator + Clone> Symbols<'a, A> {
         self.definitions.get(*index).copied()
     }
 
-    /// Adds a definition, behind the others.
+    /// Adds a definition after the others.
     pub fn define(&mut self, definition: Definition<'a>) -> Result<(), AllocError>
         ensures { OnOk result (self.new ≡ self.old ++ definition_of definition.entry ∷ []) }
     {

@@ -1,32 +1,37 @@
 //! The value and size of an expression.
 
 ghost use Rattle.std.specs.Prelude.{◌≡◌};
-ghost use Rattle.stmt65.specs.SaidViews.{value_of};
-ghost use Rattle.stmt65.specs.Symbols.{find_name, lowered, value_in, is_known, word_in, is_small, is_constant, has_zero_page_size};
+ghost use Rattle.stmt65.specs.code.SourceLineViews.{value_of};
+ghost use Rattle.stmt65.specs.code.Held.{held_value};
+ghost use Rattle.stmt65.specs.Symbols.{find_name, below, lowered, value_in, is_known, word_in, is_small, is_constant, has_zero_page_size};
 
-use crate::said::Value;
+use crate::source_line::{Minus, Value};
 use crate::symbols::Symbols;
 use std::alloc::Allocator;
 
-/// The value; none where it lies below 0 or the name is undefined.
+/// The value, or `None` if it is below 0 or the name is undefined. A number of the expression that
+/// is greater than 2^64 - 1 counts as that.
 #[tactic(auto, unfolding(crate::specs::Symbols::value_in))]
 fn value_in<A: Allocator + Clone>(names: &Symbols<'_, A>, value: Value) -> Option<u128>
-    ensures { result ≡ value_in names.now (value_of value.entry) }
+    ensures { result ≡ value_in names.now (held_value (value_of value.entry)) }
 {
     match value {
-        Value::Plain(n) => Some(u128::from(n)),
-        Value::Named(name, n, less) => {
+        Value::Number(n) => Some(u128::from(n.value())),
+        Value::Name(name, n, minus) => {
             let definition = names.find(name)?;
-            lowered(less, u128::from(definition.value) + u128::from(n))
+            lowered(minus, u128::from(definition.value) + u128::from(n.value()))
         }
     }
 }
 
-/// The number, less 1 where `less` says so; none where that lies below 0.
-fn lowered(less: bool, n: u128) -> Option<u128>
-    ensures { result ≡ lowered less n }
+/// The difference, or `None` if it is below 0.
+fn lowered(minus: Minus, n: u128) -> Option<u128>
+    ensures { result ≡ lowered minus n }
 {
-    if less { n.checked_sub(1) } else { Some(n) }
+    match minus {
+        Minus::Zero => Some(n),
+        Minus::One => n.checked_sub(1),
+    }
 }
 
 /// Whether each name in the expression has a definition.
@@ -35,17 +40,16 @@ pub fn is_known<A: Allocator + Clone>(names: &Symbols<'_, A>, value: Value) -> b
     ensures { result ≡ is_known names.now (value_of value.entry) }
 {
     match value {
-        Value::Plain(_) => true,
-        Value::Named(name, _, _) => names.find(name).is_some(),
+        Value::Number(_) => true,
+        Value::Name(name, _, _) => names.find(name).is_some(),
     }
 }
 
-/// The value where it lies in 0 to $FFFF.
-#[tactic(auto, unfolding(crate::specs::Symbols::word_in))]
-pub fn word_in<A: Allocator + Clone>(names: &Symbols<'_, A>, value: Value) -> Option<u16>
-    ensures { result ≡ word_in names.now (value_of value.entry) }
+/// The value if it is at most $FFFF.
+fn in_a_word(value: Option<u128>) -> Option<u16>
+    ensures { result ≡ below 65536 value }
 {
-    let value = value_in(names, value)?;
+    let value = value?;
     if value < 65536 {
         Some(value as u16)
     } else {
@@ -53,15 +57,29 @@ pub fn word_in<A: Allocator + Clone>(names: &Symbols<'_, A>, value: Value) -> Op
     }
 }
 
-/// Whether the value is below $100, and a name in it is defined as `name := number`.
+/// The value if it is from 0 to $FFFF.
+pub fn word_in<A: Allocator + Clone>(names: &Symbols<'_, A>, value: Value) -> Option<u16>
+    ensures { result ≡ word_in names.now (value_of value.entry) }
+{
+    in_a_word(value_in(names, value))
+}
+
+/// Whether the expression has zero-page size, with its number held in 64 bits.
 #[tactic(auto, unfolding(crate::specs::Symbols::has_zero_page_size))]
+fn held_zero_page_size<A: Allocator + Clone>(above: &Symbols<'_, A>, value: Value) -> bool
+    ensures { result ≡ has_zero_page_size above.now (held_value (value_of value.entry)) }
+{
+    match value {
+        Value::Number(n) => n.value() < 256,
+        Value::Name(name, _, _) => is_constant(above, name) && is_small(value_in(above, value)),
+    }
+}
+
+/// Whether the value is below $100, and a name in it is defined as `name := number`.
 pub fn has_zero_page_size<A: Allocator + Clone>(above: &Symbols<'_, A>, value: Value) -> bool
     ensures { result ≡ has_zero_page_size above.now (value_of value.entry) }
 {
-    match value {
-        Value::Plain(n) => n < 256,
-        Value::Named(name, _, _) => is_constant(above, name) && is_small(value_in(above, value)),
-    }
+    held_zero_page_size(above, value)
 }
 
 fn is_constant<A: Allocator + Clone>(above: &Symbols<'_, A>, name: &[u8]) -> bool

@@ -1,27 +1,113 @@
 // Readers and writers that fail.
-ghost use Rattle.std.specs.Prelude.{Some};
+ghost use Rattle.std.specs.Prelude.{◌≤◌, Some, IfOk};
 
 use std::alloc::Global;
 use std::io;
 use std::io::{ErrorKind, Read, Write};
 
-/// Gives its bytes, one at a time, and then ends or fails.
-#[derive(Drop)]
-pub struct Cut<'a> {
-    pub bytes: &'a [u8],
-    pub fails: bool,
+/// Each way to fail: std's own `write_all` tries an interrupted call again.
+pub const FAULTS: [Fault; 3] = [
+    Fault::Fails(ErrorKind::Other),
+    Fault::Fails(ErrorKind::Interrupted),
+    Fault::MovesNone,
+];
+
+/// What a device does in place of moving bytes.
+#[derive(Clone, Copy, Debug)]
+pub enum Fault {
+    /// It fails.
+    Fails(ErrorKind),
+    /// It takes no byte.
+    MovesNone,
 }
 
-impl Read for Cut<'_> {
-    ghost remaining = { λ s. Some s.bytes.now };
+/// When a device fails: after `room` bytes, once. It would then go on.
+#[derive(Drop)]
+struct Failing {
+    room: usize,
+    fault: Option<Fault>,
+    has_failed: bool,
+    later: usize,
+}
 
-    fn read(&mut self, buf: &mut [u8]) -> io::Result<usize> {
-        if self.fails && self.bytes.is_empty() {
-            return Err(io::Error::from(ErrorKind::Other));
+impl Failing {
+    fn new(room: usize, fault: Option<Fault>) -> Failing {
+        Failing {
+            room,
+            fault,
+            has_failed: false,
+            later: 0,
         }
-        let n = buf.len().min(1);
-        let room = &mut buf[..n];
-        self.bytes.read(room)
+    }
+
+    /// How many bytes a call moves that would move this many.
+    fn moves(&mut self, most: usize) -> io::Result<usize>
+        ensures { IfOk result (λ n. n ≤ most) }
+    {
+        if self.has_failed {
+            self.later = self.later.saturating_add(1);
+            return Ok(most);
+        }
+        let n = most.min(self.room);
+        self.room -= n;
+        if n == 0 {
+            self.has_failed = self.fault.is_some();
+            if let Some(Fault::Fails(kind)) = self.fault {
+                return Err(io::Error::from(kind));
+            }
+        }
+        Ok(n)
+    }
+}
+
+/// A reader of some bytes.
+#[derive(Drop)]
+pub struct Tape<'a> {
+    bytes: &'a [u8],
+    at_once: usize,
+    failing: Failing,
+    given: usize,
+}
+
+impl<'a> Tape<'a> {
+    /// Gives the bytes, at most this many at each read, and then ends.
+    pub fn new(bytes: &'a [u8], at_once: usize) -> Tape<'a> {
+        Tape {
+            bytes,
+            at_once,
+            failing: Failing::new(bytes.len(), None),
+            given: 0,
+        }
+    }
+
+    /// Gives this many of the bytes, one at each read, fails once, and then gives the others.
+    pub fn failing(bytes: &'a [u8], room: usize, kind: ErrorKind) -> Tape<'a> {
+        Tape {
+            bytes,
+            at_once: 1,
+            failing: Failing::new(room, Some(Fault::Fails(kind))),
+            given: 0,
+        }
+    }
+
+    /// How many bytes it gave.
+    pub fn given(&self) -> usize {
+        self.given
+    }
+
+    /// How many reads came after the one that failed.
+    pub fn later(&self) -> usize {
+        self.failing.later
+    }
+}
+
+impl Read for Tape<'_> {
+    fn read(&mut self, buf: &mut [u8]) -> io::Result<usize> {
+        let most = self.failing.moves(buf.len().min(self.at_once))?;
+        let room = &mut buf[..most];
+        let n = self.bytes.read(room)?;
+        self.given = self.given.saturating_add(n);
+        Ok(n)
     }
 }
 
@@ -41,28 +127,24 @@ impl Read for Endless {
     }
 }
 
-/// Takes so many bytes, then meets its fault once, and then takes all.
+/// A writer that takes this many bytes, at most eight at each write, meets its fault once, and would then go on.
 #[derive(Drop)]
 pub struct Short {
     pub bytes: Vec<u8>,
-    pub room: usize,
-    pub fault: Option<Fault>,
-}
-
-/// What a writer answers in place of taking bytes.
-#[derive(Clone, Copy, Debug, PartialEq, Eq)]
-pub enum Fault {
-    Fails,
-    TakesNone,
+    failing: Failing,
 }
 
 impl Short {
     pub fn new(alloc: Global, room: usize, fault: Fault) -> Short {
         Short {
             bytes: Vec::new(alloc),
-            room,
-            fault: Some(fault),
+            failing: Failing::new(room, Some(fault)),
         }
+    }
+
+    /// How many writes came after the one that met the fault.
+    pub fn later(&self) -> usize {
+        self.failing.later
     }
 }
 
@@ -70,19 +152,8 @@ impl Write for Short {
     ghost contents = { λ s. Some s.bytes.items };
 
     fn write(&mut self, buf: &[u8]) -> io::Result<usize> {
-        if self.room == 0 {
-            match self.fault.take() {
-                Some(Fault::Fails) => return Err(io::Error::from(ErrorKind::Other)),
-                Some(Fault::TakesNone) => return Ok(0),
-                None => {
-                    self.bytes.extend_from_slice(buf)?;
-                    return Ok(buf.len());
-                }
-            }
-        }
-        let n = buf.len().min(self.room);
+        let n = self.failing.moves(buf.len().min(8))?;
         self.bytes.extend_from_slice(&buf[..n])?;
-        self.room -= n;
         Ok(n)
     }
 

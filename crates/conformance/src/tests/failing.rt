@@ -1,34 +1,37 @@
 // Runs over devices that fail.
-use crate::tests::devices::{Cut, Endless, Fault, Short};
+use crate::tests::devices::{Endless, FAULTS, Fault, Short, Tape};
 use crate::tests::ranges::{START, WARNING};
 use crate::tests::runs::{THREE, THREE_LISTING, named};
 use da65::{RunFault, Status, Told, run};
+use std::io::ErrorKind;
 use std::test::Fail;
 
+/// A reader that fails is not asked again, although it would go on.
 #[test]
 fn a_reader_that_fails(rt: HostRuntime) -> Result<(), Fail> {
-    for given in 0..4 {
-        let mut listing = Vec::new(rt.alloc());
-        let mut messages = Vec::new(rt.alloc());
-        let reader = Cut {
-            bytes: &THREE[..given],
-            fails: true,
-        };
-        let result = run(
-            rt.alloc(),
-            &named(rt.alloc(), None)?,
-            &[],
-            &[],
-            &mut Told::new(reader),
-            &mut Told::new(&mut listing),
-            &mut Told::new(&mut messages),
-        );
-        assert_eq!(rt; result, Ok(Status::Refused), "after {given}");
-        assert!(rt; listing.is_empty());
-        assert_eq!(rt;
-            messages.as_slice(),
-            b"da65: cannot read the input\n".as_slice()
-        );
+    for kind in [ErrorKind::Other, ErrorKind::Interrupted] {
+        for given in 0..4 {
+            let mut listing = Vec::new(rt.alloc());
+            let mut messages = Vec::new(rt.alloc());
+            let mut reader = Tape::failing(THREE, given, kind);
+            let result = run(
+                rt.alloc(),
+                &named(rt.alloc(), None)?,
+                &[],
+                &[],
+                &mut Told::new(&mut reader),
+                &mut Told::new(&mut listing),
+                &mut Told::new(&mut messages),
+            );
+            assert_eq!(rt; result, Ok(Status::Refused), "after {given}");
+            assert_eq!(rt; reader.given(), given);
+            assert_eq!(rt; reader.later(), 0, "after {given}");
+            assert!(rt; listing.is_empty());
+            assert_eq!(rt;
+                messages.as_slice(),
+                b"da65: cannot read the input\n".as_slice()
+            );
+        }
     }
     Ok(())
 }
@@ -37,16 +40,12 @@ fn a_reader_that_fails(rt: HostRuntime) -> Result<(), Fail> {
 fn a_reader_of_single_bytes(rt: HostRuntime) -> Result<(), Fail> {
     let mut listing = Vec::new(rt.alloc());
     let mut messages = Vec::new(rt.alloc());
-    let reader = Cut {
-        bytes: THREE,
-        fails: false,
-    };
     let result = run(
         rt.alloc(),
         &named(rt.alloc(), None)?,
         &[],
         &[],
-        &mut Told::new(reader),
+        &mut Told::new(Tape::new(THREE, 1)),
         &mut Told::new(&mut listing),
         &mut Told::new(&mut messages),
     );
@@ -82,7 +81,7 @@ fn an_input_without_end(rt: HostRuntime) -> Result<(), Fail> {
 
 #[test]
 fn a_writer_that_fails_or_takes_none(rt: HostRuntime) -> Result<(), Fail> {
-    for fault in [Fault::Fails, Fault::TakesNone] {
+    for fault in FAULTS {
         for room in 0..THREE_LISTING.len() {
             let mut out = Short::new(rt.alloc(), room, fault);
             let mut messages = Vec::new(rt.alloc());
@@ -96,6 +95,7 @@ fn a_writer_that_fails_or_takes_none(rt: HostRuntime) -> Result<(), Fail> {
                 &mut Told::new(&mut messages),
             );
             assert_eq!(rt; result, Err(RunFault::Write), "after {room}");
+            assert_eq!(rt; out.later(), 0, "after {room}");
             assert_eq!(rt;
                 out.bytes.as_slice(),
                 &THREE_LISTING[..room],
@@ -107,29 +107,11 @@ fn a_writer_that_fails_or_takes_none(rt: HostRuntime) -> Result<(), Fail> {
     Ok(())
 }
 
-#[test]
-fn a_writer_that_takes_ten_bytes(rt: HostRuntime) -> Result<(), Fail> {
-    let mut out = Short::new(rt.alloc(), 10, Fault::Fails);
-    let mut messages = Vec::new(rt.alloc());
-    let result = run(
-        rt.alloc(),
-        &named(rt.alloc(), None)?,
-        &[],
-        &[],
-        &mut Told::new(THREE),
-        &mut Told::new(&mut out),
-        &mut Told::new(&mut messages),
-    );
-    assert_eq!(rt; result, Err(RunFault::Write));
-    assert_eq!(rt; out.bytes.as_slice(), b"; da65 lis".as_slice());
-    Ok(())
-}
-
 const EMPTY_MESSAGE: &[u8] = b"da65: input is empty\n";
 
 #[test]
 fn messages_that_fail_or_take_none(rt: HostRuntime) -> Result<(), Fail> {
-    for fault in [Fault::Fails, Fault::TakesNone] {
+    for fault in FAULTS {
         for room in 0..EMPTY_MESSAGE.len() {
             let mut listing = Vec::new(rt.alloc());
             let mut messages = Short::new(rt.alloc(), room, fault);
@@ -143,6 +125,7 @@ fn messages_that_fail_or_take_none(rt: HostRuntime) -> Result<(), Fail> {
                 &mut Told::new(&mut messages),
             );
             assert_eq!(rt; result, Err(RunFault::Messages), "after {room}");
+            assert_eq!(rt; messages.later(), 0, "after {room}");
             assert!(rt; listing.is_empty());
             assert_eq!(rt;
                 messages.bytes.as_slice(),
@@ -162,7 +145,7 @@ const SKIPPED_LISTING: &[u8] =
 /// The listing is whole before the warning is written.
 #[test]
 fn a_warning_that_fails_or_takes_none(rt: HostRuntime) -> Result<(), Fail> {
-    for fault in [Fault::Fails, Fault::TakesNone] {
+    for fault in FAULTS {
         for room in 0..WARNING.len() {
             let mut listing = Vec::new(rt.alloc());
             let mut messages = Short::new(rt.alloc(), room, fault);
@@ -176,6 +159,7 @@ fn a_warning_that_fails_or_takes_none(rt: HostRuntime) -> Result<(), Fail> {
                 &mut Told::new(&mut messages),
             );
             assert_eq!(rt; result, Err(RunFault::Messages), "after {room}");
+            assert_eq!(rt; messages.later(), 0, "after {room}");
             assert_eq!(rt; listing.as_slice(), SKIPPED_LISTING, "after {room}");
             assert_eq!(rt; messages.bytes.as_slice(), &WARNING[..room], "after {room}");
         }
@@ -183,11 +167,11 @@ fn a_warning_that_fails_or_takes_none(rt: HostRuntime) -> Result<(), Fail> {
     Ok(())
 }
 
-/// Where the listing fails, no warning is written.
+/// If the listing fails, no warning is written.
 #[test]
 fn a_listing_that_fails_has_no_warning(rt: HostRuntime) -> Result<(), Fail> {
     for room in 0..SKIPPED_LISTING.len() {
-        let mut out = Short::new(rt.alloc(), room, Fault::Fails);
+        let mut out = Short::new(rt.alloc(), room, Fault::Fails(ErrorKind::Other));
         let mut messages = Vec::new(rt.alloc());
         let result = run(
             rt.alloc(),

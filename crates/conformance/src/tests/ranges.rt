@@ -4,14 +4,14 @@ use da65::Status;
 use std::alloc::{AllocError, Global};
 use std::test::Fail;
 
-/// What is written where a byte of the image is skipped.
+/// What is written if a byte of the image is skipped.
 pub const WARNING: &[u8] =
     b"da65: warning: skipped bytes, the listing does not assemble to the image\n";
 
 /// Where these images start.
 pub const START: u16 = 0x1000;
 
-/// An information file and an image, the lines behind the header, and whether a byte is skipped.
+/// An information file and an image, the lines after the header, and whether a byte is skipped.
 pub struct Ranged {
     pub info: &'static str,
     pub image: &'static [u8],
@@ -116,7 +116,7 @@ pub const RANGED: &[Ranged] = &[
         body: b"        .dbyt   $0001,$0002,$0003,$0004\n        .dbyt   $0005\n",
         skips: false,
     },
-    // a line of four words, and a byte that is left over behind it
+    // a line of four words, and a leftover byte after it
     Ranged {
         info: "RANGE { START $1000; SIZE 9; TYPE WORDTABLE; };",
         image: &[1, 0, 2, 0, 3, 0, 4, 0, 5],
@@ -137,7 +137,7 @@ pub const RANGED: &[Ranged] = &[
         body: b"        .byte   $41,$42\n        .byte   \"CD\"\n        .word   $4645\n        .dbyt   $4748\n",
         skips: false,
     },
-    // a byte that is left over, and a table of the other order behind it
+    // a leftover byte, and a table of the other order after it
     Ranged {
         info: "RANGE { START $1000; SIZE 1; TYPE WORDTABLE; }; RANGE { START $1001; SIZE 1; TYPE DBYTETABLE; };",
         image: &[1, 2],

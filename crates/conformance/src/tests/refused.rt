@@ -1,33 +1,31 @@
-// Calls that take memory, each growth refused in turn.
+// Calls that allocate, each allocation refused in turn.
 use crate::heap::Refusing;
 use crate::tests::ranges::WARNING;
+use crate::tests::refusals::{MANY, Refusals};
 use crate::tests::runs::{HEADER, run_with};
-use da65::{RunFault, Status, Told};
+use da65::{RunFault, Status, Told, needs};
 use info65::{InfoFault, InfoFaultKind, Options, read_info};
 use map65::{Map, read_image};
 use std::alloc::Global;
 use std::test::Fail;
-use stmt65::{AsmFault, AsmFaultKind, assemble};
-
-/// More growths than any of these calls has.
-const MANY: u64 = 100;
+use stmt65::{AsmFault, AsmFaultKind, assemble, read_line};
 
 #[test]
 fn information_file(rt: HostRuntime) -> Result<(), Fail> {
     let text =
         b"GLOBAL { INPUTNAME \"a.bin\"; CPU \"6502\"; }; GLOBAL { }; GLOBAL { OUTPUTNAME \"b.s\"; };";
     let options = Options::<Global>::none();
-    let mut refused = 0u64;
+    let mut refusals = Refusals::none();
     for granted in 0..MANY {
         let heap = Refusing::after(rt.alloc(), granted);
-        match read_info(&heap, &options, text) {
+        let read = read_info(&heap, &options, text);
+        refusals.count(&rt, &heap, granted, read.is_err());
+        match read {
             Ok(info) => {
-                assert!(rt; heap.left() <= granted);
                 assert_eq!(rt; info.settings().input.as_deref(), Some("a.bin"));
                 assert_eq!(rt; info.settings().output.as_deref(), Some("b.s"));
             }
             Err(fault) => {
-                refused = refused.saturating_add(1);
                 let memory = InfoFault {
                     line: 0,
                     kind: InfoFaultKind::Memory,
@@ -36,7 +34,7 @@ fn information_file(rt: HostRuntime) -> Result<(), Fail> {
             }
         }
     }
-    assert!(rt; 0 < refused && refused < MANY);
+    refusals.at_least(&rt, 1, MANY);
     Ok(())
 }
 
@@ -44,13 +42,14 @@ fn information_file(rt: HostRuntime) -> Result<(), Fail> {
 fn assembler(rt: HostRuntime) -> Result<(), Fail> {
     let text = b"v := $12\nfoo: lda v\n.byte 1,\"A\"\n.word foo,foo+1\nbar: jmp foo\n";
     let bytes = [0xA5, 0x12, 1, 65, 0, 0x10, 1, 0x10, 0x4C, 0, 0x10];
-    let mut refused = 0u64;
+    let mut refusals = Refusals::none();
     for granted in 0..MANY {
         let heap = Refusing::after(rt.alloc(), granted);
-        match assemble(&heap, text, 0x1000) {
+        let assembled = assemble(&heap, text, 0x1000);
+        refusals.count(&rt, &heap, granted, assembled.is_err());
+        match assembled {
             Ok(found) => assert_eq!(rt; found.as_slice(), bytes.as_slice(), "after {granted}"),
             Err(fault) => {
-                refused = refused.saturating_add(1);
                 let memory = AsmFault {
                     line: 0,
                     kind: AsmFaultKind::Memory,
@@ -59,11 +58,43 @@ fn assembler(rt: HostRuntime) -> Result<(), Fail> {
             }
         }
     }
-    assert!(rt; 0 < refused && refused < MANY);
+    refusals.at_least(&rt, 1, MANY);
     Ok(())
 }
 
-/// An information file with ranges, an image at the start that it gives, and its lines behind the header.
+#[test]
+fn line_of_source(rt: HostRuntime) -> Result<(), Fail> {
+    let mut refusals = Refusals::none();
+    for granted in 0..MANY {
+        let heap = Refusing::after(rt.alloc(), granted);
+        let read = read_line(&heap, b"foo: .byte 1,\"A\",2,3,4,5,6,7,8,9");
+        refusals.count(&rt, &heap, granted, read.is_err());
+        if let Ok(found) = read {
+            assert!(rt; found.is_some(), "after {granted}");
+        }
+    }
+    refusals.at_least(&rt, 1, MANY);
+    Ok(())
+}
+
+#[test]
+fn names_of_needed_files(rt: HostRuntime) -> Result<(), Fail> {
+    let info = b"GLOBAL { INPUTNAME \"a.bin\"; OUTPUTNAME \"b.s\"; };";
+    let mut refusals = Refusals::none();
+    for granted in 0..MANY {
+        let heap = Refusing::after(rt.alloc(), granted);
+        let found = needs(&heap, &Options::<Global>::none(), info);
+        refusals.count(&rt, &heap, granted, found.is_err());
+        if let Ok(names) = found {
+            assert_eq!(rt; names.input.as_deref(), Some("a.bin"), "after {granted}");
+            assert_eq!(rt; names.output.as_deref(), Some("b.s"), "after {granted}");
+        }
+    }
+    refusals.at_least(&rt, 4, MANY);
+    Ok(())
+}
+
+/// An information file with ranges, an image at the start that it gives, and its lines after the header.
 const RANGES: &[u8] = b"GLOBAL { STARTADDR $1000; INPUTNAME \"a.bin\"; }\n\
     RANGE { START $1001; SIZE 3; TYPE WORDTABLE; }\n\
     RANGE { START $1004; SIZE 1; TYPE SKIP; }\n\
@@ -76,27 +107,27 @@ const BODY: &[u8] =
 
 #[test]
 fn run_with_ranges(rt: HostRuntime) -> Result<(), Fail> {
-    let mut refused = 0u64;
+    let mut refusals = Refusals::none();
     for granted in 0..MANY {
         let heap = Refusing::after(rt.alloc(), granted);
         let ran = run_with(rt.alloc(), &heap, &Options::none(), RANGES, IMAGE);
-        if heap.left() <= granted {
+        let failed = ran.result == Err(RunFault::Memory);
+        refusals.count(&rt, &heap, granted, failed);
+        if failed {
+            assert!(rt; ran.listing.is_empty() && ran.messages.is_empty());
+        } else {
             assert_eq!(rt; ran.result, Ok(Status::Done));
             assert_eq!(rt; ran.listing.as_slice().strip_prefix(HEADER), Some(BODY));
             assert_eq!(rt; ran.messages.as_slice(), WARNING);
-        } else {
-            refused = refused.saturating_add(1);
-            assert_eq!(rt; ran.result, Err(RunFault::Memory), "after {granted}");
-            assert!(rt; ran.listing.is_empty() && ran.messages.is_empty());
         }
     }
-    assert!(rt; 2 < refused && refused < MANY);
+    refusals.at_least(&rt, 3, MANY);
     Ok(())
 }
 
-/// A run grows where its information file, its image and its map do, and the map once.
+/// A run allocates where its information file, its image and its map do, and for the map once.
 #[test]
-fn run_grows_as_its_parts(rt: HostRuntime) -> Result<(), Fail> {
+fn run_allocates_as_its_parts(rt: HostRuntime) -> Result<(), Fail> {
     let options = Options::<Global>::none();
     let heap = Refusing::after(rt.alloc(), u64::MAX);
     let info = read_info(&heap, &options, RANGES)?;
@@ -113,7 +144,7 @@ fn run_grows_as_its_parts(rt: HostRuntime) -> Result<(), Fail> {
     Ok(())
 }
 
-/// The map's growth is the last one of a run.
+/// The map's allocation is the last one of a run.
 #[test]
 fn map_without_memory(rt: HostRuntime) -> Result<(), Fail> {
     let options = Options::<Global>::none();

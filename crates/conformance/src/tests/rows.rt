@@ -12,7 +12,7 @@ fn three_bytes(rt: HostRuntime) -> Result<(), Fail> {
     Ok(())
 }
 
-/// An image from a start on, and the lines behind the header.
+/// An image from a start on, and the lines after the header.
 pub struct Row {
     pub start: u16,
     pub image: &'static [u8],
@@ -24,25 +24,31 @@ pub const BODIES: &[Row] = &[
     Row {
         start: 0x1000,
         image: &[0xAD, 0x12, 0x00, 0x99, 0x12, 0x00, 0x4C, 0x14, 0x00],
-        body: b"        lda     a:$0012\n        sta     $0012,y\n        jmp     $0014\n",
+        body: b"L0014           := $0014\n\n        lda     a:$0012\n        sta     $0012,y\n        jmp     L0014\n",
+    },
+    // the same where the jump names the address
+    Row {
+        start: 0x1000,
+        image: &[0xAD, 0x12, 0x00, 0x99, 0x12, 0x00, 0x4C, 0x12, 0x00],
+        body: b"L0012           := $0012\n\n        lda     a:L0012\n        sta     L0012,y\n        jmp     L0012\n",
     },
     // a branch to itself
     Row {
         start: 0x1000,
         image: &[0xD0, 0xFE],
-        body: b"        bne     $1000\n",
+        body: b"L1000:  bne     L1000\n",
     },
     // a jump into itself
     Row {
         start: 0x1000,
         image: &[0x4C, 0x01, 0x10],
-        body: b"        jmp     $1001\n",
+        body: b"L1001           := * + 1\n        jmp     L1001\n",
     },
     // a zero-page operand, and an absolute one below $100
     Row {
         start: 0x0000,
         image: &[0xA5, 0x04, 0xAD, 0x04, 0x00],
-        body: b"        lda     $04\n        lda     a:$0004\n",
+        body: b"        lda     $04\nL0004           := * + 2\n        lda     a:L0004\n",
     },
     // an undefined opcode
     Row {
@@ -71,7 +77,7 @@ pub const BODIES: &[Row] = &[
 ];
 
 #[test]
-fn number_only_bodies(rt: HostRuntime) -> Result<(), Fail> {
+fn bodies_of_code(rt: HostRuntime) -> Result<(), Fail> {
     for row in BODIES {
         let options = named(rt.alloc(), Some(row.start))?;
         let ran = run_over(rt.alloc(), rt.alloc(), &options, row.image);

@@ -11,7 +11,7 @@ pub const THREE: &[u8] = &[0xA9, 0x01, 0x60];
 pub const THREE_LISTING: &[u8] =
     b"; da65 listing\n\n        .setcpu \"6502\"\n\n        lda     #$01\n        rts\n";
 
-/// What a run answered, and what it wrote.
+/// What a run returned, and what it wrote.
 #[derive(Debug, Drop)]
 pub struct Ran {
     pub result: Result<Status, RunFault>,

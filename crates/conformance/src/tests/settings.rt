@@ -1,6 +1,7 @@
 // Runs with options and an information file.
 use crate::heap::Refusing;
 use crate::tests::devices::Endless;
+use crate::tests::refusals::{MANY, Refusals};
 use crate::tests::runs::{HEADER, THREE, THREE_LISTING, named, run_with};
 use da65::{Options, RunFault, Status, Told, run};
 use std::alloc::{AllocError, Global};
@@ -23,7 +24,7 @@ fn options(
     Ok(options)
 }
 
-/// An information file and an input; then the image's start and its bytes, and the lines behind the header.
+/// An information file and an input; then the image's start and its bytes, and the lines after the header.
 struct Listed {
     info: &'static str,
     input: &'static [u8],
@@ -38,7 +39,7 @@ const LISTED: &[Listed] = &[
         input: &[0xD0, 0xFE],
         start: 0x1000,
         image: &[0xD0, 0xFE],
-        body: b"        bne     $1000\n",
+        body: b"L1000:  bne     L1000\n",
     },
     Listed {
         info: "GLOBAL { INPUTOFFS 1; INPUTSIZE 2; };",
@@ -251,7 +252,7 @@ fn the_command_line_wins_and_help_plays_no_part(rt: HostRuntime) -> Result<(), F
     let ran = run_with(rt.alloc(), rt.alloc(), &options, info, &[0x4C, 0x00, 0x20]);
     assert_eq!(rt; ran.result, Ok(Status::Done));
     let body = ran.listing.as_slice().strip_prefix(HEADER);
-    assert_eq!(rt; body, Some(b"        jmp     $2000\n".as_slice()));
+    assert_eq!(rt; body, Some(b"L2000:  jmp     L2000\n".as_slice()));
     let image = assemble(rt.alloc(), &ran.listing, 0x2000)?;
     assert_eq!(rt; image.as_slice(), [0x4C, 0x00, 0x20].as_slice());
     Ok(())
@@ -291,31 +292,30 @@ fn no_more_is_read_than_asked_for(rt: HostRuntime) -> Result<(), Fail> {
     Ok(())
 }
 
-/// More growths than the run has.
-const MANY: u64 = 40;
-
 #[test]
-fn each_growth_refused_in_turn(rt: HostRuntime) -> Result<(), Fail> {
+fn each_allocation_refused_in_turn(rt: HostRuntime) -> Result<(), Fail> {
     let texts = [
-        ("GLOBAL { INPUTNAME \"a.bin\"; INPUTSIZE 3; }", true),
-        ("GLOBAL { INPUTNAME \"a.bin\"; INPUTSIZE 3; } @", false),
+        ("GLOBAL { INPUTNAME \"a.bin\"; INPUTSIZE 3; }", Status::Done),
+        (
+            "GLOBAL { INPUTNAME \"a.bin\"; INPUTSIZE 3; } @",
+            Status::Refused,
+        ),
     ];
-    for (info, done) in texts {
-        let mut refused = 0u64;
+    for (info, status) in texts {
+        let mut refusals = Refusals::none();
         for granted in 0..MANY {
             let heap = Refusing::after(rt.alloc(), granted);
             let ran = run_with(rt.alloc(), &heap, &Options::none(), info.as_bytes(), THREE);
-            if heap.left() <= granted {
-                let status = if done { Status::Done } else { Status::Refused };
-                assert_eq!(rt; ran.result, Ok(status), "after {granted}");
-                assert_eq!(rt; ran.messages.is_empty(), done);
-            } else {
-                refused = refused.saturating_add(1);
-                assert_eq!(rt; ran.result, Err(RunFault::Memory), "after {granted}");
+            let failed = ran.result == Err(RunFault::Memory);
+            refusals.count(&rt, &heap, granted, failed);
+            if failed {
                 assert!(rt; ran.listing.is_empty() && ran.messages.is_empty());
+            } else {
+                assert_eq!(rt; ran.result, Ok(status), "after {granted}");
+                assert_eq!(rt; ran.messages.is_empty(), status == Status::Done);
             }
         }
-        assert!(rt; 0 < refused && refused < MANY);
+        refusals.at_least(&rt, 1, MANY);
     }
     Ok(())
 }

@@ -33,7 +33,7 @@ fn start_addresses(rt: HostRuntime) -> Result<(), Fail> {
         let options = options_on(rt.alloc(), &[option, value, "a.bin"])??;
         assert_eq!(rt; options.start, Some(start), "{value}");
         assert_eq!(rt; name(&options.input), Some("a.bin"), "{value}");
-        assert!(rt; options.cpu.is_none() && !options.help && !options.version);
+        assert!(rt; options.cpu.is_none() && !options.hexoffs && !options.help && !options.version);
     }
     Ok(())
 }
@@ -41,14 +41,25 @@ fn start_addresses(rt: HostRuntime) -> Result<(), Fail> {
 #[test]
 fn each_option(rt: HostRuntime) -> Result<(), Fail> {
     let words = [
-        "-i", "a.info", "-o", "a.s", "-S", "$C000", "--cpu", "6502", "-h", "-V", "a.bin",
+        "-i",
+        "a.info",
+        "-o",
+        "a.s",
+        "-S",
+        "$C000",
+        "--cpu",
+        "6502",
+        "--hexoffs",
+        "-h",
+        "-V",
+        "a.bin",
     ];
     let options = options_on(rt.alloc(), &words)??;
     assert_eq!(rt; name(&options.info), Some("a.info"));
     assert_eq!(rt; name(&options.output), Some("a.s"));
     assert_eq!(rt; options.start, Some(0xC000));
     assert_eq!(rt; options.cpu, Some(Cpu::M6502));
-    assert!(rt; options.help && options.version);
+    assert!(rt; options.hexoffs && options.help && options.version);
     assert_eq!(rt; name(&options.input), Some("a.bin"));
 
     let words = [
@@ -125,6 +136,7 @@ Usage: da65 [options] [inputfile]
   -o name                  output file
   -S, --start-addr addr    start address
   --cpu type               6502 or 65C02
+  --hexoffs                offsets in hexadecimal
   -h, --help               this text
   -V, --version            version
 ";

@@ -97,7 +97,17 @@ const REFUSED: &[(&str, u32, InfoFaultKind)] = &[
     ("GLOBAL { STARTADDR GLOBAL; }", 1, InfoFaultKind::Expected),
     ("GLOBAL GLOBAL", 1, InfoFaultKind::Expected),
     // groups and attributes that are not known
-    ("LABEL { ADDR 0; };", 1, InfoFaultKind::UnknownGroup),
+    ("SEGMENT { START 0; };", 1, InfoFaultKind::UnknownGroup),
+    ("LABEL { ADDR 0; };", 1, InfoFaultKind::Missing),
+    // booleans
+    ("GLOBAL { HEXOFFS 2; };", 1, InfoFaultKind::Expected),
+    ("GLOBAL { HEXOFFS maybe; };", 1, InfoFaultKind::Expected),
+    ("GLOBAL { HEXOFFS \"on\"; };", 1, InfoFaultKind::Expected),
+    (
+        "GLOBAL { HEXOFFS on;\nhexoffs off; };",
+        2,
+        InfoFaultKind::GivenTwice,
+    ),
     (
         "GLOBAL { COMMENTS 1; };",
         1,

@@ -113,11 +113,6 @@ const REFUSED: &[(&str, u32, InfoFaultKind)] = &[
     ),
     // attributes that the group does not have
     (
-        "RANGE { NAME \"ab\"; };",
-        1,
-        InfoFaultKind::UnknownAttribute,
-    ),
-    (
         "RANGE { COMMENT \"ab\"; };",
         1,
         InfoFaultKind::UnknownAttribute,
@@ -133,7 +128,6 @@ const REFUSED: &[(&str, u32, InfoFaultKind)] = &[
     ("RANGE { TYPE 1; };", 1, InfoFaultKind::Expected),
     ("RANGE { TYPE 'C'; };", 1, InfoFaultKind::Expected),
     ("RANGE { TYPE ; };", 1, InfoFaultKind::Expected),
-    ("RANGE { TYPE ADDRTABLE; };", 1, InfoFaultKind::Expected),
     ("RANGE { TYPE DWORDTABLE; };", 1, InfoFaultKind::Expected),
     ("RANGE { START CODE; };", 1, InfoFaultKind::Expected),
     ("RANGE { START \"1\"; };", 1, InfoFaultKind::Expected),
@@ -185,7 +179,9 @@ fn type_words(rt: HostRuntime) -> Result<(), Fail> {
         RANGE { START 5; SIZE 1; TYPE skip; };
         RANGE { START 6; SIZE 1; TYPE BYTETABLE; };
         RANGE { START 7; SIZE 1; TYPE DBYTETABLE; };
-        RANGE { START 8; SIZE 1; TYPE SKIP; };";
+        RANGE { START 8; SIZE 1; TYPE SKIP; };
+        RANGE { START 9; SIZE 1; TYPE addrtable; };
+        RANGE { START 10; SIZE 1; TYPE RTSTABLE; };";
     let expected = [
         range(0, 0, RangeType::Code),
         range(1, 1, RangeType::ByteTable),
@@ -196,6 +192,8 @@ fn type_words(rt: HostRuntime) -> Result<(), Fail> {
         range(6, 6, RangeType::ByteTable),
         range(7, 7, RangeType::DbyteTable),
         range(8, 8, RangeType::Skip),
+        range(9, 9, RangeType::AddrTable),
+        range(10, 10, RangeType::RtsTable),
     ];
     says(&rt, rt.alloc(), text, &expected)?;
     Ok(())

@@ -10,12 +10,12 @@ fn no_ranges(alloc: Global) -> Result<Info, Fail> {
     Ok(read_info(alloc, &Options::<Global>::none(), b"")?)
 }
 
-/// An image of so many of one byte, that ends at $FFFF.
+/// Returns an image that ends at $FFFF, of `count` times the byte.
 fn image_of(alloc: Global, byte: u8, count: usize) -> Result<Image, Fail> {
     Ok(Image::from_bytes(None, None, vec![in alloc; byte; count]?)?)
 }
 
-/// The start, the bytes, and how long the item is that begins at each.
+/// The start, the bytes, and the length of the item that begins at each.
 const IMAGES: [(&str, u16, &[u8], &[u8]); 8] = [
     (
         "one instruction a length",
@@ -30,7 +30,7 @@ const IMAGES: [(&str, u16, &[u8], &[u8]); 8] = [
         &[1, 1, 1],
     ),
     (
-        "reading goes on behind a cut opcode",
+        "reading goes on after a cut opcode",
         0x1000,
         &[0x20, 0xEA],
         &[1, 1],

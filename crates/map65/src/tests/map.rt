@@ -10,12 +10,12 @@ fn info_of(alloc: Global, text: &str) -> Result<Info, Fail> {
     Ok(read_info(alloc, &Options::<Global>::none(), text.as_bytes())?)
 }
 
-/// An image of so many of one byte, that ends at $FFFF.
+/// Returns an image that ends at $FFFF, of `count` times the byte.
 fn image_of(alloc: Global, byte: u8, count: usize) -> Result<Image, Fail> {
     Ok(Image::from_bytes(None, None, vec![in alloc; byte; count]?)?)
 }
 
-/// The bytes from $1000 on, the information file, and for each byte its role and how long the item is that
+/// An image from $1000 on, its information file, and for each byte its role and the length of the item that
 /// begins there.
 struct Listed {
     name: &'static str,
@@ -24,7 +24,7 @@ struct Listed {
     marks: &'static [(RangeType, u8)],
 }
 
-use RangeType::{ByteTable, Code, DbyteTable, Skip, TextTable, WordTable};
+use RangeType::{AddrTable, ByteTable, Code, DbyteTable, RtsTable, Skip, TextTable, WordTable};
 
 const LISTED: &[Listed] = &[
     Listed {
@@ -115,7 +115,7 @@ const LISTED: &[Listed] = &[
         marks: &[(Code, 3), (Code, 0), (Code, 0)],
     },
     Listed {
-        name: "ranges that begin before the image and end behind it",
+        name: "ranges that begin before the image and end after it",
         bytes: &[1, 2, 3, 0xEA, 4, 5],
         info: "RANGE { START $0FFF; END $1002; TYPE WORDTABLE; };\
                RANGE { START $1004; END $1010; TYPE DBYTETABLE; };",
@@ -153,12 +153,14 @@ fn roles_and_items(rt: HostRuntime) -> Result<(), Fail> {
     Ok(())
 }
 
-/// A type, its name, and how many bytes an item of bytes 0 has; none where no item begins.
-const TYPES: [(RangeType, &str, u16); 6] = [
+/// A type, its name, and the length of an item of bytes 0; 0 if no item begins.
+const TYPES: [(RangeType, &str, u16); 8] = [
     (Code, "CODE", 1),
     (ByteTable, "BYTETABLE", 1),
     (WordTable, "WORDTABLE", 2),
     (DbyteTable, "DBYTETABLE", 2),
+    (AddrTable, "ADDRTABLE", 2),
+    (RtsTable, "RTSTABLE", 2),
     (TextTable, "TEXTTABLE", 1),
     (Skip, "SKIP", 0),
 ];

@@ -398,3 +398,57 @@ fn as_many_lines_as_bytes(rt: HostRuntime) -> Result<(), Fail> {
     assert_eq!(rt; fault, Some(past));
     Ok(())
 }
+
+#[test]
+fn thousand_lines(rt: HostRuntime) -> Result<(), Fail> {
+    let a = rt.alloc();
+    let mut text = Vec::new(a);
+    let mut bytes = Vec::new(a);
+    for _ in 0..250u8 {
+        text.extend_from_slice(b"lda #$01 ; one\n\n.byte \"A;\",2\n.word $1234\n")?;
+        bytes.extend_from_slice(&[0xA9, 1, 0x41, 0x3B, 2, 0x34, 0x12])?;
+    }
+    let found = assemble(a, text.as_slice(), 0x1000)?;
+    assert_eq!(rt; found.as_slice(), bytes.as_slice());
+    Ok(())
+}
+
+/// 65,536 lines of 80 bytes: remarks, and one instruction after them.
+#[test]
+fn five_mebibytes(rt: HostRuntime) -> Result<(), Fail> {
+    let a = rt.alloc();
+    let mut text = Vec::new(a);
+    for _ in 0..65536u32 {
+        text.extend_from_slice(
+            b"; 5 MiB of remarks assemble to nothing: blanks, names and numbers such as $1234\n",
+        )?;
+    }
+    assert_eq!(rt; text.len(), 5 * 1024 * 1024);
+    text.extend_from_slice(b"nop")?;
+    let found = assemble(a, text.as_slice(), 0xFFFF)?;
+    assert_eq!(rt; found.as_slice(), [0xEA].as_slice());
+    Ok(())
+}
+
+#[test]
+fn texts_of_faults(rt: HostRuntime) -> Result<(), Fail> {
+    let texts = [
+        (AsmFaultKind::Syntax, "line 1: syntax error"),
+        (AsmFaultKind::UnknownCpu, "line 1: unknown CPU"),
+        (AsmFaultKind::NoSuchForm, "line 1: no such form"),
+        (AsmFaultKind::Undefined, "line 1: undefined name"),
+        (AsmFaultKind::DefinedTwice, "line 1: name defined twice"),
+        (AsmFaultKind::OutOfRange, "line 1: value out of range"),
+        (
+            AsmFaultKind::PastEnd,
+            "line 1: past the end of the address space",
+        ),
+        (AsmFaultKind::Memory, "line 1: out of memory"),
+    ];
+    for (kind, text) in texts {
+        let fault = AsmFault { line: 1, kind };
+        let shown = format!(in rt.alloc(); "{fault}")?;
+        assert_eq!(rt; shown.as_str(), text);
+    }
+    Ok(())
+}

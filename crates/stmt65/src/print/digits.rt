@@ -3,6 +3,7 @@
 ghost use Rattle.std.specs.Prelude.{◌≡◌, ◌+◌, ◌<◌, ◌≤◌, ◌++◌, decimal};
 ghost use Rattle.arrayvec.specs.ArrayVec.{array_vec_len};
 ghost use Rattle.stmt65.specs.Digits.{hex_digit, hex2, hex4, offset_text};
+ghost use Rattle.stmt65.specs.Statements.{distance_text};
 
 use super::Line;
 use super::fields::put;
@@ -59,5 +60,18 @@ pub(super) fn put_offset(out: &mut Line, hexoffs: bool, offset: u16)
         put_hex2(out, offset as u8);
     } else {
         put_hex4(out, offset);
+    }
+}
+
+/// Appends the distance of a name from its own line.
+pub(super) fn put_distance(out: &mut Line, hexoffs: bool, distance: u16)
+    requires { array_vec_len out.old + 5 ≤ 512 }
+    ensures items { out.new.items ≡ out.old.items ++ distance_text hexoffs distance }
+    ensures len { array_vec_len out.new ≤ array_vec_len out.old + 5 }
+{
+    if hexoffs {
+        put_hex4(out, distance);
+    } else {
+        put_decimal(out, distance);
     }
 }

@@ -21,6 +21,7 @@ pub(super) fn start_field(out: &mut Line, column: Column)
     requires { array_vec_len out.old < 391 }
     ensures items { out.new.items ≡ filled out.old.items column }
     ensures len { array_vec_len out.new ≤ max (array_vec_len out.old + 1) 120 }
+    ensures short { array_vec_len out.new ≤ array_vec_len out.old + column }
 {
     let len = out.len();
     let column = column.get() as usize;

@@ -13,7 +13,7 @@ use super::fields::put;
 use crate::statement::{Expr, Operands};
 use isa65::Mode;
 
-fn put_named(out: &mut Line, hexoffs: bool, name: &[u8], offset: u16)
+pub(super) fn put_named(out: &mut Line, hexoffs: bool, name: &[u8], offset: u16)
     requires { array_vec_len out.old + length name.now + 6 ≤ 512 }
     ensures items { out.new.items ≡ out.old.items ++ named_text hexoffs name.now offset }
     ensures len { array_vec_len out.new ≤ array_vec_len out.old + length name.now + 6 }
@@ -25,7 +25,7 @@ fn put_named(out: &mut Line, hexoffs: bool, name: &[u8], offset: u16)
     }
 }
 
-/// An expression whose number has two digits.
+/// Appends an expression, a number in two digits.
 fn put_short(out: &mut Line, hexoffs: bool, expr: Expr)
     requires room { array_vec_len out.old ≤ 400 }
     requires short { IsShort (expr_seen expr) }
@@ -39,7 +39,7 @@ fn put_short(out: &mut Line, hexoffs: bool, expr: Expr)
     }
 }
 
-/// An expression whose number has four digits.
+/// Appends an expression, a number in four digits.
 fn put_long(out: &mut Line, hexoffs: bool, expr: Expr)
     requires room { array_vec_len out.old ≤ 400 }
     requires long { IsLong (expr_seen expr) }
@@ -53,7 +53,7 @@ fn put_long(out: &mut Line, hexoffs: bool, expr: Expr)
     }
 }
 
-/// An expression whose number has two digits, between two texts.
+/// Appends an expression between two texts, a number in two digits.
 fn put_short_between(out: &mut Line, hexoffs: bool, before: &[u8], expr: Expr, after: &[u8])
     requires room { array_vec_len out.old ≤ 300 }
     requires short { IsShort (expr_seen expr) }
@@ -68,7 +68,7 @@ fn put_short_between(out: &mut Line, hexoffs: bool, before: &[u8], expr: Expr, a
     put(out, after);
 }
 
-/// An expression whose number has four digits, between two texts.
+/// Appends an expression between two texts, a number in four digits.
 fn put_long_between(out: &mut Line, hexoffs: bool, before: &[u8], expr: Expr, after: &[u8])
     requires room { array_vec_len out.old ≤ 300 }
     requires long { IsLong (expr_seen expr) }
@@ -83,7 +83,7 @@ fn put_long_between(out: &mut Line, hexoffs: bool, before: &[u8], expr: Expr, af
     put(out, after);
 }
 
-/// What stands before an operand that is forced to be absolute.
+/// The prefix that makes an operand absolute.
 fn prefix(absolute: bool) -> &'static [u8]
     ensures text { result.now ≡ prefix_text absolute }
     ensures len { length result.now ≤ 3 }

@@ -4,7 +4,7 @@ ghost use Rattle.std.specs.Prelude.{◌≡◌, ◌+◌, ◌<◌, ◌≤◌, ◌*
 ghost use Rattle.std.specs.List.{prefix_len, flat_map};
 ghost use Rattle.arrayvec.specs.ArrayVec.{array_vec_len};
 ghost use Rattle.stmt65.specs.Statements.{data_text, datum_behind, words_text, word_behind};
-ghost use Rattle.stmt65.specs.Tables.{word_of, words_in, is_plain, text_said};
+ghost use Rattle.stmt65.specs.Tables.{word_of, words_in, is_plain, cut_text};
 
 use super::Line;
 use super::digits::{put_hex2, put_hex4};
@@ -16,12 +16,12 @@ fn word_of(order: ByteOrder, first: u8, second: u8) -> u16
     ensures { result ≡ word_of order first second }
 {
     match order {
-        ByteOrder::LowFirst => u16::from(first) + 256 * u16::from(second),
-        ByteOrder::HighFirst => u16::from(second) + 256 * u16::from(first),
+        ByteOrder::LittleEndian => u16::from(first) + 256 * u16::from(second),
+        ByteOrder::BigEndian => u16::from(second) + 256 * u16::from(first),
     }
 }
 
-/// Puts the first word, and gives the bytes behind it.
+/// Appends the first word, and returns the bytes after it.
 fn put_first_word<'a>(out: &mut Line, order: ByteOrder, bytes: &'a [u8]) -> &'a [u8]
     requires some { 2 ≤ length bytes.now }
     requires room { array_vec_len out.old + 3 * length bytes.now ≤ 512 }
@@ -36,7 +36,7 @@ fn put_first_word<'a>(out: &mut Line, order: ByteOrder, bytes: &'a [u8]) -> &'a 
     rest
 }
 
-/// Puts the words of the bytes, joined by commas.
+/// Appends the words of the bytes, joined by commas.
 pub(super) fn put_words(out: &mut Line, order: ByteOrder, bytes: &[u8])
     requires some { 2 ≤ length bytes.now }
     requires room { array_vec_len out.old + 3 * length bytes.now ≤ 512 }
@@ -63,12 +63,12 @@ fn stretch_len(bytes: &[u8]) -> usize
     bytes.iter().take_while(|b| is_plain(**b)).count()
 }
 
-/// Puts what stands first in the text, its longest stretch or one byte, and gives the bytes behind
+/// Appends the longest stretch that the text begins with, or one byte, and returns the bytes after
 /// it.
 fn put_first_datum<'a>(out: &mut Line, bytes: &'a [u8]) -> &'a [u8]
     requires some { 1 ≤ length bytes.now }
     requires room { array_vec_len out.old + 4 * length bytes.now ≤ 512 }
-    ensures items { out.new.items ++ flat_map datum_behind (text_said result.now) ≡ out.old.items ++ data_text (text_said bytes.now) }
+    ensures items { out.new.items ++ flat_map datum_behind (cut_text result.now) ≡ out.old.items ++ data_text (cut_text bytes.now) }
     ensures len { array_vec_len out.new + 4 * length result.now < array_vec_len out.old + 4 * length bytes.now }
     ensures fewer { length result.now < length bytes.now }
 {
@@ -87,11 +87,11 @@ fn put_first_datum<'a>(out: &mut Line, bytes: &'a [u8]) -> &'a [u8]
     rest
 }
 
-/// Puts the bytes as text.
+/// Appends the bytes as text.
 pub(super) fn put_text(out: &mut Line, bytes: &[u8])
     requires some { 1 ≤ length bytes.now }
     requires room { array_vec_len out.old + 4 * length bytes.now ≤ 512 }
-    ensures items { out.new.items ≡ out.old.items ++ data_text (text_said bytes.now) }
+    ensures items { out.new.items ≡ out.old.items ++ data_text (cut_text bytes.now) }
     ensures len { array_vec_len out.new ≤ array_vec_len out.old + 4 * length bytes.now }
 {
     let mut rest = put_first_datum(out, bytes);

@@ -1,4 +1,4 @@
-use crate::{Datum, Form, Operation, Said, Value, read_line};
+use crate::{AddressSize, Datum, Form, Minus, Operation, SourceLine, Value, read_line};
 use std::alloc::{AllocError, Global};
 use std::test::Fail;
 
@@ -8,11 +8,18 @@ fn text(bytes: &[u8]) -> &str {
 
 fn put_value(out: &mut String, value: &Value) -> Result<(), AllocError> {
     match *value {
-        Value::Plain(n) => write!(out, "{n}"),
-        Value::Named(name, plus, less) => {
+        Value::Number(n) => {
+            let n = n.value();
+            write!(out, "{n}")
+        }
+        Value::Name(name, plus, minus) => {
             let name = text(name);
-            let less = if less { "-1" } else { "" };
-            write!(out, "{name}+{plus}{less}")
+            let plus = plus.value();
+            let minus = match minus {
+                Minus::Zero => "",
+                Minus::One => "-1",
+            };
+            write!(out, "{name}+{plus}{minus}")
         }
     }
 }
@@ -28,8 +35,11 @@ fn put_values(out: &mut String, values: &[Value]) -> Result<(), AllocError> {
 fn put_data(out: &mut String, data: &[Datum]) -> Result<(), AllocError> {
     for datum in data {
         match *datum {
-            Datum::Byte(n) => write!(out, " {n}")?,
-            Datum::Bytes(bytes) => {
+            Datum::Number(n) => {
+                let n = n.value();
+                write!(out, " {n}")?;
+            }
+            Datum::String(bytes) => {
                 let bytes = text(bytes);
                 write!(out, " \"{bytes}\"")?;
             }
@@ -38,8 +48,8 @@ fn put_data(out: &mut String, data: &[Datum]) -> Result<(), AllocError> {
     Ok(())
 }
 
-fn put_prefixed(out: &mut String, prefix: bool, value: &Value) -> Result<(), AllocError> {
-    if prefix {
+fn put_prefixed(out: &mut String, size: AddressSize, value: &Value) -> Result<(), AllocError> {
+    if size == AddressSize::Absolute {
         out.push_str("a:")?;
     }
     put_value(out, value)
@@ -49,27 +59,27 @@ fn put_form(out: &mut String, form: &Form) -> Result<(), AllocError> {
     let behind = match form {
         Form::Empty => "",
         Form::Accumulator => " A",
-        Form::Hash(value) => {
+        Form::Immediate(value) => {
             out.push_str(" #")?;
             put_value(out, value)?;
             ""
         }
-        Form::Straight(prefix, value) => {
+        Form::Direct(size, value) => {
             out.push_str(" ")?;
-            put_prefixed(out, *prefix, value)?;
+            put_prefixed(out, *size, value)?;
             ""
         }
-        Form::WithX(prefix, value) => {
+        Form::DirectX(size, value) => {
             out.push_str(" ")?;
-            put_prefixed(out, *prefix, value)?;
+            put_prefixed(out, *size, value)?;
             ",X"
         }
-        Form::WithY(prefix, value) => {
+        Form::DirectY(size, value) => {
             out.push_str(" ")?;
-            put_prefixed(out, *prefix, value)?;
+            put_prefixed(out, *size, value)?;
             ",Y"
         }
-        Form::Both(first, second) => {
+        Form::Two(first, second) => {
             out.push_str(" ")?;
             put_value(out, first)?;
             out.push_str(",")?;
@@ -131,19 +141,21 @@ fn put_operation(out: &mut String, operation: &Operation) -> Result<(), AllocErr
 }
 
 /// What the line says in one spelling, or `Syntax`.
-fn said(alloc: Global, line: &[u8]) -> Result<String, AllocError> {
+pub fn source(alloc: Global, line: &[u8]) -> Result<String, AllocError> {
     let mut out = String::new(alloc);
     match read_line(alloc, line)? {
         None => out.push_str("Syntax")?,
-        Some(Said::Constant(name, n)) => {
+        Some(SourceLine::Assignment(name, n)) => {
             let name = text(name);
+            let n = n.value();
             write!(out, "{name} := {n}")?;
         }
-        Some(Said::Here(name, n)) => {
+        Some(SourceLine::PlaceAssignment(name, n)) => {
             let name = text(name);
+            let n = n.value();
             write!(out, "{name} := * + {n}")?;
         }
-        Some(Said::Stated(label, operation)) => {
+        Some(SourceLine::Statement { label, operation }) => {
             if let Some(name) = label {
                 let name = text(name);
                 write!(out, "{name}: ")?;
@@ -198,7 +210,7 @@ fn accepted_lines(rt: HostRuntime) -> Result<(), Fail> {
         (b".setcpu \"\"", "setcpu "),
     ];
     for (line, want) in rows {
-        let found = said(rt.alloc(), line)?;
+        let found = source(rt.alloc(), line)?;
         assert_eq!(rt; found.as_str(), want);
     }
     Ok(())
@@ -276,7 +288,7 @@ fn refused_lines(rt: HostRuntime) -> Result<(), Fail> {
         b"\"\"",
     ];
     for line in rows {
-        let found = said(rt.alloc(), line)?;
+        let found = source(rt.alloc(), line)?;
         assert_eq!(rt; found.as_str(), "Syntax");
     }
     Ok(())
@@ -291,7 +303,7 @@ fn prefixes_of_an_immediate(rt: HostRuntime) -> Result<(), Fail> {
     ];
     for (n, want) in rows.iter().enumerate() {
         let (front, _) = line.split_at(n);
-        let found = said(rt.alloc(), front)?;
+        let found = source(rt.alloc(), front)?;
         assert_eq!(rt; found.as_str(), *want);
     }
     Ok(())
@@ -302,9 +314,46 @@ fn prefixes_of_an_immediate(rt: HostRuntime) -> Result<(), Fail> {
 fn longest_name(rt: HostRuntime) -> Result<(), Fail> {
     let mut line: Vec<u8> = vec![in rt.alloc(); b'n'; 80]?;
     line.push(b':')?;
-    assert_eq!(rt; said(rt.alloc(), line.as_slice())?.len(), 82);
+    assert_eq!(rt; source(rt.alloc(), line.as_slice())?.len(), 82);
     let mut line: Vec<u8> = vec![in rt.alloc(); b'n'; 81]?;
     line.push(b':')?;
-    assert_eq!(rt; said(rt.alloc(), line.as_slice())?.as_str(), "Syntax");
+    assert_eq!(rt; source(rt.alloc(), line.as_slice())?.as_str(), "Syntax");
+    Ok(())
+}
+
+fn data_len(operation: &Operation) -> usize {
+    match operation {
+        Operation::Data(data) => data.len(),
+        _ => 0,
+    }
+}
+
+fn count_of_data(alloc: Global, line: &[u8]) -> Result<usize, AllocError> {
+    match read_line(alloc, line)? {
+        Some(SourceLine::Statement { label, operation }) => {
+            let _ = label;
+            Ok(data_len(&operation))
+        }
+        _ => Ok(0),
+    }
+}
+
+/// A line of 100,000 bytes with 33,332 numbers, and one with a name of that length.
+#[test]
+fn long_lines(rt: HostRuntime) -> Result<(), Fail> {
+    let a = rt.alloc();
+    let mut line = Vec::new(a);
+    line.extend_from_slice(b".byte")?;
+    for _ in 0..33331u16 {
+        line.extend_from_slice(b" 1,")?;
+    }
+    line.extend_from_slice(b" 1")?;
+    assert_eq!(rt; line.len(), 100_000);
+    assert_eq!(rt; count_of_data(a, line.as_slice())?, 33332);
+    let mut line = Vec::new(a);
+    for _ in 0..10000u16 {
+        line.extend_from_slice(b"long_names")?;
+    }
+    assert!(rt; read_line(a, line.as_slice())?.is_none());
     Ok(())
 }

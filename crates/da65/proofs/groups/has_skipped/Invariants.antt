@@ -1,7 +1,7 @@
 use Rattle.std.proofs.Common.{◌-◌, ◌≡◌, ◌+◌, ◌≤◌}
 use Rattle.std.specs.List.{list_any}
 use Rattle.map65.specs.Roles.{is_skip, role_of}
-use Rattle.map65.specs.Steps.{addresses}
+use Rattle.map65.specs.Spans.{addresses}
 use Rattle.da65.specs.Groups.{skips}
 use Rattle.da65.proofs.groups.has_skipped.Given as goal
 

@@ -1,39 +1,37 @@
-use Rattle.std.proofs.Common.{◌≡◌, ◌∙◌, ◌+◌, ap, arith}
+use Rattle.std.proofs.Common.{◌≡◌, ◌∙◌, ◌+◌, ap, arith, drop, length, length-drop, refl, subst, sym}
+use Rattle.std.specs.Option.{option_copied}
 use Rattle.da65.specs.Groups.{group_len}
-use Rattle.da65.specs.Listing.{line}
-use Rattle.da65.proofs.GroupLemmas.{group-some, item-begins, place-next}
-use Rattle.da65.proofs.NextLemmas.{address-told, group-lined, group-shaped, group-told}
+use Rattle.da65.proofs.GroupLemmas.{group-fits, group-some}
+use Rattle.da65.proofs.NextLemmas.{GroupAt, count-told, group-here, group-shaped, group-told, line-with}
+use Rattle.stmt65.specs.Columns.{default_columns}
+use Rattle.stmt65.specs.Printable.{MayBeLabelled}
+use Rattle.stmt65.specs.Views.{StatementView}
 use Rattle.da65.proofs.lines.put_group.Goals as goal
 
-pub group_len-len-requires-clause-begins : goal.group_len-len-requires-clause-begins
-group_len-len-requires-clause-begins g c =
-    let address = address-told c.args.map.now _ _ c.args.at c.requires.image c.start.ensures in
-    rw address (item-begins _ _ c.requires.place c.requires.inside c.requires.shown)
+pub split_at-requires-2 : goal.split_at-requires-2
+split_at-requires-2 g c =
+    let s = c.requires.start in
+    let fits = group-fits c.args.map.now _ s.place s.inside s.shown in
+    let count = count-told c.args.map.now _ _ c.requires.image c.bytes.ensures.bytes in
+    let rest = ap length c.split_at.ensures.back ∙ length-drop c.args.at c.bytes.result.now in
+    omega (arith, fits, count, rest, c.requires.len)
 
-pub statement_for-requires-clause-some : goal.statement_for-requires-clause-some
-statement_for-requires-clause-some g c =
-    let address = address-told c.args.map.now _ _ c.args.at c.requires.image c.start.ensures in
-    let some = group-some _ _ c.requires.place c.requires.inside c.requires.shown in
-    let len : group_len c.args.map.now (c.start.result + c.args.at) ≡ group_len c.args.map.now (c.args.map.now.image.start + c.args.at) = ap (group_len c.args.map.now) address in
-    omega (arith, some, len, c.group_len-len.ensures.len, c.split_at-2.ensures.front_len)
+pub statement_for-statement-requires-clause-some : goal.statement_for-statement-requires-clause-some
+statement_for-statement-requires-clause-some g c =
+    let s = c.requires.start in
+    omega (arith, group-some c.args.map.now _ s.place s.inside s.shown, c.requires.len, c.split_at-2.ensures.front_len)
 
-pub statement_for-requires-clause-group : goal.statement_for-requires-clause-group
-statement_for-requires-clause-group g c =
-    let here = group-told c.args.map.now _ c.args.at _ _ _ _ _ _ _ c.requires.cpu c.requires.image c.start.ensures c.role_inside-role.ensures c.group_len-len.ensures.len c.bytes.ensures.bytes c.split_at.ensures.back c.split_at-2.ensures.front in
-    group-shaped _ _ _ _ _ _ _ here c.requires.place c.requires.inside c.requires.shown
+pub statement_for-statement-requires-clause-group : goal.statement_for-statement-requires-clause-group
+statement_for-statement-requires-clause-group g c =
+    let here = group-here c.args.map.now _ c.args.at _ _ _ _ _ _ _ c.requires.cpu c.requires.image c.start.ensures c.role_inside-role.ensures c.requires.len c.bytes.ensures.bytes c.split_at.ensures.back c.split_at-2.ensures.front in
+    group-shaped _ _ _ _ _ _ here c.requires.start
 
-pub returns-clause-line : goal.returns-clause-line
-returns-clause-line g c =
-    let here = group-told c.args.map.now _ c.args.at _ _ _ _ _ _ _ c.requires.cpu c.requires.image c.start.ensures c.role_inside-role.ensures c.group_len-len.ensures.len c.bytes.ensures.bytes c.split_at.ensures.back c.split_at-2.ensures.front in
-    c.put_statement.ensures ∙ ap line c.statement_for.ensures.value ∙ group-lined _ _ _ _ _ _ _ here
+pub put_statement-requires-clause-label : goal.put_statement-requires-clause-label
+put_statement-requires-clause-label g c =
+    let here = group-here c.args.map.now _ c.args.at _ _ _ _ _ _ _ c.requires.cpu c.requires.image c.start.ensures c.role_inside-role.ensures c.requires.len c.bytes.ensures.bytes c.split_at.ensures.back c.split_at-2.ensures.front in
+    subst (λ (s : StatementView). MayBeLabelled default_columns (option_copied c.args.label) s) (sym (c.statement_for-statement.ensures.value ∙ group-told _ _ _ _ _ _ here)) c.requires.label
 
-pub returns-clause-len : goal.returns-clause-len
-returns-clause-len g c =
-    let address = address-told c.args.map.now _ _ c.args.at c.requires.image c.start.ensures in
-    c.group_len-len.ensures.len ∙ ap (group_len c.args.map.now) address
-
-pub returns-clause-place : goal.returns-clause-place
-returns-clause-place g c =
-    let address = address-told c.args.map.now _ _ c.args.at c.requires.image c.start.ensures in
-    let len : c.group_len-len.result ≡ group_len c.args.map.now (c.args.map.now.image.start + c.args.at) = c.group_len-len.ensures.len ∙ ap (group_len c.args.map.now) address in
-    rw len (place-next _ _ c.requires.place c.requires.inside c.requires.shown)
+pub returns : goal.returns
+returns g c =
+    let here = group-here c.args.map.now _ c.args.at _ _ _ _ _ _ _ c.requires.cpu c.requires.image c.start.ensures c.role_inside-role.ensures c.requires.len c.bytes.ensures.bytes c.split_at.ensures.back c.split_at-2.ensures.front in
+    c.put_statement.ensures ∙ line-with _ _ _ _ _ (c.statement_for-statement.ensures.value ∙ group-told _ _ _ _ _ _ here) c.requires.hexoffs

@@ -2,5 +2,5 @@ use Rattle.std.proofs.Common.{refl}
 use Rattle.da65.proofs.lines.put_statement.Goals as goal
 
 pub returns : goal.returns
-unfolding Rattle.da65.specs.Listing.line
+unfolding Rattle.da65.specs.Listing.line_text
 returns c = rw (c.put_line.ensures.line, c.default-2.ensures, c.default.ensures) refl

@@ -1,12 +1,12 @@
 use Rattle.std.proofs.Common.{◌-◌, ◌≡◌}
 use Rattle.da65.specs.Groups.{IsGroupPlace}
-use Rattle.da65.specs.Lines.{group_lines_from}
+use Rattle.da65.specs.Lines.{groups_left}
 use Rattle.da65.proofs.lines.shown_from.Given as goal
 
 abbrev pub invariant-bytes : goal.invariant-bytes
 invariant-bytes g l = record {
   place : IsGroupPlace l.map l.at;
-  lines : group_lines_from l.map l.at ≡ group_lines_from l.map l.from;
+  lines : groups_left l.map l.at ≡ groups_left l.map l.from;
 }
 
 abbrev pub decreases-bytes : goal.decreases-bytes

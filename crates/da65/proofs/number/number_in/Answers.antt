@@ -1,7 +1,7 @@
 use Rattle.std.proofs.Common.{◌≡◌, ◌∙◌, ◌<◌, ◌+◌, ◌*◌, length, get_or, drop, min, ap, sym, arith, rules}
 use Rattle.std.specs.Char.{digit_value}
 use Rattle.std.specs.Str.Parse.{digits_value_after}
-use Rattle.da65.proofs.NumberLemmas.{next_digit, next_value, saturates}
+use Rattle.info65.proofs.NumberLemmas.{next_digit, next_value, saturates}
 use Rattle.da65.proofs.number.number_in.Goals as goal
 
 pub reads-preserved : goal.reads-preserved

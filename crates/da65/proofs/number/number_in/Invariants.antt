@@ -1,6 +1,6 @@
 use Rattle.std.proofs.Common.{◌≡◌, ◌≤◌, min, drop}
 use Rattle.std.specs.Str.Parse.{digits_value, digits_value_after}
-use Rattle.da65.specs.Number.{are_digits}
+use Rattle.info65.specs.Lexemes.{are_digits}
 use Rattle.da65.proofs.number.number_in.Given as goal
 
 abbrev pub invariant-reads : goal.invariant-reads

@@ -1,5 +1,5 @@
 use Rattle.std.proofs.Common.{◌≡◌, drop, map}
-use Rattle.info65.specs.Given.{group_seen}
+use Rattle.info65.specs.Code.Groups.{group_seen}
 use Rattle.info65.specs.Groups.{global_given, value_in}
 use Rattle.info65.proofs.groups.global_value.Given as goal
 

@@ -5,3 +5,7 @@ use Rattle.info65.proofs.groups.has_before.Goals as goal
 pub returns-in-Range : goal.returns-in-Range
 unfolding has
 returns-in-Range g c = rw c.in-Range.is refl
+
+pub returns-in-Label : goal.returns-in-Label
+unfolding has
+returns-in-Label g c = rw c.in-Label.is refl

@@ -1,5 +1,5 @@
 use Rattle.std.proofs.Common.{◌≡◌, ◌∙◌, ◌||◌, true, ap, arith, drop, map, sym, ◌+◌}
-use Rattle.info65.specs.Given.{group_seen}
+use Rattle.info65.specs.Code.Groups.{group_seen}
 use Rattle.info65.specs.Groups.{global_given, global_part, has}
 use Rattle.info65.proofs.GroupLemmas.{has_more, has_none}
 use Rattle.info65.proofs.groups.has_global.Goals as goal

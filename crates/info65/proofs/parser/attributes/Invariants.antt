@@ -1,11 +1,11 @@
 use Rattle.std.proofs.Common.{◌≡◌, ◌≤◌, [], length, map}
-use Rattle.info65.specs.Given.{given_seen, group_seen}
+use Rattle.info65.specs.Code.Groups.{assignment_seen}
 use Rattle.info65.specs.Reader.{inside, read}
 use Rattle.info65.proofs.parser.attributes.Given as goal
 
 abbrev pub invariant-attributes : goal.invariant-attributes
 invariant-attributes g l = record {
-  same : read l.fn.options (inside l.fn.kind (map given_seen l.given.items)) (map group_seen l.fn.before) l.lexer ≡ read l.fn.options (inside l.fn.kind []) (map group_seen l.fn.before) l.fn.lexer;
+  same : read l.fn.options (inside l.fn.kind (map assignment_seen l.given.items)) l.fn.before l.lexer ≡ read l.fn.options (inside l.fn.kind []) l.fn.before l.fn.lexer;
   shorter : length l.lexer.tokens ≤ length l.fn.lexer.tokens;
 }
 

@@ -1,10 +1,11 @@
 use Rattle.std.proofs.Common.{◌≡◌, length, map}
-use Rattle.info65.specs.Given.{group_seen}
-use Rattle.info65.specs.Reader.{groups_of, place_after, read}
+use Rattle.info65.specs.Code.Groups.{group_seen}
+use Rattle.info65.specs.Code.Reading.{place_after}
+use Rattle.info65.specs.Reader.{groups_of, read}
 use Rattle.info65.proofs.parser.read_groups.Given as goal
 
 abbrev pub invariant-groups : goal.invariant-groups
-invariant-groups g l = read l.fn.options (place_after l.after_group) (map group_seen l.groups.items) l.lexer ≡ groups_of l.fn.options l.fn.bytes
+invariant-groups g l = read l.fn.options (place_after l.after_group) l.groups l.lexer ≡ groups_of l.fn.options l.fn.bytes
 
 abbrev pub decreases-groups : goal.decreases-groups
 decreases-groups g l = length l.lexer.tokens

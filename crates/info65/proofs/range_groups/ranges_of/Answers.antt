@@ -1,7 +1,7 @@
 use Rattle.std.proofs.Common.{◌≡◌, ◌∙◌, ◌++◌, ap, append_assoc, arith, drop, map, sym, ◌+◌}
 use Rattle.std.specs.Prelude.{Ok}
 use Rattle.std.proofs.lemmas.List.{append-nil}
-use Rattle.info65.specs.Given.{group_seen}
+use Rattle.info65.specs.Code.Groups.{group_seen}
 use Rattle.info65.specs.Ranges.{range_part, ranges_of}
 use Rattle.info65.proofs.RangeLemmas.{ranges_next, ranges_none}
 use Rattle.info65.proofs.range_groups.ranges_of.Goals as goal

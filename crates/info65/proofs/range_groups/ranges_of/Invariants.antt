@@ -1,5 +1,5 @@
 use Rattle.std.proofs.Common.{◌≡◌, ◌++◌, drop, map}
-use Rattle.info65.specs.Given.{group_seen}
+use Rattle.info65.specs.Code.Groups.{group_seen}
 use Rattle.info65.specs.Ranges.{ranges_of}
 use Rattle.info65.proofs.range_groups.ranges_of.Given as goal
 

@@ -11,7 +11,8 @@ items-init g c =
     record {
       low = omega (arith, at);
       begins = first-begins m _ at;
-      marked = marked-none m _ c.args.cells.now at c.requires;
+      marked = marked-none m _ c.args.cells.now at c.requires.marked;
+      own = c.requires.own;
     }
 
 pub returns : goal.returns
@@ -19,4 +20,4 @@ returns g c =
     let m : MapView = record { info = c.args.info.now; image = c.args.image.now } in
     let bytes = ap length c.bytes.ensures.bytes in
     let past : end_of c.args.image.now ≤ c.items.at = omega (arith, c.from-at.ensures ∙ c.start.ensures, bytes, c.items-test.false) in
-    all-marked m c.items.at c.items.cells past c.items.invariant.marked
+    record { laid = all-marked m c.items.at c.items.cells past c.items.invariant.marked; own = c.items.invariant.own }

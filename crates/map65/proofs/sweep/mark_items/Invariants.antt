@@ -1,8 +1,10 @@
 use Rattle.std.proofs.Common.{◌≡◌, ◌-◌, ◌≤◌}
-use Rattle.map65.specs.Cells.{AreMarkedBelow}
+use Rattle.map65.specs.Code.Cells.{HasBits}
+use Rattle.map65.specs.Code.Marking.{AreMarkedBelow}
 use Rattle.map65.specs.Items.{size_at}
 use Rattle.map65.specs.MapView.{MapView}
-use Rattle.map65.specs.Steps.{left_at}
+use Rattle.map65.specs.Pieces.{is_own}
+use Rattle.map65.specs.Spans.{left_at}
 use Rattle.map65.proofs.sweep.mark_items.Given as goal
 
 abbrev pub invariant-items : goal.invariant-items
@@ -12,6 +14,7 @@ invariant-items g l =
       low : l.image.start ≤ l.at;
       begins : left_at (size_at m) l.image.start (l.at - l.image.start) ≡ 0;
       marked : AreMarkedBelow m l.at l.cells;
+      own : HasBits (is_own l.info.names) l.cells;
     }
 
 abbrev pub decreases-items : goal.decreases-items

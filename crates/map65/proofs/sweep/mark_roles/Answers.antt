@@ -1,9 +1,9 @@
 use Rattle.std.proofs.Common.{◌≡◌, ◌+◌, ◌-◌, ◌<◌, ℕ, List, arith, drop, length, sym, subst}
 use Rattle.info65.specs.declared.range.RangeSpec.{RangeSpec}
 use Rattle.info65.specs.declared.range.RangeType.TheVariants.{Code}
-use Rattle.map65.specs.Cells.{ArePainted}
+use Rattle.map65.specs.Code.Marking.{ArePainted}
 use Rattle.map65.specs.MapView.{MapView}
-use Rattle.map65.proofs.PaintLemmas.{none-marked, painted-more}
+use Rattle.map65.proofs.PaintLemmas.{none-bits, none-marked, painted-more}
 use Rattle.map65.proofs.sweep.mark_roles.Goals as goal
 
 abbrev blank_range : RangeSpec
@@ -28,4 +28,8 @@ painting-preserved g c =
 pub returns : goal.returns
 returns g c =
     let m : MapView = record { info = c.args.info.now; image = c.args.image.now } in
-    none-marked m c.painting.left c.painting.cells (omega (arith, c.painting-test.false)) c.painting.invariant.painted
+    let none : c.painting.left ≡ 0 = omega (arith, c.painting-test.false) in
+    record {
+      marked = none-marked m c.painting.left c.painting.cells none c.painting.invariant.painted;
+      bits = none-bits m c.painting.left c.painting.cells none c.painting.invariant.painted;
+    }

@@ -1,5 +1,5 @@
 use Rattle.std.proofs.Common.{◌≡◌, ◌<◌, ◌≤◌, ℕ, slice_index}
-use Rattle.map65.specs.Cells.{painted}
+use Rattle.map65.specs.Code.Marking.{painted}
 use Rattle.map65.proofs.sweep.paint.Given as goal
 
 abbrev pub invariant-loop-at : goal.invariant-loop-at

@@ -12,18 +12,18 @@ loop-i-init g c =
     let place : c.args.address + 0 ≡ c.args.address = omega arith in
     record { inside = omega (arith, c.requires.high); same = ap₂ (are_joined m) more place }
 
-pub returns-then-not-is_joined-clause-value : goal.returns-then-not-is_joined-clause-value
-returns-then-not-is_joined-clause-value g c =
+pub returns-then-not-is_joined_in-clause-value : goal.returns-then-not-is_joined_in-clause-value
+returns-then-not-is_joined_in-clause-value g c =
     let m : MapView = record { info = c.args.info.now; image = c.args.image.now } in
     let at : ℕ = c.args.address + c.loop-i.i + 1 in
-    let apart : is_joined m at ≡ false = joined-answer m c.args.address at _ c.args.cells.now c.is_joined.result false (omega (arith, c.from-first.ensures, c.from.ensures)) c.requires.marked c.requires.placed.room c.requires.low (omega arith) (omega (arith, c.loop-i.invariant.inside)) c.is_joined.ensures c.if-not-is_joined.true in
+    let apart : is_joined m at ≡ false = joined-answer m c.args.address at _ c.args.cells.now c.is_joined_in.result false (omega (arith, c.from-first.ensures, c.from.ensures)) c.requires.marked c.requires.own c.requires.placed.room c.requires.low (omega arith) (omega (arith, c.loop-i.invariant.inside)) c.is_joined_in.ensures c.if-not-is_joined_in.true in
     size-cut m c.wanted_at-wanted.result c.loop-i.i c.args.address c.wanted_at-wanted.ensures.value (omega (arith, c.loop-i-test.true, c.loop-i.auto.i-end)) apart c.loop-i.invariant.same
 
 pub loop-i-preserved : goal.loop-i-preserved
 loop-i-preserved g c =
     let m : MapView = record { info = c.args.info.now; image = c.args.image.now } in
     let at : ℕ = c.args.address + c.loop-i.i + 1 in
-    let joined : is_joined m at ≡ true = joined-answer m c.args.address at _ c.args.cells.now c.is_joined.result true (omega (arith, c.from-first.ensures, c.from.ensures)) c.requires.marked c.requires.placed.room c.requires.low (omega arith) (omega (arith, c.loop-i.invariant.inside)) c.is_joined.ensures c.if-not-is_joined.false in
+    let joined : is_joined m at ≡ true = joined-answer m c.args.address at _ c.args.cells.now c.is_joined_in.result true (omega (arith, c.from-first.ensures, c.from.ensures)) c.requires.marked c.requires.own c.requires.placed.room c.requires.low (omega arith) (omega (arith, c.loop-i.invariant.inside)) c.is_joined_in.ensures c.if-not-is_joined_in.false in
     record {
       inside = omega (arith, (joined-role m at joined).1.1);
       same = size-more m (c.wanted_at-wanted.result - 1) c.loop-i.i c.args.address (omega (arith, c.loop-i-test.true, c.loop-i.auto.i-end)) joined c.loop-i.invariant.same;

@@ -1,7 +1,7 @@
 use Rattle.std.proofs.Common.{arith, inl, ◌∙◌, ◌<◌}
 use Rattle.stmt65.specs.Meaning.{final, initial, readings}
-use Rattle.stmt65.specs.MeaningViews.{state_of}
-use Rattle.stmt65.proofs.MeaningLaws.{definitions_held}
+use Rattle.stmt65.specs.code.MeaningViews.{state_of}
+use Rattle.stmt65.proofs.HeldLemmas.{definitions_held}
 use Rattle.stmt65.proofs.PassLaws.{pass_start, coded_step, coded_fault, coded_end}
 use Rattle.stmt65.proofs.assembler.assemble.Goals as goal
 

@@ -1,6 +1,6 @@
 use Rattle.std.proofs.Common.{◌≡◌, ◌≤◌, ◌+◌, length}
 use Rattle.stmt65.specs.Meaning.{coded, final, initial, meaning, readings, with_front}
-use Rattle.stmt65.specs.MeaningViews.{state_of}
+use Rattle.stmt65.specs.code.MeaningViews.{state_of}
 use Rattle.stmt65.proofs.assembler.assemble.Given as goal
 
 abbrev pub invariant-lines : goal.invariant-lines

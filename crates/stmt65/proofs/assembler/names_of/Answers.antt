@@ -1,4 +1,4 @@
-use Rattle.stmt65.specs.MeaningViews.{state_of}
+use Rattle.stmt65.specs.code.MeaningViews.{state_of}
 use Rattle.stmt65.proofs.PassLaws.{final_step, final_end}
 use Rattle.stmt65.proofs.assembler.names_of.Goals as goal
 

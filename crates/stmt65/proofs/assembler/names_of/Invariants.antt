@@ -1,6 +1,6 @@
 use Rattle.std.proofs.Common.{◌≡◌, length}
 use Rattle.stmt65.specs.Meaning.{initial, readings}
-use Rattle.stmt65.specs.MeaningViews.{held_final, state_of}
+use Rattle.stmt65.specs.code.MeaningViews.{held_final, state_of}
 use Rattle.stmt65.proofs.assembler.names_of.Given as goal
 
 abbrev pub invariant-lines : goal.invariant-lines

@@ -1,4 +1,4 @@
-use Rattle.stmt65.proofs.CodingLaws.{first_found}
+use Rattle.stmt65.proofs.CodingLemmas.{first_found}
 use Rattle.stmt65.proofs.coding.first_way.Goals as goal
 
 pub returns-in-Some : goal.returns-in-Some

@@ -1,5 +1,5 @@
 use Rattle.std.proofs.Common.{sym}
-use Rattle.stmt65.proofs.CodingLaws.{data_known}
+use Rattle.stmt65.proofs.CodingLemmas.{data_known}
 use Rattle.stmt65.proofs.emit.are_known.Goals as goal
 
 pub returns-in-Data : goal.returns-in-Data

@@ -1,4 +1,4 @@
-use Rattle.stmt65.proofs.TableLaws.{cuts_texts}
+use Rattle.stmt65.proofs.CutLemmas.{cuts_texts}
 use Rattle.stmt65.proofs.laws.cuts_texts.Goals as goal
 
 pub returns : goal.returns

@@ -1,5 +1,5 @@
 use Rattle.std.proofs.Common.{map, sym, ◌∙◌}
-use Rattle.stmt65.specs.SaidViews.{datum_of}
+use Rattle.stmt65.specs.code.SourceLineViews.{datum_of}
 use Rattle.stmt65.specs.Reading.{next_datum}
 use Rattle.stmt65.proofs.ListLemmas.{next_datum-Shortens, list_none, list_next, list_last, list_more, list_shorter}
 use Rattle.stmt65.proofs.operations.data_in.Goals as goal

@@ -1,5 +1,5 @@
 use Rattle.std.proofs.Common.{◌≡◌, length, map}
-use Rattle.stmt65.specs.SaidViews.{datum_of}
+use Rattle.stmt65.specs.code.SourceLineViews.{datum_of}
 use Rattle.stmt65.specs.Reading.{next_datum, list_of}
 use Rattle.stmt65.proofs.ListLemmas.{fronted}
 use Rattle.stmt65.proofs.operations.data_in.Given as goal

@@ -1,5 +1,5 @@
 use Rattle.std.proofs.Common.{map, sym, ◌∙◌}
-use Rattle.stmt65.specs.SaidViews.{value_of}
+use Rattle.stmt65.specs.code.SourceLineViews.{value_of}
 use Rattle.stmt65.specs.Reading.{next_value}
 use Rattle.stmt65.proofs.ListLemmas.{next_value-Shortens, list_none, list_next, list_last, list_more, list_shorter}
 use Rattle.stmt65.proofs.operations.values_in.Goals as goal

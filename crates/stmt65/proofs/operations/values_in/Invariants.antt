@@ -1,5 +1,5 @@
 use Rattle.std.proofs.Common.{◌≡◌, length, map}
-use Rattle.stmt65.specs.SaidViews.{value_of}
+use Rattle.stmt65.specs.code.SourceLineViews.{value_of}
 use Rattle.stmt65.specs.Reading.{next_value, list_of}
 use Rattle.stmt65.proofs.ListLemmas.{fronted}
 use Rattle.stmt65.proofs.operations.values_in.Given as goal

@@ -6,9 +6,9 @@ use Rattle.stmt65.proofs.print.put_line.Goals as goal
 
 pub returns-clause-reads : goal.returns-clause-reads
 unfolding line_of
-returns-clause-reads c = λ names. record {
+returns-clause-reads c = λ names label. record {
   line = line_of c.args.columns.now (statement_seen c.args.statement.now) (remarks_seen c.args.remarks.now);
   ends = cc;
-  one_line = one_line c.args.columns.now (statement_seen c.args.statement.now) (remarks_seen c.args.remarks.now) c.requires.printable c.put_statement.ensures.width names;
-  reads = reads_back c.args.columns.now (statement_seen c.args.statement.now) (remarks_seen c.args.remarks.now) c.requires.printable c.put_statement.ensures.width names;
+  one_line = one_line c.args.columns.now (statement_seen c.args.statement.now) (remarks_seen c.args.remarks.now) c.requires.printable c.put_fields.ensures.width names label;
+  reads = reads_back c.args.columns.now (statement_seen c.args.statement.now) (remarks_seen c.args.remarks.now) c.requires.printable c.put_fields.ensures.width names c.requires.label label;
 }

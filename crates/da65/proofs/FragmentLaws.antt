@@ -1,0 +1,143 @@
+-- The bytes of fragments whose values are numbers.
+use Rattle.std.proofs.Common.{◌≡◌, ℕ, true, false, cond, ◌+◌, ◌-◌, ◌*◌, ◌/◌, ◌%◌, ◌<◌, ◌≤◌, List, [], ◌∷◌, ◌++◌, length, map, Option, Some, None, refl, sym, ap, arith, length-append}
+use Rattle.std.specs.Prelude.{nat_lt, nat_le}
+use Rattle.std.specs.List.{list_all, flat_map}
+use Rattle.std.proofs.lemmas.Bool.{lt-ltb, le-leb, ltb-true, ltb-false, leb-true, and_from, cond_both}
+use Rattle.std.proofs.lemmas.List.Elements.{All-head, All-tail}
+use Rattle.stmt65.specs.SourceLine.{NumberValue, NumberDatum}
+use Rattle.stmt65.specs.Symbols.{Definition, value_in, is_known, word_in, has_zero_page_size}
+use Rattle.stmt65.specs.Coding.{Fragment, Fixed, Single, ZeroPage, LowFirst, Distance, is_fragment_known, fragment_fits, fragment_bytes, fragment_len, coding_len, datum_fragments, is_near, distance}
+use Rattle.map65.specs.ImageView.{AreBytes}
+use Rattle.map65.specs.Targets.{target_of}
+
+-- ---- numbers
+
+pub word_of_number : (all : List Definition) (n : ℕ) → n < 65536 → word_in all (NumberValue n) ≡ Some n
+unfolding word_in value_in
+word_of_number all n h = rw (lt-ltb n 65536 h) refl
+
+pub small_number : (above : List Definition) (n : ℕ) → n < 256 → has_zero_page_size above (NumberValue n) ≡ true
+unfolding has_zero_page_size
+small_number above n h = lt-ltb n 256 h
+
+pub large_number : (above : List Definition) (n : ℕ) → nat_lt n 256 ≡ false → has_zero_page_size above (NumberValue n) ≡ false
+unfolding has_zero_page_size
+large_number above n h = h
+
+pub number_known : (all : List Definition) (n : ℕ) → is_known all (NumberValue n) ≡ true
+unfolding is_known
+number_known all n = refl
+
+-- ---- fragments
+
+-- Behind which `next` is the address: for each table of which Full holds, all names of the fragments are known, their values have room, and
+-- these are their bytes.
+pub record FragmentsGive (Full : List Definition → Type 0) (next : ℕ) (fragments : List Fragment) (bytes : List ℕ) : Type 0 where
+  pub long : coding_len fragments ≡ length bytes
+  pub known : (all : List Definition) → Full all → list_all (is_fragment_known all) fragments ≡ true
+  pub fits : (all : List Definition) → Full all → list_all (fragment_fits all next) fragments ≡ true
+  pub gives : (all : List Definition) → Full all → flat_map (fragment_bytes all next) fragments ≡ bytes
+
+pub no_fragments : (Full : List Definition → Type 0) (next : ℕ) → FragmentsGive Full next [] []
+unfolding coding_len
+no_fragments Full next = record { long = refl; known = λ all full. refl; fits = λ all full. refl; gives = λ all full. refl }
+
+-- one more fragment in front
+pub more_fragments : (Full : List Definition → Type 0) (next : ℕ) (f : Fragment) (fragments : List Fragment) (front bytes : List ℕ)
+    → fragment_len f ≡ length front
+    → ((all : List Definition) → Full all → is_fragment_known all f ≡ true) → ((all : List Definition) → Full all → fragment_fits all next f ≡ true)
+    → ((all : List Definition) → Full all → fragment_bytes all next f ≡ front) → FragmentsGive Full next fragments bytes → FragmentsGive Full next (f ∷ fragments) (front ++ bytes)
+unfolding coding_len
+more_fragments Full next f fragments front bytes long known fits gives rest = record {
+  long = rw (long, rest.long) (sym (length-append front bytes));
+  known = λ all full. and_from _ _ (known all full) (rest.known all full);
+  fits = λ all full. and_from _ _ (fits all full) (rest.fits all full);
+  gives = λ all full. rw (gives all full, rest.gives all full) refl;
+}
+
+pub fixed_gives : (Full : List Definition → Type 0) (next b : ℕ) (fragments : List Fragment) (bytes : List ℕ) → FragmentsGive Full next fragments bytes → FragmentsGive Full next (Fixed b ∷ fragments) (b ∷ bytes)
+unfolding fragment_fits fragment_bytes
+fixed_gives Full next b fragments bytes rest = more_fragments Full next (Fixed b) fragments (b ∷ []) bytes refl (λ all full. refl) (λ all full. refl) (λ all full. refl) rest
+
+low_byte : (n : ℕ) → n < 256 → n % 256 ≡ n
+low_byte n h = omega arith
+
+pub single_gives : (Full : List Definition → Type 0) (next n : ℕ) (fragments : List Fragment) (bytes : List ℕ) → n < 256 → FragmentsGive Full next fragments bytes → FragmentsGive Full next (Single (NumberValue n) ∷ fragments) (n ∷ bytes)
+unfolding fragment_fits fragment_bytes
+single_gives Full next n fragments bytes h rest =
+    more_fragments Full next (Single (NumberValue n)) fragments (n ∷ []) bytes refl (λ all full. number_known all n)
+    (λ all full. rw (word_of_number all n (omega arith), lt-ltb n 256 h) refl)
+    (λ all full. rw (word_of_number all n (omega arith)) (ap (λ (b : ℕ). b ∷ []) (low_byte n h))) rest
+
+pub zero_page_gives : (Full : List Definition → Type 0) (next n : ℕ) (fragments : List Fragment) (bytes : List ℕ) → n < 256 → FragmentsGive Full next fragments bytes → FragmentsGive Full next (ZeroPage (NumberValue n) ∷ fragments) (n ∷ bytes)
+unfolding fragment_fits fragment_bytes
+zero_page_gives Full next n fragments bytes h rest =
+    more_fragments Full next (ZeroPage (NumberValue n)) fragments (n ∷ []) bytes refl (λ all full. number_known all n)
+    (λ all full. rw (word_of_number all n (omega arith), lt-ltb n 256 h) refl)
+    (λ all full. rw (word_of_number all n (omega arith)) (ap (λ (b : ℕ). b ∷ []) (low_byte n h))) rest
+
+pub word_low : (b c : ℕ) → b < 256 → (b + 256 * c) % 256 ≡ b
+word_low b c h = omega arith
+
+pub word_high : (b c : ℕ) → b < 256 → (b + 256 * c) / 256 ≡ c
+word_high b c h = omega arith
+
+pub word_gives : (Full : List Definition → Type 0) (next b c : ℕ) (fragments : List Fragment) (bytes : List ℕ) → b < 256 → c < 256 → FragmentsGive Full next fragments bytes
+    → FragmentsGive Full next (LowFirst (NumberValue (b + 256 * c)) ∷ fragments) (b ∷ c ∷ bytes)
+unfolding fragment_fits fragment_bytes
+word_gives Full next b c fragments bytes h g rest =
+    let room : b + 256 * c < 65536 = omega arith in
+    more_fragments Full next (LowFirst (NumberValue (b + 256 * c))) fragments (b ∷ c ∷ []) bytes refl (λ all full. number_known all (b + 256 * c))
+    (λ all full. rw (word_of_number all (b + 256 * c) room) refl)
+    (λ all full. rw (word_of_number all (b + 256 * c) room, word_low b c h, word_high b c h) refl) rest
+
+-- ---- targets
+
+-- a target that can be written lies in the address space and in range, and its distance is the byte
+pub record IsTarget (next b target : ℕ) : Type 0 where
+  pub room : target < 65536
+  pub near : is_near next (Some target) ≡ true
+  pub back : distance next target ≡ b
+
+forward_target : (next b : ℕ) → b < 128 → next + b < 65536 → IsTarget next b (next + b)
+forward_target next b h room =
+    let k : next + b + 256 - next ≡ b + 256 = omega arith in
+    record {
+      room = room;
+      near = and_from _ _ (le-leb next (next + b + 128) (omega arith)) (le-leb (next + b) (next + 127) (omega arith));
+      back = rw k (omega arith);
+    }
+
+backward_target : (next b : ℕ) → 128 ≤ b → b < 256 → next ≤ 65536 → 256 - b ≤ next → IsTarget next b (next - (256 - b))
+backward_target next b h g room low =
+    let k : next - (256 - b) + 256 - next ≡ b = omega arith in
+    record {
+      room = omega arith;
+      near = and_from _ _ (le-leb next (next - (256 - b) + 128) (omega arith)) (le-leb (next - (256 - b)) (next + 127) (omega arith));
+      back = rw k (omega arith);
+    }
+
+pub target_is : (next b target : ℕ) → next ≤ 65536 → b < 256 → target_of next b ≡ Some target → IsTarget next b target
+unfolding target_of
+target_is next b target room h =
+    cond_both (nat_lt b 128) (cond (nat_lt (next + b) 65536) (Some (next + b)) None) (cond (nat_le (256 - b) next) (Some (next - (256 - b))) None) (λ (o : Option ℕ). o ≡ Some target → IsTarget next b target)
+    (λ low. cond_both (nat_lt (next + b) 65536) (Some (next + b)) None (λ (o : Option ℕ). o ≡ Some target → IsTarget next b target)
+    (λ inside e. let same : next + b ≡ target = cc in rw (← same) (forward_target next b (ltb-true b 128 low) (ltb-true (next + b) 65536 inside)))
+    (λ outside e. absurd cc))
+    (λ high. cond_both (nat_le (256 - b) next) (Some (next - (256 - b))) None (λ (o : Option ℕ). o ≡ Some target → IsTarget next b target)
+    (λ inside e. let same : next - (256 - b) ≡ target = cc in rw (← same) (backward_target next b (ltb-false b 128 high) h room (leb-true (256 - b) next inside)))
+    (λ outside e. absurd cc))
+
+pub distance_gives : (Full : List Definition → Type 0) (next b target : ℕ) (fragments : List Fragment) (bytes : List ℕ) → IsTarget next b target → FragmentsGive Full next fragments bytes
+    → FragmentsGive Full next (Distance (NumberValue target) ∷ fragments) (b ∷ bytes)
+unfolding fragment_fits fragment_bytes
+distance_gives Full next b target fragments bytes is rest =
+    more_fragments Full next (Distance (NumberValue target)) fragments (b ∷ []) bytes refl (λ all full. number_known all target)
+    (λ all full. rw (word_of_number all target is.room) is.near)
+    (λ all full. rw (word_of_number all target is.room) (ap (λ (c : ℕ). c ∷ []) is.back)) rest
+
+-- ---- data
+
+pub data_give : (Full : List Definition → Type 0) (next : ℕ) (bytes : List ℕ) → AreBytes bytes → FragmentsGive Full next (flat_map datum_fragments (map NumberDatum bytes)) bytes
+data_give Full next [] h = no_fragments Full next
+data_give Full next (b ∷ bytes) h = single_gives Full next b _ bytes (All-head (λ b. b < 256) b bytes h) (data_give Full next bytes (All-tail (λ b. b < 256) b bytes h))

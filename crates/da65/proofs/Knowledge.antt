@@ -1,0 +1,68 @@
+-- Which names the lines above define: one fact for each base, both ways.
+use Rattle.std.proofs.Common.{◌≡◌, ℕ, Bool, true, false, cond, eqb, List, [], ◌∷◌, ◌++◌, Option, Some, None, refl, sym, ap, ◌∙◌}
+use Rattle.std.specs.Prelude.{◌||◌}
+use Rattle.std.specs.Str.{bytes_eq}
+use Rattle.std.proofs.lemmas.Slice.Eq.{bytes_eq-Decides}
+use Rattle.std.proofs.lemmas.Bool.{eqb-true, eq-eqb, ne_eqb}
+use Rattle.std.proofs.lemmas.List.Elements.{filter-append}
+use Rattle.stmt65.specs.Symbols.{Definition, find_name}
+use Rattle.map65.specs.ImageView.{ImageView}
+use Rattle.da65.specs.BaseNames.{AreSound, Names, base_name, is_base}
+use Rattle.da65.specs.KnownNames.{Knows, KnowsAll, definition_of, definitions_of}
+
+-- ---- the first definition
+
+abbrev first_of : List Definition → Option Definition
+first_of [] = None
+first_of (d ∷ ds) = Some d
+
+first-is : (w : List ℕ) (ds : List Definition) → find_name w ds ≡ first_of (definitions_of w ds)
+unfolding find_name
+first-is w [] = refl
+first-is w (d ∷ ds) = elim (bytes_eq d.name w) as (λ t. cond t (Some d) (find_name w ds) ≡ first_of (cond t (d ∷ definitions_of w ds) (definitions_of w ds))) [
+  | true ↦ refl
+  | false ↦ first-is w ds
+]
+
+-- ---- one name
+
+-- the names of two bases are one where the bases are
+name-test : (image : ImageView) (m : Names) (u v : ℕ) → AreSound image m → is_base m u ≡ true → is_base m v ≡ true → bytes_eq (base_name m u) (base_name m v) ≡ eqb u v
+name-test image m u v names hu hv = go (bytes_eq (base_name m u) (base_name m v)) refl
+  where
+    go : (t : Bool) → bytes_eq (base_name m u) (base_name m v) ≡ t → bytes_eq (base_name m u) (base_name m v) ≡ eqb u v
+    go true e = e ∙ sym (eq-eqb u v (names.distinct u v hu hv ((bytes_eq-Decides (base_name m u) (base_name m v)).0 e)))
+    go false e = e ∙ sym (ne_eqb u v (λ h. let k = (bytes_eq-Decides (base_name m u) (base_name m v)).1 (ap (base_name m) h) in absurd cc))
+
+pub knows_nothing : (m : Names) → Knows m (λ v. false) []
+knows_nothing m = record { found = λ v h. refl }
+
+pub knows_same : (m : Names) (p q : ℕ → Bool) (ds : List Definition) → Knows m p ds → ((v : ℕ) → is_base m v ≡ true → p v ≡ q v) → Knows m q ds
+knows_same m p q ds k h = record { found = λ v b. k.found v b ∙ ap (λ (t : Bool). cond t (definition_of m v ∷ []) []) (h v b) }
+
+-- one more base, that was not known
+pub knows_more : (image : ImageView) (m : Names) (p : ℕ → Bool) (ds : List Definition) (u : ℕ) → AreSound image m → Knows m p ds → is_base m u ≡ true → p u ≡ false
+    → Knows m (λ v. p v || eqb u v) (ds ++ definition_of m u ∷ [])
+knows_more image m p ds u names k hu new = record {
+  found = λ v hv.
+      filter-append (λ (d : Definition). bytes_eq d.name (base_name m v)) ds (definition_of m u ∷ [])
+      ∙ ap (λ (xs : List Definition). xs ++ definitions_of (base_name m v) (definition_of m u ∷ [])) (k.found v hv)
+      ∙ ap (λ (t : Bool). cond (p v) (definition_of m v ∷ []) [] ++ cond t (definition_of m u ∷ []) []) (name-test image m u v names hu hv)
+      ∙ joined v (p v) (eqb u v) refl refl;
+}
+  where
+    joined : (v : ℕ) (s t : Bool) → p v ≡ s → eqb u v ≡ t → cond s (definition_of m v ∷ []) [] ++ cond t (definition_of m u ∷ []) [] ≡ cond (s || t) (definition_of m v ∷ []) []
+    joined v true true known e = let here : p u ≡ true = ap p (eqb-true u v e) ∙ known in absurd cc
+    joined v true false known e = refl
+    joined v false true known e = ap (λ (w : ℕ). definition_of m w ∷ []) (eqb-true u v e)
+    joined v false false known e = refl
+
+-- a base that passes the test is found, and one that does not is not
+pub knows_there : (m : Names) (p : ℕ → Bool) (ds : List Definition) (v : ℕ) → Knows m p ds → is_base m v ≡ true → p v ≡ true → find_name (base_name m v) ds ≡ Some (definition_of m v)
+knows_there m p ds v k h passes = first-is (base_name m v) ds ∙ ap first_of (k.found v h) ∙ ap (λ (t : Bool). first_of (cond t (definition_of m v ∷ []) [])) passes
+
+pub knows_not : (m : Names) (p : ℕ → Bool) (ds : List Definition) (v : ℕ) → Knows m p ds → is_base m v ≡ true → p v ≡ false → find_name (base_name m v) ds ≡ None
+knows_not m p ds v k h fails = first-is (base_name m v) ds ∙ ap first_of (k.found v h) ∙ ap (λ (t : Bool). first_of (cond t (definition_of m v ∷ []) [])) fails
+
+pub knows_all : (m : Names) (all : List Definition) (v : ℕ) → KnowsAll m all → is_base m v ≡ true → find_name (base_name m v) all ≡ Some (definition_of m v)
+knows_all m all v k h = knows_there m (λ v. true) all v k h refl

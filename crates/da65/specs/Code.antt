@@ -1,0 +1,4 @@
+-- What ties the code to the rules: what its parts have done, for each of their results.
+pub mod Bases
+pub mod CommandRules
+pub mod Refusals

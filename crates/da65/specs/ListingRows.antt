@@ -1,0 +1,96 @@
+-- Worked examples: the listings of small images, as text below the header.
+use Rattle.std.specs.Prelude.{◌≡◌, ℕ, Bool, true, false, List, [], ◌∷◌, drop, map, codes, None, Some}
+use Rattle.isa65.specs.declared.cpu.Cpu.TheVariants.{M6502}
+use Rattle.info65.specs.Views.{NameView}
+use Rattle.info65.specs.declared.range.RangeSpec.{RangeSpec}
+use Rattle.info65.specs.declared.range.RangeType.{RangeType}
+use Rattle.info65.specs.declared.range.RangeType.TheVariants as role
+use Rattle.map65.specs.MapView.{MapView}
+use Rattle.da65.specs.Listing.{line_text, listing_below, text_of}
+
+-- ---- how an example is written
+
+pub record Example : Type 0 where
+  pub start : ℕ
+  pub bytes : List ℕ
+  pub ranges : List RangeSpec
+  pub names : List NameView
+  pub hexoffs : Bool
+
+abbrev pub range : ℕ → ℕ → RangeType → RangeSpec
+range a b r = record { first = a; last = b; role = r }
+
+abbrev pub label : ℕ → ℕ → List ℕ → NameView
+label a size text = record { address = a; size = size; text = text; comment = None }
+
+abbrev pub map_of : Example → MapView
+map_of e = record {
+  info = record {
+    settings = record { input = Some []; output = None; offset = 0; size = None; start = Some e.start; cpu = M6502; hexoffs = e.hexoffs };
+    ranges = e.ranges;
+    names = e.names;
+  };
+  image = record { start = e.start; bytes = e.bytes };
+}
+
+abbrev pub code_at : ℕ → List ℕ → Example
+code_at start bytes = record { start = start; bytes = bytes; ranges = []; names = []; hexoffs = false }
+
+abbrev pub with_ranges : List RangeSpec → Example → Example
+with_ranges ranges e = record e { ranges = ranges }
+
+abbrev pub with_labels : List NameView → Example → Example
+with_labels names e = record e { names = names }
+
+abbrev pub with_hexoffs : Example → Example
+with_hexoffs e = record e { hexoffs = true }
+
+-- Below the four lines of the header, with the constants up to $FF, the listing has this text.
+abbrev pub IsListed : Example → List ℕ → Type 0
+IsListed e body = text_of (map (line_text e.hexoffs) (drop 4 (listing_below 0x100 (map_of e)))) ≡ body
+
+-- With the header it has this text.
+abbrev pub IsListedWhole : Example → List ℕ → Type 0
+IsListedWhole e text = text_of (map (line_text e.hexoffs) (listing_below 0x100 (map_of e))) ≡ text
+
+-- ---- the examples
+
+pub record WorkedListings : Type 0 where
+  pub three_bytes : IsListedWhole (code_at 0xFFFD (0xA9 ∷ 1 ∷ 0x60 ∷ [])) (codes "; da65 listing\n\n        .setcpu \"6502\"\n\n        lda     #$01\n        rts\n")
+  pub forced_absolute : IsListed (code_at 0x1000 (0xAD ∷ 0x12 ∷ 0 ∷ 0x99 ∷ 0x12 ∷ 0 ∷ 0x4C ∷ 0x14 ∷ 0 ∷ []))
+      (codes "L0014           := $0014\n\n        lda     a:$0012\n        sta     $0012,y\n        jmp     L0014\n")
+  pub forced_absolute_by_name : IsListed (code_at 0x1000 (0xAD ∷ 0x12 ∷ 0 ∷ 0x99 ∷ 0x12 ∷ 0 ∷ 0x4C ∷ 0x12 ∷ 0 ∷ []))
+      (codes "L0012           := $0012\n\n        lda     a:L0012\n        sta     L0012,y\n        jmp     L0012\n")
+  pub branch_to_itself : IsListed (code_at 0x1000 (0xD0 ∷ 0xFE ∷ [])) (codes "L1000:  bne     L1000\n")
+  pub jump_into_instruction : IsListed (code_at 0x1000 (0x4C ∷ 1 ∷ 0x10 ∷ [])) (codes "L1001           := * + 1\n        jmp     L1001\n")
+  pub jump_into_instruction_hexoffs : IsListed (with_hexoffs (code_at 0x1000 (0x4C ∷ 1 ∷ 0x10 ∷ []))) (codes "L1001           := * + $0001\n        jmp     L1001\n")
+  pub branch_out_of_the_address_space : IsListed (code_at 0xFFFC (0xD0 ∷ 0x7F ∷ 0xEA ∷ 0xEA ∷ [])) (codes "        .byte   $D0,$7F\n        nop\n        nop\n")
+  pub branch_back_out_of_the_address_space : IsListed (code_at 0 (0xD0 ∷ 0x80 ∷ 0x20 ∷ 0xEA ∷ [])) (codes "        .byte   $D0,$80\n        .byte   $20\n        nop\n")
+  pub cut_instruction : IsListed (with_ranges (range 0x1002 0x1003 role.ByteTable ∷ []) (code_at 0x1000 (0xEA ∷ 0x20 ∷ 1 ∷ 2 ∷ []))) (codes "        nop\n        .byte   $20\n        .byte   $01,$02\n")
+  pub return_table : IsListed (with_ranges (range 0x1000 0x1003 role.RtsTable ∷ []) (code_at 0x1000 (0xFF ∷ 0xFF ∷ 0xFF ∷ 0x0F ∷ [])))
+      (codes "L1000:  .word   $FFFF\n        .word   L1000-1\n")
+  pub address_table : IsListed (with_ranges (range 0x1000 0x1003 role.AddrTable ∷ []) (code_at 0x1000 (0x12 ∷ 0 ∷ 3 ∷ 0x10 ∷ [])))
+      (codes "L0012           := $0012\n\n        .addr   L0012\nL1002:  .addr   L1002+1\n")
+  pub zero_page_operand_is_a_number : IsListed (code_at 0 (0xA5 ∷ 4 ∷ 0xAD ∷ 4 ∷ 0 ∷ [])) (codes "        lda     $04\nL0004           := * + 2\n        lda     a:L0004\n")
+  pub word_table_cut_at_a_name : IsListed (with_labels (label 0x2002 1 (codes "mid") ∷ []) (with_ranges (range 0x2000 0x2004 role.WordTable ∷ []) (code_at 0x2000 (1 ∷ 2 ∷ 3 ∷ 4 ∷ 5 ∷ []))))
+      (codes "        .word   $0201\nmid:    .word   $0403\n        .byte   $05\n")
+  pub word_table_cut_before_a_name : IsListed (with_labels (label 0x2001 1 (codes "mid") ∷ []) (with_ranges (range 0x2000 0x2004 role.WordTable ∷ []) (code_at 0x2000 (1 ∷ 2 ∷ 3 ∷ 4 ∷ 5 ∷ []))))
+      (codes "        .byte   $01\nmid:    .word   $0302,$0504\n")
+  pub target_inside_a_word : IsListed (with_ranges (range 0x2002 0x2003 role.WordTable ∷ []) (code_at 0x1FFF (0xAD ∷ 3 ∷ 0x20 ∷ 0x34 ∷ 0x12 ∷ [])))
+      (codes "        lda     L2002+1\nL2002:  .word   $1234\n")
+  pub target_inside_a_word_hexoffs : IsListed (with_hexoffs (with_ranges (range 0x2002 0x2003 role.WordTable ∷ []) (code_at 0x1FFF (0xAD ∷ 3 ∷ 0x20 ∷ 0x34 ∷ 0x12 ∷ []))))
+      (codes "        lda     L2002+$01\nL2002:  .word   $1234\n")
+  pub sized_name_across_the_zero_page : IsListed (with_labels (label 0xFE 4 (codes "buf") ∷ []) (code_at 0xFFFB (0xA5 ∷ 0xFF ∷ 0xAD ∷ 0 ∷ 1 ∷ [])))
+      (codes "buf             := $00FE\n\n        lda     buf+1\n        lda     buf+2\n")
+  -- a name that no operand uses, and one in skipped bytes
+  pub unused_names : IsListed (with_labels (label 0x10 1 (codes "unused") ∷ label 0x81 1 (codes "skipped") ∷ []) (with_ranges (range 0x81 0x82 role.Skip ∷ []) (code_at 0x80 (0xEA ∷ 0 ∷ 0 ∷ 0xEA ∷ []))))
+      (codes "unused          := $0010\nskipped         := $0081\n\n        nop\n        nop\n")
+  pub byte_table_counted_again : IsListed (with_labels (label 0x2001 1 (codes "name") ∷ []) (with_ranges (range 0x2000 0x2009 role.ByteTable ∷ []) (code_at 0x2000 (0 ∷ 1 ∷ 2 ∷ 3 ∷ 4 ∷ 5 ∷ 6 ∷ 7 ∷ 8 ∷ 9 ∷ []))))
+      (codes "        .byte   $00\nname:   .byte   $01,$02,$03,$04,$05,$06,$07,$08\n        .byte   $09\n")
+  pub long_label : IsListed (with_labels (label 0x1000 1 (codes "longname") ∷ []) (code_at 0x1000 (0xA9 ∷ 1 ∷ []))) (codes "longname:\n        lda     #$01\n")
+  pub label_with_room : IsListed (with_labels (label 0x1000 1 (codes "chrout7") ∷ []) (code_at 0x1000 (0xA9 ∷ 1 ∷ []))) (codes "chrout7: lda    #$01\n")
+  pub words_and_a_byte : IsListed (with_ranges (range 0x1000 0x1002 role.WordTable ∷ []) (code_at 0x1000 (1 ∷ 2 ∷ 3 ∷ []))) (codes "        .word   $0201\n        .byte   $03\n")
+  pub one_run : IsListed (with_ranges (range 0x1000 0x1000 role.ByteTable ∷ range 0x1001 0x1001 role.ByteTable ∷ []) (code_at 0x1000 (1 ∷ 2 ∷ []))) (codes "        .byte   $01,$02\n")
+  pub nine_bytes : IsListed (with_ranges (range 0x1000 0x1008 role.ByteTable ∷ []) (code_at 0x1000 (0 ∷ 0 ∷ 0 ∷ 0 ∷ 0 ∷ 0 ∷ 0 ∷ 0 ∷ 1 ∷ [])))
+      (codes "        .byte   $00,$00,$00,$00,$00,$00,$00,$00\n        .byte   $01\n")
+  pub text_table : IsListed (with_ranges (range 0x1000 0x1004 role.TextTable ∷ []) (code_at 0x1000 (0x48 ∷ 0x22 ∷ 0x5C ∷ 0x49 ∷ 0x0D ∷ []))) (codes "        .byte   \"H\",$22,$5C,\"I\",$0D\n")

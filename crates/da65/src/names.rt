@@ -1,0 +1,114 @@
+//! Addresses by their names.
+
+ghost use Rattle.std.specs.Prelude.{◌≡◌, ◌<◌, ◌≤◌, length, IfSome, option_map};
+ghost use Rattle.info65.specs.Names.{AreNames};
+ghost use Rattle.map65.specs.Names.{base_at};
+ghost use Rattle.stmt65.specs.Printable.{IsLong, IsNameLong, IsShort};
+ghost use Rattle.stmt65.specs.Views.{expr_seen, target_seen};
+ghost use Rattle.da65.specs.BaseNames.{base_name, names_of};
+ghost use Rattle.da65.specs.Code.Bases.{base_place, constant_offset, own_place};
+ghost use Rattle.da65.specs.Groups.{is_defined};
+ghost use Rattle.da65.specs.Statements.{address_expr, target_by, zero_page_expr};
+
+use map65::{Map, NameBuf, NameKind, Place};
+use std::alloc::Allocator;
+use stmt65::{Expr, Target};
+
+/// The place of a name that has no offset.
+fn own_place(kind: Option<NameKind>) -> Option<Place>
+    ensures { result ≡ own_place kind }
+{
+    let kind = kind?;
+    if kind.offset == 0 {
+        Some(kind.place)
+    } else {
+        None
+    }
+}
+
+/// The offset of a name whose base a constant line defines.
+fn constant_offset(kind: Option<NameKind>) -> Option<u16>
+    ensures { result ≡ constant_offset kind }
+{
+    let kind = kind?;
+    match kind.place {
+        Place::Constant => Some(kind.offset),
+        Place::Label | Place::Forward => None,
+    }
+}
+
+/// Puts the base that stands for the address in the buffer and returns where it is defined, if the address
+/// is defined by name.
+pub fn base_at<A: Allocator>(map: &Map<'_, A>, address: u16, name: &mut NameBuf) -> Option<Place>
+    requires { AreNames map.now.info.names }
+    ensures place { result ≡ base_place map.now address }
+    ensures text { IfSome result (λ p. name.new.items ≡ base_name (names_of map.now) address) }
+    ensures long { IfSome result (λ p. IsNameLong name.new.items) }
+{
+    if !map.has_name(address) {
+        return None;
+    }
+    own_place(map.name(address, name))
+}
+
+/// Whether the address is defined by name.
+#[tactic(auto, unfolding(crate::specs::Code::Bases::base_place))]
+pub fn is_defined<A: Allocator>(map: &Map<'_, A>, address: u16) -> bool
+    requires { AreNames map.now.info.names }
+    ensures { result ≡ is_defined map.now address }
+{
+    let mut name = NameBuf::new();
+    base_at(map, address, &mut name).is_some()
+}
+
+/// The address by its name, if it has one.
+pub fn address_expr<'n, A: Allocator>(
+    map: &Map<'_, A>,
+    address: u16,
+    name: &'n mut NameBuf,
+) -> Expr<'n>
+    requires { AreNames map.now.info.names }
+    ensures value { expr_seen result ≡ address_expr (names_of map.now) address }
+    ensures long { IsLong (expr_seen result) }
+{
+    match map.name(address, name) {
+        Some(kind) => Expr::Name(name.as_slice(), kind.offset),
+        None => Expr::Number(address),
+    }
+}
+
+/// The address of a zero-page operand: by its name only if a constant line defines the base of that name.
+pub fn zero_page_expr<'n, A: Allocator>(
+    map: &Map<'_, A>,
+    address: u8,
+    name: &'n mut NameBuf,
+) -> Expr<'n>
+    requires { AreNames map.now.info.names }
+    ensures value { expr_seen result ≡ zero_page_expr (names_of map.now) address }
+    ensures short { IsShort (expr_seen result) }
+{
+    let address = u16::from(address);
+    match constant_offset(map.name(address, name)) {
+        Some(offset) => Expr::Name(name.as_slice(), offset),
+        None => Expr::Number(address),
+    }
+}
+
+/// The address as a target, if it has a name.
+pub fn target<'n, A: Allocator>(
+    map: &Map<'_, A>,
+    address: u16,
+    name: &'n mut NameBuf,
+) -> Option<Target<'n>>
+    requires { AreNames map.now.info.names }
+    ensures value { option_map target_seen result ≡ option_map (target_by address) (base_at map.now address) }
+    ensures long { IfSome result (λ t. IsNameLong t.name.now) }
+{
+    match map.name(address, name) {
+        Some(kind) => Some(Target {
+            name: name.as_slice(),
+            offset: kind.offset,
+        }),
+        None => None,
+    }
+}

@@ -1,0 +1,128 @@
+-- From a run over a buffer to what is on the output and on standard error.
+use Rattle.std.proofs.Common.{◌≡◌, ℕ, List, [], ◌∷◌, ◌++◌, IfSome, Option, None, Some, Result, Ok, Err, refl, sym, ◌∙◌, ap, subst, append_assoc}
+use Rattle.std.proofs.lemmas.List.{append-nil}
+use Rattle.std.specs.Io.KnownBytes.{Appends, Keeps, append_known}
+use Rattle.da65.specs.Outcome.{Outcome}
+use Rattle.da65.specs.Running.{Writes}
+use Rattle.da65.specs.declared.outcome.RunFault.{RunFault}
+use Rattle.da65.specs.declared.outcome.RunFault.TheVariants.{Memory, Write, Messages}
+use Rattle.da65.specs.declared.outcome.Status.{Status}
+use Rattle.map65.specs.Device.{AppendsFront}
+use Rattle.da65_cli.specs.Delivery.{Delivers, HasPrefix}
+use Rattle.da65_cli.specs.Code.Settling.{IsListed, IsShortOf, PassesOn, Settles, SettlesOutCount}
+
+pub Keeps-same : (known : Option (List ℕ)) → Keeps known known
+Keeps-same None = tt
+Keeps-same (Some xs) = refl
+
+-- what is left in the buffer is all that the output lacks
+pub short_of : (out : Option (List ℕ)) (left : List ℕ) → IsShortOf (append_known out left) out
+short_of out left = record { left = left; kept = Keeps-same (append_known out left) }
+
+-- nothing is written on the output while the messages are passed on
+pub passed_count : (was result : Result Status RunFault) (messages : List ℕ) (errors errors' : Option (List ℕ)) (old new : ℕ) → PassesOn was result messages errors errors' → new ≡ old → SettlesOutCount was result old new
+passed_count was (Ok status) messages errors errors' old new p is = is
+passed_count was (Err Messages) messages errors errors' old new p is = is
+passed_count was (Err Write) messages errors errors' old new p is = absurd p
+passed_count was (Err Memory) messages errors errors' old new p is = absurd p
+
+-- ---- of an output that began empty
+
+-- what was taken whole is what the output has
+whole_out : (taken out : Option (List ℕ)) (text : List ℕ) → Appends (Some []) taken text → Keeps taken out → out ≡ Some text
+whole_out None out text a k = absurd a
+whole_out (Some xs) None text a k = absurd k
+whole_out (Some xs) (Some ys) text a k = ap Some (k ∙ a)
+
+-- bytes that were not passed on leave a prefix
+prefix_out : (taken out : Option (List ℕ)) (text : List ℕ) → AppendsFront (Some []) taken text → IsShortOf taken out → HasPrefix out text
+prefix_out None out text a s = absurd a.front.taken
+prefix_out (Some xs) None text a s = absurd s.kept
+prefix_out (Some xs) (Some ys) text a s = record {
+  prefix = ys;
+  rest = s.left ++ a.rest;
+  bytes_are = refl;
+  parts = a.front.parts ∙ ap (λ f. f ++ a.rest) (sym a.front.taken ∙ sym s.kept) ∙ append_assoc ys s.left a.rest;
+}
+
+-- a text that was taken whole is a prefix of itself
+all_is_front : (old new : Option (List ℕ)) (text : List ℕ) → Appends old new text → AppendsFront old new text
+all_is_front old new text a = record { rest = []; front = record { front = text; parts = sym (append-nil text); taken = a } }
+
+-- a prefix of a prefix is one
+front_of_front : (old new : Option (List ℕ)) (text front rest : List ℕ) → text ≡ front ++ rest → AppendsFront old new front → AppendsFront old new text
+front_of_front old new text front rest is a = record {
+  rest = a.rest ++ rest;
+  front = record {
+    front = a.front.front;
+    parts = is ∙ ap (λ f. f ++ rest) a.front.parts ∙ append_assoc a.front.front a.rest rest;
+    taken = a.front.taken;
+  };
+}
+
+-- the messages that waited are a prefix of the outcome's, so what was passed on is
+messages_front : (held : List ℕ) (errors errors' : Option (List ℕ)) (text : List ℕ) → AppendsFront (Some []) (Some held) text → AppendsFront errors errors' held → AppendsFront errors errors' text
+messages_front held errors errors' text w p = front_of_front errors errors' text held w.rest (w.front.parts ∙ ap (λ f. f ++ w.rest) (sym w.front.taken)) p
+
+front_of : (was : Result Status RunFault) (outcome : Outcome) (taken msgs : Option (List ℕ)) → Writes was outcome (Some []) taken (Some []) msgs → AppendsFront (Some []) taken outcome.listing
+front_of (Ok status) outcome taken msgs w = all_is_front _ _ _ w.1
+front_of (Err Messages) outcome taken msgs w = all_is_front _ _ _ w.0
+front_of (Err Write) outcome taken msgs w = w.0
+front_of (Err Memory) outcome None msgs w = absurd w.0
+front_of (Err Memory) outcome (Some xs) msgs w = record { rest = outcome.listing; front = record { front = []; parts = refl; taken = w.0 } }
+
+listed_whole : (was : Result Status RunFault) (outcome : Outcome) (taken msgs : Option (List ℕ)) → IsListed was → Writes was outcome (Some []) taken (Some []) msgs → Appends (Some []) taken outcome.listing
+listed_whole (Ok status) outcome taken msgs l w = w.1
+listed_whole (Err Messages) outcome taken msgs l w = w.0
+listed_whole (Err Write) outcome taken msgs l w = absurd l
+listed_whole (Err Memory) outcome taken msgs l w = absurd l
+
+held_front : (was : Result Status RunFault) (outcome : Outcome) (taken : Option (List ℕ)) (held : List ℕ) → IsListed was → Writes was outcome (Some []) taken (Some []) (Some held) → AppendsFront (Some []) (Some held) outcome.messages
+held_front (Ok status) outcome taken held l w = all_is_front _ _ _ w.2
+held_front (Err Messages) outcome taken held l w = w.1
+held_front (Err Write) outcome taken held l w = absurd l
+held_front (Err Memory) outcome taken held l w = absurd l
+
+-- nothing is a part of nothing
+nil_left : (xs ys : List ℕ) → xs ++ ys ≡ [] → xs ≡ []
+nil_left [] ys is = refl
+nil_left (x ∷ xs) ys is = cc
+
+none_out : (taken out : Option (List ℕ)) → Keeps (Some []) taken → IsShortOf taken out → out ≡ Some []
+none_out None out k s = absurd k
+none_out (Some xs) None k s = absurd s.kept
+none_out (Some xs) (Some ys) k s = ap Some (nil_left ys s.left (s.kept ∙ k))
+
+delivers_from : (was result : Result Status RunFault) (outcome : Outcome) (taken out : Option (List ℕ)) (held : List ℕ) (errors errors' : Option (List ℕ)) → Writes was outcome (Some []) taken (Some []) (Some held) → Settles was result taken out held errors errors' → Delivers result outcome out errors errors'
+delivers_from was (Ok status) outcome taken out held errors errors' w s =
+    let P : Result Status RunFault → Type 0 = λ r. Writes r outcome (Some []) taken (Some []) (Some held) in
+    let done : P (Ok status) = subst P s.0 w in
+    (done.0, whole_out taken out outcome.listing done.1 s.1, (let Q : List ℕ → Type 0 = λ t. Appends errors errors' t in subst Q done.2 s.2))
+delivers_from was (Err Messages) outcome taken out held errors errors' w s = (
+  whole_out taken out outcome.listing (listed_whole was outcome taken (Some held) s.0 w) s.1,
+  messages_front held errors errors' outcome.messages (held_front was outcome taken held s.0 w) s.2,
+)
+delivers_from was (Err Write) outcome taken out held errors errors' w s = (prefix_out taken out outcome.listing (front_of was outcome taken (Some held) w) s.0, s.1)
+delivers_from was (Err Memory) outcome taken out held errors errors' w s =
+    let P : Result Status RunFault → Type 0 = λ r. Writes r outcome (Some []) taken (Some []) (Some held) in
+    let none : P (Err Memory) = subst P s.0 w in
+    (none_out taken out none.0 s.1, s.2)
+
+-- From what the run promises of the buffer to what is on the output.
+delivers : (was result : Result Status RunFault) (outcome : Outcome) (old taken out : Option (List ℕ)) (msgs : Option (List ℕ)) (held : List ℕ) (errors errors' : Option (List ℕ))
+    → old ≡ Some [] → msgs ≡ Some [] → Writes was outcome old taken msgs (Some held) → Settles was result taken out held errors errors' → Delivers result outcome out errors errors'
+delivers was result outcome old taken out msgs held errors errors' o m w s =
+    let P : Option (List ℕ) → Type 0 = λ x. Writes was outcome x taken msgs (Some held) in
+    let Q : Option (List ℕ) → Type 0 = λ x. Writes was outcome (Some []) taken x (Some held) in
+    delivers_from was result outcome taken out held errors errors' (subst Q m (subst P o w)) s
+
+-- a buffer before a sink that has taken nothing, with no byte in it, has taken nothing
+pub fresh_taken : (out : Option (List ℕ)) (bytes : List ℕ) → out ≡ Some [] → bytes ≡ [] → append_known out bytes ≡ Some []
+fresh_taken out bytes o b = rw (o, b) refl
+
+-- The same for the input's bytes, where they are told.
+pub delivers_told : (left : Option (List ℕ)) (outcome : List ℕ → Outcome) (was result : Result Status RunFault) (old taken out : Option (List ℕ)) (msgs : Option (List ℕ)) (held : List ℕ) (errors errors' : Option (List ℕ))
+    → old ≡ Some [] → msgs ≡ Some [] → IfSome left (λ bytes. Writes was (outcome bytes) old taken msgs (Some held)) → Settles was result taken out held errors errors'
+    → IfSome left (λ bytes. Delivers result (outcome bytes) out errors errors')
+delivers_told None outcome was result old taken out msgs held errors errors' o m w s = tt
+delivers_told (Some bytes) outcome was result old taken out msgs held errors errors' o m w s = delivers was result (outcome bytes) old taken out msgs held errors errors' o m w s

@@ -1,0 +1,40 @@
+-- How the result of a run over a buffer and messages that wait becomes the result of the program. These facts tie the code to Delivery.
+use Rattle.std.specs.Prelude.{◌≡◌, ◌⊎◌, ℕ, List, Option, Result, Ok, Err}
+use Rattle.std.specs.Io.KnownBytes.{Appends, Keeps, append_known}
+use Rattle.da65.specs.declared.outcome.RunFault.{RunFault}
+use Rattle.da65.specs.declared.outcome.RunFault.TheVariants.{Memory, Write, Messages}
+use Rattle.da65.specs.declared.outcome.Status.{Status}
+use Rattle.map65.specs.Device.{AppendsFront, one_more}
+
+-- the listing was taken whole
+abbrev pub IsListed : Result Status RunFault → Type 0
+IsListed (Ok status) = Unit {0}
+IsListed (Err Messages) = Unit {0}
+IsListed (Err Write) = ⊥
+IsListed (Err Memory) = ⊥
+
+-- the output has what was taken, but for bytes that are left in the buffer
+pub record IsShortOf (taken out : Option (List ℕ)) : Type 0 where
+  pub left : List ℕ
+  pub kept : Keeps taken (append_known out left)
+
+-- the messages were passed on whole, or as far as standard error took them
+abbrev pub PassesOn : Result Status RunFault → Result Status RunFault → List ℕ → Option (List ℕ) → Option (List ℕ) → Type 0
+PassesOn was (Ok status) messages errors errors' = (was ≡ Ok status) × Appends errors errors' messages
+PassesOn was (Err Messages) messages errors errors' = AppendsFront errors errors' messages
+PassesOn was (Err Write) messages errors errors' = ⊥
+PassesOn was (Err Memory) messages errors errors' = ⊥
+
+-- From what the buffer had taken, the messages that wait, and the result of the run: what the output and standard error have.
+abbrev pub Settles : Result Status RunFault → Result Status RunFault → Option (List ℕ) → Option (List ℕ) → List ℕ → Option (List ℕ) → Option (List ℕ) → Type 0
+Settles was (Ok status) taken out messages errors errors' = (was ≡ Ok status) × Keeps taken out × Appends errors errors' messages
+Settles was (Err Messages) taken out messages errors errors' = IsListed was × Keeps taken out × AppendsFront errors errors' messages
+Settles was (Err Write) taken out messages errors errors' = IsShortOf taken out × Keeps errors errors'
+Settles was (Err Memory) taken out messages errors errors' = (was ≡ Err Memory) × IsShortOf taken out × Keeps errors errors'
+
+-- the count of failed writes of the output, from the end of the run on
+abbrev pub SettlesOutCount : Result Status RunFault → Result Status RunFault → ℕ → ℕ → Type 0
+SettlesOutCount was (Ok status) old new = new ≡ old
+SettlesOutCount was (Err Messages) old new = new ≡ old
+SettlesOutCount was (Err Write) old new = ((was ≡ Err Write) × (new ≡ old)) ⊎ (IsListed was × (new ≡ one_more old))
+SettlesOutCount was (Err Memory) old new = new ≡ old

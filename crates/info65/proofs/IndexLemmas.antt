@@ -1,0 +1,406 @@
+-- The index of closed groups.
+use Rattle.std.proofs.Common.{◌≡◌, ◌≢◌, ◌∙◌, ◌≤◌, ◌<◌, ◌+◌, ◌-◌, ◌==◌, ◌&&◌, ◌||◌, ℕ, zero, suc, Bool, List, [], ◌∷◌, ◌++◌, true, false, ⊎_elim, ap, ap₂, arith, get_or, length, option_map, refl, sym, if◌then◌else◌}
+use Rattle.std.specs.Option.{option_or}
+use Rattle.std.specs.Prelude.{All, AllPairs, Any, Option, Some, None, Result, Ok, Err, IfOk, is_some, option_to_list, nat_le, nat_lt, not}
+use Rattle.std.specs.List.{find, flat_map, list_any}
+use Rattle.std.specs.Ordering.{is_eq, nat_cmp}
+use Rattle.std.specs.Str.{bytes_eq}
+use Rattle.std.proofs.lemmas.Bool.{false≢true}
+use Rattle.std.proofs.lemmas.Bool.Decides.{eqb_tells, nat_tests}
+use Rattle.std.proofs.lemmas.List.Folds.{Any-from_list_any, find-append, list_any_none, list_any-append, list_any_at, list_any-from_Any}
+use Rattle.std.proofs.lemmas.Grind.{flat_map-append}
+use Rattle.std.proofs.lemmas.List.{append-nil}
+use Rattle.std.proofs.lemmas.List.Elements.{All-push}
+use Rattle.std.proofs.lemmas.List.Quantifiers.{all_pairs_push}
+use Rattle.std.proofs.lemmas.Slice.Eq.{bytes_eq-Decides}
+use Rattle.info65.specs.Closing.{closing_fault, fault_after, label_fault, optional_name_fault, range_fault}
+use Rattle.info65.specs.Code.Names.{given_seen}
+use Rattle.info65.specs.Groups.{AssignmentView, GroupView}
+use Rattle.info65.specs.declared.attribute.GroupKind.{GroupKind}
+use Rattle.info65.specs.declared.attribute.GroupKind.TheVariants as kind
+use Rattle.info65.specs.Code.Index.{IsIndex, any_in, text_at}
+use Rattle.info65.specs.Labels.{is_at, is_elsewhere, label_in, name_fault, name_part, named_at, names_from, names_said, range_name}
+use Rattle.info65.specs.Names.{is_reserved}
+use Rattle.info65.specs.Ranges.{has_address, overlaps, range_in, ranges_of}
+use Rattle.info65.specs.Views.{NameView}
+use Rattle.info65.specs.declared.fault.InfoFaultKind.{InfoFaultKind}
+use Rattle.info65.specs.declared.fault.InfoFaultKind.TheVariants.{AddressTwice, NameTwice, RangesOverlap, ReservedName}
+use Rattle.info65.specs.declared.name.Given.{Given}
+use Rattle.info65.specs.declared.range.RangeSpec.{RangeSpec}
+use Rattle.info65.proofs.Accepting.{by_test}
+use Rattle.info65.proofs.RangeLemmas.{any_shared, closes_range, ranges_more, shared_overlap}
+
+or_left : (a b : Bool) → a ≡ true → (a || b) ≡ true
+or_left a b h = rw h refl
+
+or_right : (a b : Bool) → b ≡ true → (a || b) ≡ true
+or_right true b h = refl
+or_right false b h = h
+
+or_none : (a b : Bool) → a ≡ false → b ≡ false → (a || b) ≡ false
+or_none a b h i = rw h i
+
+neither : (a b : Bool) → (a || b) ≡ false → (a ≡ false) × (b ≡ false)
+neither true b h = absurd (false≢true (sym h))
+neither false b h = (refl, h)
+
+-- ---- marked addresses
+
+pub any_next : (table : List Bool) (a end : ℕ) → a < end → any_in table a (end - a) ≡ (get_or table a false || any_in table (a + 1) (end - (a + 1)))
+unfolding any_in
+any_next table a end lt = let e : end - a ≡ suc (end - (a + 1)) = omega arith in rw e refl
+
+pub any_hit : (table : List Bool) (a end : ℕ) → a < end → get_or table a false ≡ true → any_in table a (end - a) ≡ true
+any_hit table a end lt on = any_next table a end lt ∙ or_left (get_or table a false) _ on
+
+pub any_miss : (table : List Bool) (a end : ℕ) → a < end → get_or table a false ≡ false → any_in table a (end - a) ≡ any_in table (a + 1) (end - (a + 1))
+any_miss table a end lt off = any_next table a end lt ∙ rw off refl
+
+pub any_over : (table : List Bool) (a end : ℕ) → end ≤ a → any_in table a (end - a) ≡ false
+unfolding any_in
+any_over table a end le = let e : end - a ≡ 0 = omega arith in rw e refl
+
+any_in_yes : (table : List Bool) (first n a : ℕ) → first ≤ a → a < first + n → get_or table a false ≡ true → any_in table first n ≡ true
+unfolding any_in
+any_in_yes table first zero a low high is = absurd (omega arith)
+any_in_yes table first (suc n) a low high is =
+    ⊎_elim
+    (λ same. or_left (get_or table first false) (any_in table (first + 1) n) (ap (λ (k : ℕ). get_or table k false) (sym same.1) ∙ is))
+    (λ other. or_right (get_or table first false) (any_in table (first + 1) n) (any_in_yes table (first + 1) n a (omega (arith, other.1)) (omega arith) is))
+    (eqb_tells a first)
+
+any_in_no : (table : List Bool) (first n : ℕ) → ((a : ℕ) → first ≤ a → a < first + n → get_or table a false ≡ false) → any_in table first n ≡ false
+unfolding any_in
+any_in_no table first zero h = refl
+any_in_no table first (suc n) h = or_none (get_or table first false) (any_in table (first + 1) n) (h first (omega arith) (omega arith)) (any_in_no table (first + 1) n (λ a low high. h a (omega arith) (omega arith)))
+
+within : (r : RangeSpec) (a : ℕ) → has_address r a ≡ true → (r.first ≤ a) × (a ≤ r.last)
+within r a h = by_test (nat_le r.first a)
+    (λ low. let high : nat_le a r.last ≡ true = rw low at h in (grind (arith, nat_tests, low), grind (arith, nat_tests, high)))
+    (λ out. absurd (let i : false ≡ true = rw out at h in false≢true i))
+
+inside : (r : RangeSpec) (a : ℕ) → r.first ≤ a → a ≤ r.last → has_address r a ≡ true
+inside r a low high =
+    let e : nat_le r.first a ≡ true = grind (arith, nat_tests, low) in
+    let f : nat_le a r.last ≡ true = grind (arith, nat_tests, high) in
+    rw (e, f) refl
+
+-- a range overlaps one of the ranges exactly where one of its addresses is marked
+pub overlaps_marked : (ranges : List RangeSpec) (names : List NameView) (table : List Bool) (found : ℕ → Option Given) (stands : List ℕ → Option ℕ) (r : RangeSpec) → IsIndex ranges names table found stands → r.first ≤ r.last → r.last < 0x1_0000
+    → any_in table r.first (r.last + 1 - r.first) ≡ list_any (overlaps r) ranges
+overlaps_marked ranges names table found stands r i ordered low =
+    by_test (list_any (overlaps r) ranges)
+    (λ hit.
+    let h = any_shared r ranges ordered i.ordered (Any-from_list_any (overlaps r) ranges hit) in
+    let q : RangeSpec = h.1 in
+    let a : ℕ = h.4.0 in
+    let here = within r a h.4.1 in
+    let on : list_any (λ (x : RangeSpec). has_address x a) ranges ≡ true = list_any-from_Any (λ (x : RangeSpec). has_address x a) ranges (h.0, q, h.2, h.3, h.4.2) in
+    any_in_yes table r.first (r.last + 1 - r.first) a here.0 (omega (arith, here.0, here.1)) (i.ranged a (omega (arith, here.1)) ∙ on) ∙ sym hit)
+    (λ miss.
+    any_in_no table r.first (r.last + 1 - r.first) (λ a from upto.
+    by_test (get_or table a false)
+    (λ on.
+    let h = Any-from_list_any (λ (x : RangeSpec). has_address x a) ranges (sym (i.ranged a (omega (arith, upto, low, ordered))) ∙ on) in
+    let q : RangeSpec = h.1 in
+    let hit : list_any (overlaps r) ranges ≡ true = list_any-from_Any (overlaps r) ranges (h.0, q, h.2, h.3, shared_overlap r q (a, inside r a from (omega (arith, upto, ordered)), h.4)) in
+    absurd (false≢true (sym miss ∙ hit)))
+    (λ off. off))
+    ∙ sym miss)
+
+-- ---- names
+
+pub is_some_find : {X : Type 0} (p : X → Bool) (xs : List X) → list_any p xs ≡ is_some (find p xs)
+is_some_find p [] = refl
+is_some_find p (x ∷ xs) = by_test (p x) (λ hit. rw hit refl) (λ miss. rw miss (is_some_find p xs))
+
+pub taken_is : (names : List NameView) (a : ℕ) → list_any (is_at a) names ≡ is_some (named_at names a)
+unfolding named_at
+taken_is names a = is_some_find (is_at a) names
+
+same_text : (t u : List ℕ) → bytes_eq t u ≡ true → t ≡ u
+same_text t u h = (bytes_eq-Decides t u).0 h
+
+abbrev Distinct : List NameView → Type 0
+Distinct names = AllPairs (λ n m. n.text ≢ m.text) names
+
+distinct_tail : (x : NameView) (xs : List NameView) → Distinct (x ∷ xs) → Distinct xs
+distinct_tail x xs h = λ i j d lt l. h (suc i) (suc j) d (omega arith) (omega arith)
+
+distinct_head : (x : NameView) (xs : List NameView) → Distinct (x ∷ xs) → (k : ℕ) (d : NameView) → k < length xs → x.text ≢ (get_or xs k d).text
+distinct_head x xs h k d l = h 0 (suc k) d (omega arith) (omega arith)
+
+abbrev pub elsewhere_by : ℕ → Option ℕ → Bool
+elsewhere_by address None = false
+elsewhere_by address (Some a) = not (a == address)
+
+-- no two names have one text, so the first that has it tells where it stands
+pub elsewhere_is : (names : List NameView) (n : NameView) → Distinct names → list_any (is_elsewhere n) names ≡ elsewhere_by n.address (option_map (λ m. m.address) (text_at names n.text))
+elsewhere_is [] n h = refl
+elsewhere_is (x ∷ xs) n h =
+    by_test (bytes_eq n.text x.text)
+    (λ same.
+    let none : list_any (is_elsewhere n) xs ≡ false = list_any_none (is_elsewhere n) xs (λ k d l.
+    by_test (bytes_eq n.text (get_or xs k d).text)
+    (λ again. absurd (distinct_head x xs h k d l (sym (same_text n.text x.text same) ∙ same_text n.text (get_or xs k d).text again)))
+    (λ other. rw other refl))
+    in
+    rw (same, none) (or_last (not (x.address == n.address))))
+    (λ other. rw other (elsewhere_is xs n (distinct_tail x xs h)))
+  where
+    or_last : (b : Bool) → (b || false) ≡ b
+    or_last true = refl
+    or_last false = refl
+
+pub fault_reserved : (names : List NameView) (n : NameView) → is_reserved n.address n.text ≡ true → Some ReservedName ≡ name_fault names n
+unfolding name_fault
+fault_reserved names n r = rw r refl
+
+pub fault_elsewhere : (names : List NameView) (n : NameView) → is_reserved n.address n.text ≡ false → list_any (is_elsewhere n) names ≡ true → Some NameTwice ≡ name_fault names n
+unfolding name_fault
+fault_elsewhere names n r e = rw (r, e) refl
+
+pub fault_taken : (names : List NameView) (n : NameView) → is_reserved n.address n.text ≡ false → list_any (is_elsewhere n) names ≡ false → list_any (is_at n.address) names ≡ true → Some AddressTwice ≡ name_fault names n
+unfolding name_fault
+fault_taken names n r e t = rw (r, e, t) refl
+
+pub fault_none : (names : List NameView) (n : NameView) → is_reserved n.address n.text ≡ false → list_any (is_elsewhere n) names ≡ false → list_any (is_at n.address) names ≡ false → None ≡ name_fault names n
+unfolding name_fault
+fault_none names n r e t = rw (r, e, t) refl
+
+pub some_map : {X Y : Type 0} (f : X → Y) (o : Option X) → is_some (option_map f o) ≡ is_some o
+some_map f None = refl
+some_map f (Some x) = refl
+
+-- a name without a fault
+pub record IsNew (names : List NameView) (n : NameView) : Type 0 where
+  pub free : is_reserved n.address n.text ≡ false
+  pub only : list_any (is_elsewhere n) names ≡ false
+  pub untaken : list_any (is_at n.address) names ≡ false
+
+pub no_fault : (names : List NameView) (n : NameView) → name_fault names n ≡ None → IsNew names n
+unfolding name_fault
+no_fault names n h =
+    by_test (is_reserved n.address n.text)
+    (λ hit. let i : ◌≡◌ {A = Option InfoFaultKind} (Some ReservedName) None = rw hit at h in absurd cc)
+    (λ miss. by_test (list_any (is_elsewhere n) names)
+    (λ hit. let i : ◌≡◌ {A = Option InfoFaultKind} (Some NameTwice) None = rw (miss, hit) at h in absurd cc)
+    (λ once. by_test (list_any (is_at n.address) names)
+    (λ hit. let i : ◌≡◌ {A = Option InfoFaultKind} (Some AddressTwice) None = rw (miss, once, hit) at h in absurd cc)
+    (λ free. record { free = miss; only = once; untaken = free })))
+
+-- its text is new
+pub new_text : (names : List NameView) (n : NameView) → IsNew names n → (k : ℕ) (d : NameView) → k < length names → (get_or names k d).text ≢ n.text
+new_text names n new k d l same =
+    let m = get_or names k d in
+    let equal : bytes_eq n.text m.text ≡ true = (bytes_eq-Decides n.text m.text).1 (sym same) in
+    by_test (m.address == n.address)
+    (λ at. absurd (false≢true (sym new.untaken ∙ list_any_at (is_at n.address) names k d l at)))
+    (λ apart. absurd (false≢true (sym new.only ∙ list_any_at (is_elsewhere n) names k d l (rw (equal, apart) refl))))
+
+pub text_free : (names : List NameView) (n : NameView) → IsNew names n → text_at names n.text ≡ None
+text_free names n new =
+    let none : list_any (λ (m : NameView). bytes_eq n.text m.text) names ≡ false = list_any_none (λ (m : NameView). bytes_eq n.text m.text) names (λ k d l.
+    by_test (bytes_eq n.text (get_or names k d).text)
+    (λ hit. absurd (new_text names n new k d l (sym (same_text n.text (get_or names k d).text hit))))
+    (λ miss. miss))
+    in
+    is_none (text_at names n.text) (sym (is_some_find (λ (m : NameView). bytes_eq n.text m.text) names) ∙ none)
+  where
+    is_none : (o : Option NameView) → is_some o ≡ false → o ≡ None
+    is_none None h = refl
+    is_none (Some x) h = absurd (false≢true (sym h))
+
+-- ---- what is added
+
+-- the ranges of one range more
+pub range_added : (ranges : List RangeSpec) (names : List NameView) (table after : List Bool) (found : ℕ → Option Given) (stands : List ℕ → Option ℕ) (r : RangeSpec) → IsIndex ranges names table found stands → r.first ≤ r.last → length after ≡ length table
+    → ((a : ℕ) → a < 0x1_0000 → get_or after a false ≡ (get_or table a false || has_address r a)) → IsIndex (ranges ++ r ∷ []) names after found stands
+range_added ranges names table after found stands r i ordered long marked = record {
+  ordered = All-push (λ (x : RangeSpec). x.first ≤ x.last) ranges r i.ordered ordered;
+  size = long ∙ i.size;
+  ranged = λ a low. marked a low ∙ ap (λ b. b || has_address r a) (i.ranged a low) ∙ ap (λ b. list_any (λ (x : RangeSpec). has_address x a) ranges || b) (sym (last_or (has_address r a))) ∙ sym (list_any-append (λ (x : RangeSpec). has_address x a) ranges (r ∷ []));
+  distinct = i.distinct;
+  addresses = i.addresses;
+  texts = i.texts;
+}
+  where
+    last_or : (b : Bool) → (b || false) ≡ b
+    last_or true = refl
+    last_or false = refl
+
+chosen : {X : Type 0} (b : Bool) (x y : X) → b ≡ true → (if b then x else y) ≡ x
+chosen b x y h = rw h refl
+
+passed : {X : Type 0} (b : Bool) (x y : X) → b ≡ false → (if b then x else y) ≡ y
+passed b x y h = rw h refl
+
+pub eqb_is : (a b : ℕ) → (a == b) ≡ true → a ≡ b
+eqb_is a b h = ⊎_elim (λ same. same.1) (λ other. absurd (false≢true (sym other.0 ∙ h))) (eqb_tells a b)
+
+find_more : {X : Type 0} (p : X → Bool) (xs : List X) (x : X) → find p xs ≡ None → p x ≡ true → find p (xs ++ x ∷ []) ≡ Some x
+find_more p xs x none hit = find-append p xs (x ∷ []) ∙ rw (none, hit) refl
+
+find_same : {X : Type 0} (p : X → Bool) (xs : List X) (x : X) → p x ≡ false → find p (xs ++ x ∷ []) ≡ find p xs
+find_same p xs x miss = find-append p xs (x ∷ []) ∙ rw miss (or_nothing (find p xs))
+  where
+    or_nothing : {X : Type 0} (o : Option X) → option_or o None ≡ o
+    or_nothing None = refl
+    or_nothing (Some y) = refl
+
+no_find : {X : Type 0} (p : X → Bool) (xs : List X) → list_any p xs ≡ false → find p xs ≡ None
+no_find p xs h = is_none (find p xs) (sym (is_some_find p xs) ∙ h)
+  where
+    is_none : {X : Type 0} (o : Option X) → is_some o ≡ false → o ≡ None
+    is_none None h = refl
+    is_none (Some x) h = absurd (false≢true (sym h))
+
+pub name_added : (ranges : List RangeSpec) (names : List NameView) (table : List Bool) (found more : ℕ → Option Given) (stands told : List ℕ → Option ℕ) (n : Given) → IsIndex ranges names table found stands → name_fault names (given_seen n) ≡ None
+    → ((a : ℕ) → more a ≡ (if n.address == a then Some n else found a)) → ((t : List ℕ) → told t ≡ (if bytes_eq n.text.now t then Some n.address else stands t))
+    → IsIndex ranges (names ++ given_seen n ∷ []) table more told
+unfolding named_at
+name_added ranges names table found more stands told n i fine here there =
+    let new = no_fault names (given_seen n) fine in
+    record {
+      ordered = i.ordered;
+      size = i.size;
+      ranged = i.ranged;
+      distinct = all_pairs_push (λ (x y : NameView). x.text ≢ y.text) names (given_seen n) i.distinct (new_text names (given_seen n) new);
+      addresses = λ a.
+          by_test (n.address == a)
+          (λ at.
+          let same : n.address ≡ a = eqb_is n.address a at in
+          let none : find (is_at a) names ≡ None = no_find (is_at a) names (ap (λ (k : ℕ). list_any (is_at k) names) (sym same) ∙ new.untaken) in
+          ap (option_map given_seen) (here a ∙ chosen (n.address == a) (Some n) (found a) at) ∙ sym (find_more (is_at a) names (given_seen n) none at))
+          (λ apart. ap (option_map given_seen) (here a ∙ passed (n.address == a) (Some n) (found a) apart) ∙ i.addresses a ∙ sym (find_same (is_at a) names (given_seen n) apart));
+      texts = λ t.
+          by_test (bytes_eq t n.text.now)
+          (λ at.
+          let same : t ≡ n.text.now = same_text t n.text.now at in
+          let back : bytes_eq n.text.now t ≡ true = (bytes_eq-Decides n.text.now t).1 (sym same) in
+          let none : text_at names t ≡ None = ap (text_at names) same ∙ text_free names (given_seen n) new in
+          there t ∙ chosen (bytes_eq n.text.now t) (Some n.address) (stands t) back ∙ ap (option_map (λ (m : NameView). m.address)) (sym (find_more (λ (m : NameView). bytes_eq t m.text) names (given_seen n) none at)))
+          (λ apart.
+          let back : bytes_eq n.text.now t ≡ false = by_test (bytes_eq n.text.now t) (λ hit. absurd (false≢true (sym apart ∙ (bytes_eq-Decides t n.text.now).1 (sym (same_text n.text.now t hit))))) (λ miss. miss) in
+          there t ∙ passed (bytes_eq n.text.now t) (Some n.address) (stands t) back ∙ i.texts t ∙ ap (option_map (λ (m : NameView). m.address)) (sym (find_same (λ (m : NameView). bytes_eq t m.text) names (given_seen n) apart)));
+    }
+
+-- ---- no groups
+
+pub no_index : (table : List Bool) (found : ℕ → Option Given) (stands : List ℕ → Option ℕ) → length table ≡ 0x1_0000 → ((a : ℕ) → get_or table a false ≡ false) → ((a : ℕ) → found a ≡ None) → ((t : List ℕ) → stands t ≡ None) → IsIndex [] [] table found stands
+unfolding named_at
+no_index table found stands size blank none silent = record {
+  ordered = λ k d l. absurd (omega (arith, l));
+  size = size;
+  ranged = λ a low. blank a;
+  distinct = λ i j d lt l. absurd (omega (arith, l));
+  addresses = λ a. ap (option_map given_seen) (none a);
+  texts = λ t. silent t;
+}
+
+-- ---- the faults of a group
+
+pub range_overlaps : (ranges : List RangeSpec) (names : List NameView) (given : List AssignmentView) (r : RangeSpec) (x : Result RangeSpec InfoFaultKind) → Ok r ≡ x → list_any (overlaps r) ranges ≡ true → range_fault ranges names given x ≡ Some RangesOverlap
+range_overlaps ranges names given r x is hit = rw (← is) (rw hit refl)
+
+pub range_apart : (ranges : List RangeSpec) (names : List NameView) (given : List AssignmentView) (r : RangeSpec) (x : Result RangeSpec InfoFaultKind) → Ok r ≡ x → list_any (overlaps r) ranges ≡ false → range_fault ranges names given x ≡ optional_name_fault names (range_name given r)
+range_apart ranges names given r x is miss = rw (← is) (rw miss refl)
+
+-- ---- what a group adds
+
+pub ranges_more_range : (before : List GroupView) (given : List AssignmentView) (r : RangeSpec) → range_in given ≡ Ok r → ranges_of (before ++ record { kind = kind.Range; given = given } ∷ []) ≡ ranges_of before ++ r ∷ []
+ranges_more_range before given r is = ranges_more before (record { kind = kind.Range; given = given }) ∙ rw is refl
+
+names_more : (before : List GroupView) (g : GroupView) → names_said (before ++ g ∷ []) ≡ names_said before ++ name_part g
+unfolding names_said
+names_more before g = flat_map-append name_part before (g ∷ []) ∙ ap (λ l. flat_map name_part before ++ l) (append-nil (name_part g))
+
+pub names_more_range : (before : List GroupView) (given : List AssignmentView) (r : RangeSpec) → range_in given ≡ Ok r → names_said (before ++ record { kind = kind.Range; given = given } ∷ []) ≡ names_said before ++ option_to_list (range_name given r)
+names_more_range before given r is = names_more before (record { kind = kind.Range; given = given }) ∙ rw is refl
+
+pub names_more_label : (before : List GroupView) (given : List AssignmentView) (n : NameView) → label_in given ≡ Ok n → names_said (before ++ record { kind = kind.Label; given = given } ∷ []) ≡ names_said before ++ n ∷ []
+names_more_label before given n is = names_more before (record { kind = kind.Label; given = given }) ∙ rw is refl
+
+pub ranges_more_other : (before : List GroupView) (k : GroupKind) (given : List AssignmentView) → (k ≡ kind.Range → ⊥) → ranges_of (before ++ record { kind = k; given = given } ∷ []) ≡ ranges_of before
+ranges_more_other before kind.Range given other = absurd (other refl)
+ranges_more_other before kind.Global given other = ranges_more before (record { kind = kind.Global; given = given }) ∙ append-nil (ranges_of before)
+ranges_more_other before kind.Label given other = ranges_more before (record { kind = kind.Label; given = given }) ∙ append-nil (ranges_of before)
+
+pub names_more_global : (before : List GroupView) (given : List AssignmentView) → names_said (before ++ record { kind = kind.Global; given = given } ∷ []) ≡ names_said before
+names_more_global before given = names_more before (record { kind = kind.Global; given = given }) ∙ append-nil (names_said before)
+
+pub marked_end : (first last a at : ℕ) → at ≡ last + 1 → (nat_le first a && nat_lt a at) ≡ (nat_le first a && nat_le a last)
+marked_end first last a at is = ap (λ b. nat_le first a && b) (let e : nat_lt a at ≡ nat_le a last = by_test (nat_le a last) (λ h. let f : nat_lt a at ≡ true = grind (arith, nat_tests, h, is) in f ∙ sym h) (λ h. let f : nat_lt a at ≡ false = grind (arith, nat_tests, h, is) in f ∙ sym h) in e)
+
+pub key_is : (k q : ℕ) → is_eq (nat_cmp k q) ≡ (k == q)
+key_is k q =
+    by_test (k == q)
+    (λ same. let e : k ≡ q = eqb_is k q same in let f : nat_lt k q ≡ false = grind (arith, nat_tests, e) in rw (f, same) refl)
+    (λ apart. by_test (nat_lt k q) (λ low. rw (low, apart) refl) (λ high. rw (high, apart) refl))
+
+-- ---- names by address
+
+pub names_next : (f : ℕ → Option NameView) (a : ℕ) → a < 0x1_0000 → names_from f a (0x1_0000 - a) ≡ option_to_list (f a) ++ names_from f (a + 1) (0x1_0000 - (a + 1))
+unfolding names_from
+names_next f a lt = let e : 0x1_0000 - a ≡ suc (0x1_0000 - (a + 1)) = omega arith in rw e refl
+
+pub names_over : (f : ℕ → Option NameView) (a : ℕ) → 0x1_0000 ≤ a → names_from f a (0x1_0000 - a) ≡ []
+unfolding names_from
+names_over f a le = let e : 0x1_0000 - a ≡ 0 = omega arith in rw e refl
+
+pub names_same : (f g : ℕ → Option NameView) → ((a : ℕ) → f a ≡ g a) → (a n : ℕ) → names_from f a n ≡ names_from g a n
+unfolding names_from
+names_same f g h a zero = refl
+names_same f g h a (suc n) = ap₂ (λ (x : Option NameView) (xs : List NameView). option_to_list x ++ xs) (h a) (names_same f g h (a + 1) n)
+
+-- ---- a group more
+
+pub record ClosesLabel (names : List NameView) (given : List AssignmentView) : Type 0 where
+  pub name : NameView
+  pub is : label_in given ≡ Ok name
+  pub fine : name_fault names name ≡ None
+
+closed_label : (names : List NameView) (given : List AssignmentView) (x : Result NameView InfoFaultKind) → label_in given ≡ x → label_fault names x ≡ None → ClosesLabel names given
+closed_label names given (Err f) e h = absurd cc
+closed_label names given (Ok n) e h = record { name = n; is = e; fine = h }
+
+pub closes_label : (before : List GroupView) (given : List AssignmentView) → closing_fault before kind.Label given ≡ None → ClosesLabel (names_said before) given
+unfolding closing_fault fault_after
+closes_label before given h = closed_label (names_said before) given (label_in given) refl h
+
+pub label_fine : (before : List GroupView) (given : List AssignmentView) (n : NameView) → closing_fault before kind.Label given ≡ None → label_in given ≡ Ok n → name_fault (names_said before) n ≡ None
+label_fine before given n h is =
+    let c = closes_label before given h in
+    let same : c.name ≡ n = ok_same (sym c.is ∙ is) in
+    ap (name_fault (names_said before)) (sym same) ∙ c.fine
+  where
+    ok_same : {x y : NameView} → ◌≡◌ {A = Result NameView InfoFaultKind} (Ok x) (Ok y) → x ≡ y
+    ok_same h = cc
+
+pub range_fine : (before : List GroupView) (given : List AssignmentView) (r : RangeSpec) → closing_fault before kind.Range given ≡ None → range_in given ≡ Ok r → optional_name_fault (names_said before) (range_name given r) ≡ None
+range_fine before given r h is =
+    let c = closes_range before given h in
+    let same : c.range ≡ r = ok_same (sym c.is ∙ is) in
+    ap (λ (x : RangeSpec). optional_name_fault (names_said before) (range_name given x)) (sym same) ∙ c.named
+  where
+    ok_same : {x y : RangeSpec} → ◌≡◌ {A = Result RangeSpec InfoFaultKind} (Ok x) (Ok y) → x ≡ y
+    ok_same h = cc
+
+moved : (ranges rs : List RangeSpec) (names ns : List NameView) (t : List Bool) (f : ℕ → Option Given) (s : List ℕ → Option ℕ) → rs ≡ ranges → ns ≡ names → IsIndex ranges names t f s → IsIndex rs ns t f s
+moved ranges rs names ns t f s e d i = rw (e, d) i
+
+pub global_said : (before : List GroupView) (given : List AssignmentView) (t : List Bool) (f : ℕ → Option Given) (s : List ℕ → Option ℕ) → IsIndex (ranges_of before) (names_said before) t f s
+    → IsIndex (ranges_of (before ++ record { kind = kind.Global; given = given } ∷ [])) (names_said (before ++ record { kind = kind.Global; given = given } ∷ [])) t f s
+global_said before given t f s i = moved _ _ _ _ t f s (ranges_more_other before kind.Global given (λ e. absurd cc)) (names_more_global before given) i
+
+pub range_said : (before : List GroupView) (given : List AssignmentView) (r : RangeSpec) (n : Option NameView) (t : List Bool) (f : ℕ → Option Given) (s : List ℕ → Option ℕ) → range_in given ≡ Ok r → n ≡ range_name given r → IsIndex (ranges_of before ++ r ∷ []) (names_said before ++ option_to_list n) t f s
+    → IsIndex (ranges_of (before ++ record { kind = kind.Range; given = given } ∷ [])) (names_said (before ++ record { kind = kind.Range; given = given } ∷ [])) t f s
+range_said before given r n t f s is named i = moved _ _ _ _ t f s (ranges_more_range before given r is) (names_more_range before given r is ∙ ap (λ (o : Option NameView). names_said before ++ option_to_list o) (sym named)) i
+
+pub label_said : (before : List GroupView) (given : List AssignmentView) (n : NameView) (t : List Bool) (f : ℕ → Option Given) (s : List ℕ → Option ℕ) → label_in given ≡ Ok n → IsIndex (ranges_of before) (names_said before ++ n ∷ []) t f s
+    → IsIndex (ranges_of (before ++ record { kind = kind.Label; given = given } ∷ [])) (names_said (before ++ record { kind = kind.Label; given = given } ∷ [])) t f s
+label_said before given n t f s is i = moved _ _ _ _ t f s (ranges_more_other before kind.Label given (λ e. absurd cc)) (names_more_label before given n is) i
+
+pub ok_map : {X E : Type 0} {P Q : X → Type 0} (r : Result X E) → ((x : X) → P x → Q x) → IfOk r P → IfOk r Q
+ok_map (Ok x) f h = f x h
+ok_map (Err e) f h = tt

@@ -1,0 +1,295 @@
+-- The names of an accepted file: what holds of those that its groups say, and of all of them by address.
+use Rattle.std.proofs.Common.{◌≡◌, ◌≢◌, ◌∙◌, ◌≤◌, ◌<◌, ◌+◌, ◌-◌, ◌==◌, ℕ, zero, suc, Bool, List, [], ◌∷◌, ◌++◌, true, false, ⊎_elim, ap, append_assoc, arith, get_or, length, length-append, option_map, refl, subst, sym}
+use Rattle.std.specs.Prelude.{All, AllPairs, IfSome, Option, Some, None, Result, Ok, Err, nat_le, nat_lt, option_to_list, is_some, ◌↔◌}
+use Rattle.std.specs.List.{Contains, find, list_any}
+use Rattle.std.specs.Option.{unwrap_or}
+use Rattle.std.proofs.lemmas.Bool.Decides.{eqb_tells, nat_tests}
+use Rattle.std.proofs.lemmas.List.{append-nil}
+use Rattle.std.proofs.lemmas.List.Elements.{All-push, Contains-append_right}
+use Rattle.std.proofs.lemmas.List.Folds.{list_any_at}
+use Rattle.std.proofs.lemmas.List.Kept.{AllPairs-cons}
+use Rattle.std.proofs.lemmas.List.Quantifiers.{all_pairs_push}
+use Rattle.std.proofs.str.Laws.{order}
+use Rattle.info65.specs.Attributes.{form_of}
+use Rattle.info65.specs.Closing.{closing_fault, optional_name_fault}
+use Rattle.info65.specs.Grammar.{AreGroups}
+use Rattle.info65.specs.Groups.{AreFormed, AssignmentView, GroupView, value_in}
+use Rattle.info65.specs.Labels.{by_address, is_at, label_from, label_in, label_sized, name_fault, named, named_at, names_from, names_said, range_name}
+use Rattle.info65.specs.NameLaws.{NamesGiven}
+use Rattle.info65.specs.Names.{AreNames, IsName, has_name_form, is_reserved}
+use Rattle.info65.specs.Reader.{groups_of, read}
+use Rattle.info65.specs.Tokens.{tokens_of}
+use Rattle.info65.specs.Values.{HasForm, ValueView, a_name, an_address, as_address, as_name, as_number}
+use Rattle.info65.specs.Views.{NameView, OptionsView}
+use Rattle.info65.specs.declared.attribute.Attribute.TheVariants as attribute
+use Rattle.info65.specs.declared.attribute.Form.TheVariants as form
+use Rattle.info65.specs.declared.attribute.GroupKind.{GroupKind}
+use Rattle.info65.specs.declared.attribute.GroupKind.TheVariants as kind
+use Rattle.info65.specs.declared.fault.InfoFaultKind.{InfoFaultKind}
+use Rattle.info65.specs.declared.fault.InfoFaultKind.TheVariants.{OutOfRange}
+use Rattle.info65.specs.declared.range.RangeSpec.{RangeSpec}
+use Rattle.info65.proofs.Accepting.{by_test, groups_accepted}
+use Rattle.info65.proofs.FormLemmas.{GroupsFormed, found_formed, groups_formed, size_in}
+use Rattle.info65.proofs.IndexLemmas.{IsNew, eqb_is, taken_is, names_more_global, names_more_label, names_more_range, new_text, no_fault, closes_label}
+use Rattle.info65.proofs.RangeLemmas.{closes_range, low_in, ordered_in}
+
+-- ---- by address
+
+all_cons : (P : NameView → Type 0) (y : NameView) (ys : List NameView) → P y → All P ys → All P (y ∷ ys)
+all_cons P y ys p ps zero d l = p
+all_cons P y ys p ps (suc k) d l = ps k d (omega (arith, l))
+
+all_front : (P : NameView → Type 0) (o : Option NameView) (ys : List NameView) → ((x : NameView) → o ≡ Some x → P x) → All P ys → All P (option_to_list o ++ ys)
+all_front P None ys p ps = ps
+all_front P (Some x) ys p ps = all_cons P x ys (p x refl) ps
+
+all_from : (P : NameView → Type 0) (f : ℕ → Option NameView) (a n : ℕ) → ((b : ℕ) (x : NameView) → a ≤ b → f b ≡ Some x → P x) → All P (names_from f a n)
+unfolding names_from
+all_from P f a zero h = λ k d l. absurd (omega (arith, l))
+all_from P f a (suc n) h = all_front P (f a) (names_from f (a + 1) n) (λ x is. h a x (omega arith) is) (all_from P f (a + 1) n (λ b x low is. h b x (omega (arith, low)) is))
+
+pairs_front : (R : NameView → NameView → Type 0) (o : Option NameView) (ys : List NameView) → ((x : NameView) → o ≡ Some x → All (R x) ys) → AllPairs R ys → AllPairs R (option_to_list o ++ ys)
+pairs_front R None ys p ps = ps
+pairs_front R (Some x) ys p ps = AllPairs-cons R x ys (p x refl) ps
+
+pairs_from : (R : NameView → NameView → Type 0) (f : ℕ → Option NameView) → ((a b : ℕ) (x y : NameView) → a < b → f a ≡ Some x → f b ≡ Some y → R x y) → (a n : ℕ) → AllPairs R (names_from f a n)
+unfolding names_from
+pairs_from R f h a zero = λ i j d lt l. absurd (omega (arith, l))
+pairs_from R f h a (suc n) = pairs_front R (f a) (names_from f (a + 1) n) (λ x is. all_from (R x) f (a + 1) n (λ b y low at. h a b x y (omega (arith, low)) is at)) (pairs_from R f h (a + 1) n)
+
+-- ---- a name that is found
+
+pub record Place (names : List NameView) (x : NameView) : Type 0 where
+  pub index : ℕ
+  pub low : index < length names
+  pub is : (d : NameView) → get_or names index d ≡ x
+
+record Found (p : NameView → Bool) (names : List NameView) (x : NameView) : Type 0 where
+  place : Place names x
+  passes : p x ≡ true
+
+found_some : (p : NameView → Bool) (names : List NameView) (x : NameView) → find p names ≡ Some x → Found p names x
+found_some p [] x is = absurd cc
+found_some p (y ∷ ys) x is =
+    by_test (p y)
+    (λ hit. let at : ◌≡◌ {A = Option NameView} (Some y) (Some x) = rw hit at is in let same : y ≡ x = some_same at in record { place = record { index = 0; low = omega arith; is = λ d. same }; passes = ap p (sym same) ∙ hit })
+    (λ miss. let r = found_some p ys x (rw miss at is) in record { place = record { index = suc r.place.index; low = omega (arith, r.place.low); is = λ d. r.place.is d }; passes = r.passes })
+  where
+    some_same : {u v : NameView} → ◌≡◌ {A = Option NameView} (Some u) (Some v) → u ≡ v
+    some_same h = cc
+
+named_place : (names : List NameView) (a : ℕ) (x : NameView) → named_at names a ≡ Some x → Found (is_at a) names x
+unfolding named_at
+named_place names a x is = found_some (is_at a) names x is
+
+-- ---- what holds of the names that groups say
+
+pub record AreGiven (names : List NameView) : Type 0 where
+  pub each : All IsName names
+  pub texts : AllPairs (λ n m. n.text ≢ m.text) names
+  pub addresses : AllPairs (λ n m. n.address ≢ m.address) names
+
+-- sorted by address they are the names of a file
+pub sorted_names : (names : List NameView) → AreGiven names → AreNames (by_address names)
+unfolding by_address
+sorted_names names g = record {
+  each = all_from IsName (named_at names) 0 0x1_0000 (λ b x low is. let r = (named_place names b x is).place in subst IsName (r.is x) (g.each r.index x r.low));
+  rising = pairs_from (λ n m. n.address < m.address) (named_at names) (λ a b x y lt is at.
+      let f : x.address ≡ a = eqb_is x.address a (named_place names a x is).passes in
+      let h : y.address ≡ b = eqb_is y.address b (named_place names b y at).passes in
+      omega (arith, f, h, lt)) 0 0x1_0000;
+  distinct = pairs_from (λ n m. n.text ≢ m.text) (named_at names) (λ a b x y lt is at same.
+      let p = named_place names a x is in
+      let q = named_place names b y at in
+      let f : x.address ≡ a = eqb_is x.address a p.passes in
+      let h : y.address ≡ b = eqb_is y.address b q.passes in
+      let i : ℕ = p.place.index in
+      let j : ℕ = q.place.index in
+      ⊎_elim
+      (λ here. let e : x ≡ y = sym (p.place.is x) ∙ ap (λ (k : ℕ). get_or names k x) here.1 ∙ q.place.is x in omega (arith, f, h, lt, ap (λ (v : NameView). v.address) e))
+      (λ apart.
+      ⊎_elim
+      (λ before. g.texts i j x (omega (arith, before, apart.1)) q.place.low (ap (λ (v : NameView). v.text) (p.place.is x) ∙ same ∙ ap (λ (v : NameView). v.text) (sym (q.place.is x))))
+      (λ after. g.texts j i x (omega (arith, after, apart.1)) p.place.low (ap (λ (v : NameView). v.text) (q.place.is x) ∙ sym same ∙ ap (λ (v : NameView). v.text) (sym (p.place.is x))))
+      (order i j))
+      (eqb_tells i j)) 0 0x1_0000;
+}
+
+none_given : AreGiven []
+none_given = record {
+  each = λ k d l. absurd (omega (arith, l));
+  texts = λ i j d lt l. absurd (omega (arith, l));
+  addresses = λ i j d lt l. absurd (omega (arith, l));
+}
+
+one_more : (names : List NameView) (n : NameView) → AreGiven names → IsName n → IsNew names n → AreGiven (names ++ n ∷ [])
+one_more names n g is new = record {
+  each = All-push IsName names n g.each is;
+  texts = all_pairs_push (λ (x y : NameView). x.text ≢ y.text) names n g.texts (new_text names n new);
+  addresses = all_pairs_push (λ (x y : NameView). x.address ≢ y.address) names n g.addresses (λ k d l same.
+      let at : ((get_or names k d).address == n.address) ≡ true = rw same (eqb_same n.address) in
+      let hit : list_any (is_at n.address) names ≡ true = list_any_at (is_at n.address) names k d l at in
+      let wrong : true ≡ false = sym hit ∙ new.untaken in absurd cc);
+}
+  where
+    eqb_same : (k : ℕ) → (k == k) ≡ true
+    eqb_same k = ⊎_elim (λ same. same.0) (λ other. absurd (other.1 refl)) (eqb_tells k k)
+
+-- ---- group by group
+
+name_formed : (given : List AssignmentView) (t : List ℕ) → AreFormed given → as_name (value_in attribute.Name given) ≡ Some t → has_name_form t ≡ true
+unfolding form_of
+name_formed given t f is = formed (value_in attribute.Name given) (found_formed attribute.Name given f) is
+  where
+    formed : (v : Option ValueView) → IfSome v (HasForm form.Name) → as_name v ≡ Some t → has_name_form t ≡ true
+    formed (Some (a_name u)) h e = let same : u ≡ t = cc in ap has_name_form (sym same) ∙ h
+    formed (Some _) h e = absurd cc
+    formed None h e = absurd cc
+
+size_some : (given : List AssignmentView) → AreFormed given → 1 ≤ unwrap_or (as_number (value_in attribute.Size given)) 1
+unfolding form_of
+size_some given f = low (as_number (value_in attribute.Size given)) (size_in (value_in attribute.Size given) (found_formed attribute.Size given f))
+  where
+    low : (o : Option ℕ) → IfSome o (λ n. (1 ≤ n) × (n ≤ 0x1_0000)) → 1 ≤ unwrap_or o 1
+    low (Some n) h = h.0
+    low None h = omega arith
+
+record IsLabel (given : List AssignmentView) (n : NameView) : Type 0 where
+  text : as_name (value_in attribute.Name given) ≡ Some n.text
+  size : n.size ≡ unwrap_or (as_number (value_in attribute.Size given)) 1
+  room : n.address + n.size ≤ 0x1_0000
+
+sized_is : (a : ℕ) (t : List ℕ) (size : ℕ) (n : NameView) → label_sized a t size ≡ Ok n → (n ≡ named a size t) × (a + size ≤ 0x1_0000)
+sized_is a t size n is =
+    by_test (nat_le (a + size) 0x1_0000)
+    (λ fits. let e : ◌≡◌ {A = Result NameView InfoFaultKind} (Ok (named a size t)) (Ok n) = rw fits at is in (ok_same e, grind (arith, nat_tests, fits)))
+    (λ out. let e : ◌≡◌ {A = Result NameView InfoFaultKind} (Err OutOfRange) (Ok n) = rw out at is in absurd cc)
+  where
+    ok_same : {x y : NameView} → ◌≡◌ {A = Result NameView InfoFaultKind} (Ok x) (Ok y) → y ≡ x
+    ok_same h = cc
+
+label_is : (given : List AssignmentView) (n : NameView) → label_in given ≡ Ok n → IsLabel given n
+unfolding label_in
+label_is given n is = by_parts (as_address (value_in attribute.Address given)) (as_name (value_in attribute.Name given)) refl is
+  where
+    by_parts : (a : Option ℕ) (t : Option (List ℕ)) → as_name (value_in attribute.Name given) ≡ t → label_from a t (as_number (value_in attribute.Size given)) ≡ Ok n → IsLabel given n
+    by_parts (Some a) (Some t) e h =
+        let s = sized_is a t (unwrap_or (as_number (value_in attribute.Size given)) 1) n h in
+        record { text = rw s.0 e; size = rw s.0 refl; room = rw s.0 s.1 }
+    by_parts None t e h = absurd cc
+    by_parts (Some a) None e h = absurd cc
+
+record IsNamed (given : List AssignmentView) (r : RangeSpec) (n : NameView) : Type 0 where
+  text : as_name (value_in attribute.Name given) ≡ Some n.text
+  size : n.size ≡ 1
+  address : n.address ≡ r.first
+
+named_is : (given : List AssignmentView) (r : RangeSpec) (n : NameView) → range_name given r ≡ Some n → IsNamed given r n
+unfolding range_name
+named_is given r n is = by_text (as_name (value_in attribute.Name given)) refl is
+  where
+    by_text : (t : Option (List ℕ)) → as_name (value_in attribute.Name given) ≡ t → option_map (named r.first 1) t ≡ Some n → IsNamed given r n
+    by_text (Some t) e h = let s : n ≡ named r.first 1 t = cc in record { text = rw s e; size = rw s refl; address = rw s refl }
+    by_text None e h = absurd cc
+
+given_optional : (names : List NameView) (given : List AssignmentView) (r : RangeSpec) → AreFormed given → r.first ≤ 0xFFFF → AreGiven names → (n : Option NameView) → range_name given r ≡ n → optional_name_fault names n ≡ None → AreGiven (names ++ option_to_list n)
+given_optional names given r f low g None is fine = rw (append-nil names) g
+given_optional names given r f low g (Some n) is fine =
+    let new = no_fault names n fine in
+    let x = named_is given r n is in
+    one_more names n g (record { sized = omega (arith, x.size); room = omega (arith, x.size, x.address, low); form = name_formed given n.text f x.text; free = new.free }) new
+
+given_more : (before : List GroupView) (k : GroupKind) (given : List AssignmentView) → AreFormed given → closing_fault before k given ≡ None → AreGiven (names_said before) → AreGiven (names_said (before ++ record { kind = k; given = given } ∷ []))
+given_more before kind.Global given f h g = rw (names_more_global before given) g
+given_more before kind.Range given f h g =
+    let c = closes_range before given h in
+    let low = low_in given c.range c.is in
+    let ordered = ordered_in given c.range c.is in
+    rw (names_more_range before given c.range c.is) (given_optional (names_said before) given c.range f (omega (arith, low, ordered)) g (range_name given c.range) refl c.named)
+given_more before kind.Label given f h g =
+    let c = closes_label before given h in
+    let new = no_fault (names_said before) c.name c.fine in
+    let x = label_is given c.name c.is in
+    rw (names_more_label before given c.name c.is) (one_more (names_said before) c.name g (record { sized = rw x.size (size_some given f); room = x.room; form = name_formed given c.name.text f x.text; free = new.free }) new)
+
+groups_given : (before gs : List GroupView) → AreGroups before gs → GroupsFormed gs → AreGiven (names_said before) → AreGiven (names_said (before ++ gs))
+groups_given before [] h f g = rw (append-nil before) g
+groups_given before (x ∷ xs) h f g =
+    let more = given_more before x.kind x.given f.0 h.0.closes g in
+    let all = groups_given (before ++ x ∷ []) xs h.1 f.1 more in rw (append_assoc before (x ∷ []) xs) at all
+
+none_said : AreGiven (names_said [])
+unfolding names_said
+none_said = none_given
+
+pub accepted_given : (groups : List GroupView) → AreGroups [] groups → GroupsFormed groups → AreGiven (names_said groups)
+accepted_given groups h f = groups_given [] groups h f none_said
+
+-- the names of an accepted text
+pub read_named : (o : OptionsView) (bytes : List ℕ) (groups : List GroupView) → groups_of o bytes ≡ Ok groups → AreNames (by_address (names_said groups))
+unfolding groups_of read
+read_named o bytes groups e =
+    let a = groups_accepted o (tokens_of 1 bytes).tokens (tokens_of 1 bytes).ending groups e in
+    let formed : GroupsFormed groups = subst GroupsFormed a.1.of (groups_formed o a.1.spelling (tokens_of 1 bytes).tokens a.1.spelled) in
+    sorted_names (names_said groups) (accepted_given groups a.1.keeps formed)
+
+-- ---- by address there are exactly these names
+
+in_front : (o : Option NameView) (ys : List NameView) (x : NameView) → o ≡ Some x → Contains (option_to_list o ++ ys) x
+in_front (Some y) ys x is = let same : y ≡ x = cc in (0, omega arith, same)
+in_front None ys x is = absurd cc
+
+in_from : (f : ℕ → Option NameView) (a n b : ℕ) (x : NameView) → a ≤ b → b < a + n → f b ≡ Some x → Contains (names_from f a n) x
+unfolding names_from
+in_from f a zero b x low high is = absurd (omega arith)
+in_from f a (suc n) b x low high is =
+    ⊎_elim
+    (λ same. in_front (f a) (names_from f (a + 1) n) x (ap f (sym same.1) ∙ is))
+    (λ other. Contains-append_right (option_to_list (f a)) (names_from f (a + 1) n) x (in_from f (a + 1) n b x (omega (arith, other.1)) (omega arith) is))
+    (eqb_tells b a)
+
+-- the name that is found at the address of a name is that name
+found_itself : (names : List NameView) (n : NameView) → AreGiven names → Contains names n → named_at names n.address ≡ Some n
+found_itself names n g h = itself (named_at names n.address) refl
+  where
+    hit : list_any (is_at n.address) names ≡ true
+    hit = list_any_at (is_at n.address) names h.0 n h.1 (rw h.2 (eqb_same n.address))
+      where
+        eqb_same : (k : ℕ) → (k == k) ≡ true
+        eqb_same k = ⊎_elim (λ same. same.0) (λ other. absurd (other.1 refl)) (eqb_tells k k)
+
+    itself : (o : Option NameView) → named_at names n.address ≡ o → o ≡ Some n
+    itself None is = absurd (nothing (sym (taken_is names n.address ∙ ap is_some is) ∙ hit))
+      where
+        nothing : false ≡ true → ⊥
+        nothing e = absurd cc
+    itself (Some x) is =
+        let r = named_place names n.address x is in
+        let at : x.address ≡ n.address = eqb_is x.address n.address r.passes in
+        let i : ℕ = r.place.index in
+        let j : ℕ = h.0 in
+        let here : (get_or names i n).address ≡ n.address = ap (λ (v : NameView). v.address) (r.place.is n) ∙ at in
+        let there : (get_or names j n).address ≡ n.address = ap (λ (v : NameView). v.address) h.2 in
+        ⊎_elim
+        (λ same. ap (λ (v : NameView). Some v) (sym (r.place.is n) ∙ ap (λ (k : ℕ). get_or names k n) same.1 ∙ h.2))
+        (λ apart.
+        ⊎_elim
+        (λ before. absurd (g.addresses i j n (omega (arith, before, apart.1)) h.1 (here ∙ sym there)))
+        (λ after. absurd (g.addresses j i n (omega (arith, after, apart.1)) r.place.low (there ∙ sym here)))
+        (order i j))
+        (eqb_tells i j)
+
+exactly : (names : List NameView) → AreGiven names → (n : NameView) → Contains (by_address names) n ↔ Contains names n
+unfolding by_address
+exactly names g n = (
+  λ h. subst (Contains names) h.2 (all_from (Contains names) (named_at names) 0 0x1_0000 (λ b x low is. let r = (named_place names b x is).place in (r.index, r.low, r.is x)) h.0 n h.1),
+  λ h.
+      let given : IsName n = subst IsName h.2 (g.each h.0 n h.1) in
+      in_from (named_at names) 0 0x1_0000 n.address n (omega arith) (omega (arith, given.room, given.sized)) (found_itself names n g h),
+)
+
+pub names_given : NamesGiven
+names_given o bytes info i =
+    let formed : GroupsFormed i.groups = subst GroupsFormed i.accepts.of (groups_formed o i.accepts.spelling (tokens_of 1 bytes).tokens i.accepts.spelled) in
+    let given = accepted_given i.groups i.accepts.keeps formed in
+    rw i.says (sorted_names (names_said i.groups) given, exactly (names_said i.groups) given)

@@ -1,0 +1,262 @@
+-- Looking for a name among entries by address.
+use Rattle.std.proofs.Common.{◌≡◌, ◌∙◌, ℕ, zero, suc, ◌+◌, ◌-◌, ◌<◌, ◌≤◌, ◌&&◌, Bool, true, false, List, [], length, get_or, map, refl, if◌then◌else◌, ap, sym, append_assoc, ap₂, arith, ⊎_elim, add-one, drop, length-append, length-drop, option_map, subst, take, ◌∷◌, ◌++◌}
+use Rattle.std.specs.Prelude.{IfSome, Option, None, Some, nat_le, nat_lt}
+use Rattle.std.proofs.lemmas.List.{append-nil, drop-append-le, drop_at, get_or-map, get_or_append_left, get_or_at, length-map, map-append, take-append-le, take_at}
+use Rattle.std.proofs.lemmas.Bool.{false≢true}
+use Rattle.std.proofs.lemmas.Bool.Decides.{eqb_tells, nat_tests}
+use Rattle.info65.specs.Code.Pool.{AreAbove, IsPool, IsWithin, ReachTo, blank_entry, bytes_of, entry_seen, optional, reach_of, rest_after, span_of}
+use Rattle.info65.specs.Names.{AreNames, blank_name, covering, covering_below, covers, name_at}
+use Rattle.info65.specs.Views.{NameView}
+use Rattle.info65.specs.declared.pool.Entry.{Entry}
+use Rattle.info65.specs.declared.pool.Span.{Span}
+use Rattle.info65.proofs.Accepting.{by_test}
+
+pub seen_at : (pool : List ℕ) (es : List Entry) (i : ℕ) (d : Entry) → i < length es → name_at (map (entry_seen pool) es) i ≡ entry_seen pool (get_or es i d)
+seen_at pool es i d below = get_or-map (entry_seen pool) es i d blank_name below
+
+below_suc : (names : List NameView) (i a : ℕ) → covering_below names (i + 1) a ≡ (if covers (name_at names i) a then Some (name_at names i) else covering_below names i a)
+unfolding covering_below
+below_suc names i a = rw add-one refl
+
+pub below_hit : (names : List NameView) (n i a : ℕ) (v : NameView) → n ≡ i + 1 → name_at names i ≡ v → covers v a ≡ true → covering_below names n a ≡ Some v
+below_hit names n i a v is at hit = rw is (below_suc names i a ∙ rw (at, hit) refl)
+
+pub below_miss : (names : List NameView) (n i a : ℕ) (v : NameView) → n ≡ i + 1 → name_at names i ≡ v → covers v a ≡ false → covering_below names n a ≡ covering_below names i a
+below_miss names n i a v is at miss = rw is (below_suc names i a ∙ rw (at, miss) refl)
+
+pub below_none : (names : List NameView) (n a : ℕ) → n ≡ 0 → covering_below names n a ≡ None
+unfolding covering_below
+below_none names n a is = rw is refl
+
+covering_all : (pool : List ℕ) (es : List Entry) (n a : ℕ) → n ≡ length es → covering_below (map (entry_seen pool) es) n a ≡ covering (map (entry_seen pool) es) a
+unfolding covering
+covering_all pool es n a is = ap (λ m. covering_below (map (entry_seen pool) es) m a) (is ∙ sym (length-map es (entry_seen pool)))
+
+-- ---- where to begin
+
+pub above_none : (es : List Entry) (n a : ℕ) → length es ≤ n → AreAbove es n a
+above_none es n a past = record { each = λ i low high. absurd (omega arith) }
+
+pub above_middle : (pool : List ℕ) (es : List Entry) (n a : ℕ) → AreNames (map (entry_seen pool) es) → n < length es → a < (get_or es n blank_entry).address → AreAbove es n a
+above_middle pool es n a names below is = record {
+  each = λ i low high.
+      ⊎_elim
+      (λ same. let at = ap (λ (k : ℕ). (get_or es k blank_entry).address) same.1 in omega (arith, at, is))
+      (λ other.
+      let long = length-map es (entry_seen pool) in
+      let first = ap (λ (v : NameView). v.address) (seen_at pool es n blank_entry below) in
+      let then_it = ap (λ (v : NameView). v.address) (seen_at pool es i blank_entry high) in
+      let rise = names.rising n i blank_name (omega (arith, other.1)) (omega (arith, long)) in
+      omega (arith, first, then_it, rise, is))
+      (eqb_tells i n);
+}
+
+missed : (x y : Bool) → x ≡ false → (x && y) ≡ false
+missed true y is = absurd (false≢true (sym is))
+missed false y is = refl
+
+below_rest : (pool : List ℕ) (es : List Entry) (n a d : ℕ) → AreAbove es n a → n + d ≤ length es → covering_below (map (entry_seen pool) es) (n + d) a ≡ covering_below (map (entry_seen pool) es) n a
+below_rest pool es n a zero above le = let place : n + 0 ≡ n = omega arith in ap (λ (k : ℕ). covering_below (map (entry_seen pool) es) k a) place
+below_rest pool es n a (suc d) above le =
+    let v : NameView = entry_seen pool (get_or es (n + d) blank_entry) in
+    let late = above.each (n + d) (omega arith) (omega arith) in
+    let early : nat_le v.address a ≡ false = grind (arith, nat_tests) in
+    below_miss (map (entry_seen pool) es) (n + suc d) (n + d) a v (omega arith) (seen_at pool es (n + d) blank_entry (omega arith)) (missed (nat_le v.address a) (nat_lt a (v.address + v.size)) early)
+    ∙ below_rest pool es n a d above (omega arith)
+
+pub covering_rest : (pool : List ℕ) (es : List Entry) (n a : ℕ) → AreAbove es n a → n ≤ length es → covering_below (map (entry_seen pool) es) n a ≡ covering (map (entry_seen pool) es) a
+covering_rest pool es n a above le =
+    let place : n + (length es - n) ≡ length es = omega arith in
+    sym (below_rest pool es n a (length es - n) above (omega arith)) ∙ covering_all pool es (n + (length es - n)) a place
+
+-- ---- entries that are passed over
+
+below_skip : (names : List NameView) (n a d : ℕ) → ((i : ℕ) → n ≤ i → i < n + d → covers (name_at names i) a ≡ false) → covering_below names (n + d) a ≡ covering_below names n a
+below_skip names n a zero miss = let place : n + 0 ≡ n = omega arith in ap (λ (k : ℕ). covering_below names k a) place
+below_skip names n a (suc d) miss =
+    below_miss names (n + suc d) (n + d) a (name_at names (n + d)) (omega arith) refl (miss (n + d) (omega arith) (omega arith))
+    ∙ below_skip names n a d (λ i low high. miss i low (omega arith))
+
+ended : (low reach : ℕ) (a : ℕ) → reach ≤ a → (nat_le low a && nat_lt a reach) ≡ false
+ended low reach a past = let no_more : nat_lt a reach ≡ false = grind (arith, nat_tests) in off (nat_le low a) (nat_lt a reach) no_more where
+  off : (x y : Bool) → y ≡ false → (x && y) ≡ false
+  off true y is = is
+  off false y is = refl
+
+past_end : (low reach a : ℕ) → (nat_le low a && nat_lt a reach) ≡ false → nat_le low a ≡ true → reach ≤ a
+past_end low reach a is begun = let late : nat_lt a reach ≡ false = rw begun at is in grind (arith, nat_tests)
+
+pub rest_low : (pool : List ℕ) (es : List Entry) (i a : ℕ) → IsPool pool es → i < length es → rest_after (get_or es i blank_entry) i a ≤ i
+rest_low pool es i a pooled below = chosen (nat_le (get_or es i blank_entry).address a) (get_or es i blank_entry).before (pooled.low i below) where
+  chosen : (b : Bool) (n : ℕ) → n ≤ i → (if b then n else i) ≤ i
+  chosen true n low = low
+  chosen false n low = omega arith
+
+pub rest_same : (pool : List ℕ) (es : List Entry) (i a : ℕ) → IsPool pool es → i < length es → covers (entry_seen pool (get_or es i blank_entry)) a ≡ false → covering_below (map (entry_seen pool) es) i a ≡ covering_below (map (entry_seen pool) es) (rest_after (get_or es i blank_entry) i a) a
+rest_same pool es i a pooled below miss =
+    let e = get_or es i blank_entry in
+    let names = map (entry_seen pool) es in
+    let m : ℕ = e.before in
+    by_test (nat_le e.address a)
+    (λ begun.
+    let low = pooled.low i below in
+    let place : m + (i - m) ≡ i = omega (arith, low) in
+    let past = past_end e.address (e.address + e.size) a miss begun in
+    let skip : covering_below names (m + (i - m)) a ≡ covering_below names m a = below_skip names m a (i - m) (λ j from upto.
+    let f = get_or es j blank_entry in
+    let lt : j < i = omega (arith, low) in
+    let reach = pooled.links i j below from lt in
+    let here : j < length es = omega (arith, lt) in
+    ap (λ (v : NameView). covers v a) (seen_at pool es j blank_entry here) ∙ ended f.address (f.address + f.size) a (omega (arith, reach, past)))
+    in
+    rw begun (sym (ap (λ (k : ℕ). covering_below names k a) place) ∙ skip))
+    (λ later. rw later refl)
+
+-- ---- no names
+
+no_names : AreNames []
+no_names = record {
+  each = λ k d l. absurd (omega (arith, l));
+  rising = λ i j d lt l. absurd (omega (arith, l));
+  distinct = λ i j d lt l. absurd (omega (arith, l));
+}
+
+pub none_named : (pool : List ℕ) (es : List Entry) → es ≡ [] → AreNames (map (entry_seen pool) es)
+none_named pool es is = rw is no_names
+
+no_pool : (pool : List ℕ) → IsPool pool []
+no_pool pool = record {
+  texts = λ i l. absurd (omega (arith, l));
+  comments = λ i l. absurd (omega (arith, l));
+  low = λ i l. absurd (omega (arith, l));
+  links = λ i j l. absurd (omega (arith, l));
+}
+
+pub none_pooled : (pool : List ℕ) (es : List Entry) → es ≡ [] → IsPool pool es
+none_pooled pool es is = rw is (no_pool pool)
+
+-- ---- one name more
+
+bytes_grow : (pool more : List ℕ) (s : Span) → IsWithin pool s → bytes_of (pool ++ more) s ≡ bytes_of pool s
+bytes_grow pool more s h =
+    let low : s.first ≤ length pool = omega (arith, h) in
+    let rest : s.size ≤ length (drop s.first pool) = omega (arith, h, length-drop s.first pool) in
+    ap (take s.size) (drop-append-le s.first pool more low) ∙ take-append-le s.size (drop s.first pool) more rest
+
+pub bytes_added : (pool text : List ℕ) → bytes_of (pool ++ text) (span_of pool text) ≡ text
+bytes_added pool text = ap (take (length text)) (drop_at pool text (length pool) refl) ∙ take_all text
+  where
+    take_all : (xs : List ℕ) → take (length xs) xs ≡ xs
+    take_all xs = ap (take (length xs)) (sym (append-nil xs)) ∙ take_at xs [] (length xs) refl
+
+within_grow : (pool more : List ℕ) (s : Span) → IsWithin pool s → IsWithin (pool ++ more) s
+within_grow pool more s h = omega (arith, h, length-append pool more)
+
+comment_grow : (pool more : List ℕ) (s : Option Span) → IfSome s (IsWithin pool) → IfSome s (IsWithin (pool ++ more))
+comment_grow pool more None h = tt
+comment_grow pool more (Some s) h = within_grow pool more s h
+
+pub pool_grows : (pool more : List ℕ) (es : List Entry) → IsPool pool es → IsPool (pool ++ more) es
+pool_grows pool more es p = record {
+  texts = λ i l. within_grow pool more (get_or es i blank_entry).text (p.texts i l);
+  comments = λ i l. comment_grow pool more (get_or es i blank_entry).comment (p.comments i l);
+  low = p.low;
+  links = p.links;
+}
+
+comment_seen : (pool more : List ℕ) (s : Option Span) → IfSome s (IsWithin pool) → option_map (bytes_of (pool ++ more)) s ≡ option_map (bytes_of pool) s
+comment_seen pool more None h = refl
+comment_seen pool more (Some s) h = ap (λ (t : List ℕ). Some t) (bytes_grow pool more s h)
+
+entry_grows : (pool more : List ℕ) (e : Entry) → IsWithin pool e.text → IfSome e.comment (IsWithin pool) → entry_seen (pool ++ more) e ≡ entry_seen pool e
+entry_grows pool more e t c = ap₂ (λ (x : List ℕ) (y : Option (List ℕ)). record { address = e.address; size = e.size; text = x; comment = y }) (bytes_grow pool more e.text t) (comment_seen pool more e.comment c)
+
+-- all entries are seen as before
+seen_grows : (pool more : List ℕ) (es : List Entry) → ((i : ℕ) → i < length es → IsWithin pool (get_or es i blank_entry).text × IfSome (get_or es i blank_entry).comment (IsWithin pool)) → map (entry_seen (pool ++ more)) es ≡ map (entry_seen pool) es
+seen_grows pool more [] h = refl
+seen_grows pool more (e ∷ es) h =
+    let first = h 0 (omega arith) in
+    ap₂ (λ (x : NameView) (xs : List NameView). x ∷ xs) (entry_grows pool more e first.0 first.1) (seen_grows pool more es (λ i l. h (suc i) (omega (arith, l))))
+
+record IsAdded (pool after : List ℕ) (es : List Entry) (e : Entry) : Type 0 where
+  text : IsWithin after e.text
+  comment : IfSome e.comment (IsWithin after)
+  low : e.before ≤ length es
+  reach : ReachTo es e.before (reach_of e)
+
+pool_more : (pool : List ℕ) (es : List Entry) (e : Entry) → IsPool pool es → IsAdded pool pool es e → IsPool pool (es ++ e ∷ [])
+pool_more pool es e p a =
+    let long : length (es ++ e ∷ []) ≡ length es + 1 = length-append es (e ∷ []) in
+    record {
+      texts = λ i l. last_or (λ x. IsWithin pool x.text) i (omega (arith, l, long)) (p.texts i) a.text;
+      comments = λ i l. last_or (λ x. IfSome x.comment (IsWithin pool)) i (omega (arith, l, long)) (p.comments i) a.comment;
+      low = λ i l.
+          ⊎_elim
+          (λ last. let at = get_or_at es e [] blank_entry i (sym last.1) in let b = ap (λ (x : Entry). x.before) at in omega (arith, b, a.low, last.1))
+          (λ other. let here : i < length es = omega (arith, l, long, other.1) in let b = ap (λ (x : Entry). x.before) (get_or_append_left es (e ∷ []) blank_entry i here) in omega (arith, b, p.low i here))
+          (eqb_tells i (length es));
+      links = λ i j l from below.
+          let there : j < length es = omega (arith, l, long, below) in
+          let f = ap (λ (x : Entry). reach_of x) (get_or_append_left es (e ∷ []) blank_entry j there) in
+          ⊎_elim
+          (λ last.
+          let at = get_or_at es e [] blank_entry i (sym last.1) in
+          let b = ap (λ (x : Entry). x.before) at in
+          let r = ap (λ (x : Entry). reach_of x) at in
+          omega (arith, f, r, a.reach j (omega (arith, b, from)) there))
+          (λ other.
+          let here : i < length es = omega (arith, l, long, other.1) in
+          let at = get_or_append_left es (e ∷ []) blank_entry i here in
+          let b = ap (λ (x : Entry). x.before) at in
+          let r = ap (λ (x : Entry). reach_of x) at in
+          omega (arith, f, r, p.links i j here (omega (arith, b, from)) below))
+          (eqb_tells i (length es));
+    }
+  where
+    last_or : (P : Entry → Type 0) (i : ℕ) → i < length es + 1 → (i < length es → P (get_or es i blank_entry)) → P e → P (get_or (es ++ e ∷ []) i blank_entry)
+    last_or P i l old new =
+        ⊎_elim
+        (λ last. subst P (sym (get_or_at es e [] blank_entry i (sym last.1))) new)
+        (λ other. let here : i < length es = omega (arith, l, other.1) in subst P (sym (get_or_append_left es (e ∷ []) blank_entry i here)) (old here))
+        (eqb_tells i (length es))
+
+-- an entry whose bytes are put at the end of the pool
+pub record IsPut (pool after : List ℕ) (es : List Entry) (e : Entry) (n : NameView) : Type 0 where
+  pub bytes : after ≡ (pool ++ n.text) ++ optional n.comment
+  pub address : e.address ≡ n.address
+  pub size : e.size ≡ n.size
+  pub text : e.text ≡ span_of pool n.text
+  pub comment : e.comment ≡ option_map (span_of (pool ++ n.text)) n.comment
+  pub low : e.before ≤ length es
+  pub reach : ReachTo es e.before (reach_of e)
+
+span_within : (pool text : List ℕ) → IsWithin (pool ++ text) (span_of pool text)
+span_within pool text = omega (arith, length-append pool text)
+
+comment_within : (pool : List ℕ) (c : Option (List ℕ)) → IfSome (option_map (span_of pool) c) (IsWithin (pool ++ optional c))
+comment_within pool None = tt
+comment_within pool (Some t) = span_within pool t
+
+comment_put : (pool : List ℕ) (c : Option (List ℕ)) → option_map (bytes_of (pool ++ optional c)) (option_map (span_of pool) c) ≡ c
+comment_put pool None = refl
+comment_put pool (Some t) = ap (λ (x : List ℕ). Some x) (bytes_added pool t)
+
+pub put_pooled : (pool after : List ℕ) (es : List Entry) (e : Entry) (n : NameView) → IsPool pool es → IsPut pool after es e n → IsPool after (es ++ e ∷ [])
+put_pooled pool after es e n p a =
+    let both : (pool ++ n.text) ++ optional n.comment ≡ pool ++ (n.text ++ optional n.comment) = append_assoc pool n.text (optional n.comment) in
+    let grown : IsPool after es = subst (λ x. IsPool x es) (sym (a.bytes ∙ both)) (pool_grows pool (n.text ++ optional n.comment) es p) in
+    pool_more after es e grown (record {
+      text = rw (a.bytes, a.text) (within_grow (pool ++ n.text) (optional n.comment) (span_of pool n.text) (span_within pool n.text));
+      comment = rw (a.bytes, a.comment) (comment_within (pool ++ n.text) n.comment);
+      low = a.low;
+      reach = a.reach;
+    })
+
+pub put_seen : (pool after : List ℕ) (es : List Entry) (e : Entry) (n : NameView) → IsPool pool es → IsPut pool after es e n → map (entry_seen after) (es ++ e ∷ []) ≡ map (entry_seen pool) es ++ n ∷ []
+put_seen pool after es e n p a =
+    let both : (pool ++ n.text) ++ optional n.comment ≡ pool ++ (n.text ++ optional n.comment) = append_assoc pool n.text (optional n.comment) in
+    let old : map (entry_seen after) es ≡ map (entry_seen pool) es = ap (λ x. map (entry_seen x) es) (a.bytes ∙ both) ∙ seen_grows pool (n.text ++ optional n.comment) es (λ i l. (p.texts i l, p.comments i l)) in
+    let text : bytes_of after e.text ≡ n.text = ap₂ bytes_of a.bytes a.text ∙ bytes_grow (pool ++ n.text) (optional n.comment) (span_of pool n.text) (span_within pool n.text) ∙ bytes_added pool n.text in
+    let comment : option_map (bytes_of after) e.comment ≡ n.comment = ap₂ (λ x y. option_map (bytes_of x) y) a.bytes a.comment ∙ comment_put (pool ++ n.text) n.comment in
+    let new : entry_seen after e ≡ n = rw (a.address, a.size, text, comment) refl in
+    map-append (entry_seen after) es (e ∷ []) ∙ ap₂ (λ (xs : List NameView) (x : NameView). xs ++ x ∷ []) old new

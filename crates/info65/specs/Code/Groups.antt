@@ -1,0 +1,22 @@
+-- What contracts see of groups: names as lists of bytes.
+use Rattle.std.specs.Prelude.{map}
+use Rattle.info65.specs.Values.{ValueView, a_name, a_number, an_address, a_boolean, a_cpu, a_type}
+use Rattle.info65.specs.Groups.{AssignmentView, GroupView}
+use Rattle.info65.specs.declared.assignment.Value.{Value}
+use Rattle.info65.specs.declared.assignment.Value.TheVariants as value
+use Rattle.info65.specs.declared.assignment.Assignment.{Assignment}
+use Rattle.info65.specs.declared.assignment.Group.{Group}
+
+abbrev pub value_seen : Value → ValueView
+value_seen (value.Name text) = a_name text.now
+value_seen (value.Number n) = a_number n
+value_seen (value.Address n) = an_address n
+value_seen (value.Cpu c) = a_cpu c
+value_seen (value.Boolean b) = a_boolean b
+value_seen (value.Role r) = a_type r
+
+abbrev pub assignment_seen : Assignment → AssignmentView
+assignment_seen g = record { attribute = g.attribute; value = value_seen g.value }
+
+abbrev pub group_seen : {Z : Type 0} → Group Z → GroupView
+group_seen g = record { kind = g.kind; given = map assignment_seen g.given.items }

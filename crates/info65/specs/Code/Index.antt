@@ -1,0 +1,42 @@
+-- The index of closed groups: what answers for ranges and names without reading the groups again.
+use Rattle.std.specs.Prelude.{◌≡◌, ◌≢◌, ◌≤◌, ◌<◌, ◌+◌, ◌||◌, ℕ, zero, suc, Bool, false, List, Option, All, AllPairs, get_or, length, option_map}
+use Rattle.std.specs.BTreeMap as tree
+use Rattle.std.specs.Cmp.Lexicographic.{slice_cmp}
+use Rattle.std.specs.List.{find, list_any}
+use Rattle.std.specs.Ordering.{nat_cmp}
+use Rattle.std.specs.Str.{bytes_eq}
+use Rattle.info65.specs.Code.Names.{given_seen}
+use Rattle.info65.specs.Groups.{GroupView}
+use Rattle.info65.specs.Labels.{named_at, names_said}
+use Rattle.info65.specs.Ranges.{has_address, ranges_of}
+use Rattle.info65.specs.Views.{NameView}
+use Rattle.info65.specs.declared.index.Index.{Index}
+use Rattle.info65.specs.declared.name.Given.{Given}
+use Rattle.info65.specs.declared.range.RangeSpec.{RangeSpec}
+
+-- the first of the names that has this text
+abbrev pub text_at : List NameView → List ℕ → Option NameView
+text_at names t = find (λ n. bytes_eq t n.text) names
+
+-- one of so many cells from this one on is set
+unfoldable pub any_in : List Bool → ℕ → ℕ → Bool
+any_in table first zero = false
+any_in table first (suc n) = get_or table first false || any_in table (first + 1) n
+
+-- The cells say which addresses belong to a range, `found` has the name of each address and `stands` the
+-- address of each text.
+pub record IsIndex (ranges : List RangeSpec) (names : List NameView) (table : List Bool) (found : ℕ → Option Given) (stands : List ℕ → Option ℕ) : Type 0 where
+  pub ordered : All (λ r. r.first ≤ r.last) ranges
+  pub size : length table ≡ 0x1_0000
+  pub ranged : (a : ℕ) → a < 0x1_0000 → get_or table a false ≡ list_any (λ r. has_address r a) ranges
+  pub distinct : AllPairs (λ n m. n.text ≢ m.text) names
+  pub addresses : (a : ℕ) → option_map given_seen (found a) ≡ named_at names a
+  pub texts : (t : List ℕ) → stands t ≡ option_map (λ n. n.address) (text_at names t)
+
+-- the index is that of these ranges and names
+abbrev pub Indexes : {Z : Type 0} → List RangeSpec → List NameView → Index Z → Type 0
+Indexes ranges names i = IsIndex ranges names i.ranged.items (λ a. tree.get nat_cmp i.by_address a) (λ t. tree.get_by (λ k. slice_cmp nat_cmp t k.now) i.by_text)
+
+-- the index is that of what these groups say
+abbrev pub IndexesGroups : {Z : Type 0} → List GroupView → Index Z → Type 0
+IndexesGroups groups i = Indexes (ranges_of groups) (names_said groups) i

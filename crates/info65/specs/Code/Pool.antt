@@ -1,0 +1,57 @@
+-- Names as an `Info` keeps them: entries by address, whose texts stand in one pool of bytes.
+use Rattle.std.specs.Prelude.{◌+◌, ◌≤◌, ◌<◌, ◌&&◌, ℕ, Bool, List, [], Option, None, Some, IfSome, drop, get_or, length, nat_le, nat_lt, option_map, take, if◌then◌else◌}
+use Rattle.info65.specs.Views.{NameView}
+use Rattle.info65.specs.declared.pool.Entry.{Entry}
+use Rattle.info65.specs.declared.pool.Span.{Span}
+
+-- the bytes of the pool that a span is for
+abbrev pub bytes_of : List ℕ → Span → List ℕ
+bytes_of pool s = take s.size (drop s.first pool)
+
+abbrev pub entry_seen : List ℕ → Entry → NameView
+entry_seen pool e = record { address = e.address; size = e.size; text = bytes_of pool e.text; comment = option_map (bytes_of pool) e.comment }
+
+-- where bytes are that are appended to these
+abbrev pub span_of : List ℕ → List ℕ → Span
+span_of pool text = record { first = length pool; size = length text }
+
+-- the bytes, or none
+abbrev pub optional : Option (List ℕ) → List ℕ
+optional None = []
+optional (Some text) = text
+
+abbrev pub blank_span : Span
+blank_span = record { first = 0; size = 0 }
+
+abbrev pub blank_entry : Entry
+blank_entry = record { address = 0; size = 0; text = blank_span; comment = None; before = 0 }
+
+-- the address after the last that the entry is for
+abbrev pub reach_of : Entry → ℕ
+reach_of e = e.address + e.size
+
+abbrev pub IsWithin : List ℕ → Span → Type 0
+IsWithin pool s = s.first + s.size ≤ length pool
+
+-- the entries from this one on reach no further than so far
+abbrev pub ReachTo : List Entry → ℕ → ℕ → Type 0
+ReachTo entries first reach = (j : ℕ) → first ≤ j → j < length entries → reach_of (get_or entries j blank_entry) ≤ reach
+
+-- Each entry's bytes lie in the pool, and no entry from its link on up to it reaches further than it does.
+pub record IsPool (pool : List ℕ) (entries : List Entry) : Type 0 where
+  pub texts : (i : ℕ) → i < length entries → IsWithin pool (get_or entries i blank_entry).text
+  pub comments : (i : ℕ) → i < length entries → IfSome (get_or entries i blank_entry).comment (IsWithin pool)
+  pub low : (i : ℕ) → i < length entries → (get_or entries i blank_entry).before ≤ i
+  pub links : (i j : ℕ) → i < length entries → (get_or entries i blank_entry).before ≤ j → j < i → reach_of (get_or entries j blank_entry) ≤ reach_of (get_or entries i blank_entry)
+
+-- the entries from the n-th on have addresses above this one
+pub record AreAbove (entries : List Entry) (n address : ℕ) : Type 0 where
+  pub each : (i : ℕ) → n ≤ i → i < length entries → address < (get_or entries i blank_entry).address
+
+-- the address is one of those that the entry is for
+abbrev pub entry_covers : Entry → ℕ → Bool
+entry_covers e a = nat_le e.address a && nat_lt a (reach_of e)
+
+-- how many entries are still to be looked at after the left-th, which does not cover the address
+abbrev pub rest_after : Entry → ℕ → ℕ → ℕ
+rest_after e left a = if nat_le e.address a then e.before else left

@@ -1,0 +1,84 @@
+-- Names of addresses: their form, which of them are reserved, which addresses a name is for, and what
+-- holds of all names of an information file.
+use Rattle.std.specs.Prelude.{◌≡◌, ◌≢◌, ◌==◌, ◌+◌, ◌/◌, ◌%◌, ◌<◌, ◌≤◌, ◌&&◌, ◌||◌, ℕ, zero, suc, Bool, true, false, not, List, [], ◌∷◌, Option, Some, None, All, AllPairs, codes, drop, get_or, is_some, length, nat_le, nat_lt, slice_index, if◌then◌else◌}
+use Rattle.std.specs.Char.{is_ascii_alphabetic, is_ascii_alphanumeric}
+use Rattle.std.specs.List.{list_all, list_any}
+use Rattle.std.specs.Str.{bytes_eq, str_eq_ignore_ascii_case}
+use Rattle.isa65.specs.Mnemonic.{mnemonic_named}
+use Rattle.info65.specs.Views.{NameView}
+
+-- ---- the text of a name
+
+-- a letter, a digit or `_`
+abbrev pub is_name_byte : ℕ → Bool
+is_name_byte b = is_ascii_alphanumeric b || b == 95
+
+-- a letter or `_`, then letters, digits and `_`; 80 bytes at most
+unfoldable pub has_name_form : List ℕ → Bool
+has_name_form [] = false
+has_name_form (b ∷ bs) = (is_ascii_alphabetic b || b == 95) && (list_all is_name_byte bs && nat_lt (length bs) 80)
+
+-- a hex digit, with letters in upper case
+abbrev pub hex_digit : ℕ → ℕ
+hex_digit d = if nat_lt d 10 then 48 + d else 55 + d
+
+-- the default name of an address: `L` and four hex digits
+unfoldable pub default_name : ℕ → List ℕ
+default_name a = 76 ∷ hex_digit (a / 4096 % 16) ∷ hex_digit (a / 256 % 16) ∷ hex_digit (a / 16 % 16) ∷ hex_digit (a % 16) ∷ []
+
+-- 0 to 9 or A to F
+abbrev pub is_upper_hex : ℕ → Bool
+is_upper_hex b = (nat_le 48 b && nat_le b 57) || (nat_le 65 b && nat_le b 70)
+
+-- the form of a default name
+unfoldable pub is_like_default : List ℕ → Bool
+is_like_default text = length text == 5 && (slice_index text 0 == 76 && list_all is_upper_hex (drop 1 text))
+
+-- the letters that ca65 takes for a register
+abbrev pub registers : List (List ℕ)
+registers = codes "A" ∷ codes "F" ∷ codes "S" ∷ codes "X" ∷ codes "Y" ∷ codes "Z" ∷ []
+
+-- A name that this address can't have: a register or a mnemonic, in any case, or the default name of
+-- another address.
+unfoldable pub is_reserved : ℕ → List ℕ → Bool
+is_reserved address text =
+    list_any (str_eq_ignore_ascii_case text) registers
+    || (is_some (mnemonic_named text)
+    || (is_like_default text && not (bytes_eq text (default_name address))))
+
+-- ---- the addresses of a name
+
+-- the address is one of those that the name is for: as many as its size, from its own on
+abbrev pub covers : NameView → ℕ → Bool
+covers n a = nat_le n.address a && nat_lt a (n.address + n.size)
+
+abbrev pub blank_name : NameView
+blank_name = record { address = 0; size = 0; text = []; comment = None }
+
+abbrev pub name_at : List NameView → ℕ → NameView
+name_at names i = get_or names i blank_name
+
+-- the last of the first i names that covers the address
+unfoldable pub covering_below : List NameView → ℕ → ℕ → Option NameView
+covering_below names zero a = None
+covering_below names (suc i) a =
+    if covers (name_at names i) a then Some (name_at names i) else covering_below names i a
+
+-- the last name that covers the address; where the names ascend it is the one whose own address is highest
+unfoldable pub covering : List NameView → ℕ → Option NameView
+covering names a = covering_below names (length names) a
+
+-- ---- the names of an information file
+
+-- a name as a file can give it: its addresses end at or below $FFFF, and it is not reserved
+pub record IsName (n : NameView) : Type 0 where
+  pub sized : 1 ≤ n.size
+  pub room : n.address + n.size ≤ 0x1_0000
+  pub form : has_name_form n.text ≡ true
+  pub free : is_reserved n.address n.text ≡ false
+
+-- the names of a file: ascending by address, and no two have one text
+pub record AreNames (names : List NameView) : Type 0 where
+  pub each : All IsName names
+  pub rising : AllPairs (λ n m. n.address < m.address) names
+  pub distinct : AllPairs (λ n m. n.text ≢ m.text) names

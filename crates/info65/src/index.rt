@@ -1,0 +1,227 @@
+//! An index of the ranges and names that closed groups say.
+
+ghost use Rattle.std.specs.Prelude.{◌≡◌, ◌≤◌, ◌<◌, ◌-◌, ◌+◌, ◌++◌, ◌||◌, ◌∷◌, ℕ, IfErr, IfOk, List, MatchResult, None, Ok, [], false, get_or, length, map, option_map, option_to_list};
+ghost use Rattle.std.specs.List.{list_any};
+ghost use Rattle.info65.specs.Closing.{closing_fault, fault_after, label_fault, optional_name_fault, range_fault};
+ghost use Rattle.info65.specs.Code.Groups.{assignment_seen};
+ghost use Rattle.info65.specs.Code.Index.{Indexes, IndexesGroups, any_in};
+ghost use Rattle.info65.specs.Code.Names.{given_seen};
+ghost use Rattle.std.specs.BTreeMap.{get};
+ghost use Rattle.std.specs.Ordering.{nat_cmp};
+ghost use Rattle.info65.specs.Faults.{Gives, out_of_memory};
+ghost use Rattle.info65.specs.Groups.{GroupView};
+ghost use Rattle.info65.specs.Labels.{is_elsewhere, label_in, name_fault, names_from};
+ghost use Rattle.info65.specs.Ranges.{has_address, range_in};
+ghost use Rattle.info65.specs.Reader.{group};
+ghost use Rattle.info65.specs.Views.{NameView};
+ghost use Rattle.info65.specs.declared.range.RangeSpec.{RangeSpec};
+
+use crate::assignment::Assignment;
+use crate::attribute::GroupKind;
+use crate::fault::{InfoFault, InfoFaultKind};
+use crate::label_groups::{label_in, range_name};
+use crate::name::Given;
+use crate::names::is_reserved;
+use crate::pool::Pool;
+use crate::range::RangeSpec;
+use crate::range_groups::range_in;
+use std::alloc::Allocator;
+use std::collections::BTreeMap;
+
+// How many addresses there are.
+const ADDRESSES: usize = 0x1_0000;
+
+/// Where ranges and names of the groups so far are found without reading these again.
+#[derive(Drop)]
+pub struct Index<'a, A: Allocator> {
+    /// For each address, whether it belongs to a range.
+    pub ranged: Vec<bool, A>,
+    /// The names, by their own addresses.
+    pub by_address: BTreeMap<u16, Given<'a>, A>,
+    /// The address of each name, by its text.
+    pub by_text: BTreeMap<&'a [u8], u16, A>,
+}
+
+fn blank_table<A: Allocator>(alloc: A, count: usize) -> Result<Vec<bool, A>, InfoFault>
+    ensures size { IfOk result (λ t. length t.items ≡ count) }
+    ensures blank { IfOk result (λ t. (a : ℕ) → get_or t.items a false ≡ false) }
+    ensures err { IfErr result (λ e. e ≡ out_of_memory) }
+{
+    Ok(vec![in alloc; false; count]?)
+}
+
+// An address of the range is marked.
+fn is_marked(table: &[bool], range: RangeSpec) -> bool
+    requires { length table.now ≡ 0x1_0000 }
+    ensures { result ≡ any_in table.now range.first (range.last + 1 - range.first) }
+{
+    for address in usize::from(range.first)..usize::from(range.last) + 1 {
+        if table[address] {
+            return true;
+        }
+    }
+    false
+}
+
+// Marks the addresses of the range.
+fn mark(table: &mut [bool], range: RangeSpec)
+    requires size { length table.old ≡ 0x1_0000 }
+    requires ordered { range.first ≤ range.last }
+    ensures size { length table.new ≡ length table.old }
+    ensures marked { (a : ℕ) → a < 0x1_0000 → get_or table.new a false ≡ (get_or table.old a false || has_address range a) }
+{
+    for address in usize::from(range.first)..usize::from(range.last) + 1 {
+        table[address] = true;
+    }
+}
+
+impl<'a, A: Allocator + Copy> Index<'a, A> {
+    /// The index of no groups.
+    pub fn new(alloc: A) -> Result<Self, InfoFault>
+        ensures { MatchResult result (λ i. Indexes [] [] i) (λ e. e ≡ out_of_memory) }
+    {
+        let ranged = blank_table(alloc, ADDRESSES)?;
+        let by_address = BTreeMap::new(alloc);
+        let by_text = BTreeMap::new(alloc);
+        Ok(Index {
+            ranged,
+            by_address,
+            by_text,
+        })
+    }
+
+    // The text of the name stands at another address.
+    fn is_elsewhere(&self, name: Given<'a>) -> bool
+        ensures { (ranges : List RangeSpec) (names : List NameView) → Indexes ranges names self.now → result ≡ list_any (is_elsewhere (given_seen name.entry)) names }
+    {
+        match self.by_text.get(&name.text) {
+            Some(address) => *address != name.address,
+            None => false,
+        }
+    }
+
+    // The fault of a name after those of the index.
+    fn name_fault(&self, name: Given<'a>) -> Option<InfoFaultKind>
+        ensures { (ranges : List RangeSpec) (names : List NameView) → Indexes ranges names self.now → result ≡ name_fault names (given_seen name.entry) }
+    {
+        if is_reserved(name.address, name.text) {
+            return Some(InfoFaultKind::ReservedName);
+        }
+        if self.is_elsewhere(name) {
+            return Some(InfoFaultKind::NameTwice);
+        }
+        if self.by_address.contains_key(&name.address) {
+            return Some(InfoFaultKind::AddressTwice);
+        }
+        None
+    }
+
+    fn optional_name_fault(&self, name: Option<Given<'a>>) -> Option<InfoFaultKind>
+        ensures { (ranges : List RangeSpec) (names : List NameView) → Indexes ranges names self.now → result ≡ optional_name_fault names (option_map given_seen name.entry) }
+    {
+        match name {
+            Some(name) => self.name_fault(name),
+            None => None,
+        }
+    }
+
+    fn range_fault(&self, given: &[Assignment<'a>]) -> Option<InfoFaultKind>
+        requires { length self.now.ranged.items ≡ 0x1_0000 }
+        ensures { (ranges : List RangeSpec) (names : List NameView) → Indexes ranges names self.now → result ≡ range_fault ranges names (map assignment_seen given.now) (range_in (map assignment_seen given.now)) }
+    {
+        match range_in(given) {
+            Err(fault) => Some(fault),
+            Ok(range) => {
+                if is_marked(self.ranged.as_slice(), range) {
+                    Some(InfoFaultKind::RangesOverlap)
+                } else {
+                    self.optional_name_fault(range_name(given, range))
+                }
+            }
+        }
+    }
+
+    fn label_fault(&self, given: &[Assignment<'a>]) -> Option<InfoFaultKind>
+        ensures { (ranges : List RangeSpec) (names : List NameView) → Indexes ranges names self.now → result ≡ label_fault names (label_in (map assignment_seen given.now)) }
+    {
+        match label_in(given) {
+            Err(fault) => Some(fault),
+            Ok(name) => self.name_fault(name),
+        }
+    }
+
+    /// The fault of a group at its closing brace, after the groups of the index.
+    #[tactic(auto, unfolding(crate::specs::Closing::fault_after))]
+    pub fn fault_after(&self, kind: GroupKind, given: &[Assignment<'a>]) -> Option<InfoFaultKind>
+        requires { length self.now.ranged.items ≡ 0x1_0000 }
+        ensures { (ranges : List RangeSpec) (names : List NameView) → Indexes ranges names self.now → result ≡ fault_after ranges names kind (map assignment_seen given.now) }
+    {
+        match kind {
+            GroupKind::Global => None,
+            GroupKind::Range => self.range_fault(given),
+            GroupKind::Label => self.label_fault(given),
+        }
+    }
+
+    // Adds a name that has no fault.
+    fn add_name(&mut self, name: Given<'a>) -> Result<(), InfoFault>
+        ensures done { (ranges : List RangeSpec) (names : List NameView) → Indexes ranges names self.old → name_fault names (given_seen name.entry) ≡ None → IfOk result (λ _. Indexes ranges (names ++ given_seen name.entry ∷ []) self.new) }
+        ensures err { IfErr result (λ e. e ≡ out_of_memory) }
+    {
+        self.by_address.insert(name.address, name)?;
+        self.by_text.insert(name.text, name.address)?;
+        Ok(())
+    }
+
+    fn add_optional_name(&mut self, name: Option<Given<'a>>) -> Result<(), InfoFault>
+        ensures done { (ranges : List RangeSpec) (names : List NameView) → Indexes ranges names self.old → optional_name_fault names (option_map given_seen name.entry) ≡ None → IfOk result (λ _. Indexes ranges (names ++ option_to_list (option_map given_seen name.entry)) self.new) }
+        ensures err { IfErr result (λ e. e ≡ out_of_memory) }
+    {
+        match name {
+            Some(name) => self.add_name(name),
+            None => Ok(()),
+        }
+    }
+
+    // Adds a range that overlaps none.
+    fn add_range(&mut self, range: RangeSpec)
+        requires size { length self.old.ranged.items ≡ 0x1_0000 }
+        requires ordered { range.first ≤ range.last }
+        ensures { (ranges : List RangeSpec) (names : List NameView) → Indexes ranges names self.old → Indexes (ranges ++ range ∷ []) names self.new }
+    {
+        mark(self.ranged.as_mut_slice(), range);
+    }
+
+    /// Adds what a group says that has no fault.
+    pub fn add(&mut self, kind: GroupKind, given: &[Assignment<'a>]) -> Result<(), InfoFault>
+        requires { length self.old.ranged.items ≡ 0x1_0000 }
+        ensures done { (before : List GroupView) → IndexesGroups before self.old → closing_fault before kind (map assignment_seen given.now) ≡ None → IfOk result (λ _. IndexesGroups (before ++ group kind (map assignment_seen given.now) ∷ []) self.new) }
+        ensures err { IfErr result (λ e. e ≡ out_of_memory) }
+    {
+        match kind {
+            GroupKind::Global => Ok(()),
+            GroupKind::Range => match range_in(given) {
+                Ok(range) => {
+                    self.add_range(range);
+                    self.add_optional_name(range_name(given, range))
+                }
+                Err(_) => Ok(()),
+            },
+            GroupKind::Label => match label_in(given) {
+                Ok(name) => self.add_name(name),
+                Err(_) => Ok(()),
+            },
+        }
+    }
+
+    /// The names, by address.
+    pub fn names(&self, alloc: A) -> Result<Pool<A>, InfoFault>
+        ensures { Gives (λ p. p) result (Ok (names_from (λ a. option_map given_seen (get nat_cmp self.now.by_address a)) 0 0x1_0000)) }
+    {
+        let mut names = Pool::new(alloc);
+        for address in 0..ADDRESSES {
+            names = names.with_optional(self.by_address.get(&(address as u16)))?;
+        }
+        Ok(names)
+    }
+}

@@ -1,0 +1,294 @@
+-- The laws of base names.
+use Rattle.std.proofs.Common.{◌≡◌, ◌≢◌, ◌∙◌, ◌⊎◌, inl, inr, ℕ, zero, suc, ◌+◌, ◌-◌, ◌*◌, ◌/◌, ◌%◌, ◌<◌, ◌≤◌, ◌&&◌, ◌||◌, ◌==◌, Bool, true, false, not, List, ◌∷◌, Option, Some, None, length, get_or, nat_le, nat_lt, is_some, refl, ap, ap₂, sym, subst, arith, ⊎_elim}
+use Rattle.std.specs.Str.{bytes_eq}
+use Rattle.std.proofs.lemmas.Slice.Eq.{bytes_eq-Decides}
+use Rattle.std.proofs.lemmas.Bool.{and_from, and_parts, both_ways, cases_Bool, cases_eq, cases_lt, cond_both, eq-eqb, eqb-true, false≢true, le-leb, lt-ltb, ltb-false, ne_eqb}
+use Rattle.std.proofs.lemmas.Bool.Decides.{nat_tests}
+use Rattle.std.specs.List.{list_any}
+use Rattle.std.specs.Str.{str_eq_ignore_ascii_case}
+use Rattle.isa65.specs.Mnemonic.{mnemonic_named}
+use Rattle.info65.specs.Names.{AreNames, blank_name, covering, covers, default_name, hex_digit, is_like_default, is_reserved, is_upper_hex, name_at, registers}
+use Rattle.info65.specs.Views.{NameView}
+use Rattle.info65.specs.declared.range.RangeType.{RangeType}
+use Rattle.info65.specs.declared.range.RangeType.TheVariants.{Code, ByteTable, WordTable, DbyteTable, AddrTable, RtsTable, TextTable, Skip}
+use Rattle.map65.proofs.ItemLaws.{Begun, begun, item_law}
+use Rattle.map65.proofs.ItemLemmas.{is_cut_at, joined-uncut}
+use Rattle.map65.proofs.NameLemmas.{Last, base-covered, base-wanted, home-default, home-given, last-name, name-low, none-covers, not-some}
+use Rattle.map65.proofs.NameLaws.{Under, home-cases, home-home, home-inner, home-low, home-wanted, inside-if, inside-parts, under, wide-shown}
+use Rattle.map65.proofs.PieceLaws.{own-some}
+use Rattle.map65.specs.Bases.{BaseLaw, IsInCode, IsOutside, PlaceLaw}
+use Rattle.map65.specs.ImageView.{byte_at, end_of, is_inside}
+use Rattle.map65.specs.Items.{item_len, size_at, size_for, wanted_at}
+use Rattle.map65.specs.MapView.{MapView}
+use Rattle.map65.specs.Names.{Base, IsInner, base_at, base_by, base_or, default_base, given_base, home, home_base, is_wanted, place_in, place_of}
+use Rattle.map65.specs.Pieces.{are_joined, is_joined, is_own}
+use Rattle.map65.specs.Roles.{is_skip, is_wide, role_at, role_of, unit_of}
+use Rattle.map65.specs.declared.name.Place.TheVariants.{Constant, Forward, Label}
+
+-- ---- where a base comes from
+
+-- from a name that is given
+pub record FromName (m : MapView) (a : ℕ) (b : Base) : Type 0 where
+  pub at : ℕ
+  pub low : at ≤ a
+  pub name : NameView
+  pub covers_it : covering m.info.names at ≡ Some name
+  pub is : b ≡ given_base name
+
+-- or from an address that is wanted
+pub record FromAddress (m : MapView) (a : ℕ) (b : Base) : Type 0 where
+  pub at : ℕ
+  pub low : at ≤ a
+  pub none : covering m.info.names at ≡ None
+  pub wanted : is_wanted m at ≡ true
+  pub home_is : home m at ≡ at
+  pub is : b ≡ default_base at
+
+some-base : (b c : Base) → Some b ≡ Some c → b ≡ c
+some-base b c is = cc
+
+not-base : (b : Base) → None ≡ Some b → ⊥
+not-base b is = cc
+
+from-home : (m : MapView) (a : ℕ) (b : Base) → is_wanted m a ≡ true → home_base m a ≡ b → (o : Option NameView) → covering m.info.names (home m a) ≡ o → FromName m a b ⊎ FromAddress m a b
+from-home m a b wanted is (Some v) covers_it = inl (record { at = home m a; low = home-low m a; name = v; covers_it = covers_it; is = sym is ∙ home-given m a v covers_it })
+from-home m a b wanted is None none = inr (record { at = home m a; low = home-low m a; none = none; wanted = home-wanted m a wanted; home_is = home-home m a; is = sym is ∙ home-default m a none })
+
+from : (m : MapView) (a : ℕ) (b : Base) (o : Option NameView) (w : Bool) → covering m.info.names a ≡ o → is_wanted m a ≡ w → base_by o w (home_base m a) ≡ Some b → FromName m a b ⊎ FromAddress m a b
+from m a b (Some v) w covers_it wanted is = inl (record { at = a; low = omega arith; name = v; covers_it = covers_it; is = sym (some-base _ b is) })
+from m a b None true none wanted is = from-home m a b wanted (some-base _ b is) (covering m.info.names (home m a)) refl
+from m a b None false none wanted is = absurd (not-base b is)
+
+source : (m : MapView) (a : ℕ) (b : Base) → base_at m a ≡ Some b → FromName m a b ⊎ FromAddress m a b
+unfolding base_at
+source m a b is = from m a b (covering m.info.names a) (is_wanted m a) refl refl is
+
+base-low : (m : MapView) (a : ℕ) (b : Base) → base_at m a ≡ Some b → b.address ≤ a
+base-low m a b is =
+    ⊎_elim
+    (λ n. omega (arith, ap (λ (x : Base). x.address) n.is, name-low m.info.names n.at n.name n.covers_it, n.low))
+    (λ d. omega (arith, ap (λ (x : Base). x.address) d.is, d.low))
+    (source m a b is)
+
+-- ---- a base names its own address
+
+covers-own : (v : NameView) → 1 ≤ v.size → covers v v.address ≡ true
+covers-own v some = and_from _ _ (le-leb v.address v.address (omega arith)) (lt-ltb v.address (v.address + v.size) (omega arith))
+
+own-by : (names : List NameView) → AreNames names → (i : ℕ) → i < length names → (o : Option NameView) → covering names (name_at names i).address ≡ o → o ≡ Some (name_at names i)
+own-by names are i low None is =
+    absurd (both_ways (covers (name_at names i) (name_at names i).address) (none-covers names (name_at names i).address is i low) (covers-own (name_at names i) (are.each i blank_name low).sized))
+own-by names are i low (Some v) is =
+    let r = last-name names (name_at names i).address v is in
+    ⊎_elim
+    (λ same. ap (λ (x : NameView). Some x) (r.is ∙ ap (name_at names) same))
+    (λ other.
+    ⊎_elim
+    (λ below. absurd (both_ways (covers (name_at names i) (name_at names i).address) (r.later i below low) (covers-own (name_at names i) (are.each i blank_name low).sized)))
+    (λ above.
+    let high = are.rising i r.index blank_name (omega (arith, above, other)) r.low in
+    let reach = leb-low (name_at names r.index) (name_at names i).address r.covers_it in
+    absurd (omega (arith, high, reach)))
+    (cases_lt r.index i))
+    (cases_eq r.index i)
+  where
+    leb-low : (v : NameView) (a : ℕ) → covers v a ≡ true → v.address ≤ a
+    leb-low v a is = let parts = and_parts (nat_le v.address a) (nat_lt a (v.address + v.size)) is in grind (arith, nat_tests)
+
+own-name : (names : List NameView) → AreNames names → (a : ℕ) (v : NameView) → covering names a ≡ Some v → covering names v.address ≡ Some v
+own-name names are a v is =
+    let r = last-name names a v is in
+    ap (λ (x : NameView). covering names x.address) r.is ∙ own-by names are r.index r.low (covering names (name_at names r.index).address) refl ∙ ap (λ (x : NameView). Some x) (sym r.is)
+
+base-own : (m : MapView) → AreNames m.info.names → (a : ℕ) (b : Base) → base_at m a ≡ Some b → base_at m b.address ≡ Some b
+base-own m are a b is =
+    ⊎_elim
+    (λ n. ap (λ (x : Base). base_at m x.address) n.is ∙ base-covered m n.name.address n.name (own-name m.info.names are n.at n.name n.covers_it) ∙ ap (λ (x : Base). Some x) (sym n.is))
+    (λ d.
+    ap (λ (x : Base). base_at m x.address) d.is
+    ∙ base-wanted m d.at d.none d.wanted
+    ∙ ap (λ (x : Base). Some x) (home-default m d.at (ap (covering m.info.names) d.home_is ∙ d.none) ∙ ap default_base d.home_is ∙ sym d.is))
+    (source m a b is)
+
+-- ---- one text, one base
+
+digit-same : (a b : ℕ) → a < 16 → b < 16 → hex_digit a ≡ hex_digit b → a ≡ b
+digit-same a b low also_low is = grind (arith, nat_tests)
+
+pub default-same : (u v : ℕ) → u < 65536 → v < 65536 → default_name u ≡ default_name v → u ≡ v
+unfolding default_name
+default-same u v low also_low is =
+    let first = digit-same (u / 4096 % 16) (v / 4096 % 16) (omega arith) (omega arith) (ap (λ (l : List ℕ). get_or l 1 0) is) in
+    let second = digit-same (u / 256 % 16) (v / 256 % 16) (omega arith) (omega arith) (ap (λ (l : List ℕ). get_or l 2 0) is) in
+    let third = digit-same (u / 16 % 16) (v / 16 % 16) (omega arith) (omega arith) (ap (λ (l : List ℕ). get_or l 3 0) is) in
+    let fourth = digit-same (u % 16) (v % 16) (omega arith) (omega arith) (ap (λ (l : List ℕ). get_or l 4 0) is) in
+    omega (arith, first, second, third, fourth)
+
+upper : (d : ℕ) → d < 16 → is_upper_hex (hex_digit d) ≡ true
+upper d low = grind (arith, nat_tests)
+
+like-default : (v : ℕ) → is_like_default (default_name v) ≡ true
+unfolding is_like_default default_name
+like-default v = rw (upper (v / 4096 % 16) (omega arith), upper (v / 256 % 16) (omega arith), upper (v / 16 % 16) (omega arith), upper (v % 16) (omega arith)) refl
+
+or-last : (p q r s : Bool) → (p || (q || (r && not s))) ≡ false → r ≡ true → s ≡ true
+or-last true q r s is like = absurd (false≢true (sym is))
+or-last false true r s is like = absurd (false≢true (sym is))
+or-last false false true true is like = refl
+or-last false false true false is like = absurd (false≢true (sym is))
+or-last false false false s is like = absurd (false≢true like)
+
+-- a name of the form of a default name stands for its own address
+reserved-same : (address v : ℕ) (text : List ℕ) → address < 65536 → v < 65536 → is_reserved address text ≡ false → text ≡ default_name v → address ≡ v
+unfolding is_reserved
+reserved-same address v text low also_low unreserved is =
+    let own = or-last (list_any (str_eq_ignore_ascii_case text) registers) (is_some (mnemonic_named text)) (is_like_default text) (bytes_eq text (default_name address)) unreserved (ap is_like_default is ∙ like-default v) in
+    default-same address v low also_low (sym ((bytes_eq-Decides text (default_name address)).0 own) ∙ is)
+
+same-name : (names : List NameView) → AreNames names → (i j : ℕ) → i < length names → j < length names → (name_at names i).text ≡ (name_at names j).text → name_at names i ≡ name_at names j
+same-name names are i j low also_low is =
+    ⊎_elim
+    (λ same. ap (name_at names) same)
+    (λ other.
+    ⊎_elim
+    (λ below. absurd (are.distinct i j blank_name below also_low is))
+    (λ above. absurd (are.distinct j i blank_name (omega (arith, above, other)) low (sym is)))
+    (cases_lt i j))
+    (cases_eq i j)
+
+abbrev make : List ℕ → ℕ → Base
+make text address = record { text = text; address = address }
+
+-- a name that is given is not the default name of another address
+name-default : (m : MapView) (a c : ℕ) (b d : Base) → AreNames m.info.names → c < 65536 → FromName m a b → FromAddress m c d → b.text ≡ d.text → b.address ≡ d.address
+name-default m a c b d are low n f is =
+    let r = last-name m.info.names n.at n.name n.covers_it in
+    let v = are.each r.index blank_name r.low in
+    let text : (name_at m.info.names r.index).text ≡ default_name f.at = sym (ap (λ (x : NameView). x.text) r.is) ∙ sym (ap (λ (x : Base). x.text) n.is) ∙ is ∙ ap (λ (x : Base). x.text) f.is in
+    let same = reserved-same (name_at m.info.names r.index).address f.at (name_at m.info.names r.index).text (omega (arith, v.room, v.sized)) (omega (arith, f.low, low)) v.free text in
+    ap (λ (x : Base). x.address) n.is ∙ ap (λ (x : NameView). x.address) r.is ∙ same ∙ sym (ap (λ (x : Base). x.address) f.is)
+
+name-name : (m : MapView) (a c : ℕ) (b d : Base) → AreNames m.info.names → FromName m a b → FromName m c d → b.text ≡ d.text → b.address ≡ d.address
+name-name m a c b d are n o is =
+    let r = last-name m.info.names n.at n.name n.covers_it in
+    let s = last-name m.info.names o.at o.name o.covers_it in
+    let text : (name_at m.info.names r.index).text ≡ (name_at m.info.names s.index).text = sym (ap (λ (x : NameView). x.text) r.is) ∙ sym (ap (λ (x : Base). x.text) n.is) ∙ is ∙ ap (λ (x : Base). x.text) o.is ∙ ap (λ (x : NameView). x.text) s.is in
+    let same = same-name m.info.names are r.index s.index r.low s.low text in
+    ap (λ (x : Base). x.address) n.is ∙ ap (λ (x : NameView). x.address) (r.is ∙ same ∙ sym s.is) ∙ sym (ap (λ (x : Base). x.address) o.is)
+
+default-default : (m : MapView) (a c : ℕ) (b d : Base) → a < 65536 → c < 65536 → FromAddress m a b → FromAddress m c d → b.text ≡ d.text → b.address ≡ d.address
+default-default m a c b d low also_low e f is =
+    let same = default-same e.at f.at (omega (arith, e.low, low)) (omega (arith, f.low, also_low)) (sym (ap (λ (x : Base). x.text) e.is) ∙ is ∙ ap (λ (x : Base). x.text) f.is) in
+    ap (λ (x : Base). x.address) e.is ∙ same ∙ sym (ap (λ (x : Base). x.address) f.is)
+
+same-address : (m : MapView) (a c : ℕ) (b d : Base) → AreNames m.info.names → a < 65536 → c < 65536 → FromName m a b ⊎ FromAddress m a b → FromName m c d ⊎ FromAddress m c d → b.text ≡ d.text → b.address ≡ d.address
+same-address m a c b d are low also_low (inl n) (inl o) is = name-name m a c b d are n o is
+same-address m a c b d are low also_low (inl n) (inr f) is = name-default m a c b d are also_low n f is
+same-address m a c b d are low also_low (inr e) (inl o) is = sym (name-default m c a d b are low o e (sym is))
+same-address m a c b d are low also_low (inr e) (inr f) is = default-default m a c b d low also_low e f is
+
+base-distinct : (m : MapView) → AreNames m.info.names → (a c : ℕ) (b d : Base) → a < 65536 → c < 65536 → base_at m a ≡ Some b → base_at m c ≡ Some d → b.text ≡ d.text → b ≡ d
+base-distinct m are a c b d low also_low first second is = ap₂ make is (same-address m a c b d are low also_low (source m a b first) (source m c d second) is)
+
+pub base_law : (m : MapView) → AreNames m.info.names → BaseLaw m
+base_law m are = record { low = base-low m; own = base-own m are; distinct = base-distinct m are }
+
+-- ---- where a base lies
+
+place-outside : (m : MapView) (n : ℕ) → is_inside m.image n ≡ false → place_of m n ≡ Constant
+unfolding place_of role_at
+place-outside m n out = rw out refl
+
+place-shown : (m : MapView) (n : ℕ) → is_inside m.image n ≡ true → place_of m n ≡ place_in (Some (role_of m.info n)) (item_len m n)
+unfolding place_of role_at
+place-shown m n inside = rw inside refl
+
+place-skip : (m : MapView) (n : ℕ) → is_inside m.image n ≡ true → is_skip (role_of m.info n) ≡ true → place_of m n ≡ Constant
+place-skip m n inside skip = place-shown m n inside ∙ rw skip refl
+
+place-label : (m : MapView) (n : ℕ) → is_inside m.image n ≡ true → is_skip (role_of m.info n) ≡ false → 0 < item_len m n → place_of m n ≡ Label
+place-label m n inside shown some = let other : (item_len m n == 0) ≡ false = ne_eqb (item_len m n) 0 (λ is. absurd (omega (arith, is, some))) in place-shown m n inside ∙ rw (shown, other) refl
+
+place-forward : (m : MapView) (n : ℕ) → is_inside m.image n ≡ true → is_skip (role_of m.info n) ≡ false → item_len m n ≡ 0 → place_of m n ≡ Forward
+place-forward m n inside shown none = let zero_is : (item_len m n == 0) ≡ true = eq-eqb (item_len m n) 0 none in place-shown m n inside ∙ rw (shown, zero_is) refl
+
+-- in a table with entries of more than one byte an item begins at each base
+abbrev IsFree : MapView → ℕ → Type 0
+IsFree m n = is_inside m.image n ≡ true → is_wide (role_of m.info n) ≡ true → 0 < item_len m n
+
+named-free : (m : MapView) (n : ℕ) → is_own m.info.names n ≡ true → IsFree m n
+named-free m n own inside wide =
+    let apart : is_joined m n ≡ false =
+    ⊎_elim
+    (λ joined. absurd (both_ways (is_cut_at m n) (joined-uncut m n joined) (and_from _ _ wide own)))
+    (λ is. is)
+    (cases_Bool (is_joined m n)) in
+    ((item_law m).items.begins n).1 (record { inside = inside; shown = wide-shown (role_of m.info n) wide; place = inl (inr apart) })
+
+name-free : (m : MapView) (a : ℕ) (v : NameView) → covering m.info.names a ≡ Some v → IsFree m v.address
+name-free m a v is =
+    let r = last-name m.info.names a v is in
+    named-free m v.address (own-some m.info.names v.address r.index blank_name r.low (sym (ap (λ (x : NameView). x.address) r.is)))
+
+home-free : (m : MapView) (n : ℕ) → home m n ≡ n → IsFree m n
+home-free m n own inside wide =
+    ⊎_elim
+    (λ none.
+    let u = under m n inside (wide-shown (role_of m.info n) wide) none in
+    let inner : IsInner m n u.first = record { wide = wide; begins = u.begins; after = u.after; before = u.before } in
+    absurd (omega (arith, home-inner m n u.first inner, own, u.after)))
+    (λ some. omega (arith, some))
+    (cases_eq (item_len m n) 0)
+
+base-free : (m : MapView) (a : ℕ) (b : Base) → base_at m a ≡ Some b → IsFree m b.address
+base-free m a b is =
+    ⊎_elim
+    (λ n. subst (λ (x : Base). IsFree m x.address) (sym n.is) (name-free m n.at n.name n.covers_it))
+    (λ d. subst (λ (x : Base). IsFree m x.address) (sym d.is) (home-free m d.at d.home_is))
+    (source m a b is)
+
+-- elsewhere only items of code have more than one byte
+code-or-byte : (m : MapView) (r : RangeType) → is_wide r ≡ false → (r ≡ Code) ⊎ ((b : ℕ) → size_for m r b ≡ 1)
+code-or-byte m Code narrow = inl refl
+code-or-byte m ByteTable narrow = inr (λ b. refl)
+code-or-byte m TextTable narrow = inr (λ b. refl)
+code-or-byte m Skip narrow = inr (λ b. refl)
+code-or-byte m WordTable narrow = absurd (false≢true (sym narrow))
+code-or-byte m DbyteTable narrow = absurd (false≢true (sym narrow))
+code-or-byte m AddrTable narrow = absurd (false≢true (sym narrow))
+code-or-byte m RtsTable narrow = absurd (false≢true (sym narrow))
+
+size-one : (m : MapView) (a : ℕ) → ((b : ℕ) → size_for m (role_of m.info a) b ≡ 1) → size_at m a ≡ 1
+unfolding size_at wanted_at
+size-one m a one = cond_both (are_joined m (size_for m (role_of m.info a) (byte_at m.image a) - 1) a) (size_for m (role_of m.info a) (byte_at m.image a)) 1 (λ (n : ℕ). n ≡ 1) (λ _. one (byte_at m.image a)) (λ _. refl)
+
+in-code : (m : MapView) (n : ℕ) → is_inside m.image n ≡ true → is_skip (role_of m.info n) ≡ false → item_len m n ≡ 0 → is_wide (role_of m.info n) ≡ false → IsInCode m n
+in-code m n inside shown none narrow =
+    let u = under m n inside shown none in
+    ⊎_elim
+    (λ code. record { item = u.first; begins = u.begins; after = u.after; before = u.before; code = code })
+    (λ one.
+    let single : size_at m u.first ≡ 1 = size-one m u.first (λ b. sym (ap (λ (r : RangeType). size_for m r b) u.same) ∙ one b) in
+    absurd (omega (arith, single, (begun m u.first u.begins).len, u.after, u.before)))
+    (code-or-byte m (role_of m.info n) narrow)
+
+placed-inside : (m : MapView) (n : ℕ) → IsFree m n → is_inside m.image n ≡ true → is_skip (role_of m.info n) ≡ false → ((0 < item_len m n) × (place_of m n ≡ Label)) ⊎ (IsInCode m n × (place_of m n ≡ Forward))
+placed-inside m n unhidden inside shown =
+    ⊎_elim
+    (λ none.
+    let narrow : is_wide (role_of m.info n) ≡ false = ⊎_elim (λ wide. absurd (omega (arith, none, unhidden inside wide))) (λ is. is) (cases_Bool (is_wide (role_of m.info n))) in
+    inr (in-code m n inside shown none narrow, place-forward m n inside shown none))
+    (λ some. let begins : 0 < item_len m n = omega (arith, some) in inl (begins, place-label m n inside shown begins))
+    (cases_eq (item_len m n) 0)
+
+pub place_law : (m : MapView) → PlaceLaw m
+place_law m a b is =
+    let n : ℕ = b.address in
+    ⊎_elim
+    (λ inside.
+    ⊎_elim
+    (λ skip. inl (inr skip, place-skip m n inside skip))
+    (λ shown. inr (placed-inside m n (base-free m a b is) inside shown))
+    (cases_Bool (is_skip (role_of m.info n))))
+    (λ out. inl (inl out, place-outside m n out))
+    (cases_Bool (is_inside m.image n))

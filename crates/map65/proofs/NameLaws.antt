@@ -1,0 +1,285 @@
+-- The laws of targets and names.
+use Rattle.std.proofs.Common.{◌≡◌, ◌≢◌, ◌∙◌, ◌⊎◌, inl, inr, ℕ, zero, suc, ◌+◌, ◌-◌, ◌<◌, ◌≤◌, ◌&&◌, ◌||◌, ◌==◌, Bool, true, false, not, List, Option, Some, None, length, get_or, nat_le, nat_lt, is_some, refl, ap, sym, subst, arith, ⊎_elim, if◌then◌else◌}
+use Rattle.std.specs.List.{list_any}
+use Rattle.std.proofs.lemmas.Bool.{and_from, and_parts, both_ways, cases_Bool, cases_eq, cases_lt, eq-eqb, eqb-true, false≢true, le-leb, leb-true, lt-ltb, ltb-true, ne_eqb}
+use Rattle.std.proofs.lemmas.List.Folds.{Any-from_list_any, list_any_at}
+use Rattle.info65.specs.Names.{AreNames, blank_name, covering, covers, name_at}
+use Rattle.info65.specs.Views.{NameView}
+use Rattle.info65.specs.declared.range.RangeType.{RangeType}
+use Rattle.info65.specs.declared.range.RangeType.TheVariants.{Skip}
+use Rattle.map65.proofs.ItemLaws.{Begun, begun, holder}
+use Rattle.map65.proofs.ItemLemmas.{item-len-at, left-first, one-role, size-one-piece, size-positive}
+use Rattle.map65.proofs.NameLemmas.{Last, base-covered, base-unwanted, base-wanted, home-default, home-given, last-name, none-covers, not-some}
+use Rattle.map65.proofs.NamingLemmas.{home-narrow, home-wide, last-before, last-here}
+use Rattle.map65.proofs.SweepLemmas.{inside-item, item-fits}
+use Rattle.map65.proofs.TargetLemmas.{none-at}
+use Rattle.map65.specs.ImageView.{end_of, is_inside}
+use Rattle.map65.specs.Items.{item_len, size_at}
+use Rattle.map65.specs.MapView.{MapView}
+use Rattle.map65.specs.Names.{Base, HomeLaw, IsHighest, IsInner, IsUncovered, IsWanted, NameLaw, WantedLaw, base_at, default_base, base_by, base_or, given_base, home, home_base, is_wanted, last_item, refers, refers_by}
+use Rattle.map65.specs.Pieces.{AreOnePiece}
+use Rattle.map65.specs.Roles.{is_skip, is_wide, role_of}
+use Rattle.map65.specs.Spans.{addresses, left_at}
+use Rattle.map65.specs.Targets.{IsTarget, target_at}
+
+-- ---- the item that an address lies inside
+
+pub inside-if : (m : MapView) (a : ℕ) → m.image.start ≤ a → a < end_of m.image → is_inside m.image a ≡ true
+inside-if m a low high = and_from _ _ (le-leb m.image.start a low) (lt-ltb a (end_of m.image) high)
+
+pub inside-parts : (m : MapView) (a : ℕ) → is_inside m.image a ≡ true → (m.image.start ≤ a) × (a < end_of m.image)
+inside-parts m a is =
+    let parts = and_parts (nat_le m.image.start a) (nat_lt a (end_of m.image)) is in
+    (leb-true m.image.start a parts.0, ltb-true a (end_of m.image) parts.1)
+
+-- an address after the first byte of an item
+pub record Under (m : MapView) (a : ℕ) : Type 0 where
+  pub first : ℕ
+  pub begins : 0 < item_len m first
+  pub after : first < a
+  pub before : a < first + item_len m first
+  pub same : role_of m.info a ≡ role_of m.info first
+
+-- where no item begins, one lies over the address, unless it is skipped
+pub under : (m : MapView) (a : ℕ) → is_inside m.image a ≡ true → is_skip (role_of m.info a) ≡ false → item_len m a ≡ 0 → Under m a
+under m a inside shown none =
+    let bounds = inside-parts m a inside in
+    let k : ℕ = a - m.image.start in
+    let place : m.image.start + k ≡ a = omega (arith, bounds.0) in
+    let some : left_at (size_at m) m.image.start k ≢ 0 = λ is.
+    let here = item-len-at m k (omega (arith, bounds.0, bounds.1)) (ap (λ (x : ℕ). is_skip (role_of m.info x)) place ∙ shown) is in
+    absurd (omega (arith, ap (item_len m) place, here, none, size-positive m (m.image.start + k))) in
+    let later : k ≢ 0 = λ zero_is. some (ap (left_at (size_at m) m.image.start) zero_is ∙ left-first (size_at m) m.image.start) in
+    let j : ℕ = k - 1 in
+    let next : k ≡ suc j = omega (arith, later) in
+    let left : left_at (size_at m) m.image.start k ≡ left_at (size_at m) m.image.start (suc j) = ap (left_at (size_at m) m.image.start) next in
+    let h = holder (size_at m) (size-positive m) m.image.start j in
+    let b : ℕ = m.image.start + h.first in
+    let before : a < b + size_at m b = omega (arith, h.reach, left, some, next, place) in
+    let after : b < a = omega (arith, h.low, next, place) in
+    let piece : AreOnePiece m b a = λ x low high. size-one-piece m b x low (omega (arith, high, before)) in
+    let role : role_of m.info a ≡ role_of m.info b = one-role m b a (omega (arith, after)) piece in
+    let len : item_len m b ≡ size_at m b = item-len-at m h.first (omega (arith, h.low, next, place, bounds.1)) (sym (ap is_skip role) ∙ shown) h.begin in
+    record { first = b; begins = omega (arith, len, size-positive m b); after = after; before = omega (arith, before, len); same = role }
+
+pub wide-shown : (r : RangeType) → is_wide r ≡ true → is_skip r ≡ false
+wide-shown Skip is = absurd (false≢true is)
+wide-shown _ is = refl
+
+last-inner : (m : MapView) (first d : ℕ) → 0 < item_len m first → d < item_len m first → last_item m (first + d) ≡ first
+last-inner m first zero begins low = let place : first + 0 ≡ first = omega arith in ap (last_item m) place ∙ last-here m first begins
+last-inner m first (suc d) begins low =
+    let is = begun m first begins in
+    let none : item_len m (first + suc d) ≡ 0 = inside-item m first (size_at m first) is.low is.none refl (first + suc d) (omega arith) (omega (arith, low, is.len)) in
+    let back : first + suc d - 1 ≡ first + d = omega arith in
+    last-before m (first + suc d) (omega arith) none ∙ ap (last_item m) back ∙ last-inner m first d begins (omega (arith, low))
+
+inner-inside : (m : MapView) (a first : ℕ) → IsInner m a first → is_inside m.image a ≡ true
+inner-inside m a first i =
+    let is = begun m first i.begins in
+    inside-if m a (omega (arith, is.low, i.after)) (omega (arith, i.before, item-fits m first i.begins))
+
+pub home-inner : (m : MapView) (a first : ℕ) → IsInner m a first → home m a ≡ first
+home-inner m a first i =
+    let d : ℕ = a - first in
+    let place : a ≡ first + d = omega (arith, i.after) in
+    home-wide m a (and_from _ _ (inner-inside m a first i) i.wide) ∙ ap (last_item m) place ∙ last-inner m first d i.begins (omega (arith, i.before, place))
+
+-- the first byte of an item is its own home
+pub home-item : (m : MapView) (a : ℕ) → 0 < item_len m a → home m a ≡ a
+home-item m a begins =
+    ⊎_elim
+    (λ is. home-wide m a is ∙ last-here m a begins)
+    (λ is. home-narrow m a is)
+    (cases_Bool (is_inside m.image a && is_wide (role_of m.info a)))
+
+-- an address is its own home, or lies inside an item
+pub home-cases : (m : MapView) (a : ℕ) → (home m a ≡ a) ⊎ ((first : ℕ) × IsInner m a first)
+home-cases m a =
+    ⊎_elim
+    (λ is.
+    let parts = and_parts (is_inside m.image a) (is_wide (role_of m.info a)) is in
+    ⊎_elim
+    (λ none. let u = under m a parts.0 (wide-shown (role_of m.info a) parts.1) none in inr (u.first, record { wide = parts.1; begins = u.begins; after = u.after; before = u.before }))
+    (λ some. inl (home-item m a (omega (arith, some))))
+    (cases_eq (item_len m a) 0))
+    (λ is. inl (home-narrow m a is))
+    (cases_Bool (is_inside m.image a && is_wide (role_of m.info a)))
+
+home-other : (m : MapView) (a : ℕ) → ((first : ℕ) → IsInner m a first → ⊥) → home m a ≡ a
+home-other m a other = ⊎_elim (λ same. same) (λ inner. absurd (other inner.0 inner.1)) (home-cases m a)
+
+pub home_law : (m : MapView) → HomeLaw m
+home_law m = record { inner = home-inner m; other = home-other m }
+
+pub home-low : (m : MapView) (a : ℕ) → home m a ≤ a
+home-low m a =
+    ⊎_elim
+    (λ same. omega (arith, same))
+    (λ inner. omega (arith, home-inner m a inner.0 inner.1, inner.1.after))
+    (home-cases m a)
+
+-- the home of an address is its own home
+pub home-home : (m : MapView) (a : ℕ) → home m (home m a) ≡ home m a
+home-home m a =
+    ⊎_elim
+    (λ same. ap (home m) same)
+    (λ inner. let is = home-inner m a inner.0 inner.1 in ap (home m) is ∙ home-item m inner.0 inner.1.begins ∙ sym is)
+    (home-cases m a)
+
+-- ---- targets
+
+target-item : (m : MapView) (item t : ℕ) → target_at m item ≡ Some t → IsTarget m t
+target-item m item t has =
+    ⊎_elim
+    (λ none. absurd (not-some t (sym (none-at m item none) ∙ has)))
+    (λ some. record { item = item; begins = omega (arith, some); has = has })
+    (cases_eq (item_len m item) 0)
+
+-- ---- what is wanted
+
+or-true : (p q : Bool) → (p || q) ≡ true → (p ≡ true) ⊎ (q ≡ true)
+or-true true q is = inl refl
+or-true false q is = inr is
+
+or-first : (p q : Bool) → p ≡ true → (p || q) ≡ true
+or-first p q is = rw is refl
+
+or-second : (p q : Bool) → q ≡ true → (p || q) ≡ true
+or-second true q is = refl
+or-second false q is = is
+
+home-place : (m : MapView) (t a : ℕ) → home m t ≡ a → (a ≡ t) ⊎ IsInner m t a
+home-place m t a is =
+    ⊎_elim
+    (λ same. inl (sym is ∙ same))
+    (λ inner. inr (subst (IsInner m t) (sym (home-inner m t inner.0 inner.1) ∙ is) inner.1))
+    (home-cases m t)
+
+wanted-by : (m : MapView) (a item : ℕ) (o : Option ℕ) → target_at m item ≡ o → refers_by m o a ≡ true → IsWanted m a
+wanted-by m a item None has is = absurd (false≢true is)
+wanted-by m a item (Some t) has is =
+    record {
+      target = t;
+      is_target = target-item m item t has;
+      place = ⊎_elim (λ same. inl (sym (eqb-true t a same))) (λ moved. home-place m t a (eqb-true (home m t) a moved)) (or-true (t == a) (home m t == a) is);
+    }
+
+wanted-then : (m : MapView) (a : ℕ) → is_wanted m a ≡ true → IsWanted m a
+unfolding is_wanted refers
+wanted-then m a is =
+    let found = Any-from_list_any (refers m a) (addresses (length m.image.bytes) m.image.start) is in
+    wanted-by m a found.1 (target_at m found.1) refl found.4
+
+address-at : (n k a d : ℕ) → k < n → get_or (addresses n a) k d ≡ a + k
+unfolding addresses
+address-at zero k a d below = absurd (omega arith)
+address-at (suc n) zero a d below = omega arith
+address-at (suc n) (suc k) a d below = address-at n k (a + 1) d (omega arith) ∙ omega arith
+
+address-count : (n a : ℕ) → length (addresses n a) ≡ n
+unfolding addresses
+address-count zero a = refl
+address-count (suc n) a = ap suc (address-count n (a + 1))
+
+refers-if : (m : MapView) (item t a : ℕ) → target_at m item ≡ Some t → (t ≡ a) ⊎ (home m t ≡ a) → refers m a item ≡ true
+unfolding refers
+refers-if m item t a has is =
+    ap (λ o. refers_by m o a) has ∙ ⊎_elim (λ same. or-first (t == a) (home m t == a) (eq-eqb t a same)) (λ moved. or-second (t == a) (home m t == a) (eq-eqb (home m t) a moved)) is
+
+pub wanted-if : (m : MapView) (t a : ℕ) → IsTarget m t → (t ≡ a) ⊎ (home m t ≡ a) → is_wanted m a ≡ true
+unfolding is_wanted
+wanted-if m t a target is =
+    let b = begun m target.item target.begins in
+    let k : ℕ = target.item - m.image.start in
+    let n : ℕ = length m.image.bytes in
+    let low : k < n = omega (arith, b.low, b.high) in
+    let at : get_or (addresses n m.image.start) k 0 ≡ target.item = address-at n k m.image.start 0 low ∙ omega (arith, b.low) in
+    list_any_at (refers m a) (addresses n m.image.start) k 0 (omega (arith, address-count n m.image.start, low)) (ap (refers m a) at ∙ refers-if m target.item t a target.has is)
+
+wanted-from : (m : MapView) (a : ℕ) → IsWanted m a → is_wanted m a ≡ true
+wanted-from m a w = wanted-if m w.target a w.is_target (⊎_elim (λ same. inl (sym same)) (λ inner. inr (home-inner m w.target a inner)) w.place)
+
+pub wanted_law : (m : MapView) → WantedLaw m
+wanted_law m a = (wanted-then m a, wanted-from m a)
+
+-- the home of an address that is wanted is wanted
+pub home-wanted : (m : MapView) (a : ℕ) → is_wanted m a ≡ true → is_wanted m (home m a) ≡ true
+home-wanted m a is =
+    let w = wanted-then m a is in
+    ⊎_elim
+    (λ same. wanted-if m w.target (home m a) w.is_target (inr (ap (home m) (sym same))))
+    (λ inner.
+    let own : home m a ≡ a = home-item m a inner.begins in
+    ap (is_wanted m) own ∙ is)
+    w.place
+
+-- ---- the name, case by case
+
+-- the last name that covers an address is the one whose own address is highest
+highest-last : (names : List NameView) → AreNames names → (a : ℕ) (b : Base) → IsHighest names a b → (o : Option NameView) → covering names a ≡ o → (v : NameView) × ((o ≡ Some v) × (given_base v ≡ b))
+highest-last names are a b h None is = absurd (both_ways (covers (name_at names h.index) a) (none-covers names a is h.index h.low) h.covers_it)
+highest-last names are a b h (Some v) is =
+    let r = last-name names a v is in
+    let own : b.address ≡ (name_at names h.index).address = ap (λ (x : Base). x.address) h.is in
+    ⊎_elim
+    (λ same. (v, (refl, ap given_base r.is ∙ ap (λ (k : ℕ). given_base (name_at names k)) same ∙ sym h.is)))
+    (λ other.
+    ⊎_elim
+    (λ below. absurd (both_ways (covers (name_at names h.index) a) (r.later h.index below h.low) h.covers_it))
+    (λ above. absurd (omega (arith, own, are.rising h.index r.index blank_name (omega (arith, above, other)) r.low, h.highest r.index r.low r.covers_it)))
+    (cases_lt r.index h.index))
+    (cases_eq r.index h.index)
+
+name-given : (m : MapView) → AreNames m.info.names → (a : ℕ) (b : Base) → IsHighest m.info.names a b → base_at m a ≡ Some b
+name-given m are a b h =
+    let found = highest-last m.info.names are a b h (covering m.info.names a) refl in
+    base-covered m a found.0 found.1.0 ∙ ap (λ (x : Base). Some x) found.1.1
+
+uncovered : (names : List NameView) (a : ℕ) → IsUncovered names a → (o : Option NameView) → covering names a ≡ o → o ≡ None
+uncovered names a none None is = refl
+uncovered names a none (Some v) is = let r = last-name names a v is in absurd (both_ways (covers (name_at names r.index) a) (none r.index r.low) r.covers_it)
+
+pub free : (names : List NameView) (a : ℕ) → IsUncovered names a → covering names a ≡ None
+free names a none = uncovered names a none (covering names a) refl
+
+either : (o : Option NameView) (b : Base) → base_by o true (base_or o b) ≡ Some (base_or o b)
+either None b = refl
+either (Some v) b = refl
+
+home-own : (m : MapView) (a : ℕ) → home m a ≡ a → home_base m a ≡ base_or (covering m.info.names a) (default_base a)
+unfolding home_base
+home-own m a is = ap (λ (x : ℕ). base_or (covering m.info.names x) (default_base x)) is
+
+home-of-inner : (m : MapView) (a first : ℕ) → home m a ≡ first → home_base m a ≡ base_or (covering m.info.names first) (default_base first)
+unfolding home_base
+home-of-inner m a first is = ap (λ (x : ℕ). base_or (covering m.info.names x) (default_base x)) is
+
+base-is : (m : MapView) (a : ℕ) → is_wanted m a ≡ true → base_at m a ≡ base_by (covering m.info.names a) true (home_base m a)
+unfolding base_at
+base-is m a wanted = ap (λ (w : Bool). base_by (covering m.info.names a) w (home_base m a)) wanted
+
+name-inner : (m : MapView) (a first : ℕ) → IsUncovered m.info.names a → IsTarget m a → IsInner m a first → base_at m a ≡ base_at m first
+name-inner m a first none target inner =
+    let moved = home-inner m a first inner in
+    let stays = home-item m first inner.begins in
+    let first_wanted : is_wanted m first ≡ true = wanted-if m a first target (inr moved) in
+    base-wanted m a (free m.info.names a none) (wanted-if m a a target (inl refl))
+    ∙ ap (λ (b : Base). Some b) (home-of-inner m a first moved)
+    ∙ sym (base-is m first first_wanted ∙ ap (base_by (covering m.info.names first) true) (home-own m first stays) ∙ either (covering m.info.names first) (default_base first))
+
+name-default : (m : MapView) (a : ℕ) → IsUncovered m.info.names a → IsWanted m a → ((first : ℕ) → IsInner m a first → ⊥) → base_at m a ≡ Some (default_base a)
+name-default m a none wanted other =
+    let is = free m.info.names a none in
+    base-wanted m a is (wanted-from m a wanted)
+    ∙ ap (λ (b : Base). Some b) (home-own m a (home-other m a other) ∙ ap (λ o. base_or o (default_base a)) is)
+
+name-none : (m : MapView) (a : ℕ) → IsUncovered m.info.names a → (IsWanted m a → ⊥) → base_at m a ≡ None
+name-none m a none unwanted =
+    ⊎_elim
+    (λ is. absurd (unwanted (wanted-then m a is)))
+    (λ is. base-unwanted m a (free m.info.names a none) is)
+    (cases_Bool (is_wanted m a))
+
+pub name_law : (m : MapView) → AreNames m.info.names → NameLaw m
+name_law m are = record { given = name-given m are; inner = name-inner m; default = name-default m; none = name-none m }

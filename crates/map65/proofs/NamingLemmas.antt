@@ -1,0 +1,372 @@
+-- Names that are marked in cells.
+use Rattle.std.proofs.Common.{◌≡◌, ◌≢◌, ◌∙◌, ◌⊎◌, inl, inr, ℕ, zero, suc, ◌+◌, ◌-◌, ◌/◌, ◌%◌, ◌<◌, ◌≤◌, ◌&&◌, ◌||◌, ◌==◌, Bool, true, false, List, [], ◌∷◌, Option, Some, None, All, AllPairs, length, get_or, set, take, max, nat_le, nat_lt, is_some, unwrap_or, refl, ap, sym, subst, arith, ⊎_elim, if◌then◌else◌}
+use Rattle.std.specs.List.{list_any}
+use Rattle.std.proofs.Math.ListN.{length-set}
+use Rattle.std.proofs.lemmas.Bool.{and_from, and_parts, both_ways, cases_Bool, cases_eq, cases_lt, cond-false, cond-true, eq-eqb, eqb-true, false≢true, le-leb, leb-true, lt-ltb, ltb-true, ne_eqb}
+use Rattle.std.proofs.lemmas.Bool.Decides.{nat_tests}
+use Rattle.std.proofs.lemmas.List.{get_or_default, take_all}
+use Rattle.std.proofs.lemmas.List.Folds.{Any-from_list_any, list_any_more}
+use Rattle.info65.specs.Names.{AreNames, blank_name, covering, covering_below, covers, name_at}
+use Rattle.info65.specs.Views.{NameView}
+use Rattle.info65.specs.declared.range.RangeType.{RangeType}
+use Rattle.info65.specs.declared.range.RangeType.TheVariants.{Code}
+use Rattle.map65.proofs.CellLemmas.{bits-as, cell-len, cell-role, cell-wide, set-cell, with_bit-lay, with_bit-rest}
+use Rattle.map65.proofs.SweepLemmas.{item-fits, item-small, role_at-inside}
+use Rattle.map65.specs.Code.Cells.{AreCells, HasBits, IsLaid, bit, has_bit, is_wide_cell, is_wide_role, lay_at, len_in_cell, nowhere, role_in_cell, with_bit}
+use Rattle.map65.specs.Code.Marking.{KeepsLay, Reaches, also, is_covered_below, is_wanted_below, is_within}
+use Rattle.map65.specs.ImageView.{end_of, is_inside}
+use Rattle.map65.specs.Items.{item_len}
+use Rattle.map65.specs.MapView.{MapView}
+use Rattle.map65.specs.Names.{has_name, home, is_covered, is_wanted, last_item, refers, refers_by}
+use Rattle.map65.specs.Pieces.{is_own}
+use Rattle.map65.specs.Roles.{is_wide, role_at, role_of}
+use Rattle.map65.specs.Spans.{addresses}
+use Rattle.map65.specs.Targets.{target_at}
+
+-- ---- tests
+
+or-none : (p : Bool) → p ≡ (p || false)
+or-none true = refl
+or-none false = refl
+
+or-either : (p q : Bool) → p ≡ true → (p || q) ≡ true
+or-either p q is = rw is refl
+
+or-second : (p q : Bool) → q ≡ true → (p || q) ≡ true
+or-second true q is = refl
+or-second false q is = is
+
+or-assoc : (p q r : Bool) → ((p || q) || r) ≡ (p || (q || r))
+or-assoc true q r = refl
+or-assoc false q r = refl
+
+-- ---- one bit
+
+keeps-same : (cells : List ℕ) → KeepsLay cells cells
+keeps-same cells = record { count = refl; each = λ a room. refl }
+
+pub keeps-start : (cells : List ℕ) → KeepsLay cells cells
+keeps-start = keeps-same
+
+pub keeps-then : (old mid new : List ℕ) → KeepsLay old mid → KeepsLay mid new → KeepsLay old new
+keeps-then old mid new first second = record { count = second.count ∙ first.count; each = λ a room. second.each a room ∙ first.each a room }
+
+pub mark-keeps : (old cells : List ℕ) (n : ℕ) → length cells ≡ 65536 → n < 65536 → KeepsLay old cells → KeepsLay old (set cells n (with_bit (get_or cells n 0)))
+mark-keeps old cells n count room keeps = record {
+  count = length-set cells n _ ∙ keeps.count;
+  each = set-cell (λ a x. x % 128 ≡ get_or old a 0 % 128) cells n (with_bit (get_or cells n 0)) (omega (arith, count, room))
+      (with_bit-lay (get_or cells n 0) ∙ keeps.each n room)
+      (λ a below other. keeps.each a below);
+}
+
+bit-set : (b : Bool) (n : ℕ) → 1 ≡ bit (b || n == n)
+bit-set b n = ap bit (sym (or-second b (n == n) (eq-eqb n n refl)))
+
+bit-other : (b : Bool) (n a : ℕ) → a ≢ n → bit b ≡ bit (b || n == a)
+bit-other b n a other = ap bit (or-none b ∙ ap (λ (q : Bool). b || q) (sym (ne_eqb n a (λ same. other (sym same)))))
+
+pub mark-bits : (p : ℕ → Bool) (cells : List ℕ) (n : ℕ) → length cells ≡ 65536 → n < 65536 → HasBits p cells → HasBits (λ a. p a || n == a) (set cells n (with_bit (get_or cells n 0)))
+mark-bits p cells n count room bits = record {
+  each = set-cell (λ a x. x / 128 ≡ bit (p a || n == a)) cells n (with_bit (get_or cells n 0)) (omega (arith, count, room))
+      (with_bit-rest (get_or cells n 0) (p n) (bits.each n room) ∙ bit-set (p n) n)
+      (λ a below other. bits.each a below ∙ bit-other (p a) n a other);
+}
+
+pub laid-keeps : (m : MapView) (old new : List ℕ) → KeepsLay old new → IsLaid m old → IsLaid m new
+laid-keeps m old new keeps laid = record { count = keeps.count ∙ laid.count; each = λ a room. keeps.each a room ∙ laid.each a room }
+
+-- ---- own addresses
+
+own-nothing : (names : List NameView) (a : ℕ) → nowhere a ≡ is_own (take 0 names) a
+unfolding is_own
+own-nothing names a = refl
+
+own-more : (names : List NameView) (i a : ℕ) → i < length names → is_own (take (i + 1) names) a ≡ (is_own (take i names) a || (name_at names i).address == a)
+unfolding is_own
+own-more names i a below = list_any_more (λ (n : NameView). n.address == a) names i blank_name below
+
+own-all : (names : List NameView) (n a : ℕ) → length names ≤ n → is_own (take n names) a ≡ is_own names a
+own-all names n a all = ap (λ (l : List NameView). is_own l a) (take_all n names all)
+
+pub own-start : (names : List NameView) (cells : List ℕ) → HasBits nowhere cells → HasBits (is_own (take 0 names)) cells
+own-start names cells bits = bits-as nowhere (is_own (take 0 names)) cells (λ a room. own-nothing names a) bits
+
+pub own-next : (names : List NameView) (i n : ℕ) (cells : List ℕ) → i < length names → n ≡ (name_at names i).address → length cells ≡ 65536 → n < 65536 → HasBits (is_own (take i names)) cells → HasBits (is_own (take (i + 1) names)) (set cells n (with_bit (get_or cells n 0)))
+own-next names i n cells below is count room bits =
+    bits-as (λ a. is_own (take i names) a || n == a) (is_own (take (i + 1) names)) _
+    (λ a low. ap (λ (k : ℕ). is_own (take i names) a || k == a) is ∙ sym (own-more names i a below))
+    (mark-bits (is_own (take i names)) cells n count room bits)
+
+pub own-end : (names : List NameView) (n : ℕ) (cells : List ℕ) → length names ≤ n → HasBits (is_own (take n names)) cells → HasBits (is_own names) cells
+own-end names n cells all bits = bits-as (is_own (take n names)) (is_own names) cells (λ a room. own-all names n a all) bits
+
+-- ---- a span
+
+within-none : (from a : ℕ) → is_within from from a ≡ false
+within-none from a = grind (arith, nat_tests)
+
+within-more : (from at a : ℕ) → from ≤ at → (is_within from at a || at == a) ≡ is_within from (at + 1) a
+within-more from at a low = grind (arith, nat_tests)
+
+within-end : (from to at a : ℕ) → to ≤ at → at ≤ max from to → is_within from at a ≡ is_within from to a
+within-end from to at a past low = grind (arith, nat_tests)
+
+pub span-start : (p : ℕ → Bool) (from : ℕ) (cells : List ℕ) → HasBits p cells → HasBits (also p (is_within from from)) cells
+span-start p from cells bits = bits-as p (also p (is_within from from)) cells (λ a room. or-none (p a) ∙ ap (λ (q : Bool). p a || q) (sym (within-none from a))) bits
+
+pub span-next : (p : ℕ → Bool) (from at : ℕ) (cells : List ℕ) → from ≤ at → length cells ≡ 65536 → at < 65536 → HasBits (also p (is_within from at)) cells → HasBits (also p (is_within from (at + 1))) (set cells at (with_bit (get_or cells at 0)))
+span-next p from at cells low count room bits =
+    bits-as (λ a. also p (is_within from at) a || at == a) (also p (is_within from (at + 1))) _
+    (λ a below. or-assoc (p a) (is_within from at a) (at == a) ∙ ap (λ (q : Bool). p a || q) (within-more from at a low))
+    (mark-bits (also p (is_within from at)) cells at count room bits)
+
+pub span-end : (p : ℕ → Bool) (from to at : ℕ) (cells : List ℕ) → to ≤ at → at ≤ max from to → HasBits (also p (is_within from at)) cells → HasBits (also p (is_within from to)) cells
+span-end p from to at cells past low bits = bits-as (also p (is_within from at)) (also p (is_within from to)) cells (λ a room. ap (λ (q : Bool). p a || q) (within-end from to at a past low)) bits
+
+-- ---- names that cover addresses
+
+covers-is : (n : NameView) (a : ℕ) → n.address ≤ a → a < n.address + n.size → covers n a ≡ true
+covers-is n a low high = and_from _ _ (le-leb n.address a low) (lt-ltb a (n.address + n.size) high)
+
+covers-low : (n : NameView) (a : ℕ) → covers n a ≡ true → (n.address ≤ a) × (a < n.address + n.size)
+covers-low n a is =
+    let parts = and_parts (nat_le n.address a) (nat_lt a (n.address + n.size)) is in
+    (leb-true n.address a parts.0, ltb-true a (n.address + n.size) parts.1)
+
+below-none : (names : List NameView) (a : ℕ) → is_covered_below names 0 a ≡ false
+unfolding covering_below
+below-none names a = refl
+
+below-hit : (names : List NameView) (n a : ℕ) → covers (name_at names n) a ≡ true → is_covered_below names (suc n) a ≡ true
+unfolding covering_below
+below-hit names n a hit = rw hit refl
+
+below-miss : (names : List NameView) (n a : ℕ) → covers (name_at names n) a ≡ false → is_covered_below names (suc n) a ≡ is_covered_below names n a
+unfolding covering_below
+below-miss names n a miss = rw miss refl
+
+below-keep : (names : List NameView) (n a : ℕ) → is_covered_below names n a ≡ true → is_covered_below names (suc n) a ≡ true
+below-keep names n a is =
+    ⊎_elim
+    (λ hit. below-hit names n a hit)
+    (λ miss. below-miss names n a miss ∙ is)
+    (cases_Bool (covers (name_at names n) a))
+
+below-some : (names : List NameView) (n i a : ℕ) → i < n → covers (name_at names i) a ≡ true → is_covered_below names n a ≡ true
+below-some names zero i a below hit = absurd (omega arith)
+below-some names (suc n) i a below hit =
+    ⊎_elim
+    (λ same. below-hit names n a (sym (ap (λ (k : ℕ). covers (name_at names k) a) same) ∙ hit))
+    (λ other. below-keep names n a (below-some names n i a (omega (arith, other)) hit))
+    (cases_eq i n)
+
+covered-all : (names : List NameView) (n a : ℕ) → n ≡ length names → is_covered_below names n a ≡ is_covered names a
+unfolding covering
+covered-all names n a is = ap (λ (k : ℕ). is_covered_below names k a) is
+
+-- one name more, of which addresses below `reach` are marked
+module _ (names : List NameView) (are : AreNames names) (i reach : ℕ) (below : i < length names) (reaches : Reaches names i reach) where
+  earlier : (a : ℕ) → (name_at names i).address ≤ a → (j : ℕ) → j < i → (name_at names j).address ≤ a
+  earlier a low j before = omega (arith, low, are.rising j i blank_name before below)
+
+  pub reaches-more : Reaches names (i + 1) (max reach ((name_at names i).address + (name_at names i).size))
+  reaches-more a low high =
+      let next : i + 1 ≡ suc i = omega arith in
+      let done : is_covered_below names (suc i) a ≡ true =
+      ⊎_elim
+      (λ within. below-keep names i a (reaches a (λ j before. low j (omega (arith, before))) within))
+      (λ past. below-hit names i a (covers-is (name_at names i) a (low i (omega arith)) (omega (arith, high, past))))
+      (cases_lt a reach) in
+      ap (λ (k : ℕ). is_covered_below names k a) next ∙ done
+
+  span-covers : (a : ℕ) → (is_covered_below names i a || is_within (max (name_at names i).address reach) ((name_at names i).address + (name_at names i).size) a) ≡ is_covered_below names (suc i) a
+  span-covers a =
+      ⊎_elim
+      (λ hit.
+      let bounds = covers-low (name_at names i) a hit in
+      ⊎_elim
+      (λ within. or-either _ _ (reaches a (earlier a bounds.0) within) ∙ sym (below-hit names i a hit))
+      (λ past. or-second (is_covered_below names i a) _ (and_from _ _ (le-leb (max (name_at names i).address reach) a (omega (arith, bounds.0, past))) (lt-ltb a ((name_at names i).address + (name_at names i).size) bounds.1)) ∙ sym (below-hit names i a hit))
+      (cases_lt a reach))
+      (λ miss.
+      let apart : is_within (max (name_at names i).address reach) ((name_at names i).address + (name_at names i).size) a ≡ false =
+      ⊎_elim
+      (λ within.
+      let parts = and_parts (nat_le (max (name_at names i).address reach) a) (nat_lt a ((name_at names i).address + (name_at names i).size)) within in
+      absurd (both_ways (covers (name_at names i) a) miss (covers-is (name_at names i) a (omega (arith, leb-true (max (name_at names i).address reach) a parts.0)) (ltb-true a ((name_at names i).address + (name_at names i).size) parts.1))))
+      (λ out. out)
+      (cases_Bool (is_within (max (name_at names i).address reach) ((name_at names i).address + (name_at names i).size) a)) in
+      ap (λ (q : Bool). is_covered_below names i a || q) apart ∙ sym (or-none (is_covered_below names i a)) ∙ sym (below-miss names i a miss))
+      (cases_Bool (covers (name_at names i) a))
+
+  pub covered-next : (p : ℕ → Bool) (cells : List ℕ) → HasBits (also (also p (is_covered_below names i)) (is_within (max (name_at names i).address reach) ((name_at names i).address + (name_at names i).size))) cells → HasBits (also p (is_covered_below names (i + 1))) cells
+  covered-next p cells bits =
+      let next : suc i ≡ i + 1 = omega arith in
+      bits-as _ (also p (is_covered_below names (i + 1))) cells
+      (λ a room. or-assoc (p a) (is_covered_below names i a) _ ∙ ap (λ (q : Bool). p a || q) (span-covers a ∙ ap (λ (k : ℕ). is_covered_below names k a) next))
+      bits
+
+pub reaches-none : (names : List NameView) (reach : ℕ) → reach ≡ 0 → Reaches names 0 reach
+reaches-none names reach is a low high = absurd (omega arith)
+
+pub covered-start : (names : List NameView) (p : ℕ → Bool) (cells : List ℕ) → HasBits p cells → HasBits (also p (is_covered_below names 0)) cells
+covered-start names p cells bits = bits-as p (also p (is_covered_below names 0)) cells (λ a room. or-none (p a) ∙ ap (λ (q : Bool). p a || q) (sym (below-none names a))) bits
+
+own-covered : (names : List NameView) → AreNames names → (a : ℕ) → is_own names a ≡ true → is_covered_below names (length names) a ≡ true
+unfolding is_own
+own-covered names are a is =
+    let found = Any-from_list_any (λ (n : NameView). n.address == a) names is in
+    let n : NameView = found.1 in
+    let here : n.address ≡ a = eqb-true n.address a found.4 in
+    let sized = (are.each found.0 n found.2).sized in
+    let at : get_or names found.0 n ≡ n = found.3 in
+    let covers_it : covers (get_or names found.0 n) a ≡ true = ap (λ (v : NameView). covers v a) at ∙ covers-is n a (omega (arith, here)) (omega (arith, here, ap (λ (v : NameView). v.size) at, sized)) in
+    below-some names (length names) found.0 a found.2 (ap (λ (v : NameView). covers v a) (get_or_default names found.0 blank_name n found.2) ∙ covers_it)
+
+pub covered-end : (names : List NameView) (n : ℕ) (cells : List ℕ) → AreNames names → n ≡ length names → HasBits (also (is_own names) (is_covered_below names n)) cells → HasBits (is_covered names) cells
+covered-end names n cells are is bits =
+    bits-as (also (is_own names) (is_covered_below names n)) (is_covered names) cells
+    (λ a room.
+    ap (λ (k : ℕ). is_own names a || is_covered_below names k a) is
+    ∙ absorbed (is_own names a) (is_covered_below names (length names) a) (own-covered names are a)
+    ∙ covered-all names (length names) a refl)
+    bits
+  where
+    absorbed : (p q : Bool) → (p ≡ true → q ≡ true) → (p || q) ≡ q
+    absorbed true q given = sym (given refl)
+    absorbed false q given = refl
+
+-- ---- what laid cells hold
+
+laid-small : (m : MapView) (a : ℕ) → item_len m a < 8
+laid-small m a = omega (arith, item-small m a)
+
+pub laid-role : (m : MapView) (cells : List ℕ) (a : ℕ) → IsLaid m cells → a < 65536 → role_in_cell (get_or cells a 0) ≡ role_at m a
+laid-role m cells a laid room = cell-role (get_or cells a 0) (role_at m a) (item_len m a) (laid-small m a) (laid.each a room)
+
+pub laid-len : (m : MapView) (cells : List ℕ) (a : ℕ) → IsLaid m cells → a < 65536 → len_in_cell (get_or cells a 0) ≡ item_len m a
+laid-len m cells a laid room = cell-len (get_or cells a 0) (role_at m a) (item_len m a) (laid-small m a) (laid.each a room)
+
+laid-wide : (m : MapView) (cells : List ℕ) (a : ℕ) → IsLaid m cells → a < 65536 → is_wide_cell (get_or cells a 0) ≡ is_wide_role (role_at m a)
+laid-wide m cells a laid room = cell-wide (get_or cells a 0) (role_at m a) (item_len m a) (laid-small m a) (laid.each a room)
+
+-- ---- the first byte of an item
+
+wide-inside : (inside : Bool) (r : RangeType) → is_wide_role (if inside then Some r else None) ≡ (inside && is_wide r)
+wide-inside true r = refl
+wide-inside false r = refl
+
+wide-at : (m : MapView) (a : ℕ) → is_wide_role (role_at m a) ≡ (is_inside m.image a && is_wide (role_of m.info a))
+unfolding role_at
+wide-at m a = wide-inside (is_inside m.image a) (role_of m.info a)
+
+pub home-wide : (m : MapView) (a : ℕ) → (is_inside m.image a && is_wide (role_of m.info a)) ≡ true → home m a ≡ last_item m a
+unfolding home
+home-wide m a is = cond-true (is_inside m.image a && is_wide (role_of m.info a)) (last_item m a) a is
+
+pub home-narrow : (m : MapView) (a : ℕ) → (is_inside m.image a && is_wide (role_of m.info a)) ≡ false → home m a ≡ a
+unfolding home
+home-narrow m a is = cond-false (is_inside m.image a && is_wide (role_of m.info a)) (last_item m a) a is
+
+pub home-here : (m : MapView) (cells : List ℕ) (a : ℕ) → IsLaid m cells → a < 65536 → is_wide_cell (get_or cells a 0) ≡ false → home m a ≡ a
+home-here m cells a laid room is = home-narrow m a (sym (wide-at m a) ∙ sym (laid-wide m cells a laid room) ∙ is)
+
+pub home-before : (m : MapView) (cells : List ℕ) (a : ℕ) → IsLaid m cells → a < 65536 → is_wide_cell (get_or cells a 0) ≡ true → home m a ≡ last_item m a
+home-before m cells a laid room is = home-wide m a (sym (wide-at m a) ∙ sym (laid-wide m cells a laid room) ∙ is)
+
+pub last-zero : (m : MapView) → last_item m 0 ≡ 0
+unfolding last_item
+last-zero m = refl
+
+pub last-here : (m : MapView) (a : ℕ) → 0 < item_len m a → last_item m a ≡ a
+unfolding last_item
+last-here m zero some = refl
+last-here m (suc a) some = cond-true (nat_lt 0 (item_len m (suc a))) (suc a) (last_item m a) (lt-ltb 0 (item_len m (suc a)) some)
+
+last-suc : (m : MapView) (a : ℕ) → item_len m (suc a) ≡ 0 → last_item m (suc a) ≡ last_item m a
+unfolding last_item
+last-suc m a none = let test : nat_lt 0 (item_len m (suc a)) ≡ false = rw none refl in cond-false (nat_lt 0 (item_len m (suc a))) (suc a) (last_item m a) test
+
+pub last-before : (m : MapView) (a : ℕ) → 0 < a → item_len m a ≡ 0 → last_item m a ≡ last_item m (a - 1)
+last-before m a some none =
+    let next : a ≡ suc (a - 1) = omega arith in
+    ap (last_item m) next ∙ last-suc m (a - 1) (sym (ap (item_len m) next) ∙ none)
+
+-- ---- one target
+
+pub refers-none : (m : MapView) (item : ℕ) (p : ℕ → Bool) (cells : List ℕ) → target_at m item ≡ None → HasBits p cells → HasBits (also p (λ a. refers m a item)) cells
+unfolding refers
+refers-none m item p cells is bits =
+    bits-as p (also p (λ a. refers_by m (target_at m item) a)) cells (λ a room. or-none (p a) ∙ ap (λ o. p a || refers_by m o a) (sym is)) bits
+
+-- a target and the first byte of its item are marked
+module _ (m : MapView) (item t h : ℕ) (cells one two : List ℕ) (laid : IsLaid m cells) (t_room : t < 65536) (h_room : h < 65536) (is : target_at m item ≡ Some t) (at : h ≡ home m t) (then_one : one ≡ set cells t (with_bit (get_or cells t 0))) (then_two : two ≡ set one h (with_bit (get_or one h 0))) where
+  one-keeps : KeepsLay cells one
+  one-keeps = subst (KeepsLay cells) (sym then_one) (mark-keeps cells cells t laid.count t_room (keeps-same cells))
+
+  one-count : length one ≡ 65536
+  one-count = one-keeps.count ∙ laid.count
+
+  pub target-laid : IsLaid m two
+  target-laid = laid-keeps m cells two (subst (KeepsLay cells) (sym then_two) (mark-keeps cells one h one-count h_room one-keeps)) laid
+
+  marked-refers : (p : ℕ → Bool) (a : ℕ) → ((p a || t == a) || h == a) ≡ also p (λ b. refers m b item) a
+  unfolding refers
+  marked-refers p a = or-assoc (p a) (t == a) (h == a) ∙ ap (λ (k : ℕ). p a || (t == a || k == a)) at ∙ ap (λ o. p a || refers_by m o a) (sym is)
+
+  pub target-bits : (p : ℕ → Bool) → HasBits p cells → HasBits (also p (λ b. refers m b item)) two
+  target-bits p bits =
+      let first : HasBits (λ a. p a || t == a) one = subst (HasBits (λ a. p a || t == a)) (sym then_one) (mark-bits p cells t laid.count t_room bits) in
+      let second : HasBits (λ a. (p a || t == a) || h == a) two = subst (HasBits (λ a. (p a || t == a) || h == a)) (sym then_two) (mark-bits (λ a. p a || t == a) one h one-count h_room first) in
+      bits-as (λ a. (p a || t == a) || h == a) (also p (λ b. refers m b item)) two (λ a room. marked-refers p a) second
+
+-- ---- all targets
+
+any-more : (p : ℕ → Bool) (n a : ℕ) → list_any p (addresses (suc n) a) ≡ (list_any p (addresses n a) || p (a + n))
+unfolding addresses
+any-more p zero a = let place : a ≡ a + 0 = omega arith in sym (or-none (p a)) ∙ ap p place
+any-more p (suc n) a =
+    let place : a + 1 + n ≡ a + suc n = omega arith in
+    ap (λ (q : Bool). p a || q) (any-more p n (a + 1)) ∙ sym (or-assoc (p a) (list_any p (addresses n (a + 1))) (p (a + 1 + n))) ∙ ap (λ (k : ℕ). (p a || list_any p (addresses n (a + 1))) || p k) place
+
+wanted-next : (m : MapView) (n a : ℕ) → is_wanted_below m (n + 1) a ≡ (is_wanted_below m n a || refers m a (m.image.start + n))
+unfolding is_wanted_below
+wanted-next m n a = let next : n + 1 ≡ suc n = omega arith in ap (λ (k : ℕ). list_any (refers m a) (addresses k m.image.start)) next ∙ any-more (refers m a) n m.image.start
+
+wanted-none : (m : MapView) (a : ℕ) → is_wanted_below m 0 a ≡ false
+unfolding is_wanted_below addresses
+wanted-none m a = refl
+
+wanted-all : (m : MapView) (n a : ℕ) → n ≡ length m.image.bytes → (is_covered m.info.names a || is_wanted_below m n a) ≡ has_name m a
+unfolding is_wanted_below has_name is_wanted
+wanted-all m n a is = ap (λ (k : ℕ). is_covered m.info.names a || list_any (refers m a) (addresses k m.image.start)) is
+
+pub targets-start : (m : MapView) (cells : List ℕ) → HasBits (is_covered m.info.names) cells → HasBits (also (is_covered m.info.names) (is_wanted_below m 0)) cells
+targets-start m cells bits = bits-as (is_covered m.info.names) (also (is_covered m.info.names) (is_wanted_below m 0)) cells (λ a room. or-none (is_covered m.info.names a) ∙ ap (λ (q : Bool). is_covered m.info.names a || q) (sym (wanted-none m a))) bits
+
+pub targets-next : (m : MapView) (n item : ℕ) (cells : List ℕ) → item ≡ m.image.start + n → HasBits (also (also (is_covered m.info.names) (is_wanted_below m n)) (λ a. refers m a item)) cells → HasBits (also (is_covered m.info.names) (is_wanted_below m (n + 1))) cells
+targets-next m n item cells is bits =
+    bits-as _ (also (is_covered m.info.names) (is_wanted_below m (n + 1))) cells
+    (λ a room.
+    or-assoc (is_covered m.info.names a) (is_wanted_below m n a) (refers m a item)
+    ∙ ap (λ (q : Bool). is_covered m.info.names a || q) (ap (λ (k : ℕ). is_wanted_below m n a || refers m a k) is ∙ sym (wanted-next m n a)))
+    bits
+
+pub targets-end : (m : MapView) (n : ℕ) (cells : List ℕ) → n ≡ length m.image.bytes → HasBits (also (is_covered m.info.names) (is_wanted_below m n)) cells → HasBits (has_name m) cells
+targets-end m n cells is bits = bits-as (also (is_covered m.info.names) (is_wanted_below m n)) (has_name m) cells (λ a room. wanted-all m n a is) bits
+
+-- ---- the item that a cell holds
+
+pub laid-code : (m : MapView) (cells : List ℕ) (a c : ℕ) (o : Option RangeType) (r : RangeType) → IsLaid m cells → a < 65536 → m.image.start ≤ a → a < end_of m.image → c ≡ get_or cells a 0 → o ≡ role_in_cell c → r ≡ unwrap_or o Code → r ≡ role_of m.info a
+laid-code m cells a c o r laid room low high cell says is =
+    is ∙ ap (λ (q : Option RangeType). unwrap_or q Code) (says ∙ ap role_in_cell cell ∙ laid-role m cells a laid room ∙ role_at-inside m a low high)
+
+pub laid-item : (m : MapView) (cells : List ℕ) (a c n : ℕ) → IsLaid m cells → a < 65536 → c ≡ get_or cells a 0 → n ≡ len_in_cell c → n ≡ item_len m a
+laid-item m cells a c n laid room cell says = says ∙ ap len_in_cell cell ∙ laid-len m cells a laid room
+
+pub laid-fits : (m : MapView) (a n : ℕ) → a < end_of m.image → n ≡ item_len m a → a + n ≤ end_of m.image
+laid-fits m a n high is =
+    ⊎_elim
+    (λ none. omega (arith, none, is))
+    (λ some. omega (arith, item-fits m a (omega (arith, some)), is))
+    (cases_eq (item_len m a) 0)

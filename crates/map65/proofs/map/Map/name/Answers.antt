@@ -1,0 +1,45 @@
+use Rattle.std.proofs.Common.{◌≡◌, ◌∙◌, ap, false, sym, true}
+use Rattle.std.specs.Prelude.{None, Some}
+use Rattle.std.specs.Option.{option_map}
+use Rattle.info65.specs.Code.Names.{given_seen}
+use Rattle.info65.specs.Names.{covering}
+use Rattle.map65.specs.MapView.{MapView}
+use Rattle.map65.specs.Names.{Base, base_at, given_base, has_name, home_base}
+use Rattle.map65.proofs.NameLemmas.{base-covered, base-home, base-none, kind-of, text-of}
+use Rattle.map65.proofs.map.Map.name.Goals as goal
+
+pub returns-then-not-has_bit-clause-kind : goal.returns-then-not-has_bit-clause-kind
+returns-then-not-has_bit-clause-kind g c =
+    let m = c.args.self.now in
+    sym (kind-of m c.args.address None (base-none m c.args.address (sym c.cell.ensures.named ∙ sym c.has_bit.ensures ∙ c.if-not-has_bit.true)))
+
+pub returns-then-not-has_bit-clause-text : goal.returns-then-not-has_bit-clause-text
+returns-then-not-has_bit-clause-text g c =
+    let m = c.args.self.now in
+    c.clear.ensures ∙ sym (text-of m c.args.address None (base-none m c.args.address (sym c.cell.ensures.named ∙ sym c.has_bit.ensures ∙ c.if-not-has_bit.true)))
+
+pub returns-in-Some-clause-kind : goal.returns-in-Some-clause-kind
+returns-in-Some-clause-kind g c =
+    let m = c.args.self.now in
+    let base : base_at m c.args.address ≡ Some (given_base (given_seen c.in-Some.given)) = base-covered m c.args.address _ (sym c.given.ensures.value ∙ ap (option_map given_seen) c.in-Some.is) in
+    ap (λ k. Some k) c.put_given.ensures.kind ∙ sym (kind-of m c.args.address _ base)
+
+pub returns-in-Some-clause-text : goal.returns-in-Some-clause-text
+returns-in-Some-clause-text g c =
+    let m = c.args.self.now in
+    let base : base_at m c.args.address ≡ Some (given_base (given_seen c.in-Some.given)) = base-covered m c.args.address _ (sym c.given.ensures.value ∙ ap (option_map given_seen) c.in-Some.is) in
+    c.put_given.ensures.text ∙ sym (text-of m c.args.address _ base)
+
+pub returns-clause-kind : goal.returns-clause-kind
+returns-clause-kind g c =
+    let m = c.args.self.now in
+    let named : has_name m c.args.address ≡ true = sym c.cell.ensures.named ∙ sym c.has_bit.ensures ∙ c.if-not-has_bit.false in
+    let base : base_at m c.args.address ≡ Some (home_base m c.args.address) = base-home m c.args.address named (sym c.given.ensures.value ∙ ap (option_map given_seen) c.in_default.is) in
+    ap (λ k. Some k) c.put_home.ensures.kind ∙ sym (kind-of m c.args.address _ base)
+
+pub returns-clause-text : goal.returns-clause-text
+returns-clause-text g c =
+    let m = c.args.self.now in
+    let named : has_name m c.args.address ≡ true = sym c.cell.ensures.named ∙ sym c.has_bit.ensures ∙ c.if-not-has_bit.false in
+    let base : base_at m c.args.address ≡ Some (home_base m c.args.address) = base-home m c.args.address named (sym c.given.ensures.value ∙ ap (option_map given_seen) c.in_default.is) in
+    c.put_home.ensures.text ∙ sym (text-of m c.args.address _ base)

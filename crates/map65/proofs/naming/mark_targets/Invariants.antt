@@ -1,0 +1,13 @@
+use Rattle.map65.specs.Code.Cells.{HasBits, IsLaid}
+use Rattle.map65.specs.Code.Marking.{also, is_wanted_below}
+use Rattle.map65.specs.MapView.{MapView}
+use Rattle.map65.specs.Names.{is_covered}
+use Rattle.map65.proofs.naming.mark_targets.Given as goal
+
+abbrev pub invariant-loop-k : goal.invariant-loop-k
+invariant-loop-k g l =
+    let m : MapView = record { info = l.info; image = l.image } in
+    record {
+      laid : IsLaid m l.cells;
+      bits : HasBits (also (is_covered l.info.names) (is_wanted_below m l.k)) l.cells;
+    }

@@ -1,0 +1,34 @@
+-- Where base names lie. A listing defines each base name once, so that it assembles back.
+use Rattle.std.specs.Prelude.{◌≡◌, ◌⊎◌, ℕ, ◌+◌, ◌<◌, ◌≤◌, Bool, true, false, Some}
+use Rattle.info65.specs.declared.range.RangeType.TheVariants.{Code}
+use Rattle.map65.specs.ImageView.{is_inside}
+use Rattle.map65.specs.Items.{item_len}
+use Rattle.map65.specs.MapView.{MapView}
+use Rattle.map65.specs.Names.{Base, base_at, place_of}
+use Rattle.map65.specs.Roles.{is_skip, role_of}
+use Rattle.map65.specs.declared.name.Place.TheVariants.{Constant, Forward, Label}
+
+-- the address lies outside the image, or is skipped
+abbrev pub IsOutside : MapView → ℕ → Type 0
+IsOutside m n = (is_inside m.image n ≡ false) ⊎ (is_skip (role_of m.info n) ≡ true)
+
+-- the address lies inside an item of code, after its first byte
+pub record IsInCode (m : MapView) (n : ℕ) : Type 0 where
+  pub item : ℕ
+  pub begins : 0 < item_len m item
+  pub after : item < n
+  pub before : n < item + item_len m item
+  pub code : role_of m.info n ≡ Code
+
+-- The base of an address's name lies outside the image or in skipped bytes, or an item begins there, or it lies inside an item of code;
+-- its place says which. So no base lies inside an item of a table.
+abbrev pub PlaceLaw : MapView → Type 0
+PlaceLaw m = (a : ℕ) (b : Base) → base_at m a ≡ Some b → (IsOutside m b.address × (place_of m b.address ≡ Constant)) ⊎ (((0 < item_len m b.address) × (place_of m b.address ≡ Label)) ⊎ (IsInCode m b.address × (place_of m b.address ≡ Forward)))
+
+pub record BaseLaw (m : MapView) : Type 0 where
+  -- a base is not after an address that it names, so it lies in the address space
+  pub low : (a : ℕ) (b : Base) → base_at m a ≡ Some b → b.address ≤ a
+  -- a base is the name of its own address
+  pub own : (a : ℕ) (b : Base) → base_at m a ≡ Some b → base_at m b.address ≡ Some b
+  -- two bases with one text are one
+  pub distinct : (a c : ℕ) (b d : Base) → a < 65536 → c < 65536 → base_at m a ≡ Some b → base_at m c ≡ Some d → b.text ≡ d.text → b ≡ d

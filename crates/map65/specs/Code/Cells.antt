@@ -1,0 +1,113 @@
+-- The cells of a map, one for each address: its role, and the length of the item that begins there, in one number.
+use Rattle.std.specs.Prelude.{◌≡◌, ◌==◌, ◌+◌, ◌*◌, ◌/◌, ◌%◌, ◌<◌, ◌&&◌, ℕ, Bool, true, false, List, length, slice_index, Option, Some, None, if◌then◌else◌}
+use Rattle.info65.specs.declared.range.RangeType.{RangeType}
+use Rattle.info65.specs.declared.range.RangeType.TheVariants as role
+use Rattle.map65.specs.Items.{item_len}
+use Rattle.map65.specs.MapView.{MapView}
+use Rattle.map65.specs.Names.{has_name}
+use Rattle.map65.specs.Roles.{is_wide, role_at}
+
+-- ---- one cell
+
+-- the code of a role; an address outside the image has none
+unfoldable pub code_of : Option RangeType → ℕ
+code_of None = 0
+code_of (Some role.Code) = 1
+code_of (Some role.ByteTable) = 2
+code_of (Some role.WordTable) = 3
+code_of (Some role.DbyteTable) = 4
+code_of (Some role.AddrTable) = 5
+code_of (Some role.RtsTable) = 6
+code_of (Some role.TextTable) = 7
+code_of (Some role.Skip) = 8
+
+-- the role that has the code
+unfoldable pub coded : ℕ → Option RangeType
+coded n =
+    if n == 1 then Some role.Code
+    else (if n == 2 then Some role.ByteTable
+    else (if n == 3 then Some role.WordTable
+    else (if n == 4 then Some role.DbyteTable
+    else (if n == 5 then Some role.AddrTable
+    else (if n == 6 then Some role.RtsTable
+    else (if n == 7 then Some role.TextTable
+    else (if n == 8 then Some role.Skip
+    else None)))))))
+
+-- The cell of a role and an item's length: the role's code in the lowest four bits, the length in the next three, and 0 in the others.
+unfoldable pub cell_of : Option RangeType → ℕ → ℕ
+cell_of r n = code_of r + 16 * n
+
+unfoldable pub role_in_cell : ℕ → Option RangeType
+role_in_cell c = coded (c % 16)
+
+unfoldable pub len_in_cell : ℕ → ℕ
+len_in_cell c = c / 16 % 8
+
+-- both cells have the same role
+unfoldable pub is_same_role : ℕ → ℕ → Bool
+is_same_role c d = c % 16 == d % 16
+
+-- whether a role is a table whose entries have more than one byte
+abbrev pub is_wide_role : Option RangeType → Bool
+is_wide_role None = false
+is_wide_role (Some r) = is_wide r
+
+abbrev pub is_wide_cell : ℕ → Bool
+is_wide_cell c = is_wide_role (role_in_cell c)
+
+-- the cell with the length of an item, which it did not have
+unfoldable pub with_len : ℕ → ℕ → ℕ
+with_len c n = c + 16 * n
+
+-- the bit for a name
+unfoldable pub has_bit : ℕ → Bool
+has_bit c = c / 128 % 2 == 1
+
+-- the cell with its bit for a name
+unfoldable pub with_bit : ℕ → ℕ
+with_bit c = if has_bit c then c else c + 128
+
+-- while items are marked, the bit says that a given name has the address as its own; in a table whose entries have more than one byte
+-- it then cuts the run
+abbrev pub is_cut : ℕ → Bool
+is_cut c = has_bit c && is_wide_cell c
+
+-- ---- all cells
+
+-- the role of the address, and the length of the item that begins there
+abbrev pub lay_at : MapView → ℕ → ℕ
+lay_at m a = cell_of (role_at m a) (item_len m a)
+
+-- the lower seven bits of each cell hold the role and the length
+pub record IsLaid (m : MapView) (cells : List ℕ) : Type 0 where
+  pub count : length cells ≡ 65536
+  pub each : (a : ℕ) → a < 65536 → slice_index cells a % 128 ≡ lay_at m a
+
+abbrev pub bit : Bool → ℕ
+bit false = 0
+bit true = 1
+
+-- the upper bits of each cell hold the result of a test
+pub record HasBits (test : ℕ → Bool) (cells : List ℕ) : Type 0 where
+  pub each : (a : ℕ) → a < 65536 → slice_index cells a / 128 ≡ bit (test a)
+
+abbrev pub nowhere : ℕ → Bool
+nowhere a = false
+
+-- the cells of a map: role, length, and whether the address has a name
+pub record AreCells (m : MapView) (cells : List ℕ) : Type 0 where
+  pub laid : IsLaid m cells
+  pub bits : HasBits (has_name m) cells
+
+-- ---- the law
+
+-- the cell holds this role and this length, and nothing else
+pub record Says (cell : ℕ) (r : Option RangeType) (n : ℕ) : Type 0 where
+  pub role : role_in_cell cell ≡ r
+  pub len : len_in_cell cell ≡ n
+  pub rest : cell / 128 ≡ 0
+
+-- A role and a length that are packed into a cell are read from it.
+abbrev pub CellLaw : Type 0
+CellLaw = (r : Option RangeType) (n : ℕ) → n < 8 → Says (cell_of r n) r n

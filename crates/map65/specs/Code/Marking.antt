@@ -1,0 +1,67 @@
+-- Cells while they are written: first the roles, range by range, then the lengths, item by item.
+use Rattle.std.specs.Prelude.{◌≡◌, ◌-◌, ◌%◌, ◌<◌, ◌≤◌, ◌&&◌, ◌||◌, not, ℕ, Bool, true, nat_le, nat_lt, List, length, slice_index, Option, Some, None, is_some, if◌then◌else◌}
+use Rattle.std.specs.List.{list_any}
+use Rattle.info65.specs.Names.{covering_below, name_at}
+use Rattle.info65.specs.Views.{NameView}
+use Rattle.info65.specs.Ranges.{has_address}
+use Rattle.info65.specs.declared.range.RangeSpec.{RangeSpec}
+use Rattle.info65.specs.declared.range.RangeType.{RangeType}
+use Rattle.map65.specs.ImageView.{ImageView, is_inside}
+use Rattle.map65.specs.MapView.{MapView}
+use Rattle.map65.specs.Names.{refers}
+use Rattle.map65.specs.Roles.{role_at, role_in}
+use Rattle.map65.specs.Spans.{addresses}
+use Rattle.map65.specs.Code.Cells.{cell_of, is_cut, is_same_role, lay_at}
+
+-- the cell of the role at the addresses from `from` to before `to`, else what it was
+unfoldable pub painted : ℕ → ℕ → RangeType → ℕ → ℕ → ℕ
+painted from to r old a = if nat_le from a && nat_lt a to then cell_of (Some r) 0 else old
+
+-- the same, at the addresses of the image that belong to the range
+unfoldable pub painted_by : ImageView → RangeSpec → ℕ → ℕ → ℕ
+painted_by image range old a = if is_inside image a && has_address range a then cell_of (Some range.role) 0 else old
+
+-- the role of an address by some of the ranges alone
+unfoldable pub role_by : ImageView → List RangeSpec → ℕ → Option RangeType
+role_by image ranges a = if is_inside image a then Some (role_in ranges a) else None
+
+pub record ArePainted (image : ImageView) (ranges : List RangeSpec) (cells : List ℕ) : Type 0 where
+  pub count : length cells ≡ 65536
+  pub each : (a : ℕ) → a < 65536 → slice_index cells a ≡ cell_of (role_by image ranges a) 0
+
+-- the lower seven bits of all cells hold the role, and those of the cells below an address the length too
+pub record AreMarkedBelow (m : MapView) (at : ℕ) (cells : List ℕ) : Type 0 where
+  pub count : length cells ≡ 65536
+  pub marked : (a : ℕ) → a < 65536 → a < at → slice_index cells a % 128 ≡ lay_at m a
+  pub plain : (a : ℕ) → a < 65536 → at ≤ a → slice_index cells a % 128 ≡ cell_of (role_at m a) 0
+
+-- the address lies in the piece of the one before it, by their cells
+unfoldable pub is_joined_in : List ℕ → ℕ → Bool
+is_joined_in cells a = nat_lt a (length cells) && (is_same_role (slice_index cells (a - 1)) (slice_index cells a) && not (is_cut (slice_index cells a)))
+
+-- ---- names
+
+-- the lower seven bits of all cells stay
+pub record KeepsLay (old new : List ℕ) : Type 0 where
+  pub count : length new ≡ length old
+  pub each : (a : ℕ) → a < 65536 → slice_index new a % 128 ≡ slice_index old a % 128
+
+-- one test or the other
+abbrev pub also : (ℕ → Bool) → (ℕ → Bool) → ℕ → Bool
+also p q a = p a || q a
+
+-- the address lies from `from` to before `to`
+abbrev pub is_within : ℕ → ℕ → ℕ → Bool
+is_within from to a = nat_le from a && nat_lt a to
+
+-- one of the first n names covers the address
+abbrev pub is_covered_below : List NameView → ℕ → ℕ → Bool
+is_covered_below names n a = is_some (covering_below names n a)
+
+-- the first n names cover every address below `reach`, from the last of their own addresses on
+abbrev pub Reaches : List NameView → ℕ → ℕ → Type 0
+Reaches names n reach = (a : ℕ) → ((i : ℕ) → i < n → (name_at names i).address ≤ a) → a < reach → is_covered_below names n a ≡ true
+
+-- one of the first n items of the image refers to the address
+unfoldable pub is_wanted_below : MapView → ℕ → ℕ → Bool
+is_wanted_below m n a = list_any (refers m a) (addresses n m.image.start)

@@ -1,0 +1,104 @@
+-- Targets: the addresses that items refer to.
+--
+-- The operands of `jmp` to an absolute address, of `jsr` and of relative instructions are targets wherever they lie, and so are the
+-- entries of address tables, and those of return tables plus one. The operands of all other absolute modes are targets only inside
+-- the image, skipped bytes included. A branch out of the address space has no target, nor has the return entry $FFFF. Zero-page
+-- operands, words and dbytes are no targets, and undefined and cut opcodes and leftover bytes have none.
+use Rattle.std.specs.Prelude.{◌≡◌, ℕ, ◌+◌, ◌-◌, ◌*◌, ◌<◌, ◌==◌, ◌||◌, nat_le, nat_lt, Bool, if◌then◌else◌, List, slice_index, Option, Some, None}
+use denote.Enum.Bare.{sameb}
+use Rattle.isa65.specs.Mode.{len_of}
+use Rattle.isa65.specs.Opcodes.{decoded}
+use Rattle.isa65.specs.contracts.mnemonic.Mnemonic as mnemonic
+use Rattle.isa65.specs.declared.mnemonic.Mnemonic.{Mnemonic}
+use Rattle.isa65.specs.declared.mnemonic.Mnemonic.TheVariants.{Jmp, Jsr}
+use Rattle.isa65.specs.declared.mode.Mode.{Mode}
+use Rattle.isa65.specs.declared.mode.Mode.TheVariants.{Imp, Acc, Imm, Zp, Zpx, Zpy, Abs, Absx, Absy, Ind, Indx, Indy, Zpind, Absindx, Rel, Zprel}
+use Rattle.isa65.specs.declared.op.Op.{Op}
+use Rattle.info65.specs.declared.range.RangeType.{RangeType}
+use Rattle.info65.specs.declared.range.RangeType.TheVariants as role
+use Rattle.map65.specs.ImageView.{ImageView, byte_at, bytes_from, is_inside}
+use Rattle.map65.specs.Items.{item_len}
+use Rattle.map65.specs.MapView.{MapView, opcodes}
+use Rattle.map65.specs.Roles.{role_of}
+
+-- ---- an instruction's bytes
+
+-- the byte after the opcode
+abbrev pub byte_of : List ℕ → ℕ
+byte_of bytes = slice_index bytes 1
+
+-- the word after the opcode, low byte first
+abbrev pub word_of : List ℕ → ℕ
+word_of bytes = slice_index bytes 1 + 256 * slice_index bytes 2
+
+-- The target of a branch: the address after the instruction plus a signed byte, if that lies in $0000 to $FFFF. A byte below $80 leads
+-- forward; any other leads back, by what it lacks of $100.
+unfoldable pub target_of : ℕ → ℕ → Option ℕ
+target_of next b =
+    if nat_lt b 128 then (if nat_lt (next + b) 65536 then Some (next + b) else None)
+    else (if nat_le (256 - b) next then Some (next - (256 - b)) else None)
+
+-- ---- the target of an instruction
+
+abbrev pub is_jump : Mnemonic → Bool
+is_jump m = sameb mnemonic.the_type m Jmp || sameb mnemonic.the_type m Jsr
+
+abbrev pub only_inside : ImageView → ℕ → Option ℕ
+only_inside image t = if is_inside image t then Some t else None
+
+-- the target of an instruction in a mode, at an address, of these bytes
+unfoldable pub operand_target : ImageView → Mnemonic → Mode → ℕ → List ℕ → Option ℕ
+operand_target image m Abs a bytes = if is_jump m then Some (word_of bytes) else only_inside image (word_of bytes)
+operand_target image m Absx a bytes = only_inside image (word_of bytes)
+operand_target image m Absy a bytes = only_inside image (word_of bytes)
+operand_target image m Ind a bytes = only_inside image (word_of bytes)
+operand_target image m Absindx a bytes = only_inside image (word_of bytes)
+operand_target image m Rel a bytes = target_of (a + 2) (byte_of bytes)
+operand_target image m Zprel a bytes = target_of (a + 3) (slice_index bytes 2)
+operand_target image m Imp a bytes = None
+operand_target image m Acc a bytes = None
+operand_target image m Imm a bytes = None
+operand_target image m Zp a bytes = None
+operand_target image m Zpx a bytes = None
+operand_target image m Zpy a bytes = None
+operand_target image m Indx a bytes = None
+operand_target image m Indy a bytes = None
+operand_target image m Zpind a bytes = None
+
+-- ---- the target of an item
+
+-- an instruction of which all bytes belong to the item, which has n
+abbrev pub code_target : ImageView → Option Op → ℕ → ℕ → List ℕ → Option ℕ
+code_target image None n a bytes = None
+code_target image (Some op) n a bytes = if n == len_of op.mode then operand_target image op.mnemonic op.mode a bytes else None
+
+-- the word of an entry, low byte first
+abbrev pub entry_of : List ℕ → ℕ
+entry_of bytes = slice_index bytes 0 + 256 * slice_index bytes 1
+
+-- the address that a return with this word on the stack leads to
+abbrev pub return_target : ℕ → Option ℕ
+return_target word = if word == 65535 then None else Some (word + 1)
+
+-- the target of an item of this role and of n bytes at an address, whose bytes are the first of these
+unfoldable pub target_for : MapView → RangeType → ℕ → ℕ → List ℕ → Option ℕ
+target_for m role.Code n a bytes = code_target m.image (decoded (opcodes m) (slice_index bytes 0)) n a bytes
+target_for m role.AddrTable n a bytes = if n == 2 then Some (entry_of bytes) else None
+target_for m role.RtsTable n a bytes = if n == 2 then return_target (entry_of bytes) else None
+target_for m role.ByteTable n a bytes = None
+target_for m role.WordTable n a bytes = None
+target_for m role.DbyteTable n a bytes = None
+target_for m role.TextTable n a bytes = None
+target_for m role.Skip n a bytes = None
+
+-- the target of the item that begins at the address; none if no item does
+unfoldable pub target_at : MapView → ℕ → Option ℕ
+target_at m a = target_for m (role_of m.info a) (item_len m a) a (bytes_from m.image a)
+
+-- ---- the fact
+
+-- an item of the image has this target
+pub record IsTarget (m : MapView) (t : ℕ) : Type 0 where
+  pub item : ℕ
+  pub begins : 0 < item_len m item
+  pub has : target_at m item ≡ Some t

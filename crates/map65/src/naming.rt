@@ -1,0 +1,136 @@
+//! The sweeps that mark addresses that have a name.
+
+ghost use Rattle.std.specs.Prelude.{◌≡◌, ◌+◌, ◌<◌, ◌≤◌, ℕ, Bool, length, max, set, slice_index};
+ghost use Rattle.info65.specs.Code.Names.{given_seen};
+ghost use Rattle.info65.specs.Names.{AreNames, name_at};
+ghost use Rattle.map65.specs.Code.Cells.{AreCells, HasBits, IsLaid, nowhere, with_bit};
+ghost use Rattle.map65.specs.Code.Marking.{KeepsLay, Reaches, also, is_covered_below, is_within};
+ghost use Rattle.map65.specs.ImageView.{IsPlaced, end_of};
+ghost use Rattle.map65.specs.MapView.{MapView};
+ghost use Rattle.map65.specs.Names.{home, is_covered, refers};
+ghost use Rattle.map65.specs.Pieces.{is_own};
+
+use crate::cells::{is_wide_cell, len_in, role_in, with_bit};
+use crate::image::Image;
+use crate::target::target_at;
+use info65::{Given, Info, RangeType};
+use std::alloc::Allocator;
+
+/// Sets the bit of the address's cell.
+fn mark(cells: &mut [u16], address: u16)
+    requires { length cells.old ≡ 65536 }
+    ensures { cells.new ≡ set cells.old address (with_bit (slice_index cells.old address)) }
+{
+    let at = usize::from(address);
+    cells[at] = with_bit(cells[at]);
+}
+
+// ---- given names
+
+/// Marks the own address of each given name in cells without marks.
+pub fn mark_own<A: Allocator>(cells: &mut [u16], info: &Info<A>)
+    requires count { length cells.old ≡ 65536 }
+    requires bits { HasBits nowhere cells.old }
+    ensures keeps { KeepsLay cells.old cells.new }
+    ensures bits { HasBits (is_own info.now.names) cells.new }
+{
+    for i in 0..info.given_count() {
+        mark(cells, info.given(i).address);
+    }
+}
+
+/// Marks the addresses from `from` to before `to`.
+fn mark_span(cells: &mut [u16], from: usize, to: usize)
+    requires count { length cells.old ≡ 65536 }
+    requires room { to ≤ 65536 }
+    ensures keeps { KeepsLay cells.old cells.new }
+    ensures bits { (p : ℕ → Bool) → HasBits p cells.old → HasBits (also p (is_within from to)) cells.new }
+{
+    for at in from..to {
+        cells[at] = with_bit(cells[at]);
+    }
+}
+
+/// Marks the addresses that the name covers, but for those below `reach`, and returns how far it and the names
+/// before it reach.
+fn mark_name(cells: &mut [u16], name: Given<'_>, reach: usize) -> usize
+    requires count { length cells.old ≡ 65536 }
+    requires room { name.address + name.size ≤ 65536 }
+    ensures keeps { KeepsLay cells.old cells.new }
+    ensures bits { (p : ℕ → Bool) → HasBits p cells.old → HasBits (also p (is_within (max name.entry.address reach) (name.entry.address + name.entry.size))) cells.new }
+    ensures reach { result ≡ max reach (name.entry.address + name.entry.size) }
+{
+    let first = usize::from(name.address);
+    let end = first + name.size as usize;
+    mark_span(cells, first.max(reach), end);
+    reach.max(end)
+}
+
+/// Marks all addresses that a given name covers, besides the own addresses that are marked.
+///
+/// Names ascend by address, so an address below the reach of the names before is marked already, and the time
+/// grows with the number of names and of marked addresses, however much the names overlap.
+pub fn mark_covered<A: Allocator>(cells: &mut [u16], info: &Info<A>)
+    requires count { length cells.old ≡ 65536 }
+    requires bits { HasBits (is_own info.now.names) cells.old }
+    ensures keeps { KeepsLay cells.old cells.new }
+    ensures bits { HasBits (is_covered info.now.names) cells.new }
+{
+    let mut reach = 0;
+    for i in 0..info.given_count() {
+        reach = mark_name(cells, info.given(i), reach);
+    }
+}
+
+// ---- targets
+
+/// Returns the first byte of the item that the address lies inside, in a table whose entries have more than one
+/// byte, and any other address itself.
+pub fn home_of(cells: &[u16], address: u16) -> u16
+    requires { length cells.now ≡ 65536 }
+    ensures value { (m : MapView) → IsLaid m cells.now → result ≡ home m address }
+    ensures below { result ≤ address }
+{
+    if !is_wide_cell(cells[usize::from(address)]) {
+        return address;
+    }
+    let mut at = address;
+    'home: while 0 < at && len_in(cells[usize::from(at)]) == 0 {
+        at -= 1;
+    }
+    at
+}
+
+/// Marks the target of the item that begins at the address, and the first byte of the table's item that the target
+/// lies inside.
+fn mark_target<A: Allocator>(cells: &mut [u16], info: &Info<A>, image: &Image<A>, address: u16)
+    requires low { image.now.start ≤ address }
+    requires high { address < end_of image.now }
+    requires laid { IsLaid (record { info = info.now; image = image.now }) cells.old }
+    ensures laid { IsLaid (record { info = info.now; image = image.now }) cells.new }
+    ensures bits { (p : ℕ → Bool) → HasBits p cells.old → HasBits (also p (λ a. refers (record { info = info.now; image = image.now }) a address)) cells.new }
+{
+    let cell = cells[usize::from(address)];
+    let len = len_in(cell);
+    if len == 0 {
+        return;
+    }
+    let role = role_in(cell).unwrap_or(RangeType::Code);
+    if let Some(target) = target_at(info, image, role, len, address) {
+        let first = home_of(cells, target);
+        mark(cells, target);
+        mark(cells, first);
+    }
+}
+
+/// Marks the targets of all items, besides the addresses that given names cover.
+pub fn mark_targets<A: Allocator>(cells: &mut [u16], info: &Info<A>, image: &Image<A>)
+    requires laid { IsLaid (record { info = info.now; image = image.now }) cells.old }
+    requires bits { HasBits (is_covered info.now.names) cells.old }
+    ensures { AreCells (record { info = info.now; image = image.now }) cells.new }
+{
+    let start = usize::from(image.start());
+    for k in 0..image.bytes().len() {
+        mark_target(cells, info, image, (start + k) as u16);
+    }
+}

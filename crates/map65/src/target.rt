@@ -1,0 +1,196 @@
+//! Targets of items: the addresses that they refer to.
+
+ghost use Rattle.std.specs.Prelude.{◌≡◌, ◌+◌, ◌<◌, ◌≤◌, length, slice_index};
+ghost use Rattle.isa65.specs.Cpu.{table_of};
+ghost use Rattle.isa65.specs.Mode.{len_of};
+ghost use Rattle.isa65.specs.Opcodes.{decoded};
+ghost use Rattle.map65.specs.ImageView.{bytes_from, end_of, is_inside};
+ghost use Rattle.map65.specs.Items.{item_len};
+ghost use Rattle.map65.specs.Roles.{role_of};
+ghost use Rattle.map65.specs.Targets.{code_target, entry_of, is_jump, only_inside, operand_target, return_target, target_at, target_for, target_of, word_of};
+
+use crate::image::Image;
+use info65::{Info, RangeType};
+use isa65::{Cpu, Mnemonic, Mode, Op, OpcodeSet};
+use std::alloc::Allocator;
+
+/// Returns the word after the opcode, low byte first.
+pub fn word_of(bytes: &[u8]) -> u16
+    requires { 3 ≤ length bytes.now }
+    ensures { result ≡ word_of bytes.now }
+{
+    u16::from(bytes[1]) + 256 * u16::from(bytes[2])
+}
+
+/// Returns the address that a branch leads to by its signed byte from `next`, the address after the instruction,
+/// and `None` if the branch leaves the address space.
+#[tactic(auto, unfolding(crate::specs::Targets::target_of))]
+pub fn target_of(next: u32, byte: u8) -> Option<u16>
+    requires { next ≤ 65536 }
+    ensures { result ≡ target_of next byte }
+{
+    let byte = u32::from(byte);
+    if byte < 128 {
+        if next + byte < 65_536 {
+            Some((next + byte) as u16)
+        } else {
+            None
+        }
+    } else {
+        let back = 256 - byte;
+        if back <= next {
+            Some((next - back) as u16)
+        } else {
+            None
+        }
+    }
+}
+
+/// Whether the instruction leads to its absolute operand.
+fn is_jump(mnemonic: Mnemonic) -> bool
+    ensures { result ≡ is_jump mnemonic }
+{
+    mnemonic == Mnemonic::Jmp || mnemonic == Mnemonic::Jsr
+}
+
+fn is_inside<A: Allocator>(image: &Image<A>, address: u16) -> bool
+    ensures { result ≡ is_inside image.now address }
+{
+    image.start() <= address
+        && usize::from(address) < usize::from(image.start()) + image.bytes().len()
+}
+
+fn only_inside<A: Allocator>(image: &Image<A>, address: u16) -> Option<u16>
+    ensures { result ≡ only_inside image.now address }
+{
+    if is_inside(image, address) {
+        Some(address)
+    } else {
+        None
+    }
+}
+
+/// The target of an instruction that lies whole in the image, and has these bytes first.
+#[tactic(auto, unfolding(crate::specs::Targets::operand_target))]
+fn operand_target<A: Allocator>(image: &Image<A>, op: Op, address: u16, bytes: &[u8]) -> Option<u16>
+    requires all { len_of op.mode ≤ length bytes.now }
+    requires room { address + len_of op.mode ≤ 65536 }
+    ensures { result ≡ operand_target image.now op.mnemonic op.mode address bytes.now }
+{
+    match op.mode {
+        Mode::Abs => {
+            if is_jump(op.mnemonic) {
+                return Some(word_of(bytes));
+            }
+            only_inside(image, word_of(bytes))
+        }
+        Mode::Absx | Mode::Absy | Mode::Ind | Mode::Absindx => only_inside(image, word_of(bytes)),
+        Mode::Rel => target_of(u32::from(address) + 2, bytes[1]),
+        Mode::Zprel => target_of(u32::from(address) + 3, bytes[2]),
+        Mode::Imp
+        | Mode::Acc
+        | Mode::Imm
+        | Mode::Zpx
+        | Mode::Zpy
+        | Mode::Indx
+        | Mode::Indy
+        | Mode::Zpind
+        | Mode::Zp => None,
+    }
+}
+
+/// The target of an item of code of this length: none if the opcode is undefined or cut.
+fn code_target<A: Allocator>(
+    image: &Image<A>,
+    cpu: Cpu,
+    len: u8,
+    address: u16,
+    bytes: &[u8],
+) -> Option<u16>
+    requires some { 0 < length bytes.now }
+    requires all { len ≤ length bytes.now }
+    requires room { address + len ≤ 65536 }
+    ensures { result ≡ code_target image.now (decoded (table_of cpu) (slice_index bytes.now 0)) len address bytes.now }
+{
+    match cpu.decode(bytes[0]) {
+        Some(op) => {
+            if len == op.mode.len() {
+                return operand_target(image, op, address, bytes);
+            }
+            None
+        }
+        None => None,
+    }
+}
+
+/// The word of a table's entry, low byte first.
+fn entry_of(bytes: &[u8]) -> u16
+    requires { 2 ≤ length bytes.now }
+    ensures { result ≡ entry_of bytes.now }
+{
+    u16::from(bytes[0]) + 256 * u16::from(bytes[1])
+}
+
+/// The address that a return leads to with this word on the stack.
+fn return_target(word: u16) -> Option<u16>
+    ensures { result ≡ return_target word }
+{
+    if word == 0xFFFF { None } else { Some(word + 1) }
+}
+
+/// The target of an item of this role and length, which has these bytes first.
+#[tactic(auto, unfolding(crate::specs::Targets::target_for))]
+fn target_for<A: Allocator>(
+    info: &Info<A>,
+    image: &Image<A>,
+    role: RangeType,
+    len: u8,
+    address: u16,
+    bytes: &[u8],
+) -> Option<u16>
+    requires some { 0 < length bytes.now }
+    requires all { len ≤ length bytes.now }
+    requires room { address + len ≤ 65536 }
+    ensures { result ≡ target_for (record { info = info.now; image = image.now }) role len address bytes.now }
+{
+    match role {
+        RangeType::Code => code_target(image, info.settings().cpu, len, address, bytes),
+        RangeType::AddrTable => {
+            if len == 2 {
+                return Some(entry_of(bytes));
+            }
+            None
+        }
+        RangeType::RtsTable => {
+            if len == 2 {
+                return return_target(entry_of(bytes));
+            }
+            None
+        }
+        RangeType::ByteTable
+        | RangeType::WordTable
+        | RangeType::DbyteTable
+        | RangeType::TextTable
+        | RangeType::Skip => None,
+    }
+}
+
+/// Returns the target of the item of this role and length that begins at the address.
+#[tactic(auto, unfolding(crate::specs::Targets::target_at))]
+pub fn target_at<A: Allocator>(
+    info: &Info<A>,
+    image: &Image<A>,
+    role: RangeType,
+    len: u8,
+    address: u16,
+) -> Option<u16>
+    requires low { image.now.start ≤ address }
+    requires high { address < end_of image.now }
+    requires room { address + len ≤ end_of image.now }
+    requires role { role ≡ role_of info.now address }
+    requires len { len ≡ item_len (record { info = info.now; image = image.now }) address }
+    ensures { result ≡ target_at (record { info = info.now; image = image.now }) address }
+{
+    let (_, bytes) = image.bytes().split_at(usize::from(address - image.start()));
+    target_for(info, image, role, len, address, bytes)
+}

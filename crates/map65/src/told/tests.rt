@@ -1,0 +1,161 @@
+use crate::{DeviceFault, ImageFault, Sink, Source, Told, read_image, take_up_to};
+use info65::{Options, read_info};
+use std::alloc::Global;
+use std::io;
+use std::io::{ErrorKind, Read, Write};
+use std::test::Fail;
+
+const KINDS: [ErrorKind; 3] = [
+    ErrorKind::Interrupted,
+    ErrorKind::WouldBlock,
+    ErrorKind::Other,
+];
+
+/// Fails at the call of this number, counted from 1, and then works. Moves one byte a call.
+#[derive(Drop)]
+struct FailsOnce {
+    kind: ErrorKind,
+    fails_at: usize,
+    calls: usize,
+}
+
+impl FailsOnce {
+    fn new(kind: ErrorKind, fails_at: usize) -> FailsOnce {
+        FailsOnce {
+            kind,
+            fails_at,
+            calls: 0,
+        }
+    }
+
+    fn call(&mut self) -> io::Result<()> {
+        self.calls = self.calls.saturating_add(1);
+        if self.calls == self.fails_at {
+            return Err(io::Error::from(self.kind));
+        }
+        Ok(())
+    }
+}
+
+impl Read for FailsOnce {
+    fn read(&mut self, buf: &mut [u8]) -> io::Result<usize> {
+        self.call()?;
+        match buf.first_mut() {
+            Some(byte) => {
+                *byte = 7;
+                Ok(1)
+            }
+            None => Ok(0),
+        }
+    }
+}
+
+impl Write for FailsOnce {
+    fn write(&mut self, buf: &[u8]) -> io::Result<usize> {
+        self.call()?;
+        Ok(buf.len().min(1))
+    }
+
+    fn flush(&mut self) -> io::Result<()> {
+        Ok(())
+    }
+}
+
+#[test]
+fn a_failed_read_is_one_call(rt: HostRuntime) -> Result<(), Fail> {
+    for kind in KINDS {
+        let mut reader = FailsOnce::new(kind, 1);
+        let mut buf = [0u8; 4];
+        assert_eq!(rt;
+            Told::new(&mut reader).read_some(&mut buf),
+            Err(DeviceFault)
+        );
+        assert_eq!(rt; reader.calls, 1);
+        assert_eq!(rt; Told::new(&mut reader).read_some(&mut buf), Ok(1));
+    }
+    Ok(())
+}
+
+#[test]
+fn a_failed_write_is_one_call(rt: HostRuntime) -> Result<(), Fail> {
+    for kind in KINDS {
+        let mut writer = FailsOnce::new(kind, 1);
+        assert_eq!(rt; Told::new(&mut writer).write_some(b"ab"), Err(DeviceFault));
+        assert_eq!(rt; writer.calls, 1);
+        assert_eq!(rt; Told::new(&mut writer).write_some(b"ab"), Ok(1));
+    }
+    Ok(())
+}
+
+#[test]
+fn nothing_is_read_after_a_failed_read(rt: HostRuntime) -> Result<(), Fail> {
+    // Two bytes are passed over, and two are read.
+    let text = b"GLOBAL { INPUTOFFS 2; INPUTSIZE 2; }";
+    let info = read_info(rt.alloc(), &Options::<Global>::none(), text)?;
+    for kind in KINDS {
+        for fails_at in 1..5 {
+            let mut reader = FailsOnce::new(kind, fails_at);
+            let answer = read_image(rt.alloc(), &info, &mut Told::new(&mut reader));
+            assert_eq!(rt; answer.err(), Some(ImageFault::Read), "at {fails_at}");
+            assert_eq!(rt; reader.calls, fails_at);
+        }
+    }
+    let mut reader = FailsOnce::new(ErrorKind::Other, 5);
+    let image = read_image(rt.alloc(), &info, &mut Told::new(&mut reader))?;
+    assert_eq!(rt; image.bytes(), [7, 7].as_slice());
+    assert_eq!(rt; reader.calls, 4);
+    Ok(())
+}
+
+#[test]
+fn nothing_is_taken_after_a_failed_read(rt: HostRuntime) -> Result<(), Fail> {
+    for kind in KINDS {
+        let mut reader = FailsOnce::new(kind, 3);
+        let answer = take_up_to(rt.alloc(), &mut Told::new(&mut reader), 9);
+        assert_eq!(rt; answer.err(), Some(ImageFault::Read));
+        assert_eq!(rt; reader.calls, 3);
+    }
+    Ok(())
+}
+
+/// Ends after some bytes, and counts the reads at the end.
+#[derive(Drop)]
+struct Ends {
+    left: usize,
+    ends: usize,
+}
+
+impl Read for Ends {
+    fn read(&mut self, buf: &mut [u8]) -> io::Result<usize> {
+        if self.left == 0 {
+            self.ends = self.ends.saturating_add(1);
+            return Ok(0);
+        }
+        let n = buf.len().min(1);
+        self.left -= n;
+        Ok(n)
+    }
+}
+
+#[test]
+fn nothing_is_read_after_the_end(rt: HostRuntime) -> Result<(), Fail> {
+    let text = b"GLOBAL { INPUTOFFS 2; }";
+    let info = read_info(rt.alloc(), &Options::<Global>::none(), text)?;
+    for left in 0..4 {
+        let mut reader = Ends { left, ends: 0 };
+        let answer = read_image(rt.alloc(), &info, &mut Told::new(&mut reader));
+        assert_eq!(rt; answer.is_ok(), 2 < left);
+        assert_eq!(rt; reader.ends, 1, "after {left}");
+    }
+    Ok(())
+}
+
+#[test]
+fn text_of_the_fault(rt: HostRuntime) -> Result<(), Fail> {
+    let fault = DeviceFault;
+    assert_eq!(rt;
+        format!(in rt.alloc(); "{fault}")?.as_str(),
+        "a read or a write failed"
+    );
+    Ok(())
+}

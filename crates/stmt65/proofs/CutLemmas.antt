@@ -1,0 +1,46 @@
+-- The cutting of a text gives its bytes back, and there is no other.
+use Rattle.std.proofs.Common.{◌≡◌, ℕ, Bool, true, false, List, [], ◌∷◌, refl, sym, ap, subst, ◌∙◌, arith}
+use Rattle.std.specs.List.{flat_map}
+use Rattle.stmt65.specs.SourceLine.{Datum, NumberDatum, StringDatum}
+use Rattle.stmt65.specs.TableLaws.{datum_bytes, EndsStretch, IsCut, CutsTexts}
+use Rattle.stmt65.specs.Tables.{is_plain, cut_text}
+use Rattle.stmt65.proofs.Lexed.{begins}
+use Rattle.stmt65.proofs.TableLists.{cut_nil, cut_single, cut_onto, cut_stretch}
+
+-- ---- a text is cut, and in no other way
+
+pub cut_bytes : (bs : List ℕ) → flat_map datum_bytes (cut_text bs) ≡ bs
+cut_bytes [] = rw cut_nil refl
+cut_bytes (b ∷ bs) = go (is_plain b) (cut_text bs) refl refl (cut_bytes bs)
+  where
+    go : (t : Bool) (ds : List Datum) → is_plain b ≡ t → cut_text bs ≡ ds → flat_map datum_bytes (cut_text bs) ≡ bs → flat_map datum_bytes (cut_text (b ∷ bs)) ≡ b ∷ bs
+    go false ds p e ih = rw (cut_single b bs p) (ap (λ (l : List ℕ). b ∷ l) ih)
+    go true [] p e ih = let k = rw e at ih in rw (cut_onto b bs p, e) (ap (λ (l : List ℕ). b ∷ l) k)
+    go true (NumberDatum c ∷ ds) p e ih = let k = rw e at ih in rw (cut_onto b bs p, e) (ap (λ (l : List ℕ). b ∷ l) k)
+    go true (StringDatum t ∷ ds) p e ih = let k = rw e at ih in rw (cut_onto b bs p, e) (ap (λ (l : List ℕ). b ∷ l) k)
+
+pub cut_is_cut : (bs : List ℕ) → IsCut (cut_text bs)
+cut_is_cut [] = rw cut_nil tt
+cut_is_cut (b ∷ bs) = go (is_plain b) (cut_text bs) refl refl (cut_is_cut bs)
+  where
+    go : (t : Bool) (ds : List Datum) → is_plain b ≡ t → cut_text bs ≡ ds → IsCut (cut_text bs) → IsCut (cut_text (b ∷ bs))
+    go false ds p e ih = rw (cut_single b bs p) (p, ih)
+    go true [] p e ih = rw (cut_onto b bs p, e) (omega arith, rw p refl, tt, tt)
+    go true (NumberDatum c ∷ ds) p e ih = let k = rw e at ih in rw (cut_onto b bs p, e) (omega arith, rw p refl, tt, k)
+    go true (StringDatum t ∷ ds) p e ih = let k = rw e at ih in rw (cut_onto b bs p, e) (omega arith, rw p k.1, k.2, k.3)
+
+no_stretch : (ds : List Datum) → EndsStretch ds → IsCut ds → begins is_plain (flat_map datum_bytes ds) ≡ false
+no_stretch [] s h = refl
+no_stretch (NumberDatum b ∷ ds) s h = h.0
+no_stretch (StringDatum t ∷ ds) s h = absurd s
+
+cut_again : (ds : List Datum) → IsCut ds → cut_text (flat_map datum_bytes ds) ≡ ds
+cut_again [] h = cut_nil
+cut_again (NumberDatum b ∷ ds) h = cut_single b (flat_map datum_bytes ds) h.0 ∙ ap (λ (l : List Datum). NumberDatum b ∷ l) (cut_again ds h.1)
+cut_again (StringDatum t ∷ ds) h = cut_stretch t (flat_map datum_bytes ds) h.0 h.1 (no_stretch ds h.2 h.3) ∙ ap (λ (l : List Datum). StringDatum t ∷ l) (cut_again ds h.3)
+
+pub cuts_texts : CutsTexts
+cuts_texts bytes ds = (
+  λ e. (ap (flat_map datum_bytes) (sym e) ∙ cut_bytes bytes, subst IsCut e (cut_is_cut bytes)),
+  λ h. ap cut_text (sym h.0) ∙ cut_again ds h.1,
+)

@@ -1,0 +1,374 @@
+-- What the code holds of a text is enough for its meaning.
+use Rattle.std.proofs.Common.{◌≡◌, ℕ, Bool, true, false, cond, eqb, ltb, leb, ◌+◌, ◌-◌, ◌<◌, ◌≤◌, List, [], ◌∷◌, map, Option, Some, None, refl, sym, ap, ◌∙◌, arith}
+use Rattle.std.specs.Prelude.{unwrap_or, is_some, not, ◌&&◌, ◌||◌, option_and_then}
+use Rattle.std.specs.List.{list_any, list_all, flat_map}
+use Rattle.std.specs.Option.{option_map}
+use Rattle.std.specs.Str.{bytes_eq}
+use Rattle.std.proofs.lemmas.List.{map-append}
+use Rattle.std.proofs.lemmas.Bool.{ltb-false, ltb-true}
+use Rattle.std.proofs.lemmas.Bool.Decides.{nat_tests}
+use Rattle.isa65.specs.declared.cpu.Cpu.{Cpu}
+use Rattle.stmt65.specs.declared.coding.Coded.{Coded}
+use Rattle.stmt65.specs.declared.state.Placed.{Placed}
+use Rattle.stmt65.specs.declared.fault.AsmFaultKind.{AsmFaultKind}
+use Rattle.stmt65.specs.declared.fault.AsmFaultKind.TheVariants.{UnknownCpu, NoSuchForm, Undefined, DefinedTwice, OutOfRange, PastEnd}
+use Rattle.stmt65.specs.declared.source_line.Minus.{Minus}
+use Rattle.stmt65.specs.declared.source_line.Minus.TheVariants.{Zero, One}
+use Rattle.stmt65.specs.SourceLine.{SourceLine, Assignment, PlaceAssignment, Statement, Value, NumberValue, NameValue, Form, Empty, Accumulator, Immediate, Direct, DirectX, DirectY, Two, Indirect, IndirectX, IndirectY, Operation, Nothing, Instr, Data, Words, Dbyts, Addrs, Segment, Code, SetCpu}
+use Rattle.stmt65.specs.declared.source_line.AddressSize.TheVariants.{Absolute, Automatic}
+use Rattle.stmt65.specs.Symbols.{Definition, find_name, below, lowered, value_in, is_known, word_in, is_small, is_constant, has_zero_page_size}
+use Rattle.stmt65.specs.Coding.{Fragment, Fixed, Single, ZeroPage, Oversized, LowFirst, HighFirst, Distance, is_fragment_known, is_near, fragment_fits, fragment_bytes, ways, first_way, coding, coding_len}
+use Rattle.stmt65.specs.code.CodingViews.{coded_of}
+use Rattle.stmt65.specs.code.Held.{held, held_value}
+use Rattle.stmt65.specs.Meaning.{State, operation_in, fragments_of, next_of, defined_by, has_unknown_cpu, has_no_form, is_undefined, is_twice, is_out_of_range, is_past_end, first_of, fault_of, bytes_of, after, final, initial}
+use Rattle.stmt65.specs.code.MeaningViews.{fragments_in, definitions_in, held_definition, IsPlaced, held_after, held_final}
+
+-- the address after a line
+pub next_held : (s : State) (source : SourceLine) (coded : Option Coded) (len : ℕ) → option_map coded_of coded ≡ coding s.cpu s.above (operation_in source) → len ≡ held (coding_len (fragments_in coded))
+    → held (s.at + len) ≡ held (next_of s source)
+unfolding next_of fragments_of
+next_held s source coded len e f = rw (f, ← e) (omega arith)
+
+-- ---- the definitions of a text, held
+
+find_name-held : (w : List ℕ) (ds : List Definition) → find_name w (map held_definition ds) ≡ option_map held_definition (find_name w ds)
+unfolding find_name
+find_name-held w [] = refl
+find_name-held w (d ∷ ds) = go (bytes_eq d.name w) refl (find_name-held w ds)
+  where
+    go : (b : Bool) → bytes_eq d.name w ≡ b → find_name w (map held_definition ds) ≡ option_map held_definition (find_name w ds)
+        → cond (bytes_eq d.name w) (Some (held_definition d)) (find_name w (map held_definition ds)) ≡ option_map held_definition (cond (bytes_eq d.name w) (Some d) (find_name w ds))
+    go true e ih = rw e refl
+    go false e ih = rw e ih
+
+is_some-held : (o : Option Definition) → is_some (option_map held_definition o) ≡ is_some o
+is_some-held None = refl
+is_some-held (Some d) = refl
+
+is_known-held : (ds : List Definition) (v : Value) → is_known (map held_definition ds) v ≡ is_known ds v
+unfolding is_known
+is_known-held ds (NumberValue n) = refl
+is_known-held ds (NameValue w n less) = rw (find_name-held w ds) (is_some-held (find_name w ds))
+
+-- a value that is held has room where the value has
+lowered-held : (less : Minus) (v n : ℕ) → below 65536 (lowered less (held v + n)) ≡ below 65536 (lowered less (v + n))
+lowered-held Zero v n = small_or (ltb v 65536) refl
+  where
+    small_or : (b : Bool) → ltb v 65536 ≡ b → below 65536 (Some (held v + n)) ≡ below 65536 (Some (v + n))
+    small_or true e = let lt = ltb-true v 65536 e in let same : held v ≡ v = omega arith in rw same refl
+    small_or false e =
+        let ge = ltb-false v 65536 e in
+        let left : ltb (held v + n) 65536 ≡ false = grind (arith, nat_tests) in
+        let right : ltb (v + n) 65536 ≡ false = grind (arith, nat_tests) in
+        rw (left, right) refl
+lowered-held One v n = small_or (ltb v 65537) refl
+  where
+    large : (m : ℕ) → 65537 ≤ m → below 65536 (lowered One m) ≡ None
+    large m h =
+        let zero : eqb m 0 ≡ false = grind (arith, nat_tests) in
+        let over : ltb (m - 1) 65536 ≡ false = grind (arith, nat_tests) in
+        rw (zero, over) refl
+
+    small_or : (b : Bool) → ltb v 65537 ≡ b → below 65536 (lowered One (held v + n)) ≡ below 65536 (lowered One (v + n))
+    small_or true e = let lt = ltb-true v 65537 e in let same : held v ≡ v = omega arith in rw same refl
+    small_or false e = let ge = ltb-false v 65537 e in large (held v + n) (omega arith) ∙ sym (large (v + n) (omega arith))
+
+word_in-held : (ds : List Definition) (v : Value) → word_in (map held_definition ds) v ≡ word_in ds v
+unfolding word_in value_in
+word_in-held ds (NumberValue n) = refl
+word_in-held ds (NameValue w n less) = rw (find_name-held w ds) (go (find_name w ds))
+  where
+    go : (o : Option Definition) → below 65536 (option_and_then (λ d. lowered less (d.value + n)) (option_map held_definition o)) ≡ below 65536 (option_and_then (λ d. lowered less (d.value + n)) o)
+    go None = refl
+    go (Some d) = lowered-held less d.value n
+
+small-held : (less : Minus) (v n : ℕ) → is_small (lowered less (held v + n)) ≡ is_small (lowered less (v + n))
+small-held Zero v n = grind (arith, nat_tests)
+small-held One v n = small_or (ltb v 257) refl
+  where
+    large : (m : ℕ) → 257 ≤ m → is_small (lowered One m) ≡ false
+    large m h =
+        let zero : eqb m 0 ≡ false = grind (arith, nat_tests) in
+        let over : ltb (m - 1) 256 ≡ false = grind (arith, nat_tests) in
+        rw (zero) over
+
+    small_or : (b : Bool) → ltb v 257 ≡ b → is_small (lowered One (held v + n)) ≡ is_small (lowered One (v + n))
+    small_or true e = let lt = ltb-true v 257 e in let same : held v ≡ v = omega arith in rw same refl
+    small_or false e = let ge = ltb-false v 257 e in large (held v + n) (omega arith) ∙ sym (large (v + n) (omega arith))
+
+size-held : (ds : List Definition) (v : Value) → has_zero_page_size (map held_definition ds) v ≡ has_zero_page_size ds v
+unfolding has_zero_page_size value_in
+size-held ds (NumberValue n) = refl
+size-held ds (NameValue w n less) = rw (find_name-held w ds) (go (find_name w ds))
+  where
+    go : (o : Option Definition) → (is_constant (option_map held_definition o) && is_small (option_and_then (λ d. lowered less (d.value + n)) (option_map held_definition o)))
+        ≡ (is_constant o && is_small (option_and_then (λ d. lowered less (d.value + n)) o))
+    go None = refl
+    go (Some d) = ap (λ (b : Bool). d.constant && b) (small-held less d.value n)
+
+-- ---- the number of an expression, held
+
+pub word_in-held_value : (ds : List Definition) (v : Value) → below 65536 (value_in ds (held_value v)) ≡ word_in ds v
+unfolding word_in value_in
+word_in-held_value ds (NumberValue n) = small_or (ltb n 65536) refl
+  where
+    small_or : (b : Bool) → ltb n 65536 ≡ b → below 65536 (Some (held n)) ≡ below 65536 (Some n)
+    small_or true e = let lt = ltb-true n 65536 e in let same : held n ≡ n = omega arith in rw same refl
+    small_or false e =
+        let ge = ltb-false n 65536 e in
+        let left : ltb (held n) 65536 ≡ false = grind (arith, nat_tests) in
+        rw (left, e) refl
+word_in-held_value ds (NameValue w n minus) = go (find_name w ds)
+  where
+    go : (o : Option Definition) → below 65536 (option_and_then (λ d. lowered minus (d.value + held n)) o) ≡ below 65536 (option_and_then (λ d. lowered minus (d.value + n)) o)
+    go None = refl
+    go (Some d) =
+        let left : d.value + held n ≡ held n + d.value = omega arith in
+        let right : n + d.value ≡ d.value + n = omega arith in
+        ap (λ (k : ℕ). below 65536 (lowered minus k)) left ∙ lowered-held minus n d.value ∙ ap (λ (k : ℕ). below 65536 (lowered minus k)) right
+
+pub size-held_value : (ds : List Definition) (v : Value) → has_zero_page_size ds (held_value v) ≡ has_zero_page_size ds v
+unfolding has_zero_page_size value_in
+size-held_value ds (NumberValue n) = grind (arith, nat_tests)
+size-held_value ds (NameValue w n minus) = go (find_name w ds)
+  where
+    go : (o : Option Definition) → (is_constant o && is_small (option_and_then (λ d. lowered minus (d.value + held n)) o)) ≡ (is_constant o && is_small (option_and_then (λ d. lowered minus (d.value + n)) o))
+    go None = refl
+    go (Some d) =
+        let left : d.value + held n ≡ held n + d.value = omega arith in
+        let right : n + d.value ≡ d.value + n = omega arith in
+        ap (λ (k : ℕ). d.constant && is_small (lowered minus k)) left ∙ ap (λ (b : Bool). d.constant && b) (small-held minus n d.value) ∙ ap (λ (k : ℕ). d.constant && is_small (lowered minus k)) right
+
+-- ---- the tests of a line that is placed
+
+is_some-map : (coded : Option Coded) → is_some (option_map coded_of coded) ≡ is_some coded
+is_some-map None = refl
+is_some-map (Some c) = refl
+
+any_named-held : (p : List ℕ → Bool) (ds : List Definition) → list_any (λ d. p d.name) (map held_definition ds) ≡ list_any (λ d. p d.name) ds
+any_named-held p [] = refl
+any_named-held p (d ∷ ds) = ap (λ (b : Bool). p d.name || b) (any_named-held p ds)
+
+large-held : (n : ℕ) → ltb 65535 (held n) ≡ ltb 65535 n
+large-held n = grind (arith, nat_tests)
+
+any_large-held : (ds : List Definition) → list_any (λ d. ltb 65535 d.value) (map held_definition ds) ≡ list_any (λ d. ltb 65535 d.value) ds
+any_large-held [] = refl
+any_large-held (d ∷ ds) = rw (large-held d.value) (ap (λ (b : Bool). ltb 65535 d.value || b) (any_large-held ds))
+
+near-held : (next : ℕ) (o : Option ℕ) → is_near (held next) (below 65536 o) ≡ is_near next (below 65536 o)
+near-held next None = refl
+near-held next (Some n) = go (ltb n 65536) refl
+  where
+    go : (b : Bool) → ltb n 65536 ≡ b → is_near (held next) (below 65536 (Some n)) ≡ is_near next (below 65536 (Some n))
+    go true e =
+        let lt = ltb-true n 65536 e in
+        let from : leb (held next) (n + 128) ≡ leb next (n + 128) = grind (arith, nat_tests) in
+        let to : ltb (held next + 127) n ≡ ltb (next + 127) n = grind (arith, nat_tests) in
+        let to' : leb n (held next + 127) ≡ leb n (next + 127) = grind (arith, nat_tests) in
+        rw (e, from, to') refl
+    go false e = rw e refl
+
+fits-held : (all : List Definition) (next : ℕ) (f : Fragment) → fragment_fits all (held next) f ≡ fragment_fits all next f
+unfolding fragment_fits word_in
+fits-held all next (Fixed b) = refl
+fits-held all next (Single v) = refl
+fits-held all next (ZeroPage v) = refl
+fits-held all next (Oversized v) = refl
+fits-held all next (LowFirst v) = refl
+fits-held all next (HighFirst v) = refl
+fits-held all next (Distance v) = near-held next (value_in all v)
+
+all_fit-held : (all : List Definition) (next : ℕ) (fs : List Fragment) → list_all (fragment_fits all (held next)) fs ≡ list_all (fragment_fits all next) fs
+all_fit-held all next [] = refl
+all_fit-held all next (f ∷ fs) = rw (fits-held all next f) (ap (λ (b : Bool). fragment_fits all next f && b) (all_fit-held all next fs))
+
+past-held : (n : ℕ) → ltb 65536 (held n) ≡ ltb 65536 n
+past-held n = grind (arith, nat_tests)
+
+fragments-placed : (p : Placed) (s : State) (source : SourceLine) → IsPlaced p s source → fragments_in p.coded ≡ fragments_of s source
+unfolding fragments_of
+fragments-placed p s source h = ap (λ (o : Option (List Fragment)). unwrap_or o []) h.coded
+
+flip : (a b : Bool) → a ≡ not b → b ≡ not a
+flip a true e = rw e refl
+flip a false e = rw e refl
+
+-- the tests of the code are those of the line
+pub fault_is : (all : List Definition) (p : Placed) (s : State) (source : SourceLine) → IsPlaced p s source → (none known twice out past : Bool)
+    → is_some p.coded ≡ not none → known ≡ list_all (is_fragment_known all) (fragments_in p.coded)
+    → twice ≡ list_any (λ d. is_some (find_name d.name s.above)) (definitions_in p.definition)
+    → out ≡ (list_any (λ d. ltb 65535 d.value) (definitions_in p.definition) || not (list_all (fragment_fits all p.next) (fragments_in p.coded)))
+    → past ≡ ltb 65536 p.next
+    → first_of ((UnknownCpu, has_unknown_cpu (operation_in source)) ∷ (NoSuchForm, none) ∷ (Undefined, not known) ∷ (DefinedTwice, twice) ∷ (OutOfRange, out) ∷ (PastEnd, past) ∷ []) ≡ fault_of all s (Some source)
+unfolding fault_of has_no_form is_undefined is_twice is_out_of_range is_past_end
+fault_is all p s source h none known twice out past a b c d e =
+    let none' : none ≡ not (is_some (coding s.cpu s.above (operation_in source))) = flip (is_some p.coded) none a ∙ ap not (sym (is_some-map p.coded) ∙ ap is_some h.coded) in
+    let fragments = fragments-placed p s source h in
+    let known' : known ≡ list_all (is_fragment_known all) (fragments_of s source) = b ∙ ap (list_all (is_fragment_known all)) fragments in
+    let twice' : twice ≡ list_any (λ d. is_some (find_name d.name s.above)) (defined_by s.at source) =
+    c ∙ ap (list_any (λ d. is_some (find_name d.name s.above))) h.definition ∙ any_named-held (λ w. is_some (find_name w s.above)) (defined_by s.at source) in
+    let large : list_any (λ d. ltb 65535 d.value) (definitions_in p.definition) ≡ list_any (λ d. ltb 65535 d.value) (defined_by s.at source) =
+    ap (list_any (λ d. ltb 65535 d.value)) h.definition ∙ any_large-held (defined_by s.at source) in
+    let room : list_all (fragment_fits all p.next) (fragments_in p.coded) ≡ list_all (fragment_fits all (next_of s source)) (fragments_of s source) =
+    ap (λ (n : ℕ). list_all (fragment_fits all n) (fragments_in p.coded)) h.next ∙ ap (list_all (fragment_fits all (held (next_of s source)))) fragments ∙ all_fit-held all (next_of s source) (fragments_of s source) in
+    let past' : past ≡ ltb 65536 (next_of s source) = e ∙ ap (ltb 65536) h.next ∙ past-held (next_of s source) in
+    rw (none', known', twice', d, large, room, past') refl
+
+-- ---- a line that has no fault
+
+passed : (b : Bool) (k : AsmFaultKind) (rest : Option AsmFaultKind) → None ≡ cond b (Some k) rest → (b ≡ false) × (None ≡ rest)
+passed true k rest h = absurd cc
+passed false k rest h = (refl, h)
+
+or_left : (a b : Bool) → (a || b) ≡ false → a ≡ false
+or_left true b e = absurd cc
+or_left false b e = refl
+
+-- the tests of definitions and of the end are false
+record Fits (s : State) (source : SourceLine) : Type 0 where
+  values : list_any (λ d. ltb 65535 d.value) (defined_by s.at source) ≡ false
+  past : ltb 65536 (next_of s source) ≡ false
+
+none_fits : (all : List Definition) (s : State) (source : SourceLine) → None ≡ fault_of all s (Some source) → Fits s source
+unfolding fault_of is_out_of_range is_past_end
+none_fits all s source h =
+    let a = passed (has_unknown_cpu (operation_in source)) UnknownCpu _ h in
+    let b = passed (has_no_form s source) NoSuchForm _ a.1 in
+    let c = passed (is_undefined all s source) Undefined _ b.1 in
+    let d = passed (is_twice s source) DefinedTwice _ c.1 in
+    let e = passed (is_out_of_range all s source) OutOfRange _ d.1 in
+    let f = passed (is_past_end s source) PastEnd None e.1 in
+    record { values = or_left (list_any (λ x. ltb 65535 x.value) (defined_by s.at source)) _ e.0; past = f.0 }
+
+small_same : (n limit : ℕ) → limit ≤ 65536 → ltb limit n ≡ false → held n ≡ n
+small_same n limit h e = omega (arith, ltb-false limit n e)
+
+definitions_same : (ds : List Definition) → list_any (λ d. ltb 65535 d.value) ds ≡ false → map held_definition ds ≡ ds
+definitions_same [] h = refl
+definitions_same (d ∷ ds) h = go (ltb 65535 d.value) refl (definitions_same ds)
+  where
+    go : (b : Bool) → ltb 65535 d.value ≡ b → (list_any (λ x. ltb 65535 x.value) ds ≡ false → map held_definition ds ≡ ds) → map held_definition (d ∷ ds) ≡ d ∷ ds
+    go true e ih = let h' = rw e at h in absurd cc
+    go false e ih =
+        let h' = rw e at h in
+        let same : held d.value ≡ d.value = omega (arith, ltb-false 65535 d.value e) in
+        ap (λ (n : ℕ). record { name = d.name; value = n; constant = d.constant } ∷ map held_definition ds) same ∙ ap (λ (l : List Definition). d ∷ l) (ih h')
+
+pub bytes_exact : (all : List Definition) (p : Placed) (s : State) (source : SourceLine) → IsPlaced p s source → None ≡ fault_of all s (Some source)
+    → flat_map (fragment_bytes all p.next) (fragments_in p.coded) ≡ bytes_of all s (Some source)
+unfolding bytes_of
+bytes_exact all p s source h none =
+    let next : p.next ≡ next_of s source = h.next ∙ small_same (next_of s source) 65536 (omega arith) (none_fits all s source none).past in
+    ap (λ (n : ℕ). flat_map (fragment_bytes all n) (fragments_in p.coded)) next ∙ ap (flat_map (fragment_bytes all (next_of s source))) (fragments-placed p s source h)
+
+pub after_exact : (all : List Definition) (s : State) (source : SourceLine) → None ≡ fault_of all s (Some source) → held_after s (Some source) ≡ after s (Some source)
+unfolding held_after after
+after_exact all s source none =
+    let fits = none_fits all s source none in
+    rw (definitions_same (defined_by s.at source) fits.values, small_same (next_of s source) 65536 (omega arith) fits.past) refl
+
+-- ---- a state, held
+
+held_state : State → State
+held_state s = record { at = held s.at; cpu = s.cpu; above = map held_definition s.above }
+
+ways-held : (ds : List Definition) (form : Form) → ways (map held_definition ds) form ≡ ways ds form
+unfolding ways
+ways-held ds Empty = refl
+ways-held ds Accumulator = refl
+ways-held ds (Immediate v) = refl
+ways-held ds (Direct Absolute v) = refl
+ways-held ds (Direct Automatic v) = rw (size-held ds v) refl
+ways-held ds (DirectX Absolute v) = refl
+ways-held ds (DirectX Automatic v) = rw (size-held ds v) refl
+ways-held ds (DirectY Absolute v) = refl
+ways-held ds (DirectY Automatic v) = rw (size-held ds v) refl
+ways-held ds (Two v w) = rw (size-held ds v) refl
+ways-held ds (Indirect v) = rw (size-held ds v) refl
+ways-held ds (IndirectX v) = rw (size-held ds v) refl
+ways-held ds (IndirectY v) = rw (size-held ds v) refl
+
+coding-held : (cpu : Cpu) (ds : List Definition) (operation : Operation) → coding cpu (map held_definition ds) operation ≡ coding cpu ds operation
+unfolding coding
+coding-held cpu ds Nothing = refl
+coding-held cpu ds (Instr m form) = ap (first_way cpu m) (ways-held ds form)
+coding-held cpu ds (Data items) = refl
+coding-held cpu ds (Words vs) = refl
+coding-held cpu ds (Dbyts vs) = refl
+coding-held cpu ds (Addrs vs) = refl
+coding-held cpu ds (Segment name) = refl
+coding-held cpu ds Code = refl
+coding-held cpu ds (SetCpu text) = refl
+
+defined-held : (at : ℕ) (source : SourceLine) → map held_definition (defined_by (held at) source) ≡ map held_definition (defined_by at source)
+unfolding defined_by
+defined-held at (Assignment w n) = refl
+defined-held at (PlaceAssignment w n) = let same : held (held at + n) ≡ held (at + n) = omega arith in rw same refl
+defined-held at (Statement None operation) = refl
+defined-held at (Statement (Some w) operation) = let same : held (held at) ≡ held at = omega arith in rw same refl
+
+after-held : (s : State) (source : Option SourceLine) → held_after (held_state s) source ≡ held_state (after s source)
+unfolding held_after after held_state next_of fragments_of
+after-held s None = refl
+after-held s (Some source) =
+    let len = coding_len (unwrap_or (coding s.cpu s.above (operation_in source)) []) in
+    let next : held (held s.at + len) ≡ held (s.at + len) = omega arith in
+    rw (coding-held s.cpu s.above (operation_in source), next, defined-held s.at source, map-append {A = Definition} held_definition s.above (defined_by s.at source)) refl
+
+final-held : (s : State) (ls : List (Option SourceLine)) → held_final (held_state s) ls ≡ held_state (final s ls)
+unfolding held_final final
+final-held s [] = refl
+final-held s (l ∷ ls) = rw (after-held s l) (final-held (after s l) ls)
+
+-- the definitions that the first pass finds
+pub definitions_held : (start : ℕ) (ls : List (Option SourceLine)) → start < 65536 → (held_final (initial start) ls).above ≡ map held_definition (final (initial start) ls).above
+unfolding held_state
+definitions_held start ls h =
+    let same : held start ≡ start = omega arith in
+    let first : held_state (initial start) ≡ initial start = rw same refl in
+    ap (λ (s : State). s.above) (ap (λ (s : State). held_final s ls) (sym first) ∙ final-held (initial start) ls)
+
+-- ---- a line, by the definitions that are held
+
+fragment_known-held : (all : List Definition) (f : Fragment) → is_fragment_known (map held_definition all) f ≡ is_fragment_known all f
+fragment_known-held all (Fixed b) = refl
+fragment_known-held all (Single v) = is_known-held all v
+fragment_known-held all (ZeroPage v) = is_known-held all v
+fragment_known-held all (Oversized v) = is_known-held all v
+fragment_known-held all (LowFirst v) = is_known-held all v
+fragment_known-held all (HighFirst v) = is_known-held all v
+fragment_known-held all (Distance v) = is_known-held all v
+
+fragment_fits-all : (all : List Definition) (next : ℕ) (f : Fragment) → fragment_fits (map held_definition all) next f ≡ fragment_fits all next f
+unfolding fragment_fits
+fragment_fits-all all next (Fixed b) = refl
+fragment_fits-all all next (Single v) = rw (word_in-held all v) refl
+fragment_fits-all all next (ZeroPage v) = rw (word_in-held all v) refl
+fragment_fits-all all next (Oversized v) = refl
+fragment_fits-all all next (LowFirst v) = rw (word_in-held all v) refl
+fragment_fits-all all next (HighFirst v) = rw (word_in-held all v) refl
+fragment_fits-all all next (Distance v) = rw (word_in-held all v) refl
+
+fragment_bytes-all : (all : List Definition) (next : ℕ) (f : Fragment) → fragment_bytes (map held_definition all) next f ≡ fragment_bytes all next f
+unfolding fragment_bytes
+fragment_bytes-all all next (Fixed b) = refl
+fragment_bytes-all all next (Single v) = rw (word_in-held all v) refl
+fragment_bytes-all all next (ZeroPage v) = rw (word_in-held all v) refl
+fragment_bytes-all all next (Oversized v) = rw (word_in-held all v) refl
+fragment_bytes-all all next (LowFirst v) = rw (word_in-held all v) refl
+fragment_bytes-all all next (HighFirst v) = rw (word_in-held all v) refl
+fragment_bytes-all all next (Distance v) = rw (word_in-held all v) refl
+
+pub fault-all : (all : List Definition) (s : State) (source : Option SourceLine) → fault_of (map held_definition all) s source ≡ fault_of all s source
+unfolding fault_of is_undefined is_out_of_range
+fault-all all s None = refl
+fault-all all s (Some source) =
+    let known : is_fragment_known (map held_definition all) ≡ is_fragment_known all = λ i f. fragment_known-held all f i in
+    let room : fragment_fits (map held_definition all) (next_of s source) ≡ fragment_fits all (next_of s source) = λ i f. fragment_fits-all all (next_of s source) f i in
+    rw (known, room) refl
+
+pub bytes-all : (all : List Definition) (s : State) (source : Option SourceLine) → bytes_of (map held_definition all) s source ≡ bytes_of all s source
+unfolding bytes_of
+bytes-all all s None = refl
+bytes-all all s (Some source) = ap (λ (f : Fragment → List ℕ). flat_map f (fragments_of s source)) (λ i f. fragment_bytes-all all (next_of s source) f i)

@@ -1,0 +1,299 @@
+-- The ways of a form are its modes, and which of them is taken.
+use Rattle.std.proofs.Common.{◌≡◌, ℕ, suc, Bool, true, false, cond, List, [], ◌∷◌, ◌++◌, Option, Some, None, refl, sym, ap, ◌∙◌}
+use Rattle.std.specs.Prelude.{IsSome}
+use Rattle.std.specs.Str.{bytes_eq}
+use Rattle.std.specs.List.{list_any}
+use Rattle.std.proofs.lemmas.Slice.Eq.{bytes_eq-Decides}
+use Rattle.std.proofs.lemmas.List.{append-nil}
+use denote.Enum.Bare.{sameb, same_true}
+use Rattle.isa65.specs.declared.cpu.Cpu.{Cpu}
+use Rattle.isa65.specs.declared.mnemonic.Mnemonic.{Mnemonic}
+use Rattle.isa65.specs.declared.mode.Mode.{Mode}
+use Rattle.isa65.specs.declared.mode.Mode.TheVariants.{Imp, Acc, Imm, Zp, Zpx, Zpy, Abs, Absx, Absy, Ind, Indx, Indy, Zpind, Absindx, Rel, Zprel}
+use Rattle.isa65.specs.contracts.mode.Mode as mode
+use Rattle.isa65.specs.Cpu.{table_of}
+use Rattle.isa65.specs.Mode.{len_of, written, zero_page_of}
+use Rattle.isa65.specs.Opcodes.{encoded}
+use Rattle.stmt65.specs.SourceLine.{Value, Form, Empty, Accumulator, Immediate, Direct, DirectX, DirectY, Two, Indirect, IndirectX, IndirectY}
+use Rattle.stmt65.specs.declared.source_line.AddressSize.TheVariants.{Absolute, Automatic}
+use Rattle.stmt65.specs.Symbols.{Definition, has_zero_page_size}
+use Rattle.stmt65.specs.Coding.{Fragment, Fixed, ZeroPage, Oversized, fragment_len, LowFirst, Distance, Way, zero_page, by_size, ways, first_way, coding, coding_len}
+use Rattle.stmt65.specs.Forms.{form_text, form_values}
+use Rattle.stmt65.specs.ModeLaws.{has_prefix, IsModeOf, IsWay, EachWay, WaysAreModes, is_way, ModesAreWays, HasMode, is_short, mode_fragments, TakesMode, TakesModes, LacksForm, NeedsMode}
+
+pub false_true : {P : Type 0} → false ≡ true → P
+false_true e = absurd (let no : ⊥ = cc in no)
+
+-- ---- the ways are the modes
+
+-- a way of a form without `a:`
+plain : (form : Form) (way : Way) → has_prefix form ≡ false → written way.0 ≡ form_text form → suc (coding_len way.1) ≡ len_of way.0 → IsWay form way
+plain form way none alike length = record { of_form = (alike, λ p. false_true (sym none ∙ p)); length = length }
+
+zero_page_len : (above : List Definition) (v : Value) → fragment_len (zero_page above v) ≡ 1
+zero_page_len above v = go (has_zero_page_size above v)
+  where
+    go : (b : Bool) → fragment_len (cond b (ZeroPage v) (Oversized v)) ≡ 1
+    go true = refl
+    go false = refl
+
+pub ways_are_modes : WaysAreModes
+unfolding ways coding_len
+ways_are_modes above Empty = (plain Empty (Imp, []) refl refl refl, tt)
+ways_are_modes above Accumulator = (plain Accumulator (Acc, []) refl refl refl, tt)
+ways_are_modes above (Immediate v) = (plain (Immediate v) _ refl refl refl, tt)
+ways_are_modes above (Direct Absolute v) = (record { of_form = (refl, λ p. refl); length = refl }, tt)
+ways_are_modes above (Direct Automatic v) = go (has_zero_page_size above v)
+  where
+    go : (b : Bool) → EachWay (Direct Automatic v) (cond b ((Zp, ZeroPage v ∷ []) ∷ (Abs, LowFirst v ∷ []) ∷ []) ((Abs, LowFirst v ∷ []) ∷ (Zp, Oversized v ∷ []) ∷ []) ++ (Rel, Distance v ∷ []) ∷ [])
+    go true = (plain (Direct Automatic v) _ refl refl refl, (plain (Direct Automatic v) _ refl refl refl, (plain (Direct Automatic v) _ refl refl refl, tt)))
+    go false = (plain (Direct Automatic v) _ refl refl refl, (plain (Direct Automatic v) _ refl refl refl, (plain (Direct Automatic v) _ refl refl refl, tt)))
+ways_are_modes above (DirectX Absolute v) = (record { of_form = (refl, λ p. refl); length = refl }, tt)
+ways_are_modes above (DirectX Automatic v) = go (has_zero_page_size above v)
+  where
+    go : (b : Bool) → EachWay (DirectX Automatic v) (cond b ((Zpx, ZeroPage v ∷ []) ∷ (Absx, LowFirst v ∷ []) ∷ []) ((Absx, LowFirst v ∷ []) ∷ (Zpx, Oversized v ∷ []) ∷ []))
+    go true = (plain (DirectX Automatic v) _ refl refl refl, (plain (DirectX Automatic v) _ refl refl refl, tt))
+    go false = (plain (DirectX Automatic v) _ refl refl refl, (plain (DirectX Automatic v) _ refl refl refl, tt))
+ways_are_modes above (DirectY Absolute v) = (record { of_form = (refl, λ p. refl); length = refl }, tt)
+ways_are_modes above (DirectY Automatic v) = go (has_zero_page_size above v)
+  where
+    go : (b : Bool) → EachWay (DirectY Automatic v) (cond b ((Zpy, ZeroPage v ∷ []) ∷ (Absy, LowFirst v ∷ []) ∷ []) ((Absy, LowFirst v ∷ []) ∷ (Zpy, Oversized v ∷ []) ∷ []))
+    go true = (plain (DirectY Automatic v) _ refl refl refl, (plain (DirectY Automatic v) _ refl refl refl, tt))
+    go false = (plain (DirectY Automatic v) _ refl refl refl, (plain (DirectY Automatic v) _ refl refl refl, tt))
+ways_are_modes above (Two v w) = (plain (Two v w) _ refl refl (rw (zero_page_len above v) refl), tt)
+ways_are_modes above (Indirect v) = (plain (Indirect v) _ refl refl (rw (zero_page_len above v) refl), (plain (Indirect v) _ refl refl refl, tt))
+ways_are_modes above (IndirectX v) = (plain (IndirectX v) _ refl refl (rw (zero_page_len above v) refl), (plain (IndirectX v) _ refl refl refl, tt))
+ways_are_modes above (IndirectY v) = (plain (IndirectY v) _ refl refl (rw (zero_page_len above v) refl), tt)
+
+-- a mode that is written so is among the ways
+among : (above : List Definition) (form : Form) (x : Mode) → (has_prefix form ≡ true → IsSome (zero_page_of x)) → bytes_eq (written x) (form_text form) ≡ true → list_any (is_way x) (ways above form) ≡ true
+unfolding ways
+among above Empty Imp p same = refl
+among above Empty _ p same = false_true same
+among above Accumulator Acc p same = refl
+among above Accumulator _ p same = false_true same
+among above (Immediate v) Imm p same = refl
+among above (Immediate v) _ p same = false_true same
+among above (Direct Absolute v) Abs p same = refl
+among above (Direct Absolute v) Zp p same = false_true (p refl)
+among above (Direct Absolute v) Rel p same = false_true (p refl)
+among above (Direct Absolute v) _ p same = false_true same
+among above (Direct Automatic v) x p same = go (has_zero_page_size above v) x same
+  where
+    go : (b : Bool) (x : Mode) → bytes_eq (written x) (form_text (Direct Automatic v)) ≡ true → list_any (is_way x) (cond b ((Zp, ZeroPage v ∷ []) ∷ (Abs, LowFirst v ∷ []) ∷ []) ((Abs, LowFirst v ∷ []) ∷ (Zp, Oversized v ∷ []) ∷ []) ++ (Rel, Distance v ∷ []) ∷ []) ≡ true
+    go true Zp same = refl
+    go true Abs same = refl
+    go true Rel same = refl
+    go true _ same = false_true same
+    go false Zp same = refl
+    go false Abs same = refl
+    go false Rel same = refl
+    go false _ same = false_true same
+among above (DirectX Absolute v) Absx p same = refl
+among above (DirectX Absolute v) Zpx p same = false_true (p refl)
+among above (DirectX Absolute v) _ p same = false_true same
+among above (DirectX Automatic v) x p same = go (has_zero_page_size above v) x same
+  where
+    go : (b : Bool) (x : Mode) → bytes_eq (written x) (form_text (DirectX Automatic v)) ≡ true → list_any (is_way x) (cond b ((Zpx, ZeroPage v ∷ []) ∷ (Absx, LowFirst v ∷ []) ∷ []) ((Absx, LowFirst v ∷ []) ∷ (Zpx, Oversized v ∷ []) ∷ [])) ≡ true
+    go true Zpx same = refl
+    go true Absx same = refl
+    go true _ same = false_true same
+    go false Zpx same = refl
+    go false Absx same = refl
+    go false _ same = false_true same
+among above (DirectY Absolute v) Absy p same = refl
+among above (DirectY Absolute v) Zpy p same = false_true (p refl)
+among above (DirectY Absolute v) _ p same = false_true same
+among above (DirectY Automatic v) x p same = go (has_zero_page_size above v) x same
+  where
+    go : (b : Bool) (x : Mode) → bytes_eq (written x) (form_text (DirectY Automatic v)) ≡ true → list_any (is_way x) (cond b ((Zpy, ZeroPage v ∷ []) ∷ (Absy, LowFirst v ∷ []) ∷ []) ((Absy, LowFirst v ∷ []) ∷ (Zpy, Oversized v ∷ []) ∷ [])) ≡ true
+    go true Zpy same = refl
+    go true Absy same = refl
+    go true _ same = false_true same
+    go false Zpy same = refl
+    go false Absy same = refl
+    go false _ same = false_true same
+among above (Two v w) Zprel p same = refl
+among above (Two v w) _ p same = false_true same
+among above (Indirect v) Ind p same = refl
+among above (Indirect v) Zpind p same = refl
+among above (Indirect v) _ p same = false_true same
+among above (IndirectX v) Indx p same = refl
+among above (IndirectX v) Absindx p same = refl
+among above (IndirectX v) _ p same = false_true same
+among above (IndirectY v) Indy p same = refl
+among above (IndirectY v) _ p same = false_true same
+
+pub modes_are_ways : ModesAreWays
+modes_are_ways above form x h = among above form x h.1 ((bytes_eq-Decides (written x) (form_text form)).1 h.0)
+
+-- ---- a form that the mnemonic has not
+
+none_missed : (cpu : Cpu) (m : Mnemonic) (ws : List Way) (x : Mode) → first_way cpu m ws ≡ None → list_any (is_way x) ws ≡ true → encoded (table_of cpu) m x ≡ None
+none_missed cpu m [] x e f = false_true f
+none_missed cpu m (w ∷ ws) x e f = go (encoded (table_of cpu) m w.0) refl (sameb mode.the_type w.0 x) refl (none_missed cpu m ws x)
+  where
+    go : (o : Option ℕ) → encoded (table_of cpu) m w.0 ≡ o → (b : Bool) → sameb mode.the_type w.0 x ≡ b
+        → (first_way cpu m ws ≡ None → list_any (is_way x) ws ≡ true → encoded (table_of cpu) m x ≡ None) → encoded (table_of cpu) m x ≡ None
+    go (Some n) g b h ih = let e' = rw g at e in absurd cc
+    go None g true h ih = ap (encoded (table_of cpu) m) (sym (same_true mode.the_type tt w.0 x h)) ∙ g
+    go None g false h ih = ih (rw g at e) (rw h at f)
+
+none_found : (cpu : Cpu) (m : Mnemonic) (form : Form) (ws : List Way) → EachWay form ws → LacksForm cpu m form → first_way cpu m ws ≡ None
+none_found cpu m form [] each lacks = refl
+none_found cpu m form (w ∷ ws) each lacks = rw (lacks w.0 each.0.of_form) (none_found cpu m form ws each.1 lacks)
+
+pub needs_mode : NeedsMode
+unfolding coding
+needs_mode cpu above m form = (
+  λ e x h. none_missed cpu m (ways above form) x e (modes_are_ways above form x h),
+  λ lacks. none_found cpu m form (ways above form) (ways_are_modes above form) lacks,
+)
+
+-- ---- the mode that is taken
+
+-- the first way, or the others
+pub first_case : {P : Type 0} (cpu : Cpu) (m : Mnemonic) (w : Way) (ws : List Way) (fragments : List Fragment) → first_way cpu m (w ∷ ws) ≡ Some fragments
+    → ((b : ℕ) → encoded (table_of cpu) m w.0 ≡ Some b → fragments ≡ Fixed b ∷ w.1 → P)
+    → (encoded (table_of cpu) m w.0 ≡ None → first_way cpu m ws ≡ Some fragments → P) → P
+first_case {P} cpu m w ws fragments e found missed = go (encoded (table_of cpu) m w.0) refl
+  where
+    go : (o : Option ℕ) → encoded (table_of cpu) m w.0 ≡ o → P
+    go (Some b) g = let e' = rw g at e in found b g cc
+    go None g = missed g (rw g at e)
+
+-- a zero-page mode that has an absolute one beside it
+abbrev is_zero : Mode → Bool
+is_zero Zp = true
+is_zero Zpx = true
+is_zero Zpy = true
+is_zero _ = false
+
+zero_is : (y x : Mode) → zero_page_of y ≡ Some x → is_zero x ≡ true
+zero_is Abs x e = let same : x ≡ Zp = cc in ap is_zero same
+zero_is Absx x e = let same : x ≡ Zpx = cc in ap is_zero same
+zero_is Absy x e = let same : x ≡ Zpy = cc in ap is_zero same
+zero_is _ x e = absurd cc
+
+no_zero : (x y : Mode) → zero_page_of x ≡ Some y → IsSome (zero_page_of y) → ⊥
+no_zero Abs y e h = let same : y ≡ Zp = cc in let h' = rw same at h in false_true h'
+no_zero Absx y e h = let same : y ≡ Zpx = cc in let h' = rw same at h in false_true h'
+no_zero Absy y e h = let same : y ≡ Zpy = cc in let h' = rw same at h in false_true h'
+no_zero _ y e h = absurd cc
+
+-- a zero-page mode has one absolute mode beside it
+only_long : (y short long : Mode) → zero_page_of y ≡ Some short → zero_page_of long ≡ Some short → y ≡ long
+only_long Abs short Abs e f = refl
+only_long Absx short Absx e f = refl
+only_long Absy short Absy e f = refl
+only_long Abs short _ e f = absurd cc
+only_long Absx short _ e f = absurd cc
+only_long Absy short _ e f = absurd cc
+only_long _ short long e f = absurd cc
+
+lacks_it : (cpu : Cpu) (m : Mnemonic) (x z : Mode) → encoded (table_of cpu) m x ≡ None → z ≡ x → HasMode cpu m z → ⊥
+lacks_it cpu m x z none same h = let h' = rw (same, none) at h in false_true h'
+
+module _ (cpu : Cpu) (above : List Definition) (m : Mnemonic) (form : Form) (fragments : List Fragment) where
+  -- a mode of one size alone
+  lone : (x : Mode) (b : ℕ) → is_zero x ≡ false → zero_page_of x ≡ None → IsModeOf form x → encoded (table_of cpu) m x ≡ Some b
+      → fragments ≡ Fixed b ∷ mode_fragments above x (form_values form) → TakesMode cpu above m form fragments
+  lone x b z n of_form has coded = record {
+    mode = x;
+    opcode = b;
+    of_form = of_form;
+    has = has;
+    coded = coded;
+    short = λ y e f g. false_true (sym z ∙ zero_is y x e);
+    long = λ y e f g. absurd cc;
+  }
+
+  -- the one way of a form
+  by_one : (x : Mode) (fs : List Fragment) → first_way cpu m ((x, fs) ∷ []) ≡ Some fragments → is_zero x ≡ false → zero_page_of x ≡ None → IsModeOf form x
+      → fs ≡ mode_fragments above x (form_values form) → TakesMode cpu above m form fragments
+  by_one x fs e z n of_form same =
+      first_case cpu m (x, fs) [] fragments e (λ b has coded. lone x b z n of_form has (coded ∙ ap (λ (gs : List Fragment). Fixed b ∷ gs) same)) (λ gone e'. absurd cc)
+
+  -- the absolute mode after `a:`
+  after_prefix : (x : Mode) (b : ℕ) → has_prefix form ≡ true → is_zero x ≡ false → IsModeOf form x → encoded (table_of cpu) m x ≡ Some b
+      → fragments ≡ Fixed b ∷ mode_fragments above x (form_values form) → TakesMode cpu above m form fragments
+  after_prefix x b p z of_form has coded = record {
+    mode = x;
+    opcode = b;
+    of_form = of_form;
+    has = has;
+    coded = coded;
+    short = λ y e f g. false_true (sym z ∙ zero_is y x e);
+    long = λ y e f g. absurd (no_zero x y e (f.1 p));
+  }
+
+  -- one of the two sizes, or another way
+  sized : (short long : Mode) (v : Value) (rest : List Way) → zero_page_of long ≡ Some short → zero_page_of short ≡ None → is_zero long ≡ false
+      → IsModeOf form short → IsModeOf form long → is_short above (form_values form) ≡ has_zero_page_size above v
+      → mode_fragments above short (form_values form) ≡ zero_page above v ∷ [] → mode_fragments above long (form_values form) ≡ LowFirst v ∷ []
+      → first_way cpu m (by_size above short long v ++ rest) ≡ Some fragments → (first_way cpu m rest ≡ Some fragments → TakesMode cpu above m form fragments) → TakesMode cpu above m form fragments
+  sized short long v rest pair lone_short not_zero of_short of_long size zf lf e other = go (has_zero_page_size above v) refl
+    where
+      short_way : (t : Bool) → has_zero_page_size above v ≡ t → (b : ℕ) → encoded (table_of cpu) m short ≡ Some b → fragments ≡ Fixed b ∷ cond t (ZeroPage v) (Oversized v) ∷ []
+          → ((y : Mode) → HasMode cpu m y → zero_page_of y ≡ Some short → t ≡ true) → TakesMode cpu above m form fragments
+      short_way t s b has coded only = record {
+        mode = short;
+        opcode = b;
+        of_form = of_short;
+        has = has;
+        coded = coded ∙ ap (λ (u : Bool). Fixed b ∷ cond u (ZeroPage v) (Oversized v) ∷ []) (sym s) ∙ ap (λ (fs : List Fragment). Fixed b ∷ fs) (sym zf);
+        short = λ y p f g. size ∙ s ∙ only y g p;
+        long = λ z p f g. absurd cc;
+      }
+
+      long_way : (b : ℕ) → encoded (table_of cpu) m long ≡ Some b → fragments ≡ Fixed b ∷ LowFirst v ∷ []
+          → (HasMode cpu m short → has_zero_page_size above v ≡ false) → TakesMode cpu above m form fragments
+      long_way b has coded only = record {
+        mode = long;
+        opcode = b;
+        of_form = of_long;
+        has = has;
+        coded = coded ∙ ap (λ (fs : List Fragment). Fixed b ∷ fs) (sym lf);
+        short = λ y p f g. false_true (sym not_zero ∙ zero_is y long p);
+        long = λ z p f g. let same : z ≡ short = cc in size ∙ only (rw same at g);
+      }
+
+      go : (t : Bool) → has_zero_page_size above v ≡ t → TakesMode cpu above m form fragments
+      go true t =
+          first_case cpu m (short, ZeroPage v ∷ []) ((long, LowFirst v ∷ []) ∷ rest) fragments (rw t at e)
+          (λ b has coded. short_way true t b has coded (λ y g p. refl))
+          (λ none e'. first_case cpu m (long, LowFirst v ∷ []) rest fragments e' (λ b has coded. long_way b has coded (λ h. absurd (lacks_it cpu m short short none refl h))) (λ gone e''. other e''))
+      go false t =
+          first_case cpu m (long, LowFirst v ∷ []) ((short, Oversized v ∷ []) ∷ rest) fragments (rw t at e)
+          (λ b has coded. long_way b has coded (λ h. t))
+          (λ none e'. first_case cpu m (short, Oversized v ∷ []) rest fragments e'
+          (λ b has coded. short_way false t b has coded (λ y g p. absurd (lacks_it cpu m long y none (only_long y short long p pair) g))) (λ gone e''. other e''))
+
+pub takes_modes : TakesModes
+unfolding coding ways
+takes_modes cpu above m Empty fragments e = by_one cpu above m Empty fragments Imp [] e refl refl (refl, λ p. false_true p) refl
+takes_modes cpu above m Accumulator fragments e = by_one cpu above m Accumulator fragments Acc [] e refl refl (refl, λ p. false_true p) refl
+takes_modes cpu above m (Immediate v) fragments e = by_one cpu above m (Immediate v) fragments Imm _ e refl refl (refl, λ p. false_true p) refl
+takes_modes cpu above m (Direct Absolute v) fragments e =
+    first_case cpu m (Abs, LowFirst v ∷ []) [] fragments e (λ b has coded. after_prefix cpu above m (Direct Absolute v) fragments Abs b refl refl (refl, λ p. refl) has coded) (λ gone e'. absurd cc)
+takes_modes cpu above m (Direct Automatic v) fragments e =
+    sized cpu above m (Direct Automatic v) fragments Zp Abs v ((Rel, Distance v ∷ []) ∷ []) refl refl refl (refl, λ p. false_true p) (refl, λ p. false_true p) refl refl refl e
+    (λ e'. by_one cpu above m (Direct Automatic v) fragments Rel _ e' refl refl (refl, λ p. false_true p) refl)
+takes_modes cpu above m (DirectX Absolute v) fragments e =
+    first_case cpu m (Absx, LowFirst v ∷ []) [] fragments e (λ b has coded. after_prefix cpu above m (DirectX Absolute v) fragments Absx b refl refl (refl, λ p. refl) has coded) (λ gone e'. absurd cc)
+takes_modes cpu above m (DirectX Automatic v) fragments e =
+    sized cpu above m (DirectX Automatic v) fragments Zpx Absx v [] refl refl refl (refl, λ p. false_true p) (refl, λ p. false_true p) refl refl refl (rw append-nil e) (λ e'. absurd cc)
+takes_modes cpu above m (DirectY Absolute v) fragments e =
+    first_case cpu m (Absy, LowFirst v ∷ []) [] fragments e (λ b has coded. after_prefix cpu above m (DirectY Absolute v) fragments Absy b refl refl (refl, λ p. refl) has coded) (λ gone e'. absurd cc)
+takes_modes cpu above m (DirectY Automatic v) fragments e =
+    sized cpu above m (DirectY Automatic v) fragments Zpy Absy v [] refl refl refl (refl, λ p. false_true p) (refl, λ p. false_true p) refl refl refl (rw append-nil e) (λ e'. absurd cc)
+takes_modes cpu above m (Two v w) fragments e = by_one cpu above m (Two v w) fragments Zprel _ e refl refl (refl, λ p. false_true p) refl
+takes_modes cpu above m (Indirect v) fragments e =
+    first_case cpu m (Zpind, zero_page above v ∷ []) ((Ind, LowFirst v ∷ []) ∷ []) fragments e
+    (λ b has coded. lone cpu above m (Indirect v) fragments Zpind b refl refl (refl, λ p. false_true p) has coded)
+    (λ gone e'. by_one cpu above m (Indirect v) fragments Ind _ e' refl refl (refl, λ p. false_true p) refl)
+takes_modes cpu above m (IndirectX v) fragments e =
+    first_case cpu m (Indx, zero_page above v ∷ []) ((Absindx, LowFirst v ∷ []) ∷ []) fragments e
+    (λ b has coded. lone cpu above m (IndirectX v) fragments Indx b refl refl (refl, λ p. false_true p) has coded)
+    (λ gone e'. by_one cpu above m (IndirectX v) fragments Absindx _ e' refl refl (refl, λ p. false_true p) refl)
+takes_modes cpu above m (IndirectY v) fragments e = by_one cpu above m (IndirectY v) fragments Indy _ e refl refl (refl, λ p. false_true p) refl

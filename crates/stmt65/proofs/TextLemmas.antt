@@ -1,0 +1,186 @@
+-- The meaning of a text, line by line.
+use Rattle.std.proofs.Common.{◌≡◌, ℕ, ◌+◌, List, [], ◌∷◌, ◌++◌, length, Option, Some, None, refl, sym, ap, ◌∙◌, arith, length-append}
+use Rattle.std.specs.Prelude.{Result, Ok, Err}
+use Rattle.std.specs.List.{All, flat_map}
+use Rattle.std.proofs.lemmas.List.Elements.{All-cons, All-head, All-tail}
+use Rattle.stmt65.specs.declared.fault.AsmFault.{AsmFault}
+use Rattle.stmt65.specs.declared.fault.AsmFaultKind.{AsmFaultKind}
+use Rattle.stmt65.specs.SourceLine.{SourceLine}
+use Rattle.stmt65.specs.Symbols.{Definition}
+use Rattle.stmt65.specs.Coding.{Fragment, Fixed, Single, ZeroPage, Oversized, LowFirst, HighFirst, Distance, fragment_len, fragment_bytes, coding_len}
+use Rattle.stmt65.specs.Meaning.{State, initial, after, fault_of, fragments_of, next_of, bytes_of, coded, meaning_of, with_front}
+use Rattle.stmt65.specs.TextLaws.{Line, lines_below, names_of, IsFaultless, line_bytes, MeansBytes, MeansFault, StandsAtItsBytes}
+
+-- ---- lengths
+
+fragment_len-bytes : (all : List Definition) (next : ℕ) (f : Fragment) → length (fragment_bytes all next f) ≡ fragment_len f
+unfolding fragment_bytes
+fragment_len-bytes all next (Fixed b) = refl
+fragment_len-bytes all next (Single v) = refl
+fragment_len-bytes all next (ZeroPage v) = refl
+fragment_len-bytes all next (Oversized v) = refl
+fragment_len-bytes all next (LowFirst v) = refl
+fragment_len-bytes all next (HighFirst v) = refl
+fragment_len-bytes all next (Distance v) = refl
+
+coding_len-bytes : (all : List Definition) (next : ℕ) (fs : List Fragment) → length (flat_map (fragment_bytes all next) fs) ≡ coding_len fs
+unfolding coding_len
+coding_len-bytes all next [] = refl
+coding_len-bytes all next (f ∷ fs) = length-append (fragment_bytes all next f) (flat_map (fragment_bytes all next) fs) ∙ let a = fragment_len-bytes all next f in let b = coding_len-bytes all next fs in omega arith
+
+-- the address after a line is the one before it and its bytes
+at-after : (all : List Definition) (s : State) (l : Option SourceLine) → (after s l).at ≡ s.at + length (bytes_of all s l)
+unfolding after bytes_of next_of
+at-after all s None = omega arith
+at-after all s (Some source) = ap (λ (n : ℕ). s.at + n) (sym (coding_len-bytes all (next_of s source) (fragments_of s source)))
+
+stands : (all : List Definition) (s : State) (ls : List (Option SourceLine)) (above below : List Line) (line : Line)
+    → lines_below s ls ≡ above ++ line ∷ below → line.state.at ≡ s.at + length (flat_map (line_bytes all) above)
+unfolding lines_below
+stands all s [] [] below line e = cc
+stands all s [] (x ∷ above) below line e = cc
+stands all s (l ∷ ls) [] below line e = let same : record { state = s; says = l } ≡ line = cc in ap (λ (x : Line). x.state.at) (sym same) ∙ omega arith
+stands all s (l ∷ ls) (x ∷ above) below line e =
+    let same : record { state = s; says = l } ≡ x = cc in
+    let rest : lines_below (after s l) ls ≡ above ++ line ∷ below = cc in
+    let ih = stands all (after s l) ls above below line rest in
+    let front : line_bytes all x ≡ bytes_of all s l = ap (line_bytes all) (sym same) in
+    let len = length-append (line_bytes all x) (flat_map (line_bytes all) above) in
+    let len' : length (line_bytes all x) ≡ length (bytes_of all s l) = ap length front in
+    let next = at-after all s l in
+    omega arith
+
+pub stands_at_its_bytes : StandsAtItsBytes
+stands_at_its_bytes all start ls above below line e = stands all (initial start) ls above below line e
+
+-- ---- a list of lines
+
+no_lines : (all : List Definition) → All (IsFaultless all) []
+no_lines all k d lt = absurd (omega arith)
+
+front_ok : (front : List ℕ) (m : Result (List ℕ) AsmFault) (bytes : List ℕ) → with_front front m ≡ Ok bytes → (rest : List ℕ) × (m ≡ Ok rest) × (bytes ≡ front ++ rest)
+front_ok front (Ok rest) bytes e = (rest, refl, cc)
+front_ok front (Err f) bytes e = absurd cc
+
+front_err : (front : List ℕ) (m : Result (List ℕ) AsmFault) (f : AsmFault) → with_front front m ≡ Err f → m ≡ Err f
+front_err front (Ok rest) f e = absurd cc
+front_err front (Err g) f e = let same : g ≡ f = cc in ap (λ (x : AsmFault). Err x) same
+
+err_same : (n : ℕ) (k : AsmFaultKind) (m : ℕ) (kind : AsmFaultKind) → with_front [] (Err (record { line = n; kind = k })) ≡ Err (record { line = m; kind = kind }) → (n ≡ m) × (k ≡ kind)
+err_same n k m kind e =
+    let f : AsmFault = record { line = n; kind = k } in
+    let g : AsmFault = record { line = m; kind = kind } in
+    let same : f ≡ g = cc in
+    (ap (λ (x : AsmFault). x.line) same, ap (λ (x : AsmFault). x.kind) same)
+
+coded-bytes : (all : List Definition) (n : ℕ) (s : State) (ls : List (Option SourceLine)) (bytes : List ℕ)
+    → coded all n s ls ≡ Ok bytes → All (IsFaultless all) (lines_below s ls) × (bytes ≡ flat_map (line_bytes all) (lines_below s ls))
+unfolding coded lines_below
+coded-bytes all n s [] bytes e = (no_lines all, cc)
+coded-bytes all n s (l ∷ ls) bytes e = go (coded-bytes all (n + 1) (after s l) ls) (fault_of all s l) refl
+  where
+    go : ((rest : List ℕ) → coded all (n + 1) (after s l) ls ≡ Ok rest → All (IsFaultless all) (lines_below (after s l) ls) × (rest ≡ flat_map (line_bytes all) (lines_below (after s l) ls)))
+        → (o : Option AsmFaultKind) → fault_of all s l ≡ o → All (IsFaultless all) (lines_below s (l ∷ ls)) × (bytes ≡ flat_map (line_bytes all) (lines_below s (l ∷ ls)))
+    go more (Some kind) f = let e' = rw f at e in absurd cc
+    go more None f =
+        let e' = rw f at e in
+        let found = front_ok (bytes_of all s l) (coded all (n + 1) (after s l) ls) bytes e' in
+        let ih = more found.0 found.1 in
+        (All-cons (IsFaultless all) (record { state = s; says = l }) (lines_below (after s l) ls) f ih.0, found.2 ∙ ap (λ (rest : List ℕ). bytes_of all s l ++ rest) ih.1)
+
+bytes-coded : (all : List Definition) (n : ℕ) (s : State) (ls : List (Option SourceLine)) → All (IsFaultless all) (lines_below s ls) → coded all n s ls ≡ Ok (flat_map (line_bytes all) (lines_below s ls))
+unfolding coded lines_below
+bytes-coded all n s [] h = refl
+bytes-coded all n s (l ∷ ls) h =
+    let here = All-head (IsFaultless all) (record { state = s; says = l }) (lines_below (after s l) ls) h in
+    let ih = bytes-coded all (n + 1) (after s l) ls (All-tail (IsFaultless all) (record { state = s; says = l }) (lines_below (after s l) ls) h) in
+    rw (here, ih) refl
+
+pub means_bytes : MeansBytes
+unfolding meaning_of
+means_bytes start ls bytes = (
+  λ e. coded-bytes (names_of start ls) 1 (initial start) ls bytes e,
+  λ h. bytes-coded (names_of start ls) 1 (initial start) ls h.0 ∙ ap (λ (bs : List ℕ). Ok bs) (sym h.1),
+)
+
+-- ---- the first fault
+
+-- the same of lines that are counted from n on
+record IsFirstFrom (all : List Definition) (lines : List Line) (n m : ℕ) (kind : AsmFaultKind) : Type 0 where
+  above : List Line
+  line : Line
+  below : List Line
+  parts : lines ≡ above ++ line ∷ below
+  number : m ≡ length above + n
+  fault : fault_of all line.state line.says ≡ Some kind
+  none_above : All (IsFaultless all) above
+
+coded-fault : (all : List Definition) (n : ℕ) (s : State) (ls : List (Option SourceLine)) (m : ℕ) (kind : AsmFaultKind)
+    → coded all n s ls ≡ Err (record { line = m; kind = kind }) → IsFirstFrom all (lines_below s ls) n m kind
+unfolding coded lines_below
+coded-fault all n s [] m kind e = absurd cc
+coded-fault all n s (l ∷ ls) m kind e = go (coded-fault all (n + 1) (after s l) ls m kind) (fault_of all s l) refl
+  where
+    go : (coded all (n + 1) (after s l) ls ≡ Err (record { line = m; kind = kind }) → IsFirstFrom all (lines_below (after s l) ls) (n + 1) m kind)
+        → (o : Option AsmFaultKind) → fault_of all s l ≡ o → IsFirstFrom all (lines_below s (l ∷ ls)) n m kind
+    go more (Some k) f =
+        let e' = rw f at e in
+        let same = err_same n k m kind e' in
+        let number : m ≡ 0 + n = omega (arith, same.0) in
+        record {
+          above = [];
+          line = record { state = s; says = l };
+          below = lines_below (after s l) ls;
+          parts = refl;
+          number = number;
+          fault = f ∙ ap (λ (x : AsmFaultKind). Some x) same.1;
+          none_above = no_lines all;
+        }
+    go more None f =
+        let e' = rw f at e in
+        let found = front_err (bytes_of all s l) (coded all (n + 1) (after s l) ls) (record { line = m; kind = kind }) e' in
+        let ih = more found in
+        let number = ih.number in
+        record {
+          above = record { state = s; says = l } ∷ ih.above;
+          line = ih.line;
+          below = ih.below;
+          parts = ap (λ (xs : List Line). record { state = s; says = l } ∷ xs) ih.parts;
+          number = omega arith;
+          fault = ih.fault;
+          none_above = All-cons (IsFaultless all) (record { state = s; says = l }) ih.above f ih.none_above;
+        }
+
+fault-coded : (all : List Definition) (n : ℕ) (s : State) (ls : List (Option SourceLine)) (m : ℕ) (kind : AsmFaultKind) (above below : List Line) (line : Line)
+    → lines_below s ls ≡ above ++ line ∷ below → m ≡ length above + n → fault_of all line.state line.says ≡ Some kind → All (IsFaultless all) above
+    → coded all n s ls ≡ Err (record { line = m; kind = kind })
+unfolding coded lines_below
+fault-coded all n s [] m kind [] below line e number fault none = cc
+fault-coded all n s [] m kind (x ∷ above) below line e number fault none = cc
+fault-coded all n s (l ∷ ls) m kind [] below line e number fault none =
+    let same : record { state = s; says = l } ≡ line = cc in
+    let here : fault_of all s l ≡ Some kind = ap (λ (x : Line). fault_of all x.state x.says) same ∙ fault in
+    let first : n ≡ m = omega arith in
+    rw (here, first) refl
+fault-coded all n s (l ∷ ls) m kind (x ∷ above) below line e number fault none =
+    let same : record { state = s; says = l } ≡ x = cc in
+    let rest : lines_below (after s l) ls ≡ above ++ line ∷ below = cc in
+    let here : fault_of all s l ≡ None = ap (λ (y : Line). fault_of all y.state y.says) same ∙ All-head (IsFaultless all) x above none in
+    let later : m ≡ length above + (n + 1) = omega arith in
+    let ih = fault-coded all (n + 1) (after s l) ls m kind above below line rest later fault (All-tail (IsFaultless all) x above none) in
+    rw (here, ih) refl
+
+pub means_fault : MeansFault
+unfolding meaning_of
+means_fault start ls n kind = (
+  λ e. let found = coded-fault (names_of start ls) 1 (initial start) ls n kind e in record {
+    above = found.above;
+    line = found.line;
+    below = found.below;
+    parts = found.parts;
+    number = found.number;
+    fault = found.fault;
+    none_above = found.none_above;
+  },
+  λ h. fault-coded (names_of start ls) 1 (initial start) ls n kind h.above h.below h.line h.parts h.number h.fault h.none_above,
+)

@@ -1,0 +1,101 @@
+-- In which mode an instruction is coded. The modes of a form are those that are written like it; after `a:` only the absolute
+-- one. Of a zero-page and an absolute mode that are written alike the operand's size decides, if the mnemonic has both; every
+-- other mode is taken whatever the size, and an operand that only the zero page has then needs zero-page size to fit.
+use Rattle.std.specs.Prelude.{◌≡◌, ◌↔◌, ℕ, suc, Bool, true, false, List, [], ◌∷◌, Some, None, IsSome}
+use Rattle.std.specs.List.{list_any}
+use denote.Enum.Bare.{sameb}
+use Rattle.isa65.specs.declared.cpu.Cpu.{Cpu}
+use Rattle.isa65.specs.declared.mnemonic.Mnemonic.{Mnemonic}
+use Rattle.isa65.specs.declared.mode.Mode.{Mode}
+use Rattle.isa65.specs.declared.mode.Mode.TheVariants.{Imm, Zp, Zpx, Zpy, Abs, Absx, Absy, Ind, Indx, Indy, Zpind, Absindx, Rel, Zprel}
+use Rattle.isa65.specs.Cpu.{table_of}
+use Rattle.isa65.specs.Mode.{len_of, written, zero_page_of, IsZeroPageOf}
+use Rattle.isa65.specs.contracts.mode.Mode as mode
+use Rattle.isa65.specs.Opcodes.{encoded}
+use Rattle.stmt65.specs.Forms.{form_text, form_values, form_size}
+use Rattle.stmt65.specs.SourceLine.{Value, Form, Instr}
+use Rattle.stmt65.specs.Reading.{is_absolute}
+use Rattle.stmt65.specs.Symbols.{Definition, has_zero_page_size}
+use Rattle.stmt65.specs.Coding.{Fragment, Fixed, Single, LowFirst, Distance, Way, zero_page, ways, coding, coding_len}
+
+-- whether `a:` stands before the expression
+abbrev pub has_prefix : Form → Bool
+has_prefix form = is_absolute (form_size form)
+
+-- x is a mode of the form: it is written so, and if `a:` stands there, it is absolute with a zero-page mode that is written alike
+abbrev pub IsModeOf : Form → Mode → Type 0
+IsModeOf form x = (written x ≡ form_text form) × (has_prefix form ≡ true → IsSome (zero_page_of x))
+
+-- ---- the ways to code a form
+
+-- a way is a mode of the form, and its operand has the length that goes with the mode
+pub record IsWay (form : Form) (way : Way) : Type 0 where
+  pub of_form : IsModeOf form way.0
+  pub length : suc (coding_len way.1) ≡ len_of way.0
+
+abbrev pub EachWay : Form → List Way → Type 0
+EachWay form [] = Unit {0}
+EachWay form (way ∷ others) = IsWay form way × EachWay form others
+
+-- Each way is a mode of the form.
+abbrev pub WaysAreModes : Type 0
+WaysAreModes = (above : List Definition) (form : Form) → EachWay form (ways above form)
+
+abbrev pub is_way : Mode → Way → Bool
+is_way x way = sameb mode.the_type way.0 x
+
+-- Each mode of the form is a way.
+abbrev pub ModesAreWays : Type 0
+ModesAreWays = (above : List Definition) (form : Form) (x : Mode) → IsModeOf form x → list_any (is_way x) (ways above form) ≡ true
+
+-- ---- the way that is taken
+
+-- the mnemonic has the mode on the CPU
+abbrev pub HasMode : Cpu → Mnemonic → Mode → Type 0
+HasMode cpu m x = IsSome (encoded (table_of cpu) m x)
+
+-- whether the first expression of the operand has zero-page size
+abbrev pub is_short : List Definition → List Value → Bool
+is_short above [] = false
+is_short above (v ∷ vs) = has_zero_page_size above v
+
+-- what stands after the opcode in each mode
+abbrev pub mode_fragments : List Definition → Mode → List Value → List Fragment
+mode_fragments above Imm (v ∷ []) = Single v ∷ []
+mode_fragments above Zp (v ∷ []) = zero_page above v ∷ []
+mode_fragments above Zpx (v ∷ []) = zero_page above v ∷ []
+mode_fragments above Zpy (v ∷ []) = zero_page above v ∷ []
+mode_fragments above Abs (v ∷ []) = LowFirst v ∷ []
+mode_fragments above Absx (v ∷ []) = LowFirst v ∷ []
+mode_fragments above Absy (v ∷ []) = LowFirst v ∷ []
+mode_fragments above Ind (v ∷ []) = LowFirst v ∷ []
+mode_fragments above Indx (v ∷ []) = zero_page above v ∷ []
+mode_fragments above Indy (v ∷ []) = zero_page above v ∷ []
+mode_fragments above Zpind (v ∷ []) = zero_page above v ∷ []
+mode_fragments above Absindx (v ∷ []) = LowFirst v ∷ []
+mode_fragments above Rel (v ∷ []) = Distance v ∷ []
+mode_fragments above Zprel (v ∷ w ∷ []) = zero_page above v ∷ Distance w ∷ []
+mode_fragments above _ _ = []
+
+-- The fragments are those of one mode of the form. If the mnemonic has a zero-page and an absolute mode that are written so, it is
+-- the one of the operand's size.
+pub record TakesMode (cpu : Cpu) (above : List Definition) (m : Mnemonic) (form : Form) (fragments : List Fragment) : Type 0 where
+  pub mode : Mode
+  pub opcode : ℕ
+  pub of_form : IsModeOf form mode
+  pub has : encoded (table_of cpu) m mode ≡ Some opcode
+  pub coded : fragments ≡ Fixed opcode ∷ mode_fragments above mode (form_values form)
+  pub short : (y : Mode) → IsZeroPageOf mode y → IsModeOf form y → HasMode cpu m y → is_short above (form_values form) ≡ true
+  pub long : (z : Mode) → IsZeroPageOf z mode → IsModeOf form z → HasMode cpu m z → is_short above (form_values form) ≡ false
+
+abbrev pub TakesModes : Type 0
+TakesModes = (cpu : Cpu) (above : List Definition) (m : Mnemonic) (form : Form) (fragments : List Fragment)
+    → coding cpu above (Instr m form) ≡ Some fragments → TakesMode cpu above m form fragments
+
+-- the mnemonic has no mode of the form
+abbrev pub LacksForm : Cpu → Mnemonic → Form → Type 0
+LacksForm cpu m form = (x : Mode) → IsModeOf form x → encoded (table_of cpu) m x ≡ None
+
+-- An instruction has no coding exactly when the mnemonic has no mode of the form.
+abbrev pub NeedsMode : Type 0
+NeedsMode = (cpu : Cpu) (above : List Definition) (m : Mnemonic) (form : Form) → (coding cpu above (Instr m form) ≡ None) ↔ LacksForm cpu m form

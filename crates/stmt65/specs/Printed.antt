@@ -1,0 +1,110 @@
+-- What the line of a statement says when it is read.
+use Rattle.std.specs.Prelude.{◌≡◌, ℕ, Bool, true, false, not, List, [], ◌∷◌, ◌++◌, map, Option, Some, None, ◌==◌}
+use Rattle.std.specs.List.{list_all}
+use Rattle.isa65.specs.Cpu.{cpu_text}
+use Rattle.isa65.specs.declared.mode.Mode.{Mode}
+use Rattle.isa65.specs.declared.mode.Mode.TheVariants.{Acc, Imm, Zp, Zpx, Zpy, Abs, Absx, Absy, Ind, Indx, Indy, Zpind, Absindx, Rel, Zprel}
+use Rattle.stmt65.specs.SourceLine.{Value, NumberValue, NameValue, Form, Empty, Accumulator, Immediate, Direct, DirectX, DirectY, Two, Indirect, IndirectX, IndirectY, NumberDatum, Nothing, Instr, Data, Words, Dbyts, Addrs, SetCpu, SourceLine, Assignment, PlaceAssignment, Statement}
+use Rattle.stmt65.specs.declared.source_line.AddressSize.{AddressSize}
+use Rattle.stmt65.specs.declared.source_line.AddressSize.TheVariants.{Absolute, Automatic}
+use Rattle.stmt65.specs.declared.source_line.Minus.TheVariants.{Zero, One}
+use Rattle.stmt65.specs.Tables.{low_words, high_words, cut_text}
+use Rattle.stmt65.specs.Names.{is_name}
+use Rattle.stmt65.specs.Lexing.{parts}
+use Rattle.stmt65.specs.Reading.{reading_of}
+use Rattle.stmt65.specs.Views.{ExprView, OperandsView, TargetView, StatementView}
+use Rattle.stmt65.specs.Views as view
+
+abbrev pub source_value : ExprView → Value
+source_value (view.number n) = NumberValue n
+source_value (view.name name offset) = NameValue name offset Zero
+
+-- `a:` makes an operand absolute
+abbrev pub address_size : Bool → AddressSize
+address_size true = Absolute
+address_size false = Automatic
+
+-- the written form of an operand in its mode; `absolute` says whether `a:` stands before the expression
+unfoldable pub source_form : Mode → Bool → OperandsView → Form
+source_form Acc absolute view.none = Accumulator
+source_form Imm absolute (view.one e) = Immediate (source_value e)
+source_form Zp absolute (view.one e) = Direct Automatic (source_value e)
+source_form Zpx absolute (view.one e) = DirectX Automatic (source_value e)
+source_form Zpy absolute (view.one e) = DirectY Automatic (source_value e)
+source_form Abs absolute (view.one e) = Direct (address_size absolute) (source_value e)
+source_form Absx absolute (view.one e) = DirectX (address_size absolute) (source_value e)
+source_form Absy absolute (view.one e) = DirectY (address_size absolute) (source_value e)
+source_form Ind absolute (view.one e) = Indirect (source_value e)
+source_form Indx absolute (view.one e) = IndirectX (source_value e)
+source_form Indy absolute (view.one e) = IndirectY (source_value e)
+source_form Zpind absolute (view.one e) = Indirect (source_value e)
+source_form Absindx absolute (view.one e) = IndirectX (source_value e)
+source_form Rel absolute (view.one e) = Direct Automatic (source_value e)
+source_form Zprel absolute (view.two e f) = Two (source_value e) (source_value f)
+source_form _ _ _ = Empty
+
+-- the entry of a return table
+abbrev pub return_value : Option TargetView → Value
+return_value None = NumberValue 0xFFFF
+return_value (Some t) = NameValue t.name t.offset One
+
+-- A statement as it is read, without a label before it.
+abbrev pub source_line : StatementView → SourceLine
+source_line (view.instr op absolute operands) = Statement None (Instr op.mnemonic (source_form op.mode absolute operands))
+source_line (view.bytes bs) = Statement None (Data (map NumberDatum bs))
+source_line (view.text bs) = Statement None (Data (cut_text bs))
+source_line (view.words bs) = Statement None (Words (map NumberValue (low_words bs)))
+source_line (view.dbyts bs) = Statement None (Dbyts (map NumberValue (high_words bs)))
+source_line (view.addr t) = Statement None (Addrs (NameValue t.name t.offset Zero ∷ []))
+source_line (view.rts t) = Statement None (Words (return_value t ∷ []))
+source_line (view.label name) = Statement (Some name) Nothing
+source_line (view.assignment name n) = Assignment name n
+source_line (view.forward name n) = PlaceAssignment name n
+source_line (view.set_cpu cpu) = Statement None (SetCpu (cpu_text cpu))
+source_line view.blank = Statement None Nothing
+source_line (view.remark text) = Statement None Nothing
+
+-- the same with a label before its operation
+abbrev pub with_label : Option (List ℕ) → SourceLine → SourceLine
+with_label None line = line
+with_label (Some name) (Statement label operation) = Statement (Some name) operation
+with_label (Some name) line = line
+
+-- a name that is not reserved
+abbrev pub HasName : ExprView → Type 0
+HasName (view.number n) = Unit {0}
+HasName (view.name name offset) = is_name name ≡ true
+
+abbrev pub HasNamesIn : OperandsView → Type 0
+HasNamesIn view.none = Unit {0}
+HasNamesIn (view.one e) = HasName e
+HasNamesIn (view.two e f) = HasName e × HasName f
+
+-- The names of the statement are names.
+abbrev pub HasNames : StatementView → Type 0
+HasNames (view.instr op absolute operands) = HasNamesIn operands
+HasNames (view.bytes bs) = Unit {0}
+HasNames (view.text bs) = Unit {0}
+HasNames (view.words bs) = Unit {0}
+HasNames (view.dbyts bs) = Unit {0}
+HasNames (view.addr t) = is_name t.name ≡ true
+HasNames (view.rts None) = Unit {0}
+HasNames (view.rts (Some t)) = is_name t.name ≡ true
+HasNames (view.label name) = is_name name ≡ true
+HasNames (view.assignment name n) = is_name name ≡ true
+HasNames (view.forward name n) = is_name name ≡ true
+HasNames (view.set_cpu cpu) = Unit {0}
+HasNames view.blank = Unit {0}
+HasNames (view.remark text) = Unit {0}
+
+-- A label is a name.
+abbrev pub HasLabelName : Option (List ℕ) → Type 0
+HasLabelName None = Unit {0}
+HasLabelName (Some name) = is_name name ≡ true
+
+-- The bytes are one line that reads so: its line feed is the only one.
+pub record PrintsAs (bytes : List ℕ) (r : SourceLine) : Type 0 where
+  pub line : List ℕ
+  pub ends : bytes ≡ line ++ 10 ∷ []
+  pub one_line : list_all (λ b. not (b == 10)) line ≡ true
+  pub reads : reading_of (parts line) ≡ Some r

@@ -1,0 +1,46 @@
+-- What a line of assembler source can say.
+use Rattle.std.specs.Prelude.{ℕ, List, Option}
+use Rattle.isa65.specs.declared.mnemonic.Mnemonic.{Mnemonic}
+use Rattle.stmt65.specs.declared.source_line.AddressSize.{AddressSize}
+use Rattle.stmt65.specs.declared.source_line.Minus.{Minus}
+
+-- an expression: a number; or a name, the number that is added to its value, and what is subtracted
+pub data Value : Type 0 where
+  NumberValue : ℕ → Value
+  NameValue : List ℕ → ℕ → Minus → Value
+
+-- the written forms of an operand: no operand, `a`, `#E`, `E`, `E,x`, `E,y`, `E,E`, `(E)`, `(E,x)`, `(E),y`
+pub data Form : Type 0 where
+  Empty : Form
+  Accumulator : Form
+  Immediate : Value → Form
+  Direct : AddressSize → Value → Form
+  DirectX : AddressSize → Value → Form
+  DirectY : AddressSize → Value → Form
+  Two : Value → Value → Form
+  Indirect : Value → Form
+  IndirectX : Value → Form
+  IndirectY : Value → Form
+
+-- an operand of `.byte`: a number, or the bytes between the quotes of a string
+pub data Datum : Type 0 where
+  NumberDatum : ℕ → Datum
+  StringDatum : List ℕ → Datum
+
+-- no operation, an instruction, or an operation of the assembler with its operands
+pub data Operation : Type 0 where
+  Nothing : Operation
+  Instr : Mnemonic → Form → Operation
+  Data : List Datum → Operation
+  Words : List Value → Operation
+  Dbyts : List Value → Operation
+  Addrs : List Value → Operation
+  Segment : List ℕ → Operation
+  Code : Operation
+  SetCpu : List ℕ → Operation
+
+-- `name := number`, `name := * + number`, or an optional label and an operation after it
+pub data SourceLine : Type 0 where
+  Assignment : List ℕ → ℕ → SourceLine
+  PlaceAssignment : List ℕ → ℕ → SourceLine
+  Statement : Option (List ℕ) → Operation → SourceLine

@@ -1,0 +1,42 @@
+//! What a text means, in the words of the manual: which mode an instruction has, which faults a line
+//! has, and what the lines of a text make of it.
+
+ghost use Rattle.stmt65.specs.ModeLaws.{WaysAreModes, ModesAreWays, TakesModes, NeedsMode};
+ghost use Rattle.stmt65.specs.FaultLaws.{FindsLowest, FindsNone};
+ghost use Rattle.stmt65.specs.TextLaws.{MeansBytes, MeansFault, StandsAtItsBytes};
+
+/// The ways to code an operand are the modes that are written like it, after `a:` only the absolute
+/// one, and each way is as long as its mode.
+#[tactic(auto, using(crate::proofs::ModeLemmas::ways_are_modes, crate::proofs::ModeLemmas::modes_are_ways))]
+pub fn codes_alike()
+    ensures alike { WaysAreModes }
+    ensures all { ModesAreWays }
+{}
+
+/// An instruction is coded in one of these modes that the mnemonic has on the CPU. If it has a
+/// zero-page and an absolute one that are written alike, the size of the operand decides. There is no
+/// coding exactly when the mnemonic has none of the modes.
+pub fn takes_modes()
+    ensures takes { TakesModes }
+    ensures needs { NeedsMode }
+{}
+
+/// The fault of a line is of the lowest kind of which it has one, by one rule for each kind; a line
+/// that has none of any kind is without fault.
+pub fn finds_lowest_fault()
+    ensures lowest { FindsLowest }
+    ensures none { FindsNone }
+{}
+
+/// A text has bytes exactly when no line has a fault, and they are those of its lines in order. Each
+/// line stands at the start plus the number of bytes of the lines above it.
+#[tactic(auto, using(crate::proofs::TextLemmas::stands_at_its_bytes))]
+pub fn means_its_lines()
+    ensures bytes { MeansBytes }
+    ensures stands { StandsAtItsBytes }
+{}
+
+/// The fault of a text is that of the first line that has one.
+pub fn means_first_fault()
+    ensures { MeansFault }
+{}

@@ -1,0 +1,103 @@
+//! What a line of assembler source says.
+
+use crate::numeral::Numeral;
+use isa65::Mnemonic;
+use std::alloc::{Allocator, Global};
+
+/// What is subtracted at the end of an expression.
+#[derive(Clone, Copy, Debug, PartialEq, Eq)]
+pub enum Minus {
+    /// Nothing.
+    Zero,
+    /// `-1`.
+    One,
+}
+
+/// An expression.
+#[derive(Clone, Copy, Debug)]
+pub enum Value<'a> {
+    /// A number.
+    Number(Numeral<'a>),
+    /// A name, the number that is added to its value, and what is subtracted.
+    Name(&'a [u8], Numeral<'a>, Minus),
+}
+
+/// Which size an operand's address has.
+#[derive(Clone, Copy, Debug, PartialEq, Eq)]
+pub enum AddressSize {
+    /// That of the expression: zero page if the expression has that size.
+    Automatic,
+    /// 16 bits: `a:` stands before the expression.
+    Absolute,
+}
+
+/// The written forms of an operand, with E for an expression.
+#[derive(Clone, Copy, Debug)]
+pub enum Form<'a> {
+    /// No operand.
+    Empty,
+    /// `a`.
+    Accumulator,
+    /// `#E`.
+    Immediate(Value<'a>),
+    /// `E` or `a:E`.
+    Direct(AddressSize, Value<'a>),
+    /// `E,x` or `a:E,x`.
+    DirectX(AddressSize, Value<'a>),
+    /// `E,y` or `a:E,y`.
+    DirectY(AddressSize, Value<'a>),
+    /// `E,E`.
+    Two(Value<'a>, Value<'a>),
+    /// `(E)`.
+    Indirect(Value<'a>),
+    /// `(E,x)`.
+    IndirectX(Value<'a>),
+    /// `(E),y`.
+    IndirectY(Value<'a>),
+}
+
+/// An operand of `.byte`.
+#[derive(Clone, Copy, Debug)]
+pub enum Datum<'a> {
+    /// A number.
+    Number(Numeral<'a>),
+    /// The bytes between the quotes of a string.
+    String(&'a [u8]),
+}
+
+/// An operation with its operands.
+#[derive(Drop)]
+pub enum Operation<'a, A: Allocator = Global> {
+    /// No operation.
+    Nothing,
+    /// An instruction.
+    Instr(Mnemonic, Form<'a>),
+    /// `.byte` and its operands.
+    Data(Vec<Datum<'a>, A>),
+    /// `.word` and its operands.
+    Words(Vec<Value<'a>, A>),
+    /// `.dbyt` and its operands.
+    Dbyts(Vec<Value<'a>, A>),
+    /// `.addr` and its operands.
+    Addrs(Vec<Value<'a>, A>),
+    /// `.segment` and the segment's name.
+    Segment(&'a [u8]),
+    /// `.code`.
+    Code,
+    /// `.setcpu` and the name that it gives.
+    SetCpu(&'a [u8]),
+}
+
+/// What a line of source says.
+#[derive(Drop)]
+pub enum SourceLine<'a, A: Allocator = Global> {
+    /// `name := number`.
+    Assignment(&'a [u8], Numeral<'a>),
+    /// `name := * + number`.
+    PlaceAssignment(&'a [u8], Numeral<'a>),
+    /// An optional label, `name:`, and an operation after it.
+    Statement {
+        label: Option<&'a [u8]>,
+        operation: Operation<'a, A>,
+    },
+}
