@@ -1,6 +1,6 @@
 #!/usr/bin/env bash
-# How fast the program is: instructions by valgrind's callgrind, beside those of cc65's da65 on the same bytes, and times
-# to read large information files. Run it by hand on an idle machine.
+# How fast the program is, in instructions by valgrind's callgrind: beside those of cc65's da65 on the same bytes, and for
+# large information files, where twice as many groups take at most 2.3 times as many.
 # Usage: tests/speed.sh PROGRAM
 set -u
 program=$(realpath "$1")
@@ -59,8 +59,8 @@ compares 'nop' -S 0 nop.bin
 compares 'mixed bytes, without ranges' -S 0 mixed.bin
 compares "mixed bytes, $(wc -l <mixed.info) ranges" -S 0 -i mixed.info mixed.bin
 
-# groups COUNT ORDER: prints that many groups LABEL, with ascending, descending or shuffled addresses.
-groups() {
+# labels COUNT ORDER: prints that many groups LABEL, with ascending, descending or shuffled addresses.
+labels() {
     awk -v count="$1" -v order="$2" 'BEGIN {
         for (k = 0; k < count; k++) {
             a = order == "ascending" ? k : order == "descending" ? count - 1 - k : k * 40503 % 65536
@@ -69,34 +69,29 @@ groups() {
     }'
 }
 
-# reads NAME: sets `milliseconds` to the least of three times to read input.info.
-reads() {
-    local k begin end
-    milliseconds=
-    for k in 1 2 3; do
-        begin=${EPOCHREALTIME/[.,]/}
-        "$program" -i input.info -S 0 one.bin >/dev/null 2>messages || { echo "speed: $1: $(cat messages)"; exit 1; }
-        end=${EPOCHREALTIME/[.,]/}
-        [ -n "$milliseconds" ] && [ $(((end - begin) / 1000)) -ge "$milliseconds" ] || milliseconds=$(((end - begin) / 1000))
-    done
+# ranges COUNT ORDER: prints that many groups RANGE, with ascending addresses.
+ranges() {
+    awk -v count="$1" 'BEGIN { for (k = 0; k < count; k++) printf "RANGE{START$%04X;SIZE 1;TYPE CODE;}\n", k }'
 }
 
+# grows GROUPS COUNT ORDER: instructions to list one byte with this many groups, and with half as many, and their ratio.
+grows() {
+    local half ratio
+    "$1" $(($2 / 2)) "$3" >input.info
+    instructions "$program" -i input.info -S 0 one.bin
+    half=$count
+    "$1" "$2" "$3" >input.info
+    instructions "$program" -i input.info -S 0 one.bin
+    ratio=$(awk "BEGIN { printf \"%.2f\", $count / $half }")
+    printf '%-44s %12d %12d %8s\n' "$2 $1, $3" "$half" "$count" "$ratio"
+    awk "BEGIN { exit !($ratio > 2.3) }" && { echo "speed: $2 $1, $3: more than 2.3 times those of half as many"; failed=1; }
+}
+
+failed=0
 printf '\xea' >one.bin
-echo
-awk 'BEGIN { for (k = 0; k < 29000; k++) printf "RANGE{START$%04X;SIZE 1;TYPE CODE;}\n", k }' >input.info
-reads '29,000 groups RANGE'
-printf '%-44s %9d ms\n' '29,000 groups RANGE are read in' "$milliseconds"
-groups 1 ascending >input.info
-if "$program" -i input.info -S 0 one.bin >/dev/null 2>&1; then
-    for order in ascending descending shuffled; do
-        groups 10000 $order >input.info
-        reads "10,000 groups LABEL, $order"
-        half=$milliseconds
-        groups 20000 $order >input.info
-        reads "20,000 groups LABEL, $order"
-        printf '%-44s %9d ms, %s times that of 10,000\n' "20,000 groups LABEL, $order, are read in" "$milliseconds" \
-            "$(awk "BEGIN { printf \"%.2f\", $milliseconds / ($half ? $half : 1) }")"
-    done
-else
-    echo 'groups LABEL are left out, since the program does not know them'
-fi
+printf '\n%-44s %12s %12s %8s\n' 'instructions for groups' 'half' 'all' 'ratio'
+grows ranges 29000 ascending
+for order in ascending descending shuffled; do
+    grows labels 20000 $order
+done
+exit $failed
