@@ -32,7 +32,7 @@ use Rattle.stmt65.specs.Widths.{IsInWidth}
 use Rattle.stmt65.specs.Views.{ExprView, OperandsView, TargetView, StatementView, RemarksView}
 use Rattle.stmt65.specs.Views as view
 use Rattle.stmt65.proofs.Lexed.{IsWordText}
-use Rattle.stmt65.proofs.ReadBack.{IsRead, AreRead, are_read, name_word}
+use Rattle.stmt65.proofs.ReadBack.{IsRead, AreRead, are_read, name_word, name_quotes}
 use Rattle.stmt65.proofs.TableReads.{is_sound, cut_sound}
 use Rattle.stmt65.proofs.Cases.{both}
 
@@ -163,9 +163,12 @@ unfolding words_text
 words_line [] = refl
 words_line (w ∷ ws) = joined (hex4 w) (flat_map word_behind ws) (hex4_line w) (words_behind_line ws)
 
+quoted_line : (text : List ℕ) → list_all is_text_byte text ≡ true → InLine (quoted text)
+quoted_line text h = between (codes "\"") text (codes "\"") refl (all_as is_text_byte text_byte text h) refl
+
 datum_line : (d : Datum) → is_sound d ≡ true → InLine (datum_text d)
 datum_line (source.NumberDatum b) h = hex2_line b
-datum_line (source.StringDatum t) h = between (codes "\"") t (codes "\"") refl (all_as is_text_byte text_byte t h) refl
+datum_line (source.StringDatum t) h = quoted_line t h
 
 data_behind_line : (ds : List Datum) → list_all is_sound ds ≡ true → InLine (flat_map datum_behind ds)
 data_behind_line [] h = refl
@@ -181,7 +184,7 @@ data_line (d ∷ ds) h =
     joined (datum_text d) (flat_map datum_behind ds) (datum_line d a.0) (data_behind_line ds a.1)
 
 cpu_line : (cpu : Cpu) → InLine (quoted (cpu_text cpu))
-cpu_line cpu = between (codes "\"") (cpu_text cpu) (codes "\"") refl (all_as is_text_byte text_byte (cpu_text cpu) (cpu_name cpu).quotable) refl
+cpu_line cpu = quoted_line (cpu_text cpu) (cpu_name cpu).quotable
 
 mnemonic_line : (m : Mnemonic) → InLine (text_of m)
 mnemonic_line Adc = refl
@@ -249,6 +252,8 @@ fields_line line c h (view.rts (Some t)) l p w n = with_line line c (codes ".wor
 fields_line line c h (view.label name) l p w n = label_line line name l n
 fields_line line c h (view.assignment name m) l p w n = definition_line line c name (hex4 m) l n (hex4_line m)
 fields_line line c h (view.forward name m) l p w n = definition_line line c name (codes "* + " ++ distance_text h m) l n (joined (codes "* + ") (distance_text h m) refl (distance_line h m w))
+fields_line line c h (view.segment name) l p w n = with_line line c (codes ".segment") (quoted name) l refl (quoted_line name (name_quotes name n))
+fields_line line c h view.code l p w n = alone_line line c (codes ".code") l refl
 fields_line line c h (view.set_cpu cpu) l p w n = with_line line c (codes ".setcpu") (quoted (cpu_text cpu)) l refl (cpu_line cpu)
 fields_line line c h view.blank l p w n = l
 fields_line line c h (view.remark text) l p w n = field_line line 1 (codes "; " ++ text) l (joined (codes "; ") text refl p.1)

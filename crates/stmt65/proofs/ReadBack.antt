@@ -24,7 +24,7 @@ use Rattle.stmt65.specs.Line.{filled, with_fields, line_of}
 use Rattle.stmt65.specs.Operands.{named_text, short_text, long_text, prefix_text, operand_text}
 use Rattle.stmt65.specs.Printable.{IsByte, IsShort, IsWrittenIn, IsPrintable, MayBeLabelled}
 use Rattle.stmt65.specs.Statements.{bytes_text, quoted, data_text, words_text, alone, with_operands, return_text, distance_text, instr_fields, label_fields, definition_fields, remark_fields, fields_of}
-use Rattle.stmt65.specs.SourceLine.{Value, NumberValue, NameValue, NumberDatum, Empty, Operation, Nothing, Instr, SetCpu, Assignment, PlaceAssignment, Statement}
+use Rattle.stmt65.specs.SourceLine.{Value, NumberValue, NameValue, NumberDatum, Empty, Operation, Nothing, Instr, Segment, Code, SetCpu, Assignment, PlaceAssignment, Statement}
 use Rattle.stmt65.specs.declared.source_line.Minus.TheVariants.{Zero, One}
 use Rattle.stmt65.specs.Tables.{low_words, high_words, words_in, cut_text}
 use Rattle.stmt65.specs.Parts.{Part, Word, Number, Text, Define, Mark, begins_with}
@@ -32,7 +32,7 @@ use Rattle.stmt65.specs.Lexing.{is_word_start, is_word_byte, is_text_byte, parts
 use Rattle.stmt65.specs.Names.{has_name_form, is_name}
 use Rattle.stmt65.specs.Reading.{reading_of}
 use Rattle.stmt65.specs.Spelling as item
-use Rattle.stmt65.specs.Spelling.{Item, word, mark, define, number, string, value, data_list, value_list, IsValue, IsItem, Spells, prefix_items, form_items, operation_items, IsSpelling}
+use Rattle.stmt65.specs.Spelling.{Item, word, mark, define, number, string, quoted_name, value, data_list, value_list, IsValue, IsItem, Spells, prefix_items, form_items, operation_items, IsSpelling}
 use Rattle.stmt65.specs.Printed.{address_size, source_value, source_form, source_line, with_label, HasName, HasNamesIn, HasNames, HasLabelName}
 use Rattle.stmt65.specs.Widths.{IsWordWide, AreWordWide, AreBytes, IsInWidth}
 use Rattle.stmt65.specs.Views.{ExprView, OperandsView, TargetView, StatementView, RemarksView}
@@ -235,7 +235,31 @@ text_spelled bs lt h = last (data_list (cut_text bs)) (parts (data_text (cut_tex
 words_spelled : (o : ByteOrder) (bs : List ℕ) → 2 ≤ length bs → AreBytes bs → Spells (value_list (map NumberValue (words_in o bs)) ∷ []) (parts (words_text (words_in o bs)))
 words_spelled o bs lt h = last (value_list (map NumberValue (words_in o bs))) (parts (words_text (words_in o bs))) (words_listed o bs lt h)
 
--- ---- the name of a CPU
+-- ---- the names of segments and CPUs
+
+-- a name is a text between quotes, reserved or not
+word_quotes : (b : ℕ) → is_word_byte b ≡ true → is_text_byte b ≡ true
+word_quotes b h = grind (arith, nat_tests)
+
+words_quote : (w : List ℕ) → list_all is_word_byte w ≡ true → list_all is_text_byte w ≡ true
+words_quote [] h = refl
+words_quote (b ∷ w) h = let a = both (is_word_byte b) (list_all is_word_byte w) h in rw (word_quotes b a.0, words_quote w a.1) refl
+
+first_quotes : (b : ℕ) → (is_ascii_alphabetic b || eqb b 95) ≡ true → is_text_byte b ≡ true
+first_quotes b h = grind (arith, nat_tests)
+
+pub name_quotes : (w : List ℕ) → has_name_form w ≡ true → list_all is_text_byte w ≡ true
+unfolding has_name_form
+name_quotes [] h = absurd cc
+name_quotes (b ∷ w) h =
+    let front = (both ((is_ascii_alphabetic b || eqb b 95) && list_all is_word_byte w) _ h).0 in
+    let parts = both (is_ascii_alphabetic b || eqb b 95) (list_all is_word_byte w) front in
+    rw (first_quotes b parts.0, words_quote w parts.1) refl
+
+segment_spelled : (name : List ℕ) → has_name_form name ≡ true → Spells (quoted_name name ∷ []) (parts (quoted name))
+segment_spelled name n =
+    last (quoted_name name) (parts (quoted name))
+    (n, parts_text name [] (name_quotes name n) ∙ ap (λ (ps : List Part). Text name ∷ ps) parts_nil)
 
 cpu_spelled : (cpu : Cpu) → Spells (string (cpu_text cpu) ∷ []) (parts (quoted (cpu_text cpu)))
 cpu_spelled cpu =
@@ -463,6 +487,8 @@ spelled_back c h label (view.rts (Some t)) p w n m l = operated label c (codes "
 spelled_back c h None (view.label name) p w n m l = label_spelled name n
 spelled_back c h None (view.assignment name k) p w n m l = assignment_spelled c name k n w
 spelled_back c h None (view.forward name k) p w n m l = forward_spelled c h name k n w
+spelled_back c h None (view.segment name) p w n m l = operated None c (codes ".segment") (quoted name) (Segment name) (quoted_name name ∷ []) l refl (refl, refl) (segment_spelled name n)
+spelled_back c h None view.code p w n m l = unoperated None c (codes ".code") Code l refl (refl, refl)
 spelled_back c h None (view.set_cpu cpu) p w n m l = operated None c (codes ".setcpu") (quoted (cpu_text cpu)) (SetCpu (cpu_text cpu)) (string (cpu_text cpu) ∷ []) l refl (refl, refl) (cpu_spelled cpu)
 spelled_back c h None view.blank p w n m l = nothing
 spelled_back c h None (view.remark text) p w n m l = remark_spelled text

@@ -71,6 +71,8 @@ IsPrintable (view.rts (Some t)) = IsNameLong t.name
 IsPrintable (view.label name) = IsNameLong name
 IsPrintable (view.assignment name n) = IsNameLong name
 IsPrintable (view.forward name n) = IsNameLong name
+IsPrintable (view.segment name) = IsNameLong name
+IsPrintable view.code = Unit {0}
 IsPrintable (view.set_cpu cpu) = Unit {0}
 IsPrintable view.blank = Unit {0}
 IsPrintable (view.remark text) = (length text ≤ 200) × (list_all (λ b. not (b == 10)) text ≡ true)

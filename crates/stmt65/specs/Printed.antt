@@ -4,12 +4,12 @@ use Rattle.std.specs.List.{list_all}
 use Rattle.isa65.specs.Cpu.{cpu_text}
 use Rattle.isa65.specs.declared.mode.Mode.{Mode}
 use Rattle.isa65.specs.declared.mode.Mode.TheVariants.{Acc, Imm, Zp, Zpx, Zpy, Abs, Absx, Absy, Ind, Indx, Indy, Zpind, Absindx, Rel, Zprel}
-use Rattle.stmt65.specs.SourceLine.{Value, NumberValue, NameValue, Form, Empty, Accumulator, Immediate, Direct, DirectX, DirectY, Two, Indirect, IndirectX, IndirectY, NumberDatum, Nothing, Instr, Data, Words, Dbyts, Addrs, SetCpu, SourceLine, Assignment, PlaceAssignment, Statement}
+use Rattle.stmt65.specs.SourceLine.{Value, NumberValue, NameValue, Form, Empty, Accumulator, Immediate, Direct, DirectX, DirectY, Two, Indirect, IndirectX, IndirectY, NumberDatum, Nothing, Instr, Data, Words, Dbyts, Addrs, Segment, Code, SetCpu, SourceLine, Assignment, PlaceAssignment, Statement}
 use Rattle.stmt65.specs.declared.source_line.AddressSize.{AddressSize}
 use Rattle.stmt65.specs.declared.source_line.AddressSize.TheVariants.{Absolute, Automatic}
 use Rattle.stmt65.specs.declared.source_line.Minus.TheVariants.{Zero, One}
 use Rattle.stmt65.specs.Tables.{low_words, high_words, cut_text}
-use Rattle.stmt65.specs.Names.{is_name}
+use Rattle.stmt65.specs.Names.{has_name_form, is_name}
 use Rattle.stmt65.specs.Lexing.{parts}
 use Rattle.stmt65.specs.Reading.{reading_of}
 use Rattle.stmt65.specs.Views.{ExprView, OperandsView, TargetView, StatementView}
@@ -60,6 +60,8 @@ source_line (view.rts t) = Statement None (Words (return_value t ∷ []))
 source_line (view.label name) = Statement (Some name) Nothing
 source_line (view.assignment name n) = Assignment name n
 source_line (view.forward name n) = PlaceAssignment name n
+source_line (view.segment name) = Statement None (Segment name)
+source_line view.code = Statement None Code
 source_line (view.set_cpu cpu) = Statement None (SetCpu (cpu_text cpu))
 source_line view.blank = Statement None Nothing
 source_line (view.remark text) = Statement None Nothing
@@ -80,7 +82,7 @@ HasNamesIn view.none = Unit {0}
 HasNamesIn (view.one e) = HasName e
 HasNamesIn (view.two e f) = HasName e × HasName f
 
--- The names of the statement are names.
+-- The names of the statement are names; that of a segment may be reserved.
 abbrev pub HasNames : StatementView → Type 0
 HasNames (view.instr op absolute operands) = HasNamesIn operands
 HasNames (view.bytes bs) = Unit {0}
@@ -93,6 +95,8 @@ HasNames (view.rts (Some t)) = is_name t.name ≡ true
 HasNames (view.label name) = is_name name ≡ true
 HasNames (view.assignment name n) = is_name name ≡ true
 HasNames (view.forward name n) = is_name name ≡ true
+HasNames (view.segment name) = has_name_form name ≡ true
+HasNames view.code = Unit {0}
 HasNames (view.set_cpu cpu) = Unit {0}
 HasNames view.blank = Unit {0}
 HasNames (view.remark text) = Unit {0}

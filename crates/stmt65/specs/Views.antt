@@ -39,6 +39,8 @@ pub data StatementView : Type 0 where
   label : List ℕ → StatementView
   assignment : List ℕ → ℕ → StatementView
   forward : List ℕ → ℕ → StatementView
+  segment : List ℕ → StatementView
+  code : StatementView
   set_cpu : Cpu → StatementView
   blank : StatementView
   remark : List ℕ → StatementView
@@ -74,6 +76,8 @@ statement_seen (code_statement.Rts t) = rts (option_map target_seen t)
 statement_seen (code_statement.Label w) = label w.now
 statement_seen (code_statement.Const w n) = assignment w.now n
 statement_seen (code_statement.Forward w n) = forward w.now n
+statement_seen (code_statement.Segment w) = segment w.now
+statement_seen code_statement.Code = code
 statement_seen (code_statement.SetCpu cpu) = set_cpu cpu
 statement_seen code_statement.Blank = blank
 statement_seen (code_statement.Remark bs) = remark bs.now

@@ -142,17 +142,28 @@ fn put_word_data(out: &mut Line, columns: &Columns, order: ByteOrder, bytes: &[u
     put_words(out, order, bytes);
 }
 
+/// Appends an operation, and its operand in double quotes.
+fn put_string(out: &mut Line, columns: &Columns, operation: &[u8], text: &[u8])
+    requires room { array_vec_len out.old ≤ 82 }
+    requires short { length operation.now ≤ 8 }
+    requires fits { length text.now ≤ 80 }
+    ensures items { out.new.items ≡ with_fields out.old.items (with_operands columns.now operation.now (quoted text.now)) }
+    ensures len { array_vec_len out.new ≤ 340 }
+{
+    put_operation(out, columns, operation);
+    start_field(out, columns.argument);
+    out.push(b'"');
+    put(out, text);
+    out.push(b'"');
+}
+
 #[tactic(auto, using(crate::proofs::OperandTexts::cpu_len))]
 fn put_set_cpu(out: &mut Line, columns: &Columns, cpu: Cpu)
     requires room { array_vec_len out.old ≤ 82 }
     ensures items { out.new.items ≡ with_fields out.old.items (with_operands columns.now (codes ".setcpu") (quoted (cpu_text cpu))) }
     ensures len { array_vec_len out.new ≤ 340 }
 {
-    put_operation(out, columns, b".setcpu");
-    start_field(out, columns.argument);
-    out.push(b'"');
-    put(out, cpu.text());
-    out.push(b'"');
+    put_string(out, columns, b".setcpu", cpu.text());
 }
 
 fn put_addr(out: &mut Line, columns: &Columns, hexoffs: bool, target: Target)
@@ -230,6 +241,8 @@ fn put_fields(out: &mut Line, columns: &Columns, hexoffs: bool, statement: &Stat
         Statement::Label(name) => put_label(out, name),
         Statement::Const(name, number) => put_const(out, columns, name, number),
         Statement::Forward(name, distance) => put_forward(out, columns, hexoffs, name, distance),
+        Statement::Segment(name) => put_string(out, columns, b".segment", name),
+        Statement::Code => put_operation(out, columns, b".code"),
         Statement::SetCpu(cpu) => put_set_cpu(out, columns, cpu),
         Statement::Blank => {}
         Statement::Remark(text) => put_remark(out, text),

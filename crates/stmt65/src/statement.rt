@@ -60,6 +60,10 @@ pub enum Statement<'a> {
     Const(&'a [u8], u16),
     /// A name, `:= * +` and a number: in decimal, or in four hex digits.
     Forward(&'a [u8], u16),
+    /// `.segment` and a name of 1 to 80 bytes in double quotes, which may be a reserved one.
+    Segment(&'a [u8]),
+    /// `.code`, the default segment.
+    Code,
     /// `.setcpu` and the CPU's name.
     SetCpu(Cpu),
     /// An empty line.

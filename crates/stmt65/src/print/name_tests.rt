@@ -237,6 +237,93 @@ fn long_labels(rt: HostRuntime) -> Result<(), Fail> {
 }
 
 #[test]
+fn segment_entered_again(rt: HostRuntime) -> Result<(), Fail> {
+    let columns = Columns::default();
+    let mut listing = empty(rt.alloc(), &columns, false);
+    shows(
+        &rt,
+        &mut listing,
+        None,
+        &Statement::Segment(b"DATA"),
+        "        .segment \"DATA\"",
+        "segment DATA",
+    )?;
+    shows(
+        &rt,
+        &mut listing,
+        Some(b"L1000"),
+        &Statement::Bytes(b"\xEA"),
+        "L1000:  .byte   $EA",
+        "L1000: byte 234",
+    )?;
+    shows(
+        &rt,
+        &mut listing,
+        None,
+        &Statement::Code,
+        "        .code",
+        "code",
+    )?;
+    shows(
+        &rt,
+        &mut listing,
+        None,
+        &Statement::Bytes(b"\xEA"),
+        "        .byte   $EA",
+        "byte 234",
+    )?;
+    gives(&rt, &listing, 0x1000, b"\xEA\xEA")
+}
+
+/// Reserved names, and one of 80 bytes, at the first and at the last column.
+#[test]
+fn names_of_segments(rt: HostRuntime) -> Result<(), Fail> {
+    let a = rt.alloc();
+    let long = longest();
+    let name = str::from_utf8(long)?;
+    for (column, blanks) in [(1, 0), (120, 119)] {
+        let columns = columns_at(column, column, 7)?;
+        let mut listing = empty(a, &columns, false);
+        shows(
+            &rt,
+            &mut listing,
+            None,
+            &Statement::Segment(b"X"),
+            spaced(a, "", blanks, ".segment \"X\"")?.as_str(),
+            "segment X",
+        )?;
+        shows(
+            &rt,
+            &mut listing,
+            None,
+            &Statement::Segment(b"lda"),
+            spaced(a, "", blanks, ".segment \"lda\"")?.as_str(),
+            "segment lda",
+        )?;
+        let line = spaced(a, "", blanks, ".segment \"")?;
+        let line = spaced(a, line.as_str(), 0, name)?;
+        shows(
+            &rt,
+            &mut listing,
+            None,
+            &Statement::Segment(long),
+            spaced(a, line.as_str(), 0, "\"")?.as_str(),
+            spaced(a, "segment", 1, name)?.as_str(),
+        )?;
+        shows(
+            &rt,
+            &mut listing,
+            None,
+            &Statement::Code,
+            spaced(a, "", blanks, ".code")?.as_str(),
+            "code",
+        )?;
+        gives(&rt, &listing, 0x1000, b"")?;
+    }
+    Ok(())
+}
+
+#[test]
 fn sized_name_across_the_zero_page(rt: HostRuntime) -> Result<(), Fail> {
     let columns = Columns::default();
     let mut listing = empty(rt.alloc(), &columns, false);
