@@ -5,6 +5,8 @@ pub mod StepLemmas
 pub mod ShapeLemmas
 pub mod NextLemmas
 pub mod BaseLemmas
+pub mod BareLemmas
+pub mod SkipLemmas
 pub mod EntryLemmas
 pub mod CommandLemmas
 pub mod MatchLemmas

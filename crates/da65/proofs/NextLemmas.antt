@@ -239,13 +239,15 @@ base-false m a none = go (is_base (names_of m) a) none
     go false e = refl
 
 -- whether the address has a constant line, by where its base is defined
-pub line-of : (m : MapView) (a : ℕ) (p : Place) → base_place m a ≡ Some p → has_constant_line (names_of m) a ≡ is_constant p
-unfolding base_place
-line-of m a p some = go (is_base (names_of m) a) some
+pub line-left : (m : MapView) (a : ℕ) → is_constant (place_of m a) ≡ false → has_constant_line (names_of m) a ≡ false
+line-left m a other = go (is_base (names_of m) a)
   where
-    go : (t : Bool) → (if t then Some (place_of m a) else None) ≡ Some p → (t && is_constant (place_of m a)) ≡ is_constant p
-    go true e = let same : place_of m a ≡ p = cc in ap is_constant same
-    go false e = absurd cc
+    go : (t : Bool) → (t && is_constant (place_of m a)) ≡ false
+    go true = other
+    go false = refl
+
+pub line-kept : (m : MapView) (a : ℕ) (p : Place) → base_place m a ≡ Some p → is_constant (place_of m a) ≡ true → has_constant_line (names_of m) a ≡ true
+line-kept m a p some is = rw (base-true m a p some) is
 
 pub line-none : (m : MapView) (a : ℕ) → base_place m a ≡ None → has_constant_line (names_of m) a ≡ false
 line-none m a none = rw (base-false m a none) refl

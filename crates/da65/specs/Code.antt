@@ -1,4 +1,6 @@
 -- What ties the code to the rules: what its parts have done, for each of their results.
+pub mod BareOperands
 pub mod Bases
 pub mod CommandRules
 pub mod Refusals
+pub mod SkipRanges

@@ -1,15 +1,17 @@
 //! Line groups: the items that stand on one line.
 
 ghost use Rattle.std.specs.Prelude.{◌≡◌, ◌+◌, ◌<◌, ◌≤◌, true};
+ghost use Rattle.std.specs.List.{list_any};
 ghost use Rattle.info65.specs.Names.{AreNames};
 ghost use Rattle.map65.specs.ImageView.{IsPlaced, end_of, is_inside};
 ghost use Rattle.map65.specs.Items.{item_len};
 ghost use Rattle.map65.specs.Pieces.{is_in_run};
 ghost use Rattle.map65.specs.Roles.{is_skip, role_at, role_of};
+ghost use Rattle.da65.specs.Code.SkipRanges.{is_skip_range};
 ghost use Rattle.da65.specs.Groups.{goes_on, group_len, is_whole, limit_at, limit_of, more_at, skips};
 
 use crate::names::is_defined;
-use info65::RangeType;
+use info65::{Info, RangeSpec, RangeType};
 use map65::{Image, Map, unit_of};
 use std::alloc::Allocator;
 
@@ -163,17 +165,43 @@ pub fn role_inside<A: Allocator>(map: &Map<'_, A>, address: u16) -> RangeType
     }
 }
 
+/// Whether bytes of this role are skipped.
+pub fn is_skip(role: RangeType) -> bool
+    ensures { result ≡ is_skip role }
+{
+    matches!(role, RangeType::Skip)
+}
+
 /// Whether the byte at an address of the image is skipped.
 pub fn is_skipped<A: Allocator>(map: &Map<'_, A>, address: u16) -> bool
     requires { is_inside map.now.image address ≡ true }
     ensures { result ≡ is_skip (role_of map.now.info address) }
 {
-    matches!(role_inside(map, address), RangeType::Skip)
+    is_skip(role_inside(map, address))
 }
 
-/// Whether a byte of the image is skipped. Takes no memory.
+/// Whether a range has the type SKIP.
+fn has_skip_range(ranges: &[RangeSpec]) -> bool
+    ensures { result ≡ list_any is_skip_range ranges.now }
+{
+    ranges.iter().any(|range| is_skip(range.role))
+}
+
+/// Whether a byte of the image is skipped. Allocates nothing.
+pub fn has_skipped<A: Allocator>(info: &Info<A>, map: &Map<'_, A>, image: &Image<A>) -> bool
+    requires info { map.now.info ≡ info.now }
+    requires image { map.now.image ≡ image.now }
+    ensures { result ≡ skips map.now }
+{
+    if !has_skip_range(info.ranges()) {
+        return false;
+    }
+    is_any_skipped(map, image)
+}
+
+/// Whether a byte of the image is skipped, by each byte.
 #[tactic(auto, unfolding(crate::specs::Groups::skips))]
-pub fn has_skipped<A: Allocator>(map: &Map<'_, A>, image: &Image<A>) -> bool
+fn is_any_skipped<A: Allocator>(map: &Map<'_, A>, image: &Image<A>) -> bool
     requires { map.now.image ≡ image.now }
     ensures { result ≡ skips map.now }
 {

@@ -6,6 +6,7 @@
 #![tactic(auto)]
 
 mod command;
+mod group_line;
 mod groups;
 mod help;
 mod instructions;
@@ -18,6 +19,7 @@ mod needing;
 mod number;
 mod outcome;
 mod running;
+mod statement_line;
 mod statements;
 mod usage;
 mod usage_fault;

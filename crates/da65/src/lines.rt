@@ -6,11 +6,11 @@ ghost use Rattle.std.specs.Bool.{OnTrue, OnFalse};
 ghost use Rattle.std.specs.Io.KnownBytes.{Appends};
 ghost use Rattle.info65.specs.Names.{AreNames};
 ghost use Rattle.stmt65.specs.Columns.{default_columns};
-ghost use Rattle.stmt65.specs.Printable.{IsNameLong, IsPrintable, MayBeLabelled};
-ghost use Rattle.stmt65.specs.Views.{statement_seen};
+ghost use Rattle.stmt65.specs.Printable.{IsNameLong, MayBeLabelled};
 ghost use Rattle.stmt65.specs.Views as view;
 ghost use Rattle.map65.specs.Device.{Counts, AppendsFront};
 ghost use Rattle.map65.specs.ImageView.{IsPlaced};
+ghost use Rattle.map65.specs.Names.{place_of};
 ghost use Rattle.map65.specs.Roles.{is_skip, role_of};
 ghost use Rattle.da65.specs.BaseNames.{base_name, is_base, is_constant, names_of};
 ghost use Rattle.da65.specs.Groups.{IsGroupPlace, group_len};
@@ -18,16 +18,16 @@ ghost use Rattle.da65.specs.Lines.{IsFirstOf, IsGroupStart, IsInGroup, IsNext, I
 ghost use Rattle.da65.specs.Listing.{constants, forwards, has_constant_line, label_at, line_text, lines_of, plain, statement_lines, text_of};
 ghost use Rattle.da65.specs.Statements.{statement_at};
 
-use crate::groups::{ADDRESSES, group_len, is_skipped, role_inside};
+use crate::group_line::put_group_statement;
+use crate::groups::{ADDRESSES, group_len, is_skip, is_skipped, role_inside};
 use crate::names::base_at;
-use crate::statements::{OperandNames, statement_for};
+use crate::statement_line::{Style, put_blank, put_cpu, put_plain, put_title};
 use crate::write::write_whole;
 use info65::Info;
-use isa65::Cpu;
-use map65::{DeviceFault, Image, Map, NameBuf, Place, Sink};
+use map65::{DeviceFault, Image, Map, NameBuf, Sink};
 use std::alloc::{Allocator, Global};
 use std::marker::Model;
-use stmt65::{Columns, Level, Line, Remarks, Statement, put_line};
+use stmt65::{Columns, Line, Statement};
 
 /// Where the next line comes from.
 #[derive(Clone, Copy, Debug, PartialEq, Eq)]
@@ -75,42 +75,15 @@ impl<'a, A: Allocator> Model for Lines<'a, A> {
     ghost invariant = { λ l. AreLinesOf l.place l.map.now l.info.now l.image.now };
 }
 
-/// What the settings say of the text of lines.
-#[derive(Clone, Copy, Debug, PartialEq, Eq)]
-struct Style {
-    cpu: Cpu,
-    hexoffs: bool,
-}
-
-/// Replaces the buffer by the line of a statement at the default columns, after this label if there is one.
-fn put_statement(out: &mut Line, hexoffs: bool, label: Option<&[u8]>, statement: &Statement<'_>)
-    requires printable { IsPrintable (statement_seen statement.now) }
-    requires label { MayBeLabelled default_columns (option_copied label) (statement_seen statement.now) }
-    ensures { out.new.items ≡ line_text hexoffs (record { label = option_copied label.entry; statement = statement_seen statement.now }) }
+/// Whether a constant line defines the base that stands for the address, if there is one: the address lies outside
+/// the image, or its byte is skipped.
+fn has_constant<A: Allocator>(map: &Map<'_, A>, address: u16) -> bool
+    ensures { result ≡ is_constant (place_of map.now address) }
 {
-    let remarks = Remarks {
-        level: Level::default(),
-        hexoffs,
-        address: 0,
-        bytes: &[],
-        label,
-    };
-    put_line(out, &Columns::default(), statement, &remarks);
-}
-
-/// Replaces the buffer by the line of a statement without a label.
-fn put_plain(out: &mut Line, hexoffs: bool, statement: &Statement<'_>)
-    requires { IsPrintable (statement_seen statement.now) }
-    ensures { out.new.items ≡ line_text hexoffs (plain (statement_seen statement.now)) }
-{
-    put_statement(out, hexoffs, None, statement);
-}
-
-/// Whether a constant line defines the bases of this place.
-fn is_constant(place: Place) -> bool
-    ensures { result ≡ is_constant place }
-{
-    matches!(place, Place::Constant)
+    match map.role(address) {
+        Some(role) => is_skip(role),
+        None => true,
+    }
 }
 
 /// Replaces the buffer by the constant line of the address, if it has one.
@@ -125,12 +98,12 @@ fn put_constant_at<A: Allocator>(
     ensures is { result ≡ has_constant_line (names_of map.now) address }
     ensures line { OnTrue result (out.new.items ≡ line_text hexoffs (plain (view.assignment (base_name (names_of map.now) address) address))) }
 {
-    let Some(place) = base_at(map, address, name) else {
-        return false;
-    };
-    if !is_constant(place) {
+    if !has_constant(map, address) {
         return false;
     }
+    let Some(_) = base_at(map, address, name) else {
+        return false;
+    };
     put_plain(out, hexoffs, &Statement::Const(name.as_slice(), address));
     true
 }
@@ -166,14 +139,34 @@ fn put_forward_at<A: Allocator>(
     map: &Map<'_, A>,
     first: u16,
     address: u16,
-    name: &mut NameBuf,
 ) -> bool
     requires names { AreNames map.now.info.names }
     requires after { first ≤ address }
     ensures is { result ≡ is_base (names_of map.now) address }
     ensures line { OnTrue result (out.new.items ≡ line_text hexoffs (plain (view.forward (base_name (names_of map.now) address) (address - first)))) }
 {
-    let Some(_) = base_at(map, address, name) else {
+    if !map.has_name(address) {
+        return false;
+    }
+    put_forward_named(out, hexoffs, map, first, address)
+}
+
+/// The same, for an address that has a name.
+#[inline(never)]
+fn put_forward_named<A: Allocator>(
+    out: &mut Line,
+    hexoffs: bool,
+    map: &Map<'_, A>,
+    first: u16,
+    address: u16,
+) -> bool
+    requires names { AreNames map.now.info.names }
+    requires after { first ≤ address }
+    ensures is { result ≡ is_base (names_of map.now) address }
+    ensures line { OnTrue result (out.new.items ≡ line_text hexoffs (plain (view.forward (base_name (names_of map.now) address) (address - first)))) }
+{
+    let mut name = NameBuf::new();
+    let Some(_) = base_at(map, address, &mut name) else {
         return false;
     };
     put_plain(
@@ -202,10 +195,9 @@ fn put_forward<A: Allocator>(
     ensures low { IfSome result (λ v. from ≤ v) }
     ensures high { IfSome result (λ v. v < end) }
 {
-    let mut name = NameBuf::new();
     let mut at = from;
     'addresses: while at < end {
-        if put_forward_at(out, hexoffs, map, first, at as u16, &mut name) {
+        if put_forward_at(out, hexoffs, map, first, at as u16) {
             return Some(at);
         }
         at += 1;
@@ -257,9 +249,7 @@ fn put_group<A: Allocator>(
     let (bytes, _) = rest.split_at(len);
     let address = (image.start() as usize + at) as u16;
     let role = role_inside(map, address);
-    let mut names = OperandNames::new();
-    let statement = statement_for(&style.cpu, map, role, address, bytes, &mut names);
-    put_statement(out, style.hexoffs, label, &statement);
+    put_group_statement(out, style, map, role, address, bytes, label);
 }
 
 /// Replaces the buffer by the first line of a group after its forward lines, if the group has this label, and returns the
@@ -293,7 +283,31 @@ fn put_labelled<A: Allocator>(
     }
 }
 
+/// Replaces the buffer by the statement of the group that begins with the byte of this index and has so many bytes, without
+/// a label, and returns the next place.
+fn put_unlabelled<A: Allocator>(
+    out: &mut Line,
+    style: Style,
+    image: &Image<A>,
+    map: &Map<'_, A>,
+    at: usize,
+    len: usize,
+) -> ListingPlace
+    requires cpu { style.cpu ≡ map.now.info.settings.cpu }
+    requires hexoffs { style.hexoffs ≡ map.now.info.settings.hexoffs }
+    requires image { map.now.image ≡ image.now }
+    requires names { AreNames map.now.info.names }
+    requires placed { IsPlaced map.now.image }
+    requires start { IsGroupStart map.now at }
+    requires len { len ≡ group_len map.now (map.now.image.start + at) }
+    ensures { IsNext map.now (plain (statement_at map.now (map.now.image.start + at)) ∷ after_group map.now at) out.new.items result }
+{
+    put_group(out, style, image, map, at, len, None);
+    ListingPlace::Group(at + len)
+}
+
 /// Replaces the buffer by the first line of a group after its forward lines, and returns the next place.
+#[inline(never)]
 fn put_label<A: Allocator>(
     out: &mut Line,
     style: Style,
@@ -315,10 +329,34 @@ fn put_label<A: Allocator>(
     let mut name = NameBuf::new();
     match base_at(map, address, &mut name) {
         Some(_) => put_labelled(out, style, image, map, at, len, name.as_slice()),
-        None => {
-            put_group(out, style, image, map, at, len, None);
-            ListingPlace::Group(at + len)
-        }
+        None => put_unlabelled(out, style, image, map, at, len),
+    }
+}
+
+/// Replaces the buffer by the first line of a group after its forward lines, and returns the next place. Most groups have no
+/// name, and need no buffer for one.
+fn put_first<A: Allocator>(
+    out: &mut Line,
+    style: Style,
+    image: &Image<A>,
+    map: &Map<'_, A>,
+    at: usize,
+    len: usize,
+) -> ListingPlace
+    requires cpu { style.cpu ≡ map.now.info.settings.cpu }
+    requires hexoffs { style.hexoffs ≡ map.now.info.settings.hexoffs }
+    requires image { map.now.image ≡ image.now }
+    requires names { AreNames map.now.info.names }
+    requires placed { IsPlaced map.now.image }
+    requires start { IsGroupStart map.now at }
+    requires len { len ≡ group_len map.now (map.now.image.start + at) }
+    ensures { IsNext map.now (statement_lines map.now (map.now.image.start + at) ++ after_group map.now at) out.new.items result }
+{
+    let address = (image.start() as usize + at) as u16;
+    if map.has_name(address) {
+        put_label(out, style, image, map, at, len)
+    } else {
+        put_unlabelled(out, style, image, map, at, len)
     }
 }
 
@@ -343,11 +381,12 @@ fn put_inside<A: Allocator>(
     let len = group_len(map, role_inside(map, first as u16), first);
     match put_forward(out, style.hexoffs, map, first as u16, from, first + len) {
         Some(next) => ListingPlace::Forward(at, next + 1),
-        None => put_label(out, style, image, map, at, len),
+        None => put_first(out, style, image, map, at, len),
     }
 }
 
 /// Replaces the buffer by the statement of the group that begins with the byte of this index, and returns the next place.
+#[inline(never)]
 fn put_rest<A: Allocator>(
     out: &mut Line,
     style: Style,
@@ -365,8 +404,7 @@ fn put_rest<A: Allocator>(
 {
     let first = image.start() as usize + at;
     let len = group_len(map, role_inside(map, first as u16), first);
-    put_group(out, style, image, map, at, len, None);
-    ListingPlace::Group(at + len)
+    put_unlabelled(out, style, image, map, at, len)
 }
 
 /// Replaces the buffer by the first line of the next group from this byte on, and returns the next place.
@@ -394,6 +432,7 @@ fn put_next_group<A: Allocator>(
 }
 
 /// Replaces the buffer by the next constant line from this address on, else by what follows it, and returns the next place.
+#[inline(never)]
 fn put_next_constant<A: Allocator>(
     out: &mut Line,
     style: Style,
@@ -414,7 +453,7 @@ fn put_next_constant<A: Allocator>(
         return Some(ListingPlace::Constant(at + 1, true));
     }
     if any {
-        put_plain(out, style.hexoffs, &Statement::Blank);
+        put_blank(out, style.hexoffs);
         return Some(ListingPlace::Group(0));
     }
     put_next_group(out, style, image, map, 0)
@@ -437,19 +476,19 @@ fn put_next<A: Allocator>(
 {
     match place {
         ListingPlace::Title => {
-            put_plain(out, style.hexoffs, &Statement::Remark(b"da65 listing"));
+            put_title(out, style.hexoffs);
             Some(ListingPlace::AfterTitle)
         }
         ListingPlace::AfterTitle => {
-            put_plain(out, style.hexoffs, &Statement::Blank);
+            put_blank(out, style.hexoffs);
             Some(ListingPlace::CpuLine)
         }
         ListingPlace::CpuLine => {
-            put_plain(out, style.hexoffs, &Statement::SetCpu(style.cpu));
+            put_cpu(out, style.hexoffs, style.cpu);
             Some(ListingPlace::AfterCpu)
         }
         ListingPlace::AfterCpu => {
-            put_plain(out, style.hexoffs, &Statement::Blank);
+            put_blank(out, style.hexoffs);
             Some(ListingPlace::Constant(0, false))
         }
         ListingPlace::Constant(from, any) => {

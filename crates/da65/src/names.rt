@@ -57,6 +57,9 @@ pub fn is_defined<A: Allocator>(map: &Map<'_, A>, address: u16) -> bool
     requires { AreNames map.now.info.names }
     ensures { result ≡ is_defined map.now address }
 {
+    if !map.has_name(address) {
+        return false;
+    }
     let mut name = NameBuf::new();
     base_at(map, address, &mut name).is_some()
 }

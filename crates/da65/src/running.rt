@@ -96,7 +96,7 @@ fn write_listing<A: Allocator, W: Sink, M: Sink>(
 {
     // What holds of all given names is known where they are counted.
     let _ = info.given_count();
-    let warnings = warnings(has_skipped(map, image));
+    let warnings = warnings(has_skipped(info, map, image));
     match write_lines(Lines::new(info, image, map), out) {
         Ok(()) => warn(msgs, warnings),
         Err(_) => Err(RunFault::Write),

@@ -19,22 +19,6 @@ use map65::{Map, NameBuf, target_of, word_of};
 use std::alloc::Allocator;
 use stmt65::{Expr, Operands, Statement};
 
-/// The two names that an instruction's operands can have.
-#[derive(Drop)]
-pub struct OperandNames {
-    first: NameBuf,
-    second: NameBuf,
-}
-
-impl OperandNames {
-    pub fn new() -> OperandNames {
-        OperandNames {
-            first: NameBuf::new(),
-            second: NameBuf::new(),
-        }
-    }
-}
-
 /// The operands of an instruction in this mode at this address, with the names of their addresses: none if its
 /// target leaves the address space.
 #[tactic(auto, unfolding(crate::specs::Statements::operands_of))]
@@ -43,7 +27,8 @@ fn operands_of<'n, A: Allocator>(
     mode: Mode,
     address: u16,
     bytes: &[u8],
-    names: &'n mut OperandNames,
+    first: &'n mut NameBuf,
+    second: &'n mut NameBuf,
 ) -> Option<Operands<'n>>
     requires names { AreNames map.now.info.names }
     requires all { len_of mode ≤ length bytes.now }
@@ -55,26 +40,26 @@ fn operands_of<'n, A: Allocator>(
         Mode::Imp | Mode::Acc => return Some(Operands::None),
         Mode::Imm => Expr::Number(u16::from(bytes[1])),
         Mode::Abs | Mode::Absx | Mode::Absy | Mode::Ind | Mode::Absindx => {
-            address_expr(map, word_of(bytes), &mut names.first)
+            address_expr(map, word_of(bytes), first)
         }
         Mode::Rel => {
             let target = target_of(u32::from(address) + 2, bytes[1])?;
-            address_expr(map, target, &mut names.first)
+            address_expr(map, target, first)
         }
         Mode::Zprel => {
             let target = target_of(u32::from(address) + 3, bytes[2])?;
-            let tested = zero_page_expr(map, bytes[1], &mut names.first);
-            return Some(Operands::Two(tested, address_expr(map, target, &mut names.second)));
+            let tested = zero_page_expr(map, bytes[1], first);
+            return Some(Operands::Two(tested, address_expr(map, target, second)));
         }
         Mode::Zp | Mode::Zpx | Mode::Zpy | Mode::Indx | Mode::Indy | Mode::Zpind => {
-            zero_page_expr(map, bytes[1], &mut names.first)
+            zero_page_expr(map, bytes[1], first)
         }
     };
     Some(Operands::One(one))
 }
 
 /// Whether `a:` stands before the operand: an assembler would take the zero-page mode without it.
-fn is_forced<S: OpcodeSet>(set: &S, op: Op, bytes: &[u8]) -> bool
+pub fn is_forced<S: OpcodeSet>(set: &S, op: Op, bytes: &[u8]) -> bool
     requires { len_of op.mode ≤ length bytes.now }
     ensures { result ≡ is_forced (S.table set.now) op bytes.now }
 {
@@ -93,7 +78,8 @@ fn statement_in<'a, S: OpcodeSet, A: Allocator>(
     address: u16,
     bytes: &'a [u8],
     instruction: Option<Op>,
-    names: &'a mut OperandNames,
+    first: &'a mut NameBuf,
+    second: &'a mut NameBuf,
 ) -> Statement<'a>
     requires names { AreNames map.now.info.names }
     requires some { 0 < length bytes.now }
@@ -106,7 +92,7 @@ fn statement_in<'a, S: OpcodeSet, A: Allocator>(
         let (item, _) = bytes.split_at(1);
         return Statement::Bytes(item);
     };
-    match operands_of(map, op.mode, address, bytes, names) {
+    match operands_of(map, op.mode, address, bytes, first, second) {
         Some(operands) => Statement::Instr {
             op,
             absolute: is_forced(set, op, bytes),
@@ -175,7 +161,8 @@ pub fn statement_for<'a, S: OpcodeSet, A: Allocator>(
     role: RangeType,
     address: u16,
     bytes: &'a [u8],
-    names: &'a mut OperandNames,
+    first: &'a mut NameBuf,
+    second: &'a mut NameBuf,
 ) -> Statement<'a>
     requires names { AreNames map.now.info.names }
     requires some { 0 < length bytes.now }
@@ -186,7 +173,15 @@ pub fn statement_for<'a, S: OpcodeSet, A: Allocator>(
 {
     match role {
         RangeType::Code => {
-            statement_in(set, map, address, bytes, instruction_in(set, bytes), names)
+            statement_in(
+                set,
+                map,
+                address,
+                bytes,
+                instruction_in(set, bytes),
+                first,
+                second,
+            )
         }
         RangeType::ByteTable => Statement::Bytes(bytes),
         RangeType::WordTable => {
@@ -207,14 +202,14 @@ pub fn statement_for<'a, S: OpcodeSet, A: Allocator>(
             if bytes.len() < 2 {
                 Statement::Bytes(bytes)
             } else {
-                address_entry(map, bytes, &mut names.first)
+                address_entry(map, bytes, first)
             }
         }
         RangeType::RtsTable => {
             if bytes.len() < 2 {
                 Statement::Bytes(bytes)
             } else {
-                return_entry(map, bytes, &mut names.first)
+                return_entry(map, bytes, first)
             }
         }
         RangeType::TextTable => Statement::Text(bytes),

@@ -1,22 +1,12 @@
-use Rattle.std.proofs.Common.{◌∙◌, Bool, ℕ, arith, sym}
-use Rattle.map65.specs.Roles.{is_skip, role_of}
-use Rattle.da65.proofs.StepLemmas.{any-behind, any-end, any-here}
+use Rattle.std.proofs.Common.{◌≡◌, ◌∙◌, Bool, List, false, ap, sym}
+use Rattle.std.specs.List.{list_any}
+use Rattle.info65.specs.Views.{InfoView}
+use Rattle.info65.specs.declared.range.RangeSpec.{RangeSpec}
+use Rattle.da65.specs.Code.SkipRanges.{is_skip_range}
+use Rattle.da65.proofs.SkipLemmas.{no-skips}
 use Rattle.da65.proofs.groups.has_skipped.Goals as goal
 
-pub returns-then-is_skipped : goal.returns-then-is_skipped
-returns-then-is_skipped g c =
-    let p : ℕ → Bool = λ a. is_skip (role_of c.args.map.now.info a) in
-    sym (any-here p _ _ _ c.bytes-test.true (sym c.is_skipped.ensures ∙ c.if-is_skipped.true)) ∙ c.bytes.invariant.same
-
-pub bytes-preserved : goal.bytes-preserved
-bytes-preserved g c =
-    let p : ℕ → Bool = λ a. is_skip (role_of c.args.map.now.info a) in
-    record {
-      bound = omega arith;
-      same = sym (any-behind p _ _ _ c.bytes-test.true (sym c.is_skipped.ensures ∙ c.if-is_skipped.false)) ∙ c.bytes.invariant.same;
-    }
-
-pub returns : goal.returns
-returns g c =
-    let p : ℕ → Bool = λ a. is_skip (role_of c.args.map.now.info a) in
-    sym (any-end p _ _ _ (omega arith)) ∙ c.bytes.invariant.same
+pub returns-then-not-has_skip_range : goal.returns-then-not-has_skip_range
+returns-then-not-has_skip_range g c =
+    let ranges : c.args.map.now.info.ranges ≡ c.ranges-2.result.now = ap (λ (i : InfoView). i.ranges) c.requires.info ∙ sym c.ranges-2.ensures.ranges in
+    sym (no-skips _ (ap (list_any is_skip_range) ranges ∙ sym c.has_skip_range.ensures ∙ c.if-not-has_skip_range.true))

@@ -16,22 +16,22 @@ split_at-requires-2 g c =
     let rest = ap length c.split_at.ensures.back ∙ length-drop c.args.at c.bytes.result.now in
     omega (arith, fits, count, rest, c.requires.len)
 
-pub statement_for-statement-requires-clause-some : goal.statement_for-statement-requires-clause-some
-statement_for-statement-requires-clause-some g c =
+pub put_group_statement-requires-clause-some : goal.put_group_statement-requires-clause-some
+put_group_statement-requires-clause-some g c =
     let s = c.requires.start in
     omega (arith, group-some c.args.map.now _ s.place s.inside s.shown, c.requires.len, c.split_at-2.ensures.front_len)
 
-pub statement_for-statement-requires-clause-group : goal.statement_for-statement-requires-clause-group
-statement_for-statement-requires-clause-group g c =
+pub put_group_statement-requires-clause-group : goal.put_group_statement-requires-clause-group
+put_group_statement-requires-clause-group g c =
     let here = group-here c.args.map.now _ c.args.at _ _ _ _ _ _ _ c.requires.cpu c.requires.image c.start.ensures c.role_inside-role.ensures c.requires.len c.bytes.ensures.bytes c.split_at.ensures.back c.split_at-2.ensures.front in
     group-shaped _ _ _ _ _ _ here c.requires.start
 
-pub put_statement-requires-clause-label : goal.put_statement-requires-clause-label
-put_statement-requires-clause-label g c =
+pub put_group_statement-requires-clause-label : goal.put_group_statement-requires-clause-label
+put_group_statement-requires-clause-label g c =
     let here = group-here c.args.map.now _ c.args.at _ _ _ _ _ _ _ c.requires.cpu c.requires.image c.start.ensures c.role_inside-role.ensures c.requires.len c.bytes.ensures.bytes c.split_at.ensures.back c.split_at-2.ensures.front in
-    subst (λ (s : StatementView). MayBeLabelled default_columns (option_copied c.args.label) s) (sym (c.statement_for-statement.ensures.value ∙ group-told _ _ _ _ _ _ here)) c.requires.label
+    subst (λ (s : StatementView). MayBeLabelled default_columns (option_copied c.args.label) s) (sym (group-told _ _ _ _ _ _ here)) c.requires.label
 
 pub returns : goal.returns
 returns g c =
     let here = group-here c.args.map.now _ c.args.at _ _ _ _ _ _ _ c.requires.cpu c.requires.image c.start.ensures c.role_inside-role.ensures c.requires.len c.bytes.ensures.bytes c.split_at.ensures.back c.split_at-2.ensures.front in
-    c.put_statement.ensures ∙ line-with _ _ _ _ _ (c.statement_for-statement.ensures.value ∙ group-told _ _ _ _ _ _ here) c.requires.hexoffs
+    c.put_group_statement.ensures ∙ line-with _ _ _ _ _ (group-told _ _ _ _ _ _ here) c.requires.hexoffs

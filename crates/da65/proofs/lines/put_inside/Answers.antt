@@ -30,4 +30,4 @@ pub returns-in-None : goal.returns-in-None
 returns-in-None g c =
     let address = address-told c.args.map.now _ _ c.args.at c.requires.image c.start.ensures in
     let len = c.group_len-len.ensures.len ∙ ap (group_len c.args.map.now) address in
-    next-moved _ _ _ _ _ (forward-end _ _ _ _ _ address (omega (arith, address, len)) c.in-None.ensures.line) c.put_label.ensures
+    next-moved _ _ _ _ _ (forward-end _ _ _ _ _ address (omega (arith, address, len)) c.in-None.ensures.line) c.put_first.ensures

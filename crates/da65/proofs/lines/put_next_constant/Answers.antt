@@ -11,7 +11,7 @@ returns-in-Some g c = record {
 
 pub returns-then-any : goal.returns-then-any
 returns-then-any g c = record {
-  lines = first-text _ _ _ _ _ _ (rw c.if-any.true (constant-blank _ _ c.in_default.ensures.line)) c.put_plain.ensures c.requires.hexoffs;
+  lines = first-text _ _ _ _ _ _ (rw c.if-any.true (constant-blank _ _ c.in_default.ensures.line)) c.put_blank.ensures c.requires.hexoffs;
   place = (c.requires.placed, first_place _);
 }
 

@@ -3,7 +3,7 @@ use Rattle.std.specs.List.{list_any}
 use Rattle.map65.specs.Roles.{is_skip, role_of}
 use Rattle.map65.specs.Spans.{addresses}
 use Rattle.da65.specs.Groups.{skips}
-use Rattle.da65.proofs.groups.has_skipped.Given as goal
+use Rattle.da65.proofs.groups.is_any_skipped.Given as goal
 
 abbrev pub invariant-bytes : goal.invariant-bytes
 invariant-bytes g l = record {

@@ -1,5 +1,5 @@
 use Rattle.std.proofs.Common.{refl}
-use Rattle.da65.proofs.lines.put_statement.Goals as goal
+use Rattle.da65.proofs.statement_line.put_statement.Goals as goal
 
 pub returns : goal.returns
 unfolding Rattle.da65.specs.Listing.line_text

@@ -1,0 +1,38 @@
+-- Without a range SKIP no byte is skipped.
+use Rattle.std.proofs.Common.{◌≡◌, ◌∙◌, ℕ, suc, zero, ◌+◌, Bool, true, false, List, [], ◌∷◌, length, refl, ap}
+use Rattle.std.specs.Prelude.{if◌then◌else◌, ◌||◌}
+use Rattle.std.specs.List.{list_any}
+use Rattle.std.proofs.lemmas.Bool.{cases_Bool}
+use Rattle.info65.specs.Ranges.{has_address}
+use Rattle.info65.specs.declared.range.RangeSpec.{RangeSpec}
+use Rattle.info65.specs.declared.range.RangeType.{RangeType}
+use Rattle.map65.specs.MapView.{MapView}
+use Rattle.map65.specs.Roles.{is_skip, role_in, role_of}
+use Rattle.map65.specs.Spans.{addresses}
+use Rattle.da65.specs.Code.SkipRanges.{is_skip_range}
+use Rattle.da65.specs.Groups.{skips}
+
+or-false : (s t : Bool) → (s || t) ≡ false → (s ≡ false) × (t ≡ false)
+or-false false false is = (refl, refl)
+or-false false true is = absurd cc
+or-false true t is = absurd cc
+
+skip-in : (ranges : List RangeSpec) (a : ℕ) → list_any is_skip_range ranges ≡ false → is_skip (role_in ranges a) ≡ false
+unfolding role_in
+skip-in [] a none = refl
+skip-in (r ∷ rs) a none =
+    let both = or-false (is_skip_range r) (list_any is_skip_range rs) none in
+    go (has_address r a) both.0 (skip-in rs a both.1)
+  where
+    go : (t : Bool) → is_skip r.role ≡ false → is_skip (role_in rs a) ≡ false → is_skip (if t then r.role else role_in rs a) ≡ false
+    go true here behind = here
+    go false here behind = behind
+
+none-skipped : (p : ℕ → Bool) → ((a : ℕ) → p a ≡ false) → (n a : ℕ) → list_any p (addresses n a) ≡ false
+unfolding addresses
+none-skipped p none zero a = refl
+none-skipped p none (suc n) a = rw (none a) (none-skipped p none n (a + 1))
+
+pub no-skips : (m : MapView) → list_any is_skip_range m.info.ranges ≡ false → skips m ≡ false
+unfolding skips
+no-skips m none = none-skipped (λ a. is_skip (role_of m.info a)) (λ a. skip-in m.info.ranges a none) (length m.image.bytes) m.image.start

@@ -1,0 +1,12 @@
+use Rattle.std.proofs.Common.{◌∙◌, sym}
+use Rattle.da65.proofs.BareLemmas.{instruction-long}
+use Rattle.da65.proofs.group_line.put_bare.Goals as goal
+
+pub bare_operand-requires : goal.bare_operand-requires
+bare_operand-requires g c = instruction-long _ _ _ (sym c.requires.first ∙ c.in-Some.is)
+
+pub is_forced-absolute-requires : goal.is_forced-absolute-requires
+is_forced-absolute-requires g c = instruction-long _ _ _ (sym c.requires.first ∙ c.in-Some.is)
+
+pub is_forced-absolute-requires-in-Number : goal.is_forced-absolute-requires-in-Number
+is_forced-absolute-requires-in-Number g c = instruction-long _ _ _ (sym c.requires.first ∙ c.in-Some.is)
