@@ -1,22 +1,21 @@
 -- The definitions of a run's result, held against small inputs.
 use Rattle.std.proofs.Common.{◌≡◌, ℕ, List, Option, ◌∷◌, [], None, Some, true, false, codes, refl}
 use Rattle.std.specs.Prelude.{Ok}
-use Rattle.isa65.specs.declared.cpu.Cpu.TheVariants.{M6502}
-use Rattle.info65.specs.Views.{InfoView, SettingsView}
+use Rattle.info65.specs.Views.{InfoView, SettingsView, default_settings}
 use Rattle.map65.specs.Image.{image_by, image_of}
 use Rattle.da65.specs.Outcome.{image_message, no_input_message, outcome_by_input}
 use Rattle.da65.specs.declared.outcome.Status.TheVariants.{Refused}
 
 abbrev without_ranges : SettingsView → InfoView
-without_ranges s = record { settings = s; ranges = []; names = [] }
+without_ranges s = record { settings = s; ranges = []; segments = []; names = [] }
 
 -- settings with an input name and a start that are given or not
 abbrev settings : Option (List ℕ) → Option ℕ → InfoView
-settings input start = without_ranges (record { input = input; output = None; offset = 0; size = None; start = start; cpu = M6502; hexoffs = false })
+settings input start = without_ranges (record default_settings { input = input; start = start })
 
 -- settings that pass over a byte and ask for so many
 abbrev part : ℕ → InfoView
-part count = without_ranges (record { input = Some []; output = None; offset = 1; size = Some count; start = None; cpu = M6502; hexoffs = false })
+part count = without_ranges (record default_settings { input = Some []; offset = 1; size = Some count })
 
 -- 00 A9 01 60 without its first byte and its last
 two_of_four : image_of (part 2).settings (0 ∷ 0xA9 ∷ 1 ∷ 0x60 ∷ []) false ≡ Ok (record { start = 0xFFFE; bytes = 0xA9 ∷ 1 ∷ [] })

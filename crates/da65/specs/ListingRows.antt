@@ -1,7 +1,6 @@
 -- Worked examples: the listings of small images, as text below the header.
 use Rattle.std.specs.Prelude.{◌≡◌, ℕ, Bool, true, false, List, [], ◌∷◌, drop, map, codes, None, Some}
-use Rattle.isa65.specs.declared.cpu.Cpu.TheVariants.{M6502}
-use Rattle.info65.specs.Views.{NameView}
+use Rattle.info65.specs.Views.{NameView, default_settings}
 use Rattle.info65.specs.declared.range.RangeSpec.{RangeSpec}
 use Rattle.info65.specs.declared.range.RangeType.{RangeType}
 use Rattle.info65.specs.declared.range.RangeType.TheVariants as role
@@ -26,8 +25,9 @@ label a size text = record { address = a; size = size; text = text; comment = No
 abbrev pub map_of : Example → MapView
 map_of e = record {
   info = record {
-    settings = record { input = Some []; output = None; offset = 0; size = None; start = Some e.start; cpu = M6502; hexoffs = e.hexoffs };
+    settings = record default_settings { input = Some []; start = Some e.start; hexoffs = e.hexoffs };
     ranges = e.ranges;
+    segments = [];
     names = e.names;
   };
   image = record { start = e.start; bytes = e.bytes };

@@ -1,13 +1,13 @@
 //! From an information file and an input to a listing and messages.
 
-ghost use Rattle.std.specs.Prelude.{◌≡◌, ◌-◌, ◌^◌, ◌<◌, false, IfSome, IfOk, IsErrOf};
+ghost use Rattle.std.specs.Prelude.{◌≡◌, ◌-◌, ◌^◌, ◌<◌, Ok, false, IfSome, IfOk, IsErrOf};
 ghost use Rattle.std.specs.Io.KnownBytes.{Keeps};
 ghost use Rattle.info65.specs.Faults.{out_of_memory};
 ghost use Rattle.info65.specs.Reader.{information};
 ghost use Rattle.map65.specs.Device.{TakesUpTo, has_failed};
 ghost use Rattle.map65.specs.ImageView.{AreBytes, IsPlaced};
 ghost use Rattle.da65.specs.Groups.{skips};
-ghost use Rattle.da65.specs.Outcome.{done, image_message, info_message, outcome_of};
+ghost use Rattle.da65.specs.Outcome.{done, image_message, info_message, outcome_by_input, outcome_of};
 ghost use Rattle.da65.specs.RunLaw.{Reassembles, Took};
 ghost use Rattle.da65.specs.Code.Refusals.{RefusesOrGivesUp, Tells};
 ghost use Rattle.da65.specs.Running.{Writes, OutCount, MessagesCount, FailsAtMostOnce, most_read};
@@ -103,6 +103,44 @@ fn write_listing<A: Allocator, W: Sink, M: Sink>(
     }
 }
 
+/// Lists the input under an information file that was accepted.
+fn list_input<A: Allocator + Copy, R: Source, W: Sink, M: Sink>(
+    alloc: A,
+    info: &Info<A>,
+    input: &mut R,
+    out: &mut W,
+    msgs: &mut M,
+) -> Result<Status, RunFault>
+    ensures answer { R.faults input.old < 2 ^ 64 - 1 → IfSome (R.left input.old) (λ bytes.
+        Writes result (outcome_by_input info.now bytes (has_failed (R.faults input.old) (R.faults input.new)))
+        (W.taken out.old) (W.taken out.new) (M.taken msgs.old) (M.taken msgs.new)) }
+    ensures reassembles { R.faults input.old < 2 ^ 64 - 1 → IfSome (R.left input.old) (λ bytes.
+        Reassembles result (Ok info.now) bytes (has_failed (R.faults input.old) (R.faults input.new))
+        (W.taken out.old) (W.taken out.new)) }
+    ensures memory { IsErrOf result RunFault.Memory → Keeps (W.taken out.old) (W.taken out.new) }
+    ensures memory_messages { IsErrOf result RunFault.Memory → Keeps (M.taken msgs.old) (M.taken msgs.new) }
+    ensures write { IsErrOf result RunFault.Write → Keeps (M.taken msgs.old) (M.taken msgs.new) }
+    ensures refused { IfOk result (λ status. status ≡ Status.Refused → Keeps (W.taken out.old) (W.taken out.new)) }
+    ensures reads { TakesUpTo (most_read (Ok info.now)) (R.left input.old) (R.left input.new) }
+    ensures out_count { OutCount result (W.faults out.old) (W.faults out.new) }
+    ensures messages_count { MessagesCount result (M.faults msgs.old) (M.faults msgs.new) }
+    ensures input_count { FailsAtMostOnce (R.faults input.old) (R.faults input.new) }
+{
+    let settings = info.settings();
+    if settings.input.is_none() {
+        return refuse(msgs, no_input_message());
+    }
+    let image = match read_image(alloc, info, input) {
+        Ok(image) => image,
+        Err(fault) => return refuse_image(msgs, fault),
+    };
+    let map = match Map::build(alloc, info, &image) {
+        Ok(map) => map,
+        Err(_) => return Err(RunFault::Memory),
+    };
+    write_listing(info, &image, &map, out, msgs)
+}
+
 /// Lists the input on `out` as source for ca65. If it is refused, the reason goes to `msgs`.
 ///
 /// The options of the command line and the information file `info` give the settings; no information file
@@ -152,23 +190,10 @@ pub fn run<A: Allocator + Copy, N: Allocator, R: Source, W: Sink, M: Sink>(
     ensures input_count { FailsAtMostOnce (R.faults input.old) (R.faults input.new) }
 {
     let _ = files;
-    let info = match read_info(alloc, options, info) {
-        Ok(info) => info,
-        Err(fault) => return refuse_info(msgs, fault),
-    };
-    let settings = info.settings();
-    if settings.input.is_none() {
-        return refuse(msgs, no_input_message());
+    match read_info(alloc, options, info) {
+        Ok(info) => list_input(alloc, &info, input, out, msgs),
+        Err(fault) => refuse_info(msgs, fault),
     }
-    let image = match read_image(alloc, &info, input) {
-        Ok(image) => image,
-        Err(fault) => return refuse_image(msgs, fault),
-    };
-    let map = match Map::build(alloc, &info, &image) {
-        Ok(map) => map,
-        Err(_) => return Err(RunFault::Memory),
-    };
-    write_listing(&info, &image, &map, out, msgs)
 }
 
 #[cfg(test)]

@@ -17,7 +17,7 @@ use Rattle.info65.specs.Reader.{groups_of, read}
 use Rattle.info65.specs.Settings.{settings_of}
 use Rattle.info65.specs.Tokens.{TokenView, tokens_of}
 use Rattle.info65.specs.Values.{HasForm, ValueView, a_number, a_name, as_name, as_number, boolean_of, boolean_value, cpu_value, in_form, is_file_name, is_on_command_line, label_value, name_value, type_value, value_of}
-use Rattle.info65.specs.Views.{AreInLimits, OptionsView}
+use Rattle.info65.specs.Views.{AreInLimits, AreOptions, IsColumn, OptionsView}
 use Rattle.info65.specs.declared.attribute.Attribute.{Attribute}
 use Rattle.info65.specs.declared.attribute.Attribute.TheVariants as attribute
 use Rattle.info65.specs.declared.attribute.Form.{Form}
@@ -146,12 +146,22 @@ file_name_in None h = tt
 pub file_name_formed : (a : Attribute) (given : List AssignmentView) → form_of a ≡ form.FileName → AreFormed given → IfSome (as_name (value_in a given)) (λ t. is_file_name t ≡ true)
 file_name_formed a given is h = file_name_in (value_in a given) (rw is at (found_formed a given h))
 
+some_or : (o : Option ℕ) (d : ℕ) (P : ℕ → Type 0) → IfSome o P → P d → P (unwrap_or o d)
+some_or (Some n) d P h k = h
+some_or None d P h k = k
+
 -- the settings of such values are in their limits
-pub settings_in_limits : (o : OptionsView) (given : List AssignmentView) → AreFormed given → AreInLimits (settings_of o given)
+pub settings_in_limits : (o : OptionsView) (given : List AssignmentView) → AreOptions o → AreFormed given → AreInLimits (settings_of o given)
 unfolding settings_of form_of
-settings_in_limits o given h = record {
+settings_in_limits o given l h = record {
   offset = offset_in (value_in attribute.InputOffset given) (found_formed attribute.InputOffset given h);
   size = size_in (value_in attribute.InputSize given) (found_formed attribute.InputSize given h);
+  comments = some_or o.comments 0 (λ n. n ≤ 4) l.comments (omega arith);
+  mnemonic_column = some_or o.mnemonic_column 9 IsColumn l.mnemonic_column (omega arith, omega arith);
+  argument_column = some_or o.argument_column 17 IsColumn l.argument_column (omega arith, omega arith);
+  comment_column = some_or o.comment_column 49 IsColumn l.comment_column (omega arith, omega arith);
+  text_column = some_or o.text_column 81 IsColumn l.text_column (omega arith, omega arith);
+  label_break = some_or o.label_break 7 (λ n. n ≤ 120) l.label_break (omega arith);
 }
 
 -- what is lent has the form of what is seen of it

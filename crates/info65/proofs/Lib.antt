@@ -11,5 +11,6 @@ pub mod OnceLemmas
 pub mod PoolLemmas
 pub mod RangeLemmas
 pub mod ReaderLemmas
+pub mod SegmentLemmas
 pub mod StandLemmas
 pub mod TokenLemmas

@@ -158,6 +158,7 @@ record IsLabel (given : List AssignmentView) (n : NameView) : Type 0 where
   text : as_name (value_in attribute.Name given) ≡ Some n.text
   size : n.size ≡ unwrap_or (as_number (value_in attribute.Size given)) 1
   room : n.address + n.size ≤ 0x1_0000
+  comment : n.comment ≡ None
 
 sized_is : (a : ℕ) (t : List ℕ) (size : ℕ) (n : NameView) → label_sized a t size ≡ Ok n → (n ≡ named a size t) × (a + size ≤ 0x1_0000)
 sized_is a t size n is =
@@ -175,7 +176,7 @@ label_is given n is = by_parts (as_address (value_in attribute.Address given)) (
     by_parts : (a : Option ℕ) (t : Option (List ℕ)) → as_name (value_in attribute.Name given) ≡ t → label_from a t (as_number (value_in attribute.Size given)) ≡ Ok n → IsLabel given n
     by_parts (Some a) (Some t) e h =
         let s = sized_is a t (unwrap_or (as_number (value_in attribute.Size given)) 1) n h in
-        record { text = rw s.0 e; size = rw s.0 refl; room = rw s.0 s.1 }
+        record { text = rw s.0 e; size = rw s.0 refl; room = rw s.0 s.1; comment = rw s.0 refl }
     by_parts None t e h = absurd cc
     by_parts (Some a) None e h = absurd cc
 
@@ -183,13 +184,14 @@ record IsNamed (given : List AssignmentView) (r : RangeSpec) (n : NameView) : Ty
   text : as_name (value_in attribute.Name given) ≡ Some n.text
   size : n.size ≡ 1
   address : n.address ≡ r.first
+  comment : n.comment ≡ None
 
 named_is : (given : List AssignmentView) (r : RangeSpec) (n : NameView) → range_name given r ≡ Some n → IsNamed given r n
 unfolding range_name
 named_is given r n is = by_text (as_name (value_in attribute.Name given)) refl is
   where
     by_text : (t : Option (List ℕ)) → as_name (value_in attribute.Name given) ≡ t → option_map (named r.first 1) t ≡ Some n → IsNamed given r n
-    by_text (Some t) e h = let s : n ≡ named r.first 1 t = cc in record { text = rw s e; size = rw s refl; address = rw s refl }
+    by_text (Some t) e h = let s : n ≡ named r.first 1 t = cc in record { text = rw s e; size = rw s refl; address = rw s refl; comment = rw s refl }
     by_text None e h = absurd cc
 
 given_optional : (names : List NameView) (given : List AssignmentView) (r : RangeSpec) → AreFormed given → r.first ≤ 0xFFFF → AreGiven names → (n : Option NameView) → range_name given r ≡ n → optional_name_fault names n ≡ None → AreGiven (names ++ option_to_list n)
@@ -197,7 +199,7 @@ given_optional names given r f low g None is fine = rw (append-nil names) g
 given_optional names given r f low g (Some n) is fine =
     let new = no_fault names n fine in
     let x = named_is given r n is in
-    one_more names n g (record { sized = omega (arith, x.size); room = omega (arith, x.size, x.address, low); form = name_formed given n.text f x.text; free = new.free }) new
+    one_more names n g (record { sized = omega (arith, x.size); room = omega (arith, x.size, x.address, low); form = name_formed given n.text f x.text; free = new.free; comment = rw x.comment tt }) new
 
 given_more : (before : List GroupView) (k : GroupKind) (given : List AssignmentView) → AreFormed given → closing_fault before k given ≡ None → AreGiven (names_said before) → AreGiven (names_said (before ++ record { kind = k; given = given } ∷ []))
 given_more before kind.Global given f h g = rw (names_more_global before given) g
@@ -210,7 +212,7 @@ given_more before kind.Label given f h g =
     let c = closes_label before given h in
     let new = no_fault (names_said before) c.name c.fine in
     let x = label_is given c.name c.is in
-    rw (names_more_label before given c.name c.is) (one_more (names_said before) c.name g (record { sized = rw x.size (size_some given f); room = x.room; form = name_formed given c.name.text f x.text; free = new.free }) new)
+    rw (names_more_label before given c.name c.is) (one_more (names_said before) c.name g (record { sized = rw x.size (size_some given f); room = x.room; form = name_formed given c.name.text f x.text; free = new.free; comment = rw x.comment tt }) new)
 
 groups_given : (before gs : List GroupView) → AreGroups before gs → GroupsFormed gs → AreGiven (names_said before) → AreGiven (names_said (before ++ gs))
 groups_given before [] h f g = rw (append-nil before) g

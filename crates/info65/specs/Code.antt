@@ -4,4 +4,5 @@ pub mod Index
 pub mod Names
 pub mod Pool
 pub mod Reading
+pub mod Segments
 pub mod Steps

@@ -11,6 +11,7 @@ pub mod NameLaws
 pub mod Names
 pub mod Ranges
 pub mod Reader
+pub mod Segments
 pub mod Settings
 pub mod Sound
 pub mod Standing

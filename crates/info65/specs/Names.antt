@@ -1,6 +1,6 @@
 -- Names of addresses: their form, which of them are reserved, which addresses a name is for, and what
 -- holds of all names of an information file.
-use Rattle.std.specs.Prelude.{◌≡◌, ◌≢◌, ◌==◌, ◌+◌, ◌/◌, ◌%◌, ◌<◌, ◌≤◌, ◌&&◌, ◌||◌, ℕ, zero, suc, Bool, true, false, not, List, [], ◌∷◌, Option, Some, None, All, AllPairs, codes, drop, get_or, is_some, length, nat_le, nat_lt, slice_index, if◌then◌else◌}
+use Rattle.std.specs.Prelude.{◌≡◌, ◌≢◌, ◌==◌, ◌+◌, ◌/◌, ◌%◌, ◌<◌, ◌≤◌, ◌&&◌, ◌||◌, ℕ, zero, suc, Bool, true, false, not, List, [], ◌∷◌, Option, Some, None, All, AllPairs, IfSome, codes, drop, get_or, is_some, length, nat_le, nat_lt, slice_index, if◌then◌else◌}
 use Rattle.std.specs.Char.{is_ascii_alphabetic, is_ascii_alphanumeric}
 use Rattle.std.specs.List.{list_all, list_any}
 use Rattle.std.specs.Str.{bytes_eq, str_eq_ignore_ascii_case}
@@ -46,6 +46,19 @@ is_reserved address text =
     || (is_some (mnemonic_named text)
     || (is_like_default text && not (bytes_eq text (default_name address))))
 
+-- TAB, $20 to $7E, or $80 to $FF
+abbrev pub is_comment_byte : ℕ → Bool
+is_comment_byte b = b == 9 || ((nat_le 0x20 b && nat_le b 0x7E) || nat_le 0x80 b)
+
+-- at most 200 such bytes
+unfoldable pub has_comment_form : List ℕ → Bool
+has_comment_form text = nat_le (length text) 200 && list_all is_comment_byte text
+
+-- a comment as a name has it: not empty
+pub record IsComment (text : List ℕ) : Type 0 where
+  pub some : 1 ≤ length text
+  pub form : has_comment_form text ≡ true
+
 -- ---- the addresses of a name
 
 -- the address is one of those that the name is for: as many as its size, from its own on
@@ -76,6 +89,7 @@ pub record IsName (n : NameView) : Type 0 where
   pub room : n.address + n.size ≤ 0x1_0000
   pub form : has_name_form n.text ≡ true
   pub free : is_reserved n.address n.text ≡ false
+  pub comment : IfSome n.comment IsComment
 
 -- the names of a file: ascending by address, and no two have one text
 pub record AreNames (names : List NameView) : Type 0 where

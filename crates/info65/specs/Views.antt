@@ -2,6 +2,7 @@
 use Rattle.std.specs.Prelude.{◌≤◌, ℕ, Bool, false, IfSome, List, Option, None, option_map, String}
 use Rattle.std.specs.String.{string_bytes}
 use Rattle.isa65.specs.declared.cpu.Cpu.{Cpu}
+use Rattle.isa65.specs.declared.cpu.Cpu.TheVariants.{M6502}
 use Rattle.info65.specs.declared.range.RangeSpec.{RangeSpec}
 
 abbrev pub name_seen : {Z : Type 0} → Option (String Z) → Option (List ℕ)
@@ -14,12 +15,46 @@ pub record OptionsView : Type 0 where
   pub output : Option (List ℕ)
   pub start : Option ℕ
   pub cpu : Option Cpu
+  pub comments : Option ℕ
+  pub mnemonic_column : Option ℕ
+  pub argument_column : Option ℕ
+  pub comment_column : Option ℕ
+  pub text_column : Option ℕ
+  pub label_break : Option ℕ
   pub hexoffs : Bool
   pub help : Bool
   pub version : Bool
 
 abbrev pub no_options : OptionsView
-no_options = record { info = None; input = None; output = None; start = None; cpu = None; hexoffs = false; help = false; version = false }
+no_options = record {
+  info = None;
+  input = None;
+  output = None;
+  start = None;
+  cpu = None;
+  comments = None;
+  mnemonic_column = None;
+  argument_column = None;
+  comment_column = None;
+  text_column = None;
+  label_break = None;
+  hexoffs = false;
+  help = false;
+  version = false;
+}
+
+-- a column of a line
+abbrev pub IsColumn : ℕ → Type 0
+IsColumn n = (1 ≤ n) × (n ≤ 120)
+
+-- the limits of the numbers of the options
+pub record AreOptions (o : OptionsView) : Type 0 where
+  pub comments : IfSome o.comments (λ n. n ≤ 4)
+  pub mnemonic_column : IfSome o.mnemonic_column IsColumn
+  pub argument_column : IfSome o.argument_column IsColumn
+  pub comment_column : IfSome o.comment_column IsColumn
+  pub text_column : IfSome o.text_column IsColumn
+  pub label_break : IfSome o.label_break (λ n. n ≤ 120)
 
 -- what decides how an image is read and listed
 pub record SettingsView : Type 0 where
@@ -29,12 +64,46 @@ pub record SettingsView : Type 0 where
   pub size : Option ℕ
   pub start : Option ℕ
   pub cpu : Cpu
+  pub comments : ℕ
+  pub mnemonic_column : ℕ
+  pub argument_column : ℕ
+  pub comment_column : ℕ
+  pub text_column : ℕ
+  pub label_break : ℕ
   pub hexoffs : Bool
+  pub newline_after_jmp : Bool
+  pub newline_after_rts : Bool
+
+-- what is set where neither the command line nor the file says anything
+abbrev pub default_settings : SettingsView
+default_settings = record {
+  input = None;
+  output = None;
+  offset = 0;
+  size = None;
+  start = None;
+  cpu = M6502;
+  comments = 0;
+  mnemonic_column = 9;
+  argument_column = 17;
+  comment_column = 49;
+  text_column = 81;
+  label_break = 7;
+  hexoffs = false;
+  newline_after_jmp = false;
+  newline_after_rts = false;
+}
 
 -- the limits of the numbers of the settings
 pub record AreInLimits (s : SettingsView) : Type 0 where
   pub offset : s.offset ≤ 16_777_216
   pub size : IfSome s.size (λ n. (1 ≤ n) × (n ≤ 0x1_0000))
+  pub comments : s.comments ≤ 4
+  pub mnemonic_column : IsColumn s.mnemonic_column
+  pub argument_column : IsColumn s.argument_column
+  pub comment_column : IsColumn s.comment_column
+  pub text_column : IsColumn s.text_column
+  pub label_break : s.label_break ≤ 120
 
 -- a name: its own address, how many addresses it is for from that on, its text, and its comment
 pub record NameView : Type 0 where
@@ -43,8 +112,15 @@ pub record NameView : Type 0 where
   pub text : List ℕ
   pub comment : Option (List ℕ)
 
+-- a segment: its first and its last address, and its name
+pub record SegmentView : Type 0 where
+  pub first : ℕ
+  pub last : ℕ
+  pub name : List ℕ
+
 -- what an information file says; its names ascend by address
 pub record InfoView : Type 0 where
   pub settings : SettingsView
   pub ranges : List RangeSpec
+  pub segments : List SegmentView
   pub names : List NameView

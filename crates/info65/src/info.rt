@@ -12,6 +12,7 @@ use crate::parser::read_groups;
 use crate::pool::Pool;
 use crate::range::RangeSpec;
 use crate::range_groups::ranges_of;
+use crate::segment::{SegmentSpec, segment_covering};
 use crate::settings::Settings;
 use std::alloc::{Allocator, Global};
 use std::marker::Model;
@@ -24,25 +25,30 @@ const MOST_BYTES: usize = 1_048_576;
 pub struct Info<A: Allocator = Global> {
     settings: Settings<A>,
     ranges: Vec<RangeSpec, A>,
+    segments: Vec<SegmentSpec<A>, A>,
     names: Pool<A>,
 }
 
 impl<A: Allocator> Model for Info<A> {
+    ghost use Rattle.std.specs.Prelude.{map};
+    ghost use Rattle.info65.specs.Code.Segments.{segment_seen};
     ghost use Rattle.info65.specs.Sound.{IsSound};
     ghost use Rattle.info65.specs.Views.{InfoView};
 
     ghost Value = { InfoView };
 
-    ghost view = { λ i. record { settings = i.settings; ranges = i.ranges.items; names = i.names } };
+    ghost view = { λ i. record { settings = i.settings; ranges = i.ranges.items; segments = map segment_seen i.segments.items; names = i.names } };
 
-    ghost invariant = { λ i. IsSound (record { settings = i.settings; ranges = i.ranges.items; names = i.names }) };
+    ghost invariant = { λ i. IsSound (record { settings = i.settings; ranges = i.ranges.items; segments = map segment_seen i.segments.items; names = i.names }) };
 }
 
 impl<A: Allocator> Info<A> {
-    ghost use Rattle.std.specs.Prelude.{◌≡◌, ◌<◌, length, option_map};
+    ghost use Rattle.std.specs.Prelude.{◌≡◌, ◌<◌, length, map, option_map};
     ghost use Rattle.info65.specs.Code.Names.{given_seen};
+    ghost use Rattle.info65.specs.Code.Segments.{segment_seen};
     ghost use Rattle.info65.specs.Names.{AreNames, covering, name_at};
     ghost use Rattle.info65.specs.Ranges.{AreRanges};
+    ghost use Rattle.info65.specs.Segments.{AreSegments, segment_covering};
     ghost use Rattle.info65.specs.Views.{AreInLimits};
 
     /// The settings: the options, the groups GLOBAL and the defaults.
@@ -59,6 +65,22 @@ impl<A: Allocator> Info<A> {
         ensures sound { AreRanges self.now.ranges }
     {
         self.ranges.as_slice()
+    }
+
+    /// The segments, in the order of their groups. No two of them share an address.
+    pub fn segments(&self) -> &[SegmentSpec<A>]
+        ensures segments { map segment_seen result.now ≡ self.now.segments }
+        ensures sound { AreSegments self.now.segments }
+    {
+        self.segments.as_slice()
+    }
+
+    /// The name of the segment that contains an address.
+    pub fn segment_covering(&self, address: u16) -> Option<&[u8]>
+        ensures name { option_map (λ n. n.now) result ≡ segment_covering self.now.segments address }
+        ensures sound { AreSegments self.now.segments }
+    {
+        segment_covering(self.segments.as_slice(), address)
     }
 
     /// How many names are given.
@@ -107,13 +129,16 @@ pub fn read_info<A: Allocator + Copy, B: Allocator>(
     if bytes.len() > MOST_BYTES {
         return Err(InfoFault::new(1, InfoFaultKind::TooLarge));
     }
+    options.limits();
     let closed = read_groups(alloc, options, bytes)?;
     let settings = settings_of(alloc, options, closed.groups())?;
     let ranges = ranges_of(alloc, closed.groups())?;
     let names = closed.names(alloc)?;
+    let segments = Vec::new(alloc);
     Ok(Info {
         settings,
         ranges,
+        segments,
         names,
     })
 }

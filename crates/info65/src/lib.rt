@@ -30,6 +30,7 @@ mod parser;
 mod pool;
 mod range;
 mod range_groups;
+mod segment;
 mod settings;
 #[cfg(test)]
 mod tests;
@@ -46,5 +47,6 @@ pub use lexer::Lexer;
 pub use name::Given;
 pub use options::Options;
 pub use range::{RangeSpec, RangeType};
+pub use segment::SegmentSpec;
 pub use settings::Settings;
 pub use token::{Token, TokenKind};

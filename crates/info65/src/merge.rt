@@ -45,7 +45,15 @@ pub fn settings_of<'a, A: Allocator + Copy, B: Allocator>(
         size,
         start: options.start.or(start_given),
         cpu: options.cpu.or(cpu_given).unwrap_or(Cpu::M6502),
+        comments: options.comments.unwrap_or(0),
+        mnemonic_column: options.mnemonic_column.unwrap_or(9),
+        argument_column: options.argument_column.unwrap_or(17),
+        comment_column: options.comment_column.unwrap_or(49),
+        text_column: options.text_column.unwrap_or(81),
+        label_break: options.label_break.unwrap_or(7),
         hexoffs: options.hexoffs || hexoffs_given.unwrap_or(false),
+        newline_after_jmp: false,
+        newline_after_rts: false,
     })
 }
 

@@ -17,6 +17,18 @@ pub struct Options<A: Allocator = Global> {
     pub start: Option<u16>,
     /// The CPU whose opcodes the image has.
     pub cpu: Option<Cpu>,
+    /// How much the listing comments, 0 to 4.
+    pub comments: Option<u8>,
+    /// The column of mnemonics, 1 to 120.
+    pub mnemonic_column: Option<u8>,
+    /// The column of operands, 1 to 120.
+    pub argument_column: Option<u8>,
+    /// The column of the comment after a statement, 1 to 120.
+    pub comment_column: Option<u8>,
+    /// The column of the bytes as characters, 1 to 120.
+    pub text_column: Option<u8>,
+    /// The length of the longest label that stands on the line of its statement, 0 to 120.
+    pub label_break: Option<u8>,
     /// Offsets are written in hexadecimal.
     pub hexoffs: bool,
     /// The help text is asked for.
@@ -26,16 +38,18 @@ pub struct Options<A: Allocator = Global> {
 }
 
 impl<A: Allocator> Model for Options<A> {
-    ghost use Rattle.info65.specs.Views.{OptionsView, name_seen};
+    ghost use Rattle.info65.specs.Views.{AreOptions, OptionsView, name_seen};
 
     ghost Value = { OptionsView };
 
-    ghost view = { λ o. record { info = name_seen o.info; input = name_seen o.input; output = name_seen o.output; start = o.start; cpu = o.cpu; hexoffs = o.hexoffs; help = o.help; version = o.version } };
+    ghost view = { λ o. record { info = name_seen o.info; input = name_seen o.input; output = name_seen o.output; start = o.start; cpu = o.cpu; comments = o.comments; mnemonic_column = o.mnemonic_column; argument_column = o.argument_column; comment_column = o.comment_column; text_column = o.text_column; label_break = o.label_break; hexoffs = o.hexoffs; help = o.help; version = o.version } };
+
+    ghost invariant = { λ o. AreOptions (record { info = name_seen o.info; input = name_seen o.input; output = name_seen o.output; start = o.start; cpu = o.cpu; comments = o.comments; mnemonic_column = o.mnemonic_column; argument_column = o.argument_column; comment_column = o.comment_column; text_column = o.text_column; label_break = o.label_break; hexoffs = o.hexoffs; help = o.help; version = o.version }) };
 }
 
 impl<A: Allocator> Options<A> {
     ghost use Rattle.std.specs.Prelude.{◌≡◌};
-    ghost use Rattle.info65.specs.Views.{no_options};
+    ghost use Rattle.info65.specs.Views.{AreOptions, no_options};
 
     /// No option at all.
     pub fn none() -> Self
@@ -47,9 +61,22 @@ impl<A: Allocator> Options<A> {
             output: None,
             start: None,
             cpu: None,
+            comments: None,
+            mnemonic_column: None,
+            argument_column: None,
+            comment_column: None,
+            text_column: None,
+            label_break: None,
             hexoffs: false,
             help: false,
             version: false,
         }
+    }
+
+    /// The numbers are in their limits.
+    pub fn limits(&self)
+        ensures { AreOptions self.now }
+    {
+        let _ = &self.comments;
     }
 }

@@ -20,8 +20,24 @@ pub struct Settings<A: Allocator = Global> {
     pub start: Option<u16>,
     /// The CPU; the 6502 by default.
     pub cpu: Cpu,
+    /// How much the listing comments, 0 to 4; 0 by default.
+    pub comments: u8,
+    /// The column of mnemonics, 1 to 120; 9 by default.
+    pub mnemonic_column: u8,
+    /// The column of operands, 1 to 120; 17 by default.
+    pub argument_column: u8,
+    /// The column of the comment after a statement, 1 to 120; 49 by default.
+    pub comment_column: u8,
+    /// The column of the bytes as characters, 1 to 120; 81 by default.
+    pub text_column: u8,
+    /// The length of the longest label that stands on the line of its statement, 0 to 120; 7 by default.
+    pub label_break: u8,
     /// Offsets are written in hexadecimal; off by default.
     pub hexoffs: bool,
+    /// An empty line follows each `jmp`; off by default.
+    pub newline_after_jmp: bool,
+    /// An empty line follows each `rts`; off by default.
+    pub newline_after_rts: bool,
 }
 
 impl<A: Allocator> Model for Settings<A> {
@@ -29,7 +45,7 @@ impl<A: Allocator> Model for Settings<A> {
 
     ghost Value = { SettingsView };
 
-    ghost view = { λ s. record { input = name_seen s.input; output = name_seen s.output; offset = s.offset; size = s.size; start = s.start; cpu = s.cpu; hexoffs = s.hexoffs } };
+    ghost view = { λ s. record { input = name_seen s.input; output = name_seen s.output; offset = s.offset; size = s.size; start = s.start; cpu = s.cpu; comments = s.comments; mnemonic_column = s.mnemonic_column; argument_column = s.argument_column; comment_column = s.comment_column; text_column = s.text_column; label_break = s.label_break; hexoffs = s.hexoffs; newline_after_jmp = s.newline_after_jmp; newline_after_rts = s.newline_after_rts } };
 
-    ghost invariant = { λ s. AreInLimits (record { input = name_seen s.input; output = name_seen s.output; offset = s.offset; size = s.size; start = s.start; cpu = s.cpu; hexoffs = s.hexoffs }) };
+    ghost invariant = { λ s. AreInLimits (record { input = name_seen s.input; output = name_seen s.output; offset = s.offset; size = s.size; start = s.start; cpu = s.cpu; comments = s.comments; mnemonic_column = s.mnemonic_column; argument_column = s.argument_column; comment_column = s.comment_column; text_column = s.text_column; label_break = s.label_break; hexoffs = s.hexoffs; newline_after_jmp = s.newline_after_jmp; newline_after_rts = s.newline_after_rts }) };
 }

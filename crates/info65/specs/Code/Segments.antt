@@ -1,0 +1,6 @@
+-- What contracts see of a segment.
+use Rattle.info65.specs.Views.{SegmentView}
+use Rattle.info65.specs.declared.segment.SegmentSpec.{SegmentSpec}
+
+abbrev pub segment_seen : {Z : Type 0} → SegmentSpec Z → SegmentView
+segment_seen s = record { first = s.first; last = s.last; name = s.name.items }
