@@ -3,17 +3,23 @@ use Rattle.std.specs.Prelude.{◌≡◌, ℕ, ◌≤◌, Bool, true, ◌&&◌, n
 use Rattle.std.specs.List.{find, list_all}
 use Rattle.std.specs.Str.{str_eq_ignore_ascii_case}
 use Rattle.isa65.specs.declared.cpu.Cpu.{Cpu}
-use Rattle.isa65.specs.declared.cpu.Cpu.TheVariants.{M6502}
+use Rattle.isa65.specs.declared.cpu.Cpu.TheVariants.{M6502, M65SC02, M65C02}
 use Rattle.isa65.specs.declared.cpu.TheConstants.{ALL}
 use Rattle.isa65.specs.Opcodes.{Table}
 use Rattle.isa65.specs.Mos6502.{mos_6502}
+use Rattle.isa65.specs.Cmos65Sc02.{cmos_65sc02}
+use Rattle.isa65.specs.Rockwell65C02.{rockwell_65c02}
 
 -- the name in the quotes of `.setcpu`
 abbrev pub cpu_text : Cpu → List ℕ
 cpu_text M6502 = codes "6502"
+cpu_text M65SC02 = codes "65SC02"
+cpu_text M65C02 = codes "65C02"
 
 abbrev pub table_of : Cpu → Table
 table_of M6502 = mos_6502
+table_of M65SC02 = cmos_65sc02
+table_of M65C02 = rockwell_65c02
 
 -- the first of these CPUs that the bytes name, in any letter case
 abbrev pub first_cpu_named : List ℕ → List Cpu → Option Cpu

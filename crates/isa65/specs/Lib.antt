@@ -3,6 +3,8 @@ pub mod Mode
 pub mod Mnemonic
 pub mod Opcodes
 pub mod Mos6502
+pub mod Cmos65Sc02
+pub mod Rockwell65C02
 pub mod Cpu
 -- what holds of them
 pub mod Finding

@@ -4,21 +4,27 @@ ghost use Rattle.std.specs.Prelude.{◌≡◌, ◌↔◌, Some};
 ghost use Rattle.std.specs.Str.{str_to_ascii_lowercase};
 ghost use Rattle.isa65.specs.Cpu.{first_cpu_named};
 
+use crate::cmos_65sc02::Cmos65Sc02;
 use crate::mnemonic::{Mnemonic, is_same_word};
 use crate::mode::Mode;
 use crate::mos_6502::Mos6502;
 use crate::op::Op;
 use crate::opcode_set::OpcodeSet;
+use crate::rockwell_65c02::Rockwell65C02;
 
 /// A CPU whose opcodes are known. It is itself an [`OpcodeSet`], that of its opcodes.
 #[derive(Clone, Copy, Debug, PartialEq, Eq)]
 pub enum Cpu {
     /// The MOS 6502, with its documented opcodes.
     M6502,
+    /// The 65SC02: the 6502's opcodes and the CMOS ones.
+    M65SC02,
+    /// The 65C02 with Rockwell's bit instructions: the 65SC02's opcodes and these.
+    M65C02,
 }
 
 /// Each CPU once.
-const ALL: [Cpu; 1] = [Cpu::M6502];
+const ALL: [Cpu; 3] = [Cpu::M6502, Cpu::M65SC02, Cpu::M65C02];
 
 impl Cpu {
     ghost use Rattle.isa65.specs.declared.cpu.Cpu.{Cpu};
@@ -31,6 +37,8 @@ impl Cpu {
     {
         match self {
             Cpu::M6502 => b"6502",
+            Cpu::M65SC02 => b"65SC02",
+            Cpu::M65C02 => b"65C02",
         }
     }
 
@@ -68,12 +76,16 @@ impl OpcodeSet for Cpu {
     fn decode(&self, byte: u8) -> Option<Op> {
         match self {
             Cpu::M6502 => Mos6502.decode(byte),
+            Cpu::M65SC02 => Cmos65Sc02.decode(byte),
+            Cpu::M65C02 => Rockwell65C02.decode(byte),
         }
     }
 
     fn sibling(&self, op: Op) -> Option<Mode> {
         match self {
             Cpu::M6502 => Mos6502.sibling(op),
+            Cpu::M65SC02 => Cmos65Sc02.sibling(op),
+            Cpu::M65C02 => Rockwell65C02.sibling(op),
         }
     }
 

@@ -1,22 +1,29 @@
 //! The instruction sets of the 6502 family: mnemonics, addressing modes and opcodes.
 //!
 //! A [`Mnemonic`] and a [`Mode`] together are an [`Op`], and an [`OpcodeSet`] says which byte stands
-//! for which `Op`, by laws that every set keeps. [`Mos6502`] is the set of the MOS 6502. A [`Cpu`] is
-//! the set of the CPU that it names.
+//! for which `Op`, by laws that every set keeps. [`Mos6502`], [`Cmos65Sc02`] and [`Rockwell65C02`] are
+//! the sets of three CPUs, each with the opcodes of the one before and more. A [`Cpu`] is the set of the
+//! CPU that it names. [`later_keep_earlier`] is the law between the sets.
 #![tactic(auto)]
 
+mod cmos_65sc02;
 mod cpu;
+mod laws;
 mod mnemonic;
 mod mode;
 mod mos_6502;
 mod op;
 mod opcode_set;
+mod rockwell_65c02;
 #[cfg(test)]
 mod tests;
 
+pub use cmos_65sc02::Cmos65Sc02;
 pub use cpu::Cpu;
+pub use laws::later_keep_earlier;
 pub use mnemonic::Mnemonic;
 pub use mode::Mode;
 pub use mos_6502::Mos6502;
 pub use op::Op;
 pub use opcode_set::OpcodeSet;
+pub use rockwell_65c02::Rockwell65C02;

@@ -1,6 +1,6 @@
 //! The opcodes of the MOS 6502.
 
-ghost use Rattle.std.specs.Prelude.{◌≡◌, Some, is_some};
+ghost use Rattle.std.specs.Prelude.{◌≡◌, is_some};
 ghost use Rattle.isa65.specs.Mos6502.{mos_6502};
 ghost use Rattle.isa65.specs.declared.mode.Mode.TheVariants.{Zp, Zpx, Zpy};
 ghost use Rattle.isa65.specs.Opcodes.{encoded};
@@ -10,17 +10,11 @@ ghost use Rattle.isa65.specs.OpcodeLaws.{opcode-lt, encoded-decoded, written_ali
 use crate::mnemonic::Mnemonic;
 use crate::mode::Mode;
 use crate::op::Op;
-use crate::opcode_set::OpcodeSet;
+use crate::opcode_set::{OpcodeSet, op};
 
 /// The 151 documented opcodes of the MOS 6502. `brk` has one byte.
 #[derive(Clone, Copy, Debug, PartialEq, Eq)]
 pub struct Mos6502;
-
-fn op(mnemonic: Mnemonic, mode: Mode) -> Option<Op>
-    ensures { result ≡ Some (record { mnemonic = mnemonic; mode = mode }) }
-{
-    Some(Op { mnemonic, mode })
-}
 
 /// Whether the mnemonic has the form `E`, with its operand in the zero page.
 fn has_zp(mnemonic: Mnemonic) -> bool

@@ -52,6 +52,13 @@ pub trait OpcodeSet {
     ghost sizes: { (s : Self) (m : Mnemonic) (x y : Mode) → IsSome (encoded (table s) m x) → IsSome (encoded (table s) m y) → written x ≡ written y → (x ≡ y) ⊎ (IsZeroPageOf x y ⊎ IsZeroPageOf y x) };
 }
 
+/// What an opcode stands for.
+pub fn op(mnemonic: Mnemonic, mode: Mode) -> Option<Op>
+    ensures { result ≡ Some (record { mnemonic = mnemonic; mode = mode }) }
+{
+    Some(Op { mnemonic, mode })
+}
+
 fn is_this(found: Option<Op>, op: Op) -> bool
     ensures { IsTrue result ↔ (found ≡ Some op) }
 {

@@ -1,10 +1,10 @@
-use crate::{Cpu, Mnemonic, Mode, Mos6502, Op, OpcodeSet};
+use crate::{Cmos65Sc02, Cpu, Mnemonic, Mode, Mos6502, Op, OpcodeSet, Rockwell65C02};
 use std::alloc::Global;
 use std::process::Abort;
 use std::test::Fail;
 
-/// The data sheet's table of opcodes: columns are addressing modes, `--` is no such form.
-const DATA_SHEET: [&str; 6] = [
+/// The data sheet's table of the opcodes of the 6502: columns are addressing modes, `--` is no such form.
+const OF_THE_6502: [&str; 6] = [
     "    imm zp zpx abs absx absy indx indy
     adc 69  65 75  6D  7D   79   61   71
     and 29  25 35  2D  3D   39   21   31
@@ -69,6 +69,74 @@ const DATA_SHEET: [&str; 6] = [
     sed F8",
 ];
 
+/// What the 65SC02 has beside these.
+const ADDED_BY_THE_65SC02: [&str; 6] = [
+    "    imm zp zpx abs absx
+    bit 89  -- 34  --  3C
+    stz --  64 74  9C  9E
+    trb --  14 --  1C  --
+    tsb --  04 --  0C  --",
+    "    zpind
+    ora 12
+    and 32
+    eor 52
+    adc 72
+    sta 92
+    lda B2
+    cmp D2
+    sbc F2",
+    "    absindx
+    jmp 7C",
+    "    rel
+    bra 80",
+    "    acc
+    inc 1A
+    dec 3A",
+    "    imp
+    phx DA
+    plx FA
+    phy 5A
+    ply 7A",
+];
+
+/// What the 65C02 has beside these.
+const ADDED_BY_THE_65C02: [&str; 2] = [
+    "    zp
+    rmb0 07
+    rmb1 17
+    rmb2 27
+    rmb3 37
+    rmb4 47
+    rmb5 57
+    rmb6 67
+    rmb7 77
+    smb0 87
+    smb1 97
+    smb2 A7
+    smb3 B7
+    smb4 C7
+    smb5 D7
+    smb6 E7
+    smb7 F7",
+    "    zprel
+    bbr0 0F
+    bbr1 1F
+    bbr2 2F
+    bbr3 3F
+    bbr4 4F
+    bbr5 5F
+    bbr6 6F
+    bbr7 7F
+    bbs0 8F
+    bbs1 9F
+    bbs2 AF
+    bbs3 BF
+    bbs4 CF
+    bbs5 DF
+    bbs6 EF
+    bbs7 FF",
+];
+
 /// The mode that a column of the data sheet is headed by.
 fn column_mode(heading: &str) -> Option<Mode> {
     let mode = match heading {
@@ -84,7 +152,10 @@ fn column_mode(heading: &str) -> Option<Mode> {
         "ind" => Mode::Ind,
         "indx" => Mode::Indx,
         "indy" => Mode::Indy,
+        "zpind" => Mode::Zpind,
+        "absindx" => Mode::Absindx,
         "rel" => Mode::Rel,
+        "zprel" => Mode::Zprel,
         _ => return None,
     };
     Some(mode)
@@ -114,15 +185,26 @@ fn enter_row(
     Ok(())
 }
 
-/// What each byte stands for by the data sheet.
-fn data_sheet(rt: &impl Abort, alloc: Global) -> Result<Vec<Option<Op>>, Fail> {
-    let mut table = vec![in alloc; None; 256]?;
-    for part in DATA_SHEET {
+fn enter_parts(rt: &impl Abort, parts: &[&str], table: &mut [Option<Op>]) -> Result<(), Fail> {
+    for part in parts {
         let mut lines = part.lines();
         let headings = lines.next().ok_or("no headings")?;
         for row in lines {
-            enter_row(rt, headings, row, &mut table)?;
+            enter_row(rt, headings, row, table)?;
         }
+    }
+    Ok(())
+}
+
+/// What each byte stands for by the CPU's data sheet.
+fn data_sheet(rt: &impl Abort, alloc: Global, cpu: Cpu) -> Result<Vec<Option<Op>>, Fail> {
+    let mut table = vec![in alloc; None; 256]?;
+    enter_parts(rt, &OF_THE_6502, &mut table)?;
+    if cpu != Cpu::M6502 {
+        enter_parts(rt, &ADDED_BY_THE_65SC02, &mut table)?;
+    }
+    if cpu == Cpu::M65C02 {
+        enter_parts(rt, &ADDED_BY_THE_65C02, &mut table)?;
     }
     Ok(table)
 }
@@ -140,12 +222,21 @@ fn agrees<S: OpcodeSet>(rt: &impl Abort, set: &S, table: &[Option<Op>]) {
 
 #[test]
 fn all_bytes_by_the_data_sheet(rt: HostRuntime) -> Result<(), Fail> {
-    let table = data_sheet(&rt, rt.alloc())?;
-    assert_eq!(rt; table.iter().filter(|op| op.is_some()).count(), 151);
-    agrees(&rt, &Mos6502, &table);
-    agrees(&rt, &Cpu::M6502, &table);
-    assert_eq!(rt; Cpu::M6502.encode(Mnemonic::Sta, Mode::Imm), None);
+    for (cpu, count) in [(Cpu::M6502, 151), (Cpu::M65SC02, 178), (Cpu::M65C02, 210)] {
+        let table = data_sheet(&rt, rt.alloc(), cpu)?;
+        assert_eq!(rt; table.iter().filter(|op| op.is_some()).count(), count);
+        agrees(&rt, &cpu, &table);
+        match cpu {
+            Cpu::M6502 => agrees(&rt, &Mos6502, &table),
+            Cpu::M65SC02 => agrees(&rt, &Cmos65Sc02, &table),
+            Cpu::M65C02 => agrees(&rt, &Rockwell65C02, &table),
+        }
+        assert_eq!(rt; cpu.encode(Mnemonic::Sta, Mode::Imm), None);
+    }
     assert_eq!(rt; Cpu::M6502.encode(Mnemonic::Bra, Mode::Rel), None);
+    assert_eq!(rt; Cpu::M65SC02.decode(0x07), None);
+    assert_eq!(rt; Cpu::M65C02.decode(0xCB), None);
+    assert_eq!(rt; Cpu::M65C02.decode(0xDB), None);
     Ok(())
 }
 
@@ -183,36 +274,38 @@ fn lengths(rt: HostRuntime) {
 /// The sibling of each mnemonic and mode is the zero-page form that the data sheet has for it.
 #[test]
 fn siblings_by_the_data_sheet(rt: HostRuntime) -> Result<(), Fail> {
-    let table = data_sheet(&rt, rt.alloc())?;
-    let mut count = 0usize;
-    for text in TEXTS.split_whitespace() {
-        let mnemonic = Mnemonic::from_bytes(text.as_bytes()).ok_or("no such mnemonic")?;
-        for (mode, short) in [
-            (Mode::Abs, Mode::Zp),
-            (Mode::Absx, Mode::Zpx),
-            (Mode::Absy, Mode::Zpy),
-        ] {
-            let zero_page = Some(Op {
-                mnemonic,
-                mode: short,
-            });
-            let expected = if table.contains(&zero_page) {
-                Some(short)
-            } else {
-                None
-            };
-            let op = Op { mnemonic, mode };
-            assert_eq!(rt; op.sibling(&Cpu::M6502), expected, "{op:?}");
-            count = count.saturating_add(usize::from(expected.is_some()));
+    for (cpu, count) in [(Cpu::M6502, 39), (Cpu::M65SC02, 44), (Cpu::M65C02, 60)] {
+        let table = data_sheet(&rt, rt.alloc(), cpu)?;
+        let mut found = 0usize;
+        for text in TEXTS.split_whitespace() {
+            let mnemonic = Mnemonic::from_bytes(text.as_bytes()).ok_or("no such mnemonic")?;
+            for (mode, short) in [
+                (Mode::Abs, Mode::Zp),
+                (Mode::Absx, Mode::Zpx),
+                (Mode::Absy, Mode::Zpy),
+            ] {
+                let zero_page = Some(Op {
+                    mnemonic,
+                    mode: short,
+                });
+                let expected = if table.contains(&zero_page) {
+                    Some(short)
+                } else {
+                    None
+                };
+                let op = Op { mnemonic, mode };
+                assert_eq!(rt; op.sibling(&cpu), expected, "{op:?}");
+                found = found.saturating_add(usize::from(expected.is_some()));
+            }
         }
-    }
-    assert_eq!(rt; count, 39);
-    for mode in [Mode::Imm, Mode::Zp, Mode::Ind, Mode::Rel] {
-        let op = Op {
-            mnemonic: Mnemonic::Lda,
-            mode,
-        };
-        assert_eq!(rt; op.sibling(&Cpu::M6502), None);
+        assert_eq!(rt; found, count);
+        for mode in [Mode::Imm, Mode::Zp, Mode::Ind, Mode::Rel] {
+            let op = Op {
+                mnemonic: Mnemonic::Lda,
+                mode,
+            };
+            assert_eq!(rt; op.sibling(&cpu), None);
+        }
     }
     Ok(())
 }
@@ -220,7 +313,18 @@ fn siblings_by_the_data_sheet(rt: HostRuntime) -> Result<(), Fail> {
 #[test]
 fn cpu_names(rt: HostRuntime) {
     assert_eq!(rt; Cpu::M6502.text(), b"6502".as_slice());
-    assert_eq!(rt; Cpu::from_bytes(b"6502"), Some(Cpu::M6502));
-    assert_eq!(rt; Cpu::from_bytes(b"6809"), None);
-    assert_eq!(rt; Cpu::from_bytes(b""), None);
+    assert_eq!(rt; Cpu::M65SC02.text(), b"65SC02".as_slice());
+    assert_eq!(rt; Cpu::M65C02.text(), b"65C02".as_slice());
+    for (name, cpu) in [
+        (b"6502".as_slice(), Some(Cpu::M6502)),
+        (b"65sc02", Some(Cpu::M65SC02)),
+        (b"65Sc02", Some(Cpu::M65SC02)),
+        (b"65C02", Some(Cpu::M65C02)),
+        (b"65c02", Some(Cpu::M65C02)),
+        (b"65CE02", None),
+        (b"6809", None),
+        (b"", None),
+    ] {
+        assert_eq!(rt; Cpu::from_bytes(name), cpu);
+    }
 }

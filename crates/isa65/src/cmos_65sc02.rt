@@ -1,0 +1,89 @@
+//! The opcodes of the 65SC02.
+
+ghost use Rattle.std.specs.Prelude.{◌≡◌, is_some};
+ghost use Rattle.isa65.specs.Cmos65Sc02.{cmos_65sc02, cmos_additions};
+ghost use Rattle.isa65.specs.declared.mode.Mode.TheVariants.{Zp, Zpx};
+ghost use Rattle.isa65.specs.Opcodes.{encoded};
+ghost use Rattle.isa65.specs.CpuLaws.{cmos_65sc02-sound};
+ghost use Rattle.isa65.specs.OpcodeLaws.{opcode-lt, encoded-decoded, written_alike};
+
+use crate::mnemonic::Mnemonic;
+use crate::mode::Mode;
+use crate::mos_6502::Mos6502;
+use crate::op::Op;
+use crate::opcode_set::{OpcodeSet, op};
+
+/// The 178 opcodes of the 65SC02: those of the MOS 6502 and 27 more.
+#[derive(Clone, Copy, Debug, PartialEq, Eq)]
+pub struct Cmos65Sc02;
+
+/// Whether the form `E`, with its operand in the zero page, is one that the 65SC02 adds.
+fn adds_zp(mnemonic: Mnemonic) -> bool
+    ensures { result ≡ is_some (encoded cmos_additions mnemonic Zp) }
+{
+    match mnemonic {
+        Mnemonic::Stz | Mnemonic::Trb | Mnemonic::Tsb => true,
+        _ => false,
+    }
+}
+
+/// Whether the form `E,x`, with its operand in the zero page, is one that the 65SC02 adds.
+fn adds_zpx(mnemonic: Mnemonic) -> bool
+    ensures { result ≡ is_some (encoded cmos_additions mnemonic Zpx) }
+{
+    match mnemonic {
+        Mnemonic::Stz | Mnemonic::Bit => true,
+        _ => false,
+    }
+}
+
+impl OpcodeSet for Cmos65Sc02 {
+    ghost table = { λ _. cmos_65sc02 };
+
+    fn decode(&self, byte: u8) -> Option<Op> {
+        match byte {
+            0x04 => op(Mnemonic::Tsb, Mode::Zp),
+            0x0C => op(Mnemonic::Tsb, Mode::Abs),
+            0x12 => op(Mnemonic::Ora, Mode::Zpind),
+            0x14 => op(Mnemonic::Trb, Mode::Zp),
+            0x1A => op(Mnemonic::Inc, Mode::Acc),
+            0x1C => op(Mnemonic::Trb, Mode::Abs),
+            0x32 => op(Mnemonic::And, Mode::Zpind),
+            0x34 => op(Mnemonic::Bit, Mode::Zpx),
+            0x3A => op(Mnemonic::Dec, Mode::Acc),
+            0x3C => op(Mnemonic::Bit, Mode::Absx),
+            0x52 => op(Mnemonic::Eor, Mode::Zpind),
+            0x5A => op(Mnemonic::Phy, Mode::Imp),
+            0x64 => op(Mnemonic::Stz, Mode::Zp),
+            0x72 => op(Mnemonic::Adc, Mode::Zpind),
+            0x74 => op(Mnemonic::Stz, Mode::Zpx),
+            0x7A => op(Mnemonic::Ply, Mode::Imp),
+            0x7C => op(Mnemonic::Jmp, Mode::Absindx),
+            0x80 => op(Mnemonic::Bra, Mode::Rel),
+            0x89 => op(Mnemonic::Bit, Mode::Imm),
+            0x92 => op(Mnemonic::Sta, Mode::Zpind),
+            0x9C => op(Mnemonic::Stz, Mode::Abs),
+            0x9E => op(Mnemonic::Stz, Mode::Absx),
+            0xB2 => op(Mnemonic::Lda, Mode::Zpind),
+            0xD2 => op(Mnemonic::Cmp, Mode::Zpind),
+            0xDA => op(Mnemonic::Phx, Mode::Imp),
+            0xF2 => op(Mnemonic::Sbc, Mode::Zpind),
+            0xFA => op(Mnemonic::Plx, Mode::Imp),
+            _ => Mos6502.decode(byte),
+        }
+    }
+
+    fn sibling(&self, op: Op) -> Option<Mode> {
+        match op.mode {
+            Mode::Abs if adds_zp(op.mnemonic) => Some(Mode::Zp),
+            Mode::Absx if adds_zpx(op.mnemonic) => Some(Mode::Zpx),
+            _ => Mos6502.sibling(op),
+        }
+    }
+
+    ghost is_byte = { λ _ b op h. opcode-lt cmos_65sc02 cmos_65sc02-sound b op h };
+
+    ghost inverse = { λ _ b op. encoded-decoded cmos_65sc02 cmos_65sc02-sound b op };
+
+    ghost sizes = { λ _ m x y p q same. written_alike cmos_65sc02 cmos_65sc02-sound m x y p q same };
+}
