@@ -1,5 +1,5 @@
 #!/usr/bin/env bash
-# Lists random images with random ranges, and every example, and assembles each listing with the real ca65 and ld65 of
+# Lists random images with random ranges for each CPU, and every example, and assembles each listing with the real ca65 and ld65 of
 # cc65: the result must be the image. The same seed gives the same images.
 # Usage: tests/ca65.sh PROGRAM [COUNT [SEED]]
 set -u
@@ -76,11 +76,12 @@ make_image() {
     start=$number
 }
 
-# Makes image.info, with ranges that do not overlap, and with labels where the program has them.
+# make_info CPU: makes image.info, with ranges that do not overlap, and with labels where the program has them. No label is
+# named ina, dea, wai or stp, which ca65 takes for mnemonics of the later CPUs.
 make_info() {
     local from length
     local -A named=()
-    printf 'GLOBAL { STARTADDR $%04X; };\n' "$start" >image.info
+    printf 'GLOBAL { STARTADDR $%04X; CPU "%s"; };\n' "$start" "$1" >image.info
     draw 200
     for ((from = start + number; from < start + size; from += length + number)); do
         draw 60
@@ -110,9 +111,10 @@ make_info() {
 
 seed "$first_seed"
 for ((image = 1; image <= count; image++)); do
+    cpu=${cpus[image % ${#cpus[@]}]}
     make_image
-    make_info
-    assembles "image $image of seed $first_seed" "$start" image.bin -i "$work/image.info" "$work/image.bin"
+    make_info "$cpu"
+    assembles "image $image of seed $first_seed for the $cpu" "$start" image.bin -i "$work/image.info" "$work/image.bin"
 done
 
 # attribute NAME FILE: the first value that the information file gives the attribute, as a number or a name.
@@ -129,7 +131,9 @@ for example in "$root"/examples/*.info; do
     assembles "$(basename "$example")" $((${start:-65536 - $(stat -c %s example.bin)})) example.bin -i "$example"
 done
 for example in "$root"/examples/*.bin; do
-    assembles "$(basename "$example")" $((65536 - $(stat -c %s "$example"))) "$example" "$example"
+    for cpu in "${cpus[@]}"; do
+        assembles "$(basename "$example") for the $cpu" $((65536 - $(stat -c %s "$example"))) "$example" --cpu "$cpu" "$example"
+    done
 done
 
 rm -rf "$work"

@@ -51,7 +51,7 @@ help='Usage: da65 [options] [inputfile]\n'
 help+='  -i, --info name          information file\n'
 help+='  -o name                  output file\n'
 help+='  -S, --start-addr addr    start address\n'
-help+='  --cpu type               6502 or 65C02\n'
+help+='  --cpu type               6502, 65SC02 or 65C02\n'
 help+='  --hexoffs                offsets in hexadecimal\n'
 help+='  -h, --help               this text\n'
 help+='  -V, --version            version\n'
@@ -71,6 +71,9 @@ printf 'GLOBAL { STARTADDR $1000; };\nRANGE { START $1000; SIZE 3; TYPE WordTabl
 printf 'GLOBAL { STARTADDR $1000; };\nRANGE { START $1001; END $1001; TYPE Skip; };' >skip.info
 printf 'RANGE { START $1000; END $10FF; TYPE CODE; };\nRANGE { START $10FF; SIZE 2; TYPE SKIP; };' >overlap.info
 printf 'GLOBAL { STARTADDR $1000; };' >settings_start.info
+printf '\x80\xfe' >branch.bin
+printf '\x0f\x12\xfd' >bit.bin
+printf 'GLOBAL { STARTADDR $1000; CPU "65c02"; };' >cpu.info
 mkdir folder
 
 runs 'help' 0 "$help" '' -h
@@ -127,6 +130,11 @@ runs 'an information file that is a folder' 1 '' 'da65: cannot read folder\n' -i
 
 runs 'too many words' 1 '' 'da65: bad arguments\n' three.bin three.bin
 runs 'an option that is not known' 1 '' 'da65: bad arguments\n' -h --frob
+runs 'a CPU by its name in any case' 0 "${header/6502/65SC02}L1000:  bra     L1000\n" '' -S 0x1000 --cpu 65sc02 branch.bin
+runs 'a CPU of the information file' 0 "${header/6502/65C02}L1000:  bbr0    \$12,L1000\n" '' -i cpu.info bit.bin
+runs 'the CPU of the command line wins' 0 "$header        .byte   \$0F\n        .byte   \$12\n        .byte   \$FD\n" '' \
+    -i cpu.info --cpu 6502 bit.bin
+runs 'an unknown CPU' 1 '' 'da65: argument out of range\n' --cpu 65CE02 three.bin
 runs 'a bad number' 1 '' 'da65: bad number\n' --cpu 6809 -S 08 three.bin
 runs 'an argument out of range' 1 '' 'da65: argument out of range\n' -S 65536 three.bin
 runs 'an argument that is no text' 1 '' 'da65: bad arguments\n' "$(printf 'a\xff')"

@@ -1,5 +1,8 @@
 # Numbers that look random and are the same on every machine, for scripts to source.
 
+# The CPUs of the program.
+cpus=(6502 65SC02 65C02)
+
 # seed NUMBER: begins the sequence of this number.
 seed() {
     random_state=$(($1 & 0x7fffffff))

@@ -54,7 +54,9 @@ done
 printf '%b' "$bytes" >mixed.bin
 
 printf '%-44s %12s %12s %8s\n' 'instructions for 64 KiB' 'da65 here' 'cc65' 'ratio'
-compares 'random bytes' -S 0 random.bin
+for cpu in "${cpus[@]}"; do
+    compares "random bytes, $cpu" -S 0 --cpu "$cpu" random.bin
+done
 compares 'nop' -S 0 nop.bin
 compares 'mixed bytes, without ranges' -S 0 mixed.bin
 compares "mixed bytes, $(wc -l <mixed.info) ranges" -S 0 -i mixed.info mixed.bin

@@ -1,5 +1,6 @@
 mod ample;
 mod assembled;
+mod cpus;
 mod devices;
 mod failing;
 mod images;

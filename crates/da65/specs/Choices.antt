@@ -24,7 +24,7 @@ abbrev pub start_choice : Choice
 start_choice = record { id = codes "start"; short = codes "S"; long = codes "start-addr"; value = codes "addr"; purpose = codes "start address" }
 
 abbrev pub cpu_choice : Choice
-cpu_choice = record { id = codes "cpu"; short = none; long = codes "cpu"; value = codes "type"; purpose = codes "6502 or 65C02" }
+cpu_choice = record { id = codes "cpu"; short = none; long = codes "cpu"; value = codes "type"; purpose = codes "6502, 65SC02 or 65C02" }
 
 abbrev pub hexoffs_choice : Choice
 hexoffs_choice = record { id = codes "hexoffs"; short = none; long = codes "hexoffs"; value = none; purpose = codes "offsets in hexadecimal" }

@@ -11,7 +11,7 @@ pub fn help_text() -> &'static str
      -i, --info name          information file\n  \
      -o name                  output file\n  \
      -S, --start-addr addr    start address\n  \
-     --cpu type               6502 or 65C02\n  \
+     --cpu type               6502, 65SC02 or 65C02\n  \
      --hexoffs                offsets in hexadecimal\n  \
      -h, --help               this text\n  \
      -V, --version            version\n"

@@ -70,10 +70,10 @@ fn byte_values_c0_to_ff(rt: HostRuntime) -> Result<(), Fail> {
     byte_values(&rt, rt.alloc(), 0xC0..=0xFF)
 }
 
-/// Mixed bytes, the same at each call.
-fn mixed(alloc: Global, count: usize) -> Result<Vec<u8>, Fail> {
+/// Mixed bytes, the same at each call with this seed.
+pub fn mixed(alloc: Global, seed: u64, count: usize) -> Result<Vec<u8>, Fail> {
     let mut bytes = Vec::new(alloc);
-    let mut state = 1u64;
+    let mut state = seed;
     for _ in 0..count {
         state = state
             .wrapping_mul(6_364_136_223_846_793_005)
@@ -85,12 +85,12 @@ fn mixed(alloc: Global, count: usize) -> Result<Vec<u8>, Fail> {
 
 #[test]
 fn mixed_bytes(rt: HostRuntime) -> Result<(), Fail> {
-    there_and_back(&rt, rt.alloc(), 0, &mixed(rt.alloc(), 65_536)?)
+    there_and_back(&rt, rt.alloc(), 0, &mixed(rt.alloc(), 1, 65_536)?)
 }
 
 /// As many mixed bytes as there are addresses, all of this type.
 fn mixed_bytes_as(rt: &impl Abort, alloc: Global, role: &str) -> Result<(), Fail> {
-    let image = mixed(alloc, 65_536)?;
+    let image = mixed(alloc, 1, 65_536)?;
     let info = format!(in alloc; "RANGE {{ START 0; END $FFFF; TYPE {role}; }}")?;
     let options = named(alloc, Some(0))?;
     let ran = run_with(alloc, alloc, &options, info.as_bytes(), &image);

@@ -65,7 +65,7 @@ fn each_option(rt: HostRuntime) -> Result<(), Fail> {
     let words = [
         "--info=a.info",
         "--start-addr=0xC000",
-        "--cpu=6502",
+        "--cpu=65sc02",
         "--help",
         "--",
         "-V",
@@ -74,12 +74,21 @@ fn each_option(rt: HostRuntime) -> Result<(), Fail> {
     assert_eq!(rt; name(&options.info), Some("a.info"));
     assert_eq!(rt; name(&options.output), None);
     assert_eq!(rt; options.start, Some(0xC000));
-    assert_eq!(rt; options.cpu, Some(Cpu::M6502));
+    assert_eq!(rt; options.cpu, Some(Cpu::M65SC02));
     assert!(rt; options.help && !options.version);
     assert_eq!(rt; name(&options.input), Some("-V"));
 
     let options = options_on(rt.alloc(), &["--version"])??;
     assert!(rt; !options.help && options.version);
+
+    for (text, cpu) in [
+        ("6502", Cpu::M6502),
+        ("65SC02", Cpu::M65SC02),
+        ("65c02", Cpu::M65C02),
+    ] {
+        let options = options_on(rt.alloc(), &["--cpu", text])??;
+        assert_eq!(rt; options.cpu, Some(cpu));
+    }
 
     let options = options_on(rt.alloc(), &[])??;
     assert!(rt; options.info.is_none() && options.input.is_none() && options.output.is_none());
@@ -105,6 +114,7 @@ fn refusals(rt: HostRuntime) -> Result<(), Fail> {
         (UsageFault::OutOfRange, &["-S", "$10000"]),
         (UsageFault::OutOfRange, &["-S", "0200000"]),
         (UsageFault::OutOfRange, &["--cpu", "6809"]),
+        (UsageFault::OutOfRange, &["--cpu", "65CE02"]),
         (UsageFault::OutOfRange, &["--cpu", ""]),
         (UsageFault::Words, &["a.bin", "b.bin"]),
         (UsageFault::Words, &["-o", "x", "-o", "y"]),
@@ -135,7 +145,7 @@ Usage: da65 [options] [inputfile]
   -i, --info name          information file
   -o name                  output file
   -S, --start-addr addr    start address
-  --cpu type               6502 or 65C02
+  --cpu type               6502, 65SC02 or 65C02
   --hexoffs                offsets in hexadecimal
   -h, --help               this text
   -V, --version            version

@@ -113,7 +113,7 @@ const REFUSED: &[(&str, u32, InfoFaultKind)] = &[
         1,
         InfoFaultKind::UnknownAttribute,
     ),
-    ("GLOBAL { CPU \"65C02\"; };", 1, InfoFaultKind::OutOfRange),
+    ("GLOBAL { CPU \"65CE02\"; };", 1, InfoFaultKind::OutOfRange),
 ];
 
 pub fn are_refused(
@@ -242,17 +242,31 @@ fn names_of_the_file(rt: HostRuntime) -> Result<(), Fail> {
 }
 
 #[test]
+fn cpus_of_the_file(rt: HostRuntime) -> Result<(), Fail> {
+    for (text, cpu) in [
+        (b"GLOBAL { CPU \"6502\"; };".as_slice(), Cpu::M6502),
+        (b"GLOBAL { CPU \"65SC02\"; };", Cpu::M65SC02),
+        (b"GLOBAL { CPU \"65sc02\"; };", Cpu::M65SC02),
+        (b"GLOBAL { CPU \"65c02\"; };", Cpu::M65C02),
+    ] {
+        let info = read_info(rt.alloc(), &Options::<Global>::none(), text)?;
+        assert_eq!(rt; info.settings().cpu, cpu);
+    }
+    Ok(())
+}
+
+#[test]
 fn the_command_line_wins(rt: HostRuntime) -> Result<(), Fail> {
     let mut options = named(rt.alloc())?;
     options.start = Some(0x2000);
-    options.cpu = Some(Cpu::M6502);
+    options.cpu = Some(Cpu::M65SC02);
     let info = read_info(
         rt.alloc(),
         &options,
-        b"GLOBAL { STARTADDR 1; CPU \"6502\"; };",
+        b"GLOBAL { STARTADDR 1; CPU \"65C02\"; };",
     )?;
     assert_eq!(rt; info.settings().start, Some(0x2000));
-    assert_eq!(rt; info.settings().cpu, Cpu::M6502);
+    assert_eq!(rt; info.settings().cpu, Cpu::M65SC02);
     assert_eq!(rt; info.settings().input.as_deref(), Some("a.bin"));
     assert_eq!(rt; info.settings().output.as_deref(), Some("c.s"));
     Ok(())

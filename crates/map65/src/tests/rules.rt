@@ -19,8 +19,12 @@ const TYPES: [(RangeType, &str, usize); 8] = [
     (Skip, "SKIP", 1),
 ];
 
-/// Bytes that stand often in the images: jumps, branches, absolute operands, and undefined opcodes.
-const OPCODES: [u8; 8] = [0x4C, 0x20, 0xAD, 0xBD, 0x6C, 0xD0, 0x10, 0x02];
+const CPUS: [Cpu; 3] = [Cpu::M6502, Cpu::M65SC02, Cpu::M65C02];
+
+/// Bytes that stand often in the images: jumps, branches, absolute operands, and opcodes that not each CPU has.
+const OPCODES: [u8; 16] = [
+    0x4C, 0x20, 0xAD, 0xBD, 0x6C, 0xD0, 0x10, 0x02, 0x7C, 0x80, 0x0F, 0xFF, 0x9C, 0xB2, 0x07, 0x3C,
+];
 
 /// Numbers that look random, always the same.
 #[derive(Drop)]
@@ -55,6 +59,7 @@ struct Label {
 /// What the rules are read from.
 #[derive(Drop)]
 struct Ground {
+    cpu: Cpu,
     start: usize,
     bytes: Vec<u8>,
     ranges: Vec<Range>,
@@ -119,7 +124,7 @@ impl Ground {
     /// The length of the item that begins at the address.
     fn size(&self, at: usize) -> usize {
         let wanted = match self.role(at) {
-            Some((Code, _)) => match Cpu::M6502.decode(self.byte(at)) {
+            Some((Code, _)) => match self.cpu.decode(self.byte(at)) {
                 Some(op) => op.mode.len() as usize,
                 None => 1,
             },
@@ -170,7 +175,7 @@ impl Ground {
     }
 
     fn operand(&self, at: usize, len: usize) -> Option<usize> {
-        let op = match Cpu::M6502.decode(self.byte(at)) {
+        let op = match self.cpu.decode(self.byte(at)) {
             Some(op) => op,
             None => return None,
         };
@@ -181,23 +186,23 @@ impl Ground {
         let jumps = op.mnemonic == Mnemonic::Jmp || op.mnemonic == Mnemonic::Jsr;
         match op.mode {
             Mode::Abs if jumps || self.is_inside(word) => Some(word),
-            Mode::Absx | Mode::Absy | Mode::Ind if self.is_inside(word) => Some(word),
-            Mode::Rel => {
-                let ahead = at
-                    .wrapping_add(2)
-                    .wrapping_add(self.byte(at.wrapping_add(1)) as usize);
-                let back = if self.byte(at.wrapping_add(1)) < 128 {
-                    0
-                } else {
-                    256
-                };
-                if back <= ahead && ahead.wrapping_sub(back) < 65_536 {
-                    Some(ahead.wrapping_sub(back))
-                } else {
-                    None
-                }
+            Mode::Absx | Mode::Absy | Mode::Ind | Mode::Absindx if self.is_inside(word) => {
+                Some(word)
             }
+            Mode::Rel | Mode::Zprel => self.branch(at.wrapping_add(len)),
             _ => None,
+        }
+    }
+
+    /// The target of the branch that ends before the address: the signed byte just before it is counted from it.
+    fn branch(&self, next: usize) -> Option<usize> {
+        let byte = self.byte(next.wrapping_sub(1)) as usize;
+        let back = if byte < 128 { 0 } else { 256 };
+        let ahead = next.wrapping_add(byte);
+        if back <= ahead && ahead.wrapping_sub(back) < 65_536 {
+            Some(ahead.wrapping_sub(back))
+        } else {
+            None
         }
     }
 
@@ -276,7 +281,12 @@ impl Ground {
 }
 
 /// A random image of `count` bytes, with ranges and labels in it and beside it.
-fn random_ground(alloc: Global, numbers: &mut Numbers, count: usize) -> Result<Ground, AllocError> {
+fn random_ground(
+    alloc: Global,
+    numbers: &mut Numbers,
+    cpu: Cpu,
+    count: usize,
+) -> Result<Ground, AllocError> {
     let start = if count == 65_536 {
         0
     } else {
@@ -285,7 +295,7 @@ fn random_ground(alloc: Global, numbers: &mut Numbers, count: usize) -> Result<G
     let mut bytes = Vec::new(alloc);
     for _ in 0..count {
         let byte = match numbers.next(2) {
-            0 => byte_in(OPCODES.as_slice(), numbers.next(3)),
+            0 => byte_in(OPCODES.as_slice(), numbers.next(4)),
             1 => ((start / 256).wrapping_add(numbers.next(1)) % 256) as u8,
             _ => (numbers.next(8) % 256) as u8,
         };
@@ -321,6 +331,7 @@ fn random_ground(alloc: Global, numbers: &mut Numbers, count: usize) -> Result<G
         }
     }
     Ok(Ground {
+        cpu,
         start,
         bytes,
         ranges,
@@ -330,7 +341,11 @@ fn random_ground(alloc: Global, numbers: &mut Numbers, count: usize) -> Result<G
 
 /// The information file that says so.
 fn text_of(alloc: Global, ground: &Ground) -> Result<String, Fail> {
-    let mut text = String::new(alloc);
+    let mut text = match ground.cpu {
+        Cpu::M6502 => String::new(alloc),
+        Cpu::M65SC02 => String::from_str(alloc, "GLOBAL { CPU \"65SC02\"; };")?,
+        Cpu::M65C02 => String::from_str(alloc, "GLOBAL { CPU \"65C02\"; };")?,
+    };
     for range in &ground.ranges {
         if let Some((_, word, _)) = TYPES.get(range.kind) {
             text.push_str(format!(in alloc;
@@ -403,8 +418,8 @@ fn random_images(rt: HostRuntime) -> Result<(), Fail> {
     let alloc = rt.alloc();
     let mut numbers = Numbers { state: 65 };
     for count in COUNTS {
-        for _ in 0..4 {
-            let ground = random_ground(alloc, &mut numbers, count)?;
+        for cpu in CPUS {
+            let ground = random_ground(alloc, &mut numbers, cpu, count)?;
             let text = text_of(alloc, &ground)?;
             let info = read_info(alloc, &Options::<Global>::none(), text.as_bytes())?;
             let bytes = Vec::from_slice(alloc, ground.bytes.as_slice())?;

@@ -201,6 +201,82 @@ fn one_line_for_each_fault(rt: HostRuntime) -> Result<(), Fail> {
     Ok(())
 }
 
+/// `.setcpu` holds from its line on, by its text in any case.
+#[test]
+fn forms_by_cpu(rt: HostRuntime) -> Result<(), Fail> {
+    let a = rt.alloc();
+    let rows: [(&str, &[u8]); 9] = [
+        (".setcpu \"65C02\"\nbra $1000\n", &[0x80, 0xFE]),
+        (".setcpu \"65SC02\"\nphx\n", &[0xDA]),
+        (
+            ".setcpu \"65sc02\"\njmp ($2000,x)\nlda ($10)\ninc a\nbit #1\n",
+            &[0x7C, 0x00, 0x20, 0xB2, 0x10, 0x1A, 0x89, 0x01],
+        ),
+        (
+            ".setcpu \"65SC02\"\nstz $12\nstz $0012\nstz a:$12,x\n",
+            &[0x64, 0x12, 0x64, 0x12, 0x9E, 0x12, 0],
+        ),
+        (
+            ".setcpu \"65c02\"\nrmb0 $12\nSMB7 $12\n",
+            &[0x07, 0x12, 0xF7, 0x12],
+        ),
+        (
+            ".setcpu \"65C02\"\nhere: bbr0 $12,here\nbbs7 $FF,$1085\n",
+            &[0x0F, 0x12, 0xFD, 0xFF, 0xFF, 0x7F],
+        ),
+        (
+            "flag := $12\n.setcpu \"65C02\"\nbbr0 flag,$0F83\n",
+            &[0x0F, 0x12, 0x80],
+        ),
+        (
+            ".setcpu \"65C02\"\nphx\n.setcpu \"6502\"\nnop\n",
+            &[0xDA, 0xEA],
+        ),
+        (".setcpu \"65C02\"\n", &[]),
+    ];
+    for (text, bytes) in rows {
+        gives(&rt, a, text, 0x1000, bytes)?;
+    }
+    let faults = [
+        ("bra $1000\n", 1, AsmFaultKind::NoSuchForm),
+        (
+            ".setcpu \"65SC02\"\nbbr0 $12,$1003\n",
+            2,
+            AsmFaultKind::NoSuchForm,
+        ),
+        (
+            ".setcpu \"65C02\"\nphx\n.setcpu \"6502\"\nphx\n",
+            4,
+            AsmFaultKind::NoSuchForm,
+        ),
+        (
+            ".setcpu \"65C02\"\nbbr0 $12,$1084\n",
+            2,
+            AsmFaultKind::OutOfRange,
+        ),
+        (
+            ".setcpu \"65C02\"\nbbr0 $12,$0F82\n",
+            2,
+            AsmFaultKind::OutOfRange,
+        ),
+        (
+            ".setcpu \"65C02\"\nbbr0 $112,$1000\n",
+            2,
+            AsmFaultKind::OutOfRange,
+        ),
+        (
+            ".setcpu \"65C02\"\nlda (v)\nv := $12\n",
+            2,
+            AsmFaultKind::OutOfRange,
+        ),
+        (".setcpu \"65CE02\"\n", 1, AsmFaultKind::UnknownCpu),
+    ];
+    for (text, line, kind) in faults {
+        fails(&rt, a, text, 0x1000, line, kind);
+    }
+    Ok(())
+}
+
 #[test]
 fn lowest_line_then_lowest_fault(rt: HostRuntime) -> Result<(), Fail> {
     let a = rt.alloc();
