@@ -2,11 +2,14 @@
 # `make test` is the merge gate: the built program on real files, its listings through ca65 where ca65 is installed,
 # then every proof from nothing, the edits that must fail, the tests and the stored run.
 # `make speed` compares the program with cc65's da65, which needs cc65 and valgrind.
+# `make install` puts the program and its man page under PREFIX, and `make uninstall` takes them back. DESTDIR stands before both.
 # RTFLAGS goes to the prover, as in `make RTFLAGS="--jobs 1"`.
 RTFLAGS ?=
+PREFIX ?= /usr/local
+DESTDIR ?=
 SHELL := bash
 .SHELLFLAGS := -eu -o pipefail -c
-.PHONY: all test speed clean
+.PHONY: all test speed install uninstall clean
 
 all: bin/da65
 	bin/da65 examples/three.bin
@@ -27,6 +30,13 @@ test: bin/da65
 
 speed: bin/da65
 	tests/speed.sh bin/da65
+
+install: bin/da65
+	install -D -m 755 bin/da65 '$(DESTDIR)$(PREFIX)/bin/da65'
+	install -D -m 644 docs/da65.1 '$(DESTDIR)$(PREFIX)/share/man/man1/da65.1'
+
+uninstall:
+	rm -f '$(DESTDIR)$(PREFIX)/bin/da65' '$(DESTDIR)$(PREFIX)/share/man/man1/da65.1'
 
 clean:
 	rm -rf bin crates/*/out
