@@ -1,6 +1,7 @@
 #!/usr/bin/env bash
-# Lists random images with random ranges for each CPU, and every example, and assembles each listing with the real ca65 and ld65 of
-# cc65: the result must be the image. The same seed gives the same images.
+# Lists random images of each CPU with random ranges, names, segments, comments and columns, and every example, and assembles
+# each listing with the real ca65 and ld65 of cc65: the result must be the image. The same seed gives the same images.
+# Left out, since ca65 treats them in its own way: a segment named ZEROPAGE, and a byte $FF in a comment.
 # Usage: tests/ca65.sh PROGRAM [COUNT [SEED]]
 set -u
 program=$(realpath "$1")
@@ -22,15 +23,43 @@ fails() {
     exit 1
 }
 
-# assembles NAME START IMAGE WORD..: the program on the words lists the image, and the listing assembles to it.
+# The segments of a listing on standard input, one a line, in the order in which they are entered with a statement. A
+# segment that is entered again comes again. Without an argument; with `renamed` it prints the listing instead, in which
+# each segment line leads to a segment of its own.
+segments() {
+    LC_ALL=C awk -v mode="${1-}" '
+        BEGIN { current = "CODE" }
+        $1 == ".segment" || $0 ~ /^ *\.code$/ {
+            current = $1 == ".code" ? "CODE" : substr($2, 2, length($2) - 2)
+            entered = 0
+            if (mode) { current = "stretch_" ++count; print " .segment \"" current "\""; next }
+        }
+        mode { print; next }
+        $1 == ".segment" || $1 == ".code" || $1 == ".setcpu" || $1 == "" || $1 ~ /^;/ || $2 == ":=" { next }
+        !entered { print current; entered = 1 }'
+}
+
+again='da65: warning: a segment is entered again'
+
+# warns NAME: the messages are the warning of a segment that is entered again, exactly if the listing has one. ld65 puts
+# the stretches of one segment together, so that each then gets a name of its own.
+warns() {
+    local expected=
+    [ -z "$(segments <listing.s | sort | uniq -d)" ] || expected=$again
+    [ "$(cat messages)" = "$expected" ] || fails "$1" "messages: $(cat messages)"
+    [ -z "$expected" ] || { segments renamed <listing.s >renamed.s && mv renamed.s listing.s; }
+}
+
+# assembles NAME START IMAGE WORD..: the program on the words lists the image, and the listing assembles to it, where one
+# memory area takes the segments in the order of the listing.
 assembles() {
     local name=$1 start=$2 image=$3
     shift 3
     rm -f listing.s listing.o listing.out
     (cd "$root" && "$program" "$@" -o "$work/listing.s") 2>messages || fails "$name" "$(cat messages)"
-    [ ! -s messages ] || fails "$name" "$(cat messages)"
-    printf 'MEMORY { MAIN: start = $%04X, size = $%X, file = %%O; }\nSEGMENTS { CODE: load = MAIN, type = ro; }\n' \
-        "$start" "$(stat -c %s "$image")" >listing.cfg
+    warns "$name"
+    printf 'MEMORY { MAIN: start = $%04X, size = $%X, file = %%O; }\n' "$start" "$(stat -c %s "$image")" >listing.cfg
+    printf 'SEGMENTS {\n%s\n}\n' "$(segments <listing.s | sed 's/.*/    &: load = MAIN, type = ro;/')" >>listing.cfg
     ca65 --relax-checks -o listing.o listing.s 2>messages || fails "$name" "ca65: $(head -3 messages)"
     ld65 -C listing.cfg -o listing.out listing.o 2>messages || fails "$name" "ld65: $(head -3 messages)"
     cmp listing.out "$image" >messages 2>&1 || fails "$name" "$(cat messages)"
@@ -50,6 +79,9 @@ for type in ADDRTABLE RTSTABLE DWORDTABLE; do
 done
 has_labels=no
 takes 'LABEL { ADDR $1000; NAME "probe"; };' && has_labels=yes
+has_segments=no
+takes 'SEGMENT { START $1000; END $1000; NAME "probe"; };' && has_segments=yes
+names=(CODE DATA BSS RODATA lda A s0 s1 s2 s3 s4 s5)
 
 # Makes image.bin, of stretches of random bytes, of printable ones and of one byte, and sets start and size.
 make_image() {
@@ -105,8 +137,62 @@ make_info() {
         draw 3
         [ -z "${named[$from]-}" ] && [ $((from + number)) -le 65535 ] || continue
         named[$from]=yes
-        printf 'LABEL { ADDR $%04X; NAME "n_%04x"; SIZE %d; };\n' "$from" "$from" $((number + 1)) >>image.info
+        printf 'LABEL { ADDR $%04X; NAME "n_%04x"; SIZE %d;' "$from" "$from" $((number + 1)) >>image.info
+        [ "$has_segments" = yes ] && draw_comment
+        printf ' };\n' >>image.info
     done
+    [ "$has_segments" = yes ] && { make_segments; make_layout; }
+}
+
+# Gives a label a comment, of bytes that can stand in one, but not $FF.
+draw_comment() {
+    local length byte text=
+    draw 40
+    for ((length = number; length > 0; length--)); do
+        draw 223
+        byte=$((number + 32))
+        [ $byte = 34 ] || [ $byte = 127 ] && byte=9
+        printf -v byte '\\x%02x' $byte
+        text+=$byte
+    done
+    printf ' COMMENT "%b";' "$text" >>image.info
+}
+
+# Adds segments to image.info. In every other image each has a name of its own, and the last one reaches to the end of the
+# image, so that none is entered again.
+make_segments() {
+    local from last end=$((start + size)) k=0 apart
+    draw 2
+    apart=$number
+    draw "$size"
+    for ((from = start + number; from < end && k < 30; from = last + 1, k++)); do
+        draw 300
+        last=$((from + number))
+        if [ $apart = 1 ]; then
+            [ $last -lt $end ] && [ $k -lt 29 ] || last=$((end - 1))
+            printf 'SEGMENT { START $%04X; END $%04X; NAME "t%d"; };\n' "$from" "$last" $k >>image.info
+        else
+            [ $last -le 65535 ] || last=65535
+            draw ${#names[@]}
+            printf 'SEGMENT { START $%04X; END $%04X; NAME "%s"; };\n' "$from" "$last" "${names[number]}" >>image.info
+            draw 50
+            [ $((number % 2)) = 0 ] && number=0
+            last=$((last + number))
+        fi
+    done
+}
+
+# Adds a random comment level and random columns to image.info.
+make_layout() {
+    local column
+    draw 5
+    printf 'GLOBAL { COMMENTS %d;' $number >>image.info
+    for column in MNEMONIC ARGUMENT COMMENT TEXT; do
+        draw 240
+        [ $number -lt 120 ] && printf ' %sCOLUMN %d;' $column $((number + 1)) >>image.info
+    done
+    draw 121
+    printf ' LABELBREAK %d; NEWLINEAFTERJMP on; NEWLINEAFTERRTS on; };\n' $number >>image.info
 }
 
 seed "$first_seed"

@@ -52,6 +52,12 @@ help+='  -i, --info name          information file\n'
 help+='  -o name                  output file\n'
 help+='  -S, --start-addr addr    start address\n'
 help+='  --cpu type               6502, 65SC02 or 65C02\n'
+help+='  --comments n             comment level, 0 to 4\n'
+help+='  --mnemonic-column n      column of mnemonics\n'
+help+='  --argument-column n      column of operands\n'
+help+='  --comment-column n       column of remarks\n'
+help+='  --text-column n          column of characters\n'
+help+='  --label-break n          longest label before a line break\n'
 help+='  --hexoffs                offsets in hexadecimal\n'
 help+='  -h, --help               this text\n'
 help+='  -V, --version            version\n'
@@ -100,6 +106,16 @@ hello+='        bne     LF002\n        rts\nmessage: .byte  "SAY ",$22,"HI",$22,
 hello+='        .word   $1234\n        .dbyt   $1234,$5678\n        .byte   $01,$02,$03,$04,$05,$06,$07,$08\n        .byte   $09,$0A\n'
 (cd "$root" && "$program" -i examples/hello.info -o "$work/hello.s") || fails 'the example with tables and names' 'status'
 holds 'the example with tables and names' hello.s "$hello"
+separator="; $(printf -- '-%.0s' {1..76})\n"
+printf 'GLOBAL { STARTADDR $1000; COMMENTS 4; TEXTCOLUMN 60; };\nSEGMENT { START $1001; END $1001; NAME "DATA"; };' >data.info
+runs 'a segment that is entered again' 0 \
+    "$header        .byte   \$A9\n        .segment \"DATA\"\n        .byte   \$01\n        .code\n        rts\n" \
+    'da65: warning: a segment is entered again\n' --comments 0 -i data.info three.bin
+body="$separator  .byte \$A9           ; 1000 A9                    .\n"
+body+="$separator  .segment \"DATA\"\n  .byte \$01           ; 1001 01                    .\n"
+body+="$separator  .code\n  rts                 ; 1002 60                    \`\n"
+runs 'remarks and columns' 0 "; da65 listing\n\n  .setcpu \"6502\"\n\n$body" 'da65: warning: a segment is entered again\n' \
+    --mnemonic-column 3 --argument-column 9 --comment-column 23 --text-column 52 -i data.info three.bin
 runs 'ranges that overlap' 1 '' 'da65: info:2: ranges overlap\n' -i overlap.info -o new.s three.bin
 is_absent 'ranges that overlap' new.s
 
@@ -137,6 +153,9 @@ runs 'the CPU of the command line wins' 0 "$header        .byte   \$0F\n        
 runs 'an unknown CPU' 1 '' 'da65: argument out of range\n' --cpu 65CE02 three.bin
 runs 'a bad number' 1 '' 'da65: bad number\n' --cpu 6809 -S 08 three.bin
 runs 'an argument out of range' 1 '' 'da65: argument out of range\n' -S 65536 three.bin
+runs 'a comment level out of range' 1 '' 'da65: argument out of range\n' --comments 5 three.bin
+runs 'columns begin with 1' 1 '' 'da65: argument out of range\n' --text-column 0 three.bin
+runs 'a column that is no decimal number' 1 '' 'da65: bad number\n' --comment-column 0x20 three.bin
 runs 'an argument that is no text' 1 '' 'da65: bad arguments\n' "$(printf 'a\xff')"
 
 "$program" /dev/stdin <three.bin >stdout 2>stderr || fails 'standard input' 'status'

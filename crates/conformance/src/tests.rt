@@ -11,4 +11,5 @@ mod refusals;
 mod refused;
 mod rows;
 mod runs;
+mod segments;
 mod settings;

@@ -198,7 +198,7 @@ pub begins-true : (m : MapView) (k : ℕ) → k < length m.image.bytes → is_sk
 begins-true m k low shown none =
     begins-index m k ∙ and_from _ _ (inside-index m k low) (and_from _ _ (ap not shown) (eq-eqb (left_at (stride_at m) m.image.start k) 0 none))
 
-begins-skip : (m : MapView) (k : ℕ) → k < length m.image.bytes → is_skip (role_of m.info (m.image.start + k)) ≡ true → begins m (m.image.start + k) ≡ false
+pub begins-skip : (m : MapView) (k : ℕ) → k < length m.image.bytes → is_skip (role_of m.info (m.image.start + k)) ≡ true → begins m (m.image.start + k) ≡ false
 begins-skip m k low skip = begins-index m k ∙ rw (inside-index m k low, skip) refl
 
 pub begins-inside : (m : MapView) (k : ℕ) → k < length m.image.bytes → left_at (stride_at m) m.image.start k ≢ 0 → begins m (m.image.start + k) ≡ false

@@ -35,57 +35,50 @@ label_read (view.addr t) None h = refl
 label_read (view.addr t) (Some name) h = refl
 label_read (view.rts t) None h = refl
 label_read (view.rts t) (Some name) h = refl
-label_read (view.label name) label h = absurd h
-label_read (view.assignment name n) label h = absurd h
-label_read (view.forward name n) label h = absurd h
-label_read (view.segment name) label h = absurd h
-label_read view.code label h = absurd h
-label_read (view.set_cpu cpu) label h = absurd h
-label_read view.blank label h = absurd h
-label_read (view.remark text) label h = absurd h
+label_read _ label h = absurd cc
 
 pub item_takes : (m : Names) (t : Table) (a : ℕ) (bytes : List ℕ) → TakesLabel (statement_in m t a bytes)
 unfolding statement_in
 item_takes m t a bytes = go (instruction_in t bytes)
   where
     with_operands : (op : Op) (o : Option OperandsView) → TakesLabel (written t op bytes o)
-    with_operands op None = tt
-    with_operands op (Some os) = tt
+    with_operands op None = refl
+    with_operands op (Some os) = refl
 
     go : (o : Option Op) → TakesLabel (statement_of m t a bytes o)
-    go None = tt
+    go None = refl
     go (Some op) = with_operands op (operands_of m op.mode a bytes)
 
 either_takes : (whole : StatementView) (bytes : List ℕ) → TakesLabel whole → TakesLabel (words_or_byte whole bytes)
-either_takes whole bytes h = cond_both (nat_lt (length bytes) 2) (view.bytes bytes) whole TakesLabel (λ _. tt) (λ _. h)
+either_takes whole bytes h = cond_both (nat_lt (length bytes) 2) (view.bytes bytes) whole TakesLabel (λ _. refl) (λ _. h)
 
 address_takes : (m : Names) (bytes : List ℕ) → TakesLabel (address_entry m bytes)
 unfolding address_entry
 address_takes m bytes = go (m.base_at (entry_of bytes))
   where
     go : (o : Option Base) → TakesLabel (addr_from bytes (entry_of bytes) o)
-    go None = tt
-    go (Some b) = tt
+    go None = refl
+    go (Some b) = refl
 
 return_takes : (m : Names) (bytes : List ℕ) → TakesLabel (return_entry m bytes)
 unfolding return_entry
 return_takes m bytes = to (return_target (entry_of bytes))
   where
     from : (a : ℕ) (o : Option Base) → TakesLabel (rts_from bytes a o)
-    from a None = tt
-    from a (Some b) = tt
+    from a None = refl
+    from a (Some b) = refl
 
     to : (o : Option ℕ) → TakesLabel (rts_to m bytes o)
-    to None = tt
+    to None = refl
     to (Some a) = from a (m.base_at a)
 
 pub group_takes : (m : Names) (t : Table) (r : RangeType) (a : ℕ) (bytes : List ℕ) → is_skip r ≡ false → TakesLabel (statement_for m t r a bytes)
 unfolding statement_for
 group_takes m t role.Code a bytes h = item_takes m t a bytes
-group_takes m t role.ByteTable a bytes h = tt
-group_takes m t role.WordTable a bytes h = either_takes (view.words bytes) bytes tt
-group_takes m t role.DbyteTable a bytes h = either_takes (view.dbyts bytes) bytes tt
+group_takes m t role.ByteTable a bytes h = refl
+group_takes m t role.WordTable a bytes h = either_takes (view.words bytes) bytes refl
+group_takes m t role.DbyteTable a bytes h = either_takes (view.dbyts bytes) bytes refl
 group_takes m t role.AddrTable a bytes h = either_takes (address_entry m bytes) bytes (address_takes m bytes)
 group_takes m t role.RtsTable a bytes h = either_takes (return_entry m bytes) bytes (return_takes m bytes)
-group_takes m t role.TextTable a bytes h = tt
+group_takes m t role.TextTable a bytes h = refl
 group_takes m t role.Skip a bytes h = absurd cc

@@ -3,6 +3,9 @@ pub mod RoleLemmas
 pub mod GroupLemmas
 pub mod StepLemmas
 pub mod ShapeLemmas
+pub mod SegmentLemmas
+pub mod CommentLemmas
+pub mod MarkLemmas
 pub mod NextLemmas
 pub mod BaseLemmas
 pub mod BareLemmas
@@ -44,3 +47,4 @@ pub mod GroupBlocks
 pub mod WholeBlock
 pub mod MapListing
 pub mod NameTexts
+pub mod EnteringLemmas

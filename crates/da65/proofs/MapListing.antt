@@ -1,14 +1,16 @@
 -- The listing of a map in terms of its names and groups.
 use Rattle.std.proofs.Common.{◌≡◌, ◌∙◌, ℕ, ◌+◌, ◌-◌, ◌<◌, Bool, true, false, cond, not, List, [], ◌∷◌, ◌++◌, length, map, Option, Some, None, refl, sym, ap, arith}
 use Rattle.std.specs.List.{filter, flat_map}
-use Rattle.std.proofs.lemmas.List.{append-nil, map-append}
+use Rattle.std.proofs.lemmas.Bool.{cond_both}
+use Rattle.std.proofs.lemmas.List.{map-append}
 use Rattle.std.proofs.lemmas.Simd.{map-map}
 use Rattle.isa65.specs.Cpu.{cpu_text}
 use Rattle.info65.specs.Names as given
-use Rattle.stmt65.specs.Columns.{default_columns, fits_label}
+use Rattle.stmt65.specs.Columns.{fits_label}
+use Rattle.stmt65.specs.declared.columns.Columns.{Columns}
 use Rattle.stmt65.specs.Views as view
 use Rattle.stmt65.specs.Views.{StatementView}
-use Rattle.stmt65.specs.SourceLine.{Nothing, SetCpu, SourceLine, Assignment, PlaceAssignment, Statement}
+use Rattle.stmt65.specs.SourceLine.{Nothing, Operation, SetCpu, SourceLine, Assignment, PlaceAssignment, Statement}
 use Rattle.stmt65.specs.Printable.{TakesLabel}
 use Rattle.stmt65.specs.Printed.{source_line, with_label}
 use Rattle.stmt65.specs.Meaning.{meaning_of, operation_in}
@@ -17,14 +19,17 @@ use Rattle.map65.specs.MapView.{MapView, opcodes}
 use Rattle.map65.specs.Roles.{is_skip, role_of}
 use Rattle.map65.specs.Spans.{addresses}
 use Rattle.da65.specs.BaseNames.{Names, base_name, is_base, names_of}
-use Rattle.da65.specs.Groups.{IsGroupPlace, begins, group_addresses, group_len, skips, stride_at}
-use Rattle.da65.specs.Listing.{ListingLine, constant_lines, constants, forward_lines, forwards, group_lines, has_constant_line, label_at, labelled, listing, listing_below, plain, statement_lines, with_empty_line}
+use Rattle.da65.specs.Comments.{comment_at}
+use Rattle.da65.specs.Groups.{IsGroupPlace, begins, group_addresses, group_bytes, group_len, skips, stride_at}
+use Rattle.da65.specs.Listing.{ListingLine, assignment_line, comment_line, comment_lines, comments, constant_lines, constants, ending_lines, forward_lines, forwards, group_line, group_lines, has_constant_line, has_empty_line, label_at, labelled, listing, listing_below, opening_lines, plain, segment_lines, separator, separator_lines, statement_lines, with_empty_line}
 use Rattle.da65.specs.ReassemblyLaw.{ListingGivesImage, NamesAreDefinedOnce, readings_of}
+use Rattle.da65.specs.Segments.{is_same_segment, segment_at, segment_before, segment_statement}
 use Rattle.da65.specs.Statements.{statement_at}
+use Rattle.da65.specs.Style.{style_of}
 use Rattle.da65.proofs.GroupLemmas.{GroupBegins, begins-inside, begins-true, first_place, group-begun, group-some, left-within, place-next, place-of, stride-group}
 use Rattle.da65.proofs.LabelLaws.{group_takes, label_read}
 use Rattle.da65.proofs.MapNames.{names_are_sound, none-skipped}
-use Rattle.da65.proofs.Readings.{AreGroups, CanBeListed, Groups, IsGroupAt, Layout, line, lines}
+use Rattle.da65.proofs.Readings.{AreGroups, AreQuiet, CanBeListed, Groups, IsGroupAt, Layout, is_quiet, line, lines}
 use Rattle.da65.proofs.Readings as named
 use Rattle.da65.proofs.WholeBlock.{whole_block}
 use Rattle.da65.proofs.ShapeLemmas.{groups_are_groups}
@@ -76,15 +81,80 @@ module _ (m : MapView) (none : skips m ≡ false) where
 abbrev said : ListingLine → SourceLine
 said l = with_label l.label (source_line l.statement)
 
--- no other lines; a label that has no room stands alone
+-- what a line says that says nothing of names and bytes
+abbrev quiet : ListingLine → Operation
+quiet l = operation_in (source_line l.statement)
+
+record IsQuietLine (l : ListingLine) : Type 0 where
+  says : said l ≡ line (quiet l)
+  is : is_quiet (quiet l) ≡ true
+
+abbrev AreQuietLines : List ListingLine → Type 0
+AreQuietLines [] = Unit {0}
+AreQuietLines (l ∷ ls) = IsQuietLine l × AreQuietLines ls
+
+quiet-said : (ls : List ListingLine) → AreQuietLines ls → map said ls ≡ lines (map quiet ls)
+quiet-said [] h = refl
+quiet-said (l ∷ ls) h = ap (λ (x : SourceLine). x ∷ map said ls) h.0.says ∙ ap (λ (xs : List SourceLine). line (quiet l) ∷ xs) (quiet-said ls h.1)
+
+quiet-operations : (ls : List ListingLine) → AreQuietLines ls → AreQuiet (map quiet ls)
+quiet-operations [] h = tt
+quiet-operations (l ∷ ls) h = (h.0.is, quiet-operations ls h.1)
+
+quiet-append : (xs ys : List ListingLine) → AreQuietLines xs → AreQuietLines ys → AreQuietLines (xs ++ ys)
+quiet-append [] ys h g = g
+quiet-append (x ∷ xs) ys h g = (h.0, quiet-append xs ys h.1 g)
+
+quiet-flat : (f : ℕ → List ListingLine) → ((a : ℕ) → AreQuietLines (f a)) → (xs : List ℕ) → AreQuietLines (flat_map f xs)
+quiet-flat f h [] = tt
+quiet-flat f h (x ∷ xs) = quiet-append (f x) (flat_map f xs) (h x) (quiet-flat f h xs)
+
+quiet-remark : (text : List ℕ) → IsQuietLine (plain (view.remark text))
+quiet-remark text = record { says = refl; is = refl }
+
+comment-quiet : (m : MapView) (a : ℕ) → AreQuietLines (comment_lines m a)
+unfolding comment_lines
+comment-quiet m a = go (comment_at m a)
+  where
+    go : (o : Option (List ℕ)) → AreQuietLines (comment_line o)
+    go None = tt
+    go (Some text) = (quiet-remark text, tt)
+
+comments-quiet : (m : MapView) (n a : ℕ) → AreQuietLines (comments m n a)
+unfolding comments
+comments-quiet m n a = quiet-flat (comment_lines m) (comment-quiet m) (addresses n a)
+
+separator-quiet : (m : MapView) (a : ℕ) → AreQuietLines (separator_lines m a)
+unfolding separator_lines separator
+separator-quiet m a = cond_both _ (plain separator ∷ []) [] AreQuietLines (λ _. (record { says = refl; is = refl }, tt)) (λ _. tt)
+
+segment-quiet : (m : MapView) (a : ℕ) → AreQuietLines (segment_lines m a)
+unfolding segment_lines
+segment-quiet m a = cond_both (is_same_segment (segment_at m a) (segment_before m (a - m.image.start))) [] (plain (segment_statement (segment_at m a)) ∷ []) AreQuietLines (λ _. tt) (λ _. (go (segment_at m a), tt))
+  where
+    go : (o : Option (List ℕ)) → IsQuietLine (plain (segment_statement o))
+    go None = record { says = refl; is = refl }
+    go (Some name) = record { says = refl; is = refl }
+
+opening-quiet : (m : MapView) (a : ℕ) → AreQuietLines (opening_lines m a)
+unfolding opening_lines
+opening-quiet m a =
+    quiet-append (separator_lines m a) (segment_lines m a ++ comments m (group_len m a) a) (separator-quiet m a)
+    (quiet-append (segment_lines m a) (comments m (group_len m a) a) (segment-quiet m a) (comments-quiet m (group_len m a) a))
+
+ending-quiet : (m : MapView) (a : ℕ) → AreQuietLines (ending_lines m a)
+unfolding ending_lines
+ending-quiet m a = cond_both (has_empty_line (style_of m.info.settings) (statement_at m a)) (plain view.blank ∷ []) [] AreQuietLines (λ _. (record { says = refl; is = refl }, tt)) (λ _. tt)
+
+-- the other lines, and which labels have no room and stand alone
 abbrev pub layout_of : MapView → Layout
 layout_of m = record {
   before_cpu = Nothing ∷ Nothing ∷ [];
   after_cpu = Nothing ∷ [];
-  before_constant = λ v. [];
-  before = λ a. [];
-  after = λ a. [];
-  is_alone = λ a. not (fits_label default_columns (base_name (names_of m) a));
+  before_constant = λ v. map quiet (comment_lines m v);
+  before = λ a. map quiet (opening_lines m a);
+  after = λ a. map quiet (ending_lines m a);
+  is_alone = λ a. not (fits_label (style_of m.info.settings).columns (base_name (names_of m) a));
 }
 
 flat-said : (f : ℕ → List ListingLine) (g : ℕ → List SourceLine) → ((a : ℕ) → map said (f a) ≡ g a) → (xs : List ℕ) → map said (flat_map f xs) ≡ flat_map g xs
@@ -101,15 +171,17 @@ flat-filtered f g p same (x ∷ xs) = go (p x) refl (flat-filtered f g p same xs
         ∙ ap (λ (front : List SourceLine). front ++ map said (flat_map f (filter p xs))) (same x e) ∙ ap (λ (rest : List SourceLine). g x ++ rest) others
     go false e others = others
 
-constants-said : (m : MapView) (n v : ℕ) → map said (constants (names_of m) n v) ≡ named.constants (layout_of m) (names_of m) n v
+constants-said : (m : MapView) (n v : ℕ) → map said (constants m n v) ≡ named.constants (layout_of m) (names_of m) n v
 unfolding constants constant_lines named.constants named.constant_lines
-constants-said m n v = flat-said (constant_lines (names_of m)) (named.constant_lines (layout_of m) (names_of m)) one (addresses n v)
+constants-said m n v = flat-said (constant_lines m) (named.constant_lines (layout_of m) (names_of m)) one (addresses n v)
   where
-    one : (v : ℕ) → map said (constant_lines (names_of m) v) ≡ named.constant_lines (layout_of m) (names_of m) v
+    one : (v : ℕ) → map said (constant_lines m v) ≡ named.constant_lines (layout_of m) (names_of m) v
     one v = go (has_constant_line (names_of m) v)
       where
-        go : (t : Bool) → map said (cond t (plain (view.assignment (base_name (names_of m) v) v) ∷ []) []) ≡ cond t (Assignment (base_name (names_of m) v) v ∷ []) []
-        go true = refl
+        go : (t : Bool) → map said (cond t (comment_lines m v ++ assignment_line (names_of m) v ∷ []) []) ≡ cond t (lines (map quiet (comment_lines m v)) ++ Assignment (base_name (names_of m) v) v ∷ []) []
+        go true =
+            map-append said (comment_lines m v) (assignment_line (names_of m) v ∷ [])
+            ∙ ap (λ (front : List SourceLine). front ++ Assignment (base_name (names_of m) v) v ∷ []) (quiet-said (comment_lines m v) (comment-quiet m v))
         go false = refl
 
 empty-said : (ls : List ListingLine) → map said (with_empty_line ls) ≡ named.with_empty_line (map said ls)
@@ -129,16 +201,16 @@ forwards-said m first n v = flat-said (forward_lines m first) (named.forward_lin
         go false = refl
 
 -- a label and a statement, by the place that the label has
-labelled-said : (label : Option (List ℕ)) (s : StatementView) (name : List ℕ) → TakesLabel s → ((other : List ℕ) → label ≡ Some other → other ≡ name)
-    → map said (labelled default_columns label s) ≡ named.labelled (not (fits_label default_columns name)) label (operation_in (source_line s))
-labelled-said None s name takes same = go (not (fits_label default_columns name))
+labelled-said : (c : Columns) (label : Option (List ℕ)) (s : StatementView) (a : ℕ) (bytes name : List ℕ) → TakesLabel s → ((other : List ℕ) → label ≡ Some other → other ≡ name)
+    → map said (labelled c label s a bytes) ≡ named.labelled (not (fits_label c name)) label (operation_in (source_line s))
+labelled-said c None s a bytes name takes same = go (not (fits_label c name))
   where
-    go : (t : Bool) → map said (plain s ∷ []) ≡ named.labelled t None (operation_in (source_line s))
+    go : (t : Bool) → map said (group_line None s a bytes ∷ []) ≡ named.labelled t None (operation_in (source_line s))
     go true = ap (λ (x : SourceLine). x ∷ []) (label_read s None takes)
     go false = ap (λ (x : SourceLine). x ∷ []) (label_read s None takes)
-labelled-said (Some other) s name takes same = rw (same other refl) (go (fits_label default_columns name))
+labelled-said c (Some other) s a bytes name takes same = rw (same other refl) (go (fits_label c name))
   where
-    go : (t : Bool) → map said (cond t (record { label = Some name; statement = s } ∷ []) (plain (view.label name) ∷ plain s ∷ [])) ≡ named.labelled (not t) (Some name) (operation_in (source_line s))
+    go : (t : Bool) → map said (cond t (group_line (Some name) s a bytes ∷ []) (plain (view.label name) ∷ group_line None s a bytes ∷ [])) ≡ named.labelled (not t) (Some name) (operation_in (source_line s))
     go true = ap (λ (x : SourceLine). x ∷ []) (label_read s (Some name) takes)
     go false = ap (λ (x : SourceLine). Statement (Some name) Nothing ∷ x ∷ []) (label_read s None takes)
 
@@ -153,15 +225,25 @@ group-said : (m : MapView) (a : ℕ) → begins m a ≡ true → map said (group
 unfolding group_lines statement_lines named.group_lines
 group-said m a is =
     let names : Names = names_of m in
+    let c : Columns = (style_of m.info.settings).columns in
     let known : GroupBegins m a = group-begun m a is in
+    let opening : List ListingLine = opening_lines m a in
     let front : List ListingLine = forwards names a (group_len m a - 1) (a + 1) in
-    let back : List ListingLine = labelled default_columns (label_at names a) (statement_at m a) in
-    let back' : List SourceLine = named.labelled (not (fits_label default_columns (base_name names a))) (label_at names a) (operation_in (source_line (statement_at m a))) in
+    let back : List ListingLine = labelled c (label_at names a) (statement_at m a) a (group_bytes m a) in
+    let ending : List ListingLine = ending_lines m a in
+    let opening' : List SourceLine = lines (map quiet opening) in
+    let front' : List SourceLine = named.forwards names a (group_len m a - 1) (a + 1) in
+    let back' : List SourceLine = named.labelled (not (fits_label c (base_name names a))) (label_at names a) (operation_in (source_line (statement_at m a))) in
     let takes : TakesLabel (statement_at m a) = group_takes names (opcodes m) (role_of m.info a) a _ known.shown in
-    map-append said front back
-    ∙ ap (λ (ls : List SourceLine). ls ++ map said back) (forwards-said names a (group_len m a - 1) (a + 1))
-    ∙ ap (λ (ls : List SourceLine). named.forwards names a (group_len m a - 1) (a + 1) ++ ls)
-    (labelled-said (label_at names a) (statement_at m a) (base_name names a) takes (label-name names a) ∙ sym (append-nil back'))
+    map-append said opening (front ++ (back ++ ending))
+    ∙ ap (λ (ls : List SourceLine). ls ++ map said (front ++ (back ++ ending))) (quiet-said opening (opening-quiet m a))
+    ∙ ap (λ (ls : List SourceLine). opening' ++ ls)
+    (map-append said front (back ++ ending)
+    ∙ ap (λ (ls : List SourceLine). ls ++ map said (back ++ ending)) (forwards-said names a (group_len m a - 1) (a + 1))
+    ∙ ap (λ (ls : List SourceLine). front' ++ ls)
+    (map-append said back ending
+    ∙ ap (λ (ls : List SourceLine). ls ++ map said ending) (labelled-said c (label_at names a) (statement_at m a) a (group_bytes m a) (base_name names a) takes (label-name names a))
+    ∙ ap (λ (ls : List SourceLine). back' ++ ls) (quiet-said ending (ending-quiet m a))))
 
 groups-said : (m : MapView) → map said (flat_map (group_lines m) (group_addresses m)) ≡ named.groups_in (layout_of m) (names_of m) (opcodes m) m.image (groups_of m) (length m.image.bytes) m.image.start
 unfolding group_addresses named.groups_in
@@ -170,7 +252,7 @@ groups-said m = flat-filtered (group_lines m) (named.group_lines (layout_of m) (
 below-said : (limit : ℕ) (m : MapView) → map said (listing_below limit m) ≡ named.listing_below limit (layout_of m) m.info.settings.cpu (names_of m) m.image (groups_of m)
 unfolding listing_below named.listing_below
 below-said limit m =
-    let cs : List ListingLine = constants (names_of m) limit 0 in
+    let cs : List ListingLine = constants m limit 0 in
     let gs : List ListingLine = flat_map (group_lines m) (group_addresses m) in
     let header : List SourceLine → List SourceLine = λ rest. line Nothing ∷ line Nothing ∷ line (SetCpu (cpu_text m.info.settings.cpu)) ∷ line Nothing ∷ rest in
     ap header
@@ -187,7 +269,7 @@ readings-are m = sym (map-map (λ (x : SourceLine). Some x) said (listing_below 
 
 can_be_listed : (m : MapView) → IsPlaced m.image → AreBytes m.image.bytes → given.AreNames m.info.names → skips m ≡ false → CanBeListed (layout_of m) m.info.settings.cpu (names_of m) m.image (groups_of m)
 can_be_listed m placed are names none = record {
-  layout = record { before_cpu = (refl, (refl, tt)); after_cpu = (refl, tt); before_constant = λ v. tt; before = λ a. tt; after = λ a. tt };
+  layout = record { before_cpu = (refl, (refl, tt)); after_cpu = (refl, tt); before_constant = λ v. quiet-operations (comment_lines m v) (comment-quiet m v); before = λ a. quiet-operations (opening_lines m a) (opening-quiet m a); after = λ a. quiet-operations (ending_lines m a) (ending-quiet m a) };
   placed = placed;
   bytes = are;
   names = names_are_sound m placed are names none;

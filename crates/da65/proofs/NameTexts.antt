@@ -24,7 +24,7 @@ pub record IsNameText (text : List ℕ) : Type 0 where
   pub name : is_name text ≡ true
   pub long : IsNameLong text
 
-text-long : (text : List ℕ) → has_name_form text ≡ true → IsNameLong text
+pub text-long : (text : List ℕ) → has_name_form text ≡ true → IsNameLong text
 unfolding has_name_form
 text-long [] h = absurd cc
 text-long (b ∷ w) h =
@@ -38,7 +38,7 @@ text-of-form text form free = record { name = and_from (has_name_form text) (not
 
 -- ---- names that are given
 
-form-same : (text : List ℕ) → given_form text ≡ true → has_name_form text ≡ true
+pub form-same : (text : List ℕ) → given_form text ≡ true → has_name_form text ≡ true
 unfolding given_form has_name_form
 form-same [] h = absurd cc
 form-same (b ∷ w) h =

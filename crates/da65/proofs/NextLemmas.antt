@@ -1,67 +1,83 @@
 -- The next of the lines that are left.
-use Rattle.std.proofs.Common.{◌≡◌, ◌∙◌, ℕ, suc, ◌+◌, ◌-◌, ◌<◌, ◌≤◌, ◌∷◌, ◌++◌, ◌&&◌, [], Bool, true, false, List, Option, Some, None, length, drop, take, map, refl, ap, sym, subst, codes, arith}
-use Rattle.std.specs.Prelude.{MatchOption, if◌then◌else◌}
+use Rattle.std.proofs.Common.{◌≡◌, ◌∙◌, ℕ, zero, suc, ◌+◌, ◌-◌, ◌<◌, ◌≤◌, ◌∷◌, ◌++◌, ◌&&◌, [], Bool, true, false, List, Option, Some, None, length, drop, take, map, refl, ap, sym, subst, codes, arith, append_assoc, ⊎_elim, inl, inr}
+use Rattle.std.specs.Prelude.{MatchOption, if◌then◌else◌, not, nat_lt}
 use Rattle.std.specs.List.{flat_map}
-use Rattle.std.specs.Option.{option_copied}
-use Rattle.std.proofs.lemmas.List.{append-nil}
+use Rattle.std.proofs.lemmas.Bool.{and_parts, cases_lt}
 use Rattle.isa65.specs.Cpu.{table_of}
+use Rattle.isa65.specs.Mode.{len_of}
+use Rattle.isa65.specs.Opcodes.{Table}
+use Rattle.isa65.specs.declared.mode.Mode.{Mode}
+use Rattle.isa65.specs.declared.mode.Mode.TheVariants.{Imp}
+use Rattle.isa65.specs.declared.op.Op.{Op}
 use Rattle.isa65.specs.declared.cpu.Cpu.{Cpu}
-use Rattle.info65.specs.Names.{AreNames}
-use Rattle.info65.specs.Views.{InfoView}
+use Rattle.info65.specs.Views.{SettingsView}
 use Rattle.info65.specs.declared.range.RangeType.{RangeType}
-use Rattle.map65.specs.ImageView.{ImageView, IsPlaced, end_of}
+use Rattle.info65.specs.declared.range.RangeType.TheVariants as role
 use Rattle.map65.specs.MapView.{MapView, opcodes}
 use Rattle.map65.specs.Names.{place_of}
+use Rattle.map65.specs.Pieces.{is_in_run}
 use Rattle.map65.specs.Roles.{is_skip, role_of}
 use Rattle.map65.specs.Spans.{addresses}
 use Rattle.map65.specs.declared.name.Place.{Place}
-use Rattle.map65.specs.declared.name.Place.TheVariants as place
 use Rattle.da65.specs.BaseNames.{Names, base_name, is_base, is_constant, names_of}
 use Rattle.da65.specs.Code.Bases.{base_place}
+use Rattle.da65.specs.Comments.{comment_at}
 use Rattle.da65.specs.Groups.{IsGroupPlace, group_bytes, group_len, groups_from}
-use Rattle.da65.specs.Lines.{AreLinesOf, IsFirstOf, IsGroupStart, IsInGroup, IsNext, IsPlace, after_group, closed, constants_left, group_left, groups_left, left_from, lines_from}
-use Rattle.da65.specs.Listing.{ListingLine, constant_lines, constants, forward_lines, forwards, group_lines, has_constant_line, header_lines, label_at, labelled, line_text, lines_of, listing, listing_below, plain, statement_lines, with_empty_line}
+use Rattle.da65.specs.Lines.{IsConstant, IsFirstOf, IsGroupStart, IsInGroup, IsNext, IsPlace, IsUnmarked, after_group, closed, comments_left, constants_left, group_left, groups_left, left_from, lines_from, segment_left, segment_of, statement_left}
+use Rattle.da65.specs.Listing.{ListingLine, assignment_line, comment_line, comment_lines, comments, constant_lines, constants, ending_lines, forward_lines, forwards, group_line, group_lines, has_constant_line, has_empty_line, has_separator, label_at, labelled, line_text, lines_of, listing, listing_below, opening_lines, plain, segment_lines, separator, separator_lines, statement_lines, with_empty_line}
+use Rattle.da65.specs.Segments.{is_same_segment, segment_at, segment_before, segment_statement}
+use Rattle.da65.specs.Instructions.{instruction_in, size_of}
 use Rattle.da65.specs.Shapes.{IsGroupOf}
 use Rattle.da65.specs.Statements.{statement_at, statement_for}
-use Rattle.da65.specs.declared.lines.ListingPlace.{ListingPlace}
-use Rattle.da65.specs.declared.lines.ListingPlace.TheVariants.{Title, AfterTitle, CpuLine, AfterCpu, Constant, Group, Forward, Statement}
-use Rattle.da65.proofs.GroupLemmas.{group-fits, group-some, groups-end, groups-first, groups-next, groups-skip, place-next}
+use Rattle.da65.specs.Style.{style_of}
+use Rattle.da65.specs.declared.place.ListingPlace.{ListingPlace}
+use Rattle.da65.specs.declared.place.ListingPlace.TheVariants.{Title, AfterTitle, CpuLine, AfterCpu, Constant, Assignment, Group, Segment, Comment, Forward, Statement, Ending}
+use Rattle.da65.specs.declared.style.Style.{Style}
+use Rattle.da65.proofs.GroupLemmas.{group-some, groups-end, groups-first, groups-next, groups-skip, place-next}
 use Rattle.da65.proofs.LabelLaws.{group_takes}
+use Rattle.da65.proofs.SegmentLemmas.{same-segment, segment-next}
 use Rattle.da65.proofs.ShapeLemmas.{group-index, group-shape}
-use Rattle.stmt65.specs.Columns.{default_columns, fits_label}
-use Rattle.stmt65.specs.Printable.{IsNameLong, MayBeLabelled, TakesLabel}
+use Rattle.stmt65.specs.Columns.{fits_label}
+use Rattle.stmt65.specs.Printable.{MayBeLabelled, TakesLabel}
 use Rattle.stmt65.specs.Views as view
 use Rattle.stmt65.specs.Views.{StatementView}
 
 -- ---- one line after the other
 
-pub first-text : (hexoffs hex : Bool) (left : List ListingLine) (text : List ℕ) (rest : List ListingLine) (l : ListingLine)
-    → left ≡ l ∷ rest → text ≡ line_text hexoffs l → hexoffs ≡ hex → IsFirstOf hex left text rest
-first-text hexoffs hex left text rest l lines is same = record { head = l; lines = lines; text_is = is ∙ ap (λ (h : Bool). line_text h l) same }
+pub first-text : (t u : Style) (left : List ListingLine) (text : List ℕ) (rest : List ListingLine) (l : ListingLine)
+    → left ≡ l ∷ rest → text ≡ line_text t l → t ≡ u → IsFirstOf u left text rest
+first-text t u left text rest l lines is same = record { head = l; lines = lines; text_is = is ∙ ap (λ (t : Style). line_text t l) same }
 
 -- the lines that are left as text
-pub next-lines : (m : MapView) (p next : ListingPlace) (text : List ℕ) → IsNext m (left_from p m) text next → lines_from p m ≡ text ∷ lines_from next m
-next-lines m p next text is =
-    let hex : Bool = m.info.settings.hexoffs in
-    ap (map (line_text hex)) is.lines.lines ∙ ap (λ (t : List ℕ). t ∷ lines_from next m) (sym is.lines.text_is)
+pub next-lines : (m : MapView) (p next : ListingPlace) (text : List ℕ) (segment : Option (List ℕ)) → IsNext m (left_from p m) text next segment → lines_from p m ≡ text ∷ lines_from next m
+next-lines m p next text segment is =
+    let t : Style = style_of m.info.settings in
+    ap (map (line_text t)) is.lines.lines ∙ ap (λ (t : List ℕ). t ∷ lines_from next m) (sym is.lines.text_is)
 
 pub end-lines : (m : MapView) (p : ListingPlace) → left_from p m ≡ [] → lines_from p m ≡ []
-end-lines m p is = ap (map (line_text m.info.settings.hexoffs)) is
+end-lines m p is = ap (map (line_text (style_of m.info.settings))) is
 
-pub line-with : (hexoffs hex : Bool) (label : Option (List ℕ)) (s t : StatementView) → s ≡ t → hexoffs ≡ hex
-    → line_text hexoffs (record { label = label; statement = s }) ≡ line_text hex (record { label = label; statement = t })
-line-with hexoffs hex label s t same also =
-    ap (λ (s : StatementView). let l : ListingLine = record { label = label; statement = s } in line_text hexoffs l) same
-    ∙ ap (λ (h : Bool). let l : ListingLine = record { label = label; statement = t } in line_text h l) also
+-- a plain line
+pub next-plain : (m : MapView) (left : List ListingLine) (text : List ℕ) (next : ListingPlace) (segment : Option (List ℕ)) (t : Style) (s : StatementView)
+    → left ≡ plain s ∷ left_from next m → text ≡ line_text t (plain s) → t ≡ style_of m.info.settings → IsPlace next m → segment_of next m ≡ segment → IsNext m left text next segment
+next-plain m left text next segment t s lines is same place where_is = record {
+  lines = first-text t (style_of m.info.settings) left text (left_from next m) (plain s) lines is same;
+  place = place;
+  segment_is = where_is;
+}
 
 -- the same lines
-pub next-moved : (m : MapView) (left same : List ListingLine) (text : List ℕ) (next : ListingPlace) → left ≡ same → IsNext m same text next → IsNext m left text next
-next-moved m left same text next is known = subst (λ (ls : List ListingLine). IsNext m ls text next) (sym is) known
+pub next-moved : (m : MapView) (left same : List ListingLine) (text : List ℕ) (next : ListingPlace) (segment : Option (List ℕ)) → left ≡ same → IsNext m same text next segment → IsNext m left text next segment
+next-moved m left same text next segment is known = subst (λ (ls : List ListingLine). IsNext m ls text next segment) (sym is) known
 
-pub match-moved : (m : MapView) (left same : List ListingLine) (text : List ℕ) (o : Option ListingPlace) → left ≡ same
-    → MatchOption o (same ≡ []) (λ (next : ListingPlace). IsNext m same text next) → MatchOption o (left ≡ []) (λ (next : ListingPlace). IsNext m left text next)
-match-moved m left same text None is known = is ∙ known
-match-moved m left same text (Some next) is known = next-moved m left same text next is known
+-- the same segment
+pub next-there : (m : MapView) (left : List ListingLine) (text : List ℕ) (next : ListingPlace) (segment same : Option (List ℕ)) → segment ≡ same → IsNext m left text next segment → IsNext m left text next same
+next-there m left text next segment same is known = subst (λ (s : Option (List ℕ)). IsNext m left text next s) is known
+
+pub match-moved : (m : MapView) (left same : List ListingLine) (text : List ℕ) (o : Option ListingPlace) (segment : Option (List ℕ)) → left ≡ same
+    → MatchOption o (same ≡ []) (λ (next : ListingPlace). IsNext m same text next segment) → MatchOption o (left ≡ []) (λ (next : ListingPlace). IsNext m left text next segment)
+match-moved m left same text None segment is known = is ∙ known
+match-moved m left same text (Some next) segment is known = next-moved m left same text next segment is known
 
 -- ---- addresses
 
@@ -76,36 +92,66 @@ addresses-none : (n a : ℕ) → n ≡ 0 → addresses n a ≡ []
 unfolding addresses
 addresses-none n a none = rw none refl
 
+-- the addresses from one on below an end: the first, and those after it
+flat-more : (f : ℕ → List ListingLine) (end v : ℕ) → v < end → flat_map f (addresses (end - v) v) ≡ f v ++ flat_map f (addresses (end - (v + 1)) (v + 1))
+flat-more f end v low =
+    let count : end - v - 1 ≡ end - (v + 1) = omega arith in
+    ap (flat_map f) (addresses-more (end - v) v (omega (arith, low))) ∙ ap (λ (n : ℕ). f v ++ flat_map f (addresses n (v + 1))) count
+
+flat-none : (f : ℕ → List ListingLine) (end v : ℕ) → end ≤ v → flat_map f (addresses (end - v) v) ≡ []
+flat-none f end v high = ap (flat_map f) (addresses-none (end - v) v (omega (arith, high)))
+
 -- ---- constant lines
 
-cond-line : (t : Bool) (l : ListingLine) (rest : List ListingLine) → t ≡ true → (if t then l ∷ [] else []) ++ rest ≡ l ∷ rest
-cond-line t l rest is = rw is refl
+cond-lines : (t : Bool) (ls : List ListingLine) → t ≡ true → (if t then ls else []) ≡ ls
+cond-lines t ls is = rw is refl
 
-cond-none : (t : Bool) (l : ListingLine) (rest : List ListingLine) → t ≡ false → (if t then l ∷ [] else []) ++ rest ≡ rest
-cond-none t l rest is = rw is refl
+cond-none : (t : Bool) (ls : List ListingLine) → t ≡ false → (if t then ls else []) ≡ []
+cond-none t ls is = rw is refl
 
-pub constants-here : (m : Names) (v : ℕ) → v < 65536 → has_constant_line m v ≡ true
-    → constants m (65536 - v) v ≡ plain (view.assignment (base_name m v) v) ∷ constants m (65536 - (v + 1)) (v + 1)
+pub constants-here : (m : MapView) (v : ℕ) → IsConstant m v
+    → constants m (65536 - v) v ≡ comment_lines m v ++ assignment_line (names_of m) v ∷ constants m (65536 - (v + 1)) (v + 1)
 unfolding constants constant_lines
-constants-here m v low is =
-    let count : 65536 - v - 1 ≡ 65536 - (v + 1) = omega arith in
-    let line : ListingLine = plain (view.assignment (base_name m v) v) in
-    ap (flat_map (constant_lines m)) (addresses-more (65536 - v) v (omega (arith, low)))
-    ∙ cond-line (has_constant_line m v) line (flat_map (constant_lines m) (addresses (65536 - v - 1) (v + 1))) is
-    ∙ ap (λ (n : ℕ). line ∷ flat_map (constant_lines m) (addresses n (v + 1))) count
+constants-here m v is =
+    let rest : List ListingLine = flat_map (constant_lines m) (addresses (65536 - (v + 1)) (v + 1)) in
+    flat-more (constant_lines m) 65536 v is.low
+    ∙ ap (λ (ls : List ListingLine). ls ++ rest) (cond-lines (has_constant_line (names_of m) v) (comment_lines m v ++ assignment_line (names_of m) v ∷ []) is.has)
+    ∙ append_assoc (comment_lines m v) (assignment_line (names_of m) v ∷ []) rest
 
-pub constants-next : (m : Names) (v : ℕ) → v < 65536 → has_constant_line m v ≡ false → constants m (65536 - v) v ≡ constants m (65536 - (v + 1)) (v + 1)
+pub constants-next : (m : MapView) (v : ℕ) → v < 65536 → has_constant_line (names_of m) v ≡ false → constants m (65536 - v) v ≡ constants m (65536 - (v + 1)) (v + 1)
 unfolding constants constant_lines
 constants-next m v low is =
-    let count : 65536 - v - 1 ≡ 65536 - (v + 1) = omega arith in
-    let line : ListingLine = plain (view.assignment (base_name m v) v) in
-    ap (flat_map (constant_lines m)) (addresses-more (65536 - v) v (omega (arith, low)))
-    ∙ cond-none (has_constant_line m v) line (flat_map (constant_lines m) (addresses (65536 - v - 1) (v + 1))) is
-    ∙ ap (λ (n : ℕ). flat_map (constant_lines m) (addresses n (v + 1))) count
+    let rest : List ListingLine = flat_map (constant_lines m) (addresses (65536 - (v + 1)) (v + 1)) in
+    flat-more (constant_lines m) 65536 v low
+    ∙ ap (λ (ls : List ListingLine). ls ++ rest) (cond-none (has_constant_line (names_of m) v) (comment_lines m v ++ assignment_line (names_of m) v ∷ []) is)
 
-pub constants-end : (m : Names) (v : ℕ) → 65536 ≤ v → constants m (65536 - v) v ≡ []
+pub constants-end : (m : MapView) (v : ℕ) → 65536 ≤ v → constants m (65536 - v) v ≡ []
 unfolding constants
-constants-end m v high = ap (flat_map (constant_lines m)) (addresses-none (65536 - v) v (omega (arith, high)))
+constants-end m v high = flat-none (constant_lines m) 65536 v high
+
+-- ---- comments
+
+pub comment-some : (m : MapView) (a : ℕ) (text : List ℕ) → comment_at m a ≡ Some text → comment_lines m a ≡ plain (view.remark text) ∷ []
+unfolding comment_lines
+comment-some m a text is = ap comment_line is
+
+pub comment-none : (m : MapView) (a : ℕ) → comment_at m a ≡ None → comment_lines m a ≡ []
+unfolding comment_lines
+comment-none m a is = ap comment_line is
+
+pub comments-here : (m : MapView) (end v : ℕ) (text : List ℕ) → v < end → comment_at m v ≡ Some text → comments m (end - v) v ≡ plain (view.remark text) ∷ comments m (end - (v + 1)) (v + 1)
+unfolding comments
+comments-here m end v text low is =
+    flat-more (comment_lines m) end v low ∙ ap (λ (ls : List ListingLine). ls ++ flat_map (comment_lines m) (addresses (end - (v + 1)) (v + 1))) (comment-some m v text is)
+
+pub comments-next : (m : MapView) (end v : ℕ) → v < end → comment_at m v ≡ None → comments m (end - v) v ≡ comments m (end - (v + 1)) (v + 1)
+unfolding comments
+comments-next m end v low is =
+    flat-more (comment_lines m) end v low ∙ ap (λ (ls : List ListingLine). ls ++ flat_map (comment_lines m) (addresses (end - (v + 1)) (v + 1))) (comment-none m v is)
+
+pub comments-end : (m : MapView) (end v : ℕ) → end ≤ v → comments m (end - v) v ≡ []
+unfolding comments
+comments-end m end v high = flat-none (comment_lines m) end v high
 
 -- ---- forward lines
 
@@ -113,24 +159,20 @@ pub forwards-here : (m : Names) (first end v : ℕ) → v < end → is_base m v 
     → forwards m first (end - v) v ≡ plain (view.forward (base_name m v) (v - first)) ∷ forwards m first (end - (v + 1)) (v + 1)
 unfolding forwards forward_lines
 forwards-here m first end v low is =
-    let count : end - v - 1 ≡ end - (v + 1) = omega arith in
     let line : ListingLine = plain (view.forward (base_name m v) (v - first)) in
-    ap (flat_map (forward_lines m first)) (addresses-more (end - v) v (omega (arith, low)))
-    ∙ cond-line (is_base m v) line (flat_map (forward_lines m first) (addresses (end - v - 1) (v + 1))) is
-    ∙ ap (λ (n : ℕ). line ∷ flat_map (forward_lines m first) (addresses n (v + 1))) count
+    flat-more (forward_lines m first) end v low
+    ∙ ap (λ (ls : List ListingLine). ls ++ flat_map (forward_lines m first) (addresses (end - (v + 1)) (v + 1))) (cond-lines (is_base m v) (line ∷ []) is)
 
 pub forwards-next : (m : Names) (first end v : ℕ) → v < end → is_base m v ≡ false → forwards m first (end - v) v ≡ forwards m first (end - (v + 1)) (v + 1)
 unfolding forwards forward_lines
 forwards-next m first end v low is =
-    let count : end - v - 1 ≡ end - (v + 1) = omega arith in
     let line : ListingLine = plain (view.forward (base_name m v) (v - first)) in
-    ap (flat_map (forward_lines m first)) (addresses-more (end - v) v (omega (arith, low)))
-    ∙ cond-none (is_base m v) line (flat_map (forward_lines m first) (addresses (end - v - 1) (v + 1))) is
-    ∙ ap (λ (n : ℕ). flat_map (forward_lines m first) (addresses n (v + 1))) count
+    flat-more (forward_lines m first) end v low
+    ∙ ap (λ (ls : List ListingLine). ls ++ flat_map (forward_lines m first) (addresses (end - (v + 1)) (v + 1))) (cond-none (is_base m v) (line ∷ []) is)
 
 pub forwards-end : (m : Names) (first end v : ℕ) → end ≤ v → forwards m first (end - v) v ≡ []
 unfolding forwards
-forwards-end m first end v high = ap (flat_map (forward_lines m first)) (addresses-none (end - v) v (omega (arith, high)))
+forwards-end m first end v high = flat-none (forward_lines m first) end v high
 
 -- ---- the lines of a group
 
@@ -146,16 +188,90 @@ pub lines-skip : (m : MapView) (k : ℕ) → IsGroupPlace m k → k < length m.i
 unfolding groups_left
 lines-skip m k here low skip = sym (ap (flat_map (group_lines m)) (groups-skip m k here low skip))
 
-pub lines-next : (m : MapView) (k : ℕ) → IsGroupStart m k → groups_left m k ≡ group_left m k (m.image.start + k + 1)
-unfolding groups_left group_left group_lines
-lines-next m k start =
+-- what opens a group, its forward lines, its statement, and what follows
+regroup : (opening forward statement ending rest : List ListingLine) → (opening ++ (forward ++ (statement ++ ending))) ++ rest ≡ opening ++ ((forward ++ statement) ++ (ending ++ rest))
+regroup opening forward statement ending rest =
+    append_assoc opening (forward ++ (statement ++ ending)) rest
+    ∙ ap (λ (ls : List ListingLine). opening ++ ls)
+    (append_assoc forward (statement ++ ending) rest
+    ∙ ap (λ (ls : List ListingLine). forward ++ ls) (append_assoc statement ending rest)
+    ∙ sym (append_assoc forward statement (ending ++ rest)))
+
+pub lines-group : (m : MapView) (k : ℕ) → IsGroupStart m k → groups_left m k ≡ opening_lines m (m.image.start + k) ++ group_left m k (m.image.start + k + 1)
+unfolding groups_left group_left group_lines after_group
+lines-group m k start =
     let a : ℕ = m.image.start + k in
     let count : group_len m a - 1 ≡ a + group_len m a - (a + 1) = omega arith in
     let rest : List ListingLine = flat_map (group_lines m) (groups_from m (k + group_len m a)) in
     ap (flat_map (group_lines m)) (groups-next m k start.place start.inside start.shown)
-    ∙ ap (λ (n : ℕ). (forwards (names_of m) a n (a + 1) ++ statement_lines m a) ++ rest) count
+    ∙ regroup (opening_lines m a) (forwards (names_of m) a (group_len m a - 1) (a + 1)) (statement_lines m a) (ending_lines m a) rest
+    ∙ ap (λ (n : ℕ). opening_lines m a ++ ((forwards (names_of m) a n (a + 1) ++ statement_lines m a) ++ (ending_lines m a ++ rest))) count
 
--- its forward lines are done
+-- without separators, segments and comments
+pub lines-unmarked : (m : MapView) (k : ℕ) → IsUnmarked m → IsGroupStart m k → groups_left m k ≡ group_left m k (m.image.start + k + 1)
+lines-unmarked m k none start =
+    lines-group m k start ∙ ap (λ (ls : List ListingLine). ls ++ group_left m k (m.image.start + k + 1)) (none.opening (m.image.start + k))
+
+-- the separator, the segment, the comments
+pub lines-opening : (m : MapView) (k : ℕ) → IsGroupStart m k → groups_left m k ≡ separator_lines m (m.image.start + k) ++ segment_left m k
+unfolding opening_lines segment_left comments_left
+lines-opening m k start =
+    let a : ℕ = m.image.start + k in
+    let count : group_len m a ≡ a + group_len m a - a = omega arith in
+    let rest : List ListingLine = group_left m k (a + 1) in
+    lines-group m k start
+    ∙ append_assoc (separator_lines m a) (segment_lines m a ++ comments m (group_len m a) a) rest
+    ∙ ap (λ (ls : List ListingLine). separator_lines m a ++ ls) (append_assoc (segment_lines m a) (comments m (group_len m a) a) rest)
+    ∙ ap (λ (n : ℕ). separator_lines m a ++ (segment_lines m a ++ (comments m n a ++ rest))) count
+
+pub separator-yes : (m : MapView) (k : ℕ) → has_separator m (m.image.start + k) ≡ true → IsGroupStart m k → groups_left m k ≡ plain separator ∷ segment_left m k
+unfolding separator_lines
+separator-yes m k is start =
+    let some : separator_lines m (m.image.start + k) ≡ plain separator ∷ [] = rw is refl in
+    lines-opening m k start ∙ ap (λ (ls : List ListingLine). ls ++ segment_left m k) some
+
+pub separator-no : (m : MapView) (k : ℕ) → has_separator m (m.image.start + k) ≡ false → IsGroupStart m k → groups_left m k ≡ segment_left m k
+unfolding separator_lines
+separator-no m k none start =
+    let no : separator_lines m (m.image.start + k) ≡ [] = rw none refl in
+    lines-opening m k start ∙ ap (λ (ls : List ListingLine). ls ++ segment_left m k) no
+
+segment-spot : (m : MapView) (k : ℕ) → segment_before m (m.image.start + k - m.image.start) ≡ segment_before m k
+segment-spot m k = let same : m.image.start + k - m.image.start ≡ k = omega arith in ap (segment_before m) same
+
+pub segment-yes : (m : MapView) (k : ℕ) → is_same_segment (segment_at m (m.image.start + k)) (segment_before m k) ≡ false
+    → segment_left m k ≡ plain (segment_statement (segment_at m (m.image.start + k))) ∷ comments_left m k (m.image.start + k)
+unfolding segment_left segment_lines
+segment-yes m k other = rw (segment-spot m k, other) refl
+
+pub segment-no : (m : MapView) (k : ℕ) → is_same_segment (segment_at m (m.image.start + k)) (segment_before m k) ≡ true
+    → segment_left m k ≡ comments_left m k (m.image.start + k)
+unfolding segment_left segment_lines
+segment-no m k same = rw (segment-spot m k, same) refl
+
+-- ---- the comments of a group
+
+pub comment-end : (m : MapView) (k v end : ℕ) → end ≡ m.image.start + k + group_len m (m.image.start + k) → comments m (end - v) v ≡ [] → comments_left m k v ≡ group_left m k (m.image.start + k + 1)
+unfolding comments_left
+comment-end m k v end there none =
+    ap (λ (n : ℕ). comments m (n - v) v ++ group_left m k (m.image.start + k + 1)) (sym there) ∙ ap (λ (ls : List ListingLine). ls ++ group_left m k (m.image.start + k + 1)) none
+
+pub comment-first : (m : MapView) (k v u end : ℕ) (t : Style) (text : List ℕ) → end ≡ m.image.start + k + group_len m (m.image.start + k)
+    → IsFirstOf t (comments m (end - v) v) text (comments m (end - (u + 1)) (u + 1)) → IsFirstOf t (comments_left m k v) text (comments_left m k (u + 1))
+unfolding comments_left
+comment-first m k v u end t text there is =
+    let rest : List ListingLine = group_left m k (m.image.start + k + 1) in
+    record {
+      head = is.head;
+      lines =
+          ap (λ (n : ℕ). comments m (n - v) v ++ rest) (sym there)
+          ∙ ap (λ (ls : List ListingLine). ls ++ rest) is.lines
+          ∙ ap (λ (n : ℕ). is.head ∷ comments m (n - (u + 1)) (u + 1) ++ rest) there;
+      text_is = is.text_is;
+    }
+
+-- ---- the forward lines of a group
+
 forward-same : (m : MapView) (k v first end : ℕ) → first ≡ m.image.start + k → end ≡ m.image.start + k + group_len m (m.image.start + k)
     → forwards (names_of m) (m.image.start + k) (m.image.start + k + group_len m (m.image.start + k) - v) v ≡ forwards (names_of m) first (end - v) v
 forward-same m k v first end here there = ap (λ (n : ℕ). forwards (names_of m) n (m.image.start + k + group_len m (m.image.start + k) - v) v) (sym here) ∙ ap (λ (n : ℕ). forwards (names_of m) first (n - v) v) (sym there)
@@ -165,17 +281,17 @@ pub forward-end : (m : MapView) (k v first end : ℕ) → first ≡ m.image.star
 unfolding group_left
 forward-end m k v first end here there none = ap (λ (ls : List ListingLine). (ls ++ statement_lines m (m.image.start + k)) ++ after_group m k) (forward-same m k v first end here there ∙ none)
 
-pub forward-first : (m : MapView) (k v u first end : ℕ) (text : List ℕ) (hexoffs : Bool) → first ≡ m.image.start + k → end ≡ m.image.start + k + group_len m (m.image.start + k) → hexoffs ≡ m.info.settings.hexoffs
-    → IsFirstOf hexoffs (forwards (names_of m) first (end - v) v) text (forwards (names_of m) first (end - (u + 1)) (u + 1))
-    → IsFirstOf m.info.settings.hexoffs (group_left m k v) text (group_left m k (u + 1))
+pub forward-first : (m : MapView) (k v u first end : ℕ) (t : Style) (text : List ℕ) → first ≡ m.image.start + k → end ≡ m.image.start + k + group_len m (m.image.start + k)
+    → IsFirstOf t (forwards (names_of m) first (end - v) v) text (forwards (names_of m) first (end - (u + 1)) (u + 1))
+    → IsFirstOf t (group_left m k v) text (group_left m k (u + 1))
 unfolding group_left
-forward-first m k v u first end text hexoffs here there same is =
+forward-first m k v u first end t text here there is =
     let now : forwards (names_of m) (m.image.start + k) (m.image.start + k + group_len m (m.image.start + k) - v) v ≡ is.head ∷ forwards (names_of m) (m.image.start + k) (m.image.start + k + group_len m (m.image.start + k) - (u + 1)) (u + 1) =
     forward-same m k v first end here there ∙ is.lines ∙ ap (λ (ls : List ListingLine). is.head ∷ ls) (sym (forward-same m k (u + 1) first end here there)) in
     record {
       head = is.head;
       lines = ap (λ (ls : List ListingLine). (ls ++ statement_lines m (m.image.start + k)) ++ after_group m k) now;
-      text_is = is.text_is ∙ ap (λ (h : Bool). line_text h is.head) same;
+      text_is = is.text_is;
     }
 
 -- ---- constant lines, and what follows
@@ -184,23 +300,35 @@ closed-first : (any : Bool) (head : ListingLine) (rest : List ListingLine) → c
 closed-first true head rest = refl
 closed-first false head rest = refl
 
-pub constant-first : (m : MapView) (v u : ℕ) (any : Bool) (text : List ℕ) (hexoffs : Bool) → hexoffs ≡ m.info.settings.hexoffs
-    → IsFirstOf hexoffs (constants (names_of m) (65536 - v) v) text (constants (names_of m) (65536 - (u + 1)) (u + 1))
-    → IsFirstOf m.info.settings.hexoffs (constants_left m v any) text (constants_left m (u + 1) true)
+pub constant-comment : (m : MapView) (v : ℕ) (any : Bool) (text : List ℕ) → IsConstant m v → comment_at m v ≡ Some text
+    → constants_left m v any ≡ plain (view.remark text) ∷ assignment_line (names_of m) v ∷ constants_left m (v + 1) true
 unfolding constants_left
-constant-first m v u any text hexoffs same is = record {
-  head = is.head;
-  lines =
-      let rest : List ListingLine = constants (names_of m) (65536 - (u + 1)) (u + 1) in
-      ap (λ (ls : List ListingLine). closed any ls ++ groups_left m 0) is.lines ∙ ap (λ (ls : List ListingLine). ls ++ groups_left m 0) (closed-first any is.head rest);
-  text_is = is.text_is ∙ ap (λ (h : Bool). line_text h is.head) same;
-}
+constant-comment m v any text is comment =
+    let rest : List ListingLine = constants m (65536 - (v + 1)) (v + 1) in
+    let front : constants m (65536 - v) v ≡ plain (view.remark text) ∷ assignment_line (names_of m) v ∷ rest =
+    constants-here m v is ∙ ap (λ (ls : List ListingLine). ls ++ assignment_line (names_of m) v ∷ rest) (comment-some m v text comment) in
+    ap (λ (ls : List ListingLine). closed any ls ++ groups_left m 0) front
+    ∙ ap (λ (ls : List ListingLine). ls ++ groups_left m 0) (closed-first any (plain (view.remark text)) (assignment_line (names_of m) v ∷ rest))
 
-pub constant-blank : (m : MapView) (v : ℕ) → constants (names_of m) (65536 - v) v ≡ [] → constants_left m v true ≡ plain view.blank ∷ groups_left m 0
+pub constant-bare : (m : MapView) (v : ℕ) (any : Bool) → IsConstant m v → comment_lines m v ≡ []
+    → constants_left m v any ≡ assignment_line (names_of m) v ∷ constants_left m (v + 1) true
+unfolding constants_left
+constant-bare m v any is none =
+    let rest : List ListingLine = constants m (65536 - (v + 1)) (v + 1) in
+    let front : constants m (65536 - v) v ≡ assignment_line (names_of m) v ∷ rest =
+    constants-here m v is ∙ ap (λ (ls : List ListingLine). ls ++ assignment_line (names_of m) v ∷ rest) none in
+    ap (λ (ls : List ListingLine). closed any ls ++ groups_left m 0) front
+    ∙ ap (λ (ls : List ListingLine). ls ++ groups_left m 0) (closed-first any (assignment_line (names_of m) v) rest)
+
+pub constant-moved : (m : MapView) (v u : ℕ) (any : Bool) → constants m (65536 - v) v ≡ constants m (65536 - u) u → constants_left m v any ≡ constants_left m u any
+unfolding constants_left
+constant-moved m v u any same = ap (λ (ls : List ListingLine). closed any ls ++ groups_left m 0) same
+
+pub constant-blank : (m : MapView) (v : ℕ) → constants m (65536 - v) v ≡ [] → constants_left m v true ≡ plain view.blank ∷ groups_left m 0
 unfolding constants_left
 constant-blank m v none = ap (λ (ls : List ListingLine). closed true ls ++ groups_left m 0) none
 
-pub constant-none : (m : MapView) (v : ℕ) → constants (names_of m) (65536 - v) v ≡ [] → constants_left m v false ≡ groups_left m 0
+pub constant-none : (m : MapView) (v : ℕ) → constants m (65536 - v) v ≡ [] → constants_left m v false ≡ groups_left m 0
 unfolding constants_left
 constant-none m v none = ap (λ (ls : List ListingLine). closed false ls ++ groups_left m 0) none
 
@@ -252,34 +380,22 @@ line-kept m a p some is = rw (base-true m a p some) is
 pub line-none : (m : MapView) (a : ℕ) → base_place m a ≡ None → has_constant_line (names_of m) a ≡ false
 line-none m a none = rw (base-false m a none) refl
 
-pub unlabelled-lines : (m : MapView) (a : ℕ) → label_at (names_of m) a ≡ None → statement_lines m a ≡ plain (statement_at m a) ∷ []
+pub unlabelled-lines : (m : MapView) (a : ℕ) → label_at (names_of m) a ≡ None → statement_lines m a ≡ group_line None (statement_at m a) a (group_bytes m a) ∷ []
 unfolding statement_lines
-unlabelled-lines m a none = ap (λ (l : Option (List ℕ)). labelled default_columns l (statement_at m a)) none
+unlabelled-lines m a none = ap (λ (l : Option (List ℕ)). labelled (style_of m.info.settings).columns l (statement_at m a) a (group_bytes m a)) none
 
-pub beside-lines : (m : MapView) (a : ℕ) (name : List ℕ) → label_at (names_of m) a ≡ Some name → fits_label default_columns name ≡ true
-    → statement_lines m a ≡ record { label = Some name; statement = statement_at m a } ∷ []
+pub beside-lines : (m : MapView) (a : ℕ) (name : List ℕ) → label_at (names_of m) a ≡ Some name → fits_label (style_of m.info.settings).columns name ≡ true
+    → statement_lines m a ≡ group_line (Some name) (statement_at m a) a (group_bytes m a) ∷ []
 unfolding statement_lines
-beside-lines m a name some fits = ap (λ (l : Option (List ℕ)). labelled default_columns l (statement_at m a)) some ∙ rw fits refl
+beside-lines m a name some fits = ap (λ (l : Option (List ℕ)). labelled (style_of m.info.settings).columns l (statement_at m a) a (group_bytes m a)) some ∙ rw fits refl
 
-pub above-lines : (m : MapView) (a : ℕ) (name : List ℕ) → label_at (names_of m) a ≡ Some name → fits_label default_columns name ≡ false
-    → statement_lines m a ≡ plain (view.label name) ∷ plain (statement_at m a) ∷ []
+pub above-lines : (m : MapView) (a : ℕ) (name : List ℕ) → label_at (names_of m) a ≡ Some name → fits_label (style_of m.info.settings).columns name ≡ false
+    → statement_lines m a ≡ plain (view.label name) ∷ group_line None (statement_at m a) a (group_bytes m a) ∷ []
 unfolding statement_lines
-above-lines m a name some long = ap (λ (l : Option (List ℕ)). labelled default_columns l (statement_at m a)) some ∙ rw long refl
+above-lines m a name some long = ap (λ (l : Option (List ℕ)). labelled (style_of m.info.settings).columns l (statement_at m a) a (group_bytes m a)) some ∙ rw long refl
 
 pub takes-label : (m : MapView) (k : ℕ) → IsGroupStart m k → TakesLabel (statement_at m (m.image.start + k))
 takes-label m k start = group_takes (names_of m) (opcodes m) (role_of m.info (m.image.start + k)) (m.image.start + k) _ start.shown
-
-pub start-next : (m : MapView) (k len : ℕ) → IsPlaced m.image → IsGroupStart m k → len ≡ group_len m (m.image.start + k) → IsPlace (Group (k + len)) m
-start-next m k len placed start same =
-    (placed, subst (λ (n : ℕ). IsGroupPlace m (k + n)) (sym same) (place-next m k start.place start.inside start.shown))
-
--- the statement is the first of its lines, and the next group follows
-pub then-group : (m : MapView) (k len : ℕ) (left : List ListingLine) (text : List ℕ) (l : ListingLine) → IsPlaced m.image → IsGroupStart m k → len ≡ group_len m (m.image.start + k)
-    → left ≡ l ∷ after_group m k → text ≡ line_text m.info.settings.hexoffs l → IsNext m left text (Group (k + len))
-then-group m k len left text l placed start same lines is = record {
-  lines = record { head = l; lines = lines ∙ ap (λ (n : ℕ). l ∷ groups_left m (k + n)) (sym same); text_is = is };
-  place = start-next m k len placed start same;
-}
 
 -- ---- the statement of a group
 
@@ -311,37 +427,157 @@ group-told m k a cpu r bytes at =
     ∙ ap (λ (r : RangeType). statement_for (names_of m) (opcodes m) r (m.image.start + k) bytes) (role-same m k a cpu r bytes at)
     ∙ ap (λ (bytes : List ℕ). statement_for (names_of m) (opcodes m) (role_of m.info (m.image.start + k)) (m.image.start + k) bytes) (bytes-same m k a cpu r bytes at)
 
--- ---- what a map and its image tell
-
-pub start-told : (m : MapView) (image : ImageView) (start : ℕ) → m.image ≡ image → start ≡ image.start → start ≡ m.image.start
-start-told m image start same is = is ∙ ap (λ (i : ImageView). i.start) (sym same)
-
-pub address-told : (m : MapView) (image : ImageView) (start k : ℕ) → m.image ≡ image → start ≡ image.start → start + k ≡ m.image.start + k
-address-told m image start k same is = ap (λ (n : ℕ). n + k) (start-told m image start same is)
-
-pub count-told : (m : MapView) (image : ImageView) (bytes : List ℕ) → m.image ≡ image → bytes ≡ image.bytes → length bytes ≡ length m.image.bytes
-count-told m image bytes same is = ap length (is ∙ ap (λ (i : ImageView). i.bytes) (sym same))
-
-pub bytes-told : (m : MapView) (image : ImageView) (k len : ℕ) (whole rest bytes : List ℕ) → m.image ≡ image → whole ≡ image.bytes → rest ≡ drop k whole → bytes ≡ take len rest
-    → len ≡ group_len m (m.image.start + k) → bytes ≡ take (group_len m (m.image.start + k)) (drop k m.image.bytes)
-bytes-told m image k len whole rest bytes same is back front long =
-    front ∙ ap (take len) (back ∙ ap (drop k) (is ∙ ap (λ (i : ImageView). i.bytes) (sym same))) ∙ ap (λ (n : ℕ). take n (drop k m.image.bytes)) long
-
-pub group-here : (m : MapView) (image : ImageView) (k start len : ℕ) (cpu : Cpu) (r : RangeType) (whole rest bytes : List ℕ)
-    → cpu ≡ m.info.settings.cpu → m.image ≡ image → start ≡ image.start → r ≡ role_of m.info (start + k) → len ≡ group_len m (m.image.start + k)
-    → whole ≡ image.bytes → rest ≡ drop k whole → bytes ≡ take len rest → GroupAt m k (start + k) cpu r bytes
-group-here m image k start len cpu r whole rest bytes is_cpu same is_start is_role is_len is back front = record {
+pub group-here : (n m : MapView) (k a len : ℕ) (cpu : Cpu) (r : RangeType) (whole rest bytes : List ℕ)
+    → n ≡ m → cpu ≡ m.info.settings.cpu → a ≡ m.image.start + k → r ≡ role_of n.info a → len ≡ group_len m (m.image.start + k)
+    → whole ≡ m.image.bytes → rest ≡ drop k whole → bytes ≡ take len rest → GroupAt m k a cpu r bytes
+group-here n m k a len cpu r whole rest bytes same is_cpu is_address is_role is_len is back front = record {
   cpu_is = sym is_cpu;
-  address = address-told m image start k same is_start;
-  role_is = is_role;
-  bytes_are = bytes-told m image k len whole rest bytes same is back front is_len;
+  address = is_address;
+  role_is = is_role ∙ ap (λ (n : MapView). role_of n.info a) same;
+  bytes_are = front ∙ ap (take len) (back ∙ ap (drop k) is) ∙ ap (λ (n : ℕ). take n (drop k m.image.bytes)) is_len;
 }
 
--- ---- what is known of a value by its place
+-- its line
+pub line-told : (n m : MapView) (k a : ℕ) (t : Style) (r : RangeType) (bytes : List ℕ) (label : Option (List ℕ)) → n ≡ m → t ≡ style_of m.info.settings → GroupAt m k a t.cpu r bytes
+    → line_text t (group_line label (statement_for (names_of n) (table_of t.cpu) r a bytes) a bytes)
+    ≡ line_text (style_of m.info.settings) (group_line label (statement_at m (m.image.start + k)) (m.image.start + k) (group_bytes m (m.image.start + k)))
+line-told n m k a t r bytes label is same at =
+    ap (λ (n : MapView). line_text t (group_line label (statement_for (names_of n) (table_of t.cpu) r a bytes) a bytes)) is
+    ∙ ap (λ (s : StatementView). line_text t (group_line label s a bytes)) (group-told m k a t.cpu r bytes at)
+    ∙ ap (λ (n : ℕ). line_text t (group_line label (statement_at m (m.image.start + k)) n bytes)) at.address
+    ∙ ap (λ (bs : List ℕ). line_text t (group_line label (statement_at m (m.image.start + k)) (m.image.start + k) bs)) (bytes-same m k a t.cpu r bytes at)
+    ∙ ap (λ (u : Style). line_text u (group_line label (statement_at m (m.image.start + k)) (m.image.start + k) (group_bytes m (m.image.start + k)))) same
 
-pub placed : (p : ListingPlace) (m : MapView) → IsPlace p m → IsPlaced m.image
-placed (Constant v any) m is = is.0
-placed (Group k) m is = is.0
-placed (Forward k v) m is = is.0
-placed (Statement k) m is = is.0
-placed _ m is = is.0
+-- it may have the label
+pub label-told : (n m : MapView) (k a : ℕ) (t : Style) (r : RangeType) (bytes : List ℕ) (label : Option (List ℕ)) → n ≡ m → t ≡ style_of m.info.settings → GroupAt m k a t.cpu r bytes
+    → MayBeLabelled (style_of m.info.settings).columns label (statement_at m (m.image.start + k)) → MayBeLabelled t.columns label (statement_for (names_of n) (table_of t.cpu) r a bytes)
+label-told n m k a t r bytes label is same at may =
+    subst (λ (u : Style). MayBeLabelled u.columns label (statement_for (names_of n) (table_of t.cpu) r a bytes)) (sym same)
+    (subst (λ (n : MapView). MayBeLabelled (style_of m.info.settings).columns label (statement_for (names_of n) (table_of t.cpu) r a bytes)) (sym is)
+    (subst (λ (s : StatementView). MayBeLabelled (style_of m.info.settings).columns label s) (sym (group-told m k a t.cpu r bytes at)) may))
+
+-- whether an empty line follows it
+pub empty-told : (n m : MapView) (k a : ℕ) (t : Style) (r : RangeType) (bytes : List ℕ) → n ≡ m → t ≡ style_of m.info.settings → GroupAt m k a t.cpu r bytes
+    → has_empty_line t (statement_for (names_of n) (table_of t.cpu) r a bytes) ≡ has_empty_line (style_of m.info.settings) (statement_at m (m.image.start + k))
+empty-told n m k a t r bytes is same at =
+    ap (λ (n : MapView). has_empty_line t (statement_for (names_of n) (table_of t.cpu) r a bytes)) is
+    ∙ ap (λ (s : StatementView). has_empty_line t s) (group-told m k a t.cpu r bytes at)
+    ∙ ap (λ (u : Style). has_empty_line u (statement_at m (m.image.start + k))) same
+
+place-at : (m : MapView) (k len : ℕ) → IsGroupStart m k → len ≡ group_len m (m.image.start + k) → IsGroupPlace m (k + len)
+place-at m k len start same = subst (λ (n : ℕ). IsGroupPlace m (k + n)) (sym same) (place-next m k start.place start.inside start.shown)
+
+segment-there : (m : MapView) (k len : ℕ) → IsGroupStart m k → len ≡ group_len m (m.image.start + k) → segment_before m (k + len) ≡ segment_at m (m.image.start + k)
+segment-there m k len start same = ap (λ (n : ℕ). segment_before m (k + n)) same ∙ segment-next m k start
+
+-- the next group follows its line
+pub then-group : (m : MapView) (k len : ℕ) (text : List ℕ) (l : ListingLine) → IsGroupStart m k → len ≡ group_len m (m.image.start + k)
+    → has_empty_line (style_of m.info.settings) (statement_at m (m.image.start + k)) ≡ false
+    → text ≡ line_text (style_of m.info.settings) l → IsNext m (l ∷ after_group m k) text (Group (k + len)) (segment_at m (m.image.start + k))
+unfolding after_group ending_lines
+then-group m k len text l start same none is = record {
+  lines = record { head = l; lines = rw none (ap (λ (n : ℕ). l ∷ groups_left m (k + n)) (sym same)); text_is = is };
+  place = place-at m k len start same;
+  segment_is = segment-there m k len start same;
+}
+
+-- an empty line follows its line
+pub then-empty : (m : MapView) (k len : ℕ) (text : List ℕ) (l : ListingLine) → IsGroupStart m k → len ≡ group_len m (m.image.start + k)
+    → has_empty_line (style_of m.info.settings) (statement_at m (m.image.start + k)) ≡ true
+    → text ≡ line_text (style_of m.info.settings) l → IsNext m (l ∷ after_group m k) text (Ending (k + len)) (segment_at m (m.image.start + k))
+unfolding after_group ending_lines
+then-empty m k len text l start same some is = record {
+  lines = record { head = l; lines = rw some (ap (λ (n : ℕ). l ∷ plain view.blank ∷ groups_left m (k + n)) (sym same)); text_is = is };
+  place = place-at m k len start same;
+  segment_is = segment-there m k len start same;
+}
+
+-- ---- what is known of the parts of what is listed
+
+pub style-cpu : (s : SettingsView) → (style_of s).cpu ≡ s.cpu
+unfolding style_of
+style-cpu s = refl
+
+-- a name as the address has it
+pub assignment-told : (m : MapView) (v : ℕ) (t : Style) (text name : List ℕ) → t ≡ style_of m.info.settings → name ≡ base_name (names_of m) v
+    → text ≡ line_text t (plain (view.assignment name v)) → text ≡ line_text (style_of m.info.settings) (assignment_line (names_of m) v)
+assignment-told m v t text name same is told =
+    told ∙ ap (λ (u : Style). line_text u (plain (view.assignment name v))) same
+    ∙ ap (λ (bs : List ℕ). line_text (style_of m.info.settings) (plain (view.assignment bs v))) is
+
+-- the constant line of an address, and the next ones
+pub then-constant : (m : MapView) (v : ℕ) (left : List ListingLine) (text : List ℕ) → v < 65536 → left ≡ assignment_line (names_of m) v ∷ constants_left m (v + 1) true
+    → text ≡ line_text (style_of m.info.settings) (assignment_line (names_of m) v) → IsNext m left text (Constant (v + 1) true) None
+then-constant m v left text low lines is = record {
+  lines = record { head = assignment_line (names_of m) v; lines = lines; text_is = is };
+  place = omega (arith, low);
+  segment_is = refl;
+}
+
+pub constant-base : (m : MapView) (v : ℕ) → IsConstant m v → is_base (names_of m) v ≡ true
+constant-base m v is = (and_parts (is_base (names_of m) v) _ is.has).0
+
+-- ---- the segment of a group
+
+-- the line that enters it
+pub enter-segment : (m : MapView) (k a : ℕ) (t : Style) (text : List ℕ) (here : Option (List ℕ)) → IsGroupStart m k → a ≡ m.image.start + k → t ≡ style_of m.info.settings
+    → here ≡ segment_at m a → is_same_segment here (segment_before m k) ≡ false → text ≡ line_text t (plain (segment_statement here)) → IsNext m (segment_left m k) text (Comment k a) here
+enter-segment m k a t text here start place same is other told =
+    let at : here ≡ segment_at m (m.image.start + k) = is ∙ ap (segment_at m) place in
+    record {
+      lines = first-text t _ _ text _ (plain (segment_statement here))
+          (segment-yes m k (sym (ap (λ (s : Option (List ℕ)). is_same_segment s (segment_before m k)) at) ∙ other)
+          ∙ ap (λ (s : Option (List ℕ)). plain (segment_statement s) ∷ comments_left m k (m.image.start + k)) (sym at)
+          ∙ ap (λ (n : ℕ). plain (segment_statement here) ∷ comments_left m k n) (sym place))
+          told same;
+      place = record { group = start; from = omega (arith, place); before = omega (arith, place) };
+      segment_is = sym at;
+    }
+
+-- it goes on
+pub stay-in-segment : (m : MapView) (k a : ℕ) (text : List ℕ) (next : ListingPlace) (here old : Option (List ℕ)) → a ≡ m.image.start + k
+    → here ≡ segment_at m a → old ≡ segment_before m k → is_same_segment here old ≡ true → IsNext m (comments_left m k a) text next (segment_at m (m.image.start + k)) → IsNext m (segment_left m k) text next old
+stay-in-segment m k a text next here old place is before same known =
+    let at : here ≡ segment_at m (m.image.start + k) = is ∙ ap (segment_at m) place in
+    let both : is_same_segment (segment_at m (m.image.start + k)) (segment_before m k) ≡ true =
+    sym (ap (λ (s : Option (List ℕ)). is_same_segment s (segment_before m k)) at) ∙ sym (ap (is_same_segment here) before) ∙ same in
+    next-there m (segment_left m k) text next (segment_at m (m.image.start + k)) old (sym at ∙ same-segment here old same)
+    (next-moved m (segment_left m k) (comments_left m k a) text next _ (segment-no m k both ∙ ap (comments_left m k) (sym place)) known)
+
+-- ---- where a group begins
+
+pub group-start : (m : MapView) (k : ℕ) (bytes : List ℕ) → IsGroupPlace m k → bytes ≡ m.image.bytes → (k ≡ length bytes → ⊥)
+    → (k < length m.image.bytes → is_skip (role_of m.info (m.image.start + k)) ≡ false) → IsGroupStart m k
+group-start m k bytes here same other shown =
+    let count : length bytes ≡ length m.image.bytes = ap length same in
+    let low : k < length m.image.bytes = ⊎_elim (λ is. is) (λ high. absurd (other (omega (arith, high, here.bound, count)))) (cases_lt k (length m.image.bytes)) in
+    record { place = here; inside = low; shown = shown low }
+
+pub inside-start : (m : MapView) (k a : ℕ) → IsGroupStart m k → a ≡ m.image.start + k → IsInGroup m k (a + 1)
+inside-start m k a start place =
+    let some = group-some m k start.place start.inside start.shown in
+    record { group = start; after = omega (arith, place); before = omega (arith, place, some) }
+
+-- ---- few bytes
+
+len-small : (x : Mode) → len_of x ≤ 3
+len-small Imp = omega arith
+len-small _ = omega arith
+
+pub few-bytes : (t : Table) (r : RangeType) (bytes : List ℕ) → IsGroupOf t r bytes → length bytes ≤ 16
+few-bytes t role.Code bytes of = small (instruction_in t bytes) of
+  where
+    small : (o : Option Op) → size_of o ≡ length bytes → length bytes ≤ 16
+    small None e = omega (arith, e)
+    small (Some op) e = omega (arith, e, len-small op.mode)
+few-bytes t role.ByteTable bytes of = omega (arith, of)
+few-bytes t role.WordTable bytes (inl one) = omega (arith, one)
+few-bytes t role.WordTable bytes (inr more) = omega (arith, more.1)
+few-bytes t role.DbyteTable bytes (inl one) = omega (arith, one)
+few-bytes t role.DbyteTable bytes (inr more) = omega (arith, more.1)
+few-bytes t role.AddrTable bytes (inl one) = omega (arith, one)
+few-bytes t role.AddrTable bytes (inr two) = omega (arith, two)
+few-bytes t role.RtsTable bytes (inl one) = omega (arith, one)
+few-bytes t role.RtsTable bytes (inr two) = omega (arith, two)
+few-bytes t role.TextTable bytes of = of
+few-bytes t role.Skip bytes of = absurd of

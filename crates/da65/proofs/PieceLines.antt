@@ -8,7 +8,7 @@ use Rattle.map65.specs.Items.{item_len, size_at, wanted_at}
 use Rattle.map65.specs.MapView.{MapView}
 use Rattle.map65.specs.Pieces.{AreOnePiece, are_joined, is_joined}
 use Rattle.map65.specs.Roles.{is_skip, role_of, unit_of}
-use Rattle.map65.proofs.ItemLemmas.{item-len-at, joined-role, one-role}
+use Rattle.map65.proofs.ItemLemmas.{item-len-at, joined-in, one-role}
 use Rattle.da65.specs.Groups.{IsGroupPlace, IsItemOf, IsStart, goes_on, group_len, is_defined, is_whole, limit_at, limit_of, more_at, stride_at}
 use Rattle.da65.proofs.GroupLemmas.{group-some, stride-group, stride-skip}
 use Rattle.da65.proofs.InsideLemmas.{full-more, group-piece}
@@ -125,7 +125,7 @@ module _ (m : MapView) (r : RangeType) (table : IsTable m r) where
       role-a =
           let last : ℕ = a + group_len m a - 1 in
           let place : last ≡ next - 1 = omega (arith, len) in
-          sym (one-role m a last (omega (arith, group-some m p here low shown)) (group-piece m p here low shown)) ∙ ap (role_of m.info) place ∙ (joined-role m next joined).0 ∙ role-is
+          sym (one-role m a last (omega (arith, group-some m p here low shown)) (group-piece m p here low shown)) ∙ ap (role_of m.info) place ∙ (joined-in m next joined).same ∙ role-is
 
       begun : item_len m a ≡ size_at m a
       begun = item-len-at m p low shown here.item
@@ -193,7 +193,7 @@ module _ (m : MapView) (r : RangeType) (table : IsTable m r) where
       go true e true d u f = first-full m r (p + stride_at m (m.image.start + p)) (inr d)
       go true e false d true f =
           let place : m.image.start + p ≡ next - 1 = omega (arith, stride-skip m (m.image.start + p) f) in
-          let same : role_of m.info (m.image.start + p) ≡ r = ap (role_of m.info) place ∙ (joined-role m next e).0 ∙ role-is in
+          let same : role_of m.info (m.image.start + p) ≡ r = ap (role_of m.info) place ∙ (joined-in m next e).same ∙ role-is in
           absurd (true≢false (sym f ∙ ap is_skip same ∙ table.listed))
       go true e false d false f = behind-group p (stride_at m (m.image.start + p)) here low f known (stride-group m (m.image.start + p) f) e d role-is whole
 
@@ -203,7 +203,7 @@ module _ (m : MapView) (r : RangeType) (table : IsTable m r) where
 -- ---- items are counted in one way
 
 not-before : (m : MapView) (a k g : ℕ) (item : IsItemOf m a k) → IsStart m g → item.first < g → g ≤ a → ⊥
-not-before m a k g item (inl (inl start)) low high = let joined = joined-role m g (item.one_piece g low high) in omega (arith, joined.1.0, start)
+not-before m a k g item (inl (inl start)) low high = let joined = joined-in m g (item.one_piece g low high) in omega (arith, joined.low, start)
 not-before m a k g item (inl (inr apart)) low high = true≢false (sym (item.one_piece g low high) ∙ apart)
 not-before m a k g item (inr named) low high = true≢false (sym named ∙ item.unnamed g low high)
 

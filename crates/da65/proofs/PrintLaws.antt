@@ -15,7 +15,6 @@ use Rattle.info65.specs.declared.range.RangeType.{RangeType}
 use Rattle.info65.specs.declared.range.RangeType.TheVariants as role
 use Rattle.stmt65.specs.Views as view
 use Rattle.stmt65.specs.Views.{ExprView, OperandsView, StatementView}
-use Rattle.stmt65.specs.Columns.{default_columns}
 use Rattle.stmt65.specs.Line.{line_of}
 use Rattle.stmt65.specs.Printable.{IsLong, IsPrintable, IsShort, IsTable, IsWrittenIn, MayBeForced, MayBeLabelled}
 use Rattle.stmt65.specs.Printed.{HasLabelName, HasName, HasNames, HasNamesIn, PrintsAs, source_line, with_label}
@@ -30,6 +29,7 @@ use Rattle.da65.specs.Instructions.{instruction_in}
 use Rattle.da65.specs.Listing.{ListingLine, line_text, remarks_of}
 use Rattle.da65.specs.Statements.{addr_from, address_entry, address_expr, bytes_statement, constant_base, expr_from, is_forced, operands_of, return_entry, rts_from, rts_to, statement_for, statement_in, statement_of, words_or_byte, written, zero_page_expr}
 use Rattle.da65.specs.Shapes.{AreWords, IsGroupOf}
+use Rattle.da65.specs.declared.style.Style.{Style}
 use Rattle.da65.proofs.FragmentLaws.{target_is}
 use Rattle.da65.proofs.NameTexts.{IsNameText}
 use Rattle.da65.proofs.TargetBounds.{byte-small, entry-small, word-small}
@@ -42,18 +42,18 @@ pub record StatementPrints (s : StatementView) : Type 0 where
   pub names : HasNames s
 
 -- the same of a line, with the label before its statement
-pub record CanPrint (l : ListingLine) : Type 0 where
+pub record CanPrint (t : Style) (l : ListingLine) : Type 0 where
   pub statement : StatementPrints l.statement
-  pub room : MayBeLabelled default_columns l.label l.statement
+  pub room : MayBeLabelled t.columns l.label l.statement
   pub label : HasLabelName l.label
 
-pub prints : (hexoffs : Bool) (l : ListingLine) → CanPrint l → PrintsAs (line_text hexoffs l) (with_label l.label (source_line l.statement))
+pub prints : (t : Style) (l : ListingLine) → CanPrint t l → PrintsAs (line_text t l) (with_label l.label (source_line l.statement))
 unfolding line_text
-prints hexoffs l h = record {
-  line = line_of default_columns l.statement (remarks_of hexoffs l.label);
+prints t l h = record {
+  line = line_of t.columns l.statement (remarks_of t l);
   ends = refl;
-  one_line = one_line default_columns l.statement (remarks_of hexoffs l.label) h.statement.printable h.statement.width h.statement.names h.label;
-  reads = reads_back default_columns l.statement (remarks_of hexoffs l.label) h.statement.printable h.statement.width h.statement.names h.room h.label;
+  one_line = one_line t.columns l.statement (remarks_of t l) h.statement.printable h.statement.width h.statement.names h.label;
+  reads = reads_back t.columns l.statement (remarks_of t l) h.statement.printable h.statement.width h.statement.names h.room h.label;
 }
 
 -- ---- bytes

@@ -12,6 +12,7 @@ use Rattle.map65.specs.Items.{item_len}
 use Rattle.map65.specs.MapView.{MapView}
 use Rattle.map65.specs.Names.{Base, base_at, given_base}
 use Rattle.map65.specs.Pieces.{is_in_run, is_joined, is_own}
+use Rattle.map65.proofs.ItemLemmas.{in-run}
 use Rattle.map65.proofs.NameLemmas.{base-covered}
 use Rattle.map65.specs.Roles.{is_role, is_wide, role_at, role_of}
 use Rattle.da65.specs.BaseNames as base_names
@@ -60,42 +61,13 @@ item-outside m a placed far = rw (outside m a placed far) refl
 
 -- ---- runs
 
-pub record InRun (m : MapView) (a : ℕ) : Type 0 where
-  pub low : m.image.start < a
-  pub high : a < end_of m.image
-
-pub run-bounds : (m : MapView) (a : ℕ) → is_in_run m a ≡ true → InRun m a
-unfolding is_in_run
-run-bounds m a is =
-    let both = and_parts (nat_lt m.image.start a) (nat_lt a (end_of m.image) && is_role (role_of m.info (a - 1)) (role_of m.info a)) is in
-    let behind = and_parts (nat_lt a (end_of m.image)) (is_role (role_of m.info (a - 1)) (role_of m.info a)) both.1 in
-    record { low = ltb-true m.image.start a both.0; high = ltb-true a (end_of m.image) behind.0 }
-
-not-in-run : (m : MapView) (a : ℕ) → (InRun m a → ⊥) → is_in_run m a ≡ false
-not-in-run m a never = go (is_in_run m a) refl
+-- no address outside the image lies in the run of another
+run-outside : (m : MapView) (a : ℕ) → role_at m a ≡ None → is_in_run m a ≡ false
+run-outside m a none = go (is_in_run m a) refl
   where
     go : (t : Bool) → is_in_run m a ≡ t → t ≡ false
     go false is = refl
-    go true is = absurd (never (run-bounds m a is))
-
-pub run-first : (m : MapView) (a : ℕ) → a ≡ 0 → is_in_run m a ≡ false
-run-first m a first = not-in-run m a (λ j. omega (arith, first, j.low))
-
-pub run-behind : (m : MapView) (a : ℕ) → role_at m (a - 1) ≡ None → is_in_run m a ≡ false
-run-behind m a none =
-    not-in-run m a (λ j. both_ways (is_inside m.image (a - 1)) (role-none m (a - 1) none) (bounds-inside m (a - 1) (omega (arith, j.low)) (omega (arith, j.high))))
-
-pub run-outside : (m : MapView) (a : ℕ) → role_at m a ≡ None → is_in_run m a ≡ false
-run-outside m a none =
-    not-in-run m a (λ j. both_ways (is_inside m.image a) (role-none m a none) (bounds-inside m a (omega (arith, j.low)) j.high))
-
-pub run-roles : (m : MapView) (a : ℕ) (q r : RangeType) → 0 < a → role_at m (a - 1) ≡ Some q → role_at m a ≡ Some r → is_in_run m a ≡ is_role q r
-unfolding is_in_run
-run-roles m a q r some before here =
-    let p = role-some m (a - 1) q before in
-    let h = role-some m a r here in
-    let low : m.image.start < a = omega (arith, some, (inside-bounds m (a - 1) p.0).low) in
-    rw (lt-ltb m.image.start a low, lt-ltb a (end_of m.image) (inside-bounds m a h.0).high, p.1, h.1) refl
+    go true is = let run = in-run m a is in absurd (both_ways (is_inside m.image a) (role-none m a none) (bounds-inside m a (omega (arith, run.low)) run.high))
 
 -- ---- items that go on
 

@@ -15,7 +15,7 @@ use Rattle.map65.specs.Items.{code_size, item_len, size_at, size_for, wanted_at}
 use Rattle.map65.specs.MapView.{MapView, opcodes}
 use Rattle.map65.specs.Pieces.{are_joined, is_joined}
 use Rattle.map65.specs.Roles.{is_skip, role_of, unit_of}
-use Rattle.map65.proofs.ItemLemmas.{item-len-at, joined-role, one-role, size-one-piece, size-positive}
+use Rattle.map65.proofs.ItemLemmas.{item-len-at, joined-in, one-role, size-one-piece, size-positive}
 use Rattle.da65.specs.Groups.{IsGroupPlace, goes_on, group_bytes, group_len, is_whole, limit_at, limit_of, more_at}
 use Rattle.da65.specs.Instructions.{instruction_in, size_of, whole_in}
 use Rattle.da65.specs.ReassemblyLaw.{GroupsAreGroups, IsGroup}
@@ -71,7 +71,7 @@ pub behind-role : (m : MapView) (a len : ℕ) → len ≡ size_at m a → is_joi
 behind-role m a len same joined =
     let some : 1 ≤ size_at m a = size-positive m a in
     let place : a + len - 1 ≡ a + size_at m a - 1 = omega (arith, same) in
-    sym (joined-role m (a + len) joined).0 ∙ ap (role_of m.info) place ∙ one-role m a (a + size_at m a - 1) (omega (arith, some)) (size-one-piece m a)
+    sym (joined-in m (a + len) joined).same ∙ ap (role_of m.info) place ∙ one-role m a (a + size_at m a - 1) (omega (arith, some)) (size-one-piece m a)
 
 -- so many items go on, each as long as those of the role
 record Many (m : MapView) (n a : ℕ) (r : RangeType) : Type 0 where

@@ -4,7 +4,7 @@ use Rattle.std.specs.List.{list_any}
 use Rattle.map65.specs.Items.{item_len}
 use Rattle.map65.specs.MapView.{MapView}
 use Rattle.map65.specs.Spans.{addresses}
-use Rattle.da65.specs.Groups.{goes_on, more_at}
+use Rattle.da65.specs.Groups.{goes_on, group_len, limit_at, more_at}
 use Rattle.da65.proofs.GroupLemmas.{more-true}
 
 -- ---- the items that go on
@@ -14,6 +14,14 @@ pub more-step : (m : MapView) (n a len : ℕ) → 0 < n → goes_on m a ≡ true
 more-step m n a len some is same =
     let count : n ≡ suc (n - 1) = omega (arith, some) in
     ap (λ (n : ℕ). more_at m n a) count ∙ more-true m (n - 1) a is ∙ ap (λ (len : ℕ). len + more_at m (n - 1) (a + len)) (sym same)
+
+-- a line that takes one item has no more
+pub group-one : (m : MapView) (a : ℕ) → limit_at m a ≡ 1 → group_len m a ≡ item_len m a
+unfolding group_len more_at
+group-one m a one =
+    let none : limit_at m a - 1 ≡ 0 = omega (arith, one) in
+    let no_more : more_at m (limit_at m a - 1) (a + item_len m a) ≡ 0 = ap (λ (n : ℕ). more_at m n (a + item_len m a)) none in
+    omega (arith, no_more)
 
 -- ---- skipped bytes
 

@@ -1,6 +1,8 @@
 -- What ties the code to the rules: what its parts have done, for each of their results.
-pub mod BareOperands
 pub mod Bases
 pub mod CommandRules
+pub mod Entering
+pub mod Layout
 pub mod Refusals
 pub mod SkipRanges
+pub mod SoleOperands

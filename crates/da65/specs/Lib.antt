@@ -1,13 +1,17 @@
 pub mod BaseNames
 pub mod Choices
 pub mod Code
+pub mod Comments
 pub mod Command
+pub mod Entering
+pub mod Files
 pub mod Groups
 pub mod Help
 pub mod Instructions
 pub mod KnownNames
 pub mod Lines
 pub mod Listing
+pub mod Marks
 pub mod NeededFiles
 pub mod NeedsView
 pub mod Number
@@ -15,7 +19,9 @@ pub mod Outcome
 pub mod ReassemblyLaw
 pub mod RunLaw
 pub mod Running
+pub mod Segments
 pub mod Shapes
 pub mod Statements
+pub mod Style
 pub mod Usage
 pub mod ListingRows

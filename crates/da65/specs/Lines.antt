@@ -1,17 +1,22 @@
 -- The lines of a listing that are left from a place on.
-use Rattle.std.specs.Prelude.{◌≡◌, ℕ, ◌+◌, ◌-◌, ◌<◌, ◌≤◌, Bool, true, false, List, [], ◌∷◌, ◌++◌, length, map}
+use Rattle.std.specs.Prelude.{◌≡◌, ℕ, ◌+◌, ◌-◌, ◌<◌, ◌≤◌, Bool, true, false, List, [], ◌∷◌, ◌++◌, length, map, Option, None}
 use Rattle.std.specs.List.{flat_map}
 use Rattle.info65.specs.Names.{AreNames}
+use Rattle.info65.specs.Segments.{AreSegments}
 use Rattle.info65.specs.Views.{InfoView}
 use Rattle.map65.specs.ImageView.{ImageView, IsPlaced}
 use Rattle.map65.specs.MapView.{MapView}
 use Rattle.map65.specs.Roles.{is_skip, role_of}
 use Rattle.da65.specs.BaseNames.{names_of}
-use Rattle.da65.specs.Groups.{IsGroupPlace, group_len, groups_from}
-use Rattle.da65.specs.Listing.{ListingLine, constants, forwards, group_lines, line_text, listing, plain, statement_lines, with_empty_line}
+use Rattle.da65.specs.Comments.{comment_at}
+use Rattle.da65.specs.Groups.{IsGroupPlace, group_bytes, group_len, groups_from}
+use Rattle.da65.specs.Listing.{ListingLine, assignment_line, comments, constants, ending_lines, forwards, group_line, group_lines, has_constant_line, line_text, listing, opening_lines, plain, segment_lines, statement_lines, with_empty_line}
+use Rattle.da65.specs.Segments.{segment_at, segment_before}
 use Rattle.da65.specs.Statements.{statement_at}
-use Rattle.da65.specs.declared.lines.ListingPlace.{ListingPlace}
-use Rattle.da65.specs.declared.lines.ListingPlace.TheVariants.{Title, AfterTitle, CpuLine, AfterCpu, Constant, Group, Forward, Statement}
+use Rattle.da65.specs.Style.{style_of}
+use Rattle.da65.specs.declared.place.ListingPlace.{ListingPlace}
+use Rattle.da65.specs.declared.place.ListingPlace.TheVariants.{Title, AfterTitle, CpuLine, AfterCpu, Constant, Assignment, Group, Segment, Comment, Forward, Statement, Ending}
+use Rattle.da65.specs.declared.style.Style.{Style}
 use Rattle.stmt65.specs.Views as view
 
 -- the lines of the groups from the k-th byte on
@@ -23,22 +28,30 @@ abbrev pub closed : Bool → List ListingLine → List ListingLine
 closed true ls = ls ++ plain view.blank ∷ []
 closed false ls = with_empty_line ls
 
--- from the constant line of an address on
+-- from the lines of the constant of an address on
 unfoldable pub constants_left : MapView → ℕ → Bool → List ListingLine
-constants_left m v any = closed any (constants (names_of m) (65536 - v) v) ++ groups_left m 0
+constants_left m v any = closed any (constants m (65536 - v) v) ++ groups_left m 0
 
--- the groups after the one that begins with the k-th byte
-abbrev pub after_group : MapView → ℕ → List ListingLine
-after_group m k = groups_left m (k + group_len m (m.image.start + k))
+-- what follows the statement of the group that begins with the k-th byte
+unfoldable pub after_group : MapView → ℕ → List ListingLine
+after_group m k = ending_lines m (m.image.start + k) ++ groups_left m (k + group_len m (m.image.start + k))
 
--- from the forward line of the address v on, in the group that begins with the k-th byte
+-- from the statement of that group on
+abbrev pub statement_left : MapView → ℕ → List ListingLine
+statement_left m k = group_line None (statement_at m (m.image.start + k)) (m.image.start + k) (group_bytes m (m.image.start + k)) ∷ after_group m k
+
+-- from the forward line of the address v in that group on
 unfoldable pub group_left : MapView → ℕ → ℕ → List ListingLine
 group_left m k v =
     (forwards (names_of m) (m.image.start + k) (m.image.start + k + group_len m (m.image.start + k) - v) v ++ statement_lines m (m.image.start + k)) ++ after_group m k
 
--- from the statement of that group on
-abbrev pub statement_left : MapView → ℕ → List ListingLine
-statement_left m k = plain (statement_at m (m.image.start + k)) ∷ after_group m k
+-- from the comment of the name of the address v in that group on
+unfoldable pub comments_left : MapView → ℕ → ℕ → List ListingLine
+comments_left m k v = comments m (m.image.start + k + group_len m (m.image.start + k) - v) v ++ group_left m k (m.image.start + k + 1)
+
+-- from the line that enters its segment on
+unfoldable pub segment_left : MapView → ℕ → List ListingLine
+segment_left m k = segment_lines m (m.image.start + k) ++ comments_left m k (m.image.start + k)
 
 abbrev pub left_from : ListingPlace → MapView → List ListingLine
 left_from Title m = listing m
@@ -46,13 +59,27 @@ left_from AfterTitle m = plain view.blank ∷ plain (view.set_cpu m.info.setting
 left_from CpuLine m = plain (view.set_cpu m.info.settings.cpu) ∷ plain view.blank ∷ constants_left m 0 false
 left_from AfterCpu m = plain view.blank ∷ constants_left m 0 false
 left_from (Constant v any) m = constants_left m v any
+left_from (Assignment v) m = assignment_line (names_of m) v ∷ constants_left m (v + 1) true
 left_from (Group k) m = groups_left m k
+left_from (Segment k) m = segment_left m k
+left_from (Comment k v) m = comments_left m k v
 left_from (Forward k v) m = group_left m k v
 left_from (Statement k) m = statement_left m k
+left_from (Ending k) m = plain view.blank ∷ groups_left m k
 
 -- the same as text
 abbrev pub lines_from : ListingPlace → MapView → List (List ℕ)
-lines_from place m = map (line_text m.info.settings.hexoffs) (left_from place m)
+lines_from place m = map (line_text (style_of m.info.settings)) (left_from place m)
+
+-- the segment of the last line before a place: that of the last group, or the default
+abbrev pub segment_of : ListingPlace → MapView → Option (List ℕ)
+segment_of (Group k) m = segment_before m k
+segment_of (Ending k) m = segment_before m k
+segment_of (Segment k) m = segment_before m k
+segment_of (Comment k v) m = segment_at m (m.image.start + k)
+segment_of (Forward k v) m = segment_at m (m.image.start + k)
+segment_of (Statement k) m = segment_at m (m.image.start + k)
+segment_of _ m = None
 
 -- a group begins with the k-th byte
 pub record IsGroupStart (m : MapView) (k : ℕ) : Type 0 where
@@ -66,28 +93,61 @@ pub record IsInGroup (m : MapView) (k v : ℕ) : Type 0 where
   pub after : m.image.start + k < v
   pub before : v ≤ m.image.start + k + group_len m (m.image.start + k)
 
+-- the address lies inside the group, or at its end
+pub record IsOfGroup (m : MapView) (k v : ℕ) : Type 0 where
+  pub group : IsGroupStart m k
+  pub from : m.image.start + k ≤ v
+  pub before : v ≤ m.image.start + k + group_len m (m.image.start + k)
+
+-- the address has a constant line
+pub record IsConstant (m : MapView) (v : ℕ) : Type 0 where
+  pub low : v < 65536
+  pub has : has_constant_line (names_of m) v ≡ true
+
 abbrev pub IsPlace : ListingPlace → MapView → Type 0
-IsPlace (Constant v any) m = IsPlaced m.image × (v ≤ 65536)
-IsPlace (Group k) m = IsPlaced m.image × IsGroupPlace m k
-IsPlace (Forward k v) m = IsPlaced m.image × IsInGroup m k v
-IsPlace (Statement k) m = IsPlaced m.image × IsGroupStart m k
-IsPlace _ m = IsPlaced m.image × Unit {0}
+IsPlace (Constant v any) m = v ≤ 65536
+IsPlace (Assignment v) m = IsConstant m v
+IsPlace (Group k) m = IsGroupPlace m k
+IsPlace (Segment k) m = IsGroupStart m k
+IsPlace (Comment k v) m = IsOfGroup m k v
+IsPlace (Forward k v) m = IsInGroup m k v
+IsPlace (Statement k) m = IsGroupStart m k
+IsPlace (Ending k) m = IsGroupPlace m k
+IsPlace _ m = Unit {0}
 
 -- ---- one line after the other
 
 -- the text of the first of these lines, and the lines after it
-pub record IsFirstOf (hexoffs : Bool) (left : List ListingLine) (text : List ℕ) (rest : List ListingLine) : Type 0 where
+pub record IsFirstOf (t : Style) (left : List ListingLine) (text : List ℕ) (rest : List ListingLine) : Type 0 where
   pub head : ListingLine
   pub lines : left ≡ head ∷ rest
-  pub text_is : text ≡ line_text hexoffs head
+  pub text_is : text ≡ line_text t head
 
--- the text of the first of these lines, and the place from which the lines after it are left
-pub record IsNext (m : MapView) (left : List ListingLine) (text : List ℕ) (next : ListingPlace) : Type 0 where
-  pub lines : IsFirstOf m.info.settings.hexoffs left text (left_from next m)
+-- the text of the first of these lines, and the place from which the lines after it are left, where the segment is this one
+pub record IsNext (m : MapView) (left : List ListingLine) (text : List ℕ) (next : ListingPlace) (segment : Option (List ℕ)) : Type 0 where
+  pub lines : IsFirstOf (style_of m.info.settings) left text (left_from next m)
   pub place : IsPlace next m
+  pub segment_is : segment_of next m ≡ segment
 
--- the lines of a map that was built from this information and this image
-pub record AreLinesOf (place : ListingPlace) (m : MapView) (i : InfoView) (image : ImageView) : Type 0 where
-  pub place_is : IsPlace place m
+-- ---- what lists an image
+
+-- the listing has no separators, no segments but the default, and no comments
+pub record IsUnmarked (m : MapView) : Type 0 where
+  pub opening : (a : ℕ) → opening_lines m a ≡ []
+  pub comments : (a : ℕ) → comment_at m a ≡ None
+  pub segments : (a : ℕ) → segment_at m a ≡ None
+
+-- what information, an image, its map and a style know of a listing; `marked` says whether it may have separators, segments or comments
+pub record IsListed (m : MapView) (info : InfoView) (image : ImageView) (t : Style) (marked : Bool) : Type 0 where
+  pub info_is : m.info ≡ info
+  pub image_is : m.image ≡ image
+  pub style_is : t ≡ style_of m.info.settings
+  pub placed : IsPlaced m.image
   pub names : AreNames m.info.names
-  pub built : m ≡ record { info = i; image = image }
+  pub segments : AreSegments m.info.segments
+  pub unmarked : marked ≡ false → IsUnmarked m
+
+-- the lines that are left from a place, where the segment is this one
+pub record AreLines (place : ListingPlace) (m : MapView) (segment : Option (List ℕ)) : Type 0 where
+  pub place_is : IsPlace place m
+  pub segment_is : segment ≡ segment_of place m

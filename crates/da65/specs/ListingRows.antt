@@ -6,6 +6,7 @@ use Rattle.info65.specs.declared.range.RangeType.{RangeType}
 use Rattle.info65.specs.declared.range.RangeType.TheVariants as role
 use Rattle.map65.specs.MapView.{MapView}
 use Rattle.da65.specs.Listing.{line_text, listing_below, text_of}
+use Rattle.da65.specs.Style.{style_of}
 
 -- ---- how an example is written
 
@@ -26,8 +27,8 @@ abbrev pub map_of : Example → MapView
 map_of e = record {
   info = record {
     settings = record default_settings { input = Some []; start = Some e.start; hexoffs = e.hexoffs };
-    ranges = e.ranges;
     segments = [];
+    ranges = e.ranges;
     names = e.names;
   };
   image = record { start = e.start; bytes = e.bytes };
@@ -47,11 +48,11 @@ with_hexoffs e = record e { hexoffs = true }
 
 -- Below the four lines of the header, with the constants up to $FF, the listing has this text.
 abbrev pub IsListed : Example → List ℕ → Type 0
-IsListed e body = text_of (map (line_text e.hexoffs) (drop 4 (listing_below 0x100 (map_of e)))) ≡ body
+IsListed e body = text_of (map (line_text (style_of (map_of e).info.settings)) (drop 4 (listing_below 0x100 (map_of e)))) ≡ body
 
 -- With the header it has this text.
 abbrev pub IsListedWhole : Example → List ℕ → Type 0
-IsListedWhole e text = text_of (map (line_text e.hexoffs) (listing_below 0x100 (map_of e))) ≡ text
+IsListedWhole e text = text_of (map (line_text (style_of (map_of e).info.settings)) (listing_below 0x100 (map_of e))) ≡ text
 
 -- ---- the examples
 

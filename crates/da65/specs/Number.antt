@@ -20,3 +20,12 @@ address_in text =
     else (if starts_with nat_eq text (codes "0x") || starts_with nat_eq text (codes "0X") then number_in 16 0xFFFF (drop 2 text)
     else (if starts_with nat_eq text (codes "0") then number_in 8 0xFFFF text
     else number_in 10 0xFFFF text))
+
+-- a number that is too small is out of range
+abbrev pub at_least : ℕ → Result ℕ UsageFault → Result ℕ UsageFault
+at_least least (Ok n) = if nat_le least n then Ok n else Err OutOfRange
+at_least least (Err e) = Err e
+
+-- the number from `least` to `most` that decimal digits write
+unfoldable pub decimal_in : ℕ → ℕ → List ℕ → Result ℕ UsageFault
+decimal_in least most text = at_least least (number_in 10 most text)

@@ -9,6 +9,7 @@ use Rattle.map65.specs.ImageView.{ImageView}
 use Rattle.map65.specs.MapView.{MapView}
 use Rattle.map65.specs.declared.image.ImageFault.{ImageFault}
 use Rattle.map65.specs.declared.image.ImageFault.TheVariants.{Empty, TooLarge, Short, Read, Memory}
+use Rattle.da65.specs.Entering.{is_entered_again}
 use Rattle.da65.specs.Groups.{skips}
 use Rattle.da65.specs.Listing.{lines_of, text_of}
 use Rattle.da65.specs.declared.outcome.Status.{Status}
@@ -25,6 +26,14 @@ pub record Outcome : Type 0 where
 unfoldable pub info_message : InfoFault → List ℕ
 info_message fault = codes "da65: info:" ++ decimal fault.line ++ codes ": " ++ fault_text fault.kind ++ 10 ∷ []
 
+-- why an include file of this name is refused
+unfoldable pub include_message : List ℕ → InfoFault → List ℕ
+include_message name fault = codes "da65: include " ++ name ++ codes ":" ++ decimal fault.line ++ codes ": " ++ fault_text fault.kind ++ 10 ∷ []
+
+-- no file of this name was handed in
+unfoldable pub missing_message : List ℕ → List ℕ
+missing_message name = codes "da65: cannot read include " ++ name ++ 10 ∷ []
+
 unfoldable pub no_input_message : List ℕ
 no_input_message = codes "da65: no input file" ++ 10 ∷ []
 
@@ -39,9 +48,16 @@ image_message Memory = []
 unfoldable pub skipped_warning : List ℕ
 skipped_warning = codes "da65: warning: skipped bytes, the listing does not assemble to the image" ++ 10 ∷ []
 
--- the warnings that apply to a listing, each one line
+unfoldable pub entered_warning : List ℕ
+entered_warning = codes "da65: warning: a segment is entered again" ++ 10 ∷ []
+
+-- the warnings that apply, each one line: bytes are skipped, and a segment is entered again
+abbrev pub warnings_for : Bool → Bool → List ℕ
+warnings_for skipped entered = (if skipped then skipped_warning else []) ++ (if entered then entered_warning else [])
+
+-- those of a listing
 abbrev pub warnings : MapView → List ℕ
-warnings m = if skips m then skipped_warning else []
+warnings m = warnings_for (skips m) (is_entered_again m)
 
 -- ---- the outcome
 

@@ -15,6 +15,7 @@ use Rattle.stmt65.specs.Symbols.{Definition, value_in}
 use Rattle.stmt65.specs.Coding.{Fragment, Fixed, Single, ZeroPage, LowFirst, Distance, coding, distance, is_near}
 use Rattle.stmt65.specs.Meaning.{State, fault_of, bytes_of, after, final, initial, meaning, meaning_of}
 use Rattle.info65.specs.Names as given
+use Rattle.info65.specs.Segments.{AreSegments}
 use Rattle.info65.specs.declared.range.RangeType.{RangeType}
 use Rattle.map65.specs.ImageView.{AreBytes, ImageView, IsPlaced, end_of}
 use Rattle.map65.specs.MapView.{MapView, opcodes}
@@ -174,5 +175,5 @@ ListingGivesImage = (m : MapView) → IsPlaced m.image → AreBytes m.image.byte
 
 -- The text of such a listing means, from the image's start, the image's bytes.
 abbrev pub TextGivesImage : Type 0
-TextGivesImage = (m : MapView) → IsPlaced m.image → AreBytes m.image.bytes → given.AreNames m.info.names → skips m ≡ false
+TextGivesImage = (m : MapView) → IsPlaced m.image → AreBytes m.image.bytes → given.AreNames m.info.names → AreSegments m.info.segments → skips m ≡ false
     → meaning m.image.start (text_of (lines_of m)) ≡ Ok m.image.bytes

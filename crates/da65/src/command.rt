@@ -31,6 +31,12 @@ fn whole_command<'a>(alloc: Global) -> Result<Command<'a>, AllocError>
     let command = with_short(alloc, command, "output", 'o')?;
     let command = with_short_option(alloc, command, "start", 'S', "start-addr")?;
     let command = with_option(alloc, command, "cpu", "cpu")?;
+    let command = with_option(alloc, command, "comments", "comments")?;
+    let command = with_option(alloc, command, "mnemonic-column", "mnemonic-column")?;
+    let command = with_option(alloc, command, "argument-column", "argument-column")?;
+    let command = with_option(alloc, command, "comment-column", "comment-column")?;
+    let command = with_option(alloc, command, "text-column", "text-column")?;
+    let command = with_option(alloc, command, "label-break", "label-break")?;
     let command = with_long_flag(alloc, command, "hexoffs", "hexoffs")?;
     let command = with_flag(alloc, command, "help", 'h', "help")?;
     let command = with_flag(alloc, command, "version", 'V', "version")?;

@@ -5,7 +5,6 @@ ghost use Rattle.std.specs.List.{list_any};
 ghost use Rattle.info65.specs.Names.{AreNames};
 ghost use Rattle.map65.specs.ImageView.{IsPlaced, end_of, is_inside};
 ghost use Rattle.map65.specs.Items.{item_len};
-ghost use Rattle.map65.specs.Pieces.{is_in_run};
 ghost use Rattle.map65.specs.Roles.{is_skip, role_at, role_of};
 ghost use Rattle.da65.specs.Code.SkipRanges.{is_skip_range};
 ghost use Rattle.da65.specs.Groups.{goes_on, group_len, is_whole, limit_at, limit_of, more_at, skips};
@@ -56,23 +55,6 @@ fn item_len<A: Allocator>(map: &Map<'_, A>, address: usize) -> usize
     }
 }
 
-/// Whether the address lies in the run of the address before it.
-fn is_in_run<A: Allocator>(map: &Map<'_, A>, address: usize) -> bool
-    requires { IsPlaced map.now.image }
-    ensures { result ≡ is_in_run map.now address }
-{
-    if address == 0 {
-        return false;
-    }
-    let Some(before) = role_of(map, address - 1) else {
-        return false;
-    };
-    let Some(role) = role_of(map, address) else {
-        return false;
-    };
-    before == role
-}
-
 /// Whether the item at an address of this role is as long as those of the role's tables: it is not left
 /// over.
 fn is_whole<A: Allocator>(map: &Map<'_, A>, role: RangeType, address: usize) -> bool
@@ -94,7 +76,7 @@ fn goes_on<A: Allocator>(map: &Map<'_, A>, address: usize) -> bool
     let Some(role) = role_of(map, address) else {
         return false;
     };
-    if !is_in_run(map, address) {
+    if !map.is_in_run(address as u16) {
         return false;
     }
     if !is_whole(map, role, address) {
@@ -104,6 +86,7 @@ fn goes_on<A: Allocator>(map: &Map<'_, A>, address: usize) -> bool
 }
 
 /// How many bytes the items have that go on from an address, of so many at most.
+#[inline(never)]
 #[tactic(auto, unfolding(crate::specs::Groups::more_at))]
 fn more_at<A: Allocator>(map: &Map<'_, A>, limit: usize, address: usize) -> usize
     requires placed { IsPlaced map.now.image }
@@ -139,7 +122,8 @@ fn limit_at<A: Allocator>(map: &Map<'_, A>, role: RangeType, address: usize) -> 
 }
 
 /// How many bytes the group has that begins with the item at an address of this role: that item, and
-/// those that go on, as many as the line takes. Takes no memory.
+/// those that go on, as many as the line takes. Allocates nothing.
+#[inline]
 #[tactic(auto, unfolding(crate::specs::Groups::group_len))]
 pub fn group_len<A: Allocator>(map: &Map<'_, A>, role: RangeType, address: usize) -> usize
     requires placed { IsPlaced map.now.image }
@@ -150,8 +134,11 @@ pub fn group_len<A: Allocator>(map: &Map<'_, A>, role: RangeType, address: usize
     ensures fits { address + result ≤ end_of map.now.image }
 {
     let first = item_len(map, address);
-    let more = limit_at(map, role, address) - 1;
-    first + more_at(map, more, address + first)
+    let limit = limit_at(map, role, address);
+    if limit == 1 {
+        return first;
+    }
+    first + more_at(map, limit - 1, address + first)
 }
 
 /// The role of an address of the image.

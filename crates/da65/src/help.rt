@@ -12,6 +12,12 @@ pub fn help_text() -> &'static str
      -o name                  output file\n  \
      -S, --start-addr addr    start address\n  \
      --cpu type               6502, 65SC02 or 65C02\n  \
+     --comments n             comment level, 0 to 4\n  \
+     --mnemonic-column n      column of mnemonics\n  \
+     --argument-column n      column of operands\n  \
+     --comment-column n       column of remarks\n  \
+     --text-column n          column of characters\n  \
+     --label-break n          longest label before a line break\n  \
      --hexoffs                offsets in hexadecimal\n  \
      -h, --help               this text\n  \
      -V, --version            version\n"

@@ -6,25 +6,37 @@
 #![tactic(auto)]
 
 mod command;
+mod comments;
+mod constant_lines;
+mod entering;
+mod files;
 mod group_line;
+mod group_lines;
 mod groups;
 mod help;
 mod instructions;
 mod laws;
 mod lines;
+mod listed;
+mod marks;
 mod messages;
 mod names;
 mod needed_files;
 mod needing;
 mod number;
+mod opening_lines;
 mod outcome;
+mod place;
 mod running;
+mod segments;
 mod statement_line;
 mod statements;
+mod style;
 mod usage;
 mod usage_fault;
 mod write;
 
+pub use files::File;
 pub use help::{help_text, version_text};
 pub use info65::Options;
 pub use laws::{
@@ -38,7 +50,7 @@ pub use map65::{DeviceFault, Sink, Source, Told};
 pub use needed_files::Needs;
 pub use needing::needs;
 pub use outcome::{RunFault, Status};
-pub use running::{File, run};
+pub use running::run;
 pub use usage::options_of;
 pub use usage_fault::UsageFault;
 pub use write::write_whole;

@@ -1,19 +1,19 @@
 //! The messages of a run, each one line.
 
-ghost use Rattle.std.specs.Prelude.{◌≡◌, ◌+◌, ◌≤◌, ◌++◌, [], decimal, length, if◌then◌else◌};
+ghost use Rattle.std.specs.Prelude.{◌≡◌, ◌+◌, ◌≤◌, ◌++◌, decimal, length};
 ghost use Rattle.arrayvec.specs.ArrayVec.{array_vec_len};
-ghost use Rattle.da65.specs.Outcome.{image_message, info_message, no_input_message, skipped_warning};
+ghost use Rattle.da65.specs.Outcome.{entered_warning, image_message, include_message, info_message, missing_message, no_input_message, skipped_warning, warnings_for};
 
 use arrayvec::ArrayVec;
 use info65::InfoFault;
 use itoa::Buffer;
 use map65::ImageFault;
 
-/// The longest message has 49 bytes.
-pub type Message = ArrayVec<u8, 64>;
+/// The longest message names an include file of 255 bytes.
+pub type Message = ArrayVec<u8, 320>;
 
 fn put(out: &mut Message, bytes: &[u8])
-    requires { array_vec_len out.old + length bytes.now ≤ 64 }
+    requires { array_vec_len out.old + length bytes.now ≤ 320 }
     ensures { out.new.items ≡ out.old.items ++ bytes.now }
 {
     let taken = out.try_extend_from_slice(bytes);
@@ -21,7 +21,7 @@ fn put(out: &mut Message, bytes: &[u8])
 }
 
 fn put_decimal(out: &mut Message, number: u32)
-    requires { array_vec_len out.old + 10 ≤ 64 }
+    requires { array_vec_len out.old + 10 ≤ 320 }
     ensures items { out.new.items ≡ out.old.items ++ decimal number }
     ensures len { array_vec_len out.new ≤ array_vec_len out.old + 10 }
 {
@@ -39,6 +39,36 @@ pub fn info_message(fault: InfoFault) -> Message
     put_decimal(&mut out, fault.line);
     put(&mut out, b": ");
     put(&mut out, fault.kind.text());
+    put(&mut out, b"\n");
+    out
+}
+
+/// The message of a refused include file of this name: the line, and the text of the fault.
+#[tactic(auto, unfolding(crate::specs::Outcome::include_message))]
+pub fn include_message(name: &[u8], fault: InfoFault) -> Message
+    requires { length name.now ≤ 255 }
+    ensures { result.items ≡ include_message name.now fault }
+{
+    let mut out = Message::new();
+    put(&mut out, b"da65: include ");
+    put(&mut out, name);
+    put(&mut out, b":");
+    put_decimal(&mut out, fault.line);
+    put(&mut out, b": ");
+    put(&mut out, fault.kind.text());
+    put(&mut out, b"\n");
+    out
+}
+
+/// The message if no file of this name is handed in.
+#[tactic(auto, unfolding(crate::specs::Outcome::missing_message))]
+pub fn missing_message(name: &[u8]) -> Message
+    requires { length name.now ≤ 255 }
+    ensures { result.items ≡ missing_message name.now }
+{
+    let mut out = Message::new();
+    put(&mut out, b"da65: cannot read include ");
+    put(&mut out, name);
     put(&mut out, b"\n");
     out
 }
@@ -73,9 +103,25 @@ pub fn skipped_warning() -> &'static [u8]
     b"da65: warning: skipped bytes, the listing does not assemble to the image\n"
 }
 
-/// The warnings after a listing.
-pub fn warnings(has_skipped: bool) -> &'static [u8]
-    ensures { result.now ≡ (if has_skipped then skipped_warning else []) }
+/// The warning that a segment is entered again.
+#[tactic(auto, unfolding(crate::specs::Outcome::entered_warning))]
+pub fn entered_warning() -> &'static [u8]
+    ensures { result.now ≡ entered_warning }
 {
-    if has_skipped { skipped_warning() } else { b"" }
+    b"da65: warning: a segment is entered again\n"
+}
+
+/// The warnings after a listing.
+#[tactic(auto, unfolding(crate::specs::Outcome::entered_warning, crate::specs::Outcome::skipped_warning))]
+pub fn warnings(has_skipped: bool, is_entered_again: bool) -> Message
+    ensures { result.items ≡ warnings_for has_skipped is_entered_again }
+{
+    let mut out = Message::new();
+    if has_skipped {
+        put(&mut out, skipped_warning());
+    }
+    if is_entered_again {
+        put(&mut out, entered_warning());
+    }
+    out
 }

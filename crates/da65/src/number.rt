@@ -1,7 +1,7 @@
 //! Numbers as they are written on the command line.
 
 ghost use Rattle.std.specs.Prelude.{IfOk, ◌≡◌, ◌≤◌};
-ghost use Rattle.da65.specs.Number.{address_in, number_in};
+ghost use Rattle.da65.specs.Number.{address_in, decimal_in, number_in};
 
 use crate::usage_fault::UsageFault;
 
@@ -46,4 +46,18 @@ pub(crate) fn address_in(text: &[u8]) -> Result<u16, UsageFault>
         (10, text)
     };
     Ok(number_in(digits, radix, 0xFFFF)? as u16)
+}
+
+/// The number from `least` to `most` that decimal digits write.
+#[tactic(auto, unfolding(crate::specs::Number::decimal_in))]
+pub(crate) fn decimal_in(text: &[u8], least: u8, most: u8) -> Result<u8, UsageFault>
+    ensures value { result ≡ decimal_in least most text.now }
+    ensures low { IfOk result (λ n. least ≤ n) }
+    ensures high { IfOk result (λ n. n ≤ most) }
+{
+    let number = number_in(text, 10, u32::from(most))? as u8;
+    if number < least {
+        return Err(UsageFault::OutOfRange);
+    }
+    Ok(number)
 }

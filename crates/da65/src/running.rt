@@ -7,28 +7,21 @@ ghost use Rattle.info65.specs.Reader.{information};
 ghost use Rattle.map65.specs.Device.{TakesUpTo, has_failed};
 ghost use Rattle.map65.specs.ImageView.{AreBytes, IsPlaced};
 ghost use Rattle.da65.specs.Groups.{skips};
-ghost use Rattle.da65.specs.Outcome.{done, image_message, info_message, outcome_by_input, outcome_of};
+ghost use Rattle.da65.specs.Outcome.{done, image_message, info_message, outcome_by_input, outcome_of, warnings};
 ghost use Rattle.da65.specs.RunLaw.{Reassembles, Took};
 ghost use Rattle.da65.specs.Code.Refusals.{RefusesOrGivesUp, Tells};
 ghost use Rattle.da65.specs.Running.{Writes, OutCount, MessagesCount, FailsAtMostOnce, most_read};
 
+use crate::entering::is_entered_again;
+use crate::files::File;
 use crate::groups::has_skipped;
 use crate::lines::{Lines, write_lines};
-use crate::messages::{image_message, info_message, no_input_message, warnings};
+use crate::messages::{Message, image_message, info_message, no_input_message, warnings};
 use crate::outcome::{RunFault, Status};
 use crate::write::write_whole;
 use info65::{Info, InfoFault, InfoFaultKind, Options, read_info};
 use map65::{Image, ImageFault, Map, Sink, Source, read_image};
-use std::alloc::Allocator;
-
-/// A file that a caller hands in. Include files are to be handed in like this.
-#[derive(Clone, Copy, Debug, PartialEq, Eq)]
-pub struct File<'a> {
-    /// The name by which the information file includes it.
-    pub name: &'a str,
-    /// Its whole contents.
-    pub bytes: &'a [u8],
-}
+use std::alloc::{AllocError, Allocator};
 
 /// Writes the message of a refusal, which is its only one.
 fn refuse<M: Sink>(msgs: &mut M, message: &[u8]) -> Result<Status, RunFault>
@@ -66,6 +59,20 @@ fn refuse_image<M: Sink>(msgs: &mut M, fault: ImageFault) -> Result<Status, RunF
     }
 }
 
+/// The warnings that apply to the listing of an image. The map is the one of these two.
+fn warnings_of<A: Allocator + Copy>(
+    alloc: A,
+    info: &Info<A>,
+    image: &Image<A>,
+    map: &Map<'_, A>,
+) -> Result<Message, AllocError>
+    requires { map.now ≡ record { info = info.now; image = image.now } }
+    ensures { IfOk result (λ messages. messages.items ≡ warnings map.now) }
+{
+    let is_entered_again = is_entered_again(alloc, info, image, map)?;
+    Ok(warnings(has_skipped(info, map, image), is_entered_again))
+}
+
 /// Writes the warnings after a listing.
 fn warn<M: Sink>(msgs: &mut M, warnings: &[u8]) -> Result<Status, RunFault>
     ensures text { Tells result Status.Done warnings.now (M.taken msgs.old) (M.taken msgs.new) }
@@ -83,22 +90,24 @@ fn write_listing<A: Allocator, W: Sink, M: Sink>(
     info: &Info<A>,
     image: &Image<A>,
     map: &Map<'_, A>,
+    messages: &[u8],
     out: &mut W,
     msgs: &mut M,
 ) -> Result<Status, RunFault>
     requires built { map.now ≡ record { info = info.now; image = image.now } }
     requires placed { IsPlaced image.now }
     requires are_bytes { AreBytes image.now.bytes }
+    requires messages { messages.now ≡ warnings map.now }
     ensures text { Writes result (done map.now) (W.taken out.old) (W.taken out.new) (M.taken msgs.old) (M.taken msgs.new) }
     ensures reassembles { IfOk result (λ status. skips map.now ≡ false → Took image.now (W.taken out.old) (W.taken out.new)) }
     ensures out_count { OutCount result (W.faults out.old) (W.faults out.new) }
     ensures messages_count { MessagesCount result (M.faults msgs.old) (M.faults msgs.new) }
 {
-    // What holds of all given names is known where they are counted.
+    // What holds of all given names is known where they are counted, and of all segments where they are lent.
     let _ = info.given_count();
-    let warnings = warnings(has_skipped(info, map, image));
+    let _ = info.segments();
     match write_lines(Lines::new(info, image, map), out) {
-        Ok(()) => warn(msgs, warnings),
+        Ok(()) => warn(msgs, messages),
         Err(_) => Err(RunFault::Write),
     }
 }
@@ -138,7 +147,11 @@ fn list_input<A: Allocator + Copy, R: Source, W: Sink, M: Sink>(
         Ok(map) => map,
         Err(_) => return Err(RunFault::Memory),
     };
-    write_listing(info, &image, &map, out, msgs)
+    let warnings = match warnings_of(alloc, info, &image, &map) {
+        Ok(warnings) => warnings,
+        Err(_) => return Err(RunFault::Memory),
+    };
+    write_listing(info, &image, &map, warnings.as_slice(), out, msgs)
 }
 
 /// Lists the input on `out` as source for ca65. If it is refused, the reason goes to `msgs`.
@@ -151,7 +164,8 @@ fn list_input<A: Allocator + Copy, R: Source, W: Sink, M: Sink>(
 ///
 /// The type of the RANGE that has an address says how its byte is listed: as code, where there is none; on
 /// one line with its neighbours of the same type, up to 8 bytes, 16 bytes of text or 4 words; or, with
-/// SKIP, not at all. Where a byte of the image is skipped, a warning follows the listing on `msgs`.
+/// SKIP, not at all. If a byte of the image is skipped, a warning follows the listing on `msgs`, and another one if
+/// a segment is entered again.
 ///
 /// After INPUTOFFS bytes at most INPUTSIZE bytes are read, or 65,537 without a size. Nothing is read
 /// without an input name. All memory is allocated before the first byte is written, so `Memory` means that

@@ -1,14 +1,15 @@
 //! The options of a command line.
 
-ghost use Rattle.std.specs.Prelude.{◌≡◌, map, option_map};
+ghost use Rattle.std.specs.Prelude.{◌≡◌, ◌≤◌, IfOk, IfSome, map, option_map};
 ghost use Rattle.std.specs.String.{string_bytes};
 ghost use Rattle.clap.specs.Words.{first_of, found_of, rows_of};
 ghost use Rattle.info65.specs.Views.{name_seen};
-ghost use Rattle.da65.specs.Usage.{Gives, accepted, cpu_in, given, is_set, options_in, usage_of};
-ghost use Rattle.da65.specs.Number.{address_in};
+ghost use Rattle.da65.specs.Code.Layout.{IsLayout};
+ghost use Rattle.da65.specs.Usage.{Gives, accepted, cpu_in, given, is_set, layout_in, options_in, usage_of};
+ghost use Rattle.da65.specs.Number.{address_in, decimal_in};
 
 use crate::command::matches_of_words;
-use crate::number::address_in;
+use crate::number::{address_in, decimal_in};
 use crate::usage_fault::UsageFault;
 use clap::ArgMatches;
 use clap::error::ErrorKind;
@@ -19,9 +20,10 @@ use std::alloc::Global;
 /// Returns the options of a command line. The first word is the program's name.
 ///
 /// Each option and the input name may be given once. Fails with `Words` if a word fits no option, an option
-/// is given twice or a value is missing; else with the fault of the start address, if it is not a number or
-/// above $FFFF; else with `OutOfRange` if the CPU is unknown. Help and version are options like the others:
-/// the other words are checked beside them. `Memory` is returned only if memory ran out.
+/// is given twice or a value is missing; else with the first fault of a value, in the order of the help text:
+/// `BadNumber` if it is not a number, `OutOfRange` if the number is outside its limits or the CPU is unknown.
+/// Help and version are options like the others: the other words are checked beside them. `Memory` is
+/// returned only if memory ran out.
 #[tactic(auto, unfolding(crate::specs::Usage::usage_of))]
 pub fn options_of(alloc: Global, words: &[String]) -> Result<Options, UsageFault>
     ensures { Gives (λ o. o) result (usage_of (map string_bytes words.now)) }
@@ -47,6 +49,39 @@ fn accepted<'a>(alloc: Global, words: &'a [String]) -> Result<ArgMatches<'a>, Us
     }
 }
 
+/// What the options say of a listing's layout.
+#[derive(Clone, Copy, Debug, PartialEq, Eq)]
+struct Layout {
+    comments: Option<u8>,
+    mnemonic_column: Option<u8>,
+    argument_column: Option<u8>,
+    comment_column: Option<u8>,
+    text_column: Option<u8>,
+    label_break: Option<u8>,
+}
+
+/// What the matches say of a listing's layout, in the order of the option table.
+#[tactic(auto, unfolding(crate::specs::Usage::layout_in))]
+fn layout_in(matches: &ArgMatches) -> Result<Layout, UsageFault>
+    ensures value { result ≡ layout_in (rows_of (found_of matches.now)) }
+    ensures limits { IfOk result IsLayout }
+{
+    let comments = number_in(text_of(matches, "comments"), 0, 4)?;
+    let mnemonic_column = number_in(text_of(matches, "mnemonic-column"), 1, 120)?;
+    let argument_column = number_in(text_of(matches, "argument-column"), 1, 120)?;
+    let comment_column = number_in(text_of(matches, "comment-column"), 1, 120)?;
+    let text_column = number_in(text_of(matches, "text-column"), 1, 120)?;
+    let label_break = number_in(text_of(matches, "label-break"), 0, 120)?;
+    Ok(Layout {
+        comments,
+        mnemonic_column,
+        argument_column,
+        comment_column,
+        text_column,
+        label_break,
+    })
+}
+
 /// The options of the matches. Those that can be refused come first, in the order of the option table.
 #[tactic(auto, unfolding(crate::specs::Usage::options_in))]
 fn options_in(alloc: Global, matches: &ArgMatches) -> Result<Options, UsageFault>
@@ -54,6 +89,7 @@ fn options_in(alloc: Global, matches: &ArgMatches) -> Result<Options, UsageFault
 {
     let start = start_in(text_of(matches, "start"))?;
     let cpu = chosen_cpu(text_of(matches, "cpu"))?;
+    let layout = layout_in(matches)?;
     let info = owned(alloc, text_of(matches, "info"))?;
     let input = owned(alloc, text_of(matches, "input"))?;
     let output = owned(alloc, text_of(matches, "output"))?;
@@ -66,12 +102,12 @@ fn options_in(alloc: Global, matches: &ArgMatches) -> Result<Options, UsageFault
         output,
         start,
         cpu,
-        comments: None,
-        mnemonic_column: None,
-        argument_column: None,
-        comment_column: None,
-        text_column: None,
-        label_break: None,
+        comments: layout.comments,
+        mnemonic_column: layout.mnemonic_column,
+        argument_column: layout.argument_column,
+        comment_column: layout.comment_column,
+        text_column: layout.text_column,
+        label_break: layout.label_break,
         hexoffs,
         help,
         version,
@@ -108,6 +144,18 @@ fn chosen_cpu(text: Option<&str>) -> Result<Option<Cpu>, UsageFault>
 {
     match text {
         Some(text) => Ok(Some(cpu_in(text)?)),
+        None => Ok(None),
+    }
+}
+
+/// The number of an option, from `least` to `most`.
+fn number_in(text: Option<&str>, least: u8, most: u8) -> Result<Option<u8>, UsageFault>
+    ensures value { result ≡ given (decimal_in least most) (option_map (λ s. s.now) text.entry) }
+    ensures low { IfOk result (λ o. IfSome o (λ n. least ≤ n)) }
+    ensures high { IfOk result (λ o. IfSome o (λ n. n ≤ most)) }
+{
+    match text {
+        Some(text) => Ok(Some(decimal_in(text.as_bytes(), least, most)?)),
         None => Ok(None),
     }
 }

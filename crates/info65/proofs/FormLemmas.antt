@@ -2,21 +2,22 @@
 use Rattle.std.proofs.Common.{◌≡◌, ◌≤◌, ℕ, Bool, List, [], ◌∷◌, ◌++◌, ◌∙◌, true, false, ap, append_assoc, arith}
 use Rattle.std.specs.Prelude.{IfOk, IfSome, option_map, Option, Some, None, Result, Ok, nat_le}
 use Rattle.std.specs.List.{AllByRecursion, flat_map}
-use Rattle.std.specs.Option.{unwrap_or}
+use Rattle.std.specs.Option.{option_or, unwrap_or}
 use Rattle.std.proofs.lemmas.Bool.Decides.{nat_tests}
 use denote.Bor.{Bor}
 use denote.Enum.Bare.{same_true}
 use Rattle.info65.specs.contracts.attribute.Attribute as attribute_type
+use Rattle.info65.specs.Code.Groups.{IsAtMost}
 use Rattle.info65.specs.Attributes.{boolean_named, form_of, type_named}
 use Rattle.isa65.specs.Cpu.{cpu_named}
 use Rattle.info65.specs.Grammar.{Item, Spells, end_items, given_items, group_items, without_marks}
 use Rattle.info65.specs.Groups.{AreFormed, AssignmentView, GroupView, global_given, global_part, is_of, value_in}
 use Rattle.info65.specs.Lexemes.{KindView, number, string, word}
-use Rattle.info65.specs.Names.{has_name_form}
+use Rattle.info65.specs.Names.{has_comment_form, has_name_form}
 use Rattle.info65.specs.Reader.{groups_of, read}
 use Rattle.info65.specs.Settings.{settings_of}
 use Rattle.info65.specs.Tokens.{TokenView, tokens_of}
-use Rattle.info65.specs.Values.{HasForm, ValueView, a_number, a_name, as_name, as_number, boolean_of, boolean_value, cpu_value, in_form, is_file_name, is_on_command_line, label_value, name_value, type_value, value_of}
+use Rattle.info65.specs.Values.{HasForm, ValueView, a_number, a_name, as_name, as_number, boolean_of, boolean_value, comment_value, cpu_value, in_form, is_file_name, is_on_command_line, label_value, name_value, type_value, value_of}
 use Rattle.info65.specs.Views.{AreInLimits, AreOptions, IsColumn, OptionsView}
 use Rattle.info65.specs.declared.attribute.Attribute.{Attribute}
 use Rattle.info65.specs.declared.attribute.Attribute.TheVariants as attribute
@@ -47,6 +48,9 @@ type_formed line None = tt
 label_formed : (line : ℕ) (text : List ℕ) → IfOk (label_value line text) (HasForm form.Name)
 label_formed line text = by_test (has_name_form text) (λ h. rw h h) (λ h. rw h tt)
 
+comment_formed : (line : ℕ) (text : List ℕ) → IfOk (comment_value line text) (HasForm form.Comment)
+comment_formed line text = by_test (has_comment_form text) (λ h. rw h h) (λ h. rw h tt)
+
 boolean_formed : (line : ℕ) (b : Option Bool) → IfOk (boolean_value line b) (HasForm form.Boolean)
 boolean_formed line (Some b) = tt
 boolean_formed line None = tt
@@ -56,6 +60,7 @@ formed o a line source form.FileName (string text) = name_formed o a line text
 formed o a line source form.CpuText (string text) = cpu_formed line (cpu_named text)
 formed o a line source form.TypeWord word = type_formed line (type_named source)
 formed o a line source form.Name (string text) = label_formed line text
+formed o a line source form.Comment (string text) = comment_formed line text
 formed o a line source form.Boolean word = boolean_formed line (boolean_named source)
 formed o a line source form.Boolean (number n) = boolean_formed line (boolean_of n)
 formed o a line source form.Address (number n) = by_test (nat_le n 0xFFFF) (λ h. rw h (grind (arith, nat_tests, h))) (λ h. rw h tt)
@@ -146,9 +151,22 @@ file_name_in None h = tt
 pub file_name_formed : (a : Attribute) (given : List AssignmentView) → form_of a ≡ form.FileName → AreFormed given → IfSome (as_name (value_in a given)) (λ t. is_file_name t ≡ true)
 file_name_formed a given is h = file_name_in (value_in a given) (rw is at (found_formed a given h))
 
-some_or : (o : Option ℕ) (d : ℕ) (P : ℕ → Type 0) → IfSome o P → P d → P (unwrap_or o d)
-some_or (Some n) d P h k = h
-some_or None d P h k = k
+-- what the command line or a value gives, or else the default
+number_in : (o : Option ℕ) (low high : ℕ) (v : Option ValueView) (d : ℕ) (P : ℕ → Type 0) → IfSome o P → IfSome v (HasForm (form.Number low high)) → ((n : ℕ) → low ≤ n → n ≤ high → P n) → P d → P (unwrap_or (option_or o (as_number v)) d)
+number_in (Some n) low high v d P h f g k = h
+number_in None low high (Some (a_number n)) d P h f g k = g n f.0 f.1
+number_in None low high (Some _) d P h f g k = k
+number_in None low high None d P h f g k = k
+
+at_most_in : (f : Form) (v : Option ValueView) → IsAtMost 120 f → IfSome v (HasForm f) → IfSome (as_number v) (λ n. n ≤ 120)
+at_most_in (form.Number low high) (Some (a_number n)) h k = omega (arith, h, k.1)
+at_most_in (form.Number low high) (Some _) h k = tt
+at_most_in (form.Number low high) None h k = tt
+at_most_in _ v h k = absurd h
+
+-- a number whose form limits it to 120
+pub at_most_120 : (a : Attribute) (given : List AssignmentView) → IsAtMost 120 (form_of a) → AreFormed given → IfSome (as_number (value_in a given)) (λ n. n ≤ 120)
+at_most_120 a given h f = at_most_in (form_of a) (value_in a given) h (found_formed a given f)
 
 -- the settings of such values are in their limits
 pub settings_in_limits : (o : OptionsView) (given : List AssignmentView) → AreOptions o → AreFormed given → AreInLimits (settings_of o given)
@@ -156,12 +174,12 @@ unfolding settings_of form_of
 settings_in_limits o given l h = record {
   offset = offset_in (value_in attribute.InputOffset given) (found_formed attribute.InputOffset given h);
   size = size_in (value_in attribute.InputSize given) (found_formed attribute.InputSize given h);
-  comments = some_or o.comments 0 (λ n. n ≤ 4) l.comments (omega arith);
-  mnemonic_column = some_or o.mnemonic_column 9 IsColumn l.mnemonic_column (omega arith, omega arith);
-  argument_column = some_or o.argument_column 17 IsColumn l.argument_column (omega arith, omega arith);
-  comment_column = some_or o.comment_column 49 IsColumn l.comment_column (omega arith, omega arith);
-  text_column = some_or o.text_column 81 IsColumn l.text_column (omega arith, omega arith);
-  label_break = some_or o.label_break 7 (λ n. n ≤ 120) l.label_break (omega arith);
+  comments = number_in o.comments 0 4 (value_in attribute.Comments given) 0 (λ n. n ≤ 4) l.comments (found_formed attribute.Comments given h) (λ n l h. h) (omega arith);
+  mnemonic_column = number_in o.mnemonic_column 1 120 (value_in attribute.MnemonicColumn given) 9 IsColumn l.mnemonic_column (found_formed attribute.MnemonicColumn given h) (λ n l h. (l, h)) (omega arith, omega arith);
+  argument_column = number_in o.argument_column 1 120 (value_in attribute.ArgumentColumn given) 17 IsColumn l.argument_column (found_formed attribute.ArgumentColumn given h) (λ n l h. (l, h)) (omega arith, omega arith);
+  comment_column = number_in o.comment_column 1 120 (value_in attribute.CommentColumn given) 49 IsColumn l.comment_column (found_formed attribute.CommentColumn given h) (λ n l h. (l, h)) (omega arith, omega arith);
+  text_column = number_in o.text_column 1 120 (value_in attribute.TextColumn given) 81 IsColumn l.text_column (found_formed attribute.TextColumn given h) (λ n l h. (l, h)) (omega arith, omega arith);
+  label_break = number_in o.label_break 0 120 (value_in attribute.LabelBreak given) 7 (λ n. n ≤ 120) l.label_break (found_formed attribute.LabelBreak given h) (λ n l h. h) (omega arith);
 }
 
 -- what is lent has the form of what is seen of it

@@ -13,7 +13,7 @@ use Rattle.std.proofs.lemmas.List.{append-nil}
 use Rattle.std.proofs.lemmas.List.Elements.{All-push}
 use Rattle.std.proofs.lemmas.List.Quantifiers.{all_pairs_push}
 use Rattle.std.proofs.lemmas.Slice.Eq.{bytes_eq-Decides}
-use Rattle.info65.specs.Closing.{closing_fault, fault_after, label_fault, optional_name_fault, range_fault}
+use Rattle.info65.specs.Closing.{closing_fault, label_fault, optional_name_fault, range_fault}
 use Rattle.info65.specs.Code.Names.{given_seen}
 use Rattle.info65.specs.Groups.{AssignmentView, GroupView}
 use Rattle.info65.specs.declared.attribute.GroupKind.{GroupKind}
@@ -86,22 +86,22 @@ inside r a low high =
     rw (e, f) refl
 
 -- a range overlaps one of the ranges exactly where one of its addresses is marked
-pub overlaps_marked : (ranges : List RangeSpec) (names : List NameView) (table : List Bool) (found : ℕ → Option Given) (stands : List ℕ → Option ℕ) (r : RangeSpec) → IsIndex ranges names table found stands → r.first ≤ r.last → r.last < 0x1_0000
+pub overlaps_marked : (ranges : List RangeSpec) (table : List Bool) (r : RangeSpec) → All (λ (q : RangeSpec). q.first ≤ q.last) ranges → ((a : ℕ) → a < 0x1_0000 → get_or table a false ≡ list_any (λ (q : RangeSpec). has_address q a) ranges) → r.first ≤ r.last → r.last < 0x1_0000
     → any_in table r.first (r.last + 1 - r.first) ≡ list_any (overlaps r) ranges
-overlaps_marked ranges names table found stands r i ordered low =
+overlaps_marked ranges table r all marks ordered low =
     by_test (list_any (overlaps r) ranges)
     (λ hit.
-    let h = any_shared r ranges ordered i.ordered (Any-from_list_any (overlaps r) ranges hit) in
+    let h = any_shared r ranges ordered all (Any-from_list_any (overlaps r) ranges hit) in
     let q : RangeSpec = h.1 in
     let a : ℕ = h.4.0 in
     let here = within r a h.4.1 in
     let on : list_any (λ (x : RangeSpec). has_address x a) ranges ≡ true = list_any-from_Any (λ (x : RangeSpec). has_address x a) ranges (h.0, q, h.2, h.3, h.4.2) in
-    any_in_yes table r.first (r.last + 1 - r.first) a here.0 (omega (arith, here.0, here.1)) (i.ranged a (omega (arith, here.1)) ∙ on) ∙ sym hit)
+    any_in_yes table r.first (r.last + 1 - r.first) a here.0 (omega (arith, here.0, here.1)) (marks a (omega (arith, here.1)) ∙ on) ∙ sym hit)
     (λ miss.
     any_in_no table r.first (r.last + 1 - r.first) (λ a from upto.
     by_test (get_or table a false)
     (λ on.
-    let h = Any-from_list_any (λ (x : RangeSpec). has_address x a) ranges (sym (i.ranged a (omega (arith, upto, low, ordered))) ∙ on) in
+    let h = Any-from_list_any (λ (x : RangeSpec). has_address x a) ranges (sym (marks a (omega (arith, upto, low, ordered))) ∙ on) in
     let q : RangeSpec = h.1 in
     let hit : list_any (overlaps r) ranges ≡ true = list_any-from_Any (overlaps r) ranges (h.0, q, h.2, h.3, shared_overlap r q (a, inside r a from (omega (arith, upto, ordered)), h.4)) in
     absurd (false≢true (sym miss ∙ hit)))
@@ -325,9 +325,13 @@ pub ranges_more_other : (before : List GroupView) (k : GroupKind) (given : List 
 ranges_more_other before kind.Range given other = absurd (other refl)
 ranges_more_other before kind.Global given other = ranges_more before (record { kind = kind.Global; given = given }) ∙ append-nil (ranges_of before)
 ranges_more_other before kind.Label given other = ranges_more before (record { kind = kind.Label; given = given }) ∙ append-nil (ranges_of before)
+ranges_more_other before kind.Segment given other = ranges_more before (record { kind = kind.Segment; given = given }) ∙ append-nil (ranges_of before)
 
 pub names_more_global : (before : List GroupView) (given : List AssignmentView) → names_said (before ++ record { kind = kind.Global; given = given } ∷ []) ≡ names_said before
 names_more_global before given = names_more before (record { kind = kind.Global; given = given }) ∙ append-nil (names_said before)
+
+pub names_more_segment : (before : List GroupView) (given : List AssignmentView) → names_said (before ++ record { kind = kind.Segment; given = given } ∷ []) ≡ names_said before
+names_more_segment before given = names_more before (record { kind = kind.Segment; given = given }) ∙ append-nil (names_said before)
 
 pub marked_end : (first last a at : ℕ) → at ≡ last + 1 → (nat_le first a && nat_lt a at) ≡ (nat_le first a && nat_le a last)
 marked_end first last a at is = ap (λ b. nat_le first a && b) (let e : nat_lt a at ≡ nat_le a last = by_test (nat_le a last) (λ h. let f : nat_lt a at ≡ true = grind (arith, nat_tests, h, is) in f ∙ sym h) (λ h. let f : nat_lt a at ≡ false = grind (arith, nat_tests, h, is) in f ∙ sym h) in e)
@@ -365,7 +369,7 @@ closed_label names given (Err f) e h = absurd cc
 closed_label names given (Ok n) e h = record { name = n; is = e; fine = h }
 
 pub closes_label : (before : List GroupView) (given : List AssignmentView) → closing_fault before kind.Label given ≡ None → ClosesLabel (names_said before) given
-unfolding closing_fault fault_after
+unfolding closing_fault
 closes_label before given h = closed_label (names_said before) given (label_in given) refl h
 
 pub label_fine : (before : List GroupView) (given : List AssignmentView) (n : NameView) → closing_fault before kind.Label given ≡ None → label_in given ≡ Ok n → name_fault (names_said before) n ≡ None
@@ -392,6 +396,10 @@ moved ranges rs names ns t f s e d i = rw (e, d) i
 pub global_said : (before : List GroupView) (given : List AssignmentView) (t : List Bool) (f : ℕ → Option Given) (s : List ℕ → Option ℕ) → IsIndex (ranges_of before) (names_said before) t f s
     → IsIndex (ranges_of (before ++ record { kind = kind.Global; given = given } ∷ [])) (names_said (before ++ record { kind = kind.Global; given = given } ∷ [])) t f s
 global_said before given t f s i = moved _ _ _ _ t f s (ranges_more_other before kind.Global given (λ e. absurd cc)) (names_more_global before given) i
+
+pub segment_said : (before : List GroupView) (given : List AssignmentView) (t : List Bool) (f : ℕ → Option Given) (s : List ℕ → Option ℕ) → IsIndex (ranges_of before) (names_said before) t f s
+    → IsIndex (ranges_of (before ++ record { kind = kind.Segment; given = given } ∷ [])) (names_said (before ++ record { kind = kind.Segment; given = given } ∷ [])) t f s
+segment_said before given t f s i = moved _ _ _ _ t f s (ranges_more_other before kind.Segment given (λ e. absurd cc)) (names_more_segment before given) i
 
 pub range_said : (before : List GroupView) (given : List AssignmentView) (r : RangeSpec) (n : Option NameView) (t : List Bool) (f : ℕ → Option Given) (s : List ℕ → Option ℕ) → range_in given ≡ Ok r → n ≡ range_name given r → IsIndex (ranges_of before ++ r ∷ []) (names_said before ++ option_to_list n) t f s
     → IsIndex (ranges_of (before ++ record { kind = kind.Range; given = given } ∷ [])) (names_said (before ++ record { kind = kind.Range; given = given } ∷ [])) t f s

@@ -12,14 +12,15 @@ use Rattle.std.proofs.lemmas.List.Quantifiers.{all_pairs_push}
 use Rattle.std.proofs.str.Laws.{order}
 use Rattle.info65.specs.Attributes.{form_of}
 use Rattle.info65.specs.Closing.{closing_fault, optional_name_fault}
+use Rattle.info65.specs.Comments.{comment_in, not_empty}
 use Rattle.info65.specs.Grammar.{AreGroups}
 use Rattle.info65.specs.Groups.{AreFormed, AssignmentView, GroupView, value_in}
 use Rattle.info65.specs.Labels.{by_address, is_at, label_from, label_in, label_sized, name_fault, named, named_at, names_from, names_said, range_name}
 use Rattle.info65.specs.NameLaws.{NamesGiven}
-use Rattle.info65.specs.Names.{AreNames, IsName, has_name_form, is_reserved}
+use Rattle.info65.specs.Names.{AreNames, IsComment, IsName, has_name_form, is_reserved}
 use Rattle.info65.specs.Reader.{groups_of, read}
 use Rattle.info65.specs.Tokens.{tokens_of}
-use Rattle.info65.specs.Values.{HasForm, ValueView, a_name, an_address, as_address, as_name, as_number}
+use Rattle.info65.specs.Values.{HasForm, ValueView, a_comment, a_name, an_address, as_address, as_comment, as_name, as_number}
 use Rattle.info65.specs.Views.{NameView, OptionsView}
 use Rattle.info65.specs.declared.attribute.Attribute.TheVariants as attribute
 use Rattle.info65.specs.declared.attribute.Form.TheVariants as form
@@ -30,7 +31,7 @@ use Rattle.info65.specs.declared.fault.InfoFaultKind.TheVariants.{OutOfRange}
 use Rattle.info65.specs.declared.range.RangeSpec.{RangeSpec}
 use Rattle.info65.proofs.Accepting.{by_test, groups_accepted}
 use Rattle.info65.proofs.FormLemmas.{GroupsFormed, found_formed, groups_formed, size_in}
-use Rattle.info65.proofs.IndexLemmas.{IsNew, eqb_is, taken_is, names_more_global, names_more_label, names_more_range, new_text, no_fault, closes_label}
+use Rattle.info65.proofs.IndexLemmas.{IsNew, eqb_is, taken_is, names_more_global, names_more_label, names_more_range, names_more_segment, new_text, no_fault, closes_label}
 use Rattle.info65.proofs.RangeLemmas.{closes_range, low_in, ordered_in}
 
 -- ---- by address
@@ -137,7 +138,18 @@ one_more names n g is new = record {
 
 -- ---- group by group
 
-name_formed : (given : List AssignmentView) (t : List ℕ) → AreFormed given → as_name (value_in attribute.Name given) ≡ Some t → has_name_form t ≡ true
+-- a comment that is given is not empty and has the form of a comment
+comment_is : (given : List AssignmentView) → AreFormed given → IfSome (comment_in given) IsComment
+unfolding comment_in form_of
+comment_is given f = formed (value_in attribute.Comment given) (found_formed attribute.Comment given f)
+  where
+    formed : (v : Option ValueView) → IfSome v (HasForm form.Comment) → IfSome (not_empty (as_comment v)) IsComment
+    formed (Some (a_comment [])) h = tt
+    formed (Some (a_comment (b ∷ bs))) h = record { some = omega arith; form = h }
+    formed (Some _) h = tt
+    formed None h = tt
+
+pub name_formed : (given : List AssignmentView) (t : List ℕ) → AreFormed given → as_name (value_in attribute.Name given) ≡ Some t → has_name_form t ≡ true
 unfolding form_of
 name_formed given t f is = formed (value_in attribute.Name given) (found_formed attribute.Name given f) is
   where
@@ -158,12 +170,12 @@ record IsLabel (given : List AssignmentView) (n : NameView) : Type 0 where
   text : as_name (value_in attribute.Name given) ≡ Some n.text
   size : n.size ≡ unwrap_or (as_number (value_in attribute.Size given)) 1
   room : n.address + n.size ≤ 0x1_0000
-  comment : n.comment ≡ None
+  comment : n.comment ≡ comment_in given
 
-sized_is : (a : ℕ) (t : List ℕ) (size : ℕ) (n : NameView) → label_sized a t size ≡ Ok n → (n ≡ named a size t) × (a + size ≤ 0x1_0000)
-sized_is a t size n is =
+sized_is : (a : ℕ) (t : List ℕ) (size : ℕ) (c : Option (List ℕ)) (n : NameView) → label_sized a t size c ≡ Ok n → (n ≡ named a size c t) × (a + size ≤ 0x1_0000)
+sized_is a t size c n is =
     by_test (nat_le (a + size) 0x1_0000)
-    (λ fits. let e : ◌≡◌ {A = Result NameView InfoFaultKind} (Ok (named a size t)) (Ok n) = rw fits at is in (ok_same e, grind (arith, nat_tests, fits)))
+    (λ fits. let e : ◌≡◌ {A = Result NameView InfoFaultKind} (Ok (named a size c t)) (Ok n) = rw fits at is in (ok_same e, grind (arith, nat_tests, fits)))
     (λ out. let e : ◌≡◌ {A = Result NameView InfoFaultKind} (Err OutOfRange) (Ok n) = rw out at is in absurd cc)
   where
     ok_same : {x y : NameView} → ◌≡◌ {A = Result NameView InfoFaultKind} (Ok x) (Ok y) → y ≡ x
@@ -173,9 +185,9 @@ label_is : (given : List AssignmentView) (n : NameView) → label_in given ≡ O
 unfolding label_in
 label_is given n is = by_parts (as_address (value_in attribute.Address given)) (as_name (value_in attribute.Name given)) refl is
   where
-    by_parts : (a : Option ℕ) (t : Option (List ℕ)) → as_name (value_in attribute.Name given) ≡ t → label_from a t (as_number (value_in attribute.Size given)) ≡ Ok n → IsLabel given n
+    by_parts : (a : Option ℕ) (t : Option (List ℕ)) → as_name (value_in attribute.Name given) ≡ t → label_from a t (as_number (value_in attribute.Size given)) (comment_in given) ≡ Ok n → IsLabel given n
     by_parts (Some a) (Some t) e h =
-        let s = sized_is a t (unwrap_or (as_number (value_in attribute.Size given)) 1) n h in
+        let s = sized_is a t (unwrap_or (as_number (value_in attribute.Size given)) 1) (comment_in given) n h in
         record { text = rw s.0 e; size = rw s.0 refl; room = rw s.0 s.1; comment = rw s.0 refl }
     by_parts None t e h = absurd cc
     by_parts (Some a) None e h = absurd cc
@@ -184,14 +196,14 @@ record IsNamed (given : List AssignmentView) (r : RangeSpec) (n : NameView) : Ty
   text : as_name (value_in attribute.Name given) ≡ Some n.text
   size : n.size ≡ 1
   address : n.address ≡ r.first
-  comment : n.comment ≡ None
+  comment : n.comment ≡ comment_in given
 
 named_is : (given : List AssignmentView) (r : RangeSpec) (n : NameView) → range_name given r ≡ Some n → IsNamed given r n
 unfolding range_name
 named_is given r n is = by_text (as_name (value_in attribute.Name given)) refl is
   where
-    by_text : (t : Option (List ℕ)) → as_name (value_in attribute.Name given) ≡ t → option_map (named r.first 1) t ≡ Some n → IsNamed given r n
-    by_text (Some t) e h = let s : n ≡ named r.first 1 t = cc in record { text = rw s e; size = rw s refl; address = rw s refl; comment = rw s refl }
+    by_text : (t : Option (List ℕ)) → as_name (value_in attribute.Name given) ≡ t → option_map (named r.first 1 (comment_in given)) t ≡ Some n → IsNamed given r n
+    by_text (Some t) e h = let s : n ≡ named r.first 1 (comment_in given) t = cc in record { text = rw s e; size = rw s refl; address = rw s refl; comment = rw s refl }
     by_text None e h = absurd cc
 
 given_optional : (names : List NameView) (given : List AssignmentView) (r : RangeSpec) → AreFormed given → r.first ≤ 0xFFFF → AreGiven names → (n : Option NameView) → range_name given r ≡ n → optional_name_fault names n ≡ None → AreGiven (names ++ option_to_list n)
@@ -199,10 +211,11 @@ given_optional names given r f low g None is fine = rw (append-nil names) g
 given_optional names given r f low g (Some n) is fine =
     let new = no_fault names n fine in
     let x = named_is given r n is in
-    one_more names n g (record { sized = omega (arith, x.size); room = omega (arith, x.size, x.address, low); form = name_formed given n.text f x.text; free = new.free; comment = rw x.comment tt }) new
+    one_more names n g (record { sized = omega (arith, x.size); room = omega (arith, x.size, x.address, low); form = name_formed given n.text f x.text; free = new.free; comment = rw x.comment (comment_is given f) }) new
 
 given_more : (before : List GroupView) (k : GroupKind) (given : List AssignmentView) → AreFormed given → closing_fault before k given ≡ None → AreGiven (names_said before) → AreGiven (names_said (before ++ record { kind = k; given = given } ∷ []))
 given_more before kind.Global given f h g = rw (names_more_global before given) g
+given_more before kind.Segment given f h g = rw (names_more_segment before given) g
 given_more before kind.Range given f h g =
     let c = closes_range before given h in
     let low = low_in given c.range c.is in
@@ -212,7 +225,7 @@ given_more before kind.Label given f h g =
     let c = closes_label before given h in
     let new = no_fault (names_said before) c.name c.fine in
     let x = label_is given c.name c.is in
-    rw (names_more_label before given c.name c.is) (one_more (names_said before) c.name g (record { sized = rw x.size (size_some given f); room = x.room; form = name_formed given c.name.text f x.text; free = new.free; comment = rw x.comment tt }) new)
+    rw (names_more_label before given c.name c.is) (one_more (names_said before) c.name g (record { sized = rw x.size (size_some given f); room = x.room; form = name_formed given c.name.text f x.text; free = new.free; comment = rw x.comment (comment_is given f) }) new)
 
 groups_given : (before gs : List GroupView) → AreGroups before gs → GroupsFormed gs → AreGiven (names_said before) → AreGiven (names_said (before ++ gs))
 groups_given before [] h f g = rw (append-nil before) g

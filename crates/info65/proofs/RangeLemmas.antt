@@ -9,14 +9,15 @@ use Rattle.std.proofs.lemmas.List.Folds.{Any-from_list_any, list_any-append, lis
 use Rattle.std.proofs.lemmas.List.Quantifiers.{all_pairs_push}
 use Rattle.std.proofs.lemmas.Grind.{flat_map-append}
 use Rattle.info65.specs.Attributes.{form_of}
-use Rattle.info65.specs.Closing.{closing_fault, fault_after, optional_name_fault, range_fault}
+use Rattle.info65.specs.Closing.{closing_fault, optional_name_fault, range_fault}
 use Rattle.info65.specs.Code.Groups.{group_seen}
+use Rattle.info65.specs.Comments.{lacks_name}
 use Rattle.info65.specs.Grammar.{AreGroups}
 use Rattle.info65.specs.Groups.{AreFormed, AssignmentView, GroupView, value_in}
 use Rattle.info65.specs.Labels.{is_at, is_elsewhere, name_fault, names_said, range_name}
 use Rattle.info65.specs.Laws.{AreSaid, OverlapsShare, RangesApart, SaysRange, Share}
 use Rattle.info65.specs.Names.{is_reserved}
-use Rattle.info65.specs.Ranges.{AreApart, AreRanges, last_from, overlaps, range_between, range_from, range_in, range_part, ranges_of}
+use Rattle.info65.specs.Ranges.{AreApart, AreRanges, last_from, overlaps, range_between, range_from, range_in, range_of_parts, range_part, ranges_of}
 use Rattle.info65.specs.Reader.{groups_of, read}
 use Rattle.info65.specs.Tokens.{tokens_of}
 use Rattle.info65.specs.Values.{ValueView, a_number, a_type, an_address, as_address, as_number, as_type}
@@ -25,7 +26,7 @@ use Rattle.info65.specs.declared.attribute.Attribute.TheVariants as attribute
 use Rattle.info65.specs.declared.attribute.GroupKind.{GroupKind}
 use Rattle.info65.specs.declared.attribute.GroupKind.TheVariants as kind
 use Rattle.info65.specs.declared.fault.InfoFaultKind.{InfoFaultKind}
-use Rattle.info65.specs.declared.fault.InfoFaultKind.TheVariants.{AddressTwice, NameTwice, OutOfRange, RangesOverlap, ReservedName}
+use Rattle.info65.specs.declared.fault.InfoFaultKind.TheVariants.{AddressTwice, Missing, NameTwice, OutOfRange, RangesOverlap, ReservedName}
 use Rattle.info65.specs.declared.assignment.Group.{Group}
 use Rattle.info65.specs.declared.range.RangeSpec.{RangeSpec}
 use Rattle.info65.specs.declared.range.RangeType.{RangeType}
@@ -52,7 +53,7 @@ ranges_more before g = flat_map-append range_part before (g ∷ []) ∙ ap (λ l
 
 -- ---- what a group says
 
-and_parts : (a b : Bool) → (a && b) ≡ true → (a ≡ true) × (b ≡ true)
+pub and_parts : (a b : Bool) → (a && b) ≡ true → (a ≡ true) × (b ≡ true)
 and_parts true b h = (refl, h)
 and_parts false b h = absurd cc
 
@@ -81,7 +82,7 @@ from (Some f) None None (Some t) r h i = absurd cc
 from (Some f) e z None r h i = absurd cc
 from None e z t r h i = absurd cc
 
-address_is : (v : Option ValueView) (n : ℕ) → as_address v ≡ Some n → v ≡ Some (an_address n)
+pub address_is : (v : Option ValueView) (n : ℕ) → as_address v ≡ Some n → v ≡ Some (an_address n)
 address_is (Some (an_address m)) n h = let e : m ≡ n = cc in ap (λ x. Some (an_address x)) e
 address_is (Some _) n h = absurd cc
 address_is None n h = absurd cc
@@ -104,11 +105,16 @@ last_is : (e z : Option ValueView) (l n : ℕ) → (as_address e ≡ Some l) ⊎
 last_is e z l n (inl h) = inl (address_is e l h)
 last_is e z l n (inr h) = inr (number_is z n h)
 
+-- the range of an accepted group is that of its parts
+range_parts : (given : List AssignmentView) (r : RangeSpec) → range_in given ≡ Ok r → range_of_parts given ≡ Ok r
+unfolding range_in
+range_parts given r h = by_test (lacks_name given) (λ yes. let i : ◌≡◌ {A = Result RangeSpec InfoFaultKind} (Err Missing) (Ok r) = rw yes at h in absurd cc) (λ no. rw no at h)
+
 says : (given : List AssignmentView) (r : RangeSpec) → AreFormed given → range_in given ≡ Ok r → SaysRange given r
-unfolding range_in form_of
+unfolding range_of_parts form_of
 says given r f h =
     let low = some_low (as_number (value_in attribute.Size given)) (size_in (value_in attribute.Size given) (found_formed attribute.Size given f)) in
-    let i = from (as_address (value_in attribute.Start given)) (as_address (value_in attribute.End given)) (as_number (value_in attribute.Size given)) (as_type (value_in attribute.Role given)) r low h in
+    let i = from (as_address (value_in attribute.Start given)) (as_address (value_in attribute.End given)) (as_number (value_in attribute.Size given)) (as_type (value_in attribute.Role given)) r low (range_parts given r h) in
     record {
       first = address_is (value_in attribute.Start given) r.first i.first;
       last = last_is (value_in attribute.End given) (value_in attribute.Size given) r.last (r.last + 1 - r.first) i.last;
@@ -127,8 +133,8 @@ ordered_from (Some f) e z None r h = absurd cc
 ordered_from None e z t r h = absurd cc
 
 pub ordered_in : (given : List AssignmentView) (r : RangeSpec) → range_in given ≡ Ok r → r.first ≤ r.last
-unfolding range_in
-ordered_in given r h = ordered_from (as_address (value_in attribute.Start given)) (as_address (value_in attribute.End given)) (as_number (value_in attribute.Size given)) (as_type (value_in attribute.Role given)) r h
+unfolding range_of_parts
+ordered_in given r h = ordered_from (as_address (value_in attribute.Start given)) (as_address (value_in attribute.End given)) (as_number (value_in attribute.Size given)) (as_type (value_in attribute.Role given)) r (range_parts given r h)
 
 low_between : (f : ℕ) (t : RangeType) (l : Option ℕ) (r : RangeSpec) → range_between f t l ≡ Ok r → r.last ≤ 0xFFFF
 low_between f t (Some l) r h = let b = between f l t r h in rw b.1 b.4
@@ -141,8 +147,8 @@ low_from None e z t r h = absurd cc
 
 -- a range ends at or below $FFFF
 pub low_in : (given : List AssignmentView) (r : RangeSpec) → range_in given ≡ Ok r → r.last ≤ 0xFFFF
-unfolding range_in
-low_in given r h = low_from (as_address (value_in attribute.Start given)) (as_address (value_in attribute.End given)) (as_number (value_in attribute.Size given)) (as_type (value_in attribute.Role given)) r h
+unfolding range_of_parts
+low_in given r h = low_from (as_address (value_in attribute.Start given)) (as_address (value_in attribute.End given)) (as_number (value_in attribute.Size given)) (as_type (value_in attribute.Role given)) r (range_parts given r h)
 
 abbrev Ordered : List RangeSpec → Type 0
 Ordered rs = All (λ r. r.first ≤ r.last) rs
@@ -159,6 +165,7 @@ ordered_part kind.Range given (Ok r) e = rw e (ordered_one r (ordered_in given r
 ordered_part kind.Range given (Err f) e = rw e ordered_none
 ordered_part kind.Global given x e = ordered_none
 ordered_part kind.Label given x e = ordered_none
+ordered_part kind.Segment given x e = ordered_none
 
 pub ranges_ordered : (groups : List GroupView) → Ordered (ranges_of groups)
 unfolding ranges_of
@@ -167,7 +174,7 @@ ranges_ordered (g ∷ gs) = All-append (λ r. r.first ≤ r.last) (range_part g)
 
 -- ---- two ranges overlap where they share an address
 
-overlap_shared : (r q : RangeSpec) → r.first ≤ r.last → q.first ≤ q.last → overlaps r q ≡ true → Share r q
+pub overlap_shared : (r q : RangeSpec) → r.first ≤ r.last → q.first ≤ q.last → overlaps r q ≡ true → Share r q
 unfolding overlaps
 overlap_shared r q ro qo h =
     let p = and_parts (nat_le r.first q.last) (nat_le q.first r.last) h in
@@ -217,7 +224,7 @@ refused_overlap r rs names given h =
     (λ no. let i : optional_name_fault names (range_name given r) ≡ Some RangesOverlap = rw no at h in absurd (other_fault_of names (range_name given r) i))
 
 pub overlaps_share : OverlapsShare
-unfolding closing_fault fault_after
+unfolding closing_fault
 overlaps_share before given r is = (
   λ h. let i : range_fault (ranges_of before) (names_said before) given (Ok r) ≡ Some RangesOverlap = rw is at h in
       any_shared r (ranges_of before) (ordered_in given r is) (ranges_ordered before) (Any-from_list_any (overlaps r) (ranges_of before) (refused_overlap r (ranges_of before) (names_said before) given i)),
@@ -241,7 +248,7 @@ closed_range ranges names given (Ok r) e h =
     (λ no. record { range = r; is = e; free = no; named = rw no at h })
 
 pub closes_range : (before : List GroupView) (given : List AssignmentView) → closing_fault before kind.Range given ≡ None → ClosesRange (ranges_of before) (names_said before) given
-unfolding closing_fault fault_after
+unfolding closing_fault
 closes_range before given h = closed_range (ranges_of before) (names_said before) given (range_in given) refl h
 
 apart_from : (r : RangeSpec) (rs : List RangeSpec) → list_any (overlaps r) rs ≡ false → (k : ℕ) (d : RangeSpec) → k < length rs → AreApart (get_or rs k d) r
@@ -251,6 +258,7 @@ apart_from r rs free k d l a there here =
 pairs_more : (before : List GroupView) (k : GroupKind) (given : List AssignmentView) → closing_fault before k given ≡ None → AllPairs AreApart (ranges_of before) → AllPairs AreApart (ranges_of before ++ range_part (record { kind = k; given = given }))
 pairs_more before kind.Global given h old = rw (append-nil (ranges_of before)) old
 pairs_more before kind.Label given h old = rw (append-nil (ranges_of before)) old
+pairs_more before kind.Segment given h old = rw (append-nil (ranges_of before)) old
 pairs_more before kind.Range given h old =
     let c = closes_range before given h in
     rw c.is (all_pairs_push AreApart (ranges_of before) c.range old (apart_from c.range (ranges_of before) c.free))
@@ -272,6 +280,7 @@ groups_sound groups h = record { disjoint = record { each = groups_apart [] grou
 said_more : (before : List GroupView) (k : GroupKind) (given : List AssignmentView) (gs : List GroupView) → closing_fault before k given ≡ None → AreFormed given → AreSaid gs (ranges_of gs) → AreSaid (record { kind = k; given = given } ∷ gs) (range_part (record { kind = k; given = given }) ++ ranges_of gs)
 said_more before kind.Global given gs h f said = said
 said_more before kind.Label given gs h f said = said
+said_more before kind.Segment given gs h f said = said
 said_more before kind.Range given gs h f said = let c = closes_range before given h in rw c.is (says given c.range f c.is, said)
 
 groups_said : (before gs : List GroupView) → AreGroups before gs → GroupsFormed gs → AreSaid gs (ranges_of gs)

@@ -1,6 +1,288 @@
--- The segments of an accepted file.
-use Rattle.std.proofs.Common.{◌≡◌, [], arith}
-use Rattle.info65.specs.Segments.{AreSegments}
+-- The segments of an accepted file: what their groups say, and that no two share an address.
+use Rattle.std.proofs.Common.{◌≡◌, ◌∙◌, ◌≤◌, ◌<◌, ◌+◌, ◌-◌, ◌&&◌, ◌||◌, ℕ, zero, suc, Bool, List, [], ◌∷◌, ◌++◌, true, false, ap, append_assoc, arith, drop, get_or, length, map, refl, subst, sym}
+use Rattle.std.specs.Prelude.{All, AllPairs, Any, IfSome, Option, Some, None, Result, Ok, Err, nat_le}
+use Rattle.std.specs.List.{flat_map, list_any}
+use Rattle.std.proofs.lemmas.Bool.Decides.{nat_tests}
+use Rattle.std.proofs.lemmas.List.{append-nil, at_drop_all, at_drop_more}
+use Rattle.std.proofs.lemmas.List.Elements.{All-append, All-map, All-push}
+use Rattle.std.proofs.lemmas.List.Folds.{Any-from_list_any, list_any-append, list_any-from_Any, list_any_at}
+use Rattle.std.proofs.lemmas.List.Quantifiers.{all_pairs_push}
+use Rattle.std.proofs.lemmas.Grind.{flat_map-append}
+use Rattle.info65.specs.Attributes.{form_of}
+use Rattle.info65.specs.Closing.{closing_fault, segment_fault}
+use Rattle.info65.specs.Code.Groups.{group_seen}
+use Rattle.info65.specs.Code.Index.{AreMarked, any_in}
+use Rattle.info65.specs.Grammar.{AreGroups}
+use Rattle.info65.specs.Groups.{AreFormed, AssignmentView, GroupView, value_in}
+use Rattle.info65.specs.Ranges.{has_address, overlaps}
+use Rattle.info65.specs.Reader.{groups_of, read}
+use Rattle.info65.specs.SegmentLaws.{AreSaid, SaysSegment, SegmentsApart, SegmentsShare, Share}
+use Rattle.info65.specs.Segments.{AreApart, AreSegments, IsSegment, contains, meets, segment_from, segment_in, segment_part, segments_of}
+use Rattle.info65.specs.Tokens.{tokens_of}
+use Rattle.info65.specs.Values.{HasForm, ValueView, a_name, an_address, as_address, as_name}
+use Rattle.info65.specs.Views.{OptionsView, SegmentView}
+use Rattle.info65.specs.declared.assignment.Group.{Group}
+use Rattle.info65.specs.declared.attribute.Attribute.TheVariants as attribute
+use Rattle.info65.specs.declared.attribute.Form.TheVariants as form
+use Rattle.info65.specs.declared.attribute.GroupKind.{GroupKind}
+use Rattle.info65.specs.declared.attribute.GroupKind.TheVariants as kind
+use Rattle.info65.specs.declared.fault.InfoFaultKind.{InfoFaultKind}
+use Rattle.info65.specs.declared.fault.InfoFaultKind.TheVariants.{OutOfRange, SegmentsOverlap}
+use Rattle.info65.specs.declared.range.RangeSpec.{RangeSpec}
+use Rattle.info65.specs.declared.range.RangeType.TheVariants as role
+use Rattle.info65.proofs.Accepting.{by_test, groups_accepted}
+use Rattle.info65.proofs.FormLemmas.{GroupsFormed, found_formed, groups_formed}
+use Rattle.info65.proofs.IndexLemmas.{overlaps_marked}
+use Rattle.info65.proofs.NamesLemmas.{name_formed}
+use Rattle.info65.proofs.RangeLemmas.{address_is, overlap_shared, shared_overlap}
 
-pub no_segments : AreSegments []
-no_segments = record { each = λ k d l. absurd (omega (arith, l)); apart = λ i j d lt l. absurd (omega (arith, l)) }
+-- ---- group by group
+
+-- the group at a place of the list is the next
+pub segments_next : {Z : Type 0} (gs : List (Group Z)) (i : ℕ) (x : Group Z) → i < length gs → x ≡ get_or gs i x
+    → segments_of (map group_seen (drop i gs)) ≡ segment_part (group_seen x) ++ segments_of (map group_seen (drop (i + 1) gs))
+unfolding segments_of
+segments_next gs i x here is =
+    at_drop_more (λ l. segments_of (map group_seen l)) gs i x here
+    ∙ ap (λ y. segments_of (group_seen y ∷ map group_seen (drop (i + 1) gs))) (sym is)
+
+pub segments_none : {Z : Type 0} (gs : List (Group Z)) (i : ℕ) → length gs ≤ i → segments_of (map group_seen (drop i gs)) ≡ []
+unfolding segments_of
+segments_none gs i past = at_drop_all (λ l. segments_of (map group_seen l)) gs i past
+
+segments_more : (before : List GroupView) (g : GroupView) → segments_of (before ++ g ∷ []) ≡ segments_of before ++ segment_part g
+unfolding segments_of
+segments_more before g = flat_map-append segment_part before (g ∷ []) ∙ ap (λ l. flat_map segment_part before ++ l) (append-nil (segment_part g))
+
+-- ---- the addresses of a segment
+
+-- the addresses alone, as a range
+abbrev extent : SegmentView → RangeSpec
+extent s = record { first = s.first; last = s.last; role = role.Code }
+
+any_extents : (p : RangeSpec → Bool) (segments : List SegmentView) → list_any (λ s. p (extent s)) segments ≡ list_any p (map extent segments)
+any_extents p [] = refl
+any_extents p (s ∷ ss) = by_test (p (extent s)) (λ hit. rw hit refl) (λ miss. rw miss (any_extents p ss))
+
+-- a segment shares an address with one of the segments exactly where one of its addresses is marked
+pub meets_marked : (segments : List SegmentView) (table : List Bool) (s : SegmentView) → AreMarked segments table → s.first ≤ s.last → s.last < 0x1_0000 → any_in table s.first (s.last + 1 - s.first) ≡ list_any (meets s) segments
+unfolding meets overlaps
+meets_marked segments table s m ordered low =
+    overlaps_marked (map extent segments) table (extent s) (All-map (λ (r : RangeSpec). r.first ≤ r.last) extent segments m.ordered) (λ a la. m.marked a la ∙ any_extents (λ r. has_address r a) segments) ordered low
+    ∙ sym (any_extents (overlaps (extent s)) segments)
+
+pub no_marks : (table : List Bool) → length table ≡ 0x1_0000 → ((a : ℕ) → get_or table a false ≡ false) → AreMarked [] table
+no_marks table size blank = record { ordered = λ k d l. absurd (omega (arith, l)); size = size; marked = λ a low. blank a }
+
+segment_marked : (segments : List SegmentView) (s : SegmentView) (old new : List Bool) → AreMarked segments old → s.first ≤ s.last → length new ≡ length old
+    → ((a : ℕ) → a < 0x1_0000 → get_or new a false ≡ (get_or old a false || contains s a)) → AreMarked (segments ++ s ∷ []) new
+segment_marked segments s old new m ordered long marked = record {
+  ordered = All-push (λ (x : SegmentView). x.first ≤ x.last) segments s m.ordered ordered;
+  size = long ∙ m.size;
+  marked = λ a low. marked a low ∙ ap (λ b. b || contains s a) (m.marked a low) ∙ ap (λ b. list_any (λ (x : SegmentView). contains x a) segments || b) (sym (last_or (contains s a))) ∙ sym (list_any-append (λ (x : SegmentView). contains x a) segments (s ∷ []));
+}
+  where
+    last_or : (b : Bool) → (b || false) ≡ b
+    last_or true = refl
+    last_or false = refl
+
+-- ---- what a group SEGMENT says
+
+record IsSaid (given : List AssignmentView) (s : SegmentView) : Type 0 where
+  first : as_address (value_in attribute.Start given) ≡ Some s.first
+  last : as_address (value_in attribute.End given) ≡ Some s.last
+  name : as_name (value_in attribute.Name given) ≡ Some s.name
+  ordered : s.first ≤ s.last
+
+from : (f l : ℕ) (n : List ℕ) (s : SegmentView) → segment_from (Some f) (Some l) (Some n) ≡ Ok s → (s ≡ record { first = f; last = l; name = n }) × (f ≤ l)
+from f l n s h =
+    by_test (nat_le f l)
+    (λ yes. let i : ◌≡◌ {A = Result SegmentView InfoFaultKind} (Ok (record { first = f; last = l; name = n })) (Ok s) = rw yes at h in (ok_same i, grind (arith, nat_tests, yes)))
+    (λ no. let i : ◌≡◌ {A = Result SegmentView InfoFaultKind} (Err OutOfRange) (Ok s) = rw no at h in absurd cc)
+  where
+    ok_same : {x y : SegmentView} → ◌≡◌ {A = Result SegmentView InfoFaultKind} (Ok x) (Ok y) → y ≡ x
+    ok_same h = cc
+
+segment_is : (given : List AssignmentView) (s : SegmentView) → segment_in given ≡ Ok s → IsSaid given s
+unfolding segment_in
+segment_is given s h = by_parts (as_address (value_in attribute.Start given)) (as_address (value_in attribute.End given)) (as_name (value_in attribute.Name given)) refl refl refl h
+  where
+    by_parts : (f l : Option ℕ) (n : Option (List ℕ)) → as_address (value_in attribute.Start given) ≡ f → as_address (value_in attribute.End given) ≡ l → as_name (value_in attribute.Name given) ≡ n → segment_from f l n ≡ Ok s → IsSaid given s
+    by_parts (Some f) (Some l) (Some n) ef el en i = let h = from f l n s i in record { first = rw h.0 ef; last = rw h.0 el; name = rw h.0 en; ordered = rw h.0 h.1 }
+    by_parts (Some f) (Some l) None ef el en i = absurd cc
+    by_parts (Some f) None n ef el en i = absurd cc
+    by_parts None l n ef el en i = absurd cc
+
+address_low : (v : Option ValueView) → IfSome v (HasForm form.Address) → (n : ℕ) → as_address v ≡ Some n → n ≤ 0xFFFF
+address_low (Some (an_address m)) h n e = let same : m ≡ n = cc in subst (λ (k : ℕ). k ≤ 0xFFFF) same h
+address_low (Some _) h n e = absurd cc
+address_low None h n e = absurd cc
+
+text_is : (v : Option ValueView) (t : List ℕ) → as_name v ≡ Some t → v ≡ Some (a_name t)
+text_is (Some (a_name u)) t h = let e : u ≡ t = cc in ap (λ x. Some (a_name x)) e
+text_is (Some _) t h = absurd cc
+text_is None t h = absurd cc
+
+segment_good : (given : List AssignmentView) (s : SegmentView) → AreFormed given → segment_in given ≡ Ok s → IsSegment s
+unfolding form_of
+segment_good given s f h =
+    let x = segment_is given s h in
+    record {
+      ordered = x.ordered;
+      room = address_low (value_in attribute.End given) (found_formed attribute.End given f) s.last x.last;
+      form = name_formed given s.name f x.name;
+    }
+
+says : (given : List AssignmentView) (s : SegmentView) → segment_in given ≡ Ok s → SaysSegment given s
+says given s h =
+    let x = segment_is given s h in
+    record {
+      first = address_is (value_in attribute.Start given) s.first x.first;
+      last = address_is (value_in attribute.End given) s.last x.last;
+      name = text_is (value_in attribute.Name given) s.name x.name;
+    }
+
+pub segment_ordered : (given : List AssignmentView) (s : SegmentView) → segment_in given ≡ Ok s → s.first ≤ s.last
+segment_ordered given s h = (segment_is given s h).ordered
+
+pub segment_meets : (segments : List SegmentView) (s : SegmentView) (x : Result SegmentView InfoFaultKind) → x ≡ Ok s → list_any (meets s) segments ≡ true → segment_fault segments x ≡ Some SegmentsOverlap
+segment_meets segments s x is hit = rw is (rw hit refl)
+
+pub segment_apart : (segments : List SegmentView) (s : SegmentView) (x : Result SegmentView InfoFaultKind) → x ≡ Ok s → list_any (meets s) segments ≡ false → segment_fault segments x ≡ None
+segment_apart segments s x is miss = rw is (rw miss refl)
+
+-- ---- marking
+
+segments_moved : (xs ys : List SegmentView) (table : List Bool) → ys ≡ xs → AreMarked xs table → AreMarked ys table
+segments_moved xs ys table e m = rw e m
+
+-- a group SEGMENT with a segment marks it
+pub marked_segment : (before : List GroupView) (given : List AssignmentView) (s : SegmentView) (old new : List Bool) → segment_in given ≡ Ok s → length new ≡ length old
+    → ((a : ℕ) → a < 0x1_0000 → get_or new a false ≡ (get_or old a false || contains s a)) → AreMarked (segments_of before) old → AreMarked (segments_of (before ++ record { kind = kind.Segment; given = given } ∷ [])) new
+marked_segment before given s old new is long marked m =
+    segments_moved _ _ new (segments_more before (record { kind = kind.Segment; given = given }) ∙ rw is refl) (segment_marked (segments_of before) s old new m (segment_is given s is).ordered long marked)
+
+-- one with a fault says none
+pub marked_fault : (before : List GroupView) (given : List AssignmentView) (f : InfoFaultKind) (table : List Bool) → segment_in given ≡ Err f → AreMarked (segments_of before) table → AreMarked (segments_of (before ++ record { kind = kind.Segment; given = given } ∷ [])) table
+marked_fault before given f table is m = segments_moved _ _ table (segments_more before (record { kind = kind.Segment; given = given }) ∙ rw is (append-nil (segments_of before))) m
+
+-- and any other group says none
+pub marked_other : (before : List GroupView) (k : GroupKind) (given : List AssignmentView) (table : List Bool) → (k ≡ kind.Segment → ⊥) → AreMarked (segments_of before) table → AreMarked (segments_of (before ++ record { kind = k; given = given } ∷ [])) table
+marked_other before k given table other m = segments_moved _ _ table (segments_more before (record { kind = k; given = given }) ∙ none k other) m
+  where
+    none : (k : GroupKind) → (k ≡ kind.Segment → ⊥) → segments_of before ++ segment_part (record { kind = k; given = given }) ≡ segments_of before
+    none kind.Global other = append-nil (segments_of before)
+    none kind.Range other = append-nil (segments_of before)
+    none kind.Label other = append-nil (segments_of before)
+    none kind.Segment other = absurd (other refl)
+
+-- ---- no two share an address
+
+-- a group SEGMENT that closes
+record ClosesSegment (segments : List SegmentView) (given : List AssignmentView) : Type 0 where
+  segment : SegmentView
+  is : segment_in given ≡ Ok segment
+  free : list_any (meets segment) segments ≡ false
+
+closed_segment : (segments : List SegmentView) (given : List AssignmentView) (x : Result SegmentView InfoFaultKind) → segment_in given ≡ x → segment_fault segments x ≡ None → ClosesSegment segments given
+closed_segment segments given (Err f) e h = absurd cc
+closed_segment segments given (Ok s) e h =
+    by_test (list_any (meets s) segments)
+    (λ yes. let i : ◌≡◌ {A = Option InfoFaultKind} (Some SegmentsOverlap) None = rw yes at h in absurd cc)
+    (λ no. record { segment = s; is = e; free = no })
+
+closes_segment : (before : List GroupView) (given : List AssignmentView) → closing_fault before kind.Segment given ≡ None → ClosesSegment (segments_of before) given
+unfolding closing_fault
+closes_segment before given h = closed_segment (segments_of before) given (segment_in given) refl h
+
+apart_from : (s : SegmentView) (ss : List SegmentView) → list_any (meets s) ss ≡ false → (k : ℕ) (d : SegmentView) → k < length ss → AreApart (get_or ss k d) s
+unfolding meets overlaps
+apart_from s ss free k d l a there here =
+    let yes = list_any_at (meets s) ss k d l (shared_overlap (extent s) (extent (get_or ss k d)) (a, here, there)) in absurd (let e : true ≡ false = sym yes ∙ free in cc)
+
+good_more : (before : List GroupView) (k : GroupKind) (given : List AssignmentView) → AreFormed given → closing_fault before k given ≡ None → AreSegments (segments_of before) → AreSegments (segments_of before ++ segment_part (record { kind = k; given = given }))
+good_more before kind.Global given f h old = rw (append-nil (segments_of before)) old
+good_more before kind.Range given f h old = rw (append-nil (segments_of before)) old
+good_more before kind.Label given f h old = rw (append-nil (segments_of before)) old
+good_more before kind.Segment given f h old =
+    let c = closes_segment before given h in
+    rw c.is (record {
+      each = All-push IsSegment (segments_of before) c.segment old.each (segment_good given c.segment f c.is);
+      apart = all_pairs_push AreApart (segments_of before) c.segment old.apart (apart_from c.segment (segments_of before) c.free);
+    })
+
+groups_good : (before gs : List GroupView) → AreGroups before gs → GroupsFormed gs → AreSegments (segments_of before) → AreSegments (segments_of (before ++ gs))
+groups_good before [] h f old = rw (append-nil before) old
+groups_good before (g ∷ gs) h f old =
+    let more : AreSegments (segments_of (before ++ g ∷ [])) = rw (segments_more before g) (good_more before g.kind g.given f.0 h.0.closes old) in
+    let all = groups_good (before ++ g ∷ []) gs h.1 f.1 more in rw (append_assoc before (g ∷ []) gs) at all
+
+none_said : AreSegments (segments_of [])
+unfolding segments_of
+none_said = record { each = λ k d l. absurd (omega (arith, l)); apart = λ i j d lt l. absurd (omega (arith, l)) }
+
+-- the segments of the groups of an accepted text
+pub read_segments : (o : OptionsView) (bytes : List ℕ) (groups : List GroupView) → groups_of o bytes ≡ Ok groups → AreSegments (segments_of groups)
+unfolding groups_of read
+read_segments o bytes groups e =
+    let a = groups_accepted o (tokens_of 1 bytes).tokens (tokens_of 1 bytes).ending groups e in
+    let formed : GroupsFormed groups = subst GroupsFormed a.1.of (groups_formed o a.1.spelling (tokens_of 1 bytes).tokens a.1.spelled) in
+    groups_good [] groups a.1.keeps formed none_said
+
+-- ---- the laws
+
+said_more : (before : List GroupView) (k : GroupKind) (given : List AssignmentView) (gs : List GroupView) → closing_fault before k given ≡ None → AreSaid gs (segments_of gs) → AreSaid (record { kind = k; given = given } ∷ gs) (segment_part (record { kind = k; given = given }) ++ segments_of gs)
+said_more before kind.Global given gs h said = said
+said_more before kind.Range given gs h said = said
+said_more before kind.Label given gs h said = said
+said_more before kind.Segment given gs h said = let c = closes_segment before given h in rw c.is (says given c.segment c.is, said)
+
+groups_said : (before gs : List GroupView) → AreGroups before gs → AreSaid gs (segments_of gs)
+unfolding segments_of
+groups_said before [] h = refl
+groups_said before (g ∷ gs) h = said_more before g.kind g.given gs h.0.closes (groups_said (before ++ g ∷ []) gs h.1)
+
+pub segments_apart : SegmentsApart
+segments_apart o bytes info i =
+    let formed : GroupsFormed i.groups = subst GroupsFormed i.accepts.of (groups_formed o i.accepts.spelling (tokens_of 1 bytes).tokens i.accepts.spelled) in
+    rw i.says (groups_said [] i.groups i.accepts.keeps, groups_good [] i.groups i.accepts.keeps formed none_said)
+
+segments_ordered : (groups : List GroupView) → All (λ (s : SegmentView). s.first ≤ s.last) (segments_of groups)
+unfolding segments_of
+segments_ordered [] = λ k d l. absurd (omega (arith, l))
+segments_ordered (g ∷ gs) = All-append (λ (s : SegmentView). s.first ≤ s.last) (segment_part g) (segments_of gs) (part g.kind g.given (segment_in g.given) refl) (segments_ordered gs)
+  where
+    one : (s : SegmentView) → s.first ≤ s.last → All (λ (s : SegmentView). s.first ≤ s.last) (s ∷ [])
+    one s h zero d l = h
+    one s h (suc k) d l = absurd (omega (arith, l))
+
+    part : (k : GroupKind) (given : List AssignmentView) (x : Result SegmentView InfoFaultKind) → segment_in given ≡ x → All (λ (s : SegmentView). s.first ≤ s.last) (segment_part (record { kind = k; given = given }))
+    part kind.Segment given (Ok s) e = rw e (one s (segment_is given s e).ordered)
+    part kind.Segment given (Err f) e = rw e (λ k d l. absurd (omega (arith, l)))
+    part kind.Global given x e = λ k d l. absurd (omega (arith, l))
+    part kind.Range given x e = λ k d l. absurd (omega (arith, l))
+    part kind.Label given x e = λ k d l. absurd (omega (arith, l))
+
+refused_meets : (s : SegmentView) (ss : List SegmentView) → segment_fault ss (Ok s) ≡ Some SegmentsOverlap → list_any (meets s) ss ≡ true
+refused_meets s ss h =
+    by_test (list_any (meets s) ss)
+    (λ yes. yes)
+    (λ no. let i : ◌≡◌ {A = Option InfoFaultKind} None (Some SegmentsOverlap) = rw no at h in absurd cc)
+
+any_shares : (s : SegmentView) (ss : List SegmentView) → s.first ≤ s.last → All (λ (t : SegmentView). t.first ≤ t.last) ss → Any (λ t. meets s t ≡ true) ss → Any (Share s) ss
+unfolding meets overlaps
+any_shares s ss so to h =
+    let t : SegmentView = h.1 in
+    let ordered : t.first ≤ t.last = subst (λ (x : SegmentView). x.first ≤ x.last) h.3 (to h.0 t h.2) in (h.0, t, h.2, h.3, overlap_shared (extent s) (extent t) so ordered h.4)
+
+shares_any : (s : SegmentView) (ss : List SegmentView) → Any (Share s) ss → Any (λ t. meets s t ≡ true) ss
+unfolding meets overlaps
+shares_any s ss h = (h.0, h.1, h.2, h.3, shared_overlap (extent s) (extent h.1) h.4)
+
+pub segments_share : SegmentsShare
+unfolding closing_fault
+segments_share before given s is = (
+  λ h. let i : segment_fault (segments_of before) (Ok s) ≡ Some SegmentsOverlap = rw is at h in
+      any_shares s (segments_of before) (segment_is given s is).ordered (segments_ordered before) (Any-from_list_any (meets s) (segments_of before) (refused_meets s (segments_of before) i)),
+  λ h. let yes = list_any-from_Any (meets s) (segments_of before) (shares_any s (segments_of before) h) in rw (is, yes) refl,
+)

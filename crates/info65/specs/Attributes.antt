@@ -17,7 +17,8 @@ group_named text =
     if str_eq_ignore_ascii_case text (codes "GLOBAL") then Some group.Global
     else (if str_eq_ignore_ascii_case text (codes "RANGE") then Some group.Range
     else (if str_eq_ignore_ascii_case text (codes "LABEL") then Some group.Label
-    else None))
+    else (if str_eq_ignore_ascii_case text (codes "SEGMENT") then Some group.Segment
+    else None)))
 
 -- the attribute of a group by its name, with letters of any case
 unfoldable pub attribute_named : GroupKind → List ℕ → Option Attribute
@@ -28,20 +29,35 @@ attribute_named group.Global text =
     else (if str_eq_ignore_ascii_case text (codes "INPUTSIZE") then Some attribute.InputSize
     else (if str_eq_ignore_ascii_case text (codes "STARTADDR") then Some attribute.StartAddress
     else (if str_eq_ignore_ascii_case text (codes "CPU") then Some attribute.Cpu
+    else (if str_eq_ignore_ascii_case text (codes "COMMENTS") then Some attribute.Comments
+    else (if str_eq_ignore_ascii_case text (codes "MNEMONICCOLUMN") then Some attribute.MnemonicColumn
+    else (if str_eq_ignore_ascii_case text (codes "ARGUMENTCOLUMN") then Some attribute.ArgumentColumn
+    else (if str_eq_ignore_ascii_case text (codes "COMMENTCOLUMN") then Some attribute.CommentColumn
+    else (if str_eq_ignore_ascii_case text (codes "TEXTCOLUMN") then Some attribute.TextColumn
+    else (if str_eq_ignore_ascii_case text (codes "LABELBREAK") then Some attribute.LabelBreak
     else (if str_eq_ignore_ascii_case text (codes "HEXOFFS") then Some attribute.HexOffsets
+    else (if str_eq_ignore_ascii_case text (codes "NEWLINEAFTERJMP") then Some attribute.NewlineAfterJmp
+    else (if str_eq_ignore_ascii_case text (codes "NEWLINEAFTERRTS") then Some attribute.NewlineAfterRts
     else (if str_eq_ignore_ascii_case text (codes "PAGELENGTH") then Some attribute.PageLength
-    else None)))))))
+    else None)))))))))))))))
 attribute_named group.Range text =
     if str_eq_ignore_ascii_case text (codes "START") then Some attribute.Start
     else (if str_eq_ignore_ascii_case text (codes "END") then Some attribute.End
     else (if str_eq_ignore_ascii_case text (codes "SIZE") then Some attribute.Size
     else (if str_eq_ignore_ascii_case text (codes "TYPE") then Some attribute.Role
     else (if str_eq_ignore_ascii_case text (codes "NAME") then Some attribute.Name
-    else None))))
+    else (if str_eq_ignore_ascii_case text (codes "COMMENT") then Some attribute.Comment
+    else None)))))
 attribute_named group.Label text =
     if str_eq_ignore_ascii_case text (codes "ADDR") then Some attribute.Address
     else (if str_eq_ignore_ascii_case text (codes "NAME") then Some attribute.Name
     else (if str_eq_ignore_ascii_case text (codes "SIZE") then Some attribute.Size
+    else (if str_eq_ignore_ascii_case text (codes "COMMENT") then Some attribute.Comment
+    else None)))
+attribute_named group.Segment text =
+    if str_eq_ignore_ascii_case text (codes "START") then Some attribute.Start
+    else (if str_eq_ignore_ascii_case text (codes "END") then Some attribute.End
+    else (if str_eq_ignore_ascii_case text (codes "NAME") then Some attribute.Name
     else None))
 
 -- what the value of an attribute has to be
@@ -52,13 +68,22 @@ form_of attribute.InputOffset = form.Number 0 16_777_216
 form_of attribute.InputSize = form.Number 1 0x1_0000
 form_of attribute.StartAddress = form.Address
 form_of attribute.Cpu = form.CpuText
+form_of attribute.Comments = form.Number 0 4
+form_of attribute.MnemonicColumn = form.Number 1 120
+form_of attribute.ArgumentColumn = form.Number 1 120
+form_of attribute.CommentColumn = form.Number 1 120
+form_of attribute.TextColumn = form.Number 1 120
+form_of attribute.LabelBreak = form.Number 0 120
 form_of attribute.HexOffsets = form.Boolean
+form_of attribute.NewlineAfterJmp = form.Boolean
+form_of attribute.NewlineAfterRts = form.Boolean
 form_of attribute.PageLength = form.Number 0 0
 form_of attribute.Start = form.Address
 form_of attribute.End = form.Address
 form_of attribute.Size = form.Number 1 0x1_0000
 form_of attribute.Role = form.TypeWord
 form_of attribute.Name = form.Name
+form_of attribute.Comment = form.Comment
 form_of attribute.Address = form.Address
 
 -- what the bytes of a range are, by a type word with letters of any case

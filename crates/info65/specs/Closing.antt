@@ -4,11 +4,12 @@ use Rattle.std.specs.List.{list_any}
 use Rattle.info65.specs.Groups.{AssignmentView, GroupView}
 use Rattle.info65.specs.Labels.{label_in, name_fault, names_said, range_name}
 use Rattle.info65.specs.Ranges.{overlaps, range_in, ranges_of}
-use Rattle.info65.specs.Views.{NameView}
+use Rattle.info65.specs.Segments.{meets, segment_in, segments_of}
+use Rattle.info65.specs.Views.{NameView, SegmentView}
 use Rattle.info65.specs.declared.attribute.GroupKind.{GroupKind}
 use Rattle.info65.specs.declared.attribute.GroupKind.TheVariants as group
 use Rattle.info65.specs.declared.fault.InfoFaultKind.{InfoFaultKind}
-use Rattle.info65.specs.declared.fault.InfoFaultKind.TheVariants.{RangesOverlap}
+use Rattle.info65.specs.declared.fault.InfoFaultKind.TheVariants.{RangesOverlap, SegmentsOverlap}
 use Rattle.info65.specs.declared.range.RangeSpec.{RangeSpec}
 
 abbrev pub optional_name_fault : List NameView → Option NameView → Option InfoFaultKind
@@ -26,12 +27,14 @@ abbrev pub label_fault : List NameView → Result NameView InfoFaultKind → Opt
 label_fault names (Err f) = Some f
 label_fault names (Ok n) = name_fault names n
 
--- the fault of a group after groups that said these ranges and names; a group GLOBAL needs nothing
-unfoldable pub fault_after : List RangeSpec → List NameView → GroupKind → List AssignmentView → Option InfoFaultKind
-fault_after ranges names group.Global given = None
-fault_after ranges names group.Range given = range_fault ranges names given (range_in given)
-fault_after ranges names group.Label given = label_fault names (label_in given)
+-- a group SEGMENT has the fault that it has by itself, or else it overlaps a segment before it
+abbrev pub segment_fault : List SegmentView → Result SegmentView InfoFaultKind → Option InfoFaultKind
+segment_fault segments (Err f) = Some f
+segment_fault segments (Ok s) = if list_any (meets s) segments then Some SegmentsOverlap else None
 
--- the fault of a group after those before it
+-- the fault of a group after those before it; a group GLOBAL needs nothing
 unfoldable pub closing_fault : List GroupView → GroupKind → List AssignmentView → Option InfoFaultKind
-closing_fault before k given = fault_after (ranges_of before) (names_said before) k given
+closing_fault before group.Global given = None
+closing_fault before group.Range given = range_fault (ranges_of before) (names_said before) given (range_in given)
+closing_fault before group.Label given = label_fault (names_said before) (label_in given)
+closing_fault before group.Segment given = segment_fault (segments_of before) (segment_in given)

@@ -4,6 +4,7 @@ use Rattle.std.specs.Prelude.{◌≤◌, ◌+◌, ◌==◌, ◌&&◌, ◌++◌, 
 use Rattle.std.specs.List.{find, flat_map, list_any}
 use Rattle.std.specs.Option.{unwrap_or}
 use Rattle.std.specs.Str.{bytes_eq}
+use Rattle.info65.specs.Comments.{comment_in}
 use Rattle.info65.specs.Groups.{AssignmentView, GroupView, value_in}
 use Rattle.info65.specs.Names.{is_reserved}
 use Rattle.info65.specs.Ranges.{range_in}
@@ -18,25 +19,25 @@ use Rattle.info65.specs.declared.range.RangeSpec.{RangeSpec}
 
 -- ---- what a group says
 
-abbrev pub named : ℕ → ℕ → List ℕ → NameView
-named address size text = record { address = address; size = size; text = text; comment = None }
+abbrev pub named : ℕ → ℕ → Option (List ℕ) → List ℕ → NameView
+named address size comment text = record { address = address; size = size; text = text; comment = comment }
 
 -- a name whose addresses end at or below $FFFF
-abbrev pub label_sized : ℕ → List ℕ → ℕ → Result NameView InfoFaultKind
-label_sized address text size = if nat_le (address + size) 0x1_0000 then Ok (named address size text) else Err OutOfRange
+abbrev pub label_sized : ℕ → List ℕ → ℕ → Option (List ℕ) → Result NameView InfoFaultKind
+label_sized address text size comment = if nat_le (address + size) 0x1_0000 then Ok (named address size comment text) else Err OutOfRange
 
 -- ADDR and NAME are needed; without SIZE it is 1
-abbrev pub label_from : Option ℕ → Option (List ℕ) → Option ℕ → Result NameView InfoFaultKind
-label_from (Some address) (Some text) size = label_sized address text (unwrap_or size 1)
-label_from _ _ size = Err Missing
+abbrev pub label_from : Option ℕ → Option (List ℕ) → Option ℕ → Option (List ℕ) → Result NameView InfoFaultKind
+label_from (Some address) (Some text) size comment = label_sized address text (unwrap_or size 1) comment
+label_from _ _ size comment = Err Missing
 
 -- the name that a group LABEL says by what is given in it, or the fault that it has by itself
 unfoldable pub label_in : List AssignmentView → Result NameView InfoFaultKind
-label_in given = label_from (as_address (value_in attribute.Address given)) (as_name (value_in attribute.Name given)) (as_number (value_in attribute.Size given))
+label_in given = label_from (as_address (value_in attribute.Address given)) (as_name (value_in attribute.Name given)) (as_number (value_in attribute.Size given)) (comment_in given)
 
 -- the name that a group RANGE says: that of its first address
 unfoldable pub range_name : List AssignmentView → RangeSpec → Option NameView
-range_name given r = option_map (named r.first 1) (as_name (value_in attribute.Name given))
+range_name given r = option_map (named r.first 1 (comment_in given)) (as_name (value_in attribute.Name given))
 
 abbrev pub name_of_range : List AssignmentView → Result RangeSpec InfoFaultKind → List NameView
 name_of_range given (Ok r) = option_to_list (range_name given r)
@@ -54,6 +55,7 @@ name_part g = said g.kind g.given
     said group.Global given = []
     said group.Range given = name_of_range given (range_in given)
     said group.Label given = name_of_label (label_in given)
+    said group.Segment given = []
 
 -- the names of the groups LABEL and RANGE, in the order of the groups
 unfoldable pub names_said : List GroupView → List NameView

@@ -1,6 +1,7 @@
 pub mod Attributes
 pub mod Closing
 pub mod Code
+pub mod Comments
 pub mod Faults
 pub mod Grammar
 pub mod Groups
@@ -11,6 +12,7 @@ pub mod NameLaws
 pub mod Names
 pub mod Ranges
 pub mod Reader
+pub mod SegmentLaws
 pub mod Segments
 pub mod Settings
 pub mod Sound

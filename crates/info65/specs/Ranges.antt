@@ -1,6 +1,7 @@
 -- Ranges: their addresses, what a group RANGE says, and what holds of all ranges of a file.
 use Rattle.std.specs.Prelude.{◌≡◌, ◌≤◌, ◌&&◌, ◌+◌, ◌-◌, ℕ, Bool, true, List, [], ◌∷◌, Option, Some, None, Result, Ok, Err, All, AllPairs, nat_le, if◌then◌else◌}
 use Rattle.std.specs.List.{flat_map}
+use Rattle.info65.specs.Comments.{lacks_name}
 use Rattle.info65.specs.Groups.{AssignmentView, GroupView, value_in}
 use Rattle.info65.specs.Values.{as_address, as_number, as_type}
 use Rattle.info65.specs.declared.attribute.Attribute.TheVariants as attribute
@@ -52,9 +53,14 @@ abbrev pub range_from : Option ℕ → Option ℕ → Option ℕ → Option Rang
 range_from (Some first) end size (Some role) = range_between first role (last_from first end size)
 range_from _ end size _ = Err Missing
 
--- the range that a group RANGE says by what is given in it, or the fault that it has by itself
+-- the range that START, END, SIZE and TYPE say
+unfoldable pub range_of_parts : List AssignmentView → Result RangeSpec InfoFaultKind
+range_of_parts given = range_from (as_address (value_in attribute.Start given)) (as_address (value_in attribute.End given)) (as_number (value_in attribute.Size given)) (as_type (value_in attribute.Role given))
+
+-- the range that a group RANGE says by what is given in it, or the fault that it has by itself; a comment
+-- needs a name
 unfoldable pub range_in : List AssignmentView → Result RangeSpec InfoFaultKind
-range_in given = range_from (as_address (value_in attribute.Start given)) (as_address (value_in attribute.End given)) (as_number (value_in attribute.Size given)) (as_type (value_in attribute.Role given))
+range_in given = if lacks_name given then Err Missing else range_of_parts given
 
 abbrev pub range_part : GroupView → List RangeSpec
 range_part g = if_range g.kind (range_in g.given)

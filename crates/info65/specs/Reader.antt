@@ -23,7 +23,8 @@ use Rattle.info65.specs.declared.fault.InfoFaultKind.TheVariants.{Expected, Give
 --   opening    `{`                                           Expected
 --   inside     the name of an attribute                      Expected, UnknownAttribute, GivenTwice
 --              or `}`                                        Missing, OutOfRange, RangesOverlap,
---                                                            ReservedName, NameTwice, AddressTwice
+--                                                            SegmentsOverlap, ReservedName, NameTwice,
+--                                                            AddressTwice
 --   valued     the value of the attribute                    Expected, OutOfRange, BadName, NameConflict
 --   behind     `;`                                           Expected
 --

@@ -1,8 +1,16 @@
--- Segments: their addresses, the segment of an address, and what holds of all segments of a file.
-use Rattle.std.specs.Prelude.{◌≡◌, ◌≤◌, ◌&&◌, ℕ, Bool, true, List, Option, All, AllPairs, nat_le, option_map}
-use Rattle.std.specs.List.{find}
+-- Segments: their addresses, the segment of an address, what a group SEGMENT says, and what holds of all
+-- segments of a file.
+use Rattle.std.specs.Prelude.{◌≡◌, ◌≤◌, ◌&&◌, ℕ, Bool, true, List, [], ◌∷◌, Option, Some, Result, Ok, Err, All, AllPairs, nat_le, option_map, if◌then◌else◌}
+use Rattle.std.specs.List.{find, flat_map}
+use Rattle.info65.specs.Groups.{AssignmentView, GroupView, value_in}
 use Rattle.info65.specs.Names.{has_name_form}
+use Rattle.info65.specs.Values.{as_address, as_name}
 use Rattle.info65.specs.Views.{SegmentView}
+use Rattle.info65.specs.declared.attribute.Attribute.TheVariants as attribute
+use Rattle.info65.specs.declared.attribute.GroupKind.{GroupKind}
+use Rattle.info65.specs.declared.attribute.GroupKind.TheVariants as group
+use Rattle.info65.specs.declared.fault.InfoFaultKind.{InfoFaultKind}
+use Rattle.info65.specs.declared.fault.InfoFaultKind.TheVariants.{Missing, OutOfRange}
 
 -- the address belongs to the segment: both ends do
 abbrev pub contains : SegmentView → ℕ → Bool
@@ -26,3 +34,30 @@ pub record IsSegment (s : SegmentView) : Type 0 where
 pub record AreSegments (segments : List SegmentView) : Type 0 where
   pub each : All IsSegment segments
   pub apart : AllPairs AreApart segments
+
+-- neither of two segments lies whole below the other
+unfoldable pub meets : SegmentView → SegmentView → Bool
+meets s t = nat_le s.first t.last && nat_le t.first s.last
+
+-- ---- what a group SEGMENT says
+
+-- START, END and NAME are needed, and it does not end before it begins
+abbrev pub segment_from : Option ℕ → Option ℕ → Option (List ℕ) → Result SegmentView InfoFaultKind
+segment_from (Some first) (Some last) (Some name) =
+    if nat_le first last then Ok (record { first = first; last = last; name = name }) else Err OutOfRange
+segment_from _ _ _ = Err Missing
+
+-- the segment that a group SEGMENT says by what is given in it, or the fault that it has by itself
+unfoldable pub segment_in : List AssignmentView → Result SegmentView InfoFaultKind
+segment_in given = segment_from (as_address (value_in attribute.Start given)) (as_address (value_in attribute.End given)) (as_name (value_in attribute.Name given))
+
+abbrev pub segment_part : GroupView → List SegmentView
+segment_part g = if_segment g.kind (segment_in g.given)
+  where
+    if_segment : GroupKind → Result SegmentView InfoFaultKind → List SegmentView
+    if_segment group.Segment (Ok s) = s ∷ []
+    if_segment _ _ = []
+
+-- the segments of the groups SEGMENT, in the order of the groups
+unfoldable pub segments_of : List GroupView → List SegmentView
+segments_of groups = flat_map segment_part groups

@@ -6,7 +6,7 @@ use Rattle.info65.specs.Attributes.{boolean_named, form_of, type_named}
 use Rattle.isa65.specs.Cpu.{cpu_named}
 use Rattle.info65.specs.Faults.{fault}
 use Rattle.info65.specs.Lexemes.{KindView, number, string, word}
-use Rattle.info65.specs.Names.{has_name_form}
+use Rattle.info65.specs.Names.{has_comment_form, has_name_form}
 use Rattle.info65.specs.Tokens.{TokenView}
 use Rattle.info65.specs.Views.{OptionsView}
 use Rattle.info65.specs.declared.attribute.Attribute.{Attribute}
@@ -20,6 +20,7 @@ use Rattle.info65.specs.declared.range.RangeType.{RangeType}
 -- the value of an attribute
 pub data ValueView : Type 0 where
   a_name : List ℕ → ValueView
+  a_comment : List ℕ → ValueView
   a_number : ℕ → ValueView
   an_address : ℕ → ValueView
   a_cpu : Cpu → ValueView
@@ -29,6 +30,10 @@ pub data ValueView : Type 0 where
 abbrev pub as_name : Option ValueView → Option (List ℕ)
 as_name (Some (a_name text)) = Some text
 as_name _ = None
+
+abbrev pub as_comment : Option ValueView → Option (List ℕ)
+as_comment (Some (a_comment text)) = Some text
+as_comment _ = None
 
 abbrev pub as_number : Option ValueView → Option ℕ
 as_number (Some (a_number n)) = Some n
@@ -75,6 +80,10 @@ name_value o a line text =
 abbrev pub label_value : ℕ → List ℕ → Result ValueView InfoFault
 label_value line text = if has_name_form text then Ok (a_name text) else Err (fault line BadName)
 
+-- a text of the form of a comment
+abbrev pub comment_value : ℕ → List ℕ → Result ValueView InfoFault
+comment_value line text = if has_comment_form text then Ok (a_comment text) else Err (fault line BadName)
+
 -- a number within its limits
 abbrev pub number_value : ℕ → ℕ → ℕ → ℕ → Result ValueView InfoFault
 number_value low high line n = if nat_le low n && nat_le n high then Ok (a_number n) else Err (fault line OutOfRange)
@@ -107,13 +116,14 @@ in_form o a line source form.CpuText (string text) = cpu_value line (cpu_named t
 in_form o a line source form.Address (number n) = address_value line n
 in_form o a line source (form.Number low high) (number n) = number_value low high line n
 in_form o a line source form.Name (string text) = label_value line text
+in_form o a line source form.Comment (string text) = comment_value line text
 in_form o a line source form.Boolean word = boolean_value line (boolean_named source)
 in_form o a line source form.Boolean (number n) = boolean_value line (boolean_of n)
 in_form o a line source form.TypeWord word = type_value line (type_named source)
 in_form o a line source _ _ = Err (fault line Expected)
 
 -- The value of an attribute, or the first of its faults: another kind of token or an unknown word,
--- outside its limits, not of the form of a name, a file name that the command line gives too.
+-- outside its limits, not of the form of a name or a comment, a file name that the command line gives too.
 unfoldable pub value_of : OptionsView → Attribute → TokenView → Result ValueView InfoFault
 value_of o a t = in_form o a t.line t.text (form_of a) t.kind
 
@@ -124,6 +134,7 @@ HasForm form.CpuText (a_cpu c) = Unit {0}
 HasForm form.Address (an_address n) = n ≤ 0xFFFF
 HasForm form.TypeWord (a_type r) = Unit {0}
 HasForm form.Name (a_name text) = has_name_form text ≡ true
+HasForm form.Comment (a_comment text) = has_comment_form text ≡ true
 HasForm form.Boolean (a_boolean b) = Unit {0}
 HasForm (form.Number low high) (a_number n) = (low ≤ n) × (n ≤ high)
 HasForm _ _ = ⊥

@@ -2,7 +2,7 @@
 
 ghost use Rattle.std.specs.Prelude.{◌≡◌, option_map};
 ghost use Rattle.info65.specs.Code.Groups.{value_seen};
-ghost use Rattle.info65.specs.Values.{as_address, as_boolean, as_cpu, as_name, as_number, as_type};
+ghost use Rattle.info65.specs.Values.{as_address, as_boolean, as_comment, as_cpu, as_name, as_number, as_type};
 
 use crate::attribute::{Attribute, GroupKind};
 use crate::range::RangeType;
@@ -12,8 +12,10 @@ use std::alloc::Allocator;
 /// The value of an attribute.
 #[derive(Clone, Copy)]
 pub enum Value<'a> {
-    /// The bytes of a file name or of a name of addresses.
+    /// The bytes of a file name, or of the name of an address or a segment.
     Name(&'a [u8]),
+    /// The bytes of a comment, which may be none.
+    Comment(&'a [u8]),
     /// A number in the limits of its attribute.
     Number(u32),
     /// An address.
@@ -45,6 +47,15 @@ pub fn as_name<'a>(value: Option<Value<'a>>) -> Option<&'a [u8]>
 {
     match value {
         Some(Value::Name(name)) => Some(name),
+        _ => None,
+    }
+}
+
+pub fn as_comment<'a>(value: Option<Value<'a>>) -> Option<&'a [u8]>
+    ensures { option_map (λ s. s.now) result ≡ as_comment (option_map value_seen value.entry) }
+{
+    match value {
+        Some(Value::Comment(text)) => Some(text),
         _ => None,
     }
 }

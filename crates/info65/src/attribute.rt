@@ -3,7 +3,7 @@
 
 ghost use Rattle.std.specs.Prelude.{◌≡◌};
 ghost use Rattle.info65.specs.Attributes.{attribute_named, boolean_named, form_of, group_named, type_named};
-ghost use Rattle.info65.specs.declared.attribute.GroupKind.TheVariants.{Global, Label, Range};
+ghost use Rattle.info65.specs.declared.attribute.GroupKind.TheVariants.{Global, Label, Range, Segment};
 
 use crate::range::RangeType;
 
@@ -16,6 +16,8 @@ pub enum GroupKind {
     Range,
     /// LABEL: the name of an address.
     Label,
+    /// SEGMENT: the segment of some addresses.
+    Segment,
 }
 
 /// An attribute of a group.
@@ -33,20 +35,38 @@ pub enum Attribute {
     StartAddress,
     /// CPU: the CPU by its text.
     Cpu,
+    /// COMMENTS: how much the listing comments.
+    Comments,
+    /// MNEMONICCOLUMN: the column of mnemonics.
+    MnemonicColumn,
+    /// ARGUMENTCOLUMN: the column of operands.
+    ArgumentColumn,
+    /// COMMENTCOLUMN: the column of the comment after a statement.
+    CommentColumn,
+    /// TEXTCOLUMN: the column of the bytes as characters.
+    TextColumn,
+    /// LABELBREAK: the length of the longest label that stands on the line of its statement.
+    LabelBreak,
     /// HEXOFFS: offsets are written in hexadecimal.
     HexOffsets,
+    /// NEWLINEAFTERJMP: an empty line follows each `jmp`.
+    NewlineAfterJmp,
+    /// NEWLINEAFTERRTS: an empty line follows each `rts`.
+    NewlineAfterRts,
     /// PAGELENGTH, which can only be 0.
     PageLength,
-    /// START: the first address of a range.
+    /// START: the first address of a range or of a segment.
     Start,
-    /// END: the last address of a range.
+    /// END: the last address of a range or of a segment.
     End,
     /// SIZE: the number of addresses of a range or of a label.
     Size,
     /// TYPE, whose word is the role of the addresses.
     Role,
-    /// NAME: the name of a label, or of the first address of a range.
+    /// NAME: the name of a label, of the first address of a range, or of a segment.
     Name,
+    /// COMMENT: the comment of a name.
+    Comment,
     /// ADDR: the address of a label.
     Address,
 }
@@ -64,8 +84,10 @@ pub enum Form {
     Number { low: u32, high: u32 },
     /// A type word.
     TypeWord,
-    /// A string that can name an address.
+    /// A string that can name an address or a segment.
     Name,
+    /// A string that can be a comment.
+    Comment,
     /// A boolean word, or the number 0 or 1.
     Boolean,
 }
@@ -81,6 +103,8 @@ pub fn group_named(text: &[u8]) -> Option<GroupKind>
         Some(GroupKind::Range)
     } else if text.eq_ignore_ascii_case(b"LABEL") {
         Some(GroupKind::Label)
+    } else if text.eq_ignore_ascii_case(b"SEGMENT") {
+        Some(GroupKind::Segment)
     } else {
         None
     }
@@ -94,6 +118,7 @@ pub fn attribute_named(kind: GroupKind, text: &[u8]) -> Option<Attribute>
         GroupKind::Global => global_attribute(text),
         GroupKind::Range => range_attribute(text),
         GroupKind::Label => label_attribute(text),
+        GroupKind::Segment => segment_attribute(text),
     }
 }
 
@@ -113,8 +138,24 @@ fn global_attribute(text: &[u8]) -> Option<Attribute>
         Some(Attribute::StartAddress)
     } else if text.eq_ignore_ascii_case(b"CPU") {
         Some(Attribute::Cpu)
+    } else if text.eq_ignore_ascii_case(b"COMMENTS") {
+        Some(Attribute::Comments)
+    } else if text.eq_ignore_ascii_case(b"MNEMONICCOLUMN") {
+        Some(Attribute::MnemonicColumn)
+    } else if text.eq_ignore_ascii_case(b"ARGUMENTCOLUMN") {
+        Some(Attribute::ArgumentColumn)
+    } else if text.eq_ignore_ascii_case(b"COMMENTCOLUMN") {
+        Some(Attribute::CommentColumn)
+    } else if text.eq_ignore_ascii_case(b"TEXTCOLUMN") {
+        Some(Attribute::TextColumn)
+    } else if text.eq_ignore_ascii_case(b"LABELBREAK") {
+        Some(Attribute::LabelBreak)
     } else if text.eq_ignore_ascii_case(b"HEXOFFS") {
         Some(Attribute::HexOffsets)
+    } else if text.eq_ignore_ascii_case(b"NEWLINEAFTERJMP") {
+        Some(Attribute::NewlineAfterJmp)
+    } else if text.eq_ignore_ascii_case(b"NEWLINEAFTERRTS") {
+        Some(Attribute::NewlineAfterRts)
     } else if text.eq_ignore_ascii_case(b"PAGELENGTH") {
         Some(Attribute::PageLength)
     } else {
@@ -136,6 +177,8 @@ fn range_attribute(text: &[u8]) -> Option<Attribute>
         Some(Attribute::Role)
     } else if text.eq_ignore_ascii_case(b"NAME") {
         Some(Attribute::Name)
+    } else if text.eq_ignore_ascii_case(b"COMMENT") {
+        Some(Attribute::Comment)
     } else {
         None
     }
@@ -151,6 +194,23 @@ fn label_attribute(text: &[u8]) -> Option<Attribute>
         Some(Attribute::Name)
     } else if text.eq_ignore_ascii_case(b"SIZE") {
         Some(Attribute::Size)
+    } else if text.eq_ignore_ascii_case(b"COMMENT") {
+        Some(Attribute::Comment)
+    } else {
+        None
+    }
+}
+
+#[tactic(auto, unfolding(crate::specs::Attributes::attribute_named))]
+fn segment_attribute(text: &[u8]) -> Option<Attribute>
+    ensures { result ≡ attribute_named Segment text.now }
+{
+    if text.eq_ignore_ascii_case(b"START") {
+        Some(Attribute::Start)
+    } else if text.eq_ignore_ascii_case(b"END") {
+        Some(Attribute::End)
+    } else if text.eq_ignore_ascii_case(b"NAME") {
+        Some(Attribute::Name)
     } else {
         None
     }
@@ -175,10 +235,19 @@ pub fn form_of(attribute: Attribute) -> Form
             Form::Address
         }
         Attribute::Cpu => Form::CpuText,
+        Attribute::Comments => Form::Number { low: 0, high: 4 },
+        Attribute::MnemonicColumn
+        | Attribute::ArgumentColumn
+        | Attribute::CommentColumn
+        | Attribute::TextColumn => Form::Number { low: 1, high: 120 },
+        Attribute::LabelBreak => Form::Number { low: 0, high: 120 },
         Attribute::PageLength => Form::Number { low: 0, high: 0 },
         Attribute::Role => Form::TypeWord,
         Attribute::Name => Form::Name,
-        Attribute::HexOffsets => Form::Boolean,
+        Attribute::Comment => Form::Comment,
+        Attribute::HexOffsets | Attribute::NewlineAfterJmp | Attribute::NewlineAfterRts => {
+            Form::Boolean
+        }
     }
 }
 

@@ -7,29 +7,32 @@ use crate::attribute::{Attribute, GroupKind};
 use crate::fault::{InfoFault, InfoFaultKind};
 use crate::groups::is_given;
 use crate::index::Index;
+use crate::marks::{ADDRESSES, blank_table};
 use crate::pool::Pool;
+use crate::segment_groups::{mark_segment, segment_fault};
 use std::alloc::Allocator;
 use std::marker::Model;
 
-/// The groups that are closed, with an index of the ranges and names that they say. A contract sees the
-/// list of the groups.
+/// The groups that are closed, with an index of the ranges and names that they say, and a table of the
+/// addresses that belong to a segment. A contract sees the list of the groups.
 #[derive(Drop)]
 pub struct Closed<'a, A: Allocator> {
     groups: Vec<Group<'a, A>, A>,
     index: Index<'a, A>,
+    segmented: Vec<bool, A>,
 }
 
 impl<'a, A: Allocator> Model for Closed<'a, A> {
     ghost use Rattle.std.specs.Prelude.{List, map};
     ghost use Rattle.info65.specs.Code.Groups.{group_seen};
-    ghost use Rattle.info65.specs.Code.Index.{IndexesGroups};
+    ghost use Rattle.info65.specs.Code.Index.{IsIndexed};
     ghost use Rattle.info65.specs.Groups.{GroupView};
 
     ghost Value = { List GroupView };
 
     ghost view = { λ c. map group_seen c.groups.items };
 
-    ghost invariant = { λ c. IndexesGroups (map group_seen c.groups.items) c.index };
+    ghost invariant = { λ c. IsIndexed (map group_seen c.groups.items) c.index c.segmented.items };
 }
 
 impl<'a, A: Allocator + Copy> Closed<'a, A> {
@@ -46,7 +49,12 @@ impl<'a, A: Allocator + Copy> Closed<'a, A> {
     {
         let groups = Vec::new(alloc);
         let index = Index::new(alloc)?;
-        Ok(Closed { groups, index })
+        let segmented = blank_table(alloc, ADDRESSES)?;
+        Ok(Closed {
+            groups,
+            index,
+            segmented,
+        })
     }
 
     /// The groups, in their order.
@@ -68,7 +76,12 @@ impl<'a, A: Allocator + Copy> Closed<'a, A> {
     pub fn closing_fault(&self, kind: GroupKind, given: &[Assignment<'a>]) -> Option<InfoFaultKind>
         ensures { result ≡ closing_fault self.now kind (map assignment_seen given.now) }
     {
-        self.index.fault_after(kind, given)
+        match kind {
+            GroupKind::Global => None,
+            GroupKind::Range => self.index.range_fault(given),
+            GroupKind::Label => self.index.label_fault(given),
+            GroupKind::Segment => segment_fault(self.segmented.as_slice(), given),
+        }
     }
 
     /// These groups and one more, which has no fault.
@@ -79,10 +92,16 @@ impl<'a, A: Allocator + Copy> Closed<'a, A> {
         let Closed {
             mut groups,
             mut index,
+            mut segmented,
         } = self;
         index.add(group.kind, group.given.as_slice())?;
+        mark_segment(segmented.as_mut_slice(), group.kind, group.given.as_slice());
         groups.push(group)?;
-        Ok(Closed { groups, index })
+        Ok(Closed {
+            groups,
+            index,
+            segmented,
+        })
     }
 
     /// The names that the groups say, by address.

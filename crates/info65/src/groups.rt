@@ -8,8 +8,9 @@ use crate::assignment::{Assignment, Group, Value};
 use crate::attribute::{Attribute, GroupKind};
 use std::alloc::Allocator;
 
+/// The attribute is given.
 #[tactic(auto, unfolding(crate::specs::Groups::has))]
-fn has(given: &[Assignment], attribute: Attribute) -> bool
+pub fn has(given: &[Assignment], attribute: Attribute) -> bool
     ensures { result ≡ has attribute (map assignment_seen given.now) }
 {
     for each in given {
@@ -37,7 +38,7 @@ fn global_part<'a, 'b, A: Allocator>(group: &'b Group<'a, A>) -> &'b [Assignment
 {
     match group.kind {
         GroupKind::Global => group.given.as_slice(),
-        GroupKind::Range | GroupKind::Label => &[],
+        GroupKind::Range | GroupKind::Label | GroupKind::Segment => &[],
     }
 }
 
@@ -72,6 +73,7 @@ fn has_before<A: Allocator>(before: &[Group<A>], kind: GroupKind, attribute: Att
         GroupKind::Global => has_global(before, attribute),
         GroupKind::Range => false,
         GroupKind::Label => false,
+        GroupKind::Segment => false,
     }
 }
 

@@ -1,17 +1,17 @@
 //! An index of the ranges and names that closed groups say.
 
-ghost use Rattle.std.specs.Prelude.{◌≡◌, ◌≤◌, ◌<◌, ◌-◌, ◌+◌, ◌++◌, ◌||◌, ◌∷◌, ℕ, IfErr, IfOk, List, MatchResult, None, Ok, [], false, get_or, length, map, option_map, option_to_list};
+ghost use Rattle.std.specs.Prelude.{◌≡◌, ◌≤◌, ◌++◌, ◌∷◌, IfErr, IfOk, List, MatchResult, None, Ok, [], length, map, option_map, option_to_list};
 ghost use Rattle.std.specs.List.{list_any};
-ghost use Rattle.info65.specs.Closing.{closing_fault, fault_after, label_fault, optional_name_fault, range_fault};
+ghost use Rattle.info65.specs.Closing.{closing_fault, label_fault, optional_name_fault, range_fault};
 ghost use Rattle.info65.specs.Code.Groups.{assignment_seen};
-ghost use Rattle.info65.specs.Code.Index.{Indexes, IndexesGroups, any_in};
+ghost use Rattle.info65.specs.Code.Index.{Indexes, IndexesGroups};
 ghost use Rattle.info65.specs.Code.Names.{given_seen};
 ghost use Rattle.std.specs.BTreeMap.{get};
 ghost use Rattle.std.specs.Ordering.{nat_cmp};
 ghost use Rattle.info65.specs.Faults.{Gives, out_of_memory};
 ghost use Rattle.info65.specs.Groups.{GroupView};
 ghost use Rattle.info65.specs.Labels.{is_elsewhere, label_in, name_fault, names_from};
-ghost use Rattle.info65.specs.Ranges.{has_address, range_in};
+ghost use Rattle.info65.specs.Ranges.{range_in};
 ghost use Rattle.info65.specs.Reader.{group};
 ghost use Rattle.info65.specs.Views.{NameView};
 ghost use Rattle.info65.specs.declared.range.RangeSpec.{RangeSpec};
@@ -20,6 +20,7 @@ use crate::assignment::Assignment;
 use crate::attribute::GroupKind;
 use crate::fault::{InfoFault, InfoFaultKind};
 use crate::label_groups::{label_in, range_name};
+use crate::marks::{ADDRESSES, blank_table, is_marked, mark};
 use crate::name::Given;
 use crate::names::is_reserved;
 use crate::pool::Pool;
@@ -27,9 +28,6 @@ use crate::range::RangeSpec;
 use crate::range_groups::range_in;
 use std::alloc::Allocator;
 use std::collections::BTreeMap;
-
-// How many addresses there are.
-const ADDRESSES: usize = 0x1_0000;
 
 /// Where ranges and names of the groups so far are found without reading these again.
 #[derive(Drop)]
@@ -40,39 +38,6 @@ pub struct Index<'a, A: Allocator> {
     pub by_address: BTreeMap<u16, Given<'a>, A>,
     /// The address of each name, by its text.
     pub by_text: BTreeMap<&'a [u8], u16, A>,
-}
-
-fn blank_table<A: Allocator>(alloc: A, count: usize) -> Result<Vec<bool, A>, InfoFault>
-    ensures size { IfOk result (λ t. length t.items ≡ count) }
-    ensures blank { IfOk result (λ t. (a : ℕ) → get_or t.items a false ≡ false) }
-    ensures err { IfErr result (λ e. e ≡ out_of_memory) }
-{
-    Ok(vec![in alloc; false; count]?)
-}
-
-// An address of the range is marked.
-fn is_marked(table: &[bool], range: RangeSpec) -> bool
-    requires { length table.now ≡ 0x1_0000 }
-    ensures { result ≡ any_in table.now range.first (range.last + 1 - range.first) }
-{
-    for address in usize::from(range.first)..usize::from(range.last) + 1 {
-        if table[address] {
-            return true;
-        }
-    }
-    false
-}
-
-// Marks the addresses of the range.
-fn mark(table: &mut [bool], range: RangeSpec)
-    requires size { length table.old ≡ 0x1_0000 }
-    requires ordered { range.first ≤ range.last }
-    ensures size { length table.new ≡ length table.old }
-    ensures marked { (a : ℕ) → a < 0x1_0000 → get_or table.new a false ≡ (get_or table.old a false || has_address range a) }
-{
-    for address in usize::from(range.first)..usize::from(range.last) + 1 {
-        table[address] = true;
-    }
 }
 
 impl<'a, A: Allocator + Copy> Index<'a, A> {
@@ -125,14 +90,15 @@ impl<'a, A: Allocator + Copy> Index<'a, A> {
         }
     }
 
-    fn range_fault(&self, given: &[Assignment<'a>]) -> Option<InfoFaultKind>
+    /// The fault of a group RANGE at its closing brace, after the groups of the index.
+    pub fn range_fault(&self, given: &[Assignment<'a>]) -> Option<InfoFaultKind>
         requires { length self.now.ranged.items ≡ 0x1_0000 }
         ensures { (ranges : List RangeSpec) (names : List NameView) → Indexes ranges names self.now → result ≡ range_fault ranges names (map assignment_seen given.now) (range_in (map assignment_seen given.now)) }
     {
         match range_in(given) {
             Err(fault) => Some(fault),
             Ok(range) => {
-                if is_marked(self.ranged.as_slice(), range) {
+                if is_marked(self.ranged.as_slice(), range.first, range.last) {
                     Some(InfoFaultKind::RangesOverlap)
                 } else {
                     self.optional_name_fault(range_name(given, range))
@@ -141,25 +107,13 @@ impl<'a, A: Allocator + Copy> Index<'a, A> {
         }
     }
 
-    fn label_fault(&self, given: &[Assignment<'a>]) -> Option<InfoFaultKind>
+    /// The fault of a group LABEL at its closing brace, after the groups of the index.
+    pub fn label_fault(&self, given: &[Assignment<'a>]) -> Option<InfoFaultKind>
         ensures { (ranges : List RangeSpec) (names : List NameView) → Indexes ranges names self.now → result ≡ label_fault names (label_in (map assignment_seen given.now)) }
     {
         match label_in(given) {
             Err(fault) => Some(fault),
             Ok(name) => self.name_fault(name),
-        }
-    }
-
-    /// The fault of a group at its closing brace, after the groups of the index.
-    #[tactic(auto, unfolding(crate::specs::Closing::fault_after))]
-    pub fn fault_after(&self, kind: GroupKind, given: &[Assignment<'a>]) -> Option<InfoFaultKind>
-        requires { length self.now.ranged.items ≡ 0x1_0000 }
-        ensures { (ranges : List RangeSpec) (names : List NameView) → Indexes ranges names self.now → result ≡ fault_after ranges names kind (map assignment_seen given.now) }
-    {
-        match kind {
-            GroupKind::Global => None,
-            GroupKind::Range => self.range_fault(given),
-            GroupKind::Label => self.label_fault(given),
         }
     }
 
@@ -189,7 +143,7 @@ impl<'a, A: Allocator + Copy> Index<'a, A> {
         requires ordered { range.first ≤ range.last }
         ensures { (ranges : List RangeSpec) (names : List NameView) → Indexes ranges names self.old → Indexes (ranges ++ range ∷ []) names self.new }
     {
-        mark(self.ranged.as_mut_slice(), range);
+        mark(self.ranged.as_mut_slice(), range.first, range.last);
     }
 
     /// Adds what a group says that has no fault.
@@ -200,6 +154,7 @@ impl<'a, A: Allocator + Copy> Index<'a, A> {
     {
         match kind {
             GroupKind::Global => Ok(()),
+            GroupKind::Segment => Ok(()),
             GroupKind::Range => match range_in(given) {
                 Ok(range) => {
                     self.add_range(range);

@@ -13,6 +13,7 @@ use crate::pool::Pool;
 use crate::range::RangeSpec;
 use crate::range_groups::ranges_of;
 use crate::segment::{SegmentSpec, segment_covering};
+use crate::segment_groups::segments_of;
 use crate::settings::Settings;
 use std::alloc::{Allocator, Global};
 use std::marker::Model;
@@ -113,10 +114,11 @@ impl<A: Allocator> Info<A> {
 /// Reads an information file under the options of the command line. No information file is the empty one.
 ///
 /// The grammar is that of the da65 Users Guide, with these groups and attributes: GLOBAL with INPUTNAME,
-/// OUTPUTNAME, INPUTOFFS, INPUTSIZE, STARTADDR, CPU, HEXOFFS and PAGELENGTH; RANGE with START, END, SIZE,
-/// TYPE and NAME; LABEL with ADDR, NAME and SIZE. A file is accepted exactly when its tokens are groups
-/// that keep every condition; else it is refused for the first fault from left to right, with that fault's
-/// line. A file of more than 1,048,576 bytes is TooLarge at line 1. It returns Memory at line 0 only if an
+/// OUTPUTNAME, INPUTOFFS, INPUTSIZE, STARTADDR, CPU, COMMENTS, MNEMONICCOLUMN, ARGUMENTCOLUMN, COMMENTCOLUMN,
+/// TEXTCOLUMN, LABELBREAK, HEXOFFS, NEWLINEAFTERJMP, NEWLINEAFTERRTS and PAGELENGTH; RANGE with START, END,
+/// SIZE, TYPE, NAME and COMMENT; LABEL with ADDR, NAME, SIZE and COMMENT; SEGMENT with START, END and NAME.
+/// A file is accepted exactly when its tokens are groups that keep every condition; else it is refused for
+/// the first fault from left to right, with that fault's line. A file of more than 1,048,576 bytes is TooLarge at line 1. It returns Memory at line 0 only if an
 /// allocation failed. The time grows with the size of the file: no group is read again at a closing brace.
 #[tactic(auto, unfolding(crate::specs::Reader::information))]
 pub fn read_info<A: Allocator + Copy, B: Allocator>(
@@ -134,7 +136,7 @@ pub fn read_info<A: Allocator + Copy, B: Allocator>(
     let settings = settings_of(alloc, options, closed.groups())?;
     let ranges = ranges_of(alloc, closed.groups())?;
     let names = closed.names(alloc)?;
-    let segments = Vec::new(alloc);
+    let segments = segments_of(alloc, closed.groups())?;
     Ok(Info {
         settings,
         ranges,

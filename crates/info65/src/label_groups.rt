@@ -7,6 +7,7 @@ ghost use Rattle.info65.specs.Labels.{label_from, label_in, label_sized, range_n
 
 use crate::assignment::{Assignment, as_address, as_name, as_number};
 use crate::attribute::Attribute;
+use crate::comments::comment_in;
 use crate::fault::InfoFaultKind;
 use crate::groups::value_in;
 use crate::name::Given;
@@ -22,27 +23,34 @@ pub fn label_in<'a>(given: &[Assignment<'a>]) -> Result<Given<'a>, InfoFaultKind
     let text = as_name(value_in(given, Attribute::Name));
     let size = as_number(value_in(given, Attribute::Size));
     match (address, text) {
-        (Some(address), Some(text)) => label_sized(address, text, size.unwrap_or(1)),
+        (Some(address), Some(text)) => {
+            label_sized(address, text, size.unwrap_or(1), comment_in(given))
+        }
         _ => Err(InfoFaultKind::Missing),
     }
 }
 
-fn label_sized<'a>(address: u16, text: &'a [u8], size: u32) -> Result<Given<'a>, InfoFaultKind>
-    ensures { SeesName result (label_sized address text.entry.now size) }
+fn label_sized<'a>(
+    address: u16,
+    text: &'a [u8],
+    size: u32,
+    comment: Option<&'a [u8]>,
+) -> Result<Given<'a>, InfoFaultKind>
+    ensures { SeesName result (label_sized address text.entry.now size (option_map (λ s. s.now) comment.entry)) }
 {
     if u64::from(address) + u64::from(size) <= 0x1_0000 {
         Ok(Given {
             address,
             size,
             text,
-            comment: None,
+            comment,
         })
     } else {
         Err(InfoFaultKind::OutOfRange)
     }
 }
 
-/// The name that a group RANGE says: that of its first address.
+/// The name that a group RANGE says: that of its first address, with its comment.
 #[tactic(auto, unfolding(crate::specs::Labels::range_name))]
 pub fn range_name<'a>(given: &[Assignment<'a>], range: RangeSpec) -> Option<Given<'a>>
     ensures { option_map given_seen result ≡ range_name (map assignment_seen given.now) range }
@@ -52,7 +60,7 @@ pub fn range_name<'a>(given: &[Assignment<'a>], range: RangeSpec) -> Option<Give
             address: range.first,
             size: 1,
             text,
-            comment: None,
+            comment: comment_in(given),
         }),
         None => None,
     }

@@ -14,6 +14,7 @@
 mod assignment;
 mod attribute;
 mod closed;
+mod comments;
 mod fault;
 mod groups;
 mod index;
@@ -22,6 +23,7 @@ mod label_groups;
 mod law;
 mod lexeme;
 mod lexer;
+mod marks;
 mod merge;
 mod name;
 mod names;
@@ -31,6 +33,7 @@ mod pool;
 mod range;
 mod range_groups;
 mod segment;
+mod segment_groups;
 mod settings;
 #[cfg(test)]
 mod tests;

@@ -1,13 +1,14 @@
 //! The settings that options and groups give.
 
 ghost use Rattle.std.specs.Prelude.{◌≡◌, IfSome, Ok, map, option_map, true};
-ghost use Rattle.std.specs.Option.{option_or};
+ghost use Rattle.std.specs.Option.{option_or, unwrap_or};
 ghost use Rattle.info65.specs.Faults.{Gives};
-ghost use Rattle.info65.specs.Code.Groups.{group_seen};
-ghost use Rattle.info65.specs.Groups.{AreFormed, global_given};
+ghost use Rattle.info65.specs.Attributes.{form_of};
+ghost use Rattle.info65.specs.Code.Groups.{IsAtMost, group_seen};
+ghost use Rattle.info65.specs.Groups.{AreFormed, global_given, value_in};
 ghost use Rattle.info65.specs.Settings.{settings_of};
 ghost use Rattle.std.specs.String.{string_bytes};
-ghost use Rattle.info65.specs.Values.{is_file_name};
+ghost use Rattle.info65.specs.Values.{as_number, is_file_name};
 ghost use Rattle.info65.specs.Views.{name_seen};
 
 use crate::assignment::{Group, as_address, as_boolean, as_cpu, as_name, as_number};
@@ -33,6 +34,8 @@ pub fn settings_of<'a, A: Allocator + Copy, B: Allocator>(
     let output_given = as_name(global_value(groups, Attribute::OutputName));
     let offset_given = as_number(global_value(groups, Attribute::InputOffset));
     let hexoffs_given = as_boolean(global_value(groups, Attribute::HexOffsets));
+    let newline_after_jmp = as_boolean(global_value(groups, Attribute::NewlineAfterJmp));
+    let newline_after_rts = as_boolean(global_value(groups, Attribute::NewlineAfterRts));
     let size = as_number(global_value(groups, Attribute::InputSize));
     let start_given = as_address(global_value(groups, Attribute::StartAddress));
     let cpu_given = as_cpu(global_value(groups, Attribute::Cpu));
@@ -45,16 +48,44 @@ pub fn settings_of<'a, A: Allocator + Copy, B: Allocator>(
         size,
         start: options.start.or(start_given),
         cpu: options.cpu.or(cpu_given).unwrap_or(Cpu::M6502),
-        comments: options.comments.unwrap_or(0),
-        mnemonic_column: options.mnemonic_column.unwrap_or(9),
-        argument_column: options.argument_column.unwrap_or(17),
-        comment_column: options.comment_column.unwrap_or(49),
-        text_column: options.text_column.unwrap_or(81),
-        label_break: options.label_break.unwrap_or(7),
+        comments: number_of(options.comments, groups, Attribute::Comments, 0),
+        mnemonic_column: number_of(
+            options.mnemonic_column,
+            groups,
+            Attribute::MnemonicColumn,
+            9,
+        ),
+        argument_column: number_of(
+            options.argument_column,
+            groups,
+            Attribute::ArgumentColumn,
+            17,
+        ),
+        comment_column: number_of(options.comment_column, groups, Attribute::CommentColumn, 49),
+        text_column: number_of(options.text_column, groups, Attribute::TextColumn, 81),
+        label_break: number_of(options.label_break, groups, Attribute::LabelBreak, 7),
         hexoffs: options.hexoffs || hexoffs_given.unwrap_or(false),
-        newline_after_jmp: false,
-        newline_after_rts: false,
+        newline_after_jmp: newline_after_jmp.unwrap_or(false),
+        newline_after_rts: newline_after_rts.unwrap_or(false),
     })
+}
+
+// A number that the command line chooses, or else that of the groups GLOBAL, or else the default.
+fn number_of<A: Allocator>(
+    chosen: Option<u8>,
+    groups: &[Group<A>],
+    attribute: Attribute,
+    default: u8,
+) -> u8
+    requires small { IsAtMost 120 (form_of attribute) }
+    requires formed { AreFormed (global_given (map group_seen groups.now)) }
+    ensures { result ≡ unwrap_or (option_or chosen (as_number (value_in attribute (global_given (map group_seen groups.now))))) default }
+{
+    match (chosen, as_number(global_value(groups, attribute))) {
+        (Some(number), _) => number,
+        (None, Some(number)) => number as u8,
+        (None, None) => default,
+    }
 }
 
 // The text of a file name, which is ASCII.

@@ -3,7 +3,7 @@
 ghost use Rattle.std.specs.Prelude.{◌≡◌, ◌<◌};
 ghost use Rattle.std.specs.List.{list_all, list_any};
 ghost use Rattle.std.specs.Str.{str_eq_ignore_ascii_case};
-ghost use Rattle.info65.specs.Names.{default_name, has_name_form, hex_digit, is_like_default, is_name_byte, is_reserved, is_upper_hex, registers};
+ghost use Rattle.info65.specs.Names.{default_name, has_comment_form, has_name_form, hex_digit, is_comment_byte, is_like_default, is_name_byte, is_reserved, is_upper_hex, registers};
 
 use isa65::Mnemonic;
 
@@ -28,6 +28,22 @@ pub fn has_name_form(text: &[u8]) -> bool
                 && rest.len() < 80
         }
     }
+}
+
+fn are_comment_bytes(bytes: &[u8]) -> bool
+    ensures { result ≡ list_all is_comment_byte bytes.now }
+{
+    bytes
+        .iter()
+        .all(|b| *b == b'\t' || *b >= 0x20 && *b <= 0x7E || *b >= 0x80)
+}
+
+/// The text can be a comment: at most 200 bytes of TAB, $20 to $7E, and $80 to $FF.
+#[tactic(auto, unfolding(crate::specs::Names::has_comment_form))]
+pub fn has_comment_form(text: &[u8]) -> bool
+    ensures { result ≡ has_comment_form text.now }
+{
+    text.len() <= 200 && are_comment_bytes(text)
 }
 
 fn hex_digit(digit: u8) -> u8

@@ -3,20 +3,32 @@
 ghost use Rattle.std.specs.Prelude.{◌≡◌, Ok, map, option_to_list};
 ghost use Rattle.info65.specs.Faults.{Gives};
 ghost use Rattle.info65.specs.Code.Groups.{assignment_seen, group_seen};
-ghost use Rattle.info65.specs.Ranges.{last_from, range_between, range_in, range_part, ranges_of};
+ghost use Rattle.info65.specs.Ranges.{last_from, range_between, range_in, range_of_parts, range_part, ranges_of};
 
 use crate::assignment::{Assignment, Group, as_address, as_number, as_type};
 use crate::attribute::{Attribute, GroupKind};
+use crate::comments::lacks_name;
 use crate::fault::{InfoFault, InfoFaultKind};
 use crate::groups::value_in;
 use crate::range::{RangeSpec, RangeType};
 use std::alloc::Allocator;
 
 /// The range that a group RANGE says by what is given in it. It is Missing where START, TYPE, or both END
-/// and SIZE are not given, and OutOfRange where it ends before it begins or past $FFFF.
+/// and SIZE are not given, or a comment is given and no name, and OutOfRange where it ends before it begins
+/// or past $FFFF.
 #[tactic(auto, unfolding(crate::specs::Ranges::range_in))]
 pub fn range_in(given: &[Assignment]) -> Result<RangeSpec, InfoFaultKind>
     ensures { result ≡ range_in (map assignment_seen given.now) }
+{
+    if lacks_name(given) {
+        return Err(InfoFaultKind::Missing);
+    }
+    range_of_parts(given)
+}
+
+#[tactic(auto, unfolding(crate::specs::Ranges::range_of_parts))]
+fn range_of_parts(given: &[Assignment]) -> Result<RangeSpec, InfoFaultKind>
+    ensures { result ≡ range_of_parts (map assignment_seen given.now) }
 {
     let first = as_address(value_in(given, Attribute::Start));
     let end = as_address(value_in(given, Attribute::End));
@@ -64,7 +76,7 @@ fn range_part<A: Allocator>(group: &Group<A>) -> Option<RangeSpec>
 {
     match group.kind {
         GroupKind::Range => range_in(group.given.as_slice()).ok(),
-        GroupKind::Global | GroupKind::Label => None,
+        GroupKind::Global | GroupKind::Label | GroupKind::Segment => None,
     }
 }
 

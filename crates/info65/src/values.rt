@@ -3,12 +3,12 @@
 ghost use Rattle.std.specs.Prelude.{◌≡◌, option_map};
 ghost use Rattle.info65.specs.Code.Groups.{value_seen};
 ghost use Rattle.info65.specs.Code.Steps.{Sees, seen};
-ghost use Rattle.info65.specs.Values.{address_value, are_printable, boolean_of, boolean_value, cpu_value, is_file_name, is_on_command_line, label_value, name_value, number_value, type_value, value_of};
+ghost use Rattle.info65.specs.Values.{address_value, are_printable, boolean_of, boolean_value, comment_value, cpu_value, is_file_name, is_on_command_line, label_value, name_value, number_value, type_value, value_of};
 
 use crate::assignment::Value;
 use crate::attribute::{Attribute, Form, boolean_named, form_of, type_named};
 use crate::fault::{InfoFault, InfoFaultKind};
-use crate::names::has_name_form;
+use crate::names::{has_comment_form, has_name_form};
 use crate::options::Options;
 use crate::range::RangeType;
 use crate::token::{Token, TokenKind};
@@ -62,6 +62,16 @@ fn label_value<'a>(line: u32, text: &'a [u8]) -> Result<Value<'a>, InfoFault>
 {
     if has_name_form(text) {
         Ok(Value::Name(text))
+    } else {
+        Err(InfoFault::new(line, InfoFaultKind::BadName))
+    }
+}
+
+fn comment_value<'a>(line: u32, text: &'a [u8]) -> Result<Value<'a>, InfoFault>
+    ensures { Sees value_seen result (comment_value line text.entry.now) }
+{
+    if has_comment_form(text) {
+        Ok(Value::Comment(text))
     } else {
         Err(InfoFault::new(line, InfoFaultKind::BadName))
     }
@@ -142,6 +152,7 @@ pub fn value_of<'a, A: Allocator>(
             number_value(low, high, line, number)
         }
         (Form::Name, TokenKind::Text(text)) => label_value(line, text),
+        (Form::Comment, TokenKind::Text(text)) => comment_value(line, text),
         (Form::Boolean, TokenKind::Word) => boolean_value(line, boolean_named(token.text)),
         (Form::Boolean, TokenKind::Number(number)) => boolean_value(line, boolean_of(number)),
         (Form::TypeWord, TokenKind::Word) => type_value(line, type_named(token.text)),

@@ -1,10 +1,10 @@
 -- Cells, address by address.
 use Rattle.std.proofs.Common.{◌≡◌, ◌≢◌, ◌∙◌, ℕ, ◌+◌, ◌/◌, ◌%◌, ◌==◌, ◌<◌, Bool, true, false, List, Option, Some, None, length, get_or, set, refl, ap, sym, subst, arith, ⊎_elim}
-use Rattle.std.proofs.lemmas.Bool.{cases_eq, cond_both, eq-eqb, ne_eqb}
+use Rattle.std.proofs.lemmas.Bool.{cases_eq, cond_both, eq-eqb, eqb-false, ne_eqb}
 use Rattle.std.proofs.lemmas.List.{get_or-set_other, get_or-set_same}
 use Rattle.info65.specs.declared.range.RangeType.{RangeType}
 use Rattle.info65.specs.declared.range.RangeType.TheVariants.{Code, ByteTable, WordTable, DbyteTable, AddrTable, RtsTable, TextTable, Skip}
-use Rattle.map65.specs.Code.Cells.{CellLaw, HasBits, bit, cell_of, code_of, coded, has_bit, is_wide_cell, is_wide_role, len_in_cell, role_in_cell, with_bit, with_len}
+use Rattle.map65.specs.Code.Cells.{CellLaw, HasBits, bit, cell_of, code_of, coded, has_bit, has_border, is_wide_cell, is_wide_role, len_in_cell, role_in_cell, with_bit, with_len}
 
 -- ---- one cell
 
@@ -50,7 +50,7 @@ cell_law r n small =
 pub cell-wide : (c : ℕ) (r : Option RangeType) (n : ℕ) → n < 8 → c % 128 ≡ cell_of r n → is_wide_cell c ≡ is_wide_role r
 cell-wide c r n small is = ap is_wide_role (cell-role c r n small is)
 
--- ---- a length, and the bit, that are added to a cell
+-- ---- a length, and bits, that are added to a cell
 
 pub with_len-lay : (c : ℕ) (r : Option RangeType) (n : ℕ) → n < 8 → c % 128 ≡ cell_of r 0 → with_len c n % 128 ≡ cell_of r n
 unfolding with_len cell_of
@@ -60,7 +60,11 @@ pub with_len-rest : (c : ℕ) (r : Option RangeType) (n : ℕ) → n < 8 → c %
 unfolding with_len cell_of
 with_len-rest c r n small is = omega (arith, is, code-small r)
 
-has_bit-is : (c : ℕ) (b : Bool) → c / 128 ≡ bit b → has_bit c ≡ b
+pub with_len-border : (c : ℕ) (r : Option RangeType) (n : ℕ) → n < 8 → c % 128 ≡ cell_of r 0 → with_len c n / 256 ≡ c / 256
+unfolding with_len cell_of
+with_len-border c r n small is = omega (arith, is, code-small r)
+
+has_bit-is : (c : ℕ) (b : Bool) → c / 128 % 2 ≡ bit b → has_bit c ≡ b
 unfolding has_bit
 has_bit-is c true is = eq-eqb (c / 128 % 2) 1 (omega (arith, is))
 has_bit-is c false is = ne_eqb (c / 128 % 2) 1 (omega (arith, is))
@@ -69,7 +73,20 @@ pub with_bit-lay : (c : ℕ) → with_bit c % 128 ≡ c % 128
 unfolding with_bit
 with_bit-lay c = cond_both (has_bit c) c (c + 128) (λ (x : ℕ). x % 128 ≡ c % 128) (λ _. refl) (λ _. omega arith)
 
-pub with_bit-rest : (c : ℕ) (b : Bool) → c / 128 ≡ bit b → with_bit c / 128 ≡ 1
+even : (c : ℕ) → has_bit c ≡ false → c / 128 % 2 ≢ 1
+unfolding has_bit
+even c is = eqb-false (c / 128 % 2) 1 is
+
+pub with_bit-border : (c : ℕ) → with_bit c / 256 ≡ c / 256
+unfolding with_bit
+with_bit-border c = cond_both (has_bit c) c (c + 128) (λ (x : ℕ). x / 256 ≡ c / 256) (λ _. refl) (λ none. omega (arith, even c none))
+
+pub has_border-is : (c : ℕ) (b : Bool) → c / 256 ≡ bit b → has_border c ≡ b
+unfolding has_border
+has_border-is c true is = eq-eqb (c / 256 % 2) 1 (omega (arith, is))
+has_border-is c false is = ne_eqb (c / 256 % 2) 1 (omega (arith, is))
+
+pub with_bit-rest : (c : ℕ) (b : Bool) → c / 128 % 2 ≡ bit b → with_bit c / 128 % 2 ≡ 1
 unfolding with_bit
 with_bit-rest c true is = rw (has_bit-is c true is) is
 with_bit-rest c false is = rw (has_bit-is c false is) (omega (arith, is))

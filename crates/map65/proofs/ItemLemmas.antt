@@ -15,21 +15,37 @@ use Rattle.map65.specs.Items.{code_size, item_len, size_at, size_for, wanted_at}
 use Rattle.map65.specs.MapView.{MapView, opcodes}
 use Rattle.map65.specs.Pieces.{AreOnePiece, AreOneRun, are_joined, is_in_run, is_joined, is_own}
 use Rattle.map65.specs.Roles.{is_role, is_skip, is_wide, role_of}
+use Rattle.map65.specs.Segments.{is_border}
 use Rattle.map65.specs.Spans.{left_at}
 
 -- ---- pieces
 
-pub run-role : (m : MapView) (a : ℕ) → is_in_run m a ≡ true → (role_of m.info (a - 1) ≡ role_of m.info a) × ((m.image.start < a) × (a < end_of m.image))
-unfolding is_in_run
-run-role m a is =
-    let after = and_parts (nat_lt m.image.start a) (nat_lt a (end_of m.image) && is_role (role_of m.info (a - 1)) (role_of m.info a)) is in
-    let before = and_parts (nat_lt a (end_of m.image)) (is_role (role_of m.info (a - 1)) (role_of m.info a)) after.1 in
-    (same_true range_type.the_type tt (role_of m.info (a - 1)) (role_of m.info a) before.1, (ltb-true m.image.start a after.0, ltb-true a (end_of m.image) before.0))
+-- what is known of an address of a run after its first
+pub record InRun (m : MapView) (a : ℕ) : Type 0 where
+  pub low : m.image.start < a
+  pub high : a < end_of m.image
+  pub same : role_of m.info (a - 1) ≡ role_of m.info a
+  pub unbroken : is_border m.info.segments a ≡ false
 
-pub run-if : (m : MapView) (a : ℕ) → m.image.start < a → a < end_of m.image → role_of m.info (a - 1) ≡ role_of m.info a → is_in_run m a ≡ true
+pub in-run : (m : MapView) (a : ℕ) → is_in_run m a ≡ true → InRun m a
 unfolding is_in_run
-run-if m a low high same =
-    and_from _ _ (lt-ltb m.image.start a low) (and_from _ _ (lt-ltb a (end_of m.image) high) (true_same range_type.the_type (role_of m.info (a - 1)) (role_of m.info a) same))
+in-run m a is =
+    let alike : Bool = is_role (role_of m.info (a - 1)) (role_of m.info a) in
+    let unbroken : Bool = not (is_border m.info.segments a) in
+    let first = and_parts (nat_lt m.image.start a) (nat_lt a (end_of m.image) && (alike && unbroken)) is in
+    let second = and_parts (nat_lt a (end_of m.image)) (alike && unbroken) first.1 in
+    let third = and_parts alike unbroken second.1 in
+    record {
+      low = ltb-true m.image.start a first.0;
+      high = ltb-true a (end_of m.image) second.0;
+      same = same_true range_type.the_type tt (role_of m.info (a - 1)) (role_of m.info a) third.0;
+      unbroken = not-true (is_border m.info.segments a) third.1;
+    }
+
+pub run-if : (m : MapView) (a : ℕ) → InRun m a → is_in_run m a ≡ true
+unfolding is_in_run
+run-if m a here =
+    and_from _ _ (lt-ltb m.image.start a here.low) (and_from _ _ (lt-ltb a (end_of m.image) here.high) (and_from _ _ (true_same range_type.the_type (role_of m.info (a - 1)) (role_of m.info a) here.same) (ap not here.unbroken)))
 
 -- a given name cuts the run before the address
 abbrev pub is_cut_at : MapView → ℕ → Bool
@@ -47,8 +63,11 @@ pub joined-if : (m : MapView) (a : ℕ) → is_in_run m a ≡ true → is_cut_at
 unfolding is_joined
 joined-if m a run uncut = and_from _ _ run (ap not uncut)
 
-pub joined-role : (m : MapView) (a : ℕ) → is_joined m a ≡ true → (role_of m.info (a - 1) ≡ role_of m.info a) × ((m.image.start < a) × (a < end_of m.image))
-joined-role m a is = run-role m a (joined-run m a is)
+pub joined-in : (m : MapView) (a : ℕ) → is_joined m a ≡ true → InRun m a
+joined-in m a is = in-run m a (joined-run m a is)
+
+pub joined-high : (m : MapView) (a : ℕ) → is_joined m a ≡ true → a < end_of m.image
+joined-high m a is = (joined-in m a is).high
 
 pub are_joined-none : (m : MapView) (a : ℕ) → are_joined m 0 a ≡ true
 unfolding are_joined
@@ -72,9 +91,9 @@ role-after : (m : MapView) (n b : ℕ) → AreOneRun m b (b + n) → role_of m.i
 role-after m zero b run = let place : b + 0 ≡ b = omega arith in ap (role_of m.info) place
 role-after m (suc n) b run =
     let before = role-after m n b (λ x low high. run x low (omega arith)) in
-    let joined = run-role m (b + suc n) (run (b + suc n) (omega arith) (omega arith)) in
+    let joined = in-run m (b + suc n) (run (b + suc n) (omega arith) (omega arith)) in
     let place : b + suc n - 1 ≡ b + n = omega arith in
-    sym joined.0 ∙ ap (role_of m.info) place ∙ before
+    sym joined.same ∙ ap (role_of m.info) place ∙ before
 
 -- a run has one role
 pub one-run-role : (m : MapView) (b a : ℕ) → b ≤ a → AreOneRun m b a → role_of m.info a ≡ role_of m.info b
@@ -139,8 +158,7 @@ size-fits m k inside =
     (λ one. omega (arith, one))
     (λ more.
     let last : ℕ = a + size_at m a - 1 in
-    let joined = joined-role m last (size-one-piece m a last (omega (arith, more, some)) (omega arith)) in
-    omega (arith, joined.1.1, some))
+    omega (arith, joined-high m last (size-one-piece m a last (omega (arith, more, some)) (omega arith)), some))
     (cases_eq (size_at m a) 1)
 
 -- ---- how many bytes are left of a span

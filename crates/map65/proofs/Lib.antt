@@ -8,5 +8,6 @@ pub mod NamingLemmas
 pub mod PaintLemmas
 pub mod PieceLaws
 pub mod ReadLemmas
+pub mod RunLemmas
 pub mod SweepLemmas
 pub mod TargetLemmas

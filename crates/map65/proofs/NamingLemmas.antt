@@ -10,9 +10,10 @@ use Rattle.info65.specs.Names.{AreNames, blank_name, covering, covering_below, c
 use Rattle.info65.specs.Views.{NameView}
 use Rattle.info65.specs.declared.range.RangeType.{RangeType}
 use Rattle.info65.specs.declared.range.RangeType.TheVariants.{Code}
-use Rattle.map65.proofs.CellLemmas.{bits-as, cell-len, cell-role, cell-wide, set-cell, with_bit-lay, with_bit-rest}
-use Rattle.map65.proofs.SweepLemmas.{item-fits, item-small, role_at-inside}
-use Rattle.map65.specs.Code.Cells.{AreCells, HasBits, IsLaid, bit, has_bit, is_wide_cell, is_wide_role, lay_at, len_in_cell, nowhere, role_in_cell, with_bit}
+use Rattle.map65.proofs.CellLemmas.{bits-as, cell-len, cell-role, cell-wide, set-cell, with_bit-border, with_bit-lay, with_bit-rest}
+use Rattle.map65.proofs.RunLemmas.{plain-code, role_at-inside}
+use Rattle.map65.proofs.SweepLemmas.{item-fits, item-small}
+use Rattle.map65.specs.Code.Cells.{AreCells, HasBits, IsLaid, bit, code_of, has_bit, is_wide_cell, is_wide_role, lay_at, len_in_cell, nowhere, role_in_cell, with_bit}
 use Rattle.map65.specs.Code.Marking.{KeepsLay, Reaches, also, is_covered_below, is_wanted_below, is_within}
 use Rattle.map65.specs.ImageView.{end_of, is_inside}
 use Rattle.map65.specs.Items.{item_len}
@@ -43,13 +44,17 @@ or-assoc false q r = refl
 -- ---- one bit
 
 keeps-same : (cells : List ℕ) → KeepsLay cells cells
-keeps-same cells = record { count = refl; each = λ a room. refl }
+keeps-same cells = record { count = refl; each = λ a room. refl; borders = λ a room. refl }
 
 pub keeps-start : (cells : List ℕ) → KeepsLay cells cells
 keeps-start = keeps-same
 
 pub keeps-then : (old mid new : List ℕ) → KeepsLay old mid → KeepsLay mid new → KeepsLay old new
-keeps-then old mid new first second = record { count = second.count ∙ first.count; each = λ a room. second.each a room ∙ first.each a room }
+keeps-then old mid new first second = record {
+  count = second.count ∙ first.count;
+  each = λ a room. second.each a room ∙ first.each a room;
+  borders = λ a room. second.borders a room ∙ first.borders a room;
+}
 
 pub mark-keeps : (old cells : List ℕ) (n : ℕ) → length cells ≡ 65536 → n < 65536 → KeepsLay old cells → KeepsLay old (set cells n (with_bit (get_or cells n 0)))
 mark-keeps old cells n count room keeps = record {
@@ -57,6 +62,9 @@ mark-keeps old cells n count room keeps = record {
   each = set-cell (λ a x. x % 128 ≡ get_or old a 0 % 128) cells n (with_bit (get_or cells n 0)) (omega (arith, count, room))
       (with_bit-lay (get_or cells n 0) ∙ keeps.each n room)
       (λ a below other. keeps.each a below);
+  borders = set-cell (λ a x. x / 256 ≡ get_or old a 0 / 256) cells n (with_bit (get_or cells n 0)) (omega (arith, count, room))
+      (with_bit-border (get_or cells n 0) ∙ keeps.borders n room)
+      (λ a below other. keeps.borders a below);
 }
 
 bit-set : (b : Bool) (n : ℕ) → 1 ≡ bit (b || n == n)
@@ -67,13 +75,17 @@ bit-other b n a other = ap bit (or-none b ∙ ap (λ (q : Bool). b || q) (sym (n
 
 pub mark-bits : (p : ℕ → Bool) (cells : List ℕ) (n : ℕ) → length cells ≡ 65536 → n < 65536 → HasBits p cells → HasBits (λ a. p a || n == a) (set cells n (with_bit (get_or cells n 0)))
 mark-bits p cells n count room bits = record {
-  each = set-cell (λ a x. x / 128 ≡ bit (p a || n == a)) cells n (with_bit (get_or cells n 0)) (omega (arith, count, room))
+  each = set-cell (λ a x. x / 128 % 2 ≡ bit (p a || n == a)) cells n (with_bit (get_or cells n 0)) (omega (arith, count, room))
       (with_bit-rest (get_or cells n 0) (p n) (bits.each n room) ∙ bit-set (p n) n)
       (λ a below other. bits.each a below ∙ bit-other (p a) n a other);
 }
 
 pub laid-keeps : (m : MapView) (old new : List ℕ) → KeepsLay old new → IsLaid m old → IsLaid m new
-laid-keeps m old new keeps laid = record { count = keeps.count ∙ laid.count; each = λ a room. keeps.each a room ∙ laid.each a room }
+laid-keeps m old new keeps laid = record {
+  count = keeps.count ∙ laid.count;
+  each = λ a room. keeps.each a room ∙ laid.each a room;
+  borders = record { each = λ a room. keeps.borders a room ∙ laid.borders.each a room };
+}
 
 -- ---- own addresses
 
@@ -240,6 +252,9 @@ covered-end names n cells are is bits =
 
 laid-small : (m : MapView) (a : ℕ) → item_len m a < 8
 laid-small m a = omega (arith, item-small m a)
+
+pub laid-plain : (m : MapView) (cells : List ℕ) (a : ℕ) → IsLaid m cells → a < 65536 → get_or cells a 0 % 16 ≡ code_of (role_at m a)
+laid-plain m cells a laid room = plain-code (get_or cells a 0) (role_at m a) (item_len m a) (laid-small m a) (laid.each a room)
 
 pub laid-role : (m : MapView) (cells : List ℕ) (a : ℕ) → IsLaid m cells → a < 65536 → role_in_cell (get_or cells a 0) ≡ role_at m a
 laid-role m cells a laid room = cell-role (get_or cells a 0) (role_at m a) (item_len m a) (laid-small m a) (laid.each a room)

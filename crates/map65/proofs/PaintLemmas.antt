@@ -1,18 +1,21 @@
 -- Roles that are written into cells.
-use Rattle.std.proofs.Common.{◌≡◌, ◌≢◌, ◌∙◌, ℕ, ◌+◌, ◌<◌, ◌≤◌, ◌&&◌, Bool, true, false, Some, None, List, [], ◌∷◌, drop, length, get_or, set, refl, ap, sym, arith, ⊎_elim, max, min, if◌then◌else◌}
-use Rattle.std.proofs.lemmas.Bool.{cases_eq}
+use Rattle.std.proofs.Common.{◌≡◌, ◌≢◌, ◌∙◌, ℕ, ◌+◌, ◌/◌, ◌%◌, ◌==◌, ◌<◌, ◌≤◌, ◌&&◌, ◌||◌, Bool, true, false, Some, None, List, [], ◌∷◌, drop, take, length, get_or, set, refl, ap, sym, arith, ⊎_elim, max, min, if◌then◌else◌}
+use Rattle.std.proofs.lemmas.Bool.{cases_eq, eq-eqb, ne_eqb}
 use Rattle.std.proofs.lemmas.Bool.Decides.{nat_tests}
-use Rattle.std.proofs.lemmas.List.{drop_more, get_or-set_other, get_or-set_same}
+use Rattle.std.proofs.lemmas.List.{drop_more, get_or-set_other, get_or-set_same, take_all}
+use Rattle.std.proofs.lemmas.List.Folds.{list_any_more}
 use Rattle.info65.specs.Ranges.{has_address}
+use Rattle.info65.specs.Views.{SegmentView}
 use Rattle.info65.specs.declared.range.RangeSpec.{RangeSpec}
 use Rattle.info65.specs.declared.range.RangeType.{RangeType}
 use Rattle.info65.specs.declared.range.RangeType.TheVariants.{Code}
 use Rattle.map65.proofs.CellLemmas.{cell-small, set-cell}
-use Rattle.map65.specs.Code.Cells.{HasBits, cell_of, code_of, nowhere}
-use Rattle.map65.specs.Code.Marking.{AreMarkedBelow, ArePainted, painted, painted_by, role_by}
+use Rattle.map65.specs.Code.Cells.{HasBits, bit, cell_of, code_of, nowhere, with_border}
+use Rattle.map65.specs.Code.Marking.{AreMarkedBelow, ArePainted, bordered, painted, painted_by, role_by}
 use Rattle.map65.specs.ImageView.{ImageView, end_of, is_inside}
 use Rattle.map65.specs.MapView.{MapView}
 use Rattle.map65.specs.Roles.{role_at, role_in}
+use Rattle.map65.specs.Segments.{borders, is_border}
 
 -- ---- one cell after the other
 
@@ -82,14 +85,84 @@ plain-cell : (m : MapView) (n a : ℕ) (cells : List ℕ) → n ≡ 0 → ArePai
 plain-cell m n a cells none are room =
     are.each a room ∙ ap (λ (k : ℕ). cell_of (role_by m.image (drop k m.info.ranges) a) 0) none ∙ ap (λ r. cell_of r 0) (role_by-all m a)
 
--- after them, no item is marked yet
-pub none-marked : (m : MapView) (n : ℕ) (cells : List ℕ) → n ≡ 0 → ArePainted m.image (drop n m.info.ranges) cells → AreMarkedBelow m 0 cells
-none-marked m n cells none are = record {
-  count = are.count;
-  marked = λ a room before. absurd (omega arith);
-  plain = λ a room after. omega (arith, plain-cell m n a cells none are room, cell-small (role_at m a) 0 (omega arith));
-}
+-- ---- borders
 
--- and no cell has a bit
-pub none-bits : (m : MapView) (n : ℕ) (cells : List ℕ) → n ≡ 0 → ArePainted m.image (drop n m.info.ranges) cells → HasBits nowhere cells
-none-bits m n cells none are = record { each = λ a room. omega (arith, plain-cell m n a cells none are room, cell-small (role_at m a) 0 (omega arith)) }
+twice : (c : ℕ) → with_border (with_border c) ≡ with_border c
+unfolding with_border
+twice c = omega arith
+
+-- one border after the other
+pub bordered-or : (p q : Bool) (c : ℕ) → bordered q (bordered p c) ≡ bordered (p || q) c
+unfolding bordered
+bordered-or true true c = twice c
+bordered-or true false c = refl
+bordered-or false true c = refl
+bordered-or false false c = refl
+
+pub bordered-none : (c : ℕ) → bordered false c ≡ c
+unfolding bordered
+bordered-none c = refl
+
+bordered-here : (n c : ℕ) → with_border c ≡ bordered (n == n) c
+unfolding bordered
+bordered-here n c = rw (eq-eqb n n refl) refl
+
+pub bordered-other : (n a c : ℕ) → n ≢ a → c ≡ bordered (n == a) c
+unfolding bordered
+bordered-other n a c other = rw (ne_eqb n a other) refl
+
+pub bordered-set : (cells : List ℕ) (n c : ℕ) → n < length cells → c ≡ with_border (get_or cells n 0) → (a : ℕ) → a < 65536 → get_or (set cells n c) a 0 ≡ bordered (n == a) (get_or cells a 0)
+bordered-set cells n c room is =
+    set-cell (λ a x. x ≡ bordered (n == a) (get_or cells a 0)) cells n c room
+    (is ∙ bordered-here n (get_or cells n 0))
+    (λ a below other. bordered-other n a (get_or cells a 0) (λ same. other (sym same)))
+
+border-none : (segments : List SegmentView) (a : ℕ) → is_border (take 0 segments) a ≡ false
+unfolding is_border
+border-none segments a = refl
+
+pub borders-start : (segments : List SegmentView) (a c : ℕ) → c ≡ bordered (is_border (take 0 segments) a) c
+borders-start segments a c = sym (ap (λ (p : Bool). bordered p c) (border-none segments a) ∙ bordered-none c)
+
+border-more : (segments : List SegmentView) (i a : ℕ) (d : SegmentView) → i < length segments → is_border (take (i + 1) segments) a ≡ (is_border (take i segments) a || borders (get_or segments i d) a)
+unfolding is_border
+border-more segments i a d below = list_any_more (λ (s : SegmentView). borders s a) segments i d below
+
+pub borders-next : (segments : List SegmentView) (i a c : ℕ) (d : SegmentView) → i < length segments → bordered (borders (get_or segments i d) a) (bordered (is_border (take i segments) a) c) ≡ bordered (is_border (take (i + 1) segments) a) c
+borders-next segments i a c d below =
+    bordered-or (is_border (take i segments) a) (borders (get_or segments i d) a) c ∙ ap (λ (p : Bool). bordered p c) (sym (border-more segments i a d below))
+
+pub borders-end : (segments : List SegmentView) (n a c : ℕ) → length segments ≤ n → bordered (is_border (take n segments) a) c ≡ bordered (is_border segments a) c
+borders-end segments n a c all = ap (λ (l : List SegmentView). bordered (is_border l a) c) (take_all n segments all)
+
+-- a border that is added to a cell without one
+record IsBordered (c x : ℕ) (p : Bool) : Type 0 where
+  low : x % 128 ≡ c
+  name : x / 128 % 2 ≡ 0
+  border : x / 256 ≡ bit p
+
+is-bordered : (c x : ℕ) (p : Bool) → c < 128 → x ≡ bordered p c → IsBordered c x p
+unfolding bordered with_border
+is-bordered c x true small is = record { low = omega (arith, is, small); name = omega (arith, is, small); border = omega (arith, is, small) }
+is-bordered c x false small is = record { low = omega (arith, is, small); name = omega (arith, is, small); border = omega (arith, is, small) }
+
+-- ---- cells of roles and borders
+
+module _ (m : MapView) (n : ℕ) (cells new : List ℕ) (none : n ≡ 0) (are : ArePainted m.image (drop n m.info.ranges) cells) (count : length new ≡ 65536) (each : (a : ℕ) → a < 65536 → get_or new a 0 ≡ bordered (is_border m.info.segments a) (get_or cells a 0)) where
+  cell-is : (a : ℕ) → a < 65536 → IsBordered (cell_of (role_at m a) 0) (get_or new a 0) (is_border m.info.segments a)
+  cell-is a room =
+      is-bordered (cell_of (role_at m a) 0) (get_or new a 0) (is_border m.info.segments a) (cell-small (role_at m a) 0 (omega arith))
+      (each a room ∙ ap (bordered (is_border m.info.segments a)) (plain-cell m n a cells none are room))
+
+  -- no item is marked yet
+  pub none-marked : AreMarkedBelow m 0 new
+  none-marked = record {
+    count = count;
+    marked = λ a room before. absurd (omega arith);
+    plain = λ a room after. (cell-is a room).low;
+    borders = record { each = λ a room. (cell-is a room).border };
+  }
+
+  -- and no cell has its bit for a name
+  pub none-bits : HasBits nowhere new
+  none-bits = record { each = λ a room. (cell-is a room).name }

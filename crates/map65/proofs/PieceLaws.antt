@@ -1,16 +1,18 @@
 -- The laws of roles and of pieces.
-use Rattle.std.proofs.Common.{◌≡◌, ◌∙◌, ℕ, zero, suc, ◌-◌, ◌==◌, ◌<◌, ◌≤◌, ◌&&◌, nat_le, nat_lt, Bool, true, false, List, [], ◌∷◌, All, AllPairs, length, get_or, refl, ap, sym, arith, ⊎_elim}
+use Rattle.std.proofs.Common.{◌≡◌, ◌∙◌, ℕ, zero, suc, ◌+◌, ◌-◌, ◌==◌, ◌<◌, ◌≤◌, ◌&&◌, ◌||◌, nat_le, nat_lt, Bool, true, false, List, [], ◌∷◌, All, AllPairs, length, get_or, refl, ap, sym, arith, ⊎_elim}
 use Rattle.std.proofs.lemmas.Bool.{and_from, and_parts, both_ways, cases_Bool, cond-true, cond-false, eq-eqb, leb-true, ltb-true, ne_eqb}
 use Rattle.std.proofs.lemmas.List.Folds.{list_any_at, list_any_none}
 use Rattle.info65.specs.Ranges.{AreApart, has_address}
 use Rattle.info65.specs.declared.range.RangeSpec.{RangeSpec}
 use Rattle.info65.specs.declared.range.RangeType.TheVariants.{Code}
-use Rattle.info65.specs.Views.{NameView}
-use Rattle.map65.proofs.ItemLemmas.{is_cut_at, joined-if, joined-run, joined-uncut, one-run-role, run-if}
+use Rattle.info65.specs.Views.{NameView, SegmentView}
+use Rattle.map65.proofs.ItemLemmas.{in-run, is_cut_at, joined-if, joined-run, joined-uncut, one-run-role, run-if}
+use Rattle.map65.proofs.RunLemmas.{one-run-segment}
 use Rattle.map65.specs.ImageView.{end_of, is_inside}
 use Rattle.map65.specs.MapView.{MapView}
-use Rattle.map65.specs.Pieces.{AreOnePiece, AreOneRun, AreUnnamed, PieceLaw, RunLaw, is_own}
+use Rattle.map65.specs.Pieces.{AreAlike, AreOnePiece, AreOneRun, AreUnnamed, PieceLaw, RunLaw, is_own}
 use Rattle.map65.specs.Roles.{RoleLaw, is_wide, role_in, role_of}
+use Rattle.map65.specs.Segments.{borders, is_border}
 
 -- ---- roles
 
@@ -48,14 +50,59 @@ role_law ranges disjoint = record { within = role-within ranges disjoint.each; o
 run-same : (m : MapView) (b a : ℕ) → AreOneRun m b a → (x : ℕ) → b ≤ x → x ≤ a → role_of m.info x ≡ role_of m.info b
 run-same m b a run x low high = one-run-role m b x low (λ y above below. run y above (omega arith))
 
-same-run : (m : MapView) (b a : ℕ) → is_inside m.image b ≡ true → is_inside m.image a ≡ true → ((x : ℕ) → b ≤ x → x ≤ a → role_of m.info x ≡ role_of m.info b) → AreOneRun m b a
-same-run m b a b_inside a_inside same x low high =
+-- no segment of a list has a border before the address
+border-none : (segments : List SegmentView) (a : ℕ) → All (λ (s : SegmentView). s.first ≡ a → ⊥) segments → All (λ (s : SegmentView). s.last + 1 ≡ a → ⊥) segments → is_border segments a ≡ false
+unfolding is_border
+border-none segments a starts ends =
+    list_any_none (λ (s : SegmentView). borders s a) segments
+    (λ i d below. or_false (ne_eqb (get_or segments i d).first a (starts i d below)) (ne_eqb ((get_or segments i d).last + 1) a (ends i d below)))
+  where
+    or_false : {p q : Bool} → p ≡ false → q ≡ false → (p || q) ≡ false
+    or_false first second = rw first second
+
+border-some : (segments : List SegmentView) (a i : ℕ) (d : SegmentView) → i < length segments → borders (get_or segments i d) a ≡ true → is_border segments a ≡ true
+unfolding is_border
+border-some segments a i d below is = list_any_at (λ (s : SegmentView). borders s a) segments i d below is
+
+first-borders : (s : SegmentView) → borders s s.first ≡ true
+first-borders s = rw (eq-eqb s.first s.first refl) refl
+
+last-borders : (s : SegmentView) → borders s (s.last + 1) ≡ true
+last-borders s = or-right (s.first == s.last + 1) (s.last + 1 == s.last + 1) (eq-eqb (s.last + 1) (s.last + 1) refl)
+  where
+    or-right : (p q : Bool) → q ≡ true → (p || q) ≡ true
+    or-right true q is = refl
+    or-right false q is = is
+
+run-alike : (m : MapView) (b a : ℕ) → AreOneRun m b a → AreAlike m b a
+run-alike m b a run = record {
+  roles = run-same m b a run;
+  starts = λ i d below after upto.
+      let s : SegmentView = get_or m.info.segments i d in
+      both_ways (is_border m.info.segments s.first) (in-run m s.first (run s.first after upto)).unbroken (border-some m.info.segments s.first i d below (first-borders s));
+  ends = λ i d below after upto.
+      let s : SegmentView = get_or m.info.segments i d in
+      both_ways (is_border m.info.segments (s.last + 1)) (in-run m (s.last + 1) (run (s.last + 1) (omega (arith, after)) (omega (arith, upto)))).unbroken (border-some m.info.segments (s.last + 1) i d below (last-borders s));
+}
+
+alike-run : (m : MapView) (b a : ℕ) → is_inside m.image b ≡ true → is_inside m.image a ≡ true → AreAlike m b a → AreOneRun m b a
+alike-run m b a b_inside a_inside alike x low high =
     let first = leb-true m.image.start b (and_parts (nat_le m.image.start b) (nat_lt b (end_of m.image)) b_inside).0 in
     let last = ltb-true a (end_of m.image) (and_parts (nat_le m.image.start a) (nat_lt a (end_of m.image)) a_inside).1 in
-    run-if m x (omega (arith, first)) (omega (arith, last)) (same (x - 1) (omega arith) (omega arith) ∙ sym (same x (omega arith) high))
+    run-if m x (record {
+      low = omega (arith, first);
+      high = omega (arith, last);
+      same = alike.roles (x - 1) (omega arith) (omega arith) ∙ sym (alike.roles x (omega arith) high);
+      unbroken = border-none m.info.segments x
+          (λ i d below is. alike.starts i d below (omega (arith, is, low)) (omega (arith, is, high)))
+          (λ i d below is. alike.ends i d below (omega (arith, is, low)) (omega (arith, is, high)));
+    })
 
 pub run_law : (m : MapView) → RunLaw m
-run_law m b a le b_inside a_inside = (run-same m b a, same-run m b a b_inside a_inside)
+run_law m = record {
+  run = λ b a le b_inside a_inside. (run-alike m b a, alike-run m b a b_inside a_inside);
+  segment = one-run-segment m;
+}
 
 -- ---- pieces
 

@@ -11,27 +11,21 @@ use Rattle.isa65.specs.declared.mode.Mode.TheVariants.{Imp}
 use Rattle.isa65.specs.declared.op.Op.{Op}
 use Rattle.info65.specs.declared.range.RangeType.{RangeType}
 use Rattle.info65.specs.declared.range.RangeType.TheVariants.{Code}
-use Rattle.map65.proofs.CellLemmas.{bits-test, cell-role, cell-wide, code-small, coded-code, set-cell, with_len-lay, with_len-rest}
+use Rattle.map65.proofs.CellLemmas.{bits-test, cell-role, cell-wide, set-cell, with_len-border, with_len-lay, with_len-rest}
 use Rattle.map65.proofs.ItemLaws.{begun}
-use Rattle.map65.proofs.ItemLemmas.{are_joined-none, are_joined-suc, is_cut_at, item-len-at, joined-if, joined-role, joined-uncut, left-behind, left-first, left-inside, run-if, run-role, size-fits, size-positive}
-use Rattle.map65.specs.Code.Cells.{HasBits, IsLaid, bit, cell_of, code_of, coded, has_bit, is_cut, is_same_role, is_wide_cell, is_wide_role, lay_at, role_in_cell, with_len}
+use Rattle.map65.proofs.ItemLemmas.{are_joined-none, are_joined-suc, in-run, is_cut_at, item-len-at, joined-high, joined-if, joined-run, joined-uncut, left-behind, left-first, left-inside, size-fits, size-positive}
+use Rattle.map65.proofs.RunLemmas.{plain-code, role_at-inside, run-cells}
+use Rattle.map65.specs.Code.Cells.{HasBits, HasBorders, IsLaid, are_one_run, bit, cell_of, has_bit, is_cut, is_wide_cell, is_wide_role, lay_at, role_in_cell, with_len}
 use Rattle.map65.specs.Code.Marking.{AreMarkedBelow, is_joined_in}
 use Rattle.map65.specs.ImageView.{byte_at, end_of, is_inside}
 use Rattle.map65.specs.Items.{code_size, item_len, size_at, size_for, wanted_at}
 use Rattle.map65.specs.MapView.{MapView, opcodes}
 use Rattle.map65.specs.Pieces.{are_joined, is_in_run, is_joined, is_own}
 use Rattle.map65.specs.Roles.{is_skip, is_wide, role_at, role_of}
+use Rattle.map65.specs.Segments.{is_border}
 use Rattle.map65.specs.Spans.{left_at}
 
 -- ---- roles
-
-pub role_at-inside : (m : MapView) (a : ℕ) → m.image.start ≤ a → a < end_of m.image → role_at m a ≡ Some (role_of m.info a)
-unfolding role_at
-role_at-inside m a low high = cond-true (is_inside m.image a) _ _ (and_from _ _ (le-leb m.image.start a low) (lt-ltb a (end_of m.image) high))
-
-role_at-some : (m : MapView) (a : ℕ) (r : RangeType) → role_at m a ≡ Some r → is_inside m.image a ≡ true
-unfolding role_at
-role_at-some m a r = cond_both (is_inside m.image a) (Some (role_of m.info a)) None (λ (o : Option RangeType). o ≡ Some r → is_inside m.image a ≡ true) (λ is _. is) (λ _ none. absurd cc)
 
 -- a cell without a length holds its role
 pub role-here : (m : MapView) (a at : ℕ) (cells : List ℕ) (o : Option RangeType) (r : RangeType) → at ≡ a → m.image.start ≤ a → a < end_of m.image → a < 65536 → AreMarkedBelow m a cells → o ≡ role_in_cell (get_or cells at 0) → r ≡ unwrap_or o Code → r ≡ role_of m.info a
@@ -42,24 +36,6 @@ role-here m a at cells o r place low high room old says is =
 
 -- ---- pieces
 
-plain-code : (c : ℕ) (r : Option RangeType) → c % 128 ≡ cell_of r 0 → c % 16 ≡ code_of r
-unfolding cell_of
-plain-code c r is = omega (arith, is, code-small r)
-
-same-code : (r q : Option RangeType) → code_of r ≡ code_of q → r ≡ q
-same-code r q is = sym (coded-code r) ∙ ap coded is ∙ coded-code q
-
-same-role : (c d : ℕ) → is_same_role c d ≡ true → c % 16 ≡ d % 16
-unfolding is_same_role
-same-role c d is = eqb-true (c % 16) (d % 16) is
-
-role-same : (c d : ℕ) → c % 16 ≡ d % 16 → is_same_role c d ≡ true
-unfolding is_same_role
-role-same c d is = eq-eqb (c % 16) (d % 16) is
-
-some-same : (r q : RangeType) → Some r ≡ Some q → r ≡ q
-some-same r q is = cc
-
 and-turned : (p q r s : Bool) → p ≡ s → q ≡ r → (p && q) ≡ (r && s)
 and-turned true true r s first second = rw (sym first, sym second) refl
 and-turned true false r s first second = rw (sym first, sym second) refl
@@ -67,27 +43,13 @@ and-turned false true r s first second = rw (sym first, sym second) refl
 and-turned false false r s first second = rw (sym first, sym second) refl
 
 module _ (m : MapView) (n a : ℕ) (cells : List ℕ) (old : AreMarkedBelow m n cells) (own : HasBits (is_own m.info.names) cells) (room : end_of m.image ≤ 65536) (low : m.image.start ≤ n) (after : n < a) (high : a - 1 < end_of m.image) where
-  before-code : get_or cells (a - 1) 0 % 16 ≡ code_of (role_at m (a - 1))
-  before-code = plain-code _ (role_at m (a - 1)) (old.plain (a - 1) (omega (arith, room, high)) (omega (arith, after)))
-
-  here-code : a < 65536 → get_or cells a 0 % 16 ≡ code_of (role_at m a)
-  here-code below = plain-code _ (role_at m a) (old.plain a below (omega (arith, after)))
-
   -- the cells say where a run ends
-  run-alike : a < 65536 → is_same_role (get_or cells (a - 1) 0) (get_or cells a 0) ≡ true → is_in_run m a ≡ true
-  run-alike below alike =
-      let same : role_at m (a - 1) ≡ role_at m a = same-code _ _ (sym before-code ∙ same-role _ _ alike ∙ here-code below) in
-      let first : role_at m (a - 1) ≡ Some (role_of m.info (a - 1)) = role_at-inside m (a - 1) (omega (arith, low, after)) high in
-      let inside = and_parts (nat_le m.image.start a) (nat_lt a (end_of m.image)) (role_at-some m a _ (sym same ∙ first)) in
-      let last : a < end_of m.image = ltb-true a (end_of m.image) inside.1 in
-      let second : role_at m a ≡ Some (role_of m.info a) = role_at-inside m a (omega (arith, low, after)) last in
-      run-if m a (omega (arith, low, after)) last (some-same _ _ (sym first ∙ same ∙ second))
-
-  alike-run : a < end_of m.image → role_of m.info (a - 1) ≡ role_of m.info a → is_same_role (get_or cells (a - 1) 0) (get_or cells a 0) ≡ true
-  alike-run last is =
-      let below : a < 65536 = omega (arith, room, last) in
-      let same : role_at m (a - 1) ≡ role_at m a = role_at-inside m (a - 1) (omega (arith, low, after)) high ∙ ap Some is ∙ sym (role_at-inside m a (omega (arith, low, after)) last) in
-      role-same _ _ (before-code ∙ ap code_of same ∙ sym (here-code below))
+  run-here : a < 65536 → are_one_run (get_or cells (a - 1) 0) (get_or cells a 0) ≡ is_in_run m a
+  run-here below =
+      run-cells m a (get_or cells (a - 1) 0) (get_or cells a 0) (omega (arith, after))
+      (plain-code _ (role_at m (a - 1)) 0 (omega arith) (old.plain (a - 1) (omega (arith, room, high)) (omega (arith, after))))
+      (plain-code _ (role_at m a) 0 (omega arith) (old.plain a below (omega (arith, after))))
+      (old.borders.each a below)
 
   -- and where a given name cuts it
   cut-cell : a < end_of m.image → is_cut (get_or cells a 0) ≡ is_cut_at m a
@@ -99,17 +61,16 @@ module _ (m : MapView) (n a : ℕ) (cells : List ℕ) (old : AreMarkedBelow m n 
   joined-alike : is_joined_in cells a ≡ true → is_joined m a ≡ true
   unfolding is_joined_in
   joined-alike is =
-      let outer = and_parts (nat_lt a (length cells)) (is_same_role (get_or cells (a - 1) 0) (get_or cells a 0) && not (is_cut (get_or cells a 0))) is in
-      let inner = and_parts (is_same_role (get_or cells (a - 1) 0) (get_or cells a 0)) (not (is_cut (get_or cells a 0))) outer.1 in
-      let run = run-alike (omega (arith, ltb-true a (length cells) outer.0, old.count)) inner.0 in
-      joined-if m a run (sym (cut-cell (run-role m a run).1.1) ∙ not-true (is_cut (get_or cells a 0)) inner.1)
+      let outer = and_parts (nat_lt a (length cells)) (are_one_run (get_or cells (a - 1) 0) (get_or cells a 0) && not (is_cut (get_or cells a 0))) is in
+      let inner = and_parts (are_one_run (get_or cells (a - 1) 0) (get_or cells a 0)) (not (is_cut (get_or cells a 0))) outer.1 in
+      let run = sym (run-here (omega (arith, ltb-true a (length cells) outer.0, old.count))) ∙ inner.0 in
+      joined-if m a run (sym (cut-cell (in-run m a run).high) ∙ not-true (is_cut (get_or cells a 0)) inner.1)
 
   alike-joined : is_joined m a ≡ true → is_joined_in cells a ≡ true
   unfolding is_joined_in
   alike-joined joined =
-      let is = joined-role m a joined in
-      let last : a < end_of m.image = is.1.1 in
-      and_from _ _ (lt-ltb a (length cells) (omega (arith, room, last, old.count))) (and_from _ _ (alike-run last is.0) (ap not (cut-cell last ∙ joined-uncut m a joined)))
+      let last : a < end_of m.image = joined-high m a joined in
+      and_from _ _ (lt-ltb a (length cells) (omega (arith, room, last, old.count))) (and_from _ _ (run-here (omega (arith, room, last)) ∙ joined-run m a joined) (ap not (cut-cell last ∙ joined-uncut m a joined)))
 
   joined-cells : is_joined_in cells a ≡ is_joined m a
   joined-cells = both_ways (is_joined_in cells a) (is_joined m a) joined-alike alike-joined
@@ -268,6 +229,11 @@ module _ (m : MapView) (n len : ℕ) (cells : List ℕ) (low : m.image.start ≤
       let here : c % 128 ≡ lay_at m n = ap (λ (x : ℕ). x % 128) cell ∙ with_len-lay (get_or cells n 0) (role_at m n) len len-fits here-plain ∙ ap (cell_of (role_at m n)) (sym (item-here shown)) in
       record {
         count = length-set cells n c ∙ old.count;
+        borders = record {
+          each = set-cell (λ a x. x / 256 ≡ bit (is_border m.info.segments a)) cells n c lt
+              (ap (λ (x : ℕ). x / 256) cell ∙ with_len-border (get_or cells n 0) (role_at m n) len len-fits here-plain ∙ old.borders.each n room)
+              (λ a below other. old.borders.each a below);
+        };
         marked = set-cell (λ a x. a < n + len → x % 128 ≡ lay_at m a) cells n c lt (λ before. here) (λ a below other before. elsewhere a other below before);
         plain = set-cell (λ a x. n + len ≤ a → x % 128 ≡ cell_of (role_at m a) 0) cells n c lt
             (λ after. absurd (omega (arith, after, size-positive m n, is)))
@@ -278,8 +244,8 @@ module _ (m : MapView) (n len : ℕ) (cells : List ℕ) (low : m.image.start ≤
   item-bits p c cell bits =
       let lt : n < length cells = omega (arith, old.count, room) in
       record {
-        each = set-cell (λ a x. x / 128 ≡ bit (p a)) cells n c lt
-            (ap (λ (x : ℕ). x / 128) cell ∙ with_len-rest (get_or cells n 0) (role_at m n) len len-fits here-plain ∙ bits.each n room)
+        each = set-cell (λ a x. x / 128 % 2 ≡ bit (p a)) cells n c lt
+            (ap (λ (x : ℕ). x / 128 % 2) cell ∙ ap (λ (x : ℕ). x % 2) (with_len-rest (get_or cells n 0) (role_at m n) len len-fits here-plain) ∙ bits.each n room)
             (λ a below other. bits.each a below);
       }
 
@@ -292,6 +258,7 @@ module _ (m : MapView) (n len : ℕ) (cells : List ℕ) (low : m.image.start ≤
         (λ other. elsewhere a other below before)
         (cases_eq a n);
     plain = λ a below after. old.plain a below (omega (arith, after));
+    borders = old.borders;
   }
 
 -- ---- the sweep's two ends
@@ -304,11 +271,13 @@ marked-none m n cells is old = record {
   count = old.count;
   marked = λ a below before. old.plain a below (omega arith) ∙ sym (ap (cell_of (role_at m a)) (item-before m a (omega (arith, is, before))));
   plain = λ a below after. old.plain a below (omega arith);
+  borders = old.borders;
 }
 
 pub all-marked : (m : MapView) (n : ℕ) (cells : List ℕ) → end_of m.image ≤ n → AreMarkedBelow m n cells → IsLaid m cells
 all-marked m n cells past old = record {
   count = old.count;
+  borders = old.borders;
   each = λ a below.
       ⊎_elim
       (λ before. old.marked a below before)

@@ -5,9 +5,9 @@ pub mod ImageView
 pub mod Items
 pub mod MapView
 pub mod Names
-pub mod Passing
 pub mod Pieces
 pub mod Roles
+pub mod Segments
 pub mod Spans
 pub mod Targets
 pub mod Told

@@ -1,18 +1,23 @@
 -- Runs and pieces.
 --
--- A run is a longest stretch of the image of one role. In a table whose entries have more than one byte, every given name after the
--- first address of a run cuts it, and the parts are its pieces: so an entry never begins before a given name and ends after it.
--- Elsewhere a run is one piece.
+-- A run is a longest stretch of the image of one role without a segment border inside. In a table whose entries have more than one
+-- byte, every given name after the first address of a run cuts it, and the parts are its pieces: so an entry never begins before a
+-- given name and ends after it. Elsewhere a run is one piece.
 use Rattle.std.specs.Prelude.{◌≡◌, ◌↔◌, ◌⊎◌, ℕ, zero, suc, ◌+◌, ◌-◌, ◌==◌, ◌<◌, ◌≤◌, ◌&&◌, not, Bool, true, false, List, All, nat_lt}
 use Rattle.std.specs.List.{list_any}
-use Rattle.info65.specs.Views.{NameView}
+use Rattle.info65.specs.Views.{NameView, SegmentView}
 use Rattle.map65.specs.ImageView.{end_of, is_inside}
 use Rattle.map65.specs.MapView.{MapView}
 use Rattle.map65.specs.Roles.{is_role, is_wide, role_of}
+use Rattle.map65.specs.Segments.{is_border, segment_at}
 
--- the address lies in the run of the address before it: both lie in the image, and have one role
+-- the address lies in the run of the address before it: both lie in the image, have one role, and no segment border stands between them
 unfoldable pub is_in_run : MapView → ℕ → Bool
-is_in_run m a = nat_lt m.image.start a && (nat_lt a (end_of m.image) && is_role (role_of m.info (a - 1)) (role_of m.info a))
+is_in_run m a = nat_lt m.image.start a && (nat_lt a (end_of m.image) && (is_role (role_of m.info (a - 1)) (role_of m.info a) && not (is_border m.info.segments a)))
+
+-- a run begins at the address
+abbrev pub begins_run : MapView → ℕ → Bool
+begins_run m a = is_inside m.image a && not (is_in_run m a)
 
 -- one of these names has the address as its own
 unfoldable pub is_own : List NameView → ℕ → Bool
@@ -36,10 +41,18 @@ IsFirst m a = (a ≡ m.image.start) ⊎ (is_joined m a ≡ false)
 
 -- ---- the laws
 
--- Two addresses of the image lie in one run exactly when every address from the one to the other has the same role; so neighbouring
--- ranges of one type are one run.
-abbrev pub RunLaw : MapView → Type 0
-RunLaw m = (b a : ℕ) → b ≤ a → is_inside m.image b ≡ true → is_inside m.image a ≡ true → AreOneRun m b a ↔ ((x : ℕ) → b ≤ x → x ≤ a → role_of m.info x ≡ role_of m.info b)
+-- every address from b to a has the same role, and no segment begins or ends between them
+pub record AreAlike (m : MapView) (b a : ℕ) : Type 0 where
+  pub roles : (x : ℕ) → b ≤ x → x ≤ a → role_of m.info x ≡ role_of m.info b
+  pub starts : All (λ (s : SegmentView). b < s.first → s.first ≤ a → ⊥) m.info.segments
+  pub ends : All (λ (s : SegmentView). b ≤ s.last → s.last < a → ⊥) m.info.segments
+
+pub record RunLaw (m : MapView) : Type 0 where
+  -- Two addresses of the image lie in one run exactly when all from the one to the other are alike; so neighbouring ranges of one type
+  -- are one run.
+  pub run : (b a : ℕ) → b ≤ a → is_inside m.image b ≡ true → is_inside m.image a ≡ true → AreOneRun m b a ↔ AreAlike m b a
+  -- A run lies in one segment, or outside all.
+  pub segment : (b a x : ℕ) → AreOneRun m b a → b ≤ x → x ≤ a → segment_at m x ≡ segment_at m b
 
 -- no given name has its own address after b and up to a
 abbrev pub AreUnnamed : MapView → ℕ → ℕ → Type 0

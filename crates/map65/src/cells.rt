@@ -1,7 +1,7 @@
-//! Cells: a role, the length of an item, and one bit for a name, packed into 16 bits.
+//! Cells: a role, the length of an item, and bits for a name and for a segment border, packed into 16 bits.
 
 ghost use Rattle.std.specs.Prelude.{◌≡◌, ◌<◌, ℕ, IfOk, slice_index, vec_len};
-ghost use Rattle.map65.specs.Code.Cells.{cell_of, code_of, coded, has_bit, is_same_role, is_wide_cell, len_in_cell, role_in_cell, with_bit, with_len};
+ghost use Rattle.map65.specs.Code.Cells.{are_one_run, cell_of, code_of, coded, has_bit, has_border, is_same_role, is_wide_cell, len_in_cell, role_in_cell, with_bit, with_border, with_len};
 
 use crate::roles::is_wide;
 use info65::RangeType;
@@ -59,9 +59,9 @@ pub fn role_in(cell: u16) -> Option<RangeType>
     coded(cell % 16)
 }
 
-/// Returns whether both cells hold the same role.
+/// Whether both cells hold the same role.
 #[tactic(auto, unfolding(crate::specs::Code::Cells::is_same_role))]
-pub fn is_same_role(cell: u16, other: u16) -> bool
+fn is_same_role(cell: u16, other: u16) -> bool
     ensures { result ≡ is_same_role cell other }
 {
     cell % 16 == other % 16
@@ -90,7 +90,7 @@ pub fn is_wide_cell(cell: u16) -> bool
 /// Adds the length of an item to a cell that has none.
 #[tactic(auto, unfolding(crate::specs::Code::Cells::with_len))]
 pub fn with_len(cell: u16, len: u8) -> u16
-    requires cell { cell < 256 }
+    requires cell { cell < 512 }
     requires len { len < 8 }
     ensures { result ≡ with_len cell len }
 {
@@ -111,6 +111,30 @@ pub fn with_bit(cell: u16) -> u16
     ensures { result ≡ with_bit cell }
 {
     if has_bit(cell) { cell } else { cell + 128 }
+}
+
+/// Returns whether a cell has its bit for a segment border before its address.
+#[tactic(auto, unfolding(crate::specs::Code::Cells::has_border))]
+fn has_border(cell: u16) -> bool
+    ensures { result ≡ has_border cell }
+{
+    cell / 256 % 2 == 1
+}
+
+/// Sets a cell's bit for a segment border.
+#[tactic(auto, unfolding(crate::specs::Code::Cells::with_border))]
+pub fn with_border(cell: u16) -> u16
+    ensures { result ≡ with_border cell }
+{
+    cell % 256 + 256
+}
+
+/// Returns whether the address of a cell lies in the run of the address before it, whose cell is the first one.
+#[tactic(auto, unfolding(crate::specs::Code::Cells::are_one_run))]
+pub fn are_one_run(before: u16, cell: u16) -> bool
+    ensures { result ≡ are_one_run before cell }
+{
+    is_same_role(before, cell) && (cell % 16 != 0 && !has_border(cell))
 }
 
 /// Returns cells that hold 0.

@@ -16,7 +16,7 @@ pub fn role_law()
     ensures { (ranges : List RangeSpec) → RoleLaw ranges }
 {}
 
-/// A run is a longest stretch of the image of one role.
+/// A run is a longest stretch of the image of one role without a segment border inside.
 pub fn run_law()
     ensures { (m : MapView) → RunLaw m }
 {}

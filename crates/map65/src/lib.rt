@@ -3,10 +3,11 @@
 //! Input comes from a [`Source`], and output goes to a [`Sink`]; [`Told`] makes them from any
 //! `std::io::Read` or `Write`. [`read_image`] reads the [`Image`] that the settings of an `Info` ask for, and
 //! [`Map::build`] builds its [`Map`]: the role of each address, and the length of the item that begins
-//! there. `cells` packs both into 16 bits, `sweep` writes the cells of a whole image, and `laws` states
-//! the laws of roles, pieces, items and cells.
+//! there. `cells` packs both into 16 bits, `sweep` writes the cells of a whole image with `borders` and `naming`, and
+//! `laws` states the laws of roles, runs, pieces, items, names and cells.
 #![tactic(auto)]
 
+mod borders;
 mod cells;
 mod device;
 mod image;

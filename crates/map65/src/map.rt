@@ -1,15 +1,17 @@
 //! The map of an image.
 
-ghost use Rattle.std.specs.Prelude.{◌≡◌, ◌+◌, ◌-◌, ◌<◌, ◌≤◌, ℕ, IfOk, IfSome, length, option_map, slice_index};
+ghost use Rattle.std.specs.Prelude.{◌≡◌, ◌+◌, ◌-◌, ◌/◌, ◌%◌, ◌<◌, ◌≤◌, ℕ, IfOk, IfSome, length, option_map, slice_index};
 ghost use Rattle.info65.specs.Code.Names.{given_seen};
 ghost use Rattle.info65.specs.Names.{covering, default_name};
-ghost use Rattle.map65.specs.Code.Cells.{AreCells, has_bit, len_in_cell, role_in_cell};
+ghost use Rattle.map65.specs.Code.Cells.{AreCells, bit, code_of, has_bit, len_in_cell, role_in_cell};
 ghost use Rattle.map65.specs.ImageView.{end_of};
 ghost use Rattle.map65.specs.Items.{item_len};
 ghost use Rattle.map65.specs.Names.{given_base, has_name, home, home_base, kind_at, kind_by, place_in, place_of, text_at};
+ghost use Rattle.map65.specs.Pieces.{is_in_run};
 ghost use Rattle.map65.specs.Roles.{role_at};
+ghost use Rattle.map65.specs.Segments.{is_border, segment_at};
 
-use crate::cells::{blank_cells, has_bit, len_in, role_in};
+use crate::cells::{are_one_run, blank_cells, has_bit, len_in, role_in};
 use crate::image::{ADDRESSES, Image};
 use crate::name::{NameBuf, NameKind, Place, put_default, put_text};
 use crate::naming::{home_of, mark_covered, mark_own, mark_targets};
@@ -64,6 +66,24 @@ impl<'a, A: Allocator> Map<'a, A> {
         len_in(self.cell(address))
     }
 
+    /// Returns whether the address lies in the run of the address before it: both lie in the image and have one role,
+    /// and no segment begins or ends between them. A run begins at an address of the image for which this is false.
+    pub fn is_in_run(&self, address: u16) -> bool
+        ensures { result ≡ is_in_run self.now address }
+    {
+        if address == 0 {
+            return false;
+        }
+        are_one_run(self.cell(address - 1), self.cell(address))
+    }
+
+    /// Returns the name of the segment that the address belongs to, and `None` outside all segments.
+    pub fn segment_at(&self, address: u16) -> Option<&[u8]>
+        ensures { option_map (λ n. n.now) result ≡ segment_at self.now address }
+    {
+        self.info.segment_covering(address)
+    }
+
     /// Returns whether the address has a name.
     pub fn has_name(&self, address: u16) -> bool
         ensures { result ≡ has_name self.now address }
@@ -91,6 +111,8 @@ impl<'a, A: Allocator> Map<'a, A> {
         ensures role { role_in_cell result ≡ role_at self.now address }
         ensures len { len_in_cell result ≡ item_len self.now address }
         ensures named { has_bit result ≡ has_name self.now address }
+        ensures code { result % 16 ≡ code_of (role_at self.now address) }
+        ensures border { result / 256 ≡ bit (is_border self.now.info.segments address) }
     {
         self.cells[usize::from(address)]
     }
@@ -153,7 +175,7 @@ impl<'a, A: Allocator> Map<'a, A> {
     }
 }
 
-/// Writes roles, items and names into cells that hold 0.
+/// Writes roles, borders, items and names into cells that hold 0.
 fn mark_all<A: Allocator>(cells: &mut [u16], info: &Info<A>, image: &Image<A>)
     requires count { length cells.old ≡ 65536 }
     requires blank { (a : ℕ) → a < 65536 → slice_index cells.old a ≡ 0 }

@@ -4,7 +4,7 @@ ghost use Rattle.std.specs.Prelude.{◌≡◌, ◌+◌, ◌-◌, ◌^◌, ◌<�
 ghost use Rattle.map65.specs.Device.{Counts, TakesUpTo, has_failed};
 ghost use Rattle.map65.specs.Image.{GivesImage, IsReadTo, ReadCount, StopsAt, TakeCount, image_of, read_limit, most_of};
 ghost use Rattle.map65.specs.ImageView.{AreBytes, IsPlaced};
-ghost use Rattle.map65.specs.Passing.{Passes};
+ghost use Rattle.map65.specs.Code.Passing.{Passes};
 
 use crate::device::{DeviceFault, Source};
 use crate::image::{Image, ImageFault};

@@ -11,7 +11,8 @@ ghost use Rattle.map65.specs.Pieces.{is_own};
 ghost use Rattle.map65.specs.Roles.{role_of};
 ghost use Rattle.map65.specs.Spans.{left_at};
 
-use crate::cells::{cell_of, has_bit, is_same_role, is_wide_cell, role_in, with_len};
+use crate::borders::mark_borders;
+use crate::cells::{are_one_run, cell_of, has_bit, is_wide_cell, role_in, with_len};
 use crate::image::Image;
 use crate::roles::{is_skip, unit_of};
 use info65::{Info, RangeSpec, RangeType};
@@ -58,7 +59,7 @@ fn paint_code<A: Allocator>(cells: &mut [u16], image: &Image<A>)
     paint(cells, start, end, RangeType::Code);
 }
 
-/// Writes the role of each address of the image into its cell.
+/// Writes the role of each address of the image into its cell, and marks the segment borders.
 ///
 /// The ranges are written from the last to the first, each over what the cells held.
 pub fn mark_roles<A: Allocator>(cells: &mut [u16], info: &Info<A>, image: &Image<A>)
@@ -75,6 +76,7 @@ pub fn mark_roles<A: Allocator>(cells: &mut [u16], info: &Info<A>, image: &Image
         let range = ranges[left];
         paint_range(cells, image, range);
     }
+    mark_borders(cells, info);
 }
 
 // ---- items
@@ -93,7 +95,7 @@ fn is_joined_in(cells: &[u16], at: usize) -> bool
     requires { 0 < at }
     ensures { result ≡ is_joined_in cells.now at }
 {
-    at < cells.len() && is_same_role(cells[at - 1], cells[at]) && !is_cut(cells[at])
+    at < cells.len() && are_one_run(cells[at - 1], cells[at]) && !is_cut(cells[at])
 }
 
 fn code_size(cpu: Cpu, byte: u8) -> u8

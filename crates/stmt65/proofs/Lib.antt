@@ -14,6 +14,7 @@ pub mod WidthLemmas
 pub mod Rows
 pub mod Lexed
 pub mod TableReads
+pub mod RemarkLemmas
 pub mod ReadBack
 pub mod OneLine
 pub mod LineLaws

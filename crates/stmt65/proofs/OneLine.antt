@@ -1,6 +1,6 @@
 -- A printed line has no line feed before its end.
 use Rattle.std.proofs.Common.{◌≡◌, ℕ, zero, suc, Bool, true, false, eqb, ltb, ◌-◌, ◌/◌, ◌%◌, ◌<◌, List, [], ◌∷◌, ◌++◌, length, replicate, Option, Some, None, refl, arith}
-use Rattle.std.specs.Prelude.{◌==◌, not, codes}
+use Rattle.std.specs.Prelude.{◌==◌, not, codes, map}
 use Rattle.std.specs.List.{list_all, flat_map}
 use Rattle.std.specs.Char.{digit_value, is_ascii_digit}
 use Rattle.std.specs.Fmt.{decimal}
@@ -18,13 +18,14 @@ use Rattle.isa65.specs.declared.mode.Mode.{Mode}
 use Rattle.isa65.specs.declared.mode.Mode.TheVariants.{Imp, Acc, Imm, Zp, Zpx, Zpy, Abs, Absx, Absy, Ind, Indx, Indy, Zpind, Absindx, Rel, Zprel}
 use Rattle.stmt65.specs.declared.columns.Columns.{Columns}
 use Rattle.stmt65.specs.Digits.{hex_digit, hex2, hex4, offset_text}
-use Rattle.stmt65.specs.Line.{filled, with_fields, line_of}
+use Rattle.stmt65.specs.Levels.{address_text, spaced_byte, address_and_bytes, character, level_fields}
+use Rattle.stmt65.specs.Line.{filled, with_fields, plain_line, line_of}
 use Rattle.stmt65.specs.Operands.{named_text, short_text, long_text, prefix_text, operand_text}
 use Rattle.stmt65.specs.Printable.{IsWrittenIn, IsPrintable}
 use Rattle.stmt65.specs.SourceLine.{Datum}
 use Rattle.stmt65.specs.SourceLine as source
 use Rattle.stmt65.specs.Tables.{low_words, high_words, cut_text}
-use Rattle.stmt65.specs.Statements.{next_byte, bytes_text, quoted, datum_text, datum_behind, data_text, word_behind, words_text, alone, with_operands, return_text, distance_text, instr_fields, label_fields, definition_fields, fields_of}
+use Rattle.stmt65.specs.Statements.{has_bytes, next_byte, bytes_text, quoted, datum_text, datum_behind, data_text, word_behind, words_text, alone, with_operands, return_text, distance_text, instr_fields, label_fields, definition_fields, fields_of}
 use Rattle.stmt65.specs.Lexing.{is_word_start, is_word_byte, is_text_byte}
 use Rattle.stmt65.specs.Names.{is_name}
 use Rattle.stmt65.specs.Printed.{HasNames, HasLabelName}
@@ -34,7 +35,7 @@ use Rattle.stmt65.specs.Views as view
 use Rattle.stmt65.proofs.Lexed.{IsWordText}
 use Rattle.stmt65.proofs.ReadBack.{IsRead, AreRead, are_read, name_word, name_quotes}
 use Rattle.stmt65.proofs.TableReads.{is_sound, cut_sound}
-use Rattle.stmt65.proofs.Cases.{both}
+use Rattle.stmt65.proofs.Cases.{both, by_test}
 
 abbrev pub in_line : ℕ → Bool
 in_line b = not (b == 10)
@@ -258,7 +259,30 @@ fields_line line c h (view.set_cpu cpu) l p w n = with_line line c (codes ".setc
 fields_line line c h view.blank l p w n = l
 fields_line line c h (view.remark text) l p w n = field_line line 1 (codes "; " ++ text) l (joined (codes "; ") text refl p.1)
 
+-- ---- what stands after a statement
+
+spaced_line : (bs : List ℕ) → InLine (flat_map spaced_byte bs)
+spaced_line [] = refl
+spaced_line (b ∷ bs) = joined (spaced_byte b) (flat_map spaced_byte bs) (hex2_line b) (spaced_line bs)
+
+character_line : (b : ℕ) → in_line (character b) ≡ true
+character_line b = grind (arith, nat_tests)
+
+characters_line : (bs : List ℕ) → InLine (map character bs)
+characters_line [] = refl
+characters_line (b ∷ bs) = rw (character_line b, characters_line bs) refl
+
+level_line : (line : List ℕ) (c : Columns) (level address : ℕ) (bytes : List ℕ) → InLine line → InLine (with_fields line (level_fields c level address bytes))
+level_line line c level address bytes l =
+    let shown : InLine (address_and_bytes address bytes) = joined (address_text address) (flat_map spaced_byte bytes) (hex4_line address) (spaced_line bytes) in
+    by_test (ltb level 2) (λ t. rw t l) (λ t.
+    by_test (ltb level 3) (λ u. rw (t, u) (field_line line c.comment (address_text address) l (hex4_line address))) (λ u.
+    by_test (ltb level 4) (λ v. rw (t, u, v) (field_line line c.comment (address_and_bytes address bytes) l shown)) (λ v.
+    rw (t, u, v) (field_line (filled line c.comment ++ address_and_bytes address bytes) c.text (map character bytes) (field_line line c.comment (address_and_bytes address bytes) l shown) (characters_line bytes)))))
+
 -- the line of a statement is one line
 pub one_line : (c : Columns) (s : StatementView) (r : RemarksView) → IsPrintable s → IsInWidth s → HasNames s → HasLabelName r.label → InLine (line_of c s r)
 unfolding line_of
-one_line c s r p w n label = fields_line (with_fields [] (label_fields r.label)) c r.hexoffs s (start_line r.label label) p w n
+one_line c s r p w n label =
+    let plain = fields_line (with_fields [] (label_fields r.label)) c r.hexoffs s (start_line r.label label) p w n in
+    by_test (has_bytes s) (λ t. rw t (level_line (plain_line c s r) c r.level r.address r.bytes plain)) (λ t. rw t plain)

@@ -1,7 +1,7 @@
 -- The line of a statement is a spelling of that statement, so it reads as it.
 use Rattle.std.proofs.Common.{◌≡◌, ℕ, suc, Bool, Option, None, true, false, eqb, ltb, ◌-◌, ◌<◌, ◌≤◌, List, [], ◌∷◌, ◌++◌, length, replicate, refl, sym, ap, ◌∙◌, arith, inl, inr, append_assoc}
 use Rattle.std.specs.Prelude.{◌&&◌, ◌||◌, codes, map, Some}
-use Rattle.std.specs.List.{list_all}
+use Rattle.std.specs.List.{list_all, flat_map}
 use Rattle.std.specs.Str.{str_to_ascii_lowercase}
 use Rattle.std.specs.Char.{is_ascii_alphabetic}
 use Rattle.std.proofs.lemmas.Bool.{ltb-true, ne_eqb, eqb-true}
@@ -19,11 +19,12 @@ use Rattle.isa65.specs.declared.mode.Mode.TheVariants.{Imp, Acc, Imm, Zp, Zpx, Z
 use Rattle.stmt65.specs.declared.coding.ByteOrder.{ByteOrder}
 use Rattle.stmt65.specs.declared.coding.ByteOrder.TheVariants.{LittleEndian, BigEndian}
 use Rattle.stmt65.specs.declared.columns.Columns.{Columns}
-use Rattle.stmt65.specs.Digits.{hex2, hex4, offset_text}
-use Rattle.stmt65.specs.Line.{filled, with_fields, line_of}
+use Rattle.stmt65.specs.Digits.{digits4, hex2, hex4, offset_text}
+use Rattle.stmt65.specs.Levels.{spaced_byte, character, level_fields}
+use Rattle.stmt65.specs.Line.{filled, with_fields, plain_line, line_of}
 use Rattle.stmt65.specs.Operands.{named_text, short_text, long_text, prefix_text, operand_text}
 use Rattle.stmt65.specs.Printable.{IsByte, IsShort, IsWrittenIn, IsPrintable, MayBeLabelled}
-use Rattle.stmt65.specs.Statements.{bytes_text, quoted, data_text, words_text, alone, with_operands, return_text, distance_text, instr_fields, label_fields, definition_fields, remark_fields, fields_of}
+use Rattle.stmt65.specs.Statements.{has_bytes, bytes_text, quoted, data_text, words_text, alone, with_operands, return_text, distance_text, instr_fields, label_fields, definition_fields, remark_fields, fields_of}
 use Rattle.stmt65.specs.SourceLine.{Value, NumberValue, NameValue, NumberDatum, Empty, Operation, Nothing, Instr, Segment, Code, SetCpu, Assignment, PlaceAssignment, Statement}
 use Rattle.stmt65.specs.declared.source_line.Minus.TheVariants.{Zero, One}
 use Rattle.stmt65.specs.Tables.{low_words, high_words, words_in, cut_text}
@@ -40,7 +41,8 @@ use Rattle.stmt65.specs.Views as view
 use Rattle.stmt65.proofs.SpelledIsRead.{line_again}
 use Rattle.stmt65.proofs.Lexed.{Ends, IsWordText, parts_word, parts_blanks, parts_hash, parts_open, parts_close, parts_plus, parts_comma, parts_star, parts_minus, parts_define, parts_colon, parts_text, parts_hex2, parts_hex4, number_of-hex2, number_of-hex4, parts_digits, parts_decimal, number_of-decimal, OffsetParts, offset_parts}
 use Rattle.stmt65.proofs.PartLemmas.{parts_nil, parts_remark}
-use Rattle.stmt65.proofs.Cases.{both}
+use Rattle.stmt65.proofs.RemarkLemmas.{AreClosed, parts_then, spelled_closed}
+use Rattle.stmt65.proofs.Cases.{both, by_test}
 use Rattle.stmt65.proofs.TableReads.{bytes_listed, words_listed, text_listed}
 
 -- ---- items, from the last one to the front
@@ -492,10 +494,42 @@ spelled_back c h None view.code p w n m l = unoperated None c (codes ".code") Co
 spelled_back c h None (view.set_cpu cpu) p w n m l = operated None c (codes ".setcpu") (quoted (cpu_text cpu)) (SetCpu (cpu_text cpu)) (string (cpu_text cpu) ∷ []) l refl (refl, refl) (cpu_spelled cpu)
 spelled_back c h None view.blank p w n m l = nothing
 spelled_back c h None (view.remark text) p w n m l = remark_spelled text
-spelled_back c h (Some name) _ p w n m l = absurd m.0
+spelled_back c h (Some name) _ p w n m l = let none = m.0 in absurd cc
+
+-- ---- what stands after a statement
+
+-- a remark at a column
+remark_after : (line : List ℕ) (column : ℕ) (text : List ℕ) → AreClosed (parts line) → parts (filled line column ++ 59 ∷ text) ≡ parts line
+remark_after [] column text h = leads_nothing column (59 ∷ text) ∙ parts_remark text ∙ sym parts_nil
+remark_after (b ∷ bs) column text h =
+    let f = blank_between (b ∷ bs) column (omega arith) in
+    ap (λ (l : List ℕ). parts (l ++ 59 ∷ text)) f.blanks ∙ ap parts (append_assoc (b ∷ bs) (32 ∷ replicate f.count 32) (59 ∷ text))
+    ∙ parts_then 0 (b ∷ bs) (replicate f.count 32 ++ 59 ∷ text) (omega arith) h (parts_blanks f.count (59 ∷ text) ∙ parts_remark text)
+
+-- and another field after it
+field_after : (line : List ℕ) (column other : ℕ) (text more : List ℕ) → AreClosed (parts line) → parts (filled (filled line column ++ 59 ∷ text) other ++ more) ≡ parts line
+field_after line column other text more h =
+    let f = blank_between (filled line column ++ 59 ∷ text) other (omega (arith, length-append (filled line column) (59 ∷ text))) in
+    let shape : filled (filled line column ++ 59 ∷ text) other ++ more ≡ filled line column ++ 59 ∷ (text ++ ((32 ∷ replicate f.count 32) ++ more)) = ap (λ (l : List ℕ). l ++ more) f.blanks ∙ simp append_assoc in
+    ap parts shape ∙ remark_after line column (text ++ ((32 ∷ replicate f.count 32) ++ more)) h
+
+level_parts : (line : List ℕ) (c : Columns) (level address : ℕ) (bytes : List ℕ) → AreClosed (parts line) → parts (with_fields line (level_fields c level address bytes)) ≡ parts line
+level_parts line c level address bytes h =
+    by_test (ltb level 2) (λ t. rw t refl) (λ t.
+    by_test (ltb level 3) (λ u. rw (t, u) (remark_after line c.comment (32 ∷ digits4 address) h)) (λ u.
+    let text = 32 ∷ (digits4 address ++ flat_map spaced_byte bytes) in
+    by_test (ltb level 4) (λ v. rw (t, u, v) (remark_after line c.comment text h)) (λ v.
+    rw (t, u, v) (field_after line c.comment c.text text (map character bytes) h))))
+
+-- the parts of the line are those of its label and statement
+line_parts : (c : Columns) (s : StatementView) (r : RemarksView) → AreClosed (parts (plain_line c s r)) → parts (line_of c s r) ≡ parts (plain_line c s r)
+unfolding line_of
+line_parts c s r h = by_test (has_bytes s) (λ t. rw t (level_parts (plain_line c s r) c r.level r.address r.bytes h)) (λ t. rw t refl)
 
 -- the line of a statement reads as that statement with its label
 pub reads_back : (c : Columns) (s : StatementView) (r : RemarksView) → IsPrintable s → IsInWidth s → HasNames s → MayBeLabelled c r.label s → HasLabelName r.label
     → reading_of (parts (line_of c s r)) ≡ Some (with_label r.label (source_line s))
-unfolding line_of
-reads_back c s r p w n m l = line_again (with_label r.label (source_line s)) (parts (line_of c s r)) (spelled_back c r.hexoffs r.label s p w n m l)
+reads_back c s r p w n m l =
+    let says = with_label r.label (source_line s) in
+    let spelled = spelled_back c r.hexoffs r.label s p w n m l in
+    line_again says (parts (line_of c s r)) (rw (line_parts c s r (spelled_closed says (parts (plain_line c s r)) spelled)) spelled)

@@ -76,6 +76,41 @@ address_entry_in_hex : hex_shown (view.addr (target (codes "L2002") 1)) ≡ code
 unfolding hex_shown target remarks line_of filled
 address_entry_in_hex = refl
 
+segment : shown (view.segment (codes "DATA")) ≡ codes "        .segment \"DATA\""
+unfolding shown remarks line_of filled
+segment = refl
+
+default_segment : shown view.code ≡ codes "        .code"
+unfolding shown remarks line_of filled
+default_segment = refl
+
+-- `lda #$41` at $1000 at each level from 1 on
+at_level : ℕ → List ℕ
+at_level level =
+    line_of default_columns (view.instr (record { mnemonic = Lda; mode = Imm }) false (view.one (view.number 0x41)))
+    (record { level = level; hexoffs = false; address = 0x1000; bytes = 0xA9 ∷ 0x41 ∷ []; label = None })
+
+separator_level : at_level 1 ≡ codes "        lda     #$41"
+unfolding at_level line_of filled operand_text
+separator_level = refl
+
+address_level : at_level 2 ≡ codes "        lda     #$41                            ; 1000"
+unfolding at_level line_of filled operand_text
+address_level = refl
+
+bytes_level : at_level 3 ≡ codes "        lda     #$41                            ; 1000 A9 41"
+unfolding at_level line_of filled operand_text
+bytes_level = refl
+
+full_remarks : at_level 4 ≡ codes "        lda     #$41                            ; 1000 A9 41                    .A"
+unfolding at_level line_of filled operand_text
+full_remarks = refl
+
+-- a statement without bytes, at the last level
+bare_segment : line_of default_columns view.code (record { level = 4; hexoffs = false; address = 0x1000; bytes = 0xEA ∷ []; label = None }) ≡ codes "        .code"
+unfolding line_of filled
+bare_segment = refl
+
 return_entry : shown (view.rts (Some (target (codes "L1000") 0))) ≡ codes "        .word   L1000-1"
 unfolding shown target remarks line_of filled
 return_entry = refl

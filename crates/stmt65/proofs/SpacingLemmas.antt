@@ -27,7 +27,7 @@ run_passes p (suc n) (x ∷ xs) le = by_test (p x)
     (λ t. let le : suc n ≤ 1 + prefix_len p xs = rw t at le in rw t (run_passes p n xs (omega arith)))
     (λ t. let le : suc n ≤ 0 = rw t at le in absurd (omega arith))
 
-run_fits : (p : ℕ → Bool) (xs : List ℕ) → prefix_len p xs ≤ length xs
+pub run_fits : (p : ℕ → Bool) (xs : List ℕ) → prefix_len p xs ≤ length xs
 run_fits p [] = omega arith
 run_fits p (x ∷ xs) = by_test (p x) (λ t. rw t (omega (arith, run_fits p xs))) (λ t. rw t (omega arith))
 
@@ -39,9 +39,9 @@ run_stops p (x ∷ xs) ys y h g = let b = both (p x) (list_all p xs) h in rw b.0
 -- ---- the part in front
 
 -- What the lexer takes is a part, and it fits.
-record Takes (b : ℕ) (bs : List ℕ) (p : Part) (k : ℕ) : Type 0 where
-  text : IsText p (b ∷ take k bs)
-  fits : k ≤ length bs
+pub record Takes (b : ℕ) (bs : List ℕ) (p : Part) (k : ℕ) : Type 0 where
+  pub text : IsText p (b ∷ take k bs)
+  pub fits : k ≤ length bs
 
 stays_alone : (b : ℕ) → is_blank b ≡ false → eqb b 59 ≡ false → is_word_start b ≡ false → is_ascii_digit b ≡ false → is_alone b ≡ true
 stays_alone b h g w d = rw (h, g, w, d) refl
@@ -54,7 +54,7 @@ equals : (bs : List ℕ) → begins_with 61 bs ≡ true → bs ≡ 61 ∷ drop 1
 equals [] h = absurd cc
 equals (c ∷ cs) h = ap (λ (d : ℕ). d ∷ cs) (eqb-true c 61 h)
 
-taken : (b : ℕ) (bs : List ℕ) → is_blank b ≡ false → eqb b 59 ≡ false → Takes b bs (part_at b bs).0 (part_at b bs).1
+pub taken : (b : ℕ) (bs : List ℕ) → is_blank b ≡ false → eqb b 59 ≡ false → Takes b bs (part_at b bs).0 (part_at b bs).1
 unfolding part_at
 taken b bs h g =
     by_test (is_word_start b)

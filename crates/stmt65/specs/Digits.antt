@@ -5,13 +5,21 @@ use Rattle.std.specs.Prelude.{ℕ, ◌+◌, ◌/◌, ◌%◌, Bool, List, [], �
 abbrev pub hex_digit : ℕ → ℕ
 hex_digit d = if nat_lt d 10 then 48 + d else 55 + d
 
--- `$hh`, the two low digits
-abbrev pub hex2 : ℕ → List ℕ
-hex2 n = 36 ∷ hex_digit (n / 16 % 16) ∷ hex_digit (n % 16) ∷ []
+-- `hh`, the two low digits
+abbrev pub digits2 : ℕ → List ℕ
+digits2 n = hex_digit (n / 16 % 16) ∷ hex_digit (n % 16) ∷ []
 
--- `$hhhh`, the four low digits
+-- `hhhh`, the four low digits
+abbrev pub digits4 : ℕ → List ℕ
+digits4 n = hex_digit (n / 4096 % 16) ∷ hex_digit (n / 256 % 16) ∷ hex_digit (n / 16 % 16) ∷ hex_digit (n % 16) ∷ []
+
+-- `$hh`
+abbrev pub hex2 : ℕ → List ℕ
+hex2 n = 36 ∷ digits2 n
+
+-- `$hhhh`
 abbrev pub hex4 : ℕ → List ℕ
-hex4 n = 36 ∷ hex_digit (n / 4096 % 16) ∷ hex_digit (n / 256 % 16) ∷ hex_digit (n / 16 % 16) ∷ hex_digit (n % 16) ∷ []
+hex4 n = 36 ∷ digits4 n
 
 -- what is added to a name: in decimal; or, in hex digits, two below $100 and else four
 abbrev pub offset_text : Bool → ℕ → List ℕ

@@ -5,6 +5,7 @@ pub mod Views
 pub mod Operands
 pub mod Tables
 pub mod Statements
+pub mod Levels
 pub mod Line
 pub mod Printable
 pub mod SourceLine

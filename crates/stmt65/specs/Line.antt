@@ -1,6 +1,7 @@
 -- A line as fields at their columns.
 use Rattle.std.specs.Prelude.{ℕ, ◌-◌, List, [], ◌∷◌, ◌++◌, length, replicate, nat_lt, ◌==◌, if◌then◌else◌}
 use Rattle.stmt65.specs.declared.columns.Columns.{Columns}
+use Rattle.stmt65.specs.Levels.{fields_after}
 use Rattle.stmt65.specs.Statements.{Field, label_fields, fields_of}
 use Rattle.stmt65.specs.Views.{StatementView, RemarksView}
 
@@ -14,6 +15,10 @@ abbrev pub with_fields : List ℕ → List Field → List ℕ
 with_fields line [] = line
 with_fields line (field ∷ fields) = with_fields (filled line field.0 ++ field.1) fields
 
--- The line of a statement, without its line feed: the label, then the fields of the statement.
+-- The label and the statement.
+abbrev pub plain_line : Columns → StatementView → RemarksView → List ℕ
+plain_line c s r = with_fields (with_fields [] (label_fields r.label)) (fields_of c r.hexoffs s)
+
+-- The line of a statement, without its line feed: the label, the statement, and what stands after it.
 unfoldable pub line_of : Columns → StatementView → RemarksView → List ℕ
-line_of c s r = with_fields (with_fields [] (label_fields r.label)) (fields_of c r.hexoffs s)
+line_of c s r = with_fields (plain_line c s r) (fields_after c s r)

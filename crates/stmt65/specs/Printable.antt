@@ -5,6 +5,7 @@ use Rattle.isa65.specs.declared.mode.Mode.{Mode}
 use Rattle.isa65.specs.declared.mode.Mode.TheVariants.{Imp, Acc, Imm, Zp, Zpx, Zpy, Abs, Absx, Absy, Ind, Indx, Indy, Zpind, Absindx, Rel, Zprel}
 use Rattle.stmt65.specs.declared.columns.Columns.{Columns}
 use Rattle.stmt65.specs.Columns.{fits_label}
+use Rattle.stmt65.specs.Statements.{has_bytes}
 use Rattle.stmt65.specs.Views.{ExprView, OperandsView, StatementView}
 use Rattle.stmt65.specs.Views as view
 
@@ -79,14 +80,7 @@ IsPrintable (view.remark text) = (length text ≤ 200) × (list_all (λ b. not (
 
 -- an instruction or data
 abbrev pub TakesLabel : StatementView → Type 0
-TakesLabel (view.instr op absolute operands) = Unit {0}
-TakesLabel (view.bytes bs) = Unit {0}
-TakesLabel (view.text bs) = Unit {0}
-TakesLabel (view.words bs) = Unit {0}
-TakesLabel (view.dbyts bs) = Unit {0}
-TakesLabel (view.addr t) = Unit {0}
-TakesLabel (view.rts t) = Unit {0}
-TakesLabel _ = ⊥
+TakesLabel s = has_bytes s ≡ true
 
 -- A label stands only on the line of an instruction or of data, if it fits there. Any other label takes a line of its own.
 abbrev pub MayBeLabelled : Columns → Option (List ℕ) → StatementView → Type 0

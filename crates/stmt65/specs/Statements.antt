@@ -17,6 +17,17 @@ use Rattle.stmt65.specs.Tables.{low_words, high_words, cut_text}
 use Rattle.stmt65.specs.Views.{OperandsView, StatementView, TargetView}
 use Rattle.stmt65.specs.Views as view
 
+-- An instruction or data: a statement that has bytes.
+abbrev pub has_bytes : StatementView → Bool
+has_bytes (view.instr op absolute operands) = true
+has_bytes (view.bytes bs) = true
+has_bytes (view.text bs) = true
+has_bytes (view.words bs) = true
+has_bytes (view.dbyts bs) = true
+has_bytes (view.addr t) = true
+has_bytes (view.rts t) = true
+has_bytes _ = false
+
 -- a column, and the text that stands there
 abbrev pub Field : Type 0
 Field = ℕ × List ℕ

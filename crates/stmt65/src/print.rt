@@ -4,6 +4,9 @@ mod definitions;
 mod digits;
 mod fields;
 #[cfg(test)]
+mod level_tests;
+mod levels;
+#[cfg(test)]
 mod name_tests;
 mod operand;
 mod tables;
@@ -14,7 +17,8 @@ ghost use Rattle.std.specs.Prelude.{◌≡◌, ◌+◌, ◌<◌, ◌≤◌, ◌*
 ghost use Rattle.std.specs.Option.{option_copied, option_map};
 ghost use Rattle.arrayvec.specs.ArrayVec.{array_vec_len};
 ghost use Rattle.isa65.specs.Cpu.{cpu_text};
-ghost use Rattle.stmt65.specs.Line.{filled, with_fields, line_of};
+ghost use Rattle.stmt65.specs.Levels.{fields_after};
+ghost use Rattle.stmt65.specs.Line.{filled, with_fields, plain_line, line_of};
 ghost use Rattle.stmt65.specs.Printable.{IsNameLong, IsWrittenIn, IsTable, IsPrintable, MayBeLabelled};
 ghost use Rattle.stmt65.specs.Printed.{HasNames, HasLabelName, PrintsAs, source_line, with_label};
 ghost use Rattle.stmt65.specs.Statements.{bytes_text, quoted, data_text, words_text, words_operation, has_operand, return_text, distance_text, instr_fields, with_operands, label_fields, definition_fields, remark_fields, fields_of};
@@ -34,6 +38,7 @@ use definitions::{put_const, put_forward, put_label};
 use digits::put_hex2;
 use fields::{put, start_field};
 use isa65::{Cpu, Mode, Op};
+use levels::put_after;
 use operand::{put_named, put_operands};
 use tables::{put_text, put_words};
 
@@ -63,13 +68,13 @@ fn put_instr(
     hexoffs: bool,
     op: Op,
     absolute: bool,
-    operands: Operands,
+    operands: &Operands,
 )
     requires room { array_vec_len out.old ≤ 82 }
-    requires written { IsWrittenIn op.mode (operands_seen operands) }
-    ensures items { out.new.items ≡ with_fields out.old.items (instr_fields columns.now hexoffs op absolute (operands_seen operands.entry)) }
+    requires written { IsWrittenIn op.mode (operands_seen operands.now) }
+    ensures items { out.new.items ≡ with_fields out.old.items (instr_fields columns.now hexoffs op absolute (operands_seen operands.now)) }
     ensures len { array_vec_len out.new ≤ 340 }
-    ensures width { AreWordWide (operands_seen operands.entry) }
+    ensures width { AreWordWide (operands_seen operands.now) }
 {
     put_operation(out, columns, op.mnemonic.text());
     if has_operand(op.mode) {
@@ -230,7 +235,7 @@ fn put_fields(out: &mut Line, columns: &Columns, hexoffs: bool, statement: &Stat
         Statement::Instr {
             op,
             absolute,
-            operands,
+            ref operands,
         } => put_instr(out, columns, hexoffs, op, absolute, operands),
         Statement::Bytes(bytes) => put_data(out, columns, bytes),
         Statement::Text(bytes) => put_text_data(out, columns, bytes),
@@ -268,16 +273,16 @@ fn start_line(out: &mut Line, label: Option<&[u8]>)
 /// digits is below $100, `absolute` stands in the absolute modes alone, there are 1 to 8 bytes, 1
 /// to 16 of text and 2, 4, 6 or 8 of words, a name has 1 to 80 bytes, and a remark at most 200
 /// without a line feed. A label stands before an instruction or data alone; its name has at most as
-/// many bytes as the label break, and that number plus 1 is below the mnemonic column. The level is
-/// 0.
+/// many bytes as the label break, and that number plus 1 is below the mnemonic column. At most 16
+/// bytes are remarked.
 ///
 /// If the names in the statement and the label are names that ca65 takes, none of them reserved, the
-/// line reads as this statement with this label; reading is a function of the line, so it reads as
-/// no other.
+/// line reads as this statement with this label, at every level; reading is a function of the line,
+/// so it reads as no other. The name of a segment may be reserved.
 #[tactic(auto, unfolding(crate::specs::Line::line_of))]
 pub fn put_line(out: &mut Line, columns: &Columns, statement: &Statement, remarks: &Remarks)
     requires printable { IsPrintable (statement_seen statement.now) }
-    requires level { remarks.now.level ≡ 0 }
+    requires few { length remarks.now.bytes.now ≤ 16 }
     requires label { MayBeLabelled columns.now (option_copied remarks.now.label) (statement_seen statement.now) }
     ensures line { out.new.items ≡ line_of columns.now (statement_seen statement.now) (remarks_seen remarks.now) ++ 10 ∷ [] }
     ensures fits { array_vec_len out.new ≤ 512 }
@@ -286,5 +291,6 @@ pub fn put_line(out: &mut Line, columns: &Columns, statement: &Statement, remark
     out.clear();
     start_line(out, remarks.label);
     put_fields(out, columns, remarks.hexoffs, statement);
+    put_after(out, columns, statement, remarks);
     out.push(b'\n');
 }

@@ -31,7 +31,7 @@ pub struct Target<'a> {
     pub offset: u16,
 }
 
-/// A statement, a remark or an empty line.
+/// A statement, a remark or an empty line. Instructions, tables and their entries have bytes.
 #[derive(Clone, Copy, Debug, PartialEq, Eq)]
 pub enum Statement<'a> {
     /// An instruction. `absolute` says that `a:` stands before its operand, in `Abs`, `Absx` and
@@ -70,4 +70,26 @@ pub enum Statement<'a> {
     Blank,
     /// `; ` and at most 200 bytes without a line feed.
     Remark(&'a [u8]),
+}
+
+impl Statement<'_> {
+    ghost use Rattle.std.specs.Prelude.{◌≡◌};
+    ghost use Rattle.stmt65.specs.Statements.{has_bytes};
+    ghost use Rattle.stmt65.specs.Views.{statement_seen};
+
+    /// Whether it is an instruction or data.
+    pub fn has_bytes(&self) -> bool
+        ensures { result ≡ has_bytes (statement_seen self.now) }
+    {
+        matches!(
+            self,
+            Statement::Instr { .. }
+                | Statement::Bytes(_)
+                | Statement::Text(_)
+                | Statement::Words(_)
+                | Statement::Dbyts(_)
+                | Statement::Addr(_)
+                | Statement::Rts(_)
+        )
+    }
 }

@@ -1,8 +1,8 @@
 // Runs over devices that fail.
 use crate::tests::devices::{Endless, FAULTS, Fault, Short, Tape};
 use crate::tests::ranges::{START, WARNING};
-use crate::tests::runs::{THREE, THREE_LISTING, named};
-use da65::{RunFault, Status, Told, run};
+use crate::tests::runs::{THREE, THREE_LISTING, named, run_on};
+use da65::{RunFault, Status};
 use std::io::ErrorKind;
 use std::test::Fail;
 
@@ -14,14 +14,13 @@ fn a_reader_that_fails(rt: HostRuntime) -> Result<(), Fail> {
             let mut listing = Vec::new(rt.alloc());
             let mut messages = Vec::new(rt.alloc());
             let mut reader = Tape::failing(THREE, given, kind);
-            let result = run(
+            let result = run_on(
                 rt.alloc(),
                 &named(rt.alloc(), None)?,
                 &[],
-                &[],
-                &mut Told::new(&mut reader),
-                &mut Told::new(&mut listing),
-                &mut Told::new(&mut messages),
+                &mut reader,
+                &mut listing,
+                &mut messages,
             );
             assert_eq!(rt; result, Ok(Status::Refused), "after {given}");
             assert_eq!(rt; reader.given(), given);
@@ -40,14 +39,13 @@ fn a_reader_that_fails(rt: HostRuntime) -> Result<(), Fail> {
 fn a_reader_of_single_bytes(rt: HostRuntime) -> Result<(), Fail> {
     let mut listing = Vec::new(rt.alloc());
     let mut messages = Vec::new(rt.alloc());
-    let result = run(
+    let result = run_on(
         rt.alloc(),
         &named(rt.alloc(), None)?,
         &[],
-        &[],
-        &mut Told::new(Tape::new(THREE, 1)),
-        &mut Told::new(&mut listing),
-        &mut Told::new(&mut messages),
+        Tape::new(THREE, 1),
+        &mut listing,
+        &mut messages,
     );
     assert_eq!(rt; result, Ok(Status::Done));
     assert_eq!(rt; listing.as_slice(), THREE_LISTING);
@@ -60,14 +58,13 @@ fn an_input_without_end(rt: HostRuntime) -> Result<(), Fail> {
     let mut listing = Vec::new(rt.alloc());
     let mut messages = Vec::new(rt.alloc());
     let mut reader = Endless { given: 0 };
-    let result = run(
+    let result = run_on(
         rt.alloc(),
         &named(rt.alloc(), None)?,
         &[],
-        &[],
-        &mut Told::new(&mut reader),
-        &mut Told::new(&mut listing),
-        &mut Told::new(&mut messages),
+        &mut reader,
+        &mut listing,
+        &mut messages,
     );
     assert_eq!(rt; result, Ok(Status::Refused));
     assert_eq!(rt; reader.given, 65_537);
@@ -79,20 +76,38 @@ fn an_input_without_end(rt: HostRuntime) -> Result<(), Fail> {
     Ok(())
 }
 
+/// A run without a message writes none, not even one without a byte: its writer would fail.
+#[test]
+fn no_message_is_no_write(rt: HostRuntime) -> Result<(), Fail> {
+    for fault in FAULTS {
+        let mut listing = Vec::new(rt.alloc());
+        let result = run_on(
+            rt.alloc(),
+            &named(rt.alloc(), None)?,
+            &[],
+            THREE,
+            &mut listing,
+            Short::new(rt.alloc(), 0, fault),
+        );
+        assert_eq!(rt; result, Ok(Status::Done));
+        assert_eq!(rt; listing.as_slice(), THREE_LISTING);
+    }
+    Ok(())
+}
+
 #[test]
 fn a_writer_that_fails_or_takes_none(rt: HostRuntime) -> Result<(), Fail> {
     for fault in FAULTS {
         for room in 0..THREE_LISTING.len() {
             let mut out = Short::new(rt.alloc(), room, fault);
             let mut messages = Vec::new(rt.alloc());
-            let result = run(
+            let result = run_on(
                 rt.alloc(),
                 &named(rt.alloc(), None)?,
                 &[],
-                &[],
-                &mut Told::new(THREE),
-                &mut Told::new(&mut out),
-                &mut Told::new(&mut messages),
+                THREE,
+                &mut out,
+                &mut messages,
             );
             assert_eq!(rt; result, Err(RunFault::Write), "after {room}");
             assert_eq!(rt; out.later(), 0, "after {room}");
@@ -109,24 +124,22 @@ fn a_writer_that_fails_or_takes_none(rt: HostRuntime) -> Result<(), Fail> {
 
 const EMPTY_MESSAGE: &[u8] = b"da65: input is empty\n";
 
+/// A refusal writes nothing on the output, not even no byte: its writer would fail.
 #[test]
 fn messages_that_fail_or_take_none(rt: HostRuntime) -> Result<(), Fail> {
     for fault in FAULTS {
         for room in 0..EMPTY_MESSAGE.len() {
-            let mut listing = Vec::new(rt.alloc());
             let mut messages = Short::new(rt.alloc(), room, fault);
-            let result = run(
+            let result = run_on(
                 rt.alloc(),
                 &named(rt.alloc(), None)?,
                 &[],
-                &[],
-                &mut Told::new([].as_slice()),
-                &mut Told::new(&mut listing),
-                &mut Told::new(&mut messages),
+                [].as_slice(),
+                Short::new(rt.alloc(), 0, fault),
+                &mut messages,
             );
             assert_eq!(rt; result, Err(RunFault::Messages), "after {room}");
             assert_eq!(rt; messages.later(), 0, "after {room}");
-            assert!(rt; listing.is_empty());
             assert_eq!(rt;
                 messages.bytes.as_slice(),
                 &EMPTY_MESSAGE[..room],
@@ -149,14 +162,13 @@ fn a_warning_that_fails_or_takes_none(rt: HostRuntime) -> Result<(), Fail> {
         for room in 0..WARNING.len() {
             let mut listing = Vec::new(rt.alloc());
             let mut messages = Short::new(rt.alloc(), room, fault);
-            let result = run(
+            let result = run_on(
                 rt.alloc(),
                 &named(rt.alloc(), Some(START))?,
                 SKIPPING,
-                &[],
-                &mut Told::new([0xEA, 0x20, 0x30, 0xEA].as_slice()),
-                &mut Told::new(&mut listing),
-                &mut Told::new(&mut messages),
+                [0xEA, 0x20, 0x30, 0xEA].as_slice(),
+                &mut listing,
+                &mut messages,
             );
             assert_eq!(rt; result, Err(RunFault::Messages), "after {room}");
             assert_eq!(rt; messages.later(), 0, "after {room}");
@@ -173,14 +185,13 @@ fn a_listing_that_fails_has_no_warning(rt: HostRuntime) -> Result<(), Fail> {
     for room in 0..SKIPPED_LISTING.len() {
         let mut out = Short::new(rt.alloc(), room, Fault::Fails(ErrorKind::Other));
         let mut messages = Vec::new(rt.alloc());
-        let result = run(
+        let result = run_on(
             rt.alloc(),
             &named(rt.alloc(), Some(START))?,
             SKIPPING,
-            &[],
-            &mut Told::new([0xEA, 0x20, 0x30, 0xEA].as_slice()),
-            &mut Told::new(&mut out),
-            &mut Told::new(&mut messages),
+            [0xEA, 0x20, 0x30, 0xEA].as_slice(),
+            &mut out,
+            &mut messages,
         );
         assert_eq!(rt; result, Err(RunFault::Write), "after {room}");
         assert_eq!(rt;

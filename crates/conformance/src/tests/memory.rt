@@ -2,8 +2,8 @@
 use crate::heap::Refusing;
 use crate::tests::devices::Tape;
 use crate::tests::refusals::{MANY, Refusals};
-use crate::tests::runs::{THREE, THREE_LISTING, named, run_over};
-use da65::{RunFault, Status, Told, run};
+use crate::tests::runs::{THREE, THREE_LISTING, named, run_on, run_over};
+use da65::{RunFault, Status};
 use std::alloc::{AllocError, Global};
 use std::io::ErrorKind;
 use std::test::Fail;
@@ -59,22 +59,13 @@ fn allocations(
     fails: bool,
 ) -> Result<(u64, Result<Status, RunFault>), AllocError> {
     let heap = Refusing::after(alloc, u64::MAX);
-    let mut listing = Vec::new(alloc);
-    let mut messages = Vec::new(alloc);
+    let options = named(alloc, None)?;
     let tape = if fails {
         Tape::failing(image, image.len(), ErrorKind::Other)
     } else {
         Tape::new(image, 1)
     };
-    let result = run(
-        &heap,
-        &named(alloc, None)?,
-        &[],
-        &[],
-        &mut Told::new(tape),
-        &mut Told::new(&mut listing),
-        &mut Told::new(&mut messages),
-    );
+    let result = run_on(&heap, &options, &[], tape, Vec::new(alloc), Vec::new(alloc));
     Ok((u64::MAX - heap.left(), result))
 }
 

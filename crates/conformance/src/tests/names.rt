@@ -270,14 +270,14 @@ fn branches_without_end(rt: HostRuntime) -> Result<(), Fail> {
 
 /// Random numbers, the same at each run.
 #[derive(Drop)]
-struct Random {
-    state: u64,
+pub struct Random {
+    pub state: u64,
 }
 
 impl Random {
     ghost use Rattle.std.specs.Prelude.{◌<◌};
 
-    fn below(&mut self, limit: u32) -> u32
+    pub fn below(&mut self, limit: u32) -> u32
         requires { 0 < limit }
         ensures { result < limit }
     {
@@ -300,7 +300,7 @@ const TYPES: [&str; 7] = [
 ];
 
 /// Groups RANGE with random sizes and types, from an address on.
-fn random_ranges(alloc: Global, random: &mut Random, start: u32) -> Result<String, AllocError> {
+pub fn random_ranges(alloc: Global, random: &mut Random, start: u32) -> Result<String, AllocError> {
     let mut info = String::new(alloc);
     let mut at = start;
     for _ in 0..40 {
@@ -338,7 +338,7 @@ fn random_labels(alloc: Global, random: &mut Random, start: u32) -> Result<Strin
 }
 
 /// An image of random bytes.
-fn random_image(alloc: Global, random: &mut Random, size: u32) -> Result<Vec<u8>, AllocError> {
+pub fn random_image(alloc: Global, random: &mut Random, size: u32) -> Result<Vec<u8>, AllocError> {
     let mut image = Vec::new(alloc);
     for _ in 0..size {
         image.push(random.below(256) as u8)?;

@@ -1,6 +1,7 @@
-// Runs over memory.
+// Runs over memory, and over devices.
 use da65::{Options, RunFault, Status, Told, run};
 use std::alloc::{AllocError, Allocator, Global};
+use std::io::{Read, Write};
 
 /// What every listing of the 6502 begins with.
 pub const HEADER: &[u8] = b"; da65 listing\n\n        .setcpu \"6502\"\n\n";
@@ -47,18 +48,30 @@ pub fn run_with<A: Allocator + Copy>(
 ) -> Ran {
     let mut listing = Vec::new(alloc);
     let mut messages = Vec::new(alloc);
-    let result = run(
-        heap,
-        options,
-        info,
-        &[],
-        &mut Told::new(image),
-        &mut Told::new(&mut listing),
-        &mut Told::new(&mut messages),
-    );
+    let result = run_on(heap, options, info, image, &mut listing, &mut messages);
     Ran {
         result,
         listing,
         messages,
     }
+}
+
+/// The same over these devices.
+pub fn run_on<A: Allocator + Copy, R: Read + Drop, W: Write + Drop, M: Write + Drop>(
+    heap: A,
+    options: &Options,
+    info: &[u8],
+    input: R,
+    listing: W,
+    messages: M,
+) -> Result<Status, RunFault> {
+    run(
+        heap,
+        options,
+        info,
+        &[],
+        &mut Told::new(input),
+        &mut Told::new(listing),
+        &mut Told::new(messages),
+    )
 }

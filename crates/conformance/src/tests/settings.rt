@@ -2,8 +2,8 @@
 use crate::heap::Refusing;
 use crate::tests::devices::Endless;
 use crate::tests::refusals::{MANY, Refusals};
-use crate::tests::runs::{HEADER, THREE, THREE_LISTING, named, run_with};
-use da65::{Options, RunFault, Status, Told, run};
+use crate::tests::runs::{HEADER, THREE, THREE_LISTING, named, run_on, run_with};
+use da65::{Options, RunFault, Status};
 use std::alloc::{AllocError, Global};
 use std::test::Fail;
 use stmt65::assemble;
@@ -274,14 +274,13 @@ fn no_more_is_read_than_asked_for(rt: HostRuntime) -> Result<(), Fail> {
         let mut listing = Vec::new(rt.alloc());
         let mut messages = Vec::new(rt.alloc());
         let mut reader = Endless { given: 0 };
-        let result = run(
+        let result = run_on(
             rt.alloc(),
             &named(rt.alloc(), None)?,
             info.as_bytes(),
-            &[],
-            &mut Told::new(&mut reader),
-            &mut Told::new(&mut listing),
-            &mut Told::new(&mut messages),
+            &mut reader,
+            &mut listing,
+            &mut messages,
         );
         let status = if done { Status::Done } else { Status::Refused };
         assert_eq!(rt; result, Ok(status), "{info}");

@@ -49,6 +49,18 @@ fn each_option(rt: HostRuntime) -> Result<(), Fail> {
         "$C000",
         "--cpu",
         "6502",
+        "--comments",
+        "4",
+        "--mnemonic-column",
+        "1",
+        "--argument-column",
+        "2",
+        "--comment-column",
+        "120",
+        "--text-column",
+        "003",
+        "--label-break",
+        "0",
         "--hexoffs",
         "-h",
         "-V",
@@ -59,6 +71,12 @@ fn each_option(rt: HostRuntime) -> Result<(), Fail> {
     assert_eq!(rt; name(&options.output), Some("a.s"));
     assert_eq!(rt; options.start, Some(0xC000));
     assert_eq!(rt; options.cpu, Some(Cpu::M6502));
+    assert_eq!(rt; options.comments, Some(4));
+    assert_eq!(rt; options.mnemonic_column, Some(1));
+    assert_eq!(rt; options.argument_column, Some(2));
+    assert_eq!(rt; options.comment_column, Some(120));
+    assert_eq!(rt; options.text_column, Some(3));
+    assert_eq!(rt; options.label_break, Some(0));
     assert!(rt; options.hexoffs && options.help && options.version);
     assert_eq!(rt; name(&options.input), Some("a.bin"));
 
@@ -93,6 +111,9 @@ fn each_option(rt: HostRuntime) -> Result<(), Fail> {
     let options = options_on(rt.alloc(), &[])??;
     assert!(rt; options.info.is_none() && options.input.is_none() && options.output.is_none());
     assert!(rt; options.start.is_none() && options.cpu.is_none());
+    assert!(rt; options.comments.is_none() && options.label_break.is_none());
+    assert!(rt; options.mnemonic_column.is_none() && options.argument_column.is_none());
+    assert!(rt; options.comment_column.is_none() && options.text_column.is_none());
     assert!(rt; !options.help && !options.version);
     Ok(())
 }
@@ -116,6 +137,22 @@ fn refusals(rt: HostRuntime) -> Result<(), Fail> {
         (UsageFault::OutOfRange, &["--cpu", "6809"]),
         (UsageFault::OutOfRange, &["--cpu", "65CE02"]),
         (UsageFault::OutOfRange, &["--cpu", ""]),
+        (UsageFault::BadNumber, &["--comments", ""]),
+        (UsageFault::BadNumber, &["--comments", "$1"]),
+        (UsageFault::BadNumber, &["--text-column", "0x10"]),
+        (UsageFault::BadNumber, &["--label-break", "1 "]),
+        (UsageFault::OutOfRange, &["--comments", "5"]),
+        (UsageFault::OutOfRange, &["--mnemonic-column", "0"]),
+        (UsageFault::OutOfRange, &["--argument-column", "121"]),
+        (UsageFault::OutOfRange, &["--comment-column", "257"]),
+        (UsageFault::OutOfRange, &["--text-column", "4294967297"]),
+        (UsageFault::OutOfRange, &["--label-break", "121"]),
+        // in the order of the help text
+        (UsageFault::OutOfRange, &["--label-break", "x", "--comments", "5"]),
+        (UsageFault::BadNumber, &["--text-column", "0", "--comment-column", "x"]),
+        (UsageFault::OutOfRange, &["--comments", "x", "--cpu", "6809"]),
+        (UsageFault::Words, &["--comments", "1", "--comments", "1"]),
+        (UsageFault::Words, &["--comments"]),
         (UsageFault::Words, &["a.bin", "b.bin"]),
         (UsageFault::Words, &["-o", "x", "-o", "y"]),
         (UsageFault::Words, &["-i", "x", "--info", "x"]),
@@ -146,6 +183,12 @@ Usage: da65 [options] [inputfile]
   -o name                  output file
   -S, --start-addr addr    start address
   --cpu type               6502, 65SC02 or 65C02
+  --comments n             comment level, 0 to 4
+  --mnemonic-column n      column of mnemonics
+  --argument-column n      column of operands
+  --comment-column n       column of remarks
+  --text-column n          column of characters
+  --label-break n          longest label before a line break
   --hexoffs                offsets in hexadecimal
   -h, --help               this text
   -V, --version            version

@@ -9,7 +9,8 @@ use Rattle.info65.specs.Code.Names.{given_seen}
 use Rattle.info65.specs.Groups.{GroupView}
 use Rattle.info65.specs.Labels.{named_at, names_said}
 use Rattle.info65.specs.Ranges.{has_address, ranges_of}
-use Rattle.info65.specs.Views.{NameView}
+use Rattle.info65.specs.Segments.{contains, segments_of}
+use Rattle.info65.specs.Views.{NameView, SegmentView}
 use Rattle.info65.specs.declared.index.Index.{Index}
 use Rattle.info65.specs.declared.name.Given.{Given}
 use Rattle.info65.specs.declared.range.RangeSpec.{RangeSpec}
@@ -40,3 +41,14 @@ Indexes ranges names i = IsIndex ranges names i.ranged.items (λ a. tree.get nat
 -- the index is that of what these groups say
 abbrev pub IndexesGroups : {Z : Type 0} → List GroupView → Index Z → Type 0
 IndexesGroups groups i = Indexes (ranges_of groups) (names_said groups) i
+
+-- the cells say which addresses belong to a segment
+pub record AreMarked (segments : List SegmentView) (table : List Bool) : Type 0 where
+  pub ordered : All (λ s. s.first ≤ s.last) segments
+  pub size : length table ≡ 0x1_0000
+  pub marked : (a : ℕ) → a < 0x1_0000 → get_or table a false ≡ list_any (λ s. contains s a) segments
+
+-- the index and the cells are those of what these groups say
+pub record IsIndexed {Z : Type 0} (groups : List GroupView) (i : Index Z) (table : List Bool) : Type 0 where
+  pub index : IndexesGroups groups i
+  pub marks : AreMarked (segments_of groups) table

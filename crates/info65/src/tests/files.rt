@@ -97,7 +97,7 @@ const REFUSED: &[(&str, u32, InfoFaultKind)] = &[
     ("GLOBAL { STARTADDR GLOBAL; }", 1, InfoFaultKind::Expected),
     ("GLOBAL GLOBAL", 1, InfoFaultKind::Expected),
     // groups and attributes that are not known
-    ("SEGMENT { START 0; };", 1, InfoFaultKind::UnknownGroup),
+    ("SEGMENTS { START 0; };", 1, InfoFaultKind::UnknownGroup),
     ("LABEL { ADDR 0; };", 1, InfoFaultKind::Missing),
     // booleans
     ("GLOBAL { HEXOFFS 2; };", 1, InfoFaultKind::Expected),
@@ -109,7 +109,7 @@ const REFUSED: &[(&str, u32, InfoFaultKind)] = &[
         InfoFaultKind::GivenTwice,
     ),
     (
-        "GLOBAL { COMMENTS 1; };",
+        "GLOBAL { COMMENT \"ab\"; };",
         1,
         InfoFaultKind::UnknownAttribute,
     ),

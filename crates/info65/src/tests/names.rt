@@ -104,7 +104,7 @@ const REFUSED: &[(&str, u32, InfoFaultKind)] = &[
         InfoFaultKind::ReservedName,
     ),
     (
-        "LABEL { COMMENT \"ab\"; };",
+        "LABEL { START 1; };",
         1,
         InfoFaultKind::UnknownAttribute,
     ),

@@ -113,7 +113,7 @@ const REFUSED: &[(&str, u32, InfoFaultKind)] = &[
     ),
     // attributes that the group does not have
     (
-        "RANGE { COMMENT \"ab\"; };",
+        "RANGE { ADDR 1; };",
         1,
         InfoFaultKind::UnknownAttribute,
     ),

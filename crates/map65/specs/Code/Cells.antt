@@ -1,11 +1,14 @@
--- The cells of a map, one for each address: its role, and the length of the item that begins there, in one number.
-use Rattle.std.specs.Prelude.{◌≡◌, ◌==◌, ◌+◌, ◌*◌, ◌/◌, ◌%◌, ◌<◌, ◌&&◌, ℕ, Bool, true, false, List, length, slice_index, Option, Some, None, if◌then◌else◌}
+-- The cells of a map, one for each address: its role, the length of the item that begins there, whether it has a name, and whether a
+-- segment border stands before it, in one number.
+use Rattle.std.specs.Prelude.{◌≡◌, ◌==◌, ◌+◌, ◌*◌, ◌/◌, ◌%◌, ◌<◌, ◌&&◌, not, ℕ, Bool, true, false, List, length, slice_index, Option, Some, None, if◌then◌else◌}
+use Rattle.info65.specs.Views.{SegmentView}
 use Rattle.info65.specs.declared.range.RangeType.{RangeType}
 use Rattle.info65.specs.declared.range.RangeType.TheVariants as role
 use Rattle.map65.specs.Items.{item_len}
 use Rattle.map65.specs.MapView.{MapView}
 use Rattle.map65.specs.Names.{has_name}
 use Rattle.map65.specs.Roles.{is_wide, role_at}
+use Rattle.map65.specs.Segments.{is_border}
 
 -- ---- one cell
 
@@ -68,7 +71,19 @@ has_bit c = c / 128 % 2 == 1
 unfoldable pub with_bit : ℕ → ℕ
 with_bit c = if has_bit c then c else c + 128
 
--- while items are marked, the bit says that a given name has the address as its own; in a table whose entries have more than one byte
+-- the bit for a segment border before the address
+unfoldable pub has_border : ℕ → Bool
+has_border c = c / 256 % 2 == 1
+
+-- the cell with its bit for a border
+unfoldable pub with_border : ℕ → ℕ
+with_border c = c % 256 + 256
+
+-- the address of the second cell lies in the run of the address before it, which is that of the first
+unfoldable pub are_one_run : ℕ → ℕ → Bool
+are_one_run c d = is_same_role c d && (not (d % 16 == 0) && not (has_border d))
+
+-- while items are marked, the bit for a name says that a given name has the address as its own; in a table whose entries have more than one byte
 -- it then cuts the run
 abbrev pub is_cut : ℕ → Bool
 is_cut c = has_bit c && is_wide_cell c
@@ -79,23 +94,28 @@ is_cut c = has_bit c && is_wide_cell c
 abbrev pub lay_at : MapView → ℕ → ℕ
 lay_at m a = cell_of (role_at m a) (item_len m a)
 
--- the lower seven bits of each cell hold the role and the length
-pub record IsLaid (m : MapView) (cells : List ℕ) : Type 0 where
-  pub count : length cells ≡ 65536
-  pub each : (a : ℕ) → a < 65536 → slice_index cells a % 128 ≡ lay_at m a
-
 abbrev pub bit : Bool → ℕ
 bit false = 0
 bit true = 1
 
--- the upper bits of each cell hold the result of a test
+-- the bits above the name's say where borders stand
+pub record HasBorders (segments : List SegmentView) (cells : List ℕ) : Type 0 where
+  pub each : (a : ℕ) → a < 65536 → slice_index cells a / 256 ≡ bit (is_border segments a)
+
+-- the lower seven bits of each cell hold the role and the length, and those above the name's the border
+pub record IsLaid (m : MapView) (cells : List ℕ) : Type 0 where
+  pub count : length cells ≡ 65536
+  pub each : (a : ℕ) → a < 65536 → slice_index cells a % 128 ≡ lay_at m a
+  pub borders : HasBorders m.info.segments cells
+
+-- the bit for a name holds the result of a test in each cell
 pub record HasBits (test : ℕ → Bool) (cells : List ℕ) : Type 0 where
-  pub each : (a : ℕ) → a < 65536 → slice_index cells a / 128 ≡ bit (test a)
+  pub each : (a : ℕ) → a < 65536 → slice_index cells a / 128 % 2 ≡ bit (test a)
 
 abbrev pub nowhere : ℕ → Bool
 nowhere a = false
 
--- the cells of a map: role, length, and whether the address has a name
+-- the cells of a map: role, length, border, and whether the address has a name
 pub record AreCells (m : MapView) (cells : List ℕ) : Type 0 where
   pub laid : IsLaid m cells
   pub bits : HasBits (has_name m) cells

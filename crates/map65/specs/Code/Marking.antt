@@ -1,5 +1,5 @@
--- Cells while they are written: first the roles, range by range, then the lengths, item by item.
-use Rattle.std.specs.Prelude.{◌≡◌, ◌-◌, ◌%◌, ◌<◌, ◌≤◌, ◌&&◌, ◌||◌, not, ℕ, Bool, true, nat_le, nat_lt, List, length, slice_index, Option, Some, None, is_some, if◌then◌else◌}
+-- Cells while they are written: first the roles, range by range, then the borders, segment by segment, then the lengths, item by item.
+use Rattle.std.specs.Prelude.{◌≡◌, ◌-◌, ◌/◌, ◌%◌, ◌==◌, ◌<◌, ◌≤◌, ◌&&◌, ◌||◌, not, ℕ, Bool, true, false, nat_le, nat_lt, List, length, slice_index, Option, Some, None, is_some, if◌then◌else◌}
 use Rattle.std.specs.List.{list_any}
 use Rattle.info65.specs.Names.{covering_below, name_at}
 use Rattle.info65.specs.Views.{NameView}
@@ -11,7 +11,7 @@ use Rattle.map65.specs.MapView.{MapView}
 use Rattle.map65.specs.Names.{refers}
 use Rattle.map65.specs.Roles.{role_at, role_in}
 use Rattle.map65.specs.Spans.{addresses}
-use Rattle.map65.specs.Code.Cells.{cell_of, is_cut, is_same_role, lay_at}
+use Rattle.map65.specs.Code.Cells.{HasBorders, are_one_run, cell_of, is_cut, lay_at, with_border}
 
 -- the cell of the role at the addresses from `from` to before `to`, else what it was
 unfoldable pub painted : ℕ → ℕ → RangeType → ℕ → ℕ → ℕ
@@ -29,22 +29,29 @@ pub record ArePainted (image : ImageView) (ranges : List RangeSpec) (cells : Lis
   pub count : length cells ≡ 65536
   pub each : (a : ℕ) → a < 65536 → slice_index cells a ≡ cell_of (role_by image ranges a) 0
 
--- the lower seven bits of all cells hold the role, and those of the cells below an address the length too
+-- the cell with its bit for a border, if one stands there
+unfoldable pub bordered : Bool → ℕ → ℕ
+bordered true c = with_border c
+bordered false c = c
+
+-- the lower seven bits of all cells hold the role, those of the cells below an address the length too, and the highest the border
 pub record AreMarkedBelow (m : MapView) (at : ℕ) (cells : List ℕ) : Type 0 where
   pub count : length cells ≡ 65536
   pub marked : (a : ℕ) → a < 65536 → a < at → slice_index cells a % 128 ≡ lay_at m a
   pub plain : (a : ℕ) → a < 65536 → at ≤ a → slice_index cells a % 128 ≡ cell_of (role_at m a) 0
+  pub borders : HasBorders m.info.segments cells
 
 -- the address lies in the piece of the one before it, by their cells
 unfoldable pub is_joined_in : List ℕ → ℕ → Bool
-is_joined_in cells a = nat_lt a (length cells) && (is_same_role (slice_index cells (a - 1)) (slice_index cells a) && not (is_cut (slice_index cells a)))
+is_joined_in cells a = nat_lt a (length cells) && (are_one_run (slice_index cells (a - 1)) (slice_index cells a) && not (is_cut (slice_index cells a)))
 
 -- ---- names
 
--- the lower seven bits of all cells stay
+-- all bits but those for names stay
 pub record KeepsLay (old new : List ℕ) : Type 0 where
   pub count : length new ≡ length old
   pub each : (a : ℕ) → a < 65536 → slice_index new a % 128 ≡ slice_index old a % 128
+  pub borders : (a : ℕ) → a < 65536 → slice_index new a / 256 ≡ slice_index old a / 256
 
 -- one test or the other
 abbrev pub also : (ℕ → Bool) → (ℕ → Bool) → ℕ → Bool

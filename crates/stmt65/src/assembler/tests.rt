@@ -436,22 +436,20 @@ fn each_byte_value_in_a_table(rt: HostRuntime) -> Result<(), Fail> {
     Ok(())
 }
 
-/// A label on each line, and a branch to it: 32,745 names.
+/// 32,745 labels, each on a line of its own, and the address of the last one.
 #[test]
 fn as_many_names_as_lines(rt: HostRuntime) -> Result<(), Fail> {
     let a = rt.alloc();
     let mut text = Vec::new(a);
     for n in 0..32745u16 {
         put_label(&mut text, n)?;
-        text.extend_from_slice(b": bne ")?;
-        put_label(&mut text, n)?;
-        text.push(b'\n')?;
+        text.extend_from_slice(b":.byte 0\n")?;
     }
-    let found = assemble(a, text.as_slice(), 0)?;
-    assert_eq!(rt; found.len(), 65490);
-    for pair in found.chunks(2) {
-        assert_eq!(rt; pair, [0xD0, 0xFE].as_slice());
-    }
+    text.extend_from_slice(b".addr ")?;
+    put_label(&mut text, 32744)?;
+    let found = assemble(a, text.as_slice(), 0x1000)?;
+    assert_eq!(rt; found.len(), 32747);
+    assert!(rt; found.ends_with(b"\xE8\x8F"));
     Ok(())
 }
 
@@ -461,11 +459,11 @@ fn as_many_lines_as_bytes(rt: HostRuntime) -> Result<(), Fail> {
     let a = rt.alloc();
     let mut text = Vec::new(a);
     for _ in 0..65536u32 {
-        text.extend_from_slice(b"sed\n")?;
+        text.extend_from_slice(b".byte 0\n")?;
     }
     let found = assemble(a, text.as_slice(), 0)?;
     assert_eq!(rt; found.len(), 65536);
-    text.extend_from_slice(b"sed\n")?;
+    text.extend_from_slice(b".byte 0\n")?;
     let fault = assemble(a, text.as_slice(), 0).err();
     let past = AsmFault {
         line: 65537,

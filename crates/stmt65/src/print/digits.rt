@@ -2,7 +2,7 @@
 
 ghost use Rattle.std.specs.Prelude.{◌≡◌, ◌+◌, ◌<◌, ◌≤◌, ◌++◌, decimal};
 ghost use Rattle.arrayvec.specs.ArrayVec.{array_vec_len};
-ghost use Rattle.stmt65.specs.Digits.{hex_digit, hex2, hex4, offset_text};
+ghost use Rattle.stmt65.specs.Digits.{hex_digit, digits2, digits4, hex2, hex4, offset_text};
 ghost use Rattle.stmt65.specs.Statements.{distance_text};
 
 use super::Line;
@@ -20,13 +20,30 @@ fn hex_digit(digit: u8) -> u8
     }
 }
 
+pub(super) fn put_digits2(out: &mut Line, number: u8)
+    requires { array_vec_len out.old + 2 ≤ 512 }
+    ensures { out.new.items ≡ out.old.items ++ digits2 number }
+{
+    out.push(hex_digit(number / 16));
+    out.push(hex_digit(number % 16));
+}
+
+pub(super) fn put_digits4(out: &mut Line, number: u16)
+    requires { array_vec_len out.old + 4 ≤ 512 }
+    ensures { out.new.items ≡ out.old.items ++ digits4 number }
+{
+    out.push(hex_digit((number / 4096 % 16) as u8));
+    out.push(hex_digit((number / 256 % 16) as u8));
+    out.push(hex_digit((number / 16 % 16) as u8));
+    out.push(hex_digit((number % 16) as u8));
+}
+
 pub(super) fn put_hex2(out: &mut Line, number: u8)
     requires { array_vec_len out.old + 3 ≤ 512 }
     ensures { out.new.items ≡ out.old.items ++ hex2 number }
 {
     out.push(b'$');
-    out.push(hex_digit(number / 16));
-    out.push(hex_digit(number % 16));
+    put_digits2(out, number);
 }
 
 pub(super) fn put_hex4(out: &mut Line, number: u16)
@@ -34,10 +51,7 @@ pub(super) fn put_hex4(out: &mut Line, number: u16)
     ensures { out.new.items ≡ out.old.items ++ hex4 number }
 {
     out.push(b'$');
-    out.push(hex_digit((number / 4096 % 16) as u8));
-    out.push(hex_digit((number / 256 % 16) as u8));
-    out.push(hex_digit((number / 16 % 16) as u8));
-    out.push(hex_digit((number % 16) as u8));
+    put_digits4(out, number);
 }
 
 fn put_decimal(out: &mut Line, number: u16)

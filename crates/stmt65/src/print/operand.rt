@@ -26,42 +26,42 @@ pub(super) fn put_named(out: &mut Line, hexoffs: bool, name: &[u8], offset: u16)
 }
 
 /// Appends an expression, a number in two digits.
-fn put_short(out: &mut Line, hexoffs: bool, expr: Expr)
+fn put_short(out: &mut Line, hexoffs: bool, expr: &Expr)
     requires room { array_vec_len out.old ≤ 400 }
-    requires short { IsShort (expr_seen expr) }
-    ensures items { out.new.items ≡ out.old.items ++ short_text hexoffs (expr_seen expr.entry) }
+    requires short { IsShort (expr_seen expr.now) }
+    ensures items { out.new.items ≡ out.old.items ++ short_text hexoffs (expr_seen expr.now) }
     ensures len { array_vec_len out.new ≤ array_vec_len out.old + 86 }
-    ensures width { IsWordWide (expr_seen expr.entry) }
+    ensures width { IsWordWide (expr_seen expr.now) }
 {
-    match expr {
+    match *expr {
         Expr::Number(number) => put_hex2(out, number as u8),
         Expr::Name(name, offset) => put_named(out, hexoffs, name, offset),
     }
 }
 
 /// Appends an expression, a number in four digits.
-fn put_long(out: &mut Line, hexoffs: bool, expr: Expr)
+fn put_long(out: &mut Line, hexoffs: bool, expr: &Expr)
     requires room { array_vec_len out.old ≤ 400 }
-    requires long { IsLong (expr_seen expr) }
-    ensures items { out.new.items ≡ out.old.items ++ long_text hexoffs (expr_seen expr.entry) }
+    requires long { IsLong (expr_seen expr.now) }
+    ensures items { out.new.items ≡ out.old.items ++ long_text hexoffs (expr_seen expr.now) }
     ensures len { array_vec_len out.new ≤ array_vec_len out.old + 86 }
-    ensures width { IsWordWide (expr_seen expr.entry) }
+    ensures width { IsWordWide (expr_seen expr.now) }
 {
-    match expr {
+    match *expr {
         Expr::Number(number) => put_hex4(out, number),
         Expr::Name(name, offset) => put_named(out, hexoffs, name, offset),
     }
 }
 
 /// Appends an expression between two texts, a number in two digits.
-fn put_short_between(out: &mut Line, hexoffs: bool, before: &[u8], expr: Expr, after: &[u8])
+fn put_short_between(out: &mut Line, hexoffs: bool, before: &[u8], expr: &Expr, after: &[u8])
     requires room { array_vec_len out.old ≤ 300 }
-    requires short { IsShort (expr_seen expr) }
+    requires short { IsShort (expr_seen expr.now) }
     requires before_fits { length before.now ≤ 3 }
     requires after_fits { length after.now ≤ 3 }
-    ensures items { out.new.items ≡ out.old.items ++ (before.now ++ short_text hexoffs (expr_seen expr.entry) ++ after.now) }
+    ensures items { out.new.items ≡ out.old.items ++ (before.now ++ short_text hexoffs (expr_seen expr.now) ++ after.now) }
     ensures len { array_vec_len out.new ≤ array_vec_len out.old + 92 }
-    ensures width { IsWordWide (expr_seen expr.entry) }
+    ensures width { IsWordWide (expr_seen expr.now) }
 {
     put(out, before);
     put_short(out, hexoffs, expr);
@@ -69,14 +69,14 @@ fn put_short_between(out: &mut Line, hexoffs: bool, before: &[u8], expr: Expr, a
 }
 
 /// Appends an expression between two texts, a number in four digits.
-fn put_long_between(out: &mut Line, hexoffs: bool, before: &[u8], expr: Expr, after: &[u8])
+fn put_long_between(out: &mut Line, hexoffs: bool, before: &[u8], expr: &Expr, after: &[u8])
     requires room { array_vec_len out.old ≤ 300 }
-    requires long { IsLong (expr_seen expr) }
+    requires long { IsLong (expr_seen expr.now) }
     requires before_fits { length before.now ≤ 3 }
     requires after_fits { length after.now ≤ 3 }
-    ensures items { out.new.items ≡ out.old.items ++ (before.now ++ long_text hexoffs (expr_seen expr.entry) ++ after.now) }
+    ensures items { out.new.items ≡ out.old.items ++ (before.now ++ long_text hexoffs (expr_seen expr.now) ++ after.now) }
     ensures len { array_vec_len out.new ≤ array_vec_len out.old + 92 }
-    ensures width { IsWordWide (expr_seen expr.entry) }
+    ensures width { IsWordWide (expr_seen expr.now) }
 {
     put(out, before);
     put_long(out, hexoffs, expr);
@@ -92,12 +92,12 @@ fn prefix(absolute: bool) -> &'static [u8]
 }
 
 #[tactic(auto, unfolding(crate::specs::Operands::operand_text))]
-fn put_one(out: &mut Line, hexoffs: bool, mode: Mode, absolute: bool, expr: Expr)
+fn put_one(out: &mut Line, hexoffs: bool, mode: Mode, absolute: bool, expr: &Expr)
     requires room { array_vec_len out.old ≤ 200 }
-    requires written { IsWrittenIn mode (one (expr_seen expr)) }
-    ensures items { out.new.items ≡ out.old.items ++ operand_text hexoffs mode absolute (one (expr_seen expr.entry)) }
+    requires written { IsWrittenIn mode (one (expr_seen expr.now)) }
+    ensures items { out.new.items ≡ out.old.items ++ operand_text hexoffs mode absolute (one (expr_seen expr.now)) }
     ensures len { array_vec_len out.new ≤ array_vec_len out.old + 200 }
-    ensures width { AreWordWide (one (expr_seen expr.entry)) }
+    ensures width { AreWordWide (one (expr_seen expr.now)) }
 {
     match mode {
         Mode::Imp | Mode::Acc | Mode::Zprel => {}
@@ -134,13 +134,13 @@ pub(super) fn put_operands(
     hexoffs: bool,
     mode: Mode,
     absolute: bool,
-    operands: Operands,
+    operands: &Operands,
 )
     requires room { array_vec_len out.old ≤ 200 }
-    requires written { IsWrittenIn mode (operands_seen operands) }
-    ensures items { out.new.items ≡ out.old.items ++ operand_text hexoffs mode absolute (operands_seen operands.entry) }
+    requires written { IsWrittenIn mode (operands_seen operands.now) }
+    ensures items { out.new.items ≡ out.old.items ++ operand_text hexoffs mode absolute (operands_seen operands.now) }
     ensures len { array_vec_len out.new ≤ array_vec_len out.old + 200 }
-    ensures width { AreWordWide (operands_seen operands.entry) }
+    ensures width { AreWordWide (operands_seen operands.now) }
 {
     match operands {
         Operands::None => put(out, bare(mode)),

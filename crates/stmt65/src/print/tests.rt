@@ -1,4 +1,4 @@
-ghost use Rattle.std.specs.Prelude.{◌≡◌};
+ghost use Rattle.std.specs.Prelude.{◌≤◌, length};
 ghost use Rattle.stmt65.specs.Printable.{IsPrintable};
 ghost use Rattle.stmt65.specs.Views.{statement_seen};
 
@@ -16,7 +16,8 @@ fn shows(
     want: &[u8],
     bytes: &[u8],
 ) -> Result<(), Fail>
-    requires { IsPrintable (statement_seen statement.now) }
+    requires printable { IsPrintable (statement_seen statement.now) }
+    requires few { length bytes.now ≤ 16 }
 {
     let remarks = Remarks {
         level: Level::default(),
@@ -56,7 +57,8 @@ fn shows_everywhere(
     operands: &str,
     bytes: &[u8],
 ) -> Result<(), Fail>
-    requires { IsPrintable (statement_seen statement.now) }
+    requires printable { IsPrintable (statement_seen statement.now) }
+    requires few { length bytes.now ≤ 16 }
 {
     let first = Column::try_from(1)?;
     let last = Column::try_from(120)?;

@@ -8,6 +8,9 @@ returns-in_default g c = sym (outside-stops _ _ c.requires.names (sym c.role_of.
 pub is_whole-requires-clause-role : goal.is_whole-requires-clause-role
 is_whole-requires-clause-role g c = (role-some _ _ _ (sym c.role_of.ensures ∙ c.in-Some.is)).1
 
+pub overflow_cast-address-2 : goal.overflow_cast-address-2
+overflow_cast-address-2 g c = let low : c.args.address < 65536 = role-low _ _ _ c.requires.placed (sym c.role_of.ensures ∙ c.in-Some.is) in search rules
+
 pub overflow_cast-address : goal.overflow_cast-address
 overflow_cast-address g c = let low : c.args.address < 65536 = role-low _ _ _ c.requires.placed (sym c.role_of.ensures ∙ c.in-Some.is) in search rules
 

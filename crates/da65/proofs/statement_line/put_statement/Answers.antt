@@ -3,4 +3,4 @@ use Rattle.da65.proofs.statement_line.put_statement.Goals as goal
 
 pub returns : goal.returns
 unfolding Rattle.da65.specs.Listing.line_text
-returns c = rw (c.put_line.ensures.line, c.default-2.ensures, c.default.ensures) refl
+returns c = rw c.put_line.ensures.line refl

@@ -9,3 +9,7 @@ returns-in-Range g c = rw c.in-Range.is refl
 pub returns-in-Label : goal.returns-in-Label
 unfolding has
 returns-in-Label g c = rw c.in-Label.is refl
+
+pub returns-in-Segment : goal.returns-in-Segment
+unfolding has
+returns-in-Segment g c = rw c.in-Segment.is refl

@@ -1,5 +1,5 @@
 use Rattle.std.proofs.Common.{◌≡◌, ◌-◌, ◌≤◌}
-use Rattle.map65.specs.Passing.{Takes}
+use Rattle.map65.specs.Code.Passing.{Takes}
 use Rattle.map65.proofs.reading.pass_over.Given as goal
 
 abbrev pub invariant-passes : goal.invariant-passes

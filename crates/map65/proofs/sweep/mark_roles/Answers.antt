@@ -30,6 +30,6 @@ returns g c =
     let m : MapView = record { info = c.args.info.now; image = c.args.image.now } in
     let none : c.painting.left ≡ 0 = omega (arith, c.painting-test.false) in
     record {
-      marked = none-marked m c.painting.left c.painting.cells none c.painting.invariant.painted;
-      bits = none-bits m c.painting.left c.painting.cells none c.painting.invariant.painted;
+      marked = none-marked m c.painting.left c.painting.cells c.mark_borders.new.cells none c.painting.invariant.painted c.mark_borders.ensures.count c.mark_borders.ensures.each;
+      bits = none-bits m c.painting.left c.painting.cells c.mark_borders.new.cells none c.painting.invariant.painted c.mark_borders.ensures.count c.mark_borders.ensures.each;
     }

@@ -1,7 +1,7 @@
 use Rattle.std.proofs.Common.{◌≡◌, ◌+◌, ◌-◌, ℕ, arith, true, false, ap₂}
 use Rattle.map65.specs.MapView.{MapView}
 use Rattle.map65.specs.Pieces.{are_joined, is_joined}
-use Rattle.map65.proofs.ItemLemmas.{joined-role}
+use Rattle.map65.proofs.ItemLemmas.{joined-high}
 use Rattle.map65.proofs.SweepLemmas.{joined-answer, size-cut, size-more, size-whole}
 use Rattle.map65.proofs.sweep.size_at.Goals as goal
 
@@ -25,7 +25,7 @@ loop-i-preserved g c =
     let at : ℕ = c.args.address + c.loop-i.i + 1 in
     let joined : is_joined m at ≡ true = joined-answer m c.args.address at _ c.args.cells.now c.is_joined_in.result true (omega (arith, c.from-first.ensures, c.from.ensures)) c.requires.marked c.requires.own c.requires.placed.room c.requires.low (omega arith) (omega (arith, c.loop-i.invariant.inside)) c.is_joined_in.ensures c.if-not-is_joined_in.false in
     record {
-      inside = omega (arith, (joined-role m at joined).1.1);
+      inside = omega (arith, joined-high m at joined);
       same = size-more m (c.wanted_at-wanted.result - 1) c.loop-i.i c.args.address (omega (arith, c.loop-i-test.true, c.loop-i.auto.i-end)) joined c.loop-i.invariant.same;
     }
 

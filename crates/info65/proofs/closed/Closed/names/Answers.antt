@@ -9,4 +9,4 @@ use Rattle.info65.proofs.closed.Closed.names.Goals as goal
 
 pub returns : goal.returns
 unfolding by_address
-returns g c = subst (λ (l : List NameView). Gives (λ p. p) c.names.result (Ok l)) (names_same _ _ c.self.invariant.addresses 0 0x1_0000 ∙ ap (λ (l : List GroupView). by_address (names_said l)) c.self.view_is) c.names.ensures
+returns g c = subst (λ (l : List NameView). Gives (λ p. p) c.names.result (Ok l)) (names_same _ _ c.self.invariant.index.addresses 0 0x1_0000 ∙ ap (λ (l : List GroupView). by_address (names_said l)) c.self.view_is) c.names.ensures

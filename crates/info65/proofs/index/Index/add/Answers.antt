@@ -8,7 +8,7 @@ use Rattle.info65.specs.Ranges.{ranges_of}
 use Rattle.info65.specs.Views.{NameView}
 use Rattle.info65.specs.declared.fault.InfoFaultKind.{InfoFaultKind}
 use Rattle.info65.specs.declared.range.RangeSpec.{RangeSpec}
-use Rattle.info65.proofs.IndexLemmas.{closes_label, global_said, label_fine, label_said, ok_map, range_fine, range_said}
+use Rattle.info65.proofs.IndexLemmas.{closes_label, global_said, label_fine, label_said, ok_map, range_fine, range_said, segment_said}
 use Rattle.info65.proofs.RangeLemmas.{closes_range, ordered_in}
 use Rattle.info65.proofs.index.Index.add.Goals as goal
 
@@ -17,6 +17,9 @@ add_range-requires-clause-ordered g c = ordered_in _ c.in-Ok.range (sym c.in-Ok.
 
 pub returns-in-Global-clause-done : goal.returns-in-Global-clause-done
 returns-in-Global-clause-done g c = λ before i fine. rw c.in-Global.is (global_said before (map assignment_seen c.args.given.now) _ _ _ i)
+
+pub returns-in-Segment-clause-done : goal.returns-in-Segment-clause-done
+returns-in-Segment-clause-done g c = λ before i fine. rw c.in-Segment.is (segment_said before (map assignment_seen c.args.given.now) _ _ _ i)
 
 pub returns-in-Ok-clause-done : goal.returns-in-Ok-clause-done
 returns-in-Ok-clause-done g c = λ before i fine.

@@ -1,0 +1,465 @@
+// Listings with segments, comments and columns.
+use crate::heap::Refusing;
+use crate::tests::names::{Random, random_image, random_ranges};
+use crate::tests::ranges::WARNING;
+use crate::tests::runs::{Ran, named, run_with};
+use da65::{Status, Told, options_of};
+use info65::read_info;
+use map65::{Map, read_image};
+use std::alloc::{AllocError, Global};
+use std::process::Abort;
+use std::test::Fail;
+use stmt65::assemble;
+
+/// What is written if a segment is entered again.
+const AGAIN: &[u8] = b"da65: warning: a segment is entered again\n";
+
+/// Lists an image from this start under a command line and an information file.
+fn listed(
+    alloc: Global,
+    words: &[&str],
+    info: &str,
+    start: u16,
+    image: &[u8],
+) -> Result<Ran, Fail> {
+    let mut all = Vec::new(alloc);
+    all.push(String::from_str(alloc, "da65")?)?;
+    for word in words {
+        all.push(String::from_str(alloc, word)?)?;
+    }
+    all.push(String::from_str(alloc, "image.bin")?)?;
+    let mut options = options_of(alloc, &all)?;
+    options.start = Some(start);
+    Ok(run_with(alloc, alloc, &options, info.as_bytes(), image))
+}
+
+/// The same, where no byte is skipped: the listing assembles to the image.
+fn there_and_back(
+    rt: &impl Abort,
+    alloc: Global,
+    words: &[&str],
+    info: &str,
+    start: u16,
+    image: &[u8],
+) -> Result<Ran, Fail> {
+    let ran = listed(alloc, words, info, start, image)?;
+    assert_eq!(rt; ran.result, Ok(Status::Done), "{info}");
+    let bytes = assemble(alloc, &ran.listing, start)?;
+    assert!(rt; bytes.as_slice() == image, "{info}");
+    Ok(ran)
+}
+
+/// The words of a command line, an information file, and an image at $1000; then the lines after the header, and the
+/// messages.
+struct Row {
+    words: &'static [&'static str],
+    info: &'static str,
+    image: &'static [u8],
+    body: &'static [u8],
+    messages: &'static [u8],
+}
+
+const ROWS: &[Row] = &[
+    // an instruction that a segment cuts
+    Row {
+        words: &[],
+        info: "SEGMENT { START $1001; END $1001; NAME \"DATA\"; };",
+        image: &[0xA9, 0x01],
+        body: b"        .byte   $A9\n        .segment \"DATA\"\n        .byte   $01\n",
+        messages: b"",
+    },
+    // the default is entered again
+    Row {
+        words: &[],
+        info: "SEGMENT { START $1001; END $1001; NAME \"DATA\"; };",
+        image: &[0xEA, 0xEA, 0xEA],
+        body: b"        nop\n        .segment \"DATA\"\n        nop\n        .code\n        nop\n",
+        messages: AGAIN,
+    },
+    // a segment of one name in two places
+    Row {
+        words: &[],
+        info: "SEGMENT { START $1000; END $1000; NAME \"P\"; }; SEGMENT { START $1001; END $1001; NAME \"Q\"; }; SEGMENT { START $1002; END $1002; NAME \"P\"; };",
+        image: &[0xEA, 0xEA, 0xEA],
+        body: b"        .segment \"P\"\n        nop\n        .segment \"Q\"\n        nop\n        .segment \"P\"\n        nop\n",
+        messages: AGAIN,
+    },
+    // two neighbours of one name are one segment, but their bytes are two runs
+    Row {
+        words: &["--comments", "1"],
+        info: "SEGMENT { START $1000; END $1000; NAME \"P\"; }; SEGMENT { START $1001; END $1001; NAME \"P\"; };",
+        image: &[0xEA, 0xEA],
+        body: b"; ----------------------------------------------------------------------------\n        .segment \"P\"\n        nop\n; ----------------------------------------------------------------------------\n        nop\n",
+        messages: b"",
+    },
+    // names are compared with case
+    Row {
+        words: &[],
+        info: "SEGMENT { START $1000; END $1000; NAME \"P\"; }; SEGMENT { START $1001; END $1001; NAME \"Q\"; }; SEGMENT { START $1002; END $1002; NAME \"p\"; };",
+        image: &[0xEA, 0xEA, 0xEA],
+        body: b"        .segment \"P\"\n        nop\n        .segment \"Q\"\n        nop\n        .segment \"p\"\n        nop\n",
+        messages: b"",
+    },
+    // the default is not entered again if no earlier group is in it
+    Row {
+        words: &[],
+        info: "SEGMENT { START $1000; END $1000; NAME \"P\"; };",
+        image: &[0xEA, 0xEA],
+        body: b"        .segment \"P\"\n        nop\n        .code\n        nop\n",
+        messages: b"",
+    },
+    // a segment that is named CODE is not the default, but the warning takes it for that
+    Row {
+        words: &[],
+        info: "SEGMENT { START $1001; END $1001; NAME \"CODE\"; };",
+        image: &[0xEA, 0xEA],
+        body: b"        nop\n        .segment \"CODE\"\n        nop\n",
+        messages: AGAIN,
+    },
+    // a mnemonic as the name of a segment
+    Row {
+        words: &[],
+        info: "SEGMENT { START $1000; END $1001; NAME \"lda\"; };",
+        image: &[0xEA, 0xEA],
+        body: b"        .segment \"lda\"\n        nop\n        nop\n",
+        messages: b"",
+    },
+    // the comment of a label
+    Row {
+        words: &[],
+        info: "LABEL { ADDR $1000; NAME \"go\"; COMMENT \"entry\"; };",
+        image: &[0x60],
+        body: b"; entry\ngo:     rts\n",
+        messages: b"",
+    },
+    // of a range, of names inside an instruction, and of constants; an empty comment is none
+    Row {
+        words: &[],
+        info: "RANGE { START $1000; END $1002; TYPE CODE; NAME \"op\"; COMMENT \"jump\"; }; LABEL { ADDR $1002; NAME \"high\"; COMMENT \"H\"; }; LABEL { ADDR $1001; NAME \"low\"; COMMENT \"L\"; }; LABEL { ADDR $FFD2; NAME \"chrout\"; COMMENT \"out\"; }; LABEL { ADDR 2; NAME \"bare\"; COMMENT \"\"; };",
+        image: &[0x4C, 0xD2, 0xFF],
+        body: b"bare            := $0002\n; out\nchrout          := $FFD2\n\n; jump\n; L\n; H\nlow             := * + 1\nhigh            := * + 2\nop:     jmp     chrout\n",
+        messages: b"",
+    },
+    // an empty line after rts
+    Row {
+        words: &[],
+        info: "GLOBAL { NEWLINEAFTERRTS on; };",
+        image: &[0xA9, 0x01, 0x60],
+        body: b"        lda     #$01\n        rts\n\n",
+        messages: b"",
+    },
+    // empty lines after instructions, which jsr is not
+    Row {
+        words: &[],
+        info: "GLOBAL { NEWLINEAFTERJMP on; NEWLINEAFTERRTS on; }; LABEL { ADDR $FFD2; NAME \"chrout\"; };",
+        image: &[0x20, 0xD2, 0xFF, 0x4C, 0xD2, 0xFF, 0x60, 0x6C, 0x10, 0x00],
+        body: b"chrout          := $FFD2\n\n        jsr     chrout\n        jmp     chrout\n\n        rts\n\n        jmp     ($0010)\n\n",
+        messages: b"",
+    },
+    // all remarks
+    Row {
+        words: &["--comments", "4"],
+        info: "",
+        image: &[0xA9, 0x41],
+        body: b"; ----------------------------------------------------------------------------\n        lda     #$41                            ; 1000 A9 41                    .A\n",
+        messages: b"",
+    },
+    // each level, and the command line before the information file
+    Row {
+        words: &["--comments", "0"],
+        info: "GLOBAL { COMMENTS 4; };",
+        image: &[0xEA],
+        body: b"        nop\n",
+        messages: b"",
+    },
+    Row {
+        words: &["--comments", "2"],
+        info: "GLOBAL { COMMENTS 4; };",
+        image: &[0xEA],
+        body: b"; ----------------------------------------------------------------------------\n        nop                                     ; 1000\n",
+        messages: b"",
+    },
+    Row {
+        words: &[],
+        info: "GLOBAL { COMMENTS 3; };",
+        image: &[0xAD, 0x20, 0xD0],
+        body: b"; ----------------------------------------------------------------------------\n        lda     $D020                           ; 1000 AD 20 D0\n",
+        messages: b"",
+    },
+    // bytes as characters: $20 and $7E, and neither $1F nor $7F
+    Row {
+        words: &["--comments", "4"],
+        info: "RANGE { START $1000; END $1003; TYPE BYTETABLE; };",
+        image: &[0x1F, 0x20, 0x7E, 0x7F],
+        body: b"; ----------------------------------------------------------------------------\n        .byte   $1F,$20,$7E,$7F                 ; 1000 1F 20 7E 7F              . ~.\n",
+        messages: b"",
+    },
+    // a column that is passed already gives one blank
+    Row {
+        words: &["--mnemonic-column", "3", "--argument-column", "5", "--comment-column", "12", "--text-column", "40", "--comments", "4"],
+        info: "",
+        image: &[0xA9, 0x41],
+        body: b"; ----------------------------------------------------------------------------\n  lda #$41 ; 1000 A9 41                .A\n",
+        messages: b"",
+    },
+    // a label longer than the label break, and one that just fits
+    Row {
+        words: &["--label-break", "3"],
+        info: "LABEL { ADDR $1000; NAME \"long\"; }; LABEL { ADDR $1001; NAME \"fit\"; };",
+        image: &[0xEA, 0xEA],
+        body: b"long:\n        nop\nfit:    nop\n",
+        messages: b"",
+    },
+    // a label that does not fit before the mnemonic column
+    Row {
+        words: &["--label-break", "120", "--mnemonic-column", "12"],
+        info: "LABEL { ADDR $1000; NAME \"elevenbytes\"; }; LABEL { ADDR $1001; NAME \"ten_bytes_\"; };",
+        image: &[0xEA, 0xEA],
+        body: b"elevenbytes:\n           nop\nten_bytes_: nop\n",
+        messages: b"",
+    },
+];
+
+/// What follows the header, which has four lines.
+fn body_of(listing: &[u8]) -> &[u8] {
+    let mut rest = listing;
+    for _ in 0..4 {
+        if let Some((_, after)) = rest.split_once(|byte| *byte == b'\n') {
+            rest = after;
+        }
+    }
+    rest
+}
+
+#[test]
+fn worked_listings(rt: HostRuntime) -> Result<(), Fail> {
+    for row in ROWS {
+        let ran = there_and_back(&rt, rt.alloc(), row.words, row.info, 0x1000, row.image)?;
+        assert_eq!(rt; body_of(&ran.listing), row.body, "{}", row.info);
+        assert_eq!(rt; ran.messages.as_slice(), row.messages, "{}", row.info);
+    }
+    Ok(())
+}
+
+#[test]
+fn columns_of_the_header(rt: HostRuntime) -> Result<(), Fail> {
+    let words = ["--mnemonic-column", "1", "--argument-column", "1"];
+    let ran = there_and_back(&rt, rt.alloc(), &words, "", 0x1000, &[0xA9, 0x01])?;
+    let text = b"; da65 listing\n\n.setcpu \"6502\"\n\nlda #$01\n".as_slice();
+    assert_eq!(rt; ran.listing.as_slice(), text);
+    Ok(())
+}
+
+/// A segment whose bytes are all skipped is not entered; then both warnings.
+#[test]
+fn skipped_segments(rt: HostRuntime) -> Result<(), Fail> {
+    let data = "SEGMENT { START $1001; END $1001; NAME \"DATA\"; };";
+    let skip = "RANGE { START $1001; SIZE 1; TYPE SKIP; };";
+    let info = format!(in rt.alloc(); "{data} {skip}")?;
+    let ran = listed(rt.alloc(), &[], &info, 0x1000, &[0xEA, 0xEA, 0xEA])?;
+    assert_eq!(rt; body_of(&ran.listing), b"        nop\n        nop\n".as_slice());
+    assert_eq!(rt; ran.messages.as_slice(), WARNING);
+
+    let more = "SEGMENT { START $1003; END $1003; NAME \"DATA\"; };";
+    let info = format!(in rt.alloc(); "{data} {skip} {more}")?;
+    let image = [0xEA, 0xEA, 0xEA, 0xEA, 0xEA].as_slice();
+    let ran = listed(rt.alloc(), &[], &info, 0x1000, image)?;
+    let body = b"        nop\n        nop\n        .segment \"DATA\"\n        nop\n        .code\n        nop\n".as_slice();
+    assert_eq!(rt; body_of(&ran.listing), body);
+    assert_eq!(rt; ran.messages.as_slice().strip_prefix(WARNING), Some(AGAIN));
+    Ok(())
+}
+
+/// A run that comes back to a segment allocates where its information file, its image and its map do, and nowhere else.
+#[test]
+fn entering_again_allocates_nothing(rt: HostRuntime) -> Result<(), Fail> {
+    let row = ROWS.get(1).ok_or("row")?;
+    let options = named(rt.alloc(), Some(0x1000))?;
+    let heap = Refusing::after(rt.alloc(), u64::MAX);
+    let info = read_info(&heap, &options, row.info.as_bytes())?;
+    let image = read_image(&heap, &info, &mut Told::new(row.image))?;
+    assert!(rt; Map::build(&heap, &info, &image).is_ok());
+
+    let counted = Refusing::after(rt.alloc(), u64::MAX);
+    let ran = run_with(rt.alloc(), &counted, &options, row.info.as_bytes(), row.image);
+    assert_eq!(rt; ran.result, Ok(Status::Done));
+    assert_eq!(rt; ran.messages.as_slice(), AGAIN);
+    assert_eq!(rt; counted.left(), heap.left());
+    Ok(())
+}
+
+/// 1,000 segments of their own names, and one more that comes back to the first.
+#[test]
+fn a_thousand_segments(rt: HostRuntime) -> Result<(), Fail> {
+    let image = vec![in rt.alloc(); 0xEAu8; 1_001]?;
+    let mut info = String::new(rt.alloc());
+    for number in 0..1_000u16 {
+        info.push_str(&format!(in rt.alloc();
+            "SEGMENT {{ START {number}; END {number}; NAME \"s{number}\"; }};\n"
+        )?)?;
+    }
+    let ran = there_and_back(&rt, rt.alloc(), &[], &info, 0, &image)?;
+    assert!(rt; ran.messages.is_empty());
+    info.push_str("SEGMENT { START 1000; END 1000; NAME \"s0\"; };")?;
+    let ran = there_and_back(&rt, rt.alloc(), &[], &info, 0, &image)?;
+    assert_eq!(rt; ran.messages.as_slice(), AGAIN);
+    Ok(())
+}
+
+/// Information files that are refused, and their messages.
+const REFUSED: &[(&str, &str)] = &[
+    (
+        "RANGE { START 1; END 1; TYPE CODE; COMMENT \"x\"; };",
+        "info:1: attribute missing",
+    ),
+    (
+        "SEGMENT { START 1; END 2; NAME \"P\"; };\nSEGMENT { START 2; END 3; NAME \"Q\"; };",
+        "info:2: segments overlap",
+    ),
+];
+
+#[test]
+fn information_files_that_are_refused(rt: HostRuntime) -> Result<(), Fail> {
+    for (info, message) in REFUSED {
+        let ran = listed(rt.alloc(), &[], info, 0x1000, &[0xEA])?;
+        assert_eq!(rt; ran.result, Ok(Status::Refused), "{info}");
+        assert!(rt; ran.listing.is_empty(), "{info}");
+        let line = format!(in rt.alloc(); "da65: {message}\n")?;
+        assert_eq!(rt; ran.messages.as_slice(), line.as_bytes(), "{info}");
+    }
+    Ok(())
+}
+
+/// Columns 1 and 120 in every combination, at level 4, with a name of 80 bytes and a text line.
+#[test]
+fn extreme_columns(rt: HostRuntime) -> Result<(), Fail> {
+    let mut name = String::new(rt.alloc());
+    for _ in 0..80 {
+        name.push('n')?;
+    }
+    let info = format!(in rt.alloc();
+        "LABEL {{ ADDR $1000; NAME \"{name}\"; }}; RANGE {{ START $1003; END $1012; TYPE TEXTTABLE; }};"
+    )?;
+    let image = [
+        0x4C, 0x00, 0x10, 1, 2, 3, 4, 5, 6, 7, 8, 9, 10, 11, 12, 13, 14, 15, 16,
+    ];
+    for choice in 0..32u8 {
+        let column = |bit: u8| if choice & bit == 0 { "1" } else { "120" };
+        let words = [
+            "--comments",
+            "4",
+            "--mnemonic-column",
+            column(1),
+            "--argument-column",
+            column(2),
+            "--comment-column",
+            column(4),
+            "--text-column",
+            column(8),
+            "--label-break",
+            column(16),
+        ];
+        let ran = there_and_back(&rt, rt.alloc(), &words, &info, 0x1000, &image)?;
+        for line in ran.listing.as_slice().split(|byte| *byte == b'\n') {
+            assert!(rt; line.len() < 512, "{choice}");
+        }
+    }
+    Ok(())
+}
+
+/// Groups SEGMENT with random sizes, of eight names, around an image.
+fn random_segments(alloc: Global, random: &mut Random, start: u32) -> Result<String, AllocError> {
+    let mut info = String::new(alloc);
+    let mut at = start.saturating_sub(random.below(20));
+    for _ in 0..12 {
+        at = at.saturating_add(random.below(30));
+        let last = at.saturating_add(random.below(50));
+        if last < 65_536 {
+            let name = random.below(8);
+            let group = format!(in alloc; "SEGMENT {{ START {at}; END {last}; NAME \"S{name}\"; }};\n")?;
+            info.push_str(&group)?;
+        }
+        at = last.saturating_add(1);
+    }
+    Ok(info)
+}
+
+/// A comment of random bytes that can stand in one.
+fn random_comment(alloc: Global, random: &mut Random) -> Result<Vec<u8>, AllocError> {
+    let mut text = Vec::new(alloc);
+    for _ in 0..random.below(30) {
+        let byte = 0x20 + random.below(0xE0) as u8;
+        if byte != b'"' && byte != 0x7F {
+            text.push(byte)?;
+        }
+    }
+    Ok(text)
+}
+
+/// Groups LABEL with random addresses from an address on, each with a comment.
+fn random_labels(alloc: Global, random: &mut Random, start: u32) -> Result<Vec<u8>, AllocError> {
+    let mut info = Vec::new(alloc);
+    let mut address = start;
+    for _ in 0..40 {
+        address = address.saturating_add(1 + random.below(12));
+        if address < 65_536 {
+            let group = format!(in alloc; "LABEL {{ ADDR {address}; NAME \"n_{address}\"; COMMENT \"")?;
+            info.extend_from_slice(group.as_bytes())?;
+            info.extend_from_slice(&random_comment(alloc, random)?)?;
+            info.extend_from_slice(b"\"; };\n")?;
+        }
+    }
+    Ok(info)
+}
+
+/// A group GLOBAL with a random level, random columns and random empty lines.
+fn random_layout(alloc: Global, random: &mut Random) -> Result<String, AllocError> {
+    format!(in alloc;
+        "GLOBAL {{ COMMENTS {}; MNEMONICCOLUMN {}; ARGUMENTCOLUMN {}; COMMENTCOLUMN {}; TEXTCOLUMN {}; \
+        LABELBREAK {}; NEWLINEAFTERJMP {}; NEWLINEAFTERRTS {}; }};\n",
+        random.below(5),
+        1 + random.below(120),
+        1 + random.below(120),
+        1 + random.below(120),
+        1 + random.below(120),
+        random.below(121),
+        random.below(2),
+        random.below(2)
+    )
+}
+
+/// Lists a random image with random ranges, segments, comments and columns, and assembles the listing back.
+fn random_listing(rt: &impl Abort, alloc: Global, random: &mut Random) -> Result<(), Fail> {
+    let size = 1 + random.below(400);
+    let start = random.below(65_536 - size);
+    let image = random_image(alloc, random, size)?;
+    let mut info = random_ranges(alloc, random, start)?;
+    info.push_str(&random_segments(alloc, random, start)?)?;
+    info.push_str(&random_layout(alloc, random)?)?;
+    let mut bytes = random_labels(alloc, random, start)?;
+    bytes.extend_from_slice(info.as_bytes())?;
+    let options = named(alloc, Some(start as u16))?;
+    let ran = run_with(alloc, alloc, &options, &bytes, &image);
+    assert_eq!(rt; ran.result, Ok(Status::Done), "{info}");
+    let back = assemble(alloc, &ran.listing, start as u16)?;
+    assert!(rt; back.as_slice() == image.as_slice(), "{info}");
+    Ok(())
+}
+
+fn random_listings(rt: &impl Abort, alloc: Global, seed: u64) -> Result<(), Fail> {
+    let mut random = Random { state: seed };
+    for _ in 0..50 {
+        random_listing(rt, alloc, &mut random)?;
+    }
+    Ok(())
+}
+
+#[test]
+fn random_images_with_segments_1(rt: HostRuntime) -> Result<(), Fail> {
+    random_listings(&rt, rt.alloc(), 1)
+}
+
+#[test]
+fn random_images_with_segments_2(rt: HostRuntime) -> Result<(), Fail> {
+    random_listings(&rt, rt.alloc(), 2)
+}

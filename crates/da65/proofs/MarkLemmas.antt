@@ -1,0 +1,112 @@
+-- A listing at comment level 0, without segments and comments, has no lines at the heads of its groups.
+use Rattle.std.proofs.Common.{◌≡◌, ◌∙◌, ◌+◌, ◌++◌, ◌-◌, ◌<◌, ℕ, Bool, true, false, List, [], ◌∷◌, Option, Some, None, refl, sym, ap, subst, arith, ⊎_elim}
+use Rattle.std.specs.Prelude.{if◌then◌else◌, ◌==◌, is_some, option_map}
+use Rattle.std.specs.List.{find, flat_map}
+use Rattle.std.proofs.lemmas.Bool.{cases_lt}
+use denote.Bor.{Bor}
+use Rattle.info65.specs.Code.Names.{given_seen}
+use Rattle.info65.specs.declared.name.Given.{Given}
+use Rattle.std.specs.Bool.{OnFalse}
+use Rattle.info65.specs.Names.{AreNames, blank_name, covering, name_at}
+use Rattle.info65.specs.Segments.{AreSegments, contains, segment_covering}
+use Rattle.info65.specs.Views.{InfoView, NameView, SegmentView}
+use Rattle.map65.proofs.NameLemmas.{last-name}
+use Rattle.map65.specs.ImageView.{ImageView, IsPlaced}
+use Rattle.map65.specs.MapView.{MapView}
+use Rattle.map65.specs.Pieces.{is_in_run}
+use Rattle.map65.specs.Spans.{addresses}
+use Rattle.da65.specs.Comments.{comment_at, comment_by}
+use Rattle.da65.specs.Groups.{group_len}
+use Rattle.da65.specs.Lines.{IsListed, IsUnmarked}
+use Rattle.da65.specs.Listing.{ListingLine, comment_line, comment_lines, comments, has_separator, opening_lines, plain, segment_lines, separator, separator_lines}
+use Rattle.da65.specs.Marks.{HasNoComments, HasNoMarks}
+use Rattle.da65.specs.Segments.{is_same_segment, segment_at, segment_before, segment_statement}
+use Rattle.da65.specs.Style.{style_of}
+use Rattle.da65.specs.declared.style.Style.{Style}
+use Rattle.da65.proofs.SegmentLemmas.{segment-none}
+
+bare-comment : (m : MapView) (a : ℕ) → HasNoComments m.info.names → comment_at m a ≡ None
+unfolding comment_at
+bare-comment m a none = go (covering m.info.names a) refl
+  where
+    has : (n : NameView) → covering m.info.names a ≡ Some n → n.comment ≡ None
+    has n e =
+        let last = last-name m.info.names a n e in
+        subst (λ (n : NameView). n.comment ≡ None) (sym last.is) (none last.index last.low)
+
+    of : (n : NameView) (own : Bool) → n.comment ≡ None → (if own then n.comment else None) ≡ None
+    of n true e = e
+    of n false e = refl
+
+    go : (o : Option NameView) → covering m.info.names a ≡ o → comment_by a o ≡ None
+    go None e = refl
+    go (Some n) e = of n (n.address == a) (has n e)
+
+flat-nothing : (f : ℕ → List ListingLine) → ((a : ℕ) → f a ≡ []) → (xs : List ℕ) → flat_map f xs ≡ []
+flat-nothing f none [] = refl
+flat-nothing f none (x ∷ xs) = ap (λ (ls : List ListingLine). ls ++ flat_map f xs) (none x) ∙ flat-nothing f none xs
+
+bare-lines : (m : MapView) (a : ℕ) → comment_at m a ≡ None → comment_lines m a ≡ []
+unfolding comment_lines
+bare-lines m a is = ap comment_line is
+
+bare-comments : (m : MapView) (n a : ℕ) → ((a : ℕ) → comment_at m a ≡ None) → comments m n a ≡ []
+unfolding comments
+bare-comments m n a none = flat-nothing (comment_lines m) (λ a. bare-lines m a (none a)) (addresses n a)
+
+bare-segment : (m : MapView) (a : ℕ) → m.info.segments ≡ [] → segment_at m a ≡ None
+unfolding segment_at segment_covering
+bare-segment m a none = ap (λ (segments : List SegmentView). option_map (λ (s : SegmentView). s.name) (find (λ s. contains s a) segments)) none
+
+bare-segments : (m : MapView) (a : ℕ) → ((a : ℕ) → segment_at m a ≡ None) → segment_lines m a ≡ []
+unfolding segment_lines
+bare-segments m a none = rw (none a, segment-none m (a - m.image.start) none) refl
+
+bare-separator : (m : MapView) (a : ℕ) → (style_of m.info.settings).level ≡ 0 → separator_lines m a ≡ []
+unfolding separator_lines
+bare-separator m a none = rw none refl
+
+pub unmarked : (m : MapView) (i : InfoView) (t : Style) → m.info ≡ i → t ≡ style_of m.info.settings → HasNoMarks i t → IsUnmarked m
+unfolding opening_lines
+unmarked m i t same is none =
+    let quiet : (a : ℕ) → comment_at m a ≡ None = λ a. bare-comment m a (subst (λ (i : InfoView). HasNoComments i.names) (sym same) none.comments) in
+    let default : (a : ℕ) → segment_at m a ≡ None = λ a. bare-segment m a (ap (λ (i : InfoView). i.segments) same ∙ none.segments) in
+    let low : (style_of m.info.settings).level ≡ 0 = sym (ap (λ (t : Style). t.level) is) ∙ none.level in
+    record {
+      opening = λ a.
+          ap (λ (ls : List ListingLine). ls ++ (segment_lines m a ++ comments m (group_len m a) a)) (bare-separator m a low)
+          ∙ ap (λ (ls : List ListingLine). ls ++ comments m (group_len m a) a) (bare-segments m a default)
+          ∙ bare-comments m (group_len m a) a quiet;
+      comments = quiet;
+      segments = default;
+    }
+
+-- ---- how the names are looked at
+
+pub none-more : (names : List NameView) (n : ℕ) → ((i : ℕ) → i < n → (name_at names i).comment ≡ None) → (name_at names n).comment ≡ None → (i : ℕ) → i < n + 1 → (name_at names i).comment ≡ None
+none-more names n before here i low = ⊎_elim (λ less. before i less) (λ same. subst (λ (j : ℕ). (name_at names j).comment ≡ None) (omega (arith, low, same)) here) (cases_lt i n)
+
+pub none-shown : (given : Given) (n : NameView) (t : Bool) → given_seen given ≡ n → t ≡ is_some given.comment → t ≡ false → n.comment ≡ None
+none-shown given n t same is off = sym (ap (λ (n : NameView). n.comment) same) ∙ go given.comment (sym is ∙ off)
+  where
+    go : (o : Option (Bor (List ℕ))) → is_some o ≡ false → option_map (λ c. c.now) o ≡ None
+    go None e = refl
+    go (Some c) e = absurd cc
+
+-- ---- what is listed
+
+pub listed-of : (m : MapView) (i : InfoView) (image : ImageView) (t : Style) (marked : Bool) → m ≡ record { info = i; image = image } → t ≡ style_of i.settings → IsPlaced image → AreNames i.names → AreSegments i.segments
+    → OnFalse marked (HasNoMarks i t) → IsListed m i image t marked
+listed-of m i image t marked built is placed names segments none =
+    let info : m.info ≡ i = ap (λ (m : MapView). m.info) built in
+    let picture : m.image ≡ image = ap (λ (m : MapView). m.image) built in
+    let style : t ≡ style_of m.info.settings = is ∙ ap (λ (i : InfoView). style_of i.settings) (sym info) in
+    record {
+      info_is = info;
+      image_is = picture;
+      style_is = style;
+      placed = subst IsPlaced (sym picture) placed;
+      names = subst (λ (i : InfoView). AreNames i.names) (sym info) names;
+      segments = subst (λ (i : InfoView). AreSegments i.segments) (sym info) segments;
+      unmarked = λ off. unmarked m i t info style (subst (λ (b : Bool). OnFalse b (HasNoMarks i t)) off none);
+    }

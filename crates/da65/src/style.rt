@@ -1,0 +1,106 @@
+//! What the settings say of the lines of a listing.
+
+ghost use Rattle.std.specs.Prelude.{◌≡◌, ◌≤◌};
+ghost use Rattle.da65.specs.Listing.{has_empty_line};
+ghost use Rattle.da65.specs.Style.{columns_of, style_of};
+ghost use Rattle.info65.specs.Views.{AreInLimits};
+ghost use Rattle.stmt65.specs.Views.{statement_seen};
+
+use info65::Settings;
+use isa65::{Cpu, Mnemonic};
+use std::alloc::Allocator;
+use stmt65::{Column, Columns, LabelBreak, Level, Statement};
+
+/// What the settings say of the lines of a listing.
+#[derive(Clone, Copy, Debug, PartialEq, Eq)]
+pub struct Style {
+    /// The CPU that `.setcpu` names.
+    pub cpu: Cpu,
+    /// Where the fields of a line stand.
+    pub columns: Columns,
+    /// How much is remarked.
+    pub level: Level,
+    /// Whether offsets are written in hex digits.
+    pub hexoffs: bool,
+    /// Whether an empty line stands after `jmp`.
+    pub after_jmp: bool,
+    /// Whether an empty line stands after `rts`.
+    pub after_rts: bool,
+}
+
+/// The column of this number.
+fn column(number: u8) -> Column
+    requires least { 1 ≤ number }
+    requires greatest { number ≤ 120 }
+    ensures { result ≡ number }
+{
+    match Column::try_from(number) {
+        Ok(column) => column,
+        Err(_) => Column::first(),
+    }
+}
+
+/// The label break of this number.
+fn label_break(number: u8) -> LabelBreak
+    requires { number ≤ 120 }
+    ensures { result ≡ number }
+{
+    match LabelBreak::try_from(number) {
+        Ok(length) => length,
+        Err(_) => Columns::default().label_break,
+    }
+}
+
+/// The comment level of this number.
+fn level(number: u8) -> Level
+    requires { number ≤ 4 }
+    ensures { result ≡ number }
+{
+    match Level::try_from(number) {
+        Ok(level) => level,
+        Err(_) => Level::default(),
+    }
+}
+
+/// The columns that these settings ask for.
+fn columns_of<A: Allocator>(settings: &Settings<A>) -> Columns
+    requires { AreInLimits settings.now }
+    ensures { result ≡ columns_of settings.now }
+{
+    Columns {
+        mnemonic: column(settings.mnemonic_column),
+        argument: column(settings.argument_column),
+        comment: column(settings.comment_column),
+        text: column(settings.text_column),
+        label_break: label_break(settings.label_break),
+    }
+}
+
+/// The style that these settings ask for.
+#[tactic(auto, unfolding(crate::specs::Style::style_of))]
+pub fn style_of<A: Allocator>(settings: &Settings<A>) -> Style
+    requires { AreInLimits settings.now }
+    ensures { result ≡ style_of settings.now }
+{
+    Style {
+        cpu: settings.cpu,
+        columns: columns_of(settings),
+        level: level(settings.comments),
+        hexoffs: settings.hexoffs,
+        after_jmp: settings.newline_after_jmp,
+        after_rts: settings.newline_after_rts,
+    }
+}
+
+/// Whether an empty line stands after the line of this statement.
+pub fn has_empty_line(style: &Style, statement: &Statement<'_>) -> bool
+    ensures { result ≡ has_empty_line style.now (statement_seen statement.now) }
+{
+    match statement {
+        Statement::Instr { op, .. } => {
+            (style.after_jmp && op.mnemonic == Mnemonic::Jmp)
+                || (style.after_rts && op.mnemonic == Mnemonic::Rts)
+        }
+        _ => false,
+    }
+}

@@ -1,0 +1,20 @@
+use Rattle.std.proofs.Common.{◌≡◌, ◌∙◌, ◌++◌, ◌∷◌, [], ap, length, map, subst, sym}
+use Rattle.std.specs.Prelude.{List, None}
+use Rattle.std.proofs.lemmas.List.{map-append, take_at}
+use Rattle.info65.specs.Closing.{closing_fault}
+use Rattle.info65.specs.Code.Groups.{assignment_seen, group_seen}
+use Rattle.info65.specs.Code.Index.{AreMarked}
+use Rattle.info65.specs.Groups.{GroupView}
+use Rattle.info65.specs.Segments.{segments_of}
+use Rattle.info65.proofs.closed.Closed.with.Goals as goal
+
+pub invariant_of-result : goal.invariant_of-result
+invariant_of-result g c =
+    let gs : List GroupView = map group_seen c.self.inside.groups.items in
+    let fine : closing_fault gs c.args.group.kind (map assignment_seen c.as_slice.result.now) ≡ None = rw (c.self.view_is, c.as_slice.ensures.value) c.requires in
+    let index = c.in_ok-add.ensures.done gs c.self.invariant.index fine in
+    let written = take_at c.mark_segment.new.table _ c.self.inside.segmented.len (c.mark_segment.ensures.size ∙ c.as_mut_slice.ensures.len) in
+    let marks = c.mark_segment.ensures.marked gs (subst (AreMarked (segments_of gs)) (sym c.as_mut_slice.ensures.value) c.self.invariant.marks) in
+    let all : map group_seen c.push.new.self.items ≡ gs ++ group_seen c.args.group ∷ [] = ap (λ l. map group_seen l) c.in_ok-push.ensures.items ∙ map-append group_seen c.self.inside.groups.items (c.args.group ∷ []) in
+    let marked : AreMarked (segments_of (gs ++ group_seen c.args.group ∷ [])) c.mark_segment.new.table = rw c.as_slice-2.ensures.value at marks in
+    rw all (record { index = rw c.as_slice.ensures.value at index; marks = subst (AreMarked (segments_of (gs ++ group_seen c.args.group ∷ []))) (sym written) marked })

@@ -1,6 +1,0 @@
-use Rattle.std.proofs.Common.{◌≡◌, ◌+◌, ◌-◌}
-use Rattle.info65.specs.Code.Index.{any_in}
-use Rattle.info65.proofs.index.is_marked.Given as goal
-
-abbrev pub invariant-loop-address : goal.invariant-loop-address
-invariant-loop-address l = any_in l.table l.address (l.fn.range.last + 1 - l.address) ≡ any_in l.table l.fn.range.first (l.fn.range.last + 1 - l.fn.range.first)

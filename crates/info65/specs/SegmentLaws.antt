@@ -1,0 +1,53 @@
+-- Laws of segments.
+use Rattle.std.specs.Prelude.{◌≡◌, ◌↔◌, ◌∷◌, [], ℕ, All, Any, List, Some, None, Ok, true, false}
+use Rattle.info65.specs.Closing.{closing_fault}
+use Rattle.info65.specs.Grammar.{IsInformation}
+use Rattle.info65.specs.Groups.{AssignmentView, GroupView, value_in}
+use Rattle.info65.specs.Segments.{AreSegments, contains, segment_covering, segment_in, segments_of}
+use Rattle.info65.specs.Values.{a_name, an_address}
+use Rattle.info65.specs.Views.{InfoView, OptionsView, SegmentView}
+use Rattle.info65.specs.declared.attribute.Attribute.TheVariants as attribute
+use Rattle.info65.specs.declared.attribute.GroupKind.{GroupKind}
+use Rattle.info65.specs.declared.attribute.GroupKind.TheVariants as group
+use Rattle.info65.specs.declared.fault.InfoFaultKind.TheVariants.{SegmentsOverlap}
+
+-- What is given in a group SEGMENT says this segment: START is its first address, END its last, and NAME
+-- its name.
+pub record SaysSegment (given : List AssignmentView) (s : SegmentView) : Type 0 where
+  pub first : value_in attribute.Start given ≡ Some (an_address s.first)
+  pub last : value_in attribute.End given ≡ Some (an_address s.last)
+  pub name : value_in attribute.Name given ≡ Some (a_name s.name)
+
+-- a group SEGMENT says the first of the segments, and any other group says none
+abbrev pub Says : GroupKind → List AssignmentView → List SegmentView → (List SegmentView → Type 0) → Type 0
+Says group.Segment given [] others = ⊥
+Says group.Segment given (s ∷ ss) others = SaysSegment given s × others ss
+Says _ given ss others = others ss
+
+-- the segments are those that the groups SEGMENT say, one a group, in the order of the groups
+abbrev pub AreSaid : List GroupView → List SegmentView → Type 0
+AreSaid [] ss = ss ≡ []
+AreSaid (g ∷ gs) ss = Says g.kind g.given ss (AreSaid gs)
+
+-- The segments of an information file are those that its groups SEGMENT say; none ends before it begins,
+-- and no address belongs to two of them.
+abbrev pub SegmentsApart : Type 0
+SegmentsApart = (o : OptionsView) (bytes : List ℕ) (info : InfoView) (i : IsInformation o bytes info) → AreSaid i.groups info.segments × AreSegments info.segments
+
+-- an address belongs to both segments
+abbrev pub Share : SegmentView → SegmentView → Type 0
+Share s t = (a : ℕ) × (contains s a ≡ true) × (contains t a ≡ true)
+
+-- A group SEGMENT that says a segment is refused for an overlap exactly where the segment shares an address
+-- with that of a group before it.
+abbrev pub SegmentsShare : Type 0
+SegmentsShare = (before : List GroupView) (given : List AssignmentView) (s : SegmentView) → segment_in given ≡ Ok s
+    → (closing_fault before group.Segment given ≡ Some SegmentsOverlap) ↔ Any (Share s) (segments_of before)
+
+-- The name of an address is that of the one segment that contains it; where there is none, no segment does.
+pub record IsSegmentOf (segments : List SegmentView) : Type 0 where
+  pub some : (a : ℕ) → All (λ s. contains s a ≡ true → segment_covering segments a ≡ Some s.name) segments
+  pub none : (a : ℕ) → segment_covering segments a ≡ None → All (λ s. contains s a ≡ false) segments
+
+abbrev pub CoversOne : Type 0
+CoversOne = (segments : List SegmentView) → AreSegments segments → IsSegmentOf segments

@@ -1,0 +1,149 @@
+// Groups SEGMENT that are accepted and refused.
+use crate::tests::files::are_refused;
+use crate::{Info, InfoFaultKind, Options, read_info};
+use std::alloc::{AllocError, Global};
+use std::process::Abort;
+use std::test::Fail;
+
+/// Files that are refused, each with the line and the kind.
+const REFUSED: &[(&str, u32, InfoFaultKind)] = &[
+    // what is needed
+    ("SEGMENT { };", 1, InfoFaultKind::Missing),
+    (
+        "SEGMENT { END 1; NAME \"P\"; };",
+        1,
+        InfoFaultKind::Missing,
+    ),
+    (
+        "SEGMENT { START 1; NAME \"P\"; };",
+        1,
+        InfoFaultKind::Missing,
+    ),
+    (
+        "SEGMENT { START 1; END 1;\n};",
+        2,
+        InfoFaultKind::Missing,
+    ),
+    // it ends before it begins
+    (
+        "SEGMENT { START 2; END 1; NAME \"P\"; };",
+        1,
+        InfoFaultKind::OutOfRange,
+    ),
+    (
+        "SEGMENT { START 1;\nEND $10000; NAME \"P\"; };",
+        2,
+        InfoFaultKind::OutOfRange,
+    ),
+    // an address of two segments, at the closing brace
+    (
+        "SEGMENT { START 1; END 2; NAME \"P\"; };\nSEGMENT { START 2; END 3; NAME \"Q\"; };",
+        2,
+        InfoFaultKind::SegmentsOverlap,
+    ),
+    (
+        "SEGMENT { START 2; END 3; NAME \"P\"; };\nSEGMENT { START 1; END 2; NAME \"P\";\n};",
+        3,
+        InfoFaultKind::SegmentsOverlap,
+    ),
+    (
+        "SEGMENT{START 0;END $FFFF;NAME \"P\";}\nSEGMENT{START $FFFF;END $FFFF;NAME \"Q\";}",
+        2,
+        InfoFaultKind::SegmentsOverlap,
+    ),
+    (
+        "SEGMENT{START 5;END 5;NAME \"P\";}\nSEGMENT{START 0;END 9;NAME \"Q\";}",
+        2,
+        InfoFaultKind::SegmentsOverlap,
+    ),
+    // attributes given twice, and attributes of other groups
+    (
+        "SEGMENT { START 1;\nSTART 1; };",
+        2,
+        InfoFaultKind::GivenTwice,
+    ),
+    (
+        "SEGMENT { SIZE 1; };",
+        1,
+        InfoFaultKind::UnknownAttribute,
+    ),
+    (
+        "SEGMENT { COMMENT \"P\"; };",
+        1,
+        InfoFaultKind::UnknownAttribute,
+    ),
+    // the form of the name
+    ("SEGMENT { NAME \"\"; };", 1, InfoFaultKind::BadName),
+    ("SEGMENT { NAME \"1P\"; };", 1, InfoFaultKind::BadName),
+    ("SEGMENT { NAME \"P Q\"; };", 1, InfoFaultKind::BadName),
+    ("SEGMENT { NAME P; };", 1, InfoFaultKind::Expected),
+];
+
+#[test]
+fn refused_segments(rt: HostRuntime) {
+    are_refused(&rt, rt.alloc(), &Options::<Global>::none(), REFUSED);
+}
+
+#[test]
+fn segments_in_the_order_of_their_groups(rt: HostRuntime) -> Result<(), Fail> {
+    // reserved names are accepted, and a name may stand twice
+    let text = b"SEGMENT { START $FFFF; END $FFFF; NAME \"lda\"; };
+        segment { name \"P_1\"; end 2; start 1; }
+        LABEL { ADDR 1; NAME \"P_1\"; };
+        RANGE { START 1; END 1; TYPE CODE; };
+        SEGMENT { START 0; END 0; NAME \"lda\"; };";
+    let info: Info = read_info(rt.alloc(), &Options::<Global>::none(), text)?;
+    let expected: [(u16, u16, &[u8]); 3] =
+        [(0xFFFF, 0xFFFF, b"lda"), (1, 2, b"P_1"), (0, 0, b"lda")];
+    assert_eq!(rt; info.segments().len(), expected.len());
+    for (segment, (first, last, name)) in info.segments().iter().zip(&expected) {
+        assert_eq!(rt; segment.first, *first);
+        assert_eq!(rt; segment.last, *last);
+        assert_eq!(rt; segment.name.as_slice(), *name);
+    }
+    let found: [(u16, Option<&[u8]>); 6] = [
+        (0, Some(b"lda")),
+        (1, Some(b"P_1")),
+        (2, Some(b"P_1")),
+        (3, None),
+        (0xFFFE, None),
+        (0xFFFF, Some(b"lda")),
+    ];
+    for (address, name) in &found {
+        assert_eq!(rt; info.segment_covering(*address), *name, "{address}");
+    }
+    Ok(())
+}
+
+#[test]
+fn no_segments(rt: HostRuntime) -> Result<(), Fail> {
+    let info: Info = read_info(rt.alloc(), &Options::<Global>::none(), b"")?;
+    assert_eq!(rt; info.segments().len(), 0);
+    assert_eq!(rt; info.segment_covering(0), None);
+    assert_eq!(rt; info.segment_covering(0xFFFF), None);
+    Ok(())
+}
+
+// 20,000 groups SEGMENT of one address each, the last address first.
+fn segments(alloc: Global) -> Result<Vec<u8>, AllocError> {
+    let mut text = Vec::new(alloc);
+    for place in 0..20_000_u16 {
+        let n = 19_999_u16.saturating_sub(place);
+        let group = format!(in alloc; "SEGMENT {{ START {n}; END {n}; NAME \"s{n}\"; }};\n")?;
+        text.extend_from_slice(group.as_bytes())?;
+    }
+    Ok(text)
+}
+
+#[test]
+fn twenty_thousand_segments(rt: HostRuntime) -> Result<(), Fail> {
+    let text = segments(rt.alloc())?;
+    let info: Info = read_info(rt.alloc(), &Options::<Global>::none(), text.as_slice())?;
+    assert_eq!(rt; info.segments().len(), 20_000);
+    for address in [0_u16, 1, 12_345, 19_999] {
+        let name = format!(in rt.alloc(); "s{address}")?;
+        assert_eq!(rt; info.segment_covering(address), Some(name.as_bytes()));
+    }
+    assert_eq!(rt; info.segment_covering(20_000), None);
+    Ok(())
+}

@@ -1,0 +1,156 @@
+-- Runs: what their definition says of segments, and how they are read from cells.
+use Rattle.std.proofs.Common.{◌≡◌, ◌≢◌, ◌∙◌, ℕ, zero, suc, ◌+◌, ◌-◌, ◌/◌, ◌%◌, ◌<◌, ◌≤◌, ◌&&◌, ◌||◌, ◌==◌, nat_le, nat_lt, not, Bool, true, false, Option, Some, None, List, [], ◌∷◌, refl, ap, sym, arith, ⊎_elim, if◌then◌else◌}
+use Rattle.std.specs.List.{find}
+use Rattle.std.specs.Option.{option_map}
+use Rattle.std.proofs.lemmas.Bool.{and_from, and_parts, cases_Bool, cases_eq, cond-true, cond-false, cond_both, eq-eqb, eqb-true, le-leb, leb-true, lt-ltb, ltb-true, ne_eqb, not-true}
+use Rattle.std.proofs.lemmas.Bool.Decides.{nat_tests}
+use Rattle.std.specs.Cmp.{both_ways}
+use Rattle.info65.specs.Segments.{contains, segment_covering}
+use Rattle.info65.specs.Views.{SegmentView}
+use Rattle.info65.specs.declared.range.RangeType.{RangeType}
+use Rattle.info65.specs.declared.range.RangeType.TheVariants.{Code, ByteTable, WordTable, DbyteTable, AddrTable, RtsTable, TextTable, Skip}
+use Rattle.map65.proofs.CellLemmas.{code-small, coded-code, has_border-is}
+use Rattle.map65.proofs.ItemLemmas.{InRun, in-run, run-if}
+use Rattle.map65.specs.Code.Cells.{are_one_run, bit, cell_of, code_of, coded, has_border, is_same_role}
+use Rattle.map65.specs.ImageView.{end_of, is_inside}
+use Rattle.map65.specs.MapView.{MapView}
+use Rattle.map65.specs.Pieces.{AreOneRun, is_in_run}
+use Rattle.map65.specs.Roles.{role_at, role_of}
+use Rattle.map65.specs.Segments.{borders, is_border, segment_at}
+
+-- ---- segments
+
+-- where no border stands, an address belongs to the segments of the one before it
+contains-same : (s : SegmentView) (a : ℕ) → 0 < a → borders s a ≡ false → contains s a ≡ contains s (a - 1)
+contains-same s a some none = grind (arith, nat_tests, some, none)
+
+or-parts : (p q : Bool) → (p || q) ≡ false → (p ≡ false) × (q ≡ false)
+or-parts false q is = (refl, is)
+or-parts true q is = absurd cc
+
+cond-same : {X : Type 0} (p q : Bool) (x y z : X) → p ≡ q → y ≡ z → (if p then x else y) ≡ (if q then x else z)
+cond-same p q x y z first second = rw (first, second) refl
+
+found-same : (segments : List SegmentView) (a : ℕ) → 0 < a → is_border segments a ≡ false → find (λ s. contains s a) segments ≡ find (λ s. contains s (a - 1)) segments
+unfolding is_border
+found-same [] a some none = refl
+found-same (s ∷ rest) a some none =
+    let parts = or-parts (borders s a) (is_border rest a) none in
+    cond-same (contains s a) (contains s (a - 1)) (Some s) (find (λ s. contains s a) rest) (find (λ s. contains s (a - 1)) rest) (contains-same s a some parts.0) (found-same rest a some parts.1)
+
+segment-before : (m : MapView) (a : ℕ) → InRun m a → segment_at m a ≡ segment_at m (a - 1)
+unfolding segment_covering
+segment-before m a here = ap (option_map (λ (s : SegmentView). s.name)) (found-same m.info.segments a (omega (arith, here.low)) here.unbroken)
+
+segment-after : (m : MapView) (n b : ℕ) → AreOneRun m b (b + n) → segment_at m (b + n) ≡ segment_at m b
+segment-after m zero b run = let place : b + 0 ≡ b = omega arith in ap (segment_at m) place
+segment-after m (suc n) b run =
+    let place : b + suc n - 1 ≡ b + n = omega arith in
+    segment-before m (b + suc n) (in-run m (b + suc n) (run (b + suc n) (omega arith) (omega arith)))
+    ∙ ap (segment_at m) place
+    ∙ segment-after m n b (λ x low high. run x low (omega arith))
+
+-- a run lies in one segment
+pub one-run-segment : (m : MapView) (b a x : ℕ) → AreOneRun m b a → b ≤ x → x ≤ a → segment_at m x ≡ segment_at m b
+one-run-segment m b a x run low high =
+    let n : ℕ = x - b in
+    let place : x ≡ b + n = omega arith in
+    ap (segment_at m) place ∙ segment-after m n b (λ y above upto. run y above (omega arith))
+
+-- address 0 is the first of its run
+pub first-run : (m : MapView) (a : ℕ) → a ≡ 0 → is_in_run m a ≡ false
+first-run m a is =
+    ⊎_elim
+    (λ run. absurd (omega (arith, is, (in-run m a run).low)))
+    (λ apart. apart)
+    (cases_Bool (is_in_run m a))
+
+-- ---- roles
+
+pub role_at-inside : (m : MapView) (a : ℕ) → m.image.start ≤ a → a < end_of m.image → role_at m a ≡ Some (role_of m.info a)
+unfolding role_at
+role_at-inside m a low high = cond-true (is_inside m.image a) _ _ (and_from _ _ (le-leb m.image.start a low) (lt-ltb a (end_of m.image) high))
+
+-- an address that has a role
+record HasRole (m : MapView) (a : ℕ) (r : RangeType) : Type 0 where
+  low : m.image.start ≤ a
+  high : a < end_of m.image
+  is : role_of m.info a ≡ r
+
+some-same : (r q : RangeType) → Some r ≡ Some q → r ≡ q
+some-same r q is = cc
+
+role_at-test : (m : MapView) (a : ℕ) (r : RangeType) → role_at m a ≡ Some r → is_inside m.image a ≡ true
+unfolding role_at
+role_at-test m a r = cond_both (is_inside m.image a) (Some (role_of m.info a)) None (λ (o : Option RangeType). o ≡ Some r → is_inside m.image a ≡ true) (λ is _. is) (λ _ none. absurd cc)
+
+has-role : (m : MapView) (a : ℕ) (r : RangeType) → role_at m a ≡ Some r → HasRole m a r
+has-role m a r is =
+    let inside = and_parts (nat_le m.image.start a) (nat_lt a (end_of m.image)) (role_at-test m a r is) in
+    let low = leb-true m.image.start a inside.0 in
+    let high = ltb-true a (end_of m.image) inside.1 in
+    record { low = low; high = high; is = some-same _ _ (sym (role_at-inside m a low high) ∙ is) }
+
+-- ---- codes
+
+same-code : (r q : Option RangeType) → code_of r ≡ code_of q → r ≡ q
+same-code r q is = sym (coded-code r) ∙ ap coded is ∙ coded-code q
+
+no-code : code_of None ≡ 0
+unfolding code_of
+no-code = refl
+
+some-code : (r : RangeType) → 0 < code_of (Some r)
+unfolding code_of
+some-code Code = omega arith
+some-code _ = omega arith
+
+-- what the lower four bits say
+pub plain-code : (c : ℕ) (r : Option RangeType) (n : ℕ) → n < 8 → c % 128 ≡ cell_of r n → c % 16 ≡ code_of r
+unfolding cell_of
+plain-code c r n small is = omega (arith, is, code-small r)
+
+same-role : (c d : ℕ) → is_same_role c d ≡ true → c % 16 ≡ d % 16
+unfolding is_same_role
+same-role c d is = eqb-true (c % 16) (d % 16) is
+
+role-same : (c d : ℕ) → c % 16 ≡ d % 16 → is_same_role c d ≡ true
+unfolding is_same_role
+role-same c d is = eq-eqb (c % 16) (d % 16) is
+
+-- ---- the cells of an address and of the one before it
+
+module _ (m : MapView) (a c d : ℕ) (some : 0 < a) (before : c % 16 ≡ code_of (role_at m (a - 1))) (here : d % 16 ≡ code_of (role_at m a)) (border : d / 256 ≡ bit (is_border m.info.segments a)) where
+  alike-by : (o : Option RangeType) → role_at m a ≡ o → role_at m (a - 1) ≡ o → code_of o ≢ 0 → is_border m.info.segments a ≡ false → is_in_run m a ≡ true
+  alike-by None is is_before some_code unbroken = absurd (some_code no-code)
+  alike-by (Some r) is is_before some_code unbroken =
+      let at = has-role m a r is in
+      let behind = has-role m (a - 1) r is_before in
+      run-if m a (record { low = omega (arith, some, behind.low); high = at.high; same = behind.is ∙ sym at.is; unbroken = unbroken })
+
+  run-alike : are_one_run c d ≡ true → is_in_run m a ≡ true
+  unfolding are_one_run
+  run-alike is =
+      let outer = and_parts (is_same_role c d) (not (d % 16 == 0) && not (has_border d)) is in
+      let inner = and_parts (not (d % 16 == 0)) (not (has_border d)) outer.1 in
+      let same : role_at m (a - 1) ≡ role_at m a = same-code _ _ (sym before ∙ same-role c d outer.0 ∙ here) in
+      let some_code : code_of (role_at m a) ≢ 0 = λ none. both_ways_absurd (d % 16 == 0) (not-true (d % 16 == 0) inner.0) (eq-eqb (d % 16) 0 (here ∙ none)) in
+      alike-by (role_at m a) refl same some_code (sym (has_border-is d (is_border m.info.segments a) border) ∙ not-true (has_border d) inner.1)
+    where
+      both_ways_absurd : (p : Bool) → p ≡ false → p ≡ true → ⊥
+      both_ways_absurd p first second = cc
+
+  alike-run : is_in_run m a ≡ true → are_one_run c d ≡ true
+  unfolding are_one_run
+  alike-run run =
+      let at = in-run m a run in
+      let first : role_at m (a - 1) ≡ Some (role_of m.info (a - 1)) = role_at-inside m (a - 1) (omega (arith, at.low)) (omega (arith, at.high)) in
+      let second : role_at m a ≡ Some (role_of m.info a) = role_at-inside m a (omega (arith, at.low)) at.high in
+      let same : c % 16 ≡ d % 16 = before ∙ ap code_of (first ∙ ap Some at.same ∙ sym second) ∙ sym here in
+      let code : d % 16 ≡ code_of (Some (role_of m.info a)) = here ∙ ap code_of second in
+      and_from _ _ (role-same c d same)
+      (and_from _ _ (ap not (ne_eqb (d % 16) 0 (λ none. omega (arith, code, none, some-code (role_of m.info a)))))
+      (ap not (has_border-is d (is_border m.info.segments a) border ∙ at.unbroken)))
+
+  pub run-cells : are_one_run c d ≡ is_in_run m a
+  run-cells = both_ways (are_one_run c d) (is_in_run m a) run-alike alike-run

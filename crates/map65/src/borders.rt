@@ -1,0 +1,43 @@
+//! The sweep that marks segment borders.
+
+ghost use Rattle.std.specs.Prelude.{◌≡◌, ◌+◌, ◌==◌, ◌||◌, ◌<◌, ◌≤◌, ℕ, length, slice_index};
+ghost use Rattle.map65.specs.Code.Marking.{bordered};
+ghost use Rattle.map65.specs.Segments.{is_border};
+
+use crate::cells::with_border;
+use info65::Info;
+use std::alloc::Allocator;
+
+/// Marks a border before an address. $10000 is none.
+fn mark_border(cells: &mut [u16], at: usize)
+    requires count { length cells.old ≡ 65536 }
+    ensures count { length cells.new ≡ 65536 }
+    ensures each { (a : ℕ) → a < 65536 → slice_index cells.new a ≡ bordered (at == a) (slice_index cells.old a) }
+{
+    if at < cells.len() {
+        cells[at] = with_border(cells[at]);
+    }
+}
+
+/// Marks the borders of a segment: before its first address, and after its last one.
+fn mark_segment(cells: &mut [u16], first: u16, last: u16)
+    requires count { length cells.old ≡ 65536 }
+    ensures count { length cells.new ≡ 65536 }
+    ensures each { (a : ℕ) → a < 65536 → slice_index cells.new a ≡ bordered (first == a || last + 1 == a) (slice_index cells.old a) }
+{
+    mark_border(cells, usize::from(first));
+    mark_border(cells, usize::from(last) + 1);
+}
+
+/// Marks the borders of all segments.
+pub fn mark_borders<A: Allocator>(cells: &mut [u16], info: &Info<A>)
+    requires count { length cells.old ≡ 65536 }
+    ensures count { length cells.new ≡ 65536 }
+    ensures each { (a : ℕ) → a < 65536 → slice_index cells.new a ≡ bordered (is_border info.now.segments a) (slice_index cells.old a) }
+{
+    let segments = info.segments();
+    for i in 0..segments.len() {
+        let segment = &segments[i];
+        mark_segment(cells, segment.first, segment.last);
+    }
+}

@@ -1,0 +1,184 @@
+-- A line that says something has the same parts where a blank and a remark follow it.
+use Rattle.std.proofs.Common.{◌≡◌, ℕ, zero, suc, Bool, true, false, eqb, ◌+◌, ◌<◌, ◌≤◌, List, [], ◌∷◌, ◌++◌, length, drop, refl, ap, arith, inl, inr}
+use Rattle.std.specs.Prelude.{not, Some, None}
+use Rattle.std.specs.List.{prefix_len, list_all}
+use Rattle.std.specs.Char.{is_ascii_digit, is_ascii_hexdigit}
+use Rattle.std.proofs.lemmas.Bool.{eqb-true}
+use Rattle.std.proofs.lemmas.List.{take-append-le, drop-append-le, length-drop}
+use Rattle.std.proofs.lemmas.List.Folds.{list_all-append}
+use Rattle.stmt65.specs.Lexing.{is_blank, is_word_start, is_word_byte, is_text_byte, hex_len, part_at, parts, parts_after}
+use Rattle.stmt65.specs.Parts.{Part, Mark, begins_with}
+use Rattle.stmt65.specs.SourceLine.{Value, NumberValue, NameValue, Form, Empty, Accumulator, Immediate, Direct, DirectX, DirectY, Two, Indirect, IndirectX, IndirectY, Datum, NumberDatum, StringDatum, Operation, Nothing, Instr, Data, Words, Dbyts, Addrs, Segment, Code, SetCpu, SourceLine, Assignment, PlaceAssignment, Statement}
+use Rattle.stmt65.specs.Spelling as item
+use Rattle.stmt65.specs.Spelling.{Item, IsPlus, IsMinus, IsValue, IsDatum, IsList, IsItem, Spells, IsSpelling, form_items, operation_items, line_items}
+use Rattle.stmt65.specs.declared.source_line.AddressSize.TheVariants.{Absolute, Automatic}
+use Rattle.stmt65.specs.declared.source_line.Minus.{Minus}
+use Rattle.stmt65.specs.declared.source_line.Minus.TheVariants.{Zero, One}
+use Rattle.stmt65.proofs.Cases.{by_test, both}
+use Rattle.stmt65.proofs.SpacingLemmas.{run_fits, taken}
+
+-- ---- a part that is no open string is the same before a blank
+
+-- no `"` by itself
+abbrev pub is_closed : Part → Bool
+is_closed (Mark b) = not (eqb b 34)
+is_closed _ = true
+
+-- a run that a blank ends
+run_same : (p : ℕ → Bool) (xs more : List ℕ) → p 32 ≡ false → prefix_len p (xs ++ 32 ∷ more) ≡ prefix_len p xs
+run_same p [] more e = rw e refl
+run_same p (x ∷ xs) more e = by_test (p x) (λ t. rw (t, run_same p xs more e) refl) (λ t. rw t refl)
+
+-- a run that ends before the blank
+run_before : (p : ℕ → Bool) (xs more : List ℕ) → prefix_len p xs < length xs → prefix_len p (xs ++ more) ≡ prefix_len p xs
+run_before p [] more lt = absurd (omega arith)
+run_before p (x ∷ xs) more lt = by_test (p x)
+    (λ t. let lt : 1 + prefix_len p xs < suc (length xs) = rw t at lt in rw (t, run_before p xs more (omega arith)) refl)
+    (λ t. rw t refl)
+
+begins_some : (b : ℕ) (bs : List ℕ) → begins_with b bs ≡ true → 0 < length bs
+begins_some b [] h = absurd cc
+begins_some b (c ∷ bs) h = omega arith
+
+begins_same : (b : ℕ) (bs more : List ℕ) → begins_with b bs ≡ true → begins_with b (bs ++ more) ≡ true
+begins_same b [] more h = absurd cc
+begins_same b (c ∷ bs) more h = h
+
+-- the first byte of what follows
+begins_blank : (b : ℕ) (bs more : List ℕ) → eqb 32 b ≡ false → begins_with b (bs ++ 32 ∷ more) ≡ begins_with b bs
+begins_blank b [] more e = e
+begins_blank b (c ∷ bs) more e = refl
+
+-- a string that is closed in front
+text_same : (bs more : List ℕ) → begins_with 34 (drop (prefix_len is_text_byte bs) bs) ≡ true → part_at 34 (bs ++ more) ≡ part_at 34 bs
+unfolding part_at
+text_same bs more h =
+    let n = prefix_len is_text_byte bs in
+    let some = begins_some 34 (drop n bs) h in
+    let inside : prefix_len is_text_byte bs < length bs = omega (arith, length-drop n bs) in
+    let closed : begins_with 34 (drop n bs ++ more) ≡ true = begins_same 34 (drop n bs) more h in
+    rw (run_before is_text_byte bs more inside, take-append-le n bs more (omega arith), drop-append-le n bs more (omega arith), closed, h) refl
+
+unclosed : (bs : List ℕ) → begins_with 34 (drop (prefix_len is_text_byte bs) bs) ≡ false → is_closed (part_at 34 bs).0 ≡ false
+unfolding part_at
+unclosed bs t = rw t refl
+
+quote_same : (bs more : List ℕ) → is_closed (part_at 34 bs).0 ≡ true → part_at 34 (bs ++ more) ≡ part_at 34 bs
+quote_same bs more h =
+    by_test (begins_with 34 (drop (prefix_len is_text_byte bs) bs)) (λ t. text_same bs more t) (λ t. let e = unclosed bs t in absurd cc)
+
+other_same : (b : ℕ) (bs more : List ℕ) → eqb b 34 ≡ false → part_at b (bs ++ 32 ∷ more) ≡ part_at b bs
+unfolding part_at
+other_same b bs more q =
+    by_test (is_word_start b)
+    (λ w. rw (w, run_same is_word_byte bs more refl, take-append-le (prefix_len is_word_byte bs) bs (32 ∷ more) (run_fits is_word_byte bs)) refl)
+    (λ w. rw w (by_test (is_ascii_digit b)
+    (λ d. rw (d, run_same is_ascii_digit bs more refl, take-append-le (prefix_len is_ascii_digit bs) bs (32 ∷ more) (run_fits is_ascii_digit bs)) refl)
+    (λ d. rw (d, q, run_same is_ascii_hexdigit bs more refl, take-append-le (hex_len bs) bs (32 ∷ more) (omega (arith, run_fits is_ascii_hexdigit bs)), begins_blank 61 bs more refl) refl)))
+
+part_same : (b : ℕ) (bs more : List ℕ) → is_closed (part_at b bs).0 ≡ true → part_at b (bs ++ 32 ∷ more) ≡ part_at b bs
+part_same b bs more h =
+    by_test (eqb b 34)
+    (λ q. let e = eqb-true b 34 q in let h' = rw e at h in rw e (quote_same bs (32 ∷ more) h'))
+    (λ q. other_same b bs more q)
+
+-- ---- a line and what follows it
+
+-- a blank and a remark have no parts
+pub parts_then : (skip : ℕ) (xs more : List ℕ) → skip ≤ length xs → list_all is_closed (parts_after skip xs) ≡ true → parts more ≡ [] → parts_after skip (xs ++ 32 ∷ more) ≡ parts_after skip xs
+unfolding parts_after
+parts_then zero [] more le h e = e
+parts_then (suc skip) [] more le h e = absurd (omega arith)
+parts_then (suc skip) (x ∷ xs) more le h e = parts_then skip xs more (omega arith) h e
+parts_then zero (x ∷ xs) more le h e =
+    by_test (is_blank x)
+    (λ t. let h' = rw t at h in rw t (parts_then zero xs more (omega arith) h' e))
+    (λ t. by_test (eqb x 59)
+    (λ s. rw (t, s) refl)
+    (λ s.
+    let h' = rw (t, s) at h in
+    let k = both (is_closed (part_at x xs).0) (list_all is_closed (parts_after (part_at x xs).1 xs)) h' in
+    let front = taken x xs t s in
+    rw (t, s, part_same x xs more k.0) (ap (λ (ps : List Part). (part_at x xs).0 ∷ ps) (parts_then (part_at x xs).1 xs more front.fits k.1 e))))
+
+-- ---- what is spelled has no open string
+
+abbrev pub AreClosed : List Part → Type 0
+AreClosed ps = list_all is_closed ps ≡ true
+
+both_closed : (ps qs : List Part) → AreClosed ps → AreClosed qs → AreClosed (ps ++ qs)
+both_closed ps qs h g = rw (list_all-append is_closed ps qs, h, g) refl
+
+plus_closed : (n : ℕ) (ps : List Part) → IsPlus n ps → AreClosed ps
+plus_closed n ps (inl h) = rw h.1 refl
+plus_closed n ps (inr h) = rw h.2 refl
+
+minus_closed : (less : Minus) (ps : List Part) → IsMinus less ps → AreClosed ps
+minus_closed One ps h = rw h refl
+minus_closed Zero ps h = rw h refl
+
+value_closed : (v : Value) (ps : List Part) → IsValue v ps → AreClosed ps
+value_closed (NumberValue n) ps h = rw h.2 refl
+value_closed (NameValue w n less) ps h = rw h.2 (both_closed h.0 h.1 (plus_closed n h.0 h.4) (minus_closed less h.1 h.5))
+
+datum_closed : (d : Datum) (ps : List Part) → IsDatum d ps → AreClosed ps
+datum_closed (NumberDatum n) ps h = rw h.2 refl
+datum_closed (StringDatum t) ps h = rw h refl
+
+list_closed : {A : Type 0} (Is : A → List Part → Type 0) → ((x : A) (ps : List Part) → Is x ps → AreClosed ps) → (xs : List A) (ps : List Part) → IsList Is xs ps → AreClosed ps
+list_closed Is each [] ps h = absurd h
+list_closed Is each (x ∷ []) ps h = each x ps h
+list_closed Is each (x ∷ y ∷ xs) ps h = rw h.2 (both_closed h.0 (Mark 44 ∷ h.1) (each x h.0 h.3) (list_closed Is each (y ∷ xs) h.1 h.4))
+
+abbrev pub is_closed_item : Item → Bool
+is_closed_item (item.mark b) = not (eqb b 34)
+is_closed_item _ = true
+
+item_closed : (i : Item) (ps : List Part) → is_closed_item i ≡ true → IsItem i ps → AreClosed ps
+item_closed (item.word text) ps k h = rw h.2 refl
+item_closed (item.mark b) ps k h = rw (h, k) refl
+item_closed item.define ps k h = rw h refl
+item_closed (item.name w) ps k h = rw h.1 refl
+item_closed (item.number n) ps k h = rw h.2 refl
+item_closed (item.string t) ps k h = rw h refl
+item_closed (item.quoted_name t) ps k h = rw h.1 refl
+item_closed (item.value v) ps k h = value_closed v ps h
+item_closed (item.data_list xs) ps k h = list_closed IsDatum datum_closed xs ps h
+item_closed (item.value_list vs) ps k h = list_closed IsValue value_closed vs ps h
+
+spells_closed : (is : List Item) (ps : List Part) → list_all is_closed_item is ≡ true → Spells is ps → AreClosed ps
+unfolding Spells
+spells_closed [] ps k h = rw h refl
+spells_closed (i ∷ is) ps k h =
+    let b = both (is_closed_item i) (list_all is_closed_item is) k in
+    rw h.2 (both_closed h.0 h.1 (item_closed i h.0 b.0 h.3) (spells_closed is h.1 b.1 h.4))
+
+form_closed : (f : Form) → list_all is_closed_item (form_items f) ≡ true
+form_closed (Direct Absolute v) = refl
+form_closed (Direct Automatic v) = refl
+form_closed (DirectX Absolute v) = refl
+form_closed (DirectX Automatic v) = refl
+form_closed (DirectY Absolute v) = refl
+form_closed (DirectY Automatic v) = refl
+form_closed Empty = refl
+form_closed Accumulator = refl
+form_closed (Immediate v) = refl
+form_closed (Two v w) = refl
+form_closed (Indirect v) = refl
+form_closed (IndirectX v) = refl
+form_closed (IndirectY v) = refl
+
+operation_closed : (o : Operation) → list_all is_closed_item (operation_items o) ≡ true
+operation_closed (Instr m f) = form_closed f
+operation_closed Nothing = refl
+operation_closed _ = refl
+
+line_closed : (r : SourceLine) → list_all is_closed_item (line_items r) ≡ true
+line_closed (Assignment w n) = refl
+line_closed (PlaceAssignment w n) = refl
+line_closed (Statement None o) = operation_closed o
+line_closed (Statement (Some w) o) = operation_closed o
+
+-- a line that says something has no open string
+pub spelled_closed : (r : SourceLine) (ps : List Part) → IsSpelling r ps → AreClosed ps
+spelled_closed r ps h = spells_closed (line_items r) ps (line_closed r) h
