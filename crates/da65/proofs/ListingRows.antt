@@ -1,5 +1,5 @@
 -- The definition of the listing, held against worked examples.
-use Rattle.std.proofs.Common.{◌≡◌, refl, subst, ℕ, List, [], ◌∷◌, arith}
+use Rattle.std.proofs.Common.{◌≡◌, refl, subst, ℕ, List, [], ◌∷◌, arith, Some}
 use Rattle.std.specs.Prelude.{◌++◌, codes, decimal}
 use Rattle.stmt65.specs.Tables.{cut_text, low_words}
 use Rattle.std.proofs.lemmas.Fmt.{decimal-digits_of}
@@ -20,7 +20,7 @@ use Rattle.da65.specs.Comments.{comment_at}
 use Rattle.da65.specs.Groups.{begins, goes_on, group_addresses, group_len, more_at, stride_at}
 use Rattle.da65.specs.Instructions.{instruction_in}
 use Rattle.da65.specs.Listing.{comment_lines, comments, constant_lines, constants, ending_lines, forward_lines, forwards, group_lines, line_text, listing_below, opening_lines, segment_lines, separator, separator_lines, statement_lines, text_of}
-use Rattle.da65.specs.ListingRows.{IsListed, IsListedWhole, WorkedListings, code_at, label, range, with_hexoffs, with_labels, with_ranges}
+use Rattle.da65.specs.ListingRows.{IsListed, IsListedWhole, WorkedListings, code_at, label, range, segment, with_columns, with_comments, with_hexoffs, with_labels, with_newline_after_rts, with_ranges, with_segments}
 use Rattle.da65.specs.Segments.{segment_at, segment_before}
 use Rattle.da65.specs.Style.{style_of}
 use Rattle.da65.specs.Statements.{address_entry, address_expr, operands_of, return_entry, statement_for, statement_in, zero_page_expr}
@@ -155,6 +155,39 @@ text_table : IsListed (with_ranges (range 0x1000 0x1004 role.TextTable ∷ []) (
 unfolding addresses are_joined base_at begins bytes_text comment_at comment_lines comments covering covering_below cut_text default_name address_entry address_expr constant_lines constants data_text ending_lines forward_lines forwards goes_on group_addresses group_len group_lines filled has_name home home_base instruction_in is_border is_in_run is_joined is_own is_wanted item_len last_item left_at line_of line_text listing_below low_words more_at opening_lines operand_target operand_text operands_of place_of refers return_entry role_at role_in segment_at segment_before segment_covering segment_lines separator separator_lines size_at statement_for statement_in statement_lines stride_at style_of target_at target_for target_of text_of wanted_at words_text zero_page_expr
 text_table = refl
 
+segment_and_back : IsListed (with_segments (segment 0x1001 0x1001 (codes "DATA") ∷ []) (code_at 0x1000 (0xEA ∷ 0xEA ∷ 0xEA ∷ [])))
+    (codes "        nop\n        .segment \"DATA\"\n        nop\n        .code\n        nop\n")
+unfolding addresses are_joined base_at begins bytes_text comment_at comment_lines comments covering covering_below cut_text default_name address_entry address_expr constant_lines constants data_text ending_lines forward_lines forwards goes_on group_addresses group_len group_lines filled has_name home home_base instruction_in is_border is_in_run is_joined is_own is_wanted item_len last_item left_at line_of line_text listing_below low_words more_at opening_lines operand_target operand_text operands_of place_of refers return_entry role_at role_in segment_at segment_before segment_covering segment_lines separator separator_lines size_at statement_for statement_in statement_lines stride_at style_of target_at target_for target_of text_of wanted_at words_text zero_page_expr
+segment_and_back = refl
+
+instruction_cut_by_a_segment : IsListed (with_segments (segment 0x1001 0x1001 (codes "DATA") ∷ []) (code_at 0x1000 (0xA9 ∷ 1 ∷ [])))
+    (codes "        .byte   $A9\n        .segment \"DATA\"\n        .byte   $01\n")
+unfolding addresses are_joined base_at begins bytes_text comment_at comment_lines comments covering covering_below cut_text default_name address_entry address_expr constant_lines constants data_text ending_lines forward_lines forwards goes_on group_addresses group_len group_lines filled has_name home home_base instruction_in is_border is_in_run is_joined is_own is_wanted item_len last_item left_at line_of line_text listing_below low_words more_at opening_lines operand_target operand_text operands_of place_of refers return_entry role_at role_in segment_at segment_before segment_covering segment_lines separator separator_lines size_at statement_for statement_in statement_lines stride_at style_of target_at target_for target_of text_of wanted_at words_text zero_page_expr
+instruction_cut_by_a_segment = refl
+
+segment_entered_again : IsListed (with_segments (segment 0x1000 0x1000 (codes "P") ∷ segment 0x1001 0x1001 (codes "Q") ∷ segment 0x1002 0x1002 (codes "P") ∷ []) (code_at 0x1000 (0xEA ∷ 0xEA ∷ 0xEA ∷ [])))
+    (codes "        .segment \"P\"\n        nop\n        .segment \"Q\"\n        nop\n        .segment \"P\"\n        nop\n")
+unfolding addresses are_joined base_at begins bytes_text comment_at comment_lines comments covering covering_below cut_text default_name address_entry address_expr constant_lines constants data_text ending_lines forward_lines forwards goes_on group_addresses group_len group_lines filled has_name home home_base instruction_in is_border is_in_run is_joined is_own is_wanted item_len last_item left_at line_of line_text listing_below low_words more_at opening_lines operand_target operand_text operands_of place_of refers return_entry role_at role_in segment_at segment_before segment_covering segment_lines separator separator_lines size_at statement_for statement_in statement_lines stride_at style_of target_at target_for target_of text_of wanted_at words_text zero_page_expr
+segment_entered_again = refl
+
+commented_label : IsListed (with_labels (record { address = 0x1000; size = 1; text = codes "go"; comment = Some (codes "entry") } ∷ []) (code_at 0x1000 (0x60 ∷ [])))
+    (codes "; entry\ngo:     rts\n")
+unfolding addresses are_joined base_at begins bytes_text comment_at comment_lines comments covering covering_below cut_text default_name address_entry address_expr constant_lines constants data_text ending_lines forward_lines forwards goes_on group_addresses group_len group_lines filled has_name home home_base instruction_in is_border is_in_run is_joined is_own is_wanted item_len last_item left_at line_of line_text listing_below low_words more_at opening_lines operand_target operand_text operands_of place_of refers return_entry role_at role_in segment_at segment_before segment_covering segment_lines separator separator_lines size_at statement_for statement_in statement_lines stride_at style_of target_at target_for target_of text_of wanted_at words_text zero_page_expr
+commented_label = refl
+
+every_remark : IsListed (with_comments 4 (code_at 0x1000 (0xA9 ∷ 0x41 ∷ [])))
+    (codes "; ----------------------------------------------------------------------------\n        lda     #$41                            ; 1000 A9 41                    .A\n")
+unfolding addresses are_joined base_at begins bytes_text comment_at comment_lines comments covering covering_below cut_text default_name address_entry address_expr constant_lines constants data_text ending_lines forward_lines forwards goes_on group_addresses group_len group_lines filled has_name home home_base instruction_in is_border is_in_run is_joined is_own is_wanted item_len last_item left_at line_of line_text listing_below low_words more_at opening_lines operand_target operand_text operands_of place_of refers return_entry role_at role_in segment_at segment_before segment_covering segment_lines separator separator_lines size_at statement_for statement_in statement_lines stride_at style_of target_at target_for target_of text_of wanted_at words_text zero_page_expr
+every_remark = refl
+
+newline_after_rts : IsListed (with_newline_after_rts (code_at 0xFFFD (0xA9 ∷ 1 ∷ 0x60 ∷ []))) (codes "        lda     #$01\n        rts\n\n")
+unfolding addresses are_joined base_at begins bytes_text comment_at comment_lines comments covering covering_below cut_text default_name address_entry address_expr constant_lines constants data_text ending_lines forward_lines forwards goes_on group_addresses group_len group_lines filled has_name home home_base instruction_in is_border is_in_run is_joined is_own is_wanted item_len last_item left_at line_of line_text listing_below low_words more_at opening_lines operand_target operand_text operands_of place_of refers return_entry role_at role_in segment_at segment_before segment_covering segment_lines separator separator_lines size_at statement_for statement_in statement_lines stride_at style_of target_at target_for target_of text_of wanted_at words_text zero_page_expr
+newline_after_rts = refl
+
+first_columns : IsListedWhole (with_columns 1 1 (code_at 0x1000 (0xA9 ∷ 1 ∷ []))) (codes "; da65 listing\n\n.setcpu \"6502\"\n\nlda #$01\n")
+unfolding addresses are_joined base_at begins bytes_text comment_at comment_lines comments covering covering_below cut_text default_name address_entry address_expr constant_lines constants data_text ending_lines forward_lines forwards goes_on group_addresses group_len group_lines filled has_name home home_base instruction_in is_border is_in_run is_joined is_own is_wanted item_len last_item left_at line_of line_text listing_below low_words more_at opening_lines operand_target operand_text operands_of place_of refers return_entry role_at role_in segment_at segment_before segment_covering segment_lines separator separator_lines size_at statement_for statement_in statement_lines stride_at style_of target_at target_for target_of text_of wanted_at words_text zero_page_expr
+first_columns = refl
+
 pub worked_listings : WorkedListings
 worked_listings = record {
   three_bytes = three_bytes;
@@ -182,4 +215,11 @@ worked_listings = record {
   one_run = one_run;
   nine_bytes = nine_bytes;
   text_table = text_table;
+  segment_and_back = segment_and_back;
+  instruction_cut_by_a_segment = instruction_cut_by_a_segment;
+  segment_entered_again = segment_entered_again;
+  commented_label = commented_label;
+  every_remark = every_remark;
+  newline_after_rts = newline_after_rts;
+  first_columns = first_columns;
 }

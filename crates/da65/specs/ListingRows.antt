@@ -1,6 +1,6 @@
 -- Worked examples: the listings of small images, as text below the header.
 use Rattle.std.specs.Prelude.{◌≡◌, ℕ, Bool, true, false, List, [], ◌∷◌, drop, map, codes, None, Some}
-use Rattle.info65.specs.Views.{NameView, default_settings}
+use Rattle.info65.specs.Views.{NameView, SegmentView, SettingsView, default_settings}
 use Rattle.info65.specs.declared.range.RangeSpec.{RangeSpec}
 use Rattle.info65.specs.declared.range.RangeType.{RangeType}
 use Rattle.info65.specs.declared.range.RangeType.TheVariants as role
@@ -15,7 +15,8 @@ pub record Example : Type 0 where
   pub bytes : List ℕ
   pub ranges : List RangeSpec
   pub names : List NameView
-  pub hexoffs : Bool
+  pub segments : List SegmentView
+  pub settings : SettingsView
 
 abbrev pub range : ℕ → ℕ → RangeType → RangeSpec
 range a b r = record { first = a; last = b; role = r }
@@ -23,11 +24,14 @@ range a b r = record { first = a; last = b; role = r }
 abbrev pub label : ℕ → ℕ → List ℕ → NameView
 label a size text = record { address = a; size = size; text = text; comment = None }
 
+abbrev pub segment : ℕ → ℕ → List ℕ → SegmentView
+segment a b name = record { first = a; last = b; name = name }
+
 abbrev pub map_of : Example → MapView
 map_of e = record {
   info = record {
-    settings = record default_settings { input = Some []; start = Some e.start; hexoffs = e.hexoffs };
-    segments = [];
+    settings = record e.settings { input = Some []; start = Some e.start };
+    segments = e.segments;
     ranges = e.ranges;
     names = e.names;
   };
@@ -35,7 +39,7 @@ map_of e = record {
 }
 
 abbrev pub code_at : ℕ → List ℕ → Example
-code_at start bytes = record { start = start; bytes = bytes; ranges = []; names = []; hexoffs = false }
+code_at start bytes = record { start = start; bytes = bytes; ranges = []; names = []; segments = []; settings = default_settings }
 
 abbrev pub with_ranges : List RangeSpec → Example → Example
 with_ranges ranges e = record e { ranges = ranges }
@@ -43,8 +47,20 @@ with_ranges ranges e = record e { ranges = ranges }
 abbrev pub with_labels : List NameView → Example → Example
 with_labels names e = record e { names = names }
 
+abbrev pub with_segments : List SegmentView → Example → Example
+with_segments segments e = record e { segments = segments }
+
 abbrev pub with_hexoffs : Example → Example
-with_hexoffs e = record e { hexoffs = true }
+with_hexoffs e = record e { settings = record e.settings { hexoffs = true } }
+
+abbrev pub with_comments : ℕ → Example → Example
+with_comments level e = record e { settings = record e.settings { comments = level } }
+
+abbrev pub with_columns : ℕ → ℕ → Example → Example
+with_columns mnemonic argument e = record e { settings = record e.settings { mnemonic_column = mnemonic; argument_column = argument } }
+
+abbrev pub with_newline_after_rts : Example → Example
+with_newline_after_rts e = record e { settings = record e.settings { newline_after_rts = true } }
 
 -- Below the four lines of the header, with the constants up to $FF, the listing has this text.
 abbrev pub IsListed : Example → List ℕ → Type 0
@@ -95,3 +111,16 @@ pub record WorkedListings : Type 0 where
   pub nine_bytes : IsListed (with_ranges (range 0x1000 0x1008 role.ByteTable ∷ []) (code_at 0x1000 (0 ∷ 0 ∷ 0 ∷ 0 ∷ 0 ∷ 0 ∷ 0 ∷ 0 ∷ 1 ∷ [])))
       (codes "        .byte   $00,$00,$00,$00,$00,$00,$00,$00\n        .byte   $01\n")
   pub text_table : IsListed (with_ranges (range 0x1000 0x1004 role.TextTable ∷ []) (code_at 0x1000 (0x48 ∷ 0x22 ∷ 0x5C ∷ 0x49 ∷ 0x0D ∷ []))) (codes "        .byte   \"H\",$22,$5C,\"I\",$0D\n")
+  -- back to the default segment
+  pub segment_and_back : IsListed (with_segments (segment 0x1001 0x1001 (codes "DATA") ∷ []) (code_at 0x1000 (0xEA ∷ 0xEA ∷ 0xEA ∷ [])))
+      (codes "        nop\n        .segment \"DATA\"\n        nop\n        .code\n        nop\n")
+  pub instruction_cut_by_a_segment : IsListed (with_segments (segment 0x1001 0x1001 (codes "DATA") ∷ []) (code_at 0x1000 (0xA9 ∷ 1 ∷ [])))
+      (codes "        .byte   $A9\n        .segment \"DATA\"\n        .byte   $01\n")
+  pub segment_entered_again : IsListed (with_segments (segment 0x1000 0x1000 (codes "P") ∷ segment 0x1001 0x1001 (codes "Q") ∷ segment 0x1002 0x1002 (codes "P") ∷ []) (code_at 0x1000 (0xEA ∷ 0xEA ∷ 0xEA ∷ [])))
+      (codes "        .segment \"P\"\n        nop\n        .segment \"Q\"\n        nop\n        .segment \"P\"\n        nop\n")
+  pub commented_label : IsListed (with_labels (record { address = 0x1000; size = 1; text = codes "go"; comment = Some (codes "entry") } ∷ []) (code_at 0x1000 (0x60 ∷ [])))
+      (codes "; entry\ngo:     rts\n")
+  pub every_remark : IsListed (with_comments 4 (code_at 0x1000 (0xA9 ∷ 0x41 ∷ [])))
+      (codes "; ----------------------------------------------------------------------------\n        lda     #$41                            ; 1000 A9 41                    .A\n")
+  pub newline_after_rts : IsListed (with_newline_after_rts (code_at 0xFFFD (0xA9 ∷ 1 ∷ 0x60 ∷ []))) (codes "        lda     #$01\n        rts\n\n")
+  pub first_columns : IsListedWhole (with_columns 1 1 (code_at 0x1000 (0xA9 ∷ 1 ∷ []))) (codes "; da65 listing\n\n.setcpu \"6502\"\n\nlda #$01\n")

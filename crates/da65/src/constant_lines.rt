@@ -31,11 +31,7 @@ fn has_constant<A: Allocator>(map: &Map<'_, A>, address: u16) -> bool
 }
 
 /// Whether the address has a constant line. Then the buffer holds the name.
-fn is_named_constant<A: Allocator>(
-    listed: &Listed<'_, A>,
-    address: u16,
-    name: &mut NameBuf,
-) -> bool
+fn is_named_constant<A: Allocator>(listed: &Listed<'_, A>, address: u16, name: &mut NameBuf) -> bool
     ensures is { result ≡ has_constant_line (names_of listed.now) address }
     ensures text { OnTrue result (name.new.items ≡ base_name (names_of listed.now) address) }
     ensures long { OnTrue result (IsNameLong name.new.items) }
@@ -122,6 +118,10 @@ pub fn put_assignment<A: Allocator>(
     let Some(_) = base_at(listed.map(), at as u16, &mut name) else {
         return ListingPlace::Constant(at + 1, true);
     };
-    put_plain(out, listed.style(), &Statement::Const(name.as_slice(), at as u16));
+    put_plain(
+        out,
+        listed.style(),
+        &Statement::Const(name.as_slice(), at as u16),
+    );
     ListingPlace::Constant(at + 1, true)
 }

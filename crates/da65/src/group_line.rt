@@ -259,7 +259,15 @@ fn put_named<A: Allocator>(
 {
     let mut first = NameBuf::new();
     let mut second = NameBuf::new();
-    let statement = statement_for(&style.cpu, map, role, address, bytes, &mut first, &mut second);
+    let statement = statement_for(
+        &style.cpu,
+        map,
+        role,
+        address,
+        bytes,
+        &mut first,
+        &mut second,
+    );
     put_closing(out, style, label, &statement, address, bytes)
 }
 

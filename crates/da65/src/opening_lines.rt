@@ -18,7 +18,8 @@ use std::alloc::Allocator;
 use stmt65::{Line, Statement};
 
 /// What stands in the separator.
-const HYPHENS: &[u8] = b"----------------------------------------------------------------------------";
+const HYPHENS: &[u8] =
+    b"----------------------------------------------------------------------------";
 
 /// Replaces the buffer by the separator.
 #[tactic(auto, unfolding(crate::specs::Listing::separator))]

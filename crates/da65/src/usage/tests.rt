@@ -148,9 +148,18 @@ fn refusals(rt: HostRuntime) -> Result<(), Fail> {
         (UsageFault::OutOfRange, &["--text-column", "4294967297"]),
         (UsageFault::OutOfRange, &["--label-break", "121"]),
         // in the order of the help text
-        (UsageFault::OutOfRange, &["--label-break", "x", "--comments", "5"]),
-        (UsageFault::BadNumber, &["--text-column", "0", "--comment-column", "x"]),
-        (UsageFault::OutOfRange, &["--comments", "x", "--cpu", "6809"]),
+        (
+            UsageFault::OutOfRange,
+            &["--label-break", "x", "--comments", "5"],
+        ),
+        (
+            UsageFault::BadNumber,
+            &["--text-column", "0", "--comment-column", "x"],
+        ),
+        (
+            UsageFault::OutOfRange,
+            &["--comments", "x", "--cpu", "6809"],
+        ),
         (UsageFault::Words, &["--comments", "1", "--comments", "1"]),
         (UsageFault::Words, &["--comments"]),
         (UsageFault::Words, &["a.bin", "b.bin"]),
