@@ -93,6 +93,7 @@ fn put_forward<A: Allocator>(
 
 /// Replaces the buffer by the statement of the group that begins with the byte of this index and has so many
 /// bytes, after this label if there is one, and returns the next place.
+#[inline(always)]
 fn put_group<A: Allocator>(
     out: &mut Line,
     listed: &Listed<'_, A>,
@@ -142,6 +143,7 @@ fn put_labelled<A: Allocator>(
 }
 
 /// Replaces the buffer by the first line of a group after its forward lines, and returns the next place.
+#[inline(never)]
 fn put_label<A: Allocator>(
     out: &mut Line,
     listed: &Listed<'_, A>,
@@ -161,6 +163,7 @@ fn put_label<A: Allocator>(
 
 /// Replaces the buffer by the first line of a group after its forward lines, and returns the next place. Most groups have no
 /// name, and need no buffer for one.
+#[inline(always)]
 fn put_first<A: Allocator>(
     out: &mut Line,
     listed: &Listed<'_, A>,
@@ -190,6 +193,7 @@ pub fn len_at<A: Allocator>(listed: &Listed<'_, A>, at: usize) -> usize
 }
 
 /// Replaces the buffer by the first line of a group from the forward line of this address on, and returns the next place.
+#[inline(always)]
 pub fn put_inside<A: Allocator>(
     out: &mut Line,
     listed: &Listed<'_, A>,

@@ -69,6 +69,7 @@ fn shown_from<A: Allocator>(listed: &Listed<'_, A>, from: usize) -> usize
 
 /// Replaces the buffer by the first line of the next group from this byte on, and returns the next place. `segment` is that of
 /// the group before, and becomes that of this group where its line is written.
+#[inline(always)]
 fn put_next_group<'a, A: Allocator>(
     out: &mut Line,
     listed: &Listed<'a, A>,

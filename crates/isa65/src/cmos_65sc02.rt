@@ -40,6 +40,7 @@ fn adds_zpx(mnemonic: Mnemonic) -> bool
 impl OpcodeSet for Cmos65Sc02 {
     ghost table = { λ _. cmos_65sc02 };
 
+    #[inline(always)]
     fn decode(&self, byte: u8) -> Option<Op> {
         match byte {
             0x04 => op(Mnemonic::Tsb, Mode::Zp),

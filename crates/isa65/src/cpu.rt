@@ -73,6 +73,7 @@ impl OpcodeSet for Cpu {
 
     ghost table = { table_of };
 
+    #[inline(always)]
     fn decode(&self, byte: u8) -> Option<Op> {
         match self {
             Cpu::M6502 => Mos6502.decode(byte),

@@ -84,6 +84,7 @@ fn has_zpy(mnemonic: Mnemonic) -> bool
 impl OpcodeSet for Mos6502 {
     ghost table = { λ _. mos_6502 };
 
+    #[inline(always)]
     fn decode(&self, byte: u8) -> Option<Op> {
         match byte {
             0x00 => op(Mnemonic::Brk, Mode::Imp),

@@ -46,6 +46,7 @@ fn adds_zp(mnemonic: Mnemonic) -> bool
 impl OpcodeSet for Rockwell65C02 {
     ghost table = { λ _. rockwell_65c02 };
 
+    #[inline(always)]
     fn decode(&self, byte: u8) -> Option<Op> {
         match byte {
             0x07 => op(Mnemonic::Rmb0, Mode::Zp),
