@@ -1,42 +1,18 @@
 //! A buffer in front of a sink.
 
-ghost use Rattle.std.specs.Prelude.{◌≡◌, ◌+◌, ◌≤◌, [], ◌++◌, drop, length, OnOk};
+ghost use Rattle.std.specs.Prelude.{◌≡◌, [], OnOk};
 ghost use Rattle.std.specs.Io.KnownBytes.{Keeps};
-ghost use Rattle.arrayvec.specs.ArrayVec.{array_vec_len};
 ghost use Rattle.map65.specs.Device.{Counts};
 ghost use Rattle.da65_cli.specs.Code.Buffered.{buffered_bytes, buffered_out, buffered_taken};
 
-use arrayvec::ArrayVec;
+use crate::block::Block;
 use da65::{DeviceFault, Sink};
-
-/// What is passed on at once at most: 8 KiB.
-type Block = ArrayVec<u8, 8192>;
 
 /// Collects bytes and passes them on to a sink, a block at a time.
 #[derive(Drop)]
 pub struct Buffered<W> {
     out: W,
     block: Block,
-}
-
-/// Appends bytes that the block has room for.
-fn put(block: &mut Block, bytes: &[u8])
-    requires { array_vec_len block.old + length bytes.now ≤ 8192 }
-    ensures { block.new.items ≡ block.old.items ++ bytes.now }
-{
-    let taken = block.try_extend_from_slice(bytes);
-    prove!(taken.is_ok());
-}
-
-/// The bytes after the first `count`.
-fn rest_of(block: &Block, count: usize) -> Block
-    requires { count ≤ array_vec_len block.now }
-    ensures { result.items ≡ drop count block.now.items }
-{
-    let (_, rest) = block.as_slice().split_at(count);
-    let mut left = Block::new();
-    put(&mut left, rest);
-    left
 }
 
 impl<W: Sink> Buffered<W> {
@@ -57,10 +33,9 @@ impl<W: Sink> Buffered<W> {
         ensures empty { OnOk result (buffered_bytes self.new ≡ []) }
         ensures count { Counts (W.faults (buffered_out self.old)) (W.faults (buffered_out self.new)) result }
     {
-        'writes: while !self.block.is_empty() {
+        'writes: while !self.block.as_slice().is_empty() {
             let n = self.out.write_some(self.block.as_slice())?;
-            let left = rest_of(&self.block, n);
-            self.block = left;
+            self.block.take(n);
         }
         Ok(())
     }
@@ -80,12 +55,12 @@ impl<W: Sink> Sink for Buffered<W> {
     ghost faults = { λ b. W.faults (buffered_out b) };
 
     fn write_some(&mut self, bytes: &[u8]) -> Result<usize, DeviceFault> {
-        if self.block.is_full() {
+        if self.block.room() == 0 {
             self.flush()?;
         }
-        let n = bytes.len().min(self.block.remaining_capacity());
+        let n = bytes.len().min(self.block.room());
         let (front, _) = bytes.split_at(n);
-        put(&mut self.block, front);
+        self.block.put(front);
         Ok(n)
     }
 }

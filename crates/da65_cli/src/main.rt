@@ -6,6 +6,7 @@
 //! the version was written, else 1.
 #![tactic(auto)]
 
+mod block;
 mod buffered;
 mod failure;
 mod held;

@@ -9,8 +9,8 @@ buffered_out b = b.out
 
 -- the bytes that were collected and not yet passed on
 abbrev pub buffered_bytes : {W : Type 0} → Buffered W → List ℕ
-buffered_bytes b = b.block.items
+buffered_bytes b = b.block.bytes
 
 -- the bytes that the sink took and then those of the buffer, where the sink tells them
 abbrev pub buffered_taken : {W : Type 0} → (W → Option (List ℕ)) → Buffered W → Option (List ℕ)
-buffered_taken taken b = append_known (taken b.out) b.block.items
+buffered_taken taken b = append_known (taken b.out) b.block.bytes

@@ -10,4 +10,4 @@ invariant-writes g l = record {
 }
 
 abbrev pub decreases-writes : goal.decreases-writes
-decreases-writes g l = length l.self.block.items
+decreases-writes g l = length l.self.block.bytes
