@@ -11,6 +11,8 @@ pub mod OnceLemmas
 pub mod PoolLemmas
 pub mod RangeLemmas
 pub mod ReaderLemmas
+pub mod SegmentCovering
 pub mod SegmentLemmas
+pub mod SegmentTableLemmas
 pub mod StandLemmas
 pub mod TokenLemmas

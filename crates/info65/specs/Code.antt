@@ -4,5 +4,6 @@ pub mod Index
 pub mod Names
 pub mod Pool
 pub mod Reading
+pub mod SegmentTable
 pub mod Segments
 pub mod Steps

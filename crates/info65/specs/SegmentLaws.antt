@@ -1,9 +1,9 @@
 -- Laws of segments.
-use Rattle.std.specs.Prelude.{◌≡◌, ◌↔◌, ◌∷◌, [], ℕ, All, Any, List, Some, None, Ok, true, false}
+use Rattle.std.specs.Prelude.{◌≡◌, ◌↔◌, ◌<◌, ◌∷◌, [], ℕ, All, Any, List, Some, None, Ok, length, true, false}
 use Rattle.info65.specs.Closing.{closing_fault}
 use Rattle.info65.specs.Grammar.{IsInformation}
 use Rattle.info65.specs.Groups.{AssignmentView, GroupView, value_in}
-use Rattle.info65.specs.Segments.{AreSegments, contains, segment_covering, segment_in, segments_of}
+use Rattle.info65.specs.Segments.{AreSegments, contains, segment_at, segment_covering, segment_in, segments_of}
 use Rattle.info65.specs.Values.{a_name, an_address}
 use Rattle.info65.specs.Views.{InfoView, OptionsView, SegmentView}
 use Rattle.info65.specs.declared.attribute.Attribute.TheVariants as attribute
@@ -44,10 +44,18 @@ abbrev pub SegmentsShare : Type 0
 SegmentsShare = (before : List GroupView) (given : List AssignmentView) (s : SegmentView) → segment_in given ≡ Ok s
     → (closing_fault before group.Segment given ≡ Some SegmentsOverlap) ↔ Any (Share s) (segments_of before)
 
+-- a segment that contains the address, and no other does
+pub record IsOnly (segments : List SegmentView) (a : ℕ) (name : List ℕ) : Type 0 where
+  pub place : ℕ
+  pub low : place < length segments
+  pub contains_it : contains (segment_at segments place) a ≡ true
+  pub named : name ≡ (segment_at segments place).name
+  pub only : (i : ℕ) → i < length segments → contains (segment_at segments i) a ≡ true → i ≡ place
+
 -- The name of an address is that of the one segment that contains it; where there is none, no segment does.
-pub record IsSegmentOf (segments : List SegmentView) : Type 0 where
-  pub some : (a : ℕ) → All (λ s. contains s a ≡ true → segment_covering segments a ≡ Some s.name) segments
-  pub none : (a : ℕ) → segment_covering segments a ≡ None → All (λ s. contains s a ≡ false) segments
+pub record IsCovered (segments : List SegmentView) (a : ℕ) : Type 0 where
+  pub some : (name : List ℕ) → segment_covering segments a ≡ Some name → IsOnly segments a name
+  pub none : segment_covering segments a ≡ None → All (λ s. contains s a ≡ false) segments
 
 abbrev pub CoversOne : Type 0
-CoversOne = (segments : List SegmentView) → AreSegments segments → IsSegmentOf segments
+CoversOne = (segments : List SegmentView) → AreSegments segments → (a : ℕ) → IsCovered segments a

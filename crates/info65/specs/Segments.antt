@@ -1,6 +1,6 @@
 -- Segments: their addresses, the segment of an address, what a group SEGMENT says, and what holds of all
 -- segments of a file.
-use Rattle.std.specs.Prelude.{◌≡◌, ◌≤◌, ◌&&◌, ℕ, Bool, true, List, [], ◌∷◌, Option, Some, Result, Ok, Err, All, AllPairs, nat_le, option_map, if◌then◌else◌}
+use Rattle.std.specs.Prelude.{◌≡◌, ◌≤◌, ◌&&◌, ℕ, Bool, true, List, [], ◌∷◌, Option, Some, Result, Ok, Err, All, AllPairs, get_or, nat_le, option_map, if◌then◌else◌}
 use Rattle.std.specs.List.{find, flat_map}
 use Rattle.info65.specs.Groups.{AssignmentView, GroupView, value_in}
 use Rattle.info65.specs.Names.{has_name_form}
@@ -19,6 +19,12 @@ contains s a = nat_le s.first a && nat_le a s.last
 -- the name of the segment that contains the address; in an information file no address belongs to two
 unfoldable pub segment_covering : List SegmentView → ℕ → Option (List ℕ)
 segment_covering segments a = option_map (λ s. s.name) (find (λ s. contains s a) segments)
+
+abbrev pub blank_segment : SegmentView
+blank_segment = record { first = 0; last = 0; name = [] }
+
+abbrev pub segment_at : List SegmentView → ℕ → SegmentView
+segment_at segments i = get_or segments i blank_segment
 
 -- no address belongs to both
 abbrev pub AreApart : SegmentView → SegmentView → Type 0

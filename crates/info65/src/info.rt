@@ -12,8 +12,9 @@ use crate::parser::read_groups;
 use crate::pool::Pool;
 use crate::range::RangeSpec;
 use crate::range_groups::ranges_of;
-use crate::segment::{SegmentSpec, segment_covering};
+use crate::segment::SegmentSpec;
 use crate::segment_groups::segments_of;
+use crate::segment_table::SegmentTable;
 use crate::settings::Settings;
 use std::alloc::{Allocator, Global};
 use std::marker::Model;
@@ -26,21 +27,19 @@ const MOST_BYTES: usize = 1_048_576;
 pub struct Info<A: Allocator = Global> {
     settings: Settings<A>,
     ranges: Vec<RangeSpec, A>,
-    segments: Vec<SegmentSpec<A>, A>,
+    segments: SegmentTable<A>,
     names: Pool<A>,
 }
 
 impl<A: Allocator> Model for Info<A> {
-    ghost use Rattle.std.specs.Prelude.{map};
-    ghost use Rattle.info65.specs.Code.Segments.{segment_seen};
     ghost use Rattle.info65.specs.Sound.{IsSound};
     ghost use Rattle.info65.specs.Views.{InfoView};
 
     ghost Value = { InfoView };
 
-    ghost view = { λ i. record { settings = i.settings; ranges = i.ranges.items; segments = map segment_seen i.segments.items; names = i.names } };
+    ghost view = { λ i. record { settings = i.settings; ranges = i.ranges.items; segments = i.segments; names = i.names } };
 
-    ghost invariant = { λ i. IsSound (record { settings = i.settings; ranges = i.ranges.items; segments = map segment_seen i.segments.items; names = i.names }) };
+    ghost invariant = { λ i. IsSound (record { settings = i.settings; ranges = i.ranges.items; segments = i.segments; names = i.names }) };
 }
 
 impl<A: Allocator> Info<A> {
@@ -77,11 +76,12 @@ impl<A: Allocator> Info<A> {
     }
 
     /// The name of the segment that contains an address.
+    /// It takes a time that grows with the logarithm of the number of segments.
     pub fn segment_covering(&self, address: u16) -> Option<&[u8]>
         ensures name { option_map (λ n. n.now) result ≡ segment_covering self.now.segments address }
         ensures sound { AreSegments self.now.segments }
     {
-        segment_covering(self.segments.as_slice(), address)
+        self.segments.covering(address)
     }
 
     /// How many names are given.
@@ -136,7 +136,8 @@ pub fn read_info<A: Allocator + Copy, B: Allocator>(
     let settings = settings_of(alloc, options, closed.groups())?;
     let ranges = ranges_of(alloc, closed.groups())?;
     let names = closed.names(alloc)?;
-    let segments = segments_of(alloc, closed.groups())?;
+    let said = segments_of(alloc, closed.groups())?;
+    let segments = SegmentTable::new(alloc, said)?;
     Ok(Info {
         settings,
         ranges,

@@ -7,7 +7,8 @@
 //! [`InfoFault`]: a line and an [`InfoFaultKind`].
 //!
 //! The known groups, attributes and words are tables in `attribute`. `parser` reads groups, `closed` keeps
-//! those that are closed, `index` finds their ranges and names, and `pool` keeps the names of an `Info`.
+//! those that are closed, `index` finds their ranges and names, and `pool` keeps the names of an `Info`,
+//! `segment_table` its segments.
 //! `law` has the laws on which files are accepted and why one is refused.
 #![tactic(auto)]
 
@@ -34,6 +35,7 @@ mod range;
 mod range_groups;
 mod segment;
 mod segment_groups;
+mod segment_table;
 mod settings;
 #[cfg(test)]
 mod tests;

@@ -38,11 +38,7 @@ const REFUSED: &[(&str, u32, InfoFaultKind)] = &[
     ("GLOBAL { TEXTCOLUMN 121; };", 1, InfoFaultKind::OutOfRange),
     ("GLOBAL { LABELBREAK 121; };", 1, InfoFaultKind::OutOfRange),
     ("GLOBAL { LABELBREAK 256; };", 1, InfoFaultKind::OutOfRange),
-    (
-        "GLOBAL { NEWLINEAFTERJMP 2; };",
-        1,
-        InfoFaultKind::Expected,
-    ),
+    ("GLOBAL { NEWLINEAFTERJMP 2; };", 1, InfoFaultKind::Expected),
     (
         "GLOBAL { NEWLINEAFTERRTS \"on\"; };",
         1,
@@ -74,7 +70,8 @@ fn are_set(rt: &impl Abort, settings: &Settings, numbers: [u8; 6], newlines: [bo
     assert_eq!(rt; settings.newline_after_rts, after_rts);
 }
 
-const ALL_SET: &[u8] = b"GLOBAL { COMMENTS 4; MNEMONICCOLUMN 1; ARGUMENTCOLUMN 120; COMMENTCOLUMN 2; }
+const ALL_SET: &[u8] =
+    b"GLOBAL { COMMENTS 4; MNEMONICCOLUMN 1; ARGUMENTCOLUMN 120; COMMENTCOLUMN 2; }
     GLOBAL { textcolumn $77; LabelBreak 0; NEWLINEAFTERJMP yes; NEWLINEAFTERRTS 1; };";
 
 #[test]

@@ -122,7 +122,10 @@ fn lengths_of_comments(rt: HostRuntime) -> Result<(), Fail> {
     let info: Info = read_info(rt.alloc(), &none, with_comment(rt.alloc(), 200)?.as_slice())?;
     assert_eq!(rt; info.given_count(), 1);
     if info.given_count() == 1 {
-        assert_eq!(rt; info.given(0).comment.map(|comment| comment.len()), Some(200));
+        assert_eq!(rt;
+            info.given(0).comment.map(|comment| comment.len()),
+            Some(200)
+        );
     }
     Ok(())
 }

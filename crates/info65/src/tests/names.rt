@@ -103,11 +103,7 @@ const REFUSED: &[(&str, u32, InfoFaultKind)] = &[
         1,
         InfoFaultKind::ReservedName,
     ),
-    (
-        "LABEL { START 1; };",
-        1,
-        InfoFaultKind::UnknownAttribute,
-    ),
+    ("LABEL { START 1; };", 1, InfoFaultKind::UnknownAttribute),
     // the refused files of the worked examples
     (
         "LABEL { ADDR $20; NAME \"ab\n",

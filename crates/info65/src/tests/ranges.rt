@@ -112,11 +112,7 @@ const REFUSED: &[(&str, u32, InfoFaultKind)] = &[
         InfoFaultKind::RangesOverlap,
     ),
     // attributes that the group does not have
-    (
-        "RANGE { ADDR 1; };",
-        1,
-        InfoFaultKind::UnknownAttribute,
-    ),
+    ("RANGE { ADDR 1; };", 1, InfoFaultKind::UnknownAttribute),
     (
         "RANGE { STARTADDR 1; };",
         1,

@@ -9,21 +9,13 @@ use std::test::Fail;
 const REFUSED: &[(&str, u32, InfoFaultKind)] = &[
     // what is needed
     ("SEGMENT { };", 1, InfoFaultKind::Missing),
-    (
-        "SEGMENT { END 1; NAME \"P\"; };",
-        1,
-        InfoFaultKind::Missing,
-    ),
+    ("SEGMENT { END 1; NAME \"P\"; };", 1, InfoFaultKind::Missing),
     (
         "SEGMENT { START 1; NAME \"P\"; };",
         1,
         InfoFaultKind::Missing,
     ),
-    (
-        "SEGMENT { START 1; END 1;\n};",
-        2,
-        InfoFaultKind::Missing,
-    ),
+    ("SEGMENT { START 1; END 1;\n};", 2, InfoFaultKind::Missing),
     // it ends before it begins
     (
         "SEGMENT { START 2; END 1; NAME \"P\"; };",
@@ -62,11 +54,7 @@ const REFUSED: &[(&str, u32, InfoFaultKind)] = &[
         2,
         InfoFaultKind::GivenTwice,
     ),
-    (
-        "SEGMENT { SIZE 1; };",
-        1,
-        InfoFaultKind::UnknownAttribute,
-    ),
+    ("SEGMENT { SIZE 1; };", 1, InfoFaultKind::UnknownAttribute),
     (
         "SEGMENT { COMMENT \"P\"; };",
         1,
@@ -93,8 +81,11 @@ fn segments_in_the_order_of_their_groups(rt: HostRuntime) -> Result<(), Fail> {
         RANGE { START 1; END 1; TYPE CODE; };
         SEGMENT { START 0; END 0; NAME \"lda\"; };";
     let info: Info = read_info(rt.alloc(), &Options::<Global>::none(), text)?;
-    let expected: [(u16, u16, &[u8]); 3] =
-        [(0xFFFF, 0xFFFF, b"lda"), (1, 2, b"P_1"), (0, 0, b"lda")];
+    let expected: [(u16, u16, &[u8]); 3] = [
+        (0xFFFF, 0xFFFF, b"lda"),
+        (1, 2, b"P_1"),
+        (0, 0, b"lda"),
+    ];
     assert_eq!(rt; info.segments().len(), expected.len());
     for (segment, (first, last, name)) in info.segments().iter().zip(&expected) {
         assert_eq!(rt; segment.first, *first);
@@ -145,5 +136,36 @@ fn twenty_thousand_segments(rt: HostRuntime) -> Result<(), Fail> {
         assert_eq!(rt; info.segment_covering(address), Some(name.as_bytes()));
     }
     assert_eq!(rt; info.segment_covering(20_000), None);
+    Ok(())
+}
+
+// 13,107 groups SEGMENT of three addresses each, with two between them, in another order than by address.
+fn apart(alloc: Global) -> Result<Vec<u8>, AllocError> {
+    let mut text = Vec::new(alloc);
+    for place in 0..13_107_u64 {
+        let first = place * 7919 % 13_107 * 5;
+        let last = first + 2;
+        let group = format!(in alloc; "SEGMENT{{START {first};END {last};NAME \"s{first}\";}}\n")?;
+        text.extend_from_slice(group.as_bytes())?;
+    }
+    Ok(text)
+}
+
+#[test]
+fn the_segment_of_each_address(rt: HostRuntime) -> Result<(), Fail> {
+    let text = apart(rt.alloc())?;
+    let info: Info = read_info(rt.alloc(), &Options::<Global>::none(), text.as_slice())?;
+    assert_eq!(rt; info.segments().len(), 13_107);
+    for address in 0..=0xFFFF_u16 {
+        let within = address % 5;
+        let first = address.saturating_sub(within);
+        let name = format!(in rt.alloc(); "s{first}")?;
+        let expected = if within < 3 && address < 0xFFFF {
+            Some(name.as_bytes())
+        } else {
+            None
+        };
+        assert_eq!(rt; info.segment_covering(address), expected);
+    }
     Ok(())
 }
