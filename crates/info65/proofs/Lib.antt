@@ -4,6 +4,7 @@ pub mod FormLemmas
 pub mod GroupLemmas
 pub mod IndexLemmas
 pub mod Laws
+pub mod NameFaultLemmas
 pub mod NameLemmas
 pub mod NamesLemmas
 pub mod NumberLemmas
@@ -11,6 +12,7 @@ pub mod OnceLemmas
 pub mod PoolLemmas
 pub mod RangeLemmas
 pub mod ReaderLemmas
+pub mod ReservedLemmas
 pub mod SegmentCovering
 pub mod SegmentLemmas
 pub mod SegmentTableLemmas

@@ -8,6 +8,7 @@ pub mod Groups
 pub mod Labels
 pub mod Laws
 pub mod Lexemes
+pub mod NameFaultLaws
 pub mod NameLaws
 pub mod Names
 pub mod Ranges

@@ -2,6 +2,8 @@
 
 ghost use Rattle.info65.specs.Laws.{AcceptsFiles, GivenOnce, GlobalOnce, OverlapsShare, RangesApart, RefusesFirst};
 ghost use Rattle.info65.specs.NameLaws.{CoversHighest, NamesGiven, OwnAddressWins};
+ghost use Rattle.info65.specs.NameFaultLaws.{DistinctAccepted, NameFaults, ReservedNames};
+ghost use Rattle.info65.specs.SegmentLaws.{CoversOne, SegmentsApart, SegmentsShare};
 ghost use Rattle.info65.specs.Standing.{TokensStand};
 
 /// A text is accepted exactly where its whole token list splits into groups that keep every condition.
@@ -64,4 +66,42 @@ pub fn own_address_wins()
 #[tactic(auto, using(crate::proofs::NamesLemmas::names_given))]
 pub fn names_given()
     ensures { NamesGiven }
+{}
+
+/// The segments of an accepted file are those that its groups SEGMENT say, and no address belongs to two.
+#[tactic(auto, using(crate::proofs::SegmentLemmas::segments_apart))]
+pub fn segments_apart()
+    ensures { SegmentsApart }
+{}
+
+/// A group SEGMENT is refused for an overlap exactly where its segment shares an address with one before it.
+#[tactic(auto, using(crate::proofs::SegmentLemmas::segments_share))]
+pub fn segments_share()
+    ensures { SegmentsShare }
+{}
+
+/// The name of an address is that of the one segment that contains it.
+#[tactic(auto, using(crate::proofs::SegmentCovering::covers_one))]
+pub fn covers_one()
+    ensures { CoversOne }
+{}
+
+/// The names that an address can't have: a register or a mnemonic in any letter case, or the default name of another
+/// address.
+#[tactic(auto, using(crate::proofs::ReservedLemmas::reserved_names))]
+pub fn reserved_names()
+    ensures { ReservedNames }
+{}
+
+/// A name after others has the first of these faults that holds: it is reserved, its text stands at another address, its
+/// address has a name. It has none exactly where none holds.
+#[tactic(auto, using(crate::proofs::NameFaultLemmas::name_faults))]
+pub fn name_faults()
+    ensures { NameFaults }
+{}
+
+/// Names are accepted one after the other exactly where none is reserved and no two have one text or one address.
+#[tactic(auto, using(crate::proofs::NameFaultLemmas::distinct_accepted))]
+pub fn distinct_accepted()
+    ensures { DistinctAccepted }
 {}

@@ -45,8 +45,9 @@ mod values;
 pub use fault::{InfoFault, InfoFaultKind};
 pub use info::{Info, read_info};
 pub use law::{
-    accepts_files, covers_highest, given_once, global_once, names_given, overlaps_share,
-    own_address_wins, ranges_apart, refuses_first, tokens_stand,
+    accepts_files, covers_highest, covers_one, distinct_accepted, given_once, global_once,
+    name_faults, names_given, overlaps_share, own_address_wins, ranges_apart, refuses_first,
+    reserved_names, segments_apart, segments_share, tokens_stand,
 };
 pub use lexer::Lexer;
 pub use name::Given;
