@@ -16,6 +16,7 @@ fi
 work=$(mktemp -d)
 cd "$work" || exit 1
 compared=0
+declare -A segmented=()
 
 # fails NAME CAUSE: ends the script, and leaves the files of the listing.
 fails() {
@@ -201,7 +202,13 @@ for ((image = 1; image <= count; image++)); do
     make_image
     make_info "$cpu"
     assembles "image $image of seed $first_seed for the $cpu" "$start" image.bin -i "$work/image.info" "$work/image.bin"
+    grep -q '\.segment' listing.s && segmented[$cpu]=yes
 done
+if [ $has_segments = yes ] && [ $count -ge 10 ]; then
+    for cpu in "${cpus[@]}"; do
+        [ -n "${segmented[$cpu]-}" ] || fails "seed $first_seed" "no listing for the $cpu enters a segment"
+    done
+fi
 
 # attribute NAME FILE: the first value that the information file gives the attribute, as a number or a name.
 attribute() {

@@ -41,13 +41,15 @@ fn rows_with_ranges(rt: HostRuntime) -> Result<(), Fail> {
     Ok(())
 }
 
-/// An image of 768 bytes of each of these values.
+/// An image of 768 bytes of each of these values, one value after the other.
 fn byte_values(rt: &impl Abort, alloc: Global, values: RangeInclusive<u8>) -> Result<(), Fail> {
+    let mut image = Vec::new(alloc);
     for value in values {
-        let image = vec![in alloc; value; 768]?;
-        there_and_back(rt, alloc, 0x1000, &image)?;
+        for _ in 0..768 {
+            image.push(value)?;
+        }
     }
-    Ok(())
+    there_and_back(rt, alloc, 0x1000, &image)
 }
 
 #[test]

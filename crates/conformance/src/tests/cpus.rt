@@ -202,13 +202,16 @@ fn other_cpus_are_refused(rt: HostRuntime) -> Result<(), Fail> {
     Ok(())
 }
 
-/// An image of 768 bytes of each of these values, for each CPU after the 6502.
+/// An image of 768 bytes of each of these values, one value after the other, for each CPU after the 6502.
 fn byte_values(rt: &impl Abort, alloc: Global, values: RangeInclusive<u8>) -> Result<(), Fail> {
+    let mut image = Vec::new(alloc);
     for value in values {
-        let image = vec![in alloc; value; 768]?;
-        for cpu in ["65SC02", "65C02"] {
-            there_and_back(rt, alloc, cpu, 0x1000, "", &image)?;
+        for _ in 0..768 {
+            image.push(value)?;
         }
+    }
+    for cpu in ["65SC02", "65C02"] {
+        there_and_back(rt, alloc, cpu, 0x1000, "", &image)?;
     }
     Ok(())
 }

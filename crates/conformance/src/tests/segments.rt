@@ -196,7 +196,18 @@ const ROWS: &[Row] = &[
     },
     // a column that is passed already gives one blank
     Row {
-        words: &["--mnemonic-column", "3", "--argument-column", "5", "--comment-column", "12", "--text-column", "40", "--comments", "4"],
+        words: &[
+            "--mnemonic-column",
+            "3",
+            "--argument-column",
+            "5",
+            "--comment-column",
+            "12",
+            "--text-column",
+            "40",
+            "--comments",
+            "4",
+        ],
         info: "",
         image: &[0xA9, 0x41],
         body: b"; ----------------------------------------------------------------------------\n  lda #$41 ; 1000 A9 41                .A\n",
@@ -222,13 +233,8 @@ const ROWS: &[Row] = &[
 
 /// What follows the header, which has four lines.
 fn body_of(listing: &[u8]) -> &[u8] {
-    let mut rest = listing;
-    for _ in 0..4 {
-        if let Some((_, after)) = rest.split_once(|byte| *byte == b'\n') {
-            rest = after;
-        }
-    }
-    rest
+    let mut lines = listing.splitn(5, |byte| *byte == b'\n');
+    lines.nth(4).unwrap_or_default()
 }
 
 #[test]
@@ -257,14 +263,18 @@ fn skipped_segments(rt: HostRuntime) -> Result<(), Fail> {
     let skip = "RANGE { START $1001; SIZE 1; TYPE SKIP; };";
     let info = format!(in rt.alloc(); "{data} {skip}")?;
     let ran = listed(rt.alloc(), &[], &info, 0x1000, &[0xEA, 0xEA, 0xEA])?;
-    assert_eq!(rt; body_of(&ran.listing), b"        nop\n        nop\n".as_slice());
+    assert_eq!(rt;
+        body_of(&ran.listing),
+        b"        nop\n        nop\n".as_slice()
+    );
     assert_eq!(rt; ran.messages.as_slice(), WARNING);
 
     let more = "SEGMENT { START $1003; END $1003; NAME \"DATA\"; };";
     let info = format!(in rt.alloc(); "{data} {skip} {more}")?;
     let image = [0xEA, 0xEA, 0xEA, 0xEA, 0xEA].as_slice();
     let ran = listed(rt.alloc(), &[], &info, 0x1000, image)?;
-    let body = b"        nop\n        nop\n        .segment \"DATA\"\n        nop\n        .code\n        nop\n".as_slice();
+    let body =
+        b"        nop\n        nop\n        .segment \"DATA\"\n        nop\n        .code\n        nop\n".as_slice();
     assert_eq!(rt; body_of(&ran.listing), body);
     assert_eq!(rt; ran.messages.as_slice().strip_prefix(WARNING), Some(AGAIN));
     Ok(())
@@ -281,7 +291,13 @@ fn entering_again_allocates_nothing(rt: HostRuntime) -> Result<(), Fail> {
     assert!(rt; Map::build(&heap, &info, &image).is_ok());
 
     let counted = Refusing::after(rt.alloc(), u64::MAX);
-    let ran = run_with(rt.alloc(), &counted, &options, row.info.as_bytes(), row.image);
+    let ran = run_with(
+        rt.alloc(),
+        &counted,
+        &options,
+        row.info.as_bytes(),
+        row.image,
+    );
     assert_eq!(rt; ran.result, Ok(Status::Done));
     assert_eq!(rt; ran.messages.as_slice(), AGAIN);
     assert_eq!(rt; counted.left(), heap.left());
@@ -376,7 +392,9 @@ fn random_segments(alloc: Global, random: &mut Random, start: u32) -> Result<Str
         let last = at.saturating_add(random.below(50));
         if last < 65_536 {
             let name = random.below(8);
-            let group = format!(in alloc; "SEGMENT {{ START {at}; END {last}; NAME \"S{name}\"; }};\n")?;
+            let group = format!(in alloc;
+                "SEGMENT {{ START {at}; END {last}; NAME \"S{name}\"; }};\n"
+            )?;
             info.push_str(&group)?;
         }
         at = last.saturating_add(1);
@@ -396,26 +414,33 @@ fn random_comment(alloc: Global, random: &mut Random) -> Result<Vec<u8>, AllocEr
     Ok(text)
 }
 
-/// Groups LABEL with random addresses from an address on, each with a comment.
+/// Groups LABEL with random addresses and sizes, some in the zero page and some from an address on, each with a comment.
 fn random_labels(alloc: Global, random: &mut Random, start: u32) -> Result<Vec<u8>, AllocError> {
     let mut info = Vec::new(alloc);
-    let mut address = start;
+    let mut address = random.below(16);
     for _ in 0..40 {
-        address = address.saturating_add(1 + random.below(12));
-        if address < 65_536 {
-            let group = format!(in alloc; "LABEL {{ ADDR {address}; NAME \"n_{address}\"; COMMENT \"")?;
+        let size = 1 + random.below(4);
+        if address.saturating_add(size) <= 65_536 {
+            let group = format!(in alloc;
+                "LABEL {{ ADDR {address}; NAME \"n_{address}\"; SIZE {size}; COMMENT \""
+            )?;
             info.extend_from_slice(group.as_bytes())?;
             info.extend_from_slice(&random_comment(alloc, random)?)?;
             info.extend_from_slice(b"\"; };\n")?;
+        }
+        let step = if address < 256 { 40 } else { 9 };
+        address = address.saturating_add(1 + random.below(step));
+        if 256 < address {
+            address = address.max(start);
         }
     }
     Ok(info)
 }
 
-/// A group GLOBAL with a random level, random columns and random empty lines.
-fn random_layout(alloc: Global, random: &mut Random) -> Result<String, AllocError> {
+/// A group GLOBAL with this CPU, a random level, random columns and random empty lines.
+fn random_layout(alloc: Global, random: &mut Random, cpu: &str) -> Result<String, AllocError> {
     format!(in alloc;
-        "GLOBAL {{ COMMENTS {}; MNEMONICCOLUMN {}; ARGUMENTCOLUMN {}; COMMENTCOLUMN {}; TEXTCOLUMN {}; \
+        "GLOBAL {{ CPU \"{cpu}\"; COMMENTS {}; MNEMONICCOLUMN {}; ARGUMENTCOLUMN {}; COMMENTCOLUMN {}; TEXTCOLUMN {}; \
         LABELBREAK {}; NEWLINEAFTERJMP {}; NEWLINEAFTERRTS {}; }};\n",
         random.below(5),
         1 + random.below(120),
@@ -428,38 +453,68 @@ fn random_layout(alloc: Global, random: &mut Random) -> Result<String, AllocErro
     )
 }
 
-/// Lists a random image with random ranges, segments, comments and columns, and assembles the listing back.
-fn random_listing(rt: &impl Abort, alloc: Global, random: &mut Random) -> Result<(), Fail> {
+/// An information file with random ranges, segments, names with comments, and columns.
+fn random_info(
+    alloc: Global,
+    random: &mut Random,
+    cpu: &str,
+    start: u32,
+) -> Result<Vec<u8>, AllocError> {
+    let mut info = random_labels(alloc, random, start)?;
+    info.extend_from_slice(random_ranges(alloc, random, start)?.as_bytes())?;
+    info.extend_from_slice(random_segments(alloc, random, start)?.as_bytes())?;
+    info.extend_from_slice(random_layout(alloc, random, cpu)?.as_bytes())?;
+    Ok(info)
+}
+
+/// Lists a random image for this CPU with a random information file, and assembles the listing back.
+fn random_listing(
+    rt: &impl Abort,
+    alloc: Global,
+    random: &mut Random,
+    cpu: &str,
+) -> Result<(), Fail> {
     let size = 1 + random.below(400);
     let start = random.below(65_536 - size);
     let image = random_image(alloc, random, size)?;
-    let mut info = random_ranges(alloc, random, start)?;
-    info.push_str(&random_segments(alloc, random, start)?)?;
-    info.push_str(&random_layout(alloc, random)?)?;
-    let mut bytes = random_labels(alloc, random, start)?;
-    bytes.extend_from_slice(info.as_bytes())?;
+    let info = random_info(alloc, random, cpu, start)?;
     let options = named(alloc, Some(start as u16))?;
-    let ran = run_with(alloc, alloc, &options, &bytes, &image);
-    assert_eq!(rt; ran.result, Ok(Status::Done), "{info}");
+    let ran = run_with(alloc, alloc, &options, &info, &image);
+    assert_eq!(rt;
+        ran.result,
+        Ok(Status::Done),
+        "{}",
+        info.as_slice().escape_ascii()
+    );
     let back = assemble(alloc, &ran.listing, start as u16)?;
-    assert!(rt; back.as_slice() == image.as_slice(), "{info}");
+    assert!(rt;
+        back.as_slice() == image.as_slice(),
+        "{}",
+        info.as_slice().escape_ascii()
+    );
     Ok(())
 }
 
-fn random_listings(rt: &impl Abort, alloc: Global, seed: u64) -> Result<(), Fail> {
+/// 50 random images for this CPU.
+fn random_listings(rt: &impl Abort, alloc: Global, cpu: &str, seed: u64) -> Result<(), Fail> {
     let mut random = Random { state: seed };
     for _ in 0..50 {
-        random_listing(rt, alloc, &mut random)?;
+        random_listing(rt, alloc, &mut random, cpu)?;
     }
     Ok(())
 }
 
 #[test]
-fn random_images_with_segments_1(rt: HostRuntime) -> Result<(), Fail> {
-    random_listings(&rt, rt.alloc(), 1)
+fn random_images_of_the_6502(rt: HostRuntime) -> Result<(), Fail> {
+    random_listings(&rt, rt.alloc(), "6502", 1)
 }
 
 #[test]
-fn random_images_with_segments_2(rt: HostRuntime) -> Result<(), Fail> {
-    random_listings(&rt, rt.alloc(), 2)
+fn random_images_of_the_65sc02(rt: HostRuntime) -> Result<(), Fail> {
+    random_listings(&rt, rt.alloc(), "65SC02", 2)
+}
+
+#[test]
+fn random_images_of_the_65c02(rt: HostRuntime) -> Result<(), Fail> {
+    random_listings(&rt, rt.alloc(), "65C02", 3)
 }
