@@ -130,25 +130,34 @@ const LISTED: &[Listed] = &[
     },
 ];
 
+/// The bytes from $1000 on have these roles and items.
+fn assert_marks(rt: &impl Abort, map: &Map<'_>, marks: &[(RangeType, u8)], name: &str) {
+    let mut address = 0x1000u16;
+    for (role, len) in marks {
+        assert_eq!(rt; map.role(address), Some(*role), "{name} {address:04x}");
+        assert_eq!(rt; map.item_len(address), *len, "{name} {address:04x}");
+        address = address.wrapping_add(1);
+    }
+    for outside in [0, 0x0FFF, address, 0xFFFF] {
+        assert_eq!(rt; map.role(outside), None, "{name} {outside:04x}");
+        assert_eq!(rt; map.item_len(outside), 0, "{name} {outside:04x}");
+    }
+}
+
+/// The same of the map of this row.
+fn assert_row(rt: &impl Abort, alloc: Global, listed: &Listed) -> Result<(), Fail> {
+    let info = info_of(alloc, listed.info)?;
+    let bytes = Vec::from_slice(alloc, listed.bytes)?;
+    let image = Image::from_bytes(Some(0x1000), None, bytes)?;
+    let map = Map::build(alloc, &info, &image)?;
+    assert_marks(rt, &map, listed.marks, listed.name);
+    Ok(())
+}
+
 #[test]
 fn roles_and_items(rt: HostRuntime) -> Result<(), Fail> {
-    let alloc = rt.alloc();
     for listed in LISTED {
-        let name = listed.name;
-        let info = info_of(alloc, listed.info)?;
-        let bytes = Vec::from_slice(alloc, listed.bytes)?;
-        let image = Image::from_bytes(Some(0x1000), None, bytes)?;
-        let map = Map::build(alloc, &info, &image)?;
-        let mut address = 0x1000u16;
-        for (role, len) in listed.marks {
-            assert_eq!(rt; map.role(address), Some(*role), "{name} {address:04x}");
-            assert_eq!(rt; map.item_len(address), *len, "{name} {address:04x}");
-            address = address.wrapping_add(1);
-        }
-        for outside in [0, 0x0FFF, address, 0xFFFF] {
-            assert_eq!(rt; map.role(outside), None, "{name} {outside:04x}");
-            assert_eq!(rt; map.item_len(outside), 0, "{name} {outside:04x}");
-        }
+        assert_row(&rt, rt.alloc(), listed)?;
     }
     Ok(())
 }
@@ -165,24 +174,40 @@ const TYPES: [(RangeType, &str, u16); 8] = [
     (Skip, "SKIP", 0),
 ];
 
+/// Each address has this role, and items of this size begin at its multiples.
+fn assert_multiples(rt: &impl Abort, map: &Map<'_>, role: RangeType, size: u16, word: &str) {
+    for address in 0..=u16::MAX {
+        let begins = size == 1 || size == 2 && address % 2 == 0;
+        let want = if begins { size } else { 0 };
+        assert_eq!(rt; map.role(address), Some(role), "{word} {address:04x}");
+        assert_eq!(rt;
+            u16::from(map.item_len(address)),
+            want,
+            "{word} {address:04x}"
+        );
+    }
+}
+
+/// The same of a full image of bytes 0 in one range.
+fn assert_range(
+    rt: &impl Abort,
+    alloc: Global,
+    role: RangeType,
+    word: &str,
+    size: u16,
+) -> Result<(), Fail> {
+    let text = format!(in alloc; "RANGE {{ START 0; END $FFFF; TYPE {word}; }};")?;
+    let info = info_of(alloc, text.as_str())?;
+    let image = image_of(alloc, 0u8, 65_536)?;
+    let map = Map::build(alloc, &info, &image)?;
+    assert_multiples(rt, &map, role, size, word);
+    Ok(())
+}
+
 #[test]
 fn a_full_image_of_one_range(rt: HostRuntime) -> Result<(), Fail> {
-    let alloc = rt.alloc();
     for (role, word, size) in TYPES {
-        let text = format!(in alloc; "RANGE {{ START 0; END $FFFF; TYPE {word}; }};")?;
-        let info = info_of(alloc, text.as_str())?;
-        let image = image_of(alloc, 0u8, 65_536)?;
-        let map = Map::build(alloc, &info, &image)?;
-        for address in 0..=u16::MAX {
-            let begins = size == 1 || size == 2 && address % 2 == 0;
-            let want = if begins { size } else { 0 };
-            assert_eq!(rt; map.role(address), Some(role), "{word} {address:04x}");
-            assert_eq!(rt;
-                u16::from(map.item_len(address)),
-                want,
-                "{word} {address:04x}"
-            );
-        }
+        assert_range(&rt, rt.alloc(), role, word, size)?;
     }
     Ok(())
 }

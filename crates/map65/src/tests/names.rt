@@ -244,26 +244,34 @@ fn base_of(entry: Option<Entry>) -> &'static str {
     }
 }
 
+/// The map has these names, and no other.
+fn assert_names(rt: &impl Abort, map: &Map<'_>, names: &[Entry], name: &str) {
+    let mut buffer = NameBuf::new();
+    for address in 0..=u16::MAX {
+        let entry = entry_of(names, address);
+        let kind = map.name(address, &mut buffer);
+        assert_eq!(rt; kind, kind_of(entry), "{name} {address:04x}");
+        assert!(rt;
+            buffer.as_slice() == base_of(entry).as_bytes(),
+            "{name} {address:04x}"
+        );
+    }
+}
+
+/// The map of this row has its names, and no other.
+fn assert_row(rt: &impl Abort, alloc: Global, named: &Named) -> Result<(), Fail> {
+    let info = info_of(alloc, named.info)?;
+    let bytes = Vec::from_slice(alloc, named.bytes)?;
+    let image = Image::from_bytes(Some(named.start), None, bytes)?;
+    let map = Map::build(alloc, &info, &image)?;
+    assert_names(rt, &map, named.names, named.name);
+    Ok(())
+}
+
 #[test]
 fn names_and_places(rt: HostRuntime) -> Result<(), Fail> {
-    let alloc = rt.alloc();
     for named in NAMED {
-        let name = named.name;
-        let info = info_of(alloc, named.info)?;
-        let bytes = Vec::from_slice(alloc, named.bytes)?;
-        let image = Image::from_bytes(Some(named.start), None, bytes)?;
-        let map = Map::build(alloc, &info, &image)?;
-        let mut buffer = NameBuf::new();
-        for address in 0..=u16::MAX {
-            let entry = entry_of(named.names, address);
-            let kind = map.name(address, &mut buffer);
-            assert_eq!(rt; kind, kind_of(entry), "{name} {address:04x}");
-            assert_eq!(rt;
-                buffer.as_slice(),
-                base_of(entry).as_bytes(),
-                "{name} {address:04x}"
-            );
-        }
+        assert_row(&rt, rt.alloc(), named)?;
     }
     Ok(())
 }
@@ -275,17 +283,7 @@ fn a_full_image_of_jsr(rt: HostRuntime) -> Result<(), Fail> {
     let info = info_of(alloc, "")?;
     let image = Image::from_bytes(Some(0), None, vec![in alloc; 0x20u8; 65_536]?)?;
     let map = Map::build(alloc, &info, &image)?;
-    let mut buffer = NameBuf::new();
-    for address in 0..=u16::MAX {
-        let entry = entry_of(&[(0x2020, "L2020", Forward, 0)], address);
-        let kind = map.name(address, &mut buffer);
-        assert_eq!(rt; kind, kind_of(entry), "{address:04x}");
-        assert_eq!(rt;
-            buffer.as_slice(),
-            base_of(entry).as_bytes(),
-            "{address:04x}"
-        );
-    }
+    assert_names(&rt, &map, &[(0x2020, "L2020", Forward, 0)], "jsr");
     Ok(())
 }
 
@@ -302,13 +300,8 @@ fn default_of(alloc: Global, address: u16, has_name: bool) -> Result<String, All
     Ok(String::new(alloc))
 }
 
-/// `bne` back by 46 bytes again and again: each even address up to $FFD0 is a target, and a label.
-#[test]
-fn a_full_image_of_bne(rt: HostRuntime) -> Result<(), Fail> {
-    let alloc = rt.alloc();
-    let info = info_of(alloc, "")?;
-    let image = Image::from_bytes(Some(0), None, vec![in alloc; 0xD0u8; 65_536]?)?;
-    let map = Map::build(alloc, &info, &image)?;
+/// Each even address up to $FFD0 is a label, and no other address has a name.
+fn assert_even_labels(rt: &impl Abort, alloc: Global, map: &Map<'_>) -> Result<(), AllocError> {
     let mut buffer = NameBuf::new();
     for address in 0..=u16::MAX {
         let is_target = address % 2 == 0 && address <= 0xFFD0;
@@ -316,8 +309,19 @@ fn a_full_image_of_bne(rt: HostRuntime) -> Result<(), Fail> {
         let text = default_of(alloc, address, is_target)?;
         let kind = map.name(address, &mut buffer);
         assert_eq!(rt; kind, want, "{address:04x}");
-        assert_eq!(rt; buffer.as_slice(), text.as_bytes(), "{address:04x}");
+        assert!(rt; buffer.as_slice() == text.as_bytes(), "{address:04x}");
     }
+    Ok(())
+}
+
+/// `bne` back by 46 bytes again and again: each even address up to $FFD0 is a target, and a label.
+#[test]
+fn a_full_image_of_bne(rt: HostRuntime) -> Result<(), Fail> {
+    let alloc = rt.alloc();
+    let info = info_of(alloc, "")?;
+    let image = Image::from_bytes(Some(0), None, vec![in alloc; 0xD0u8; 65_536]?)?;
+    let map = Map::build(alloc, &info, &image)?;
+    assert_even_labels(&rt, alloc, &map)?;
     Ok(())
 }
 
@@ -346,6 +350,18 @@ fn one_of_many(alloc: Global, address: u16) -> Result<(String, NameKind), AllocE
     Ok((format!(in alloc; "all")?, kind))
 }
 
+/// The map has the name that is said for each address.
+fn assert_many(rt: &impl Abort, alloc: Global, map: &Map<'_>) -> Result<(), AllocError> {
+    let mut buffer = NameBuf::new();
+    for address in 0..=u16::MAX {
+        let (want, kind) = one_of_many(alloc, address)?;
+        let found = map.name(address, &mut buffer);
+        assert_eq!(rt; found, Some(kind), "{address:04x}");
+        assert!(rt; buffer.as_slice() == want.as_bytes(), "{address:04x}");
+    }
+    Ok(())
+}
+
 #[test]
 fn many_labels(rt: HostRuntime) -> Result<(), Fail> {
     let alloc = rt.alloc();
@@ -353,12 +369,6 @@ fn many_labels(rt: HostRuntime) -> Result<(), Fail> {
     let info = info_of(alloc, text.as_str())?;
     let image = Image::from_bytes(Some(0x1000), None, vec![in alloc; 0xEAu8; 0xE000]?)?;
     let map = Map::build(alloc, &info, &image)?;
-    let mut buffer = NameBuf::new();
-    for address in 0..=u16::MAX {
-        let (want, kind) = one_of_many(alloc, address)?;
-        let found = map.name(address, &mut buffer);
-        assert_eq!(rt; found, Some(kind), "{address:04x}");
-        assert_eq!(rt; buffer.as_slice(), want.as_bytes(), "{address:04x}");
-    }
+    assert_many(&rt, alloc, &map)?;
     Ok(())
 }

@@ -93,7 +93,7 @@ type Reading = (
     usize,
 );
 
-const READINGS: [Reading; 20] = [
+const READINGS: &[Reading] = &[
     (0, 0, None, None, Err(ImageFault::Empty), 0),
     (3, 0, None, None, Ok((0xFFFD, 3)), 3),
     (3, 0, None, Some(0x1000), Ok((0x1000, 3)), 3),
@@ -123,36 +123,48 @@ const READINGS: [Reading; 20] = [
     (2, 0, Some(2), Some(0xFFFF), Err(ImageFault::TooLarge), 2),
 ];
 
-#[test]
-fn bytes_that_the_settings_ask_for(rt: HostRuntime) -> Result<(), Fail> {
-    for (count, offset, size, start, want, given) in READINGS {
-        let info = info_of(rt.alloc(), offset, size, start)?;
-        let read = reads(&rt, rt.alloc(), count, false, info)?;
-        assert_eq!(rt; read.0, want, "{count} {offset}");
-        assert_eq!(rt; read.1, given, "{count} {offset}");
-    }
+/// What is read under these settings, and how many bytes the tape gave, is as the row says.
+fn assert_reading(
+    rt: &impl Abort,
+    alloc: Global,
+    fails: bool,
+    reading: &Reading,
+) -> Result<(), Fail> {
+    let (count, offset, size, start, want, given) = *reading;
+    let info = info_of(alloc, offset, size, start)?;
+    let read = reads(rt, alloc, count, fails, info)?;
+    assert_eq!(rt; read.0, want, "{count} {offset}");
+    assert_eq!(rt; read.1, given, "{count} {offset}");
     Ok(())
 }
 
 #[test]
+fn bytes_that_the_settings_ask_for(rt: HostRuntime) -> Result<(), Fail> {
+    for reading in READINGS {
+        assert_reading(&rt, rt.alloc(), false, reading)?;
+    }
+    Ok(())
+}
+
+const FAILED: Result<(u16, usize), ImageFault> = Err(ImageFault::Read);
+
+/// The same of a tape that fails after its last byte.
+const FAILURES: &[Reading] = &[
+    (0, 0, None, None, FAILED, 0),
+    (3, 0, None, None, FAILED, 3),
+    (3, 0, Some(4), None, FAILED, 3),
+    (3, 4, None, None, FAILED, 3),
+    (3, 3, Some(1), None, FAILED, 3),
+    (3, 0, Some(3), None, Ok((0xFFFD, 3)), 3),
+    (3, 1, Some(2), None, Ok((0xFFFE, 2)), 3),
+    (65_536, 0, None, None, FAILED, 65_536),
+    (65_537, 0, None, None, Err(ImageFault::TooLarge), 65_537),
+];
+
+#[test]
 fn a_reader_that_fails(rt: HostRuntime) -> Result<(), Fail> {
-    let fault = Err(ImageFault::Read);
-    let cases = [
-        (0, 0, None, fault),
-        (3, 0, None, fault),
-        (3, 0, Some(4), fault),
-        (3, 4, None, fault),
-        (3, 3, Some(1), fault),
-        (3, 0, Some(3), Ok((0xFFFD, 3))),
-        (3, 1, Some(2), Ok((0xFFFE, 2))),
-        (65_536, 0, None, fault),
-        (65_537, 0, None, Err(ImageFault::TooLarge)),
-    ];
-    for (count, offset, size, want) in cases {
-        let info = info_of(rt.alloc(), offset, size, None)?;
-        let read = reads(&rt, rt.alloc(), count, true, info)?;
-        assert_eq!(rt; read.0, want, "{count} {offset}");
-        assert_eq!(rt; read.1, count, "{count} {offset}");
+    for reading in FAILURES {
+        assert_reading(&rt, rt.alloc(), true, reading)?;
     }
     Ok(())
 }

@@ -413,39 +413,62 @@ fn expected(
 
 const COUNTS: [usize; 7] = [1, 2, 40, 200, 300, 4096, 65_536];
 
+/// The map says of the address what the rules say.
+fn assert_one(
+    rt: &impl Abort,
+    map: &Map<'_>,
+    buffer: &mut NameBuf,
+    want: &Expectation,
+    text: &str,
+    address: u16,
+) {
+    let kind = map.name(address, buffer);
+    assert_eq!(rt; map.role(address), want.role, "{text} {address:04x}");
+    assert_eq!(rt; map.item_len(address), want.len, "{text} {address:04x}");
+    assert_eq!(rt; kind, want.kind, "{text} {address:04x}");
+    assert!(rt;
+        buffer.as_slice() == want.text.as_bytes(),
+        "{text} {address:04x}"
+    );
+}
+
+/// The same of each address.
+fn assert_all(
+    rt: &impl Abort,
+    alloc: Global,
+    map: &Map<'_>,
+    ground: &Ground,
+    text: &str,
+) -> Result<(), AllocError> {
+    let lens = ground.items(alloc)?;
+    let wanted = ground.wanted(alloc, lens.as_slice())?;
+    let mut buffer = NameBuf::new();
+    for address in 0..=u16::MAX {
+        let at = address as usize;
+        let want = expected(alloc, ground, lens.as_slice(), wanted.as_slice(), at)?;
+        assert_one(rt, map, &mut buffer, &want, text, address);
+    }
+    Ok(())
+}
+
+/// The same of the map of this image.
+fn assert_map(rt: &impl Abort, alloc: Global, ground: &Ground) -> Result<(), Fail> {
+    let text = text_of(alloc, ground)?;
+    let info = read_info(alloc, &Options::<Global>::none(), text.as_bytes())?;
+    let bytes = Vec::from_slice(alloc, ground.bytes.as_slice())?;
+    let image = Image::from_bytes(Some((ground.start % 65_536) as u16), None, bytes)?;
+    let map = Map::build(alloc, &info, &image)?;
+    assert_all(rt, alloc, &map, ground, text.as_str())?;
+    Ok(())
+}
+
 #[test]
 fn random_images(rt: HostRuntime) -> Result<(), Fail> {
-    let alloc = rt.alloc();
     let mut numbers = Numbers { state: 65 };
     for count in COUNTS {
         for cpu in CPUS {
-            let ground = random_ground(alloc, &mut numbers, cpu, count)?;
-            let text = text_of(alloc, &ground)?;
-            let info = read_info(alloc, &Options::<Global>::none(), text.as_bytes())?;
-            let bytes = Vec::from_slice(alloc, ground.bytes.as_slice())?;
-            let image = Image::from_bytes(Some((ground.start % 65_536) as u16), None, bytes)?;
-            let map = Map::build(alloc, &info, &image)?;
-            let lens = ground.items(alloc)?;
-            let wanted = ground.wanted(alloc, lens.as_slice())?;
-            let mut buffer = NameBuf::new();
-            for address in 0..=u16::MAX {
-                let want = expected(
-                    alloc,
-                    &ground,
-                    lens.as_slice(),
-                    wanted.as_slice(),
-                    address as usize,
-                )?;
-                let kind = map.name(address, &mut buffer);
-                assert_eq!(rt; map.role(address), want.role, "{text} {address:04x}");
-                assert_eq!(rt; map.item_len(address), want.len, "{text} {address:04x}");
-                assert_eq!(rt; kind, want.kind, "{text} {address:04x}");
-                assert_eq!(rt;
-                    buffer.as_slice(),
-                    want.text.as_bytes(),
-                    "{text} {address:04x}"
-                );
-            }
+            let ground = random_ground(rt.alloc(), &mut numbers, cpu, count)?;
+            assert_map(&rt, rt.alloc(), &ground)?;
         }
     }
     Ok(())

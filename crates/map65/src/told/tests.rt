@@ -1,8 +1,9 @@
 use crate::{DeviceFault, ImageFault, Sink, Source, Told, read_image, take_up_to};
-use info65::{Options, read_info};
+use info65::{Info, Options, read_info};
 use std::alloc::Global;
 use std::io;
 use std::io::{ErrorKind, Read, Write};
+use std::process::Abort;
 use std::test::Fail;
 
 const KINDS: [ErrorKind; 3] = [
@@ -87,19 +88,34 @@ fn a_failed_write_is_one_call(rt: HostRuntime) -> Result<(), Fail> {
     Ok(())
 }
 
+/// Two bytes are passed over, and two are read.
+fn four_bytes(alloc: Global) -> Result<Info, Fail> {
+    let text = b"GLOBAL { INPUTOFFS 2; INPUTSIZE 2; }";
+    Ok(read_info(alloc, &Options::<Global>::none(), text)?)
+}
+
+/// A read that fails at this call ends the reading.
+fn assert_stops(rt: &impl Abort, alloc: Global, info: &Info, kind: ErrorKind, fails_at: usize) {
+    let mut reader = FailsOnce::new(kind, fails_at);
+    let answer = read_image(alloc, info, &mut Told::new(&mut reader));
+    assert_eq!(rt; answer.err(), Some(ImageFault::Read), "at {fails_at}");
+    assert_eq!(rt; reader.calls, fails_at);
+}
+
 #[test]
 fn nothing_is_read_after_a_failed_read(rt: HostRuntime) -> Result<(), Fail> {
-    // Two bytes are passed over, and two are read.
-    let text = b"GLOBAL { INPUTOFFS 2; INPUTSIZE 2; }";
-    let info = read_info(rt.alloc(), &Options::<Global>::none(), text)?;
+    let info = four_bytes(rt.alloc())?;
     for kind in KINDS {
         for fails_at in 1..5 {
-            let mut reader = FailsOnce::new(kind, fails_at);
-            let answer = read_image(rt.alloc(), &info, &mut Told::new(&mut reader));
-            assert_eq!(rt; answer.err(), Some(ImageFault::Read), "at {fails_at}");
-            assert_eq!(rt; reader.calls, fails_at);
+            assert_stops(&rt, rt.alloc(), &info, kind, fails_at);
         }
     }
+    Ok(())
+}
+
+#[test]
+fn no_call_follows_the_last_byte(rt: HostRuntime) -> Result<(), Fail> {
+    let info = four_bytes(rt.alloc())?;
     let mut reader = FailsOnce::new(ErrorKind::Other, 5);
     let image = read_image(rt.alloc(), &info, &mut Told::new(&mut reader))?;
     assert_eq!(rt; image.bytes(), [7, 7].as_slice());
