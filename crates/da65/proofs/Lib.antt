@@ -37,6 +37,7 @@ pub mod Readings
 pub mod Knowledge
 pub mod ValueLaws
 pub mod WorthLaws
+pub mod NumberLemmas
 pub mod OperandLaws
 pub mod GroupStands
 pub mod ForcedLaws

@@ -4,30 +4,19 @@ ghost use Rattle.std.specs.Prelude.{IfOk, ◌≡◌, ◌≤◌};
 ghost use Rattle.da65.specs.Number.{address_in, decimal_in, number_in};
 
 use crate::usage_fault::UsageFault;
+use info65::number_of_digits;
 
 /// The number that the digits write. Fails if it is above `most`.
-#[tactic(auto, unfolding(crate::specs::Number::number_in))]
 fn number_in(digits: &[u8], radix: u32, most: u32) -> Result<u32, UsageFault>
     requires low { 2 ≤ radix }
     requires high { radix ≤ 36 }
     ensures value { result ≡ number_in radix most digits.now }
     ensures small { IfOk result (λ n. n ≤ most) }
 {
-    if digits.is_empty() {
-        return Err(UsageFault::BadNumber);
-    }
-    let limit = u64::from(most) + 1;
-    let mut value: u64 = 0;
-    'reads: for digit in digits {
-        match char::from(*digit).to_digit(radix) {
-            Some(unit) => value = (value * u64::from(radix) + u64::from(unit)).min(limit),
-            None => return Err(UsageFault::BadNumber),
-        }
-    }
-    if value == limit {
-        Err(UsageFault::OutOfRange)
-    } else {
-        Ok(value as u32)
+    match number_of_digits(digits, radix) {
+        None => Err(UsageFault::BadNumber),
+        Some(number) if number <= u64::from(most) => Ok(number as u32),
+        Some(_) => Err(UsageFault::OutOfRange),
     }
 }
 

@@ -1,11 +1,15 @@
 -- A number that is read digit by digit, and kept no greater than a limit.
-use Rattle.std.proofs.Common.{◌≡◌, ◌∙◌, ℕ, ◌+◌, ◌*◌, ◌≤◌, ◌<◌, List, [], ◌∷◌, length, get_or, drop, min, ap, arith, ⊎_elim, ◌&&◌, lt-ltb}
+use Rattle.std.proofs.Common.{◌≡◌, ◌∙◌, ◌==◌, ℕ, true, false, refl, sym, ◌+◌, ◌*◌, ◌≤◌, ◌<◌, List, [], ◌∷◌, length, get_or, drop, min, ap, arith, ⊎_elim, ◌&&◌, lt-ltb}
 use Rattle.std.proofs.lemmas.List.{at_drop_more}
-use Rattle.info65.specs.Lexemes.{are_digits}
+use Rattle.std.proofs.lemmas.Bool.Decides.{nat_tests}
+use Rattle.std.specs.Prelude.{Option, Some, None, nat_le}
+use Rattle.info65.specs.Digits.{number_of_digits}
+use Rattle.info65.specs.Lexemes.{are_digits, number_in}
+use Rattle.info65.proofs.Accepting.{by_test}
 use Rattle.std.proofs.Math.Nat.{mul-le-mul_left}
 use Rattle.std.proofs.str.Laws.{order}
 use Rattle.std.specs.Char.{digit_value}
-use Rattle.std.specs.Str.Parse.{digits_value_after}
+use Rattle.std.specs.Str.Parse.{digits_value, digits_value_after}
 
 scaled : (radix n : ℕ) → 1 ≤ radix → n ≤ n * radix
 scaled radix n one = omega (arith, mul-le-mul_left n one)
@@ -29,3 +33,44 @@ next_digit radix ds i here digit = at_drop_more (are_digits radix) ds i 0 here �
 
 pub next_value : (radix value : ℕ) (ds : List ℕ) (i : ℕ) → i < length ds → digits_value_after radix value (drop i ds) ≡ digits_value_after radix (value * radix + digit_value (get_or ds i 0)) (drop (i + 1) ds)
 next_value radix value ds i here = at_drop_more (digits_value_after radix value) ds i 0 here
+
+-- ---- a number that is at most a limit
+
+pub number_none : (radix : ℕ) (ds : List ℕ) → None ≡ number_of_digits radix ds → None ≡ number_in radix ds
+unfolding number_of_digits number_in
+number_none radix ds h =
+    by_test (length ds == 0)
+    (λ none. rw none refl)
+    (λ some. by_test (are_digits radix ds)
+    (λ yes. let wrong : ◌≡◌ {A = Option ℕ} None (Some (min (digits_value radix ds) 0x1_0000_0000)) = rw (some, yes) at h in absurd cc)
+    (λ no_digits. rw (some, no_digits) refl))
+
+record IsNumber (radix : ℕ) (ds : List ℕ) (value : ℕ) : Type 0 where
+  some : (length ds == 0) ≡ false
+  digits : are_digits radix ds ≡ true
+  is : value ≡ min (digits_value radix ds) 0x1_0000_0000
+
+number_is : (radix : ℕ) (ds : List ℕ) (value : ℕ) → Some value ≡ number_of_digits radix ds → IsNumber radix ds value
+unfolding number_of_digits
+number_is radix ds value h =
+    by_test (length ds == 0)
+    (λ none. let wrong : ◌≡◌ {A = Option ℕ} (Some value) None = rw none at h in absurd cc)
+    (λ some. by_test (are_digits radix ds)
+    (λ yes. let is : ◌≡◌ {A = Option ℕ} (Some value) (Some (min (digits_value radix ds) 0x1_0000_0000)) = rw (some, yes) at h in record { some = some; digits = yes; is = cc })
+    (λ no_digits. let wrong : ◌≡◌ {A = Option ℕ} (Some value) None = rw (some, no_digits) at h in absurd cc))
+
+pub number_small : (radix : ℕ) (ds : List ℕ) (value : ℕ) → Some value ≡ number_of_digits radix ds → value ≤ 0xFFFF_FFFF → Some value ≡ number_in radix ds
+unfolding number_in
+number_small radix ds value h small =
+    let n = number_is radix ds value h in
+    let same : digits_value radix ds ≡ value = omega (arith, n.is, small) in
+    let fits : nat_le (digits_value radix ds) 0xFFFF_FFFF ≡ true = grind (arith, nat_tests, same, small) in
+    rw (n.some, n.digits, fits) (ap (λ (v : ℕ). Some v) (sym same))
+
+pub number_great : (radix : ℕ) (ds : List ℕ) (value : ℕ) → Some value ≡ number_of_digits radix ds → 0xFFFF_FFFF < value → None ≡ number_in radix ds
+unfolding number_in
+number_great radix ds value h great =
+    let n = number_is radix ds value h in
+    let past : 0xFFFF_FFFF < digits_value radix ds = omega (arith, n.is, great) in
+    let out : nat_le (digits_value radix ds) 0xFFFF_FFFF ≡ false = grind (arith, nat_tests, past) in
+    rw (n.some, n.digits, out) refl

@@ -1,6 +1,8 @@
 -- Looking for a name among entries by address.
 use Rattle.std.proofs.Common.{◌≡◌, ◌∙◌, ℕ, zero, suc, ◌+◌, ◌-◌, ◌<◌, ◌≤◌, ◌&&◌, Bool, true, false, List, [], length, get_or, map, refl, if◌then◌else◌, ap, sym, append_assoc, ap₂, arith, ⊎_elim, add-one, drop, length-append, length-drop, option_map, subst, take, ◌∷◌, ◌++◌}
 use Rattle.std.specs.Prelude.{IfSome, Option, None, Some, nat_le, nat_lt}
+use Rattle.std.specs.List.Sorted.{IsNonDecreasingBy}
+use Rattle.std.proofs.lemmas.List.Sorted.{IsNonDecreasingBy-from_default}
 use Rattle.std.proofs.lemmas.List.{append-nil, drop-append-le, drop_at, get_or-map, get_or_append_left, get_or_at, length-map, map-append, take-append-le, take_at}
 use Rattle.std.proofs.lemmas.Bool.{false≢true}
 use Rattle.std.proofs.lemmas.Bool.Decides.{eqb_tells, nat_tests}
@@ -34,22 +36,18 @@ covering_all pool es n a is = ap (λ m. covering_below (map (entry_seen pool) es
 
 -- ---- where to begin
 
-pub above_none : (es : List Entry) (n a : ℕ) → length es ≤ n → AreAbove es n a
-above_none es n a past = record { each = λ i low high. absurd (omega arith) }
-
-pub above_middle : (pool : List ℕ) (es : List Entry) (n a : ℕ) → AreNames (map (entry_seen pool) es) → n < length es → a < (get_or es n blank_entry).address → AreAbove es n a
-above_middle pool es n a names below is = record {
-  each = λ i low high.
-      ⊎_elim
-      (λ same. let at = ap (λ (k : ℕ). (get_or es k blank_entry).address) same.1 in omega (arith, at, is))
-      (λ other.
-      let long = length-map es (entry_seen pool) in
-      let first = ap (λ (v : NameView). v.address) (seen_at pool es n blank_entry below) in
-      let then_it = ap (λ (v : NameView). v.address) (seen_at pool es i blank_entry high) in
-      let rise = names.rising n i blank_name (omega (arith, other.1)) (omega (arith, long)) in
-      omega (arith, first, then_it, rise, is))
-      (eqb_tells i n);
-}
+-- names ascend, and so do the entries
+pub entries_rise : (pool : List ℕ) (es : List Entry) → AreNames (map (entry_seen pool) es) → IsNonDecreasingBy (λ e. e.address) es
+entries_rise pool es names = IsNonDecreasingBy-from_default (λ e. e.address) es blank_entry (λ i j le high.
+    ⊎_elim
+    (λ same. omega (arith, ap (λ (k : ℕ). (get_or es k blank_entry).address) same.1))
+    (λ other.
+    let long = length-map es (entry_seen pool) in
+    let low = ap (λ (v : NameView). v.address) (seen_at pool es i blank_entry (omega (arith, le, high))) in
+    let up = ap (λ (v : NameView). v.address) (seen_at pool es j blank_entry high) in
+    let rise = names.rising i j blank_name (omega (arith, le, other.1)) (omega (arith, high, long)) in
+    omega (arith, low, up, rise))
+    (eqb_tells i j))
 
 missed : (x y : Bool) → x ≡ false → (x && y) ≡ false
 missed true y is = absurd (false≢true (sym is))

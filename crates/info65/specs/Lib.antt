@@ -2,6 +2,7 @@ pub mod Attributes
 pub mod Closing
 pub mod Code
 pub mod Comments
+pub mod Digits
 pub mod Faults
 pub mod Grammar
 pub mod Groups

@@ -5,6 +5,7 @@ ghost use Rattle.std.specs.List.{prefix_len};
 ghost use Rattle.info65.specs.Lexemes.{character_at, in_class, lexeme_at, mark, number_at, number_in, starts_word, string_at, word_at};
 ghost use Rattle.info65.specs.Code.Steps.{Sees, kind_seen, lexeme_seen};
 
+use crate::digits::number_of_digits;
 use crate::fault::{InfoFault, InfoFaultKind};
 use crate::token::TokenKind;
 
@@ -178,20 +179,8 @@ fn number_in(digits: &[u8], radix: u32) -> Option<u32>
     ensures value { result ≡ number_in radix digits.now }
     ensures some { IfSome result (λ _. 0 < length digits.now) }
 {
-    if digits.is_empty() {
-        return None;
-    }
-    let limit = u64::from(u32::MAX) + 1;
-    let mut value: u64 = 0;
-    for digit in digits {
-        match char::from(*digit).to_digit(radix) {
-            Some(unit) => value = (value * u64::from(radix) + u64::from(unit)).min(limit),
-            None => return None,
-        }
-    }
-    if value == limit {
-        None
-    } else {
-        Some(value as u32)
+    match number_of_digits(digits, radix) {
+        Some(value) if value <= u64::from(u32::MAX) => Some(value as u32),
+        _ => None,
     }
 }

@@ -16,6 +16,7 @@ mod assignment;
 mod attribute;
 mod closed;
 mod comments;
+mod digits;
 mod fault;
 mod groups;
 mod index;
@@ -42,6 +43,7 @@ mod tests;
 mod token;
 mod values;
 
+pub use digits::number_of_digits;
 pub use fault::{InfoFault, InfoFaultKind};
 pub use info::{Info, read_info};
 pub use law::{
@@ -51,6 +53,7 @@ pub use law::{
 };
 pub use lexer::Lexer;
 pub use name::Given;
+pub use names::default_name;
 pub use options::Options;
 pub use range::{RangeSpec, RangeType};
 pub use segment::SegmentSpec;

@@ -57,9 +57,10 @@ fn hex_digit(digit: u8) -> u8
     }
 }
 
-// `L` and the four hex digits of the address.
+/// Returns the default name of an address: `L` and its four hex digits, in upper case.
 #[tactic(auto, unfolding(crate::specs::Names::default_name))]
-fn default_name(address: u16) -> [u8; 5]
+#[inline]
+pub fn default_name(address: u16) -> [u8; 5]
     ensures { result ≡ default_name address }
 {
     [

@@ -1,6 +1,7 @@
 //! Names by address, with the bytes of all of them in one pool.
 
 ghost use Rattle.std.specs.Prelude.{◌≡◌, ◌+◌, ◌<◌, ◌≤◌, ◌++◌, IfErr, IfOk, length, map, option_map};
+ghost use Rattle.std.specs.List.Sorted.{IsNonDecreasingBy};
 ghost use Rattle.info65.specs.Code.Pool.{AreAbove, IsPool, IsWithin, ReachTo, bytes_of, entry_covers, entry_seen, optional, reach_of, rest_after, span_of};
 ghost use Rattle.info65.specs.Code.Names.{given_seen};
 ghost use Rattle.info65.specs.Faults.{out_of_memory};
@@ -214,7 +215,7 @@ fn covering_in<'a>(entries: &[Entry], pool: &'a [u8], address: u16) -> Option<Gi
     requires pool { IsPool pool.now entries.now }
     ensures { option_map given_seen result ≡ covering (map (entry_seen pool.entry.now) entries.now) address }
 {
-    let mut left = count_upto(entries, pool, address);
+    let mut left = count_upto(entries, address);
     'left: while 0 < left {
         left -= 1;
         let entry = &entries[left];
@@ -226,23 +227,13 @@ fn covering_in<'a>(entries: &[Entry], pool: &'a [u8], address: u16) -> Option<Gi
     None
 }
 
-// How many entries have addresses up to this one, by halving.
-fn count_upto(entries: &[Entry], pool: &[u8], address: u16) -> usize
-    requires { AreNames (map (entry_seen pool.now) entries.now) }
+// How many entries have addresses up to this one.
+fn count_upto(entries: &[Entry], address: u16) -> usize
+    requires { IsNonDecreasingBy (λ (e : Entry). e.address) entries.now }
     ensures bound { result ≤ length entries.now }
     ensures rest { AreAbove entries.now result address }
 {
-    let mut low = 0;
-    let mut high = entries.len();
-    'halves: while low < high {
-        let middle = low + (high - low) / 2;
-        if entries[middle].address <= address {
-            low = middle + 1;
-        } else {
-            high = middle;
-        }
-    }
-    high
+    entries.partition_point(|entry| entry.address <= address)
 }
 
 fn rest_after(entry: &Entry, left: usize, address: u16) -> usize

@@ -1,9 +1,10 @@
 //! Names of addresses.
 
-ghost use Rattle.std.specs.Prelude.{◌≡◌, ◌<◌, ◌≤◌, length};
-ghost use Rattle.info65.specs.Names.{default_name, hex_digit};
+ghost use Rattle.std.specs.Prelude.{◌≡◌, ◌≤◌, length};
+ghost use Rattle.info65.specs.Names.{default_name};
 
 use arrayvec::ArrayVec;
+use info65::default_name;
 
 /// A buffer for a name, which has at most 80 bytes.
 pub type NameBuf = ArrayVec<u8, 80>;
@@ -38,26 +39,9 @@ pub fn put_text(name: &mut NameBuf, text: &[u8])
     prove!(taken.is_ok());
 }
 
-fn hex_digit(digit: u8) -> u8
-    requires { digit < 16 }
-    ensures { result ≡ hex_digit digit }
-{
-    if digit < 10 {
-        b'0' + digit
-    } else {
-        b'A' - 10 + digit
-    }
-}
-
 /// Replaces what the buffer holds by the default name of an address.
-#[tactic(auto, unfolding(info65::specs::Names::default_name))]
 pub fn put_default(name: &mut NameBuf, address: u16)
     ensures { name.new.items ≡ default_name address }
 {
-    name.clear();
-    name.push(b'L');
-    name.push(hex_digit((address / 4096 % 16) as u8));
-    name.push(hex_digit((address / 256 % 16) as u8));
-    name.push(hex_digit((address / 16 % 16) as u8));
-    name.push(hex_digit((address % 16) as u8));
+    put_text(name, &default_name(address));
 }

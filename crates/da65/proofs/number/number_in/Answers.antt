@@ -1,22 +1,12 @@
-use Rattle.std.proofs.Common.{◌≡◌, ◌∙◌, ◌<◌, ◌+◌, ◌*◌, length, get_or, drop, min, ap, sym, arith, rules}
-use Rattle.std.specs.Char.{digit_value}
-use Rattle.std.specs.Str.Parse.{digits_value_after}
-use Rattle.info65.proofs.NumberLemmas.{next_digit, next_value, saturates}
+use Rattle.std.proofs.Common.{arith}
+use Rattle.da65.proofs.NumberLemmas.{number-great, number-none, number-small}
 use Rattle.da65.proofs.number.number_in.Goals as goal
 
-pub reads-preserved : goal.reads-preserved
-reads-preserved c =
-    let ds = c.args.digits.now in
-    let i = c.reads.digit-index in
-    let limit = c.from-limit.result + 1 in
-    let rest = drop (i + 1) ds in
-    let here : i < length ds = omega arith in
-    let read : c.from.result ≡ get_or ds i 0 = search rules in
-    let unit : c.in-Some.unit ≡ digit_value (get_or ds i 0) = c.in-Some.ensures.value.1 ∙ ap digit_value read in
-    let digit : digit_value (get_or ds i 0) < c.args.radix = omega (arith, unit, c.in-Some.ensures.value.1, c.in-Some.ensures.value.0) in
-    let made : c.min-value.result ≡ min (c.reads.value * c.args.radix + digit_value (get_or ds i 0)) limit = cc in
-    record {
-      capped = omega arith;
-      digits = sym (next_digit c.args.radix ds i here digit) ∙ c.reads.invariant.digits;
-      value = ap (λ v. min (digits_value_after c.args.radix v rest) limit) made ∙ saturates c.args.radix limit (c.reads.value * c.args.radix + digit_value (get_or ds i 0)) rest (omega arith) ∙ ap (λ v. min v limit) (sym (next_value c.args.radix c.reads.value ds i here)) ∙ c.reads.invariant.value;
-    }
+pub returns-in-None-clause-value : goal.returns-in-None-clause-value
+returns-in-None-clause-value c = number-none c.args.radix c.args.most c.args.digits.now c.in-None.ensures.value
+
+pub returns-in-Some-clause-value : goal.returns-in-Some-clause-value
+returns-in-Some-clause-value c = number-small c.args.radix c.args.most c.args.digits.now c.in-Some.number c.in-Some.ensures.value (omega (arith, c.ranges.most.fits)) (omega (arith, c.from.ensures, c.if-number-from.true))
+
+pub returns-in-Some-2-clause-value : goal.returns-in-Some-2-clause-value
+returns-in-Some-2-clause-value c = number-great c.args.radix c.args.most c.args.digits.now c.in-Some.number c.in-Some.ensures.value (omega (arith, c.from.ensures, c.if-number-from.false))

@@ -1,15 +1,11 @@
-use Rattle.std.proofs.Common.{ℕ, ◌+◌, ◌-◌, ◌/◌, ◌<◌, arith}
-use Rattle.info65.proofs.PoolLemmas.{above_middle, above_none}
+use Rattle.std.proofs.Common.{leb, leb-false, rules}
+use Rattle.std.proofs.lemmas.List.Sorted.{IsPartitionPoint-from_clause, IsPartitionedBy-leb}
+use Rattle.info65.specs.Code.Pool.{blank_entry}
+use Rattle.info65.specs.declared.pool.Entry.{Entry}
 use Rattle.info65.proofs.pool.count_upto.Goals as goal
 
-pub halves-init : goal.halves-init
-halves-init c = record { high = omega arith; above = above_none c.args.entries.now _ c.args.address (omega arith) }
-
-pub halves-preserved : goal.halves-preserved
-halves-preserved c =
-    let n : ℕ = c.halves.low + (c.halves.high - c.halves.low) / 2 in
-    let here : n < c.halves.high = omega (arith, c.halves-test.true) in
-    record {
-      high = omega (arith, here, c.halves.invariant.high);
-      above = above_middle c.args.pool.now c.args.entries.now n c.args.address c.requires (omega (arith, here, c.halves.invariant.high)) (omega (arith, c.if-entries-middle.false));
-    }
+pub returns : goal.returns
+returns c =
+    let parted = IsPartitionedBy-leb (λ (e : Entry). e.address) _ c.args.address c.requires in
+    let point = IsPartitionPoint-from_clause (λ (e : Entry). leb e.address c.args.address) _ _ c.partition_point.ensures.partitioned parted (λ a r q k. search rules) in
+    record { bound = c.partition_point.ensures.bound; rest = record { each = λ i from low. leb-false _ _ (point.1 i blank_entry from low) } }

@@ -3,8 +3,11 @@ use Rattle.std.specs.Prelude.{Some}
 use Rattle.info65.specs.Code.Pool.{blank_entry, entry_seen, rest_after}
 use Rattle.info65.specs.Names.{covering_below, covers}
 use Rattle.info65.specs.Views.{NameView}
-use Rattle.info65.proofs.PoolLemmas.{below_hit, below_miss, below_none, covering_rest, seen_at, rest_low, rest_same}
+use Rattle.info65.proofs.PoolLemmas.{below_hit, below_miss, below_none, covering_rest, entries_rise, seen_at, rest_low, rest_same}
 use Rattle.info65.proofs.pool.covering_in.Goals as goal
+
+pub count_upto-left-requires : goal.count_upto-left-requires
+count_upto-left-requires c = entries_rise c.args.pool.now c.args.entries.now c.requires.names
 
 pub left-init : goal.left-init
 left-init c = record { low = c.count_upto-left.ensures.bound; same = covering_rest c.args.pool.now c.args.entries.now c.count_upto-left.result c.args.address c.count_upto-left.ensures.rest c.count_upto-left.ensures.bound }
