@@ -7,7 +7,7 @@ use Rattle.da65.specs.Outcome.{image_message, no_input_message, outcome_by_input
 use Rattle.da65.specs.declared.outcome.Status.TheVariants.{Refused}
 
 abbrev without_ranges : SettingsView → InfoView
-without_ranges s = record { settings = s; ranges = []; segments = []; names = [] }
+without_ranges s = record { settings = s; ranges = []; segments = []; names = []; includes = [] }
 
 -- settings with an input name and a start that are given or not
 abbrev settings : Option (List ℕ) → Option ℕ → InfoView

@@ -34,6 +34,7 @@ map_of e = record {
     segments = e.segments;
     ranges = e.ranges;
     names = e.names;
+    includes = [];
   };
   image = record { start = e.start; bytes = e.bytes };
 }

@@ -1,7 +1,7 @@
 -- Values that are read have the form of their attributes.
 use Rattle.std.proofs.Common.{◌≡◌, ◌≤◌, ℕ, Bool, List, [], ◌∷◌, ◌++◌, ◌∙◌, true, false, ap, append_assoc, arith}
 use Rattle.std.specs.Prelude.{IfOk, IfSome, option_map, Option, Some, None, Result, Ok, nat_le}
-use Rattle.std.specs.List.{AllByRecursion, flat_map}
+use Rattle.std.specs.List.{flat_map}
 use Rattle.std.specs.Option.{option_or, unwrap_or}
 use Rattle.std.proofs.lemmas.Bool.Decides.{nat_tests}
 use denote.Bor.{Bor}
@@ -11,8 +11,8 @@ use Rattle.info65.specs.Code.Groups.{IsAtMost}
 use Rattle.info65.specs.Attributes.{boolean_named, form_of, type_named}
 use Rattle.isa65.specs.Cpu.{cpu_named}
 use Rattle.info65.specs.Grammar.{Item, Spells, end_items, given_items, group_items, without_marks}
-use Rattle.info65.specs.Groups.{AreFormed, AssignmentView, GroupView, global_given, global_part, is_of, value_in}
-use Rattle.info65.specs.Lexemes.{KindView, number, string, word}
+use Rattle.info65.specs.Groups.{AreAllFormed, AreFormed, AssignmentView, GroupView, global_given, global_part, is_of, value_in}
+use Rattle.info65.specs.Lexemes.{KindView, character, number, string, word}
 use Rattle.info65.specs.Names.{has_comment_form, has_name_form}
 use Rattle.info65.specs.Reader.{groups_of, read}
 use Rattle.info65.specs.Settings.{settings_of}
@@ -63,6 +63,7 @@ formed o a line source form.Name (string text) = label_formed line text
 formed o a line source form.Comment (string text) = comment_formed line text
 formed o a line source form.Boolean word = boolean_formed line (boolean_named source)
 formed o a line source form.Boolean (number n) = boolean_formed line (boolean_of n)
+formed o a line source form.Character (character b) = tt
 formed o a line source form.Address (number n) = by_test (nat_le n 0xFFFF) (λ h. rw h (grind (arith, nat_tests, h))) (λ h. rw h tt)
 formed o a line source (form.Number low high) (number n) =
     by_test (nat_le low n) (λ g. by_test (nat_le n high) (λ h. rw (g, h) (grind (arith, nat_tests, g), grind (arith, nat_tests, h))) (λ h. rw (g, h) tt)) (λ g. rw g tt)
@@ -90,10 +91,7 @@ end_passed o true rest (t ∷ u ∷ ts) h = (ts, h.1.1)
 end_passed o false rest [] h = absurd h
 end_passed o false rest (t ∷ ts) h = (ts, h.1)
 
-abbrev pub GroupsFormed : List GroupView → Type 0
-GroupsFormed gs = AllByRecursion (λ g. AreFormed g.given) gs
-
-pub groups_formed : (o : OptionsView) (spelling : List (GroupView × Bool)) (ts : List TokenView) → Spells o (flat_map group_items spelling) ts → GroupsFormed (without_marks spelling)
+pub groups_formed : (o : OptionsView) (spelling : List (GroupView × Bool)) (ts : List TokenView) → Spells o (flat_map group_items spelling) ts → AreAllFormed (without_marks spelling)
 groups_formed o [] ts h = tt
 groups_formed o (g ∷ gs) [] h = absurd h
 groups_formed o (g ∷ gs) (t ∷ []) h = absurd h.1
@@ -112,17 +110,21 @@ part_formed : (k : GroupKind) (given : List AssignmentView) → AreFormed given 
 part_formed group_kind.Global given h = h
 part_formed _ given h = tt
 
-all_formed : (groups : List GroupView) → GroupsFormed groups → AreFormed (global_given groups)
+all_formed : (groups : List GroupView) → AreAllFormed groups → AreFormed (global_given groups)
 unfolding global_given
 all_formed [] h = tt
 all_formed (g ∷ gs) h = append_formed (global_part g) (global_given gs) (part_formed g.kind g.given h.0) (all_formed gs h.1)
 
+-- what the groups of an accepted text give has the form of its attribute
+pub read_all_formed : (o : OptionsView) (bytes : List ℕ) (groups : List GroupView) → groups_of o bytes ≡ Ok groups → AreAllFormed groups
+unfolding groups_of read
+read_all_formed o bytes groups e =
+    let a = groups_accepted o (tokens_of 1 bytes).tokens (tokens_of 1 bytes).ending groups e in
+    rw a.1.of at (groups_formed o a.1.spelling (tokens_of 1 bytes).tokens a.1.spelled)
+
 -- what the groups GLOBAL of an accepted text give has the form of its attribute
 pub read_formed : (o : OptionsView) (bytes : List ℕ) (groups : List GroupView) → groups_of o bytes ≡ Ok groups → AreFormed (global_given groups)
-unfolding groups_of read
-read_formed o bytes groups e =
-    let a = groups_accepted o (tokens_of 1 bytes).tokens (tokens_of 1 bytes).ending groups e in
-    all_formed groups (rw a.1.of at (groups_formed o a.1.spelling (tokens_of 1 bytes).tokens a.1.spelled))
+read_formed o bytes groups e = all_formed groups (read_all_formed o bytes groups e)
 
 pub found_formed : (a : Attribute) (given : List AssignmentView) → AreFormed given → IfSome (value_in a given) (HasForm (form_of a))
 unfolding value_in

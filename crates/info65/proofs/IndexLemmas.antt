@@ -1,7 +1,7 @@
 -- The index of closed groups.
 use Rattle.std.proofs.Common.{◌≡◌, ◌≢◌, ◌∙◌, ◌≤◌, ◌<◌, ◌+◌, ◌-◌, ◌==◌, ◌&&◌, ◌||◌, ℕ, zero, suc, Bool, List, [], ◌∷◌, ◌++◌, true, false, ⊎_elim, ap, ap₂, arith, get_or, length, option_map, refl, sym, if◌then◌else◌}
 use Rattle.std.specs.Option.{option_or}
-use Rattle.std.specs.Prelude.{All, AllPairs, Any, Option, Some, None, Result, Ok, Err, IfOk, is_some, option_to_list, nat_le, nat_lt, not}
+use Rattle.std.specs.Prelude.{All, AllPairs, Option, Some, None, Result, Ok, Err, IfOk, is_some, option_to_list, nat_le, nat_lt, not}
 use Rattle.std.specs.List.{find, flat_map, list_any}
 use Rattle.std.specs.Ordering.{is_eq, nat_cmp}
 use Rattle.std.specs.Str.{bytes_eq}
@@ -326,12 +326,16 @@ ranges_more_other before kind.Range given other = absurd (other refl)
 ranges_more_other before kind.Global given other = ranges_more before (record { kind = kind.Global; given = given }) ∙ append-nil (ranges_of before)
 ranges_more_other before kind.Label given other = ranges_more before (record { kind = kind.Label; given = given }) ∙ append-nil (ranges_of before)
 ranges_more_other before kind.Segment given other = ranges_more before (record { kind = kind.Segment; given = given }) ∙ append-nil (ranges_of before)
+ranges_more_other before kind.Include given other = ranges_more before (record { kind = kind.Include; given = given }) ∙ append-nil (ranges_of before)
 
 pub names_more_global : (before : List GroupView) (given : List AssignmentView) → names_said (before ++ record { kind = kind.Global; given = given } ∷ []) ≡ names_said before
 names_more_global before given = names_more before (record { kind = kind.Global; given = given }) ∙ append-nil (names_said before)
 
 pub names_more_segment : (before : List GroupView) (given : List AssignmentView) → names_said (before ++ record { kind = kind.Segment; given = given } ∷ []) ≡ names_said before
 names_more_segment before given = names_more before (record { kind = kind.Segment; given = given }) ∙ append-nil (names_said before)
+
+pub names_more_include : (before : List GroupView) (given : List AssignmentView) → names_said (before ++ record { kind = kind.Include; given = given } ∷ []) ≡ names_said before
+names_more_include before given = names_more before (record { kind = kind.Include; given = given }) ∙ append-nil (names_said before)
 
 pub marked_end : (first last a at : ℕ) → at ≡ last + 1 → (nat_le first a && nat_lt a at) ≡ (nat_le first a && nat_le a last)
 marked_end first last a at is = ap (λ b. nat_le first a && b) (let e : nat_lt a at ≡ nat_le a last = by_test (nat_le a last) (λ h. let f : nat_lt a at ≡ true = grind (arith, nat_tests, h, is) in f ∙ sym h) (λ h. let f : nat_lt a at ≡ false = grind (arith, nat_tests, h, is) in f ∙ sym h) in e)
@@ -400,6 +404,10 @@ global_said before given t f s i = moved _ _ _ _ t f s (ranges_more_other before
 pub segment_said : (before : List GroupView) (given : List AssignmentView) (t : List Bool) (f : ℕ → Option Given) (s : List ℕ → Option ℕ) → IsIndex (ranges_of before) (names_said before) t f s
     → IsIndex (ranges_of (before ++ record { kind = kind.Segment; given = given } ∷ [])) (names_said (before ++ record { kind = kind.Segment; given = given } ∷ [])) t f s
 segment_said before given t f s i = moved _ _ _ _ t f s (ranges_more_other before kind.Segment given (λ e. absurd cc)) (names_more_segment before given) i
+
+pub include_said : (before : List GroupView) (given : List AssignmentView) (t : List Bool) (f : ℕ → Option Given) (s : List ℕ → Option ℕ) → IsIndex (ranges_of before) (names_said before) t f s
+    → IsIndex (ranges_of (before ++ record { kind = kind.Include; given = given } ∷ [])) (names_said (before ++ record { kind = kind.Include; given = given } ∷ [])) t f s
+include_said before given t f s i = moved _ _ _ _ t f s (ranges_more_other before kind.Include given (λ e. absurd cc)) (names_more_include before given) i
 
 pub range_said : (before : List GroupView) (given : List AssignmentView) (r : RangeSpec) (n : Option NameView) (t : List Bool) (f : ℕ → Option Given) (s : List ℕ → Option ℕ) → range_in given ≡ Ok r → n ≡ range_name given r → IsIndex (ranges_of before ++ r ∷ []) (names_said before ++ option_to_list n) t f s
     → IsIndex (ranges_of (before ++ record { kind = kind.Range; given = given } ∷ [])) (names_said (before ++ record { kind = kind.Range; given = given } ∷ [])) t f s

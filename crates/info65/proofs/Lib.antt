@@ -2,6 +2,7 @@ pub mod Accepting
 pub mod CoveringLemmas
 pub mod FormLemmas
 pub mod GroupLemmas
+pub mod IncludeLemmas
 pub mod IndexLemmas
 pub mod Laws
 pub mod NameFaultLemmas

@@ -1,6 +1,6 @@
 -- The names of an accepted file: what holds of those that its groups say, and of all of them by address.
-use Rattle.std.proofs.Common.{◌≡◌, ◌≢◌, ◌∙◌, ◌≤◌, ◌<◌, ◌+◌, ◌-◌, ◌==◌, ℕ, zero, suc, Bool, List, [], ◌∷◌, ◌++◌, true, false, ⊎_elim, ap, append_assoc, arith, get_or, length, length-append, option_map, refl, subst, sym}
-use Rattle.std.specs.Prelude.{All, AllPairs, IfSome, Option, Some, None, Result, Ok, Err, nat_le, nat_lt, option_to_list, is_some, ◌↔◌}
+use Rattle.std.proofs.Common.{◌≡◌, ◌≢◌, ◌∙◌, ◌≤◌, ◌<◌, ◌+◌, ◌==◌, ℕ, zero, suc, Bool, List, [], ◌∷◌, ◌++◌, true, false, ⊎_elim, ap, append_assoc, arith, get_or, length, option_map, refl, subst, sym}
+use Rattle.std.specs.Prelude.{All, AllPairs, IfSome, Option, Some, None, Result, Ok, Err, nat_le, option_to_list, is_some, ◌↔◌}
 use Rattle.std.specs.List.{Contains, find, list_any}
 use Rattle.std.specs.Option.{unwrap_or}
 use Rattle.std.proofs.lemmas.Bool.Decides.{eqb_tells, nat_tests}
@@ -14,13 +14,13 @@ use Rattle.info65.specs.Attributes.{form_of}
 use Rattle.info65.specs.Closing.{closing_fault, optional_name_fault}
 use Rattle.info65.specs.Comments.{comment_in, not_empty}
 use Rattle.info65.specs.Grammar.{AreGroups}
-use Rattle.info65.specs.Groups.{AreFormed, AssignmentView, GroupView, value_in}
-use Rattle.info65.specs.Labels.{by_address, is_at, label_from, label_in, label_sized, name_fault, named, named_at, names_from, names_said, range_name}
+use Rattle.info65.specs.Groups.{AreAllFormed, AreFormed, AssignmentView, GroupView, value_in}
+use Rattle.info65.specs.Labels.{by_address, is_at, label_from, label_in, label_sized, named, named_at, names_from, names_said, range_name}
 use Rattle.info65.specs.NameLaws.{NamesGiven}
-use Rattle.info65.specs.Names.{AreNames, IsComment, IsName, has_name_form, is_reserved}
+use Rattle.info65.specs.Names.{AreNames, IsComment, IsName, has_name_form}
 use Rattle.info65.specs.Reader.{groups_of, read}
 use Rattle.info65.specs.Tokens.{tokens_of}
-use Rattle.info65.specs.Values.{HasForm, ValueView, a_comment, a_name, an_address, as_address, as_comment, as_name, as_number}
+use Rattle.info65.specs.Values.{HasForm, ValueView, a_comment, a_name, as_address, as_comment, as_name, as_number}
 use Rattle.info65.specs.Views.{NameView, OptionsView}
 use Rattle.info65.specs.declared.attribute.Attribute.TheVariants as attribute
 use Rattle.info65.specs.declared.attribute.Form.TheVariants as form
@@ -30,8 +30,8 @@ use Rattle.info65.specs.declared.fault.InfoFaultKind.{InfoFaultKind}
 use Rattle.info65.specs.declared.fault.InfoFaultKind.TheVariants.{OutOfRange}
 use Rattle.info65.specs.declared.range.RangeSpec.{RangeSpec}
 use Rattle.info65.proofs.Accepting.{by_test, groups_accepted}
-use Rattle.info65.proofs.FormLemmas.{GroupsFormed, found_formed, groups_formed, size_in}
-use Rattle.info65.proofs.IndexLemmas.{IsNew, eqb_is, taken_is, names_more_global, names_more_label, names_more_range, names_more_segment, new_text, no_fault, closes_label}
+use Rattle.info65.proofs.FormLemmas.{found_formed, groups_formed, size_in}
+use Rattle.info65.proofs.IndexLemmas.{IsNew, eqb_is, taken_is, names_more_global, names_more_include, names_more_label, names_more_range, names_more_segment, new_text, no_fault, closes_label}
 use Rattle.info65.proofs.RangeLemmas.{closes_range, low_in, ordered_in}
 
 -- ---- by address
@@ -216,6 +216,7 @@ given_optional names given r f low g (Some n) is fine =
 given_more : (before : List GroupView) (k : GroupKind) (given : List AssignmentView) → AreFormed given → closing_fault before k given ≡ None → AreGiven (names_said before) → AreGiven (names_said (before ++ record { kind = k; given = given } ∷ []))
 given_more before kind.Global given f h g = rw (names_more_global before given) g
 given_more before kind.Segment given f h g = rw (names_more_segment before given) g
+given_more before kind.Include given f h g = rw (names_more_include before given) g
 given_more before kind.Range given f h g =
     let c = closes_range before given h in
     let low = low_in given c.range c.is in
@@ -227,7 +228,7 @@ given_more before kind.Label given f h g =
     let x = label_is given c.name c.is in
     rw (names_more_label before given c.name c.is) (one_more (names_said before) c.name g (record { sized = rw x.size (size_some given f); room = x.room; form = name_formed given c.name.text f x.text; free = new.free; comment = rw x.comment (comment_is given f) }) new)
 
-groups_given : (before gs : List GroupView) → AreGroups before gs → GroupsFormed gs → AreGiven (names_said before) → AreGiven (names_said (before ++ gs))
+groups_given : (before gs : List GroupView) → AreGroups before gs → AreAllFormed gs → AreGiven (names_said before) → AreGiven (names_said (before ++ gs))
 groups_given before [] h f g = rw (append-nil before) g
 groups_given before (x ∷ xs) h f g =
     let more = given_more before x.kind x.given f.0 h.0.closes g in
@@ -237,7 +238,7 @@ none_said : AreGiven (names_said [])
 unfolding names_said
 none_said = none_given
 
-pub accepted_given : (groups : List GroupView) → AreGroups [] groups → GroupsFormed groups → AreGiven (names_said groups)
+pub accepted_given : (groups : List GroupView) → AreGroups [] groups → AreAllFormed groups → AreGiven (names_said groups)
 accepted_given groups h f = groups_given [] groups h f none_said
 
 -- the names of an accepted text
@@ -245,7 +246,7 @@ pub read_named : (o : OptionsView) (bytes : List ℕ) (groups : List GroupView) 
 unfolding groups_of read
 read_named o bytes groups e =
     let a = groups_accepted o (tokens_of 1 bytes).tokens (tokens_of 1 bytes).ending groups e in
-    let formed : GroupsFormed groups = subst GroupsFormed a.1.of (groups_formed o a.1.spelling (tokens_of 1 bytes).tokens a.1.spelled) in
+    let formed : AreAllFormed groups = subst AreAllFormed a.1.of (groups_formed o a.1.spelling (tokens_of 1 bytes).tokens a.1.spelled) in
     sorted_names (names_said groups) (accepted_given groups a.1.keeps formed)
 
 -- ---- by address there are exactly these names
@@ -305,6 +306,6 @@ exactly names g n = (
 
 pub names_given : NamesGiven
 names_given o bytes info i =
-    let formed : GroupsFormed i.groups = subst GroupsFormed i.accepts.of (groups_formed o i.accepts.spelling (tokens_of 1 bytes).tokens i.accepts.spelled) in
+    let formed : AreAllFormed i.groups = subst AreAllFormed i.accepts.of (groups_formed o i.accepts.spelling (tokens_of 1 bytes).tokens i.accepts.spelled) in
     let given = accepted_given i.groups i.accepts.keeps formed in
     rw i.says (sorted_names (names_said i.groups) given, exactly (names_said i.groups) given)

@@ -56,7 +56,7 @@ new_once before k given (x ∷ xs) h once =
     let free = has_append x.attribute (given_before before k) given ∙ or_no (has x.attribute (given_before before k)) (has x.attribute given) parts.0 inner.0 in
     let more = once_more (given_before before k ++ given) x once free in
     let next : AreOnce (given_before before k ++ (given ++ x ∷ [])) = rw (append_assoc (given_before before k) given (x ∷ [])) at more in
-    let all = new_once before k (given ++ x ∷ []) xs h.1 next in
+    let all = new_once before k (given ++ x ∷ []) xs h.2 next in
     rw (append_assoc given (x ∷ []) xs) at all
 
 global_more : (before : List GroupView) (g : GroupView) → global_given (before ++ g ∷ []) ≡ global_given before ++ global_part g
@@ -119,7 +119,7 @@ alone_more before k given (x ∷ xs) h old =
     let parts = neither (has x.attribute (given_before before k)) (has x.attribute given || has_instead x.attribute given) h.0 in
     let inner = neither (has x.attribute given) (has_instead x.attribute given) parts.1 in
     let next : Alone (given ++ x ∷ []) = record { once = once_more given x old.once inner.0; either = either_more given x.attribute x.value inner.1 old.either } in
-    let all = alone_more before k (given ++ x ∷ []) xs h.1 next in rw (append_assoc given (x ∷ []) xs) at all
+    let all = alone_more before k (given ++ x ∷ []) xs h.2 next in rw (append_assoc given (x ∷ []) xs) at all
 
 none_alone : Alone []
 unfolding has

@@ -1,11 +1,11 @@
 -- The ranges of an accepted file: what their groups say, and that no two share an address.
-use Rattle.std.proofs.Common.{◌≡◌, ◌∙◌, ◌≤◌, ◌<◌, ◌+◌, ◌-◌, ◌&&◌, ◌||◌, ℕ, zero, suc, Bool, List, [], ◌∷◌, ◌++◌, true, false, ap, append_assoc, arith, drop, get_or, inl, inr, length, map, refl, subst, sym}
+use Rattle.std.proofs.Common.{◌≡◌, ◌∙◌, ◌≤◌, ◌<◌, ◌+◌, ◌-◌, ◌&&◌, ℕ, zero, suc, Bool, List, [], ◌∷◌, ◌++◌, true, false, ap, append_assoc, arith, drop, get_or, inl, inr, length, map, refl, subst, sym}
 use Rattle.std.specs.Prelude.{All, AllPairs, Any, IfSome, Option, Some, None, Result, Ok, Err, ◌⊎◌, nat_le}
 use Rattle.std.specs.List.{flat_map, list_any}
 use Rattle.std.proofs.lemmas.Bool.Decides.{nat_tests}
 use Rattle.std.proofs.lemmas.List.{append-nil, at_drop_all, at_drop_more}
 use Rattle.std.proofs.lemmas.List.Elements.{All-append}
-use Rattle.std.proofs.lemmas.List.Folds.{Any-from_list_any, list_any-append, list_any_at, list_any-from_Any}
+use Rattle.std.proofs.lemmas.List.Folds.{Any-from_list_any, list_any_at, list_any-from_Any}
 use Rattle.std.proofs.lemmas.List.Quantifiers.{all_pairs_push}
 use Rattle.std.proofs.lemmas.Grind.{flat_map-append}
 use Rattle.info65.specs.Attributes.{form_of}
@@ -13,7 +13,7 @@ use Rattle.info65.specs.Closing.{closing_fault, optional_name_fault, range_fault
 use Rattle.info65.specs.Code.Groups.{group_seen}
 use Rattle.info65.specs.Comments.{lacks_name}
 use Rattle.info65.specs.Grammar.{AreGroups}
-use Rattle.info65.specs.Groups.{AreFormed, AssignmentView, GroupView, value_in}
+use Rattle.info65.specs.Groups.{AreAllFormed, AreFormed, AssignmentView, GroupView, value_in}
 use Rattle.info65.specs.Labels.{is_at, is_elsewhere, name_fault, names_said, range_name}
 use Rattle.info65.specs.Laws.{AreSaid, OverlapsShare, RangesApart, SaysRange, Share}
 use Rattle.info65.specs.Names.{is_reserved}
@@ -31,7 +31,7 @@ use Rattle.info65.specs.declared.assignment.Group.{Group}
 use Rattle.info65.specs.declared.range.RangeSpec.{RangeSpec}
 use Rattle.info65.specs.declared.range.RangeType.{RangeType}
 use Rattle.info65.proofs.Accepting.{by_test, groups_accepted}
-use Rattle.info65.proofs.FormLemmas.{GroupsFormed, found_formed, groups_formed, size_in}
+use Rattle.info65.proofs.FormLemmas.{found_formed, groups_formed, size_in}
 
 -- ---- group by group
 
@@ -166,6 +166,7 @@ ordered_part kind.Range given (Err f) e = rw e ordered_none
 ordered_part kind.Global given x e = ordered_none
 ordered_part kind.Label given x e = ordered_none
 ordered_part kind.Segment given x e = ordered_none
+ordered_part kind.Include given x e = ordered_none
 
 pub ranges_ordered : (groups : List GroupView) → Ordered (ranges_of groups)
 unfolding ranges_of
@@ -259,6 +260,7 @@ pairs_more : (before : List GroupView) (k : GroupKind) (given : List AssignmentV
 pairs_more before kind.Global given h old = rw (append-nil (ranges_of before)) old
 pairs_more before kind.Label given h old = rw (append-nil (ranges_of before)) old
 pairs_more before kind.Segment given h old = rw (append-nil (ranges_of before)) old
+pairs_more before kind.Include given h old = rw (append-nil (ranges_of before)) old
 pairs_more before kind.Range given h old =
     let c = closes_range before given h in
     rw c.is (all_pairs_push AreApart (ranges_of before) c.range old (apart_from c.range (ranges_of before) c.free))
@@ -281,16 +283,17 @@ said_more : (before : List GroupView) (k : GroupKind) (given : List AssignmentVi
 said_more before kind.Global given gs h f said = said
 said_more before kind.Label given gs h f said = said
 said_more before kind.Segment given gs h f said = said
+said_more before kind.Include given gs h f said = said
 said_more before kind.Range given gs h f said = let c = closes_range before given h in rw c.is (says given c.range f c.is, said)
 
-groups_said : (before gs : List GroupView) → AreGroups before gs → GroupsFormed gs → AreSaid gs (ranges_of gs)
+groups_said : (before gs : List GroupView) → AreGroups before gs → AreAllFormed gs → AreSaid gs (ranges_of gs)
 unfolding ranges_of
 groups_said before [] h f = refl
 groups_said before (g ∷ gs) h f = said_more before g.kind g.given gs h.0.closes f.0 (groups_said (before ++ g ∷ []) gs h.1 f.1)
 
 pub ranges_apart : RangesApart
 ranges_apart o bytes info i =
-    let formed : GroupsFormed i.groups = subst GroupsFormed i.accepts.of (groups_formed o i.accepts.spelling (tokens_of 1 bytes).tokens i.accepts.spelled) in
+    let formed : AreAllFormed i.groups = subst AreAllFormed i.accepts.of (groups_formed o i.accepts.spelling (tokens_of 1 bytes).tokens i.accepts.spelled) in
     rw i.says (groups_said [] i.groups i.accepts.keeps formed, groups_sound i.groups i.accepts.keeps)
 
 -- the ranges of the groups of an accepted text

@@ -7,10 +7,10 @@ use Rattle.info65.specs.Closing.{closing_fault}
 use Rattle.info65.specs.Groups.{AssignmentView, GroupView}
 use Rattle.info65.specs.Lexemes.{KindView, semicolon}
 use Rattle.info65.specs.Code.Reading.{Leads, is_semicolon, place_after}
-use Rattle.info65.specs.Reader.{Place, after_group, at_attribute, at_brace, at_group, at_semicolon, attribute_at, behind, closed, closed_by, finish, group, inside, one, opened, opening, outside, read, read_from, read_token, step, valued, wanted}
+use Rattle.info65.specs.Reader.{Place, after_group, at_attribute, at_brace, at_group, at_semicolon, attribute_at, behind, closed, closed_by, finish, group, inside, one, opened, opening, outside, read, read_from, read_token, step, value_at, valued, wanted}
 use Rattle.info65.specs.Code.Steps.{kind_seen}
 use Rattle.info65.specs.Tokens.{Stream, TokenView, ended, refused, with_token}
-use Rattle.info65.specs.Values.{ValueView, value_of}
+use Rattle.info65.specs.Values.{ValueView}
 use Rattle.info65.specs.Views.{OptionsView}
 use Rattle.info65.specs.declared.attribute.Attribute.{Attribute}
 use Rattle.info65.specs.declared.attribute.GroupKind.{GroupKind}
@@ -118,11 +118,11 @@ close_taken o k given b t x rest is brace whole = token_taken o (inside k given)
 pub close_refused : (o : OptionsView) (k : GroupKind) (given : List AssignmentView) (b : List GroupView) (t : TokenView) (x : TokenKind) (rest : Stream) (e : InfoFault) → t.kind ≡ kind_seen x → x ≡ kind.CloseBrace → closed_by b k given t.line (closing_fault b k given) ≡ Err e → read_token o (inside k given) b t rest ≡ Err e
 close_refused o k given b t x rest e is brace whole = token_refused o (inside k given) b t rest e (close_read o k given b t x rest is brace ∙ whole)
 
-pub value_taken : (o : OptionsView) (k : GroupKind) (given : List AssignmentView) (a : Attribute) (b : List GroupView) (t : TokenView) (rest : Stream) (v : ValueView) → value_of o a t ≡ Ok v → read_token o (valued k given a) b t rest ≡ read o (behind k (given ++ one a v ∷ [])) b rest
+pub value_taken : (o : OptionsView) (k : GroupKind) (given : List AssignmentView) (a : Attribute) (b : List GroupView) (t : TokenView) (rest : Stream) (v : ValueView) → value_at o b a t ≡ Ok v → read_token o (valued k given a) b t rest ≡ read o (behind k (given ++ one a v ∷ [])) b rest
 unfolding step
 value_taken o k given a b t rest v is = token_taken o (valued k given a) (behind k (given ++ one a v ∷ [])) b b t rest (ap (λ r. r >>= λ v. Ok (behind k (given ++ one a v ∷ []), b)) is)
 
-pub value_refused : (o : OptionsView) (k : GroupKind) (given : List AssignmentView) (a : Attribute) (b : List GroupView) (t : TokenView) (rest : Stream) (e : InfoFault) → value_of o a t ≡ Err e → read_token o (valued k given a) b t rest ≡ Err e
+pub value_refused : (o : OptionsView) (k : GroupKind) (given : List AssignmentView) (a : Attribute) (b : List GroupView) (t : TokenView) (rest : Stream) (e : InfoFault) → value_at o b a t ≡ Err e → read_token o (valued k given a) b t rest ≡ Err e
 unfolding step
 value_refused o k given a b t rest e is = token_refused o (valued k given a) b t rest e (ap (λ r. r >>= λ v. Ok (behind k (given ++ one a v ∷ []), b)) is)
 

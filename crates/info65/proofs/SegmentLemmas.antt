@@ -1,6 +1,6 @@
 -- The segments of an accepted file: what their groups say, and that no two share an address.
-use Rattle.std.proofs.Common.{◌≡◌, ◌∙◌, ◌≤◌, ◌<◌, ◌+◌, ◌-◌, ◌&&◌, ◌||◌, ℕ, zero, suc, Bool, List, [], ◌∷◌, ◌++◌, true, false, ap, append_assoc, arith, drop, get_or, length, map, refl, subst, sym}
-use Rattle.std.specs.Prelude.{All, AllPairs, Any, IfSome, Option, Some, None, Result, Ok, Err, nat_le}
+use Rattle.std.proofs.Common.{◌≡◌, ◌∙◌, ◌≤◌, ◌<◌, ◌+◌, ◌-◌, ◌||◌, ℕ, zero, suc, Bool, List, [], ◌∷◌, ◌++◌, true, false, ap, append_assoc, arith, drop, get_or, length, map, refl, subst, sym}
+use Rattle.std.specs.Prelude.{All, Any, IfSome, Option, Some, None, Result, Ok, Err, nat_le}
 use Rattle.std.specs.List.{flat_map, list_any}
 use Rattle.std.proofs.lemmas.Bool.Decides.{nat_tests}
 use Rattle.std.proofs.lemmas.List.{append-nil, at_drop_all, at_drop_more}
@@ -13,7 +13,7 @@ use Rattle.info65.specs.Closing.{closing_fault, segment_fault}
 use Rattle.info65.specs.Code.Groups.{group_seen}
 use Rattle.info65.specs.Code.Index.{AreMarked, any_in}
 use Rattle.info65.specs.Grammar.{AreGroups}
-use Rattle.info65.specs.Groups.{AreFormed, AssignmentView, GroupView, value_in}
+use Rattle.info65.specs.Groups.{AreAllFormed, AreFormed, AssignmentView, GroupView, value_in}
 use Rattle.info65.specs.Ranges.{has_address, overlaps}
 use Rattle.info65.specs.Reader.{groups_of, read}
 use Rattle.info65.specs.SegmentLaws.{AreSaid, SaysSegment, SegmentsApart, SegmentsShare, Share}
@@ -31,7 +31,7 @@ use Rattle.info65.specs.declared.fault.InfoFaultKind.TheVariants.{OutOfRange, Se
 use Rattle.info65.specs.declared.range.RangeSpec.{RangeSpec}
 use Rattle.info65.specs.declared.range.RangeType.TheVariants as role
 use Rattle.info65.proofs.Accepting.{by_test, groups_accepted}
-use Rattle.info65.proofs.FormLemmas.{GroupsFormed, found_formed, groups_formed}
+use Rattle.info65.proofs.FormLemmas.{found_formed, groups_formed}
 use Rattle.info65.proofs.IndexLemmas.{overlaps_marked}
 use Rattle.info65.proofs.NamesLemmas.{name_formed}
 use Rattle.info65.proofs.RangeLemmas.{address_is, overlap_shared, shared_overlap}
@@ -174,6 +174,7 @@ marked_other before k given table other m = segments_moved _ _ table (segments_m
     none kind.Global other = append-nil (segments_of before)
     none kind.Range other = append-nil (segments_of before)
     none kind.Label other = append-nil (segments_of before)
+    none kind.Include other = append-nil (segments_of before)
     none kind.Segment other = absurd (other refl)
 
 -- ---- no two share an address
@@ -204,6 +205,7 @@ good_more : (before : List GroupView) (k : GroupKind) (given : List AssignmentVi
 good_more before kind.Global given f h old = rw (append-nil (segments_of before)) old
 good_more before kind.Range given f h old = rw (append-nil (segments_of before)) old
 good_more before kind.Label given f h old = rw (append-nil (segments_of before)) old
+good_more before kind.Include given f h old = rw (append-nil (segments_of before)) old
 good_more before kind.Segment given f h old =
     let c = closes_segment before given h in
     rw c.is (record {
@@ -211,7 +213,7 @@ good_more before kind.Segment given f h old =
       apart = all_pairs_push AreApart (segments_of before) c.segment old.apart (apart_from c.segment (segments_of before) c.free);
     })
 
-groups_good : (before gs : List GroupView) → AreGroups before gs → GroupsFormed gs → AreSegments (segments_of before) → AreSegments (segments_of (before ++ gs))
+groups_good : (before gs : List GroupView) → AreGroups before gs → AreAllFormed gs → AreSegments (segments_of before) → AreSegments (segments_of (before ++ gs))
 groups_good before [] h f old = rw (append-nil before) old
 groups_good before (g ∷ gs) h f old =
     let more : AreSegments (segments_of (before ++ g ∷ [])) = rw (segments_more before g) (good_more before g.kind g.given f.0 h.0.closes old) in
@@ -226,7 +228,7 @@ pub read_segments : (o : OptionsView) (bytes : List ℕ) (groups : List GroupVie
 unfolding groups_of read
 read_segments o bytes groups e =
     let a = groups_accepted o (tokens_of 1 bytes).tokens (tokens_of 1 bytes).ending groups e in
-    let formed : GroupsFormed groups = subst GroupsFormed a.1.of (groups_formed o a.1.spelling (tokens_of 1 bytes).tokens a.1.spelled) in
+    let formed : AreAllFormed groups = subst AreAllFormed a.1.of (groups_formed o a.1.spelling (tokens_of 1 bytes).tokens a.1.spelled) in
     groups_good [] groups a.1.keeps formed none_said
 
 -- ---- the laws
@@ -235,6 +237,7 @@ said_more : (before : List GroupView) (k : GroupKind) (given : List AssignmentVi
 said_more before kind.Global given gs h said = said
 said_more before kind.Range given gs h said = said
 said_more before kind.Label given gs h said = said
+said_more before kind.Include given gs h said = said
 said_more before kind.Segment given gs h said = let c = closes_segment before given h in rw c.is (says given c.segment c.is, said)
 
 groups_said : (before gs : List GroupView) → AreGroups before gs → AreSaid gs (segments_of gs)
@@ -244,7 +247,7 @@ groups_said before (g ∷ gs) h = said_more before g.kind g.given gs h.0.closes 
 
 pub segments_apart : SegmentsApart
 segments_apart o bytes info i =
-    let formed : GroupsFormed i.groups = subst GroupsFormed i.accepts.of (groups_formed o i.accepts.spelling (tokens_of 1 bytes).tokens i.accepts.spelled) in
+    let formed : AreAllFormed i.groups = subst AreAllFormed i.accepts.of (groups_formed o i.accepts.spelling (tokens_of 1 bytes).tokens i.accepts.spelled) in
     rw i.says (groups_said [] i.groups i.accepts.keeps, groups_good [] i.groups i.accepts.keeps formed none_said)
 
 segments_ordered : (groups : List GroupView) → All (λ (s : SegmentView). s.first ≤ s.last) (segments_of groups)
@@ -262,6 +265,7 @@ segments_ordered (g ∷ gs) = All-append (λ (s : SegmentView). s.first ≤ s.la
     part kind.Global given x e = λ k d l. absurd (omega (arith, l))
     part kind.Range given x e = λ k d l. absurd (omega (arith, l))
     part kind.Label given x e = λ k d l. absurd (omega (arith, l))
+    part kind.Include given x e = λ k d l. absurd (omega (arith, l))
 
 refused_meets : (s : SegmentView) (ss : List SegmentView) → segment_fault ss (Ok s) ≡ Some SegmentsOverlap → list_any (meets s) ss ≡ true
 refused_meets s ss h =

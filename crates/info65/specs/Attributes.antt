@@ -18,7 +18,8 @@ group_named text =
     else (if str_eq_ignore_ascii_case text (codes "RANGE") then Some group.Range
     else (if str_eq_ignore_ascii_case text (codes "LABEL") then Some group.Label
     else (if str_eq_ignore_ascii_case text (codes "SEGMENT") then Some group.Segment
-    else None)))
+    else (if str_eq_ignore_ascii_case text (codes "ASMINC") then Some group.Include
+    else None))))
 
 -- the attribute of a group by its name, with letters of any case
 unfoldable pub attribute_named : GroupKind → List ℕ → Option Attribute
@@ -59,6 +60,11 @@ attribute_named group.Segment text =
     else (if str_eq_ignore_ascii_case text (codes "END") then Some attribute.End
     else (if str_eq_ignore_ascii_case text (codes "NAME") then Some attribute.Name
     else None))
+attribute_named group.Include text =
+    if str_eq_ignore_ascii_case text (codes "FILE") then Some attribute.File
+    else (if str_eq_ignore_ascii_case text (codes "COMMENTSTART") then Some attribute.CommentStart
+    else (if str_eq_ignore_ascii_case text (codes "IGNOREUNKNOWN") then Some attribute.IgnoreUnknown
+    else None))
 
 -- what the value of an attribute has to be
 unfoldable pub form_of : Attribute → Form
@@ -85,6 +91,9 @@ form_of attribute.Role = form.TypeWord
 form_of attribute.Name = form.Name
 form_of attribute.Comment = form.Comment
 form_of attribute.Address = form.Address
+form_of attribute.File = form.FileName
+form_of attribute.CommentStart = form.Character
+form_of attribute.IgnoreUnknown = form.Boolean
 
 -- what the bytes of a range are, by a type word with letters of any case
 unfoldable pub type_named : List ℕ → Option RangeType

@@ -2,10 +2,11 @@
 use Rattle.std.specs.Prelude.{List, Option, Some, None, Result, Ok, Err, if◌then◌else◌}
 use Rattle.std.specs.List.{list_any}
 use Rattle.info65.specs.Groups.{AssignmentView, GroupView}
+use Rattle.info65.specs.IncludeGroups.{include_in}
 use Rattle.info65.specs.Labels.{label_in, name_fault, names_said, range_name}
 use Rattle.info65.specs.Ranges.{overlaps, range_in, ranges_of}
 use Rattle.info65.specs.Segments.{meets, segment_in, segments_of}
-use Rattle.info65.specs.Views.{NameView, SegmentView}
+use Rattle.info65.specs.Views.{IncludeView, NameView, SegmentView}
 use Rattle.info65.specs.declared.attribute.GroupKind.{GroupKind}
 use Rattle.info65.specs.declared.attribute.GroupKind.TheVariants as group
 use Rattle.info65.specs.declared.fault.InfoFaultKind.{InfoFaultKind}
@@ -32,9 +33,15 @@ abbrev pub segment_fault : List SegmentView → Result SegmentView InfoFaultKind
 segment_fault segments (Err f) = Some f
 segment_fault segments (Ok s) = if list_any (meets s) segments then Some SegmentsOverlap else None
 
+-- a group ASMINC has the fault that it has by itself
+abbrev pub include_fault : Result IncludeView InfoFaultKind → Option InfoFaultKind
+include_fault (Err f) = Some f
+include_fault (Ok i) = None
+
 -- the fault of a group after those before it; a group GLOBAL needs nothing
 unfoldable pub closing_fault : List GroupView → GroupKind → List AssignmentView → Option InfoFaultKind
 closing_fault before group.Global given = None
 closing_fault before group.Range given = range_fault (ranges_of before) (names_said before) given (range_in given)
 closing_fault before group.Label given = label_fault (names_said before) (label_in given)
 closing_fault before group.Segment given = segment_fault (segments_of before) (segment_in given)
+closing_fault before group.Include given = include_fault (include_in given)

@@ -1,5 +1,6 @@
 -- What ties the code to the rules: what contracts see of the code's own types, and what its parts return.
 pub mod Groups
+pub mod Includes
 pub mod Index
 pub mod Names
 pub mod Pool

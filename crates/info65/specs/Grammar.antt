@@ -4,6 +4,7 @@ use Rattle.std.specs.List.{flat_map}
 use Rattle.info65.specs.Attributes.{attribute_named, group_named}
 use Rattle.info65.specs.Closing.{closing_fault}
 use Rattle.info65.specs.Groups.{AssignmentView, GroupView, is_given}
+use Rattle.info65.specs.IncludeGroups.{has_room}
 use Rattle.info65.specs.Lexemes.{KindView, word, opening_brace, closing_brace, semicolon}
 use Rattle.info65.specs.Settings.{info_of}
 use Rattle.info65.specs.Tokens.{TokenView, tokens_of}
@@ -46,10 +47,10 @@ end_items false = mark closing_brace ∷ []
 abbrev pub group_items : GroupView × Bool → List Item
 group_items g = group_name g.0.kind ∷ mark opening_brace ∷ (flat_map (given_items g.0.kind) g.0.given ++ end_items g.1)
 
--- none of these attributes was given before it
+-- none of these attributes was given before it, and there is room for each
 abbrev pub AreNew : List GroupView → GroupKind → List AssignmentView → List AssignmentView → Type 0
 AreNew before k given [] = Unit {0}
-AreNew before k given (x ∷ xs) = (is_given before k given x.attribute ≡ false) × AreNew before k (given ++ x ∷ []) xs
+AreNew before k given (x ∷ xs) = (is_given before k given x.attribute ≡ false) × (has_room before x.attribute ≡ true) × AreNew before k (given ++ x ∷ []) xs
 
 -- a group that may stand after those before it
 pub record IsGroup (before : List GroupView) (g : GroupView) : Type 0 where

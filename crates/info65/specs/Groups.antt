@@ -60,3 +60,6 @@ is_given before k given a = has a (given_before before k) || (has a given || has
 -- each value has the form of its attribute
 abbrev pub AreFormed : List AssignmentView → Type 0
 AreFormed given = AllByRecursion (λ g. HasForm (form_of g.attribute) g.value) given
+
+abbrev pub AreAllFormed : List GroupView → Type 0
+AreAllFormed groups = AllByRecursion (λ g. AreFormed g.given) groups

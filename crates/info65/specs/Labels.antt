@@ -1,6 +1,6 @@
 -- Given names: what the groups LABEL and RANGE say of names, the faults of a name after those before it,
 -- and all names of a file by address.
-use Rattle.std.specs.Prelude.{◌≤◌, ◌+◌, ◌==◌, ◌&&◌, ◌++◌, ℕ, zero, suc, Bool, not, List, [], ◌∷◌, Option, Some, None, Result, Ok, Err, nat_le, option_map, option_to_list, if◌then◌else◌}
+use Rattle.std.specs.Prelude.{◌+◌, ◌==◌, ◌&&◌, ◌++◌, ℕ, zero, suc, Bool, not, List, [], ◌∷◌, Option, Some, None, Result, Ok, Err, nat_le, option_map, option_to_list, if◌then◌else◌}
 use Rattle.std.specs.List.{find, flat_map, list_any}
 use Rattle.std.specs.Option.{unwrap_or}
 use Rattle.std.specs.Str.{bytes_eq}
@@ -56,6 +56,7 @@ name_part g = said g.kind g.given
     said group.Range given = name_of_range given (range_in given)
     said group.Label given = name_of_label (label_in given)
     said group.Segment given = []
+    said group.Include given = []
 
 -- the names of the groups LABEL and RANGE, in the order of the groups
 unfoldable pub names_said : List GroupView → List NameView

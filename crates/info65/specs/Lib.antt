@@ -6,6 +6,8 @@ pub mod Digits
 pub mod Faults
 pub mod Grammar
 pub mod Groups
+pub mod IncludeGroups
+pub mod Includes
 pub mod Labels
 pub mod Laws
 pub mod Lexemes

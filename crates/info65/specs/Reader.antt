@@ -1,9 +1,10 @@
 -- Reading groups token by token: what may come next, and the first fault.
-use Rattle.std.specs.Prelude.{◌≡◌, ℕ, Bool, true, false, List, [], ◌∷◌, ◌++◌, Option, Some, None, Result, Ok, Err, length, nat_lt, if◌then◌else◌}
+use Rattle.std.specs.Prelude.{ℕ, List, [], ◌∷◌, ◌++◌, Option, Some, None, Result, Ok, Err, length, nat_lt, if◌then◌else◌}
 use Rattle.info65.specs.Attributes.{attribute_named, group_named}
 use Rattle.info65.specs.Closing.{closing_fault}
 use Rattle.info65.specs.Faults.{fault, ◌>>=◌}
 use Rattle.info65.specs.Groups.{AssignmentView, GroupView, is_given}
+use Rattle.info65.specs.IncludeGroups.{has_room}
 use Rattle.info65.specs.Lexemes.{KindView, word, opening_brace, closing_brace, semicolon}
 use Rattle.info65.specs.Settings.{info_of}
 use Rattle.info65.specs.Tokens.{Stream, TokenView, tokens_of}
@@ -25,7 +26,8 @@ use Rattle.info65.specs.declared.fault.InfoFaultKind.TheVariants.{Expected, Give
 --              or `}`                                        Missing, OutOfRange, RangesOverlap,
 --                                                            SegmentsOverlap, ReservedName, NameTwice,
 --                                                            AddressTwice
---   valued     the value of the attribute                    Expected, OutOfRange, BadName, NameConflict
+--   valued     the value of the attribute                    Expected, OutOfRange, BadName, NameConflict,
+--                                                            TooLarge
 --   behind     `;`                                           Expected
 --
 -- The end at any other place is Expected, and a token that has a fault of its own (BadByte, OpenString,
@@ -87,13 +89,17 @@ abbrev pub at_semicolon : List GroupView → GroupKind → List AssignmentView �
 at_semicolon before k given t semicolon = Ok (inside k given, before)
 at_semicolon before k given t _ = Err (fault t.line Expected)
 
+-- the value of an attribute, if there is room for one more
+unfoldable pub value_at : OptionsView → List GroupView → Attribute → TokenView → Result ValueView InfoFault
+value_at o before a t = value_of o a t >>= λ v. if has_room before a then Ok v else Err (fault t.line TooLarge)
+
 -- one token more, or its fault
 unfoldable pub step : OptionsView → Place → List GroupView → TokenView → Result State InfoFault
 step o outside before t = at_group before t t.kind
 step o closed before t = after_group before t t.kind
 step o (opening k) before t = at_brace before k t t.kind
 step o (inside k given) before t = at_attribute before k given t t.kind
-step o (valued k given a) before t = value_of o a t >>= λ v. Ok (behind k (given ++ one a v ∷ []), before)
+step o (valued k given a) before t = value_at o before a t >>= λ v. Ok (behind k (given ++ one a v ∷ []), before)
 step o (behind k given) before t = at_semicolon before k given t t.kind
 
 -- the end is here, or the fault of a token, where a token is due

@@ -3,6 +3,7 @@ use Rattle.std.specs.Prelude.{◌||◌, false, List}
 use Rattle.std.specs.Option.{option_or, unwrap_or}
 use Rattle.isa65.specs.declared.cpu.Cpu.TheVariants.{M6502}
 use Rattle.info65.specs.Groups.{AssignmentView, GroupView, global_given, value_in}
+use Rattle.info65.specs.IncludeGroups.{includes_of}
 use Rattle.info65.specs.Labels.{by_address, names_said}
 use Rattle.info65.specs.Ranges.{ranges_of}
 use Rattle.info65.specs.Segments.{segments_of}
@@ -32,4 +33,4 @@ settings_of o given = record {
 
 -- what groups say, merged with the options
 abbrev pub info_of : OptionsView → List GroupView → InfoView
-info_of o groups = record { settings = settings_of o (global_given groups); ranges = ranges_of groups; segments = segments_of groups; names = by_address (names_said groups) }
+info_of o groups = record { settings = settings_of o (global_given groups); ranges = ranges_of groups; segments = segments_of groups; names = by_address (names_said groups); includes = includes_of groups }

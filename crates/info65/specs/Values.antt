@@ -5,7 +5,7 @@ use Rattle.isa65.specs.declared.cpu.Cpu.{Cpu}
 use Rattle.info65.specs.Attributes.{boolean_named, form_of, type_named}
 use Rattle.isa65.specs.Cpu.{cpu_named}
 use Rattle.info65.specs.Faults.{fault}
-use Rattle.info65.specs.Lexemes.{KindView, number, string, word}
+use Rattle.info65.specs.Lexemes.{KindView, character, number, string, word}
 use Rattle.info65.specs.Names.{has_comment_form, has_name_form}
 use Rattle.info65.specs.Tokens.{TokenView}
 use Rattle.info65.specs.Views.{OptionsView}
@@ -26,6 +26,7 @@ pub data ValueView : Type 0 where
   a_cpu : Cpu → ValueView
   a_boolean : Bool → ValueView
   a_type : RangeType → ValueView
+  a_character : ℕ → ValueView
 
 abbrev pub as_name : Option ValueView → Option (List ℕ)
 as_name (Some (a_name text)) = Some text
@@ -54,6 +55,10 @@ as_boolean _ = None
 abbrev pub as_type : Option ValueView → Option RangeType
 as_type (Some (a_type r)) = Some r
 as_type _ = None
+
+abbrev pub as_character : Option ValueView → Option ℕ
+as_character (Some (a_character b)) = Some b
+as_character _ = None
 
 -- bytes of $20 to $7E
 abbrev pub are_printable : List ℕ → Bool
@@ -120,6 +125,7 @@ in_form o a line source form.Comment (string text) = comment_value line text
 in_form o a line source form.Boolean word = boolean_value line (boolean_named source)
 in_form o a line source form.Boolean (number n) = boolean_value line (boolean_of n)
 in_form o a line source form.TypeWord word = type_value line (type_named source)
+in_form o a line source form.Character (character b) = Ok (a_character b)
 in_form o a line source _ _ = Err (fault line Expected)
 
 -- The value of an attribute, or the first of its faults: another kind of token or an unknown word,
@@ -136,5 +142,6 @@ HasForm form.TypeWord (a_type r) = Unit {0}
 HasForm form.Name (a_name text) = has_name_form text ≡ true
 HasForm form.Comment (a_comment text) = has_comment_form text ≡ true
 HasForm form.Boolean (a_boolean b) = Unit {0}
+HasForm form.Character (a_character b) = Unit {0}
 HasForm (form.Number low high) (a_number n) = (low ≤ n) × (n ≤ high)
 HasForm _ _ = ⊥

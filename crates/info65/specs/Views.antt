@@ -118,9 +118,17 @@ pub record SegmentView : Type 0 where
   pub last : ℕ
   pub name : List ℕ
 
+-- an include file: its name, the byte that begins a comment in it, and whether lines that would be refused
+-- are passed over
+pub record IncludeView : Type 0 where
+  pub file : List ℕ
+  pub comment_start : ℕ
+  pub ignore_unknown : Bool
+
 -- what an information file says; its names ascend by address
 pub record InfoView : Type 0 where
   pub settings : SettingsView
   pub ranges : List RangeSpec
   pub segments : List SegmentView
   pub names : List NameView
+  pub includes : List IncludeView

@@ -2,7 +2,7 @@
 
 ghost use Rattle.std.specs.Prelude.{◌≡◌, option_map};
 ghost use Rattle.info65.specs.Code.Groups.{value_seen};
-ghost use Rattle.info65.specs.Values.{as_address, as_boolean, as_comment, as_cpu, as_name, as_number, as_type};
+ghost use Rattle.info65.specs.Values.{as_address, as_boolean, as_character, as_comment, as_cpu, as_name, as_number, as_type};
 
 use crate::attribute::{Attribute, GroupKind};
 use crate::range::RangeType;
@@ -26,6 +26,8 @@ pub enum Value<'a> {
     Boolean(bool),
     /// A type, by its word.
     Role(RangeType),
+    /// The byte of a character constant.
+    Character(u8),
 }
 
 /// An attribute and its value.
@@ -101,6 +103,15 @@ pub fn as_type(value: Option<Value>) -> Option<RangeType>
 {
     match value {
         Some(Value::Role(role)) => Some(role),
+        _ => None,
+    }
+}
+
+pub fn as_character(value: Option<Value>) -> Option<u8>
+    ensures { result ≡ as_character (option_map value_seen value.entry) }
+{
+    match value {
+        Some(Value::Character(byte)) => Some(byte),
         _ => None,
     }
 }

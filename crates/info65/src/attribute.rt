@@ -3,7 +3,7 @@
 
 ghost use Rattle.std.specs.Prelude.{◌≡◌};
 ghost use Rattle.info65.specs.Attributes.{attribute_named, boolean_named, form_of, group_named, type_named};
-ghost use Rattle.info65.specs.declared.attribute.GroupKind.TheVariants.{Global, Label, Range, Segment};
+ghost use Rattle.info65.specs.declared.attribute.GroupKind.TheVariants.{Global, Include, Label, Range, Segment};
 
 use crate::range::RangeType;
 
@@ -18,6 +18,8 @@ pub enum GroupKind {
     Label,
     /// SEGMENT: the segment of some addresses.
     Segment,
+    /// ASMINC: a file of names to include.
+    Include,
 }
 
 /// An attribute of a group.
@@ -69,6 +71,12 @@ pub enum Attribute {
     Comment,
     /// ADDR: the address of a label.
     Address,
+    /// FILE: the name of an include file.
+    File,
+    /// COMMENTSTART: the byte that begins a comment in an include file.
+    CommentStart,
+    /// IGNOREUNKNOWN: lines of an include file that would be refused are passed over.
+    IgnoreUnknown,
 }
 
 /// What the value of an attribute has to be.
@@ -90,6 +98,8 @@ pub enum Form {
     Comment,
     /// A boolean word, or the number 0 or 1.
     Boolean,
+    /// A character constant.
+    Character,
 }
 
 /// The group of this name, with letters of any case.
@@ -105,6 +115,8 @@ pub fn group_named(text: &[u8]) -> Option<GroupKind>
         Some(GroupKind::Label)
     } else if text.eq_ignore_ascii_case(b"SEGMENT") {
         Some(GroupKind::Segment)
+    } else if text.eq_ignore_ascii_case(b"ASMINC") {
+        Some(GroupKind::Include)
     } else {
         None
     }
@@ -119,6 +131,7 @@ pub fn attribute_named(kind: GroupKind, text: &[u8]) -> Option<Attribute>
         GroupKind::Range => range_attribute(text),
         GroupKind::Label => label_attribute(text),
         GroupKind::Segment => segment_attribute(text),
+        GroupKind::Include => include_attribute(text),
     }
 }
 
@@ -216,13 +229,28 @@ fn segment_attribute(text: &[u8]) -> Option<Attribute>
     }
 }
 
+#[tactic(auto, unfolding(crate::specs::Attributes::attribute_named))]
+fn include_attribute(text: &[u8]) -> Option<Attribute>
+    ensures { result ≡ attribute_named Include text.now }
+{
+    if text.eq_ignore_ascii_case(b"FILE") {
+        Some(Attribute::File)
+    } else if text.eq_ignore_ascii_case(b"COMMENTSTART") {
+        Some(Attribute::CommentStart)
+    } else if text.eq_ignore_ascii_case(b"IGNOREUNKNOWN") {
+        Some(Attribute::IgnoreUnknown)
+    } else {
+        None
+    }
+}
+
 /// What the value of an attribute has to be.
 #[tactic(auto, unfolding(crate::specs::Attributes::form_of))]
 pub fn form_of(attribute: Attribute) -> Form
     ensures { result ≡ form_of attribute }
 {
     match attribute {
-        Attribute::InputName | Attribute::OutputName => Form::FileName,
+        Attribute::InputName | Attribute::OutputName | Attribute::File => Form::FileName,
         Attribute::InputOffset => Form::Number {
             low: 0,
             high: 16_777_216,
@@ -245,9 +273,11 @@ pub fn form_of(attribute: Attribute) -> Form
         Attribute::Role => Form::TypeWord,
         Attribute::Name => Form::Name,
         Attribute::Comment => Form::Comment,
-        Attribute::HexOffsets | Attribute::NewlineAfterJmp | Attribute::NewlineAfterRts => {
-            Form::Boolean
-        }
+        Attribute::CommentStart => Form::Character,
+        Attribute::HexOffsets
+        | Attribute::NewlineAfterJmp
+        | Attribute::NewlineAfterRts
+        | Attribute::IgnoreUnknown => Form::Boolean,
     }
 }
 

@@ -6,6 +6,7 @@ use crate::assignment::{Assignment, Group};
 use crate::attribute::{Attribute, GroupKind};
 use crate::fault::{InfoFault, InfoFaultKind};
 use crate::groups::is_given;
+use crate::include_groups::{has_room, include_in};
 use crate::index::Index;
 use crate::marks::{ADDRESSES, blank_table};
 use crate::pool::Pool;
@@ -41,6 +42,7 @@ impl<'a, A: Allocator + Copy> Closed<'a, A> {
     ghost use Rattle.info65.specs.Code.Groups.{assignment_seen, group_seen};
     ghost use Rattle.info65.specs.Faults.{Gives};
     ghost use Rattle.info65.specs.Groups.{GroupView, is_given};
+    ghost use Rattle.info65.specs.IncludeGroups.{has_room};
     ghost use Rattle.info65.specs.Labels.{by_address, names_said};
 
     /// No groups.
@@ -71,6 +73,13 @@ impl<'a, A: Allocator + Copy> Closed<'a, A> {
         is_given(self.groups.as_slice(), kind, given, attribute)
     }
 
+    /// One more value of the attribute can be given after these groups.
+    pub fn has_room(&self, attribute: Attribute) -> bool
+        ensures { result ≡ has_room self.now attribute }
+    {
+        has_room(self.groups.as_slice(), attribute)
+    }
+
     /// The first fault of a group after these, where it closes.
     #[tactic(auto, unfolding(crate::specs::Closing::closing_fault))]
     pub fn closing_fault(&self, kind: GroupKind, given: &[Assignment<'a>]) -> Option<InfoFaultKind>
@@ -81,6 +90,7 @@ impl<'a, A: Allocator + Copy> Closed<'a, A> {
             GroupKind::Range => self.index.range_fault(given),
             GroupKind::Label => self.index.label_fault(given),
             GroupKind::Segment => segment_fault(self.segmented.as_slice(), given),
+            GroupKind::Include => include_in(given).err(),
         }
     }
 

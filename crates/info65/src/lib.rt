@@ -19,6 +19,8 @@ mod comments;
 mod digits;
 mod fault;
 mod groups;
+mod include;
+mod include_groups;
 mod index;
 mod info;
 mod label_groups;
@@ -45,7 +47,8 @@ mod values;
 
 pub use digits::number_of_digits;
 pub use fault::{InfoFault, InfoFaultKind};
-pub use info::{Info, read_info};
+pub use include::IncludeSpec;
+pub use info::{Info, read_include, read_info};
 pub use law::{
     accepts_files, covers_highest, covers_one, distinct_accepted, given_once, global_once,
     name_faults, names_given, overlaps_share, own_address_wins, ranges_apart, refuses_first,

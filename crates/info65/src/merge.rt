@@ -88,8 +88,8 @@ fn number_of<A: Allocator>(
     }
 }
 
-// The text of a file name, which is ASCII.
-fn text_of<A: Allocator>(alloc: A, name: &[u8]) -> Result<String<A>, InfoFault>
+/// The text of a file name, which is ASCII.
+pub fn text_of<A: Allocator>(alloc: A, name: &[u8]) -> Result<String<A>, InfoFault>
     requires { is_file_name name.now ≡ true }
     ensures { Gives (λ s. string_bytes s) result (Ok name.now) }
 {

@@ -6,7 +6,7 @@ ghost use Rattle.info65.specs.Faults.{Gives, fault};
 ghost use Rattle.info65.specs.Code.Groups.{assignment_seen, group_seen, value_seen};
 ghost use Rattle.info65.specs.Groups.{AssignmentView, GroupView};
 ghost use Rattle.info65.specs.Code.Reading.{Grows, Leads, is_semicolon};
-ghost use Rattle.info65.specs.Reader.{attribute_at, behind, closed, closed_by, group, groups_of, inside, one, opening, outside, read, read_token, valued, wanted};
+ghost use Rattle.info65.specs.Reader.{attribute_at, behind, closed, closed_by, group, groups_of, inside, one, opening, outside, read, read_token, value_at, valued, wanted};
 ghost use Rattle.info65.specs.Code.Steps.{Sees, kind_seen, seen};
 ghost use Rattle.info65.specs.Tokens.{Stream, with_token};
 ghost use Rattle.info65.specs.Views.{OptionsView};
@@ -128,16 +128,35 @@ fn separator(lexer: &mut Lexer) -> Result<(), InfoFault>
     }
 }
 
-fn value<'a, B: Allocator>(
+fn value<'a, A: Allocator + Copy, B: Allocator>(
     options: &Options<B>,
     lexer: &mut Lexer<'a>,
+    before: &Closed<'a, A>,
     attribute: Attribute,
 ) -> Result<Value<'a>, InfoFault>
-    ensures read { (k : GroupKind) (given : List AssignmentView) (before : List GroupView) → Leads (read options.now (valued k given attribute) before lexer.old) result (λ v. read options.now (behind k (given ++ one attribute (value_seen v) ∷ [])) before lexer.new) }
+    ensures read { (k : GroupKind) (given : List AssignmentView) → Leads (read options.now (valued k given attribute) before.now lexer.old) result (λ v. read options.now (behind k (given ++ one attribute (value_seen v) ∷ [])) before.now lexer.new) }
     ensures shorter { length lexer.new.tokens ≤ length lexer.old.tokens }
 {
     let token = due(lexer)?;
-    value_of(options, attribute, token)
+    value_at(options, before, attribute, token)
+}
+
+// The value of an attribute, if there is room for one more.
+#[tactic(auto, unfolding(crate::specs::Reader::value_at))]
+fn value_at<'a, A: Allocator + Copy, B: Allocator>(
+    options: &Options<B>,
+    before: &Closed<'a, A>,
+    attribute: Attribute,
+    token: Token<'a>,
+) -> Result<Value<'a>, InfoFault>
+    ensures { Sees value_seen result (value_at options.now before.now attribute (seen token.entry)) }
+{
+    let value = value_of(options, attribute, token)?;
+    if before.has_room(attribute) {
+        Ok(value)
+    } else {
+        Err(InfoFault::new(token.line, InfoFaultKind::TooLarge))
+    }
 }
 
 // What is given in a group, up to its closing brace.
@@ -199,7 +218,7 @@ fn attribute<'a, A: Allocator + Copy, B: Allocator>(
     ensures shorter { length lexer.new.tokens ≤ length lexer.old.tokens }
 {
     let attribute = attribute_name(before, kind, given, name)?;
-    let value = value(options, lexer, attribute)?;
+    let value = value(options, lexer, before, attribute)?;
     separator(lexer)?;
     Ok(Assignment { attribute, value })
 }

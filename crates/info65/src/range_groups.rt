@@ -76,7 +76,7 @@ fn range_part<A: Allocator>(group: &Group<A>) -> Option<RangeSpec>
 {
     match group.kind {
         GroupKind::Range => range_in(group.given.as_slice()).ok(),
-        GroupKind::Global | GroupKind::Label | GroupKind::Segment => None,
+        GroupKind::Global | GroupKind::Label | GroupKind::Segment | GroupKind::Include => None,
     }
 }
 

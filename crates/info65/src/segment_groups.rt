@@ -94,7 +94,7 @@ fn segment_part<'a, A: Allocator>(group: &Group<'a, A>) -> Option<SegmentParts<'
 {
     match group.kind {
         GroupKind::Segment => segment_in(group.given.as_slice()).ok(),
-        GroupKind::Global | GroupKind::Range | GroupKind::Label => None,
+        GroupKind::Global | GroupKind::Range | GroupKind::Label | GroupKind::Include => None,
     }
 }
 

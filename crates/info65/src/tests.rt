@@ -1,6 +1,7 @@
 mod columns;
 mod comments;
 mod files;
+mod includes;
 mod large;
 mod lexing;
 mod names;

@@ -156,6 +156,7 @@ pub fn value_of<'a, A: Allocator>(
         (Form::Boolean, TokenKind::Word) => boolean_value(line, boolean_named(token.text)),
         (Form::Boolean, TokenKind::Number(number)) => boolean_value(line, boolean_of(number)),
         (Form::TypeWord, TokenKind::Word) => type_value(line, type_named(token.text)),
+        (Form::Character, TokenKind::Character(byte)) => Ok(Value::Character(byte)),
         _ => Err(InfoFault::new(line, InfoFaultKind::Expected)),
     }
 }

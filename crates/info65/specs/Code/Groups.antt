@@ -1,6 +1,6 @@
 -- What contracts see of groups: names as lists of bytes.
 use Rattle.std.specs.Prelude.{◌≤◌, ℕ, map}
-use Rattle.info65.specs.Values.{ValueView, a_comment, a_name, a_number, an_address, a_boolean, a_cpu, a_type}
+use Rattle.info65.specs.Values.{ValueView, a_comment, a_name, a_number, an_address, a_boolean, a_character, a_cpu, a_type}
 use Rattle.info65.specs.Groups.{AssignmentView, GroupView}
 use Rattle.info65.specs.declared.attribute.Form.{Form}
 use Rattle.info65.specs.declared.attribute.Form.TheVariants as form
@@ -17,6 +17,7 @@ value_seen (value.Address n) = an_address n
 value_seen (value.Cpu c) = a_cpu c
 value_seen (value.Boolean b) = a_boolean b
 value_seen (value.Role r) = a_type r
+value_seen (value.Character b) = a_character b
 
 abbrev pub assignment_seen : Assignment → AssignmentView
 assignment_seen g = record { attribute = g.attribute; value = value_seen g.value }

@@ -13,3 +13,7 @@ returns-in-Label g c = rw c.in-Label.is refl
 pub returns-in-Segment : goal.returns-in-Segment
 unfolding has
 returns-in-Segment g c = rw c.in-Segment.is refl
+
+pub returns-in-Include : goal.returns-in-Include
+unfolding has
+returns-in-Include g c = rw c.in-Include.is refl

@@ -1,13 +1,19 @@
-use Rattle.std.proofs.Common.{◌≡◌, ◌∙◌, ap, map, subst, sym}
+use Rattle.std.proofs.Common.{◌≡◌, ◌∙◌, ap, arith, false, length, map, nat_lt, refl, subst, sym, ℕ}
 use Rattle.std.specs.Prelude.{List, Ok, Result}
+use Rattle.std.proofs.lemmas.Bool.Decides.{nat_tests}
 use Rattle.info65.specs.Code.Groups.{group_seen}
 use Rattle.info65.specs.Groups.{AreFormed, GroupView, global_given}
+use Rattle.info65.specs.IncludeGroups.{AreIncludes, includes_of}
+use Rattle.info65.specs.Labels.{by_address, names_said}
 use Rattle.info65.specs.Names.{AreNames}
 use Rattle.info65.specs.Ranges.{AreRanges, ranges_of}
 use Rattle.info65.specs.Segments.{AreSegments, segments_of}
-use Rattle.info65.specs.Views.{AreInLimits}
+use Rattle.info65.specs.Reader.{groups_of, information}
+use Rattle.info65.specs.Settings.{settings_of}
+use Rattle.info65.specs.Views.{AreInLimits, InfoView, OptionsView}
 use Rattle.info65.specs.declared.fault.InfoFault.{InfoFault}
-use Rattle.info65.proofs.FormLemmas.{read_formed, settings_in_limits}
+use Rattle.info65.proofs.FormLemmas.{read_all_formed, read_formed, settings_in_limits}
+use Rattle.info65.proofs.IncludeLemmas.{includes_named}
 use Rattle.info65.proofs.NamesLemmas.{read_named}
 use Rattle.info65.proofs.RangeLemmas.{read_sound}
 use Rattle.info65.proofs.SegmentLemmas.{read_segments}
@@ -19,6 +25,9 @@ same h = cc
 pub settings_of-requires : goal.settings_of-requires
 settings_of-requires g c = rw c.groups.ensures (read_formed c.args.options.now c.args.bytes.now c.in_ok-closed.closed c.in_ok-closed.ensures)
 
+pub includes_of-requires : goal.includes_of-requires
+includes_of-requires g c = rw c.groups-4.ensures (read_all_formed c.args.options.now c.args.bytes.now c.in_ok-closed.closed c.in_ok-closed.ensures)
+
 pub invariant_of-result : goal.invariant_of-result
 invariant_of-result g c =
     let groups = c.in_ok-closed.closed in
@@ -29,5 +38,22 @@ invariant_of-result g c =
       limits = subst AreInLimits (same c.in_ok-settings.ensures) (settings_in_limits c.args.options.now (global_given (map group_seen c.groups.result.now)) c.limits.ensures formed);
       ranges = subst AreRanges said (read_sound c.args.options.now c.args.bytes.now groups c.in_ok-closed.ensures);
       segments = subst AreSegments segmented (read_segments c.args.options.now c.args.bytes.now groups c.in_ok-closed.ensures);
+      includes = subst AreIncludes (ap (λ (l : List GroupView). includes_of l) (sym c.groups-4.ensures) ∙ same c.in_ok-includes.ensures) (includes_named groups (read_all_formed c.args.options.now c.args.bytes.now groups c.in_ok-closed.ensures));
       names = subst AreNames (same c.in_ok-names.ensures) (read_named c.args.options.now c.args.bytes.now groups c.in_ok-closed.ensures);
     }
+
+-- the parts are those of the groups
+together : (o : OptionsView) (bytes : List ℕ) (groups : List GroupView) (i : InfoView) → nat_lt 1_048_576 (length bytes) ≡ false → groups_of o bytes ≡ Ok groups
+    → settings_of o (global_given groups) ≡ i.settings → ranges_of groups ≡ i.ranges → segments_of groups ≡ i.segments → by_address (names_said groups) ≡ i.names → includes_of groups ≡ i.includes → information o bytes ≡ Ok i
+unfolding information
+together o bytes groups i small read s r g n c = rw (small, read, s, r, g, n, c) refl
+
+pub returns : goal.returns
+returns g c =
+    let groups = c.in_ok-closed.closed in
+    together c.args.options.now c.args.bytes.now groups _ (grind (arith, nat_tests, c.if-bytes-gt-MOST_BYTES.false)) c.in_ok-closed.ensures
+    (ap (λ (l : List GroupView). settings_of c.args.options.now (global_given l)) (sym c.groups.ensures) ∙ same c.in_ok-settings.ensures)
+    (ap (λ (l : List GroupView). ranges_of l) (sym c.groups-2.ensures) ∙ same c.in_ok-ranges.ensures)
+    (ap (λ (l : List GroupView). segments_of l) (sym c.groups-3.ensures) ∙ same c.in_ok-said.ensures ∙ same c.in_ok-segments.ensures)
+    (same c.in_ok-names.ensures)
+    (ap (λ (l : List GroupView). includes_of l) (sym c.groups-4.ensures) ∙ same c.in_ok-includes.ensures)

@@ -1,4 +1,4 @@
-use Rattle.std.proofs.Common.{◌≡◌, ◌<◌, ◌||◌, ◌&&◌, ℕ, false, get_or, length}
+use Rattle.std.proofs.Common.{◌≡◌, ◌<◌, ◌||◌, ◌&&◌, ℕ, false, get_or}
 use Rattle.std.specs.Prelude.{nat_le, nat_lt}
 use Rattle.info65.proofs.marks.mark.Given as goal
 

@@ -1,4 +1,4 @@
-use Rattle.std.specs.Prelude.{◌≡◌, IsOk, MatchResult, Ok, Err, Result}
+use Rattle.std.specs.Prelude.{IsOk, MatchResult, Ok, Err, Result}
 use Rattle.std.proofs.Common.{rules}
 use Rattle.info65.proofs.NameLemmas.{file_name-utf8}
 use Rattle.info65.proofs.merge.text_of.Goals as goal

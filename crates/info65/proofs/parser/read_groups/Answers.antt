@@ -1,7 +1,5 @@
-use Rattle.std.proofs.Common.{◌&&◌, ◌≡◌, ◌∙◌, ◌∷◌, [], ap, false, inl, map, refl, sym}
-use Rattle.std.proofs.lemmas.List.{map-append}
+use Rattle.std.proofs.Common.{◌&&◌, ◌≡◌, ◌∙◌, ap, false, inl, sym}
 use Rattle.std.proofs.lemmas.Result.{err_from_is_err_and}
-use Rattle.info65.specs.Code.Groups.{group_seen}
 use Rattle.info65.specs.Code.Reading.{is_semicolon, place_after}
 use Rattle.std.specs.Prelude.{List, Ok, Result}
 use Rattle.info65.specs.Groups.{GroupView}

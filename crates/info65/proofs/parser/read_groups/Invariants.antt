@@ -1,5 +1,4 @@
-use Rattle.std.proofs.Common.{◌≡◌, length, map}
-use Rattle.info65.specs.Code.Groups.{group_seen}
+use Rattle.std.proofs.Common.{◌≡◌, length}
 use Rattle.info65.specs.Code.Reading.{place_after}
 use Rattle.info65.specs.Reader.{groups_of, read}
 use Rattle.info65.proofs.parser.read_groups.Given as goal

@@ -1,4 +1,4 @@
-use Rattle.std.proofs.Common.{◌≡◌, ◌≢◌, ◌<◌, ◌≤◌, ◌-◌, ℕ, ⊎_elim, ap, arith, get_or, length}
+use Rattle.std.proofs.Common.{◌<◌, ◌≤◌, ◌-◌, ℕ, ⊎_elim, ap, arith, get_or, length}
 use Rattle.std.proofs.lemmas.Bool.Decides.{eqb_tells}
 use Rattle.std.proofs.str.Laws.{order}
 use Rattle.info65.specs.Code.Pool.{blank_entry, reach_of}

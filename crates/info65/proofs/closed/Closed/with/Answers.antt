@@ -1,4 +1,4 @@
-use Rattle.std.proofs.Common.{◌≡◌, ◌∙◌, ◌++◌, ◌∷◌, [], ap, length, map, subst, sym}
+use Rattle.std.proofs.Common.{◌≡◌, ◌∙◌, ◌++◌, ◌∷◌, [], ap, map, subst, sym}
 use Rattle.std.specs.Prelude.{List, None}
 use Rattle.std.proofs.lemmas.List.{map-append, take_at}
 use Rattle.info65.specs.Closing.{closing_fault}

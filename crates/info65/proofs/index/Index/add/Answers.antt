@@ -1,5 +1,5 @@
 use Rattle.std.proofs.Common.{◌≡◌, ◌∙◌, ◌++◌, ◌∷◌, [], ap, map, sym}
-use Rattle.std.specs.Prelude.{Err, Ok, Option, Result}
+use Rattle.std.specs.Prelude.{Err, Ok, Result}
 use Rattle.info65.specs.Closing.{optional_name_fault}
 use Rattle.info65.specs.Code.Groups.{assignment_seen}
 use Rattle.info65.specs.Code.Names.{given_seen}
@@ -8,7 +8,7 @@ use Rattle.info65.specs.Ranges.{ranges_of}
 use Rattle.info65.specs.Views.{NameView}
 use Rattle.info65.specs.declared.fault.InfoFaultKind.{InfoFaultKind}
 use Rattle.info65.specs.declared.range.RangeSpec.{RangeSpec}
-use Rattle.info65.proofs.IndexLemmas.{closes_label, global_said, label_fine, label_said, ok_map, range_fine, range_said, segment_said}
+use Rattle.info65.proofs.IndexLemmas.{closes_label, global_said, include_said, label_fine, label_said, ok_map, range_fine, range_said, segment_said}
 use Rattle.info65.proofs.RangeLemmas.{closes_range, ordered_in}
 use Rattle.info65.proofs.index.Index.add.Goals as goal
 
@@ -47,3 +47,6 @@ pub returns-in-Err-label_in-clause-done : goal.returns-in-Err-label_in-clause-do
 returns-in-Err-label_in-clause-done g c = λ before i fine.
     let x = closes_label before (map assignment_seen c.args.given.now) (rw c.in-Label.is at fine) in
     let wrong : ◌≡◌ {A = Result NameView InfoFaultKind} (Err c.in-Err-label_in.field-0) (Ok x.name) = sym c.in-Err-label_in.ensures ∙ x.is in absurd cc
+
+pub returns-in-Include-clause-done : goal.returns-in-Include-clause-done
+returns-in-Include-clause-done g c = λ before i fine. rw c.in-Include.is (include_said before (map assignment_seen c.args.given.now) _ _ _ i)

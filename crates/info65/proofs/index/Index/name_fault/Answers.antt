@@ -1,4 +1,4 @@
-use Rattle.std.proofs.Common.{◌≡◌, ◌∙◌, ap, false, sym, true}
+use Rattle.std.proofs.Common.{◌∙◌, ap, sym}
 use Rattle.std.specs.Prelude.{is_some}
 use Rattle.info65.specs.Code.Names.{given_seen}
 use Rattle.info65.proofs.IndexLemmas.{fault_elsewhere, fault_none, fault_reserved, fault_taken, some_map, taken_is}

@@ -1,6 +1,3 @@
-use Rattle.std.proofs.Common.{◌∙◌, ap, sym, option_map}
-use Rattle.info65.specs.Closing.{optional_name_fault}
-use Rattle.info65.specs.Code.Names.{given_seen}
 use Rattle.info65.proofs.index.Index.optional_name_fault.Goals as goal
 
 pub returns-in-Some : goal.returns-in-Some

@@ -1,4 +1,4 @@
-use Rattle.std.proofs.Common.{◌≡◌, ◌∙◌, ◌+◌, ◌-◌, ◌<◌, ap, arith, length, sym}
+use Rattle.std.proofs.Common.{◌∙◌, ◌+◌, ◌-◌, ◌<◌, ap, arith, length, sym}
 use Rattle.std.specs.Prelude.{List, Bool}
 use Rattle.info65.specs.Closing.{optional_name_fault}
 use Rattle.info65.specs.Code.Index.{any_in}

@@ -1,4 +1,4 @@
-use Rattle.std.proofs.Common.{◌≡◌, ◌∙◌, ◌++◌, ◌∷◌, [], List, ℕ, refl, get_or, ap, arith, length, map, sym}
+use Rattle.std.proofs.Common.{◌∙◌, ◌++◌, ◌∷◌, [], List, ℕ, refl, get_or, ap, arith, length, map, sym}
 use Rattle.std.specs.Prelude.{Ok, option_map}
 use Rattle.info65.specs.Code.Names.{given_seen}
 use Rattle.info65.specs.Code.Pool.{blank_entry, entry_seen, optional, reach_of, span_of}
