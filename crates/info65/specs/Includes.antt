@@ -121,7 +121,7 @@ abbrev pub blank_include : IncludeView
 blank_include = record { file = []; comment_start = 59; ignore_unknown = false }
 
 abbrev pub with_names : InfoView → List NameView → InfoView
-with_names i names = record { settings = i.settings; ranges = i.ranges; segments = i.segments; names = names; includes = i.includes }
+with_names i names = record i { names = names }
 
 -- What an information says with the include file of this place, whose bytes these are, or the fault that
 -- the file is refused for: a file above 1,048,576 bytes is too large, before all else.
