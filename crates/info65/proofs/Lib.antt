@@ -3,6 +3,9 @@ pub mod CoveringLemmas
 pub mod FormLemmas
 pub mod GroupLemmas
 pub mod IncludeLemmas
+pub mod IncludeLines
+pub mod IncludeRows
+pub mod IncludedLemmas
 pub mod IndexLemmas
 pub mod Laws
 pub mod NameFaultLemmas

@@ -1,6 +1,6 @@
 -- Which fault a name has after others, and which names have none.
-use Rattle.std.proofs.Common.{◌≡◌, ◌≢◌, ◌∙◌, ◌==◌, ◌+◌, ◌<◌, ◌&&◌, ℕ, Bool, true, false, not, List, [], ◌∷◌, ◌++◌, ap, append_assoc, arith, get_or, length, length-append, refl, subst, sym}
-use Rattle.std.specs.Prelude.{◌↔◌, All, AllPairs, Any, Option, Some, None, Result, Ok}
+use Rattle.std.proofs.Common.{◌≡◌, ◌≢◌, ◌∙◌, ◌==◌, ◌<◌, ℕ, Bool, true, false, not, List, [], ◌∷◌, ◌++◌, ap, append_assoc, arith, get_or, length, length-append, refl, subst, sym}
+use Rattle.std.specs.Prelude.{◌↔◌, All, Any, Option, Some, None, Ok}
 use Rattle.std.specs.List.{list_any}
 use Rattle.std.specs.Str.{bytes_eq}
 use Rattle.std.proofs.lemmas.Bool.{false≢true}
@@ -10,7 +10,7 @@ use Rattle.std.proofs.lemmas.List.Elements.{All-push}
 use Rattle.std.proofs.lemmas.List.Folds.{Any-from_list_any, list_any-from_Any, list_any_at}
 use Rattle.std.proofs.lemmas.List.Quantifiers.{all_pairs_push}
 use Rattle.std.proofs.lemmas.Slice.Eq.{bytes_eq-Decides}
-use Rattle.info65.specs.Closing.{closing_fault, label_fault, optional_name_fault, range_fault}
+use Rattle.info65.specs.Closing.{closing_fault, optional_name_fault}
 use Rattle.info65.specs.Groups.{AssignmentView, GroupView}
 use Rattle.info65.specs.Labels.{is_at, is_elsewhere, label_in, name_fault, names_said, range_name}
 use Rattle.info65.specs.Laws.{Share}

@@ -123,7 +123,7 @@ none_given = record {
   addresses = λ i j d lt l. absurd (omega (arith, l));
 }
 
-one_more : (names : List NameView) (n : NameView) → AreGiven names → IsName n → IsNew names n → AreGiven (names ++ n ∷ [])
+pub one_more : (names : List NameView) (n : NameView) → AreGiven names → IsName n → IsNew names n → AreGiven (names ++ n ∷ [])
 one_more names n g is new = record {
   each = All-push IsName names n g.each is;
   texts = all_pairs_push (λ (x y : NameView). x.text ≢ y.text) names n g.texts (new_text names n new);

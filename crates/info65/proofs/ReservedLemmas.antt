@@ -1,6 +1,6 @@
 -- Which names are reserved.
-use Rattle.std.proofs.Common.{◌≡◌, ◌≢◌, ◌∙◌, ◌⊎◌, inl, inr, ◌≤◌, ◌<◌, ◌+◌, ◌-◌, ◌*◌, ◌/◌, ◌%◌, ◌==◌, ◌&&◌, ◌||◌, ℕ, zero, suc, Bool, true, false, not, List, [], ◌∷◌, ⊎_elim, ap, arith, drop, length, refl, sym}
-use Rattle.std.specs.Prelude.{◌↔◌, Any, Option, Some, None, is_some, nat_le, nat_lt, slice_index, if◌then◌else◌}
+use Rattle.std.proofs.Common.{◌≡◌, ◌∙◌, ◌⊎◌, inl, inr, ◌≤◌, ◌<◌, ◌+◌, ◌-◌, ◌*◌, ◌/◌, ◌%◌, ◌==◌, ◌&&◌, ◌||◌, ℕ, Bool, true, false, not, List, [], ◌∷◌, ap, arith, drop, length, refl, sym}
+use Rattle.std.specs.Prelude.{Any, Option, Some, None, is_some, nat_lt, slice_index}
 use Rattle.std.specs.List.{list_all, list_any}
 use Rattle.std.specs.Str.{bytes_eq, str_eq_ignore_ascii_case, str_to_ascii_lowercase}
 use Rattle.std.proofs.lemmas.Bool.Decides.{nat_tests}
@@ -9,7 +9,7 @@ use Rattle.std.proofs.lemmas.Slice.Eq.{bytes_eq-Decides}
 use Rattle.isa65.specs.Mnemonic.{mnemonic_named, text_of}
 use Rattle.isa65.specs.MnemonicLaws.{mnemonic_named-is, mnemonic_named-text_of}
 use Rattle.isa65.specs.declared.mnemonic.Mnemonic.{Mnemonic}
-use Rattle.info65.specs.NameFaultLaws.{IsDefaultElsewhere, IsInAnyCase, IsReserved, ReservedNames}
+use Rattle.info65.specs.NameFaultLaws.{IsDefaultElsewhere, IsInAnyCase, ReservedNames}
 use Rattle.info65.specs.Names.{default_name, hex_digit, is_like_default, is_reserved, is_upper_hex, registers}
 use Rattle.info65.proofs.Accepting.{by_test}
 use Rattle.info65.proofs.IndexLemmas.{eqb_is}

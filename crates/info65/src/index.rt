@@ -4,12 +4,14 @@ ghost use Rattle.std.specs.Prelude.{◌≡◌, ◌≤◌, ◌++◌, ◌∷◌, I
 ghost use Rattle.std.specs.List.{list_any};
 ghost use Rattle.info65.specs.Closing.{closing_fault, label_fault, optional_name_fault, range_fault};
 ghost use Rattle.info65.specs.Code.Groups.{assignment_seen};
+ghost use Rattle.info65.specs.Code.Includes.{SeesName};
 ghost use Rattle.info65.specs.Code.Index.{Indexes, IndexesGroups};
 ghost use Rattle.info65.specs.Code.Names.{given_seen};
 ghost use Rattle.std.specs.BTreeMap.{get};
 ghost use Rattle.std.specs.Ordering.{nat_cmp};
 ghost use Rattle.info65.specs.Faults.{Gives, out_of_memory};
 ghost use Rattle.info65.specs.Groups.{GroupView};
+ghost use Rattle.info65.specs.Includes.{name_adds};
 ghost use Rattle.info65.specs.Labels.{is_elsewhere, label_in, name_fault, names_from};
 ghost use Rattle.info65.specs.Ranges.{range_in};
 ghost use Rattle.info65.specs.Reader.{group};
@@ -28,6 +30,9 @@ use crate::range::RangeSpec;
 use crate::range_groups::range_in;
 use std::alloc::Allocator;
 use std::collections::BTreeMap;
+
+// The bytes of the longest name.
+const LONGEST_NAME: usize = 80;
 
 /// Where ranges and names of the groups so far are found without reading these again.
 #[derive(Drop)]
@@ -81,6 +86,28 @@ impl<'a, A: Allocator + Copy> Index<'a, A> {
         None
     }
 
+    /// What a name of an include line adds, or its fault. A name of an address that has a name adds nothing.
+    #[tactic(auto, unfolding(crate::specs::Includes::name_adds))]
+    pub fn name_adds(&self, name: Given<'a>) -> Result<Option<Given<'a>>, InfoFaultKind>
+        ensures { (ranges : List RangeSpec) (names : List NameView) → Indexes ranges names self.now → SeesName result (name_adds names (given_seen name.entry)) }
+    {
+        if name.text.len() > LONGEST_NAME {
+            return Err(InfoFaultKind::BadName);
+        }
+        if is_reserved(name.address, name.text) {
+            return Err(InfoFaultKind::ReservedName);
+        }
+        let is_taken = self.by_address.contains_key(&name.address);
+        if is_taken {
+            return Ok(None);
+        }
+        let is_elsewhere = self.is_elsewhere(name);
+        if is_elsewhere {
+            return Err(InfoFaultKind::NameTwice);
+        }
+        Ok(Some(name))
+    }
+
     fn optional_name_fault(&self, name: Option<Given<'a>>) -> Option<InfoFaultKind>
         ensures { (ranges : List RangeSpec) (names : List NameView) → Indexes ranges names self.now → result ≡ optional_name_fault names (option_map given_seen name.entry) }
     {
@@ -117,8 +144,8 @@ impl<'a, A: Allocator + Copy> Index<'a, A> {
         }
     }
 
-    // Adds a name that has no fault.
-    fn add_name(&mut self, name: Given<'a>) -> Result<(), InfoFault>
+    /// Adds a name that has no fault.
+    pub fn add_name(&mut self, name: Given<'a>) -> Result<(), InfoFault>
         ensures done { (ranges : List RangeSpec) (names : List NameView) → Indexes ranges names self.old → name_fault names (given_seen name.entry) ≡ None → IfOk result (λ _. Indexes ranges (names ++ given_seen name.entry ∷ []) self.new) }
         ensures err { IfErr result (λ e. e ≡ out_of_memory) }
     {

@@ -8,6 +8,7 @@ ghost use Rattle.info65.specs.Reader.{information};
 use crate::fault::{InfoFault, InfoFaultKind};
 use crate::include::IncludeSpec;
 use crate::include_groups::includes_of;
+use crate::included::names_included;
 use crate::merge::settings_of;
 use crate::name::Given;
 use crate::options::Options;
@@ -184,5 +185,7 @@ pub fn read_include<A: Allocator + Copy>(
     requires { index < length info.old.includes }
     ensures { Includes info.old index bytes.now result info.new }
 {
-    Err(InfoFault::MEMORY)
+    let names = names_included(alloc, &info.includes[index], &info.names, bytes)?;
+    info.names = names;
+    Ok(())
 }

@@ -173,7 +173,7 @@ pub fn lexeme_at<'a>(line: u32, bytes: &'a [u8]) -> Result<Lexeme<'a>, InfoFault
 
 /// The number that the digits write, where there is one and it is at most 2^32 - 1.
 #[tactic(auto, unfolding(crate::specs::Lexemes::number_in))]
-fn number_in(digits: &[u8], radix: u32) -> Option<u32>
+pub fn number_in(digits: &[u8], radix: u32) -> Option<u32>
     requires low { 2 ≤ radix }
     requires high { radix ≤ 36 }
     ensures value { result ≡ number_in radix digits.now }

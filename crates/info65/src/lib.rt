@@ -21,6 +21,8 @@ mod fault;
 mod groups;
 mod include;
 mod include_groups;
+mod include_lines;
+mod included;
 mod index;
 mod info;
 mod label_groups;

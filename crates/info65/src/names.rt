@@ -7,7 +7,8 @@ ghost use Rattle.info65.specs.Names.{default_name, has_comment_form, has_name_fo
 
 use isa65::Mnemonic;
 
-fn are_name_bytes(bytes: &[u8]) -> bool
+/// Letters, digits and `_`.
+pub fn are_name_bytes(bytes: &[u8]) -> bool
     ensures { result ≡ list_all is_name_byte bytes.now }
 {
     bytes

@@ -1,11 +1,15 @@
 -- What contracts see of include files.
-use Rattle.std.specs.Prelude.{◌≡◌, ℕ, List, Result, Ok, Err}
+use Rattle.std.specs.Prelude.{◌≡◌, ◌++◌, ℕ, List, [], Option, Result, Ok, Err, option_map, option_to_list}
+use Rattle.info65.specs.Code.Index.{Indexes}
+use Rattle.info65.specs.Code.Names.{given_seen}
 use Rattle.info65.specs.Faults.{Fails}
 use Rattle.info65.specs.Includes.{included}
-use Rattle.info65.specs.Views.{IncludeView, InfoView}
+use Rattle.info65.specs.Views.{IncludeView, InfoView, NameView}
 use Rattle.info65.specs.declared.fault.InfoFault.{InfoFault}
 use Rattle.info65.specs.declared.fault.InfoFaultKind.{InfoFaultKind}
 use Rattle.info65.specs.declared.include_groups.NamedFile.{NamedFile}
+use Rattle.info65.specs.declared.index.Index.{Index}
+use Rattle.info65.specs.declared.name.Given.{Given}
 
 abbrev pub named_seen : NamedFile → IncludeView
 named_seen n = record { file = n.file.now; comment_start = n.comment_start; ignore_unknown = n.ignore_unknown }
@@ -14,6 +18,20 @@ named_seen n = record { file = n.file.now; comment_start = n.comment_start; igno
 abbrev pub SeesInclude : Result NamedFile InfoFaultKind → Result IncludeView InfoFaultKind → Type 0
 SeesInclude (Ok n) defined = defined ≡ Ok (named_seen n)
 SeesInclude (Err f) defined = defined ≡ Err f
+
+abbrev pub name_result_seen : Result (Option Given) InfoFaultKind → Result (Option NameView) InfoFaultKind
+name_result_seen (Ok n) = Ok (option_map given_seen n)
+name_result_seen (Err f) = Err f
+
+-- a call returns the name that the definition gives, if it gives one, or its fault
+abbrev pub SeesName : Result (Option Given) InfoFaultKind → Result (Option NameView) InfoFaultKind → Type 0
+SeesName (Ok n) defined = defined ≡ Ok (option_map given_seen n)
+SeesName (Err f) defined = defined ≡ Err f
+
+-- the index of these names gets what the definition adds to them, or the call returns its fault
+abbrev pub Adds : {X Z : Type 0} → List NameView → Result (Option NameView) InfoFault → Result X InfoFault → Index Z → Type 0
+Adds names defined (Ok _) new = (added : Option NameView) × (defined ≡ Ok added) × Indexes [] (names ++ option_to_list added) new
+Adds names defined (Err e) new = Fails e defined
 
 -- The information is the one with the names of the include file. In a refusal, out of memory among them, it
 -- is as before.
