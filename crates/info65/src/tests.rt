@@ -1,6 +1,7 @@
 mod columns;
 mod comments;
 mod files;
+mod include_files;
 mod includes;
 mod large;
 mod lexing;
