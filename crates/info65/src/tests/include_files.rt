@@ -213,9 +213,9 @@ fn long_line(alloc: Global, size: usize) -> Result<Vec<u8>, AllocError> {
 
 #[test]
 fn sizes_of_include_files(rt: HostRuntime) -> Result<(), Fail> {
+    let large = long_line(rt.alloc(), 1_048_577)?;
     for text in [PLAIN, IGNORING] {
         let mut info = informed(rt.alloc(), text)?;
-        let large = long_line(rt.alloc(), 1_048_577)?;
         let expected = InfoFault {
             line: 1,
             kind: InfoFaultKind::TooLarge,
@@ -223,10 +223,10 @@ fn sizes_of_include_files(rt: HostRuntime) -> Result<(), Fail> {
         let read = read_include(rt.alloc(), &mut info, 0, large.as_slice());
         assert_eq!(rt; read, Err(expected), "{text}");
         are_named(&rt, &info, &[(3, "go")], text);
-        let largest = long_line(rt.alloc(), 1_048_576)?;
-        read_include(rt.alloc(), &mut info, 0, largest.as_slice())?;
-        are_named(&rt, &info, &[(1, "K"), (3, "go")], text);
     }
+    let mut info = informed(rt.alloc(), PLAIN)?;
+    read_include(rt.alloc(), &mut info, 0, &large.as_slice()[1..])?;
+    are_named(&rt, &info, &[(1, "K"), (3, "go")], "1,048,576 bytes");
     Ok(())
 }
 
@@ -274,8 +274,5 @@ fn sixty_thousand_lines(rt: HostRuntime) -> Result<(), Fail> {
     assert_eq!(rt; found, Some(b"go".as_slice()));
     let found = info.covering(54_321).map(|given| given.text);
     assert_eq!(rt; found, Some(b"m54321".as_slice()));
-    // a second time each line is passed over
-    read_include(rt.alloc(), &mut info, 0, text.as_slice())?;
-    assert_eq!(rt; info.given_count(), 60_000);
     Ok(())
 }
