@@ -4,7 +4,7 @@ use crate::tests::ranges::WARNING;
 use crate::tests::refusals::{MANY, Refusals};
 use crate::tests::runs::{HEADER, run_with};
 use da65::{RunFault, Status, Told, needs};
-use info65::{InfoFault, InfoFaultKind, Options, read_info};
+use info65::{InfoFault, InfoFaultKind, Options, read_include, read_info};
 use map65::{Map, read_image};
 use std::alloc::Global;
 use std::test::Fail;
@@ -35,6 +35,38 @@ fn information_file(rt: HostRuntime) -> Result<(), Fail> {
         }
     }
     refusals.at_least(&rt, 1, MANY);
+    Ok(())
+}
+
+/// An allocation that fails leaves the information as before, and the file can be read again.
+#[test]
+fn include_file(rt: HostRuntime) -> Result<(), Fail> {
+    let text = b"LABEL { ADDR 3; NAME \"go\"; }; ASMINC { FILE \"k.inc\"; };";
+    let lines = b"K = 1\nJ = 2";
+    let options = Options::<Global>::none();
+    let mut refusals = Refusals::none();
+    for granted in 0..MANY {
+        let ample = Refusing::after(rt.alloc(), u64::MAX);
+        let heap = Refusing::after(rt.alloc(), granted);
+        let mut info = read_info(&ample, &options, text)?;
+        let read = read_include(&heap, &mut info, 0, lines);
+        refusals.count(&rt, &heap, granted, read.is_err());
+        if let Err(fault) = read {
+            let memory = InfoFault {
+                line: 0,
+                kind: InfoFaultKind::Memory,
+            };
+            assert_eq!(rt; fault, memory, "after {granted}");
+            assert_eq!(rt; info.given_count(), 1, "after {granted}");
+            assert_eq!(rt; info.given(0).text, b"go".as_slice(), "after {granted}");
+            read_include(&ample, &mut info, 0, lines)?;
+        }
+        assert_eq!(rt; info.given_count(), 3, "after {granted}");
+        assert_eq!(rt; info.given(0).text, b"K".as_slice(), "after {granted}");
+        assert_eq!(rt; info.given(1).text, b"J".as_slice(), "after {granted}");
+        assert_eq!(rt; info.given(2).text, b"go".as_slice(), "after {granted}");
+    }
+    refusals.at_least(&rt, 5, MANY);
     Ok(())
 }
 
