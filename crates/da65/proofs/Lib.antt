@@ -14,6 +14,7 @@ pub mod EntryLemmas
 pub mod CommandLemmas
 pub mod MatchLemmas
 pub mod Rows
+pub mod IncludeRows
 pub mod LineLaws
 pub mod FragmentLaws
 pub mod ModeLaws
@@ -49,3 +50,5 @@ pub mod WholeBlock
 pub mod MapListing
 pub mod NameTexts
 pub mod EnteringLemmas
+pub mod IncludeFacts
+pub mod IncludeLemmas

@@ -1,9 +1,10 @@
 -- The definitions of a run's result, held against small inputs.
-use Rattle.std.proofs.Common.{◌≡◌, ℕ, List, Option, ◌∷◌, [], None, Some, true, false, codes, refl}
+use Rattle.std.proofs.Common.{◌≡◌, ℕ, List, Option, ◌∷◌, [], None, Some, Bool, true, false, codes, refl}
 use Rattle.std.specs.Prelude.{Ok}
 use Rattle.info65.specs.Views.{InfoView, SettingsView, default_settings}
 use Rattle.map65.specs.Image.{image_by, image_of}
-use Rattle.da65.specs.Outcome.{image_message, no_input_message, outcome_by_input}
+use Rattle.da65.specs.Files.{FileView}
+use Rattle.da65.specs.Outcome.{image_message, no_input_message, outcome_by, with_all_includes, with_input, with_includes, Outcome, ◌>>=◌}
 use Rattle.da65.specs.declared.outcome.Status.TheVariants.{Refused}
 
 abbrev without_ranges : SettingsView → InfoView
@@ -22,23 +23,27 @@ two_of_four : image_of (part 2).settings (0 ∷ 0xA9 ∷ 1 ∷ 0x60 ∷ []) fals
 unfolding image_by image_of
 two_of_four = refl
 
+-- the outcome under an information file that was accepted, with these files
+abbrev outcome_with : List FileView → InfoView → List ℕ → Bool → Outcome
+outcome_with files i = outcome_by (with_input i >>= with_all_includes files)
+
 -- what is refused
-empty : outcome_by_input (settings (Some []) None) [] false ≡ record { listing = []; messages = codes "da65: input is empty\n"; status = Refused }
-unfolding image_by image_message image_of
+empty : outcome_with [] (settings (Some []) None) [] false ≡ record { listing = []; messages = codes "da65: input is empty\n"; status = Refused }
+unfolding image_by image_message image_of with_includes
 empty = refl
 
-past_the_end : outcome_by_input (settings (Some []) (Some 0xFFFF)) (0 ∷ 0 ∷ []) false ≡ record { listing = []; messages = codes "da65: input is too large\n"; status = Refused }
-unfolding image_by image_message image_of
+past_the_end : outcome_with [] (settings (Some []) (Some 0xFFFF)) (0 ∷ 0 ∷ []) false ≡ record { listing = []; messages = codes "da65: input is too large\n"; status = Refused }
+unfolding image_by image_message image_of with_includes
 past_the_end = refl
 
-unread : outcome_by_input (settings (Some []) None) (0 ∷ []) true ≡ record { listing = []; messages = codes "da65: cannot read the input\n"; status = Refused }
-unfolding image_by image_message image_of
+unread : outcome_with [] (settings (Some []) None) (0 ∷ []) true ≡ record { listing = []; messages = codes "da65: cannot read the input\n"; status = Refused }
+unfolding image_by image_message image_of with_includes
 unread = refl
 
-unnamed : outcome_by_input (settings None None) (0 ∷ []) true ≡ record { listing = []; messages = codes "da65: no input file\n"; status = Refused }
+unnamed : outcome_with [] (settings None None) (0 ∷ []) true ≡ record { listing = []; messages = codes "da65: no input file\n"; status = Refused }
 unfolding no_input_message
 unnamed = refl
 
-too_short : outcome_by_input (part 4) (0 ∷ 0 ∷ 0 ∷ []) false ≡ record { listing = []; messages = codes "da65: input is too short\n"; status = Refused }
-unfolding image_by image_message image_of
+too_short : outcome_with [] (part 4) (0 ∷ 0 ∷ 0 ∷ []) false ≡ record { listing = []; messages = codes "da65: input is too short\n"; status = Refused }
+unfolding image_by image_message image_of with_includes
 too_short = refl

@@ -3,6 +3,7 @@ pub mod Bases
 pub mod CommandRules
 pub mod Entering
 pub mod Layout
+pub mod Preparing
 pub mod Refusals
 pub mod SkipRanges
 pub mod SoleOperands

@@ -1,5 +1,5 @@
 -- The names of the files that a run needs.
-use Rattle.std.specs.Prelude.{[], None, Result, Ok, Err}
+use Rattle.std.specs.Prelude.{[], map, None, Result, Ok, Err}
 use Rattle.info65.specs.Views.{InfoView}
 use Rattle.info65.specs.declared.fault.InfoFault.{InfoFault}
 use Rattle.da65.specs.NeedsView.{NeedsView}
@@ -7,9 +7,9 @@ use Rattle.da65.specs.NeedsView.{NeedsView}
 abbrev pub nothing : NeedsView
 nothing = record { input = None; output = None; includes = [] }
 
--- the names in the settings
+-- the names in the settings, and those of the include files, in the order of their groups; a name that two groups have stands twice
 abbrev pub needs_of : InfoView → NeedsView
-needs_of i = record { input = i.settings.input; output = i.settings.output; includes = [] }
+needs_of i = record { input = i.settings.input; output = i.settings.output; includes = map (λ x. x.file) i.includes }
 
 -- the names; none if the information file is refused
 abbrev pub needs_in : Result InfoView InfoFault → NeedsView

@@ -1,8 +1,9 @@
--- What a run writes and returns, as a function of its options, its information file and its input.
-use Rattle.std.specs.Prelude.{ℕ, Bool, if◌then◌else◌, List, [], ◌∷◌, ◌++◌, codes, decimal, is_some, Result, Ok, Err}
+-- What a run writes and returns, as a function of its options, its information file, the files that are handed in, and its input.
+use Rattle.std.specs.Prelude.{ℕ, ◌+◌, Bool, if◌then◌else◌, List, [], ◌∷◌, ◌++◌, codes, decimal, is_some, Option, Some, None, Result, Ok, Err}
 use Rattle.info65.specs.Faults.{fault_text}
+use Rattle.info65.specs.Includes.{included}
 use Rattle.info65.specs.Reader.{information}
-use Rattle.info65.specs.Views.{InfoView, OptionsView}
+use Rattle.info65.specs.Views.{IncludeView, InfoView, OptionsView}
 use Rattle.info65.specs.declared.fault.InfoFault.{InfoFault}
 use Rattle.map65.specs.Image.{image_of}
 use Rattle.map65.specs.ImageView.{ImageView}
@@ -10,6 +11,7 @@ use Rattle.map65.specs.MapView.{MapView}
 use Rattle.map65.specs.declared.image.ImageFault.{ImageFault}
 use Rattle.map65.specs.declared.image.ImageFault.TheVariants.{Empty, TooLarge, Short, Read, Memory}
 use Rattle.da65.specs.Entering.{is_entered_again}
+use Rattle.da65.specs.Files.{FileView, file_named}
 use Rattle.da65.specs.Groups.{skips}
 use Rattle.da65.specs.Listing.{lines_of, text_of}
 use Rattle.da65.specs.declared.outcome.Status.{Status}
@@ -59,6 +61,50 @@ warnings_for skipped entered = (if skipped then skipped_warning else []) ++ (if 
 abbrev pub warnings : MapView → List ℕ
 warnings m = warnings_for (skips m) (is_entered_again m)
 
+-- ---- what a run lists its input by, or the message of the first refusal before it reads any
+
+-- a chain that stops at the first refusal
+infixl 10 ◌>>=◌
+abbrev pub ◌>>=◌ : {A B : Type 0} → Result A (List ℕ) → (A → Result B (List ℕ)) → Result B (List ℕ)
+(Ok x) >>= f = f x
+(Err message) >>= f = Err message
+
+-- the message of a fault in the place of the fault
+abbrev pub or_message : (InfoFault → List ℕ) → Result InfoView InfoFault → Result InfoView (List ℕ)
+or_message message (Ok i) = Ok i
+or_message message (Err fault) = Err (message fault)
+
+-- refused without an input name
+abbrev pub with_input : InfoView → Result InfoView (List ℕ)
+with_input i = if is_some i.settings.input then Ok i else Err no_input_message
+
+-- what the information file says under some options
+abbrev pub accepted : OptionsView → List ℕ → Result InfoView (List ℕ)
+accepted options info = or_message info_message (information options info) >>= with_input
+
+-- with the names of the include file at an index, which has this name and these bytes; refused if no such file is handed in
+abbrev pub with_include : ℕ → List ℕ → InfoView → Option (List ℕ) → Result InfoView (List ℕ)
+with_include index name i (Some bytes) = or_message (include_message name) (included i index bytes)
+with_include index name i None = Err (missing_message name)
+
+-- with the names of the include file at an index, which has the bytes of the first file with its name
+abbrev pub with_file : List FileView → ℕ → IncludeView → InfoView → Result InfoView (List ℕ)
+with_file files index x i = with_include index x.file i (file_named files x.file)
+
+-- with the names of these include files, one after the other, the first of which is at an index
+unfoldable pub with_includes : List FileView → ℕ → List IncludeView → InfoView → Result InfoView (List ℕ)
+with_includes files index [] i = Ok i
+with_includes files index (x ∷ xs) i = with_file files index x i >>= with_includes files (index + 1) xs
+
+-- with the names of all its include files, in the order of their groups
+abbrev pub with_all_includes : List FileView → InfoView → Result InfoView (List ℕ)
+with_all_includes files i = with_includes files 0 i.includes i
+
+-- What these options, the bytes of the information file and the files that are handed in give. Refused for the first of these: a fault
+-- of the information file, no input name, an include file that is not handed in or has a fault.
+unfoldable pub prepared : OptionsView → List ℕ → List FileView → Result InfoView (List ℕ)
+prepared options info files = accepted options info >>= with_all_includes files
+
 -- ---- the outcome
 
 -- a refusal: no listing, and one message
@@ -73,16 +119,12 @@ abbrev pub outcome_by_image : InfoView → Result ImageView ImageFault → Outco
 outcome_by_image i (Ok image) = done (record { info = i; image = image })
 outcome_by_image i (Err fault) = refusal_with (image_message fault)
 
--- a refusal without an input name, else by the image
-abbrev pub outcome_by_input : InfoView → List ℕ → Bool → Outcome
-outcome_by_input i bytes failed =
-    if is_some i.settings.input then outcome_by_image i (image_of i.settings bytes failed) else refusal_with no_input_message
+-- refused before the input is read, else by the image
+abbrev pub outcome_by : Result InfoView (List ℕ) → List ℕ → Bool → Outcome
+outcome_by (Ok i) bytes failed = outcome_by_image i (image_of i.settings bytes failed)
+outcome_by (Err message) bytes failed = refusal_with message
 
-abbrev pub outcome_by_info : Result InfoView InfoFault → List ℕ → Bool → Outcome
-outcome_by_info (Ok i) bytes failed = outcome_by_input i bytes failed
-outcome_by_info (Err fault) bytes failed = refusal_with (info_message fault)
-
--- The outcome for these options, the bytes of the information file, and the bytes of the input. `failed` says whether a read failed
--- among those that are asked of the input.
-abbrev pub outcome_of : OptionsView → List ℕ → List ℕ → Bool → Outcome
-outcome_of options info bytes failed = outcome_by_info (information options info) bytes failed
+-- The outcome for these options, the bytes of the information file, the files that are handed in, and the bytes of the input.
+-- `failed` says whether a read failed among those that are asked of the input.
+abbrev pub outcome_of : OptionsView → List ℕ → List FileView → List ℕ → Bool → Outcome
+outcome_of options info files bytes failed = outcome_by (prepared options info files) bytes failed

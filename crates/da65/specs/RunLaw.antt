@@ -3,7 +3,6 @@ use Rattle.std.specs.Prelude.{◌≡◌, ℕ, Bool, false, List, Option, Result,
 use Rattle.std.specs.Io.KnownBytes.{Appends}
 use Rattle.stmt65.specs.Meaning.{meaning}
 use Rattle.info65.specs.Views.{InfoView}
-use Rattle.info65.specs.declared.fault.InfoFault.{InfoFault}
 use Rattle.map65.specs.Image.{image_of}
 use Rattle.map65.specs.ImageView.{ImageView}
 use Rattle.map65.specs.declared.image.ImageFault.{ImageFault}
@@ -23,13 +22,13 @@ abbrev pub TookImage : InfoView → Result ImageView ImageFault → Option (List
 TookImage i (Ok image) old new = skips (record { info = i; image = image }) ≡ false → Took image old new
 TookImage i (Err fault) old new = ⊥
 
--- the same of the image that the information file and an input give, whose reader failed or not
-abbrev pub TookImageOf : Result InfoView InfoFault → List ℕ → Bool → Option (List ℕ) → Option (List ℕ) → Type 0
+-- the same of the image that an input gives, whose reader failed or not, if the run is not refused before it reads
+abbrev pub TookImageOf : Result InfoView (List ℕ) → List ℕ → Bool → Option (List ℕ) → Option (List ℕ) → Type 0
 TookImageOf (Ok i) bytes failed old new = TookImage i (image_of i.settings bytes failed) old new
-TookImageOf (Err fault) bytes failed old new = ⊥
+TookImageOf (Err message) bytes failed old new = ⊥
 
 -- where the answer is Done and no byte of the image is skipped, what was written on the output means the image's bytes, from its start
-abbrev pub Reassembles : Result Status RunFault → Result InfoView InfoFault → List ℕ → Bool → Option (List ℕ) → Option (List ℕ) → Type 0
+abbrev pub Reassembles : Result Status RunFault → Result InfoView (List ℕ) → List ℕ → Bool → Option (List ℕ) → Option (List ℕ) → Type 0
 Reassembles (Ok Done) info bytes failed old new = TookImageOf info bytes failed old new
 Reassembles (Ok Refused) info bytes failed old new = Unit {0}
 Reassembles (Err fault) info bytes failed old new = Unit {0}

@@ -1,8 +1,7 @@
 -- What a run has written and read, for each of its results.
-use Rattle.std.specs.Prelude.{◌≡◌, ◌⊎◌, ℕ, ◌<◌, List, length, is_some, if◌then◌else◌, Option, Result, Ok, Err}
+use Rattle.std.specs.Prelude.{◌≡◌, ◌⊎◌, ℕ, ◌<◌, List, length, Option, Result, Ok, Err}
 use Rattle.std.specs.Io.KnownBytes.{Keeps, Appends}
 use Rattle.info65.specs.Views.{InfoView}
-use Rattle.info65.specs.declared.fault.InfoFault.{InfoFault}
 use Rattle.map65.specs.Device.{one_more, AppendsFront}
 use Rattle.map65.specs.Image.{read_limit}
 use Rattle.da65.specs.declared.outcome.Status.{Status}
@@ -18,10 +17,10 @@ Writes (Err Memory) outcome out out' msgs msgs' = Keeps out out' × Keeps msgs m
 Writes (Err Write) outcome out out' msgs msgs' = AppendsFront out out' outcome.listing × Keeps msgs msgs'
 Writes (Err Messages) outcome out out' msgs msgs' = Appends out out' outcome.listing × AppendsFront msgs msgs' outcome.messages × (0 < length outcome.messages)
 
--- how many bytes of the input are read at most: none if the information file is refused or names no input
-abbrev pub most_read : Result InfoView InfoFault → ℕ
-most_read (Ok i) = if is_some i.settings.input then read_limit i.settings else 0
-most_read (Err fault) = 0
+-- how many bytes of the input are read at most: none if the run is refused before that
+abbrev pub most_read : Result InfoView (List ℕ) → ℕ
+most_read (Ok i) = read_limit i.settings
+most_read (Err message) = 0
 
 -- the count of failed writes of the listing rises by one exactly when the result is Write
 abbrev pub OutCount : Result Status RunFault → ℕ → ℕ → Type 0

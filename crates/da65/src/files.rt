@@ -4,7 +4,7 @@ ghost use Rattle.std.specs.Prelude.{◌≡◌};
 ghost use Rattle.std.specs.Option.{option_copied};
 ghost use Rattle.da65.specs.Files.{file_named, files_seen};
 
-/// A file that a caller hands in for an information file to include.
+/// A file that a caller hands in for an information file to include. Of two files of one name the first counts.
 #[derive(Clone, Copy, Debug, PartialEq, Eq)]
 pub struct File<'a> {
     /// The name by which the information file includes it.

@@ -1,8 +1,8 @@
 //! Listings of binary images as ca65 source.
 //!
-//! [`run`] reads an information file and then an image from a [`Source`], lists it on a [`Sink`] and
-//! tells on another why it is refused. [`options_of`] reads a command line, and [`needs`] gives the names
-//! of the files that a run asks for. [`Told`] makes readers and writers of std such devices.
+//! [`run`] reads an information file, the [`File`]s that it includes and then an image from a [`Source`], lists it
+//! on a [`Sink`] and tells on another why it is refused. [`options_of`] reads a command line, and [`needs`] gives the
+//! names of the files that a run asks for. [`Told`] makes readers and writers of std such devices.
 #![tactic(auto)]
 
 mod command;
@@ -27,6 +27,7 @@ mod number;
 mod opening_lines;
 mod outcome;
 mod place;
+mod preparing;
 mod running;
 mod segments;
 mod statement_line;

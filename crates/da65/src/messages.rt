@@ -75,10 +75,12 @@ pub fn missing_message(name: &[u8]) -> Message
 
 /// The message if no input is named.
 #[tactic(auto, unfolding(crate::specs::Outcome::no_input_message))]
-pub fn no_input_message() -> &'static [u8]
-    ensures { result.now ≡ no_input_message }
+pub fn no_input_message() -> Message
+    ensures { result.items ≡ no_input_message }
 {
-    b"da65: no input file\n"
+    let mut out = Message::new();
+    put(&mut out, b"da65: no input file\n");
+    out
 }
 
 /// The message of a refused input. Running out of memory has none.

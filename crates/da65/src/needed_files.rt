@@ -1,10 +1,11 @@
 //! The files that a run needs.
 
-ghost use Rattle.std.specs.Prelude.{◌≡◌, IfOk};
+ghost use Rattle.std.specs.Prelude.{◌≡◌, IfOk, map};
+ghost use Rattle.std.specs.String.{string_bytes};
 ghost use Rattle.info65.specs.Views.{name_seen};
 ghost use Rattle.da65.specs.NeededFiles.{needs_of, nothing};
 
-use info65::Info;
+use info65::{IncludeSpec, Info};
 use std::alloc::{AllocError, Allocator, Global};
 use std::marker::Model;
 
@@ -15,7 +16,8 @@ pub struct Needs<A: Allocator = Global> {
     pub input: Option<String<A>>,
     /// The name of the output file; without one it is standard output.
     pub output: Option<String<A>>,
-    /// The names of the include files, in the order of their groups.
+    /// The names of the include files, in the order of their groups, 16 at most. A name that two groups have
+    /// stands there twice.
     pub includes: Vec<String<A>, A>,
 }
 
@@ -30,7 +32,7 @@ impl<A: Allocator> Model for Needs<A> {
     ghost view = { λ n. record { input = name_seen n.input; output = name_seen n.output; includes = map string_bytes n.includes.items } };
 }
 
-/// The names in the settings.
+/// The names in the settings, and those of the include files.
 pub(crate) fn needs_of<A: Allocator + Copy>(
     alloc: A,
     info: &Info<A>,
@@ -40,10 +42,11 @@ pub(crate) fn needs_of<A: Allocator + Copy>(
     let settings = info.settings();
     let input = copied(alloc, &settings.input)?;
     let output = copied(alloc, &settings.output)?;
+    let includes = names_of(alloc, info.includes())?;
     Ok(Needs {
         input,
         output,
-        includes: Vec::new(alloc),
+        includes,
     })
 }
 
@@ -65,4 +68,18 @@ fn copied<A: Allocator>(alloc: A, name: &Option<String<A>>) -> Result<Option<Str
         Some(name) => Ok(Some(String::from_str(alloc, name.as_str())?)),
         None => Ok(None),
     }
+}
+
+/// The names of include files, in their order.
+fn names_of<A: Allocator + Copy>(
+    alloc: A,
+    includes: &[IncludeSpec<A>],
+) -> Result<Vec<String<A>, A>, AllocError>
+    ensures { IfOk result (λ names. map string_bytes names.items ≡ map (λ x. x.file) includes.now) }
+{
+    let mut names = Vec::new(alloc);
+    for include in includes {
+        names.push(String::from_str(alloc, include.file.as_str())?)?;
+    }
+    Ok(names)
 }

@@ -8,7 +8,8 @@ use crate::needed_files::{Needs, needs_of, nothing};
 use info65::{InfoFaultKind, Options, read_info};
 use std::alloc::{AllocError, Allocator};
 
-/// Returns the names of the files that a run needs. If the information file is refused there are none, and
+/// Returns the names of the files that a run needs: the input, the output, and the include files in the order of their
+/// groups. A name that two groups have stands there twice. If the information file is refused there are none, and
 /// no file is to be opened or created. Fails only if memory runs out.
 pub fn needs<A: Allocator + Copy, B: Allocator>(
     alloc: A,

@@ -7,7 +7,7 @@ use thiserror::Error;
 pub enum Status {
     /// The listing was written.
     Done,
-    /// The information file or the input was refused. Only one message was written.
+    /// The information file, an include file or the input was refused. Only one message was written.
     Refused,
 }
 

@@ -2,12 +2,11 @@
 
 ghost use Rattle.std.specs.Prelude.{◌≡◌, ◌-◌, ◌^◌, ◌<◌, Ok, false, IfSome, IfOk, IsErrOf};
 ghost use Rattle.std.specs.Io.KnownBytes.{Keeps};
-ghost use Rattle.info65.specs.Faults.{out_of_memory};
-ghost use Rattle.info65.specs.Reader.{information};
 ghost use Rattle.map65.specs.Device.{TakesUpTo, has_failed};
 ghost use Rattle.map65.specs.ImageView.{AreBytes, IsPlaced};
+ghost use Rattle.da65.specs.Files.{files_seen};
 ghost use Rattle.da65.specs.Groups.{skips};
-ghost use Rattle.da65.specs.Outcome.{done, image_message, info_message, outcome_by_input, outcome_of, warnings};
+ghost use Rattle.da65.specs.Outcome.{done, image_message, outcome_by, outcome_of, prepared, warnings};
 ghost use Rattle.da65.specs.RunLaw.{Reassembles, Took};
 ghost use Rattle.da65.specs.Code.Refusals.{RefusesOrGivesUp, Tells};
 ghost use Rattle.da65.specs.Running.{Writes, OutCount, MessagesCount, FailsAtMostOnce, most_read};
@@ -16,10 +15,11 @@ use crate::entering::is_entered_again;
 use crate::files::File;
 use crate::groups::has_skipped;
 use crate::lines::{Lines, write_lines};
-use crate::messages::{Message, image_message, info_message, no_input_message, warnings};
+use crate::messages::{Message, image_message, warnings};
 use crate::outcome::{RunFault, Status};
+use crate::preparing::{Stop, prepare};
 use crate::write::write_whole;
-use info65::{Info, InfoFault, InfoFaultKind, Options, read_info};
+use info65::{Info, Options};
 use map65::{Image, ImageFault, Map, Sink, Source, read_image};
 use std::alloc::{AllocError, Allocator};
 
@@ -32,19 +32,6 @@ fn refuse<M: Sink>(msgs: &mut M, message: &[u8]) -> Result<Status, RunFault>
         Ok(()) => Ok(Status::Refused),
         Err(_) => Err(RunFault::Messages),
     }
-}
-
-/// Writes the message of an information file that is refused, or gives up if its reading ran out of
-/// memory.
-fn refuse_info<M: Sink>(msgs: &mut M, fault: InfoFault) -> Result<Status, RunFault>
-    ensures text { RefusesOrGivesUp result (info_message fault) (M.taken msgs.old) (M.taken msgs.new) }
-    ensures memory { fault ≡ out_of_memory → IsErrOf result RunFault.Memory }
-    ensures count { MessagesCount result (M.faults msgs.old) (M.faults msgs.new) }
-{
-    if fault.kind == InfoFaultKind::Memory {
-        return Err(RunFault::Memory);
-    }
-    refuse(msgs, info_message(fault).as_slice())
 }
 
 /// Writes the message of an input that is refused, or gives up if its reading ran out of memory.
@@ -112,7 +99,7 @@ fn write_listing<A: Allocator, W: Sink, M: Sink>(
     }
 }
 
-/// Lists the input under an information file that was accepted.
+/// Lists the input under an information file that was accepted, with the names of its include files.
 fn list_input<A: Allocator + Copy, R: Source, W: Sink, M: Sink>(
     alloc: A,
     info: &Info<A>,
@@ -121,7 +108,7 @@ fn list_input<A: Allocator + Copy, R: Source, W: Sink, M: Sink>(
     msgs: &mut M,
 ) -> Result<Status, RunFault>
     ensures answer { R.faults input.old < 2 ^ 64 - 1 → IfSome (R.left input.old) (λ bytes.
-        Writes result (outcome_by_input info.now bytes (has_failed (R.faults input.old) (R.faults input.new)))
+        Writes result (outcome_by (Ok info.now) bytes (has_failed (R.faults input.old) (R.faults input.new)))
         (W.taken out.old) (W.taken out.new) (M.taken msgs.old) (M.taken msgs.new)) }
     ensures reassembles { R.faults input.old < 2 ^ 64 - 1 → IfSome (R.left input.old) (λ bytes.
         Reassembles result (Ok info.now) bytes (has_failed (R.faults input.old) (R.faults input.new))
@@ -135,10 +122,6 @@ fn list_input<A: Allocator + Copy, R: Source, W: Sink, M: Sink>(
     ensures messages_count { MessagesCount result (M.faults msgs.old) (M.faults msgs.new) }
     ensures input_count { FailsAtMostOnce (R.faults input.old) (R.faults input.new) }
 {
-    let settings = info.settings();
-    if settings.input.is_none() {
-        return refuse(msgs, no_input_message());
-    }
     let image = match read_image(alloc, info, input) {
         Ok(image) => image,
         Err(fault) => return refuse_image(msgs, fault),
@@ -157,8 +140,10 @@ fn list_input<A: Allocator + Copy, R: Source, W: Sink, M: Sink>(
 /// Lists the input on `out` as source for ca65. If it is refused, the reason goes to `msgs`.
 ///
 /// The options of the command line and the information file `info` give the settings; no information file
-/// is the same as an empty one. A run is refused, with one message and no listing, for the first of these
-/// reasons: the information file has a fault; there is no input name; a read fails; the input has fewer
+/// is the same as an empty one. Each of its groups ASMINC includes the first of `files` that has the group's
+/// file name, in the order of the groups; the other files play no part. A run is refused, with one message
+/// and no listing, for the first of these reasons: the information file has a fault; there is no input name;
+/// an include file is not among `files` or has a fault; a read fails; the input has fewer
 /// than INPUTSIZE bytes after the first INPUTOFFS; it is empty; it is too large (more than 65,536 bytes,
 /// or it extends past $FFFF). Help and version play no part.
 ///
@@ -167,11 +152,11 @@ fn list_input<A: Allocator + Copy, R: Source, W: Sink, M: Sink>(
 /// SKIP, not at all. If a byte of the image is skipped, a warning follows the listing on `msgs`, and another one if
 /// a segment is entered again.
 ///
-/// After INPUTOFFS bytes at most INPUTSIZE bytes are read, or 65,537 without a size. Nothing is read
-/// without an input name. All memory is allocated before the first byte is written, so `Memory` means that
-/// nothing was written. If a write fails or takes no byte, it is not tried again, and the result is `Write`
-/// for the listing and `Messages` for a message. The listing is whole when a warning is written. `files`
-/// are not used yet.
+/// After INPUTOFFS bytes at most INPUTSIZE bytes are read, or 65,537 without a size. Nothing is read if the
+/// run is refused for its information file, its input name or an include file. All memory is allocated before the
+/// first byte is written, so `Memory` means that nothing was written. If a write fails or takes no byte, it is not
+/// tried again, and the result is `Write` for the listing and `Messages` for a message. The listing is whole when a
+/// warning is written.
 pub fn run<A: Allocator + Copy, N: Allocator, R: Source, W: Sink, M: Sink>(
     alloc: A,
     options: &Options<N>,
@@ -181,14 +166,14 @@ pub fn run<A: Allocator + Copy, N: Allocator, R: Source, W: Sink, M: Sink>(
     out: &mut W,
     msgs: &mut M,
 ) -> Result<Status, RunFault>
-    // The listing, the messages and the status are those of the options, the information file and the input.
+    // The listing, the messages and the status are those of the options, the information file, the files and the input.
     ensures answer { R.faults input.old < 2 ^ 64 - 1 → IfSome (R.left input.old) (λ bytes.
-        Writes result (outcome_of options.now info.entry.now bytes (has_failed (R.faults input.old) (R.faults input.new)))
+        Writes result (outcome_of options.now info.now (files_seen files.now) bytes (has_failed (R.faults input.old) (R.faults input.new)))
         (W.taken out.old) (W.taken out.new) (M.taken msgs.old) (M.taken msgs.new)) }
 
     // If the result is Done and no byte of the image is skipped, what was written on `out` assembles to the image.
     ensures reassembles { R.faults input.old < 2 ^ 64 - 1 → IfSome (R.left input.old) (λ bytes.
-        Reassembles result (information options.now info.entry.now) bytes (has_failed (R.faults input.old) (R.faults input.new))
+        Reassembles result (prepared options.now info.now (files_seen files.now)) bytes (has_failed (R.faults input.old) (R.faults input.new))
         (W.taken out.old) (W.taken out.new)) }
 
     // These hold for every reader.
@@ -196,17 +181,17 @@ pub fn run<A: Allocator + Copy, N: Allocator, R: Source, W: Sink, M: Sink>(
     ensures memory_messages { IsErrOf result RunFault.Memory → Keeps (M.taken msgs.old) (M.taken msgs.new) }
     ensures write { IsErrOf result RunFault.Write → Keeps (M.taken msgs.old) (M.taken msgs.new) }
     ensures refused { IfOk result (λ status. status ≡ Status.Refused → Keeps (W.taken out.old) (W.taken out.new)) }
-    ensures reads { TakesUpTo (most_read (information options.now info.entry.now)) (R.left input.old) (R.left input.new) }
+    ensures reads { TakesUpTo (most_read (prepared options.now info.now (files_seen files.now))) (R.left input.old) (R.left input.new) }
 
     // A failed write is reported, and nothing else is reported as one.
     ensures out_count { OutCount result (W.faults out.old) (W.faults out.new) }
     ensures messages_count { MessagesCount result (M.faults msgs.old) (M.faults msgs.new) }
     ensures input_count { FailsAtMostOnce (R.faults input.old) (R.faults input.new) }
 {
-    let _ = files;
-    match read_info(alloc, options, info) {
+    match prepare(alloc, options, info, files) {
         Ok(info) => list_input(alloc, &info, input, out, msgs),
-        Err(fault) => refuse_info(msgs, fault),
+        Err(Stop::Refused(message)) => refuse(msgs, message.as_slice()),
+        Err(Stop::Memory) => Err(RunFault::Memory),
     }
 }
 

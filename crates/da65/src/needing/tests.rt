@@ -48,3 +48,28 @@ fn names_of_options_and_file(rt: HostRuntime) -> Result<(), Fail> {
     }
     Ok(())
 }
+
+#[test]
+fn names_of_include_files(rt: HostRuntime) -> Result<(), Fail> {
+    let file = b"ASMINC { FILE \"b.inc\"; };
+        GLOBAL { INPUTNAME \"a.bin\"; };
+        ASMINC { FILE \"a.inc\"; };
+        ASMINC { FILE \"b.inc\"; IGNOREUNKNOWN on; };";
+    let wanted = needs(rt.alloc(), &Options::<Global>::none(), file)?;
+    assert_eq!(rt; name(&wanted.input), Some("a.bin"));
+    assert_eq!(rt; name(&wanted.output), None);
+    let names = ["b.inc", "a.inc", "b.inc"];
+    assert_eq!(rt; wanted.includes.len(), names.len());
+    for (found, expected) in wanted.includes.iter().zip(&names) {
+        assert_eq!(rt; found.as_str(), *expected);
+    }
+
+    // none where the information file is refused
+    let wanted = needs(
+        rt.alloc(),
+        &Options::<Global>::none(),
+        b"ASMINC { FILE \"a.inc\"; }; ASMINC { };",
+    )?;
+    assert_eq!(rt; wanted.includes.len(), 0);
+    Ok(())
+}

@@ -1,0 +1,20 @@
+-- What the preparation of a run returns: what the run lists its input by, or why there is nothing to list.
+use Rattle.std.specs.Prelude.{◌≡◌, ℕ, List, Result, Ok, Err}
+use Rattle.info65.specs.Views.{InfoView}
+use Rattle.da65.specs.declared.preparing.Stop.{Stop}
+use Rattle.da65.specs.declared.preparing.Stop.TheVariants.{Memory, Refused}
+
+-- a refusal is the one that is expected, unless memory ran out
+abbrev pub Stops : Stop → Result InfoView (List ℕ) → Type 0
+Stops (Refused message) expected = expected ≡ Err message.items
+Stops Memory expected = Unit {0}
+
+-- the result is the expected one, unless memory ran out
+abbrev pub Prepares : Result InfoView Stop → Result InfoView (List ℕ) → Type 0
+Prepares (Ok i) expected = expected ≡ Ok i
+Prepares (Err stop) expected = Stops stop expected
+
+-- the same of a call that changes the information
+abbrev pub Changes : {T : Type 0} → Result T Stop → InfoView → Result InfoView (List ℕ) → Type 0
+Changes (Ok done) i expected = expected ≡ Ok i
+Changes (Err stop) i expected = Stops stop expected
