@@ -80,6 +80,18 @@ printf 'GLOBAL { STARTADDR $1000; };' >settings_start.info
 printf '\x80\xfe' >branch.bin
 printf '\x0f\x12\xfd' >bit.bin
 printf 'GLOBAL { STARTADDR $1000; CPU "65c02"; };' >cpu.info
+printf '\x20\xd2\xff' >call.bin
+printf 'GLOBAL { STARTADDR $1000; };\nASMINC { FILE "k.inc"; IGNOREUNKNOWN on; };' >include.info
+printf 'GLOBAL { STARTADDR $1000; };\nASMINC { FILE "k.inc"; };' >strict.info
+printf 'CHROUT = $FFD2\nBSOUT := $FFD2 ; same\n.macro x\n' >k.inc
+printf 'ASMINC { FILE "no.inc"; };\nASMINC { FILE "k.inc"; };' >missing.info
+printf 'ASMINC { FILE "folder"; };' >folder.info
+printf 'GLOBAL { STARTADDR $1000; };\nASMINC { FILE "/dev/stdin"; };\nASMINC { FILE "/dev/stdin"; };' >piped.info
+printf 'GLOBAL { STARTADDR $1000; };\nASMINC { FILE "largest.inc"; };' >largest_include.info
+printf 'ASMINC { FILE "large.inc"; IGNOREUNKNOWN on; };' >large_include.info
+# Too many bytes, and as many as there may be: comments.
+head -c 1048577 /dev/zero | tr '\0' ';' >large.inc
+head -c 1048576 large.inc >largest.inc
 mkdir folder
 
 runs 'help' 0 "$help" '' -h
@@ -118,6 +130,28 @@ runs 'remarks and columns' 0 "; da65 listing\n\n  .setcpu \"6502\"\n\n$body" 'da
     --mnemonic-column 3 --argument-column 9 --comment-column 23 --text-column 52 -i data.info three.bin
 runs 'ranges that overlap' 1 '' 'da65: info:2: ranges overlap\n' -i overlap.info -o new.s three.bin
 is_absent 'ranges that overlap' new.s
+
+# ---- include files
+
+call="${header}CHROUT          := \$FFD2\n\n        jsr     CHROUT\n"
+default="${header}LFFD2           := \$FFD2\n\n        jsr     LFFD2\n"
+runs 'names of an include file' 0 "$call" '' -i include.info call.bin
+runs 'a faulty line of an include file' 1 '' 'da65: include k.inc:3: bad include line\n' -i strict.info call.bin
+runs 'an include file that is not there' 1 '' 'da65: cannot read include no.inc\n' -i missing.info three.bin
+runs 'an include file that is a folder' 1 '' 'da65: cannot read include folder\n' -i folder.info three.bin
+runs 'the largest include file' 0 "$default" '' -i largest_include.info call.bin
+runs 'an include file above its limit' 1 '' 'da65: include large.inc:1: too large\n' -i large_include.info three.bin
+echo old >out.s
+runs 'the output is created empty before an include file is refused' 1 '' 'da65: cannot read include no.inc\n' -i missing.info -o out.s three.bin
+holds 'the output is created empty before an include file is refused' out.s ''
+runs 'an input that can not be opened comes before an include file' 1 '' 'da65: cannot read no.bin\n' -i missing.info no.bin
+runs 'no input name comes before an include file' 1 '' 'da65: no input file\n' -i missing.info
+# A name that stands twice is read once, also from standard input.
+printf 'CHROUT = $FFD2\n' | "$program" -i piped.info call.bin >stdout 2>stderr
+ends 'an include file from a pipe' 0 $? ''
+holds 'an include file from a pipe' stdout "$call"
+
+# ---- refusals
 
 echo old >out.s
 runs 'the output is created empty before a refusal' 1 '' 'da65: input is empty\n' -o out.s empty.bin

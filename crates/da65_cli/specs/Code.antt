@@ -2,4 +2,5 @@
 pub mod Block
 pub mod Buffered
 pub mod Held
+pub mod IncludeFiles
 pub mod Settling

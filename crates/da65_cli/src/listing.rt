@@ -2,9 +2,9 @@
 
 ghost use Rattle.std.specs.Prelude.{◌≡◌, ◌-◌, ◌^◌, ◌<◌, [], Some, IfSome, IsErrOf};
 ghost use Rattle.std.specs.Io.KnownBytes.{Keeps};
-ghost use Rattle.info65.specs.Reader.{information};
 ghost use Rattle.map65.specs.Device.{TakesUpTo, has_failed};
-ghost use Rattle.da65.specs.Outcome.{outcome_of};
+ghost use Rattle.da65.specs.Files.{files_seen};
+ghost use Rattle.da65.specs.Outcome.{outcome_of, prepared};
 ghost use Rattle.da65.specs.RunLaw.{Reassembles};
 ghost use Rattle.da65.specs.Running.{FailsAtMostOnce, OutCount, most_read};
 ghost use Rattle.da65_cli.specs.Code.Buffered.{buffered_out, buffered_taken};
@@ -13,7 +13,7 @@ ghost use Rattle.da65_cli.specs.Code.Settling.{IsListed, PassesOn, Settles, Sett
 
 use crate::buffered::Buffered;
 use crate::held::Held;
-use da65::{Options, RunFault, Sink, Source, Status, run, write_whole};
+use da65::{File, Options, RunFault, Sink, Source, Status, run, write_whole};
 use std::alloc::Allocator;
 
 /// How a listing ended, and the output that it was written on.
@@ -68,24 +68,25 @@ pub fn run_buffered<A: Allocator + Copy, N: Allocator, R: Source, W: Sink, M: Si
     alloc: A,
     options: &Options<N>,
     info: &[u8],
+    files: &[File<'_>],
     input: &mut R,
     output: W,
     errors: &mut M,
 ) -> Listed<W>
     // What is on the output and on standard error, of an output that begins empty.
     ensures answer { R.faults input.old < 2 ^ 64 - 1 → W.taken output ≡ Some [] → IfSome (R.left input.old) (λ bytes.
-        Delivers result.result (outcome_of options.now info.now bytes (has_failed (R.faults input.old) (R.faults input.new)))
+        Delivers result.result (outcome_of options.now info.now (files_seen files.now) bytes (has_failed (R.faults input.old) (R.faults input.new)))
         (W.taken result.output) (M.taken errors.old) (M.taken errors.new)) }
 
     // If the result is Done and no byte of the image is skipped, the output assembles to the image.
     ensures reassembles { R.faults input.old < 2 ^ 64 - 1 → W.taken output ≡ Some [] → IfSome (R.left input.old) (λ bytes.
-        Reassembles result.result (information options.now info.now) bytes (has_failed (R.faults input.old) (R.faults input.new))
+        Reassembles result.result (prepared options.now info.now (files_seen files.now)) bytes (has_failed (R.faults input.old) (R.faults input.new))
         (Some []) (W.taken result.output)) }
 
     // These hold for every reader and every output.
     ensures memory { IsErrOf result.result RunFault.Memory → Keeps (M.taken errors.old) (M.taken errors.new) }
     ensures write { IsErrOf result.result RunFault.Write → Keeps (M.taken errors.old) (M.taken errors.new) }
-    ensures reads { TakesUpTo (most_read (information options.now info.now)) (R.left input.old) (R.left input.new) }
+    ensures reads { TakesUpTo (most_read (prepared options.now info.now (files_seen files.now))) (R.left input.old) (R.left input.new) }
 
     // Each device fails at most once. A failed write of the listing has the result Write, and no other has.
     ensures out_count { OutCount result.result (W.faults output) (W.faults result.output) }
@@ -94,7 +95,7 @@ pub fn run_buffered<A: Allocator + Copy, N: Allocator, R: Source, W: Sink, M: Si
 {
     let mut buffer = Buffered::new(output);
     let mut held = Held::new();
-    let was = run(alloc, options, info, &[], input, &mut buffer, &mut held);
+    let was = run(alloc, options, info, files, input, &mut buffer, &mut held);
     let result = settle(was, &mut buffer, held.as_slice(), errors);
     Listed {
         output: buffer.into_out(),

@@ -1,26 +1,28 @@
 //! Lists a binary image as ca65 source: `da65 [options] [inputfile]`.
 //!
-//! In order: the options, then help or version, the information file, the input, the output file, which
-//! is created empty, and the run. The listing goes to the output file or to standard output, messages go
+//! In order: the options, then help or version, the information file, its include files, the input, the output
+//! file, which is created empty, and the run. The listing goes to the output file or to standard output, messages go
 //! to standard error once the whole listing is written. The status is 0 if the listing, the help text or
 //! the version was written, else 1.
 #![tactic(auto)]
 
 mod block;
 mod buffered;
+mod contents;
 mod failure;
 mod held;
+mod include_files;
 mod information;
 mod listing;
 
-use da65::{Needs, Options, Status, Told, help_text, needs, options_of, version_text};
+use da65::{File, Needs, Options, Status, Told, help_text, needs, options_of, version_text};
 use failure::Failure;
+use include_files::{handed_in, include_files};
 use information::information;
 use listing::{Listed, run_buffered};
-use std::env;
-use std::fs::File;
 use std::io::{Read, Write};
 use std::process::ExitCode;
+use std::{env, fs};
 
 /// The options of the program's words.
 fn options(rt: &HostRuntime) -> Result<Options, Failure> {
@@ -44,6 +46,7 @@ fn list_on<R: Read + Drop, W: Write + Drop>(
     rt: &HostRuntime,
     options: &Options,
     info: &[u8],
+    files: &[File<'_>],
     input: R,
     output: W,
 ) -> Result<Status, Failure> {
@@ -51,6 +54,7 @@ fn list_on<R: Read + Drop, W: Write + Drop>(
         rt.alloc(),
         options,
         info,
+        files,
         &mut Told::new(input),
         Told::new(output),
         &mut Told::new(rt.stderr()),
@@ -67,14 +71,15 @@ fn list_to<R: Read + Drop>(
     rt: &HostRuntime,
     options: &Options,
     info: &[u8],
+    files: &[File<'_>],
     input: R,
     output: Option<String>,
 ) -> Result<Status, Failure> {
     let Some(name) = output else {
-        return list_on(rt, options, info, input, rt.stdout());
+        return list_on(rt, options, info, files, input, rt.stdout());
     };
-    match File::create(rt, name.as_str()) {
-        Ok(file) => list_on(rt, options, info, input, file),
+    match fs::File::create(rt, name.as_str()) {
+        Ok(file) => list_on(rt, options, info, files, input, file),
         Err(error) => Err(Failure::of_creating(&error, name)),
     }
 }
@@ -84,18 +89,19 @@ fn list_needed(
     rt: &HostRuntime,
     options: &Options,
     info: &[u8],
-    needed: Needs,
+    files: &[File<'_>],
+    input: Option<String>,
+    output: Option<String>,
 ) -> Result<Status, Failure> {
-    let Needs { input, output, .. } = needed;
     let Some(name) = input else {
-        return list_on(rt, options, info, [].as_slice(), rt.stdout());
+        return list_on(rt, options, info, files, [].as_slice(), rt.stdout());
     };
     // A pipe that another user made can be read, but not opened by its name.
     if name.as_str() == "/dev/stdin" {
-        return list_to(rt, options, info, rt.stdin(), output);
+        return list_to(rt, options, info, files, rt.stdin(), output);
     }
-    match File::open(rt, name.as_str()) {
-        Ok(file) => list_to(rt, options, info, file, output),
+    match fs::File::open(rt, name.as_str()) {
+        Ok(file) => list_to(rt, options, info, files, file, output),
         Err(error) => Err(Failure::of_reading(&error, name)),
     }
 }
@@ -109,13 +115,19 @@ fn program(rt: &HostRuntime) -> Result<Status, Failure> {
         return tell(rt, version_text());
     }
     let info = information(rt, &options.info)?;
-    let needed = needs(rt.alloc(), &options, &info)?;
-    list_needed(rt, &options, &info, needed)
+    let Needs {
+        input,
+        output,
+        includes,
+    } = needs(rt.alloc(), &options, &info)?;
+    let contents = include_files(rt, includes)?;
+    let files = handed_in(rt.alloc(), &contents)?;
+    list_needed(rt, &options, &info, &files, input, output)
 }
 
 /// Takes the number of a standard stream that is closed, which would else go to the next file.
-fn placeholder(rt: &HostRuntime) -> Option<File> {
-    File::open(rt, "/dev/null").ok()
+fn placeholder(rt: &HostRuntime) -> Option<fs::File> {
+    fs::File::open(rt, "/dev/null").ok()
 }
 
 fn main(rt: HostRuntime) -> ExitCode {

@@ -1,0 +1,38 @@
+//! The contents of files.
+
+ghost use Rattle.std.specs.Prelude.{◌≡◌, take, IfOk, IfSome};
+
+use da65::Told;
+use map65::{ImageFault, take_up_to};
+use std::alloc::{AllocError, Global};
+use std::fs::File;
+use std::io::{ErrorKind, Read};
+
+/// The most that is read: one byte more than an information file or an include file may have.
+const LIMIT: usize = 1_048_577;
+
+/// Reads up to the end or the limit. There are no contents if a read fails.
+fn read_from<R: Read + Drop>(alloc: Global, input: R) -> Result<Option<Vec<u8>>, AllocError>
+    ensures { IfOk result (λ found. IfSome found (λ bytes. IfSome (R.remaining input) (λ xs. bytes.items ≡ take LIMIT xs))) }
+{
+    match take_up_to(alloc, &mut Told::new(input), LIMIT) {
+        Ok(bytes) => Ok(Some(bytes)),
+        Err(ImageFault::Memory) => Err(AllocError),
+        Err(_) => Ok(None),
+    }
+}
+
+/// The bytes of the file of this name, of which at most 1,048,577 are read. None if it can't be opened or read.
+pub fn contents(rt: &HostRuntime, name: &str) -> Result<Option<Vec<u8>>, AllocError> {
+    // A pipe that another user made can be read, but not opened by its name.
+    if name == "/dev/stdin" {
+        return read_from(rt.alloc(), rt.stdin());
+    }
+    match File::open(rt, name) {
+        Ok(file) => read_from(rt.alloc(), file),
+        Err(error) => match error.kind() {
+            ErrorKind::OutOfMemory => Err(AllocError),
+            _ => Ok(None),
+        },
+    }
+}
