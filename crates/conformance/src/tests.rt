@@ -4,6 +4,7 @@ mod cpus;
 mod devices;
 mod failing;
 mod images;
+mod includes;
 mod memory;
 mod names;
 mod ranges;

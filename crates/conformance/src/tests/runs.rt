@@ -1,5 +1,5 @@
 // Runs over memory, and over devices.
-use da65::{Options, RunFault, Status, Told, run};
+use da65::{File, Options, RunFault, Status, Told, run};
 use std::alloc::{AllocError, Allocator, Global};
 use std::io::{Read, Write};
 
@@ -46,9 +46,29 @@ pub fn run_with<A: Allocator + Copy>(
     info: &[u8],
     image: &[u8],
 ) -> Ran {
+    run_including(alloc, heap, options, info, &[], image)
+}
+
+/// The same with files that the information file may include.
+pub fn run_including<A: Allocator + Copy>(
+    alloc: Global,
+    heap: A,
+    options: &Options,
+    info: &[u8],
+    files: &[File<'_>],
+    image: &[u8],
+) -> Ran {
     let mut listing = Vec::new(alloc);
     let mut messages = Vec::new(alloc);
-    let result = run_on(heap, options, info, image, &mut listing, &mut messages);
+    let result = run(
+        heap,
+        options,
+        info,
+        files,
+        &mut Told::new(image),
+        &mut Told::new(&mut listing),
+        &mut Told::new(&mut messages),
+    );
     Ran {
         result,
         listing,

@@ -1,0 +1,431 @@
+// Runs with include files.
+use crate::heap::Refusing;
+use crate::tests::devices::Tape;
+use crate::tests::refusals::{MANY, Refusals};
+use crate::tests::runs::{HEADER, named, run_including};
+use da65::{File, Options, RunFault, Status, Told, needs, run};
+use info65::{read_include, read_info};
+use map65::{Map, read_image};
+use std::alloc::Global;
+use std::process::Abort;
+use std::test::Fail;
+use stmt65::assemble;
+
+/// An information file that includes one file.
+const ONE: &str = "ASMINC { FILE \"k.inc\"; };";
+
+/// The image 4C 10 00 at $1000 where $0010 is named K.
+const NAMED: &[u8] = b"K               := $0010\n\n        jmp     K\n";
+
+/// The same where it has its default name.
+const UNNAMED: &[u8] = b"L0010           := $0010\n\n        jmp     L0010\n";
+
+const JUMP: &[u8] = &[0x4C, 0x10, 0x00];
+
+/// A jump to $0010 at $1000, listed with these files.
+fn jump(
+    rt: &impl Abort,
+    alloc: Global,
+    info: &str,
+    files: &[File<'_>],
+    body: Result<&[u8], &str>,
+) -> Result<(), Fail> {
+    let options = named(alloc, Some(0x1000))?;
+    let ran = run_including(alloc, alloc, &options, info.as_bytes(), files, JUMP);
+    match body {
+        Ok(body) => {
+            assert_eq!(rt; ran.result, Ok(Status::Done), "{info}");
+            assert_eq!(rt;
+                ran.listing.as_slice().strip_prefix(HEADER),
+                Some(body),
+                "{info}"
+            );
+            assert!(rt; ran.messages.is_empty(), "{info}");
+            assert_eq!(rt; assemble(alloc, &ran.listing, 0x1000)?.as_slice(), JUMP);
+        }
+        Err(message) => {
+            assert_eq!(rt; ran.result, Ok(Status::Refused), "{info}");
+            assert!(rt; ran.listing.is_empty(), "{info}");
+            assert_eq!(rt; ran.messages.as_slice(), message.as_bytes(), "{info}");
+        }
+    }
+    Ok(())
+}
+
+/// An information file, what `k.inc` has, and the lines after the header or the message.
+const ROWS: &[(&str, &str, Result<&[u8], &str>)] = &[
+    (ONE, "K = $10", Ok(NAMED)),
+    (ONE, "", Ok(UNNAMED)),
+    (ONE, "\n \t\n; K = $10\n", Ok(UNNAMED)),
+    (ONE, "K=16\r\n", Ok(NAMED)),
+    (ONE, "\tK\t:=\t%10000\t; ten\n\n", Ok(NAMED)),
+    (
+        "ASMINC { FILE \"k.inc\"; COMMENTSTART '*'; };",
+        "* names\nK = %10000 * ten\n",
+        Ok(NAMED),
+    ),
+    (
+        "ASMINC { FILE \"k.inc\"; COMMENTSTART '1'; };",
+        "K = 11\n",
+        Err("da65: include k.inc:1: bad include line\n"),
+    ),
+    // the first name of an address stays, and an address has one name
+    (ONE, "K = $10\nJ = $10\n", Ok(NAMED)),
+    (
+        "ASMINC { FILE \"k.inc\"; };\nLABEL { ADDR $10; NAME \"K\"; };",
+        "J = $10\nK = 16\n",
+        Ok(NAMED),
+    ),
+    (
+        "RANGE { START $10; END $20; TYPE CODE; NAME \"K\"; };\nASMINC { FILE \"k.inc\"; };",
+        "J = $10\n",
+        Ok(NAMED),
+    ),
+    (
+        ONE,
+        "K = 1\nK = 2\n",
+        Err("da65: include k.inc:2: name given twice\n"),
+    ),
+    (
+        "LABEL { ADDR 3; NAME \"K\"; };\nASMINC { FILE \"k.inc\"; };",
+        "K = $10\n",
+        Err("da65: include k.inc:1: name given twice\n"),
+    ),
+    // named by two groups is as named once
+    (
+        "ASMINC { FILE \"k.inc\"; };\nASMINC { FILE \"k.inc\"; };",
+        "K = $10\n",
+        Ok(NAMED),
+    ),
+    (
+        ONE,
+        "a = 1\n",
+        Err("da65: include k.inc:1: reserved name\n"),
+    ),
+    (
+        ONE,
+        "L0010 = $10\nLDA = 2\n",
+        Err("da65: include k.inc:2: reserved name\n"),
+    ),
+    (ONE, "L0010 = $10\n", Ok(UNNAMED)),
+    (
+        ONE,
+        "K = %102\n",
+        Err("da65: include k.inc:1: bad include line\n"),
+    ),
+    (
+        ONE,
+        "K = 65536\n",
+        Err("da65: include k.inc:1: bad include line\n"),
+    ),
+    (
+        ONE,
+        "K\n= 16\n",
+        Err("da65: include k.inc:1: bad include line\n"),
+    ),
+    (
+        "ASMINC { FILE \"k.inc\"; IGNOREUNKNOWN on; };",
+        ".macro x\nK = 65536\nK = $10\na = 1\n",
+        Ok(NAMED),
+    ),
+    (
+        "ASMINC { FILE \"no.inc\"; };",
+        "K = $10\n",
+        Err("da65: cannot read include no.inc\n"),
+    ),
+];
+
+#[test]
+fn names_of_an_include_file(rt: HostRuntime) -> Result<(), Fail> {
+    for (info, text, body) in ROWS {
+        let file = File {
+            name: "k.inc",
+            bytes: text.as_bytes(),
+        };
+        jump(&rt, rt.alloc(), info, &[file], *body)?;
+    }
+    Ok(())
+}
+
+const SEVENTEEN: &str =
+    "ASMINC { FILE \"k.inc\"; };\nASMINC { FILE \"k.inc\"; };\nASMINC { FILE \"k.inc\"; };\n\
+ASMINC { FILE \"k.inc\"; };\nASMINC { FILE \"k.inc\"; };\nASMINC { FILE \"k.inc\"; };\nASMINC { FILE \"k.inc\"; };\n\
+ASMINC { FILE \"k.inc\"; };\nASMINC { FILE \"k.inc\"; };\nASMINC { FILE \"k.inc\"; };\nASMINC { FILE \"k.inc\"; };\n\
+ASMINC { FILE \"k.inc\"; };\nASMINC { FILE \"k.inc\"; };\nASMINC { FILE \"k.inc\"; };\nASMINC { FILE \"k.inc\"; };\n\
+ASMINC { FILE \"k.inc\"; };\nASMINC { FILE \"k.inc\"; };\n";
+
+#[test]
+fn seventeen_include_files(rt: HostRuntime) -> Result<(), Fail> {
+    let file = File {
+        name: "k.inc",
+        bytes: b"K = $10",
+    };
+    jump(
+        &rt,
+        rt.alloc(),
+        SEVENTEEN,
+        &[file],
+        Err("da65: info:17: too large\n"),
+    )
+}
+
+/// Files by name, from which each group takes the first with its name.
+const FILES: [File<'static>; 5] = [
+    File {
+        name: "other",
+        bytes: b"@",
+    },
+    File {
+        name: "k",
+        bytes: b"K = $10",
+    },
+    File {
+        name: "k",
+        bytes: b"@",
+    },
+    File {
+        name: "j",
+        bytes: b"J = $10\nK = 17",
+    },
+    File {
+        name: "K",
+        bytes: b"I = $10",
+    },
+];
+
+/// Groups over these files, and the lines after the header or the message.
+const ORDERS: &[(&str, Result<&[u8], &str>)] = &[
+    ("ASMINC { FILE \"k\"; };", Ok(NAMED)),
+    (
+        "ASMINC { FILE \"K\"; };",
+        Ok(b"I               := $0010\n\n        jmp     I\n"),
+    ),
+    // the order of the groups, not of the files
+    (
+        "ASMINC { FILE \"k\"; }; ASMINC { FILE \"j\"; };",
+        Err("da65: include j:2: name given twice\n"),
+    ),
+    (
+        "ASMINC { FILE \"j\"; IGNOREUNKNOWN on; }; ASMINC { FILE \"k\"; };",
+        Ok(b"J               := $0010\nK               := $0011\n\n        jmp     J\n"),
+    ),
+    // the first refusal counts
+    (
+        "ASMINC { FILE \"i\"; }; ASMINC { FILE \"other\"; };",
+        Err("da65: cannot read include i\n"),
+    ),
+    (
+        "ASMINC { FILE \"other\"; }; ASMINC { FILE \"i\"; };",
+        Err("da65: include other:1: bad include line\n"),
+    ),
+    (
+        "ASMINC { FILE \"i\"; }; FOO",
+        Err("da65: info:1: unknown group\n"),
+    ),
+];
+
+#[test]
+fn files_in_the_order_of_their_groups(rt: HostRuntime) -> Result<(), Fail> {
+    for (info, body) in ORDERS {
+        jump(&rt, rt.alloc(), info, &FILES, *body)?;
+    }
+    Ok(())
+}
+
+/// A call by a name of an include file.
+const CALL: &[u8] = &[0x20, 0xD2, 0xFF];
+
+const SYSTEM: &[u8] = b"CHROUT = $FFD2\nBSOUT := $FFD2 ; same\n.macro x\n";
+
+const CALLED: &[u8] = b"CHROUT          := $FFD2\n\n        jsr     CHROUT\n";
+
+#[test]
+fn system_calls_by_name(rt: HostRuntime) -> Result<(), Fail> {
+    let files = [File {
+        name: "k.inc",
+        bytes: SYSTEM,
+    }];
+    let options = named(rt.alloc(), Some(0x1000))?;
+    let info = b"ASMINC { FILE \"k.inc\"; IGNOREUNKNOWN on; };";
+    let ran = run_including(rt.alloc(), rt.alloc(), &options, info, &files, CALL);
+    assert_eq!(rt; ran.result, Ok(Status::Done));
+    assert_eq!(rt; ran.listing.as_slice().strip_prefix(HEADER), Some(CALLED));
+    assert!(rt; ran.messages.is_empty());
+    assert_eq!(rt;
+        assemble(rt.alloc(), &ran.listing, 0x1000)?.as_slice(),
+        CALL
+    );
+
+    let ran = run_including(
+        rt.alloc(),
+        rt.alloc(),
+        &options,
+        ONE.as_bytes(),
+        &files,
+        CALL,
+    );
+    assert_eq!(rt; ran.result, Ok(Status::Refused));
+    assert!(rt; ran.listing.is_empty());
+    assert_eq!(rt;
+        ran.messages.as_slice(),
+        b"da65: include k.inc:3: bad include line\n".as_slice()
+    );
+
+    let names = needs(rt.alloc(), &options, info)?;
+    assert_eq!(rt; names.input.as_deref(), Some("image.bin"));
+    assert_eq!(rt; names.output.as_deref(), None);
+    assert_eq!(rt; names.includes.len(), 1);
+    assert_eq!(rt; names.includes[0].as_str(), "k.inc");
+    Ok(())
+}
+
+/// A run that is refused for an include file reads nothing, and one without an input name looks at none.
+#[test]
+fn refused_before_reading(rt: HostRuntime) -> Result<(), Fail> {
+    let table = [
+        (true, "da65: cannot read include k.inc\n"),
+        (false, "da65: no input file\n"),
+    ];
+    for (is_named, message) in table {
+        let mut options = named(rt.alloc(), None)?;
+        if !is_named {
+            options.input = None;
+        }
+        let mut listing = Vec::new(rt.alloc());
+        let mut messages = Vec::new(rt.alloc());
+        let mut tape = Tape::new(CALL, 1);
+        let result = run(
+            rt.alloc(),
+            &options,
+            ONE.as_bytes(),
+            &[],
+            &mut Told::new(&mut tape),
+            &mut Told::new(&mut listing),
+            &mut Told::new(&mut messages),
+        );
+        assert_eq!(rt; result, Ok(Status::Refused));
+        assert_eq!(rt; tape.given(), 0);
+        assert!(rt; listing.is_empty());
+        assert_eq!(rt; messages.as_slice(), message.as_bytes());
+    }
+    Ok(())
+}
+
+#[test]
+fn size_of_an_include_file(rt: HostRuntime) -> Result<(), Fail> {
+    let text = vec![in rt.alloc(); b';'; 1_048_577]?;
+    let (_, rest) = text.as_slice().split_first().ok_or("empty")?;
+    let ignoring = "ASMINC { FILE \"k.inc\"; IGNOREUNKNOWN on; };";
+    for info in [ONE, ignoring] {
+        let largest = File {
+            name: "k.inc",
+            bytes: rest,
+        };
+        let large = File {
+            name: "k.inc",
+            bytes: text.as_slice(),
+        };
+        jump(&rt, rt.alloc(), info, &[largest], Ok(UNNAMED))?;
+        jump(
+            &rt,
+            rt.alloc(),
+            info,
+            &[large],
+            Err("da65: include k.inc:1: too large\n"),
+        )?;
+    }
+    Ok(())
+}
+
+/// The longest file name that an information file can have.
+#[test]
+fn message_of_the_longest_name(rt: HostRuntime) -> Result<(), Fail> {
+    let mut name = String::new(rt.alloc());
+    for _ in 0..255 {
+        name.push('n')?;
+    }
+    let info = format!(in rt.alloc(); "ASMINC {{ FILE \"{name}\"; }};")?;
+    let missing = format!(in rt.alloc(); "da65: cannot read include {name}\n")?;
+    jump(&rt, rt.alloc(), info.as_str(), &[], Err(missing.as_str()))?;
+    let bad = File {
+        name: name.as_str(),
+        bytes: b"\n@",
+    };
+    let refused = format!(in rt.alloc(); "da65: include {name}:2: bad include line\n")?;
+    jump(
+        &rt,
+        rt.alloc(),
+        info.as_str(),
+        &[bad],
+        Err(refused.as_str()),
+    )
+}
+
+const TWO: &[u8] = b"GLOBAL { INPUTNAME \"a.bin\"; STARTADDR $1000; };\n\
+    ASMINC { FILE \"k.inc\"; IGNOREUNKNOWN on; };\nASMINC { FILE \"k.inc\"; IGNOREUNKNOWN on; };\n";
+
+/// A run with include files, each allocation refused in turn.
+#[test]
+fn run_with_includes_without_memory(rt: HostRuntime) -> Result<(), Fail> {
+    let files = [File {
+        name: "k.inc",
+        bytes: SYSTEM,
+    }];
+    let mut refusals = Refusals::none();
+    for granted in 0..MANY {
+        let heap = Refusing::after(rt.alloc(), granted);
+        let ran = run_including(rt.alloc(), &heap, &Options::none(), TWO, &files, CALL);
+        let failed = ran.result == Err(RunFault::Memory);
+        refusals.count(&rt, &heap, granted, failed);
+        if failed {
+            assert!(rt; ran.listing.is_empty() && ran.messages.is_empty());
+        } else {
+            assert_eq!(rt; ran.result, Ok(Status::Done));
+            assert_eq!(rt; ran.listing.as_slice().strip_prefix(HEADER), Some(CALLED));
+            assert!(rt; ran.messages.is_empty());
+        }
+    }
+    refusals.at_least(&rt, 4, MANY);
+    Ok(())
+}
+
+/// A run allocates where its information file, its include files, its image and its map do.
+#[test]
+fn run_with_includes_allocates_as_its_parts(rt: HostRuntime) -> Result<(), Fail> {
+    let files = [File {
+        name: "k.inc",
+        bytes: SYSTEM,
+    }];
+    let options = Options::<Global>::none();
+    let heap = Refusing::after(rt.alloc(), u64::MAX);
+    let mut info = read_info(&heap, &options, TWO)?;
+    for index in 0..2 {
+        if index < info.includes().len() {
+            read_include(&heap, &mut info, index, SYSTEM)?;
+        }
+    }
+    let image = read_image(&heap, &info, &mut Told::new(CALL))?;
+    assert!(rt; Map::build(&heap, &info, &image).is_ok());
+
+    let counted = Refusing::after(rt.alloc(), u64::MAX);
+    let ran = run_including(rt.alloc(), &counted, &options, TWO, &files, CALL);
+    assert_eq!(rt; ran.result, Ok(Status::Done));
+    assert_eq!(rt; counted.left(), heap.left());
+    Ok(())
+}
+
+/// Names of needed files, each allocation refused in turn.
+#[test]
+fn needed_includes_without_memory(rt: HostRuntime) -> Result<(), Fail> {
+    let mut refusals = Refusals::none();
+    for granted in 0..MANY {
+        let heap = Refusing::after(rt.alloc(), granted);
+        let found = needs(&heap, &Options::<Global>::none(), TWO);
+        refusals.count(&rt, &heap, granted, found.is_err());
+        if let Ok(names) = found {
+            assert_eq!(rt; names.includes.len(), 2, "after {granted}");
+        }
+    }
+    refusals.at_least(&rt, 4, MANY);
+    Ok(())
+}
