@@ -1,6 +1,6 @@
 //! What stands after a statement at each comment level. The line reads as at level 0.
 
-ghost use Rattle.std.specs.Prelude.{◌≡◌, ◌≤◌, IfOk, length, None, false};
+ghost use Rattle.std.specs.Prelude.{◌≡◌, ◌≤◌, length, None, false};
 ghost use Rattle.std.specs.Option.{option_copied};
 ghost use Rattle.isa65.specs.declared.op.Op.{Op};
 ghost use Rattle.stmt65.specs.Printable.{IsPrintable, MayBeLabelled, TakesLabel};
@@ -8,8 +8,7 @@ ghost use Rattle.stmt65.specs.Views.{statement_seen};
 
 use crate::reading::tests::source;
 use crate::{
-    Column, Columns, Expr, LabelBreak, Level, LimitError, Line, Operands, Remarks, Statement,
-    Target, put_line,
+    Column, Columns, Expr, LabelBreak, Level, Line, Operands, Remarks, Statement, Target, put_line,
 };
 use isa65::{Cpu, Mnemonic, Mode, Op};
 use std::alloc::{AllocError, Global};
@@ -21,16 +20,17 @@ const LONG: &str =
     "N1234567890123456789012345678901234567890123456789012345678901234567890123456789";
 
 /// The remarks of a statement at $1000 with these bytes, without a label.
-fn remarks_at<'a>(level: u8, bytes: &'a [u8]) -> Result<Remarks<'a>, LimitError>
-    ensures { IfOk result (λ r. (r.label ≡ None) × (r.bytes ≡ bytes.entry)) }
+fn remarks_at<'a>(level: Level, bytes: &'a [u8]) -> Remarks<'a>
+    ensures label { result.label ≡ None }
+    ensures bytes { result.bytes ≡ bytes.entry }
 {
-    Ok(Remarks {
-        level: Level::try_from(level)?,
+    Remarks {
+        level,
         hexoffs: false,
         address: 0x1000,
         bytes,
         label: None,
-    })
+    }
 }
 
 /// The line without its line feed.
@@ -69,9 +69,24 @@ fn shows(
     Ok(())
 }
 
+/// The line of the statement, at the default columns, with the remarks of this level and these bytes.
+fn shows_at(
+    rt: &impl Abort,
+    alloc: Global,
+    level: u8,
+    statement: &Statement,
+    bytes: &[u8],
+    want: &str,
+) -> Result<(), Fail>
+    requires printable { IsPrintable (statement_seen statement.now) }
+    requires few { length bytes.now ≤ 16 }
+{
+    let remarks = remarks_at(Level::try_from(level)?, bytes);
+    shows(rt, alloc, &Columns::default(), statement, &remarks, want)
+}
+
 #[test]
 fn full_remarks(rt: HostRuntime) -> Result<(), Fail> {
-    let columns = Columns::default();
     let load = Statement::Instr {
         op: Op {
             mnemonic: Mnemonic::Lda,
@@ -93,8 +108,7 @@ fn full_remarks(rt: HostRuntime) -> Result<(), Fail> {
             "        lda     #$41                            ; 1000 A9 41                    .A",
         ),
     ] {
-        let remarks = remarks_at(level, b"\xA9\x41")?;
-        shows(&rt, rt.alloc(), &columns, &load, &remarks, want)?;
+        shows_at(&rt, rt.alloc(), level, &load, b"\xA9\x41", want)?;
     }
     Ok(())
 }
@@ -103,12 +117,12 @@ fn full_remarks(rt: HostRuntime) -> Result<(), Fail> {
 #[test]
 fn characters_of_a_text(rt: HostRuntime) -> Result<(), Fail> {
     let bytes = b"\x22\x3B\x5C\x1F\x20\x7E\x7F\x80\xFF\x0A\x0D\x09\x00\x61\x22\x7A";
-    shows(
+    shows_at(
         &rt,
         rt.alloc(),
-        &Columns::default(),
+        4,
         &Statement::Text(bytes),
-        &remarks_at(4, bytes)?,
+        bytes,
         "        .byte   $22,\";\",$5C,$1F,\" ~\",$7F,$80,$FF,$0A,$0D,$09,$00,\"a\",$22,\"z\" ; 1000 22 3B 5C 1F 20 7E 7F 80 FF 0A 0D 09 00 61 22 7A \";\\. ~.......a\"z",
     )
 }
@@ -117,8 +131,7 @@ fn characters_of_a_text(rt: HostRuntime) -> Result<(), Fail> {
 fn bare(rt: &impl Abort, alloc: Global, statement: &Statement, want: &str) -> Result<(), Fail>
     requires { IsPrintable (statement_seen statement.now) }
 {
-    let remarks = remarks_at(4, b"\xEA")?;
-    shows(rt, alloc, &Columns::default(), statement, &remarks, want)
+    shows_at(rt, alloc, 4, statement, b"\xEA", want)
 }
 
 #[test]
@@ -192,7 +205,7 @@ fn shows_longest(rt: &impl Abort, alloc: Global, columns: &Columns) -> Result<()
     let bytes = b"ABCDEFGHIJKLMNO\xFF";
     let remark = "; 1000 41 42 43 44 45 46 47 48 49 4A 4B 4C 4D 4E 4F FF";
     let characters = "ABCDEFGHIJKLMNO.";
-    let remarks = remarks_at(4, bytes)?;
+    let remarks = remarks_at(Level::try_from(4)?, bytes);
     let branch = Statement::Instr {
         op: Op {
             mnemonic: Mnemonic::Bbr0,
