@@ -25,6 +25,7 @@ bin/da65: $(sources)
 
 test: bin/da65
 	tests/program.sh bin/da65
+	tests/guide.sh bin/da65
 	tests/ca65.sh bin/da65 10
 	rt ci
 
