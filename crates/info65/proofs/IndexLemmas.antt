@@ -2,6 +2,7 @@
 use Rattle.std.proofs.Common.{◌≡◌, ◌≢◌, ◌∙◌, ◌≤◌, ◌<◌, ◌+◌, ◌-◌, ◌==◌, ◌&&◌, ◌||◌, ℕ, zero, suc, Bool, List, [], ◌∷◌, ◌++◌, true, false, ⊎_elim, ap, ap₂, arith, get_or, length, option_map, refl, sym, if◌then◌else◌}
 use Rattle.std.specs.Option.{option_or}
 use Rattle.std.specs.Prelude.{All, AllPairs, Option, Some, None, Result, Ok, Err, IfOk, is_some, option_to_list, nat_le, nat_lt, not}
+use Rattle.std.specs.BTreeMap.{BTreeMap, btree_map_len, get}
 use Rattle.std.specs.List.{find, flat_map, list_any}
 use Rattle.std.specs.Ordering.{is_eq, nat_cmp}
 use Rattle.std.specs.Str.{bytes_eq}
@@ -360,6 +361,19 @@ pub names_same : (f g : ℕ → Option NameView) → ((a : ℕ) → f a ≡ g a)
 unfolding names_from
 names_same f g h a zero = refl
 names_same f g h a (suc n) = ap₂ (λ (x : Option NameView) (xs : List NameView). option_to_list x ++ xs) (h a) (names_same f g h (a + 1) n)
+
+names_none : (a n : ℕ) → names_from (λ b. None) a n ≡ []
+unfolding names_from
+names_none a zero = refl
+names_none a (suc n) = names_none (a + 1) n
+
+gets_none : (m : BTreeMap ℕ Given) (es : List (ℕ × Given)) → m.entries ≡ es → length es ≡ 0 → (a : ℕ) → option_map given_seen (get nat_cmp m a) ≡ None
+gets_none m [] e none a = rw e refl
+gets_none m (x ∷ xs) e none a = absurd (omega (arith, none))
+
+-- a map without entries has no name
+pub names_empty : (m : BTreeMap ℕ Given) → btree_map_len m ≡ 0 → names_from (λ a. option_map given_seen (get nat_cmp m a)) 0 0x1_0000 ≡ []
+names_empty m none = names_same (λ a. option_map given_seen (get nat_cmp m a)) (λ a. None) (gets_none m m.entries refl none) 0 0x1_0000 ∙ names_none 0 0x1_0000
 
 -- ---- a group more
 

@@ -202,6 +202,9 @@ impl<'a, A: Allocator + Copy> Index<'a, A> {
         ensures { Gives (λ p. p) result (Ok (names_from (λ a. option_map given_seen (get nat_cmp self.now.by_address a)) 0 0x1_0000)) }
     {
         let mut names = Pool::new(alloc);
+        if self.by_address.is_empty() {
+            return Ok(names);
+        }
         for address in 0..ADDRESSES {
             names = names.with_optional(self.by_address.get(&(address as u16)))?;
         }

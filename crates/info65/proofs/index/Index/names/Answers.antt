@@ -8,7 +8,7 @@ use Rattle.info65.specs.Labels.{names_from}
 use Rattle.info65.specs.Views.{NameView}
 use Rattle.info65.specs.declared.fault.InfoFault.{InfoFault}
 use Rattle.info65.specs.declared.name.Given.{Given}
-use Rattle.info65.proofs.IndexLemmas.{names_next, names_over}
+use Rattle.info65.proofs.IndexLemmas.{names_empty, names_next, names_over}
 use Rattle.info65.proofs.index.Index.names.Goals as goal
 
 same : {x y : List NameView} → ◌≡◌ {A = Result (List NameView) InfoFault} (Ok x) (Ok y) → x ≡ y
@@ -28,3 +28,6 @@ returns g c =
     let f : ℕ → Option NameView = λ a. option_map given_seen (get nat_cmp c.args.self.now.by_address a) in
     let over = names_over f c.loop-address.address (omega arith) in
     ap (λ (l : List NameView). Ok l) (sym (sym (append-nil c.loop-address.names) ∙ ap (λ (l : List NameView). c.loop-address.names ++ l) (sym over) ∙ c.loop-address.invariant))
+
+pub returns-then-is_empty : goal.returns-then-is_empty
+returns-then-is_empty g c = ap (λ (l : List NameView). Ok l) (names_empty c.args.self.now.by_address (c.is_empty.ensures.0 c.if-is_empty.true) ∙ sym c.new-names.ensures)
