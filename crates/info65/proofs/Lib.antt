@@ -20,5 +20,6 @@ pub mod ReservedLemmas
 pub mod SegmentCovering
 pub mod SegmentLemmas
 pub mod SegmentTableLemmas
+pub mod SpellingLemmas
 pub mod StandLemmas
 pub mod TokenLemmas

@@ -7,6 +7,7 @@ pub mod Faults
 pub mod Grammar
 pub mod Groups
 pub mod IncludeGroups
+pub mod IncludeLaws
 pub mod Includes
 pub mod Labels
 pub mod Laws

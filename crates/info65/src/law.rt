@@ -1,5 +1,6 @@
 //! Laws of information files.
 
+ghost use Rattle.info65.specs.IncludeLaws.{LinesSpelled};
 ghost use Rattle.info65.specs.Laws.{AcceptsFiles, GivenOnce, GlobalOnce, OverlapsShare, RangesApart, RefusesFirst};
 ghost use Rattle.info65.specs.NameLaws.{CoversHighest, NamesGiven, OwnAddressWins};
 ghost use Rattle.info65.specs.NameFaultLaws.{DistinctAccepted, NameFaults, ReservedNames};
@@ -104,4 +105,12 @@ pub fn name_faults()
 #[tactic(auto, using(crate::proofs::NameFaultLemmas::distinct_accepted))]
 pub fn distinct_accepted()
     ensures { DistinctAccepted }
+{}
+
+/// A line of an include file gives a name exactly where it spells that name and its address: blanks around each part,
+/// `=` or `:=`, a value that is decimal or has `$` or `%` before it, then a comment, one carriage return or nothing.
+/// It gives nothing exactly where it is blank up to there.
+#[tactic(auto, using(crate::proofs::SpellingLemmas::lines_spelled))]
+pub fn lines_spelled()
+    ensures { LinesSpelled }
 {}

@@ -1,0 +1,51 @@
+-- Laws of include files: what a line of one spells.
+use Rattle.std.specs.Prelude.{◌≡◌, ◌⊎◌, ◌↔◌, ◌++◌, ◌==◌, ℕ, not, true, List, [], ◌∷◌, Some, None, Ok, codes}
+use Rattle.std.specs.List.{list_all}
+use Rattle.info65.specs.Includes.{address_written, is_blank, is_identifier, line_in, plain_name}
+use Rattle.info65.specs.Views.{NameView}
+
+-- What can follow the text of a line: nothing, a carriage return (13), or a comment, which goes to the end.
+abbrev pub EndsLine : ℕ → List ℕ → Type 0
+EndsLine comment_start rest = (rest ≡ []) ⊎ ((rest ≡ 13 ∷ []) ⊎ ((more : List ℕ) × (rest ≡ comment_start ∷ more)))
+
+-- the text of a line: what comes before its end, without a byte that begins a comment
+pub record IsText (comment_start : ℕ) (line text : List ℕ) : Type 0 where
+  pub rest : List ℕ
+  pub is : line ≡ text ++ rest
+  pub ends : EndsLine comment_start rest
+  pub free : list_all (λ b. not (b == comment_start)) text ≡ true
+
+-- a name, `=` or `:=`, and a value that writes its address, with blanks around each part
+pub record IsAssignment (text : List ℕ) (n : NameView) : Type 0 where
+  pub first : List ℕ
+  pub second : List ℕ
+  pub third : List ℕ
+  pub fourth : List ℕ
+  pub sign : List ℕ
+  pub value : List ℕ
+  pub is : text ≡ first ++ (n.text ++ (second ++ (sign ++ (third ++ (value ++ fourth)))))
+  pub blank : list_all is_blank (first ++ (second ++ (third ++ fourth))) ≡ true
+  pub signed : (sign ≡ codes "=") ⊎ (sign ≡ codes ":=")
+  pub form : is_identifier n.text ≡ true
+  pub written : address_written value ≡ Some n.address
+  pub plain : n ≡ plain_name n.text n.address
+
+-- a line whose text spells a name and its address
+pub record IsSpelling (comment_start : ℕ) (line : List ℕ) (n : NameView) : Type 0 where
+  pub text : List ℕ
+  pub before_comment : IsText comment_start line text
+  pub assignment : IsAssignment text n
+
+-- a line of blanks, up to its comment
+pub record IsBlankLine (comment_start : ℕ) (line : List ℕ) : Type 0 where
+  pub text : List ℕ
+  pub before_comment : IsText comment_start line text
+  pub blank : list_all is_blank text ≡ true
+
+-- A line gives a name exactly where it spells that name, and nothing exactly where it is blank.
+pub record IsLineLaw (comment_start : ℕ) (line : List ℕ) : Type 0 where
+  pub gives : (n : NameView) → (line_in comment_start line ≡ Ok (Some n)) ↔ IsSpelling comment_start line n
+  pub empty : (line_in comment_start line ≡ Ok None) ↔ IsBlankLine comment_start line
+
+abbrev pub LinesSpelled : Type 0
+LinesSpelled = (comment_start : ℕ) (line : List ℕ) → IsLineLaw comment_start line
