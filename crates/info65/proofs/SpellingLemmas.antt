@@ -1,7 +1,8 @@
 -- What a line of an include file spells.
 use Rattle.std.proofs.Common.{◌≡◌, ◌∙◌, ◌==◌, ◌<◌, ◌≤◌, ◌+◌, ◌-◌, ℕ, zero, suc, Bool, true, false, not, List, [], ◌∷◌, ◌++◌, ⊎_elim, ap, append_assoc, arith, drop, get_or, inl, inr, length, length-append, refl, sym, take}
-use Rattle.std.specs.Prelude.{◌⊎◌, ◌&&◌, ◌↔◌, Option, Some, None, Result, Ok, codes, nat_lt, option_map, reverse}
+use Rattle.std.specs.Prelude.{◌⊎◌, ◌&&◌, ◌↔◌, Option, Some, None, Result, Ok, codes, nat_le, nat_lt, option_map, reverse}
 use Rattle.std.specs.Char.{is_digit}
+use Rattle.std.specs.Str.Parse.{digits_value}
 use Rattle.std.specs.Io.BufRead.{ends_with_byte, strip_last}
 use Rattle.std.specs.List.{after_first, before_first, list_all, position_or_len, prefix_len, suffix_len}
 use Rattle.std.proofs.Math.ListN.{drop_of_length-le}
@@ -12,7 +13,7 @@ use Rattle.std.proofs.lemmas.List.{append-nil, drop_more, length-drop, length-re
 use Rattle.std.proofs.lemmas.List.Folds.{list_all-append, list_all_at}
 use Rattle.std.proofs.lemmas.List.Sums.{passes_at_first, prefix_len-le-length, split_at_first}
 use Rattle.info65.specs.Includes.{address_written, after_sign, as_address, assignment_in, before_sign, is_blank, is_identifier, line_in, or_bad, plain_name, trimmed, trimmed_end, without_comment}
-use Rattle.info65.specs.IncludeLaws.{EndsLine, IsAssignment, IsBlankLine, IsSpelling, IsText, LinesSpelled}
+use Rattle.info65.specs.IncludeLaws.{AreDigitsOf, EndsLine, IsAssignment, IsBlankLine, IsSpelling, IsText, LinesSpelled, WritesAddress}
 use Rattle.info65.specs.Lexemes.{are_digits, number_in, starts_word}
 use Rattle.info65.specs.Names.{is_name_byte}
 use Rattle.info65.specs.Views.{NameView}
@@ -315,6 +316,69 @@ name_no_equals b h = grind (arith, nat_tests, h)
 name_no_colon : (b : ℕ) → is_name_byte b ≡ true → other 58 b ≡ true
 name_no_colon b h = grind (arith, nat_tests, h)
 
+-- ---- the address that a value writes
+
+number_writes : (radix : ℕ) (ds : List ℕ) (a : ℕ) → as_address (number_in radix ds) ≡ Some a → AreDigitsOf radix ds a
+unfolding number_in
+number_writes radix ds a is =
+    by_test (length ds == 0)
+    (λ none. let wrong : ◌≡◌ {A = Option ℕ} None (Some a) = rw none at is in absurd cc)
+    (λ some. by_test (are_digits radix ds)
+    (λ hit. by_test (nat_le (digits_value radix ds) 0xFFFF_FFFF)
+    (λ fits. by_test (nat_le (digits_value radix ds) 0xFFFF)
+    (λ low. let same : ◌≡◌ {A = Option ℕ} (Some (digits_value radix ds)) (Some a) = rw (some, hit, fits, low) at is in
+    let number : digits_value radix ds ≡ a = cc in
+    record { some = grind (arith, nat_tests, some); each = hit; number = number; in_range = grind (arith, nat_tests, low, number) })
+    (λ high. let wrong : ◌≡◌ {A = Option ℕ} None (Some a) = rw (some, hit, fits, high) at is in absurd cc))
+    (λ large. let wrong : ◌≡◌ {A = Option ℕ} None (Some a) = rw (some, hit, large) at is in absurd cc))
+    (λ miss. let wrong : ◌≡◌ {A = Option ℕ} None (Some a) = rw (some, miss) at is in absurd cc))
+
+number_written : (radix : ℕ) (ds : List ℕ) (a : ℕ) → AreDigitsOf radix ds a → as_address (number_in radix ds) ≡ Some a
+unfolding number_in
+number_written radix ds a w =
+    let some : (length ds == 0) ≡ false = grind (arith, nat_tests, w.some) in
+    let fits : nat_le a 0xFFFF_FFFF ≡ true = grind (arith, nat_tests, w.in_range) in
+    let low : nat_le a 0xFFFF ≡ true = grind (arith, nat_tests, w.in_range) in
+    rw (some, w.each, w.number, fits, low) refl
+
+writes : (v : List ℕ) (a : ℕ) → address_written v ≡ Some a → WritesAddress v a
+unfolding address_written
+writes [] a is = absurd cc
+writes (b ∷ bs) a is =
+    by_test (b == 36)
+    (λ hex. inr (inl (bs, ap (λ c. c ∷ bs) (eqb_is b 36 hex), number_writes 16 bs a (rw hex at is))))
+    (λ other_one. by_test (b == 37)
+    (λ binary. inr (inr (bs, ap (λ c. c ∷ bs) (eqb_is b 37 binary), number_writes 2 bs a (rw (other_one, binary) at is))))
+    (λ decimal. inl (number_writes 10 (b ∷ bs) a (rw (other_one, decimal) at is))))
+
+digit_high : (b : ℕ) → is_digit b 10 ≡ true → 48 ≤ b
+digit_high b h =
+    by_test (nat_lt b 48)
+    (λ less. let wrong : nat_lt 36 10 ≡ true = rw less at h in absurd (false≢true wrong))
+    (λ more. grind (arith, nat_tests, more))
+
+decimal_written : (v : List ℕ) (a : ℕ) → AreDigitsOf 10 v a → address_written v ≡ Some a
+unfolding address_written
+decimal_written [] a w = absurd (omega (arith, w.some))
+decimal_written (b ∷ bs) a w =
+    let high : 48 ≤ b = digit_high b (and_parts (is_digit b 10) (are_digits 10 bs) w.each).0 in
+    let hex : (b == 36) ≡ false = grind (arith, nat_tests, high) in
+    let binary : (b == 37) ≡ false = grind (arith, nat_tests, high) in
+    rw (hex, binary) (number_written 10 (b ∷ bs) a w)
+
+hex_written : (ds : List ℕ) (a : ℕ) → AreDigitsOf 16 ds a → address_written (36 ∷ ds) ≡ Some a
+unfolding address_written
+hex_written ds a w = number_written 16 ds a w
+
+binary_written : (ds : List ℕ) (a : ℕ) → AreDigitsOf 2 ds a → address_written (37 ∷ ds) ≡ Some a
+unfolding address_written
+binary_written ds a w = number_written 2 ds a w
+
+written_is : (v : List ℕ) (a : ℕ) → WritesAddress v a → address_written v ≡ Some a
+written_is v a (inl w) = decimal_written v a w
+written_is v a (inr (inl w)) = ap address_written w.1 ∙ hex_written w.0 a w.2
+written_is v a (inr (inr w)) = ap address_written w.1 ∙ binary_written w.0 a w.2
+
 -- ---- an assignment
 
 regroup : (f n s r : List ℕ) → (f ++ (n ++ s)) ++ r ≡ f ++ (n ++ (s ++ r))
@@ -358,7 +422,7 @@ assigned t n is =
       blank = four_blank p.before p.after q.before q.after p.blank_before p.blank_after q.blank_before q.blank_after;
       signed = signed;
       form = form;
-      written = written;
+      written = writes value a written;
       plain = refl;
     }
 
@@ -394,7 +458,7 @@ unfolding assignment_in
 assigns t n a =
     let named : trimmed (before_sign t) ≡ n.text = ap trimmed (sides a.signed).0 ∙ trimmed_is a.first n.text a.second word.some b.first word.seen b.second in
     let valued : trimmed (after_sign t) ≡ a.value = ap trimmed (sides a.signed).1 ∙ trimmed_is a.third a.value a.fourth number.some b.third number.seen b.fourth in
-    rw (named, valued, a.form, a.written) (ap (λ (m : NameView). Some m) (sym a.plain))
+    rw (named, valued, a.form, written_is a.value n.address a.written) (ap (λ (m : NameView). Some m) (sym a.plain))
   where
     b : Blanks t n a
     b = blanks t n a
@@ -403,7 +467,7 @@ assigns t n a =
     word = name_solid n.text a.form
 
     number : Solid a.value
-    number = value_solid a.value n.address a.written
+    number = value_solid a.value n.address (written_is a.value n.address a.written)
 
     left : List ℕ
     left = a.first ++ (n.text ++ a.second)
@@ -440,7 +504,7 @@ no_return t n a =
     let spaces : (xs : List ℕ) → list_all is_blank xs ≡ true → list_all (other 13) xs ≡ true = all_more is_blank (other 13) blank_no_return in
     let signs : list_all (other 13) a.sign ≡ true = ⊎_elim (λ e. ap (list_all (other 13)) e) (λ e. ap (list_all (other 13)) e) a.signed in
     let word = all_more visible (other 13) visible_no_return n.text (name_solid n.text a.form).seen in
-    let number = all_more visible (other 13) visible_no_return a.value (value_solid a.value n.address a.written).seen in
+    let number = all_more visible (other 13) visible_no_return a.value (value_solid a.value n.address (written_is a.value n.address a.written)).seen in
     let tail = all_both (other 13) a.third (a.value ++ a.fourth) (spaces a.third b.third) (all_both (other 13) a.value a.fourth number (spaces a.fourth b.fourth)) in
     let middle = all_both (other 13) a.second (a.sign ++ (a.third ++ (a.value ++ a.fourth))) (spaces a.second b.second) (all_both (other 13) a.sign (a.third ++ (a.value ++ a.fourth)) signs tail) in
     ap (list_all (other 13)) a.is

@@ -1,7 +1,9 @@
 -- Laws of include files: what a line of one spells.
-use Rattle.std.specs.Prelude.{◌≡◌, ◌⊎◌, ◌↔◌, ◌++◌, ◌==◌, ℕ, not, true, List, [], ◌∷◌, Some, None, Ok, codes}
+use Rattle.std.specs.Prelude.{◌≡◌, ◌⊎◌, ◌↔◌, ◌++◌, ◌==◌, ◌<◌, ◌≤◌, ℕ, not, true, List, [], ◌∷◌, Some, None, Ok, codes, length}
 use Rattle.std.specs.List.{list_all}
-use Rattle.info65.specs.Includes.{address_written, is_blank, is_identifier, line_in, plain_name}
+use Rattle.std.specs.Str.Parse.{digits_value}
+use Rattle.info65.specs.Includes.{is_blank, is_identifier, line_in, plain_name}
+use Rattle.info65.specs.Lexemes.{are_digits}
 use Rattle.info65.specs.Views.{NameView}
 
 -- What can follow the text of a line: nothing, a carriage return (13), or a comment, which goes to the end.
@@ -15,6 +17,19 @@ pub record IsText (comment_start : ℕ) (line text : List ℕ) : Type 0 where
   pub ends : EndsLine comment_start rest
   pub free : list_all (λ b. not (b == comment_start)) text ≡ true
 
+-- one or more digits of this radix, whose number is an address
+pub record AreDigitsOf (radix : ℕ) (digits : List ℕ) (address : ℕ) : Type 0 where
+  pub some : 0 < length digits
+  pub each : are_digits radix digits ≡ true
+  pub number : digits_value radix digits ≡ address
+  pub in_range : address ≤ 0xFFFF
+
+-- decimal digits, `$` (36) and hex digits, or `%` (37) and binary digits
+abbrev pub WritesAddress : List ℕ → ℕ → Type 0
+WritesAddress value address =
+    AreDigitsOf 10 value address
+    ⊎ (((digits : List ℕ) × (value ≡ 36 ∷ digits) × AreDigitsOf 16 digits address) ⊎ ((digits : List ℕ) × (value ≡ 37 ∷ digits) × AreDigitsOf 2 digits address))
+
 -- a name, `=` or `:=`, and a value that writes its address, with blanks around each part
 pub record IsAssignment (text : List ℕ) (n : NameView) : Type 0 where
   pub first : List ℕ
@@ -27,7 +42,7 @@ pub record IsAssignment (text : List ℕ) (n : NameView) : Type 0 where
   pub blank : list_all is_blank (first ++ (second ++ (third ++ fourth))) ≡ true
   pub signed : (sign ≡ codes "=") ⊎ (sign ≡ codes ":=")
   pub form : is_identifier n.text ≡ true
-  pub written : address_written value ≡ Some n.address
+  pub written : WritesAddress value n.address
   pub plain : n ≡ plain_name n.text n.address
 
 -- a line whose text spells a name and its address

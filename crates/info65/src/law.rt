@@ -108,7 +108,7 @@ pub fn distinct_accepted()
 {}
 
 /// A line of an include file gives a name exactly where it spells that name and its address: blanks around each part,
-/// `=` or `:=`, a value that is decimal or has `$` or `%` before it, then a comment, one carriage return or nothing.
+/// `=` or `:=`, a value up to $FFFF that is decimal or follows `$` or `%`, then a comment, one carriage return or nothing.
 /// It gives nothing exactly where it is blank up to there.
 #[tactic(auto, using(crate::proofs::SpellingLemmas::lines_spelled))]
 pub fn lines_spelled()
