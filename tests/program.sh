@@ -136,6 +136,14 @@ is_absent 'ranges that overlap' new.s
 call="${header}CHROUT          := \$FFD2\n\n        jsr     CHROUT\n"
 default="${header}LFFD2           := \$FFD2\n\n        jsr     LFFD2\n"
 runs 'names of an include file' 0 "$call" '' -i include.info call.bin
+(cd "$root" && "$program" -i examples/kernal.info -o "$work/kernal.s") 2>stderr
+ends 'names of the C64 KERNAL' 0 $? ''
+constants='STATUS          := $0090\nNDX             := $00C6\nCINT            := $FF81\nBSOUT           := $FFD2\n'
+constants+='STOP            := $FFE1\nGETIN           := $FFE4\n\n'
+body='        ldx     #$00\nLC002:  lda     text,x\n        beq     wait\n        jsr     BSOUT\n        inx\n        bne     LC002\n'
+body+='; until a key is pressed, or the STOP key\nwait:   jsr     STOP\n        beq     LC01F\n        lda     NDX\n        beq     wait\n'
+body+='        jsr     GETIN\n        jsr     BSOUT\n        jmp     wait\nLC01F:  rts\n\ntext:   .byte   $93,"PRESS A KEY",$0D,$00\n'
+holds 'names of the C64 KERNAL' kernal.s "$header$constants$body"
 runs 'a faulty line of an include file' 1 '' 'da65: include k.inc:3: bad include line\n' -i strict.info call.bin
 runs 'an include file that is not there' 1 '' 'da65: cannot read include no.inc\n' -i missing.info three.bin
 runs 'an include file that is a folder' 1 '' 'da65: cannot read include folder\n' -i folder.info three.bin
