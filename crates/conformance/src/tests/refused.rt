@@ -49,6 +49,7 @@ fn include_file(rt: HostRuntime) -> Result<(), Fail> {
         let ample = Refusing::after(rt.alloc(), u64::MAX);
         let heap = Refusing::after(rt.alloc(), granted);
         let mut info = read_info(&ample, &options, text)?;
+        assert_eq!(rt; info.includes().len(), 1, "after {granted}");
         let read = read_include(&heap, &mut info, 0, lines);
         refusals.count(&rt, &heap, granted, read.is_err());
         if let Err(fault) = read {
@@ -59,6 +60,7 @@ fn include_file(rt: HostRuntime) -> Result<(), Fail> {
             assert_eq!(rt; fault, memory, "after {granted}");
             assert_eq!(rt; info.given_count(), 1, "after {granted}");
             assert_eq!(rt; info.given(0).text, b"go".as_slice(), "after {granted}");
+            assert_eq!(rt; info.includes().len(), 1, "after {granted}");
             read_include(&ample, &mut info, 0, lines)?;
         }
         assert_eq!(rt; info.given_count(), 3, "after {granted}");

@@ -34,6 +34,18 @@ fn informed(alloc: Global, text: &str) -> Result<Info, InfoFault> {
     read_info(alloc, &Options::<Global>::none(), text.as_bytes())
 }
 
+/// Adds the names of the include file at this place, which the information has.
+fn add(
+    rt: &impl Abort,
+    alloc: Global,
+    info: &mut Info,
+    place: usize,
+    lines: &[u8],
+) -> Result<(), InfoFault> {
+    assert!(rt; place < info.includes().len());
+    read_include(alloc, info, place, lines)
+}
+
 /// Files that are accepted: the information file, the include file, and all names after it.
 const ACCEPTED: &[(&str, &str, Names)] = &[
     (PLAIN, "", &[(3, "go")]),
@@ -81,7 +93,7 @@ const ACCEPTED: &[(&str, &str, Names)] = &[
 fn accepted_include_files(rt: HostRuntime) -> Result<(), Fail> {
     for (text, lines, names) in ACCEPTED {
         let mut info = informed(rt.alloc(), text)?;
-        read_include(rt.alloc(), &mut info, 0, lines.as_bytes())?;
+        add(&rt, rt.alloc(), &mut info, 0, lines.as_bytes())?;
         are_named(&rt, &info, names, lines);
     }
     Ok(())
@@ -125,7 +137,7 @@ fn refused_include_files(rt: HostRuntime) -> Result<(), Fail> {
     for (text, lines, line, kind) in REFUSED {
         let mut info = informed(rt.alloc(), text)?;
         let before = info.given_count();
-        let found = read_include(rt.alloc(), &mut info, 0, lines.as_bytes()).err();
+        let found = add(&rt, rt.alloc(), &mut info, 0, lines.as_bytes()).err();
         let expected = InfoFault {
             line: *line,
             kind: *kind,
@@ -152,7 +164,7 @@ fn prefix_address(size: usize) -> Option<u16> {
 fn each_prefix_of_a_line(rt: HostRuntime) -> Result<(), Fail> {
     for size in 1..LINE.len() + 1 {
         let mut info = informed(rt.alloc(), "ASMINC { FILE \"k.inc\"; };")?;
-        let read = read_include(rt.alloc(), &mut info, 0, &LINE.as_bytes()[..size]);
+        let read = add(&rt, rt.alloc(), &mut info, 0, &LINE.as_bytes()[..size]);
         match prefix_address(size) {
             Some(address) => {
                 assert_eq!(rt; read, Ok(()), "{size}");
@@ -178,10 +190,10 @@ fn refused_and_read_again(rt: HostRuntime) -> Result<(), Fail> {
         line: 2,
         kind: InfoFaultKind::BadInclude,
     };
-    let read = read_include(rt.alloc(), &mut info, 0, b"K = $10\n.bad");
+    let read = add(&rt, rt.alloc(), &mut info, 0, b"K = $10\n.bad");
     assert_eq!(rt; read, Err(expected));
     are_named(&rt, &info, &[], "refused");
-    read_include(rt.alloc(), &mut info, 0, b"K = $20")?;
+    add(&rt, rt.alloc(), &mut info, 0, b"K = $20")?;
     are_named(&rt, &info, &[(0x20, "K")], "read again");
     Ok(())
 }
@@ -190,23 +202,21 @@ fn refused_and_read_again(rt: HostRuntime) -> Result<(), Fail> {
 fn two_include_files(rt: HostRuntime) -> Result<(), Fail> {
     let text = "ASMINC { FILE \"k.inc\"; }; ASMINC { FILE \"j.inc\"; COMMENTSTART '#'; };";
     let mut info = informed(rt.alloc(), text)?;
-    read_include(rt.alloc(), &mut info, 0, b"K = 1 ; one")?;
-    read_include(rt.alloc(), &mut info, 1, b"J = 1\nI = 2 # two\nK = 1")?;
+    add(&rt, rt.alloc(), &mut info, 0, b"K = 1 ; one")?;
+    add(&rt, rt.alloc(), &mut info, 1, b"J = 1\nI = 2 # two\nK = 1")?;
     are_named(&rt, &info, &[(1, "K"), (2, "I")], "two files");
     let expected = InfoFault {
         line: 1,
         kind: InfoFaultKind::NameTwice,
     };
-    assert_eq!(rt;
-        read_include(rt.alloc(), &mut info, 1, b"K = 3"),
-        Err(expected)
-    );
+    let read = add(&rt, rt.alloc(), &mut info, 1, b"K = 3");
+    assert_eq!(rt; read, Err(expected));
     Ok(())
 }
 
 // A line of so many bytes, all of them blanks but for a name at the end.
 fn long_line(alloc: Global, size: usize) -> Result<Vec<u8>, AllocError> {
-    let mut line = vec![in alloc; b' '; size - 3]?;
+    let mut line = vec![in alloc; b' '; size.saturating_sub(3)]?;
     line.extend_from_slice(b"K=1")?;
     Ok(line)
 }
@@ -220,12 +230,13 @@ fn sizes_of_include_files(rt: HostRuntime) -> Result<(), Fail> {
             line: 1,
             kind: InfoFaultKind::TooLarge,
         };
-        let read = read_include(rt.alloc(), &mut info, 0, large.as_slice());
+        let read = add(&rt, rt.alloc(), &mut info, 0, large.as_slice());
         assert_eq!(rt; read, Err(expected), "{text}");
         are_named(&rt, &info, &[(3, "go")], text);
     }
     let mut info = informed(rt.alloc(), PLAIN)?;
-    read_include(rt.alloc(), &mut info, 0, &large.as_slice()[1..])?;
+    let largest = long_line(rt.alloc(), 1_048_576)?;
+    add(&rt, rt.alloc(), &mut info, 0, largest.as_slice())?;
     are_named(&rt, &info, &[(1, "K"), (3, "go")], "1,048,576 bytes");
     Ok(())
 }
@@ -245,7 +256,7 @@ fn lengths_of_names(rt: HostRuntime) -> Result<(), Fail> {
         let mut info = informed(rt.alloc(), PLAIN)?;
         let mut line = vec![in rt.alloc(); b'k'; size]?;
         line.extend_from_slice(b" = 1")?;
-        let read = read_include(rt.alloc(), &mut info, 0, line.as_slice());
+        let read = add(&rt, rt.alloc(), &mut info, 0, line.as_slice());
         assert_eq!(rt; read.err(), expected, "{size}");
         assert_eq!(rt; info.given_count(), if expected.is_some() { 1 } else { 2 });
     }
@@ -263,16 +274,22 @@ fn many_lines(alloc: Global) -> Result<Vec<u8>, AllocError> {
     Ok(text)
 }
 
+// The address has a name of this text.
+fn is_named(info: &Info, address: u16, text: &[u8]) -> bool {
+    match info.covering(address) {
+        Some(given) => given.text == text,
+        None => false,
+    }
+}
+
 #[test]
 fn sixty_thousand_lines(rt: HostRuntime) -> Result<(), Fail> {
     let mut info = informed(rt.alloc(), PLAIN)?;
     let text = many_lines(rt.alloc())?;
-    read_include(rt.alloc(), &mut info, 0, text.as_slice())?;
+    add(&rt, rt.alloc(), &mut info, 0, text.as_slice())?;
     // $0003 keeps the name of the label
     assert_eq!(rt; info.given_count(), 60_000);
-    let found = info.covering(3).map(|given| given.text);
-    assert_eq!(rt; found, Some(b"go".as_slice()));
-    let found = info.covering(54_321).map(|given| given.text);
-    assert_eq!(rt; found, Some(b"m54321".as_slice()));
+    assert!(rt; is_named(&info, 3, b"go"));
+    assert!(rt; is_named(&info, 54_321, b"m54321"));
     Ok(())
 }
