@@ -34,7 +34,7 @@ taken_line {old} {mid} {new} {text} line rest h w = record {
   taken = Appends-more old mid new h.front line h.taken w;
 }
 
--- a front of the first part of what was left is taken
+-- a prefix of the first part of what was left is taken
 pub taken_in_line : {old mid new : Option (List ℕ)} {text : List ℕ} (line rest : List ℕ) → HasTaken old mid text (line ++ rest) → AppendsFront mid new line → AppendsFront old new text
 taken_in_line {old} {mid} {new} {text} line rest h w =
     let whole : HasTaken old new text (w.rest ++ rest) = record {
@@ -50,7 +50,7 @@ line_taken {old} {mid} {new} {text} lines rest line h e w =
     let P : List (List ℕ) → Type 0 = λ ls. HasTaken old mid text (text_of ls) in
     taken_line line (text_of rest) (subst P e h) w
 
--- a front of it is
+-- a prefix of it is
 pub front_taken : {old mid new : Option (List ℕ)} {text : List ℕ} (lines rest : List (List ℕ)) (line : List ℕ) → HasTaken old mid text (text_of lines) → lines ≡ line ∷ rest → AppendsFront mid new line → AppendsFront old new text
 unfolding text_of
 front_taken {old} {mid} {new} {text} lines rest line h e w =

@@ -106,7 +106,7 @@ abbrev pub WrittenIsInstruction : Type 0
 WrittenIsInstruction = (m : Names) (t : Table) (a : ℕ) (bytes : List ℕ) (op : Op) (os : OperandsView)
     → IsWritten m t a bytes op os → statement_in m t a bytes ≡ view.instr op (is_forced t op bytes) os
 
--- Otherwise it is the item's bytes: of an undefined and a cut opcode, and of an instruction whose target leaves the address space.
+-- Otherwise it is the item's bytes: of an undefined and a cut opcode, and of an instruction whose target lies outside the address space.
 abbrev pub UnwrittenIsBytes : Type 0
 UnwrittenIsBytes = (m : Names) (t : Table) (a : ℕ) (bytes : List ℕ) → AreBytes bytes → ((op : Op) (os : OperandsView) → IsWritten m t a bytes op os → ⊥)
     → statement_in m t a bytes ≡ view.bytes (item_in t bytes)
@@ -141,7 +141,7 @@ pub record GivesBytes (all : List Definition) (s : State) (source : SourceLine) 
   pub leads : after s (Some source) ≡ record { at = s.at + length bytes; cpu = s.cpu; above = s.above }
 
 -- The statement of each item of code gives the item's bytes, below the constant lines in a text that defines all names: of an instruction,
--- and of a cut, an undefined and one whose target leaves the address space.
+-- and of a cut, an undefined and one whose target lies outside the address space.
 abbrev pub ItemGivesItsBytes : Type 0
 ItemGivesItsBytes = (image : ImageView) (m : Names) (p : ℕ → Bool) (all : List Definition) (s : State) (bytes : List ℕ)
     → AreSound image m → KnowsAll m all → KnowsConstants m p s.above → AreBytes bytes → 0 < length bytes → s.at + length bytes ≤ 65536

@@ -3,7 +3,7 @@
 -- An absolute operand and the target of a branch go by name if the address has one. An operand in the zero page goes by name only if a
 -- constant line defines the base of the name. Each entry of an address or return table goes by its target's name. Anything else is a
 -- number. `a:` stands before an absolute operand below $100 if the mnemonic has the zero-page mode that is written alike. An undefined or
--- cut opcode, an instruction whose target leaves the address space, and a leftover byte are written as bytes.
+-- cut opcode, an instruction whose target lies outside the address space, and a leftover byte are written as bytes.
 use Rattle.std.specs.Prelude.{ℕ, ◌+◌, ◌-◌, ◌&&◌, nat_lt, Bool, if◌then◌else◌, List, length, slice_index, take, Option, Some, None, is_some}
 use Rattle.std.specs.Option.{option_map}
 use Rattle.isa65.specs.Mode.{len_of}
@@ -48,7 +48,7 @@ zero_page_expr m a = expr_from a (constant_base m (m.base_at a))
 abbrev pub one : ExprView → Option OperandsView
 one e = Some (view.one e)
 
--- The operands of an instruction in a mode at an address: none if its target leaves the address space.
+-- The operands of an instruction in a mode at an address: none if its target lies outside the address space.
 unfoldable pub operands_of : Names → Mode → ℕ → List ℕ → Option OperandsView
 operands_of m Imp a bytes = Some view.none
 operands_of m Acc a bytes = Some view.none

@@ -35,7 +35,7 @@ pub enum SoleOperand {
     Number(u16),
     /// It is this address, by its name if it has one.
     Address(u16),
-    /// It may be a name in the zero page, there are two operands, or the target leaves the address space.
+    /// It may be a name in the zero page, there are two operands, or the target lies outside the address space.
     Other,
 }
 

@@ -192,7 +192,7 @@ impl<'a, A: Allocator> Lines<'a, A> {
     }
 }
 
-/// Writes the lines that are left, one after the other. Takes no memory.
+/// Writes the remaining lines in order. Allocates nothing.
 #[tactic(auto, using(crate::proofs::TakenLemmas::line_taken, crate::proofs::TakenLemmas::front_taken), unfolding(crate::specs::Listing::text_of))]
 pub fn write_lines<A: Allocator, W: Sink>(
     mut lines: Lines<'_, A>,

@@ -20,7 +20,7 @@ use std::alloc::Allocator;
 use stmt65::{Expr, Operands, Statement};
 
 /// The operands of an instruction in this mode at this address, with the names of their addresses: none if its
-/// target leaves the address space.
+/// target lies outside the address space.
 #[tactic(auto, unfolding(crate::specs::Statements::operands_of))]
 fn operands_of<'n, A: Allocator>(
     map: &Map<'_, A>,

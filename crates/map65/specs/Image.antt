@@ -26,7 +26,7 @@ most_of (Some n) = n
 abbrev pub read_limit : SettingsView → ℕ
 read_limit s = s.offset + most_of s.size
 
--- Reading went on to the limit, or to the end if the input is shorter. For a reader that tells its bytes.
+-- Reading went on to the limit, or to the end if the input is shorter. For a reader that reports its bytes.
 abbrev pub IsReadTo : ℕ → Option (List ℕ) → Option (List ℕ) → Type 0
 IsReadTo limit old new = IfSome old (λ xs. new ≡ Some (drop limit xs))
 

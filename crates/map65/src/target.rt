@@ -23,7 +23,7 @@ pub fn word_of(bytes: &[u8]) -> u16
 }
 
 /// Returns the address that a branch leads to by its signed byte from `next`, the address after the instruction,
-/// and `None` if the branch leaves the address space.
+/// and `None` if the branch ends outside the address space.
 #[tactic(auto, unfolding(crate::specs::Targets::target_of))]
 pub fn target_of(next: u32, byte: u8) -> Option<u16>
     requires { next ≤ 65536 }

@@ -58,7 +58,7 @@ pub first_step : (bytes : List ℕ) (p : Part) (more : ℕ) → 0 < length bytes
     → parts bytes ≡ p ∷ parts (take (length bytes - (more + 1)) (drop (more + 1) bytes))
 first_step bytes p more lt blank remark e f = rw (take_rest, e, f) (parts_here bytes lt (blank lt) remark)
 
--- ---- a part that is a front of the slice
+-- ---- a part that is a prefix of the slice
 
 take_first : (bytes : List ℕ) (n : ℕ) → 0 < length bytes → take (n + 1) bytes ≡ get_or bytes 0 0 ∷ take n (drop 1 bytes)
 take_first [] n lt = absurd (omega arith)

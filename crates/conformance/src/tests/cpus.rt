@@ -145,7 +145,7 @@ const LISTED: &[Listed] = &[
         info: "",
         body: "        .byte   $07\n        .byte   $12\n        .byte   $34\n",
     },
-    // a branch on a bit that leaves the address space, and one that does not
+    // a branch on a bit to outside the address space, and one that stays inside
     Listed {
         cpu: "65C02",
         start: 0xFFFD,

@@ -214,7 +214,7 @@ fn two_include_files(rt: HostRuntime) -> Result<(), Fail> {
     Ok(())
 }
 
-// A line of so many bytes, all of them blanks but for a name at the end.
+// A line of that many bytes, all of them blanks but for a name at the end.
 fn long_line(alloc: Global, size: usize) -> Result<Vec<u8>, AllocError> {
     let mut line = vec![in alloc; b' '; size.saturating_sub(3)]?;
     line.extend_from_slice(b"K=1")?;

@@ -3,7 +3,7 @@ use Rattle.std.specs.Prelude.{◌≡◌, ℕ, List, [], drop, length, true, fals
 use Rattle.std.specs.Io.KnownBytes.{Consumes}
 use Rattle.map65.specs.Image.{IsReadTo}
 
--- exactly this many bytes were taken, of a reader that tells its bytes
+-- exactly this many bytes were taken, of a reader that reports its bytes
 pub record Takes (count : ℕ) (old new : Option (List ℕ)) : Type 0 where
   pub bytes : List ℕ
   pub count_is : length bytes ≡ count

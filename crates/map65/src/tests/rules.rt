@@ -162,7 +162,7 @@ impl Ground {
         ))
     }
 
-    /// The target of the item of so many bytes at the address.
+    /// The target of the item of that many bytes at the address.
     fn target(&self, at: usize, len: usize) -> Option<usize> {
         match self.role(at) {
             Some((Code, _)) => self.operand(at, len),
