@@ -1,11 +1,14 @@
 -- The command is one of which `clap` says its matches and faults.
 use Rattle.std.proofs.Common.{◌≡◌, ◌∙◌, ℕ, List, Some, false, true, refl, ap, ap₂}
+use Rattle.std.proofs.lemmas.Result.{IfOk-weaker}
+use Rattle.std.specs.Prelude.{IfOk, Result}
 use Rattle.std.specs.Borrow.{Bor}
 use Rattle.clap.specs.Words.{App, AddsArg, Rule, app_of, is_simple, is_simple_and_free, rule_of, with_rule}
 use Rattle.clap.specs.declared.builder.Arg.{Arg}
 use Rattle.clap.specs.declared.builder.ArgAction.{ArgAction}
 use Rattle.clap.specs.declared.Command.{Command}
 use Rattle.clap.proofs.OnLiterals.{clap_on_literals}
+use Rattle.da65.specs.Code.CommandRules.{AddsRule}
 use Rattle.da65.specs.Command.{app}
 
 -- an argument with this rule, of its command alone
@@ -40,5 +43,9 @@ with_action {action} made has = record {
 }
 
 -- one more argument of a command
-pub with_arg : {old new : Command} {app : App} {a : Arg} {r : Rule} → AddsArg old a new → app_of old ≡ app → HasRule a r → app_of new ≡ with_rule app r
+with_arg : {old new : Command} {app : App} {a : Arg} {r : Rule} → AddsArg old a new → app_of old ≡ app → HasRule a r → app_of new ≡ with_rule app r
 with_arg adds was has = adds.shape has.here ∙ ap₂ with_rule was has.rule
+
+-- the same, of a result
+pub arg_added : {E : Type 0} {a : Arg} {r : Rule} (old : Command) (result : Result Command E) → IfOk result (AddsArg old a) → HasRule a r → AddsRule old r result
+arg_added old result added has = IfOk-weaker result _ _ (λ new adds. with_arg adds refl has) added

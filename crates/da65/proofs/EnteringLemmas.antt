@@ -1,5 +1,5 @@
 -- Which groups are left to decide whether a segment is entered again.
-use Rattle.std.proofs.Common.{◌≡◌, ◌∙◌, ◌+◌, ◌<◌, ◌&&◌, ◌||◌, ℕ, Bool, List, [], ◌∷◌, true, false, ap, length, map, not, refl, sym}
+use Rattle.std.proofs.Common.{◌≡◌, ◌∙◌, ◌+◌, ◌<◌, ◌&&◌, ◌||◌, ℕ, Bool, List, [], ◌∷◌, true, false, ap, length, map, not, refl, subst, sym}
 use Rattle.std.specs.Prelude.{Option, None, Some, cond, is_some}
 use Rattle.std.specs.Borrow.{Bor}
 use Rattle.std.specs.Bool.{OnFalse}
@@ -120,11 +120,30 @@ decided-end m k last test end d =
 
 -- ---- what a map and its image tell
 
-pub address-told : (m : MapView) (image : ImageView) (start k : ℕ) → m.image ≡ image → start ≡ image.start → start + k ≡ m.image.start + k
-address-told m image start k same is = ap (λ (n : ℕ). n + k) (is ∙ ap (λ (i : ImageView). i.start) (sym same))
-
 pub count-told : (m : MapView) (image : ImageView) (bytes : List ℕ) → m.image ≡ image → bytes ≡ image.bytes → length bytes ≡ length m.image.bytes
 count-told m image bytes same is = ap length (is ∙ ap (λ (i : ImageView). i.bytes) (sym same))
+
+-- the k-th byte has this address
+pub record IsByte (m : MapView) (k a : ℕ) : Type 0 where
+  pub address : a ≡ m.image.start + k
+  pub low : k < length m.image.bytes
+
+pub byte-told : (m : MapView) (image : ImageView) (bytes : List ℕ) (start k : ℕ) → m.image ≡ image → bytes ≡ image.bytes → start ≡ image.start → k < length bytes → IsByte m k (start + k)
+byte-told m image bytes start k same are is low = record {
+  address = ap (λ (n : ℕ). n + k) (is ∙ ap (λ (i : ImageView). i.start) (sym same));
+  low = subst (λ (n : ℕ). k < n) (count-told m image bytes same are) low;
+}
+
+-- what is asked of its address is so of that byte
+pub skip-told : (m : MapView) (k a : ℕ) (result t : Bool) → IsByte m k a → result ≡ is_skip (role_of m.info a) → result ≡ t → is_skip (role_of m.info (m.image.start + k)) ≡ t
+skip-told m k a result t here is same = ap (λ (n : ℕ). is_skip (role_of m.info n)) (sym here.address) ∙ sym is ∙ same
+
+pub segment-told : (m : MapView) (k a : ℕ) (s : Option (List ℕ)) → IsByte m k a → s ≡ segment_at m a → segment_at m (m.image.start + k) ≡ s
+segment-told m k a s here is = ap (segment_at m) (sym here.address) ∙ sym is
+
+pub back-told : (m : MapView) (k a : ℕ) (s last : Option (List ℕ)) (test : List ℕ → Bool) (result t : Bool) → IsByte m k a → s ≡ segment_at m a → result ≡ back_by last test s → result ≡ t
+    → back_by last test (segment_at m (m.image.start + k)) ≡ t
+back-told m k a s last test result t here is_s is same = ap (back_by last test) (segment-told m k a s here is_s) ∙ sym is ∙ same
 
 -- ---- no segments
 

@@ -10,11 +10,11 @@ use Rattle.isa65.specs.declared.mode.Mode.{Mode}
 use Rattle.isa65.specs.declared.mode.Mode.TheVariants.{Imp, Acc, Imm, Zp, Zpx, Zpy, Abs, Absx, Absy, Ind, Indx, Indy, Zpind, Absindx, Rel, Zprel}
 use Rattle.isa65.specs.declared.op.Op.{Op}
 use Rattle.stmt65.specs.Views.{OperandsView}
-use Rattle.stmt65.specs.SourceLine.{Value, Instr, Direct, DirectX, DirectY}
+use Rattle.stmt65.specs.SourceLine.{Form, Value, Instr, Direct, DirectX, DirectY}
 use Rattle.stmt65.specs.declared.source_line.AddressSize.TheVariants.{Automatic}
 use Rattle.stmt65.specs.Printed.{source_form, source_value}
 use Rattle.stmt65.specs.Symbols.{Definition, has_zero_page_size}
-use Rattle.stmt65.specs.Coding.{Fixed, LowFirst, coding}
+use Rattle.stmt65.specs.Coding.{Fixed, LowFirst, ZeroPage, coding}
 use Rattle.map65.specs.ImageView.{ImageView}
 use Rattle.map65.specs.Targets.{word_of}
 use Rattle.da65.specs.BaseNames.{AreSound, Names}
@@ -36,43 +36,32 @@ module _ (image : ImageView) (m : Names) (p : ℕ → Bool) (names : AreSound im
   small_size : (bytes : List ℕ) → HasKnownSize m (word_of bytes) → nat_lt (word_of bytes) 256 ≡ true → has_zero_page_size above (source_value (address_expr m (word_of bytes))) ≡ true
   small_size bytes sized small = sym (ap (λ e. has_zero_page_size above (source_value e)) (one-expr m (word_of bytes) sized)) ∙ zero_page_small image m p above (word_of bytes) names known small
 
+  -- a mnemonic that has a zero-page mode is coded in that one, if it codes this form so
+  shorter : (zp : Mode) (v : Value) (form : Form) → is_some (cond (is_some (encoded (table_of cpu) n zp)) (Some zp) None) ≡ true
+      → ((z : ℕ) → encoded (table_of cpu) n zp ≡ Some z → coding cpu above (Instr n form) ≡ Some (Fixed z ∷ ZeroPage v ∷ []))
+      → coding cpu above (Instr n form) ≡ Some (Fixed b ∷ LowFirst v ∷ []) → ⊥
+  shorter zp v form has codes h = go (encoded (table_of cpu) n zp) refl has
+    where
+      go : (o : Option ℕ) → encoded (table_of cpu) n zp ≡ o → is_some (cond (is_some o) (Some zp) None) ≡ true → ⊥
+      go None f is = cc
+      go (Some z) f is = let short = codes z f in cc
+
   -- what needs `a:` is coded in another mode without it
   codes_other : (mode : Mode) (a : ℕ) (bytes : List ℕ) → HasKnownSize m (word_of bytes) → needs cpu n mode bytes ≡ true
       → IfSome (operands_of m mode a bytes) (λ os. coding cpu above (Instr n (source_form mode false os)) ≡ Some (Fixed b ∷ fragments_in mode os) → ⊥)
   unfolding operands_of source_form
   codes_other Abs a bytes sized e =
       let both = and_parts _ (nat_lt (word_of bytes) 256) e in
-      go (encoded (table_of cpu) n Zp) refl both.0 (small_size bytes sized both.1)
-    where
-      v : Value
-      v = source_value (address_expr m (word_of bytes))
-
-      go : (o : Option ℕ) → encoded (table_of cpu) n Zp ≡ o → is_some (cond (is_some (encoded (table_of cpu) n Zp)) (Some Zp) None) ≡ true → has_zero_page_size above v ≡ true
-          → coding cpu above (Instr n (Direct Automatic v)) ≡ Some (Fixed b ∷ LowFirst v ∷ []) → ⊥
-      go None f has size h = let has' = rw f at has in absurd cc
-      go (Some z) f has size h = let short = codes_zp cpu above n z v f size in cc
+      let v : Value = source_value (address_expr m (word_of bytes)) in
+      shorter Zp v (Direct Automatic v) both.0 (λ z f. codes_zp cpu above n z v f (small_size bytes sized both.1))
   codes_other Absx a bytes sized e =
       let both = and_parts _ (nat_lt (word_of bytes) 256) e in
-      go (encoded (table_of cpu) n Zpx) refl both.0 (small_size bytes sized both.1)
-    where
-      v : Value
-      v = source_value (address_expr m (word_of bytes))
-
-      go : (o : Option ℕ) → encoded (table_of cpu) n Zpx ≡ o → is_some (cond (is_some (encoded (table_of cpu) n Zpx)) (Some Zpx) None) ≡ true → has_zero_page_size above v ≡ true
-          → coding cpu above (Instr n (DirectX Automatic v)) ≡ Some (Fixed b ∷ LowFirst v ∷ []) → ⊥
-      go None f has size h = let has' = rw f at has in absurd cc
-      go (Some z) f has size h = let short = codes_zpx cpu above n z v f size in cc
+      let v : Value = source_value (address_expr m (word_of bytes)) in
+      shorter Zpx v (DirectX Automatic v) both.0 (λ z f. codes_zpx cpu above n z v f (small_size bytes sized both.1))
   codes_other Absy a bytes sized e =
       let both = and_parts _ (nat_lt (word_of bytes) 256) e in
-      go (encoded (table_of cpu) n Zpy) refl both.0 (small_size bytes sized both.1)
-    where
-      v : Value
-      v = source_value (address_expr m (word_of bytes))
-
-      go : (o : Option ℕ) → encoded (table_of cpu) n Zpy ≡ o → is_some (cond (is_some (encoded (table_of cpu) n Zpy)) (Some Zpy) None) ≡ true → has_zero_page_size above v ≡ true
-          → coding cpu above (Instr n (DirectY Automatic v)) ≡ Some (Fixed b ∷ LowFirst v ∷ []) → ⊥
-      go None f has size h = let has' = rw f at has in absurd cc
-      go (Some z) f has size h = let short = codes_zpy cpu above n z v f size in cc
+      let v : Value = source_value (address_expr m (word_of bytes)) in
+      shorter Zpy v (DirectY Automatic v) both.0 (λ z f. codes_zpy cpu above n z v f (small_size bytes sized both.1))
   codes_other Imp a bytes sized e = absurd cc
   codes_other Acc a bytes sized e = absurd cc
   codes_other Imm a bytes sized e = absurd cc

@@ -1,6 +1,6 @@
 -- Operands by name: how they are coded, and their bytes.
 use Rattle.std.proofs.Common.{◌≡◌, ℕ, Bool, true, false, cond, ◌+◌, ◌*◌, ◌<◌, ◌≤◌, inl, inr, List, [], ◌∷◌, length, take, drop, Option, Some, None, refl, arith}
-use Rattle.std.specs.Prelude.{nat_lt, is_some, slice_index}
+use Rattle.std.specs.Prelude.{◌&&◌, nat_lt, is_some, slice_index}
 use Rattle.std.proofs.lemmas.Bool.{and_cases, lt-ltb}
 use Rattle.isa65.specs.Cpu.{table_of}
 use Rattle.isa65.specs.Mode.{len_of}
@@ -9,7 +9,9 @@ use Rattle.isa65.specs.declared.cpu.Cpu.{Cpu}
 use Rattle.isa65.specs.declared.mnemonic.Mnemonic.{Mnemonic}
 use Rattle.isa65.specs.declared.mode.Mode.{Mode}
 use Rattle.isa65.specs.declared.mode.Mode.TheVariants.{Imp, Acc, Imm, Zp, Zpx, Zpy, Abs, Absx, Absy, Ind, Indx, Indy, Zpind, Absindx, Rel, Zprel}
-use Rattle.stmt65.specs.SourceLine.{Value, NumberValue, Instr, Direct, DirectX, DirectY}
+use Rattle.stmt65.specs.SourceLine.{Form, Value, NumberValue, Instr, Direct, DirectX, DirectY}
+use Rattle.stmt65.specs.declared.source_line.AddressSize.{AddressSize}
+use Rattle.stmt65.specs.declared.source_line.AddressSize.TheVariants.{Absolute, Automatic}
 use Rattle.stmt65.specs.Printed.{address_size, source_form, source_value}
 use Rattle.stmt65.specs.Symbols.{Definition, has_zero_page_size}
 use Rattle.stmt65.specs.Coding.{Fixed, ZeroPage, LowFirst, Distance, coding}
@@ -46,28 +48,18 @@ module _ (image : ImageView) (n : Names) (p : ℕ → Bool) (names : AreSound im
   small : (bytes : List ℕ) → AreBytes bytes → 2 ≤ length bytes → has_zero_page_size above (short (byte_of bytes)) ≡ true
   small bytes are some = zero_page_small image n p above (byte_of bytes) names known (lt-ltb (byte_of bytes) 256 (are 1 0 (omega arith)))
 
-  absolute_codes : (bytes : List ℕ) (t : Bool) → encoded (table_of cpu) m Abs ≡ Some b → needs cpu m Abs bytes ≡ t
-      → coding cpu above (Instr m (Direct (address_size t) (address (word_of bytes)))) ≡ Some (Fixed b ∷ LowFirst (address (word_of bytes)) ∷ [])
-  absolute_codes bytes true h e = codes_forced cpu above m b (address (word_of bytes)) h
-  absolute_codes bytes false h e = elim (and_cases _ (nat_lt (word_of bytes) 256) e) [
-    | inl none ↦ codes_alone cpu above m b (address (word_of bytes)) h (no_sibling (table_of cpu) m Zp none) (has_zero_page_size above (address (word_of bytes))) refl
-    | inr high ↦ codes_large cpu above m b (address (word_of bytes)) h (large (word_of bytes) high)
-  ]
+  -- the operand is coded in a form as two bytes
+  abbrev IsWide : List ℕ → (Value → Form) → Type 0
+  IsWide bytes form = coding cpu above (Instr m (form (address (word_of bytes)))) ≡ Some (Fixed b ∷ LowFirst (address (word_of bytes)) ∷ [])
 
-  absolute_x_codes : (bytes : List ℕ) (t : Bool) → encoded (table_of cpu) m Absx ≡ Some b → needs cpu m Absx bytes ≡ t
-      → coding cpu above (Instr m (DirectX (address_size t) (address (word_of bytes)))) ≡ Some (Fixed b ∷ LowFirst (address (word_of bytes)) ∷ [])
-  absolute_x_codes bytes true h e = codes_forced_x cpu above m b (address (word_of bytes)) h
-  absolute_x_codes bytes false h e = elim (and_cases _ (nat_lt (word_of bytes) 256) e) [
-    | inl none ↦ codes_alone_x cpu above m b (address (word_of bytes)) h (no_sibling (table_of cpu) m Zpx none) (has_zero_page_size above (address (word_of bytes))) refl
-    | inr high ↦ codes_large_x cpu above m b (address (word_of bytes)) h (large (word_of bytes) high)
-  ]
-
-  absolute_y_codes : (bytes : List ℕ) (t : Bool) → encoded (table_of cpu) m Absy ≡ Some b → needs cpu m Absy bytes ≡ t
-      → coding cpu above (Instr m (DirectY (address_size t) (address (word_of bytes)))) ≡ Some (Fixed b ∷ LowFirst (address (word_of bytes)) ∷ [])
-  absolute_y_codes bytes true h e = codes_forced_y cpu above m b (address (word_of bytes)) h
-  absolute_y_codes bytes false h e = elim (and_cases _ (nat_lt (word_of bytes) 256) e) [
-    | inl none ↦ codes_alone_y cpu above m b (address (word_of bytes)) h (no_sibling (table_of cpu) m Zpy none) (has_zero_page_size above (address (word_of bytes))) refl
-    | inr high ↦ codes_large_y cpu above m b (address (word_of bytes)) h (large (word_of bytes) high)
+  -- it is so in an absolute mode: with `a:`, without the zero-page mode that is written alike, and if the operand is large
+  wide_codes : (zp : Mode) (form : AddressSize → Value → Form) (bytes : List ℕ) (t : Bool)
+      → IsWide bytes (form Absolute) → (encoded (table_of cpu) m zp ≡ None → IsWide bytes (form Automatic)) → (has_zero_page_size above (address (word_of bytes)) ≡ false → IsWide bytes (form Automatic))
+      → (is_some (cond (is_some (encoded (table_of cpu) m zp)) (Some zp) None) && nat_lt (word_of bytes) 256) ≡ t → IsWide bytes (form (address_size t))
+  wide_codes zp form bytes true forced alone wide e = forced
+  wide_codes zp form bytes false forced alone wide e = elim (and_cases _ (nat_lt (word_of bytes) 256) e) [
+    | inl none ↦ alone (no_sibling (table_of cpu) m zp none)
+    | inr high ↦ wide (large (word_of bytes) high)
   ]
 
   -- `absolute` says whether `a:` stands in the mode
@@ -80,9 +72,15 @@ module _ (image : ImageView) (n : Names) (p : ℕ → Bool) (names : AreSound im
   operands_code Zp a bytes t h are long e = codes_zp cpu above m b (short (byte_of bytes)) h (small bytes are long)
   operands_code Zpx a bytes t h are long e = codes_zpx cpu above m b (short (byte_of bytes)) h (small bytes are long)
   operands_code Zpy a bytes t h are long e = codes_zpy cpu above m b (short (byte_of bytes)) h (small bytes are long)
-  operands_code Abs a bytes t h are long e = absolute_codes bytes t h e
-  operands_code Absx a bytes t h are long e = absolute_x_codes bytes t h e
-  operands_code Absy a bytes t h are long e = absolute_y_codes bytes t h e
+  operands_code Abs a bytes t h are long e =
+      let v : Value = address (word_of bytes) in
+      wide_codes Zp Direct bytes t (codes_forced cpu above m b v h) (λ none. codes_alone cpu above m b v h none (has_zero_page_size above v) refl) (λ high. codes_large cpu above m b v h high) e
+  operands_code Absx a bytes t h are long e =
+      let v : Value = address (word_of bytes) in
+      wide_codes Zpx DirectX bytes t (codes_forced_x cpu above m b v h) (λ none. codes_alone_x cpu above m b v h none (has_zero_page_size above v) refl) (λ high. codes_large_x cpu above m b v h high) e
+  operands_code Absy a bytes t h are long e =
+      let v : Value = address (word_of bytes) in
+      wide_codes Zpy DirectY bytes t (codes_forced_y cpu above m b v h) (λ none. codes_alone_y cpu above m b v h none (has_zero_page_size above v) refl) (λ high. codes_large_y cpu above m b v h high) e
   operands_code Ind a bytes t h are long e = codes_ind cpu above m b (address (word_of bytes)) h
   operands_code Indx a bytes t h are long e = codes_indx cpu above m b (short (byte_of bytes)) h (small bytes are long)
   operands_code Indy a bytes t h are long e = codes_indy cpu above m b (short (byte_of bytes)) h (small bytes are long)

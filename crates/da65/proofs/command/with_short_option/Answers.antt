@@ -1,7 +1,5 @@
-use Rattle.std.proofs.Common.{refl}
-use Rattle.std.proofs.lemmas.Result.{IfOk-weaker}
-use Rattle.da65.proofs.CommandLemmas.{with_arg, with_long, with_short}
+use Rattle.da65.proofs.CommandLemmas.{arg_added, with_long, with_short}
 use Rattle.da65.proofs.command.with_short_option.Goals as goal
 
 pub returns : goal.returns
-returns c = IfOk-weaker c.arg.result _ _ (λ new adds. with_arg adds refl (with_long c.long.ensures (with_short c.short.ensures (record { rule = c.new.ensures.rule; here = c.new.ensures.optional.1 })))) c.arg.ensures
+returns c = arg_added _ c.arg.result c.arg.ensures (with_long c.long.ensures (with_short c.short.ensures (record { rule = c.new.ensures.rule; here = c.new.ensures.optional.1 })))
