@@ -18,14 +18,7 @@ use Rattle.info65.specs.declared.attribute.Attribute.{Attribute}
 use Rattle.info65.specs.declared.attribute.GroupKind.{GroupKind}
 use Rattle.info65.specs.declared.fault.InfoFault.{InfoFault}
 use Rattle.info65.specs.declared.fault.InfoFaultKind.{InfoFaultKind}
-
-pub by_result : {A P : Type 0} (r : Result A InfoFault) → ((x : A) → r ≡ Ok x → P) → ((e : InfoFault) → r ≡ Err e → P) → P
-by_result (Ok x) f g = f x refl
-by_result (Err e) f g = g e refl
-
-pub by_test : {P : Type 0} (b : Bool) → (b ≡ true → P) → (b ≡ false → P) → P
-by_test true f g = f refl
-by_test false f g = g refl
+use Rattle.info65.proofs.Cases.{by_result, by_test}
 
 at : {A : Type 0} (P : A → Type 0) (r : Result A InfoFault) (x : A) → r ≡ Ok x → IfOk r P → P x
 at P r x e h = rw e at h

@@ -1,17 +1,13 @@
 -- Which of the names that cover an address is its name.
-use Rattle.std.proofs.Common.{◌≡◌, ◌∙◌, ℕ, zero, suc, ◌+◌, ◌<◌, ◌≤◌, ◌&&◌, Bool, true, false, List, length, refl, ap, sym, arith, ⊎_elim}
+use Rattle.std.proofs.Common.{◌≡◌, ◌∙◌, ℕ, zero, suc, ◌+◌, ◌<◌, ◌≤◌, ◌&&◌, true, false, List, length, refl, ap, sym, arith, ⊎_elim}
 use Rattle.std.specs.Prelude.{Option, Some, None, nat_le, nat_lt}
-use Rattle.std.proofs.lemmas.Bool.{false≢true}
+use Rattle.std.proofs.lemmas.Bool.{and_parts, false≢true}
 use Rattle.std.proofs.lemmas.Bool.Decides.{eqb_tells, nat_tests}
 use Rattle.std.proofs.str.Laws.{order}
 use Rattle.info65.specs.NameLaws.{CoversHighest, IsHighest, OwnAddressWins}
 use Rattle.info65.specs.Names.{AreNames, blank_name, covering, covering_below, covers, name_at}
 use Rattle.info65.specs.Views.{NameView}
-use Rattle.info65.proofs.Accepting.{by_test}
-
-both : (x y : Bool) → (x && y) ≡ true → (x ≡ true) × (y ≡ true)
-both true y h = (refl, h)
-both false y h = absurd (false≢true h)
+use Rattle.info65.proofs.Cases.{by_test, same_some}
 
 record Last (names : List NameView) (a n : ℕ) (v : NameView) : Type 0 where
   index : ℕ
@@ -32,9 +28,6 @@ below_zero : (names : List NameView) (a : ℕ) → covering_below names 0 a ≡ 
 unfolding covering_below
 below_zero names a = refl
 
-same_some : (x v : NameView) → ◌≡◌ {A = Option NameView} (Some x) (Some v) → x ≡ v
-same_some x v is = cc
-
 not_some : (v : NameView) → ◌≡◌ {A = Option NameView} None (Some v) → ⊥
 not_some v is = absurd cc
 
@@ -42,7 +35,7 @@ some_below : (names : List NameView) (a n : ℕ) (v : NameView) → covering_bel
 some_below names a zero v is = absurd (not_some v (sym (below_zero names a) ∙ is))
 some_below names a (suc n) v is =
     by_test (covers (name_at names n) a)
-    (λ hit. record { index = n; low = omega arith; covers_it = hit; is = sym (same_some _ v (sym (below_hits names a n hit) ∙ is)); later = λ i after before. absurd (omega arith) })
+    (λ hit. record { index = n; low = omega arith; covers_it = hit; is = sym (same_some (sym (below_hits names a n hit) ∙ is)); later = λ i after before. absurd (omega arith) })
     (λ miss.
     let r = some_below names a n v (sym (below_misses names a n miss) ∙ is) in
     record {
@@ -117,7 +110,7 @@ own_of names sorted i here (Some b) is =
     let v = name_at names i in
     let r = last_of names v.address b is in
     let w = name_at names r.index in
-    let begun = (both (nat_le w.address v.address) (nat_lt v.address (w.address + w.size)) r.covers_it).0 in
+    let begun = (and_parts (nat_le w.address v.address) (nat_lt v.address (w.address + w.size)) r.covers_it).0 in
     let below : w.address ≤ v.address = grind (arith, nat_tests, begun) in
     ⊎_elim
     (λ before. absurd (false≢true (sym (r.later i before here) ∙ covers_own v.address v.size (sorted.each i blank_name here).sized)))

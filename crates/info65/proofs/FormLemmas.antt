@@ -28,7 +28,8 @@ use Rattle.info65.specs.declared.attribute.GroupKind.TheVariants as group_kind
 use Rattle.isa65.specs.declared.cpu.Cpu.{Cpu}
 use Rattle.info65.specs.declared.fault.InfoFault.{InfoFault}
 use Rattle.info65.specs.declared.range.RangeType.{RangeType}
-use Rattle.info65.proofs.Accepting.{by_test, groups_accepted}
+use Rattle.info65.proofs.Accepting.{groups_accepted}
+use Rattle.info65.proofs.Cases.{by_test}
 
 name_formed : (o : OptionsView) (a : Attribute) (line : ℕ) (text : List ℕ) → IfOk (name_value o a line text) (HasForm form.FileName)
 unfolding name_value

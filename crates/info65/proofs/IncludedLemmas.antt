@@ -1,5 +1,5 @@
 -- The names of an include file.
-use Rattle.std.proofs.Common.{◌≡◌, ◌≢◌, ◌∙◌, ◌+◌, ◌≤◌, ◌<◌, ◌&&◌, ◌==◌, ⊎_elim, ℕ, Bool, List, [], ◌∷◌, ◌++◌, true, false, ap, arith, get_or, inl, inr, length, option_map, refl, subst, sym, take}
+use Rattle.std.proofs.Common.{◌≡◌, ◌≢◌, ◌∙◌, ◌+◌, ◌≤◌, ◌<◌, ◌==◌, ⊎_elim, ℕ, Bool, List, [], ◌∷◌, ◌++◌, true, false, ap, arith, get_or, inl, inr, length, option_map, refl, subst, sym, take}
 use Rattle.std.specs.Prelude.{IfErr, IfOk, Option, Some, None, Result, Ok, Err, nat_le, nat_lt, option_to_list}
 use Rattle.std.specs.List.{list_all, list_any}
 use Rattle.std.specs.Str.{bytes_eq}
@@ -7,6 +7,7 @@ use Rattle.std.proofs.lemmas.Bool.Decides.{eqb_tells, nat_tests}
 use Rattle.std.proofs.lemmas.List.{append-nil, get_or-take, get_or_default, length-take-le}
 use Rattle.std.proofs.lemmas.List.Folds.{list_any_none}
 use Rattle.std.proofs.lemmas.Slice.Eq.{bytes_eq-Decides}
+use Rattle.std.proofs.lemmas.Bool.{and_parts}
 use Rattle.info65.specs.Code.Includes.{Adds, SeesName, name_result_seen}
 use Rattle.info65.specs.Code.Index.{Indexes}
 use Rattle.info65.specs.Code.Names.{given_seen}
@@ -23,7 +24,7 @@ use Rattle.info65.specs.declared.fault.InfoFaultKind.{InfoFaultKind}
 use Rattle.info65.specs.declared.index.Index.{Index}
 use Rattle.info65.specs.declared.name.Given.{Given}
 use Rattle.info65.specs.declared.fault.InfoFaultKind.TheVariants.{BadName, NameTwice, ReservedName, TooLarge}
-use Rattle.info65.proofs.Accepting.{by_result, by_test}
+use Rattle.info65.proofs.Cases.{by_result, by_test}
 use Rattle.info65.proofs.IndexLemmas.{fault_none, no_fault}
 use Rattle.info65.proofs.NamesLemmas.{AreGiven, one_more, sorted_names}
 
@@ -119,15 +120,11 @@ line_plain start line n h =
 
 -- ---- what a line adds
 
-both : (a b : Bool) → (a && b) ≡ true → (a ≡ true) × (b ≡ true)
-both true b h = (refl, h)
-both false b h = absurd cc
-
 identified : (text : List ℕ) → is_identifier text ≡ true → nat_lt 80 (length text) ≡ false → has_name_form text ≡ true
 unfolding is_identifier has_name_form
 identified [] h short = absurd cc
 identified (b ∷ bs) h short =
-    let e = both (starts_word b) (list_all is_name_byte bs) h in
+    let e = and_parts (starts_word b) (list_all is_name_byte bs) h in
     let low : nat_lt (length bs) 80 ≡ true = grind (arith, nat_tests, short) in
     rw (e.0, e.1, low) refl
 

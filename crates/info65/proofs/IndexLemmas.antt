@@ -6,7 +6,7 @@ use Rattle.std.specs.BTreeMap.{BTreeMap, btree_map_len, get}
 use Rattle.std.specs.List.{find, flat_map, list_any}
 use Rattle.std.specs.Ordering.{is_eq, nat_cmp}
 use Rattle.std.specs.Str.{bytes_eq}
-use Rattle.std.proofs.lemmas.Bool.{false≢true}
+use Rattle.std.proofs.lemmas.Bool.{eqb-true, false≢true, or_from, or_left, or_right}
 use Rattle.std.proofs.lemmas.Bool.Decides.{eqb_tells, nat_tests}
 use Rattle.std.proofs.lemmas.List.Folds.{Any-from_list_any, find-append, list_any_none, list_any-append, list_any_at, list_any-from_Any}
 use Rattle.std.proofs.lemmas.Grind.{flat_map-append}
@@ -28,22 +28,8 @@ use Rattle.info65.specs.declared.fault.InfoFaultKind.{InfoFaultKind}
 use Rattle.info65.specs.declared.fault.InfoFaultKind.TheVariants.{AddressTwice, NameTwice, RangesOverlap, ReservedName}
 use Rattle.info65.specs.declared.name.Given.{Given}
 use Rattle.info65.specs.declared.range.RangeSpec.{RangeSpec}
-use Rattle.info65.proofs.Accepting.{by_test}
+use Rattle.info65.proofs.Cases.{by_test, or_last, same_ok}
 use Rattle.info65.proofs.RangeLemmas.{any_shared, closes_range, ranges_more, shared_overlap}
-
-or_left : (a b : Bool) → a ≡ true → (a || b) ≡ true
-or_left a b h = rw h refl
-
-or_right : (a b : Bool) → b ≡ true → (a || b) ≡ true
-or_right true b h = refl
-or_right false b h = h
-
-or_none : (a b : Bool) → a ≡ false → b ≡ false → (a || b) ≡ false
-or_none a b h i = rw h i
-
-neither : (a b : Bool) → (a || b) ≡ false → (a ≡ false) × (b ≡ false)
-neither true b h = absurd (false≢true (sym h))
-neither false b h = (refl, h)
 
 -- ---- marked addresses
 
@@ -73,7 +59,7 @@ any_in_yes table first (suc n) a low high is =
 any_in_no : (table : List Bool) (first n : ℕ) → ((a : ℕ) → first ≤ a → a < first + n → get_or table a false ≡ false) → any_in table first n ≡ false
 unfolding any_in
 any_in_no table first zero h = refl
-any_in_no table first (suc n) h = or_none (get_or table first false) (any_in table (first + 1) n) (h first (omega arith) (omega arith)) (any_in_no table (first + 1) n (λ a low high. h a (omega arith) (omega arith)))
+any_in_no table first (suc n) h = or_from (get_or table first false) (any_in table (first + 1) n) (h first (omega arith) (omega arith)) (any_in_no table (first + 1) n (λ a low high. h a (omega arith) (omega arith)))
 
 within : (r : RangeSpec) (a : ℕ) → has_address r a ≡ true → (r.first ≤ a) × (a ≤ r.last)
 within r a h = by_test (nat_le r.first a)
@@ -148,10 +134,6 @@ elsewhere_is (x ∷ xs) n h =
     in
     rw (same, none) (or_last (not (x.address == n.address))))
     (λ other. rw other (elsewhere_is xs n (distinct_tail x xs h)))
-  where
-    or_last : (b : Bool) → (b || false) ≡ b
-    or_last true = refl
-    or_last false = refl
 
 pub fault_reserved : (names : List NameView) (n : NameView) → is_reserved n.address n.text ≡ true → Some ReservedName ≡ name_fault names n
 unfolding name_fault
@@ -220,24 +202,17 @@ pub range_added : (ranges : List RangeSpec) (names : List NameView) (table after
 range_added ranges names table after found stands r i ordered long marked = record {
   ordered = All-push (λ (x : RangeSpec). x.first ≤ x.last) ranges r i.ordered ordered;
   size = long ∙ i.size;
-  ranged = λ a low. marked a low ∙ ap (λ b. b || has_address r a) (i.ranged a low) ∙ ap (λ b. list_any (λ (x : RangeSpec). has_address x a) ranges || b) (sym (last_or (has_address r a))) ∙ sym (list_any-append (λ (x : RangeSpec). has_address x a) ranges (r ∷ []));
+  ranged = λ a low. marked a low ∙ ap (λ b. b || has_address r a) (i.ranged a low) ∙ ap (λ b. list_any (λ (x : RangeSpec). has_address x a) ranges || b) (sym (or_last (has_address r a))) ∙ sym (list_any-append (λ (x : RangeSpec). has_address x a) ranges (r ∷ []));
   distinct = i.distinct;
   addresses = i.addresses;
   texts = i.texts;
 }
-  where
-    last_or : (b : Bool) → (b || false) ≡ b
-    last_or true = refl
-    last_or false = refl
 
 chosen : {X : Type 0} (b : Bool) (x y : X) → b ≡ true → (if b then x else y) ≡ x
 chosen b x y h = rw h refl
 
 passed : {X : Type 0} (b : Bool) (x y : X) → b ≡ false → (if b then x else y) ≡ y
 passed b x y h = rw h refl
-
-pub eqb_is : (a b : ℕ) → (a == b) ≡ true → a ≡ b
-eqb_is a b h = ⊎_elim (λ same. same.1) (λ other. absurd (false≢true (sym other.0 ∙ h))) (eqb_tells a b)
 
 find_more : {X : Type 0} (p : X → Bool) (xs : List X) (x : X) → find p xs ≡ None → p x ≡ true → find p (xs ++ x ∷ []) ≡ Some x
 find_more p xs x none hit = find-append p xs (x ∷ []) ∙ rw (none, hit) refl
@@ -270,7 +245,7 @@ name_added ranges names table found more stands told n i fine here there =
       addresses = λ a.
           by_test (n.address == a)
           (λ at.
-          let same : n.address ≡ a = eqb_is n.address a at in
+          let same : n.address ≡ a = eqb-true n.address a at in
           let none : find (is_at a) names ≡ None = no_find (is_at a) names (ap (λ (k : ℕ). list_any (is_at k) names) (sym same) ∙ new.untaken) in
           ap (option_map given_seen) (here a ∙ chosen (n.address == a) (Some n) (found a) at) ∙ sym (find_more (is_at a) names (given_seen n) none at))
           (λ apart. ap (option_map given_seen) (here a ∙ passed (n.address == a) (Some n) (found a) apart) ∙ i.addresses a ∙ sym (find_same (is_at a) names (given_seen n) apart));
@@ -344,7 +319,7 @@ marked_end first last a at is = ap (λ b. nat_le first a && b) (let e : nat_lt a
 pub key_is : (k q : ℕ) → is_eq (nat_cmp k q) ≡ (k == q)
 key_is k q =
     by_test (k == q)
-    (λ same. let e : k ≡ q = eqb_is k q same in let f : nat_lt k q ≡ false = grind (arith, nat_tests, e) in rw (f, same) refl)
+    (λ same. let e : k ≡ q = eqb-true k q same in let f : nat_lt k q ≡ false = grind (arith, nat_tests, e) in rw (f, same) refl)
     (λ apart. by_test (nat_lt k q) (λ low. rw (low, apart) refl) (λ high. rw (high, apart) refl))
 
 -- ---- names by address
@@ -393,20 +368,14 @@ closes_label before given h = closed_label (names_said before) given (label_in g
 pub label_fine : (before : List GroupView) (given : List AssignmentView) (n : NameView) → closing_fault before kind.Label given ≡ None → label_in given ≡ Ok n → name_fault (names_said before) n ≡ None
 label_fine before given n h is =
     let c = closes_label before given h in
-    let same : c.name ≡ n = ok_same (sym c.is ∙ is) in
+    let same : c.name ≡ n = same_ok (sym c.is ∙ is) in
     ap (name_fault (names_said before)) (sym same) ∙ c.fine
-  where
-    ok_same : {x y : NameView} → ◌≡◌ {A = Result NameView InfoFaultKind} (Ok x) (Ok y) → x ≡ y
-    ok_same h = cc
 
 pub range_fine : (before : List GroupView) (given : List AssignmentView) (r : RangeSpec) → closing_fault before kind.Range given ≡ None → range_in given ≡ Ok r → optional_name_fault (names_said before) (range_name given r) ≡ None
 range_fine before given r h is =
     let c = closes_range before given h in
-    let same : c.range ≡ r = ok_same (sym c.is ∙ is) in
+    let same : c.range ≡ r = same_ok (sym c.is ∙ is) in
     ap (λ (x : RangeSpec). optional_name_fault (names_said before) (range_name given x)) (sym same) ∙ c.named
-  where
-    ok_same : {x y : RangeSpec} → ◌≡◌ {A = Result RangeSpec InfoFaultKind} (Ok x) (Ok y) → x ≡ y
-    ok_same h = cc
 
 moved : (ranges rs : List RangeSpec) (names ns : List NameView) (t : List Bool) (f : ℕ → Option Given) (s : List ℕ → Option ℕ) → rs ≡ ranges → ns ≡ names → IsIndex ranges names t f s → IsIndex rs ns t f s
 moved ranges rs names ns t f s e d i = rw (e, d) i

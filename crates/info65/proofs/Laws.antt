@@ -13,7 +13,8 @@ use Rattle.info65.specs.Tokens.{TokenView, tokens_of}
 use Rattle.info65.specs.Views.{InfoView, OptionsView}
 use Rattle.info65.specs.declared.fault.InfoFault.{InfoFault}
 use Rattle.info65.specs.declared.fault.InfoFaultKind.TheVariants.{Expected, TooLarge}
-use Rattle.info65.proofs.Accepting.{accepted_groups, by_result, by_test, groups_accepted}
+use Rattle.info65.proofs.Accepting.{accepted_groups, groups_accepted}
+use Rattle.info65.proofs.Cases.{by_result, by_test}
 
 said : (o : OptionsView) (bytes : List ℕ) (info : InfoView) (r : Result (List GroupView) InfoFault) → length bytes ≤ 1_048_576 → groups_of o bytes ≡ r → (r >>= λ groups. Ok (info_of o groups)) ≡ Ok info → IsInformation o bytes info
 unfolding groups_of read

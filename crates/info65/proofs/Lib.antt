@@ -1,4 +1,5 @@
 pub mod Accepting
+pub mod Cases
 pub mod CoveringLemmas
 pub mod FormLemmas
 pub mod GroupLemmas

@@ -3,8 +3,7 @@ use Rattle.std.proofs.Common.{◌≡◌, ◌≢◌, ◌∙◌, ◌==◌, ◌<◌
 use Rattle.std.specs.Prelude.{◌↔◌, All, Any, Option, Some, None, Ok}
 use Rattle.std.specs.List.{list_any}
 use Rattle.std.specs.Str.{bytes_eq}
-use Rattle.std.proofs.lemmas.Bool.{false≢true}
-use Rattle.std.proofs.lemmas.Bool.Decides.{nat_tests}
+use Rattle.std.proofs.lemmas.Bool.{and_parts, eq-eqb, eqb-true, false≢true, ne_eqb}
 use Rattle.std.proofs.lemmas.List.{append-nil, get_or_append_left, get_or_at}
 use Rattle.std.proofs.lemmas.List.Elements.{All-push}
 use Rattle.std.proofs.lemmas.List.Folds.{Any-from_list_any, list_any-from_Any, list_any_at}
@@ -22,9 +21,9 @@ use Rattle.info65.specs.declared.attribute.GroupKind.TheVariants as kind
 use Rattle.info65.specs.declared.fault.InfoFaultKind.{InfoFaultKind}
 use Rattle.info65.specs.declared.fault.InfoFaultKind.TheVariants.{AddressTwice, NameTwice, ReservedName}
 use Rattle.info65.specs.declared.range.RangeSpec.{RangeSpec}
-use Rattle.info65.proofs.Accepting.{by_test}
-use Rattle.info65.proofs.IndexLemmas.{eqb_is, fault_elsewhere, fault_none, fault_reserved, fault_taken, range_overlaps}
-use Rattle.info65.proofs.RangeLemmas.{and_parts, overlaps_share}
+use Rattle.info65.proofs.Cases.{by_test}
+use Rattle.info65.proofs.IndexLemmas.{fault_elsewhere, fault_none, fault_reserved, fault_taken, range_overlaps}
+use Rattle.info65.proofs.RangeLemmas.{overlaps_share}
 use Rattle.info65.proofs.ReservedLemmas.{reserved_names}
 
 -- ---- tests of all names
@@ -40,12 +39,6 @@ none_hit p names h =
     by_test (list_any p names)
     (λ hit. let x = Any-from_list_any p names hit in let wrong : p x.1 ≡ false = subst (λ (m : NameView). p m ≡ false) x.3 (h x.0 x.1 x.2) in absurd (false≢true (sym wrong ∙ x.4)))
     (λ miss. miss)
-
-eqb_same : (a b : ℕ) → a ≡ b → (a == b) ≡ true
-eqb_same a b e = grind (arith, nat_tests, e)
-
-eqb_other : (a b : ℕ) → a ≢ b → (a == b) ≡ false
-eqb_other a b h = by_test (a == b) (λ hit. absurd (h (eqb_is a b hit))) (λ miss. miss)
 
 -- ---- the three tests
 
@@ -64,18 +57,18 @@ IsElsewhere n m = (m.text ≡ n.text) × (m.address ≢ n.address)
 elsewhere_hit : (n m : NameView) → is_elsewhere n m ≡ true → IsElsewhere n m
 elsewhere_hit n m h =
     let p = and_parts (bytes_eq n.text m.text) (not (m.address == n.address)) h in
-    (sym ((bytes_eq-Decides n.text m.text).0 p.0), λ same. let hit = eqb_same m.address n.address same in let wrong : false ≡ true = rw hit at p.1 in absurd cc)
+    (sym ((bytes_eq-Decides n.text m.text).0 p.0), λ same. let hit = eq-eqb m.address n.address same in let wrong : false ≡ true = rw hit at p.1 in absurd cc)
 
 hit_elsewhere : (n m : NameView) → IsElsewhere n m → is_elsewhere n m ≡ true
 hit_elsewhere n m h =
     let text : bytes_eq n.text m.text ≡ true = (bytes_eq-Decides n.text m.text).1 (sym h.0) in
-    let apart = eqb_other m.address n.address h.1 in
+    let apart = ne_eqb m.address n.address h.1 in
     rw (text, apart) refl
 
 elsewhere_miss : (n m : NameView) → is_elsewhere n m ≡ false → m.text ≡ n.text → m.address ≡ n.address
 elsewhere_miss n m h same =
     by_test (m.address == n.address)
-    (λ at. eqb_is m.address n.address at)
+    (λ at. eqb-true m.address n.address at)
     (λ apart. let text : bytes_eq n.text m.text ≡ true = (bytes_eq-Decides n.text m.text).1 (sym same) in let hit : is_elsewhere n m ≡ true = rw (text, apart) refl in absurd (false≢true (sym h ∙ hit)))
 
 miss_elsewhere : (n m : NameView) → (m.text ≡ n.text → m.address ≡ n.address) → is_elsewhere n m ≡ false
@@ -85,7 +78,7 @@ miss_elsewhere n m h =
     (λ miss. miss)
 
 at_miss : (n m : NameView) → is_at n.address m ≡ false → m.address ≢ n.address
-at_miss n m h same = false≢true (sym h ∙ eqb_same m.address n.address same)
+at_miss n m h same = false≢true (sym h ∙ eq-eqb m.address n.address same)
 
 -- ---- the fault
 
@@ -101,7 +94,7 @@ fault_is before n =
     (λ hit.
     let x = Any-from_list_any (is_at n.address) before hit in
     subst (HasFault before n) (fault_taken before n miss once hit)
-    (free_is n miss, (λ k d l. elsewhere_miss n (get_or before k d) (all_miss (is_elsewhere n) before once k d l)), (x.0, x.1, x.2, x.3, eqb_is x.1.address n.address x.4)))
+    (free_is n miss, (λ k d l. elsewhere_miss n (get_or before k d) (all_miss (is_elsewhere n) before once k d l)), (x.0, x.1, x.2, x.3, eqb-true x.1.address n.address x.4)))
     (λ untaken.
     let apart : All (λ m. m.address ≢ n.address) before = λ k d l. at_miss n (get_or before k d) (all_miss (is_at n.address) before untaken k d l) in
     subst (HasFault before n) (fault_none before n miss once untaken)
@@ -114,12 +107,12 @@ is_fault before n (Some NameTwice) h =
     sym (fault_elsewhere before n (is_free n h.0) (list_any-from_Any (is_elsewhere n) before (x.0, x.1, x.2, x.3, hit_elsewhere n x.1 x.4)))
 is_fault before n (Some AddressTwice) h =
     let x = h.2 in
-    sym (fault_taken before n (is_free n h.0) (none_hit (is_elsewhere n) before (λ k d l. miss_elsewhere n (get_or before k d) (h.1 k d l))) (list_any-from_Any (is_at n.address) before (x.0, x.1, x.2, x.3, eqb_same x.1.address n.address x.4)))
+    sym (fault_taken before n (is_free n h.0) (none_hit (is_elsewhere n) before (λ k d l. miss_elsewhere n (get_or before k d) (h.1 k d l))) (list_any-from_Any (is_at n.address) before (x.0, x.1, x.2, x.3, eq-eqb x.1.address n.address x.4)))
 is_fault before n (Some _) h = absurd h
 is_fault before n None h =
     sym (fault_none before n (is_free n h.0)
     (none_hit (is_elsewhere n) before (λ k d l. miss_elsewhere n (get_or before k d) (λ same. absurd ((h.1 k d l).0 same))))
-    (none_hit (is_at n.address) before (λ k d l. eqb_other (get_or before k d).address n.address (h.1 k d l).1)))
+    (none_hit (is_at n.address) before (λ k d l. ne_eqb (get_or before k d).address n.address (h.1 k d l).1)))
 
 fault_law : (before : List NameView) (n : NameView) (fault : Option InfoFaultKind) → (name_fault before n ≡ fault) ↔ HasFault before n fault
 fault_law before n fault = (λ e. subst (HasFault before n) e (fault_is before n), is_fault before n fault)

@@ -10,6 +10,7 @@ use Rattle.std.proofs.lemmas.List.Folds.{list_any_at}
 use Rattle.std.proofs.lemmas.List.Kept.{AllPairs-cons}
 use Rattle.std.proofs.lemmas.List.Quantifiers.{all_pairs_push}
 use Rattle.std.proofs.str.Laws.{order}
+use Rattle.std.proofs.lemmas.Bool.{eq-eqb, eqb-true}
 use Rattle.info65.specs.Attributes.{form_of}
 use Rattle.info65.specs.Closing.{closing_fault, optional_name_fault}
 use Rattle.info65.specs.Comments.{comment_in, not_empty}
@@ -29,9 +30,10 @@ use Rattle.info65.specs.declared.attribute.GroupKind.TheVariants as kind
 use Rattle.info65.specs.declared.fault.InfoFaultKind.{InfoFaultKind}
 use Rattle.info65.specs.declared.fault.InfoFaultKind.TheVariants.{OutOfRange}
 use Rattle.info65.specs.declared.range.RangeSpec.{RangeSpec}
-use Rattle.info65.proofs.Accepting.{by_test, groups_accepted}
+use Rattle.info65.proofs.Accepting.{groups_accepted}
+use Rattle.info65.proofs.Cases.{by_test, same_ok, same_some}
 use Rattle.info65.proofs.FormLemmas.{found_formed, groups_formed, size_in}
-use Rattle.info65.proofs.IndexLemmas.{IsNew, eqb_is, taken_is, names_more_global, names_more_include, names_more_label, names_more_range, names_more_segment, new_text, no_fault, closes_label}
+use Rattle.info65.proofs.IndexLemmas.{IsNew, taken_is, names_more_global, names_more_include, names_more_label, names_more_range, names_more_segment, new_text, no_fault, closes_label}
 use Rattle.info65.proofs.RangeLemmas.{closes_range, low_in, ordered_in}
 
 -- ---- by address
@@ -73,11 +75,8 @@ found_some : (p : NameView → Bool) (names : List NameView) (x : NameView) → 
 found_some p [] x is = absurd cc
 found_some p (y ∷ ys) x is =
     by_test (p y)
-    (λ hit. let at : ◌≡◌ {A = Option NameView} (Some y) (Some x) = rw hit at is in let same : y ≡ x = some_same at in record { place = record { index = 0; low = omega arith; is = λ d. same }; passes = ap p (sym same) ∙ hit })
+    (λ hit. let at : ◌≡◌ {A = Option NameView} (Some y) (Some x) = rw hit at is in let same : y ≡ x = same_some at in record { place = record { index = 0; low = omega arith; is = λ d. same }; passes = ap p (sym same) ∙ hit })
     (λ miss. let r = found_some p ys x (rw miss at is) in record { place = record { index = suc r.place.index; low = omega (arith, r.place.low); is = λ d. r.place.is d }; passes = r.passes })
-  where
-    some_same : {u v : NameView} → ◌≡◌ {A = Option NameView} (Some u) (Some v) → u ≡ v
-    some_same h = cc
 
 named_place : (names : List NameView) (a : ℕ) (x : NameView) → named_at names a ≡ Some x → Found (is_at a) names x
 unfolding named_at
@@ -96,14 +95,14 @@ unfolding by_address
 sorted_names names g = record {
   each = all_from IsName (named_at names) 0 0x1_0000 (λ b x low is. let r = (named_place names b x is).place in subst IsName (r.is x) (g.each r.index x r.low));
   rising = pairs_from (λ n m. n.address < m.address) (named_at names) (λ a b x y lt is at.
-      let f : x.address ≡ a = eqb_is x.address a (named_place names a x is).passes in
-      let h : y.address ≡ b = eqb_is y.address b (named_place names b y at).passes in
+      let f : x.address ≡ a = eqb-true x.address a (named_place names a x is).passes in
+      let h : y.address ≡ b = eqb-true y.address b (named_place names b y at).passes in
       omega (arith, f, h, lt)) 0 0x1_0000;
   distinct = pairs_from (λ n m. n.text ≢ m.text) (named_at names) (λ a b x y lt is at same.
       let p = named_place names a x is in
       let q = named_place names b y at in
-      let f : x.address ≡ a = eqb_is x.address a p.passes in
-      let h : y.address ≡ b = eqb_is y.address b q.passes in
+      let f : x.address ≡ a = eqb-true x.address a p.passes in
+      let h : y.address ≡ b = eqb-true y.address b q.passes in
       let i : ℕ = p.place.index in
       let j : ℕ = q.place.index in
       ⊎_elim
@@ -128,13 +127,10 @@ one_more names n g is new = record {
   each = All-push IsName names n g.each is;
   texts = all_pairs_push (λ (x y : NameView). x.text ≢ y.text) names n g.texts (new_text names n new);
   addresses = all_pairs_push (λ (x y : NameView). x.address ≢ y.address) names n g.addresses (λ k d l same.
-      let at : ((get_or names k d).address == n.address) ≡ true = rw same (eqb_same n.address) in
+      let at : ((get_or names k d).address == n.address) ≡ true = rw same (eq-eqb n.address n.address refl) in
       let hit : list_any (is_at n.address) names ≡ true = list_any_at (is_at n.address) names k d l at in
       let wrong : true ≡ false = sym hit ∙ new.untaken in absurd cc);
 }
-  where
-    eqb_same : (k : ℕ) → (k == k) ≡ true
-    eqb_same k = ⊎_elim (λ same. same.0) (λ other. absurd (other.1 refl)) (eqb_tells k k)
 
 -- ---- group by group
 
@@ -175,11 +171,8 @@ record IsLabel (given : List AssignmentView) (n : NameView) : Type 0 where
 sized_is : (a : ℕ) (t : List ℕ) (size : ℕ) (c : Option (List ℕ)) (n : NameView) → label_sized a t size c ≡ Ok n → (n ≡ named a size c t) × (a + size ≤ 0x1_0000)
 sized_is a t size c n is =
     by_test (nat_le (a + size) 0x1_0000)
-    (λ fits. let e : ◌≡◌ {A = Result NameView InfoFaultKind} (Ok (named a size c t)) (Ok n) = rw fits at is in (ok_same e, grind (arith, nat_tests, fits)))
+    (λ fits. let e : ◌≡◌ {A = Result NameView InfoFaultKind} (Ok (named a size c t)) (Ok n) = rw fits at is in (sym (same_ok e), grind (arith, nat_tests, fits)))
     (λ out. let e : ◌≡◌ {A = Result NameView InfoFaultKind} (Err OutOfRange) (Ok n) = rw out at is in absurd cc)
-  where
-    ok_same : {x y : NameView} → ◌≡◌ {A = Result NameView InfoFaultKind} (Ok x) (Ok y) → y ≡ x
-    ok_same h = cc
 
 label_is : (given : List AssignmentView) (n : NameView) → label_in given ≡ Ok n → IsLabel given n
 unfolding label_in
@@ -269,10 +262,7 @@ found_itself : (names : List NameView) (n : NameView) → AreGiven names → Con
 found_itself names n g h = itself (named_at names n.address) refl
   where
     hit : list_any (is_at n.address) names ≡ true
-    hit = list_any_at (is_at n.address) names h.0 n h.1 (rw h.2 (eqb_same n.address))
-      where
-        eqb_same : (k : ℕ) → (k == k) ≡ true
-        eqb_same k = ⊎_elim (λ same. same.0) (λ other. absurd (other.1 refl)) (eqb_tells k k)
+    hit = list_any_at (is_at n.address) names h.0 n h.1 (rw h.2 (eq-eqb n.address n.address refl))
 
     itself : (o : Option NameView) → named_at names n.address ≡ o → o ≡ Some n
     itself None is = absurd (nothing (sym (taken_is names n.address ∙ ap is_some is) ∙ hit))
@@ -281,7 +271,7 @@ found_itself names n g h = itself (named_at names n.address) refl
         nothing e = absurd cc
     itself (Some x) is =
         let r = named_place names n.address x is in
-        let at : x.address ≡ n.address = eqb_is x.address n.address r.passes in
+        let at : x.address ≡ n.address = eqb-true x.address n.address r.passes in
         let i : ℕ = r.place.index in
         let j : ℕ = h.0 in
         let here : (get_or names i n).address ≡ n.address = ap (λ (v : NameView). v.address) (r.place.is n) ∙ at in

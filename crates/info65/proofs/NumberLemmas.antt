@@ -5,7 +5,7 @@ use Rattle.std.proofs.lemmas.Bool.Decides.{nat_tests}
 use Rattle.std.specs.Prelude.{Option, Some, None, nat_le}
 use Rattle.info65.specs.Digits.{number_of_digits}
 use Rattle.info65.specs.Lexemes.{are_digits, number_in}
-use Rattle.info65.proofs.Accepting.{by_test}
+use Rattle.info65.proofs.Cases.{by_test}
 use Rattle.std.proofs.Math.Nat.{mul-le-mul_left}
 use Rattle.std.proofs.str.Laws.{order}
 use Rattle.std.specs.Char.{digit_value}

@@ -1,9 +1,10 @@
 -- No attribute of the groups GLOBAL stands twice, and none in another group.
-use Rattle.std.proofs.Common.{◌≡◌, ◌∙◌, ◌&&◌, ◌||◌, Bool, List, [], ◌∷◌, ◌++◌, append_assoc, ap, false, refl, sym, true}
+use Rattle.std.proofs.Common.{◌≡◌, ◌∙◌, ◌&&◌, ◌||◌, List, [], ◌∷◌, ◌++◌, append_assoc, ap, false, refl, sym}
 use Rattle.std.specs.List.{AllByRecursion, flat_map}
 use Rattle.std.proofs.lemmas.List.{append-nil}
 use Rattle.std.proofs.lemmas.List.Folds.{list_any-append}
 use Rattle.std.proofs.lemmas.Grind.{flat_map-append}
+use Rattle.std.proofs.lemmas.Bool.{and_left, and_right, or_from, or_parts}
 use denote.Enum.Bare.{false_same, sameb, same_false}
 use Rattle.info65.specs.contracts.attribute.Attribute as attribute_type
 use Rattle.info65.specs.Grammar.{AreGroups, AreNew}
@@ -14,16 +15,10 @@ use Rattle.info65.specs.declared.attribute.Attribute.{Attribute}
 use Rattle.info65.specs.declared.attribute.Attribute.TheVariants as attribute
 use Rattle.info65.specs.declared.attribute.GroupKind.{GroupKind}
 use Rattle.info65.specs.declared.attribute.GroupKind.TheVariants as group
+use Rattle.info65.proofs.Cases.{or_last}
 
 other : (a b : Attribute) → sameb attribute_type.the_type a b ≡ false → sameb attribute_type.the_type b a ≡ false
 other a b h = false_same attribute_type.the_type tt b a (λ e. same_false attribute_type.the_type a b h (sym e))
-
-neither : (a b : Bool) → (a || b) ≡ false → (a ≡ false) × (b ≡ false)
-neither true b h = absurd cc
-neither false b h = (refl, h)
-
-or_no : (a b : Bool) → a ≡ false → b ≡ false → (a || b) ≡ false
-or_no a b h i = rw h i
 
 has_append : (a : Attribute) (xs ys : List AssignmentView) → has a (xs ++ ys) ≡ (has a xs || has a ys)
 unfolding has
@@ -42,18 +37,18 @@ once_more : (xs : List AssignmentView) (g : AssignmentView) → AreOnce xs → h
 unfolding has
 once_more [] g h n = (refl, tt)
 once_more (x ∷ xs) g h n =
-    let parts = neither (is_of g.attribute x) (has g.attribute xs) (sym (has_cons g.attribute x xs) ∙ n) in
+    let parts = or_parts (is_of g.attribute x) (has g.attribute xs) (sym (has_cons g.attribute x xs) ∙ n) in
     let apart : is_of x.attribute g ≡ false = other g.attribute x.attribute parts.0 in
-    let one : has x.attribute (g ∷ []) ≡ false = has_one x.attribute g ∙ or_no (is_of x.attribute g) false apart refl in
-    (has_append x.attribute xs (g ∷ []) ∙ or_no (has x.attribute xs) (has x.attribute (g ∷ [])) h.0 one, once_more xs g h.1 parts.1)
+    let one : has x.attribute (g ∷ []) ≡ false = has_one x.attribute g ∙ or_from (is_of x.attribute g) false apart refl in
+    (has_append x.attribute xs (g ∷ []) ∙ or_from (has x.attribute xs) (has x.attribute (g ∷ [])) h.0 one, once_more xs g h.1 parts.1)
 
 new_once : (before : List GroupView) (k : GroupKind) (given more : List AssignmentView) → AreNew before k given more → AreOnce (given_before before k ++ given) → AreOnce (given_before before k ++ (given ++ more))
 unfolding is_given
 new_once before k given [] h once = rw (append-nil given) once
 new_once before k given (x ∷ xs) h once =
-    let parts = neither (has x.attribute (given_before before k)) (has x.attribute given || has_instead x.attribute given) h.0 in
-    let inner = neither (has x.attribute given) (has_instead x.attribute given) parts.1 in
-    let free = has_append x.attribute (given_before before k) given ∙ or_no (has x.attribute (given_before before k)) (has x.attribute given) parts.0 inner.0 in
+    let parts = or_parts (has x.attribute (given_before before k)) (has x.attribute given || has_instead x.attribute given) h.0 in
+    let inner = or_parts (has x.attribute given) (has_instead x.attribute given) parts.1 in
+    let free = has_append x.attribute (given_before before k) given ∙ or_from (has x.attribute (given_before before k)) (has x.attribute given) parts.0 inner.0 in
     let more = once_more (given_before before k ++ given) x once free in
     let next : AreOnce (given_before before k ++ (given ++ x ∷ [])) = rw (append_assoc (given_before before k) given (x ∷ [])) at more in
     let all = new_once before k (given ++ x ∷ []) xs h.2 next in
@@ -81,19 +76,8 @@ global_once o ts groups a = groups_once [] groups a.keeps tt
 
 -- ---- each group by itself
 
-and_no : (a b : Bool) → a ≡ false → (a && b) ≡ false
-and_no a b h = rw h refl
-
-no_and : (a b : Bool) → b ≡ false → (a && b) ≡ false
-no_and true b h = h
-no_and false b h = refl
-
 has_more : (a : Attribute) (given : List AssignmentView) (g : AssignmentView) → is_of a g ≡ false → has a (given ++ g ∷ []) ≡ has a given
-has_more a given g h = has_append a given (g ∷ []) ∙ ap (λ b. has a given || b) (has_one a g ∙ or_no (is_of a g) false h refl) ∙ or_last (has a given)
-  where
-    or_last : (b : Bool) → (b || false) ≡ b
-    or_last true = refl
-    or_last false = refl
+has_more a given g h = has_append a given (g ∷ []) ∙ ap (λ b. has a given || b) (has_one a g ∙ or_from (is_of a g) false h refl) ∙ or_last (has a given)
 
 abbrev Either : List AssignmentView → Type 0
 Either given = (has attribute.End given && has attribute.Size given) ≡ false
@@ -104,8 +88,8 @@ kept given g e s h = rw (has_more attribute.End given g e, has_more attribute.Si
 
 either_more : (given : List AssignmentView) (a : Attribute) (v : ValueView) → has_instead a given ≡ false → Either given → Either (given ++ record { attribute = a; value = v } ∷ [])
 unfolding has_instead
-either_more given attribute.End v n h = no_and _ _ (has_more attribute.Size given (record { attribute = attribute.End; value = v }) refl ∙ n)
-either_more given attribute.Size v n h = and_no _ _ (has_more attribute.End given (record { attribute = attribute.Size; value = v }) refl ∙ n)
+either_more given attribute.End v n h = and_right _ _ (has_more attribute.Size given (record { attribute = attribute.End; value = v }) refl ∙ n)
+either_more given attribute.Size v n h = and_left _ _ (has_more attribute.End given (record { attribute = attribute.Size; value = v }) refl ∙ n)
 either_more given _ v n h = kept given _ refl refl h
 
 record Alone (given : List AssignmentView) : Type 0 where
@@ -116,8 +100,8 @@ alone_more : (before : List GroupView) (k : GroupKind) (given more : List Assign
 unfolding is_given
 alone_more before k given [] h old = rw (append-nil given) old
 alone_more before k given (x ∷ xs) h old =
-    let parts = neither (has x.attribute (given_before before k)) (has x.attribute given || has_instead x.attribute given) h.0 in
-    let inner = neither (has x.attribute given) (has_instead x.attribute given) parts.1 in
+    let parts = or_parts (has x.attribute (given_before before k)) (has x.attribute given || has_instead x.attribute given) h.0 in
+    let inner = or_parts (has x.attribute given) (has_instead x.attribute given) parts.1 in
     let next : Alone (given ++ x ∷ []) = record { once = once_more given x old.once inner.0; either = either_more given x.attribute x.value inner.1 old.either } in
     let all = alone_more before k (given ++ x ∷ []) xs h.2 next in rw (append_assoc given (x ∷ []) xs) at all
 

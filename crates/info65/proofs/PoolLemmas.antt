@@ -11,7 +11,7 @@ use Rattle.info65.specs.Names.{AreNames, blank_name, covering, covering_below, c
 use Rattle.info65.specs.Views.{NameView}
 use Rattle.info65.specs.declared.pool.Entry.{Entry}
 use Rattle.info65.specs.declared.pool.Span.{Span}
-use Rattle.info65.proofs.Accepting.{by_test}
+use Rattle.info65.proofs.Cases.{by_test}
 
 pub seen_at : (pool : List ℕ) (es : List Entry) (i : ℕ) (d : Entry) → i < length es → name_at (map (entry_seen pool) es) i ≡ entry_seen pool (get_or es i d)
 seen_at pool es i d below = get_or-map (entry_seen pool) es i d blank_name below

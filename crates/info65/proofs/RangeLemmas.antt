@@ -1,5 +1,5 @@
 -- The ranges of an accepted file: what their groups say, and that no two share an address.
-use Rattle.std.proofs.Common.{◌≡◌, ◌∙◌, ◌≤◌, ◌<◌, ◌+◌, ◌-◌, ◌&&◌, ℕ, zero, suc, Bool, List, [], ◌∷◌, ◌++◌, true, false, ap, append_assoc, arith, drop, get_or, inl, inr, length, map, refl, subst, sym}
+use Rattle.std.proofs.Common.{◌≡◌, ◌∙◌, ◌≤◌, ◌<◌, ◌+◌, ◌-◌, ◌&&◌, ℕ, zero, suc, List, [], ◌∷◌, ◌++◌, true, false, ap, append_assoc, arith, drop, get_or, inl, inr, length, map, refl, subst, sym}
 use Rattle.std.specs.Prelude.{All, AllPairs, Any, IfSome, Option, Some, None, Result, Ok, Err, ◌⊎◌, nat_le}
 use Rattle.std.specs.List.{flat_map, list_any}
 use Rattle.std.proofs.lemmas.Bool.Decides.{nat_tests}
@@ -8,6 +8,7 @@ use Rattle.std.proofs.lemmas.List.Elements.{All-append}
 use Rattle.std.proofs.lemmas.List.Folds.{Any-from_list_any, list_any_at, list_any-from_Any}
 use Rattle.std.proofs.lemmas.List.Quantifiers.{all_pairs_push}
 use Rattle.std.proofs.lemmas.Grind.{flat_map-append}
+use Rattle.std.proofs.lemmas.Bool.{and_parts}
 use Rattle.info65.specs.Attributes.{form_of}
 use Rattle.info65.specs.Closing.{closing_fault, optional_name_fault, range_fault}
 use Rattle.info65.specs.Code.Groups.{group_seen}
@@ -30,7 +31,8 @@ use Rattle.info65.specs.declared.fault.InfoFaultKind.TheVariants.{AddressTwice, 
 use Rattle.info65.specs.declared.assignment.Group.{Group}
 use Rattle.info65.specs.declared.range.RangeSpec.{RangeSpec}
 use Rattle.info65.specs.declared.range.RangeType.{RangeType}
-use Rattle.info65.proofs.Accepting.{by_test, groups_accepted}
+use Rattle.info65.proofs.Accepting.{groups_accepted}
+use Rattle.info65.proofs.Cases.{by_test}
 use Rattle.info65.proofs.FormLemmas.{found_formed, groups_formed, size_in}
 
 -- ---- group by group
@@ -52,10 +54,6 @@ unfolding ranges_of
 ranges_more before g = flat_map-append range_part before (g ∷ []) ∙ ap (λ l. flat_map range_part before ++ l) (append-nil (range_part g))
 
 -- ---- what a group says
-
-pub and_parts : (a b : Bool) → (a && b) ≡ true → (a ≡ true) × (b ≡ true)
-and_parts true b h = (refl, h)
-and_parts false b h = absurd cc
 
 record IsFrom (s e z : Option ℕ) (t : Option RangeType) (r : RangeSpec) : Type 0 where
   first : s ≡ Some r.first

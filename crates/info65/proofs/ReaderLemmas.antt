@@ -154,13 +154,6 @@ pub between_group : (o : OptionsView) (after : Bool) (b : List GroupView) (t : T
 between_group o true b t old new is other = read_next o closed b t old new is ∙ group_next o b t new other
 between_group o false b t old new is other = read_next o outside b t old new is
 
-pub and_no : (a b : Bool) → b ≡ false → (a && b) ≡ false
-and_no true b is = is
-and_no false b is = refl
-
-pub no_and : (a b : Bool) → a ≡ false → (a && b) ≡ false
-no_and a b is = rw is refl
-
 -- a refusal of what is the same
 pub fails_along : {A : Type 0} {r s : Result A InfoFault} {e : InfoFault} → r ≡ s → Fails e s → Fails e r
 fails_along is (inl h) = inl (is ∙ h)

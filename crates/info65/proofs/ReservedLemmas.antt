@@ -6,14 +6,13 @@ use Rattle.std.specs.Str.{bytes_eq, str_eq_ignore_ascii_case, str_to_ascii_lower
 use Rattle.std.proofs.lemmas.Bool.Decides.{nat_tests}
 use Rattle.std.proofs.lemmas.List.Folds.{Any-from_list_any, list_any-from_Any}
 use Rattle.std.proofs.lemmas.Slice.Eq.{bytes_eq-Decides}
+use Rattle.std.proofs.lemmas.Bool.{and_parts, eqb-true}
 use Rattle.isa65.specs.Mnemonic.{mnemonic_named, text_of}
 use Rattle.isa65.specs.MnemonicLaws.{mnemonic_named-is, mnemonic_named-text_of}
 use Rattle.isa65.specs.declared.mnemonic.Mnemonic.{Mnemonic}
 use Rattle.info65.specs.NameFaultLaws.{IsDefaultElsewhere, IsInAnyCase, ReservedNames}
 use Rattle.info65.specs.Names.{default_name, hex_digit, is_like_default, is_reserved, is_upper_hex, registers}
-use Rattle.info65.proofs.Accepting.{by_test}
-use Rattle.info65.proofs.IndexLemmas.{eqb_is}
-use Rattle.info65.proofs.RangeLemmas.{and_parts}
+use Rattle.info65.proofs.Cases.{by_test}
 
 -- ---- the default names
 
@@ -97,8 +96,8 @@ unfolding is_like_default
 default_is text h =
     let p = and_parts (length text == 5) (slice_index text 0 == 76 && list_all is_upper_hex (drop 1 text)) h in
     let q = and_parts (slice_index text 0 == 76) (list_all is_upper_hex (drop 1 text)) p.1 in
-    let f = five text (eqb_is (length text) 5 p.0) in
-    let first : f.a ≡ 76 = ap (λ (t : List ℕ). slice_index t 0) (sym f.are) ∙ eqb_is (slice_index text 0) 76 q.0 in
+    let f = five text (eqb-true (length text) 5 p.0) in
+    let first : f.a ≡ 76 = ap (λ (t : List ℕ). slice_index t 0) (sym f.are) ∙ eqb-true (slice_index text 0) 76 q.0 in
     let rest : list_all is_upper_hex (f.b ∷ f.c ∷ f.d ∷ f.e ∷ []) ≡ true = ap (λ (t : List ℕ). list_all is_upper_hex (drop 1 t)) (sym f.are) ∙ q.1 in
     let g = all_of_four f.b f.c f.d f.e rest in
     record { address = g.address; low = g.low; is = f.are ∙ ap (λ (b : ℕ). b ∷ f.b ∷ f.c ∷ f.d ∷ f.e ∷ []) first ∙ g.is }

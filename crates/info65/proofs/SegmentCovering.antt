@@ -6,7 +6,7 @@ use Rattle.std.proofs.lemmas.Bool.Decides.{eqb_tells, nat_tests}
 use Rattle.info65.specs.SegmentLaws.{CoversOne}
 use Rattle.info65.specs.Segments.{AreApart, AreSegments, blank_segment, contains, segment_at, segment_covering}
 use Rattle.info65.specs.Views.{SegmentView}
-use Rattle.info65.proofs.Accepting.{by_test}
+use Rattle.info65.proofs.Cases.{by_test}
 
 rest_apart : (s : SegmentView) (ss : List SegmentView) → AllPairs AreApart (s ∷ ss) → AllPairs AreApart ss
 rest_apart s ss apart = λ i j d lt l. apart (suc i) (suc j) d (omega (arith, lt)) (omega (arith, l))

@@ -30,7 +30,8 @@ use Rattle.info65.specs.declared.fault.InfoFaultKind.{InfoFaultKind}
 use Rattle.info65.specs.declared.fault.InfoFaultKind.TheVariants.{OutOfRange, SegmentsOverlap}
 use Rattle.info65.specs.declared.range.RangeSpec.{RangeSpec}
 use Rattle.info65.specs.declared.range.RangeType.TheVariants as role
-use Rattle.info65.proofs.Accepting.{by_test, groups_accepted}
+use Rattle.info65.proofs.Accepting.{groups_accepted}
+use Rattle.info65.proofs.Cases.{by_test, or_last, same_ok}
 use Rattle.info65.proofs.FormLemmas.{found_formed, groups_formed}
 use Rattle.info65.proofs.IndexLemmas.{overlaps_marked}
 use Rattle.info65.proofs.NamesLemmas.{name_formed}
@@ -79,12 +80,8 @@ segment_marked : (segments : List SegmentView) (s : SegmentView) (old new : List
 segment_marked segments s old new m ordered long marked = record {
   ordered = All-push (λ (x : SegmentView). x.first ≤ x.last) segments s m.ordered ordered;
   size = long ∙ m.size;
-  marked = λ a low. marked a low ∙ ap (λ b. b || contains s a) (m.marked a low) ∙ ap (λ b. list_any (λ (x : SegmentView). contains x a) segments || b) (sym (last_or (contains s a))) ∙ sym (list_any-append (λ (x : SegmentView). contains x a) segments (s ∷ []));
+  marked = λ a low. marked a low ∙ ap (λ b. b || contains s a) (m.marked a low) ∙ ap (λ b. list_any (λ (x : SegmentView). contains x a) segments || b) (sym (or_last (contains s a))) ∙ sym (list_any-append (λ (x : SegmentView). contains x a) segments (s ∷ []));
 }
-  where
-    last_or : (b : Bool) → (b || false) ≡ b
-    last_or true = refl
-    last_or false = refl
 
 -- ---- what a group SEGMENT says
 
@@ -97,11 +94,8 @@ record IsSaid (given : List AssignmentView) (s : SegmentView) : Type 0 where
 from : (f l : ℕ) (n : List ℕ) (s : SegmentView) → segment_from (Some f) (Some l) (Some n) ≡ Ok s → (s ≡ record { first = f; last = l; name = n }) × (f ≤ l)
 from f l n s h =
     by_test (nat_le f l)
-    (λ yes. let i : ◌≡◌ {A = Result SegmentView InfoFaultKind} (Ok (record { first = f; last = l; name = n })) (Ok s) = rw yes at h in (ok_same i, grind (arith, nat_tests, yes)))
+    (λ yes. let i : ◌≡◌ {A = Result SegmentView InfoFaultKind} (Ok (record { first = f; last = l; name = n })) (Ok s) = rw yes at h in (sym (same_ok i), grind (arith, nat_tests, yes)))
     (λ no. let i : ◌≡◌ {A = Result SegmentView InfoFaultKind} (Err OutOfRange) (Ok s) = rw no at h in absurd cc)
-  where
-    ok_same : {x y : SegmentView} → ◌≡◌ {A = Result SegmentView InfoFaultKind} (Ok x) (Ok y) → y ≡ x
-    ok_same h = cc
 
 segment_is : (given : List AssignmentView) (s : SegmentView) → segment_in given ≡ Ok s → IsSaid given s
 unfolding segment_in

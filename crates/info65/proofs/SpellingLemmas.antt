@@ -7,7 +7,7 @@ use Rattle.std.specs.Io.BufRead.{ends_with_byte, strip_last}
 use Rattle.std.specs.List.{after_first, before_first, list_all, position_or_len, prefix_len, suffix_len}
 use Rattle.std.proofs.Math.ListN.{drop_of_length-le}
 use Rattle.std.proofs.Math.Seq.{drop-append-add, drop-append_seam, get_or-append_seam, take-append-add, take-append_seam, take-length}
-use Rattle.std.proofs.lemmas.Bool.{false≢true}
+use Rattle.std.proofs.lemmas.Bool.{and_parts, eqb-true, false≢true}
 use Rattle.std.proofs.lemmas.Bool.Decides.{nat_tests}
 use Rattle.std.proofs.lemmas.List.{append-nil, drop_more, length-drop, length-reverse, reverse-append, reverse-reverse, take-append-drop}
 use Rattle.std.proofs.lemmas.List.Folds.{list_all-append, list_all_at}
@@ -18,9 +18,7 @@ use Rattle.info65.specs.Lexemes.{are_digits, number_in, starts_word}
 use Rattle.info65.specs.Names.{is_name_byte}
 use Rattle.info65.specs.Views.{NameView}
 use Rattle.info65.specs.declared.fault.InfoFaultKind.{InfoFaultKind}
-use Rattle.info65.proofs.Accepting.{by_test}
-use Rattle.info65.proofs.IndexLemmas.{eqb_is}
-use Rattle.info65.proofs.RangeLemmas.{and_parts}
+use Rattle.info65.proofs.Cases.{by_test}
 
 -- ---- runs of bytes
 
@@ -155,7 +153,7 @@ cut c xs =
     let low : k ≤ length xs = prefix_len-le-length (other c) xs in
     by_test (nat_lt k (length xs))
     (λ here. let lt : k < length xs = grind (arith, nat_tests, here) in
-    let at : get_or xs k 0 ≡ c = eqb_is (get_or xs k 0) c (passes_at_first (λ b. b == c) xs 0 lt) in
+    let at : get_or xs k 0 ≡ c = eqb-true (get_or xs k 0) c (passes_at_first (λ b. b == c) xs 0 lt) in
     inr (split_at_first (λ b. b == c) xs 0 lt ∙ ap (λ b. before_first (λ b. b == c) xs ++ b ∷ after_first (λ b. b == c) xs) at))
     (λ past. let all : k ≡ length xs = grind (arith, nat_tests, past, low) in
     inl (ap (λ i. take i xs) all ∙ take-length xs, drop_of_length-le xs (omega (arith, all))))
@@ -179,7 +177,7 @@ strip_cases : (b : ℕ) (xs : List ℕ) → (strip_last b xs ≡ xs) ⊎ (xs ≡
 strip_cases b xs =
     by_test (ends_with_byte b xs)
     (λ hit. let e = ends b xs hit in
-    let at : get_or xs (length xs - 1) 0 ≡ b = eqb_is (get_or xs (length xs - 1) 0) b e.at in
+    let at : get_or xs (length xs - 1) 0 ≡ b = eqb-true (get_or xs (length xs - 1) 0) b e.at in
     let last : drop (length xs - 1) xs ≡ b ∷ [] = drop_more xs (length xs - 1) 0 (omega (arith, e.some)) ∙ ap (λ y. y ∷ drop (length xs - 1 + 1) xs) at ∙ ap (λ l. b ∷ l) (drop_of_length-le xs (omega (arith, e.some))) in
     inr (sym (take-append-drop (length xs - 1) xs) ∙ ap (λ l. take (length xs - 1) xs ++ l) last ∙ ap (λ l. l ++ b ∷ []) (sym (stripped b xs hit))))
     (λ miss. inl (kept b xs miss))
@@ -346,9 +344,9 @@ unfolding address_written
 writes [] a is = absurd cc
 writes (b ∷ bs) a is =
     by_test (b == 36)
-    (λ hex. inr (inl (bs, ap (λ c. c ∷ bs) (eqb_is b 36 hex), number_writes 16 bs a (rw hex at is))))
+    (λ hex. inr (inl (bs, ap (λ c. c ∷ bs) (eqb-true b 36 hex), number_writes 16 bs a (rw hex at is))))
     (λ other_one. by_test (b == 37)
-    (λ binary. inr (inr (bs, ap (λ c. c ∷ bs) (eqb_is b 37 binary), number_writes 2 bs a (rw (other_one, binary) at is))))
+    (λ binary. inr (inr (bs, ap (λ c. c ∷ bs) (eqb-true b 37 binary), number_writes 2 bs a (rw (other_one, binary) at is))))
     (λ decimal. inl (number_writes 10 (b ∷ bs) a (rw (other_one, decimal) at is))))
 
 digit_high : (b : ℕ) → is_digit b 10 ≡ true → 48 ≤ b

@@ -6,7 +6,7 @@ use Rattle.info65.specs.Lexemes.{LexemeView, lexeme_at}
 use Rattle.info65.specs.Standing.{Stand, TokensStand, feeds, is_gap, is_solid}
 use Rattle.info65.specs.Tokens.{Stream, TokenView, ended, found, is_blank, opens_comment, tokens_after}
 use Rattle.info65.specs.declared.fault.InfoFault.{InfoFault}
-use Rattle.info65.proofs.Accepting.{by_test}
+use Rattle.info65.proofs.Cases.{by_test}
 
 abbrev StandIn : Bool → ℕ → List ℕ → Stream → Type 0
 StandIn c line bytes s = Stand c line bytes s.tokens s.ending

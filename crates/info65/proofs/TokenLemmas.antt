@@ -1,7 +1,7 @@
 -- The tokens of what is left.
 use Rattle.info65.specs.declared.fault.InfoFault.{InfoFault}
 use Rattle.std.proofs.Common.{◌||◌, add-one, ◌≡◌, ◌∙◌, ◌+◌, ◌<◌, ◌==◌, ℕ, zero, suc, Bool, true, false, List, [], ◌∷◌, length, drop, slice_index, refl, ap, arith, if◌then◌else◌, Result, Ok, Err}
-use Rattle.std.proofs.lemmas.Bool.{ne_eqb}
+use Rattle.std.proofs.lemmas.Bool.{ne_eqb, or_parts}
 use Rattle.info65.specs.Tokens.{Stream, ended, found, is_blank, opens_comment, stops, token_of, tokens_after, tokens_of, with_token}
 use Rattle.info65.specs.Lexemes.{LexemeView, lexeme_at}
 
@@ -23,10 +23,6 @@ passed zero line bs = refl
 passed (suc skip) line [] = refl
 passed (suc skip) line (b ∷ bs) = passed skip line bs
 
-neither : (a b : Bool) → (a || b) ≡ false → (a ≡ false) × (b ≡ false)
-neither true b h = cc
-neither false b h = (refl, h)
-
 found_same : (line : ℕ) (bytes : List ℕ) (r : Result LexemeView InfoFault) (f g : ℕ → Stream) → ((more : ℕ) → f more ≡ g more) → found line bytes r f ≡ found line bytes r g
 found_same line bytes (Ok p) f g same = ap (with_token (token_of line bytes p)) (same p.more)
 found_same line bytes (Err e) f g same = refl
@@ -39,8 +35,8 @@ pub at_token : (line : ℕ) (rest : List ℕ) → 0 < length rest → stops rest
 unfolding tokens_after
 at_token line [] some here = absurd (omega arith)
 at_token line (b ∷ bs) some here =
-    let first = neither (b == 10) (is_blank b || opens_comment (b ∷ bs)) here in
-    let rest = neither (is_blank b) (opens_comment (b ∷ bs)) first.1 in
+    let first = or_parts (b == 10) (is_blank b || opens_comment (b ∷ bs)) here in
+    let rest = or_parts (is_blank b) (opens_comment (b ∷ bs)) first.1 in
     rw (first.0, rest.0, rest.1) (found_same line (b ∷ bs) (lexeme_at line (b ∷ bs)) (λ more. tokens_after more false line bs) (λ more. tokens_of line (drop (more + 1) (b ∷ bs))) (λ more. passed more line bs ∙ ap (tokens_of line) (dropped more b bs)))
 
 -- nothing is left

@@ -1,5 +1,5 @@
 use Rattle.std.proofs.Common.{◌≡◌, ◌∙◌, ap, arith, false, length, map, nat_lt, refl, subst, sym, ℕ}
-use Rattle.std.specs.Prelude.{List, Ok, Result}
+use Rattle.std.specs.Prelude.{List, Ok}
 use Rattle.std.proofs.lemmas.Bool.Decides.{nat_tests}
 use Rattle.info65.specs.Code.Groups.{group_seen}
 use Rattle.info65.specs.Groups.{AreFormed, GroupView, global_given}
@@ -11,16 +11,13 @@ use Rattle.info65.specs.Segments.{AreSegments, segments_of}
 use Rattle.info65.specs.Reader.{groups_of, information}
 use Rattle.info65.specs.Settings.{settings_of}
 use Rattle.info65.specs.Views.{AreInLimits, InfoView, OptionsView}
-use Rattle.info65.specs.declared.fault.InfoFault.{InfoFault}
 use Rattle.info65.proofs.FormLemmas.{read_all_formed, read_formed, settings_in_limits}
 use Rattle.info65.proofs.IncludeLemmas.{includes_named}
 use Rattle.info65.proofs.NamesLemmas.{read_named}
 use Rattle.info65.proofs.RangeLemmas.{read_sound}
 use Rattle.info65.proofs.SegmentLemmas.{read_segments}
 use Rattle.info65.proofs.info.read_info.Goals as goal
-
-same : {A : Type 0} {x y : A} → ◌≡◌ {A = Result A InfoFault} (Ok x) (Ok y) → x ≡ y
-same h = cc
+use Rattle.info65.proofs.Cases.{same_ok}
 
 pub settings_of-requires : goal.settings_of-requires
 settings_of-requires g c = rw c.groups.ensures (read_formed c.args.options.now c.args.bytes.now c.in_ok-closed.closed c.in_ok-closed.ensures)
@@ -32,14 +29,14 @@ pub invariant_of-result : goal.invariant_of-result
 invariant_of-result g c =
     let groups = c.in_ok-closed.closed in
     let formed : AreFormed (global_given (map group_seen c.groups.result.now)) = rw c.groups.ensures (read_formed c.args.options.now c.args.bytes.now groups c.in_ok-closed.ensures) in
-    let said : ranges_of groups ≡ c.in_ok-ranges.ranges.items = ap (λ (l : List GroupView). ranges_of l) (sym c.groups-2.ensures) ∙ same c.in_ok-ranges.ensures in
-    let segmented : segments_of groups ≡ c.in_ok-segments.segments = ap (λ (l : List GroupView). segments_of l) (sym c.groups-3.ensures) ∙ same c.in_ok-said.ensures ∙ same c.in_ok-segments.ensures in
+    let said : ranges_of groups ≡ c.in_ok-ranges.ranges.items = ap (λ (l : List GroupView). ranges_of l) (sym c.groups-2.ensures) ∙ same_ok c.in_ok-ranges.ensures in
+    let segmented : segments_of groups ≡ c.in_ok-segments.segments = ap (λ (l : List GroupView). segments_of l) (sym c.groups-3.ensures) ∙ same_ok c.in_ok-said.ensures ∙ same_ok c.in_ok-segments.ensures in
     record {
-      limits = subst AreInLimits (same c.in_ok-settings.ensures) (settings_in_limits c.args.options.now (global_given (map group_seen c.groups.result.now)) c.limits.ensures formed);
+      limits = subst AreInLimits (same_ok c.in_ok-settings.ensures) (settings_in_limits c.args.options.now (global_given (map group_seen c.groups.result.now)) c.limits.ensures formed);
       ranges = subst AreRanges said (read_sound c.args.options.now c.args.bytes.now groups c.in_ok-closed.ensures);
       segments = subst AreSegments segmented (read_segments c.args.options.now c.args.bytes.now groups c.in_ok-closed.ensures);
-      includes = subst AreIncludes (ap (λ (l : List GroupView). includes_of l) (sym c.groups-4.ensures) ∙ same c.in_ok-includes.ensures) (includes_named groups (read_all_formed c.args.options.now c.args.bytes.now groups c.in_ok-closed.ensures));
-      names = subst AreNames (same c.in_ok-names.ensures) (read_named c.args.options.now c.args.bytes.now groups c.in_ok-closed.ensures);
+      includes = subst AreIncludes (ap (λ (l : List GroupView). includes_of l) (sym c.groups-4.ensures) ∙ same_ok c.in_ok-includes.ensures) (includes_named groups (read_all_formed c.args.options.now c.args.bytes.now groups c.in_ok-closed.ensures));
+      names = subst AreNames (same_ok c.in_ok-names.ensures) (read_named c.args.options.now c.args.bytes.now groups c.in_ok-closed.ensures);
     }
 
 -- the parts are those of the groups
@@ -52,8 +49,8 @@ pub returns : goal.returns
 returns g c =
     let groups = c.in_ok-closed.closed in
     together c.args.options.now c.args.bytes.now groups _ (grind (arith, nat_tests, c.if-bytes-gt-MOST_BYTES.false)) c.in_ok-closed.ensures
-    (ap (λ (l : List GroupView). settings_of c.args.options.now (global_given l)) (sym c.groups.ensures) ∙ same c.in_ok-settings.ensures)
-    (ap (λ (l : List GroupView). ranges_of l) (sym c.groups-2.ensures) ∙ same c.in_ok-ranges.ensures)
-    (ap (λ (l : List GroupView). segments_of l) (sym c.groups-3.ensures) ∙ same c.in_ok-said.ensures ∙ same c.in_ok-segments.ensures)
-    (same c.in_ok-names.ensures)
-    (ap (λ (l : List GroupView). includes_of l) (sym c.groups-4.ensures) ∙ same c.in_ok-includes.ensures)
+    (ap (λ (l : List GroupView). settings_of c.args.options.now (global_given l)) (sym c.groups.ensures) ∙ same_ok c.in_ok-settings.ensures)
+    (ap (λ (l : List GroupView). ranges_of l) (sym c.groups-2.ensures) ∙ same_ok c.in_ok-ranges.ensures)
+    (ap (λ (l : List GroupView). segments_of l) (sym c.groups-3.ensures) ∙ same_ok c.in_ok-said.ensures ∙ same_ok c.in_ok-segments.ensures)
+    (same_ok c.in_ok-names.ensures)
+    (ap (λ (l : List GroupView). includes_of l) (sym c.groups-4.ensures) ∙ same_ok c.in_ok-includes.ensures)

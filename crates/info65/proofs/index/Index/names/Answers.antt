@@ -1,18 +1,15 @@
-use Rattle.std.proofs.Common.{◌≡◌, ◌∙◌, ◌++◌, ◌-◌, ◌+◌, ℕ, ap, append_assoc, arith, option_map, sym}
-use Rattle.std.specs.Prelude.{List, Ok, Option, Result, option_to_list}
+use Rattle.std.proofs.Common.{◌∙◌, ◌++◌, ◌-◌, ◌+◌, ℕ, ap, append_assoc, arith, option_map, sym}
+use Rattle.std.specs.Prelude.{List, Ok, Option, option_to_list}
 use Rattle.std.specs.BTreeMap.{get}
 use Rattle.std.specs.Ordering.{nat_cmp}
 use Rattle.std.proofs.lemmas.List.{append-nil}
 use Rattle.info65.specs.Code.Names.{given_seen}
 use Rattle.info65.specs.Labels.{names_from}
 use Rattle.info65.specs.Views.{NameView}
-use Rattle.info65.specs.declared.fault.InfoFault.{InfoFault}
 use Rattle.info65.specs.declared.name.Given.{Given}
 use Rattle.info65.proofs.IndexLemmas.{names_empty, names_next, names_over}
 use Rattle.info65.proofs.index.Index.names.Goals as goal
-
-same : {x y : List NameView} → ◌≡◌ {A = Result (List NameView) InfoFault} (Ok x) (Ok y) → x ≡ y
-same h = cc
+use Rattle.info65.proofs.Cases.{same_ok}
 
 pub loop-address-preserved : goal.loop-address-preserved
 loop-address-preserved g c =
@@ -20,7 +17,7 @@ loop-address-preserved g c =
     let f : ℕ → Option NameView = λ a. option_map given_seen (get nat_cmp c.args.self.now.by_address a) in
     let rest = names_from f (a + 1) (0x1_0000 - (a + 1)) in
     let next = names_next f a (omega arith) in
-    let grown = sym (same c.in_ok-names.ensures) ∙ ap (λ (o : Option Given). c.loop-address.names ++ option_to_list (option_map given_seen o)) c.get.ensures.value in
+    let grown = sym (same_ok c.in_ok-names.ensures) ∙ ap (λ (o : Option Given). c.loop-address.names ++ option_to_list (option_map given_seen o)) c.get.ensures.value in
     ap (λ (l : List NameView). l ++ rest) grown ∙ append_assoc c.loop-address.names (option_to_list (f a)) rest ∙ ap (λ (l : List NameView). c.loop-address.names ++ l) (sym next) ∙ c.loop-address.invariant
 
 pub returns : goal.returns
