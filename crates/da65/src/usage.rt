@@ -66,12 +66,12 @@ fn layout_in(matches: &ArgMatches) -> Result<Layout, UsageFault>
     ensures value { result ≡ layout_in (rows_of (found_of matches.now)) }
     ensures limits { IfOk result IsLayout }
 {
-    let comments = number_in(text_of(matches, "comments"), 0, 4)?;
-    let mnemonic_column = number_in(text_of(matches, "mnemonic-column"), 1, 120)?;
-    let argument_column = number_in(text_of(matches, "argument-column"), 1, 120)?;
-    let comment_column = number_in(text_of(matches, "comment-column"), 1, 120)?;
-    let text_column = number_in(text_of(matches, "text-column"), 1, 120)?;
-    let label_break = number_in(text_of(matches, "label-break"), 0, 120)?;
+    let comments = number_in(matches, "comments", 0, 4)?;
+    let mnemonic_column = number_in(matches, "mnemonic-column", 1, 120)?;
+    let argument_column = number_in(matches, "argument-column", 1, 120)?;
+    let comment_column = number_in(matches, "comment-column", 1, 120)?;
+    let text_column = number_in(matches, "text-column", 1, 120)?;
+    let label_break = number_in(matches, "label-break", 0, 120)?;
     Ok(Layout {
         comments,
         mnemonic_column,
@@ -149,12 +149,12 @@ fn chosen_cpu(text: Option<&str>) -> Result<Option<Cpu>, UsageFault>
 }
 
 /// The number of an option, from `least` to `most`.
-fn number_in(text: Option<&str>, least: u8, most: u8) -> Result<Option<u8>, UsageFault>
-    ensures value { result ≡ given (decimal_in least most) (option_map (λ s. s.now) text.entry) }
+fn number_in(matches: &ArgMatches, id: &str, least: u8, most: u8) -> Result<Option<u8>, UsageFault>
+    ensures value { result ≡ given (decimal_in least most) (first_of id.now (rows_of (found_of matches.now))) }
     ensures low { IfOk result (λ o. IfSome o (λ n. least ≤ n)) }
     ensures high { IfOk result (λ o. IfSome o (λ n. n ≤ most)) }
 {
-    match text {
+    match text_of(matches, id) {
         Some(text) => Ok(Some(decimal_in(text.as_bytes(), least, most)?)),
         None => Ok(None),
     }
