@@ -3,7 +3,6 @@ mod assembled;
 mod cpus;
 mod devices;
 mod failing;
-mod images;
 mod includes;
 mod memory;
 mod names;
