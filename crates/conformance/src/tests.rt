@@ -1,11 +1,13 @@
 mod ample;
 mod assembled;
+mod command_lines;
 mod cpus;
 mod devices;
 mod failing;
 mod includes;
 mod memory;
 mod names;
+mod needed_files;
 mod ranges;
 mod refusals;
 mod refused;
@@ -13,3 +15,4 @@ mod rows;
 mod runs;
 mod segments;
 mod settings;
+mod texts;

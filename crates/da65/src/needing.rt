@@ -29,6 +29,3 @@ pub fn needs<A: Allocator + Copy, B: Allocator>(
         }
     }
 }
-
-#[cfg(test)]
-mod tests;

@@ -194,6 +194,3 @@ pub fn run<A: Allocator + Copy, N: Allocator, R: Source, W: Sink, M: Sink>(
         Err(Stop::Memory) => Err(RunFault::Memory),
     }
 }
-
-#[cfg(test)]
-mod tests;

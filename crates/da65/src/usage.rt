@@ -177,6 +177,3 @@ fn cpu_in(text: &str) -> Result<Cpu, UsageFault>
         None => Err(UsageFault::OutOfRange),
     }
 }
-
-#[cfg(test)]
-mod tests;
