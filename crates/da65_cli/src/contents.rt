@@ -23,6 +23,7 @@ fn read_from<R: Read + Drop>(alloc: Global, input: R) -> Result<Option<Vec<u8>>,
 }
 
 /// The bytes of the file of this name, of which at most 1,048,577 are read. None if it can't be opened or read.
+/// No contract can say what a file has: `read_from` says what is kept of it.
 pub fn contents(rt: &HostRuntime, name: &str) -> Result<Option<Vec<u8>>, AllocError> {
     // A pipe that another user made can be read, but not opened by its name.
     if name == "/dev/stdin" {

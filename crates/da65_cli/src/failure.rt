@@ -29,8 +29,14 @@ pub enum Failure {
 }
 
 impl Failure {
+    ghost use Rattle.std.specs.Prelude.{◌≡◌, ◌≢◌};
+    ghost use Rattle.std.specs.IoError.{error_kind};
+
     /// The failure of a file of this name that can't be read.
-    pub fn of_reading(error: &IoError, name: String) -> Failure {
+    pub fn of_reading(error: &IoError, name: String) -> Failure
+        ensures memory { error_kind error.now ≡ ErrorKind.OutOfMemory → result ≡ Failure.Memory }
+        ensures name { error_kind error.now ≢ ErrorKind.OutOfMemory → result ≡ Failure.Reading name }
+    {
         match error.kind() {
             ErrorKind::OutOfMemory => Failure::Memory,
             _ => Failure::Reading(name),
@@ -38,7 +44,10 @@ impl Failure {
     }
 
     /// The failure of a file of this name that can't be created.
-    pub fn of_creating(error: &IoError, name: String) -> Failure {
+    pub fn of_creating(error: &IoError, name: String) -> Failure
+        ensures memory { error_kind error.now ≡ ErrorKind.OutOfMemory → result ≡ Failure.Memory }
+        ensures name { error_kind error.now ≢ ErrorKind.OutOfMemory → result ≡ Failure.Creating name }
+    {
         match error.kind() {
             ErrorKind::OutOfMemory => Failure::Memory,
             _ => Failure::Creating(name),
