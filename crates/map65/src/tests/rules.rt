@@ -2,29 +2,55 @@
 
 use crate::{Image, Map, NameBuf, NameKind, Place};
 use RangeType::{AddrTable, ByteTable, Code, DbyteTable, RtsTable, Skip, TextTable, WordTable};
-use info65::{Options, RangeType, read_info};
-use isa65::{Cpu, Mnemonic, Mode, OpcodeSet};
+use info65::{Info, Options, RangeType, read_info};
+use isa65::{Cpu, Mnemonic, Mode, Op, OpcodeSet};
 use std::alloc::{AllocError, Global};
 use std::process::Abort;
 use std::test::Fail;
 
-const TYPES: [(RangeType, &str, usize); 8] = [
-    (Code, "CODE", 0),
-    (ByteTable, "BYTETABLE", 1),
-    (WordTable, "WORDTABLE", 2),
-    (DbyteTable, "DBYTETABLE", 2),
-    (AddrTable, "ADDRTABLE", 2),
-    (RtsTable, "RTSTABLE", 2),
-    (TextTable, "TEXTTABLE", 1),
-    (Skip, "SKIP", 1),
-];
+/// The type of each number below 8.
+fn type_of(number: usize) -> RangeType {
+    match number {
+        0 => Code,
+        1 => ByteTable,
+        2 => WordTable,
+        3 => DbyteTable,
+        4 => AddrTable,
+        5 => RtsTable,
+        6 => TextTable,
+        _ => Skip,
+    }
+}
 
-const CPUS: [Cpu; 3] = [Cpu::M6502, Cpu::M65SC02, Cpu::M65C02];
+/// The word for a type in an information file.
+fn word_of(role: RangeType) -> &'static str {
+    match role {
+        Code => "CODE",
+        ByteTable => "BYTETABLE",
+        WordTable => "WORDTABLE",
+        DbyteTable => "DBYTETABLE",
+        AddrTable => "ADDRTABLE",
+        RtsTable => "RTSTABLE",
+        TextTable => "TEXTTABLE",
+        Skip => "SKIP",
+    }
+}
 
-/// Bytes that stand often in the images: jumps, branches, absolute operands, and opcodes that not each CPU has.
-const OPCODES: [u8; 16] = [
-    0x4C, 0x20, 0xAD, 0xBD, 0x6C, 0xD0, 0x10, 0x02, 0x7C, 0x80, 0x0F, 0xFF, 0x9C, 0xB2, 0x07, 0x3C,
-];
+/// How many bytes an item of a table has.
+fn unit_of(role: RangeType) -> usize {
+    match role {
+        Code | ByteTable | TextTable | Skip => 1,
+        WordTable | DbyteTable | AddrTable | RtsTable => 2,
+    }
+}
+
+/// A byte that stands often in the images: jumps, branches, absolute operands, and opcodes that not each CPU has.
+fn opcode_of(number: usize) -> u8 {
+    byte_in(
+        b"\x4C\x20\xAD\xBD\x6C\xD0\x10\x02\x7C\x80\x0F\xFF\x9C\xB2\x07\x3C",
+        number,
+    )
+}
 
 /// Numbers that look random, always the same.
 #[derive(Drop)]
@@ -47,13 +73,19 @@ impl Numbers {
 struct Range {
     first: usize,
     last: usize,
-    kind: usize,
+    role: RangeType,
 }
 
 #[derive(Drop)]
 struct Label {
     address: usize,
     size: usize,
+}
+
+impl Label {
+    fn covers(&self, at: usize) -> bool {
+        self.address <= at && at.wrapping_sub(self.address) < self.size
+    }
 }
 
 /// What the rules are read from.
@@ -66,6 +98,9 @@ struct Ground {
     labels: Vec<Label>,
 }
 
+/// The label that a name is from, by its place, if it is a given one; and the address where the name stands.
+type Base = (Option<usize>, usize);
+
 fn byte_in(bytes: &[u8], at: usize) -> u8 {
     match bytes.get(at) {
         Some(byte) => *byte,
@@ -73,10 +108,14 @@ fn byte_in(bytes: &[u8], at: usize) -> u8 {
     }
 }
 
-fn put(bytes: &mut Vec<u8>, at: usize, byte: u8) {
-    if at < bytes.len() {
-        bytes[at] = byte;
+fn put(bytes: &mut [u8], at: usize, byte: u8) {
+    if let Some(cell) = bytes.get_mut(at) {
+        *cell = byte;
     }
+}
+
+fn blank_cells(alloc: Global) -> Result<Vec<u8>, AllocError> {
+    vec![in alloc; 0u8; 65_536]
 }
 
 impl Ground {
@@ -88,18 +127,31 @@ impl Ground {
         byte_in(self.bytes.as_slice(), at.wrapping_sub(self.start))
     }
 
-    fn role(&self, at: usize) -> Option<(RangeType, usize)> {
-        if !self.is_inside(at) {
-            return None;
-        }
+    fn word(&self, at: usize) -> usize {
+        let low = self.byte(at) as usize;
+        let high = self.byte(at.wrapping_add(1)) as usize;
+        low.wrapping_add(high.wrapping_mul(256))
+    }
+
+    fn op(&self, at: usize) -> Option<Op> {
+        self.cpu.decode(self.byte(at))
+    }
+
+    fn type_at(&self, at: usize) -> RangeType {
         for range in &self.ranges {
             if range.first <= at && at <= range.last {
-                if let Some((role, _, unit)) = TYPES.get(range.kind) {
-                    return Some((*role, *unit));
-                }
+                return range.role;
             }
         }
-        Some((Code, 0))
+        Code
+    }
+
+    fn role(&self, at: usize) -> Option<RangeType> {
+        if self.is_inside(at) {
+            Some(self.type_at(at))
+        } else {
+            None
+        }
     }
 
     fn is_own(&self, at: usize) -> bool {
@@ -113,24 +165,34 @@ impl Ground {
 
     /// The address lies in the piece of the one before it.
     fn goes_on(&self, at: usize) -> bool {
-        let before = self.role(at.wrapping_sub(1));
-        let here = self.role(at);
-        match here {
-            Some((_, unit)) => before == here && !(1 < unit && self.is_own(at)),
+        match self.role(at) {
             None => false,
+            Some(role) => {
+                if self.role(at.wrapping_sub(1)) == Some(role) {
+                    unit_of(role) == 1 || !self.is_own(at)
+                } else {
+                    false
+                }
+            }
+        }
+    }
+
+    /// How many bytes the item that begins at the address would have alone.
+    fn wanted_size(&self, at: usize) -> usize {
+        let role = self.type_at(at);
+        if role == Code {
+            match self.op(at) {
+                Some(op) => op.mode.len() as usize,
+                None => 1,
+            }
+        } else {
+            unit_of(role)
         }
     }
 
     /// The length of the item that begins at the address.
     fn size(&self, at: usize) -> usize {
-        let wanted = match self.role(at) {
-            Some((Code, _)) => match self.cpu.decode(self.byte(at)) {
-                Some(op) => op.mode.len() as usize,
-                None => 1,
-            },
-            Some((_, unit)) => unit,
-            None => 1,
-        };
+        let wanted = self.wanted_size(at);
         for i in 1..wanted {
             if !self.goes_on(at.wrapping_add(i)) {
                 return 1;
@@ -141,57 +203,59 @@ impl Ground {
 
     /// How long the item is that begins at each address.
     fn items(&self, alloc: Global) -> Result<Vec<u8>, AllocError> {
-        let mut lens = vec![in alloc; 0u8; 65_536]?;
+        let mut lens = blank_cells(alloc)?;
         let mut next = self.start;
         for at in 0..65_536usize {
             if at == next && self.is_inside(at) {
                 let size = self.size(at);
                 next = at.wrapping_add(size);
-                match self.role(at) {
-                    Some((Skip, _)) => {}
-                    _ => put(&mut lens, at, (size % 256) as u8),
+                if self.type_at(at) != Skip {
+                    put(lens.as_mut_slice(), at, (size % 256) as u8);
                 }
             }
         }
         Ok(lens)
     }
 
-    fn word(&self, at: usize) -> usize {
-        (self.byte(at) as usize).wrapping_add(256usize.wrapping_mul(
-            self.byte(at.wrapping_add(1)) as usize,
-        ))
-    }
-
     /// The target of the item of that many bytes at the address.
     fn target(&self, at: usize, len: usize) -> Option<usize> {
         match self.role(at) {
-            Some((Code, _)) => self.operand(at, len),
-            Some((AddrTable, _)) if len == 2 => Some(self.word(at)),
-            Some((RtsTable, _)) if len == 2 && self.word(at) != 0xFFFF => {
-                Some(self.word(at).wrapping_add(1))
-            }
+            Some(Code) => self.operand(at, len),
+            Some(AddrTable) if len == 2 => Some(self.word(at)),
+            Some(RtsTable) if len == 2 => self.return_target(at),
             _ => None,
+        }
+    }
+
+    fn return_target(&self, at: usize) -> Option<usize> {
+        let word = self.word(at);
+        if word == 0xFFFF {
+            None
+        } else {
+            Some(word.wrapping_add(1))
         }
     }
 
     fn operand(&self, at: usize, len: usize) -> Option<usize> {
-        let op = match self.cpu.decode(self.byte(at)) {
-            Some(op) => op,
-            None => return None,
-        };
-        if op.mode.len() as usize != len {
-            return None;
+        match self.op(at) {
+            Some(op) if op.mode.len() as usize == len => self.operand_of(op, at, len),
+            _ => None,
         }
+    }
+
+    fn operand_of(&self, op: Op, at: usize, len: usize) -> Option<usize> {
         let word = self.word(at.wrapping_add(1));
-        let jumps = op.mnemonic == Mnemonic::Jmp || op.mnemonic == Mnemonic::Jsr;
         match op.mode {
-            Mode::Abs if jumps || self.is_inside(word) => Some(word),
-            Mode::Absx | Mode::Absy | Mode::Ind | Mode::Absindx if self.is_inside(word) => {
-                Some(word)
-            }
+            Mode::Abs if is_jump(op.mnemonic) => Some(word),
+            Mode::Abs | Mode::Absx | Mode::Absy | Mode::Ind | Mode::Absindx => self.inside(word),
             Mode::Rel | Mode::Zprel => self.branch(at.wrapping_add(len)),
             _ => None,
         }
+    }
+
+    /// The address, if it lies in the image.
+    fn inside(&self, at: usize) -> Option<usize> {
+        if self.is_inside(at) { Some(at) } else { None }
     }
 
     /// The target of the branch that ends before the address: the signed byte just before it is counted from it.
@@ -209,35 +273,38 @@ impl Ground {
     /// The first byte of the item of a table with a unit above 1 that the address lies inside, else the address.
     fn first(&self, lens: &[u8], at: usize) -> usize {
         match self.role(at) {
-            Some((_, unit)) if 1 < unit && byte_in(lens, at) == 0 => at.wrapping_sub(1),
+            Some(role) if unit_of(role) == 2 && byte_in(lens, at) == 0 => at.wrapping_sub(1),
             _ => at,
+        }
+    }
+
+    fn want(&self, lens: &[u8], wanted: &mut [u8], target: Option<usize>) {
+        if let Some(target) = target {
+            put(wanted, target, 1);
+            put(wanted, self.first(lens, target), 1);
         }
     }
 
     /// 1 for each address that is a target or the first byte of an item with a target inside.
     fn wanted(&self, alloc: Global, lens: &[u8]) -> Result<Vec<u8>, AllocError> {
-        let mut wanted = vec![in alloc; 0u8; 65_536]?;
+        let mut wanted = blank_cells(alloc)?;
         for at in 0..65_536usize {
             let len = byte_in(lens, at) as usize;
             if 0 < len {
-                if let Some(target) = self.target(at, len) {
-                    put(&mut wanted, target, 1);
-                    put(&mut wanted, self.first(lens, target), 1);
-                }
+                self.want(lens, wanted.as_mut_slice(), self.target(at, len));
             }
         }
         Ok(wanted)
     }
 
-    /// The place, by number, of the label with the highest address among those that cover the address.
-    fn label(&self, at: usize) -> Option<usize> {
+    /// The number and the address of the label with the highest address among those that cover the address.
+    fn label(&self, at: usize) -> Option<(usize, usize)> {
         let mut found = None;
         let mut highest = 0usize;
         let mut number = 0usize;
         for label in &self.labels {
-            let covers = label.address <= at && at.wrapping_sub(label.address) < label.size;
-            if covers && highest <= label.address {
-                found = Some(number);
+            if label.covers(at) && highest <= label.address {
+                found = Some((number, label.address));
                 highest = label.address;
             }
             number = number.wrapping_add(1);
@@ -245,30 +312,24 @@ impl Ground {
         found
     }
 
-    /// The base of an address's name: its label, if it is given, and its address.
-    fn base(&self, lens: &[u8], wanted: &[u8], at: usize) -> Option<(Option<usize>, usize)> {
-        if self.label(at).is_none() && byte_in(wanted, at) == 0 {
+    /// The base of an address that has a name: that of the label that covers it, or where a wanted item begins.
+    fn base(&self, lens: &[u8], wanted: &[u8], at: usize) -> Option<Base> {
+        if let Some((number, address)) = self.label(at) {
+            return Some((Some(number), address));
+        }
+        if byte_in(wanted, at) == 0 {
             return None;
         }
-        let at = if self.label(at).is_none() {
-            self.first(lens, at)
-        } else {
-            at
-        };
-        let number = self.label(at);
-        let address = match number {
-            Some(number) => match self.labels.as_slice().get(number) {
-                Some(label) => label.address,
-                None => at,
-            },
-            None => at,
-        };
-        Some((number, address))
+        let first = self.first(lens, at);
+        match self.label(first) {
+            Some((number, address)) => Some((Some(number), address)),
+            None => Some((None, first)),
+        }
     }
 
     fn place(&self, lens: &[u8], at: usize) -> Place {
         match self.role(at) {
-            None | Some((Skip, _)) => Place::Constant,
+            None | Some(Skip) => Place::Constant,
             Some(_) => {
                 if byte_in(lens, at) == 0 {
                     Place::Forward
@@ -278,6 +339,84 @@ impl Ground {
             }
         }
     }
+}
+
+fn is_jump(mnemonic: Mnemonic) -> bool {
+    matches!(mnemonic, Mnemonic::Jmp | Mnemonic::Jsr)
+}
+
+fn random_bytes(
+    alloc: Global,
+    numbers: &mut Numbers,
+    start: usize,
+    count: usize,
+) -> Result<Vec<u8>, AllocError> {
+    let mut bytes = Vec::new(alloc);
+    for _ in 0..count {
+        let byte = match numbers.next(2) {
+            0 => opcode_of(numbers.next(4)),
+            1 => ((start / 256).wrapping_add(numbers.next(1)) % 256) as u8,
+            _ => (numbers.next(8) % 256) as u8,
+        };
+        bytes.push(byte)?;
+    }
+    Ok(bytes)
+}
+
+/// Ranges that ascend.
+fn random_ranges(
+    alloc: Global,
+    numbers: &mut Numbers,
+    start: usize,
+) -> Result<Vec<Range>, AllocError> {
+    let mut ranges = Vec::new(alloc);
+    let mut next = start.saturating_sub(numbers.next(3));
+    for _ in 0..20 {
+        let first = next.wrapping_add(numbers.next(4));
+        let last = first.wrapping_add(numbers.next(4));
+        if last < 65_536 && first <= last {
+            let role = type_of(numbers.next(3));
+            ranges.push(Range { first, last, role })?;
+            next = last.wrapping_add(1);
+        }
+    }
+    Ok(ranges)
+}
+
+fn random_label(numbers: &mut Numbers, start: usize) -> Label {
+    let address = start.wrapping_add(numbers.next(8)) % 65_536;
+    let size = if numbers.next(2) == 0 {
+        numbers.next(5).wrapping_add(1)
+    } else {
+        1
+    };
+    Label { address, size }
+}
+
+fn has_label(labels: &[Label], address: usize) -> bool {
+    for label in labels {
+        if label.address == address {
+            return true;
+        }
+    }
+    false
+}
+
+/// Labels of different addresses.
+fn random_labels(
+    alloc: Global,
+    numbers: &mut Numbers,
+    start: usize,
+) -> Result<Vec<Label>, AllocError> {
+    let mut labels: Vec<Label> = Vec::new(alloc);
+    for _ in 0..30 {
+        let label = random_label(numbers, start);
+        let is_old = has_label(labels.as_slice(), label.address);
+        if !is_old && label.address.wrapping_add(label.size) <= 65_536 {
+            labels.push(label)?;
+        }
+    }
+    Ok(labels)
 }
 
 /// A random image of `count` bytes, with ranges and labels in it and beside it.
@@ -292,44 +431,9 @@ fn random_ground(
     } else {
         0x1000usize.wrapping_add(numbers.next(15))
     };
-    let mut bytes = Vec::new(alloc);
-    for _ in 0..count {
-        let byte = match numbers.next(2) {
-            0 => byte_in(OPCODES.as_slice(), numbers.next(4)),
-            1 => ((start / 256).wrapping_add(numbers.next(1)) % 256) as u8,
-            _ => (numbers.next(8) % 256) as u8,
-        };
-        bytes.push(byte)?;
-    }
-    let mut ranges = Vec::new(alloc);
-    let mut next = start.saturating_sub(numbers.next(3));
-    for _ in 0..20 {
-        let first = next.wrapping_add(numbers.next(4));
-        let last = first.wrapping_add(numbers.next(4));
-        if last < 65_536 && first <= last {
-            let kind = numbers.next(3);
-            ranges.push(Range { first, last, kind })?;
-            next = last.wrapping_add(1);
-        }
-    }
-    let mut labels: Vec<Label> = Vec::new(alloc);
-    for _ in 0..30 {
-        let address = start.wrapping_add(numbers.next(8)) % 65_536;
-        let size = if numbers.next(2) == 0 {
-            numbers.next(5).wrapping_add(1)
-        } else {
-            1
-        };
-        let mut is_new = true;
-        for label in &labels {
-            if label.address == address {
-                is_new = false;
-            }
-        }
-        if is_new && address.wrapping_add(size) <= 65_536 {
-            labels.push(Label { address, size })?;
-        }
-    }
+    let bytes = random_bytes(alloc, numbers, start, count)?;
+    let ranges = random_ranges(alloc, numbers, start)?;
+    let labels = random_labels(alloc, numbers, start)?;
     Ok(Ground {
         cpu,
         start,
@@ -339,44 +443,45 @@ fn random_ground(
     })
 }
 
+fn range_text(alloc: Global, range: &Range) -> Result<String, AllocError> {
+    let word = word_of(range.role);
+    format!(in alloc;
+        "RANGE {{ START {}; END {}; TYPE {word}; }};",
+        range.first, range.last
+    )
+}
+
+fn label_text(alloc: Global, number: usize, label: &Label) -> Result<String, AllocError> {
+    format!(in alloc;
+        "LABEL {{ ADDR {}; SIZE {}; NAME \"n{number}\"; }};",
+        label.address, label.size
+    )
+}
+
+fn cpu_text(cpu: Cpu) -> &'static str {
+    match cpu {
+        Cpu::M6502 => "",
+        Cpu::M65SC02 => "GLOBAL { CPU \"65SC02\"; };",
+        Cpu::M65C02 => "GLOBAL { CPU \"65C02\"; };",
+    }
+}
+
 /// The information file that says so.
-fn text_of(alloc: Global, ground: &Ground) -> Result<String, Fail> {
-    let mut text = match ground.cpu {
-        Cpu::M6502 => String::new(alloc),
-        Cpu::M65SC02 => String::from_str(alloc, "GLOBAL { CPU \"65SC02\"; };")?,
-        Cpu::M65C02 => String::from_str(alloc, "GLOBAL { CPU \"65C02\"; };")?,
-    };
+fn text_of(alloc: Global, ground: &Ground) -> Result<String, AllocError> {
+    let mut text = String::new(alloc);
+    text.push_str(cpu_text(ground.cpu))?;
     for range in &ground.ranges {
-        if let Some((_, word, _)) = TYPES.get(range.kind) {
-            text.push_str(format!(in alloc;
-                "RANGE {{ START {}; END {}; TYPE {word}; }};",
-                range.first, range.last
-            )?
-            .as_str())?;
-        }
+        text.push_str(range_text(alloc, range)?.as_str())?;
     }
     let mut number = 0usize;
     for label in &ground.labels {
-        text.push_str(format!(in alloc;
-            "LABEL {{ ADDR {}; SIZE {}; NAME \"n{number}\"; }};",
-            label.address, label.size
-        )?
-        .as_str())?;
+        text.push_str(label_text(alloc, number, label)?.as_str())?;
         number = number.wrapping_add(1);
     }
     Ok(text)
 }
 
-/// The role, the length and the name of an address by the rules.
-#[derive(Drop)]
-struct Expectation {
-    role: Option<RangeType>,
-    len: u8,
-    kind: Option<NameKind>,
-    text: String,
-}
-
-fn base_text(alloc: Global, base: Option<(Option<usize>, usize)>) -> Result<String, AllocError> {
+fn base_text(alloc: Global, base: Option<Base>) -> Result<String, AllocError> {
     match base {
         Some((Some(number), _)) => format!(in alloc; "n{number}"),
         Some((None, address)) => format!(in alloc; "L{address:04X}"),
@@ -384,92 +489,114 @@ fn base_text(alloc: Global, base: Option<(Option<usize>, usize)>) -> Result<Stri
     }
 }
 
-fn expected(
+/// The ground, with the length of the item that begins at each address, and which addresses are targets.
+#[derive(Drop)]
+struct Rules<'a> {
+    ground: &'a Ground,
+    lens: &'a [u8],
+    wanted: &'a [u8],
+}
+
+impl Rules<'_> {
+    fn base(&self, at: usize) -> Option<Base> {
+        self.ground.base(self.lens, self.wanted, at)
+    }
+
+    fn kind(&self, base: Option<Base>, at: usize) -> Option<NameKind> {
+        match base {
+            Some((_, address)) => Some(NameKind {
+                place: self.ground.place(self.lens, address),
+                offset: (at.wrapping_sub(address) % 65_536) as u16,
+            }),
+            None => None,
+        }
+    }
+}
+
+/// What the map says of the address by itself is what the rules say.
+fn agrees(map: &Map<'_>, rules: &Rules<'_>, address: u16) -> bool {
+    let at = address as usize;
+    map.role(address) == rules.ground.role(at) && map.item_len(address) == byte_in(rules.lens, at)
+}
+
+/// The name that the map gives the address is the one by the rules.
+fn names_agree(
     alloc: Global,
-    ground: &Ground,
-    lens: &[u8],
-    wanted: &[u8],
-    at: usize,
-) -> Result<Expectation, AllocError> {
-    let base = ground.base(lens, wanted, at);
-    let kind = match base {
-        Some((_, address)) => Some(NameKind {
-            place: ground.place(lens, address),
-            offset: (at.wrapping_sub(address) % 65_536) as u16,
-        }),
-        None => None,
-    };
-    let role = match ground.role(at) {
-        Some((role, _)) => Some(role),
-        None => None,
-    };
-    Ok(Expectation {
-        role,
-        len: byte_in(lens, at),
-        kind,
-        text: base_text(alloc, base)?,
-    })
-}
-
-const COUNTS: [usize; 7] = [1, 2, 40, 200, 300, 4096, 65_536];
-
-/// The map says of the address what the rules say.
-fn assert_one(
-    rt: &impl Abort,
     map: &Map<'_>,
+    rules: &Rules<'_>,
     buffer: &mut NameBuf,
-    want: &Expectation,
-    text: &str,
     address: u16,
-) {
+) -> Result<bool, AllocError> {
+    let at = address as usize;
+    let base = rules.base(at);
+    let text = base_text(alloc, base)?;
     let kind = map.name(address, buffer);
-    assert_eq!(rt; map.role(address), want.role, "{text} {address:04x}");
-    assert_eq!(rt; map.item_len(address), want.len, "{text} {address:04x}");
-    assert_eq!(rt; kind, want.kind, "{text} {address:04x}");
-    assert!(rt;
-        buffer.as_slice() == want.text.as_bytes(),
-        "{text} {address:04x}"
-    );
+    Ok(kind == rules.kind(base, at) && buffer.as_slice() == text.as_bytes())
 }
 
-/// The same of each address.
+/// The map says of each address what the rules say.
 fn assert_all(
     rt: &impl Abort,
     alloc: Global,
     map: &Map<'_>,
-    ground: &Ground,
+    rules: &Rules<'_>,
     text: &str,
 ) -> Result<(), AllocError> {
-    let lens = ground.items(alloc)?;
-    let wanted = ground.wanted(alloc, lens.as_slice())?;
     let mut buffer = NameBuf::new();
     for address in 0..=u16::MAX {
-        let at = address as usize;
-        let want = expected(alloc, ground, lens.as_slice(), wanted.as_slice(), at)?;
-        assert_one(rt, map, &mut buffer, &want, text, address);
+        let is_named = names_agree(alloc, map, rules, &mut buffer, address)?;
+        assert!(rt; is_named, "name: {text} {address:04x}");
+        assert!(rt; agrees(map, rules, address), "item: {text} {address:04x}");
     }
     Ok(())
+}
+
+fn image_of(alloc: Global, ground: &Ground) -> Result<Image, Fail> {
+    let bytes = Vec::from_slice(alloc, ground.bytes.as_slice())?;
+    let start = (ground.start % 65_536) as u16;
+    Ok(Image::from_bytes(Some(start), None, bytes)?)
+}
+
+fn info_of(alloc: Global, text: &str) -> Result<Info, Fail> {
+    Ok(read_info(alloc, &Options::<Global>::none(), text.as_bytes())?)
 }
 
 /// The same of the map of this image.
 fn assert_map(rt: &impl Abort, alloc: Global, ground: &Ground) -> Result<(), Fail> {
     let text = text_of(alloc, ground)?;
-    let info = read_info(alloc, &Options::<Global>::none(), text.as_bytes())?;
-    let bytes = Vec::from_slice(alloc, ground.bytes.as_slice())?;
-    let image = Image::from_bytes(Some((ground.start % 65_536) as u16), None, bytes)?;
+    let info = info_of(alloc, text.as_str())?;
+    let image = image_of(alloc, ground)?;
     let map = Map::build(alloc, &info, &image)?;
-    assert_all(rt, alloc, &map, ground, text.as_str())?;
+    let lens = ground.items(alloc)?;
+    let wanted = ground.wanted(alloc, lens.as_slice())?;
+    let rules = Rules {
+        ground,
+        lens: lens.as_slice(),
+        wanted: wanted.as_slice(),
+    };
+    assert_all(rt, alloc, &map, &rules, text.as_str())?;
+    Ok(())
+}
+
+/// The same of a random image of each of these sizes.
+fn assert_counts(
+    rt: &impl Abort,
+    alloc: Global,
+    numbers: &mut Numbers,
+    counts: &[usize],
+) -> Result<(), Fail> {
+    for count in counts {
+        for cpu in [Cpu::M6502, Cpu::M65SC02, Cpu::M65C02] {
+            let ground = random_ground(alloc, numbers, cpu, *count)?;
+            assert_map(rt, alloc, &ground)?;
+        }
+    }
     Ok(())
 }
 
 #[test]
 fn random_images(rt: HostRuntime) -> Result<(), Fail> {
     let mut numbers = Numbers { state: 65 };
-    for count in COUNTS {
-        for cpu in CPUS {
-            let ground = random_ground(rt.alloc(), &mut numbers, cpu, count)?;
-            assert_map(&rt, rt.alloc(), &ground)?;
-        }
-    }
-    Ok(())
+    let counts = [1, 2, 40, 200, 300, 4096, 65_536];
+    assert_counts(&rt, rt.alloc(), &mut numbers, counts.as_slice())
 }
