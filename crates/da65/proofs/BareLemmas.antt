@@ -7,7 +7,7 @@ use Rattle.isa65.specs.Opcodes.{Table, decoded}
 use Rattle.isa65.specs.declared.op.Op.{Op}
 use Rattle.map65.proofs.NameLemmas.{base-none}
 use Rattle.map65.specs.MapView.{MapView}
-use Rattle.map65.specs.Names.{Base, base_at, has_name, place_in, place_of}
+use Rattle.map65.specs.Names.{Base, has_name, place_in, place_of}
 use Rattle.map65.specs.Roles.{is_skip, role_at}
 use Rattle.map65.specs.declared.name.Place.TheVariants as place
 use Rattle.info65.specs.declared.range.RangeType.{RangeType}

@@ -1,8 +1,8 @@
 -- What a map tells of an address's name.
-use Rattle.std.proofs.Common.{◌≡◌, ◌∙◌, ◌⊎◌, ℕ, ◌+◌, ◌-◌, ◌<◌, ◌≤◌, ◌==◌, Bool, true, false, List, [], ◌∷◌, Option, Some, None, length, refl, ap, sym, subst, arith, ⊎_elim}
+use Rattle.std.proofs.Common.{◌≡◌, ◌∙◌, ℕ, ◌-◌, ◌≤◌, ◌==◌, Bool, true, false, List, [], ◌∷◌, Option, Some, None, length, refl, ap, sym, subst, arith, ⊎_elim}
 use Rattle.std.specs.Prelude.{IfSome, if◌then◌else◌}
 use Rattle.std.specs.Option.{option_map}
-use Rattle.std.proofs.lemmas.Bool.{cases_Bool, cases_eq, eq-eqb, false≢true, ne_eqb}
+use Rattle.std.proofs.lemmas.Bool.{cases_eq, eq-eqb, false≢true, ne_eqb}
 use Rattle.info65.specs.Names.{AreNames, blank_name, covering, default_name, has_name_form, name_at}
 use Rattle.info65.specs.Views.{NameView}
 use Rattle.map65.proofs.BaseLaws.{base_law}
@@ -11,10 +11,10 @@ use Rattle.map65.specs.MapView.{MapView}
 use Rattle.map65.specs.Names.{Base, base_at, given_base, has_name, home, home_base, is_wanted, kind_at, kind_by, place_of, text_at, text_by}
 use Rattle.map65.specs.declared.name.NameKind.{NameKind}
 use Rattle.map65.specs.declared.name.Place.{Place}
-use Rattle.stmt65.specs.Printable.{IsLong, IsNameLong, IsShort}
+use Rattle.stmt65.specs.Printable.{IsNameLong}
 use Rattle.stmt65.specs.Views as view
 use Rattle.stmt65.specs.Views.{ExprView, TargetView}
-use Rattle.da65.specs.BaseNames.{base_name, is_base, is_constant, is_own, names_of}
+use Rattle.da65.specs.BaseNames.{base_name, is_constant, is_own, names_of}
 use Rattle.da65.specs.Code.Bases.{base_place, constant_offset, own_place}
 use Rattle.da65.specs.Statements.{address_expr, constant_base, expr_from, target_by, zero_page_expr}
 

@@ -1,10 +1,10 @@
 -- The comments of given names, and the names of segments, can be printed.
-use Rattle.std.proofs.Common.{◌≡◌, ◌∙◌, ℕ, ◌≤◌, Bool, true, false, not, cond, List, [], ◌∷◌, length, Option, Some, None, All, nat_le, refl, ap, sym, subst, arith}
+use Rattle.std.proofs.Common.{◌≡◌, ◌∙◌, ℕ, Bool, true, false, not, List, [], ◌∷◌, length, Option, Some, None, All, nat_le, refl, ap, sym, subst, arith}
 use Rattle.std.specs.Prelude.{IfSome, ◌==◌, if◌then◌else◌, option_map}
 use Rattle.std.specs.List.{find, list_all}
 use Rattle.std.proofs.lemmas.Bool.{and_from, and_parts, leb-true}
 use Rattle.std.proofs.lemmas.Bool.Decides.{nat_tests}
-use Rattle.info65.specs.Names.{AreNames, IsComment, blank_name, covering, has_comment_form, is_comment_byte, name_at}
+use Rattle.info65.specs.Names.{AreNames, IsComment, blank_name, covering, has_comment_form, is_comment_byte}
 use Rattle.info65.specs.Names.{has_name_form as given_form}
 use Rattle.info65.specs.Segments.{AreSegments, IsSegment, contains, segment_covering}
 use Rattle.info65.specs.Views.{InfoView, NameView, SegmentView}

@@ -16,7 +16,7 @@ use Rattle.info65.specs.declared.segment.SegmentSpec.{SegmentSpec}
 use Rattle.map65.specs.ImageView.{ImageView}
 use Rattle.map65.specs.MapView.{MapView}
 use Rattle.map65.specs.Roles.{is_skip, role_of}
-use Rattle.da65.specs.Entering.{enters_again, is_among, is_entered_again, leads_back, segment_name}
+use Rattle.da65.specs.Entering.{enters_again, is_entered_again, leads_back, segment_name}
 use Rattle.da65.specs.Code.Entering.{IsDecidedFrom, is_name}
 use Rattle.da65.specs.Groups.{IsGroupPlace, group_addresses, group_len, groups_from}
 use Rattle.da65.specs.Segments.{is_same_segment, segment_at}

@@ -7,20 +7,19 @@ use denote.Bor.{Bor}
 use Rattle.info65.specs.Code.Names.{given_seen}
 use Rattle.info65.specs.declared.name.Given.{Given}
 use Rattle.std.specs.Bool.{OnFalse}
-use Rattle.info65.specs.Names.{AreNames, blank_name, covering, name_at}
+use Rattle.info65.specs.Names.{AreNames, covering, name_at}
 use Rattle.info65.specs.Segments.{AreSegments, contains, segment_covering}
 use Rattle.info65.specs.Views.{InfoView, NameView, SegmentView}
 use Rattle.map65.proofs.NameLemmas.{last-name}
 use Rattle.map65.specs.ImageView.{ImageView, IsPlaced}
 use Rattle.map65.specs.MapView.{MapView}
-use Rattle.map65.specs.Pieces.{is_in_run}
 use Rattle.map65.specs.Spans.{addresses}
 use Rattle.da65.specs.Comments.{comment_at, comment_by}
 use Rattle.da65.specs.Groups.{group_len}
 use Rattle.da65.specs.Lines.{IsListed, IsUnmarked}
-use Rattle.da65.specs.Listing.{ListingLine, comment_line, comment_lines, comments, has_separator, opening_lines, plain, segment_lines, separator, separator_lines}
+use Rattle.da65.specs.Listing.{ListingLine, comment_line, comment_lines, comments, opening_lines, segment_lines, separator_lines}
 use Rattle.da65.specs.Marks.{HasNoComments, HasNoMarks}
-use Rattle.da65.specs.Segments.{is_same_segment, segment_at, segment_before, segment_statement}
+use Rattle.da65.specs.Segments.{segment_at}
 use Rattle.da65.specs.Style.{style_of}
 use Rattle.da65.specs.declared.style.Style.{Style}
 use Rattle.da65.proofs.SegmentLemmas.{segment-none}

@@ -1,6 +1,6 @@
 -- The next of the lines that are left.
-use Rattle.std.proofs.Common.{◌≡◌, ◌∙◌, ℕ, zero, suc, ◌+◌, ◌-◌, ◌<◌, ◌≤◌, ◌∷◌, ◌++◌, ◌&&◌, [], Bool, true, false, List, Option, Some, None, length, drop, take, map, refl, ap, sym, subst, codes, arith, append_assoc, ⊎_elim, inl, inr}
-use Rattle.std.specs.Prelude.{MatchOption, if◌then◌else◌, not, nat_lt}
+use Rattle.std.proofs.Common.{◌≡◌, ◌∙◌, ℕ, suc, ◌+◌, ◌-◌, ◌<◌, ◌≤◌, ◌∷◌, ◌++◌, ◌&&◌, [], Bool, true, false, List, Option, Some, None, length, drop, take, map, refl, ap, sym, subst, codes, arith, append_assoc, ⊎_elim, inl, inr}
+use Rattle.std.specs.Prelude.{MatchOption, if◌then◌else◌}
 use Rattle.std.specs.List.{flat_map}
 use Rattle.std.proofs.lemmas.Bool.{and_parts, cases_lt}
 use Rattle.isa65.specs.Cpu.{table_of}
@@ -15,7 +15,6 @@ use Rattle.info65.specs.declared.range.RangeType.{RangeType}
 use Rattle.info65.specs.declared.range.RangeType.TheVariants as role
 use Rattle.map65.specs.MapView.{MapView, opcodes}
 use Rattle.map65.specs.Names.{place_of}
-use Rattle.map65.specs.Pieces.{is_in_run}
 use Rattle.map65.specs.Roles.{is_skip, role_of}
 use Rattle.map65.specs.Spans.{addresses}
 use Rattle.map65.specs.declared.name.Place.{Place}
@@ -23,15 +22,15 @@ use Rattle.da65.specs.BaseNames.{Names, base_name, is_base, is_constant, names_o
 use Rattle.da65.specs.Code.Bases.{base_place}
 use Rattle.da65.specs.Comments.{comment_at}
 use Rattle.da65.specs.Groups.{IsGroupPlace, group_bytes, group_len, groups_from}
-use Rattle.da65.specs.Lines.{IsConstant, IsFirstOf, IsGroupStart, IsInGroup, IsNext, IsPlace, IsUnmarked, after_group, closed, comments_left, constants_left, group_left, groups_left, left_from, lines_from, segment_left, segment_of, statement_left}
-use Rattle.da65.specs.Listing.{ListingLine, assignment_line, comment_line, comment_lines, comments, constant_lines, constants, ending_lines, forward_lines, forwards, group_line, group_lines, has_constant_line, has_empty_line, has_separator, label_at, labelled, line_text, lines_of, listing, listing_below, opening_lines, plain, segment_lines, separator, separator_lines, statement_lines, with_empty_line}
+use Rattle.da65.specs.Lines.{IsConstant, IsFirstOf, IsGroupStart, IsInGroup, IsNext, IsPlace, IsUnmarked, after_group, closed, comments_left, constants_left, group_left, groups_left, left_from, lines_from, segment_left, segment_of}
+use Rattle.da65.specs.Listing.{ListingLine, assignment_line, comment_line, comment_lines, comments, constant_lines, constants, ending_lines, forward_lines, forwards, group_line, group_lines, has_constant_line, has_empty_line, has_separator, label_at, labelled, line_text, listing, listing_below, opening_lines, plain, segment_lines, separator, separator_lines, statement_lines}
 use Rattle.da65.specs.Segments.{is_same_segment, segment_at, segment_before, segment_statement}
 use Rattle.da65.specs.Instructions.{instruction_in, size_of}
 use Rattle.da65.specs.Shapes.{IsGroupOf}
 use Rattle.da65.specs.Statements.{statement_at, statement_for}
 use Rattle.da65.specs.Style.{style_of}
 use Rattle.da65.specs.declared.place.ListingPlace.{ListingPlace}
-use Rattle.da65.specs.declared.place.ListingPlace.TheVariants.{Title, AfterTitle, CpuLine, AfterCpu, Constant, Assignment, Group, Segment, Comment, Forward, Statement, Ending}
+use Rattle.da65.specs.declared.place.ListingPlace.TheVariants.{AfterTitle, Constant, Group, Comment, Ending}
 use Rattle.da65.specs.declared.style.Style.{Style}
 use Rattle.da65.proofs.GroupLemmas.{group-some, groups-end, groups-first, groups-next, groups-skip, place-next}
 use Rattle.da65.proofs.LabelLaws.{group_takes}

@@ -1,5 +1,5 @@
 -- Roles, items and pieces, by what a map tells.
-use Rattle.std.proofs.Common.{◌≡◌, ◌∙◌, ℕ, suc, ◌+◌, ◌-◌, ◌<◌, ◌≤◌, ◌&&◌, ◌||◌, ◌==◌, nat_le, nat_lt, not, Bool, true, false, List, [], ◌∷◌, Option, Some, None, get_or, length, refl, ap, sym, arith}
+use Rattle.std.proofs.Common.{◌≡◌, ◌∙◌, ℕ, suc, ◌<◌, ◌≤◌, ◌&&◌, ◌||◌, ◌==◌, nat_le, nat_lt, not, Bool, true, false, List, [], ◌∷◌, Option, Some, None, length, refl, ap, sym, arith}
 use Rattle.std.proofs.lemmas.Option.{cond_some, none-some}
 use Rattle.std.specs.List.{list_any}
 use Rattle.std.proofs.lemmas.Bool.{and_parts, and_from, both_ways, cond-false, cond_both, eq-eqb, eqb-true, false≢true, lt-ltb, ltb-true, leb-true, le-leb}
@@ -10,11 +10,11 @@ use Rattle.info65.specs.declared.range.RangeType.{RangeType}
 use Rattle.map65.specs.ImageView.{IsPlaced, end_of, is_inside}
 use Rattle.map65.specs.Items.{item_len}
 use Rattle.map65.specs.MapView.{MapView}
-use Rattle.map65.specs.Names.{Base, base_at, given_base}
+use Rattle.map65.specs.Names.{Base}
 use Rattle.map65.specs.Pieces.{is_in_run, is_joined, is_own}
 use Rattle.map65.proofs.ItemLemmas.{in-run}
 use Rattle.map65.proofs.NameLemmas.{base-covered}
-use Rattle.map65.specs.Roles.{is_role, is_wide, role_at, role_of}
+use Rattle.map65.specs.Roles.{is_wide, role_at, role_of}
 use Rattle.da65.specs.BaseNames as base_names
 use Rattle.da65.specs.Groups.{goes_on, is_defined, is_whole}
 

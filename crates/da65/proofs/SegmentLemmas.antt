@@ -1,10 +1,10 @@
 -- The segment of the group before.
-use Rattle.std.proofs.Common.{◌≡◌, ◌∙◌, ℕ, zero, suc, ◌+◌, ◌-◌, ◌<◌, ◌≤◌, Bool, true, false, List, length, Option, Some, None, refl, ap, sym, arith}
+use Rattle.std.proofs.Common.{◌≡◌, ◌∙◌, ℕ, zero, suc, ◌+◌, ◌-◌, ◌<◌, true, false, List, length, Option, Some, None, refl, ap, arith}
 use Rattle.std.proofs.lemmas.Bool.{cond-true, cond-false, cond_both}
 use Rattle.std.proofs.lemmas.Slice.Eq.{bytes_eq-Decides}
 use Rattle.map65.specs.MapView.{MapView}
 use Rattle.map65.specs.Roles.{is_skip, role_of}
-use Rattle.da65.specs.Groups.{IsGroupPlace, begins, group_len, stride_at}
+use Rattle.da65.specs.Groups.{begins, group_len, stride_at}
 use Rattle.da65.specs.Lines.{IsGroupStart}
 use Rattle.da65.specs.Segments.{is_same_segment, segment_at, segment_before}
 use Rattle.da65.proofs.GroupLemmas.{begins-inside, begins-skip, begins-true, group-fits, group-some, left-within, stride-group}

@@ -1,11 +1,9 @@
 -- Without a range SKIP no byte is skipped.
-use Rattle.std.proofs.Common.{◌≡◌, ◌∙◌, ℕ, suc, zero, ◌+◌, Bool, true, false, List, [], ◌∷◌, length, refl, ap}
+use Rattle.std.proofs.Common.{◌≡◌, ℕ, suc, zero, ◌+◌, Bool, true, false, List, [], ◌∷◌, length, refl}
 use Rattle.std.specs.Prelude.{if◌then◌else◌, ◌||◌}
 use Rattle.std.specs.List.{list_any}
-use Rattle.std.proofs.lemmas.Bool.{cases_Bool}
 use Rattle.info65.specs.Ranges.{has_address}
 use Rattle.info65.specs.declared.range.RangeSpec.{RangeSpec}
-use Rattle.info65.specs.declared.range.RangeType.{RangeType}
 use Rattle.map65.specs.MapView.{MapView}
 use Rattle.map65.specs.Roles.{is_skip, role_in, role_of}
 use Rattle.map65.specs.Spans.{addresses}

@@ -1,5 +1,5 @@
 -- Worked examples: the listings of small images, as text below the header.
-use Rattle.std.specs.Prelude.{◌≡◌, ℕ, Bool, true, false, List, [], ◌∷◌, drop, map, codes, None, Some}
+use Rattle.std.specs.Prelude.{◌≡◌, ℕ, true, List, [], ◌∷◌, drop, map, codes, None, Some}
 use Rattle.info65.specs.Views.{NameView, SegmentView, SettingsView, default_settings}
 use Rattle.info65.specs.declared.range.RangeSpec.{RangeSpec}
 use Rattle.info65.specs.declared.range.RangeType.{RangeType}

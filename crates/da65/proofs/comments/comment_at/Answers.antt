@@ -1,4 +1,4 @@
-use Rattle.std.proofs.Common.{◌∙◌, ap, sym}
+use Rattle.std.proofs.Common.{sym}
 use Rattle.da65.proofs.CommentLemmas.{given-told, some-printable}
 use Rattle.da65.proofs.comments.comment_at.Goals as goal
 

@@ -1,7 +1,6 @@
-use Rattle.std.proofs.Common.{◌≡◌, ◌∙◌, ◌+◌, ◌<◌, ◌≤◌, length, true, false, ap, arith, subst, sym}
+use Rattle.std.proofs.Common.{◌≡◌, ◌∙◌, ◌+◌, ◌<◌, ◌≤◌, length, ap, arith, subst, sym}
 use Rattle.map65.specs.Items.{item_len}
 use Rattle.map65.specs.MapView.{MapView}
-use Rattle.map65.specs.Roles.{is_skip, role_of}
 use Rattle.std.proofs.lemmas.Bool.{eqb-true}
 use Rattle.std.proofs.lemmas.List.{nil_from_length}
 use Rattle.std.specs.Prelude.{ℕ, ◌||◌, List, Option}
@@ -9,7 +8,6 @@ use Rattle.std.specs.Str.{bytes_eq}
 use Rattle.da65.specs.Code.Entering.{has_had, last_of}
 use Rattle.da65.specs.Entering.{segment_name}
 use Rattle.da65.specs.Groups.{IsGroupPlace, group_len}
-use Rattle.da65.specs.Segments.{segment_at}
 use Rattle.da65.proofs.EnteringLemmas.{back-told, byte-told, count-told, decided-back, decided-end, decided-first, decided-next, decided-skip, never-entered, none-seen, on-false, segment-told, skip-told}
 use Rattle.da65.proofs.GroupLemmas.{first_place, group-some, item-begins, place-next, place-skip}
 use Rattle.da65.proofs.entering.is_entered_again.Goals as goal

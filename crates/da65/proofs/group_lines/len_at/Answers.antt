@@ -1,4 +1,4 @@
-use Rattle.std.proofs.Common.{◌≡◌, ◌∙◌, ap, arith, sym}
+use Rattle.std.proofs.Common.{◌∙◌, ap}
 use Rattle.map65.specs.MapView.{MapView}
 use Rattle.da65.specs.Groups.{group_len}
 use Rattle.da65.proofs.GroupLemmas.{item-begins}

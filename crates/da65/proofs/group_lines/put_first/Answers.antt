@@ -1,8 +1,7 @@
-use Rattle.std.proofs.Common.{◌≡◌, ◌∙◌, ◌++◌, List, ap, sym}
+use Rattle.std.proofs.Common.{◌∙◌, ◌++◌, List, ap, sym}
 use Rattle.map65.specs.MapView.{MapView}
 use Rattle.map65.specs.Names.{has_name}
-use Rattle.da65.specs.BaseNames.{base_name, names_of}
-use Rattle.da65.specs.Code.Bases.{base_place}
+use Rattle.da65.specs.BaseNames.{names_of}
 use Rattle.da65.specs.Lines.{after_group}
 use Rattle.da65.specs.Listing.{ListingLine, label_at}
 use Rattle.da65.proofs.BaseLemmas.{place-none}

@@ -1,11 +1,6 @@
-use Rattle.std.proofs.Common.{◌≡◌, ◌∙◌, ◌+◌, ap, arith, length, length-drop, refl, subst, sym}
-use Rattle.std.specs.Option.{option_copied}
+use Rattle.std.proofs.Common.{◌∙◌, ap, arith, length, length-drop, sym}
 use Rattle.da65.proofs.GroupLemmas.{group-fits, group-some}
 use Rattle.da65.proofs.NextLemmas.{empty-told, few-bytes, group-here, group-shaped, label-told, line-told, then-empty, then-group}
-use Rattle.da65.specs.Style.{style_of}
-use Rattle.da65.specs.declared.style.Style.{Style}
-use Rattle.stmt65.specs.Printable.{MayBeLabelled}
-use Rattle.stmt65.specs.Views.{StatementView}
 use Rattle.da65.proofs.group_lines.put_group.Goals as goal
 
 pub split_at-requires-2 : goal.split_at-requires-2

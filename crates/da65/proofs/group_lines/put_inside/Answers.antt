@@ -1,4 +1,4 @@
-use Rattle.std.proofs.Common.{◌≡◌, ◌∙◌, ◌+◌, ap, arith, refl, sym}
+use Rattle.std.proofs.Common.{arith, refl}
 use Rattle.da65.proofs.NextLemmas.{forward-end, forward-first, next-moved}
 use Rattle.da65.proofs.group_lines.put_inside.Goals as goal
 

@@ -1,6 +1,5 @@
-use Rattle.std.proofs.Common.{◌≡◌, ◌∙◌, ◌++◌, ℕ, List, Some, ap, sym}
+use Rattle.std.proofs.Common.{◌∙◌, ◌++◌, ℕ, List, Some, ap, sym}
 use Rattle.map65.specs.MapView.{MapView}
-use Rattle.map65.specs.Names.{has_name}
 use Rattle.da65.specs.BaseNames.{base_name, names_of}
 use Rattle.da65.specs.Code.Bases.{base_place}
 use Rattle.da65.specs.Lines.{after_group}

@@ -1,4 +1,4 @@
-use Rattle.std.proofs.Common.{◌∙◌, arith, sym}
+use Rattle.std.proofs.Common.{◌∙◌, sym}
 use Rattle.da65.proofs.StepLemmas.{group-one}
 use Rattle.da65.proofs.groups.group_len.Goals as goal
 

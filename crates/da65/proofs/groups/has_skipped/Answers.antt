@@ -1,7 +1,6 @@
-use Rattle.std.proofs.Common.{◌≡◌, ◌∙◌, Bool, List, false, ap, sym}
+use Rattle.std.proofs.Common.{◌≡◌, ◌∙◌, ap, sym}
 use Rattle.std.specs.List.{list_any}
 use Rattle.info65.specs.Views.{InfoView}
-use Rattle.info65.specs.declared.range.RangeSpec.{RangeSpec}
 use Rattle.da65.specs.Code.SkipRanges.{is_skip_range}
 use Rattle.da65.proofs.SkipLemmas.{no-skips}
 use Rattle.da65.proofs.groups.has_skipped.Goals as goal

@@ -1,4 +1,4 @@
-use Rattle.std.proofs.Common.{◌∙◌, refl, sym}
+use Rattle.std.proofs.Common.{◌∙◌, sym}
 use Rattle.da65.proofs.GroupLemmas.{first_place}
 use Rattle.da65.proofs.NextLemmas.{constant-blank, constant-none, match-moved, next-plain, next-there}
 use Rattle.da65.proofs.SegmentLemmas.{segment-first}

@@ -1,4 +1,4 @@
-use Rattle.std.proofs.Common.{◌∙◌, refl, sym}
+use Rattle.std.proofs.Common.{sym}
 use Rattle.da65.proofs.NextLemmas.{lines-title, next-plain}
 use Rattle.da65.proofs.lines.put_next.Goals as goal
 

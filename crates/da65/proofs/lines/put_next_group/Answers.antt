@@ -1,6 +1,5 @@
-use Rattle.std.proofs.Common.{◌≡◌, ◌∙◌, ◌+◌, ◌<◌, ℕ, ap, arith, length, refl, sym}
+use Rattle.std.proofs.Common.{◌∙◌, ◌+◌, ℕ, ap, length, sym}
 use Rattle.da65.specs.Lines.{group_left}
-use Rattle.da65.proofs.GroupLemmas.{group-some}
 use Rattle.da65.proofs.NextLemmas.{group-start, inside-start, lines-end, lines-unmarked, next-moved, next-there}
 use Rattle.da65.proofs.SegmentLemmas.{segment-none}
 use Rattle.da65.proofs.lines.put_next_group.Goals as goal

@@ -1,4 +1,4 @@
-use Rattle.std.proofs.Common.{◌∙◌, ap, arith, sym}
+use Rattle.std.proofs.Common.{arith}
 use Rattle.da65.proofs.MarkLemmas.{none-more, none-shown}
 use Rattle.da65.proofs.marks.has_comment.Goals as goal
 

@@ -1,6 +1,4 @@
-use Rattle.std.proofs.Common.{◌∙◌, ap, sym, subst}
-use Rattle.stmt65.specs.Printable.{IsNameLong}
-use Rattle.stmt65.specs.Views as view
+use Rattle.std.proofs.Common.{◌∙◌, sym}
 use Rattle.da65.proofs.BaseLemmas.{expr-named, expr-number, text-long}
 use Rattle.da65.proofs.names.address_expr.Goals as goal
 

@@ -1,5 +1,4 @@
-use Rattle.std.proofs.Common.{◌∙◌, ap, sym, subst}
-use Rattle.std.specs.Prelude.{IfSome, Option}
+use Rattle.std.proofs.Common.{◌∙◌, ap, sym}
 use Rattle.da65.proofs.BaseLemmas.{place-none, place-own, some-long, some-text}
 use Rattle.da65.specs.Code.Bases.{own_place}
 use Rattle.da65.proofs.names.base_at.Goals as goal

@@ -1,4 +1,4 @@
-use Rattle.std.proofs.Common.{◌∙◌, ap, sym, subst}
+use Rattle.std.proofs.Common.{◌∙◌, sym}
 use Rattle.da65.proofs.BaseLemmas.{target-named, target-none, text-long}
 use Rattle.da65.proofs.names.target.Goals as goal
 

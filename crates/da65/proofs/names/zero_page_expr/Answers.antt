@@ -1,4 +1,4 @@
-use Rattle.std.proofs.Common.{◌∙◌, ap, sym, subst}
+use Rattle.std.proofs.Common.{◌∙◌, ap, sym}
 use Rattle.da65.specs.Code.Bases.{constant_offset}
 use Rattle.da65.proofs.BaseLemmas.{zero-long, zero-named, zero-number}
 use Rattle.da65.proofs.names.zero_page_expr.Goals as goal

@@ -1,4 +1,4 @@
-use Rattle.std.proofs.Common.{◌∙◌, refl, sym}
+use Rattle.std.proofs.Common.{◌∙◌, sym}
 use Rattle.da65.proofs.NextLemmas.{next-moved, next-plain, separator-no, separator-yes}
 use Rattle.da65.proofs.opening_lines.put_opening.Goals as goal
 

@@ -1,4 +1,3 @@
-use Rattle.std.proofs.Common.{◌∙◌, ap, sym}
 use Rattle.da65.proofs.CommentLemmas.{segment-told, some-segment}
 use Rattle.da65.proofs.segments.segment_at.Goals as goal
 

@@ -1,6 +1,6 @@
 use Rattle.std.proofs.Common.{◌∙◌, ◌||◌, Bool, ap, sym}
 use Rattle.da65.specs.Code.Entering.{is_name}
-use Rattle.da65.proofs.EnteringLemmas.{kept-first, left-more}
+use Rattle.da65.proofs.EnteringLemmas.{left-more}
 use Rattle.da65.proofs.entering.Entered.leave.Goals as goal
 
 pub returns-in_ok-insert-clause-had : goal.returns-in_ok-insert-clause-had
