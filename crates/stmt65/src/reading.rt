@@ -1,11 +1,12 @@
 //! What a line says.
 
-ghost use Rattle.std.specs.Prelude.{◌≡◌, IfOk, Option, Some, None};
+ghost use Rattle.std.specs.Prelude.{◌≡◌, IfOk, Option, Some, None, if◌then◌else◌};
 ghost use Rattle.std.specs.Option.{option_copied, option_map};
 ghost use Rattle.stmt65.specs.code.Found.{Gives};
 ghost use Rattle.stmt65.specs.code.SourceLineViews.{operation_of, source_of};
 ghost use Rattle.stmt65.specs.Lexing.{parts};
-ghost use Rattle.stmt65.specs.Reading.{constant_of, stated, line_at, reading_of};
+ghost use Rattle.stmt65.specs.Names.{is_name};
+ghost use Rattle.stmt65.specs.Reading.{constant_of, stated, operation_at, operation_of as operation_read, line_at, reading_of};
 
 use crate::lexer::Part;
 use crate::names::is_name;
@@ -50,6 +51,43 @@ fn stated<'a, A: Allocator>(
     Some(SourceLine::Statement { label, operation })
 }
 
+/// Behind a label and its colon.
+fn labelled<'a, A: Allocator>(
+    alloc: A,
+    word: &'a [u8],
+    parts: &mut Parts<'a>,
+) -> Result<Option<SourceLine<'a, A>>, AllocError>
+    ensures { IfOk result (λ found. Gives source_of found (if is_name word.now then stated (Some word.now) (operation_read parts.old) else None)) }
+{
+    if !is_name(word) {
+        return Ok(None);
+    }
+    let operation = operation_of(alloc, parts)?;
+    Ok(stated(Some(word), operation))
+}
+
+/// Behind a name and `:=`, if it is one.
+fn defined<'a, A: Allocator>(word: &'a [u8], parts: &mut Parts<'a>) -> Option<SourceLine<'a, A>>
+    ensures { Gives source_of result (if is_name word.now then constant_of word.now parts.old else None) }
+{
+    if !is_name(word) {
+        return None;
+    }
+    constant_of(word, parts)
+}
+
+/// Behind the word of an operation without a label.
+fn unlabelled<'a, A: Allocator>(
+    alloc: A,
+    word: &'a [u8],
+    parts: &mut Parts<'a>,
+) -> Result<Option<SourceLine<'a, A>>, AllocError>
+    ensures { IfOk result (λ found. Gives source_of found (stated None (operation_at word.now parts.old))) }
+{
+    let operation = operation_at(alloc, word, parts)?;
+    Ok(stated(None, operation))
+}
+
 /// A line that begins with the word.
 #[tactic(auto, unfolding(crate::specs::Reading::line_at))]
 fn line_at<'a, A: Allocator>(
@@ -60,20 +98,12 @@ fn line_at<'a, A: Allocator>(
     ensures { IfOk result (λ found. Gives source_of found (line_at word.now parts.old)) }
 {
     if parts.eat(b':') {
-        if !is_name(word) {
-            return Ok(None);
-        }
-        let operation = operation_of(alloc, parts)?;
-        return Ok(stated(Some(word), operation));
+        return labelled(alloc, word, parts);
     }
     if parts.eat_define() {
-        if !is_name(word) {
-            return Ok(None);
-        }
-        return Ok(constant_of(word, parts));
+        return Ok(defined(word, parts));
     }
-    let operation = operation_at(alloc, word, parts)?;
-    Ok(stated(None, operation))
+    unlabelled(alloc, word, parts)
 }
 
 /// What the parts say.
