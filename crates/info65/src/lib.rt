@@ -42,8 +42,6 @@ mod segment;
 mod segment_groups;
 mod segment_table;
 mod settings;
-#[cfg(test)]
-mod tests;
 mod token;
 mod values;
 

@@ -15,8 +15,6 @@ mod mos_6502;
 mod op;
 mod opcode_set;
 mod rockwell_65c02;
-#[cfg(test)]
-mod tests;
 
 pub use cmos_65sc02::Cmos65Sc02;
 pub use cpu::Cpu;

@@ -19,8 +19,6 @@ mod reading;
 mod roles;
 mod sweep;
 mod target;
-#[cfg(test)]
-mod tests;
 mod told;
 
 pub use device::{DeviceFault, Sink, Source};

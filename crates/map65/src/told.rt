@@ -54,6 +54,3 @@ impl<T: Write> Sink for Told<T> {
         }
     }
 }
-
-#[cfg(test)]
-mod tests;

@@ -139,6 +139,3 @@ pub fn assemble<A: Allocator + Clone>(
     }
     Ok(out)
 }
-
-#[cfg(test)]
-mod tests;

@@ -36,8 +36,6 @@ mod source_line;
 mod state;
 mod statement;
 mod symbols;
-#[cfg(test)]
-mod tests;
 mod values;
 
 pub use assembler::assemble;

@@ -3,15 +3,9 @@
 mod definitions;
 mod digits;
 mod fields;
-#[cfg(test)]
-mod level_tests;
 mod levels;
-#[cfg(test)]
-mod name_tests;
 mod operand;
 mod tables;
-#[cfg(test)]
-mod tests;
 
 ghost use Rattle.std.specs.Prelude.{◌≡◌, ◌+◌, ◌<◌, ◌≤◌, ◌*◌, [], ◌∷◌, ◌++◌, length, codes, Some, IfSome};
 ghost use Rattle.std.specs.Option.{option_copied, option_map};

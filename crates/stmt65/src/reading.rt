@@ -15,8 +15,6 @@ use crate::parts::Parts;
 use crate::source_line::{Operation, SourceLine};
 use std::alloc::{AllocError, Allocator};
 
-#[cfg(test)]
-pub mod tests;
 
 /// Behind the name and `:=`.
 #[tactic(auto, unfolding(crate::specs::Reading::constant_of))]

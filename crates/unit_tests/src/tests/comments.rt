@@ -1,6 +1,6 @@
 // Comments of names.
 use crate::tests::files::are_refused;
-use crate::{Info, InfoFaultKind, Options, read_info};
+use info65::{Info, InfoFaultKind, Options, read_info};
 use std::alloc::{AllocError, Global};
 use std::process::Abort;
 use std::test::Fail;

@@ -6,15 +6,15 @@ ghost use Rattle.isa65.specs.declared.op.Op.{Op};
 ghost use Rattle.stmt65.specs.Printable.{IsPrintable, MayBeLabelled};
 ghost use Rattle.stmt65.specs.Views.{statement_seen};
 
-use crate::reading::tests::source;
-use crate::{
-    Column, Columns, Expr, LabelBreak, Level, LimitError, Line, Operands, Remarks, Statement,
-    Target, assemble, put_line,
-};
+use crate::tests::source_lines::source;
 use isa65::{Mnemonic, Mode, Op};
 use std::alloc::Global;
 use std::process::Abort;
 use std::test::Fail;
+use stmt65::{
+    Column, Columns, Expr, LabelBreak, Level, LimitError, Line, Operands, Remarks, Statement,
+    Target, assemble, put_line,
+};
 
 /// A name of 80 bytes.
 fn longest() -> &'static [u8]

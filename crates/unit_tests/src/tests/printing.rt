@@ -2,10 +2,10 @@ ghost use Rattle.std.specs.Prelude.{◌≤◌, length};
 ghost use Rattle.stmt65.specs.Printable.{IsPrintable};
 ghost use Rattle.stmt65.specs.Views.{statement_seen};
 
-use crate::{Column, Columns, Level, Line, Remarks, Statement, assemble, put_line};
 use std::alloc::Global;
 use std::process::Abort;
 use std::test::Fail;
+use stmt65::{Column, Columns, Level, Line, Remarks, Statement, assemble, put_line};
 
 /// The line of the statement, and the bytes that it assembles to.
 fn shows(

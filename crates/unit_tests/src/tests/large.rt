@@ -1,5 +1,5 @@
 // Large files, with ample memory: each is read whole.
-use crate::{Info, Options, read_info};
+use info65::{Info, Options, read_info};
 use std::alloc::{AllocError, Global};
 use std::process::Abort;
 use std::test::Fail;

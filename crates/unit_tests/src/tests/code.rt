@@ -1,7 +1,7 @@
 //! Roles and items of images of which every address is code.
 
-use crate::{Image, Map};
 use info65::{Info, Options, RangeType, read_info};
+use map65::{Image, Map};
 use std::alloc::Global;
 use std::process::Abort;
 use std::test::Fail;

@@ -1,8 +1,8 @@
 //! Which image an input gives, and devices that fail.
 ghost use Rattle.std.specs.Prelude.{Some};
 
-use crate::{DeviceFault, ImageFault, Sink, Told, read_image};
 use info65::{Info, Options, read_info};
+use map65::{DeviceFault, ImageFault, Sink, Told, read_image};
 use std::alloc::Global;
 use std::io;
 use std::io::{ErrorKind, Read, Write};

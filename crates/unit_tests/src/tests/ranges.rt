@@ -1,6 +1,6 @@
 // Groups RANGE that are accepted and refused.
 use crate::tests::files::are_refused;
-use crate::{Info, InfoFault, InfoFaultKind, Options, RangeSpec, RangeType, read_info};
+use info65::{Info, InfoFault, InfoFaultKind, Options, RangeSpec, RangeType, read_info};
 use std::alloc::Global;
 use std::process::Abort;
 use std::test::Fail;

@@ -1,5 +1,5 @@
 // Tokens and their faults.
-use crate::{InfoFault, InfoFaultKind, Lexer, TokenKind};
+use info65::{InfoFault, InfoFaultKind, Lexer, TokenKind};
 
 #[test]
 fn a_fault_stays(rt: HostRuntime) {

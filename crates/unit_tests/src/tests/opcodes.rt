@@ -1,4 +1,4 @@
-use crate::{Cmos65Sc02, Cpu, Mnemonic, Mode, Mos6502, Op, OpcodeSet, Rockwell65C02};
+use isa65::{Cmos65Sc02, Cpu, Mnemonic, Mode, Mos6502, Op, OpcodeSet, Rockwell65C02};
 use std::alloc::Global;
 use std::process::Abort;
 use std::test::Fail;

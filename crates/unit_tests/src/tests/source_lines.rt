@@ -1,6 +1,6 @@
-use crate::{AddressSize, Datum, Form, Minus, Operation, SourceLine, Value, read_line};
 use std::alloc::{AllocError, Global};
 use std::test::Fail;
+use stmt65::{AddressSize, Datum, Form, Minus, Operation, SourceLine, Value, read_line};
 
 fn text(bytes: &[u8]) -> &str {
     str::from_utf8(bytes).unwrap_or("?")

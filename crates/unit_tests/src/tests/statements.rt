@@ -3,13 +3,13 @@ ghost use Rattle.isa65.specs.declared.op.Op.{Op};
 ghost use Rattle.stmt65.specs.Printable.{IsPrintable};
 ghost use Rattle.stmt65.specs.Views.{statement_seen};
 
-use crate::{
-    Column, Columns, Expr, LabelBreak, Level, LimitError, Line, Operands, Remarks, Statement,
-    put_line,
-};
 use isa65::{Cpu, Mnemonic, Mode, Op};
 use std::process::Abort;
 use std::test::Fail;
+use stmt65::{
+    Column, Columns, Expr, LabelBreak, Level, LimitError, Line, Operands, Remarks, Statement,
+    put_line,
+};
 
 /// A line that holds something already, then the statement's, without remarks.
 fn shows(rt: &impl Abort, columns: &Columns, hexoffs: bool, statement: &Statement, want: &[u8])

@@ -1,5 +1,5 @@
 // Information files that are accepted and refused.
-use crate::{Info, InfoFault, InfoFaultKind, Options, read_info};
+use info65::{Info, InfoFault, InfoFaultKind, Options, read_info};
 use isa65::Cpu;
 use std::alloc::{AllocError, Global};
 use std::process::Abort;

@@ -1,5 +1,5 @@
-use crate::{DeviceFault, ImageFault, Sink, Source, Told, read_image, take_up_to};
 use info65::{Info, Options, read_info};
+use map65::{DeviceFault, ImageFault, Sink, Source, Told, read_image, take_up_to};
 use std::alloc::Global;
 use std::io;
 use std::io::{ErrorKind, Read, Write};

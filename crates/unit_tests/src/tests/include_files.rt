@@ -1,5 +1,5 @@
 // Include files.
-use crate::{Info, InfoFault, InfoFaultKind, Options, read_include, read_info};
+use info65::{Info, InfoFault, InfoFaultKind, Options, read_include, read_info};
 use std::alloc::{AllocError, Global};
 use std::process::Abort;
 use std::test::Fail;

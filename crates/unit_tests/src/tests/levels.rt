@@ -6,14 +6,14 @@ ghost use Rattle.isa65.specs.declared.op.Op.{Op};
 ghost use Rattle.stmt65.specs.Printable.{IsPrintable, MayBeLabelled, TakesLabel};
 ghost use Rattle.stmt65.specs.Views.{statement_seen};
 
-use crate::reading::tests::source;
-use crate::{
-    Column, Columns, Expr, LabelBreak, Level, Line, Operands, Remarks, Statement, Target, put_line,
-};
+use crate::tests::source_lines::source;
 use isa65::{Cpu, Mnemonic, Mode, Op};
 use std::alloc::{AllocError, Global};
 use std::process::Abort;
 use std::test::Fail;
+use stmt65::{
+    Column, Columns, Expr, LabelBreak, Level, Line, Operands, Remarks, Statement, Target, put_line,
+};
 
 /// A name of 80 bytes.
 const LONG: &str =

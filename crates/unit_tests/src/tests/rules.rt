@@ -1,9 +1,9 @@
 //! All addresses of random images, against the rules read address by address.
 
-use crate::{Image, Map, NameBuf, NameKind, Place};
 use RangeType::{AddrTable, ByteTable, Code, DbyteTable, RtsTable, Skip, TextTable, WordTable};
 use info65::{Info, Options, RangeType, read_info};
 use isa65::{Cpu, Mnemonic, Mode, Op, OpcodeSet};
+use map65::{Image, Map, NameBuf, NameKind, Place};
 use std::alloc::{AllocError, Global};
 use std::process::Abort;
 use std::test::Fail;

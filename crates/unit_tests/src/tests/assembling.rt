@@ -1,7 +1,7 @@
-use crate::{AsmFault, AsmFaultKind, assemble};
 use std::alloc::{AllocError, Global};
 use std::process::Abort;
 use std::test::Fail;
+use stmt65::{AsmFault, AsmFaultKind, assemble};
 
 fn gives(rt: &impl Abort, alloc: Global, text: &str, start: u16, bytes: &[u8]) -> Result<(), Fail> {
     let found = assemble(alloc, text.as_bytes(), start)?;

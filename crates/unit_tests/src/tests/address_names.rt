@@ -1,7 +1,7 @@
 //! Names and places of worked examples.
 
-use crate::{Image, Map, NameBuf, NameKind, Place};
 use info65::{Info, Options, read_info};
+use map65::{Image, Map, NameBuf, NameKind, Place};
 use std::alloc::{AllocError, Global};
 use std::process::Abort;
 use std::test::Fail;

@@ -1,6 +1,6 @@
 // The settings of comments, columns and empty lines.
 use crate::tests::files::are_refused;
-use crate::{Info, InfoFaultKind, Options, Settings, read_info};
+use info65::{Info, InfoFaultKind, Options, Settings, read_info};
 use std::alloc::Global;
 use std::process::Abort;
 use std::test::Fail;
