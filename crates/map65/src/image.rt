@@ -46,10 +46,11 @@ impl<A: Allocator> Image<A> {
         self.bytes.as_slice()
     }
 
-    /// Makes an image of the bytes that were read, with the start and the size of the settings. Fails with
-    /// `Short` if there are fewer bytes than the size, then with `Empty`, then with `TooLarge`.
+    /// Makes an image of these bytes, the first at this start; without a start the last is at $FFFF. Fails with
+    /// `Short` if there are fewer bytes than the size, then with `Empty` if there is none, then with `TooLarge`.
+    /// All bytes are taken, also where the size is smaller.
     #[tactic(auto, unfolding(crate::specs::Image::image_by))]
-    pub(crate) fn from_bytes(
+    pub fn from_bytes(
         start: Option<u16>,
         size: Option<u32>,
         bytes: Vec<u8, A>,

@@ -15,7 +15,6 @@ use crate::parts::Parts;
 use crate::source_line::{Operation, SourceLine};
 use std::alloc::{AllocError, Allocator};
 
-
 /// Behind the name and `:=`.
 #[tactic(auto, unfolding(crate::specs::Reading::constant_of))]
 fn constant_of<'a, A: Allocator>(name: &'a [u8], parts: &mut Parts<'a>) -> Option<SourceLine<'a, A>>
