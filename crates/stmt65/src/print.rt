@@ -55,6 +55,21 @@ fn put_operation(out: &mut Line, columns: &Columns, operation: &[u8])
     put(out, operation);
 }
 
+/// Appends the text of a mnemonic. Most have three letters.
+fn put_mnemonic(out: &mut Line, text: &[u8])
+    requires { array_vec_len out.old + length text.now ≤ 512 }
+    ensures { out.new.items ≡ out.old.items ++ text.now }
+{
+    if let [first, second, third] = text {
+        out.push(*first);
+        out.push(*second);
+        out.push(*third);
+    } else {
+        put(out, text);
+    }
+}
+
+#[inline(always)]
 #[tactic(auto, using(crate::proofs::OperandTexts::mnemonic_len))]
 fn put_instr(
     out: &mut Line,
@@ -70,7 +85,8 @@ fn put_instr(
     ensures len { array_vec_len out.new ≤ 340 }
     ensures width { AreWordWide (operands_seen operands.now) }
 {
-    put_operation(out, columns, op.mnemonic.text());
+    start_field(out, columns.mnemonic);
+    put_mnemonic(out, op.mnemonic.text());
     if has_operand(op.mode) {
         start_field(out, columns.argument);
         put_operands(out, hexoffs, op.mode, absolute, operands);
@@ -218,6 +234,7 @@ fn put_remark(out: &mut Line, text: &[u8])
 }
 
 /// Appends the fields of the statement.
+#[inline(always)]
 fn put_fields(out: &mut Line, columns: &Columns, hexoffs: bool, statement: &Statement)
     requires room { array_vec_len out.old ≤ 82 }
     requires printable { IsPrintable (statement_seen statement.now) }
@@ -249,6 +266,7 @@ fn put_fields(out: &mut Line, columns: &Columns, hexoffs: bool, statement: &Stat
 }
 
 /// Begins an empty line with the label, if there is one.
+#[inline(always)]
 fn start_line(out: &mut Line, label: Option<&[u8]>)
     requires empty { out.old.items ≡ [] }
     requires name { IfSome (option_copied label) IsNameLong }
@@ -273,6 +291,7 @@ fn start_line(out: &mut Line, label: Option<&[u8]>)
 /// If the names in the statement and the label are names that ca65 takes, none of them reserved, the
 /// line reads as this statement with this label, at every level; reading is a function of the line,
 /// so it reads as no other. The name of a segment may be reserved.
+#[inline(always)]
 #[tactic(auto, unfolding(crate::specs::Line::line_of))]
 pub fn put_line(out: &mut Line, columns: &Columns, statement: &Statement, remarks: &Remarks)
     requires printable { IsPrintable (statement_seen statement.now) }

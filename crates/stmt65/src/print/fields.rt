@@ -7,19 +7,6 @@ ghost use Rattle.stmt65.specs.Line.{filled};
 use super::Line;
 use crate::columns::Column;
 
-/// As many blanks as stand before the last column.
-const BLANKS: &[u8] =
-    b"                                                                                                                       ";
-
-/// So many blanks.
-fn blanks(count: usize) -> &'static [u8]
-    requires { count ≤ 119 }
-    ensures { result.now ≡ replicate count 32 }
-{
-    let (front, _) = BLANKS.split_at(count);
-    front
-}
-
 pub(super) fn put(out: &mut Line, bytes: &[u8])
     requires { array_vec_len out.old + length bytes.now ≤ 512 }
     ensures { out.new.items ≡ out.old.items ++ bytes.now }
@@ -29,6 +16,37 @@ pub(super) fn put(out: &mut Line, bytes: &[u8])
     }
     let taken = out.try_extend_from_slice(bytes);
     prove!(taken.is_ok());
+}
+
+/// Appends fewer than eight blanks.
+fn put_few_blanks(out: &mut Line, count: usize)
+    requires few { count < 8 }
+    requires room { array_vec_len out.old + count ≤ 512 }
+    ensures { out.new.items ≡ out.old.items ++ replicate count 32 }
+{
+    match count {
+        0 => {}
+        1 => put(out, b" "),
+        2 => put(out, b"  "),
+        3 => put(out, b"   "),
+        4 => put(out, b"    "),
+        5 => put(out, b"     "),
+        6 => put(out, b"      "),
+        _ => put(out, b"       "),
+    }
+}
+
+/// Appends this many blanks, eight at a time.
+fn put_blanks(out: &mut Line, count: usize)
+    requires { array_vec_len out.old + count ≤ 512 }
+    ensures { out.new.items ≡ out.old.items ++ replicate count 32 }
+{
+    let mut left = count;
+    'eights: while 8 <= left {
+        put(out, b"        ");
+        left -= 8;
+    }
+    put_few_blanks(out, left);
 }
 
 /// Makes the line ready for a field at the column.
@@ -42,7 +60,7 @@ pub(super) fn start_field(out: &mut Line, column: Column)
     let len = out.len();
     let before = column.get() as usize - 1;
     if len < before {
-        put(out, blanks(before - len));
+        put_blanks(out, before - len);
     } else if len != 0 {
         out.push(b' ');
     }

@@ -73,6 +73,7 @@ fn put_level(out: &mut Line, columns: &Columns, level: u8, address: u16, bytes: 
 }
 
 /// Appends what stands after the statement.
+#[inline(always)]
 pub(super) fn put_after(out: &mut Line, columns: &Columns, statement: &Statement, remarks: &Remarks)
     requires room { array_vec_len out.old ≤ 340 }
     requires few { length remarks.now.bytes.now ≤ 16 }
