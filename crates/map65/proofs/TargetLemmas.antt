@@ -1,32 +1,47 @@
--- Where no item begins there is no target.
-use Rattle.std.proofs.Common.{◌≡◌, ◌∙◌, ℕ, ◌==◌, ◌<◌, false, List, None, Option, Some, ap, arith, get_or, refl}
-use Rattle.std.proofs.lemmas.Bool.{ne_eqb}
+-- Where no item begins there is no target, and none where one of a single byte does.
+use Rattle.std.proofs.Common.{◌≡◌, ◌∙◌, ℕ, ◌==◌, ◌<◌, Bool, if◌then◌else◌, true, false, List, None, Option, Some, ap, arith, get_or, refl}
+use Rattle.std.proofs.lemmas.Bool.{eqb-true, ne_eqb}
 use Rattle.isa65.specs.Mode.{len_of}
 use Rattle.isa65.specs.Opcodes.{decoded}
+use Rattle.isa65.specs.declared.mnemonic.Mnemonic.{Mnemonic}
 use Rattle.isa65.specs.declared.mode.Mode.{Mode}
-use Rattle.isa65.specs.declared.mode.Mode.TheVariants.{Imp}
+use Rattle.isa65.specs.declared.mode.Mode.TheVariants.{Acc, Imp}
 use Rattle.isa65.specs.declared.op.Op.{Op}
 use Rattle.info65.specs.declared.range.RangeType.{RangeType}
-use Rattle.info65.specs.declared.range.RangeType.TheVariants.{Code}
+use Rattle.info65.specs.declared.range.RangeType.TheVariants.{AddrTable, Code, RtsTable}
 use Rattle.map65.specs.ImageView.{ImageView, bytes_from}
 use Rattle.map65.specs.Items.{item_len}
 use Rattle.map65.specs.MapView.{MapView, opcodes}
 use Rattle.map65.specs.Roles.{role_of}
-use Rattle.map65.specs.Targets.{code_target, target_at, target_for}
+use Rattle.map65.specs.Targets.{code_target, operand_target, target_at, target_for}
 
-len-some : (x : Mode) → 0 < len_of x
-len-some Imp = omega arith
-len-some _ = omega arith
+-- an instruction without operands has no target
+none-alone : (image : ImageView) (m : Mnemonic) (x : Mode) (a : ℕ) (bytes : List ℕ) → len_of x < 2 → operand_target image m x a bytes ≡ None
+unfolding operand_target
+none-alone image m Imp a bytes short = refl
+none-alone image m Acc a bytes short = refl
+none-alone image m _ a bytes short = absurd (omega (arith, short))
 
-code-none : (image : ImageView) (o : Option Op) (a : ℕ) (bytes : List ℕ) → code_target image o 0 a bytes ≡ None
-code-none image None a bytes = refl
-code-none image (Some op) a bytes = let other : (0 == len_of op.mode) ≡ false = ne_eqb 0 (len_of op.mode) (λ is. absurd (omega (arith, is, len-some op.mode))) in rw other refl
+none-if : (b : Bool) (o : Option ℕ) → (b ≡ true → o ≡ None) → (if b then o else None) ≡ None
+none-if true o is = is refl
+none-if false o is = refl
 
-target-none : (m : MapView) (r : RangeType) (a : ℕ) (bytes : List ℕ) → target_for m r 0 a bytes ≡ None
+code-short : (image : ImageView) (o : Option Op) (n a : ℕ) (bytes : List ℕ) → n < 2 → code_target image o n a bytes ≡ None
+code-short image None n a bytes short = refl
+code-short image (Some op) n a bytes short =
+    none-if (n == len_of op.mode) (operand_target image op.mnemonic op.mode a bytes)
+    (λ same. none-alone image op.mnemonic op.mode a bytes (omega (arith, eqb-true n (len_of op.mode) same, short)))
+
+target-short : (m : MapView) (r : RangeType) (n a : ℕ) (bytes : List ℕ) → n < 2 → target_for m r n a bytes ≡ None
 unfolding target_for
-target-none m Code a bytes = code-none m.image (decoded (opcodes m) (get_or bytes 0 0)) a bytes
-target-none m _ a bytes = refl
+target-short m Code n a bytes short = code-short m.image (decoded (opcodes m) (get_or bytes 0 0)) n a bytes short
+target-short m AddrTable n a bytes short = let other : (n == 2) ≡ false = ne_eqb n 2 (λ is. absurd (omega (arith, is, short))) in rw other refl
+target-short m RtsTable n a bytes short = let other : (n == 2) ≡ false = ne_eqb n 2 (λ is. absurd (omega (arith, is, short))) in rw other refl
+target-short m _ n a bytes short = refl
+
+pub short-at : (m : MapView) (a : ℕ) → item_len m a < 2 → target_at m a ≡ None
+unfolding target_at
+short-at m a short = target-short m (role_of m.info a) (item_len m a) a (bytes_from m.image a) short
 
 pub none-at : (m : MapView) (a : ℕ) → item_len m a ≡ 0 → target_at m a ≡ None
-unfolding target_at
-none-at m a none = ap (λ (n : ℕ). target_for m (role_of m.info a) n a (bytes_from m.image a)) none ∙ target-none m (role_of m.info a) a (bytes_from m.image a)
+none-at m a none = short-at m a (omega (arith, none))

@@ -112,7 +112,8 @@ fn mark_target<A: Allocator>(cells: &mut [u16], info: &Info<A>, image: &Image<A>
 {
     let cell = cells[usize::from(address)];
     let len = len_in(cell);
-    if len == 0 {
+    // No item of one byte has a target.
+    if len < 2 {
         return;
     }
     let role = role_in(cell).unwrap_or(RangeType::Code);

@@ -4,7 +4,7 @@ use Rattle.map65.specs.Items.{item_len}
 use Rattle.map65.specs.MapView.{MapView}
 use Rattle.map65.specs.Targets.{target_at}
 use Rattle.map65.proofs.NamingLemmas.{laid-code, laid-fits, laid-item, refers-none, target-bits, target-laid}
-use Rattle.map65.proofs.TargetLemmas.{none-at}
+use Rattle.map65.proofs.TargetLemmas.{short-at}
 use Rattle.map65.proofs.naming.mark_target.Goals as goal
 
 pub target_at-requires-clause-len : goal.target_at-requires-clause-len
@@ -12,11 +12,11 @@ target_at-requires-clause-len g c =
     let m : MapView = record { info = c.args.info.now; image = c.args.image.now } in
     laid-item m c.args.cells.now c.args.address (get_or c.args.cells.now c.from.result 0) c.len_in-len.result c.requires.laid (omega arith) (ap (λ k. get_or c.args.cells.now k 0) c.from.ensures) c.len_in-len.ensures.value
 
-pub returns-then-len-eq0-clause-bits : goal.returns-then-len-eq0-clause-bits
-returns-then-len-eq0-clause-bits g c = λ p bits.
+pub returns-then-len-lt2-clause-bits : goal.returns-then-len-lt2-clause-bits
+returns-then-len-lt2-clause-bits g c = λ p bits.
     let m : MapView = record { info = c.args.info.now; image = c.args.image.now } in
     let len : c.len_in-len.result ≡ item_len m c.args.address = laid-item m c.args.cells.now c.args.address (get_or c.args.cells.now c.from.result 0) c.len_in-len.result c.requires.laid (omega arith) (ap (λ k. get_or c.args.cells.now k 0) c.from.ensures) c.len_in-len.ensures.value in
-    refers-none m c.args.address p c.args.cells.now (none-at m c.args.address (sym len ∙ c.if-len-eq0.true)) bits
+    refers-none m c.args.address p c.args.cells.now (short-at m c.args.address (omega (arith, len, c.if-len-lt2.true))) bits
 
 pub target_at-requires-clause-room : goal.target_at-requires-clause-room
 target_at-requires-clause-room g c =
