@@ -37,6 +37,9 @@ fn is_named_constant<A: Allocator>(listed: &Listed<'_, A>, address: u16, name: &
     ensures long { OnTrue result (IsNameLong name.new.items) }
 {
     let map = listed.map();
+    if !map.has_name(address) {
+        return false;
+    }
     if !has_constant(map, address) {
         return false;
     }

@@ -113,7 +113,7 @@ fn put_byte(
 }
 
 /// Replaces the buffer by the line of an instruction without operands.
-#[inline(never)]
+#[inline(always)]
 fn put_alone(
     out: &mut Line,
     style: &Style,

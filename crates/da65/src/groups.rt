@@ -114,8 +114,9 @@ fn limit_at<A: Allocator>(map: &Map<'_, A>, role: RangeType, address: usize) -> 
     ensures limit { result ≡ limit_at map.now address }
     ensures some { 1 ≤ result }
 {
-    if is_whole(map, role, address) {
-        limit_of(role)
+    let limit = limit_of(role);
+    if limit == 1 || is_whole(map, role, address) {
+        limit
     } else {
         1
     }

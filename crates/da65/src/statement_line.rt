@@ -10,8 +10,11 @@ ghost use Rattle.da65.specs.Listing.{group_line, has_empty_line, line_text, plai
 use crate::style::{Style, has_empty_line};
 use stmt65::{Line, Remarks, Statement, put_line};
 
+// These two are made in place: most callers know the kind of the statement, and need the code of that kind alone.
+
 /// Replaces the buffer by the line of a statement that stands before these bytes, after this label if there is one.
-pub fn put_statement(
+#[inline(always)]
+fn put_statement(
     out: &mut Line,
     style: &Style,
     label: Option<&[u8]>,
@@ -35,6 +38,7 @@ pub fn put_statement(
 }
 
 /// The same, and returns whether an empty line follows.
+#[inline(always)]
 pub fn put_closing(
     out: &mut Line,
     style: &Style,
@@ -54,6 +58,7 @@ pub fn put_closing(
 }
 
 /// Replaces the buffer by the line of a statement without a label and without bytes.
+#[inline(never)]
 pub fn put_plain(out: &mut Line, style: &Style, statement: &Statement<'_>)
     requires { IsPrintable (statement_seen statement.now) }
     ensures { out.new.items ≡ line_text style.now (plain (statement_seen statement.now)) }
