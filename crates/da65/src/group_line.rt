@@ -197,6 +197,7 @@ fn put_addressed<A: Allocator>(
 
 /// Replaces the buffer by the line of an item of code that has these bytes, unless it needs more than one name or looks for
 /// one in the zero page, and returns whether an empty line follows. `instruction` is the one that the bytes begin with.
+#[inline(always)]
 #[tactic(auto, unfolding(crate::specs::Statements::statement_in, crate::specs::Instructions::instruction_in))]
 fn put_sole<A: Allocator>(
     out: &mut Line,
@@ -273,6 +274,7 @@ fn put_named<A: Allocator>(
 
 /// Replaces the buffer by the line of the statement of the group of this role at this address that has these bytes,
 /// after this label if there is one, and returns whether an empty line follows.
+#[inline(always)]
 #[tactic(auto, unfolding(crate::specs::Statements::statement_for))]
 pub fn put_group_statement<A: Allocator>(
     out: &mut Line,

@@ -114,11 +114,15 @@ fn limit_at<A: Allocator>(map: &Map<'_, A>, role: RangeType, address: usize) -> 
     ensures limit { result ≡ limit_at map.now address }
     ensures some { 1 ≤ result }
 {
-    let limit = limit_of(role);
-    if limit == 1 || is_whole(map, role, address) {
-        limit
-    } else {
-        1
+    match role {
+        RangeType::Code => 1,
+        _ => {
+            if is_whole(map, role, address) {
+                limit_of(role)
+            } else {
+                1
+            }
+        }
     }
 }
 

@@ -177,6 +177,8 @@ impl<'a, A: Allocator> Lines<'a, A> {
         ensures still { OnFalse result (self.new ≡ []) }
         ensures empty { OnFalse result (out.new.items ≡ []) }
     {
+        // The old line is blanked here once, for all kinds of lines.
+        out.clear();
         let mut segment = self.segment;
         match put_next(out, &self.listed, &mut segment, self.place) {
             Some(next) => {

@@ -60,10 +60,10 @@ fn put_mnemonic(out: &mut Line, text: &[u8])
     requires { array_vec_len out.old + length text.now ≤ 512 }
     ensures { out.new.items ≡ out.old.items ++ text.now }
 {
-    if let [first, second, third] = text {
-        out.push(*first);
-        out.push(*second);
-        out.push(*third);
+    if let [first, second, third] = *text {
+        out.push(first);
+        out.push(second);
+        out.push(third);
     } else {
         put(out, text);
     }

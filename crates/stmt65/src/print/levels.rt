@@ -48,16 +48,15 @@ fn put_characters(out: &mut Line, bytes: &[u8])
     }
 }
 
-/// Appends what stands after a statement at this level, with the statement's address and bytes.
-fn put_level(out: &mut Line, columns: &Columns, level: u8, address: u16, bytes: &[u8])
+/// Appends what stands after a statement from level 2 on, with the statement's address and bytes.
+#[inline(never)]
+fn put_remarked(out: &mut Line, columns: &Columns, level: u8, address: u16, bytes: &[u8])
+    requires level { 2 ≤ level }
     requires room { array_vec_len out.old ≤ 340 }
     requires few { length bytes.now ≤ 16 }
     ensures items { out.new.items ≡ with_fields out.old.items (level_fields columns.now level address bytes.now) }
     ensures len { array_vec_len out.new ≤ 511 }
 {
-    if level < 2 {
-        return;
-    }
     start_field(out, columns.comment);
     put(out, b"; ");
     put_digits4(out, address);
@@ -70,6 +69,20 @@ fn put_level(out: &mut Line, columns: &Columns, level: u8, address: u16, bytes: 
     }
     start_field(out, columns.text);
     put_characters(out, bytes);
+}
+
+/// Appends what stands after a statement at this level. Below level 2 that is nothing.
+#[inline(always)]
+fn put_level(out: &mut Line, columns: &Columns, level: u8, address: u16, bytes: &[u8])
+    requires room { array_vec_len out.old ≤ 340 }
+    requires few { length bytes.now ≤ 16 }
+    ensures items { out.new.items ≡ with_fields out.old.items (level_fields columns.now level address bytes.now) }
+    ensures len { array_vec_len out.new ≤ 511 }
+{
+    if level < 2 {
+        return;
+    }
+    put_remarked(out, columns, level, address, bytes);
 }
 
 /// Appends what stands after the statement.

@@ -91,6 +91,7 @@ fn prefix(absolute: bool) -> &'static [u8]
     if absolute { b"a:" } else { b"" }
 }
 
+#[inline(never)]
 #[tactic(auto, unfolding(crate::specs::Operands::operand_text))]
 fn put_one(out: &mut Line, hexoffs: bool, mode: Mode, absolute: bool, expr: &Expr)
     requires room { array_vec_len out.old ≤ 200 }
@@ -128,6 +129,7 @@ fn bare(mode: Mode) -> &'static [u8]
     }
 }
 
+#[inline(always)]
 #[tactic(auto, using(crate::proofs::OperandTexts::operands_as_many))]
 pub(super) fn put_operands(
     out: &mut Line,
