@@ -1,5 +1,5 @@
 -- Where no item begins there is no target, and none where one of a single byte does.
-use Rattle.std.proofs.Common.{◌≡◌, ◌∙◌, ℕ, ◌==◌, ◌<◌, Bool, if◌then◌else◌, true, false, List, None, Option, Some, ap, arith, get_or, refl}
+use Rattle.std.proofs.Common.{◌≡◌, ℕ, ◌==◌, ◌<◌, Bool, if◌then◌else◌, true, false, List, None, Option, Some, arith, get_or, refl}
 use Rattle.std.proofs.lemmas.Bool.{eqb-true, ne_eqb}
 use Rattle.isa65.specs.Mode.{len_of}
 use Rattle.isa65.specs.Opcodes.{decoded}

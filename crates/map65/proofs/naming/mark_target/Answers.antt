@@ -1,5 +1,5 @@
 use Rattle.std.proofs.Common.{◌≡◌, ◌∙◌, ◌<◌, ap, sym, arith, get_or}
-use Rattle.std.specs.Prelude.{None, Some}
+use Rattle.std.specs.Prelude.{Some}
 use Rattle.map65.specs.Items.{item_len}
 use Rattle.map65.specs.MapView.{MapView}
 use Rattle.map65.specs.Targets.{target_at}
