@@ -91,7 +91,8 @@ fn sole_operand<A: Allocator>(
     }
 }
 
-// Each of the next four has one statement on its stack frame, which is made for every line.
+// Each of the next four makes one kind of statement, so that the frame of a line has room for that one alone. Without operands
+// nothing of it is left in memory, and the line is made in the frame of its caller.
 
 /// Replaces the buffer by the line of the first of these bytes.
 #[inline(never)]
