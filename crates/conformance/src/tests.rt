@@ -1,5 +1,6 @@
 mod ample;
 mod assembled;
+mod asserts;
 mod command_lines;
 mod cpus;
 mod devices;

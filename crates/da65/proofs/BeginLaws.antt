@@ -55,7 +55,7 @@ begins-then m a is =
 
 -- ---- no other item begins a line
 
--- an item that begins behind the first of a group
+-- an item that begins after the first of a group
 record Behind (m : MapView) (p k : ℕ) : Type 0 where
   here : IsGroupPlace m p
   low : p < k

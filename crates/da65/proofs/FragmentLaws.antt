@@ -30,7 +30,7 @@ number_known all n = refl
 
 -- ---- fragments
 
--- Behind which `next` is the address: for each table of which Full holds, all names of the fragments are known, their values have room, and
+-- After which `next` is the address: for each table of which Full holds, all names of the fragments are known, their values have room, and
 -- these are their bytes.
 pub record FragmentsGive (Full : List Definition → Type 0) (next : ℕ) (fragments : List Fragment) (bytes : List ℕ) : Type 0 where
   pub long : coding_len fragments ≡ length bytes

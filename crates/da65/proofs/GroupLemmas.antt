@@ -251,7 +251,7 @@ groups-end m k end = let none : length m.image.bytes - k ≡ 0 = omega (arith, e
 pub groups-skip : (m : MapView) (k : ℕ) → IsGroupPlace m k → k < length m.image.bytes → is_skip (role_of m.info (m.image.start + k)) ≡ true → groups_from m k ≡ groups_from m (k + 1)
 groups-skip m k here low skip = groups-no m k low (begins-skip m k low skip)
 
--- the group of the k-th byte, and those behind it
+-- the group of the k-th byte, and those after it
 pub groups-next : (m : MapView) (k : ℕ) → IsGroupPlace m k → k < length m.image.bytes → is_skip (role_of m.info (m.image.start + k)) ≡ false
     → groups_from m k ≡ (m.image.start + k) ∷ groups_from m (k + group_len m (m.image.start + k))
 groups-next m k here low shown =
@@ -286,7 +286,7 @@ group-begun m a is =
       none = eqb-true (left_at (stride_at m) m.image.start (a - m.image.start)) 0 behind.1;
     }
 
--- the step from a place: to the next one, which lies behind it
+-- the step from a place: to the next one, which lies after it
 pub record Step (m : MapView) (p : ℕ) : Type 0 where
   pub some : 1 ≤ stride_at m (m.image.start + p)
   pub next : IsGroupPlace m (p + stride_at m (m.image.start + p))

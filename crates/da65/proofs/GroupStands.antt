@@ -55,7 +55,7 @@ mode_is_chosen_back image m p cpu above a bytes op os names known h =
           (operands_code image m p names cpu above known op.mnemonic is.first op.mode a bytes (is_forced (table_of cpu) op bytes) opcode h.are_bytes is.long refl);
     }
 
--- the first of some bytes, and those behind it
+-- the first of some bytes, and those after it
 first_again : (n b : ℕ) (behind bytes : List ℕ) → bytes ≡ b ∷ behind → 1 ≤ n → b ∷ drop 1 (take n bytes) ≡ take n bytes
 first_again zero b behind bytes e some = absurd (omega arith)
 first_again (suc n) b behind bytes e some = rw e refl

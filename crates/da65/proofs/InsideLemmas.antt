@@ -65,9 +65,9 @@ full-more m (suc n) a r same more = go (goes_on m a) refl (full-more m n)
         let others = behind next r (λ joined. behind-role m a (item_len m a) (item-begun m a item.some).size joined ∙ role-is) (ap (goes_on m) place ∙ more) in
         more-true m n a is ∙ one-more (item_len m a) (unit_of r) n (more_at m n next) whole others
 
--- ---- an item behind the first of a group
+-- ---- an item after the first of a group
 
--- the item at the i-th byte goes on, behind so many others from the b-th byte on
+-- the item at the i-th byte goes on, after so many others from the b-th byte on
 pub record Further (m : MapView) (n b i : ℕ) (r : RangeType) : Type 0 where
   pub count : ℕ
   pub bound : count < n
@@ -109,7 +109,7 @@ further m (suc n) b i r same low high here there = go (goes_on m (m.image.start 
         (cases_lt i next))
         (cases_eq i b)
 
--- an item that begins within a group, behind its first byte
+-- an item that begins within a group, after its first byte
 pub item-inside : (m : MapView) (p i : ℕ) (r : RangeType) → IsGroupPlace m p → p < length m.image.bytes → is_skip (role_of m.info (m.image.start + p)) ≡ false → role_of m.info (m.image.start + p) ≡ r
     → p < i → i < p + group_len m (m.image.start + p) → left_at (size_at m) m.image.start i ≡ 0 → Further m (limit_at m (m.image.start + p) - 1) (p + item_len m (m.image.start + p)) i r
 unfolding group_len

@@ -25,7 +25,7 @@ constants_to m k v = m.has_constant v && nat_lt v k
 abbrev pub names_to : Names → ℕ → ℕ → Bool
 names_to m at v = m.has_constant v || nat_lt v at
 
--- and those behind it up to another
+-- and those after it up to another
 abbrev pub forwards_to : Names → ℕ → ℕ → ℕ → Bool
 forwards_to m at u v = m.has_constant v || (nat_lt v at || (nat_lt at v && nat_lt v u))
 
@@ -100,7 +100,7 @@ constants_block image l m (suc n) k s at cpu laid names e f room known = go (con
         let rest = others (below s (constant_lines l m k)) at cpu laid names (first.reaches ∙ e) (first.cpu_is ∙ f) room first.above in
         rw (← next) (known_append m s (constant_lines l m k) (constants l m n (k + 1)) [] [] s.at at s.cpu cpu _ _ first rest)
 
--- with an empty line behind the last
+-- with an empty line after the last
 pub empty_line_block : (m : Names) (p : ℕ → Bool) (s : State) (ls : List SourceLine) (at : ℕ) (cpu : Cpu) → at ≤ 65536 → KnownBlock m s ls [] at cpu p → KnownBlock m s (with_empty_line ls) [] at cpu p
 unfolding with_empty_line
 empty_line_block m p s [] at cpu room h = h

@@ -159,7 +159,7 @@ module _ (image : ImageView) (n : Names) (names : AreSound image n) where
   three_give Zpind a b c d bytes e h g room = absurd cc
   three_give Rel a b c d bytes e h g room = absurd cc
 
-  -- ---- the bytes behind an opcode
+  -- ---- the bytes after an opcode
 
   -- of an instruction of one, two and three bytes
   abbrev pub Behind : Mode → ℕ → ℕ → List ℕ → Type 0

@@ -56,7 +56,7 @@ size-whole : (m : MapView) (a : ℕ) → are_joined m (wanted_at m a - 1) a ≡ 
 unfolding size_at
 size-whole m a are = cond-true (are_joined m (wanted_at m a - 1) a) _ _ are
 
--- where its piece goes on behind the first byte, an item of a table is as long as its role's
+-- where its piece goes on after the first byte, an item of a table is as long as its role's
 unit-joined : (m : MapView) (a : ℕ) (r : RangeType) → wanted_at m a ≡ unit_of r → is_joined m (a + 1) ≡ true → size_at m a ≡ unit_of r
 unit-joined m a r wanted joined = by-unit (unit-small r) (size-is m a)
   where
@@ -110,7 +110,7 @@ join-one m b a c front same joined x low high =
     ⊎_elim (λ equal. ap (is_joined m) equal ∙ joined) (λ other. front x low (omega (arith, high, same, other))) (cases_eq x c)
 
 module _ (m : MapView) (r : RangeType) (table : IsTable m r) where
-  -- behind a group of the piece
+  -- after a group of the piece
   behind-group : (p n : ℕ) → IsGroupPlace m p → p < length m.image.bytes → is_skip (role_of m.info (m.image.start + p)) ≡ false → FullAt m r p → n ≡ group_len m (m.image.start + p)
       → is_joined m (m.image.start + (p + n)) ≡ true → is_defined m (m.image.start + (p + n)) ≡ false → role_of m.info (m.image.start + (p + n)) ≡ r → is_whole m (m.image.start + (p + n)) ≡ true → BeginsFull m r (p + n)
   behind-group p n here low shown known len joined unnamed role-is whole = go (is_whole m a) refl

@@ -1,4 +1,4 @@
--- Places of groups, one behind the other.
+-- Places of groups, one after the other.
 use Rattle.std.proofs.Common.{ℕ, zero, suc, ◌+◌, ◌<◌, ◌≤◌, length, sym, subst, arith, ⊎_elim}
 use Rattle.std.proofs.lemmas.Bool.{cases_eq, cases_lt}
 use Rattle.map65.specs.MapView.{MapView}

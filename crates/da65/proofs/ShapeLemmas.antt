@@ -66,7 +66,7 @@ instruction-size t (b ∷ bytes) some h = whole-size (length (b ∷ bytes)) (dec
 
 -- ---- tables
 
--- the byte behind an item that lies in its piece has its role
+-- the byte after an item that lies in its piece has its role
 pub behind-role : (m : MapView) (a len : ℕ) → len ≡ size_at m a → is_joined m (a + len) ≡ true → role_of m.info (a + len) ≡ role_of m.info a
 behind-role m a len same joined =
     let some : 1 ≤ size_at m a = size-positive m a in

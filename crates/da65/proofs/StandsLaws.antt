@@ -119,7 +119,7 @@ pub at_some : {A : Type 0} (P : A → Type 0) (o : Option A) (x : A) → o ≡ S
 at_some P None x e h = absurd cc
 at_some P (Some y) x e h = let same : y ≡ x = cc in subst P same h
 
--- the first of some bytes, and those behind it
+-- the first of some bytes, and those after it
 first_again : (n b : ℕ) (behind bytes : List ℕ) → bytes ≡ b ∷ behind → 1 ≤ n → b ∷ drop 1 (take n bytes) ≡ take n bytes
 first_again zero b behind bytes e some = absurd (omega arith)
 first_again (suc n) b behind bytes e some = rw e refl

@@ -40,7 +40,7 @@ addresses-end n start k high = let none : n - k ≡ 0 = omega (arith, high) in r
 pub any-here : (p : ℕ → Bool) (n start k : ℕ) → k < n → p (start + k) ≡ true → list_any p (addresses (n - k) (start + k)) ≡ true
 any-here p n start k low is = ap (list_any p) (addresses-step n start k low) ∙ rw is refl
 
--- it does not, so only those behind it may
+-- it does not, so only those after it may
 pub any-behind : (p : ℕ → Bool) (n start k : ℕ) → k < n → p (start + k) ≡ false → list_any p (addresses (n - k) (start + k)) ≡ list_any p (addresses (n - (k + 1)) (start + (k + 1)))
 any-behind p n start k low is = ap (list_any p) (addresses-step n start k low) ∙ rw is refl
 

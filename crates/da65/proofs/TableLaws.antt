@@ -29,7 +29,7 @@ text_give Full next (b ∷ bytes) are =
 
 -- ---- words
 
--- the bytes behind the first two, and these
+-- the bytes after the first two, and these
 other_bytes : (a b : ℕ) (bytes : List ℕ) → AreBytes (a ∷ b ∷ bytes) → AreBytes bytes
 other_bytes a b bytes are = All-tail (λ b. b < 256) b bytes (All-tail (λ b. b < 256) a (b ∷ bytes) are)
 

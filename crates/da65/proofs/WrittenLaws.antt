@@ -26,7 +26,7 @@ other_bytes b bytes h = All-tail (λ b. b < 256) b bytes h
 
 -- ---- what an operand's bytes are, in each mode
 
--- the bytes behind the opcode
+-- the bytes after the opcode
 abbrev pub OperandsGive : (List Definition → Type 0) → Mode → ℕ → List ℕ → Option OperandsView → Type 0
 OperandsGive Full mode next behind o = IfSome o (λ os. FragmentsGive Full next (fragments_in mode os) behind)
 

@@ -43,7 +43,7 @@ took_limit None new bytes limit f h = tt
 took_limit (Some xs) None bytes limit f h = absurd f
 took_limit (Some xs) (Some ys) bytes limit f h = rw f (sym (take_at bytes ys limit h))
 
--- at the end, nothing is left behind the limit
+-- at the end, nothing is left after the limit
 pub rest_end : (old new : Option (List ℕ)) (bytes : List ℕ) (limit : ℕ) → Consumes old new bytes → IsAtEnd new → length bytes ≤ limit → IsReadTo limit old new
 rest_end None new bytes limit f e h = tt
 rest_end (Some xs) None bytes limit f e h = absurd f
@@ -54,7 +54,7 @@ rest_end (Some xs) (Some ys) bytes limit f e h =
 drop_at : (bytes ys : List ℕ) (limit : ℕ) → length bytes ≡ limit → drop limit (bytes ++ ys) ≡ ys
 drop_at bytes ys limit is = rw (← is) (drop-append_seam bytes ys)
 
--- at the limit, what is left stands behind it
+-- at the limit, what is left stands after it
 pub rest_limit : (old new : Option (List ℕ)) (bytes : List ℕ) (limit : ℕ) → Consumes old new bytes → length bytes ≡ limit → IsReadTo limit old new
 rest_limit None new bytes limit f h = tt
 rest_limit (Some xs) None bytes limit f h = absurd f
@@ -154,7 +154,7 @@ image_seen (Some xs) old new s offset most bytes answer same is at many all =
     in
     rw (whole, is) (gives_same s.start s.size bytes)
 
--- ---- what is taken behind bytes that were passed over
+-- ---- what is taken after bytes that were passed over
 
 pub behind_bytes : (old mid : Option (List ℕ)) (items : List ℕ) (offset limit : ℕ) → IsReadTo offset old mid → IfSome mid (λ xs. items ≡ take limit xs) → IfSome old (λ xs. items ≡ take limit (drop offset xs))
 behind_bytes None mid items offset limit p q = tt

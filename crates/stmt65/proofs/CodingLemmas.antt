@@ -44,7 +44,7 @@ first_missed (Some b) fragments others e = cc
 
 pub ruleset tries = (first_found, first_missed)
 
--- behind the two modes of a size, another way
+-- after the two modes of a size, another way
 
 -- the same of ways before other ways
 pub behind_found : (cpu : Cpu) (m : Mnemonic) (ws vs : List Way) (x : List Fragment) → Some x ≡ first_way cpu m ws → Some x ≡ first_way cpu m (ws ++ vs)

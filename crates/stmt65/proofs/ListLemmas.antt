@@ -45,7 +45,7 @@ map-push : {A B : Type 0} (f : A → B) (xs : List A) (x : A) → map f (xs ++ x
 map-push f [] x = refl
 map-push {B = B} f (y ∷ xs) x = ap (λ (ys : List B). f y ∷ ys) (map-push f xs x)
 
--- one, and a comma behind it
+-- one, and a comma after it
 list_of-comma : {A : Type 0} (read : List Part → Option (A × List Part)) → Shortens read → (ps rest : List Part) (x : A) → read ps ≡ Some (x, rest) → is_mark 44 rest ≡ true → list_of read ps ≡ (list_of read (drop 1 rest) >>= λ others. Some (x ∷ others))
 unfolding joined
 list_of-comma {A = A} read s ps rest x e h = go ps (s.shorter ps (x, rest) e) e

@@ -130,7 +130,7 @@ four_parts : (h : Bool) (e : ExprView) (rest : List ℕ) → IsRead e → Ends r
 four_parts h (view.number n) rest has e = record { front = Number (hex4 n) ∷ []; lexes = parts_hex4 n rest e; spells = (hex4 n, number_of-hex4 n has, refl) }
 four_parts h (view.name name offset) rest has e = named_parts h name rest offset has.0 has.1 e
 
--- ---- what stands behind an expression
+-- ---- what stands after an expression
 
 one_word : (b : ℕ) → IsWordText (b ∷ []) → Spells (word (b ∷ []) ∷ []) (parts (b ∷ []))
 one_word b h = worded (b ∷ []) [] (b ∷ []) (parts []) (parts_word (b ∷ []) [] h refl) nothing
@@ -377,7 +377,7 @@ a_word : (w : List ℕ) (is : List Item) (ps : List Part) → Spells is ps → S
 unfolding Spells
 a_word w is ps h = (Word w ∷ [], ps, refl, (w, (bytes_eq-Decides (str_to_ascii_lowercase w) (str_to_ascii_lowercase w)).1 refl, refl), h)
 
--- an operation with operands, behind a label or none
+-- an operation with operands, after a label or none
 operated : (label : Option (List ℕ)) (c : Columns) (w operands : List ℕ) (o : Operation) (is : List Item) → HasLabelName label → operation_items o ≡ word w ∷ is → IsWordText w → Spells is (parts operands)
     → IsSpelling (with_label label (Statement None o)) (parts (with_fields (with_fields [] (label_fields label)) (with_operands c w operands)))
 operated label c w operands o is n e h t =

@@ -38,7 +38,7 @@ at_end = refl
 
 -- ---- values
 
--- the parts behind a name and what is added to it
+-- the parts after a name and what is added to it
 less_read : (w : List ℕ) (n : ℕ) (plus ps rest : List Part) → is_name w ≡ true → IsPlus n plus → ps ≡ Word w ∷ (plus ++ rest) → IfSome (less_one w n rest) (λ v. Fronts (IsValue v.0) ps v.1)
 unfolding less_one
 less_read w n plus ps rest named p e =
@@ -86,7 +86,7 @@ at P o x e h = rw e at h
 
 -- ---- operands
 
--- the items behind a value that stands first
+-- the items after a value that stands first
 second_read : (size : AddressSize) (v : Value) (ps : List Part) → is_mark 44 ps ≡ true
     → IfSome (cond (is_absolute size) None (next_value (drop 1 ps) >>= λ w. whole (Two v w.0) w.1)) (λ f. (is : List Item) × (form_items f ≡ prefix_items size ++ value v ∷ is) × Spells is ps)
 second_read Absolute v ps comma = tt
@@ -107,7 +107,7 @@ tail_read size v ps =
     (λ y. rw y (second_read size v ps comma))))))
     (λ comma. rw comma (by_list ps (λ end. rw end ([], refl, at_end)) (λ q qs e. rw e tt)))
 
--- the items behind `(` and a value
+-- the items after `(` and a value
 inner_read : (v : Value) (ps : List Part) → IfSome (inner_at v ps) (λ f. (is : List Item) × (form_items f ≡ mark 40 ∷ value v ∷ is) × Spells is ps)
 unfolding inner_at
 inner_read v ps =
@@ -129,7 +129,7 @@ inner_read v ps =
     (λ x. rw x tt)))
     (λ comma. rw comma tt)))
 
--- a value, and then what is read behind it
+-- a value, and then what is read after it
 value_then : (ps : List Part) (k : Value → List Part → Option Form) (before : List Item)
     → ((v : Value) (rest : List Part) → IfSome (k v rest) (λ f. (is : List Item) × (form_items f ≡ before ++ value v ∷ is) × Spells is rest))
     → IfSome (next_value ps >>= λ v. k v.0 v.1) (λ f. (is : List Item) × (form_items f ≡ before ++ is) × Spells is ps)
@@ -141,7 +141,7 @@ value_then ps k before h =
     (λ g. rw g tt)))
     (λ e. rw e tt)
 
--- such items behind the items of what stands before them
+-- such items after the items of what stands before them
 joins : (o : Option Form) (before : List Item) (ps full : List Part)
     → ((is : List Item) → Spells is ps → Spells (before ++ is) full)
     → IfSome o (λ f. (is : List Item) × (form_items f ≡ before ++ is) × Spells is ps)
@@ -194,7 +194,7 @@ joined_read {A = A} Is read h (suc most) ps =
 
 -- ---- operations and lines
 
--- an item behind a word
+-- an item after a word
 one_behind : (text : List ℕ) (i : Item) (w : List ℕ) (ps : List Part) → same w text ≡ true → IsItem i ps → Spells (word text ∷ i ∷ []) (Word w ∷ ps)
 unfolding Spells
 one_behind text i w ps h g = (Word w ∷ [], ps, refl, (w, h, refl), (ps, [], sym (append-nil ps), g, refl))

@@ -204,7 +204,7 @@ operation_again (SetCpu t) ps h =
     let w = un_word (codes ".setcpu") (string t ∷ []) ps h in
     rw (w.2, other w.0 (codes ".setcpu") (codes ".byte") w.3 refl, other w.0 (codes ".setcpu") (codes ".word") w.3 refl, other w.0 (codes ".setcpu") (codes ".dbyt") w.3 refl, other w.0 (codes ".setcpu") (codes ".addr") w.3 refl, other w.0 (codes ".setcpu") (codes ".segment") w.3 refl, other w.0 (codes ".setcpu") (codes ".code") w.3 refl, w.3, un_last (string t) w.1 w.4) refl
 
--- what stands behind the word of an operation is no `:` and no `:=`
+-- what stands after the word of an operation is no `:` and no `:=`
 record IsPlain (ps : List Part) : Type 0 where
   colon : is_mark 58 ps ≡ false
   define : is_define ps ≡ false

@@ -11,7 +11,7 @@ use crate::numeral::Numeral;
 use crate::parts::Parts;
 use crate::source_line::{Minus, Value};
 
-/// Behind a name and what is added to it: `-1`, or nothing.
+/// After a name and what is added to it: `-1`, or nothing.
 #[tactic(auto, unfolding(crate::specs::Reading::less_one))]
 fn less_one<'a>(name: &'a [u8], plus: Numeral<'a>, parts: &mut Parts<'a>) -> Option<Value<'a>>
     ensures { Reads value_of result (less_one name.now (numeral_of plus.entry) parts.old) parts.new }
@@ -25,7 +25,7 @@ fn less_one<'a>(name: &'a [u8], plus: Numeral<'a>, parts: &mut Parts<'a>) -> Opt
     Some(Value::Name(name, plus, Minus::One))
 }
 
-/// Behind a name.
+/// After a name.
 #[tactic(auto, unfolding(crate::specs::Reading::named_at))]
 fn named_at<'a>(name: &'a [u8], parts: &mut Parts<'a>) -> Option<Value<'a>>
     ensures { Reads value_of result (named_at name.now parts.old) parts.new }

@@ -43,7 +43,7 @@ fn tail_at<'a>(size: AddressSize, value: Value<'a>, parts: &mut Parts<'a>) -> Op
     whole(Form::Two(value, second), parts)
 }
 
-/// Behind `(` and an expression.
+/// After `(` and an expression.
 #[tactic(auto, unfolding(crate::specs::Reading::inner_at))]
 fn inner_at<'a>(value: Value<'a>, parts: &mut Parts<'a>) -> Option<Form<'a>>
     ensures { Gives form_of_code result (inner_at (value_of value.entry) parts.old) }

@@ -15,7 +15,7 @@ use crate::parts::Parts;
 use crate::source_line::{Operation, SourceLine};
 use std::alloc::{AllocError, Allocator};
 
-/// Behind the name and `:=`.
+/// After the name and `:=`.
 #[tactic(auto, unfolding(crate::specs::Reading::constant_of))]
 fn constant_of<'a, A: Allocator>(name: &'a [u8], parts: &mut Parts<'a>) -> Option<SourceLine<'a, A>>
     ensures { Gives source_of result (constant_of name.now parts.old) }
@@ -48,7 +48,7 @@ fn stated<'a, A: Allocator>(
     Some(SourceLine::Statement { label, operation })
 }
 
-/// Behind a label and its colon.
+/// After a label and its colon.
 fn labelled<'a, A: Allocator>(
     alloc: A,
     word: &'a [u8],
@@ -63,7 +63,7 @@ fn labelled<'a, A: Allocator>(
     Ok(stated(Some(word), operation))
 }
 
-/// Behind a name and `:=`, if it is one.
+/// After a name and `:=`, if it is one.
 fn defined<'a, A: Allocator>(word: &'a [u8], parts: &mut Parts<'a>) -> Option<SourceLine<'a, A>>
     ensures { Gives source_of result (if is_name word.now then constant_of word.now parts.old else None) }
 {
@@ -73,7 +73,7 @@ fn defined<'a, A: Allocator>(word: &'a [u8], parts: &mut Parts<'a>) -> Option<So
     constant_of(word, parts)
 }
 
-/// Behind the word of an operation without a label.
+/// After the word of an operation without a label.
 fn unlabelled<'a, A: Allocator>(
     alloc: A,
     word: &'a [u8],

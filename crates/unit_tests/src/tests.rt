@@ -1,5 +1,6 @@
 mod address_names;
 mod assembling;
+mod asserts;
 mod code;
 mod columns;
 mod comments;
@@ -8,6 +9,7 @@ mod given_names;
 mod image_reading;
 mod include_files;
 mod includes;
+mod inputs;
 mod items;
 mod large;
 mod levels;

@@ -1,22 +1,28 @@
 // Command lines.
+use crate::tests::asserts::assert_that_at;
 use da65::{Options, UsageFault, options_of};
 use isa65::Cpu;
-use std::alloc::{AllocError, Global};
-use std::test::Fail;
+use std::alloc::Global;
+use std::process::Abort;
 
 /// The words of a command line: the program's name, and then these.
-fn words_of(alloc: Global, words: &[&str]) -> Result<Vec<String>, AllocError> {
+fn words_of(rt: &impl Abort, alloc: Global, words: &[&str]) -> Vec<String> {
     let mut all = Vec::new(alloc);
-    all.push(String::from_str(alloc, "da65")?)?;
+    put_word(rt, alloc, &mut all, "da65");
     for word in words {
-        all.push(String::from_str(alloc, word)?)?;
+        put_word(rt, alloc, &mut all, word);
     }
-    Ok(all)
+    all
+}
+
+fn put_word(rt: &impl Abort, alloc: Global, words: &mut Vec<String>, word: &str) {
+    let word = String::from_str(alloc, word).expect(rt, "from_str");
+    words.push(word).expect(rt, "push");
 }
 
 /// The options of these words, which follow the program's name.
-pub fn options_on(alloc: Global, words: &[&str]) -> Result<Options, UsageFault> {
-    options_of(alloc, &words_of(alloc, words)?)
+pub fn options_on(rt: &impl Abort, alloc: Global, words: &[&str]) -> Result<Options, UsageFault> {
+    options_of(alloc, &words_of(rt, alloc, words))
 }
 
 const STARTS: &[(&str, &str, u16)] = &[
@@ -31,13 +37,15 @@ const STARTS: &[(&str, &str, u16)] = &[
 ];
 
 #[test]
-fn start_addresses(rt: HostRuntime) -> Result<(), Fail> {
+fn start_addresses(rt: HostRuntime) {
     for (option, value, start) in STARTS {
-        let options = options_on(rt.alloc(), &[option, value, "a.bin"])?;
+        let options = options_on(&rt, rt.alloc(), &[option, value, "a.bin"]).expect(
+            &rt,
+            "options_on",
+        );
         let is_found = options.start == Some(*start) && options.input.as_deref() == Some("a.bin");
-        assert!(rt; is_found, "{value}");
+        assert_that_at(&rt, is_found, &value);
     }
-    Ok(())
 }
 
 /// A command line and what its options are: the names of the information file, the output and the input, the start, the
@@ -180,12 +188,11 @@ fn is_row(options: &Options, row: &Row) -> bool {
 }
 
 #[test]
-fn each_option(rt: HostRuntime) -> Result<(), Fail> {
+fn each_option(rt: HostRuntime) {
     for row in ROWS {
-        let options = options_on(rt.alloc(), row.words)?;
-        assert!(rt; is_row(&options, row), "{:?}", row.words);
+        let options = options_on(&rt, rt.alloc(), row.words).expect(&rt, "options_on");
+        assert_that_at(&rt, is_row(&options, row), &format_args!("{:?}", row.words));
     }
-    Ok(())
 }
 
 /// Why a command line is refused.
@@ -250,7 +257,7 @@ const REFUSED: &[(UsageFault, &[&str])] = &[
 #[test]
 fn refusals(rt: HostRuntime) {
     for (fault, words) in REFUSED {
-        let refused = options_on(rt.alloc(), words).err();
-        assert!(rt; refused == Some(*fault), "{words:?}");
+        let refused = options_on(&rt, rt.alloc(), words).err();
+        assert_that_at(&rt, refused == Some(*fault), &format_args!("{words:?}"));
     }
 }

@@ -1,25 +1,28 @@
 // Listings for each CPU, and their assembly.
-use crate::tests::assembled::mixed;
+use crate::tests::assembled::{mixed, values_from};
+use crate::tests::asserts::{assert_equal_at, assert_that_at};
+use crate::tests::command_lines::options_on;
 use crate::tests::runs::{Ran, run_with};
-use da65::{Options, Status, UsageFault, options_of};
+use da65::{Options, Status, UsageFault};
 use std::alloc::Global;
-use std::ops::RangeInclusive;
 use std::process::Abort;
-use std::test::Fail;
 use stmt65::assemble;
 
 const CPUS: [&str; 3] = ["6502", "65SC02", "65C02"];
 
 /// The options of a command line with this start and this CPU.
-fn options_on(alloc: Global, start: u16, cpu: &str) -> Result<Result<Options, UsageFault>, Fail> {
-    let mut words = Vec::new(alloc);
-    for word in ["da65", "--cpu", cpu, "-S", "image.bin"] {
-        if word == "image.bin" {
-            words.push(format!(in alloc; "{start}")?)?;
-        }
-        words.push(String::from_str(alloc, word)?)?;
-    }
-    Ok(options_of(alloc, &words))
+fn options_for(
+    rt: &impl Abort,
+    alloc: Global,
+    start: u16,
+    cpu: &str,
+) -> Result<Options, UsageFault> {
+    let start = format!(in alloc; "{start}").expect(rt, "format");
+    options_on(
+        rt,
+        alloc,
+        &["--cpu", cpu, "-S", start.as_str(), "image.bin"],
+    )
 }
 
 /// Lists the image for the CPU, and assembles the listing from the image's start.
@@ -30,14 +33,23 @@ fn there_and_back(
     start: u16,
     info: &str,
     image: &[u8],
-) -> Result<Ran, Fail> {
-    let options = options_on(alloc, start, cpu)??;
+) -> Ran {
+    let options = options_for(rt, alloc, start, cpu).expect(rt, "options");
     let ran = run_with(alloc, alloc, &options, info.as_bytes(), image);
-    assert_eq!(rt; ran.result, Ok(Status::Done), "{cpu} {info}");
-    assert!(rt; ran.messages.is_empty(), "{cpu} {info}");
-    let bytes = assemble(alloc, &ran.listing, start)?;
-    assert!(rt; bytes.as_slice() == image, "{cpu} {info} from {start:04x}");
-    Ok(ran)
+    assert_equal_at(
+        rt,
+        &ran.result,
+        &Ok(Status::Done),
+        &format_args!("{cpu} {info}"),
+    );
+    assert_that_at(rt, ran.messages.is_empty(), &format_args!("{cpu} {info}"));
+    let bytes = assemble(alloc, &ran.listing, start).expect(rt, "assemble");
+    assert_that_at(
+        rt,
+        bytes.as_slice() == image,
+        &format_args!("{cpu} {info} from {start:04x}"),
+    );
+    ran
 }
 
 /// A CPU as the command line names it, an image from a start on, an information file, and the lines after the header.
@@ -179,61 +191,58 @@ const LISTED: &[Listed] = &[
 ];
 
 #[test]
-fn bodies_by_cpu(rt: HostRuntime) -> Result<(), Fail> {
+fn bodies_by_cpu(rt: HostRuntime) {
     for row in LISTED {
-        let ran = there_and_back(&rt, rt.alloc(), row.cpu, row.start, row.info, row.image)?;
-        let name = row.cpu.as_bytes().to_ascii_uppercase(rt.alloc())?;
+        let ran = there_and_back(&rt, rt.alloc(), row.cpu, row.start, row.info, row.image);
+        let name = row
+            .cpu
+            .as_bytes()
+            .to_ascii_uppercase(rt.alloc())
+            .expect(&rt, "to_ascii_uppercase");
         let header = format!(in rt.alloc();
             "; da65 listing\n\n        .setcpu \"{}\"\n\n{}",
-            str::from_utf8(&name)?,
+            str::from_utf8(&name).expect(&rt, "from_utf8"),
             row.body
-        )?;
-        assert_eq!(rt; ran.listing.as_slice(), header.as_bytes(), "{}", row.cpu);
+        )
+        .expect(&rt, "format");
+        assert_equal_at(&rt, &ran.listing.as_slice(), &header.as_bytes(), &row.cpu);
     }
-    Ok(())
 }
 
 #[test]
-fn other_cpus_are_refused(rt: HostRuntime) -> Result<(), Fail> {
+fn other_cpus_are_refused(rt: HostRuntime) {
     for cpu in ["65CE02", "65C02 ", "6502X", "65816", ""] {
-        let refused = options_on(rt.alloc(), 0x1000, cpu)?;
-        assert_eq!(rt; refused.err(), Some(UsageFault::OutOfRange), "{cpu}");
+        let refused = options_for(&rt, rt.alloc(), 0x1000, cpu);
+        assert_equal_at(&rt, &refused.err(), &Some(UsageFault::OutOfRange), &cpu);
     }
-    Ok(())
 }
 
-/// An image of 768 bytes of each of these values, one value after the other, for each CPU after the 6502.
-fn byte_values(rt: &impl Abort, alloc: Global, values: RangeInclusive<u8>) -> Result<(), Fail> {
-    let mut image = Vec::new(alloc);
-    for value in values {
-        for _ in 0..768 {
-            image.push(value)?;
-        }
-    }
+/// 768 bytes of each of 64 values, for each CPU after the 6502.
+fn byte_values(rt: &impl Abort, alloc: Global, first: u8) {
+    let image = values_from(rt, alloc, first);
     for cpu in ["65SC02", "65C02"] {
-        there_and_back(rt, alloc, cpu, 0x1000, "", &image)?;
+        there_and_back(rt, alloc, cpu, 0x1000, "", &image);
     }
-    Ok(())
 }
 
 #[test]
-fn byte_values_00_to_3f(rt: HostRuntime) -> Result<(), Fail> {
-    byte_values(&rt, rt.alloc(), 0x00..=0x3F)
+fn byte_values_00_to_3f(rt: HostRuntime) {
+    byte_values(&rt, rt.alloc(), 0x00)
 }
 
 #[test]
-fn byte_values_40_to_7f(rt: HostRuntime) -> Result<(), Fail> {
-    byte_values(&rt, rt.alloc(), 0x40..=0x7F)
+fn byte_values_40_to_7f(rt: HostRuntime) {
+    byte_values(&rt, rt.alloc(), 0x40)
 }
 
 #[test]
-fn byte_values_80_to_bf(rt: HostRuntime) -> Result<(), Fail> {
-    byte_values(&rt, rt.alloc(), 0x80..=0xBF)
+fn byte_values_80_to_bf(rt: HostRuntime) {
+    byte_values(&rt, rt.alloc(), 0x80)
 }
 
 #[test]
-fn byte_values_c0_to_ff(rt: HostRuntime) -> Result<(), Fail> {
-    byte_values(&rt, rt.alloc(), 0xC0..=0xFF)
+fn byte_values_c0_to_ff(rt: HostRuntime) {
+    byte_values(&rt, rt.alloc(), 0xC0)
 }
 
 /// Names in the zero page and in the image, and ranges between them.
@@ -244,26 +253,23 @@ const NAMES_AND_RANGES: &str =
     RANGE { START $1500; SIZE 31; TYPE ADDRTABLE; }; RANGE { START $1600; SIZE 30; TYPE RTSTABLE; };";
 
 #[test]
-fn mixed_bytes_with_names(rt: HostRuntime) -> Result<(), Fail> {
+fn mixed_bytes_with_names(rt: HostRuntime) {
     for seed in 1..9u64 {
-        let image = mixed(rt.alloc(), seed, 2_000)?;
+        let image = mixed(&rt, rt.alloc(), seed, 2_000);
         for cpu in CPUS {
-            there_and_back(&rt, rt.alloc(), cpu, 0x1000, NAMES_AND_RANGES, &image)?;
+            there_and_back(&rt, rt.alloc(), cpu, 0x1000, NAMES_AND_RANGES, &image);
         }
     }
-    Ok(())
 }
 
 #[test]
-fn mixed_bytes_of_the_65sc02(rt: HostRuntime) -> Result<(), Fail> {
-    let image = mixed(rt.alloc(), 1, 65_536)?;
-    there_and_back(&rt, rt.alloc(), "65SC02", 0, "", &image)?;
-    Ok(())
+fn mixed_bytes_of_the_65sc02(rt: HostRuntime) {
+    let image = mixed(&rt, rt.alloc(), 1, 65_536);
+    there_and_back(&rt, rt.alloc(), "65SC02", 0, "", &image);
 }
 
 #[test]
-fn mixed_bytes_of_the_65c02(rt: HostRuntime) -> Result<(), Fail> {
-    let image = mixed(rt.alloc(), 1, 65_536)?;
-    there_and_back(&rt, rt.alloc(), "65C02", 0, "", &image)?;
-    Ok(())
+fn mixed_bytes_of_the_65c02(rt: HostRuntime) {
+    let image = mixed(&rt, rt.alloc(), 1, 65_536);
+    there_and_back(&rt, rt.alloc(), "65C02", 0, "", &image);
 }

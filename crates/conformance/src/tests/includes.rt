@@ -1,14 +1,13 @@
 // Runs with include files.
 use crate::heap::Refusing;
+use crate::tests::asserts::{assert_equal, assert_equal_at, assert_that, assert_that_at};
 use crate::tests::devices::Tape;
 use crate::tests::refusals::{MANY, Refusals};
+use crate::tests::refused::run_as_its_parts;
 use crate::tests::runs::{HEADER, named, run_including};
 use da65::{File, Options, RunFault, Status, Told, needs, run};
-use info65::{read_include, read_info};
-use map65::{Map, read_image};
 use std::alloc::Global;
 use std::process::Abort;
-use std::test::Fail;
 use stmt65::assemble;
 
 /// An information file that includes one file.
@@ -23,33 +22,33 @@ const UNNAMED: &[u8] = b"L0010           := $0010\n\n        jmp     L0010\n";
 const JUMP: &[u8] = &[0x4C, 0x10, 0x00];
 
 /// A jump to $0010 at $1000, listed with these files.
-fn jump(
-    rt: &impl Abort,
-    alloc: Global,
-    info: &str,
-    files: &[File<'_>],
-    body: Result<&[u8], &str>,
-) -> Result<(), Fail> {
-    let options = named(alloc, Some(0x1000))?;
+fn jump(rt: &impl Abort, alloc: Global, info: &str, files: &[File<'_>], body: Result<&[u8], &str>) {
+    let options = named(rt, alloc, Some(0x1000));
     let ran = run_including(alloc, alloc, &options, info.as_bytes(), files, JUMP);
     match body {
         Ok(body) => {
-            assert_eq!(rt; ran.result, Ok(Status::Done), "{info}");
-            assert_eq!(rt;
-                ran.listing.as_slice().strip_prefix(HEADER),
-                Some(body),
-                "{info}"
+            assert_equal_at(rt, &ran.result, &Ok(Status::Done), &info);
+            assert_equal_at(
+                rt,
+                &ran.listing.as_slice().strip_prefix(HEADER),
+                &Some(body),
+                &info,
             );
-            assert!(rt; ran.messages.is_empty(), "{info}");
-            assert_eq!(rt; assemble(alloc, &ran.listing, 0x1000)?.as_slice(), JUMP);
+            assert_that_at(rt, ran.messages.is_empty(), &info);
+            assert_equal(
+                rt,
+                &assemble(alloc, &ran.listing, 0x1000)
+                    .expect(rt, "assemble")
+                    .as_slice(),
+                &JUMP,
+            );
         }
         Err(message) => {
-            assert_eq!(rt; ran.result, Ok(Status::Refused), "{info}");
-            assert!(rt; ran.listing.is_empty(), "{info}");
-            assert_eq!(rt; ran.messages.as_slice(), message.as_bytes(), "{info}");
+            assert_equal_at(rt, &ran.result, &Ok(Status::Refused), &info);
+            assert_that_at(rt, ran.listing.is_empty(), &info);
+            assert_equal_at(rt, &ran.messages.as_slice(), &message.as_bytes(), &info);
         }
     }
-    Ok(())
 }
 
 /// An information file, what `k.inc` has, and the lines after the header or the message.
@@ -136,15 +135,14 @@ const ROWS: &[(&str, &str, Result<&[u8], &str>)] = &[
 ];
 
 #[test]
-fn names_of_an_include_file(rt: HostRuntime) -> Result<(), Fail> {
+fn names_of_an_include_file(rt: HostRuntime) {
     for (info, text, body) in ROWS {
         let file = File {
             name: "k.inc",
             bytes: text.as_bytes(),
         };
-        jump(&rt, rt.alloc(), info, &[file], *body)?;
+        jump(&rt, rt.alloc(), info, &[file], *body);
     }
-    Ok(())
 }
 
 const SEVENTEEN: &str =
@@ -155,7 +153,7 @@ ASMINC { FILE \"k.inc\"; };\nASMINC { FILE \"k.inc\"; };\nASMINC { FILE \"k.inc\
 ASMINC { FILE \"k.inc\"; };\nASMINC { FILE \"k.inc\"; };\n";
 
 #[test]
-fn seventeen_include_files(rt: HostRuntime) -> Result<(), Fail> {
+fn seventeen_include_files(rt: HostRuntime) {
     let file = File {
         name: "k.inc",
         bytes: b"K = $10",
@@ -225,11 +223,10 @@ const ORDERS: &[(&str, Result<&[u8], &str>)] = &[
 ];
 
 #[test]
-fn files_in_the_order_of_their_groups(rt: HostRuntime) -> Result<(), Fail> {
+fn files_in_the_order_of_their_groups(rt: HostRuntime) {
     for (info, body) in ORDERS {
-        jump(&rt, rt.alloc(), info, &FILES, *body)?;
+        jump(&rt, rt.alloc(), info, &FILES, *body);
     }
-    Ok(())
 }
 
 /// A call by a name of an include file.
@@ -240,20 +237,27 @@ const SYSTEM: &[u8] = b"CHROUT = $FFD2\nBSOUT := $FFD2 ; same\n.macro x\n";
 const CALLED: &[u8] = b"CHROUT          := $FFD2\n\n        jsr     CHROUT\n";
 
 #[test]
-fn system_calls_by_name(rt: HostRuntime) -> Result<(), Fail> {
+fn system_calls_by_name(rt: HostRuntime) {
     let files = [File {
         name: "k.inc",
         bytes: SYSTEM,
     }];
-    let options = named(rt.alloc(), Some(0x1000))?;
+    let options = named(&rt, rt.alloc(), Some(0x1000));
     let info = b"ASMINC { FILE \"k.inc\"; IGNOREUNKNOWN on; };";
     let ran = run_including(rt.alloc(), rt.alloc(), &options, info, &files, CALL);
-    assert_eq!(rt; ran.result, Ok(Status::Done));
-    assert_eq!(rt; ran.listing.as_slice().strip_prefix(HEADER), Some(CALLED));
-    assert!(rt; ran.messages.is_empty());
-    assert_eq!(rt;
-        assemble(rt.alloc(), &ran.listing, 0x1000)?.as_slice(),
-        CALL
+    assert_equal(&rt, &ran.result, &Ok(Status::Done));
+    assert_equal(
+        &rt,
+        &ran.listing.as_slice().strip_prefix(HEADER),
+        &Some(CALLED),
+    );
+    assert_that(&rt, ran.messages.is_empty());
+    assert_equal(
+        &rt,
+        &assemble(rt.alloc(), &ran.listing, 0x1000)
+            .expect(&rt, "assemble")
+            .as_slice(),
+        &CALL,
     );
 
     let ran = run_including(
@@ -264,30 +268,30 @@ fn system_calls_by_name(rt: HostRuntime) -> Result<(), Fail> {
         &files,
         CALL,
     );
-    assert_eq!(rt; ran.result, Ok(Status::Refused));
-    assert!(rt; ran.listing.is_empty());
-    assert_eq!(rt;
-        ran.messages.as_slice(),
-        b"da65: include k.inc:3: bad include line\n".as_slice()
+    assert_equal(&rt, &ran.result, &Ok(Status::Refused));
+    assert_that(&rt, ran.listing.is_empty());
+    assert_equal(
+        &rt,
+        &ran.messages.as_slice(),
+        &b"da65: include k.inc:3: bad include line\n".as_slice(),
     );
 
-    let names = needs(rt.alloc(), &options, info)?;
-    assert_eq!(rt; names.input.as_deref(), Some("image.bin"));
-    assert_eq!(rt; names.output.as_deref(), None);
-    assert_eq!(rt; names.includes.len(), 1);
-    assert_eq!(rt; names.includes[0].as_str(), "k.inc");
-    Ok(())
+    let names = needs(rt.alloc(), &options, info).expect(&rt, "needs");
+    assert_equal(&rt, &names.input.as_deref(), &Some("image.bin"));
+    assert_equal(&rt, &names.output.as_deref(), &None);
+    assert_that(&rt, names.includes.len() == 1);
+    assert_equal(&rt, &names.includes[0].as_str(), &"k.inc");
 }
 
 /// A run that is refused for an include file reads nothing, and one without an input name looks at none.
 #[test]
-fn refused_before_reading(rt: HostRuntime) -> Result<(), Fail> {
+fn refused_before_reading(rt: HostRuntime) {
     let table = [
         (true, "da65: cannot read include k.inc\n"),
         (false, "da65: no input file\n"),
     ];
     for (is_named, message) in table {
-        let mut options = named(rt.alloc(), None)?;
+        let mut options = named(&rt, rt.alloc(), None);
         if !is_named {
             options.input = None;
         }
@@ -303,18 +307,17 @@ fn refused_before_reading(rt: HostRuntime) -> Result<(), Fail> {
             &mut Told::new(&mut listing),
             &mut Told::new(&mut messages),
         );
-        assert_eq!(rt; result, Ok(Status::Refused));
-        assert_eq!(rt; tape.given(), 0);
-        assert!(rt; listing.is_empty());
-        assert_eq!(rt; messages.as_slice(), message.as_bytes());
+        assert_equal(&rt, &result, &Ok(Status::Refused));
+        assert_equal(&rt, &tape.given(), &0);
+        assert_that(&rt, listing.is_empty());
+        assert_equal(&rt, &messages.as_slice(), &message.as_bytes());
     }
-    Ok(())
 }
 
 #[test]
-fn size_of_an_include_file(rt: HostRuntime) -> Result<(), Fail> {
-    let text = vec![in rt.alloc(); b';'; 1_048_577]?;
-    let (_, rest) = text.as_slice().split_first().ok_or("empty")?;
+fn size_of_an_include_file(rt: HostRuntime) {
+    let text = vec![in rt.alloc(); b';'; 1_048_577].expect(&rt, "vec");
+    let (_, rest) = text.as_slice().split_first().expect(&rt, "empty");
     let ignoring = "ASMINC { FILE \"k.inc\"; IGNOREUNKNOWN on; };";
     for info in [ONE, ignoring] {
         let largest = File {
@@ -325,33 +328,36 @@ fn size_of_an_include_file(rt: HostRuntime) -> Result<(), Fail> {
             name: "k.inc",
             bytes: text.as_slice(),
         };
-        jump(&rt, rt.alloc(), info, &[largest], Ok(UNNAMED))?;
+        jump(&rt, rt.alloc(), info, &[largest], Ok(UNNAMED));
         jump(
             &rt,
             rt.alloc(),
             info,
             &[large],
             Err("da65: include k.inc:1: too large\n"),
-        )?;
+        );
     }
-    Ok(())
 }
 
 /// The longest file name that an information file can have.
 #[test]
-fn message_of_the_longest_name(rt: HostRuntime) -> Result<(), Fail> {
+fn message_of_the_longest_name(rt: HostRuntime) {
     let mut name = String::new(rt.alloc());
     for _ in 0..255 {
-        name.push('n')?;
+        name.push('n').expect(&rt, "push");
     }
-    let info = format!(in rt.alloc(); "ASMINC {{ FILE \"{name}\"; }};")?;
-    let missing = format!(in rt.alloc(); "da65: cannot read include {name}\n")?;
-    jump(&rt, rt.alloc(), info.as_str(), &[], Err(missing.as_str()))?;
+    let info = format!(in rt.alloc(); "ASMINC {{ FILE \"{name}\"; }};").expect(&rt, "format");
+    let missing = format!(in rt.alloc(); "da65: cannot read include {name}\n").expect(
+        &rt, "format",
+    );
+    jump(&rt, rt.alloc(), info.as_str(), &[], Err(missing.as_str()));
     let bad = File {
         name: name.as_str(),
         bytes: b"\n@",
     };
-    let refused = format!(in rt.alloc(); "da65: include {name}:2: bad include line\n")?;
+    let refused = format!(in rt.alloc(); "da65: include {name}:2: bad include line\n").expect(
+        &rt, "format",
+    );
     jump(
         &rt,
         rt.alloc(),
@@ -366,7 +372,7 @@ const TWO: &[u8] = b"GLOBAL { INPUTNAME \"a.bin\"; STARTADDR $1000; };\n\
 
 /// A run with include files, each allocation refused in turn.
 #[test]
-fn run_with_includes_without_memory(rt: HostRuntime) -> Result<(), Fail> {
+fn run_with_includes_without_memory(rt: HostRuntime) {
     let files = [File {
         name: "k.inc",
         bytes: SYSTEM,
@@ -378,54 +384,42 @@ fn run_with_includes_without_memory(rt: HostRuntime) -> Result<(), Fail> {
         let failed = ran.result == Err(RunFault::Memory);
         refusals.count(&rt, &heap, granted, failed);
         if failed {
-            assert!(rt; ran.listing.is_empty() && ran.messages.is_empty());
+            assert_that(&rt, ran.listing.is_empty() && ran.messages.is_empty());
         } else {
-            assert_eq!(rt; ran.result, Ok(Status::Done));
-            assert_eq!(rt; ran.listing.as_slice().strip_prefix(HEADER), Some(CALLED));
-            assert!(rt; ran.messages.is_empty());
+            assert_equal(&rt, &ran.result, &Ok(Status::Done));
+            assert_equal(
+                &rt,
+                &ran.listing.as_slice().strip_prefix(HEADER),
+                &Some(CALLED),
+            );
+            assert_that(&rt, ran.messages.is_empty());
         }
     }
     refusals.at_least(&rt, 4, MANY);
-    Ok(())
 }
 
 /// A run allocates where its information file, its include files, its image and its map do.
 #[test]
-fn run_with_includes_allocates_as_its_parts(rt: HostRuntime) -> Result<(), Fail> {
+fn run_with_includes_allocates_as_its_parts(rt: HostRuntime) {
     let files = [File {
         name: "k.inc",
         bytes: SYSTEM,
     }];
-    let options = Options::<Global>::none();
-    let heap = Refusing::after(rt.alloc(), u64::MAX);
-    let mut info = read_info(&heap, &options, TWO)?;
-    for index in 0..2 {
-        if index < info.includes().len() {
-            read_include(&heap, &mut info, index, SYSTEM)?;
-        }
-    }
-    let image = read_image(&heap, &info, &mut Told::new(CALL))?;
-    assert!(rt; Map::build(&heap, &info, &image).is_ok());
-
-    let counted = Refusing::after(rt.alloc(), u64::MAX);
-    let ran = run_including(rt.alloc(), &counted, &options, TWO, &files, CALL);
-    assert_eq!(rt; ran.result, Ok(Status::Done));
-    assert_eq!(rt; counted.left(), heap.left());
-    Ok(())
+    let options = Options::none();
+    run_as_its_parts(&rt, rt.alloc(), &options, TWO, &files, CALL);
 }
 
 /// Names of needed files, each allocation refused in turn.
 #[test]
-fn needed_includes_without_memory(rt: HostRuntime) -> Result<(), Fail> {
+fn needed_includes_without_memory(rt: HostRuntime) {
     let mut refusals = Refusals::none();
     for granted in 0..MANY {
         let heap = Refusing::after(rt.alloc(), granted);
         let found = needs(&heap, &Options::<Global>::none(), TWO);
         refusals.count(&rt, &heap, granted, found.is_err());
         if let Ok(names) = found {
-            assert_eq!(rt; names.includes.len(), 2, "after {granted}");
+            assert_equal_at(&rt, &names.includes.len(), &2, &granted);
         }
     }
     refusals.at_least(&rt, 4, MANY);
-    Ok(())
 }

@@ -1,9 +1,9 @@
 // Listings with names.
-use crate::tests::runs::{HEADER, named, run_with};
+use crate::tests::asserts::{assert_equal, assert_equal_at, assert_that, assert_that_at};
+use crate::tests::runs::{HEADER, assert_assembles, listed, named, run_with};
 use da65::Status;
 use std::alloc::{AllocError, Global};
 use std::process::Abort;
-use std::test::Fail;
 use stmt65::assemble;
 
 /// An image from a start on, an information file, whether offsets are hexadecimal by the command line, and the
@@ -160,9 +160,9 @@ const NAMED: &[Named] = &[
 ];
 
 #[test]
-fn worked_listings(rt: HostRuntime) -> Result<(), Fail> {
+fn worked_listings(rt: HostRuntime) {
     for row in NAMED {
-        let mut options = named(rt.alloc(), Some(row.start))?;
+        let mut options = named(&rt, rt.alloc(), Some(row.start));
         options.hexoffs = row.hexoffs;
         let ran = run_with(
             rt.alloc(),
@@ -171,58 +171,69 @@ fn worked_listings(rt: HostRuntime) -> Result<(), Fail> {
             row.info.as_bytes(),
             row.image,
         );
-        assert_eq!(rt; ran.result, Ok(Status::Done), "{}", row.info);
-        assert!(rt; ran.messages.is_empty(), "{}", row.info);
-        assert_eq!(rt;
-            ran.listing.as_slice().strip_prefix(HEADER),
-            Some(row.body),
-            "{}",
-            row.info
+        assert_equal_at(&rt, &ran.result, &Ok(Status::Done), &row.info);
+        assert_that_at(&rt, ran.messages.is_empty(), &row.info);
+        assert_equal_at(
+            &rt,
+            &ran.listing.as_slice().strip_prefix(HEADER),
+            &Some(row.body),
+            &row.info,
         );
-        let bytes = assemble(rt.alloc(), &ran.listing, row.start)?;
-        assert_eq!(rt; bytes.as_slice(), row.image, "{}", row.info);
+        assert_assembles(
+            &rt,
+            rt.alloc(),
+            &ran.listing,
+            row.start,
+            row.image,
+            row.info,
+        );
     }
-    Ok(())
 }
 
 /// A name in skipped bytes is a constant, used or not.
 #[test]
-fn names_of_skipped_bytes(rt: HostRuntime) -> Result<(), Fail> {
+fn names_of_skipped_bytes(rt: HostRuntime) {
     let info = b"RANGE { START $1001; SIZE 2; TYPE SKIP; }; LABEL { ADDR $1002; NAME \"gap\"; };";
-    let ran = run_with(
+    let ran = listed(
+        &rt,
         rt.alloc(),
-        rt.alloc(),
-        &named(rt.alloc(), Some(0x1000))?,
+        Some(0x1000),
         info,
         &[0xEA, 0x20, 0x30, 0xAD, 0x01, 0x10],
     );
-    assert_eq!(rt; ran.result, Ok(Status::Done));
+    assert_equal(&rt, &ran.result, &Ok(Status::Done));
     let body =
         b"L1001           := $1001\ngap             := $1002\n\n        nop\n        lda     L1001\n".as_slice();
-    assert_eq!(rt; ran.listing.as_slice().strip_prefix(HEADER), Some(body));
-    Ok(())
+    assert_equal(
+        &rt,
+        &ran.listing.as_slice().strip_prefix(HEADER),
+        &Some(body),
+    );
 }
 
 /// The lines after the header of 65,536 bytes of this value from $0000 on, which assemble to them.
-fn lines_of_value(rt: &impl Abort, alloc: Global, value: u8) -> Result<Vec<Vec<u8>>, Fail> {
-    let image = vec![in alloc; value; 65_536]?;
-    let ran = run_with(alloc, alloc, &named(alloc, Some(0))?, b"", &image);
-    assert_eq!(rt; ran.result, Ok(Status::Done));
-    let body = ran.listing.as_slice().strip_prefix(HEADER).ok_or("header")?;
+fn lines_of_value(rt: &impl Abort, alloc: Global, value: u8) -> Vec<Vec<u8>> {
+    let image = vec![in alloc; value; 65_536].expect(rt, "vec");
+    let ran = listed(rt, alloc, Some(0), b"", &image);
+    assert_equal(rt, &ran.result, &Ok(Status::Done));
+    let body = ran
+        .listing
+        .as_slice()
+        .strip_prefix(HEADER)
+        .expect(rt, "header");
     let mut lines = Vec::new(alloc);
     let mut line = Vec::new(alloc);
     for byte in body {
         if *byte == b'\n' {
-            lines.push(line)?;
+            lines.push(line).expect(rt, "push");
             line = Vec::new(alloc);
         } else {
-            line.push(*byte)?;
+            line.push(*byte).expect(rt, "push");
         }
     }
-    assert!(rt; line.is_empty());
-    let bytes = assemble(alloc, &ran.listing, 0)?;
-    assert!(rt; bytes.as_slice() == image.as_slice());
-    Ok(lines)
+    assert_that(rt, line.is_empty());
+    assert_assembles(rt, alloc, &ran.listing, 0, &image, "one value");
+    lines
 }
 
 /// How many of the lines are this one.
@@ -237,22 +248,25 @@ fn count(lines: &[Vec<u8>], text: &[u8]) -> usize {
 }
 
 #[test]
-fn calls_without_end(rt: HostRuntime) -> Result<(), Fail> {
-    let lines = lines_of_value(&rt, rt.alloc(), 0x20)?;
-    assert_eq!(rt; lines.len(), 21_847);
-    assert_eq!(rt; count(&lines, b"        jsr     L2020"), 21_845);
-    assert_eq!(rt; count(&lines, b"L2020           := * + 1"), 1);
-    let last = lines.last().ok_or("line")?;
-    assert_eq!(rt; last.as_slice(), b"        .byte   $20".as_slice());
-    Ok(())
+fn calls_without_end(rt: HostRuntime) {
+    let lines = lines_of_value(&rt, rt.alloc(), 0x20);
+    assert_equal(&rt, &lines.len(), &21_847);
+    assert_equal(&rt, &count(&lines, b"        jsr     L2020"), &21_845);
+    assert_equal(&rt, &count(&lines, b"L2020           := * + 1"), &1);
+    let last = lines.last().expect(&rt, "line");
+    assert_equal(&rt, &last.as_slice(), &b"        .byte   $20".as_slice());
 }
 
 #[test]
-fn branches_without_end(rt: HostRuntime) -> Result<(), Fail> {
-    let lines = lines_of_value(&rt, rt.alloc(), 0xD0)?;
-    assert_eq!(rt; lines.len(), 23 + 32_745);
-    let first = lines.first().ok_or("line")?;
-    assert_eq!(rt; first.as_slice(), b"L0000:  .byte   $D0,$D0".as_slice());
+fn branches_without_end(rt: HostRuntime) {
+    let lines = lines_of_value(&rt, rt.alloc(), 0xD0);
+    assert_equal(&rt, &lines.len(), &(23 + 32_745));
+    let first = lines.first().expect(&rt, "line");
+    assert_equal(
+        &rt,
+        &first.as_slice(),
+        &b"L0000:  .byte   $D0,$D0".as_slice(),
+    );
     let mut labels = 0usize;
     let mut branches = 0usize;
     for line in &lines {
@@ -263,9 +277,8 @@ fn branches_without_end(rt: HostRuntime) -> Result<(), Fail> {
             branches = branches.saturating_add(1);
         }
     }
-    assert_eq!(rt; branches, 32_745);
-    assert_eq!(rt; labels, 32_745);
-    Ok(())
+    assert_equal(&rt, &branches, &32_745);
+    assert_equal(&rt, &labels, &32_745);
 }
 
 /// Random numbers, the same at each run.
@@ -347,45 +360,41 @@ pub fn random_image(alloc: Global, random: &mut Random, size: u32) -> Result<Vec
 }
 
 /// Lists a random image with random ranges and labels, and assembles the listing back.
-fn random_listing(rt: &impl Abort, alloc: Global, random: &mut Random) -> Result<(), Fail> {
+fn random_listing(rt: &impl Abort, alloc: Global, random: &mut Random) {
     let size = 1 + random.below(400);
     let start = random.below(65_536 - size);
-    let image = random_image(alloc, random, size)?;
-    let mut info = random_ranges(alloc, random, start)?;
-    let labels = random_labels(alloc, random, start)?;
-    info.push_str(&labels)?;
-    let options = named(alloc, Some(start as u16))?;
-    let ran = run_with(alloc, alloc, &options, info.as_bytes(), &image);
-    assert_eq!(rt; ran.result, Ok(Status::Done), "{info}");
-    let bytes = assemble(alloc, &ran.listing, start as u16)?;
-    assert!(rt; bytes.as_slice() == image.as_slice(), "{info}");
-    Ok(())
+    let image = random_image(alloc, random, size).expect(rt, "random_image");
+    let mut info = random_ranges(alloc, random, start).expect(rt, "random_ranges");
+    let labels = random_labels(alloc, random, start).expect(rt, "random_labels");
+    info.push_str(&labels).expect(rt, "push_str");
+    let ran = listed(rt, alloc, Some(start as u16), info.as_bytes(), &image);
+    assert_equal_at(rt, &ran.result, &Ok(Status::Done), &info);
+    assert_assembles(rt, alloc, &ran.listing, start as u16, &image, &info);
 }
 
-fn random_listings(rt: &impl Abort, alloc: Global, seed: u64) -> Result<(), Fail> {
+fn random_listings(rt: &impl Abort, alloc: Global, seed: u64) {
     let mut random = Random { state: seed };
     for _ in 0..75 {
-        random_listing(rt, alloc, &mut random)?;
+        random_listing(rt, alloc, &mut random);
     }
-    Ok(())
 }
 
 #[test]
-fn random_images_with_names_1(rt: HostRuntime) -> Result<(), Fail> {
+fn random_images_with_names_1(rt: HostRuntime) {
     random_listings(&rt, rt.alloc(), 1)
 }
 
 #[test]
-fn random_images_with_names_2(rt: HostRuntime) -> Result<(), Fail> {
+fn random_images_with_names_2(rt: HostRuntime) {
     random_listings(&rt, rt.alloc(), 2)
 }
 
 #[test]
-fn random_images_with_names_3(rt: HostRuntime) -> Result<(), Fail> {
+fn random_images_with_names_3(rt: HostRuntime) {
     random_listings(&rt, rt.alloc(), 3)
 }
 
 #[test]
-fn random_images_with_names_4(rt: HostRuntime) -> Result<(), Fail> {
+fn random_images_with_names_4(rt: HostRuntime) {
     random_listings(&rt, rt.alloc(), 4)
 }

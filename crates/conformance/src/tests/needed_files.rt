@@ -1,7 +1,7 @@
 // The names of the files that a run needs.
+use crate::tests::asserts::{assert_that, assert_that_at};
 use da65::{Needs, Options, needs};
 use std::alloc::{AllocError, Global};
-use std::test::Fail;
 
 /// Options with these names.
 pub fn choosing(
@@ -70,13 +70,12 @@ fn are_names(found: &Needs, wanted: &Names) -> bool {
 }
 
 #[test]
-fn names_of_options_and_file(rt: HostRuntime) -> Result<(), Fail> {
+fn names_of_options_and_file(rt: HostRuntime) {
     for (chosen, info, wanted) in ROWS {
-        let options = choosing(rt.alloc(), chosen.input, chosen.output)?;
-        let found = needs(rt.alloc(), &options, info.as_bytes())?;
-        assert!(rt; are_names(&found, wanted), "{info}");
+        let options = choosing(rt.alloc(), chosen.input, chosen.output).expect(&rt, "choosing");
+        let found = needs(rt.alloc(), &options, info.as_bytes()).expect(&rt, "needs");
+        assert_that_at(&rt, are_names(&found, wanted), &info);
     }
-    Ok(())
 }
 
 const INCLUDING: &[u8] = b"ASMINC { FILE \"b.inc\"; };
@@ -94,18 +93,21 @@ fn include(found: &Needs, wanted: &[&str]) -> bool {
 }
 
 #[test]
-fn names_of_include_files(rt: HostRuntime) -> Result<(), Fail> {
+fn names_of_include_files(rt: HostRuntime) {
     let options = Options::<Global>::none();
-    let found = needs(rt.alloc(), &options, INCLUDING)?;
-    assert!(rt; found.input.as_deref() == Some("a.bin") && found.output.is_none());
-    assert!(rt; include(&found, &["b.inc", "a.inc", "b.inc"]));
+    let found = needs(rt.alloc(), &options, INCLUDING).expect(&rt, "needs");
+    assert_that(
+        &rt,
+        found.input.as_deref() == Some("a.bin") && found.output.is_none(),
+    );
+    assert_that(&rt, include(&found, &["b.inc", "a.inc", "b.inc"]));
 
     // none where the information file is refused
     let found = needs(
         rt.alloc(),
         &options,
         b"ASMINC { FILE \"a.inc\"; }; ASMINC { };",
-    )?;
-    assert!(rt; found.includes.is_empty());
-    Ok(())
+    )
+    .expect(&rt, "needs");
+    assert_that(&rt, found.includes.is_empty());
 }

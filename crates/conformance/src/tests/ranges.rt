@@ -1,8 +1,9 @@
 // Runs with ranges.
-use crate::tests::runs::{HEADER, Ran, named, run_with};
+use crate::tests::asserts::{assert_equal, assert_equal_at, assert_that_at};
+use crate::tests::runs::{HEADER, Ran, listed};
 use da65::Status;
-use std::alloc::{AllocError, Global};
-use std::test::Fail;
+use std::alloc::Global;
+use std::process::Abort;
 
 /// What is written if a byte of the image is skipped.
 pub const WARNING: &[u8] =
@@ -168,26 +169,24 @@ pub const RANGED: &[Ranged] = &[
 ];
 
 /// A run with this information file over this image.
-pub fn run_ranged(alloc: Global, info: &str, image: &[u8]) -> Result<Ran, AllocError> {
-    let options = named(alloc, Some(START))?;
-    Ok(run_with(alloc, alloc, &options, info.as_bytes(), image))
+pub fn run_ranged(rt: &impl Abort, alloc: Global, info: &str, image: &[u8]) -> Ran {
+    listed(rt, alloc, Some(START), info.as_bytes(), image)
 }
 
 #[test]
-fn bodies_and_warnings(rt: HostRuntime) -> Result<(), Fail> {
+fn bodies_and_warnings(rt: HostRuntime) {
     for row in RANGED {
-        let ran = run_ranged(rt.alloc(), row.info, row.image)?;
-        assert_eq!(rt; ran.result, Ok(Status::Done), "{}", row.info);
-        assert_eq!(rt;
-            ran.listing.as_slice().strip_prefix(HEADER),
-            Some(row.body),
-            "{}",
-            row.info
+        let ran = run_ranged(&rt, rt.alloc(), row.info, row.image);
+        assert_equal_at(&rt, &ran.result, &Ok(Status::Done), &row.info);
+        assert_equal_at(
+            &rt,
+            &ran.listing.as_slice().strip_prefix(HEADER),
+            &Some(row.body),
+            &row.info,
         );
         let messages = if row.skips { WARNING } else { b"" };
-        assert_eq!(rt; ran.messages.as_slice(), messages, "{}", row.info);
+        assert_equal_at(&rt, &ran.messages.as_slice(), &messages, &row.info);
     }
-    Ok(())
 }
 
 /// An information file that is refused, and the message.
@@ -212,26 +211,25 @@ const REFUSED: &[(&str, &str)] = &[
 ];
 
 #[test]
-fn information_files_that_are_refused(rt: HostRuntime) -> Result<(), Fail> {
+fn information_files_that_are_refused(rt: HostRuntime) {
     for (info, message) in REFUSED {
-        let ran = run_ranged(rt.alloc(), info, &[0xEA])?;
-        assert_eq!(rt; ran.result, Ok(Status::Refused), "{info}");
-        assert!(rt; ran.listing.is_empty(), "{info}");
-        let line = format!(in rt.alloc(); "da65: {message}\n")?;
-        assert_eq!(rt; ran.messages.as_slice(), line.as_bytes(), "{info}");
+        let ran = run_ranged(&rt, rt.alloc(), info, &[0xEA]);
+        assert_equal_at(&rt, &ran.result, &Ok(Status::Refused), &info);
+        assert_that_at(&rt, ran.listing.is_empty(), &info);
+        let line = format!(in rt.alloc(); "da65: {message}\n").expect(&rt, "format");
+        assert_equal_at(&rt, &ran.messages.as_slice(), &line.as_bytes(), &info);
     }
-    Ok(())
 }
 
 /// No warning comes where the image is refused, and none where the information file is.
 #[test]
-fn no_warning_without_a_listing(rt: HostRuntime) -> Result<(), Fail> {
+fn no_warning_without_a_listing(rt: HostRuntime) {
     let skip = "RANGE { START 0; END $FFFF; TYPE SKIP; };";
-    let ran = run_ranged(rt.alloc(), skip, &[])?;
-    assert_eq!(rt; ran.result, Ok(Status::Refused));
-    assert_eq!(rt;
-        ran.messages.as_slice(),
-        b"da65: input is empty\n".as_slice()
+    let ran = run_ranged(&rt, rt.alloc(), skip, &[]);
+    assert_equal(&rt, &ran.result, &Ok(Status::Refused));
+    assert_equal(
+        &rt,
+        &ran.messages.as_slice(),
+        &b"da65: input is empty\n".as_slice(),
     );
-    Ok(())
 }

@@ -1,15 +1,14 @@
 // Worked rows, each with ample memory.
-use crate::tests::runs::{HEADER, THREE, THREE_LISTING, named, run_over};
+use crate::tests::asserts::{assert_equal, assert_that};
+use crate::tests::runs::{HEADER, THREE, THREE_LISTING, listed};
 use da65::Status;
-use std::test::Fail;
 
 #[test]
-fn three_bytes(rt: HostRuntime) -> Result<(), Fail> {
-    let ran = run_over(rt.alloc(), rt.alloc(), &named(rt.alloc(), None)?, THREE);
-    assert_eq!(rt; ran.result, Ok(Status::Done));
-    assert_eq!(rt; ran.listing.as_slice(), THREE_LISTING);
-    assert!(rt; ran.messages.is_empty());
-    Ok(())
+fn three_bytes(rt: HostRuntime) {
+    let ran = listed(&rt, rt.alloc(), None, b"", THREE);
+    assert_equal(&rt, &ran.result, &Ok(Status::Done));
+    assert_equal(&rt, &ran.listing.as_slice(), &THREE_LISTING);
+    assert_that(&rt, ran.messages.is_empty());
 }
 
 /// An image from a start on, and the lines after the header.
@@ -77,28 +76,33 @@ pub const BODIES: &[Row] = &[
 ];
 
 #[test]
-fn bodies_of_code(rt: HostRuntime) -> Result<(), Fail> {
+fn bodies_of_code(rt: HostRuntime) {
     for row in BODIES {
-        let options = named(rt.alloc(), Some(row.start))?;
-        let ran = run_over(rt.alloc(), rt.alloc(), &options, row.image);
-        assert_eq!(rt; ran.result, Ok(Status::Done));
-        assert_eq!(rt; ran.listing.as_slice().strip_prefix(HEADER), Some(row.body));
-        assert!(rt; ran.messages.is_empty());
+        let ran = listed(&rt, rt.alloc(), Some(row.start), b"", row.image);
+        assert_equal(&rt, &ran.result, &Ok(Status::Done));
+        assert_equal(
+            &rt,
+            &ran.listing.as_slice().strip_prefix(HEADER),
+            &Some(row.body),
+        );
+        assert_that(&rt, ran.messages.is_empty());
     }
-    Ok(())
 }
 
 #[test]
-fn as_many_bytes_as_addresses(rt: HostRuntime) -> Result<(), Fail> {
-    let image = vec![in rt.alloc(); 0u8; 65_536]?;
-    let ran = run_over(rt.alloc(), rt.alloc(), &named(rt.alloc(), None)?, &image);
-    assert_eq!(rt; ran.result, Ok(Status::Done));
-    let body = ran.listing.as_slice().strip_prefix(HEADER).ok_or("header")?;
-    assert_eq!(rt; body.len(), 65_536 * 12);
+fn as_many_bytes_as_addresses(rt: HostRuntime) {
+    let image = vec![in rt.alloc(); 0u8; 65_536].expect(&rt, "vec");
+    let ran = listed(&rt, rt.alloc(), None, b"", &image);
+    assert_equal(&rt, &ran.result, &Ok(Status::Done));
+    let body = ran
+        .listing
+        .as_slice()
+        .strip_prefix(HEADER)
+        .expect(&rt, "header");
+    assert_equal(&rt, &body.len(), &(65_536 * 12));
     for line in body.chunks(12) {
-        assert_eq!(rt; line, b"        brk\n".as_slice());
+        assert_equal(&rt, &line, &b"        brk\n".as_slice());
     }
-    Ok(())
 }
 
 /// A start, how many bytes 00 there are, and the message.
@@ -127,14 +131,12 @@ const REFUSALS: &[Refusal] = &[
 ];
 
 #[test]
-fn size_limits(rt: HostRuntime) -> Result<(), Fail> {
+fn size_limits(rt: HostRuntime) {
     for refusal in REFUSALS {
-        let image = vec![in rt.alloc(); 0u8; refusal.count]?;
-        let options = named(rt.alloc(), refusal.start)?;
-        let ran = run_over(rt.alloc(), rt.alloc(), &options, &image);
-        assert_eq!(rt; ran.result, Ok(Status::Refused));
-        assert!(rt; ran.listing.is_empty());
-        assert_eq!(rt; ran.messages.as_slice(), refusal.message);
+        let image = vec![in rt.alloc(); 0u8; refusal.count].expect(&rt, "vec");
+        let ran = listed(&rt, rt.alloc(), refusal.start, b"", &image);
+        assert_equal(&rt, &ran.result, &Ok(Status::Refused));
+        assert_that(&rt, ran.listing.is_empty());
+        assert_equal(&rt, &ran.messages.as_slice(), &refusal.message);
     }
-    Ok(())
 }

@@ -1,7 +1,10 @@
 // Runs over memory, and over devices.
+use crate::tests::asserts::assert_that_at;
 use da65::{File, Options, RunFault, Status, Told, run};
-use std::alloc::{AllocError, Allocator, Global};
+use std::alloc::{Allocator, Global};
 use std::io::{Read, Write};
+use std::process::Abort;
+use stmt65::assemble;
 
 /// What every listing of the 6502 begins with.
 pub const HEADER: &[u8] = b"; da65 listing\n\n        .setcpu \"6502\"\n\n";
@@ -21,11 +24,35 @@ pub struct Ran {
 }
 
 /// Options with an input name and this start.
-pub fn named(alloc: Global, start: Option<u16>) -> Result<Options, AllocError> {
+pub fn named(rt: &impl Abort, alloc: Global, start: Option<u16>) -> Options {
     let mut options = Options::none();
-    options.input = Some(String::from_str(alloc, "image.bin")?);
+    options.input = Some(String::from_str(alloc, "image.bin").expect(rt, "from_str"));
     options.start = start;
-    Ok(options)
+    options
+}
+
+/// A run over memory with these options, an information file and an image.
+pub fn listed(
+    rt: &impl Abort,
+    alloc: Global,
+    start: Option<u16>,
+    info: &[u8],
+    image: &[u8],
+) -> Ran {
+    run_with(alloc, alloc, &named(rt, alloc, start), info, image)
+}
+
+/// The listing assembles from this start to the image. `row` says where in a table.
+pub fn assert_assembles(
+    rt: &impl Abort,
+    alloc: Global,
+    listing: &[u8],
+    start: u16,
+    image: &[u8],
+    row: &str,
+) {
+    let bytes = assemble(alloc, listing, start).expect(rt, "assemble");
+    assert_that_at(rt, bytes.as_slice() == image, &row);
 }
 
 /// A run with these options over memory, without an information file, with ample memory but for `heap`.

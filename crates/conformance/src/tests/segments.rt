@@ -1,36 +1,31 @@
 // Listings with segments, comments and columns.
-use crate::heap::Refusing;
+use crate::tests::asserts::{assert_equal, assert_equal_at, assert_that, assert_that_at};
+use crate::tests::command_lines::options_on;
 use crate::tests::names::{Random, random_image, random_ranges};
 use crate::tests::ranges::WARNING;
-use crate::tests::runs::{Ran, named, run_with};
-use da65::{Status, Told, options_of};
-use info65::read_info;
-use map65::{Map, read_image};
+use crate::tests::refused::run_as_its_parts;
+use crate::tests::runs::{Ran, assert_assembles, listed, named, run_with};
+use da65::Status;
 use std::alloc::{AllocError, Global};
 use std::process::Abort;
-use std::test::Fail;
 use stmt65::assemble;
 
 /// What is written if a segment is entered again.
 const AGAIN: &[u8] = b"da65: warning: a segment is entered again\n";
 
 /// Lists an image from this start under a command line and an information file.
-fn listed(
+fn listed_under(
+    rt: &impl Abort,
     alloc: Global,
     words: &[&str],
     info: &str,
     start: u16,
     image: &[u8],
-) -> Result<Ran, Fail> {
-    let mut all = Vec::new(alloc);
-    all.push(String::from_str(alloc, "da65")?)?;
-    for word in words {
-        all.push(String::from_str(alloc, word)?)?;
-    }
-    all.push(String::from_str(alloc, "image.bin")?)?;
-    let mut options = options_of(alloc, &all)?;
+) -> Ran {
+    let mut options = options_on(rt, alloc, words).expect(rt, "options_on");
+    options.input = Some(String::from_str(alloc, "image.bin").expect(rt, "from_str"));
     options.start = Some(start);
-    Ok(run_with(alloc, alloc, &options, info.as_bytes(), image))
+    run_with(alloc, alloc, &options, info.as_bytes(), image)
 }
 
 /// The same, where no byte is skipped: the listing assembles to the image.
@@ -41,12 +36,11 @@ fn there_and_back(
     info: &str,
     start: u16,
     image: &[u8],
-) -> Result<Ran, Fail> {
-    let ran = listed(alloc, words, info, start, image)?;
-    assert_eq!(rt; ran.result, Ok(Status::Done), "{info}");
-    let bytes = assemble(alloc, &ran.listing, start)?;
-    assert!(rt; bytes.as_slice() == image, "{info}");
-    Ok(ran)
+) -> Ran {
+    let ran = listed_under(rt, alloc, words, info, start, image);
+    assert_equal_at(rt, &ran.result, &Ok(Status::Done), &info);
+    assert_assembles(rt, alloc, &ran.listing, start, image, info);
+    ran
 }
 
 /// The words of a command line, an information file, and an image at $1000; then the lines after the header, and the
@@ -238,88 +232,77 @@ fn body_of(listing: &[u8]) -> &[u8] {
 }
 
 #[test]
-fn worked_listings(rt: HostRuntime) -> Result<(), Fail> {
+fn worked_listings(rt: HostRuntime) {
     for row in ROWS {
-        let ran = there_and_back(&rt, rt.alloc(), row.words, row.info, 0x1000, row.image)?;
-        assert_eq!(rt; body_of(&ran.listing), row.body, "{}", row.info);
-        assert_eq!(rt; ran.messages.as_slice(), row.messages, "{}", row.info);
+        let ran = there_and_back(&rt, rt.alloc(), row.words, row.info, 0x1000, row.image);
+        assert_equal_at(&rt, &body_of(&ran.listing), &row.body, &row.info);
+        assert_equal_at(&rt, &ran.messages.as_slice(), &row.messages, &row.info);
     }
-    Ok(())
 }
 
 #[test]
-fn columns_of_the_header(rt: HostRuntime) -> Result<(), Fail> {
+fn columns_of_the_header(rt: HostRuntime) {
     let words = ["--mnemonic-column", "1", "--argument-column", "1"];
-    let ran = there_and_back(&rt, rt.alloc(), &words, "", 0x1000, &[0xA9, 0x01])?;
+    let ran = there_and_back(&rt, rt.alloc(), &words, "", 0x1000, &[0xA9, 0x01]);
     let text = b"; da65 listing\n\n.setcpu \"6502\"\n\nlda #$01\n".as_slice();
-    assert_eq!(rt; ran.listing.as_slice(), text);
-    Ok(())
+    assert_equal(&rt, &ran.listing.as_slice(), &text);
 }
 
 /// A segment whose bytes are all skipped is not entered; then both warnings.
 #[test]
-fn skipped_segments(rt: HostRuntime) -> Result<(), Fail> {
+fn skipped_segments(rt: HostRuntime) {
     let data = "SEGMENT { START $1001; END $1001; NAME \"DATA\"; };";
     let skip = "RANGE { START $1001; SIZE 1; TYPE SKIP; };";
-    let info = format!(in rt.alloc(); "{data} {skip}")?;
-    let ran = listed(rt.alloc(), &[], &info, 0x1000, &[0xEA, 0xEA, 0xEA])?;
-    assert_eq!(rt;
-        body_of(&ran.listing),
-        b"        nop\n        nop\n".as_slice()
+    let info = format!(in rt.alloc(); "{data} {skip}").expect(&rt, "format");
+    let ran = listed_under(&rt, rt.alloc(), &[], &info, 0x1000, &[0xEA, 0xEA, 0xEA]);
+    assert_equal(
+        &rt,
+        &body_of(&ran.listing),
+        &b"        nop\n        nop\n".as_slice(),
     );
-    assert_eq!(rt; ran.messages.as_slice(), WARNING);
+    assert_equal(&rt, &ran.messages.as_slice(), &WARNING);
 
     let more = "SEGMENT { START $1003; END $1003; NAME \"DATA\"; };";
-    let info = format!(in rt.alloc(); "{data} {skip} {more}")?;
+    let info = format!(in rt.alloc(); "{data} {skip} {more}").expect(&rt, "format");
     let image = [0xEA, 0xEA, 0xEA, 0xEA, 0xEA].as_slice();
-    let ran = listed(rt.alloc(), &[], &info, 0x1000, image)?;
+    let ran = listed_under(&rt, rt.alloc(), &[], &info, 0x1000, image);
     let body =
         b"        nop\n        nop\n        .segment \"DATA\"\n        nop\n        .code\n        nop\n".as_slice();
-    assert_eq!(rt; body_of(&ran.listing), body);
-    assert_eq!(rt; ran.messages.as_slice().strip_prefix(WARNING), Some(AGAIN));
-    Ok(())
+    assert_equal(&rt, &body_of(&ran.listing), &body);
+    assert_equal(
+        &rt,
+        &ran.messages.as_slice().strip_prefix(WARNING),
+        &Some(AGAIN),
+    );
 }
 
 /// A run that comes back to a segment allocates where its information file, its image and its map do, and nowhere else.
 #[test]
-fn entering_again_allocates_nothing(rt: HostRuntime) -> Result<(), Fail> {
-    let row = ROWS.get(1).ok_or("row")?;
-    let options = named(rt.alloc(), Some(0x1000))?;
-    let heap = Refusing::after(rt.alloc(), u64::MAX);
-    let info = read_info(&heap, &options, row.info.as_bytes())?;
-    let image = read_image(&heap, &info, &mut Told::new(row.image))?;
-    assert!(rt; Map::build(&heap, &info, &image).is_ok());
-
-    let counted = Refusing::after(rt.alloc(), u64::MAX);
-    let ran = run_with(
-        rt.alloc(),
-        &counted,
-        &options,
-        row.info.as_bytes(),
-        row.image,
-    );
-    assert_eq!(rt; ran.result, Ok(Status::Done));
-    assert_eq!(rt; ran.messages.as_slice(), AGAIN);
-    assert_eq!(rt; counted.left(), heap.left());
-    Ok(())
+fn entering_again_allocates_nothing(rt: HostRuntime) {
+    let row = ROWS.get(1).expect(&rt, "row");
+    let options = named(&rt, rt.alloc(), Some(0x1000));
+    let info = row.info.as_bytes();
+    let ran = run_as_its_parts(&rt, rt.alloc(), &options, info, &[], row.image);
+    assert_equal(&rt, &ran.messages.as_slice(), &AGAIN);
 }
 
 /// 1,000 segments of their own names, and one more that comes back to the first.
 #[test]
-fn a_thousand_segments(rt: HostRuntime) -> Result<(), Fail> {
-    let image = vec![in rt.alloc(); 0xEAu8; 1_001]?;
+fn a_thousand_segments(rt: HostRuntime) {
+    let image = vec![in rt.alloc(); 0xEAu8; 1_001].expect(&rt, "vec");
     let mut info = String::new(rt.alloc());
     for number in 0..1_000u16 {
         info.push_str(&format!(in rt.alloc();
             "SEGMENT {{ START {number}; END {number}; NAME \"s{number}\"; }};\n"
-        )?)?;
+        ).expect(&rt, "format"))
+            .expect(&rt, "push_str");
     }
-    let ran = there_and_back(&rt, rt.alloc(), &[], &info, 0, &image)?;
-    assert!(rt; ran.messages.is_empty());
-    info.push_str("SEGMENT { START 1000; END 1000; NAME \"s0\"; };")?;
-    let ran = there_and_back(&rt, rt.alloc(), &[], &info, 0, &image)?;
-    assert_eq!(rt; ran.messages.as_slice(), AGAIN);
-    Ok(())
+    let ran = there_and_back(&rt, rt.alloc(), &[], &info, 0, &image);
+    assert_that(&rt, ran.messages.is_empty());
+    info.push_str("SEGMENT { START 1000; END 1000; NAME \"s0\"; };")
+        .expect(&rt, "push_str");
+    let ran = there_and_back(&rt, rt.alloc(), &[], &info, 0, &image);
+    assert_equal(&rt, &ran.messages.as_slice(), &AGAIN);
 }
 
 /// Information files that are refused, and their messages.
@@ -335,27 +318,26 @@ const REFUSED: &[(&str, &str)] = &[
 ];
 
 #[test]
-fn information_files_that_are_refused(rt: HostRuntime) -> Result<(), Fail> {
+fn information_files_that_are_refused(rt: HostRuntime) {
     for (info, message) in REFUSED {
-        let ran = listed(rt.alloc(), &[], info, 0x1000, &[0xEA])?;
-        assert_eq!(rt; ran.result, Ok(Status::Refused), "{info}");
-        assert!(rt; ran.listing.is_empty(), "{info}");
-        let line = format!(in rt.alloc(); "da65: {message}\n")?;
-        assert_eq!(rt; ran.messages.as_slice(), line.as_bytes(), "{info}");
+        let ran = listed_under(&rt, rt.alloc(), &[], info, 0x1000, &[0xEA]);
+        assert_equal_at(&rt, &ran.result, &Ok(Status::Refused), &info);
+        assert_that_at(&rt, ran.listing.is_empty(), &info);
+        let line = format!(in rt.alloc(); "da65: {message}\n").expect(&rt, "format");
+        assert_equal_at(&rt, &ran.messages.as_slice(), &line.as_bytes(), &info);
     }
-    Ok(())
 }
 
 /// Columns 1 and 120 in every combination, at level 4, with a name of 80 bytes and a text line.
 #[test]
-fn extreme_columns(rt: HostRuntime) -> Result<(), Fail> {
+fn extreme_columns(rt: HostRuntime) {
     let mut name = String::new(rt.alloc());
     for _ in 0..80 {
-        name.push('n')?;
+        name.push('n').expect(&rt, "push");
     }
     let info = format!(in rt.alloc();
         "LABEL {{ ADDR $1000; NAME \"{name}\"; }}; RANGE {{ START $1003; END $1012; TYPE TEXTTABLE; }};"
-    )?;
+    ).expect(&rt, "format");
     let image = [
         0x4C, 0x00, 0x10, 1, 2, 3, 4, 5, 6, 7, 8, 9, 10, 11, 12, 13, 14, 15, 16,
     ];
@@ -375,12 +357,11 @@ fn extreme_columns(rt: HostRuntime) -> Result<(), Fail> {
             "--label-break",
             column(16),
         ];
-        let ran = there_and_back(&rt, rt.alloc(), &words, &info, 0x1000, &image)?;
+        let ran = there_and_back(&rt, rt.alloc(), &words, &info, 0x1000, &image);
         for line in ran.listing.as_slice().split(|byte| *byte == b'\n') {
-            assert!(rt; line.len() < 512, "{choice}");
+            assert_that_at(&rt, line.len() < 512, &choice);
         }
     }
-    Ok(())
 }
 
 /// Groups SEGMENT with random sizes, of eight names, around an image.
@@ -468,53 +449,45 @@ fn random_info(
 }
 
 /// Lists a random image for this CPU with a random information file, and assembles the listing back.
-fn random_listing(
-    rt: &impl Abort,
-    alloc: Global,
-    random: &mut Random,
-    cpu: &str,
-) -> Result<(), Fail> {
+fn random_listing(rt: &impl Abort, alloc: Global, random: &mut Random, cpu: &str) {
     let size = 1 + random.below(400);
     let start = random.below(65_536 - size);
-    let image = random_image(alloc, random, size)?;
-    let info = random_info(alloc, random, cpu, start)?;
-    let options = named(alloc, Some(start as u16))?;
-    let ran = run_with(alloc, alloc, &options, &info, &image);
-    assert_eq!(rt;
-        ran.result,
-        Ok(Status::Done),
-        "{}",
-        info.as_slice().escape_ascii()
+    let image = random_image(alloc, random, size).expect(rt, "random_image");
+    let info = random_info(alloc, random, cpu, start).expect(rt, "random_info");
+    let ran = listed(rt, alloc, Some(start as u16), &info, &image);
+    assert_equal_at(
+        rt,
+        &ran.result,
+        &Ok(Status::Done),
+        &info.as_slice().escape_ascii(),
     );
-    let back = assemble(alloc, &ran.listing, start as u16)?;
-    assert!(rt;
+    let back = assemble(alloc, &ran.listing, start as u16).expect(rt, "assemble");
+    assert_that_at(
+        rt,
         back.as_slice() == image.as_slice(),
-        "{}",
-        info.as_slice().escape_ascii()
+        &info.as_slice().escape_ascii(),
     );
-    Ok(())
 }
 
 /// 50 random images for this CPU.
-fn random_listings(rt: &impl Abort, alloc: Global, cpu: &str, seed: u64) -> Result<(), Fail> {
+fn random_listings(rt: &impl Abort, alloc: Global, cpu: &str, seed: u64) {
     let mut random = Random { state: seed };
     for _ in 0..50 {
-        random_listing(rt, alloc, &mut random, cpu)?;
+        random_listing(rt, alloc, &mut random, cpu);
     }
-    Ok(())
 }
 
 #[test]
-fn random_images_of_the_6502(rt: HostRuntime) -> Result<(), Fail> {
+fn random_images_of_the_6502(rt: HostRuntime) {
     random_listings(&rt, rt.alloc(), "6502", 1)
 }
 
 #[test]
-fn random_images_of_the_65sc02(rt: HostRuntime) -> Result<(), Fail> {
+fn random_images_of_the_65sc02(rt: HostRuntime) {
     random_listings(&rt, rt.alloc(), "65SC02", 2)
 }
 
 #[test]
-fn random_images_of_the_65c02(rt: HostRuntime) -> Result<(), Fail> {
+fn random_images_of_the_65c02(rt: HostRuntime) {
     random_listings(&rt, rt.alloc(), "65C02", 3)
 }

@@ -1,11 +1,11 @@
 // Runs with options and an information file.
 use crate::heap::Refusing;
+use crate::tests::asserts::{assert_equal, assert_equal_at, assert_that, assert_that_at};
 use crate::tests::devices::Endless;
 use crate::tests::refusals::{MANY, Refusals};
 use crate::tests::runs::{HEADER, THREE, THREE_LISTING, named, run_on, run_with};
 use da65::{Options, RunFault, Status};
 use std::alloc::{AllocError, Global};
-use std::test::Fail;
 use stmt65::assemble;
 
 /// Options with these names.
@@ -65,23 +65,22 @@ const LISTED: &[Listed] = &[
 ];
 
 #[test]
-fn information_files_that_are_accepted(rt: HostRuntime) -> Result<(), Fail> {
+fn information_files_that_are_accepted(rt: HostRuntime) {
     for row in LISTED {
-        let options = options(rt.alloc(), Some("a.bin"), Some("c.s"))?;
+        let options = options(rt.alloc(), Some("a.bin"), Some("c.s")).expect(&rt, "options");
         let info = row.info.as_bytes();
         let ran = run_with(rt.alloc(), rt.alloc(), &options, info, row.input);
-        assert_eq!(rt; ran.result, Ok(Status::Done), "{}", row.info);
-        assert_eq!(rt;
-            ran.listing.as_slice().strip_prefix(HEADER),
-            Some(row.body),
-            "{}",
-            row.info
+        assert_equal_at(&rt, &ran.result, &Ok(Status::Done), &row.info);
+        assert_equal_at(
+            &rt,
+            &ran.listing.as_slice().strip_prefix(HEADER),
+            &Some(row.body),
+            &row.info,
         );
-        assert!(rt; ran.messages.is_empty());
-        let image = assemble(rt.alloc(), &ran.listing, row.start)?;
-        assert_eq!(rt; image.as_slice(), row.image, "{}", row.info);
+        assert_that(&rt, ran.messages.is_empty());
+        let image = assemble(rt.alloc(), &ran.listing, row.start).expect(&rt, "assemble");
+        assert_equal_at(&rt, &image.as_slice(), &row.image, &row.info);
     }
-    Ok(())
 }
 
 /// An information file, an input name and an output name on the command line, how many bytes the input
@@ -220,47 +219,44 @@ const REFUSED: &[Refusal] = &[
 ];
 
 #[test]
-fn runs_that_are_refused(rt: HostRuntime) -> Result<(), Fail> {
+fn runs_that_are_refused(rt: HostRuntime) {
     for (info, input, output, count, message) in REFUSED {
-        let options = options(rt.alloc(), *input, *output)?;
-        let bytes = vec![in rt.alloc(); 0xEAu8; *count]?;
+        let options = options(rt.alloc(), *input, *output).expect(&rt, "options");
+        let bytes = vec![in rt.alloc(); 0xEAu8; *count].expect(&rt, "vec");
         let ran = run_with(rt.alloc(), rt.alloc(), &options, info.as_bytes(), &bytes);
-        assert_eq!(rt; ran.result, Ok(Status::Refused), "{info}");
-        assert!(rt; ran.listing.is_empty(), "{info}");
-        let line = format!(in rt.alloc(); "da65: {message}\n")?;
-        assert_eq!(rt; ran.messages.as_slice(), line.as_bytes(), "{info}");
+        assert_equal_at(&rt, &ran.result, &Ok(Status::Refused), &info);
+        assert_that_at(&rt, ran.listing.is_empty(), &info);
+        let line = format!(in rt.alloc(); "da65: {message}\n").expect(&rt, "format");
+        assert_equal_at(&rt, &ran.messages.as_slice(), &line.as_bytes(), &info);
     }
-    Ok(())
 }
 
 #[test]
-fn names_in_the_information_file(rt: HostRuntime) -> Result<(), Fail> {
+fn names_in_the_information_file(rt: HostRuntime) {
     let info = b"GLOBAL { INPUTNAME \"a.bin\"; OUTPUTNAME \"b.s\"; };";
     let ran = run_with(rt.alloc(), rt.alloc(), &Options::none(), info, THREE);
-    assert_eq!(rt; ran.result, Ok(Status::Done));
-    assert_eq!(rt; ran.listing.as_slice(), THREE_LISTING);
-    assert!(rt; ran.messages.is_empty());
-    Ok(())
+    assert_equal(&rt, &ran.result, &Ok(Status::Done));
+    assert_equal(&rt, &ran.listing.as_slice(), &THREE_LISTING);
+    assert_that(&rt, ran.messages.is_empty());
 }
 
 #[test]
-fn the_command_line_wins_and_help_plays_no_part(rt: HostRuntime) -> Result<(), Fail> {
-    let mut options = named(rt.alloc(), Some(0x2000))?;
+fn the_command_line_wins_and_help_plays_no_part(rt: HostRuntime) {
+    let mut options = named(&rt, rt.alloc(), Some(0x2000));
     options.help = true;
     options.version = true;
     let info = b"GLOBAL { STARTADDR $1000; }";
     let ran = run_with(rt.alloc(), rt.alloc(), &options, info, &[0x4C, 0x00, 0x20]);
-    assert_eq!(rt; ran.result, Ok(Status::Done));
+    assert_equal(&rt, &ran.result, &Ok(Status::Done));
     let body = ran.listing.as_slice().strip_prefix(HEADER);
-    assert_eq!(rt; body, Some(b"L2000:  jmp     L2000\n".as_slice()));
-    let image = assemble(rt.alloc(), &ran.listing, 0x2000)?;
-    assert_eq!(rt; image.as_slice(), [0x4C, 0x00, 0x20].as_slice());
-    Ok(())
+    assert_equal(&rt, &body, &Some(b"L2000:  jmp     L2000\n".as_slice()));
+    let image = assemble(rt.alloc(), &ran.listing, 0x2000).expect(&rt, "assemble");
+    assert_equal(&rt, &image.as_slice(), &[0x4C, 0x00, 0x20].as_slice());
 }
 
 /// How many bytes of an input without end are read.
 #[test]
-fn no_more_is_read_than_asked_for(rt: HostRuntime) -> Result<(), Fail> {
+fn no_more_is_read_than_asked_for(rt: HostRuntime) {
     let table = [
         ("", 65_537, false),
         ("GLOBAL { INPUTOFFS 5; }", 65_542, false),
@@ -276,23 +272,22 @@ fn no_more_is_read_than_asked_for(rt: HostRuntime) -> Result<(), Fail> {
         let mut reader = Endless { given: 0 };
         let result = run_on(
             rt.alloc(),
-            &named(rt.alloc(), None)?,
+            &named(&rt, rt.alloc(), None),
             info.as_bytes(),
             &mut reader,
             &mut listing,
             &mut messages,
         );
         let status = if done { Status::Done } else { Status::Refused };
-        assert_eq!(rt; result, Ok(status), "{info}");
-        assert_eq!(rt; reader.given, given, "{info}");
-        assert_eq!(rt; listing.is_empty(), !done, "{info}");
-        assert_eq!(rt; messages.is_empty(), done, "{info}");
+        assert_equal_at(&rt, &result, &Ok(status), &info);
+        assert_equal_at(&rt, &reader.given, &given, &info);
+        assert_equal_at(&rt, &listing.is_empty(), &!done, &info);
+        assert_equal_at(&rt, &messages.is_empty(), &done, &info);
     }
-    Ok(())
 }
 
 #[test]
-fn each_allocation_refused_in_turn(rt: HostRuntime) -> Result<(), Fail> {
+fn each_allocation_refused_in_turn(rt: HostRuntime) {
     let texts = [
         ("GLOBAL { INPUTNAME \"a.bin\"; INPUTSIZE 3; }", Status::Done),
         (
@@ -308,13 +303,12 @@ fn each_allocation_refused_in_turn(rt: HostRuntime) -> Result<(), Fail> {
             let failed = ran.result == Err(RunFault::Memory);
             refusals.count(&rt, &heap, granted, failed);
             if failed {
-                assert!(rt; ran.listing.is_empty() && ran.messages.is_empty());
+                assert_that(&rt, ran.listing.is_empty() && ran.messages.is_empty());
             } else {
-                assert_eq!(rt; ran.result, Ok(status), "after {granted}");
-                assert_eq!(rt; ran.messages.is_empty(), status == Status::Done);
+                assert_equal_at(&rt, &ran.result, &Ok(status), &granted);
+                assert_equal(&rt, &ran.messages.is_empty(), &(status == Status::Done));
             }
         }
         refusals.at_least(&rt, 1, MANY);
     }
-    Ok(())
 }

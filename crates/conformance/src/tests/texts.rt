@@ -1,6 +1,6 @@
 // The texts of the program and of the faults.
+use crate::tests::asserts::{assert_that, assert_that_at};
 use da65::{RunFault, UsageFault, help_text, version_text};
-use std::test::Fail;
 
 const HELP: &str = "\
 Usage: da65 [options] [inputfile]
@@ -21,12 +21,12 @@ Usage: da65 [options] [inputfile]
 
 #[test]
 fn help_and_version(rt: HostRuntime) {
-    assert!(rt; help_text() == HELP);
-    assert!(rt; version_text() == "da65 profile 1\n");
+    assert_that(&rt, help_text() == HELP);
+    assert_that(&rt, version_text() == "da65 profile 1\n");
 }
 
 #[test]
-fn faults_of_command_lines(rt: HostRuntime) -> Result<(), Fail> {
+fn faults_of_command_lines(rt: HostRuntime) {
     let texts = [
         (UsageFault::Words, "bad arguments"),
         (UsageFault::BadNumber, "bad number"),
@@ -34,22 +34,20 @@ fn faults_of_command_lines(rt: HostRuntime) -> Result<(), Fail> {
         (UsageFault::Memory, "out of memory"),
     ];
     for (fault, text) in texts {
-        let found = format!(in rt.alloc(); "{fault}")?;
-        assert!(rt; found.as_str() == text, "{text}");
+        let found = format!(in rt.alloc(); "{fault}").expect(&rt, "format");
+        assert_that_at(&rt, found.as_str() == text, &text);
     }
-    Ok(())
 }
 
 #[test]
-fn faults_of_runs(rt: HostRuntime) -> Result<(), Fail> {
+fn faults_of_runs(rt: HostRuntime) {
     let texts = [
         (RunFault::Memory, "out of memory"),
         (RunFault::Write, "cannot write the listing"),
         (RunFault::Messages, "cannot write the messages"),
     ];
     for (fault, text) in texts {
-        let found = format!(in rt.alloc(); "{fault}")?;
-        assert!(rt; found.as_str() == text, "{text}");
+        let found = format!(in rt.alloc(); "{fault}").expect(&rt, "format");
+        assert_that_at(&rt, found.as_str() == text, &text);
     }
-    Ok(())
 }

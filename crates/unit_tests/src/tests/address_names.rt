@@ -1,14 +1,9 @@
 //! Names and places of worked examples.
 
-use info65::{Info, Options, read_info};
+use crate::tests::inputs::{image_of, image_of_value, info_of};
 use map65::{Image, Map, NameBuf, NameKind, Place};
 use std::alloc::{AllocError, Global};
 use std::process::Abort;
-use std::test::Fail;
-
-fn info_of(alloc: Global, text: &str) -> Result<Info, Fail> {
-    Ok(read_info(alloc, &Options::<Global>::none(), text.as_bytes())?)
-}
 
 /// An address, its base name, the place of that, and the offset.
 type Entry = (u16, &'static str, Place, u16);
@@ -22,6 +17,7 @@ struct Named {
     names: &'static [Entry],
 }
 
+use crate::tests::asserts::{assert_equal_at, assert_that_at};
 use Place::{Constant, Forward, Label};
 
 const NAMED: &[Named] = &[
@@ -250,41 +246,43 @@ fn assert_names(rt: &impl Abort, map: &Map<'_>, names: &[Entry], name: &str) {
     for address in 0..=u16::MAX {
         let entry = entry_of(names, address);
         let kind = map.name(address, &mut buffer);
-        assert_eq!(rt; kind, kind_of(entry), "{name} {address:04x}");
-        assert!(rt;
+        assert_equal_at(
+            rt,
+            &kind,
+            &kind_of(entry),
+            &format_args!("{name} {address:04x}"),
+        );
+        assert_that_at(
+            rt,
             buffer.as_slice() == base_of(entry).as_bytes(),
-            "{name} {address:04x}"
+            &format_args!("{name} {address:04x}"),
         );
     }
 }
 
 /// The map of this row has its names, and no other.
-fn assert_row(rt: &impl Abort, alloc: Global, named: &Named) -> Result<(), Fail> {
-    let info = info_of(alloc, named.info)?;
-    let bytes = Vec::from_slice(alloc, named.bytes)?;
-    let image = Image::from_bytes(Some(named.start), None, bytes)?;
-    let map = Map::build(alloc, &info, &image)?;
+fn assert_row(rt: &impl Abort, alloc: Global, named: &Named) {
+    let info = info_of(rt, alloc, named.info.as_bytes());
+    let image = image_of(rt, alloc, named.start, named.bytes);
+    let map = Map::build(alloc, &info, &image).expect(rt, "build");
     assert_names(rt, &map, named.names, named.name);
-    Ok(())
 }
 
 #[test]
-fn names_and_places(rt: HostRuntime) -> Result<(), Fail> {
+fn names_and_places(rt: HostRuntime) {
     for named in NAMED {
-        assert_row(&rt, rt.alloc(), named)?;
+        assert_row(&rt, rt.alloc(), named);
     }
-    Ok(())
 }
 
 /// `jsr $2020` again and again, and a byte left over: one target, which lies inside an instruction.
 #[test]
-fn a_full_image_of_jsr(rt: HostRuntime) -> Result<(), Fail> {
+fn a_full_image_of_jsr(rt: HostRuntime) {
     let alloc = rt.alloc();
-    let info = info_of(alloc, "")?;
-    let image = Image::from_bytes(Some(0), None, vec![in alloc; 0x20u8; 65_536]?)?;
-    let map = Map::build(alloc, &info, &image)?;
+    let info = info_of(&rt, alloc, b"");
+    let image = image_of_value(&rt, alloc, 0x20, 65_536);
+    let map = Map::build(alloc, &info, &image).expect(&rt, "build");
     assert_names(&rt, &map, &[(0x2020, "L2020", Forward, 0)], "jsr");
-    Ok(())
 }
 
 const LABEL: NameKind = NameKind {
@@ -301,28 +299,26 @@ fn default_of(alloc: Global, address: u16, has_name: bool) -> Result<String, All
 }
 
 /// Each even address up to $FFD0 is a label, and no other address has a name.
-fn assert_even_labels(rt: &impl Abort, alloc: Global, map: &Map<'_>) -> Result<(), AllocError> {
+fn assert_even_labels(rt: &impl Abort, alloc: Global, map: &Map<'_>) {
     let mut buffer = NameBuf::new();
     for address in 0..=u16::MAX {
         let is_target = address % 2 == 0 && address <= 0xFFD0;
         let want = if is_target { Some(LABEL) } else { None };
-        let text = default_of(alloc, address, is_target)?;
+        let text = default_of(alloc, address, is_target).expect(rt, "default_of");
         let kind = map.name(address, &mut buffer);
-        assert_eq!(rt; kind, want, "{address:04x}");
-        assert!(rt; buffer.as_slice() == text.as_bytes(), "{address:04x}");
+        assert_equal_at(rt, &kind, &want, &address);
+        assert_that_at(rt, buffer.as_slice() == text.as_bytes(), &address);
     }
-    Ok(())
 }
 
 /// `bne` back by 46 bytes again and again: each even address up to $FFD0 is a target, and a label.
 #[test]
-fn a_full_image_of_bne(rt: HostRuntime) -> Result<(), Fail> {
+fn a_full_image_of_bne(rt: HostRuntime) {
     let alloc = rt.alloc();
-    let info = info_of(alloc, "")?;
-    let image = Image::from_bytes(Some(0), None, vec![in alloc; 0xD0u8; 65_536]?)?;
-    let map = Map::build(alloc, &info, &image)?;
-    assert_even_labels(&rt, alloc, &map)?;
-    Ok(())
+    let info = info_of(&rt, alloc, b"");
+    let image = image_of_value(&rt, alloc, 0xD0, 65_536);
+    let map = Map::build(alloc, &info, &image).expect(&rt, "build");
+    assert_even_labels(&rt, alloc, &map);
 }
 
 /// 20,000 labels, and one that covers all addresses.
@@ -351,24 +347,27 @@ fn one_of_many(alloc: Global, address: u16) -> Result<(String, NameKind), AllocE
 }
 
 /// The map has the name that is said for each address.
-fn assert_many(rt: &impl Abort, alloc: Global, map: &Map<'_>) -> Result<(), AllocError> {
+fn assert_many(rt: &impl Abort, alloc: Global, map: &Map<'_>) {
     let mut buffer = NameBuf::new();
     for address in 0..=u16::MAX {
-        let (want, kind) = one_of_many(alloc, address)?;
+        let (want, kind) = one_of_many(alloc, address).expect(rt, "one_of_many");
         let found = map.name(address, &mut buffer);
-        assert_eq!(rt; found, Some(kind), "{address:04x}");
-        assert!(rt; buffer.as_slice() == want.as_bytes(), "{address:04x}");
+        assert_equal_at(rt, &found, &Some(kind), &address);
+        assert_that_at(rt, buffer.as_slice() == want.as_bytes(), &address);
     }
-    Ok(())
 }
 
 #[test]
-fn many_labels(rt: HostRuntime) -> Result<(), Fail> {
+fn many_labels(rt: HostRuntime) {
     let alloc = rt.alloc();
-    let text = many(alloc)?;
-    let info = info_of(alloc, text.as_str())?;
-    let image = Image::from_bytes(Some(0x1000), None, vec![in alloc; 0xEAu8; 0xE000]?)?;
-    let map = Map::build(alloc, &info, &image)?;
-    assert_many(&rt, alloc, &map)?;
-    Ok(())
+    let text = many(alloc).expect(&rt, "many");
+    let info = info_of(&rt, alloc, text.as_bytes());
+    let image = Image::from_bytes(
+        Some(0x1000),
+        None,
+        vec![in alloc; 0xEAu8; 0xE000].expect(&rt, "vec"),
+    )
+    .expect(&rt, "from_bytes");
+    let map = Map::build(alloc, &info, &image).expect(&rt, "build");
+    assert_many(&rt, alloc, &map);
 }

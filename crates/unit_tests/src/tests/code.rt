@@ -1,19 +1,11 @@
 //! Roles and items of images of which every address is code.
 
-use info65::{Info, Options, RangeType, read_info};
-use map65::{Image, Map};
+use crate::tests::asserts::assert_equal_at;
+use crate::tests::inputs::{image_of, image_of_value, info_of};
+use info65::RangeType;
+use map65::Map;
 use std::alloc::Global;
 use std::process::Abort;
-use std::test::Fail;
-
-fn no_ranges(alloc: Global) -> Result<Info, Fail> {
-    Ok(read_info(alloc, &Options::<Global>::none(), b"")?)
-}
-
-/// Returns an image that ends at $FFFF, of `count` times the byte.
-fn image_of(alloc: Global, byte: u8, count: usize) -> Result<Image, Fail> {
-    Ok(Image::from_bytes(None, None, vec![in alloc; byte; count]?)?)
-}
 
 /// The start, the bytes, and the length of the item that begins at each.
 const IMAGES: &[(&str, u16, &[u8], &[u8])] = &[
@@ -51,51 +43,47 @@ const IMAGES: &[(&str, u16, &[u8], &[u8])] = &[
 fn assert_items(rt: &impl Abort, map: &Map<'_>, start: u16, lens: &[u8], name: &str) {
     let mut address = start;
     for len in lens {
-        assert_eq!(rt; map.item_len(address), *len, "{name} {address:04x}");
-        assert_eq!(rt;
-            map.role(address),
-            Some(RangeType::Code),
-            "{name} {address:04x}"
+        assert_equal_at(
+            rt,
+            &map.item_len(address),
+            &*len,
+            &format_args!("{name} {address:04x}"),
+        );
+        assert_equal_at(
+            rt,
+            &map.role(address),
+            &Some(RangeType::Code),
+            &format_args!("{name} {address:04x}"),
         );
         address = address.wrapping_add(1);
     }
 }
 
 /// The same of the image of these bytes.
-fn assert_image(
-    rt: &impl Abort,
-    alloc: Global,
-    start: u16,
-    bytes: &[u8],
-    lens: &[u8],
-    name: &str,
-) -> Result<(), Fail> {
-    let info = no_ranges(alloc)?;
-    let image = Image::from_bytes(Some(start), None, Vec::from_slice(alloc, bytes)?)?;
-    let map = Map::build(alloc, &info, &image)?;
+fn assert_image(rt: &impl Abort, alloc: Global, start: u16, bytes: &[u8], lens: &[u8], name: &str) {
+    let info = info_of(rt, alloc, b"");
+    let image = image_of(rt, alloc, start, bytes);
+    let map = Map::build(alloc, &info, &image).expect(rt, "build");
     assert_items(rt, &map, start, lens, name);
-    Ok(())
 }
 
 #[test]
-fn items_of_code(rt: HostRuntime) -> Result<(), Fail> {
+fn items_of_code(rt: HostRuntime) {
     for (name, start, bytes, lens) in IMAGES {
-        assert_image(&rt, rt.alloc(), *start, bytes, lens, name)?;
+        assert_image(&rt, rt.alloc(), *start, bytes, lens, name);
     }
-    Ok(())
 }
 
 #[test]
-fn addresses_outside_the_image(rt: HostRuntime) -> Result<(), Fail> {
+fn addresses_outside_the_image(rt: HostRuntime) {
     let alloc = rt.alloc();
-    let info = no_ranges(alloc)?;
-    let image = Image::from_bytes(Some(0x1000), None, Vec::from_slice(alloc, b"\xEA\xEA")?)?;
-    let map = Map::build(alloc, &info, &image)?;
+    let info = info_of(&rt, alloc, b"");
+    let image = image_of(&rt, alloc, 0x1000, b"\xEA\xEA");
+    let map = Map::build(alloc, &info, &image).expect(&rt, "build");
     for address in [0, 0x0FFF, 0x1002, 0x8000, 0xFFFF] {
-        assert_eq!(rt; map.role(address), None, "{address:04x}");
-        assert_eq!(rt; map.item_len(address), 0, "{address:04x}");
+        assert_equal_at(&rt, &map.role(address), &None, &address);
+        assert_equal_at(&rt, &map.item_len(address), &0, &address);
     }
-    Ok(())
 }
 
 /// A byte, and how long its instruction is.
@@ -112,28 +100,32 @@ fn assert_multiples(rt: &impl Abort, map: &Map<'_>, size: u8) {
         } else {
             0
         };
-        assert_eq!(rt; map.item_len(address), want, "{size} {address:04x}");
-        assert_eq!(rt;
-            map.role(address),
-            Some(RangeType::Code),
-            "{size} {address:04x}"
+        assert_equal_at(
+            rt,
+            &map.item_len(address),
+            &want,
+            &format_args!("{size} {address:04x}"),
+        );
+        assert_equal_at(
+            rt,
+            &map.role(address),
+            &Some(RangeType::Code),
+            &format_args!("{size} {address:04x}"),
         );
     }
 }
 
 /// The same of a full image of this byte.
-fn assert_opcode(rt: &impl Abort, alloc: Global, byte: u8, size: u8) -> Result<(), Fail> {
-    let info = no_ranges(alloc)?;
-    let image = image_of(alloc, byte, 65_536)?;
-    let map = Map::build(alloc, &info, &image)?;
+fn assert_opcode(rt: &impl Abort, alloc: Global, byte: u8, size: u8) {
+    let info = info_of(rt, alloc, b"");
+    let image = image_of_value(rt, alloc, byte, 65_536);
+    let map = Map::build(alloc, &info, &image).expect(rt, "build");
     assert_multiples(rt, &map, size);
-    Ok(())
 }
 
 #[test]
-fn a_full_image_of_one_opcode(rt: HostRuntime) -> Result<(), Fail> {
+fn a_full_image_of_one_opcode(rt: HostRuntime) {
     for (byte, size) in OPCODES {
-        assert_opcode(&rt, rt.alloc(), byte, size)?;
+        assert_opcode(&rt, rt.alloc(), byte, size);
     }
-    Ok(())
 }

@@ -1,9 +1,9 @@
 // The settings of comments, columns and empty lines.
-use crate::tests::files::are_refused;
+use crate::tests::asserts::assert_equal;
+use crate::tests::inputs::are_refused;
 use info65::{Info, InfoFaultKind, Options, Settings, read_info};
 use std::alloc::Global;
 use std::process::Abort;
-use std::test::Fail;
 
 /// Files that are refused, each with the line and the kind.
 const REFUSED: &[(&str, u32, InfoFaultKind)] = &[
@@ -53,21 +53,21 @@ const REFUSED: &[(&str, u32, InfoFaultKind)] = &[
 
 #[test]
 fn refused_columns(rt: HostRuntime) {
-    are_refused(&rt, rt.alloc(), &Options::<Global>::none(), REFUSED);
+    are_refused(&rt, rt.alloc(), REFUSED);
 }
 
 // Comments, the four columns and the label break.
 fn are_set(rt: &impl Abort, settings: &Settings, numbers: [u8; 6], newlines: [bool; 2]) {
     let [comments, mnemonic, argument, comment, text, label_break] = numbers;
-    assert_eq!(rt; settings.comments, comments);
-    assert_eq!(rt; settings.mnemonic_column, mnemonic);
-    assert_eq!(rt; settings.argument_column, argument);
-    assert_eq!(rt; settings.comment_column, comment);
-    assert_eq!(rt; settings.text_column, text);
-    assert_eq!(rt; settings.label_break, label_break);
+    assert_equal(rt, &settings.comments, &comments);
+    assert_equal(rt, &settings.mnemonic_column, &mnemonic);
+    assert_equal(rt, &settings.argument_column, &argument);
+    assert_equal(rt, &settings.comment_column, &comment);
+    assert_equal(rt, &settings.text_column, &text);
+    assert_equal(rt, &settings.label_break, &label_break);
     let [after_jmp, after_rts] = newlines;
-    assert_eq!(rt; settings.newline_after_jmp, after_jmp);
-    assert_eq!(rt; settings.newline_after_rts, after_rts);
+    assert_equal(rt, &settings.newline_after_jmp, &after_jmp);
+    assert_equal(rt, &settings.newline_after_rts, &after_rts);
 }
 
 const ALL_SET: &[u8] =
@@ -75,20 +75,19 @@ const ALL_SET: &[u8] =
     GLOBAL { textcolumn $77; LabelBreak 0; NEWLINEAFTERJMP yes; NEWLINEAFTERRTS 1; };";
 
 #[test]
-fn columns_of_a_file(rt: HostRuntime) -> Result<(), Fail> {
+fn columns_of_a_file(rt: HostRuntime) {
     let none = Options::<Global>::none();
-    let info: Info = read_info(rt.alloc(), &none, b"")?;
+    let info: Info = read_info(rt.alloc(), &none, b"").expect(&rt, "read_info");
     are_set(&rt, info.settings(), [0, 9, 17, 49, 81, 7], [false, false]);
-    let info: Info = read_info(rt.alloc(), &none, ALL_SET)?;
+    let info: Info = read_info(rt.alloc(), &none, ALL_SET).expect(&rt, "read_info");
     are_set(&rt, info.settings(), [4, 1, 120, 2, 119, 0], [true, true]);
     let text = b"GLOBAL { LABELBREAK 120; NEWLINEAFTERRTS on; NEWLINEAFTERJMP off; };";
-    let info: Info = read_info(rt.alloc(), &none, text)?;
+    let info: Info = read_info(rt.alloc(), &none, text).expect(&rt, "read_info");
     are_set(&rt, info.settings(), [0, 9, 17, 49, 81, 120], [false, true]);
-    Ok(())
 }
 
 #[test]
-fn command_line_wins(rt: HostRuntime) -> Result<(), Fail> {
+fn command_line_wins(rt: HostRuntime) {
     let mut options = Options::<Global>::none();
     options.comments = Some(0);
     options.mnemonic_column = Some(11);
@@ -97,7 +96,7 @@ fn command_line_wins(rt: HostRuntime) -> Result<(), Fail> {
     options.text_column = Some(14);
     options.label_break = Some(15);
     for text in [b"".as_slice(), ALL_SET] {
-        let info: Info = read_info(rt.alloc(), &options, text)?;
+        let info: Info = read_info(rt.alloc(), &options, text).expect(&rt, "read_info");
         let newlines = !text.is_empty();
         are_set(
             &rt,
@@ -106,5 +105,4 @@ fn command_line_wins(rt: HostRuntime) -> Result<(), Fail> {
             [newlines, newlines],
         );
     }
-    Ok(())
 }

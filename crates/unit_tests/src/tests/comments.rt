@@ -1,9 +1,9 @@
 // Comments of names.
-use crate::tests::files::are_refused;
+use crate::tests::asserts::{assert_equal, assert_equal_at};
+use crate::tests::inputs::{are_refused, info_of};
 use info65::{Info, InfoFaultKind, Options, read_info};
 use std::alloc::{AllocError, Global};
 use std::process::Abort;
-use std::test::Fail;
 
 /// Files that are refused, each with the line and the kind.
 const REFUSED: &[(&str, u32, InfoFaultKind)] = &[
@@ -40,25 +40,19 @@ const REFUSED: &[(&str, u32, InfoFaultKind)] = &[
 
 #[test]
 fn refused_comments(rt: HostRuntime) {
-    are_refused(&rt, rt.alloc(), &Options::<Global>::none(), REFUSED);
+    are_refused(&rt, rt.alloc(), REFUSED);
 }
 
-fn is_commented(
-    rt: &impl Abort,
-    alloc: Global,
-    text: &[u8],
-    comment: Option<&[u8]>,
-) -> Result<(), Fail> {
-    let info: Info = read_info(alloc, &Options::<Global>::none(), text)?;
-    assert_eq!(rt; info.given_count(), 1);
+fn is_commented(rt: &impl Abort, alloc: Global, text: &[u8], comment: Option<&[u8]>) {
+    let info: Info = info_of(rt, alloc, text);
+    assert_equal(rt, &info.given_count(), &1);
     if info.given_count() == 1 {
-        assert_eq!(rt; info.given(0).comment, comment);
+        assert_equal(rt, &info.given(0).comment, &comment);
     }
-    Ok(())
 }
 
 #[test]
-fn comments_of_labels_and_ranges(rt: HostRuntime) -> Result<(), Fail> {
+fn comments_of_labels_and_ranges(rt: HostRuntime) {
     let rows: [(&[u8], Option<&[u8]>); 6] = [
         (b"LABEL { ADDR $1000; NAME \"go\"; };", None),
         (
@@ -80,18 +74,16 @@ fn comments_of_labels_and_ranges(rt: HostRuntime) -> Result<(), Fail> {
         ),
     ];
     for (text, comment) in &rows {
-        is_commented(&rt, rt.alloc(), *text, *comment)?;
+        is_commented(&rt, rt.alloc(), *text, *comment);
     }
-    Ok(())
 }
 
 #[test]
-fn empty_comment_without_a_name(rt: HostRuntime) -> Result<(), Fail> {
+fn empty_comment_without_a_name(rt: HostRuntime) {
     let text = b"RANGE { START 1; END 1; TYPE CODE; COMMENT \"\"; };";
-    let info: Info = read_info(rt.alloc(), &Options::<Global>::none(), text)?;
-    assert_eq!(rt; info.ranges().len(), 1);
-    assert_eq!(rt; info.given_count(), 0);
-    Ok(())
+    let info: Info = info_of(&rt, rt.alloc(), text);
+    assert_equal(&rt, &info.ranges().len(), &1);
+    assert_equal(&rt, &info.given_count(), &0);
 }
 
 // A label with a comment of that many bytes.
@@ -106,7 +98,7 @@ fn with_comment(alloc: Global, count: usize) -> Result<Vec<u8>, AllocError> {
 }
 
 #[test]
-fn lengths_of_comments(rt: HostRuntime) -> Result<(), Fail> {
+fn lengths_of_comments(rt: HostRuntime) {
     let none = Options::<Global>::none();
     for (count, kind) in [
         (0, None),
@@ -115,17 +107,24 @@ fn lengths_of_comments(rt: HostRuntime) -> Result<(), Fail> {
         (201, Some(InfoFaultKind::BadName)),
         (1_000, Some(InfoFaultKind::BadName)),
     ] {
-        let text = with_comment(rt.alloc(), count)?;
+        let text = with_comment(rt.alloc(), count).expect(&rt, "with_comment");
         let found = read_info(rt.alloc(), &none, text.as_slice()).err();
-        assert_eq!(rt; found.map(|fault| fault.kind), kind, "{count}");
+        assert_equal_at(&rt, &found.map(|fault| fault.kind), &kind, &count);
     }
-    let info: Info = read_info(rt.alloc(), &none, with_comment(rt.alloc(), 200)?.as_slice())?;
-    assert_eq!(rt; info.given_count(), 1);
+    let info: Info = read_info(
+        rt.alloc(),
+        &none,
+        with_comment(rt.alloc(), 200)
+            .expect(&rt, "with_comment")
+            .as_slice(),
+    )
+    .expect(&rt, "read_info");
+    assert_equal(&rt, &info.given_count(), &1);
     if info.given_count() == 1 {
-        assert_eq!(rt;
-            info.given(0).comment.map(|comment| comment.len()),
-            Some(200)
+        assert_equal(
+            &rt,
+            &info.given(0).comment.map(|comment| comment.len()),
+            &Some(200),
         );
     }
-    Ok(())
 }

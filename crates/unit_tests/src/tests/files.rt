@@ -1,15 +1,16 @@
 // Information files that are accepted and refused.
+use crate::tests::asserts::{assert_equal, assert_equal_at, assert_that};
+use crate::tests::inputs::{info_of, info_without_options};
 use info65::{Info, InfoFault, InfoFaultKind, Options, read_info};
 use isa65::Cpu;
-use std::alloc::{AllocError, Global};
+use std::alloc::Global;
 use std::process::Abort;
-use std::test::Fail;
 
-fn named(alloc: Global) -> Result<Options, Fail> {
+fn named(rt: &impl Abort, alloc: Global) -> Options {
     let mut options = Options::none();
-    options.input = Some(String::from_str(alloc, "a.bin")?);
-    options.output = Some(String::from_str(alloc, "c.s")?);
-    Ok(options)
+    options.input = Some(String::from_str(alloc, "a.bin").expect(rt, "from_str"));
+    options.output = Some(String::from_str(alloc, "c.s").expect(rt, "from_str"));
+    options
 }
 
 /// Files that are refused, each with the line and the kind, with an input and an output name on the
@@ -116,26 +117,17 @@ const REFUSED: &[(&str, u32, InfoFaultKind)] = &[
     ("GLOBAL { CPU \"65CE02\"; };", 1, InfoFaultKind::OutOfRange),
 ];
 
-pub fn are_refused(
-    rt: &impl Abort,
-    alloc: Global,
-    options: &Options,
-    rows: &[(&str, u32, InfoFaultKind)],
-) {
-    for (text, line, kind) in rows {
-        let fault = read_info(alloc, options, text.as_bytes()).err();
+#[test]
+fn refused_files(rt: HostRuntime) {
+    let options = named(&rt, rt.alloc());
+    for (text, line, kind) in REFUSED {
+        let fault = read_info(rt.alloc(), &options, text.as_bytes()).err();
         let expected = InfoFault {
             line: *line,
             kind: *kind,
         };
-        assert_eq!(rt; fault, Some(expected), "{text}");
+        assert_equal_at(&rt, &fault, &Some(expected), &text);
     }
-}
-
-#[test]
-fn refused_files(rt: HostRuntime) -> Result<(), Fail> {
-    are_refused(&rt, rt.alloc(), &named(rt.alloc())?, REFUSED);
-    Ok(())
 }
 
 /// A file that is accepted, and what it says beside names.
@@ -208,68 +200,69 @@ fn are_accepted(
     for row in rows {
         let info: Info = read_info(alloc, options, row.text.as_bytes())?;
         let settings = info.settings();
-        assert_eq!(rt; settings.offset, row.offset, "{}", row.text);
-        assert_eq!(rt; settings.size, row.size, "{}", row.text);
-        assert_eq!(rt; settings.start, row.start, "{}", row.text);
-        assert_eq!(rt; settings.cpu, Cpu::M6502, "{}", row.text);
+        assert_equal_at(rt, &settings.offset, &row.offset, &row.text);
+        assert_equal_at(rt, &settings.size, &row.size, &row.text);
+        assert_equal_at(rt, &settings.start, &row.start, &row.text);
+        assert_equal_at(rt, &settings.cpu, &Cpu::M6502, &row.text);
     }
     Ok(())
 }
 
 #[test]
-fn accepted_files(rt: HostRuntime) -> Result<(), Fail> {
-    are_accepted(&rt, rt.alloc(), &named(rt.alloc())?, ACCEPTED)?;
-    Ok(())
+fn accepted_files(rt: HostRuntime) {
+    are_accepted(&rt, rt.alloc(), &named(&rt, rt.alloc()), ACCEPTED).expect(&rt, "are_accepted");
 }
 
 #[test]
-fn names_of_the_file(rt: HostRuntime) -> Result<(), Fail> {
+fn names_of_the_file(rt: HostRuntime) {
     let text = b"GLOBAL { INPUTNAME \"a#b//c.bin\"; OUTPUTNAME \"b.s\"; };";
-    let info = read_info(rt.alloc(), &Options::<Global>::none(), text)?;
-    assert_eq!(rt; info.settings().input.as_deref(), Some("a#b//c.bin"));
-    assert_eq!(rt; info.settings().output.as_deref(), Some("b.s"));
+    let info = info_of(&rt, rt.alloc(), text);
+    assert_equal(&rt, &info.settings().input.as_deref(), &Some("a#b//c.bin"));
+    assert_equal(&rt, &info.settings().output.as_deref(), &Some("b.s"));
     for (count, kind) in [(255, None), (256, Some(InfoFaultKind::BadName))] {
-        let mut text = Vec::from_slice(rt.alloc(), b"GLOBAL { INPUTNAME \"")?;
+        let mut text = Vec::from_slice(rt.alloc(), b"GLOBAL { INPUTNAME \"").expect(
+            &rt,
+            "from_slice",
+        );
         for _ in 0..count {
-            text.push(b'n')?;
+            text.push(b'n').expect(&rt, "push");
         }
-        text.extend_from_slice(b"\"; };")?;
-        let result = read_info(rt.alloc(), &Options::<Global>::none(), text.as_slice());
+        text.extend_from_slice(b"\"; };")
+            .expect(&rt, "extend_from_slice");
+        let result = info_without_options(rt.alloc(), text.as_slice());
         let found = result.err();
-        assert_eq!(rt; found.map(|fault| fault.kind), kind, "{count}");
+        assert_equal_at(&rt, &found.map(|fault| fault.kind), &kind, &count);
     }
-    Ok(())
 }
 
 #[test]
-fn cpus_of_the_file(rt: HostRuntime) -> Result<(), Fail> {
+fn cpus_of_the_file(rt: HostRuntime) {
     for (text, cpu) in [
         (b"GLOBAL { CPU \"6502\"; };".as_slice(), Cpu::M6502),
         (b"GLOBAL { CPU \"65SC02\"; };", Cpu::M65SC02),
         (b"GLOBAL { CPU \"65sc02\"; };", Cpu::M65SC02),
         (b"GLOBAL { CPU \"65c02\"; };", Cpu::M65C02),
     ] {
-        let info = read_info(rt.alloc(), &Options::<Global>::none(), text)?;
-        assert_eq!(rt; info.settings().cpu, cpu);
+        let info = info_of(&rt, rt.alloc(), text);
+        assert_equal(&rt, &info.settings().cpu, &cpu);
     }
-    Ok(())
 }
 
 #[test]
-fn the_command_line_wins(rt: HostRuntime) -> Result<(), Fail> {
-    let mut options = named(rt.alloc())?;
+fn the_command_line_wins(rt: HostRuntime) {
+    let mut options = named(&rt, rt.alloc());
     options.start = Some(0x2000);
     options.cpu = Some(Cpu::M65SC02);
     let info = read_info(
         rt.alloc(),
         &options,
         b"GLOBAL { STARTADDR 1; CPU \"65C02\"; };",
-    )?;
-    assert_eq!(rt; info.settings().start, Some(0x2000));
-    assert_eq!(rt; info.settings().cpu, Cpu::M65SC02);
-    assert_eq!(rt; info.settings().input.as_deref(), Some("a.bin"));
-    assert_eq!(rt; info.settings().output.as_deref(), Some("c.s"));
-    Ok(())
+    )
+    .expect(&rt, "read_info");
+    assert_equal(&rt, &info.settings().start, &Some(0x2000));
+    assert_equal(&rt, &info.settings().cpu, &Cpu::M65SC02);
+    assert_equal(&rt, &info.settings().input.as_deref(), &Some("a.bin"));
+    assert_equal(&rt, &info.settings().output.as_deref(), &Some("c.s"));
 }
 
 #[test]
@@ -285,30 +278,30 @@ fn prefixes_of_a_group(rt: HostRuntime) {
             _ => Some(InfoFaultKind::Expected),
         };
         let (front, _) = text.split_at(count);
-        let result = read_info(rt.alloc(), &Options::<Global>::none(), front);
+        let result = info_without_options(rt.alloc(), front);
         let found = result.err();
-        assert_eq!(rt; found.map(|fault| fault.kind), expected, "{count}");
+        assert_equal_at(&rt, &found.map(|fault| fault.kind), &expected, &count);
     }
 }
 
 #[test]
-fn the_largest_file(rt: HostRuntime) -> Result<(), Fail> {
+fn the_largest_file(rt: HostRuntime) {
     let mut text = Vec::new(rt.alloc());
     for _ in 0..1_048_576 {
-        text.push(b'#')?;
+        text.push(b'#').expect(&rt, "push");
     }
-    let accepted = read_info(rt.alloc(), &Options::<Global>::none(), text.as_slice());
-    assert!(rt; accepted.is_ok());
-    text.push(b'@')?;
-    let fault = read_info(rt.alloc(), &Options::<Global>::none(), text.as_slice()).err();
-    assert_eq!(rt;
-        fault,
-        Some(InfoFault {
+    let accepted = info_without_options(rt.alloc(), text.as_slice());
+    assert_that(&rt, accepted.is_ok());
+    text.push(b'@').expect(&rt, "push");
+    let fault = info_without_options(rt.alloc(), text.as_slice()).err();
+    assert_equal(
+        &rt,
+        &fault,
+        &Some(InfoFault {
             line: 1,
-            kind: InfoFaultKind::TooLarge
-        })
+            kind: InfoFaultKind::TooLarge,
+        }),
     );
-    Ok(())
 }
 
 const KINDS: &[(InfoFaultKind, &str)] = &[
@@ -333,26 +326,20 @@ const KINDS: &[(InfoFaultKind, &str)] = &[
     (InfoFaultKind::Memory, "out of memory"),
 ];
 
-fn are_shown(
-    rt: &impl Abort,
-    alloc: Global,
-    rows: &[(InfoFaultKind, &str)],
-) -> Result<(), AllocError> {
+fn are_shown(rt: &impl Abort, alloc: Global, rows: &[(InfoFaultKind, &str)]) {
     for (kind, text) in rows {
-        assert_eq!(rt; kind.text(), text.as_bytes());
+        assert_equal(rt, &kind.text(), &text.as_bytes());
         let fault = InfoFault {
             line: 7,
             kind: *kind,
         };
-        let shown = format!(in alloc; "{fault}")?;
-        let expected = format!(in alloc; "7: {text}")?;
-        assert_eq!(rt; shown.as_str(), expected.as_str());
+        let shown = format!(in alloc; "{fault}").expect(rt, "format");
+        let expected = format!(in alloc; "7: {text}").expect(rt, "format");
+        assert_equal(rt, &shown.as_str(), &expected.as_str());
     }
-    Ok(())
 }
 
 #[test]
-fn texts_of_faults(rt: HostRuntime) -> Result<(), Fail> {
-    are_shown(&rt, rt.alloc(), KINDS)?;
-    Ok(())
+fn texts_of_faults(rt: HostRuntime) {
+    are_shown(&rt, rt.alloc(), KINDS);
 }

@@ -1,9 +1,9 @@
 // Given names: groups LABEL and RANGE with names that are accepted and refused.
-use crate::tests::files::are_refused;
+use crate::tests::asserts::{assert_equal_at, assert_that};
+use crate::tests::inputs::{are_refused, info_of, info_without_options};
 use info65::{Info, InfoFaultKind, Options, read_info};
 use std::alloc::{AllocError, Global};
 use std::process::Abort;
-use std::test::Fail;
 
 /// Files that are refused, each with the line and the kind.
 const REFUSED: &[(&str, u32, InfoFaultKind)] = &[
@@ -114,37 +114,31 @@ const REFUSED: &[(&str, u32, InfoFaultKind)] = &[
 
 #[test]
 fn refused_names(rt: HostRuntime) {
-    are_refused(&rt, rt.alloc(), &Options::<Global>::none(), REFUSED);
+    are_refused(&rt, rt.alloc(), REFUSED);
 }
 
-fn are_given(
-    rt: &impl Abort,
-    alloc: Global,
-    text: &str,
-    expected: &[(u16, u32, &str)],
-) -> Result<(), Fail> {
-    let info: Info = read_info(alloc, &Options::<Global>::none(), text.as_bytes())?;
-    assert_eq!(rt; info.given_count(), expected.len(), "{text}");
+fn are_given(rt: &impl Abort, alloc: Global, text: &str, expected: &[(u16, u32, &str)]) {
+    let info: Info = info_of(rt, alloc, text.as_bytes());
+    assert_equal_at(rt, &info.given_count(), &expected.len(), &text);
     for (i, (address, size, name)) in expected.iter().enumerate() {
-        assert!(rt; i < info.given_count());
+        assert_that(rt, i < info.given_count());
         let given = info.given(i);
-        assert_eq!(rt; given.address, *address, "{text}");
-        assert_eq!(rt; given.size, *size, "{text}");
-        assert_eq!(rt; given.text, name.as_bytes(), "{text}");
-        assert!(rt; given.comment.is_none());
+        assert_equal_at(rt, &given.address, &*address, &text);
+        assert_equal_at(rt, &given.size, &*size, &text);
+        assert_equal_at(rt, &given.text, &name.as_bytes(), &text);
+        assert_that(rt, given.comment.is_none());
     }
-    Ok(())
 }
 
 #[test]
-fn names_by_address(rt: HostRuntime) -> Result<(), Fail> {
-    are_given(&rt, rt.alloc(), "", &[])?;
+fn names_by_address(rt: HostRuntime) {
+    are_given(&rt, rt.alloc(), "", &[]);
     are_given(
         &rt,
         rt.alloc(),
         "LABEL { ADDR $20; NAME \"ab\"; };",
         &[(0x20, 1, "ab")],
-    )?;
+    );
     are_given(
         &rt,
         rt.alloc(),
@@ -159,17 +153,16 @@ fn names_by_address(rt: HostRuntime) -> Result<(), Fail> {
             (0x2000, 1, "main"),
             (0xFFFE, 2, "zp"),
         ],
-    )?;
-    Ok(())
+    );
 }
 
 #[test]
-fn the_name_of_an_address(rt: HostRuntime) -> Result<(), Fail> {
+fn the_name_of_an_address(rt: HostRuntime) {
     let text = b"LABEL { ADDR 0; NAME \"all\"; SIZE $8000; };
         LABEL { ADDR 16; NAME \"some\"; SIZE 8; };
         LABEL { ADDR 18; NAME \"one\"; };
         LABEL { ADDR $9000; NAME \"last\"; };";
-    let info: Info = read_info(rt.alloc(), &Options::<Global>::none(), text)?;
+    let info: Info = info_of(&rt, rt.alloc(), text);
     let rows: [(u16, Option<&str>); 9] = [
         (0, Some("all")),
         (15, Some("all")),
@@ -184,9 +177,8 @@ fn the_name_of_an_address(rt: HostRuntime) -> Result<(), Fail> {
     for (address, name) in &rows {
         let given = info.covering(*address);
         let found = given.map(|given| given.text);
-        assert_eq!(rt; found, name.map(|name| name.as_bytes()), "{address}");
+        assert_equal_at(&rt, &found, &name.map(|name| name.as_bytes()), &address);
     }
-    Ok(())
 }
 
 // A file with a label of so many letters.
@@ -200,7 +192,7 @@ fn with_name(alloc: Global, count: usize) -> Result<Vec<u8>, AllocError> {
 }
 
 #[test]
-fn lengths_of_names(rt: HostRuntime) -> Result<(), Fail> {
+fn lengths_of_names(rt: HostRuntime) {
     let none = Options::<Global>::none();
     for (count, kind) in [
         (0, Some(InfoFaultKind::BadName)),
@@ -208,15 +200,14 @@ fn lengths_of_names(rt: HostRuntime) -> Result<(), Fail> {
         (80, None),
         (81, Some(InfoFaultKind::BadName)),
     ] {
-        let text = with_name(rt.alloc(), count)?;
+        let text = with_name(rt.alloc(), count).expect(&rt, "with_name");
         let found = read_info(rt.alloc(), &none, text.as_slice()).err();
-        assert_eq!(rt; found.map(|fault| fault.kind), kind, "{count}");
+        assert_equal_at(&rt, &found.map(|fault| fault.kind), &kind, &count);
     }
-    Ok(())
 }
 
 #[test]
-fn booleans(rt: HostRuntime) -> Result<(), Fail> {
+fn booleans(rt: HostRuntime) {
     let rows: [(&str, bool); 13] = [
         ("", false),
         ("GLOBAL { HEXOFFS on; };", true),
@@ -234,13 +225,15 @@ fn booleans(rt: HostRuntime) -> Result<(), Fail> {
     ];
     let mut options = Options::<Global>::none();
     for (text, on) in &rows {
-        let info: Info = read_info(rt.alloc(), &options, text.as_bytes())?;
-        assert_eq!(rt; info.settings().hexoffs, *on, "{text}");
+        let info: Info = read_info(rt.alloc(), &options, text.as_bytes()).expect(&rt, "read_info");
+        assert_equal_at(&rt, &info.settings().hexoffs, &*on, &text);
     }
     options.hexoffs = true;
-    let info: Info = read_info(rt.alloc(), &options, b"GLOBAL { HEXOFFS off; };")?;
-    assert!(rt; info.settings().hexoffs);
-    Ok(())
+    let info: Info = read_info(rt.alloc(), &options, b"GLOBAL { HEXOFFS off; };").expect(
+        &rt,
+        "read_info",
+    );
+    assert_that(&rt, info.settings().hexoffs);
 }
 
 #[test]
@@ -256,7 +249,7 @@ fn prefixes_of_a_label(rt: HostRuntime) {
             _ => Some(InfoFaultKind::Expected),
         };
         let (front, _) = text.split_at(count);
-        let found = read_info(rt.alloc(), &Options::<Global>::none(), front).err();
-        assert_eq!(rt; found.map(|fault| fault.kind), expected, "{count}");
+        let found = info_without_options(rt.alloc(), front).err();
+        assert_equal_at(&rt, &found.map(|fault| fault.kind), &expected, &count);
     }
 }

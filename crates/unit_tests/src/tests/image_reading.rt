@@ -1,13 +1,14 @@
 //! Which image an input gives, and devices that fail.
 ghost use Rattle.std.specs.Prelude.{Some};
 
-use info65::{Info, Options, read_info};
+use crate::tests::asserts::{assert_equal, assert_equal_at, assert_that};
+use crate::tests::inputs::info_of;
+use info65::Info;
 use map65::{DeviceFault, ImageFault, Sink, Told, read_image};
 use std::alloc::Global;
 use std::io;
 use std::io::{ErrorKind, Read, Write};
 use std::process::Abort;
-use std::test::Fail;
 
 /// What a tape gives at a time, which is no divisor of what is asked of it.
 const AT_ONCE: usize = 1009;
@@ -44,21 +45,24 @@ fn tape_of(bytes: &[u8], fails: bool) -> Tape<'_> {
 }
 
 /// What an information file says that asks for this offset, and perhaps this size and this start.
-fn info_of(
+fn info_asking(
+    rt: &impl Abort,
     alloc: Global,
     offset: u32,
     size: Option<u32>,
     start: Option<u16>,
-) -> Result<Info, Fail> {
-    let mut text = format!(in alloc; "GLOBAL {{ INPUTOFFS {offset}; ")?;
+) -> Info {
+    let mut text = format!(in alloc; "GLOBAL {{ INPUTOFFS {offset}; ").expect(rt, "format");
     if let Some(size) = size {
-        text.push_str(&format!(in alloc; "INPUTSIZE {size}; ")?)?;
+        text.push_str(&format!(in alloc; "INPUTSIZE {size}; ").expect(rt, "format"))
+            .expect(rt, "push_str");
     }
     if let Some(start) = start {
-        text.push_str(&format!(in alloc; "STARTADDR {start}; ")?)?;
+        text.push_str(&format!(in alloc; "STARTADDR {start}; ").expect(rt, "format"))
+            .expect(rt, "push_str");
     }
-    text.push_str("}")?;
-    Ok(read_info(alloc, &Options::<Global>::none(), text.as_bytes())?)
+    text.push_str("}").expect(rt, "push_str");
+    info_of(rt, alloc, text.as_bytes())
 }
 
 /// What is read by this information file from a tape of `count` bytes 7: the start and the
@@ -69,17 +73,17 @@ fn reads(
     count: usize,
     fails: bool,
     info: Info,
-) -> Result<(Result<(u16, usize), ImageFault>, usize), Fail> {
-    let bytes = vec![in alloc; 7u8; count]?;
+) -> (Result<(u16, usize), ImageFault>, usize) {
+    let bytes = vec![in alloc; 7u8; count].expect(rt, "vec");
     let mut input = tape_of(bytes.as_slice(), fails);
     let seen = match read_image(alloc, &info, &mut Told::new(&mut input)) {
         Ok(image) => {
-            assert!(rt; image.bytes().iter().all(|byte| *byte == 7));
+            assert_that(rt, image.bytes().iter().all(|byte| *byte == 7));
             Ok((image.start(), image.bytes().len()))
         }
         Err(fault) => Err(fault),
     };
-    Ok((seen, input.given))
+    (seen, input.given)
 }
 
 /// Bytes on the tape, INPUTOFFS, INPUTSIZE and the start; then the image's start and bytes or the fault,
@@ -124,26 +128,19 @@ const READINGS: &[Reading] = &[
 ];
 
 /// What is read under these settings, and how many bytes the tape gave, is as the row says.
-fn assert_reading(
-    rt: &impl Abort,
-    alloc: Global,
-    fails: bool,
-    reading: &Reading,
-) -> Result<(), Fail> {
+fn assert_reading(rt: &impl Abort, alloc: Global, fails: bool, reading: &Reading) {
     let (count, offset, size, start, want, given) = *reading;
-    let info = info_of(alloc, offset, size, start)?;
-    let read = reads(rt, alloc, count, fails, info)?;
-    assert_eq!(rt; read.0, want, "{count} {offset}");
-    assert_eq!(rt; read.1, given, "{count} {offset}");
-    Ok(())
+    let info = info_asking(rt, alloc, offset, size, start);
+    let read = reads(rt, alloc, count, fails, info);
+    assert_equal_at(rt, &read.0, &want, &format_args!("{count} {offset}"));
+    assert_equal_at(rt, &read.1, &given, &format_args!("{count} {offset}"));
 }
 
 #[test]
-fn bytes_that_the_settings_ask_for(rt: HostRuntime) -> Result<(), Fail> {
+fn bytes_that_the_settings_ask_for(rt: HostRuntime) {
     for reading in READINGS {
-        assert_reading(&rt, rt.alloc(), false, reading)?;
+        assert_reading(&rt, rt.alloc(), false, reading);
     }
-    Ok(())
 }
 
 const FAILED: Result<(u16, usize), ImageFault> = Err(ImageFault::Read);
@@ -162,15 +159,14 @@ const FAILURES: &[Reading] = &[
 ];
 
 #[test]
-fn a_reader_that_fails(rt: HostRuntime) -> Result<(), Fail> {
+fn a_reader_that_fails(rt: HostRuntime) {
     for reading in FAILURES {
-        assert_reading(&rt, rt.alloc(), true, reading)?;
+        assert_reading(&rt, rt.alloc(), true, reading);
     }
-    Ok(())
 }
 
 #[test]
-fn texts_of_faults(rt: HostRuntime) -> Result<(), Fail> {
+fn texts_of_faults(rt: HostRuntime) {
     let texts = [
         (ImageFault::Empty, "input is empty"),
         (ImageFault::TooLarge, "input is too large"),
@@ -179,9 +175,14 @@ fn texts_of_faults(rt: HostRuntime) -> Result<(), Fail> {
         (ImageFault::Memory, "out of memory"),
     ];
     for (fault, text) in texts {
-        assert_eq!(rt; format!(in rt.alloc(); "{fault}")?.as_str(), text);
+        assert_equal(
+            &rt,
+            &format!(in rt.alloc(); "{fault}")
+                .expect(&rt, "format")
+                .as_str(),
+            &text,
+        );
     }
-    Ok(())
 }
 
 /// Takes some bytes, then none, then fails.
@@ -208,15 +209,14 @@ impl Write for Full {
 }
 
 #[test]
-fn a_write_that_takes_no_byte_has_failed(rt: HostRuntime) -> Result<(), Fail> {
+fn a_write_that_takes_no_byte_has_failed(rt: HostRuntime) {
     let mut out = Told::new(Full {
         room: 3,
         fails: false,
     });
-    assert_eq!(rt; out.write_some(b""), Ok(0));
-    assert_eq!(rt; out.write_some(b"ab"), Ok(2));
-    assert_eq!(rt; out.write_some(b"cd"), Ok(1));
-    assert_eq!(rt; out.write_some(b"d"), Err(DeviceFault));
-    assert_eq!(rt; out.write_some(b"d"), Err(DeviceFault));
-    Ok(())
+    assert_equal(&rt, &out.write_some(b""), &Ok(0));
+    assert_equal(&rt, &out.write_some(b"ab"), &Ok(2));
+    assert_equal(&rt, &out.write_some(b"cd"), &Ok(1));
+    assert_equal(&rt, &out.write_some(b"d"), &Err(DeviceFault));
+    assert_equal(&rt, &out.write_some(b"d"), &Err(DeviceFault));
 }

@@ -1,8 +1,9 @@
 // Include files.
-use info65::{Info, InfoFault, InfoFaultKind, Options, read_include, read_info};
+use crate::tests::asserts::{assert_equal, assert_equal_at, assert_that, assert_that_at};
+use crate::tests::inputs::info_of;
+use info65::{Info, InfoFault, InfoFaultKind, read_include};
 use std::alloc::{AllocError, Global};
 use std::process::Abort;
-use std::test::Fail;
 
 /// A label `go` at $0003, and an include file.
 const PLAIN: &str = "LABEL { ADDR 3; NAME \"go\"; }; ASMINC { FILE \"k.inc\"; };";
@@ -20,18 +21,14 @@ const DIGIT: &str = "ASMINC { FILE \"k.inc\"; COMMENTSTART '1'; };";
 type Names = &'static [(u16, &'static str)];
 
 fn are_named(rt: &impl Abort, info: &Info, names: &[(u16, &str)], shown: &str) {
-    assert_eq!(rt; info.given_count(), names.len(), "{shown}");
+    assert_that_at(rt, info.given_count() == names.len(), &shown);
     for (place, (address, text)) in names.iter().enumerate() {
         let given = info.given(place);
-        assert_eq!(rt; given.address, *address, "{shown}");
-        assert_eq!(rt; given.text, text.as_bytes(), "{shown}");
-        assert_eq!(rt; given.size, 1, "{shown}");
-        assert!(rt; given.comment.is_none(), "{shown}");
+        assert_equal_at(rt, &given.address, &*address, &shown);
+        assert_equal_at(rt, &given.text, &text.as_bytes(), &shown);
+        assert_equal_at(rt, &given.size, &1, &shown);
+        assert_that_at(rt, given.comment.is_none(), &shown);
     }
-}
-
-fn informed(alloc: Global, text: &str) -> Result<Info, InfoFault> {
-    read_info(alloc, &Options::<Global>::none(), text.as_bytes())
 }
 
 /// Adds the names of the include file at this place, which the information has.
@@ -42,7 +39,7 @@ fn add(
     place: usize,
     lines: &[u8],
 ) -> Result<(), InfoFault> {
-    assert!(rt; place < info.includes().len());
+    assert_that(rt, place < info.includes().len());
     read_include(alloc, info, place, lines)
 }
 
@@ -90,13 +87,12 @@ const ACCEPTED: &[(&str, &str, Names)] = &[
 ];
 
 #[test]
-fn accepted_include_files(rt: HostRuntime) -> Result<(), Fail> {
+fn accepted_include_files(rt: HostRuntime) {
     for (text, lines, names) in ACCEPTED {
-        let mut info = informed(rt.alloc(), text)?;
-        add(&rt, rt.alloc(), &mut info, 0, lines.as_bytes())?;
+        let mut info = info_of(&rt, rt.alloc(), text.as_bytes());
+        add(&rt, rt.alloc(), &mut info, 0, lines.as_bytes()).expect(&rt, "add");
         are_named(&rt, &info, names, lines);
     }
-    Ok(())
 }
 
 /// Files that are refused, each with the line and the kind.
@@ -133,19 +129,18 @@ const REFUSED: &[(&str, &str, u32, InfoFaultKind)] = &[
 ];
 
 #[test]
-fn refused_include_files(rt: HostRuntime) -> Result<(), Fail> {
+fn refused_include_files(rt: HostRuntime) {
     for (text, lines, line, kind) in REFUSED {
-        let mut info = informed(rt.alloc(), text)?;
+        let mut info = info_of(&rt, rt.alloc(), text.as_bytes());
         let before = info.given_count();
         let found = add(&rt, rt.alloc(), &mut info, 0, lines.as_bytes()).err();
         let expected = InfoFault {
             line: *line,
             kind: *kind,
         };
-        assert_eq!(rt; found, Some(expected), "{lines}");
-        assert_eq!(rt; info.given_count(), before, "{lines}");
+        assert_equal_at(&rt, &found, &Some(expected), &lines);
+        assert_equal_at(&rt, &info.given_count(), &before, &lines);
     }
-    Ok(())
 }
 
 /// What each prefix of a line says, by the number of bytes: the address of `CHROUT`, if it is accepted.
@@ -161,13 +156,13 @@ fn prefix_address(size: usize) -> Option<u16> {
 }
 
 #[test]
-fn each_prefix_of_a_line(rt: HostRuntime) -> Result<(), Fail> {
+fn each_prefix_of_a_line(rt: HostRuntime) {
     for size in 1..LINE.len() + 1 {
-        let mut info = informed(rt.alloc(), "ASMINC { FILE \"k.inc\"; };")?;
+        let mut info = info_of(&rt, rt.alloc(), b"ASMINC { FILE \"k.inc\"; };");
         let read = add(&rt, rt.alloc(), &mut info, 0, &LINE.as_bytes()[..size]);
         match prefix_address(size) {
             Some(address) => {
-                assert_eq!(rt; read, Ok(()), "{size}");
+                assert_equal_at(&rt, &read, &Ok(()), &size);
                 are_named(&rt, &info, &[(address, "CHROUT")], LINE);
             }
             None => {
@@ -175,43 +170,40 @@ fn each_prefix_of_a_line(rt: HostRuntime) -> Result<(), Fail> {
                     line: 1,
                     kind: InfoFaultKind::BadInclude,
                 };
-                assert_eq!(rt; read, Err(expected), "{size}");
-                assert_eq!(rt; info.given_count(), 0, "{size}");
+                assert_equal_at(&rt, &read, &Err(expected), &size);
+                assert_equal_at(&rt, &info.given_count(), &0, &size);
             }
         }
     }
-    Ok(())
 }
 
 #[test]
-fn refused_and_read_again(rt: HostRuntime) -> Result<(), Fail> {
-    let mut info = informed(rt.alloc(), "ASMINC { FILE \"k.inc\"; };")?;
+fn refused_and_read_again(rt: HostRuntime) {
+    let mut info = info_of(&rt, rt.alloc(), b"ASMINC { FILE \"k.inc\"; };");
     let expected = InfoFault {
         line: 2,
         kind: InfoFaultKind::BadInclude,
     };
     let read = add(&rt, rt.alloc(), &mut info, 0, b"K = $10\n.bad");
-    assert_eq!(rt; read, Err(expected));
+    assert_equal(&rt, &read, &Err(expected));
     are_named(&rt, &info, &[], "refused");
-    add(&rt, rt.alloc(), &mut info, 0, b"K = $20")?;
+    add(&rt, rt.alloc(), &mut info, 0, b"K = $20").expect(&rt, "add");
     are_named(&rt, &info, &[(0x20, "K")], "read again");
-    Ok(())
 }
 
 #[test]
-fn two_include_files(rt: HostRuntime) -> Result<(), Fail> {
+fn two_include_files(rt: HostRuntime) {
     let text = "ASMINC { FILE \"k.inc\"; }; ASMINC { FILE \"j.inc\"; COMMENTSTART '#'; };";
-    let mut info = informed(rt.alloc(), text)?;
-    add(&rt, rt.alloc(), &mut info, 0, b"K = 1 ; one")?;
-    add(&rt, rt.alloc(), &mut info, 1, b"J = 1\nI = 2 # two\nK = 1")?;
+    let mut info = info_of(&rt, rt.alloc(), text.as_bytes());
+    add(&rt, rt.alloc(), &mut info, 0, b"K = 1 ; one").expect(&rt, "add");
+    add(&rt, rt.alloc(), &mut info, 1, b"J = 1\nI = 2 # two\nK = 1").expect(&rt, "add");
     are_named(&rt, &info, &[(1, "K"), (2, "I")], "two files");
     let expected = InfoFault {
         line: 1,
         kind: InfoFaultKind::NameTwice,
     };
     let read = add(&rt, rt.alloc(), &mut info, 1, b"K = 3");
-    assert_eq!(rt; read, Err(expected));
-    Ok(())
+    assert_equal(&rt, &read, &Err(expected));
 }
 
 // A line of that many bytes, all of them blanks but for a name at the end.
@@ -222,27 +214,26 @@ fn long_line(alloc: Global, size: usize) -> Result<Vec<u8>, AllocError> {
 }
 
 #[test]
-fn sizes_of_include_files(rt: HostRuntime) -> Result<(), Fail> {
-    let large = long_line(rt.alloc(), 1_048_577)?;
+fn sizes_of_include_files(rt: HostRuntime) {
+    let large = long_line(rt.alloc(), 1_048_577).expect(&rt, "long_line");
     for text in [PLAIN, IGNORING] {
-        let mut info = informed(rt.alloc(), text)?;
+        let mut info = info_of(&rt, rt.alloc(), text.as_bytes());
         let expected = InfoFault {
             line: 1,
             kind: InfoFaultKind::TooLarge,
         };
         let read = add(&rt, rt.alloc(), &mut info, 0, large.as_slice());
-        assert_eq!(rt; read, Err(expected), "{text}");
+        assert_equal_at(&rt, &read, &Err(expected), &text);
         are_named(&rt, &info, &[(3, "go")], text);
     }
-    let mut info = informed(rt.alloc(), PLAIN)?;
-    let largest = long_line(rt.alloc(), 1_048_576)?;
-    add(&rt, rt.alloc(), &mut info, 0, largest.as_slice())?;
+    let mut info = info_of(&rt, rt.alloc(), PLAIN.as_bytes());
+    let largest = long_line(rt.alloc(), 1_048_576).expect(&rt, "long_line");
+    add(&rt, rt.alloc(), &mut info, 0, largest.as_slice()).expect(&rt, "add");
     are_named(&rt, &info, &[(1, "K"), (3, "go")], "1,048,576 bytes");
-    Ok(())
 }
 
 #[test]
-fn lengths_of_names(rt: HostRuntime) -> Result<(), Fail> {
+fn lengths_of_names(rt: HostRuntime) {
     for (size, expected) in [
         (80, None),
         (
@@ -253,14 +244,18 @@ fn lengths_of_names(rt: HostRuntime) -> Result<(), Fail> {
             }),
         ),
     ] {
-        let mut info = informed(rt.alloc(), PLAIN)?;
-        let mut line = vec![in rt.alloc(); b'k'; size]?;
-        line.extend_from_slice(b" = 1")?;
+        let mut info = info_of(&rt, rt.alloc(), PLAIN.as_bytes());
+        let mut line = vec![in rt.alloc(); b'k'; size].expect(&rt, "vec");
+        line.extend_from_slice(b" = 1")
+            .expect(&rt, "extend_from_slice");
         let read = add(&rt, rt.alloc(), &mut info, 0, line.as_slice());
-        assert_eq!(rt; read.err(), expected, "{size}");
-        assert_eq!(rt; info.given_count(), if expected.is_some() { 1 } else { 2 });
+        assert_equal_at(&rt, &read.err(), &expected, &size);
+        assert_equal(
+            &rt,
+            &info.given_count(),
+            &if expected.is_some() { 1 } else { 2 },
+        );
     }
-    Ok(())
 }
 
 // 60,000 lines in descending order.
@@ -283,13 +278,12 @@ fn is_named(info: &Info, address: u16, text: &[u8]) -> bool {
 }
 
 #[test]
-fn sixty_thousand_lines(rt: HostRuntime) -> Result<(), Fail> {
-    let mut info = informed(rt.alloc(), PLAIN)?;
-    let text = many_lines(rt.alloc())?;
-    add(&rt, rt.alloc(), &mut info, 0, text.as_slice())?;
+fn sixty_thousand_lines(rt: HostRuntime) {
+    let mut info = info_of(&rt, rt.alloc(), PLAIN.as_bytes());
+    let text = many_lines(rt.alloc()).expect(&rt, "many_lines");
+    add(&rt, rt.alloc(), &mut info, 0, text.as_slice()).expect(&rt, "add");
     // $0003 keeps the name of the label
-    assert_eq!(rt; info.given_count(), 60_000);
-    assert!(rt; is_named(&info, 3, b"go"));
-    assert!(rt; is_named(&info, 54_321, b"m54321"));
-    Ok(())
+    assert_equal(&rt, &info.given_count(), &60_000);
+    assert_that(&rt, is_named(&info, 3, b"go"));
+    assert_that(&rt, is_named(&info, 54_321, b"m54321"));
 }

@@ -1,9 +1,8 @@
 // Groups ASMINC.
-use crate::tests::files::are_refused;
-use info65::{Info, InfoFaultKind, Options, read_info};
+use crate::tests::asserts::{assert_equal, assert_equal_at};
+use crate::tests::inputs::{are_refused, info_of, info_without_options};
+use info65::{Info, InfoFaultKind};
 use std::alloc::{AllocError, Global};
-use std::process::Abort;
-use std::test::Fail;
 
 /// Groups ASMINC that are refused, each with the line and the kind.
 const REFUSED: &[(&str, u32, InfoFaultKind)] = &[
@@ -38,28 +37,27 @@ const REFUSED: &[(&str, u32, InfoFaultKind)] = &[
 
 #[test]
 fn refused_include_groups(rt: HostRuntime) {
-    are_refused(&rt, rt.alloc(), &Options::<Global>::none(), REFUSED);
+    are_refused(&rt, rt.alloc(), REFUSED);
 }
 
 #[test]
-fn include_groups_in_their_order(rt: HostRuntime) -> Result<(), Fail> {
+fn include_groups_in_their_order(rt: HostRuntime) {
     let text = b"ASMINC { FILE \"k.inc\"; };
         LABEL { ADDR 1; NAME \"ab\"; };
         asminc { ignoreunknown YES; commentstart '''; file \"a b\"; };
         ASMINC { FILE \"k.inc\"; COMMENTSTART '1'; IGNOREUNKNOWN 0; };";
-    let info: Info = read_info(rt.alloc(), &Options::<Global>::none(), text)?;
+    let info: Info = info_of(&rt, rt.alloc(), text);
     let rows: [(&str, u8, bool); 3] = [
         ("k.inc", b';', false),
         ("a b", b'\'', true),
         ("k.inc", b'1', false),
     ];
-    assert_eq!(rt; info.includes().len(), rows.len());
+    assert_equal(&rt, &info.includes().len(), &rows.len());
     for (include, (file, comment_start, ignore_unknown)) in info.includes().iter().zip(&rows) {
-        assert_eq!(rt; include.file.as_str(), *file);
-        assert_eq!(rt; include.comment_start, *comment_start);
-        assert_eq!(rt; include.ignore_unknown, *ignore_unknown);
+        assert_equal(&rt, &include.file.as_str(), &*file);
+        assert_equal(&rt, &include.comment_start, &*comment_start);
+        assert_equal(&rt, &include.ignore_unknown, &*ignore_unknown);
     }
-    Ok(())
 }
 
 // So many groups ASMINC, one in each line, and then a text.
@@ -72,14 +70,13 @@ fn groups(alloc: Global, count: usize, end: &str) -> Result<Vec<u8>, AllocError>
     Ok(text)
 }
 
-fn fault_of(rt: &impl Abort, alloc: Global, text: &[u8]) -> Option<(u32, InfoFaultKind)> {
-    let _ = rt;
-    let found = read_info(alloc, &Options::<Global>::none(), text).err();
+fn fault_of(alloc: Global, text: &[u8]) -> Option<(u32, InfoFaultKind)> {
+    let found = info_without_options(alloc, text).err();
     found.map(|fault| (fault.line, fault.kind))
 }
 
 #[test]
-fn sixteen_include_groups_at_most(rt: HostRuntime) -> Result<(), Fail> {
+fn sixteen_include_groups_at_most(rt: HostRuntime) {
     let rows: [(usize, &str, Option<(u32, InfoFaultKind)>); 6] = [
         (16, "", None),
         (17, "", Some((17, InfoFaultKind::TooLarge))),
@@ -102,12 +99,12 @@ fn sixteen_include_groups_at_most(rt: HostRuntime) -> Result<(), Fail> {
         (16, "ASMINC { };", Some((17, InfoFaultKind::Missing))),
     ];
     for (count, end, expected) in &rows {
-        let text = groups(rt.alloc(), *count, end)?;
-        assert_eq!(rt;
-            fault_of(&rt, rt.alloc(), text.as_slice()),
-            *expected,
-            "{end}"
+        let text = groups(rt.alloc(), *count, end).expect(&rt, "groups");
+        assert_equal_at(
+            &rt,
+            &fault_of(rt.alloc(), text.as_slice()),
+            &*expected,
+            &end,
         );
     }
-    Ok(())
 }

@@ -1,19 +1,10 @@
 //! Roles and items of images with ranges.
 
-use info65::{Info, Options, RangeType, read_info};
-use map65::{Image, Map};
+use crate::tests::inputs::{image_of, image_of_value, info_of};
+use info65::RangeType;
+use map65::Map;
 use std::alloc::Global;
 use std::process::Abort;
-use std::test::Fail;
-
-fn info_of(alloc: Global, text: &str) -> Result<Info, Fail> {
-    Ok(read_info(alloc, &Options::<Global>::none(), text.as_bytes())?)
-}
-
-/// Returns an image that ends at $FFFF, of `count` times the byte.
-fn image_of(alloc: Global, byte: u8, count: usize) -> Result<Image, Fail> {
-    Ok(Image::from_bytes(None, None, vec![in alloc; byte; count]?)?)
-}
 
 /// An image from $1000 on, its information file, and for each byte its role and the length of the item that
 /// begins there.
@@ -24,6 +15,7 @@ struct Listed {
     marks: &'static [(RangeType, u8)],
 }
 
+use crate::tests::asserts::assert_equal_at;
 use RangeType::{AddrTable, ByteTable, Code, DbyteTable, RtsTable, Skip, TextTable, WordTable};
 
 const LISTED: &[Listed] = &[
@@ -134,32 +126,49 @@ const LISTED: &[Listed] = &[
 fn assert_marks(rt: &impl Abort, map: &Map<'_>, marks: &[(RangeType, u8)], name: &str) {
     let mut address = 0x1000u16;
     for (role, len) in marks {
-        assert_eq!(rt; map.role(address), Some(*role), "{name} {address:04x}");
-        assert_eq!(rt; map.item_len(address), *len, "{name} {address:04x}");
+        assert_equal_at(
+            rt,
+            &map.role(address),
+            &Some(*role),
+            &format_args!("{name} {address:04x}"),
+        );
+        assert_equal_at(
+            rt,
+            &map.item_len(address),
+            &*len,
+            &format_args!("{name} {address:04x}"),
+        );
         address = address.wrapping_add(1);
     }
     for outside in [0, 0x0FFF, address, 0xFFFF] {
-        assert_eq!(rt; map.role(outside), None, "{name} {outside:04x}");
-        assert_eq!(rt; map.item_len(outside), 0, "{name} {outside:04x}");
+        assert_equal_at(
+            rt,
+            &map.role(outside),
+            &None,
+            &format_args!("{name} {outside:04x}"),
+        );
+        assert_equal_at(
+            rt,
+            &map.item_len(outside),
+            &0,
+            &format_args!("{name} {outside:04x}"),
+        );
     }
 }
 
 /// The same of the map of this row.
-fn assert_row(rt: &impl Abort, alloc: Global, listed: &Listed) -> Result<(), Fail> {
-    let info = info_of(alloc, listed.info)?;
-    let bytes = Vec::from_slice(alloc, listed.bytes)?;
-    let image = Image::from_bytes(Some(0x1000), None, bytes)?;
-    let map = Map::build(alloc, &info, &image)?;
+fn assert_row(rt: &impl Abort, alloc: Global, listed: &Listed) {
+    let info = info_of(rt, alloc, listed.info.as_bytes());
+    let image = image_of(rt, alloc, 0x1000, listed.bytes);
+    let map = Map::build(alloc, &info, &image).expect(rt, "build");
     assert_marks(rt, &map, listed.marks, listed.name);
-    Ok(())
 }
 
 #[test]
-fn roles_and_items(rt: HostRuntime) -> Result<(), Fail> {
+fn roles_and_items(rt: HostRuntime) {
     for listed in LISTED {
-        assert_row(&rt, rt.alloc(), listed)?;
+        assert_row(&rt, rt.alloc(), listed);
     }
-    Ok(())
 }
 
 /// A type, its name, and the length of an item of bytes 0; 0 if no item begins.
@@ -179,35 +188,35 @@ fn assert_multiples(rt: &impl Abort, map: &Map<'_>, role: RangeType, size: u16, 
     for address in 0..=u16::MAX {
         let begins = size == 1 || size == 2 && address % 2 == 0;
         let want = if begins { size } else { 0 };
-        assert_eq!(rt; map.role(address), Some(role), "{word} {address:04x}");
-        assert_eq!(rt;
-            u16::from(map.item_len(address)),
-            want,
-            "{word} {address:04x}"
+        assert_equal_at(
+            rt,
+            &map.role(address),
+            &Some(role),
+            &format_args!("{word} {address:04x}"),
+        );
+        assert_equal_at(
+            rt,
+            &u16::from(map.item_len(address)),
+            &want,
+            &format_args!("{word} {address:04x}"),
         );
     }
 }
 
 /// The same of a full image of bytes 0 in one range.
-fn assert_range(
-    rt: &impl Abort,
-    alloc: Global,
-    role: RangeType,
-    word: &str,
-    size: u16,
-) -> Result<(), Fail> {
-    let text = format!(in alloc; "RANGE {{ START 0; END $FFFF; TYPE {word}; }};")?;
-    let info = info_of(alloc, text.as_str())?;
-    let image = image_of(alloc, 0u8, 65_536)?;
-    let map = Map::build(alloc, &info, &image)?;
+fn assert_range(rt: &impl Abort, alloc: Global, role: RangeType, word: &str, size: u16) {
+    let text = format!(in alloc; "RANGE {{ START 0; END $FFFF; TYPE {word}; }};").expect(
+        rt, "format",
+    );
+    let info = info_of(rt, alloc, text.as_bytes());
+    let image = image_of_value(rt, alloc, 0u8, 65_536);
+    let map = Map::build(alloc, &info, &image).expect(rt, "build");
     assert_multiples(rt, &map, role, size, word);
-    Ok(())
 }
 
 #[test]
-fn a_full_image_of_one_range(rt: HostRuntime) -> Result<(), Fail> {
+fn a_full_image_of_one_range(rt: HostRuntime) {
     for (role, word, size) in TYPES {
-        assert_range(&rt, rt.alloc(), role, word, size)?;
+        assert_range(&rt, rt.alloc(), role, word, size);
     }
-    Ok(())
 }

@@ -1,8 +1,9 @@
 // Large files, with ample memory: each is read whole.
-use info65::{Info, Options, read_info};
+use crate::tests::asserts::{assert_equal, assert_that};
+use crate::tests::inputs::info_of;
+use info65::Info;
 use std::alloc::{AllocError, Global};
 use std::process::Abort;
-use std::test::Fail;
 
 /// In which order the addresses come.
 #[derive(Clone, Copy)]
@@ -32,24 +33,22 @@ fn labels(alloc: Global, order: Order) -> Result<Vec<u8>, AllocError> {
     Ok(text)
 }
 
-fn are_read(rt: &impl Abort, alloc: Global, order: Order) -> Result<(), Fail> {
-    let text = labels(alloc, order)?;
-    let info: Info = read_info(alloc, &Options::<Global>::none(), text.as_slice())?;
-    assert_eq!(rt; info.given_count(), 20_000);
+fn are_read(rt: &impl Abort, alloc: Global, order: Order) {
+    let text = labels(alloc, order).expect(rt, "labels");
+    let info: Info = info_of(rt, alloc, text.as_slice());
+    assert_that(rt, info.given_count() == 20_000);
     let last = info.given(19_999);
-    assert_eq!(rt; last.address, 19_999);
-    assert_eq!(rt; last.text, b"m19999".as_slice());
+    assert_equal(rt, &last.address, &19_999);
+    assert_equal(rt, &last.text, &b"m19999".as_slice());
     let found = info.covering(12_345).map(|given| given.text);
-    assert_eq!(rt; found, Some(b"m12345".as_slice()));
-    Ok(())
+    assert_equal(rt, &found, &Some(b"m12345".as_slice()));
 }
 
 #[test]
-fn labels_in_each_order(rt: HostRuntime) -> Result<(), Fail> {
-    are_read(&rt, rt.alloc(), Order::Ascending)?;
-    are_read(&rt, rt.alloc(), Order::Descending)?;
-    are_read(&rt, rt.alloc(), Order::Shuffled)?;
-    Ok(())
+fn labels_in_each_order(rt: HostRuntime) {
+    are_read(&rt, rt.alloc(), Order::Ascending);
+    are_read(&rt, rt.alloc(), Order::Descending);
+    are_read(&rt, rt.alloc(), Order::Shuffled);
 }
 
 // So many groups RANGE of one address each.
@@ -63,30 +62,29 @@ fn ranges(alloc: Global, count: u16) -> Result<Vec<u8>, AllocError> {
 }
 
 #[test]
-fn ranges_of_one_address(rt: HostRuntime) -> Result<(), Fail> {
+fn ranges_of_one_address(rt: HostRuntime) {
     for count in [1_000, 28_000] {
-        let text = ranges(rt.alloc(), count)?;
-        let info: Info = read_info(rt.alloc(), &Options::<Global>::none(), text.as_slice())?;
-        assert_eq!(rt; info.ranges().len(), usize::from(count));
+        let text = ranges(rt.alloc(), count).expect(&rt, "ranges");
+        let info: Info = info_of(&rt, rt.alloc(), text.as_slice());
+        assert_equal(&rt, &info.ranges().len(), &usize::from(count));
     }
-    Ok(())
 }
 
 #[test]
-fn a_thousand_groups(rt: HostRuntime) -> Result<(), Fail> {
+fn a_thousand_groups(rt: HostRuntime) {
     let mut text = Vec::new(rt.alloc());
     for _ in 0..1_000 {
-        text.extend_from_slice(b"GLOBAL { };\n")?;
+        text.extend_from_slice(b"GLOBAL { };\n")
+            .expect(&rt, "extend_from_slice");
     }
     text.extend_from_slice(
         b"GLOBAL { INPUTNAME \"a\"; OUTPUTNAME \"b\"; INPUTOFFS 1; INPUTSIZE 2; STARTADDR 3; CPU \"6502\"; HEXOFFS on; PAGELENGTH 0; };",
-    )?;
-    let info: Info = read_info(rt.alloc(), &Options::<Global>::none(), text.as_slice())?;
-    assert_eq!(rt; info.settings().input.as_deref(), Some("a"));
-    assert_eq!(rt; info.settings().output.as_deref(), Some("b"));
-    assert_eq!(rt; info.settings().offset, 1);
-    assert_eq!(rt; info.settings().size, Some(2));
-    assert_eq!(rt; info.settings().start, Some(3));
-    assert!(rt; info.settings().hexoffs);
-    Ok(())
+    ).expect(&rt, "extend_from_slice");
+    let info: Info = info_of(&rt, rt.alloc(), text.as_slice());
+    assert_equal(&rt, &info.settings().input.as_deref(), &Some("a"));
+    assert_equal(&rt, &info.settings().output.as_deref(), &Some("b"));
+    assert_equal(&rt, &info.settings().offset, &1);
+    assert_equal(&rt, &info.settings().size, &Some(2));
+    assert_equal(&rt, &info.settings().start, &Some(3));
+    assert_that(&rt, info.settings().hexoffs);
 }

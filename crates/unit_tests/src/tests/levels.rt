@@ -6,13 +6,13 @@ ghost use Rattle.isa65.specs.declared.op.Op.{Op};
 ghost use Rattle.stmt65.specs.Printable.{IsPrintable, MayBeLabelled, TakesLabel};
 ghost use Rattle.stmt65.specs.Views.{statement_seen};
 
+use crate::tests::asserts::assert_equal;
 use crate::tests::source_lines::source;
 use isa65::{Cpu, Mnemonic, Mode, Op};
 use std::alloc::{AllocError, Global};
 use std::process::Abort;
-use std::test::Fail;
 use stmt65::{
-    Column, Columns, Expr, LabelBreak, Level, Line, Operands, Remarks, Statement, Target, put_line,
+    Column, Columns, Expr, LabelBreak, Level, Line, Operands, Remarks, Statement, put_line,
 };
 
 /// A name of 80 bytes.
@@ -46,7 +46,7 @@ fn shows(
     statement: &Statement,
     remarks: &Remarks,
     want: &str,
-) -> Result<(), Fail>
+)
     requires printable { IsPrintable (statement_seen statement.now) }
     requires few { length remarks.now.bytes.now ≤ 16 }
     requires label { MayBeLabelled columns.now (option_copied remarks.now.label) (statement_seen statement.now) }
@@ -54,7 +54,7 @@ fn shows(
     let mut line = Line::new();
     line.push(b'?');
     put_line(&mut line, columns, statement, remarks);
-    assert_eq!(rt; str::from_utf8(shown(&line)).unwrap_or("?"), want);
+    assert_equal(rt, &str::from_utf8(shown(&line)).unwrap_or("?"), &want);
     let plain = Remarks {
         level: Level::default(),
         hexoffs: remarks.hexoffs,
@@ -64,9 +64,12 @@ fn shows(
     };
     let mut first = Line::new();
     put_line(&mut first, columns, statement, &plain);
-    let read = source(alloc, shown(&line))?;
-    assert_eq!(rt; read.as_str(), source(alloc, shown(&first))?.as_str());
-    Ok(())
+    let read = source(alloc, shown(&line)).expect(rt, "source");
+    assert_equal(
+        rt,
+        &read.as_str(),
+        &source(alloc, shown(&first)).expect(rt, "source").as_str(),
+    );
 }
 
 /// The line of the statement, at the default columns, with the remarks of this level and these bytes.
@@ -77,16 +80,16 @@ fn shows_at(
     statement: &Statement,
     bytes: &[u8],
     want: &str,
-) -> Result<(), Fail>
+)
     requires printable { IsPrintable (statement_seen statement.now) }
     requires few { length bytes.now ≤ 16 }
 {
-    let remarks = remarks_at(Level::try_from(level)?, bytes);
+    let remarks = remarks_at(Level::try_from(level).expect(rt, "try_from"), bytes);
     shows(rt, alloc, &Columns::default(), statement, &remarks, want)
 }
 
 #[test]
-fn full_remarks(rt: HostRuntime) -> Result<(), Fail> {
+fn full_remarks(rt: HostRuntime) {
     let load = Statement::Instr {
         op: Op {
             mnemonic: Mnemonic::Lda,
@@ -108,14 +111,13 @@ fn full_remarks(rt: HostRuntime) -> Result<(), Fail> {
             "        lda     #$41                            ; 1000 A9 41                    .A",
         ),
     ] {
-        shows_at(&rt, rt.alloc(), level, &load, b"\xA9\x41", want)?;
+        shows_at(&rt, rt.alloc(), level, &load, b"\xA9\x41", want);
     }
-    Ok(())
 }
 
 /// The remark holds a quote, a `;`, and bytes below $20 and above $7E.
 #[test]
-fn characters_of_a_text(rt: HostRuntime) -> Result<(), Fail> {
+fn characters_of_a_text(rt: HostRuntime) {
     let bytes = b"\x22\x3B\x5C\x1F\x20\x7E\x7F\x80\xFF\x0A\x0D\x09\x00\x61\x22\x7A";
     shows_at(
         &rt,
@@ -128,42 +130,42 @@ fn characters_of_a_text(rt: HostRuntime) -> Result<(), Fail> {
 }
 
 /// A statement without bytes, at the last level.
-fn bare(rt: &impl Abort, alloc: Global, statement: &Statement, want: &str) -> Result<(), Fail>
+fn bare(rt: &impl Abort, alloc: Global, statement: &Statement, want: &str)
     requires { IsPrintable (statement_seen statement.now) }
 {
     shows_at(rt, alloc, 4, statement, b"\xEA", want)
 }
 
 #[test]
-fn statements_without_bytes(rt: HostRuntime) -> Result<(), Fail> {
+fn statements_without_bytes(rt: HostRuntime) {
     let a = rt.alloc();
-    bare(&rt, a, &Statement::Label(b"main"), "main:")?;
+    bare(&rt, a, &Statement::Label(b"main"), "main:");
     bare(
         &rt,
         a,
         &Statement::Const(b"v", 1),
         "v               := $0001",
-    )?;
+    );
     bare(
         &rt,
         a,
         &Statement::Forward(b"w", 2),
         "w               := * + 2",
-    )?;
+    );
     bare(
         &rt,
         a,
         &Statement::Segment(b"DATA"),
         "        .segment \"DATA\"",
-    )?;
-    bare(&rt, a, &Statement::Code, "        .code")?;
+    );
+    bare(&rt, a, &Statement::Code, "        .code");
     bare(
         &rt,
         a,
         &Statement::SetCpu(Cpu::M6502),
         "        .setcpu \"6502\"",
-    )?;
-    bare(&rt, a, &Statement::Blank, "")?;
+    );
+    bare(&rt, a, &Statement::Blank, "");
     bare(&rt, a, &Statement::Remark(b"start"), "; start")
 }
 
@@ -200,12 +202,12 @@ fn fields(
 }
 
 /// The operands of these two are the longest of all.
-fn shows_longest(rt: &impl Abort, alloc: Global, columns: &Columns) -> Result<(), Fail> {
+fn shows_longest(rt: &impl Abort, alloc: Global, columns: &Columns) {
     let long = LONG.as_bytes();
     let bytes = b"ABCDEFGHIJKLMNO\xFF";
     let remark = "; 1000 41 42 43 44 45 46 47 48 49 4A 4B 4C 4D 4E 4F FF";
     let characters = "ABCDEFGHIJKLMNO.";
-    let remarks = remarks_at(Level::try_from(4)?, bytes);
+    let remarks = remarks_at(Level::try_from(4).expect(rt, "try_from"), bytes);
     let branch = Statement::Instr {
         op: Op {
             mnemonic: Mnemonic::Bbr0,
@@ -215,7 +217,7 @@ fn shows_longest(rt: &impl Abort, alloc: Global, columns: &Columns) -> Result<()
         operands: Operands::Two(Expr::Name(long, 65535), Expr::Name(long, 65535)),
     };
     let mut operands = String::new(alloc);
-    write!(operands, "{LONG}+65535,{LONG}+65535")?;
+    write!(operands, "{LONG}+65535,{LONG}+65535").expect(rt, "write");
     let want = fields(
         alloc,
         columns,
@@ -224,11 +226,12 @@ fn shows_longest(rt: &impl Abort, alloc: Global, columns: &Columns) -> Result<()
         operands.as_str(),
         remark,
         characters,
-    )?;
-    shows(rt, alloc, columns, &branch, &remarks, want.as_str())?;
+    )
+    .expect(rt, "fields");
+    shows(rt, alloc, columns, &branch, &remarks, want.as_str());
     if columns.fits_label(long) {
         let mut label = String::new(alloc);
-        write!(label, "{LONG}:")?;
+        write!(label, "{LONG}:").expect(rt, "write");
         let want = fields(
             alloc,
             columns,
@@ -237,7 +240,8 @@ fn shows_longest(rt: &impl Abort, alloc: Global, columns: &Columns) -> Result<()
             operands.as_str(),
             remark,
             characters,
-        )?;
+        )
+        .expect(rt, "fields");
         let remarks = Remarks {
             level: remarks.level,
             hexoffs: false,
@@ -245,27 +249,25 @@ fn shows_longest(rt: &impl Abort, alloc: Global, columns: &Columns) -> Result<()
             bytes,
             label: Some(long),
         };
-        shows(rt, alloc, columns, &branch, &remarks, want.as_str())?;
+        shows(rt, alloc, columns, &branch, &remarks, want.as_str());
     }
-    Ok(())
 }
 
 #[test]
-fn first_and_last_columns(rt: HostRuntime) -> Result<(), Fail> {
+fn first_and_last_columns(rt: HostRuntime) {
     let mut columns = Columns::default();
-    columns.label_break = LabelBreak::try_from(80)?;
+    columns.label_break = LabelBreak::try_from(80).expect(&rt, "try_from");
     for mnemonic in [1u8, 120] {
-        columns.mnemonic = Column::try_from(mnemonic)?;
+        columns.mnemonic = Column::try_from(mnemonic).expect(&rt, "try_from");
         for argument in [1u8, 120] {
-            columns.argument = Column::try_from(argument)?;
+            columns.argument = Column::try_from(argument).expect(&rt, "try_from");
             for comment in [1u8, 120] {
-                columns.comment = Column::try_from(comment)?;
+                columns.comment = Column::try_from(comment).expect(&rt, "try_from");
                 for text in [1u8, 120] {
-                    columns.text = Column::try_from(text)?;
-                    shows_longest(&rt, rt.alloc(), &columns)?;
+                    columns.text = Column::try_from(text).expect(&rt, "try_from");
+                    shows_longest(&rt, rt.alloc(), &columns);
                 }
             }
         }
     }
-    Ok(())
 }

@@ -1,4 +1,5 @@
 // Tokens and their faults.
+use crate::tests::asserts::{assert_equal, assert_equal_at, assert_that};
 use info65::{InfoFault, InfoFaultKind, Lexer, TokenKind};
 
 #[test]
@@ -6,17 +7,18 @@ fn a_fault_stays(rt: HostRuntime) {
     let mut lexer = Lexer::new(b"GLOBAL @ {");
     let first = lexer.next_token().expect(&rt, "a token");
     let word = first.expect(&rt, "a word");
-    assert_eq!(rt; word.kind, TokenKind::Word);
-    assert_eq!(rt; word.text, b"GLOBAL".as_slice());
-    assert_eq!(rt; word.line, 1);
+    assert_equal(&rt, &word.kind, &TokenKind::Word);
+    assert_equal(&rt, &word.text, &b"GLOBAL".as_slice());
+    assert_equal(&rt, &word.line, &1);
     for _ in 0..3 {
         let fault = lexer.next_token().err();
-        assert_eq!(rt;
-            fault,
-            Some(InfoFault {
+        assert_equal(
+            &rt,
+            &fault,
+            &Some(InfoFault {
                 line: 1,
-                kind: InfoFaultKind::BadByte
-            })
+                kind: InfoFaultKind::BadByte,
+            }),
         );
     }
 }
@@ -39,13 +41,13 @@ fn tokens_with_their_texts_and_lines(rt: HostRuntime) {
     for (kind, text, line) in tokens {
         let next = lexer.next_token().expect(&rt, "a token");
         let token = next.expect(&rt, "no end");
-        assert_eq!(rt; token.kind, kind);
-        assert_eq!(rt; token.text, text);
-        assert_eq!(rt; token.line, line);
+        assert_equal(&rt, &token.kind, &kind);
+        assert_equal(&rt, &token.text, &text);
+        assert_equal(&rt, &token.line, &line);
     }
     for _ in 0..2 {
         let end = lexer.next_token().expect(&rt, "no fault");
-        assert!(rt; end.is_none());
+        assert_that(&rt, end.is_none());
     }
 }
 
@@ -82,7 +84,7 @@ fn each_byte_alone(rt: HostRuntime) {
             b'"' => Meaning::Fault(InfoFaultKind::OpenString),
             _ => Meaning::Fault(InfoFaultKind::BadByte),
         };
-        assert_eq!(rt; first_meaning(&[byte, 0, 0], 1), expected, "{byte}");
+        assert_equal_at(&rt, &first_meaning(&[byte, 0, 0], 1), &expected, &byte);
     }
 }
 
@@ -96,7 +98,12 @@ fn each_byte_in_a_string(rt: HostRuntime) {
             b'\r' | b'\n' => Meaning::Fault(InfoFaultKind::OpenString),
             _ => Meaning::Fault(InfoFaultKind::BadByte),
         };
-        assert_eq!(rt; first_meaning(&[b'"', byte, b'"'], 3), expected, "{byte}");
+        assert_equal_at(
+            &rt,
+            &first_meaning(&[b'"', byte, b'"'], 3),
+            &expected,
+            &byte,
+        );
     }
 }
 
@@ -107,6 +114,11 @@ fn each_byte_in_a_character_constant(rt: HostRuntime) {
             0x20..=0x7E => Meaning::Token,
             _ => Meaning::Fault(InfoFaultKind::BadByte),
         };
-        assert_eq!(rt; first_meaning(&[b'\'', byte, b'\''], 3), expected, "{byte}");
+        assert_equal_at(
+            &rt,
+            &first_meaning(&[b'\'', byte, b'\''], 3),
+            &expected,
+            &byte,
+        );
     }
 }

@@ -1,7 +1,7 @@
+use crate::tests::asserts::{assert_equal, assert_equal_at, assert_that};
 use isa65::{Cmos65Sc02, Cpu, Mnemonic, Mode, Mos6502, Op, OpcodeSet, Rockwell65C02};
 use std::alloc::Global;
 use std::process::Abort;
-use std::test::Fail;
 
 /// The data sheet's table of the opcodes of the 6502: columns are addressing modes, `--` is no such form.
 const OF_THE_6502: [&str; 6] = [
@@ -162,82 +162,79 @@ fn column_mode(heading: &str) -> Option<Mode> {
 }
 
 /// Enters a row of the data sheet: what each opcode of this mnemonic stands for.
-fn enter_row(
-    rt: &impl Abort,
-    headings: &str,
-    row: &str,
-    table: &mut [Option<Op>],
-) -> Result<(), Fail> {
+fn enter_row(rt: &impl Abort, headings: &str, row: &str, table: &mut [Option<Op>]) {
     let mut cells = row.split_whitespace();
-    let name = cells.next().ok_or("no mnemonic")?;
-    let mnemonic = Mnemonic::from_bytes(name.as_bytes()).ok_or("no such mnemonic")?;
+    let name = cells.next().expect(rt, "no mnemonic");
+    let mnemonic = Mnemonic::from_bytes(name.as_bytes()).expect(rt, "no such mnemonic");
     for heading in headings.split_whitespace() {
-        let mode = column_mode(heading).ok_or("no such mode")?;
-        let cell = cells.next().ok_or("too few cells")?;
+        let mode = column_mode(heading).expect(rt, "no such mode");
+        let cell = cells.next().expect(rt, "too few cells");
         if cell != "--" {
-            let byte = usize::from_str_radix(cell, 16)?;
-            let entry = table.get_mut(byte).ok_or("not a byte")?;
-            assert_eq!(rt; *entry, None, "{cell} stands twice");
+            let byte = usize::from_str_radix(cell, 16).expect(rt, "from_str_radix");
+            let entry = table.get_mut(byte).expect(rt, "not a byte");
+            assert_equal_at(rt, &*entry, &None, &format_args!("{cell} stands twice"));
             *entry = Some(Op { mnemonic, mode });
         }
     }
-    assert!(rt; cells.next().is_none());
-    Ok(())
+    assert_that(rt, cells.next().is_none());
 }
 
-fn enter_parts(rt: &impl Abort, parts: &[&str], table: &mut [Option<Op>]) -> Result<(), Fail> {
+fn enter_parts(rt: &impl Abort, parts: &[&str], table: &mut [Option<Op>]) {
     for part in parts {
         let mut lines = part.lines();
-        let headings = lines.next().ok_or("no headings")?;
+        let headings = lines.next().expect(rt, "no headings");
         for row in lines {
-            enter_row(rt, headings, row, table)?;
+            enter_row(rt, headings, row, table);
         }
     }
-    Ok(())
 }
 
 /// What each byte stands for by the CPU's data sheet.
-fn data_sheet(rt: &impl Abort, alloc: Global, cpu: Cpu) -> Result<Vec<Option<Op>>, Fail> {
-    let mut table = vec![in alloc; None; 256]?;
-    enter_parts(rt, &OF_THE_6502, &mut table)?;
+fn data_sheet(rt: &impl Abort, alloc: Global, cpu: Cpu) -> Vec<Option<Op>> {
+    let mut table = vec![in alloc; None; 256].expect(rt, "vec");
+    enter_parts(rt, &OF_THE_6502, &mut table);
     if cpu != Cpu::M6502 {
-        enter_parts(rt, &ADDED_BY_THE_65SC02, &mut table)?;
+        enter_parts(rt, &ADDED_BY_THE_65SC02, &mut table);
     }
     if cpu == Cpu::M65C02 {
-        enter_parts(rt, &ADDED_BY_THE_65C02, &mut table)?;
+        enter_parts(rt, &ADDED_BY_THE_65C02, &mut table);
     }
-    Ok(table)
+    table
 }
 
 /// Decodes each byte as the table does, and encodes what it stands for back.
 fn agrees<S: OpcodeSet>(rt: &impl Abort, set: &S, table: &[Option<Op>]) {
     for byte in 0..=u8::MAX {
         let op = table.get(usize::from(byte)).copied().flatten();
-        assert_eq!(rt; set.decode(byte), op, "{byte:02x}");
+        assert_equal_at(rt, &set.decode(byte), &op, &format_args!("{byte:02x}"));
         if let Some(op) = op {
-            assert_eq!(rt; set.encode(op.mnemonic, op.mode), Some(byte), "{byte:02x}");
+            assert_equal_at(
+                rt,
+                &set.encode(op.mnemonic, op.mode),
+                &Some(byte),
+                &format_args!("{byte:02x}"),
+            );
         }
     }
 }
 
 #[test]
-fn all_bytes_by_the_data_sheet(rt: HostRuntime) -> Result<(), Fail> {
+fn all_bytes_by_the_data_sheet(rt: HostRuntime) {
     for (cpu, count) in [(Cpu::M6502, 151), (Cpu::M65SC02, 178), (Cpu::M65C02, 210)] {
-        let table = data_sheet(&rt, rt.alloc(), cpu)?;
-        assert_eq!(rt; table.iter().filter(|op| op.is_some()).count(), count);
+        let table = data_sheet(&rt, rt.alloc(), cpu);
+        assert_equal(&rt, &table.iter().filter(|op| op.is_some()).count(), &count);
         agrees(&rt, &cpu, &table);
         match cpu {
             Cpu::M6502 => agrees(&rt, &Mos6502, &table),
             Cpu::M65SC02 => agrees(&rt, &Cmos65Sc02, &table),
             Cpu::M65C02 => agrees(&rt, &Rockwell65C02, &table),
         }
-        assert_eq!(rt; cpu.encode(Mnemonic::Sta, Mode::Imm), None);
+        assert_equal(&rt, &cpu.encode(Mnemonic::Sta, Mode::Imm), &None);
     }
-    assert_eq!(rt; Cpu::M6502.encode(Mnemonic::Bra, Mode::Rel), None);
-    assert_eq!(rt; Cpu::M65SC02.decode(0x07), None);
-    assert_eq!(rt; Cpu::M65C02.decode(0xCB), None);
-    assert_eq!(rt; Cpu::M65C02.decode(0xDB), None);
-    Ok(())
+    assert_equal(&rt, &Cpu::M6502.encode(Mnemonic::Bra, Mode::Rel), &None);
+    assert_equal(&rt, &Cpu::M65SC02.decode(0x07), &None);
+    assert_equal(&rt, &Cpu::M65C02.decode(0xCB), &None);
+    assert_equal(&rt, &Cpu::M65C02.decode(0xDB), &None);
 }
 
 /// The 96 mnemonics, as the opcode tables write them.
@@ -248,37 +245,43 @@ const TEXTS: &str =
     bbs5 bbs6 bbs7 rmb0 rmb1 rmb2 rmb3 rmb4 rmb5 rmb6 rmb7 smb0 smb1 smb2 smb3 smb4 smb5 smb6 smb7";
 
 #[test]
-fn texts_read_back(rt: HostRuntime) -> Result<(), Fail> {
+fn texts_read_back(rt: HostRuntime) {
     let mut count = 0usize;
     for text in TEXTS.split_whitespace() {
-        let mnemonic = Mnemonic::from_bytes(text.as_bytes()).ok_or("no such mnemonic")?;
-        assert_eq!(rt; mnemonic.text(), text.as_bytes());
-        let upper = text.as_bytes().to_ascii_uppercase(rt.alloc())?;
-        assert_eq!(rt; Mnemonic::from_bytes(upper.as_slice()), Some(mnemonic));
+        let mnemonic = Mnemonic::from_bytes(text.as_bytes()).expect(&rt, "no such mnemonic");
+        assert_equal(&rt, &mnemonic.text(), &text.as_bytes());
+        let upper = text
+            .as_bytes()
+            .to_ascii_uppercase(rt.alloc())
+            .expect(&rt, "to_ascii_uppercase");
+        assert_equal(
+            &rt,
+            &Mnemonic::from_bytes(upper.as_slice()),
+            &Some(mnemonic),
+        );
         count = count.saturating_add(1);
     }
-    assert_eq!(rt; count, 96);
+    assert_equal(&rt, &count, &96);
     for other in [b"".as_slice(), b"ad", b"adcc", b"rmb8", b"wai", b"stp"] {
-        assert_eq!(rt; Mnemonic::from_bytes(other), None);
+        assert_equal(&rt, &Mnemonic::from_bytes(other), &None);
     }
-    Ok(())
 }
 
 #[test]
 fn lengths(rt: HostRuntime) {
-    assert_eq!(rt; Mode::Acc.len(), 1);
-    assert_eq!(rt; Mode::Zpind.len(), 2);
-    assert_eq!(rt; Mode::Zprel.len(), 3);
+    assert_equal(&rt, &Mode::Acc.len(), &1);
+    assert_equal(&rt, &Mode::Zpind.len(), &2);
+    assert_equal(&rt, &Mode::Zprel.len(), &3);
 }
 
 /// The sibling of each mnemonic and mode is the zero-page form that the data sheet has for it.
 #[test]
-fn siblings_by_the_data_sheet(rt: HostRuntime) -> Result<(), Fail> {
+fn siblings_by_the_data_sheet(rt: HostRuntime) {
     for (cpu, count) in [(Cpu::M6502, 39), (Cpu::M65SC02, 44), (Cpu::M65C02, 60)] {
-        let table = data_sheet(&rt, rt.alloc(), cpu)?;
+        let table = data_sheet(&rt, rt.alloc(), cpu);
         let mut found = 0usize;
         for text in TEXTS.split_whitespace() {
-            let mnemonic = Mnemonic::from_bytes(text.as_bytes()).ok_or("no such mnemonic")?;
+            let mnemonic = Mnemonic::from_bytes(text.as_bytes()).expect(&rt, "no such mnemonic");
             for (mode, short) in [
                 (Mode::Abs, Mode::Zp),
                 (Mode::Absx, Mode::Zpx),
@@ -294,27 +297,26 @@ fn siblings_by_the_data_sheet(rt: HostRuntime) -> Result<(), Fail> {
                     None
                 };
                 let op = Op { mnemonic, mode };
-                assert_eq!(rt; op.sibling(&cpu), expected, "{op:?}");
+                assert_equal_at(&rt, &op.sibling(&cpu), &expected, &format_args!("{op:?}"));
                 found = found.saturating_add(usize::from(expected.is_some()));
             }
         }
-        assert_eq!(rt; found, count);
+        assert_equal(&rt, &found, &count);
         for mode in [Mode::Imm, Mode::Zp, Mode::Ind, Mode::Rel] {
             let op = Op {
                 mnemonic: Mnemonic::Lda,
                 mode,
             };
-            assert_eq!(rt; op.sibling(&cpu), None);
+            assert_equal(&rt, &op.sibling(&cpu), &None);
         }
     }
-    Ok(())
 }
 
 #[test]
 fn cpu_names(rt: HostRuntime) {
-    assert_eq!(rt; Cpu::M6502.text(), b"6502".as_slice());
-    assert_eq!(rt; Cpu::M65SC02.text(), b"65SC02".as_slice());
-    assert_eq!(rt; Cpu::M65C02.text(), b"65C02".as_slice());
+    assert_equal(&rt, &Cpu::M6502.text(), &b"6502".as_slice());
+    assert_equal(&rt, &Cpu::M65SC02.text(), &b"65SC02".as_slice());
+    assert_equal(&rt, &Cpu::M65C02.text(), &b"65C02".as_slice());
     for (name, cpu) in [
         (b"6502".as_slice(), Some(Cpu::M6502)),
         (b"65sc02", Some(Cpu::M65SC02)),
@@ -325,6 +327,6 @@ fn cpu_names(rt: HostRuntime) {
         (b"6809", None),
         (b"", None),
     ] {
-        assert_eq!(rt; Cpu::from_bytes(name), cpu);
+        assert_equal(&rt, &Cpu::from_bytes(name), &cpu);
     }
 }

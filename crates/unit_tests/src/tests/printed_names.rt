@@ -6,11 +6,11 @@ ghost use Rattle.isa65.specs.declared.op.Op.{Op};
 ghost use Rattle.stmt65.specs.Printable.{IsPrintable, MayBeLabelled};
 ghost use Rattle.stmt65.specs.Views.{statement_seen};
 
+use crate::tests::asserts::{assert_equal, assert_that};
 use crate::tests::source_lines::source;
 use isa65::{Mnemonic, Mode, Op};
 use std::alloc::Global;
 use std::process::Abort;
-use std::test::Fail;
 use stmt65::{
     Column, Columns, Expr, LabelBreak, Level, LimitError, Line, Operands, Remarks, Statement,
     Target, assemble, put_line,
@@ -40,10 +40,10 @@ fn shows(
     statement: &Statement,
     want: &str,
     says: &str,
-) -> Result<(), Fail>
+)
     requires printable { IsPrintable (statement_seen statement.now) }
     requires label { MayBeLabelled listing.old.columns.now (option_copied label) (statement_seen statement.now) }
-    ensures { IfOk result (λ done. listing.new.columns ≡ listing.old.columns) }
+    ensures { listing.new.columns ≡ listing.old.columns }
 {
     let remarks = Remarks {
         level: Level::default(),
@@ -55,19 +55,24 @@ fn shows(
     let mut line = Line::new();
     line.push(b'?');
     put_line(&mut line, listing.columns, statement, &remarks);
-    assert!(rt; line.ends_with(b"\n"));
+    assert_that(rt, line.ends_with(b"\n"));
     let shown = line.as_slice().strip_suffix(b"\n").unwrap_or(b"?");
-    assert_eq!(rt; str::from_utf8(shown).unwrap_or("?"), want);
-    assert_eq!(rt; source(listing.alloc, shown)?.as_str(), says);
-    listing.text.extend_from_slice(line.as_slice())?;
-    Ok(())
+    assert_equal(rt, &str::from_utf8(shown).unwrap_or("?"), &want);
+    assert_equal(
+        rt,
+        &source(listing.alloc, shown).expect(rt, "source").as_str(),
+        &says,
+    );
+    listing
+        .text
+        .extend_from_slice(line.as_slice())
+        .expect(rt, "extend_from_slice");
 }
 
 /// The text assembles to these bytes.
-fn gives(rt: &impl Abort, listing: &Listing, start: u16, bytes: &[u8]) -> Result<(), Fail> {
-    let found = assemble(listing.alloc, listing.text.as_slice(), start)?;
-    assert_eq!(rt; found.as_slice(), bytes);
-    Ok(())
+fn gives(rt: &impl Abort, listing: &Listing, start: u16, bytes: &[u8]) {
+    let found = assemble(listing.alloc, listing.text.as_slice(), start).expect(rt, "assemble");
+    assert_equal(rt, &found.as_slice(), &bytes);
 }
 
 fn one<'a>(mnemonic: Mnemonic, mode: Mode, operand: Expr<'a>) -> Statement<'a>
@@ -104,7 +109,7 @@ fn columns_at(mnemonic: u8, argument: u8, label_break: u8) -> Result<Columns, Li
 }
 
 #[test]
-fn branch_to_itself(rt: HostRuntime) -> Result<(), Fail> {
+fn branch_to_itself(rt: HostRuntime) {
     let columns = Columns::default();
     let mut listing = empty(rt.alloc(), &columns, false);
     shows(
@@ -114,12 +119,12 @@ fn branch_to_itself(rt: HostRuntime) -> Result<(), Fail> {
         &one(Mnemonic::Bne, Mode::Rel, Expr::Name(b"L1000", 0)),
         "L1000:  bne     L1000",
         "L1000: bne L1000+0",
-    )?;
+    );
     gives(&rt, &listing, 0x1000, b"\xD0\xFE")
 }
 
 #[test]
-fn jump_into_instruction(rt: HostRuntime) -> Result<(), Fail> {
+fn jump_into_instruction(rt: HostRuntime) {
     let columns = Columns::default();
     for hexoffs in [false, true] {
         let mut listing = empty(rt.alloc(), &columns, hexoffs);
@@ -134,7 +139,7 @@ fn jump_into_instruction(rt: HostRuntime) -> Result<(), Fail> {
                 "L1001           := * + 1"
             },
             "L1001 := * + 1",
-        )?;
+        );
         shows(
             &rt,
             &mut listing,
@@ -142,14 +147,13 @@ fn jump_into_instruction(rt: HostRuntime) -> Result<(), Fail> {
             &one(Mnemonic::Jmp, Mode::Abs, Expr::Name(b"L1001", 0)),
             "        jmp     L1001",
             "jmp L1001+0",
-        )?;
-        gives(&rt, &listing, 0x1000, b"\x4C\x01\x10")?;
+        );
+        gives(&rt, &listing, 0x1000, b"\x4C\x01\x10");
     }
-    Ok(())
 }
 
 #[test]
-fn return_table(rt: HostRuntime) -> Result<(), Fail> {
+fn return_table(rt: HostRuntime) {
     let columns = Columns::default();
     let mut listing = empty(rt.alloc(), &columns, false);
     shows(
@@ -159,7 +163,7 @@ fn return_table(rt: HostRuntime) -> Result<(), Fail> {
         &Statement::Rts(None),
         "L1000:  .word   $FFFF",
         "L1000: word 65535",
-    )?;
+    );
     shows(
         &rt,
         &mut listing,
@@ -170,12 +174,12 @@ fn return_table(rt: HostRuntime) -> Result<(), Fail> {
         })),
         "        .word   L1000-1",
         "word L1000+0-1",
-    )?;
+    );
     gives(&rt, &listing, 0x1000, b"\xFF\xFF\xFF\x0F")
 }
 
 #[test]
-fn target_inside_a_word(rt: HostRuntime) -> Result<(), Fail> {
+fn target_inside_a_word(rt: HostRuntime) {
     let columns = Columns::default();
     for hexoffs in [false, true] {
         let mut listing = empty(rt.alloc(), &columns, hexoffs);
@@ -190,7 +194,7 @@ fn target_inside_a_word(rt: HostRuntime) -> Result<(), Fail> {
                 "        lda     L2002+1"
             },
             "lda L2002+1",
-        )?;
+        );
         shows(
             &rt,
             &mut listing,
@@ -198,14 +202,13 @@ fn target_inside_a_word(rt: HostRuntime) -> Result<(), Fail> {
             &Statement::Words(b"\x34\x12"),
             "L2002:  .word   $1234",
             "L2002: word 4660",
-        )?;
-        gives(&rt, &listing, 0x1FFF, b"\xAD\x03\x20\x34\x12")?;
+        );
+        gives(&rt, &listing, 0x1FFF, b"\xAD\x03\x20\x34\x12");
     }
-    Ok(())
 }
 
 #[test]
-fn long_labels(rt: HostRuntime) -> Result<(), Fail> {
+fn long_labels(rt: HostRuntime) {
     let columns = Columns::default();
     let mut listing = empty(rt.alloc(), &columns, false);
     let load = one(Mnemonic::Lda, Mode::Imm, Expr::Number(1));
@@ -216,7 +219,7 @@ fn long_labels(rt: HostRuntime) -> Result<(), Fail> {
         &Statement::Label(b"longname"),
         "longname:",
         "longname: ",
-    )?;
+    );
     shows(
         &rt,
         &mut listing,
@@ -224,7 +227,7 @@ fn long_labels(rt: HostRuntime) -> Result<(), Fail> {
         &load,
         "        lda     #$01",
         "lda #1",
-    )?;
+    );
     shows(
         &rt,
         &mut listing,
@@ -232,12 +235,12 @@ fn long_labels(rt: HostRuntime) -> Result<(), Fail> {
         &load,
         "chrout7: lda    #$01",
         "chrout7: lda #1",
-    )?;
+    );
     gives(&rt, &listing, 0x1000, b"\xA9\x01\xA9\x01")
 }
 
 #[test]
-fn segment_entered_again(rt: HostRuntime) -> Result<(), Fail> {
+fn segment_entered_again(rt: HostRuntime) {
     let columns = Columns::default();
     let mut listing = empty(rt.alloc(), &columns, false);
     shows(
@@ -247,7 +250,7 @@ fn segment_entered_again(rt: HostRuntime) -> Result<(), Fail> {
         &Statement::Segment(b"DATA"),
         "        .segment \"DATA\"",
         "segment DATA",
-    )?;
+    );
     shows(
         &rt,
         &mut listing,
@@ -255,7 +258,7 @@ fn segment_entered_again(rt: HostRuntime) -> Result<(), Fail> {
         &Statement::Bytes(b"\xEA"),
         "L1000:  .byte   $EA",
         "L1000: byte 234",
-    )?;
+    );
     shows(
         &rt,
         &mut listing,
@@ -263,7 +266,7 @@ fn segment_entered_again(rt: HostRuntime) -> Result<(), Fail> {
         &Statement::Code,
         "        .code",
         "code",
-    )?;
+    );
     shows(
         &rt,
         &mut listing,
@@ -271,60 +274,59 @@ fn segment_entered_again(rt: HostRuntime) -> Result<(), Fail> {
         &Statement::Bytes(b"\xEA"),
         "        .byte   $EA",
         "byte 234",
-    )?;
+    );
     gives(&rt, &listing, 0x1000, b"\xEA\xEA")
 }
 
 /// Reserved names, and one of 80 bytes, at the first and at the last column.
 #[test]
-fn names_of_segments(rt: HostRuntime) -> Result<(), Fail> {
+fn names_of_segments(rt: HostRuntime) {
     let a = rt.alloc();
     let long = longest();
-    let name = str::from_utf8(long)?;
+    let name = str::from_utf8(long).expect(&rt, "from_utf8");
     for (column, blanks) in [(1, 0), (120, 119)] {
-        let columns = columns_at(column, column, 7)?;
+        let columns = columns_at(column, column, 7).expect(&rt, "columns_at");
         let mut listing = empty(a, &columns, false);
         shows(
             &rt,
             &mut listing,
             None,
             &Statement::Segment(b"X"),
-            spaced(a, "", blanks, ".segment \"X\"")?.as_str(),
+            spaced(&rt, a, "", blanks, ".segment \"X\"").as_str(),
             "segment X",
-        )?;
+        );
         shows(
             &rt,
             &mut listing,
             None,
             &Statement::Segment(b"lda"),
-            spaced(a, "", blanks, ".segment \"lda\"")?.as_str(),
+            spaced(&rt, a, "", blanks, ".segment \"lda\"").as_str(),
             "segment lda",
-        )?;
-        let line = spaced(a, "", blanks, ".segment \"")?;
-        let line = spaced(a, line.as_str(), 0, name)?;
+        );
+        let line = spaced(&rt, a, "", blanks, ".segment \"");
+        let line = spaced(&rt, a, line.as_str(), 0, name);
         shows(
             &rt,
             &mut listing,
             None,
             &Statement::Segment(long),
-            spaced(a, line.as_str(), 0, "\"")?.as_str(),
-            spaced(a, "segment", 1, name)?.as_str(),
-        )?;
+            spaced(&rt, a, line.as_str(), 0, "\"").as_str(),
+            spaced(&rt, a, "segment", 1, name).as_str(),
+        );
         shows(
             &rt,
             &mut listing,
             None,
             &Statement::Code,
-            spaced(a, "", blanks, ".code")?.as_str(),
+            spaced(&rt, a, "", blanks, ".code").as_str(),
             "code",
-        )?;
-        gives(&rt, &listing, 0x1000, b"")?;
+        );
+        gives(&rt, &listing, 0x1000, b"");
     }
-    Ok(())
 }
 
 #[test]
-fn sized_name_across_the_zero_page(rt: HostRuntime) -> Result<(), Fail> {
+fn sized_name_across_the_zero_page(rt: HostRuntime) {
     let columns = Columns::default();
     let mut listing = empty(rt.alloc(), &columns, false);
     shows(
@@ -334,7 +336,7 @@ fn sized_name_across_the_zero_page(rt: HostRuntime) -> Result<(), Fail> {
         &Statement::Const(b"buf", 0xFE),
         "buf             := $00FE",
         "buf := 254",
-    )?;
+    );
     shows(
         &rt,
         &mut listing,
@@ -342,7 +344,7 @@ fn sized_name_across_the_zero_page(rt: HostRuntime) -> Result<(), Fail> {
         &one(Mnemonic::Lda, Mode::Zp, Expr::Name(b"buf", 1)),
         "        lda     buf+1",
         "lda buf+1",
-    )?;
+    );
     shows(
         &rt,
         &mut listing,
@@ -350,12 +352,12 @@ fn sized_name_across_the_zero_page(rt: HostRuntime) -> Result<(), Fail> {
         &one(Mnemonic::Lda, Mode::Abs, Expr::Name(b"buf", 2)),
         "        lda     buf+2",
         "lda buf+2",
-    )?;
+    );
     gives(&rt, &listing, 0x1000, b"\xA5\xFF\xAD\x00\x01")
 }
 
 #[test]
-fn address_and_return_entries(rt: HostRuntime) -> Result<(), Fail> {
+fn address_and_return_entries(rt: HostRuntime) {
     let columns = Columns::default();
     let mut listing = empty(rt.alloc(), &columns, true);
     shows(
@@ -365,7 +367,7 @@ fn address_and_return_entries(rt: HostRuntime) -> Result<(), Fail> {
         &Statement::Const(b"io", 0xD0FE),
         "io              := $D0FE",
         "io := 53502",
-    )?;
+    );
     shows(
         &rt,
         &mut listing,
@@ -376,7 +378,7 @@ fn address_and_return_entries(rt: HostRuntime) -> Result<(), Fail> {
         }),
         "        .addr   io",
         "addr io+0",
-    )?;
+    );
     shows(
         &rt,
         &mut listing,
@@ -387,7 +389,7 @@ fn address_and_return_entries(rt: HostRuntime) -> Result<(), Fail> {
         }),
         "table:  .addr   io+$FF",
         "table: addr io+255",
-    )?;
+    );
     shows(
         &rt,
         &mut listing,
@@ -398,79 +400,78 @@ fn address_and_return_entries(rt: HostRuntime) -> Result<(), Fail> {
         })),
         "        .word   io+$0100-1",
         "word io+256-1",
-    )?;
+    );
     gives(&rt, &listing, 0x1000, b"\xFE\xD0\xFD\xD1\xFD\xD1")
 }
 
 /// Two texts with blanks between them.
-fn spaced(alloc: Global, first: &str, blanks: usize, last: &str) -> Result<String, Fail> {
+fn spaced(rt: &impl Abort, alloc: Global, first: &str, blanks: usize, last: &str) -> String {
     let mut out = String::new(alloc);
-    out.push_str(first)?;
+    out.push_str(first).expect(rt, "push_str");
     for _ in 0..blanks {
-        out.push_str(" ")?;
+        out.push_str(" ").expect(rt, "push_str");
     }
-    out.push_str(last)?;
-    Ok(out)
+    out.push_str(last).expect(rt, "push_str");
+    out
 }
 
 /// Names of 1 and of 80 bytes at argument columns 1, 9 and 120.
 #[test]
-fn definitions_at_columns(rt: HostRuntime) -> Result<(), Fail> {
+fn definitions_at_columns(rt: HostRuntime) {
     let a = rt.alloc();
     let long = longest();
-    let name = str::from_utf8(long)?;
+    let name = str::from_utf8(long).expect(&rt, "from_utf8");
     for (column, short_blanks, long_blanks) in [(1, 1, 1), (9, 7, 1), (120, 118, 39)] {
-        let columns = columns_at(9, column, 7)?;
+        let columns = columns_at(9, column, 7).expect(&rt, "columns_at");
         let mut listing = empty(a, &columns, true);
         shows(
             &rt,
             &mut listing,
             None,
             &Statement::Const(b"v", 0x1234),
-            spaced(a, "v", short_blanks, ":= $1234")?.as_str(),
+            spaced(&rt, a, "v", short_blanks, ":= $1234").as_str(),
             "v := 4660",
-        )?;
+        );
         shows(
             &rt,
             &mut listing,
             None,
             &Statement::Forward(b"w", 0xFF),
-            spaced(a, "w", short_blanks, ":= * + $00FF")?.as_str(),
+            spaced(&rt, a, "w", short_blanks, ":= * + $00FF").as_str(),
             "w := * + 255",
-        )?;
+        );
         shows(
             &rt,
             &mut listing,
             None,
             &Statement::Const(long, 0xFFFF),
-            spaced(a, name, long_blanks, ":= $FFFF")?.as_str(),
-            spaced(a, name, 1, ":= 65535")?.as_str(),
-        )?;
-        gives(&rt, &listing, 0, b"")?;
+            spaced(&rt, a, name, long_blanks, ":= $FFFF").as_str(),
+            spaced(&rt, a, name, 1, ":= 65535").as_str(),
+        );
+        gives(&rt, &listing, 0, b"");
     }
-    Ok(())
 }
 
 /// Labels and entries of 1 and of 80 bytes at mnemonic column 120.
 #[test]
-fn labels_at_the_last_column(rt: HostRuntime) -> Result<(), Fail> {
+fn labels_at_the_last_column(rt: HostRuntime) {
     let a = rt.alloc();
     let long = longest();
-    let name = str::from_utf8(long)?;
-    let columns = columns_at(120, 120, 80)?;
+    let name = str::from_utf8(long).expect(&rt, "from_utf8");
+    let columns = columns_at(120, 120, 80).expect(&rt, "columns_at");
     let mut listing = empty(a, &columns, false);
     shows(
         &rt,
         &mut listing,
         Some(b"n"),
         &Statement::Bytes(b"\xEA"),
-        spaced(a, "n:", 117, ".byte $EA")?.as_str(),
+        spaced(&rt, a, "n:", 117, ".byte $EA").as_str(),
         "n: byte 234",
-    )?;
-    let entry = spaced(a, ".addr ", 0, name)?;
-    let before = spaced(a, name, 0, ":")?;
-    let read = spaced(a, name, 0, ": addr ")?;
-    let read = spaced(a, read.as_str(), 0, name)?;
+    );
+    let entry = spaced(&rt, a, ".addr ", 0, name);
+    let before = spaced(&rt, a, name, 0, ":");
+    let read = spaced(&rt, a, name, 0, ": addr ");
+    let read = spaced(&rt, a, read.as_str(), 0, name);
     shows(
         &rt,
         &mut listing,
@@ -480,33 +481,34 @@ fn labels_at_the_last_column(rt: HostRuntime) -> Result<(), Fail> {
             offset: 0xFFF0,
         }),
         spaced(
+            &rt,
             a,
-            spaced(a, before.as_str(), 38, entry.as_str())?.as_str(),
+            spaced(&rt, a, before.as_str(), 38, entry.as_str()).as_str(),
             0,
             "+65520",
-        )?
+        )
         .as_str(),
-        spaced(a, read.as_str(), 0, "+65520")?.as_str(),
-    )?;
+        spaced(&rt, a, read.as_str(), 0, "+65520").as_str(),
+    );
     gives(&rt, &listing, 0, b"\xEA\xF1\xFF")
 }
 
 /// Labels alone, and entries, of 1 and of 80 bytes at the first column.
 #[test]
-fn entries_at_the_first_column(rt: HostRuntime) -> Result<(), Fail> {
+fn entries_at_the_first_column(rt: HostRuntime) {
     let a = rt.alloc();
     let long = longest();
-    let name = str::from_utf8(long)?;
-    let columns = columns_at(1, 1, 120)?;
+    let name = str::from_utf8(long).expect(&rt, "from_utf8");
+    let columns = columns_at(1, 1, 120).expect(&rt, "columns_at");
     let mut listing = empty(a, &columns, false);
     shows(
         &rt,
         &mut listing,
         None,
         &Statement::Label(long),
-        spaced(a, name, 0, ":")?.as_str(),
-        spaced(a, name, 0, ": ")?.as_str(),
-    )?;
+        spaced(&rt, a, name, 0, ":").as_str(),
+        spaced(&rt, a, name, 0, ": ").as_str(),
+    );
     shows(
         &rt,
         &mut listing,
@@ -514,7 +516,7 @@ fn entries_at_the_first_column(rt: HostRuntime) -> Result<(), Fail> {
         &Statement::Label(b"n"),
         "n:",
         "n: ",
-    )?;
+    );
     shows(
         &rt,
         &mut listing,
@@ -525,7 +527,7 @@ fn entries_at_the_first_column(rt: HostRuntime) -> Result<(), Fail> {
         })),
         ".word n+2-1",
         "word n+2-1",
-    )?;
+    );
     shows(
         &rt,
         &mut listing,
@@ -534,8 +536,8 @@ fn entries_at_the_first_column(rt: HostRuntime) -> Result<(), Fail> {
             name: long,
             offset: 0,
         })),
-        spaced(a, ".word", 1, spaced(a, name, 0, "-1")?.as_str())?.as_str(),
-        spaced(a, "word", 1, spaced(a, name, 0, "+0-1")?.as_str())?.as_str(),
-    )?;
+        spaced(&rt, a, ".word", 1, spaced(&rt, a, name, 0, "-1").as_str()).as_str(),
+        spaced(&rt, a, "word", 1, spaced(&rt, a, name, 0, "+0-1").as_str()).as_str(),
+    );
     gives(&rt, &listing, 0x1000, b"\x01\x10\xFF\x0F")
 }

@@ -2,9 +2,9 @@ ghost use Rattle.std.specs.Prelude.{◌≤◌, length};
 ghost use Rattle.stmt65.specs.Printable.{IsPrintable};
 ghost use Rattle.stmt65.specs.Views.{statement_seen};
 
+use crate::tests::asserts::assert_equal;
 use std::alloc::Global;
 use std::process::Abort;
-use std::test::Fail;
 use stmt65::{Column, Columns, Level, Line, Remarks, Statement, assemble, put_line};
 
 /// The line of the statement, and the bytes that it assembles to.
@@ -15,7 +15,7 @@ fn shows(
     statement: &Statement,
     want: &[u8],
     bytes: &[u8],
-) -> Result<(), Fail>
+)
     requires printable { IsPrintable (statement_seen statement.now) }
     requires few { length bytes.now ≤ 16 }
 {
@@ -28,10 +28,9 @@ fn shows(
     };
     let mut line = Line::new();
     put_line(&mut line, columns, statement, &remarks);
-    assert_eq!(rt; line.as_slice(), want);
-    let found = assemble(alloc, line.as_slice(), 0x1000)?;
-    assert_eq!(rt; found.as_slice(), bytes);
-    Ok(())
+    assert_equal(rt, &line.as_slice(), &want);
+    let found = assemble(alloc, line.as_slice(), 0x1000).expect(rt, "assemble");
+    assert_equal(rt, &found.as_slice(), &bytes);
 }
 
 fn spaced(before: usize, operation: &str, between: usize, operands: &str) -> Line {
@@ -56,29 +55,29 @@ fn shows_everywhere(
     operation: &str,
     operands: &str,
     bytes: &[u8],
-) -> Result<(), Fail>
+)
     requires printable { IsPrintable (statement_seen statement.now) }
     requires few { length bytes.now ≤ 16 }
 {
-    let first = Column::try_from(1)?;
-    let last = Column::try_from(120)?;
+    let first = Column::try_from(1).expect(rt, "try_from");
+    let last = Column::try_from(120).expect(rt, "try_from");
     let mut columns = Columns::default();
     let want = spaced(8, operation, 3, operands);
-    shows(rt, alloc, &columns, statement, want.as_slice(), bytes)?;
+    shows(rt, alloc, &columns, statement, want.as_slice(), bytes);
     columns.mnemonic = first;
     columns.argument = first;
     let want = spaced(0, operation, 1, operands);
-    shows(rt, alloc, &columns, statement, want.as_slice(), bytes)?;
+    shows(rt, alloc, &columns, statement, want.as_slice(), bytes);
     columns.argument = last;
     let want = spaced(0, operation, 114, operands);
-    shows(rt, alloc, &columns, statement, want.as_slice(), bytes)?;
+    shows(rt, alloc, &columns, statement, want.as_slice(), bytes);
     columns.mnemonic = last;
     let want = spaced(119, operation, 1, operands);
     shows(rt, alloc, &columns, statement, want.as_slice(), bytes)
 }
 
 #[test]
-fn text(rt: HostRuntime) -> Result<(), Fail> {
+fn text(rt: HostRuntime) {
     let a = rt.alloc();
     shows_everywhere(
         &rt,
@@ -87,7 +86,7 @@ fn text(rt: HostRuntime) -> Result<(), Fail> {
         ".byte",
         r#""H",$22,$5C,"I",$0D"#,
         b"\x48\x22\x5C\x49\x0D",
-    )?;
+    );
     shows_everywhere(
         &rt,
         a,
@@ -95,7 +94,7 @@ fn text(rt: HostRuntime) -> Result<(), Fail> {
         ".byte",
         r#""0123456789ABCDEF""#,
         b"0123456789ABCDEF",
-    )?;
+    );
     shows_everywhere(
         &rt,
         a,
@@ -103,7 +102,7 @@ fn text(rt: HostRuntime) -> Result<(), Fail> {
         ".byte",
         "$22,$22,$22,$22,$22,$22,$22,$22,$22,$22,$22,$22,$22,$22,$22,$22",
         br#""""""""""""""""""#,
-    )?;
+    );
     shows_everywhere(
         &rt,
         a,
@@ -111,7 +110,7 @@ fn text(rt: HostRuntime) -> Result<(), Fail> {
         ".byte",
         r#""a;b""#,
         b"a;b",
-    )?;
+    );
     shows_everywhere(
         &rt,
         a,
@@ -123,7 +122,7 @@ fn text(rt: HostRuntime) -> Result<(), Fail> {
 }
 
 #[test]
-fn text_at_its_edges(rt: HostRuntime) -> Result<(), Fail> {
+fn text_at_its_edges(rt: HostRuntime) {
     let a = rt.alloc();
     shows_everywhere(
         &rt,
@@ -132,8 +131,8 @@ fn text_at_its_edges(rt: HostRuntime) -> Result<(), Fail> {
         ".byte",
         r#"$1F," ~",$7F"#,
         b"\x1F\x20\x7E\x7F",
-    )?;
-    shows_everywhere(&rt, a, &Statement::Text(b"\n"), ".byte", "$0A", b"\n")?;
+    );
+    shows_everywhere(&rt, a, &Statement::Text(b"\n"), ".byte", "$0A", b"\n");
     shows_everywhere(
         &rt,
         a,
@@ -145,7 +144,7 @@ fn text_at_its_edges(rt: HostRuntime) -> Result<(), Fail> {
 }
 
 #[test]
-fn words(rt: HostRuntime) -> Result<(), Fail> {
+fn words(rt: HostRuntime) {
     let a = rt.alloc();
     shows_everywhere(
         &rt,
@@ -154,7 +153,7 @@ fn words(rt: HostRuntime) -> Result<(), Fail> {
         ".word",
         "$0201",
         b"\x01\x02",
-    )?;
+    );
     shows_everywhere(
         &rt,
         a,
@@ -162,7 +161,7 @@ fn words(rt: HostRuntime) -> Result<(), Fail> {
         ".word",
         "$1234,$0001,$FFFF,$C000",
         b"\x34\x12\x01\x00\xFF\xFF\x00\xC0",
-    )?;
+    );
     shows_everywhere(
         &rt,
         a,
@@ -170,7 +169,7 @@ fn words(rt: HostRuntime) -> Result<(), Fail> {
         ".dbyt",
         "$0102",
         b"\x01\x02",
-    )?;
+    );
     shows_everywhere(
         &rt,
         a,

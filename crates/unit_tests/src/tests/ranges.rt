@@ -1,9 +1,9 @@
 // Groups RANGE that are accepted and refused.
-use crate::tests::files::are_refused;
-use info65::{Info, InfoFault, InfoFaultKind, Options, RangeSpec, RangeType, read_info};
+use crate::tests::asserts::assert_equal_at;
+use crate::tests::inputs::{are_refused, info_without_options};
+use info65::{Info, InfoFault, InfoFaultKind, RangeSpec, RangeType};
 use std::alloc::Global;
 use std::process::Abort;
-use std::test::Fail;
 
 /// Files that are refused, each with the line and the kind.
 const REFUSED: &[(&str, u32, InfoFaultKind)] = &[
@@ -131,7 +131,7 @@ const REFUSED: &[(&str, u32, InfoFaultKind)] = &[
 
 #[test]
 fn refused_ranges(rt: HostRuntime) {
-    are_refused(&rt, rt.alloc(), &Options::<Global>::none(), REFUSED);
+    are_refused(&rt, rt.alloc(), REFUSED);
 }
 
 fn range(first: u16, last: u16, role: RangeType) -> RangeSpec {
@@ -144,13 +144,13 @@ fn says(
     text: &str,
     expected: &[RangeSpec],
 ) -> Result<(), InfoFault> {
-    let info: Info = read_info(alloc, &Options::<Global>::none(), text.as_bytes())?;
-    assert_eq!(rt; info.ranges(), expected, "{text}");
+    let info: Info = info_without_options(alloc, text.as_bytes())?;
+    assert_equal_at(rt, &info.ranges(), &expected, &text);
     Ok(())
 }
 
 #[test]
-fn ranges_in_the_order_of_their_groups(rt: HostRuntime) -> Result<(), Fail> {
+fn ranges_in_the_order_of_their_groups(rt: HostRuntime) {
     let text = "RANGE { START $2000; END $20FF; TYPE CODE; };
         GLOBAL { STARTADDR $1000; };
         RANGE { TYPE WordTable; SIZE 16; START $1000; };
@@ -160,13 +160,12 @@ fn ranges_in_the_order_of_their_groups(rt: HostRuntime) -> Result<(), Fail> {
         range(0x1000, 0x100F, RangeType::WordTable),
         range(0xFFFF, 0xFFFF, RangeType::TextTable),
     ];
-    says(&rt, rt.alloc(), text, &expected)?;
-    says(&rt, rt.alloc(), "", &[])?;
-    Ok(())
+    says(&rt, rt.alloc(), text, &expected).expect(&rt, "says");
+    says(&rt, rt.alloc(), "", &[]).expect(&rt, "says");
 }
 
 #[test]
-fn type_words(rt: HostRuntime) -> Result<(), Fail> {
+fn type_words(rt: HostRuntime) {
     let text = "RANGE { START 0; SIZE 1; TYPE code; };
         RANGE { START 1; SIZE 1; TYPE bytetable; };
         RANGE { START 2; SIZE 1; TYPE wordtable; };
@@ -191,35 +190,36 @@ fn type_words(rt: HostRuntime) -> Result<(), Fail> {
         range(9, 9, RangeType::AddrTable),
         range(10, 10, RangeType::RtsTable),
     ];
-    says(&rt, rt.alloc(), text, &expected)?;
-    Ok(())
+    says(&rt, rt.alloc(), text, &expected).expect(&rt, "says");
 }
 
 #[test]
-fn ranges_at_the_limits(rt: HostRuntime) -> Result<(), Fail> {
+fn ranges_at_the_limits(rt: HostRuntime) {
     let whole = [range(0, 0xFFFF, RangeType::Skip)];
     says(
         &rt,
         rt.alloc(),
         "RANGE { START 0; SIZE $10000; TYPE SKIP; };",
         &whole,
-    )?;
+    )
+    .expect(&rt, "says");
     says(
         &rt,
         rt.alloc(),
         "RANGE { START 0; END $FFFF; TYPE SKIP; };",
         &whole,
-    )?;
+    )
+    .expect(&rt, "says");
     let last = [range(0xFFFF, 0xFFFF, RangeType::Code)];
     says(
         &rt,
         rt.alloc(),
         "RANGE { START $FFFF; SIZE 1; TYPE CODE; };",
         &last,
-    )?;
+    )
+    .expect(&rt, "says");
     // neighbours of one type stay two ranges
     let text = "RANGE { START 6; END 9; TYPE CODE; } RANGE { START 4; SIZE 2; TYPE CODE; }";
     let neighbours = [range(6, 9, RangeType::Code), range(4, 5, RangeType::Code)];
-    says(&rt, rt.alloc(), text, &neighbours)?;
-    Ok(())
+    says(&rt, rt.alloc(), text, &neighbours).expect(&rt, "says");
 }

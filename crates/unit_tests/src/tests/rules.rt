@@ -1,12 +1,13 @@
 //! All addresses of random images, against the rules read address by address.
 
+use crate::tests::asserts::assert_that_at;
+use crate::tests::inputs::{image_of, info_of};
 use RangeType::{AddrTable, ByteTable, Code, DbyteTable, RtsTable, Skip, TextTable, WordTable};
-use info65::{Info, Options, RangeType, read_info};
+use info65::RangeType;
 use isa65::{Cpu, Mnemonic, Mode, Op, OpcodeSet};
-use map65::{Image, Map, NameBuf, NameKind, Place};
+use map65::{Map, NameBuf, NameKind, Place};
 use std::alloc::{AllocError, Global};
 use std::process::Abort;
-use std::test::Fail;
 
 /// The type of each number below 8.
 fn type_of(number: usize) -> RangeType {
@@ -535,67 +536,51 @@ fn names_agree(
 }
 
 /// The map says of each address what the rules say.
-fn assert_all(
-    rt: &impl Abort,
-    alloc: Global,
-    map: &Map<'_>,
-    rules: &Rules<'_>,
-    text: &str,
-) -> Result<(), AllocError> {
+fn assert_all(rt: &impl Abort, alloc: Global, map: &Map<'_>, rules: &Rules<'_>, text: &str) {
     let mut buffer = NameBuf::new();
     for address in 0..=u16::MAX {
-        let is_named = names_agree(alloc, map, rules, &mut buffer, address)?;
-        assert!(rt; is_named, "name: {text} {address:04x}");
-        assert!(rt; agrees(map, rules, address), "item: {text} {address:04x}");
+        let is_named = names_agree(alloc, map, rules, &mut buffer, address).expect(
+            rt,
+            "names_agree",
+        );
+        assert_that_at(rt, is_named, &format_args!("name: {text} {address:04x}"));
+        assert_that_at(
+            rt,
+            agrees(map, rules, address),
+            &format_args!("item: {text} {address:04x}"),
+        );
     }
-    Ok(())
-}
-
-fn image_of(alloc: Global, ground: &Ground) -> Result<Image, Fail> {
-    let bytes = Vec::from_slice(alloc, ground.bytes.as_slice())?;
-    let start = (ground.start % 65_536) as u16;
-    Ok(Image::from_bytes(Some(start), None, bytes)?)
-}
-
-fn info_of(alloc: Global, text: &str) -> Result<Info, Fail> {
-    Ok(read_info(alloc, &Options::<Global>::none(), text.as_bytes())?)
 }
 
 /// The same of the map of this image.
-fn assert_map(rt: &impl Abort, alloc: Global, ground: &Ground) -> Result<(), Fail> {
-    let text = text_of(alloc, ground)?;
-    let info = info_of(alloc, text.as_str())?;
-    let image = image_of(alloc, ground)?;
-    let map = Map::build(alloc, &info, &image)?;
-    let lens = ground.items(alloc)?;
-    let wanted = ground.wanted(alloc, lens.as_slice())?;
+fn assert_map(rt: &impl Abort, alloc: Global, ground: &Ground) {
+    let text = text_of(alloc, ground).expect(rt, "text_of");
+    let info = info_of(rt, alloc, text.as_bytes());
+    let start = (ground.start % 65_536) as u16;
+    let image = image_of(rt, alloc, start, &ground.bytes);
+    let map = Map::build(alloc, &info, &image).expect(rt, "build");
+    let lens = ground.items(alloc).expect(rt, "items");
+    let wanted = ground.wanted(alloc, lens.as_slice()).expect(rt, "wanted");
     let rules = Rules {
         ground,
         lens: lens.as_slice(),
         wanted: wanted.as_slice(),
     };
-    assert_all(rt, alloc, &map, &rules, text.as_str())?;
-    Ok(())
+    assert_all(rt, alloc, &map, &rules, text.as_str());
 }
 
 /// The same of a random image of each of these sizes.
-fn assert_counts(
-    rt: &impl Abort,
-    alloc: Global,
-    numbers: &mut Numbers,
-    counts: &[usize],
-) -> Result<(), Fail> {
+fn assert_counts(rt: &impl Abort, alloc: Global, numbers: &mut Numbers, counts: &[usize]) {
     for count in counts {
         for cpu in [Cpu::M6502, Cpu::M65SC02, Cpu::M65C02] {
-            let ground = random_ground(alloc, numbers, cpu, *count)?;
-            assert_map(rt, alloc, &ground)?;
+            let ground = random_ground(alloc, numbers, cpu, *count).expect(rt, "random_ground");
+            assert_map(rt, alloc, &ground);
         }
     }
-    Ok(())
 }
 
 #[test]
-fn random_images(rt: HostRuntime) -> Result<(), Fail> {
+fn random_images(rt: HostRuntime) {
     let mut numbers = Numbers { state: 65 };
     let counts = [1, 2, 40, 200, 300, 4096, 65_536];
     assert_counts(&rt, rt.alloc(), &mut numbers, counts.as_slice())

@@ -1,9 +1,8 @@
 // Groups SEGMENT that are accepted and refused.
-use crate::tests::files::are_refused;
-use info65::{Info, InfoFaultKind, Options, read_info};
+use crate::tests::asserts::{assert_equal, assert_equal_at, assert_that};
+use crate::tests::inputs::{are_refused, info_of};
+use info65::{Info, InfoFaultKind};
 use std::alloc::{AllocError, Global};
-use std::process::Abort;
-use std::test::Fail;
 
 /// Files that are refused, each with the line and the kind.
 const REFUSED: &[(&str, u32, InfoFaultKind)] = &[
@@ -69,28 +68,28 @@ const REFUSED: &[(&str, u32, InfoFaultKind)] = &[
 
 #[test]
 fn refused_segments(rt: HostRuntime) {
-    are_refused(&rt, rt.alloc(), &Options::<Global>::none(), REFUSED);
+    are_refused(&rt, rt.alloc(), REFUSED);
 }
 
 #[test]
-fn segments_in_the_order_of_their_groups(rt: HostRuntime) -> Result<(), Fail> {
+fn segments_in_the_order_of_their_groups(rt: HostRuntime) {
     // reserved names are accepted, and a name may stand twice
     let text = b"SEGMENT { START $FFFF; END $FFFF; NAME \"lda\"; };
         segment { name \"P_1\"; end 2; start 1; }
         LABEL { ADDR 1; NAME \"P_1\"; };
         RANGE { START 1; END 1; TYPE CODE; };
         SEGMENT { START 0; END 0; NAME \"lda\"; };";
-    let info: Info = read_info(rt.alloc(), &Options::<Global>::none(), text)?;
+    let info: Info = info_of(&rt, rt.alloc(), text);
     let expected: [(u16, u16, &[u8]); 3] = [
         (0xFFFF, 0xFFFF, b"lda"),
         (1, 2, b"P_1"),
         (0, 0, b"lda"),
     ];
-    assert_eq!(rt; info.segments().len(), expected.len());
+    assert_equal(&rt, &info.segments().len(), &expected.len());
     for (segment, (first, last, name)) in info.segments().iter().zip(&expected) {
-        assert_eq!(rt; segment.first, *first);
-        assert_eq!(rt; segment.last, *last);
-        assert_eq!(rt; segment.name.as_slice(), *name);
+        assert_equal(&rt, &segment.first, &*first);
+        assert_equal(&rt, &segment.last, &*last);
+        assert_equal(&rt, &segment.name.as_slice(), &*name);
     }
     let found: [(u16, Option<&[u8]>); 6] = [
         (0, Some(b"lda")),
@@ -101,18 +100,16 @@ fn segments_in_the_order_of_their_groups(rt: HostRuntime) -> Result<(), Fail> {
         (0xFFFF, Some(b"lda")),
     ];
     for (address, name) in &found {
-        assert_eq!(rt; info.segment_covering(*address), *name, "{address}");
+        assert_equal_at(&rt, &info.segment_covering(*address), &*name, &address);
     }
-    Ok(())
 }
 
 #[test]
-fn no_segments(rt: HostRuntime) -> Result<(), Fail> {
-    let info: Info = read_info(rt.alloc(), &Options::<Global>::none(), b"")?;
-    assert_eq!(rt; info.segments().len(), 0);
-    assert_eq!(rt; info.segment_covering(0), None);
-    assert_eq!(rt; info.segment_covering(0xFFFF), None);
-    Ok(())
+fn no_segments(rt: HostRuntime) {
+    let info: Info = info_of(&rt, rt.alloc(), b"");
+    assert_equal(&rt, &info.segments().len(), &0);
+    assert_that(&rt, info.segment_covering(0).is_none());
+    assert_that(&rt, info.segment_covering(0xFFFF).is_none());
 }
 
 // 20,000 groups SEGMENT of one address each, the last address first.
@@ -127,16 +124,15 @@ fn segments(alloc: Global) -> Result<Vec<u8>, AllocError> {
 }
 
 #[test]
-fn twenty_thousand_segments(rt: HostRuntime) -> Result<(), Fail> {
-    let text = segments(rt.alloc())?;
-    let info: Info = read_info(rt.alloc(), &Options::<Global>::none(), text.as_slice())?;
-    assert_eq!(rt; info.segments().len(), 20_000);
+fn twenty_thousand_segments(rt: HostRuntime) {
+    let text = segments(rt.alloc()).expect(&rt, "segments");
+    let info: Info = info_of(&rt, rt.alloc(), text.as_slice());
+    assert_equal(&rt, &info.segments().len(), &20_000);
     for address in [0_u16, 1, 12_345, 19_999] {
-        let name = format!(in rt.alloc(); "s{address}")?;
-        assert_eq!(rt; info.segment_covering(address), Some(name.as_bytes()));
+        let name = format!(in rt.alloc(); "s{address}").expect(&rt, "format");
+        assert_equal(&rt, &info.segment_covering(address), &Some(name.as_bytes()));
     }
-    assert_eq!(rt; info.segment_covering(20_000), None);
-    Ok(())
+    assert_equal(&rt, &info.segment_covering(20_000), &None);
 }
 
 // 13,107 groups SEGMENT of three addresses each, with two between them, in another order than by address.
@@ -165,12 +161,14 @@ fn has_its_segment(alloc: Global, info: &Info, address: u16) -> Result<bool, All
 }
 
 #[test]
-fn the_segment_of_each_address(rt: HostRuntime) -> Result<(), Fail> {
-    let text = apart(rt.alloc())?;
-    let info: Info = read_info(rt.alloc(), &Options::<Global>::none(), text.as_slice())?;
-    assert_eq!(rt; info.segments().len(), 13_107);
+fn the_segment_of_each_address(rt: HostRuntime) {
+    let text = apart(rt.alloc()).expect(&rt, "apart");
+    let info: Info = info_of(&rt, rt.alloc(), text.as_slice());
+    assert_equal(&rt, &info.segments().len(), &13_107);
     for address in 0..=0xFFFF_u16 {
-        assert!(rt; has_its_segment(rt.alloc(), &info, address)?);
+        assert_that(
+            &rt,
+            has_its_segment(rt.alloc(), &info, address).expect(&rt, "has_its_segment"),
+        );
     }
-    Ok(())
 }

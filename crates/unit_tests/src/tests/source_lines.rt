@@ -1,5 +1,5 @@
+use crate::tests::asserts::{assert_equal, assert_that};
 use std::alloc::{AllocError, Global};
-use std::test::Fail;
 use stmt65::{AddressSize, Datum, Form, Minus, Operation, SourceLine, Value, read_line};
 
 fn text(bytes: &[u8]) -> &str {
@@ -168,7 +168,7 @@ pub fn source(alloc: Global, line: &[u8]) -> Result<String, AllocError> {
 
 /// Each form, with blanks, remarks and letter case.
 #[test]
-fn accepted_lines(rt: HostRuntime) -> Result<(), Fail> {
+fn accepted_lines(rt: HostRuntime) {
     let rows = [
         (b"".as_slice(), ""),
         (b" \t ", ""),
@@ -210,15 +210,14 @@ fn accepted_lines(rt: HostRuntime) -> Result<(), Fail> {
         (b".setcpu \"\"", "setcpu "),
     ];
     for (line, want) in rows {
-        let found = source(rt.alloc(), line)?;
-        assert_eq!(rt; found.as_str(), want);
+        let found = source(rt.alloc(), line).expect(&rt, "source");
+        assert_equal(&rt, &found.as_str(), &want);
     }
-    Ok(())
 }
 
 /// Each line says nothing that the grammar has.
 #[test]
-fn refused_lines(rt: HostRuntime) -> Result<(), Fail> {
+fn refused_lines(rt: HostRuntime) {
     let rows = [
         // The 1 that is taken off is the digit itself.
         b"lda name-$1".as_slice(),
@@ -288,37 +287,46 @@ fn refused_lines(rt: HostRuntime) -> Result<(), Fail> {
         b"\"\"",
     ];
     for line in rows {
-        let found = source(rt.alloc(), line)?;
-        assert_eq!(rt; found.as_str(), "Syntax");
+        let found = source(rt.alloc(), line).expect(&rt, "source");
+        assert_equal(&rt, &found.as_str(), &"Syntax");
     }
-    Ok(())
 }
 
 /// The first bytes of `lda #$01`, one more each time.
 #[test]
-fn prefixes_of_an_immediate(rt: HostRuntime) -> Result<(), Fail> {
+fn prefixes_of_an_immediate(rt: HostRuntime) {
     let line = b"lda #$01".as_slice();
     let rows = [
         "", "Syntax", "Syntax", "lda", "lda", "Syntax", "Syntax", "lda #0", "lda #1",
     ];
     for (n, want) in rows.iter().enumerate() {
         let (front, _) = line.split_at(n);
-        let found = source(rt.alloc(), front)?;
-        assert_eq!(rt; found.as_str(), *want);
+        let found = source(rt.alloc(), front).expect(&rt, "source");
+        assert_equal(&rt, &found.as_str(), &*want);
     }
-    Ok(())
 }
 
 /// 80 bytes are a name, 81 are none.
 #[test]
-fn longest_name(rt: HostRuntime) -> Result<(), Fail> {
-    let mut line: Vec<u8> = vec![in rt.alloc(); b'n'; 80]?;
-    line.push(b':')?;
-    assert_eq!(rt; source(rt.alloc(), line.as_slice())?.len(), 82);
-    let mut line: Vec<u8> = vec![in rt.alloc(); b'n'; 81]?;
-    line.push(b':')?;
-    assert_eq!(rt; source(rt.alloc(), line.as_slice())?.as_str(), "Syntax");
-    Ok(())
+fn longest_name(rt: HostRuntime) {
+    let mut line: Vec<u8> = vec![in rt.alloc(); b'n'; 80].expect(&rt, "vec");
+    line.push(b':').expect(&rt, "push");
+    assert_equal(
+        &rt,
+        &source(rt.alloc(), line.as_slice())
+            .expect(&rt, "source")
+            .len(),
+        &82,
+    );
+    let mut line: Vec<u8> = vec![in rt.alloc(); b'n'; 81].expect(&rt, "vec");
+    line.push(b':').expect(&rt, "push");
+    assert_equal(
+        &rt,
+        &source(rt.alloc(), line.as_slice())
+            .expect(&rt, "source")
+            .as_str(),
+        &"Syntax",
+    );
 }
 
 fn data_len(operation: &Operation) -> usize {
@@ -340,20 +348,32 @@ fn count_of_data(alloc: Global, line: &[u8]) -> Result<usize, AllocError> {
 
 /// A line of 100,000 bytes with 33,332 numbers, and one with a name of that length.
 #[test]
-fn long_lines(rt: HostRuntime) -> Result<(), Fail> {
+fn long_lines(rt: HostRuntime) {
     let a = rt.alloc();
     let mut line = Vec::new(a);
-    line.extend_from_slice(b".byte")?;
+    line.extend_from_slice(b".byte")
+        .expect(&rt, "extend_from_slice");
     for _ in 0..33331u16 {
-        line.extend_from_slice(b" 1,")?;
+        line.extend_from_slice(b" 1,")
+            .expect(&rt, "extend_from_slice");
     }
-    line.extend_from_slice(b" 1")?;
-    assert_eq!(rt; line.len(), 100_000);
-    assert_eq!(rt; count_of_data(a, line.as_slice())?, 33332);
+    line.extend_from_slice(b" 1")
+        .expect(&rt, "extend_from_slice");
+    assert_equal(&rt, &line.len(), &100_000);
+    assert_equal(
+        &rt,
+        &count_of_data(a, line.as_slice()).expect(&rt, "count_of_data"),
+        &33332,
+    );
     let mut line = Vec::new(a);
     for _ in 0..10000u16 {
-        line.extend_from_slice(b"long_names")?;
+        line.extend_from_slice(b"long_names")
+            .expect(&rt, "extend_from_slice");
     }
-    assert!(rt; read_line(a, line.as_slice())?.is_none());
-    Ok(())
+    assert_that(
+        &rt,
+        read_line(a, line.as_slice())
+            .expect(&rt, "read_line")
+            .is_none(),
+    );
 }

@@ -3,9 +3,9 @@ ghost use Rattle.isa65.specs.declared.op.Op.{Op};
 ghost use Rattle.stmt65.specs.Printable.{IsPrintable};
 ghost use Rattle.stmt65.specs.Views.{statement_seen};
 
+use crate::tests::asserts::assert_equal;
 use isa65::{Cpu, Mnemonic, Mode, Op};
 use std::process::Abort;
-use std::test::Fail;
 use stmt65::{
     Column, Columns, Expr, LabelBreak, Level, LimitError, Line, Operands, Remarks, Statement,
     put_line,
@@ -25,7 +25,7 @@ fn shows(rt: &impl Abort, columns: &Columns, hexoffs: bool, statement: &Statemen
     let mut line = Line::new();
     line.push(b'?');
     put_line(&mut line, columns, statement, &remarks);
-    assert_eq!(rt; line.as_slice(), want);
+    assert_equal(rt, &line.as_slice(), &want);
 }
 
 fn one<'a>(mnemonic: Mnemonic, mode: Mode, absolute: bool, operand: Expr<'a>) -> Statement<'a>
@@ -284,9 +284,9 @@ fn other_statements(rt: HostRuntime) {
 }
 
 #[test]
-fn columns_1_and_120(rt: HostRuntime) -> Result<(), Fail> {
-    let first = Column::try_from(1)?;
-    let last = Column::try_from(120)?;
+fn columns_1_and_120(rt: HostRuntime) {
+    let first = Column::try_from(1).expect(&rt, "try_from");
+    let last = Column::try_from(120).expect(&rt, "try_from");
     let operation = one(Mnemonic::Lda, Mode::Imm, false, Expr::Number(1));
     let mut columns = Columns::default();
     columns.mnemonic = first;
@@ -302,34 +302,40 @@ fn columns_1_and_120(rt: HostRuntime) -> Result<(), Fail> {
     shows(&rt, &columns, false, &operation, want.as_slice());
     columns.argument = first;
     shows(&rt, &columns, false, &operation, b"lda #$01\n");
-    Ok(())
 }
 
 #[test]
-fn argument_before_mnemonic(rt: HostRuntime) -> Result<(), Fail> {
+fn argument_before_mnemonic(rt: HostRuntime) {
     let operation = one(Mnemonic::Lda, Mode::Imm, false, Expr::Number(1));
     let mut columns = Columns::default();
-    columns.argument = Column::try_from(2)?;
+    columns.argument = Column::try_from(2).expect(&rt, "try_from");
     shows(&rt, &columns, false, &operation, b"        lda #$01\n");
-    columns.mnemonic = Column::try_from(5)?;
-    columns.argument = Column::try_from(8)?;
+    columns.mnemonic = Column::try_from(5).expect(&rt, "try_from");
+    columns.argument = Column::try_from(8).expect(&rt, "try_from");
     shows(&rt, &columns, false, &operation, b"    lda #$01\n");
-    columns.argument = Column::try_from(9)?;
+    columns.argument = Column::try_from(9).expect(&rt, "try_from");
     shows(&rt, &columns, false, &operation, b"    lda #$01\n");
-    columns.argument = Column::try_from(10)?;
+    columns.argument = Column::try_from(10).expect(&rt, "try_from");
     shows(&rt, &columns, false, &operation, b"    lda  #$01\n");
-    Ok(())
 }
 
 #[test]
-fn limits_of_the_types(rt: HostRuntime) -> Result<(), Fail> {
-    assert_eq!(rt; Column::try_from(0), Err(LimitError(0)));
-    assert_eq!(rt; Column::try_from(121), Err(LimitError(121)));
-    assert_eq!(rt; LabelBreak::try_from(121), Err(LimitError(121)));
-    assert_eq!(rt; Level::try_from(5), Err(LimitError(5)));
-    assert_eq!(rt; Column::try_from(120)?.get(), 120);
-    assert_eq!(rt; LabelBreak::try_from(0)?.get(), 0);
-    assert_eq!(rt; Level::try_from(4)?.get(), 4);
+fn limits_of_the_types(rt: HostRuntime) {
+    assert_equal(&rt, &Column::try_from(0), &Err(LimitError(0)));
+    assert_equal(&rt, &Column::try_from(121), &Err(LimitError(121)));
+    assert_equal(&rt, &LabelBreak::try_from(121), &Err(LimitError(121)));
+    assert_equal(&rt, &Level::try_from(5), &Err(LimitError(5)));
+    assert_equal(
+        &rt,
+        &Column::try_from(120).expect(&rt, "try_from").get(),
+        &120,
+    );
+    assert_equal(
+        &rt,
+        &LabelBreak::try_from(0).expect(&rt, "try_from").get(),
+        &0,
+    );
+    assert_equal(&rt, &Level::try_from(4).expect(&rt, "try_from").get(), &4);
     let columns = Columns::default();
     let defaults = [
         columns.mnemonic,
@@ -338,8 +344,7 @@ fn limits_of_the_types(rt: HostRuntime) -> Result<(), Fail> {
         columns.text,
     ];
     for (column, want) in defaults.iter().zip([9u8, 17, 49, 81]) {
-        assert_eq!(rt; column.get(), want);
+        assert_equal(&rt, &column.get(), &want);
     }
-    assert_eq!(rt; columns.label_break.get(), 7);
-    Ok(())
+    assert_equal(&rt, &columns.label_break.get(), &7);
 }

@@ -1,10 +1,11 @@
-use info65::{Info, Options, read_info};
+use crate::tests::asserts::{assert_equal, assert_equal_at};
+use crate::tests::inputs::info_of;
+use info65::Info;
 use map65::{DeviceFault, ImageFault, Sink, Source, Told, read_image, take_up_to};
 use std::alloc::Global;
 use std::io;
 use std::io::{ErrorKind, Read, Write};
 use std::process::Abort;
-use std::test::Fail;
 
 const KINDS: [ErrorKind; 3] = [
     ErrorKind::Interrupted,
@@ -63,75 +64,78 @@ impl Write for FailsOnce {
 }
 
 #[test]
-fn a_failed_read_is_one_call(rt: HostRuntime) -> Result<(), Fail> {
+fn a_failed_read_is_one_call(rt: HostRuntime) {
     for kind in KINDS {
         let mut reader = FailsOnce::new(kind, 1);
         let mut buf = [0u8; 4];
-        assert_eq!(rt;
-            Told::new(&mut reader).read_some(&mut buf),
-            Err(DeviceFault)
+        assert_equal(
+            &rt,
+            &Told::new(&mut reader).read_some(&mut buf),
+            &Err(DeviceFault),
         );
-        assert_eq!(rt; reader.calls, 1);
-        assert_eq!(rt; Told::new(&mut reader).read_some(&mut buf), Ok(1));
+        assert_equal(&rt, &reader.calls, &1);
+        assert_equal(&rt, &Told::new(&mut reader).read_some(&mut buf), &Ok(1));
     }
-    Ok(())
 }
 
 #[test]
-fn a_failed_write_is_one_call(rt: HostRuntime) -> Result<(), Fail> {
+fn a_failed_write_is_one_call(rt: HostRuntime) {
     for kind in KINDS {
         let mut writer = FailsOnce::new(kind, 1);
-        assert_eq!(rt; Told::new(&mut writer).write_some(b"ab"), Err(DeviceFault));
-        assert_eq!(rt; writer.calls, 1);
-        assert_eq!(rt; Told::new(&mut writer).write_some(b"ab"), Ok(1));
+        assert_equal(
+            &rt,
+            &Told::new(&mut writer).write_some(b"ab"),
+            &Err(DeviceFault),
+        );
+        assert_equal(&rt, &writer.calls, &1);
+        assert_equal(&rt, &Told::new(&mut writer).write_some(b"ab"), &Ok(1));
     }
-    Ok(())
 }
 
 /// Two bytes are passed over, and two are read.
-fn four_bytes(alloc: Global) -> Result<Info, Fail> {
+fn four_bytes(rt: &impl Abort, alloc: Global) -> Info {
     let text = b"GLOBAL { INPUTOFFS 2; INPUTSIZE 2; }";
-    Ok(read_info(alloc, &Options::<Global>::none(), text)?)
+    info_of(rt, alloc, text)
 }
 
 /// A read that fails at this call ends the reading.
 fn assert_stops(rt: &impl Abort, alloc: Global, info: &Info, kind: ErrorKind, fails_at: usize) {
     let mut reader = FailsOnce::new(kind, fails_at);
     let answer = read_image(alloc, info, &mut Told::new(&mut reader));
-    assert_eq!(rt; answer.err(), Some(ImageFault::Read), "at {fails_at}");
-    assert_eq!(rt; reader.calls, fails_at);
+    assert_equal_at(rt, &answer.err(), &Some(ImageFault::Read), &fails_at);
+    assert_equal(rt, &reader.calls, &fails_at);
 }
 
 #[test]
-fn nothing_is_read_after_a_failed_read(rt: HostRuntime) -> Result<(), Fail> {
-    let info = four_bytes(rt.alloc())?;
+fn nothing_is_read_after_a_failed_read(rt: HostRuntime) {
+    let info = four_bytes(&rt, rt.alloc());
     for kind in KINDS {
         for fails_at in 1..5 {
             assert_stops(&rt, rt.alloc(), &info, kind, fails_at);
         }
     }
-    Ok(())
 }
 
 #[test]
-fn no_call_follows_the_last_byte(rt: HostRuntime) -> Result<(), Fail> {
-    let info = four_bytes(rt.alloc())?;
+fn no_call_follows_the_last_byte(rt: HostRuntime) {
+    let info = four_bytes(&rt, rt.alloc());
     let mut reader = FailsOnce::new(ErrorKind::Other, 5);
-    let image = read_image(rt.alloc(), &info, &mut Told::new(&mut reader))?;
-    assert_eq!(rt; image.bytes(), [7, 7].as_slice());
-    assert_eq!(rt; reader.calls, 4);
-    Ok(())
+    let image = read_image(rt.alloc(), &info, &mut Told::new(&mut reader)).expect(
+        &rt,
+        "read_image",
+    );
+    assert_equal(&rt, &image.bytes(), &[7, 7].as_slice());
+    assert_equal(&rt, &reader.calls, &4);
 }
 
 #[test]
-fn nothing_is_taken_after_a_failed_read(rt: HostRuntime) -> Result<(), Fail> {
+fn nothing_is_taken_after_a_failed_read(rt: HostRuntime) {
     for kind in KINDS {
         let mut reader = FailsOnce::new(kind, 3);
         let answer = take_up_to(rt.alloc(), &mut Told::new(&mut reader), 9);
-        assert_eq!(rt; answer.err(), Some(ImageFault::Read));
-        assert_eq!(rt; reader.calls, 3);
+        assert_equal(&rt, &answer.err(), &Some(ImageFault::Read));
+        assert_equal(&rt, &reader.calls, &3);
     }
-    Ok(())
 }
 
 /// Ends after some bytes, and counts the reads at the end.
@@ -154,24 +158,25 @@ impl Read for Ends {
 }
 
 #[test]
-fn nothing_is_read_after_the_end(rt: HostRuntime) -> Result<(), Fail> {
+fn nothing_is_read_after_the_end(rt: HostRuntime) {
     let text = b"GLOBAL { INPUTOFFS 2; }";
-    let info = read_info(rt.alloc(), &Options::<Global>::none(), text)?;
+    let info = info_of(&rt, rt.alloc(), text);
     for left in 0..4 {
         let mut reader = Ends { left, ends: 0 };
         let answer = read_image(rt.alloc(), &info, &mut Told::new(&mut reader));
-        assert_eq!(rt; answer.is_ok(), 2 < left);
-        assert_eq!(rt; reader.ends, 1, "after {left}");
+        assert_equal(&rt, &answer.is_ok(), &(2 < left));
+        assert_equal_at(&rt, &reader.ends, &1, &left);
     }
-    Ok(())
 }
 
 #[test]
-fn text_of_the_fault(rt: HostRuntime) -> Result<(), Fail> {
+fn text_of_the_fault(rt: HostRuntime) {
     let fault = DeviceFault;
-    assert_eq!(rt;
-        format!(in rt.alloc(); "{fault}")?.as_str(),
-        "a read or a write failed"
+    assert_equal(
+        &rt,
+        &format!(in rt.alloc(); "{fault}")
+            .expect(&rt, "format")
+            .as_str(),
+        &"a read or a write failed",
     );
-    Ok(())
 }
