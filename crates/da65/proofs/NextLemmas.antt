@@ -426,13 +426,13 @@ group-told m k a cpu r bytes at =
     ∙ ap (λ (r : RangeType). statement_for (names_of m) (opcodes m) r (m.image.start + k) bytes) (role-same m k a cpu r bytes at)
     ∙ ap (λ (bytes : List ℕ). statement_for (names_of m) (opcodes m) (role_of m.info (m.image.start + k)) (m.image.start + k) bytes) (bytes-same m k a cpu r bytes at)
 
-pub group-here : (n m : MapView) (k a len : ℕ) (cpu : Cpu) (r : RangeType) (whole rest bytes : List ℕ)
-    → n ≡ m → cpu ≡ m.info.settings.cpu → a ≡ m.image.start + k → r ≡ role_of n.info a → len ≡ group_len m (m.image.start + k)
+pub group-here : (m : MapView) (k a len : ℕ) (cpu : Cpu) (r : RangeType) (whole rest bytes : List ℕ)
+    → cpu ≡ m.info.settings.cpu → a ≡ m.image.start + k → r ≡ role_of m.info (m.image.start + k) → len ≡ group_len m (m.image.start + k)
     → whole ≡ m.image.bytes → rest ≡ drop k whole → bytes ≡ take len rest → GroupAt m k a cpu r bytes
-group-here n m k a len cpu r whole rest bytes same is_cpu is_address is_role is_len is back front = record {
+group-here m k a len cpu r whole rest bytes is_cpu is_address is_role is_len is back front = record {
   cpu_is = sym is_cpu;
   address = is_address;
-  role_is = is_role ∙ ap (λ (n : MapView). role_of n.info a) same;
+  role_is = is_role ∙ ap (role_of m.info) (sym is_address);
   bytes_are = front ∙ ap (take len) (back ∙ ap (drop k) is) ∙ ap (λ (n : ℕ). take n (drop k m.image.bytes)) is_len;
 }
 

@@ -1,10 +1,12 @@
 //! The lines of a group: its forward lines, its label and its statement.
 
-ghost use Rattle.std.specs.Prelude.{◌≡◌, ◌+◌, ◌-◌, ◌<◌, ◌≤◌, [], ◌∷◌, ◌++◌, IfSome, MatchOption, None, Some};
+ghost use Rattle.std.specs.Prelude.{◌≡◌, ◌+◌, ◌-◌, ◌<◌, ◌≤◌, [], ◌∷◌, ◌++◌, IfSome, MatchOption, None, Some, length};
 ghost use Rattle.std.specs.Option.{option_copied};
 ghost use Rattle.std.specs.Bool.{OnTrue};
 ghost use Rattle.stmt65.specs.Printable.{IsNameLong, MayBeLabelled};
 ghost use Rattle.stmt65.specs.Views as view;
+ghost use Rattle.map65.specs.Names.{has_name};
+ghost use Rattle.map65.specs.Roles.{role_of};
 ghost use Rattle.da65.specs.BaseNames.{base_name, is_base, names_of};
 ghost use Rattle.da65.specs.Groups.{group_bytes, group_len};
 ghost use Rattle.da65.specs.Lines.{IsFirstOf, IsGroupStart, IsInGroup, IsNext, after_group, group_left, statement_left};
@@ -19,6 +21,7 @@ use crate::listed::Listed;
 use crate::names::base_at;
 use crate::place::ListingPlace;
 use crate::statement_line::put_plain;
+use info65::RangeType;
 use map65::NameBuf;
 use std::alloc::Allocator;
 use stmt65::{Line, Statement};
@@ -91,27 +94,43 @@ fn put_forward<A: Allocator>(
     None
 }
 
-/// Replaces the buffer by the statement of the group that begins with the byte of this index and has so many
-/// bytes, after this label if there is one, and returns the next place.
+/// The role of the byte of this index.
+fn role_at<A: Allocator>(listed: &Listed<'_, A>, at: usize) -> RangeType
+    requires { at < length listed.now.image.bytes }
+    ensures { result ≡ role_of listed.now.info (listed.now.image.start + at) }
+{
+    role_inside(listed.map(), listed.address(at))
+}
+
+/// Whether the address of the byte of this index has a name.
+fn has_name_at<A: Allocator>(listed: &Listed<'_, A>, at: usize) -> bool
+    requires { at < length listed.now.image.bytes }
+    ensures { result ≡ has_name listed.now (listed.now.image.start + at) }
+{
+    listed.map().has_name(listed.address(at))
+}
+
+/// Replaces the buffer by the statement of the group of this role that begins with the byte of this index and has so
+/// many bytes, after this label if there is one, and returns the next place.
 #[inline(always)]
 fn put_group<A: Allocator>(
     out: &mut Line,
     listed: &Listed<'_, A>,
+    role: RangeType,
     at: usize,
     len: usize,
     label: Option<&[u8]>,
 ) -> ListingPlace
     requires start { IsGroupStart listed.now at }
+    requires role { role ≡ role_of listed.now.info (listed.now.image.start + at) }
     requires len { len ≡ group_len listed.now (listed.now.image.start + at) }
     requires label { MayBeLabelled (style_of listed.now.info.settings).columns (option_copied label) (statement_at listed.now (listed.now.image.start + at)) }
     ensures { IsNext listed.now (group_line (option_copied label.entry) (statement_at listed.now (listed.now.image.start + at)) (listed.now.image.start + at) (group_bytes listed.now (listed.now.image.start + at)) ∷ after_group listed.now at) out.new.items result (segment_at listed.now (listed.now.image.start + at)) }
 {
     let (_, rest) = listed.bytes().split_at(at);
     let (bytes, _) = rest.split_at(len);
-    let map = listed.map();
     let address = listed.address(at);
-    let role = role_inside(map, address);
-    if put_group_statement(out, listed.style(), map, role, address, bytes, label) {
+    if put_group_statement(out, listed.style(), listed.map(), role, address, bytes, label) {
         ListingPlace::Ending(at + len)
     } else {
         ListingPlace::Group(at + len)
@@ -135,7 +154,7 @@ fn put_labelled<A: Allocator>(
 {
     let style = listed.style();
     if style.columns.fits_label(name) {
-        put_group(out, listed, at, len, Some(name))
+        put_group(out, listed, role_at(listed, at), at, len, Some(name))
     } else {
         put_plain(out, style, &Statement::Label(name));
         ListingPlace::Statement(at)
@@ -157,27 +176,31 @@ fn put_label<A: Allocator>(
     let mut name = NameBuf::new();
     match base_at(listed.map(), listed.address(at), &mut name) {
         Some(_) => put_labelled(out, listed, at, len, name.as_slice()),
-        None => put_group(out, listed, at, len, None),
+        None => put_group(out, listed, role_at(listed, at), at, len, None),
     }
 }
 
-/// Replaces the buffer by the first line of a group after its forward lines, and returns the next place. Most groups have no
-/// name, and need no buffer for one.
+/// Replaces the buffer by the first line of a group of this role after its forward lines, and returns the next place. Most
+/// groups begin at an address without a name, and need no buffer for one.
 #[inline(always)]
 fn put_first<A: Allocator>(
     out: &mut Line,
     listed: &Listed<'_, A>,
+    role: RangeType,
     at: usize,
     len: usize,
+    named: bool,
 ) -> ListingPlace
     requires start { IsGroupStart listed.now at }
+    requires role { role ≡ role_of listed.now.info (listed.now.image.start + at) }
     requires len { len ≡ group_len listed.now (listed.now.image.start + at) }
+    requires named { named ≡ has_name listed.now (listed.now.image.start + at) }
     ensures { IsNext listed.now (statement_lines listed.now (listed.now.image.start + at) ++ after_group listed.now at) out.new.items result (segment_at listed.now (listed.now.image.start + at)) }
 {
-    if listed.map().has_name(listed.address(at)) {
+    if named {
         put_label(out, listed, at, len)
     } else {
-        put_group(out, listed, at, len, None)
+        put_group(out, listed, role, at, len, None)
     }
 }
 
@@ -204,10 +227,12 @@ pub fn put_inside<A: Allocator>(
     ensures { IsNext listed.now (group_left listed.now at from) out.new.items result (segment_at listed.now (listed.now.image.start + at)) }
 {
     let first = listed.address(at);
+    let role = role_at(listed, at);
+    let named = has_name_at(listed, at);
     let len = len_at(listed, at);
     match put_forward(out, listed, first, from, first as usize + len) {
         Some(next) => ListingPlace::Forward(at, next + 1),
-        None => put_first(out, listed, at, len),
+        None => put_first(out, listed, role, at, len, named),
     }
 }
 
@@ -217,5 +242,5 @@ pub fn put_rest<A: Allocator>(out: &mut Line, listed: &Listed<'_, A>, at: usize)
     ensures { IsNext listed.now (statement_left listed.now at) out.new.items result (segment_at listed.now (listed.now.image.start + at)) }
 {
     let len = len_at(listed, at);
-    put_group(out, listed, at, len, None)
+    put_group(out, listed, role_at(listed, at), at, len, None)
 }

@@ -1,7 +1,7 @@
 //! What a run lists its input by: the information file, with the names of its include files.
 
 ghost use Rattle.std.specs.Prelude.{◌≡◌, ◌<◌, ℕ, List, Result, get_or, is_some, length};
-ghost use Rattle.info65.specs.Faults.{Fails};
+ghost use Rattle.info65.specs.Code.Results.{Fails};
 ghost use Rattle.info65.specs.Views.{IncludeView, InfoView};
 ghost use Rattle.info65.specs.declared.fault.InfoFault.{InfoFault};
 ghost use Rattle.da65.specs.Code.Preparing.{Changes, Prepares, Stops};

@@ -5,7 +5,7 @@ ghost use Rattle.info65.specs.Names.{AreNames};
 ghost use Rattle.isa65.specs.Mode.{len_of};
 ghost use Rattle.map65.specs.Targets.{entry_of};
 ghost use Rattle.stmt65.specs.Printable.{IsPrintable, IsWrittenIn};
-ghost use Rattle.stmt65.specs.Views.{operands_seen, statement_seen};
+ghost use Rattle.stmt65.specs.code.StatementViews.{operands_seen, statement_seen};
 ghost use Rattle.da65.specs.BaseNames.{names_of};
 ghost use Rattle.da65.specs.Instructions.{instruction_in};
 ghost use Rattle.da65.specs.Shapes.{IsGroupOf};

@@ -10,7 +10,7 @@ use Rattle.info65.specs.Grammar.{Accepts, AreGroups, AreNew, IsToken, Item, Spel
 use Rattle.info65.specs.Groups.{AssignmentView, GroupView, is_given}
 use Rattle.info65.specs.IncludeGroups.{has_room}
 use Rattle.info65.specs.Lexemes.{KindView, word, opening_brace, closing_brace, semicolon}
-use Rattle.info65.specs.Reader.{Place, State, after_group, at_attribute, at_brace, at_group, at_semicolon, attribute_at, behind, closed, closed_by, finish, group, inside, named, one, opened, opening, outside, read_from, step, value_at, valued}
+use Rattle.info65.specs.Reader.{Place, State, after_group, at_attribute, at_brace, at_group, at_semicolon, attribute_at, assigned, closed, closed_by, finish, group, inside, named, one, opened, opening, outside, read_from, step, value_at, valued}
 use Rattle.info65.specs.Tokens.{TokenView}
 use Rattle.info65.specs.Values.{ValueView, value_of}
 use Rattle.info65.specs.Views.{OptionsView}
@@ -35,8 +35,8 @@ Step o (opening k) before t q = (t.kind ≡ opening_brace) × (q ≡ (inside k [
 Step o (inside k given) before t q =
     ((t.kind ≡ closing_brace) × (closing_fault before k given ≡ None) × (q ≡ (closed, before ++ group k given ∷ [])))
     ⊎ ((a : Attribute) × (t.kind ≡ word) × (attribute_named k t.text ≡ Some a) × (is_given before k given a ≡ false) × (q ≡ (valued k given a, before)))
-Step o (valued k given a) before t q = (v : ValueView) × (value_of o a t ≡ Ok v) × (has_room before a ≡ true) × (q ≡ (behind k (given ++ one a v ∷ []), before))
-Step o (behind k given) before t q = (t.kind ≡ semicolon) × (q ≡ (inside k given, before))
+Step o (valued k given a) before t q = (v : ValueView) × (value_of o a t ≡ Ok v) × (has_room before a ≡ true) × (q ≡ (assigned k (given ++ one a v ∷ []), before))
+Step o (assigned k given) before t q = (t.kind ≡ semicolon) × (q ≡ (inside k given, before))
 
 opened_read : (before : List GroupView) (t : TokenView) (n : Option GroupKind) → t.kind ≡ word → group_named t.text ≡ n → IfOk (opened before t.line n) (Names before t)
 opened_read before t None w e = tt
@@ -73,11 +73,11 @@ inside_read o before g given t closing_brace e = closed_read o before g given t 
 inside_read o before g given t word e = named_read o before g given t (attribute_named g t.text) e refl
 inside_read o before g given t _ e = tt
 
-semicolon_read : (o : OptionsView) (before : List GroupView) (g : GroupKind) (given : List AssignmentView) (t : TokenView) (k : KindView) → t.kind ≡ k → IfOk (at_semicolon before g given t k) (Step o (behind g given) before t)
+semicolon_read : (o : OptionsView) (before : List GroupView) (g : GroupKind) (given : List AssignmentView) (t : TokenView) (k : KindView) → t.kind ≡ k → IfOk (at_semicolon before g given t k) (Step o (assigned g given) before t)
 semicolon_read o before g given t semicolon e = (e, refl)
 semicolon_read o before g given t _ e = tt
 
-value_read : (o : OptionsView) (k : GroupKind) (given : List AssignmentView) (a : Attribute) (before : List GroupView) (t : TokenView) → IfOk (value_at o before a t >>= λ v. Ok (behind k (given ++ one a v ∷ []), before)) (Step o (valued k given a) before t)
+value_read : (o : OptionsView) (k : GroupKind) (given : List AssignmentView) (a : Attribute) (before : List GroupView) (t : TokenView) → IfOk (value_at o before a t >>= λ v. Ok (assigned k (given ++ one a v ∷ []), before)) (Step o (valued k given a) before t)
 unfolding value_at
 value_read o k given a before t =
     by_result (value_of o a t)
@@ -91,7 +91,7 @@ step_read o closed before t = after_read o before t t.kind refl
 step_read o (opening k) before t = brace_read o before k t t.kind refl
 step_read o (inside k given) before t = inside_read o before k given t t.kind refl
 step_read o (valued k given a) before t = value_read o k given a before t
-step_read o (behind k given) before t = semicolon_read o before k given t t.kind refl
+step_read o (assigned k given) before t = semicolon_read o before k given t t.kind refl
 
 step_again : (o : OptionsView) (p : Place) (before : List GroupView) (t : TokenView) (q : State) → Step o p before t q → step o p before t ≡ Ok q
 unfolding step attribute_at value_at
@@ -102,7 +102,7 @@ step_again o (opening k) before t q h = rw (h.0, h.1) refl
 step_again o (inside k given) before t q (inl h) = rw (h.0, h.1, h.2) refl
 step_again o (inside k given) before t q (inr h) = rw (h.1, h.2, h.3, h.4) refl
 step_again o (valued k given a) before t q h = rw (h.1, h.2, h.3) refl
-step_again o (behind k given) before t q h = rw (h.0, h.1) refl
+step_again o (assigned k given) before t q h = rw (h.0, h.1) refl
 
 -- ---- what is left of a file, at a place
 
@@ -131,7 +131,7 @@ Rest o closed before ts r = Outside o [] before ts r ⊎ Outside o (mark semicol
 Rest o (opening k) before ts r = Inside o (mark opening_brace ∷ []) k [] before ts r
 Rest o (inside k given) before ts r = Inside o [] k given before ts r
 Rest o (valued k given a) before ts r = (v : ValueView) × (has_room before a ≡ true) × Inside o (value a v ∷ mark semicolon ∷ []) k (given ++ one a v ∷ []) before ts r
-Rest o (behind k given) before ts r = Inside o (mark semicolon ∷ []) k given before ts r
+Rest o (assigned k given) before ts r = Inside o (mark semicolon ∷ []) k given before ts r
 
 -- the same with a token in front, which is that item
 pushed : (o : OptionsView) (i : Item) (items : List Item) (k : GroupKind) (given : List AssignmentView) (before : List GroupView) (t : TokenView) (ts : List TokenView) (r : List GroupView) → IsToken o i t → Inside o items k given before ts r → Inside o (i ∷ items) k given before (t ∷ ts) r
@@ -174,7 +174,7 @@ in_front o (inside k given) before t q ts r (inl h) rest = ending (rw h.2 at res
     ending (inr s) = close_front o true k given before t ts r h.1 s.spelling (h.0, s.spelled) s.keeps s.gives
 in_front o (inside k given) before t q ts r (inr h) rest = name_front o h.0 k given before t ts r h.1 h.2 h.3 (rw h.4 at rest)
 in_front o (valued k given a) before t q ts r h rest = (h.0, h.2, pushed o (value a h.0) (mark semicolon ∷ []) k (given ++ one a h.0 ∷ []) before t ts r h.1 (rw h.3 at rest))
-in_front o (behind k given) before t q ts r h rest = pushed o (mark semicolon) [] k given before t ts r h.0 (rw h.1 at rest)
+in_front o (assigned k given) before t q ts r h rest = pushed o (mark semicolon) [] k given before t ts r h.0 (rw h.1 at rest)
 
 -- what begins with a group, or with the rest of one
 group_off : (o : OptionsView) (before : List GroupView) (t : TokenView) (ts : List TokenView) (r : List GroupView) (spelling : List (GroupView × Bool)) → Spells o (file_items spelling) (t ∷ ts) → AreGroups before (without_marks spelling) → before ++ without_marks spelling ≡ r
@@ -219,8 +219,8 @@ taken_off o closed before t ts r (inl h) = let g = group_off o before t ts r h.s
 taken_off o closed before t ts r (inr h) = ((outside, before), inl (h.spelled.0, refl), record { spelling = h.spelling; spelled = h.spelled.1; keeps = h.keeps; gives = h.gives })
 taken_off o (opening k) before t ts r h = let i = popped o (mark opening_brace) [] k [] before t ts r h in ((inside k [], before), (i.0, refl), i.1)
 taken_off o (inside k given) before t ts r h = inside_off o k given before t ts r h.more h.closed h.spelling h.spelled h.new h.closes h.keeps h.gives
-taken_off o (valued k given a) before t ts r h = let i = popped o (value a h.0) (mark semicolon ∷ []) k (given ++ one a h.0 ∷ []) before t ts r h.2 in ((behind k (given ++ one a h.0 ∷ []), before), (h.0, i.0, h.1, refl), i.1)
-taken_off o (behind k given) before t ts r h = let i = popped o (mark semicolon) [] k given before t ts r h in ((inside k given, before), (i.0, refl), i.1)
+taken_off o (valued k given a) before t ts r h = let i = popped o (value a h.0) (mark semicolon ∷ []) k (given ++ one a h.0 ∷ []) before t ts r h.2 in ((assigned k (given ++ one a h.0 ∷ []), before), (h.0, i.0, h.1, refl), i.1)
+taken_off o (assigned k given) before t ts r h = let i = popped o (mark semicolon) [] k given before t ts r h in ((inside k given, before), (i.0, refl), i.1)
 
 no_groups : (o : OptionsView) (before r : List GroupView) (spelling : List (GroupView × Bool)) → Spells o (file_items spelling) [] → before ++ without_marks spelling ≡ r → before ≡ r
 no_groups o before r [] h e = sym (append-nil before) ∙ e
@@ -240,7 +240,7 @@ at_end o closed before r (Ok line) ok (inr h) = absurd h.spelled
 at_end o (opening k) before r (Ok line) ok h = absurd h.spelled
 at_end o (inside k given) before r (Ok line) ok h = absurd (not_inside o k h.more h.closed h.spelling h.spelled)
 at_end o (valued k given a) before r (Ok line) ok h = absurd h.2.spelled
-at_end o (behind k given) before r (Ok line) ok h = absurd h.spelled
+at_end o (assigned k given) before r (Ok line) ok h = absurd h.spelled
 
 ended : (o : OptionsView) (p : Place) (before : List GroupView) (ending : Result ℕ InfoFault) → IfOk (finish p before ending) (λ r. IsOk ending × Rest o p before [] r)
 unfolding finish

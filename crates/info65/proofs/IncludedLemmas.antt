@@ -12,7 +12,8 @@ use Rattle.info65.specs.Code.Includes.{Adds, SeesName, name_result_seen}
 use Rattle.info65.specs.Code.Index.{Indexes}
 use Rattle.info65.specs.Code.Names.{given_seen}
 use Rattle.info65.specs.Code.Steps.{Sees}
-use Rattle.info65.specs.Faults.{◌>>=◌, Fails, fault, out_of_memory}
+use Rattle.info65.specs.Faults.{◌>>=◌, fault, out_of_memory}
+use Rattle.info65.specs.Code.Results.{Fails}
 use Rattle.info65.specs.Includes.{address_written, after_sign, as_address, assignment_in, before_sign, blank_include, included, is_blank, is_identifier, judged, line_adds, line_in, lines_of, name_adds, names_included, names_with, optional_adds, or_bad, plain_name, trimmed, with_names, without_comment}
 use Rattle.info65.specs.Labels.{by_address, is_at, is_elsewhere, name_fault}
 use Rattle.info65.specs.Lexemes.{number_in, starts_word}

@@ -1,13 +1,14 @@
 -- One token more, at each place.
 use Rattle.std.proofs.Common.{◌≡◌, ◌∙◌, ℕ, Bool, ◌&&◌, List, [], ◌∷◌, ◌++◌, true, false, refl, ap, inl, inr, sym}
 use Rattle.std.specs.Prelude.{Result, Ok, Err, Some, None}
-use Rattle.info65.specs.Faults.{Fails, fault, ◌>>=◌}
+use Rattle.info65.specs.Faults.{fault, ◌>>=◌}
+use Rattle.info65.specs.Code.Results.{Fails}
 use Rattle.info65.specs.Attributes.{group_named}
 use Rattle.info65.specs.Closing.{closing_fault}
 use Rattle.info65.specs.Groups.{AssignmentView, GroupView}
 use Rattle.info65.specs.Lexemes.{KindView, semicolon}
 use Rattle.info65.specs.Code.Reading.{Leads, is_semicolon, place_after}
-use Rattle.info65.specs.Reader.{Place, after_group, at_attribute, at_brace, at_group, at_semicolon, attribute_at, behind, closed, closed_by, finish, group, inside, one, opened, opening, outside, read, read_from, read_token, step, value_at, valued, wanted}
+use Rattle.info65.specs.Reader.{Place, after_group, at_attribute, at_brace, at_group, at_semicolon, attribute_at, assigned, closed, closed_by, finish, group, inside, one, opened, opening, outside, read, read_from, read_token, step, value_at, valued, wanted}
 use Rattle.info65.specs.Code.Steps.{kind_seen}
 use Rattle.info65.specs.Tokens.{Stream, TokenView, ended, refused, with_token}
 use Rattle.info65.specs.Values.{ValueView}
@@ -79,13 +80,13 @@ pub brace_refused : (o : OptionsView) (k : GroupKind) (b : List GroupView) (t : 
 unfolding step
 brace_refused o k b t x rest is isnt = token_refused o (opening k) b t rest _ (ap (at_brace b k t) is ∙ brace_no k b t x isnt)
 
-pub separator_taken : (o : OptionsView) (k : GroupKind) (given : List AssignmentView) (b : List GroupView) (t : TokenView) (x : TokenKind) (rest : Stream) → t.kind ≡ kind_seen x → x ≡ kind.Semicolon → read_token o (behind k given) b t rest ≡ read o (inside k given) b rest
+pub separator_taken : (o : OptionsView) (k : GroupKind) (given : List AssignmentView) (b : List GroupView) (t : TokenView) (x : TokenKind) (rest : Stream) → t.kind ≡ kind_seen x → x ≡ kind.Semicolon → read_token o (assigned k given) b t rest ≡ read o (inside k given) b rest
 unfolding step
-separator_taken o k given b t x rest is mark = token_taken o (behind k given) (inside k given) b b t rest (ap (at_semicolon b k given t) (is ∙ ap kind_seen mark))
+separator_taken o k given b t x rest is mark = token_taken o (assigned k given) (inside k given) b b t rest (ap (at_semicolon b k given t) (is ∙ ap kind_seen mark))
 
-pub separator_refused : (o : OptionsView) (k : GroupKind) (given : List AssignmentView) (b : List GroupView) (t : TokenView) (x : TokenKind) (rest : Stream) → t.kind ≡ kind_seen x → (x ≡ kind.Semicolon → ⊥) → read_token o (behind k given) b t rest ≡ Err (fault t.line Expected)
+pub separator_refused : (o : OptionsView) (k : GroupKind) (given : List AssignmentView) (b : List GroupView) (t : TokenView) (x : TokenKind) (rest : Stream) → t.kind ≡ kind_seen x → (x ≡ kind.Semicolon → ⊥) → read_token o (assigned k given) b t rest ≡ Err (fault t.line Expected)
 unfolding step
-separator_refused o k given b t x rest is isnt = token_refused o (behind k given) b t rest _ (ap (at_semicolon b k given t) is ∙ semicolon_no k given b t x isnt)
+separator_refused o k given b t x rest is isnt = token_refused o (assigned k given) b t rest _ (ap (at_semicolon b k given t) is ∙ semicolon_no k given b t x isnt)
 
 pub group_refused : (o : OptionsView) (b : List GroupView) (t : TokenView) (x : TokenKind) (rest : Stream) → t.kind ≡ kind_seen x → (x ≡ kind.Word → ⊥) → read_token o outside b t rest ≡ Err (fault t.line Expected)
 unfolding step
@@ -118,13 +119,13 @@ close_taken o k given b t x rest is brace whole = token_taken o (inside k given)
 pub close_refused : (o : OptionsView) (k : GroupKind) (given : List AssignmentView) (b : List GroupView) (t : TokenView) (x : TokenKind) (rest : Stream) (e : InfoFault) → t.kind ≡ kind_seen x → x ≡ kind.CloseBrace → closed_by b k given t.line (closing_fault b k given) ≡ Err e → read_token o (inside k given) b t rest ≡ Err e
 close_refused o k given b t x rest e is brace whole = token_refused o (inside k given) b t rest e (close_read o k given b t x rest is brace ∙ whole)
 
-pub value_taken : (o : OptionsView) (k : GroupKind) (given : List AssignmentView) (a : Attribute) (b : List GroupView) (t : TokenView) (rest : Stream) (v : ValueView) → value_at o b a t ≡ Ok v → read_token o (valued k given a) b t rest ≡ read o (behind k (given ++ one a v ∷ [])) b rest
+pub value_taken : (o : OptionsView) (k : GroupKind) (given : List AssignmentView) (a : Attribute) (b : List GroupView) (t : TokenView) (rest : Stream) (v : ValueView) → value_at o b a t ≡ Ok v → read_token o (valued k given a) b t rest ≡ read o (assigned k (given ++ one a v ∷ [])) b rest
 unfolding step
-value_taken o k given a b t rest v is = token_taken o (valued k given a) (behind k (given ++ one a v ∷ [])) b b t rest (ap (λ r. r >>= λ v. Ok (behind k (given ++ one a v ∷ []), b)) is)
+value_taken o k given a b t rest v is = token_taken o (valued k given a) (assigned k (given ++ one a v ∷ [])) b b t rest (ap (λ r. r >>= λ v. Ok (assigned k (given ++ one a v ∷ []), b)) is)
 
 pub value_refused : (o : OptionsView) (k : GroupKind) (given : List AssignmentView) (a : Attribute) (b : List GroupView) (t : TokenView) (rest : Stream) (e : InfoFault) → value_at o b a t ≡ Err e → read_token o (valued k given a) b t rest ≡ Err e
 unfolding step
-value_refused o k given a b t rest e is = token_refused o (valued k given a) b t rest e (ap (λ r. r >>= λ v. Ok (behind k (given ++ one a v ∷ []), b)) is)
+value_refused o k given a b t rest e is = token_refused o (valued k given a) b t rest e (ap (λ r. r >>= λ v. Ok (assigned k (given ++ one a v ∷ []), b)) is)
 
 -- ---- between two groups
 

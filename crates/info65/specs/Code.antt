@@ -5,6 +5,7 @@ pub mod Index
 pub mod Names
 pub mod Pool
 pub mod Reading
+pub mod Results
 pub mod SegmentTable
 pub mod Segments
 pub mod Steps

@@ -1,5 +1,5 @@
--- What an information file can be refused for, and what a contract says of a refusal.
-use Rattle.std.specs.Prelude.{◌≡◌, ◌⊎◌, ℕ, List, Result, Ok, Err, codes}
+-- What an information file can be refused for.
+use Rattle.std.specs.Prelude.{ℕ, List, Result, Ok, Err, codes}
 use Rattle.info65.specs.declared.fault.InfoFault.{InfoFault}
 use Rattle.info65.specs.declared.fault.InfoFaultKind.{InfoFaultKind}
 use Rattle.info65.specs.declared.fault.InfoFaultKind.TheVariants as kind
@@ -39,12 +39,3 @@ infixl 10 ◌>>=◌
 abbrev pub ◌>>=◌ : {A B : Type 0} → Result A InfoFault → (A → Result B InfoFault) → Result B InfoFault
 (Ok x) >>= f = f x
 (Err e) >>= f = Err e
-
--- a refusal is that of the definition, unless an allocation failed
-abbrev pub Fails : {A : Type 0} → InfoFault → Result A InfoFault → Type 0
-Fails e defined = (defined ≡ Err e) ⊎ (e ≡ out_of_memory)
-
--- what a call returns, seen by `seen`, is what the definition gives, unless an allocation failed
-abbrev pub Gives : {X A : Type 0} → (X → A) → Result X InfoFault → Result A InfoFault → Type 0
-Gives seen (Ok x) defined = defined ≡ Ok (seen x)
-Gives seen (Err e) defined = Fails e defined

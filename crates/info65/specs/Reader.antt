@@ -28,7 +28,7 @@ use Rattle.info65.specs.declared.fault.InfoFaultKind.TheVariants.{Expected, Give
 --                                                            AddressTwice
 --   valued     the value of the attribute                    Expected, OutOfRange, BadName, NameConflict,
 --                                                            TooLarge
---   behind     `;`                                           Expected
+--   assigned     `;`                                           Expected
 --
 -- The end at any other place is Expected, and a token that has a fault of its own (BadByte, OpenString,
 -- BadNumber) is refused for that. The open group has its kind and what is given in it so far.
@@ -37,7 +37,7 @@ pub data Place : Type 0 where
   opening : GroupKind → Place
   inside : GroupKind → List AssignmentView → Place
   valued : GroupKind → List AssignmentView → Attribute → Place
-  behind : GroupKind → List AssignmentView → Place
+  assigned : GroupKind → List AssignmentView → Place
 
 -- the place, and the groups that are closed
 abbrev pub State : Type 0
@@ -99,8 +99,8 @@ step o outside before t = at_group before t t.kind
 step o closed before t = after_group before t t.kind
 step o (opening k) before t = at_brace before k t t.kind
 step o (inside k given) before t = at_attribute before k given t t.kind
-step o (valued k given a) before t = value_at o before a t >>= λ v. Ok (behind k (given ++ one a v ∷ []), before)
-step o (behind k given) before t = at_semicolon before k given t t.kind
+step o (valued k given a) before t = value_at o before a t >>= λ v. Ok (assigned k (given ++ one a v ∷ []), before)
+step o (assigned k given) before t = at_semicolon before k given t t.kind
 
 -- the end is here, or the fault of a token, where a token is due
 abbrev pub wanted : Result ℕ InfoFault → InfoFault

@@ -40,7 +40,7 @@ impl<'a, A: Allocator + Copy> Closed<'a, A> {
     ghost use Rattle.std.specs.Prelude.{◌≡◌, ◌∷◌, ◌++◌, List, None, Ok, [], map};
     ghost use Rattle.info65.specs.Closing.{closing_fault};
     ghost use Rattle.info65.specs.Code.Groups.{assignment_seen, group_seen};
-    ghost use Rattle.info65.specs.Faults.{Gives};
+    ghost use Rattle.info65.specs.Code.Results.{Gives};
     ghost use Rattle.info65.specs.Groups.{GroupView, is_given};
     ghost use Rattle.info65.specs.IncludeGroups.{has_room};
     ghost use Rattle.info65.specs.Labels.{by_address, names_said};

@@ -3,7 +3,8 @@
 ghost use Rattle.std.specs.Prelude.{◌≡◌, ◌<◌, ◌+◌, ◌^◌, ◌++◌, IfErr, IfOk, Ok, length, map, option_map, option_to_list};
 ghost use Rattle.info65.specs.Code.Groups.{assignment_seen, group_seen};
 ghost use Rattle.info65.specs.Code.Includes.{SeesInclude, named_seen};
-ghost use Rattle.info65.specs.Faults.{Gives, out_of_memory};
+ghost use Rattle.info65.specs.Faults.{out_of_memory};
+ghost use Rattle.info65.specs.Code.Results.{Gives};
 ghost use Rattle.info65.specs.Groups.{AreAllFormed, AreFormed};
 ghost use Rattle.info65.specs.IncludeGroups.{has_room, include_in, include_part, includes_of};
 

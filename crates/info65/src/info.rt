@@ -2,7 +2,7 @@
 
 ghost use Rattle.std.specs.Prelude.{◌≡◌, ◌<◌, length};
 ghost use Rattle.info65.specs.Code.Includes.{Includes};
-ghost use Rattle.info65.specs.Faults.{Gives};
+ghost use Rattle.info65.specs.Code.Results.{Gives};
 ghost use Rattle.info65.specs.Reader.{information};
 
 use crate::fault::{InfoFault, InfoFaultKind};

@@ -2,7 +2,7 @@
 
 ghost use Rattle.std.specs.Prelude.{◌≡◌, IfSome, Ok, map, option_map, true};
 ghost use Rattle.std.specs.Option.{option_or, unwrap_or};
-ghost use Rattle.info65.specs.Faults.{Gives};
+ghost use Rattle.info65.specs.Code.Results.{Gives};
 ghost use Rattle.info65.specs.Attributes.{form_of};
 ghost use Rattle.info65.specs.Code.Groups.{IsAtMost, group_seen};
 ghost use Rattle.info65.specs.Groups.{AreFormed, global_given, value_in};

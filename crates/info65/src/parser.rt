@@ -2,11 +2,12 @@
 
 ghost use Rattle.std.specs.Prelude.{◌≡◌, ◌≤◌, ◌∷◌, ◌++◌, IfErr, IfOk, List, None, Ok, [], length, map};
 ghost use Rattle.info65.specs.Closing.{closing_fault};
-ghost use Rattle.info65.specs.Faults.{Gives, fault};
+ghost use Rattle.info65.specs.Faults.{fault};
+ghost use Rattle.info65.specs.Code.Results.{Gives};
 ghost use Rattle.info65.specs.Code.Groups.{assignment_seen, group_seen, value_seen};
 ghost use Rattle.info65.specs.Groups.{AssignmentView, GroupView};
 ghost use Rattle.info65.specs.Code.Reading.{Grows, Leads, is_semicolon};
-ghost use Rattle.info65.specs.Reader.{attribute_at, behind, closed, closed_by, group, groups_of, inside, one, opening, outside, read, read_token, value_at, valued, wanted};
+ghost use Rattle.info65.specs.Reader.{attribute_at, assigned, closed, closed_by, group, groups_of, inside, one, opening, outside, read, read_token, value_at, valued, wanted};
 ghost use Rattle.info65.specs.Code.Steps.{Sees, kind_seen, seen};
 ghost use Rattle.info65.specs.Tokens.{Stream, with_token};
 ghost use Rattle.info65.specs.Views.{OptionsView};
@@ -118,7 +119,7 @@ fn brace(lexer: &mut Lexer) -> Result<(), InfoFault>
 }
 
 fn separator(lexer: &mut Lexer) -> Result<(), InfoFault>
-    ensures read { (o : OptionsView) (k : GroupKind) (given : List AssignmentView) (before : List GroupView) → Leads (read o (behind k given) before lexer.old) result (λ _. read o (inside k given) before lexer.new) }
+    ensures read { (o : OptionsView) (k : GroupKind) (given : List AssignmentView) (before : List GroupView) → Leads (read o (assigned k given) before lexer.old) result (λ _. read o (inside k given) before lexer.new) }
     ensures shorter { length lexer.new.tokens ≤ length lexer.old.tokens }
 {
     let token = due(lexer)?;
@@ -134,7 +135,7 @@ fn value<'a, A: Allocator + Copy, B: Allocator>(
     before: &Closed<'a, A>,
     attribute: Attribute,
 ) -> Result<Value<'a>, InfoFault>
-    ensures read { (k : GroupKind) (given : List AssignmentView) → Leads (read options.now (valued k given attribute) before.now lexer.old) result (λ v. read options.now (behind k (given ++ one attribute (value_seen v) ∷ [])) before.now lexer.new) }
+    ensures read { (k : GroupKind) (given : List AssignmentView) → Leads (read options.now (valued k given attribute) before.now lexer.old) result (λ v. read options.now (assigned k (given ++ one attribute (value_seen v) ∷ [])) before.now lexer.new) }
     ensures shorter { length lexer.new.tokens ≤ length lexer.old.tokens }
 {
     let token = due(lexer)?;

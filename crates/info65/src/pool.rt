@@ -66,7 +66,7 @@ impl<A: Allocator + Copy> Pool<A> {
 impl<A: Allocator> Pool<A> {
     ghost use Rattle.std.specs.Prelude.{◌≡◌, ◌<◌, ◌∷◌, ◌++◌, Ok, [], length, option_copied, option_map, option_to_list};
     ghost use Rattle.info65.specs.Code.Names.{given_seen};
-    ghost use Rattle.info65.specs.Faults.{Gives};
+    ghost use Rattle.info65.specs.Code.Results.{Gives};
     ghost use Rattle.info65.specs.Names.{AreNames, covering, name_at};
 
     /// How many names there are.

@@ -1,7 +1,7 @@
 //! The ranges that groups RANGE say.
 
 ghost use Rattle.std.specs.Prelude.{◌≡◌, Ok, map, option_to_list};
-ghost use Rattle.info65.specs.Faults.{Gives};
+ghost use Rattle.info65.specs.Code.Results.{Gives};
 ghost use Rattle.info65.specs.Code.Groups.{assignment_seen, group_seen};
 ghost use Rattle.info65.specs.Ranges.{last_from, range_between, range_in, range_of_parts, range_part, ranges_of};
 

@@ -25,11 +25,11 @@ use Rattle.stmt65.specs.Printable.{IsWrittenIn, IsPrintable}
 use Rattle.stmt65.specs.SourceLine.{Datum}
 use Rattle.stmt65.specs.SourceLine as source
 use Rattle.stmt65.specs.Tables.{low_words, high_words, cut_text}
-use Rattle.stmt65.specs.Statements.{has_bytes, next_byte, bytes_text, quoted, datum_text, datum_behind, data_text, word_behind, words_text, alone, with_operands, return_text, distance_text, instr_fields, label_fields, definition_fields, fields_of}
+use Rattle.stmt65.specs.Statements.{has_bytes, next_text, comma_list, bytes_text, quoted, datum_text, data_text, words_text, alone, with_operands, return_text, distance_text, instr_fields, label_fields, definition_fields, fields_of}
 use Rattle.stmt65.specs.Lexing.{is_word_start, is_word_byte, is_text_byte}
 use Rattle.stmt65.specs.Names.{is_name}
 use Rattle.stmt65.specs.Printed.{HasNames, HasLabelName}
-use Rattle.stmt65.specs.Widths.{IsInWidth}
+use Rattle.stmt65.specs.code.Widths.{IsInWidth}
 use Rattle.stmt65.specs.Views.{ExprView, OperandsView, TargetView, StatementView, RemarksView}
 use Rattle.stmt65.specs.Views as view
 use Rattle.stmt65.proofs.Lexed.{IsWordText}
@@ -146,23 +146,28 @@ operand_line h _ a _ w n = absurd w
 
 -- ---- the other texts
 
-more_line : (bs : List ℕ) → InLine (flat_map next_byte bs)
-more_line [] = refl
-more_line (b ∷ bs) = joined (next_byte b) (flat_map next_byte bs) (joined (codes ",") (hex2 b) refl (hex2_line b)) (more_line bs)
+more_line : {A : Type 0} (text : A → List ℕ) (p : A → Bool) → ((x : A) → p x ≡ true → InLine (text x)) → (xs : List A) → list_all p xs ≡ true → InLine (flat_map (next_text text) xs)
+more_line text p each [] h = refl
+more_line text p each (x ∷ xs) h =
+    let a = both (p x) (list_all p xs) h in
+    joined (next_text text x) (flat_map (next_text text) xs) (joined (codes ",") (text x) refl (each x a.0)) (more_line text p each xs a.1)
+
+list_line : {A : Type 0} (text : A → List ℕ) (p : A → Bool) → ((x : A) → p x ≡ true → InLine (text x)) → (xs : List A) → list_all p xs ≡ true → InLine (comma_list text xs)
+unfolding comma_list
+list_line text p each [] h = refl
+list_line text p each (x ∷ xs) h =
+    let a = both (p x) (list_all p xs) h in
+    joined (text x) (flat_map (next_text text) xs) (each x a.0) (more_line text p each xs a.1)
+
+any_of : (xs : List ℕ) → list_all (λ x. true) xs ≡ true
+any_of [] = refl
+any_of (x ∷ xs) = any_of xs
 
 bytes_line : (bs : List ℕ) → InLine (bytes_text bs)
-unfolding bytes_text
-bytes_line [] = refl
-bytes_line (b ∷ bs) = joined (hex2 b) (flat_map next_byte bs) (hex2_line b) (more_line bs)
-
-words_behind_line : (ws : List ℕ) → InLine (flat_map word_behind ws)
-words_behind_line [] = refl
-words_behind_line (w ∷ ws) = joined (word_behind w) (flat_map word_behind ws) (joined (codes ",") (hex4 w) refl (hex4_line w)) (words_behind_line ws)
+bytes_line bs = list_line hex2 (λ b. true) (λ b h. hex2_line b) bs (any_of bs)
 
 words_line : (ws : List ℕ) → InLine (words_text ws)
-unfolding words_text
-words_line [] = refl
-words_line (w ∷ ws) = joined (hex4 w) (flat_map word_behind ws) (hex4_line w) (words_behind_line ws)
+words_line ws = list_line hex4 (λ w. true) (λ w h. hex4_line w) ws (any_of ws)
 
 quoted_line : (text : List ℕ) → list_all is_text_byte text ≡ true → InLine (quoted text)
 quoted_line text h = between (codes "\"") text (codes "\"") refl (all_as is_text_byte text_byte text h) refl
@@ -171,18 +176,8 @@ datum_line : (d : Datum) → is_sound d ≡ true → InLine (datum_text d)
 datum_line (source.NumberDatum b) h = hex2_line b
 datum_line (source.StringDatum t) h = quoted_line t h
 
-data_behind_line : (ds : List Datum) → list_all is_sound ds ≡ true → InLine (flat_map datum_behind ds)
-data_behind_line [] h = refl
-data_behind_line (d ∷ ds) h =
-    let a = both (is_sound d) (list_all is_sound ds) h in
-    joined (datum_behind d) (flat_map datum_behind ds) (joined (codes ",") (datum_text d) refl (datum_line d a.0)) (data_behind_line ds a.1)
-
 data_line : (ds : List Datum) → list_all is_sound ds ≡ true → InLine (data_text ds)
-unfolding data_text
-data_line [] h = refl
-data_line (d ∷ ds) h =
-    let a = both (is_sound d) (list_all is_sound ds) h in
-    joined (datum_text d) (flat_map datum_behind ds) (datum_line d a.0) (data_behind_line ds a.1)
+data_line ds h = list_line datum_text is_sound datum_line ds h
 
 cpu_line : (cpu : Cpu) → InLine (quoted (cpu_text cpu))
 cpu_line cpu = quoted_line (cpu_text cpu) (cpu_name cpu).quotable

@@ -35,7 +35,7 @@ use Rattle.stmt65.specs.Reading.{reading_of}
 use Rattle.stmt65.specs.Spelling as item
 use Rattle.stmt65.specs.Spelling.{Item, word, mark, define, number, string, quoted_name, value, data_list, value_list, IsValue, IsItem, Spells, prefix_items, form_items, operation_items, IsSpelling}
 use Rattle.stmt65.specs.Printed.{address_size, source_value, source_form, source_line, with_label, HasName, HasNamesIn, HasNames, HasLabelName}
-use Rattle.stmt65.specs.Widths.{IsWordWide, AreWordWide, AreBytes, IsInWidth}
+use Rattle.stmt65.specs.code.Widths.{IsWordWide, AreWordWide, AreBytes, IsInWidth}
 use Rattle.stmt65.specs.Views.{ExprView, OperandsView, TargetView, StatementView, RemarksView}
 use Rattle.stmt65.specs.Views as view
 use Rattle.stmt65.proofs.SpelledIsRead.{line_again}

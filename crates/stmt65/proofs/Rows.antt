@@ -7,7 +7,7 @@ use Rattle.isa65.specs.declared.mode.Mode.TheVariants.{Imm, Abs, Absy, Rel}
 use Rattle.stmt65.specs.Columns.{default_columns}
 use Rattle.stmt65.specs.Line.{filled, line_of}
 use Rattle.stmt65.specs.Operands.{operand_text}
-use Rattle.stmt65.specs.Statements.{data_text, words_text}
+use Rattle.stmt65.specs.Statements.{comma_list, data_text, words_text}
 use Rattle.stmt65.specs.Tables.{low_words, high_words, cut_text}
 use Rattle.stmt65.specs.Views.{RemarksView, StatementView, TargetView}
 use Rattle.stmt65.specs.Views as view
@@ -120,13 +120,13 @@ unfolding labelled remarks line_of filled
 last_return_entry = refl
 
 text : data_text (cut_text (0x48 ∷ 0x22 ∷ 0x5C ∷ 0x49 ∷ 0x0D ∷ [])) ≡ codes "\"H\",$22,$5C,\"I\",$0D"
-unfolding data_text cut_text
+unfolding comma_list cut_text
 text = refl
 
 words : words_text (low_words (0x01 ∷ 0x02 ∷ 0x03 ∷ 0x04 ∷ [])) ≡ codes "$0201,$0403"
-unfolding words_text low_words
+unfolding comma_list low_words
 words = refl
 
 dbyts : words_text (high_words (0x01 ∷ 0x02 ∷ [])) ≡ codes "$0102"
-unfolding words_text high_words
+unfolding comma_list high_words
 dbyts = refl

@@ -12,9 +12,9 @@ use Rattle.stmt65.specs.SourceLine.{Datum, NumberValue, NumberDatum, StringDatum
 use Rattle.stmt65.specs.Parts.{Part, Number, Text}
 use Rattle.stmt65.specs.Lexing.{is_text_byte, parts}
 use Rattle.stmt65.specs.Spelling.{IsValue, IsDatum, IsList}
-use Rattle.stmt65.specs.Statements.{bytes_text, datum_text, data_text, words_text}
+use Rattle.stmt65.specs.Statements.{bytes_text, comma_list, datum_text, data_text, words_text}
 use Rattle.stmt65.specs.Tables.{words_in, word_of, is_plain, cut_text}
-use Rattle.stmt65.specs.Widths.{AreBytes}
+use Rattle.stmt65.specs.code.Widths.{AreBytes}
 use Rattle.stmt65.proofs.Cases.{both}
 use Rattle.stmt65.proofs.Lexed.{Ends, parts_comma, parts_text, parts_hex2, parts_hex4, number_of-hex2, number_of-hex4}
 use Rattle.stmt65.proofs.PartLemmas.{parts_nil}
@@ -46,7 +46,7 @@ each_byte : (b : ℕ) → ltb b 256 ≡ true → (rest : List ℕ) → Ends rest
 each_byte b h rest e = record { front = Number (hex2 b) ∷ []; lexes = parts_hex2 b rest e; spells = (hex2 b, number_of-hex2 b (ltb-true b 256 h), refl) }
 
 pub bytes_listed : (bs : List ℕ) → 1 ≤ length bs → AreBytes bs → IsList IsDatum (map NumberDatum bs) (parts (bytes_text bs))
-unfolding bytes_text
+unfolding comma_list
 bytes_listed [] lt h = absurd (omega arith)
 bytes_listed (b ∷ bs) lt h = listed NumberDatum IsDatum hex2 (λ b. ltb b 256) each_byte b bs h
 
@@ -71,7 +71,7 @@ words_wide o (a ∷ b ∷ bs) h =
     rw (words_more o a b bs, word_wide o a b (ltb-true a 256 first.0) (ltb-true b 256 second.0), words_wide o bs second.1) refl
 
 pub words_listed : (o : ByteOrder) (bs : List ℕ) → 2 ≤ length bs → AreBytes bs → IsList IsValue (map NumberValue (words_in o bs)) (parts (words_text (words_in o bs)))
-unfolding words_text
+unfolding comma_list
 words_listed o [] lt h = absurd (omega arith)
 words_listed o (a ∷ []) lt h = absurd (omega arith)
 words_listed o (a ∷ b ∷ bs) lt h =
@@ -111,7 +111,7 @@ map_same [] = refl
 map_same (d ∷ ds) = ap (λ (l : List Datum). d ∷ l) (map_same ds)
 
 data_listed : (d : Datum) (ds : List Datum) → list_all is_sound (d ∷ ds) ≡ true → IsList IsDatum (d ∷ ds) (parts (data_text (d ∷ ds)))
-unfolding data_text
+unfolding comma_list
 data_listed d ds h = subst (λ (l : List Datum). IsList IsDatum l (parts (data_text (d ∷ ds)))) (map_same (d ∷ ds)) (listed (λ d. d) IsDatum datum_text is_sound each_datum d ds h)
 
 pub text_listed : (bs : List ℕ) → 1 ≤ length bs → AreBytes bs → IsList IsDatum (cut_text bs) (parts (data_text (cut_text bs)))

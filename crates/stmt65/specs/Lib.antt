@@ -19,7 +19,6 @@ pub mod Names
 pub mod Reading
 pub mod Spelling
 pub mod ReadingLaws
-pub mod Widths
 pub mod Printed
 pub mod Lines
 pub mod Symbols

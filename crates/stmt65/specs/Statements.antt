@@ -32,14 +32,18 @@ has_bytes _ = false
 abbrev pub Field : Type 0
 Field = ℕ × List ℕ
 
--- a byte after others
-abbrev pub next_byte : ℕ → List ℕ
-next_byte b = codes "," ++ hex2 b
+-- the text of an item after others
+abbrev pub next_text : {A : Type 0} → (A → List ℕ) → A → List ℕ
+next_text text x = codes "," ++ text x
 
--- bytes in two hex digits, joined by commas
-unfoldable pub bytes_text : List ℕ → List ℕ
-bytes_text [] = []
-bytes_text (b ∷ bs) = hex2 b ++ flat_map next_byte bs
+-- the texts of items, joined by commas
+unfoldable pub comma_list : {A : Type 0} → (A → List ℕ) → List A → List ℕ
+comma_list text [] = []
+comma_list text (x ∷ xs) = text x ++ flat_map (next_text text) xs
+
+-- bytes in two hex digits
+abbrev pub bytes_text : List ℕ → List ℕ
+bytes_text = comma_list hex2
 
 -- a text in double quotes
 abbrev pub quoted : List ℕ → List ℕ
@@ -50,23 +54,13 @@ abbrev pub datum_text : Datum → List ℕ
 datum_text (source.NumberDatum b) = hex2 b
 datum_text (source.StringDatum stretch) = quoted stretch
 
--- a byte or a stretch after others
-abbrev pub datum_behind : Datum → List ℕ
-datum_behind d = codes "," ++ datum_text d
+-- bytes and stretches of text
+abbrev pub data_text : List Datum → List ℕ
+data_text = comma_list datum_text
 
--- bytes and stretches of text, joined by commas
-unfoldable pub data_text : List Datum → List ℕ
-data_text [] = []
-data_text (d ∷ ds) = datum_text d ++ flat_map datum_behind ds
-
--- a word after others
-abbrev pub word_behind : ℕ → List ℕ
-word_behind w = codes "," ++ hex4 w
-
--- words in four hex digits, joined by commas
-unfoldable pub words_text : List ℕ → List ℕ
-words_text [] = []
-words_text (w ∷ ws) = hex4 w ++ flat_map word_behind ws
+-- words in four hex digits
+abbrev pub words_text : List ℕ → List ℕ
+words_text = comma_list hex4
 
 -- the operation whose words are in this order
 abbrev pub words_operation : ByteOrder → List ℕ

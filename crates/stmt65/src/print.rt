@@ -17,11 +17,11 @@ ghost use Rattle.stmt65.specs.Printable.{IsNameLong, IsWrittenIn, IsTable, IsPri
 ghost use Rattle.stmt65.specs.Printed.{HasNames, HasLabelName, PrintsAs, source_line, with_label};
 ghost use Rattle.stmt65.specs.Statements.{bytes_text, quoted, data_text, words_text, words_operation, has_operand, return_text, distance_text, instr_fields, with_operands, label_fields, definition_fields, remark_fields, fields_of};
 ghost use Rattle.stmt65.specs.Tables.{words_in, cut_text};
-ghost use Rattle.stmt65.specs.Views.{operands_seen, target_seen, statement_seen, remarks_seen};
+ghost use Rattle.stmt65.specs.code.StatementViews.{operands_seen, target_seen, statement_seen, remarks_seen};
 ghost use Rattle.stmt65.specs.Views as view;
 ghost use Rattle.stmt65.specs.Digits.{hex4};
 ghost use Rattle.stmt65.specs.Operands.{named_text};
-ghost use Rattle.stmt65.specs.Widths.{AreWordWide, AreBytes, IsInWidth};
+ghost use Rattle.stmt65.specs.code.Widths.{AreWordWide, AreBytes, IsInWidth};
 
 use crate::coding::ByteOrder;
 use crate::columns::{Column, Columns};
@@ -93,7 +93,7 @@ fn put_instr(
     }
 }
 
-#[tactic(auto, unfolding(crate::specs::Statements::bytes_text))]
+#[tactic(auto, unfolding(crate::specs::Statements::comma_list))]
 fn put_bytes(out: &mut Line, bytes: &[u8])
     requires some { 1 ≤ length bytes.now }
     requires room { array_vec_len out.old + 4 * length bytes.now ≤ 512 }

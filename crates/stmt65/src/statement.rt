@@ -75,7 +75,7 @@ pub enum Statement<'a> {
 impl Statement<'_> {
     ghost use Rattle.std.specs.Prelude.{◌≡◌};
     ghost use Rattle.stmt65.specs.Statements.{has_bytes};
-    ghost use Rattle.stmt65.specs.Views.{statement_seen};
+    ghost use Rattle.stmt65.specs.code.StatementViews.{statement_seen};
 
     /// Whether it is an instruction or data.
     pub fn has_bytes(&self) -> bool

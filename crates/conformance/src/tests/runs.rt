@@ -31,7 +31,7 @@ pub fn named(rt: &impl Abort, alloc: Global, start: Option<u16>) -> Options {
     options
 }
 
-/// A run over memory with these options, an information file and an image.
+/// A run over memory with this start address, if one is given, this information file and this image.
 pub fn listed(
     rt: &impl Abort,
     alloc: Global,

@@ -2,7 +2,7 @@
 use Rattle.std.specs.Prelude.{◌≡◌, ◌++◌, ℕ, List, [], Option, Result, Ok, Err, option_map, option_to_list}
 use Rattle.info65.specs.Code.Index.{Indexes}
 use Rattle.info65.specs.Code.Names.{given_seen}
-use Rattle.info65.specs.Faults.{Fails}
+use Rattle.info65.specs.Code.Results.{Fails}
 use Rattle.info65.specs.Includes.{included}
 use Rattle.info65.specs.Views.{IncludeView, InfoView, NameView}
 use Rattle.info65.specs.declared.fault.InfoFault.{InfoFault}

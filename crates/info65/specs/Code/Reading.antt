@@ -1,6 +1,6 @@
 -- What the parts of the reader return, against what is read of the whole.
 use Rattle.std.specs.Prelude.{◌≡◌, Bool, true, false, Result, Ok, Err}
-use Rattle.info65.specs.Faults.{Fails}
+use Rattle.info65.specs.Code.Results.{Fails}
 use Rattle.info65.specs.Lexemes.{KindView, semicolon}
 use Rattle.info65.specs.Reader.{Place, closed, outside}
 use Rattle.info65.specs.declared.fault.InfoFault.{InfoFault}

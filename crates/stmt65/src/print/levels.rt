@@ -5,7 +5,7 @@ ghost use Rattle.std.specs.List.{flat_map};
 ghost use Rattle.arrayvec.specs.ArrayVec.{array_vec_len};
 ghost use Rattle.stmt65.specs.Levels.{address_text, character, fields_after, level_fields, spaced_byte};
 ghost use Rattle.stmt65.specs.Line.{filled, with_fields};
-ghost use Rattle.stmt65.specs.Views.{remarks_seen, statement_seen};
+ghost use Rattle.stmt65.specs.code.StatementViews.{remarks_seen, statement_seen};
 
 use super::Line;
 use super::digits::{put_digits2, put_digits4};

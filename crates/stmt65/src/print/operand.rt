@@ -4,8 +4,9 @@ ghost use Rattle.std.specs.Prelude.{◌≡◌, ◌+◌, ◌≤◌, ◌++◌, len
 ghost use Rattle.arrayvec.specs.ArrayVec.{array_vec_len};
 ghost use Rattle.stmt65.specs.Operands.{named_text, short_text, long_text, prefix_text, bare_text, operand_text};
 ghost use Rattle.stmt65.specs.Printable.{IsShort, IsLong, IsWrittenIn};
-ghost use Rattle.stmt65.specs.Views.{one, expr_seen, operands_seen};
-ghost use Rattle.stmt65.specs.Widths.{IsWordWide, AreWordWide};
+ghost use Rattle.stmt65.specs.Views.{one};
+ghost use Rattle.stmt65.specs.code.StatementViews.{expr_seen, operands_seen};
+ghost use Rattle.stmt65.specs.code.Widths.{IsWordWide, AreWordWide};
 
 use super::Line;
 use super::digits::{put_hex2, put_hex4, put_offset};

@@ -3,7 +3,8 @@
 ghost use Rattle.std.specs.Prelude.{◌≡◌, ◌+◌, ◌<◌, ◌≤◌, ◌*◌, ◌++◌, length};
 ghost use Rattle.std.specs.List.{prefix_len, flat_map};
 ghost use Rattle.arrayvec.specs.ArrayVec.{array_vec_len};
-ghost use Rattle.stmt65.specs.Statements.{data_text, datum_behind, words_text, word_behind};
+ghost use Rattle.stmt65.specs.Digits.{hex4};
+ghost use Rattle.stmt65.specs.Statements.{data_text, datum_text, next_text, words_text};
 ghost use Rattle.stmt65.specs.Tables.{word_of, words_in, is_plain, cut_text};
 
 use super::Line;
@@ -25,7 +26,7 @@ fn word_of(order: ByteOrder, first: u8, second: u8) -> u16
 fn put_first_word<'a>(out: &mut Line, order: ByteOrder, bytes: &'a [u8]) -> &'a [u8]
     requires some { 2 ≤ length bytes.now }
     requires room { array_vec_len out.old + 3 * length bytes.now ≤ 512 }
-    ensures items { out.new.items ++ flat_map word_behind (words_in order result.now) ≡ out.old.items ++ words_text (words_in order bytes.now) }
+    ensures items { out.new.items ++ flat_map (next_text hex4) (words_in order result.now) ≡ out.old.items ++ words_text (words_in order bytes.now) }
     ensures len { array_vec_len out.new + 3 * length result.now < array_vec_len out.old + 3 * length bytes.now }
     ensures fewer { length result.now < length bytes.now }
 {
@@ -68,7 +69,7 @@ fn stretch_len(bytes: &[u8]) -> usize
 fn put_first_datum<'a>(out: &mut Line, bytes: &'a [u8]) -> &'a [u8]
     requires some { 1 ≤ length bytes.now }
     requires room { array_vec_len out.old + 4 * length bytes.now ≤ 512 }
-    ensures items { out.new.items ++ flat_map datum_behind (cut_text result.now) ≡ out.old.items ++ data_text (cut_text bytes.now) }
+    ensures items { out.new.items ++ flat_map (next_text datum_text) (cut_text result.now) ≡ out.old.items ++ data_text (cut_text bytes.now) }
     ensures len { array_vec_len out.new + 4 * length result.now < array_vec_len out.old + 4 * length bytes.now }
     ensures fewer { length result.now < length bytes.now }
 {

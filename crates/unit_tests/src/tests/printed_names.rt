@@ -4,7 +4,7 @@ ghost use Rattle.std.specs.Prelude.{◌≡◌, ◌<◌, ◌≤◌, IfOk, length,
 ghost use Rattle.std.specs.Option.{option_copied};
 ghost use Rattle.isa65.specs.declared.op.Op.{Op};
 ghost use Rattle.stmt65.specs.Printable.{IsPrintable, MayBeLabelled};
-ghost use Rattle.stmt65.specs.Views.{statement_seen};
+ghost use Rattle.stmt65.specs.code.StatementViews.{statement_seen};
 
 use crate::tests::asserts::{assert_equal, assert_that};
 use crate::tests::source_lines::source;

@@ -1,6 +1,6 @@
 ghost use Rattle.std.specs.Prelude.{◌≤◌, length};
 ghost use Rattle.stmt65.specs.Printable.{IsPrintable};
-ghost use Rattle.stmt65.specs.Views.{statement_seen};
+ghost use Rattle.stmt65.specs.code.StatementViews.{statement_seen};
 
 use crate::tests::asserts::assert_equal;
 use std::alloc::Global;

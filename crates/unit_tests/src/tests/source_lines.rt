@@ -56,7 +56,7 @@ fn put_prefixed(out: &mut String, size: AddressSize, value: &Value) -> Result<()
 }
 
 fn put_form(out: &mut String, form: &Form) -> Result<(), AllocError> {
-    let behind = match form {
+    let ending = match form {
         Form::Empty => "",
         Form::Accumulator => " A",
         Form::Immediate(value) => {
@@ -102,7 +102,7 @@ fn put_form(out: &mut String, form: &Form) -> Result<(), AllocError> {
             "),Y"
         }
     };
-    out.push_str(behind)
+    out.push_str(ending)
 }
 
 fn put_operation(out: &mut String, operation: &Operation) -> Result<(), AllocError> {

@@ -1,7 +1,7 @@
 ghost use Rattle.std.specs.Prelude.{◌≡◌, false, None};
 ghost use Rattle.isa65.specs.declared.op.Op.{Op};
 ghost use Rattle.stmt65.specs.Printable.{IsPrintable};
-ghost use Rattle.stmt65.specs.Views.{statement_seen};
+ghost use Rattle.stmt65.specs.code.StatementViews.{statement_seen};
 
 use crate::tests::asserts::assert_equal;
 use isa65::{Cpu, Mnemonic, Mode, Op};

@@ -18,29 +18,29 @@ put_group_statement-requires-clause-some g c =
 
 pub put_group_statement-requires-clause-group : goal.put_group_statement-requires-clause-group
 put_group_statement-requires-clause-group g c =
-    let here = group-here _ c.args.listed.now c.args.at _ _ _ _ _ _ _ c.map-map.ensures.map c.style.ensures.cpu c.address-address.ensures c.role_inside-role.ensures c.requires.len c.bytes.ensures.bytes c.split_at.ensures.back c.split_at-2.ensures.front in
+    let here = group-here c.args.listed.now c.args.at _ _ _ _ _ _ _ c.style.ensures.cpu c.address-address.ensures c.requires.role c.requires.len c.bytes.ensures.bytes c.split_at.ensures.back c.split_at-2.ensures.front in
     group-shaped _ _ _ _ _ _ here c.requires.start
 
 pub put_group_statement-requires-clause-label : goal.put_group_statement-requires-clause-label
 put_group_statement-requires-clause-label g c =
-    let here = group-here _ c.args.listed.now c.args.at _ _ _ _ _ _ _ c.map-map.ensures.map c.style.ensures.cpu c.address-address.ensures c.role_inside-role.ensures c.requires.len c.bytes.ensures.bytes c.split_at.ensures.back c.split_at-2.ensures.front in
-    label-told _ _ _ _ _ _ _ _ c.map-map.ensures.map c.style.ensures.style here c.requires.label
+    let here = group-here c.args.listed.now c.args.at _ _ _ _ _ _ _ c.style.ensures.cpu c.address-address.ensures c.requires.role c.requires.len c.bytes.ensures.bytes c.split_at.ensures.back c.split_at-2.ensures.front in
+    label-told _ _ _ _ _ _ _ _ c.map.ensures.map c.style.ensures.style here c.requires.label
 
 pub returns-then-put_group_statement : goal.returns-then-put_group_statement
 returns-then-put_group_statement g c =
-    let here = group-here _ c.args.listed.now c.args.at _ _ _ _ _ _ _ c.map-map.ensures.map c.style.ensures.cpu c.address-address.ensures c.role_inside-role.ensures c.requires.len c.bytes.ensures.bytes c.split_at.ensures.back c.split_at-2.ensures.front in
+    let here = group-here c.args.listed.now c.args.at _ _ _ _ _ _ _ c.style.ensures.cpu c.address-address.ensures c.requires.role c.requires.len c.bytes.ensures.bytes c.split_at.ensures.back c.split_at-2.ensures.front in
     then-empty _ _ _ _ _ c.requires.start c.requires.len
-    (sym (empty-told _ _ _ _ _ _ _ c.map-map.ensures.map c.style.ensures.style here) ∙ sym c.put_group_statement.ensures.empty ∙ c.if-put_group_statement.true)
-    (c.put_group_statement.ensures.line ∙ line-told _ _ _ _ _ _ _ _ c.map-map.ensures.map c.style.ensures.style here)
+    (sym (empty-told _ _ _ _ _ _ _ c.map.ensures.map c.style.ensures.style here) ∙ sym c.put_group_statement.ensures.empty ∙ c.if-put_group_statement.true)
+    (c.put_group_statement.ensures.line ∙ line-told _ _ _ _ _ _ _ _ c.map.ensures.map c.style.ensures.style here)
 
 pub returns-else-put_group_statement : goal.returns-else-put_group_statement
 returns-else-put_group_statement g c =
-    let here = group-here _ c.args.listed.now c.args.at _ _ _ _ _ _ _ c.map-map.ensures.map c.style.ensures.cpu c.address-address.ensures c.role_inside-role.ensures c.requires.len c.bytes.ensures.bytes c.split_at.ensures.back c.split_at-2.ensures.front in
+    let here = group-here c.args.listed.now c.args.at _ _ _ _ _ _ _ c.style.ensures.cpu c.address-address.ensures c.requires.role c.requires.len c.bytes.ensures.bytes c.split_at.ensures.back c.split_at-2.ensures.front in
     then-group _ _ _ _ _ c.requires.start c.requires.len
-    (sym (empty-told _ _ _ _ _ _ _ c.map-map.ensures.map c.style.ensures.style here) ∙ sym c.put_group_statement.ensures.empty ∙ c.if-put_group_statement.false)
-    (c.put_group_statement.ensures.line ∙ line-told _ _ _ _ _ _ _ _ c.map-map.ensures.map c.style.ensures.style here)
+    (sym (empty-told _ _ _ _ _ _ _ c.map.ensures.map c.style.ensures.style here) ∙ sym c.put_group_statement.ensures.empty ∙ c.if-put_group_statement.false)
+    (c.put_group_statement.ensures.line ∙ line-told _ _ _ _ _ _ _ _ c.map.ensures.map c.style.ensures.style here)
 
 pub put_group_statement-requires-clause-few : goal.put_group_statement-requires-clause-few
 put_group_statement-requires-clause-few g c =
-    let here = group-here _ c.args.listed.now c.args.at _ _ _ _ _ _ _ c.map-map.ensures.map c.style.ensures.cpu c.address-address.ensures c.role_inside-role.ensures c.requires.len c.bytes.ensures.bytes c.split_at.ensures.back c.split_at-2.ensures.front in
+    let here = group-here c.args.listed.now c.args.at _ _ _ _ _ _ _ c.style.ensures.cpu c.address-address.ensures c.requires.role c.requires.len c.bytes.ensures.bytes c.split_at.ensures.back c.split_at-2.ensures.front in
     few-bytes _ _ _ (group-shaped _ _ _ _ _ _ here c.requires.start)

@@ -2,7 +2,7 @@ use Rattle.std.proofs.Common.{◌≡◌, ◌∙◌, ◌++◌, List, ap, arith, f
 use Rattle.std.specs.Prelude.{Ok, option_to_list}
 use Rattle.std.proofs.lemmas.Bool.Decides.{nat_tests}
 use Rattle.std.proofs.lemmas.Result.{err_from_is_err_and}
-use Rattle.info65.specs.Faults.{Gives}
+use Rattle.info65.specs.Code.Results.{Gives}
 use Rattle.info65.specs.Includes.{lines_of}
 use Rattle.info65.specs.Labels.{by_address}
 use Rattle.info65.specs.Views.{NameView}

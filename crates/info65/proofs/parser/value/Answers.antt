@@ -4,7 +4,7 @@ use Rattle.std.proofs.lemmas.Result.{err_from_is_err_and}
 use Rattle.info65.specs.Code.Groups.{value_seen}
 use Rattle.info65.specs.Groups.{AssignmentView, GroupView}
 use Rattle.info65.specs.Code.Reading.{Leads}
-use Rattle.info65.specs.Reader.{behind, finish, one, read, read_token, value_at, valued}
+use Rattle.info65.specs.Reader.{assigned, finish, one, read, read_token, value_at, valued}
 use Rattle.info65.specs.Code.Steps.{Sees}
 use Rattle.info65.specs.Tokens.{Stream, TokenView}
 use Rattle.info65.specs.Views.{OptionsView}
@@ -15,7 +15,7 @@ use Rattle.info65.specs.declared.assignment.Value.{Value}
 use Rattle.info65.proofs.ReaderLemmas.{missing, read_next, value_refused, value_taken}
 use Rattle.info65.proofs.parser.value.Goals as goal
 
-value_read : (o : OptionsView) (k : GroupKind) (given : List AssignmentView) (a : Attribute) (b : List GroupView) (t : TokenView) (rest : Stream) (r : Result Value InfoFault) → Sees value_seen r (value_at o b a t) → Leads (read_token o (valued k given a) b t rest) r (λ v. read o (behind k (given ++ one a (value_seen v) ∷ [])) b rest)
+value_read : (o : OptionsView) (k : GroupKind) (given : List AssignmentView) (a : Attribute) (b : List GroupView) (t : TokenView) (rest : Stream) (r : Result Value InfoFault) → Sees value_seen r (value_at o b a t) → Leads (read_token o (valued k given a) b t rest) r (λ v. read o (assigned k (given ++ one a (value_seen v) ∷ [])) b rest)
 value_read o k given a b t rest (Ok v) is = value_taken o k given a b t rest (value_seen v) is
 value_read o k given a b t rest (Err e) is = value_refused o k given a b t rest e is
 

@@ -1,5 +1,5 @@
 use Rattle.stmt65.specs.Line.{line_of}
-use Rattle.stmt65.specs.Views.{statement_seen, remarks_seen}
+use Rattle.stmt65.specs.code.StatementViews.{statement_seen, remarks_seen}
 use Rattle.stmt65.proofs.OneLine.{one_line}
 use Rattle.stmt65.proofs.ReadBack.{reads_back}
 use Rattle.stmt65.proofs.print.put_line.Goals as goal

@@ -1,6 +1,6 @@
 use Rattle.std.proofs.Common.{◌∙◌, ap, subst}
 use Rattle.std.specs.Prelude.{List, Ok}
-use Rattle.info65.specs.Faults.{Gives}
+use Rattle.info65.specs.Code.Results.{Gives}
 use Rattle.info65.specs.Labels.{by_address, names_said}
 use Rattle.info65.specs.Groups.{GroupView}
 use Rattle.info65.specs.Views.{NameView}

@@ -1,6 +1,6 @@
 use Rattle.std.proofs.Common.{arith}
 use Rattle.std.proofs.lemmas.Grind.{common_steps}
-use Rattle.stmt65.specs.Views.{expr_seen}
+use Rattle.stmt65.specs.code.StatementViews.{expr_seen}
 use Rattle.stmt65.proofs.OperandTexts.{none_text, operands_as_many}
 use Rattle.stmt65.proofs.print.operand.put_operands.Goals as goal
 

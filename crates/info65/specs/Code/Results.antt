@@ -1,0 +1,13 @@
+-- What a call returns beside what the rules give: any call that allocates may be out of memory.
+use Rattle.std.specs.Prelude.{◌≡◌, ◌⊎◌, Result, Ok, Err}
+use Rattle.info65.specs.Faults.{out_of_memory}
+use Rattle.info65.specs.declared.fault.InfoFault.{InfoFault}
+
+-- a refusal is that of the definition, unless an allocation failed
+abbrev pub Fails : {A : Type 0} → InfoFault → Result A InfoFault → Type 0
+Fails e defined = (defined ≡ Err e) ⊎ (e ≡ out_of_memory)
+
+-- what a call returns, seen by `seen`, is what the definition gives, unless an allocation failed
+abbrev pub Gives : {X A : Type 0} → (X → A) → Result X InfoFault → Result A InfoFault → Type 0
+Gives seen (Ok x) defined = defined ≡ Ok (seen x)
+Gives seen (Err e) defined = Fails e defined
