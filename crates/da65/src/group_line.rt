@@ -62,6 +62,7 @@ fn address_operand<A: Allocator>(map: &Map<'_, A>, address: u16) -> SoleOperand
 }
 
 /// The operand of an instruction in this mode at this address that has these bytes.
+#[inline(always)]
 #[tactic(auto, using(crate::proofs::BareLemmas::bare_operands), unfolding(crate::specs::Statements::operands_of))]
 fn sole_operand<A: Allocator>(
     map: &Map<'_, A>,

@@ -130,7 +130,15 @@ fn put_group<A: Allocator>(
     let (_, rest) = listed.bytes().split_at(at);
     let (bytes, _) = rest.split_at(len);
     let address = listed.address(at);
-    if put_group_statement(out, listed.style(), listed.map(), role, address, bytes, label) {
+    if put_group_statement(
+        out,
+        listed.style(),
+        listed.map(),
+        role,
+        address,
+        bytes,
+        label,
+    ) {
         ListingPlace::Ending(at + len)
     } else {
         ListingPlace::Group(at + len)

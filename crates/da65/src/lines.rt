@@ -1,13 +1,13 @@
 //! The lines of a listing, one at a time.
 
-ghost use Rattle.std.specs.Prelude.{◌≡◌, ◌+◌, ◌<◌, ◌≤◌, [], ◌∷◌, length, MatchOption, None, OnOk, OnErr, false};
+ghost use Rattle.std.specs.Prelude.{◌≡◌, ◌+◌, ◌<◌, ◌≤◌, [], ◌∷◌, IfNone, IfSome, MatchOption, None, OnOk, OnErr, false};
 ghost use Rattle.std.specs.Option.{option_copied};
 ghost use Rattle.std.specs.Bool.{OnTrue, OnFalse};
 ghost use Rattle.std.specs.Io.KnownBytes.{Appends};
 ghost use Rattle.map65.specs.Device.{Counts, AppendsFront};
 ghost use Rattle.map65.specs.Roles.{is_skip, role_of};
 ghost use Rattle.da65.specs.Groups.{IsGroupPlace};
-ghost use Rattle.da65.specs.Lines.{IsNext, IsPlace, groups_left, constants_left, left_from, segment_of};
+ghost use Rattle.da65.specs.Lines.{IsGroupStart, IsNext, IsPlace, groups_left, constants_left, left_from, segment_of};
 ghost use Rattle.da65.specs.Listing.{lines_of, text_of};
 ghost use Rattle.da65.specs.Segments.{segment_before};
 
@@ -48,23 +48,22 @@ impl<'a, A: Allocator> Model for Lines<'a, A> {
     ghost invariant = { λ l. AreLines l.place l.listed (option_copied l.segment) };
 }
 
-/// The first byte from this one on that is not skipped, or the end.
-fn shown_from<A: Allocator>(listed: &Listed<'_, A>, from: usize) -> usize
+/// The first byte from this one on that is not skipped, if there is one. A group begins with it.
+fn shown_from<A: Allocator>(listed: &Listed<'_, A>, from: usize) -> Option<usize>
     requires { IsGroupPlace listed.now from }
-    ensures lines { groups_left listed.now result ≡ groups_left listed.now from }
-    ensures segment { segment_before listed.now result ≡ segment_before listed.now from }
-    ensures place { IsGroupPlace listed.now result }
-    ensures shown { result < length listed.now.image.bytes → is_skip (role_of listed.now.info (listed.now.image.start + result)) ≡ false }
+    ensures lines { MatchOption result (groups_left listed.now from ≡ []) (λ at. groups_left listed.now at ≡ groups_left listed.now from) }
+    ensures segment { IfSome result (λ at. segment_before listed.now at ≡ segment_before listed.now from) }
+    ensures start { IfSome result (IsGroupStart listed.now) }
 {
     let count = listed.bytes().len();
     let mut at = from;
     'bytes: while at < count {
         if !is_skipped(listed.map(), listed.address(at)) {
-            return at;
+            return Some(at);
         }
         at += 1;
     }
-    at
+    None
 }
 
 /// Replaces the buffer by the first line of the next group from this byte on, and returns the next place. `segment` is that of
@@ -78,16 +77,30 @@ fn put_next_group<'a, A: Allocator>(
 ) -> Option<ListingPlace>
     requires place { IsGroupPlace listed.now from }
     requires segment { option_copied segment.old ≡ segment_before listed.now from }
-    ensures { MatchOption result (groups_left listed.now from ≡ []) (λ next. IsNext listed.now (groups_left listed.now from) out.new.items next (option_copied segment.new)) }
+    ensures next { MatchOption result (groups_left listed.now from ≡ []) (λ next. IsNext listed.now (groups_left listed.now from) out.new.items next (option_copied segment.new)) }
+    ensures kept { IfNone result (option_copied segment.new ≡ option_copied segment.old) }
 {
-    let at = shown_from(listed, from);
-    if at == listed.bytes().len() {
-        return None;
-    }
+    let at = shown_from(listed, from)?;
     if listed.is_marked() {
         return Some(put_opening(out, listed, segment, at));
     }
     Some(put_inside(out, listed, at, listed.address(at) as usize + 1))
+}
+
+/// The same, in a frame of its own.
+#[inline(never)]
+fn put_next_group_apart<'a, A: Allocator>(
+    out: &mut Line,
+    listed: &Listed<'a, A>,
+    segment: &mut Option<&'a [u8]>,
+    from: usize,
+) -> Option<ListingPlace>
+    requires place { IsGroupPlace listed.now from }
+    requires segment { option_copied segment.old ≡ segment_before listed.now from }
+    ensures next { MatchOption result (groups_left listed.now from ≡ []) (λ next. IsNext listed.now (groups_left listed.now from) out.new.items next (option_copied segment.new)) }
+    ensures kept { IfNone result (option_copied segment.new ≡ option_copied segment.old) }
+{
+    put_next_group(out, listed, segment, from)
 }
 
 /// Replaces the buffer by the next line of constants from this address on, else by what follows them, and returns the next place.
@@ -100,7 +113,8 @@ fn put_constants<'a, A: Allocator>(
 ) -> Option<ListingPlace>
     requires inside { from ≤ 65536 }
     requires segment { option_copied segment.old ≡ None }
-    ensures { MatchOption result (constants_left listed.now from any ≡ []) (λ next. IsNext listed.now (constants_left listed.now from any) out.new.items next (option_copied segment.new)) }
+    ensures next { MatchOption result (constants_left listed.now from any ≡ []) (λ next. IsNext listed.now (constants_left listed.now from any) out.new.items next (option_copied segment.new)) }
+    ensures kept { IfNone result (option_copied segment.new ≡ option_copied segment.old) }
 {
     if let Some(next) = put_next_constant(out, listed, from, any) {
         return Some(next);
@@ -109,12 +123,13 @@ fn put_constants<'a, A: Allocator>(
         put_blank(out, listed.style());
         return Some(ListingPlace::Group(0));
     }
-    put_next_group(out, listed, segment, 0)
+    put_next_group_apart(out, listed, segment, 0)
 }
 
 /// Replaces the buffer by the line at a place, and returns the place of the next one. `segment` is that of the place, and becomes that
-/// of the next place.
-fn put_next<'a, A: Allocator>(
+/// of the next place. It has a frame of its own, so that the frame of most lines is small.
+#[inline(never)]
+fn put_next_apart<'a, A: Allocator>(
     out: &mut Line,
     listed: &Listed<'a, A>,
     segment: &mut Option<&'a [u8]>,
@@ -122,7 +137,8 @@ fn put_next<'a, A: Allocator>(
 ) -> Option<ListingPlace>
     requires place { IsPlace place listed.now }
     requires segment { option_copied segment.old ≡ segment_of place listed.now }
-    ensures { MatchOption result (left_from place listed.now ≡ []) (λ next. IsNext listed.now (left_from place listed.now) out.new.items next (option_copied segment.new)) }
+    ensures next { MatchOption result (left_from place listed.now ≡ []) (λ next. IsNext listed.now (left_from place listed.now) out.new.items next (option_copied segment.new)) }
+    ensures kept { IfNone result (option_copied segment.new ≡ option_copied segment.old) }
 {
     match place {
         ListingPlace::Title => {
@@ -143,7 +159,7 @@ fn put_next<'a, A: Allocator>(
         }
         ListingPlace::Constant(from, any) => put_constants(out, listed, segment, from, any),
         ListingPlace::Assignment(at) => Some(put_assignment(out, listed, at)),
-        ListingPlace::Group(from) => put_next_group(out, listed, segment, from),
+        ListingPlace::Group(from) => put_next_group_apart(out, listed, segment, from),
         ListingPlace::Segment(at) => Some(put_segment(out, listed, segment, at)),
         ListingPlace::Comment(at, from) => Some(put_comments(out, listed, at, from)),
         ListingPlace::Forward(at, from) => Some(put_inside(out, listed, at, from)),
@@ -152,6 +168,26 @@ fn put_next<'a, A: Allocator>(
             put_blank(out, listed.style());
             Some(ListingPlace::Group(next))
         }
+    }
+}
+
+/// Replaces the buffer by the line at a place, and returns the place of the next one. `segment` is that of the place, and becomes that
+/// of the next place.
+#[inline(always)]
+fn put_next<'a, A: Allocator>(
+    out: &mut Line,
+    listed: &Listed<'a, A>,
+    segment: &mut Option<&'a [u8]>,
+    place: ListingPlace,
+) -> Option<ListingPlace>
+    requires place { IsPlace place listed.now }
+    requires segment { option_copied segment.old ≡ segment_of place listed.now }
+    ensures next { MatchOption result (left_from place listed.now ≡ []) (λ next. IsNext listed.now (left_from place listed.now) out.new.items next (option_copied segment.new)) }
+    ensures kept { IfNone result (option_copied segment.new ≡ option_copied segment.old) }
+{
+    match place {
+        ListingPlace::Group(from) => put_next_group(out, listed, segment, from),
+        _ => put_next_apart(out, listed, segment, place),
     }
 }
 
@@ -179,11 +215,9 @@ impl<'a, A: Allocator> Lines<'a, A> {
     {
         // The old line is blanked here once, for all kinds of lines.
         out.clear();
-        let mut segment = self.segment;
-        match put_next(out, &self.listed, &mut segment, self.place) {
+        match put_next(out, &self.listed, &mut self.segment, self.place) {
             Some(next) => {
                 self.place = next;
-                self.segment = segment;
                 true
             }
             None => {

@@ -94,6 +94,7 @@ fn has_separator<A: Allocator>(listed: &Listed<'_, A>, at: usize) -> bool
 
 /// Replaces the buffer by the first line of a group, and returns the next place. `segment` is that of the group before, and becomes
 /// that of this group where its line is written.
+#[inline(never)]
 pub fn put_opening<'a, A: Allocator>(
     out: &mut Line,
     listed: &Listed<'a, A>,

@@ -306,6 +306,7 @@ impl Mnemonic {
     ghost use Rattle.isa65.specs.declared.mnemonic.Mnemonic.{Mnemonic};
 
     /// The mnemonic as the data sheets write it, in lower case.
+    #[inline(always)]
     pub fn text(self) -> &'static [u8]
         ensures { result.now ≡ text_of self }
     {

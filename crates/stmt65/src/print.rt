@@ -56,6 +56,7 @@ fn put_operation(out: &mut Line, columns: &Columns, operation: &[u8])
 }
 
 /// Appends the text of a mnemonic. Most have three letters.
+#[inline(always)]
 fn put_mnemonic(out: &mut Line, text: &[u8])
     requires { array_vec_len out.old + length text.now ≤ 512 }
     ensures { out.new.items ≡ out.old.items ++ text.now }

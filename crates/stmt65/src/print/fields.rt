@@ -18,14 +18,15 @@ pub(super) fn put(out: &mut Line, bytes: &[u8])
     prove!(taken.is_ok());
 }
 
-/// Appends fewer than eight blanks.
-fn put_few_blanks(out: &mut Line, count: usize)
+/// Appends one blank or more, but fewer than eight.
+#[inline(never)]
+fn put_some_blanks(out: &mut Line, count: usize)
+    requires some { 0 < count }
     requires few { count < 8 }
     requires room { array_vec_len out.old + count ≤ 512 }
     ensures { out.new.items ≡ out.old.items ++ replicate count 32 }
 {
     match count {
-        0 => {}
         1 => put(out, b" "),
         2 => put(out, b"  "),
         3 => put(out, b"   "),
@@ -36,7 +37,20 @@ fn put_few_blanks(out: &mut Line, count: usize)
     }
 }
 
+/// Appends fewer than eight blanks.
+#[inline(always)]
+fn put_few_blanks(out: &mut Line, count: usize)
+    requires few { count < 8 }
+    requires room { array_vec_len out.old + count ≤ 512 }
+    ensures { out.new.items ≡ out.old.items ++ replicate count 32 }
+{
+    if count != 0 {
+        put_some_blanks(out, count);
+    }
+}
+
 /// Appends this many blanks, eight at a time.
+#[inline(always)]
 fn put_blanks(out: &mut Line, count: usize)
     requires { array_vec_len out.old + count ≤ 512 }
     ensures { out.new.items ≡ out.old.items ++ replicate count 32 }
@@ -50,6 +64,7 @@ fn put_blanks(out: &mut Line, count: usize)
 }
 
 /// Makes the line ready for a field at the column.
+#[inline(always)]
 #[tactic(auto, unfolding(crate::specs::Line::filled))]
 pub(super) fn start_field(out: &mut Line, column: Column)
     requires { array_vec_len out.old < 512 }

@@ -1,8 +1,8 @@
-use Rattle.std.proofs.Common.{◌≡◌, ◌∙◌, ℕ, ◌+◌, ◌<◌, length, true, ap, sym}
+use Rattle.std.proofs.Common.{◌≡◌, ◌∙◌, ℕ, ◌+◌, ◌<◌, length, true, ap, arith, sym}
 use Rattle.map65.specs.MapView.{MapView}
 use Rattle.map65.specs.Roles.{is_skip, role_of}
 use Rattle.da65.proofs.GroupLemmas.{place-skip}
-use Rattle.da65.proofs.NextLemmas.{lines-skip}
+use Rattle.da65.proofs.NextLemmas.{lines-end, lines-skip}
 use Rattle.da65.proofs.SegmentLemmas.{segment-skip}
 use Rattle.da65.proofs.lines.shown_from.Goals as goal
 
@@ -16,3 +16,6 @@ bytes-preserved g c =
       lines = lines-skip _ _ c.bytes.invariant.place low skip ∙ c.bytes.invariant.lines;
       segment = segment-skip _ _ low skip ∙ c.bytes.invariant.segment;
     }
+
+pub returns-clause-lines : goal.returns-clause-lines
+returns-clause-lines g c = sym c.bytes.invariant.lines ∙ lines-end _ _ (omega (arith, c.bytes-test.false, c.bytes.invariant.place.bound, ap length c.bytes-count.ensures.bytes))
