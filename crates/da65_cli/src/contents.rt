@@ -1,21 +1,23 @@
 //! The contents of files.
 
-ghost use Rattle.std.specs.Prelude.{◌≡◌, take, IfOk, IfSome};
+ghost use Rattle.std.specs.Prelude.{◌≡◌, take, IfNone, IfOk, IfSome};
+ghost use Rattle.map65.specs.Device.{one_more};
 
-use da65::Told;
+use da65::{Source, Told};
 use map65::{ImageFault, take_up_to};
 use std::alloc::{AllocError, Global};
 use std::fs::File;
-use std::io::{ErrorKind, Read};
+use std::io::ErrorKind;
 
 /// The most that is read: one byte more than an information file or an include file may have.
 const LIMIT: usize = 1_048_577;
 
 /// Reads up to the end or the limit. There are no contents if a read fails.
-fn read_from<R: Read + Drop>(alloc: Global, input: R) -> Result<Option<Vec<u8>>, AllocError>
-    ensures { IfOk result (λ found. IfSome found (λ bytes. IfSome (R.remaining input) (λ xs. bytes.items ≡ take LIMIT xs))) }
+fn read_from<R: Source>(alloc: Global, input: &mut R) -> Result<Option<Vec<u8>>, AllocError>
+    ensures bytes { IfOk result (λ found. IfSome found (λ bytes. IfSome (R.left input.old) (λ xs. bytes.items ≡ take LIMIT xs))) }
+    ensures none { IfOk result (λ found. IfNone found (R.faults input.new ≡ one_more (R.faults input.old))) }
 {
-    match take_up_to(alloc, &mut Told::new(input), LIMIT) {
+    match take_up_to(alloc, input, LIMIT) {
         Ok(bytes) => Ok(Some(bytes)),
         Err(ImageFault::Memory) => Err(AllocError),
         Err(_) => Ok(None),
@@ -27,10 +29,10 @@ fn read_from<R: Read + Drop>(alloc: Global, input: R) -> Result<Option<Vec<u8>>,
 pub fn contents(rt: &HostRuntime, name: &str) -> Result<Option<Vec<u8>>, AllocError> {
     // A pipe that another user made can be read, but not opened by its name.
     if name == "/dev/stdin" {
-        return read_from(rt.alloc(), rt.stdin());
+        return read_from(rt.alloc(), &mut Told::new(rt.stdin()));
     }
     match File::open(rt, name) {
-        Ok(file) => read_from(rt.alloc(), file),
+        Ok(file) => read_from(rt.alloc(), &mut Told::new(file)),
         Err(error) => match error.kind() {
             ErrorKind::OutOfMemory => Err(AllocError),
             _ => Ok(None),

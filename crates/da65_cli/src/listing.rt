@@ -9,7 +9,7 @@ ghost use Rattle.da65.specs.RunLaw.{Reassembles};
 ghost use Rattle.da65.specs.Running.{FailsAtMostOnce, OutCount, most_read};
 ghost use Rattle.da65_cli.specs.Code.Buffered.{buffered_out, buffered_taken};
 ghost use Rattle.da65_cli.specs.Delivery.{Delivers, ErrorsCount};
-ghost use Rattle.da65_cli.specs.Code.Settling.{IsListed, PassesOn, Settles, SettlesOutCount};
+ghost use Rattle.da65_cli.specs.Code.Settling.{IsListed, PassesOn, Settles, SettlesErrorsCount, SettlesOutCount};
 
 use crate::buffered::Buffered;
 use crate::held::Held;
@@ -30,7 +30,7 @@ fn pass_on<M: Sink>(
 ) -> Result<Status, RunFault>
     requires { IsListed was }
     ensures text { PassesOn was result messages.now (M.taken errors.old) (M.taken errors.new) }
-    ensures count { ErrorsCount result (M.faults errors.old) (M.faults errors.new) }
+    ensures count { SettlesErrorsCount was result (M.faults errors.old) (M.faults errors.new) }
 {
     match write_whole(errors, messages) {
         Ok(()) => was,
@@ -47,7 +47,7 @@ fn settle<W: Sink, M: Sink>(
 ) -> Result<Status, RunFault>
     ensures text { Settles was result (buffered_taken W.taken buffer.old) (W.taken (buffered_out buffer.new)) messages.now (M.taken errors.old) (M.taken errors.new) }
     ensures out_count { SettlesOutCount was result (W.faults (buffered_out buffer.old)) (W.faults (buffered_out buffer.new)) }
-    ensures errors_count { ErrorsCount result (M.faults errors.old) (M.faults errors.new) }
+    ensures errors_count { SettlesErrorsCount was result (M.faults errors.old) (M.faults errors.new) }
 {
     match was {
         Err(RunFault::Memory) => Err(RunFault::Memory),

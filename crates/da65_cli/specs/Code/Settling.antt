@@ -25,6 +25,13 @@ PassesOn was (Err Messages) messages errors errors' = AppendsFront errors errors
 PassesOn was (Err Write) messages errors errors' = ⊥
 PassesOn was (Err Memory) messages errors errors' = ⊥
 
+-- The result is Messages only if a write of a message failed: one on standard error, or one before, for which there was no room.
+abbrev pub SettlesErrorsCount : Result Status RunFault → Result Status RunFault → ℕ → ℕ → Type 0
+SettlesErrorsCount was (Ok status) old new = new ≡ old
+SettlesErrorsCount was (Err Messages) old new = (new ≡ one_more old) ⊎ ((was ≡ Err Messages) × (new ≡ old))
+SettlesErrorsCount was (Err Write) old new = new ≡ old
+SettlesErrorsCount was (Err Memory) old new = new ≡ old
+
 -- From what the buffer had taken, the messages that wait, and the result of the run: what the output and standard error have.
 abbrev pub Settles : Result Status RunFault → Result Status RunFault → Option (List ℕ) → Option (List ℕ) → List ℕ → Option (List ℕ) → Option (List ℕ) → Type 0
 Settles was (Ok status) taken out messages errors errors' = (was ≡ Ok status) × Keeps taken out × Appends errors errors' messages
