@@ -5,6 +5,7 @@ pub mod StepLemmas
 pub mod ShapeLemmas
 pub mod SegmentLemmas
 pub mod CommentLemmas
+pub mod ConstantLemmas
 pub mod MarkLemmas
 pub mod NextLemmas
 pub mod BaseLemmas

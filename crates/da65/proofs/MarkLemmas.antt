@@ -1,19 +1,22 @@
 -- A listing at comment level 0, without segments and comments, has no lines at the heads of its groups.
 use Rattle.std.proofs.Common.{◌≡◌, ◌∙◌, ◌+◌, ◌++◌, ◌-◌, ◌<◌, ℕ, Bool, true, false, List, [], ◌∷◌, Option, Some, None, refl, sym, ap, subst, arith, ⊎_elim}
-use Rattle.std.specs.Prelude.{if◌then◌else◌, ◌==◌, is_some, option_map}
-use Rattle.std.specs.List.{find, flat_map}
+use Rattle.std.specs.Prelude.{if◌then◌else◌, ◌==◌, is_some, not, option_map}
+use Rattle.std.specs.List.{find, flat_map, list_any}
 use Rattle.std.proofs.lemmas.Bool.{cases_lt}
 use denote.Bor.{Bor}
 use Rattle.info65.specs.Code.Names.{given_seen}
 use Rattle.info65.specs.declared.name.Given.{Given}
-use Rattle.std.specs.Bool.{OnFalse}
+use Rattle.std.specs.Bool.{OnFalse, OnTrue}
 use Rattle.info65.specs.Names.{AreNames, covering, name_at}
 use Rattle.info65.specs.Segments.{AreSegments, contains, segment_covering}
 use Rattle.info65.specs.Views.{InfoView, NameView, SegmentView}
+use Rattle.info65.specs.declared.range.RangeSpec.{RangeSpec}
+use Rattle.isa65.specs.declared.cpu.Cpu.{Cpu}
 use Rattle.map65.proofs.NameLemmas.{last-name}
 use Rattle.map65.specs.ImageView.{ImageView, IsPlaced}
 use Rattle.map65.specs.MapView.{MapView}
 use Rattle.map65.specs.Spans.{addresses}
+use Rattle.da65.specs.Code.SkipRanges.{is_skip_range}
 use Rattle.da65.specs.Comments.{comment_at, comment_by}
 use Rattle.da65.specs.Groups.{group_len}
 use Rattle.da65.specs.Lines.{IsListed, IsUnmarked}
@@ -94,9 +97,13 @@ none-shown given n t same is off = sym (ap (λ (n : NameView). n.comment) same) 
 
 -- ---- what is listed
 
-pub listed-of : (m : MapView) (i : InfoView) (image : ImageView) (t : Style) (marked : Bool) → m ≡ record { info = i; image = image } → t ≡ style_of i.settings → IsPlaced image → AreNames i.names → AreSegments i.segments
-    → OnFalse marked (HasNoMarks i t) → IsListed m i image t marked
-listed-of m i image t marked built is placed names segments none =
+pub all-told : (found : Bool) (ranges shown : List RangeSpec) → found ≡ list_any is_skip_range ranges → ranges ≡ shown → OnTrue (not found) (list_any is_skip_range shown ≡ false)
+all-told true ranges shown is same = tt
+all-told false ranges shown is same = ap (list_any is_skip_range) (sym same) ∙ sym is
+
+pub listed-of : (m : MapView) (i : InfoView) (image : ImageView) (t : Style) (cpu : Cpu) (marked all : Bool) → m ≡ record { info = i; image = image } → t ≡ style_of i.settings → cpu ≡ t.cpu → IsPlaced image → AreNames i.names → AreSegments i.segments
+    → OnFalse marked (HasNoMarks i t) → OnTrue all (list_any is_skip_range i.ranges ≡ false) → IsListed m i image t cpu marked all
+listed-of m i image t cpu marked all built is cpu_is placed names segments none listed =
     let info : m.info ≡ i = ap (λ (m : MapView). m.info) built in
     let picture : m.image ≡ image = ap (λ (m : MapView). m.image) built in
     let style : t ≡ style_of m.info.settings = is ∙ ap (λ (i : InfoView). style_of i.settings) (sym info) in
@@ -104,8 +111,10 @@ listed-of m i image t marked built is placed names segments none =
       info_is = info;
       image_is = picture;
       style_is = style;
+      cpu_is = cpu_is;
       placed = subst IsPlaced (sym picture) placed;
       names = subst (λ (i : InfoView). AreNames i.names) (sym info) names;
       segments = subst (λ (i : InfoView). AreSegments i.segments) (sym info) segments;
       unmarked = λ off. unmarked m i t info style (subst (λ (b : Bool). OnFalse b (HasNoMarks i t)) off none);
+      listed = subst (λ (i : InfoView). OnTrue all (list_any is_skip_range i.ranges ≡ false)) (sym info) listed;
     }

@@ -15,7 +15,7 @@ or-false false false is = (refl, refl)
 or-false false true is = absurd cc
 or-false true t is = absurd cc
 
-skip-in : (ranges : List RangeSpec) (a : ℕ) → list_any is_skip_range ranges ≡ false → is_skip (role_in ranges a) ≡ false
+pub skip-in : (ranges : List RangeSpec) (a : ℕ) → list_any is_skip_range ranges ≡ false → is_skip (role_in ranges a) ≡ false
 unfolding role_in
 skip-in [] a none = refl
 skip-in (r ∷ rs) a none =

@@ -1,13 +1,16 @@
 -- The lines of a listing that are left from a place on.
 use Rattle.std.specs.Prelude.{◌≡◌, ℕ, ◌+◌, ◌-◌, ◌<◌, ◌≤◌, Bool, true, false, List, [], ◌∷◌, ◌++◌, length, map, Option, None}
-use Rattle.std.specs.List.{flat_map}
+use Rattle.std.specs.Bool.{OnTrue}
+use Rattle.std.specs.List.{flat_map, list_any}
 use Rattle.info65.specs.Names.{AreNames}
 use Rattle.info65.specs.Segments.{AreSegments}
 use Rattle.info65.specs.Views.{InfoView}
+use Rattle.isa65.specs.declared.cpu.Cpu.{Cpu}
 use Rattle.map65.specs.ImageView.{ImageView, IsPlaced}
 use Rattle.map65.specs.MapView.{MapView}
 use Rattle.map65.specs.Roles.{is_skip, role_of}
 use Rattle.da65.specs.BaseNames.{names_of}
+use Rattle.da65.specs.Code.SkipRanges.{is_skip_range}
 use Rattle.da65.specs.Comments.{comment_at}
 use Rattle.da65.specs.Groups.{IsGroupPlace, group_bytes, group_len, groups_from}
 use Rattle.da65.specs.Listing.{ListingLine, assignment_line, comments, constants, ending_lines, forwards, group_line, group_lines, has_constant_line, line_text, listing, opening_lines, plain, segment_lines, statement_lines, with_empty_line}
@@ -137,15 +140,18 @@ pub record IsUnmarked (m : MapView) : Type 0 where
   pub comments : (a : ℕ) → comment_at m a ≡ None
   pub segments : (a : ℕ) → segment_at m a ≡ None
 
--- what information, an image, its map and a style know of a listing; `marked` says whether it may have separators, segments or comments
-pub record IsListed (m : MapView) (info : InfoView) (image : ImageView) (t : Style) (marked : Bool) : Type 0 where
+-- what information, an image, its map, a style and a CPU know of a listing; `marked` says whether it may have separators, segments or comments, and `all` that no range
+-- has the type SKIP
+pub record IsListed (m : MapView) (info : InfoView) (image : ImageView) (t : Style) (cpu : Cpu) (marked all : Bool) : Type 0 where
   pub info_is : m.info ≡ info
   pub image_is : m.image ≡ image
   pub style_is : t ≡ style_of m.info.settings
+  pub cpu_is : cpu ≡ t.cpu
   pub placed : IsPlaced m.image
   pub names : AreNames m.info.names
   pub segments : AreSegments m.info.segments
   pub unmarked : marked ≡ false → IsUnmarked m
+  pub listed : OnTrue all (list_any is_skip_range m.info.ranges ≡ false)
 
 -- the lines that are left from a place, where the segment is this one
 pub record AreLines (place : ListingPlace) (m : MapView) (segment : Option (List ℕ)) : Type 0 where

@@ -49,6 +49,46 @@ fn is_named_constant<A: Allocator>(listed: &Listed<'_, A>, address: u16, name: &
     true
 }
 
+/// The first address from this one on and before `end` that has a constant line. The buffer holds its name.
+fn constant_before<A: Allocator>(
+    listed: &Listed<'_, A>,
+    from: usize,
+    end: usize,
+    name: &mut NameBuf,
+) -> Option<usize>
+    requires order { from ≤ end }
+    requires bound { end ≤ 65536 }
+    ensures lines { MatchOption result (constants listed.now (65536 - from) from ≡ constants listed.now (65536 - end) end) (λ v. constants listed.now (65536 - from) from ≡ constants listed.now (65536 - v) v) }
+    ensures is { IfSome result (λ v. IsConstant listed.now v) }
+    ensures text { IfSome result (λ v. name.new.items ≡ base_name (names_of listed.now) v) }
+    ensures long { IfSome result (λ v. IsNameLong name.new.items) }
+{
+    let mut at = from;
+    'addresses: while at < end {
+        if is_named_constant(listed, at as u16, name) {
+            return Some(at);
+        }
+        at += 1;
+    }
+    None
+}
+
+/// The address from which on a constant line may follow: the end of an image of which each byte is listed if this address lies in it, else
+/// this address.
+fn after_listed<A: Allocator>(listed: &Listed<'_, A>, from: usize) -> usize
+    requires { from ≤ 65536 }
+    ensures lines { constants listed.now (65536 - from) from ≡ constants listed.now (65536 - result) result }
+    ensures bound { result ≤ 65536 }
+{
+    let start = listed.start();
+    let end = start + listed.bytes().len();
+    if listed.lists_all() && start <= from && from < end {
+        end
+    } else {
+        from
+    }
+}
+
 /// The first address from this one on that has a constant line. The buffer holds its name.
 fn constant_from<A: Allocator>(
     listed: &Listed<'_, A>,
@@ -61,14 +101,12 @@ fn constant_from<A: Allocator>(
     ensures text { IfSome result (λ v. name.new.items ≡ base_name (names_of listed.now) v) }
     ensures long { IfSome result (λ v. IsNameLong name.new.items) }
 {
-    let mut at = from;
-    'addresses: while at < ADDRESSES {
-        if is_named_constant(listed, at as u16, name) {
-            return Some(at);
-        }
-        at += 1;
+    // No address of the image is looked at, if each byte of it is listed.
+    let before = from.max(listed.start());
+    if let Some(at) = constant_before(listed, from, before, name) {
+        return Some(at);
     }
-    None
+    constant_before(listed, after_listed(listed, before), ADDRESSES, name)
 }
 
 /// Replaces the buffer by the comment of the constant of this address, if there is one, else by its constant line, and

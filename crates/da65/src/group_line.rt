@@ -21,7 +21,7 @@ use crate::statement_line::put_closing;
 use crate::statements::{is_forced, statement_for};
 use crate::style::Style;
 use info65::RangeType;
-use isa65::{Mode, Op};
+use isa65::{DecodeTable, Mode, Op};
 use map65::{Map, NameBuf, target_of, word_of};
 use std::alloc::Allocator;
 use stmt65::{Expr, Line, Operands, Statement};
@@ -275,18 +275,20 @@ fn put_named<A: Allocator>(
 }
 
 /// Replaces the buffer by the line of the statement of the group of this role at this address that has these bytes,
-/// after this label if there is one, and returns whether an empty line follows.
+/// after this label if there is one, and returns whether an empty line follows. The opcodes are those of the style's CPU.
 #[inline(always)]
 #[tactic(auto, unfolding(crate::specs::Statements::statement_for))]
 pub fn put_group_statement<A: Allocator>(
     out: &mut Line,
     style: &Style,
+    opcodes: &DecodeTable,
     map: &Map<'_, A>,
     role: RangeType,
     address: u16,
     bytes: &[u8],
     label: Option<&[u8]>,
 ) -> bool
+    requires cpu { opcodes.now ≡ style.now.cpu }
     requires names { AreNames map.now.info.names }
     requires some { 0 < length bytes.now }
     requires room { address + length bytes.now ≤ 65536 }
@@ -298,7 +300,7 @@ pub fn put_group_statement<A: Allocator>(
 {
     match role {
         RangeType::Code => {
-            let instruction = instruction_in(&style.cpu, bytes);
+            let instruction = instruction_in(opcodes, bytes);
             match put_sole(out, style, map, address, bytes, instruction, label) {
                 Some(empty) => empty,
                 None => put_named(out, style, map, role, address, bytes, label),

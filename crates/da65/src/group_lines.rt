@@ -133,6 +133,7 @@ fn put_group<A: Allocator>(
     if put_group_statement(
         out,
         listed.style(),
+        listed.opcodes(),
         listed.map(),
         role,
         address,

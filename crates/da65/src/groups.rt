@@ -173,7 +173,7 @@ pub fn is_skipped<A: Allocator>(map: &Map<'_, A>, address: u16) -> bool
 }
 
 /// Whether a range has the type SKIP.
-fn has_skip_range(ranges: &[RangeSpec]) -> bool
+pub fn has_skip_range(ranges: &[RangeSpec]) -> bool
     ensures { result ≡ list_any is_skip_range ranges.now }
 {
     ranges.iter().any(|range| is_skip(range.role))

@@ -7,7 +7,7 @@ use isa65::{Op, OpcodeSet};
 
 /// The instruction that the bytes begin with: none where the first is an undefined opcode, or where
 /// they end before the instruction does.
-#[inline(never)]
+#[inline(always)]
 #[tactic(auto, unfolding(crate::specs::Instructions::instruction_in))]
 pub fn instruction_in<S: OpcodeSet>(set: &S, bytes: &[u8]) -> Option<Op>
     ensures { result ≡ instruction_in (S.table set.now) bytes.now }

@@ -66,9 +66,37 @@ fn shown_from<A: Allocator>(listed: &Listed<'_, A>, from: usize) -> Option<usize
     None
 }
 
+/// Whether a group begins with the byte of this index, where one may: the byte is not skipped.
+#[inline(always)]
+fn is_shown<A: Allocator>(listed: &Listed<'_, A>, at: usize) -> bool
+    requires { IsGroupPlace listed.now at }
+    ensures { OnTrue result (IsGroupStart listed.now at) }
+{
+    at < listed.bytes().len() && !is_skipped(listed.map(), listed.address(at))
+}
+
+/// Replaces the buffer by the first line of the group that begins with the byte of this index, and returns the next place.
+/// `segment` is that of the group before, and becomes that of this group where its line is written.
+#[inline(always)]
+fn put_group_at<'a, A: Allocator>(
+    out: &mut Line,
+    listed: &Listed<'a, A>,
+    segment: &mut Option<&'a [u8]>,
+    at: usize,
+) -> ListingPlace
+    requires start { IsGroupStart listed.now at }
+    requires segment { option_copied segment.old ≡ segment_before listed.now at }
+    ensures { IsNext listed.now (groups_left listed.now at) out.new.items result (option_copied segment.new) }
+{
+    if listed.is_marked() {
+        return put_opening(out, listed, segment, at);
+    }
+    put_inside(out, listed, at, listed.address(at) as usize + 1)
+}
+
 /// Replaces the buffer by the first line of the next group from this byte on, and returns the next place. `segment` is that of
 /// the group before, and becomes that of this group where its line is written.
-#[inline(always)]
+#[inline(never)]
 fn put_next_group<'a, A: Allocator>(
     out: &mut Line,
     listed: &Listed<'a, A>,
@@ -81,26 +109,7 @@ fn put_next_group<'a, A: Allocator>(
     ensures kept { IfNone result (option_copied segment.new ≡ option_copied segment.old) }
 {
     let at = shown_from(listed, from)?;
-    if listed.is_marked() {
-        return Some(put_opening(out, listed, segment, at));
-    }
-    Some(put_inside(out, listed, at, listed.address(at) as usize + 1))
-}
-
-/// The same, in a frame of its own.
-#[inline(never)]
-fn put_next_group_apart<'a, A: Allocator>(
-    out: &mut Line,
-    listed: &Listed<'a, A>,
-    segment: &mut Option<&'a [u8]>,
-    from: usize,
-) -> Option<ListingPlace>
-    requires place { IsGroupPlace listed.now from }
-    requires segment { option_copied segment.old ≡ segment_before listed.now from }
-    ensures next { MatchOption result (groups_left listed.now from ≡ []) (λ next. IsNext listed.now (groups_left listed.now from) out.new.items next (option_copied segment.new)) }
-    ensures kept { IfNone result (option_copied segment.new ≡ option_copied segment.old) }
-{
-    put_next_group(out, listed, segment, from)
+    Some(put_group_at(out, listed, segment, at))
 }
 
 /// Replaces the buffer by the next line of constants from this address on, else by what follows them, and returns the next place.
@@ -123,13 +132,13 @@ fn put_constants<'a, A: Allocator>(
         put_blank(out, listed.style());
         return Some(ListingPlace::Group(0));
     }
-    put_next_group_apart(out, listed, segment, 0)
+    put_next_group(out, listed, segment, 0)
 }
 
 /// Replaces the buffer by the line at a place, and returns the place of the next one. `segment` is that of the place, and becomes that
 /// of the next place. It has a frame of its own, so that the frame of most lines is small.
 #[inline(never)]
-fn put_next_apart<'a, A: Allocator>(
+fn put_next<'a, A: Allocator>(
     out: &mut Line,
     listed: &Listed<'a, A>,
     segment: &mut Option<&'a [u8]>,
@@ -159,7 +168,7 @@ fn put_next_apart<'a, A: Allocator>(
         }
         ListingPlace::Constant(from, any) => put_constants(out, listed, segment, from, any),
         ListingPlace::Assignment(at) => Some(put_assignment(out, listed, at)),
-        ListingPlace::Group(from) => put_next_group_apart(out, listed, segment, from),
+        ListingPlace::Group(from) => put_next_group(out, listed, segment, from),
         ListingPlace::Segment(at) => Some(put_segment(out, listed, segment, at)),
         ListingPlace::Comment(at, from) => Some(put_comments(out, listed, at, from)),
         ListingPlace::Forward(at, from) => Some(put_inside(out, listed, at, from)),
@@ -168,26 +177,6 @@ fn put_next_apart<'a, A: Allocator>(
             put_blank(out, listed.style());
             Some(ListingPlace::Group(next))
         }
-    }
-}
-
-/// Replaces the buffer by the line at a place, and returns the place of the next one. `segment` is that of the place, and becomes that
-/// of the next place.
-#[inline(always)]
-fn put_next<'a, A: Allocator>(
-    out: &mut Line,
-    listed: &Listed<'a, A>,
-    segment: &mut Option<&'a [u8]>,
-    place: ListingPlace,
-) -> Option<ListingPlace>
-    requires place { IsPlace place listed.now }
-    requires segment { option_copied segment.old ≡ segment_of place listed.now }
-    ensures next { MatchOption result (left_from place listed.now ≡ []) (λ next. IsNext listed.now (left_from place listed.now) out.new.items next (option_copied segment.new)) }
-    ensures kept { IfNone result (option_copied segment.new ≡ option_copied segment.old) }
-{
-    match place {
-        ListingPlace::Group(from) => put_next_group(out, listed, segment, from),
-        _ => put_next_apart(out, listed, segment, place),
     }
 }
 
@@ -215,6 +204,13 @@ impl<'a, A: Allocator> Lines<'a, A> {
     {
         // The old line is blanked here once, for all kinds of lines.
         out.clear();
+        if let ListingPlace::Group(at) = self.place {
+            // Most lines are the first of a group, and are made here.
+            if is_shown(&self.listed, at) {
+                self.place = put_group_at(out, &self.listed, &mut self.segment, at);
+                return true;
+            }
+        }
         match put_next(out, &self.listed, &mut self.segment, self.place) {
             Some(next) => {
                 self.place = next;

@@ -1,15 +1,20 @@
 //! An image as it is listed.
 
-ghost use Rattle.std.specs.Prelude.{◌≡◌, ◌+◌, ◌<◌, false, length};
+ghost use Rattle.std.specs.Prelude.{◌≡◌, ◌+◌, ◌<◌, ◌≤◌, false, length};
+ghost use Rattle.std.specs.Bool.{OnTrue};
+ghost use Rattle.std.specs.List.{list_any};
 ghost use Rattle.info65.specs.Names.{AreNames};
 ghost use Rattle.info65.specs.Segments.{AreSegments};
 ghost use Rattle.map65.specs.ImageView.{IsPlaced};
+ghost use Rattle.da65.specs.Code.SkipRanges.{is_skip_range};
 ghost use Rattle.da65.specs.Lines.{IsUnmarked};
 ghost use Rattle.da65.specs.Style.{style_of};
 
+use crate::groups::has_skip_range;
 use crate::marks::has_marks;
 use crate::style::{Style, style_of};
 use info65::Info;
+use isa65::DecodeTable;
 use map65::{Image, Map};
 use std::alloc::{Allocator, Global};
 use std::marker::Model;
@@ -21,7 +26,9 @@ pub struct Listed<'a, A: Allocator = Global> {
     image: &'a Image<A>,
     map: &'a Map<'a, A>,
     style: Style,
+    opcodes: DecodeTable,
     marked: bool,
+    lists_all: bool,
 }
 
 impl<'a, A: Allocator> Model for Listed<'a, A> {
@@ -33,7 +40,7 @@ impl<'a, A: Allocator> Model for Listed<'a, A> {
 
     ghost use Rattle.da65.specs.Lines.{IsListed};
 
-    ghost invariant = { λ l. IsListed l.map.now l.info.now l.image.now l.style l.marked };
+    ghost invariant = { λ l. IsListed l.map.now l.info.now l.image.now l.style l.opcodes l.marked l.lists_all };
 }
 
 impl<'a, A: Allocator> Listed<'a, A> {
@@ -48,13 +55,17 @@ impl<'a, A: Allocator> Listed<'a, A> {
         let _ = info.given_count();
         let _ = info.segments();
         let style = style_of(info.settings());
+        let opcodes = DecodeTable::new(style.cpu);
         let marked = has_marks(info, &style);
+        let lists_all = !has_skip_range(info.ranges());
         Listed {
             info,
             image,
             map,
             style,
+            opcodes,
             marked,
+            lists_all,
         }
     }
 
@@ -84,11 +95,25 @@ impl<'a, A: Allocator> Listed<'a, A> {
         &self.style
     }
 
+    /// The opcodes of the CPU.
+    pub fn opcodes(&self) -> &DecodeTable
+        ensures { result.now ≡ self.now.info.settings.cpu }
+    {
+        &self.opcodes
+    }
+
     /// Whether there may be separators, segments or comments.
     pub fn is_marked(&self) -> bool
         ensures { result ≡ false → IsUnmarked self.now }
     {
         self.marked
+    }
+
+    /// Whether each byte of the image is listed, since no range has the type SKIP.
+    pub fn lists_all(&self) -> bool
+        ensures { OnTrue result (list_any is_skip_range self.now.info.ranges ≡ false) }
+    {
+        self.lists_all
     }
 
     /// The bytes of the image.
@@ -97,6 +122,14 @@ impl<'a, A: Allocator> Listed<'a, A> {
         ensures placed { IsPlaced self.now.image }
     {
         self.image.bytes()
+    }
+
+    /// The address of the first byte.
+    pub fn start(&self) -> usize
+        ensures start { result ≡ self.now.image.start }
+        ensures bound { result ≤ 65536 }
+    {
+        usize::from(self.image.start())
     }
 
     /// The address of the byte of this index.

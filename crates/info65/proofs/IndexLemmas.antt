@@ -37,12 +37,6 @@ pub any_next : (table : List Bool) (a end : ℕ) → a < end → any_in table a 
 unfolding any_in
 any_next table a end lt = let e : end - a ≡ suc (end - (a + 1)) = omega arith in rw e refl
 
-pub any_hit : (table : List Bool) (a end : ℕ) → a < end → get_or table a false ≡ true → any_in table a (end - a) ≡ true
-any_hit table a end lt on = any_next table a end lt ∙ or_left (get_or table a false) _ on
-
-pub any_miss : (table : List Bool) (a end : ℕ) → a < end → get_or table a false ≡ false → any_in table a (end - a) ≡ any_in table (a + 1) (end - (a + 1))
-any_miss table a end lt off = any_next table a end lt ∙ rw off refl
-
 pub any_over : (table : List Bool) (a end : ℕ) → end ≤ a → any_in table a (end - a) ≡ false
 unfolding any_in
 any_over table a end le = let e : end - a ≡ 0 = omega arith in rw e refl

@@ -24,12 +24,12 @@ pub fn is_marked(table: &[bool], first: u16, last: u16) -> bool
     requires { length table.now ≡ 0x1_0000 }
     ensures { result ≡ any_in table.now first (last + 1 - first) }
 {
+    // Each cell is looked at, so that the loop has no second way out and takes many cells at a time.
+    let mut marked = false;
     for address in usize::from(first)..usize::from(last) + 1 {
-        if table[address] {
-            return true;
-        }
+        marked = marked | table[address];
     }
-    false
+    marked
 }
 
 /// Sets the cells of the addresses from `first` to `last`.

@@ -3,11 +3,12 @@
 //! A [`Mnemonic`] and a [`Mode`] together are an [`Op`], and an [`OpcodeSet`] says which byte stands
 //! for which `Op`, by laws that every set keeps. [`Mos6502`], [`Cmos65Sc02`] and [`Rockwell65C02`] are
 //! the sets of three CPUs, each with the opcodes of the one before and more. A [`Cpu`] is the set of the
-//! CPU that it names. [`later_keep_earlier`] is the law between the sets.
+//! CPU that it names, and a [`DecodeTable`] is the same as a table by byte. [`later_keep_earlier`] is the law between the sets.
 #![tactic(auto)]
 
 mod cmos_65sc02;
 mod cpu;
+mod decode_table;
 mod laws;
 mod mnemonic;
 mod mode;
@@ -18,6 +19,7 @@ mod rockwell_65c02;
 
 pub use cmos_65sc02::Cmos65Sc02;
 pub use cpu::Cpu;
+pub use decode_table::DecodeTable;
 pub use laws::later_keep_earlier;
 pub use mnemonic::Mnemonic;
 pub use mode::Mode;

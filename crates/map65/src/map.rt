@@ -18,6 +18,7 @@ use crate::naming::{home_of, mark_covered, mark_own, mark_targets};
 use crate::roles::is_skip;
 use crate::sweep::{mark_items, mark_roles};
 use info65::{Given, Info, RangeType};
+use isa65::DecodeTable;
 use std::alloc::{AllocError, Allocator, Global};
 use std::marker::Model;
 
@@ -183,9 +184,10 @@ fn mark_all<A: Allocator>(cells: &mut [u16], info: &Info<A>, image: &Image<A>)
 {
     mark_roles(cells, info, image);
     mark_own(cells, info);
-    mark_items(cells, info, image);
+    let opcodes = DecodeTable::new(info.settings().cpu);
+    mark_items(cells, info, image, &opcodes);
     mark_covered(cells, info);
-    mark_targets(cells, info, image);
+    mark_targets(cells, info, image, &opcodes);
 }
 
 /// The place of a base, by the role of its address and the length of the item that begins there.

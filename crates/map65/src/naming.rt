@@ -14,6 +14,7 @@ use crate::cells::{is_wide_cell, len_in, role_in, with_bit};
 use crate::image::Image;
 use crate::target::target_at;
 use info65::{Given, Info, RangeType};
+use isa65::DecodeTable;
 use std::alloc::Allocator;
 
 /// Sets the bit of the address's cell.
@@ -103,7 +104,14 @@ pub fn home_of(cells: &[u16], address: u16) -> u16
 
 /// Marks the target of the item that begins at the address, and the first byte of the table's item that the target
 /// lies inside.
-fn mark_target<A: Allocator>(cells: &mut [u16], info: &Info<A>, image: &Image<A>, address: u16)
+fn mark_target<A: Allocator>(
+    cells: &mut [u16],
+    info: &Info<A>,
+    image: &Image<A>,
+    opcodes: &DecodeTable,
+    address: u16,
+)
+    requires cpu { opcodes.now ≡ info.now.settings.cpu }
     requires low { image.now.start ≤ address }
     requires high { address < end_of image.now }
     requires laid { IsLaid (record { info = info.now; image = image.now }) cells.old }
@@ -117,7 +125,7 @@ fn mark_target<A: Allocator>(cells: &mut [u16], info: &Info<A>, image: &Image<A>
         return;
     }
     let role = role_in(cell).unwrap_or(RangeType::Code);
-    if let Some(target) = target_at(info, image, role, len, address) {
+    if let Some(target) = target_at(info, image, opcodes, role, len, address) {
         let first = home_of(cells, target);
         mark(cells, target);
         mark(cells, first);
@@ -125,13 +133,19 @@ fn mark_target<A: Allocator>(cells: &mut [u16], info: &Info<A>, image: &Image<A>
 }
 
 /// Marks the targets of all items, besides the addresses that given names cover.
-pub fn mark_targets<A: Allocator>(cells: &mut [u16], info: &Info<A>, image: &Image<A>)
+pub fn mark_targets<A: Allocator>(
+    cells: &mut [u16],
+    info: &Info<A>,
+    image: &Image<A>,
+    opcodes: &DecodeTable,
+)
+    requires cpu { opcodes.now ≡ info.now.settings.cpu }
     requires laid { IsLaid (record { info = info.now; image = image.now }) cells.old }
     requires bits { HasBits (is_covered info.now.names) cells.old }
     ensures { AreCells (record { info = info.now; image = image.now }) cells.new }
 {
     let start = usize::from(image.start());
     for k in 0..image.bytes().len() {
-        mark_target(cells, info, image, (start + k) as u16);
+        mark_target(cells, info, image, opcodes, (start + k) as u16);
     }
 }

@@ -16,7 +16,7 @@ use crate::cells::{are_one_run, cell_of, has_bit, is_wide_cell, role_in, with_le
 use crate::image::Image;
 use crate::roles::{is_skip, unit_of};
 use info65::{Info, RangeSpec, RangeType};
-use isa65::{Cpu, OpcodeSet};
+use isa65::{DecodeTable, OpcodeSet};
 use std::alloc::Allocator;
 
 // ---- roles
@@ -98,20 +98,28 @@ fn is_joined_in(cells: &[u16], at: usize) -> bool
     at < cells.len() && are_one_run(cells[at - 1], cells[at]) && !is_cut(cells[at])
 }
 
-fn code_size(cpu: Cpu, byte: u8) -> u8
-    ensures value { result ≡ code_size (decoded (table_of cpu) byte) }
+fn code_size(opcodes: &DecodeTable, byte: u8) -> u8
+    ensures value { result ≡ code_size (decoded (table_of opcodes.now) byte) }
     ensures positive { 1 ≤ result }
     ensures small { result ≤ 3 }
 {
-    match cpu.decode(byte) {
+    match opcodes.decode(byte) {
         Some(op) => op.mode.len(),
         None => 1,
     }
 }
 
-/// Returns the length of an item of this role that begins at the address, if its piece has room for it.
+/// Returns the length of an item of this role that begins at the address, if its piece has room for it. The opcodes are those
+/// of the information's CPU.
 #[tactic(auto, unfolding(crate::specs::Items::wanted_at))]
-fn wanted_at<A: Allocator>(info: &Info<A>, image: &Image<A>, role: RangeType, address: u16) -> u8
+fn wanted_at<A: Allocator>(
+    info: &Info<A>,
+    image: &Image<A>,
+    opcodes: &DecodeTable,
+    role: RangeType,
+    address: u16,
+) -> u8
+    requires cpu { opcodes.now ≡ info.now.settings.cpu }
     requires low { image.now.start ≤ address }
     requires high { address < end_of image.now }
     requires role { role ≡ role_of info.now address }
@@ -123,7 +131,7 @@ fn wanted_at<A: Allocator>(info: &Info<A>, image: &Image<A>, role: RangeType, ad
         RangeType::Code => {
             let bytes = image.bytes();
             let byte = bytes[usize::from(address - image.start())];
-            code_size(info.settings().cpu, byte)
+            code_size(opcodes, byte)
         }
         _ => unit_of(role),
     }
@@ -134,9 +142,11 @@ fn size_at<A: Allocator>(
     cells: &[u16],
     info: &Info<A>,
     image: &Image<A>,
+    opcodes: &DecodeTable,
     role: RangeType,
     address: u16,
 ) -> u8
+    requires cpu { opcodes.now ≡ info.now.settings.cpu }
     requires placed { IsPlaced image.now }
     requires low { image.now.start ≤ address }
     requires high { address < end_of image.now }
@@ -147,7 +157,7 @@ fn size_at<A: Allocator>(
     ensures positive { 1 ≤ result }
     ensures small { result ≤ 3 }
 {
-    let wanted = wanted_at(info, image, role, address);
+    let wanted = wanted_at(info, image, opcodes, role, address);
     let first = usize::from(address);
     for i in 0..wanted - 1 {
         if !is_joined_in(cells, first + usize::from(i) + 1) {
@@ -159,7 +169,14 @@ fn size_at<A: Allocator>(
 
 /// Writes the length of the item that begins at the address, and returns it. A skipped byte is no item, and
 /// has length 1.
-fn mark_item<A: Allocator>(cells: &mut [u16], info: &Info<A>, image: &Image<A>, address: u16) -> u8
+fn mark_item<A: Allocator>(
+    cells: &mut [u16],
+    info: &Info<A>,
+    image: &Image<A>,
+    opcodes: &DecodeTable,
+    address: u16,
+) -> u8
+    requires cpu { opcodes.now ≡ info.now.settings.cpu }
     requires placed { IsPlaced image.now }
     requires low { image.now.start ≤ address }
     requires high { address < end_of image.now }
@@ -174,7 +191,7 @@ fn mark_item<A: Allocator>(cells: &mut [u16], info: &Info<A>, image: &Image<A>, 
 {
     let at = usize::from(address);
     let role = role_in(cells[at]).unwrap_or(RangeType::Code);
-    let len = size_at(cells, info, image, role, address);
+    let len = size_at(cells, info, image, opcodes, role, address);
     if !is_skip(role) {
         cells[at] = with_len(cells[at], len);
     }
@@ -182,7 +199,13 @@ fn mark_item<A: Allocator>(cells: &mut [u16], info: &Info<A>, image: &Image<A>, 
 }
 
 /// Writes the length of each item into the cell where it begins.
-pub fn mark_items<A: Allocator>(cells: &mut [u16], info: &Info<A>, image: &Image<A>)
+pub fn mark_items<A: Allocator>(
+    cells: &mut [u16],
+    info: &Info<A>,
+    image: &Image<A>,
+    opcodes: &DecodeTable,
+)
+    requires cpu { opcodes.now ≡ info.now.settings.cpu }
     requires marked { AreMarkedBelow (record { info = info.now; image = image.now }) 0 cells.old }
     requires own { HasBits (is_own info.now.names) cells.old }
     ensures laid { IsLaid (record { info = info.now; image = image.now }) cells.new }
@@ -191,7 +214,7 @@ pub fn mark_items<A: Allocator>(cells: &mut [u16], info: &Info<A>, image: &Image
     let mut at = usize::from(image.start());
     let end = at + image.bytes().len();
     'items: while at < end {
-        let len = mark_item(cells, info, image, at as u16);
+        let len = mark_item(cells, info, image, opcodes, at as u16);
         at += usize::from(len);
     }
 }

@@ -11,7 +11,7 @@ ghost use Rattle.map65.specs.Targets.{code_target, entry_of, is_jump, only_insid
 
 use crate::image::Image;
 use info65::{Info, RangeType};
-use isa65::{Cpu, Mnemonic, Mode, Op, OpcodeSet};
+use isa65::{DecodeTable, Mnemonic, Mode, Op, OpcodeSet};
 use std::alloc::Allocator;
 
 /// Returns the word after the opcode, low byte first.
@@ -102,7 +102,7 @@ fn operand_target<A: Allocator>(image: &Image<A>, op: Op, address: u16, bytes: &
 /// The target of an item of code of this length: none if the opcode is undefined or cut.
 fn code_target<A: Allocator>(
     image: &Image<A>,
-    cpu: Cpu,
+    opcodes: &DecodeTable,
     len: u8,
     address: u16,
     bytes: &[u8],
@@ -110,9 +110,9 @@ fn code_target<A: Allocator>(
     requires some { 0 < length bytes.now }
     requires all { len ≤ length bytes.now }
     requires room { address + len ≤ 65536 }
-    ensures { result ≡ code_target image.now (decoded (table_of cpu) (slice_index bytes.now 0)) len address bytes.now }
+    ensures { result ≡ code_target image.now (decoded (table_of opcodes.now) (slice_index bytes.now 0)) len address bytes.now }
 {
-    match cpu.decode(bytes[0]) {
+    match opcodes.decode(bytes[0]) {
         Some(op) => {
             if len == op.mode.len() {
                 return operand_target(image, op, address, bytes);
@@ -143,18 +143,20 @@ fn return_target(word: u16) -> Option<u16>
 fn target_for<A: Allocator>(
     info: &Info<A>,
     image: &Image<A>,
+    opcodes: &DecodeTable,
     role: RangeType,
     len: u8,
     address: u16,
     bytes: &[u8],
 ) -> Option<u16>
+    requires cpu { opcodes.now ≡ info.now.settings.cpu }
     requires some { 0 < length bytes.now }
     requires all { len ≤ length bytes.now }
     requires room { address + len ≤ 65536 }
     ensures { result ≡ target_for (record { info = info.now; image = image.now }) role len address bytes.now }
 {
     match role {
-        RangeType::Code => code_target(image, info.settings().cpu, len, address, bytes),
+        RangeType::Code => code_target(image, opcodes, len, address, bytes),
         RangeType::AddrTable => {
             if len == 2 {
                 return Some(entry_of(bytes));
@@ -180,10 +182,12 @@ fn target_for<A: Allocator>(
 pub fn target_at<A: Allocator>(
     info: &Info<A>,
     image: &Image<A>,
+    opcodes: &DecodeTable,
     role: RangeType,
     len: u8,
     address: u16,
 ) -> Option<u16>
+    requires cpu { opcodes.now ≡ info.now.settings.cpu }
     requires low { image.now.start ≤ address }
     requires high { address < end_of image.now }
     requires room { address + len ≤ end_of image.now }
@@ -192,5 +196,5 @@ pub fn target_at<A: Allocator>(
     ensures { result ≡ target_at (record { info = info.now; image = image.now }) address }
 {
     let (_, bytes) = image.bytes().split_at(usize::from(address - image.start()));
-    target_for(info, image, role, len, address, bytes)
+    target_for(info, image, opcodes, role, len, address, bytes)
 }

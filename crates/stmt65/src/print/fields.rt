@@ -18,34 +18,24 @@ pub(super) fn put(out: &mut Line, bytes: &[u8])
     prove!(taken.is_ok());
 }
 
-/// Appends one blank or more, but fewer than eight.
-#[inline(never)]
-fn put_some_blanks(out: &mut Line, count: usize)
-    requires some { 0 < count }
-    requires few { count < 8 }
-    requires room { array_vec_len out.old + count ≤ 512 }
-    ensures { out.new.items ≡ out.old.items ++ replicate count 32 }
-{
-    match count {
-        1 => put(out, b" "),
-        2 => put(out, b"  "),
-        3 => put(out, b"   "),
-        4 => put(out, b"    "),
-        5 => put(out, b"     "),
-        6 => put(out, b"      "),
-        _ => put(out, b"       "),
-    }
-}
-
-/// Appends fewer than eight blanks.
+/// Appends fewer than eight blanks: four if there are so many, then two, then one.
 #[inline(always)]
 fn put_few_blanks(out: &mut Line, count: usize)
     requires few { count < 8 }
     requires room { array_vec_len out.old + count ≤ 512 }
     ensures { out.new.items ≡ out.old.items ++ replicate count 32 }
 {
-    if count != 0 {
-        put_some_blanks(out, count);
+    let mut left = count;
+    if 4 <= left {
+        put(out, b"    ");
+        left -= 4;
+    }
+    if 2 <= left {
+        put(out, b"  ");
+        left -= 2;
+    }
+    if left != 0 {
+        out.push(b' ');
     }
 }
 

@@ -1,5 +1,5 @@
 use crate::tests::asserts::{assert_equal, assert_equal_at, assert_that};
-use isa65::{Cmos65Sc02, Cpu, Mnemonic, Mode, Mos6502, Op, OpcodeSet, Rockwell65C02};
+use isa65::{Cmos65Sc02, Cpu, DecodeTable, Mnemonic, Mode, Mos6502, Op, OpcodeSet, Rockwell65C02};
 use std::alloc::Global;
 use std::process::Abort;
 
@@ -224,6 +224,7 @@ fn all_bytes_by_the_data_sheet(rt: HostRuntime) {
         let table = data_sheet(&rt, rt.alloc(), cpu);
         assert_equal(&rt, &table.iter().filter(|op| op.is_some()).count(), &count);
         agrees(&rt, &cpu, &table);
+        agrees(&rt, &DecodeTable::new(cpu), &table);
         match cpu {
             Cpu::M6502 => agrees(&rt, &Mos6502, &table),
             Cpu::M65SC02 => agrees(&rt, &Cmos65Sc02, &table),
@@ -279,6 +280,7 @@ fn lengths(rt: HostRuntime) {
 fn siblings_by_the_data_sheet(rt: HostRuntime) {
     for (cpu, count) in [(Cpu::M6502, 39), (Cpu::M65SC02, 44), (Cpu::M65C02, 60)] {
         let table = data_sheet(&rt, rt.alloc(), cpu);
+        let opcodes = DecodeTable::new(cpu);
         let mut found = 0usize;
         for text in TEXTS.split_whitespace() {
             let mnemonic = Mnemonic::from_bytes(text.as_bytes()).expect(&rt, "no such mnemonic");
@@ -298,6 +300,12 @@ fn siblings_by_the_data_sheet(rt: HostRuntime) {
                 };
                 let op = Op { mnemonic, mode };
                 assert_equal_at(&rt, &op.sibling(&cpu), &expected, &format_args!("{op:?}"));
+                assert_equal_at(
+                    &rt,
+                    &op.sibling(&opcodes),
+                    &expected,
+                    &format_args!("{op:?}"),
+                );
                 found = found.saturating_add(usize::from(expected.is_some()));
             }
         }

@@ -12,10 +12,10 @@ returns-then-any-clause-next g c =
     next-plain _ _ _ _ _ _ _ (rw c.if-any.true (constant-blank _ _ c.in_default.ensures)) c.put_blank.ensures c.style.ensures.style (first_place _) (segment-first _ ∙ sym c.requires.segment)
 
 pub returns-clause-next : goal.returns-clause-next
-returns-clause-next g c = match-moved _ _ _ _ _ _ (rw c.if-any.false (constant-none _ _ c.in_default.ensures)) c.put_next_group_apart.ensures.next
+returns-clause-next g c = match-moved _ _ _ _ _ _ (rw c.if-any.false (constant-none _ _ c.in_default.ensures)) c.put_next_group.ensures.next
 
-pub put_next_group_apart-requires-clause-place : goal.put_next_group_apart-requires-clause-place
-put_next_group_apart-requires-clause-place g c = first_place _
+pub put_next_group-requires-clause-place : goal.put_next_group-requires-clause-place
+put_next_group-requires-clause-place g c = first_place _
 
-pub put_next_group_apart-requires-clause-segment : goal.put_next_group_apart-requires-clause-segment
-put_next_group_apart-requires-clause-segment g c = c.requires.segment ∙ sym (segment-first _)
+pub put_next_group-requires-clause-segment : goal.put_next_group-requires-clause-segment
+put_next_group-requires-clause-segment g c = c.requires.segment ∙ sym (segment-first _)

@@ -1,16 +1,6 @@
-use Rattle.std.proofs.Common.{◌∙◌, ◌+◌, ℕ, ap, sym}
-use Rattle.da65.specs.Lines.{group_left}
-use Rattle.da65.proofs.NextLemmas.{inside-start, lines-unmarked, next-moved, next-there}
-use Rattle.da65.proofs.SegmentLemmas.{segment-none}
+use Rattle.std.proofs.Common.{sym}
+use Rattle.da65.proofs.NextLemmas.{next-moved}
 use Rattle.da65.proofs.lines.put_next_group.Goals as goal
 
-pub put_inside-requires : goal.put_inside-requires
-put_inside-requires g c = inside-start _ _ _ c.in_ok-at.ensures.start c.address.ensures
-
 pub returns-clause-next : goal.returns-clause-next
-returns-clause-next g c =
-    let none = c.is_marked.ensures c.if-is_marked.false in
-    next-there _ _ _ _ _ _ (none.segments _ ∙ sym (segment-none _ _ none.segments) ∙ sym c.requires.segment)
-    (next-moved _ _ _ _ _ _
-    (sym c.in_ok-at.ensures.lines ∙ lines-unmarked _ _ none c.in_ok-at.ensures.start ∙ ap (λ (n : ℕ). group_left c.args.listed.now c.in_ok-at.at (n + 1)) (sym c.address.ensures))
-    c.put_inside.ensures)
+returns-clause-next g c = next-moved _ _ _ _ _ _ (sym c.in_ok-at.ensures.lines) c.put_group_at.ensures

@@ -1,6 +1,6 @@
 use Rattle.std.proofs.Common.{sym}
 use Rattle.da65.proofs.NextLemmas.{lines-title, next-plain}
-use Rattle.da65.proofs.lines.put_next_apart.Goals as goal
+use Rattle.da65.proofs.lines.put_next.Goals as goal
 
 pub returns-in-Title-clause-next : goal.returns-in-Title-clause-next
 returns-in-Title-clause-next g c =

@@ -1,0 +1,66 @@
+//! The opcodes of a CPU in a table by byte.
+
+ghost use Rattle.std.specs.Prelude.{◌≡◌};
+
+use crate::cpu::Cpu;
+use crate::mode::Mode;
+use crate::op::Op;
+use crate::opcode_set::OpcodeSet;
+use std::marker::Model;
+
+/// The opcodes of a CPU, each decoded once, in a table by byte. It is itself an [`OpcodeSet`], that of the CPU's opcodes, and
+/// serves whoever decodes many bytes: [`OpcodeSet::decode`] is one look-up.
+#[derive(Drop)]
+pub struct DecodeTable {
+    cpu: Cpu,
+    ops: [Option<Op>; 256],
+}
+
+impl Model for DecodeTable {
+    ghost use Rattle.std.specs.Prelude.{◌≡◌, ◌<◌, ℕ, None, get_or};
+    ghost use Rattle.isa65.specs.Cpu.{table_of};
+    ghost use Rattle.isa65.specs.Opcodes.{decoded};
+    ghost use Rattle.isa65.specs.declared.cpu.Cpu.{Cpu};
+
+    ghost Value = { Cpu };
+
+    ghost view = { λ t. t.cpu };
+
+    ghost invariant = { λ t. (b : ℕ) → b < 256 → get_or t.ops b None ≡ decoded (table_of t.cpu) b };
+}
+
+impl DecodeTable {
+    /// Decodes each byte.
+    pub fn new(cpu: Cpu) -> DecodeTable
+        ensures { result ≡ cpu }
+    {
+        let mut ops = [None; 256];
+        'bytes: for byte in 0..ops.len() {
+            ops[byte] = cpu.decode(byte as u8);
+        }
+        DecodeTable { cpu, ops }
+    }
+}
+
+impl OpcodeSet for DecodeTable {
+    ghost use Rattle.isa65.specs.Cpu.{table_of};
+    ghost use Rattle.isa65.specs.CpuLaws.{table_of-sound};
+    ghost use Rattle.isa65.specs.OpcodeLaws.{opcode-lt, encoded-decoded, written_alike};
+
+    ghost table = { table_of };
+
+    #[inline(always)]
+    fn decode(&self, byte: u8) -> Option<Op> {
+        self.ops[usize::from(byte)]
+    }
+
+    fn sibling(&self, op: Op) -> Option<Mode> {
+        self.cpu.sibling(op)
+    }
+
+    ghost is_byte = { λ s b op h. opcode-lt (table_of s) (table_of-sound s) b op h };
+
+    ghost inverse = { λ s b op. encoded-decoded (table_of s) (table_of-sound s) b op };
+
+    ghost sizes = { λ s m x y p q same. written_alike (table_of s) (table_of-sound s) m x y p q same };
+}
