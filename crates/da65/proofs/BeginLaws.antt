@@ -56,7 +56,7 @@ begins-then m a is =
 -- ---- no other item begins a line
 
 -- an item that begins after the first of a group
-record Behind (m : MapView) (p k : ℕ) : Type 0 where
+record IsPast (m : MapView) (p k : ℕ) : Type 0 where
   here : IsGroupPlace m p
   low : p < k
   high : k < p + group_len m (m.image.start + p)
@@ -64,19 +64,19 @@ record Behind (m : MapView) (p k : ℕ) : Type 0 where
   shown : is_skip (role_of m.info (m.image.start + p)) ≡ false
   item : left_at (size_at m) m.image.start k ≡ 0
 
-behind-piece : (m : MapView) (p k : ℕ) → Behind m p k → AreOnePiece m (m.image.start + p) (m.image.start + k)
-behind-piece m p k h x low high = group-piece m p h.here (omega (arith, h.low, h.inside)) h.shown x low (omega (arith, high, h.high))
+piece-inside : (m : MapView) (p k : ℕ) → IsPast m p k → AreOnePiece m (m.image.start + p) (m.image.start + k)
+piece-inside m p k h x low high = group-piece m p h.here (omega (arith, h.low, h.inside)) h.shown x low (omega (arith, high, h.high))
 
 -- its role is that of the group
-behind-same : (m : MapView) (p k : ℕ) → Behind m p k → role_of m.info (m.image.start + p) ≡ role_of m.info (m.image.start + k)
-behind-same m p k h = sym (one-role m (m.image.start + p) (m.image.start + k) (omega (arith, h.low)) (behind-piece m p k h))
+role-inside : (m : MapView) (p k : ℕ) → IsPast m p k → role_of m.info (m.image.start + p) ≡ role_of m.info (m.image.start + k)
+role-inside m p k h = sym (one-role m (m.image.start + p) (m.image.start + k) (omega (arith, h.low)) (piece-inside m p k h))
 
-module _ (m : MapView) (p k : ℕ) (h : Behind m p k) (r : RangeType) (role-is : role_of m.info (m.image.start + k) ≡ r) where
+module _ (m : MapView) (p k : ℕ) (h : IsPast m p k) (r : RangeType) (role-is : role_of m.info (m.image.start + k) ≡ r) where
   abbrev a : ℕ
   a = m.image.start + p
 
   role-a : role_of m.info a ≡ r
-  role-a = behind-same m p k h ∙ role-is
+  role-a = role-inside m p k h ∙ role-is
 
   inside : p < length m.image.bytes
   inside = omega (arith, h.low, h.inside)
@@ -104,10 +104,10 @@ module _ (m : MapView) (p k : ℕ) (h : Behind m p k) (r : RangeType) (role-is :
           let item : IsItemOf m (m.image.start + k) (line.count + i) = record {
             first = line.item.first;
             is_start = line.item.is_start;
-            one_piece = join m line.item.first a (m.image.start + k) line.item.one_piece (behind-piece m p k h);
+            one_piece = join m line.item.first a (m.image.start + k) line.item.one_piece (piece-inside m p k h);
             unnamed = λ x after before'.
                 ⊎_elim
-                (λ behind. group-unnamed m r p x h.here inside h.shown role-a table behind (omega (arith, before', h.high)))
+                (λ past. group-unnamed m r p x h.here inside h.shown role-a table past (omega (arith, before', h.high)))
                 (λ here. line.item.unnamed x after here)
                 (cases_lt a x);
             place = sym all ∙ sym (ap (λ (r' : RangeType). line.item.first + (line.count + i) * unit_of r') role-is);
@@ -115,18 +115,18 @@ module _ (m : MapView) (p k : ℕ) (h : Behind m p k) (r : RangeType) (role-is :
           let divides : (line.count + i) % limit_of r ≡ 0 = ap (λ (n : ℕ). n % limit_of r) (one-count m (m.image.start + k) (line.count + i) own.index item own.item) ∙ own.divides in
           not-full (limit_of r) line.count i line.full divides (omega arith) (omega (arith, further.bound, limit))
 
-no-line : (m : MapView) (p k : ℕ) → Behind m p k → BeginsLine m (m.image.start + k) (role_of m.info (m.image.start + k)) → ⊥
+no-line : (m : MapView) (p k : ℕ) → IsPast m p k → BeginsLine m (m.image.start + k) (role_of m.info (m.image.start + k)) → ⊥
 no-line m p k h line = go (role_of m.info (m.image.start + k)) refl line
   where
     go : (r : RangeType) → role_of m.info (m.image.start + k) ≡ r → BeginsLine m (m.image.start + k) r → ⊥
-    go role.Code e line = no-code m p k h role.Code e (limit-code m (m.image.start + p) (behind-same m p k h ∙ e))
+    go role.Code e line = no-code m p k h role.Code e (limit-code m (m.image.start + p) (role-inside m p k h ∙ e))
     go role.ByteTable e line = no-table m p k h role.ByteTable e (record { sizes = λ b. refl; listed = refl; other = refl }) line
     go role.WordTable e line = no-table m p k h role.WordTable e (record { sizes = λ b. refl; listed = refl; other = refl }) line
     go role.DbyteTable e line = no-table m p k h role.DbyteTable e (record { sizes = λ b. refl; listed = refl; other = refl }) line
     go role.AddrTable e line = no-table m p k h role.AddrTable e (record { sizes = λ b. refl; listed = refl; other = refl }) line
     go role.RtsTable e line = no-table m p k h role.RtsTable e (record { sizes = λ b. refl; listed = refl; other = refl }) line
     go role.TextTable e line = no-table m p k h role.TextTable e (record { sizes = λ b. refl; listed = refl; other = refl }) line
-    go role.Skip e line = true≢false (sym (ap is_skip (behind-same m p k h ∙ e)) ∙ h.shown)
+    go role.Skip e line = true≢false (sym (ap is_skip (role-inside m p k h ∙ e)) ∙ h.shown)
 
 begins-at : (m : MapView) (k : ℕ) → k < length m.image.bytes → is_skip (role_of m.info (m.image.start + k)) ≡ false → left_at (size_at m) m.image.start k ≡ 0
     → BeginsLine m (m.image.start + k) (role_of m.info (m.image.start + k)) → begins m (m.image.start + k) ≡ true
@@ -134,12 +134,12 @@ begins-at m k low shown none line =
     let held = holder m k low in
     ⊎_elim
     (λ same. begins-true m k low shown (ap (left_at (stride_at m) m.image.start) same ∙ held.place.group))
-    (λ other. absurd (behind held.first held.place (omega (arith, held.low, other)) held.reach (is_skip (role_of m.info (m.image.start + held.first))) refl))
+    (λ other. absurd (past held.first held.place (omega (arith, held.low, other)) held.reach (is_skip (role_of m.info (m.image.start + held.first))) refl))
     (cases_eq k held.first)
   where
-    behind : (p : ℕ) → IsGroupPlace m p → p < k → k < p + stride_at m (m.image.start + p) → (t : Bool) → is_skip (role_of m.info (m.image.start + p)) ≡ t → ⊥
-    behind p here less reach true e = omega (arith, less, reach, stride-skip m (m.image.start + p) e)
-    behind p here less reach false e =
+    past : (p : ℕ) → IsGroupPlace m p → p < k → k < p + stride_at m (m.image.start + p) → (t : Bool) → is_skip (role_of m.info (m.image.start + p)) ≡ t → ⊥
+    past p here less reach true e = omega (arith, less, reach, stride-skip m (m.image.start + p) e)
+    past p here less reach false e =
         no-line m p k (record { here = here; low = less; high = omega (arith, reach, stride-group m (m.image.start + p) e); inside = low; shown = e; item = none }) line
 
 begins-if : (m : MapView) (a : ℕ) → 0 < item_len m a → BeginsLine m a (role_of m.info a) → begins m a ≡ true

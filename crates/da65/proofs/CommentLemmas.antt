@@ -70,8 +70,8 @@ found-segment f (s ∷ segments) name each e = of (f s) e (found-segment f segme
   where
     of : (t : Bool) → option_map (λ s. s.name) (if t then Some s else find f segments) ≡ Some name
         → (option_map (λ s. s.name) (find f segments) ≡ Some name → given_form name ≡ true) → given_form name ≡ true
-    of true e behind = let same : s.name ≡ name = cc in subst (λ (n : List ℕ). given_form n ≡ true) same (All-head IsSegment s segments each).form
-    of false e behind = behind e
+    of true e past = let same : s.name ≡ name = cc in subst (λ (n : List ℕ). given_form n ≡ true) same (All-head IsSegment s segments each).form
+    of false e past = past e
 
 pub segment-printable : (m : MapView) (a : ℕ) (name : List ℕ) → AreSegments m.info.segments → segment_at m a ≡ Some name → IsNameLong name × (has_name_form name ≡ true)
 unfolding segment_at segment_covering

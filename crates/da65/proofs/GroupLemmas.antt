@@ -9,7 +9,7 @@ use Rattle.map65.specs.MapView.{MapView}
 use Rattle.map65.specs.Pieces.{is_joined}
 use Rattle.map65.specs.Roles.{is_skip, role_of, unit_of}
 use Rattle.map65.specs.Spans.{addresses, left_at}
-use Rattle.map65.proofs.ItemLemmas.{item-len-at, left-behind, left-begun, left-first, left-going, left-inside, size-fits, size-positive, skip-size}
+use Rattle.map65.proofs.ItemLemmas.{item-len-at, left-past, left-begun, left-first, left-going, left-inside, size-fits, size-positive, skip-size}
 use Rattle.da65.specs.Groups.{IsGroupPlace, begins, goes_on, group_addresses, group_len, groups_from, is_defined, is_whole, limit_at, more_at, stride_at}
 
 -- ---- items
@@ -39,12 +39,12 @@ item-begun m a some =
     let is = item-test m a some in
     let both = and_parts (is_inside m.image a) (not (is_skip (role_of m.info a)) && left_at (size_at m) m.image.start (a - m.image.start) == 0) is in
     let bounds = and_parts (nat_le m.image.start a) (nat_lt a (end_of m.image)) both.0 in
-    let behind = and_parts (not (is_skip (role_of m.info a))) (left_at (size_at m) m.image.start (a - m.image.start) == 0) both.1 in
+    let past = and_parts (not (is_skip (role_of m.info a))) (left_at (size_at m) m.image.start (a - m.image.start) == 0) both.1 in
     record {
       low = leb-true m.image.start a bounds.0;
       high = ltb-true a (end_of m.image) bounds.1;
-      shown = not-true (is_skip (role_of m.info a)) behind.0;
-      none = eqb-true (left_at (size_at m) m.image.start (a - m.image.start)) 0 behind.1;
+      shown = not-true (is_skip (role_of m.info a)) past.0;
+      none = eqb-true (left_at (size_at m) m.image.start (a - m.image.start)) 0 past.1;
       size = item-len-true m a is;
     }
 
@@ -108,7 +108,7 @@ item-ends m k len low same none =
     let place : k + len ≡ k + size_at m (m.image.start + k) = omega (arith, same) in
     record {
       fits = omega (arith, same, size-fits m k low);
-      item = ap (left_at (size_at m) m.image.start) place ∙ left-behind (size_at m) (size-positive m) m.image.start k none;
+      item = ap (left_at (size_at m) m.image.start) place ∙ left-past (size_at m) (size-positive m) m.image.start k none;
     }
 
 more-ends : (m : MapView) (n k a : ℕ) → a ≡ m.image.start + k → k ≤ length m.image.bytes → left_at (size_at m) m.image.start k ≡ 0 → MoreEnds m n k a
@@ -116,12 +116,12 @@ more-ends m zero k a e bound item = none-ends m zero k a (more-none m a) bound i
 more-ends m (suc n) k a e bound item = go (goes_on m a) refl (more-ends m n)
   where
     go : (t : Bool) → goes_on m a ≡ t → ((k a : ℕ) → a ≡ m.image.start + k → k ≤ length m.image.bytes → left_at (size_at m) m.image.start k ≡ 0 → MoreEnds m n k a) → MoreEnds m (suc n) k a
-    go false is behind = none-ends m (suc n) k a (more-false m n a is) bound item
-    go true is behind =
+    go false is past = none-ends m (suc n) k a (more-false m n a is) bound item
+    go true is past =
         let begun = item-begun m a (item-goes-on m a is).some in
         let low : k < length m.image.bytes = omega (arith, begun.high, e) in
         let ends = item-ends m k (item_len m a) low (begun.size ∙ ap (size_at m) e) item in
-        let others = behind (k + item_len m a) (a + item_len m a) (omega (arith, e)) ends.fits ends.item in
+        let others = past (k + item_len m a) (a + item_len m a) (omega (arith, e)) ends.fits ends.item in
         let more = more-true m n a is in
         let place : k + more_at m (suc n) a ≡ k + item_len m a + more_at m n (a + item_len m a) = omega (arith, more) in
         record { fits = omega (arith, others.fits, more); item = ap (left_at (size_at m) m.image.start) place ∙ others.item }
@@ -278,12 +278,12 @@ unfolding begins
 group-begun m a is =
     let both = and_parts (is_inside m.image a) (not (is_skip (role_of m.info a)) && left_at (stride_at m) m.image.start (a - m.image.start) == 0) is in
     let bounds = and_parts (nat_le m.image.start a) (nat_lt a (end_of m.image)) both.0 in
-    let behind = and_parts (not (is_skip (role_of m.info a))) (left_at (stride_at m) m.image.start (a - m.image.start) == 0) both.1 in
+    let past = and_parts (not (is_skip (role_of m.info a))) (left_at (stride_at m) m.image.start (a - m.image.start) == 0) both.1 in
     record {
       low = leb-true m.image.start a bounds.0;
       high = ltb-true a (end_of m.image) bounds.1;
-      shown = not-true (is_skip (role_of m.info a)) behind.0;
-      none = eqb-true (left_at (stride_at m) m.image.start (a - m.image.start)) 0 behind.1;
+      shown = not-true (is_skip (role_of m.info a)) past.0;
+      none = eqb-true (left_at (stride_at m) m.image.start (a - m.image.start)) 0 past.1;
     }
 
 -- the step from a place: to the next one, which lies after it
@@ -325,7 +325,7 @@ hold m (suc n) p k fuel low high here =
     let next : ℕ = p + stride_at m (m.image.start + p) in
     ⊎_elim
     (λ within. record { first = p; place = here; low = low; reach = within })
-    (λ behind. hold m n next k (omega (arith, fuel, step.some)) behind high step.next)
+    (λ past. hold m n next k (omega (arith, fuel, step.some)) past high step.next)
     (cases_lt k next)
 
 pub holder : (m : MapView) (k : ℕ) → k < length m.image.bytes → Holder m k

@@ -56,9 +56,9 @@ mode_is_chosen_back image m p cpu above a bytes op os names known h =
     }
 
 -- the first of some bytes, and those after it
-first_again : (n b : ℕ) (behind bytes : List ℕ) → bytes ≡ b ∷ behind → 1 ≤ n → b ∷ drop 1 (take n bytes) ≡ take n bytes
-first_again zero b behind bytes e some = absurd (omega arith)
-first_again (suc n) b behind bytes e some = rw e refl
+first_again : (n b : ℕ) (past bytes : List ℕ) → bytes ≡ b ∷ past → 1 ≤ n → b ∷ drop 1 (take n bytes) ≡ take n bytes
+first_again zero b past bytes e some = absurd (omega arith)
+first_again (suc n) b past bytes e some = rw e refl
 
 -- a group has bytes that are listed
 pub listed : (t : Table) (r : RangeType) (bytes : List ℕ) → IsGroupOf t r bytes → is_skip r ≡ false
@@ -82,16 +82,16 @@ module _ (image : ImageView) (m : Names) (names : AreSound image m) where
       let is = begins_with (table_of s.cpu) bytes op h.begins in
       let long : len_of op.mode ≤ length bytes = is.long in
       let codes = mode_is_chosen_back image m p s.cpu s.above s.at bytes op os names known h in
-      let behind = bytes_of_operands image m names op.mode s.at bytes h.are_bytes long (omega arith) in
+      let past = bytes_of_operands image m names op.mode s.at bytes h.are_bytes long (omega arith) in
       let give : FragmentsGive Full (s.at + len_of op.mode) (fragments_in op.mode os) (drop 1 (take (len_of op.mode) bytes)) =
-      at_some (λ os. FragmentsGive Full (s.at + len_of op.mode) (fragments_in op.mode os) (drop 1 (take (len_of op.mode) bytes))) (operands_of m op.mode s.at bytes) os h.has behind in
+      at_some (λ os. FragmentsGive Full (s.at + len_of op.mode) (fragments_in op.mode os) (drop 1 (take (len_of op.mode) bytes))) (operands_of m op.mode s.at bytes) os h.has past in
       let all = fixed_gives Full (s.at + len_of op.mode) is.first (fragments_in op.mode os) (drop 1 (take (len_of op.mode) bytes)) give in
       record {
         fragments = Fixed is.first ∷ fragments_in op.mode os;
         known_cpu = refl;
         same_cpu = refl;
         coded = codes.coded;
-        gives = rw (length-take-le (len_of op.mode) bytes long, ← first_again (len_of op.mode) is.first is.behind bytes is.bytes_are (len_positive op.mode)) all;
+        gives = rw (length-take-le (len_of op.mode) bytes long, ← first_again (len_of op.mode) is.first is.past bytes is.bytes_are (len_positive op.mode)) all;
       }
 
   -- ---- items

@@ -162,57 +162,57 @@ module _ (image : ImageView) (n : Names) (names : AreSound image n) where
   -- ---- the bytes after an opcode
 
   -- of an instruction of one, two and three bytes
-  abbrev pub Behind : Mode → ℕ → ℕ → List ℕ → Type 0
-  Behind mode len a bytes = OperandsGive Full mode (a + len) (drop 1 (take len bytes)) (operands_of n mode a bytes)
+  abbrev pub IsPast : Mode → ℕ → ℕ → List ℕ → Type 0
+  IsPast mode len a bytes = OperandsGive Full mode (a + len) (drop 1 (take len bytes)) (operands_of n mode a bytes)
 
-  one_behind : (mode : Mode) (a : ℕ) (bytes : List ℕ) → len_of mode ≡ 1 → 1 ≤ length bytes → Behind mode 1 a bytes
+  one_past : (mode : Mode) (a : ℕ) (bytes : List ℕ) → len_of mode ≡ 1 → 1 ≤ length bytes → IsPast mode 1 a bytes
   unfolding operands_of
-  one_behind mode a [] e long = absurd (omega arith)
-  one_behind Imp a (b ∷ bytes) e long = no_fragments Full (a + 1)
-  one_behind Acc a (b ∷ bytes) e long = no_fragments Full (a + 1)
-  one_behind Imm a (b ∷ bytes) e long = absurd cc
-  one_behind Zp a (b ∷ bytes) e long = absurd cc
-  one_behind Zpx a (b ∷ bytes) e long = absurd cc
-  one_behind Zpy a (b ∷ bytes) e long = absurd cc
-  one_behind Abs a (b ∷ bytes) e long = absurd cc
-  one_behind Absx a (b ∷ bytes) e long = absurd cc
-  one_behind Absy a (b ∷ bytes) e long = absurd cc
-  one_behind Ind a (b ∷ bytes) e long = absurd cc
-  one_behind Indx a (b ∷ bytes) e long = absurd cc
-  one_behind Indy a (b ∷ bytes) e long = absurd cc
-  one_behind Zpind a (b ∷ bytes) e long = absurd cc
-  one_behind Absindx a (b ∷ bytes) e long = absurd cc
-  one_behind Rel a (b ∷ bytes) e long = absurd cc
-  one_behind Zprel a (b ∷ bytes) e long = absurd cc
+  one_past mode a [] e long = absurd (omega arith)
+  one_past Imp a (b ∷ bytes) e long = no_fragments Full (a + 1)
+  one_past Acc a (b ∷ bytes) e long = no_fragments Full (a + 1)
+  one_past Imm a (b ∷ bytes) e long = absurd cc
+  one_past Zp a (b ∷ bytes) e long = absurd cc
+  one_past Zpx a (b ∷ bytes) e long = absurd cc
+  one_past Zpy a (b ∷ bytes) e long = absurd cc
+  one_past Abs a (b ∷ bytes) e long = absurd cc
+  one_past Absx a (b ∷ bytes) e long = absurd cc
+  one_past Absy a (b ∷ bytes) e long = absurd cc
+  one_past Ind a (b ∷ bytes) e long = absurd cc
+  one_past Indx a (b ∷ bytes) e long = absurd cc
+  one_past Indy a (b ∷ bytes) e long = absurd cc
+  one_past Zpind a (b ∷ bytes) e long = absurd cc
+  one_past Absindx a (b ∷ bytes) e long = absurd cc
+  one_past Rel a (b ∷ bytes) e long = absurd cc
+  one_past Zprel a (b ∷ bytes) e long = absurd cc
 
-  two_behind : (mode : Mode) (a : ℕ) (bytes : List ℕ) → len_of mode ≡ 2 → AreBytes bytes → 2 ≤ length bytes → a + 2 ≤ 65536 → Behind mode 2 a bytes
-  two_behind mode a [] e are long room = absurd (omega arith)
-  two_behind mode a (b ∷ []) e are long room = absurd (omega arith)
-  two_behind mode a (b ∷ c ∷ bytes) e are long room = two_give mode a b c bytes e (first_byte c bytes (other_bytes b (c ∷ bytes) are)) room
+  two_past : (mode : Mode) (a : ℕ) (bytes : List ℕ) → len_of mode ≡ 2 → AreBytes bytes → 2 ≤ length bytes → a + 2 ≤ 65536 → IsPast mode 2 a bytes
+  two_past mode a [] e are long room = absurd (omega arith)
+  two_past mode a (b ∷ []) e are long room = absurd (omega arith)
+  two_past mode a (b ∷ c ∷ bytes) e are long room = two_give mode a b c bytes e (first_byte c bytes (other_bytes b (c ∷ bytes) are)) room
 
-  three_behind : (mode : Mode) (a : ℕ) (bytes : List ℕ) → len_of mode ≡ 3 → AreBytes bytes → 3 ≤ length bytes → a + 3 ≤ 65536 → Behind mode 3 a bytes
-  three_behind mode a [] e are long room = absurd (omega arith)
-  three_behind mode a (b ∷ []) e are long room = absurd (omega arith)
-  three_behind mode a (b ∷ c ∷ []) e are long room = absurd (omega arith)
-  three_behind mode a (b ∷ c ∷ d ∷ bytes) e are long room =
-      let behind = other_bytes b (c ∷ d ∷ bytes) are in
-      three_give mode a b c d bytes e (first_byte c (d ∷ bytes) behind) (first_byte d bytes (other_bytes c (d ∷ bytes) behind)) room
+  three_past : (mode : Mode) (a : ℕ) (bytes : List ℕ) → len_of mode ≡ 3 → AreBytes bytes → 3 ≤ length bytes → a + 3 ≤ 65536 → IsPast mode 3 a bytes
+  three_past mode a [] e are long room = absurd (omega arith)
+  three_past mode a (b ∷ []) e are long room = absurd (omega arith)
+  three_past mode a (b ∷ c ∷ []) e are long room = absurd (omega arith)
+  three_past mode a (b ∷ c ∷ d ∷ bytes) e are long room =
+      let past = other_bytes b (c ∷ d ∷ bytes) are in
+      three_give mode a b c d bytes e (first_byte c (d ∷ bytes) past) (first_byte d bytes (other_bytes c (d ∷ bytes) past)) room
 
   pub bytes_of_operands : (mode : Mode) (a : ℕ) (bytes : List ℕ) → AreBytes bytes → len_of mode ≤ length bytes → a + len_of mode ≤ 65536
-      → Behind mode (len_of mode) a bytes
-  bytes_of_operands Imp a bytes are long room = one_behind Imp a bytes refl long
-  bytes_of_operands Acc a bytes are long room = one_behind Acc a bytes refl long
-  bytes_of_operands Imm a bytes are long room = two_behind Imm a bytes refl are long room
-  bytes_of_operands Zp a bytes are long room = two_behind Zp a bytes refl are long room
-  bytes_of_operands Zpx a bytes are long room = two_behind Zpx a bytes refl are long room
-  bytes_of_operands Zpy a bytes are long room = two_behind Zpy a bytes refl are long room
-  bytes_of_operands Abs a bytes are long room = three_behind Abs a bytes refl are long room
-  bytes_of_operands Absx a bytes are long room = three_behind Absx a bytes refl are long room
-  bytes_of_operands Absy a bytes are long room = three_behind Absy a bytes refl are long room
-  bytes_of_operands Ind a bytes are long room = three_behind Ind a bytes refl are long room
-  bytes_of_operands Indx a bytes are long room = two_behind Indx a bytes refl are long room
-  bytes_of_operands Indy a bytes are long room = two_behind Indy a bytes refl are long room
-  bytes_of_operands Zpind a bytes are long room = two_behind Zpind a bytes refl are long room
-  bytes_of_operands Absindx a bytes are long room = three_behind Absindx a bytes refl are long room
-  bytes_of_operands Rel a bytes are long room = two_behind Rel a bytes refl are long room
-  bytes_of_operands Zprel a bytes are long room = three_behind Zprel a bytes refl are long room
+      → IsPast mode (len_of mode) a bytes
+  bytes_of_operands Imp a bytes are long room = one_past Imp a bytes refl long
+  bytes_of_operands Acc a bytes are long room = one_past Acc a bytes refl long
+  bytes_of_operands Imm a bytes are long room = two_past Imm a bytes refl are long room
+  bytes_of_operands Zp a bytes are long room = two_past Zp a bytes refl are long room
+  bytes_of_operands Zpx a bytes are long room = two_past Zpx a bytes refl are long room
+  bytes_of_operands Zpy a bytes are long room = two_past Zpy a bytes refl are long room
+  bytes_of_operands Abs a bytes are long room = three_past Abs a bytes refl are long room
+  bytes_of_operands Absx a bytes are long room = three_past Absx a bytes refl are long room
+  bytes_of_operands Absy a bytes are long room = three_past Absy a bytes refl are long room
+  bytes_of_operands Ind a bytes are long room = three_past Ind a bytes refl are long room
+  bytes_of_operands Indx a bytes are long room = two_past Indx a bytes refl are long room
+  bytes_of_operands Indy a bytes are long room = two_past Indy a bytes refl are long room
+  bytes_of_operands Zpind a bytes are long room = two_past Zpind a bytes refl are long room
+  bytes_of_operands Absindx a bytes are long room = three_past Absindx a bytes refl are long room
+  bytes_of_operands Rel a bytes are long room = two_past Rel a bytes refl are long room
+  bytes_of_operands Zprel a bytes are long room = three_past Zprel a bytes refl are long room

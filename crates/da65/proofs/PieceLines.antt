@@ -14,7 +14,7 @@ use Rattle.da65.proofs.GroupLemmas.{group-some, stride-group, stride-skip}
 use Rattle.da65.proofs.InsideLemmas.{full-more, group-piece}
 use Rattle.da65.proofs.DefinedLemmas.{IsTable, group-unnamed}
 use Rattle.da65.proofs.PlaceLemmas.{Leads, each-place}
-use Rattle.da65.proofs.ShapeLemmas.{behind-role, group-one, limit-other, limit-whole, one-more, size-is, wanted-of}
+use Rattle.da65.proofs.ShapeLemmas.{role-past, group-one, limit-other, limit-whole, one-more, size-is, wanted-of}
 
 -- ---- roles of tables
 
@@ -102,7 +102,7 @@ first-full m r k start = record {
 
 -- pieces that meet are one
 pub join : (m : MapView) (b a c : ℕ) → AreOnePiece m b a → AreOnePiece m a c → AreOnePiece m b c
-join m b a c front back x low high = ⊎_elim (λ behind. back x behind high) (λ before. front x low before) (cases_lt a x)
+join m b a c front back x low high = ⊎_elim (λ past. back x past high) (λ before. front x low before) (cases_lt a x)
 
 -- with one more byte that is joined
 join-one : (m : MapView) (b a c : ℕ) → AreOnePiece m b (a - 1) → a ≡ c → is_joined m c ≡ true → AreOnePiece m b c
@@ -111,9 +111,9 @@ join-one m b a c front same joined x low high =
 
 module _ (m : MapView) (r : RangeType) (table : IsTable m r) where
   -- after a group of the piece
-  behind-group : (p n : ℕ) → IsGroupPlace m p → p < length m.image.bytes → is_skip (role_of m.info (m.image.start + p)) ≡ false → FullAt m r p → n ≡ group_len m (m.image.start + p)
+  group-past : (p n : ℕ) → IsGroupPlace m p → p < length m.image.bytes → is_skip (role_of m.info (m.image.start + p)) ≡ false → FullAt m r p → n ≡ group_len m (m.image.start + p)
       → is_joined m (m.image.start + (p + n)) ≡ true → is_defined m (m.image.start + (p + n)) ≡ false → role_of m.info (m.image.start + (p + n)) ≡ r → is_whole m (m.image.start + (p + n)) ≡ true → BeginsFull m r (p + n)
-  behind-group p n here low shown known len joined unnamed role-is whole = go (is_whole m a) refl
+  group-past p n here low shown known len joined unnamed role-is whole = go (is_whole m a) refl
     where
       a : ℕ
       a = m.image.start + p
@@ -150,7 +150,7 @@ module _ (m : MapView) (r : RangeType) (table : IsTable m r) where
           let others : ℕ = more_at m (limit_at m a - 1) (a + item_len m a) in
           let place : a + item_len m a + others ≡ next = omega (arith, len, group-is m a) in
           let more : others ≡ (limit_at m a - 1) * unit_of r =
-          full-more m (limit_at m a - 1) (a + item_len m a) r (λ on. behind-role m a (item_len m a) begun on ∙ role-a) (ap (goes_on m) place ∙ goes-on-if m next joined whole unnamed) in
+          full-more m (limit_at m a - 1) (a + item_len m a) r (λ on. role-past m a (item_len m a) begun on ∙ role-a) (ap (goes_on m) place ∙ goes-on-if m next joined whole unnamed) in
           let count : suc (limit_at m a - 1) ≡ limit_of r = omega (arith, limit, limit-positive r) in
           len ∙ group-is m a ∙ one-more (item_len m a) (unit_of r) (limit_at m a - 1) others unit more ∙ ap (λ (c : ℕ). c * unit_of r) count
 
@@ -169,10 +169,10 @@ module _ (m : MapView) (r : RangeType) (table : IsTable m r) where
               one_piece = join m line.item.first a next line.item.one_piece piece;
               unnamed = λ x after before.
                   ⊎_elim
-                  (λ behind.
+                  (λ past.
                   ⊎_elim
                   (λ same. ap (is_defined m) same ∙ unnamed)
-                  (λ other. group-unnamed m r p x here low shown role-a table behind (omega (arith, before, other, len)))
+                  (λ other. group-unnamed m r p x here low shown role-a table past (omega (arith, before, other, len)))
                   (cases_eq x next))
                   (λ here. line.item.unnamed x after here)
                   (cases_lt a x);
@@ -195,7 +195,7 @@ module _ (m : MapView) (r : RangeType) (table : IsTable m r) where
           let place : m.image.start + p ≡ next - 1 = omega (arith, stride-skip m (m.image.start + p) f) in
           let same : role_of m.info (m.image.start + p) ≡ r = ap (role_of m.info) place ∙ (joined-in m next e).same ∙ role-is in
           absurd (true≢false (sym f ∙ ap is_skip same ∙ table.listed))
-      go true e false d false f = behind-group p (stride_at m (m.image.start + p)) here low f known (stride-group m (m.image.start + p) f) e d role-is whole
+      go true e false d false f = group-past p (stride_at m (m.image.start + p)) here low f known (stride-group m (m.image.start + p) f) e d role-is whole
 
   pub each-full : (k : ℕ) → IsGroupPlace m k → FullAt m r k
   each-full k here = each-place m (FullAt m r) (λ low role-is whole. let place : m.image.start + 0 ≡ m.image.start = omega arith in first-full m r 0 (inl (inl place))) next-full k here

@@ -20,7 +20,7 @@ walk m P leads (suc n) p k fuel low here known there =
     let next : ℕ = p + stride_at m (m.image.start + p) in
     ⊎_elim
     (λ within. absurd (left-within (stride_at m) m.image.start p k here.group (omega (arith, low, other)) within there.group))
-    (λ behind. walk m P leads n next k (omega (arith, fuel, step.some)) behind step.next (leads p here inside known) there)
+    (λ past. walk m P leads n next k (omega (arith, fuel, step.some)) past step.next (leads p here inside known) there)
     (cases_lt k next))
     (cases_eq k p)
 

@@ -67,8 +67,8 @@ instruction-size t (b ∷ bytes) some h = whole-size (length (b ∷ bytes)) (dec
 -- ---- tables
 
 -- the byte after an item that lies in its piece has its role
-pub behind-role : (m : MapView) (a len : ℕ) → len ≡ size_at m a → is_joined m (a + len) ≡ true → role_of m.info (a + len) ≡ role_of m.info a
-behind-role m a len same joined =
+pub role-past : (m : MapView) (a len : ℕ) → len ≡ size_at m a → is_joined m (a + len) ≡ true → role_of m.info (a + len) ≡ role_of m.info a
+role-past m a len same joined =
     let some : 1 ≤ size_at m a = size-positive m a in
     let place : a + len - 1 ≡ a + size_at m a - 1 = omega (arith, same) in
     sym (joined-in m (a + len) joined).same ∙ ap (role_of m.info) place ∙ one-role m a (a + size_at m a - 1) (omega (arith, some)) (size-one-piece m a)
@@ -90,12 +90,12 @@ many m zero a r same = many-none m 0 a r (more-none m a)
 many m (suc n) a r same = go (goes_on m a) refl (many m n)
   where
     go : (t : Bool) → goes_on m a ≡ t → ((a : ℕ) (r : RangeType) → (is_joined m a ≡ true → role_of m.info a ≡ r) → Many m n a r) → Many m (suc n) a r
-    go false is behind = many-none m (suc n) a r (more-false m n a is)
-    go true is behind =
+    go false is past = many-none m (suc n) a r (more-false m n a is)
+    go true is past =
         let item = item-goes-on m a is in
         let role-is : role_of m.info a ≡ r = same item.joined in
         let whole : item_len m a ≡ unit_of r = item.whole ∙ ap unit_of role-is in
-        let others = behind (a + item_len m a) r (λ joined. behind-role m a (item_len m a) (item-begun m a item.some).size joined ∙ role-is) in
+        let others = past (a + item_len m a) r (λ joined. role-past m a (item_len m a) (item-begun m a item.some).size joined ∙ role-is) in
         record { count = suc others.count; bound = omega (arith, others.bound); is = more-true m n a is ∙ one-more (item_len m a) (unit_of r) others.count _ whole others.is }
 
 -- as many bytes as one and `count` further items of the role have
@@ -142,7 +142,7 @@ table-long m a r e wanted begun = go (is_whole m a) refl
     go false h = inl (group-one m a (limit-other m a h) ∙ single (size-is m a) h)
     go true h =
         let unit : item_len m a ≡ unit_of r = eqb-true (item_len m a) (unit_of (role_of m.info a)) h ∙ ap unit_of e in
-        let others = many m (limit_at m a - 1) (a + item_len m a) r (λ joined. behind-role m a (item_len m a) begun joined ∙ e) in
+        let others = many m (limit_at m a - 1) (a + item_len m a) r (λ joined. role-past m a (item_len m a) begun joined ∙ e) in
         let limit : limit_at m a ≡ limit_of r = limit-whole m a h ∙ ap limit_of e in
         inr (record { count = others.count; bound = omega (arith, others.bound, limit); is = one-more (item_len m a) (unit_of r) others.count _ unit others.is })
 

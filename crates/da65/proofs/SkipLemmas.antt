@@ -23,8 +23,8 @@ skip-in (r ∷ rs) a none =
     go (has_address r a) both.0 (skip-in rs a both.1)
   where
     go : (t : Bool) → is_skip r.role ≡ false → is_skip (role_in rs a) ≡ false → is_skip (if t then r.role else role_in rs a) ≡ false
-    go true here behind = here
-    go false here behind = behind
+    go true here past = here
+    go false here past = past
 
 none-skipped : (p : ℕ → Bool) → ((a : ℕ) → p a ≡ false) → (n a : ℕ) → list_any p (addresses n a) ≡ false
 unfolding addresses

@@ -95,8 +95,8 @@ data_stands Full s bytes are = record {
 -- what bytes begin with that begin with an instruction
 pub record BeginsWith (t : Table) (bytes : List ℕ) (op : Op) : Type 0 where
   pub first : ℕ
-  pub behind : List ℕ
-  pub bytes_are : bytes ≡ first ∷ behind
+  pub past : List ℕ
+  pub bytes_are : bytes ≡ first ∷ past
   pub opcode : decoded t first ≡ Some op
   pub long : len_of op.mode ≤ length bytes
 
@@ -112,7 +112,7 @@ unfolding instruction_in
 begins_with t [] op e = absurd cc
 begins_with t (b ∷ bytes) op e =
     let is = whole_is (length (b ∷ bytes)) (decoded t b) op e in
-    record { first = b; behind = bytes; bytes_are = refl; opcode = is.0; long = is.1 }
+    record { first = b; past = bytes; bytes_are = refl; opcode = is.0; long = is.1 }
 
 -- what is known of all that IfSome speaks of
 pub at_some : {A : Type 0} (P : A → Type 0) (o : Option A) (x : A) → o ≡ Some x → IfSome o P → P x
@@ -120,9 +120,9 @@ at_some P None x e h = absurd cc
 at_some P (Some y) x e h = let same : y ≡ x = cc in subst P same h
 
 -- the first of some bytes, and those after it
-first_again : (n b : ℕ) (behind bytes : List ℕ) → bytes ≡ b ∷ behind → 1 ≤ n → b ∷ drop 1 (take n bytes) ≡ take n bytes
-first_again zero b behind bytes e some = absurd (omega arith)
-first_again (suc n) b behind bytes e some = rw e refl
+first_again : (n b : ℕ) (past bytes : List ℕ) → bytes ≡ b ∷ past → 1 ≤ n → b ∷ drop 1 (take n bytes) ≡ take n bytes
+first_again zero b past bytes e some = absurd (omega arith)
+first_again (suc n) b past bytes e some = rw e refl
 
 pub len_positive : (m : Mode) → 1 ≤ len_of m
 len_positive Imp = omega arith

@@ -41,8 +41,8 @@ pub any-here : (p : ℕ → Bool) (n start k : ℕ) → k < n → p (start + k) 
 any-here p n start k low is = ap (list_any p) (addresses-step n start k low) ∙ rw is refl
 
 -- it does not, so only those after it may
-pub any-behind : (p : ℕ → Bool) (n start k : ℕ) → k < n → p (start + k) ≡ false → list_any p (addresses (n - k) (start + k)) ≡ list_any p (addresses (n - (k + 1)) (start + (k + 1)))
-any-behind p n start k low is = ap (list_any p) (addresses-step n start k low) ∙ rw is refl
+pub any-past : (p : ℕ → Bool) (n start k : ℕ) → k < n → p (start + k) ≡ false → list_any p (addresses (n - k) (start + k)) ≡ list_any p (addresses (n - (k + 1)) (start + (k + 1)))
+any-past p n start k low is = ap (list_any p) (addresses-step n start k low) ∙ rw is refl
 
 pub any-end : (p : ℕ → Bool) (n start k : ℕ) → n ≤ k → list_any p (addresses (n - k) (start + k)) ≡ false
 any-end p n start k high = ap (list_any p) (addresses-end n start k high)

@@ -28,7 +28,7 @@ other_bytes b bytes h = All-tail (λ b. b < 256) b bytes h
 
 -- the bytes after the opcode
 abbrev pub OperandsGive : (List Definition → Type 0) → Mode → ℕ → List ℕ → Option OperandsView → Type 0
-OperandsGive Full mode next behind o = IfSome o (λ os. FragmentsGive Full next (fragments_in mode os) behind)
+OperandsGive Full mode next past o = IfSome o (λ os. FragmentsGive Full next (fragments_in mode os) past)
 
 -- ---- how an operand is coded, in each mode
 

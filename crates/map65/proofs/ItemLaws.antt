@@ -1,7 +1,7 @@
 -- The law of items.
 use Rattle.std.proofs.Common.{◌≡◌, refl, ◌≢◌, ◌∙◌, inl, inr, ℕ, zero, suc, ◌+◌, ◌-◌, ◌<◌, ◌≤◌, ◌&&◌, ◌==◌, nat_le, nat_lt, not, Bool, true, false, ap, sym, arith, ⊎_elim}
 use Rattle.std.proofs.lemmas.Bool.{and_from, and_parts, both_ways, cases_Bool, cases_eq, cond-true, cond_both, eqb-true, leb-true, ltb-true, not-true}
-use Rattle.map65.proofs.ItemLemmas.{are_joined-none, are_joined-suc, item-len-at, joined-piece, left-begun, left-behind, left-first, left-going, one-role, size-one-piece, size-positive, wanted-positive}
+use Rattle.map65.proofs.ItemLemmas.{are_joined-none, are_joined-suc, item-len-at, joined-piece, left-begun, left-past, left-first, left-going, one-role, size-one-piece, size-positive, wanted-positive}
 use Rattle.map65.specs.ImageView.{end_of, is_inside}
 use Rattle.map65.specs.Items.{AreItems, CanBegin, EndsBefore, ItemLaw, item_len, size_at, wanted_at}
 use Rattle.map65.specs.MapView.{MapView}
@@ -141,7 +141,7 @@ left-after m a e =
     let item : m.image.start + k ≡ e.item = omega (arith, is.low) in
     let size : size_at m (m.image.start + k) ≡ size_at m e.item = ap (size_at m) item in
     let place : a - m.image.start ≡ k + size_at m (m.image.start + k) = omega (arith, size, e.ends, is.len, item) in
-    ap (left_at (size_at m) m.image.start) place ∙ left-behind (size_at m) (size-positive m) m.image.start k is.none
+    ap (left_at (size_at m) m.image.start) place ∙ left-past (size_at m) (size-positive m) m.image.start k is.none
 
 item-if : (m : MapView) (a : ℕ) → CanBegin m (item_len m) a → 0 < item_len m a
 item-if m a is =
@@ -152,7 +152,7 @@ item-if m a is =
     (λ same. let none : a - m.image.start ≡ 0 = omega (arith, same) in ap (left_at (size_at m) m.image.start) none ∙ left-first (size_at m) m.image.start)
     (λ apart. left-apart m a low apart)
     first)
-    (λ behind. left-after m a behind)
+    (λ past. left-after m a past)
     is.place)
 
 -- ---- how long it is

@@ -188,8 +188,8 @@ left-inside size start k (suc i) none within =
     ap (left_at size start) place ∙ left-going size start (suc k + i) (omega (arith, before)) ∙ omega (arith, before)
 
 -- at the end of a span none is left
-pub left-behind : (size : ℕ → ℕ) → ((a : ℕ) → 1 ≤ size a) → (start k : ℕ) → left_at size start k ≡ 0 → left_at size start (k + size (start + k)) ≡ 0
-left-behind size positive start k none =
+pub left-past : (size : ℕ → ℕ) → ((a : ℕ) → 1 ≤ size a) → (start k : ℕ) → left_at size start k ≡ 0 → left_at size start (k + size (start + k)) ≡ 0
+left-past size positive start k none =
     let n : ℕ = size (start + k) in
     let some : 1 ≤ n = positive (start + k) in
     let place : k + n ≡ suc k + (n - 1) = omega arith in

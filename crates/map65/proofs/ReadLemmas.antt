@@ -156,16 +156,16 @@ image_seen (Some xs) old new s offset most bytes answer same is at many all =
 
 -- ---- what is taken after bytes that were passed over
 
-pub behind_bytes : (old mid : Option (List ℕ)) (items : List ℕ) (offset limit : ℕ) → IsReadTo offset old mid → IfSome mid (λ xs. items ≡ take limit xs) → IfSome old (λ xs. items ≡ take limit (drop offset xs))
-behind_bytes None mid items offset limit p q = tt
-behind_bytes (Some xs) mid items offset limit p q = rw p at q
+pub bytes_after : (old mid : Option (List ℕ)) (items : List ℕ) (offset limit : ℕ) → IsReadTo offset old mid → IfSome mid (λ xs. items ≡ take limit xs) → IfSome old (λ xs. items ≡ take limit (drop offset xs))
+bytes_after None mid items offset limit p q = tt
+bytes_after (Some xs) mid items offset limit p q = rw p at q
 
-pub behind_rest : (old mid new : Option (List ℕ)) (offset limit : ℕ) → IsReadTo offset old mid → IsReadTo limit mid new → IsReadTo (offset + limit) old new
-behind_rest None mid new offset limit p q = tt
-behind_rest (Some xs) mid new offset limit p q = let r : new ≡ Some (drop limit (drop offset xs)) = rw p at q in r ∙ ap Some (drop-drop limit offset xs)
+pub rest_after : (old mid new : Option (List ℕ)) (offset limit : ℕ) → IsReadTo offset old mid → IsReadTo limit mid new → IsReadTo (offset + limit) old new
+rest_after None mid new offset limit p q = tt
+rest_after (Some xs) mid new offset limit p q = let r : new ≡ Some (drop limit (drop offset xs)) = rw p at q in r ∙ ap Some (drop-drop limit offset xs)
 
-pub behind_bound : (old mid new : Option (List ℕ)) (offset limit : ℕ) → TakesUpTo offset old mid → TakesUpTo limit mid new → TakesUpTo (offset + limit) old new
-behind_bound old mid new offset limit p q = took_up_to old mid new p.bytes q.bytes (offset + limit) p.taken q.taken (omega (arith, p.bound, q.bound))
+pub bound_after : (old mid new : Option (List ℕ)) (offset limit : ℕ) → TakesUpTo offset old mid → TakesUpTo limit mid new → TakesUpTo (offset + limit) old new
+bound_after old mid new offset limit p q = took_up_to old mid new p.bytes q.bytes (offset + limit) p.taken q.taken (omega (arith, p.bound, q.bound))
 
 pub bound_more : (old new : Option (List ℕ)) (offset limit : ℕ) → TakesUpTo offset old new → TakesUpTo (offset + limit) old new
 bound_more old new offset limit p = record { bytes = p.bytes; bound = omega (arith, p.bound); taken = p.taken }

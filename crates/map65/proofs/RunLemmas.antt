@@ -125,8 +125,8 @@ module _ (m : MapView) (a c d : ℕ) (some : 0 < a) (before : c % 16 ≡ code_of
   alike-by None is is_before some_code unbroken = absurd (some_code no-code)
   alike-by (Some r) is is_before some_code unbroken =
       let at = has-role m a r is in
-      let behind = has-role m (a - 1) r is_before in
-      run-if m a (record { low = omega (arith, some, behind.low); high = at.high; same = behind.is ∙ sym at.is; unbroken = unbroken })
+      let past = has-role m (a - 1) r is_before in
+      run-if m a (record { low = omega (arith, some, past.low); high = at.high; same = past.is ∙ sym at.is; unbroken = unbroken })
 
   run-alike : are_one_run c d ≡ true → is_in_run m a ≡ true
   unfolding are_one_run

@@ -13,7 +13,7 @@ use Rattle.info65.specs.declared.range.RangeType.{RangeType}
 use Rattle.info65.specs.declared.range.RangeType.TheVariants.{Code}
 use Rattle.map65.proofs.CellLemmas.{bits-test, cell-role, cell-wide, set-cell, with_len-border, with_len-lay, with_len-rest}
 use Rattle.map65.proofs.ItemLaws.{begun}
-use Rattle.map65.proofs.ItemLemmas.{are_joined-none, are_joined-suc, in-run, is_cut_at, item-len-at, joined-high, joined-if, joined-run, joined-uncut, left-behind, left-first, left-inside, size-fits, size-positive}
+use Rattle.map65.proofs.ItemLemmas.{are_joined-none, are_joined-suc, in-run, is_cut_at, item-len-at, joined-high, joined-if, joined-run, joined-uncut, left-past, left-first, left-inside, size-fits, size-positive}
 use Rattle.map65.proofs.RunLemmas.{plain-code, role_at-inside, run-cells}
 use Rattle.map65.specs.Code.Cells.{HasBits, HasBorders, IsLaid, are_one_run, bit, cell_of, has_bit, is_cut, is_wide_cell, is_wide_role, lay_at, role_in_cell, with_len}
 use Rattle.map65.specs.Code.Marking.{AreMarkedBelow, is_joined_in}
@@ -190,7 +190,7 @@ module _ (m : MapView) (n len : ℕ) (low : m.image.start ≤ n) (begins : left_
   pub next-begins : left_at (size_at m) m.image.start (n + len - m.image.start) ≡ 0
   next-begins =
       let place : n + len - m.image.start ≡ n - m.image.start + size_at m (m.image.start + (n - m.image.start)) = omega (arith, low, size-here) in
-      ap (left_at (size_at m) m.image.start) place ∙ left-behind (size_at m) (size-positive m) m.image.start (n - m.image.start) begins
+      ap (left_at (size_at m) m.image.start) place ∙ left-past (size_at m) (size-positive m) m.image.start (n - m.image.start) begins
 
   pub inside-item : (a : ℕ) → n < a → a < n + len → item_len m a ≡ 0
   inside-item a after before =

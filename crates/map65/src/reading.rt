@@ -63,8 +63,8 @@ pub fn take_up_to<A: Allocator, R: Source>(
 }
 
 /// The bytes after the first `offset`, up to the end or `limit` of them.
-#[tactic(auto, using(crate::proofs::ReadLemmas::behind_bound))]
-fn take_behind<A: Allocator, R: Source>(
+#[tactic(auto, using(crate::proofs::ReadLemmas::bound_after))]
+fn take_after<A: Allocator, R: Source>(
     alloc: A,
     input: &mut R,
     offset: usize,
@@ -114,6 +114,6 @@ pub fn read_image<A: Allocator, R: Source>(
 {
     let settings = info.settings();
     let offset = settings.offset as usize;
-    let bytes = take_behind(alloc, input, offset, most_of(settings.size))?;
+    let bytes = take_after(alloc, input, offset, most_of(settings.size))?;
     Image::from_bytes(settings.start, settings.size, bytes)
 }

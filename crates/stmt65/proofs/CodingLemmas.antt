@@ -47,13 +47,13 @@ pub ruleset tries = (first_found, first_missed)
 -- after the two modes of a size, another way
 
 -- the same of ways before other ways
-pub behind_found : (cpu : Cpu) (m : Mnemonic) (ws vs : List Way) (x : List Fragment) → Some x ≡ first_way cpu m ws → Some x ≡ first_way cpu m (ws ++ vs)
-behind_found cpu m ws vs x e = rw (first_way_append cpu m ws vs, ← e) refl
+pub found_first : (cpu : Cpu) (m : Mnemonic) (ws vs : List Way) (x : List Fragment) → Some x ≡ first_way cpu m ws → Some x ≡ first_way cpu m (ws ++ vs)
+found_first cpu m ws vs x e = rw (first_way_append cpu m ws vs, ← e) refl
 
-pub behind_missed : (cpu : Cpu) (m : Mnemonic) (ws vs : List Way) → None ≡ first_way cpu m ws → first_way cpu m (ws ++ vs) ≡ first_way cpu m vs
-behind_missed cpu m ws vs e = rw (first_way_append cpu m ws vs, ← e) refl
+pub missed_first : (cpu : Cpu) (m : Mnemonic) (ws vs : List Way) → None ≡ first_way cpu m ws → first_way cpu m (ws ++ vs) ≡ first_way cpu m vs
+missed_first cpu m ws vs e = rw (first_way_append cpu m ws vs, ← e) refl
 
-pub ruleset after_sizes = (behind_found, behind_missed)
+pub ruleset after_sizes = (found_first, missed_first)
 
 -- ---- lengths
 

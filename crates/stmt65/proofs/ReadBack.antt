@@ -282,16 +282,16 @@ blank_start column = go (ltb 0 (column - 1)) refl
     go true e = record { count = column - 1 - 0; blanks = rw e refl }
     go false e = record { count = 0; blanks = rw e refl }
 
-record IsBlankBehind (line text : List ℕ) : Type 0 where
+record IsBlankAfter (line text : List ℕ) : Type 0 where
   count : ℕ
   blanks : text ≡ line ++ 32 ∷ replicate count 32
 
-blank_between : (line : List ℕ) (column : ℕ) → 0 < length line → IsBlankBehind line (filled line column)
+blank_between : (line : List ℕ) (column : ℕ) → 0 < length line → IsBlankAfter line (filled line column)
 unfolding filled
 blank_between [] column lt = absurd (omega arith)
 blank_between (b ∷ bs) column lt = go (ltb (suc (length bs)) (column - 1)) refl
   where
-    go : (t : Bool) → ltb (suc (length bs)) (column - 1) ≡ t → IsBlankBehind (b ∷ bs) (filled (b ∷ bs) column)
+    go : (t : Bool) → ltb (suc (length bs)) (column - 1) ≡ t → IsBlankAfter (b ∷ bs) (filled (b ∷ bs) column)
     go true e =
         let k : column - 1 - suc (length bs) ≡ suc (column - 2 - suc (length bs)) = omega (arith, ltb-true (suc (length bs)) (column - 1) e)
         in record { count = column - 2 - suc (length bs); blanks = rw (e, k) refl }

@@ -195,9 +195,9 @@ joined_read {A = A} Is read h (suc most) ps =
 -- ---- operations and lines
 
 -- an item after a word
-one_behind : (text : List ℕ) (i : Item) (w : List ℕ) (ps : List Part) → same w text ≡ true → IsItem i ps → Spells (word text ∷ i ∷ []) (Word w ∷ ps)
+word_and_item : (text : List ℕ) (i : Item) (w : List ℕ) (ps : List Part) → same w text ≡ true → IsItem i ps → Spells (word text ∷ i ∷ []) (Word w ∷ ps)
 unfolding Spells
-one_behind text i w ps h g = (Word w ∷ [], ps, refl, (w, h, refl), (ps, [], sym (append-nil ps), g, refl))
+word_and_item text i w ps h g = (Word w ∷ [], ps, refl, (w, h, refl), (ps, [], sym (append-nil ps), g, refl))
 
 word_front : (text : List ℕ) (is : List Item) (w : List ℕ) (ps : List Part) → same w text ≡ true → Spells is ps → Spells (word text ∷ is) (Word w ∷ ps)
 unfolding Spells
@@ -231,23 +231,23 @@ then_read P None make full h k = tt
 then_read P (Some x) make full h k = k x h
 
 data_read : (w : List ℕ) (ps : List Part) → same w (codes ".byte") ≡ true → IfSome (data_of ps) (λ o. Spells (operation_items o) (Word w ∷ ps))
-data_read w ps t = then_read (λ xs. IsList IsDatum xs ps) (list_of next_datum ps) Data (Word w ∷ ps) (joined_read IsDatum next_datum datum_read (suc (length ps)) ps) (λ xs h. one_behind (codes ".byte") (data_list xs) w ps t h)
+data_read w ps t = then_read (λ xs. IsList IsDatum xs ps) (list_of next_datum ps) Data (Word w ∷ ps) (joined_read IsDatum next_datum datum_read (suc (length ps)) ps) (λ xs h. word_and_item (codes ".byte") (data_list xs) w ps t h)
 
 -- an operation that takes expressions
 values_read : (text : List ℕ) (make : List Value → Operation) → ((vs : List Value) → operation_items (make vs) ≡ word text ∷ value_list vs ∷ [])
     → (w : List ℕ) (ps : List Part) → same w text ≡ true → IfSome (list_of next_value ps >>= λ vs. Some (make vs)) (λ o. Spells (operation_items o) (Word w ∷ ps))
-values_read text make items w ps t = then_read (λ vs. IsList IsValue vs ps) (list_of next_value ps) make (Word w ∷ ps) (joined_read IsValue next_value value_read (suc (length ps)) ps) (λ vs h. rw (items vs) (one_behind text (value_list vs) w ps t h))
+values_read text make items w ps t = then_read (λ vs. IsList IsValue vs ps) (list_of next_value ps) make (Word w ∷ ps) (joined_read IsValue next_value value_read (suc (length ps)) ps) (λ vs h. rw (items vs) (word_and_item text (value_list vs) w ps t h))
 
 segment_read : (w : List ℕ) (ps : List Part) → same w (codes ".segment") ≡ true → IfSome (segment_of ps) (λ o. Spells (operation_items o) (Word w ∷ ps))
 segment_read w ps t =
     by_option (text_in ps)
     (λ name e. rw e (by_test (has_name_form name)
-    (λ n. rw n (one_behind (codes ".segment") (quoted_name name) w ps t (n, at (λ name. ps ≡ Text name ∷ []) (text_in ps) name e (text_read ps))))
+    (λ n. rw n (word_and_item (codes ".segment") (quoted_name name) w ps t (n, at (λ name. ps ≡ Text name ∷ []) (text_in ps) name e (text_read ps))))
     (λ n. rw n tt)))
     (λ e. rw e tt)
 
 set_cpu_read : (w : List ℕ) (ps : List Part) → same w (codes ".setcpu") ≡ true → IfSome (set_cpu_of ps) (λ o. Spells (operation_items o) (Word w ∷ ps))
-set_cpu_read w ps t = then_read (λ name. ps ≡ Text name ∷ []) (text_in ps) SetCpu (Word w ∷ ps) (text_read ps) (λ name h. one_behind (codes ".setcpu") (string name) w ps t h)
+set_cpu_read w ps t = then_read (λ name. ps ≡ Text name ∷ []) (text_in ps) SetCpu (Word w ∷ ps) (text_read ps) (λ name h. word_and_item (codes ".setcpu") (string name) w ps t h)
 
 instruction_read : (w : List ℕ) (ps : List Part) → IfSome (instruction_of w ps) (λ o. Spells (operation_items o) (Word w ∷ ps))
 instruction_read w ps =

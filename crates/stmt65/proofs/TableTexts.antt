@@ -24,15 +24,15 @@ pub word_put : (o : ByteOrder) (bytes rest old new : List ℕ) → 2 ≤ length 
     → new ++ flat_map (next_text hex4) (words_in o rest) ≡ old ++ words_text (words_in o bytes)
 word_put o bytes rest old new lt r n = rw (n, r, first_word o bytes lt) (append_assoc old _ _)
 
-words_behind : (o : ByteOrder) (bytes : List ℕ) → 2 ≤ length bytes → flat_map (next_text hex4) (words_in o bytes) ≡ 44 ∷ words_text (words_in o bytes)
+next_words : (o : ByteOrder) (bytes : List ℕ) → 2 ≤ length bytes → flat_map (next_text hex4) (words_in o bytes) ≡ 44 ∷ words_text (words_in o bytes)
 unfolding comma_list
-words_behind o [] lt = absurd (omega arith)
-words_behind o (a ∷ []) lt = absurd (omega arith)
-words_behind o (a ∷ b ∷ bs) lt = rw (words_more o a b bs) refl
+next_words o [] lt = absurd (omega arith)
+next_words o (a ∷ []) lt = absurd (omega arith)
+next_words o (a ∷ b ∷ bs) lt = rw (words_more o a b bs) refl
 
 -- a comma is put, and the words that are left
 pub words_step : (o : ByteOrder) (bytes out new text : List ℕ) → 2 ≤ length bytes → out ++ flat_map (next_text hex4) (words_in o bytes) ≡ text → new ≡ (out ++ 44 ∷ []) ++ words_text (words_in o bytes) → new ≡ text
-words_step o bytes out new text lt e n = n ∙ append_assoc out (44 ∷ []) (words_text (words_in o bytes)) ∙ ap (λ (l : List ℕ). out ++ l) (sym (words_behind o bytes lt)) ∙ e
+words_step o bytes out new text lt e n = n ∙ append_assoc out (44 ∷ []) (words_text (words_in o bytes)) ∙ ap (λ (l : List ℕ). out ++ l) (sym (next_words o bytes lt)) ∙ e
 
 pub words_end : (o : ByteOrder) (bytes out text : List ℕ) → length bytes ≤ 1 → out ++ flat_map (next_text hex4) (words_in o bytes) ≡ text → out ≡ text
 words_end o [] out text le e = rw (words_nil o, append-nil) at e
@@ -69,10 +69,10 @@ pub stretch_put : (bytes front rest old new : List ℕ) (n : ℕ) → n ≡ pref
     → new ++ flat_map (next_text datum_text) (cut_text rest) ≡ old ++ data_text (cut_text bytes)
 stretch_put bytes front rest old new n e lt f r w = rw (w, f, r, e, first_stretch bytes (omega arith)) (simp append_assoc)
 
-text_behind : (bytes : List ℕ) → 1 ≤ length bytes → flat_map (next_text datum_text) (cut_text bytes) ≡ 44 ∷ data_text (cut_text bytes)
+next_texts : (bytes : List ℕ) → 1 ≤ length bytes → flat_map (next_text datum_text) (cut_text bytes) ≡ 44 ∷ data_text (cut_text bytes)
 unfolding cut_text comma_list
-text_behind [] lt = absurd (omega arith)
-text_behind (b ∷ bs) lt = go (is_plain b) (cut_text bs) refl refl
+next_texts [] lt = absurd (omega arith)
+next_texts (b ∷ bs) lt = go (is_plain b) (cut_text bs) refl refl
   where
     go : (t : Bool) (ds : List Datum) → is_plain b ≡ t → cut_text bs ≡ ds → flat_map (next_text datum_text) (cut_text (b ∷ bs)) ≡ 44 ∷ data_text (cut_text (b ∷ bs))
     go false ds h e = rw h refl
@@ -82,7 +82,7 @@ text_behind (b ∷ bs) lt = go (is_plain b) (cut_text bs) refl refl
 
 -- a comma is put, and the text that is left
 pub text_step : (bytes out new text : List ℕ) → 1 ≤ length bytes → out ++ flat_map (next_text datum_text) (cut_text bytes) ≡ text → new ≡ (out ++ 44 ∷ []) ++ data_text (cut_text bytes) → new ≡ text
-text_step bytes out new text lt e n = n ∙ append_assoc out (44 ∷ []) (data_text (cut_text bytes)) ∙ ap (λ (l : List ℕ). out ++ l) (sym (text_behind bytes lt)) ∙ e
+text_step bytes out new text lt e n = n ∙ append_assoc out (44 ∷ []) (data_text (cut_text bytes)) ∙ ap (λ (l : List ℕ). out ++ l) (sym (next_texts bytes lt)) ∙ e
 
 pub text_end : (bytes out text : List ℕ) → length bytes ≡ 0 → out ++ flat_map (next_text datum_text) (cut_text bytes) ≡ text → out ≡ text
 text_end [] out text le e = rw (cut_nil, append-nil) at e

@@ -1,6 +1,6 @@
 use Rattle.std.proofs.Common.{◌∙◌, Bool, ℕ, arith, sym}
 use Rattle.map65.specs.Roles.{is_skip, role_of}
-use Rattle.da65.proofs.StepLemmas.{any-behind, any-end, any-here}
+use Rattle.da65.proofs.StepLemmas.{any-past, any-end, any-here}
 use Rattle.da65.proofs.groups.is_any_skipped.Goals as goal
 
 pub returns-then-is_skipped : goal.returns-then-is_skipped
@@ -13,7 +13,7 @@ bytes-preserved g c =
     let p : ℕ → Bool = λ a. is_skip (role_of c.args.map.now.info a) in
     record {
       bound = omega arith;
-      same = sym (any-behind p _ _ _ c.bytes-test.true (sym c.is_skipped.ensures ∙ c.if-is_skipped.false)) ∙ c.bytes.invariant.same;
+      same = sym (any-past p _ _ _ c.bytes-test.true (sym c.is_skipped.ensures ∙ c.if-is_skipped.false)) ∙ c.bytes.invariant.same;
     }
 
 pub returns : goal.returns
