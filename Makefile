@@ -18,7 +18,7 @@ sources := crates.txt $(shell find crates -name out -prune -o \( -name '*.rt' -o
 
 bin/da65: $(sources)
 	@mkdir -p bin
-	@echo 'Proving and building bin/da65. From a fresh checkout this takes some six minutes on four cores,'
+	@echo 'Proving and building bin/da65. From a fresh checkout this takes six minutes on four cores, or half an hour on slow ones,'
 	@echo 'after a small edit less. The prover says what it has checked, and bin/build.log keeps that.'
 	@cd crates/da65_cli && rt run $(RTFLAGS) -- --version 2>&1 | tee ../../bin/build.log
 	@cp crates/da65_cli/out/da65_cli bin/da65
