@@ -5,7 +5,7 @@ use Rattle.std.specs.List.{list_any}
 use Rattle.std.specs.Prelude.{MatchOption}
 use Rattle.map65.specs.ImageView.{end_of, is_inside}
 use Rattle.map65.specs.MapView.{MapView}
-use Rattle.map65.specs.Roles.{is_skip, role_at, role_of}
+use Rattle.map65.specs.Roles.{role_at, role_of}
 use Rattle.da65.specs.BaseNames.{names_of}
 use Rattle.da65.specs.Code.SkipRanges.{is_skip_range}
 use Rattle.da65.specs.Listing.{constants, has_constant_line}

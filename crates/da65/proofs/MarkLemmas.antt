@@ -6,11 +6,10 @@ use Rattle.std.proofs.lemmas.Bool.{cases_lt}
 use denote.Bor.{Bor}
 use Rattle.info65.specs.Code.Names.{given_seen}
 use Rattle.info65.specs.declared.name.Given.{Given}
-use Rattle.std.specs.Bool.{OnFalse, OnTrue}
+use Rattle.std.specs.Bool.{OnFalse}
 use Rattle.info65.specs.Names.{AreNames, covering, name_at}
 use Rattle.info65.specs.Segments.{AreSegments, contains, segment_covering}
 use Rattle.info65.specs.Views.{InfoView, NameView, SegmentView}
-use Rattle.info65.specs.declared.range.RangeSpec.{RangeSpec}
 use Rattle.isa65.specs.declared.cpu.Cpu.{Cpu}
 use Rattle.map65.proofs.NameLemmas.{last-name}
 use Rattle.map65.specs.ImageView.{ImageView, IsPlaced}
@@ -97,12 +96,8 @@ none-shown given n t same is off = sym (ap (λ (n : NameView). n.comment) same) 
 
 -- ---- what is listed
 
-pub all-told : (found : Bool) (ranges shown : List RangeSpec) → found ≡ list_any is_skip_range ranges → ranges ≡ shown → OnTrue (not found) (list_any is_skip_range shown ≡ false)
-all-told true ranges shown is same = tt
-all-told false ranges shown is same = ap (list_any is_skip_range) (sym same) ∙ sym is
-
 pub listed-of : (m : MapView) (i : InfoView) (image : ImageView) (t : Style) (cpu : Cpu) (marked all : Bool) → m ≡ record { info = i; image = image } → t ≡ style_of i.settings → cpu ≡ t.cpu → IsPlaced image → AreNames i.names → AreSegments i.segments
-    → OnFalse marked (HasNoMarks i t) → OnTrue all (list_any is_skip_range i.ranges ≡ false) → IsListed m i image t cpu marked all
+    → OnFalse marked (HasNoMarks i t) → all ≡ not (list_any is_skip_range i.ranges) → IsListed m i image t cpu marked all
 listed-of m i image t cpu marked all built is cpu_is placed names segments none listed =
     let info : m.info ≡ i = ap (λ (m : MapView). m.info) built in
     let picture : m.image ≡ image = ap (λ (m : MapView). m.image) built in
@@ -116,5 +111,5 @@ listed-of m i image t cpu marked all built is cpu_is placed names segments none 
       names = subst (λ (i : InfoView). AreNames i.names) (sym info) names;
       segments = subst (λ (i : InfoView). AreSegments i.segments) (sym info) segments;
       unmarked = λ off. unmarked m i t info style (subst (λ (b : Bool). OnFalse b (HasNoMarks i t)) off none);
-      listed = subst (λ (i : InfoView). OnTrue all (list_any is_skip_range i.ranges ≡ false)) (sym info) listed;
+      listed = listed ∙ ap (λ (i : InfoView). not (list_any is_skip_range i.ranges)) (sym info);
     }

@@ -1,6 +1,5 @@
 -- The lines of a listing that are left from a place on.
-use Rattle.std.specs.Prelude.{◌≡◌, ℕ, ◌+◌, ◌-◌, ◌<◌, ◌≤◌, Bool, true, false, List, [], ◌∷◌, ◌++◌, length, map, Option, None}
-use Rattle.std.specs.Bool.{OnTrue}
+use Rattle.std.specs.Prelude.{◌≡◌, ℕ, ◌+◌, ◌-◌, ◌<◌, ◌≤◌, Bool, true, false, List, [], ◌∷◌, ◌++◌, length, map, not, Option, None}
 use Rattle.std.specs.List.{flat_map, list_any}
 use Rattle.info65.specs.Names.{AreNames}
 use Rattle.info65.specs.Segments.{AreSegments}
@@ -151,7 +150,7 @@ pub record IsListed (m : MapView) (info : InfoView) (image : ImageView) (t : Sty
   pub names : AreNames m.info.names
   pub segments : AreSegments m.info.segments
   pub unmarked : marked ≡ false → IsUnmarked m
-  pub listed : OnTrue all (list_any is_skip_range m.info.ranges ≡ false)
+  pub listed : all ≡ not (list_any is_skip_range m.info.ranges)
 
 -- the lines that are left from a place, where the segment is this one
 pub record AreLines (place : ListingPlace) (m : MapView) (segment : Option (List ℕ)) : Type 0 where

@@ -1,5 +1,5 @@
 -- What a run has written and read, for each of its results.
-use Rattle.std.specs.Prelude.{◌≡◌, ◌⊎◌, ℕ, ◌<◌, List, length, Option, Result, Ok, Err}
+use Rattle.std.specs.Prelude.{◌≡◌, ◌⊎◌, ℕ, ◌+◌, ◌<◌, ◌≤◌, List, length, IfSome, Option, Result, Ok, Err}
 use Rattle.std.specs.Io.KnownBytes.{Keeps, Appends}
 use Rattle.info65.specs.Views.{InfoView}
 use Rattle.map65.specs.Device.{one_more, AppendsFront}
@@ -35,6 +35,10 @@ MessagesCount (Ok status) old new = new ≡ old
 MessagesCount (Err Memory) old new = new ≡ old
 MessagesCount (Err Write) old new = new ≡ old
 MessagesCount (Err Messages) old new = new ≡ one_more old
+
+-- at most 320 bytes of messages were written: an include file's name has at most 255
+abbrev pub WritesFew : Option (List ℕ) → Option (List ℕ) → Type 0
+WritesFew old new = IfSome old (λ xs. IfSome new (λ ys. length ys ≤ length xs + 320))
 
 -- at most one call failed
 abbrev pub FailsAtMostOnce : ℕ → ℕ → Type 0

@@ -1,7 +1,6 @@
 //! An image as it is listed.
 
-ghost use Rattle.std.specs.Prelude.{◌≡◌, ◌+◌, ◌<◌, ◌≤◌, false, length};
-ghost use Rattle.std.specs.Bool.{OnTrue};
+ghost use Rattle.std.specs.Prelude.{◌≡◌, ◌+◌, ◌<◌, ◌≤◌, false, length, not};
 ghost use Rattle.std.specs.List.{list_any};
 ghost use Rattle.info65.specs.Names.{AreNames};
 ghost use Rattle.info65.specs.Segments.{AreSegments};
@@ -111,7 +110,7 @@ impl<'a, A: Allocator> Listed<'a, A> {
 
     /// Whether each byte of the image is listed, since no range has the type SKIP.
     pub fn lists_all(&self) -> bool
-        ensures { OnTrue result (list_any is_skip_range self.now.info.ranges ≡ false) }
+        ensures { result ≡ not (list_any is_skip_range self.now.info.ranges) }
     {
         self.lists_all
     }

@@ -86,7 +86,8 @@ pub fn no_input_message() -> Message
 /// The message of a refused input. Running out of memory has none.
 #[tactic(auto, unfolding(crate::specs::Outcome::image_message))]
 pub fn image_message(fault: ImageFault) -> &'static [u8]
-    ensures { result.now ≡ image_message fault }
+    ensures message { result.now ≡ image_message fault }
+    ensures len { length result.now ≤ 320 }
 {
     match fault {
         ImageFault::Read => b"da65: cannot read the input\n",

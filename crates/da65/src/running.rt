@@ -1,6 +1,6 @@
 //! From an information file and an input to a listing and messages.
 
-ghost use Rattle.std.specs.Prelude.{◌≡◌, ◌-◌, ◌^◌, ◌<◌, Ok, false, IfSome, IfOk, IsErrOf};
+ghost use Rattle.std.specs.Prelude.{◌≡◌, ◌-◌, ◌^◌, ◌<◌, ◌≤◌, Ok, false, IfSome, IfOk, IsErrOf, length};
 ghost use Rattle.std.specs.Io.KnownBytes.{Keeps};
 ghost use Rattle.map65.specs.Device.{TakesUpTo, has_failed};
 ghost use Rattle.map65.specs.ImageView.{AreBytes, IsPlaced};
@@ -9,7 +9,7 @@ ghost use Rattle.da65.specs.Groups.{skips};
 ghost use Rattle.da65.specs.Outcome.{done, image_message, outcome_by, outcome_of, prepared, warnings};
 ghost use Rattle.da65.specs.RunLaw.{Reassembles, Took};
 ghost use Rattle.da65.specs.Code.Refusals.{RefusesOrGivesUp, Tells};
-ghost use Rattle.da65.specs.Running.{Writes, OutCount, MessagesCount, FailsAtMostOnce, most_read};
+ghost use Rattle.da65.specs.Running.{Writes, WritesFew, OutCount, MessagesCount, FailsAtMostOnce, most_read};
 
 use crate::entering::is_entered_again;
 use crate::files::File;
@@ -25,7 +25,9 @@ use std::alloc::{AllocError, Allocator};
 
 /// Writes the message of a refusal, which is its only one.
 fn refuse<M: Sink>(msgs: &mut M, message: &[u8]) -> Result<Status, RunFault>
+    requires { length message.now ≤ 320 }
     ensures text { Tells result Status.Refused message.now (M.taken msgs.old) (M.taken msgs.new) }
+    ensures few { WritesFew (M.taken msgs.old) (M.taken msgs.new) }
     ensures count { MessagesCount result (M.faults msgs.old) (M.faults msgs.new) }
 {
     match write_whole(msgs, message) {
@@ -37,6 +39,7 @@ fn refuse<M: Sink>(msgs: &mut M, message: &[u8]) -> Result<Status, RunFault>
 /// Writes the message of an input that is refused, or gives up if its reading ran out of memory.
 fn refuse_image<M: Sink>(msgs: &mut M, fault: ImageFault) -> Result<Status, RunFault>
     ensures text { RefusesOrGivesUp result (image_message fault) (M.taken msgs.old) (M.taken msgs.new) }
+    ensures few { WritesFew (M.taken msgs.old) (M.taken msgs.new) }
     ensures memory { fault ≡ ImageFault.Memory → IsErrOf result RunFault.Memory }
     ensures count { MessagesCount result (M.faults msgs.old) (M.faults msgs.new) }
 {
@@ -62,7 +65,9 @@ fn warnings_of<A: Allocator + Copy>(
 
 /// Writes the warnings after a listing.
 fn warn<M: Sink>(msgs: &mut M, warnings: &[u8]) -> Result<Status, RunFault>
+    requires { length warnings.now ≤ 320 }
     ensures text { Tells result Status.Done warnings.now (M.taken msgs.old) (M.taken msgs.new) }
+    ensures few { WritesFew (M.taken msgs.old) (M.taken msgs.new) }
     ensures count { MessagesCount result (M.faults msgs.old) (M.faults msgs.new) }
 {
     match write_whole(msgs, warnings) {
@@ -85,7 +90,9 @@ fn write_listing<A: Allocator, W: Sink, M: Sink>(
     requires placed { IsPlaced image.now }
     requires are_bytes { AreBytes image.now.bytes }
     requires messages { messages.now ≡ warnings map.now }
+    requires few { length messages.now ≤ 320 }
     ensures text { Writes result (done map.now) (W.taken out.old) (W.taken out.new) (M.taken msgs.old) (M.taken msgs.new) }
+    ensures few { WritesFew (M.taken msgs.old) (M.taken msgs.new) }
     ensures reassembles { IfOk result (λ status. skips map.now ≡ false → Took image.now (W.taken out.old) (W.taken out.new)) }
     ensures out_count { OutCount result (W.faults out.old) (W.faults out.new) }
     ensures messages_count { MessagesCount result (M.faults msgs.old) (M.faults msgs.new) }
@@ -117,6 +124,7 @@ fn list_input<A: Allocator + Copy, R: Source, W: Sink, M: Sink>(
     ensures memory_messages { IsErrOf result RunFault.Memory → Keeps (M.taken msgs.old) (M.taken msgs.new) }
     ensures write { IsErrOf result RunFault.Write → Keeps (M.taken msgs.old) (M.taken msgs.new) }
     ensures refused { IfOk result (λ status. status ≡ Status.Refused → Keeps (W.taken out.old) (W.taken out.new)) }
+    ensures few { WritesFew (M.taken msgs.old) (M.taken msgs.new) }
     ensures reads { TakesUpTo (most_read (Ok info.now)) (R.left input.old) (R.left input.new) }
     ensures out_count { OutCount result (W.faults out.old) (W.faults out.new) }
     ensures messages_count { MessagesCount result (M.faults msgs.old) (M.faults msgs.new) }
@@ -156,7 +164,7 @@ fn list_input<A: Allocator + Copy, R: Source, W: Sink, M: Sink>(
 /// run is refused for its information file, its input name or an include file. All memory is allocated before the
 /// first byte is written, so `Memory` means that nothing was written. If a write fails or takes no byte, it is not
 /// tried again, and the result is `Write` for the listing and `Messages` for a message. The listing is whole when a
-/// warning is written.
+/// warning is written. At most 320 bytes of messages are written.
 pub fn run<A: Allocator + Copy, N: Allocator, R: Source, W: Sink, M: Sink>(
     alloc: A,
     options: &Options<N>,
@@ -181,6 +189,7 @@ pub fn run<A: Allocator + Copy, N: Allocator, R: Source, W: Sink, M: Sink>(
     ensures memory_messages { IsErrOf result RunFault.Memory → Keeps (M.taken msgs.old) (M.taken msgs.new) }
     ensures write { IsErrOf result RunFault.Write → Keeps (M.taken msgs.old) (M.taken msgs.new) }
     ensures refused { IfOk result (λ status. status ≡ Status.Refused → Keeps (W.taken out.old) (W.taken out.new)) }
+    ensures few { WritesFew (M.taken msgs.old) (M.taken msgs.new) }
     ensures reads { TakesUpTo (most_read (prepared options.now info.now (files_seen files.now))) (R.left input.old) (R.left input.new) }
 
     // A failed write is reported, and nothing else is reported as one.

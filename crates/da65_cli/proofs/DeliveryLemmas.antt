@@ -1,15 +1,15 @@
 -- From a run over a buffer to what is on the output and on standard error.
-use Rattle.std.proofs.Common.{◌≡◌, ℕ, List, [], ◌∷◌, ◌++◌, IfSome, Option, None, Some, Result, Ok, Err, refl, sym, ◌∙◌, ap, subst, append_assoc}
+use Rattle.std.proofs.Common.{◌≡◌, ◌<◌, ℕ, List, [], ◌∷◌, ◌++◌, IfSome, Option, None, Some, Result, Ok, Err, length, refl, sym, ◌∙◌, ap, subst, append_assoc, arith}
 use Rattle.std.proofs.lemmas.List.{append-nil}
 use Rattle.std.specs.Io.KnownBytes.{Appends, Keeps, append_known}
 use Rattle.da65.specs.Outcome.{Outcome}
-use Rattle.da65.specs.Running.{Writes}
+use Rattle.da65.specs.Running.{MessagesCount, WritesFew, Writes}
 use Rattle.da65.specs.declared.outcome.RunFault.{RunFault}
 use Rattle.da65.specs.declared.outcome.RunFault.TheVariants.{Memory, Write, Messages}
 use Rattle.da65.specs.declared.outcome.Status.{Status}
 use Rattle.map65.specs.Device.{AppendsFront}
 use Rattle.da65_cli.specs.Delivery.{Delivers, HasPrefix}
-use Rattle.da65_cli.specs.Code.Settling.{IsListed, IsShortOf, PassesOn, Settles, SettlesOutCount}
+use Rattle.da65_cli.specs.Code.Settling.{HasRoom, IsListed, IsShortOf, Settles}
 
 pub Keeps-same : (known : Option (List ℕ)) → Keeps known known
 Keeps-same None = tt
@@ -19,12 +19,19 @@ Keeps-same (Some xs) = refl
 pub short_of : (out : Option (List ℕ)) (left : List ℕ) → IsShortOf (append_known out left) out
 short_of out left = record { left = left; kept = Keeps-same (append_known out left) }
 
--- nothing is written on the output while the messages are passed on
-pub passed_count : (was result : Result Status RunFault) (messages : List ℕ) (errors errors' : Option (List ℕ)) (old new : ℕ) → PassesOn was result messages errors errors' → new ≡ old → SettlesOutCount was result old new
-passed_count was (Ok status) messages errors errors' old new p is = is
-passed_count was (Err Messages) messages errors errors' old new p is = is
-passed_count was (Err Write) messages errors errors' old new p is = absurd p
-passed_count was (Err Memory) messages errors errors' old new p is = absurd p
+-- a run that gave up stays as it ended
+pub given_up : (was : Result Status RunFault) (fault : RunFault) (out errors : Option (List ℕ)) (left messages : List ℕ) → was ≡ Err fault → HasRoom was → Settles was (Err fault) (append_known out left) out messages errors errors
+given_up was Memory out errors left messages is room = (is, short_of out left, Keeps-same errors)
+given_up was Write out errors left messages is room = (short_of out left, Keeps-same errors)
+given_up was Messages out errors left messages is room = absurd (room is)
+
+-- the few messages of a run fit, so none was refused
+pub has_room : (was : Result Status RunFault) (old new : List ℕ) (before after : ℕ) → MessagesCount was before after → before ≡ 0 → old ≡ [] → WritesFew (Some old) (Some new) → (0 < after → length new ≡ 1024) → HasRoom was
+has_room was old new before after count b o few full = λ is.
+    let one = rw (is, b) at count in
+    let all = full (omega (arith, one)) in
+    let none : length old ≡ 0 = ap length o in
+    absurd (omega (arith, few, all, none))
 
 -- ---- of an output that began empty
 
@@ -49,21 +56,6 @@ prefix_out (Some xs) (Some ys) text a s = record {
 all_is_front : (old new : Option (List ℕ)) (text : List ℕ) → Appends old new text → AppendsFront old new text
 all_is_front old new text a = record { rest = []; front = record { front = text; parts = sym (append-nil text); taken = a } }
 
--- a prefix of a prefix is one
-front_of_front : (old new : Option (List ℕ)) (text front rest : List ℕ) → text ≡ front ++ rest → AppendsFront old new front → AppendsFront old new text
-front_of_front old new text front rest is a = record {
-  rest = a.rest ++ rest;
-  front = record {
-    front = a.front.front;
-    parts = is ∙ ap (λ f. f ++ rest) a.front.parts ∙ append_assoc a.front.front a.rest rest;
-    taken = a.front.taken;
-  };
-}
-
--- the messages that waited are a prefix of the outcome's, so what was passed on is
-messages_front : (held : List ℕ) (errors errors' : Option (List ℕ)) (text : List ℕ) → AppendsFront (Some []) (Some held) text → AppendsFront errors errors' held → AppendsFront errors errors' text
-messages_front held errors errors' text w p = front_of_front errors errors' text held w.rest (w.front.parts ∙ ap (λ f. f ++ w.rest) (sym w.front.taken)) p
-
 front_of : (was : Result Status RunFault) (outcome : Outcome) (taken msgs : Option (List ℕ)) → Writes was outcome (Some []) taken (Some []) msgs → AppendsFront (Some []) taken outcome.listing
 front_of (Ok status) outcome taken msgs w = all_is_front _ _ _ w.1
 front_of (Err Messages) outcome taken msgs w = all_is_front _ _ _ w.0
@@ -71,17 +63,9 @@ front_of (Err Write) outcome taken msgs w = w.0
 front_of (Err Memory) outcome None msgs w = absurd w.0
 front_of (Err Memory) outcome (Some xs) msgs w = record { rest = outcome.listing; front = record { front = []; parts = refl; taken = w.0 } }
 
-listed_whole : (was : Result Status RunFault) (outcome : Outcome) (taken msgs : Option (List ℕ)) → IsListed was → Writes was outcome (Some []) taken (Some []) msgs → Appends (Some []) taken outcome.listing
-listed_whole (Ok status) outcome taken msgs l w = w.1
-listed_whole (Err Messages) outcome taken msgs l w = w.0
-listed_whole (Err Write) outcome taken msgs l w = absurd l
-listed_whole (Err Memory) outcome taken msgs l w = absurd l
-
-held_front : (was : Result Status RunFault) (outcome : Outcome) (taken : Option (List ℕ)) (held : List ℕ) → IsListed was → Writes was outcome (Some []) taken (Some []) (Some held) → AppendsFront (Some []) (Some held) outcome.messages
-held_front (Ok status) outcome taken held l w = all_is_front _ _ _ w.2
-held_front (Err Messages) outcome taken held l w = w.1
-held_front (Err Write) outcome taken held l w = absurd l
-held_front (Err Memory) outcome taken held l w = absurd l
+listed_whole : (was : Result Status RunFault) (outcome : Outcome) (taken msgs : Option (List ℕ)) → IsListed was → Writes was outcome (Some []) taken (Some []) msgs → Appends (Some []) taken outcome.listing × Appends (Some []) msgs outcome.messages
+listed_whole (Ok status) outcome taken msgs l w = (w.1, w.2)
+listed_whole (Err _) outcome taken msgs l w = absurd l
 
 -- nothing is a part of nothing
 nil_left : (xs ys : List ℕ) → xs ++ ys ≡ [] → xs ≡ []
@@ -98,10 +82,9 @@ delivers_from was (Ok status) outcome taken out held errors errors' w s =
     let P : Result Status RunFault → Type 0 = λ r. Writes r outcome (Some []) taken (Some []) (Some held) in
     let done : P (Ok status) = subst P s.0 w in
     (done.0, whole_out taken out outcome.listing done.1 s.1, (let Q : List ℕ → Type 0 = λ t. Appends errors errors' t in subst Q done.2 s.2))
-delivers_from was (Err Messages) outcome taken out held errors errors' w s = (
-  whole_out taken out outcome.listing (listed_whole was outcome taken (Some held) s.0 w) s.1,
-  messages_front held errors errors' outcome.messages (held_front was outcome taken held s.0 w) s.2,
-)
+delivers_from was (Err Messages) outcome taken out held errors errors' w s =
+    let whole = listed_whole was outcome taken (Some held) s.0 w in
+    (whole_out taken out outcome.listing whole.0 s.1, (let Q : List ℕ → Type 0 = λ t. AppendsFront errors errors' t in subst Q whole.1 s.2))
 delivers_from was (Err Write) outcome taken out held errors errors' w s = (prefix_out taken out outcome.listing (front_of was outcome taken (Some held) w) s.0, s.1)
 delivers_from was (Err Memory) outcome taken out held errors errors' w s =
     let P : Result Status RunFault → Type 0 = λ r. Writes r outcome (Some []) taken (Some []) (Some held) in

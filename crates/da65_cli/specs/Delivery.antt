@@ -5,7 +5,6 @@ use Rattle.da65.specs.Outcome.{Outcome}
 use Rattle.da65.specs.declared.outcome.RunFault.{RunFault}
 use Rattle.da65.specs.declared.outcome.RunFault.TheVariants.{Memory, Write, Messages}
 use Rattle.da65.specs.declared.outcome.Status.{Status}
-use Rattle.da65.specs.Running.{FailsAtMostOnce}
 use Rattle.map65.specs.Device.{AppendsFront}
 
 -- these bytes are a prefix of a text
@@ -22,10 +21,3 @@ Delivers (Ok status) outcome out errors errors' = (status ≡ outcome.status) ×
 Delivers (Err Messages) outcome out errors errors' = (out ≡ Some outcome.listing) × AppendsFront errors errors' outcome.messages
 Delivers (Err Write) outcome out errors errors' = HasPrefix out outcome.listing × Keeps errors errors'
 Delivers (Err Memory) outcome out errors errors' = (out ≡ Some []) × Keeps errors errors'
-
--- standard error fails at most once, and only with the result Messages
-abbrev pub ErrorsCount : Result Status RunFault → ℕ → ℕ → Type 0
-ErrorsCount (Ok status) old new = new ≡ old
-ErrorsCount (Err Messages) old new = FailsAtMostOnce old new
-ErrorsCount (Err Write) old new = new ≡ old
-ErrorsCount (Err Memory) old new = new ≡ old

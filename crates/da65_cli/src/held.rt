@@ -1,13 +1,13 @@
 //! Messages that wait for the end of the listing.
 
-ghost use Rattle.std.specs.Prelude.{◌≡◌, ◌+◌, ◌≤◌, [], ◌++◌, length};
+ghost use Rattle.std.specs.Prelude.{◌≡◌, ◌+◌, ◌<◌, ◌≤◌, [], ◌++◌, length};
 ghost use Rattle.arrayvec.specs.ArrayVec.{array_vec_len};
-ghost use Rattle.da65_cli.specs.Code.Held.{held_bytes};
 
 use arrayvec::ArrayVec;
 use da65::{DeviceFault, Sink};
+use std::marker::Model;
 
-/// Room for the messages of a run. The longest names a file of 255 bytes.
+/// Room for the messages of a run, which have at most 320 bytes.
 type Messages = ArrayVec<u8, 1024>;
 
 /// Keeps messages until they are passed on.
@@ -17,9 +17,21 @@ pub struct Held {
     faults: u64,
 }
 
+impl Model for Held {
+    ghost use Rattle.std.specs.Prelude.{◌≡◌, ◌<◌, length};
+    ghost use Rattle.da65_cli.specs.Code.Held.{HeldView};
+
+    ghost Value = { HeldView };
+
+    ghost view = { λ h. record { bytes = h.messages.items; faults = h.faults } };
+
+    ghost invariant = { λ h. 0 < h.faults → length h.messages.items ≡ 1024 };
+}
+
 impl Held {
     pub fn new() -> Held
-        ensures { held_bytes result ≡ [] }
+        ensures bytes { result.bytes ≡ [] }
+        ensures faults { result.faults ≡ 0 }
     {
         Held {
             messages: Messages::new(),
@@ -27,8 +39,10 @@ impl Held {
         }
     }
 
+    /// The messages. A write failed only if there was no room left.
     pub fn as_slice(&self) -> &[u8]
-        ensures { result.now ≡ held_bytes self.now }
+        ensures bytes { result.now ≡ self.now.bytes }
+        ensures full { 0 < self.now.faults → length self.now.bytes ≡ 1024 }
     {
         self.messages.as_slice()
     }
@@ -46,7 +60,7 @@ fn put(messages: &mut Messages, bytes: &[u8])
 impl Sink for Held {
     ghost use Rattle.std.specs.Prelude.{Some};
 
-    ghost taken = { λ h. Some (held_bytes h) };
+    ghost taken = { λ h. Some h.bytes };
 
     ghost faults = { λ h. h.faults };
 

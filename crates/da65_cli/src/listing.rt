@@ -6,10 +6,10 @@ ghost use Rattle.map65.specs.Device.{TakesUpTo, has_failed};
 ghost use Rattle.da65.specs.Files.{files_seen};
 ghost use Rattle.da65.specs.Outcome.{outcome_of, prepared};
 ghost use Rattle.da65.specs.RunLaw.{Reassembles};
-ghost use Rattle.da65.specs.Running.{FailsAtMostOnce, OutCount, most_read};
+ghost use Rattle.da65.specs.Running.{FailsAtMostOnce, MessagesCount, OutCount, most_read};
 ghost use Rattle.da65_cli.specs.Code.Buffered.{buffered_out, buffered_taken};
-ghost use Rattle.da65_cli.specs.Delivery.{Delivers, ErrorsCount};
-ghost use Rattle.da65_cli.specs.Code.Settling.{IsListed, PassesOn, Settles, SettlesErrorsCount, SettlesOutCount};
+ghost use Rattle.da65_cli.specs.Delivery.{Delivers};
+ghost use Rattle.da65_cli.specs.Code.Settling.{HasRoom, Settles, SettlesOutCount};
 
 use crate::buffered::Buffered;
 use crate::held::Held;
@@ -22,22 +22,6 @@ pub struct Listed<W> {
     pub result: Result<Status, RunFault>,
 }
 
-/// Passes the messages on. The listing has been written.
-fn pass_on<M: Sink>(
-    was: Result<Status, RunFault>,
-    messages: &[u8],
-    errors: &mut M,
-) -> Result<Status, RunFault>
-    requires { IsListed was }
-    ensures text { PassesOn was result messages.now (M.taken errors.old) (M.taken errors.new) }
-    ensures count { SettlesErrorsCount was result (M.faults errors.old) (M.faults errors.new) }
-{
-    match write_whole(errors, messages) {
-        Ok(()) => was,
-        Err(_) => Err(RunFault::Messages),
-    }
-}
-
 /// Flushes the listing and then passes the messages on, unless the run has given up before.
 fn settle<W: Sink, M: Sink>(
     was: Result<Status, RunFault>,
@@ -45,17 +29,18 @@ fn settle<W: Sink, M: Sink>(
     messages: &[u8],
     errors: &mut M,
 ) -> Result<Status, RunFault>
+    requires { HasRoom was }
     ensures text { Settles was result (buffered_taken W.taken buffer.old) (W.taken (buffered_out buffer.new)) messages.now (M.taken errors.old) (M.taken errors.new) }
     ensures out_count { SettlesOutCount was result (W.faults (buffered_out buffer.old)) (W.faults (buffered_out buffer.new)) }
-    ensures errors_count { SettlesErrorsCount was result (M.faults errors.old) (M.faults errors.new) }
+    ensures errors_count { MessagesCount result (M.faults errors.old) (M.faults errors.new) }
 {
-    match was {
-        Err(RunFault::Memory) => Err(RunFault::Memory),
-        Err(RunFault::Write) => Err(RunFault::Write),
-        _ => match buffer.flush() {
-            Ok(()) => pass_on(was, messages, errors),
-            Err(_) => Err(RunFault::Write),
-        },
+    let status = was?;
+    if buffer.flush().is_err() {
+        return Err(RunFault::Write);
+    }
+    match write_whole(errors, messages) {
+        Ok(()) => Ok(status),
+        Err(_) => Err(RunFault::Messages),
     }
 }
 
@@ -88,9 +73,9 @@ pub fn run_buffered<A: Allocator + Copy, N: Allocator, R: Source, W: Sink, M: Si
     ensures write { IsErrOf result.result RunFault.Write → Keeps (M.taken errors.old) (M.taken errors.new) }
     ensures reads { TakesUpTo (most_read (prepared options.now info.now (files_seen files.now))) (R.left input.old) (R.left input.new) }
 
-    // Each device fails at most once. A failed write of the listing has the result Write, and no other has.
+    // A failed write is reported, and nothing else is reported as one.
     ensures out_count { OutCount result.result (W.faults output) (W.faults result.output) }
-    ensures errors_count { ErrorsCount result.result (M.faults errors.old) (M.faults errors.new) }
+    ensures errors_count { MessagesCount result.result (M.faults errors.old) (M.faults errors.new) }
     ensures input_count { FailsAtMostOnce (R.faults input.old) (R.faults input.new) }
 {
     let mut buffer = Buffered::new(output);

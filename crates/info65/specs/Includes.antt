@@ -1,7 +1,7 @@
 -- Include files: what a line of one says, and the names that a file of such lines adds.
 use Rattle.std.specs.Prelude.{◌+◌, ◌++◌, ◌==◌, ◌-◌, ◌&&◌, ◌||◌, ℕ, Bool, true, false, List, [], ◌∷◌, Option, Some, None, Result, Ok, Err, drop, get_or, length, nat_le, nat_lt, option_map, option_to_list, take, if◌then◌else◌}
 use Rattle.std.specs.Io.BufRead.{strip_last}
-use Rattle.std.specs.List.{after_first, before_first, list_all, list_any, onto_first, prefix_len, suffix_len}
+use Rattle.std.specs.List.{after_first, before_first, list_all, list_any, prefix_len, slice_split, suffix_len}
 use Rattle.info65.specs.Faults.{fault, ◌>>=◌}
 use Rattle.info65.specs.Labels.{by_address, is_at, is_elsewhere, named}
 use Rattle.info65.specs.Lexemes.{number_in, starts_word}
@@ -13,10 +13,15 @@ use Rattle.info65.specs.declared.fault.InfoFaultKind.TheVariants.{BadInclude, Ba
 
 -- ---- a line
 
--- lines end by a line feed (10); a last one without it counts too
+-- the parts of a text without the last one, if that is empty
+abbrev pub without_empty_last : List (List ℕ) → List (List ℕ)
+without_empty_last [] = []
+without_empty_last ([] ∷ []) = []
+without_empty_last (l ∷ ls) = l ∷ without_empty_last ls
+
+-- what stands between line feeds (10); what comes after the last of them is a line only if it has a byte
 unfoldable pub lines_of : List ℕ → List (List ℕ)
-lines_of [] = []
-lines_of (b ∷ bs) = if b == 10 then [] ∷ lines_of bs else onto_first b (lines_of bs)
+lines_of bytes = without_empty_last (slice_split (λ b. b == 10) bytes)
 
 -- a line without the one carriage return at its end, up to where its comment begins
 unfoldable pub without_comment : ℕ → List ℕ → List ℕ

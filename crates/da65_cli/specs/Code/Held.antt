@@ -1,7 +1,7 @@
--- What messages that wait hold.
+-- What messages that wait are seen as.
 use Rattle.std.specs.Prelude.{ℕ, List}
-use Rattle.da65_cli.specs.declared.held.Held.{Held}
 
--- their bytes, in the order in which they came
-abbrev pub held_bytes : Held → List ℕ
-held_bytes h = h.messages.items
+-- their bytes, in the order in which they came, and how many writes failed
+pub record HeldView : Type 0 where
+  pub bytes : List ℕ
+  pub faults : ℕ

@@ -6,31 +6,19 @@ use Rattle.da65.specs.declared.outcome.RunFault.TheVariants.{Memory, Write, Mess
 use Rattle.da65.specs.declared.outcome.Status.{Status}
 use Rattle.map65.specs.Device.{AppendsFront, one_more}
 
--- the listing was taken whole
+-- the listing and the messages were taken whole
 abbrev pub IsListed : Result Status RunFault → Type 0
 IsListed (Ok status) = Unit {0}
-IsListed (Err Messages) = Unit {0}
-IsListed (Err Write) = ⊥
-IsListed (Err Memory) = ⊥
+IsListed (Err _) = ⊥
+
+-- there was room for the messages
+abbrev pub HasRoom : Result Status RunFault → Type 0
+HasRoom was = was ≡ Err Messages → ⊥
 
 -- the output has what was taken, but for bytes that are left in the buffer
 pub record IsShortOf (taken out : Option (List ℕ)) : Type 0 where
   pub left : List ℕ
   pub kept : Keeps taken (append_known out left)
-
--- the messages were passed on whole, or as far as standard error took them
-abbrev pub PassesOn : Result Status RunFault → Result Status RunFault → List ℕ → Option (List ℕ) → Option (List ℕ) → Type 0
-PassesOn was (Ok status) messages errors errors' = (was ≡ Ok status) × Appends errors errors' messages
-PassesOn was (Err Messages) messages errors errors' = AppendsFront errors errors' messages
-PassesOn was (Err Write) messages errors errors' = ⊥
-PassesOn was (Err Memory) messages errors errors' = ⊥
-
--- The result is Messages only if a write of a message failed: one on standard error, or one before, for which there was no room.
-abbrev pub SettlesErrorsCount : Result Status RunFault → Result Status RunFault → ℕ → ℕ → Type 0
-SettlesErrorsCount was (Ok status) old new = new ≡ old
-SettlesErrorsCount was (Err Messages) old new = (new ≡ one_more old) ⊎ ((was ≡ Err Messages) × (new ≡ old))
-SettlesErrorsCount was (Err Write) old new = new ≡ old
-SettlesErrorsCount was (Err Memory) old new = new ≡ old
 
 -- From what the buffer had taken, the messages that wait, and the result of the run: what the output and standard error have.
 abbrev pub Settles : Result Status RunFault → Result Status RunFault → Option (List ℕ) → Option (List ℕ) → List ℕ → Option (List ℕ) → Option (List ℕ) → Type 0
