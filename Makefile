@@ -25,7 +25,7 @@ bin/da65: $(sources)
 
 test:
 	@mkdir -p bin
-	@echo 'Everything from nothing. This takes 60 to 75 minutes on four cores of a slow machine. bin/gate.log keeps what the prover says.'
+	@echo 'Everything from nothing. This takes 50 to 75 minutes on four cores of a slow machine. bin/gate.log keeps what the prover says.'
 	@rt ci 2>&1 | tee bin/gate.log
 	@cp crates/da65_cli/out/da65_cli bin/da65
 	tests/program.sh bin/da65
