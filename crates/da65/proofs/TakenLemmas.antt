@@ -1,13 +1,8 @@
 -- What known bytes are after one write and then another.
-use Rattle.std.proofs.Common.{subst, ◌∷◌, ◌≡◌, ℕ, ◌+◌, ◌-◌, ◌≤◌, List, ◌++◌, length, take, drop, Option, None, Some, Result, Ok, Err, sym, ◌∙◌, ap, append_assoc, arith}
-use Rattle.std.proofs.lemmas.List.{length-append, take-append-drop, take_rest, append-nil, nil_from_length}
+use Rattle.std.proofs.Common.{subst, ◌∷◌, ◌≡◌, ℕ, ◌-◌, List, ◌++◌, length, take, drop, Option, None, Some, sym, ◌∙◌, ap, append_assoc}
+use Rattle.std.proofs.lemmas.List.{take-append-drop, take_rest, append-nil, nil_from_length}
 use Rattle.std.specs.Io.KnownBytes.{Appends}
-use Rattle.da65.specs.Code.Refusals.{Tells}
 use Rattle.da65.specs.Listing.{text_of}
-use Rattle.da65.specs.Running.{WritesFew}
-use Rattle.da65.specs.declared.outcome.RunFault.{RunFault}
-use Rattle.da65.specs.declared.outcome.RunFault.TheVariants.{Memory, Write, Messages}
-use Rattle.da65.specs.declared.outcome.Status.{Status}
 use Rattle.map65.specs.Device.{HasTaken, AppendsFront}
 
 -- two growths are one
@@ -61,27 +56,3 @@ unfolding text_of
 front_taken {old} {mid} {new} {text} lines rest line h e w =
     let P : List (List ℕ) → Type 0 = λ ls. HasTaken old mid text (text_of ls) in
     taken_in_line line (text_of rest) (subst P e h) w
-
--- ---- how much of the messages was written
-
--- nothing is few
-pub few_same : (known : Option (List ℕ)) → WritesFew known known
-few_same None = tt
-few_same (Some xs) = omega arith
-
-few_appended : (old new : Option (List ℕ)) (text : List ℕ) → length text ≤ 320 → Appends old new text → WritesFew old new
-few_appended None new text le a = tt
-few_appended (Some xs) None text le a = absurd a
-few_appended (Some xs) (Some ys) text le a = rw (a, length-append) (omega arith)
-
-few_in_front : (old new : Option (List ℕ)) (text : List ℕ) → length text ≤ 320 → AppendsFront old new text → WritesFew old new
-few_in_front old new text le a =
-    let parts : length text ≡ length a.front.front + length a.rest = ap length a.front.parts ∙ length-append a.front.front a.rest in
-    few_appended old new a.front.front (omega arith) a.front.taken
-
--- a short text, whole or a prefix of it, is few
-pub tells_few : (result : Result Status RunFault) (status : Status) (text : List ℕ) (old new : Option (List ℕ)) → length text ≤ 320 → Tells result status text old new → WritesFew old new
-tells_few (Ok _) status text old new le t = few_appended old new text le t.1
-tells_few (Err Messages) status text old new le t = few_in_front old new text le t.0
-tells_few (Err Memory) status text old new le t = absurd t
-tells_few (Err Write) status text old new le t = absurd t
