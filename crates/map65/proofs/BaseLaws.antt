@@ -1,8 +1,8 @@
 -- The laws of base names.
-use Rattle.std.proofs.Common.{◌≡◌, ◌≢◌, ◌∙◌, ◌⊎◌, inl, inr, ℕ, zero, suc, ◌+◌, ◌-◌, ◌*◌, ◌/◌, ◌%◌, ◌<◌, ◌≤◌, ◌&&◌, ◌||◌, ◌==◌, Bool, true, false, not, List, ◌∷◌, Option, Some, None, length, get_or, nat_le, nat_lt, is_some, refl, ap, ap₂, sym, subst, arith, ⊎_elim}
+use Rattle.std.proofs.Common.{◌≡◌, ◌∙◌, ◌⊎◌, inl, inr, ℕ, ◌+◌, ◌-◌, ◌/◌, ◌%◌, ◌<◌, ◌≤◌, ◌&&◌, ◌||◌, ◌==◌, Bool, true, false, not, List, Option, Some, None, length, get_or, nat_le, nat_lt, is_some, refl, ap, ap₂, sym, subst, arith, ⊎_elim}
 use Rattle.std.specs.Str.{bytes_eq}
 use Rattle.std.proofs.lemmas.Slice.Eq.{bytes_eq-Decides}
-use Rattle.std.proofs.lemmas.Bool.{and_from, and_parts, both_ways, cases_Bool, cases_eq, cases_lt, cond_both, eq-eqb, eqb-true, false≢true, le-leb, lt-ltb, ltb-false, ne_eqb}
+use Rattle.std.proofs.lemmas.Bool.{and_from, and_parts, both_ways, cases_Bool, cases_eq, cases_lt, cond_both, eq-eqb, false≢true, le-leb, lt-ltb, ne_eqb}
 use Rattle.std.proofs.lemmas.Bool.Decides.{nat_tests}
 use Rattle.std.specs.List.{list_any}
 use Rattle.std.specs.Str.{str_eq_ignore_ascii_case}
@@ -11,18 +11,18 @@ use Rattle.info65.specs.Names.{AreNames, blank_name, covering, covers, default_n
 use Rattle.info65.specs.Views.{NameView}
 use Rattle.info65.specs.declared.range.RangeType.{RangeType}
 use Rattle.info65.specs.declared.range.RangeType.TheVariants.{Code, ByteTable, WordTable, DbyteTable, AddrTable, RtsTable, TextTable, Skip}
-use Rattle.map65.proofs.ItemLaws.{Begun, begun, item_law}
+use Rattle.map65.proofs.ItemLaws.{begun, item_law}
 use Rattle.map65.proofs.ItemLemmas.{is_cut_at, joined-uncut}
-use Rattle.map65.proofs.NameLemmas.{Last, base-covered, base-wanted, home-default, home-given, last-name, name-low, none-covers, not-some}
-use Rattle.map65.proofs.NameLaws.{Under, home-cases, home-home, home-inner, home-low, home-wanted, inside-if, inside-parts, under, wide-shown}
+use Rattle.map65.proofs.NameLemmas.{base-covered, base-wanted, home-default, home-given, last-name, name-low, none-covers}
+use Rattle.map65.proofs.NameLaws.{home-home, home-inner, home-low, home-wanted, under, wide-shown}
 use Rattle.map65.proofs.PieceLaws.{own-some}
-use Rattle.map65.specs.Bases.{BaseLaw, IsInCode, IsOutside, PlaceLaw}
-use Rattle.map65.specs.ImageView.{byte_at, end_of, is_inside}
+use Rattle.map65.specs.Bases.{BaseLaw, IsInCode, PlaceLaw}
+use Rattle.map65.specs.ImageView.{byte_at, is_inside}
 use Rattle.map65.specs.Items.{item_len, size_at, size_for, wanted_at}
 use Rattle.map65.specs.MapView.{MapView}
-use Rattle.map65.specs.Names.{Base, IsInner, base_at, base_by, base_or, default_base, given_base, home, home_base, is_wanted, place_in, place_of}
+use Rattle.map65.specs.Names.{Base, IsInner, base_at, base_by, default_base, given_base, home, home_base, is_wanted, place_in, place_of}
 use Rattle.map65.specs.Pieces.{are_joined, is_joined, is_own}
-use Rattle.map65.specs.Roles.{is_skip, is_wide, role_at, role_of, unit_of}
+use Rattle.map65.specs.Roles.{is_skip, is_wide, role_at, role_of}
 use Rattle.map65.specs.declared.name.Place.TheVariants.{Constant, Forward, Label}
 
 -- ---- where a base comes from

@@ -1,15 +1,14 @@
 -- The laws of targets and names.
-use Rattle.std.proofs.Common.{◌≡◌, ◌≢◌, ◌∙◌, ◌⊎◌, inl, inr, ℕ, zero, suc, ◌+◌, ◌-◌, ◌<◌, ◌≤◌, ◌&&◌, ◌||◌, ◌==◌, Bool, true, false, not, List, Option, Some, None, length, get_or, nat_le, nat_lt, is_some, refl, ap, sym, subst, arith, ⊎_elim, if◌then◌else◌}
-use Rattle.std.specs.List.{list_any}
-use Rattle.std.proofs.lemmas.Bool.{and_from, and_parts, both_ways, cases_Bool, cases_eq, cases_lt, eq-eqb, eqb-true, false≢true, le-leb, leb-true, lt-ltb, ltb-true, ne_eqb}
+use Rattle.std.proofs.Common.{◌≡◌, ◌≢◌, ◌∙◌, ◌⊎◌, inl, inr, ℕ, zero, suc, ◌+◌, ◌-◌, ◌<◌, ◌≤◌, ◌&&◌, ◌||◌, ◌==◌, Bool, true, false, List, Option, Some, None, length, get_or, nat_le, nat_lt, refl, ap, sym, subst, arith, ⊎_elim}
+use Rattle.std.proofs.lemmas.Bool.{and_from, and_parts, both_ways, cases_Bool, cases_eq, cases_lt, eq-eqb, eqb-true, false≢true, le-leb, leb-true, lt-ltb, ltb-true}
 use Rattle.std.proofs.lemmas.List.Folds.{Any-from_list_any, list_any_at}
 use Rattle.info65.specs.Names.{AreNames, blank_name, covering, covers, name_at}
 use Rattle.info65.specs.Views.{NameView}
 use Rattle.info65.specs.declared.range.RangeType.{RangeType}
 use Rattle.info65.specs.declared.range.RangeType.TheVariants.{Skip}
-use Rattle.map65.proofs.ItemLaws.{Begun, begun, holder}
+use Rattle.map65.proofs.ItemLaws.{begun, holder}
 use Rattle.map65.proofs.ItemLemmas.{item-len-at, left-first, one-role, size-one-piece, size-positive}
-use Rattle.map65.proofs.NameLemmas.{Last, base-covered, base-unwanted, base-wanted, home-default, home-given, last-name, none-covers, not-some}
+use Rattle.map65.proofs.NameLemmas.{base-covered, base-unwanted, base-wanted, last-name, none-covers, not-some}
 use Rattle.map65.proofs.NamingLemmas.{home-narrow, home-wide, last-before, last-here}
 use Rattle.map65.proofs.SweepLemmas.{inside-item, item-fits}
 use Rattle.map65.proofs.TargetLemmas.{none-at}

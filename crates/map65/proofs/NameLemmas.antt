@@ -1,5 +1,5 @@
 -- The name of one address.
-use Rattle.std.proofs.Common.{◌≡◌, ◌≢◌, ◌∙◌, ◌⊎◌, inl, inr, ℕ, zero, suc, ◌+◌, ◌-◌, ◌<◌, ◌≤◌, ◌&&◌, ◌||◌, ◌==◌, Bool, true, false, List, [], ◌∷◌, Option, Some, None, length, nat_le, nat_lt, is_some, refl, ap, sym, arith, ⊎_elim}
+use Rattle.std.proofs.Common.{◌≡◌, ◌∙◌, ℕ, zero, suc, ◌+◌, ◌<◌, ◌≤◌, ◌&&◌, ◌||◌, ◌==◌, Bool, true, false, List, [], ◌∷◌, Option, Some, None, length, nat_le, nat_lt, is_some, refl, ap, sym, arith, ⊎_elim}
 use Rattle.std.specs.Char.{is_ascii_alphabetic}
 use Rattle.std.specs.List.{list_all}
 use Rattle.std.specs.Option.{option_map}
@@ -7,7 +7,7 @@ use Rattle.std.proofs.lemmas.Bool.{and_parts, cases_Bool, cases_eq, false≢true
 use Rattle.info65.specs.Names.{AreNames, blank_name, covering, covering_below, covers, has_name_form, is_name_byte, name_at}
 use Rattle.info65.specs.Views.{NameView}
 use Rattle.map65.specs.MapView.{MapView}
-use Rattle.map65.specs.Names.{Base, base_at, base_by, base_or, default_base, given_base, has_name, home, home_base, is_covered, is_wanted, kind_at, kind_by, text_at, text_by}
+use Rattle.map65.specs.Names.{Base, base_at, base_by, base_or, default_base, given_base, has_name, home, home_base, is_wanted, kind_at, kind_by, text_at, text_by}
 
 -- ---- the last name that covers an address
 

@@ -1,8 +1,8 @@
 -- Names that are marked in cells.
-use Rattle.std.proofs.Common.{◌≡◌, ◌≢◌, ◌∙◌, ◌⊎◌, inl, inr, ℕ, zero, suc, ◌+◌, ◌-◌, ◌/◌, ◌%◌, ◌<◌, ◌≤◌, ◌&&◌, ◌||◌, ◌==◌, Bool, true, false, List, [], ◌∷◌, Option, Some, None, All, AllPairs, length, get_or, set, take, max, nat_le, nat_lt, is_some, unwrap_or, refl, ap, sym, subst, arith, ⊎_elim, if◌then◌else◌}
+use Rattle.std.proofs.Common.{◌≡◌, ◌≢◌, ◌∙◌, ℕ, zero, suc, ◌+◌, ◌-◌, ◌/◌, ◌%◌, ◌<◌, ◌≤◌, ◌&&◌, ◌||◌, ◌==◌, Bool, true, false, List, Option, Some, None, length, get_or, set, take, max, nat_le, nat_lt, unwrap_or, refl, ap, sym, subst, arith, ⊎_elim, if◌then◌else◌}
 use Rattle.std.specs.List.{list_any}
 use Rattle.std.proofs.Math.ListN.{length-set}
-use Rattle.std.proofs.lemmas.Bool.{and_from, and_parts, both_ways, cases_Bool, cases_eq, cases_lt, cond-false, cond-true, eq-eqb, eqb-true, false≢true, le-leb, leb-true, lt-ltb, ltb-true, ne_eqb}
+use Rattle.std.proofs.lemmas.Bool.{and_from, and_parts, both_ways, cases_Bool, cases_eq, cases_lt, cond-false, cond-true, eq-eqb, eqb-true, le-leb, leb-true, lt-ltb, ltb-true, ne_eqb}
 use Rattle.std.proofs.lemmas.Bool.Decides.{nat_tests}
 use Rattle.std.proofs.lemmas.List.{get_or_default, take_all}
 use Rattle.std.proofs.lemmas.List.Folds.{Any-from_list_any, list_any_more}
@@ -13,7 +13,7 @@ use Rattle.info65.specs.declared.range.RangeType.TheVariants.{Code}
 use Rattle.map65.proofs.CellLemmas.{bits-as, cell-len, cell-role, cell-wide, set-cell, with_bit-border, with_bit-lay, with_bit-rest}
 use Rattle.map65.proofs.RunLemmas.{plain-code, role_at-inside}
 use Rattle.map65.proofs.SweepLemmas.{item-fits, item-small}
-use Rattle.map65.specs.Code.Cells.{AreCells, HasBits, IsLaid, bit, code_of, has_bit, is_wide_cell, is_wide_role, lay_at, len_in_cell, nowhere, role_in_cell, with_bit}
+use Rattle.map65.specs.Code.Cells.{HasBits, IsLaid, bit, code_of, is_wide_cell, is_wide_role, len_in_cell, nowhere, role_in_cell, with_bit}
 use Rattle.map65.specs.Code.Marking.{KeepsLay, Reaches, also, is_covered_below, is_wanted_below, is_within}
 use Rattle.map65.specs.ImageView.{end_of, is_inside}
 use Rattle.map65.specs.Items.{item_len}

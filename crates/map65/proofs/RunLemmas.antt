@@ -2,13 +2,13 @@
 use Rattle.std.proofs.Common.{◌≡◌, ◌≢◌, ◌∙◌, ℕ, zero, suc, ◌+◌, ◌-◌, ◌/◌, ◌%◌, ◌<◌, ◌≤◌, ◌&&◌, ◌||◌, ◌==◌, nat_le, nat_lt, not, Bool, true, false, Option, Some, None, List, [], ◌∷◌, refl, ap, sym, arith, ⊎_elim, if◌then◌else◌}
 use Rattle.std.specs.List.{find}
 use Rattle.std.specs.Option.{option_map}
-use Rattle.std.proofs.lemmas.Bool.{and_from, and_parts, cases_Bool, cases_eq, cond-true, cond-false, cond_both, eq-eqb, eqb-true, le-leb, leb-true, lt-ltb, ltb-true, ne_eqb, not-true}
+use Rattle.std.proofs.lemmas.Bool.{and_from, and_parts, cases_Bool, cond-true, cond_both, eq-eqb, eqb-true, le-leb, leb-true, lt-ltb, ltb-true, ne_eqb, not-true}
 use Rattle.std.proofs.lemmas.Bool.Decides.{nat_tests}
 use Rattle.std.specs.Cmp.{both_ways}
 use Rattle.info65.specs.Segments.{contains, segment_covering}
 use Rattle.info65.specs.Views.{SegmentView}
 use Rattle.info65.specs.declared.range.RangeType.{RangeType}
-use Rattle.info65.specs.declared.range.RangeType.TheVariants.{Code, ByteTable, WordTable, DbyteTable, AddrTable, RtsTable, TextTable, Skip}
+use Rattle.info65.specs.declared.range.RangeType.TheVariants.{Code}
 use Rattle.map65.proofs.CellLemmas.{code-small, coded-code, has_border-is}
 use Rattle.map65.proofs.ItemLemmas.{InRun, in-run, run-if}
 use Rattle.map65.specs.Code.Cells.{are_one_run, bit, cell_of, code_of, coded, has_border, is_same_role}

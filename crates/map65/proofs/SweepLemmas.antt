@@ -1,9 +1,8 @@
 -- Items that are marked in cells.
-use Rattle.std.proofs.Common.{◌≡◌, ◌≢◌, ◌∙◌, ℕ, suc, ◌+◌, ◌-◌, ◌/◌, ◌%◌, ◌<◌, ◌≤◌, ◌&&◌, ◌==◌, nat_le, nat_lt, not, Bool, true, false, Option, Some, None, List, length, get_or, set, unwrap_or, refl, ap, sym, arith, ⊎_elim, if◌then◌else◌}
+use Rattle.std.proofs.Common.{◌≡◌, ◌≢◌, ◌∙◌, ℕ, suc, ◌+◌, ◌-◌, ◌/◌, ◌%◌, ◌<◌, ◌≤◌, ◌&&◌, ◌==◌, nat_lt, not, Bool, true, false, Option, Some, None, List, length, get_or, set, unwrap_or, refl, ap, sym, arith, ⊎_elim, if◌then◌else◌}
 use Rattle.std.proofs.Math.ListN.{length-set}
-use Rattle.std.proofs.lemmas.Bool.{and_parts, and_from, cases_eq, cases_lt, cond-true, cond-false, cond_both, eq-eqb, eqb-true, le-leb, lt-ltb, ltb-true, ne_eqb, not-true}
+use Rattle.std.proofs.lemmas.Bool.{and_parts, and_from, cases_eq, cases_lt, cond-true, cond-false, cond_both, lt-ltb, ltb-true, ne_eqb, not-true}
 use Rattle.std.specs.Cmp.{both_ways}
-use Rattle.std.proofs.lemmas.List.{get_or-set_other, get_or-set_same}
 use Rattle.isa65.specs.Mode.{len_of}
 use Rattle.isa65.specs.Opcodes.{decoded}
 use Rattle.isa65.specs.declared.mode.Mode.{Mode}
@@ -15,7 +14,7 @@ use Rattle.map65.proofs.CellLemmas.{bits-test, cell-role, cell-wide, set-cell, w
 use Rattle.map65.proofs.ItemLaws.{begun}
 use Rattle.map65.proofs.ItemLemmas.{are_joined-none, are_joined-suc, in-run, is_cut_at, item-len-at, joined-high, joined-if, joined-run, joined-uncut, left-past, left-first, left-inside, size-fits, size-positive}
 use Rattle.map65.proofs.RunLemmas.{plain-code, role_at-inside, run-cells}
-use Rattle.map65.specs.Code.Cells.{HasBits, HasBorders, IsLaid, are_one_run, bit, cell_of, has_bit, is_cut, is_wide_cell, is_wide_role, lay_at, role_in_cell, with_len}
+use Rattle.map65.specs.Code.Cells.{HasBits, IsLaid, are_one_run, bit, cell_of, has_bit, is_cut, is_wide_cell, is_wide_role, lay_at, role_in_cell, with_len}
 use Rattle.map65.specs.Code.Marking.{AreMarkedBelow, is_joined_in}
 use Rattle.map65.specs.ImageView.{byte_at, end_of, is_inside}
 use Rattle.map65.specs.Items.{code_size, item_len, size_at, size_for, wanted_at}

@@ -1,4 +1,4 @@
-use Rattle.std.proofs.Common.{◌≡◌, arith, length}
+use Rattle.std.proofs.Common.{arith}
 use Rattle.map65.proofs.PaintLemmas.{bordered-other, bordered-set}
 use Rattle.map65.proofs.borders.mark_border.Goals as goal
 

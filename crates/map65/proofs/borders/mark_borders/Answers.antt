@@ -1,4 +1,4 @@
-use Rattle.std.proofs.Common.{◌≡◌, ◌∙◌, ◌+◌, ◌<◌, List, ap, arith, get_or, length, sym, take}
+use Rattle.std.proofs.Common.{◌≡◌, ◌∙◌, List, ap, arith, get_or, length, sym, take}
 use Rattle.std.proofs.lemmas.List.{get_or-map, length-map}
 use Rattle.info65.specs.Code.Segments.{segment_seen}
 use Rattle.info65.specs.Views.{SegmentView}

@@ -1,4 +1,4 @@
-use Rattle.std.proofs.Common.{◌≡◌, ◌∙◌, ◌+◌, ◌==◌, ap, get_or, ℕ}
+use Rattle.std.proofs.Common.{◌∙◌, ◌+◌, ◌==◌, ap, get_or, ℕ}
 use Rattle.map65.specs.Code.Marking.{bordered}
 use Rattle.map65.proofs.PaintLemmas.{bordered-or}
 use Rattle.map65.proofs.borders.mark_segment.Goals as goal

@@ -1,7 +1,7 @@
-use Rattle.std.proofs.Common.{◌≡◌, ◌∙◌, ◌-◌, ◌<◌, ◌≤◌, ap, arith, false, get_or, sym, true}
+use Rattle.std.proofs.Common.{◌≡◌, ◌∙◌, ◌<◌, ap, arith, false, get_or, sym, true}
 use Rattle.map65.specs.Code.Cells.{is_wide_cell, len_in_cell}
 use Rattle.map65.specs.Items.{item_len}
-use Rattle.map65.specs.Names.{home, last_item}
+use Rattle.map65.specs.Names.{last_item}
 use Rattle.map65.proofs.NamingLemmas.{home-before, home-here, laid-len, last-before, last-here, last-zero}
 use Rattle.map65.proofs.naming.home_of.Goals as goal
 

@@ -1,4 +1,4 @@
-use Rattle.std.proofs.Common.{◌≤◌, length, take}
+use Rattle.std.proofs.Common.{take}
 use Rattle.map65.specs.Code.Cells.{HasBits}
 use Rattle.map65.specs.Code.Marking.{KeepsLay}
 use Rattle.map65.specs.Pieces.{is_own}

@@ -1,5 +1,5 @@
-use Rattle.std.proofs.Common.{◌≡◌, ◌∙◌, ◌+◌, ◌<◌, ap, arith, length, set, subst, sym}
-use Rattle.map65.specs.Code.Cells.{HasBits, with_bit}
+use Rattle.std.proofs.Common.{◌≡◌, ◌+◌, ◌<◌, ap, arith, length, set, subst, sym}
+use Rattle.map65.specs.Code.Cells.{HasBits}
 use Rattle.map65.specs.Code.Marking.{KeepsLay, also, is_within}
 use Rattle.map65.proofs.NamingLemmas.{keeps-start, mark-keeps, span-end, span-next, span-start}
 use Rattle.map65.proofs.naming.mark_span.Goals as goal

@@ -1,4 +1,4 @@
-use Rattle.std.proofs.Common.{◌≡◌, ◌∙◌, ◌+◌, ap, arith, length}
+use Rattle.std.proofs.Common.{◌≡◌, ◌+◌, ap, arith, length}
 use Rattle.map65.specs.Code.Marking.{also, is_wanted_below}
 use Rattle.map65.specs.MapView.{MapView}
 use Rattle.map65.specs.Names.{is_covered}

@@ -1,4 +1,4 @@
-use Rattle.std.proofs.Common.{◌≡◌, ◌∙◌, ap, subst, sym}
+use Rattle.std.proofs.Common.{◌∙◌, ap, subst, sym}
 use Rattle.map65.specs.Code.Cells.{IsLaid}
 use Rattle.map65.specs.MapView.{MapView}
 use Rattle.map65.specs.Names.{home}

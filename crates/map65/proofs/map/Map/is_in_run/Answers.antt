@@ -1,5 +1,4 @@
-use Rattle.std.proofs.Common.{◌≡◌, ◌∙◌, ◌-◌, ap, arith, sym}
-use Rattle.map65.specs.Pieces.{is_in_run}
+use Rattle.std.proofs.Common.{◌∙◌, arith, sym}
 use Rattle.map65.proofs.RunLemmas.{first-run, run-cells}
 use Rattle.map65.proofs.map.Map.is_in_run.Goals as goal
 

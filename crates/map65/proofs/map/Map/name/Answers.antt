@@ -1,10 +1,8 @@
-use Rattle.std.proofs.Common.{◌≡◌, ◌∙◌, ap, false, sym, true}
+use Rattle.std.proofs.Common.{◌≡◌, ◌∙◌, ap, sym, true}
 use Rattle.std.specs.Prelude.{None, Some}
 use Rattle.std.specs.Option.{option_map}
 use Rattle.info65.specs.Code.Names.{given_seen}
-use Rattle.info65.specs.Names.{covering}
-use Rattle.map65.specs.MapView.{MapView}
-use Rattle.map65.specs.Names.{Base, base_at, given_base, has_name, home_base}
+use Rattle.map65.specs.Names.{base_at, given_base, has_name, home_base}
 use Rattle.map65.proofs.NameLemmas.{base-covered, base-home, base-none, kind-of, text-of}
 use Rattle.map65.proofs.map.Map.name.Goals as goal
 

@@ -1,4 +1,4 @@
-use Rattle.std.proofs.Common.{◌≡◌, ◌∙◌, ap}
+use Rattle.std.proofs.Common.{◌∙◌, ap}
 use Rattle.map65.specs.MapView.{MapView}
 use Rattle.map65.specs.Segments.{segment_at}
 use Rattle.map65.proofs.map.Map.segment_at.Goals as goal
