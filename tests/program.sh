@@ -261,6 +261,25 @@ is_prefix 'no warning after a listing that was cut' cut.s 262144 large.s
 ends 'a write that fails once' 1 "$(cat status)" 'da65: cannot write the listing\n'
 is_prefix 'a write that fails once' piped.s "$(wc -c <piped.s)" large.s
 
+# ---- less and less memory
+
+# Lists or runs out, and never lists a part. Below some limit the program is not even started.
+ran_out=0
+for limit in $(seq 16384 -16 16); do
+    (ulimit -v "$limit"; exec "$program" -i skip_last.info large.bin >stdout 2>stderr) 2>/dev/null
+    got=$?
+    if [ "$got" = 0 ]; then
+        [ "$(wc -l <stdout)" = 65539 ] || fails "memory of $limit KiB" 'lines'
+    elif [ "$got" = 1 ]; then
+        ran_out=1
+        ends "memory of $limit KiB" 1 1 'da65: out of memory\n'
+        holds "memory of $limit KiB" stdout ''
+    else
+        break
+    fi
+done
+[ "$ran_out" = 1 ] || fails 'less and less memory' 'the program never ran out of it'
+
 if [ -e /dev/full ]; then
     "$program" three.bin >/dev/full 2>stderr
     ends 'a full output' 1 $? 'da65: cannot write the listing\n'

@@ -96,6 +96,3 @@ impl From<RunFault> for Failure {
         }
     }
 }
-
-#[cfg(test)]
-mod tests;
