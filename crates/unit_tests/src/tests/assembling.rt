@@ -1,523 +1,308 @@
-use crate::tests::asserts::{assert_equal, assert_equal_at, assert_that};
+//! What texts assemble to.
+
+use crate::tests::asserts::{assert_equal, assert_equal_at, assert_that, assert_that_at};
+use crate::tests::said::file_of;
 use std::alloc::{AllocError, Global};
 use std::process::Abort;
 use stmt65::{AsmFault, AsmFaultKind, assemble};
 
-fn gives(rt: &impl Abort, alloc: Global, text: &str, start: u16, bytes: &[u8]) {
-    let found = assemble(alloc, text.as_bytes(), start).expect(rt, "assemble");
-    assert_equal_at(rt, &found.as_slice(), &bytes, &text);
+/// The bytes of a text from an address on, or its fault.
+fn assembled(rt: &impl Abort, alloc: Global, start: u16, text: &[u8]) -> String {
+    let mut out = String::new(alloc);
+    match assemble(alloc, text, start) {
+        Ok(bytes) => {
+            for byte in &bytes {
+                write!(out, " {byte:02X}").expect(rt, "write");
+            }
+        }
+        Err(fault) => write!(out, " {fault}").expect(rt, "write"),
+    }
+    out
 }
 
-fn fails(rt: &impl Abort, alloc: Global, text: &str, start: u16, line: usize, kind: AsmFaultKind) {
-    let fault = assemble(alloc, text.as_bytes(), start).err();
-    assert_equal_at(rt, &fault, &Some(AsmFault { line, kind }), &text);
+/// Each row of the table is a text, where `|` stands for a line feed, ` =>`, and the bytes or the fault of the text from an
+/// address on. An empty row counts as none, and so does one that begins with `--`.
+fn give(rt: &impl Abort, alloc: Global, start: u16, table: &str) {
+    for row in table.lines() {
+        match row.split_once(" =>") {
+            Some((text, want)) => {
+                let file = file_of(alloc, text).expect(rt, "file_of");
+                let found = assembled(rt, alloc, start, &file);
+                assert_equal_at(rt, &found.as_str(), &want, &text);
+            }
+            None => assert_that_at(rt, row.is_empty() || row.starts_with("--"), &row),
+        }
+    }
 }
+
+const SMALL: &str = r#"
+lda $12|lda a:$12|sta $12,y| => A5 12 AD 12 00 99 12 00
+lda v|v := $12| => AD 12 00
+v := $12|lda v| => A5 12
+ =>
+foo: jmp foo|LDA #1| => 4C 00 10 A9 01
+self: bne self| => D0 FE
+bne $0F82|bne $1083| => D0 80 D0 7F
+"#;
 
 #[test]
 fn small_texts(rt: HostRuntime) {
-    let a = rt.alloc();
-    let sizes = "lda $12\nlda a:$12\nsta $12,y\n";
-    gives(
-        &rt,
-        a,
-        sizes,
-        0x1000,
-        &[0xA5, 0x12, 0xAD, 0x12, 0, 0x99, 0x12, 0],
-    );
-    gives(&rt, a, "lda v\nv := $12\n", 0x1000, &[0xAD, 0x12, 0]);
-    gives(&rt, a, "v := $12\nlda v\n", 0x1000, &[0xA5, 0x12]);
-    gives(&rt, a, "", 0x1000, &[]);
-    gives(&rt, a, "nop", 0xFFFF, &[0xEA]);
-    gives(
-        &rt,
-        a,
-        "foo: jmp foo\nLDA #1\n",
-        0x1000,
-        &[0x4C, 0, 0x10, 0xA9, 1],
-    );
-    gives(&rt, a, "self: bne self\n", 0x1000, &[0xD0, 0xFE]);
-    gives(
-        &rt,
-        a,
-        "bne $0F82\nbne $1083\n",
-        0x1000,
-        &[0xD0, 0x80, 0xD0, 0x7F],
-    );
+    give(&rt, rt.alloc(), 0x1000, SMALL);
+    give(&rt, rt.alloc(), 0xFFFF, "nop => EA");
 }
+
+const FORMS: &str = r#"
+brk|asl a|lda #$FF| => 00 0A A9 FF
+lda $12|lda $12,x|ldx $12,y| => A5 12 B5 12 B6 12
+lda $1234|lda $1234,x| => AD 34 12 BD 34 12
+lda $1234,y|jmp ($1234)| => B9 34 12 6C 34 12
+lda ($12,x)|lda ($12),y| => A1 12 B1 12
+jmp ($12)|jsr $12| => 6C 12 00 20 12 00
+lda a:$12,x|lda a:$12,y| => BD 12 00 B9 12 00
+zp := 2|lda (zp,x)|lda zp+$FD|lda zp-1| => A1 02 A5 FF A5 01
+zp := 2|lda zp+$FE|lda zp+$FF-1| => AD 00 01 AD 00 01
+"#;
 
 #[test]
 fn every_operand_form(rt: HostRuntime) {
-    let a = rt.alloc();
-    gives(&rt, a, "brk\nasl a\nlda #$FF\n", 0, &[0, 0x0A, 0xA9, 0xFF]);
-    gives(
-        &rt,
-        a,
-        "lda $12\nlda $12,x\nldx $12,y\n",
-        0,
-        &[0xA5, 0x12, 0xB5, 0x12, 0xB6, 0x12],
-    );
-    gives(
-        &rt,
-        a,
-        "lda $1234\nlda $1234,x\n",
-        0,
-        &[0xAD, 0x34, 0x12, 0xBD, 0x34, 0x12],
-    );
-    gives(
-        &rt,
-        a,
-        "lda $1234,y\njmp ($1234)\n",
-        0,
-        &[0xB9, 0x34, 0x12, 0x6C, 0x34, 0x12],
-    );
-    gives(
-        &rt,
-        a,
-        "lda ($12,x)\nlda ($12),y\n",
-        0,
-        &[0xA1, 0x12, 0xB1, 0x12],
-    );
-    gives(
-        &rt,
-        a,
-        "jmp ($12)\njsr $12\n",
-        0,
-        &[0x6C, 0x12, 0, 0x20, 0x12, 0],
-    );
-    gives(
-        &rt,
-        a,
-        "lda a:$12,x\nlda a:$12,y\n",
-        0,
-        &[0xBD, 0x12, 0, 0xB9, 0x12, 0],
-    );
-    gives(
-        &rt,
-        a,
-        "zp := 2\nlda (zp,x)\nlda zp+$FD\nlda zp-1\n",
-        0,
-        &[0xA1, 2, 0xA5, 0xFF, 0xA5, 1],
-    );
-    gives(
-        &rt,
-        a,
-        "zp := 2\nlda zp+$FE\nlda zp+$FF-1\n",
-        0,
-        &[0xAD, 0, 1, 0xAD, 0, 1],
-    );
+    give(&rt, rt.alloc(), 0, FORMS);
 }
+
+const DATA: &str = r#"
+.byte 1,"A;b",$ff,""| => 01 41 3B 62 FF
+.word $1234,2|.dbyt $1234,2| => 34 12 02 00 12 34 00 02
+.addr foo,foo+1|foo:|.word foo-1| => 04 10 05 10 03 10
+v := $1234|.dbyt v,v+1-1| => 12 34 12 34
+nop|.segment "B"|x2:|.code|.addr x2| => EA 01 10
+.setcpu "6502"|nop ; here| => EA
+"#;
 
 #[test]
 fn data_and_lines_without_bytes(rt: HostRuntime) {
-    let a = rt.alloc();
-    gives(
-        &rt,
-        a,
-        ".byte 1,\"A;b\",$ff,\"\"\n",
-        0,
-        &[1, 0x41, 0x3B, 0x62, 0xFF],
-    );
-    gives(
-        &rt,
-        a,
-        ".word $1234,2\n.dbyt $1234,2\n",
-        0,
-        &[0x34, 0x12, 2, 0, 0x12, 0x34, 0, 2],
-    );
-    gives(
-        &rt,
-        a,
-        ".addr foo,foo+1\nfoo:\n.word foo-1\n",
-        0x1000,
-        &[4, 0x10, 5, 0x10, 3, 0x10],
-    );
-    gives(
-        &rt,
-        a,
-        "v := $1234\n.dbyt v,v+1-1\n",
-        0,
-        &[0x12, 0x34, 0x12, 0x34],
-    );
-    gives(
-        &rt,
-        a,
-        "nop\n.segment \"B\"\nx2:\n.code\n.addr x2\n",
-        0x1000,
-        &[0xEA, 1, 0x10],
-    );
-    gives(
-        &rt,
-        a,
-        "; none\n\n  \t\nin := * + 2\n.addr in\n",
-        0x1000,
-        &[2, 0x10],
-    );
-    gives(&rt, a, ".setcpu \"6502\"\nnop ; here\n", 0, &[0xEA]);
+    give(&rt, rt.alloc(), 0x1000, DATA);
+    let blanks = "; none||  \t|in := * + 2|.addr in| => 02 10";
+    give(&rt, rt.alloc(), 0x1000, blanks);
 }
+
+const FAULTS: &str = r#"
+bne foo|frob $12|foo:| => line 2: syntax error
+jmp foo|foo: frob| => line 1: undefined name
+.setcpu "6809"| => line 1: unknown CPU
+bra $1000| => line 1: no such form
+jmp foo| => line 1: undefined name
+foo:|foo: nop| => line 2: name defined twice
+bne $2000| => line 1: value out of range
+"#;
 
 #[test]
 fn one_line_for_each_fault(rt: HostRuntime) {
-    let a = rt.alloc();
-    fails(
+    give(&rt, rt.alloc(), 0x1000, FAULTS);
+    give(
         &rt,
-        a,
-        "bne foo\nfrob $12\nfoo:\n",
-        0x1000,
-        2,
-        AsmFaultKind::Syntax,
+        rt.alloc(),
+        0xFFFF,
+        "lda #1| => line 1: past the end of the address space",
     );
-    fails(
-        &rt,
-        a,
-        "jmp foo\nfoo: frob\n",
-        0x1000,
-        1,
-        AsmFaultKind::Undefined,
-    );
-    fails(
-        &rt,
-        a,
-        ".setcpu \"6809\"\n",
-        0x1000,
-        1,
-        AsmFaultKind::UnknownCpu,
-    );
-    fails(&rt, a, "bra $1000\n", 0x1000, 1, AsmFaultKind::NoSuchForm);
-    fails(&rt, a, "jmp foo\n", 0x1000, 1, AsmFaultKind::Undefined);
-    fails(
-        &rt,
-        a,
-        "foo:\nfoo: nop\n",
-        0x1000,
-        2,
-        AsmFaultKind::DefinedTwice,
-    );
-    fails(&rt, a, "bne $2000\n", 0x1000, 1, AsmFaultKind::OutOfRange);
-    fails(&rt, a, "lda #1\n", 0xFFFF, 1, AsmFaultKind::PastEnd);
 }
 
 /// `.setcpu` holds from its line on, by its text in any case.
+const CPUS: &str = r#"
+.setcpu "65C02"|bra $1000| => 80 FE
+.setcpu "65SC02"|phx| => DA
+.setcpu "65sc02"|jmp ($2000,x)|lda ($10)|inc a|bit #1| => 7C 00 20 B2 10 1A 89 01
+.setcpu "65SC02"|stz $12|stz $0012|stz a:$12,x| => 64 12 64 12 9E 12 00
+.setcpu "65c02"|rmb0 $12|SMB7 $12| => 07 12 F7 12
+.setcpu "65C02"|here: bbr0 $12,here|bbs7 $FF,$1085| => 0F 12 FD FF FF 7F
+flag := $12|.setcpu "65C02"|bbr0 flag,$0F83| => 0F 12 80
+.setcpu "65C02"|phx|.setcpu "6502"|nop| => DA EA
+.setcpu "65C02"| =>
+-- faults
+bra $1000| => line 1: no such form
+.setcpu "65SC02"|bbr0 $12,$1003| => line 2: no such form
+.setcpu "65C02"|phx|.setcpu "6502"|phx| => line 4: no such form
+.setcpu "65C02"|bbr0 $12,$1084| => line 2: value out of range
+.setcpu "65C02"|bbr0 $12,$0F82| => line 2: value out of range
+.setcpu "65C02"|bbr0 $112,$1000| => line 2: value out of range
+.setcpu "65C02"|lda (v)|v := $12| => line 2: value out of range
+.setcpu "65CE02"| => line 1: unknown CPU
+"#;
+
 #[test]
 fn forms_by_cpu(rt: HostRuntime) {
-    let a = rt.alloc();
-    let rows: [(&str, &[u8]); 9] = [
-        (".setcpu \"65C02\"\nbra $1000\n", &[0x80, 0xFE]),
-        (".setcpu \"65SC02\"\nphx\n", &[0xDA]),
-        (
-            ".setcpu \"65sc02\"\njmp ($2000,x)\nlda ($10)\ninc a\nbit #1\n",
-            &[0x7C, 0x00, 0x20, 0xB2, 0x10, 0x1A, 0x89, 0x01],
-        ),
-        (
-            ".setcpu \"65SC02\"\nstz $12\nstz $0012\nstz a:$12,x\n",
-            &[0x64, 0x12, 0x64, 0x12, 0x9E, 0x12, 0],
-        ),
-        (
-            ".setcpu \"65c02\"\nrmb0 $12\nSMB7 $12\n",
-            &[0x07, 0x12, 0xF7, 0x12],
-        ),
-        (
-            ".setcpu \"65C02\"\nhere: bbr0 $12,here\nbbs7 $FF,$1085\n",
-            &[0x0F, 0x12, 0xFD, 0xFF, 0xFF, 0x7F],
-        ),
-        (
-            "flag := $12\n.setcpu \"65C02\"\nbbr0 flag,$0F83\n",
-            &[0x0F, 0x12, 0x80],
-        ),
-        (
-            ".setcpu \"65C02\"\nphx\n.setcpu \"6502\"\nnop\n",
-            &[0xDA, 0xEA],
-        ),
-        (".setcpu \"65C02\"\n", &[]),
-    ];
-    for (text, bytes) in rows {
-        gives(&rt, a, text, 0x1000, bytes);
-    }
-    let faults = [
-        ("bra $1000\n", 1, AsmFaultKind::NoSuchForm),
-        (
-            ".setcpu \"65SC02\"\nbbr0 $12,$1003\n",
-            2,
-            AsmFaultKind::NoSuchForm,
-        ),
-        (
-            ".setcpu \"65C02\"\nphx\n.setcpu \"6502\"\nphx\n",
-            4,
-            AsmFaultKind::NoSuchForm,
-        ),
-        (
-            ".setcpu \"65C02\"\nbbr0 $12,$1084\n",
-            2,
-            AsmFaultKind::OutOfRange,
-        ),
-        (
-            ".setcpu \"65C02\"\nbbr0 $12,$0F82\n",
-            2,
-            AsmFaultKind::OutOfRange,
-        ),
-        (
-            ".setcpu \"65C02\"\nbbr0 $112,$1000\n",
-            2,
-            AsmFaultKind::OutOfRange,
-        ),
-        (
-            ".setcpu \"65C02\"\nlda (v)\nv := $12\n",
-            2,
-            AsmFaultKind::OutOfRange,
-        ),
-        (".setcpu \"65CE02\"\n", 1, AsmFaultKind::UnknownCpu),
-    ];
-    for (text, line, kind) in faults {
-        fails(&rt, a, text, 0x1000, line, kind);
-    }
+    give(&rt, rt.alloc(), 0x1000, CPUS);
 }
+
+const LOWEST: &str = r#"
+nop|lda #$100|frob| => line 2: value out of range
+foo:|foo: lda bar| => line 2: undefined name
+foo:|foo: lda #$100| => line 2: name defined twice
+foo:|foo: stx bar,x| => line 2: no such form
+foo:|foo: .setcpu "z80"| => line 2: unknown CPU
+jmp foo|.setcpu "z80"|foo: stx $12,x| => line 2: unknown CPU
+"#;
 
 #[test]
 fn lowest_line_then_lowest_fault(rt: HostRuntime) {
-    let a = rt.alloc();
-    fails(
+    give(&rt, rt.alloc(), 0, LOWEST);
+    give(
         &rt,
-        a,
-        "nop\nlda #$100\nfrob\n",
-        0,
-        2,
-        AsmFaultKind::OutOfRange,
-    );
-    fails(
-        &rt,
-        a,
-        "foo:\nfoo: lda bar\n",
-        0,
-        2,
-        AsmFaultKind::Undefined,
-    );
-    fails(
-        &rt,
-        a,
-        "foo:\nfoo: lda #$100\n",
-        0,
-        2,
-        AsmFaultKind::DefinedTwice,
-    );
-    fails(
-        &rt,
-        a,
-        "foo:\nfoo: stx bar,x\n",
-        0,
-        2,
-        AsmFaultKind::NoSuchForm,
-    );
-    fails(
-        &rt,
-        a,
-        "foo:\nfoo: .setcpu \"z80\"\n",
-        0,
-        2,
-        AsmFaultKind::UnknownCpu,
-    );
-    fails(&rt, a, "lda #$100\n", 0xFFFF, 1, AsmFaultKind::OutOfRange);
-    fails(
-        &rt,
-        a,
-        "jmp foo\n.setcpu \"z80\"\nfoo: stx $12,x\n",
-        0,
-        2,
-        AsmFaultKind::UnknownCpu,
+        rt.alloc(),
+        0xFFFF,
+        "lda #$100| => line 1: value out of range",
     );
 }
+
+const WITHOUT_ROOM: &str = r#"
+.byte $100| => line 1: value out of range
+.word $10000| => line 1: value out of range
+v := $10000| => line 1: value out of range
+zp := 0|lda zp-1| => line 2: value out of range
+zp := 0|.word zp-1| => line 2: value out of range
+lda $1234,y|ldx $1234,x| => line 2: no such form
+stx $1234,y| => line 1: value out of range
+foo: lda (foo),y| => line 1: value out of range
+lda a:($12),y| => line 1: syntax error
+.byte| => line 1: syntax error
+"#;
+
+const WITHOUT_ROOM_AT_1000: &str = r#"
+bne $0F81| => line 1: value out of range
+bne $1082| => line 1: value out of range
+bne a:$1000| => line 1: no such form
+nop a:$1000| => line 1: no such form
+"#;
+
+const WITHOUT_ROOM_AT_THE_END: &str = r#"
+v := * + 1| => line 1: value out of range
+nop|end:| => line 2: value out of range
+"#;
 
 #[test]
 fn values_without_room(rt: HostRuntime) {
     let a = rt.alloc();
-    fails(&rt, a, ".byte $100\n", 0, 1, AsmFaultKind::OutOfRange);
-    fails(&rt, a, ".word $10000\n", 0, 1, AsmFaultKind::OutOfRange);
-    fails(&rt, a, "v := $10000\n", 0, 1, AsmFaultKind::OutOfRange);
-    fails(&rt, a, "v := * + 1\n", 0xFFFF, 1, AsmFaultKind::OutOfRange);
-    fails(&rt, a, "nop\nend:\n", 0xFFFF, 2, AsmFaultKind::OutOfRange);
-    fails(
-        &rt,
-        a,
-        "zp := 0\nlda zp-1\n",
-        0,
-        2,
-        AsmFaultKind::OutOfRange,
-    );
-    fails(
-        &rt,
-        a,
-        "zp := 0\n.word zp-1\n",
-        0,
-        2,
-        AsmFaultKind::OutOfRange,
-    );
-    fails(
-        &rt,
-        a,
-        "lda $1234,y\nldx $1234,x\n",
-        0,
-        2,
-        AsmFaultKind::NoSuchForm,
-    );
-    fails(&rt, a, "stx $1234,y\n", 0, 1, AsmFaultKind::OutOfRange);
-    fails(&rt, a, "foo: lda (foo),y\n", 0, 1, AsmFaultKind::OutOfRange);
-    fails(&rt, a, "bne $0F81\n", 0x1000, 1, AsmFaultKind::OutOfRange);
-    fails(&rt, a, "bne $1082\n", 0x1000, 1, AsmFaultKind::OutOfRange);
-    fails(&rt, a, "bne $0000\n", 0xFFF0, 1, AsmFaultKind::OutOfRange);
-    fails(&rt, a, "bne a:$1000\n", 0x1000, 1, AsmFaultKind::NoSuchForm);
-    fails(&rt, a, "nop a:$1000\n", 0x1000, 1, AsmFaultKind::NoSuchForm);
-    fails(&rt, a, "lda a:($12),y\n", 0, 1, AsmFaultKind::Syntax);
-    fails(&rt, a, ".byte\n", 0, 1, AsmFaultKind::Syntax);
-    fails(&rt, a, "nop\r\n", 0, 1, AsmFaultKind::Syntax);
+    give(&rt, a, 0, WITHOUT_ROOM);
+    give(&rt, a, 0, "nop\r| => line 1: syntax error");
+    give(&rt, a, 0x1000, WITHOUT_ROOM_AT_1000);
+    give(&rt, a, 0xFFF0, "bne $0000| => line 1: value out of range");
+    give(&rt, a, 0xFFFF, WITHOUT_ROOM_AT_THE_END);
 }
 
-fn hex_digit(n: u8) -> u8 {
-    match n % 16 {
-        0 => b'0',
-        1 => b'1',
-        2 => b'2',
-        3 => b'3',
-        4 => b'4',
-        5 => b'5',
-        6 => b'6',
-        7 => b'7',
-        8 => b'8',
-        9 => b'9',
-        10 => b'A',
-        11 => b'B',
-        12 => b'C',
-        13 => b'D',
-        14 => b'E',
-        _ => b'F',
+/// 768 times a byte, eight in each line.
+fn table_of(alloc: Global, value: u8) -> Result<String, AllocError> {
+    let mut text = String::new(alloc);
+    for line in 0..96 {
+        let word = if line % 2 == 0 { ".byte" } else { "\t.BYTE" };
+        write!(
+            text,
+            "{word} ${value:02X},${value:02X},${value:02X},${value:02X}"
+        )?;
+        write!(
+            text,
+            ",${value:02X},${value:02X},${value:02X},${value:02X}\n"
+        )?;
     }
-}
-
-fn put_label(text: &mut Vec<u8>, n: u16) -> Result<(), AllocError> {
-    text.push(b'L')?;
-    for shift in [12u32, 8, 4, 0] {
-        text.push(hex_digit(((n >> shift) % 16) as u8))?;
-    }
-    Ok(())
+    Ok(text)
 }
 
 #[test]
 fn each_byte_value_in_a_table(rt: HostRuntime) {
-    let a = rt.alloc();
     for value in 0..=255u8 {
-        let mut text = Vec::new(a);
-        let mut bytes = Vec::new(a);
-        for line in 0..96 {
-            text.extend_from_slice(if line % 2 == 0 {
-                b".byte "
-            } else {
-                b"\t.BYTE "
-            })
-            .expect(&rt, "extend_from_slice");
-            for item in 0..8 {
-                if item != 0 {
-                    text.push(b',').expect(&rt, "push");
-                }
-                text.push(b'$').expect(&rt, "push");
-                text.push(hex_digit(value / 16)).expect(&rt, "push");
-                text.push(hex_digit(value)).expect(&rt, "push");
-                bytes.push(value).expect(&rt, "push");
-            }
-            text.push(b'\n').expect(&rt, "push");
-        }
-        let found = assemble(a, text.as_slice(), 0x1000).expect(&rt, "assemble");
-        assert_equal(&rt, &found.len(), &768);
-        assert_equal(&rt, &found.as_slice(), &bytes.as_slice());
+        let text = table_of(rt.alloc(), value).expect(&rt, "table_of");
+        let found = assemble(rt.alloc(), text.as_bytes(), 0x1000).expect(&rt, "assemble");
+        assert_that(
+            &rt,
+            found.len() == 768 && found.iter().all(|byte| *byte == value),
+        );
     }
 }
 
 /// 32,745 labels, each on a line of its own, and the address of the last one.
+fn labels(alloc: Global) -> Result<String, AllocError> {
+    let mut text = String::new(alloc);
+    for n in 0..32745u16 {
+        write!(text, "L{n:04X}:.byte 0\n")?;
+    }
+    text.push_str(".addr L7FE8")?;
+    Ok(text)
+}
+
 #[test]
 fn as_many_names_as_lines(rt: HostRuntime) {
-    let a = rt.alloc();
-    let mut text = Vec::new(a);
-    for n in 0..32745u16 {
-        put_label(&mut text, n).expect(&rt, "put_label");
-        text.extend_from_slice(b":.byte 0\n")
-            .expect(&rt, "extend_from_slice");
-    }
-    text.extend_from_slice(b".addr ")
-        .expect(&rt, "extend_from_slice");
-    put_label(&mut text, 32744).expect(&rt, "put_label");
-    let found = assemble(a, text.as_slice(), 0x1000).expect(&rt, "assemble");
+    let text = labels(rt.alloc()).expect(&rt, "labels");
+    let found = assemble(rt.alloc(), text.as_bytes(), 0x1000).expect(&rt, "assemble");
     assert_equal(&rt, &found.len(), &32747);
     assert_that(&rt, found.ends_with(b"\xE8\x8F"));
+}
+
+/// A text, repeated.
+fn repeated(alloc: Global, text: &str, count: u32) -> Result<String, AllocError> {
+    let mut out = String::new(alloc);
+    for _ in 0..count {
+        out.push_str(text)?;
+    }
+    Ok(out)
 }
 
 /// Each byte of the address space by a line of its own, and then one more.
 #[test]
 fn as_many_lines_as_bytes(rt: HostRuntime) {
-    let a = rt.alloc();
-    let mut text = Vec::new(a);
-    for _ in 0..65536u32 {
-        text.extend_from_slice(b".byte 0\n")
-            .expect(&rt, "extend_from_slice");
-    }
-    let found = assemble(a, text.as_slice(), 0).expect(&rt, "assemble");
+    let mut text = repeated(rt.alloc(), ".byte 0\n", 65536).expect(&rt, "repeated");
+    let found = assemble(rt.alloc(), text.as_bytes(), 0).expect(&rt, "assemble");
     assert_equal(&rt, &found.len(), &65536);
-    text.extend_from_slice(b".byte 0\n")
-        .expect(&rt, "extend_from_slice");
-    let fault = assemble(a, text.as_slice(), 0).err();
-    let past = AsmFault {
-        line: 65537,
-        kind: AsmFaultKind::PastEnd,
-    };
-    assert_equal(&rt, &fault, &Some(past));
+    text.push_str(".byte 0\n").expect(&rt, "push_str");
+    let found = assembled(&rt, rt.alloc(), 0, text.as_bytes());
+    assert_equal(
+        &rt,
+        &found.as_str(),
+        &" line 65537: past the end of the address space",
+    );
 }
 
 #[test]
 fn thousand_lines(rt: HostRuntime) {
-    let a = rt.alloc();
-    let mut text = Vec::new(a);
-    let mut bytes = Vec::new(a);
-    for _ in 0..250u8 {
-        text.extend_from_slice(b"lda #$01 ; one\n\n.byte \"A;\",2\n.word $1234\n")
-            .expect(&rt, "extend_from_slice");
-        bytes
-            .extend_from_slice(&[0xA9, 1, 0x41, 0x3B, 2, 0x34, 0x12])
-            .expect(&rt, "extend_from_slice");
-    }
-    let found = assemble(a, text.as_slice(), 0x1000).expect(&rt, "assemble");
-    assert_equal(&rt, &found.as_slice(), &bytes.as_slice());
+    let text = "lda #$01 ; one\n\n.byte \"A;\",2\n.word $1234\n";
+    let text = repeated(rt.alloc(), text, 250).expect(&rt, "repeated");
+    let want = repeated(rt.alloc(), " A9 01 41 3B 02 34 12", 250).expect(&rt, "repeated");
+    let found = assembled(&rt, rt.alloc(), 0x1000, text.as_bytes());
+    assert_equal(&rt, &found.as_str(), &want.as_str());
 }
+
+const REMARK: &str =
+    "; 5 MiB of remarks assemble to nothing: blanks, names and numbers such as $1234\n";
 
 /// 65,536 lines of 80 bytes: remarks, and one instruction after them.
 #[test]
 fn five_mebibytes(rt: HostRuntime) {
-    let a = rt.alloc();
-    let mut text = Vec::new(a);
-    for _ in 0..65536u32 {
-        text.extend_from_slice(
-            b"; 5 MiB of remarks assemble to nothing: blanks, names and numbers such as $1234\n",
-        ).expect(&rt, "extend_from_slice");
-    }
+    let mut text = repeated(rt.alloc(), REMARK, 65536).expect(&rt, "repeated");
     assert_equal(&rt, &text.len(), &(5 * 1024 * 1024));
-    text.extend_from_slice(b"nop")
-        .expect(&rt, "extend_from_slice");
-    let found = assemble(a, text.as_slice(), 0xFFFF).expect(&rt, "assemble");
-    assert_equal(&rt, &found.as_slice(), &[0xEA].as_slice());
+    text.push_str("nop").expect(&rt, "push_str");
+    let found = assembled(&rt, rt.alloc(), 0xFFFF, text.as_bytes());
+    assert_equal(&rt, &found.as_str(), &" EA");
 }
+
+/// The texts of all faults.
+const TEXTS: &[(AsmFaultKind, &str)] = &[
+    (AsmFaultKind::Syntax, "line 1: syntax error"),
+    (AsmFaultKind::UnknownCpu, "line 1: unknown CPU"),
+    (AsmFaultKind::NoSuchForm, "line 1: no such form"),
+    (AsmFaultKind::Undefined, "line 1: undefined name"),
+    (AsmFaultKind::DefinedTwice, "line 1: name defined twice"),
+    (AsmFaultKind::OutOfRange, "line 1: value out of range"),
+    (
+        AsmFaultKind::PastEnd,
+        "line 1: past the end of the address space",
+    ),
+    (AsmFaultKind::Memory, "line 1: out of memory"),
+];
 
 #[test]
 fn texts_of_faults(rt: HostRuntime) {
-    let texts = [
-        (AsmFaultKind::Syntax, "line 1: syntax error"),
-        (AsmFaultKind::UnknownCpu, "line 1: unknown CPU"),
-        (AsmFaultKind::NoSuchForm, "line 1: no such form"),
-        (AsmFaultKind::Undefined, "line 1: undefined name"),
-        (AsmFaultKind::DefinedTwice, "line 1: name defined twice"),
-        (AsmFaultKind::OutOfRange, "line 1: value out of range"),
-        (
-            AsmFaultKind::PastEnd,
-            "line 1: past the end of the address space",
-        ),
-        (AsmFaultKind::Memory, "line 1: out of memory"),
-    ];
-    for (kind, text) in texts {
-        let fault = AsmFault { line: 1, kind };
+    for (kind, text) in TEXTS {
+        let fault = AsmFault {
+            line: 1,
+            kind: *kind,
+        };
         let shown = format!(in rt.alloc(); "{fault}").expect(&rt, "format");
-        assert_equal(&rt, &shown.as_str(), &text);
+        assert_equal(&rt, &shown.as_str(), text);
     }
 }

@@ -165,23 +165,20 @@ fn a_reader_that_fails(rt: HostRuntime) {
     }
 }
 
+/// The texts of all faults.
+const TEXTS: &[(ImageFault, &str)] = &[
+    (ImageFault::Empty, "input is empty"),
+    (ImageFault::TooLarge, "input is too large"),
+    (ImageFault::Short, "input is too short"),
+    (ImageFault::Read, "cannot read the input"),
+    (ImageFault::Memory, "out of memory"),
+];
+
 #[test]
 fn texts_of_faults(rt: HostRuntime) {
-    let texts = [
-        (ImageFault::Empty, "input is empty"),
-        (ImageFault::TooLarge, "input is too large"),
-        (ImageFault::Short, "input is too short"),
-        (ImageFault::Read, "cannot read the input"),
-        (ImageFault::Memory, "out of memory"),
-    ];
-    for (fault, text) in texts {
-        assert_equal(
-            &rt,
-            &format!(in rt.alloc(); "{fault}")
-                .expect(&rt, "format")
-                .as_str(),
-            &text,
-        );
+    for (fault, text) in TEXTS {
+        let shown = format!(in rt.alloc(); "{fault}").expect(&rt, "format");
+        assert_equal(&rt, &shown.as_str(), text);
     }
 }
 

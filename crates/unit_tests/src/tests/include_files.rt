@@ -1,9 +1,7 @@
 // Include files.
-use crate::tests::asserts::{assert_equal, assert_equal_at, assert_that, assert_that_at};
-use crate::tests::inputs::info_of;
-use info65::{Info, InfoFault, InfoFaultKind, read_include};
+use crate::tests::asserts::{assert_equal, assert_equal_at, assert_that};
+use crate::tests::said::{include, included, repeated};
 use std::alloc::{AllocError, Global};
-use std::process::Abort;
 
 /// A label `go` at $0003, and an include file.
 const PLAIN: &str = "LABEL { ADDR 3; NAME \"go\"; }; ASMINC { FILE \"k.inc\"; };";
@@ -17,193 +15,123 @@ const STAR: &str = "ASMINC { FILE \"k.inc\"; COMMENTSTART '*'; };";
 
 const DIGIT: &str = "ASMINC { FILE \"k.inc\"; COMMENTSTART '1'; };";
 
-/// The names of an information by address.
-type Names = &'static [(u16, &'static str)];
+/// No label.
+const ALONE: &str = "ASMINC { FILE \"k.inc\"; };";
 
-fn are_named(rt: &impl Abort, info: &Info, names: &[(u16, &str)], shown: &str) {
-    assert_that_at(rt, info.given_count() == names.len(), &shown);
-    for (place, (address, text)) in names.iter().enumerate() {
-        let given = info.given(place);
-        assert_equal_at(rt, &given.address, &*address, &shown);
-        assert_equal_at(rt, &given.text, &text.as_bytes(), &shown);
-        assert_equal_at(rt, &given.size, &1, &shown);
-        assert_that_at(rt, given.comment.is_none(), &shown);
-    }
-}
+/// Include files that are accepted, with all names after them, and the label among them.
+const ACCEPTED: &str = "-- nothing
+ => 0003 go
+| \t | \t|; K = 1| => 0003 go
+K = 1|J = 1 => 0001 K 0003 go
+K = 1|K = 1| => 0001 K 0003 go
+-- the address of the label has its name
+K = 3|go = 3 => 0003 go
+-- blanks are optional
+K=1|\tJ\t:=\t2\t => 0001 K 0002 J 0003 go
+-- the last line without a line feed, and with a carriage return
+K=1;\r|\r|J:=2\r => 0001 K 0002 J 0003 go
+K = 065535 => 0003 go FFFF K
+K = 0|_9 = $ffFf => 0000 K 0003 go FFFF _9
+-- names differ by case, and a default name may be given to its own address
+GO = 4|L0005 = 5|l0005 = 6 => 0003 go 0004 GO 0005 L0005 0006 l0005
+-- only the first comment byte counts
+K = 1 ; J = 2 ; x => 0001 K 0003 go
+";
 
-/// Adds the names of the include file at this place, which the information has.
-fn add(
-    rt: &impl Abort,
-    alloc: Global,
-    info: &mut Info,
-    place: usize,
-    lines: &[u8],
-) -> Result<(), InfoFault> {
-    assert_that(rt, place < info.includes().len());
-    read_include(alloc, info, place, lines)
-}
-
-/// Files that are accepted: the information file, the include file, and all names after it.
-const ACCEPTED: &[(&str, &str, Names)] = &[
-    (PLAIN, "", &[(3, "go")]),
-    (PLAIN, "\n \t \n; K = 1\n", &[(3, "go")]),
-    (
-        IGNORING,
-        "CHROUT = $FFD2\nBSOUT := $FFD2 ; same\n.macro x\n",
-        &[(3, "go"), (0xFFD2, "CHROUT")],
-    ),
-    (STAR, "* names\nK = %10000 * ten", &[(16, "K")]),
-    (PLAIN, "K = 1\nJ = 1", &[(1, "K"), (3, "go")]),
-    (PLAIN, "K = 1\nK = 1\n", &[(1, "K"), (3, "go")]),
-    // the address of the label has its name
-    (PLAIN, "K = 3\ngo = 3", &[(3, "go")]),
-    // blanks are optional
-    (PLAIN, "K=1\n\tJ\t:=\t2\t", &[(1, "K"), (2, "J"), (3, "go")]),
-    // the last line without a line feed, and with a carriage return
-    (
-        PLAIN,
-        "K=1;\r\n\r\nJ:=2\r",
-        &[(1, "K"), (2, "J"), (3, "go")],
-    ),
-    (PLAIN, "K = 065535", &[(3, "go"), (0xFFFF, "K")]),
-    (
-        PLAIN,
-        "K = 0\n_9 = $ffFf",
-        &[(0, "K"), (3, "go"), (0xFFFF, "_9")],
-    ),
-    // names differ by case, and a default name may be given to its own address
-    (
-        PLAIN,
-        "GO = 4\nL0005 = 5\nl0005 = 6",
-        &[(3, "go"), (4, "GO"), (5, "L0005"), (6, "l0005")],
-    ),
-    // only the first comment byte counts
-    (PLAIN, "K = 1 ; J = 2 ; x", &[(1, "K"), (3, "go")]),
-    (
-        IGNORING,
-        "a = 1\ngo = 2\nK = 65536\nK = 5\nK = 6",
-        &[(3, "go"), (5, "K")],
-    ),
-];
+/// The same with IGNOREUNKNOWN.
+const IGNORED: &str = "-- lines of other forms, reserved names and names given twice
+CHROUT = $FFD2|BSOUT := $FFD2 ; same|.macro x| => 0003 go FFD2 CHROUT
+a = 1|go = 2|K = 65536|K = 5|K = 6 => 0003 go 0005 K
+";
 
 #[test]
 fn accepted_include_files(rt: HostRuntime) {
-    for (text, lines, names) in ACCEPTED {
-        let mut info = info_of(&rt, rt.alloc(), text.as_bytes());
-        add(&rt, rt.alloc(), &mut info, 0, lines.as_bytes()).expect(&rt, "add");
-        are_named(&rt, &info, names, lines);
-    }
+    include(&rt, rt.alloc(), PLAIN, ACCEPTED);
+    include(&rt, rt.alloc(), IGNORING, IGNORED);
+    include(&rt, rt.alloc(), STAR, "* names|K = %10000 * ten => 0010 K");
 }
 
-/// Files that are refused, each with the line and the kind.
-const REFUSED: &[(&str, &str, u32, InfoFaultKind)] = &[
-    (
-        PLAIN,
-        "CHROUT = $FFD2\nBSOUT := $FFD2 ; same\n.macro x\n",
-        3,
-        InfoFaultKind::BadInclude,
-    ),
-    (DIGIT, "K = 11", 1, InfoFaultKind::BadInclude),
-    (PLAIN, "K = 1\nK = 2", 2, InfoFaultKind::NameTwice),
-    (PLAIN, "\ngo = 4", 2, InfoFaultKind::NameTwice),
-    (PLAIN, "a = 1", 1, InfoFaultKind::ReservedName),
-    (PLAIN, "L1000 = $1001", 1, InfoFaultKind::ReservedName),
-    // reserved also where the address has a name
-    (PLAIN, "Lda = 3", 1, InfoFaultKind::ReservedName),
-    (PLAIN, "K = %102", 1, InfoFaultKind::BadInclude),
-    (PLAIN, "K = 65536", 1, InfoFaultKind::BadInclude),
-    (PLAIN, "K = $10000", 1, InfoFaultKind::BadInclude),
-    (PLAIN, "K = 4294967297", 1, InfoFaultKind::BadInclude),
-    (PLAIN, "K = $", 1, InfoFaultKind::BadInclude),
-    (PLAIN, "K = -1", 1, InfoFaultKind::BadInclude),
-    (PLAIN, "K = 1 2", 1, InfoFaultKind::BadInclude),
-    (PLAIN, "K = 1 = 2", 1, InfoFaultKind::BadInclude),
-    (PLAIN, "K : = 1", 1, InfoFaultKind::BadInclude),
-    (PLAIN, "K ::= 1", 1, InfoFaultKind::BadInclude),
-    (PLAIN, "1a = 1", 1, InfoFaultKind::BadInclude),
-    (PLAIN, "= 1", 1, InfoFaultKind::BadInclude),
-    (PLAIN, "K 1", 1, InfoFaultKind::BadInclude),
-    // one carriage return is dropped, at the end alone
-    (PLAIN, "K = 1\r\r\n", 1, InfoFaultKind::BadInclude),
-    (PLAIN, "K\r = 1", 1, InfoFaultKind::BadInclude),
-];
+/// Include files that are refused. The label is left.
+const REFUSED: &str = "-- the worked examples
+CHROUT = $FFD2|BSOUT := $FFD2 ; same|.macro x| => 3: bad include line 0003 go
+K = 1|K = 2 => 2: name given twice 0003 go
+|go = 4 => 2: name given twice 0003 go
+a = 1 => 1: reserved name 0003 go
+L1000 = $1001 => 1: reserved name 0003 go
+-- reserved also where the address has a name
+Lda = 3 => 1: reserved name 0003 go
+K = %102 => 1: bad include line 0003 go
+K = 65536 => 1: bad include line 0003 go
+K = $10000 => 1: bad include line 0003 go
+K = 4294967297 => 1: bad include line 0003 go
+K = $ => 1: bad include line 0003 go
+K = -1 => 1: bad include line 0003 go
+K = 1 2 => 1: bad include line 0003 go
+K = 1 = 2 => 1: bad include line 0003 go
+K : = 1 => 1: bad include line 0003 go
+K ::= 1 => 1: bad include line 0003 go
+1a = 1 => 1: bad include line 0003 go
+= 1 => 1: bad include line 0003 go
+K 1 => 1: bad include line 0003 go
+-- one carriage return is dropped, at the end alone
+K = 1\r\r| => 1: bad include line 0003 go
+K\r = 1 => 1: bad include line 0003 go
+";
 
 #[test]
 fn refused_include_files(rt: HostRuntime) {
-    for (text, lines, line, kind) in REFUSED {
-        let mut info = info_of(&rt, rt.alloc(), text.as_bytes());
-        let before = info.given_count();
-        let found = add(&rt, rt.alloc(), &mut info, 0, lines.as_bytes()).err();
-        let expected = InfoFault {
-            line: *line,
-            kind: *kind,
-        };
-        assert_equal_at(&rt, &found, &Some(expected), &lines);
-        assert_equal_at(&rt, &info.given_count(), &before, &lines);
-    }
+    include(&rt, rt.alloc(), PLAIN, REFUSED);
+    include(&rt, rt.alloc(), DIGIT, "K = 11 => 1: bad include line");
 }
 
-/// What each prefix of a line says, by the number of bytes: the address of `CHROUT`, if it is accepted.
-const LINE: &str = "CHROUT = $FFD2 ; x";
-
-fn prefix_address(size: usize) -> Option<u16> {
-    match size {
-        11 => Some(0xF),
-        12 => Some(0xFF),
-        13 => Some(0xFFD),
-        _ => { if size > 13 { Some(0xFFD2) } else { None } }
-    }
-}
+/// What each prefix of a line says.
+const PREFIXES: &str = "-- no number
+C => 1: bad include line
+CH => 1: bad include line
+CHR => 1: bad include line
+CHRO => 1: bad include line
+CHROU => 1: bad include line
+CHROUT => 1: bad include line
+CHROUT  => 1: bad include line
+CHROUT = => 1: bad include line
+CHROUT =  => 1: bad include line
+CHROUT = $ => 1: bad include line
+-- a number
+CHROUT = $F => 000F CHROUT
+CHROUT = $FF => 00FF CHROUT
+CHROUT = $FFD => 0FFD CHROUT
+CHROUT = $FFD2 => FFD2 CHROUT
+CHROUT = $FFD2  => FFD2 CHROUT
+CHROUT = $FFD2 ; => FFD2 CHROUT
+CHROUT = $FFD2 ;  => FFD2 CHROUT
+CHROUT = $FFD2 ; x => FFD2 CHROUT
+";
 
 #[test]
 fn each_prefix_of_a_line(rt: HostRuntime) {
-    for size in 1..LINE.len() + 1 {
-        let mut info = info_of(&rt, rt.alloc(), b"ASMINC { FILE \"k.inc\"; };");
-        let read = add(&rt, rt.alloc(), &mut info, 0, &LINE.as_bytes()[..size]);
-        match prefix_address(size) {
-            Some(address) => {
-                assert_equal_at(&rt, &read, &Ok(()), &size);
-                are_named(&rt, &info, &[(address, "CHROUT")], LINE);
-            }
-            None => {
-                let expected = InfoFault {
-                    line: 1,
-                    kind: InfoFaultKind::BadInclude,
-                };
-                assert_equal_at(&rt, &read, &Err(expected), &size);
-                assert_equal_at(&rt, &info.given_count(), &0, &size);
-            }
-        }
-    }
+    include(&rt, rt.alloc(), ALONE, PREFIXES);
 }
+
+const REFUSED_FIRST: &[(usize, &[u8])] = &[(0, b"K = $10\n.bad"), (0, b"K = $20")];
 
 #[test]
 fn refused_and_read_again(rt: HostRuntime) {
-    let mut info = info_of(&rt, rt.alloc(), b"ASMINC { FILE \"k.inc\"; };");
-    let expected = InfoFault {
-        line: 2,
-        kind: InfoFaultKind::BadInclude,
-    };
-    let read = add(&rt, rt.alloc(), &mut info, 0, b"K = $10\n.bad");
-    assert_equal(&rt, &read, &Err(expected));
-    are_named(&rt, &info, &[], "refused");
-    add(&rt, rt.alloc(), &mut info, 0, b"K = $20").expect(&rt, "add");
-    are_named(&rt, &info, &[(0x20, "K")], "read again");
+    let found = included(&rt, rt.alloc(), ALONE, REFUSED_FIRST);
+    assert_equal(&rt, &found.as_str(), &" 2: bad include line 0020 K");
 }
+
+const TWO: &str = "ASMINC { FILE \"k.inc\"; }; ASMINC { FILE \"j.inc\"; COMMENTSTART '#'; };";
+
+const BOTH: &[(usize, &[u8])] = &[
+    (0, b"K = 1 ; one"),
+    (1, b"J = 1\nI = 2 # two\nK = 1"),
+    (1, b"K = 3"),
+];
 
 #[test]
 fn two_include_files(rt: HostRuntime) {
-    let text = "ASMINC { FILE \"k.inc\"; }; ASMINC { FILE \"j.inc\"; COMMENTSTART '#'; };";
-    let mut info = info_of(&rt, rt.alloc(), text.as_bytes());
-    add(&rt, rt.alloc(), &mut info, 0, b"K = 1 ; one").expect(&rt, "add");
-    add(&rt, rt.alloc(), &mut info, 1, b"J = 1\nI = 2 # two\nK = 1").expect(&rt, "add");
-    are_named(&rt, &info, &[(1, "K"), (2, "I")], "two files");
-    let expected = InfoFault {
-        line: 1,
-        kind: InfoFaultKind::NameTwice,
-    };
-    let read = add(&rt, rt.alloc(), &mut info, 1, b"K = 3");
-    assert_equal(&rt, &read, &Err(expected));
+    let found = included(&rt, rt.alloc(), TWO, BOTH);
+    assert_equal(&rt, &found.as_str(), &" 1: name given twice 0001 K 0002 I");
 }
 
 // A line of that many bytes, all of them blanks but for a name at the end.
@@ -216,74 +144,57 @@ fn long_line(alloc: Global, size: usize) -> Result<Vec<u8>, AllocError> {
 #[test]
 fn sizes_of_include_files(rt: HostRuntime) {
     let large = long_line(rt.alloc(), 1_048_577).expect(&rt, "long_line");
-    for text in [PLAIN, IGNORING] {
-        let mut info = info_of(&rt, rt.alloc(), text.as_bytes());
-        let expected = InfoFault {
-            line: 1,
-            kind: InfoFaultKind::TooLarge,
-        };
-        let read = add(&rt, rt.alloc(), &mut info, 0, large.as_slice());
-        assert_equal_at(&rt, &read, &Err(expected), &text);
-        are_named(&rt, &info, &[(3, "go")], text);
+    for info in [PLAIN, IGNORING] {
+        let found = included(&rt, rt.alloc(), info, &[(0, large.as_slice())]);
+        assert_equal_at(&rt, &found.as_str(), &" 1: too large 0003 go", &info);
     }
-    let mut info = info_of(&rt, rt.alloc(), PLAIN.as_bytes());
     let largest = long_line(rt.alloc(), 1_048_576).expect(&rt, "long_line");
-    add(&rt, rt.alloc(), &mut info, 0, largest.as_slice()).expect(&rt, "add");
-    are_named(&rt, &info, &[(1, "K"), (3, "go")], "1,048,576 bytes");
+    let found = included(&rt, rt.alloc(), PLAIN, &[(0, largest.as_slice())]);
+    assert_equal(&rt, &found.as_str(), &" 0001 K 0003 go");
 }
 
 #[test]
 fn lengths_of_names(rt: HostRuntime) {
-    for (size, expected) in [
-        (80, None),
-        (
-            81,
-            Some(InfoFault {
-                line: 1,
-                kind: InfoFaultKind::BadName,
-            }),
-        ),
-    ] {
-        let mut info = info_of(&rt, rt.alloc(), PLAIN.as_bytes());
-        let mut line = vec![in rt.alloc(); b'k'; size].expect(&rt, "vec");
-        line.extend_from_slice(b" = 1")
-            .expect(&rt, "extend_from_slice");
-        let read = add(&rt, rt.alloc(), &mut info, 0, line.as_slice());
-        assert_equal_at(&rt, &read.err(), &expected, &size);
-        assert_equal(
-            &rt,
-            &info.given_count(),
-            &if expected.is_some() { 1 } else { 2 },
-        );
+    for size in [80, 81] {
+        let name = repeated(rt.alloc(), size).expect(&rt, "repeated");
+        let line = format!(in rt.alloc(); "{name} = 1").expect(&rt, "format");
+        let found = included(&rt, rt.alloc(), PLAIN, &[(0, line.as_bytes())]);
+        if size == 80 {
+            let want = format!(in rt.alloc(); " 0001 {name} 0003 go").expect(&rt, "format");
+            assert_equal(&rt, &found.as_str(), &want.as_str());
+        } else {
+            assert_equal(&rt, &found.as_str(), &" 1: bad name 0003 go");
+        }
     }
 }
 
 // 60,000 lines in descending order.
-fn many_lines(alloc: Global) -> Result<Vec<u8>, AllocError> {
-    let mut text = Vec::new(alloc);
+fn many_lines(alloc: Global) -> Result<String, AllocError> {
+    let mut text = String::new(alloc);
     for n in 0..60_000_u32 {
         let place = 60_000_u32.saturating_sub(n);
-        let line = format!(in alloc; "m{place} = {place}\n")?;
-        text.extend_from_slice(line.as_bytes())?;
+        write!(text, "m{place} = {place}\n")?;
     }
     Ok(text)
 }
 
-// The address has a name of this text.
-fn is_named(info: &Info, address: u16, text: &[u8]) -> bool {
-    match info.covering(address) {
-        Some(given) => given.text == text,
-        None => false,
+// Their names by address. $0003 keeps the name of the label.
+fn many_names(alloc: Global) -> Result<String, AllocError> {
+    let mut text = String::new(alloc);
+    for address in 1..=60_000_u32 {
+        if address == 3 {
+            text.push_str(" 0003 go")?;
+        } else {
+            write!(text, " {address:04X} m{address}")?;
+        }
     }
+    Ok(text)
 }
 
 #[test]
 fn sixty_thousand_lines(rt: HostRuntime) {
-    let mut info = info_of(&rt, rt.alloc(), PLAIN.as_bytes());
-    let text = many_lines(rt.alloc()).expect(&rt, "many_lines");
-    add(&rt, rt.alloc(), &mut info, 0, text.as_slice()).expect(&rt, "add");
-    // $0003 keeps the name of the label
-    assert_equal(&rt, &info.given_count(), &60_000);
-    assert_that(&rt, is_named(&info, 3, b"go"));
-    assert_that(&rt, is_named(&info, 54_321, b"m54321"));
+    let lines = many_lines(rt.alloc()).expect(&rt, "many_lines");
+    let want = many_names(rt.alloc()).expect(&rt, "many_names");
+    let found = included(&rt, rt.alloc(), PLAIN, &[(0, lines.as_bytes())]);
+    assert_that(&rt, found.as_str() == want.as_str());
 }

@@ -88,6 +88,21 @@ fn shows_at(
     shows(rt, alloc, &Columns::default(), statement, &remarks, want)
 }
 
+/// The line of `lda #$41` at $1000 at each level.
+const LOADS: &[(u8, &str)] = &[
+    (0, "        lda     #$41"),
+    (1, "        lda     #$41"),
+    (2, "        lda     #$41                            ; 1000"),
+    (
+        3,
+        "        lda     #$41                            ; 1000 A9 41",
+    ),
+    (
+        4,
+        "        lda     #$41                            ; 1000 A9 41                    .A",
+    ),
+];
+
 #[test]
 fn full_remarks(rt: HostRuntime) {
     let load = Statement::Instr {
@@ -98,20 +113,8 @@ fn full_remarks(rt: HostRuntime) {
         absolute: false,
         operands: Operands::One(Expr::Number(0x41)),
     };
-    for (level, want) in [
-        (0, "        lda     #$41"),
-        (1, "        lda     #$41"),
-        (2, "        lda     #$41                            ; 1000"),
-        (
-            3,
-            "        lda     #$41                            ; 1000 A9 41",
-        ),
-        (
-            4,
-            "        lda     #$41                            ; 1000 A9 41                    .A",
-        ),
-    ] {
-        shows_at(&rt, rt.alloc(), level, &load, b"\xA9\x41", want);
+    for (level, want) in LOADS {
+        shows_at(&rt, rt.alloc(), *level, &load, b"\xA9\x41", want);
     }
 }
 

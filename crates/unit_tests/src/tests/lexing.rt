@@ -23,27 +23,30 @@ fn a_fault_stays(rt: HostRuntime) {
     }
 }
 
+const BYTES: &[u8] = b"GLOBAL{ # \"no\r string\n a_1 $fF // $\n\r\n \"a#b//c\" ';' 4294967295};";
+
+/// Its tokens, each with its text and its line.
+const TOKENS: &[(TokenKind<'static>, &[u8], u32)] = &[
+    (TokenKind::Word, b"GLOBAL", 1),
+    (TokenKind::OpenBrace, b"{", 1),
+    (TokenKind::Word, b"a_1", 2),
+    (TokenKind::Number(255), b"$fF", 2),
+    (TokenKind::Text(b"a#b//c"), b"\"a#b//c\"", 4),
+    (TokenKind::Character(b';'), b"';'", 4),
+    (TokenKind::Number(4_294_967_295), b"4294967295", 4),
+    (TokenKind::CloseBrace, b"}", 4),
+    (TokenKind::Semicolon, b";", 4),
+];
+
 #[test]
 fn tokens_with_their_texts_and_lines(rt: HostRuntime) {
-    let bytes = b"GLOBAL{ # \"no\r string\n a_1 $fF // $\n\r\n \"a#b//c\" ';' 4294967295};";
-    let tokens: [(TokenKind, &[u8], u32); 9] = [
-        (TokenKind::Word, b"GLOBAL", 1),
-        (TokenKind::OpenBrace, b"{", 1),
-        (TokenKind::Word, b"a_1", 2),
-        (TokenKind::Number(255), b"$fF", 2),
-        (TokenKind::Text(b"a#b//c"), b"\"a#b//c\"", 4),
-        (TokenKind::Character(b';'), b"';'", 4),
-        (TokenKind::Number(4_294_967_295), b"4294967295", 4),
-        (TokenKind::CloseBrace, b"}", 4),
-        (TokenKind::Semicolon, b";", 4),
-    ];
-    let mut lexer = Lexer::new(bytes);
-    for (kind, text, line) in tokens {
+    let mut lexer = Lexer::new(BYTES);
+    for (kind, text, line) in TOKENS {
         let next = lexer.next_token().expect(&rt, "a token");
         let token = next.expect(&rt, "no end");
-        assert_equal(&rt, &token.kind, &kind);
-        assert_equal(&rt, &token.text, &text);
-        assert_equal(&rt, &token.line, &line);
+        assert_equal(&rt, &token.kind, kind);
+        assert_equal(&rt, &token.text, text);
+        assert_equal(&rt, &token.line, line);
     }
     for _ in 0..2 {
         let end = lexer.next_token().expect(&rt, "no fault");

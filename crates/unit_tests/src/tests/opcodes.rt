@@ -245,6 +245,9 @@ const TEXTS: &str =
     txa txs tya bra phx phy plx ply stz trb tsb bbr0 bbr1 bbr2 bbr3 bbr4 bbr5 bbr6 bbr7 bbs0 bbs1 bbs2 bbs3 bbs4 \
     bbs5 bbs6 bbs7 rmb0 rmb1 rmb2 rmb3 rmb4 rmb5 rmb6 rmb7 smb0 smb1 smb2 smb3 smb4 smb5 smb6 smb7";
 
+/// Texts that are no mnemonics.
+const OTHERS: &[&[u8]] = &[b"", b"ad", b"adcc", b"rmb8", b"wai", b"stp"];
+
 #[test]
 fn texts_read_back(rt: HostRuntime) {
     let mut count = 0usize;
@@ -263,7 +266,7 @@ fn texts_read_back(rt: HostRuntime) {
         count = count.saturating_add(1);
     }
     assert_equal(&rt, &count, &96);
-    for other in [b"".as_slice(), b"ad", b"adcc", b"rmb8", b"wai", b"stp"] {
+    for other in OTHERS {
         assert_equal(&rt, &Mnemonic::from_bytes(other), &None);
     }
 }
@@ -320,21 +323,24 @@ fn siblings_by_the_data_sheet(rt: HostRuntime) {
     }
 }
 
+/// Texts, and the CPUs that they name.
+const CPUS: &[(&[u8], Option<Cpu>)] = &[
+    (b"6502", Some(Cpu::M6502)),
+    (b"65sc02", Some(Cpu::M65SC02)),
+    (b"65Sc02", Some(Cpu::M65SC02)),
+    (b"65C02", Some(Cpu::M65C02)),
+    (b"65c02", Some(Cpu::M65C02)),
+    (b"65CE02", None),
+    (b"6809", None),
+    (b"", None),
+];
+
 #[test]
 fn cpu_names(rt: HostRuntime) {
     assert_equal(&rt, &Cpu::M6502.text(), &b"6502".as_slice());
     assert_equal(&rt, &Cpu::M65SC02.text(), &b"65SC02".as_slice());
     assert_equal(&rt, &Cpu::M65C02.text(), &b"65C02".as_slice());
-    for (name, cpu) in [
-        (b"6502".as_slice(), Some(Cpu::M6502)),
-        (b"65sc02", Some(Cpu::M65SC02)),
-        (b"65Sc02", Some(Cpu::M65SC02)),
-        (b"65C02", Some(Cpu::M65C02)),
-        (b"65c02", Some(Cpu::M65C02)),
-        (b"65CE02", None),
-        (b"6809", None),
-        (b"", None),
-    ] {
-        assert_equal(&rt, &Cpu::from_bytes(name), &cpu);
+    for (name, cpu) in CPUS {
+        assert_equal(&rt, &Cpu::from_bytes(name), cpu);
     }
 }

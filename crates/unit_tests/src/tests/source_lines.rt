@@ -166,143 +166,146 @@ pub fn source(alloc: Global, line: &[u8]) -> Result<String, AllocError> {
     Ok(out)
 }
 
-/// Each form, with blanks, remarks and letter case.
+/// Lines of each form, with blanks, remarks and letter case, and what they say.
+const ACCEPTED: &[(&[u8], &str)] = &[
+    (b"", ""),
+    (b" \t ", ""),
+    (b" ; lda $12 \" \r\x80", ""),
+    (b"Loop:", "Loop: "),
+    (b"wai:", "wai: "),
+    (b"Loop : nop ; wait", "Loop: nop"),
+    (b"_1:.CODE", "_1: code"),
+    (b"v:=$fF", "v := 255"),
+    (b" v := 010", "v := 10"),
+    (b"v := * + $10", "v := * + 16"),
+    (b"v:=*+1", "v := * + 1"),
+    (b"RTS", "rts"),
+    (b"aSl A", "asl A"),
+    (b"asl", "asl"),
+    (b"lda # $01", "lda #1"),
+    (b"lda#name", "lda #name+0"),
+    (b"lda Name", "lda Name+0"),
+    (b"lda name + 2", "lda name+2"),
+    (b"lda name-1", "lda name+0-1"),
+    (b"lda name + $0A - 1", "lda name+10-1"),
+    (b"lda A:name,X", "lda a:name+0,X"),
+    (b"lda a : 5 , y", "lda a:5,Y"),
+    (b"lda $12345678", "lda 305419896"),
+    (b"lda 99999999999999999999", "lda 18446744073709551615"),
+    (b"jmp (name)", "jmp (name+0)"),
+    (b"lda ($12,X)", "lda (18,X)"),
+    (b"lda ($12),Y", "lda (18),Y"),
+    (b"bbr0 $12,name+1", "bbr0 18,name+1"),
+    (b"bne a:$1000", "bne a:4096"),
+    (b".byte \"\"", "byte \"\""),
+    (b".Byte 1,\"aB; ,'\" , $FF", "byte 1 \"aB; ,'\" 255"),
+    (b".word name-1,$FFFF", "word name+0-1 65535"),
+    (b".dbyt 1, 2", "dbyt 1 2"),
+    (b".ADDR name+1", "addr name+1"),
+    (b".segment \"lda\"", "segment lda"),
+    (b".segment \"X\"", "segment X"),
+    (b".SetCpu \"6809 \"", "setcpu 6809 "),
+    (b".setcpu \"\"", "setcpu "),
+];
+
 #[test]
 fn accepted_lines(rt: HostRuntime) {
-    let rows = [
-        (b"".as_slice(), ""),
-        (b" \t ", ""),
-        (b" ; lda $12 \" \r\x80", ""),
-        (b"Loop:", "Loop: "),
-        (b"wai:", "wai: "),
-        (b"Loop : nop ; wait", "Loop: nop"),
-        (b"_1:.CODE", "_1: code"),
-        (b"v:=$fF", "v := 255"),
-        (b" v := 010", "v := 10"),
-        (b"v := * + $10", "v := * + 16"),
-        (b"v:=*+1", "v := * + 1"),
-        (b"RTS", "rts"),
-        (b"aSl A", "asl A"),
-        (b"asl", "asl"),
-        (b"lda # $01", "lda #1"),
-        (b"lda#name", "lda #name+0"),
-        (b"lda Name", "lda Name+0"),
-        (b"lda name + 2", "lda name+2"),
-        (b"lda name-1", "lda name+0-1"),
-        (b"lda name + $0A - 1", "lda name+10-1"),
-        (b"lda A:name,X", "lda a:name+0,X"),
-        (b"lda a : 5 , y", "lda a:5,Y"),
-        (b"lda $12345678", "lda 305419896"),
-        (b"lda 99999999999999999999", "lda 18446744073709551615"),
-        (b"jmp (name)", "jmp (name+0)"),
-        (b"lda ($12,X)", "lda (18,X)"),
-        (b"lda ($12),Y", "lda (18),Y"),
-        (b"bbr0 $12,name+1", "bbr0 18,name+1"),
-        (b"bne a:$1000", "bne a:4096"),
-        (b".byte \"\"", "byte \"\""),
-        (b".Byte 1,\"aB; ,'\" , $FF", "byte 1 \"aB; ,'\" 255"),
-        (b".word name-1,$FFFF", "word name+0-1 65535"),
-        (b".dbyt 1, 2", "dbyt 1 2"),
-        (b".ADDR name+1", "addr name+1"),
-        (b".segment \"lda\"", "segment lda"),
-        (b".segment \"X\"", "segment X"),
-        (b".SetCpu \"6809 \"", "setcpu 6809 "),
-        (b".setcpu \"\"", "setcpu "),
-    ];
-    for (line, want) in rows {
+    for (line, want) in ACCEPTED {
         let found = source(rt.alloc(), line).expect(&rt, "source");
-        assert_equal(&rt, &found.as_str(), &want);
+        assert_equal(&rt, &found.as_str(), want);
     }
 }
 
-/// Each line says nothing that the grammar has.
+/// Lines that say nothing that the grammar has.
+const REFUSED: &[&[u8]] = &[
+    // The 1 that is taken off is the digit itself.
+    b"lda name-$1",
+    b"lda name-01",
+    b"lda name-2",
+    b"lda name-1+1",
+    b"lda 5-1",
+    b"lda 5+1",
+    b"lda name+name",
+    // Data wants operands, and `.byte` no names.
+    b".byte",
+    b".word ;",
+    b".dbyt",
+    b".addr",
+    b".byte 1,",
+    b".byte ,1",
+    b".byte name",
+    b".word \"ab\"",
+    b".dword 1",
+    b".code 1",
+    // Strings are closed on their line, and hold printable ASCII.
+    b".byte \"ab",
+    b".byte \"a\tb\"",
+    b".byte \"a\x80\"",
+    // A segment's name has the form of a name.
+    b".segment \"\"",
+    b".segment \"1a\"",
+    b".segment \"a.b\"",
+    b".segment code",
+    b".setcpu 6502",
+    // `a:` stands before an expression by itself.
+    b"bbr0 a:$12,name",
+    b"lda a:($12),y",
+    b"lda a:",
+    b"lda #a:5",
+    b"lda ($12),x",
+    b"lda ($12,y)",
+    b"lda ($12",
+    b"lda $12,z",
+    // A carriage return is a byte as any other.
+    b"nop\r",
+    b"\r",
+    // Reserved words are no names, in any case.
+    b"A:",
+    b"z := 1",
+    b"lda s",
+    b"LdA:",
+    b"rmb7:",
+    b"Wai2: .dword",
+    b".name:",
+    b"v := name",
+    b"v := *",
+    b"v := * - 1",
+    b"v : = 1",
+    b"v := 1 2",
+    b"label: v := 1",
+    b"label: label: nop",
+    // Numbers end where their digits do.
+    b"lda $",
+    b"lda $G",
+    b"lda $123456789",
+    b"lda 12ab",
+    b"frob",
+    b"frob $12",
+    b"nop nop",
+    b"12",
+    b"\"\"",
+];
+
 #[test]
 fn refused_lines(rt: HostRuntime) {
-    let rows = [
-        // The 1 that is taken off is the digit itself.
-        b"lda name-$1".as_slice(),
-        b"lda name-01",
-        b"lda name-2",
-        b"lda name-1+1",
-        b"lda 5-1",
-        b"lda 5+1",
-        b"lda name+name",
-        // Data wants operands, and `.byte` no names.
-        b".byte",
-        b".word ;",
-        b".dbyt",
-        b".addr",
-        b".byte 1,",
-        b".byte ,1",
-        b".byte name",
-        b".word \"ab\"",
-        b".dword 1",
-        b".code 1",
-        // Strings are closed on their line, and hold printable ASCII.
-        b".byte \"ab",
-        b".byte \"a\tb\"",
-        b".byte \"a\x80\"",
-        // A segment's name has the form of a name.
-        b".segment \"\"",
-        b".segment \"1a\"",
-        b".segment \"a.b\"",
-        b".segment code",
-        b".setcpu 6502",
-        // `a:` stands before an expression by itself.
-        b"bbr0 a:$12,name",
-        b"lda a:($12),y",
-        b"lda a:",
-        b"lda #a:5",
-        b"lda ($12),x",
-        b"lda ($12,y)",
-        b"lda ($12",
-        b"lda $12,z",
-        // A carriage return is a byte as any other.
-        b"nop\r",
-        b"\r",
-        // Reserved words are no names, in any case.
-        b"A:",
-        b"z := 1",
-        b"lda s",
-        b"LdA:",
-        b"rmb7:",
-        b"Wai2: .dword",
-        b".name:",
-        b"v := name",
-        b"v := *",
-        b"v := * - 1",
-        b"v : = 1",
-        b"v := 1 2",
-        b"label: v := 1",
-        b"label: label: nop",
-        // Numbers end where their digits do.
-        b"lda $",
-        b"lda $G",
-        b"lda $123456789",
-        b"lda 12ab",
-        b"frob",
-        b"frob $12",
-        b"nop nop",
-        b"12",
-        b"\"\"",
-    ];
-    for line in rows {
+    for line in REFUSED {
         let found = source(rt.alloc(), line).expect(&rt, "source");
         assert_equal(&rt, &found.as_str(), &"Syntax");
     }
 }
 
-/// The first bytes of `lda #$01`, one more each time.
+/// What the first bytes of `lda #$01` say, one more each time.
+const PREFIXES: &[&str] = &[
+    "", "Syntax", "Syntax", "lda", "lda", "Syntax", "Syntax", "lda #0", "lda #1",
+];
+
 #[test]
 fn prefixes_of_an_immediate(rt: HostRuntime) {
     let line = b"lda #$01".as_slice();
-    let rows = [
-        "", "Syntax", "Syntax", "lda", "lda", "Syntax", "Syntax", "lda #0", "lda #1",
-    ];
-    for (n, want) in rows.iter().enumerate() {
+    for (n, want) in PREFIXES.iter().enumerate() {
         let (front, _) = line.split_at(n);
         let found = source(rt.alloc(), front).expect(&rt, "source");
-        assert_equal(&rt, &found.as_str(), &*want);
+        assert_equal(&rt, &found.as_str(), want);
     }
 }
 
