@@ -3,11 +3,9 @@
 use crate::tests::asserts::{assert_equal, assert_equal_at, assert_that};
 use crate::tests::command_lines::options_on;
 use crate::tests::runs::{HEADER, THREE, THREE_LISTING, listed, named, run_including, run_with};
-use da65::{File, Status, UsageFault, needs};
-use info65::{Info, Options, read_info};
+use da65::{File, Options, Status, UsageFault, needs};
 use std::alloc::{AllocError, Global};
 use std::process::Abort;
-use stmt65::{assemble, read_line};
 
 /// A text, repeated.
 fn repeated(alloc: Global, part: &str, count: usize) -> Result<String, AllocError> {
@@ -18,72 +16,10 @@ fn repeated(alloc: Global, part: &str, count: usize) -> Result<String, AllocErro
     Ok(text)
 }
 
-#[test]
-fn line_of_100_000_bytes(rt: HostRuntime) {
-    let rows = [
-        ("\t.byte 1", ",1", 49_996),
-        ("name: .word name", "  ", 49_992),
-    ];
-    for (first, more, count) in rows {
-        let mut line = String::from_str(rt.alloc(), first).expect(&rt, "from_str");
-        line.push_str(&repeated(rt.alloc(), more, count).expect(&rt, "repeated"))
-            .expect(&rt, "push_str");
-        assert_equal(&rt, &line.len(), &100_000);
-        assert_that(
-            &rt,
-            read_line(rt.alloc(), line.as_bytes())
-                .expect(&rt, "read_line")
-                .is_some(),
-        );
-    }
-}
-
-/// 32,768 lines of 160 bytes, 5 MiB.
-#[test]
-fn assembly_of_5_mib(rt: HostRuntime) {
-    let mut line = String::from_str(rt.alloc(), "        lda     #$01").expect(&rt, "from_str");
-    line.push_str(&repeated(rt.alloc(), " ", 139).expect(&rt, "repeated"))
-        .expect(&rt, "push_str");
-    line.push_str("\n").expect(&rt, "push_str");
-    let text = repeated(rt.alloc(), &line, 32_768).expect(&rt, "repeated");
-    assert_equal(&rt, &text.len(), &(5 * 1_048_576));
-    let bytes = assemble(rt.alloc(), text.as_bytes(), 0).expect(&rt, "assemble");
-    assert_equal(&rt, &bytes.len(), &65_536);
-    assert_that(
-        &rt,
-        bytes
-            .as_slice()
-            .chunks(2)
-            .all(|pair| pair == [0xA9, 0x01].as_slice()),
-    );
-}
-
-#[test]
-fn assembly_of_1_000_lines_with_names(rt: HostRuntime) {
-    let mut text = String::new(rt.alloc());
-    for number in 0..1_000u16 {
-        text.push_str(&format!(in rt.alloc(); "name_{number}: .word name_{number}\n").expect(
-            &rt, "format",
-        )).expect(&rt, "push_str");
-    }
-    let bytes = assemble(rt.alloc(), text.as_bytes(), 0x1000).expect(&rt, "assemble");
-    assert_equal(&rt, &bytes.len(), &2_000);
-    let mut address = 0x1000u16;
-    for word in bytes.as_slice().chunks(2) {
-        assert_equal(&rt, &word, &address.to_le_bytes().as_slice());
-        address = address.saturating_add(2);
-    }
-}
-
-/// The same for a whole run, whose listing is that of the image without the information file.
+/// The run with this information file lists the image as without one.
 fn lists_as_code(rt: &impl Abort, alloc: Global, info: &str) -> bool {
     let ran = listed(rt, alloc, None, info.as_bytes(), THREE);
     ran.result == Ok(Status::Done) && ran.listing.as_slice() == THREE_LISTING
-}
-
-/// What the information file says, without options.
-fn info_of(rt: &impl Abort, alloc: Global, text: &str) -> Info {
-    read_info(alloc, &Options::<Global>::none(), text.as_bytes()).expect(rt, "read_info")
 }
 
 #[test]
@@ -91,8 +27,6 @@ fn information_file_of_1_000_groups(rt: HostRuntime) {
     let mut info = repeated(rt.alloc(), "GLOBAL { };\n", 999).expect(&rt, "repeated");
     info.push_str("GLOBAL { STARTADDR $FFFD; };\n")
         .expect(&rt, "push_str");
-    let read = info_of(&rt, rt.alloc(), &info);
-    assert_equal(&rt, &read.settings().start, &Some(0xFFFD));
     assert_that(&rt, lists_as_code(&rt, rt.alloc(), &info));
 }
 
@@ -105,8 +39,6 @@ fn information_file_of_1_000_ranges(rt: HostRuntime) {
         ).expect(&rt, "format"))
             .expect(&rt, "push_str");
     }
-    let read = info_of(&rt, rt.alloc(), &info);
-    assert_equal(&rt, &read.ranges().len(), &1_000);
     assert_that(&rt, lists_as_code(&rt, rt.alloc(), &info));
 }
 
@@ -119,13 +51,6 @@ fn all_attributes_of_global_in_one_group(rt: HostRuntime) {
     )
     .expect(&rt, "format");
     let options = Options::<Global>::none();
-    let read = read_info(rt.alloc(), &options, info.as_bytes()).expect(&rt, "read_info");
-    assert_equal(&rt, &read.settings().input.as_deref(), &Some(name.as_str()));
-    assert_equal(
-        &rt,
-        &read.settings().output.as_deref(),
-        &Some(name.as_str()),
-    );
     let ran = run_with(rt.alloc(), rt.alloc(), &options, info.as_bytes(), THREE);
     assert_equal(&rt, &ran.result, &Ok(Status::Done));
     let body = b"        ora     ($60,x)\n".as_slice();
@@ -188,14 +113,6 @@ fn run_with_files(rt: HostRuntime) {
         File {
             name: "b.inc",
             bytes: large.as_slice(),
-        },
-        File {
-            name: "",
-            bytes: b"",
-        },
-        File {
-            name: "a.inc",
-            bytes: b"@",
         },
     ];
     let options = named(&rt, rt.alloc(), None);

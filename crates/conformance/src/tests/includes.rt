@@ -283,16 +283,18 @@ fn system_calls_by_name(rt: HostRuntime) {
     assert_equal(&rt, &names.includes[0].as_str(), &"k.inc");
 }
 
+/// Whether there is an input name, and the message.
+const UNREAD: &[(bool, &str)] = &[
+    (true, "da65: cannot read include k.inc\n"),
+    (false, "da65: no input file\n"),
+];
+
 /// A run that is refused for an include file reads nothing, and one without an input name looks at none.
 #[test]
 fn refused_before_reading(rt: HostRuntime) {
-    let table = [
-        (true, "da65: cannot read include k.inc\n"),
-        (false, "da65: no input file\n"),
-    ];
-    for (is_named, message) in table {
+    for (is_named, message) in UNREAD {
         let mut options = named(&rt, rt.alloc(), None);
-        if !is_named {
+        if !*is_named {
             options.input = None;
         }
         let mut listing = Vec::new(rt.alloc());

@@ -254,19 +254,20 @@ fn the_command_line_wins_and_help_plays_no_part(rt: HostRuntime) {
     assert_equal(&rt, &image.as_slice(), &[0x4C, 0x00, 0x20].as_slice());
 }
 
-/// How many bytes of an input without end are read.
+/// Information files, how many bytes of an input without end are read, and whether there is a listing.
+const READ: &[(&str, usize, bool)] = &[
+    ("", 65_537, false),
+    ("GLOBAL { INPUTOFFS 5; }", 65_542, false),
+    ("GLOBAL { INPUTSIZE 3; }", 3, true),
+    ("GLOBAL { INPUTOFFS 10000; INPUTSIZE 3; }", 10_003, true),
+    ("GLOBAL { INPUTSIZE $10000; }", 65_536, true),
+    ("GLOBAL { INPUTOFFS 5; INPUTOFFS 5; }", 0, false),
+    ("@", 0, false),
+];
+
 #[test]
 fn no_more_is_read_than_asked_for(rt: HostRuntime) {
-    let table = [
-        ("", 65_537, false),
-        ("GLOBAL { INPUTOFFS 5; }", 65_542, false),
-        ("GLOBAL { INPUTSIZE 3; }", 3, true),
-        ("GLOBAL { INPUTOFFS 10000; INPUTSIZE 3; }", 10_003, true),
-        ("GLOBAL { INPUTSIZE $10000; }", 65_536, true),
-        ("GLOBAL { INPUTOFFS 5; INPUTOFFS 5; }", 0, false),
-        ("@", 0, false),
-    ];
-    for (info, given, done) in table {
+    for (info, given, done) in READ {
         let mut listing = Vec::new(rt.alloc());
         let mut messages = Vec::new(rt.alloc());
         let mut reader = Endless { given: 0 };
@@ -278,24 +279,26 @@ fn no_more_is_read_than_asked_for(rt: HostRuntime) {
             &mut listing,
             &mut messages,
         );
-        let status = if done { Status::Done } else { Status::Refused };
-        assert_equal_at(&rt, &result, &Ok(status), &info);
-        assert_equal_at(&rt, &reader.given, &given, &info);
-        assert_equal_at(&rt, &listing.is_empty(), &!done, &info);
-        assert_equal_at(&rt, &messages.is_empty(), &done, &info);
+        let status = if *done { Status::Done } else { Status::Refused };
+        assert_equal_at(&rt, &result, &Ok(status), info);
+        assert_equal_at(&rt, &reader.given, given, info);
+        assert_equal_at(&rt, &listing.is_empty(), &!*done, info);
+        assert_equal_at(&rt, &messages.is_empty(), done, info);
     }
 }
 
+/// Information files, and what a run with ample memory returns.
+const TEXTS: &[(&str, Status)] = &[
+    ("GLOBAL { INPUTNAME \"a.bin\"; INPUTSIZE 3; }", Status::Done),
+    (
+        "GLOBAL { INPUTNAME \"a.bin\"; INPUTSIZE 3; } @",
+        Status::Refused,
+    ),
+];
+
 #[test]
 fn each_allocation_refused_in_turn(rt: HostRuntime) {
-    let texts = [
-        ("GLOBAL { INPUTNAME \"a.bin\"; INPUTSIZE 3; }", Status::Done),
-        (
-            "GLOBAL { INPUTNAME \"a.bin\"; INPUTSIZE 3; } @",
-            Status::Refused,
-        ),
-    ];
-    for (info, status) in texts {
+    for (info, status) in TEXTS {
         let mut refusals = Refusals::none();
         for granted in 0..MANY {
             let heap = Refusing::after(rt.alloc(), granted);
@@ -305,8 +308,8 @@ fn each_allocation_refused_in_turn(rt: HostRuntime) {
             if failed {
                 assert_that(&rt, ran.listing.is_empty() && ran.messages.is_empty());
             } else {
-                assert_equal_at(&rt, &ran.result, &Ok(status), &granted);
-                assert_equal(&rt, &ran.messages.is_empty(), &(status == Status::Done));
+                assert_equal_at(&rt, &ran.result, &Ok(*status), &granted);
+                assert_equal(&rt, &ran.messages.is_empty(), &(*status == Status::Done));
             }
         }
         refusals.at_least(&rt, 1, MANY);

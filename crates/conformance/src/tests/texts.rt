@@ -25,29 +25,33 @@ fn help_and_version(rt: HostRuntime) {
     assert_that(&rt, version_text() == "da65 profile 1\n");
 }
 
+/// The texts of the faults of command lines.
+const USAGE_FAULTS: &[(UsageFault, &str)] = &[
+    (UsageFault::Words, "bad arguments"),
+    (UsageFault::BadNumber, "bad number"),
+    (UsageFault::OutOfRange, "argument out of range"),
+    (UsageFault::Memory, "out of memory"),
+];
+
 #[test]
 fn faults_of_command_lines(rt: HostRuntime) {
-    let texts = [
-        (UsageFault::Words, "bad arguments"),
-        (UsageFault::BadNumber, "bad number"),
-        (UsageFault::OutOfRange, "argument out of range"),
-        (UsageFault::Memory, "out of memory"),
-    ];
-    for (fault, text) in texts {
+    for (fault, text) in USAGE_FAULTS {
         let found = format!(in rt.alloc(); "{fault}").expect(&rt, "format");
-        assert_that_at(&rt, found.as_str() == text, &text);
+        assert_that_at(&rt, found.as_str() == *text, text);
     }
 }
 
+/// The texts of the faults of runs.
+const RUN_FAULTS: &[(RunFault, &str)] = &[
+    (RunFault::Memory, "out of memory"),
+    (RunFault::Write, "cannot write the listing"),
+    (RunFault::Messages, "cannot write the messages"),
+];
+
 #[test]
 fn faults_of_runs(rt: HostRuntime) {
-    let texts = [
-        (RunFault::Memory, "out of memory"),
-        (RunFault::Write, "cannot write the listing"),
-        (RunFault::Messages, "cannot write the messages"),
-    ];
-    for (fault, text) in texts {
+    for (fault, text) in RUN_FAULTS {
         let found = format!(in rt.alloc(); "{fault}").expect(&rt, "format");
-        assert_that_at(&rt, found.as_str() == text, &text);
+        assert_that_at(&rt, found.as_str() == *text, text);
     }
 }
