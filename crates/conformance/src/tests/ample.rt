@@ -1,9 +1,10 @@
 // Calls with ample memory and large arguments. No contract forbids a false answer that memory ran out, so each of
 // these must succeed.
-use crate::tests::asserts::{assert_equal, assert_equal_at, assert_that};
+use crate::tests::asserts::{assert_equal, assert_equal_at};
 use crate::tests::command_lines::options_on;
-use crate::tests::runs::{HEADER, THREE, THREE_LISTING, listed, named, run_including, run_with};
-use da65::{File, Options, Status, UsageFault, needs};
+use crate::tests::needed_files::needed;
+use crate::tests::runs::{NAMED, THREE, THREE_LINES, assert_lists, gives};
+use da65::{File, UsageFault};
 use std::alloc::{AllocError, Global};
 use std::process::Abort;
 
@@ -17,9 +18,9 @@ fn repeated(alloc: Global, part: &str, count: usize) -> Result<String, AllocErro
 }
 
 /// The run with this information file lists the image as without one.
-fn lists_as_code(rt: &impl Abort, alloc: Global, info: &str) -> bool {
-    let ran = listed(rt, alloc, None, info.as_bytes(), THREE);
-    ran.result == Ok(Status::Done) && ran.listing.as_slice() == THREE_LISTING
+fn lists_as_code(rt: &impl Abort, alloc: Global, info: &str) {
+    let found = gives(rt, alloc, NAMED, info, &[], THREE);
+    assert_lists(rt, alloc, &found, THREE_LINES, 0xFFFD, THREE);
 }
 
 #[test]
@@ -27,19 +28,22 @@ fn information_file_of_1_000_groups(rt: HostRuntime) {
     let mut info = repeated(rt.alloc(), "GLOBAL { };\n", 999).expect(&rt, "repeated");
     info.push_str("GLOBAL { STARTADDR $FFFD; };\n")
         .expect(&rt, "push_str");
-    assert_that(&rt, lists_as_code(&rt, rt.alloc(), &info));
+    lists_as_code(&rt, rt.alloc(), &info);
+}
+
+/// 1,000 groups RANGE of one address each.
+fn thousand_ranges(alloc: Global) -> Result<String, AllocError> {
+    let mut info = String::new(alloc);
+    for number in 0..1_000u16 {
+        write!(info, "RANGE {{ START {number}; SIZE 1; TYPE CODE; }};\n")?;
+    }
+    Ok(info)
 }
 
 #[test]
 fn information_file_of_1_000_ranges(rt: HostRuntime) {
-    let mut info = String::new(rt.alloc());
-    for number in 0..1_000u16 {
-        info.push_str(&format!(in rt.alloc();
-            "RANGE {{ START {number}; SIZE 1; TYPE CODE; }};\n"
-        ).expect(&rt, "format"))
-            .expect(&rt, "push_str");
-    }
-    assert_that(&rt, lists_as_code(&rt, rt.alloc(), &info));
+    let info = thousand_ranges(rt.alloc()).expect(&rt, "thousand_ranges");
+    lists_as_code(&rt, rt.alloc(), &info);
 }
 
 #[test]
@@ -50,15 +54,9 @@ fn all_attributes_of_global_in_one_group(rt: HostRuntime) {
         CPU \"6502\"; PAGELENGTH 0; }};"
     )
     .expect(&rt, "format");
-    let options = Options::<Global>::none();
-    let ran = run_with(rt.alloc(), rt.alloc(), &options, info.as_bytes(), THREE);
-    assert_equal(&rt, &ran.result, &Ok(Status::Done));
-    let body = b"        ora     ($60,x)\n".as_slice();
-    assert_equal(
-        &rt,
-        &ran.listing.as_slice().strip_prefix(HEADER),
-        &Some(body),
-    );
+    let found = gives(&rt, rt.alloc(), &[], &info, &[], THREE);
+    let lines = "        ora     ($60,x)\n";
+    assert_lists(&rt, rt.alloc(), &found, lines, 0x1000, &[0x01, 0x60]);
 }
 
 #[test]
@@ -70,35 +68,24 @@ fn command_line_of_100_words(rt: HostRuntime) {
     }
 }
 
+/// The words of a command line with these names.
+fn words_with<'a>(info: &'a str, output: &'a str, input: &'a str) -> [&'a str; 9] {
+    [
+        "-i", info, "-o", output, "-S", "$FFFD", "--cpu", "6502", input,
+    ]
+}
+
 #[test]
 fn command_line_with_names_of_4_000_bytes(rt: HostRuntime) {
     let info = repeated(rt.alloc(), "i", 4_000).expect(&rt, "repeated");
     let output = repeated(rt.alloc(), "o", 4_000).expect(&rt, "repeated");
     let input = repeated(rt.alloc(), "n", 4_000).expect(&rt, "repeated");
-    let options = options_on(
-        &rt,
-        rt.alloc(),
-        &[
-            "-i",
-            info.as_str(),
-            "-o",
-            output.as_str(),
-            "-S",
-            "$FFFD",
-            "--cpu",
-            "6502",
-            input.as_str(),
-        ],
-    )
-    .expect(&rt, "options_on");
-    assert_equal(&rt, &options.info.as_deref(), &Some(info.as_str()));
-    let names = needs(rt.alloc(), &options, &[]).expect(&rt, "needs");
-    assert_equal(&rt, &names.output.as_deref(), &Some(output.as_str()));
-    assert_equal(&rt, &names.input.as_deref(), &Some(input.as_str()));
-    assert_that(&rt, names.includes.is_empty());
-    let ran = run_with(rt.alloc(), rt.alloc(), &options, &[], THREE);
-    assert_equal(&rt, &ran.result, &Ok(Status::Done));
-    assert_equal(&rt, &ran.listing.as_slice(), &THREE_LISTING);
+    let words = words_with(&info, &output, &input);
+    let names = needed(&rt, rt.alloc(), &words, "");
+    let want = format!(in rt.alloc(); " input {input} output {output}").expect(&rt, "format");
+    assert_equal(&rt, &names.as_str(), &want.as_str());
+    let found = gives(&rt, rt.alloc(), &words, "", &[], THREE);
+    assert_lists(&rt, rt.alloc(), &found, THREE_LINES, 0xFFFD, THREE);
 }
 
 /// Files that nothing names change nothing.
@@ -115,9 +102,6 @@ fn run_with_files(rt: HostRuntime) {
             bytes: large.as_slice(),
         },
     ];
-    let options = named(&rt, rt.alloc(), None);
-    let ran = run_including(rt.alloc(), rt.alloc(), &options, &[], &files, THREE);
-    assert_equal(&rt, &ran.result, &Ok(Status::Done));
-    assert_equal(&rt, &ran.listing.as_slice(), &THREE_LISTING);
-    assert_that(&rt, ran.messages.is_empty());
+    let found = gives(&rt, rt.alloc(), NAMED, "", &files, THREE);
+    assert_lists(&rt, rt.alloc(), &found, THREE_LINES, 0xFFFD, THREE);
 }

@@ -1,39 +1,8 @@
 // Listings that are assembled back to their images.
-use crate::tests::asserts::{assert_equal, assert_equal_at, assert_that};
-use crate::tests::ranges::{RANGED, START, run_ranged};
-use crate::tests::rows::BODIES;
-use crate::tests::runs::{THREE, assert_assembles, listed};
-use da65::Status;
+use crate::tests::asserts::assert_that_at;
+use crate::tests::runs::{assert_assembles, assert_back, gives_from};
 use std::alloc::Global;
 use std::process::Abort;
-
-/// Lists the image and assembles the listing from the image's start.
-fn there_and_back(rt: &impl Abort, alloc: Global, start: u16, image: &[u8]) {
-    let ran = listed(rt, alloc, Some(start), b"", image);
-    assert_equal(rt, &ran.result, &Ok(Status::Done));
-    assert_assembles(rt, alloc, &ran.listing, start, image, "its start");
-}
-
-#[test]
-fn worked_rows(rt: HostRuntime) {
-    there_and_back(&rt, rt.alloc(), 0xFFFD, THREE);
-    for row in BODIES {
-        there_and_back(&rt, rt.alloc(), row.start, row.image);
-    }
-    let zeros = vec![in rt.alloc(); 0u8; 65_536].expect(&rt, "vec");
-    there_and_back(&rt, rt.alloc(), 0, &zeros)
-}
-
-#[test]
-fn rows_with_ranges(rt: HostRuntime) {
-    for row in RANGED {
-        if !row.skips {
-            let ran = run_ranged(&rt, rt.alloc(), row.info, row.image);
-            assert_equal_at(&rt, &ran.result, &Ok(Status::Done), &row.info);
-            assert_assembles(&rt, rt.alloc(), &ran.listing, START, row.image, row.info);
-        }
-    }
-}
 
 /// 768 bytes of each of 64 values from the first one on, one value after the other.
 pub fn values_from(rt: &impl Abort, alloc: Global, first: u8) -> Vec<u8> {
@@ -48,7 +17,7 @@ pub fn values_from(rt: &impl Abort, alloc: Global, first: u8) -> Vec<u8> {
 }
 
 fn byte_values(rt: &impl Abort, alloc: Global, first: u8) {
-    there_and_back(rt, alloc, 0x1000, &values_from(rt, alloc, first));
+    assert_back(rt, alloc, 0x1000, b"", &values_from(rt, alloc, first));
 }
 
 #[test]
@@ -86,7 +55,8 @@ pub fn mixed(rt: &impl Abort, alloc: Global, seed: u64, count: usize) -> Vec<u8>
 
 #[test]
 fn mixed_bytes(rt: HostRuntime) {
-    there_and_back(&rt, rt.alloc(), 0, &mixed(&rt, rt.alloc(), 1, 65_536))
+    let image = mixed(&rt, rt.alloc(), 1, 65_536);
+    assert_back(&rt, rt.alloc(), 0, b"", &image);
 }
 
 /// As many mixed bytes as there are addresses, all of this type.
@@ -95,10 +65,9 @@ fn mixed_bytes_as(rt: &impl Abort, alloc: Global, role: &str) {
     let info = format!(in alloc; "RANGE {{ START 0; END $FFFF; TYPE {role}; }}").expect(
         rt, "format",
     );
-    let ran = listed(rt, alloc, Some(0), info.as_bytes(), &image);
-    assert_equal(rt, &ran.result, &Ok(Status::Done));
-    assert_that(rt, ran.messages.is_empty());
-    assert_assembles(rt, alloc, &ran.listing, 0, &image, role);
+    let found = gives_from(rt, alloc, 0, &info, &image);
+    assert_that_at(rt, found.starts_with("Ok(Done)\n; da65 listing\n"), &role);
+    assert_assembles(rt, alloc, &found, 0, &image);
 }
 
 #[test]

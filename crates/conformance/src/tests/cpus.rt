@@ -2,63 +2,42 @@
 use crate::tests::assembled::{mixed, values_from};
 use crate::tests::asserts::{assert_equal_at, assert_that_at};
 use crate::tests::command_lines::options_on;
-use crate::tests::runs::{Ran, run_with};
-use da65::{Options, Status, UsageFault};
+use crate::tests::runs::{assert_assembles, gives};
+use da65::UsageFault;
 use std::alloc::Global;
 use std::process::Abort;
-use stmt65::assemble;
 
 const CPUS: [&str; 3] = ["6502", "65SC02", "65C02"];
 
-/// The options of a command line with this start and this CPU.
-fn options_for(
-    rt: &impl Abort,
-    alloc: Global,
-    start: u16,
-    cpu: &str,
-) -> Result<Options, UsageFault> {
-    let start = format!(in alloc; "{start}").expect(rt, "format");
-    options_on(
-        rt,
-        alloc,
-        &["--cpu", cpu, "-S", start.as_str(), "image.bin"],
-    )
-}
-
-/// Lists the image for the CPU, and assembles the listing from the image's start.
-fn there_and_back(
+/// What a run for a CPU gives over an image from an address on. The listing assembles to the image.
+fn gives_for(
     rt: &impl Abort,
     alloc: Global,
     cpu: &str,
     start: u16,
     info: &str,
     image: &[u8],
-) -> Ran {
-    let options = options_for(rt, alloc, start, cpu).expect(rt, "options");
-    let ran = run_with(alloc, alloc, &options, info.as_bytes(), image);
-    assert_equal_at(
-        rt,
-        &ran.result,
-        &Ok(Status::Done),
-        &format_args!("{cpu} {info}"),
-    );
-    assert_that_at(rt, ran.messages.is_empty(), &format_args!("{cpu} {info}"));
-    let bytes = assemble(alloc, &ran.listing, start).expect(rt, "assemble");
-    assert_that_at(
-        rt,
-        bytes.as_slice() == image,
-        &format_args!("{cpu} {info} from {start:04x}"),
-    );
-    ran
+) -> String {
+    let from = format!(in alloc; "{start}").expect(rt, "format");
+    let words = ["--cpu", cpu, "-S", from.as_str(), "image.bin"];
+    let found = gives(rt, alloc, &words, info, &[], image);
+    assert_assembles(rt, alloc, &found, start, image);
+    found
 }
 
-/// A CPU as the command line names it, an image from a start on, an information file, and the lines after the header.
+/// The run lists without a message.
+fn assert_back(rt: &impl Abort, alloc: Global, cpu: &str, start: u16, info: &str, image: &[u8]) {
+    let found = gives_for(rt, alloc, cpu, start, info, image);
+    assert_that_at(rt, found.starts_with("Ok(Done)\n; da65 listing\n"), &cpu);
+}
+
+/// A CPU as the command line names it, an image from a start on, an information file, and its lines after the header.
 struct Listed {
     cpu: &'static str,
     start: u16,
     image: &'static [u8],
     info: &'static str,
-    body: &'static str,
+    lines: &'static str,
 }
 
 const LISTED: &[Listed] = &[
@@ -68,35 +47,35 @@ const LISTED: &[Listed] = &[
         start: 0x1000,
         image: &[0x7C, 0x00, 0x20],
         info: "",
-        body: "        jmp     ($2000,x)\n",
+        lines: "        jmp     ($2000,x)\n",
     },
     Listed {
         cpu: "65C02",
         start: 0x1000,
         image: &[0xB2, 0x10],
         info: "",
-        body: "        lda     ($10)\n",
+        lines: "        lda     ($10)\n",
     },
     Listed {
         cpu: "65C02",
         start: 0x1000,
         image: &[0x1A],
         info: "",
-        body: "        inc     a\n",
+        lines: "        inc     a\n",
     },
     Listed {
         cpu: "65C02",
         start: 0x1000,
         image: &[0x89, 0x01],
         info: "",
-        body: "        bit     #$01\n",
+        lines: "        bit     #$01\n",
     },
     Listed {
         cpu: "65sc02",
         start: 0x1000,
         image: &[0x80, 0xFE],
         info: "",
-        body: "L1000:  bra     L1000\n",
+        lines: "L1000:  bra     L1000\n",
     },
     // a jump through a table does not lead to it: its operand is a target in the image alone
     Listed {
@@ -104,7 +83,7 @@ const LISTED: &[Listed] = &[
         start: 0x1000,
         image: &[0x7C, 0x03, 0x10, 0x60],
         info: "",
-        body: "        jmp     (L1003,x)\nL1003:  rts\n",
+        lines: "        jmp     (L1003,x)\nL1003:  rts\n",
     },
     // forced absolute
     Listed {
@@ -112,7 +91,7 @@ const LISTED: &[Listed] = &[
         start: 0x1000,
         image: &[0x9C, 0x12, 0x00, 0x3C, 0x12, 0x00, 0xB9, 0x12, 0x00],
         info: "",
-        body: "        stz     a:$0012\n        bit     a:$0012,x\n        lda     $0012,y\n",
+        lines: "        stz     a:$0012\n        bit     a:$0012,x\n        lda     $0012,y\n",
     },
     // a bit instruction by CPU
     Listed {
@@ -120,42 +99,42 @@ const LISTED: &[Listed] = &[
         start: 0x1000,
         image: &[0x0F, 0x12, 0xFD],
         info: "",
-        body: "L1000:  bbr0    $12,L1000\n",
+        lines: "L1000:  bbr0    $12,L1000\n",
     },
     Listed {
         cpu: "6502",
         start: 0x1000,
         image: &[0x0F, 0x12, 0xFD],
         info: "",
-        body: "        .byte   $0F\n        .byte   $12\n        .byte   $FD\n",
+        lines: "        .byte   $0F\n        .byte   $12\n        .byte   $FD\n",
     },
     Listed {
         cpu: "65C02",
         start: 0x1000,
         image: &[0x07, 0x12, 0xCB],
         info: "",
-        body: "        rmb0    $12\n        .byte   $CB\n",
+        lines: "        rmb0    $12\n        .byte   $CB\n",
     },
     Listed {
         cpu: "65SC02",
         start: 0x1000,
         image: &[0x07, 0x12, 0x34],
         info: "",
-        body: "        .byte   $07\n        ora     ($34)\n",
+        lines: "        .byte   $07\n        ora     ($34)\n",
     },
     Listed {
         cpu: "65C02",
         start: 0x1000,
         image: &[0x07, 0x12, 0x34],
         info: "",
-        body: "        rmb0    $12\n        .byte   $34\n",
+        lines: "        rmb0    $12\n        .byte   $34\n",
     },
     Listed {
         cpu: "6502",
         start: 0x1000,
         image: &[0x07, 0x12, 0x34],
         info: "",
-        body: "        .byte   $07\n        .byte   $12\n        .byte   $34\n",
+        lines: "        .byte   $07\n        .byte   $12\n        .byte   $34\n",
     },
     // a branch on a bit to outside the address space, and one that stays inside
     Listed {
@@ -163,14 +142,14 @@ const LISTED: &[Listed] = &[
         start: 0xFFFD,
         image: &[0x0F, 0x12, 0x7F],
         info: "",
-        body: "        .byte   $0F,$12,$7F\n",
+        lines: "        .byte   $0F,$12,$7F\n",
     },
     Listed {
         cpu: "65C02",
         start: 0xFFFD,
         image: &[0x0F, 0x12, 0x80],
         info: "",
-        body: "LFF80           := $FF80\n\n        bbr0    $12,LFF80\n",
+        lines: "LFF80           := $FF80\n\n        bbr0    $12,LFF80\n",
     },
     // both operands by name
     Listed {
@@ -178,7 +157,7 @@ const LISTED: &[Listed] = &[
         start: 0x1000,
         image: &[0x0F, 0x12, 0xFD],
         info: "LABEL { ADDR $12; NAME \"flag\"; };",
-        body: "flag            := $0012\n\nL1000:  bbr0    flag,L1000\n",
+        lines: "flag            := $0012\n\nL1000:  bbr0    flag,L1000\n",
     },
     // the CPU of the command line wins
     Listed {
@@ -186,34 +165,36 @@ const LISTED: &[Listed] = &[
         start: 0x1000,
         image: &[0x1F, 0x13, 0x00, 0xEA],
         info: "GLOBAL { CPU \"6502\"; }; LABEL { ADDR $10; NAME \"bits\"; SIZE 4; }; LABEL { ADDR $1003; NAME \"next\"; };",
-        body: "bits            := $0010\n\n        bbr1    bits+3,next\nnext:   nop\n",
+        lines: "bits            := $0010\n\n        bbr1    bits+3,next\nnext:   nop\n",
     },
 ];
 
 #[test]
-fn bodies_by_cpu(rt: HostRuntime) {
+fn lines_by_cpu(rt: HostRuntime) {
     for row in LISTED {
-        let ran = there_and_back(&rt, rt.alloc(), row.cpu, row.start, row.info, row.image);
-        let name = row
+        let found = gives_for(&rt, rt.alloc(), row.cpu, row.start, row.info, row.image);
+        let cpu = row
             .cpu
             .as_bytes()
             .to_ascii_uppercase(rt.alloc())
             .expect(&rt, "to_ascii_uppercase");
-        let header = format!(in rt.alloc();
-            "; da65 listing\n\n        .setcpu \"{}\"\n\n{}",
-            str::from_utf8(&name).expect(&rt, "from_utf8"),
-            row.body
+        let want = format!(in rt.alloc();
+            "Ok(Done)\n; da65 listing\n\n        .setcpu \"{}\"\n\n{}",
+            str::from_utf8(&cpu).expect(&rt, "from_utf8"),
+            row.lines
         )
         .expect(&rt, "format");
-        assert_equal_at(&rt, &ran.listing.as_slice(), &header.as_bytes(), &row.cpu);
+        assert_equal_at(&rt, &found.as_str(), &want.as_str(), &row.cpu);
     }
 }
 
+const OTHERS: &[&str] = &["65CE02", "65C02 ", "6502X", "65816", ""];
+
 #[test]
 fn other_cpus_are_refused(rt: HostRuntime) {
-    for cpu in ["65CE02", "65C02 ", "6502X", "65816", ""] {
-        let refused = options_for(&rt, rt.alloc(), 0x1000, cpu);
-        assert_equal_at(&rt, &refused.err(), &Some(UsageFault::OutOfRange), &cpu);
+    for cpu in OTHERS {
+        let refused = options_on(&rt, rt.alloc(), &["--cpu", cpu, "image.bin"]).err();
+        assert_equal_at(&rt, &refused, &Some(UsageFault::OutOfRange), cpu);
     }
 }
 
@@ -221,7 +202,7 @@ fn other_cpus_are_refused(rt: HostRuntime) {
 fn byte_values(rt: &impl Abort, alloc: Global, first: u8) {
     let image = values_from(rt, alloc, first);
     for cpu in ["65SC02", "65C02"] {
-        there_and_back(rt, alloc, cpu, 0x1000, "", &image);
+        assert_back(rt, alloc, cpu, 0x1000, "", &image);
     }
 }
 
@@ -257,7 +238,7 @@ fn mixed_bytes_with_names(rt: HostRuntime) {
     for seed in 1..9u64 {
         let image = mixed(&rt, rt.alloc(), seed, 2_000);
         for cpu in CPUS {
-            there_and_back(&rt, rt.alloc(), cpu, 0x1000, NAMES_AND_RANGES, &image);
+            assert_back(&rt, rt.alloc(), cpu, 0x1000, NAMES_AND_RANGES, &image);
         }
     }
 }
@@ -265,11 +246,11 @@ fn mixed_bytes_with_names(rt: HostRuntime) {
 #[test]
 fn mixed_bytes_of_the_65sc02(rt: HostRuntime) {
     let image = mixed(&rt, rt.alloc(), 1, 65_536);
-    there_and_back(&rt, rt.alloc(), "65SC02", 0, "", &image);
+    assert_back(&rt, rt.alloc(), "65SC02", 0, "", &image);
 }
 
 #[test]
 fn mixed_bytes_of_the_65c02(rt: HostRuntime) {
     let image = mixed(&rt, rt.alloc(), 1, 65_536);
-    there_and_back(&rt, rt.alloc(), "65C02", 0, "", &image);
+    assert_back(&rt, rt.alloc(), "65C02", 0, "", &image);
 }

@@ -166,7 +166,12 @@ fn a_warning_that_fails_or_takes_none(rt: HostRuntime) {
             assert_equal_at(&rt, &result, &Err(RunFault::Messages), &room);
             assert_equal_at(&rt, &messages.later(), &0, &room);
             assert_equal_at(&rt, &listing.as_slice(), &SKIPPED_LISTING, &room);
-            assert_equal_at(&rt, &messages.bytes.as_slice(), &&WARNING[..room], &room);
+            assert_equal_at(
+                &rt,
+                &messages.bytes.as_slice(),
+                &&WARNING.as_bytes()[..room],
+                &room,
+            );
         }
     }
 }

@@ -4,55 +4,35 @@ use crate::tests::asserts::{assert_equal, assert_equal_at, assert_that, assert_t
 use crate::tests::devices::Tape;
 use crate::tests::refusals::{MANY, Refusals};
 use crate::tests::refused::run_as_its_parts;
-use crate::tests::runs::{HEADER, named, run_including};
+use crate::tests::runs::{
+    AT_1000, HEADER, assert_lists, assert_refused, gives, named, run_including,
+};
 use da65::{File, Options, RunFault, Status, Told, needs, run};
 use std::alloc::Global;
 use std::process::Abort;
-use stmt65::assemble;
 
 /// An information file that includes one file.
 const ONE: &str = "ASMINC { FILE \"k.inc\"; };";
 
 /// The image 4C 10 00 at $1000 where $0010 is named K.
-const NAMED: &[u8] = b"K               := $0010\n\n        jmp     K\n";
+const NAMED: &str = "K               := $0010\n\n        jmp     K\n";
 
 /// The same where it has its default name.
-const UNNAMED: &[u8] = b"L0010           := $0010\n\n        jmp     L0010\n";
+const UNNAMED: &str = "L0010           := $0010\n\n        jmp     L0010\n";
 
 const JUMP: &[u8] = &[0x4C, 0x10, 0x00];
 
 /// A jump to $0010 at $1000, listed with these files.
-fn jump(rt: &impl Abort, alloc: Global, info: &str, files: &[File<'_>], body: Result<&[u8], &str>) {
-    let options = named(rt, alloc, Some(0x1000));
-    let ran = run_including(alloc, alloc, &options, info.as_bytes(), files, JUMP);
-    match body {
-        Ok(body) => {
-            assert_equal_at(rt, &ran.result, &Ok(Status::Done), &info);
-            assert_equal_at(
-                rt,
-                &ran.listing.as_slice().strip_prefix(HEADER),
-                &Some(body),
-                &info,
-            );
-            assert_that_at(rt, ran.messages.is_empty(), &info);
-            assert_equal(
-                rt,
-                &assemble(alloc, &ran.listing, 0x1000)
-                    .expect(rt, "assemble")
-                    .as_slice(),
-                &JUMP,
-            );
-        }
-        Err(message) => {
-            assert_equal_at(rt, &ran.result, &Ok(Status::Refused), &info);
-            assert_that_at(rt, ran.listing.is_empty(), &info);
-            assert_equal_at(rt, &ran.messages.as_slice(), &message.as_bytes(), &info);
-        }
+fn jump(rt: &impl Abort, alloc: Global, info: &str, files: &[File<'_>], want: Result<&str, &str>) {
+    let found = gives(rt, alloc, AT_1000, info, files, JUMP);
+    match want {
+        Ok(lines) => assert_lists(rt, alloc, &found, lines, 0x1000, JUMP),
+        Err(message) => assert_refused(rt, alloc, &found, message),
     }
 }
 
 /// An information file, what `k.inc` has, and the lines after the header or the message.
-const ROWS: &[(&str, &str, Result<&[u8], &str>)] = &[
+const ROWS: &[(&str, &str, Result<&str, &str>)] = &[
     (ONE, "K = $10", Ok(NAMED)),
     (ONE, "", Ok(UNNAMED)),
     (ONE, "\n \t\n; K = $10\n", Ok(UNNAMED)),
@@ -66,7 +46,7 @@ const ROWS: &[(&str, &str, Result<&[u8], &str>)] = &[
     (
         "ASMINC { FILE \"k.inc\"; COMMENTSTART '1'; };",
         "K = 11\n",
-        Err("da65: include k.inc:1: bad include line\n"),
+        Err("include k.inc:1: bad include line"),
     ),
     // the first name of an address stays, and an address has one name
     (ONE, "K = $10\nJ = $10\n", Ok(NAMED)),
@@ -83,12 +63,12 @@ const ROWS: &[(&str, &str, Result<&[u8], &str>)] = &[
     (
         ONE,
         "K = 1\nK = 2\n",
-        Err("da65: include k.inc:2: name given twice\n"),
+        Err("include k.inc:2: name given twice"),
     ),
     (
         "LABEL { ADDR 3; NAME \"K\"; };\nASMINC { FILE \"k.inc\"; };",
         "K = $10\n",
-        Err("da65: include k.inc:1: name given twice\n"),
+        Err("include k.inc:1: name given twice"),
     ),
     // named by two groups is as named once
     (
@@ -96,32 +76,16 @@ const ROWS: &[(&str, &str, Result<&[u8], &str>)] = &[
         "K = $10\n",
         Ok(NAMED),
     ),
-    (
-        ONE,
-        "a = 1\n",
-        Err("da65: include k.inc:1: reserved name\n"),
-    ),
+    (ONE, "a = 1\n", Err("include k.inc:1: reserved name")),
     (
         ONE,
         "L0010 = $10\nLDA = 2\n",
-        Err("da65: include k.inc:2: reserved name\n"),
+        Err("include k.inc:2: reserved name"),
     ),
     (ONE, "L0010 = $10\n", Ok(UNNAMED)),
-    (
-        ONE,
-        "K = %102\n",
-        Err("da65: include k.inc:1: bad include line\n"),
-    ),
-    (
-        ONE,
-        "K = 65536\n",
-        Err("da65: include k.inc:1: bad include line\n"),
-    ),
-    (
-        ONE,
-        "K\n= 16\n",
-        Err("da65: include k.inc:1: bad include line\n"),
-    ),
+    (ONE, "K = %102\n", Err("include k.inc:1: bad include line")),
+    (ONE, "K = 65536\n", Err("include k.inc:1: bad include line")),
+    (ONE, "K\n= 16\n", Err("include k.inc:1: bad include line")),
     (
         "ASMINC { FILE \"k.inc\"; IGNOREUNKNOWN on; };",
         ".macro x\nK = 65536\nK = $10\na = 1\n",
@@ -130,7 +94,7 @@ const ROWS: &[(&str, &str, Result<&[u8], &str>)] = &[
     (
         "ASMINC { FILE \"no.inc\"; };",
         "K = $10\n",
-        Err("da65: cannot read include no.inc\n"),
+        Err("cannot read include no.inc"),
     ),
 ];
 
@@ -163,7 +127,7 @@ fn seventeen_include_files(rt: HostRuntime) {
         rt.alloc(),
         SEVENTEEN,
         &[file],
-        Err("da65: info:17: too large\n"),
+        Err("info:17: too large"),
     )
 }
 
@@ -192,34 +156,31 @@ const FILES: [File<'static>; 5] = [
 ];
 
 /// Groups over these files, and the lines after the header or the message.
-const ORDERS: &[(&str, Result<&[u8], &str>)] = &[
+const ORDERS: &[(&str, Result<&str, &str>)] = &[
     ("ASMINC { FILE \"k\"; };", Ok(NAMED)),
     (
         "ASMINC { FILE \"K\"; };",
-        Ok(b"I               := $0010\n\n        jmp     I\n"),
+        Ok("I               := $0010\n\n        jmp     I\n"),
     ),
     // the order of the groups, not of the files
     (
         "ASMINC { FILE \"k\"; }; ASMINC { FILE \"j\"; };",
-        Err("da65: include j:2: name given twice\n"),
+        Err("include j:2: name given twice"),
     ),
     (
         "ASMINC { FILE \"j\"; IGNOREUNKNOWN on; }; ASMINC { FILE \"k\"; };",
-        Ok(b"J               := $0010\nK               := $0011\n\n        jmp     J\n"),
+        Ok("J               := $0010\nK               := $0011\n\n        jmp     J\n"),
     ),
     // the first refusal counts
     (
         "ASMINC { FILE \"i\"; }; ASMINC { FILE \"other\"; };",
-        Err("da65: cannot read include i\n"),
+        Err("cannot read include i"),
     ),
     (
         "ASMINC { FILE \"other\"; }; ASMINC { FILE \"i\"; };",
-        Err("da65: include other:1: bad include line\n"),
+        Err("include other:1: bad include line"),
     ),
-    (
-        "ASMINC { FILE \"i\"; }; FOO",
-        Err("da65: info:1: unknown group\n"),
-    ),
+    ("ASMINC { FILE \"i\"; }; FOO", Err("info:1: unknown group")),
 ];
 
 #[test]
@@ -234,7 +195,7 @@ const CALL: &[u8] = &[0x20, 0xD2, 0xFF];
 
 const SYSTEM: &[u8] = b"CHROUT = $FFD2\nBSOUT := $FFD2 ; same\n.macro x\n";
 
-const CALLED: &[u8] = b"CHROUT          := $FFD2\n\n        jsr     CHROUT\n";
+const CALLED: &str = "CHROUT          := $FFD2\n\n        jsr     CHROUT\n";
 
 #[test]
 fn system_calls_by_name(rt: HostRuntime) {
@@ -242,45 +203,11 @@ fn system_calls_by_name(rt: HostRuntime) {
         name: "k.inc",
         bytes: SYSTEM,
     }];
-    let options = named(&rt, rt.alloc(), Some(0x1000));
-    let info = b"ASMINC { FILE \"k.inc\"; IGNOREUNKNOWN on; };";
-    let ran = run_including(rt.alloc(), rt.alloc(), &options, info, &files, CALL);
-    assert_equal(&rt, &ran.result, &Ok(Status::Done));
-    assert_equal(
-        &rt,
-        &ran.listing.as_slice().strip_prefix(HEADER),
-        &Some(CALLED),
-    );
-    assert_that(&rt, ran.messages.is_empty());
-    assert_equal(
-        &rt,
-        &assemble(rt.alloc(), &ran.listing, 0x1000)
-            .expect(&rt, "assemble")
-            .as_slice(),
-        &CALL,
-    );
-
-    let ran = run_including(
-        rt.alloc(),
-        rt.alloc(),
-        &options,
-        ONE.as_bytes(),
-        &files,
-        CALL,
-    );
-    assert_equal(&rt, &ran.result, &Ok(Status::Refused));
-    assert_that(&rt, ran.listing.is_empty());
-    assert_equal(
-        &rt,
-        &ran.messages.as_slice(),
-        &b"da65: include k.inc:3: bad include line\n".as_slice(),
-    );
-
-    let names = needs(rt.alloc(), &options, info).expect(&rt, "needs");
-    assert_equal(&rt, &names.input.as_deref(), &Some("image.bin"));
-    assert_equal(&rt, &names.output.as_deref(), &None);
-    assert_that(&rt, names.includes.len() == 1);
-    assert_equal(&rt, &names.includes[0].as_str(), &"k.inc");
+    let ignoring = "ASMINC { FILE \"k.inc\"; IGNOREUNKNOWN on; };";
+    let found = gives(&rt, rt.alloc(), AT_1000, ignoring, &files, CALL);
+    assert_lists(&rt, rt.alloc(), &found, CALLED, 0x1000, CALL);
+    let found = gives(&rt, rt.alloc(), AT_1000, ONE, &files, CALL);
+    assert_refused(&rt, rt.alloc(), &found, "include k.inc:3: bad include line");
 }
 
 /// Whether there is an input name, and the message.
@@ -336,7 +263,7 @@ fn size_of_an_include_file(rt: HostRuntime) {
             rt.alloc(),
             info,
             &[large],
-            Err("da65: include k.inc:1: too large\n"),
+            Err("include k.inc:1: too large"),
         );
     }
 }
@@ -349,15 +276,13 @@ fn message_of_the_longest_name(rt: HostRuntime) {
         name.push('n').expect(&rt, "push");
     }
     let info = format!(in rt.alloc(); "ASMINC {{ FILE \"{name}\"; }};").expect(&rt, "format");
-    let missing = format!(in rt.alloc(); "da65: cannot read include {name}\n").expect(
-        &rt, "format",
-    );
+    let missing = format!(in rt.alloc(); "cannot read include {name}").expect(&rt, "format");
     jump(&rt, rt.alloc(), info.as_str(), &[], Err(missing.as_str()));
     let bad = File {
         name: name.as_str(),
         bytes: b"\n@",
     };
-    let refused = format!(in rt.alloc(); "da65: include {name}:2: bad include line\n").expect(
+    let refused = format!(in rt.alloc(); "include {name}:2: bad include line").expect(
         &rt, "format",
     );
     jump(
@@ -391,8 +316,8 @@ fn run_with_includes_without_memory(rt: HostRuntime) {
             assert_equal(&rt, &ran.result, &Ok(Status::Done));
             assert_equal(
                 &rt,
-                &ran.listing.as_slice().strip_prefix(HEADER),
-                &Some(CALLED),
+                &ran.listing.as_slice().strip_prefix(HEADER.as_bytes()),
+                &Some(CALLED.as_bytes()),
             );
             assert_that(&rt, ran.messages.is_empty());
         }

@@ -3,7 +3,7 @@ use crate::heap::Refusing;
 use crate::tests::asserts::{assert_equal, assert_equal_at, assert_that, assert_that_at};
 use crate::tests::devices::Tape;
 use crate::tests::refusals::{MANY, Refusals};
-use crate::tests::runs::{THREE, THREE_LISTING, named, run_on, run_over};
+use crate::tests::runs::{THREE, THREE_LISTING, named, run_on, run_with};
 use da65::{RunFault, Status};
 use std::alloc::Global;
 use std::io::ErrorKind;
@@ -14,7 +14,7 @@ fn each_allocation_refused_in_turn(rt: HostRuntime) {
     let mut refusals = Refusals::none();
     for granted in 0..MANY {
         let heap = Refusing::after(rt.alloc(), granted);
-        let ran = run_over(rt.alloc(), &heap, &named(&rt, rt.alloc(), None), THREE);
+        let ran = run_with(rt.alloc(), &heap, &named(&rt, rt.alloc(), None), &[], THREE);
         let failed = ran.result == Err(RunFault::Memory);
         refusals.count(&rt, &heap, granted, failed);
         if failed {
@@ -37,7 +37,13 @@ fn each_allocation_of_a_large_image_refused_in_turn(rt: HostRuntime) {
     let mut refusals = Refusals::none();
     for granted in 0..FEW {
         let heap = Refusing::after(rt.alloc(), granted);
-        let ran = run_over(rt.alloc(), &heap, &named(&rt, rt.alloc(), None), &image);
+        let ran = run_with(
+            rt.alloc(),
+            &heap,
+            &named(&rt, rt.alloc(), None),
+            &[],
+            &image,
+        );
         let failed = ran.result == Err(RunFault::Memory);
         refusals.count(&rt, &heap, granted, failed);
         if failed {

@@ -149,10 +149,10 @@ fn run_with_ranges(rt: HostRuntime) {
             assert_equal(&rt, &ran.result, &Ok(Status::Done));
             assert_equal(
                 &rt,
-                &ran.listing.as_slice().strip_prefix(HEADER),
+                &ran.listing.as_slice().strip_prefix(HEADER.as_bytes()),
                 &Some(BODY),
             );
-            assert_equal(&rt, &ran.messages.as_slice(), &WARNING);
+            assert_equal(&rt, &ran.messages.as_slice(), &WARNING.as_bytes());
         }
     }
     refusals.at_least(&rt, 3, MANY);

@@ -1,5 +1,6 @@
 // Runs over memory, and over devices.
-use crate::tests::asserts::assert_that_at;
+use crate::tests::asserts::{assert_equal, assert_equal_at, assert_that_at};
+use crate::tests::command_lines::options_on;
 use da65::{File, Options, RunFault, Status, Told, run};
 use std::alloc::{Allocator, Global};
 use std::io::{Read, Write};
@@ -7,13 +8,85 @@ use std::process::Abort;
 use stmt65::assemble;
 
 /// What every listing of the 6502 begins with.
-pub const HEADER: &[u8] = b"; da65 listing\n\n        .setcpu \"6502\"\n\n";
+pub const HEADER: &str = "; da65 listing\n\n        .setcpu \"6502\"\n\n";
 
-/// Three bytes, and their listing from the last address on.
+/// Three bytes, their lines after the header, and their listing.
 pub const THREE: &[u8] = &[0xA9, 0x01, 0x60];
+
+pub const THREE_LINES: &str = "        lda     #$01\n        rts\n";
 
 pub const THREE_LISTING: &[u8] =
     b"; da65 listing\n\n        .setcpu \"6502\"\n\n        lda     #$01\n        rts\n";
+
+/// A command line with the input's name.
+pub const NAMED: &[&str] = &["image.bin"];
+
+/// The same with a start.
+pub const AT_1000: &[&str] = &["-S", "$1000", "image.bin"];
+
+/// What a run under a command line gives, as text: its result, its messages and its listing.
+pub fn gives(
+    rt: &impl Abort,
+    alloc: Global,
+    words: &[&str],
+    info: &str,
+    files: &[File<'_>],
+    input: &[u8],
+) -> String {
+    let options = options_on(rt, alloc, words).expect(rt, "options_on");
+    let ran = run_including(alloc, alloc, &options, info.as_bytes(), files, input);
+    let result = ran.result;
+    let messages = str::from_utf8(&ran.messages).unwrap_or("?");
+    let listing = str::from_utf8(&ran.listing).unwrap_or("?");
+    format!(in alloc; "{result:?}\n{messages}{listing}").expect(rt, "format")
+}
+
+/// The same for an image from an address on, without files.
+pub fn gives_from(rt: &impl Abort, alloc: Global, start: u16, info: &str, image: &[u8]) -> String {
+    let start = format!(in alloc; "{start}").expect(rt, "format");
+    let words = ["-S", start.as_str(), "image.bin"];
+    gives(rt, alloc, &words, info, &[], image)
+}
+
+/// The listing that a run gives assembles from this start to the image.
+pub fn assert_assembles(rt: &impl Abort, alloc: Global, found: &str, start: u16, image: &[u8]) {
+    let listing = match found.split_once("; da65 listing\n") {
+        Some((_, listing)) => listing,
+        None => "?",
+    };
+    let bytes = assemble(alloc, listing.as_bytes(), start).expect(rt, "assemble");
+    assert_that_at(rt, bytes.as_slice() == image, &listing);
+}
+
+/// This is what a run gives that lists, without a message: the header, and then these lines. They assemble from this start to the
+/// image.
+pub fn assert_lists(
+    rt: &impl Abort,
+    alloc: Global,
+    found: &str,
+    lines: &str,
+    start: u16,
+    image: &[u8],
+) {
+    let want = format!(in alloc; "Ok(Done)\n{HEADER}{lines}").expect(rt, "format");
+    assert_equal(rt, &found, &want.as_str());
+    assert_assembles(rt, alloc, found, start, image);
+}
+
+/// This is what a run gives that is refused with this message.
+pub fn assert_refused(rt: &impl Abort, alloc: Global, found: &str, message: &str) {
+    let want = format!(in alloc; "Ok(Refused)\nda65: {message}\n").expect(rt, "format");
+    assert_equal(rt, &found, &want.as_str());
+}
+
+/// The listing of an image from this start on, under an information file, assembles to the image.
+pub fn assert_back(rt: &impl Abort, alloc: Global, start: u16, info: &[u8], image: &[u8]) {
+    let options = named(rt, alloc, Some(start));
+    let ran = run_with(alloc, alloc, &options, info, image);
+    assert_equal_at(rt, &ran.result, &Ok(Status::Done), &info.escape_ascii());
+    let bytes = assemble(alloc, &ran.listing, start).expect(rt, "assemble");
+    assert_that_at(rt, bytes.as_slice() == image, &info.escape_ascii());
+}
 
 /// What a run returned, and what it wrote.
 #[derive(Debug, Drop)]
@@ -31,41 +104,7 @@ pub fn named(rt: &impl Abort, alloc: Global, start: Option<u16>) -> Options {
     options
 }
 
-/// A run over memory with this start address, if one is given, this information file and this image.
-pub fn listed(
-    rt: &impl Abort,
-    alloc: Global,
-    start: Option<u16>,
-    info: &[u8],
-    image: &[u8],
-) -> Ran {
-    run_with(alloc, alloc, &named(rt, alloc, start), info, image)
-}
-
-/// The listing assembles from this start to the image. `row` says where in a table.
-pub fn assert_assembles(
-    rt: &impl Abort,
-    alloc: Global,
-    listing: &[u8],
-    start: u16,
-    image: &[u8],
-    row: &str,
-) {
-    let bytes = assemble(alloc, listing, start).expect(rt, "assemble");
-    assert_that_at(rt, bytes.as_slice() == image, &row);
-}
-
-/// A run with these options over memory, without an information file, with ample memory but for `heap`.
-pub fn run_over<A: Allocator + Copy>(
-    alloc: Global,
-    heap: A,
-    options: &Options,
-    image: &[u8],
-) -> Ran {
-    run_with(alloc, heap, options, &[], image)
-}
-
-/// The same with an information file.
+/// A run with these options and an information file over memory, with ample memory but for `heap`.
 pub fn run_with<A: Allocator + Copy>(
     alloc: Global,
     heap: A,

@@ -1,36 +1,29 @@
 // Runs with options and an information file.
 use crate::heap::Refusing;
-use crate::tests::asserts::{assert_equal, assert_equal_at, assert_that, assert_that_at};
+use crate::tests::asserts::{assert_equal, assert_equal_at, assert_that};
 use crate::tests::devices::Endless;
 use crate::tests::refusals::{MANY, Refusals};
-use crate::tests::runs::{HEADER, THREE, THREE_LISTING, named, run_on, run_with};
+use crate::tests::runs::{
+    THREE, THREE_LINES, assert_lists, assert_refused, gives, named, run_on, run_with,
+};
 use da65::{Options, RunFault, Status};
-use std::alloc::{AllocError, Global};
-use stmt65::assemble;
 
-/// Options with these names.
-fn options(
-    alloc: Global,
-    input: Option<&str>,
-    output: Option<&str>,
-) -> Result<Options, AllocError> {
-    let mut options = Options::none();
-    if let Some(name) = input {
-        options.input = Some(String::from_str(alloc, name)?);
-    }
-    if let Some(name) = output {
-        options.output = Some(String::from_str(alloc, name)?);
-    }
-    Ok(options)
-}
+/// Command lines with the names of the input and the output, with one of them, and with neither.
+const BOTH: &[&str] = &["-o", "c.s", "a.bin"];
 
-/// An information file and an input; then the image's start and its bytes, and the lines after the header.
+const INPUT: &[&str] = &["a.bin"];
+
+const OUTPUT: &[&str] = &["-o", "c.s"];
+
+const NEITHER: &[&str] = &[];
+
+/// An information file and an input; then the image's start and its bytes, and its lines after the header.
 struct Listed {
     info: &'static str,
     input: &'static [u8],
     start: u16,
     image: &'static [u8],
-    body: &'static [u8],
+    lines: &'static str,
 }
 
 const LISTED: &[Listed] = &[
@@ -39,219 +32,155 @@ const LISTED: &[Listed] = &[
         input: &[0xD0, 0xFE],
         start: 0x1000,
         image: &[0xD0, 0xFE],
-        body: b"L1000:  bne     L1000\n",
+        lines: "L1000:  bne     L1000\n",
     },
     Listed {
         info: "GLOBAL { INPUTOFFS 1; INPUTSIZE 2; };",
         input: &[0x00, 0xA9, 0x01, 0x60],
         start: 0xFFFE,
         image: &[0xA9, 0x01],
-        body: b"        lda     #$01\n",
+        lines: "        lda     #$01\n",
     },
     Listed {
         info: "GLOBAL { INPUTOFFS 2; CPU \"6502\"; PAGELENGTH 0; }\nglobal { StartAddr 8; }",
         input: &[0x00, 0xA9, 0x01, 0x60],
         start: 8,
         image: &[0x01, 0x60],
-        body: b"        ora     ($60,x)\n",
+        lines: "        ora     ($60,x)\n",
     },
     Listed {
         info: "# the vectors\nGLOBAL { INPUTOFFS 0; INPUTSIZE $2; STARTADDR $FFFE; } // and no more",
         input: &[0xF0, 0x00, 0xEA],
         start: 0xFFFE,
         image: &[0xF0, 0x00],
-        body: b"        .byte   $F0,$00\n",
+        lines: "        .byte   $F0,$00\n",
     },
 ];
 
 #[test]
 fn information_files_that_are_accepted(rt: HostRuntime) {
     for row in LISTED {
-        let options = options(rt.alloc(), Some("a.bin"), Some("c.s")).expect(&rt, "options");
-        let info = row.info.as_bytes();
-        let ran = run_with(rt.alloc(), rt.alloc(), &options, info, row.input);
-        assert_equal_at(&rt, &ran.result, &Ok(Status::Done), &row.info);
-        assert_equal_at(
-            &rt,
-            &ran.listing.as_slice().strip_prefix(HEADER),
-            &Some(row.body),
-            &row.info,
-        );
-        assert_that(&rt, ran.messages.is_empty());
-        let image = assemble(rt.alloc(), &ran.listing, row.start).expect(&rt, "assemble");
-        assert_equal_at(&rt, &image.as_slice(), &row.image, &row.info);
+        let found = gives(&rt, rt.alloc(), BOTH, row.info, &[], row.input);
+        assert_lists(&rt, rt.alloc(), &found, row.lines, row.start, row.image);
     }
 }
 
-/// An information file, an input name and an output name on the command line, how many bytes the input
-/// has, and the message.
-type Refusal = (
-    &'static str,
-    Option<&'static str>,
-    Option<&'static str>,
-    usize,
-    &'static str,
-);
-
-const IN: Option<&str> = Some("a.bin");
-
-const OUT: Option<&str> = Some("c.s");
-
-const REFUSED: &[Refusal] = &[
-    ("GLOBAL { INPUTSIZE 4; };", IN, OUT, 3, "input is too short"),
+/// An information file, a command line, how many bytes the input has, and the message.
+const REFUSED: &[(&str, &[&str], usize, &str)] = &[
+    ("GLOBAL { INPUTSIZE 4; };", BOTH, 3, "input is too short"),
     (
         "GLOBAL { INPUTSIZE 3; INPUTOFFS 1; };",
-        IN,
-        OUT,
+        BOTH,
         3,
         "input is too short",
     ),
-    ("GLOBAL { INPUTSIZE 1; };", IN, OUT, 0, "input is too short"),
-    ("GLOBAL { INPUTOFFS 4; };", IN, OUT, 3, "input is empty"),
-    ("GLOBAL { INPUTOFFS 3; };", IN, OUT, 3, "input is empty"),
+    ("GLOBAL { INPUTSIZE 1; };", BOTH, 0, "input is too short"),
+    ("GLOBAL { INPUTOFFS 4; };", BOTH, 3, "input is empty"),
+    ("GLOBAL { INPUTOFFS 3; };", BOTH, 3, "input is empty"),
     (
         "GLOBAL { STARTADDR $FFFF; };",
-        IN,
-        OUT,
+        BOTH,
         2,
         "input is too large",
     ),
-    ("", IN, OUT, 65_537, "input is too large"),
-    ("GLOBAL @", IN, OUT, 3, "info:1: bad byte"),
-    (
-        "GLOBAL { STARTADDR $G; };",
-        IN,
-        OUT,
-        3,
-        "info:1: bad number",
-    ),
-    ("GLOBAL {\n", IN, OUT, 3, "info:2: something else expected"),
+    ("", BOTH, 65_537, "input is too large"),
+    ("GLOBAL @", BOTH, 3, "info:1: bad byte"),
+    ("GLOBAL { STARTADDR $G; };", BOTH, 3, "info:1: bad number"),
+    ("GLOBAL {\n", BOTH, 3, "info:2: something else expected"),
     (
         "GLOBAL { CPU 6502; };",
-        IN,
-        OUT,
+        BOTH,
         3,
         "info:1: something else expected",
     ),
-    ("FOO { };", IN, OUT, 3, "info:1: unknown group"),
-    (
-        "GLOBAL { FOO 1; };",
-        IN,
-        OUT,
-        3,
-        "info:1: unknown attribute",
-    ),
+    ("FOO { };", BOTH, 3, "info:1: unknown group"),
+    ("GLOBAL { FOO 1; };", BOTH, 3, "info:1: unknown attribute"),
     (
         "GLOBAL { STARTADDR 1; };\nGlobal { startaddr 2; };",
-        IN,
-        OUT,
+        BOTH,
         3,
         "info:2: attribute given twice",
     ),
     (
         "GLOBAL { STARTADDR 65536; };",
-        IN,
-        OUT,
+        BOTH,
         3,
         "info:1: value out of range",
     ),
     (
         "GLOBAL { PAGELENGTH 1; };",
-        IN,
-        OUT,
+        BOTH,
         3,
         "info:1: value out of range",
     ),
     (
         "GLOBAL { CPU \"6809\"; };",
-        IN,
-        OUT,
+        BOTH,
         3,
         "info:1: value out of range",
     ),
-    (
-        "GLOBAL { INPUTNAME \"\"; };",
-        None,
-        OUT,
-        3,
-        "info:1: bad name",
-    ),
+    ("GLOBAL { INPUTNAME \"\"; };", OUTPUT, 3, "info:1: bad name"),
     (
         "GLOBAL { OUTPUTNAME \"b.s\"; };",
-        IN,
-        OUT,
+        BOTH,
         3,
         "info:1: name given in both places",
     ),
     // input names in neither place, and in both
-    ("", None, None, 3, "no input file"),
+    ("", NEITHER, 3, "no input file"),
     (
         "GLOBAL { OUTPUTNAME \"b.s\"; };",
-        None,
-        None,
+        NEITHER,
         0,
         "no input file",
     ),
     (
         "GLOBAL { INPUTNAME \"b.bin\"; };",
-        IN,
-        None,
+        INPUT,
         3,
         "info:1: name given in both places",
     ),
     (
         "GLOBAL { INPUTNAME \"a.bin\"; };",
-        IN,
-        None,
+        INPUT,
         3,
         "info:1: name given in both places",
     ),
     // the information file is refused before the input name is missed, and before the input
     (
         "GLOBAL {\n\n\n\n\n\n\n\n\n@",
-        None,
-        None,
+        NEITHER,
         0,
         "info:10: bad byte",
     ),
     // the input name is missed before the input is looked at
-    ("GLOBAL { INPUTSIZE 9; };", None, None, 3, "no input file"),
+    ("GLOBAL { INPUTSIZE 9; };", NEITHER, 3, "no input file"),
 ];
 
 #[test]
 fn runs_that_are_refused(rt: HostRuntime) {
-    for (info, input, output, count, message) in REFUSED {
-        let options = options(rt.alloc(), *input, *output).expect(&rt, "options");
+    for (info, words, count, message) in REFUSED {
         let bytes = vec![in rt.alloc(); 0xEAu8; *count].expect(&rt, "vec");
-        let ran = run_with(rt.alloc(), rt.alloc(), &options, info.as_bytes(), &bytes);
-        assert_equal_at(&rt, &ran.result, &Ok(Status::Refused), &info);
-        assert_that_at(&rt, ran.listing.is_empty(), &info);
-        let line = format!(in rt.alloc(); "da65: {message}\n").expect(&rt, "format");
-        assert_equal_at(&rt, &ran.messages.as_slice(), &line.as_bytes(), &info);
+        let found = gives(&rt, rt.alloc(), words, info, &[], &bytes);
+        assert_refused(&rt, rt.alloc(), &found, message);
     }
 }
 
 #[test]
 fn names_in_the_information_file(rt: HostRuntime) {
-    let info = b"GLOBAL { INPUTNAME \"a.bin\"; OUTPUTNAME \"b.s\"; };";
-    let ran = run_with(rt.alloc(), rt.alloc(), &Options::none(), info, THREE);
-    assert_equal(&rt, &ran.result, &Ok(Status::Done));
-    assert_equal(&rt, &ran.listing.as_slice(), &THREE_LISTING);
-    assert_that(&rt, ran.messages.is_empty());
+    let info = "GLOBAL { INPUTNAME \"a.bin\"; OUTPUTNAME \"b.s\"; };";
+    let found = gives(&rt, rt.alloc(), NEITHER, info, &[], THREE);
+    assert_lists(&rt, rt.alloc(), &found, THREE_LINES, 0xFFFD, THREE);
 }
 
 #[test]
 fn the_command_line_wins_and_help_plays_no_part(rt: HostRuntime) {
-    let mut options = named(&rt, rt.alloc(), Some(0x2000));
-    options.help = true;
-    options.version = true;
-    let info = b"GLOBAL { STARTADDR $1000; }";
-    let ran = run_with(rt.alloc(), rt.alloc(), &options, info, &[0x4C, 0x00, 0x20]);
-    assert_equal(&rt, &ran.result, &Ok(Status::Done));
-    let body = ran.listing.as_slice().strip_prefix(HEADER);
-    assert_equal(&rt, &body, &Some(b"L2000:  jmp     L2000\n".as_slice()));
-    let image = assemble(rt.alloc(), &ran.listing, 0x2000).expect(&rt, "assemble");
-    assert_equal(&rt, &image.as_slice(), &[0x4C, 0x00, 0x20].as_slice());
+    let words = ["-h", "-V", "-S", "$2000", "image.bin"];
+    let info = "GLOBAL { STARTADDR $1000; }";
+    let image = b"\x4C\x00\x20";
+    let found = gives(&rt, rt.alloc(), &words, info, &[], image);
+    let lines = "L2000:  jmp     L2000\n";
+    assert_lists(&rt, rt.alloc(), &found, lines, 0x2000, image);
 }
 
 /// Information files, how many bytes of an input without end are read, and whether there is a listing.
