@@ -1,7 +1,8 @@
 // Worked rows, each with ample memory.
 use crate::tests::asserts::assert_that;
 use crate::tests::runs::{
-    HEADER, NAMED, THREE, THREE_LINES, assert_lists, assert_refused, gives, gives_from,
+    HEADER, NAMED, THREE, THREE_LINES, assert_assembles, assert_lists, assert_refused, gives,
+    gives_from,
 };
 
 #[test]
@@ -94,6 +95,7 @@ fn as_many_bytes_as_addresses(rt: HostRuntime) {
     assert_that(&rt, lines.len() == 65_536 * 12);
     let mut lines = lines.chunks(12);
     assert_that(&rt, lines.all(|line| line == b"        brk\n".as_slice()));
+    assert_assembles(&rt, rt.alloc(), &found, 0, &image);
 }
 
 /// The words of a command line, how many bytes 00 there are, and the message.
