@@ -4,7 +4,8 @@ use Rattle.std.proofs.lemmas.Bool.{cases_eq, cond_both, eq-eqb, eqb-false, ne_eq
 use Rattle.std.proofs.lemmas.List.{get_or-set_other, get_or-set_same}
 use Rattle.info65.specs.declared.range.RangeType.{RangeType}
 use Rattle.info65.specs.declared.range.RangeType.TheVariants.{Code, ByteTable, WordTable, DbyteTable, AddrTable, RtsTable, TextTable, Skip}
-use Rattle.map65.specs.Code.Cells.{CellLaw, HasBits, bit, cell_of, code_of, coded, has_bit, has_border, is_wide_cell, is_wide_role, len_in_cell, role_in_cell, with_bit, with_len}
+use Rattle.map65.specs.Code.Cells.{CellLaw, HasBits, cell_of, coded, has_bit, has_border, is_wide_cell, is_wide_role, len_in_cell, role_in_cell, with_bit, with_len}
+use Rattle.map65.specs.Cells.{bit, code_of}
 
 -- ---- one cell
 

@@ -6,8 +6,10 @@ use Rattle.std.specs.Option.{option_map}
 use Rattle.std.proofs.lemmas.Bool.{and_parts, cases_Bool, cases_eq, false≢true, leb-true, ltb-true}
 use Rattle.info65.specs.Names.{AreNames, blank_name, covering, covering_below, covers, has_name_form, is_name_byte, name_at}
 use Rattle.info65.specs.Views.{NameView}
+use Rattle.map65.specs.Code.Marking.{is_covered}
 use Rattle.map65.specs.MapView.{MapView}
 use Rattle.map65.specs.Names.{Base, base_at, base_by, base_or, default_base, given_base, has_name, home, home_base, is_wanted, kind_at, kind_by, text_at, text_by}
+use Rattle.map65.specs.declared.name.NameKind.{NameKind}
 
 -- ---- the last name that covers an address
 
@@ -119,17 +121,25 @@ none-either : (o : Option NameView) (w : Bool) → (is_some o || w) ≡ true →
 none-either None w is none = is
 none-either (Some v) w is none = absurd (not-some v (sym none))
 
+some-base : (o : Option NameView) (w : Bool) (b : Base) (kind : Base → NameKind) → is_some (option_map kind (base_by o w b)) ≡ (is_some o || w)
+some-base None true b kind = refl
+some-base None false b kind = refl
+some-base (Some v) w b kind = refl
+
+-- an address has a name exactly when a given name covers it or an item refers to it
+pub named-is : (m : MapView) (a : ℕ) → has_name m a ≡ (is_covered m.info.names a || is_wanted m a)
+unfolding has_name kind_at base_at
+named-is m a = some-base (covering m.info.names a) (is_wanted m a) (home_base m a) (kind_by m a)
+
 -- an address without a name
 pub base-none : (m : MapView) (a : ℕ) → has_name m a ≡ false → base_at m a ≡ None
-unfolding has_name
 base-none m a is =
-    let both = either-none (covering m.info.names a) (is_wanted m a) is in
+    let both = either-none (covering m.info.names a) (is_wanted m a) (sym (named-is m a) ∙ is) in
     base-unwanted m a both.0 both.1
 
 -- one with a name that is not given
 pub base-home : (m : MapView) (a : ℕ) → has_name m a ≡ true → covering m.info.names a ≡ None → base_at m a ≡ Some (home_base m a)
-unfolding has_name
-base-home m a is none = base-wanted m a none (none-either (covering m.info.names a) (is_wanted m a) is none)
+base-home m a is none = base-wanted m a none (none-either (covering m.info.names a) (is_wanted m a) (sym (named-is m a) ∙ is) none)
 
 pub home-given : (m : MapView) (a : ℕ) (v : NameView) → covering m.info.names (home m a) ≡ Some v → home_base m a ≡ given_base v
 unfolding home_base

@@ -11,14 +11,16 @@ use Rattle.info65.specs.Views.{NameView}
 use Rattle.info65.specs.declared.range.RangeType.{RangeType}
 use Rattle.info65.specs.declared.range.RangeType.TheVariants.{Code}
 use Rattle.map65.proofs.CellLemmas.{bits-as, cell-len, cell-role, cell-wide, set-cell, with_bit-border, with_bit-lay, with_bit-rest}
+use Rattle.map65.proofs.NameLemmas.{named-is}
 use Rattle.map65.proofs.RunLemmas.{plain-code, role_at-inside}
 use Rattle.map65.proofs.SweepLemmas.{item-fits, item-small}
-use Rattle.map65.specs.Code.Cells.{HasBits, IsLaid, bit, code_of, is_wide_cell, is_wide_role, len_in_cell, nowhere, role_in_cell, with_bit}
-use Rattle.map65.specs.Code.Marking.{KeepsLay, Reaches, also, is_covered_below, is_wanted_below, is_within}
+use Rattle.map65.specs.Code.Cells.{AreCells, HasBits, IsLaid, is_wide_cell, is_wide_role, len_in_cell, nowhere, role_in_cell, with_bit}
+use Rattle.map65.specs.Cells.{AreCellsOf, bit, code_of}
+use Rattle.map65.specs.Code.Marking.{KeepsLay, Reaches, also, is_covered, is_covered_below, is_wanted_below, is_within}
 use Rattle.map65.specs.ImageView.{end_of, is_inside}
 use Rattle.map65.specs.Items.{item_len}
 use Rattle.map65.specs.MapView.{MapView}
-use Rattle.map65.specs.Names.{has_name, home, is_covered, is_wanted, last_item, refers, refers_by}
+use Rattle.map65.specs.Names.{has_name, home, is_wanted, last_item, refers, refers_by}
 use Rattle.map65.specs.Pieces.{is_own}
 use Rattle.map65.specs.Roles.{is_wide, role_at, role_of}
 use Rattle.map65.specs.Spans.{addresses}
@@ -262,6 +264,23 @@ laid-role m cells a laid room = cell-role (get_or cells a 0) (role_at m a) (item
 pub laid-len : (m : MapView) (cells : List ℕ) (a : ℕ) → IsLaid m cells → a < 65536 → len_in_cell (get_or cells a 0) ≡ item_len m a
 laid-len m cells a laid room = cell-len (get_or cells a 0) (role_at m a) (item_len m a) (laid-small m a) (laid.each a room)
 
+len-is : (c : ℕ) → len_in_cell c ≡ c / 16 % 8
+unfolding len_in_cell
+len-is c = refl
+
+-- the cells of a map describe its addresses
+pub described : (m : MapView) (cells : List ℕ) → AreCells m cells → AreCellsOf m cells
+described m cells are =
+    record {
+      count = are.laid.count;
+      each = λ a room.
+          record {
+            role = laid-plain m cells a are.laid room;
+            len = sym (len-is (get_or cells a 0)) ∙ laid-len m cells a are.laid room;
+            named = are.bits.each a room;
+          };
+    }
+
 laid-wide : (m : MapView) (cells : List ℕ) (a : ℕ) → IsLaid m cells → a < 65536 → is_wide_cell (get_or cells a 0) ≡ is_wide_role (role_at m a)
 laid-wide m cells a laid room = cell-wide (get_or cells a 0) (role_at m a) (item_len m a) (laid-small m a) (laid.each a room)
 
@@ -353,8 +372,8 @@ unfolding is_wanted_below addresses
 wanted-none m a = refl
 
 wanted-all : (m : MapView) (n a : ℕ) → n ≡ length m.image.bytes → (is_covered m.info.names a || is_wanted_below m n a) ≡ has_name m a
-unfolding is_wanted_below has_name is_wanted
-wanted-all m n a is = ap (λ (k : ℕ). is_covered m.info.names a || list_any (refers m a) (addresses k m.image.start)) is
+unfolding is_wanted_below is_wanted
+wanted-all m n a is = ap (λ (k : ℕ). is_covered m.info.names a || list_any (refers m a) (addresses k m.image.start)) is ∙ sym (named-is m a)
 
 pub targets-start : (m : MapView) (cells : List ℕ) → HasBits (is_covered m.info.names) cells → HasBits (also (is_covered m.info.names) (is_wanted_below m 0)) cells
 targets-start m cells bits = bits-as (is_covered m.info.names) (also (is_covered m.info.names) (is_wanted_below m 0)) cells (λ a room. or-none (is_covered m.info.names a) ∙ ap (λ (q : Bool). is_covered m.info.names a || q) (sym (wanted-none m a))) bits

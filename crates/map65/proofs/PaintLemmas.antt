@@ -10,7 +10,8 @@ use Rattle.info65.specs.declared.range.RangeSpec.{RangeSpec}
 use Rattle.info65.specs.declared.range.RangeType.{RangeType}
 use Rattle.info65.specs.declared.range.RangeType.TheVariants.{Code}
 use Rattle.map65.proofs.CellLemmas.{cell-small, set-cell}
-use Rattle.map65.specs.Code.Cells.{HasBits, bit, cell_of, code_of, nowhere, with_border}
+use Rattle.map65.specs.Code.Cells.{HasBits, cell_of, nowhere, with_border}
+use Rattle.map65.specs.Cells.{bit, code_of}
 use Rattle.map65.specs.Code.Marking.{AreMarkedBelow, ArePainted, bordered, painted, painted_by, role_by}
 use Rattle.map65.specs.ImageView.{ImageView, end_of, is_inside}
 use Rattle.map65.specs.MapView.{MapView}

@@ -11,7 +11,8 @@ use Rattle.info65.specs.declared.range.RangeType.{RangeType}
 use Rattle.info65.specs.declared.range.RangeType.TheVariants.{Code}
 use Rattle.map65.proofs.CellLemmas.{code-small, coded-code, has_border-is}
 use Rattle.map65.proofs.ItemLemmas.{InRun, in-run, run-if}
-use Rattle.map65.specs.Code.Cells.{are_one_run, bit, cell_of, code_of, coded, has_border, is_same_role}
+use Rattle.map65.specs.Code.Cells.{are_one_run, cell_of, coded, has_border, is_same_role}
+use Rattle.map65.specs.Cells.{bit, code_of}
 use Rattle.map65.specs.ImageView.{end_of, is_inside}
 use Rattle.map65.specs.MapView.{MapView}
 use Rattle.map65.specs.Pieces.{AreOneRun, is_in_run}

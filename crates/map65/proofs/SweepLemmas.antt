@@ -14,7 +14,8 @@ use Rattle.map65.proofs.CellLemmas.{bits-test, cell-role, cell-wide, set-cell, w
 use Rattle.map65.proofs.ItemLaws.{begun}
 use Rattle.map65.proofs.ItemLemmas.{are_joined-none, are_joined-suc, in-run, is_cut_at, item-len-at, joined-high, joined-if, joined-run, joined-uncut, left-past, left-first, left-inside, size-fits, size-positive}
 use Rattle.map65.proofs.RunLemmas.{plain-code, role_at-inside, run-cells}
-use Rattle.map65.specs.Code.Cells.{HasBits, IsLaid, are_one_run, bit, cell_of, has_bit, is_cut, is_wide_cell, is_wide_role, lay_at, role_in_cell, with_len}
+use Rattle.map65.specs.Code.Cells.{HasBits, IsLaid, are_one_run, cell_of, has_bit, is_cut, is_wide_cell, is_wide_role, lay_at, role_in_cell, with_len}
+use Rattle.map65.specs.Cells.{bit}
 use Rattle.map65.specs.Code.Marking.{AreMarkedBelow, is_joined_in}
 use Rattle.map65.specs.ImageView.{byte_at, end_of, is_inside}
 use Rattle.map65.specs.Items.{code_size, item_len, size_at, size_for, wanted_at}

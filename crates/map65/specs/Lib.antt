@@ -1,4 +1,5 @@
 pub mod Bases
+pub mod Cells
 pub mod Device
 pub mod Image
 pub mod ImageView

@@ -84,14 +84,6 @@ base_by None false b = None
 unfoldable pub base_at : MapView → ℕ → Option Base
 base_at m a = base_by (covering m.info.names a) (is_wanted m a) (home_base m a)
 
--- a given name covers the address
-abbrev pub is_covered : List NameView → ℕ → Bool
-is_covered names a = is_some (covering names a)
-
--- the address has a name
-unfoldable pub has_name : MapView → ℕ → Bool
-has_name m a = is_covered m.info.names a || is_wanted m a
-
 -- ---- where a base is defined
 
 -- A base outside the image or in skipped bytes is a constant, one where an item begins is a label, and any other is defined before the
@@ -117,6 +109,10 @@ text_by (Some b) = b.text
 -- the text of the base; empty for an address without a name
 unfoldable pub text_at : MapView → ℕ → List ℕ
 text_at m a = text_by (base_at m a)
+
+-- the address has a name
+unfoldable pub has_name : MapView → ℕ → Bool
+has_name m a = is_some (kind_at m a)
 
 -- ---- the laws
 

@@ -1,13 +1,14 @@
 //! Cells: a role, the length of an item, and bits for a name and for a segment border, packed into 16 bits.
 
 ghost use Rattle.std.specs.Prelude.{◌≡◌, ◌<◌, ℕ, IfOk, slice_index, vec_len};
-ghost use Rattle.map65.specs.Code.Cells.{are_one_run, cell_of, code_of, coded, has_bit, has_border, is_same_role, is_wide_cell, len_in_cell, role_in_cell, with_bit, with_border, with_len};
+ghost use Rattle.map65.specs.Code.Cells.{are_one_run, cell_of, coded, has_bit, has_border, is_same_role, is_wide_cell, len_in_cell, role_in_cell, with_bit, with_border, with_len};
+ghost use Rattle.map65.specs.Cells.{code_of};
 
 use crate::roles::is_wide;
 use info65::RangeType;
 use std::alloc::{AllocError, Allocator};
 
-#[tactic(auto, unfolding(crate::specs::Code::Cells::code_of))]
+#[tactic(auto, unfolding(crate::specs::Cells::code_of))]
 fn code_of(role: Option<RangeType>) -> u16
     ensures value { result ≡ code_of role }
     ensures small { result < 16 }

@@ -3,7 +3,8 @@
 ghost use Rattle.std.specs.Prelude.{◌≡◌, ◌+◌, ◌-◌, ◌/◌, ◌%◌, ◌<◌, ◌≤◌, ℕ, IfOk, IfSome, length, option_map, slice_index};
 ghost use Rattle.info65.specs.Code.Names.{given_seen};
 ghost use Rattle.info65.specs.Names.{covering, default_name};
-ghost use Rattle.map65.specs.Code.Cells.{AreCells, bit, code_of, has_bit, len_in_cell, role_in_cell};
+ghost use Rattle.map65.specs.Code.Cells.{AreCells, has_bit, len_in_cell, role_in_cell};
+ghost use Rattle.map65.specs.Cells.{AreCellsOf, bit, code_of};
 ghost use Rattle.map65.specs.ImageView.{end_of};
 ghost use Rattle.map65.specs.Items.{item_len};
 ghost use Rattle.map65.specs.Names.{given_base, has_name, home, home_base, kind_at, kind_by, place_in, place_of, text_at};
@@ -52,6 +53,18 @@ impl<'a, A: Allocator> Map<'a, A> {
         Ok(Map { info, image, cells })
     }
 
+    /// Lends the cells of the map: one for each address from $0000 to $FFFF, in order.
+    ///
+    /// In the cell `c` of an address, `c % 16` is the code of its role: 0 outside the image, else 1 CODE,
+    /// 2 BYTETABLE, 3 WORDTABLE, 4 DBYTETABLE, 5 ADDRTABLE, 6 RTSTABLE, 7 TEXTTABLE, 8 SKIP. `c / 16 % 8` is the length
+    /// of the item that begins at the address, and 0 if none does. `c / 128 % 2` is 1 if the address has a name,
+    /// else 0. The higher bits are private.
+    pub fn cells(&self) -> &[u16]
+        ensures { AreCellsOf self.now result.now }
+    {
+        self.cells.as_slice()
+    }
+
     /// Returns the role of an address, and `None` outside the image.
     pub fn role(&self, address: u16) -> Option<RangeType>
         ensures { result ≡ role_at self.now address }
@@ -85,7 +98,7 @@ impl<'a, A: Allocator> Map<'a, A> {
         self.info.segment_covering(address)
     }
 
-    /// Returns whether the address has a name.
+    /// Returns whether the address has a name: whether [`Map::name`] returns one.
     pub fn has_name(&self, address: u16) -> bool
         ensures { result ≡ has_name self.now address }
     {

@@ -4,10 +4,10 @@ ghost use Rattle.std.specs.Prelude.{◌≡◌, ◌+◌, ◌<◌, ◌≤◌, ℕ,
 ghost use Rattle.info65.specs.Code.Names.{given_seen};
 ghost use Rattle.info65.specs.Names.{AreNames, name_at};
 ghost use Rattle.map65.specs.Code.Cells.{AreCells, HasBits, IsLaid, nowhere, with_bit};
-ghost use Rattle.map65.specs.Code.Marking.{KeepsLay, Reaches, also, is_covered_below, is_within};
+ghost use Rattle.map65.specs.Code.Marking.{KeepsLay, Reaches, also, is_covered, is_covered_below, is_within};
 ghost use Rattle.map65.specs.ImageView.{IsPlaced, end_of};
 ghost use Rattle.map65.specs.MapView.{MapView};
-ghost use Rattle.map65.specs.Names.{home, is_covered, refers};
+ghost use Rattle.map65.specs.Names.{home, refers};
 ghost use Rattle.map65.specs.Pieces.{is_own};
 
 use crate::cells::{is_wide_cell, len_in, role_in, with_bit};

@@ -1,9 +1,9 @@
--- The cells of a map, one for each address: its role, the length of the item that begins there, whether it has a name, and whether a
--- segment border stands before it, in one number.
+-- How a cell is packed: beside what `Cells` says of it, the bit above the name's says whether a segment border stands before the address.
 use Rattle.std.specs.Prelude.{◌≡◌, ◌==◌, ◌+◌, ◌*◌, ◌/◌, ◌%◌, ◌<◌, ◌&&◌, not, ℕ, Bool, true, false, List, length, slice_index, Option, Some, None, if◌then◌else◌}
 use Rattle.info65.specs.Views.{SegmentView}
 use Rattle.info65.specs.declared.range.RangeType.{RangeType}
 use Rattle.info65.specs.declared.range.RangeType.TheVariants as role
+use Rattle.map65.specs.Cells.{bit, code_of}
 use Rattle.map65.specs.Items.{item_len}
 use Rattle.map65.specs.MapView.{MapView}
 use Rattle.map65.specs.Names.{has_name}
@@ -11,18 +11,6 @@ use Rattle.map65.specs.Roles.{is_wide, role_at}
 use Rattle.map65.specs.Segments.{is_border}
 
 -- ---- one cell
-
--- the code of a role; an address outside the image has none
-unfoldable pub code_of : Option RangeType → ℕ
-code_of None = 0
-code_of (Some role.Code) = 1
-code_of (Some role.ByteTable) = 2
-code_of (Some role.WordTable) = 3
-code_of (Some role.DbyteTable) = 4
-code_of (Some role.AddrTable) = 5
-code_of (Some role.RtsTable) = 6
-code_of (Some role.TextTable) = 7
-code_of (Some role.Skip) = 8
 
 -- the role that has the code
 unfoldable pub coded : ℕ → Option RangeType
@@ -93,10 +81,6 @@ is_cut c = has_bit c && is_wide_cell c
 -- the role of the address, and the length of the item that begins there
 abbrev pub lay_at : MapView → ℕ → ℕ
 lay_at m a = cell_of (role_at m a) (item_len m a)
-
-abbrev pub bit : Bool → ℕ
-bit false = 0
-bit true = 1
 
 -- the bits above the name's say where borders stand
 pub record HasBorders (segments : List SegmentView) (cells : List ℕ) : Type 0 where

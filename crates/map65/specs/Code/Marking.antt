@@ -1,7 +1,7 @@
 -- Cells while they are written: first the roles, range by range, then the borders, segment by segment, then the lengths, item by item.
 use Rattle.std.specs.Prelude.{◌≡◌, ◌-◌, ◌/◌, ◌%◌, ◌<◌, ◌≤◌, ◌&&◌, ◌||◌, not, ℕ, Bool, true, false, nat_le, nat_lt, List, length, slice_index, Option, Some, None, is_some, if◌then◌else◌}
 use Rattle.std.specs.List.{list_any}
-use Rattle.info65.specs.Names.{covering_below, name_at}
+use Rattle.info65.specs.Names.{covering, covering_below, name_at}
 use Rattle.info65.specs.Views.{NameView}
 use Rattle.info65.specs.Ranges.{has_address}
 use Rattle.info65.specs.declared.range.RangeSpec.{RangeSpec}
@@ -60,6 +60,10 @@ also p q a = p a || q a
 -- the address lies from `from` to before `to`
 abbrev pub is_within : ℕ → ℕ → ℕ → Bool
 is_within from to a = nat_le from a && nat_lt a to
+
+-- a given name covers the address
+abbrev pub is_covered : List NameView → ℕ → Bool
+is_covered names a = is_some (covering names a)
 
 -- one of the first n names covers the address
 abbrev pub is_covered_below : List NameView → ℕ → ℕ → Bool

@@ -1,7 +1,6 @@
 use Rattle.std.proofs.Common.{◌≡◌, ◌+◌, ap, arith, length}
-use Rattle.map65.specs.Code.Marking.{also, is_wanted_below}
+use Rattle.map65.specs.Code.Marking.{also, is_covered, is_wanted_below}
 use Rattle.map65.specs.MapView.{MapView}
-use Rattle.map65.specs.Names.{is_covered}
 use Rattle.map65.proofs.NamingLemmas.{targets-end, targets-next, targets-start}
 use Rattle.map65.proofs.naming.mark_targets.Goals as goal
 

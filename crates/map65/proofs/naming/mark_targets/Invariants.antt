@@ -1,7 +1,6 @@
 use Rattle.map65.specs.Code.Cells.{HasBits, IsLaid}
-use Rattle.map65.specs.Code.Marking.{also, is_wanted_below}
+use Rattle.map65.specs.Code.Marking.{also, is_covered, is_wanted_below}
 use Rattle.map65.specs.MapView.{MapView}
-use Rattle.map65.specs.Names.{is_covered}
 use Rattle.map65.proofs.naming.mark_targets.Given as goal
 
 abbrev pub invariant-loop-k : goal.invariant-loop-k

@@ -1,6 +1,7 @@
 use Rattle.std.proofs.Common.{◌≡◌, ◌∙◌, ◌/◌, ◌%◌, ap, arith, get_or}
 use Rattle.std.proofs.lemmas.Grind.{get_or_default_zero}
-use Rattle.map65.specs.Code.Cells.{bit, code_of, has_bit, len_in_cell, role_in_cell}
+use Rattle.map65.specs.Code.Cells.{has_bit, len_in_cell, role_in_cell}
+use Rattle.map65.specs.Cells.{bit, code_of}
 use Rattle.map65.specs.Items.{item_len}
 use Rattle.map65.specs.MapView.{MapView}
 use Rattle.map65.specs.Names.{has_name}
