@@ -1,20 +1,36 @@
 -- The include files of an accepted file.
-use Rattle.std.proofs.Common.{◌≡◌, ◌∙◌, ◌<◌, ◌≤◌, ◌+◌, ℕ, Bool, true, List, [], ◌∷◌, ◌++◌, zero, suc, ap, arith, drop, get_or, length, map, refl, sym}
+use Rattle.std.proofs.Common.{◌≡◌, ◌∙◌, ◌<◌, ◌≤◌, ◌+◌, ℕ, Bool, true, false, List, [], ◌∷◌, ◌++◌, zero, suc, ap, append_assoc, arith, drop, get_or, inl, inr, length, length-append, map, refl, subst, sym}
 use Rattle.std.specs.Prelude.{All, IfSome, Option, Some, None, Result, Ok, Err}
-use Rattle.std.proofs.lemmas.List.{at_drop_all, at_drop_more}
+use Rattle.std.specs.List.{flat_map}
+use Rattle.std.specs.Option.{unwrap_or}
+use Rattle.std.proofs.lemmas.Bool.{ltb-true}
+use Rattle.std.proofs.lemmas.Grind.{flat_map-append}
+use Rattle.std.proofs.lemmas.List.{append-nil, at_drop_all, at_drop_more}
 use Rattle.std.proofs.lemmas.List.Elements.{All-append}
+use denote.Enum.Bare.{same_true}
+use Rattle.info65.specs.contracts.attribute.Attribute as attribute_type
 use Rattle.info65.specs.Attributes.{form_of}
+use Rattle.info65.specs.Closing.{closing_fault, include_fault}
 use Rattle.info65.specs.Code.Groups.{group_seen}
-use Rattle.info65.specs.Groups.{AreAllFormed, AreFormed, AssignmentView, GroupView, value_in}
-use Rattle.info65.specs.IncludeGroups.{AreIncludes, include_from, include_in, include_part, includes_of}
-use Rattle.info65.specs.Values.{as_boolean, as_character, as_name, is_file_name}
-use Rattle.info65.specs.Views.{IncludeView}
+use Rattle.info65.specs.Grammar.{AreGroups, AreNew}
+use Rattle.info65.specs.Groups.{AreAllFormed, AreFormed, AssignmentView, GroupView, is_of, value_in}
+use Rattle.info65.specs.IncludeGroups.{AreIncludes, has_room, include_from, include_in, include_part, includes_of}
+use Rattle.info65.specs.IncludeLaws.{AreSaid, IncludesSaid, IsGivenOr, SaysInclude}
+use Rattle.info65.specs.Reader.{groups_of, read}
+use Rattle.info65.specs.Tokens.{tokens_of}
+use Rattle.info65.specs.Values.{HasForm, ValueView, a_boolean, a_character, a_name, as_boolean, as_character, as_name, is_file_name}
+use Rattle.info65.specs.Views.{IncludeView, OptionsView}
 use Rattle.info65.specs.declared.assignment.Group.{Group}
+use Rattle.info65.specs.declared.attribute.Attribute.{Attribute}
 use Rattle.info65.specs.declared.attribute.Attribute.TheVariants as attribute
+use Rattle.info65.specs.declared.attribute.Form.TheVariants as form
 use Rattle.info65.specs.declared.attribute.GroupKind.{GroupKind}
 use Rattle.info65.specs.declared.attribute.GroupKind.TheVariants as kind
 use Rattle.info65.specs.declared.fault.InfoFaultKind.{InfoFaultKind}
-use Rattle.info65.proofs.FormLemmas.{file_name_formed}
+use Rattle.info65.proofs.Accepting.{groups_accepted}
+use Rattle.info65.proofs.Cases.{by_test}
+use Rattle.info65.proofs.FormLemmas.{file_name_formed, found_formed, groups_formed}
+use Rattle.info65.proofs.SegmentLemmas.{text_is}
 
 -- the group at a place of the list is the next
 pub includes_next : {Z : Type 0} (gs : List (Group Z)) (i : ℕ) (x : Group Z) → i < length gs → x ≡ get_or gs i x
@@ -57,9 +73,6 @@ unfolding includes_of
 all_named [] f = none_named
 all_named (g ∷ gs) f = All-append (λ i. is_file_name i.file ≡ true) (include_part g) (includes_of gs) (part_named g.kind g.given (include_in g.given) f.0 refl) (all_named gs f.1)
 
-pub includes_named : (groups : List GroupView) → AreAllFormed groups → AreIncludes (includes_of groups)
-includes_named groups f = record { each = all_named groups f }
-
 -- a group says one include file at most
 pub part_length : (g : GroupView) → length (include_part g) ≤ 1
 part_length g = by_kind g.kind (include_in g.given) refl
@@ -82,3 +95,124 @@ part_file g i f is = by_kind g.kind (include_in g.given) refl is
     by_kind kind.Include (Ok j) e h = let l : (i ∷ []) ≡ (j ∷ []) = rw e at h in let same : i ≡ j = cc in rw same (named_in g.given j f e)
     by_kind kind.Include (Err w) e h = let l : (i ∷ []) ≡ [] = rw e at h in absurd cc
     by_kind _ x e h = absurd cc
+
+-- ---- at most 16
+
+-- an attribute that is given had room
+room_for : (before : List GroupView) (k : GroupKind) (given xs : List AssignmentView) (a : Attribute) (v : ValueView) → AreNew before k given xs → value_in a xs ≡ Some v → has_room before a ≡ true
+unfolding value_in
+room_for before k given [] a v h e = absurd cc
+room_for before k given (x ∷ xs) a v h e =
+    by_test (is_of a x)
+    (λ hit. ap (has_room before) (same_true attribute_type.the_type tt a x.attribute hit) ∙ h.1)
+    (λ miss. room_for before k (given ++ x ∷ []) xs a v h.2 (rw miss at e))
+
+file_in : (given : List AssignmentView) (i : IncludeView) → include_in given ≡ Ok i → value_in attribute.File given ≡ Some (a_name i.file)
+unfolding include_in
+file_in given i is = text_is (value_in attribute.File given) i.file (by_file (as_name (value_in attribute.File given)) (as_character (value_in attribute.CommentStart given)) (as_boolean (value_in attribute.IgnoreUnknown given)) is)
+  where
+    by_file : (n : Option (List ℕ)) (b : Option ℕ) (o : Option Bool) → include_from n b o ≡ Ok i → n ≡ Some i.file
+    by_file (Some t) b o e = let same : t ≡ i.file = cc in ap (λ (x : List ℕ). Some x) same
+    by_file None b o e = absurd cc
+
+includes_more : (before : List GroupView) (g : GroupView) → includes_of (before ++ g ∷ []) ≡ includes_of before ++ include_part g
+unfolding includes_of
+includes_more before g = flat_map-append include_part before (g ∷ []) ∙ ap (λ l. flat_map include_part before ++ l) (append-nil (include_part g))
+
+few_before : (before : List GroupView) → has_room before attribute.File ≡ true → length (includes_of before) < 16
+unfolding has_room
+few_before before h = ltb-true (length (includes_of before)) 16 h
+
+part_few : (before : List GroupView) (k : GroupKind) (given : List AssignmentView) (x : Result IncludeView InfoFaultKind) → AreNew before k [] given → include_in given ≡ x → length (includes_of before) ≤ 16
+    → length (includes_of before) + length (include_part (record { kind = k; given = given })) ≤ 16
+part_few before kind.Include given (Ok i) new e few =
+    let room = few_before before (room_for before kind.Include [] given attribute.File (a_name i.file) new (file_in given i e)) in
+    rw e (omega (arith, room))
+part_few before kind.Include given (Err f) new e few = rw e (omega (arith, few))
+part_few before kind.Global given x new e few = omega (arith, few)
+part_few before kind.Range given x new e few = omega (arith, few)
+part_few before kind.Label given x new e few = omega (arith, few)
+part_few before kind.Segment given x new e few = omega (arith, few)
+
+groups_few : (before gs : List GroupView) → AreGroups before gs → length (includes_of before) ≤ 16 → length (includes_of (before ++ gs)) ≤ 16
+groups_few before [] h few = rw (append-nil before) few
+groups_few before (g ∷ gs) h few =
+    let long = ap length (includes_more before g) ∙ length-append (includes_of before) (include_part g) in
+    let part = part_few before g.kind g.given (include_in g.given) h.0.new refl few in
+    let more : length (includes_of (before ++ g ∷ [])) ≤ 16 = omega (arith, long, part) in
+    let all = groups_few (before ++ g ∷ []) gs h.1 more in
+    rw (append_assoc before (g ∷ []) gs) at all
+
+none_few : length (includes_of []) ≤ 16
+unfolding includes_of
+none_few = omega arith
+
+pub includes_sound : (groups : List GroupView) → AreGroups [] groups → AreAllFormed groups → AreIncludes (includes_of groups)
+includes_sound groups h f = record { few = groups_few [] groups h none_few; each = all_named groups f }
+
+-- the include files of the groups of an accepted text
+pub read_includes : (o : OptionsView) (bytes : List ℕ) (groups : List GroupView) → groups_of o bytes ≡ Ok groups → AreIncludes (includes_of groups)
+unfolding groups_of read
+read_includes o bytes groups e =
+    let a = groups_accepted o (tokens_of 1 bytes).tokens (tokens_of 1 bytes).ending groups e in
+    let formed : AreAllFormed groups = subst AreAllFormed a.1.of (groups_formed o a.1.spelling (tokens_of 1 bytes).tokens a.1.spelled) in
+    includes_sound groups a.1.keeps formed
+
+-- ---- what the groups say
+
+character_or : (v : Option ValueView) → IfSome v (HasForm form.Character) → IsGivenOr v (a_character 59) (a_character (unwrap_or (as_character v) 59))
+character_or (Some (a_character b)) h = inl refl
+character_or (Some _) h = absurd h
+character_or None h = inr (refl, refl)
+
+boolean_or : (v : Option ValueView) → IfSome v (HasForm form.Boolean) → IsGivenOr v (a_boolean false) (a_boolean (unwrap_or (as_boolean v) false))
+boolean_or (Some (a_boolean b)) h = inl refl
+boolean_or (Some _) h = absurd h
+boolean_or None h = inr (refl, refl)
+
+record IsFrom (given : List AssignmentView) (i : IncludeView) : Type 0 where
+  start : i.comment_start ≡ unwrap_or (as_character (value_in attribute.CommentStart given)) 59
+  ignore : i.ignore_unknown ≡ unwrap_or (as_boolean (value_in attribute.IgnoreUnknown given)) false
+
+from : (given : List AssignmentView) (i : IncludeView) → include_in given ≡ Ok i → IsFrom given i
+unfolding include_in
+from given i is = by_file (as_name (value_in attribute.File given)) is
+  where
+    by_file : (n : Option (List ℕ)) → include_from n (as_character (value_in attribute.CommentStart given)) (as_boolean (value_in attribute.IgnoreUnknown given)) ≡ Ok i → IsFrom given i
+    by_file (Some t) e = record { start = cc; ignore = cc }
+    by_file None e = absurd cc
+
+says : (given : List AssignmentView) (i : IncludeView) → AreFormed given → include_in given ≡ Ok i → SaysInclude given i
+unfolding form_of
+says given i f is =
+    let x = from given i is in
+    record {
+      file = file_in given i is;
+      comment_start = subst (λ (b : ℕ). IsGivenOr (value_in attribute.CommentStart given) (a_character 59) (a_character b)) (sym x.start) (character_or (value_in attribute.CommentStart given) (found_formed attribute.CommentStart given f));
+      ignore_unknown = subst (λ (b : Bool). IsGivenOr (value_in attribute.IgnoreUnknown given) (a_boolean false) (a_boolean b)) (sym x.ignore) (boolean_or (value_in attribute.IgnoreUnknown given) (found_formed attribute.IgnoreUnknown given f));
+    }
+
+closes : (before : List GroupView) (given : List AssignmentView) → closing_fault before kind.Include given ≡ None → (i : IncludeView) × (include_in given ≡ Ok i)
+unfolding closing_fault
+closes before given h = by_part (include_in given) refl h
+  where
+    by_part : (x : Result IncludeView InfoFaultKind) → include_in given ≡ x → include_fault x ≡ None → (i : IncludeView) × (include_in given ≡ Ok i)
+    by_part (Ok i) e n = (i, e)
+    by_part (Err w) e n = absurd cc
+
+said_more : (before : List GroupView) (k : GroupKind) (given : List AssignmentView) (gs : List GroupView) → AreFormed given → closing_fault before k given ≡ None → AreSaid gs (includes_of gs) → AreSaid (record { kind = k; given = given } ∷ gs) (include_part (record { kind = k; given = given }) ++ includes_of gs)
+said_more before kind.Global given gs f h said = said
+said_more before kind.Range given gs f h said = said
+said_more before kind.Label given gs f h said = said
+said_more before kind.Segment given gs f h said = said
+said_more before kind.Include given gs f h said = let c = closes before given h in rw c.1 (says given c.0 f c.1, said)
+
+groups_said : (before gs : List GroupView) → AreGroups before gs → AreAllFormed gs → AreSaid gs (includes_of gs)
+unfolding includes_of
+groups_said before [] h f = refl
+groups_said before (g ∷ gs) h f = said_more before g.kind g.given gs f.0 h.0.closes (groups_said (before ++ g ∷ []) gs h.1 f.1)
+
+pub includes_said : IncludesSaid
+includes_said o bytes info i =
+    let formed : AreAllFormed i.groups = subst AreAllFormed i.accepts.of (groups_formed o i.accepts.spelling (tokens_of 1 bytes).tokens i.accepts.spelled) in
+    rw i.says (groups_said [] i.groups i.accepts.keeps formed, includes_sound i.groups i.accepts.keeps formed)

@@ -1,26 +1,28 @@
-pub mod Accepting
-pub mod Cases
-pub mod CoveringLemmas
-pub mod FormLemmas
-pub mod GroupLemmas
-pub mod IncludeLemmas
-pub mod IncludeLines
-pub mod IncludeRows
-pub mod IncludedLemmas
-pub mod IndexLemmas
-pub mod Laws
-pub mod NameFaultLemmas
-pub mod NameLemmas
-pub mod NamesLemmas
-pub mod NumberLemmas
-pub mod OnceLemmas
-pub mod PoolLemmas
-pub mod RangeLemmas
-pub mod ReaderLemmas
-pub mod ReservedLemmas
-pub mod SegmentCovering
-pub mod SegmentLemmas
-pub mod SegmentTableLemmas
-pub mod SpellingLemmas
-pub mod StandLemmas
-pub mod TokenLemmas
+mod Accepting
+mod Cases
+mod CoveringLemmas
+mod FormLemmas
+mod GroupLemmas
+mod IncludeFileLemmas
+mod IncludeLemmas
+mod IncludeLines
+mod IncludeRows
+mod IncludedLemmas
+mod IndexLemmas
+mod Laws
+mod NameFaultLemmas
+mod NameLemmas
+mod NamesLemmas
+mod NumberLemmas
+mod OnceLemmas
+mod PoolLemmas
+mod RangeLemmas
+mod ReaderLemmas
+mod ReservedLemmas
+mod SegmentCovering
+mod SegmentLemmas
+mod SegmentTableLemmas
+mod SpellingLemmas
+mod StandLemmas
+mod TokenLemmas
+pub mod Public

@@ -28,13 +28,13 @@ use Rattle.info65.proofs.ReservedLemmas.{reserved_names}
 
 -- ---- tests of all names
 
-all_miss : (p : NameView → Bool) (names : List NameView) → list_any p names ≡ false → All (λ m. p m ≡ false) names
+pub all_miss : (p : NameView → Bool) (names : List NameView) → list_any p names ≡ false → All (λ m. p m ≡ false) names
 all_miss p names h k d l =
     by_test (p (get_or names k d))
     (λ hit. absurd (false≢true (sym h ∙ list_any_at p names k d l hit)))
     (λ miss. miss)
 
-none_hit : (p : NameView → Bool) (names : List NameView) → All (λ m. p m ≡ false) names → list_any p names ≡ false
+pub none_hit : (p : NameView → Bool) (names : List NameView) → All (λ m. p m ≡ false) names → list_any p names ≡ false
 none_hit p names h =
     by_test (list_any p names)
     (λ hit. let x = Any-from_list_any p names hit in let wrong : p x.1 ≡ false = subst (λ (m : NameView). p m ≡ false) x.3 (h x.0 x.1 x.2) in absurd (false≢true (sym wrong ∙ x.4)))
@@ -42,42 +42,42 @@ none_hit p names h =
 
 -- ---- the three tests
 
-free_is : (n : NameView) → is_reserved n.address n.text ≡ false → IsFree n
+pub free_is : (n : NameView) → is_reserved n.address n.text ≡ false → IsFree n
 free_is n miss r = false≢true (sym miss ∙ (reserved_names n.address n.text).1 r)
 
-is_free : (n : NameView) → IsFree n → is_reserved n.address n.text ≡ false
+pub is_free : (n : NameView) → IsFree n → is_reserved n.address n.text ≡ false
 is_free n free =
     by_test (is_reserved n.address n.text)
     (λ hit. absurd (free ((reserved_names n.address n.text).0 hit)))
     (λ miss. miss)
 
-abbrev IsElsewhere : NameView → NameView → Type 0
+abbrev pub IsElsewhere : NameView → NameView → Type 0
 IsElsewhere n m = (m.text ≡ n.text) × (m.address ≢ n.address)
 
-elsewhere_hit : (n m : NameView) → is_elsewhere n m ≡ true → IsElsewhere n m
+pub elsewhere_hit : (n m : NameView) → is_elsewhere n m ≡ true → IsElsewhere n m
 elsewhere_hit n m h =
     let p = and_parts (bytes_eq n.text m.text) (not (m.address == n.address)) h in
     (sym ((bytes_eq-Decides n.text m.text).0 p.0), λ same. let hit = eq-eqb m.address n.address same in let wrong : false ≡ true = rw hit at p.1 in absurd cc)
 
-hit_elsewhere : (n m : NameView) → IsElsewhere n m → is_elsewhere n m ≡ true
+pub hit_elsewhere : (n m : NameView) → IsElsewhere n m → is_elsewhere n m ≡ true
 hit_elsewhere n m h =
     let text : bytes_eq n.text m.text ≡ true = (bytes_eq-Decides n.text m.text).1 (sym h.0) in
     let apart = ne_eqb m.address n.address h.1 in
     rw (text, apart) refl
 
-elsewhere_miss : (n m : NameView) → is_elsewhere n m ≡ false → m.text ≡ n.text → m.address ≡ n.address
+pub elsewhere_miss : (n m : NameView) → is_elsewhere n m ≡ false → m.text ≡ n.text → m.address ≡ n.address
 elsewhere_miss n m h same =
     by_test (m.address == n.address)
     (λ at. eqb-true m.address n.address at)
     (λ apart. let text : bytes_eq n.text m.text ≡ true = (bytes_eq-Decides n.text m.text).1 (sym same) in let hit : is_elsewhere n m ≡ true = rw (text, apart) refl in absurd (false≢true (sym h ∙ hit)))
 
-miss_elsewhere : (n m : NameView) → (m.text ≡ n.text → m.address ≡ n.address) → is_elsewhere n m ≡ false
+pub miss_elsewhere : (n m : NameView) → (m.text ≡ n.text → m.address ≡ n.address) → is_elsewhere n m ≡ false
 miss_elsewhere n m h =
     by_test (is_elsewhere n m)
     (λ hit. let e = elsewhere_hit n m hit in absurd (e.1 (h e.0)))
     (λ miss. miss)
 
-at_miss : (n m : NameView) → is_at n.address m ≡ false → m.address ≢ n.address
+pub at_miss : (n m : NameView) → is_at n.address m ≡ false → m.address ≢ n.address
 at_miss n m h same = false≢true (sym h ∙ eq-eqb m.address n.address same)
 
 -- ---- the fault

@@ -112,7 +112,8 @@ address_low (Some (an_address m)) h n e = let same : m ≡ n = cc in subst (λ (
 address_low (Some _) h n e = absurd cc
 address_low None h n e = absurd cc
 
-text_is : (v : Option ValueView) (t : List ℕ) → as_name v ≡ Some t → v ≡ Some (a_name t)
+-- a value that is a name
+pub text_is : (v : Option ValueView) (t : List ℕ) → as_name v ≡ Some t → v ≡ Some (a_name t)
 text_is (Some (a_name u)) t h = let e : u ≡ t = cc in ap (λ x. Some (a_name x)) e
 text_is (Some _) t h = absurd cc
 text_is None t h = absurd cc

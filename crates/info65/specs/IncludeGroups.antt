@@ -1,5 +1,5 @@
 -- Include files: what a group ASMINC says, how many of them there can be, and what holds of all of them.
-use Rattle.std.specs.Prelude.{◌≡◌, ℕ, Bool, true, false, List, [], ◌∷◌, Option, Some, None, Result, Ok, Err, All, length, nat_lt}
+use Rattle.std.specs.Prelude.{◌≡◌, ◌≤◌, ℕ, Bool, true, false, List, [], ◌∷◌, Option, Some, None, Result, Ok, Err, All, length, nat_lt}
 use Rattle.std.specs.List.{flat_map}
 use Rattle.std.specs.Option.{unwrap_or}
 use Rattle.info65.specs.Groups.{AssignmentView, GroupView, value_in}
@@ -38,6 +38,7 @@ unfoldable pub has_room : List GroupView → Attribute → Bool
 has_room before attribute.File = nat_lt (length (includes_of before)) 16
 has_room before _ = true
 
--- include files as an information file can give them: their names are file names
+-- include files as an information file can give them: at most 16, and their names are file names
 pub record AreIncludes (includes : List IncludeView) : Type 0 where
+  pub few : length includes ≤ 16
   pub each : All (λ i. is_file_name i.file ≡ true) includes

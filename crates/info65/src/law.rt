@@ -1,6 +1,6 @@
 //! Laws of information files.
 
-ghost use Rattle.info65.specs.IncludeLaws.{LinesSpelled};
+ghost use Rattle.info65.specs.IncludeLaws.{IncludedNames, IncludesSaid, LinesSpelled};
 ghost use Rattle.info65.specs.Laws.{AcceptsFiles, GivenOnce, GlobalOnce, OverlapsShare, RangesApart, RefusesFirst};
 ghost use Rattle.info65.specs.NameLaws.{CoversHighest, NamesGiven, OwnAddressWins};
 ghost use Rattle.info65.specs.NameFaultLaws.{DistinctAccepted, NameFaults, ReservedNames};
@@ -113,4 +113,18 @@ pub fn distinct_accepted()
 #[tactic(auto, using(crate::proofs::SpellingLemmas::lines_spelled))]
 pub fn lines_spelled()
     ensures { LinesSpelled }
+{}
+
+/// The include files of an accepted file are those that its groups ASMINC say, one a group, in their order; there are at
+/// most 16.
+pub fn includes_said()
+    ensures { IncludesSaid }
+{}
+
+/// An include file is accepted exactly if no line has a fault that counts, and adds the names that its lines spell, in
+/// their order: a line whose address has a name adds nothing, and with IGNOREUNKNOWN neither does one that has a fault.
+/// Else it is refused for the first line that has one.
+#[tactic(auto, using(crate::proofs::IncludeFileLemmas::included_names))]
+pub fn included_names()
+    ensures { IncludedNames }
 {}

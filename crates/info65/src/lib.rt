@@ -51,8 +51,9 @@ pub use include::IncludeSpec;
 pub use info::{Info, read_include, read_info};
 pub use law::{
     accepts_files, covers_highest, covers_one, distinct_accepted, given_once, global_once,
-    lines_spelled, name_faults, names_given, overlaps_share, own_address_wins, ranges_apart,
-    refuses_first, reserved_names, segments_apart, segments_share, tokens_stand,
+    included_names, includes_said, lines_spelled, name_faults, names_given, overlaps_share,
+    own_address_wins, ranges_apart, refuses_first, reserved_names, segments_apart, segments_share,
+    tokens_stand,
 };
 pub use lexer::Lexer;
 pub use name::Given;

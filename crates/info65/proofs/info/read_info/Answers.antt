@@ -12,7 +12,7 @@ use Rattle.info65.specs.Reader.{groups_of, information}
 use Rattle.info65.specs.Settings.{settings_of}
 use Rattle.info65.specs.Views.{AreInLimits, InfoView, OptionsView}
 use Rattle.info65.proofs.FormLemmas.{read_all_formed, read_formed, settings_in_limits}
-use Rattle.info65.proofs.IncludeLemmas.{includes_named}
+use Rattle.info65.proofs.IncludeLemmas.{read_includes}
 use Rattle.info65.proofs.NamesLemmas.{read_named}
 use Rattle.info65.proofs.RangeLemmas.{read_sound}
 use Rattle.info65.proofs.SegmentLemmas.{read_segments}
@@ -35,7 +35,7 @@ invariant_of-result g c =
       limits = subst AreInLimits (same_ok c.in_ok-settings.ensures) (settings_in_limits c.args.options.now (global_given (map group_seen c.groups.result.now)) c.limits.ensures formed);
       ranges = subst AreRanges said (read_sound c.args.options.now c.args.bytes.now groups c.in_ok-closed.ensures);
       segments = subst AreSegments segmented (read_segments c.args.options.now c.args.bytes.now groups c.in_ok-closed.ensures);
-      includes = subst AreIncludes (ap (λ (l : List GroupView). includes_of l) (sym c.groups-4.ensures) ∙ same_ok c.in_ok-includes.ensures) (includes_named groups (read_all_formed c.args.options.now c.args.bytes.now groups c.in_ok-closed.ensures));
+      includes = subst AreIncludes (ap (λ (l : List GroupView). includes_of l) (sym c.groups-4.ensures) ∙ same_ok c.in_ok-includes.ensures) (read_includes c.args.options.now c.args.bytes.now groups c.in_ok-closed.ensures);
       names = subst AreNames (same_ok c.in_ok-names.ensures) (read_named c.args.options.now c.args.bytes.now groups c.in_ok-closed.ensures);
     }
 
