@@ -5,7 +5,7 @@ use Rattle.std.proofs.lemmas.Bool.{leb-true}
 use Rattle.isa65.specs.Mode.{len_of}
 use Rattle.isa65.specs.Opcodes.{Table, decoded}
 use Rattle.isa65.specs.declared.op.Op.{Op}
-use Rattle.map65.proofs.NameLemmas.{base-none}
+use Rattle.map65.proofs.Public.{base-none}
 use Rattle.map65.specs.MapView.{MapView}
 use Rattle.map65.specs.Names.{Base, has_name, place_in, place_of}
 use Rattle.map65.specs.Roles.{is_skip, role_at}

@@ -5,8 +5,7 @@ use Rattle.std.specs.Option.{option_map}
 use Rattle.std.proofs.lemmas.Bool.{cases_eq, eq-eqb, false≢true, ne_eqb}
 use Rattle.info65.specs.Names.{AreNames, blank_name, covering, default_name, has_name_form, name_at}
 use Rattle.info65.specs.Views.{NameView}
-use Rattle.map65.proofs.BaseLaws.{base_law}
-use Rattle.map65.proofs.NameLemmas.{base-covered, base-none, base-unwanted, base-wanted, home-default, home-given, kind-of, last-name, name-short, text-of}
+use Rattle.map65.proofs.Public.{base-covered, base-none, base-unwanted, base-wanted, base_law, home-default, home-given, kind-of, last-name, name-short, text-of}
 use Rattle.map65.specs.MapView.{MapView}
 use Rattle.map65.specs.Names.{Base, base_at, given_base, has_name, home, home_base, is_wanted, kind_at, kind_by, place_of, text_at, text_by}
 use Rattle.map65.specs.declared.name.NameKind.{NameKind}

@@ -9,7 +9,7 @@ use Rattle.map65.specs.MapView.{MapView}
 use Rattle.map65.specs.Pieces.{AreOnePiece}
 use Rattle.map65.specs.Roles.{is_skip, role_of, unit_of}
 use Rattle.map65.specs.Spans.{left_at}
-use Rattle.map65.proofs.ItemLemmas.{one-role}
+use Rattle.map65.proofs.Public.{one-role}
 use Rattle.da65.specs.Groups.{BeginsFullLine, BeginsLine, GroupLaw, IsGroupPlace, IsItemOf, begins, group_len, is_whole, limit_at, limit_of, stride_at}
 use Rattle.da65.proofs.DefinedLemmas.{IsTable, group-unnamed}
 use Rattle.da65.proofs.GroupLemmas.{begins-true, group-begun, holder, item-begins, item-begun, item-goes-on, place-of, stride-group, stride-skip}

@@ -14,7 +14,7 @@ use Rattle.stmt65.specs.Views as view
 use Rattle.std.proofs.lemmas.List.Elements.{All-head, All-tail}
 use Rattle.map65.specs.MapView.{MapView}
 use Rattle.map65.specs.Segments as map_segments
-use Rattle.map65.proofs.NameLemmas.{last-name}
+use Rattle.map65.proofs.Public.{last-name}
 use Rattle.da65.specs.Comments.{comment_at, comment_by}
 use Rattle.da65.specs.Segments.{segment_at}
 use Rattle.da65.proofs.NameTexts.{form-same, text-long}

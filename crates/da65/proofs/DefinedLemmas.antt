@@ -9,8 +9,7 @@ use Rattle.map65.specs.Items.{item_len, size_for}
 use Rattle.map65.specs.MapView.{MapView}
 use Rattle.map65.specs.Names.{Base, base_at}
 use Rattle.map65.specs.Roles.{is_skip, role_of, unit_of}
-use Rattle.map65.proofs.BaseLaws.{place_law}
-use Rattle.map65.proofs.ItemLemmas.{one-role}
+use Rattle.map65.proofs.Public.{one-role, place_law}
 use Rattle.da65.specs.BaseNames.{is_own}
 use Rattle.da65.specs.Groups.{IsGroupPlace, group_len, is_defined}
 use Rattle.da65.proofs.GroupLemmas.{group-fits, inside-index, item-begun, item-goes-on}

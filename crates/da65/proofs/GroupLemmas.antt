@@ -9,7 +9,7 @@ use Rattle.map65.specs.MapView.{MapView}
 use Rattle.map65.specs.Pieces.{is_joined}
 use Rattle.map65.specs.Roles.{is_skip, role_of, unit_of}
 use Rattle.map65.specs.Spans.{addresses, left_at}
-use Rattle.map65.proofs.ItemLemmas.{item-len-at, left-past, left-begun, left-first, left-going, left-inside, size-fits, size-positive, skip-size}
+use Rattle.map65.proofs.Public.{item-len-at, left-begun, left-first, left-going, left-inside, left-past, size-fits, size-positive, skip-size}
 use Rattle.da65.specs.Groups.{IsGroupPlace, begins, goes_on, group_addresses, group_len, groups_from, is_defined, is_whole, limit_at, more_at, stride_at}
 
 -- ---- items

@@ -7,7 +7,7 @@ use Rattle.map65.specs.MapView.{MapView}
 use Rattle.map65.specs.Pieces.{AreOnePiece, is_joined}
 use Rattle.map65.specs.Roles.{is_skip, role_of, unit_of}
 use Rattle.map65.specs.Spans.{left_at}
-use Rattle.map65.proofs.ItemLemmas.{item-len-at, left-past, size-one-piece, size-positive}
+use Rattle.map65.proofs.Public.{item-len-at, left-past, size-one-piece, size-positive}
 use Rattle.da65.specs.Groups.{IsGroupPlace, goes_on, group_len, limit_at, more_at}
 use Rattle.da65.proofs.GroupLemmas.{item-begun, item-goes-on, left-within, more-false, more-none, more-true}
 use Rattle.da65.proofs.ShapeLemmas.{role-past, one-more}

@@ -10,10 +10,7 @@ use Rattle.map65.specs.Names.{Base, base_at, place_of, text_by}
 use Rattle.map65.specs.Roles.{is_skip, role_of}
 use Rattle.map65.specs.Spans.{addresses}
 use Rattle.map65.specs.declared.name.Place.TheVariants as place
-use Rattle.map65.proofs.BaseLaws.{base_law, place_law}
-use Rattle.map65.proofs.ItemLaws.{begun}
-use Rattle.map65.proofs.ItemLemmas.{size-fits}
-use Rattle.map65.proofs.NameLaws.{inside-if}
+use Rattle.map65.proofs.Public.{base_law, begun, inside-if, place_law, size-fits}
 use Rattle.da65.specs.BaseNames.{base_name, is_constant, names_of}
 use Rattle.da65.specs.Groups.{skips}
 use Rattle.da65.specs.ReassemblyLaw.{NamesAreSound}

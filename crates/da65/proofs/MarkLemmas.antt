@@ -11,7 +11,7 @@ use Rattle.info65.specs.Names.{AreNames, covering, name_at}
 use Rattle.info65.specs.Segments.{AreSegments, contains, segment_covering}
 use Rattle.info65.specs.Views.{InfoView, NameView, SegmentView}
 use Rattle.isa65.specs.declared.cpu.Cpu.{Cpu}
-use Rattle.map65.proofs.NameLemmas.{last-name}
+use Rattle.map65.proofs.Public.{last-name}
 use Rattle.map65.specs.ImageView.{ImageView, IsPlaced}
 use Rattle.map65.specs.MapView.{MapView}
 use Rattle.map65.specs.Spans.{addresses}

@@ -17,7 +17,7 @@ use Rattle.stmt65.specs.Names.{has_name_form, is_name, is_reserved, letters, sam
 use Rattle.stmt65.specs.Printable.{IsNameLong}
 use Rattle.map65.specs.MapView.{MapView}
 use Rattle.map65.specs.Names.{Base, base_at, base_by, given_base, home, home_base, is_wanted}
-use Rattle.map65.proofs.NameLemmas.{home-default, home-given, last-name}
+use Rattle.map65.proofs.Public.{home-default, home-given, last-name}
 
 -- a text that can be printed, and that reads as a name
 pub record IsNameText (text : List ℕ) : Type 0 where

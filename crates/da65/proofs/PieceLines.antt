@@ -8,7 +8,7 @@ use Rattle.map65.specs.Items.{item_len, size_at, wanted_at}
 use Rattle.map65.specs.MapView.{MapView}
 use Rattle.map65.specs.Pieces.{AreOnePiece, are_joined, is_joined}
 use Rattle.map65.specs.Roles.{is_skip, role_of, unit_of}
-use Rattle.map65.proofs.ItemLemmas.{item-len-at, joined-in, one-role}
+use Rattle.map65.proofs.Public.{item-len-at, joined-in, one-role}
 use Rattle.da65.specs.Groups.{IsGroupPlace, IsItemOf, IsStart, goes_on, group_len, is_defined, is_whole, limit_at, limit_of, more_at, stride_at}
 use Rattle.da65.proofs.GroupLemmas.{group-some, stride-group, stride-skip}
 use Rattle.da65.proofs.InsideLemmas.{full-more, group-piece}

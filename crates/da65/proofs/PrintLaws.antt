@@ -19,8 +19,7 @@ use Rattle.stmt65.specs.Line.{line_of}
 use Rattle.stmt65.specs.Printable.{IsLong, IsPrintable, IsShort, IsTable, IsWrittenIn, MayBeForced, MayBeLabelled}
 use Rattle.stmt65.specs.Printed.{HasLabelName, HasName, HasNames, HasNamesIn, PrintsAs, source_line, with_label}
 use Rattle.stmt65.specs.code.Widths.{AreWordWide, IsInWidth, IsWordWide}
-use Rattle.stmt65.proofs.OneLine.{one_line}
-use Rattle.stmt65.proofs.ReadBack.{reads_back}
+use Rattle.stmt65.proofs.Public.{one_line, reads_back}
 use Rattle.map65.specs.ImageView.{AreBytes}
 use Rattle.map65.specs.Names.{Base}
 use Rattle.map65.specs.Targets.{byte_of, entry_of, target_of, word_of}

@@ -3,7 +3,7 @@ use Rattle.std.proofs.Common.{◌≡◌, ◌∙◌, ℕ, suc, ◌<◌, ◌≤◌
 use Rattle.std.proofs.lemmas.Option.{cond_some, none-some}
 use Rattle.std.specs.List.{list_any}
 use Rattle.std.proofs.lemmas.Bool.{and_parts, and_from, both_ways, cond-false, cond_both, eq-eqb, eqb-true, false≢true, lt-ltb, ltb-true, leb-true, le-leb}
-use Rattle.info65.proofs.CoveringLemmas.{own_address_wins}
+use Rattle.info65.proofs.Public.{own_address_wins}
 use Rattle.info65.specs.Names.{AreNames, covering, name_at}
 use Rattle.info65.specs.Views.{NameView}
 use Rattle.info65.specs.declared.range.RangeType.{RangeType}
@@ -12,8 +12,7 @@ use Rattle.map65.specs.Items.{item_len}
 use Rattle.map65.specs.MapView.{MapView}
 use Rattle.map65.specs.Names.{Base}
 use Rattle.map65.specs.Pieces.{is_in_run, is_joined, is_own}
-use Rattle.map65.proofs.ItemLemmas.{in-run}
-use Rattle.map65.proofs.NameLemmas.{base-covered}
+use Rattle.map65.proofs.Public.{base-covered, in-run}
 use Rattle.map65.specs.Roles.{is_wide, role_at, role_of}
 use Rattle.da65.specs.BaseNames as base_names
 use Rattle.da65.specs.Groups.{goes_on, is_defined, is_whole}

@@ -15,7 +15,7 @@ use Rattle.map65.specs.Items.{code_size, item_len, size_at, size_for, wanted_at}
 use Rattle.map65.specs.MapView.{MapView, opcodes}
 use Rattle.map65.specs.Pieces.{are_joined, is_joined}
 use Rattle.map65.specs.Roles.{is_skip, role_of, unit_of}
-use Rattle.map65.proofs.ItemLemmas.{item-len-at, joined-in, one-role, size-one-piece, size-positive}
+use Rattle.map65.proofs.Public.{item-len-at, joined-in, one-role, size-one-piece, size-positive}
 use Rattle.da65.specs.Groups.{IsGroupPlace, goes_on, group_bytes, group_len, is_whole, limit_at, limit_of, more_at}
 use Rattle.da65.specs.Instructions.{instruction_in, size_of, whole_in}
 use Rattle.da65.specs.ReassemblyLaw.{GroupsAreGroups, IsGroup}

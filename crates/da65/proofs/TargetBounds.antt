@@ -19,10 +19,7 @@ use Rattle.map65.specs.MapView.{MapView, opcodes}
 use Rattle.map65.specs.Names.{Base, IsWanted, base_at, base_by, home_base, is_wanted}
 use Rattle.map65.specs.Roles.{role_of}
 use Rattle.map65.specs.Targets.{byte_of, code_target, entry_of, is_jump, only_inside, operand_target, return_target, target_at, target_for, word_of}
-use Rattle.map65.proofs.ItemLaws.{begun}
-use Rattle.map65.proofs.ItemLemmas.{size-fits}
-use Rattle.map65.proofs.NameLaws.{wanted_law}
-use Rattle.map65.proofs.NameLemmas.{last-name}
+use Rattle.map65.proofs.Public.{begun, last-name, size-fits, wanted_law}
 use Rattle.da65.proofs.FragmentLaws.{target_is}
 
 pub byte-small : (bytes : List ℕ) → AreBytes bytes → (i : ℕ) → slice_index bytes i < 256

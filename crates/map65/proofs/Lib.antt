@@ -1,13 +1,14 @@
-pub mod BaseLaws
-pub mod CellLemmas
-pub mod ItemLaws
-pub mod ItemLemmas
-pub mod NameLemmas
-pub mod NameLaws
-pub mod NamingLemmas
-pub mod PaintLemmas
-pub mod PieceLaws
-pub mod ReadLemmas
-pub mod RunLemmas
-pub mod SweepLemmas
-pub mod TargetLemmas
+mod BaseLaws
+mod CellLemmas
+mod ItemLaws
+mod ItemLemmas
+mod NameLemmas
+mod NameLaws
+mod NamingLemmas
+mod PaintLemmas
+mod PieceLaws
+mod ReadLemmas
+mod RunLemmas
+mod SweepLemmas
+mod TargetLemmas
+pub mod Public

@@ -1,29 +1,30 @@
-pub mod PartLemmas
-pub mod NumberLemmas
-pub mod ListLemmas
-pub mod Cases
-pub mod SpacingLemmas
-pub mod ReadIsSpelled
-pub mod SpelledIsRead
-pub mod LineLemmas
-pub mod TableLists
-pub mod OperandTexts
-pub mod PatternLemmas
-pub mod TableTexts
-pub mod WidthLemmas
-pub mod Rows
-pub mod Lexed
-pub mod TableReads
-pub mod RemarkLemmas
-pub mod ReadBack
-pub mod OneLine
-pub mod LineLaws
-pub mod MeaningRows
-pub mod SymbolLaws
-pub mod CodingLemmas
-pub mod CutLemmas
-pub mod HeldLemmas
-pub mod PassLaws
-pub mod TextLemmas
-pub mod ModeLemmas
-pub mod FaultLemmas
+mod PartLemmas
+mod NumberLemmas
+mod ListLemmas
+mod Cases
+mod SpacingLemmas
+mod ReadIsSpelled
+mod SpelledIsRead
+mod LineLemmas
+mod TableLists
+mod OperandTexts
+mod PatternLemmas
+mod TableTexts
+mod WidthLemmas
+mod Rows
+mod Lexed
+mod TableReads
+mod RemarkLemmas
+mod ReadBack
+mod OneLine
+mod LineLaws
+mod MeaningRows
+mod SymbolLaws
+mod CodingLemmas
+mod CutLemmas
+mod HeldLemmas
+mod PassLaws
+mod TextLemmas
+mod ModeLemmas
+mod FaultLemmas
+pub mod Public
