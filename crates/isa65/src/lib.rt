@@ -4,8 +4,10 @@
 //! for which `Op`, by laws that every set keeps. [`Mos6502`], [`Cmos65Sc02`] and [`Rockwell65C02`] are
 //! the sets of three CPUs, each with the opcodes of the one before and more. A [`Cpu`] is the set of the
 //! CPU that it names, and a [`DecodeTable`] is the same as a table by byte. [`later_keep_earlier`] is the law between the sets.
+//! [`ByteOrder`] is the order in which a number of several bytes stands.
 #![tactic(auto)]
 
+mod byte_order;
 mod cmos_65sc02;
 mod cpu;
 mod decode_table;
@@ -17,6 +19,7 @@ mod op;
 mod opcode_set;
 mod rockwell_65c02;
 
+pub use byte_order::ByteOrder;
 pub use cmos_65sc02::Cmos65Sc02;
 pub use cpu::Cpu;
 pub use decode_table::DecodeTable;

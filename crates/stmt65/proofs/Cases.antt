@@ -1,14 +1,19 @@
 -- Going by what a test, an option or a list turns out to be; what stands in front; words in any case.
 use Rattle.std.proofs.Common.{◌≡◌, ℕ, Bool, true, false, List, [], ◌∷◌, drop, Option, Some, None, refl, sym, ap, ◌∙◌}
 use Rattle.std.specs.Prelude.{◌&&◌, ◌||◌, not, codes, is_some}
-use Rattle.std.specs.List.{list_any}
-use Rattle.std.specs.Str.{str_to_ascii_lowercase}
+use Rattle.std.specs.List.{list_any, find}
+use Rattle.std.specs.Str.{bytes_eq, str_to_ascii_lowercase}
 use Rattle.std.proofs.lemmas.Bool.{eqb-true}
 use Rattle.std.proofs.lemmas.Slice.Eq.{bytes_eq-Decides}
 use Rattle.isa65.specs.declared.mnemonic.Mnemonic.{Mnemonic}
 use Rattle.isa65.specs.declared.mnemonic.Mnemonic.TheVariants.{Adc}
 use Rattle.isa65.specs.Mnemonic.{text_of, mnemonic_named}
 use Rattle.isa65.specs.MnemonicLaws.{mnemonic_named-is, mnemonic_named-text_of}
+use Rattle.isa65.specs.Finding.{find-passes}
+use Rattle.stmt65.specs.declared.directive.Directive.{Directive}
+use Rattle.stmt65.specs.declared.directive.Directive.TheVariants as directive
+use Rattle.stmt65.specs.declared.directive.TheConstants.{ALL}
+use Rattle.stmt65.specs.Directives.{directive_text, directive_named}
 use Rattle.stmt65.specs.Parts.{Part, Word, Number, Define, Mark, number_of}
 use Rattle.stmt65.specs.Names.{same, letters, is_reserved, has_name_form, is_name}
 use Rattle.stmt65.specs.Reading.{is_mark, is_define, is_word_here, is_number_here, number_in}
@@ -72,19 +77,59 @@ mnemonic_is w m h = (bytes_eq-Decides _ _).1 ((mnemonic_named-is w m).0 h ∙ sy
 pub mnemonic_again : (w : List ℕ) (m : Mnemonic) → same w (text_of m) ≡ true → mnemonic_named w ≡ Some m
 mnemonic_again w m h = (mnemonic_named-is w m).1 ((bytes_eq-Decides _ _).0 h ∙ lowercase-text_of m)
 
+-- two spellings of one word name the same directive
+named_alike : (w t : List ℕ) → same w t ≡ true → directive_named w ≡ directive_named t
+unfolding directive_named
+named_alike w t h =
+    let e : str_to_ascii_lowercase w ≡ str_to_ascii_lowercase t = (bytes_eq-Decides _ _).0 h in
+    ap (λ (l : List ℕ). find (λ d. bytes_eq l (str_to_ascii_lowercase (directive_text d))) ALL) e
+
+-- what is written of a directive names it
+text_names : (d : Directive) → directive_named (directive_text d) ≡ Some d
+unfolding directive_named
+text_names directive.Word = refl
+text_names _ = refl
+
+pub directive_again : (w : List ℕ) (d : Directive) → same w (directive_text d) ≡ true → directive_named w ≡ Some d
+directive_again w d h = named_alike w (directive_text d) h ∙ text_names d
+
+pub directive_is : (w : List ℕ) (d : Directive) → directive_named w ≡ Some d → same w (directive_text d) ≡ true
+unfolding directive_named
+directive_is w d h = find-passes (λ d. same w (directive_text d)) ALL d h
+
+-- a word that spells what is no directive is none
+pub no_directive : (w t : List ℕ) → same w t ≡ true → directive_named t ≡ None → directive_named w ≡ None
+no_directive w t h e = named_alike w t h ∙ e
+
+-- the other operations that begin with a dot
+pub other_byte : directive_named (codes ".byte") ≡ None
+unfolding directive_named
+other_byte = refl
+
+pub other_segment : directive_named (codes ".segment") ≡ None
+unfolding directive_named
+other_segment = refl
+
+pub other_code : directive_named (codes ".code") ≡ None
+unfolding directive_named
+other_code = refl
+
+pub other_set_cpu : directive_named (codes ".setcpu") ≡ None
+unfolding directive_named
+other_set_cpu = refl
+
 -- what is none of the operations that begin with a dot
 pub record HasNoDot (t : List ℕ) : Type 0 where
+  pub directive : directive_named t ≡ None
   pub byte : same t (codes ".byte") ≡ false
-  pub word : same t (codes ".word") ≡ false
-  pub dbyt : same t (codes ".dbyt") ≡ false
-  pub addr : same t (codes ".addr") ≡ false
   pub segment : same t (codes ".segment") ≡ false
   pub code : same t (codes ".code") ≡ false
   pub set_cpu : same t (codes ".setcpu") ≡ false
 
 pub no_dot : (m : Mnemonic) → HasNoDot (text_of m)
-no_dot Adc = record { byte = refl; word = refl; dbyt = refl; addr = refl; segment = refl; code = refl; set_cpu = refl }
-no_dot _ = record { byte = refl; word = refl; dbyt = refl; addr = refl; segment = refl; code = refl; set_cpu = refl }
+unfolding directive_named
+no_dot Adc = record { directive = refl; byte = refl; segment = refl; code = refl; set_cpu = refl }
+no_dot _ = record { directive = refl; byte = refl; segment = refl; code = refl; set_cpu = refl }
 
 -- a name is none of the operand words
 pub no_letter : (w : List ℕ) → is_name w ≡ true → (same w (codes "a") ≡ false) × (same w (codes "x") ≡ false) × (same w (codes "y") ≡ false)

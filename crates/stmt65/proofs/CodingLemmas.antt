@@ -1,5 +1,6 @@
 -- How codings are found and how long they are.
 use Rattle.std.proofs.Common.{◌≡◌, ℕ, suc, Bool, true, false, ◌+◌, ◌*◌, ◌<◌, ◌≤◌, List, [], ◌∷◌, ◌++◌, length, drop, get_or, map, Option, Some, None, refl, sym, ap, ◌∙◌, append_assoc, arith}
+use Rattle.std.proofs.Math.Nat.{suc-mul, zero-mul}
 use Rattle.std.proofs.Math.Seq.{drop-cons}
 use Rattle.std.proofs.Math.ListN.{drop_of_length-le}
 use Rattle.isa65.specs.declared.cpu.Cpu.{Cpu}
@@ -11,12 +12,12 @@ use Rattle.std.specs.List.{list_all, flat_map}
 use Rattle.stmt65.specs.declared.source_line.Value.{Value as CodeValue}
 use Rattle.stmt65.specs.declared.source_line.Datum.{Datum as CodeDatum}
 use Rattle.stmt65.specs.declared.source_line.Datum.TheVariants.{Number, String}
-use Rattle.stmt65.specs.declared.coding.ByteOrder.{ByteOrder}
-use Rattle.stmt65.specs.declared.coding.ByteOrder.TheVariants as order
+use Rattle.stmt65.specs.declared.directive.Directive.{Directive}
+use Rattle.stmt65.specs.Directives.{entry_len}
 use Rattle.stmt65.specs.Symbols.{Definition, is_known}
 use Rattle.stmt65.specs.code.SourceLineViews.{value_of, datum_of}
-use Rattle.stmt65.specs.Coding.{Fragment, Fixed, Way, first_way, coded_so, datum_fragments, is_fragment_known, fragment_fits, fragment_bytes, coding_len}
-use Rattle.stmt65.specs.code.CodingViews.{data_fragments, word_fragment, word_fragments}
+use Rattle.stmt65.specs.Coding.{Fragment, Fixed, Entry, Way, first_way, coded_so, datum_fragments, is_fragment_known, fragment_fits, fragment_bytes, coding_len}
+use Rattle.stmt65.specs.code.CodingViews.{data_fragments, entry_fragments}
 use Rattle.stmt65.specs.code.Held.{held}
 
 abbrev pub or_way : Option (List Fragment) → Option (List Fragment) → Option (List Fragment)
@@ -67,11 +68,10 @@ unfolding coding_len
 datum_len [] = refl
 datum_len (b ∷ bs) = let ih = datum_len bs in omega arith
 
-pub word_fragments_len : (o : ByteOrder) (vs : List CodeValue) → coding_len (word_fragments o vs) ≡ length vs * 2
+pub entry_fragments_len : (d : Directive) (vs : List CodeValue) → coding_len (entry_fragments d vs) ≡ length vs * entry_len d
 unfolding coding_len
-word_fragments_len o [] = refl
-word_fragments_len order.LittleEndian (v ∷ vs) = let ih = word_fragments_len order.LittleEndian vs in omega arith
-word_fragments_len order.BigEndian (v ∷ vs) = let ih = word_fragments_len order.BigEndian vs in omega arith
+entry_fragments_len d [] = sym (zero-mul (entry_len d))
+entry_fragments_len d (v ∷ vs) = omega (arith, entry_fragments_len d vs, suc-mul (length vs) (entry_len d))
 
 -- a sum over data that is held at its limit, one datum on
 pub data_len_step : (ds : List CodeDatum) (i len new : ℕ) (d : CodeDatum) (total : ℕ) → i < length ds → new ≡ held (len + coding_len (datum_fragments (datum_of (get_or ds i d))))
@@ -119,11 +119,11 @@ unfolding fragment_bytes
 string_bytes all next [] = refl
 string_bytes all next (b ∷ bs) = ap (λ (l : List ℕ). b ∷ l) (string_bytes all next bs)
 
--- one word more of some
-pub words_bytes_step : (all : List Definition) (next : ℕ) (o : ByteOrder) (vs : List CodeValue) (i : ℕ) (v : CodeValue) (out more total : List ℕ) (f : Fragment)
-    → i < length vs → f ≡ word_fragment o (value_of (get_or vs i v)) → more ≡ out ++ fragment_bytes all next f
-    → out ++ flat_map (fragment_bytes all next) (word_fragments o (drop i vs)) ≡ total → more ++ flat_map (fragment_bytes all next) (word_fragments o (drop (i + 1) vs)) ≡ total
-words_bytes_step all next o vs i v out more total f h e g so_far =
+-- one number more of some
+pub values_bytes_step : (all : List Definition) (next : ℕ) (d : Directive) (vs : List CodeValue) (i : ℕ) (v : CodeValue) (out more total : List ℕ)
+    → i < length vs → more ≡ out ++ fragment_bytes all next (Entry d (value_of (get_or vs i v)))
+    → out ++ flat_map (fragment_bytes all next) (entry_fragments d (drop i vs)) ≡ total → more ++ flat_map (fragment_bytes all next) (entry_fragments d (drop (i + 1) vs)) ≡ total
+values_bytes_step all next d vs i v out more total h g so_far =
     let one : i + 1 ≡ suc i = omega arith in
-    let cut = ap (λ (l : List CodeValue). out ++ flat_map (fragment_bytes all next) (word_fragments o l)) (drop-cons vs i v h) in
-    rw (one, g, e, append_assoc) (sym cut ∙ so_far)
+    let cut = ap (λ (l : List CodeValue). out ++ flat_map (fragment_bytes all next) (entry_fragments d l)) (drop-cons vs i v h) in
+    rw (one, g, append_assoc) (sym cut ∙ so_far)

@@ -11,10 +11,11 @@ use Rattle.isa65.specs.declared.mode.Mode.TheVariants.{Zp, Zpx, Zpy, Abs, Absx, 
 use Rattle.isa65.specs.Cpu.{cpu_named}
 use Rattle.stmt65.specs.declared.fault.AsmFaultKind.{AsmFaultKind}
 use Rattle.stmt65.specs.declared.fault.AsmFaultKind.TheVariants.{Syntax, UnknownCpu, NoSuchForm, Undefined, DefinedTwice, OutOfRange, PastEnd, Memory}
-use Rattle.stmt65.specs.SourceLine.{Value, NumberValue, NameValue, Form, Empty, Accumulator, Immediate, Direct, DirectX, DirectY, Two, Indirect, IndirectX, IndirectY, Datum, NumberDatum, StringDatum, Operation, Nothing, Instr, Data, Words, Dbyts, Addrs, Segment, Code, SetCpu, SourceLine}
+use Rattle.stmt65.specs.SourceLine.{Value, NumberValue, NameValue, Form, Empty, Accumulator, Immediate, Direct, DirectX, DirectY, Two, Indirect, IndirectX, IndirectY, Datum, NumberDatum, StringDatum, Operation, Nothing, Instr, Data, Values, Segment, Code, SetCpu, SourceLine}
 use Rattle.stmt65.specs.declared.source_line.AddressSize.TheVariants.{Absolute, Automatic}
+use Rattle.stmt65.specs.Directives.{entry_limit}
 use Rattle.stmt65.specs.Symbols.{Definition, find_name, value_in, is_known, below, word_in, has_zero_page_size}
-use Rattle.stmt65.specs.Coding.{Fragment, Fixed, Single, ZeroPage, Oversized, LowFirst, HighFirst, Distance, Way, zero_page, datum_fragments, is_fragment_known, is_near, fragment_fits, ways, first_way, coding}
+use Rattle.stmt65.specs.Coding.{Fragment, Fixed, Single, ZeroPage, Oversized, Entry, Distance, Way, zero_page, datum_fragments, is_fragment_known, is_near, fragment_fits, entry_in, word_operand, ways, first_way, coding}
 use Rattle.stmt65.specs.Meaning.{State, operation_in, fragments_of, next_of, defined_by, has_unknown_cpu, has_no_form, is_undefined, is_twice, is_out_of_range, is_past_end, first_of, fault_of}
 use Rattle.stmt65.specs.Forms.{form_values}
 use Rattle.stmt65.specs.FaultLaws.{rank, operation_values, NamesNoCpu, HasNoMode, IsUnknown, HasRoom, HasFault, FindsLowest, FindsNone}
@@ -91,19 +92,19 @@ ways_known all above (Immediate v) = (refl, tt)
 ways_known all above (Direct Absolute v) = (refl, tt)
 ways_known all above (Direct Automatic v) = go (has_zero_page_size above v)
   where
-    go : (b : Bool) → EachKnown all (Direct Automatic v) (cond b ((Zp, ZeroPage v ∷ []) ∷ (Abs, LowFirst v ∷ []) ∷ []) ((Abs, LowFirst v ∷ []) ∷ (Zp, Oversized v ∷ []) ∷ []) ++ (Rel, Distance v ∷ []) ∷ [])
+    go : (b : Bool) → EachKnown all (Direct Automatic v) (cond b ((Zp, ZeroPage v ∷ []) ∷ (Abs, word_operand v ∷ []) ∷ []) ((Abs, word_operand v ∷ []) ∷ (Zp, Oversized v ∷ []) ∷ []) ++ (Rel, Distance v ∷ []) ∷ [])
     go true = (refl, (refl, (refl, tt)))
     go false = (refl, (refl, (refl, tt)))
 ways_known all above (DirectX Absolute v) = (refl, tt)
 ways_known all above (DirectX Automatic v) = go (has_zero_page_size above v)
   where
-    go : (b : Bool) → EachKnown all (DirectX Automatic v) (cond b ((Zpx, ZeroPage v ∷ []) ∷ (Absx, LowFirst v ∷ []) ∷ []) ((Absx, LowFirst v ∷ []) ∷ (Zpx, Oversized v ∷ []) ∷ []))
+    go : (b : Bool) → EachKnown all (DirectX Automatic v) (cond b ((Zpx, ZeroPage v ∷ []) ∷ (Absx, word_operand v ∷ []) ∷ []) ((Absx, word_operand v ∷ []) ∷ (Zpx, Oversized v ∷ []) ∷ []))
     go true = (refl, (refl, tt))
     go false = (refl, (refl, tt))
 ways_known all above (DirectY Absolute v) = (refl, tt)
 ways_known all above (DirectY Automatic v) = go (has_zero_page_size above v)
   where
-    go : (b : Bool) → EachKnown all (DirectY Automatic v) (cond b ((Zpy, ZeroPage v ∷ []) ∷ (Absy, LowFirst v ∷ []) ∷ []) ((Absy, LowFirst v ∷ []) ∷ (Zpy, Oversized v ∷ []) ∷ []))
+    go : (b : Bool) → EachKnown all (DirectY Automatic v) (cond b ((Zpy, ZeroPage v ∷ []) ∷ (Absy, word_operand v ∷ []) ∷ []) ((Absy, word_operand v ∷ []) ∷ (Zpy, Oversized v ∷ []) ∷ []))
     go true = (refl, (refl, tt))
     go false = (refl, (refl, tt))
 ways_known all above (Two v w) = (rw (zero_page_known all above v) refl, tt)
@@ -130,9 +131,7 @@ unfolding coding
 fragments_known all cpu above Nothing fragments e = let same : [] ≡ fragments = cc in rw (← same) refl
 fragments_known all cpu above (Instr m form) fragments e = first_known all cpu m form (ways above form) fragments (ways_known all above form) e
 fragments_known all cpu above (Data ds) fragments e = let same : flat_map datum_fragments ds ≡ fragments = cc in rw (← same) (data_known all ds)
-fragments_known all cpu above (Words vs) fragments e = let same : map LowFirst vs ≡ fragments = cc in rw (← same) (list_all-map (is_fragment_known all) LowFirst vs)
-fragments_known all cpu above (Dbyts vs) fragments e = let same : map HighFirst vs ≡ fragments = cc in rw (← same) (list_all-map (is_fragment_known all) HighFirst vs)
-fragments_known all cpu above (Addrs vs) fragments e = let same : map LowFirst vs ≡ fragments = cc in rw (← same) (list_all-map (is_fragment_known all) LowFirst vs)
+fragments_known all cpu above (Values d vs) fragments e = let same : map (Entry d) vs ≡ fragments = cc in rw (← same) (list_all-map (is_fragment_known all) (Entry d) vs)
 fragments_known all cpu above (Segment name) fragments e = let same : [] ≡ fragments = cc in rw (← same) refl
 fragments_known all cpu above Code fragments e = let same : [] ≡ fragments = cc in rw (← same) refl
 fragments_known all cpu above (SetCpu text) fragments e = let same : [] ≡ fragments = cc in rw (← same) refl
@@ -165,13 +164,13 @@ byte_tied (Some n) = go (ltb n 65536) refl (ltb n 256) refl
     go true e false f = rw e (rw f (record { to = λ p. false_true p; from = λ h. absurd (let g = h.1 in let same : n ≡ h.0 = cc in let le = h.2 in let t : ltb n 256 ≡ true = grind (arith, nat_tests) in let no : ⊥ = cc in no) }))
     go false e c f = rw e (record { to = λ p. false_true p; from = λ h. absurd (let g = h.1 in let same : n ≡ h.0 = cc in let le = h.2 in let t : ltb n 65536 ≡ true = grind (arith, nat_tests) in let no : ⊥ = cc in no) })
 
-word_tied : (o : Option ℕ) → Tied (is_some (below 65536 o)) ((n : ℕ) × (o ≡ Some n) × (n ≤ 65535))
-word_tied None = record { to = λ e. false_true e; from = λ h. absurd (let e = h.1 in cc) }
-word_tied (Some n) = go (ltb n 65536) refl
+below_tied : (limit : ℕ) (o : Option ℕ) → Tied (is_some (below limit o)) ((n : ℕ) × (o ≡ Some n) × (n < limit))
+below_tied limit None = record { to = λ e. false_true e; from = λ h. absurd (let e = h.1 in cc) }
+below_tied limit (Some n) = go (ltb n limit) refl
   where
-    go : (b : Bool) → ltb n 65536 ≡ b → Tied (is_some (below 65536 (Some n))) ((m : ℕ) × (Some n ≡ Some m) × (m ≤ 65535))
-    go true e = let lt = ltb-true n 65536 e in rw e (record { to = λ p. (n, refl, omega arith); from = λ h. refl })
-    go false e = rw e (record { to = λ p. false_true p; from = λ h. absurd (let g = h.1 in let same : n ≡ h.0 = cc in let le = h.2 in let t : ltb n 65536 ≡ true = grind (arith, nat_tests) in let no : ⊥ = cc in no) })
+    go : (b : Bool) → ltb n limit ≡ b → Tied (is_some (below limit (Some n))) ((m : ℕ) × (Some n ≡ Some m) × (m < limit))
+    go true e = let lt = ltb-true n limit e in rw e (record { to = λ p. (n, refl, lt); from = λ h. refl })
+    go false e = rw e (record { to = λ p. false_true p; from = λ h. absurd (let g = h.1 in let same : n ≡ h.0 = cc in let t : ltb n limit ≡ true = ap (λ (m : ℕ). ltb m limit) same ∙ lt-ltb h.0 limit h.2 in let no : ⊥ = cc in no) })
 
 near_tied : (next : ℕ) (o : Option ℕ) → Tied (is_near next (below 65536 o)) ((n : ℕ) × (o ≡ Some n) × (n ≤ 65535) × (next ≤ n + 128) × (n ≤ next + 127))
 near_tied next None = record { to = λ e. false_true e; from = λ h. absurd (let e = h.1 in cc) }
@@ -189,13 +188,12 @@ near_tied next (Some n) = go (ltb n 65536) refl (leb next (n + 128)) refl (leb n
     go false e b f c g = rw e (record { to = λ p. false_true p; from = λ h. absurd (let i = h.1 in let same : n ≡ h.0 = cc in let le = h.2 in let t : ltb n 65536 ≡ true = grind (arith, nat_tests) in let no : ⊥ = cc in no) })
 
 room_tied : (all : List Definition) (next : ℕ) (f : Fragment) → Tied (fragment_fits all next f) (HasRoom all next f)
-unfolding fragment_fits word_in
+unfolding fragment_fits word_in entry_in
 room_tied all next (Fixed b) = record { to = λ e. tt; from = λ h. refl }
 room_tied all next (Single v) = byte_tied (value_in all v)
 room_tied all next (ZeroPage v) = byte_tied (value_in all v)
 room_tied all next (Oversized v) = never
-room_tied all next (LowFirst v) = word_tied (value_in all v)
-room_tied all next (HighFirst v) = word_tied (value_in all v)
+room_tied all next (Entry d v) = below_tied (entry_limit d) (value_in all v)
 room_tied all next (Distance v) = near_tied next (value_in all v)
 
 less_tied : (m n : ℕ) → Tied (ltb m n) (m < n)

@@ -14,10 +14,13 @@ use Rattle.stmt65.specs.declared.fault.AsmFaultKind.{AsmFaultKind}
 use Rattle.stmt65.specs.declared.fault.AsmFaultKind.TheVariants.{UnknownCpu, NoSuchForm, Undefined, DefinedTwice, OutOfRange, PastEnd}
 use Rattle.stmt65.specs.declared.source_line.Minus.{Minus}
 use Rattle.stmt65.specs.declared.source_line.Minus.TheVariants.{Zero, One}
-use Rattle.stmt65.specs.SourceLine.{SourceLine, Assignment, PlaceAssignment, Statement, Value, NumberValue, NameValue, Form, Empty, Accumulator, Immediate, Direct, DirectX, DirectY, Two, Indirect, IndirectX, IndirectY, Operation, Nothing, Instr, Data, Words, Dbyts, Addrs, Segment, Code, SetCpu}
+use Rattle.stmt65.specs.SourceLine.{SourceLine, Assignment, PlaceAssignment, Statement, Value, NumberValue, NameValue, Form, Empty, Accumulator, Immediate, Direct, DirectX, DirectY, Two, Indirect, IndirectX, IndirectY, Operation, Nothing, Instr, Data, Values, Segment, Code, SetCpu}
 use Rattle.stmt65.specs.declared.source_line.AddressSize.TheVariants.{Absolute, Automatic}
+use Rattle.stmt65.specs.declared.directive.Directive.{Directive}
+use Rattle.stmt65.specs.declared.directive.Directive.TheVariants.{Word}
+use Rattle.stmt65.specs.Directives.{entry_limit}
 use Rattle.stmt65.specs.Symbols.{Definition, find_name, below, lowered, value_in, is_known, word_in, is_small, is_constant, has_zero_page_size}
-use Rattle.stmt65.specs.Coding.{Fragment, Fixed, Single, ZeroPage, Oversized, LowFirst, HighFirst, Distance, is_fragment_known, is_near, fragment_fits, fragment_bytes, ways, first_way, coding, coding_len}
+use Rattle.stmt65.specs.Coding.{Fragment, Fixed, Single, ZeroPage, Oversized, Entry, Distance, entry_in, is_fragment_known, is_near, fragment_fits, fragment_bytes, ways, first_way, coding, coding_len}
 use Rattle.stmt65.specs.code.CodingViews.{coded_of}
 use Rattle.stmt65.specs.code.Held.{held, held_value}
 use Rattle.stmt65.specs.Meaning.{State, operation_in, fragments_of, next_of, defined_by, has_unknown_cpu, has_no_form, is_undefined, is_twice, is_out_of_range, is_past_end, first_of, fault_of, bytes_of, after, final, initial}
@@ -50,37 +53,56 @@ unfolding is_known
 is_known-held ds (NumberValue n) = refl
 is_known-held ds (NameValue w n less) = rw (find_name-held w ds) (is_some-held (find_name w ds))
 
+-- a limit that is far below what is held
+abbrev IsFarBelow : ℕ → Type 0
+IsFarBelow limit = limit ≤ 4294967296
+
 -- a value that is held has room where the value has
-lowered-held : (less : Minus) (v n : ℕ) → below 65536 (lowered less (held v + n)) ≡ below 65536 (lowered less (v + n))
-lowered-held Zero v n = small_or (ltb v 65536) refl
+lowered-held : (limit : ℕ) → IsFarBelow limit → (less : Minus) (v n : ℕ) → below limit (lowered less (held v + n)) ≡ below limit (lowered less (v + n))
+lowered-held limit far Zero v n = small_or (ltb v limit) refl
   where
-    small_or : (b : Bool) → ltb v 65536 ≡ b → below 65536 (Some (held v + n)) ≡ below 65536 (Some (v + n))
-    small_or true e = let lt = ltb-true v 65536 e in let same : held v ≡ v = omega arith in rw same refl
+    small_or : (b : Bool) → ltb v limit ≡ b → below limit (Some (held v + n)) ≡ below limit (Some (v + n))
+    small_or true e = let lt = ltb-true v limit e in let same : held v ≡ v = omega arith in rw same refl
     small_or false e =
-        let ge = ltb-false v 65536 e in
-        let left : ltb (held v + n) 65536 ≡ false = grind (arith, nat_tests) in
-        let right : ltb (v + n) 65536 ≡ false = grind (arith, nat_tests) in
+        let ge = ltb-false v limit e in
+        let left : ltb (held v + n) limit ≡ false = grind (arith, nat_tests) in
+        let right : ltb (v + n) limit ≡ false = grind (arith, nat_tests) in
         rw (left, right) refl
-lowered-held One v n = small_or (ltb v 65537) refl
+lowered-held limit far One v n = small_or (ltb v (limit + 1)) refl
   where
-    large : (m : ℕ) → 65537 ≤ m → below 65536 (lowered One m) ≡ None
+    large : (m : ℕ) → limit + 1 ≤ m → below limit (lowered One m) ≡ None
     large m h =
         let zero : eqb m 0 ≡ false = grind (arith, nat_tests) in
-        let over : ltb (m - 1) 65536 ≡ false = grind (arith, nat_tests) in
+        let over : ltb (m - 1) limit ≡ false = grind (arith, nat_tests) in
         rw (zero, over) refl
 
-    small_or : (b : Bool) → ltb v 65537 ≡ b → below 65536 (lowered One (held v + n)) ≡ below 65536 (lowered One (v + n))
-    small_or true e = let lt = ltb-true v 65537 e in let same : held v ≡ v = omega arith in rw same refl
-    small_or false e = let ge = ltb-false v 65537 e in large (held v + n) (omega arith) ∙ sym (large (v + n) (omega arith))
+    small_or : (b : Bool) → ltb v (limit + 1) ≡ b → below limit (lowered One (held v + n)) ≡ below limit (lowered One (v + n))
+    small_or true e = let lt = ltb-true v (limit + 1) e in let same : held v ≡ v = omega arith in rw same refl
+    small_or false e = let ge = ltb-false v (limit + 1) e in large (held v + n) (omega arith) ∙ sym (large (v + n) (omega arith))
+
+value_in-held : (limit : ℕ) → IsFarBelow limit → (ds : List Definition) (v : Value) → below limit (value_in (map held_definition ds) v) ≡ below limit (value_in ds v)
+unfolding value_in
+value_in-held limit far ds (NumberValue n) = refl
+value_in-held limit far ds (NameValue w n less) = rw (find_name-held w ds) (go (find_name w ds))
+  where
+    go : (o : Option Definition) → below limit (option_and_then (λ d. lowered less (d.value + n)) (option_map held_definition o)) ≡ below limit (option_and_then (λ d. lowered less (d.value + n)) o)
+    go None = refl
+    go (Some d) = lowered-held limit far less d.value n
+
+word_far : IsFarBelow 65536
+word_far = omega arith
+
+entry_far : (d : Directive) → IsFarBelow (entry_limit d)
+entry_far Word = omega arith
+entry_far _ = omega arith
 
 word_in-held : (ds : List Definition) (v : Value) → word_in (map held_definition ds) v ≡ word_in ds v
-unfolding word_in value_in
-word_in-held ds (NumberValue n) = refl
-word_in-held ds (NameValue w n less) = rw (find_name-held w ds) (go (find_name w ds))
-  where
-    go : (o : Option Definition) → below 65536 (option_and_then (λ d. lowered less (d.value + n)) (option_map held_definition o)) ≡ below 65536 (option_and_then (λ d. lowered less (d.value + n)) o)
-    go None = refl
-    go (Some d) = lowered-held less d.value n
+unfolding word_in
+word_in-held ds v = value_in-held 65536 word_far ds v
+
+entry_in-held : (ds : List Definition) (d : Directive) (v : Value) → entry_in (map held_definition ds) d v ≡ entry_in ds d v
+unfolding entry_in
+entry_in-held ds d v = value_in-held (entry_limit d) (entry_far d) ds v
 
 small-held : (less : Minus) (v n : ℕ) → is_small (lowered less (held v + n)) ≡ is_small (lowered less (v + n))
 small-held Zero v n = grind (arith, nat_tests)
@@ -108,24 +130,32 @@ size-held ds (NameValue w n less) = rw (find_name-held w ds) (go (find_name w ds
 
 -- ---- the number of an expression, held
 
-pub word_in-held_value : (ds : List Definition) (v : Value) → below 65536 (value_in ds (held_value v)) ≡ word_in ds v
-unfolding word_in value_in
-word_in-held_value ds (NumberValue n) = small_or (ltb n 65536) refl
+below-held_value : (limit : ℕ) → IsFarBelow limit → (ds : List Definition) (v : Value) → below limit (value_in ds (held_value v)) ≡ below limit (value_in ds v)
+unfolding value_in
+below-held_value limit far ds (NumberValue n) = small_or (ltb n limit) refl
   where
-    small_or : (b : Bool) → ltb n 65536 ≡ b → below 65536 (Some (held n)) ≡ below 65536 (Some n)
-    small_or true e = let lt = ltb-true n 65536 e in let same : held n ≡ n = omega arith in rw same refl
+    small_or : (b : Bool) → ltb n limit ≡ b → below limit (Some (held n)) ≡ below limit (Some n)
+    small_or true e = let lt = ltb-true n limit e in let same : held n ≡ n = omega arith in rw same refl
     small_or false e =
-        let ge = ltb-false n 65536 e in
-        let left : ltb (held n) 65536 ≡ false = grind (arith, nat_tests) in
+        let ge = ltb-false n limit e in
+        let left : ltb (held n) limit ≡ false = grind (arith, nat_tests) in
         rw (left, e) refl
-word_in-held_value ds (NameValue w n minus) = go (find_name w ds)
+below-held_value limit far ds (NameValue w n minus) = go (find_name w ds)
   where
-    go : (o : Option Definition) → below 65536 (option_and_then (λ d. lowered minus (d.value + held n)) o) ≡ below 65536 (option_and_then (λ d. lowered minus (d.value + n)) o)
+    go : (o : Option Definition) → below limit (option_and_then (λ d. lowered minus (d.value + held n)) o) ≡ below limit (option_and_then (λ d. lowered minus (d.value + n)) o)
     go None = refl
     go (Some d) =
         let left : d.value + held n ≡ held n + d.value = omega arith in
         let right : n + d.value ≡ d.value + n = omega arith in
-        ap (λ (k : ℕ). below 65536 (lowered minus k)) left ∙ lowered-held minus n d.value ∙ ap (λ (k : ℕ). below 65536 (lowered minus k)) right
+        ap (λ (k : ℕ). below limit (lowered minus k)) left ∙ lowered-held limit far minus n d.value ∙ ap (λ (k : ℕ). below limit (lowered minus k)) right
+
+pub word_in-held_value : (ds : List Definition) (v : Value) → below 65536 (value_in ds (held_value v)) ≡ word_in ds v
+unfolding word_in
+word_in-held_value ds v = below-held_value 65536 word_far ds v
+
+pub entry_in-held_value : (ds : List Definition) (d : Directive) (v : Value) → below (entry_limit d) (value_in ds (held_value v)) ≡ entry_in ds d v
+unfolding entry_in
+entry_in-held_value ds d v = below-held_value (entry_limit d) (entry_far d) ds v
 
 pub size-held_value : (ds : List Definition) (v : Value) → has_zero_page_size ds (held_value v) ≡ has_zero_page_size ds v
 unfolding has_zero_page_size value_in
@@ -175,8 +205,7 @@ fits-held all next (Fixed b) = refl
 fits-held all next (Single v) = refl
 fits-held all next (ZeroPage v) = refl
 fits-held all next (Oversized v) = refl
-fits-held all next (LowFirst v) = refl
-fits-held all next (HighFirst v) = refl
+fits-held all next (Entry d v) = refl
 fits-held all next (Distance v) = near-held next (value_in all v)
 
 all_fit-held : (all : List Definition) (next : ℕ) (fs : List Fragment) → list_all (fragment_fits all (held next)) fs ≡ list_all (fragment_fits all next) fs
@@ -294,9 +323,7 @@ unfolding coding
 coding-held cpu ds Nothing = refl
 coding-held cpu ds (Instr m form) = ap (first_way cpu m) (ways-held ds form)
 coding-held cpu ds (Data items) = refl
-coding-held cpu ds (Words vs) = refl
-coding-held cpu ds (Dbyts vs) = refl
-coding-held cpu ds (Addrs vs) = refl
+coding-held cpu ds (Values d vs) = refl
 coding-held cpu ds (Segment name) = refl
 coding-held cpu ds Code = refl
 coding-held cpu ds (SetCpu text) = refl
@@ -336,8 +363,7 @@ fragment_known-held all (Fixed b) = refl
 fragment_known-held all (Single v) = is_known-held all v
 fragment_known-held all (ZeroPage v) = is_known-held all v
 fragment_known-held all (Oversized v) = is_known-held all v
-fragment_known-held all (LowFirst v) = is_known-held all v
-fragment_known-held all (HighFirst v) = is_known-held all v
+fragment_known-held all (Entry d v) = is_known-held all v
 fragment_known-held all (Distance v) = is_known-held all v
 
 fragment_fits-all : (all : List Definition) (next : ℕ) (f : Fragment) → fragment_fits (map held_definition all) next f ≡ fragment_fits all next f
@@ -346,8 +372,7 @@ fragment_fits-all all next (Fixed b) = refl
 fragment_fits-all all next (Single v) = rw (word_in-held all v) refl
 fragment_fits-all all next (ZeroPage v) = rw (word_in-held all v) refl
 fragment_fits-all all next (Oversized v) = refl
-fragment_fits-all all next (LowFirst v) = rw (word_in-held all v) refl
-fragment_fits-all all next (HighFirst v) = rw (word_in-held all v) refl
+fragment_fits-all all next (Entry d v) = rw (entry_in-held all d v) refl
 fragment_fits-all all next (Distance v) = rw (word_in-held all v) refl
 
 fragment_bytes-all : (all : List Definition) (next : ℕ) (f : Fragment) → fragment_bytes (map held_definition all) next f ≡ fragment_bytes all next f
@@ -356,8 +381,7 @@ fragment_bytes-all all next (Fixed b) = refl
 fragment_bytes-all all next (Single v) = rw (word_in-held all v) refl
 fragment_bytes-all all next (ZeroPage v) = rw (word_in-held all v) refl
 fragment_bytes-all all next (Oversized v) = rw (word_in-held all v) refl
-fragment_bytes-all all next (LowFirst v) = rw (word_in-held all v) refl
-fragment_bytes-all all next (HighFirst v) = rw (word_in-held all v) refl
+fragment_bytes-all all next (Entry d v) = rw (entry_in-held all d v) refl
 fragment_bytes-all all next (Distance v) = rw (word_in-held all v) refl
 
 pub fault-all : (all : List Definition) (s : State) (source : Option SourceLine) → fault_of (map held_definition all) s source ≡ fault_of all s source

@@ -109,10 +109,10 @@ parts_text t rest h =
 
 -- ---- numbers in hex digits
 
-hex_is_digit : (d : ℕ) → d < 16 → is_ascii_hexdigit (hex_digit d) ≡ true
+pub hex_is_digit : (d : ℕ) → d < 16 → is_ascii_hexdigit (hex_digit d) ≡ true
 hex_is_digit d lt = grind (arith, nat_tests)
 
-hex_value : (d : ℕ) → d < 16 → digit_value (hex_digit d) ≡ d
+pub hex_value : (d : ℕ) → d < 16 → digit_value (hex_digit d) ≡ d
 hex_value d lt = grind (arith, nat_tests)
 
 hex_is_word : (b : ℕ) → is_word_byte b ≡ false → is_ascii_hexdigit b ≡ false
@@ -137,11 +137,11 @@ hex_part ds rest h pos le e =
     let t : ltb 0 (length ds) ≡ true = lt-ltb 0 (length ds) pos in
     rw (a, m, t, take_at ds rest (length ds) refl) refl
 
-parts_hex : (ds rest : List ℕ) → list_all is_ascii_hexdigit ds ≡ true → 0 < length ds → length ds ≤ 8 → Ends rest → parts (36 ∷ (ds ++ rest)) ≡ Number (36 ∷ ds) ∷ parts rest
+pub parts_hex : (ds rest : List ℕ) → list_all is_ascii_hexdigit ds ≡ true → 0 < length ds → length ds ≤ 8 → Ends rest → parts (36 ∷ (ds ++ rest)) ≡ Number (36 ∷ ds) ∷ parts rest
 parts_hex ds rest h pos le e =
     parts_part 36 (ds ++ rest) refl refl ∙ rw (hex_part ds rest h pos le e, drop_at ds rest (length ds) refl) refl
 
-below_16 : (n : ℕ) → n % 16 < 16
+pub below_16 : (n : ℕ) → n % 16 < 16
 below_16 n = omega arith
 
 pub parts_hex2 : (n : ℕ) (rest : List ℕ) → Ends rest → parts (hex2 n ++ rest) ≡ Number (hex2 n) ∷ parts rest

@@ -7,6 +7,7 @@ mod ReadIsSpelled
 mod SpelledIsRead
 mod LineLemmas
 mod TableLists
+mod EntryLaws
 mod OperandTexts
 mod PatternLemmas
 mod TableTexts

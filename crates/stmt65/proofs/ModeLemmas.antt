@@ -17,7 +17,7 @@ use Rattle.isa65.specs.Opcodes.{encoded}
 use Rattle.stmt65.specs.SourceLine.{Value, Form, Empty, Accumulator, Immediate, Direct, DirectX, DirectY, Two, Indirect, IndirectX, IndirectY}
 use Rattle.stmt65.specs.declared.source_line.AddressSize.TheVariants.{Absolute, Automatic}
 use Rattle.stmt65.specs.Symbols.{Definition, has_zero_page_size}
-use Rattle.stmt65.specs.Coding.{Fragment, Fixed, ZeroPage, Oversized, fragment_len, LowFirst, Distance, Way, zero_page, by_size, ways, first_way, coding, coding_len}
+use Rattle.stmt65.specs.Coding.{Fragment, Fixed, ZeroPage, Oversized, fragment_len, word_operand, Distance, Way, zero_page, by_size, ways, first_way, coding, coding_len}
 use Rattle.stmt65.specs.Forms.{form_text, form_values}
 use Rattle.stmt65.specs.ModeLaws.{has_prefix, IsModeOf, IsWay, EachWay, WaysAreModes, is_way, ModesAreWays, HasMode, is_short, mode_fragments, TakesMode, TakesModes, LacksForm, NeedsMode}
 
@@ -45,19 +45,19 @@ ways_are_modes above (Immediate v) = (plain (Immediate v) _ refl refl refl, tt)
 ways_are_modes above (Direct Absolute v) = (record { of_form = (refl, λ p. refl); length = refl }, tt)
 ways_are_modes above (Direct Automatic v) = go (has_zero_page_size above v)
   where
-    go : (b : Bool) → EachWay (Direct Automatic v) (cond b ((Zp, ZeroPage v ∷ []) ∷ (Abs, LowFirst v ∷ []) ∷ []) ((Abs, LowFirst v ∷ []) ∷ (Zp, Oversized v ∷ []) ∷ []) ++ (Rel, Distance v ∷ []) ∷ [])
+    go : (b : Bool) → EachWay (Direct Automatic v) (cond b ((Zp, ZeroPage v ∷ []) ∷ (Abs, word_operand v ∷ []) ∷ []) ((Abs, word_operand v ∷ []) ∷ (Zp, Oversized v ∷ []) ∷ []) ++ (Rel, Distance v ∷ []) ∷ [])
     go true = (plain (Direct Automatic v) _ refl refl refl, (plain (Direct Automatic v) _ refl refl refl, (plain (Direct Automatic v) _ refl refl refl, tt)))
     go false = (plain (Direct Automatic v) _ refl refl refl, (plain (Direct Automatic v) _ refl refl refl, (plain (Direct Automatic v) _ refl refl refl, tt)))
 ways_are_modes above (DirectX Absolute v) = (record { of_form = (refl, λ p. refl); length = refl }, tt)
 ways_are_modes above (DirectX Automatic v) = go (has_zero_page_size above v)
   where
-    go : (b : Bool) → EachWay (DirectX Automatic v) (cond b ((Zpx, ZeroPage v ∷ []) ∷ (Absx, LowFirst v ∷ []) ∷ []) ((Absx, LowFirst v ∷ []) ∷ (Zpx, Oversized v ∷ []) ∷ []))
+    go : (b : Bool) → EachWay (DirectX Automatic v) (cond b ((Zpx, ZeroPage v ∷ []) ∷ (Absx, word_operand v ∷ []) ∷ []) ((Absx, word_operand v ∷ []) ∷ (Zpx, Oversized v ∷ []) ∷ []))
     go true = (plain (DirectX Automatic v) _ refl refl refl, (plain (DirectX Automatic v) _ refl refl refl, tt))
     go false = (plain (DirectX Automatic v) _ refl refl refl, (plain (DirectX Automatic v) _ refl refl refl, tt))
 ways_are_modes above (DirectY Absolute v) = (record { of_form = (refl, λ p. refl); length = refl }, tt)
 ways_are_modes above (DirectY Automatic v) = go (has_zero_page_size above v)
   where
-    go : (b : Bool) → EachWay (DirectY Automatic v) (cond b ((Zpy, ZeroPage v ∷ []) ∷ (Absy, LowFirst v ∷ []) ∷ []) ((Absy, LowFirst v ∷ []) ∷ (Zpy, Oversized v ∷ []) ∷ []))
+    go : (b : Bool) → EachWay (DirectY Automatic v) (cond b ((Zpy, ZeroPage v ∷ []) ∷ (Absy, word_operand v ∷ []) ∷ []) ((Absy, word_operand v ∷ []) ∷ (Zpy, Oversized v ∷ []) ∷ []))
     go true = (plain (DirectY Automatic v) _ refl refl refl, (plain (DirectY Automatic v) _ refl refl refl, tt))
     go false = (plain (DirectY Automatic v) _ refl refl refl, (plain (DirectY Automatic v) _ refl refl refl, tt))
 ways_are_modes above (Two v w) = (plain (Two v w) _ refl refl (rw (zero_page_len above v) refl), tt)
@@ -80,7 +80,7 @@ among above (Direct Absolute v) Rel p same = false_true (p refl)
 among above (Direct Absolute v) _ p same = false_true same
 among above (Direct Automatic v) x p same = go (has_zero_page_size above v) x same
   where
-    go : (b : Bool) (x : Mode) → bytes_eq (written x) (form_text (Direct Automatic v)) ≡ true → list_any (is_way x) (cond b ((Zp, ZeroPage v ∷ []) ∷ (Abs, LowFirst v ∷ []) ∷ []) ((Abs, LowFirst v ∷ []) ∷ (Zp, Oversized v ∷ []) ∷ []) ++ (Rel, Distance v ∷ []) ∷ []) ≡ true
+    go : (b : Bool) (x : Mode) → bytes_eq (written x) (form_text (Direct Automatic v)) ≡ true → list_any (is_way x) (cond b ((Zp, ZeroPage v ∷ []) ∷ (Abs, word_operand v ∷ []) ∷ []) ((Abs, word_operand v ∷ []) ∷ (Zp, Oversized v ∷ []) ∷ []) ++ (Rel, Distance v ∷ []) ∷ []) ≡ true
     go true Zp same = refl
     go true Abs same = refl
     go true Rel same = refl
@@ -94,7 +94,7 @@ among above (DirectX Absolute v) Zpx p same = false_true (p refl)
 among above (DirectX Absolute v) _ p same = false_true same
 among above (DirectX Automatic v) x p same = go (has_zero_page_size above v) x same
   where
-    go : (b : Bool) (x : Mode) → bytes_eq (written x) (form_text (DirectX Automatic v)) ≡ true → list_any (is_way x) (cond b ((Zpx, ZeroPage v ∷ []) ∷ (Absx, LowFirst v ∷ []) ∷ []) ((Absx, LowFirst v ∷ []) ∷ (Zpx, Oversized v ∷ []) ∷ [])) ≡ true
+    go : (b : Bool) (x : Mode) → bytes_eq (written x) (form_text (DirectX Automatic v)) ≡ true → list_any (is_way x) (cond b ((Zpx, ZeroPage v ∷ []) ∷ (Absx, word_operand v ∷ []) ∷ []) ((Absx, word_operand v ∷ []) ∷ (Zpx, Oversized v ∷ []) ∷ [])) ≡ true
     go true Zpx same = refl
     go true Absx same = refl
     go true _ same = false_true same
@@ -106,7 +106,7 @@ among above (DirectY Absolute v) Zpy p same = false_true (p refl)
 among above (DirectY Absolute v) _ p same = false_true same
 among above (DirectY Automatic v) x p same = go (has_zero_page_size above v) x same
   where
-    go : (b : Bool) (x : Mode) → bytes_eq (written x) (form_text (DirectY Automatic v)) ≡ true → list_any (is_way x) (cond b ((Zpy, ZeroPage v ∷ []) ∷ (Absy, LowFirst v ∷ []) ∷ []) ((Absy, LowFirst v ∷ []) ∷ (Zpy, Oversized v ∷ []) ∷ [])) ≡ true
+    go : (b : Bool) (x : Mode) → bytes_eq (written x) (form_text (DirectY Automatic v)) ≡ true → list_any (is_way x) (cond b ((Zpy, ZeroPage v ∷ []) ∷ (Absy, word_operand v ∷ []) ∷ []) ((Absy, word_operand v ∷ []) ∷ (Zpy, Oversized v ∷ []) ∷ [])) ≡ true
     go true Zpy same = refl
     go true Absy same = refl
     go true _ same = false_true same
@@ -230,7 +230,7 @@ module _ (cpu : Cpu) (above : List Definition) (m : Mnemonic) (form : Form) (fra
   -- one of the two sizes, or another way
   sized : (short long : Mode) (v : Value) (rest : List Way) → zero_page_of long ≡ Some short → zero_page_of short ≡ None → is_zero long ≡ false
       → IsModeOf form short → IsModeOf form long → is_short above (form_values form) ≡ has_zero_page_size above v
-      → mode_fragments above short (form_values form) ≡ zero_page above v ∷ [] → mode_fragments above long (form_values form) ≡ LowFirst v ∷ []
+      → mode_fragments above short (form_values form) ≡ zero_page above v ∷ [] → mode_fragments above long (form_values form) ≡ word_operand v ∷ []
       → first_way cpu m (by_size above short long v ++ rest) ≡ Some fragments → (first_way cpu m rest ≡ Some fragments → TakesMode cpu above m form fragments) → TakesMode cpu above m form fragments
   sized short long v rest pair lone_short not_zero of_short of_long size zf lf e other = go (has_zero_page_size above v) refl
     where
@@ -246,7 +246,7 @@ module _ (cpu : Cpu) (above : List Definition) (m : Mnemonic) (form : Form) (fra
         long = λ z p f g. absurd cc;
       }
 
-      long_way : (b : ℕ) → encoded (table_of cpu) m long ≡ Some b → fragments ≡ Fixed b ∷ LowFirst v ∷ []
+      long_way : (b : ℕ) → encoded (table_of cpu) m long ≡ Some b → fragments ≡ Fixed b ∷ word_operand v ∷ []
           → (HasMode cpu m short → has_zero_page_size above v ≡ false) → TakesMode cpu above m form fragments
       long_way b has coded only = record {
         mode = long;
@@ -260,11 +260,11 @@ module _ (cpu : Cpu) (above : List Definition) (m : Mnemonic) (form : Form) (fra
 
       go : (t : Bool) → has_zero_page_size above v ≡ t → TakesMode cpu above m form fragments
       go true t =
-          first_case cpu m (short, ZeroPage v ∷ []) ((long, LowFirst v ∷ []) ∷ rest) fragments (rw t at e)
+          first_case cpu m (short, ZeroPage v ∷ []) ((long, word_operand v ∷ []) ∷ rest) fragments (rw t at e)
           (λ b has coded. short_way true t b has coded (λ y g p. refl))
-          (λ none e'. first_case cpu m (long, LowFirst v ∷ []) rest fragments e' (λ b has coded. long_way b has coded (λ h. absurd (lacks_it cpu m short short none refl h))) (λ gone e''. other e''))
+          (λ none e'. first_case cpu m (long, word_operand v ∷ []) rest fragments e' (λ b has coded. long_way b has coded (λ h. absurd (lacks_it cpu m short short none refl h))) (λ gone e''. other e''))
       go false t =
-          first_case cpu m (long, LowFirst v ∷ []) ((short, Oversized v ∷ []) ∷ rest) fragments (rw t at e)
+          first_case cpu m (long, word_operand v ∷ []) ((short, Oversized v ∷ []) ∷ rest) fragments (rw t at e)
           (λ b has coded. long_way b has coded (λ h. t))
           (λ none e'. first_case cpu m (short, Oversized v ∷ []) rest fragments e'
           (λ b has coded. short_way false t b has coded (λ y g p. absurd (lacks_it cpu m long y none (only_long y short long p pair) g))) (λ gone e''. other e''))
@@ -275,25 +275,25 @@ takes_modes cpu above m Empty fragments e = by_one cpu above m Empty fragments I
 takes_modes cpu above m Accumulator fragments e = by_one cpu above m Accumulator fragments Acc [] e refl refl (refl, λ p. false_true p) refl
 takes_modes cpu above m (Immediate v) fragments e = by_one cpu above m (Immediate v) fragments Imm _ e refl refl (refl, λ p. false_true p) refl
 takes_modes cpu above m (Direct Absolute v) fragments e =
-    first_case cpu m (Abs, LowFirst v ∷ []) [] fragments e (λ b has coded. after_prefix cpu above m (Direct Absolute v) fragments Abs b refl refl (refl, λ p. refl) has coded) (λ gone e'. absurd cc)
+    first_case cpu m (Abs, word_operand v ∷ []) [] fragments e (λ b has coded. after_prefix cpu above m (Direct Absolute v) fragments Abs b refl refl (refl, λ p. refl) has coded) (λ gone e'. absurd cc)
 takes_modes cpu above m (Direct Automatic v) fragments e =
     sized cpu above m (Direct Automatic v) fragments Zp Abs v ((Rel, Distance v ∷ []) ∷ []) refl refl refl (refl, λ p. false_true p) (refl, λ p. false_true p) refl refl refl e
     (λ e'. by_one cpu above m (Direct Automatic v) fragments Rel _ e' refl refl (refl, λ p. false_true p) refl)
 takes_modes cpu above m (DirectX Absolute v) fragments e =
-    first_case cpu m (Absx, LowFirst v ∷ []) [] fragments e (λ b has coded. after_prefix cpu above m (DirectX Absolute v) fragments Absx b refl refl (refl, λ p. refl) has coded) (λ gone e'. absurd cc)
+    first_case cpu m (Absx, word_operand v ∷ []) [] fragments e (λ b has coded. after_prefix cpu above m (DirectX Absolute v) fragments Absx b refl refl (refl, λ p. refl) has coded) (λ gone e'. absurd cc)
 takes_modes cpu above m (DirectX Automatic v) fragments e =
     sized cpu above m (DirectX Automatic v) fragments Zpx Absx v [] refl refl refl (refl, λ p. false_true p) (refl, λ p. false_true p) refl refl refl (rw append-nil e) (λ e'. absurd cc)
 takes_modes cpu above m (DirectY Absolute v) fragments e =
-    first_case cpu m (Absy, LowFirst v ∷ []) [] fragments e (λ b has coded. after_prefix cpu above m (DirectY Absolute v) fragments Absy b refl refl (refl, λ p. refl) has coded) (λ gone e'. absurd cc)
+    first_case cpu m (Absy, word_operand v ∷ []) [] fragments e (λ b has coded. after_prefix cpu above m (DirectY Absolute v) fragments Absy b refl refl (refl, λ p. refl) has coded) (λ gone e'. absurd cc)
 takes_modes cpu above m (DirectY Automatic v) fragments e =
     sized cpu above m (DirectY Automatic v) fragments Zpy Absy v [] refl refl refl (refl, λ p. false_true p) (refl, λ p. false_true p) refl refl refl (rw append-nil e) (λ e'. absurd cc)
 takes_modes cpu above m (Two v w) fragments e = by_one cpu above m (Two v w) fragments Zprel _ e refl refl (refl, λ p. false_true p) refl
 takes_modes cpu above m (Indirect v) fragments e =
-    first_case cpu m (Zpind, zero_page above v ∷ []) ((Ind, LowFirst v ∷ []) ∷ []) fragments e
+    first_case cpu m (Zpind, zero_page above v ∷ []) ((Ind, word_operand v ∷ []) ∷ []) fragments e
     (λ b has coded. lone cpu above m (Indirect v) fragments Zpind b refl refl (refl, λ p. false_true p) has coded)
     (λ gone e'. by_one cpu above m (Indirect v) fragments Ind _ e' refl refl (refl, λ p. false_true p) refl)
 takes_modes cpu above m (IndirectX v) fragments e =
-    first_case cpu m (Indx, zero_page above v ∷ []) ((Absindx, LowFirst v ∷ []) ∷ []) fragments e
+    first_case cpu m (Indx, zero_page above v ∷ []) ((Absindx, word_operand v ∷ []) ∷ []) fragments e
     (λ b has coded. lone cpu above m (IndirectX v) fragments Indx b refl refl (refl, λ p. false_true p) has coded)
     (λ gone e'. by_one cpu above m (IndirectX v) fragments Absindx _ e' refl refl (refl, λ p. false_true p) refl)
 takes_modes cpu above m (IndirectY v) fragments e = by_one cpu above m (IndirectY v) fragments Indy _ e refl refl (refl, λ p. false_true p) refl

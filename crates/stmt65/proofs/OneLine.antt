@@ -1,5 +1,5 @@
 -- A printed line has no line feed before its end.
-use Rattle.std.proofs.Common.{◌≡◌, ℕ, zero, suc, Bool, true, false, eqb, ltb, ◌-◌, ◌/◌, ◌%◌, ◌<◌, List, [], ◌∷◌, ◌++◌, length, replicate, Option, Some, None, refl, arith}
+use Rattle.std.proofs.Common.{◌≡◌, ℕ, zero, suc, Bool, true, false, eqb, ltb, ◌-◌, ◌/◌, ◌%◌, ◌<◌, List, [], ◌∷◌, ◌++◌, length, reverse, replicate, Option, Some, None, refl, arith}
 use Rattle.std.specs.Prelude.{◌==◌, not, codes, map}
 use Rattle.std.specs.List.{list_all, flat_map}
 use Rattle.std.specs.Char.{digit_value, is_ascii_digit}
@@ -17,15 +17,18 @@ use Rattle.isa65.specs.declared.mnemonic.Mnemonic.TheVariants.{Adc}
 use Rattle.isa65.specs.declared.mode.Mode.{Mode}
 use Rattle.isa65.specs.declared.mode.Mode.TheVariants.{Imp, Acc, Imm, Zp, Zpx, Zpy, Abs, Absx, Absy, Ind, Indx, Indy, Zpind, Absindx, Rel, Zprel}
 use Rattle.stmt65.specs.declared.columns.Columns.{Columns}
-use Rattle.stmt65.specs.Digits.{hex_digit, hex2, hex4, offset_text}
+use Rattle.stmt65.specs.declared.directive.Directive.{Directive}
+use Rattle.stmt65.specs.declared.directive.Directive.TheVariants as directive
+use Rattle.stmt65.specs.Directives.{directive_text, order_of}
+use Rattle.stmt65.specs.Digits.{hex_digit, digits2, hex2, hex4, offset_text}
 use Rattle.stmt65.specs.Levels.{address_text, spaced_byte, address_and_bytes, character, level_fields}
 use Rattle.stmt65.specs.Line.{filled, with_fields, plain_line, line_of}
 use Rattle.stmt65.specs.Operands.{named_text, short_text, long_text, prefix_text, operand_text}
 use Rattle.stmt65.specs.Printable.{IsWrittenIn, IsPrintable}
 use Rattle.stmt65.specs.SourceLine.{Datum}
 use Rattle.stmt65.specs.SourceLine as source
-use Rattle.stmt65.specs.Tables.{low_words, high_words, cut_text}
-use Rattle.stmt65.specs.Statements.{has_bytes, next_text, comma_list, bytes_text, quoted, datum_text, data_text, words_text, alone, with_operands, return_text, distance_text, instr_fields, label_fields, definition_fields, fields_of}
+use Rattle.stmt65.specs.Tables.{in_order, entries, cut_text}
+use Rattle.stmt65.specs.Statements.{has_bytes, next_text, comma_list, bytes_text, quoted, datum_text, data_text, entry_text, numbers_text, alone, with_operands, return_text, distance_text, instr_fields, label_fields, definition_fields, fields_of}
 use Rattle.stmt65.specs.Lexing.{is_word_start, is_word_byte, is_text_byte}
 use Rattle.stmt65.specs.Names.{is_name}
 use Rattle.stmt65.specs.Printed.{HasNames, HasLabelName}
@@ -159,15 +162,26 @@ list_line text p each (x ∷ xs) h =
     let a = both (p x) (list_all p xs) h in
     joined (text x) (flat_map (next_text text) xs) (each x a.0) (more_line text p each xs a.1)
 
-any_of : (xs : List ℕ) → list_all (λ x. true) xs ≡ true
+any_of : {A : Type 0} (xs : List A) → list_all (λ x. true) xs ≡ true
 any_of [] = refl
 any_of (x ∷ xs) = any_of xs
 
 bytes_line : (bs : List ℕ) → InLine (bytes_text bs)
 bytes_line bs = list_line hex2 (λ b. true) (λ b h. hex2_line b) bs (any_of bs)
 
-words_line : (ws : List ℕ) → InLine (words_text ws)
-words_line ws = list_line hex4 (λ w. true) (λ w h. hex4_line w) ws (any_of ws)
+bytes_digits_line : (bs : List ℕ) → InLine (flat_map digits2 bs)
+bytes_digits_line [] = refl
+bytes_digits_line (b ∷ bs) = joined (digits2 b) (flat_map digits2 bs) (rw (hex (b / 16 % 16), hex (b % 16)) refl) (bytes_digits_line bs)
+
+entry_line : (d : Directive) (bytes : List ℕ) → InLine (entry_text d bytes)
+entry_line d bytes = bytes_digits_line (reverse (in_order (order_of d) bytes))
+
+numbers_line : (d : Directive) (bs : List ℕ) → InLine (numbers_text d bs)
+numbers_line d bs = list_line (entry_text d) (λ e. true) (λ e h. entry_line d e) (entries d bs) (any_of (entries d bs))
+
+directive_line : (d : Directive) → InLine (directive_text d)
+directive_line directive.Word = refl
+directive_line _ = refl
 
 quoted_line : (text : List ℕ) → list_all is_text_byte text ≡ true → InLine (quoted text)
 quoted_line text h = between (codes "\"") text (codes "\"") refl (all_as is_text_byte text_byte text h) refl
@@ -240,8 +254,7 @@ fields_line : (line : List ℕ) (c : Columns) (h : Bool) (s : StatementView) →
 fields_line line c h (view.instr op a os) l p w n = instr_line line c h op.mnemonic op.mode a os l p.0 (are_read os n w)
 fields_line line c h (view.bytes bs) l p w n = with_line line c (codes ".byte") (bytes_text bs) l refl (bytes_line bs)
 fields_line line c h (view.text bs) l p w n = with_line line c (codes ".byte") (data_text (cut_text bs)) l refl (data_line (cut_text bs) (cut_sound bs w))
-fields_line line c h (view.words bs) l p w n = with_line line c (codes ".word") (words_text (low_words bs)) l refl (words_line (low_words bs))
-fields_line line c h (view.dbyts bs) l p w n = with_line line c (codes ".dbyt") (words_text (high_words bs)) l refl (words_line (high_words bs))
+fields_line line c h (view.numbers d bs) l p w n = with_line line c (directive_text d) (numbers_text d bs) l (directive_line d) (numbers_line d bs)
 fields_line line c h (view.addr t) l p w n = with_line line c (codes ".addr") (named_text h t.name t.offset) l refl (named_line h t.name t.offset n w)
 fields_line line c h (view.rts None) l p w n = with_line line c (codes ".word") (codes "$FFFF") l refl refl
 fields_line line c h (view.rts (Some t)) l p w n = with_line line c (codes ".word") (return_text h (Some t)) l refl (return_line h t n w)

@@ -16,25 +16,26 @@ use Rattle.isa65.specs.declared.mnemonic.Mnemonic.{Mnemonic}
 use Rattle.isa65.specs.declared.mnemonic.Mnemonic.TheVariants.{Adc}
 use Rattle.isa65.specs.declared.mode.Mode.{Mode}
 use Rattle.isa65.specs.declared.mode.Mode.TheVariants.{Imp, Acc, Imm, Zp, Zpx, Zpy, Abs, Absx, Absy, Ind, Indx, Indy, Zpind, Absindx, Rel, Zprel}
-use Rattle.stmt65.specs.declared.coding.ByteOrder.{ByteOrder}
-use Rattle.stmt65.specs.declared.coding.ByteOrder.TheVariants.{LittleEndian, BigEndian}
+use Rattle.stmt65.specs.declared.directive.Directive.{Directive}
+use Rattle.stmt65.specs.declared.directive.Directive.TheVariants as directive
+use Rattle.stmt65.specs.Directives.{directive_text, entry_len}
 use Rattle.stmt65.specs.declared.columns.Columns.{Columns}
 use Rattle.stmt65.specs.Digits.{digits4, hex2, hex4, offset_text}
 use Rattle.stmt65.specs.Levels.{spaced_byte, character, level_fields}
 use Rattle.stmt65.specs.Line.{filled, with_fields, plain_line, line_of}
 use Rattle.stmt65.specs.Operands.{named_text, short_text, long_text, prefix_text, operand_text}
 use Rattle.stmt65.specs.Printable.{IsByte, IsShort, IsWrittenIn, IsPrintable, MayBeLabelled}
-use Rattle.stmt65.specs.Statements.{has_bytes, bytes_text, quoted, data_text, words_text, alone, with_operands, return_text, distance_text, instr_fields, label_fields, definition_fields, remark_fields, fields_of}
+use Rattle.stmt65.specs.Statements.{has_bytes, bytes_text, quoted, data_text, numbers_text, alone, with_operands, return_text, distance_text, instr_fields, label_fields, definition_fields, remark_fields, fields_of}
 use Rattle.stmt65.specs.SourceLine.{Value, NumberValue, NameValue, NumberDatum, Empty, Operation, Nothing, Instr, Segment, Code, SetCpu, Assignment, PlaceAssignment, Statement}
 use Rattle.stmt65.specs.declared.source_line.Minus.TheVariants.{Zero, One}
-use Rattle.stmt65.specs.Tables.{low_words, high_words, words_in, cut_text}
+use Rattle.stmt65.specs.Tables.{entries, cut_text}
 use Rattle.stmt65.specs.Parts.{Part, Word, Number, Text, Define, Mark, begins_with}
 use Rattle.stmt65.specs.Lexing.{is_word_start, is_word_byte, is_text_byte, parts}
 use Rattle.stmt65.specs.Names.{has_name_form, is_name}
 use Rattle.stmt65.specs.Reading.{reading_of}
 use Rattle.stmt65.specs.Spelling as item
 use Rattle.stmt65.specs.Spelling.{Item, word, mark, define, number, string, quoted_name, value, data_list, value_list, IsValue, IsItem, Spells, prefix_items, form_items, operation_items, IsSpelling}
-use Rattle.stmt65.specs.Printed.{address_size, source_value, source_form, source_line, with_label, HasName, HasNamesIn, HasNames, HasLabelName}
+use Rattle.stmt65.specs.Printed.{address_size, entry_value, source_value, source_form, source_line, with_label, HasName, HasNamesIn, HasNames, HasLabelName}
 use Rattle.stmt65.specs.code.Widths.{IsWordWide, AreWordWide, AreBytes, IsInWidth}
 use Rattle.stmt65.specs.Views.{ExprView, OperandsView, TargetView, StatementView, RemarksView}
 use Rattle.stmt65.specs.Views as view
@@ -43,7 +44,7 @@ use Rattle.stmt65.proofs.Lexed.{Ends, IsWordText, parts_word, parts_blanks, part
 use Rattle.stmt65.proofs.PartLemmas.{parts_nil, parts_remark}
 use Rattle.stmt65.proofs.RemarkLemmas.{AreClosed, parts_then, spelled_closed}
 use Rattle.stmt65.proofs.Cases.{both, by_test}
-use Rattle.stmt65.proofs.TableReads.{bytes_listed, words_listed, text_listed}
+use Rattle.stmt65.proofs.TableReads.{bytes_listed, numbers_listed, text_listed}
 
 -- ---- items, from the last one to the front
 
@@ -234,8 +235,12 @@ bytes_spelled bs lt h = last (data_list (map NumberDatum bs)) (parts (bytes_text
 text_spelled : (bs : List ℕ) → 1 ≤ length bs → AreBytes bs → Spells (data_list (cut_text bs) ∷ []) (parts (data_text (cut_text bs)))
 text_spelled bs lt h = last (data_list (cut_text bs)) (parts (data_text (cut_text bs))) (text_listed bs lt h)
 
-words_spelled : (o : ByteOrder) (bs : List ℕ) → 2 ≤ length bs → AreBytes bs → Spells (value_list (map NumberValue (words_in o bs)) ∷ []) (parts (words_text (words_in o bs)))
-words_spelled o bs lt h = last (value_list (map NumberValue (words_in o bs))) (parts (words_text (words_in o bs))) (words_listed o bs lt h)
+numbers_spelled : (d : Directive) (bs : List ℕ) → entry_len d ≤ length bs → AreBytes bs → Spells (value_list (map (entry_value d) (entries d bs)) ∷ []) (parts (numbers_text d bs))
+numbers_spelled d bs le h = last (value_list (map (entry_value d) (entries d bs))) (parts (numbers_text d bs)) (numbers_listed d bs le h)
+
+directive_word : (d : Directive) → IsWordText (directive_text d)
+directive_word directive.Word = (refl, refl)
+directive_word _ = (refl, refl)
 
 -- ---- the names of segments and CPUs
 
@@ -481,8 +486,7 @@ spelled_back : (c : Columns) (h : Bool) (label : Option (List ℕ)) (s : Stateme
 spelled_back c h label (view.instr op a os) p w n m l = instr_spelled label c h op.mnemonic op.mode a os l p.0 (are_read os n w)
 spelled_back c h label (view.bytes bs) p w n m l = operated label c (codes ".byte") (bytes_text bs) _ _ l refl (refl, refl) (bytes_spelled bs p.0 w)
 spelled_back c h label (view.text bs) p w n m l = operated label c (codes ".byte") (data_text (cut_text bs)) _ _ l refl (refl, refl) (text_spelled bs p.0 w)
-spelled_back c h label (view.words bs) p w n m l = operated label c (codes ".word") (words_text (low_words bs)) _ _ l refl (refl, refl) (words_spelled LittleEndian bs p.1.0 w)
-spelled_back c h label (view.dbyts bs) p w n m l = operated label c (codes ".dbyt") (words_text (high_words bs)) _ _ l refl (refl, refl) (words_spelled BigEndian bs p.1.0 w)
+spelled_back c h label (view.numbers d bs) p w n m l = operated label c (directive_text d) (numbers_text d bs) _ _ l refl (directive_word d) (numbers_spelled d bs p.1.0 w)
 spelled_back c h label (view.addr t) p w n m l = operated label c (codes ".addr") (named_text h t.name t.offset) _ _ l refl (refl, refl) (addr_spelled h t n w)
 spelled_back c h label (view.rts None) p w n m l = operated label c (codes ".word") (codes "$FFFF") _ _ l refl (refl, refl) no_target_spelled
 spelled_back c h label (view.rts (Some t)) p w n m l = operated label c (codes ".word") (return_text h (Some t)) _ _ l refl (refl, refl) (return_spelled h t n w)

@@ -5,12 +5,14 @@ use Rattle.std.proofs.lemmas.List.{append-nil}
 use Rattle.isa65.specs.Mnemonic.{text_of, mnemonic_named}
 use Rattle.stmt65.specs.declared.source_line.AddressSize.{AddressSize}
 use Rattle.stmt65.specs.declared.source_line.AddressSize.TheVariants.{Absolute, Automatic}
-use Rattle.stmt65.specs.SourceLine.{Value, Form, Immediate, Two, Operation, Instr, Data, Words, Dbyts, Addrs, SetCpu}
+use Rattle.stmt65.specs.SourceLine.{Value, Form, Immediate, Two, Operation, Instr, Data, Values, SetCpu}
+use Rattle.stmt65.specs.declared.directive.Directive.{Directive}
+use Rattle.stmt65.specs.Directives.{directive_text, directive_named}
 use Rattle.stmt65.specs.Parts.{Part, Word, Number, Text, Define, Mark}
 use Rattle.stmt65.specs.Names.{same, has_name_form, is_name}
-use Rattle.stmt65.specs.Reading.{is_absolute, is_mark, is_define, is_word_here, is_number_here, number_in, ◌>>=◌, less_one, named_at, next_value, whole, tail_at, inner_at, form_of, joined, list_of, next_datum, text_in, data_of, segment_of, set_cpu_of, instruction_of, operation_at, operation_of, constant_of, line_at, reading_of}
+use Rattle.stmt65.specs.Reading.{is_absolute, is_mark, is_define, is_word_here, is_number_here, number_in, ◌>>=◌, less_one, named_at, next_value, whole, tail_at, inner_at, form_of, joined, list_of, next_datum, text_in, data_of, segment_of, values_of, set_cpu_of, instruction_of, other_at, operation_at, operation_of, constant_of, line_at, reading_of}
 use Rattle.stmt65.specs.Spelling.{Item, word, mark, define, name, number, string, quoted_name, value, data_list, value_list, IsPlus, IsValue, IsDatum, prefix_items, IsList, IsItem, Spells, form_items, operation_items, IsSpelling}
-use Rattle.stmt65.proofs.Cases.{by_test, by_option, by_list, mark_is, define_is, word_is, number_is, number_here_is, mnemonic_is}
+use Rattle.stmt65.proofs.Cases.{by_test, by_option, by_list, mark_is, define_is, word_is, number_is, number_here_is, mnemonic_is, directive_is}
 
 -- ps begins with parts of which Is holds, and then come the parts rest
 pub record Fronts (Is : List Part → Type 0) (ps rest : List Part) : Type 0 where
@@ -233,10 +235,8 @@ then_read P (Some x) make full h k = k x h
 data_read : (w : List ℕ) (ps : List Part) → same w (codes ".byte") ≡ true → IfSome (data_of ps) (λ o. Spells (operation_items o) (Word w ∷ ps))
 data_read w ps t = then_read (λ xs. IsList IsDatum xs ps) (list_of next_datum ps) Data (Word w ∷ ps) (joined_read IsDatum next_datum datum_read (suc (length ps)) ps) (λ xs h. word_and_item (codes ".byte") (data_list xs) w ps t h)
 
--- an operation that takes expressions
-values_read : (text : List ℕ) (make : List Value → Operation) → ((vs : List Value) → operation_items (make vs) ≡ word text ∷ value_list vs ∷ [])
-    → (w : List ℕ) (ps : List Part) → same w text ≡ true → IfSome (list_of next_value ps >>= λ vs. Some (make vs)) (λ o. Spells (operation_items o) (Word w ∷ ps))
-values_read text make items w ps t = then_read (λ vs. IsList IsValue vs ps) (list_of next_value ps) make (Word w ∷ ps) (joined_read IsValue next_value value_read (suc (length ps)) ps) (λ vs h. rw (items vs) (word_and_item text (value_list vs) w ps t h))
+values_read : (d : Directive) (w : List ℕ) (ps : List Part) → same w (directive_text d) ≡ true → IfSome (values_of d ps) (λ o. Spells (operation_items o) (Word w ∷ ps))
+values_read d w ps t = then_read (λ vs. IsList IsValue vs ps) (list_of next_value ps) (Values d) (Word w ∷ ps) (joined_read IsValue next_value value_read (suc (length ps)) ps) (λ vs h. word_and_item (directive_text d) (value_list vs) w ps t h)
 
 segment_read : (w : List ℕ) (ps : List Part) → same w (codes ".segment") ≡ true → IfSome (segment_of ps) (λ o. Spells (operation_items o) (Word w ∷ ps))
 segment_read w ps t =
@@ -255,17 +255,18 @@ instruction_read w ps =
     (λ m e. rw e (then_read (λ f. Spells (form_items f) ps) (form_of ps) (Instr m) (Word w ∷ ps) (form_read ps) (λ f h. word_front (text_of m) (form_items f) w ps (mnemonic_is w m e) h)))
     (λ e. rw e tt)
 
-operation_read : (w : List ℕ) (ps : List Part) → IfSome (operation_at w ps) (λ o. Spells (operation_items o) (Word w ∷ ps))
-unfolding operation_at
-operation_read w ps =
+other_read : (w : List ℕ) (ps : List Part) → IfSome (other_at w ps) (λ o. Spells (operation_items o) (Word w ∷ ps))
+unfolding other_at
+other_read w ps =
     by_test (same w (codes ".byte")) (λ t. rw t (data_read w ps t))
-    (λ f. rw f (by_test (same w (codes ".word")) (λ t. rw t (values_read (codes ".word") Words (λ vs. refl) w ps t))
-    (λ f. rw f (by_test (same w (codes ".dbyt")) (λ t. rw t (values_read (codes ".dbyt") Dbyts (λ vs. refl) w ps t))
-    (λ f. rw f (by_test (same w (codes ".addr")) (λ t. rw t (values_read (codes ".addr") Addrs (λ vs. refl) w ps t))
     (λ f. rw f (by_test (same w (codes ".segment")) (λ t. rw t (segment_read w ps t))
     (λ f. rw f (by_test (same w (codes ".code")) (λ t. rw t (by_list ps (λ end. rw end (word_front (codes ".code") [] w [] t at_end)) (λ q qs e. rw e tt)))
     (λ f. rw f (by_test (same w (codes ".setcpu")) (λ t. rw t (set_cpu_read w ps t))
-    (λ f. rw f (instruction_read w ps))))))))))))))
+    (λ f. rw f (instruction_read w ps))))))))
+
+operation_read : (w : List ℕ) (ps : List Part) → IfSome (operation_at w ps) (λ o. Spells (operation_items o) (Word w ∷ ps))
+unfolding operation_at
+operation_read w ps = by_option (directive_named w) (λ d e. rw e (values_read d w ps (directive_is w d e))) (λ e. rw e (other_read w ps))
 
 operation_of_read : (ps : List Part) → IfSome (operation_of ps) (λ o. Spells (operation_items o) ps)
 unfolding operation_of

@@ -4,11 +4,12 @@ use Rattle.std.specs.Prelude.{codes, decimal}
 use Rattle.isa65.specs.declared.cpu.Cpu.TheVariants.{M6502}
 use Rattle.isa65.specs.declared.mnemonic.Mnemonic.TheVariants.{Bne, Lda, Sta}
 use Rattle.isa65.specs.declared.mode.Mode.TheVariants.{Imm, Abs, Absy, Rel}
+use Rattle.stmt65.specs.declared.directive.Directive.TheVariants.{Word, Dbyt, Dword}
 use Rattle.stmt65.specs.Columns.{default_columns}
 use Rattle.stmt65.specs.Line.{filled, line_of}
 use Rattle.stmt65.specs.Operands.{operand_text}
-use Rattle.stmt65.specs.Statements.{comma_list, data_text, words_text}
-use Rattle.stmt65.specs.Tables.{low_words, high_words, cut_text}
+use Rattle.stmt65.specs.Statements.{comma_list, data_text, numbers_text}
+use Rattle.stmt65.specs.Tables.{pieces, entries, cut_text}
 use Rattle.stmt65.specs.Views.{RemarksView, StatementView, TargetView}
 use Rattle.stmt65.specs.Views as view
 
@@ -123,10 +124,18 @@ text : data_text (cut_text (0x48 ∷ 0x22 ∷ 0x5C ∷ 0x49 ∷ 0x0D ∷ [])) �
 unfolding comma_list cut_text
 text = refl
 
-words : words_text (low_words (0x01 ∷ 0x02 ∷ 0x03 ∷ 0x04 ∷ [])) ≡ codes "$0201,$0403"
-unfolding comma_list low_words
+words : numbers_text Word (0x01 ∷ 0x02 ∷ 0x03 ∷ 0x04 ∷ []) ≡ codes "$0201,$0403"
+unfolding comma_list entries pieces
 words = refl
 
-dbyts : words_text (high_words (0x01 ∷ 0x02 ∷ [])) ≡ codes "$0102"
-unfolding comma_list high_words
+dbyts : numbers_text Dbyt (0x01 ∷ 0x02 ∷ []) ≡ codes "$0102"
+unfolding comma_list entries pieces
 dbyts = refl
+
+dwords : numbers_text Dword (0x01 ∷ 0x02 ∷ 0x03 ∷ 0x04 ∷ 0 ∷ 0 ∷ 0 ∷ 0x80 ∷ []) ≡ codes "$04030201,$80000000"
+unfolding comma_list entries pieces
+dwords = refl
+
+dword_line : shown (view.numbers Dword (0x01 ∷ 0x02 ∷ 0x03 ∷ 0x04 ∷ [])) ≡ codes "        .dword  $04030201"
+unfolding shown remarks line_of filled comma_list entries pieces
+dword_line = refl

@@ -7,12 +7,13 @@ use Rattle.stmt65.specs.declared.source_line.AddressSize.{AddressSize}
 use Rattle.stmt65.specs.declared.source_line.AddressSize.TheVariants.{Absolute, Automatic}
 use Rattle.stmt65.specs.declared.source_line.Minus.{Minus}
 use Rattle.stmt65.specs.declared.source_line.Minus.TheVariants.{Zero, One}
-use Rattle.stmt65.specs.SourceLine.{Value, NumberValue, NameValue, Form, Empty, Accumulator, Immediate, Direct, DirectX, DirectY, Two, Indirect, IndirectX, IndirectY, Datum, NumberDatum, StringDatum, Operation, Nothing, Instr, Data, Words, Dbyts, Addrs, Segment, Code, SetCpu, SourceLine, Assignment, PlaceAssignment, Statement}
+use Rattle.stmt65.specs.SourceLine.{Value, NumberValue, NameValue, Form, Empty, Accumulator, Immediate, Direct, DirectX, DirectY, Two, Indirect, IndirectX, IndirectY, Datum, NumberDatum, StringDatum, Operation, Nothing, Instr, Data, Values, Segment, Code, SetCpu, SourceLine, Assignment, PlaceAssignment, Statement}
+use Rattle.stmt65.specs.Directives.{directive_text}
 use Rattle.stmt65.specs.Parts.{Part, Word, Number, Define, Mark, number_of}
 use Rattle.stmt65.specs.Names.{same, is_name}
-use Rattle.stmt65.specs.Reading.{is_mark, is_define, is_word_here, is_nil, less_one, named_at, next_value, tail_at, inner_at, form_of, joined, next_datum, text_in, operation_at, operation_of, constant_of, line_at, reading_of}
+use Rattle.stmt65.specs.Reading.{is_mark, is_define, is_word_here, is_nil, less_one, named_at, next_value, tail_at, inner_at, form_of, joined, next_datum, text_in, other_at, operation_at, operation_of, constant_of, line_at, reading_of}
 use Rattle.stmt65.specs.Spelling.{Item, word, mark, define, name, number, string, quoted_name, value, data_list, value_list, IsPlus, IsMinus, IsValue, IsDatum, prefix_items, IsList, IsItem, Spells, form_items, operation_items, IsSpelling}
-use Rattle.stmt65.proofs.Cases.{other, no_letter, no_dot, mnemonic_again}
+use Rattle.stmt65.proofs.Cases.{other, no_letter, no_dot, mnemonic_again, directive_again, no_directive, other_byte, other_segment, other_code, other_set_cpu}
 
 -- ---- items in front
 
@@ -174,35 +175,29 @@ joined_again Is read again (x ∷ y ∷ ys) (suc most) ps h le =
 -- ---- operations and lines
 
 operation_again : (o : Operation) (ps : List Part) → Spells (operation_items o) ps → operation_of ps ≡ Some o
-unfolding operation_of operation_at text_in
+unfolding operation_of operation_at other_at text_in
 operation_again Nothing ps h = rw (nothing_left ps h) refl
 operation_again (Instr m f) ps h =
     let w = un_word (text_of m) (form_items f) ps h in
     let d = no_dot m in
     let not = λ (t : List ℕ) (e : same (text_of m) t ≡ false). other w.0 (text_of m) t w.3 e in
-    rw w.2 (rw (not _ d.byte, not _ d.word, not _ d.dbyt, not _ d.addr, not _ d.segment, not _ d.code, not _ d.set_cpu, mnemonic_again w.0 m w.3, form_again f w.1 w.4) refl)
+    rw w.2 (rw (no_directive w.0 (text_of m) w.3 d.directive, not _ d.byte, not _ d.segment, not _ d.code, not _ d.set_cpu, mnemonic_again w.0 m w.3, form_again f w.1 w.4) refl)
 operation_again (Data xs) ps h =
     let w = un_word (codes ".byte") (data_list xs ∷ []) ps h in
-    rw (w.2, w.3, joined_again IsDatum next_datum datum_again xs (length w.1) w.1 (un_last (data_list xs) w.1 w.4) (omega arith)) refl
-operation_again (Words vs) ps h =
-    let w = un_word (codes ".word") (value_list vs ∷ []) ps h in
-    rw (w.2, other w.0 (codes ".word") (codes ".byte") w.3 refl, w.3, joined_again IsValue next_value value_again vs (length w.1) w.1 (un_last (value_list vs) w.1 w.4) (omega arith)) refl
-operation_again (Dbyts vs) ps h =
-    let w = un_word (codes ".dbyt") (value_list vs ∷ []) ps h in
-    rw (w.2, other w.0 (codes ".dbyt") (codes ".byte") w.3 refl, other w.0 (codes ".dbyt") (codes ".word") w.3 refl, w.3, joined_again IsValue next_value value_again vs (length w.1) w.1 (un_last (value_list vs) w.1 w.4) (omega arith)) refl
-operation_again (Addrs vs) ps h =
-    let w = un_word (codes ".addr") (value_list vs ∷ []) ps h in
-    rw (w.2, other w.0 (codes ".addr") (codes ".byte") w.3 refl, other w.0 (codes ".addr") (codes ".word") w.3 refl, other w.0 (codes ".addr") (codes ".dbyt") w.3 refl, w.3, joined_again IsValue next_value value_again vs (length w.1) w.1 (un_last (value_list vs) w.1 w.4) (omega arith)) refl
+    rw (w.2, no_directive w.0 _ w.3 other_byte, w.3, joined_again IsDatum next_datum datum_again xs (length w.1) w.1 (un_last (data_list xs) w.1 w.4) (omega arith)) refl
+operation_again (Values d vs) ps h =
+    let w = un_word (directive_text d) (value_list vs ∷ []) ps h in
+    rw (w.2, directive_again w.0 d w.3, joined_again IsValue next_value value_again vs (length w.1) w.1 (un_last (value_list vs) w.1 w.4) (omega arith)) refl
 operation_again (Segment t) ps h =
     let w = un_word (codes ".segment") (quoted_name t ∷ []) ps h in
     let q = un_last (quoted_name t) w.1 w.4 in
-    rw (w.2, other w.0 (codes ".segment") (codes ".byte") w.3 refl, other w.0 (codes ".segment") (codes ".word") w.3 refl, other w.0 (codes ".segment") (codes ".dbyt") w.3 refl, other w.0 (codes ".segment") (codes ".addr") w.3 refl, w.3, q.1, q.0) refl
+    rw (w.2, no_directive w.0 _ w.3 other_segment, other w.0 (codes ".segment") (codes ".byte") w.3 refl, w.3, q.1, q.0) refl
 operation_again Code ps h =
     let w = un_word (codes ".code") [] ps h in
-    rw (w.2, other w.0 (codes ".code") (codes ".byte") w.3 refl, other w.0 (codes ".code") (codes ".word") w.3 refl, other w.0 (codes ".code") (codes ".dbyt") w.3 refl, other w.0 (codes ".code") (codes ".addr") w.3 refl, other w.0 (codes ".code") (codes ".segment") w.3 refl, w.3, nothing_left w.1 w.4) refl
+    rw (w.2, no_directive w.0 _ w.3 other_code, other w.0 (codes ".code") (codes ".byte") w.3 refl, other w.0 (codes ".code") (codes ".segment") w.3 refl, w.3, nothing_left w.1 w.4) refl
 operation_again (SetCpu t) ps h =
     let w = un_word (codes ".setcpu") (string t ∷ []) ps h in
-    rw (w.2, other w.0 (codes ".setcpu") (codes ".byte") w.3 refl, other w.0 (codes ".setcpu") (codes ".word") w.3 refl, other w.0 (codes ".setcpu") (codes ".dbyt") w.3 refl, other w.0 (codes ".setcpu") (codes ".addr") w.3 refl, other w.0 (codes ".setcpu") (codes ".segment") w.3 refl, other w.0 (codes ".setcpu") (codes ".code") w.3 refl, w.3, un_last (string t) w.1 w.4) refl
+    rw (w.2, no_directive w.0 _ w.3 other_set_cpu, other w.0 (codes ".setcpu") (codes ".byte") w.3 refl, other w.0 (codes ".setcpu") (codes ".segment") w.3 refl, other w.0 (codes ".setcpu") (codes ".code") w.3 refl, w.3, un_last (string t) w.1 w.4) refl
 
 -- what stands after the word of an operation is no `:` and no `:=`
 record IsPlain (ps : List Part) : Type 0 where
@@ -263,15 +258,9 @@ stated_again (Instr m f) ps h =
 stated_again (Data xs) ps h =
     let w = un_word (codes ".byte") (data_list xs ∷ []) ps h in
     rw w.2 (unlabelled (Data xs) w.0 w.1 (list_plain IsDatum datum_plain xs w.1 (un_last (data_list xs) w.1 w.4)) (rw w.2 at (operation_again (Data xs) ps h)))
-stated_again (Words vs) ps h =
-    let w = un_word (codes ".word") (value_list vs ∷ []) ps h in
-    rw w.2 (unlabelled (Words vs) w.0 w.1 (list_plain IsValue value_front_plain vs w.1 (un_last (value_list vs) w.1 w.4)) (rw w.2 at (operation_again (Words vs) ps h)))
-stated_again (Dbyts vs) ps h =
-    let w = un_word (codes ".dbyt") (value_list vs ∷ []) ps h in
-    rw w.2 (unlabelled (Dbyts vs) w.0 w.1 (list_plain IsValue value_front_plain vs w.1 (un_last (value_list vs) w.1 w.4)) (rw w.2 at (operation_again (Dbyts vs) ps h)))
-stated_again (Addrs vs) ps h =
-    let w = un_word (codes ".addr") (value_list vs ∷ []) ps h in
-    rw w.2 (unlabelled (Addrs vs) w.0 w.1 (list_plain IsValue value_front_plain vs w.1 (un_last (value_list vs) w.1 w.4)) (rw w.2 at (operation_again (Addrs vs) ps h)))
+stated_again (Values d vs) ps h =
+    let w = un_word (directive_text d) (value_list vs ∷ []) ps h in
+    rw w.2 (unlabelled (Values d vs) w.0 w.1 (list_plain IsValue value_front_plain vs w.1 (un_last (value_list vs) w.1 w.4)) (rw w.2 at (operation_again (Values d vs) ps h)))
 stated_again (Segment t) ps h =
     let w = un_word (codes ".segment") (quoted_name t ∷ []) ps h in
     rw w.2 (unlabelled (Segment t) w.0 w.1 (rw (un_last (quoted_name t) w.1 w.4).1 (record { colon = refl; define = refl })) (rw w.2 at (operation_again (Segment t) ps h)))

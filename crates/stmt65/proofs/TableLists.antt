@@ -1,29 +1,10 @@
--- The words and the stretches of a table, from the front on.
+-- The stretches of a text, from the front on.
 use Rattle.std.proofs.Common.{◌≡◌, ℕ, suc, Bool, true, false, ◌+◌, ◌≤◌, List, [], ◌∷◌, ◌++◌, length, drop, refl, ap, ◌∙◌, arith}
 use Rattle.std.specs.List.{prefix_len, list_all}
 use Rattle.stmt65.specs.SourceLine.{NumberDatum, StringDatum}
-use Rattle.stmt65.specs.Tables.{low_words, high_words, words_in, word_of, is_plain, onto_stretch, cut_text}
-use Rattle.stmt65.specs.declared.coding.ByteOrder.{ByteOrder}
-use Rattle.stmt65.specs.declared.coding.ByteOrder.TheVariants.{LittleEndian, BigEndian}
+use Rattle.stmt65.specs.Tables.{is_plain, onto_stretch, cut_text}
 use Rattle.stmt65.proofs.Cases.{both}
 use Rattle.stmt65.proofs.Lexed.{begins}
-
--- ---- words
-
-pub words_nil : (o : ByteOrder) → words_in o [] ≡ []
-unfolding low_words high_words
-words_nil LittleEndian = refl
-words_nil BigEndian = refl
-
-pub words_one : (o : ByteOrder) (b : ℕ) → words_in o (b ∷ []) ≡ []
-unfolding low_words high_words
-words_one LittleEndian b = refl
-words_one BigEndian b = refl
-
-pub words_more : (o : ByteOrder) (a b : ℕ) (bs : List ℕ) → words_in o (a ∷ b ∷ bs) ≡ word_of o a b ∷ words_in o bs
-unfolding low_words high_words
-words_more LittleEndian a b bs = refl
-words_more BigEndian a b bs = refl
 
 -- ---- text
 

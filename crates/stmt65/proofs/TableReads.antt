@@ -1,24 +1,34 @@
 -- The texts of tables are lists, joined by commas, of what the tables say.
-use Rattle.std.proofs.Common.{◌≡◌, ℕ, Bool, true, false, ltb, ◌+◌, ◌*◌, ◌<◌, ◌≤◌, List, [], ◌∷◌, ◌++◌, length, refl, ap, subst, ◌∙◌, arith, append_assoc}
-use Rattle.std.specs.Prelude.{map}
+use Rattle.std.proofs.Common.{◌≡◌, ℕ, zero, suc, Bool, true, false, ltb, ◌+◌, ◌*◌, ◌/◌, ◌%◌, ◌<◌, ◌≤◌, List, [], ◌∷◌, ◌++◌, length, reverse, take, drop, refl, sym, ap, subst, ◌∙◌, arith, append_assoc}
+use Rattle.std.specs.Prelude.{map, ◌&&◌, ◌==◌, nat_lt}
+use Rattle.std.specs.Char.{is_ascii_hexdigit}
+use Rattle.std.specs.Str.Parse.{digits_value}
+use Rattle.std.proofs.Math.Nat.{suc-mul}
+use Rattle.std.proofs.lemmas.Int.Digits.{digits_value_push}
+use Rattle.std.proofs.lemmas.List.Folds.{list_all-append}
 use Rattle.std.specs.List.{list_all, flat_map}
-use Rattle.std.proofs.lemmas.Bool.{lt-ltb, ltb-true}
+use Rattle.std.proofs.lemmas.Bool.{ltb-true, eqb-true, eq-eqb}
 use Rattle.std.proofs.lemmas.Bool.Decides.{nat_tests}
-use Rattle.std.proofs.lemmas.List.{append-nil}
-use Rattle.stmt65.specs.declared.coding.ByteOrder.{ByteOrder}
-use Rattle.stmt65.specs.declared.coding.ByteOrder.TheVariants.{LittleEndian, BigEndian}
-use Rattle.stmt65.specs.Digits.{hex2, hex4}
-use Rattle.stmt65.specs.SourceLine.{Datum, NumberValue, NumberDatum, StringDatum}
-use Rattle.stmt65.specs.Parts.{Part, Number, Text}
+use Rattle.std.proofs.lemmas.List.{append-nil, reverse-append, length-reverse, length-take-le, length-drop}
+use Rattle.stmt65.specs.declared.directive.Directive.{Directive}
+use Rattle.stmt65.specs.declared.directive.Directive.TheVariants.{Word}
+use Rattle.stmt65.specs.Directives.{entry_len, order_of}
+use Rattle.isa65.specs.declared.byte_order.ByteOrder.{ByteOrder}
+use Rattle.isa65.specs.declared.byte_order.ByteOrder.TheVariants.{LittleEndian, BigEndian}
+use Rattle.stmt65.specs.Digits.{hex_digit, digits2, hex2}
+use Rattle.stmt65.specs.SourceLine.{Datum, NumberDatum, StringDatum}
+use Rattle.stmt65.specs.Parts.{Part, Number, Text, number_of}
 use Rattle.stmt65.specs.Lexing.{is_text_byte, parts}
 use Rattle.stmt65.specs.Spelling.{IsValue, IsDatum, IsList}
-use Rattle.stmt65.specs.Statements.{bytes_text, comma_list, datum_text, data_text, words_text}
-use Rattle.stmt65.specs.Tables.{words_in, word_of, is_plain, cut_text}
+use Rattle.stmt65.specs.Printed.{entry_value}
+use Rattle.stmt65.specs.Statements.{bytes_text, comma_list, datum_text, data_text, entry_text, numbers_text}
+use Rattle.stmt65.specs.Tables.{in_order, low_number, pieces, entries, is_plain, cut_text}
 use Rattle.stmt65.specs.code.Widths.{AreBytes}
 use Rattle.stmt65.proofs.Cases.{both}
-use Rattle.stmt65.proofs.Lexed.{Ends, parts_comma, parts_text, parts_hex2, parts_hex4, number_of-hex2, number_of-hex4}
+use Rattle.stmt65.proofs.Lexed.{Ends, parts_comma, parts_text, hex_is_digit, hex_value, below_16, parts_hex, parts_hex2, number_of-hex2}
 use Rattle.stmt65.proofs.PartLemmas.{parts_nil}
-use Rattle.stmt65.proofs.TableLists.{words_nil, words_one, words_more, cut_nil, cut_single, cut_onto}
+use Rattle.stmt65.proofs.EntryLaws.{in_order-length, entries_more}
+use Rattle.stmt65.proofs.TableLists.{cut_nil, cut_single, cut_onto}
 
 -- ---- lists joined by commas
 
@@ -50,33 +60,105 @@ unfolding comma_list
 bytes_listed [] lt h = absurd (omega arith)
 bytes_listed (b ∷ bs) lt h = listed NumberDatum IsDatum hex2 (λ b. ltb b 256) each_byte b bs h
 
--- ---- words
+-- ---- numbers
 
-abbrev pub is_word_wide : ℕ → Bool
-is_word_wide w = ltb w 65536
+digits_pass : (bs : List ℕ) → list_all is_ascii_hexdigit (flat_map digits2 bs) ≡ true
+digits_pass [] = refl
+digits_pass (b ∷ bs) = rw (hex_is_digit (b / 16 % 16) (below_16 (b / 16)), hex_is_digit (b % 16) (below_16 b), digits_pass bs) refl
 
-each_word : (w : ℕ) → is_word_wide w ≡ true → (rest : List ℕ) → Ends rest → TextParts IsValue (NumberValue w) (hex4 w) rest
-each_word w h rest e = record { front = Number (hex4 w) ∷ []; lexes = parts_hex4 w rest e; spells = (hex4 w, number_of-hex4 w (ltb-true w 65536 h), refl) }
+digits_len : (bs : List ℕ) → length (flat_map digits2 bs) ≡ 2 * length bs
+digits_len [] = refl
+digits_len (b ∷ bs) = let ih = digits_len bs in omega arith
 
-word_wide : (o : ByteOrder) (a b : ℕ) → a < 256 → b < 256 → is_word_wide (word_of o a b) ≡ true
-word_wide LittleEndian a b lt lt2 = lt-ltb (a + 256 * b) 65536 (omega arith)
-word_wide BigEndian a b lt lt2 = lt-ltb (b + 256 * a) 65536 (omega arith)
+digits_append : (bs cs : List ℕ) → flat_map digits2 (bs ++ cs) ≡ flat_map digits2 bs ++ flat_map digits2 cs
+digits_append [] cs = refl
+digits_append (b ∷ bs) cs = rw (digits_append bs cs) refl
 
-pub words_wide : (o : ByteOrder) (bs : List ℕ) → AreBytes bs → list_all is_word_wide (words_in o bs) ≡ true
-words_wide o [] h = rw (words_nil o) refl
-words_wide o (a ∷ []) h = rw (words_one o a) refl
-words_wide o (a ∷ b ∷ bs) h =
-    let first = both (ltb a 256) (list_all (λ b. ltb b 256) (b ∷ bs)) h in
-    let second = both (ltb b 256) (list_all (λ b. ltb b 256) bs) first.1 in
-    rw (words_more o a b bs, word_wide o a b (ltb-true a 256 first.0) (ltb-true b 256 second.0), words_wide o bs second.1) refl
+-- the digits of bytes, the high one first, are those of their number
+digits_count : (bs : List ℕ) → AreBytes bs → digits_value 16 (flat_map digits2 (reverse bs)) ≡ low_number bs
+unfolding low_number
+digits_count [] h = refl
+digits_count (b ∷ bs) h =
+    let is = both (ltb b 256) (list_all (λ b. ltb b 256) bs) h in
+    let small = ltb-true b 256 is.0 in
+    let ih = digits_count bs is.1 in
+    let front = flat_map digits2 (reverse bs) in
+    let split : flat_map digits2 (reverse (b ∷ bs)) ≡ (front ++ hex_digit (b / 16 % 16) ∷ []) ++ hex_digit (b % 16) ∷ [] =
+    ap (flat_map digits2) (reverse-append (b ∷ []) bs) ∙ digits_append (reverse bs) (b ∷ []) ∙ sym (append_assoc front (hex_digit (b / 16 % 16) ∷ []) (hex_digit (b % 16) ∷ [])) in
+    let last = digits_value_push 16 (front ++ hex_digit (b / 16 % 16) ∷ []) (hex_digit (b % 16)) in
+    let before = digits_value_push 16 front (hex_digit (b / 16 % 16)) in
+    let high = hex_value (b / 16 % 16) (below_16 (b / 16)) in
+    let low = hex_value (b % 16) (below_16 b) in
+    ap (digits_value 16) split ∙ last ∙ rw (before, high, low, ih) (omega arith)
 
-pub words_listed : (o : ByteOrder) (bs : List ℕ) → 2 ≤ length bs → AreBytes bs → IsList IsValue (map NumberValue (words_in o bs)) (parts (words_text (words_in o bs)))
+-- the bytes of one entry
+abbrev pub is_entry : Directive → List ℕ → Bool
+is_entry d bytes = (length bytes == entry_len d) && list_all (λ b. nat_lt b 256) bytes
+
+reverse_bytes : (bs : List ℕ) → AreBytes bs → AreBytes (reverse bs)
+reverse_bytes [] h = refl
+reverse_bytes (b ∷ bs) h =
+    let is = both (ltb b 256) (list_all (λ b. ltb b 256) bs) h in
+    rw (reverse-append (b ∷ []) bs) (list_all-append (λ b. ltb b 256) (reverse bs) (b ∷ []) ∙ rw (reverse_bytes bs is.1, is.0) refl)
+
+ordered_bytes : (o : ByteOrder) (bs : List ℕ) → AreBytes bs → AreBytes (in_order o bs)
+ordered_bytes LittleEndian bs h = h
+ordered_bytes BigEndian bs h = reverse_bytes bs h
+
+entry_some : (d : Directive) → 0 < entry_len d
+entry_some Word = omega arith
+entry_some _ = omega arith
+
+entry_short : (d : Directive) → 2 * entry_len d ≤ 8
+entry_short Word = omega arith
+entry_short _ = omega arith
+
+each_entry : (d : Directive) (bytes : List ℕ) → is_entry d bytes ≡ true → (rest : List ℕ) → Ends rest → TextParts IsValue (entry_value d bytes) (entry_text d bytes) rest
+unfolding number_of
+each_entry d bytes h rest e =
+    let is = both (length bytes == entry_len d) (list_all (λ b. nat_lt b 256) bytes) h in
+    let long = eqb-true (length bytes) (entry_len d) is.0 in
+    let low = in_order (order_of d) bytes in
+    let digits = flat_map digits2 (reverse low) in
+    let count : length digits ≡ 2 * entry_len d = digits_len (reverse low) ∙ rw (length-reverse low, in_order-length (order_of d) bytes, long) refl in
+    record {
+      front = Number (entry_text d bytes) ∷ [];
+      lexes = parts_hex digits rest (digits_pass (reverse low)) (omega (arith, count, entry_some d)) (omega (arith, count, entry_short d)) e;
+      spells = (entry_text d bytes, sym (digits_count low (ordered_bytes (order_of d) bytes is.1)), refl);
+    }
+
+take_bytes : (n : ℕ) (bs : List ℕ) → AreBytes bs → AreBytes (take n bs)
+take_bytes zero bs h = refl
+take_bytes (suc n) [] h = refl
+take_bytes (suc n) (b ∷ bs) h = let is = both (ltb b 256) (list_all (λ b. ltb b 256) bs) h in rw (is.0, take_bytes n bs is.1) refl
+
+drop_bytes : (n : ℕ) (bs : List ℕ) → AreBytes bs → AreBytes (drop n bs)
+drop_bytes zero bs h = h
+drop_bytes (suc n) [] h = refl
+drop_bytes (suc n) (b ∷ bs) h = drop_bytes n bs (both (ltb b 256) (list_all (λ b. ltb b 256) bs) h).1
+
+pieces_are : (d : Directive) (count : ℕ) (bs : List ℕ) → AreBytes bs → count * entry_len d ≤ length bs → list_all (is_entry d) (pieces count (entry_len d) bs) ≡ true
+unfolding pieces
+pieces_are d zero bs h le = refl
+pieces_are d (suc count) bs h le =
+    let room : entry_len d + count * entry_len d ≤ length bs = omega (arith, suc-mul count (entry_len d)) in
+    let long : length (take (entry_len d) bs) ≡ entry_len d = length-take-le (entry_len d) bs (omega arith) in
+    let one : (length (take (entry_len d) bs) == entry_len d) ≡ true = eq-eqb (length (take (entry_len d) bs)) (entry_len d) long in
+    rw (one, take_bytes (entry_len d) bs h) (pieces_are d count (drop (entry_len d) bs) (drop_bytes (entry_len d) bs h) (omega (arith, length-drop (entry_len d) bs)))
+
+entries_are : (d : Directive) (bs : List ℕ) → AreBytes bs → list_all (is_entry d) (entries d bs) ≡ true
+unfolding entries
+entries_are d bs h = pieces_are d (length bs / entry_len d) bs h (whole d)
+  where
+    whole : (d : Directive) → length bs / entry_len d * entry_len d ≤ length bs
+    whole Word = omega arith
+    whole _ = omega arith
+
+pub numbers_listed : (d : Directive) (bs : List ℕ) → entry_len d ≤ length bs → AreBytes bs → IsList IsValue (map (entry_value d) (entries d bs)) (parts (numbers_text d bs))
 unfolding comma_list
-words_listed o [] lt h = absurd (omega arith)
-words_listed o (a ∷ []) lt h = absurd (omega arith)
-words_listed o (a ∷ b ∷ bs) lt h =
-    let wide = rw (words_more o a b bs) at (words_wide o (a ∷ b ∷ bs) h) in
-    rw (words_more o a b bs) (listed NumberValue IsValue hex4 is_word_wide each_word (word_of o a b) (words_in o bs) wide)
+numbers_listed d bs le h =
+    let are = rw (entries_more d bs le) at (entries_are d bs h) in
+    rw (entries_more d bs le) (listed (entry_value d) IsValue (entry_text d) (is_entry d) (each_entry d) (take (entry_len d) bs) (entries d (drop (entry_len d) bs)) are)
 
 -- ---- text
 

@@ -1,43 +1,39 @@
 -- The texts of tables, from the front on.
-use Rattle.std.proofs.Common.{◌≡◌, ℕ, Bool, true, false, ◌≤◌, List, [], ◌∷◌, ◌++◌, length, take, drop, get_or, refl, sym, ap, ◌∙◌, arith, append_assoc}
+use Rattle.std.proofs.Common.{◌≡◌, ℕ, Bool, true, false, ◌<◌, ◌≤◌, List, [], ◌∷◌, ◌++◌, length, take, drop, get_or, refl, sym, ap, ◌∙◌, arith, append_assoc}
 use Rattle.std.specs.List.{prefix_len, flat_map}
 use Rattle.std.proofs.lemmas.List.{append-nil, take-append-drop, length-take-le}
 use Rattle.std.proofs.lemmas.List.Sums.{prefix_len-le-length}
-use Rattle.stmt65.specs.declared.coding.ByteOrder.{ByteOrder}
+use Rattle.stmt65.specs.declared.directive.Directive.{Directive}
+use Rattle.stmt65.specs.Directives.{entry_len}
 use Rattle.stmt65.specs.SourceLine.{Datum, NumberDatum, StringDatum}
-use Rattle.stmt65.specs.Digits.{hex2, hex4}
-use Rattle.stmt65.specs.Statements.{comma_list, data_text, datum_text, next_text, words_text, quoted}
-use Rattle.stmt65.specs.Tables.{words_in, word_of, is_plain, cut_text}
+use Rattle.stmt65.specs.Digits.{hex2}
+use Rattle.stmt65.specs.Statements.{comma_list, data_text, datum_text, entry_text, next_text, numbers_text, quoted}
+use Rattle.stmt65.specs.Tables.{entries, is_plain, cut_text}
 use Rattle.stmt65.proofs.SpacingLemmas.{run_passes}
-use Rattle.stmt65.proofs.TableLists.{words_nil, words_one, words_more, cut_nil, cut_single, cut_stretch, run_ends}
+use Rattle.stmt65.proofs.EntryLaws.{entries_none, entries_more}
+use Rattle.stmt65.proofs.TableLists.{cut_nil, cut_single, cut_stretch, run_ends}
 
--- ---- words
+-- ---- numbers
 
-first_word : (o : ByteOrder) (bytes : List ℕ) → 2 ≤ length bytes → words_text (words_in o bytes) ≡ hex4 (word_of o (get_or bytes 0 0) (get_or bytes 1 0)) ++ flat_map (next_text hex4) (words_in o (drop 2 bytes))
+first_entry : (d : Directive) (bytes : List ℕ) → entry_len d ≤ length bytes → numbers_text d bytes ≡ entry_text d (take (entry_len d) bytes) ++ flat_map (next_text (entry_text d)) (entries d (drop (entry_len d) bytes))
 unfolding comma_list
-first_word o [] lt = absurd (omega arith)
-first_word o (a ∷ []) lt = absurd (omega arith)
-first_word o (a ∷ b ∷ bs) lt = rw (words_more o a b bs) refl
+first_entry d bytes le = rw (entries_more d bytes le) refl
 
--- the first word is put, and the others are left
-pub word_put : (o : ByteOrder) (bytes rest old new : List ℕ) → 2 ≤ length bytes → rest ≡ drop 2 bytes → new ≡ old ++ hex4 (word_of o (get_or bytes 0 0) (get_or bytes 1 0))
-    → new ++ flat_map (next_text hex4) (words_in o rest) ≡ old ++ words_text (words_in o bytes)
-word_put o bytes rest old new lt r n = rw (n, r, first_word o bytes lt) (append_assoc old _ _)
+-- the first entry is put, and the others are left
+pub entry_put : (d : Directive) (bytes front rest old new : List ℕ) → entry_len d ≤ length bytes → front ≡ take (entry_len d) bytes → rest ≡ drop (entry_len d) bytes → new ≡ old ++ entry_text d front
+    → new ++ flat_map (next_text (entry_text d)) (entries d rest) ≡ old ++ numbers_text d bytes
+entry_put d bytes front rest old new le f r n = rw (n, r, f, first_entry d bytes le) (append_assoc old _ _)
 
-next_words : (o : ByteOrder) (bytes : List ℕ) → 2 ≤ length bytes → flat_map (next_text hex4) (words_in o bytes) ≡ 44 ∷ words_text (words_in o bytes)
+next_entries : (d : Directive) (bytes : List ℕ) → entry_len d ≤ length bytes → flat_map (next_text (entry_text d)) (entries d bytes) ≡ 44 ∷ numbers_text d bytes
 unfolding comma_list
-next_words o [] lt = absurd (omega arith)
-next_words o (a ∷ []) lt = absurd (omega arith)
-next_words o (a ∷ b ∷ bs) lt = rw (words_more o a b bs) refl
+next_entries d bytes le = rw (entries_more d bytes le) refl
 
--- a comma is put, and the words that are left
-pub words_step : (o : ByteOrder) (bytes out new text : List ℕ) → 2 ≤ length bytes → out ++ flat_map (next_text hex4) (words_in o bytes) ≡ text → new ≡ (out ++ 44 ∷ []) ++ words_text (words_in o bytes) → new ≡ text
-words_step o bytes out new text lt e n = n ∙ append_assoc out (44 ∷ []) (words_text (words_in o bytes)) ∙ ap (λ (l : List ℕ). out ++ l) (sym (next_words o bytes lt)) ∙ e
+-- a comma is put, and the entries that are left
+pub entries_step : (d : Directive) (bytes out new text : List ℕ) → entry_len d ≤ length bytes → out ++ flat_map (next_text (entry_text d)) (entries d bytes) ≡ text → new ≡ (out ++ 44 ∷ []) ++ numbers_text d bytes → new ≡ text
+entries_step d bytes out new text le e n = n ∙ append_assoc out (44 ∷ []) (numbers_text d bytes) ∙ ap (λ (l : List ℕ). out ++ l) (sym (next_entries d bytes le)) ∙ e
 
-pub words_end : (o : ByteOrder) (bytes out text : List ℕ) → length bytes ≤ 1 → out ++ flat_map (next_text hex4) (words_in o bytes) ≡ text → out ≡ text
-words_end o [] out text le e = rw (words_nil o, append-nil) at e
-words_end o (a ∷ []) out text le e = rw (words_one o a, append-nil) at e
-words_end o (a ∷ b ∷ bs) out text le e = absurd (omega arith)
+pub entries_end : (d : Directive) (bytes out text : List ℕ) → length bytes < entry_len d → out ++ flat_map (next_text (entry_text d)) (entries d bytes) ≡ text → out ≡ text
+entries_end d bytes out text lt e = rw (entries_none d bytes lt, append-nil) at e
 
 -- ---- text
 

@@ -1,5 +1,5 @@
 -- How a statement is coded, as a list of fragments: what each byte of it stands for.
-use Rattle.std.specs.Prelude.{ℕ, ◌+◌, ◌-◌, ◌/◌, ◌%◌, Bool, true, false, ◌&&◌, List, [], ◌∷◌, ◌++◌, map, nat_le, if◌then◌else◌, Option, Some, None, is_some, unwrap_or}
+use Rattle.std.specs.Prelude.{ℕ, ◌+◌, ◌-◌, ◌%◌, Bool, true, false, ◌&&◌, List, [], ◌∷◌, ◌++◌, map, nat_le, if◌then◌else◌, Option, Some, None, is_some, unwrap_or}
 use Rattle.std.specs.List.{flat_map}
 use Rattle.isa65.specs.declared.cpu.Cpu.{Cpu}
 use Rattle.isa65.specs.declared.mnemonic.Mnemonic.{Mnemonic}
@@ -7,9 +7,13 @@ use Rattle.isa65.specs.declared.mode.Mode.{Mode}
 use Rattle.isa65.specs.declared.mode.Mode.TheVariants.{Imp, Acc, Imm, Zp, Zpx, Zpy, Abs, Absx, Absy, Ind, Indx, Indy, Zpind, Absindx, Rel, Zprel}
 use Rattle.isa65.specs.Cpu.{table_of}
 use Rattle.isa65.specs.Opcodes.{encoded}
-use Rattle.stmt65.specs.SourceLine.{Value, NumberValue, Form, Empty, Accumulator, Immediate, Direct, DirectX, DirectY, Two, Indirect, IndirectX, IndirectY, Datum, NumberDatum, StringDatum, Operation, Nothing, Instr, Data, Words, Dbyts, Addrs, Segment, Code, SetCpu}
+use Rattle.stmt65.specs.SourceLine.{Value, NumberValue, Form, Empty, Accumulator, Immediate, Direct, DirectX, DirectY, Two, Indirect, IndirectX, IndirectY, Datum, NumberDatum, StringDatum, Operation, Nothing, Instr, Data, Values, Segment, Code, SetCpu}
 use Rattle.stmt65.specs.declared.source_line.AddressSize.TheVariants.{Absolute, Automatic}
-use Rattle.stmt65.specs.Symbols.{Definition, is_known, word_in, byte_in, has_zero_page_size}
+use Rattle.stmt65.specs.declared.directive.Directive.{Directive}
+use Rattle.stmt65.specs.declared.directive.Directive.TheVariants.{Addr}
+use Rattle.stmt65.specs.Directives.{entry_len, entry_limit}
+use Rattle.stmt65.specs.Tables.{entry_bytes}
+use Rattle.stmt65.specs.Symbols.{Definition, value_in, is_known, below, word_in, byte_in, has_zero_page_size}
 
 -- ---- fragments
 
@@ -22,10 +26,8 @@ pub data Fragment : Type 0 where
   ZeroPage : Value → Fragment
   -- the operand of a zero-page mode that has not zero-page size, so it never fits
   Oversized : Value → Fragment
-  -- a word, low byte first
-  LowFirst : Value → Fragment
-  -- a word, high byte first
-  HighFirst : Value → Fragment
+  -- a number as a directive gives it
+  Entry : Directive → Value → Fragment
   -- a word, as its signed distance from the address after the statement
   Distance : Value → Fragment
 
@@ -34,8 +36,7 @@ fragment_len (Fixed b) = 1
 fragment_len (Single v) = 1
 fragment_len (ZeroPage v) = 1
 fragment_len (Oversized v) = 1
-fragment_len (LowFirst v) = 2
-fragment_len (HighFirst v) = 2
+fragment_len (Entry d v) = entry_len d
 fragment_len (Distance v) = 1
 
 -- whether each name in it has a definition
@@ -44,8 +45,7 @@ is_fragment_known all (Fixed b) = true
 is_fragment_known all (Single v) = is_known all v
 is_fragment_known all (ZeroPage v) = is_known all v
 is_fragment_known all (Oversized v) = is_known all v
-is_fragment_known all (LowFirst v) = is_known all v
-is_fragment_known all (HighFirst v) = is_known all v
+is_fragment_known all (Entry d v) = is_known all v
 is_fragment_known all (Distance v) = is_known all v
 
 -- from 128 below the address `next` to 127 above it
@@ -53,25 +53,28 @@ abbrev pub is_near : ℕ → Option ℕ → Bool
 is_near next None = false
 is_near next (Some n) = nat_le next (n + 128) && nat_le n (next + 127)
 
+-- the value if an entry of the directive has room for it
+unfoldable pub entry_in : List Definition → Directive → Value → Option ℕ
+entry_in all d v = below (entry_limit d) (value_in all v)
+
 -- whether its value has room; `next` is the address after the statement
 unfoldable pub fragment_fits : List Definition → ℕ → Fragment → Bool
 fragment_fits all next (Fixed b) = true
 fragment_fits all next (Single v) = is_some (byte_in all v)
 fragment_fits all next (ZeroPage v) = is_some (byte_in all v)
 fragment_fits all next (Oversized v) = false
-fragment_fits all next (LowFirst v) = is_some (word_in all v)
-fragment_fits all next (HighFirst v) = is_some (word_in all v)
+fragment_fits all next (Entry d v) = is_some (entry_in all d v)
 fragment_fits all next (Distance v) = is_near next (word_in all v)
 
 -- the value of a fragment that has room for it
 abbrev pub word_or_zero : List Definition → Value → ℕ
 word_or_zero all v = unwrap_or (word_in all v) 0
 
+abbrev pub entry_or_zero : List Definition → Directive → Value → ℕ
+entry_or_zero all d v = unwrap_or (entry_in all d v) 0
+
 abbrev pub low : ℕ → ℕ
 low n = n % 256
-
-abbrev pub high : ℕ → ℕ
-high n = n / 256
 
 -- the signed distance from `next` as a byte
 abbrev pub distance : ℕ → ℕ → ℕ
@@ -83,8 +86,7 @@ fragment_bytes all next (Fixed b) = b ∷ []
 fragment_bytes all next (Single v) = low (word_or_zero all v) ∷ []
 fragment_bytes all next (ZeroPage v) = low (word_or_zero all v) ∷ []
 fragment_bytes all next (Oversized v) = low (word_or_zero all v) ∷ []
-fragment_bytes all next (LowFirst v) = low (word_or_zero all v) ∷ high (word_or_zero all v) ∷ []
-fragment_bytes all next (HighFirst v) = high (word_or_zero all v) ∷ low (word_or_zero all v) ∷ []
+fragment_bytes all next (Entry d v) = entry_bytes d (entry_or_zero all d v)
 fragment_bytes all next (Distance v) = distance next (word_or_zero all v) ∷ []
 
 -- ---- instructions
@@ -93,6 +95,10 @@ fragment_bytes all next (Distance v) = distance next (word_or_zero all v) ∷ []
 abbrev pub Way : Type 0
 Way = Mode × List Fragment
 
+-- an operand of 16 bits, as `.addr` gives it
+abbrev pub word_operand : Value → Fragment
+word_operand v = Entry Addr v
+
 -- an operand that only the zero page has
 abbrev pub zero_page : List Definition → Value → Fragment
 zero_page above v = if has_zero_page_size above v then ZeroPage v else Oversized v
@@ -100,23 +106,23 @@ zero_page above v = if has_zero_page_size above v then ZeroPage v else Oversized
 -- a zero-page and an absolute mode that are written alike: the zero-page one goes first if the operand has that size
 abbrev pub by_size : List Definition → Mode → Mode → Value → List Way
 by_size above short long v =
-    if has_zero_page_size above v then (short, ZeroPage v ∷ []) ∷ (long, LowFirst v ∷ []) ∷ []
-    else (long, LowFirst v ∷ []) ∷ (short, Oversized v ∷ []) ∷ []
+    if has_zero_page_size above v then (short, ZeroPage v ∷ []) ∷ (long, word_operand v ∷ []) ∷ []
+    else (long, word_operand v ∷ []) ∷ (short, Oversized v ∷ []) ∷ []
 
 -- the modes that are written so, in the order in which they are tried; after `a:` the absolute one alone
 unfoldable pub ways : List Definition → Form → List Way
 ways above Empty = (Imp, []) ∷ []
 ways above Accumulator = (Acc, []) ∷ []
 ways above (Immediate v) = (Imm, Single v ∷ []) ∷ []
-ways above (Direct Absolute v) = (Abs, LowFirst v ∷ []) ∷ []
+ways above (Direct Absolute v) = (Abs, word_operand v ∷ []) ∷ []
 ways above (Direct Automatic v) = by_size above Zp Abs v ++ (Rel, Distance v ∷ []) ∷ []
-ways above (DirectX Absolute v) = (Absx, LowFirst v ∷ []) ∷ []
+ways above (DirectX Absolute v) = (Absx, word_operand v ∷ []) ∷ []
 ways above (DirectX Automatic v) = by_size above Zpx Absx v
-ways above (DirectY Absolute v) = (Absy, LowFirst v ∷ []) ∷ []
+ways above (DirectY Absolute v) = (Absy, word_operand v ∷ []) ∷ []
 ways above (DirectY Automatic v) = by_size above Zpy Absy v
 ways above (Two v w) = (Zprel, zero_page above v ∷ Distance w ∷ []) ∷ []
-ways above (Indirect v) = (Zpind, zero_page above v ∷ []) ∷ (Ind, LowFirst v ∷ []) ∷ []
-ways above (IndirectX v) = (Indx, zero_page above v ∷ []) ∷ (Absindx, LowFirst v ∷ []) ∷ []
+ways above (Indirect v) = (Zpind, zero_page above v ∷ []) ∷ (Ind, word_operand v ∷ []) ∷ []
+ways above (IndirectX v) = (Indx, zero_page above v ∷ []) ∷ (Absindx, word_operand v ∷ []) ∷ []
 ways above (IndirectY v) = (Indy, zero_page above v ∷ []) ∷ []
 
 -- with the opcode in front, or else what the other ways give
@@ -142,9 +148,7 @@ unfoldable pub coding : Cpu → List Definition → Operation → Option (List F
 coding cpu above Nothing = Some []
 coding cpu above (Instr m form) = first_way cpu m (ways above form)
 coding cpu above (Data ds) = Some (flat_map datum_fragments ds)
-coding cpu above (Words vs) = Some (map LowFirst vs)
-coding cpu above (Dbyts vs) = Some (map HighFirst vs)
-coding cpu above (Addrs vs) = Some (map LowFirst vs)
+coding cpu above (Values d vs) = Some (map (Entry d) vs)
 coding cpu above (Segment name) = Some []
 coding cpu above Code = Some []
 coding cpu above (SetCpu text) = Some []

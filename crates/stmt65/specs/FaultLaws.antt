@@ -5,9 +5,10 @@ use Rattle.isa65.specs.Cpu.{cpu_named}
 use Rattle.isa65.specs.declared.cpu.Cpu.{Cpu}
 use Rattle.stmt65.specs.declared.fault.AsmFaultKind.{AsmFaultKind}
 use Rattle.stmt65.specs.declared.fault.AsmFaultKind.TheVariants.{Syntax, UnknownCpu, NoSuchForm, Undefined, DefinedTwice, OutOfRange, PastEnd, Memory}
-use Rattle.stmt65.specs.SourceLine.{Value, NumberValue, NameValue, Operation, Instr, Words, Dbyts, Addrs, SetCpu, SourceLine}
+use Rattle.stmt65.specs.SourceLine.{Value, NumberValue, NameValue, Operation, Instr, Values, SetCpu, SourceLine}
+use Rattle.stmt65.specs.Directives.{entry_limit}
 use Rattle.stmt65.specs.Symbols.{Definition, find_name, value_in}
-use Rattle.stmt65.specs.Coding.{Fragment, Fixed, Single, ZeroPage, Oversized, LowFirst, HighFirst, Distance}
+use Rattle.stmt65.specs.Coding.{Fragment, Fixed, Single, ZeroPage, Oversized, Entry, Distance}
 use Rattle.stmt65.specs.Meaning.{State, operation_in, fragments_of, next_of, defined_by, fault_of}
 use Rattle.stmt65.specs.Forms.{form_values}
 use Rattle.stmt65.specs.ModeLaws.{LacksForm}
@@ -26,9 +27,7 @@ rank Memory = 7
 -- the expressions of an operation
 abbrev pub operation_values : Operation → List Value
 operation_values (Instr m form) = form_values form
-operation_values (Words vs) = vs
-operation_values (Dbyts vs) = vs
-operation_values (Addrs vs) = vs
+operation_values (Values d vs) = vs
 operation_values _ = []
 
 -- `.setcpu` with a text that names no CPU
@@ -50,15 +49,18 @@ IsUnknown all (NameValue w n minus) = find_name w all ≡ None
 abbrev pub IsAtMost : ℕ → List Definition → Value → Type 0
 IsAtMost limit all v = (n : ℕ) × (value_in all v ≡ Some n) × (n ≤ limit)
 
--- The value of a fragment has room: a byte is at most $FF, a word at most $FFFF, a zero-page operand has zero-page size, and a
+-- the expression has a value, and it is below the limit
+abbrev pub IsBelow : ℕ → List Definition → Value → Type 0
+IsBelow limit all v = (n : ℕ) × (value_in all v ≡ Some n) × (n < limit)
+
+-- The value of a fragment has room: a byte is at most $FF, an entry of n bytes is below 256^n, a zero-page operand has zero-page size, and a
 -- distance goes from -128 to 127, counted from the address after the statement.
 abbrev pub HasRoom : List Definition → ℕ → Fragment → Type 0
 HasRoom all next (Fixed b) = Unit {0}
 HasRoom all next (Single v) = IsAtMost 0xFF all v
 HasRoom all next (ZeroPage v) = IsAtMost 0xFF all v
 HasRoom all next (Oversized v) = ⊥
-HasRoom all next (LowFirst v) = IsAtMost 0xFFFF all v
-HasRoom all next (HighFirst v) = IsAtMost 0xFFFF all v
+HasRoom all next (Entry d v) = IsBelow (entry_limit d) all v
 HasRoom all next (Distance v) = (n : ℕ) × (value_in all v ≡ Some n) × (n ≤ 0xFFFF) × (next ≤ n + 128) × (n ≤ next + 127)
 
 -- A line that says something has a fault of a kind; `s` is what stands above it, `all` are the definitions of the whole text.

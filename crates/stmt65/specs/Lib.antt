@@ -3,6 +3,7 @@ pub mod Columns
 pub mod Digits
 pub mod Views
 pub mod Operands
+pub mod Directives
 pub mod Tables
 pub mod Statements
 pub mod Levels

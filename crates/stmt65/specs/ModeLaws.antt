@@ -16,7 +16,7 @@ use Rattle.stmt65.specs.Forms.{form_text, form_values, form_size}
 use Rattle.stmt65.specs.SourceLine.{Value, Form, Instr}
 use Rattle.stmt65.specs.Reading.{is_absolute}
 use Rattle.stmt65.specs.Symbols.{Definition, has_zero_page_size}
-use Rattle.stmt65.specs.Coding.{Fragment, Fixed, Single, LowFirst, Distance, Way, zero_page, ways, coding, coding_len}
+use Rattle.stmt65.specs.Coding.{Fragment, Fixed, Single, word_operand, Distance, Way, zero_page, ways, coding, coding_len}
 
 -- whether `a:` stands before the expression
 abbrev pub has_prefix : Form → Bool
@@ -65,14 +65,14 @@ mode_fragments above Imm (v ∷ []) = Single v ∷ []
 mode_fragments above Zp (v ∷ []) = zero_page above v ∷ []
 mode_fragments above Zpx (v ∷ []) = zero_page above v ∷ []
 mode_fragments above Zpy (v ∷ []) = zero_page above v ∷ []
-mode_fragments above Abs (v ∷ []) = LowFirst v ∷ []
-mode_fragments above Absx (v ∷ []) = LowFirst v ∷ []
-mode_fragments above Absy (v ∷ []) = LowFirst v ∷ []
-mode_fragments above Ind (v ∷ []) = LowFirst v ∷ []
+mode_fragments above Abs (v ∷ []) = word_operand v ∷ []
+mode_fragments above Absx (v ∷ []) = word_operand v ∷ []
+mode_fragments above Absy (v ∷ []) = word_operand v ∷ []
+mode_fragments above Ind (v ∷ []) = word_operand v ∷ []
 mode_fragments above Indx (v ∷ []) = zero_page above v ∷ []
 mode_fragments above Indy (v ∷ []) = zero_page above v ∷ []
 mode_fragments above Zpind (v ∷ []) = zero_page above v ∷ []
-mode_fragments above Absindx (v ∷ []) = LowFirst v ∷ []
+mode_fragments above Absindx (v ∷ []) = word_operand v ∷ []
 mode_fragments above Rel (v ∷ []) = Distance v ∷ []
 mode_fragments above Zprel (v ∷ w ∷ []) = zero_page above v ∷ Distance w ∷ []
 mode_fragments above _ _ = []

@@ -5,6 +5,8 @@ use Rattle.isa65.specs.declared.mode.Mode.{Mode}
 use Rattle.isa65.specs.declared.mode.Mode.TheVariants.{Imp, Acc, Imm, Zp, Zpx, Zpy, Abs, Absx, Absy, Ind, Indx, Indy, Zpind, Absindx, Rel, Zprel}
 use Rattle.stmt65.specs.declared.columns.Columns.{Columns}
 use Rattle.stmt65.specs.Columns.{fits_label}
+use Rattle.stmt65.specs.declared.directive.Directive.{Directive}
+use Rattle.stmt65.specs.Directives.{entry_len}
 use Rattle.stmt65.specs.Statements.{has_bytes}
 use Rattle.stmt65.specs.Views.{ExprView, OperandsView, StatementView}
 use Rattle.stmt65.specs.Views as view
@@ -55,17 +57,16 @@ MayBeForced Absx absolute = Unit {0}
 MayBeForced Absy absolute = Unit {0}
 MayBeForced _ absolute = absolute ≡ false
 
--- a line of a word table has 1 to 4 words
-abbrev pub IsTable : List ℕ → Type 0
-IsTable bytes = (length bytes % 2 ≡ 0) × ((2 ≤ length bytes) × (length bytes ≤ 8))
+-- a line of a table has an entry at least, whole entries, and at most 8 bytes
+abbrev pub IsTable : Directive → List ℕ → Type 0
+IsTable d bytes = (length bytes % entry_len d ≡ 0) × ((entry_len d ≤ length bytes) × (length bytes ≤ 8))
 
 -- The statement keeps the limits of its kind.
 abbrev pub IsPrintable : StatementView → Type 0
 IsPrintable (view.instr op absolute operands) = IsWrittenIn op.mode operands × MayBeForced op.mode absolute
 IsPrintable (view.bytes bs) = (1 ≤ length bs) × (length bs ≤ 8)
 IsPrintable (view.text bs) = (1 ≤ length bs) × (length bs ≤ 16)
-IsPrintable (view.words bs) = IsTable bs
-IsPrintable (view.dbyts bs) = IsTable bs
+IsPrintable (view.numbers d bs) = IsTable d bs
 IsPrintable (view.addr t) = IsNameLong t.name
 IsPrintable (view.rts None) = Unit {0}
 IsPrintable (view.rts (Some t)) = IsNameLong t.name

@@ -4,11 +4,13 @@ use Rattle.std.specs.List.{list_all}
 use Rattle.isa65.specs.Cpu.{cpu_text}
 use Rattle.isa65.specs.declared.mode.Mode.{Mode}
 use Rattle.isa65.specs.declared.mode.Mode.TheVariants.{Acc, Imm, Zp, Zpx, Zpy, Abs, Absx, Absy, Ind, Indx, Indy, Zpind, Absindx, Rel, Zprel}
-use Rattle.stmt65.specs.SourceLine.{Value, NumberValue, NameValue, Form, Empty, Accumulator, Immediate, Direct, DirectX, DirectY, Two, Indirect, IndirectX, IndirectY, NumberDatum, Nothing, Instr, Data, Words, Dbyts, Addrs, Segment, Code, SetCpu, SourceLine, Assignment, PlaceAssignment, Statement}
+use Rattle.stmt65.specs.SourceLine.{Value, NumberValue, NameValue, Form, Empty, Accumulator, Immediate, Direct, DirectX, DirectY, Two, Indirect, IndirectX, IndirectY, NumberDatum, Nothing, Instr, Data, Values, Segment, Code, SetCpu, SourceLine, Assignment, PlaceAssignment, Statement}
+use Rattle.stmt65.specs.declared.directive.Directive.{Directive}
+use Rattle.stmt65.specs.declared.directive.Directive.TheVariants.{Word, Addr}
 use Rattle.stmt65.specs.declared.source_line.AddressSize.{AddressSize}
 use Rattle.stmt65.specs.declared.source_line.AddressSize.TheVariants.{Absolute, Automatic}
 use Rattle.stmt65.specs.declared.source_line.Minus.TheVariants.{Zero, One}
-use Rattle.stmt65.specs.Tables.{low_words, high_words, cut_text}
+use Rattle.stmt65.specs.Tables.{entries, entry_number, cut_text}
 use Rattle.stmt65.specs.Names.{has_name_form, is_name}
 use Rattle.stmt65.specs.Lexing.{parts}
 use Rattle.stmt65.specs.Reading.{reading_of}
@@ -43,6 +45,10 @@ source_form Rel absolute (view.one e) = Direct Automatic (source_value e)
 source_form Zprel absolute (view.two e f) = Two (source_value e) (source_value f)
 source_form _ _ _ = Empty
 
+-- an entry of a table
+abbrev pub entry_value : Directive → List ℕ → Value
+entry_value d bytes = NumberValue (entry_number d bytes)
+
 -- the entry of a return table
 abbrev pub return_value : Option TargetView → Value
 return_value None = NumberValue 0xFFFF
@@ -53,10 +59,9 @@ abbrev pub source_line : StatementView → SourceLine
 source_line (view.instr op absolute operands) = Statement None (Instr op.mnemonic (source_form op.mode absolute operands))
 source_line (view.bytes bs) = Statement None (Data (map NumberDatum bs))
 source_line (view.text bs) = Statement None (Data (cut_text bs))
-source_line (view.words bs) = Statement None (Words (map NumberValue (low_words bs)))
-source_line (view.dbyts bs) = Statement None (Dbyts (map NumberValue (high_words bs)))
-source_line (view.addr t) = Statement None (Addrs (NameValue t.name t.offset Zero ∷ []))
-source_line (view.rts t) = Statement None (Words (return_value t ∷ []))
+source_line (view.numbers d bs) = Statement None (Values d (map (entry_value d) (entries d bs)))
+source_line (view.addr t) = Statement None (Values Addr (NameValue t.name t.offset Zero ∷ []))
+source_line (view.rts t) = Statement None (Values Word (return_value t ∷ []))
 source_line (view.label name) = Statement (Some name) Nothing
 source_line (view.assignment name n) = Assignment name n
 source_line (view.forward name n) = PlaceAssignment name n
@@ -87,8 +92,7 @@ abbrev pub HasNames : StatementView → Type 0
 HasNames (view.instr op absolute operands) = HasNamesIn operands
 HasNames (view.bytes bs) = Unit {0}
 HasNames (view.text bs) = Unit {0}
-HasNames (view.words bs) = Unit {0}
-HasNames (view.dbyts bs) = Unit {0}
+HasNames (view.numbers d bs) = Unit {0}
 HasNames (view.addr t) = is_name t.name ≡ true
 HasNames (view.rts None) = Unit {0}
 HasNames (view.rts (Some t)) = is_name t.name ≡ true

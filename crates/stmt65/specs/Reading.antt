@@ -3,12 +3,14 @@ use Rattle.std.specs.Prelude.{ℕ, zero, suc, Bool, true, false, List, [], ◌�
 use Rattle.std.specs.Str.{bytes_eq}
 use Rattle.isa65.specs.Mnemonic.{mnemonic_named}
 use Rattle.stmt65.specs.Signs.{hash, left_paren, right_paren, star, plus, comma, minus, colon}
-use Rattle.stmt65.specs.SourceLine.{Value, NumberValue, NameValue, Form, Empty, Accumulator, Immediate, Direct, DirectX, DirectY, Two, Indirect, IndirectX, IndirectY, Datum, NumberDatum, StringDatum, Operation, Nothing, Instr, Data, Words, Dbyts, Addrs, Segment, Code, SetCpu, SourceLine, Assignment, PlaceAssignment, Statement}
+use Rattle.stmt65.specs.SourceLine.{Value, NumberValue, NameValue, Form, Empty, Accumulator, Immediate, Direct, DirectX, DirectY, Two, Indirect, IndirectX, IndirectY, Datum, NumberDatum, StringDatum, Operation, Nothing, Instr, Data, Values, Segment, Code, SetCpu, SourceLine, Assignment, PlaceAssignment, Statement}
 use Rattle.stmt65.specs.declared.source_line.AddressSize.{AddressSize}
 use Rattle.stmt65.specs.declared.source_line.AddressSize.TheVariants.{Absolute, Automatic}
 use Rattle.stmt65.specs.declared.source_line.Minus.TheVariants.{Zero, One}
 use Rattle.stmt65.specs.Parts.{Part, Word, Number, Text, Define, Mark, number_of}
 use Rattle.stmt65.specs.Names.{same, has_name_form, is_name}
+use Rattle.stmt65.specs.declared.directive.Directive.{Directive}
+use Rattle.stmt65.specs.Directives.{directive_named}
 
 infixl 10 ◌>>=◌
 abbrev pub ◌>>=◌ : {A B : Type 0} → Option A → (A → Option B) → Option B
@@ -130,14 +132,8 @@ text_in _ = None
 abbrev pub data_of : List Part → Option Operation
 data_of ps = list_of next_datum ps >>= λ xs. Some (Data xs)
 
-abbrev pub words_of : List Part → Option Operation
-words_of ps = list_of next_value ps >>= λ vs. Some (Words vs)
-
-abbrev pub dbyts_of : List Part → Option Operation
-dbyts_of ps = list_of next_value ps >>= λ vs. Some (Dbyts vs)
-
-abbrev pub addrs_of : List Part → Option Operation
-addrs_of ps = list_of next_value ps >>= λ vs. Some (Addrs vs)
+abbrev pub values_of : Directive → List Part → Option Operation
+values_of d ps = list_of next_value ps >>= λ vs. Some (Values d vs)
 
 -- a string of the form of a name, reserved or not
 abbrev pub segment_of : List Part → Option Operation
@@ -149,17 +145,23 @@ set_cpu_of ps = text_in ps >>= λ t. Some (SetCpu t)
 abbrev pub instruction_of : List ℕ → List Part → Option Operation
 instruction_of w ps = mnemonic_named w >>= λ m. form_of ps >>= λ f. Some (Instr m f)
 
--- an operation that begins with the word w
-unfoldable pub operation_at : List ℕ → List Part → Option Operation
-operation_at w ps =
+-- an operation that begins with the word w, which is none of the directives that give numbers
+unfoldable pub other_at : List ℕ → List Part → Option Operation
+other_at w ps =
     if same w (codes ".byte") then data_of ps
-    else (if same w (codes ".word") then words_of ps
-    else (if same w (codes ".dbyt") then dbyts_of ps
-    else (if same w (codes ".addr") then addrs_of ps
     else (if same w (codes ".segment") then segment_of ps
     else (if same w (codes ".code") then whole Code ps
     else (if same w (codes ".setcpu") then set_cpu_of ps
-    else instruction_of w ps))))))
+    else instruction_of w ps)))
+
+-- with a directive its numbers, without one another operation
+abbrev pub values_or : Option Directive → List Part → Option Operation → Option Operation
+values_or None ps other = other
+values_or (Some d) ps other = values_of d ps
+
+-- an operation that begins with the word w
+unfoldable pub operation_at : List ℕ → List Part → Option Operation
+operation_at w ps = values_or (directive_named w) ps (other_at w ps)
 
 unfoldable pub operation_of : List Part → Option Operation
 operation_of [] = Some Nothing

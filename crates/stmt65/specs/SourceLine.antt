@@ -1,6 +1,7 @@
 -- What a line of assembler source can say.
 use Rattle.std.specs.Prelude.{ℕ, List, Option}
 use Rattle.isa65.specs.declared.mnemonic.Mnemonic.{Mnemonic}
+use Rattle.stmt65.specs.declared.directive.Directive.{Directive}
 use Rattle.stmt65.specs.declared.source_line.AddressSize.{AddressSize}
 use Rattle.stmt65.specs.declared.source_line.Minus.{Minus}
 
@@ -32,9 +33,7 @@ pub data Operation : Type 0 where
   Nothing : Operation
   Instr : Mnemonic → Form → Operation
   Data : List Datum → Operation
-  Words : List Value → Operation
-  Dbyts : List Value → Operation
-  Addrs : List Value → Operation
+  Values : Directive → List Value → Operation
   Segment : List ℕ → Operation
   Code : Operation
   SetCpu : List ℕ → Operation

@@ -7,9 +7,10 @@ use Rattle.stmt65.specs.declared.source_line.AddressSize.{AddressSize}
 use Rattle.stmt65.specs.declared.source_line.AddressSize.TheVariants.{Absolute, Automatic}
 use Rattle.stmt65.specs.declared.source_line.Minus.{Minus}
 use Rattle.stmt65.specs.declared.source_line.Minus.TheVariants.{Zero, One}
-use Rattle.stmt65.specs.SourceLine.{Value, NumberValue, NameValue, Form, Datum, NumberDatum, StringDatum, Operation, Nothing, Instr, Data, Words, Dbyts, Addrs, Segment, Code, SetCpu, SourceLine, Assignment, PlaceAssignment, Statement}
+use Rattle.stmt65.specs.SourceLine.{Value, NumberValue, NameValue, Form, Datum, NumberDatum, StringDatum, Operation, Nothing, Instr, Data, Values, Segment, Code, SetCpu, SourceLine, Assignment, PlaceAssignment, Statement}
 use Rattle.stmt65.specs.Forms.{form_text, form_values, form_size, expression}
 use Rattle.stmt65.specs.Parts.{Part, Word, Number, Text, Define, Mark, number_of}
+use Rattle.stmt65.specs.Directives.{directive_text}
 use Rattle.stmt65.specs.Names.{same, has_name_form, is_name}
 
 -- what can stand in a line: a word in any case, a character, `:=`, a name with its case, a number, a string,
@@ -97,9 +98,7 @@ abbrev pub operation_items : Operation → List Item
 operation_items Nothing = []
 operation_items (Instr m f) = word (text_of m) ∷ form_items f
 operation_items (Data xs) = word (codes ".byte") ∷ data_list xs ∷ []
-operation_items (Words vs) = word (codes ".word") ∷ value_list vs ∷ []
-operation_items (Dbyts vs) = word (codes ".dbyt") ∷ value_list vs ∷ []
-operation_items (Addrs vs) = word (codes ".addr") ∷ value_list vs ∷ []
+operation_items (Values d vs) = word (directive_text d) ∷ value_list vs ∷ []
 operation_items (Segment t) = word (codes ".segment") ∷ quoted_name t ∷ []
 operation_items Code = word (codes ".code") ∷ []
 operation_items (SetCpu t) = word (codes ".setcpu") ∷ string t ∷ []

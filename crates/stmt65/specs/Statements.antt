@@ -1,19 +1,19 @@
 -- The operation and operands of each statement, as the fields of its line.
-use Rattle.std.specs.Prelude.{ℕ, Bool, true, false, List, [], ◌∷◌, ◌++◌, codes, decimal, if◌then◌else◌, Option, Some, None}
+use Rattle.std.specs.Prelude.{ℕ, Bool, true, false, List, [], ◌∷◌, ◌++◌, reverse, codes, decimal, if◌then◌else◌, Option, Some, None}
 use Rattle.std.specs.List.{flat_map}
 use Rattle.isa65.specs.declared.mode.Mode.{Mode}
 use Rattle.isa65.specs.declared.mode.Mode.TheVariants.{Imp}
 use Rattle.isa65.specs.declared.op.Op.{Op}
 use Rattle.isa65.specs.Cpu.{cpu_text}
 use Rattle.isa65.specs.Mnemonic.{text_of}
-use Rattle.stmt65.specs.declared.coding.ByteOrder.{ByteOrder}
-use Rattle.stmt65.specs.declared.coding.ByteOrder.TheVariants.{LittleEndian, BigEndian}
+use Rattle.stmt65.specs.declared.directive.Directive.{Directive}
 use Rattle.stmt65.specs.declared.columns.Columns.{Columns}
-use Rattle.stmt65.specs.Digits.{hex2, hex4}
+use Rattle.stmt65.specs.Directives.{directive_text, order_of}
+use Rattle.stmt65.specs.Digits.{digits2, hex2, hex4}
 use Rattle.stmt65.specs.Operands.{named_text, operand_text}
 use Rattle.stmt65.specs.SourceLine.{Datum}
 use Rattle.stmt65.specs.SourceLine as source
-use Rattle.stmt65.specs.Tables.{low_words, high_words, cut_text}
+use Rattle.stmt65.specs.Tables.{in_order, entries, cut_text}
 use Rattle.stmt65.specs.Views.{OperandsView, StatementView, TargetView}
 use Rattle.stmt65.specs.Views as view
 
@@ -22,8 +22,7 @@ abbrev pub has_bytes : StatementView → Bool
 has_bytes (view.instr op absolute operands) = true
 has_bytes (view.bytes bs) = true
 has_bytes (view.text bs) = true
-has_bytes (view.words bs) = true
-has_bytes (view.dbyts bs) = true
+has_bytes (view.numbers d bs) = true
 has_bytes (view.addr t) = true
 has_bytes (view.rts t) = true
 has_bytes _ = false
@@ -58,14 +57,13 @@ datum_text (source.StringDatum stretch) = quoted stretch
 abbrev pub data_text : List Datum → List ℕ
 data_text = comma_list datum_text
 
--- words in four hex digits
-abbrev pub words_text : List ℕ → List ℕ
-words_text = comma_list hex4
+-- an entry in two hex digits for each of its bytes, the high one first
+abbrev pub entry_text : Directive → List ℕ → List ℕ
+entry_text d bytes = codes "$" ++ flat_map digits2 (reverse (in_order (order_of d) bytes))
 
--- the operation whose words are in this order
-abbrev pub words_operation : ByteOrder → List ℕ
-words_operation LittleEndian = codes ".word"
-words_operation BigEndian = codes ".dbyt"
+-- the entries of a table
+abbrev pub numbers_text : Directive → List ℕ → List ℕ
+numbers_text d bytes = comma_list (entry_text d) (entries d bytes)
 
 -- the entry of a return table: the target, less 1; or, without a target, the word $FFFF
 abbrev pub return_text : Bool → Option TargetView → List ℕ
@@ -112,8 +110,7 @@ abbrev pub fields_of : Columns → Bool → StatementView → List Field
 fields_of c hexoffs (view.instr op absolute operands) = instr_fields c hexoffs op absolute operands
 fields_of c hexoffs (view.bytes bs) = with_operands c (codes ".byte") (bytes_text bs)
 fields_of c hexoffs (view.text bs) = with_operands c (codes ".byte") (data_text (cut_text bs))
-fields_of c hexoffs (view.words bs) = with_operands c (codes ".word") (words_text (low_words bs))
-fields_of c hexoffs (view.dbyts bs) = with_operands c (codes ".dbyt") (words_text (high_words bs))
+fields_of c hexoffs (view.numbers d bs) = with_operands c (directive_text d) (numbers_text d bs)
 fields_of c hexoffs (view.addr t) = with_operands c (codes ".addr") (named_text hexoffs t.name t.offset)
 fields_of c hexoffs (view.rts t) = with_operands c (codes ".word") (return_text hexoffs t)
 fields_of c hexoffs (view.label name) = label_fields (Some name)

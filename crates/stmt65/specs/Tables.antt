@@ -1,33 +1,45 @@
--- What the bytes of a table say: words, or text with single bytes between.
-use Rattle.std.specs.Prelude.{ℕ, ◌+◌, ◌*◌, Bool, ◌&&◌, not, List, [], ◌∷◌, nat_lt, ◌==◌, if◌then◌else◌}
+-- What the bytes of a table say: numbers, or text with single bytes between.
+use Rattle.std.specs.Prelude.{ℕ, zero, suc, ◌+◌, ◌*◌, ◌/◌, ◌%◌, Bool, ◌&&◌, not, List, [], ◌∷◌, length, reverse, take, drop, nat_lt, ◌==◌, if◌then◌else◌}
+use Rattle.stmt65.specs.Directives.{entry_len, order_of}
 use Rattle.stmt65.specs.Signs.{quote, backslash}
 use Rattle.stmt65.specs.SourceLine.{Datum, NumberDatum, StringDatum}
-use Rattle.stmt65.specs.declared.coding.ByteOrder.{ByteOrder}
-use Rattle.stmt65.specs.declared.coding.ByteOrder.TheVariants.{LittleEndian, BigEndian}
+use Rattle.stmt65.specs.declared.directive.Directive.{Directive}
+use Rattle.isa65.specs.declared.byte_order.ByteOrder.{ByteOrder}
+use Rattle.isa65.specs.declared.byte_order.ByteOrder.TheVariants.{LittleEndian, BigEndian}
 
--- ---- words
+-- ---- numbers
 
--- the words of a table, low byte first
-unfoldable pub low_words : List ℕ → List ℕ
-low_words [] = []
-low_words (a ∷ []) = []
-low_words (a ∷ b ∷ bs) = (a + 256 * b) ∷ low_words bs
+-- Bytes whose low one is first, in this order; and bytes in this order with the low one first.
+abbrev pub in_order : ByteOrder → List ℕ → List ℕ
+in_order LittleEndian bytes = bytes
+in_order BigEndian bytes = reverse bytes
 
--- the words of a table, high byte first
-unfoldable pub high_words : List ℕ → List ℕ
-high_words [] = []
-high_words (a ∷ []) = []
-high_words (a ∷ b ∷ bs) = (b + 256 * a) ∷ high_words bs
+-- the number of bytes whose low one is first
+unfoldable pub low_number : List ℕ → ℕ
+low_number [] = 0
+low_number (b ∷ bs) = b + 256 * low_number bs
 
--- the word of two bytes
-abbrev pub word_of : ByteOrder → ℕ → ℕ → ℕ
-word_of LittleEndian a b = a + 256 * b
-word_of BigEndian a b = b + 256 * a
+-- the bytes of a number, this many, the low one first
+unfoldable pub low_bytes : ℕ → ℕ → List ℕ
+low_bytes zero n = []
+low_bytes (suc len) n = n % 256 ∷ low_bytes len (n / 256)
 
--- the words of a table in either order
-abbrev pub words_in : ByteOrder → List ℕ → List ℕ
-words_in LittleEndian bytes = low_words bytes
-words_in BigEndian bytes = high_words bytes
+-- this many pieces of a length
+unfoldable pub pieces : ℕ → ℕ → List ℕ → List (List ℕ)
+pieces zero len bytes = []
+pieces (suc count) len bytes = take len bytes ∷ pieces count len (drop len bytes)
+
+-- the entries of a table, each as its bytes
+unfoldable pub entries : Directive → List ℕ → List (List ℕ)
+entries d bytes = pieces (length bytes / entry_len d) (entry_len d) bytes
+
+-- the number of an entry
+abbrev pub entry_number : Directive → List ℕ → ℕ
+entry_number d bytes = low_number (in_order (order_of d) bytes)
+
+-- the bytes of a number as an entry
+abbrev pub entry_bytes : Directive → ℕ → List ℕ
+entry_bytes d n = in_order (order_of d) (low_bytes (entry_len d) n)
 
 -- ---- text
 

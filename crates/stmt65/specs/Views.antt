@@ -2,6 +2,7 @@
 use Rattle.std.specs.Prelude.{ℕ, Bool, List, Option}
 use Rattle.isa65.specs.declared.cpu.Cpu.{Cpu}
 use Rattle.isa65.specs.declared.op.Op.{Op}
+use Rattle.stmt65.specs.declared.directive.Directive.{Directive}
 
 -- a number; or a name, and what is added to its value
 pub data ExprView : Type 0 where
@@ -23,8 +24,7 @@ pub data StatementView : Type 0 where
   instr : Op → Bool → OperandsView → StatementView
   bytes : List ℕ → StatementView
   text : List ℕ → StatementView
-  words : List ℕ → StatementView
-  dbyts : List ℕ → StatementView
+  numbers : Directive → List ℕ → StatementView
   addr : TargetView → StatementView
   rts : Option TargetView → StatementView
   label : List ℕ → StatementView

@@ -5,16 +5,17 @@ ghost use Rattle.std.specs.Option.{option_map};
 ghost use Rattle.stmt65.specs.code.SourceLineViews.{value_of, form_of, operation_of};
 ghost use Rattle.stmt65.specs.SourceLine.{Direct};
 ghost use Rattle.stmt65.specs.declared.source_line.AddressSize.TheVariants.{Automatic};
-ghost use Rattle.stmt65.specs.Coding.{LowFirst, zero_page, by_size, ways, first_way, coding};
+ghost use Rattle.stmt65.specs.Coding.{word_operand, zero_page, by_size, ways, first_way, coding};
 ghost use Rattle.stmt65.specs.code.CodingViews.{fragment_of, operand_of, instruction_of, coded_of};
 
+use crate::directive::Directive;
 use crate::source_line::{AddressSize, Datum, Form, Operation, Value};
 use crate::symbols::Symbols;
 use crate::values::has_zero_page_size;
 use isa65::{Cpu, Mnemonic, Mode, OpcodeSet};
 use std::alloc::Allocator;
 
-/// A byte of a statement, or two.
+/// What bytes of a statement stand for.
 #[derive(Clone, Copy, Debug)]
 pub enum Fragment<'a> {
     /// A byte that the line itself gives: an opcode, or a byte of a string.
@@ -25,10 +26,8 @@ pub enum Fragment<'a> {
     ZeroPage(Value<'a>),
     /// The operand of a zero-page mode that has not zero-page size, so it never fits.
     Oversized(Value<'a>),
-    /// A word, low byte first.
-    LowFirst(Value<'a>),
-    /// A word, high byte first.
-    HighFirst(Value<'a>),
+    /// A number as the directive gives it.
+    Entry(Directive, Value<'a>),
     /// A word, as its signed distance from the address after the statement.
     Distance(Value<'a>),
 }
@@ -48,22 +47,13 @@ pub struct Instruction<'a> {
     pub operand: Operand<'a>,
 }
 
-/// Which byte of a word comes first.
-#[derive(Clone, Copy, Debug)]
-pub enum ByteOrder {
-    /// Low byte first.
-    LittleEndian,
-    /// High byte first.
-    BigEndian,
-}
-
 /// The coding of an operation.
 #[derive(Clone, Copy, Debug)]
 pub enum Coded<'s, 'a> {
     Nothing,
     Instruction(Instruction<'a>),
     Data(&'s [Datum<'a>]),
-    Words(ByteOrder, &'s [Value<'a>]),
+    Values(Directive, &'s [Value<'a>]),
 }
 
 /// A mode, and what then follows the opcode.
@@ -93,6 +83,13 @@ fn first_way<'a>(
     way(cpu, mnemonic, second)
 }
 
+/// An operand of 16 bits, as `.addr` gives it.
+fn word_operand(value: Value<'_>) -> Fragment<'_>
+    ensures { fragment_of result ≡ word_operand (value_of value.entry) }
+{
+    Fragment::Entry(Directive::Addr, value)
+}
+
 /// An operand that only the zero page has.
 fn zero_page<'a, A: Allocator + Clone>(above: &Symbols<'_, A>, value: Value<'a>) -> Fragment<'a>
     ensures { fragment_of result ≡ zero_page above.now (value_of value.entry) }
@@ -115,7 +112,7 @@ fn by_size<'a, A: Allocator + Clone>(
 ) -> Option<Instruction<'a>>
     ensures { option_map instruction_of result ≡ first_way cpu mnemonic (by_size above.now short long (value_of value.entry)) }
 {
-    let absolute = (long, Operand::One(Fragment::LowFirst(value)));
+    let absolute = (long, Operand::One(word_operand(value)));
     if has_zero_page_size(above, value) {
         let zero_page = (short, Operand::One(Fragment::ZeroPage(value)));
         return first_way(cpu, mnemonic, zero_page, absolute);
@@ -151,13 +148,9 @@ fn absolute<'a>(
     mode: Mode,
     value: Value<'a>,
 ) -> Option<Instruction<'a>>
-    ensures { option_map instruction_of result ≡ first_way cpu mnemonic ((mode, LowFirst (value_of value.entry) ∷ []) ∷ []) }
+    ensures { option_map instruction_of result ≡ first_way cpu mnemonic ((mode, word_operand (value_of value.entry) ∷ []) ∷ []) }
 {
-    way(
-        cpu,
-        mnemonic,
-        (mode, Operand::One(Fragment::LowFirst(value))),
-    )
+    way(cpu, mnemonic, (mode, Operand::One(word_operand(value))))
 }
 
 /// A mode that only the zero page has, else one that takes either size.
@@ -169,10 +162,10 @@ fn indirect<'a, A: Allocator + Clone>(
     long: Mode,
     value: Value<'a>,
 ) -> Option<Instruction<'a>>
-    ensures { option_map instruction_of result ≡ first_way cpu mnemonic ((short, zero_page above.now (value_of value.entry) ∷ []) ∷ (long, LowFirst (value_of value.entry) ∷ []) ∷ []) }
+    ensures { option_map instruction_of result ≡ first_way cpu mnemonic ((short, zero_page above.now (value_of value.entry) ∷ []) ∷ (long, word_operand (value_of value.entry) ∷ []) ∷ []) }
 {
     let zero_page = (short, Operand::One(zero_page(above, value)));
-    let absolute = (long, Operand::One(Fragment::LowFirst(value)));
+    let absolute = (long, Operand::One(word_operand(value)));
     first_way(cpu, mnemonic, zero_page, absolute)
 }
 
@@ -242,9 +235,7 @@ pub fn coding<'s, 'a, A: Allocator + Clone, B: Allocator>(
             Some(Coded::Instruction(instruction))
         }
         Operation::Data(data) => Some(Coded::Data(data)),
-        Operation::Words(values) => Some(Coded::Words(ByteOrder::LittleEndian, values)),
-        Operation::Dbyts(values) => Some(Coded::Words(ByteOrder::BigEndian, values)),
-        Operation::Addrs(values) => Some(Coded::Words(ByteOrder::LittleEndian, values)),
+        Operation::Values(directive, values) => Some(Coded::Values(*directive, values)),
         Operation::Nothing | Operation::Segment(_) | Operation::Code | Operation::SetCpu(_) => {
             Some(Coded::Nothing)
         }

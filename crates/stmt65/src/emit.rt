@@ -4,17 +4,18 @@ ghost use Rattle.std.specs.Prelude.{◌≡◌, ◌≤◌, ◌++◌, OnOk};
 ghost use Rattle.std.specs.List.{list_all, flat_map};
 ghost use Rattle.stmt65.specs.code.SourceLineViews.{value_of, datum_of};
 ghost use Rattle.stmt65.specs.Coding.{datum_fragments, is_fragment_known, fragment_len, fragment_fits, fragment_bytes, coding_len};
-ghost use Rattle.stmt65.specs.code.CodingViews.{fragment_of, operand_of, instruction_of, word_fragment, data_fragments, word_fragments, coded_of};
+ghost use Rattle.stmt65.specs.code.CodingViews.{fragment_of, operand_of, instruction_of, data_fragments, entry_fragments, coded_of};
 ghost use Rattle.stmt65.specs.code.Held.{held};
 
-use crate::coding::{ByteOrder, Coded, Fragment, Instruction, Operand};
+use crate::coding::{Coded, Fragment, Instruction, Operand};
+use crate::directive::Directive;
 use crate::fragment_bytes::{fragment_fits, is_fragment_known, put_fragment};
 use crate::source_line::{Datum, Value};
 use crate::symbols::Symbols;
 use std::alloc::{AllocError, Allocator};
 
 /// How many bytes the coding has; 2^64 - 1 in place of every greater length.
-#[tactic(auto, using(crate::proofs::CodingLemmas::word_fragments_len), unfolding(crate::specs::Coding::coding_len))]
+#[tactic(auto, using(crate::proofs::CodingLemmas::entry_fragments_len), unfolding(crate::specs::Coding::coding_len))]
 pub fn coded_len(coded: Coded) -> u64
     ensures { result ≡ held (coding_len (coded_of coded.entry)) }
 {
@@ -22,7 +23,9 @@ pub fn coded_len(coded: Coded) -> u64
         Coded::Nothing => 0,
         Coded::Instruction(instruction) => instruction_len(instruction),
         Coded::Data(data) => data_len(data),
-        Coded::Words(_, values) => (values.len() as u64).saturating_mul(2),
+        Coded::Values(directive, values) => {
+            (values.len() as u64).saturating_mul(directive.entry_len() as u64)
+        }
     }
 }
 
@@ -39,10 +42,10 @@ fn instruction_len(instruction: Instruction) -> u64
 
 fn fragment_len(fragment: Fragment) -> u64
     ensures value { result ≡ fragment_len (fragment_of fragment.entry) }
-    ensures small { result ≤ 2 }
+    ensures small { result ≤ 4 }
 {
     match fragment {
-        Fragment::LowFirst(_) | Fragment::HighFirst(_) => 2,
+        Fragment::Entry(directive, _) => directive.entry_len() as u64,
         Fragment::Fixed(_)
         | Fragment::Single(_)
         | Fragment::ZeroPage(_)
@@ -79,7 +82,7 @@ pub fn are_known<A: Allocator + Clone>(names: &Symbols<'_, A>, coded: Coded) -> 
         Coded::Nothing => true,
         Coded::Instruction(instruction) => is_operand_known(names, instruction.operand),
         Coded::Data(_) => true,
-        Coded::Words(order, values) => are_words_known(names, order, values),
+        Coded::Values(directive, values) => are_values_known(names, directive, values),
     }
 }
 
@@ -95,24 +98,15 @@ fn is_operand_known<A: Allocator + Clone>(names: &Symbols<'_, A>, operand: Opera
     }
 }
 
-fn word_fragment<'a>(order: ByteOrder, value: Value<'a>) -> Fragment<'a>
-    ensures { fragment_of result ≡ word_fragment order (value_of value.entry) }
-{
-    match order {
-        ByteOrder::LittleEndian => Fragment::LowFirst(value),
-        ByteOrder::BigEndian => Fragment::HighFirst(value),
-    }
-}
-
-fn are_words_known<A: Allocator + Clone>(
+fn are_values_known<A: Allocator + Clone>(
     names: &Symbols<'_, A>,
-    order: ByteOrder,
+    directive: Directive,
     values: &[Value],
 ) -> bool
-    ensures { result ≡ list_all (is_fragment_known names.now) (word_fragments order values.now) }
+    ensures { result ≡ list_all (is_fragment_known names.now) (entry_fragments directive values.now) }
 {
     for value in values {
-        if !is_fragment_known(names, word_fragment(order, *value)) {
+        if !is_fragment_known(names, Fragment::Entry(directive, *value)) {
             return false;
         }
     }
@@ -128,7 +122,7 @@ pub fn fits<A: Allocator + Clone>(names: &Symbols<'_, A>, next: u64, coded: Code
         Coded::Nothing => true,
         Coded::Instruction(instruction) => operand_fits(names, next, instruction.operand),
         Coded::Data(data) => data_fit(names, next, data),
-        Coded::Words(order, values) => words_fit(names, next, order, values),
+        Coded::Values(directive, values) => values_fit(names, next, directive, values),
     }
 }
 
@@ -166,16 +160,16 @@ fn data_fit<A: Allocator + Clone>(names: &Symbols<'_, A>, next: u64, items: &[Da
     true
 }
 
-fn words_fit<A: Allocator + Clone>(
+fn values_fit<A: Allocator + Clone>(
     names: &Symbols<'_, A>,
     next: u64,
-    order: ByteOrder,
+    directive: Directive,
     values: &[Value],
 ) -> bool
-    ensures { result ≡ list_all (fragment_fits names.now next) (word_fragments order values.now) }
+    ensures { result ≡ list_all (fragment_fits names.now next) (entry_fragments directive values.now) }
 {
     for value in values {
-        if !fragment_fits(names, next, word_fragment(order, *value)) {
+        if !fragment_fits(names, next, Fragment::Entry(directive, *value)) {
             return false;
         }
     }
@@ -195,7 +189,7 @@ pub fn put_coded<A: Allocator + Clone, B: Allocator>(
         Coded::Nothing => Ok(()),
         Coded::Instruction(instruction) => put_instruction(out, names, next, instruction),
         Coded::Data(data) => put_data(out, names, next, data),
-        Coded::Words(order, values) => put_words(out, names, next, order, values),
+        Coded::Values(directive, values) => put_values(out, names, next, directive, values),
     }
 }
 
@@ -258,17 +252,17 @@ fn put_data<A: Allocator + Clone, B: Allocator>(
     Ok(())
 }
 
-fn put_words<A: Allocator + Clone, B: Allocator>(
+fn put_values<A: Allocator + Clone, B: Allocator>(
     out: &mut Vec<u8, B>,
     names: &Symbols<'_, A>,
     next: u64,
-    order: ByteOrder,
+    directive: Directive,
     values: &[Value],
 ) -> Result<(), AllocError>
-    ensures { OnOk result (out.new.items ≡ out.old.items ++ flat_map (fragment_bytes names.now next) (word_fragments order values.now)) }
+    ensures { OnOk result (out.new.items ≡ out.old.items ++ flat_map (fragment_bytes names.now next) (entry_fragments directive values.now)) }
 {
     for value in values {
-        put_fragment(out, names, next, word_fragment(order, *value))?;
+        put_fragment(out, names, next, Fragment::Entry(directive, *value))?;
     }
     Ok(())
 }

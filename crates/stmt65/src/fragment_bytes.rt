@@ -3,13 +3,16 @@
 ghost use Rattle.std.specs.Prelude.{◌≡◌, ◌++◌, [], ◌∷◌, Option, is_some, OnOk, ◌<◌};
 ghost use Rattle.stmt65.specs.code.SourceLineViews.{value_of};
 ghost use Rattle.stmt65.specs.Symbols.{word_in, byte_in};
-ghost use Rattle.stmt65.specs.Coding.{is_fragment_known, is_near, fragment_fits, word_or_zero, low, high, distance, fragment_bytes, fragment_len};
+ghost use Rattle.stmt65.specs.Coding.{is_fragment_known, is_near, fragment_fits, word_or_zero, entry_or_zero, low, distance, fragment_bytes, fragment_len};
+ghost use Rattle.stmt65.specs.Tables.{in_order, low_bytes, entry_bytes};
 ghost use Rattle.stmt65.specs.code.CodingViews.{fragment_of};
 
 use crate::coding::Fragment;
+use crate::directive::Directive;
 use crate::source_line::Value;
 use crate::symbols::Symbols;
-use crate::values::{is_known, word_in};
+use crate::values::{entry_in, is_known, word_in};
+use isa65::ByteOrder;
 use std::alloc::{AllocError, Allocator};
 
 /// Whether each name in the fragment has a definition.
@@ -21,8 +24,7 @@ pub fn is_fragment_known<A: Allocator + Clone>(names: &Symbols<'_, A>, fragment:
         Fragment::Single(v) => is_known(names, v),
         Fragment::ZeroPage(v) => is_known(names, v),
         Fragment::Oversized(v) => is_known(names, v),
-        Fragment::LowFirst(v) => is_known(names, v),
-        Fragment::HighFirst(v) => is_known(names, v),
+        Fragment::Entry(_, v) => is_known(names, v),
         Fragment::Distance(v) => is_known(names, v),
     }
 }
@@ -41,8 +43,7 @@ pub fn fragment_fits<A: Allocator + Clone>(
         Fragment::Single(v) => is_byte(names, v),
         Fragment::ZeroPage(v) => is_byte(names, v),
         Fragment::Oversized(_) => false,
-        Fragment::LowFirst(v) => word_in(names, v).is_some(),
-        Fragment::HighFirst(v) => word_in(names, v).is_some(),
+        Fragment::Entry(directive, v) => entry_in(names, directive, v).is_some(),
         Fragment::Distance(v) => is_near(next, word_in(names, v)),
     }
 }
@@ -82,12 +83,6 @@ fn low(word: u16) -> u8
     (word % 256) as u8
 }
 
-fn high(word: u16) -> u8
-    ensures { result ≡ high word }
-{
-    (word / 256) as u8
-}
-
 /// The signed distance from `next` as a byte.
 fn distance(next: u64, word: u16) -> u8
     ensures { result ≡ distance next word }
@@ -102,12 +97,43 @@ fn put_one<A: Allocator>(out: &mut Vec<u8, A>, byte: u8) -> Result<(), AllocErro
     Ok(())
 }
 
-fn put_two<A: Allocator>(out: &mut Vec<u8, A>, first: u8, second: u8) -> Result<(), AllocError>
-    ensures { OnOk result (out.new.items ≡ out.old.items ++ first ∷ second ∷ []) }
+/// Adds the bytes of a number, this many, in the order.
+fn put_number<A: Allocator>(
+    out: &mut Vec<u8, A>,
+    order: ByteOrder,
+    len: usize,
+    number: u32,
+) -> Result<(), AllocError>
+    ensures { OnOk result (out.new.items ≡ out.old.items ++ in_order order (low_bytes len number)) }
 {
-    out.push(first)?;
-    out.push(second)?;
-    Ok(())
+    if len == 0 {
+        return Ok(());
+    }
+    let low = (number % 256) as u8;
+    match order {
+        ByteOrder::LittleEndian => {
+            put_one(out, low)?;
+            put_number(out, order, len - 1, number / 256)?;
+            Ok(())
+        }
+        ByteOrder::BigEndian => {
+            put_number(out, order, len - 1, number / 256)?;
+            put_one(out, low)?;
+            Ok(())
+        }
+    }
+}
+
+fn put_entry<A: Allocator + Clone, B: Allocator>(
+    out: &mut Vec<u8, B>,
+    names: &Symbols<'_, A>,
+    directive: Directive,
+    value: Value,
+) -> Result<(), AllocError>
+    ensures { OnOk result (out.new.items ≡ out.old.items ++ entry_bytes directive (entry_or_zero names.now directive (value_of value.entry))) }
+{
+    let number = entry_in(names, directive, value).unwrap_or(0);
+    put_number(out, directive.order(), directive.entry_len(), number)
 }
 
 /// Adds the bytes of a fragment that has room for its value; `next` is the address after the statement.
@@ -125,14 +151,7 @@ pub fn put_fragment<A: Allocator + Clone, B: Allocator>(
         Fragment::Single(v) => put_one(out, low(word_or_zero(names, v))),
         Fragment::ZeroPage(v) => put_one(out, low(word_or_zero(names, v))),
         Fragment::Oversized(v) => put_one(out, low(word_or_zero(names, v))),
-        Fragment::LowFirst(v) => {
-            let word = word_or_zero(names, v);
-            put_two(out, low(word), high(word))
-        }
-        Fragment::HighFirst(v) => {
-            let word = word_or_zero(names, v);
-            put_two(out, high(word), low(word))
-        }
+        Fragment::Entry(directive, v) => put_entry(out, names, directive, v),
         Fragment::Distance(v) => put_one(out, distance(next, word_or_zero(names, v))),
     }
 }

@@ -15,6 +15,7 @@
 mod assembler;
 mod coding;
 mod columns;
+mod directive;
 mod emit;
 mod expressions;
 mod fault;
@@ -40,6 +41,7 @@ mod values;
 
 pub use assembler::assemble;
 pub use columns::{Column, Columns, LabelBreak, Level, LimitError, Within};
+pub use directive::Directive;
 pub use fault::{AsmFault, AsmFaultKind};
 pub use laws::{
     cuts_texts, prints_patterns, reads_lines, reads_spellings, spells_one, takes_parts,

@@ -3,9 +3,10 @@
 ghost use Rattle.std.specs.Prelude.{◌≡◌, IfOk, map};
 ghost use Rattle.stmt65.specs.code.Found.{Reads, Gives};
 ghost use Rattle.stmt65.specs.code.SourceLineViews.{datum_of, value_of, operation_of as operation_of_code};
-ghost use Rattle.stmt65.specs.Reading.{next_value, next_datum, list_of, text_in, data_of, words_of, dbyts_of, addrs_of, segment_of, set_cpu_of, instruction_of, whole, operation_at, operation_of};
+ghost use Rattle.stmt65.specs.Reading.{next_value, next_datum, list_of, text_in, data_of, values_of, segment_of, set_cpu_of, instruction_of, whole, other_at, operation_at, operation_of};
 ghost use Rattle.stmt65.specs.SourceLine.{Code};
 
+use crate::directive::Directive;
 use crate::expressions::next_value;
 use crate::lexer::Part;
 use crate::names::{has_name_form, is_word};
@@ -97,38 +98,15 @@ fn data<'a, A: Allocator>(
     }
 }
 
-fn words<'a, A: Allocator>(
+fn values<'a, A: Allocator>(
     alloc: A,
+    directive: Directive,
     parts: &mut Parts<'a>,
 ) -> Result<Option<Operation<'a, A>>, AllocError>
-    ensures { IfOk result (λ found. Gives operation_of_code found (words_of parts.old)) }
+    ensures { IfOk result (λ found. Gives operation_of_code found (values_of directive parts.old)) }
 {
     match values_in(alloc, parts)? {
-        Some(values) => Ok(Some(Operation::Words(values))),
-        None => Ok(None),
-    }
-}
-
-fn dbyts<'a, A: Allocator>(
-    alloc: A,
-    parts: &mut Parts<'a>,
-) -> Result<Option<Operation<'a, A>>, AllocError>
-    ensures { IfOk result (λ found. Gives operation_of_code found (dbyts_of parts.old)) }
-{
-    match values_in(alloc, parts)? {
-        Some(values) => Ok(Some(Operation::Dbyts(values))),
-        None => Ok(None),
-    }
-}
-
-fn addrs<'a, A: Allocator>(
-    alloc: A,
-    parts: &mut Parts<'a>,
-) -> Result<Option<Operation<'a, A>>, AllocError>
-    ensures { IfOk result (λ found. Gives operation_of_code found (addrs_of parts.old)) }
-{
-    match values_in(alloc, parts)? {
-        Some(values) => Ok(Some(Operation::Addrs(values))),
+        Some(values) => Ok(Some(Operation::Values(directive, values))),
         None => Ok(None),
     }
 }
@@ -169,26 +147,17 @@ fn instruction<'a, A: Allocator>(word: &[u8], parts: &mut Parts<'a>) -> Option<O
     Some(Operation::Instr(mnemonic, form))
 }
 
-/// The operation that begins with the word.
-#[tactic(auto, unfolding(crate::specs::Reading::operation_at))]
-pub fn operation_at<'a, A: Allocator>(
+/// The operation that begins with the word, which is none of the directives that give numbers.
+#[tactic(auto, unfolding(crate::specs::Reading::other_at))]
+fn other_at<'a, A: Allocator>(
     alloc: A,
     word: &'a [u8],
     parts: &mut Parts<'a>,
 ) -> Result<Option<Operation<'a, A>>, AllocError>
-    ensures { IfOk result (λ found. Gives operation_of_code found (operation_at word.now parts.old)) }
+    ensures { IfOk result (λ found. Gives operation_of_code found (other_at word.now parts.old)) }
 {
     if is_word(word, b".byte") {
         return data(alloc, parts);
-    }
-    if is_word(word, b".word") {
-        return words(alloc, parts);
-    }
-    if is_word(word, b".dbyt") {
-        return dbyts(alloc, parts);
-    }
-    if is_word(word, b".addr") {
-        return addrs(alloc, parts);
     }
     if is_word(word, b".segment") {
         return Ok(segment(parts));
@@ -200,6 +169,21 @@ pub fn operation_at<'a, A: Allocator>(
         return Ok(set_cpu(parts));
     }
     Ok(instruction(word, parts))
+}
+
+/// The operation that begins with the word.
+#[tactic(auto, unfolding(crate::specs::Reading::operation_at))]
+pub fn operation_at<'a, A: Allocator>(
+    alloc: A,
+    word: &'a [u8],
+    parts: &mut Parts<'a>,
+) -> Result<Option<Operation<'a, A>>, AllocError>
+    ensures { IfOk result (λ found. Gives operation_of_code found (operation_at word.now parts.old)) }
+{
+    match Directive::from_word(word) {
+        Some(directive) => values(alloc, directive, parts),
+        None => other_at(alloc, word, parts),
+    }
 }
 
 /// The operation: everything that is left, or nothing.

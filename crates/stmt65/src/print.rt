@@ -11,20 +11,21 @@ ghost use Rattle.std.specs.Prelude.{◌≡◌, ◌+◌, ◌<◌, ◌≤◌, ◌*
 ghost use Rattle.std.specs.Option.{option_copied, option_map};
 ghost use Rattle.arrayvec.specs.ArrayVec.{array_vec_len};
 ghost use Rattle.isa65.specs.Cpu.{cpu_text};
+ghost use Rattle.stmt65.specs.Directives.{directive_text};
 ghost use Rattle.stmt65.specs.Levels.{fields_after};
 ghost use Rattle.stmt65.specs.Line.{filled, with_fields, plain_line, line_of};
 ghost use Rattle.stmt65.specs.Printable.{IsNameLong, IsWrittenIn, IsTable, IsPrintable, MayBeLabelled};
 ghost use Rattle.stmt65.specs.Printed.{HasNames, HasLabelName, PrintsAs, source_line, with_label};
-ghost use Rattle.stmt65.specs.Statements.{bytes_text, quoted, data_text, words_text, words_operation, has_operand, return_text, distance_text, instr_fields, with_operands, label_fields, definition_fields, remark_fields, fields_of};
-ghost use Rattle.stmt65.specs.Tables.{words_in, cut_text};
+ghost use Rattle.stmt65.specs.Statements.{bytes_text, quoted, data_text, numbers_text, has_operand, return_text, distance_text, instr_fields, with_operands, label_fields, definition_fields, remark_fields, fields_of};
+ghost use Rattle.stmt65.specs.Tables.{cut_text};
 ghost use Rattle.stmt65.specs.code.StatementViews.{operands_seen, target_seen, statement_seen, remarks_seen};
 ghost use Rattle.stmt65.specs.Views as view;
 ghost use Rattle.stmt65.specs.Digits.{hex4};
 ghost use Rattle.stmt65.specs.Operands.{named_text};
 ghost use Rattle.stmt65.specs.code.Widths.{AreWordWide, AreBytes, IsInWidth};
 
-use crate::coding::ByteOrder;
 use crate::columns::{Column, Columns};
+use crate::directive::Directive;
 use crate::remarks::Remarks;
 use crate::statement::{Operands, Statement, Target};
 use arrayvec::ArrayVec;
@@ -34,7 +35,7 @@ use fields::{put, start_field};
 use isa65::{Cpu, Mode, Op};
 use levels::put_after;
 use operand::{put_named, put_operands};
-use tables::{put_text, put_words};
+use tables::{put_entries, put_text};
 
 /// The bytes of a line, with its line feed.
 pub type Line = ArrayVec<u8, 512>;
@@ -136,26 +137,16 @@ fn put_text_data(out: &mut Line, columns: &Columns, bytes: &[u8])
     put_text(out, bytes);
 }
 
-fn words_operation(order: ByteOrder) -> &'static [u8]
-    ensures text { result.now ≡ words_operation order }
-    ensures len { length result.now ≤ 8 }
-{
-    match order {
-        ByteOrder::LittleEndian => b".word",
-        ByteOrder::BigEndian => b".dbyt",
-    }
-}
-
-fn put_word_data(out: &mut Line, columns: &Columns, order: ByteOrder, bytes: &[u8])
+fn put_numbers(out: &mut Line, columns: &Columns, directive: Directive, bytes: &[u8])
     requires room { array_vec_len out.old ≤ 82 }
-    requires table { IsTable bytes.now }
-    ensures items { out.new.items ≡ with_fields out.old.items (with_operands columns.now (words_operation order) (words_text (words_in order bytes.now))) }
+    requires table { IsTable directive bytes.now }
+    ensures items { out.new.items ≡ with_fields out.old.items (with_operands columns.now (directive_text directive) (numbers_text directive bytes.now)) }
     ensures len { array_vec_len out.new ≤ 340 }
     ensures width { AreBytes bytes.now }
 {
-    put_operation(out, columns, words_operation(order));
+    put_operation(out, columns, directive.text());
     start_field(out, columns.argument);
-    put_words(out, order, bytes);
+    put_entries(out, directive, bytes);
 }
 
 /// Appends an operation, and its operand in double quotes.
@@ -251,8 +242,9 @@ fn put_fields(out: &mut Line, columns: &Columns, hexoffs: bool, statement: &Stat
         } => put_instr(out, columns, hexoffs, op, absolute, operands),
         Statement::Bytes(bytes) => put_data(out, columns, bytes),
         Statement::Text(bytes) => put_text_data(out, columns, bytes),
-        Statement::Words(bytes) => put_word_data(out, columns, ByteOrder::LittleEndian, bytes),
-        Statement::Dbyts(bytes) => put_word_data(out, columns, ByteOrder::BigEndian, bytes),
+        Statement::Words(bytes) => put_numbers(out, columns, Directive::Word, bytes),
+        Statement::Dbyts(bytes) => put_numbers(out, columns, Directive::Dbyt, bytes),
+        Statement::Dwords(bytes) => put_numbers(out, columns, Directive::Dword, bytes),
         Statement::Addr(target) => put_addr(out, columns, hexoffs, target),
         Statement::Rts(target) => put_rts(out, columns, hexoffs, target),
         Statement::Label(name) => put_label(out, name),
@@ -284,7 +276,7 @@ fn start_line(out: &mut Line, label: Option<&[u8]>)
 /// Allocates nothing. The caller keeps the limits of each kind of statement: there are as many
 /// operands as the mode writes, the operand of `Imm` is a number, a number that is written with two
 /// digits is below $100, `absolute` stands in the absolute modes alone, there are 1 to 8 bytes, 1
-/// to 16 of text and 2, 4, 6 or 8 of words, a name has 1 to 80 bytes, and a remark at most 200
+/// to 16 of text, 2, 4, 6 or 8 of words and 4 or 8 of double words, a name has 1 to 80 bytes, and a remark at most 200
 /// without a line feed. A label stands before an instruction or data alone; its name has at most as
 /// many bytes as the label break, and that number plus 1 is below the mnemonic column. At most 16
 /// bytes are remarked.

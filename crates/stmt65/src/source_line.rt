@@ -1,5 +1,6 @@
 //! What a line of assembler source says.
 
+use crate::directive::Directive;
 use crate::numeral::Numeral;
 use isa65::Mnemonic;
 use std::alloc::{Allocator, Global};
@@ -74,12 +75,8 @@ pub enum Operation<'a, A: Allocator = Global> {
     Instr(Mnemonic, Form<'a>),
     /// `.byte` and its operands.
     Data(Vec<Datum<'a>, A>),
-    /// `.word` and its operands.
-    Words(Vec<Value<'a>, A>),
-    /// `.dbyt` and its operands.
-    Dbyts(Vec<Value<'a>, A>),
-    /// `.addr` and its operands.
-    Addrs(Vec<Value<'a>, A>),
+    /// A directive that gives numbers, and its operands.
+    Values(Directive, Vec<Value<'a>, A>),
     /// `.segment` and the segment's name.
     Segment(&'a [u8]),
     /// `.code`.

@@ -50,6 +50,8 @@ pub enum Statement<'a> {
     Words(&'a [u8]),
     /// `.dbyt` and the words of 2, 4, 6 or 8 bytes, high byte first.
     Dbyts(&'a [u8]),
+    /// `.dword` and the double words of 4 or 8 bytes, low byte first.
+    Dwords(&'a [u8]),
     /// `.addr` and the target.
     Addr(Target<'a>),
     /// `.word` and the target, then `-1`; without a target the word is `$FFFF`.
@@ -88,6 +90,7 @@ impl Statement<'_> {
                 | Statement::Text(_)
                 | Statement::Words(_)
                 | Statement::Dbyts(_)
+                | Statement::Dwords(_)
                 | Statement::Addr(_)
                 | Statement::Rts(_)
         )

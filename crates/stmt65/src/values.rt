@@ -3,8 +3,11 @@
 ghost use Rattle.std.specs.Prelude.{◌≡◌};
 ghost use Rattle.stmt65.specs.code.SourceLineViews.{value_of};
 ghost use Rattle.stmt65.specs.code.Held.{held_value};
+ghost use Rattle.stmt65.specs.Directives.{entry_limit};
+ghost use Rattle.stmt65.specs.Coding.{entry_in};
 ghost use Rattle.stmt65.specs.Symbols.{find_name, below, lowered, value_in, is_known, word_in, is_small, is_constant, has_zero_page_size};
 
+use crate::directive::Directive;
 use crate::source_line::{Minus, Value};
 use crate::symbols::Symbols;
 use std::alloc::Allocator;
@@ -57,11 +60,34 @@ fn in_a_word(value: Option<u128>) -> Option<u16>
     }
 }
 
+/// The value if an entry of the directive has room for it.
+fn in_an_entry(directive: Directive, value: Option<u128>) -> Option<u32>
+    ensures { result ≡ below (entry_limit directive) value }
+{
+    let value = value?;
+    if value < u128::from(directive.limit()) {
+        Some(value as u32)
+    } else {
+        None
+    }
+}
+
 /// The value if it is from 0 to $FFFF.
 pub fn word_in<A: Allocator + Clone>(names: &Symbols<'_, A>, value: Value) -> Option<u16>
     ensures { result ≡ word_in names.now (value_of value.entry) }
 {
     in_a_word(value_in(names, value))
+}
+
+/// The value if an entry of the directive has room for it.
+pub fn entry_in<A: Allocator + Clone>(
+    names: &Symbols<'_, A>,
+    directive: Directive,
+    value: Value,
+) -> Option<u32>
+    ensures { result ≡ entry_in names.now directive (value_of value.entry) }
+{
+    in_an_entry(directive, value_in(names, value))
 }
 
 /// Whether the expression has zero-page size, with its number held in 64 bits.

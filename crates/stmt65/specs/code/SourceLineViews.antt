@@ -13,7 +13,7 @@ use Rattle.stmt65.specs.declared.source_line.Operation.TheVariants as code_opera
 use Rattle.stmt65.specs.declared.source_line.SourceLine.{SourceLine as CodeSourceLine}
 use Rattle.stmt65.specs.declared.source_line.SourceLine.TheVariants as code_source
 use Rattle.stmt65.specs.Parts.{number_of}
-use Rattle.stmt65.specs.SourceLine.{Value, NumberValue, NameValue, Form, Empty, Accumulator, Immediate, Direct, DirectX, DirectY, Two, Indirect, IndirectX, IndirectY, Datum, NumberDatum, StringDatum, Operation, Nothing, Instr, Data, Words, Dbyts, Addrs, Segment, Code, SetCpu, SourceLine, Assignment, PlaceAssignment, Statement}
+use Rattle.stmt65.specs.SourceLine.{Value, NumberValue, NameValue, Form, Empty, Accumulator, Immediate, Direct, DirectX, DirectY, Two, Indirect, IndirectX, IndirectY, Datum, NumberDatum, StringDatum, Operation, Nothing, Instr, Data, Values, Segment, Code, SetCpu, SourceLine, Assignment, PlaceAssignment, Statement}
 
 abbrev pub numeral_of : Numeral → ℕ
 numeral_of n = number_of n.text.now
@@ -42,9 +42,7 @@ abbrev pub operation_of : {A : Type 0} → CodeOperation A → Operation
 operation_of code_operation.Nothing = Nothing
 operation_of (code_operation.Instr m f) = Instr m (form_of f)
 operation_of (code_operation.Data xs) = Data (map datum_of xs.items)
-operation_of (code_operation.Words vs) = Words (map value_of vs.items)
-operation_of (code_operation.Dbyts vs) = Dbyts (map value_of vs.items)
-operation_of (code_operation.Addrs vs) = Addrs (map value_of vs.items)
+operation_of (code_operation.Values d vs) = Values d (map value_of vs.items)
 operation_of (code_operation.Segment t) = Segment t.now
 operation_of code_operation.Code = Code
 operation_of (code_operation.SetCpu t) = SetCpu t.now

@@ -2,6 +2,7 @@
 use Rattle.std.specs.Option.{option_copied, option_map}
 use Rattle.stmt65.specs.Views.{ExprView, OperandsView, RemarksView, StatementView, TargetView}
 use Rattle.stmt65.specs.Views as view
+use Rattle.stmt65.specs.declared.directive.Directive.TheVariants.{Word, Dbyt, Dword}
 use Rattle.stmt65.specs.declared.remarks.Remarks.{Remarks}
 use Rattle.stmt65.specs.declared.statement.Expr.{Expr}
 use Rattle.stmt65.specs.declared.statement.Expr.TheVariants as code_expr
@@ -27,8 +28,9 @@ abbrev pub statement_seen : Statement → StatementView
 statement_seen (code_statement.Instr op absolute operands) = view.instr op absolute (operands_seen operands)
 statement_seen (code_statement.Bytes bs) = view.bytes bs.now
 statement_seen (code_statement.Text bs) = view.text bs.now
-statement_seen (code_statement.Words bs) = view.words bs.now
-statement_seen (code_statement.Dbyts bs) = view.dbyts bs.now
+statement_seen (code_statement.Words bs) = view.numbers Word bs.now
+statement_seen (code_statement.Dbyts bs) = view.numbers Dbyt bs.now
+statement_seen (code_statement.Dwords bs) = view.numbers Dword bs.now
 statement_seen (code_statement.Addr t) = view.addr (target_seen t)
 statement_seen (code_statement.Rts t) = view.rts (option_map target_seen t)
 statement_seen (code_statement.Label w) = view.label w.now

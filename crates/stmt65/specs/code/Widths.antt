@@ -23,8 +23,7 @@ abbrev pub IsInWidth : StatementView → Type 0
 IsInWidth (view.instr op absolute operands) = AreWordWide operands
 IsInWidth (view.bytes bs) = AreBytes bs
 IsInWidth (view.text bs) = AreBytes bs
-IsInWidth (view.words bs) = AreBytes bs
-IsInWidth (view.dbyts bs) = AreBytes bs
+IsInWidth (view.numbers d bs) = AreBytes bs
 IsInWidth (view.addr t) = t.offset < 65536
 IsInWidth (view.rts None) = Unit {0}
 IsInWidth (view.rts (Some t)) = t.offset < 65536

@@ -1,53 +1,78 @@
-//! The operands of tables: words, and bytes as text.
+//! The operands of tables: numbers, and bytes as text.
 
-ghost use Rattle.std.specs.Prelude.{◌≡◌, ◌+◌, ◌<◌, ◌≤◌, ◌*◌, ◌++◌, length};
+ghost use Rattle.std.specs.Prelude.{◌≡◌, ◌+◌, ◌<◌, ◌≤◌, ◌*◌, ◌++◌, length, reverse};
 ghost use Rattle.std.specs.List.{prefix_len, flat_map};
 ghost use Rattle.arrayvec.specs.ArrayVec.{array_vec_len};
-ghost use Rattle.stmt65.specs.Digits.{hex4};
-ghost use Rattle.stmt65.specs.Statements.{data_text, datum_text, next_text, words_text};
-ghost use Rattle.stmt65.specs.Tables.{word_of, words_in, is_plain, cut_text};
+ghost use Rattle.stmt65.specs.Digits.{digits2};
+ghost use Rattle.stmt65.specs.Directives.{entry_len};
+ghost use Rattle.stmt65.specs.Statements.{data_text, datum_text, entry_text, next_text, numbers_text};
+ghost use Rattle.stmt65.specs.Tables.{entries, is_plain, cut_text};
 
 use super::Line;
-use super::digits::{put_hex2, put_hex4};
+use super::digits::{put_digits2, put_hex2};
 use super::fields::put;
-use crate::coding::ByteOrder;
+use crate::directive::Directive;
+use isa65::ByteOrder;
 
-/// The word of two bytes.
-fn word_of(order: ByteOrder, first: u8, second: u8) -> u16
-    ensures { result ≡ word_of order first second }
+/// Appends the digits of bytes whose low one is first, the high one first.
+fn put_reversed(out: &mut Line, bytes: &[u8])
+    requires room { array_vec_len out.old + 2 * length bytes.now ≤ 512 }
+    ensures items { out.new.items ≡ out.old.items ++ flat_map digits2 (reverse bytes.now) }
+    ensures len { array_vec_len out.new ≡ array_vec_len out.old + 2 * length bytes.now }
 {
-    match order {
-        ByteOrder::LittleEndian => u16::from(first) + 256 * u16::from(second),
-        ByteOrder::BigEndian => u16::from(second) + 256 * u16::from(first),
+    if let [low, rest @ ..] = bytes {
+        put_reversed(out, rest);
+        put_digits2(out, *low);
     }
 }
 
-/// Appends the first word, and returns the bytes after it.
-fn put_first_word<'a>(out: &mut Line, order: ByteOrder, bytes: &'a [u8]) -> &'a [u8]
-    requires some { 2 ≤ length bytes.now }
+/// Appends the digits of bytes whose high one is first.
+fn put_all(out: &mut Line, bytes: &[u8])
+    requires room { array_vec_len out.old + 2 * length bytes.now ≤ 512 }
+    ensures items { out.new.items ≡ out.old.items ++ flat_map digits2 bytes.now }
+    ensures len { array_vec_len out.new ≡ array_vec_len out.old + 2 * length bytes.now }
+{
+    for byte in bytes {
+        put_digits2(out, *byte);
+    }
+}
+
+fn put_entry(out: &mut Line, directive: Directive, bytes: &[u8])
+    requires room { array_vec_len out.old + 1 + 2 * length bytes.now ≤ 512 }
+    ensures items { out.new.items ≡ out.old.items ++ entry_text directive bytes.now }
+    ensures len { array_vec_len out.new ≡ array_vec_len out.old + 1 + 2 * length bytes.now }
+{
+    out.push(b'$');
+    match directive.order() {
+        ByteOrder::LittleEndian => put_reversed(out, bytes),
+        ByteOrder::BigEndian => put_all(out, bytes),
+    }
+}
+
+/// Appends the first entry, and returns the bytes after it.
+fn put_first_entry<'a>(out: &mut Line, directive: Directive, bytes: &'a [u8]) -> &'a [u8]
+    requires some { entry_len directive ≤ length bytes.now }
     requires room { array_vec_len out.old + 3 * length bytes.now ≤ 512 }
-    ensures items { out.new.items ++ flat_map (next_text hex4) (words_in order result.now) ≡ out.old.items ++ words_text (words_in order bytes.now) }
+    ensures items { out.new.items ++ flat_map (next_text (entry_text directive)) (entries directive result.now) ≡ out.old.items ++ numbers_text directive bytes.now }
     ensures len { array_vec_len out.new + 3 * length result.now < array_vec_len out.old + 3 * length bytes.now }
     ensures fewer { length result.now < length bytes.now }
 {
-    let [first, second, rest @ ..] = bytes else {
-        unreachable!()
-    };
-    put_hex4(out, word_of(order, *first, *second));
+    let (entry, rest) = bytes.split_at(directive.entry_len());
+    put_entry(out, directive, entry);
     rest
 }
 
-/// Appends the words of the bytes, joined by commas.
-pub(super) fn put_words(out: &mut Line, order: ByteOrder, bytes: &[u8])
-    requires some { 2 ≤ length bytes.now }
+/// Appends the entries of the bytes, joined by commas.
+pub(super) fn put_entries(out: &mut Line, directive: Directive, bytes: &[u8])
+    requires some { entry_len directive ≤ length bytes.now }
     requires room { array_vec_len out.old + 3 * length bytes.now ≤ 512 }
-    ensures items { out.new.items ≡ out.old.items ++ words_text (words_in order bytes.now) }
+    ensures items { out.new.items ≡ out.old.items ++ numbers_text directive bytes.now }
     ensures len { array_vec_len out.new ≤ array_vec_len out.old + 3 * length bytes.now }
 {
-    let mut rest = put_first_word(out, order, bytes);
-    'words: while rest.len() > 1 {
+    let mut rest = put_first_entry(out, directive, bytes);
+    'entries: while rest.len() >= directive.entry_len() {
         out.push(b',');
-        rest = put_first_word(out, order, rest);
+        rest = put_first_entry(out, directive, rest);
     }
 }
 

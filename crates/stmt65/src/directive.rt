@@ -1,0 +1,91 @@
+//! The directives that give numbers, in one table.
+
+ghost use Rattle.std.specs.Prelude.{◌≡◌, ◌≤◌, ◌^◌, length};
+ghost use Rattle.stmt65.specs.Directives.{directive_text, entry_len, order_of, entry_limit, first_directive_named, directive_named};
+
+use crate::names::is_word;
+use isa65::ByteOrder;
+
+/// A directive whose entries are numbers of several bytes.
+#[derive(Clone, Copy, Debug, PartialEq, Eq)]
+pub enum Directive {
+    /// `.word`: two bytes, low byte first.
+    Word,
+    /// `.dbyt`: two bytes, high byte first.
+    Dbyt,
+    /// `.addr`: as `.word`.
+    Addr,
+    /// `.dword`: four bytes, low byte first.
+    Dword,
+}
+
+/// Each directive once.
+const ALL: [Directive; 4] = [
+    Directive::Word,
+    Directive::Dbyt,
+    Directive::Addr,
+    Directive::Dword,
+];
+
+impl Directive {
+    /// What is written.
+    pub fn text(self) -> &'static [u8]
+        ensures text { result.now ≡ directive_text self }
+        ensures len { length result.now ≤ 8 }
+    {
+        match self {
+            Directive::Word => b".word",
+            Directive::Dbyt => b".dbyt",
+            Directive::Addr => b".addr",
+            Directive::Dword => b".dword",
+        }
+    }
+
+    /// How many bytes an entry has.
+    pub fn entry_len(self) -> usize
+        ensures value { result ≡ entry_len self }
+        ensures some { 2 ≤ result }
+        ensures few { result ≤ 4 }
+    {
+        match self {
+            Directive::Word | Directive::Dbyt | Directive::Addr => 2,
+            Directive::Dword => 4,
+        }
+    }
+
+    /// The first number that an entry has no room for.
+    pub fn limit(self) -> u64
+        ensures value { result ≡ entry_limit self }
+        ensures few { result ≤ 2 ^ 32 }
+    {
+        256u64.pow(self.entry_len() as u32)
+    }
+
+    /// In which order the bytes of an entry stand.
+    pub fn order(self) -> ByteOrder
+        ensures { result ≡ order_of self }
+    {
+        match self {
+            Directive::Word | Directive::Addr | Directive::Dword => ByteOrder::LittleEndian,
+            Directive::Dbyt => ByteOrder::BigEndian,
+        }
+    }
+
+    /// The directive that the word is, in any letter case.
+    #[tactic(auto, unfolding(crate::specs::Directives::directive_named))]
+    pub fn from_word(word: &[u8]) -> Option<Directive>
+        ensures { result ≡ directive_named word.now }
+    {
+        first_of(&ALL, word)
+    }
+}
+
+/// The first of these directives that the word is.
+fn first_of(directives: &[Directive], word: &[u8]) -> Option<Directive>
+    ensures { result ≡ first_directive_named word.now directives.now }
+{
+    directives
+        .iter()
+        .copied()
+        .find(|directive| is_word(word, directive.text()))
+}
