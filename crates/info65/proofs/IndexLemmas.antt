@@ -1,8 +1,7 @@
 -- The index of closed groups.
 use Rattle.std.proofs.Common.{◌≡◌, ◌≢◌, ◌∙◌, ◌≤◌, ◌<◌, ◌+◌, ◌-◌, ◌==◌, ◌&&◌, ◌||◌, ℕ, zero, suc, Bool, List, [], ◌∷◌, ◌++◌, true, false, ⊎_elim, ap, ap₂, arith, get_or, length, option_map, refl, sym, if◌then◌else◌}
 use Rattle.std.specs.Option.{option_or}
-use Rattle.std.specs.Prelude.{All, AllPairs, Option, Some, None, Result, Ok, Err, IfOk, is_some, option_to_list, nat_le, nat_lt, not}
-use Rattle.std.specs.BTreeMap.{BTreeMap, btree_map_len, get}
+use Rattle.std.specs.Prelude.{All, AllPairs, Option, Some, None, Result, Ok, Err, IfOk, is_some, option_to_list, nat_le, nat_lt, not, slice_get}
 use Rattle.std.specs.List.{find, flat_map, list_any}
 use Rattle.std.specs.Ordering.{is_eq, nat_cmp}
 use Rattle.std.specs.Str.{bytes_eq}
@@ -19,7 +18,7 @@ use Rattle.info65.specs.Code.Names.{given_seen}
 use Rattle.info65.specs.Groups.{AssignmentView, GroupView}
 use Rattle.info65.specs.declared.attribute.GroupKind.{GroupKind}
 use Rattle.info65.specs.declared.attribute.GroupKind.TheVariants as kind
-use Rattle.info65.specs.Code.Index.{IsIndex, any_in, text_at}
+use Rattle.info65.specs.Code.Index.{IsIndex, any_in, found_in, own, text_at}
 use Rattle.info65.specs.Labels.{is_at, is_elsewhere, label_in, name_fault, name_part, named_at, names_from, names_said, range_name}
 use Rattle.info65.specs.Names.{is_reserved}
 use Rattle.info65.specs.Ranges.{has_address, overlaps, range_in, ranges_of}
@@ -336,13 +335,27 @@ unfolding names_from
 names_none a zero = refl
 names_none a (suc n) = names_none (a + 1) n
 
-gets_none : (m : BTreeMap ℕ Given) (es : List (ℕ × Given)) → m.entries ≡ es → length es ≡ 0 → (a : ℕ) → option_map given_seen (get nat_cmp m a) ≡ None
-gets_none m [] e none a = rw e refl
-gets_none m (x ∷ xs) e none a = absurd (omega (arith, none))
+-- no names
+pub names_empty : (names : List Given) (places : List ℕ) → length names ≡ 0 → names_from (λ a. option_map given_seen (found_in names places a)) 0 0x1_0000 ≡ []
+names_empty [] places none = names_none 0 0x1_0000
+names_empty (x ∷ xs) places none = absurd (omega (arith, none))
 
--- a map without entries has no name
-pub names_empty : (m : BTreeMap ℕ Given) → btree_map_len m ≡ 0 → names_from (λ a. option_map given_seen (get nat_cmp m a)) 0 0x1_0000 ≡ []
-names_empty m none = names_same (λ a. option_map given_seen (get nat_cmp m a)) (λ a. None) (gets_none m m.entries refl none) 0 0x1_0000 ∙ names_none 0 0x1_0000
+at_end : (a : ℕ) (names : List Given) (n : Given) → own a (slice_get (names ++ n ∷ []) (length names)) ≡ own a (Some n)
+at_end a [] n = refl
+at_end a (x ∷ xs) n = at_end a xs n
+
+before_end : (a : ℕ) (names : List Given) (n : Given) (place : ℕ) → (n.address == a) ≡ false → own a (slice_get (names ++ n ∷ []) place) ≡ own a (slice_get names place)
+before_end a [] n zero other = rw other refl
+before_end a [] n (suc p) other = refl
+before_end a (x ∷ xs) n zero other = refl
+before_end a (x ∷ xs) n (suc p) other = before_end a xs n p other
+
+-- one name more, with its place
+pub place_added : (names : List Given) (places more : List ℕ) (n : Given) → ((a : ℕ) → get_or more a 0 ≡ (if n.address == a then length names else get_or places a 0)) → (a : ℕ) → found_in (names ++ n ∷ []) more a ≡ (if n.address == a then Some n else found_in names places a)
+place_added names places more n h a =
+    by_test (n.address == a)
+    (λ at. ap (λ (p : ℕ). own a (slice_get (names ++ n ∷ []) p)) (h a ∙ chosen (n.address == a) (length names) (get_or places a 0) at) ∙ at_end a names n ∙ chosen (n.address == a) (Some n) None at ∙ sym (chosen (n.address == a) (Some n) (found_in names places a) at))
+    (λ apart. ap (λ (p : ℕ). own a (slice_get (names ++ n ∷ []) p)) (h a ∙ passed (n.address == a) (length names) (get_or places a 0) apart) ∙ before_end a names n (get_or places a 0) apart ∙ sym (passed (n.address == a) (Some n) (found_in names places a) apart))
 
 -- ---- a group more
 

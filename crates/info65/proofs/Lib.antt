@@ -10,6 +10,7 @@ mod IncludeRows
 mod IncludedLemmas
 mod IndexLemmas
 mod Laws
+mod LayoutLemmas
 mod NameFaultLemmas
 mod NameLemmas
 mod NamesLemmas
@@ -20,6 +21,7 @@ mod RangeLemmas
 mod ReaderLemmas
 mod ReservedLemmas
 mod SegmentCovering
+mod SegmentKeys
 mod SegmentLemmas
 mod SegmentTableLemmas
 mod SpellingLemmas

@@ -1,6 +1,6 @@
 -- Which names are reserved.
-use Rattle.std.proofs.Common.{◌≡◌, ◌∙◌, ◌⊎◌, inl, inr, ◌≤◌, ◌<◌, ◌+◌, ◌-◌, ◌*◌, ◌/◌, ◌%◌, ◌==◌, ◌&&◌, ◌||◌, ℕ, Bool, true, false, not, List, [], ◌∷◌, ap, arith, drop, length, refl, sym}
-use Rattle.std.specs.Prelude.{Any, Option, Some, None, is_some, nat_lt, slice_index}
+use Rattle.std.proofs.Common.{◌≡◌, ◌∙◌, ◌⊎◌, inl, inr, ◌≤◌, ◌<◌, ◌+◌, ◌-◌, ◌*◌, ◌/◌, ◌%◌, ◌==◌, ◌&&◌, ◌||◌, ℕ, suc, Bool, true, false, not, List, [], ◌∷◌, ap, arith, drop, length, refl, sym}
+use Rattle.std.specs.Prelude.{Any, Option, Some, None, is_some, nat_le, nat_lt, slice_index}
 use Rattle.std.specs.List.{list_all, list_any}
 use Rattle.std.specs.Str.{bytes_eq, str_eq_ignore_ascii_case, str_to_ascii_lowercase}
 use Rattle.std.proofs.lemmas.Bool.Decides.{nat_tests}
@@ -10,6 +10,8 @@ use Rattle.std.proofs.lemmas.Bool.{and_parts, eqb-true}
 use Rattle.isa65.specs.Mnemonic.{mnemonic_named, text_of}
 use Rattle.isa65.specs.MnemonicLaws.{mnemonic_named-is, mnemonic_named-text_of}
 use Rattle.isa65.specs.declared.mnemonic.Mnemonic.{Mnemonic}
+use Rattle.isa65.specs.declared.mnemonic.Mnemonic.TheVariants.{Adc}
+use Rattle.info65.specs.Code.Names.{is_word}
 use Rattle.info65.specs.NameFaultLaws.{IsDefaultElsewhere, IsInAnyCase, ReservedNames}
 use Rattle.info65.specs.Names.{default_name, hex_digit, is_like_default, is_reserved, is_upper_hex, registers}
 use Rattle.info65.proofs.Cases.{by_test}
@@ -169,3 +171,47 @@ reserved_names address text = (
   one_of (list_any (str_eq_ignore_ascii_case text) registers) (is_some (mnemonic_named text)) (is_like_default text && not (bytes_eq text (default_name address))) (register_is text) (mnemonic_is text) (elsewhere_is address text),
   any_of (list_any (str_eq_ignore_ascii_case text) registers) (is_some (mnemonic_named text)) (is_like_default text && not (bytes_eq text (default_name address))) (is_register text) (λ m. is_mnemonic text m.0 m.1) (is_elsewhere address text),
 )
+
+-- ---- words by their length
+
+same_length : (text : List ℕ) → length (str_to_ascii_lowercase text) ≡ length text
+same_length [] = refl
+same_length (b ∷ bs) = ap suc (same_length bs)
+
+short_mnemonic : (m : Mnemonic) → nat_le (length (text_of m)) 4 ≡ true
+short_mnemonic Adc = refl
+short_mnemonic _ = refl
+
+short_word : (m : Mnemonic) → length (text_of m) ≤ 4
+short_word m = let short = short_mnemonic m in grind (arith, nat_tests, short)
+
+unlike : (word text : List ℕ) → length word < length text → str_eq_ignore_ascii_case text word ≡ false
+unlike word text long = by_test (str_eq_ignore_ascii_case text word)
+    (λ hit.
+    let same : length text ≡ length word = sym (same_length text) ∙ ap length (in_any_case word text hit) ∙ same_length word in absurd (omega (arith, long, same)))
+    (λ miss. miss)
+
+long_register : (text : List ℕ) → 4 < length text → list_any (str_eq_ignore_ascii_case text) registers ≡ false
+long_register text long =
+    let other : (b : ℕ) → str_eq_ignore_ascii_case text (b ∷ []) ≡ false = λ b. unlike (b ∷ []) text (omega (arith, long)) in
+    rw (other 65, other 70, other 83, other 88, other 89, other 90) refl
+
+long_mnemonic : (text : List ℕ) → 4 < length text → is_some (mnemonic_named text) ≡ false
+long_mnemonic text long = by_test (is_some (mnemonic_named text))
+    (λ hit.
+    let found = mnemonic_is text hit in
+    let size : length text ≡ length (text_of found.0) = sym (same_length text) ∙ ap length found.1 ∙ same_length (text_of found.0) in
+    let short = short_word found.0 in absurd (omega (arith, long, size, short)))
+    (λ miss. miss)
+
+-- a text of more than four bytes is neither a register nor a mnemonic
+pub long_text : (text : List ℕ) → 4 < length text → is_word text ≡ false
+long_text text long = rw (long_register text long, long_mnemonic text long) refl
+
+pub reserved_by : (address : ℕ) (text : List ℕ) → is_reserved address text ≡ (is_word text || (is_like_default text && not (bytes_eq text (default_name address))))
+unfolding is_reserved
+reserved_by address text = of (list_any (str_eq_ignore_ascii_case text) registers) (is_some (mnemonic_named text)) (is_like_default text && not (bytes_eq text (default_name address)))
+  where
+    of : (p q r : Bool) → (p || (q || r)) ≡ ((p || q) || r)
+    of true q r = refl
+    of false q r = refl

@@ -102,11 +102,12 @@ type_named text =
     else (if str_eq_ignore_ascii_case text (codes "BYTETABLE") then Some range_type.ByteTable
     else (if str_eq_ignore_ascii_case text (codes "WORDTABLE") then Some range_type.WordTable
     else (if str_eq_ignore_ascii_case text (codes "DBYTETABLE") then Some range_type.DbyteTable
+    else (if str_eq_ignore_ascii_case text (codes "DWORDTABLE") then Some range_type.DwordTable
     else (if str_eq_ignore_ascii_case text (codes "ADDRTABLE") then Some range_type.AddrTable
     else (if str_eq_ignore_ascii_case text (codes "RTSTABLE") then Some range_type.RtsTable
     else (if str_eq_ignore_ascii_case text (codes "TEXTTABLE") then Some range_type.TextTable
     else (if str_eq_ignore_ascii_case text (codes "SKIP") then Some range_type.Skip
-    else None)))))))
+    else None))))))))
 
 -- a boolean word, with letters of any case
 unfoldable pub boolean_named : List ℕ → Option Bool

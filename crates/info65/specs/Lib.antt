@@ -11,6 +11,7 @@ pub mod IncludeLaws
 pub mod Includes
 pub mod Labels
 pub mod Laws
+pub mod Layouts
 pub mod Lexemes
 pub mod NameFaultLaws
 pub mod NameLaws

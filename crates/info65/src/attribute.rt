@@ -294,6 +294,8 @@ pub fn type_named(text: &[u8]) -> Option<RangeType>
         Some(RangeType::WordTable)
     } else if text.eq_ignore_ascii_case(b"DBYTETABLE") {
         Some(RangeType::DbyteTable)
+    } else if text.eq_ignore_ascii_case(b"DWORDTABLE") {
+        Some(RangeType::DwordTable)
     } else if text.eq_ignore_ascii_case(b"ADDRTABLE") {
         Some(RangeType::AddrTable)
     } else if text.eq_ignore_ascii_case(b"RTSTABLE") {

@@ -5,10 +5,8 @@ ghost use Rattle.std.specs.List.{list_any};
 ghost use Rattle.info65.specs.Closing.{closing_fault, label_fault, optional_name_fault, range_fault};
 ghost use Rattle.info65.specs.Code.Groups.{assignment_seen};
 ghost use Rattle.info65.specs.Code.Includes.{SeesName};
-ghost use Rattle.info65.specs.Code.Index.{Indexes, IndexesGroups};
+ghost use Rattle.info65.specs.Code.Index.{Indexes, IndexesGroups, found_in};
 ghost use Rattle.info65.specs.Code.Names.{given_seen};
-ghost use Rattle.std.specs.BTreeMap.{get};
-ghost use Rattle.std.specs.Ordering.{nat_cmp};
 ghost use Rattle.info65.specs.Faults.{out_of_memory};
 ghost use Rattle.info65.specs.Code.Results.{Gives};
 ghost use Rattle.info65.specs.Groups.{GroupView};
@@ -26,6 +24,7 @@ use crate::label_groups::{label_in, range_name};
 use crate::marks::{ADDRESSES, blank_table, is_marked, mark};
 use crate::name::Given;
 use crate::names::is_reserved;
+use crate::places::Places;
 use crate::pool::Pool;
 use crate::range::RangeSpec;
 use crate::range_groups::range_in;
@@ -40,8 +39,10 @@ const LONGEST_NAME: usize = 80;
 pub struct Index<'a, A: Allocator> {
     /// For each address, whether it belongs to a range.
     pub ranged: Vec<bool, A>,
-    /// The names, by their own addresses.
-    pub by_address: BTreeMap<u16, Given<'a>, A>,
+    /// The names, in the order in which they were added.
+    pub names: Vec<Given<'a>, A>,
+    /// Where the name of an address stands, if it has one: other places are those of other names or of none.
+    pub places: Places<A>,
     /// The address of each name, by its text.
     pub by_text: BTreeMap<&'a [u8], u16, A>,
 }
@@ -52,13 +53,25 @@ impl<'a, A: Allocator + Copy> Index<'a, A> {
         ensures { MatchResult result (λ i. Indexes [] [] i) (λ e. e ≡ out_of_memory) }
     {
         let ranged = blank_table(alloc, ADDRESSES)?;
-        let by_address = BTreeMap::new(alloc);
+        let names = Vec::new(alloc);
+        let places = Places::new(alloc)?;
         let by_text = BTreeMap::new(alloc);
         Ok(Index {
             ranged,
-            by_address,
+            names,
+            places,
             by_text,
         })
+    }
+
+    // The name of an address.
+    fn named_at(&self, address: u16) -> Option<Given<'a>>
+        ensures { result ≡ found_in self.now.names.items self.now.places address }
+    {
+        match self.names.get(self.places.at(address)) {
+            Some(name) if name.address == address => Some(*name),
+            _ => None,
+        }
     }
 
     // The text of the name stands at another address.
@@ -81,7 +94,7 @@ impl<'a, A: Allocator + Copy> Index<'a, A> {
         if self.is_elsewhere(name) {
             return Some(InfoFaultKind::NameTwice);
         }
-        if self.by_address.contains_key(&name.address) {
+        if self.named_at(name.address).is_some() {
             return Some(InfoFaultKind::AddressTwice);
         }
         None
@@ -98,7 +111,7 @@ impl<'a, A: Allocator + Copy> Index<'a, A> {
         if is_reserved(name.address, name.text) {
             return Err(InfoFaultKind::ReservedName);
         }
-        let is_taken = self.by_address.contains_key(&name.address);
+        let is_taken = self.named_at(name.address).is_some();
         if is_taken {
             return Ok(None);
         }
@@ -150,8 +163,10 @@ impl<'a, A: Allocator + Copy> Index<'a, A> {
         ensures done { (ranges : List RangeSpec) (names : List NameView) → Indexes ranges names self.old → name_fault names (given_seen name.entry) ≡ None → IfOk result (λ _. Indexes ranges (names ++ given_seen name.entry ∷ []) self.new) }
         ensures err { IfErr result (λ e. e ≡ out_of_memory) }
     {
-        self.by_address.insert(name.address, name)?;
+        let place = self.names.as_slice().len();
         self.by_text.insert(name.text, name.address)?;
+        self.names.push(name)?;
+        self.places.set(name.address, place);
         Ok(())
     }
 
@@ -200,14 +215,14 @@ impl<'a, A: Allocator + Copy> Index<'a, A> {
 
     /// The names, by address.
     pub fn names(&self, alloc: A) -> Result<Pool<A>, InfoFault>
-        ensures { Gives (λ p. p) result (Ok (names_from (λ a. option_map given_seen (get nat_cmp self.now.by_address a)) 0 0x1_0000)) }
+        ensures { Gives (λ p. p) result (Ok (names_from (λ a. option_map given_seen (found_in self.now.names.items self.now.places a)) 0 0x1_0000)) }
     {
         let mut names = Pool::new(alloc);
-        if self.by_address.is_empty() {
+        if self.names.as_slice().is_empty() {
             return Ok(names);
         }
         for address in 0..ADDRESSES {
-            names = names.with_optional(self.by_address.get(&(address as u16)))?;
+            names = names.with_optional(self.named_at(address as u16))?;
         }
         Ok(names)
     }

@@ -54,7 +54,7 @@ impl<A: Allocator> Info<A> {
     ghost use Rattle.info65.specs.IncludeGroups.{AreIncludes};
     ghost use Rattle.info65.specs.Names.{AreNames, covering, name_at};
     ghost use Rattle.info65.specs.Ranges.{AreRanges};
-    ghost use Rattle.info65.specs.Segments.{AreSegments, segment_covering};
+    ghost use Rattle.info65.specs.Segments.{AreSegments, first_named, segment_covering, segment_key};
     ghost use Rattle.info65.specs.Views.{AreInLimits};
 
     /// The settings: the options, the groups GLOBAL and the defaults.
@@ -88,6 +88,25 @@ impl<A: Allocator> Info<A> {
         ensures sound { AreSegments self.now.segments }
     {
         self.segments.covering(address)
+    }
+
+    /// Where the first segment of a name begins, in the order of the groups. Two names have the same start
+    /// only if they are one name, since no two segments share an address, so it is a key of the name.
+    /// It takes a time that grows with the number of segments.
+    pub fn first_named(&self, name: &[u8]) -> Option<u16>
+        ensures first { result ≡ first_named self.now.segments name.now }
+        ensures sound { AreSegments self.now.segments }
+    {
+        self.segments.first_named(name)
+    }
+
+    /// The key of the name of the segment that contains an address, which is what [`Info::first_named`] returns
+    /// for that name. It takes a time that grows with the logarithm of the number of segments.
+    pub fn segment_key(&self, address: u16) -> Option<u16>
+        ensures key { result ≡ segment_key self.now.segments address }
+        ensures sound { AreSegments self.now.segments }
+    {
+        self.segments.key(address)
     }
 
     /// The include files, in the order of their groups, 16 at most. A file that two groups name is there twice.

@@ -3,7 +3,8 @@
 //!
 //! [`read_info`] reads a whole file under the [`Options`] of a command line. It returns an [`Info`], whose
 //! [`Settings`] are merged and in their limits, whose ranges, each a [`RangeSpec`], share no address, and
-//! whose names, each a [`Given`], ascend by address. [`Lexer`] gives the tokens alone. A refusal is an
+//! whose names, each a [`Given`], ascend by address. [`RangeType::layout`] is the table of what each type says of
+//! its bytes. [`Lexer`] gives the tokens alone. A refusal is an
 //! [`InfoFault`]: a line and an [`InfoFaultKind`].
 //!
 //! The known groups, attributes and words are tables in `attribute`. `parser` reads groups, `closed` keeps
@@ -35,6 +36,7 @@ mod name;
 mod names;
 mod options;
 mod parser;
+mod places;
 mod pool;
 mod range;
 mod range_groups;
@@ -59,7 +61,7 @@ pub use lexer::Lexer;
 pub use name::Given;
 pub use names::default_name;
 pub use options::Options;
-pub use range::{RangeSpec, RangeType};
+pub use range::{Entry, Layout, RangeSpec, RangeType};
 pub use segment::SegmentSpec;
 pub use settings::Settings;
 pub use token::{Token, TokenKind};

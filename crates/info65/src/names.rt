@@ -3,9 +3,13 @@
 ghost use Rattle.std.specs.Prelude.{◌≡◌, ◌<◌};
 ghost use Rattle.std.specs.List.{list_all, list_any};
 ghost use Rattle.std.specs.Str.{str_eq_ignore_ascii_case};
+ghost use Rattle.info65.specs.Code.Names.{is_word};
 ghost use Rattle.info65.specs.Names.{default_name, has_comment_form, has_name_form, hex_digit, is_comment_byte, is_like_default, is_name_byte, is_reserved, is_upper_hex, registers};
 
 use isa65::Mnemonic;
+
+// The bytes of the longest mnemonic. A register has one.
+const LONGEST_WORD: usize = 4;
 
 /// Letters, digits and `_`.
 pub fn are_name_bytes(bytes: &[u8]) -> bool
@@ -100,12 +104,20 @@ fn is_register(text: &[u8]) -> bool
         || text.eq_ignore_ascii_case(b"Z")
 }
 
+// A register or a mnemonic. Most names are longer than these, and then the words need not be compared.
+fn is_word(text: &[u8]) -> bool
+    ensures { result ≡ is_word text.now }
+{
+    if text.len() > LONGEST_WORD {
+        return false;
+    }
+    is_register(text) || Mnemonic::from_bytes(text).is_some()
+}
+
 /// The address can't have this name: it is a register, a mnemonic, or the default name of another address.
-#[tactic(auto, unfolding(crate::specs::Names::is_reserved))]
+#[tactic(auto, using(crate::proofs::ReservedLemmas::reserved_by))]
 pub fn is_reserved(address: u16, text: &[u8]) -> bool
     ensures { result ≡ is_reserved address text.now }
 {
-    is_register(text)
-        || Mnemonic::from_bytes(text).is_some()
-        || is_like_default(text) && text != default_name(address).as_slice()
+    is_word(text) || is_like_default(text) && text != default_name(address).as_slice()
 }

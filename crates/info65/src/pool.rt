@@ -64,7 +64,7 @@ impl<A: Allocator + Copy> Pool<A> {
 }
 
 impl<A: Allocator> Pool<A> {
-    ghost use Rattle.std.specs.Prelude.{◌≡◌, ◌<◌, ◌∷◌, ◌++◌, Ok, [], length, option_copied, option_map, option_to_list};
+    ghost use Rattle.std.specs.Prelude.{◌≡◌, ◌<◌, ◌∷◌, ◌++◌, Ok, [], length, option_map, option_to_list};
     ghost use Rattle.info65.specs.Code.Names.{given_seen};
     ghost use Rattle.info65.specs.Code.Results.{Gives};
     ghost use Rattle.info65.specs.Names.{AreNames, covering, name_at};
@@ -93,11 +93,11 @@ impl<A: Allocator> Pool<A> {
     }
 
     /// These names and, if there is one, one more.
-    pub fn with_optional(self, name: Option<&Given<'_>>) -> Result<Self, InfoFault>
-        ensures { Gives (λ p. p) result (Ok (self ++ option_to_list (option_map given_seen (option_copied name.entry)))) }
+    pub fn with_optional(self, name: Option<Given<'_>>) -> Result<Self, InfoFault>
+        ensures { Gives (λ p. p) result (Ok (self ++ option_to_list (option_map given_seen name.entry))) }
     {
         match name {
-            Some(name) => self.with(*name),
+            Some(name) => self.with(name),
             None => Ok(self),
         }
     }

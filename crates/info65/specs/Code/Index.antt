@@ -1,5 +1,5 @@
 -- The index of closed groups: what answers for ranges and names without reading the groups again.
-use Rattle.std.specs.Prelude.{◌≡◌, ◌≢◌, ◌≤◌, ◌<◌, ◌+◌, ◌||◌, ℕ, zero, suc, Bool, false, List, Option, All, AllPairs, get_or, length, option_map}
+use Rattle.std.specs.Prelude.{◌≡◌, ◌≢◌, ◌≤◌, ◌<◌, ◌+◌, ◌==◌, ◌||◌, ℕ, zero, suc, Bool, false, List, Option, Some, None, All, AllPairs, get_or, length, option_map, slice_get, if◌then◌else◌}
 use Rattle.std.specs.BTreeMap as tree
 use Rattle.std.specs.Cmp.Lexicographic.{slice_cmp}
 use Rattle.std.specs.List.{find, list_any}
@@ -24,6 +24,15 @@ unfoldable pub any_in : List Bool → ℕ → ℕ → Bool
 any_in table first zero = false
 any_in table first (suc n) = get_or table first false || any_in table (first + 1) n
 
+-- the name, if the address is its own
+abbrev pub own : ℕ → Option Given → Option Given
+own a None = None
+own a (Some n) = if n.address == a then Some n else None
+
+-- the name of an address: it stands at the address's place
+abbrev pub found_in : List Given → List ℕ → ℕ → Option Given
+found_in names places a = own a (slice_get names (get_or places a 0))
+
 -- The cells say which addresses belong to a range, `found` has the name of each address and `stands` the
 -- address of each text.
 pub record IsIndex (ranges : List RangeSpec) (names : List NameView) (table : List Bool) (found : ℕ → Option Given) (stands : List ℕ → Option ℕ) : Type 0 where
@@ -36,7 +45,7 @@ pub record IsIndex (ranges : List RangeSpec) (names : List NameView) (table : Li
 
 -- the index is that of these ranges and names
 abbrev pub Indexes : {Z : Type 0} → List RangeSpec → List NameView → Index Z → Type 0
-Indexes ranges names i = IsIndex ranges names i.ranged.items (λ a. tree.get nat_cmp i.by_address a) (λ t. tree.get_by (λ k. slice_cmp nat_cmp t k.now) i.by_text)
+Indexes ranges names i = IsIndex ranges names i.ranged.items (found_in i.names.items i.places) (λ t. tree.get_by (λ k. slice_cmp nat_cmp t k.now) i.by_text)
 
 -- the index is that of what these groups say
 abbrev pub IndexesGroups : {Z : Type 0} → List GroupView → Index Z → Type 0

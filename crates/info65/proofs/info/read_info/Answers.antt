@@ -1,7 +1,9 @@
-use Rattle.std.proofs.Common.{◌≡◌, ◌∙◌, ap, arith, false, length, map, nat_lt, refl, subst, sym, ℕ}
-use Rattle.std.specs.Prelude.{List, Ok}
+use Rattle.std.proofs.Common.{◌≡◌, ◌∙◌, ap, arith, false, length, map, nat_lt, refl, subst, sym, ℕ, inl, inr}
+use Rattle.std.specs.Prelude.{List, Ok, Result}
+use Rattle.std.proofs.lemmas.Result.{err_from_is_err_and}
 use Rattle.std.proofs.lemmas.Bool.Decides.{nat_tests}
 use Rattle.info65.specs.Code.Groups.{group_seen}
+use Rattle.info65.specs.Code.Results.{Fails}
 use Rattle.info65.specs.Groups.{AreFormed, GroupView, global_given}
 use Rattle.info65.specs.IncludeGroups.{AreIncludes, includes_of}
 use Rattle.info65.specs.Labels.{by_address, names_said}
@@ -11,6 +13,7 @@ use Rattle.info65.specs.Segments.{AreSegments, segments_of}
 use Rattle.info65.specs.Reader.{groups_of, information}
 use Rattle.info65.specs.Settings.{settings_of}
 use Rattle.info65.specs.Views.{AreInLimits, InfoView, OptionsView}
+use Rattle.info65.specs.declared.fault.InfoFault.{InfoFault}
 use Rattle.info65.proofs.FormLemmas.{read_all_formed, read_formed, settings_in_limits}
 use Rattle.info65.proofs.IncludeLemmas.{read_includes}
 use Rattle.info65.proofs.NamesLemmas.{read_named}
@@ -54,3 +57,13 @@ returns g c =
     (ap (λ (l : List GroupView). segments_of l) (sym c.groups-3.ensures) ∙ same_ok c.in_ok-said.ensures ∙ same_ok c.in_ok-segments.ensures)
     (same_ok c.in_ok-names.ensures)
     (ap (λ (l : List GroupView). includes_of l) (sym c.groups-4.ensures) ∙ same_ok c.in_ok-includes.ensures)
+
+-- what the rules accept is refused only if an allocation failed
+lost : {A B : Type 0} {given : A} {e : InfoFault} {r : Result B InfoFault} → Fails e (Ok given) → Fails e r
+lost (inl wrong) = absurd cc
+lost (inr memory) = inr memory
+
+pub returns-in_err-includes : goal.returns-in_err-includes
+returns-in_err-includes g c =
+    let p = err_from_is_err_and c.from_residual-in_err-includes.result c.from_residual-in_err-includes.ensures.1 in
+    rw (p.1, p.2) (lost c.in_err-includes.ensures)

@@ -10,12 +10,12 @@ returns-then-is_reserved g c = λ ranges names i. fault_reserved names (given_se
 pub returns-then-is_elsewhere : goal.returns-then-is_elsewhere
 returns-then-is_elsewhere g c = λ ranges names i. fault_elsewhere names (given_seen c.args.name) (sym c.is_reserved.ensures ∙ c.if-is_reserved.false) (sym (c.is_elsewhere.ensures ranges names i) ∙ c.if-is_elsewhere.true)
 
-pub returns-then-contains_key : goal.returns-then-contains_key
-returns-then-contains_key g c = λ ranges names i.
+pub returns-then-is_some : goal.returns-then-is_some
+returns-then-is_some g c = λ ranges names i.
     fault_taken names (given_seen c.args.name) (sym c.is_reserved.ensures ∙ c.if-is_reserved.false) (sym (c.is_elsewhere.ensures ranges names i) ∙ c.if-is_elsewhere.false)
-    (taken_is names c.args.name.address ∙ ap is_some (sym (i.addresses c.args.name.address)) ∙ some_map given_seen _ ∙ sym c.contains_key.ensures ∙ c.if-contains_key.true)
+    (taken_is names c.args.name.address ∙ ap is_some (sym (i.addresses c.args.name.address)) ∙ some_map given_seen _ ∙ ap is_some (sym c.named_at.ensures) ∙ sym c.is_some.ensures ∙ c.if-is_some.true)
 
 pub returns : goal.returns
 returns g c = λ ranges names i.
     fault_none names (given_seen c.args.name) (sym c.is_reserved.ensures ∙ c.if-is_reserved.false) (sym (c.is_elsewhere.ensures ranges names i) ∙ c.if-is_elsewhere.false)
-    (taken_is names c.args.name.address ∙ ap is_some (sym (i.addresses c.args.name.address)) ∙ some_map given_seen _ ∙ sym c.contains_key.ensures ∙ c.if-contains_key.false)
+    (taken_is names c.args.name.address ∙ ap is_some (sym (i.addresses c.args.name.address)) ∙ some_map given_seen _ ∙ ap is_some (sym c.named_at.ensures) ∙ sym c.is_some.ensures ∙ c.if-is_some.false)

@@ -1,0 +1,171 @@
+-- Keys of the names of segments.
+use Rattle.std.proofs.Common.{◌≡◌, ◌∙◌, ◌≤◌, ◌<◌, ◌+◌, ℕ, zero, suc, Bool, List, [], ◌∷◌, ◌++◌, ⊎_elim, true, false, ap, arith, cond, drop, get_or, length, map, refl, subst, sym}
+use Rattle.std.specs.Option.{option_or}
+use Rattle.std.specs.Prelude.{Option, Some, None, is_some, option_and_then, unwrap_or, nat_le}
+use Rattle.std.specs.Str.{bytes_eq}
+use Rattle.std.proofs.lemmas.Bool.Decides.{eqb_tells, nat_tests}
+use Rattle.std.proofs.lemmas.List.{at_drop_more, drop_all, get_or-map, get_or_default, get_or_append_left, get_or_push}
+use Rattle.std.proofs.lemmas.Slice.Eq.{bytes_eq-Decides}
+use Rattle.info65.specs.Code.SegmentTable.{AreKeys, IsHolder}
+use Rattle.info65.specs.Code.Segments.{segment_seen}
+use Rattle.info65.specs.Segments.{AreSegments, blank_segment, contains, first_named, segment_at, segment_covering, segment_key}
+use Rattle.info65.specs.Views.{SegmentView}
+use Rattle.info65.specs.declared.segment.SegmentSpec.{SegmentSpec}
+use Rattle.info65.proofs.Cases.{by_test}
+use Rattle.info65.proofs.SegmentCovering.{covers_one, one_contains}
+
+same_name : (t u : List ℕ) → bytes_eq t u ≡ true → t ≡ u
+same_name t u h = (bytes_eq-Decides t u).0 h
+
+is_name : (t u : List ℕ) → t ≡ u → bytes_eq t u ≡ true
+is_name t u h = (bytes_eq-Decides t u).1 h
+
+-- ---- the keys of a list, in its order
+
+named_head : (s : SegmentView) (ss : List SegmentView) (t : List ℕ) → first_named (s ∷ ss) t ≡ cond (bytes_eq s.name t) (Some s.first) (first_named ss t)
+unfolding first_named
+named_head s ss t = by_test (bytes_eq s.name t) (λ yes. rw yes refl) (λ no. rw no refl)
+
+named_at : (segments : List SegmentView) (k : ℕ) (t : List ℕ) → k < length segments
+    → first_named (drop k segments) t ≡ cond (bytes_eq (segment_at segments k).name t) (Some (segment_at segments k).first) (first_named (drop (k + 1) segments) t)
+named_at segments k t low = at_drop_more (λ ss. first_named ss t) segments k blank_segment low ∙ named_head (segment_at segments k) (drop (k + 1) segments) t
+
+pub named_here : (segments : List SegmentView) (k : ℕ) (t : List ℕ) → k < length segments → bytes_eq (segment_at segments k).name t ≡ true → first_named (drop k segments) t ≡ Some (segment_at segments k).first
+named_here segments k t low hit = named_at segments k t low ∙ ap (λ (b : Bool). cond b (Some (segment_at segments k).first) (first_named (drop (k + 1) segments) t)) hit
+
+pub named_after : (segments : List SegmentView) (k : ℕ) (t : List ℕ) → k < length segments → bytes_eq (segment_at segments k).name t ≡ false → first_named (drop k segments) t ≡ first_named (drop (k + 1) segments) t
+named_after segments k t low miss = named_at segments k t low ∙ ap (λ (b : Bool). cond b (Some (segment_at segments k).first) (first_named (drop (k + 1) segments) t)) miss
+
+pub named_past : (segments : List SegmentView) (k : ℕ) (t : List ℕ) → length segments ≤ k → first_named (drop k segments) t ≡ None
+unfolding first_named
+named_past segments k t past = ap (λ (ss : List SegmentView). first_named ss t) (drop_all k segments past)
+
+-- what was found of a name, or else the first of the segments from this place on, is the first of all
+pub record IsRest (segments : List SegmentView) (k : ℕ) (found : List ℕ → Option ℕ) : Type 0 where
+  pub is : (t : List ℕ) → option_or (found t) (first_named (drop k segments) t) ≡ first_named segments t
+
+pub rest_all : (segments : List SegmentView) (found : List ℕ → Option ℕ) → ((t : List ℕ) → found t ≡ None) → IsRest segments 0 found
+rest_all segments found none = record { is = λ t. ap (λ (o : Option ℕ). option_or o (first_named segments t)) (none t) }
+
+or_else : (o : Option ℕ) (n : ℕ) → option_or o (Some n) ≡ Some (unwrap_or o n)
+or_else None n = refl
+or_else (Some m) n = refl
+
+pub key_here : (segments : List SegmentView) (k : ℕ) (found : List ℕ → Option ℕ) (name : List ℕ) (key : ℕ) → k < length segments → IsRest segments k found → name ≡ (segment_at segments k).name → key ≡ unwrap_or (found name) (segment_at segments k).first
+    → first_named segments name ≡ Some key
+key_here segments k found name key low rest same is =
+    let hit = is_name (segment_at segments k).name name (sym same) in
+    sym (rest.is name)
+    ∙ ap (option_or (found name)) (named_at segments k name low ∙ ap (λ (b : Bool). cond b (Some (segment_at segments k).first) (first_named (drop (k + 1) segments) name)) hit)
+    ∙ or_else (found name) (segment_at segments k).first
+    ∙ ap (λ (n : ℕ). Some n) (sym is)
+
+pub rest_next : (segments : List SegmentView) (k : ℕ) (found more : List ℕ → Option ℕ) (name : List ℕ) (key : ℕ) → k < length segments → IsRest segments k found → name ≡ (segment_at segments k).name → first_named segments name ≡ Some key
+    → ((t : List ℕ) → more t ≡ cond (bytes_eq name t) (Some key) (found t)) → IsRest segments (k + 1) more
+rest_next segments k found more name key low rest same is after = record {
+  is = λ t.
+      by_test (bytes_eq name t)
+      (λ yes.
+      ap (λ (o : Option ℕ). option_or o (first_named (drop (k + 1) segments) t)) (after t ∙ ap (λ (b : Bool). cond b (Some key) (found t)) yes)
+      ∙ sym is
+      ∙ ap (first_named segments) (same_name name t yes))
+      (λ no.
+      let miss : bytes_eq (segment_at segments k).name t ≡ false = ap (λ (n : List ℕ). bytes_eq n t) (sym same) ∙ no in
+      ap (λ (o : Option ℕ). option_or o (first_named (drop (k + 1) segments) t)) (after t ∙ ap (λ (b : Bool). cond b (Some key) (found t)) no)
+      ∙ ap (option_or (found t)) (sym (named_at segments k t low ∙ ap (λ (b : Bool). cond b (Some (segment_at segments k).first) (first_named (drop (k + 1) segments) t)) miss))
+      ∙ rest.is t);
+}
+
+-- ---- names and their keys
+
+record IsNamed (segments : List SegmentView) (name : List ℕ) (key : ℕ) : Type 0 where
+  place : ℕ
+  low : place < length segments
+  named : (segment_at segments place).name ≡ name
+  first : (segment_at segments place).first ≡ key
+
+named_by : (segments : List SegmentView) (name : List ℕ) (key : ℕ) → first_named segments name ≡ Some key → IsNamed segments name key
+unfolding first_named
+named_by [] name key e = absurd cc
+named_by (s ∷ ss) name key e =
+    by_test (bytes_eq s.name name)
+    (λ yes. let same : ◌≡◌ {A = Option ℕ} (Some s.first) (Some key) = rw yes at e in record { place = 0; low = omega arith; named = same_name s.name name yes; first = cc })
+    (λ no. let n = named_by ss name key (rw no at e) in record { place = suc n.place; low = omega (arith, n.low); named = n.named; first = n.first })
+
+first_within : (segments : List SegmentView) (k : ℕ) → AreSegments segments → k < length segments → contains (segment_at segments k) (segment_at segments k).first ≡ true
+first_within segments k are low =
+    let s : SegmentView = segment_at segments k in
+    let ordered : s.first ≤ s.last = (are.each k blank_segment low).ordered in
+    let e : nat_le s.first s.first ≡ true = grind (arith, nat_tests) in
+    let f : nat_le s.first s.last ≡ true = grind (arith, nat_tests, ordered) in
+    rw (e, f) refl
+
+-- two names that have one key are one
+pub one_key : (segments : List SegmentView) (n t : List ℕ) (key : ℕ) → AreSegments segments → first_named segments n ≡ Some key → first_named segments t ≡ Some key → n ≡ t
+one_key segments n t key are is_n is_t =
+    let x = named_by segments n key is_n in
+    let y = named_by segments t key is_t in
+    let there : contains (segment_at segments y.place) (segment_at segments x.place).first ≡ true = ap (contains (segment_at segments y.place)) (x.first ∙ sym y.first) ∙ first_within segments y.place are y.low in
+    let same = one_contains segments (segment_at segments x.place).first x.place y.place are x.low y.low (first_within segments x.place are x.low) there in
+    sym x.named ∙ ap (λ (k : ℕ). (segment_at segments k).name) same ∙ y.named
+
+pub keys_more : (segments : List SegmentView) (keys more : List ℕ) (n key : ℕ) → length keys ≡ n → more ≡ keys ++ key ∷ [] → ((k : ℕ) → k < n → first_named segments (segment_at segments k).name ≡ Some (get_or keys k 0)) → first_named segments (segment_at segments n).name ≡ Some key
+    → (k : ℕ) → k < n + 1 → first_named segments (segment_at segments k).name ≡ Some (get_or more k 0)
+keys_more segments keys more n key long is each last k low =
+    ⊎_elim
+    (λ same. ap (λ (i : ℕ). first_named segments (segment_at segments i).name) same.1 ∙ last ∙ ap (λ (x : ℕ). Some x) (sym (ap (λ (l : List ℕ). get_or l k 0) is ∙ get_or_push keys key 0 k (long ∙ sym same.1))))
+    (λ other.
+    let below : k < length keys = omega (arith, low, long, other.1) in
+    each k (omega (arith, low, other.1)) ∙ ap (λ (x : ℕ). Some x) (sym (ap (λ (l : List ℕ). get_or l k 0) is ∙ get_or_append_left keys (key ∷ []) 0 k below)))
+    (eqb_tells k n)
+
+-- the list that is seen, at a place
+pub seen_at : {Z : Type 0} (specs : List (SegmentSpec Z)) (k : ℕ) (s : SegmentSpec Z) → k < length specs → segment_at (map segment_seen specs) k ≡ segment_seen (get_or specs k s)
+seen_at specs k s low = get_or-map segment_seen specs k s blank_segment low
+
+pub seen_item : {Z : Type 0} (specs : List (SegmentSpec Z)) (k : ℕ) (s : SegmentSpec Z) → k < length specs → s ≡ get_or specs k s → segment_at (map segment_seen specs) k ≡ segment_seen s
+seen_item specs k s low is = seen_at specs k s low ∙ ap segment_seen (sym is)
+
+-- ---- the key of an address
+
+-- the segment that contains the address has a key
+pub holder_keyed : (segments : List SegmentView) (keys : List ℕ) (a place : ℕ) → AreKeys segments keys → IsHolder segments a place → segment_key segments a ≡ Some (get_or keys place 0)
+unfolding segment_key
+holder_keyed segments keys a place are holds = ap (option_and_then (first_named segments)) holds.here ∙ are.each place holds.low
+
+pub none_keyed : (segments : List SegmentView) (a : ℕ) → segment_covering segments a ≡ None → segment_key segments a ≡ None
+unfolding segment_key
+none_keyed segments a none = ap (option_and_then (first_named segments)) none
+
+pub some_keyed : (segments : List SegmentView) (a : ℕ) (name : List ℕ) → segment_covering segments a ≡ Some name → segment_key segments a ≡ first_named segments name
+unfolding segment_key
+some_keyed segments a name some = ap (option_and_then (first_named segments)) some
+
+has_key : (segments : List SegmentView) (k : ℕ) → k < length segments → is_some (first_named segments (segment_at segments k).name) ≡ true
+unfolding first_named
+has_key [] k low = absurd (omega (arith, low))
+has_key (s ∷ ss) zero low = rw (is_name s.name s.name refl) refl
+has_key (s ∷ ss) (suc k) low =
+    by_test (bytes_eq s.name (segment_at ss k).name)
+    (λ yes. rw yes refl)
+    (λ no. rw no (has_key ss k (omega (arith, low))))
+
+-- the name of the segment of an address has a key
+pub covering_keyed : (segments : List SegmentView) (a : ℕ) (name : List ℕ) → AreSegments segments → segment_covering segments a ≡ Some name → is_some (first_named segments name) ≡ true
+covering_keyed segments a name are some =
+    let f = (covers_one segments are a).some name some in
+    ap (λ (n : List ℕ). is_some (first_named segments n)) f.named ∙ has_key segments f.place f.low
+
+pub key_some : {Z : Type 0} (specs lent : List (SegmentSpec Z)) (segments : List SegmentView) (keys : List ℕ) (a place key : ℕ) → map segment_seen specs ≡ segments → lent ≡ specs → AreKeys (map segment_seen specs) keys → IsHolder (map segment_seen lent) a place → key ≡ get_or keys place key
+    → Some key ≡ segment_key segments a
+key_some {Z = Z} specs lent segments keys a place key seen same are holds is =
+    let here : IsHolder (map segment_seen specs) a place = subst (λ (l : List (SegmentSpec Z)). IsHolder (map segment_seen l) a place) same holds in
+    let low : place < length keys = omega (arith, here.low, are.long) in
+    ap (λ (n : ℕ). Some n) (is ∙ sym (get_or_default keys place 0 key low))
+    ∙ sym (holder_keyed (map segment_seen specs) keys a place are here)
+    ∙ ap (λ (l : List SegmentView). segment_key l a) seen
+
+pub key_none : {Z : Type 0} (specs lent : List (SegmentSpec Z)) (segments : List SegmentView) (a : ℕ) → map segment_seen specs ≡ segments → lent ≡ specs → segment_covering (map segment_seen lent) a ≡ None → None ≡ segment_key segments a
+key_none {Z = Z} specs lent segments a seen same none =
+    sym (none_keyed (map segment_seen specs) a (ap (λ (l : List (SegmentSpec Z)). segment_covering (map segment_seen l) a) (sym same) ∙ none))
+    ∙ ap (λ (l : List SegmentView). segment_key l a) seen
