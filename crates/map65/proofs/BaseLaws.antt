@@ -7,10 +7,11 @@ use Rattle.std.proofs.lemmas.Bool.Decides.{nat_tests}
 use Rattle.std.specs.List.{list_any}
 use Rattle.std.specs.Str.{str_eq_ignore_ascii_case}
 use Rattle.isa65.specs.Mnemonic.{mnemonic_named}
+use Rattle.info65.proofs.Public.{layout_some}
 use Rattle.info65.specs.Names.{AreNames, blank_name, covering, covers, default_name, hex_digit, is_like_default, is_reserved, is_upper_hex, name_at, registers}
 use Rattle.info65.specs.Views.{NameView}
 use Rattle.info65.specs.declared.range.RangeType.{RangeType}
-use Rattle.info65.specs.declared.range.RangeType.TheVariants.{Code, ByteTable, WordTable, DbyteTable, AddrTable, RtsTable, TextTable, Skip}
+use Rattle.info65.specs.declared.range.RangeType.TheVariants.{Code}
 use Rattle.map65.proofs.ItemLaws.{begun, item_law}
 use Rattle.map65.proofs.ItemLemmas.{is_cut_at, joined-uncut}
 use Rattle.map65.proofs.NameLemmas.{base-covered, base-wanted, home-default, home-given, last-name, name-low, none-covers}
@@ -22,7 +23,7 @@ use Rattle.map65.specs.Items.{item_len, size_at, size_for, wanted_at}
 use Rattle.map65.specs.MapView.{MapView}
 use Rattle.map65.specs.Names.{Base, IsInner, base_at, base_by, default_base, given_base, home, home_base, is_wanted, place_in, place_of}
 use Rattle.map65.specs.Pieces.{are_joined, is_joined, is_own}
-use Rattle.map65.specs.Roles.{is_skip, is_wide, role_at, role_of}
+use Rattle.map65.specs.Roles.{is_skip, is_wide, role_at, role_of, unit_of}
 use Rattle.map65.specs.declared.name.Place.TheVariants.{Constant, Forward, Label}
 
 -- ---- where a base comes from
@@ -247,16 +248,13 @@ base-free m a b is =
     (λ d. subst (λ (x : Base). IsFree m x.address) (sym d.is) (home-free m d.at d.home_is))
     (source m a b is)
 
+unit-one : (n : ℕ) → 1 ≤ n → nat_lt 1 n ≡ false → n ≡ 1
+unit-one n some narrow = grind (arith, nat_tests)
+
 -- elsewhere only items of code have more than one byte
 code-or-byte : (m : MapView) (r : RangeType) → is_wide r ≡ false → (r ≡ Code) ⊎ ((b : ℕ) → size_for m r b ≡ 1)
 code-or-byte m Code narrow = inl refl
-code-or-byte m ByteTable narrow = inr (λ b. refl)
-code-or-byte m TextTable narrow = inr (λ b. refl)
-code-or-byte m Skip narrow = inr (λ b. refl)
-code-or-byte m WordTable narrow = absurd (false≢true (sym narrow))
-code-or-byte m DbyteTable narrow = absurd (false≢true (sym narrow))
-code-or-byte m AddrTable narrow = absurd (false≢true (sym narrow))
-code-or-byte m RtsTable narrow = absurd (false≢true (sym narrow))
+code-or-byte m r narrow = inr (λ b. unit-one (unit_of r) (layout_some r) narrow)
 
 size-one : (m : MapView) (a : ℕ) → ((b : ℕ) → size_for m (role_of m.info a) b ≡ 1) → size_at m a ≡ 1
 unfolding size_at wanted_at

@@ -3,7 +3,7 @@ use Rattle.std.proofs.Common.{◌≡◌, ◌≢◌, ◌∙◌, ℕ, ◌+◌, ◌
 use Rattle.std.proofs.lemmas.Bool.{cases_eq, cond_both, eq-eqb, eqb-false, ne_eqb}
 use Rattle.std.proofs.lemmas.List.{get_or-set_other, get_or-set_same}
 use Rattle.info65.specs.declared.range.RangeType.{RangeType}
-use Rattle.info65.specs.declared.range.RangeType.TheVariants.{Code, ByteTable, WordTable, DbyteTable, AddrTable, RtsTable, TextTable, Skip}
+use Rattle.info65.specs.declared.range.RangeType.TheVariants.{Code}
 use Rattle.map65.specs.Code.Cells.{CellLaw, HasBits, cell_of, coded, has_bit, has_border, is_wide_cell, is_wide_role, len_in_cell, role_in_cell, with_bit, with_len}
 use Rattle.map65.specs.Cells.{bit, code_of}
 
@@ -19,13 +19,7 @@ pub coded-code : (r : Option RangeType) → coded (code_of r) ≡ r
 unfolding code_of coded
 coded-code None = refl
 coded-code (Some Code) = refl
-coded-code (Some ByteTable) = refl
-coded-code (Some WordTable) = refl
-coded-code (Some DbyteTable) = refl
-coded-code (Some AddrTable) = refl
-coded-code (Some RtsTable) = refl
-coded-code (Some TextTable) = refl
-coded-code (Some Skip) = refl
+coded-code (Some _) = refl
 
 -- what the lower seven bits say
 pub cell-role : (c : ℕ) (r : Option RangeType) (n : ℕ) → n < 8 → c % 128 ≡ cell_of r n → role_in_cell c ≡ r

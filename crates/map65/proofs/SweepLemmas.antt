@@ -111,30 +111,30 @@ size-whole m w i a is past so_far =
     let whole : are_joined m (wanted_at m a - 1) a ≡ true = sym (ap (λ (k : ℕ). are_joined m (k - 1) a) is) ∙ sym so_far ∙ here in
     is ∙ sym (cond-true _ (wanted_at m a) 1 whole)
 
-len-small : (x : Mode) → len_of x ≤ 3
+len-small : (x : Mode) → len_of x ≤ 4
 len-small Imp = omega arith
 len-small _ = omega arith
 
-code_size-small : (o : Option Op) → code_size o ≤ 3
+code_size-small : (o : Option Op) → code_size o ≤ 4
 code_size-small None = omega arith
 code_size-small (Some op) = len-small op.mode
 
-size_for-small : (m : MapView) (r : RangeType) (b : ℕ) → size_for m r b ≤ 3
+size_for-small : (m : MapView) (r : RangeType) (b : ℕ) → size_for m r b ≤ 4
 size_for-small m Code b = code_size-small (decoded (opcodes m) b)
 size_for-small m _ b = omega arith
 
-wanted-small : (m : MapView) (a : ℕ) → wanted_at m a ≤ 3
+wanted-small : (m : MapView) (a : ℕ) → wanted_at m a ≤ 4
 unfolding wanted_at
 wanted-small m a = size_for-small m (role_of m.info a) (byte_at m.image a)
 
-size-small : (m : MapView) (a : ℕ) → size_at m a ≤ 3
+size-small : (m : MapView) (a : ℕ) → size_at m a ≤ 4
 unfolding size_at
-size-small m a = cond_both (are_joined m (wanted_at m a - 1) a) (wanted_at m a) 1 (λ n. n ≤ 3) (λ _. wanted-small m a) (λ _. omega arith)
+size-small m a = cond_both (are_joined m (wanted_at m a - 1) a) (wanted_at m a) 1 (λ n. n ≤ 4) (λ _. wanted-small m a) (λ _. omega arith)
 
-pub item-small : (m : MapView) (a : ℕ) → item_len m a ≤ 3
+pub item-small : (m : MapView) (a : ℕ) → item_len m a ≤ 4
 unfolding item_len
 item-small m a =
-    cond_both (is_inside m.image a && (not (is_skip (role_of m.info a)) && left_at (size_at m) m.image.start (a - m.image.start) == 0)) (size_at m a) 0 (λ n. n ≤ 3) (λ _. size-small m a) (λ _. omega arith)
+    cond_both (is_inside m.image a && (not (is_skip (role_of m.info a)) && left_at (size_at m) m.image.start (a - m.image.start) == 0)) (size_at m a) 0 (λ n. n ≤ 4) (λ _. size-small m a) (λ _. omega arith)
 
 -- an item ends in the image
 pub item-fits : (m : MapView) (a : ℕ) → 0 < item_len m a → a + item_len m a ≤ end_of m.image

@@ -7,13 +7,15 @@ use Rattle.isa65.specs.declared.mnemonic.Mnemonic.{Mnemonic}
 use Rattle.isa65.specs.declared.mode.Mode.{Mode}
 use Rattle.isa65.specs.declared.mode.Mode.TheVariants.{Acc, Imp}
 use Rattle.isa65.specs.declared.op.Op.{Op}
+use Rattle.info65.specs.Layouts.{layout_of}
+use Rattle.info65.specs.declared.range.Entry.{Entry}
+use Rattle.info65.specs.declared.range.Entry.TheVariants.{Address, Instruction, Return}
 use Rattle.info65.specs.declared.range.RangeType.{RangeType}
-use Rattle.info65.specs.declared.range.RangeType.TheVariants.{AddrTable, Code, RtsTable}
 use Rattle.map65.specs.ImageView.{ImageView, bytes_from}
 use Rattle.map65.specs.Items.{item_len}
 use Rattle.map65.specs.MapView.{MapView, opcodes}
 use Rattle.map65.specs.Roles.{role_of}
-use Rattle.map65.specs.Targets.{code_target, operand_target, target_at, target_for}
+use Rattle.map65.specs.Targets.{code_target, entry_target, operand_target, target_at, target_for}
 
 -- an instruction without operands has no target
 none-alone : (image : ImageView) (m : Mnemonic) (x : Mode) (a : ℕ) (bytes : List ℕ) → len_of x < 2 → operand_target image m x a bytes ≡ None
@@ -32,12 +34,15 @@ code-short image (Some op) n a bytes short =
     none-if (n == len_of op.mode) (operand_target image op.mnemonic op.mode a bytes)
     (λ same. none-alone image op.mnemonic op.mode a bytes (omega (arith, eqb-true n (len_of op.mode) same, short)))
 
+entry-short : (m : MapView) (e : Entry) (n a : ℕ) (bytes : List ℕ) → n < 2 → entry_target m e n a bytes ≡ None
+entry-short m Instruction n a bytes short = code-short m.image (decoded (opcodes m) (get_or bytes 0 0)) n a bytes short
+entry-short m Address n a bytes short = let other : (n == 2) ≡ false = ne_eqb n 2 (λ is. absurd (omega (arith, is, short))) in rw other refl
+entry-short m Return n a bytes short = let other : (n == 2) ≡ false = ne_eqb n 2 (λ is. absurd (omega (arith, is, short))) in rw other refl
+entry-short m _ n a bytes short = refl
+
 target-short : (m : MapView) (r : RangeType) (n a : ℕ) (bytes : List ℕ) → n < 2 → target_for m r n a bytes ≡ None
 unfolding target_for
-target-short m Code n a bytes short = code-short m.image (decoded (opcodes m) (get_or bytes 0 0)) n a bytes short
-target-short m AddrTable n a bytes short = let other : (n == 2) ≡ false = ne_eqb n 2 (λ is. absurd (omega (arith, is, short))) in rw other refl
-target-short m RtsTable n a bytes short = let other : (n == 2) ≡ false = ne_eqb n 2 (λ is. absurd (omega (arith, is, short))) in rw other refl
-target-short m _ n a bytes short = refl
+target-short m r n a bytes short = entry-short m (layout_of r).entry n a bytes short
 
 pub short-at : (m : MapView) (a : ℕ) → item_len m a < 2 → target_at m a ≡ None
 unfolding target_at

@@ -26,6 +26,7 @@ code_of (Some role.AddrTable) = 5
 code_of (Some role.RtsTable) = 6
 code_of (Some role.TextTable) = 7
 code_of (Some role.Skip) = 8
+code_of (Some role.DwordTable) = 9
 
 -- 1 for true, 0 for false
 abbrev pub bit : Bool → ℕ

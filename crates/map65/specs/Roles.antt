@@ -2,8 +2,11 @@
 use Rattle.std.specs.Prelude.{◌≡◌, ℕ, Bool, true, false, List, [], ◌∷◌, All, Option, Some, None, nat_lt, if◌then◌else◌}
 use denote.Enum.Bare.{sameb}
 use Rattle.info65.specs.contracts.range.RangeType as range_type
+use Rattle.info65.specs.Layouts.{layout_of}
 use Rattle.info65.specs.Ranges.{AreDisjoint, has_address}
 use Rattle.info65.specs.Views.{InfoView}
+use Rattle.info65.specs.declared.range.Entry.{Entry}
+use Rattle.info65.specs.declared.range.Entry.TheVariants.{Skipped}
 use Rattle.info65.specs.declared.range.RangeSpec.{RangeSpec}
 use Rattle.info65.specs.declared.range.RangeType.{RangeType}
 use Rattle.info65.specs.declared.range.RangeType.TheVariants as role
@@ -25,21 +28,17 @@ role_at m a = if is_inside m.image a then Some (role_of m.info a) else None
 abbrev pub is_role : RangeType → RangeType → Bool
 is_role r q = sameb range_type.the_type r q
 
+abbrev pub is_skipped : Entry → Bool
+is_skipped Skipped = true
+is_skipped _ = false
+
 -- bytes of this role are not listed
 abbrev pub is_skip : RangeType → Bool
-is_skip role.Skip = true
-is_skip _ = false
+is_skip r = is_skipped (layout_of r).entry
 
 -- how many bytes an entry of a table has
 abbrev pub unit_of : RangeType → ℕ
-unit_of role.Code = 1
-unit_of role.ByteTable = 1
-unit_of role.WordTable = 2
-unit_of role.DbyteTable = 2
-unit_of role.AddrTable = 2
-unit_of role.RtsTable = 2
-unit_of role.TextTable = 1
-unit_of role.Skip = 1
+unit_of r = (layout_of r).unit
 
 -- a table whose entries have more than one byte
 abbrev pub is_wide : RangeType → Bool

@@ -3,7 +3,7 @@
 -- The operands of `jmp` to an absolute address, of `jsr` and of relative instructions are targets wherever they lie, and so are the
 -- entries of address tables, and those of return tables plus one. The operands of all other absolute modes are targets only inside
 -- the image, skipped bytes included. A branch out of the address space has no target, nor has the return entry $FFFF. Zero-page
--- operands, words and dbytes are no targets, and undefined and cut opcodes and leftover bytes have none.
+-- operands, numbers and text are no targets, and undefined and cut opcodes and leftover bytes have none.
 use Rattle.std.specs.Prelude.{◌≡◌, ℕ, ◌+◌, ◌-◌, ◌*◌, ◌<◌, ◌==◌, ◌||◌, nat_le, nat_lt, Bool, if◌then◌else◌, List, slice_index, Option, Some, None}
 use denote.Enum.Bare.{sameb}
 use Rattle.isa65.specs.Mode.{len_of}
@@ -14,8 +14,10 @@ use Rattle.isa65.specs.declared.mnemonic.Mnemonic.TheVariants.{Jmp, Jsr}
 use Rattle.isa65.specs.declared.mode.Mode.{Mode}
 use Rattle.isa65.specs.declared.mode.Mode.TheVariants.{Imp, Acc, Imm, Zp, Zpx, Zpy, Abs, Absx, Absy, Ind, Indx, Indy, Zpind, Absindx, Rel, Zprel}
 use Rattle.isa65.specs.declared.op.Op.{Op}
+use Rattle.info65.specs.Layouts.{layout_of}
+use Rattle.info65.specs.declared.range.Entry.{Entry}
+use Rattle.info65.specs.declared.range.Entry.TheVariants as entry
 use Rattle.info65.specs.declared.range.RangeType.{RangeType}
-use Rattle.info65.specs.declared.range.RangeType.TheVariants as role
 use Rattle.map65.specs.ImageView.{ImageView, bytes_from, is_inside}
 use Rattle.map65.specs.Items.{item_len}
 use Rattle.map65.specs.MapView.{MapView, opcodes}
@@ -80,16 +82,18 @@ entry_of bytes = slice_index bytes 0 + 256 * slice_index bytes 1
 abbrev pub return_target : ℕ → Option ℕ
 return_target word = if word == 65535 then None else Some (word + 1)
 
+-- the target of an entry of n bytes at an address, whose bytes are the first of these
+abbrev pub entry_target : MapView → Entry → ℕ → ℕ → List ℕ → Option ℕ
+entry_target m entry.Instruction n a bytes = code_target m.image (decoded (opcodes m) (slice_index bytes 0)) n a bytes
+entry_target m entry.Address n a bytes = if n == 2 then Some (entry_of bytes) else None
+entry_target m entry.Return n a bytes = if n == 2 then return_target (entry_of bytes) else None
+entry_target m (entry.Number order) n a bytes = None
+entry_target m entry.Character n a bytes = None
+entry_target m entry.Skipped n a bytes = None
+
 -- the target of an item of this role and of n bytes at an address, whose bytes are the first of these
 unfoldable pub target_for : MapView → RangeType → ℕ → ℕ → List ℕ → Option ℕ
-target_for m role.Code n a bytes = code_target m.image (decoded (opcodes m) (slice_index bytes 0)) n a bytes
-target_for m role.AddrTable n a bytes = if n == 2 then Some (entry_of bytes) else None
-target_for m role.RtsTable n a bytes = if n == 2 then return_target (entry_of bytes) else None
-target_for m role.ByteTable n a bytes = None
-target_for m role.WordTable n a bytes = None
-target_for m role.DbyteTable n a bytes = None
-target_for m role.TextTable n a bytes = None
-target_for m role.Skip n a bytes = None
+target_for m r n a bytes = entry_target m (layout_of r).entry n a bytes
 
 -- the target of the item that begins at the address; none if no item does
 unfoldable pub target_at : MapView → ℕ → Option ℕ

@@ -23,6 +23,7 @@ fn code_of(role: Option<RangeType>) -> u16
         Some(RangeType::RtsTable) => 6,
         Some(RangeType::TextTable) => 7,
         Some(RangeType::Skip) => 8,
+        Some(RangeType::DwordTable) => 9,
     }
 }
 
@@ -39,6 +40,7 @@ fn coded(code: u16) -> Option<RangeType>
         6 => Some(RangeType::RtsTable),
         7 => Some(RangeType::TextTable),
         8 => Some(RangeType::Skip),
+        9 => Some(RangeType::DwordTable),
         _ => None,
     }
 }

@@ -30,6 +30,6 @@ pub use laws::{
 pub use map::Map;
 pub use name::{NameBuf, NameKind, Place};
 pub use reading::{read_image, take_up_to};
-pub use roles::unit_of;
+pub use roles::{is_skip, unit_of};
 pub use target::{target_of, word_of};
 pub use told::Told;

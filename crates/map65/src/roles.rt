@@ -3,19 +3,15 @@
 ghost use Rattle.std.specs.Prelude.{◌≡◌, ◌≤◌};
 ghost use Rattle.map65.specs.Roles.{is_skip, is_wide, unit_of};
 
-use info65::RangeType;
+use info65::{Entry, RangeType};
 
 /// Returns how many bytes an entry of a table of this role has, and 1 for what is no table.
 pub fn unit_of(role: RangeType) -> u8
     ensures value { result ≡ unit_of role }
     ensures positive { 1 ≤ result }
-    ensures small { result ≤ 3 }
+    ensures small { result ≤ 4 }
 {
-    match role {
-        RangeType::WordTable | RangeType::DbyteTable | RangeType::AddrTable | RangeType::RtsTable =>
-            2,
-        RangeType::Code | RangeType::ByteTable | RangeType::TextTable | RangeType::Skip => 1,
-    }
+    role.layout().unit
 }
 
 /// Returns whether entries of a table of this role have more than one byte.
@@ -29,5 +25,5 @@ pub fn is_wide(role: RangeType) -> bool
 pub fn is_skip(role: RangeType) -> bool
     ensures { result ≡ is_skip role }
 {
-    matches!(role, RangeType::Skip)
+    matches!(role.layout().entry, Entry::Skipped)
 }

@@ -125,7 +125,7 @@ fn wanted_at<A: Allocator>(
     requires role { role ≡ role_of info.now address }
     ensures value { result ≡ wanted_at (record { info = info.now; image = image.now }) address }
     ensures positive { 1 ≤ result }
-    ensures small { result ≤ 3 }
+    ensures small { result ≤ 4 }
 {
     match role {
         RangeType::Code => {
@@ -155,7 +155,7 @@ fn size_at<A: Allocator>(
     requires own { HasBits (is_own info.now.names) cells.now }
     ensures value { result ≡ size_at (record { info = info.now; image = image.now }) address }
     ensures positive { 1 ≤ result }
-    ensures small { result ≤ 3 }
+    ensures small { result ≤ 4 }
 {
     let wanted = wanted_at(info, image, opcodes, role, address);
     let first = usize::from(address);
@@ -184,7 +184,7 @@ fn mark_item<A: Allocator>(
     requires marked { AreMarkedBelow (record { info = info.now; image = image.now }) address cells.old }
     requires own { HasBits (is_own info.now.names) cells.old }
     ensures positive { 1 ≤ result }
-    ensures small { result ≤ 3 }
+    ensures small { result ≤ 4 }
     ensures begins { left_at (size_at (record { info = info.now; image = image.now })) image.now.start (address + result - image.now.start) ≡ 0 }
     ensures marked { AreMarkedBelow (record { info = info.now; image = image.now }) (address + result) cells.new }
     ensures own { HasBits (is_own info.now.names) cells.new }

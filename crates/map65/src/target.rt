@@ -10,7 +10,7 @@ ghost use Rattle.map65.specs.Roles.{role_of};
 ghost use Rattle.map65.specs.Targets.{code_target, entry_of, is_jump, only_inside, operand_target, return_target, target_at, target_for, target_of, word_of};
 
 use crate::image::Image;
-use info65::{Info, RangeType};
+use info65::{Entry, Info, RangeType};
 use isa65::{DecodeTable, Mnemonic, Mode, Op, OpcodeSet};
 use std::alloc::Allocator;
 
@@ -155,25 +155,21 @@ fn target_for<A: Allocator>(
     requires room { address + len ≤ 65536 }
     ensures { result ≡ target_for (record { info = info.now; image = image.now }) role len address bytes.now }
 {
-    match role {
-        RangeType::Code => code_target(image, opcodes, len, address, bytes),
-        RangeType::AddrTable => {
+    match role.layout().entry {
+        Entry::Instruction => code_target(image, opcodes, len, address, bytes),
+        Entry::Address => {
             if len == 2 {
                 return Some(entry_of(bytes));
             }
             None
         }
-        RangeType::RtsTable => {
+        Entry::Return => {
             if len == 2 {
                 return return_target(entry_of(bytes));
             }
             None
         }
-        RangeType::ByteTable
-        | RangeType::WordTable
-        | RangeType::DbyteTable
-        | RangeType::TextTable
-        | RangeType::Skip => None,
+        Entry::Number(_) | Entry::Character | Entry::Skipped => None,
     }
 }
 

@@ -1,6 +1,7 @@
 //! Any `std::io::Read` or `Write` as a device.
 
-ghost use Rattle.std.specs.Prelude.{◌≡◌};
+ghost use Rattle.std.specs.Prelude.{◌≡◌, ◌<◌, ◌⊎◌, IfErr, IfOk, IsErr, MatchResult, Ok, length};
+ghost use Rattle.map65.specs.Device.{Counts};
 ghost use Rattle.map65.specs.Told.{told_inner, told_faults};
 
 use crate::device::{DeviceFault, Sink, Source};
@@ -23,19 +24,40 @@ impl<T> Told<T> {
     }
 }
 
+/// Passes on what a call came to, and counts it if it failed.
+fn counted<E: Drop>(faults: &mut u64, call: Result<usize, E>) -> Result<usize, DeviceFault>
+    ensures same { MatchResult call (λ n. result ≡ Ok n) (λ _. IsErr result) }
+    ensures count { Counts faults.old faults.new result }
+{
+    match call {
+        Ok(n) => Ok(n),
+        Err(_) => {
+            *faults = faults.saturating_add(1);
+            Err(DeviceFault)
+        }
+    }
+}
+
+/// What a write of these bytes came to. It failed, too, if it took none of them.
+fn progress<E: Drop>(call: Result<usize, E>, bytes: &[u8]) -> Result<usize, DeviceFault>
+    ensures some { IfOk call (λ n. (length bytes.now ≡ 0) ⊎ (0 < n) → result ≡ Ok n) }
+    ensures none { IfOk call (λ n. n ≡ 0 → 0 < length bytes.now → IsErr result) }
+    ensures failed { IfErr call (λ _. IsErr result) }
+{
+    match call {
+        Ok(n) if 0 < n || bytes.is_empty() => Ok(n),
+        _ => Err(DeviceFault),
+    }
+}
+
 impl<T: Read> Source for Told<T> {
     ghost left = { λ t. T.remaining t.inner };
 
     ghost faults = { λ t. t.faults };
 
     fn read_some(&mut self, buf: &mut [u8]) -> Result<usize, DeviceFault> {
-        match self.inner.read(buf) {
-            Ok(n) => Ok(n),
-            Err(_) => {
-                self.faults = self.faults.saturating_add(1);
-                Err(DeviceFault)
-            }
-        }
+        let call = self.inner.read(buf);
+        counted(&mut self.faults, call)
     }
 }
 
@@ -45,12 +67,7 @@ impl<T: Write> Sink for Told<T> {
     ghost faults = { λ t. t.faults };
 
     fn write_some(&mut self, bytes: &[u8]) -> Result<usize, DeviceFault> {
-        match self.inner.write(bytes) {
-            Ok(n) if 0 < n || bytes.is_empty() => Ok(n),
-            _ => {
-                self.faults = self.faults.saturating_add(1);
-                Err(DeviceFault)
-            }
-        }
+        let call = progress(self.inner.write(bytes), bytes);
+        counted(&mut self.faults, call)
     }
 }

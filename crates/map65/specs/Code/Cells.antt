@@ -23,7 +23,8 @@ coded n =
     else (if n == 6 then Some role.RtsTable
     else (if n == 7 then Some role.TextTable
     else (if n == 8 then Some role.Skip
-    else None)))))))
+    else (if n == 9 then Some role.DwordTable
+    else None))))))))
 
 -- The cell of a role and an item's length: the role's code in the lowest four bits, the length in the next three, and 0 in the others.
 unfoldable pub cell_of : Option RangeType → ℕ → ℕ
