@@ -35,13 +35,8 @@ group-line m k here low shown = go (role_of m.info (m.image.start + k)) refl
   where
     go : (r : RangeType) → role_of m.info (m.image.start + k) ≡ r → BeginsLine m (m.image.start + k) r
     go role.Code e = tt
-    go role.ByteTable e = table-line m k role.ByteTable (record { sizes = λ b. refl; listed = refl; other = refl }) here low e
-    go role.WordTable e = table-line m k role.WordTable (record { sizes = λ b. refl; listed = refl; other = refl }) here low e
-    go role.DbyteTable e = table-line m k role.DbyteTable (record { sizes = λ b. refl; listed = refl; other = refl }) here low e
-    go role.AddrTable e = table-line m k role.AddrTable (record { sizes = λ b. refl; listed = refl; other = refl }) here low e
-    go role.RtsTable e = table-line m k role.RtsTable (record { sizes = λ b. refl; listed = refl; other = refl }) here low e
-    go role.TextTable e = table-line m k role.TextTable (record { sizes = λ b. refl; listed = refl; other = refl }) here low e
     go role.Skip e = absurd (true≢false (sym (ap is_skip e) ∙ shown))
+    go r e = table-line m k r (record { sizes = λ b. refl; listed = refl; other = refl }) here low e
 
 begins-then : (m : MapView) (a : ℕ) → begins m a ≡ true → (0 < item_len m a) × BeginsLine m a (role_of m.info a)
 begins-then m a is =
@@ -120,13 +115,8 @@ no-line m p k h line = go (role_of m.info (m.image.start + k)) refl line
   where
     go : (r : RangeType) → role_of m.info (m.image.start + k) ≡ r → BeginsLine m (m.image.start + k) r → ⊥
     go role.Code e line = no-code m p k h role.Code e (limit-code m (m.image.start + p) (role-inside m p k h ∙ e))
-    go role.ByteTable e line = no-table m p k h role.ByteTable e (record { sizes = λ b. refl; listed = refl; other = refl }) line
-    go role.WordTable e line = no-table m p k h role.WordTable e (record { sizes = λ b. refl; listed = refl; other = refl }) line
-    go role.DbyteTable e line = no-table m p k h role.DbyteTable e (record { sizes = λ b. refl; listed = refl; other = refl }) line
-    go role.AddrTable e line = no-table m p k h role.AddrTable e (record { sizes = λ b. refl; listed = refl; other = refl }) line
-    go role.RtsTable e line = no-table m p k h role.RtsTable e (record { sizes = λ b. refl; listed = refl; other = refl }) line
-    go role.TextTable e line = no-table m p k h role.TextTable e (record { sizes = λ b. refl; listed = refl; other = refl }) line
     go role.Skip e line = true≢false (sym (ap is_skip (role-inside m p k h ∙ e)) ∙ h.shown)
+    go r e line = no-table m p k h r e (record { sizes = λ b. refl; listed = refl; other = refl }) line
 
 begins-at : (m : MapView) (k : ℕ) → k < length m.image.bytes → is_skip (role_of m.info (m.image.start + k)) ≡ false → left_at (size_at m) m.image.start k ≡ 0
     → BeginsLine m (m.image.start + k) (role_of m.info (m.image.start + k)) → begins m (m.image.start + k) ≡ true

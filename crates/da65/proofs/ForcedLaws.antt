@@ -14,7 +14,7 @@ use Rattle.stmt65.specs.SourceLine.{Form, Value, Instr, Direct, DirectX, DirectY
 use Rattle.stmt65.specs.declared.source_line.AddressSize.TheVariants.{Automatic}
 use Rattle.stmt65.specs.Printed.{source_form, source_value}
 use Rattle.stmt65.specs.Symbols.{Definition, has_zero_page_size}
-use Rattle.stmt65.specs.Coding.{Fixed, LowFirst, ZeroPage, coding}
+use Rattle.stmt65.specs.Coding.{Fixed, word_operand, ZeroPage, coding}
 use Rattle.map65.specs.ImageView.{ImageView}
 use Rattle.map65.specs.Targets.{word_of}
 use Rattle.da65.specs.BaseNames.{AreSound, Names}
@@ -39,7 +39,7 @@ module _ (image : ImageView) (m : Names) (p : ℕ → Bool) (names : AreSound im
   -- a mnemonic that has a zero-page mode is coded in that one, if it codes this form so
   shorter : (zp : Mode) (v : Value) (form : Form) → is_some (cond (is_some (encoded (table_of cpu) n zp)) (Some zp) None) ≡ true
       → ((z : ℕ) → encoded (table_of cpu) n zp ≡ Some z → coding cpu above (Instr n form) ≡ Some (Fixed z ∷ ZeroPage v ∷ []))
-      → coding cpu above (Instr n form) ≡ Some (Fixed b ∷ LowFirst v ∷ []) → ⊥
+      → coding cpu above (Instr n form) ≡ Some (Fixed b ∷ word_operand v ∷ []) → ⊥
   shorter zp v form has codes h = go (encoded (table_of cpu) n zp) refl has
     where
       go : (o : Option ℕ) → encoded (table_of cpu) n zp ≡ o → is_some (cond (is_some o) (Some zp) None) ≡ true → ⊥

@@ -1,8 +1,7 @@
 -- Groups, byte by byte.
 use Rattle.std.proofs.Common.{◌≡◌, ◌≢◌, ◌∙◌, ℕ, zero, suc, ◌+◌, ◌-◌, ◌<◌, ◌≤◌, ◌&&◌, ◌==◌, nat_le, nat_lt, not, Bool, true, false, List, [], ◌∷◌, length, refl, ap, sym, subst, arith, ⊎_elim, if◌then◌else◌}
 use Rattle.std.proofs.lemmas.Bool.{and_parts, and_from, cond-true, cond-false, cond_both, cases_eq, cases_lt, eq-eqb, ne_eqb, eqb-true, lt-ltb, ltb-true, leb-true, le-leb, not-true}
-use Rattle.info65.specs.declared.range.RangeType.{RangeType}
-use Rattle.info65.specs.declared.range.RangeType.TheVariants as role
+use Rattle.info65.proofs.Public.{layout_some}
 use Rattle.map65.specs.ImageView.{end_of, is_inside}
 use Rattle.map65.specs.Items.{item_len, size_at}
 use Rattle.map65.specs.MapView.{MapView}
@@ -48,17 +47,6 @@ item-begun m a some =
       size = item-len-true m a is;
     }
 
--- an item that is as long as its role's has a byte
-pub unit-positive : (r : RangeType) → 1 ≤ unit_of r
-unit-positive role.Code = omega arith
-unit-positive role.ByteTable = omega arith
-unit-positive role.WordTable = omega arith
-unit-positive role.DbyteTable = omega arith
-unit-positive role.AddrTable = omega arith
-unit-positive role.RtsTable = omega arith
-unit-positive role.TextTable = omega arith
-unit-positive role.Skip = omega arith
-
 -- ---- the items that go on
 
 -- what is known of an item that goes on
@@ -74,7 +62,7 @@ item-goes-on m a is =
     let both = and_parts (is_joined m a) (is_whole m a && not (is_defined m a)) is in
     let more = and_parts (is_whole m a) (not (is_defined m a)) both.1 in
     let whole : item_len m a ≡ unit_of (role_of m.info a) = eqb-true (item_len m a) (unit_of (role_of m.info a)) more.0 in
-    record { joined = both.0; whole = whole; some = omega (arith, whole, unit-positive (role_of m.info a)); unnamed = not-true (is_defined m a) more.1 }
+    record { joined = both.0; whole = whole; some = omega (arith, whole, layout_some (role_of m.info a)); unnamed = not-true (is_defined m a) more.1 }
 
 pub more-none : (m : MapView) (a : ℕ) → more_at m 0 a ≡ 0
 unfolding more_at

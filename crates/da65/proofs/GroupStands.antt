@@ -1,5 +1,5 @@
 -- One statement with operands by name, in its state: it has no fault, and gives its bytes.
-use Rattle.std.proofs.Common.{◌≡◌, ◌⊎◌, ℕ, zero, suc, Bool, true, false, cond, eqb, ◌+◌, ◌-◌, ◌%◌, ◌<◌, ◌≤◌, inl, inr, List, [], ◌∷◌, length, take, drop, map, Option, Some, None, refl, ap, sym, subst, ◌∙◌, arith}
+use Rattle.std.proofs.Common.{◌≡◌, ◌⊎◌, ℕ, zero, suc, Bool, true, false, cond, eqb, ◌+◌, ◌-◌, ◌%◌, ◌==◌, ◌<◌, ◌≤◌, inl, inr, List, [], ◌∷◌, length, take, drop, map, Option, Some, None, refl, ap, sym, subst, ◌∙◌, arith}
 use Rattle.std.specs.Prelude.{IfSome, nat_lt}
 use Rattle.std.specs.List.{flat_map}
 use Rattle.std.proofs.lemmas.Bool.{cond_both, eqb-true, ltb-false}
@@ -11,27 +11,37 @@ use Rattle.isa65.specs.Mode.{len_of}
 use Rattle.isa65.specs.Opcodes.{Table}
 use Rattle.isa65.specs.OpcodeLaws.{encoded-decoded}
 use Rattle.isa65.specs.declared.op.Op.{Op}
+use Rattle.isa65.specs.declared.byte_order.ByteOrder.{ByteOrder}
+use Rattle.isa65.specs.declared.byte_order.ByteOrder.TheVariants.{LittleEndian}
+use Rattle.info65.proofs.Public.{layout_entry}
+use Rattle.info65.specs.Layouts.{IsEntry, layout_of}
+use Rattle.info65.specs.declared.range.Entry.{Entry as TableEntry}
+use Rattle.info65.specs.declared.range.Entry.TheVariants.{Instruction, Number, Address, Return, Character, Skipped}
 use Rattle.info65.specs.declared.range.RangeType.{RangeType}
-use Rattle.info65.specs.declared.range.RangeType.TheVariants as role
 use Rattle.stmt65.specs.Views as view
 use Rattle.stmt65.specs.Views.{OperandsView, StatementView}
-use Rattle.stmt65.specs.SourceLine.{Value, NumberValue, NameValue, Operation, Instr, Data, SourceLine, Statement, Words, Dbyts}
-use Rattle.stmt65.specs.Printed.{source_form, source_line}
+use Rattle.stmt65.specs.SourceLine.{Value, NumberValue, NameValue, Operation, Instr, Data, SourceLine, Statement, Values}
+use Rattle.stmt65.specs.Printed.{entry_value, source_form, source_line}
 use Rattle.stmt65.specs.declared.source_line.Minus.TheVariants.{Zero, One}
 use Rattle.stmt65.specs.Symbols.{Definition}
-use Rattle.stmt65.specs.Coding.{Fixed, HighFirst, LowFirst, coding, datum_fragments}
-use Rattle.stmt65.specs.Tables.{high_words, low_words, cut_text}
+use Rattle.stmt65.specs.declared.directive.Directive.{Directive}
+use Rattle.stmt65.specs.declared.directive.Directive.TheVariants.{Word, Addr}
+use Rattle.stmt65.specs.Directives.{entry_len, order_of}
+use Rattle.stmt65.specs.Coding.{Fixed, Entry, coding, datum_fragments}
+use Rattle.stmt65.specs.Tables.{entries, cut_text}
 use Rattle.stmt65.specs.Meaning.{State, has_unknown_cpu, cpu_after, operation_in}
 use Rattle.map65.specs.ImageView.{AreBytes, ImageView}
 use Rattle.map65.specs.Names.{Base}
-use Rattle.map65.specs.Roles.{is_skip}
+use Rattle.map65.specs.Roles.{is_skip, is_skipped, unit_of}
 use Rattle.map65.specs.Targets.{entry_of}
 use Rattle.da65.specs.BaseNames.{AreSound, IsBaseOf, Names}
+use Rattle.da65.specs.Groups.{limit_of}
 use Rattle.da65.specs.Instructions.{instruction_in, size_of}
 use Rattle.da65.specs.KnownNames.{KnowsAll, KnowsConstants}
 use Rattle.da65.specs.ReassemblyLaw.{GivesBytes, GroupGivesItsBytes, IsWritten, ItemGivesItsBytes, ModeIsChosenBack, fragments_in, item_in}
-use Rattle.da65.specs.Shapes.{AreWords, IsGroupOf}
-use Rattle.da65.specs.Statements.{addr_from, address_entry, bytes_statement, is_forced, operands_of, return_entry, rts_from, rts_to, statement_for, statement_in, statement_of, words_or_byte, written}
+use Rattle.da65.specs.Shapes.{AreEntries, IsGroupOf, IsLineOf}
+use Rattle.da65.specs.Statements.{addr_from, address_entry, bytes_statement, directive_of, entries_or_byte, is_forced, numbers, operands_of, return_entry, rts_from, rts_to, statement_by, statement_for, statement_in, statement_of, written}
+use Rattle.da65.proofs.EntryLemmas.{address_bytes, are_table, directive_is}
 use Rattle.da65.proofs.FragmentLaws.{FragmentsGive, fixed_gives, no_fragments}
 use Rattle.da65.proofs.LabelLaws.{group_takes, item_takes, label_read}
 use Rattle.da65.proofs.WorthLaws.{AlwaysWorth, word_worth_gives}
@@ -39,7 +49,7 @@ use Rattle.da65.proofs.OperandLaws.{bytes_of_operands, operands_code}
 use Rattle.da65.proofs.ValueLaws.{IsWorth, before_worth, is-base, name_worth, number_worth}
 use Rattle.da65.proofs.StandsLaws.{Stands, after_unlabelled, at_some, begins_with, bytes_stand, data_stands, len_positive, no_fault}
 use Rattle.da65.proofs.WrittenLaws.{first_byte, other_bytes}
-use Rattle.da65.proofs.TableLaws.{high_words_give, low_words_give, text_give}
+use Rattle.da65.proofs.TableLaws.{entries_give, text_give}
 
 -- ---- instructions
 
@@ -60,16 +70,13 @@ first_again : (n b : ℕ) (past bytes : List ℕ) → bytes ≡ b ∷ past → 1
 first_again zero b past bytes e some = absurd (omega arith)
 first_again (suc n) b past bytes e some = rw e refl
 
+line_listed : (t : Table) (unit per_line : ℕ) (e : TableEntry) (bytes : List ℕ) → IsLineOf t unit per_line e bytes → is_skipped e ≡ false
+line_listed t unit per_line Skipped bytes of = absurd of
+line_listed t unit per_line _ bytes of = refl
+
 -- a group has bytes that are listed
 pub listed : (t : Table) (r : RangeType) (bytes : List ℕ) → IsGroupOf t r bytes → is_skip r ≡ false
-listed t role.Code bytes of = refl
-listed t role.ByteTable bytes of = refl
-listed t role.WordTable bytes of = refl
-listed t role.DbyteTable bytes of = refl
-listed t role.AddrTable bytes of = refl
-listed t role.RtsTable bytes of = refl
-listed t role.TextTable bytes of = refl
-listed t role.Skip bytes of = absurd of
+listed t r bytes of = line_listed t (unit_of r) (limit_of r) (layout_of r).entry bytes of
 
 module _ (image : ImageView) (m : Names) (names : AreSound image m) where
   abbrev Full : List Definition → Type 0
@@ -125,33 +132,29 @@ module _ (image : ImageView) (m : Names) (names : AreSound image m) where
   unfolding has_unknown_cpu cpu_after coding
   text_stands s bytes are = record { fragments = flat_map datum_fragments (cut_text bytes); known_cpu = refl; same_cpu = refl; coded = refl; gives = text_give Full (s.at + length bytes) bytes are }
 
-  words_stand : (s : State) (bytes : List ℕ) → AreBytes bytes → length bytes % 2 ≡ 0 → Stands Full s (Words (map NumberValue (low_words bytes))) bytes
+  numbers_stand : (d : Directive) (s : State) (bytes : List ℕ) → AreBytes bytes → length bytes % entry_len d ≡ 0 → Stands Full s (Values d (map (entry_value d) (entries d bytes))) bytes
   unfolding has_unknown_cpu cpu_after coding
-  words_stand s bytes are even = record { fragments = map LowFirst (map NumberValue (low_words bytes)); known_cpu = refl; same_cpu = refl; coded = refl; gives = low_words_give Full (s.at + length bytes) bytes are even }
-
-  dbyts_stand : (s : State) (bytes : List ℕ) → AreBytes bytes → length bytes % 2 ≡ 0 → Stands Full s (Dbyts (map NumberValue (high_words bytes))) bytes
-  unfolding has_unknown_cpu cpu_after coding
-  dbyts_stand s bytes are even = record { fragments = map HighFirst (map NumberValue (high_words bytes)); known_cpu = refl; same_cpu = refl; coded = refl; gives = high_words_give Full (s.at + length bytes) bytes are even }
+  numbers_stand d s bytes are whole = record { fragments = map (Entry d) (map (entry_value d) (entries d bytes)); known_cpu = refl; same_cpu = refl; coded = refl; gives = entries_give Full (s.at + length bytes) d bytes are whole }
 
   -- an entry whose expression has the value of its bytes
-  entry_gives : (next : ℕ) (v : Value) (bytes : List ℕ) → AreBytes bytes → length bytes ≡ 2 → AlwaysWorth Full v (entry_of bytes) → FragmentsGive Full next (LowFirst v ∷ []) bytes
-  entry_gives next v [] are two worth = absurd cc
-  entry_gives next v (b ∷ []) are two worth = absurd (omega (arith, two))
-  entry_gives next v (b ∷ c ∷ []) are two worth = word_worth_gives Full next v b c [] [] worth (first_byte b (c ∷ []) are) (first_byte c [] (other_bytes b (c ∷ []) are)) (no_fragments Full next)
-  entry_gives next v (b ∷ c ∷ d ∷ bytes) are two worth = absurd (omega (arith, two))
+  entry_gives : (d : Directive) → entry_len d ≡ 2 → order_of d ≡ LittleEndian → (next : ℕ) (v : Value) (bytes : List ℕ) → AreBytes bytes → length bytes ≡ 2 → AlwaysWorth Full v (entry_of bytes) → FragmentsGive Full next (Entry d v ∷ []) bytes
+  entry_gives d len low next v [] are two worth = absurd cc
+  entry_gives d len low next v (b ∷ []) are two worth = absurd (omega (arith, two))
+  entry_gives d len low next v (b ∷ c ∷ []) are two worth = word_worth_gives Full next d v b c [] [] len low worth (first_byte b (c ∷ []) are) (first_byte c [] (other_bytes b (c ∷ []) are)) (no_fragments Full next)
+  entry_gives d len low next v (b ∷ c ∷ e ∷ bytes) are two worth = absurd (omega (arith, two))
 
   address_stands : (s : State) (bytes : List ℕ) → AreBytes bytes → length bytes ≡ 2 → Stands Full s (operation_in (source_line (address_entry m bytes))) bytes
   unfolding address_entry has_unknown_cpu cpu_after coding
   address_stands s bytes are two = go (m.base_at (entry_of bytes)) (is-base image m (entry_of bytes) names (m.base_at (entry_of bytes)) refl)
     where
       go : (o : Option Base) → IfSome o (λ b. IsBaseOf m (entry_of bytes) b) → Stands Full s (operation_in (source_line (addr_from bytes (entry_of bytes) o))) bytes
-      go None is = words_stand s bytes are (omega (arith, two))
+      go None is = numbers_stand Word s bytes are (omega (arith, two))
       go (Some b) is = record {
-        fragments = LowFirst (NameValue b.text (entry_of bytes - b.address) Zero) ∷ [];
+        fragments = Entry Addr (NameValue b.text (entry_of bytes - b.address) Zero) ∷ [];
         known_cpu = refl;
         same_cpu = refl;
         coded = refl;
-        gives = entry_gives (s.at + length bytes) (NameValue b.text (entry_of bytes - b.address) Zero) bytes are two (λ all k. name_worth m all (entry_of bytes) b k is);
+        gives = entry_gives Addr refl refl (s.at + length bytes) (NameValue b.text (entry_of bytes - b.address) Zero) bytes are two (λ all k. name_worth m all (entry_of bytes) b k is);
       }
 
   return_stands : (s : State) (bytes : List ℕ) → AreBytes bytes → length bytes ≡ 2 → Stands Full s (operation_in (source_line (return_entry m bytes))) bytes
@@ -168,54 +171,56 @@ module _ (image : ImageView) (m : Names) (names : AreSound image m) where
       by-name b is all k = subst (λ (w : ℕ). IsWorth all (NameValue b.text (next - b.address) One) w) back (before_worth m all next b k is (omega arith))
 
       go : (o : Option Base) → IfSome o (λ b. IsBaseOf m next b) → Stands Full s (operation_in (source_line (rts_from bytes next o))) bytes
-      go None is = words_stand s bytes are (omega (arith, two))
+      go None is = numbers_stand Word s bytes are (omega (arith, two))
       go (Some b) is = record {
-        fragments = LowFirst (NameValue b.text (next - b.address) One) ∷ [];
+        fragments = Entry Word (NameValue b.text (next - b.address) One) ∷ [];
         known_cpu = refl;
         same_cpu = refl;
         coded = refl;
-        gives = entry_gives (s.at + length bytes) (NameValue b.text (next - b.address) One) bytes are two (by-name b is);
+        gives = entry_gives Word refl refl (s.at + length bytes) (NameValue b.text (next - b.address) One) bytes are two (by-name b is);
       }
 
       first : (t : Bool) → eqb (entry_of bytes) 65535 ≡ t → Stands Full s (operation_in (source_line (rts_to m bytes (cond t None (Some next))))) bytes
       first true e = record {
-        fragments = LowFirst (NumberValue 65535) ∷ [];
+        fragments = Entry Word (NumberValue 65535) ∷ [];
         known_cpu = refl;
         same_cpu = refl;
         coded = refl;
-        gives = entry_gives (s.at + length bytes) (NumberValue 65535) bytes are two (λ all k. let same : entry_of bytes ≡ 65535 = eqb-true (entry_of bytes) 65535 e in rw same (number_worth all 65535));
+        gives = entry_gives Word refl refl (s.at + length bytes) (NumberValue 65535) bytes are two (λ all k. let same : entry_of bytes ≡ 65535 = eqb-true (entry_of bytes) 65535 e in rw same (number_worth all 65535));
       }
       first false e = go (m.base_at next) (is-base image m next names (m.base_at next) refl)
 
   abbrev StandsFor : State → StatementView → List ℕ → Type 0
   StandsFor s source bytes = Stands Full s (operation_in (source_line source)) bytes
 
-  -- words, or the leftover byte
-  either_stands : (s : State) (whole : StatementView) (bytes : List ℕ) → AreBytes bytes → (2 ≤ length bytes → StandsFor s whole bytes) → StandsFor s (words_or_byte whole bytes) bytes
-  either_stands s whole bytes are stand =
-      cond_both (nat_lt (length bytes) 2) (view.bytes bytes) whole (λ source. StandsFor s source bytes)
+  -- entries, or the leftover byte
+  either_stands : (s : State) (unit : ℕ) (entries : StatementView) (bytes : List ℕ) → AreBytes bytes → (unit ≤ length bytes → StandsFor s entries bytes) → StandsFor s (entries_or_byte unit entries bytes) bytes
+  either_stands s unit entries bytes are stand =
+      cond_both (nat_lt (length bytes) unit) (view.bytes bytes) entries (λ source. StandsFor s source bytes)
       (λ _. data_stands Full s bytes are)
-      (λ more. stand (ltb-false (length bytes) 2 more))
+      (λ more. stand (ltb-false (length bytes) unit more))
 
-  even-of : (bytes : List ℕ) → 2 ≤ length bytes → (length bytes ≡ 1) ⊎ AreWords bytes → length bytes % 2 ≡ 0
-  even-of bytes more (inl one) = absurd (omega (arith, more, one))
-  even-of bytes more (inr even) = even.0
+  -- the numbers of a line
+  number_line_stands : (s : State) (unit per_line : ℕ) (order : ByteOrder) (bytes : List ℕ) → AreBytes bytes → IsEntry unit per_line (Number order) → AreEntries unit per_line bytes → unit ≤ length bytes → StandsFor s (numbers unit order bytes) bytes
+  number_line_stands s unit per_line order bytes are is of more =
+      let d : Directive = directive_of unit order in
+      cond_both (unit == 1) (view.bytes bytes) (view.numbers d bytes) (λ source. StandsFor s source bytes)
+      (λ _. data_stands Full s bytes are)
+      (λ other. numbers_stand d s bytes are (are_table unit per_line d bytes (directive_is unit order is.0 other) is.1 of more).0)
 
-  two-of : (n : ℕ) → 2 ≤ n → (n ≡ 1) ⊎ (n ≡ 2) → n ≡ 2
-  two-of n more (inl one) = absurd (omega (arith, more, one))
-  two-of n more (inr two) = two
+  line_stands : (p : ℕ → Bool) (s : State) (unit per_line : ℕ) (e : TableEntry) (bytes : List ℕ) → KnowsConstants m p s.above → AreBytes bytes → s.at + length bytes ≤ 65536
+      → IsEntry unit per_line e → IsLineOf (table_of s.cpu) unit per_line e bytes → StandsFor s (statement_by m (table_of s.cpu) unit e s.at bytes) bytes
+  line_stands p s unit per_line Instruction bytes known are room is of = code_stands p s bytes known are room of
+  line_stands p s unit per_line (Number order) bytes known are room is of = either_stands s unit _ bytes are (λ more. number_line_stands s unit per_line order bytes are is of more)
+  line_stands p s unit per_line Address bytes known are room is of = either_stands s unit _ bytes are (λ more. address_stands s bytes are (address_bytes unit per_line bytes is of more))
+  line_stands p s unit per_line Return bytes known are room is of = either_stands s unit _ bytes are (λ more. return_stands s bytes are (address_bytes unit per_line bytes is of more))
+  line_stands p s unit per_line Character bytes known are room is of = text_stands s bytes are
+  line_stands p s unit per_line Skipped bytes known are room is of = absurd of
 
   pub group_stands_at : (p : ℕ → Bool) (s : State) (r : RangeType) (bytes : List ℕ) → KnowsConstants m p s.above → AreBytes bytes → s.at + length bytes ≤ 65536
       → IsGroupOf (table_of s.cpu) r bytes → StandsFor s (statement_for m (table_of s.cpu) r s.at bytes) bytes
   unfolding statement_for
-  group_stands_at p s role.Code bytes known are room of = code_stands p s bytes known are room of
-  group_stands_at p s role.ByteTable bytes known are room of = data_stands Full s bytes are
-  group_stands_at p s role.TextTable bytes known are room of = text_stands s bytes are
-  group_stands_at p s role.WordTable bytes known are room of = either_stands s _ bytes are (λ more. words_stand s bytes are (even-of bytes more of))
-  group_stands_at p s role.DbyteTable bytes known are room of = either_stands s _ bytes are (λ more. dbyts_stand s bytes are (even-of bytes more of))
-  group_stands_at p s role.AddrTable bytes known are room of = either_stands s _ bytes are (λ more. address_stands s bytes are (two-of (length bytes) more of))
-  group_stands_at p s role.RtsTable bytes known are room of = either_stands s _ bytes are (λ more. return_stands s bytes are (two-of (length bytes) more of))
-  group_stands_at p s role.Skip bytes known are room of = absurd of
+  group_stands_at p s r bytes known are room of = line_stands p s (unit_of r) (limit_of r) (layout_of r).entry bytes known are room (layout_entry r) of
 
   -- a line of an operation that stands, without a label
   stands_give : (all : List Definition) (s : State) (o : Operation) (bytes : List ℕ) → KnowsAll m all → Stands Full s o bytes → s.at + length bytes ≤ 65536 → GivesBytes all s (Statement None o) bytes

@@ -1,11 +1,14 @@
 -- The statement of a group may stand after a label.
-use Rattle.std.proofs.Common.{◌≡◌, ℕ, false, List, length, Option, Some, None, refl}
+use Rattle.std.proofs.Common.{◌≡◌, ◌==◌, ℕ, false, List, length, Option, Some, None, refl}
 use Rattle.std.specs.Prelude.{nat_lt}
 use Rattle.std.proofs.lemmas.Bool.{cond_both}
 use Rattle.isa65.specs.Opcodes.{Table}
+use Rattle.isa65.specs.declared.byte_order.ByteOrder.{ByteOrder}
 use Rattle.isa65.specs.declared.op.Op.{Op}
+use Rattle.info65.specs.Layouts.{layout_of}
+use Rattle.info65.specs.declared.range.Entry.{Entry}
+use Rattle.info65.specs.declared.range.Entry.TheVariants.{Instruction, Number, Address, Return, Character, Skipped}
 use Rattle.info65.specs.declared.range.RangeType.{RangeType}
-use Rattle.info65.specs.declared.range.RangeType.TheVariants as role
 use Rattle.stmt65.specs.Views as view
 use Rattle.stmt65.specs.Views.{OperandsView, StatementView}
 use Rattle.stmt65.specs.SourceLine.{Statement}
@@ -13,29 +16,24 @@ use Rattle.stmt65.specs.Printable.{TakesLabel}
 use Rattle.stmt65.specs.Printed.{source_line, with_label}
 use Rattle.stmt65.specs.Meaning.{operation_in}
 use Rattle.map65.specs.Names.{Base}
-use Rattle.map65.specs.Roles.{is_skip}
+use Rattle.map65.specs.Roles.{is_skip, is_skipped, unit_of}
 use Rattle.map65.specs.Targets.{entry_of, return_target}
 use Rattle.da65.specs.BaseNames.{Names}
 use Rattle.da65.specs.Instructions.{instruction_in}
-use Rattle.da65.specs.Statements.{addr_from, address_entry, operands_of, return_entry, rts_from, rts_to, statement_for, statement_in, statement_of, words_or_byte, written}
+use Rattle.da65.specs.Statements.{addr_from, address_entry, directive_of, entries_or_byte, numbers, operands_of, return_entry, rts_from, rts_to, statement_by, statement_for, statement_in, statement_of, written}
 
 -- what is read of it is an operation, with the label before it if there is one
 pub label_read : (s : StatementView) (label : Option (List ℕ)) → TakesLabel s → with_label label (source_line s) ≡ Statement label (operation_in (source_line s))
-label_read (view.instr op absolute os) None h = refl
-label_read (view.instr op absolute os) (Some name) h = refl
-label_read (view.bytes bytes) None h = refl
-label_read (view.bytes bytes) (Some name) h = refl
-label_read (view.text bytes) None h = refl
-label_read (view.text bytes) (Some name) h = refl
-label_read (view.words bytes) None h = refl
-label_read (view.words bytes) (Some name) h = refl
-label_read (view.dbyts bytes) None h = refl
-label_read (view.dbyts bytes) (Some name) h = refl
-label_read (view.addr t) None h = refl
-label_read (view.addr t) (Some name) h = refl
-label_read (view.rts t) None h = refl
-label_read (view.rts t) (Some name) h = refl
-label_read _ label h = absurd cc
+label_read (view.label text) label h = absurd cc
+label_read (view.assignment text n) label h = absurd cc
+label_read (view.forward text n) label h = absurd cc
+label_read (view.segment text) label h = absurd cc
+label_read view.code label h = absurd cc
+label_read (view.set_cpu cpu) label h = absurd cc
+label_read view.blank label h = absurd cc
+label_read (view.remark text) label h = absurd cc
+label_read _ None h = refl
+label_read _ (Some name) h = refl
 
 pub item_takes : (m : Names) (t : Table) (a : ℕ) (bytes : List ℕ) → TakesLabel (statement_in m t a bytes)
 unfolding statement_in
@@ -49,8 +47,11 @@ item_takes m t a bytes = go (instruction_in t bytes)
     go None = refl
     go (Some op) = with_operands op (operands_of m op.mode a bytes)
 
-either_takes : (whole : StatementView) (bytes : List ℕ) → TakesLabel whole → TakesLabel (words_or_byte whole bytes)
-either_takes whole bytes h = cond_both (nat_lt (length bytes) 2) (view.bytes bytes) whole TakesLabel (λ _. refl) (λ _. h)
+either_takes : (unit : ℕ) (entries : StatementView) (bytes : List ℕ) → TakesLabel entries → TakesLabel (entries_or_byte unit entries bytes)
+either_takes unit entries bytes h = cond_both (nat_lt (length bytes) unit) (view.bytes bytes) entries TakesLabel (λ _. refl) (λ _. h)
+
+numbers_take : (unit : ℕ) (order : ByteOrder) (bytes : List ℕ) → TakesLabel (numbers unit order bytes)
+numbers_take unit order bytes = cond_both (unit == 1) (view.bytes bytes) (view.numbers (directive_of unit order) bytes) TakesLabel (λ _. refl) (λ _. refl)
 
 address_takes : (m : Names) (bytes : List ℕ) → TakesLabel (address_entry m bytes)
 unfolding address_entry
@@ -72,13 +73,14 @@ return_takes m bytes = to (return_target (entry_of bytes))
     to None = refl
     to (Some a) = from a (m.base_at a)
 
+line_takes : (m : Names) (t : Table) (unit : ℕ) (e : Entry) (a : ℕ) (bytes : List ℕ) → is_skipped e ≡ false → TakesLabel (statement_by m t unit e a bytes)
+line_takes m t unit Instruction a bytes h = item_takes m t a bytes
+line_takes m t unit (Number order) a bytes h = either_takes unit (numbers unit order bytes) bytes (numbers_take unit order bytes)
+line_takes m t unit Address a bytes h = either_takes unit (address_entry m bytes) bytes (address_takes m bytes)
+line_takes m t unit Return a bytes h = either_takes unit (return_entry m bytes) bytes (return_takes m bytes)
+line_takes m t unit Character a bytes h = refl
+line_takes m t unit Skipped a bytes h = absurd cc
+
 pub group_takes : (m : Names) (t : Table) (r : RangeType) (a : ℕ) (bytes : List ℕ) → is_skip r ≡ false → TakesLabel (statement_for m t r a bytes)
 unfolding statement_for
-group_takes m t role.Code a bytes h = item_takes m t a bytes
-group_takes m t role.ByteTable a bytes h = refl
-group_takes m t role.WordTable a bytes h = either_takes (view.words bytes) bytes refl
-group_takes m t role.DbyteTable a bytes h = either_takes (view.dbyts bytes) bytes refl
-group_takes m t role.AddrTable a bytes h = either_takes (address_entry m bytes) bytes (address_takes m bytes)
-group_takes m t role.RtsTable a bytes h = either_takes (return_entry m bytes) bytes (return_takes m bytes)
-group_takes m t role.TextTable a bytes h = refl
-group_takes m t role.Skip a bytes h = absurd cc
+group_takes m t r a bytes h = line_takes m t (unit_of r) (layout_of r).entry a bytes h

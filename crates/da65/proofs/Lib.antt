@@ -51,5 +51,6 @@ pub mod WholeBlock
 pub mod MapListing
 pub mod NameTexts
 pub mod EnteringLemmas
+mod KeySetLemmas
 pub mod IncludeFacts
 pub mod IncludeLemmas

@@ -7,7 +7,7 @@ use Rattle.std.proofs.lemmas.List.{append-nil, map-append}
 use Rattle.isa65.specs.Cpu.{cpu_named, cpu_text}
 use Rattle.isa65.specs.CpuLaws.{cpu_named-cpu_text}
 use Rattle.isa65.specs.declared.cpu.Cpu.{Cpu}
-use Rattle.stmt65.specs.SourceLine.{Operation, Nothing, Instr, Data, Words, Dbyts, Addrs, Segment, Code, SetCpu, SourceLine}
+use Rattle.stmt65.specs.SourceLine.{Operation, Nothing, Segment, Code, SetCpu, SourceLine}
 use Rattle.stmt65.specs.Symbols.{Definition}
 use Rattle.stmt65.specs.Coding.{coding, coding_len}
 use Rattle.stmt65.specs.Meaning.{State, operation_in, final, fault_of, bytes_of, after, fragments_of, next_of, cpu_after, defined_by, has_unknown_cpu, has_no_form, is_undefined, is_twice, is_out_of_range, is_past_end}
@@ -123,12 +123,7 @@ unfolding has_unknown_cpu cpu_after coding
 quiet_stands Full s Nothing h = nothing_stands Full s
 quiet_stands Full s (Segment name) h = record { fragments = []; known_cpu = refl; same_cpu = refl; coded = refl; gives = no_fragments Full (s.at + 0) }
 quiet_stands Full s Code h = record { fragments = []; known_cpu = refl; same_cpu = refl; coded = refl; gives = no_fragments Full (s.at + 0) }
-quiet_stands Full s (Instr mn form) h = absurd cc
-quiet_stands Full s (Data ds) h = absurd cc
-quiet_stands Full s (Words vs) h = absurd cc
-quiet_stands Full s (Dbyts vs) h = absurd cc
-quiet_stands Full s (Addrs vs) h = absurd cc
-quiet_stands Full s (SetCpu text) h = absurd cc
+quiet_stands Full s _ h = absurd cc
 
 -- an operation that stands, without a label
 pub line_block : (m : Names) (p : ℕ → Bool) (s : State) (o : Operation) (bytes : List ℕ) → Stands (λ all. KnowsAll m all) s o bytes → Knows m p s.above → s.at + length bytes ≤ 65536

@@ -6,7 +6,7 @@ use Rattle.std.proofs.lemmas.Bool.{cases_lt}
 use denote.Bor.{Bor}
 use Rattle.info65.specs.Code.Names.{given_seen}
 use Rattle.info65.specs.declared.name.Given.{Given}
-use Rattle.std.specs.Bool.{OnFalse}
+use Rattle.std.specs.Bool.{OnFalse, OnTrue}
 use Rattle.info65.specs.Names.{AreNames, covering, name_at}
 use Rattle.info65.specs.Segments.{AreSegments, contains, segment_covering}
 use Rattle.info65.specs.Views.{InfoView, NameView, SegmentView}
@@ -20,7 +20,7 @@ use Rattle.da65.specs.Comments.{comment_at, comment_by}
 use Rattle.da65.specs.Groups.{group_len}
 use Rattle.da65.specs.Lines.{IsListed, IsUnmarked}
 use Rattle.da65.specs.Listing.{ListingLine, comment_line, comment_lines, comments, opening_lines, segment_lines, separator_lines}
-use Rattle.da65.specs.Marks.{HasNoComments, HasNoMarks}
+use Rattle.da65.specs.Marks.{HasMarks, HasNoComments, HasNoMarks}
 use Rattle.da65.specs.Segments.{segment_at}
 use Rattle.da65.specs.Style.{style_of}
 use Rattle.da65.specs.declared.style.Style.{Style}
@@ -97,8 +97,8 @@ none-shown given n t same is off = sym (ap (λ (n : NameView). n.comment) same) 
 -- ---- what is listed
 
 pub listed-of : (m : MapView) (i : InfoView) (image : ImageView) (t : Style) (cpu : Cpu) (marked all : Bool) → m ≡ record { info = i; image = image } → t ≡ style_of i.settings → cpu ≡ t.cpu → IsPlaced image → AreNames i.names → AreSegments i.segments
-    → OnFalse marked (HasNoMarks i t) → all ≡ not (list_any is_skip_range i.ranges) → IsListed m i image t cpu marked all
-listed-of m i image t cpu marked all built is cpu_is placed names segments none listed =
+    → OnFalse marked (HasNoMarks i t) → OnTrue marked (HasMarks i t) → all ≡ not (list_any is_skip_range i.ranges) → IsListed m i image t cpu marked all
+listed-of m i image t cpu marked all built is cpu_is placed names segments none some listed =
     let info : m.info ≡ i = ap (λ (m : MapView). m.info) built in
     let picture : m.image ≡ image = ap (λ (m : MapView). m.image) built in
     let style : t ≡ style_of m.info.settings = is ∙ ap (λ (i : InfoView). style_of i.settings) (sym info) in
@@ -111,5 +111,6 @@ listed-of m i image t cpu marked all built is cpu_is placed names segments none 
       names = subst (λ (i : InfoView). AreNames i.names) (sym info) names;
       segments = subst (λ (i : InfoView). AreSegments i.segments) (sym info) segments;
       unmarked = λ off. unmarked m i t info style (subst (λ (b : Bool). OnFalse b (HasNoMarks i t)) off none);
+      has_marks = λ on. subst (λ (t : Style). HasMarks m.info t) style (subst (λ (i : InfoView). HasMarks i t) (sym info) (subst (λ (b : Bool). OnTrue b (HasMarks i t)) on some));
       listed = listed ∙ ap (λ (i : InfoView). not (list_any is_skip_range i.ranges)) (sym info);
     }

@@ -13,7 +13,7 @@ use Rattle.isa65.specs.declared.mode.Mode.TheVariants.{Imp, Acc, Imm, Zp, Zpx, Z
 use Rattle.stmt65.specs.SourceLine.{Value, Instr, Empty, Accumulator, Immediate, Direct, DirectX, DirectY, Two, Indirect, IndirectX, IndirectY}
 use Rattle.stmt65.specs.declared.source_line.AddressSize.TheVariants.{Absolute, Automatic}
 use Rattle.stmt65.specs.Symbols.{Definition, has_zero_page_size}
-use Rattle.stmt65.specs.Coding.{Fixed, Single, ZeroPage, LowFirst, Distance, coding, ways}
+use Rattle.stmt65.specs.Coding.{Fixed, Single, ZeroPage, word_operand, Distance, coding, ways}
 
 -- ---- modes that are written alike
 
@@ -77,46 +77,46 @@ module _ (cpu : Cpu) (above : List Definition) (m : Mnemonic) (b : ℕ) where
   unfolding coding ways
   codes_zpy v h size = rw (size, h) refl
 
-  pub codes_forced : (v : Value) → encoded (table_of cpu) m Abs ≡ Some b → coding cpu above (Instr m (Direct Absolute v)) ≡ Some (Fixed b ∷ LowFirst v ∷ [])
+  pub codes_forced : (v : Value) → encoded (table_of cpu) m Abs ≡ Some b → coding cpu above (Instr m (Direct Absolute v)) ≡ Some (Fixed b ∷ word_operand v ∷ [])
   unfolding coding ways
   codes_forced v h = rw h refl
 
-  pub codes_forced_x : (v : Value) → encoded (table_of cpu) m Absx ≡ Some b → coding cpu above (Instr m (DirectX Absolute v)) ≡ Some (Fixed b ∷ LowFirst v ∷ [])
+  pub codes_forced_x : (v : Value) → encoded (table_of cpu) m Absx ≡ Some b → coding cpu above (Instr m (DirectX Absolute v)) ≡ Some (Fixed b ∷ word_operand v ∷ [])
   unfolding coding ways
   codes_forced_x v h = rw h refl
 
-  pub codes_forced_y : (v : Value) → encoded (table_of cpu) m Absy ≡ Some b → coding cpu above (Instr m (DirectY Absolute v)) ≡ Some (Fixed b ∷ LowFirst v ∷ [])
+  pub codes_forced_y : (v : Value) → encoded (table_of cpu) m Absy ≡ Some b → coding cpu above (Instr m (DirectY Absolute v)) ≡ Some (Fixed b ∷ word_operand v ∷ [])
   unfolding coding ways
   codes_forced_y v h = rw h refl
 
   -- without `a:`, of a large operand
-  pub codes_large : (v : Value) → encoded (table_of cpu) m Abs ≡ Some b → has_zero_page_size above v ≡ false → coding cpu above (Instr m (Direct Automatic v)) ≡ Some (Fixed b ∷ LowFirst v ∷ [])
+  pub codes_large : (v : Value) → encoded (table_of cpu) m Abs ≡ Some b → has_zero_page_size above v ≡ false → coding cpu above (Instr m (Direct Automatic v)) ≡ Some (Fixed b ∷ word_operand v ∷ [])
   unfolding coding ways
   codes_large v h size = rw (size, h) refl
 
-  pub codes_large_x : (v : Value) → encoded (table_of cpu) m Absx ≡ Some b → has_zero_page_size above v ≡ false → coding cpu above (Instr m (DirectX Automatic v)) ≡ Some (Fixed b ∷ LowFirst v ∷ [])
+  pub codes_large_x : (v : Value) → encoded (table_of cpu) m Absx ≡ Some b → has_zero_page_size above v ≡ false → coding cpu above (Instr m (DirectX Automatic v)) ≡ Some (Fixed b ∷ word_operand v ∷ [])
   unfolding coding ways
   codes_large_x v h size = rw (size, h) refl
 
-  pub codes_large_y : (v : Value) → encoded (table_of cpu) m Absy ≡ Some b → has_zero_page_size above v ≡ false → coding cpu above (Instr m (DirectY Automatic v)) ≡ Some (Fixed b ∷ LowFirst v ∷ [])
+  pub codes_large_y : (v : Value) → encoded (table_of cpu) m Absy ≡ Some b → has_zero_page_size above v ≡ false → coding cpu above (Instr m (DirectY Automatic v)) ≡ Some (Fixed b ∷ word_operand v ∷ [])
   unfolding coding ways
   codes_large_y v h size = rw (size, h) refl
 
   -- without `a:`, of a mnemonic that has no zero-page mode
   pub codes_alone : (v : Value) → encoded (table_of cpu) m Abs ≡ Some b → encoded (table_of cpu) m Zp ≡ None → (size : Bool) → has_zero_page_size above v ≡ size
-      → coding cpu above (Instr m (Direct Automatic v)) ≡ Some (Fixed b ∷ LowFirst v ∷ [])
+      → coding cpu above (Instr m (Direct Automatic v)) ≡ Some (Fixed b ∷ word_operand v ∷ [])
   unfolding coding ways
   codes_alone v h none true size = rw (size, none, h) refl
   codes_alone v h none false size = rw (size, h) refl
 
   pub codes_alone_x : (v : Value) → encoded (table_of cpu) m Absx ≡ Some b → encoded (table_of cpu) m Zpx ≡ None → (size : Bool) → has_zero_page_size above v ≡ size
-      → coding cpu above (Instr m (DirectX Automatic v)) ≡ Some (Fixed b ∷ LowFirst v ∷ [])
+      → coding cpu above (Instr m (DirectX Automatic v)) ≡ Some (Fixed b ∷ word_operand v ∷ [])
   unfolding coding ways
   codes_alone_x v h none true size = rw (size, none, h) refl
   codes_alone_x v h none false size = rw (size, h) refl
 
   pub codes_alone_y : (v : Value) → encoded (table_of cpu) m Absy ≡ Some b → encoded (table_of cpu) m Zpy ≡ None → (size : Bool) → has_zero_page_size above v ≡ size
-      → coding cpu above (Instr m (DirectY Automatic v)) ≡ Some (Fixed b ∷ LowFirst v ∷ [])
+      → coding cpu above (Instr m (DirectY Automatic v)) ≡ Some (Fixed b ∷ word_operand v ∷ [])
   unfolding coding ways
   codes_alone_y v h none true size = rw (size, none, h) refl
   codes_alone_y v h none false size = rw (size, h) refl
@@ -140,22 +140,22 @@ module _ (cpu : Cpu) (above : List Definition) (m : Mnemonic) (b : ℕ) where
   unfolding coding ways
   codes_zpind v h size = rw (size, h) refl
 
-  indirect_alone : (v : Value) → encoded (table_of cpu) m Ind ≡ Some b → encoded (table_of cpu) m Zpind ≡ None → coding cpu above (Instr m (Indirect v)) ≡ Some (Fixed b ∷ LowFirst v ∷ [])
+  indirect_alone : (v : Value) → encoded (table_of cpu) m Ind ≡ Some b → encoded (table_of cpu) m Zpind ≡ None → coding cpu above (Instr m (Indirect v)) ≡ Some (Fixed b ∷ word_operand v ∷ [])
   unfolding coding ways
   indirect_alone v h none = rw (none, h) refl
 
-  pub codes_ind : (v : Value) → encoded (table_of cpu) m Ind ≡ Some b → coding cpu above (Instr m (Indirect v)) ≡ Some (Fixed b ∷ LowFirst v ∷ [])
+  pub codes_ind : (v : Value) → encoded (table_of cpu) m Ind ≡ Some b → coding cpu above (Instr m (Indirect v)) ≡ Some (Fixed b ∷ word_operand v ∷ [])
   codes_ind v h = indirect_alone v h (absent (table_of cpu) (table_of-sound cpu) m Zpind Ind b h refl ind_not_zpind)
 
   pub codes_indx : (v : Value) → encoded (table_of cpu) m Indx ≡ Some b → has_zero_page_size above v ≡ true → coding cpu above (Instr m (IndirectX v)) ≡ Some (Fixed b ∷ ZeroPage v ∷ [])
   unfolding coding ways
   codes_indx v h size = rw (size, h) refl
 
-  indexed_alone : (v : Value) → encoded (table_of cpu) m Absindx ≡ Some b → encoded (table_of cpu) m Indx ≡ None → coding cpu above (Instr m (IndirectX v)) ≡ Some (Fixed b ∷ LowFirst v ∷ [])
+  indexed_alone : (v : Value) → encoded (table_of cpu) m Absindx ≡ Some b → encoded (table_of cpu) m Indx ≡ None → coding cpu above (Instr m (IndirectX v)) ≡ Some (Fixed b ∷ word_operand v ∷ [])
   unfolding coding ways
   indexed_alone v h none = rw (none, h) refl
 
-  pub codes_absindx : (v : Value) → encoded (table_of cpu) m Absindx ≡ Some b → coding cpu above (Instr m (IndirectX v)) ≡ Some (Fixed b ∷ LowFirst v ∷ [])
+  pub codes_absindx : (v : Value) → encoded (table_of cpu) m Absindx ≡ Some b → coding cpu above (Instr m (IndirectX v)) ≡ Some (Fixed b ∷ word_operand v ∷ [])
   codes_absindx v h = indexed_alone v h (absent (table_of cpu) (table_of-sound cpu) m Indx Absindx b h refl absindx_not_indx)
 
   pub codes_indy : (v : Value) → encoded (table_of cpu) m Indy ≡ Some b → has_zero_page_size above v ≡ true → coding cpu above (Instr m (IndirectY v)) ≡ Some (Fixed b ∷ ZeroPage v ∷ [])

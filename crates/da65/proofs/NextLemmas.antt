@@ -1,5 +1,5 @@
 -- The next of the lines that are left.
-use Rattle.std.proofs.Common.{◌≡◌, ◌∙◌, ℕ, suc, ◌+◌, ◌-◌, ◌<◌, ◌≤◌, ◌∷◌, ◌++◌, ◌&&◌, [], Bool, true, false, List, Option, Some, None, length, drop, take, map, refl, ap, sym, subst, codes, arith, append_assoc, ⊎_elim, inl, inr}
+use Rattle.std.proofs.Common.{◌≡◌, ◌∙◌, ℕ, suc, ◌+◌, ◌-◌, ◌<◌, ◌≤◌, ◌∷◌, ◌++◌, ◌&&◌, [], Bool, true, false, List, Option, Some, None, length, drop, take, map, refl, ap, sym, subst, codes, arith, append_assoc, ⊎_elim}
 use Rattle.std.specs.Prelude.{MatchOption, if◌then◌else◌}
 use Rattle.std.specs.List.{flat_map}
 use Rattle.std.proofs.lemmas.Bool.{and_parts, cases_lt}
@@ -11,27 +11,31 @@ use Rattle.isa65.specs.declared.mode.Mode.TheVariants.{Imp}
 use Rattle.isa65.specs.declared.op.Op.{Op}
 use Rattle.isa65.specs.declared.cpu.Cpu.{Cpu}
 use Rattle.info65.specs.Views.{SettingsView}
+use Rattle.info65.proofs.Public.{layout_entry}
+use Rattle.info65.specs.Layouts.{IsEntry, layout_of}
+use Rattle.info65.specs.declared.range.Entry.{Entry}
+use Rattle.info65.specs.declared.range.Entry.TheVariants.{Instruction, Number, Address, Return, Character, Skipped}
 use Rattle.info65.specs.declared.range.RangeType.{RangeType}
-use Rattle.info65.specs.declared.range.RangeType.TheVariants as role
 use Rattle.map65.specs.MapView.{MapView, opcodes}
 use Rattle.map65.specs.Names.{place_of}
-use Rattle.map65.specs.Roles.{is_skip, role_of}
+use Rattle.map65.specs.Roles.{is_skip, role_of, unit_of}
 use Rattle.map65.specs.Spans.{addresses}
 use Rattle.map65.specs.declared.name.Place.{Place}
 use Rattle.da65.specs.BaseNames.{Names, base_name, is_base, is_constant, names_of}
 use Rattle.da65.specs.Code.Bases.{base_place}
 use Rattle.da65.specs.Comments.{comment_at}
-use Rattle.da65.specs.Groups.{IsGroupPlace, group_bytes, group_len, groups_from}
+use Rattle.da65.specs.Groups.{IsGroupPlace, group_bytes, group_len, groups_from, limit_of}
 use Rattle.da65.specs.Lines.{IsConstant, IsFirstOf, IsGroupStart, IsInGroup, IsNext, IsPlace, IsUnmarked, after_group, closed, comments_left, constants_left, group_left, groups_left, left_from, lines_from, segment_left, segment_of}
 use Rattle.da65.specs.Listing.{ListingLine, assignment_line, comment_line, comment_lines, comments, constant_lines, constants, ending_lines, forward_lines, forwards, group_line, group_lines, has_constant_line, has_empty_line, has_separator, label_at, labelled, line_text, listing, listing_below, opening_lines, plain, segment_lines, separator, separator_lines, statement_lines}
 use Rattle.da65.specs.Segments.{is_same_segment, segment_at, segment_before, segment_statement}
 use Rattle.da65.specs.Instructions.{instruction_in, size_of}
-use Rattle.da65.specs.Shapes.{IsGroupOf}
+use Rattle.da65.specs.Shapes.{IsGroupOf, IsLineOf}
 use Rattle.da65.specs.Statements.{statement_at, statement_for}
 use Rattle.da65.specs.Style.{style_of}
 use Rattle.da65.specs.declared.place.ListingPlace.{ListingPlace}
 use Rattle.da65.specs.declared.place.ListingPlace.TheVariants.{AfterTitle, Constant, Group, Comment, Ending}
 use Rattle.da65.specs.declared.style.Style.{Style}
+use Rattle.da65.proofs.EntryLemmas.{few_entries}
 use Rattle.da65.proofs.GroupLemmas.{group-some, groups-end, groups-first, groups-next, groups-skip, place-next}
 use Rattle.da65.proofs.LabelLaws.{group_takes}
 use Rattle.da65.proofs.SegmentLemmas.{same-segment, segment-next}
@@ -563,20 +567,17 @@ len-small : (x : Mode) → len_of x ≤ 3
 len-small Imp = omega arith
 len-small _ = omega arith
 
-pub few-bytes : (t : Table) (r : RangeType) (bytes : List ℕ) → IsGroupOf t r bytes → length bytes ≤ 16
-few-bytes t role.Code bytes of = small (instruction_in t bytes) of
+few-in : (t : Table) (unit per_line : ℕ) (e : Entry) (bytes : List ℕ) → IsEntry unit per_line e → IsLineOf t unit per_line e bytes → length bytes ≤ 16
+few-in t unit per_line Instruction bytes is of = small (instruction_in t bytes) of
   where
     small : (o : Option Op) → size_of o ≡ length bytes → length bytes ≤ 16
     small None e = omega (arith, e)
     small (Some op) e = omega (arith, e, len-small op.mode)
-few-bytes t role.ByteTable bytes of = omega (arith, of)
-few-bytes t role.WordTable bytes (inl one) = omega (arith, one)
-few-bytes t role.WordTable bytes (inr more) = omega (arith, more.1)
-few-bytes t role.DbyteTable bytes (inl one) = omega (arith, one)
-few-bytes t role.DbyteTable bytes (inr more) = omega (arith, more.1)
-few-bytes t role.AddrTable bytes (inl one) = omega (arith, one)
-few-bytes t role.AddrTable bytes (inr two) = omega (arith, two)
-few-bytes t role.RtsTable bytes (inl one) = omega (arith, one)
-few-bytes t role.RtsTable bytes (inr two) = omega (arith, two)
-few-bytes t role.TextTable bytes of = of
-few-bytes t role.Skip bytes of = absurd of
+few-in t unit per_line (Number order) bytes is of = few_entries unit per_line bytes (omega (arith, is.1)) of
+few-in t unit per_line Address bytes is of = few_entries unit per_line bytes (omega (arith, is.1)) of
+few-in t unit per_line Return bytes is of = few_entries unit per_line bytes (omega (arith, is.1)) of
+few-in t unit per_line Character bytes is of = few_entries unit per_line bytes is.1 of
+few-in t unit per_line Skipped bytes is of = absurd of
+
+pub few-bytes : (t : Table) (r : RangeType) (bytes : List ℕ) → IsGroupOf t r bytes → length bytes ≤ 16
+few-bytes t r bytes of = few-in t (unit_of r) (limit_of r) (layout_of r).entry bytes (layout_entry r) of

@@ -14,7 +14,8 @@ use Rattle.stmt65.specs.declared.source_line.AddressSize.{AddressSize}
 use Rattle.stmt65.specs.declared.source_line.AddressSize.TheVariants.{Absolute, Automatic}
 use Rattle.stmt65.specs.Printed.{address_size, source_form, source_value}
 use Rattle.stmt65.specs.Symbols.{Definition, has_zero_page_size}
-use Rattle.stmt65.specs.Coding.{Fixed, ZeroPage, LowFirst, Distance, coding}
+use Rattle.stmt65.specs.declared.directive.Directive.TheVariants.{Addr}
+use Rattle.stmt65.specs.Coding.{Fixed, ZeroPage, word_operand, Distance, coding}
 use Rattle.map65.specs.ImageView.{AreBytes, ImageView}
 use Rattle.da65.specs.BaseNames.{AreSound, Names}
 use Rattle.da65.specs.KnownNames.{KnowsAll, KnowsConstants}
@@ -50,7 +51,7 @@ module _ (image : ImageView) (n : Names) (p : ℕ → Bool) (names : AreSound im
 
   -- the operand is coded in a form as two bytes
   abbrev IsWide : List ℕ → (Value → Form) → Type 0
-  IsWide bytes form = coding cpu above (Instr m (form (address (word_of bytes)))) ≡ Some (Fixed b ∷ LowFirst (address (word_of bytes)) ∷ [])
+  IsWide bytes form = coding cpu above (Instr m (form (address (word_of bytes)))) ≡ Some (Fixed b ∷ word_operand (address (word_of bytes)) ∷ [])
 
   -- it is so in an absolute mode: with `a:`, without the zero-page mode that is written alike, and if the operand is large
   wide_codes : (zp : Mode) (form : AddressSize → Value → Form) (bytes : List ℕ) (t : Bool)
@@ -106,8 +107,8 @@ module _ (image : ImageView) (n : Names) (names : AreSound image n) where
   short_give : (next b c : ℕ) (bytes : List ℕ) → c < 256 → FragmentsGive Full next (ZeroPage (source_value (zero_page_expr n (byte_of (b ∷ c ∷ bytes)))) ∷ []) (c ∷ [])
   short_give next b c bytes h = zero_page_worth_gives Full next (source_value (zero_page_expr n c)) c [] [] (λ all k. zero_page_worth image n all c names k) h (no_fragments Full next)
 
-  long_give : (next b c d : ℕ) (bytes : List ℕ) → c < 256 → d < 256 → FragmentsGive Full next (LowFirst (source_value (address_expr n (word_of (b ∷ c ∷ d ∷ bytes)))) ∷ []) (c ∷ d ∷ [])
-  long_give next b c d bytes h g = word_worth_gives Full next (source_value (address_expr n (c + 256 * d))) c d [] [] (λ all k. address_worth image n all (c + 256 * d) names k) h g (no_fragments Full next)
+  long_give : (next b c d : ℕ) (bytes : List ℕ) → c < 256 → d < 256 → FragmentsGive Full next (word_operand (source_value (address_expr n (word_of (b ∷ c ∷ d ∷ bytes)))) ∷ []) (c ∷ d ∷ [])
+  long_give next b c d bytes h g = word_worth_gives Full next Addr (source_value (address_expr n (c + 256 * d))) c d [] [] refl refl (λ all k. address_worth image n all (c + 256 * d) names k) h g (no_fragments Full next)
 
   two_give : (mode : Mode) (a b c : ℕ) (bytes : List ℕ) → len_of mode ≡ 2 → c < 256 → a + 2 ≤ 65536 → OperandsGive Full mode (a + 2) (c ∷ []) (operands_of n mode a (b ∷ c ∷ bytes))
   unfolding operands_of

@@ -1,71 +1,23 @@
 -- The lines of a table: a group begins with each so-manieth item of its piece.
-use Rattle.std.proofs.Common.{◌≡◌, ◌∙◌, ◌⊎◌, inl, inr, ℕ, suc, ◌+◌, ◌-◌, ◌*◌, ◌%◌, ◌<◌, ◌≤◌, not, Bool, true, false, length, refl, sym, ap, arith, ⊎_elim}
-use Rattle.std.proofs.Math.Nat.{add-mod_right, add-mul, mod-add-mod, mod-eq_of_lt}
-use Rattle.std.proofs.lemmas.Bool.{and_from, cases_eq, cases_lt, cond-true, eq-eqb, eqb-true, true≢false}
+use Rattle.std.proofs.Common.{◌≡◌, ◌∙◌, inl, inr, ℕ, suc, ◌+◌, ◌-◌, ◌*◌, ◌/◌, ◌%◌, ◌<◌, ◌≤◌, not, Bool, true, false, length, refl, sym, ap, arith, ⊎_elim}
+use Rattle.std.proofs.Math.Nat.{add-mod_right, add-mul, mod-add-mod, mod-eq_of_lt, mul-div_cancel}
+use Rattle.std.proofs.lemmas.Bool.{and_from, cases_eq, cases_lt, eq-eqb, eqb-true, true≢false}
+use Rattle.info65.proofs.Public.{layout_line, layout_some}
 use Rattle.info65.specs.declared.range.RangeType.{RangeType}
-use Rattle.info65.specs.declared.range.RangeType.TheVariants as role
 use Rattle.map65.specs.Items.{item_len, size_at, wanted_at}
 use Rattle.map65.specs.MapView.{MapView}
-use Rattle.map65.specs.Pieces.{AreOnePiece, are_joined, is_joined}
+use Rattle.map65.specs.Pieces.{AreOnePiece, is_joined}
 use Rattle.map65.specs.Roles.{is_skip, role_of, unit_of}
-use Rattle.map65.proofs.Public.{item-len-at, joined-in, one-role}
+use Rattle.map65.proofs.Public.{item-len-at, item_law, joined-in, one-role, size-one-piece}
 use Rattle.da65.specs.Groups.{IsGroupPlace, IsItemOf, IsStart, goes_on, group_len, is_defined, is_whole, limit_at, limit_of, more_at, stride_at}
-use Rattle.da65.proofs.GroupLemmas.{group-some, stride-group, stride-skip}
+use Rattle.da65.proofs.GroupLemmas.{group-some, item-begun, stride-group, stride-skip}
 use Rattle.da65.proofs.InsideLemmas.{full-more, group-piece}
 use Rattle.da65.proofs.DefinedLemmas.{IsTable, group-unnamed}
 use Rattle.da65.proofs.PlaceLemmas.{Leads, each-place}
 use Rattle.da65.proofs.ShapeLemmas.{role-past, group-one, limit-other, limit-whole, one-more, size-is, wanted-of}
 
--- ---- roles of tables
-
-unit-small : (r : RangeType) → (unit_of r ≡ 1) ⊎ (unit_of r ≡ 2)
-unit-small role.Code = inl refl
-unit-small role.ByteTable = inl refl
-unit-small role.WordTable = inr refl
-unit-small role.DbyteTable = inr refl
-unit-small role.AddrTable = inr refl
-unit-small role.RtsTable = inr refl
-unit-small role.TextTable = inl refl
-unit-small role.Skip = inl refl
-
-limit-positive : (r : RangeType) → 1 ≤ limit_of r
-limit-positive role.Code = omega arith
-limit-positive role.ByteTable = omega arith
-limit-positive role.WordTable = omega arith
-limit-positive role.DbyteTable = omega arith
-limit-positive role.AddrTable = omega arith
-limit-positive role.RtsTable = omega arith
-limit-positive role.TextTable = omega arith
-limit-positive role.Skip = omega arith
-
 none-over : (r : RangeType) → 0 % limit_of r ≡ 0
-none-over role.Code = refl
-none-over role.ByteTable = refl
-none-over role.WordTable = refl
-none-over role.DbyteTable = refl
-none-over role.AddrTable = refl
-none-over role.RtsTable = refl
-none-over role.TextTable = refl
-none-over role.Skip = refl
-
-joined-one : (m : MapView) (a : ℕ) → is_joined m (a + 1) ≡ true → are_joined m 1 a ≡ true
-unfolding are_joined
-joined-one m a joined = and_from _ _ joined refl
-
-size-whole : (m : MapView) (a : ℕ) → are_joined m (wanted_at m a - 1) a ≡ true → size_at m a ≡ wanted_at m a
-unfolding size_at
-size-whole m a are = cond-true (are_joined m (wanted_at m a - 1) a) _ _ are
-
--- where its piece goes on after the first byte, an item of a table is as long as its role's
-unit-joined : (m : MapView) (a : ℕ) (r : RangeType) → wanted_at m a ≡ unit_of r → is_joined m (a + 1) ≡ true → size_at m a ≡ unit_of r
-unit-joined m a r wanted joined = by-unit (unit-small r) (size-is m a)
-  where
-    by-unit : (unit_of r ≡ 1) ⊎ (unit_of r ≡ 2) → (size_at m a ≡ wanted_at m a) ⊎ (size_at m a ≡ 1) → size_at m a ≡ unit_of r
-    by-unit u (inl whole) = whole ∙ wanted
-    by-unit (inl u) (inr one) = one ∙ sym u
-    by-unit (inr u) (inr one) =
-        let count : wanted_at m a - 1 ≡ 1 = omega (arith, wanted, u) in
-        size-whole m a (ap (λ (n : ℕ). are_joined m n a) count ∙ joined-one m a joined) ∙ wanted
+none-over r = mod-eq_of_lt (omega (arith, layout_line r))
 
 goes-on-if : (m : MapView) (a : ℕ) → is_joined m a ≡ true → is_whole m a ≡ true → is_defined m a ≡ false → goes_on m a ≡ true
 unfolding goes_on
@@ -133,14 +85,21 @@ module _ (m : MapView) (r : RangeType) (table : IsTable m r) where
       wanted : wanted_at m a ≡ unit_of r
       wanted = wanted-of m a r role-a ∙ table.sizes _
 
-      -- it can't be a byte that is left over
+      -- it can't be a leftover byte: the piece has room for its item, since it has room for the whole one after it
       size : is_whole m a ≡ false → size_at m a ≡ unit_of r
       size cut = ⊎_elim
           (λ all. all ∙ wanted)
           (λ one.
           let alone : group_len m a ≡ item_len m a = group-one m a (limit-other m a cut) in
           let place : a + 1 ≡ next = omega (arith, len, alone, begun, one) in
-          unit-joined m a r wanted (ap (is_joined m) place ∙ joined))
+          let after : item_len m next ≡ unit_of r = eqb-true (item_len m next) (unit_of (role_of m.info next)) whole ∙ ap unit_of role-is in
+          let after-size : size_at m next ≡ unit_of r = sym (item-begun m next (omega (arith, after, layout_some r))).size ∙ after in
+          let piece : AreOnePiece m a (a + wanted_at m a - 1) = λ x low high.
+          ⊎_elim
+          (λ same. ap (is_joined m) same ∙ joined)
+          (λ other. size-one-piece m next x (omega (arith, low, place, other)) (omega (arith, high, wanted, after-size, place)))
+          (cases_eq x next) in
+          sym begun ∙ (item_law m).items.whole a (omega (arith, begun, one)) piece ∙ wanted)
           (size-is m a)
 
       long : is_whole m a ≡ true → n ≡ limit_of r * unit_of r
@@ -151,7 +110,7 @@ module _ (m : MapView) (r : RangeType) (table : IsTable m r) where
           let place : a + item_len m a + others ≡ next = omega (arith, len, group-is m a) in
           let more : others ≡ (limit_at m a - 1) * unit_of r =
           full-more m (limit_at m a - 1) (a + item_len m a) r (λ on. role-past m a (item_len m a) begun on ∙ role-a) (ap (goes_on m) place ∙ goes-on-if m next joined whole unnamed) in
-          let count : suc (limit_at m a - 1) ≡ limit_of r = omega (arith, limit, limit-positive r) in
+          let count : suc (limit_at m a - 1) ≡ limit_of r = omega (arith, limit, layout_line r) in
           len ∙ group-is m a ∙ one-more (item_len m a) (unit_of r) (limit_at m a - 1) others unit more ∙ ap (λ (c : ℕ). c * unit_of r) count
 
       go : (t : Bool) → is_whole m a ≡ t → BeginsFull m r (p + n)
@@ -214,15 +173,16 @@ one-first m a k c item other low_f low_g =
     (λ more. ⊎_elim (λ same. same) (λ apart. absurd (not-before m a c item.first other item.is_start (omega (arith, more, apart)) low_f)) (cases_eq item.first other.first))
     (cases_lt item.first other.first)
 
-same-count : (f a u k c : ℕ) → (u ≡ 1) ⊎ (u ≡ 2) → a ≡ f + k * u → a ≡ f + c * u → k ≡ c
-same-count f a u k c (inl e) h g = let h' = rw e at h in let g' = rw e at g in omega (arith, h', g')
-same-count f a u k c (inr e) h g = let h' = rw e at h in let g' = rw e at g in omega (arith, h', g')
+same-count : (f a u k c : ℕ) → 1 ≤ u → a ≡ f + k * u → a ≡ f + c * u → k ≡ c
+same-count f a u k c some h g =
+    let same : k * u ≡ c * u = omega (arith, h, g) in
+    sym (mul-div_cancel k (omega (arith, some))) ∙ ap (λ (n : ℕ). n / u) same ∙ mul-div_cancel c (omega (arith, some))
 
 pub one-count : (m : MapView) (a k c : ℕ) → IsItemOf m a k → IsItemOf m a c → k ≡ c
 one-count m a k c item other =
     let unit : ℕ = unit_of (role_of m.info a) in
     let first : item.first ≡ other.first = one-first m a k c item other (omega (arith, item.place)) (omega (arith, other.place)) in
-    same-count other.first a unit k c (unit-small (role_of m.info a)) (item.place ∙ ap (λ (f : ℕ). f + k * unit) first) other.place
+    same-count other.first a unit k c (layout_some (role_of m.info a)) (item.place ∙ ap (λ (f : ℕ). f + k * unit) first) other.place
 
 pub not-full : (limit c i : ℕ) → c % limit ≡ 0 → (c + i) % limit ≡ 0 → 1 ≤ i → i < limit → ⊥
 not-full limit c i full again some low =

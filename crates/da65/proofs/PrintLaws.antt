@@ -1,5 +1,5 @@
 -- Each line of a listing can be printed, and reads as its statement with its label.
-use Rattle.std.proofs.Common.{◌≡◌, ◌⊎◌, inl, inr, ℕ, true, ◌+◌, ◌<◌, ◌≤◌, List, [], ◌∷◌, length, take, Option, Some, None, refl, arith}
+use Rattle.std.proofs.Common.{◌≡◌, ℕ, true, ◌+◌, ◌<◌, ◌≤◌, List, [], ◌∷◌, length, take, Option, Some, None, refl, arith}
 use Rattle.std.specs.Prelude.{IfSome, nat_lt, slice_index, ◌==◌}
 use Rattle.std.specs.List.{list_all}
 use Rattle.std.proofs.lemmas.Bool.{and_from, cond_both, eqb-false, lt-ltb, ltb-false, ltb-true}
@@ -11,8 +11,14 @@ use Rattle.isa65.specs.declared.mnemonic.Mnemonic.{Mnemonic}
 use Rattle.isa65.specs.declared.mode.Mode.{Mode}
 use Rattle.isa65.specs.declared.mode.Mode.TheVariants.{Imp, Acc, Imm, Zp, Zpx, Zpy, Abs, Absx, Absy, Ind, Indx, Indy, Zpind, Absindx, Rel, Zprel}
 use Rattle.isa65.specs.declared.op.Op.{Op}
+use Rattle.isa65.specs.declared.byte_order.ByteOrder.{ByteOrder}
+use Rattle.info65.proofs.Public.{layout_entry}
+use Rattle.info65.specs.Layouts.{IsEntry, layout_of}
+use Rattle.info65.specs.declared.range.Entry.{Entry}
+use Rattle.info65.specs.declared.range.Entry.TheVariants.{Instruction, Number, Address, Return, Character, Skipped}
 use Rattle.info65.specs.declared.range.RangeType.{RangeType}
-use Rattle.info65.specs.declared.range.RangeType.TheVariants as role
+use Rattle.stmt65.specs.declared.directive.Directive.{Directive}
+use Rattle.stmt65.specs.declared.directive.Directive.TheVariants.{Word}
 use Rattle.stmt65.specs.Views as view
 use Rattle.stmt65.specs.Views.{ExprView, OperandsView, StatementView}
 use Rattle.stmt65.specs.Line.{line_of}
@@ -22,13 +28,16 @@ use Rattle.stmt65.specs.code.Widths.{AreWordWide, IsInWidth, IsWordWide}
 use Rattle.stmt65.proofs.Public.{one_line, reads_back}
 use Rattle.map65.specs.ImageView.{AreBytes}
 use Rattle.map65.specs.Names.{Base}
+use Rattle.map65.specs.Roles.{unit_of}
 use Rattle.map65.specs.Targets.{byte_of, entry_of, target_of, word_of}
 use Rattle.da65.specs.BaseNames.{Names}
+use Rattle.da65.specs.Groups.{limit_of}
 use Rattle.da65.specs.Instructions.{instruction_in}
 use Rattle.da65.specs.Listing.{ListingLine, line_text, remarks_of}
-use Rattle.da65.specs.Statements.{addr_from, address_entry, address_expr, bytes_statement, constant_base, expr_from, is_forced, operands_of, return_entry, rts_from, rts_to, statement_for, statement_in, statement_of, words_or_byte, written, zero_page_expr}
-use Rattle.da65.specs.Shapes.{AreWords, IsGroupOf}
+use Rattle.da65.specs.Statements.{addr_from, address_entry, address_expr, bytes_statement, constant_base, expr_from, is_forced, operands_of, directive_of, entries_or_byte, numbers, return_entry, rts_from, rts_to, statement_by, statement_for, statement_in, statement_of, written, zero_page_expr}
+use Rattle.da65.specs.Shapes.{IsGroupOf, IsLineOf}
 use Rattle.da65.specs.declared.style.Style.{Style}
+use Rattle.da65.proofs.EntryLemmas.{address_bytes, few_entries, number_small, numbers_print}
 use Rattle.da65.proofs.FragmentLaws.{target_is}
 use Rattle.da65.proofs.NameTexts.{IsNameText}
 use Rattle.da65.proofs.TargetBounds.{byte-small, entry-small, word-small}
@@ -181,29 +190,25 @@ short_prints bytes are some high = record { printable = (omega (arith, some), hi
 text_prints : (bytes : List ℕ) → AreBytes bytes → 0 < length bytes → length bytes ≤ 16 → StatementPrints (view.text bytes)
 text_prints bytes are some high = record { printable = (omega (arith, some), high); width = bytes_pass bytes are; names = tt }
 
-words_print : (bytes : List ℕ) → AreBytes bytes → IsTable bytes → StatementPrints (view.words bytes)
-words_print bytes are is = record { printable = is; width = bytes_pass bytes are; names = tt }
+table_prints : (d : Directive) (bytes : List ℕ) → AreBytes bytes → IsTable d bytes → StatementPrints (view.numbers d bytes)
+table_prints d bytes are is = record { printable = is; width = bytes_pass bytes are; names = tt }
 
-dbyts_print : (bytes : List ℕ) → AreBytes bytes → IsTable bytes → StatementPrints (view.dbyts bytes)
-dbyts_print bytes are is = record { printable = is; width = bytes_pass bytes are; names = tt }
+-- the numbers of a line
+number_line : (unit : ℕ) (order : ByteOrder) (bytes : List ℕ) → AreBytes bytes → IsPrintable (numbers unit order bytes) → StatementPrints (numbers unit order bytes)
+number_line unit order bytes are =
+    cond_both (unit == 1) (view.bytes bytes) (view.numbers (directive_of unit order) bytes) (λ s. IsPrintable s → StatementPrints s)
+    (λ _ is. record { printable = is; width = bytes_pass bytes are; names = tt })
+    (λ _. table_prints (directive_of unit order) bytes are)
 
-either_prints : (whole : StatementView) (bytes : List ℕ) → AreBytes bytes → 0 < length bytes → (2 ≤ length bytes → StatementPrints whole) → StatementPrints (words_or_byte whole bytes)
-either_prints whole bytes are some print =
-    cond_both (nat_lt (length bytes) 2) (view.bytes bytes) whole StatementPrints
-    (λ one. short_prints bytes are some (omega (arith, ltb-true (length bytes) 2 one)))
-    (λ more. print (ltb-false (length bytes) 2 more))
-
-table_of_words : (bytes : List ℕ) → 2 ≤ length bytes → (length bytes ≡ 1) ⊎ AreWords bytes → IsTable bytes
-table_of_words bytes more (inl one) = absurd (omega (arith, more, one))
-table_of_words bytes more (inr are) = (are.0, (more, are.1))
-
-two_of : (bytes : List ℕ) → 2 ≤ length bytes → (length bytes ≡ 1) ⊎ (length bytes ≡ 2) → length bytes ≡ 2
-two_of bytes more (inl one) = absurd (omega (arith, more, one))
-two_of bytes more (inr two) = two
+either_prints : (unit : ℕ) (entries : StatementView) (bytes : List ℕ) → AreBytes bytes → 0 < length bytes → unit ≤ 8 → (unit ≤ length bytes → StatementPrints entries) → StatementPrints (entries_or_byte unit entries bytes)
+either_prints unit entries bytes are some small print =
+    cond_both (nat_lt (length bytes) unit) (view.bytes bytes) entries StatementPrints
+    (λ one. short_prints bytes are some (omega (arith, small, ltb-true (length bytes) unit one)))
+    (λ more. print (ltb-false (length bytes) unit more))
 
 -- a word as a number
-word_prints : (bytes : List ℕ) → AreBytes bytes → length bytes ≡ 2 → StatementPrints (view.words bytes)
-word_prints bytes are two = words_print bytes are (omega (arith, two), (omega (arith, two), omega (arith, two)))
+word_prints : (bytes : List ℕ) → AreBytes bytes → length bytes ≡ 2 → StatementPrints (view.numbers Word bytes)
+word_prints bytes are two = table_prints Word bytes are (omega (arith, two), (omega (arith, two), omega (arith, two)))
 
 address_prints : (m : Names) → HaveTexts m → (bytes : List ℕ) → AreBytes bytes → length bytes ≡ 2 → StatementPrints (address_entry m bytes)
 unfolding address_entry
@@ -224,13 +229,18 @@ return_prints m h bytes are two =
     go low None e = word_prints bytes are two
     go low (Some b) e = let text : IsNameText b.text = h.texts (entry_of bytes + 1) b e in record { printable = text.long; width = omega (arith, low); names = text.name }
 
+line_prints : (m : Names) → HaveTexts m → (t : Table) (unit per_line : ℕ) (e : Entry) (a : ℕ) (bytes : List ℕ) → AreBytes bytes → 0 < length bytes → a + length bytes ≤ 65536
+    → IsEntry unit per_line e → IsLineOf t unit per_line e bytes → StatementPrints (statement_by m t unit e a bytes)
+line_prints m h t unit per_line Instruction a bytes are some room is of = item_prints m h t a bytes are some room
+line_prints m h t unit per_line (Number order) a bytes are some room is of =
+    either_prints unit (numbers unit order bytes) bytes are some (number_small unit order is.0) (λ more. number_line unit order bytes are (numbers_print unit per_line order bytes is of some more))
+line_prints m h t unit per_line Address a bytes are some room is of =
+    either_prints unit (address_entry m bytes) bytes are some (omega (arith, is.0)) (λ more. address_prints m h bytes are (address_bytes unit per_line bytes is of more))
+line_prints m h t unit per_line Return a bytes are some room is of =
+    either_prints unit (return_entry m bytes) bytes are some (omega (arith, is.0)) (λ more. return_prints m h bytes are (address_bytes unit per_line bytes is of more))
+line_prints m h t unit per_line Character a bytes are some room is of = text_prints bytes are some (few_entries unit per_line bytes is.1 of)
+line_prints m h t unit per_line Skipped a bytes are some room is of = absurd of
+
 pub group_prints : (m : Names) → HaveTexts m → (t : Table) (r : RangeType) (a : ℕ) (bytes : List ℕ) → AreBytes bytes → 0 < length bytes → a + length bytes ≤ 65536 → IsGroupOf t r bytes → StatementPrints (statement_for m t r a bytes)
 unfolding statement_for
-group_prints m h t role.Code a bytes are some room of = item_prints m h t a bytes are some room
-group_prints m h t role.ByteTable a bytes are some room of = short_prints bytes are some of
-group_prints m h t role.WordTable a bytes are some room of = either_prints (view.words bytes) bytes are some (λ more. words_print bytes are (table_of_words bytes more of))
-group_prints m h t role.DbyteTable a bytes are some room of = either_prints (view.dbyts bytes) bytes are some (λ more. dbyts_print bytes are (table_of_words bytes more of))
-group_prints m h t role.AddrTable a bytes are some room of = either_prints (address_entry m bytes) bytes are some (λ more. address_prints m h bytes are (two_of bytes more of))
-group_prints m h t role.RtsTable a bytes are some room of = either_prints (return_entry m bytes) bytes are some (λ more. return_prints m h bytes are (two_of bytes more of))
-group_prints m h t role.TextTable a bytes are some room of = text_prints bytes are some of
-group_prints m h t role.Skip a bytes are some room of = absurd of
+group_prints m h t r a bytes are some room of = line_prints m h t (unit_of r) (limit_of r) (layout_of r).entry a bytes are some room (layout_entry r) of

@@ -1,13 +1,15 @@
 -- The bytes of a group, by its role.
-use Rattle.std.proofs.Common.{◌≡◌, ◌∙◌, ◌⊎◌, inl, inr, ℕ, zero, suc, ◌+◌, ◌-◌, ◌*◌, ◌<◌, ◌≤◌, nat_le, Bool, true, false, List, [], ◌∷◌, length, take, drop, Option, Some, None, refl, ap, sym, subst, arith, length-drop}
+use Rattle.std.proofs.Common.{◌≡◌, ◌∙◌, ◌⊎◌, inl, inr, ℕ, zero, suc, ◌+◌, ◌-◌, ◌*◌, ◌%◌, ◌<◌, ◌≤◌, nat_le, Bool, true, false, List, [], ◌∷◌, length, take, drop, Option, Some, None, refl, ap, sym, subst, arith, length-drop}
 use Rattle.std.specs.Prelude.{slice_index}
 use Rattle.std.proofs.lemmas.Bool.{cond-true, cond-false, cond_both, eqb-true, leb-true, leb-false, eq-eqb, true≢false}
+use Rattle.std.proofs.Math.Nat.{mul-le-mul_right, mul-mod_left}
 use Rattle.std.proofs.lemmas.List.{get_or-drop, get_or-take, length-take-le}
 use Rattle.isa65.specs.Mode.{len_of}
 use Rattle.isa65.specs.Opcodes.{Table, decoded}
 use Rattle.isa65.specs.declared.mode.Mode.{Mode}
 use Rattle.isa65.specs.declared.mode.Mode.TheVariants.{Imp}
 use Rattle.isa65.specs.declared.op.Op.{Op}
+use Rattle.info65.proofs.Public.{layout_line}
 use Rattle.info65.specs.declared.range.RangeType.{RangeType}
 use Rattle.info65.specs.declared.range.RangeType.TheVariants as role
 use Rattle.map65.specs.ImageView.{byte_at, bytes_from}
@@ -19,7 +21,7 @@ use Rattle.map65.proofs.Public.{item-len-at, joined-in, one-role, size-one-piece
 use Rattle.da65.specs.Groups.{IsGroupPlace, goes_on, group_bytes, group_len, is_whole, limit_at, limit_of, more_at}
 use Rattle.da65.specs.Instructions.{instruction_in, size_of, whole_in}
 use Rattle.da65.specs.ReassemblyLaw.{GroupsAreGroups, IsGroup}
-use Rattle.da65.specs.Shapes.{AreWords, IsGroupOf}
+use Rattle.da65.specs.Shapes.{AreEntries, IsGroupOf}
 use Rattle.da65.proofs.GroupLemmas.{group-begun, group-fits, group-some, item-begun, item-goes-on, more-false, more-none, more-true, place-of}
 
 -- ---- the bytes from an address on
@@ -168,23 +170,12 @@ module _ (m : MapView) (k : ℕ) (here : IsGroupPlace m k) (low : k < length m.i
   long : length (group_bytes m (m.image.start + k)) ≡ group_len m (m.image.start + k)
   long = group-long m k (group-fits m k here low shown)
 
-  words : (r : RangeType) → limit_of r ≤ 4 → unit_of r ≡ 2 → IsLong r (group_len m (m.image.start + k)) → (length (group_bytes m (m.image.start + k)) ≡ 1) ⊎ AreWords (group_bytes m (m.image.start + k))
-  words r limit unit (inl one) = inl (long ∙ one)
-  words r limit unit (inr some) =
-      let two : group_len m (m.image.start + k) ≡ suc some.count * 2 = some.is ∙ ap (λ (n : ℕ). suc some.count * n) unit in
-      inr (omega (arith, long, two), omega (arith, long, two, some.bound, limit))
-
-  pair : (r : RangeType) → limit_of r ≡ 1 → unit_of r ≡ 2 → IsLong r (group_len m (m.image.start + k)) → (length (group_bytes m (m.image.start + k)) ≡ 1) ⊎ (length (group_bytes m (m.image.start + k)) ≡ 2)
-  pair r limit unit (inl one) = inl (long ∙ one)
-  pair r limit unit (inr some) =
-      let two : group_len m (m.image.start + k) ≡ suc some.count * 2 = some.is ∙ ap (λ (n : ℕ). suc some.count * n) unit in
-      inr (omega (arith, long, two, some.bound, limit))
-
-  single_bytes : (r : RangeType) → unit_of r ≡ 1 → 1 ≤ limit_of r → IsLong r (group_len m (m.image.start + k)) → length (group_bytes m (m.image.start + k)) ≤ limit_of r
-  single_bytes r unit limit (inl one) = omega (arith, long, one, limit)
-  single_bytes r unit limit (inr some) =
-      let one : group_len m (m.image.start + k) ≡ suc some.count * 1 = some.is ∙ ap (λ (n : ℕ). suc some.count * n) unit in
-      omega (arith, long, one, some.bound, limit)
+  entries : (r : RangeType) → IsLong r (group_len m (m.image.start + k)) → AreEntries (unit_of r) (limit_of r) (group_bytes m (m.image.start + k))
+  entries r (inl one) = inl (long ∙ one)
+  entries r (inr some) =
+      let all : length (group_bytes m (m.image.start + k)) ≡ suc some.count * unit_of r = long ∙ some.is in
+      let high : suc some.count * unit_of r ≤ limit_of r * unit_of r = mul-le-mul_right (unit_of r) (omega (arith, some.bound, layout_line r)) in
+      inr (ap (λ (n : ℕ). n % unit_of r) all ∙ mul-mod_left (suc some.count) (unit_of r), omega (arith, all, high))
 
   code : role_of m.info (m.image.start + k) ≡ role.Code → size_of (instruction_in (opcodes m) (group_bytes m (m.image.start + k))) ≡ length (group_bytes m (m.image.start + k))
   code e =
@@ -199,13 +190,8 @@ module _ (m : MapView) (k : ℕ) (here : IsGroupPlace m k) (low : k < length m.i
     where
       go : (r : RangeType) → role_of m.info (m.image.start + k) ≡ r → IsGroupOf (opcodes m) r (group_bytes m (m.image.start + k))
       go role.Code e = code e
-      go role.ByteTable e = single_bytes role.ByteTable refl (omega arith) (table-long m (m.image.start + k) role.ByteTable e (wanted-of m (m.image.start + k) role.ByteTable e) begun)
-      go role.WordTable e = words role.WordTable (omega arith) refl (table-long m (m.image.start + k) role.WordTable e (wanted-of m (m.image.start + k) role.WordTable e) begun)
-      go role.DbyteTable e = words role.DbyteTable (omega arith) refl (table-long m (m.image.start + k) role.DbyteTable e (wanted-of m (m.image.start + k) role.DbyteTable e) begun)
-      go role.AddrTable e = pair role.AddrTable refl refl (table-long m (m.image.start + k) role.AddrTable e (wanted-of m (m.image.start + k) role.AddrTable e) begun)
-      go role.RtsTable e = pair role.RtsTable refl refl (table-long m (m.image.start + k) role.RtsTable e (wanted-of m (m.image.start + k) role.RtsTable e) begun)
-      go role.TextTable e = single_bytes role.TextTable refl (omega arith) (table-long m (m.image.start + k) role.TextTable e (wanted-of m (m.image.start + k) role.TextTable e) begun)
       go role.Skip e = absurd (true≢false (sym (ap is_skip e) ∙ shown))
+      go r e = entries r (table-long m (m.image.start + k) r e (wanted-of m (m.image.start + k) r e) begun)
 
 -- ---- the law
 

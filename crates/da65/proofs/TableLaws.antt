@@ -1,14 +1,20 @@
--- The bytes of tables: texts, and words with either byte first.
-use Rattle.std.proofs.Common.{◌≡◌, ℕ, ◌+◌, ◌*◌, ◌%◌, ◌<◌, List, [], ◌∷◌, length, map, refl, arith}
+-- The bytes of tables: texts, and numbers.
+use Rattle.std.proofs.Common.{◌≡◌, ℕ, zero, suc, ◌+◌, ◌*◌, ◌/◌, ◌%◌, ◌<◌, ◌≤◌, List, [], ◌∷◌, ◌++◌, length, map, take, drop, refl, subst, ◌∙◌, arith}
 use Rattle.std.specs.List.{flat_map}
+use Rattle.std.proofs.Math.Nat.{suc-mul}
 use Rattle.std.proofs.lemmas.Bool.{cond_both}
-use Rattle.std.proofs.lemmas.List.Elements.{All-head, All-tail}
-use Rattle.stmt65.specs.SourceLine.{Datum, NumberDatum, StringDatum, NumberValue}
+use Rattle.std.proofs.lemmas.List.{length-drop, length-take-le, take-append-drop}
+use Rattle.std.proofs.lemmas.List.Elements.{All-drop, All-head, All-tail, All-take}
+use Rattle.stmt65.specs.SourceLine.{Datum, NumberDatum, StringDatum}
 use Rattle.stmt65.specs.Symbols.{Definition}
-use Rattle.stmt65.specs.Coding.{Fragment, Fixed, LowFirst, HighFirst, datum_fragments, fragment_bytes, fragment_fits}
-use Rattle.stmt65.specs.Tables.{high_words, is_plain, low_words, onto_stretch, cut_text}
+use Rattle.stmt65.specs.Coding.{Fixed, Entry, datum_fragments}
+use Rattle.stmt65.specs.declared.directive.Directive.{Directive}
+use Rattle.stmt65.specs.declared.directive.Directive.TheVariants.{Word}
+use Rattle.stmt65.specs.Directives.{entry_len}
+use Rattle.stmt65.specs.Printed.{entry_value}
+use Rattle.stmt65.specs.Tables.{pieces, entries, is_plain, onto_stretch, cut_text}
 use Rattle.map65.specs.ImageView.{AreBytes}
-use Rattle.da65.proofs.FragmentLaws.{FragmentsGive, fixed_gives, more_fragments, no_fragments, number_known, single_gives, word_gives, word_high, word_low, word_of_number}
+use Rattle.da65.proofs.FragmentLaws.{FragmentsGive, fixed_gives, no_fragments, single_gives, entry_gives}
 
 -- ---- texts
 
@@ -27,36 +33,27 @@ text_give Full next (b ∷ bytes) are =
     (λ plain. rw (onto_fragments b (cut_text bytes)) (fixed_gives Full next b _ bytes others))
     (λ other. single_gives Full next b _ bytes (All-head (λ b. b < 256) b bytes are) others)
 
--- ---- words
+-- ---- numbers
 
--- the bytes after the first two, and these
-other_bytes : (a b : ℕ) (bytes : List ℕ) → AreBytes (a ∷ b ∷ bytes) → AreBytes bytes
-other_bytes a b bytes are = All-tail (λ b. b < 256) b bytes (All-tail (λ b. b < 256) a (b ∷ bytes) are)
+pub pieces_give : (Full : List Definition → Type 0) (next : ℕ) (d : Directive) (count : ℕ) (bytes : List ℕ) → AreBytes bytes → length bytes ≡ count * entry_len d
+    → FragmentsGive Full next (map (Entry d) (map (entry_value d) (pieces count (entry_len d) bytes))) bytes
+unfolding pieces
+pieces_give Full next d zero [] are long = no_fragments Full next
+pieces_give Full next d zero (b ∷ bytes) are long = absurd (omega (arith, long))
+pieces_give Full next d (suc count) bytes are long =
+    let n = entry_len d in
+    let room : n ≤ length bytes = omega (arith, long, suc-mul count n) in
+    let left : length (drop n bytes) ≡ count * n = length-drop n bytes ∙ omega (arith, long, suc-mul count n) in
+    let others = pieces_give Full next d count (drop n bytes) (All-drop (λ b. b < 256) n bytes are) left in
+    let front = entry_gives Full next d (take n bytes) _ (drop n bytes) (length-take-le n bytes room) (All-take (λ b. b < 256) n bytes are) others in
+    subst (λ (l : List ℕ). FragmentsGive Full next (map (Entry d) (map (entry_value d) (pieces (suc count) n bytes))) l) (take-append-drop n bytes) front
 
-second_byte : (a b : ℕ) (bytes : List ℕ) → AreBytes (a ∷ b ∷ bytes) → b < 256
-second_byte a b bytes are = All-head (λ b. b < 256) b bytes (All-tail (λ b. b < 256) a (b ∷ bytes) are)
-
-pub low_words_give : (Full : List Definition → Type 0) (next : ℕ) (bytes : List ℕ) → AreBytes bytes → length bytes % 2 ≡ 0 → FragmentsGive Full next (map LowFirst (map NumberValue (low_words bytes))) bytes
-unfolding low_words
-low_words_give Full next [] are even = no_fragments Full next
-low_words_give Full next (a ∷ []) are even = absurd (omega (arith, even))
-low_words_give Full next (a ∷ b ∷ bytes) are even =
-    word_gives Full next a b _ bytes (All-head (λ b. b < 256) a (b ∷ bytes) are) (second_byte a b bytes are)
-    (low_words_give Full next bytes (other_bytes a b bytes are) (omega (arith, even)))
-
-high_word_gives : (Full : List Definition → Type 0) (next b c : ℕ) (fragments : List Fragment) (bytes : List ℕ) → b < 256 → c < 256 → FragmentsGive Full next fragments bytes
-    → FragmentsGive Full next (HighFirst (NumberValue (b + 256 * c)) ∷ fragments) (c ∷ b ∷ bytes)
-unfolding fragment_fits fragment_bytes
-high_word_gives Full next b c fragments bytes h g rest =
-    let room : b + 256 * c < 65536 = omega (arith, h, g) in
-    more_fragments Full next (HighFirst (NumberValue (b + 256 * c))) fragments (c ∷ b ∷ []) bytes refl (λ all full. number_known all (b + 256 * c))
-    (λ all full. rw (word_of_number all (b + 256 * c) room) refl)
-    (λ all full. rw (word_of_number all (b + 256 * c) room, word_low b c h, word_high b c h) refl) rest
-
-pub high_words_give : (Full : List Definition → Type 0) (next : ℕ) (bytes : List ℕ) → AreBytes bytes → length bytes % 2 ≡ 0 → FragmentsGive Full next (map HighFirst (map NumberValue (high_words bytes))) bytes
-unfolding high_words
-high_words_give Full next [] are even = no_fragments Full next
-high_words_give Full next (a ∷ []) are even = absurd (omega (arith, even))
-high_words_give Full next (a ∷ b ∷ bytes) are even =
-    high_word_gives Full next b a _ bytes (second_byte a b bytes are) (All-head (λ b. b < 256) a (b ∷ bytes) are)
-    (high_words_give Full next bytes (other_bytes a b bytes are) (omega (arith, even)))
+-- the entries of a table give its bytes
+pub entries_give : (Full : List Definition → Type 0) (next : ℕ) (d : Directive) (bytes : List ℕ) → AreBytes bytes → length bytes % entry_len d ≡ 0
+    → FragmentsGive Full next (map (Entry d) (map (entry_value d) (entries d bytes))) bytes
+unfolding entries
+entries_give Full next d bytes are whole = pieces_give Full next d (length bytes / entry_len d) bytes are (count d whole)
+  where
+    count : (d : Directive) → length bytes % entry_len d ≡ 0 → length bytes ≡ length bytes / entry_len d * entry_len d
+    count Word h = omega (arith, h)
+    count _ h = omega (arith, h)

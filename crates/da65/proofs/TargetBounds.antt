@@ -11,14 +11,16 @@ use Rattle.isa65.specs.declared.mode.Mode.TheVariants.{Imp, Acc, Imm, Zp, Zpx, Z
 use Rattle.isa65.specs.declared.op.Op.{Op}
 use Rattle.info65.specs.Names.{AreNames, blank_name, covering, name_at}
 use Rattle.info65.specs.Views.{NameView}
+use Rattle.info65.specs.Layouts.{layout_of}
+use Rattle.info65.specs.declared.range.Entry.{Entry}
+use Rattle.info65.specs.declared.range.Entry.TheVariants.{Instruction, Address, Return}
 use Rattle.info65.specs.declared.range.RangeType.{RangeType}
-use Rattle.info65.specs.declared.range.RangeType.TheVariants as role
 use Rattle.map65.specs.ImageView.{AreBytes, ImageView, IsPlaced, bytes_from, is_inside}
 use Rattle.map65.specs.Items.{item_len, size_at}
 use Rattle.map65.specs.MapView.{MapView, opcodes}
 use Rattle.map65.specs.Names.{Base, IsWanted, base_at, base_by, home_base, is_wanted}
 use Rattle.map65.specs.Roles.{role_of}
-use Rattle.map65.specs.Targets.{byte_of, code_target, entry_of, is_jump, only_inside, operand_target, return_target, target_at, target_for, word_of}
+use Rattle.map65.specs.Targets.{byte_of, code_target, entry_of, entry_target, is_jump, only_inside, operand_target, return_target, target_at, target_for, word_of}
 use Rattle.map65.proofs.Public.{begun, last-name, size-fits, wanted_law}
 use Rattle.da65.proofs.FragmentLaws.{target_is}
 
@@ -86,16 +88,15 @@ entries-small n bytes t are =
     let P : Option ℕ → Type 0 = λ o. o ≡ Some t → t < 65536 in
     cond_both (n == 2) (return_target (entry_of bytes)) None P (λ _. return-small (entry_of bytes) t (entry-small bytes are)) (λ _ f. absurd cc)
 
+of-entry-small : (m : MapView) (e : Entry) (n a : ℕ) (bytes : List ℕ) (t : ℕ) → AreBytes bytes → a + n ≤ 65536 → entry_target m e n a bytes ≡ Some t → t < 65536
+of-entry-small m Instruction n a bytes t are room e = code-small m.image (decoded (opcodes m) (slice_index bytes 0)) n a bytes t are room e
+of-entry-small m Address n a bytes t are room e = address-small n bytes t are e
+of-entry-small m Return n a bytes t are room e = entries-small n bytes t are e
+of-entry-small m _ n a bytes t are room e = absurd cc
+
 role-small : (m : MapView) (r : RangeType) (n a : ℕ) (bytes : List ℕ) (t : ℕ) → AreBytes bytes → a + n ≤ 65536 → target_for m r n a bytes ≡ Some t → t < 65536
 unfolding target_for
-role-small m role.Code n a bytes t are room e = code-small m.image (decoded (opcodes m) (slice_index bytes 0)) n a bytes t are room e
-role-small m role.AddrTable n a bytes t are room e = address-small n bytes t are e
-role-small m role.RtsTable n a bytes t are room e = entries-small n bytes t are e
-role-small m role.ByteTable n a bytes t are room e = absurd cc
-role-small m role.WordTable n a bytes t are room e = absurd cc
-role-small m role.DbyteTable n a bytes t are room e = absurd cc
-role-small m role.TextTable n a bytes t are room e = absurd cc
-role-small m role.Skip n a bytes t are room e = absurd cc
+role-small m r n a bytes t are room e = of-entry-small m (layout_of r).entry n a bytes t are room e
 
 pub target-small : (m : MapView) (item t : ℕ) → IsPlaced m.image → AreBytes m.image.bytes → 0 < item_len m item → target_at m item ≡ Some t → t < 65536
 unfolding target_at

@@ -2,6 +2,7 @@
 pub mod Bases
 pub mod CommandRules
 pub mod Entering
+pub mod KeySet
 pub mod Layout
 pub mod Preparing
 pub mod Refusals

@@ -1,11 +1,11 @@
 -- Line groups: the items that stand on one line.
 --
--- A group is one item, or several neighbouring items of one piece of a table: at most 8 bytes, 4 words or dbytes, 1 address, 1 return
--- entry, or 16 bytes of text. The items of a piece are counted from 0 at its start, and again from 0 at each item that is defined by
+-- A group is one item, or several neighbouring items of one piece of a table: as many as the layout of its type has on a line. The items of a piece are counted from 0 at its start, and again from 0 at each item that is defined by
 -- name; item k belongs to group k divided by the limit. So a group breaks before an item that is defined by name. An item of code and a
 -- leftover byte of a table stand alone.
 use Rattle.std.specs.Prelude.{◌≡◌, ◌↔◌, ◌⊎◌, ℕ, zero, suc, ◌+◌, ◌-◌, ◌*◌, ◌%◌, ◌<◌, ◌≤◌, ◌==◌, ◌&&◌, not, Bool, true, false, List, length, take, if◌then◌else◌}
 use Rattle.std.specs.List.{filter, list_any}
+use Rattle.info65.specs.Layouts.{layout_of}
 use Rattle.info65.specs.declared.range.RangeType.{RangeType}
 use Rattle.info65.specs.declared.range.RangeType.TheVariants as role
 use Rattle.map65.specs.ImageView.{bytes_from, is_inside}
@@ -18,14 +18,7 @@ use Rattle.da65.specs.BaseNames.{is_base, names_of}
 
 -- how many items a line takes at most
 abbrev pub limit_of : RangeType → ℕ
-limit_of role.Code = 1
-limit_of role.ByteTable = 8
-limit_of role.WordTable = 4
-limit_of role.DbyteTable = 4
-limit_of role.AddrTable = 1
-limit_of role.RtsTable = 1
-limit_of role.TextTable = 16
-limit_of role.Skip = 1
+limit_of r = (layout_of r).per_line
 
 -- the item at an address is as long as those of its role's tables: it is not left over
 abbrev pub is_whole : MapView → ℕ → Bool

@@ -13,6 +13,7 @@ use Rattle.da65.specs.Code.SkipRanges.{is_skip_range}
 use Rattle.da65.specs.Comments.{comment_at}
 use Rattle.da65.specs.Groups.{IsGroupPlace, group_bytes, group_len, groups_from}
 use Rattle.da65.specs.Listing.{ListingLine, assignment_line, comments, constants, ending_lines, forwards, group_line, group_lines, has_constant_line, line_text, listing, opening_lines, plain, segment_lines, statement_lines, with_empty_line}
+use Rattle.da65.specs.Marks.{HasMarks}
 use Rattle.da65.specs.Segments.{segment_at, segment_before}
 use Rattle.da65.specs.Statements.{statement_at}
 use Rattle.da65.specs.Style.{style_of}
@@ -150,6 +151,7 @@ pub record IsListed (m : MapView) (info : InfoView) (image : ImageView) (t : Sty
   pub names : AreNames m.info.names
   pub segments : AreSegments m.info.segments
   pub unmarked : marked ≡ false → IsUnmarked m
+  pub has_marks : marked ≡ true → HasMarks m.info (style_of m.info.settings)
   pub listed : all ≡ not (list_any is_skip_range m.info.ranges)
 
 -- the lines that are left from a place, where the segment is this one

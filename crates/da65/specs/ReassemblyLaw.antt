@@ -12,7 +12,7 @@ use Rattle.stmt65.specs.SourceLine.{Instr, NameValue, SourceLine}
 use Rattle.stmt65.specs.declared.source_line.Minus.TheVariants.{One}
 use Rattle.stmt65.specs.Printed.{source_value, source_form, source_line, with_label}
 use Rattle.stmt65.specs.Symbols.{Definition, value_in}
-use Rattle.stmt65.specs.Coding.{Fragment, Fixed, Single, ZeroPage, LowFirst, Distance, coding, distance, is_near}
+use Rattle.stmt65.specs.Coding.{Fragment, Fixed, Single, ZeroPage, word_operand, Distance, coding, distance, is_near}
 use Rattle.stmt65.specs.Meaning.{State, fault_of, bytes_of, after, final, initial, meaning, meaning_of}
 use Rattle.info65.specs.Names as given
 use Rattle.info65.specs.Segments.{AreSegments}
@@ -77,14 +77,14 @@ fragments_in Imm (view.one e) = Single (source_value e) ∷ []
 fragments_in Zp (view.one e) = ZeroPage (source_value e) ∷ []
 fragments_in Zpx (view.one e) = ZeroPage (source_value e) ∷ []
 fragments_in Zpy (view.one e) = ZeroPage (source_value e) ∷ []
-fragments_in Abs (view.one e) = LowFirst (source_value e) ∷ []
-fragments_in Absx (view.one e) = LowFirst (source_value e) ∷ []
-fragments_in Absy (view.one e) = LowFirst (source_value e) ∷ []
-fragments_in Ind (view.one e) = LowFirst (source_value e) ∷ []
+fragments_in Abs (view.one e) = word_operand (source_value e) ∷ []
+fragments_in Absx (view.one e) = word_operand (source_value e) ∷ []
+fragments_in Absy (view.one e) = word_operand (source_value e) ∷ []
+fragments_in Ind (view.one e) = word_operand (source_value e) ∷ []
 fragments_in Indx (view.one e) = ZeroPage (source_value e) ∷ []
 fragments_in Indy (view.one e) = ZeroPage (source_value e) ∷ []
 fragments_in Zpind (view.one e) = ZeroPage (source_value e) ∷ []
-fragments_in Absindx (view.one e) = LowFirst (source_value e) ∷ []
+fragments_in Absindx (view.one e) = word_operand (source_value e) ∷ []
 fragments_in Rel (view.one e) = Distance (source_value e) ∷ []
 fragments_in Zprel (view.two e f) = ZeroPage (source_value e) ∷ Distance (source_value f) ∷ []
 fragments_in _ _ = []

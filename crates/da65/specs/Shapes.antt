@@ -1,21 +1,25 @@
 -- What the bytes of a group can be.
-use Rattle.std.specs.Prelude.{◌≡◌, ◌⊎◌, ℕ, ◌%◌, ◌≤◌, List, length}
+use Rattle.std.specs.Prelude.{◌≡◌, ◌⊎◌, ℕ, ◌*◌, ◌%◌, ◌≤◌, List, length}
 use Rattle.isa65.specs.Opcodes.{Table}
+use Rattle.info65.specs.Layouts.{layout_of}
+use Rattle.info65.specs.declared.range.Entry.{Entry}
+use Rattle.info65.specs.declared.range.Entry.TheVariants.{Instruction, Number, Address, Return, Character, Skipped}
 use Rattle.info65.specs.declared.range.RangeType.{RangeType}
-use Rattle.info65.specs.declared.range.RangeType.TheVariants as role
 use Rattle.da65.specs.Instructions.{instruction_in, size_of}
 
--- the bytes of 1 to 4 words
-abbrev pub AreWords : List ℕ → Type 0
-AreWords bytes = (length bytes % 2 ≡ 0) × (length bytes ≤ 8)
+-- a leftover byte, or whole entries, as many as a line takes
+abbrev pub AreEntries : ℕ → ℕ → List ℕ → Type 0
+AreEntries unit per_line bytes = (length bytes ≡ 1) ⊎ ((length bytes % unit ≡ 0) × (length bytes ≤ per_line * unit))
 
--- bytes that a group of this role can have: one item of code, a line of a table, or a leftover byte
+-- one item of code, or a line of a table
+abbrev pub IsLineOf : Table → ℕ → ℕ → Entry → List ℕ → Type 0
+IsLineOf t unit per_line Instruction bytes = size_of (instruction_in t bytes) ≡ length bytes
+IsLineOf t unit per_line (Number order) bytes = AreEntries unit per_line bytes
+IsLineOf t unit per_line Address bytes = AreEntries unit per_line bytes
+IsLineOf t unit per_line Return bytes = AreEntries unit per_line bytes
+IsLineOf t unit per_line Character bytes = AreEntries unit per_line bytes
+IsLineOf t unit per_line Skipped bytes = ⊥
+
+-- bytes that a group of this role can have
 abbrev pub IsGroupOf : Table → RangeType → List ℕ → Type 0
-IsGroupOf t role.Code bytes = size_of (instruction_in t bytes) ≡ length bytes
-IsGroupOf t role.ByteTable bytes = length bytes ≤ 8
-IsGroupOf t role.WordTable bytes = (length bytes ≡ 1) ⊎ AreWords bytes
-IsGroupOf t role.DbyteTable bytes = (length bytes ≡ 1) ⊎ AreWords bytes
-IsGroupOf t role.AddrTable bytes = (length bytes ≡ 1) ⊎ (length bytes ≡ 2)
-IsGroupOf t role.RtsTable bytes = (length bytes ≡ 1) ⊎ (length bytes ≡ 2)
-IsGroupOf t role.TextTable bytes = length bytes ≤ 16
-IsGroupOf t role.Skip bytes = ⊥
+IsGroupOf t r bytes = IsLineOf t (layout_of r).unit (layout_of r).per_line (layout_of r).entry bytes

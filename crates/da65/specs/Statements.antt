@@ -4,20 +4,26 @@
 -- constant line defines the base of the name. Each entry of an address or return table goes by its target's name. Anything else is a
 -- number. `a:` stands before an absolute operand below $100 if the mnemonic has the zero-page mode that is written alike. An undefined or
 -- cut opcode, an instruction whose target lies outside the address space, and a leftover byte are written as bytes.
-use Rattle.std.specs.Prelude.{ℕ, ◌+◌, ◌-◌, ◌&&◌, nat_lt, Bool, if◌then◌else◌, List, length, slice_index, take, Option, Some, None, is_some}
+use Rattle.std.specs.Prelude.{ℕ, ◌+◌, ◌-◌, ◌==◌, ◌&&◌, nat_lt, Bool, if◌then◌else◌, List, length, slice_index, take, Option, Some, None, is_some}
 use Rattle.std.specs.Option.{option_map}
 use Rattle.isa65.specs.Mode.{len_of}
 use Rattle.isa65.specs.Opcodes.{Table, sibling_in}
 use Rattle.isa65.specs.declared.mode.Mode.{Mode}
 use Rattle.isa65.specs.declared.mode.Mode.TheVariants.{Imp, Acc, Imm, Zp, Zpx, Zpy, Abs, Absx, Absy, Ind, Indx, Indy, Zpind, Absindx, Rel, Zprel}
 use Rattle.isa65.specs.declared.op.Op.{Op}
+use Rattle.stmt65.specs.declared.directive.Directive.{Directive}
+use Rattle.stmt65.specs.declared.directive.Directive.TheVariants.{Word, Dbyt, Dword}
 use Rattle.stmt65.specs.Views as view
 use Rattle.stmt65.specs.Views.{ExprView, OperandsView, StatementView, TargetView}
+use Rattle.isa65.specs.declared.byte_order.ByteOrder.{ByteOrder}
+use Rattle.isa65.specs.declared.byte_order.ByteOrder.TheVariants.{LittleEndian, BigEndian}
+use Rattle.info65.specs.Layouts.{layout_of}
+use Rattle.info65.specs.declared.range.Entry.{Entry}
+use Rattle.info65.specs.declared.range.Entry.TheVariants as entry
 use Rattle.info65.specs.declared.range.RangeType.{RangeType}
-use Rattle.info65.specs.declared.range.RangeType.TheVariants as role
 use Rattle.map65.specs.MapView.{MapView, opcodes}
 use Rattle.map65.specs.Names.{Base}
-use Rattle.map65.specs.Roles.{role_of}
+use Rattle.map65.specs.Roles.{role_of, unit_of}
 use Rattle.map65.specs.Targets.{byte_of, entry_of, return_target, target_of, word_of}
 use Rattle.da65.specs.BaseNames.{Names, names_of}
 use Rattle.da65.specs.Groups.{group_bytes}
@@ -98,14 +104,14 @@ target_by a b = record { name = b.text; offset = a - b.address }
 
 -- an entry by the name of its target, or as a number
 abbrev pub addr_from : List ℕ → ℕ → Option Base → StatementView
-addr_from bytes a None = view.words bytes
+addr_from bytes a None = view.numbers Word bytes
 addr_from bytes a (Some b) = view.addr (target_by a b)
 
 unfoldable pub address_entry : Names → List ℕ → StatementView
 address_entry m bytes = addr_from bytes (entry_of bytes) (m.base_at (entry_of bytes))
 
 abbrev pub rts_from : List ℕ → ℕ → Option Base → StatementView
-rts_from bytes a None = view.words bytes
+rts_from bytes a None = view.numbers Word bytes
 rts_from bytes a (Some b) = view.rts (Some (target_by a b))
 
 abbrev pub rts_to : Names → List ℕ → Option ℕ → StatementView
@@ -116,22 +122,35 @@ rts_to m bytes (Some a) = rts_from bytes a (m.base_at a)
 unfoldable pub return_entry : Names → List ℕ → StatementView
 return_entry m bytes = rts_to m bytes (return_target (entry_of bytes))
 
+-- ---- numbers
+
+-- the directive of numbers of so many bytes in this order, more than one
+abbrev pub directive_of : ℕ → ByteOrder → Directive
+directive_of unit LittleEndian = if unit == 4 then Dword else Word
+directive_of unit BigEndian = Dbyt
+
+-- the numbers of a line, each of so many bytes in this order
+abbrev pub numbers : ℕ → ByteOrder → List ℕ → StatementView
+numbers unit order bytes = if unit == 1 then view.bytes bytes else view.numbers (directive_of unit order) bytes
+
 -- ---- the statement
 
--- words if there are at least two bytes, else the leftover byte
-abbrev pub words_or_byte : StatementView → List ℕ → StatementView
-words_or_byte table bytes = if nat_lt (length bytes) 2 then view.bytes bytes else table
+-- entries if there are bytes for one, else the leftover byte
+abbrev pub entries_or_byte : ℕ → StatementView → List ℕ → StatementView
+entries_or_byte unit entries bytes = if nat_lt (length bytes) unit then view.bytes bytes else entries
 
--- The statement of a group of a role, at an address, that has these bytes. Skipped bytes have none.
+-- The statement of a line of entries of so many bytes. Skipped bytes have none.
+abbrev pub statement_by : Names → Table → ℕ → Entry → ℕ → List ℕ → StatementView
+statement_by m t unit entry.Instruction a bytes = statement_in m t a bytes
+statement_by m t unit (entry.Number order) a bytes = entries_or_byte unit (numbers unit order bytes) bytes
+statement_by m t unit entry.Address a bytes = entries_or_byte unit (address_entry m bytes) bytes
+statement_by m t unit entry.Return a bytes = entries_or_byte unit (return_entry m bytes) bytes
+statement_by m t unit entry.Character a bytes = view.text bytes
+statement_by m t unit entry.Skipped a bytes = view.blank
+
+-- The statement of a group of a role, at an address, that has these bytes.
 unfoldable pub statement_for : Names → Table → RangeType → ℕ → List ℕ → StatementView
-statement_for m t role.Code a bytes = statement_in m t a bytes
-statement_for m t role.ByteTable a bytes = view.bytes bytes
-statement_for m t role.WordTable a bytes = words_or_byte (view.words bytes) bytes
-statement_for m t role.DbyteTable a bytes = words_or_byte (view.dbyts bytes) bytes
-statement_for m t role.AddrTable a bytes = words_or_byte (address_entry m bytes) bytes
-statement_for m t role.RtsTable a bytes = words_or_byte (return_entry m bytes) bytes
-statement_for m t role.TextTable a bytes = view.text bytes
-statement_for m t role.Skip a bytes = view.blank
+statement_for m t r a bytes = statement_by m t (unit_of r) (layout_of r).entry a bytes
 
 -- The statement of the group that begins at an address.
 abbrev pub statement_at : MapView → ℕ → StatementView

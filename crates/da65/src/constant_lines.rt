@@ -10,12 +10,12 @@ ghost use Rattle.da65.specs.Listing.{assignment_line, constants, has_constant_li
 ghost use Rattle.da65.specs.Style.{style_of};
 
 use crate::comments::comment_at;
-use crate::groups::{ADDRESSES, is_skip};
+use crate::groups::ADDRESSES;
 use crate::listed::Listed;
 use crate::names::base_at;
 use crate::place::ListingPlace;
 use crate::statement_line::put_plain;
-use map65::{Map, NameBuf};
+use map65::{Map, NameBuf, is_skip};
 use std::alloc::Allocator;
 use stmt65::{Line, Statement};
 

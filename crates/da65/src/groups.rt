@@ -11,7 +11,7 @@ ghost use Rattle.da65.specs.Groups.{goes_on, group_len, is_whole, limit_at, limi
 
 use crate::names::is_defined;
 use info65::{Info, RangeSpec, RangeType};
-use map65::{Image, Map, unit_of};
+use map65::{Image, Map, is_skip, unit_of};
 use std::alloc::Allocator;
 
 /// The number of addresses, $10000.
@@ -22,12 +22,7 @@ fn limit_of(role: RangeType) -> usize
     ensures limit { result ≡ limit_of role }
     ensures some { 1 ≤ result }
 {
-    match role {
-        RangeType::Code | RangeType::AddrTable | RangeType::RtsTable | RangeType::Skip => 1,
-        RangeType::ByteTable => 8,
-        RangeType::WordTable | RangeType::DbyteTable => 4,
-        RangeType::TextTable => 16,
-    }
+    usize::from(role.layout().per_line)
 }
 
 /// The role of an address, none outside the image.
@@ -155,13 +150,6 @@ pub fn role_inside<A: Allocator>(map: &Map<'_, A>, address: u16) -> RangeType
         Some(role) => role,
         None => RangeType::Code,
     }
-}
-
-/// Whether bytes of this role are skipped.
-pub fn is_skip(role: RangeType) -> bool
-    ensures { result ≡ is_skip role }
-{
-    matches!(role, RangeType::Skip)
 }
 
 /// Whether the byte at an address of the image is skipped.

@@ -15,6 +15,7 @@ mod group_lines;
 mod groups;
 mod help;
 mod instructions;
+mod key_set;
 mod laws;
 mod lines;
 mod listed;

@@ -70,7 +70,8 @@ fn shown_from<A: Allocator>(listed: &Listed<'_, A>, from: usize) -> Option<usize
 #[inline(always)]
 fn is_shown<A: Allocator>(listed: &Listed<'_, A>, at: usize) -> bool
     requires { IsGroupPlace listed.now at }
-    ensures { OnTrue result (IsGroupStart listed.now at) }
+    ensures start { OnTrue result (IsGroupStart listed.now at) }
+    ensures none { OnFalse result (IsGroupStart listed.now at → ⊥) }
 {
     at < listed.bytes().len() && !is_skipped(listed.map(), listed.address(at))
 }

@@ -1,12 +1,13 @@
 //! An image as it is listed.
 
-ghost use Rattle.std.specs.Prelude.{◌≡◌, ◌+◌, ◌<◌, ◌≤◌, false, length, not};
+ghost use Rattle.std.specs.Prelude.{◌≡◌, ◌+◌, ◌<◌, ◌≤◌, false, length, not, true};
 ghost use Rattle.std.specs.List.{list_any};
 ghost use Rattle.info65.specs.Names.{AreNames};
 ghost use Rattle.info65.specs.Segments.{AreSegments};
 ghost use Rattle.map65.specs.ImageView.{IsPlaced};
 ghost use Rattle.da65.specs.Code.SkipRanges.{is_skip_range};
 ghost use Rattle.da65.specs.Lines.{IsUnmarked};
+ghost use Rattle.da65.specs.Marks.{HasMarks};
 ghost use Rattle.da65.specs.Style.{style_of};
 
 use crate::groups::has_skip_range;
@@ -103,7 +104,8 @@ impl<'a, A: Allocator> Listed<'a, A> {
 
     /// Whether there may be separators, segments or comments.
     pub fn is_marked(&self) -> bool
-        ensures { result ≡ false → IsUnmarked self.now }
+        ensures none { result ≡ false → IsUnmarked self.now }
+        ensures some { result ≡ true → HasMarks self.now.info (style_of self.now.info.settings) }
     {
         self.marked
     }

@@ -1,8 +1,8 @@
 //! Whether a listing has separators, segments or comments.
 
-ghost use Rattle.std.specs.Prelude.{◌≡◌, [], true};
-ghost use Rattle.std.specs.Bool.{OnFalse};
-ghost use Rattle.da65.specs.Marks.{HasNoComments, HasNoMarks};
+ghost use Rattle.std.specs.Prelude.{◌≡◌, [], ◌↔◌, true};
+ghost use Rattle.std.specs.Bool.{OnFalse, OnTrue};
+ghost use Rattle.da65.specs.Marks.{HasComment, HasMarks, HasNoComments, HasNoMarks};
 
 use crate::style::Style;
 use info65::Info;
@@ -10,7 +10,8 @@ use std::alloc::Allocator;
 
 /// Whether a given name has a comment.
 fn has_comment<A: Allocator>(info: &Info<A>) -> bool
-    ensures { OnFalse result (HasNoComments info.now.names) }
+    ensures none { OnFalse result (HasNoComments info.now.names) }
+    ensures some { OnTrue result (HasComment info.now.names) }
 {
     let count = info.given_count();
     let mut at = 0;
@@ -26,14 +27,15 @@ fn has_comment<A: Allocator>(info: &Info<A>) -> bool
 
 /// Whether no segment is given.
 fn has_no_segments<A: Allocator>(info: &Info<A>) -> bool
-    ensures { result ≡ true → info.now.segments ≡ [] }
+    ensures { result ≡ true ↔ info.now.segments ≡ [] }
 {
     info.segments().is_empty()
 }
 
 /// Whether a listing may have separators, segments or comments.
 pub fn has_marks<A: Allocator>(info: &Info<A>, style: &Style) -> bool
-    ensures { OnFalse result (HasNoMarks info.now style.now) }
+    ensures none { OnFalse result (HasNoMarks info.now style.now) }
+    ensures some { OnTrue result (HasMarks info.now style.now) }
 {
     if style.level.get() != 0 {
         return true;

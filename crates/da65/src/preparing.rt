@@ -1,6 +1,6 @@
 //! What a run lists its input by: the information file, with the names of its include files.
 
-ghost use Rattle.std.specs.Prelude.{◌≡◌, ◌<◌, ℕ, List, Result, get_or, is_some, length};
+ghost use Rattle.std.specs.Prelude.{◌≡◌, ◌≢◌, ◌<◌, ℕ, List, Result, get_or, is_some, length};
 ghost use Rattle.info65.specs.Code.Results.{Fails};
 ghost use Rattle.info65.specs.Views.{IncludeView, InfoView};
 ghost use Rattle.info65.specs.declared.fault.InfoFault.{InfoFault};
@@ -24,7 +24,9 @@ pub(crate) enum Stop {
 
 /// The end of a run for a fault of a file, which has this message.
 fn stop_of(fault: InfoFault, message: Message) -> Stop
-    ensures { (of : InfoFault → List ℕ) (defined : Result InfoView InfoFault) → message.items ≡ of fault → Fails fault defined → Stops result (or_message of defined) }
+    ensures stops { (of : InfoFault → List ℕ) (defined : Result InfoView InfoFault) → message.items ≡ of fault → Fails fault defined → Stops result (or_message of defined) }
+    ensures memory { result ≡ Stop.Memory → fault.kind ≡ InfoFaultKind.Memory }
+    ensures refused { fault.kind ≢ InfoFaultKind.Memory → result ≡ Stop.Refused message }
 {
     if fault.kind == InfoFaultKind::Memory {
         Stop::Memory

@@ -21,7 +21,7 @@ use crate::preparing::{Stop, prepare};
 use crate::write::write_whole;
 use info65::{Info, Options};
 use map65::{Image, ImageFault, Map, Sink, Source, read_image};
-use std::alloc::{AllocError, Allocator};
+use std::alloc::Allocator;
 
 /// Writes the message of a refusal, which is its only one.
 fn refuse<M: Sink>(msgs: &mut M, message: &[u8]) -> Result<Status, RunFault>
@@ -41,6 +41,7 @@ fn refuse_image<M: Sink>(msgs: &mut M, fault: ImageFault) -> Result<Status, RunF
     ensures text { RefusesOrGivesUp result (image_message fault) (M.taken msgs.old) (M.taken msgs.new) }
     ensures few { WritesFew (M.taken msgs.old) (M.taken msgs.new) }
     ensures memory { fault ≡ ImageFault.Memory → IsErrOf result RunFault.Memory }
+    ensures only_memory { IsErrOf result RunFault.Memory → fault ≡ ImageFault.Memory }
     ensures count { MessagesCount result (M.faults msgs.old) (M.faults msgs.new) }
 {
     match fault {
@@ -50,17 +51,12 @@ fn refuse_image<M: Sink>(msgs: &mut M, fault: ImageFault) -> Result<Status, RunF
 }
 
 /// The warnings that apply to the listing of an image. The map is the one of these two.
-fn warnings_of<A: Allocator + Copy>(
-    alloc: A,
-    info: &Info<A>,
-    image: &Image<A>,
-    map: &Map<'_, A>,
-) -> Result<Message, AllocError>
+fn warnings_of<A: Allocator>(info: &Info<A>, image: &Image<A>, map: &Map<'_, A>) -> Message
     requires { map.now ≡ record { info = info.now; image = image.now } }
-    ensures { IfOk result (λ messages. messages.items ≡ warnings map.now) }
+    ensures { result.items ≡ warnings map.now }
 {
-    let is_entered_again = is_entered_again(alloc, info, image, map)?;
-    Ok(warnings(has_skipped(info, map, image), is_entered_again))
+    let is_entered_again = is_entered_again(info, image, map);
+    warnings(has_skipped(info, map, image), is_entered_again)
 }
 
 /// Writes the warnings after a listing.
@@ -138,10 +134,7 @@ fn list_input<A: Allocator + Copy, R: Source, W: Sink, M: Sink>(
         Ok(map) => map,
         Err(_) => return Err(RunFault::Memory),
     };
-    let warnings = match warnings_of(alloc, info, &image, &map) {
-        Ok(warnings) => warnings,
-        Err(_) => return Err(RunFault::Memory),
-    };
+    let warnings = warnings_of(info, &image, &map);
     write_listing(info, &image, &map, warnings.as_slice(), out, msgs)
 }
 

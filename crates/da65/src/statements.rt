@@ -9,12 +9,12 @@ ghost use Rattle.stmt65.specs.code.StatementViews.{operands_seen, statement_seen
 ghost use Rattle.da65.specs.BaseNames.{names_of};
 ghost use Rattle.da65.specs.Instructions.{instruction_in};
 ghost use Rattle.da65.specs.Shapes.{IsGroupOf};
-ghost use Rattle.da65.specs.Statements.{address_entry, is_forced, operands_of, return_entry, statement_for, statement_in};
+ghost use Rattle.da65.specs.Statements.{address_entry, is_forced, numbers, operands_of, return_entry, statement_for, statement_in};
 
 use crate::instructions::instruction_in;
 use crate::names::{address_expr, target, zero_page_expr};
-use info65::RangeType;
-use isa65::{Mode, Op, OpcodeSet};
+use info65::{Entry, RangeType};
+use isa65::{ByteOrder, Mode, Op, OpcodeSet};
 use map65::{Map, NameBuf, target_of, word_of};
 use std::alloc::Allocator;
 use stmt65::{Expr, Operands, Statement};
@@ -153,8 +153,29 @@ fn return_entry<'a, A: Allocator>(
     }
 }
 
+/// The numbers of a line of a table, each of `unit` bytes in this order.
+fn numbers(unit: u8, order: ByteOrder, bytes: &[u8]) -> Statement<'_>
+    requires { IsPrintable (numbers unit order bytes.now) }
+    ensures value { statement_seen result ≡ numbers unit order bytes.entry.now }
+    ensures printable { IsPrintable (statement_seen result) }
+{
+    if unit == 1 {
+        return Statement::Bytes(bytes);
+    }
+    match order {
+        ByteOrder::LittleEndian => {
+            if unit == 4 {
+                Statement::Dwords(bytes)
+            } else {
+                Statement::Words(bytes)
+            }
+        }
+        ByteOrder::BigEndian => Statement::Dbyts(bytes),
+    }
+}
+
 /// The statement of the group of this role at this address that has these bytes.
-#[tactic(auto, unfolding(crate::specs::Statements::statement_for))]
+#[tactic(auto, using(crate::proofs::EntryLemmas::lines), unfolding(crate::specs::Statements::statement_for))]
 pub fn statement_for<'a, S: OpcodeSet, A: Allocator>(
     set: &S,
     map: &Map<'_, A>,
@@ -171,8 +192,10 @@ pub fn statement_for<'a, S: OpcodeSet, A: Allocator>(
     ensures value { statement_seen result ≡ statement_for (names_of map.now) (S.table set.now) role address bytes.entry.now }
     ensures printable { IsPrintable (statement_seen result) }
 {
-    match role {
-        RangeType::Code => {
+    let layout = role.layout();
+    let is_leftover = bytes.len() < usize::from(layout.unit);
+    match layout.entry {
+        Entry::Instruction => {
             statement_in(
                 set,
                 map,
@@ -183,36 +206,28 @@ pub fn statement_for<'a, S: OpcodeSet, A: Allocator>(
                 second,
             )
         }
-        RangeType::ByteTable => Statement::Bytes(bytes),
-        RangeType::WordTable => {
-            if bytes.len() < 2 {
+        Entry::Number(order) => {
+            if is_leftover {
                 Statement::Bytes(bytes)
             } else {
-                Statement::Words(bytes)
+                numbers(layout.unit, order, bytes)
             }
         }
-        RangeType::DbyteTable => {
-            if bytes.len() < 2 {
-                Statement::Bytes(bytes)
-            } else {
-                Statement::Dbyts(bytes)
-            }
-        }
-        RangeType::AddrTable => {
-            if bytes.len() < 2 {
+        Entry::Address => {
+            if is_leftover {
                 Statement::Bytes(bytes)
             } else {
                 address_entry(map, bytes, first)
             }
         }
-        RangeType::RtsTable => {
-            if bytes.len() < 2 {
+        Entry::Return => {
+            if is_leftover {
                 Statement::Bytes(bytes)
             } else {
                 return_entry(map, bytes, first)
             }
         }
-        RangeType::TextTable => Statement::Text(bytes),
-        RangeType::Skip => Statement::Blank,
+        Entry::Character => Statement::Text(bytes),
+        Entry::Skipped => Statement::Blank,
     }
 }

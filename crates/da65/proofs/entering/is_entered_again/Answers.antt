@@ -3,19 +3,16 @@ use Rattle.map65.specs.Items.{item_len}
 use Rattle.map65.specs.MapView.{MapView}
 use Rattle.std.proofs.lemmas.Bool.{eqb-true}
 use Rattle.std.proofs.lemmas.List.{nil_from_length}
-use Rattle.std.specs.Prelude.{ℕ, ◌||◌, List, Option}
-use Rattle.std.specs.Str.{bytes_eq}
-use Rattle.da65.specs.Code.Entering.{has_had, last_of}
-use Rattle.da65.specs.Entering.{segment_name}
+use Rattle.std.specs.Prelude.{ℕ}
 use Rattle.da65.specs.Groups.{IsGroupPlace, group_len}
-use Rattle.da65.proofs.EnteringLemmas.{back-told, byte-told, count-told, decided-back, decided-end, decided-first, decided-next, decided-skip, never-entered, none-seen, on-false, segment-told, skip-told}
+use Rattle.da65.proofs.EnteringLemmas.{byte-told, count-told, keys-told, known-back, known-end, known-first, known-next, known-skip, never-entered, none-seen, on-false, skip-told}
 use Rattle.da65.proofs.GroupLemmas.{first_place, group-some, item-begins, place-next, place-skip}
 use Rattle.da65.proofs.entering.is_entered_again.Goals as goal
 
 pub groups-init : goal.groups-init
 groups-init g c = record {
   place = first_place c.args.map.now;
-  decided = decided-first c.args.map.now _ _ c.none-entered.ensures.last c.none-entered.ensures.had;
+  known = known-first c.args.map.now _ c.none-entered.ensures;
 }
 
 pub groups-preserved-then-is_skipped : goal.groups-preserved-then-is_skipped
@@ -25,16 +22,16 @@ groups-preserved-then-is_skipped g c =
     let skip = skip-told m _ _ _ _ here c.is_skipped.ensures c.if-is_skipped.true in
     record {
       place = place-skip m _ c.groups.invariant.place here.low skip;
-      decided = decided-skip m _ _ _ c.groups.invariant.place here.low skip c.groups.invariant.decided;
+      known = known-skip m _ _ c.groups.invariant.place here.low skip c.groups.invariant.known;
     }
 
-pub returns-then-branch : goal.returns-then-branch
-returns-then-branch g c =
+pub returns-then-add : goal.returns-then-add
+returns-then-add g c =
     let m : MapView = c.args.map.now in
     let here = byte-told m _ _ _ _ (ap (λ (x : MapView). x.image) c.requires) c.bytes-count.ensures.bytes c.start-start.ensures c.groups-test.true in
     let shown = skip-told m _ _ _ _ here c.is_skipped.ensures c.if-is_skipped.false in
-    let back = back-told m _ _ _ (last_of c.groups.entered) (has_had c.groups.entered) _ _ here c.segment_at.ensures c.in_ok-add.ensures.back c.if-branch.true in
-    decided-back m _ _ _ c.groups.invariant.place here.low shown c.groups.invariant.decided back
+    let keys = keys-told m _ _ _ _ _ _ (ap (λ (x : MapView). x.info) c.requires) c.segments.ensures.sound here c.segment_key-segment.ensures c.first_named-code.ensures.first c.name_key.ensures in
+    known-back m _ c.groups.entered _ _ c.groups.invariant.place here.low shown keys c.groups.invariant.known (sym c.add.ensures.back ∙ c.if-add.true)
 
 pub group_len-at-requires-clause-begins : goal.group_len-at-requires-clause-begins
 group_len-at-requires-clause-begins g c =
@@ -58,12 +55,10 @@ groups-preserved g c =
     let here = byte-told m _ _ _ _ (ap (λ (x : MapView). x.image) c.requires) c.bytes-count.ensures.bytes c.start-start.ensures c.groups-test.true in
     let shown = skip-told m _ _ _ _ here c.is_skipped.ensures c.if-is_skipped.false in
     let len : c.group_len-at.result ≡ group_len m (m.image.start + c.groups.at) = c.group_len-at.ensures.len ∙ ap (group_len m) here.address in
-    let segment = segment-told m _ _ _ here c.segment_at.ensures in
-    let back = back-told m _ _ _ (last_of c.groups.entered) (has_had c.groups.entered) _ _ here c.segment_at.ensures c.in_ok-add.ensures.back c.if-branch.false in
-    let after = on-false _ _ c.if-branch.false c.in_ok-add.ensures.after in
+    let keys = keys-told m _ _ _ _ _ _ (ap (λ (x : MapView). x.info) c.requires) c.segments.ensures.sound here c.segment_key-segment.ensures c.first_named-code.ensures.first c.name_key.ensures in
     record {
       place = subst (λ (n : ℕ). IsGroupPlace m (c.groups.at + n)) (sym len) (place-next m _ c.groups.invariant.place here.low shown);
-      decided = decided-next m _ _ _ _ _ _ c.groups.invariant.place here.low shown c.groups.invariant.decided back len (after.last ∙ sym segment) (subst (λ (s : Option (List ℕ)). (t : List ℕ) → has_had c.add.new.self t ≡ (bytes_eq (segment_name s) t || has_had c.groups.entered t)) (sym segment) after.had);
+      known = known-next m _ _ c.groups.entered c.add.new.self _ _ c.groups.invariant.place here.low shown keys c.groups.invariant.known (sym c.add.ensures.back ∙ c.if-add.false) len (on-false _ _ c.if-add.false c.add.ensures.after);
     }
 
 pub returns : goal.returns
@@ -72,7 +67,7 @@ returns g c =
     let same = ap (λ (x : MapView). x.image) c.requires in
     let count = count-told m _ _ same c.bytes-count.ensures.bytes in
     let end : c.groups.at ≡ length m.image.bytes = omega (arith, count, c.groups.invariant.place.bound, c.groups-test.false) in
-    decided-end m _ _ _ end c.groups.invariant.decided
+    known-end m _ _ end c.groups.invariant.known
 
 pub returns-then-is_empty : goal.returns-then-is_empty
 returns-then-is_empty g c =

@@ -9,7 +9,7 @@ put_inside-requires g c = inside-start _ _ _ c.requires.start c.address.ensures
 
 pub returns : goal.returns
 returns g c =
-    let none = c.is_marked.ensures c.if-is_marked.false in
+    let none = c.is_marked.ensures.none c.if-is_marked.false in
     next-there _ _ _ _ _ _ (none.segments _ ∙ sym (segment-none _ _ none.segments) ∙ sym c.requires.segment)
     (next-moved _ _ _ _ _ _
     (lines-unmarked _ _ none c.requires.start ∙ ap (λ (n : ℕ). group_left c.args.listed.now c.args.at (n + 1)) (sym c.address.ensures))

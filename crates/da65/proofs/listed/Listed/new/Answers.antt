@@ -8,4 +8,4 @@ use Rattle.da65.proofs.listed.Listed.new.Goals as goal
 
 pub invariant_of-result : goal.invariant_of-result
 invariant_of-result g c =
-    listed-of _ _ _ _ _ _ _ c.requires (c.style_of-style.ensures ∙ ap style_of c.settings.ensures.settings) c.new-opcodes.ensures c.bytes.ensures.placed c.given_count.ensures.sound c.segments.ensures.sound c.has_marks-marked.ensures (ap not (c.has_skip_range-lists_all.ensures ∙ ap (list_any is_skip_range) c.ranges-2.ensures.ranges))
+    listed-of _ _ _ _ _ _ _ c.requires (c.style_of-style.ensures ∙ ap style_of c.settings.ensures.settings) c.new-opcodes.ensures c.bytes.ensures.placed c.given_count.ensures.sound c.segments.ensures.sound c.has_marks-marked.ensures.none c.has_marks-marked.ensures.some (ap not (c.has_skip_range-lists_all.ensures ∙ ap (list_any is_skip_range) c.ranges-2.ensures.ranges))
