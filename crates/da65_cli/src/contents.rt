@@ -14,7 +14,7 @@ const LIMIT: usize = 1_048_577;
 
 /// Reads up to the end or the limit. There are no contents if a read fails.
 fn read_from<R: Source>(alloc: Global, input: &mut R) -> Result<Option<Vec<u8>>, AllocError>
-    ensures bytes { IfOk result (λ found. IfSome found (λ bytes. IfSome (R.left input.old) (λ xs. bytes.items ≡ take LIMIT xs))) }
+    ensures bytes { IfOk result (λ found. IfSome found (λ bytes. IfSome (R.left input.old) (λ xs. bytes.items ≡ take 1048577 xs))) }
     ensures none { IfOk result (λ found. IfNone found (R.faults input.new ≡ one_more (R.faults input.old))) }
 {
     match take_up_to(alloc, input, LIMIT) {

@@ -20,17 +20,25 @@ pub enum Failure {
     /// The output file of this name can't be created.
     #[error("cannot create {0}")]
     Creating(String),
-    /// A write of the listing failed.
-    #[error("cannot write the listing")]
-    Listing,
-    /// A write of a message, of the help text or of the version failed. Nothing more is said.
-    #[error("cannot write the messages")]
-    Messages,
+    /// The run gave up. After a failed write of a message, of the help text or of the version nothing more is said.
+    #[error("{0}")]
+    Run(RunFault),
 }
 
 impl Failure {
     ghost use Rattle.std.specs.Prelude.{◌≡◌, ◌≢◌};
     ghost use Rattle.std.specs.IoError.{error_kind};
+
+    /// The failure of the words of the command line: they are not valid UTF-8, or there is no memory for them.
+    pub fn of_words(error: &IoError) -> Failure
+        ensures memory { error_kind error.now ≡ ErrorKind.OutOfMemory → result ≡ Failure.Memory }
+        ensures words { error_kind error.now ≢ ErrorKind.OutOfMemory → result ≡ Failure.Usage UsageFault.Words }
+    {
+        match error.kind() {
+            ErrorKind::OutOfMemory => Failure::Memory,
+            _ => Failure::Usage(UsageFault::Words),
+        }
+    }
 
     /// The failure of a file of this name that can't be read.
     pub fn of_reading(error: &IoError, name: String) -> Failure
@@ -55,23 +63,23 @@ impl Failure {
     }
 }
 
-/// The arguments of the program are not valid UTF-8, or there is no memory for them.
-impl From<IoError> for Failure {
-    fn from(error: IoError) -> Failure {
-        match error.kind() {
-            ErrorKind::OutOfMemory => Failure::Memory,
-            _ => Failure::Usage(UsageFault::Words),
-        }
-    }
-}
-
 impl From<AllocError> for Failure {
+    ghost use Rattle.std.specs.Prelude.{◌≡◌};
+    ghost use Rattle.da65_cli.specs.declared.failure.Failure.TheVariants.{Memory};
+
+    ghost from_gives = { λ _ f. f ≡ Memory };
+
     fn from(_: AllocError) -> Failure {
         Failure::Memory
     }
 }
 
 impl<T: Drop> From<AllocFailed<T>> for Failure {
+    ghost use Rattle.std.specs.Prelude.{◌≡◌};
+    ghost use Rattle.da65_cli.specs.declared.failure.Failure.TheVariants.{Memory};
+
+    ghost from_gives = { λ _ f. f ≡ Memory };
+
     fn from(failed: AllocFailed<T>) -> Failure {
         let _ = failed;
         Failure::Memory
@@ -79,20 +87,23 @@ impl<T: Drop> From<AllocFailed<T>> for Failure {
 }
 
 impl From<UsageFault> for Failure {
+    ghost use Rattle.std.specs.Prelude.{◌≡◌};
+    ghost use Rattle.da65_cli.specs.declared.failure.Failure.TheVariants.{Usage};
+
+    ghost from_gives = { λ e f. f ≡ Usage e };
+
     fn from(fault: UsageFault) -> Failure {
-        match fault {
-            UsageFault::Memory => Failure::Memory,
-            _ => Failure::Usage(fault),
-        }
+        Failure::Usage(fault)
     }
 }
 
 impl From<RunFault> for Failure {
+    ghost use Rattle.std.specs.Prelude.{◌≡◌};
+    ghost use Rattle.da65_cli.specs.declared.failure.Failure.TheVariants.{Run};
+
+    ghost from_gives = { λ e f. f ≡ Run e };
+
     fn from(fault: RunFault) -> Failure {
-        match fault {
-            RunFault::Memory => Failure::Memory,
-            RunFault::Write => Failure::Listing,
-            RunFault::Messages => Failure::Messages,
-        }
+        Failure::Run(fault)
     }
 }

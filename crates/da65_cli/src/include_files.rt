@@ -1,8 +1,9 @@
 //! The include files that an information file names.
 
-ghost use Rattle.std.specs.Prelude.{◌≡◌, IfOk, map};
+ghost use Rattle.std.specs.Prelude.{◌≡◌, [], ◌∷◌, ◌++◌, IfNone, IfOk, IfSome, OnOk, map};
+ghost use Rattle.std.specs.List.{list_any};
 ghost use Rattle.da65.specs.Files.{files_seen};
-ghost use Rattle.da65_cli.specs.Code.IncludeFiles.{content_seen};
+ghost use Rattle.da65_cli.specs.Code.IncludeFiles.{content_seen, has_name};
 
 use crate::contents::contents;
 use da65::File;
@@ -16,8 +17,21 @@ pub struct Content {
 }
 
 /// A file of this name was read.
-fn is_read(files: &[Content], name: &str) -> bool {
+fn is_read(files: &[Content], name: &str) -> bool
+    ensures { result ≡ list_any (has_name name.now) files.now }
+{
     files.iter().any(|file| file.name.as_str() == name)
+}
+
+/// Adds a file after the others, if it was read.
+fn add(files: &mut Vec<Content>, name: String, read: Option<Vec<u8>>) -> Result<(), AllocError>
+    ensures some { IfSome read (λ bytes. OnOk result (files.new.items ≡ files.old.items ++ record { name = name; bytes = bytes } ∷ [])) }
+    ensures none { IfNone read (files.new.items ≡ files.old.items) }
+{
+    if let Some(bytes) = read {
+        files.push(Content { name, bytes })?;
+    }
+    Ok(())
 }
 
 /// Reads the files of these names, each once and of each at most 1,048,577 bytes. One that can't be read is left out.
@@ -27,9 +41,8 @@ pub fn include_files(rt: &HostRuntime, names: Vec<String>) -> Result<Vec<Content
         if is_read(&files, name.as_str()) {
             continue;
         }
-        if let Some(bytes) = contents(rt, name.as_str())? {
-            files.push(Content { name, bytes })?;
-        }
+        let read = contents(rt, name.as_str())?;
+        add(&mut files, name, read)?;
     }
     Ok(files)
 }

@@ -15,7 +15,9 @@ mod include_files;
 mod information;
 mod listing;
 
-use da65::{File, Needs, Options, Status, Told, help_text, needs, options_of, version_text};
+use da65::{
+    File, Needs, Options, RunFault, Status, Told, help_text, needs, options_of, version_text,
+};
 use failure::Failure;
 use include_files::{handed_in, include_files};
 use information::information;
@@ -26,8 +28,12 @@ use std::{env, fs};
 
 /// The options of the program's words.
 fn options(rt: &HostRuntime) -> Result<Options, Failure> {
+    let given = match env::args(rt) {
+        Ok(given) => given,
+        Err(error) => return Err(Failure::of_words(&error)),
+    };
     let mut words = Vec::new(rt.alloc());
-    for word in env::args(rt)? {
+    for word in given {
         words.push(word)?;
     }
     Ok(options_of(rt.alloc(), words.as_slice())?)
@@ -37,7 +43,7 @@ fn options(rt: &HostRuntime) -> Result<Options, Failure> {
 fn tell(rt: &HostRuntime, text: &str) -> Result<Status, Failure> {
     match rt.stdout().write_all(text.as_bytes()) {
         Ok(()) => Ok(Status::Done),
-        Err(_) => Err(Failure::Messages),
+        Err(_) => Err(Failure::Run(RunFault::Messages)),
     }
 }
 
@@ -137,7 +143,7 @@ fn main(rt: HostRuntime) -> ExitCode {
     let _errors = placeholder(&rt);
     match program(&rt) {
         Ok(Status::Done) => ExitCode::SUCCESS,
-        Ok(Status::Refused) | Err(Failure::Messages) => ExitCode::FAILURE,
+        Ok(Status::Refused) | Err(Failure::Run(RunFault::Messages)) => ExitCode::FAILURE,
         Err(failure) => {
             let _ = eprintln!(rt; "da65: {failure}");
             ExitCode::FAILURE

@@ -1,90 +1,87 @@
-//! A caller of the library: lists an image that is held in memory, assembles the listing, and compares.
+//! A caller of the library: `relist [options of da65] file` lists an image in memory, assembles the listing, and compares.
 //!
-//! It reads the image from standard input and prints the listing's size and whether the bytes came back. docs/LIBRARY.md
-//! explains the calls.
+//! The calls are those that docs/LIBRARY.md shows: `input` reads a file up to a limit, `in_memory` lists it, `by_line` lists it
+//! line by line, and `failure` has what can go wrong.
 #![tactic(auto)]
 
-use da65::{Options, RunFault, Status, Told, run};
-use std::alloc::{AllocError, Global};
-use std::io::{self, Read};
+mod by_line;
+mod failure;
+mod in_memory;
+mod input;
+
+use by_line::longest_line;
+use da65::{Needs, Options, needs, options_of};
+use failure::Failure;
+use in_memory::listing_of;
+use input::input;
 use std::process::ExitCode;
-use stmt65::{AsmFault, assemble};
-use thiserror::Error;
+use std::{env, fs};
+use stmt65::assemble;
 
-/// Where the image begins.
-const START: u16 = 0x1000;
+/// The information file of each run.
+pub const INFO: &[u8] = b"LABEL { ADDR $FFD2; NAME \"CHROUT\"; };";
 
-/// Why there is no listing.
-#[derive(Debug, Drop, Error)]
-enum Failure {
-    #[error("out of memory")]
-    Memory,
-    #[error("the input can't be read")]
-    Input,
-    #[error("{0}")]
-    Refused(String),
-    #[error("line {} of the listing does not assemble", .0.line)]
-    Assembling(AsmFault),
-}
-
-impl From<AllocError> for Failure {
-    fn from(_: AllocError) -> Failure {
-        Failure::Memory
+/// The options that the program's words mean, as those of da65 do.
+fn options(rt: &HostRuntime) -> Result<Options, Failure> {
+    let mut words = Vec::new(rt.alloc());
+    for word in env::args(rt)? {
+        words.push(word)?;
     }
+    Ok(options_of(rt.alloc(), words.as_slice())?)
 }
 
-/// The options of a run over memory. The input name only says that there is an input.
-fn options(alloc: Global) -> Result<Options, AllocError> {
-    let mut options = Options::none();
-    options.input = Some(String::from_str(alloc, "image")?);
-    options.start = Some(START);
-    Ok(options)
+/// What is said of a listing.
+#[derive(Clone, Copy, Debug)]
+struct Report {
+    size: usize,
+    longest: usize,
+    same: bool,
 }
 
-/// The listing of an image under an information file.
-fn listing_of(alloc: Global, info: &[u8], image: &[u8]) -> Result<Vec<u8>, Failure> {
-    let options = options(alloc)?;
-    let mut listing = Vec::new(alloc);
-    let mut messages = Vec::new(alloc);
-    let result = run(
-        alloc,
-        &options,
-        info,
-        &[],
-        &mut Told::new(image),
-        &mut Told::new(&mut listing),
-        &mut Told::new(&mut messages),
-    );
-    match result {
-        Ok(Status::Done) => Ok(listing),
-        Ok(Status::Refused) => Err(Failure::Refused(String::from_utf8_lossy(alloc, &messages)?)),
-        // A `Vec` takes every write that memory has room for.
-        Err(RunFault::Memory | RunFault::Write | RunFault::Messages) => Err(Failure::Memory),
-    }
-}
-
-fn program(rt: &HostRuntime) -> Result<(usize, bool), Failure> {
+fn program(rt: &HostRuntime) -> Result<Report, Failure> {
     let alloc = rt.alloc();
-    let mut image = Vec::new(alloc);
-    if rt.stdin().read_to_end(&mut image).is_err() {
-        return Err(Failure::Input);
-    }
-    let listing = listing_of(alloc, b"LABEL { ADDR $FFD2; NAME \"CHROUT\"; };", &image)?;
-    match assemble(alloc, &listing, START) {
-        Ok(bytes) => Ok((listing.len(), bytes == image)),
-        Err(fault) => Err(Failure::Assembling(fault)),
-    }
+    let options = options(rt)?;
+    let Needs {
+        input: name,
+        output: _output,
+        includes: _includes,
+    } = needs(alloc, &options, INFO)?;
+    let image = input(rt, &name)?;
+    let listing = listing_of(alloc, &options, &image)?;
+    let by_line = longest_line(alloc, &options, &image)?;
+    let bytes = assemble(alloc, &listing, by_line.start)?;
+    Ok(Report {
+        size: listing.len(),
+        longest: by_line.longest,
+        same: bytes == image,
+    })
+}
+
+/// Takes the number of a standard stream that is closed, which would else go to the next file.
+fn placeholder(rt: &HostRuntime) -> Option<fs::File> {
+    fs::File::open(rt, "/dev/null").ok()
 }
 
 fn main(rt: HostRuntime) -> ExitCode {
+    let _input = placeholder(&rt);
+    let _output = placeholder(&rt);
+    let _errors = placeholder(&rt);
     match program(&rt) {
-        Ok((size, same)) => {
+        Ok(
+            Report {
+                size,
+                longest,
+                same,
+            },
+        ) => {
             let same = if same {
                 "the same bytes"
             } else {
                 "other bytes"
             };
-            let _ = println!(rt; "a listing of {size} bytes, and {same} back");
+            let _ = println!(rt;
+                "a listing of {size} bytes, {longest} in its longest line, and {same} back"
+            );
             ExitCode::SUCCESS
         }
         Err(failure) => {
