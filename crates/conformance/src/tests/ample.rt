@@ -3,7 +3,7 @@
 use crate::tests::asserts::{assert_equal, assert_equal_at};
 use crate::tests::command_lines::options_on;
 use crate::tests::needed_files::needed;
-use crate::tests::runs::{NAMED, THREE, THREE_LINES, assert_lists, gives};
+use crate::tests::runs::{NAMED, THREE, THREE_LINES, assert_lists, assert_refused, gives};
 use da65::{File, UsageFault};
 use std::alloc::{AllocError, Global};
 use std::process::Abort;
@@ -104,4 +104,43 @@ fn run_with_files(rt: HostRuntime) {
     ];
     let found = gives(&rt, rt.alloc(), NAMED, "", &files, THREE);
     assert_lists(&rt, rt.alloc(), &found, THREE_LINES, 0xFFFD, THREE);
+}
+
+/// 20,000 groups LABEL, and their constant lines.
+#[test]
+fn information_file_of_20_000_labels(rt: HostRuntime) {
+    let mut info = String::new(rt.alloc());
+    let mut lines = String::new(rt.alloc());
+    for n in 0..20_000u16 {
+        write!(info, "LABEL {{ ADDR {n}; NAME \"m{n}\"; }};\n").expect(&rt, "write");
+        let name = format!(in rt.alloc(); "m{n}").expect(&rt, "format");
+        let blanks = repeated(rt.alloc(), " ", 16 - name.len().min(16)).expect(&rt, "repeated");
+        write!(lines, "{name}{blanks}:= ${n:04X}\n").expect(&rt, "write");
+    }
+    lines.push_str("\n        rts\n").expect(&rt, "push_str");
+    let found = gives(&rt, rt.alloc(), NAMED, &info, &[], &[0x60]);
+    assert_lists(&rt, rt.alloc(), &found, &lines, 0xFFFF, &[0x60]);
+}
+
+/// How long a name and a comment are, and whether they are accepted.
+const LENGTHS: &[(usize, usize, bool)] = &[(80, 200, true), (81, 200, false), (80, 201, false)];
+
+#[test]
+fn longest_name_and_comment(rt: HostRuntime) {
+    for (name, comment, is_accepted) in LENGTHS {
+        let name = repeated(rt.alloc(), "n", *name).expect(&rt, "repeated");
+        let comment = repeated(rt.alloc(), "c", *comment).expect(&rt, "repeated");
+        let info = format!(in rt.alloc();
+            "LABEL {{ ADDR $FFFF; NAME \"{name}\"; COMMENT \"{comment}\"; }};"
+        ).expect(&rt, "format");
+        let found = gives(&rt, rt.alloc(), NAMED, &info, &[], &[0x60]);
+        let lines = format!(in rt.alloc(); "; {comment}\n{name}:\n        rts\n").expect(
+            &rt, "format",
+        );
+        if *is_accepted {
+            assert_lists(&rt, rt.alloc(), &found, &lines, 0xFFFF, &[0x60]);
+        } else {
+            assert_refused(&rt, rt.alloc(), &found, "info:1: bad name");
+        }
+    }
 }

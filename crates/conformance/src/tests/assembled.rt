@@ -1,49 +1,38 @@
-// Listings that are assembled back to their images.
-use crate::tests::asserts::assert_that_at;
-use crate::tests::runs::{assert_assembles, assert_back, gives_from};
+// Images of single values and of mixed bytes, whose listings are assembled back.
+use crate::tests::runs::assert_back;
 use std::alloc::Global;
 use std::process::Abort;
 
-/// 768 bytes of each of 64 values from the first one on, one value after the other.
-pub fn values_from(rt: &impl Abort, alloc: Global, first: u8) -> Vec<u8> {
-    let mut image = Vec::new(alloc);
-    for step in 0..64u8 {
-        let value = first.wrapping_add(step);
-        for _ in 0..768 {
-            image.push(value).expect(rt, "push");
-        }
+pub const CPUS: [&str; 3] = ["6502", "65SC02", "65C02"];
+
+/// 768 bytes of each value, as an image of its own.
+fn byte_values(rt: &impl Abort, alloc: Global, cpu: &str) {
+    let info = format!(in alloc; "GLOBAL {{ CPU \"{cpu}\"; }};").expect(rt, "format");
+    for value in 0..=255u8 {
+        let image = vec![in alloc; value; 768].expect(rt, "vec");
+        assert_back(rt, alloc, 0x1000, info.as_bytes(), &image);
     }
-    image
-}
-
-fn byte_values(rt: &impl Abort, alloc: Global, first: u8) {
-    assert_back(rt, alloc, 0x1000, b"", &values_from(rt, alloc, first));
 }
 
 #[test]
-fn byte_values_00_to_3f(rt: HostRuntime) {
-    byte_values(&rt, rt.alloc(), 0x00)
+fn byte_values_of_the_6502(rt: HostRuntime) {
+    byte_values(&rt, rt.alloc(), "6502")
 }
 
 #[test]
-fn byte_values_40_to_7f(rt: HostRuntime) {
-    byte_values(&rt, rt.alloc(), 0x40)
+fn byte_values_of_the_65sc02(rt: HostRuntime) {
+    byte_values(&rt, rt.alloc(), "65SC02")
 }
 
 #[test]
-fn byte_values_80_to_bf(rt: HostRuntime) {
-    byte_values(&rt, rt.alloc(), 0x80)
+fn byte_values_of_the_65c02(rt: HostRuntime) {
+    byte_values(&rt, rt.alloc(), "65C02")
 }
 
-#[test]
-fn byte_values_c0_to_ff(rt: HostRuntime) {
-    byte_values(&rt, rt.alloc(), 0xC0)
-}
-
-/// Mixed bytes, the same at each call with this seed.
-pub fn mixed(rt: &impl Abort, alloc: Global, seed: u64, count: usize) -> Vec<u8> {
+/// Mixed bytes, the same at each call.
+fn mixed(rt: &impl Abort, alloc: Global, count: usize) -> Vec<u8> {
     let mut bytes = Vec::new(alloc);
-    let mut state = seed;
+    let mut state = 1u64;
     for _ in 0..count {
         state = state
             .wrapping_mul(6_364_136_223_846_793_005)
@@ -53,44 +42,32 @@ pub fn mixed(rt: &impl Abort, alloc: Global, seed: u64, count: usize) -> Vec<u8>
     bytes
 }
 
+/// As many as there are addresses.
 #[test]
 fn mixed_bytes(rt: HostRuntime) {
-    let image = mixed(&rt, rt.alloc(), 1, 65_536);
-    assert_back(&rt, rt.alloc(), 0, b"", &image);
+    let image = mixed(&rt, rt.alloc(), 65_536);
+    assert_back(&rt, rt.alloc(), 0, b"GLOBAL { CPU \"65C02\"; };", &image);
 }
 
-/// As many mixed bytes as there are addresses, all of this type.
-fn mixed_bytes_as(rt: &impl Abort, alloc: Global, role: &str) {
-    let image = mixed(rt, alloc, 1, 65_536);
-    let info = format!(in alloc; "RANGE {{ START 0; END $FFFF; TYPE {role}; }}").expect(
-        rt, "format",
-    );
-    let found = gives_from(rt, alloc, 0, &info, &image);
-    assert_that_at(rt, found.starts_with("Ok(Done)\n; da65 listing\n"), &role);
-    assert_assembles(rt, alloc, &found, 0, &image);
-}
-
-#[test]
-fn mixed_bytes_as_code(rt: HostRuntime) {
-    mixed_bytes_as(&rt, rt.alloc(), "CODE")
-}
+/// The types of ranges whose bytes are listed.
+pub const TYPES: [&str; 8] = [
+    "CODE",
+    "BYTETABLE",
+    "WORDTABLE",
+    "DBYTETABLE",
+    "DWORDTABLE",
+    "ADDRTABLE",
+    "RTSTABLE",
+    "TEXTTABLE",
+];
 
 #[test]
-fn mixed_bytes_as_bytes(rt: HostRuntime) {
-    mixed_bytes_as(&rt, rt.alloc(), "BYTETABLE")
-}
-
-#[test]
-fn mixed_bytes_as_words(rt: HostRuntime) {
-    mixed_bytes_as(&rt, rt.alloc(), "WORDTABLE")
-}
-
-#[test]
-fn mixed_bytes_as_dbyts(rt: HostRuntime) {
-    mixed_bytes_as(&rt, rt.alloc(), "DBYTETABLE")
-}
-
-#[test]
-fn mixed_bytes_as_text(rt: HostRuntime) {
-    mixed_bytes_as(&rt, rt.alloc(), "TEXTTABLE")
+fn mixed_bytes_of_each_type(rt: HostRuntime) {
+    let image = mixed(&rt, rt.alloc(), 8_191);
+    for role in TYPES {
+        let info = format!(in rt.alloc(); "RANGE {{ START 0; END $FFFF; TYPE {role}; }};").expect(
+            &rt, "format",
+        );
+        assert_back(&rt, rt.alloc(), 0x1000, info.as_bytes(), &image);
+    }
 }

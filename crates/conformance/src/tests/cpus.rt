@@ -1,13 +1,10 @@
 // Listings for each CPU, and their assembly.
-use crate::tests::assembled::{mixed, values_from};
-use crate::tests::asserts::{assert_equal_at, assert_that_at};
+use crate::tests::asserts::assert_equal_at;
 use crate::tests::command_lines::options_on;
 use crate::tests::runs::{assert_assembles, gives};
 use da65::UsageFault;
 use std::alloc::Global;
 use std::process::Abort;
-
-const CPUS: [&str; 3] = ["6502", "65SC02", "65C02"];
 
 /// What a run for a CPU gives over an image from an address on. The listing assembles to the image.
 fn gives_for(
@@ -23,12 +20,6 @@ fn gives_for(
     let found = gives(rt, alloc, &words, info, &[], image);
     assert_assembles(rt, alloc, &found, start, image);
     found
-}
-
-/// The run lists without a message.
-fn assert_back(rt: &impl Abort, alloc: Global, cpu: &str, start: u16, info: &str, image: &[u8]) {
-    let found = gives_for(rt, alloc, cpu, start, info, image);
-    assert_that_at(rt, found.starts_with("Ok(Done)\n; da65 listing\n"), &cpu);
 }
 
 /// A CPU as the command line names it, an image from a start on, an information file, and its lines after the header.
@@ -196,61 +187,4 @@ fn other_cpus_are_refused(rt: HostRuntime) {
         let refused = options_on(&rt, rt.alloc(), &["--cpu", cpu, "image.bin"]).err();
         assert_equal_at(&rt, &refused, &Some(UsageFault::OutOfRange), cpu);
     }
-}
-
-/// 768 bytes of each of 64 values, for each CPU after the 6502.
-fn byte_values(rt: &impl Abort, alloc: Global, first: u8) {
-    let image = values_from(rt, alloc, first);
-    for cpu in ["65SC02", "65C02"] {
-        assert_back(rt, alloc, cpu, 0x1000, "", &image);
-    }
-}
-
-#[test]
-fn byte_values_00_to_3f(rt: HostRuntime) {
-    byte_values(&rt, rt.alloc(), 0x00)
-}
-
-#[test]
-fn byte_values_40_to_7f(rt: HostRuntime) {
-    byte_values(&rt, rt.alloc(), 0x40)
-}
-
-#[test]
-fn byte_values_80_to_bf(rt: HostRuntime) {
-    byte_values(&rt, rt.alloc(), 0x80)
-}
-
-#[test]
-fn byte_values_c0_to_ff(rt: HostRuntime) {
-    byte_values(&rt, rt.alloc(), 0xC0)
-}
-
-/// Names in the zero page and in the image, and ranges between them.
-const NAMES_AND_RANGES: &str =
-    "LABEL { ADDR 0; NAME \"low\"; SIZE 64; }; LABEL { ADDR $80; NAME \"bits\"; SIZE 100; }; \
-    LABEL { ADDR $1010; NAME \"near\"; SIZE 3; }; LABEL { ADDR $1234; NAME \"far\"; }; LABEL { ADDR $1450; NAME \"in_words\"; }; \
-    RANGE { START $1300; SIZE 33; TYPE BYTETABLE; NAME \"bytes\"; }; RANGE { START $1441; SIZE 64; TYPE WORDTABLE; }; \
-    RANGE { START $1500; SIZE 31; TYPE ADDRTABLE; }; RANGE { START $1600; SIZE 30; TYPE RTSTABLE; };";
-
-#[test]
-fn mixed_bytes_with_names(rt: HostRuntime) {
-    for seed in 1..9u64 {
-        let image = mixed(&rt, rt.alloc(), seed, 2_000);
-        for cpu in CPUS {
-            assert_back(&rt, rt.alloc(), cpu, 0x1000, NAMES_AND_RANGES, &image);
-        }
-    }
-}
-
-#[test]
-fn mixed_bytes_of_the_65sc02(rt: HostRuntime) {
-    let image = mixed(&rt, rt.alloc(), 1, 65_536);
-    assert_back(&rt, rt.alloc(), "65SC02", 0, "", &image);
-}
-
-#[test]
-fn mixed_bytes_of_the_65c02(rt: HostRuntime) {
-    let image = mixed(&rt, rt.alloc(), 1, 65_536);
-    assert_back(&rt, rt.alloc(), "65C02", 0, "", &image);
 }

@@ -161,3 +161,27 @@ impl Write for Short {
         Ok(())
     }
 }
+
+/// A writer that takes one byte at each write.
+#[derive(Drop)]
+pub struct ByBytes<'a> {
+    bytes: &'a mut Vec<u8>,
+}
+
+impl<'a> ByBytes<'a> {
+    pub fn new(bytes: &'a mut Vec<u8>) -> ByBytes<'a> {
+        ByBytes { bytes }
+    }
+}
+
+impl Write for ByBytes<'_> {
+    fn write(&mut self, buf: &[u8]) -> io::Result<usize> {
+        let n = buf.len().min(1);
+        self.bytes.extend_from_slice(&buf[..n])?;
+        Ok(n)
+    }
+
+    fn flush(&mut self) -> io::Result<()> {
+        Ok(())
+    }
+}

@@ -1,6 +1,6 @@
 // Runs over devices that fail.
 use crate::tests::asserts::{assert_equal, assert_equal_at, assert_that, assert_that_at};
-use crate::tests::devices::{Endless, FAULTS, Fault, Short, Tape};
+use crate::tests::devices::{FAULTS, Fault, Short, Tape};
 use crate::tests::ranges::{START, WARNING};
 use crate::tests::runs::{THREE, THREE_LISTING, named, run_on};
 use da65::{RunFault, Status};
@@ -35,6 +35,24 @@ fn a_reader_that_fails(rt: HostRuntime) {
     }
 }
 
+/// One that fails after the bytes that are asked of it is not asked again.
+#[test]
+fn a_reader_that_fails_after_its_size(rt: HostRuntime) {
+    let mut listing = Vec::new(rt.alloc());
+    let mut messages = Vec::new(rt.alloc());
+    let result = run_on(
+        rt.alloc(),
+        &named(&rt, rt.alloc(), None),
+        b"GLOBAL { INPUTSIZE 3; };",
+        Tape::failing(THREE, 3, ErrorKind::Other),
+        &mut listing,
+        &mut messages,
+    );
+    assert_equal(&rt, &result, &Ok(Status::Done));
+    assert_equal(&rt, &listing.as_slice(), &THREE_LISTING);
+    assert_that(&rt, messages.is_empty());
+}
+
 #[test]
 fn a_reader_of_single_bytes(rt: HostRuntime) {
     let mut listing = Vec::new(rt.alloc());
@@ -50,29 +68,6 @@ fn a_reader_of_single_bytes(rt: HostRuntime) {
     assert_equal(&rt, &result, &Ok(Status::Done));
     assert_equal(&rt, &listing.as_slice(), &THREE_LISTING);
     assert_that(&rt, messages.is_empty());
-}
-
-#[test]
-fn an_input_without_end(rt: HostRuntime) {
-    let mut listing = Vec::new(rt.alloc());
-    let mut messages = Vec::new(rt.alloc());
-    let mut reader = Endless { given: 0 };
-    let result = run_on(
-        rt.alloc(),
-        &named(&rt, rt.alloc(), None),
-        &[],
-        &mut reader,
-        &mut listing,
-        &mut messages,
-    );
-    assert_equal(&rt, &result, &Ok(Status::Refused));
-    assert_equal(&rt, &reader.given, &65_537);
-    assert_that(&rt, listing.is_empty());
-    assert_equal(
-        &rt,
-        &messages.as_slice(),
-        &b"da65: input is too large\n".as_slice(),
-    );
 }
 
 /// A run without a message writes none, not even one without a byte: its writer would fail.

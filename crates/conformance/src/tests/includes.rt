@@ -1,13 +1,8 @@
 // Runs with include files.
-use crate::heap::Refusing;
-use crate::tests::asserts::{assert_equal, assert_equal_at, assert_that, assert_that_at};
+use crate::tests::asserts::{assert_equal, assert_that};
 use crate::tests::devices::Tape;
-use crate::tests::refusals::{MANY, Refusals};
-use crate::tests::refused::run_as_its_parts;
-use crate::tests::runs::{
-    AT_1000, HEADER, assert_lists, assert_refused, gives, named, run_including,
-};
-use da65::{File, Options, RunFault, Status, Told, needs, run};
+use crate::tests::runs::{AT_1000, assert_lists, assert_refused, gives, named};
+use da65::{File, Status, Told, run};
 use std::alloc::Global;
 use std::process::Abort;
 
@@ -292,61 +287,4 @@ fn message_of_the_longest_name(rt: HostRuntime) {
         &[bad],
         Err(refused.as_str()),
     )
-}
-
-const TWO: &[u8] = b"GLOBAL { INPUTNAME \"a.bin\"; STARTADDR $1000; };\n\
-    ASMINC { FILE \"k.inc\"; IGNOREUNKNOWN on; };\nASMINC { FILE \"k.inc\"; IGNOREUNKNOWN on; };\n";
-
-/// A run with include files, each allocation refused in turn.
-#[test]
-fn run_with_includes_without_memory(rt: HostRuntime) {
-    let files = [File {
-        name: "k.inc",
-        bytes: SYSTEM,
-    }];
-    let mut refusals = Refusals::none();
-    for granted in 0..MANY {
-        let heap = Refusing::after(rt.alloc(), granted);
-        let ran = run_including(rt.alloc(), &heap, &Options::none(), TWO, &files, CALL);
-        let failed = ran.result == Err(RunFault::Memory);
-        refusals.count(&rt, &heap, granted, failed);
-        if failed {
-            assert_that(&rt, ran.listing.is_empty() && ran.messages.is_empty());
-        } else {
-            assert_equal(&rt, &ran.result, &Ok(Status::Done));
-            assert_equal(
-                &rt,
-                &ran.listing.as_slice().strip_prefix(HEADER.as_bytes()),
-                &Some(CALLED.as_bytes()),
-            );
-            assert_that(&rt, ran.messages.is_empty());
-        }
-    }
-    refusals.at_least(&rt, 4, MANY);
-}
-
-/// A run allocates where its information file, its include files, its image and its map do.
-#[test]
-fn run_with_includes_allocates_as_its_parts(rt: HostRuntime) {
-    let files = [File {
-        name: "k.inc",
-        bytes: SYSTEM,
-    }];
-    let options = Options::none();
-    run_as_its_parts(&rt, rt.alloc(), &options, TWO, &files, CALL);
-}
-
-/// Names of needed files, each allocation refused in turn.
-#[test]
-fn needed_includes_without_memory(rt: HostRuntime) {
-    let mut refusals = Refusals::none();
-    for granted in 0..MANY {
-        let heap = Refusing::after(rt.alloc(), granted);
-        let found = needs(&heap, &Options::<Global>::none(), TWO);
-        refusals.count(&rt, &heap, granted, found.is_err());
-        if let Ok(names) = found {
-            assert_equal_at(&rt, &names.includes.len(), &2, &granted);
-        }
-    }
-    refusals.at_least(&rt, 4, MANY);
 }

@@ -1,31 +1,242 @@
-// Runs over memory that is counted, or refused.
+// Worked rows through `run`, over memory that is counted and over memory that is refused.
 use crate::heap::Refusing;
 use crate::tests::asserts::{assert_equal, assert_equal_at, assert_that, assert_that_at};
-use crate::tests::devices::Tape;
+use crate::tests::command_lines::options_on;
 use crate::tests::refusals::{MANY, Refusals};
-use crate::tests::runs::{THREE, THREE_LISTING, named, run_on, run_with};
-use da65::{RunFault, Status};
+use crate::tests::runs::{NAMED, run_including, run_with, shown};
+use da65::{File, Options, RunFault, Status, Told};
+use info65::{read_include, read_info};
+use map65::{Map, read_image};
 use std::alloc::Global;
-use std::io::ErrorKind;
 use std::process::Abort;
+
+/// The words of a command line, an information file, what `k.inc` has, and an input; then the result, the messages and the
+/// listing.
+struct Row {
+    words: &'static [&'static str],
+    info: &'static str,
+    include: &'static str,
+    input: &'static [u8],
+    gives: &'static str,
+}
+
+const ROWS: &[Row] = &[
+    // three bytes
+    Row {
+        words: &["a.bin"],
+        info: "",
+        include: "",
+        input: &[0xA9, 0x01, 0x60],
+        gives: "Ok(Done)\n; da65 listing\n\n        .setcpu \"6502\"\n\n        lda     #$01\n        rts\n",
+    },
+    // a target inside a word, with decimal and with hexadecimal offsets
+    Row {
+        words: &["-S", "$1FFF", "a.bin"],
+        info: "RANGE { START $2002; END $2003; TYPE WORDTABLE; };",
+        include: "",
+        input: &[0xAD, 0x03, 0x20, 0x34, 0x12],
+        gives: "Ok(Done)\n; da65 listing\n\n        .setcpu \"6502\"\n\n        lda     L2002+1\nL2002:  .word   $1234\n",
+    },
+    Row {
+        words: &["-S", "$1FFF", "--hexoffs", "a.bin"],
+        info: "RANGE { START $2002; END $2003; TYPE WORDTABLE; };",
+        include: "",
+        input: &[0xAD, 0x03, 0x20, 0x34, 0x12],
+        gives: "Ok(Done)\n; da65 listing\n\n        .setcpu \"6502\"\n\n        lda     L2002+$01\nL2002:  .word   $1234\n",
+    },
+    // a bit branch by CPU
+    Row {
+        words: &["-S", "$1000", "--cpu", "65C02", "a.bin"],
+        info: "",
+        include: "",
+        input: &[0x0F, 0x12, 0xFD],
+        gives: "Ok(Done)\n; da65 listing\n\n        .setcpu \"65C02\"\n\nL1000:  bbr0    $12,L1000\n",
+    },
+    Row {
+        words: &["-S", "$1000", "--cpu", "6502", "a.bin"],
+        info: "",
+        include: "",
+        input: &[0x0F, 0x12, 0xFD],
+        gives: "Ok(Done)\n; da65 listing\n\n        .setcpu \"6502\"\n\n        .byte   $0F\n        .byte   $12\n        .byte   $FD\n",
+    },
+    // a sized name across the zero page
+    Row {
+        words: &["a.bin"],
+        info: "LABEL { ADDR $FE; NAME \"buf\"; SIZE 4; };",
+        include: "",
+        input: &[0xA5, 0xFF, 0xAD, 0x00, 0x01],
+        gives: "Ok(Done)\n; da65 listing\n\n        .setcpu \"6502\"\n\nbuf             := $00FE\n\n        lda     buf+1\n        lda     buf+2\n",
+    },
+    // information files that are refused
+    Row {
+        words: &["a.bin"],
+        info: "RANGE { START $1000; END $10FF; TYPE CODE; };\nRANGE { START $10FF; SIZE 2; TYPE SKIP; };",
+        include: "",
+        input: &[0xEA],
+        gives: "Ok(Refused)\nda65: info:2: ranges overlap\n",
+    },
+    Row {
+        words: &["a.bin"],
+        info: "LABEL { ADDR $20; NAME \"z\"; };",
+        include: "",
+        input: &[0xEA],
+        gives: "Ok(Refused)\nda65: info:1: reserved name\n",
+    },
+    Row {
+        words: &["a.bin"],
+        info: "LABEL { ADDR $3000; NAME \"L2000\"; };",
+        include: "",
+        input: &[0xEA],
+        gives: "Ok(Refused)\nda65: info:1: reserved name\n",
+    },
+    Row {
+        words: &["a.bin"],
+        info: "LABEL { ADDR $20; NAME \"ab\n",
+        include: "",
+        input: &[0xEA],
+        gives: "Ok(Refused)\nda65: info:1: string not closed\n",
+    },
+    // names of an include file, which is accepted and refused
+    Row {
+        words: &["-S", "$1000", "a.bin"],
+        info: "ASMINC { FILE \"k.inc\"; IGNOREUNKNOWN on; };",
+        include: "CHROUT = $FFD2\nBSOUT := $FFD2 ; same\n.macro x\n",
+        input: &[0x20, 0xD2, 0xFF],
+        gives: "Ok(Done)\n; da65 listing\n\n        .setcpu \"6502\"\n\nCHROUT          := $FFD2\n\n        jsr     CHROUT\n",
+    },
+    Row {
+        words: &["-S", "$1000", "a.bin"],
+        info: "ASMINC { FILE \"k.inc\"; };",
+        include: "CHROUT = $FFD2\nBSOUT := $FFD2 ; same\n.macro x\n",
+        input: &[0x20, 0xD2, 0xFF],
+        gives: "Ok(Refused)\nda65: include k.inc:3: bad include line\n",
+    },
+    // the same file in two groups
+    Row {
+        words: &["-S", "$1000", "a.bin"],
+        info: "ASMINC { FILE \"k.inc\"; }; ASMINC { FILE \"k.inc\"; };",
+        include: "CHROUT = $FFD2\n",
+        input: &[0x20, 0xD2, 0xFF],
+        gives: "Ok(Done)\n; da65 listing\n\n        .setcpu \"6502\"\n\nCHROUT          := $FFD2\n\n        jsr     CHROUT\n",
+    },
+    // a segment that is entered again
+    Row {
+        words: &["-S", "$1000", "a.bin"],
+        info: "SEGMENT { START $1001; END $1001; NAME \"DATA\"; };",
+        include: "",
+        input: &[0xEA, 0xEA, 0xEA],
+        gives: "Ok(Done)\nda65: warning: a segment is entered again\n; da65 listing\n\n        .setcpu \"6502\"\n\n        nop\n        .segment \"DATA\"\n        nop\n        .code\n        nop\n",
+    },
+    // each kind of table, and skipped bytes
+    Row {
+        words: &["-S", "$1000", "a.bin"],
+        info: "RANGE { START $1001; SIZE 3; TYPE WORDTABLE; }; RANGE { START $1004; SIZE 1; TYPE SKIP; }; RANGE { START $1005; END $1006; TYPE TEXTTABLE; };",
+        include: "",
+        input: &[0xEA, 1, 2, 3, 0xFF, 0x41, 0x42],
+        gives: "Ok(Done)\nda65: warning: skipped bytes, the listing does not assemble to the image\n; da65 listing\n\n        .setcpu \"6502\"\n\n        nop\n        .word   $0201\n        .byte   $03\n        .byte   \"AB\"\n",
+    },
+];
+
+/// A run gives what the row says, with each allocation refused in turn until none is. If one is refused, nothing is written.
+fn assert_row(rt: &impl Abort, alloc: Global, row: &Row) {
+    let options = options_on(rt, alloc, row.words).expect(rt, "options_on");
+    let files = [File {
+        name: "k.inc",
+        bytes: row.include.as_bytes(),
+    }];
+    let mut refusals = Refusals::none();
+    for granted in 0..MANY {
+        let heap = Refusing::after(alloc, granted);
+        let info = row.info.as_bytes();
+        let ran = run_including(alloc, &heap, &options, info, &files, row.input);
+        let failed = ran.result == Err(RunFault::Memory);
+        refusals.count(rt, &heap, granted, failed);
+        let found = shown(rt, alloc, &ran);
+        let want = if failed { "Err(Memory)\n" } else { row.gives };
+        assert_equal_at(rt, &found.as_str(), &want, &granted);
+        if !failed {
+            break;
+        }
+    }
+    refusals.at_least(rt, 1, MANY);
+}
 
 #[test]
 fn each_allocation_refused_in_turn(rt: HostRuntime) {
-    let mut refusals = Refusals::none();
-    for granted in 0..MANY {
-        let heap = Refusing::after(rt.alloc(), granted);
-        let ran = run_with(rt.alloc(), &heap, &named(&rt, rt.alloc(), None), &[], THREE);
-        let failed = ran.result == Err(RunFault::Memory);
-        refusals.count(&rt, &heap, granted, failed);
-        if failed {
-            assert_that_at(&rt, ran.listing.is_empty(), &granted);
-        } else {
-            assert_equal(&rt, &ran.result, &Ok(Status::Done));
-            assert_equal(&rt, &ran.listing.as_slice(), &THREE_LISTING);
-        }
-        assert_that(&rt, ran.messages.is_empty());
+    for row in ROWS {
+        assert_row(&rt, rt.alloc(), row);
     }
-    refusals.at_least(&rt, 1, MANY);
+}
+
+/// Calls the parts of a run one after the other, up to the first that refuses. At most two files are included. The map is one
+/// allocation.
+fn call_parts(
+    rt: &impl Abort,
+    heap: &Refusing<Global>,
+    options: &Options,
+    info: &[u8],
+    include: &[u8],
+    input: &[u8],
+) {
+    let Ok(mut info) = read_info(heap, options, info) else {
+        return;
+    };
+    for index in 0..2 {
+        if index < info.includes().len() && read_include(heap, &mut info, index, include).is_err() {
+            return;
+        }
+    }
+    let Ok(image) = read_image(heap, &info, &mut Told::new(input)) else {
+        return;
+    };
+    let before = heap.left();
+    assert_that(rt, Map::build(heap, &info, &image).is_ok());
+    assert_equal(rt, &before.wrapping_sub(heap.left()), &1);
+}
+
+/// A run allocates as often as its parts do by themselves.
+fn assert_as_its_parts(
+    rt: &impl Abort,
+    alloc: Global,
+    words: &[&str],
+    info: &str,
+    include: &str,
+    input: &[u8],
+) {
+    let options = options_on(rt, alloc, words).expect(rt, "options_on");
+    let include = include.as_bytes();
+    let files = [File {
+        name: "k.inc",
+        bytes: include,
+    }];
+    let parts = Refusing::after(alloc, u64::MAX);
+    call_parts(rt, &parts, &options, info.as_bytes(), include, input);
+    let whole = Refusing::after(alloc, u64::MAX);
+    run_including(alloc, &whole, &options, info.as_bytes(), &files, input);
+    assert_equal_at(rt, &whole.left(), &parts.left(), &info);
+}
+
+#[test]
+fn run_allocates_as_its_parts(rt: HostRuntime) {
+    for row in ROWS {
+        let Row {
+            words,
+            info,
+            include,
+            input,
+            gives: _,
+        } = *row;
+        assert_as_its_parts(&rt, rt.alloc(), words, info, include, input);
+    }
+}
+
+/// No listing is held, of whatever size: a run allocates for what it reads and for its map.
+#[test]
+fn each_size_allocates_as_its_parts(rt: HostRuntime) {
+    for count in [0, 1, 3, 4_096, 65_536, 65_537] {
+        let image = vec![in rt.alloc(); 0u8; count].expect(&rt, "vec");
+        assert_as_its_parts(&rt, rt.alloc(), NAMED, "", "", &image);
+    }
 }
 
 /// More allocations than a run without an information file makes.
@@ -34,57 +245,16 @@ const FEW: u64 = 20;
 #[test]
 fn each_allocation_of_a_large_image_refused_in_turn(rt: HostRuntime) {
     let image = vec![in rt.alloc(); 0u8; 65_536].expect(&rt, "vec");
+    let options = options_on(&rt, rt.alloc(), NAMED).expect(&rt, "options_on");
     let mut refusals = Refusals::none();
     for granted in 0..FEW {
         let heap = Refusing::after(rt.alloc(), granted);
-        let ran = run_with(
-            rt.alloc(),
-            &heap,
-            &named(&rt, rt.alloc(), None),
-            &[],
-            &image,
-        );
+        let ran = run_with(rt.alloc(), &heap, &options, &[], &image);
         let failed = ran.result == Err(RunFault::Memory);
         refusals.count(&rt, &heap, granted, failed);
-        if failed {
-            assert_that_at(&rt, ran.listing.is_empty(), &granted);
-        } else {
-            assert_equal(&rt, &ran.result, &Ok(Status::Done));
-            assert_that(&rt, 65_536 * 12 < ran.listing.len());
-        }
+        assert_that_at(&rt, failed || ran.result == Ok(Status::Done), &granted);
+        assert_equal_at(&rt, &ran.listing.is_empty(), &failed, &granted);
         assert_that(&rt, ran.messages.is_empty());
     }
     refusals.at_least(&rt, 2, FEW);
-}
-
-/// How often a run allocated whose reader gives these bytes and then ends or fails, and what it returned.
-fn allocations(
-    rt: &impl Abort,
-    alloc: Global,
-    image: &[u8],
-    fails: bool,
-) -> (u64, Result<Status, RunFault>) {
-    let heap = Refusing::after(alloc, u64::MAX);
-    let options = named(rt, alloc, None);
-    let tape = if fails {
-        Tape::failing(image, image.len(), ErrorKind::Other)
-    } else {
-        Tape::new(image, 1)
-    };
-    let result = run_on(&heap, &options, &[], tape, Vec::new(alloc), Vec::new(alloc));
-    (u64::MAX - heap.left(), result)
-}
-
-/// Listing allocates nothing: a run that lists allocates once more than one that only reads, for its map.
-#[test]
-fn no_listing_is_held(rt: HostRuntime) {
-    for count in [1, 3, 4096, 65_536] {
-        let image = vec![in rt.alloc(); 0u8; count].expect(&rt, "vec");
-        let (listing, listed) = allocations(&rt, rt.alloc(), &image, false);
-        let (reading, read) = allocations(&rt, rt.alloc(), &image, true);
-        assert_equal(&rt, &listed, &Ok(Status::Done));
-        assert_equal(&rt, &read, &Ok(Status::Refused));
-        assert_that(&rt, 0 < reading);
-        assert_equal_at(&rt, &listing, &reading.saturating_add(1), &count);
-    }
 }

@@ -2,9 +2,9 @@
 use crate::tests::asserts::{assert_equal, assert_that};
 use crate::tests::ranges::WARNING;
 use crate::tests::runs::{
-    AT_1000, HEADER, assert_assembles, assert_back, assert_lists, gives, gives_from,
+    AT_1000, HEADER, assert_assembles, assert_lists, assert_refused, gives, gives_from,
 };
-use std::alloc::{AllocError, Global};
+use std::alloc::Global;
 use std::process::Abort;
 
 /// An image from a start on, an information file, whether offsets are hexadecimal by the command line, and the
@@ -191,6 +191,38 @@ fn names_of_skipped_bytes(rt: HostRuntime) {
     assert_equal(&rt, &found.as_str(), &want.as_str());
 }
 
+/// Information files that are refused, and their messages.
+const REFUSED: &[(&str, &str)] = &[
+    (
+        "LABEL { ADDR 1; NAME \"ab\"; };\nLABEL { ADDR 2; NAME \"ab\"; };",
+        "info:2: name given twice",
+    ),
+    (
+        "LABEL { ADDR 1; NAME \"ab\"; };\nLABEL { ADDR 1; NAME \"cd\"; };",
+        "info:2: address named twice",
+    ),
+    ("LABEL { ADDR 1; NAME \"1a\"; };", "info:1: bad name"),
+    ("LABEL { ADDR 1; NAME \"BNE\"; };", "info:1: reserved name"),
+    (
+        "LABEL { ADDR $FFFF; NAME \"ab\"; SIZE 2; };",
+        "info:1: value out of range",
+    ),
+    ("LABEL { ADDR $20; NAME \"z\"; };", "info:1: reserved name"),
+    (
+        "LABEL { ADDR $3000; NAME \"L2000\"; };",
+        "info:1: reserved name",
+    ),
+    ("LABEL { ADDR $20; NAME \"ab\n", "info:1: string not closed"),
+];
+
+#[test]
+fn information_files_that_are_refused(rt: HostRuntime) {
+    for (info, message) in REFUSED {
+        let found = gives(&rt, rt.alloc(), AT_1000, info, &[], &[0xEA]);
+        assert_refused(&rt, rt.alloc(), &found, message);
+    }
+}
+
 /// What a run gives for 65,536 bytes of this value from $0000 on. The listing assembles to them.
 fn gives_value(rt: &impl Abort, alloc: Global, value: u8) -> String {
     let image = vec![in alloc; value; 65_536].expect(rt, "vec");
@@ -231,120 +263,4 @@ fn branches_without_end(rt: HostRuntime) {
         .lines()
         .filter(|line| line.as_bytes().get(8) == Some(&b'b'));
     assert_equal(&rt, &branches.count(), &32_745);
-}
-
-/// Random numbers, the same at each run.
-#[derive(Drop)]
-pub struct Random {
-    pub state: u64,
-}
-
-impl Random {
-    ghost use Rattle.std.specs.Prelude.{◌<◌};
-
-    pub fn below(&mut self, limit: u32) -> u32
-        requires { 0 < limit }
-        ensures { result < limit }
-    {
-        self.state = self
-            .state
-            .wrapping_mul(6_364_136_223_846_793_005)
-            .wrapping_add(1_442_695_040_888_963_407);
-        (self.state >> 33) as u32 % limit
-    }
-}
-
-const TYPES: [&str; 7] = [
-    "CODE",
-    "BYTETABLE",
-    "WORDTABLE",
-    "DBYTETABLE",
-    "ADDRTABLE",
-    "RTSTABLE",
-    "TEXTTABLE",
-];
-
-/// Groups RANGE with random sizes and types, from an address on.
-pub fn random_ranges(alloc: Global, random: &mut Random, start: u32) -> Result<String, AllocError> {
-    let mut info = String::new(alloc);
-    let mut at = start;
-    for _ in 0..40 {
-        at = at.saturating_add(random.below(20));
-        let size = 1 + random.below(12);
-        if at.saturating_add(size) <= 65_536 {
-            let role = TYPES[random.below(7) as usize];
-            let group = format!(in alloc; "RANGE {{ START {at}; SIZE {size}; TYPE {role}; }};\n")?;
-            info.push_str(&group)?;
-        }
-        at = at.saturating_add(size);
-    }
-    Ok(info)
-}
-
-/// Groups LABEL with random addresses and sizes, some in the zero page and some from an address on.
-fn random_labels(alloc: Global, random: &mut Random, start: u32) -> Result<String, AllocError> {
-    let mut info = String::new(alloc);
-    let mut address = random.below(16);
-    for _ in 0..40 {
-        let size = 1 + random.below(4);
-        if address.saturating_add(size) <= 65_536 {
-            let group = format!(in alloc;
-                "LABEL {{ ADDR {address}; NAME \"n_{address}\"; SIZE {size}; }};\n"
-            )?;
-            info.push_str(&group)?;
-        }
-        let step = if address < 256 { 40 } else { 9 };
-        address = address.saturating_add(1 + random.below(step));
-        if 256 < address {
-            address = address.max(start);
-        }
-    }
-    Ok(info)
-}
-
-/// An image of random bytes.
-pub fn random_image(alloc: Global, random: &mut Random, size: u32) -> Result<Vec<u8>, AllocError> {
-    let mut image = Vec::new(alloc);
-    for _ in 0..size {
-        image.push(random.below(256) as u8)?;
-    }
-    Ok(image)
-}
-
-/// Lists a random image with random ranges and labels, and assembles the listing back.
-fn random_listing(rt: &impl Abort, alloc: Global, random: &mut Random) {
-    let size = 1 + random.below(400);
-    let start = random.below(65_536 - size);
-    let image = random_image(alloc, random, size).expect(rt, "random_image");
-    let mut info = random_ranges(alloc, random, start).expect(rt, "random_ranges");
-    let labels = random_labels(alloc, random, start).expect(rt, "random_labels");
-    info.push_str(&labels).expect(rt, "push_str");
-    assert_back(rt, alloc, start as u16, info.as_bytes(), &image);
-}
-
-fn random_listings(rt: &impl Abort, alloc: Global, seed: u64) {
-    let mut random = Random { state: seed };
-    for _ in 0..75 {
-        random_listing(rt, alloc, &mut random);
-    }
-}
-
-#[test]
-fn random_images_with_names_1(rt: HostRuntime) {
-    random_listings(&rt, rt.alloc(), 1)
-}
-
-#[test]
-fn random_images_with_names_2(rt: HostRuntime) {
-    random_listings(&rt, rt.alloc(), 2)
-}
-
-#[test]
-fn random_images_with_names_3(rt: HostRuntime) {
-    random_listings(&rt, rt.alloc(), 3)
-}
-
-#[test]
-fn random_images_with_names_4(rt: HostRuntime) {
-    random_listings(&rt, rt.alloc(), 4)
 }

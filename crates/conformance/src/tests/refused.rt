@@ -1,14 +1,11 @@
-// Calls that allocate, each allocation refused in turn.
+// Calls that allocate, by themselves, each allocation refused in turn.
 use crate::heap::Refusing;
 use crate::tests::asserts::{assert_equal, assert_equal_at, assert_that, assert_that_at};
-use crate::tests::ranges::WARNING;
 use crate::tests::refusals::{MANY, Refusals};
-use crate::tests::runs::{HEADER, Ran, run_including, run_with};
-use da65::{File, RunFault, Status, Told, needs};
+use da65::{Told, needs};
 use info65::{InfoFault, InfoFaultKind, Options, read_include, read_info};
-use map65::{Map, read_image};
+use map65::{ImageFault, Map, read_image};
 use std::alloc::Global;
-use std::process::Abort;
 use stmt65::{AsmFault, AsmFaultKind, assemble, read_line};
 
 #[test]
@@ -108,23 +105,26 @@ fn line_of_source(rt: HostRuntime) {
     refusals.at_least(&rt, 1, MANY);
 }
 
+const NEEDED: &[u8] =
+    b"GLOBAL { INPUTNAME \"a.bin\"; OUTPUTNAME \"b.s\"; }; ASMINC { FILE \"k.inc\"; }; ASMINC { FILE \"k.inc\"; };";
+
 #[test]
 fn names_of_needed_files(rt: HostRuntime) {
-    let info = b"GLOBAL { INPUTNAME \"a.bin\"; OUTPUTNAME \"b.s\"; };";
     let mut refusals = Refusals::none();
     for granted in 0..MANY {
         let heap = Refusing::after(rt.alloc(), granted);
-        let found = needs(&heap, &Options::<Global>::none(), info);
+        let found = needs(&heap, &Options::<Global>::none(), NEEDED);
         refusals.count(&rt, &heap, granted, found.is_err());
         if let Ok(names) = found {
             assert_equal_at(&rt, &names.input.as_deref(), &Some("a.bin"), &granted);
             assert_equal_at(&rt, &names.output.as_deref(), &Some("b.s"), &granted);
+            assert_equal_at(&rt, &names.includes.len(), &2, &granted);
         }
     }
     refusals.at_least(&rt, 4, MANY);
 }
 
-/// An information file with ranges, an image at the start that it gives, and its lines after the header.
+/// An information file with ranges, and an image at the start that it gives.
 const RANGES: &[u8] = b"GLOBAL { STARTADDR $1000; INPUTNAME \"a.bin\"; }\n\
     RANGE { START $1001; SIZE 3; TYPE WORDTABLE; }\n\
     RANGE { START $1004; SIZE 1; TYPE SKIP; }\n\
@@ -132,94 +132,34 @@ const RANGES: &[u8] = b"GLOBAL { STARTADDR $1000; INPUTNAME \"a.bin\"; }\n\
 
 const IMAGE: &[u8] = &[0xEA, 1, 2, 3, 0xFF, 0x41, 0x42];
 
-const BODY: &[u8] =
-    b"        nop\n        .word   $0201\n        .byte   $03\n        .byte   \"AB\"\n";
-
 #[test]
-fn run_with_ranges(rt: HostRuntime) {
+fn image(rt: HostRuntime) {
+    let options = Options::<Global>::none();
     let mut refusals = Refusals::none();
     for granted in 0..MANY {
+        let ample = Refusing::after(rt.alloc(), u64::MAX);
         let heap = Refusing::after(rt.alloc(), granted);
-        let ran = run_with(rt.alloc(), &heap, &Options::none(), RANGES, IMAGE);
-        let failed = ran.result == Err(RunFault::Memory);
-        refusals.count(&rt, &heap, granted, failed);
-        if failed {
-            assert_that(&rt, ran.listing.is_empty() && ran.messages.is_empty());
-        } else {
-            assert_equal(&rt, &ran.result, &Ok(Status::Done));
-            assert_equal(
-                &rt,
-                &ran.listing.as_slice().strip_prefix(HEADER.as_bytes()),
-                &Some(BODY),
-            );
-            assert_equal(&rt, &ran.messages.as_slice(), &WARNING.as_bytes());
+        let info = read_info(&ample, &options, RANGES).expect(&rt, "read_info");
+        let read = read_image(&heap, &info, &mut Told::new(IMAGE));
+        refusals.count(&rt, &heap, granted, read.is_err());
+        match read {
+            Ok(image) => {
+                assert_equal_at(&rt, &image.start(), &0x1000, &granted);
+                assert_equal_at(&rt, &image.bytes(), &IMAGE, &granted);
+            }
+            Err(fault) => assert_equal_at(&rt, &fault, &ImageFault::Memory, &granted),
         }
     }
-    refusals.at_least(&rt, 3, MANY);
-}
-
-/// Reads an information file, these lines at each of its include files, and an image, and builds the map, all over this
-/// heap. Returns how many allocations were left before the map, and whether there is a map.
-fn build(
-    rt: &impl Abort,
-    heap: &Refusing<Global>,
-    options: &Options,
-    info: &[u8],
-    lines: &[u8],
-    image: &[u8],
-) -> (u64, bool) {
-    let mut info = read_info(heap, options, info).expect(rt, "read_info");
-    for index in 0..2 {
-        if index < info.includes().len() {
-            read_include(heap, &mut info, index, lines).expect(rt, "read_include");
-        }
-    }
-    let image = read_image(heap, &info, &mut Told::new(image)).expect(rt, "read_image");
-    let before = heap.left();
-    (before, Map::build(heap, &info, &image).is_ok())
-}
-
-/// The run, which allocates where its information file, its include files and its image do, and for the map once. It has at
-/// most two include files, both the first of these.
-pub fn run_as_its_parts(
-    rt: &impl Abort,
-    alloc: Global,
-    options: &Options,
-    info: &[u8],
-    files: &[File<'_>],
-    image: &[u8],
-) -> Ran {
-    let heap = Refusing::after(alloc, u64::MAX);
-    let lines = match files.first() {
-        Some(file) => file.bytes,
-        None => b"",
-    };
-    let (before, is_built) = build(rt, &heap, options, info, lines, image);
-    assert_that(rt, is_built);
-    assert_equal(rt, &before.wrapping_sub(heap.left()), &1);
-
-    let counted = Refusing::after(alloc, u64::MAX);
-    let ran = run_including(alloc, &counted, options, info, files, image);
-    assert_equal(rt, &ran.result, &Ok(Status::Done));
-    assert_equal(rt, &counted.left(), &heap.left());
-    ran
+    refusals.at_least(&rt, 1, MANY);
 }
 
 #[test]
-fn run_allocates_as_its_parts(rt: HostRuntime) {
-    run_as_its_parts(&rt, rt.alloc(), &Options::none(), RANGES, &[], IMAGE);
-}
-
-/// The map's allocation is the last one of a run.
-#[test]
-fn map_without_memory(rt: HostRuntime) {
+fn map(rt: HostRuntime) {
     let options = Options::<Global>::none();
-    let counted = Refusing::after(rt.alloc(), u64::MAX);
-    let ran = run_with(rt.alloc(), &counted, &options, RANGES, IMAGE);
-    assert_equal(&rt, &ran.result, &Ok(Status::Done));
-    let granted = (u64::MAX - counted.left()).saturating_sub(1);
-    let heap = Refusing::after(rt.alloc(), granted);
-    let (before, is_built) = build(&rt, &heap, &options, RANGES, b"", IMAGE);
-    assert_equal(&rt, &before, &0);
-    assert_that(&rt, !is_built);
+    let ample = Refusing::after(rt.alloc(), u64::MAX);
+    let heap = Refusing::after(rt.alloc(), 0);
+    let info = read_info(&ample, &options, RANGES).expect(&rt, "read_info");
+    let image = read_image(&ample, &info, &mut Told::new(IMAGE)).expect(&rt, "read_image");
+    assert_that(&rt, Map::build(&heap, &info, &image).is_err());
+    assert_that(&rt, Map::build(&heap, &info, &image).is_ok());
 }

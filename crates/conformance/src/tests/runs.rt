@@ -1,6 +1,7 @@
 // Runs over memory, and over devices.
 use crate::tests::asserts::{assert_equal, assert_equal_at, assert_that_at};
 use crate::tests::command_lines::options_on;
+use crate::tests::devices::ByBytes;
 use da65::{File, Options, RunFault, Status, Told, run};
 use std::alloc::{Allocator, Global};
 use std::io::{Read, Write};
@@ -24,7 +25,8 @@ pub const NAMED: &[&str] = &["image.bin"];
 /// The same with a start.
 pub const AT_1000: &[&str] = &["-S", "$1000", "image.bin"];
 
-/// What a run under a command line gives, as text: its result, its messages and its listing.
+/// What a run under a command line gives, as text: its result, its messages and its listing. Writers that take one byte at each
+/// write get the same.
 pub fn gives(
     rt: &impl Abort,
     alloc: Global,
@@ -35,7 +37,16 @@ pub fn gives(
 ) -> String {
     let options = options_on(rt, alloc, words).expect(rt, "options_on");
     let ran = run_including(alloc, alloc, &options, info.as_bytes(), files, input);
-    let result = ran.result;
+    let found = shown(rt, alloc, &ran);
+    let slow = run_by_bytes(alloc, &options, info.as_bytes(), files, input);
+    let slow = shown(rt, alloc, &slow);
+    assert_that_at(rt, slow.as_str() == found.as_str(), &info);
+    found
+}
+
+/// What a run gave, as text: its result, its messages and its listing.
+pub fn shown(rt: &impl Abort, alloc: Global, ran: &Ran) -> String {
+    let result = &ran.result;
     let messages = str::from_utf8(&ran.messages).unwrap_or("?");
     let listing = str::from_utf8(&ran.listing).unwrap_or("?");
     format!(in alloc; "{result:?}\n{messages}{listing}").expect(rt, "format")
@@ -134,6 +145,32 @@ pub fn run_including<A: Allocator + Copy>(
         &mut Told::new(image),
         &mut Told::new(&mut listing),
         &mut Told::new(&mut messages),
+    );
+    Ran {
+        result,
+        listing,
+        messages,
+    }
+}
+
+/// The same with ample memory, and writers that take one byte at each write.
+fn run_by_bytes(
+    alloc: Global,
+    options: &Options,
+    info: &[u8],
+    files: &[File<'_>],
+    image: &[u8],
+) -> Ran {
+    let mut listing = Vec::new(alloc);
+    let mut messages = Vec::new(alloc);
+    let result = run(
+        alloc,
+        options,
+        info,
+        files,
+        &mut Told::new(image),
+        &mut Told::new(ByBytes::new(&mut listing)),
+        &mut Told::new(ByBytes::new(&mut messages)),
     );
     Ran {
         result,

@@ -1,11 +1,7 @@
 // Listings with segments, comments and columns.
 use crate::tests::asserts::{assert_equal, assert_equal_at, assert_that, assert_that_at};
-use crate::tests::names::{Random, random_image, random_ranges};
 use crate::tests::ranges::WARNING;
-use crate::tests::refused::run_as_its_parts;
-use crate::tests::runs::{
-    AT_1000, HEADER, assert_assembles, assert_back, assert_refused, gives, gives_from, named,
-};
+use crate::tests::runs::{AT_1000, HEADER, assert_assembles, assert_refused, gives, gives_from};
 use std::alloc::{AllocError, Global};
 use std::process::Abort;
 
@@ -251,16 +247,6 @@ fn skipped_segments(rt: HostRuntime) {
     assert_equal(&rt, &found.as_str(), &want.as_str());
 }
 
-/// A run that comes back to a segment allocates where its information file, its image and its map do, and nowhere else.
-#[test]
-fn entering_again_allocates_nothing(rt: HostRuntime) {
-    let row = ROWS.get(1).expect(&rt, "row");
-    let options = named(&rt, rt.alloc(), Some(0x1000));
-    let info = row.info.as_bytes();
-    let ran = run_as_its_parts(&rt, rt.alloc(), &options, info, &[], row.image);
-    assert_equal(&rt, &ran.messages.as_slice(), &AGAIN.as_bytes());
-}
-
 /// 1,000 segments of their own names.
 fn thousand_segments(alloc: Global) -> Result<String, AllocError> {
     let mut info = String::new(alloc);
@@ -346,120 +332,4 @@ fn extreme_columns(rt: HostRuntime) {
         assert_assembles(&rt, rt.alloc(), &found, 0x1000, JUMP_AND_TEXT);
         assert_that_at(&rt, found.lines().all(|line| line.len() < 512), &choice);
     }
-}
-
-/// Groups SEGMENT with random sizes, of eight names, around an image.
-fn random_segments(alloc: Global, random: &mut Random, start: u32) -> Result<String, AllocError> {
-    let mut info = String::new(alloc);
-    let mut at = start.saturating_sub(random.below(20));
-    for _ in 0..12 {
-        at = at.saturating_add(random.below(30));
-        let last = at.saturating_add(random.below(50));
-        if last < 65_536 {
-            let name = random.below(8);
-            let group = format!(in alloc;
-                "SEGMENT {{ START {at}; END {last}; NAME \"S{name}\"; }};\n"
-            )?;
-            info.push_str(&group)?;
-        }
-        at = last.saturating_add(1);
-    }
-    Ok(info)
-}
-
-/// A comment of random bytes that can stand in one.
-fn random_comment(alloc: Global, random: &mut Random) -> Result<Vec<u8>, AllocError> {
-    let mut text = Vec::new(alloc);
-    for _ in 0..random.below(30) {
-        let byte = 0x20 + random.below(0xE0) as u8;
-        if byte != b'"' && byte != 0x7F {
-            text.push(byte)?;
-        }
-    }
-    Ok(text)
-}
-
-/// Groups LABEL with random addresses and sizes, some in the zero page and some from an address on, each with a comment.
-fn random_labels(alloc: Global, random: &mut Random, start: u32) -> Result<Vec<u8>, AllocError> {
-    let mut info = Vec::new(alloc);
-    let mut address = random.below(16);
-    for _ in 0..40 {
-        let size = 1 + random.below(4);
-        if address.saturating_add(size) <= 65_536 {
-            let group = format!(in alloc;
-                "LABEL {{ ADDR {address}; NAME \"n_{address}\"; SIZE {size}; COMMENT \""
-            )?;
-            info.extend_from_slice(group.as_bytes())?;
-            info.extend_from_slice(&random_comment(alloc, random)?)?;
-            info.extend_from_slice(b"\"; };\n")?;
-        }
-        let step = if address < 256 { 40 } else { 9 };
-        address = address.saturating_add(1 + random.below(step));
-        if 256 < address {
-            address = address.max(start);
-        }
-    }
-    Ok(info)
-}
-
-/// A group GLOBAL with this CPU, a random level, random columns and random empty lines.
-fn random_layout(alloc: Global, random: &mut Random, cpu: &str) -> Result<String, AllocError> {
-    format!(in alloc;
-        "GLOBAL {{ CPU \"{cpu}\"; COMMENTS {}; MNEMONICCOLUMN {}; ARGUMENTCOLUMN {}; COMMENTCOLUMN {}; TEXTCOLUMN {}; \
-        LABELBREAK {}; NEWLINEAFTERJMP {}; NEWLINEAFTERRTS {}; }};\n",
-        random.below(5),
-        1 + random.below(120),
-        1 + random.below(120),
-        1 + random.below(120),
-        1 + random.below(120),
-        random.below(121),
-        random.below(2),
-        random.below(2)
-    )
-}
-
-/// An information file with random ranges, segments, names with comments, and columns.
-fn random_info(
-    alloc: Global,
-    random: &mut Random,
-    cpu: &str,
-    start: u32,
-) -> Result<Vec<u8>, AllocError> {
-    let mut info = random_labels(alloc, random, start)?;
-    info.extend_from_slice(random_ranges(alloc, random, start)?.as_bytes())?;
-    info.extend_from_slice(random_segments(alloc, random, start)?.as_bytes())?;
-    info.extend_from_slice(random_layout(alloc, random, cpu)?.as_bytes())?;
-    Ok(info)
-}
-
-/// Lists a random image for this CPU with a random information file, and assembles the listing back.
-fn random_listing(rt: &impl Abort, alloc: Global, random: &mut Random, cpu: &str) {
-    let size = 1 + random.below(400);
-    let start = random.below(65_536 - size);
-    let image = random_image(alloc, random, size).expect(rt, "random_image");
-    let info = random_info(alloc, random, cpu, start).expect(rt, "random_info");
-    assert_back(rt, alloc, start as u16, &info, &image);
-}
-
-/// 50 random images for this CPU.
-fn random_listings(rt: &impl Abort, alloc: Global, cpu: &str, seed: u64) {
-    let mut random = Random { state: seed };
-    for _ in 0..50 {
-        random_listing(rt, alloc, &mut random, cpu);
-    }
-}
-
-#[test]
-fn random_images_of_the_6502(rt: HostRuntime) {
-    random_listings(&rt, rt.alloc(), "6502", 1)
-}
-
-#[test]
-fn random_images_of_the_65sc02(rt: HostRuntime) {
-    random_listings(&rt, rt.alloc(), "65SC02", 2)
-}
-
-#[test]
-fn random_images_of_the_65c02(rt: HostRuntime) {
-    random_listings(&rt, rt.alloc(), "65C02", 3)
 }

@@ -1,12 +1,8 @@
 // Runs with options and an information file.
-use crate::heap::Refusing;
-use crate::tests::asserts::{assert_equal, assert_equal_at, assert_that};
+use crate::tests::asserts::assert_equal_at;
 use crate::tests::devices::Endless;
-use crate::tests::refusals::{MANY, Refusals};
-use crate::tests::runs::{
-    THREE, THREE_LINES, assert_lists, assert_refused, gives, named, run_on, run_with,
-};
-use da65::{Options, RunFault, Status};
+use crate::tests::runs::{THREE, THREE_LINES, assert_lists, assert_refused, gives, named, run_on};
+use da65::Status;
 
 /// Command lines with the names of the input and the output, with one of them, and with neither.
 const BOTH: &[&str] = &["-o", "c.s", "a.bin"];
@@ -187,8 +183,12 @@ fn the_command_line_wins_and_help_plays_no_part(rt: HostRuntime) {
 const READ: &[(&str, usize, bool)] = &[
     ("", 65_537, false),
     ("GLOBAL { INPUTOFFS 5; }", 65_542, false),
-    ("GLOBAL { INPUTSIZE 3; }", 3, true),
-    ("GLOBAL { INPUTOFFS 10000; INPUTSIZE 3; }", 10_003, true),
+    ("GLOBAL { INPUTSIZE 1; }", 1, true),
+    (
+        "GLOBAL { INPUTOFFS 16777216; INPUTSIZE 1; }",
+        16_777_217,
+        true,
+    ),
     ("GLOBAL { INPUTSIZE $10000; }", 65_536, true),
     ("GLOBAL { INPUTOFFS 5; INPUTOFFS 5; }", 0, false),
     ("@", 0, false),
@@ -213,34 +213,5 @@ fn no_more_is_read_than_asked_for(rt: HostRuntime) {
         assert_equal_at(&rt, &reader.given, given, info);
         assert_equal_at(&rt, &listing.is_empty(), &!*done, info);
         assert_equal_at(&rt, &messages.is_empty(), done, info);
-    }
-}
-
-/// Information files, and what a run with ample memory returns.
-const TEXTS: &[(&str, Status)] = &[
-    ("GLOBAL { INPUTNAME \"a.bin\"; INPUTSIZE 3; }", Status::Done),
-    (
-        "GLOBAL { INPUTNAME \"a.bin\"; INPUTSIZE 3; } @",
-        Status::Refused,
-    ),
-];
-
-#[test]
-fn each_allocation_refused_in_turn(rt: HostRuntime) {
-    for (info, status) in TEXTS {
-        let mut refusals = Refusals::none();
-        for granted in 0..MANY {
-            let heap = Refusing::after(rt.alloc(), granted);
-            let ran = run_with(rt.alloc(), &heap, &Options::none(), info.as_bytes(), THREE);
-            let failed = ran.result == Err(RunFault::Memory);
-            refusals.count(&rt, &heap, granted, failed);
-            if failed {
-                assert_that(&rt, ran.listing.is_empty() && ran.messages.is_empty());
-            } else {
-                assert_equal_at(&rt, &ran.result, &Ok(*status), &granted);
-                assert_equal(&rt, &ran.messages.is_empty(), &(*status == Status::Done));
-            }
-        }
-        refusals.at_least(&rt, 1, MANY);
     }
 }

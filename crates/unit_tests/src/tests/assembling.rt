@@ -73,6 +73,9 @@ const DATA: &str = r#"
 .word $1234,2|.dbyt $1234,2| => 34 12 02 00 12 34 00 02
 .addr foo,foo+1|foo:|.word foo-1| => 04 10 05 10 03 10
 v := $1234|.dbyt v,v+1-1| => 12 34 12 34
+.dword $12345678,1| => 78 56 34 12 01 00 00 00
+.DWORD $FFFFFFFF,4294967295| => FF FF FF FF FF FF FF FF
+foo: .dword foo+$F0000000,foo-1| => 00 10 00 F0 FF 0F 00 00
 nop|.segment "B"|x2:|.code|.addr x2| => EA 01 10
 .setcpu "6502"|nop ; here| => EA
 "#;
@@ -132,6 +135,24 @@ fn forms_by_cpu(rt: HostRuntime) {
     give(&rt, rt.alloc(), 0x1000, CPUS);
 }
 
+/// Each prefix of `lda #$01`.
+const PREFIXES: &str = r#"
+ =>
+l => line 1: syntax error
+ld => line 1: syntax error
+lda => line 1: no such form
+lda  => line 1: no such form
+lda # => line 1: syntax error
+lda #$ => line 1: syntax error
+lda #$0 => A9 00
+lda #$01 => A9 01
+"#;
+
+#[test]
+fn prefixes_of_an_immediate(rt: HostRuntime) {
+    give(&rt, rt.alloc(), 0x1000, PREFIXES);
+}
+
 const LOWEST: &str = r#"
 nop|lda #$100|frob| => line 2: value out of range
 foo:|foo: lda bar| => line 2: undefined name
@@ -155,6 +176,14 @@ fn lowest_line_then_lowest_fault(rt: HostRuntime) {
 const WITHOUT_ROOM: &str = r#"
 .byte $100| => line 1: value out of range
 .word $10000| => line 1: value out of range
+.dbyt $10000| => line 1: value out of range
+.dword 4294967296| => line 1: value out of range
+.dword 18446744073709551616| => line 1: value out of range
+zp := 0|.dword zp-1| => line 2: value out of range
+.dword $123456789| => line 1: syntax error
+.dword| => line 1: syntax error
+.dword "1"| => line 1: syntax error
+.dwords 1| => line 1: syntax error
 v := $10000| => line 1: value out of range
 zp := 0|lda zp-1| => line 2: value out of range
 zp := 0|.word zp-1| => line 2: value out of range
@@ -185,35 +214,6 @@ fn values_without_room(rt: HostRuntime) {
     give(&rt, a, 0x1000, WITHOUT_ROOM_AT_1000);
     give(&rt, a, 0xFFF0, "bne $0000| => line 1: value out of range");
     give(&rt, a, 0xFFFF, WITHOUT_ROOM_AT_THE_END);
-}
-
-/// 768 times a byte, eight in each line.
-fn table_of(alloc: Global, value: u8) -> Result<String, AllocError> {
-    let mut text = String::new(alloc);
-    for line in 0..96 {
-        let word = if line % 2 == 0 { ".byte" } else { "\t.BYTE" };
-        write!(
-            text,
-            "{word} ${value:02X},${value:02X},${value:02X},${value:02X}"
-        )?;
-        write!(
-            text,
-            ",${value:02X},${value:02X},${value:02X},${value:02X}\n"
-        )?;
-    }
-    Ok(text)
-}
-
-#[test]
-fn each_byte_value_in_a_table(rt: HostRuntime) {
-    for value in 0..=255u8 {
-        let text = table_of(rt.alloc(), value).expect(&rt, "table_of");
-        let found = assemble(rt.alloc(), text.as_bytes(), 0x1000).expect(&rt, "assemble");
-        assert_that(
-            &rt,
-            found.len() == 768 && found.iter().all(|byte| *byte == value),
-        );
-    }
 }
 
 /// 32,745 labels, each on a line of its own, and the address of the last one.

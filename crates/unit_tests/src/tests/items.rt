@@ -33,6 +33,12 @@ const LISTED: &[Listed] = &[
         items: " 1000: WordTable 2 WordTable 0 WordTable 1",
     },
     Listed {
+        name: "three bytes are left over of a table of double words",
+        bytes: &[1, 2, 3, 4, 5, 6, 7],
+        info: "RANGE { START $1000; SIZE 7; TYPE DWORDTABLE; };",
+        items: " 1000: DwordTable 4 DwordTable 0 DwordTable 0 DwordTable 0 DwordTable 1 DwordTable 1 DwordTable 1",
+    },
+    Listed {
         name: "words, high byte first",
         bytes: &[1, 2],
         info: "RANGE { START $1000; END $1001; TYPE DBYTETABLE; };",
@@ -126,6 +132,7 @@ const TYPES: &[(&str, &str, u16)] = &[
     ("BYTETABLE", "ByteTable", 1),
     ("WORDTABLE", "WordTable", 2),
     ("DBYTETABLE", "DbyteTable", 2),
+    ("DWORDTABLE", "DwordTable", 4),
     ("ADDRTABLE", "AddrTable", 2),
     ("RTSTABLE", "RtsTable", 2),
     ("TEXTTABLE", "TextTable", 1),
@@ -136,7 +143,7 @@ const TYPES: &[(&str, &str, u16)] = &[
 fn multiples(alloc: Global, role: &str, size: u16) -> Result<String, AllocError> {
     let mut text = String::from_str(alloc, " 0000:")?;
     for address in 0..=u16::MAX {
-        let begins = size == 1 || size == 2 && address % 2 == 0;
+        let begins = size == 1 || 1 < size && address % size == 0;
         let len = if begins { size } else { 0 };
         write!(text, " {role} {len}")?;
     }

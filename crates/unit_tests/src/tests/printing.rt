@@ -62,14 +62,24 @@ fn shows_everywhere(
     let first = Column::try_from(1).expect(rt, "try_from");
     let last = Column::try_from(120).expect(rt, "try_from");
     let mut columns = Columns::default();
-    let want = spaced(8, operation, 3, operands);
+    let want = spaced(
+        8,
+        operation,
+        8usize.saturating_sub(operation.len()),
+        operands,
+    );
     shows(rt, alloc, &columns, statement, want.as_slice(), bytes);
     columns.mnemonic = first;
     columns.argument = first;
     let want = spaced(0, operation, 1, operands);
     shows(rt, alloc, &columns, statement, want.as_slice(), bytes);
     columns.argument = last;
-    let want = spaced(0, operation, 114, operands);
+    let want = spaced(
+        0,
+        operation,
+        119usize.saturating_sub(operation.len()),
+        operands,
+    );
     shows(rt, alloc, &columns, statement, want.as_slice(), bytes);
     columns.mnemonic = last;
     let want = spaced(119, operation, 1, operands);
@@ -177,5 +187,26 @@ fn words(rt: HostRuntime) {
         ".dbyt",
         "$1234,$0001,$FFFF,$C000",
         b"\x12\x34\x00\x01\xFF\xFF\xC0\x00",
+    )
+}
+
+#[test]
+fn double_words(rt: HostRuntime) {
+    let a = rt.alloc();
+    shows_everywhere(
+        &rt,
+        a,
+        &Statement::Dwords(b"\x01\x02\x03\x04"),
+        ".dword",
+        "$04030201",
+        b"\x01\x02\x03\x04",
+    );
+    shows_everywhere(
+        &rt,
+        a,
+        &Statement::Dwords(b"\0\0\0\0\0\0\0\0"),
+        ".dword",
+        "$00000000,$00000000",
+        b"\0\0\0\0\0\0\0\0",
     )
 }

@@ -48,7 +48,7 @@ RANGE { TYPE "CODE"; }; => 1: something else expected
 RANGE { TYPE 1; }; => 1: something else expected
 RANGE { TYPE 'C'; }; => 1: something else expected
 RANGE { TYPE ; }; => 1: something else expected
-RANGE { TYPE DWORDTABLE; }; => 1: something else expected
+RANGE { TYPE QWORDTABLE; }; => 1: something else expected
 RANGE { START CODE; }; => 1: something else expected
 RANGE { START "1"; }; => 1: something else expected
 "#;
@@ -74,6 +74,7 @@ RANGE { START 6; SIZE 1; TYPE BYTETABLE; }; => ByteTable 0006-0006
 RANGE { START 7; SIZE 1; TYPE DBYTETABLE; }; => DbyteTable 0007-0007
 RANGE { START 8; SIZE 1; TYPE SKIP; }; => Skip 0008-0008
 RANGE { START 9; SIZE 1; TYPE addrtable; }; => AddrTable 0009-0009
+RANGE { START 11; SIZE 1; TYPE DwordTable; }; => DwordTable 000B-000B
 RANGE { START 10; SIZE 1; TYPE RTSTABLE; }; => RtsTable 000A-000A
 -- the limits
 RANGE { START 0; SIZE $10000; TYPE SKIP; }; => Skip 0000-FFFF

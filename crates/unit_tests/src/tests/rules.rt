@@ -2,14 +2,16 @@
 
 use crate::tests::asserts::assert_that_at;
 use crate::tests::inputs::{image_of, info_of};
-use RangeType::{AddrTable, ByteTable, Code, DbyteTable, RtsTable, Skip, TextTable, WordTable};
+use RangeType::{
+    AddrTable, ByteTable, Code, DbyteTable, DwordTable, RtsTable, Skip, TextTable, WordTable,
+};
 use info65::RangeType;
 use isa65::{Cpu, Mnemonic, Mode, Op, OpcodeSet};
 use map65::{Map, NameBuf, NameKind, Place};
 use std::alloc::{AllocError, Global};
 use std::process::Abort;
 
-/// The type of each number below 8.
+/// The type of each number below 9.
 fn type_of(number: usize) -> RangeType {
     match number {
         0 => Code,
@@ -19,6 +21,7 @@ fn type_of(number: usize) -> RangeType {
         4 => AddrTable,
         5 => RtsTable,
         6 => TextTable,
+        7 => DwordTable,
         _ => Skip,
     }
 }
@@ -30,6 +33,7 @@ fn word_of(role: RangeType) -> &'static str {
         ByteTable => "BYTETABLE",
         WordTable => "WORDTABLE",
         DbyteTable => "DBYTETABLE",
+        DwordTable => "DWORDTABLE",
         AddrTable => "ADDRTABLE",
         RtsTable => "RTSTABLE",
         TextTable => "TEXTTABLE",
@@ -42,6 +46,7 @@ fn unit_of(role: RangeType) -> usize {
     match role {
         Code | ByteTable | TextTable | Skip => 1,
         WordTable | DbyteTable | AddrTable | RtsTable => 2,
+        DwordTable => 4,
     }
 }
 
@@ -273,10 +278,16 @@ impl Ground {
 
     /// The first byte of the item of a table with a unit above 1 that the address lies inside, else the address.
     fn first(&self, lens: &[u8], at: usize) -> usize {
-        match self.role(at) {
-            Some(role) if unit_of(role) == 2 && byte_in(lens, at) == 0 => at.wrapping_sub(1),
-            _ => at,
+        let Some(role) = self.role(at) else {
+            return at;
+        };
+        let mut first = at;
+        for _ in 1..unit_of(role) {
+            if byte_in(lens, first) == 0 {
+                first = first.wrapping_sub(1);
+            }
         }
+        first
     }
 
     fn want(&self, lens: &[u8], wanted: &mut [u8], target: Option<usize>) {
@@ -376,7 +387,7 @@ fn random_ranges(
         let first = next.wrapping_add(numbers.next(4));
         let last = first.wrapping_add(numbers.next(4));
         if last < 65_536 && first <= last {
-            let role = type_of(numbers.next(3));
+            let role = type_of(numbers.next(4) % 9);
             ranges.push(Range { first, last, role })?;
             next = last.wrapping_add(1);
         }

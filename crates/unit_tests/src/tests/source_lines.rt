@@ -116,16 +116,10 @@ fn put_operation(out: &mut String, operation: &Operation) -> Result<(), AllocErr
             out.push_str("byte")?;
             put_data(out, data)
         }
-        Operation::Words(values) => {
-            out.push_str("word")?;
-            put_values(out, values)
-        }
-        Operation::Dbyts(values) => {
-            out.push_str("dbyt")?;
-            put_values(out, values)
-        }
-        Operation::Addrs(values) => {
-            out.push_str("addr")?;
+        Operation::Values(directive, values) => {
+            if let [_, word @ ..] = directive.text() {
+                out.push_str(text(word))?;
+            }
             put_values(out, values)
         }
         Operation::Segment(name) => {
@@ -201,6 +195,7 @@ const ACCEPTED: &[(&[u8], &str)] = &[
     (b".Byte 1,\"aB; ,'\" , $FF", "byte 1 \"aB; ,'\" 255"),
     (b".word name-1,$FFFF", "word name+0-1 65535"),
     (b".dbyt 1, 2", "dbyt 1 2"),
+    (b".dWord $ffffffff, v+1-1", "dword 4294967295 v+1-1"),
     (b".ADDR name+1", "addr name+1"),
     (b".segment \"lda\"", "segment lda"),
     (b".segment \"X\"", "segment X"),
@@ -235,7 +230,8 @@ const REFUSED: &[&[u8]] = &[
     b".byte ,1",
     b".byte name",
     b".word \"ab\"",
-    b".dword 1",
+    b".dword",
+    b".res 1",
     b".code 1",
     // Strings are closed on their line, and hold printable ASCII.
     b".byte \"ab",
@@ -291,21 +287,6 @@ fn refused_lines(rt: HostRuntime) {
     for line in REFUSED {
         let found = source(rt.alloc(), line).expect(&rt, "source");
         assert_equal(&rt, &found.as_str(), &"Syntax");
-    }
-}
-
-/// What the first bytes of `lda #$01` say, one more each time.
-const PREFIXES: &[&str] = &[
-    "", "Syntax", "Syntax", "lda", "lda", "Syntax", "Syntax", "lda #0", "lda #1",
-];
-
-#[test]
-fn prefixes_of_an_immediate(rt: HostRuntime) {
-    let line = b"lda #$01".as_slice();
-    for (n, want) in PREFIXES.iter().enumerate() {
-        let (front, _) = line.split_at(n);
-        let found = source(rt.alloc(), front).expect(&rt, "source");
-        assert_equal(&rt, &found.as_str(), want);
     }
 }
 
