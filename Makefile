@@ -1,7 +1,7 @@
 # `make` proves the program, builds it into bin/da65 and lists an example with it.
 # `make test` is the merge gate: every proof from nothing, the edits that must fail, the tests and the stored run; then the program
 # that this built on real files, and its listings through ca65 where ca65 is installed. The result of `rt ci` is its last line.
-# `make speed` compares the program with cc65's da65, which needs cc65 and valgrind.
+# `make speed` compares the program with cc65's da65, which needs cc65, valgrind and GNU time.
 # `make install` puts the program and its man page under PREFIX, and `make uninstall` takes them back. DESTDIR stands before both.
 # RTFLAGS goes to the prover, as in `make RTFLAGS="--jobs 1"`.
 RTFLAGS ?=
@@ -25,12 +25,15 @@ bin/da65: $(sources)
 
 test:
 	@mkdir -p bin
+	@tests/memory.sh
 	@echo 'Everything from nothing. This takes 50 to 75 minutes on four cores of a slow machine. bin/gate.log keeps what the prover says.'
 	@rt ci 2>&1 | tee bin/gate.log
 	@cp crates/da65_cli/out/da65_cli bin/da65
 	tests/program.sh bin/da65
+	tests/work.sh bin/da65
 	tests/guide.sh bin/da65
 	tests/ca65.sh bin/da65 10
+	@[ "$${CA65-}" != skip ] || echo 'CA65=skip: no listing went through ca65 and ld65, which need cc65'
 	@tail -n 1 bin/gate.log
 
 speed: bin/da65

@@ -2,15 +2,19 @@
 # Lists random images of each CPU with random ranges, names, segments, comments and columns, and every example, and assembles
 # each listing with the real ca65 and ld65 of cc65: the result must be the image. The same seed gives the same images.
 # Left out, since ca65 treats them in its own way: a segment named ZEROPAGE, and a byte $FF in a comment.
+# Without ca65 and ld65 it fails, unless CA65=skip is set.
 # Usage: tests/ca65.sh PROGRAM [COUNT [SEED]]
 set -u
 program=$(realpath "$1")
 count=${2:-10}
 first_seed=${3:-1}
 root=$(realpath "$(dirname "$0")/..")
-if ! command -v ca65 >/dev/null || ! command -v ld65 >/dev/null; then
-    echo 'ca65: left out, since ca65 and ld65 of cc65 are not installed'
+if [ "${CA65-}" = skip ]; then
+    echo 'ca65: left out, since CA65=skip is set'
     exit 0
+elif ! command -v ca65 >/dev/null || ! command -v ld65 >/dev/null; then
+    echo 'ca65: ca65 and ld65 are not there: install cc65, or set CA65=skip'
+    exit 1
 fi
 . "$root/tests/random.sh"
 work=$(mktemp -d)
@@ -67,21 +71,7 @@ assembles() {
     compared=$((compared + 1))
 }
 
-# takes TEXT: the program accepts this information file.
-takes() {
-    printf '%s\n' "$1" >probe.info
-    printf '\xea' >probe.bin
-    "$program" -i probe.info -S 0x1000 probe.bin >/dev/null 2>&1
-}
-
-types=(CODE BYTETABLE WORDTABLE DBYTETABLE TEXTTABLE)
-for type in ADDRTABLE RTSTABLE DWORDTABLE; do
-    takes "RANGE { START \$1000; END \$1000; TYPE $type; };" && types+=("$type")
-done
-has_labels=no
-takes 'LABEL { ADDR $1000; NAME "probe"; };' && has_labels=yes
-has_segments=no
-takes 'SEGMENT { START $1000; END $1000; NAME "probe"; };' && has_segments=yes
+types=(CODE BYTETABLE WORDTABLE DBYTETABLE DWORDTABLE ADDRTABLE RTSTABLE TEXTTABLE)
 names=(CODE DATA BSS RODATA lda A s0 s1 s2 s3 s4 s5)
 
 # Makes image.bin, of stretches of random bytes, of printable ones and of one byte, and sets start and size.
@@ -109,7 +99,7 @@ make_image() {
     start=$number
 }
 
-# make_info CPU: makes image.info, with ranges that do not overlap, and with labels where the program has them. No label is
+# make_info CPU: makes image.info, with ranges that do not overlap, labels, segments and a layout. No label is
 # named ina, dea, wai or stp, which ca65 takes for mnemonics of the later CPUs.
 make_info() {
     local from length
@@ -125,7 +115,6 @@ make_info() {
         draw 100
         [ $((number % 2)) = 0 ] && number=0
     done
-    [ "$has_labels" = yes ] || return
     draw 30
     for ((length = number; length > 0; length--)); do
         draw 3
@@ -139,10 +128,11 @@ make_info() {
         [ -z "${named[$from]-}" ] && [ $((from + number)) -le 65535 ] || continue
         named[$from]=yes
         printf 'LABEL { ADDR $%04X; NAME "n_%04x"; SIZE %d;' "$from" "$from" $((number + 1)) >>image.info
-        [ "$has_segments" = yes ] && draw_comment
+        draw_comment
         printf ' };\n' >>image.info
     done
-    [ "$has_segments" = yes ] && { make_segments; make_layout; }
+    make_segments
+    make_layout
 }
 
 # Gives a label a comment, of bytes that can stand in one, but not $FF.
@@ -204,7 +194,7 @@ for ((image = 1; image <= count; image++)); do
     assembles "image $image of seed $first_seed for the $cpu" "$start" image.bin -i "$work/image.info" "$work/image.bin"
     grep -q '\.segment' listing.s && segmented[$cpu]=yes
 done
-if [ $has_segments = yes ] && [ $count -ge 10 ]; then
+if [ "$count" -ge 10 ]; then
     for cpu in "${cpus[@]}"; do
         [ -n "${segmented[$cpu]-}" ] || fails "seed $first_seed" "no listing for the $cpu enters a segment"
     done
@@ -215,7 +205,7 @@ attribute() {
     sed -nE "s/^(.*[^A-Z])?$1[[:space:]]+\"?([^\";]*)\"?;.*/\2/p" "$2" | head -n 1 | sed 's/^\$/0x/'
 }
 
-for example in "$root"/examples/*.info; do
+for example in "$root"/examples/*.info "$root"/examples/board/*.info; do
     input=$root/$(attribute INPUTNAME "$example")
     offset=$(($(attribute INPUTOFFS "$example")))
     size=$(attribute INPUTSIZE "$example")
@@ -223,7 +213,7 @@ for example in "$root"/examples/*.info; do
     start=$(attribute STARTADDR "$example")
     assembles "$(basename "$example")" $((${start:-65536 - $(stat -c %s example.bin)})) example.bin -i "$example"
 done
-for example in "$root"/examples/*.bin; do
+for example in "$root"/examples/*.bin "$root"/examples/board/*.bin; do
     for cpu in "${cpus[@]}"; do
         assembles "$(basename "$example") for the $cpu" $((65536 - $(stat -c %s "$example"))) "$example" --cpu "$cpu" "$example"
     done

@@ -1,17 +1,21 @@
 #!/usr/bin/env bash
-# Runs the commands of docs/GUIDE.md in their order, and looks whether every excerpt that the guide shows is in what they
-# made. Without ca65 and ld65 it stops at the first command that needs them.
+# Runs what the pages show: every command of README.md, docs/GUIDE.md, docs/RECIPES.md and the examples of the man page, each page in a
+# folder of its own that looks like a checkout after `make`. A page's blocks
+#
+#   ```sh      are commands, run in their order; the words after `sh` are further programs that the block needs
+#   ```        are excerpts: their lines stand, one after the other, in what the last commands printed or in a file that the page made
+#
+# and in its tables a command `bin/da65 ..` is run, and where a row has an information file or a command, and beside it the
+# message `da65: ..`, that is what the program says. The linker's line of the man page is run at five addresses, and for 64 KiB.
+# Without ca65 and ld65 the script fails, unless CA65=skip is set: then each section ends at the first block that needs them.
 # Usage: tests/guide.sh PROGRAM
 set -u
 program=$(realpath "$1")
 root=$(realpath "$(dirname "$0")/..")
 work=$(mktemp -d)
-mkdir "$work/bin" "$work/blocks"
-cp "$program" "$work/bin/da65"
-cp -r "$root/examples" "$work/examples"
-cd "$work" || exit 1
 ran=0
 shown=0
+left_out=0
 
 # fails CAUSE: ends the script, and leaves its files.
 fails() {
@@ -19,38 +23,156 @@ fails() {
     exit 1
 }
 
-# Each fenced block in a file of its own: what stands after the fence is its kind, shown if there is none.
-awk '/^```/ { if (inside) { inside = 0; close(file) } else { inside = 1; kind = substr($0, 4); count++
-                file = sprintf("blocks/%03d.%s", count, kind == "" ? "shown" : kind) } next }
-     inside { print > file }' "$root/docs/GUIDE.md"
+if ! { command -v ca65 && command -v ld65; } >/dev/null; then
+    [ "${CA65-}" = skip ] || { echo 'guide: ca65 and ld65 of cc65 are not installed; CA65=skip leaves out what needs them'; exit 1; }
+fi
+
+# What a login to another machine would run, for the commands that spread their work: it runs here.
+mkdir "$work/path" "$work/home"
+cat >"$work/path/ssh" <<'END'
+#!/bin/sh
+host=
+while [ $# -gt 0 ]; do
+    case $1 in
+    --) shift; break ;;
+    -[lp]) shift 2 ;;
+    -*) shift ;;
+    *) [ -z "$host" ] || break; host=$1; shift ;;
+    esac
+done
+cd && exec sh -c "$*"
+END
+chmod +x "$work/path/ssh"
+export HOME=$work/home DESTDIR=$work/installed PATH=$work/path:$PATH
+
+# opens PAGE: the folder of the page, which has what a checkout has after `make`.
+opens() {
+    page=$1
+    folder=$work/$(basename "$1")
+    mkdir -p "$folder/bin" "$folder/docs" "$folder/crates"
+    cp -r "$root/examples" "$root/Makefile" "$folder"
+    cp "$root/docs/da65.1" "$folder/docs"
+    : >"$folder/crates.txt"
+    cp "$program" "$folder/bin/da65"
+    ln -sf "$folder/bin/da65" "$work/path/da65"
+    cd "$folder" || exit 1
+    : >printed
+}
+
+# Each block of the page in a file of its own: its number, what stands after the fence, `shown` if there is nothing, and the
+# number of its section, which begins with a heading.
+cuts() {
+    mkdir blocks
+    awk '/^```/ { if (inside) { inside = 0; close(file) } else { inside = 1; kind = substr($0, 4); count++
+                  file = sprintf("blocks/%03d.%d.%s", count, section, kind == "" ? "shown" : kind); printf "" > file } next }
+         inside { print > file; next }
+         /^#/ { section++ }' "$root/$page"
+}
+
+# needs WORD..: all these programs are installed.
+needs() {
+    local word
+    for word; do
+        command -v "$word" >/dev/null || return 1
+    done
+}
 
 # has FILE LINES: the lines stand in the file, one after the other.
 has() {
-    [[ $'\n'$(cat "$1")$'\n' == *$'\n'"$2"$'\n'* ]]
+    [[ $'\n'$(tr -d '\0' <"$1")$'\n' == *$'\n'"$2"$'\n'* ]]
 }
 
-# found LINES: they stand in what the last commands printed, or in a file that the guide has or makes.
+# found LINES: they stand in what the last commands printed, or in a text that the page has or makes.
 found() {
     local file
-    for file in printed ./*.s examples/board/*; do
+    for file in printed ./*.s ./*.info ./*.cfg ./*.inc examples/*.info examples/*.cfg examples/board/*; do
         [ -f "$file" ] && [ "${file##*.}" != bin ] && has "$file" "$1" && return 0
     done
     return 1
 }
 
-for block in blocks/*; do
-    if [ "${block##*.}" = sh ]; then
-        if grep -Eq '^(ca65|ld65)' "$block" && ! { command -v ca65 && command -v ld65; } >/dev/null; then
-            echo "guide: ran $ran commands; the others are left out, since ca65 and ld65 of cc65 are not installed"
-            rm -r "$work"
-            exit 0
+# runs COMMANDS: they end with status 0. What they print is in the file printed.
+runs() {
+    bash -eu -o pipefail -c "$1" >printed 2>&1 || fails "$page: $1: $(cat printed)"
+    ran=$((ran + 1))
+}
+
+# The blocks of the page, in their order.
+blocks() {
+    local block name section kind skipped=
+    cuts
+    for block in blocks/*; do
+        name=${block##*/}
+        section=$(cut -d. -f2 <<<"$name")
+        kind=${name#*.*.}
+        [ "$section" = "$skipped" ] && continue
+        case $kind in
+        sh | sh\ *)
+            if ! needs ${kind#sh} || { grep -Eq '(ca|cl|ld)65' "$block" && ! needs ca65 ld65; }; then
+                echo "guide: $page: left out: $(head -n 1 "$block")"
+                left_out=$((left_out + 1))
+                skipped=$section
+                continue
+            fi
+            runs "$(cat "$block")"
+            ;;
+        shown)
+            found "$(cat "$block")" || fails "$page: not in what the commands made: $(cat "$block")"
+            shown=$((shown + 1))
+            ;;
+        *) fails "$page: a block of kind $kind" ;;
+        esac
+    done
+}
+
+# The commands in the page's tables, and its tables of mistakes with their messages.
+tables() {
+    local row text message
+    head -c 65536 /dev/zero >zeros.bin
+    while IFS= read -r row; do
+        if [[ $row =~ ^\|\ \`([^\`]+)\`\ \|\ \`(da65:\ [^\`]+)\` ]]; then
+            text=${BASH_REMATCH[1]//\\|/|}
+            message=${BASH_REMATCH[2]}
+            if [[ $text == bin/da65* ]]; then
+                bash -c "$text" >printed 2>messages
+            else
+                printf '%s' "$text" >mistake.info
+                bin/da65 -i mistake.info examples/three.bin >printed 2>messages
+            fi
+            [ "$(cat messages)" = "$message" ] || fails "$page: $text: $(cat messages)"
+            ran=$((ran + 1))
+        else
+            while read -r text; do
+                [ -z "$text" ] || runs "$text"
+            done < <(grep -o '`bin/da65[^`]*`' <<<"$row" | tr -d '`')
         fi
-        bash -eu "$block" >printed 2>&1 || fails "$(cat "$block"): $(cat printed)"
-        ran=$((ran + $(grep -c . "$block")))
-    else
-        found "$(cat "$block")" || fails "not in what the commands made: $(cat "$block")"
-        shown=$((shown + 1))
-    fi
+    done < <(grep '^|' "$root/$page")
+}
+
+# assembles_at START SIZE: the commands of the man page's example, for an image of the random bytes, repeated, at this address.
+assembles_at() {
+    printf '%b' "$bytes$bytes$bytes$bytes" | head -c "$2" >rom.bin
+    runs "$(awk '/^\.SH EXAMPLES/ { inside = 1 } /^\.SH SEE/ { inside = 0 } inside && /^(da65|ca65|ld65|cmp) /' "$root/docs/da65.1" |
+        sed -e 's/\\(aq/'\''/g' -e 's/\\-/-/g' -e "s/0xF000/$1/g")"
+}
+
+for page in README.md docs/GUIDE.md docs/RECIPES.md; do
+    opens "$page"
+    blocks
+    tables
 done
-echo "guide: ran $ran commands and found $shown excerpts"
-rm -r "$work"
+opens docs/da65.1
+if needs ca65 ld65; then
+    . "$root/tests/random.sh"
+    seed 1
+    bytes=
+    draw_bytes 16384
+    for start in 0x0000 0x2000 0x4000 0x7800 0xC000; do
+        assembles_at "$start" 16384
+    done
+    assembles_at 0xF000 4096
+    assembles_at 0x0000 65536
+fi
+cd "$root" || exit 1
+rm -rf "$work"
+echo "guide: ran $ran commands and found $shown excerpts; left out $left_out"

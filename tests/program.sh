@@ -47,6 +47,16 @@ fails() {
     failed=1
 }
 
+# The program as a user that may not open what is this one's: another one for root, who may open everything.
+as_other=()
+if [ "$(id -u)" = 0 ]; then
+    command -v setpriv >/dev/null || { echo 'program: root needs setpriv, of util-linux'; exit 1; }
+    as_other=(setpriv --reuid 65534 --regid 65534 --clear-groups)
+fi
+chmod 755 .
+cp "$program" ./copied
+chmod 755 copied
+
 help='Usage: da65 [options] [inputfile]\n'
 help+='  -i, --info name          information file\n'
 help+='  -o name                  output file\n'
@@ -159,6 +169,106 @@ printf 'CHROUT = $FFD2\n' | "$program" -i piped.info call.bin >stdout 2>stderr
 ends 'an include file from a pipe' 0 $? ''
 holds 'an include file from a pipe' stdout "$call"
 
+printf 'ab = $20\n' >one.inc
+printf 'cd = $21\n' >two.inc
+printf '\xad\x20\x00\xad\x21\x00' >loads.bin
+printf 'GLOBAL { STARTADDR $1000; };\nASMINC { FILE "one.inc"; };\nASMINC { FILE "two.inc"; };' >pair.info
+loads="${header}ab              := \$0020\ncd              := \$0021\n\n        lda     a:ab\n        lda     a:cd\n"
+runs 'two include files with names of one length' 0 "$loads" '' -i pair.info loads.bin
+: >empty.inc
+printf 'GLOBAL { STARTADDR $1000; };\nASMINC { FILE "empty.inc"; };\nASMINC { FILE "one.inc"; };\nASMINC { FILE "two.inc"; };' >after_empty.info
+runs 'an empty include file' 0 "$loads" '' -i after_empty.info loads.bin
+# Each of sixteen include files gives the operand of one instruction its name, and the last of them is missing then.
+: >sixteen.bin
+constants=
+body=
+printf 'GLOBAL { STARTADDR $1000; };\n' >sixteen.info
+for k in {10..25}; do
+    printf 'ASMINC { FILE "k%d.inc"; };\n' "$k" >>sixteen.info
+    printf 'name%d = %d\n' "$k" "$k" >"k$k.inc"
+    printf -v number '%02x' "$k"
+    printf '%b' "\\xad\\x$number\\x00" >>sixteen.bin
+    constants+="name$k          := \$00${number^^}\n"
+    body+="        lda     a:name$k\n"
+done
+runs 'sixteen include files' 0 "$header$constants\n$body" '' -i sixteen.info sixteen.bin
+rm k25.inc
+runs 'the last of sixteen include files is missing' 1 '' 'da65: cannot read include k25.inc\n' -i sixteen.info sixteen.bin
+
+# ---- names
+
+long=$(printf 'n%.0s' {1..200})
+runs 'a missing input with a long name' 1 '' "da65: cannot read $long\n" "$long"
+runs 'a missing information file with a long name' 1 '' "da65: cannot read $long\n" -i "$long" three.bin
+runs 'an output that can not be created, with a long name' 1 '' "da65: cannot create no/$long\n" -o "no/$long" three.bin
+runs 'an empty input name' 1 '' 'da65: cannot read \n' ''
+runs 'an empty information file name' 1 '' 'da65: cannot read \n' -i '' three.bin
+runs 'an empty output name' 1 '' 'da65: cannot create \n' -o '' three.bin
+runs 'a hyphen is a name' 1 '' 'da65: cannot read -\n' -
+runs 'a hyphen as the output' 0 '' '' -o - three.bin
+holds 'a hyphen as the output' - "$three"
+runs 'a hyphen as the input' 1 '' 'da65: bad number\n' -S x -
+rm -- -
+printf '\xad\x03\x20\x4c\x01\x20' >inside.bin
+runs 'hexadecimal offsets in a file' 0 '' '' --hexoffs -o out.s -S 0x2000 inside.bin
+holds 'hexadecimal offsets in a file' out.s \
+    "${header}L2001           := * + \$0001\n        lda     L2003\nL2003:  jmp     L2001\n"
+
+# Every option at once, each with a word of its own for its value, and the input name last.
+every='; da65 listing\n\n  .setcpu "65SC02"\n\nbegin   := $1000\n\n'
+every+="${separator}L2001   := * + \$0001\n  lda   L2003         ; 2000 AD 03 20              .. \n"
+every+="L2003:\n  jmp   L2001         ; 2003 4C 01 20              L. \n"
+printf 'LABEL { ADDR $1000; NAME "begin"; };' >begin.info
+words=(-i begin.info -o out.s -S 0x2000 --cpu 65SC02 --comments 4 --mnemonic-column 3 --argument-column 9 --comment-column 23
+    --text-column 52 --label-break 0 --hexoffs)
+runs 'every option at once' 0 '' '' "${words[@]}" -- inside.bin
+holds 'every option at once' out.s "$every"
+runs 'thirty words, the last of which is one too many' 1 '' 'da65: bad arguments\n' "${words[@]}" -- three.bin a b c d e f g
+runs 'every option, and help' 0 "$help" '' "${words[@]}" -V -h -- three.bin
+
+# ---- what may not be opened
+
+# Who may not open a file can still be handed it as standard input, so that its name, /dev/stdin, must not be opened.
+as() {
+    "${as_other[@]}" ./copied "$@"
+}
+cp three.bin secret.bin
+cp words.info secret.info
+{ chmod 0 secret.bin; as /dev/stdin >stdout 2>stderr; } <secret.bin
+ends 'an input that only standard input may read' 0 $? ''
+holds 'an input that only standard input may read' stdout "$three"
+{ chmod 0 secret.info; as -i /dev/stdin three.bin >stdout 2>stderr; } <secret.info
+ends 'an information file that only standard input may read' 0 $? ''
+holds 'an information file that only standard input may read' stdout "$header        .word   \$01A9\n        .byte   \$60\n"
+cat three.bin | as /dev/stdin >stdout 2>stderr
+ends "another user's pipe" 0 $? ''
+holds "another user's pipe" stdout "$three"
+cat words.info | as -i /dev/stdin three.bin >stdout 2>stderr
+ends "another user's pipe for the information file" 0 $? ''
+holds "another user's pipe for the information file" stdout "$header        .word   \$01A9\n        .byte   \$60\n"
+as secret.bin >stdout 2>stderr
+ends 'an input that may not be read' 1 $? 'da65: cannot read secret.bin\n'
+as -i secret.info three.bin >stdout 2>stderr
+ends 'an information file that may not be read' 1 $? 'da65: cannot read secret.info\n'
+printf 'ASMINC { FILE "secret.info"; };' >secret_include.info
+as -i secret_include.info three.bin >stdout 2>stderr
+ends 'an include file that may not be read' 1 $? 'da65: cannot read include secret.info\n'
+as -o secret.bin three.bin >stdout 2>stderr
+ends 'an output that may not be written' 1 $? 'da65: cannot create secret.bin\n'
+
+# ---- sizes around those of the reads
+
+for size in 1 4095 4096 4097 4999 5000 5001 8191 8192 8193; do
+    head -c "$size" /dev/zero | tr '\0' '\352' >sized.bin
+    { printf '%b' "$header"; head -c "$size" sized.bin | sed 's/\xea/        nop\n/g'; } >wanted.s
+    "$program" sized.bin >stdout 2>stderr
+    ends "an input of $size bytes" 0 $? ''
+    cmp -s stdout wanted.s || fails "an input of $size bytes" 'another listing'
+    { head -c 1 sized.bin; sleep 0.02; tail -c +2 sized.bin; } | "$program" /dev/stdin >stdout 2>stderr
+    ends "$size bytes in two pieces" 0 $? ''
+    cmp -s stdout wanted.s || fails "$size bytes in two pieces" 'another listing'
+done
+
 # ---- refusals
 
 echo old >out.s
@@ -240,6 +350,15 @@ holds 'a closed standard error beside standard input' out.s "$skipped"
 "$program" -i skip.info -o out.s three.bin <&- >&- 2>&-
 [ $? = 1 ] || fails 'no standard stream' 'status'
 holds 'no standard stream' out.s "$skipped"
+# Standard input is none of the files that are opened, so that the output has the lowest number there is.
+"$program" -o out.s /dev/stdin <&- >&- 2>&-
+[ $? = 1 ] || fails 'no standard stream, the output first' 'status'
+holds 'no standard stream, the output first' out.s ''
+"$program" /dev/stdin <&- >stdout 2>stderr
+ends 'a closed standard input' 1 $? 'da65: input is empty\n'
+holds 'a closed standard input' stdout ''
+[ "$(printf 'abcdef' | { "$program" three.bin >stdout; cat; })" = abcdef ] || fails 'standard input that is not asked for' 'it was read'
+[ "$(printf 'abcdef' | { "$program" -i words.info three.bin >stdout; cat; })" = abcdef ] || fails 'standard input beside files' 'it was read'
 
 # 64 KiB of nop, one line each.
 head -c 65536 /dev/zero | tr '\0' '\352' >large.bin

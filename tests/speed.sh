@@ -1,11 +1,11 @@
 #!/usr/bin/env bash
-# How fast the program is, in instructions by valgrind's callgrind: beside those of cc65's da65 on the same bytes, and for
-# large information files, where twice as many groups take at most 2.3 times as many.
+# How fast the program is, in instructions by valgrind's callgrind, beside cc65's da65 on the same bytes; and for large
+# information files also the most memory that it holds. Twice as many groups or lines take at most 2.3 times the instructions.
 # Usage: tests/speed.sh PROGRAM
 set -u
 program=$(realpath "$1")
 root=$(realpath "$(dirname "$0")/..")
-for tool in valgrind da65; do
+for tool in valgrind da65 /usr/bin/time; do
     command -v $tool >/dev/null || { echo "speed: left out, since $tool is not installed"; exit 0; }
 done
 . "$root/tests/random.sh"
@@ -66,34 +66,60 @@ labels() {
     awk -v count="$1" -v order="$2" 'BEGIN {
         for (k = 0; k < count; k++) {
             a = order == "ascending" ? k : order == "descending" ? count - 1 - k : k * 40503 % 65536
-            printf "LABEL{ADDR $%04X;NAME \"n%04x\";}\n", a, a
+            printf "LABEL { ADDR $%04X; NAME \"n%04x\"; };\n", a, a
         }
     }'
 }
 
-# ranges COUNT ORDER: prints that many groups RANGE, with ascending addresses.
+# ranges COUNT: prints that many groups RANGE, with ascending addresses.
 ranges() {
-    awk -v count="$1" 'BEGIN { for (k = 0; k < count; k++) printf "RANGE{START$%04X;SIZE 1;TYPE CODE;}\n", k }'
+    awk -v count="$1" 'BEGIN { for (k = 0; k < count; k++) printf "RANGE { START $%04X; END $%04X; TYPE CODE; };\n", k, k }'
 }
 
-# grows GROUPS COUNT ORDER: instructions to list one byte with this many groups, and with half as many, and their ratio.
+# included COUNT: prints a group ASMINC, and writes its include file of that many lines.
+included() {
+    awk -v count="$1" 'BEGIN { for (k = 0; k < count; k++) printf "n%04x := $%04X\n", k, k }' >names.inc
+    echo 'ASMINC { FILE "names.inc"; };'
+}
+
+# memory COMMAND..: sets `peak` to the most memory that the command holds, in kilobytes.
+memory() {
+    /usr/bin/time -o time.log -f %M "$@" >/dev/null
+    peak=$(tail -n 1 time.log)
+}
+
+# beside NAME: what it takes to list one byte with input.info, beside cc65's da65. Sets `count` to the instructions.
+beside() {
+    local ours theirs
+    local words=(-i input.info -S 0 one.bin -o out.s)
+    memory da65 "${words[@]}"
+    theirs=$peak
+    memory "$program" "${words[@]}"
+    ours=$peak
+    instructions da65 "${words[@]}"
+    local peer=$count
+    instructions "$program" "${words[@]}"
+    printf '%-28s %12d %12d %7.1f %% %8d %8d %7.1f %%\n' "$1" "$count" "$peer" \
+        "$(awk "BEGIN { print 100 * $count / $peer }")" "$ours" "$theirs" "$(awk "BEGIN { print 100 * $ours / $theirs }")"
+}
+
+# grows GROUPS COUNT [ORDER]: the same with that many groups or lines, and with half as many.
 grows() {
-    local half ratio
-    "$1" $(($2 / 2)) "$3" >input.info
-    instructions "$program" -i input.info -S 0 one.bin
+    local half
+    "$1" $(($2 / 2)) "${3-}" >input.info
+    beside "$(($2 / 2)) $1${3:+, $3}"
     half=$count
-    "$1" "$2" "$3" >input.info
-    instructions "$program" -i input.info -S 0 one.bin
-    ratio=$(awk "BEGIN { printf \"%.2f\", $count / $half }")
-    printf '%-44s %12d %12d %8s\n' "$2 $1, $3" "$half" "$count" "$ratio"
-    awk "BEGIN { exit !($ratio > 2.3) }" && { echo "speed: $2 $1, $3: more than 2.3 times those of half as many"; failed=1; }
+    "$1" "$2" "${3-}" >input.info
+    beside "$2 $1${3:+, $3}"
+    awk "BEGIN { exit !($count > 2.3 * $half) }" && { echo "speed: $2 $1 ${3-}: more than 2.3 times those of half as many"; failed=1; }
 }
 
 failed=0
 printf '\xea' >one.bin
-printf '\n%-44s %12s %12s %8s\n' 'instructions for groups' 'half' 'all' 'ratio'
-grows ranges 29000 ascending
+printf '\n%-28s %12s %12s %9s %8s %8s %9s\n' 'instructions and kilobytes' 'da65 here' 'cc65' 'ratio' 'here' 'cc65' 'ratio'
 for order in ascending descending shuffled; do
     grows labels 20000 $order
 done
+grows included 60000
+grows ranges 20000
 exit $failed

@@ -1,0 +1,99 @@
+/* Loaded before the C library (LD_PRELOAD), it counts a program's reads, writes and bytes of memory, and can refuse one
+   allocation.
+   At the end it writes four numbers on the file that SHIM_COUNTS names: the reads, the writes, the greatest number of bytes of
+   memory at one time, and the allocations. SHIM_REFUSE is the number of the allocation that is refused, counted from 1. */
+#define _GNU_SOURCE
+#include <dlfcn.h>
+#include <errno.h>
+#include <fcntl.h>
+#include <malloc.h>
+#include <stdio.h>
+#include <stdlib.h>
+#include <sys/syscall.h>
+#include <unistd.h>
+
+static unsigned long reads, writes, held, most, allocations, refused;
+static void *(*real_malloc)(size_t);
+static void *(*real_realloc)(void *, size_t);
+static void (*real_free)(void *);
+
+__attribute__((constructor)) static void begin(void)
+{
+    const char *number = getenv("SHIM_REFUSE");
+
+    real_malloc = dlsym(RTLD_NEXT, "malloc");
+    real_realloc = dlsym(RTLD_NEXT, "realloc");
+    real_free = dlsym(RTLD_NEXT, "free");
+    reads = writes = allocations = 0;
+    refused = number ? strtoul(number, NULL, 10) : 0;
+}
+
+__attribute__((destructor)) static void end(void)
+{
+    const char *name = getenv("SHIM_COUNTS");
+    char text[100];
+    int length = snprintf(text, sizeof text, "%lu %lu %lu %lu\n", reads, writes, most, allocations);
+    int file = name ? open(name, O_WRONLY | O_CREAT | O_TRUNC, 0666) : -1;
+
+    if (0 <= file)
+        syscall(SYS_write, file, text, (size_t)length);
+}
+
+static int is_refused(void)
+{
+    if (++allocations != refused)
+        return 0;
+    errno = ENOMEM;
+    return 1;
+}
+
+static void *granted(void *block)
+{
+    held += block ? malloc_usable_size(block) : 0;
+    most = most < held ? held : most;
+    return block;
+}
+
+void *malloc(size_t size)
+{
+    if (!real_malloc)
+        begin();
+    return is_refused() ? NULL : granted(real_malloc(size));
+}
+
+/* A block that is moved counts twice for a moment, as it does while it is copied. */
+void *realloc(void *block, size_t size)
+{
+    size_t old = block ? malloc_usable_size(block) : 0;
+    void *other;
+
+    if (is_refused())
+        return NULL;
+    other = real_realloc(block, size);
+    granted(other);
+    held -= other ? old : 0;
+    return other;
+}
+
+void free(void *block)
+{
+    held -= block ? malloc_usable_size(block) : 0;
+    real_free(block);
+}
+
+ssize_t read(int file, void *bytes, size_t count)
+{
+    reads++;
+    return syscall(SYS_read, file, bytes, count);
+}
+
+ssize_t write(int file, const void *bytes, size_t count)
+{
+    writes++;
+    return syscall(SYS_write, file, bytes, count);
+}
+
+ssize_t __write(int file, const void *bytes, size_t count)
+{
+    return write(file, bytes, count);
+}

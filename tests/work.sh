@@ -1,0 +1,150 @@
+#!/usr/bin/env bash
+# How much the program does: its reads, its writes and its memory, which tests/shim.c counts, and how its time grows. And each of
+# its allocations refused in turn.
+# Without cc, which makes the shim, it fails, unless CC=skip is set: then only the growth of time is tested.
+# Usage: tests/work.sh PROGRAM
+set -u
+program=$(realpath "$1")
+root=$(realpath "$(dirname "$0")/..")
+compiler=${CC:-cc}
+work=$(mktemp -d)
+trap 'rm -rf "$work"' EXIT
+cd "$work" || exit 1
+failed=0
+
+fails() {
+    echo "work: $1: $2"
+    failed=1
+}
+
+# ---- calls and memory
+
+# counted WORD..: runs the program on the words, and sets reads, writes, most (bytes of memory at one time), allocations and status.
+counted() {
+    rm -f counts
+    LD_PRELOAD=$work/shim.so SHIM_COUNTS=$work/counts "$program" "$@" >stdout 2>stderr </dev/null
+    status=$?
+    read -r reads writes most allocations <counts || fails "$*" 'the shim counted nothing'
+}
+
+# counts NAME READS WRITES BYTES WORD..: so many reads and writes, and at most so many bytes of memory at one time.
+counts() {
+    local name=$1 wanted_reads=$2 wanted_writes=$3 bytes=$4
+    shift 4
+    counted "$@"
+    [ "$status" = 0 ] || fails "$name" "status $status: $(cat stderr)"
+    [ "$reads" = "$wanted_reads" ] || fails "$name" "$reads reads and not $wanted_reads"
+    [ "$writes" = "$wanted_writes" ] || fails "$name" "$writes writes and not $wanted_writes"
+    [ "$most" -le "$bytes" ] || fails "$name" "$most bytes of memory and not at most $bytes"
+}
+
+# refuses_in_turn NAME LEAST WORD..: each allocation refused in turn, of which there are at least so many, the program says
+# that it is out of memory and writes no listing.
+refuses_in_turn() {
+    local name=$1 least=$2 at=1
+    shift 2
+    counted "$@"
+    [ "$status" = 0 ] || fails "$name" "status $status: $(cat stderr)"
+    mv stdout whole
+    [ "$least" -le "$allocations" ] || fails "$name" "$allocations allocations and not at least $least"
+    for ((at = 1; at <= allocations; at++)); do
+        SHIM_REFUSE=$at LD_PRELOAD=$work/shim.so "$program" "$@" >stdout 2>stderr </dev/null
+        status=$?
+        if [ "$status" = 0 ]; then
+            cmp -s stdout whole || fails "$name" "allocation $at: another listing"
+        elif [ "$(cat stderr)" != 'da65: out of memory' ] || [ -s stdout ] || [ "$status" != 1 ]; then
+            fails "$name" "allocation $at: status $status: $(cat stderr)"
+        fi
+    done
+}
+
+printf '\xa9\x01\x60' >three.bin
+head -c 65536 /dev/zero | tr '\0' '\352' >large.bin
+{
+    printf 'GLOBAL { STARTADDR $1000; INPUTNAME "three.bin"; };\nASMINC { FILE "names.inc"; };\nASMINC { FILE "empty.inc"; };\n'
+    printf 'ASMINC { FILE "names.inc"; };\nRANGE { START $1000; END $1001; TYPE WordTable; NAME "table"; };\n'
+    printf 'SEGMENT { START $1002; END $1002; NAME "DATA"; };\nLABEL { ADDR $1002; NAME "last"; COMMENT "the end"; };\n'
+} >all.info
+printf 'first = $20\nsecond := $2000\n' >names.inc
+: >empty.inc
+
+if [ "$compiler" = skip ]; then
+    echo 'work: calls, memory and refused allocations are left out, since CC=skip is set'
+elif ! command -v "$compiler" >/dev/null; then
+    echo "work: $compiler is not there, which makes the shim: install gcc or clang, or set CC=skip"
+    exit 1
+else
+    "$compiler" -O1 -shared -fPIC -o shim.so "$root/tests/shim.c" -ldl || exit 1
+
+    # 4 KiB a read and one read at the end, 8 KiB a write. The map of an image has two bytes for each address.
+    counts 'three bytes' 2 1 670000 three.bin
+    counts 'three bytes in a file' 2 1 670000 -o out.s three.bin
+    counts '64 KiB' 17 97 670000 large.bin
+    counts 'help' 0 1 40000 -h
+    counts 'an information file and include files' 7 1 675000 -i all.info
+
+    refuses_in_turn 'the command line' 40 --cpu 65c02 -S 0x1000 --comments 4 --text-column 60 three.bin
+    refuses_in_turn 'an information file and include files' 60 -i all.info
+fi
+
+# ---- how time grows
+
+# groups KIND COUNT: prints that many groups, or lines of an include file.
+groups() {
+    awk -v kind="$1" -v count="$2" 'BEGIN {
+        for (k = 0; k < count; k++) {
+            a = kind == "descending" ? count - 1 - k : k
+            if (kind == "ranges") printf "RANGE{START $%04X;SIZE 1;TYPE CODE;}\n", a
+            else if (kind == "segments") printf "SEGMENT{START $%04X;END $%04X;NAME \"s%04x\";}\n", a, a, a
+            else if (kind == "lines") printf "n%04x = $%04X\n", a, a
+            else printf "LABEL{ADDR $%04X;NAME \"n%04x\";}\n", a, a
+        }
+    }'
+}
+
+# makes KIND COUNT: an image of that many bytes, and an information file with that many groups, each for one of the bytes.
+makes() {
+    head -c "$2" large.bin >"$2.bin"
+    if [ "$1" = lines ]; then
+        groups lines "$2" >"$2.inc"
+        printf 'ASMINC { FILE "%s.inc"; };' "$2" >"$2.info"
+    else
+        groups "$1" "$2" >"$2.info"
+    fi
+}
+
+# spends COUNT RUNS: sets `spent` to the milliseconds of a processor that so many runs take over what was made for this count.
+spends() {
+    local TIMEFORMAT='%U %S' run user system
+    read -r user system < <({ time for ((run = 0; run < $2; run++)); do
+        "$program" -S 0 -i "$1.info" -o out.s "$1.bin" 2>stderr || echo "failed $run"
+    done; } 2>&1)
+    [[ $user =~ ^[0-9]+\.[0-9]+$ ]] || { fails "$1 groups" "$user $system $(cat stderr)"; user=0.001 system=0; }
+    spent=$(awk "BEGIN { print int(1000 * ($user + $system) + 1) }")
+}
+
+# grows NAME KIND COUNT: twice as many take at most three times as long, by the least of five times. As many runs are timed as
+# take a tenth of a second.
+grows() {
+    local name=$1 kind=$2 count=$3 runs=1 turn once=1000000 twice=1000000
+    makes "$kind" "$count"
+    makes "$kind" $((2 * count))
+    spends "$count" 1
+    runs=$((100 / spent + 1))
+    for ((turn = 0; turn < 5; turn++)); do
+        spends "$count" $runs
+        [ "$spent" -ge "$once" ] || once=$spent
+        spends $((2 * count)) $runs
+        [ "$spent" -ge "$twice" ] || twice=$spent
+    done
+    [ "$twice" -le $((3 * once)) ] || fails "$name" "$once ms for $count, and $twice ms for twice as many, in $runs runs"
+}
+
+grows 'labels, ascending' ascending 12000
+grows 'labels, descending' descending 12000
+grows 'ranges' ranges 12000
+grows 'segments' segments 11000
+grows 'lines of an include file' lines 12000
+
+[ "$failed" = 0 ] && echo 'work: every test passed'
+exit "$failed"
