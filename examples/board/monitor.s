@@ -1,6 +1,6 @@
 ; A small monitor for a 6502 board: RAM at $0000, a 6551 serial chip at $8800, a ROM of 1 KiB at $FC00.
 ;
-; docs/GUIDE.md repairs its image without this source. To make the image again, at the top of the checkout:
+; docs/GUIDE.md repairs the image as if this source were lost. It is here so that the image can be made again, at the top of the checkout:
 ;
 ;     ca65 -o monitor.o examples/board/monitor.s
 ;     ld65 -C examples/board/monitor.cfg -o examples/board/monitor.bin monitor.o
@@ -29,6 +29,7 @@ SAVE_P          := $0203
 SAVE_S          := $0204
 SAVE_PC         := $0205
 LINE            := $0210        ; the line that was typed, 64 bytes
+OUTPUT          := $0250        ; where programs send their characters
 
         .code
 
@@ -409,9 +410,39 @@ stopped:
 what:   .byte   "?", $0D, $0A, 0
 usage:  .byte   "D S G F T R H", $0D, $0A, 0
 
+; ---- for programs
+
+; lets OUTPUT lead to `put`: an address that is loaded in halves
+unhook: lda     #<put
+        sta     OUTPUT
+        lda     #>put
+        sta     OUTPUT + 1
+        rts
+
+; prints text X of two tables, one of low bytes and one of high bytes
+message:
+        lda     low,x
+        sta     TARGET
+        lda     high,x
+        sta     TARGET + 1
+        ldy     #0
+message_byte:
+        lda     (TARGET),y
+        beq     message_end
+        jsr     put
+        iny
+        bne     message_byte
+message_end:
+        rts
+
+low:    .lobytes hello, what, usage
+high:   .hibytes hello, what, usage
+
 ; ---- entries at fixed places, for programs, and the vectors
 
         .segment "ENTRIES"
+        jmp     unhook
+        jmp     message
         jmp     put
         jmp     get
         jmp     say
