@@ -2,7 +2,7 @@
 # `make test` is the merge gate: every proof from nothing, the edits that must fail, the tests and the stored run; then the program
 # that this built on real files, and its listings through ca65 where ca65 is installed. The result of `rt ci` is its last line.
 # `make speed` compares the program with cc65's da65, which needs cc65, valgrind and GNU time.
-# `make install` puts the program and its man page under PREFIX, and `make uninstall` takes them back. DESTDIR stands before both.
+# `make install` puts the program and its man page under PREFIX, and `make uninstall` takes them away. DESTDIR is prepended to both.
 # RTFLAGS goes to the prover, as in `make RTFLAGS="--jobs 1"`.
 RTFLAGS ?=
 PREFIX ?= /usr/local
@@ -18,15 +18,15 @@ sources := crates.txt $(shell find crates -name out -prune -o \( -name '*.rt' -o
 
 bin/da65: $(sources)
 	@mkdir -p bin
-	@echo 'Proving and building bin/da65. From a fresh checkout this takes six minutes on four cores, or half an hour on slow ones,'
-	@echo 'after a small edit less. The prover says what it has checked, and bin/build.log keeps that.'
+	@echo 'Proving and building bin/da65. From a fresh checkout this takes a while: docs/PROOFS.md, "The gate", has figures.'
+	@echo 'The prover says what it has checked, and bin/build.log keeps that.'
 	@cd crates/da65_cli && rt run $(RTFLAGS) -- --version 2>&1 | tee ../../bin/build.log
 	@cp crates/da65_cli/out/da65_cli bin/da65
 
 test:
 	@mkdir -p bin
 	@tests/memory.sh
-	@echo 'Everything from nothing. This takes 50 to 75 minutes on four cores of a slow machine. bin/gate.log keeps what the prover says.'
+	@echo 'Everything from nothing: docs/PROOFS.md, "The gate", says how long that takes. bin/gate.log keeps what the prover says.'
 	@rt ci 2>&1 | tee bin/gate.log
 	@cp crates/da65_cli/out/da65_cli bin/da65
 	tests/program.sh bin/da65

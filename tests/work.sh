@@ -27,7 +27,7 @@ counted() {
     read -r reads writes most allocations <counts || fails "$*" 'the shim counted nothing'
 }
 
-# counts NAME READS WRITES BYTES WORD..: so many reads and writes, and at most so many bytes of memory at one time.
+# counts NAME READS WRITES BYTES WORD..: that many reads and writes, and at most that many bytes of memory at one time.
 counts() {
     local name=$1 wanted_reads=$2 wanted_writes=$3 bytes=$4
     shift 4
@@ -38,8 +38,8 @@ counts() {
     [ "$most" -le "$bytes" ] || fails "$name" "$most bytes of memory and not at most $bytes"
 }
 
-# refuses_in_turn NAME LEAST WORD..: each allocation refused in turn, of which there are at least so many, the program says
-# that it is out of memory and writes no listing.
+# refuses_in_turn NAME LEAST WORD..: each allocation refused in turn, of which there are at least LEAST: the program says
+# that it is out of memory, and writes no listing.
 refuses_in_turn() {
     local name=$1 least=$2 at=1
     shift 2
@@ -113,7 +113,7 @@ makes() {
     fi
 }
 
-# spends COUNT RUNS: sets `spent` to the milliseconds of a processor that so many runs take over what was made for this count.
+# spends COUNT RUNS: sets `spent` to the milliseconds of a processor that RUNS runs take over what was made for this count.
 spends() {
     local TIMEFORMAT='%U %S' run user system
     read -r user system < <({ time for ((run = 0; run < $2; run++)); do
