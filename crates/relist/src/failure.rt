@@ -26,7 +26,7 @@ pub enum Failure {
     /// The message of a run that is refused.
     #[error("{0}")]
     Refused(String),
-    #[error("{0}")]
+    #[error("line {0}")]
     Assembling(AsmFault),
 }
 

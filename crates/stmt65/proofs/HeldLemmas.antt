@@ -255,11 +255,11 @@ or_left true b e = absurd cc
 or_left false b e = refl
 
 -- the tests of definitions and of the end are false
-record Fits (s : State) (source : SourceLine) : Type 0 where
-  values : list_any (λ d. ltb 65535 d.value) (defined_by s.at source) ≡ false
-  past : ltb 65536 (next_of s source) ≡ false
+pub record Fits (s : State) (source : SourceLine) : Type 0 where
+  pub values : list_any (λ d. ltb 65535 d.value) (defined_by s.at source) ≡ false
+  pub past : ltb 65536 (next_of s source) ≡ false
 
-none_fits : (all : List Definition) (s : State) (source : SourceLine) → None ≡ fault_of all s (Some source) → Fits s source
+pub none_fits : (all : List Definition) (s : State) (source : SourceLine) → None ≡ fault_of all s (Some source) → Fits s source
 unfolding fault_of is_out_of_range is_past_end
 none_fits all s source h =
     let a = passed (has_unknown_cpu (operation_in source)) UnknownCpu _ h in
@@ -270,7 +270,7 @@ none_fits all s source h =
     let f = passed (is_past_end s source) PastEnd None e.1 in
     record { values = or_left (list_any (λ x. ltb 65535 x.value) (defined_by s.at source)) _ e.0; past = f.0 }
 
-small_same : (n limit : ℕ) → limit ≤ 65536 → ltb limit n ≡ false → held n ≡ n
+pub small_same : (n limit : ℕ) → limit ≤ 65536 → ltb limit n ≡ false → held n ≡ n
 small_same n limit h e = omega (arith, ltb-false limit n e)
 
 definitions_same : (ds : List Definition) → list_any (λ d. ltb 65535 d.value) ds ≡ false → map held_definition ds ≡ ds
@@ -299,7 +299,7 @@ after_exact all s source none =
 
 -- ---- a state, held
 
-held_state : State → State
+unfoldable pub held_state : State → State
 held_state s = record { at = held s.at; cpu = s.cpu; above = map held_definition s.above }
 
 ways-held : (ds : List Definition) (form : Form) → ways (map held_definition ds) form ≡ ways ds form
@@ -335,7 +335,7 @@ defined-held at (PlaceAssignment w n) = let same : held (held at + n) ≡ held (
 defined-held at (Statement None operation) = refl
 defined-held at (Statement (Some w) operation) = let same : held (held at) ≡ held at = omega arith in rw same refl
 
-after-held : (s : State) (source : Option SourceLine) → held_after (held_state s) source ≡ held_state (after s source)
+pub after-held : (s : State) (source : Option SourceLine) → held_after (held_state s) source ≡ held_state (after s source)
 unfolding held_after after held_state next_of fragments_of
 after-held s None = refl
 after-held s (Some source) =
@@ -348,13 +348,15 @@ unfolding held_final final
 final-held s [] = refl
 final-held s (l ∷ ls) = rw (after-held s l) (final-held (after s l) ls)
 
+pub initial-held : (start : ℕ) → start < 65536 → held_state (initial start) ≡ initial start
+unfolding held_state
+initial-held start h = let same : held start ≡ start = omega arith in rw same refl
+
 -- the definitions that the first pass finds
 pub definitions_held : (start : ℕ) (ls : List (Option SourceLine)) → start < 65536 → (held_final (initial start) ls).above ≡ map held_definition (final (initial start) ls).above
 unfolding held_state
 definitions_held start ls h =
-    let same : held start ≡ start = omega arith in
-    let first : held_state (initial start) ≡ initial start = rw same refl in
-    ap (λ (s : State). s.above) (ap (λ (s : State). held_final s ls) (sym first) ∙ final-held (initial start) ls)
+    ap (λ (s : State). s.above) (ap (λ (s : State). held_final s ls) (sym (initial-held start h)) ∙ final-held (initial start) ls)
 
 -- ---- a line, by the definitions that are held
 

@@ -26,6 +26,7 @@ mod CutLemmas
 mod HeldLemmas
 mod PassLaws
 mod TextLemmas
+mod AddressLemmas
 mod ModeLemmas
 mod FaultLemmas
 pub mod Public

@@ -13,10 +13,10 @@ use Rattle.stmt65.specs.Meaning.{State, after, bytes_of, coded, fault_of, final,
 use Rattle.stmt65.specs.code.MeaningViews.{held_after, held_definition, held_final}
 use Rattle.stmt65.proofs.HeldLemmas.{fault-all, bytes-all}
 
-readings_more : (text line rest : List ℕ) → text_lines text ≡ line ∷ text_lines rest → readings text ≡ reading_of (parts line) ∷ readings rest
+pub readings_more : (text line rest : List ℕ) → text_lines text ≡ line ∷ text_lines rest → readings text ≡ reading_of (parts line) ∷ readings rest
 readings_more text line rest e = ap (map (λ l. reading_of (parts l))) e
 
-readings_nil : (text : List ℕ) → text_lines text ≡ [] → readings text ≡ []
+pub readings_nil : (text : List ℕ) → text_lines text ≡ [] → readings text ≡ []
 readings_nil text e = ap (map (λ l. reading_of (parts l))) e
 
 -- ---- the first pass

@@ -31,7 +31,7 @@ coding_len-bytes all next [] = refl
 coding_len-bytes all next (f ∷ fs) = length-append (fragment_bytes all next f) (flat_map (fragment_bytes all next) fs) ∙ let a = fragment_len-bytes all next f in let b = coding_len-bytes all next fs in omega arith
 
 -- the address after a line is the one before it and its bytes
-at-after : (all : List Definition) (s : State) (l : Option SourceLine) → (after s l).at ≡ s.at + length (bytes_of all s l)
+pub at-after : (all : List Definition) (s : State) (l : Option SourceLine) → (after s l).at ≡ s.at + length (bytes_of all s l)
 unfolding after bytes_of next_of
 at-after all s None = omega arith
 at-after all s (Some source) = ap (λ (n : ℕ). s.at + n) (sym (coding_len-bytes all (next_of s source) (fragments_of s source)))

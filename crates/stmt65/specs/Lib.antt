@@ -28,6 +28,7 @@ pub mod TableLaws
 pub mod Meaning
 pub mod Answer
 pub mod TextLaws
+pub mod LineAddresses
 pub mod ModeLaws
 pub mod FaultLaws
 pub mod code

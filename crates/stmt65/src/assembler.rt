@@ -22,7 +22,7 @@ use std::alloc::{AllocError, Allocator};
 
 /// Goes on below a line, whatever it says.
 #[tactic(auto, unfolding(crate::specs::code::MeaningViews::held_after))]
-fn pass_line<'a, 'b, A: Allocator>(
+pub fn pass_line<'a, 'b, A: Allocator>(
     alloc: &'b A,
     state: &mut State<'a, &'b A>,
     line: &'a [u8],

@@ -36,7 +36,7 @@ pub enum AsmFaultKind {
 
 /// A fault of a text: the line from 1, or 0 if memory was refused, and what is wrong with it.
 #[derive(Clone, Copy, Debug, PartialEq, Eq, Error)]
-#[error("line {line}: {kind}")]
+#[error("{line}: {kind}")]
 pub struct AsmFault {
     pub line: usize,
     pub kind: AsmFaultKind,

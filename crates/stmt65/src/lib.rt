@@ -10,8 +10,10 @@
 //!
 //! Assembling: [`assemble`] answers the bytes that a text means from a start, or its first fault. It
 //! goes over the lines twice: once for the names (`symbols`), once for the bytes (`coding`, `emit`).
+//! [`line_addresses`] returns the address after each line, which says which line gave a byte.
 #![tactic(auto)]
 
+mod addresses;
 mod assembler;
 mod coding;
 mod columns;
@@ -39,6 +41,7 @@ mod statement;
 mod symbols;
 mod values;
 
+pub use addresses::line_addresses;
 pub use assembler::assemble;
 pub use columns::{Column, Columns, LabelBreak, Level, LimitError, Within};
 pub use directive::Directive;
@@ -46,6 +49,7 @@ pub use fault::{AsmFault, AsmFaultKind};
 pub use laws::{
     cuts_texts, prints_patterns, reads_lines, reads_spellings, spells_one, takes_parts,
 };
+pub use lines::first_line;
 pub use meaning_laws::{
     codes_alike, finds_lowest_fault, means_first_fault, means_its_lines, takes_modes,
 };

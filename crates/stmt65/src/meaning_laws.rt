@@ -3,6 +3,7 @@
 
 ghost use Rattle.stmt65.specs.ModeLaws.{WaysAreModes, ModesAreWays, TakesModes, NeedsMode};
 ghost use Rattle.stmt65.specs.FaultLaws.{FindsLowest, FindsNone};
+ghost use Rattle.stmt65.specs.LineAddresses.{FindsLine};
 ghost use Rattle.stmt65.specs.TextLaws.{MeansBytes, MeansFault, StandsAtItsBytes};
 
 /// The ways to code an operand are the modes that are written like it, after `a:` only the absolute
@@ -29,11 +30,13 @@ pub fn finds_lowest_fault()
 {}
 
 /// A text has bytes exactly when no line has a fault, and they are those of its lines in order. Each
-/// line stands at the start plus the number of bytes of the lines above it.
+/// line stands at the start plus the number of bytes of the lines above it, and each byte is given by the
+/// first line after which the address is greater than its own.
 #[tactic(auto, using(crate::proofs::TextLemmas::stands_at_its_bytes))]
 pub fn means_its_lines()
     ensures bytes { MeansBytes }
     ensures stands { StandsAtItsBytes }
+    ensures finds { FindsLine }
 {}
 
 /// The fault of a text is that of the first line that has one.

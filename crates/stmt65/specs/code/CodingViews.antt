@@ -11,7 +11,6 @@ use Rattle.stmt65.specs.declared.coding.Coded.{Coded as CodeCoded}
 use Rattle.stmt65.specs.declared.coding.Coded.TheVariants as code_coded
 use Rattle.stmt65.specs.declared.source_line.Value.{Value as CodeValue}
 use Rattle.stmt65.specs.declared.source_line.Datum.{Datum as CodeDatum}
-use Rattle.stmt65.specs.SourceLine.{Value}
 use Rattle.stmt65.specs.Coding.{Fragment, Fixed, Single, ZeroPage, Oversized, Entry, Distance, datum_fragments}
 use Rattle.stmt65.specs.code.SourceLineViews.{value_of, datum_of}
 

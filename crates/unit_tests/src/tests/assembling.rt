@@ -4,7 +4,7 @@ use crate::tests::asserts::{assert_equal, assert_equal_at, assert_that, assert_t
 use crate::tests::said::file_of;
 use std::alloc::{AllocError, Global};
 use std::process::Abort;
-use stmt65::{AsmFault, AsmFaultKind, assemble};
+use stmt65::{AsmFault, AsmFaultKind, assemble, line_addresses};
 
 /// The bytes of a text from an address on, or its fault.
 fn assembled(rt: &impl Abort, alloc: Global, start: u16, text: &[u8]) -> String {
@@ -15,7 +15,7 @@ fn assembled(rt: &impl Abort, alloc: Global, start: u16, text: &[u8]) -> String 
                 write!(out, " {byte:02X}").expect(rt, "write");
             }
         }
-        Err(fault) => write!(out, " {fault}").expect(rt, "write"),
+        Err(fault) => write!(out, " line {fault}").expect(rt, "write"),
     }
     out
 }
@@ -282,17 +282,17 @@ fn five_mebibytes(rt: HostRuntime) {
 
 /// The texts of all faults.
 const TEXTS: &[(AsmFaultKind, &str)] = &[
-    (AsmFaultKind::Syntax, "line 1: syntax error"),
-    (AsmFaultKind::UnknownCpu, "line 1: unknown CPU"),
-    (AsmFaultKind::NoSuchForm, "line 1: no such form"),
-    (AsmFaultKind::Undefined, "line 1: undefined name"),
-    (AsmFaultKind::DefinedTwice, "line 1: name defined twice"),
-    (AsmFaultKind::OutOfRange, "line 1: value out of range"),
+    (AsmFaultKind::Syntax, "1: syntax error"),
+    (AsmFaultKind::UnknownCpu, "1: unknown CPU"),
+    (AsmFaultKind::NoSuchForm, "1: no such form"),
+    (AsmFaultKind::Undefined, "1: undefined name"),
+    (AsmFaultKind::DefinedTwice, "1: name defined twice"),
+    (AsmFaultKind::OutOfRange, "1: value out of range"),
     (
         AsmFaultKind::PastEnd,
-        "line 1: past the end of the address space",
+        "1: past the end of the address space",
     ),
-    (AsmFaultKind::Memory, "line 1: out of memory"),
+    (AsmFaultKind::Memory, "1: out of memory"),
 ];
 
 #[test]
@@ -305,4 +305,13 @@ fn texts_of_faults(rt: HostRuntime) {
         let shown = format!(in rt.alloc(); "{fault}").expect(&rt, "format");
         assert_equal(&rt, &shown.as_str(), text);
     }
+}
+
+/// The addresses after the lines of a text, of which one is none and the last has no line feed.
+#[test]
+fn addresses_after_lines(rt: HostRuntime) {
+    let text = b"v := $12\nlda v\n?\n\nl: .word 1,2 ; two\nrts";
+    let found = line_addresses(rt.alloc(), text, 0x1000).expect(&rt, "line_addresses");
+    let want = [0x1000, 0x1002, 0x1002, 0x1002, 0x1006, 0x1007];
+    assert_equal(&rt, &found.as_slice(), &want.as_slice());
 }

@@ -1,0 +1,140 @@
+-- The address after each line of a text.
+use Rattle.std.proofs.Common.{◌≡◌, ℕ, Bool, true, false, leb, ◌+◌, ◌-◌, ◌<◌, ◌≤◌, List, [], ◌∷◌, ◌++◌, length, map, Option, Some, None, refl, sym, ap, ◌∙◌, append_assoc, arith, length-append}
+use Rattle.std.specs.Prelude.{IfOk, Result, Ok, Err}
+use Rattle.std.specs.List.{All, flat_map, prefix_len}
+use Rattle.std.proofs.lemmas.List.{append-nil}
+use Rattle.std.proofs.lemmas.List.Elements.{All-head, All-tail}
+use Rattle.std.proofs.lemmas.Bool.{leb-false, leb-true}
+use Rattle.stmt65.specs.declared.fault.AsmFault.{AsmFault}
+use Rattle.stmt65.specs.SourceLine.{SourceLine}
+use Rattle.stmt65.specs.Lines.{text_lines}
+use Rattle.stmt65.specs.Lexing.{parts}
+use Rattle.stmt65.specs.Reading.{reading_of}
+use Rattle.stmt65.specs.Symbols.{Definition}
+use Rattle.stmt65.specs.Meaning.{State, after, bytes_of, fault_of, initial, meaning, readings}
+use Rattle.stmt65.specs.TextLaws.{Line, IsFaultless, line_bytes, lines_below, lines_of, names_of}
+use Rattle.stmt65.specs.LineAddresses.{FindsLine, GivesByte, address_after, line_addresses, line_past}
+use Rattle.stmt65.specs.code.Held.{held}
+use Rattle.stmt65.specs.code.MeaningViews.{held_after}
+use Rattle.stmt65.proofs.HeldLemmas.{after-held, held_state, initial-held, none_fits, small_same}
+use Rattle.stmt65.proofs.PassLaws.{readings_more, readings_nil}
+use Rattle.stmt65.proofs.TextLemmas.{at-after, means_bytes}
+
+-- ---- the addresses as the code holds them
+
+unfoldable pub held_addresses : State → List (Option SourceLine) → List ℕ
+held_addresses s [] = []
+held_addresses s (l ∷ ls) = (held_after s l).at ∷ held_addresses (held_after s l) ls
+
+addresses_cons : (s : State) (r : Option SourceLine) (rs : List (Option SourceLine)) → held_addresses s (r ∷ rs) ≡ (held_after s r).at ∷ held_addresses (held_after s r) rs
+unfolding held_addresses
+addresses_cons s r rs = refl
+
+addresses_nil : (s : State) → held_addresses s [] ≡ []
+unfolding held_addresses
+addresses_nil s = refl
+
+pub addresses_step : (s t : State) (text line rest found : List ℕ) (all : List ℕ) → found ++ held_addresses s (readings text) ≡ all → text_lines text ≡ line ∷ text_lines rest → t ≡ held_after s (reading_of (parts line))
+    → (found ++ t.at ∷ []) ++ held_addresses t (readings rest) ≡ all
+addresses_step s t text line rest found all h e k =
+    append_assoc found (t.at ∷ []) (held_addresses t (readings rest))
+    ∙ ap (λ (u : State). found ++ u.at ∷ held_addresses u (readings rest)) k
+    ∙ ap (λ (l : List ℕ). found ++ l) (sym (addresses_cons s (reading_of (parts line)) (readings rest)))
+    ∙ ap (λ (rs : List (Option SourceLine)). found ++ held_addresses s rs) (sym (readings_more text line rest e)) ∙ h
+
+addresses_end : (s : State) (text found : List ℕ) (all : List ℕ) → found ++ held_addresses s (readings text) ≡ all → text_lines text ≡ [] → found ≡ all
+addresses_end s text found all h e =
+    sym (append-nil found) ∙ ap (λ (l : List ℕ). found ++ l) (sym (addresses_nil s))
+    ∙ ap (λ (rs : List (Option SourceLine)). found ++ held_addresses s rs) (sym (readings_nil text e)) ∙ h
+
+-- ---- and those of the meaning
+
+addresses-held : (s : State) (ls : List (Option SourceLine)) → held_addresses (held_state s) ls ≡ map held (map address_after (lines_below s ls))
+unfolding held_addresses lines_below held_state
+addresses-held s [] = refl
+addresses-held s (l ∷ ls) = rw (after-held s l) (ap (λ (more : List ℕ). held (after s l).at ∷ more) (addresses-held (after s l) ls))
+
+pub found_lines : (start : ℕ) (s : State) (whole text found : List ℕ) → start < 65536 → found ++ held_addresses s (readings text) ≡ held_addresses (initial start) (readings whole) → text_lines text ≡ []
+    → found ≡ map held (line_addresses start (readings whole))
+unfolding line_addresses
+found_lines start s whole text found small h e =
+    addresses_end s text found (held_addresses (initial start) (readings whole)) h e
+    ∙ ap (λ (t : State). held_addresses t (readings whole)) (sym (initial-held start small)) ∙ addresses-held (initial start) (readings whole)
+
+-- ---- of a text that has bytes
+
+address-exact : (all : List Definition) (s : State) (l : Option SourceLine) → fault_of all s l ≡ None → held (after s l).at ≡ (after s l).at
+unfolding after fault_of
+address-exact all s None e = absurd cc
+address-exact all s (Some source) e = small_same _ 65536 (omega arith) (none_fits all s source (sym e)).past
+
+addresses-exact : (all : List Definition) (s : State) (ls : List (Option SourceLine)) → All (IsFaultless all) (lines_below s ls) → map held (map address_after (lines_below s ls)) ≡ map address_after (lines_below s ls)
+unfolding lines_below
+addresses-exact all s [] h = refl
+addresses-exact all s (l ∷ ls) h =
+    let line : Line = record { state = s; says = l } in
+    let here = address-exact all s l (All-head (IsFaultless all) line (lines_below (after s l) ls) h) in
+    let more = addresses-exact all (after s l) ls (All-tail (IsFaultless all) line (lines_below (after s l) ls) h) in
+    rw (here, more) refl
+
+exact : (start : ℕ) (text bytes found : List ℕ) → meaning start text ≡ Ok bytes → found ≡ map held (line_addresses start (readings text)) → found ≡ line_addresses start (readings text)
+unfolding meaning line_addresses
+exact start text bytes found e h = h ∙ addresses-exact (names_of start (readings text)) (initial start) (readings text) ((means_bytes start (readings text) bytes).0 e).0
+
+pub lines_exact : (start : ℕ) (text found : List ℕ) → found ≡ map held (line_addresses start (readings text)) → (m : Result (List ℕ) AsmFault) → meaning start text ≡ m → IfOk m (λ _. found ≡ line_addresses start (readings text))
+lines_exact start text found h (Ok bytes) e = exact start text bytes found e h
+lines_exact start text found h (Err fault) e = tt
+
+-- ---- the line of a byte
+
+finds_from : (all : List Definition) (s : State) (ls : List (Option SourceLine)) (offset : ℕ) → offset < length (flat_map (line_bytes all) (lines_below s ls))
+    → GivesByte all (lines_below s ls) offset (line_past (s.at + offset) (map address_after (lines_below s ls)))
+unfolding lines_below
+finds_from all s [] offset h = absurd (omega arith)
+finds_from all s (l ∷ ls) offset h = go (finds_from all (after s l) ls) (leb (after s l).at (s.at + offset)) refl
+  where
+    line : Line
+    line = record { state = s; says = l }
+
+    go : ((k : ℕ) → k < length (flat_map (line_bytes all) (lines_below (after s l) ls)) → GivesByte all (lines_below (after s l) ls) k (line_past ((after s l).at + k) (map address_after (lines_below (after s l) ls))))
+        → (b : Bool) → leb (after s l).at (s.at + offset) ≡ b → GivesByte all (line ∷ lines_below (after s l) ls) offset (line_past (s.at + offset) (map address_after (line ∷ lines_below (after s l) ls)))
+    go more true e =
+        let next = at-after all s l in
+        let here : length (line_bytes all line) ≤ offset = omega (arith, leb-true (after s l).at (s.at + offset) e) in
+        let parts' = length-append (bytes_of all s l) (flat_map (line_bytes all) (lines_below (after s l) ls)) in
+        let less : offset - length (bytes_of all s l) < length (flat_map (line_bytes all) (lines_below (after s l) ls)) = omega (arith, here, parts', h) in
+        let ih = more (offset - length (bytes_of all s l)) less in
+        let same : (after s l).at + (offset - length (bytes_of all s l)) ≡ s.at + offset = omega (arith, here, next) in
+        let count : prefix_len (λ a. leb a (s.at + offset)) (map address_after (lines_below (after s l) ls)) + 1 ≡ length ih.above + 1 =
+        ap (λ (n : ℕ). line_past n (map address_after (lines_below (after s l) ls))) (sym same) ∙ ih.number in
+        let front = length-append (bytes_of all s l) (flat_map (line_bytes all) ih.above) in
+        let low = ih.begins in
+        let high = ih.ends in
+        record {
+          above = line ∷ ih.above;
+          line = ih.line;
+          below = ih.below;
+          parts = ap (λ (xs : List Line). line ∷ xs) ih.parts;
+          number = rw e (omega (arith, count));
+          begins = omega (arith, front, low, here);
+          ends = omega (arith, front, high, here);
+        }
+    go more false e =
+        let next = at-after all s l in
+        let past = leb-false (after s l).at (s.at + offset) e in
+        record {
+          above = [];
+          line = line;
+          below = lines_below (after s l) ls;
+          parts = refl;
+          number = rw e refl;
+          begins = omega arith;
+          ends = omega (arith, next, past);
+        }
+
+pub finds_line : FindsLine
+unfolding line_addresses
+finds_line start ls bytes offset e h =
+    let all = names_of start ls in
+    let are : bytes ≡ flat_map (line_bytes all) (lines_of start ls) = ((means_bytes start ls bytes).0 e).1 in
+    finds_from all (initial start) ls offset (rw are at h)
