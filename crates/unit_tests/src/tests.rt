@@ -16,6 +16,7 @@ mod levels;
 mod lexing;
 mod maps;
 mod opcodes;
+mod printed;
 mod printed_names;
 mod printing;
 mod ranges;

@@ -1,106 +1,491 @@
 //! Lines with names: what is printed is read back, and the lines together assemble to their bytes.
 
-ghost use Rattle.std.specs.Prelude.{◌≡◌, ◌<◌, ◌≤◌, IfOk, length, codes, false};
-ghost use Rattle.std.specs.Option.{option_copied};
-ghost use Rattle.isa65.specs.declared.op.Op.{Op};
-ghost use Rattle.stmt65.specs.Printable.{IsPrintable, MayBeLabelled};
-ghost use Rattle.stmt65.specs.code.StatementViews.{statement_seen};
-
-use crate::tests::asserts::{assert_equal, assert_that};
+use crate::tests::asserts::assert_equal_at;
+use crate::tests::printed::{LONG, long, printed};
 use crate::tests::source_lines::source;
 use isa65::{Mnemonic, Mode, Op};
-use std::alloc::Global;
+use std::alloc::{AllocError, Global};
 use std::process::Abort;
 use stmt65::{
-    Column, Columns, Expr, LabelBreak, Level, LimitError, Line, Operands, Remarks, Statement,
-    Target, assemble, put_line,
+    Column, Columns, Expr, LabelBreak, Level, LimitError, Operands, Remarks, Statement, Target,
+    assemble,
 };
 
-/// A name of 80 bytes.
-fn longest() -> &'static [u8]
-    ensures { length result.now ≡ 80 }
-{
-    b"N1234567890123456789012345678901234567890123456789012345678901234567890123456789"
-}
+/// A statement with its label, and its line, ` => ` and what the line says. In these `@` stands for the name of 80 bytes, and `|n|`
+/// for n blanks.
+type Row = (Option<&'static [u8]>, Statement<'static>, &'static str);
 
-/// Text that grows line by line.
-#[derive(Drop)]
-struct Listing<'a> {
-    columns: &'a Columns,
+/// Lines one after the other, and what they assemble to.
+struct Text {
+    name: &'static str,
+    /// The columns of mnemonics and of operands, and the label break.
+    columns: (u8, u8, u8),
     hexoffs: bool,
-    alloc: Global,
-    text: Vec<u8>,
+    rows: &'static [Row],
+    start: u16,
+    bytes: &'static [u8],
 }
 
-/// Adds the line of the statement to the text. It is `want`, and it is read as `says`.
-fn shows(
-    rt: &impl Abort,
-    listing: &mut Listing,
-    label: Option<&[u8]>,
-    statement: &Statement,
-    want: &str,
-    says: &str,
-)
-    requires printable { IsPrintable (statement_seen statement.now) }
-    requires label { MayBeLabelled listing.old.columns.now (option_copied label) (statement_seen statement.now) }
-    ensures { listing.new.columns ≡ listing.old.columns }
-{
-    let remarks = Remarks {
-        level: Level::default(),
-        hexoffs: listing.hexoffs,
-        address: 0x1000,
+/// The default layout.
+const DEFAULT: (u8, u8, u8) = (9, 17, 7);
+
+const BRANCH: Statement<'static> = Statement::Instr {
+    op: Op {
+        mnemonic: Mnemonic::Bne,
+        mode: Mode::Rel,
+    },
+    absolute: false,
+    operands: Operands::One(Expr::Name(b"L1000", 0)),
+};
+
+const JUMP: Statement<'static> = Statement::Instr {
+    op: Op {
+        mnemonic: Mnemonic::Jmp,
+        mode: Mode::Abs,
+    },
+    absolute: false,
+    operands: Operands::One(Expr::Name(b"L1001", 0)),
+};
+
+const LOAD: Statement<'static> = Statement::Instr {
+    op: Op {
+        mnemonic: Mnemonic::Lda,
+        mode: Mode::Imm,
+    },
+    absolute: false,
+    operands: Operands::One(Expr::Number(1)),
+};
+
+const LOAD_INSIDE: Statement<'static> = Statement::Instr {
+    op: Op {
+        mnemonic: Mnemonic::Lda,
+        mode: Mode::Abs,
+    },
+    absolute: false,
+    operands: Operands::One(Expr::Name(b"L2002", 1)),
+};
+
+const LOAD_NEAR: Statement<'static> = Statement::Instr {
+    op: Op {
+        mnemonic: Mnemonic::Lda,
+        mode: Mode::Zp,
+    },
+    absolute: false,
+    operands: Operands::One(Expr::Name(b"buf", 1)),
+};
+
+const LOAD_FAR: Statement<'static> = Statement::Instr {
+    op: Op {
+        mnemonic: Mnemonic::Lda,
+        mode: Mode::Abs,
+    },
+    absolute: false,
+    operands: Operands::One(Expr::Name(b"buf", 2)),
+};
+
+const IO: Target<'static> = Target {
+    name: b"io",
+    offset: 0,
+};
+
+const IO_AFTER: Target<'static> = Target {
+    name: b"io",
+    offset: 0xFF,
+};
+
+const IO_FAR: Target<'static> = Target {
+    name: b"io",
+    offset: 0x100,
+};
+
+const ITSELF: Target<'static> = Target {
+    name: b"L1000",
+    offset: 0,
+};
+
+const SHORT: Target<'static> = Target {
+    name: b"n",
+    offset: 2,
+};
+
+const LONGEST: Target<'static> = Target {
+    name: LONG,
+    offset: 0,
+};
+
+const LONGEST_FAR: Target<'static> = Target {
+    name: LONG,
+    offset: 0xFFF0,
+};
+
+const TEXTS: &[Text] = &[
+    Text {
+        name: "a branch to itself",
+        columns: DEFAULT,
+        hexoffs: false,
+        rows: &[(
+            Some(b"L1000"),
+            BRANCH,
+            "L1000:  bne     L1000 => L1000: bne L1000+0",
+        )],
+        start: 0x1000,
+        bytes: b"\xD0\xFE",
+    },
+    Text {
+        name: "a jump into an instruction",
+        columns: DEFAULT,
+        hexoffs: false,
+        rows: &[
+            (
+                None,
+                Statement::Forward(b"L1001", 1),
+                "L1001           := * + 1 => L1001 := * + 1",
+            ),
+            (None, JUMP, "        jmp     L1001 => jmp L1001+0"),
+        ],
+        start: 0x1000,
+        bytes: b"\x4C\x01\x10",
+    },
+    Text {
+        name: "a jump into an instruction, in hexadecimal",
+        columns: DEFAULT,
+        hexoffs: true,
+        rows: &[
+            (
+                None,
+                Statement::Forward(b"L1001", 1),
+                "L1001           := * + $0001 => L1001 := * + 1",
+            ),
+            (None, JUMP, "        jmp     L1001 => jmp L1001+0"),
+        ],
+        start: 0x1000,
+        bytes: b"\x4C\x01\x10",
+    },
+    Text {
+        name: "a return table",
+        columns: DEFAULT,
+        hexoffs: false,
+        rows: &[
+            (
+                Some(b"L1000"),
+                Statement::Rts(None),
+                "L1000:  .word   $FFFF => L1000: word 65535",
+            ),
+            (
+                None,
+                Statement::Rts(Some(ITSELF)),
+                "        .word   L1000-1 => word L1000+0-1",
+            ),
+        ],
+        start: 0x1000,
+        bytes: b"\xFF\xFF\xFF\x0F",
+    },
+    Text {
+        name: "a target inside a word",
+        columns: DEFAULT,
+        hexoffs: false,
+        rows: &[
+            (None, LOAD_INSIDE, "        lda     L2002+1 => lda L2002+1"),
+            (
+                Some(b"L2002"),
+                Statement::Words(b"\x34\x12"),
+                "L2002:  .word   $1234 => L2002: word 4660",
+            ),
+        ],
+        start: 0x1FFF,
+        bytes: b"\xAD\x03\x20\x34\x12",
+    },
+    Text {
+        name: "a target inside a word, in hexadecimal",
+        columns: DEFAULT,
+        hexoffs: true,
+        rows: &[
+            (
+                None,
+                LOAD_INSIDE,
+                "        lda     L2002+$01 => lda L2002+1",
+            ),
+            (
+                Some(b"L2002"),
+                Statement::Words(b"\x34\x12"),
+                "L2002:  .word   $1234 => L2002: word 4660",
+            ),
+        ],
+        start: 0x1FFF,
+        bytes: b"\xAD\x03\x20\x34\x12",
+    },
+    Text {
+        name: "long labels",
+        columns: DEFAULT,
+        hexoffs: false,
+        rows: &[
+            (
+                None,
+                Statement::Label(b"longname"),
+                "longname: => longname: ",
+            ),
+            (None, LOAD, "        lda     #$01 => lda #1"),
+            (
+                Some(b"chrout7"),
+                LOAD,
+                "chrout7: lda    #$01 => chrout7: lda #1",
+            ),
+        ],
+        start: 0x1000,
+        bytes: b"\xA9\x01\xA9\x01",
+    },
+    Text {
+        name: "a segment that is entered again",
+        columns: DEFAULT,
+        hexoffs: false,
+        rows: &[
+            (
+                None,
+                Statement::Segment(b"DATA"),
+                "        .segment \"DATA\" => segment DATA",
+            ),
+            (
+                Some(b"L1000"),
+                Statement::Bytes(b"\xEA"),
+                "L1000:  .byte   $EA => L1000: byte 234",
+            ),
+            (None, Statement::Code, "        .code => code"),
+            (
+                None,
+                Statement::Bytes(b"\xEA"),
+                "        .byte   $EA => byte 234",
+            ),
+        ],
+        start: 0x1000,
+        bytes: b"\xEA\xEA",
+    },
+    Text {
+        name: "a name that has a size, across the zero page",
+        columns: DEFAULT,
+        hexoffs: false,
+        rows: &[
+            (
+                None,
+                Statement::Const(b"buf", 0xFE),
+                "buf             := $00FE => buf := 254",
+            ),
+            (None, LOAD_NEAR, "        lda     buf+1 => lda buf+1"),
+            (None, LOAD_FAR, "        lda     buf+2 => lda buf+2"),
+        ],
+        start: 0x1000,
+        bytes: b"\xA5\xFF\xAD\x00\x01",
+    },
+    Text {
+        name: "entries of addresses and of return addresses",
+        columns: DEFAULT,
+        hexoffs: true,
+        rows: &[
+            (
+                None,
+                Statement::Const(b"io", 0xD0FE),
+                "io              := $D0FE => io := 53502",
+            ),
+            (None, Statement::Addr(IO), "        .addr   io => addr io+0"),
+            (
+                Some(b"table"),
+                Statement::Addr(IO_AFTER),
+                "table:  .addr   io+$FF => table: addr io+255",
+            ),
+            (
+                None,
+                Statement::Rts(Some(IO_FAR)),
+                "        .word   io+$0100-1 => word io+256-1",
+            ),
+        ],
+        start: 0x1000,
+        bytes: b"\xFE\xD0\xFD\xD1\xFD\xD1",
+    },
+    Text {
+        name: "names of segments at column 1",
+        columns: (1, 1, 7),
+        hexoffs: false,
+        rows: &[
+            (
+                None,
+                Statement::Segment(b"X"),
+                ".segment \"X\" => segment X",
+            ),
+            (
+                None,
+                Statement::Segment(b"lda"),
+                ".segment \"lda\" => segment lda",
+            ),
+            (
+                None,
+                Statement::Segment(LONG),
+                ".segment \"@\" => segment @",
+            ),
+            (None, Statement::Code, ".code => code"),
+        ],
+        start: 0x1000,
         bytes: b"",
-        label,
-    };
-    let mut line = Line::new();
-    line.push(b'?');
-    put_line(&mut line, listing.columns, statement, &remarks);
-    assert_that(rt, line.ends_with(b"\n"));
-    let shown = line.as_slice().strip_suffix(b"\n").unwrap_or(b"?");
-    assert_equal(rt, &str::from_utf8(shown).unwrap_or("?"), &want);
-    assert_equal(
-        rt,
-        &source(listing.alloc, shown).expect(rt, "source").as_str(),
-        &says,
-    );
-    listing
-        .text
-        .extend_from_slice(line.as_slice())
-        .expect(rt, "extend_from_slice");
-}
+    },
+    Text {
+        name: "names of segments at column 120",
+        columns: (120, 120, 7),
+        hexoffs: false,
+        rows: &[
+            (
+                None,
+                Statement::Segment(b"X"),
+                "|119|.segment \"X\" => segment X",
+            ),
+            (
+                None,
+                Statement::Segment(b"lda"),
+                "|119|.segment \"lda\" => segment lda",
+            ),
+            (
+                None,
+                Statement::Segment(LONG),
+                "|119|.segment \"@\" => segment @",
+            ),
+            (None, Statement::Code, "|119|.code => code"),
+        ],
+        start: 0x1000,
+        bytes: b"",
+    },
+    Text {
+        name: "definitions at column 1",
+        columns: (9, 1, 7),
+        hexoffs: true,
+        rows: &[
+            (
+                None,
+                Statement::Const(b"v", 0x1234),
+                "v|1|:= $1234 => v := 4660",
+            ),
+            (
+                None,
+                Statement::Forward(b"w", 0xFF),
+                "w|1|:= * + $00FF => w := * + 255",
+            ),
+            (
+                None,
+                Statement::Const(LONG, 0xFFFF),
+                "@|1|:= $FFFF => @ := 65535",
+            ),
+        ],
+        start: 0,
+        bytes: b"",
+    },
+    Text {
+        name: "definitions at column 9",
+        columns: (9, 9, 7),
+        hexoffs: true,
+        rows: &[
+            (
+                None,
+                Statement::Const(b"v", 0x1234),
+                "v|7|:= $1234 => v := 4660",
+            ),
+            (
+                None,
+                Statement::Forward(b"w", 0xFF),
+                "w|7|:= * + $00FF => w := * + 255",
+            ),
+            (
+                None,
+                Statement::Const(LONG, 0xFFFF),
+                "@|1|:= $FFFF => @ := 65535",
+            ),
+        ],
+        start: 0,
+        bytes: b"",
+    },
+    Text {
+        name: "definitions at column 120",
+        columns: (9, 120, 7),
+        hexoffs: true,
+        rows: &[
+            (
+                None,
+                Statement::Const(b"v", 0x1234),
+                "v|118|:= $1234 => v := 4660",
+            ),
+            (
+                None,
+                Statement::Forward(b"w", 0xFF),
+                "w|118|:= * + $00FF => w := * + 255",
+            ),
+            (
+                None,
+                Statement::Const(LONG, 0xFFFF),
+                "@|39|:= $FFFF => @ := 65535",
+            ),
+        ],
+        start: 0,
+        bytes: b"",
+    },
+    Text {
+        name: "labels at the last column",
+        columns: (120, 120, 80),
+        hexoffs: false,
+        rows: &[
+            (
+                Some(b"n"),
+                Statement::Bytes(b"\xEA"),
+                "n:|117|.byte $EA => n: byte 234",
+            ),
+            (
+                Some(LONG),
+                Statement::Addr(LONGEST_FAR),
+                "@:|38|.addr @+65520 => @: addr @+65520",
+            ),
+        ],
+        start: 0,
+        bytes: b"\xEA\xF1\xFF",
+    },
+    Text {
+        name: "entries at the first column",
+        columns: (1, 1, 120),
+        hexoffs: false,
+        rows: &[
+            (None, Statement::Label(LONG), "@: => @: "),
+            (None, Statement::Label(b"n"), "n: => n: "),
+            (
+                None,
+                Statement::Rts(Some(SHORT)),
+                ".word n+2-1 => word n+2-1",
+            ),
+            (
+                None,
+                Statement::Rts(Some(LONGEST)),
+                ".word @-1 => word @+0-1",
+            ),
+        ],
+        start: 0x1000,
+        bytes: b"\x01\x10\xFF\x0F",
+    },
+];
 
-/// The text assembles to these bytes.
-fn gives(rt: &impl Abort, listing: &Listing, start: u16, bytes: &[u8]) {
-    let found = assemble(listing.alloc, listing.text.as_slice(), start).expect(rt, "assemble");
-    assert_equal(rt, &found.as_slice(), &bytes);
-}
-
-fn one<'a>(mnemonic: Mnemonic, mode: Mode, operand: Expr<'a>) -> Statement<'a>
-    ensures { result ≡ Statement.Instr (record { mnemonic = mnemonic; mode = mode }) false (Operands.One operand.entry) }
-{
-    Statement::Instr {
-        op: Op { mnemonic, mode },
-        absolute: false,
-        operands: Operands::One(operand),
+/// The text of a row, with the name and the blanks that it stands for.
+fn expanded(alloc: Global, text: &str) -> Result<String, AllocError> {
+    let mut out = String::new(alloc);
+    for (number, part) in text.split("|").enumerate() {
+        if number % 2 == 1 {
+            for _ in 0..part.parse::<u8>().unwrap_or(0) {
+                out.push_str(" ")?;
+            }
+        } else {
+            for byte in part.as_bytes() {
+                match *byte {
+                    b'@' => out.push_str(long())?,
+                    byte => out.push(char::from(byte))?,
+                }
+            }
+        }
     }
+    Ok(out)
 }
 
-/// Empty text at these columns.
-fn empty<'a>(alloc: Global, columns: &'a Columns, hexoffs: bool) -> Listing<'a>
-    ensures { result.columns ≡ columns.entry }
-{
-    Listing {
-        columns,
-        hexoffs,
-        alloc,
-        text: Vec::new(alloc),
-    }
-}
-
-/// Both columns and the label break.
-fn columns_at(mnemonic: u8, argument: u8, label_break: u8) -> Result<Columns, LimitError>
-    ensures { IfOk result (λ c. (c.mnemonic ≡ mnemonic) × ((c.argument ≡ argument) × (c.label_break ≡ label_break))) }
-{
+fn columns_at(columns: (u8, u8, u8)) -> Result<Columns, LimitError> {
+    let (mnemonic, argument, label_break) = columns;
     let mut columns = Columns::default();
     columns.mnemonic = Column::try_from(mnemonic)?;
     columns.argument = Column::try_from(argument)?;
@@ -108,436 +493,36 @@ fn columns_at(mnemonic: u8, argument: u8, label_break: u8) -> Result<Columns, Li
     Ok(columns)
 }
 
-#[test]
-fn branch_to_itself(rt: HostRuntime) {
-    let columns = Columns::default();
-    let mut listing = empty(rt.alloc(), &columns, false);
-    shows(
-        &rt,
-        &mut listing,
-        Some(b"L1000"),
-        &one(Mnemonic::Bne, Mode::Rel, Expr::Name(b"L1000", 0)),
-        "L1000:  bne     L1000",
-        "L1000: bne L1000+0",
-    );
-    gives(&rt, &listing, 0x1000, b"\xD0\xFE")
-}
-
-#[test]
-fn jump_into_instruction(rt: HostRuntime) {
-    let columns = Columns::default();
-    for hexoffs in [false, true] {
-        let mut listing = empty(rt.alloc(), &columns, hexoffs);
-        shows(
-            &rt,
-            &mut listing,
-            None,
-            &Statement::Forward(b"L1001", 1),
-            if hexoffs {
-                "L1001           := * + $0001"
-            } else {
-                "L1001           := * + 1"
-            },
-            "L1001 := * + 1",
-        );
-        shows(
-            &rt,
-            &mut listing,
-            None,
-            &one(Mnemonic::Jmp, Mode::Abs, Expr::Name(b"L1001", 0)),
-            "        jmp     L1001",
-            "jmp L1001+0",
-        );
-        gives(&rt, &listing, 0x1000, b"\x4C\x01\x10");
+/// Each line is that of its row, and says what stands there, and together they assemble to the bytes.
+fn show_text(rt: &impl Abort, alloc: Global, text: &Text) {
+    let columns = columns_at(text.columns).expect(rt, "columns_at");
+    let mut listing = Vec::new(alloc);
+    for (label, statement, row) in text.rows {
+        let remarks = Remarks {
+            level: Level::default(),
+            hexoffs: text.hexoffs,
+            address: 0x1000,
+            bytes: b"",
+            label: *label,
+        };
+        let line = printed(rt, &columns, statement, &remarks);
+        let shown = line.as_slice().strip_suffix(b"\n").unwrap_or(b"?");
+        let said = source(alloc, shown).expect(rt, "source");
+        let shown = str::from_utf8(shown).unwrap_or("?");
+        let found = format!(in alloc; "{shown} => {said}").expect(rt, "format");
+        let want = expanded(alloc, row).expect(rt, "expanded");
+        assert_equal_at(rt, &found.as_str(), &want.as_str(), &text.name);
+        listing
+            .extend_from_slice(line.as_slice())
+            .expect(rt, "extend_from_slice");
     }
+    let found = assemble(alloc, &listing, text.start).expect(rt, "assemble");
+    assert_equal_at(rt, &found.as_slice(), &text.bytes, &text.name);
 }
 
 #[test]
-fn return_table(rt: HostRuntime) {
-    let columns = Columns::default();
-    let mut listing = empty(rt.alloc(), &columns, false);
-    shows(
-        &rt,
-        &mut listing,
-        Some(b"L1000"),
-        &Statement::Rts(None),
-        "L1000:  .word   $FFFF",
-        "L1000: word 65535",
-    );
-    shows(
-        &rt,
-        &mut listing,
-        None,
-        &Statement::Rts(Some(Target {
-            name: b"L1000",
-            offset: 0,
-        })),
-        "        .word   L1000-1",
-        "word L1000+0-1",
-    );
-    gives(&rt, &listing, 0x1000, b"\xFF\xFF\xFF\x0F")
-}
-
-#[test]
-fn target_inside_a_word(rt: HostRuntime) {
-    let columns = Columns::default();
-    for hexoffs in [false, true] {
-        let mut listing = empty(rt.alloc(), &columns, hexoffs);
-        shows(
-            &rt,
-            &mut listing,
-            None,
-            &one(Mnemonic::Lda, Mode::Abs, Expr::Name(b"L2002", 1)),
-            if hexoffs {
-                "        lda     L2002+$01"
-            } else {
-                "        lda     L2002+1"
-            },
-            "lda L2002+1",
-        );
-        shows(
-            &rt,
-            &mut listing,
-            Some(b"L2002"),
-            &Statement::Words(b"\x34\x12"),
-            "L2002:  .word   $1234",
-            "L2002: word 4660",
-        );
-        gives(&rt, &listing, 0x1FFF, b"\xAD\x03\x20\x34\x12");
+fn lines_with_names(rt: HostRuntime) {
+    for text in TEXTS {
+        show_text(&rt, rt.alloc(), text);
     }
-}
-
-#[test]
-fn long_labels(rt: HostRuntime) {
-    let columns = Columns::default();
-    let mut listing = empty(rt.alloc(), &columns, false);
-    let load = one(Mnemonic::Lda, Mode::Imm, Expr::Number(1));
-    shows(
-        &rt,
-        &mut listing,
-        None,
-        &Statement::Label(b"longname"),
-        "longname:",
-        "longname: ",
-    );
-    shows(
-        &rt,
-        &mut listing,
-        None,
-        &load,
-        "        lda     #$01",
-        "lda #1",
-    );
-    shows(
-        &rt,
-        &mut listing,
-        Some(b"chrout7"),
-        &load,
-        "chrout7: lda    #$01",
-        "chrout7: lda #1",
-    );
-    gives(&rt, &listing, 0x1000, b"\xA9\x01\xA9\x01")
-}
-
-#[test]
-fn segment_entered_again(rt: HostRuntime) {
-    let columns = Columns::default();
-    let mut listing = empty(rt.alloc(), &columns, false);
-    shows(
-        &rt,
-        &mut listing,
-        None,
-        &Statement::Segment(b"DATA"),
-        "        .segment \"DATA\"",
-        "segment DATA",
-    );
-    shows(
-        &rt,
-        &mut listing,
-        Some(b"L1000"),
-        &Statement::Bytes(b"\xEA"),
-        "L1000:  .byte   $EA",
-        "L1000: byte 234",
-    );
-    shows(
-        &rt,
-        &mut listing,
-        None,
-        &Statement::Code,
-        "        .code",
-        "code",
-    );
-    shows(
-        &rt,
-        &mut listing,
-        None,
-        &Statement::Bytes(b"\xEA"),
-        "        .byte   $EA",
-        "byte 234",
-    );
-    gives(&rt, &listing, 0x1000, b"\xEA\xEA")
-}
-
-/// Reserved names, and one of 80 bytes, at the first and at the last column.
-#[test]
-fn names_of_segments(rt: HostRuntime) {
-    let a = rt.alloc();
-    let long = longest();
-    let name = str::from_utf8(long).expect(&rt, "from_utf8");
-    for (column, blanks) in [(1, 0), (120, 119)] {
-        let columns = columns_at(column, column, 7).expect(&rt, "columns_at");
-        let mut listing = empty(a, &columns, false);
-        shows(
-            &rt,
-            &mut listing,
-            None,
-            &Statement::Segment(b"X"),
-            spaced(&rt, a, "", blanks, ".segment \"X\"").as_str(),
-            "segment X",
-        );
-        shows(
-            &rt,
-            &mut listing,
-            None,
-            &Statement::Segment(b"lda"),
-            spaced(&rt, a, "", blanks, ".segment \"lda\"").as_str(),
-            "segment lda",
-        );
-        let line = spaced(&rt, a, "", blanks, ".segment \"");
-        let line = spaced(&rt, a, line.as_str(), 0, name);
-        shows(
-            &rt,
-            &mut listing,
-            None,
-            &Statement::Segment(long),
-            spaced(&rt, a, line.as_str(), 0, "\"").as_str(),
-            spaced(&rt, a, "segment", 1, name).as_str(),
-        );
-        shows(
-            &rt,
-            &mut listing,
-            None,
-            &Statement::Code,
-            spaced(&rt, a, "", blanks, ".code").as_str(),
-            "code",
-        );
-        gives(&rt, &listing, 0x1000, b"");
-    }
-}
-
-#[test]
-fn sized_name_across_the_zero_page(rt: HostRuntime) {
-    let columns = Columns::default();
-    let mut listing = empty(rt.alloc(), &columns, false);
-    shows(
-        &rt,
-        &mut listing,
-        None,
-        &Statement::Const(b"buf", 0xFE),
-        "buf             := $00FE",
-        "buf := 254",
-    );
-    shows(
-        &rt,
-        &mut listing,
-        None,
-        &one(Mnemonic::Lda, Mode::Zp, Expr::Name(b"buf", 1)),
-        "        lda     buf+1",
-        "lda buf+1",
-    );
-    shows(
-        &rt,
-        &mut listing,
-        None,
-        &one(Mnemonic::Lda, Mode::Abs, Expr::Name(b"buf", 2)),
-        "        lda     buf+2",
-        "lda buf+2",
-    );
-    gives(&rt, &listing, 0x1000, b"\xA5\xFF\xAD\x00\x01")
-}
-
-#[test]
-fn address_and_return_entries(rt: HostRuntime) {
-    let columns = Columns::default();
-    let mut listing = empty(rt.alloc(), &columns, true);
-    shows(
-        &rt,
-        &mut listing,
-        None,
-        &Statement::Const(b"io", 0xD0FE),
-        "io              := $D0FE",
-        "io := 53502",
-    );
-    shows(
-        &rt,
-        &mut listing,
-        None,
-        &Statement::Addr(Target {
-            name: b"io",
-            offset: 0,
-        }),
-        "        .addr   io",
-        "addr io+0",
-    );
-    shows(
-        &rt,
-        &mut listing,
-        Some(b"table"),
-        &Statement::Addr(Target {
-            name: b"io",
-            offset: 0xFF,
-        }),
-        "table:  .addr   io+$FF",
-        "table: addr io+255",
-    );
-    shows(
-        &rt,
-        &mut listing,
-        None,
-        &Statement::Rts(Some(Target {
-            name: b"io",
-            offset: 0x100,
-        })),
-        "        .word   io+$0100-1",
-        "word io+256-1",
-    );
-    gives(&rt, &listing, 0x1000, b"\xFE\xD0\xFD\xD1\xFD\xD1")
-}
-
-/// Two texts with blanks between them.
-fn spaced(rt: &impl Abort, alloc: Global, first: &str, blanks: usize, last: &str) -> String {
-    let mut out = String::new(alloc);
-    out.push_str(first).expect(rt, "push_str");
-    for _ in 0..blanks {
-        out.push_str(" ").expect(rt, "push_str");
-    }
-    out.push_str(last).expect(rt, "push_str");
-    out
-}
-
-/// Names of 1 and of 80 bytes at argument columns 1, 9 and 120.
-#[test]
-fn definitions_at_columns(rt: HostRuntime) {
-    let a = rt.alloc();
-    let long = longest();
-    let name = str::from_utf8(long).expect(&rt, "from_utf8");
-    for (column, short_blanks, long_blanks) in [(1, 1, 1), (9, 7, 1), (120, 118, 39)] {
-        let columns = columns_at(9, column, 7).expect(&rt, "columns_at");
-        let mut listing = empty(a, &columns, true);
-        shows(
-            &rt,
-            &mut listing,
-            None,
-            &Statement::Const(b"v", 0x1234),
-            spaced(&rt, a, "v", short_blanks, ":= $1234").as_str(),
-            "v := 4660",
-        );
-        shows(
-            &rt,
-            &mut listing,
-            None,
-            &Statement::Forward(b"w", 0xFF),
-            spaced(&rt, a, "w", short_blanks, ":= * + $00FF").as_str(),
-            "w := * + 255",
-        );
-        shows(
-            &rt,
-            &mut listing,
-            None,
-            &Statement::Const(long, 0xFFFF),
-            spaced(&rt, a, name, long_blanks, ":= $FFFF").as_str(),
-            spaced(&rt, a, name, 1, ":= 65535").as_str(),
-        );
-        gives(&rt, &listing, 0, b"");
-    }
-}
-
-/// Labels and entries of 1 and of 80 bytes at mnemonic column 120.
-#[test]
-fn labels_at_the_last_column(rt: HostRuntime) {
-    let a = rt.alloc();
-    let long = longest();
-    let name = str::from_utf8(long).expect(&rt, "from_utf8");
-    let columns = columns_at(120, 120, 80).expect(&rt, "columns_at");
-    let mut listing = empty(a, &columns, false);
-    shows(
-        &rt,
-        &mut listing,
-        Some(b"n"),
-        &Statement::Bytes(b"\xEA"),
-        spaced(&rt, a, "n:", 117, ".byte $EA").as_str(),
-        "n: byte 234",
-    );
-    let entry = spaced(&rt, a, ".addr ", 0, name);
-    let before = spaced(&rt, a, name, 0, ":");
-    let read = spaced(&rt, a, name, 0, ": addr ");
-    let read = spaced(&rt, a, read.as_str(), 0, name);
-    shows(
-        &rt,
-        &mut listing,
-        Some(long),
-        &Statement::Addr(Target {
-            name: long,
-            offset: 0xFFF0,
-        }),
-        spaced(
-            &rt,
-            a,
-            spaced(&rt, a, before.as_str(), 38, entry.as_str()).as_str(),
-            0,
-            "+65520",
-        )
-        .as_str(),
-        spaced(&rt, a, read.as_str(), 0, "+65520").as_str(),
-    );
-    gives(&rt, &listing, 0, b"\xEA\xF1\xFF")
-}
-
-/// Labels alone, and entries, of 1 and of 80 bytes at the first column.
-#[test]
-fn entries_at_the_first_column(rt: HostRuntime) {
-    let a = rt.alloc();
-    let long = longest();
-    let name = str::from_utf8(long).expect(&rt, "from_utf8");
-    let columns = columns_at(1, 1, 120).expect(&rt, "columns_at");
-    let mut listing = empty(a, &columns, false);
-    shows(
-        &rt,
-        &mut listing,
-        None,
-        &Statement::Label(long),
-        spaced(&rt, a, name, 0, ":").as_str(),
-        spaced(&rt, a, name, 0, ": ").as_str(),
-    );
-    shows(
-        &rt,
-        &mut listing,
-        None,
-        &Statement::Label(b"n"),
-        "n:",
-        "n: ",
-    );
-    shows(
-        &rt,
-        &mut listing,
-        None,
-        &Statement::Rts(Some(Target {
-            name: b"n",
-            offset: 2,
-        })),
-        ".word n+2-1",
-        "word n+2-1",
-    );
-    shows(
-        &rt,
-        &mut listing,
-        None,
-        &Statement::Rts(Some(Target {
-            name: long,
-            offset: 0,
-        })),
-        spaced(&rt, a, ".word", 1, spaced(&rt, a, name, 0, "-1").as_str()).as_str(),
-        spaced(&rt, a, "word", 1, spaced(&rt, a, name, 0, "+0-1").as_str()).as_str(),
-    );
-    gives(&rt, &listing, 0x1000, b"\x01\x10\xFF\x0F")
 }

@@ -1,20 +1,14 @@
-ghost use Rattle.std.specs.Prelude.{◌≡◌, false, None};
-ghost use Rattle.isa65.specs.declared.op.Op.{Op};
-ghost use Rattle.stmt65.specs.Printable.{IsPrintable};
-ghost use Rattle.stmt65.specs.code.StatementViews.{statement_seen};
+//! The lines of statements without remarks, and the limits of the types of a line's layout.
 
-use crate::tests::asserts::assert_equal;
-use isa65::{Cpu, Mnemonic, Mode, Op};
+use crate::tests::asserts::{assert_equal, assert_equal_at};
+use crate::tests::printed::{instruction, printed, spaced};
+use isa65::{Cpu, Mnemonic, Mode};
+use std::alloc::Global;
 use std::process::Abort;
-use stmt65::{
-    Column, Columns, Expr, LabelBreak, Level, LimitError, Line, Operands, Remarks, Statement,
-    put_line,
-};
+use stmt65::{Column, Columns, Expr, LabelBreak, Level, LimitError, Remarks, Statement};
 
-/// A line that holds something already, then the statement's, without remarks.
-fn shows(rt: &impl Abort, columns: &Columns, hexoffs: bool, statement: &Statement, want: &[u8])
-    requires { IsPrintable (statement_seen statement.now) }
-{
+/// The line of a statement at these columns is this text.
+fn shows(rt: &impl Abort, columns: &Columns, hexoffs: bool, statement: &Statement, want: &str) {
     let remarks = Remarks {
         level: Level::default(),
         hexoffs,
@@ -22,301 +16,128 @@ fn shows(rt: &impl Abort, columns: &Columns, hexoffs: bool, statement: &Statemen
         bytes: b"\x01",
         label: None,
     };
-    let mut line = Line::new();
-    line.push(b'?');
-    put_line(&mut line, columns, statement, &remarks);
-    assert_equal(rt, &line.as_slice(), &want);
+    let line = printed(rt, columns, statement, &remarks);
+    assert_equal_at(
+        rt,
+        &line.as_slice(),
+        &want.as_bytes(),
+        &"the line of a statement",
+    );
 }
 
-fn one<'a>(mnemonic: Mnemonic, mode: Mode, absolute: bool, operand: Expr<'a>) -> Statement<'a>
-    ensures { result ≡ Statement.Instr (record { mnemonic = mnemonic; mode = mode }) absolute (Operands.One operand.entry) }
-{
-    Statement::Instr {
-        op: Op { mnemonic, mode },
-        absolute,
-        operands: Operands::One(operand),
-    }
-}
+/// One byte, and a word.
+const NEAR: Expr<'static> = Expr::Number(0x0A);
 
-fn bare(mnemonic: Mnemonic, mode: Mode) -> Statement<'static>
-    ensures { result ≡ Statement.Instr (record { mnemonic = mnemonic; mode = mode }) false Operands.None }
-{
-    Statement::Instr {
-        op: Op { mnemonic, mode },
-        absolute: false,
-        operands: Operands::None,
+const FAR: Expr<'static> = Expr::Number(0xBEEF);
+
+const LABEL: Expr<'static> = Expr::Name(b"L1000", 0);
+
+/// The line of an instruction in each mode, with this first operand. Its second one, if it has two, is L1000.
+const OPERANDS: &[(Mnemonic, Mode, Expr<'static>, &str)] = &[
+    (Mnemonic::Rts, Mode::Imp, NEAR, "rts"),
+    (Mnemonic::Asl, Mode::Acc, NEAR, "asl     a"),
+    (Mnemonic::Lda, Mode::Imm, NEAR, "lda     #$0A"),
+    (Mnemonic::Lda, Mode::Zp, NEAR, "lda     $0A"),
+    (Mnemonic::Lda, Mode::Zpx, NEAR, "lda     $0A,x"),
+    (Mnemonic::Ldx, Mode::Zpy, NEAR, "ldx     $0A,y"),
+    (Mnemonic::Lda, Mode::Abs, FAR, "lda     $BEEF"),
+    (Mnemonic::Lda, Mode::Absx, FAR, "lda     $BEEF,x"),
+    (Mnemonic::Lda, Mode::Absy, FAR, "lda     $BEEF,y"),
+    (Mnemonic::Jmp, Mode::Ind, NEAR, "jmp     ($000A)"),
+    (Mnemonic::Lda, Mode::Indx, NEAR, "lda     ($0A,x)"),
+    (Mnemonic::Lda, Mode::Indy, NEAR, "lda     ($0A),y"),
+    (Mnemonic::Lda, Mode::Zpind, NEAR, "lda     ($0A)"),
+    (Mnemonic::Jmp, Mode::Absindx, NEAR, "jmp     ($000A,x)"),
+    (Mnemonic::Bne, Mode::Rel, NEAR, "bne     $000A"),
+    (Mnemonic::Bbr0, Mode::Zprel, NEAR, "bbr0    $0A,L1000"),
+    // An absolute operand has four digits, below $100 too.
+    (Mnemonic::Sta, Mode::Absy, NEAR, "sta     $000A,y"),
+    (Mnemonic::Jmp, Mode::Abs, NEAR, "jmp     $000A"),
+];
+
+/// Instructions whose operand has `a:` before it.
+const FORCED: &[(Mnemonic, Mode, Expr<'static>, &str)] = &[
+    (Mnemonic::Lda, Mode::Abs, NEAR, "lda     a:$000A"),
+    (Mnemonic::Lda, Mode::Absx, NEAR, "lda     a:$000A,x"),
+    (Mnemonic::Ldx, Mode::Absy, NEAR, "ldx     a:$000A,y"),
+    (Mnemonic::Lda, Mode::Abs, LABEL, "lda     a:L1000"),
+];
+
+/// The line of each instruction is that of its row, at the default columns.
+fn show_rows(
+    rt: &impl Abort,
+    alloc: Global,
+    absolute: bool,
+    rows: &[(Mnemonic, Mode, Expr<'static>, &str)],
+) {
+    for (mnemonic, mode, operand, want) in rows {
+        let statement = instruction(*mnemonic, *mode, absolute, *operand, LABEL);
+        let want = format!(in alloc; "        {want}\n").expect(rt, "format");
+        shows(rt, &Columns::default(), false, &statement, &want);
     }
 }
 
 #[test]
 fn operand_of_each_mode(rt: HostRuntime) {
-    let columns = Columns::default();
-    let near = Expr::Number(0x0A);
-    let far = Expr::Number(0xBEEF);
-    shows(
-        &rt,
-        &columns,
-        false,
-        &bare(Mnemonic::Rts, Mode::Imp),
-        b"        rts\n",
-    );
-    shows(
-        &rt,
-        &columns,
-        false,
-        &bare(Mnemonic::Asl, Mode::Acc),
-        b"        asl     a\n",
-    );
-    shows(
-        &rt,
-        &columns,
-        false,
-        &one(Mnemonic::Lda, Mode::Imm, false, near),
-        b"        lda     #$0A\n",
-    );
-    shows(
-        &rt,
-        &columns,
-        false,
-        &one(Mnemonic::Lda, Mode::Zp, false, near),
-        b"        lda     $0A\n",
-    );
-    shows(
-        &rt,
-        &columns,
-        false,
-        &one(Mnemonic::Lda, Mode::Zpx, false, near),
-        b"        lda     $0A,x\n",
-    );
-    shows(
-        &rt,
-        &columns,
-        false,
-        &one(Mnemonic::Ldx, Mode::Zpy, false, near),
-        b"        ldx     $0A,y\n",
-    );
-    shows(
-        &rt,
-        &columns,
-        false,
-        &one(Mnemonic::Lda, Mode::Abs, false, far),
-        b"        lda     $BEEF\n",
-    );
-    shows(
-        &rt,
-        &columns,
-        false,
-        &one(Mnemonic::Lda, Mode::Absx, true, near),
-        b"        lda     a:$000A,x\n",
-    );
-    shows(
-        &rt,
-        &columns,
-        false,
-        &one(Mnemonic::Lda, Mode::Absy, false, far),
-        b"        lda     $BEEF,y\n",
-    );
-    shows(
-        &rt,
-        &columns,
-        false,
-        &one(Mnemonic::Jmp, Mode::Ind, false, near),
-        b"        jmp     ($000A)\n",
-    );
-    shows(
-        &rt,
-        &columns,
-        false,
-        &one(Mnemonic::Lda, Mode::Indx, false, near),
-        b"        lda     ($0A,x)\n",
-    );
-    shows(
-        &rt,
-        &columns,
-        false,
-        &one(Mnemonic::Lda, Mode::Indy, false, near),
-        b"        lda     ($0A),y\n",
-    );
-    shows(
-        &rt,
-        &columns,
-        false,
-        &one(Mnemonic::Lda, Mode::Zpind, false, near),
-        b"        lda     ($0A)\n",
-    );
-    shows(
-        &rt,
-        &columns,
-        false,
-        &one(Mnemonic::Jmp, Mode::Absindx, false, near),
-        b"        jmp     ($000A,x)\n",
-    );
-    shows(
-        &rt,
-        &columns,
-        false,
-        &one(Mnemonic::Bne, Mode::Rel, false, near),
-        b"        bne     $000A\n",
-    );
-    let branch = Statement::Instr {
-        op: Op {
-            mnemonic: Mnemonic::Bbr0,
-            mode: Mode::Zprel,
-        },
-        absolute: false,
-        operands: Operands::Two(Expr::Number(0x12), Expr::Name(b"L1000", 0)),
-    };
-    shows(
-        &rt,
-        &columns,
-        false,
-        &branch,
-        b"        bbr0    $12,L1000\n",
-    );
+    show_rows(&rt, rt.alloc(), false, OPERANDS);
+    show_rows(&rt, rt.alloc(), true, FORCED);
 }
 
-#[test]
-fn forced_absolute(rt: HostRuntime) {
-    let columns = Columns::default();
-    let low = Expr::Number(0x12);
-    shows(
-        &rt,
-        &columns,
-        false,
-        &one(Mnemonic::Lda, Mode::Abs, true, low),
-        b"        lda     a:$0012\n",
-    );
-    shows(
-        &rt,
-        &columns,
-        false,
-        &one(Mnemonic::Sta, Mode::Absy, false, low),
-        b"        sta     $0012,y\n",
-    );
-    shows(
-        &rt,
-        &columns,
-        false,
-        &one(Mnemonic::Jmp, Mode::Abs, false, Expr::Number(0x14)),
-        b"        jmp     $0014\n",
-    );
-    shows(
-        &rt,
-        &columns,
-        false,
-        &one(Mnemonic::Lda, Mode::Abs, true, Expr::Name(b"L0012", 0)),
-        b"        lda     a:L0012\n",
-    );
-}
+/// What stands after the mnemonic for an operand in this mode, with offsets in hexadecimal or not.
+const OFFSETS: &[(bool, Mode, &[u8], u16, &str)] = &[
+    (false, Mode::Abs, b"L2002", 1, "L2002+1"),
+    (true, Mode::Abs, b"L2002", 1, "L2002+$01"),
+    (false, Mode::Abs, b"buf", 65535, "buf+65535"),
+    (true, Mode::Abs, b"buf", 0x100, "buf+$0100"),
+    (true, Mode::Zp, b"buf", 0, "buf"),
+];
 
 #[test]
 fn offsets_of_names(rt: HostRuntime) {
-    let columns = Columns::default();
-    shows(
-        &rt,
-        &columns,
-        false,
-        &one(Mnemonic::Lda, Mode::Abs, false, Expr::Name(b"L2002", 1)),
-        b"        lda     L2002+1\n",
-    );
-    shows(
-        &rt,
-        &columns,
-        true,
-        &one(Mnemonic::Lda, Mode::Abs, false, Expr::Name(b"L2002", 1)),
-        b"        lda     L2002+$01\n",
-    );
-    shows(
-        &rt,
-        &columns,
-        false,
-        &one(Mnemonic::Lda, Mode::Abs, false, Expr::Name(b"buf", 65535)),
-        b"        lda     buf+65535\n",
-    );
-    shows(
-        &rt,
-        &columns,
-        true,
-        &one(Mnemonic::Lda, Mode::Abs, false, Expr::Name(b"buf", 0x100)),
-        b"        lda     buf+$0100\n",
-    );
-    shows(
-        &rt,
-        &columns,
-        true,
-        &one(Mnemonic::Lda, Mode::Zp, false, Expr::Name(b"buf", 0)),
-        b"        lda     buf\n",
-    );
+    for (hexoffs, mode, name, offset, want) in OFFSETS {
+        let operand = Expr::Name(name, *offset);
+        let statement = instruction(Mnemonic::Lda, *mode, false, operand, NEAR);
+        let want = format!(in rt.alloc(); "        lda     {want}\n").expect(&rt, "format");
+        shows(&rt, &Columns::default(), *hexoffs, &statement, &want);
+    }
 }
+
+const OTHERS: &[(Statement<'static>, &str)] = &[
+    (Statement::Bytes(b"\xD0\x7F"), "        .byte   $D0,$7F\n"),
+    (Statement::Bytes(b"\x20"), "        .byte   $20\n"),
+    (Statement::SetCpu(Cpu::M6502), "        .setcpu \"6502\"\n"),
+    (Statement::Blank, "\n"),
+    (Statement::Remark(b"da65 listing"), "; da65 listing\n"),
+];
 
 #[test]
 fn other_statements(rt: HostRuntime) {
-    let columns = Columns::default();
-    shows(
-        &rt,
-        &columns,
-        false,
-        &Statement::Bytes(b"\xD0\x7F"),
-        b"        .byte   $D0,$7F\n",
-    );
-    shows(
-        &rt,
-        &columns,
-        false,
-        &Statement::Bytes(b"\x20"),
-        b"        .byte   $20\n",
-    );
-    shows(
-        &rt,
-        &columns,
-        false,
-        &Statement::SetCpu(Cpu::M6502),
-        b"        .setcpu \"6502\"\n",
-    );
-    shows(&rt, &columns, false, &Statement::Blank, b"\n");
-    shows(
-        &rt,
-        &columns,
-        false,
-        &Statement::Remark(b"da65 listing"),
-        b"; da65 listing\n",
-    );
-}
-
-#[test]
-fn columns_1_and_120(rt: HostRuntime) {
-    let first = Column::try_from(1).expect(&rt, "try_from");
-    let last = Column::try_from(120).expect(&rt, "try_from");
-    let operation = one(Mnemonic::Lda, Mode::Imm, false, Expr::Number(1));
-    let mut columns = Columns::default();
-    columns.mnemonic = first;
-    columns.argument = last;
-    let mut want = Line::new();
-    want.push(b'l');
-    want.push(b'd');
-    want.push(b'a');
-    for _ in 3..119 {
-        let _ = want.try_push(b' ');
+    for (statement, want) in OTHERS {
+        shows(&rt, &Columns::default(), false, statement, want);
     }
-    let _ = want.try_extend_from_slice(b"#$01\n");
-    shows(&rt, &columns, false, &operation, want.as_slice());
-    columns.argument = first;
-    shows(&rt, &columns, false, &operation, b"lda #$01\n");
 }
 
+/// The column of the mnemonic and that of its operand, then how many blanks stand before each of the two.
+const BLANKS: &[(u8, u8, usize, usize)] = &[
+    (1, 120, 0, 116),
+    (1, 1, 0, 1),
+    (9, 2, 8, 1),
+    (5, 8, 4, 1),
+    (5, 9, 4, 1),
+    (5, 10, 4, 2),
+];
+
 #[test]
-fn argument_before_mnemonic(rt: HostRuntime) {
-    let operation = one(Mnemonic::Lda, Mode::Imm, false, Expr::Number(1));
-    let mut columns = Columns::default();
-    columns.argument = Column::try_from(2).expect(&rt, "try_from");
-    shows(&rt, &columns, false, &operation, b"        lda #$01\n");
-    columns.mnemonic = Column::try_from(5).expect(&rt, "try_from");
-    columns.argument = Column::try_from(8).expect(&rt, "try_from");
-    shows(&rt, &columns, false, &operation, b"    lda #$01\n");
-    columns.argument = Column::try_from(9).expect(&rt, "try_from");
-    shows(&rt, &columns, false, &operation, b"    lda #$01\n");
-    columns.argument = Column::try_from(10).expect(&rt, "try_from");
-    shows(&rt, &columns, false, &operation, b"    lda  #$01\n");
+fn columns_of_the_operand(rt: HostRuntime) {
+    let load = instruction(Mnemonic::Lda, Mode::Imm, false, Expr::Number(1), NEAR);
+    for (mnemonic, argument, before, between) in BLANKS {
+        let mut columns = Columns::default();
+        columns.mnemonic = Column::try_from(*mnemonic).expect(&rt, "try_from");
+        columns.argument = Column::try_from(*argument).expect(&rt, "try_from");
+        let want = spaced(&rt, rt.alloc(), "", *before, "lda");
+        let want = spaced(&rt, rt.alloc(), &want, *between, "#$01\n");
+        shows(&rt, &columns, false, &load, &want);
+    }
 }
 
 #[test]
@@ -325,26 +146,22 @@ fn limits_of_the_types(rt: HostRuntime) {
     assert_equal(&rt, &Column::try_from(121), &Err(LimitError(121)));
     assert_equal(&rt, &LabelBreak::try_from(121), &Err(LimitError(121)));
     assert_equal(&rt, &Level::try_from(5), &Err(LimitError(5)));
-    assert_equal(
-        &rt,
-        &Column::try_from(120).expect(&rt, "try_from").get(),
-        &120,
-    );
-    assert_equal(
-        &rt,
-        &LabelBreak::try_from(0).expect(&rt, "try_from").get(),
-        &0,
-    );
-    assert_equal(&rt, &Level::try_from(4).expect(&rt, "try_from").get(), &4);
+    let text = format!(in rt.alloc(); "{}", LimitError(121)).expect(&rt, "format");
+    assert_equal(&rt, &text.as_str(), &"121 is out of range");
+    let numbers = [
+        Column::try_from(120).expect(&rt, "try_from").get(),
+        LabelBreak::try_from(0).expect(&rt, "try_from").get(),
+        Level::try_from(4).expect(&rt, "try_from").get(),
+    ];
+    assert_equal(&rt, &numbers, &[120, 0, 4]);
     let columns = Columns::default();
     let defaults = [
-        columns.mnemonic,
-        columns.argument,
-        columns.comment,
-        columns.text,
+        columns.mnemonic.get(),
+        columns.argument.get(),
+        columns.comment.get(),
+        columns.text.get(),
+        columns.label_break.get(),
     ];
-    for (column, want) in defaults.iter().zip([9u8, 17, 49, 81]) {
-        assert_equal(&rt, &column.get(), &want);
-    }
-    assert_equal(&rt, &columns.label_break.get(), &7);
+    assert_equal(&rt, &defaults, &[9, 17, 49, 81, 7]);
+    assert_equal(&rt, &Level::default().get(), &0);
 }
