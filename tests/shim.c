@@ -1,18 +1,19 @@
-/* Loaded before the C library (LD_PRELOAD), it counts a program's reads, writes and bytes of memory, and can refuse one
-   allocation.
-   At the end it writes four numbers on the file that SHIM_COUNTS names: the reads, the writes, the greatest number of bytes of
-   memory at one time, and the allocations. SHIM_REFUSE is the number of the allocation that is refused, counted from 1. */
+/* Loaded before the C library (LD_PRELOAD), it counts the files that a program opens, its reads, writes and bytes of memory, and can
+   refuse one allocation.
+   At the end it writes five numbers on the file that SHIM_COUNTS names: the files opened, the reads, the writes, the greatest number
+   of bytes of memory at one time, and the allocations. SHIM_REFUSE is the number of the allocation that is refused, counted from 1. */
 #define _GNU_SOURCE
 #include <dlfcn.h>
 #include <errno.h>
 #include <fcntl.h>
 #include <malloc.h>
+#include <stdarg.h>
 #include <stdio.h>
 #include <stdlib.h>
 #include <sys/syscall.h>
 #include <unistd.h>
 
-static unsigned long reads, writes, held, most, allocations, refused;
+static unsigned long opens, reads, writes, held, most, allocations, refused;
 static void *(*real_malloc)(size_t);
 static void *(*real_realloc)(void *, size_t);
 static void (*real_free)(void *);
@@ -24,7 +25,7 @@ __attribute__((constructor)) static void begin(void)
     real_malloc = dlsym(RTLD_NEXT, "malloc");
     real_realloc = dlsym(RTLD_NEXT, "realloc");
     real_free = dlsym(RTLD_NEXT, "free");
-    reads = writes = allocations = 0;
+    opens = reads = writes = allocations = 0;
     refused = number ? strtoul(number, NULL, 10) : 0;
 }
 
@@ -32,8 +33,8 @@ __attribute__((destructor)) static void end(void)
 {
     const char *name = getenv("SHIM_COUNTS");
     char text[100];
-    int length = snprintf(text, sizeof text, "%lu %lu %lu %lu\n", reads, writes, most, allocations);
-    int file = name ? open(name, O_WRONLY | O_CREAT | O_TRUNC, 0666) : -1;
+    int length = snprintf(text, sizeof text, "%lu %lu %lu %lu %lu\n", opens, reads, writes, most, allocations);
+    int file = name ? (int)syscall(SYS_openat, AT_FDCWD, name, O_WRONLY | O_CREAT | O_TRUNC, 0666) : -1;
 
     if (0 <= file)
         syscall(SYS_write, file, text, (size_t)length);
@@ -79,6 +80,32 @@ void free(void *block)
 {
     held -= block ? malloc_usable_size(block) : 0;
     real_free(block);
+}
+
+/* The mode of a file that may be created is the last argument. */
+#define OPENS(place)                                                        \
+    va_list rest;                                                           \
+    mode_t mode;                                                            \
+                                                                            \
+    opens++;                                                                \
+    va_start(rest, flags);                                                  \
+    mode = flags & (O_CREAT | O_TMPFILE) ? (mode_t)va_arg(rest, int) : 0;   \
+    va_end(rest);                                                           \
+    return (int)syscall(SYS_openat, place, name, flags, mode)
+
+int open(const char *name, int flags, ...)
+{
+    OPENS(AT_FDCWD);
+}
+
+int open64(const char *name, int flags, ...)
+{
+    OPENS(AT_FDCWD);
+}
+
+int openat(int folder, const char *name, int flags, ...)
+{
+    OPENS(folder);
 }
 
 ssize_t read(int file, void *bytes, size_t count)

@@ -1,5 +1,5 @@
 #!/usr/bin/env bash
-# How much the program does: its reads, its writes and its memory, which tests/shim.c counts, and how its time grows. And each of
+# How much the program does: the files that it opens, its reads, its writes and its memory, which tests/shim.c counts, and how its time grows. And each of
 # its allocations refused in turn.
 # Without cc, which makes the shim, it fails, unless CC=skip is set: then only the growth of time is tested.
 # Usage: tests/work.sh PROGRAM
@@ -19,12 +19,13 @@ fails() {
 
 # ---- calls and memory
 
-# counted WORD..: runs the program on the words, and sets reads, writes, most (bytes of memory at one time), allocations and status.
+# counted WORD..: runs the program on the words, and sets opens, reads, writes, most (bytes of memory at one time), allocations and
+# status.
 counted() {
     rm -f counts
     LD_PRELOAD=$work/shim.so SHIM_COUNTS=$work/counts "$program" "$@" >stdout 2>stderr </dev/null
     status=$?
-    read -r reads writes most allocations <counts || fails "$*" 'the shim counted nothing'
+    read -r opens reads writes most allocations <counts || fails "$*" 'the shim counted nothing'
 }
 
 # counts NAME READS WRITES BYTES WORD..: that many reads and writes, and at most that many bytes of memory at one time.
@@ -67,6 +68,9 @@ head -c 65536 /dev/zero | tr '\0' '\352' >large.bin
 } >all.info
 printf 'first = $20\nsecond := $2000\n' >names.inc
 : >empty.inc
+: >empty.bin
+printf 'GLOBAL { STARTADDR $1000; };\nRANGE { START $1001; END $1001; TYPE Skip; };' >skip.info
+printf '@' >bad.info
 
 if [ "$compiler" = skip ]; then
     echo 'work: calls, memory and refused allocations are left out, since CC=skip is set'
@@ -76,12 +80,19 @@ elif ! command -v "$compiler" >/dev/null; then
 else
     "$compiler" -O1 -shared -fPIC -o shim.so "$root/tests/shim.c" -ldl || exit 1
 
-    # 4 KiB a read and one read at the end, 8 KiB a write. The map of an image has two bytes for each address.
-    counts 'three bytes' 2 1 670000 three.bin
-    counts 'three bytes in a file' 2 1 670000 -o out.s three.bin
-    counts '64 KiB' 17 97 670000 large.bin
-    counts 'help' 0 1 40000 -h
-    counts 'an information file and include files' 7 1 675000 -i all.info
+    # /dev/null is opened three times, for standard streams that are closed. 4 KiB a read and one read at the end, 8 KiB a write. The
+    # map of an image has two bytes for each address.
+    counts 'three bytes' 0 4 2 1 670000 three.bin
+    counts 'three bytes in a file' 0 5 2 1 670000 -o out.s three.bin
+    counts '64 KiB' 0 4 17 97 670000 large.bin
+    counts 'help' 0 3 0 1 40000 -h
+    counts 'the version' 0 3 0 1 40000 -V
+    counts 'an information file and include files' 0 7 7 1 675000 -i all.info
+    counts 'a warning' 0 5 4 2 670000 -i skip.info three.bin
+    counts 'no input name' 1 3 0 1 670000
+    counts 'an empty input' 1 4 1 1 670000 empty.bin
+    counts 'a refused information file' 1 4 2 1 670000 -i bad.info three.bin
+    counts 'an input that is not there' 1 4 0 1 670000 no.bin
 
     refuses_in_turn 'the command line' 40 --cpu 65c02 -S 0x1000 --comments 4 --text-column 60 three.bin
     refuses_in_turn 'an information file and include files' 60 -i all.info
