@@ -31,6 +31,7 @@ test:
 	@rt ci 2>&1 | tee bin/gate.log
 	@cp crates/da65_cli/out/da65_cli bin/da65
 	tests/program.sh bin/da65
+	tests/sweeps.sh bin/da65
 	tests/work.sh bin/da65
 	tests/guide.sh bin/da65
 	tests/ca65.sh bin/da65 10

@@ -205,6 +205,7 @@ runs 'an empty input name' 1 '' 'da65: cannot read \n' ''
 runs 'an empty information file name' 1 '' 'da65: cannot read \n' -i '' three.bin
 runs 'an empty output name' 1 '' 'da65: cannot create \n' -o '' three.bin
 runs 'a hyphen is a name' 1 '' 'da65: cannot read -\n' -
+runs 'a hyphen as the information file' 1 '' 'da65: cannot read -\n' -i - three.bin
 runs 'a hyphen as the output' 0 '' '' -o - three.bin
 holds 'a hyphen as the output' - "$three"
 runs 'a hyphen as the input' 1 '' 'da65: bad number\n' -S x -

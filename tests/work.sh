@@ -1,6 +1,6 @@
 #!/usr/bin/env bash
-# How much the program does: the files that it opens, its reads, its writes and its memory, which tests/shim.c counts, and how its time grows. And each of
-# its allocations refused in turn.
+# How much the program does: the files that it opens, its reads, its writes and its memory, which tests/shim.c counts, and how its
+# time grows. And each of its allocations refused in turn.
 # Without cc, which makes the shim, it fails, unless CC=skip is set: then only the growth of time is tested.
 # Usage: tests/work.sh PROGRAM
 set -u
@@ -28,12 +28,14 @@ counted() {
     read -r opens reads writes most allocations <counts || fails "$*" 'the shim counted nothing'
 }
 
-# counts NAME READS WRITES BYTES WORD..: that many reads and writes, and at most that many bytes of memory at one time.
+# counts NAME STATUS OPENS READS WRITES BYTES WORD..: this status, that many files opened, reads and writes, and at most that many bytes
+# of memory at one time.
 counts() {
-    local name=$1 wanted_reads=$2 wanted_writes=$3 bytes=$4
-    shift 4
+    local name=$1 wanted=$2 wanted_opens=$3 wanted_reads=$4 wanted_writes=$5 bytes=$6
+    shift 6
     counted "$@"
-    [ "$status" = 0 ] || fails "$name" "status $status: $(cat stderr)"
+    [ "$status" = "$wanted" ] || fails "$name" "status $status and not $wanted: $(cat stderr)"
+    [ "$opens" = "$wanted_opens" ] || fails "$name" "$opens files opened and not $wanted_opens"
     [ "$reads" = "$wanted_reads" ] || fails "$name" "$reads reads and not $wanted_reads"
     [ "$writes" = "$wanted_writes" ] || fails "$name" "$writes writes and not $wanted_writes"
     [ "$most" -le "$bytes" ] || fails "$name" "$most bytes of memory and not at most $bytes"
@@ -82,17 +84,17 @@ else
 
     # /dev/null is opened three times, for standard streams that are closed. 4 KiB a read and one read at the end, 8 KiB a write. The
     # map of an image has two bytes for each address.
-    counts 'three bytes' 0 4 2 1 670000 three.bin
-    counts 'three bytes in a file' 0 5 2 1 670000 -o out.s three.bin
-    counts '64 KiB' 0 4 17 97 670000 large.bin
-    counts 'help' 0 3 0 1 40000 -h
-    counts 'the version' 0 3 0 1 40000 -V
-    counts 'an information file and include files' 0 7 7 1 675000 -i all.info
-    counts 'a warning' 0 5 4 2 670000 -i skip.info three.bin
-    counts 'no input name' 1 3 0 1 670000
-    counts 'an empty input' 1 4 1 1 670000 empty.bin
-    counts 'a refused information file' 1 4 2 1 670000 -i bad.info three.bin
-    counts 'an input that is not there' 1 4 0 1 670000 no.bin
+    counts 'three bytes' 0 4 2 1 662000 three.bin
+    counts 'three bytes in a file' 0 5 2 1 662000 -o out.s three.bin
+    counts '64 KiB' 0 4 17 97 662000 large.bin
+    counts 'help' 0 3 0 1 18000 -h
+    counts 'the version' 0 3 0 1 18000 -V
+    counts 'an information file and include files' 0 7 7 1 665000 -i all.info
+    counts 'a warning' 0 5 4 2 662000 -i skip.info three.bin
+    counts 'no input name' 1 3 0 1 662000
+    counts 'an empty input' 1 4 1 1 662000 empty.bin
+    counts 'a refused information file' 1 4 2 1 662000 -i bad.info three.bin
+    counts 'an input that is not there' 1 4 0 1 662000 no.bin
 
     refuses_in_turn 'the command line' 40 --cpu 65c02 -S 0x1000 --comments 4 --text-column 60 three.bin
     refuses_in_turn 'an information file and include files' 60 -i all.info
