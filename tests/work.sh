@@ -65,10 +65,11 @@ printf '\xa9\x01\x60' >three.bin
 head -c 65536 /dev/zero | tr '\0' '\352' >large.bin
 {
     printf 'GLOBAL { STARTADDR $1000; INPUTNAME "three.bin"; };\nASMINC { FILE "names.inc"; };\nASMINC { FILE "empty.inc"; };\n'
-    printf 'ASMINC { FILE "names.inc"; };\nRANGE { START $1000; END $1001; TYPE WordTable; NAME "table"; };\n'
+    printf 'ASMINC { FILE "names.inc"; };\nASMINC { FILE "more.inc"; };\nRANGE { START $1000; END $1001; TYPE WordTable; NAME "table"; };\n'
     printf 'SEGMENT { START $1002; END $1002; NAME "DATA"; };\nLABEL { ADDR $1002; NAME "last"; COMMENT "the end"; };\n'
 } >all.info
 printf 'first = $20\nsecond := $2000\n' >names.inc
+printf 'third = $30\n' >more.inc
 : >empty.inc
 : >empty.bin
 printf 'GLOBAL { STARTADDR $1000; };\nRANGE { START $1001; END $1001; TYPE Skip; };' >skip.info
@@ -89,7 +90,7 @@ else
     counts '64 KiB' 0 4 17 97 662000 large.bin
     counts 'help' 0 3 0 1 18000 -h
     counts 'the version' 0 3 0 1 18000 -V
-    counts 'an information file and include files' 0 7 7 1 665000 -i all.info
+    counts 'an information file and include files' 0 8 9 1 665000 -i all.info
     counts 'a warning' 0 5 4 2 662000 -i skip.info three.bin
     counts 'no input name' 1 3 0 1 662000
     counts 'an empty input' 1 4 1 1 662000 empty.bin
