@@ -85,17 +85,17 @@ else
 
     # /dev/null is opened three times, for standard streams that are closed. 4 KiB a read and one read at the end, 8 KiB a write. The
     # map of an image has two bytes for each address.
-    counts 'three bytes' 0 4 2 1 662000 three.bin
-    counts 'three bytes in a file' 0 5 2 1 662000 -o out.s three.bin
-    counts '64 KiB' 0 4 17 97 662000 large.bin
+    counts 'three bytes' 0 4 2 1 926500 three.bin
+    counts 'three bytes in a file' 0 5 2 1 926500 -o out.s three.bin
+    counts '64 KiB' 0 4 17 97 926500 large.bin
     counts 'help' 0 3 0 1 18000 -h
     counts 'the version' 0 3 0 1 18000 -V
-    counts 'an information file and include files' 0 8 9 1 665000 -i all.info
-    counts 'a warning' 0 5 4 2 662000 -i skip.info three.bin
-    counts 'no input name' 1 3 0 1 662000
-    counts 'an empty input' 1 4 1 1 662000 empty.bin
-    counts 'a refused information file' 1 4 2 1 662000 -i bad.info three.bin
-    counts 'an input that is not there' 1 4 0 1 662000 no.bin
+    counts 'an information file and include files' 0 8 9 1 929000 -i all.info
+    counts 'a warning' 0 5 4 2 926500 -i skip.info three.bin
+    counts 'no input name' 1 3 0 1 926500
+    counts 'an empty input' 1 4 1 1 926500 empty.bin
+    counts 'a refused information file' 1 4 2 1 926500 -i bad.info three.bin
+    counts 'an input that is not there' 1 4 0 1 926500 no.bin
 
     refuses_in_turn 'the command line' 40 --cpu 65c02 -S 0x1000 --comments 4 --text-column 60 three.bin
     refuses_in_turn 'an information file and include files' 60 -i all.info

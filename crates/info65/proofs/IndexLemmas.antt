@@ -19,6 +19,7 @@ use Rattle.info65.specs.Groups.{AssignmentView, GroupView}
 use Rattle.info65.specs.declared.attribute.GroupKind.{GroupKind}
 use Rattle.info65.specs.declared.attribute.GroupKind.TheVariants as kind
 use Rattle.info65.specs.Code.Index.{IsIndex, any_in, found_in, own, text_at}
+use Rattle.info65.specs.Code.Texts.{AreTexts, StandsToo, TextsView, stands_in}
 use Rattle.info65.specs.Labels.{is_at, is_elsewhere, label_in, name_fault, name_part, named_at, names_from, names_said, range_name}
 use Rattle.info65.specs.Names.{is_reserved}
 use Rattle.info65.specs.Ranges.{has_address, overlaps, range_in, ranges_of}
@@ -190,15 +191,16 @@ text_free names n new =
 -- ---- what is added
 
 -- the ranges of one range more
-pub range_added : (ranges : List RangeSpec) (names : List NameView) (table after : List Bool) (found : ℕ → Option Given) (stands : List ℕ → Option ℕ) (r : RangeSpec) → IsIndex ranges names table found stands → r.first ≤ r.last → length after ≡ length table
-    → ((a : ℕ) → a < 0x1_0000 → get_or after a false ≡ (get_or table a false || has_address r a)) → IsIndex (ranges ++ r ∷ []) names after found stands
-range_added ranges names table after found stands r i ordered long marked = record {
+pub range_added : (ranges : List RangeSpec) (names : List NameView) (table after : List Bool) (found : ℕ → Option Given) (texts : TextsView) (r : RangeSpec) → IsIndex ranges names table found texts → r.first ≤ r.last → length after ≡ length table
+    → ((a : ℕ) → a < 0x1_0000 → get_or after a false ≡ (get_or table a false || has_address r a)) → IsIndex (ranges ++ r ∷ []) names after found texts
+range_added ranges names table after found texts r i ordered long marked = record {
   ordered = All-push (λ (x : RangeSpec). x.first ≤ x.last) ranges r i.ordered ordered;
   size = long ∙ i.size;
   ranged = λ a low. marked a low ∙ ap (λ b. b || has_address r a) (i.ranged a low) ∙ ap (λ b. list_any (λ (x : RangeSpec). has_address x a) ranges || b) (sym (or_last (has_address r a))) ∙ sym (list_any-append (λ (x : RangeSpec). has_address x a) ranges (r ∷ []));
   distinct = i.distinct;
   addresses = i.addresses;
-  texts = i.texts;
+  slotted = i.slotted;
+  stands = i.stands;
 }
 
 chosen : {X : Type 0} (b : Bool) (x y : X) → b ≡ true → (if b then x else y) ≡ x
@@ -224,11 +226,10 @@ no_find p xs h = is_none (find p xs) (sym (is_some_find p xs) ∙ h)
     is_none None h = refl
     is_none (Some x) h = absurd (false≢true (sym h))
 
-pub name_added : (ranges : List RangeSpec) (names : List NameView) (table : List Bool) (found more : ℕ → Option Given) (stands told : List ℕ → Option ℕ) (n : Given) → IsIndex ranges names table found stands → name_fault names (given_seen n) ≡ None
-    → ((a : ℕ) → more a ≡ (if n.address == a then Some n else found a)) → ((t : List ℕ) → told t ≡ (if bytes_eq n.text.now t then Some n.address else stands t))
-    → IsIndex ranges (names ++ given_seen n ∷ []) table more told
+pub name_added : (ranges : List RangeSpec) (names : List NameView) (table : List Bool) (found more : ℕ → Option Given) (texts told : TextsView) (n : Given) → IsIndex ranges names table found texts → name_fault names (given_seen n) ≡ None
+    → ((a : ℕ) → more a ≡ (if n.address == a then Some n else found a)) → StandsToo found more n texts told → IsIndex ranges (names ++ given_seen n ∷ []) table more told
 unfolding named_at
-name_added ranges names table found more stands told n i fine here there =
+name_added ranges names table found more texts told n i fine here there =
     let new = no_fault names (given_seen n) fine in
     record {
       ordered = i.ordered;
@@ -242,29 +243,44 @@ name_added ranges names table found more stands told n i fine here there =
           let none : find (is_at a) names ≡ None = no_find (is_at a) names (ap (λ (k : ℕ). list_any (is_at k) names) (sym same) ∙ new.untaken) in
           ap (option_map given_seen) (here a ∙ chosen (n.address == a) (Some n) (found a) at) ∙ sym (find_more (is_at a) names (given_seen n) none at))
           (λ apart. ap (option_map given_seen) (here a ∙ passed (n.address == a) (Some n) (found a) apart) ∙ i.addresses a ∙ sym (find_same (is_at a) names (given_seen n) apart));
-      texts = λ t.
+      slotted = there.texts;
+      stands = λ t.
           by_test (bytes_eq t n.text.now)
           (λ at.
           let same : t ≡ n.text.now = same_text t n.text.now at in
           let back : bytes_eq n.text.now t ≡ true = (bytes_eq-Decides n.text.now t).1 (sym same) in
           let none : text_at names t ≡ None = ap (text_at names) same ∙ text_free names (given_seen n) new in
-          there t ∙ chosen (bytes_eq n.text.now t) (Some n.address) (stands t) back ∙ ap (option_map (λ (m : NameView). m.address)) (sym (find_more (λ (m : NameView). bytes_eq t m.text) names (given_seen n) none at)))
+          there.stands t ∙ chosen (bytes_eq n.text.now t) (Some n.address) (stands_in found texts t) back ∙ ap (option_map (λ (m : NameView). m.address)) (sym (find_more (λ (m : NameView). bytes_eq t m.text) names (given_seen n) none at)))
           (λ apart.
           let back : bytes_eq n.text.now t ≡ false = by_test (bytes_eq n.text.now t) (λ hit. absurd (false≢true (sym apart ∙ (bytes_eq-Decides t n.text.now).1 (sym (same_text n.text.now t hit))))) (λ miss. miss) in
-          there t ∙ passed (bytes_eq n.text.now t) (Some n.address) (stands t) back ∙ i.texts t ∙ ap (option_map (λ (m : NameView). m.address)) (sym (find_same (λ (m : NameView). bytes_eq t m.text) names (given_seen n) apart)));
+          there.stands t ∙ passed (bytes_eq n.text.now t) (Some n.address) (stands_in found texts t) back ∙ i.stands t ∙ ap (option_map (λ (m : NameView). m.address)) (sym (find_same (λ (m : NameView). bytes_eq t m.text) names (given_seen n) apart)));
     }
+
+-- its address has no name
+pub no_name_there : (ranges : List RangeSpec) (names : List NameView) (table : List Bool) (found : ℕ → Option Given) (texts : TextsView) (n : Given) → IsIndex ranges names table found texts → name_fault names (given_seen n) ≡ None → found n.address ≡ None
+unfolding named_at
+no_name_there ranges names table found texts n i fine = nothing (found n.address) (i.addresses n.address ∙ no_find (is_at n.address) names (no_fault names (given_seen n) fine).untaken)
+  where
+    nothing : (o : Option Given) → option_map given_seen o ≡ None → o ≡ None
+    nothing None h = refl
+    nothing (Some x) h = absurd cc
+
+-- and its text stands nowhere
+pub no_text_there : (ranges : List RangeSpec) (names : List NameView) (table : List Bool) (found : ℕ → Option Given) (texts : TextsView) (n : Given) → IsIndex ranges names table found texts → name_fault names (given_seen n) ≡ None → stands_in found texts n.text.now ≡ None
+no_text_there ranges names table found texts n i fine = i.stands n.text.now ∙ ap (option_map (λ (m : NameView). m.address)) (text_free names (given_seen n) (no_fault names (given_seen n) fine))
 
 -- ---- no groups
 
-pub no_index : (table : List Bool) (found : ℕ → Option Given) (stands : List ℕ → Option ℕ) → length table ≡ 0x1_0000 → ((a : ℕ) → get_or table a false ≡ false) → ((a : ℕ) → found a ≡ None) → ((t : List ℕ) → stands t ≡ None) → IsIndex [] [] table found stands
+pub no_index : (table : List Bool) (found : ℕ → Option Given) (texts : TextsView) → length table ≡ 0x1_0000 → ((a : ℕ) → get_or table a false ≡ false) → ((a : ℕ) → found a ≡ None) → AreTexts texts → ((t : List ℕ) → stands_in found texts t ≡ None) → IsIndex [] [] table found texts
 unfolding named_at
-no_index table found stands size blank none silent = record {
+no_index table found texts size blank none are silent = record {
   ordered = λ k d l. absurd (omega (arith, l));
   size = size;
   ranged = λ a low. blank a;
   distinct = λ i j d lt l. absurd (omega (arith, l));
   addresses = λ a. ap (option_map given_seen) (none a);
-  texts = λ t. silent t;
+  slotted = are;
+  stands = λ t. silent t;
 }
 
 -- ---- the faults of a group
@@ -384,26 +400,26 @@ range_fine before given r h is =
     let same : c.range ≡ r = same_ok (sym c.is ∙ is) in
     ap (λ (x : RangeSpec). optional_name_fault (names_said before) (range_name given x)) (sym same) ∙ c.named
 
-moved : (ranges rs : List RangeSpec) (names ns : List NameView) (t : List Bool) (f : ℕ → Option Given) (s : List ℕ → Option ℕ) → rs ≡ ranges → ns ≡ names → IsIndex ranges names t f s → IsIndex rs ns t f s
+moved : (ranges rs : List RangeSpec) (names ns : List NameView) (t : List Bool) (f : ℕ → Option Given) (s : TextsView) → rs ≡ ranges → ns ≡ names → IsIndex ranges names t f s → IsIndex rs ns t f s
 moved ranges rs names ns t f s e d i = rw (e, d) i
 
-pub global_said : (before : List GroupView) (given : List AssignmentView) (t : List Bool) (f : ℕ → Option Given) (s : List ℕ → Option ℕ) → IsIndex (ranges_of before) (names_said before) t f s
+pub global_said : (before : List GroupView) (given : List AssignmentView) (t : List Bool) (f : ℕ → Option Given) (s : TextsView) → IsIndex (ranges_of before) (names_said before) t f s
     → IsIndex (ranges_of (before ++ record { kind = kind.Global; given = given } ∷ [])) (names_said (before ++ record { kind = kind.Global; given = given } ∷ [])) t f s
 global_said before given t f s i = moved _ _ _ _ t f s (ranges_more_other before kind.Global given (λ e. absurd cc)) (names_more_global before given) i
 
-pub segment_said : (before : List GroupView) (given : List AssignmentView) (t : List Bool) (f : ℕ → Option Given) (s : List ℕ → Option ℕ) → IsIndex (ranges_of before) (names_said before) t f s
+pub segment_said : (before : List GroupView) (given : List AssignmentView) (t : List Bool) (f : ℕ → Option Given) (s : TextsView) → IsIndex (ranges_of before) (names_said before) t f s
     → IsIndex (ranges_of (before ++ record { kind = kind.Segment; given = given } ∷ [])) (names_said (before ++ record { kind = kind.Segment; given = given } ∷ [])) t f s
 segment_said before given t f s i = moved _ _ _ _ t f s (ranges_more_other before kind.Segment given (λ e. absurd cc)) (names_more_segment before given) i
 
-pub include_said : (before : List GroupView) (given : List AssignmentView) (t : List Bool) (f : ℕ → Option Given) (s : List ℕ → Option ℕ) → IsIndex (ranges_of before) (names_said before) t f s
+pub include_said : (before : List GroupView) (given : List AssignmentView) (t : List Bool) (f : ℕ → Option Given) (s : TextsView) → IsIndex (ranges_of before) (names_said before) t f s
     → IsIndex (ranges_of (before ++ record { kind = kind.Include; given = given } ∷ [])) (names_said (before ++ record { kind = kind.Include; given = given } ∷ [])) t f s
 include_said before given t f s i = moved _ _ _ _ t f s (ranges_more_other before kind.Include given (λ e. absurd cc)) (names_more_include before given) i
 
-pub range_said : (before : List GroupView) (given : List AssignmentView) (r : RangeSpec) (n : Option NameView) (t : List Bool) (f : ℕ → Option Given) (s : List ℕ → Option ℕ) → range_in given ≡ Ok r → n ≡ range_name given r → IsIndex (ranges_of before ++ r ∷ []) (names_said before ++ option_to_list n) t f s
+pub range_said : (before : List GroupView) (given : List AssignmentView) (r : RangeSpec) (n : Option NameView) (t : List Bool) (f : ℕ → Option Given) (s : TextsView) → range_in given ≡ Ok r → n ≡ range_name given r → IsIndex (ranges_of before ++ r ∷ []) (names_said before ++ option_to_list n) t f s
     → IsIndex (ranges_of (before ++ record { kind = kind.Range; given = given } ∷ [])) (names_said (before ++ record { kind = kind.Range; given = given } ∷ [])) t f s
 range_said before given r n t f s is named i = moved _ _ _ _ t f s (ranges_more_range before given r is) (names_more_range before given r is ∙ ap (λ (o : Option NameView). names_said before ++ option_to_list o) (sym named)) i
 
-pub label_said : (before : List GroupView) (given : List AssignmentView) (n : NameView) (t : List Bool) (f : ℕ → Option Given) (s : List ℕ → Option ℕ) → label_in given ≡ Ok n → IsIndex (ranges_of before) (names_said before ++ n ∷ []) t f s
+pub label_said : (before : List GroupView) (given : List AssignmentView) (n : NameView) (t : List Bool) (f : ℕ → Option Given) (s : TextsView) → label_in given ≡ Ok n → IsIndex (ranges_of before) (names_said before ++ n ∷ []) t f s
     → IsIndex (ranges_of (before ++ record { kind = kind.Label; given = given } ∷ [])) (names_said (before ++ record { kind = kind.Label; given = given } ∷ [])) t f s
 label_said before given n t f s is i = moved _ _ _ _ t f s (ranges_more_other before kind.Label given (λ e. absurd cc)) (names_more_label before given n is) i
 

@@ -26,5 +26,6 @@ mod SegmentLemmas
 mod SegmentTableLemmas
 mod SpellingLemmas
 mod StandLemmas
+mod TextsLemmas
 mod TokenLemmas
 pub mod Public

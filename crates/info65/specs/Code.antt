@@ -8,4 +8,6 @@ pub mod Reading
 pub mod Results
 pub mod SegmentTable
 pub mod Segments
+pub mod Slots
 pub mod Steps
+pub mod Texts

@@ -7,6 +7,7 @@ ghost use Rattle.info65.specs.Code.Groups.{assignment_seen};
 ghost use Rattle.info65.specs.Code.Includes.{SeesName};
 ghost use Rattle.info65.specs.Code.Index.{Indexes, IndexesGroups, found_in};
 ghost use Rattle.info65.specs.Code.Names.{given_seen};
+ghost use Rattle.info65.specs.Code.Texts.{stands_in, texts_seen};
 ghost use Rattle.info65.specs.Faults.{out_of_memory};
 ghost use Rattle.info65.specs.Code.Results.{Gives};
 ghost use Rattle.info65.specs.Groups.{GroupView};
@@ -28,8 +29,8 @@ use crate::places::Places;
 use crate::pool::Pool;
 use crate::range::RangeSpec;
 use crate::range_groups::range_in;
+use crate::texts::Texts;
 use std::alloc::Allocator;
-use std::collections::BTreeMap;
 
 // The bytes of the longest name.
 const LONGEST_NAME: usize = 80;
@@ -43,8 +44,8 @@ pub struct Index<'a, A: Allocator> {
     pub names: Vec<Given<'a>, A>,
     /// Where the name of an address stands, if it has one: other places are those of other names or of none.
     pub places: Places<A>,
-    /// The address of each name, by its text.
-    pub by_text: BTreeMap<&'a [u8], u16, A>,
+    /// Where the names are found by their texts.
+    pub texts: Texts<'a, A>,
 }
 
 impl<'a, A: Allocator + Copy> Index<'a, A> {
@@ -55,12 +56,12 @@ impl<'a, A: Allocator + Copy> Index<'a, A> {
         let ranged = blank_table(alloc, ADDRESSES)?;
         let names = Vec::new(alloc);
         let places = Places::new(alloc)?;
-        let by_text = BTreeMap::new(alloc);
+        let texts = Texts::new(alloc)?;
         Ok(Index {
             ranged,
             names,
             places,
-            by_text,
+            texts,
         })
     }
 
@@ -74,12 +75,25 @@ impl<'a, A: Allocator + Copy> Index<'a, A> {
         }
     }
 
+    // The address of the name with this text.
+    fn address_of(&self, text: &'a [u8]) -> Option<u16>
+        ensures { result ≡ stands_in (found_in self.now.names.items self.now.places) (texts_seen self.now.texts) text.entry.now }
+    {
+        match self.texts.slotted(text) {
+            Some(address) => match self.named_at(address) {
+                Some(name) if name.text == text => Some(name.address),
+                _ => self.texts.other(text),
+            },
+            None => None,
+        }
+    }
+
     // The text of the name stands at another address.
     fn is_elsewhere(&self, name: Given<'a>) -> bool
         ensures { (ranges : List RangeSpec) (names : List NameView) → Indexes ranges names self.now → result ≡ list_any (is_elsewhere (given_seen name.entry)) names }
     {
-        match self.by_text.get(&name.text) {
-            Some(address) => *address != name.address,
+        match self.address_of(name.text) {
+            Some(address) => address != name.address,
             None => false,
         }
     }
@@ -164,7 +178,7 @@ impl<'a, A: Allocator + Copy> Index<'a, A> {
         ensures err { IfErr result (λ e. e ≡ out_of_memory) }
     {
         let place = self.names.as_slice().len();
-        self.by_text.insert(name.text, name.address)?;
+        self.texts.add(name)?;
         self.names.push(name)?;
         self.places.set(name.address, place);
         Ok(())

@@ -44,6 +44,8 @@ mod segment;
 mod segment_groups;
 mod segment_table;
 mod settings;
+mod slots;
+mod texts;
 mod token;
 mod values;
 

@@ -1,11 +1,9 @@
 -- The index of closed groups: what answers for ranges and names without reading the groups again.
 use Rattle.std.specs.Prelude.{◌≡◌, ◌≢◌, ◌≤◌, ◌<◌, ◌+◌, ◌==◌, ◌||◌, ℕ, zero, suc, Bool, false, List, Option, Some, None, All, AllPairs, get_or, length, option_map, slice_get, if◌then◌else◌}
-use Rattle.std.specs.BTreeMap as tree
-use Rattle.std.specs.Cmp.Lexicographic.{slice_cmp}
 use Rattle.std.specs.List.{find, list_any}
-use Rattle.std.specs.Ordering.{nat_cmp}
 use Rattle.std.specs.Str.{bytes_eq}
 use Rattle.info65.specs.Code.Names.{given_seen}
+use Rattle.info65.specs.Code.Texts.{AreTexts, TextsView, stands_in, texts_seen}
 use Rattle.info65.specs.Groups.{GroupView}
 use Rattle.info65.specs.Labels.{named_at, names_said}
 use Rattle.info65.specs.Ranges.{has_address, ranges_of}
@@ -33,19 +31,19 @@ own a (Some n) = if n.address == a then Some n else None
 abbrev pub found_in : List Given → List ℕ → ℕ → Option Given
 found_in names places a = own a (slice_get names (get_or places a 0))
 
--- The cells say which addresses belong to a range, `found` has the name of each address and `stands` the
--- address of each text.
-pub record IsIndex (ranges : List RangeSpec) (names : List NameView) (table : List Bool) (found : ℕ → Option Given) (stands : List ℕ → Option ℕ) : Type 0 where
+-- The cells say which addresses belong to a range, `found` has the name of each address, and `texts` where each text stands.
+pub record IsIndex (ranges : List RangeSpec) (names : List NameView) (table : List Bool) (found : ℕ → Option Given) (texts : TextsView) : Type 0 where
   pub ordered : All (λ r. r.first ≤ r.last) ranges
   pub size : length table ≡ 0x1_0000
   pub ranged : (a : ℕ) → a < 0x1_0000 → get_or table a false ≡ list_any (λ r. has_address r a) ranges
   pub distinct : AllPairs (λ n m. n.text ≢ m.text) names
   pub addresses : (a : ℕ) → option_map given_seen (found a) ≡ named_at names a
-  pub texts : (t : List ℕ) → stands t ≡ option_map (λ n. n.address) (text_at names t)
+  pub slotted : AreTexts texts
+  pub stands : (t : List ℕ) → stands_in found texts t ≡ option_map (λ n. n.address) (text_at names t)
 
 -- the index is that of these ranges and names
 abbrev pub Indexes : {Z : Type 0} → List RangeSpec → List NameView → Index Z → Type 0
-Indexes ranges names i = IsIndex ranges names i.ranged.items (found_in i.names.items i.places) (λ t. tree.get_by (λ k. slice_cmp nat_cmp t k.now) i.by_text)
+Indexes ranges names i = IsIndex ranges names i.ranged.items (found_in i.names.items i.places) (texts_seen i.texts)
 
 -- the index is that of what these groups say
 abbrev pub IndexesGroups : {Z : Type 0} → List GroupView → Index Z → Type 0
