@@ -7,7 +7,7 @@ set -u
 cd "$(dirname "$0")/../crates" || exit 1
 
 # Contracts, imports, comments and signatures are left out: what stands is where such an answer is made or looked at.
-found=$(find . -path './*/src/*' -name '*.rt' ! -path './conformance/*' ! -path './unit_tests/*' | while read -r file; do
+found=$(find . -path './*/src/*' -name '*.rt' ! -path './*/out/*' ! -path './conformance/*' ! -path './unit_tests/*' | while read -r file; do
     lines=$(grep -vE '^ *(//|ensures|requires|ghost|use |pub use |(pub |pub\(crate\) )?fn |impl|\) -> )' "$file" |
         grep -cE '\b(AllocError|AllocFailed|OutOfMemory|out_of_memory)\b|::(Memory|MEMORY)\b')
     crate=${file#./}
