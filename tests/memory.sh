@@ -16,7 +16,7 @@ done | LC_ALL=C sort)
 
 allowed=$(LC_ALL=C sort <<'END'
 da65/messages.rt 1
-da65/needing.rt 2
+da65/needs.rt 2
 da65/preparing.rt 2
 da65/running.rt 3
 da65/usage.rt 2

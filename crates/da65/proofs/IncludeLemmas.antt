@@ -8,8 +8,8 @@ use Rattle.info65.specs.Views.{IncludeView, InfoView, OptionsView}
 use Rattle.da65.specs.Code.Preparing.{Stops}
 use Rattle.da65.specs.Files.{FileView}
 use Rattle.da65.specs.Outcome.{◌>>=◌, accepted, no_input_message, with_file, with_includes}
-use Rattle.da65.specs.declared.preparing.Stop.{Stop}
-use Rattle.da65.specs.declared.preparing.Stop.TheVariants.{Memory, Refused}
+use Rattle.da65.specs.declared.runs.preparing.Stop.{Stop}
+use Rattle.da65.specs.declared.runs.preparing.Stop.TheVariants.{Memory, Refused}
 
 -- the information file names no input
 pub unnamed : (o : OptionsView) (info : List ℕ) (i : InfoView) → information o info ≡ Ok i → is_some i.settings.input ≡ false → accepted o info ≡ Err no_input_message

@@ -50,7 +50,7 @@ pub mod GroupBlocks
 pub mod WholeBlock
 pub mod MapListing
 pub mod NameTexts
-pub mod EnteringLemmas
+pub mod ReentryLemmas
 mod KeySetLemmas
 pub mod IncludeFacts
 pub mod IncludeLemmas

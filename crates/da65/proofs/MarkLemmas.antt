@@ -23,7 +23,7 @@ use Rattle.da65.specs.Listing.{ListingLine, comment_line, comment_lines, comment
 use Rattle.da65.specs.Marks.{HasMarks, HasNoComments, HasNoMarks}
 use Rattle.da65.specs.Segments.{segment_at}
 use Rattle.da65.specs.Style.{style_of}
-use Rattle.da65.specs.declared.style.Style.{Style}
+use Rattle.da65.specs.declared.listing.style.Style.{Style}
 use Rattle.da65.proofs.SegmentLemmas.{segment-none}
 
 bare-comment : (m : MapView) (a : ℕ) → HasNoComments m.info.names → comment_at m a ≡ None

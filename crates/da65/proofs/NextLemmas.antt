@@ -32,9 +32,9 @@ use Rattle.da65.specs.Instructions.{instruction_in, size_of}
 use Rattle.da65.specs.Shapes.{IsGroupOf, IsLineOf}
 use Rattle.da65.specs.Statements.{statement_at, statement_for}
 use Rattle.da65.specs.Style.{style_of}
-use Rattle.da65.specs.declared.place.ListingPlace.{ListingPlace}
-use Rattle.da65.specs.declared.place.ListingPlace.TheVariants.{AfterTitle, Constant, Group, Comment, Ending}
-use Rattle.da65.specs.declared.style.Style.{Style}
+use Rattle.da65.specs.declared.listing.place.ListingPlace.{ListingPlace}
+use Rattle.da65.specs.declared.listing.place.ListingPlace.TheVariants.{AfterTitle, Constant, Group, Comment, Ending}
+use Rattle.da65.specs.declared.listing.style.Style.{Style}
 use Rattle.da65.proofs.EntryLemmas.{few_entries}
 use Rattle.da65.proofs.GroupLemmas.{group-some, groups-end, groups-first, groups-next, groups-skip, place-next}
 use Rattle.da65.proofs.LabelLaws.{group_takes}

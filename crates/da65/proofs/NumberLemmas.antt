@@ -6,7 +6,7 @@ use Rattle.std.proofs.lemmas.Bool.Decides.{nat_tests}
 use Rattle.info65.specs.Digits.{number_of_digits}
 use Rattle.info65.specs.Lexemes.{are_digits}
 use Rattle.da65.specs.Number.{number_in}
-use Rattle.da65.specs.declared.usage_fault.UsageFault.TheVariants.{BadNumber, OutOfRange}
+use Rattle.da65.specs.declared.command_line.usage_fault.UsageFault.TheVariants.{BadNumber, OutOfRange}
 
 by_test : {P : Type 0} (b : Bool) → (b ≡ true → P) → (b ≡ false → P) → P
 by_test true f g = f refl

@@ -36,7 +36,7 @@ use Rattle.da65.specs.Instructions.{instruction_in}
 use Rattle.da65.specs.Listing.{ListingLine, line_text, remarks_of}
 use Rattle.da65.specs.Statements.{addr_from, address_entry, address_expr, bytes_statement, constant_base, expr_from, is_forced, operands_of, directive_of, entries_or_byte, numbers, return_entry, rts_from, rts_to, statement_by, statement_for, statement_in, statement_of, written, zero_page_expr}
 use Rattle.da65.specs.Shapes.{IsGroupOf, IsLineOf}
-use Rattle.da65.specs.declared.style.Style.{Style}
+use Rattle.da65.specs.declared.listing.style.Style.{Style}
 use Rattle.da65.proofs.EntryLemmas.{address_bytes, few_entries, number_small, numbers_print}
 use Rattle.da65.proofs.FragmentLaws.{target_is}
 use Rattle.da65.proofs.NameTexts.{IsNameText}

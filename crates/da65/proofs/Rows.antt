@@ -5,7 +5,7 @@ use Rattle.info65.specs.Views.{InfoView, SettingsView, default_settings}
 use Rattle.map65.specs.Image.{image_by, image_of}
 use Rattle.da65.specs.Files.{FileView}
 use Rattle.da65.specs.Outcome.{image_message, no_input_message, outcome_by, with_all_includes, with_input, with_includes, Outcome, ◌>>=◌}
-use Rattle.da65.specs.declared.outcome.Status.TheVariants.{Refused}
+use Rattle.da65.specs.declared.runs.outcome.Status.TheVariants.{Refused}
 
 abbrev without_ranges : SettingsView → InfoView
 without_ranges s = record { settings = s; ranges = []; segments = []; names = []; includes = [] }

@@ -11,8 +11,8 @@ use Rattle.map65.specs.MapView.{MapView}
 use Rattle.da65.specs.Groups.{skips}
 use Rattle.da65.specs.Listing.{lines_of, text_of}
 use Rattle.da65.specs.RunLaw.{Took}
-use Rattle.da65.specs.declared.outcome.RunFault.{RunFault}
-use Rattle.da65.specs.declared.outcome.Status.{Status}
+use Rattle.da65.specs.declared.runs.outcome.RunFault.{RunFault}
+use Rattle.da65.specs.declared.runs.outcome.Status.{Status}
 use Rattle.da65.proofs.TextLaws.{text_gives_image}
 
 -- the lines of a map without skipped bytes were written, so the image is meant

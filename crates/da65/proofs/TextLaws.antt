@@ -27,7 +27,7 @@ use Rattle.da65.specs.Listing.{ListingLine, assignment_line, comment_line, comme
 use Rattle.da65.specs.Segments.{is_same_segment, segment_at, segment_before, segment_statement}
 use Rattle.da65.specs.Statements.{statement_at}
 use Rattle.da65.specs.Style.{style_of}
-use Rattle.da65.specs.declared.style.Style.{Style}
+use Rattle.da65.specs.declared.listing.style.Style.{Style}
 use Rattle.da65.specs.ReassemblyLaw.{TextGivesImage, reading_of_line}
 use Rattle.da65.proofs.CommentLemmas.{comment-printable, segment-printable}
 use Rattle.da65.proofs.DefinedLemmas.{Defined, defined-base}

@@ -1,7 +1,7 @@
 -- What ties the code to the rules: what its parts have done, for each of their results.
 pub mod Bases
 pub mod CommandRules
-pub mod Entering
+pub mod SegmentReentry
 pub mod KeySet
 pub mod Layout
 pub mod Preparing

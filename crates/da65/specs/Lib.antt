@@ -3,7 +3,7 @@ pub mod Choices
 pub mod Code
 pub mod Comments
 pub mod Command
-pub mod Entering
+pub mod SegmentReentry
 pub mod Files
 pub mod Groups
 pub mod Help

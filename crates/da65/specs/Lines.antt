@@ -17,9 +17,9 @@ use Rattle.da65.specs.Marks.{HasMarks}
 use Rattle.da65.specs.Segments.{segment_at, segment_before}
 use Rattle.da65.specs.Statements.{statement_at}
 use Rattle.da65.specs.Style.{style_of}
-use Rattle.da65.specs.declared.place.ListingPlace.{ListingPlace}
-use Rattle.da65.specs.declared.place.ListingPlace.TheVariants.{Title, AfterTitle, CpuLine, AfterCpu, Constant, Assignment, Group, Segment, Comment, Forward, Statement, Ending}
-use Rattle.da65.specs.declared.style.Style.{Style}
+use Rattle.da65.specs.declared.listing.place.ListingPlace.{ListingPlace}
+use Rattle.da65.specs.declared.listing.place.ListingPlace.TheVariants.{Title, AfterTitle, CpuLine, AfterCpu, Constant, Assignment, Group, Segment, Comment, Forward, Statement, Ending}
+use Rattle.da65.specs.declared.listing.style.Style.{Style}
 use Rattle.stmt65.specs.Views as view
 
 -- the lines of the groups from the k-th byte on

@@ -26,7 +26,7 @@ use Rattle.da65.specs.Groups.{group_addresses, group_bytes, group_len}
 use Rattle.da65.specs.Segments.{is_same_segment, segment_at, segment_before, segment_statement}
 use Rattle.da65.specs.Statements.{statement_at}
 use Rattle.da65.specs.Style.{style_of}
-use Rattle.da65.specs.declared.style.Style.{Style}
+use Rattle.da65.specs.declared.listing.style.Style.{Style}
 
 -- a line: the label before its statement, if there is one, and the statement, with its address and its bytes if it is that of a group
 pub record ListingLine : Type 0 where

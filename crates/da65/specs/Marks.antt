@@ -2,7 +2,7 @@
 use Rattle.std.specs.Prelude.{◌≡◌, ◌≢◌, ◌⊎◌, ℕ, ◌<◌, List, [], length, None}
 use Rattle.info65.specs.Names.{name_at}
 use Rattle.info65.specs.Views.{InfoView, NameView}
-use Rattle.da65.specs.declared.style.Style.{Style}
+use Rattle.da65.specs.declared.listing.style.Style.{Style}
 
 -- none of the names has a comment
 abbrev pub HasNoComments : List NameView → Type 0

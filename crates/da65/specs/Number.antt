@@ -3,8 +3,8 @@ use Rattle.std.specs.Prelude.{ℕ, List, Result, Ok, Err, ◌||◌, drop, codes,
 use Rattle.std.specs.List.{starts_with}
 use Rattle.std.specs.Str.Parse.{digits_value}
 use Rattle.info65.specs.Lexemes.{are_digits}
-use Rattle.da65.specs.declared.usage_fault.UsageFault.{UsageFault}
-use Rattle.da65.specs.declared.usage_fault.UsageFault.TheVariants.{BadNumber, OutOfRange}
+use Rattle.da65.specs.declared.command_line.usage_fault.UsageFault.{UsageFault}
+use Rattle.da65.specs.declared.command_line.usage_fault.UsageFault.TheVariants.{BadNumber, OutOfRange}
 
 -- the number that the digits write, at most `most`; no digit, or any other byte, is a bad number
 unfoldable pub number_in : ℕ → ℕ → List ℕ → Result ℕ UsageFault

@@ -10,12 +10,12 @@ use Rattle.map65.specs.ImageView.{ImageView}
 use Rattle.map65.specs.MapView.{MapView}
 use Rattle.map65.specs.declared.image.ImageFault.{ImageFault}
 use Rattle.map65.specs.declared.image.ImageFault.TheVariants.{Empty, TooLarge, Short, Read, Memory}
-use Rattle.da65.specs.Entering.{is_entered_again}
+use Rattle.da65.specs.SegmentReentry.{is_entered_again}
 use Rattle.da65.specs.Files.{FileView, file_named}
 use Rattle.da65.specs.Groups.{skips}
 use Rattle.da65.specs.Listing.{lines_of, text_of}
-use Rattle.da65.specs.declared.outcome.Status.{Status}
-use Rattle.da65.specs.declared.outcome.Status.TheVariants.{Done, Refused}
+use Rattle.da65.specs.declared.runs.outcome.Status.{Status}
+use Rattle.da65.specs.declared.runs.outcome.Status.TheVariants.{Done, Refused}
 
 pub record Outcome : Type 0 where
   pub listing : List ℕ

@@ -7,9 +7,9 @@ use Rattle.map65.specs.Image.{image_of}
 use Rattle.map65.specs.ImageView.{ImageView}
 use Rattle.map65.specs.declared.image.ImageFault.{ImageFault}
 use Rattle.da65.specs.Groups.{skips}
-use Rattle.da65.specs.declared.outcome.RunFault.{RunFault}
-use Rattle.da65.specs.declared.outcome.Status.{Status}
-use Rattle.da65.specs.declared.outcome.Status.TheVariants.{Done, Refused}
+use Rattle.da65.specs.declared.runs.outcome.RunFault.{RunFault}
+use Rattle.da65.specs.declared.runs.outcome.Status.{Status}
+use Rattle.da65.specs.declared.runs.outcome.Status.TheVariants.{Done, Refused}
 
 -- a text was written that means the image's bytes, from its start
 pub record Took (image : ImageView) (old new : Option (List ℕ)) : Type 0 where

@@ -4,9 +4,9 @@ use Rattle.std.specs.Io.KnownBytes.{Keeps, Appends}
 use Rattle.info65.specs.Views.{InfoView}
 use Rattle.map65.specs.Device.{one_more, AppendsFront}
 use Rattle.map65.specs.Image.{read_limit}
-use Rattle.da65.specs.declared.outcome.Status.{Status}
-use Rattle.da65.specs.declared.outcome.RunFault.{RunFault}
-use Rattle.da65.specs.declared.outcome.RunFault.TheVariants.{Memory, Write, Messages}
+use Rattle.da65.specs.declared.runs.outcome.Status.{Status}
+use Rattle.da65.specs.declared.runs.outcome.RunFault.{RunFault}
+use Rattle.da65.specs.declared.runs.outcome.RunFault.TheVariants.{Memory, Write, Messages}
 use Rattle.da65.specs.Outcome.{Outcome}
 
 -- Ok: listing and messages were written whole. A failed write has written a prefix of its part, and nothing was written after it.

@@ -9,9 +9,9 @@ use Rattle.info65.specs.Views.{OptionsView}
 use Rattle.da65.specs.Choices.{argument_column_choice, comment_column_choice, comments_choice, cpu_choice, help_choice, hexoffs_choice, info_choice, input_id, label_break_choice, mnemonic_column_choice, output_choice, start_choice, text_column_choice, version_choice}
 use Rattle.da65.specs.Command.{faults_on, rows_on}
 use Rattle.da65.specs.Number.{address_in, decimal_in}
-use Rattle.da65.specs.declared.usage.Layout.{Layout}
-use Rattle.da65.specs.declared.usage_fault.UsageFault.{UsageFault}
-use Rattle.da65.specs.declared.usage_fault.UsageFault.TheVariants.{Words, OutOfRange, Memory}
+use Rattle.da65.specs.declared.command_line.usage.Layout.{Layout}
+use Rattle.da65.specs.declared.command_line.usage_fault.UsageFault.{UsageFault}
+use Rattle.da65.specs.declared.command_line.usage_fault.UsageFault.TheVariants.{Words, OutOfRange, Memory}
 
 -- the fault is the one of the definition, unless memory ran out
 abbrev pub Fails : {A : Type 0} → UsageFault → Result A UsageFault → Type 0

@@ -4,9 +4,9 @@ use Rattle.std.proofs.lemmas.List.{append-nil}
 use Rattle.std.specs.Io.KnownBytes.{Appends, Keeps, append_known}
 use Rattle.da65.specs.Outcome.{Outcome}
 use Rattle.da65.specs.Running.{MessagesCount, WritesFew, Writes}
-use Rattle.da65.specs.declared.outcome.RunFault.{RunFault}
-use Rattle.da65.specs.declared.outcome.RunFault.TheVariants.{Memory, Write, Messages}
-use Rattle.da65.specs.declared.outcome.Status.{Status}
+use Rattle.da65.specs.declared.runs.outcome.RunFault.{RunFault}
+use Rattle.da65.specs.declared.runs.outcome.RunFault.TheVariants.{Memory, Write, Messages}
+use Rattle.da65.specs.declared.runs.outcome.Status.{Status}
 use Rattle.map65.specs.Device.{AppendsFront}
 use Rattle.da65_cli.specs.Delivery.{Delivers, HasPrefix}
 use Rattle.da65_cli.specs.Code.Settling.{HasRoom, IsListed, IsShortOf, Settles}

@@ -2,9 +2,9 @@
 use Rattle.std.specs.Prelude.{◌≡◌, ℕ, List, [], ◌++◌, Option, Some, Result, Ok, Err}
 use Rattle.std.specs.Io.KnownBytes.{Appends, Keeps}
 use Rattle.da65.specs.Outcome.{Outcome}
-use Rattle.da65.specs.declared.outcome.RunFault.{RunFault}
-use Rattle.da65.specs.declared.outcome.RunFault.TheVariants.{Memory, Write, Messages}
-use Rattle.da65.specs.declared.outcome.Status.{Status}
+use Rattle.da65.specs.declared.runs.outcome.RunFault.{RunFault}
+use Rattle.da65.specs.declared.runs.outcome.RunFault.TheVariants.{Memory, Write, Messages}
+use Rattle.da65.specs.declared.runs.outcome.Status.{Status}
 use Rattle.map65.specs.Device.{AppendsFront}
 
 -- these bytes are a prefix of a text

@@ -1,8 +1,8 @@
 -- What the preparation of a run returns: what the run lists its input by, or why there is nothing to list.
 use Rattle.std.specs.Prelude.{◌≡◌, ℕ, List, Result, Ok, Err}
 use Rattle.info65.specs.Views.{InfoView}
-use Rattle.da65.specs.declared.preparing.Stop.{Stop}
-use Rattle.da65.specs.declared.preparing.Stop.TheVariants.{Memory, Refused}
+use Rattle.da65.specs.declared.runs.preparing.Stop.{Stop}
+use Rattle.da65.specs.declared.runs.preparing.Stop.TheVariants.{Memory, Refused}
 
 -- a refusal is the one that is expected, unless memory ran out
 abbrev pub Stops : Stop → Result InfoView (List ℕ) → Type 0

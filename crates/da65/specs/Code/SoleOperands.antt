@@ -8,8 +8,8 @@ use Rattle.map65.specs.MapView.{MapView}
 use Rattle.map65.specs.Names.{has_name}
 use Rattle.da65.specs.BaseNames.{names_of}
 use Rattle.da65.specs.Statements.{address_expr}
-use Rattle.da65.specs.declared.group_line.SoleOperand.{SoleOperand}
-use Rattle.da65.specs.declared.group_line.SoleOperand.TheVariants.{Nothing, Number, Address, Other}
+use Rattle.da65.specs.declared.listing.group_line.SoleOperand.{SoleOperand}
+use Rattle.da65.specs.declared.listing.group_line.SoleOperand.TheVariants.{Nothing, Number, Address, Other}
 
 -- it is what is known of the operands
 abbrev pub IsSole : MapView → SoleOperand → Option OperandsView → Type 0

@@ -1,9 +1,9 @@
 -- How the result of a run over a buffer and messages that wait becomes the result of the program. These facts tie the code to Delivery.
 use Rattle.std.specs.Prelude.{◌≡◌, ◌⊎◌, ℕ, List, Option, Result, Ok, Err}
 use Rattle.std.specs.Io.KnownBytes.{Appends, Keeps, append_known}
-use Rattle.da65.specs.declared.outcome.RunFault.{RunFault}
-use Rattle.da65.specs.declared.outcome.RunFault.TheVariants.{Memory, Write, Messages}
-use Rattle.da65.specs.declared.outcome.Status.{Status}
+use Rattle.da65.specs.declared.runs.outcome.RunFault.{RunFault}
+use Rattle.da65.specs.declared.runs.outcome.RunFault.TheVariants.{Memory, Write, Messages}
+use Rattle.da65.specs.declared.runs.outcome.Status.{Status}
 use Rattle.map65.specs.Device.{AppendsFront, one_more}
 
 -- the listing and the messages were taken whole

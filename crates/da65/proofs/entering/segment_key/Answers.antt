@@ -1,5 +1,0 @@
-use Rattle.da65.proofs.EnteringLemmas.{keyed-map}
-use Rattle.da65.proofs.entering.segment_key.Goals as goal
-
-pub returns : goal.returns
-returns g c = keyed-map c.args.map.now c.args.info.now c.args.address c.segment_key.result c.requires c.segment_key.ensures.sound c.segment_key.ensures.key

@@ -1,0 +1,19 @@
+use Rattle.std.proofs.Common.{arith, refl}
+use Rattle.da65.proofs.NextLemmas.{forward-end, forward-first, next-moved}
+use Rattle.da65.proofs.listing.group_lines.put_inside.Goals as goal
+
+pub returns-in-Some : goal.returns-in-Some
+returns-in-Some g c =
+    record {
+      lines = forward-first _ _ _ _ _ _ _ _ c.address-first.ensures (omega (arith, c.address-first.ensures, c.len_at-len.ensures.len)) c.in-Some.ensures.line;
+      place = record {
+        group = c.requires.group;
+        after = omega (arith, c.requires.after, c.in-Some.ensures.low);
+        before = omega (arith, c.address-first.ensures, c.len_at-len.ensures.len, c.in-Some.ensures.high);
+      };
+      segment_is = refl;
+    }
+
+pub returns-in-None : goal.returns-in-None
+returns-in-None g c =
+    next-moved _ _ _ _ _ _ (forward-end _ _ _ _ _ c.address-first.ensures (omega (arith, c.address-first.ensures, c.len_at-len.ensures.len)) c.in-None.ensures.line) c.put_first.ensures

@@ -1,0 +1,10 @@
+use Rattle.std.proofs.Common.{◌∙◌, sym}
+use Rattle.std.proofs.lemmas.Bool.{both_ways}
+use Rattle.da65.proofs.RoleLemmas.{role-none, role-some}
+use Rattle.da65.proofs.listing.line_groups.role_inside.Goals as goal
+
+pub returns-in-Some : goal.returns-in-Some
+returns-in-Some g c = sym (role-some _ _ _ (sym c.role.ensures ∙ c.in-Some.is)).1
+
+pub returns-in-None : goal.returns-in-None
+returns-in-None g c = absurd (both_ways _ (role-none _ _ (sym c.role.ensures ∙ c.in-None.is)) c.requires)

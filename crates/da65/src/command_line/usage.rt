@@ -1,0 +1,223 @@
+//! The options of a command line, and their values.
+
+ghost use Rattle.std.specs.Prelude.{IfOk, IfSome, map, option_map, ◌≡◌, ◌≤◌};
+ghost use Rattle.std.specs.String.{string_bytes};
+ghost use Rattle.clap.specs.Words.{first_of, found_of, rows_of};
+ghost use Rattle.info65.specs.Views.{name_seen};
+ghost use Rattle.da65.specs.Code.Layout.{IsLayout};
+ghost use Rattle.da65.specs.Number.{address_in, decimal_in, number_in};
+ghost use Rattle.da65.specs.Usage.{Gives, accepted, cpu_in, given, is_set, layout_in, options_in, usage_of};
+
+use crate::command_line::command::matches_of_words;
+use crate::command_line::usage_fault::UsageFault;
+use clap::ArgMatches;
+use clap::error::ErrorKind;
+use info65::{Options, number_of_digits};
+use isa65::Cpu;
+use std::alloc::Global;
+
+/// Returns the options of a command line. The first word is the program's name.
+///
+/// Each option and the input name may be given once. Fails with `Words` if a word fits no option, an option
+/// is given twice or a value is missing; else with the first fault of a value, in the order of the help text:
+/// `BadNumber` if it is not a number, `OutOfRange` if the number is outside its limits or the CPU is unknown.
+/// Help and version are options like the others: the other words are checked beside them. `Memory` is
+/// returned only if memory ran out.
+#[tactic(auto, unfolding(crate::specs::Usage::usage_of))]
+pub fn options_of(alloc: Global, words: &[String]) -> Result<Options, UsageFault>
+    ensures { Gives (λ o. o) result (usage_of (map string_bytes words.now)) }
+{
+    let matches = accepted(alloc, words)?;
+    options_in(alloc, &matches)
+}
+
+/// The matches, if `clap` accepts the words.
+#[tactic(auto, unfolding(crate::specs::Usage::accepted))]
+fn accepted<'a>(alloc: Global, words: &'a [String]) -> Result<ArgMatches<'a>, UsageFault>
+    ensures { Gives (λ m. rows_of (found_of m)) result (accepted (map string_bytes words.entry.now)) }
+{
+    match matches_of_words(alloc, words) {
+        Ok(matches) => Ok(matches),
+        Err(error) => {
+            if error.kind() == ErrorKind::OutOfMemory {
+                Err(UsageFault::Memory)
+            } else {
+                Err(UsageFault::Words)
+            }
+        }
+    }
+}
+
+/// What the options say of a listing's layout.
+#[derive(Clone, Copy, Debug, PartialEq, Eq)]
+struct Layout {
+    comments: Option<u8>,
+    mnemonic_column: Option<u8>,
+    argument_column: Option<u8>,
+    comment_column: Option<u8>,
+    text_column: Option<u8>,
+    label_break: Option<u8>,
+}
+
+/// What the matches say of a listing's layout, in the order of the option table.
+#[tactic(auto, unfolding(crate::specs::Usage::layout_in))]
+fn layout_in(matches: &ArgMatches) -> Result<Layout, UsageFault>
+    ensures value { result ≡ layout_in (rows_of (found_of matches.now)) }
+    ensures limits { IfOk result IsLayout }
+{
+    let comments = number_of(matches, "comments", 0, 4)?;
+    let mnemonic_column = number_of(matches, "mnemonic-column", 1, 120)?;
+    let argument_column = number_of(matches, "argument-column", 1, 120)?;
+    let comment_column = number_of(matches, "comment-column", 1, 120)?;
+    let text_column = number_of(matches, "text-column", 1, 120)?;
+    let label_break = number_of(matches, "label-break", 0, 120)?;
+    Ok(Layout {
+        comments,
+        mnemonic_column,
+        argument_column,
+        comment_column,
+        text_column,
+        label_break,
+    })
+}
+
+/// The options of the matches. Those that can be refused come first, in the order of the option table.
+#[tactic(auto, unfolding(crate::specs::Usage::options_in))]
+fn options_in(alloc: Global, matches: &ArgMatches) -> Result<Options, UsageFault>
+    ensures { Gives (λ o. o) result (options_in (rows_of (found_of matches.now))) }
+{
+    let start = start_in(text_of(matches, "start"))?;
+    let cpu = chosen_cpu(text_of(matches, "cpu"))?;
+    let layout = layout_in(matches)?;
+    let info = owned(alloc, text_of(matches, "info"))?;
+    let input = owned(alloc, text_of(matches, "input"))?;
+    let output = owned(alloc, text_of(matches, "output"))?;
+    let hexoffs = is_set(matches, "hexoffs");
+    let help = is_set(matches, "help");
+    let version = is_set(matches, "version");
+    Ok(Options {
+        info,
+        input,
+        output,
+        start,
+        cpu,
+        comments: layout.comments,
+        mnemonic_column: layout.mnemonic_column,
+        argument_column: layout.argument_column,
+        comment_column: layout.comment_column,
+        text_column: layout.text_column,
+        label_break: layout.label_break,
+        hexoffs,
+        help,
+        version,
+    })
+}
+
+#[tactic(auto, using(crate::proofs::MatchLemmas::read_rows))]
+fn text_of<'a>(matches: &ArgMatches<'a>, id: &str) -> Option<&'a str>
+    ensures { option_map (λ s. s.now) result ≡ first_of id.now (rows_of (found_of matches.now)) }
+{
+    matches.get_str(id)
+}
+
+fn is_set(matches: &ArgMatches, id: &str) -> bool
+    ensures { result ≡ is_set id.now (rows_of (found_of matches.now)) }
+{
+    match text_of(matches, id) {
+        Some(text) => text == "true",
+        None => false,
+    }
+}
+
+fn start_in(text: Option<&str>) -> Result<Option<u16>, UsageFault>
+    ensures { result ≡ given address_in (option_map (λ s. s.now) text.entry) }
+{
+    match text {
+        Some(text) => Ok(Some(address_in(text.as_bytes())?)),
+        None => Ok(None),
+    }
+}
+
+fn chosen_cpu(text: Option<&str>) -> Result<Option<Cpu>, UsageFault>
+    ensures { result ≡ given cpu_in (option_map (λ s. s.now) text.entry) }
+{
+    match text {
+        Some(text) => Ok(Some(cpu_in(text)?)),
+        None => Ok(None),
+    }
+}
+
+/// The number of an option, from `least` to `most`.
+fn number_of(matches: &ArgMatches, id: &str, least: u8, most: u8) -> Result<Option<u8>, UsageFault>
+    ensures value { result ≡ given (decimal_in least most) (first_of id.now (rows_of (found_of matches.now))) }
+    ensures low { IfOk result (λ o. IfSome o (λ n. least ≤ n)) }
+    ensures high { IfOk result (λ o. IfSome o (λ n. n ≤ most)) }
+{
+    match text_of(matches, id) {
+        Some(text) => Ok(Some(decimal_in(text.as_bytes(), least, most)?)),
+        None => Ok(None),
+    }
+}
+
+fn owned(alloc: Global, text: Option<&str>) -> Result<Option<String>, UsageFault>
+    ensures { Gives (λ o. name_seen o) result (Ok (option_map (λ s. s.now) text.entry)) }
+{
+    match text {
+        Some(text) => Ok(Some(String::from_str(alloc, text)?)),
+        None => Ok(None),
+    }
+}
+
+fn cpu_in(text: &str) -> Result<Cpu, UsageFault>
+    ensures { result ≡ cpu_in text.now }
+{
+    match Cpu::from_bytes(text.as_bytes()) {
+        Some(cpu) => Ok(cpu),
+        None => Err(UsageFault::OutOfRange),
+    }
+}
+
+/// The number that the digits write. Fails if it is above `most`.
+fn number_in(digits: &[u8], radix: u32, most: u32) -> Result<u32, UsageFault>
+    requires low { 2 ≤ radix }
+    requires high { radix ≤ 36 }
+    ensures value { result ≡ number_in radix most digits.now }
+    ensures small { IfOk result (λ n. n ≤ most) }
+{
+    match number_of_digits(digits, radix) {
+        None => Err(UsageFault::BadNumber),
+        Some(number) if number <= u64::from(most) => Ok(number as u32),
+        Some(_) => Err(UsageFault::OutOfRange),
+    }
+}
+
+/// An address from 0 to $FFFF: hexadecimal after `$`, `0x` or `0X`, octal after `0`, else decimal.
+#[tactic(auto, unfolding(crate::specs::Number::address_in))]
+fn address_in(text: &[u8]) -> Result<u16, UsageFault>
+    ensures { result ≡ address_in text.now }
+{
+    let (radix, digits) = if text.starts_with(b"$") {
+        (16, &text[1..])
+    } else if text.starts_with(b"0x") || text.starts_with(b"0X") {
+        (16, &text[2..])
+    } else if text.starts_with(b"0") {
+        (8, text)
+    } else {
+        (10, text)
+    };
+    Ok(number_in(digits, radix, 0xFFFF)? as u16)
+}
+
+/// The number from `least` to `most` that decimal digits write.
+#[tactic(auto, unfolding(crate::specs::Number::decimal_in))]
+fn decimal_in(text: &[u8], least: u8, most: u8) -> Result<u8, UsageFault>
+    ensures value { result ≡ decimal_in least most text.now }
+    ensures low { IfOk result (λ n. least ≤ n) }
+    ensures high { IfOk result (λ n. n ≤ most) }
+{
+    let number = number_in(text, 10, u32::from(most))? as u8;
+    if number < least {
+        return Err(UsageFault::OutOfRange);
+    }
+    Ok(number)
+}

@@ -1,0 +1,172 @@
+//! The constant lines of a listing.
+
+ghost use Rattle.std.specs.Prelude.{◌≡◌, ◌+◌, ◌-◌, ◌<◌, ◌≤◌, [], ◌∷◌, IfSome, MatchOption, None, true};
+ghost use Rattle.std.specs.Bool.{OnTrue};
+ghost use Rattle.stmt65.specs.Printable.{IsNameLong};
+ghost use Rattle.map65.specs.Names.{place_of};
+ghost use Rattle.da65.specs.BaseNames.{base_name, is_constant, names_of};
+ghost use Rattle.da65.specs.Lines.{IsConstant, IsNext, constants_left};
+ghost use Rattle.da65.specs.Listing.{assignment_line, constants, has_constant_line, line_text};
+ghost use Rattle.da65.specs.Style.{style_of};
+
+use crate::listing::base_names::base_at;
+use crate::listing::comment_lines::comment_at;
+use crate::listing::line_groups::ADDRESSES;
+use crate::listing::listed_image::ListedImage;
+use crate::listing::place::ListingPlace;
+use crate::listing::statement_line::put_plain;
+use map65::{Map, NameBuf, is_skip};
+use std::alloc::Allocator;
+use stmt65::{Line, Statement};
+
+/// Whether a constant line defines the base that stands for the address, if there is one: the address lies outside
+/// the image, or its byte is skipped.
+fn has_constant<A: Allocator>(map: &Map<'_, A>, address: u16) -> bool
+    ensures { result ≡ is_constant (place_of map.now address) }
+{
+    match map.role(address) {
+        Some(role) => is_skip(role),
+        None => true,
+    }
+}
+
+/// Whether the address has a constant line. Then the buffer holds the name.
+fn is_named_constant<A: Allocator>(
+    listed: &ListedImage<'_, A>,
+    address: u16,
+    name: &mut NameBuf,
+) -> bool
+    ensures is { result ≡ has_constant_line (names_of listed.now) address }
+    ensures text { OnTrue result (name.new.items ≡ base_name (names_of listed.now) address) }
+    ensures long { OnTrue result (IsNameLong name.new.items) }
+{
+    let map = listed.map();
+    if !map.has_name(address) {
+        return false;
+    }
+    if !has_constant(map, address) {
+        return false;
+    }
+    let Some(_) = base_at(map, address, name) else {
+        return false;
+    };
+    true
+}
+
+/// The first address from this one on and before `end` that has a constant line. The buffer holds its name.
+fn constant_before<A: Allocator>(
+    listed: &ListedImage<'_, A>,
+    from: usize,
+    end: usize,
+    name: &mut NameBuf,
+) -> Option<usize>
+    requires order { from ≤ end }
+    requires bound { end ≤ 65536 }
+    ensures lines { MatchOption result (constants listed.now (65536 - from) from ≡ constants listed.now (65536 - end) end) (λ v. constants listed.now (65536 - from) from ≡ constants listed.now (65536 - v) v) }
+    ensures is { IfSome result (λ v. IsConstant listed.now v) }
+    ensures text { IfSome result (λ v. name.new.items ≡ base_name (names_of listed.now) v) }
+    ensures long { IfSome result (λ v. IsNameLong name.new.items) }
+{
+    let mut at = from;
+    'addresses: while at < end {
+        if is_named_constant(listed, at as u16, name) {
+            return Some(at);
+        }
+        at += 1;
+    }
+    None
+}
+
+/// The address from which on a constant line may follow: the end of an image of which each byte is listed if this address lies in it, else
+/// this address.
+fn after_listed<A: Allocator>(listed: &ListedImage<'_, A>, from: usize) -> usize
+    requires { from ≤ 65536 }
+    ensures lines { constants listed.now (65536 - from) from ≡ constants listed.now (65536 - result) result }
+    ensures bound { result ≤ 65536 }
+{
+    let start = listed.start();
+    let end = start + listed.bytes().len();
+    if listed.lists_all() && start <= from && from < end {
+        end
+    } else {
+        from
+    }
+}
+
+/// The first address from this one on that has a constant line. The buffer holds its name.
+fn constant_from<A: Allocator>(
+    listed: &ListedImage<'_, A>,
+    from: usize,
+    name: &mut NameBuf,
+) -> Option<usize>
+    requires { from ≤ 65536 }
+    ensures lines { MatchOption result (constants listed.now (65536 - from) from ≡ []) (λ v. constants listed.now (65536 - from) from ≡ constants listed.now (65536 - v) v) }
+    ensures is { IfSome result (λ v. IsConstant listed.now v) }
+    ensures text { IfSome result (λ v. name.new.items ≡ base_name (names_of listed.now) v) }
+    ensures long { IfSome result (λ v. IsNameLong name.new.items) }
+{
+    // No address of the image is looked at, if each byte of it is listed.
+    let before = from.max(listed.start());
+    if let Some(at) = constant_before(listed, from, before, name) {
+        return Some(at);
+    }
+    constant_before(listed, after_listed(listed, before), ADDRESSES, name)
+}
+
+/// Replaces the buffer by the comment of the constant of this address, if there is one, else by its constant line, and
+/// returns the next place.
+fn put_constant<A: Allocator>(
+    out: &mut Line,
+    listed: &ListedImage<'_, A>,
+    at: usize,
+    any: bool,
+    name: &[u8],
+) -> ListingPlace
+    requires is { IsConstant listed.now at }
+    requires text { name.now ≡ base_name (names_of listed.now) at }
+    requires long { IsNameLong name.now }
+    ensures { IsNext listed.now (constants_left listed.now at any) out.new.items result None }
+{
+    if let Some(text) = comment_at(listed, at as u16) {
+        put_plain(out, listed.style(), &Statement::Remark(text));
+        return ListingPlace::Assignment(at);
+    }
+    put_plain(out, listed.style(), &Statement::Const(name, at as u16));
+    ListingPlace::Constant(at + 1, true)
+}
+
+/// Replaces the buffer by the next line of constants from this address on, and returns the next place.
+pub fn put_next_constant<A: Allocator>(
+    out: &mut Line,
+    listed: &ListedImage<'_, A>,
+    from: usize,
+    any: bool,
+) -> Option<ListingPlace>
+    requires { from ≤ 65536 }
+    ensures { MatchOption result (constants listed.now (65536 - from) from ≡ []) (λ next. IsNext listed.now (constants_left listed.now from any) out.new.items next None) }
+{
+    let mut name = NameBuf::new();
+    let at = constant_from(listed, from, &mut name)?;
+    Some(put_constant(out, listed, at, any, name.as_slice()))
+}
+
+/// Replaces the buffer by the constant line of this address, and returns the next place.
+pub fn put_assignment<A: Allocator>(
+    out: &mut Line,
+    listed: &ListedImage<'_, A>,
+    at: usize,
+) -> ListingPlace
+    requires { IsConstant listed.now at }
+    ensures { IsNext listed.now (assignment_line (names_of listed.now) at ∷ constants_left listed.now (at + 1) true) out.new.items result None }
+{
+    let mut name = NameBuf::new();
+    let Some(_) = base_at(listed.map(), at as u16, &mut name) else {
+        return ListingPlace::Constant(at + 1, true);
+    };
+    put_plain(
+        out,
+        listed.style(),
+        &Statement::Const(name.as_slice(), at as u16),
+    );
+    ListingPlace::Constant(at + 1, true)
+}

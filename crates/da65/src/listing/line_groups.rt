@@ -1,0 +1,198 @@
+//! Line groups: the items that stand on one line.
+
+ghost use Rattle.std.specs.Prelude.{◌≡◌, ◌+◌, ◌<◌, ◌≤◌, true};
+ghost use Rattle.std.specs.List.{list_any};
+ghost use Rattle.info65.specs.Names.{AreNames};
+ghost use Rattle.map65.specs.ImageView.{IsPlaced, end_of, is_inside};
+ghost use Rattle.map65.specs.Items.{item_len};
+ghost use Rattle.map65.specs.Roles.{is_skip, role_at, role_of};
+ghost use Rattle.da65.specs.Code.SkipRanges.{is_skip_range};
+ghost use Rattle.da65.specs.Groups.{goes_on, group_len, is_whole, limit_at, limit_of, more_at, skips};
+
+use crate::listing::base_names::is_defined;
+use info65::{Info, RangeSpec, RangeType};
+use map65::{Image, Map, is_skip, unit_of};
+use std::alloc::Allocator;
+
+/// The number of addresses, $10000.
+pub const ADDRESSES: usize = 65_536;
+
+/// How many items a line of this role takes at most.
+fn limit_of(role: RangeType) -> usize
+    ensures limit { result ≡ limit_of role }
+    ensures some { 1 ≤ result }
+{
+    usize::from(role.layout().per_line)
+}
+
+/// The role of an address, none outside the image.
+fn role_of<A: Allocator>(map: &Map<'_, A>, address: usize) -> Option<RangeType>
+    requires { IsPlaced map.now.image }
+    ensures { result ≡ role_at map.now address }
+{
+    if address < ADDRESSES {
+        map.role(address as u16)
+    } else {
+        None
+    }
+}
+
+/// How long the item is that begins at the address, and 0 where none does.
+fn item_len<A: Allocator>(map: &Map<'_, A>, address: usize) -> usize
+    requires { IsPlaced map.now.image }
+    ensures len { result ≡ item_len map.now address }
+    ensures fits { 0 < result → address + result ≤ end_of map.now.image }
+{
+    if address < ADDRESSES {
+        map.item_len(address as u16) as usize
+    } else {
+        0
+    }
+}
+
+/// Whether the item at an address of this role is as long as those of the role's tables: it is not left
+/// over.
+fn is_whole<A: Allocator>(map: &Map<'_, A>, role: RangeType, address: usize) -> bool
+    requires placed { IsPlaced map.now.image }
+    requires role { role_of map.now.info address ≡ role }
+    ensures { result ≡ is_whole map.now address }
+{
+    item_len(map, address) == unit_of(role) as usize
+}
+
+/// Whether the item at an address may stand on the line of the one before it: it is of the same piece,
+/// whole, and not defined by name. A given name that cuts a run defines its address, so that the run is
+/// looked at here, and not the piece.
+fn goes_on<A: Allocator>(map: &Map<'_, A>, address: usize) -> bool
+    requires placed { IsPlaced map.now.image }
+    requires names { AreNames map.now.info.names }
+    ensures { result ≡ goes_on map.now address }
+{
+    let Some(role) = role_of(map, address) else {
+        return false;
+    };
+    if !map.is_in_run(address as u16) {
+        return false;
+    }
+    if !is_whole(map, role, address) {
+        return false;
+    }
+    !is_defined(map, address as u16)
+}
+
+/// How many bytes the items have that go on from an address, of so many at most.
+#[inline(never)]
+#[tactic(auto, unfolding(crate::specs::Groups::more_at))]
+fn more_at<A: Allocator>(map: &Map<'_, A>, limit: usize, address: usize) -> usize
+    requires placed { IsPlaced map.now.image }
+    requires names { AreNames map.now.info.names }
+    requires inside { address ≤ end_of map.now.image }
+    ensures bytes { result ≡ more_at map.now limit address }
+    ensures fits { address + result ≤ end_of map.now.image }
+{
+    let mut at = address;
+    let mut left = limit;
+    'items: while 0 < left {
+        if !goes_on(map, at) {
+            return at - address;
+        }
+        at += item_len(map, at);
+        left -= 1;
+    }
+    at - address
+}
+
+/// How many items the line takes that begins with the item at an address of this role.
+fn limit_at<A: Allocator>(map: &Map<'_, A>, role: RangeType, address: usize) -> usize
+    requires placed { IsPlaced map.now.image }
+    requires role { role_of map.now.info address ≡ role }
+    ensures limit { result ≡ limit_at map.now address }
+    ensures some { 1 ≤ result }
+{
+    match role {
+        RangeType::Code => 1,
+        _ => {
+            if is_whole(map, role, address) {
+                limit_of(role)
+            } else {
+                1
+            }
+        }
+    }
+}
+
+/// How many bytes the group has that begins with the item at an address of this role: that item, and
+/// those that go on, as many as the line takes. Allocates nothing.
+#[inline]
+#[tactic(auto, unfolding(crate::specs::Groups::group_len))]
+pub fn group_len<A: Allocator>(map: &Map<'_, A>, role: RangeType, address: usize) -> usize
+    requires placed { IsPlaced map.now.image }
+    requires names { AreNames map.now.info.names }
+    requires role { role_of map.now.info address ≡ role }
+    requires begins { 0 < item_len map.now address }
+    ensures len { result ≡ group_len map.now address }
+    ensures fits { address + result ≤ end_of map.now.image }
+{
+    let first = item_len(map, address);
+    let limit = limit_at(map, role, address);
+    if limit == 1 {
+        return first;
+    }
+    first + more_at(map, limit - 1, address + first)
+}
+
+/// The role of an address of the image.
+pub fn role_inside<A: Allocator>(map: &Map<'_, A>, address: u16) -> RangeType
+    requires { is_inside map.now.image address ≡ true }
+    ensures { result ≡ role_of map.now.info address }
+{
+    match map.role(address) {
+        Some(role) => role,
+        None => RangeType::Code,
+    }
+}
+
+/// Whether the byte at an address of the image is skipped.
+pub fn is_skipped<A: Allocator>(map: &Map<'_, A>, address: u16) -> bool
+    requires { is_inside map.now.image address ≡ true }
+    ensures { result ≡ is_skip (role_of map.now.info address) }
+{
+    is_skip(role_inside(map, address))
+}
+
+/// Whether a range has the type SKIP.
+pub fn has_skip_range(ranges: &[RangeSpec]) -> bool
+    ensures { result ≡ list_any is_skip_range ranges.now }
+{
+    ranges.iter().any(|range| is_skip(range.role))
+}
+
+/// Whether a byte of the image is skipped. Allocates nothing.
+pub fn has_skipped<A: Allocator>(info: &Info<A>, map: &Map<'_, A>, image: &Image<A>) -> bool
+    requires info { map.now.info ≡ info.now }
+    requires image { map.now.image ≡ image.now }
+    ensures { result ≡ skips map.now }
+{
+    if !has_skip_range(info.ranges()) {
+        return false;
+    }
+    is_any_skipped(map, image)
+}
+
+/// Whether a byte of the image is skipped, by each byte.
+#[tactic(auto, unfolding(crate::specs::Groups::skips))]
+fn is_any_skipped<A: Allocator>(map: &Map<'_, A>, image: &Image<A>) -> bool
+    requires { map.now.image ≡ image.now }
+    ensures { result ≡ skips map.now }
+{
+    let start = image.start() as usize;
+    let count = image.bytes().len();
+    let mut at = 0;
+    'bytes: while at < count {
+        if is_skipped(map, (start + at) as u16) {
+            return true;
+        }
+        at += 1;
+    }
+    false
+}

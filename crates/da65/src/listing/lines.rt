@@ -1,0 +1,243 @@
+//! The lines of a listing, one at a time.
+
+ghost use Rattle.std.specs.Prelude.{◌≡◌, ◌+◌, ◌<◌, ◌≤◌, [], ◌∷◌, IfNone, IfSome, MatchOption, None, OnOk, OnErr, false};
+ghost use Rattle.std.specs.Option.{option_copied};
+ghost use Rattle.std.specs.Bool.{OnTrue, OnFalse};
+ghost use Rattle.std.specs.Io.KnownBytes.{Appends};
+ghost use Rattle.map65.specs.Device.{Counts, AppendsFront};
+ghost use Rattle.map65.specs.Roles.{is_skip, role_of};
+ghost use Rattle.da65.specs.Groups.{IsGroupPlace};
+ghost use Rattle.da65.specs.Lines.{IsGroupStart, IsNext, IsPlace, groups_left, constants_left, left_from, segment_of};
+ghost use Rattle.da65.specs.Listing.{lines_of, text_of};
+ghost use Rattle.da65.specs.Segments.{segment_before};
+
+use crate::listing::constant_lines::{put_assignment, put_next_constant};
+use crate::listing::group_lines::{put_inside, put_rest};
+use crate::listing::heading_lines::{put_comments, put_opening, put_segment};
+use crate::listing::line_groups::is_skipped;
+use crate::listing::listed_image::ListedImage;
+use crate::listing::place::ListingPlace;
+use crate::listing::statement_line::{put_blank, put_cpu, put_title};
+use crate::runs::write::write_whole;
+use info65::Info;
+use map65::{DeviceFault, Image, Map, Sink};
+use std::alloc::{Allocator, Global};
+use std::marker::Model;
+use stmt65::Line;
+
+/// The lines of a listing that are left.
+#[derive(Drop)]
+pub struct Lines<'a, A: Allocator = Global> {
+    listed: ListedImage<'a, A>,
+    place: ListingPlace,
+    segment: Option<&'a [u8]>,
+}
+
+impl<'a, A: Allocator> Model for Lines<'a, A> {
+    ghost use Rattle.std.specs.Prelude.{ℕ, List};
+    ghost use Rattle.std.specs.Option.{option_copied};
+
+    ghost Value = { List (List ℕ) };
+
+    ghost use Rattle.da65.specs.Lines.{lines_from};
+
+    ghost view = { λ l. lines_from l.place l.listed };
+
+    ghost use Rattle.da65.specs.Lines.{AreLines};
+
+    ghost invariant = { λ l. AreLines l.place l.listed (option_copied l.segment) };
+}
+
+/// The first byte from this one on that is not skipped, if there is one. A group begins with it.
+fn shown_from<A: Allocator>(listed: &ListedImage<'_, A>, from: usize) -> Option<usize>
+    requires { IsGroupPlace listed.now from }
+    ensures lines { MatchOption result (groups_left listed.now from ≡ []) (λ at. groups_left listed.now at ≡ groups_left listed.now from) }
+    ensures segment { IfSome result (λ at. segment_before listed.now at ≡ segment_before listed.now from) }
+    ensures start { IfSome result (IsGroupStart listed.now) }
+{
+    let count = listed.bytes().len();
+    let mut at = from;
+    'bytes: while at < count {
+        if !is_skipped(listed.map(), listed.address(at)) {
+            return Some(at);
+        }
+        at += 1;
+    }
+    None
+}
+
+/// Whether a group begins with the byte of this index, where one may: the byte is not skipped.
+#[inline(always)]
+fn is_shown<A: Allocator>(listed: &ListedImage<'_, A>, at: usize) -> bool
+    requires { IsGroupPlace listed.now at }
+    ensures start { OnTrue result (IsGroupStart listed.now at) }
+    ensures none { OnFalse result (IsGroupStart listed.now at → ⊥) }
+{
+    at < listed.bytes().len() && !is_skipped(listed.map(), listed.address(at))
+}
+
+/// Replaces the buffer by the first line of the group that begins with the byte of this index, and returns the next place.
+/// `segment` is that of the group before, and becomes that of this group where its line is written.
+#[inline(always)]
+fn put_group_at<'a, A: Allocator>(
+    out: &mut Line,
+    listed: &ListedImage<'a, A>,
+    segment: &mut Option<&'a [u8]>,
+    at: usize,
+) -> ListingPlace
+    requires start { IsGroupStart listed.now at }
+    requires segment { option_copied segment.old ≡ segment_before listed.now at }
+    ensures { IsNext listed.now (groups_left listed.now at) out.new.items result (option_copied segment.new) }
+{
+    if listed.is_marked() {
+        return put_opening(out, listed, segment, at);
+    }
+    put_inside(out, listed, at, listed.address(at) as usize + 1)
+}
+
+/// Replaces the buffer by the first line of the next group from this byte on, and returns the next place. `segment` is that of
+/// the group before, and becomes that of this group where its line is written.
+#[inline(never)]
+fn put_next_group<'a, A: Allocator>(
+    out: &mut Line,
+    listed: &ListedImage<'a, A>,
+    segment: &mut Option<&'a [u8]>,
+    from: usize,
+) -> Option<ListingPlace>
+    requires place { IsGroupPlace listed.now from }
+    requires segment { option_copied segment.old ≡ segment_before listed.now from }
+    ensures next { MatchOption result (groups_left listed.now from ≡ []) (λ next. IsNext listed.now (groups_left listed.now from) out.new.items next (option_copied segment.new)) }
+    ensures kept { IfNone result (option_copied segment.new ≡ option_copied segment.old) }
+{
+    let at = shown_from(listed, from)?;
+    Some(put_group_at(out, listed, segment, at))
+}
+
+/// Replaces the buffer by the next line of constants from this address on, else by what follows them, and returns the next place.
+fn put_constants<'a, A: Allocator>(
+    out: &mut Line,
+    listed: &ListedImage<'a, A>,
+    segment: &mut Option<&'a [u8]>,
+    from: usize,
+    any: bool,
+) -> Option<ListingPlace>
+    requires inside { from ≤ 65536 }
+    requires segment { option_copied segment.old ≡ None }
+    ensures next { MatchOption result (constants_left listed.now from any ≡ []) (λ next. IsNext listed.now (constants_left listed.now from any) out.new.items next (option_copied segment.new)) }
+    ensures kept { IfNone result (option_copied segment.new ≡ option_copied segment.old) }
+{
+    if let Some(next) = put_next_constant(out, listed, from, any) {
+        return Some(next);
+    }
+    if any {
+        put_blank(out, listed.style());
+        return Some(ListingPlace::Group(0));
+    }
+    put_next_group(out, listed, segment, 0)
+}
+
+/// Replaces the buffer by the line at a place, and returns the place of the next one. `segment` is that of the place, and becomes that
+/// of the next place. It has a frame of its own, so that the frame of most lines is small.
+#[inline(never)]
+fn put_next<'a, A: Allocator>(
+    out: &mut Line,
+    listed: &ListedImage<'a, A>,
+    segment: &mut Option<&'a [u8]>,
+    place: ListingPlace,
+) -> Option<ListingPlace>
+    requires place { IsPlace place listed.now }
+    requires segment { option_copied segment.old ≡ segment_of place listed.now }
+    ensures next { MatchOption result (left_from place listed.now ≡ []) (λ next. IsNext listed.now (left_from place listed.now) out.new.items next (option_copied segment.new)) }
+    ensures kept { IfNone result (option_copied segment.new ≡ option_copied segment.old) }
+{
+    match place {
+        ListingPlace::Title => {
+            put_title(out, listed.style());
+            Some(ListingPlace::AfterTitle)
+        }
+        ListingPlace::AfterTitle => {
+            put_blank(out, listed.style());
+            Some(ListingPlace::CpuLine)
+        }
+        ListingPlace::CpuLine => {
+            put_cpu(out, listed.style());
+            Some(ListingPlace::AfterCpu)
+        }
+        ListingPlace::AfterCpu => {
+            put_blank(out, listed.style());
+            Some(ListingPlace::Constant(0, false))
+        }
+        ListingPlace::Constant(from, any) => put_constants(out, listed, segment, from, any),
+        ListingPlace::Assignment(at) => Some(put_assignment(out, listed, at)),
+        ListingPlace::Group(from) => put_next_group(out, listed, segment, from),
+        ListingPlace::Segment(at) => Some(put_segment(out, listed, segment, at)),
+        ListingPlace::Comment(at, from) => Some(put_comments(out, listed, at, from)),
+        ListingPlace::Forward(at, from) => Some(put_inside(out, listed, at, from)),
+        ListingPlace::Statement(at) => Some(put_rest(out, listed, at)),
+        ListingPlace::Ending(next) => {
+            put_blank(out, listed.style());
+            Some(ListingPlace::Group(next))
+        }
+    }
+}
+
+impl<'a, A: Allocator> Lines<'a, A> {
+    /// All lines of the listing of an image, by a map that was built from these two.
+    #[tactic(auto, unfolding(crate::specs::Listing::lines_of))]
+    pub fn new(info: &'a Info<A>, image: &'a Image<A>, map: &'a Map<'a, A>) -> Lines<'a, A>
+        requires { map.now ≡ record { info = info.now; image = image.now } }
+        ensures { result ≡ lines_of map.entry.now }
+    {
+        Lines {
+            listed: ListedImage::new(info, image, map),
+            place: ListingPlace::Title,
+            segment: None,
+        }
+    }
+
+    /// Replaces the buffer by the next line, with its line feed, and takes it off the lines that are
+    /// left. If none is left it returns false, and the buffer is empty. Allocates nothing.
+    pub fn next_line(&mut self, out: &mut Line) -> bool
+        ensures next { OnTrue result (self.old ≡ out.new.items ∷ self.new) }
+        ensures end { OnFalse result (self.old ≡ []) }
+        ensures still { OnFalse result (self.new ≡ []) }
+        ensures empty { OnFalse result (out.new.items ≡ []) }
+    {
+        // The old line is blanked here once, for all kinds of lines.
+        out.clear();
+        if let ListingPlace::Group(at) = self.place {
+            // Most lines are the first of a group, and are made here.
+            if is_shown(&self.listed, at) {
+                self.place = put_group_at(out, &self.listed, &mut self.segment, at);
+                return true;
+            }
+        }
+        match put_next(out, &self.listed, &mut self.segment, self.place) {
+            Some(next) => {
+                self.place = next;
+                true
+            }
+            None => {
+                out.clear();
+                false
+            }
+        }
+    }
+}
+
+/// Writes the remaining lines in order. Allocates nothing.
+#[tactic(auto, using(crate::proofs::TakenLemmas::line_taken, crate::proofs::TakenLemmas::front_taken), unfolding(crate::specs::Listing::text_of))]
+pub fn write_lines<A: Allocator, W: Sink>(
+    mut lines: Lines<'_, A>,
+    out: &mut W,
+) -> Result<(), DeviceFault>
+    ensures whole { OnOk result (Appends (W.taken out.old) (W.taken out.new) (text_of lines.entry)) }
+    ensures front { OnErr result (AppendsFront (W.taken out.old) (W.taken out.new) (text_of lines.entry)) }
+    ensures count { Counts (W.faults out.old) (W.faults out.new) result }
+{
+    let mut line = Line::new();
+    'lines: while lines.next_line(&mut line) {
+        write_whole(out, line.as_slice())?;
+    }
+    Ok(())
+}

@@ -1,0 +1,145 @@
+//! An image as it is listed.
+
+ghost use Rattle.std.specs.Prelude.{◌≡◌, ◌+◌, ◌<◌, ◌≤◌, false, length, not, true};
+ghost use Rattle.std.specs.List.{list_any};
+ghost use Rattle.info65.specs.Names.{AreNames};
+ghost use Rattle.info65.specs.Segments.{AreSegments};
+ghost use Rattle.map65.specs.ImageView.{IsPlaced};
+ghost use Rattle.da65.specs.Code.SkipRanges.{is_skip_range};
+ghost use Rattle.da65.specs.Lines.{IsUnmarked};
+ghost use Rattle.da65.specs.Marks.{HasMarks};
+ghost use Rattle.da65.specs.Style.{style_of};
+
+use crate::listing::headings::has_marks;
+use crate::listing::line_groups::has_skip_range;
+use crate::listing::style::{Style, style_of};
+use info65::Info;
+use isa65::DecodeTable;
+use map65::{Image, Map};
+use std::alloc::{Allocator, Global};
+use std::marker::Model;
+
+/// An image as it is listed: what its information and its map say, and how its lines are written. A contract sees the map.
+#[derive(Drop)]
+pub struct ListedImage<'a, A: Allocator = Global> {
+    info: &'a Info<A>,
+    image: &'a Image<A>,
+    map: &'a Map<'a, A>,
+    style: Style,
+    opcodes: DecodeTable,
+    marked: bool,
+    lists_all: bool,
+}
+
+impl<'a, A: Allocator> Model for ListedImage<'a, A> {
+    ghost use Rattle.map65.specs.MapView.{MapView};
+
+    ghost Value = { MapView };
+
+    ghost view = { λ l. l.map.now };
+
+    ghost use Rattle.da65.specs.Lines.{IsListed};
+
+    ghost invariant = { λ l. IsListed l.map.now l.info.now l.image.now l.style l.opcodes l.marked l.lists_all };
+}
+
+impl<'a, A: Allocator> ListedImage<'a, A> {
+    /// The image of a map that was built from these two.
+    pub fn new(info: &'a Info<A>, image: &'a Image<A>, map: &'a Map<'a, A>) -> ListedImage<'a, A>
+        requires { map.now ≡ record { info = info.now; image = image.now } }
+        ensures { result ≡ map.entry.now }
+    {
+        // The limits of an image are known where its bytes are looked at, those of names where they are counted, and those of
+        // segments where they are lent.
+        let _ = image.bytes();
+        let _ = info.given_count();
+        let _ = info.segments();
+        let style = style_of(info.settings());
+        let opcodes = DecodeTable::new(style.cpu);
+        let marked = has_marks(info, &style);
+        let lists_all = !has_skip_range(info.ranges());
+        ListedImage {
+            info,
+            image,
+            map,
+            style,
+            opcodes,
+            marked,
+            lists_all,
+        }
+    }
+
+    /// The information of the map.
+    pub fn info(&self) -> &'a Info<A>
+        ensures info { result.now ≡ self.now.info }
+        ensures names { AreNames result.now.names }
+    {
+        self.info
+    }
+
+    /// The map.
+    pub fn map(&self) -> &'a Map<'a, A>
+        ensures map { result.now ≡ self.now }
+        ensures names { AreNames result.now.info.names }
+        ensures placed { IsPlaced result.now.image }
+        ensures segments { AreSegments result.now.info.segments }
+    {
+        self.map
+    }
+
+    /// How lines are written.
+    pub fn style(&self) -> &Style
+        ensures style { result.now ≡ style_of self.now.info.settings }
+        ensures cpu { result.now.cpu ≡ self.now.info.settings.cpu }
+    {
+        &self.style
+    }
+
+    /// The opcodes of the CPU.
+    pub fn opcodes(&self) -> &DecodeTable
+        ensures { result.now ≡ self.now.info.settings.cpu }
+    {
+        &self.opcodes
+    }
+
+    /// Whether there may be separators, segments or comments.
+    pub fn is_marked(&self) -> bool
+        ensures none { result ≡ false → IsUnmarked self.now }
+        ensures some { result ≡ true → HasMarks self.now.info (style_of self.now.info.settings) }
+    {
+        self.marked
+    }
+
+    /// Whether each byte of the image is listed, since no range has the type SKIP.
+    pub fn lists_all(&self) -> bool
+        ensures { result ≡ not (list_any is_skip_range self.now.info.ranges) }
+    {
+        self.lists_all
+    }
+
+    /// The bytes of the image.
+    pub fn bytes(&self) -> &'a [u8]
+        ensures bytes { result.now ≡ self.now.image.bytes }
+        ensures placed { IsPlaced self.now.image }
+    {
+        self.image.bytes()
+    }
+
+    /// The address of the first byte.
+    pub fn start(&self) -> usize
+        ensures start { result ≡ self.now.image.start }
+        ensures bound { result ≤ 65536 }
+    {
+        usize::from(self.image.start())
+    }
+
+    /// The address of the byte of this index.
+    pub fn address(&self, at: usize) -> u16
+        requires { at < length self.now.image.bytes }
+        ensures { result ≡ self.now.image.start + at }
+    {
+        // The limits of an image are known where its bytes are looked at.
+        let _ = self.image.bytes();
+        (self.image.start() as usize + at) as u16
+    }
+}

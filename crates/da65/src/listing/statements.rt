@@ -1,0 +1,233 @@
+//! The statement of a group.
+
+ghost use Rattle.std.specs.Prelude.{◌≡◌, ◌+◌, ◌<◌, ◌≤◌, length, IfSome, option_map};
+ghost use Rattle.info65.specs.Names.{AreNames};
+ghost use Rattle.isa65.specs.Mode.{len_of};
+ghost use Rattle.map65.specs.Targets.{entry_of};
+ghost use Rattle.stmt65.specs.Printable.{IsPrintable, IsWrittenIn};
+ghost use Rattle.stmt65.specs.code.StatementViews.{operands_seen, statement_seen};
+ghost use Rattle.da65.specs.BaseNames.{names_of};
+ghost use Rattle.da65.specs.Instructions.{instruction_in};
+ghost use Rattle.da65.specs.Shapes.{IsGroupOf};
+ghost use Rattle.da65.specs.Statements.{address_entry, is_forced, numbers, operands_of, return_entry, statement_for, statement_in};
+
+use crate::listing::base_names::{address_expr, target, zero_page_expr};
+use crate::listing::instructions::instruction_in;
+use info65::{Entry, RangeType};
+use isa65::{ByteOrder, Mode, Op, OpcodeSet};
+use map65::{Map, NameBuf, target_of, word_of};
+use std::alloc::Allocator;
+use stmt65::{Expr, Operands, Statement};
+
+/// The operands of an instruction in this mode at this address, with the names of their addresses: none if its
+/// target lies outside the address space.
+#[tactic(auto, unfolding(crate::specs::Statements::operands_of))]
+fn operands_of<'n, A: Allocator>(
+    map: &Map<'_, A>,
+    mode: Mode,
+    address: u16,
+    bytes: &[u8],
+    first: &'n mut NameBuf,
+    second: &'n mut NameBuf,
+) -> Option<Operands<'n>>
+    requires names { AreNames map.now.info.names }
+    requires all { len_of mode ≤ length bytes.now }
+    requires room { address + length bytes.now ≤ 65536 }
+    ensures value { option_map operands_seen result ≡ operands_of (names_of map.now) mode address bytes.now }
+    ensures written { IfSome result (λ os. IsWrittenIn mode (operands_seen os)) }
+{
+    let one = match mode {
+        Mode::Imp | Mode::Acc => return Some(Operands::None),
+        Mode::Imm => Expr::Number(u16::from(bytes[1])),
+        Mode::Abs | Mode::Absx | Mode::Absy | Mode::Ind | Mode::Absindx => {
+            address_expr(map, word_of(bytes), first)
+        }
+        Mode::Rel => {
+            let target = target_of(u32::from(address) + 2, bytes[1])?;
+            address_expr(map, target, first)
+        }
+        Mode::Zprel => {
+            let target = target_of(u32::from(address) + 3, bytes[2])?;
+            let tested = zero_page_expr(map, bytes[1], first);
+            return Some(Operands::Two(tested, address_expr(map, target, second)));
+        }
+        Mode::Zp | Mode::Zpx | Mode::Zpy | Mode::Indx | Mode::Indy | Mode::Zpind => {
+            zero_page_expr(map, bytes[1], first)
+        }
+    };
+    Some(Operands::One(one))
+}
+
+/// Whether `a:` stands before the operand: an assembler would take the zero-page mode without it.
+pub fn is_forced<S: OpcodeSet>(set: &S, op: Op, bytes: &[u8]) -> bool
+    requires { len_of op.mode ≤ length bytes.now }
+    ensures { result ≡ is_forced (S.table set.now) op bytes.now }
+{
+    match op.mode {
+        Mode::Abs | Mode::Absx | Mode::Absy => word_of(bytes) < 256 && op.sibling(set).is_some(),
+        _ => false,
+    }
+}
+
+/// The statement of code at this address that has these bytes, of which `instruction` is the one that
+/// they begin with.
+#[tactic(auto, unfolding(crate::specs::Statements::statement_in, crate::specs::Instructions::instruction_in))]
+fn statement_in<'a, S: OpcodeSet, A: Allocator>(
+    set: &S,
+    map: &Map<'_, A>,
+    address: u16,
+    bytes: &'a [u8],
+    instruction: Option<Op>,
+    first: &'a mut NameBuf,
+    second: &'a mut NameBuf,
+) -> Statement<'a>
+    requires names { AreNames map.now.info.names }
+    requires some { 0 < length bytes.now }
+    requires room { address + length bytes.now ≤ 65536 }
+    requires first { instruction ≡ instruction_in (S.table set.now) bytes.now }
+    ensures value { statement_seen result ≡ statement_in (names_of map.now) (S.table set.now) address bytes.entry.now }
+    ensures printable { IsPrintable (statement_seen result) }
+{
+    let Some(op) = instruction else {
+        let (item, _) = bytes.split_at(1);
+        return Statement::Bytes(item);
+    };
+    match operands_of(map, op.mode, address, bytes, first, second) {
+        Some(operands) => Statement::Instr {
+            op,
+            absolute: is_forced(set, op, bytes),
+            operands,
+        },
+        None => {
+            let (item, _) = bytes.split_at(usize::from(op.mode.len()));
+            Statement::Bytes(item)
+        }
+    }
+}
+
+/// The word of an entry, low byte first.
+fn entry_of(bytes: &[u8]) -> u16
+    requires { 2 ≤ length bytes.now }
+    ensures { result ≡ entry_of bytes.now }
+{
+    u16::from(bytes[0]) + 256 * u16::from(bytes[1])
+}
+
+/// The entry of an address table.
+#[tactic(auto, using(crate::proofs::EntryLemmas::entries), unfolding(crate::specs::Statements::address_entry))]
+fn address_entry<'a, A: Allocator>(
+    map: &Map<'_, A>,
+    bytes: &'a [u8],
+    name: &'a mut NameBuf,
+) -> Statement<'a>
+    requires names { AreNames map.now.info.names }
+    requires word { length bytes.now ≡ 2 }
+    ensures value { statement_seen result ≡ address_entry (names_of map.now) bytes.entry.now }
+    ensures printable { IsPrintable (statement_seen result) }
+{
+    match target(map, entry_of(bytes), name) {
+        Some(target) => Statement::Addr(target),
+        None => Statement::Words(bytes),
+    }
+}
+
+/// The entry of a return table.
+#[tactic(auto, using(crate::proofs::EntryLemmas::entries), unfolding(crate::specs::Statements::return_entry))]
+fn return_entry<'a, A: Allocator>(
+    map: &Map<'_, A>,
+    bytes: &'a [u8],
+    name: &'a mut NameBuf,
+) -> Statement<'a>
+    requires names { AreNames map.now.info.names }
+    requires word { length bytes.now ≡ 2 }
+    ensures value { statement_seen result ≡ return_entry (names_of map.now) bytes.entry.now }
+    ensures printable { IsPrintable (statement_seen result) }
+{
+    let entry = entry_of(bytes);
+    if entry == 0xFFFF {
+        return Statement::Rts(None);
+    }
+    match target(map, entry + 1, name) {
+        Some(target) => Statement::Rts(Some(target)),
+        None => Statement::Words(bytes),
+    }
+}
+
+/// The numbers of a line of a table, each of `unit` bytes in this order.
+fn numbers(unit: u8, order: ByteOrder, bytes: &[u8]) -> Statement<'_>
+    requires { IsPrintable (numbers unit order bytes.now) }
+    ensures value { statement_seen result ≡ numbers unit order bytes.entry.now }
+    ensures printable { IsPrintable (statement_seen result) }
+{
+    if unit == 1 {
+        return Statement::Bytes(bytes);
+    }
+    match order {
+        ByteOrder::LittleEndian => {
+            if unit == 4 {
+                Statement::Dwords(bytes)
+            } else {
+                Statement::Words(bytes)
+            }
+        }
+        ByteOrder::BigEndian => Statement::Dbyts(bytes),
+    }
+}
+
+/// The statement of the group of this role at this address that has these bytes.
+#[tactic(auto, using(crate::proofs::EntryLemmas::lines), unfolding(crate::specs::Statements::statement_for))]
+pub fn statement_for<'a, S: OpcodeSet, A: Allocator>(
+    set: &S,
+    map: &Map<'_, A>,
+    role: RangeType,
+    address: u16,
+    bytes: &'a [u8],
+    first: &'a mut NameBuf,
+    second: &'a mut NameBuf,
+) -> Statement<'a>
+    requires names { AreNames map.now.info.names }
+    requires some { 0 < length bytes.now }
+    requires room { address + length bytes.now ≤ 65536 }
+    requires group { IsGroupOf (S.table set.now) role bytes.now }
+    ensures value { statement_seen result ≡ statement_for (names_of map.now) (S.table set.now) role address bytes.entry.now }
+    ensures printable { IsPrintable (statement_seen result) }
+{
+    let layout = role.layout();
+    let is_leftover = bytes.len() < usize::from(layout.unit);
+    match layout.entry {
+        Entry::Instruction => {
+            statement_in(
+                set,
+                map,
+                address,
+                bytes,
+                instruction_in(set, bytes),
+                first,
+                second,
+            )
+        }
+        Entry::Number(order) => {
+            if is_leftover {
+                Statement::Bytes(bytes)
+            } else {
+                numbers(layout.unit, order, bytes)
+            }
+        }
+        Entry::Address => {
+            if is_leftover {
+                Statement::Bytes(bytes)
+            } else {
+                address_entry(map, bytes, first)
+            }
+        }
+        Entry::Return => {
+            if is_leftover {
+                Statement::Bytes(bytes)
+            } else {
+                return_entry(map, bytes, first)
+            }
+        }
+        Entry::Character => Statement::Text(bytes),
+        Entry::Skipped => Statement::Blank,
+    }
+}

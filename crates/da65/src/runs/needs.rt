@@ -1,0 +1,31 @@
+//! Which files a run needs, by its options and its information file.
+
+ghost use Rattle.std.specs.Prelude.{◌≡◌, IfOk};
+ghost use Rattle.info65.specs.Reader.{information};
+ghost use Rattle.da65.specs.NeededFiles.{needs_in};
+
+use crate::runs::files::{Needs, needs_of, nothing};
+use info65::{InfoFaultKind, Options, read_info};
+use std::alloc::{AllocError, Allocator};
+
+/// Returns the names of the files that a run needs: the input, the output, and the include files in the order of their
+/// groups. A name that two groups have stands there twice. If the information file is refused there are none, and
+/// no file is to be opened or created. Fails only if memory runs out.
+pub fn needs<A: Allocator + Copy, B: Allocator>(
+    alloc: A,
+    options: &Options<B>,
+    info: &[u8],
+) -> Result<Needs<A>, AllocError>
+    ensures { IfOk result (λ n. n ≡ needs_in (information options.now info.now)) }
+{
+    match read_info(alloc, options, info) {
+        Ok(info) => needs_of(alloc, &info),
+        Err(fault) => {
+            if fault.kind == InfoFaultKind::Memory {
+                Err(AllocError)
+            } else {
+                Ok(nothing(alloc))
+            }
+        }
+    }
+}

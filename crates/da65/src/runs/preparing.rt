@@ -1,0 +1,116 @@
+//! What a run lists its input by: the information file, with the names of its include files.
+
+ghost use Rattle.std.specs.Prelude.{◌≡◌, ◌≢◌, ◌<◌, ℕ, List, Result, get_or, is_some, length};
+ghost use Rattle.info65.specs.Code.Results.{Fails};
+ghost use Rattle.info65.specs.Views.{IncludeView, InfoView};
+ghost use Rattle.info65.specs.declared.fault.InfoFault.{InfoFault};
+ghost use Rattle.da65.specs.Code.Preparing.{Changes, Prepares, Stops};
+ghost use Rattle.da65.specs.Files.{files_seen};
+ghost use Rattle.da65.specs.Outcome.{accepted, or_message, prepared, with_all_includes, with_file};
+
+use crate::runs::files::{File, file_named};
+use crate::runs::messages::{
+    Message, include_message, info_message, missing_message, no_input_message,
+};
+use info65::{Info, InfoFault, InfoFaultKind, Options, read_include, read_info};
+use std::alloc::Allocator;
+
+/// Why a run ends before it reads its input.
+#[derive(Drop)]
+pub(crate) enum Stop {
+    /// Memory ran out.
+    Memory,
+    /// The run is refused with this message.
+    Refused(Message),
+}
+
+/// The end of a run for a fault of a file, which has this message.
+fn stop_of(fault: InfoFault, message: Message) -> Stop
+    ensures stops { (of : InfoFault → List ℕ) (defined : Result InfoView InfoFault) → message.items ≡ of fault → Fails fault defined → Stops result (or_message of defined) }
+    ensures memory { result ≡ Stop.Memory → fault.kind ≡ InfoFaultKind.Memory }
+    ensures refused { fault.kind ≢ InfoFaultKind.Memory → result ≡ Stop.Refused message }
+{
+    if fault.kind == InfoFaultKind::Memory {
+        Stop::Memory
+    } else {
+        Stop::Refused(message)
+    }
+}
+
+/// The command line or the information file names an input.
+fn names_input<A: Allocator>(info: &Info<A>) -> bool
+    ensures { result ≡ is_some info.now.settings.input }
+{
+    info.settings().input.is_some()
+}
+
+/// What the information file says, if an input is named.
+fn read_named<A: Allocator + Copy, N: Allocator>(
+    alloc: A,
+    options: &Options<N>,
+    info: &[u8],
+) -> Result<Info<A>, Stop>
+    ensures { Prepares result (accepted options.now info.now) }
+{
+    match read_info(alloc, options, info) {
+        Ok(info) if names_input(&info) => Ok(info),
+        Ok(_) => Err(Stop::Refused(no_input_message())),
+        Err(fault) => Err(stop_of(fault, info_message(fault))),
+    }
+}
+
+/// Adds the names of the include file at this index.
+fn add_include<A: Allocator + Copy>(
+    alloc: A,
+    info: &mut Info<A>,
+    index: usize,
+    files: &[File<'_>],
+) -> Result<(), Stop>
+    requires { index < length info.old.includes }
+    ensures done { (x : IncludeView) → x ≡ get_or info.old.includes index x → Changes result info.new (with_file (files_seen files.now) index x info.old) }
+    ensures includes { info.new.includes ≡ info.old.includes }
+{
+    let include = &info.includes()[index];
+    let name = include.file.as_str();
+    let Some(bytes) = file_named(files, name) else {
+        return Err(Stop::Refused(missing_message(name.as_bytes())));
+    };
+    match read_include(alloc, info, index, bytes) {
+        Ok(()) => Ok(()),
+        Err(fault) => {
+            let include = &info.includes()[index];
+            let message = include_message(include.file.as_bytes(), fault);
+            Err(stop_of(fault, message))
+        }
+    }
+}
+
+/// Adds the names of all include files, in the order of their groups.
+fn add_includes<A: Allocator + Copy>(
+    alloc: A,
+    info: &mut Info<A>,
+    files: &[File<'_>],
+) -> Result<(), Stop>
+    ensures { Changes result info.new (with_all_includes (files_seen files.now) info.old) }
+{
+    let count = info.includes().len();
+    for index in 0..count {
+        add_include(alloc, info, index, files)?;
+    }
+    Ok(())
+}
+
+/// Reads the information file, asks for an input name, and adds the names of the include files.
+#[tactic(auto, unfolding(crate::specs::Outcome::prepared))]
+pub(crate) fn prepare<A: Allocator + Copy, N: Allocator>(
+    alloc: A,
+    options: &Options<N>,
+    info: &[u8],
+    files: &[File<'_>],
+) -> Result<Info<A>, Stop>
+    ensures { Prepares result (prepared options.now info.now (files_seen files.now)) }
+{
+    let mut info = read_named(alloc, options, info)?;
+    add_includes(alloc, &mut info, files)?;
+    Ok(info)
+}

@@ -1,0 +1,198 @@
+//! From an information file and an input to a listing and messages.
+
+ghost use Rattle.std.specs.Prelude.{◌≡◌, ◌-◌, ◌^◌, ◌<◌, ◌≤◌, Ok, false, IfSome, IfOk, IsErrOf, length};
+ghost use Rattle.std.specs.Io.KnownBytes.{Keeps};
+ghost use Rattle.map65.specs.Device.{TakesUpTo, has_failed};
+ghost use Rattle.map65.specs.ImageView.{AreBytes, IsPlaced};
+ghost use Rattle.da65.specs.Files.{files_seen};
+ghost use Rattle.da65.specs.Groups.{skips};
+ghost use Rattle.da65.specs.Outcome.{done, image_message, outcome_by, outcome_of, prepared, warnings};
+ghost use Rattle.da65.specs.RunLaw.{Reassembles, Took};
+ghost use Rattle.da65.specs.Code.Refusals.{RefusesOrGivesUp, Tells};
+ghost use Rattle.da65.specs.Running.{Writes, WritesFew, OutCount, MessagesCount, FailsAtMostOnce, most_read};
+
+use crate::listing::line_groups::has_skipped;
+use crate::listing::lines::{Lines, write_lines};
+use crate::runs::files::File;
+use crate::runs::messages::{Message, image_message, warnings};
+use crate::runs::outcome::{RunFault, Status};
+use crate::runs::preparing::{Stop, prepare};
+use crate::runs::segment_reentry::is_entered_again;
+use crate::runs::write::write_whole;
+use info65::{Info, Options};
+use map65::{Image, ImageFault, Map, Sink, Source, read_image};
+use std::alloc::Allocator;
+
+/// Writes the message of a refusal, which is its only one.
+fn refuse<M: Sink>(msgs: &mut M, message: &[u8]) -> Result<Status, RunFault>
+    requires { length message.now ≤ 320 }
+    ensures text { Tells result Status.Refused message.now (M.taken msgs.old) (M.taken msgs.new) }
+    ensures few { WritesFew (M.taken msgs.old) (M.taken msgs.new) }
+    ensures count { MessagesCount result (M.faults msgs.old) (M.faults msgs.new) }
+{
+    match write_whole(msgs, message) {
+        Ok(()) => Ok(Status::Refused),
+        Err(_) => Err(RunFault::Messages),
+    }
+}
+
+/// Writes the message of an input that is refused, or gives up if its reading ran out of memory.
+fn refuse_image<M: Sink>(msgs: &mut M, fault: ImageFault) -> Result<Status, RunFault>
+    ensures text { RefusesOrGivesUp result (image_message fault) (M.taken msgs.old) (M.taken msgs.new) }
+    ensures few { WritesFew (M.taken msgs.old) (M.taken msgs.new) }
+    ensures memory { fault ≡ ImageFault.Memory → IsErrOf result RunFault.Memory }
+    ensures only_memory { IsErrOf result RunFault.Memory → fault ≡ ImageFault.Memory }
+    ensures count { MessagesCount result (M.faults msgs.old) (M.faults msgs.new) }
+{
+    match fault {
+        ImageFault::Memory => Err(RunFault::Memory),
+        _ => refuse(msgs, image_message(fault)),
+    }
+}
+
+/// The warnings that apply to the listing of an image. The map is the one of these two.
+fn warnings_of<A: Allocator>(info: &Info<A>, image: &Image<A>, map: &Map<'_, A>) -> Message
+    requires { map.now ≡ record { info = info.now; image = image.now } }
+    ensures { result.items ≡ warnings map.now }
+{
+    let is_entered_again = is_entered_again(info, image, map);
+    warnings(has_skipped(info, map, image), is_entered_again)
+}
+
+/// Writes the warnings after a listing.
+fn warn<M: Sink>(msgs: &mut M, warnings: &[u8]) -> Result<Status, RunFault>
+    requires { length warnings.now ≤ 320 }
+    ensures text { Tells result Status.Done warnings.now (M.taken msgs.old) (M.taken msgs.new) }
+    ensures few { WritesFew (M.taken msgs.old) (M.taken msgs.new) }
+    ensures count { MessagesCount result (M.faults msgs.old) (M.faults msgs.new) }
+{
+    match write_whole(msgs, warnings) {
+        Ok(()) => Ok(Status::Done),
+        Err(_) => Err(RunFault::Messages),
+    }
+}
+
+/// Writes the listing of an image and then its warnings. The map is the one of these two. Allocates
+/// nothing.
+fn write_listing<A: Allocator, W: Sink, M: Sink>(
+    info: &Info<A>,
+    image: &Image<A>,
+    map: &Map<'_, A>,
+    messages: &[u8],
+    out: &mut W,
+    msgs: &mut M,
+) -> Result<Status, RunFault>
+    requires built { map.now ≡ record { info = info.now; image = image.now } }
+    requires placed { IsPlaced image.now }
+    requires are_bytes { AreBytes image.now.bytes }
+    requires messages { messages.now ≡ warnings map.now }
+    requires few { length messages.now ≤ 320 }
+    ensures text { Writes result (done map.now) (W.taken out.old) (W.taken out.new) (M.taken msgs.old) (M.taken msgs.new) }
+    ensures few { WritesFew (M.taken msgs.old) (M.taken msgs.new) }
+    ensures reassembles { IfOk result (λ status. skips map.now ≡ false → Took image.now (W.taken out.old) (W.taken out.new)) }
+    ensures out_count { OutCount result (W.faults out.old) (W.faults out.new) }
+    ensures messages_count { MessagesCount result (M.faults msgs.old) (M.faults msgs.new) }
+{
+    // What holds of all given names is known where they are counted, and of all segments where they are lent.
+    let _ = info.given_count();
+    let _ = info.segments();
+    match write_lines(Lines::new(info, image, map), out) {
+        Ok(()) => warn(msgs, messages),
+        Err(_) => Err(RunFault::Write),
+    }
+}
+
+/// Lists the input under an information file that was accepted, with the names of its include files.
+fn list_input<A: Allocator + Copy, R: Source, W: Sink, M: Sink>(
+    alloc: A,
+    info: &Info<A>,
+    input: &mut R,
+    out: &mut W,
+    msgs: &mut M,
+) -> Result<Status, RunFault>
+    ensures answer { R.faults input.old < 2 ^ 64 - 1 → IfSome (R.left input.old) (λ bytes.
+        Writes result (outcome_by (Ok info.now) bytes (has_failed (R.faults input.old) (R.faults input.new)))
+        (W.taken out.old) (W.taken out.new) (M.taken msgs.old) (M.taken msgs.new)) }
+    ensures reassembles { R.faults input.old < 2 ^ 64 - 1 → IfSome (R.left input.old) (λ bytes.
+        Reassembles result (Ok info.now) bytes (has_failed (R.faults input.old) (R.faults input.new))
+        (W.taken out.old) (W.taken out.new)) }
+    ensures memory { IsErrOf result RunFault.Memory → Keeps (W.taken out.old) (W.taken out.new) }
+    ensures memory_messages { IsErrOf result RunFault.Memory → Keeps (M.taken msgs.old) (M.taken msgs.new) }
+    ensures write { IsErrOf result RunFault.Write → Keeps (M.taken msgs.old) (M.taken msgs.new) }
+    ensures refused { IfOk result (λ status. status ≡ Status.Refused → Keeps (W.taken out.old) (W.taken out.new)) }
+    ensures few { WritesFew (M.taken msgs.old) (M.taken msgs.new) }
+    ensures reads { TakesUpTo (most_read (Ok info.now)) (R.left input.old) (R.left input.new) }
+    ensures out_count { OutCount result (W.faults out.old) (W.faults out.new) }
+    ensures messages_count { MessagesCount result (M.faults msgs.old) (M.faults msgs.new) }
+    ensures input_count { FailsAtMostOnce (R.faults input.old) (R.faults input.new) }
+{
+    let image = match read_image(alloc, info, input) {
+        Ok(image) => image,
+        Err(fault) => return refuse_image(msgs, fault),
+    };
+    let map = match Map::build(alloc, info, &image) {
+        Ok(map) => map,
+        Err(_) => return Err(RunFault::Memory),
+    };
+    let warnings = warnings_of(info, &image, &map);
+    write_listing(info, &image, &map, warnings.as_slice(), out, msgs)
+}
+
+/// Lists the input on `out` as source for ca65. If it is refused, the reason goes to `msgs`.
+///
+/// The options of the command line and the information file `info` give the settings; no information file
+/// is the same as an empty one. Each of its groups ASMINC includes the first of `files` that has the group's
+/// file name, in the order of the groups; the other files play no part. A run is refused, with one message
+/// and no listing, for the first of these reasons: the information file has a fault; there is no input name;
+/// an include file is not among `files` or has a fault; a read fails; the input has fewer
+/// than INPUTSIZE bytes after the first INPUTOFFS; it is empty; it is too large (more than 65,536 bytes,
+/// or it extends past $FFFF). Help and version play no part.
+///
+/// The type of the RANGE that has an address says how its byte is listed: as code, where there is none; on
+/// one line with its neighbours of the same type, up to 8 bytes, 16 bytes of text or 4 words; or, with
+/// SKIP, not at all. If a byte of the image is skipped, a warning follows the listing on `msgs`, and another one if
+/// a segment is entered again.
+///
+/// After INPUTOFFS bytes at most INPUTSIZE bytes are read, or 65,537 without a size. Nothing is read if the
+/// run is refused for its information file, its input name or an include file. All memory is allocated before the
+/// first byte is written, so `Memory` means that nothing was written. If a write fails or takes no byte, it is not
+/// tried again, and the result is `Write` for the listing and `Messages` for a message. The listing is whole when a
+/// warning is written. At most 320 bytes of messages are written.
+pub fn run<A: Allocator + Copy, N: Allocator, R: Source, W: Sink, M: Sink>(
+    alloc: A,
+    options: &Options<N>,
+    info: &[u8],
+    files: &[File<'_>],
+    input: &mut R,
+    out: &mut W,
+    msgs: &mut M,
+) -> Result<Status, RunFault>
+    // The listing, the messages and the status are those of the options, the information file, the files and the input.
+    ensures answer { R.faults input.old < 2 ^ 64 - 1 → IfSome (R.left input.old) (λ bytes.
+        Writes result (outcome_of options.now info.now (files_seen files.now) bytes (has_failed (R.faults input.old) (R.faults input.new)))
+        (W.taken out.old) (W.taken out.new) (M.taken msgs.old) (M.taken msgs.new)) }
+
+    // If the result is Done and no byte of the image is skipped, what was written on `out` assembles to the image.
+    ensures reassembles { R.faults input.old < 2 ^ 64 - 1 → IfSome (R.left input.old) (λ bytes.
+        Reassembles result (prepared options.now info.now (files_seen files.now)) bytes (has_failed (R.faults input.old) (R.faults input.new))
+        (W.taken out.old) (W.taken out.new)) }
+
+    // These hold for every reader.
+    ensures memory { IsErrOf result RunFault.Memory → Keeps (W.taken out.old) (W.taken out.new) }
+    ensures memory_messages { IsErrOf result RunFault.Memory → Keeps (M.taken msgs.old) (M.taken msgs.new) }
+    ensures write { IsErrOf result RunFault.Write → Keeps (M.taken msgs.old) (M.taken msgs.new) }
+    ensures refused { IfOk result (λ status. status ≡ Status.Refused → Keeps (W.taken out.old) (W.taken out.new)) }
+    ensures few { WritesFew (M.taken msgs.old) (M.taken msgs.new) }
+    ensures reads { TakesUpTo (most_read (prepared options.now info.now (files_seen files.now))) (R.left input.old) (R.left input.new) }
+
+    // A failed write is reported, and nothing else is reported as one.
+    ensures out_count { OutCount result (W.faults out.old) (W.faults out.new) }
+    ensures messages_count { MessagesCount result (M.faults msgs.old) (M.faults msgs.new) }
+    ensures input_count { FailsAtMostOnce (R.faults input.old) (R.faults input.new) }
+{
+    match prepare(alloc, options, info, files) {
+        Ok(info) => list_input(alloc, &info, input, out, msgs),
+        Err(Stop::Refused(message)) => refuse(msgs, message.as_slice()),
+        Err(Stop::Memory) => Err(RunFault::Memory),
+    }
+}

@@ -1,0 +1,141 @@
+//! Whether a segment is entered again.
+
+ghost use Rattle.std.specs.Prelude.{◌≡◌, ◌||◌, List, Option, ℕ};
+ghost use Rattle.std.specs.Bool.{OnFalse};
+ghost use Rattle.std.specs.Option.{option_or};
+ghost use Rattle.da65.specs.Code.SegmentReentry.{IsAfter, IsKeyed, IsNew, has_had, is_back, is_same_key};
+ghost use Rattle.da65.specs.SegmentReentry.{is_entered_again};
+ghost use Rattle.da65.specs.Segments.{segment_at};
+
+use crate::listing::line_groups::{group_len, is_skipped, role_inside};
+use crate::runs::key_set::KeySet;
+use info65::Info;
+use map65::{Image, Map};
+use std::alloc::Allocator;
+
+/// The segments of the groups so far, each by the key of its name.
+#[derive(Drop)]
+struct Entered {
+    /// The segment of the last group. The default has no key.
+    last: Option<u16>,
+    /// The segments of the groups.
+    keys: KeySet,
+    /// Whether a group had the default while no segment is named CODE, so that its name has no key.
+    default: bool,
+}
+
+/// The key of the segment of an address. The default has none.
+fn segment_key<A: Allocator>(info: &Info<A>, map: &Map<'_, A>, address: u16) -> Option<u16>
+    requires { map.now.info ≡ info.now }
+    ensures { IsKeyed map.now.info.segments (segment_at map.now address) result }
+{
+    let _ = map;
+    info.segment_key(address)
+}
+
+fn is_same_key(one: Option<u16>, other: Option<u16>) -> bool
+    ensures { result ≡ is_same_key one other }
+{
+    match (one, other) {
+        (None, None) => true,
+        (Some(key), Some(other)) => key == other,
+        _ => false,
+    }
+}
+
+/// The key of the name by which a segment is compared with those of earlier groups: the default counts as CODE.
+fn name_key(segment: Option<u16>, code: Option<u16>) -> Option<u16>
+    ensures { result ≡ option_or segment code }
+{
+    match segment {
+        Some(key) => Some(key),
+        None => code,
+    }
+}
+
+impl Entered {
+    fn none() -> Self
+        ensures { IsNew result }
+    {
+        Entered {
+            last: None,
+            keys: KeySet::none(),
+            default: false,
+        }
+    }
+
+    /// Whether a group had a segment whose name has this key.
+    fn has_had(&self, name: Option<u16>) -> bool
+        ensures { result ≡ has_had self.now name }
+    {
+        match name {
+            Some(key) => self.keys.contains(key),
+            None => self.default,
+        }
+    }
+
+    /// Whether a segment line leads back to a segment that an earlier group had.
+    fn is_back(&self, segment: Option<u16>, name: Option<u16>) -> bool
+        ensures { result ≡ is_back self.now segment name }
+    {
+        !is_same_key(self.last, segment) && self.has_had(name)
+    }
+
+    /// Keeps the name of the segment of a group.
+    fn keep(&mut self, name: Option<u16>)
+        ensures last { self.new.last ≡ self.old.last }
+        ensures had { (k : Option ℕ) → has_had self.new k ≡ (is_same_key name k || has_had self.old k) }
+    {
+        match name {
+            Some(key) => self.keys.insert(key),
+            None => self.default = true,
+        }
+    }
+
+    /// Adds the segment of the next group, or returns true if a segment line leads back to it.
+    fn add(&mut self, segment: Option<u16>, name: Option<u16>) -> bool
+        ensures back { result ≡ is_back self.old segment name }
+        ensures after { OnFalse result (IsAfter self.old self.new segment name) }
+    {
+        if self.is_back(segment, name) {
+            return true;
+        }
+        self.keep(name);
+        self.last = segment;
+        false
+    }
+}
+
+/// Whether a segment line of the listing leads to a segment that an earlier group had.
+///
+/// The default counts as CODE. The names of the segments are compared by their keys, of which a set of a fixed
+/// size is kept, so this allocates nothing. The time grows as n log s with n groups and s segments.
+#[tactic(auto, unfolding(crate::specs::SegmentReentry::is_entered_again))]
+pub fn is_entered_again<A: Allocator>(info: &Info<A>, image: &Image<A>, map: &Map<'_, A>) -> bool
+    requires { map.now ≡ record { info = info.now; image = image.now } }
+    ensures { result ≡ is_entered_again map.now }
+{
+    if info.segments().is_empty() {
+        return false;
+    }
+    // What holds of all given names is known where they are counted.
+    let _ = info.given_count();
+    let code = info.first_named(b"CODE");
+    let start = image.start() as usize;
+    let count = image.bytes().len();
+    let mut entered = Entered::none();
+    let mut at = 0;
+    'groups: while at < count {
+        let address = (start + at) as u16;
+        if is_skipped(map, address) {
+            at += 1;
+        } else {
+            let segment = segment_key(info, map, address);
+            if entered.add(segment, name_key(segment, code)) {
+                return true;
+            }
+            at += group_len(map, role_inside(map, address), start + at);
+        }
+    }
+    false
+}
