@@ -8,6 +8,7 @@ pub mod CommentLemmas
 pub mod ConstantLemmas
 pub mod MarkLemmas
 pub mod NextLemmas
+pub mod ListedGroupLemmas
 pub mod BaseLemmas
 pub mod BareLemmas
 pub mod SkipLemmas

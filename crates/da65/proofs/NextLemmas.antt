@@ -400,72 +400,7 @@ above-lines m a name some long = ap (λ (l : Option (List ℕ)). labelled (style
 pub takes-label : (m : MapView) (k : ℕ) → IsGroupStart m k → TakesLabel (statement_at m (m.image.start + k))
 takes-label m k start = group_takes (names_of m) (opcodes m) (role_of m.info (m.image.start + k)) (m.image.start + k) _ start.shown
 
--- ---- the statement of a group
-
--- the group that begins with the k-th byte, as a map and an image tell it
-pub record GroupAt (m : MapView) (k a : ℕ) (cpu : Cpu) (r : RangeType) (bytes : List ℕ) : Type 0 where
-  pub cpu_is : m.info.settings.cpu ≡ cpu
-  pub address : a ≡ m.image.start + k
-  pub role_is : r ≡ role_of m.info a
-  pub bytes_are : bytes ≡ take (group_len m (m.image.start + k)) (drop k m.image.bytes)
-
--- the bytes that it has
-pub bytes-same : (m : MapView) (k a : ℕ) (cpu : Cpu) (r : RangeType) (bytes : List ℕ) → GroupAt m k a cpu r bytes → bytes ≡ group_bytes m (m.image.start + k)
-bytes-same m k a cpu r bytes at = at.bytes_are ∙ sym (group-index m k)
-
-role-same : (m : MapView) (k a : ℕ) (cpu : Cpu) (r : RangeType) (bytes : List ℕ) → GroupAt m k a cpu r bytes → r ≡ role_of m.info (m.image.start + k)
-role-same m k a cpu r bytes at = at.role_is ∙ ap (role_of m.info) at.address
-
-pub group-shaped : (m : MapView) (k a : ℕ) (cpu : Cpu) (r : RangeType) (bytes : List ℕ) → GroupAt m k a cpu r bytes → IsGroupStart m k → IsGroupOf (table_of cpu) r bytes
-group-shaped m k a cpu r bytes at start =
-    let of_bytes = subst (λ (bytes : List ℕ). IsGroupOf (opcodes m) (role_of m.info (m.image.start + k)) bytes) (sym (bytes-same m k a cpu r bytes at)) (group-shape m k start.place start.inside start.shown) in
-    let of_role = subst (λ (r : RangeType). IsGroupOf (opcodes m) r bytes) (sym (role-same m k a cpu r bytes at)) of_bytes in
-    subst (λ (cpu : Cpu). IsGroupOf (table_of cpu) r bytes) at.cpu_is of_role
-
-pub group-told : (m : MapView) (k a : ℕ) (cpu : Cpu) (r : RangeType) (bytes : List ℕ) → GroupAt m k a cpu r bytes
-    → statement_for (names_of m) (table_of cpu) r a bytes ≡ statement_at m (m.image.start + k)
-group-told m k a cpu r bytes at =
-    ap (λ (cpu : Cpu). statement_for (names_of m) (table_of cpu) r a bytes) (sym at.cpu_is)
-    ∙ ap (λ (a : ℕ). statement_for (names_of m) (opcodes m) r a bytes) at.address
-    ∙ ap (λ (r : RangeType). statement_for (names_of m) (opcodes m) r (m.image.start + k) bytes) (role-same m k a cpu r bytes at)
-    ∙ ap (λ (bytes : List ℕ). statement_for (names_of m) (opcodes m) (role_of m.info (m.image.start + k)) (m.image.start + k) bytes) (bytes-same m k a cpu r bytes at)
-
-pub group-here : (m : MapView) (k a len : ℕ) (cpu : Cpu) (r : RangeType) (whole rest bytes : List ℕ)
-    → cpu ≡ m.info.settings.cpu → a ≡ m.image.start + k → r ≡ role_of m.info (m.image.start + k) → len ≡ group_len m (m.image.start + k)
-    → whole ≡ m.image.bytes → rest ≡ drop k whole → bytes ≡ take len rest → GroupAt m k a cpu r bytes
-group-here m k a len cpu r whole rest bytes is_cpu is_address is_role is_len is back front = record {
-  cpu_is = sym is_cpu;
-  address = is_address;
-  role_is = is_role ∙ ap (role_of m.info) (sym is_address);
-  bytes_are = front ∙ ap (take len) (back ∙ ap (drop k) is) ∙ ap (λ (n : ℕ). take n (drop k m.image.bytes)) is_len;
-}
-
--- its line
-pub line-told : (n m : MapView) (k a : ℕ) (t : Style) (r : RangeType) (bytes : List ℕ) (label : Option (List ℕ)) → n ≡ m → t ≡ style_of m.info.settings → GroupAt m k a t.cpu r bytes
-    → line_text t (group_line label (statement_for (names_of n) (table_of t.cpu) r a bytes) a bytes)
-    ≡ line_text (style_of m.info.settings) (group_line label (statement_at m (m.image.start + k)) (m.image.start + k) (group_bytes m (m.image.start + k)))
-line-told n m k a t r bytes label is same at =
-    ap (λ (n : MapView). line_text t (group_line label (statement_for (names_of n) (table_of t.cpu) r a bytes) a bytes)) is
-    ∙ ap (λ (s : StatementView). line_text t (group_line label s a bytes)) (group-told m k a t.cpu r bytes at)
-    ∙ ap (λ (n : ℕ). line_text t (group_line label (statement_at m (m.image.start + k)) n bytes)) at.address
-    ∙ ap (λ (bs : List ℕ). line_text t (group_line label (statement_at m (m.image.start + k)) (m.image.start + k) bs)) (bytes-same m k a t.cpu r bytes at)
-    ∙ ap (λ (u : Style). line_text u (group_line label (statement_at m (m.image.start + k)) (m.image.start + k) (group_bytes m (m.image.start + k)))) same
-
--- it may have the label
-pub label-told : (n m : MapView) (k a : ℕ) (t : Style) (r : RangeType) (bytes : List ℕ) (label : Option (List ℕ)) → n ≡ m → t ≡ style_of m.info.settings → GroupAt m k a t.cpu r bytes
-    → MayBeLabelled (style_of m.info.settings).columns label (statement_at m (m.image.start + k)) → MayBeLabelled t.columns label (statement_for (names_of n) (table_of t.cpu) r a bytes)
-label-told n m k a t r bytes label is same at may =
-    subst (λ (u : Style). MayBeLabelled u.columns label (statement_for (names_of n) (table_of t.cpu) r a bytes)) (sym same)
-    (subst (λ (n : MapView). MayBeLabelled (style_of m.info.settings).columns label (statement_for (names_of n) (table_of t.cpu) r a bytes)) (sym is)
-    (subst (λ (s : StatementView). MayBeLabelled (style_of m.info.settings).columns label s) (sym (group-told m k a t.cpu r bytes at)) may))
-
--- whether an empty line follows it
-pub empty-told : (n m : MapView) (k a : ℕ) (t : Style) (r : RangeType) (bytes : List ℕ) → n ≡ m → t ≡ style_of m.info.settings → GroupAt m k a t.cpu r bytes
-    → has_empty_line t (statement_for (names_of n) (table_of t.cpu) r a bytes) ≡ has_empty_line (style_of m.info.settings) (statement_at m (m.image.start + k))
-empty-told n m k a t r bytes is same at =
-    ap (λ (n : MapView). has_empty_line t (statement_for (names_of n) (table_of t.cpu) r a bytes)) is
-    ∙ ap (λ (s : StatementView). has_empty_line t s) (group-told m k a t.cpu r bytes at)
-    ∙ ap (λ (u : Style). has_empty_line u (statement_at m (m.image.start + k))) same
+-- ---- after the statement of a group
 
 place-at : (m : MapView) (k len : ℕ) → IsGroupStart m k → len ≡ group_len m (m.image.start + k) → IsGroupPlace m (k + len)
 place-at m k len start same = subst (λ (n : ℕ). IsGroupPlace m (k + n)) (sym same) (place-next m k start.place start.inside start.shown)

@@ -1,10 +1,10 @@
 -- What ties the code to the rules: what its parts have done, for each of their results.
 pub mod Bases
 pub mod CommandRules
-pub mod SegmentReentry
 pub mod KeySet
 pub mod Layout
+pub mod ListedGroups
 pub mod Preparing
 pub mod Refusals
+pub mod SegmentReentry
 pub mod SkipRanges
-pub mod SoleOperands

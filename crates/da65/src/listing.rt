@@ -3,11 +3,10 @@
 mod base_names;
 mod comment_lines;
 mod constant_lines;
-mod group_line;
+mod group;
 mod group_lines;
 mod heading_lines;
 mod headings;
-mod instructions;
 pub(crate) mod line_groups;
 pub(crate) mod lines;
 mod listed_image;

@@ -113,26 +113,44 @@ fn constant_from<A: Allocator>(
     constant_before(listed, after_listed(listed, before), ADDRESSES, name)
 }
 
+/// Replaces the buffer by the constant line of this address, which has this name, and returns the next place.
+fn put_definition<A: Allocator>(
+    out: &mut Line,
+    listed: &ListedImage<'_, A>,
+    address: usize,
+    name: &[u8],
+) -> ListingPlace
+    requires is { IsConstant listed.now address }
+    requires text { name.now ≡ base_name (names_of listed.now) address }
+    requires long { IsNameLong name.now }
+    ensures { IsNext listed.now (assignment_line (names_of listed.now) address ∷ constants_left listed.now (address + 1) true) out.new.items result None }
+{
+    put_plain(out, listed.style(), &Statement::Const(name, address as u16));
+    ListingPlace::Constant {
+        address: address + 1,
+        after_another: true,
+    }
+}
+
 /// Replaces the buffer by the comment of the constant of this address, if there is one, else by its constant line, and
 /// returns the next place.
 fn put_constant<A: Allocator>(
     out: &mut Line,
     listed: &ListedImage<'_, A>,
-    at: usize,
-    any: bool,
+    address: usize,
+    after_another: bool,
     name: &[u8],
 ) -> ListingPlace
-    requires is { IsConstant listed.now at }
-    requires text { name.now ≡ base_name (names_of listed.now) at }
+    requires is { IsConstant listed.now address }
+    requires text { name.now ≡ base_name (names_of listed.now) address }
     requires long { IsNameLong name.now }
-    ensures { IsNext listed.now (constants_left listed.now at any) out.new.items result None }
+    ensures { IsNext listed.now (constants_left listed.now address after_another) out.new.items result None }
 {
-    if let Some(text) = comment_at(listed, at as u16) {
+    if let Some(text) = comment_at(listed, address as u16) {
         put_plain(out, listed.style(), &Statement::Remark(text));
-        return ListingPlace::Assignment(at);
+        return ListingPlace::Assignment { address };
     }
-    put_plain(out, listed.style(), &Statement::Const(name, at as u16));
-    ListingPlace::Constant(at + 1, true)
+    put_definition(out, listed, address, name)
 }
 
 /// Replaces the buffer by the next line of constants from this address on, and returns the next place.
@@ -140,33 +158,28 @@ pub fn put_next_constant<A: Allocator>(
     out: &mut Line,
     listed: &ListedImage<'_, A>,
     from: usize,
-    any: bool,
+    after_another: bool,
 ) -> Option<ListingPlace>
     requires { from ≤ 65536 }
-    ensures { MatchOption result (constants listed.now (65536 - from) from ≡ []) (λ next. IsNext listed.now (constants_left listed.now from any) out.new.items next None) }
+    ensures { MatchOption result (constants listed.now (65536 - from) from ≡ []) (λ next. IsNext listed.now (constants_left listed.now from after_another) out.new.items next None) }
 {
     let mut name = NameBuf::new();
-    let at = constant_from(listed, from, &mut name)?;
-    Some(put_constant(out, listed, at, any, name.as_slice()))
+    let address = constant_from(listed, from, &mut name)?;
+    Some(put_constant(out, listed, address, after_another, name.as_slice()))
 }
 
 /// Replaces the buffer by the constant line of this address, and returns the next place.
 pub fn put_assignment<A: Allocator>(
     out: &mut Line,
     listed: &ListedImage<'_, A>,
-    at: usize,
+    address: usize,
 ) -> ListingPlace
-    requires { IsConstant listed.now at }
-    ensures { IsNext listed.now (assignment_line (names_of listed.now) at ∷ constants_left listed.now (at + 1) true) out.new.items result None }
+    requires { IsConstant listed.now address }
+    ensures { IsNext listed.now (assignment_line (names_of listed.now) address ∷ constants_left listed.now (address + 1) true) out.new.items result None }
 {
     let mut name = NameBuf::new();
-    let Some(_) = base_at(listed.map(), at as u16, &mut name) else {
-        return ListingPlace::Constant(at + 1, true);
+    let Some(_) = base_at(listed.map(), address as u16, &mut name) else {
+        unreachable!()
     };
-    put_plain(
-        out,
-        listed.style(),
-        &Statement::Const(name.as_slice(), at as u16),
-    );
-    ListingPlace::Constant(at + 1, true)
+    put_definition(out, listed, address, name.as_slice())
 }

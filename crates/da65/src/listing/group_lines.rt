@@ -5,9 +5,8 @@ ghost use Rattle.std.specs.Option.{option_copied};
 ghost use Rattle.std.specs.Bool.{OnTrue};
 ghost use Rattle.stmt65.specs.Printable.{IsNameLong, MayBeLabelled};
 ghost use Rattle.stmt65.specs.Views as view;
-ghost use Rattle.map65.specs.Names.{has_name};
-ghost use Rattle.map65.specs.Roles.{role_of};
 ghost use Rattle.da65.specs.BaseNames.{base_name, is_base, names_of};
+ghost use Rattle.da65.specs.Code.ListedGroups.{IsGroupIn};
 ghost use Rattle.da65.specs.Groups.{group_bytes, group_len};
 ghost use Rattle.da65.specs.Lines.{IsFirstOf, IsGroupStart, IsInGroup, IsNext, after_group, group_left, statement_left};
 ghost use Rattle.da65.specs.Listing.{forwards, group_line, label_at, line_text, plain, statement_lines};
@@ -16,12 +15,13 @@ ghost use Rattle.da65.specs.Statements.{statement_at};
 ghost use Rattle.da65.specs.Style.{style_of};
 
 use crate::listing::base_names::base_at;
-use crate::listing::group_line::put_group_statement;
+use crate::listing::group::Group;
 use crate::listing::line_groups::{group_len, role_inside};
 use crate::listing::listed_image::ListedImage;
 use crate::listing::place::ListingPlace;
-use crate::listing::statement_line::put_plain;
-use info65::RangeType;
+use crate::listing::statement_line::{put_plain, put_statement};
+use crate::listing::statements::{OperandNames, statement_for};
+use crate::listing::style::has_empty_line;
 use map65::NameBuf;
 use std::alloc::Allocator;
 use stmt65::{Line, Statement};
@@ -94,55 +94,50 @@ fn put_forward<A: Allocator>(
     None
 }
 
-/// The role of the byte of this index.
-fn role_at<A: Allocator>(listed: &ListedImage<'_, A>, at: usize) -> RangeType
-    requires { at < length listed.now.image.bytes }
-    ensures { result ≡ role_of listed.now.info (listed.now.image.start + at) }
+/// The group that begins with the byte of this index.
+#[inline(always)]
+pub fn group_at<'a, A: Allocator>(listed: &ListedImage<'a, A>, index: usize) -> Group<'a>
+    requires { IsGroupStart listed.now index }
+    ensures index { result.index ≡ index }
+    ensures group { IsGroupIn listed.now result }
+    ensures len { length result.bytes.now ≡ group_len listed.now (listed.now.image.start + index) }
+    ensures room { listed.now.image.start + index + length result.bytes.now ≤ 65536 }
 {
-    role_inside(listed.map(), listed.address(at))
+    let map = listed.map();
+    let address = listed.address(index);
+    let role = role_inside(map, address);
+    let len = group_len(map, role, address as usize);
+    let (_, rest) = listed.bytes().split_at(index);
+    let (bytes, _) = rest.split_at(len);
+    Group {
+        index,
+        address,
+        role,
+        bytes,
+    }
 }
 
-/// Whether the address of the byte of this index has a name.
-fn has_name_at<A: Allocator>(listed: &ListedImage<'_, A>, at: usize) -> bool
-    requires { at < length listed.now.image.bytes }
-    ensures { result ≡ has_name listed.now (listed.now.image.start + at) }
-{
-    listed.map().has_name(listed.address(at))
-}
-
-/// Replaces the buffer by the statement of the group of this role that begins with the byte of this index and has so
-/// many bytes, after this label if there is one, and returns the next place.
+/// Replaces the buffer by the statement of a group, after this label if there is one, and returns the next place.
 #[inline(always)]
 fn put_group<A: Allocator>(
     out: &mut Line,
     listed: &ListedImage<'_, A>,
-    role: RangeType,
-    at: usize,
-    len: usize,
+    names: &mut OperandNames,
+    group: Group<'_>,
     label: Option<&[u8]>,
 ) -> ListingPlace
-    requires start { IsGroupStart listed.now at }
-    requires role { role ≡ role_of listed.now.info (listed.now.image.start + at) }
-    requires len { len ≡ group_len listed.now (listed.now.image.start + at) }
-    requires label { MayBeLabelled (style_of listed.now.info.settings).columns (option_copied label) (statement_at listed.now (listed.now.image.start + at)) }
-    ensures { IsNext listed.now (group_line (option_copied label.entry) (statement_at listed.now (listed.now.image.start + at)) (listed.now.image.start + at) (group_bytes listed.now (listed.now.image.start + at)) ∷ after_group listed.now at) out.new.items result (segment_at listed.now (listed.now.image.start + at)) }
+    requires group { IsGroupIn listed.now group }
+    requires label { MayBeLabelled (style_of listed.now.info.settings).columns (option_copied label) (statement_at listed.now (listed.now.image.start + group.index)) }
+    ensures { IsNext listed.now (group_line (option_copied label.entry) (statement_at listed.now (listed.now.image.start + group.entry.index)) (listed.now.image.start + group.entry.index) (group_bytes listed.now (listed.now.image.start + group.entry.index)) ∷ after_group listed.now group.entry.index) out.new.items result (segment_at listed.now (listed.now.image.start + group.entry.index)) }
 {
-    let (_, rest) = listed.bytes().split_at(at);
-    let (bytes, _) = rest.split_at(len);
-    let address = listed.address(at);
-    if put_group_statement(
-        out,
-        listed.style(),
-        listed.opcodes(),
-        listed.map(),
-        role,
-        address,
-        bytes,
-        label,
-    ) {
-        ListingPlace::Ending(at + len)
+    let style = listed.style();
+    let statement = statement_for(listed.opcodes(), listed.map(), group, names);
+    put_statement(out, style, label, &statement, group.address, group.bytes);
+    let index = group.index + group.bytes.len();
+    if has_empty_line(style, &statement) {
+        ListingPlace::Ending { index }
     } else {
-        ListingPlace::Group(at + len)
+        ListingPlace::Group { index }
     }
 }
 
@@ -151,77 +146,59 @@ fn put_group<A: Allocator>(
 fn put_labelled<A: Allocator>(
     out: &mut Line,
     listed: &ListedImage<'_, A>,
-    at: usize,
-    len: usize,
-    name: &[u8],
+    names: &mut OperandNames,
+    group: Group<'_>,
+    label: &[u8],
 ) -> ListingPlace
-    requires start { IsGroupStart listed.now at }
-    requires len { len ≡ group_len listed.now (listed.now.image.start + at) }
-    requires label { label_at (names_of listed.now) (listed.now.image.start + at) ≡ Some name.now }
-    requires long { IsNameLong name.now }
-    ensures { IsNext listed.now (statement_lines listed.now (listed.now.image.start + at) ++ after_group listed.now at) out.new.items result (segment_at listed.now (listed.now.image.start + at)) }
+    requires group { IsGroupIn listed.now group }
+    requires label { label_at (names_of listed.now) (listed.now.image.start + group.index) ≡ Some label.now }
+    requires long { IsNameLong label.now }
+    ensures { IsNext listed.now (statement_lines listed.now (listed.now.image.start + group.entry.index) ++ after_group listed.now group.entry.index) out.new.items result (segment_at listed.now (listed.now.image.start + group.entry.index)) }
 {
     let style = listed.style();
-    if style.columns.fits_label(name) {
-        put_group(out, listed, role_at(listed, at), at, len, Some(name))
+    if style.columns.fits_label(label) {
+        put_group(out, listed, names, group, Some(label))
     } else {
-        put_plain(out, style, &Statement::Label(name));
-        ListingPlace::Statement(at)
+        put_plain(out, style, &Statement::Label(label));
+        ListingPlace::Statement { index: group.index }
     }
 }
 
-/// Replaces the buffer by the first line of a group after its forward lines, and returns the next place.
+/// The same, if the group's address has a name.
 #[inline(never)]
-fn put_label<A: Allocator>(
+fn put_named<A: Allocator>(
     out: &mut Line,
     listed: &ListedImage<'_, A>,
-    at: usize,
-    len: usize,
+    names: &mut OperandNames,
+    group: Group<'_>,
 ) -> ListingPlace
-    requires start { IsGroupStart listed.now at }
-    requires len { len ≡ group_len listed.now (listed.now.image.start + at) }
-    ensures { IsNext listed.now (statement_lines listed.now (listed.now.image.start + at) ++ after_group listed.now at) out.new.items result (segment_at listed.now (listed.now.image.start + at)) }
+    requires { IsGroupIn listed.now group }
+    ensures { IsNext listed.now (statement_lines listed.now (listed.now.image.start + group.entry.index) ++ after_group listed.now group.entry.index) out.new.items result (segment_at listed.now (listed.now.image.start + group.entry.index)) }
 {
-    let mut name = NameBuf::new();
-    match base_at(listed.map(), listed.address(at), &mut name) {
-        Some(_) => put_labelled(out, listed, at, len, name.as_slice()),
-        None => put_group(out, listed, role_at(listed, at), at, len, None),
+    let mut label = NameBuf::new();
+    match base_at(listed.map(), group.address, &mut label) {
+        Some(_) => put_labelled(out, listed, names, group, label.as_slice()),
+        None => put_group(out, listed, names, group, None),
     }
 }
 
-/// Replaces the buffer by the first line of a group of this role after its forward lines, and returns the next place. Most
+/// Replaces the buffer by the first line of a group after its forward lines, and returns the next place. Most
 /// groups begin at an address without a name, and need no buffer for one.
 #[inline(always)]
 fn put_first<A: Allocator>(
     out: &mut Line,
     listed: &ListedImage<'_, A>,
-    role: RangeType,
-    at: usize,
-    len: usize,
-    named: bool,
+    names: &mut OperandNames,
+    group: Group<'_>,
 ) -> ListingPlace
-    requires start { IsGroupStart listed.now at }
-    requires role { role ≡ role_of listed.now.info (listed.now.image.start + at) }
-    requires len { len ≡ group_len listed.now (listed.now.image.start + at) }
-    requires named { named ≡ has_name listed.now (listed.now.image.start + at) }
-    ensures { IsNext listed.now (statement_lines listed.now (listed.now.image.start + at) ++ after_group listed.now at) out.new.items result (segment_at listed.now (listed.now.image.start + at)) }
+    requires { IsGroupIn listed.now group }
+    ensures { IsNext listed.now (statement_lines listed.now (listed.now.image.start + group.entry.index) ++ after_group listed.now group.entry.index) out.new.items result (segment_at listed.now (listed.now.image.start + group.entry.index)) }
 {
-    if named {
-        put_label(out, listed, at, len)
+    if listed.map().has_name(group.address) {
+        put_named(out, listed, names, group)
     } else {
-        put_group(out, listed, role, at, len, None)
+        put_group(out, listed, names, group, None)
     }
-}
-
-/// How many bytes the group has that begins with the byte of this index.
-pub fn len_at<A: Allocator>(listed: &ListedImage<'_, A>, at: usize) -> usize
-    requires { IsGroupStart listed.now at }
-    ensures len { result ≡ group_len listed.now (listed.now.image.start + at) }
-    ensures room { listed.now.image.start + at + result ≤ 65536 }
-{
-    let map = listed.map();
-    let address = listed.address(at);
-    group_len(map, role_inside(map, address), address as usize)
 }
 
 /// Replaces the buffer by the first line of a group from the forward line of this address on, and returns the next place.
@@ -229,19 +206,21 @@ pub fn len_at<A: Allocator>(listed: &ListedImage<'_, A>, at: usize) -> usize
 pub fn put_inside<A: Allocator>(
     out: &mut Line,
     listed: &ListedImage<'_, A>,
-    at: usize,
-    from: usize,
+    names: &mut OperandNames,
+    index: usize,
+    address: usize,
 ) -> ListingPlace
-    requires { IsInGroup listed.now at from }
-    ensures { IsNext listed.now (group_left listed.now at from) out.new.items result (segment_at listed.now (listed.now.image.start + at)) }
+    requires { IsInGroup listed.now index address }
+    ensures { IsNext listed.now (group_left listed.now index address) out.new.items result (segment_at listed.now (listed.now.image.start + index)) }
 {
-    let first = listed.address(at);
-    let role = role_at(listed, at);
-    let named = has_name_at(listed, at);
-    let len = len_at(listed, at);
-    match put_forward(out, listed, first, from, first as usize + len) {
-        Some(next) => ListingPlace::Forward(at, next + 1),
-        None => put_first(out, listed, role, at, len, named),
+    let group = group_at(listed, index);
+    let end = group.address as usize + group.bytes.len();
+    match put_forward(out, listed, group.address, address, end) {
+        Some(next) => ListingPlace::Forward {
+            index,
+            address: next + 1,
+        },
+        None => put_first(out, listed, names, group),
     }
 }
 
@@ -249,11 +228,11 @@ pub fn put_inside<A: Allocator>(
 pub fn put_rest<A: Allocator>(
     out: &mut Line,
     listed: &ListedImage<'_, A>,
-    at: usize,
+    names: &mut OperandNames,
+    index: usize,
 ) -> ListingPlace
-    requires { IsGroupStart listed.now at }
-    ensures { IsNext listed.now (statement_left listed.now at) out.new.items result (segment_at listed.now (listed.now.image.start + at)) }
+    requires { IsGroupStart listed.now index }
+    ensures { IsNext listed.now (statement_left listed.now index) out.new.items result (segment_at listed.now (listed.now.image.start + index)) }
 {
-    let len = len_at(listed, at);
-    put_group(out, listed, role_at(listed, at), at, len, None)
+    put_group(out, listed, names, group_at(listed, index), None)
 }

@@ -8,10 +8,11 @@ ghost use Rattle.da65.specs.Listing.{has_separator, line_text, plain, separator}
 ghost use Rattle.da65.specs.Segments.{is_same_segment, segment_at, segment_before, segment_statement};
 
 use crate::listing::comment_lines::put_comment;
-use crate::listing::group_lines::{len_at, put_inside};
+use crate::listing::group_lines::{group_at, put_inside};
 use crate::listing::listed_image::ListedImage;
 use crate::listing::place::ListingPlace;
 use crate::listing::statement_line::put_plain;
+use crate::listing::statements::OperandNames;
 use crate::listing::style::Style;
 use std::alloc::Allocator;
 use stmt65::{Line, Statement};
@@ -63,17 +64,21 @@ fn put_segment_line(out: &mut Line, style: &Style, segment: Option<&[u8]>)
 pub fn put_comments<A: Allocator>(
     out: &mut Line,
     listed: &ListedImage<'_, A>,
-    at: usize,
-    from: usize,
+    names: &mut OperandNames,
+    index: usize,
+    address: usize,
 ) -> ListingPlace
-    requires { IsOfGroup listed.now at from }
-    ensures { IsNext listed.now (comments_left listed.now at from) out.new.items result (segment_at listed.now (listed.now.image.start + at)) }
+    requires { IsOfGroup listed.now index address }
+    ensures { IsNext listed.now (comments_left listed.now index address) out.new.items result (segment_at listed.now (listed.now.image.start + index)) }
 {
-    let first = listed.address(at);
-    let len = len_at(listed, at);
-    match put_comment(out, listed, from, first as usize + len) {
-        Some(next) => ListingPlace::Comment(at, next + 1),
-        None => put_inside(out, listed, at, first as usize + 1),
+    let group = group_at(listed, index);
+    let first = group.address as usize;
+    match put_comment(out, listed, address, first + group.bytes.len()) {
+        Some(next) => ListingPlace::Comment {
+            index,
+            address: next + 1,
+        },
+        None => put_inside(out, listed, names, index, first + 1),
     }
 }
 
@@ -83,31 +88,35 @@ pub fn put_segment<'a, A: Allocator>(
     out: &mut Line,
     listed: &ListedImage<'a, A>,
     segment: &mut Option<&'a [u8]>,
-    at: usize,
+    names: &mut OperandNames,
+    index: usize,
 ) -> ListingPlace
-    requires start { IsGroupStart listed.now at }
-    requires segment { option_copied segment.old ≡ segment_before listed.now at }
-    ensures { IsNext listed.now (segment_left listed.now at) out.new.items result (option_copied segment.new) }
+    requires start { IsGroupStart listed.now index }
+    requires segment { option_copied segment.old ≡ segment_before listed.now index }
+    ensures { IsNext listed.now (segment_left listed.now index) out.new.items result (option_copied segment.new) }
 {
-    let address = listed.address(at);
+    let address = listed.address(index);
     let here = segment_at(listed, address);
     if is_same_segment(here, *segment) {
-        return put_comments(out, listed, at, address as usize);
+        return put_comments(out, listed, names, index, address as usize);
     }
     *segment = here;
     put_segment_line(out, listed.style(), here);
-    ListingPlace::Comment(at, address as usize)
+    ListingPlace::Comment {
+        index,
+        address: address as usize,
+    }
 }
 
 /// Whether the separator stands before the group that begins with the byte of this index.
-fn has_separator<A: Allocator>(listed: &ListedImage<'_, A>, at: usize) -> bool
-    requires { IsGroupStart listed.now at }
-    ensures { result ≡ has_separator listed.now (listed.now.image.start + at) }
+fn has_separator<A: Allocator>(listed: &ListedImage<'_, A>, index: usize) -> bool
+    requires { IsGroupStart listed.now index }
+    ensures { result ≡ has_separator listed.now (listed.now.image.start + index) }
 {
     if listed.style().level.get() == 0 {
         return false;
     }
-    !listed.map().is_in_run(listed.address(at))
+    !listed.map().is_in_run(listed.address(index))
 }
 
 /// Replaces the buffer by the first line of a group, and returns the next place. `segment` is that of the group before, and becomes
@@ -117,15 +126,16 @@ pub fn put_opening<'a, A: Allocator>(
     out: &mut Line,
     listed: &ListedImage<'a, A>,
     segment: &mut Option<&'a [u8]>,
-    at: usize,
+    names: &mut OperandNames,
+    index: usize,
 ) -> ListingPlace
-    requires start { IsGroupStart listed.now at }
-    requires segment { option_copied segment.old ≡ segment_before listed.now at }
-    ensures { IsNext listed.now (groups_left listed.now at) out.new.items result (option_copied segment.new) }
+    requires start { IsGroupStart listed.now index }
+    requires segment { option_copied segment.old ≡ segment_before listed.now index }
+    ensures { IsNext listed.now (groups_left listed.now index) out.new.items result (option_copied segment.new) }
 {
-    if has_separator(listed, at) {
+    if has_separator(listed, index) {
         put_separator(out, listed.style());
-        return ListingPlace::Segment(at);
+        return ListingPlace::Segment { index };
     }
-    put_segment(out, listed, segment, at)
+    put_segment(out, listed, segment, names, index)
 }

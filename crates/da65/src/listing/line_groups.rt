@@ -146,10 +146,10 @@ pub fn role_inside<A: Allocator>(map: &Map<'_, A>, address: u16) -> RangeType
     requires { is_inside map.now.image address ≡ true }
     ensures { result ≡ role_of map.now.info address }
 {
-    match map.role(address) {
-        Some(role) => role,
-        None => RangeType::Code,
-    }
+    let Some(role) = map.role(address) else {
+        unreachable!()
+    };
+    role
 }
 
 /// Whether the byte at an address of the image is skipped.

@@ -18,6 +18,7 @@ use crate::listing::line_groups::is_skipped;
 use crate::listing::listed_image::ListedImage;
 use crate::listing::place::ListingPlace;
 use crate::listing::statement_line::{put_blank, put_cpu, put_title};
+use crate::listing::statements::OperandNames;
 use crate::runs::write::write_whole;
 use info65::Info;
 use map65::{DeviceFault, Image, Map, Sink};
@@ -31,6 +32,7 @@ pub struct Lines<'a, A: Allocator = Global> {
     listed: ListedImage<'a, A>,
     place: ListingPlace,
     segment: Option<&'a [u8]>,
+    names: OperandNames,
 }
 
 impl<'a, A: Allocator> Model for Lines<'a, A> {
@@ -68,12 +70,12 @@ fn shown_from<A: Allocator>(listed: &ListedImage<'_, A>, from: usize) -> Option<
 
 /// Whether a group begins with the byte of this index, where one may: the byte is not skipped.
 #[inline(always)]
-fn is_shown<A: Allocator>(listed: &ListedImage<'_, A>, at: usize) -> bool
-    requires { IsGroupPlace listed.now at }
-    ensures start { OnTrue result (IsGroupStart listed.now at) }
-    ensures none { OnFalse result (IsGroupStart listed.now at → ⊥) }
+fn is_shown<A: Allocator>(listed: &ListedImage<'_, A>, index: usize) -> bool
+    requires { IsGroupPlace listed.now index }
+    ensures start { OnTrue result (IsGroupStart listed.now index) }
+    ensures none { OnFalse result (IsGroupStart listed.now index → ⊥) }
 {
-    at < listed.bytes().len() && !is_skipped(listed.map(), listed.address(at))
+    index < listed.bytes().len() && !is_skipped(listed.map(), listed.address(index))
 }
 
 /// Replaces the buffer by the first line of the group that begins with the byte of this index, and returns the next place.
@@ -83,16 +85,23 @@ fn put_group_at<'a, A: Allocator>(
     out: &mut Line,
     listed: &ListedImage<'a, A>,
     segment: &mut Option<&'a [u8]>,
-    at: usize,
+    names: &mut OperandNames,
+    index: usize,
 ) -> ListingPlace
-    requires start { IsGroupStart listed.now at }
-    requires segment { option_copied segment.old ≡ segment_before listed.now at }
-    ensures { IsNext listed.now (groups_left listed.now at) out.new.items result (option_copied segment.new) }
+    requires start { IsGroupStart listed.now index }
+    requires segment { option_copied segment.old ≡ segment_before listed.now index }
+    ensures { IsNext listed.now (groups_left listed.now index) out.new.items result (option_copied segment.new) }
 {
     if listed.is_marked() {
-        return put_opening(out, listed, segment, at);
+        return put_opening(out, listed, segment, names, index);
     }
-    put_inside(out, listed, at, listed.address(at) as usize + 1)
+    put_inside(
+        out,
+        listed,
+        names,
+        index,
+        listed.address(index) as usize + 1,
+    )
 }
 
 /// Replaces the buffer by the first line of the next group from this byte on, and returns the next place. `segment` is that of
@@ -102,6 +111,7 @@ fn put_next_group<'a, A: Allocator>(
     out: &mut Line,
     listed: &ListedImage<'a, A>,
     segment: &mut Option<&'a [u8]>,
+    names: &mut OperandNames,
     from: usize,
 ) -> Option<ListingPlace>
     requires place { IsGroupPlace listed.now from }
@@ -109,8 +119,8 @@ fn put_next_group<'a, A: Allocator>(
     ensures next { MatchOption result (groups_left listed.now from ≡ []) (λ next. IsNext listed.now (groups_left listed.now from) out.new.items next (option_copied segment.new)) }
     ensures kept { IfNone result (option_copied segment.new ≡ option_copied segment.old) }
 {
-    let at = shown_from(listed, from)?;
-    Some(put_group_at(out, listed, segment, at))
+    let index = shown_from(listed, from)?;
+    Some(put_group_at(out, listed, segment, names, index))
 }
 
 /// Replaces the buffer by the next line of constants from this address on, else by what follows them, and returns the next place.
@@ -118,22 +128,23 @@ fn put_constants<'a, A: Allocator>(
     out: &mut Line,
     listed: &ListedImage<'a, A>,
     segment: &mut Option<&'a [u8]>,
-    from: usize,
-    any: bool,
+    names: &mut OperandNames,
+    address: usize,
+    after_another: bool,
 ) -> Option<ListingPlace>
-    requires inside { from ≤ 65536 }
+    requires inside { address ≤ 65536 }
     requires segment { option_copied segment.old ≡ None }
-    ensures next { MatchOption result (constants_left listed.now from any ≡ []) (λ next. IsNext listed.now (constants_left listed.now from any) out.new.items next (option_copied segment.new)) }
+    ensures next { MatchOption result (constants_left listed.now address after_another ≡ []) (λ next. IsNext listed.now (constants_left listed.now address after_another) out.new.items next (option_copied segment.new)) }
     ensures kept { IfNone result (option_copied segment.new ≡ option_copied segment.old) }
 {
-    if let Some(next) = put_next_constant(out, listed, from, any) {
+    if let Some(next) = put_next_constant(out, listed, address, after_another) {
         return Some(next);
     }
-    if any {
+    if after_another {
         put_blank(out, listed.style());
-        return Some(ListingPlace::Group(0));
+        return Some(ListingPlace::Group { index: 0 });
     }
-    put_next_group(out, listed, segment, 0)
+    put_next_group(out, listed, segment, names, 0)
 }
 
 /// Replaces the buffer by the line at a place, and returns the place of the next one. `segment` is that of the place, and becomes that
@@ -143,6 +154,7 @@ fn put_next<'a, A: Allocator>(
     out: &mut Line,
     listed: &ListedImage<'a, A>,
     segment: &mut Option<&'a [u8]>,
+    names: &mut OperandNames,
     place: ListingPlace,
 ) -> Option<ListingPlace>
     requires place { IsPlace place listed.now }
@@ -165,18 +177,28 @@ fn put_next<'a, A: Allocator>(
         }
         ListingPlace::AfterCpu => {
             put_blank(out, listed.style());
-            Some(ListingPlace::Constant(0, false))
+            Some(ListingPlace::Constant {
+                address: 0,
+                after_another: false,
+            })
         }
-        ListingPlace::Constant(from, any) => put_constants(out, listed, segment, from, any),
-        ListingPlace::Assignment(at) => Some(put_assignment(out, listed, at)),
-        ListingPlace::Group(from) => put_next_group(out, listed, segment, from),
-        ListingPlace::Segment(at) => Some(put_segment(out, listed, segment, at)),
-        ListingPlace::Comment(at, from) => Some(put_comments(out, listed, at, from)),
-        ListingPlace::Forward(at, from) => Some(put_inside(out, listed, at, from)),
-        ListingPlace::Statement(at) => Some(put_rest(out, listed, at)),
-        ListingPlace::Ending(next) => {
+        ListingPlace::Constant {
+            address,
+            after_another,
+        } => put_constants(out, listed, segment, names, address, after_another),
+        ListingPlace::Assignment { address } => Some(put_assignment(out, listed, address)),
+        ListingPlace::Group { index } => put_next_group(out, listed, segment, names, index),
+        ListingPlace::Segment { index } => Some(put_segment(out, listed, segment, names, index)),
+        ListingPlace::Comment { index, address } => {
+            Some(put_comments(out, listed, names, index, address))
+        },
+        ListingPlace::Forward { index, address } => {
+            Some(put_inside(out, listed, names, index, address))
+        },
+        ListingPlace::Statement { index } => Some(put_rest(out, listed, names, index)),
+        ListingPlace::Ending { index } => {
             put_blank(out, listed.style());
-            Some(ListingPlace::Group(next))
+            Some(ListingPlace::Group { index })
         }
     }
 }
@@ -192,6 +214,7 @@ impl<'a, A: Allocator> Lines<'a, A> {
             listed: ListedImage::new(info, image, map),
             place: ListingPlace::Title,
             segment: None,
+            names: OperandNames::new(),
         }
     }
 
@@ -205,14 +228,26 @@ impl<'a, A: Allocator> Lines<'a, A> {
     {
         // The old line is blanked here once, for all kinds of lines.
         out.clear();
-        if let ListingPlace::Group(at) = self.place {
+        if let ListingPlace::Group { index } = self.place {
             // Most lines are the first of a group, and are made here.
-            if is_shown(&self.listed, at) {
-                self.place = put_group_at(out, &self.listed, &mut self.segment, at);
+            if is_shown(&self.listed, index) {
+                self.place = put_group_at(
+                    out,
+                    &self.listed,
+                    &mut self.segment,
+                    &mut self.names,
+                    index,
+                );
                 return true;
             }
         }
-        match put_next(out, &self.listed, &mut self.segment, self.place) {
+        match put_next(
+            out,
+            &self.listed,
+            &mut self.segment,
+            &mut self.names,
+            self.place,
+        ) {
             Some(next) => {
                 self.place = next;
                 true

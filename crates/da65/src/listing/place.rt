@@ -1,6 +1,7 @@
 //! Where the next line of a listing comes from.
 
-/// Where the next line comes from. Groups are known by the index of their first byte in the image.
+/// Where the next line comes from. An index is that of a byte in the image, and an address one from 0 to 65,536. A group is
+/// known by the index of its first byte.
 #[derive(Clone, Copy, Debug, PartialEq, Eq)]
 pub enum ListingPlace {
     /// The remark at the head.
@@ -11,21 +12,40 @@ pub enum ListingPlace {
     CpuLine,
     /// The empty line after it.
     AfterCpu,
-    /// The lines of the constant of this address, or of the next one that has any. The flag says whether a
-    /// constant line was written before.
-    Constant(usize, bool),
+    /// The lines of the constant of this address, or of the next one that has any.
+    Constant {
+        address: usize,
+        /// Whether a constant line was written before.
+        after_another: bool,
+    },
     /// The constant line of this address, after the comment of its name.
-    Assignment(usize),
-    /// The group that begins with the byte of this index, or after it if that is skipped, or the end.
-    Group(usize),
+    Assignment {
+        address: usize,
+    },
+    /// The group that begins with this byte, or after it if that is skipped, or the end.
+    Group {
+        index: usize,
+    },
     /// The line that enters the segment of this group, or what follows it: its separator was written.
-    Segment(usize),
+    Segment {
+        index: usize,
+    },
     /// The comment of the name of the address, or what follows it in this group.
-    Comment(usize, usize),
+    Comment {
+        index: usize,
+        address: usize,
+    },
     /// The forward line of the address, or what follows it in this group.
-    Forward(usize, usize),
+    Forward {
+        index: usize,
+        address: usize,
+    },
     /// The statement of this group, after its label.
-    Statement(usize),
-    /// The empty line after a statement, before the byte of this index.
-    Ending(usize),
+    Statement {
+        index: usize,
+    },
+    /// The empty line after a statement, before this byte.
+    Ending {
+        index: usize,
+    },
 }

@@ -5,16 +5,14 @@ ghost use Rattle.std.specs.Option.{option_copied};
 ghost use Rattle.stmt65.specs.Printable.{IsPrintable, MayBeLabelled};
 ghost use Rattle.stmt65.specs.code.StatementViews.{statement_seen};
 ghost use Rattle.stmt65.specs.Views as view;
-ghost use Rattle.da65.specs.Listing.{group_line, has_empty_line, line_text, plain};
+ghost use Rattle.da65.specs.Listing.{group_line, line_text, plain};
 
-use crate::listing::style::{Style, has_empty_line};
+use crate::listing::style::Style;
 use stmt65::{Line, Remarks, Statement, put_line};
-
-// These two are made in place: most callers know the kind of the statement, and need the code of that kind alone.
 
 /// Replaces the buffer by the line of a statement that stands before these bytes, after this label if there is one.
 #[inline(always)]
-fn put_statement(
+pub fn put_statement(
     out: &mut Line,
     style: &Style,
     label: Option<&[u8]>,
@@ -35,26 +33,6 @@ fn put_statement(
         label,
     };
     put_line(out, &style.columns, statement, &remarks);
-}
-
-/// The same, and returns whether an empty line follows.
-#[inline(always)]
-pub fn put_closing(
-    out: &mut Line,
-    style: &Style,
-    label: Option<&[u8]>,
-    statement: &Statement<'_>,
-    address: u16,
-    bytes: &[u8],
-) -> bool
-    requires printable { IsPrintable (statement_seen statement.now) }
-    requires label { MayBeLabelled style.now.columns (option_copied label) (statement_seen statement.now) }
-    requires few { length bytes.now ≤ 16 }
-    ensures line { out.new.items ≡ line_text style.now (group_line (option_copied label.entry) (statement_seen statement.now) address bytes.now) }
-    ensures empty { result ≡ has_empty_line style.now (statement_seen statement.now) }
-{
-    put_statement(out, style, label, statement, address, bytes);
-    has_empty_line(style, statement)
 }
 
 /// Replaces the buffer by the line of a statement without a label and without bytes.

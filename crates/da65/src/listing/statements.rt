@@ -12,12 +12,45 @@ ghost use Rattle.da65.specs.Shapes.{IsGroupOf};
 ghost use Rattle.da65.specs.Statements.{address_entry, is_forced, numbers, operands_of, return_entry, statement_for, statement_in};
 
 use crate::listing::base_names::{address_expr, target, zero_page_expr};
-use crate::listing::instructions::instruction_in;
-use info65::{Entry, RangeType};
+use crate::listing::group::Group;
+use info65::Entry;
 use isa65::{ByteOrder, Mode, Op, OpcodeSet};
 use map65::{Map, NameBuf, target_of, word_of};
 use std::alloc::Allocator;
 use stmt65::{Expr, Operands, Statement};
+
+/// The buffers for the names in the operands of a statement.
+#[derive(Drop)]
+pub struct OperandNames {
+    first: NameBuf,
+    second: NameBuf,
+}
+
+impl OperandNames {
+    /// Empty buffers.
+    pub fn new() -> Self {
+        OperandNames {
+            first: NameBuf::new(),
+            second: NameBuf::new(),
+        }
+    }
+}
+
+/// The instruction that the bytes begin with: none where the first is an undefined opcode, or where
+/// they end before the instruction does.
+#[inline(always)]
+#[tactic(auto, unfolding(crate::specs::Instructions::instruction_in))]
+fn instruction_in<S: OpcodeSet>(set: &S, bytes: &[u8]) -> Option<Op>
+    ensures { result ≡ instruction_in (S.table set.now) bytes.now }
+{
+    let (first, _) = bytes.split_first()?;
+    let op = set.decode(*first)?;
+    if op.mode.len() as usize <= bytes.len() {
+        Some(op)
+    } else {
+        None
+    }
+}
 
 /// The operands of an instruction in this mode at this address, with the names of their addresses: none if its
 /// target lies outside the address space.
@@ -27,8 +60,7 @@ fn operands_of<'n, A: Allocator>(
     mode: Mode,
     address: u16,
     bytes: &[u8],
-    first: &'n mut NameBuf,
-    second: &'n mut NameBuf,
+    names: &'n mut OperandNames,
 ) -> Option<Operands<'n>>
     requires names { AreNames map.now.info.names }
     requires all { len_of mode ≤ length bytes.now }
@@ -40,26 +72,26 @@ fn operands_of<'n, A: Allocator>(
         Mode::Imp | Mode::Acc => return Some(Operands::None),
         Mode::Imm => Expr::Number(u16::from(bytes[1])),
         Mode::Abs | Mode::Absx | Mode::Absy | Mode::Ind | Mode::Absindx => {
-            address_expr(map, word_of(bytes), first)
+            address_expr(map, word_of(bytes), &mut names.first)
         }
         Mode::Rel => {
             let target = target_of(u32::from(address) + 2, bytes[1])?;
-            address_expr(map, target, first)
+            address_expr(map, target, &mut names.first)
         }
         Mode::Zprel => {
             let target = target_of(u32::from(address) + 3, bytes[2])?;
-            let tested = zero_page_expr(map, bytes[1], first);
-            return Some(Operands::Two(tested, address_expr(map, target, second)));
+            let tested = zero_page_expr(map, bytes[1], &mut names.first);
+            return Some(Operands::Two(tested, address_expr(map, target, &mut names.second)));
         }
         Mode::Zp | Mode::Zpx | Mode::Zpy | Mode::Indx | Mode::Indy | Mode::Zpind => {
-            zero_page_expr(map, bytes[1], first)
+            zero_page_expr(map, bytes[1], &mut names.first)
         }
     };
     Some(Operands::One(one))
 }
 
 /// Whether `a:` stands before the operand: an assembler would take the zero-page mode without it.
-pub fn is_forced<S: OpcodeSet>(set: &S, op: Op, bytes: &[u8]) -> bool
+fn is_forced<S: OpcodeSet>(set: &S, op: Op, bytes: &[u8]) -> bool
     requires { len_of op.mode ≤ length bytes.now }
     ensures { result ≡ is_forced (S.table set.now) op bytes.now }
 {
@@ -69,30 +101,26 @@ pub fn is_forced<S: OpcodeSet>(set: &S, op: Op, bytes: &[u8]) -> bool
     }
 }
 
-/// The statement of code at this address that has these bytes, of which `instruction` is the one that
-/// they begin with.
+/// The statement of an item of code: its instruction, or its bytes.
 #[tactic(auto, unfolding(crate::specs::Statements::statement_in, crate::specs::Instructions::instruction_in))]
 fn statement_in<'a, S: OpcodeSet, A: Allocator>(
     set: &S,
     map: &Map<'_, A>,
     address: u16,
     bytes: &'a [u8],
-    instruction: Option<Op>,
-    first: &'a mut NameBuf,
-    second: &'a mut NameBuf,
+    names: &'a mut OperandNames,
 ) -> Statement<'a>
     requires names { AreNames map.now.info.names }
     requires some { 0 < length bytes.now }
     requires room { address + length bytes.now ≤ 65536 }
-    requires first { instruction ≡ instruction_in (S.table set.now) bytes.now }
     ensures value { statement_seen result ≡ statement_in (names_of map.now) (S.table set.now) address bytes.entry.now }
     ensures printable { IsPrintable (statement_seen result) }
 {
-    let Some(op) = instruction else {
+    let Some(op) = instruction_in(set, bytes) else {
         let (item, _) = bytes.split_at(1);
         return Statement::Bytes(item);
     };
-    match operands_of(map, op.mode, address, bytes, first, second) {
+    match operands_of(map, op.mode, address, bytes, names) {
         Some(operands) => Statement::Instr {
             op,
             absolute: is_forced(set, op, bytes),
@@ -174,38 +202,26 @@ fn numbers(unit: u8, order: ByteOrder, bytes: &[u8]) -> Statement<'_>
     }
 }
 
-/// The statement of the group of this role at this address that has these bytes.
+/// The statement of a group.
 #[tactic(auto, using(crate::proofs::EntryLemmas::lines), unfolding(crate::specs::Statements::statement_for))]
 pub fn statement_for<'a, S: OpcodeSet, A: Allocator>(
     set: &S,
     map: &Map<'_, A>,
-    role: RangeType,
-    address: u16,
-    bytes: &'a [u8],
-    first: &'a mut NameBuf,
-    second: &'a mut NameBuf,
+    group: Group<'a>,
+    names: &'a mut OperandNames,
 ) -> Statement<'a>
     requires names { AreNames map.now.info.names }
-    requires some { 0 < length bytes.now }
-    requires room { address + length bytes.now ≤ 65536 }
-    requires group { IsGroupOf (S.table set.now) role bytes.now }
-    ensures value { statement_seen result ≡ statement_for (names_of map.now) (S.table set.now) role address bytes.entry.now }
+    requires some { 0 < length group.bytes.now }
+    requires room { group.address + length group.bytes.now ≤ 65536 }
+    requires shape { IsGroupOf (S.table set.now) group.role group.bytes.now }
+    ensures value { statement_seen result ≡ statement_for (names_of map.now) (S.table set.now) group.entry.role group.entry.address group.entry.bytes.now }
     ensures printable { IsPrintable (statement_seen result) }
 {
-    let layout = role.layout();
+    let bytes = group.bytes;
+    let layout = group.role.layout();
     let is_leftover = bytes.len() < usize::from(layout.unit);
     match layout.entry {
-        Entry::Instruction => {
-            statement_in(
-                set,
-                map,
-                address,
-                bytes,
-                instruction_in(set, bytes),
-                first,
-                second,
-            )
-        }
+        Entry::Instruction => statement_in(set, map, group.address, bytes, names),
         Entry::Number(order) => {
             if is_leftover {
                 Statement::Bytes(bytes)
@@ -217,14 +233,14 @@ pub fn statement_for<'a, S: OpcodeSet, A: Allocator>(
             if is_leftover {
                 Statement::Bytes(bytes)
             } else {
-                address_entry(map, bytes, first)
+                address_entry(map, bytes, &mut names.first)
             }
         }
         Entry::Return => {
             if is_leftover {
                 Statement::Bytes(bytes)
             } else {
-                return_entry(map, bytes, first)
+                return_entry(map, bytes, &mut names.first)
             }
         }
         Entry::Character => Statement::Text(bytes),

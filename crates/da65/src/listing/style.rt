@@ -36,7 +36,7 @@ fn column(number: u8) -> Column
 {
     match Column::try_from(number) {
         Ok(column) => column,
-        Err(_) => Column::first(),
+        Err(_) => unreachable!(),
     }
 }
 
@@ -47,7 +47,7 @@ fn label_break(number: u8) -> LabelBreak
 {
     match LabelBreak::try_from(number) {
         Ok(length) => length,
-        Err(_) => Columns::default().label_break,
+        Err(_) => unreachable!(),
     }
 }
 
@@ -58,7 +58,7 @@ fn level(number: u8) -> Level
 {
     match Level::try_from(number) {
         Ok(level) => level,
-        Err(_) => Level::default(),
+        Err(_) => unreachable!(),
     }
 }
 

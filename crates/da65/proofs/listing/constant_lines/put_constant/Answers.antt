@@ -1,5 +1,5 @@
 use Rattle.std.proofs.Common.{◌∙◌, ap, option_copied, refl, sym}
-use Rattle.da65.proofs.NextLemmas.{assignment-told, comment-none, constant-bare, constant-comment, next-plain, then-constant}
+use Rattle.da65.proofs.NextLemmas.{comment-none, constant-bare, constant-comment, next-moved, next-plain}
 use Rattle.da65.proofs.listing.constant_lines.put_constant.Goals as goal
 
 pub returns-in-Some : goal.returns-in-Some
@@ -8,5 +8,4 @@ returns-in-Some g c =
 
 pub returns : goal.returns
 returns g c =
-    then-constant _ _ _ _ c.requires.is.low (constant-bare _ _ _ c.requires.is (comment-none _ _ (sym c.comment_at.ensures.comment ∙ ap option_copied c.in_default.is)))
-    (assignment-told _ _ _ _ _ c.style-2.ensures.style c.requires.text c.put_plain-2.ensures)
+    next-moved _ _ _ _ _ _ (constant-bare _ _ _ c.requires.is (comment-none _ _ (sym c.comment_at.ensures.comment ∙ ap option_copied c.in_default.is))) c.put_definition.ensures

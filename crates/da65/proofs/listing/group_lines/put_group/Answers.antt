@@ -1,46 +1,37 @@
-use Rattle.std.proofs.Common.{◌∙◌, ap, arith, length, length-drop, sym}
-use Rattle.da65.proofs.GroupLemmas.{group-fits, group-some}
-use Rattle.da65.proofs.NextLemmas.{empty-told, few-bytes, group-here, group-shaped, label-told, line-told, then-empty, then-group}
+use Rattle.std.proofs.Common.{◌∙◌, sym}
+use Rattle.da65.proofs.ListedGroupLemmas.{empty-line, has-bytes, in-space, is-short, label-fits, line-is, of-role, statement-is}
+use Rattle.da65.proofs.NextLemmas.{then-empty, then-group}
 use Rattle.da65.proofs.listing.group_lines.put_group.Goals as goal
 
-pub split_at-requires-2 : goal.split_at-requires-2
-split_at-requires-2 g c =
-    let s = c.requires.start in
-    let fits = group-fits c.args.listed.now _ s.place s.inside s.shown in
-    let count = ap length c.bytes.ensures.bytes in
-    let rest = ap length c.split_at.ensures.back ∙ length-drop c.args.at c.bytes.result.now in
-    omega (arith, fits, count, rest, c.requires.len)
+pub statement_for-statement-requires-clause-some : goal.statement_for-statement-requires-clause-some
+statement_for-statement-requires-clause-some g c = has-bytes _ _ c.requires.group
 
-pub put_group_statement-requires-clause-some : goal.put_group_statement-requires-clause-some
-put_group_statement-requires-clause-some g c =
-    let s = c.requires.start in
-    omega (arith, group-some c.args.listed.now _ s.place s.inside s.shown, c.requires.len, c.split_at-2.ensures.front_len)
+pub statement_for-statement-requires-clause-room : goal.statement_for-statement-requires-clause-room
+statement_for-statement-requires-clause-room g c = in-space c.args.listed.now _ (rw (← c.map.ensures.map) c.map.ensures.placed) c.requires.group
 
-pub put_group_statement-requires-clause-group : goal.put_group_statement-requires-clause-group
-put_group_statement-requires-clause-group g c =
-    let here = group-here c.args.listed.now c.args.at _ _ _ _ _ _ _ c.style.ensures.cpu c.address-address.ensures c.requires.role c.requires.len c.bytes.ensures.bytes c.split_at.ensures.back c.split_at-2.ensures.front in
-    group-shaped _ _ _ _ _ _ here c.requires.start
+pub statement_for-statement-requires-clause-shape : goal.statement_for-statement-requires-clause-shape
+statement_for-statement-requires-clause-shape g c = of-role c.args.listed.now _ _ c.opcodes.ensures c.requires.group
 
-pub put_group_statement-requires-clause-label : goal.put_group_statement-requires-clause-label
-put_group_statement-requires-clause-label g c =
-    let here = group-here c.args.listed.now c.args.at _ _ _ _ _ _ _ c.style.ensures.cpu c.address-address.ensures c.requires.role c.requires.len c.bytes.ensures.bytes c.split_at.ensures.back c.split_at-2.ensures.front in
-    label-told _ _ _ _ _ _ _ _ c.map.ensures.map c.style.ensures.style here c.requires.label
+pub put_statement-requires-clause-label : goal.put_statement-requires-clause-label
+put_statement-requires-clause-label g c =
+    label-fits c.args.listed.now _ c.args.group _ _ c.style-style.ensures.style
+    (statement-is _ c.args.listed.now _ c.args.group _ c.map.ensures.map c.opcodes.ensures c.requires.group c.statement_for-statement.ensures.value) c.requires.label
 
-pub returns-then-put_group_statement : goal.returns-then-put_group_statement
-returns-then-put_group_statement g c =
-    let here = group-here c.args.listed.now c.args.at _ _ _ _ _ _ _ c.style.ensures.cpu c.address-address.ensures c.requires.role c.requires.len c.bytes.ensures.bytes c.split_at.ensures.back c.split_at-2.ensures.front in
-    then-empty _ _ _ _ _ c.requires.start c.requires.len
-    (sym (empty-told _ _ _ _ _ _ _ c.map.ensures.map c.style.ensures.style here) ∙ sym c.put_group_statement.ensures.empty ∙ c.if-put_group_statement.true)
-    (c.put_group_statement.ensures.line ∙ line-told _ _ _ _ _ _ _ _ c.map.ensures.map c.style.ensures.style here)
+pub put_statement-requires-clause-few : goal.put_statement-requires-clause-few
+put_statement-requires-clause-few g c = is-short c.args.listed.now _ c.requires.group
 
-pub returns-else-put_group_statement : goal.returns-else-put_group_statement
-returns-else-put_group_statement g c =
-    let here = group-here c.args.listed.now c.args.at _ _ _ _ _ _ _ c.style.ensures.cpu c.address-address.ensures c.requires.role c.requires.len c.bytes.ensures.bytes c.split_at.ensures.back c.split_at-2.ensures.front in
-    then-group _ _ _ _ _ c.requires.start c.requires.len
-    (sym (empty-told _ _ _ _ _ _ _ c.map.ensures.map c.style.ensures.style here) ∙ sym c.put_group_statement.ensures.empty ∙ c.if-put_group_statement.false)
-    (c.put_group_statement.ensures.line ∙ line-told _ _ _ _ _ _ _ _ c.map.ensures.map c.style.ensures.style here)
+pub returns-then-has_empty_line : goal.returns-then-has_empty_line
+returns-then-has_empty_line g c =
+    let m = c.args.listed.now in
+    let is = statement-is _ m _ c.args.group _ c.map.ensures.map c.opcodes.ensures c.requires.group c.statement_for-statement.ensures.value in
+    then-empty _ _ _ _ _ c.requires.group.start c.requires.group.len_is
+    (empty-line m _ c.args.group _ _ c.style-style.ensures.style is (sym c.has_empty_line.ensures ∙ c.if-has_empty_line.true))
+    (c.put_statement.ensures ∙ line-is m _ c.args.group _ _ c.style-style.ensures.style c.requires.group is)
 
-pub put_group_statement-requires-clause-few : goal.put_group_statement-requires-clause-few
-put_group_statement-requires-clause-few g c =
-    let here = group-here c.args.listed.now c.args.at _ _ _ _ _ _ _ c.style.ensures.cpu c.address-address.ensures c.requires.role c.requires.len c.bytes.ensures.bytes c.split_at.ensures.back c.split_at-2.ensures.front in
-    few-bytes _ _ _ (group-shaped _ _ _ _ _ _ here c.requires.start)
+pub returns-else-has_empty_line : goal.returns-else-has_empty_line
+returns-else-has_empty_line g c =
+    let m = c.args.listed.now in
+    let is = statement-is _ m _ c.args.group _ c.map.ensures.map c.opcodes.ensures c.requires.group c.statement_for-statement.ensures.value in
+    then-group _ _ _ _ _ c.requires.group.start c.requires.group.len_is
+    (empty-line m _ c.args.group _ _ c.style-style.ensures.style is (sym c.has_empty_line.ensures ∙ c.if-has_empty_line.false))
+    (c.put_statement.ensures ∙ line-is m _ c.args.group _ _ c.style-style.ensures.style c.requires.group is)

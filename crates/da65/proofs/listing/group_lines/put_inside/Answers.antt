@@ -4,16 +4,18 @@ use Rattle.da65.proofs.listing.group_lines.put_inside.Goals as goal
 
 pub returns-in-Some : goal.returns-in-Some
 returns-in-Some g c =
+    let address = rw c.group_at-group.ensures.index at c.group_at-group.ensures.group.address_is in
     record {
-      lines = forward-first _ _ _ _ _ _ _ _ c.address-first.ensures (omega (arith, c.address-first.ensures, c.len_at-len.ensures.len)) c.in-Some.ensures.line;
+      lines = forward-first _ _ _ _ _ _ _ _ address (omega (arith, address, c.group_at-group.ensures.len)) c.in-Some.ensures.line;
       place = record {
         group = c.requires.group;
         after = omega (arith, c.requires.after, c.in-Some.ensures.low);
-        before = omega (arith, c.address-first.ensures, c.len_at-len.ensures.len, c.in-Some.ensures.high);
+        before = omega (arith, address, c.group_at-group.ensures.len, c.in-Some.ensures.high);
       };
       segment_is = refl;
     }
 
 pub returns-in-None : goal.returns-in-None
 returns-in-None g c =
-    next-moved _ _ _ _ _ _ (forward-end _ _ _ _ _ c.address-first.ensures (omega (arith, c.address-first.ensures, c.len_at-len.ensures.len)) c.in-None.ensures.line) c.put_first.ensures
+    let address = rw c.group_at-group.ensures.index at c.group_at-group.ensures.group.address_is in
+    next-moved _ _ _ _ _ _ (forward-end _ _ _ _ _ address (omega (arith, address, c.group_at-group.ensures.len)) c.in-None.ensures.line) (rw c.group_at-group.ensures.index at c.put_first.ensures)

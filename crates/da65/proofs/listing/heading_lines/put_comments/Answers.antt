@@ -5,24 +5,28 @@ use Rattle.da65.proofs.NextLemmas.{comment-end, comment-first, next-moved}
 use Rattle.da65.proofs.listing.heading_lines.put_comments.Goals as goal
 
 pub returns-in-Some : goal.returns-in-Some
-returns-in-Some g c = record {
-  lines = comment-first _ _ _ _ _ _ _ (omega (arith, c.address-first.ensures, c.len_at-len.ensures.len)) c.in-Some.ensures.line;
-  place = record {
-    group = c.requires.group;
-    from = omega (arith, c.requires.from, c.in-Some.ensures.low);
-    before = omega (arith, c.address-first.ensures, c.len_at-len.ensures.len, c.in-Some.ensures.high);
-  };
-  segment_is = refl;
-}
+returns-in-Some g c =
+    let address = rw c.group_at-group.ensures.index at c.group_at-group.ensures.group.address_is in
+    record {
+      lines = comment-first _ _ _ _ _ _ _ (omega (arith, address, c.group_at-group.ensures.len)) c.in-Some.ensures.line;
+      place = record {
+        group = c.requires.group;
+        from = omega (arith, c.requires.from, c.in-Some.ensures.low);
+        before = omega (arith, address, c.group_at-group.ensures.len, c.in-Some.ensures.high);
+      };
+      segment_is = refl;
+    }
 
 pub put_inside-requires : goal.put_inside-requires
 put_inside-requires g c =
+    let address = rw c.group_at-group.ensures.index at c.group_at-group.ensures.group.address_is in
     let s = c.requires.group in
     let some = group-some c.args.listed.now _ s.place s.inside s.shown in
-    record { group = s; after = omega (arith, c.address-first.ensures); before = omega (arith, c.address-first.ensures, some) }
+    record { group = s; after = omega (arith, address); before = omega (arith, address, some) }
 
 pub returns-in-None : goal.returns-in-None
 returns-in-None g c =
+    let address = rw c.group_at-group.ensures.index at c.group_at-group.ensures.group.address_is in
     next-moved _ _ _ _ _ _
-    (comment-end _ _ _ _ (omega (arith, c.address-first.ensures, c.len_at-len.ensures.len)) c.in-None.ensures.line ∙ ap (λ (n : ℕ). group_left c.args.listed.now c.args.at (n + 1)) (sym c.address-first.ensures))
+    (comment-end _ _ _ _ (omega (arith, address, c.group_at-group.ensures.len)) c.in-None.ensures.line ∙ ap (λ (n : ℕ). group_left c.args.listed.now c.args.index (n + 1)) (sym address))
     c.put_inside.ensures

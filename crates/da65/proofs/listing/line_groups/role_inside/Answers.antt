@@ -3,8 +3,8 @@ use Rattle.std.proofs.lemmas.Bool.{both_ways}
 use Rattle.da65.proofs.RoleLemmas.{role-none, role-some}
 use Rattle.da65.proofs.listing.line_groups.role_inside.Goals as goal
 
-pub returns-in-Some : goal.returns-in-Some
-returns-in-Some g c = sym (role-some _ _ _ (sym c.role.ensures ∙ c.in-Some.is)).1
+pub returns : goal.returns
+returns g c = sym (role-some _ _ _ (sym c.role.ensures ∙ c.in-Some.is)).1
 
-pub returns-in-None : goal.returns-in-None
-returns-in-None g c = absurd (both_ways _ (role-none _ _ (sym c.role.ensures ∙ c.in-None.is)) c.requires)
+pub unreachable-requires : goal.unreachable-requires
+unreachable-requires g c = both_ways _ (role-none _ _ (sym c.role.ensures ∙ c.in_default.is)) c.requires

@@ -12,5 +12,5 @@ returns g c =
     let none = c.is_marked.ensures.none c.if-is_marked.false in
     next-there _ _ _ _ _ _ (none.segments _ ∙ sym (segment-none _ _ none.segments) ∙ sym c.requires.segment)
     (next-moved _ _ _ _ _ _
-    (lines-unmarked _ _ none c.requires.start ∙ ap (λ (n : ℕ). group_left c.args.listed.now c.args.at (n + 1)) (sym c.address.ensures))
+    (lines-unmarked _ _ none c.requires.start ∙ ap (λ (n : ℕ). group_left c.args.listed.now c.args.index (n + 1)) (sym c.address.ensures))
     c.put_inside.ensures)

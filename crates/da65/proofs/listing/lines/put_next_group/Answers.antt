@@ -3,4 +3,4 @@ use Rattle.da65.proofs.NextLemmas.{next-moved}
 use Rattle.da65.proofs.listing.lines.put_next_group.Goals as goal
 
 pub returns-clause-next : goal.returns-clause-next
-returns-clause-next g c = next-moved _ _ _ _ _ _ (sym c.in_ok-at.ensures.lines) c.put_group_at.ensures
+returns-clause-next g c = next-moved _ _ _ _ _ _ (sym c.in_ok-index.ensures.lines) c.put_group_at.ensures

@@ -1,0 +1,16 @@
+//! The group that a line lists.
+
+use info65::RangeType;
+
+/// The group that a line lists: bytes of one role that follow each other.
+#[derive(Clone, Copy, Debug, PartialEq, Eq)]
+pub struct Group<'a> {
+    /// The index of its first byte in the image.
+    pub index: usize,
+    /// The address of its first byte.
+    pub address: u16,
+    /// What its bytes are.
+    pub role: RangeType,
+    /// Its bytes, 1 to 16.
+    pub bytes: &'a [u8],
+}
