@@ -1,5 +1,5 @@
 -- Entries of tables: by the targets that a map tells, and by the bytes of a line.
-use Rattle.std.proofs.Common.{◌≡◌, ◌∙◌, ◌⊎◌, inl, inr, ℕ, ◌==◌, ◌*◌, ◌%◌, ◌<◌, ◌≤◌, false, List, length, Option, Some, None, refl, sym, ap, subst, arith}
+use Rattle.std.proofs.Common.{◌≡◌, ◌∙◌, inl, inr, ℕ, ◌==◌, ◌*◌, ◌%◌, ◌<◌, ◌≤◌, false, List, length, Option, Some, None, refl, sym, ap, subst, arith}
 use Rattle.std.specs.Option.{option_map}
 use Rattle.std.proofs.lemmas.Bool.{cond_both, eqb-false}
 use Rattle.isa65.specs.declared.byte_order.ByteOrder.{ByteOrder}

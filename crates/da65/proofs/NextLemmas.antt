@@ -1,15 +1,13 @@
 -- The next of the lines that are left.
-use Rattle.std.proofs.Common.{◌≡◌, ◌∙◌, ℕ, suc, ◌+◌, ◌-◌, ◌<◌, ◌≤◌, ◌∷◌, ◌++◌, ◌&&◌, [], Bool, true, false, List, Option, Some, None, length, drop, take, map, refl, ap, sym, subst, codes, arith, append_assoc, ⊎_elim}
+use Rattle.std.proofs.Common.{◌≡◌, ◌∙◌, ℕ, suc, ◌+◌, ◌-◌, ◌<◌, ◌≤◌, ◌∷◌, ◌++◌, ◌&&◌, [], Bool, true, false, List, Option, Some, None, length, map, refl, ap, sym, subst, codes, arith, append_assoc, ⊎_elim}
 use Rattle.std.specs.Prelude.{MatchOption, if◌then◌else◌}
 use Rattle.std.specs.List.{flat_map}
 use Rattle.std.proofs.lemmas.Bool.{and_parts, cases_lt}
-use Rattle.isa65.specs.Cpu.{table_of}
 use Rattle.isa65.specs.Mode.{len_of}
 use Rattle.isa65.specs.Opcodes.{Table}
 use Rattle.isa65.specs.declared.mode.Mode.{Mode}
 use Rattle.isa65.specs.declared.mode.Mode.TheVariants.{Imp}
 use Rattle.isa65.specs.declared.op.Op.{Op}
-use Rattle.isa65.specs.declared.cpu.Cpu.{Cpu}
 use Rattle.info65.specs.Views.{SettingsView}
 use Rattle.info65.proofs.Public.{layout_entry}
 use Rattle.info65.specs.Layouts.{IsEntry, layout_of}
@@ -30,7 +28,7 @@ use Rattle.da65.specs.Listing.{ListingLine, assignment_line, comment_line, comme
 use Rattle.da65.specs.Segments.{is_same_segment, segment_at, segment_before, segment_statement}
 use Rattle.da65.specs.Instructions.{instruction_in, size_of}
 use Rattle.da65.specs.Shapes.{IsGroupOf, IsLineOf}
-use Rattle.da65.specs.Statements.{statement_at, statement_for}
+use Rattle.da65.specs.Statements.{statement_at}
 use Rattle.da65.specs.Style.{style_of}
 use Rattle.da65.specs.declared.listing.place.ListingPlace.{ListingPlace}
 use Rattle.da65.specs.declared.listing.place.ListingPlace.TheVariants.{AfterTitle, Constant, Group, Comment, Ending}
@@ -39,9 +37,8 @@ use Rattle.da65.proofs.EntryLemmas.{few_entries}
 use Rattle.da65.proofs.GroupLemmas.{group-some, groups-end, groups-first, groups-next, groups-skip, place-next}
 use Rattle.da65.proofs.LabelLaws.{group_takes}
 use Rattle.da65.proofs.SegmentLemmas.{same-segment, segment-next}
-use Rattle.da65.proofs.ShapeLemmas.{group-index, group-shape}
 use Rattle.stmt65.specs.Columns.{fits_label}
-use Rattle.stmt65.specs.Printable.{MayBeLabelled, TakesLabel}
+use Rattle.stmt65.specs.Printable.{TakesLabel}
 use Rattle.stmt65.specs.Views as view
 use Rattle.stmt65.specs.Views.{StatementView}
 
