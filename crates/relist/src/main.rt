@@ -1,19 +1,21 @@
 //! A caller of the library: `relist [options of da65] file` lists an image in memory, assembles the listing, and compares.
 //!
 //! The calls are those that docs/LIBRARY.md shows: `input` reads a file up to a limit, `in_memory` lists it, `by_line` lists it
-//! line by line, and `failure` has what can go wrong.
+//! line by line, `of_address` asks a map, and `failure` has what can go wrong.
 #![tactic(auto)]
 
 mod by_line;
 mod failure;
 mod in_memory;
 mod input;
+mod of_address;
 
 use by_line::longest_line;
 use da65::{Needs, Options, needs, options_of};
 use failure::Failure;
 use in_memory::listing_of;
 use input::input;
+use of_address::facts_of;
 use std::process::ExitCode;
 use std::{env, fs};
 use stmt65::assemble;
@@ -31,11 +33,12 @@ fn options(rt: &HostRuntime) -> Result<Options, Failure> {
 }
 
 /// What is said of a listing.
-#[derive(Clone, Copy, Debug)]
+#[derive(Debug, Drop)]
 struct Report {
     size: usize,
     longest: usize,
     same: bool,
+    facts: String,
 }
 
 fn program(rt: &HostRuntime) -> Result<Report, Failure> {
@@ -50,10 +53,12 @@ fn program(rt: &HostRuntime) -> Result<Report, Failure> {
     let listing = listing_of(alloc, &options, &image)?;
     let by_line = longest_line(alloc, &options, &image)?;
     let bytes = assemble(alloc, &listing, by_line.start)?;
+    let facts = facts_of(alloc, &options, &image)?;
     Ok(Report {
         size: listing.len(),
         longest: by_line.longest,
         same: bytes == image,
+        facts,
     })
 }
 
@@ -72,6 +77,7 @@ fn main(rt: HostRuntime) -> ExitCode {
                 size,
                 longest,
                 same,
+                facts,
             },
         ) => {
             let same = if same {
@@ -80,7 +86,7 @@ fn main(rt: HostRuntime) -> ExitCode {
                 "other bytes"
             };
             let _ = println!(rt;
-                "a listing of {size} bytes, {longest} in its longest line, and {same} back"
+                "a listing of {size} bytes, {longest} in its longest line, and {same} back\n{facts}"
             );
             ExitCode::SUCCESS
         }
