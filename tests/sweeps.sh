@@ -196,10 +196,13 @@ for length in {1..300} 4000; do
         cmp -s x wanted.s || fails "an output with a name of $length bytes" 'another listing'
         cp x.inc x
         printf 'ASMINC{FILE "%s";}' "$path" >some.info
+        printf 'GLOBAL{INPUTNAME "%s";}' "${path%x}image.bin" >named.info
         if [ "$length" -le 255 ]; then
             lists "an include file with a name of $length bytes" -i some.info image.bin
+            [ "$length" -gt 247 ] || lists "an input name of $((length + 8)) bytes in GLOBAL" -i named.info
         else
             refuses "an include file with a name of $length bytes" 'info:1: bad name' -i some.info image.bin
+            refuses "an input name of $((length + 8)) bytes in GLOBAL" 'info:1: bad name' -i named.info
         fi
     fi
 done

@@ -1,4 +1,3 @@
-mod ample;
 mod assembled;
 mod asserts;
 mod command_lines;

@@ -11,7 +11,6 @@ mod include_files;
 mod includes;
 mod inputs;
 mod items;
-mod large;
 mod levels;
 mod lexing;
 mod maps;

@@ -1,5 +1,5 @@
 // Command lines.
-use crate::tests::asserts::assert_that_at;
+use crate::tests::asserts::{assert_equal_at, assert_that_at};
 use da65::{Options, UsageFault, options_of};
 use isa65::Cpu;
 use std::alloc::Global;
@@ -258,6 +258,6 @@ const REFUSED: &[(UsageFault, &[&str])] = &[
 fn refusals(rt: HostRuntime) {
     for (fault, words) in REFUSED {
         let refused = options_on(&rt, rt.alloc(), words).err();
-        assert_that_at(&rt, refused == Some(*fault), &format_args!("{words:?}"));
+        assert_equal_at(&rt, &refused, &Some(*fault), &format_args!("{words:?}"));
     }
 }

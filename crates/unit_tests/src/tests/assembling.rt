@@ -268,16 +268,39 @@ fn thousand_lines(rt: HostRuntime) {
 }
 
 const REMARK: &str =
-    "; 5 MiB of remarks assemble to nothing: blanks, names and numbers such as $1234\n";
+    "; remarks assemble to nothing: blanks, names and numbers such as m1, $1234 or 5\n";
 
-/// 65,536 lines of 80 bytes: remarks, and one instruction after them.
+/// 70,000 labels on lines of their own, remarks up to 7 MB, and the first and the last label.
+fn labels_and_remarks(alloc: Global) -> Result<String, AllocError> {
+    let mut text = String::new(alloc);
+    for n in 0..70_000u32 {
+        write!(text, "m{n}:\n")?;
+    }
+    for _ in 0..85_000u32 {
+        text.push_str(REMARK)?;
+    }
+    text.push_str(".addr m0\n.addr m69999")?;
+    Ok(text)
+}
+
 #[test]
-fn five_mebibytes(rt: HostRuntime) {
-    let mut text = repeated(rt.alloc(), REMARK, 65536).expect(&rt, "repeated");
-    assert_equal(&rt, &text.len(), &(5 * 1024 * 1024));
-    text.push_str("nop").expect(&rt, "push_str");
-    let found = assembled(&rt, rt.alloc(), 0xFFFF, text.as_bytes());
-    assert_equal(&rt, &found.as_str(), &" EA");
+fn seven_megabytes(rt: HostRuntime) {
+    let text = labels_and_remarks(rt.alloc()).expect(&rt, "labels_and_remarks");
+    let found = assembled(&rt, rt.alloc(), 0x1234, text.as_bytes());
+    assert_equal(&rt, &found.as_str(), &" 34 12 34 12");
+}
+
+/// Each number of operands to 300.
+#[test]
+fn lines_of_many_operands(rt: HostRuntime) {
+    let mut text = String::from_str(rt.alloc(), ".byte 0").expect(&rt, "from_str");
+    let mut want = String::from_str(rt.alloc(), " 00").expect(&rt, "from_str");
+    for count in 1..=300u16 {
+        let found = assembled(&rt, rt.alloc(), 0, text.as_bytes());
+        assert_equal_at(&rt, &found.as_str(), &want.as_str(), &count);
+        text.push_str(",0").expect(&rt, "push_str");
+        want.push_str(" 00").expect(&rt, "push_str");
+    }
 }
 
 /// The texts of all faults.

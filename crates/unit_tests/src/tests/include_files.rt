@@ -1,5 +1,5 @@
 // Include files.
-use crate::tests::asserts::{assert_equal, assert_equal_at, assert_that};
+use crate::tests::asserts::{assert_equal, assert_equal_at};
 use crate::tests::said::{include, included, repeated};
 use std::alloc::{AllocError, Global};
 
@@ -166,35 +166,4 @@ fn lengths_of_names(rt: HostRuntime) {
             assert_equal(&rt, &found.as_str(), &" 1: bad name 0003 go");
         }
     }
-}
-
-// 60,000 lines in descending order.
-fn many_lines(alloc: Global) -> Result<String, AllocError> {
-    let mut text = String::new(alloc);
-    for n in 0..60_000_u32 {
-        let place = 60_000_u32.saturating_sub(n);
-        write!(text, "m{place} = {place}\n")?;
-    }
-    Ok(text)
-}
-
-// Their names by address. $0003 keeps the name of the label.
-fn many_names(alloc: Global) -> Result<String, AllocError> {
-    let mut text = String::new(alloc);
-    for address in 1..=60_000_u32 {
-        if address == 3 {
-            text.push_str(" 0003 go")?;
-        } else {
-            write!(text, " {address:04X} m{address}")?;
-        }
-    }
-    Ok(text)
-}
-
-#[test]
-fn sixty_thousand_lines(rt: HostRuntime) {
-    let lines = many_lines(rt.alloc()).expect(&rt, "many_lines");
-    let want = many_names(rt.alloc()).expect(&rt, "many_names");
-    let found = included(&rt, rt.alloc(), PLAIN, &[(0, lines.as_bytes())]);
-    assert_that(&rt, found.as_str() == want.as_str());
 }
