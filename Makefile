@@ -27,6 +27,7 @@ test:
 	@mkdir -p bin
 	@tests/memory.sh
 	@tests/promises.sh
+	@tests/edits.sh
 	@echo 'Everything from nothing: docs/PROOFS.md, "The gate", says how long that takes. bin/gate.log keeps what the prover says.'
 	@rt ci 2>&1 | tee bin/gate.log
 	@cp crates/da65_cli/out/da65_cli bin/da65
