@@ -73,7 +73,7 @@ pub fn group_gives_its_bytes()
     ensures { GroupGivesItsBytes }
 {}
 
-/// What the listing of an image without skipped bytes says, assembled from the image's start, gives the
+/// The statements of the listing of an image without skipped bytes, assembled from the image's start, give the
 /// image's bytes.
 pub fn listing_gives_image()
     ensures { ListingGivesImage }

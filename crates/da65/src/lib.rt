@@ -1,8 +1,8 @@
 //! Listings of binary images as ca65 source.
 //!
 //! [`run`] reads an information file, the [`File`]s that it includes and then an image from a [`Source`], lists it
-//! on a [`Sink`] and tells on another why it is refused. [`options_of`] reads a command line, and [`needs`] gives the
-//! names of the files that a run asks for. [`Told`] makes readers and writers of std such devices.
+//! on a [`Sink`] and reports refusals and warnings on a second one. [`options_of`] reads a command line, and [`needs`]
+//! gives the names of the files that a run asks for. [`Told`] makes readers and writers of std such devices.
 #![tactic(auto)]
 
 mod command_line;
