@@ -71,6 +71,31 @@ labels() {
     }'
 }
 
+# colliding COUNT: prints that many groups LABEL whose names share one of the slots in which names are looked up by their text.
+colliding() {
+    awk -v count="$1" 'BEGIN {
+        letters = "abcdefghijklmnopqrstuvwxyz"
+        factor = 40503
+        for (i = 1; i <= 26; i++) for (j = 1; j <= 26; j++) for (k = 1; k <= 26; k++) {
+            hash = (((96 + i) * factor + 96 + j) % 65536 * factor + 96 + k) % 65536
+            ends[hash] = ends[hash] substr(letters, i, 1) substr(letters, j, 1) substr(letters, k, 1)
+        }
+        cubed = factor * factor % 65536 * factor % 65536
+        for (start = 0; made < count; start++) {
+            name = ""
+            hash = 0
+            for (rest = start + 456976; rest >= 1; rest = int(rest / 26)) {
+                letter = rest % 26 + 1
+                name = name substr(letters, letter, 1)
+                hash = (hash * factor + 96 + letter) % 65536
+            }
+            last = ends[(65536 - hash * cubed % 65536) % 65536]
+            for (i = 1; i < length(last) && made < count; i += 3)
+                printf "LABEL { ADDR $%04X; NAME \"%s\"; };\n", made++, name substr(last, i, 3)
+        }
+    }'
+}
+
 # ranges COUNT: prints that many groups RANGE, with ascending addresses.
 ranges() {
     awk -v count="$1" 'BEGIN { for (k = 0; k < count; k++) printf "RANGE { START $%04X; END $%04X; TYPE CODE; };\n", k, k }'
@@ -120,6 +145,7 @@ printf '\n%-28s %12s %12s %9s %8s %8s %9s\n' 'instructions and kilobytes' 'da65 
 for order in ascending descending shuffled; do
     grows labels 20000 $order
 done
+grows colliding 20000
 grows included 60000
 grows ranges 20000
 exit $failed
