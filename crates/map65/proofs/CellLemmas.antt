@@ -4,7 +4,7 @@ use Rattle.std.proofs.lemmas.Bool.{cases_eq, cond_both, eq-eqb, eqb-false, ne_eq
 use Rattle.std.proofs.lemmas.List.{get_or-set_other, get_or-set_same}
 use Rattle.info65.specs.declared.range.RangeType.{RangeType}
 use Rattle.info65.specs.declared.range.RangeType.TheVariants.{Code}
-use Rattle.map65.specs.Code.Cells.{CellLaw, HasBits, cell_of, coded, has_bit, has_border, is_wide_cell, is_wide_role, len_in_cell, role_in_cell, with_bit, with_len}
+use Rattle.map65.specs.Code.Cells.{CellLaw, AreNamed, cell_of, coded, is_named, has_border, is_wide_cell, is_wide_role, len_in_cell, role_in_cell, with_name, with_len}
 use Rattle.map65.specs.Cells.{bit, code_of}
 
 -- ---- one cell
@@ -59,32 +59,32 @@ pub with_len-border : (c : ℕ) (r : Option RangeType) (n : ℕ) → n < 8 → c
 unfolding with_len cell_of
 with_len-border c r n small is = omega (arith, is, code-small r)
 
-has_bit-is : (c : ℕ) (b : Bool) → c / 128 % 2 ≡ bit b → has_bit c ≡ b
-unfolding has_bit
-has_bit-is c true is = eq-eqb (c / 128 % 2) 1 (omega (arith, is))
-has_bit-is c false is = ne_eqb (c / 128 % 2) 1 (omega (arith, is))
+is_named-is : (c : ℕ) (b : Bool) → c / 128 % 2 ≡ bit b → is_named c ≡ b
+unfolding is_named
+is_named-is c true is = eq-eqb (c / 128 % 2) 1 (omega (arith, is))
+is_named-is c false is = ne_eqb (c / 128 % 2) 1 (omega (arith, is))
 
-pub with_bit-lay : (c : ℕ) → with_bit c % 128 ≡ c % 128
-unfolding with_bit
-with_bit-lay c = cond_both (has_bit c) c (c + 128) (λ (x : ℕ). x % 128 ≡ c % 128) (λ _. refl) (λ _. omega arith)
+pub with_name-lay : (c : ℕ) → with_name c % 128 ≡ c % 128
+unfolding with_name
+with_name-lay c = cond_both (is_named c) c (c + 128) (λ (x : ℕ). x % 128 ≡ c % 128) (λ _. refl) (λ _. omega arith)
 
-even : (c : ℕ) → has_bit c ≡ false → c / 128 % 2 ≢ 1
-unfolding has_bit
+even : (c : ℕ) → is_named c ≡ false → c / 128 % 2 ≢ 1
+unfolding is_named
 even c is = eqb-false (c / 128 % 2) 1 is
 
-pub with_bit-border : (c : ℕ) → with_bit c / 256 ≡ c / 256
-unfolding with_bit
-with_bit-border c = cond_both (has_bit c) c (c + 128) (λ (x : ℕ). x / 256 ≡ c / 256) (λ _. refl) (λ none. omega (arith, even c none))
+pub with_name-border : (c : ℕ) → with_name c / 256 ≡ c / 256
+unfolding with_name
+with_name-border c = cond_both (is_named c) c (c + 128) (λ (x : ℕ). x / 256 ≡ c / 256) (λ _. refl) (λ none. omega (arith, even c none))
 
 pub has_border-is : (c : ℕ) (b : Bool) → c / 256 ≡ bit b → has_border c ≡ b
 unfolding has_border
 has_border-is c true is = eq-eqb (c / 256 % 2) 1 (omega (arith, is))
 has_border-is c false is = ne_eqb (c / 256 % 2) 1 (omega (arith, is))
 
-pub with_bit-rest : (c : ℕ) (b : Bool) → c / 128 % 2 ≡ bit b → with_bit c / 128 % 2 ≡ 1
-unfolding with_bit
-with_bit-rest c true is = rw (has_bit-is c true is) is
-with_bit-rest c false is = rw (has_bit-is c false is) (omega (arith, is))
+pub with_name-rest : (c : ℕ) (b : Bool) → c / 128 % 2 ≡ bit b → with_name c / 128 % 2 ≡ 1
+unfolding with_name
+with_name-rest c true is = rw (is_named-is c true is) is
+with_name-rest c false is = rw (is_named-is c false is) (omega (arith, is))
 
 -- ---- all cells
 
@@ -92,11 +92,11 @@ pub bit-small : (b : Bool) → bit b < 2
 bit-small true = omega arith
 bit-small false = omega arith
 
-pub bits-test : (p : ℕ → Bool) (cells : List ℕ) (a : ℕ) → HasBits p cells → a < 65536 → has_bit (get_or cells a 0) ≡ p a
-bits-test p cells a bits room = has_bit-is (get_or cells a 0) (p a) (bits.each a room)
+pub named-test : (p : ℕ → Bool) (cells : List ℕ) (a : ℕ) → AreNamed p cells → a < 65536 → is_named (get_or cells a 0) ≡ p a
+named-test p cells a named room = is_named-is (get_or cells a 0) (p a) (named.each a room)
 
-pub bits-as : (p q : ℕ → Bool) (cells : List ℕ) → ((a : ℕ) → a < 65536 → p a ≡ q a) → HasBits p cells → HasBits q cells
-bits-as p q cells same bits = record { each = λ a room. bits.each a room ∙ ap bit (same a room) }
+pub named-as : (p q : ℕ → Bool) (cells : List ℕ) → ((a : ℕ) → a < 65536 → p a ≡ q a) → AreNamed p cells → AreNamed q cells
+named-as p q cells same named = record { each = λ a room. named.each a room ∙ ap bit (same a room) }
 
 -- what holds of each cell after one was set: it holds of that one, and of the others as they were
 pub set-cell : (P : ℕ → ℕ → Type 0) (cells : List ℕ) (n c : ℕ) → n < length cells → P n c → ((a : ℕ) → a < 65536 → a ≢ n → P a (get_or cells a 0)) → (a : ℕ) → a < 65536 → P a (get_or (set cells n c) a 0)

@@ -9,6 +9,6 @@ mod PaintLemmas
 mod PieceLaws
 mod ReadLemmas
 mod RunLemmas
-mod SweepLemmas
+mod MarkingLemmas
 mod TargetLemmas
 pub mod Public

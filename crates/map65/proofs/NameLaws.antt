@@ -10,7 +10,7 @@ use Rattle.map65.proofs.ItemLaws.{begun, holder}
 use Rattle.map65.proofs.ItemLemmas.{item-len-at, left-first, one-role, size-one-piece, size-positive}
 use Rattle.map65.proofs.NameLemmas.{base-covered, base-unwanted, base-wanted, last-name, none-covers, not-some}
 use Rattle.map65.proofs.NamingLemmas.{home-narrow, home-wide, last-before, last-here}
-use Rattle.map65.proofs.SweepLemmas.{inside-item, item-fits}
+use Rattle.map65.proofs.MarkingLemmas.{inside-item, item-fits}
 use Rattle.map65.proofs.TargetLemmas.{none-at}
 use Rattle.map65.specs.ImageView.{end_of, is_inside}
 use Rattle.map65.specs.Items.{item_len, size_at}

@@ -10,11 +10,11 @@ use Rattle.info65.specs.Names.{AreNames, blank_name, covering, covering_below, c
 use Rattle.info65.specs.Views.{NameView}
 use Rattle.info65.specs.declared.range.RangeType.{RangeType}
 use Rattle.info65.specs.declared.range.RangeType.TheVariants.{Code}
-use Rattle.map65.proofs.CellLemmas.{bits-as, cell-len, cell-role, cell-wide, set-cell, with_bit-border, with_bit-lay, with_bit-rest}
+use Rattle.map65.proofs.CellLemmas.{named-as, cell-len, cell-role, cell-wide, set-cell, with_name-border, with_name-lay, with_name-rest}
 use Rattle.map65.proofs.NameLemmas.{named-is}
 use Rattle.map65.proofs.RunLemmas.{plain-code, role_at-inside}
-use Rattle.map65.proofs.SweepLemmas.{item-fits, item-small}
-use Rattle.map65.specs.Code.Cells.{AreCells, HasBits, IsLaid, is_wide_cell, is_wide_role, len_in_cell, nowhere, role_in_cell, with_bit}
+use Rattle.map65.proofs.MarkingLemmas.{item-fits, item-small}
+use Rattle.map65.specs.Code.Cells.{AreCells, AreNamed, IsLaid, is_wide_cell, is_wide_role, len_in_cell, nowhere, role_in_cell, with_name}
 use Rattle.map65.specs.Cells.{AreCellsOf, bit, code_of}
 use Rattle.map65.specs.Code.Marking.{KeepsLay, Reaches, also, is_covered, is_covered_below, is_wanted_below, is_within}
 use Rattle.map65.specs.ImageView.{end_of, is_inside}
@@ -58,14 +58,14 @@ keeps-then old mid new first second = record {
   borders = λ a room. second.borders a room ∙ first.borders a room;
 }
 
-pub mark-keeps : (old cells : List ℕ) (n : ℕ) → length cells ≡ 65536 → n < 65536 → KeepsLay old cells → KeepsLay old (set cells n (with_bit (get_or cells n 0)))
+pub mark-keeps : (old cells : List ℕ) (n : ℕ) → length cells ≡ 65536 → n < 65536 → KeepsLay old cells → KeepsLay old (set cells n (with_name (get_or cells n 0)))
 mark-keeps old cells n count room keeps = record {
   count = length-set cells n _ ∙ keeps.count;
-  each = set-cell (λ a x. x % 128 ≡ get_or old a 0 % 128) cells n (with_bit (get_or cells n 0)) (omega (arith, count, room))
-      (with_bit-lay (get_or cells n 0) ∙ keeps.each n room)
+  each = set-cell (λ a x. x % 128 ≡ get_or old a 0 % 128) cells n (with_name (get_or cells n 0)) (omega (arith, count, room))
+      (with_name-lay (get_or cells n 0) ∙ keeps.each n room)
       (λ a below other. keeps.each a below);
-  borders = set-cell (λ a x. x / 256 ≡ get_or old a 0 / 256) cells n (with_bit (get_or cells n 0)) (omega (arith, count, room))
-      (with_bit-border (get_or cells n 0) ∙ keeps.borders n room)
+  borders = set-cell (λ a x. x / 256 ≡ get_or old a 0 / 256) cells n (with_name (get_or cells n 0)) (omega (arith, count, room))
+      (with_name-border (get_or cells n 0) ∙ keeps.borders n room)
       (λ a below other. keeps.borders a below);
 }
 
@@ -75,11 +75,11 @@ bit-set b n = ap bit (sym (or-second b (n == n) (eq-eqb n n refl)))
 bit-other : (b : Bool) (n a : ℕ) → a ≢ n → bit b ≡ bit (b || n == a)
 bit-other b n a other = ap bit (or-none b ∙ ap (λ (q : Bool). b || q) (sym (ne_eqb n a (λ same. other (sym same)))))
 
-pub mark-bits : (p : ℕ → Bool) (cells : List ℕ) (n : ℕ) → length cells ≡ 65536 → n < 65536 → HasBits p cells → HasBits (λ a. p a || n == a) (set cells n (with_bit (get_or cells n 0)))
-mark-bits p cells n count room bits = record {
-  each = set-cell (λ a x. x / 128 % 2 ≡ bit (p a || n == a)) cells n (with_bit (get_or cells n 0)) (omega (arith, count, room))
-      (with_bit-rest (get_or cells n 0) (p n) (bits.each n room) ∙ bit-set (p n) n)
-      (λ a below other. bits.each a below ∙ bit-other (p a) n a other);
+pub mark-named : (p : ℕ → Bool) (cells : List ℕ) (n : ℕ) → length cells ≡ 65536 → n < 65536 → AreNamed p cells → AreNamed (λ a. p a || n == a) (set cells n (with_name (get_or cells n 0)))
+mark-named p cells n count room named = record {
+  each = set-cell (λ a x. x / 128 % 2 ≡ bit (p a || n == a)) cells n (with_name (get_or cells n 0)) (omega (arith, count, room))
+      (with_name-rest (get_or cells n 0) (p n) (named.each n room) ∙ bit-set (p n) n)
+      (λ a below other. named.each a below ∙ bit-other (p a) n a other);
 }
 
 pub laid-keeps : (m : MapView) (old new : List ℕ) → KeepsLay old new → IsLaid m old → IsLaid m new
@@ -102,17 +102,17 @@ own-more names i a below = list_any_more (λ (n : NameView). n.address == a) nam
 own-all : (names : List NameView) (n a : ℕ) → length names ≤ n → is_own (take n names) a ≡ is_own names a
 own-all names n a all = ap (λ (l : List NameView). is_own l a) (take_all n names all)
 
-pub own-start : (names : List NameView) (cells : List ℕ) → HasBits nowhere cells → HasBits (is_own (take 0 names)) cells
-own-start names cells bits = bits-as nowhere (is_own (take 0 names)) cells (λ a room. own-nothing names a) bits
+pub own-start : (names : List NameView) (cells : List ℕ) → AreNamed nowhere cells → AreNamed (is_own (take 0 names)) cells
+own-start names cells named = named-as nowhere (is_own (take 0 names)) cells (λ a room. own-nothing names a) named
 
-pub own-next : (names : List NameView) (i n : ℕ) (cells : List ℕ) → i < length names → n ≡ (name_at names i).address → length cells ≡ 65536 → n < 65536 → HasBits (is_own (take i names)) cells → HasBits (is_own (take (i + 1) names)) (set cells n (with_bit (get_or cells n 0)))
-own-next names i n cells below is count room bits =
-    bits-as (λ a. is_own (take i names) a || n == a) (is_own (take (i + 1) names)) _
+pub own-next : (names : List NameView) (i n : ℕ) (cells : List ℕ) → i < length names → n ≡ (name_at names i).address → length cells ≡ 65536 → n < 65536 → AreNamed (is_own (take i names)) cells → AreNamed (is_own (take (i + 1) names)) (set cells n (with_name (get_or cells n 0)))
+own-next names i n cells below is count room named =
+    named-as (λ a. is_own (take i names) a || n == a) (is_own (take (i + 1) names)) _
     (λ a low. ap (λ (k : ℕ). is_own (take i names) a || k == a) is ∙ sym (own-more names i a below))
-    (mark-bits (is_own (take i names)) cells n count room bits)
+    (mark-named (is_own (take i names)) cells n count room named)
 
-pub own-end : (names : List NameView) (n : ℕ) (cells : List ℕ) → length names ≤ n → HasBits (is_own (take n names)) cells → HasBits (is_own names) cells
-own-end names n cells all bits = bits-as (is_own (take n names)) (is_own names) cells (λ a room. own-all names n a all) bits
+pub own-end : (names : List NameView) (n : ℕ) (cells : List ℕ) → length names ≤ n → AreNamed (is_own (take n names)) cells → AreNamed (is_own names) cells
+own-end names n cells all named = named-as (is_own (take n names)) (is_own names) cells (λ a room. own-all names n a all) named
 
 -- ---- a span
 
@@ -125,17 +125,17 @@ within-more from at a low = grind (arith, nat_tests)
 within-end : (from to at a : ℕ) → to ≤ at → at ≤ max from to → is_within from at a ≡ is_within from to a
 within-end from to at a past low = grind (arith, nat_tests)
 
-pub span-start : (p : ℕ → Bool) (from : ℕ) (cells : List ℕ) → HasBits p cells → HasBits (also p (is_within from from)) cells
-span-start p from cells bits = bits-as p (also p (is_within from from)) cells (λ a room. or-none (p a) ∙ ap (λ (q : Bool). p a || q) (sym (within-none from a))) bits
+pub span-start : (p : ℕ → Bool) (from : ℕ) (cells : List ℕ) → AreNamed p cells → AreNamed (also p (is_within from from)) cells
+span-start p from cells named = named-as p (also p (is_within from from)) cells (λ a room. or-none (p a) ∙ ap (λ (q : Bool). p a || q) (sym (within-none from a))) named
 
-pub span-next : (p : ℕ → Bool) (from at : ℕ) (cells : List ℕ) → from ≤ at → length cells ≡ 65536 → at < 65536 → HasBits (also p (is_within from at)) cells → HasBits (also p (is_within from (at + 1))) (set cells at (with_bit (get_or cells at 0)))
-span-next p from at cells low count room bits =
-    bits-as (λ a. also p (is_within from at) a || at == a) (also p (is_within from (at + 1))) _
+pub span-next : (p : ℕ → Bool) (from at : ℕ) (cells : List ℕ) → from ≤ at → length cells ≡ 65536 → at < 65536 → AreNamed (also p (is_within from at)) cells → AreNamed (also p (is_within from (at + 1))) (set cells at (with_name (get_or cells at 0)))
+span-next p from at cells low count room named =
+    named-as (λ a. also p (is_within from at) a || at == a) (also p (is_within from (at + 1))) _
     (λ a below. or-assoc (p a) (is_within from at a) (at == a) ∙ ap (λ (q : Bool). p a || q) (within-more from at a low))
-    (mark-bits (also p (is_within from at)) cells at count room bits)
+    (mark-named (also p (is_within from at)) cells at count room named)
 
-pub span-end : (p : ℕ → Bool) (from to at : ℕ) (cells : List ℕ) → to ≤ at → at ≤ max from to → HasBits (also p (is_within from at)) cells → HasBits (also p (is_within from to)) cells
-span-end p from to at cells past low bits = bits-as (also p (is_within from at)) (also p (is_within from to)) cells (λ a room. ap (λ (q : Bool). p a || q) (within-end from to at a past low)) bits
+pub span-end : (p : ℕ → Bool) (from to at : ℕ) (cells : List ℕ) → to ≤ at → at ≤ max from to → AreNamed (also p (is_within from at)) cells → AreNamed (also p (is_within from to)) cells
+span-end p from to at cells past low named = named-as (also p (is_within from at)) (also p (is_within from to)) cells (λ a room. ap (λ (q : Bool). p a || q) (within-end from to at a past low)) named
 
 -- ---- names that cover addresses
 
@@ -213,18 +213,18 @@ module _ (names : List NameView) (are : AreNames names) (i reach : ℕ) (below :
       ap (λ (q : Bool). is_covered_below names i a || q) apart ∙ sym (or-none (is_covered_below names i a)) ∙ sym (below-miss names i a miss))
       (cases_Bool (covers (name_at names i) a))
 
-  pub covered-next : (p : ℕ → Bool) (cells : List ℕ) → HasBits (also (also p (is_covered_below names i)) (is_within (max (name_at names i).address reach) ((name_at names i).address + (name_at names i).size))) cells → HasBits (also p (is_covered_below names (i + 1))) cells
-  covered-next p cells bits =
+  pub covered-next : (p : ℕ → Bool) (cells : List ℕ) → AreNamed (also (also p (is_covered_below names i)) (is_within (max (name_at names i).address reach) ((name_at names i).address + (name_at names i).size))) cells → AreNamed (also p (is_covered_below names (i + 1))) cells
+  covered-next p cells named =
       let next : suc i ≡ i + 1 = omega arith in
-      bits-as _ (also p (is_covered_below names (i + 1))) cells
+      named-as _ (also p (is_covered_below names (i + 1))) cells
       (λ a room. or-assoc (p a) (is_covered_below names i a) _ ∙ ap (λ (q : Bool). p a || q) (span-covers a ∙ ap (λ (k : ℕ). is_covered_below names k a) next))
-      bits
+      named
 
 pub reaches-none : (names : List NameView) (reach : ℕ) → reach ≡ 0 → Reaches names 0 reach
 reaches-none names reach is a low high = absurd (omega arith)
 
-pub covered-start : (names : List NameView) (p : ℕ → Bool) (cells : List ℕ) → HasBits p cells → HasBits (also p (is_covered_below names 0)) cells
-covered-start names p cells bits = bits-as p (also p (is_covered_below names 0)) cells (λ a room. or-none (p a) ∙ ap (λ (q : Bool). p a || q) (sym (below-none names a))) bits
+pub covered-start : (names : List NameView) (p : ℕ → Bool) (cells : List ℕ) → AreNamed p cells → AreNamed (also p (is_covered_below names 0)) cells
+covered-start names p cells named = named-as p (also p (is_covered_below names 0)) cells (λ a room. or-none (p a) ∙ ap (λ (q : Bool). p a || q) (sym (below-none names a))) named
 
 own-covered : (names : List NameView) → AreNames names → (a : ℕ) → is_own names a ≡ true → is_covered_below names (length names) a ≡ true
 unfolding is_own
@@ -237,14 +237,14 @@ own-covered names are a is =
     let covers_it : covers (get_or names found.0 n) a ≡ true = ap (λ (v : NameView). covers v a) at ∙ covers-is n a (omega (arith, here)) (omega (arith, here, ap (λ (v : NameView). v.size) at, sized)) in
     below-some names (length names) found.0 a found.2 (ap (λ (v : NameView). covers v a) (get_or_default names found.0 blank_name n found.2) ∙ covers_it)
 
-pub covered-end : (names : List NameView) (n : ℕ) (cells : List ℕ) → AreNames names → n ≡ length names → HasBits (also (is_own names) (is_covered_below names n)) cells → HasBits (is_covered names) cells
-covered-end names n cells are is bits =
-    bits-as (also (is_own names) (is_covered_below names n)) (is_covered names) cells
+pub covered-end : (names : List NameView) (n : ℕ) (cells : List ℕ) → AreNames names → n ≡ length names → AreNamed (also (is_own names) (is_covered_below names n)) cells → AreNamed (is_covered names) cells
+covered-end names n cells are is named =
+    named-as (also (is_own names) (is_covered_below names n)) (is_covered names) cells
     (λ a room.
     ap (λ (k : ℕ). is_own names a || is_covered_below names k a) is
     ∙ absorbed (is_own names a) (is_covered_below names (length names) a) (own-covered names are a)
     ∙ covered-all names (length names) a refl)
-    bits
+    named
   where
     absorbed : (p q : Bool) → (p ≡ true → q ≡ true) → (p || q) ≡ q
     absorbed true q given = sym (given refl)
@@ -277,7 +277,7 @@ described m cells are =
           record {
             role = laid-plain m cells a are.laid room;
             len = sym (len-is (get_or cells a 0)) ∙ laid-len m cells a are.laid room;
-            named = are.bits.each a room;
+            named = are.named.each a room;
           };
     }
 
@@ -328,13 +328,13 @@ last-before m a some none =
 
 -- ---- one target
 
-pub refers-none : (m : MapView) (item : ℕ) (p : ℕ → Bool) (cells : List ℕ) → target_at m item ≡ None → HasBits p cells → HasBits (also p (λ a. refers m a item)) cells
+pub refers-none : (m : MapView) (item : ℕ) (p : ℕ → Bool) (cells : List ℕ) → target_at m item ≡ None → AreNamed p cells → AreNamed (also p (λ a. refers m a item)) cells
 unfolding refers
-refers-none m item p cells is bits =
-    bits-as p (also p (λ a. refers_by m (target_at m item) a)) cells (λ a room. or-none (p a) ∙ ap (λ o. p a || refers_by m o a) (sym is)) bits
+refers-none m item p cells is named =
+    named-as p (also p (λ a. refers_by m (target_at m item) a)) cells (λ a room. or-none (p a) ∙ ap (λ o. p a || refers_by m o a) (sym is)) named
 
 -- a target and the first byte of its item are marked
-module _ (m : MapView) (item t h : ℕ) (cells one two : List ℕ) (laid : IsLaid m cells) (t_room : t < 65536) (h_room : h < 65536) (is : target_at m item ≡ Some t) (at : h ≡ home m t) (then_one : one ≡ set cells t (with_bit (get_or cells t 0))) (then_two : two ≡ set one h (with_bit (get_or one h 0))) where
+module _ (m : MapView) (item t h : ℕ) (cells one two : List ℕ) (laid : IsLaid m cells) (t_room : t < 65536) (h_room : h < 65536) (is : target_at m item ≡ Some t) (at : h ≡ home m t) (then_one : one ≡ set cells t (with_name (get_or cells t 0))) (then_two : two ≡ set one h (with_name (get_or one h 0))) where
   one-keeps : KeepsLay cells one
   one-keeps = subst (KeepsLay cells) (sym then_one) (mark-keeps cells cells t laid.count t_room (keeps-same cells))
 
@@ -348,11 +348,11 @@ module _ (m : MapView) (item t h : ℕ) (cells one two : List ℕ) (laid : IsLai
   unfolding refers
   marked-refers p a = or-assoc (p a) (t == a) (h == a) ∙ ap (λ (k : ℕ). p a || (t == a || k == a)) at ∙ ap (λ o. p a || refers_by m o a) (sym is)
 
-  pub target-bits : (p : ℕ → Bool) → HasBits p cells → HasBits (also p (λ b. refers m b item)) two
-  target-bits p bits =
-      let first : HasBits (λ a. p a || t == a) one = subst (HasBits (λ a. p a || t == a)) (sym then_one) (mark-bits p cells t laid.count t_room bits) in
-      let second : HasBits (λ a. (p a || t == a) || h == a) two = subst (HasBits (λ a. (p a || t == a) || h == a)) (sym then_two) (mark-bits (λ a. p a || t == a) one h one-count h_room first) in
-      bits-as (λ a. (p a || t == a) || h == a) (also p (λ b. refers m b item)) two (λ a room. marked-refers p a) second
+  pub target-named : (p : ℕ → Bool) → AreNamed p cells → AreNamed (also p (λ b. refers m b item)) two
+  target-named p named =
+      let first : AreNamed (λ a. p a || t == a) one = subst (AreNamed (λ a. p a || t == a)) (sym then_one) (mark-named p cells t laid.count t_room named) in
+      let second : AreNamed (λ a. (p a || t == a) || h == a) two = subst (AreNamed (λ a. (p a || t == a) || h == a)) (sym then_two) (mark-named (λ a. p a || t == a) one h one-count h_room first) in
+      named-as (λ a. (p a || t == a) || h == a) (also p (λ b. refers m b item)) two (λ a room. marked-refers p a) second
 
 -- ---- all targets
 
@@ -375,25 +375,24 @@ wanted-all : (m : MapView) (n a : ℕ) → n ≡ length m.image.bytes → (is_co
 unfolding is_wanted_below is_wanted
 wanted-all m n a is = ap (λ (k : ℕ). is_covered m.info.names a || list_any (refers m a) (addresses k m.image.start)) is ∙ sym (named-is m a)
 
-pub targets-start : (m : MapView) (cells : List ℕ) → HasBits (is_covered m.info.names) cells → HasBits (also (is_covered m.info.names) (is_wanted_below m 0)) cells
-targets-start m cells bits = bits-as (is_covered m.info.names) (also (is_covered m.info.names) (is_wanted_below m 0)) cells (λ a room. or-none (is_covered m.info.names a) ∙ ap (λ (q : Bool). is_covered m.info.names a || q) (sym (wanted-none m a))) bits
+pub targets-start : (m : MapView) (cells : List ℕ) → AreNamed (is_covered m.info.names) cells → AreNamed (also (is_covered m.info.names) (is_wanted_below m 0)) cells
+targets-start m cells named = named-as (is_covered m.info.names) (also (is_covered m.info.names) (is_wanted_below m 0)) cells (λ a room. or-none (is_covered m.info.names a) ∙ ap (λ (q : Bool). is_covered m.info.names a || q) (sym (wanted-none m a))) named
 
-pub targets-next : (m : MapView) (n item : ℕ) (cells : List ℕ) → item ≡ m.image.start + n → HasBits (also (also (is_covered m.info.names) (is_wanted_below m n)) (λ a. refers m a item)) cells → HasBits (also (is_covered m.info.names) (is_wanted_below m (n + 1))) cells
-targets-next m n item cells is bits =
-    bits-as _ (also (is_covered m.info.names) (is_wanted_below m (n + 1))) cells
+pub targets-next : (m : MapView) (n item : ℕ) (cells : List ℕ) → item ≡ m.image.start + n → AreNamed (also (also (is_covered m.info.names) (is_wanted_below m n)) (λ a. refers m a item)) cells → AreNamed (also (is_covered m.info.names) (is_wanted_below m (n + 1))) cells
+targets-next m n item cells is named =
+    named-as _ (also (is_covered m.info.names) (is_wanted_below m (n + 1))) cells
     (λ a room.
     or-assoc (is_covered m.info.names a) (is_wanted_below m n a) (refers m a item)
     ∙ ap (λ (q : Bool). is_covered m.info.names a || q) (ap (λ (k : ℕ). is_wanted_below m n a || refers m a k) is ∙ sym (wanted-next m n a)))
-    bits
+    named
 
-pub targets-end : (m : MapView) (n : ℕ) (cells : List ℕ) → n ≡ length m.image.bytes → HasBits (also (is_covered m.info.names) (is_wanted_below m n)) cells → HasBits (has_name m) cells
-targets-end m n cells is bits = bits-as (also (is_covered m.info.names) (is_wanted_below m n)) (has_name m) cells (λ a room. wanted-all m n a is) bits
+pub targets-end : (m : MapView) (n : ℕ) (cells : List ℕ) → n ≡ length m.image.bytes → AreNamed (also (is_covered m.info.names) (is_wanted_below m n)) cells → AreNamed (has_name m) cells
+targets-end m n cells is named = named-as (also (is_covered m.info.names) (is_wanted_below m n)) (has_name m) cells (λ a room. wanted-all m n a is) named
 
 -- ---- the item that a cell holds
 
-pub laid-code : (m : MapView) (cells : List ℕ) (a c : ℕ) (o : Option RangeType) (r : RangeType) → IsLaid m cells → a < 65536 → m.image.start ≤ a → a < end_of m.image → c ≡ get_or cells a 0 → o ≡ role_in_cell c → r ≡ unwrap_or o Code → r ≡ role_of m.info a
-laid-code m cells a c o r laid room low high cell says is =
-    is ∙ ap (λ (q : Option RangeType). unwrap_or q Code) (says ∙ ap role_in_cell cell ∙ laid-role m cells a laid room ∙ role_at-inside m a low high)
+pub laid-known : (m : MapView) (cells : List ℕ) (a c : ℕ) (o : Option RangeType) → IsLaid m cells → a < 65536 → m.image.start ≤ a → a < end_of m.image → c ≡ get_or cells a 0 → o ≡ role_in_cell c → o ≡ Some (role_of m.info a)
+laid-known m cells a c o laid room low high cell says = says ∙ ap role_in_cell cell ∙ laid-role m cells a laid room ∙ role_at-inside m a low high
 
 pub laid-item : (m : MapView) (cells : List ℕ) (a c n : ℕ) → IsLaid m cells → a < 65536 → c ≡ get_or cells a 0 → n ≡ len_in_cell c → n ≡ item_len m a
 laid-item m cells a c n laid room cell says = says ∙ ap len_in_cell cell ∙ laid-len m cells a laid room

@@ -10,7 +10,7 @@ use Rattle.info65.specs.declared.range.RangeSpec.{RangeSpec}
 use Rattle.info65.specs.declared.range.RangeType.{RangeType}
 use Rattle.info65.specs.declared.range.RangeType.TheVariants.{Code}
 use Rattle.map65.proofs.CellLemmas.{cell-small, set-cell}
-use Rattle.map65.specs.Code.Cells.{HasBits, cell_of, nowhere, with_border}
+use Rattle.map65.specs.Code.Cells.{AreNamed, cell_of, nowhere, with_border}
 use Rattle.map65.specs.Cells.{bit, code_of}
 use Rattle.map65.specs.Code.Marking.{AreMarkedBelow, ArePainted, bordered, painted, painted_by, role_by}
 use Rattle.map65.specs.ImageView.{ImageView, end_of, is_inside}
@@ -165,5 +165,5 @@ module _ (m : MapView) (n : ℕ) (cells new : List ℕ) (none : n ≡ 0) (are : 
   }
 
   -- and no cell has its bit for a name
-  pub none-bits : HasBits nowhere new
-  none-bits = record { each = λ a room. (cell-is a room).name }
+  pub none-named : AreNamed nowhere new
+  none-named = record { each = λ a room. (cell-is a room).name }

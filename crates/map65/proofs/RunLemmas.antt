@@ -78,7 +78,7 @@ record HasRole (m : MapView) (a : ℕ) (r : RangeType) : Type 0 where
   high : a < end_of m.image
   is : role_of m.info a ≡ r
 
-some-same : (r q : RangeType) → Some r ≡ Some q → r ≡ q
+pub some-same : (r q : RangeType) → Some r ≡ Some q → r ≡ q
 some-same r q is = cc
 
 role_at-test : (m : MapView) (a : ℕ) (r : RangeType) → role_at m a ≡ Some r → is_inside m.image a ≡ true

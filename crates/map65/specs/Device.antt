@@ -1,4 +1,4 @@
--- What contracts know of a reader or a writer: its bytes, if it tells them, and how many of its calls failed.
+-- What contracts know of a reader or a writer: its bytes, if it reports them, and how many of its calls failed.
 use Rattle.std.specs.Prelude.{◌≡◌, ℕ, ◌+◌, ◌-◌, ◌^◌, ◌≤◌, nat_lt, Bool, min, List, ◌++◌, length, MatchResult, Option, Result}
 use Rattle.std.specs.Io.KnownBytes.{Appends, Consumes}
 

@@ -1,6 +1,6 @@
 -- What a `Told` holds.
 use Rattle.std.specs.Prelude.{ℕ}
-use Rattle.map65.specs.declared.told.Told.{Told}
+use Rattle.map65.specs.declared.devices.told.Told.{Told}
 
 -- the reader or the writer
 abbrev pub told_inner : {T : Type 0} → Told T → T

@@ -1,4 +1,4 @@
-//! The sweep that marks segment borders.
+//! Marks the segment borders in the cells of a map.
 
 ghost use Rattle.std.specs.Prelude.{◌≡◌, ◌+◌, ◌==◌, ◌||◌, ◌<◌, ◌≤◌, ℕ, length, slice_index};
 ghost use Rattle.map65.specs.Code.Marking.{bordered};
@@ -8,7 +8,7 @@ use crate::cells::with_border;
 use info65::Info;
 use std::alloc::Allocator;
 
-/// Marks a border before an address. $10000 is none.
+/// Marks a border before an address. Nothing is marked for $10000, which is no address.
 fn mark_border(cells: &mut [u16], at: usize)
     requires count { length cells.old ≡ 65536 }
     ensures count { length cells.new ≡ 65536 }
@@ -19,7 +19,7 @@ fn mark_border(cells: &mut [u16], at: usize)
     }
 }
 
-/// Marks the borders of a segment: before its first address, and after its last one.
+/// Marks the borders of a segment: before its first address, and after its last.
 fn mark_segment(cells: &mut [u16], first: u16, last: u16)
     requires count { length cells.old ≡ 65536 }
     ensures count { length cells.new ≡ 65536 }

@@ -1,13 +1,28 @@
 //! Cells: a role, the length of an item, and bits for a name and for a segment border, packed into 16 bits.
+//!
+//! From the lowest bit on: four bits for the code of the role, three for the length, one for a name, one for a border.
 
 ghost use Rattle.std.specs.Prelude.{◌≡◌, ◌<◌, ℕ, IfOk, slice_index, vec_len};
-ghost use Rattle.map65.specs.Code.Cells.{are_one_run, cell_of, coded, has_bit, has_border, is_same_role, is_wide_cell, len_in_cell, role_in_cell, with_bit, with_border, with_len};
+ghost use Rattle.map65.specs.Code.Cells.{are_one_run, cell_of, coded, is_named, has_border, is_same_role, is_wide_cell, len_in_cell, role_in_cell, with_name, with_border, with_len};
 ghost use Rattle.map65.specs.Cells.{code_of};
 
 use crate::roles::is_wide;
 use info65::RangeType;
 use std::alloc::{AllocError, Allocator};
 
+/// The lowest bit of the length. The code of the role is below it.
+const LENGTH: u16 = 16;
+
+/// The first length that has no room.
+const LENGTHS: u16 = 8;
+
+/// The bit for a name.
+const NAME: u16 = 128;
+
+/// The bit for a segment border before the address.
+const BORDER: u16 = 256;
+
+/// The code of a role, and 0 outside the image.
 #[tactic(auto, unfolding(crate::specs::Cells::code_of))]
 fn code_of(role: Option<RangeType>) -> u16
     ensures value { result ≡ code_of role }
@@ -27,6 +42,7 @@ fn code_of(role: Option<RangeType>) -> u16
     }
 }
 
+/// The role that has this code.
 #[tactic(auto, unfolding(crate::specs::Code::Cells::coded))]
 fn coded(code: u16) -> Option<RangeType>
     ensures { result ≡ coded code }
@@ -51,7 +67,7 @@ pub fn cell_of(role: Option<RangeType>, len: u8) -> u16
     requires { len < 8 }
     ensures { result ≡ cell_of role len }
 {
-    code_of(role) + 16 * u16::from(len)
+    code_of(role) + LENGTH * u16::from(len)
 }
 
 /// Returns the role that a cell holds.
@@ -59,7 +75,7 @@ pub fn cell_of(role: Option<RangeType>, len: u8) -> u16
 pub fn role_in(cell: u16) -> Option<RangeType>
     ensures { result ≡ role_in_cell cell }
 {
-    coded(cell % 16)
+    coded(cell % LENGTH)
 }
 
 /// Whether both cells hold the same role.
@@ -67,7 +83,7 @@ pub fn role_in(cell: u16) -> Option<RangeType>
 fn is_same_role(cell: u16, other: u16) -> bool
     ensures { result ≡ is_same_role cell other }
 {
-    cell % 16 == other % 16
+    cell % LENGTH == other % LENGTH
 }
 
 /// Returns the length of an item that a cell holds.
@@ -76,7 +92,7 @@ pub fn len_in(cell: u16) -> u8
     ensures value { result ≡ len_in_cell cell }
     ensures small { result < 8 }
 {
-    (cell / 16 % 8) as u8
+    (cell / LENGTH % LENGTHS) as u8
 }
 
 /// Returns whether a cell's role is a table whose entries have more than one byte.
@@ -97,23 +113,23 @@ pub fn with_len(cell: u16, len: u8) -> u16
     requires len { len < 8 }
     ensures { result ≡ with_len cell len }
 {
-    cell + 16 * u16::from(len)
+    cell + LENGTH * u16::from(len)
 }
 
 /// Returns whether a cell has its bit for a name.
-#[tactic(auto, unfolding(crate::specs::Code::Cells::has_bit))]
-pub fn has_bit(cell: u16) -> bool
-    ensures { result ≡ has_bit cell }
+#[tactic(auto, unfolding(crate::specs::Code::Cells::is_named))]
+pub fn is_named(cell: u16) -> bool
+    ensures { result ≡ is_named cell }
 {
-    cell / 128 % 2 == 1
+    cell / NAME % 2 == 1
 }
 
-/// Sets a cell's bit for a name.
-#[tactic(auto, unfolding(crate::specs::Code::Cells::has_bit, crate::specs::Code::Cells::with_bit))]
-pub fn with_bit(cell: u16) -> u16
-    ensures { result ≡ with_bit cell }
+/// Returns the cell with its bit for a name.
+#[tactic(auto, unfolding(crate::specs::Code::Cells::is_named, crate::specs::Code::Cells::with_name))]
+pub fn with_name(cell: u16) -> u16
+    ensures { result ≡ with_name cell }
 {
-    if has_bit(cell) { cell } else { cell + 128 }
+    if is_named(cell) { cell } else { cell + NAME }
 }
 
 /// Returns whether a cell has its bit for a segment border before its address.
@@ -121,15 +137,15 @@ pub fn with_bit(cell: u16) -> u16
 fn has_border(cell: u16) -> bool
     ensures { result ≡ has_border cell }
 {
-    cell / 256 % 2 == 1
+    cell / BORDER % 2 == 1
 }
 
-/// Sets a cell's bit for a segment border.
+/// Returns the cell with its bit for a segment border.
 #[tactic(auto, unfolding(crate::specs::Code::Cells::with_border))]
 pub fn with_border(cell: u16) -> u16
     ensures { result ≡ with_border cell }
 {
-    cell % 256 + 256
+    cell % BORDER + BORDER
 }
 
 /// Returns whether the address of a cell lies in the run of the address before it, whose cell is the first one.
@@ -137,7 +153,7 @@ pub fn with_border(cell: u16) -> u16
 pub fn are_one_run(before: u16, cell: u16) -> bool
     ensures { result ≡ are_one_run before cell }
 {
-    is_same_role(before, cell) && (cell % 16 != 0 && !has_border(cell))
+    is_same_role(before, cell) && (cell % LENGTH != 0 && !has_border(cell))
 }
 
 /// Returns cells that hold 0.

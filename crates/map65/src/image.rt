@@ -5,7 +5,7 @@ ghost use Rattle.map65.specs.declared.image.ImageFault.TheVariants.{Read, Memory
 ghost use Rattle.map65.specs.Image.{image_by, is_short, start_of};
 ghost use Rattle.map65.specs.ImageView.{AreBytes, IsPlaced};
 
-use crate::device::DeviceFault;
+use crate::devices::DeviceFault;
 use std::alloc::{AllocError, Allocator, Global};
 use std::marker::Model;
 use thiserror::Error;

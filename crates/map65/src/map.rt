@@ -3,7 +3,7 @@
 ghost use Rattle.std.specs.Prelude.{◌≡◌, ◌+◌, ◌-◌, ◌/◌, ◌%◌, ◌<◌, ◌≤◌, ℕ, IfOk, IfSome, length, option_map, slice_index};
 ghost use Rattle.info65.specs.Code.Names.{given_seen};
 ghost use Rattle.info65.specs.Names.{covering, default_name};
-ghost use Rattle.map65.specs.Code.Cells.{AreCells, has_bit, len_in_cell, role_in_cell};
+ghost use Rattle.map65.specs.Code.Cells.{AreCells, is_named, len_in_cell, role_in_cell};
 ghost use Rattle.map65.specs.Cells.{AreCellsOf, bit, code_of};
 ghost use Rattle.map65.specs.ImageView.{end_of};
 ghost use Rattle.map65.specs.Items.{item_len};
@@ -12,12 +12,12 @@ ghost use Rattle.map65.specs.Pieces.{is_in_run};
 ghost use Rattle.map65.specs.Roles.{role_at};
 ghost use Rattle.map65.specs.Segments.{is_border, segment_at};
 
-use crate::cells::{are_one_run, blank_cells, has_bit, len_in, role_in};
+use crate::cells::{are_one_run, blank_cells, is_named, len_in, role_in};
 use crate::image::{ADDRESSES, Image};
+use crate::marking::{mark_items, mark_roles};
 use crate::name::{NameBuf, NameKind, Place, put_default, put_text};
 use crate::naming::{home_of, mark_covered, mark_own, mark_targets};
 use crate::roles::is_skip;
-use crate::sweep::{mark_items, mark_roles};
 use info65::{Given, Info, RangeType};
 use isa65::DecodeTable;
 use std::alloc::{AllocError, Allocator, Global};
@@ -44,13 +44,27 @@ impl<'a, A: Allocator> Model for Map<'a, A> {
 }
 
 impl<'a, A: Allocator> Map<'a, A> {
-    /// Builds the map of an image. Fails if memory for its 65,536 cells is refused.
+    /// Builds the map of an image. Fails if the allocation of its 65,536 cells fails.
     pub fn build(alloc: A, info: &'a Info<A>, image: &'a Image<A>) -> Result<Map<'a, A>, AllocError>
         ensures { IfOk result (λ m. m ≡ record { info = info.entry.now; image = image.entry.now }) }
     {
         let mut cells = blank_cells(alloc, ADDRESSES)?;
         mark_all(cells.as_mut_slice(), info, image);
         Ok(Map { info, image, cells })
+    }
+
+    /// Returns the information that the map was built from.
+    pub fn info(&self) -> &'a Info<A>
+        ensures { result.now ≡ self.now.info }
+    {
+        self.info
+    }
+
+    /// Returns the image that the map was built from.
+    pub fn image(&self) -> &'a Image<A>
+        ensures { result.now ≡ self.now.image }
+    {
+        self.image
     }
 
     /// Lends the cells of the map: one for each address from $0000 to $FFFF, in order.
@@ -102,7 +116,7 @@ impl<'a, A: Allocator> Map<'a, A> {
     pub fn has_name(&self, address: u16) -> bool
         ensures { result ≡ has_name self.now address }
     {
-        has_bit(self.cell(address))
+        is_named(self.cell(address))
     }
 
     /// Returns where the base name of an address's name is defined and how far the address lies after the address of
@@ -112,7 +126,7 @@ impl<'a, A: Allocator> Map<'a, A> {
         ensures text { name.new.items ≡ text_at self.now address }
     {
         name.clear();
-        if !has_bit(self.cell(address)) {
+        if !is_named(self.cell(address)) {
             return None;
         }
         if let Some(given) = self.given(address) {
@@ -121,10 +135,11 @@ impl<'a, A: Allocator> Map<'a, A> {
         Some(self.put_home(address, name))
     }
 
+    /// The cell of the address.
     fn cell(&self, address: u16) -> u16
         ensures role { role_in_cell result ≡ role_at self.now address }
         ensures len { len_in_cell result ≡ item_len self.now address }
-        ensures named { has_bit result ≡ has_name self.now address }
+        ensures named { is_named result ≡ has_name self.now address }
         ensures code { result % 16 ≡ code_of (role_at self.now address) }
         ensures border { result / 256 ≡ bit (is_border self.now.info.segments address) }
     {

@@ -1,29 +1,29 @@
-//! The sweeps that mark addresses that have a name.
+//! Marks the addresses that have a name in the cells of a map.
 
 ghost use Rattle.std.specs.Prelude.{◌≡◌, ◌+◌, ◌<◌, ◌≤◌, ℕ, Bool, length, max, set, slice_index};
 ghost use Rattle.info65.specs.Code.Names.{given_seen};
 ghost use Rattle.info65.specs.Names.{AreNames, name_at};
-ghost use Rattle.map65.specs.Code.Cells.{AreCells, HasBits, IsLaid, nowhere, with_bit};
+ghost use Rattle.map65.specs.Code.Cells.{AreCells, AreNamed, IsLaid, nowhere, with_name};
 ghost use Rattle.map65.specs.Code.Marking.{KeepsLay, Reaches, also, is_covered, is_covered_below, is_within};
 ghost use Rattle.map65.specs.ImageView.{IsPlaced, end_of};
 ghost use Rattle.map65.specs.MapView.{MapView};
 ghost use Rattle.map65.specs.Names.{home, refers};
 ghost use Rattle.map65.specs.Pieces.{is_own};
 
-use crate::cells::{is_wide_cell, len_in, role_in, with_bit};
+use crate::cells::{is_wide_cell, len_in, role_in, with_name};
 use crate::image::Image;
 use crate::target::target_at;
-use info65::{Given, Info, RangeType};
+use info65::{Given, Info};
 use isa65::DecodeTable;
 use std::alloc::Allocator;
 
-/// Sets the bit of the address's cell.
+/// Sets the bit for a name in the address's cell.
 fn mark(cells: &mut [u16], address: u16)
     requires { length cells.old ≡ 65536 }
-    ensures { cells.new ≡ set cells.old address (with_bit (slice_index cells.old address)) }
+    ensures { cells.new ≡ set cells.old address (with_name (slice_index cells.old address)) }
 {
     let at = usize::from(address);
-    cells[at] = with_bit(cells[at]);
+    cells[at] = with_name(cells[at]);
 }
 
 // ---- given names
@@ -31,9 +31,9 @@ fn mark(cells: &mut [u16], address: u16)
 /// Marks the own address of each given name in cells without marks.
 pub fn mark_own<A: Allocator>(cells: &mut [u16], info: &Info<A>)
     requires count { length cells.old ≡ 65536 }
-    requires bits { HasBits nowhere cells.old }
+    requires named { AreNamed nowhere cells.old }
     ensures keeps { KeepsLay cells.old cells.new }
-    ensures bits { HasBits (is_own info.now.names) cells.new }
+    ensures named { AreNamed (is_own info.now.names) cells.new }
 {
     for i in 0..info.given_count() {
         mark(cells, info.given(i).address);
@@ -45,10 +45,10 @@ fn mark_span(cells: &mut [u16], from: usize, to: usize)
     requires count { length cells.old ≡ 65536 }
     requires room { to ≤ 65536 }
     ensures keeps { KeepsLay cells.old cells.new }
-    ensures bits { (p : ℕ → Bool) → HasBits p cells.old → HasBits (also p (is_within from to)) cells.new }
+    ensures named { (p : ℕ → Bool) → AreNamed p cells.old → AreNamed (also p (is_within from to)) cells.new }
 {
     for at in from..to {
-        cells[at] = with_bit(cells[at]);
+        cells[at] = with_name(cells[at]);
     }
 }
 
@@ -58,7 +58,7 @@ fn mark_name(cells: &mut [u16], name: Given<'_>, reach: usize) -> usize
     requires count { length cells.old ≡ 65536 }
     requires room { name.address + name.size ≤ 65536 }
     ensures keeps { KeepsLay cells.old cells.new }
-    ensures bits { (p : ℕ → Bool) → HasBits p cells.old → HasBits (also p (is_within (max name.entry.address reach) (name.entry.address + name.entry.size))) cells.new }
+    ensures named { (p : ℕ → Bool) → AreNamed p cells.old → AreNamed (also p (is_within (max name.entry.address reach) (name.entry.address + name.entry.size))) cells.new }
     ensures reach { result ≡ max reach (name.entry.address + name.entry.size) }
 {
     let first = usize::from(name.address);
@@ -73,9 +73,9 @@ fn mark_name(cells: &mut [u16], name: Given<'_>, reach: usize) -> usize
 /// grows with the number of names and of marked addresses, however much the names overlap.
 pub fn mark_covered<A: Allocator>(cells: &mut [u16], info: &Info<A>)
     requires count { length cells.old ≡ 65536 }
-    requires bits { HasBits (is_own info.now.names) cells.old }
+    requires named { AreNamed (is_own info.now.names) cells.old }
     ensures keeps { KeepsLay cells.old cells.new }
-    ensures bits { HasBits (is_covered info.now.names) cells.new }
+    ensures named { AreNamed (is_covered info.now.names) cells.new }
 {
     let mut reach = 0;
     for i in 0..info.given_count() {
@@ -116,7 +116,7 @@ fn mark_target<A: Allocator>(
     requires high { address < end_of image.now }
     requires laid { IsLaid (record { info = info.now; image = image.now }) cells.old }
     ensures laid { IsLaid (record { info = info.now; image = image.now }) cells.new }
-    ensures bits { (p : ℕ → Bool) → HasBits p cells.old → HasBits (also p (λ a. refers (record { info = info.now; image = image.now }) a address)) cells.new }
+    ensures named { (p : ℕ → Bool) → AreNamed p cells.old → AreNamed (also p (λ a. refers (record { info = info.now; image = image.now }) a address)) cells.new }
 {
     let cell = cells[usize::from(address)];
     let len = len_in(cell);
@@ -124,7 +124,7 @@ fn mark_target<A: Allocator>(
     if len < 2 {
         return;
     }
-    let role = role_in(cell).unwrap_or(RangeType::Code);
+    let role = role_in(cell).unwrap();
     if let Some(target) = target_at(info, image, opcodes, role, len, address) {
         let first = home_of(cells, target);
         mark(cells, target);
@@ -141,7 +141,7 @@ pub fn mark_targets<A: Allocator>(
 )
     requires cpu { opcodes.now ≡ info.now.settings.cpu }
     requires laid { IsLaid (record { info = info.now; image = image.now }) cells.old }
-    requires bits { HasBits (is_covered info.now.names) cells.old }
+    requires named { AreNamed (is_covered info.now.names) cells.old }
     ensures { AreCells (record { info = info.now; image = image.now }) cells.new }
 {
     let start = usize::from(image.start());

@@ -6,7 +6,7 @@ ghost use Rattle.map65.specs.Image.{GivesImage, IsReadTo, ReadCount, StopsAt, Ta
 ghost use Rattle.map65.specs.ImageView.{AreBytes, IsPlaced};
 ghost use Rattle.map65.specs.Code.Passing.{Passes};
 
-use crate::device::{DeviceFault, Source};
+use crate::devices::{DeviceFault, Source};
 use crate::image::{Image, ImageFault};
 use info65::Info;
 use std::alloc::Allocator;

@@ -53,6 +53,7 @@ fn is_jump(mnemonic: Mnemonic) -> bool
     mnemonic == Mnemonic::Jmp || mnemonic == Mnemonic::Jsr
 }
 
+/// Whether the address lies in the image.
 fn is_inside<A: Allocator>(image: &Image<A>, address: u16) -> bool
     ensures { result ≡ is_inside image.now address }
 {
@@ -60,6 +61,7 @@ fn is_inside<A: Allocator>(image: &Image<A>, address: u16) -> bool
         && usize::from(address) < usize::from(image.start()) + image.bytes().len()
 }
 
+/// The address, if it lies in the image.
 fn only_inside<A: Allocator>(image: &Image<A>, address: u16) -> Option<u16>
     ensures { result ≡ only_inside image.now address }
 {
@@ -68,6 +70,16 @@ fn only_inside<A: Allocator>(image: &Image<A>, address: u16) -> Option<u16>
     } else {
         None
     }
+}
+
+/// An item, as its target depends on it.
+#[derive(Clone, Copy)]
+struct Item<'a> {
+    role: RangeType,
+    len: u8,
+    address: u16,
+    /// The bytes of the image from the address on.
+    bytes: &'a [u8],
 }
 
 /// The target of an instruction that lies whole in the image, and has these bytes first.
@@ -99,23 +111,17 @@ fn operand_target<A: Allocator>(image: &Image<A>, op: Op, address: u16, bytes: &
     }
 }
 
-/// The target of an item of code of this length: none if the opcode is undefined or cut.
-fn code_target<A: Allocator>(
-    image: &Image<A>,
-    opcodes: &DecodeTable,
-    len: u8,
-    address: u16,
-    bytes: &[u8],
-) -> Option<u16>
-    requires some { 0 < length bytes.now }
-    requires all { len ≤ length bytes.now }
-    requires room { address + len ≤ 65536 }
-    ensures { result ≡ code_target image.now (decoded (table_of opcodes.now) (slice_index bytes.now 0)) len address bytes.now }
+/// The target of an item of code: none if the opcode is undefined or cut.
+fn code_target<A: Allocator>(image: &Image<A>, opcodes: &DecodeTable, item: Item<'_>) -> Option<u16>
+    requires some { 0 < length item.bytes.now }
+    requires all { item.len ≤ length item.bytes.now }
+    requires room { item.address + item.len ≤ 65536 }
+    ensures { result ≡ code_target image.now (decoded (table_of opcodes.now) (slice_index item.entry.bytes.now 0)) item.entry.len item.entry.address item.entry.bytes.now }
 {
-    match opcodes.decode(bytes[0]) {
+    match opcodes.decode(item.bytes[0]) {
         Some(op) => {
-            if len == op.mode.len() {
-                return operand_target(image, op, address, bytes);
+            if item.len == op.mode.len() {
+                return operand_target(image, op, item.address, item.bytes);
             }
             None
         }
@@ -138,34 +144,31 @@ fn return_target(word: u16) -> Option<u16>
     if word == 0xFFFF { None } else { Some(word + 1) }
 }
 
-/// The target of an item of this role and length, which has these bytes first.
+/// The target of the item.
 #[tactic(auto, unfolding(crate::specs::Targets::target_for))]
 fn target_for<A: Allocator>(
     info: &Info<A>,
     image: &Image<A>,
     opcodes: &DecodeTable,
-    role: RangeType,
-    len: u8,
-    address: u16,
-    bytes: &[u8],
+    item: Item<'_>,
 ) -> Option<u16>
     requires cpu { opcodes.now ≡ info.now.settings.cpu }
-    requires some { 0 < length bytes.now }
-    requires all { len ≤ length bytes.now }
-    requires room { address + len ≤ 65536 }
-    ensures { result ≡ target_for (record { info = info.now; image = image.now }) role len address bytes.now }
+    requires some { 0 < length item.bytes.now }
+    requires all { item.len ≤ length item.bytes.now }
+    requires room { item.address + item.len ≤ 65536 }
+    ensures { result ≡ target_for (record { info = info.now; image = image.now }) item.entry.role item.entry.len item.entry.address item.entry.bytes.now }
 {
-    match role.layout().entry {
-        Entry::Instruction => code_target(image, opcodes, len, address, bytes),
+    match item.role.layout().entry {
+        Entry::Instruction => code_target(image, opcodes, item),
         Entry::Address => {
-            if len == 2 {
-                return Some(entry_of(bytes));
+            if item.len == 2 {
+                return Some(entry_of(item.bytes));
             }
             None
         }
         Entry::Return => {
-            if len == 2 {
-                return return_target(entry_of(bytes));
+            if item.len == 2 {
+                return return_target(entry_of(item.bytes));
             }
             None
         }
@@ -192,5 +195,11 @@ pub fn target_at<A: Allocator>(
     ensures { result ≡ target_at (record { info = info.now; image = image.now }) address }
 {
     let (_, bytes) = image.bytes().split_at(usize::from(address - image.start()));
-    target_for(info, image, opcodes, role, len, address, bytes)
+    let item = Item {
+        role,
+        len,
+        address,
+        bytes,
+    };
+    target_for(info, image, opcodes, item)
 }

@@ -30,9 +30,11 @@ coded n =
 unfoldable pub cell_of : Option RangeType → ℕ → ℕ
 cell_of r n = code_of r + 16 * n
 
+-- the role that a cell holds
 unfoldable pub role_in_cell : ℕ → Option RangeType
 role_in_cell c = coded (c % 16)
 
+-- the length of an item that a cell holds
 unfoldable pub len_in_cell : ℕ → ℕ
 len_in_cell c = c / 16 % 8
 
@@ -52,15 +54,15 @@ is_wide_cell c = is_wide_role (role_in_cell c)
 unfoldable pub with_len : ℕ → ℕ → ℕ
 with_len c n = c + 16 * n
 
--- the bit for a name
-unfoldable pub has_bit : ℕ → Bool
-has_bit c = c / 128 % 2 == 1
+-- a cell has its bit for a name
+unfoldable pub is_named : ℕ → Bool
+is_named c = c / 128 % 2 == 1
 
 -- the cell with its bit for a name
-unfoldable pub with_bit : ℕ → ℕ
-with_bit c = if has_bit c then c else c + 128
+unfoldable pub with_name : ℕ → ℕ
+with_name c = if is_named c then c else c + 128
 
--- the bit for a segment border before the address
+-- a cell has its bit for a segment border before the address
 unfoldable pub has_border : ℕ → Bool
 has_border c = c / 256 % 2 == 1
 
@@ -75,7 +77,7 @@ are_one_run c d = is_same_role c d && (not (d % 16 == 0) && not (has_border d))
 -- while items are marked, the bit for a name says that a given name has the address as its own; in a table whose entries have more than one byte
 -- it then cuts the run
 abbrev pub is_cut : ℕ → Bool
-is_cut c = has_bit c && is_wide_cell c
+is_cut c = is_named c && is_wide_cell c
 
 -- ---- all cells
 
@@ -94,7 +96,7 @@ pub record IsLaid (m : MapView) (cells : List ℕ) : Type 0 where
   pub borders : HasBorders m.info.segments cells
 
 -- the bit for a name holds the result of a test in each cell
-pub record HasBits (test : ℕ → Bool) (cells : List ℕ) : Type 0 where
+pub record AreNamed (test : ℕ → Bool) (cells : List ℕ) : Type 0 where
   pub each : (a : ℕ) → a < 65536 → slice_index cells a / 128 % 2 ≡ bit (test a)
 
 abbrev pub nowhere : ℕ → Bool
@@ -103,7 +105,7 @@ nowhere a = false
 -- the cells of a map: role, length, border, and whether the address has a name
 pub record AreCells (m : MapView) (cells : List ℕ) : Type 0 where
   pub laid : IsLaid m cells
-  pub bits : HasBits (has_name m) cells
+  pub named : AreNamed (has_name m) cells
 
 -- ---- the law
 

@@ -1,5 +1,5 @@
 use Rattle.std.proofs.Common.{◌≤◌, ℕ, Bool, max}
-use Rattle.map65.specs.Code.Cells.{HasBits}
+use Rattle.map65.specs.Code.Cells.{AreNamed}
 use Rattle.map65.specs.Code.Marking.{KeepsLay, also, is_within}
 use Rattle.map65.proofs.naming.mark_span.Given as goal
 
@@ -8,5 +8,5 @@ invariant-loop-at l = record {
   low : l.from ≤ l.at;
   upto : l.at ≤ max l.from l.to;
   keeps : KeepsLay l.fn.cells l.cells;
-  bits : (p : ℕ → Bool) → HasBits p l.fn.cells → HasBits (also p (is_within l.from l.at)) l.cells;
+  named : (p : ℕ → Bool) → AreNamed p l.fn.cells → AreNamed (also p (is_within l.from l.at)) l.cells;
 }

@@ -7,7 +7,7 @@ use Rattle.map65.proofs.naming.mark_targets.Goals as goal
 pub loop-k-init : goal.loop-k-init
 loop-k-init g c =
     let m : MapView = record { info = c.args.info.now; image = c.args.image.now } in
-    record { laid = c.requires.laid; bits = targets-start m c.args.cells.now c.requires.bits }
+    record { laid = c.requires.laid; named = targets-start m c.args.cells.now c.requires.named }
 
 pub loop-k-preserved : goal.loop-k-preserved
 loop-k-preserved g c =
@@ -15,7 +15,7 @@ loop-k-preserved g c =
     let place : c.from-start.result + c.loop-k.k ≡ c.args.image.now.start + c.loop-k.k = omega (arith, c.from-start.ensures, c.start.ensures) in
     record {
       laid = c.mark_target.ensures.laid;
-      bits = targets-next m c.loop-k.k (c.from-start.result + c.loop-k.k) c.mark_target.new.cells place (c.mark_target.ensures.bits (also (is_covered c.args.info.now.names) (is_wanted_below m c.loop-k.k)) c.loop-k.invariant.bits);
+      named = targets-next m c.loop-k.k (c.from-start.result + c.loop-k.k) c.mark_target.new.cells place (c.mark_target.ensures.named (also (is_covered c.args.info.now.names) (is_wanted_below m c.loop-k.k)) c.loop-k.invariant.named);
     }
 
 pub returns : goal.returns
@@ -23,4 +23,4 @@ returns g c =
     let m : MapView = record { info = c.args.info.now; image = c.args.image.now } in
     let bytes = ap length c.bytes-k-end.ensures.bytes in
     let all : c.loop-k.k ≡ length c.args.image.now.bytes = omega (arith, bytes, c.loop-k.auto.k-end, c.loop-k-test.false) in
-    record { laid = c.loop-k.invariant.laid; bits = targets-end m c.loop-k.k c.loop-k.cells all c.loop-k.invariant.bits }
+    record { laid = c.loop-k.invariant.laid; named = targets-end m c.loop-k.k c.loop-k.cells all c.loop-k.invariant.named }

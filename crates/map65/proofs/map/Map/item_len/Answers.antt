@@ -1,6 +1,6 @@
 use Rattle.std.proofs.Common.{◌≡◌, ◌∙◌, arith}
 use Rattle.map65.specs.Items.{item_len}
-use Rattle.map65.proofs.SweepLemmas.{item-fits}
+use Rattle.map65.proofs.MarkingLemmas.{item-fits}
 use Rattle.map65.proofs.map.Map.item_len.Goals as goal
 
 pub returns-clause-fits : goal.returns-clause-fits

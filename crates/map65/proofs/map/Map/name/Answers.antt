@@ -6,15 +6,15 @@ use Rattle.map65.specs.Names.{base_at, given_base, has_name, home_base}
 use Rattle.map65.proofs.NameLemmas.{base-covered, base-home, base-none, kind-of, text-of}
 use Rattle.map65.proofs.map.Map.name.Goals as goal
 
-pub returns-then-not-has_bit-clause-kind : goal.returns-then-not-has_bit-clause-kind
-returns-then-not-has_bit-clause-kind g c =
+pub returns-then-not-is_named-clause-kind : goal.returns-then-not-is_named-clause-kind
+returns-then-not-is_named-clause-kind g c =
     let m = c.args.self.now in
-    sym (kind-of m c.args.address None (base-none m c.args.address (sym c.cell.ensures.named ∙ sym c.has_bit.ensures ∙ c.if-not-has_bit.true)))
+    sym (kind-of m c.args.address None (base-none m c.args.address (sym c.cell.ensures.named ∙ sym c.is_named.ensures ∙ c.if-not-is_named.true)))
 
-pub returns-then-not-has_bit-clause-text : goal.returns-then-not-has_bit-clause-text
-returns-then-not-has_bit-clause-text g c =
+pub returns-then-not-is_named-clause-text : goal.returns-then-not-is_named-clause-text
+returns-then-not-is_named-clause-text g c =
     let m = c.args.self.now in
-    c.clear.ensures ∙ sym (text-of m c.args.address None (base-none m c.args.address (sym c.cell.ensures.named ∙ sym c.has_bit.ensures ∙ c.if-not-has_bit.true)))
+    c.clear.ensures ∙ sym (text-of m c.args.address None (base-none m c.args.address (sym c.cell.ensures.named ∙ sym c.is_named.ensures ∙ c.if-not-is_named.true)))
 
 pub returns-in-Some-clause-kind : goal.returns-in-Some-clause-kind
 returns-in-Some-clause-kind g c =
@@ -31,13 +31,13 @@ returns-in-Some-clause-text g c =
 pub returns-clause-kind : goal.returns-clause-kind
 returns-clause-kind g c =
     let m = c.args.self.now in
-    let named : has_name m c.args.address ≡ true = sym c.cell.ensures.named ∙ sym c.has_bit.ensures ∙ c.if-not-has_bit.false in
+    let named : has_name m c.args.address ≡ true = sym c.cell.ensures.named ∙ sym c.is_named.ensures ∙ c.if-not-is_named.false in
     let base : base_at m c.args.address ≡ Some (home_base m c.args.address) = base-home m c.args.address named (sym c.given.ensures.value ∙ ap (option_map given_seen) c.in_default.is) in
     ap (λ k. Some k) c.put_home.ensures.kind ∙ sym (kind-of m c.args.address _ base)
 
 pub returns-clause-text : goal.returns-clause-text
 returns-clause-text g c =
     let m = c.args.self.now in
-    let named : has_name m c.args.address ≡ true = sym c.cell.ensures.named ∙ sym c.has_bit.ensures ∙ c.if-not-has_bit.false in
+    let named : has_name m c.args.address ≡ true = sym c.cell.ensures.named ∙ sym c.is_named.ensures ∙ c.if-not-is_named.false in
     let base : base_at m c.args.address ≡ Some (home_base m c.args.address) = base-home m c.args.address named (sym c.given.ensures.value ∙ ap (option_map given_seen) c.in_default.is) in
     c.put_home.ensures.text ∙ sym (text-of m c.args.address _ base)

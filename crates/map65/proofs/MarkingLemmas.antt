@@ -10,11 +10,11 @@ use Rattle.isa65.specs.declared.mode.Mode.TheVariants.{Imp}
 use Rattle.isa65.specs.declared.op.Op.{Op}
 use Rattle.info65.specs.declared.range.RangeType.{RangeType}
 use Rattle.info65.specs.declared.range.RangeType.TheVariants.{Code}
-use Rattle.map65.proofs.CellLemmas.{bits-test, cell-role, cell-wide, set-cell, with_len-border, with_len-lay, with_len-rest}
+use Rattle.map65.proofs.CellLemmas.{named-test, cell-role, cell-wide, set-cell, with_len-border, with_len-lay, with_len-rest}
 use Rattle.map65.proofs.ItemLaws.{begun}
 use Rattle.map65.proofs.ItemLemmas.{are_joined-none, are_joined-suc, in-run, is_cut_at, item-len-at, joined-high, joined-if, joined-run, joined-uncut, left-past, left-first, left-inside, size-fits, size-positive}
-use Rattle.map65.proofs.RunLemmas.{plain-code, role_at-inside, run-cells}
-use Rattle.map65.specs.Code.Cells.{HasBits, IsLaid, are_one_run, cell_of, has_bit, is_cut, is_wide_cell, is_wide_role, lay_at, role_in_cell, with_len}
+use Rattle.map65.proofs.RunLemmas.{plain-code, role_at-inside, run-cells, some-same}
+use Rattle.map65.specs.Code.Cells.{AreNamed, IsLaid, are_one_run, cell_of, is_named, is_cut, is_wide_cell, is_wide_role, lay_at, role_in_cell, with_len}
 use Rattle.map65.specs.Cells.{bit}
 use Rattle.map65.specs.Code.Marking.{AreMarkedBelow, is_joined_in}
 use Rattle.map65.specs.ImageView.{byte_at, end_of, is_inside}
@@ -28,11 +28,14 @@ use Rattle.map65.specs.Spans.{left_at}
 -- ---- roles
 
 -- a cell without a length holds its role
-pub role-here : (m : MapView) (a at : ℕ) (cells : List ℕ) (o : Option RangeType) (r : RangeType) → at ≡ a → m.image.start ≤ a → a < end_of m.image → a < 65536 → AreMarkedBelow m a cells → o ≡ role_in_cell (get_or cells at 0) → r ≡ unwrap_or o Code → r ≡ role_of m.info a
-role-here m a at cells o r place low high room old says is =
+pub role-known : (m : MapView) (a at : ℕ) (cells : List ℕ) (o : Option RangeType) → at ≡ a → m.image.start ≤ a → a < end_of m.image → a < 65536 → AreMarkedBelow m a cells → o ≡ role_in_cell (get_or cells at 0) → o ≡ Some (role_of m.info a)
+role-known m a at cells o place low high room old says =
     let cell : get_or cells at 0 % 128 ≡ cell_of (role_at m a) 0 = ap (λ (k : ℕ). get_or cells k 0 % 128) place ∙ old.plain a room (omega arith) in
     let role : role_in_cell (get_or cells at 0) ≡ role_at m a = cell-role (get_or cells at 0) (role_at m a) 0 (omega arith) cell in
-    is ∙ ap (λ (o : Option RangeType). unwrap_or o Code) (says ∙ role ∙ role_at-inside m a low high)
+    says ∙ role ∙ role_at-inside m a low high
+
+pub role-here : (m : MapView) (a at : ℕ) (cells : List ℕ) (o : Option RangeType) (r : RangeType) → at ≡ a → m.image.start ≤ a → a < end_of m.image → a < 65536 → AreMarkedBelow m a cells → o ≡ role_in_cell (get_or cells at 0) → o ≡ Some r → r ≡ role_of m.info a
+role-here m a at cells o r place low high room old says is = some-same r (role_of m.info a) (sym is ∙ role-known m a at cells o place low high room old says)
 
 -- ---- pieces
 
@@ -42,7 +45,7 @@ and-turned true false r s first second = rw (sym first, sym second) refl
 and-turned false true r s first second = rw (sym first, sym second) refl
 and-turned false false r s first second = rw (sym first, sym second) refl
 
-module _ (m : MapView) (n a : ℕ) (cells : List ℕ) (old : AreMarkedBelow m n cells) (own : HasBits (is_own m.info.names) cells) (room : end_of m.image ≤ 65536) (low : m.image.start ≤ n) (after : n < a) (high : a - 1 < end_of m.image) where
+module _ (m : MapView) (n a : ℕ) (cells : List ℕ) (old : AreMarkedBelow m n cells) (own : AreNamed (is_own m.info.names) cells) (room : end_of m.image ≤ 65536) (low : m.image.start ≤ n) (after : n < a) (high : a - 1 < end_of m.image) where
   -- the cells say where a run ends
   run-here : a < 65536 → are_one_run (get_or cells (a - 1) 0) (get_or cells a 0) ≡ is_in_run m a
   run-here below =
@@ -56,7 +59,7 @@ module _ (m : MapView) (n a : ℕ) (cells : List ℕ) (old : AreMarkedBelow m n 
   cut-cell last =
       let below : a < 65536 = omega (arith, room, last) in
       let wide : is_wide_cell (get_or cells a 0) ≡ is_wide (role_of m.info a) = cell-wide (get_or cells a 0) (role_at m a) 0 (omega arith) (old.plain a below (omega (arith, after))) ∙ ap is_wide_role (role_at-inside m a (omega (arith, low, after)) last) in
-      and-turned (has_bit (get_or cells a 0)) (is_wide_cell (get_or cells a 0)) (is_wide (role_of m.info a)) (is_own m.info.names a) (bits-test (is_own m.info.names) cells a own below) wide
+      and-turned (is_named (get_or cells a 0)) (is_wide_cell (get_or cells a 0)) (is_wide (role_of m.info a)) (is_own m.info.names a) (named-test (is_own m.info.names) cells a own below) wide
 
   joined-alike : is_joined_in cells a ≡ true → is_joined m a ≡ true
   unfolding is_joined_in
@@ -76,7 +79,7 @@ module _ (m : MapView) (n a : ℕ) (cells : List ℕ) (old : AreMarkedBelow m n 
   joined-cells = both_ways (is_joined_in cells a) (is_joined m a) joined-alike alike-joined
 
 -- the result of the test is whether the address is joined
-pub joined-answer : (m : MapView) (n a at : ℕ) (cells : List ℕ) (answer b : Bool) → at ≡ a → AreMarkedBelow m n cells → HasBits (is_own m.info.names) cells → end_of m.image ≤ 65536 → m.image.start ≤ n → n < a → a - 1 < end_of m.image → answer ≡ is_joined_in cells at → answer ≡ b → is_joined m a ≡ b
+pub joined-answer : (m : MapView) (n a at : ℕ) (cells : List ℕ) (answer b : Bool) → at ≡ a → AreMarkedBelow m n cells → AreNamed (is_own m.info.names) cells → end_of m.image ≤ 65536 → m.image.start ≤ n → n < a → a - 1 < end_of m.image → answer ≡ is_joined_in cells at → answer ≡ b → is_joined m a ≡ b
 joined-answer m n a at cells answer b place old own room low after high says is =
     sym (joined-cells m n a cells old own room low after high) ∙ sym (ap (is_joined_in cells) place) ∙ sym says ∙ is
 
@@ -240,13 +243,13 @@ module _ (m : MapView) (n len : ℕ) (cells : List ℕ) (low : m.image.start ≤
             (λ a below other after. old.plain a below (omega (arith, after)));
       }
 
-  pub item-bits : (p : ℕ → Bool) (c : ℕ) → c ≡ with_len (get_or cells n 0) len → HasBits p cells → HasBits p (set cells n c)
-  item-bits p c cell bits =
+  pub item-named : (p : ℕ → Bool) (c : ℕ) → c ≡ with_len (get_or cells n 0) len → AreNamed p cells → AreNamed p (set cells n c)
+  item-named p c cell named =
       let lt : n < length cells = omega (arith, old.count, room) in
       record {
         each = set-cell (λ a x. x / 128 % 2 ≡ bit (p a)) cells n c lt
-            (ap (λ (x : ℕ). x / 128 % 2) cell ∙ ap (λ (x : ℕ). x % 2) (with_len-rest (get_or cells n 0) (role_at m n) len len-fits here-plain) ∙ bits.each n room)
-            (λ a below other. bits.each a below);
+            (ap (λ (x : ℕ). x / 128 % 2) cell ∙ ap (λ (x : ℕ). x % 2) (with_len-rest (get_or cells n 0) (role_at m n) len len-fits here-plain) ∙ named.each n room)
+            (λ a below other. named.each a below);
       }
 
   pub skip-marked : is_skip (role_of m.info n) ≡ true → AreMarkedBelow m (n + len) cells
@@ -261,7 +264,7 @@ module _ (m : MapView) (n len : ℕ) (cells : List ℕ) (low : m.image.start ≤
     borders = old.borders;
   }
 
--- ---- the sweep's two ends
+-- ---- before the first item, and after the last
 
 pub first-begins : (m : MapView) (n : ℕ) → n ≡ m.image.start → left_at (size_at m) m.image.start (n - m.image.start) ≡ 0
 first-begins m n is = let none : n - m.image.start ≡ 0 = omega (arith, is) in ap (left_at (size_at m) m.image.start) none ∙ left-first (size_at m) m.image.start

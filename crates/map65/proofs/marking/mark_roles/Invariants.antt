@@ -1,6 +1,6 @@
 use Rattle.std.proofs.Common.{◌≤◌, drop, length}
 use Rattle.map65.specs.Code.Marking.{ArePainted}
-use Rattle.map65.proofs.sweep.mark_roles.Given as goal
+use Rattle.map65.proofs.marking.mark_roles.Given as goal
 
 abbrev pub invariant-painting : goal.invariant-painting
 invariant-painting g l = record {

@@ -1,9 +1,9 @@
-//! The sweeps that write roles, and then items, into the cells of a map.
+//! Writes roles, and then the lengths of items, into the cells of a map.
 
 ghost use Rattle.std.specs.Prelude.{◌≡◌, ◌+◌, ◌-◌, ◌<◌, ◌≤◌, ℕ, [], length, slice_index};
 ghost use Rattle.isa65.specs.Cpu.{table_of};
 ghost use Rattle.isa65.specs.Opcodes.{decoded};
-ghost use Rattle.map65.specs.Code.Cells.{HasBits, IsLaid, is_cut, nowhere};
+ghost use Rattle.map65.specs.Code.Cells.{AreNamed, IsLaid, is_cut, nowhere};
 ghost use Rattle.map65.specs.Code.Marking.{AreMarkedBelow, ArePainted, is_joined_in, painted, painted_by};
 ghost use Rattle.map65.specs.ImageView.{IsPlaced, end_of};
 ghost use Rattle.map65.specs.Items.{code_size, size_at, wanted_at};
@@ -12,7 +12,7 @@ ghost use Rattle.map65.specs.Roles.{role_of};
 ghost use Rattle.map65.specs.Spans.{left_at};
 
 use crate::borders::mark_borders;
-use crate::cells::{are_one_run, cell_of, has_bit, is_wide_cell, role_in, with_len};
+use crate::cells::{are_one_run, cell_of, is_named, is_wide_cell, role_in, with_len};
 use crate::image::Image;
 use crate::roles::{is_skip, unit_of};
 use info65::{Info, RangeSpec, RangeType};
@@ -66,7 +66,7 @@ pub fn mark_roles<A: Allocator>(cells: &mut [u16], info: &Info<A>, image: &Image
     requires count { length cells.old ≡ 65536 }
     requires blank { (a : ℕ) → a < 65536 → slice_index cells.old a ≡ 0 }
     ensures marked { AreMarkedBelow (record { info = info.now; image = image.now }) 0 cells.new }
-    ensures bits { HasBits nowhere cells.new }
+    ensures named { AreNamed nowhere cells.new }
 {
     paint_code(cells, image);
     let ranges = info.ranges();
@@ -81,15 +81,15 @@ pub fn mark_roles<A: Allocator>(cells: &mut [u16], info: &Info<A>, image: &Image
 
 // ---- items
 
-/// A given name cuts the run before the address of this cell: in a table whose entries have more than one byte
+/// Whether a given name cuts the run before the address of this cell: in a table whose entries have more than one byte
 /// it has the address as its own.
 fn is_cut(cell: u16) -> bool
     ensures { result ≡ is_cut cell }
 {
-    has_bit(cell) && is_wide_cell(cell)
+    is_named(cell) && is_wide_cell(cell)
 }
 
-/// The address lies in the piece of the one before it.
+/// Whether the address lies in the piece of the one before it, by their cells.
 #[tactic(auto, unfolding(crate::specs::Code::Marking::is_joined_in))]
 fn is_joined_in(cells: &[u16], at: usize) -> bool
     requires { 0 < at }
@@ -98,6 +98,7 @@ fn is_joined_in(cells: &[u16], at: usize) -> bool
     at < cells.len() && are_one_run(cells[at - 1], cells[at]) && !is_cut(cells[at])
 }
 
+/// The length of an instruction with this opcode, and 1 for an undefined one.
 fn code_size(opcodes: &DecodeTable, byte: u8) -> u8
     ensures value { result ≡ code_size (decoded (table_of opcodes.now) byte) }
     ensures positive { 1 ≤ result }
@@ -152,7 +153,7 @@ fn size_at<A: Allocator>(
     requires high { address < end_of image.now }
     requires role { role ≡ role_of info.now address }
     requires marked { AreMarkedBelow (record { info = info.now; image = image.now }) address cells.now }
-    requires own { HasBits (is_own info.now.names) cells.now }
+    requires own { AreNamed (is_own info.now.names) cells.now }
     ensures value { result ≡ size_at (record { info = info.now; image = image.now }) address }
     ensures positive { 1 ≤ result }
     ensures small { result ≤ 4 }
@@ -182,15 +183,15 @@ fn mark_item<A: Allocator>(
     requires high { address < end_of image.now }
     requires begins { left_at (size_at (record { info = info.now; image = image.now })) image.now.start (address - image.now.start) ≡ 0 }
     requires marked { AreMarkedBelow (record { info = info.now; image = image.now }) address cells.old }
-    requires own { HasBits (is_own info.now.names) cells.old }
+    requires own { AreNamed (is_own info.now.names) cells.old }
     ensures positive { 1 ≤ result }
     ensures small { result ≤ 4 }
     ensures begins { left_at (size_at (record { info = info.now; image = image.now })) image.now.start (address + result - image.now.start) ≡ 0 }
     ensures marked { AreMarkedBelow (record { info = info.now; image = image.now }) (address + result) cells.new }
-    ensures own { HasBits (is_own info.now.names) cells.new }
+    ensures own { AreNamed (is_own info.now.names) cells.new }
 {
     let at = usize::from(address);
-    let role = role_in(cells[at]).unwrap_or(RangeType::Code);
+    let role = role_in(cells[at]).unwrap();
     let len = size_at(cells, info, image, opcodes, role, address);
     if !is_skip(role) {
         cells[at] = with_len(cells[at], len);
@@ -207,9 +208,9 @@ pub fn mark_items<A: Allocator>(
 )
     requires cpu { opcodes.now ≡ info.now.settings.cpu }
     requires marked { AreMarkedBelow (record { info = info.now; image = image.now }) 0 cells.old }
-    requires own { HasBits (is_own info.now.names) cells.old }
+    requires own { AreNamed (is_own info.now.names) cells.old }
     ensures laid { IsLaid (record { info = info.now; image = image.now }) cells.new }
-    ensures own { HasBits (is_own info.now.names) cells.new }
+    ensures own { AreNamed (is_own info.now.names) cells.new }
 {
     let mut at = usize::from(image.start());
     let end = at + image.bytes().len();

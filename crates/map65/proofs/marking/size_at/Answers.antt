@@ -2,8 +2,8 @@ use Rattle.std.proofs.Common.{◌≡◌, ◌+◌, ◌-◌, ℕ, arith, true, fal
 use Rattle.map65.specs.MapView.{MapView}
 use Rattle.map65.specs.Pieces.{are_joined, is_joined}
 use Rattle.map65.proofs.ItemLemmas.{joined-high}
-use Rattle.map65.proofs.SweepLemmas.{joined-answer, size-cut, size-more, size-whole}
-use Rattle.map65.proofs.sweep.size_at.Goals as goal
+use Rattle.map65.proofs.MarkingLemmas.{joined-answer, size-cut, size-more, size-whole}
+use Rattle.map65.proofs.marking.size_at.Goals as goal
 
 pub loop-i-init : goal.loop-i-init
 loop-i-init g c =

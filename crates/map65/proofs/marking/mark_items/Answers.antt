@@ -1,8 +1,8 @@
 use Rattle.std.proofs.Common.{◌≡◌, ◌∙◌, ◌≤◌, ap, arith, length}
 use Rattle.map65.specs.ImageView.{end_of}
 use Rattle.map65.specs.MapView.{MapView}
-use Rattle.map65.proofs.SweepLemmas.{all-marked, first-begins, marked-none}
-use Rattle.map65.proofs.sweep.mark_items.Goals as goal
+use Rattle.map65.proofs.MarkingLemmas.{all-marked, first-begins, marked-none}
+use Rattle.map65.proofs.marking.mark_items.Goals as goal
 
 pub items-init : goal.items-init
 items-init g c =

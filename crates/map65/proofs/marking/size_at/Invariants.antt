@@ -2,7 +2,7 @@ use Rattle.std.proofs.Common.{◌≡◌, ◌+◌, ◌-◌, ◌<◌}
 use Rattle.map65.specs.ImageView.{end_of}
 use Rattle.map65.specs.MapView.{MapView}
 use Rattle.map65.specs.Pieces.{are_joined}
-use Rattle.map65.proofs.sweep.size_at.Given as goal
+use Rattle.map65.proofs.marking.size_at.Given as goal
 
 abbrev pub invariant-loop-i : goal.invariant-loop-i
 invariant-loop-i g l =

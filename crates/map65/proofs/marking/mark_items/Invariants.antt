@@ -1,11 +1,11 @@
 use Rattle.std.proofs.Common.{◌≡◌, ◌-◌, ◌≤◌}
-use Rattle.map65.specs.Code.Cells.{HasBits}
+use Rattle.map65.specs.Code.Cells.{AreNamed}
 use Rattle.map65.specs.Code.Marking.{AreMarkedBelow}
 use Rattle.map65.specs.Items.{size_at}
 use Rattle.map65.specs.MapView.{MapView}
 use Rattle.map65.specs.Pieces.{is_own}
 use Rattle.map65.specs.Spans.{left_at}
-use Rattle.map65.proofs.sweep.mark_items.Given as goal
+use Rattle.map65.proofs.marking.mark_items.Given as goal
 
 abbrev pub invariant-items : goal.invariant-items
 invariant-items g l =
@@ -14,7 +14,7 @@ invariant-items g l =
       low : l.image.start ≤ l.at;
       begins : left_at (size_at m) l.image.start (l.at - l.image.start) ≡ 0;
       marked : AreMarkedBelow m l.at l.cells;
-      own : HasBits (is_own l.info.names) l.cells;
+      own : AreNamed (is_own l.info.names) l.cells;
     }
 
 abbrev pub decreases-items : goal.decreases-items

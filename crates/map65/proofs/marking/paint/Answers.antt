@@ -1,6 +1,6 @@
 use Rattle.std.proofs.Common.{arith, sym}
 use Rattle.map65.proofs.PaintLemmas.{painted-next, painted-none}
-use Rattle.map65.proofs.sweep.paint.Goals as goal
+use Rattle.map65.proofs.marking.paint.Goals as goal
 
 pub loop-at-init : goal.loop-at-init
 loop-at-init c = record { low = omega arith; each = λ a below. sym (painted-none c.args.from c.args.role _ a) }

@@ -1,6 +1,6 @@
 use Rattle.std.proofs.Common.{◌∙◌, arith, length, ap}
 use Rattle.map65.proofs.PaintLemmas.{code-painted}
-use Rattle.map65.proofs.sweep.paint_code.Goals as goal
+use Rattle.map65.proofs.marking.paint_code.Goals as goal
 
 pub returns : goal.returns
 returns g c =

@@ -1,6 +1,6 @@
 use Rattle.std.proofs.Common.{◌∙◌, arith, length, ap}
 use Rattle.map65.proofs.PaintLemmas.{painted-range}
-use Rattle.map65.proofs.sweep.paint_range.Goals as goal
+use Rattle.map65.proofs.marking.paint_range.Goals as goal
 
 pub returns-clause-each : goal.returns-clause-each
 returns-clause-each g c = λ a below.

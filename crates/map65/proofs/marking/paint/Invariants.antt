@@ -1,6 +1,6 @@
 use Rattle.std.proofs.Common.{◌≡◌, ◌<◌, ◌≤◌, ℕ, slice_index}
 use Rattle.map65.specs.Code.Marking.{painted}
-use Rattle.map65.proofs.sweep.paint.Given as goal
+use Rattle.map65.proofs.marking.paint.Given as goal
 
 abbrev pub invariant-loop-at : goal.invariant-loop-at
 invariant-loop-at l = record {

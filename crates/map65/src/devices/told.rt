@@ -4,7 +4,7 @@ ghost use Rattle.std.specs.Prelude.{◌≡◌, ◌<◌, ◌⊎◌, IfErr, IfOk, 
 ghost use Rattle.map65.specs.Device.{Counts};
 ghost use Rattle.map65.specs.Told.{told_inner, told_faults};
 
-use crate::device::{DeviceFault, Sink, Source};
+use crate::devices::device::{DeviceFault, Sink, Source};
 use std::io::{Read, Write};
 
 /// A `std::io::Read` or `Write`, with a count of its calls that failed. No call is tried again.

@@ -1,16 +1,22 @@
-use Rattle.std.proofs.Common.{◌≡◌, ◌∙◌, ℕ, ◌+◌, ap, arith, get_or, subst, sym, set, true, false}
-use Rattle.map65.specs.Code.Cells.{HasBits, with_len}
+use Rattle.std.proofs.Common.{◌≡◌, ◌∙◌, ℕ, ◌+◌, ap, arith, get_or, subst, refl, sym, set, true, false}
+use Rattle.std.specs.Prelude.{IsSome}
+use Rattle.map65.specs.Code.Cells.{AreNamed, with_len}
 use Rattle.map65.specs.Code.Marking.{AreMarkedBelow}
 use Rattle.map65.specs.MapView.{MapView}
 use Rattle.map65.specs.Pieces.{is_own}
 use Rattle.map65.specs.Roles.{is_skip, role_of}
-use Rattle.map65.proofs.SweepLemmas.{item-bits, item-marked, next-begins, role-here, skip-marked}
-use Rattle.map65.proofs.sweep.mark_item.Goals as goal
+use Rattle.map65.proofs.MarkingLemmas.{item-named, item-marked, next-begins, role-here, role-known, skip-marked}
+use Rattle.map65.proofs.marking.mark_item.Goals as goal
+
+pub unwrap-role-requires : goal.unwrap-role-requires
+unwrap-role-requires g c =
+    let m : MapView = record { info = c.args.info.now; image = c.args.image.now } in
+    subst IsSome (sym (role-known m c.args.address c.from-at.result c.args.cells.now c.role_in.result c.from-at.ensures c.requires.low c.requires.high (omega arith) c.requires.marked c.role_in.ensures)) refl
 
 pub size_at-len-requires-clause-role : goal.size_at-len-requires-clause-role
 size_at-len-requires-clause-role g c =
     let m : MapView = record { info = c.args.info.now; image = c.args.image.now } in
-    role-here m c.args.address c.from-at.result c.args.cells.now c.role_in.result c.unwrap_or-role.result c.from-at.ensures c.requires.low c.requires.high (omega arith) c.requires.marked c.role_in.ensures c.unwrap_or-role.ensures
+    role-here m c.args.address c.from-at.result c.args.cells.now c.role_in.result c.unwrap-role.result c.from-at.ensures c.requires.low c.requires.high (omega arith) c.requires.marked c.role_in.ensures c.unwrap-role.ensures
 
 pub returns-then-not-is_skip-clause-begins : goal.returns-then-not-is_skip-clause-begins
 returns-then-not-is_skip-clause-begins g c =
@@ -25,7 +31,7 @@ returns-else-not-is_skip-clause-begins g c =
 pub returns-then-not-is_skip-clause-marked : goal.returns-then-not-is_skip-clause-marked
 returns-then-not-is_skip-clause-marked g c =
     let m : MapView = record { info = c.args.info.now; image = c.args.image.now } in
-    let role : c.unwrap_or-role.result ≡ role_of c.args.info.now c.args.address = role-here m c.args.address c.from-at.result c.args.cells.now c.role_in.result c.unwrap_or-role.result c.from-at.ensures c.requires.low c.requires.high (omega arith) c.requires.marked c.role_in.ensures c.unwrap_or-role.ensures in
+    let role : c.unwrap-role.result ≡ role_of c.args.info.now c.args.address = role-here m c.args.address c.from-at.result c.args.cells.now c.role_in.result c.unwrap-role.result c.from-at.ensures c.requires.low c.requires.high (omega arith) c.requires.marked c.role_in.ensures c.unwrap-role.ensures in
     let shown : is_skip (role_of c.args.info.now c.args.address) ≡ false = sym (ap is_skip role) ∙ sym c.is_skip.ensures ∙ c.if-not-is_skip.true in
     let cell = c.with_len.ensures ∙ ap (λ (at : ℕ). with_len (get_or c.args.cells.now at 0) c.size_at-len.result) c.from-at.ensures in
     subst (λ (at : ℕ). AreMarkedBelow m (c.args.address + c.size_at-len.result) (set c.args.cells.now at c.with_len.result)) (sym c.from-at.ensures)
@@ -35,12 +41,12 @@ pub returns-then-not-is_skip-clause-own : goal.returns-then-not-is_skip-clause-o
 returns-then-not-is_skip-clause-own g c =
     let m : MapView = record { info = c.args.info.now; image = c.args.image.now } in
     let cell = c.with_len.ensures ∙ ap (λ (at : ℕ). with_len (get_or c.args.cells.now at 0) c.size_at-len.result) c.from-at.ensures in
-    subst (λ (at : ℕ). HasBits (is_own c.args.info.now.names) (set c.args.cells.now at c.with_len.result)) (sym c.from-at.ensures)
-    (item-bits m c.args.address c.size_at-len.result c.args.cells.now c.requires.low c.requires.high (omega arith) c.requires.begins c.size_at-len.ensures.value c.requires.marked (is_own c.args.info.now.names) c.with_len.result cell c.requires.own)
+    subst (λ (at : ℕ). AreNamed (is_own c.args.info.now.names) (set c.args.cells.now at c.with_len.result)) (sym c.from-at.ensures)
+    (item-named m c.args.address c.size_at-len.result c.args.cells.now c.requires.low c.requires.high (omega arith) c.requires.begins c.size_at-len.ensures.value c.requires.marked (is_own c.args.info.now.names) c.with_len.result cell c.requires.own)
 
 pub returns-else-not-is_skip-clause-marked : goal.returns-else-not-is_skip-clause-marked
 returns-else-not-is_skip-clause-marked g c =
     let m : MapView = record { info = c.args.info.now; image = c.args.image.now } in
-    let role : c.unwrap_or-role.result ≡ role_of c.args.info.now c.args.address = role-here m c.args.address c.from-at.result c.args.cells.now c.role_in.result c.unwrap_or-role.result c.from-at.ensures c.requires.low c.requires.high (omega arith) c.requires.marked c.role_in.ensures c.unwrap_or-role.ensures in
+    let role : c.unwrap-role.result ≡ role_of c.args.info.now c.args.address = role-here m c.args.address c.from-at.result c.args.cells.now c.role_in.result c.unwrap-role.result c.from-at.ensures c.requires.low c.requires.high (omega arith) c.requires.marked c.role_in.ensures c.unwrap-role.ensures in
     let skip : is_skip (role_of c.args.info.now c.args.address) ≡ true = sym (ap is_skip role) ∙ sym c.is_skip.ensures ∙ c.if-not-is_skip.false in
     skip-marked m c.args.address c.size_at-len.result c.args.cells.now c.requires.low c.requires.high (omega arith) c.requires.begins c.size_at-len.ensures.value c.requires.marked skip

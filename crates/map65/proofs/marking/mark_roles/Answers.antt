@@ -3,8 +3,8 @@ use Rattle.info65.specs.declared.range.RangeSpec.{RangeSpec}
 use Rattle.info65.specs.declared.range.RangeType.TheVariants.{Code}
 use Rattle.map65.specs.Code.Marking.{ArePainted}
 use Rattle.map65.specs.MapView.{MapView}
-use Rattle.map65.proofs.PaintLemmas.{none-bits, none-marked, painted-more}
-use Rattle.map65.proofs.sweep.mark_roles.Goals as goal
+use Rattle.map65.proofs.PaintLemmas.{none-named, none-marked, painted-more}
+use Rattle.map65.proofs.marking.mark_roles.Goals as goal
 
 abbrev blank_range : RangeSpec
 blank_range = record { first = 0; last = 0; role = Code }
@@ -31,5 +31,5 @@ returns g c =
     let none : c.painting.left ≡ 0 = omega (arith, c.painting-test.false) in
     record {
       marked = none-marked m c.painting.left c.painting.cells c.mark_borders.new.cells none c.painting.invariant.painted c.mark_borders.ensures.count c.mark_borders.ensures.each;
-      bits = none-bits m c.painting.left c.painting.cells c.mark_borders.new.cells none c.painting.invariant.painted c.mark_borders.ensures.count c.mark_borders.ensures.each;
+      named = none-named m c.painting.left c.painting.cells c.mark_borders.new.cells none c.painting.invariant.painted c.mark_borders.ensures.count c.mark_borders.ensures.each;
     }

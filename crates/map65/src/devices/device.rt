@@ -1,4 +1,4 @@
-//! Devices: where bytes are read from and written to.
+//! Where bytes are read from and written to.
 
 ghost use Rattle.std.specs.Prelude.{ℕ, ◌<◌, ◌≤◌, List, length, IfOk, Option};
 ghost use Rattle.std.specs.Io.KnownBytes.{ReadConsumes, WriteAppends};
@@ -13,7 +13,7 @@ pub struct DeviceFault;
 
 /// Where bytes are read from.
 pub trait Source {
-    /// The bytes that are left, if the device tells them.
+    /// The bytes that are left, if the device reports them.
     ghost left: { Self → Option (List ℕ) };
 
     /// How many reads have failed. The count stays at 2^64 - 1.
@@ -29,7 +29,7 @@ pub trait Source {
 
 /// Where bytes are written to.
 pub trait Sink {
-    /// The bytes that were written, if the device tells them.
+    /// The bytes that were written, if the device reports them.
     ghost taken: { Self → Option (List ℕ) };
 
     /// How many writes have failed. The count stays at 2^64 - 1.
