@@ -1,11 +1,13 @@
 #!/usr/bin/env bash
 # Lists random images of each CPU with random ranges, names, segments, comments and columns, and every example, and assembles
-# each listing with the real ca65 and ld65 of cc65: the result must be the image. The same seed gives the same images.
+# each listing with the real ca65 and ld65 of cc65, and with as65, which stands beside the program: the result must be the image. Then
+# random texts, most of them right, go to both: where both give bytes, these are the same. The same seed gives the same images and texts.
 # Left out, since ca65 treats them in its own way: a segment named ZEROPAGE, and a byte $FF in a comment.
 # Without ca65 and ld65 it fails, unless CA65=skip is set.
 # Usage: tests/ca65.sh PROGRAM [COUNT [SEED]]
 set -u
 program=$(realpath "$1")
+as65=$(dirname "$program")/as65
 count=${2:-10}
 first_seed=${3:-1}
 root=$(realpath "$(dirname "$0")/..")
@@ -62,6 +64,7 @@ assembles() {
     shift 3
     rm -f listing.s listing.o listing.out
     (cd "$root" && "$program" "$@" -o "$work/listing.s") 2>messages || fails "$name" "$(cat messages)"
+    "$as65" -S "$start" --compare "$image" listing.s >differences 2>&1 || fails "$name" "as65: $(head -3 differences)"
     warns "$name"
     printf 'MEMORY { MAIN: start = $%04X, size = $%X, file = %%O; }\n' "$start" "$(stat -c %s "$image")" >listing.cfg
     printf 'SEGMENTS {\n%s\n}\n' "$(segments <listing.s | sed 's/.*/    &: load = MAIN, type = ro;/')" >>listing.cfg
@@ -219,5 +222,137 @@ for example in "$root"/examples/*.bin "$root"/examples/board/*.bin; do
     done
 done
 
+# ---- random texts
+
+agreed=0
+texts=$((count * 5))
+
+any_form=(adc and cmp eor lda ora sbc sta)
+implied=(brk clc cld cli clv dex dey inx iny nop pha php pla plp rti rts sec sed sei tax tay tsx txa txs tya)
+branches=(bcc bcs beq bmi bne bpl bvc bvs)
+
+# pick WORD..: sets `word` to one of the words.
+pick() {
+    draw $#
+    shift $number
+    word=$1
+}
+
+# Sets `word` to a number below this one, in decimal or hexadecimal.
+draw_number() {
+    draw "$1"
+    word=$number
+    draw 3
+    [ $number = 0 ] || printf -v word '$%0*X' $number "$word"
+}
+
+# Sets `word` to a name: mostly to one that was defined, else to one that a later line may define.
+draw_name() {
+    draw 5
+    if [ $number = 0 ] || [ ${#defined[@]} = 0 ]; then
+        draw 12
+        word=later$number
+        wanted[$word]=yes
+    else
+        pick "${!defined[@]}"
+    fi
+}
+
+# Sets `word` to a value: a number, or a name, perhaps with an offset.
+draw_value() {
+    local value
+    draw 2
+    if [ $number = 0 ]; then
+        draw 4
+        draw_number $((number == 0 ? 65536 : 256))
+        return
+    fi
+    draw_name
+    value=$word
+    draw 4
+    [ $number != 0 ] || { draw_number 300; value+=+$word; }
+    draw 6
+    [ $number != 0 ] || value+=-1
+    word=$value
+}
+
+# Sets `word` to an operand of `any_form`.
+draw_operand() {
+    local size= form
+    pick 'E' 'E' 'E,x' 'E,y' '(E,x)' '(E),Y' '#N'
+    form=$word
+    if [ "$form" = '#N' ]; then
+        draw_number 256
+        word=#$word
+        return
+    fi
+    draw 8
+    [ $number != 0 ] || [[ $form == \(* ]] || size=a:
+    draw_value
+    [[ $form != \(* ]] || draw_number 256
+    word=$size${form/E/$word}
+}
+
+# Sets `line` to a random statement for the CPU.
+draw_statement() {
+    local mnemonic newer
+    # Only the newer CPUs have these.
+    pick 'bra here1' 'stz $10' 'lda ($20)' 'rmb3 $40' 'bbs7 $12,here1' 'inc a'
+    newer=$word
+    draw 14
+    case $number in
+    0) draw_number 256; line=".byte $word"; draw_number 256; line+=", $word, \"A;b\"" ;;
+    1) pick .word .addr .dbyt .dword .WORD; line="$word "; draw_value; line+=$word; draw_number 65536; line+=,$word ;;
+    2) pick 6502 65SC02 65C02 65c02; line=".setcpu \"$word\"" ;;
+    3) pick .code '.segment "one"' '.segment "Two"'; line=$word ;;
+    4) pick "${branches[@]}"; line="$word here$lines" ;;
+    5) pick jmp jsr inc asl bit ldx sty; line="$word "; draw_value; line+=$word ;;
+    6) pick 'asl a' 'ROL A' 'lsr a' 'jmp ($1234)' 'ldx $20,y' 'sty $20,x' "$newer"; line=$word ;;
+    7 | 8) pick "${implied[@]}"; line=$word ;;
+    *) pick "${any_form[@]}"; mnemonic=$word; draw_operand; line="$mnemonic $word" ;;
+    esac
+}
+
+# Makes text.s, of random lines that begin with this CPU.
+make_text() {
+    local lines most line
+    local -A defined=() wanted=()
+    printf '.setcpu "%s"\n' "$1" >text.s
+    draw 40
+    most=$((number + 3))
+    for ((lines = 1; lines <= most; lines++)); do
+        draw 12
+        case $number in
+        0) draw 3; draw_number $((number == 0 ? 65536 : 256)); line="k$lines := $word ; a constant"; defined[k$lines]=yes ;;
+        1) draw_number 20; line="p$lines := * + $word"; defined[p$lines]=yes ;;
+        *)
+            draw_statement
+            draw 3
+            [ $number != 0 ] || [[ $line == .[cs]* ]] || { line="w$lines:  $line"; defined[w$lines]=yes; }
+            ;;
+        esac
+        printf 'here%d:\n %s\n' $lines "$line" >>text.s
+    done
+    for line in "${!wanted[@]}"; do
+        draw 30
+        [ $number = 0 ] || { draw_number 65536; printf '%s := %s\n' "$line" "$word"; } >>text.s
+    done
+}
+
+for ((text = 1; text <= texts; text++)); do
+    make_text "${cpus[text % ${#cpus[@]}]}"
+    draw 60000
+    start=$number
+    rm -f listing.o listing.out
+    "$as65" -S "$start" -o text.out text.s 2>messages || continue
+    segments renamed <text.s >renamed.s
+    printf 'MEMORY { MAIN: start = $%04X, size = $%X, file = %%O; }\n' "$start" $((65536 - start)) >listing.cfg
+    printf 'SEGMENTS {\n%s\n}\n' "$(segments <renamed.s | sed 's/.*/    &: load = MAIN, type = ro;/')" >>listing.cfg
+    ca65 --relax-checks -o listing.o renamed.s 2>messages && ld65 -C listing.cfg -o listing.out listing.o 2>messages || continue
+    cmp listing.out text.out >messages 2>&1 || fails "text $text of seed $first_seed" "$(cat messages)"
+    agreed=$((agreed + 1))
+done
+[ $((agreed * 2)) -ge "$texts" ] || fails "seed $first_seed" "$agreed of $texts texts have bytes for both"
+
 rm -rf "$work"
-echo "ca65: each of $compared listings assembles to its image"
+echo "ca65: each of $compared listings assembles to its image, and $agreed of $texts texts give the same bytes"

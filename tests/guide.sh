@@ -5,12 +5,14 @@
 #   ```sh      are commands, run in their order; the words after `sh` are further programs that the block needs
 #   ```        are excerpts: their lines stand, one after the other, in what the last commands printed or in a file that the page made
 #
-# and in its tables a command `bin/da65 ..` is run, and where a row has an information file or a command, and beside it the
-# message `da65: ..`, that is what the program says. The linker's line of the man page is run at five addresses, and for 64 KiB.
+# and in its tables a command `bin/da65 ..` or `bin/as65 ..` is run, and where a row has an information file or a command, and beside it
+# the message `da65: ..`, that is what the program says. The assembler is the as65 beside the program. The example of as65's man page is
+# run, and that of da65's at five addresses, and for 64 KiB.
 # Without ca65 and ld65 the script fails, unless CA65=skip is set: then each section ends at the first block that needs them.
 # Usage: tests/guide.sh PROGRAM
 set -u
 program=$(realpath "$1")
+assembler=$(dirname "$program")/as65
 root=$(realpath "$(dirname "$0")/..")
 work=$(mktemp -d)
 ran=0
@@ -43,7 +45,8 @@ done
 cd && exec sh -c "$*"
 END
 chmod +x "$work/path/ssh"
-export HOME=$work/home DESTDIR=$work/installed PATH=$work/path:$PATH
+# SHELL is what a login sets: without it, parallel loses the status of a command that it runs elsewhere.
+export SHELL=/bin/sh HOME=$work/home DESTDIR=$work/installed PATH=$work/path:$PATH
 
 # opens PAGE: the folder of the page, which has what a checkout has after `make`.
 opens() {
@@ -51,10 +54,11 @@ opens() {
     folder=$work/$(basename "$1")
     mkdir -p "$folder/bin" "$folder/docs" "$folder/crates"
     cp -r "$root/examples" "$root/Makefile" "$folder"
-    cp "$root/docs/da65.1" "$folder/docs"
+    cp "$root/docs/da65.1" "$root/docs/as65.1" "$folder/docs"
     : >"$folder/crates.txt"
     cp "$program" "$folder/bin/da65"
-    ln -sf "$folder/bin/da65" "$work/path/da65"
+    cp "$assembler" "$folder/bin/as65"
+    ln -sf "$folder/bin/da65" "$folder/bin/as65" "$work/path"
     cd "$folder" || exit 1
     : >printed
 }
@@ -144,16 +148,21 @@ tables() {
         else
             while read -r text; do
                 [ -z "$text" ] || runs "$text"
-            done < <(grep -o '`bin/da65[^`]*`' <<<"$row" | tr -d '`')
+            done < <(grep -oE '`bin/(da|as)65[^`]*`' <<<"$row" | tr -d '`')
         fi
     done < <(grep '^|' "$root/$page")
 }
 
-# assembles_at START SIZE: the commands of the man page's example, for an image of the random bytes, repeated, at this address.
+# example PAGE: the commands of the man page's example.
+example() {
+    awk '/^\.SH EXAMPLES/ { inside = 1 } /^\.SH SEE/ { inside = 0 } inside && /^(da65|as65|ca65|ld65|cmp) /' "$root/$1" |
+        sed -e 's/\\(aq/'\''/g' -e 's/\\-/-/g'
+}
+
+# assembles_at START SIZE: the commands of da65's man page, for an image of the random bytes, repeated, at this address.
 assembles_at() {
     printf '%b' "$bytes$bytes$bytes$bytes" | head -c "$2" >rom.bin
-    runs "$(awk '/^\.SH EXAMPLES/ { inside = 1 } /^\.SH SEE/ { inside = 0 } inside && /^(da65|ca65|ld65|cmp) /' "$root/docs/da65.1" |
-        sed -e 's/\\(aq/'\''/g' -e 's/\\-/-/g' -e "s/0xF000/$1/g")"
+    runs "$(example docs/da65.1 | sed "s/0xF000/$1/g")"
 }
 
 for page in README.md docs/GUIDE.md docs/RECIPES.md; do
@@ -161,6 +170,9 @@ for page in README.md docs/GUIDE.md docs/RECIPES.md; do
     blocks
     tables
 done
+opens docs/as65.1
+head -c 4096 "$program" >rom.bin
+runs "$(example docs/as65.1)"
 opens docs/da65.1
 if needs ca65 ld65; then
     . "$root/tests/random.sh"

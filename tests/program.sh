@@ -4,58 +4,7 @@
 set -u
 program=$(realpath "$1")
 root=$(realpath "$(dirname "$0")/..")
-work=$(mktemp -d)
-trap 'rm -rf "$work"' EXIT
-cd "$work" || exit 1
-failed=0
-
-# runs NAME STATUS STDOUT STDERR WORD..: the program on the words gives this status and these two texts.
-runs() {
-    local name=$1 status=$2 out=$3 err=$4 got
-    shift 4
-    "$program" "$@" >stdout 2>stderr </dev/null
-    got=$?
-    [ "$got" = "$status" ] || fails "$name" "status $got and not $status"
-    printf '%b' "$out" | cmp -s - stdout || fails "$name" "standard output: $(cat stdout)"
-    printf '%b' "$err" | cmp -s - stderr || fails "$name" "standard error: $(cat stderr)"
-}
-
-# ends NAME STATUS GOT STDERR: the program ended with this status and this text on standard error, in the file stderr.
-ends() {
-    [ "$3" = "$2" ] || fails "$1" "status $3 and not $2"
-    printf '%b' "$4" | cmp -s - stderr || fails "$1" "standard error: $(cat stderr)"
-}
-
-# holds NAME FILE TEXT: the file has exactly this text.
-holds() {
-    printf '%b' "$3" | cmp -s - "$2" || fails "$1" "$2 has another text"
-}
-
-# is_prefix NAME FILE SIZE WHOLE: the file has exactly this many bytes, and is a prefix of another.
-is_prefix() {
-    [ "$(wc -c <"$2")" = "$3" ] || fails "$1" "$2 has $(wc -c <"$2") bytes and not $3"
-    head -c "$3" "$4" | cmp -s - "$2" || fails "$1" "$2 is no prefix of $4"
-}
-
-# is_absent NAME FILE
-is_absent() {
-    [ ! -e "$2" ] || fails "$1" "there is a file $2"
-}
-
-fails() {
-    echo "program: $1: $2"
-    failed=1
-}
-
-# The program as a user that may not open what is this one's: another one for root, who may open everything.
-as_other=()
-if [ "$(id -u)" = 0 ]; then
-    command -v setpriv >/dev/null || { echo 'program: root needs setpriv, of util-linux'; exit 1; }
-    as_other=(setpriv --reuid 65534 --regid 65534 --clear-groups)
-fi
-chmod 755 .
-cp "$program" ./copied
-chmod 755 copied
+. "$root/tests/rows.sh"
 
 help='Usage: da65 [options] [inputfile]\n'
 help+='  -i, --info name          information file\n'
@@ -225,6 +174,7 @@ words=(-i begin.info -o out.s -S 0x2000 --cpu 65SC02 --comments 4 --mnemonic-col
 runs 'every option at once' 0 '' '' "${words[@]}" -- inside.bin
 holds 'every option at once' out.s "$every"
 runs 'thirty words, the last of which is one too many' 1 '' 'da65: bad arguments\n' "${words[@]}" -- three.bin a b c d e f g
+runs 'every option and help, and a name too many' 1 '' 'da65: bad arguments\n' "${words[@]}" -V -h -- three.bin three.bin
 runs 'every option, and help' 0 "$help" '' "${words[@]}" -V -h -- three.bin
 
 # ---- what may not be opened
@@ -264,10 +214,10 @@ for size in 1 4095 4096 4097 4999 5000 5001 8191 8192 8193; do
     { printf '%b' "$header"; head -c "$size" sized.bin | sed 's/\xea/        nop\n/g'; } >wanted.s
     "$program" sized.bin >stdout 2>stderr
     ends "an input of $size bytes" 0 $? ''
-    cmp -s stdout wanted.s || fails "an input of $size bytes" 'another listing'
+    same "an input of $size bytes" stdout wanted.s
     { head -c 1 sized.bin; sleep 0.02; tail -c +2 sized.bin; } | "$program" /dev/stdin >stdout 2>stderr
     ends "$size bytes in two pieces" 0 $? ''
-    cmp -s stdout wanted.s || fails "$size bytes in two pieces" 'another listing'
+    same "$size bytes in two pieces" stdout wanted.s
 done
 
 # ---- refusals
@@ -365,7 +315,7 @@ holds 'a closed standard input' stdout ''
 head -c 65536 /dev/zero | tr '\0' '\352' >large.bin
 "$program" large.bin >large.s 2>stderr
 ends 'a large listing' 0 $? ''
-[ "$(wc -l <large.s)" = 65540 ] || fails 'a large listing' 'lines'
+[ "$(wc -l <large.s)" = 65540 ] || fails 'a large listing' "$(wc -l <large.s) lines and not 65540"
 
 # The file may have 256 KiB, which is in the middle of a write.
 (trap '' XFSZ; ulimit -f 256; exec "$program" -o cut.s large.bin 2>stderr)
@@ -389,7 +339,7 @@ for limit in $(seq 16384 -16 16); do
     (ulimit -v "$limit"; exec "$program" -i skip_last.info large.bin >stdout 2>stderr) 2>/dev/null
     got=$?
     if [ "$got" = 0 ]; then
-        [ "$(wc -l <stdout)" = 65539 ] || fails "memory of $limit KiB" 'lines'
+        [ "$(wc -l <stdout)" = 65539 ] || fails "memory of $limit KiB" "$(wc -l <stdout) lines and not 65539"
     elif [ "$got" = 1 ]; then
         ran_out=1
         ends "memory of $limit KiB" 1 1 'da65: out of memory\n'

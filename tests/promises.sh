@@ -18,7 +18,7 @@ declared() {
                                                 print "function", name; if (owner) print "function", owner "::" name }
         /^ *ensures / { print "contract", name; if (owner) print "contract", owner "::" name }
         /^ *(requires|ensures) [a-z]/ { print "clause", name, $2; if (owner) print "clause", owner "::" name, $2 }
-        /^ *ghost [a-z_]*_gives = / { print "clause", owner, $2 }'
+        /^ *ghost ([a-z_]*_gives|is_default) = / { print "clause", owner, $2 }'
 }
 
 # promised CRATE: the rows of the table of the crate, each as the words in back quotes of its last two columns: those of the

@@ -1,7 +1,8 @@
 /* Loaded before the C library (LD_PRELOAD), it counts the files that a program opens, its reads, writes and bytes of memory, and can
-   refuse one allocation.
+   refuse one allocation, or to open one file.
    At the end it writes five numbers on the file that SHIM_COUNTS names: the files opened, the reads, the writes, the greatest number
-   of bytes of memory at one time, and the allocations. SHIM_REFUSE is the number of the allocation that is refused, counted from 1. */
+   of bytes of memory at one time, and the allocations. SHIM_REFUSE is the number of the allocation that is refused, and SHIM_REFUSE_OPEN that
+   of the file, both counted from 1. */
 #define _GNU_SOURCE
 #include <dlfcn.h>
 #include <errno.h>
@@ -13,7 +14,7 @@
 #include <sys/syscall.h>
 #include <unistd.h>
 
-static unsigned long opens, reads, writes, held, most, allocations, refused;
+static unsigned long opens, reads, writes, held, most, allocations, refused, refused_open;
 static void *(*real_malloc)(size_t);
 static void *(*real_realloc)(void *, size_t);
 static void (*real_free)(void *);
@@ -21,12 +22,14 @@ static void (*real_free)(void *);
 __attribute__((constructor)) static void begin(void)
 {
     const char *number = getenv("SHIM_REFUSE");
+    const char *number_open = getenv("SHIM_REFUSE_OPEN");
 
     real_malloc = dlsym(RTLD_NEXT, "malloc");
     real_realloc = dlsym(RTLD_NEXT, "realloc");
     real_free = dlsym(RTLD_NEXT, "free");
     opens = reads = writes = allocations = 0;
     refused = number ? strtoul(number, NULL, 10) : 0;
+    refused_open = number_open ? strtoul(number_open, NULL, 10) : 0;
 }
 
 __attribute__((destructor)) static void end(void)
@@ -87,7 +90,10 @@ void free(void *block)
     va_list rest;                                                           \
     mode_t mode;                                                            \
                                                                             \
-    opens++;                                                                \
+    if (++opens == refused_open) {                                          \
+        errno = ENOMEM;                                                     \
+        return -1;                                                          \
+    }                                                                       \
     va_start(rest, flags);                                                  \
     mode = flags & (O_CREAT | O_TMPFILE) ? (mode_t)va_arg(rest, int) : 0;   \
     va_end(rest);                                                           \

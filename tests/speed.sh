@@ -75,21 +75,22 @@ labels() {
 colliding() {
     awk -v count="$1" 'BEGIN {
         letters = "abcdefghijklmnopqrstuvwxyz"
-        factor = 40503
+        factor = 31821
+        slots = 131072
         for (i = 1; i <= 26; i++) for (j = 1; j <= 26; j++) for (k = 1; k <= 26; k++) {
-            hash = (((96 + i) * factor + 96 + j) % 65536 * factor + 96 + k) % 65536
+            hash = (((96 + i) * factor + 96 + j) % slots * factor + 96 + k) % slots
             ends[hash] = ends[hash] substr(letters, i, 1) substr(letters, j, 1) substr(letters, k, 1)
         }
-        cubed = factor * factor % 65536 * factor % 65536
+        cubed = factor * factor % slots * factor % slots
         for (start = 0; made < count; start++) {
             name = ""
             hash = 0
             for (rest = start + 456976; rest >= 1; rest = int(rest / 26)) {
                 letter = rest % 26 + 1
                 name = name substr(letters, letter, 1)
-                hash = (hash * factor + 96 + letter) % 65536
+                hash = (hash * factor + 96 + letter) % slots
             }
-            last = ends[(65536 - hash * cubed % 65536) % 65536]
+            last = ends[(slots - hash * cubed % slots) % slots]
             for (i = 1; i < length(last) && made < count; i += 3)
                 printf "LABEL { ADDR $%04X; NAME \"%s\"; };\n", made++, name substr(last, i, 3)
         }

@@ -4,15 +4,8 @@
 # Usage: tests/sweeps.sh PROGRAM
 set -u
 program=$(realpath "$1")
-work=$(mktemp -d)
-trap 'rm -rf "$work"' EXIT
-cd "$work" || exit 1
-failed=0
-
-fails() {
-    echo "sweeps: $1: $2"
-    failed=1
-}
+root=$(realpath "$(dirname "$0")/..")
+. "$root/tests/rows.sh"
 
 # lists NAME WORD..: the program on the words writes the listing in the file wanted.s, and nothing else.
 lists() {
@@ -22,7 +15,7 @@ lists() {
     got=$?
     [ "$got" = 0 ] || fails "$name" "status $got and not 0"
     [ ! -s stderr ] || fails "$name" "standard error: $(cat stderr)"
-    cmp -s stdout wanted.s || fails "$name" "another listing: $(diff stdout wanted.s | head -n 3)"
+    same "$name" stdout wanted.s
 }
 
 # refuses NAME MESSAGE WORD..: the program on the words writes this message, and nothing else.
@@ -193,7 +186,7 @@ for length in {1..300} 4000; do
         : >x
         refuses "an information file with a name of $length bytes" 'no input file' -i "$path"
         "$program" -o "$path" image.bin || fails "an output with a name of $length bytes" 'status'
-        cmp -s x wanted.s || fails "an output with a name of $length bytes" 'another listing'
+        same "an output with a name of $length bytes" x wanted.s
         cp x.inc x
         printf 'ASMINC{FILE "%s";}' "$path" >some.info
         printf 'GLOBAL{INPUTNAME "%s";}' "${path%x}image.bin" >named.info

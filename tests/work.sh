@@ -1,29 +1,23 @@
 #!/usr/bin/env bash
 # How much the program does: the files that it opens, its reads, its writes and its memory, which tests/shim.c counts, and how its
-# time grows. And each of its allocations refused in turn.
+# time grows, and that of the as65 beside it. And each of its allocations refused in turn.
 # Without cc, which makes the shim, it fails, unless CC=skip is set: then only the growth of time is tested.
 # Usage: tests/work.sh PROGRAM
 set -u
 program=$(realpath "$1")
+assembler=$(dirname "$program")/as65
 root=$(realpath "$(dirname "$0")/..")
 compiler=${CC:-cc}
-work=$(mktemp -d)
-trap 'rm -rf "$work"' EXIT
-cd "$work" || exit 1
-failed=0
-
-fails() {
-    echo "work: $1: $2"
-    failed=1
-}
+. "$root/tests/rows.sh"
 
 # ---- calls and memory
 
-# counted WORD..: runs the program on the words, and sets opens, reads, writes, most (bytes of memory at one time), allocations and
-# status.
+# counted WORD..: runs the program on the words, with the file `given` as standard input, and sets opens, reads, writes, most (bytes of
+# memory at one time), allocations and status.
+given=/dev/null
 counted() {
     rm -f counts
-    LD_PRELOAD=$work/shim.so SHIM_COUNTS=$work/counts "$program" "$@" >stdout 2>stderr </dev/null
+    LD_PRELOAD=$work/shim.so SHIM_COUNTS=$work/counts "$program" "$@" >stdout 2>stderr <"$given"
     status=$?
     read -r opens reads writes most allocations <counts || fails "$*" 'the shim counted nothing'
 }
@@ -54,18 +48,30 @@ refuses_in_turn() {
         SHIM_REFUSE=$at LD_PRELOAD=$work/shim.so "$program" "$@" >stdout 2>stderr </dev/null
         status=$?
         if [ "$status" = 0 ]; then
-            cmp -s stdout whole || fails "$name" "allocation $at: another listing"
+            same "$name, allocation $at" stdout whole
         elif [ "$(cat stderr)" != 'da65: out of memory' ] || [ -s stdout ] || [ "$status" != 1 ]; then
             fails "$name" "allocation $at: status $status: $(cat stderr)"
         fi
     done
 }
 
+# refuses_files NAME WORD..: each file but those for standard streams refused in turn, since the system is out of memory: the program
+# says so.
+refuses_files() {
+    local name=$1 at
+    shift
+    counted "$@"
+    for ((at = 4; at <= opens; at++)); do
+        SHIM_REFUSE_OPEN=$at LD_PRELOAD=$work/shim.so "$program" "$@" >stdout 2>stderr </dev/null
+        ends "$name, file $at" 1 $? 'da65: out of memory\n'
+    done
+}
+
 printf '\xa9\x01\x60' >three.bin
 head -c 65536 /dev/zero | tr '\0' '\352' >large.bin
 {
-    printf 'GLOBAL { STARTADDR $1000; INPUTNAME "three.bin"; };\nASMINC { FILE "names.inc"; };\nASMINC { FILE "empty.inc"; };\n'
-    printf 'ASMINC { FILE "names.inc"; };\nASMINC { FILE "more.inc"; };\nRANGE { START $1000; END $1001; TYPE WordTable; NAME "table"; };\n'
+    printf 'GLOBAL { STARTADDR $1000; INPUTNAME "three.bin"; };\nASMINC { FILE "more.inc"; };\nASMINC { FILE "names.inc"; };\n'
+    printf 'ASMINC { FILE "empty.inc"; };\nASMINC { FILE "names.inc"; };\nRANGE { START $1000; END $1001; TYPE WordTable; NAME "table"; };\n'
     printf 'SEGMENT { START $1002; END $1002; NAME "DATA"; };\nLABEL { ADDR $1002; NAME "last"; COMMENT "the end"; };\n'
 } >all.info
 printf 'first = $20\nsecond := $2000\n' >names.inc
@@ -84,21 +90,24 @@ else
     "$compiler" -O1 -shared -fPIC -o shim.so "$root/tests/shim.c" -ldl || exit 1
 
     # /dev/null is opened three times, for standard streams that are closed. 4 KiB a read and one read at the end, 8 KiB a write. The
-    # map of an image has two bytes for each address.
-    counts 'three bytes' 0 4 2 1 926500 three.bin
-    counts 'three bytes in a file' 0 5 2 1 926500 -o out.s three.bin
-    counts '64 KiB' 0 4 17 97 926500 large.bin
+    # map of an image has two bytes for each address. Only names need the tables that find them.
+    counts 'three bytes' 0 4 2 1 133000 three.bin
+    counts 'three bytes in a file' 0 5 2 1 133000 -o out.s three.bin
+    counts '64 KiB' 0 4 17 97 202000 large.bin
+    given=large.bin counts '64 KiB of standard input' 0 3 17 97 202000 /dev/stdin
+    given=all.info counts 'an information file of standard input' 0 7 9 1 1192000 -i /dev/stdin
     counts 'help' 0 3 0 1 18000 -h
     counts 'the version' 0 3 0 1 18000 -V
-    counts 'an information file and include files' 0 8 9 1 929000 -i all.info
-    counts 'a warning' 0 5 4 2 926500 -i skip.info three.bin
-    counts 'no input name' 1 3 0 1 926500
-    counts 'an empty input' 1 4 1 1 926500 empty.bin
-    counts 'a refused information file' 1 4 2 1 926500 -i bad.info three.bin
-    counts 'an input that is not there' 1 4 0 1 926500 no.bin
+    counts 'an information file and include files' 0 8 9 1 1192000 -i all.info
+    counts 'a warning' 0 5 4 2 133000 -i skip.info three.bin
+    counts 'no input name' 1 3 0 1 133000
+    counts 'an empty input' 1 4 1 1 133000 empty.bin
+    counts 'a refused information file' 1 4 2 1 133000 -i bad.info three.bin
+    counts 'an input that is not there' 1 4 0 1 133000 no.bin
 
     refuses_in_turn 'the command line' 40 --cpu 65c02 -S 0x1000 --comments 4 --text-column 60 three.bin
     refuses_in_turn 'an information file and include files' 60 -i all.info
+    refuses_files 'an information file, include files and an output' -i all.info -o out.s
 fi
 
 # ---- how time grows
@@ -111,6 +120,7 @@ groups() {
             if (kind == "ranges") printf "RANGE{START $%04X;SIZE 1;TYPE CODE;}\n", a
             else if (kind == "segments") printf "SEGMENT{START $%04X;END $%04X;NAME \"s%04x\";}\n", a, a, a
             else if (kind == "lines") printf "n%04x = $%04X\n", a, a
+            else if (kind == "definitions") printf "n%04x := $%04X\n", a, a
             else printf "LABEL{ADDR $%04X;NAME \"n%04x\";}\n", a, a
         }
     }'
@@ -127,38 +137,53 @@ makes() {
     fi
 }
 
-# spends COUNT RUNS: sets `spent` to the milliseconds of a processor that RUNS runs take over what was made for this count.
+# spends COUNT RUNS COMMAND..: sets `spent` to the milliseconds of a processor that RUNS runs of the command take over what was made for
+# this count. `@` in a word of the command stands for the count.
 spends() {
-    local TIMEFORMAT='%U %S' run user system
+    local TIMEFORMAT='%U %S' run user system command=("${@:3}")
     read -r user system < <({ time for ((run = 0; run < $2; run++)); do
-        "$program" -S 0 -i "$1.info" -o out.s "$1.bin" 2>stderr || echo "failed $run"
+        "${command[@]//@/$1}" 2>stderr || echo "failed $run"
     done; } 2>&1)
     [[ $user =~ ^[0-9]+\.[0-9]+$ ]] || { fails "$1 groups" "$user $system $(cat stderr)"; user=0.001 system=0; }
     spent=$(awk "BEGIN { print int(1000 * ($user + $system) + 1) }")
 }
 
-# grows NAME KIND COUNT: twice as many take at most three times as long, by the least of five times. As many runs are timed as
+# grows NAME COUNT COMMAND..: twice as many take at most three times as long, by the least of five times. As many runs are timed as
 # take a tenth of a second.
 grows() {
-    local name=$1 kind=$2 count=$3 runs=1 turn once=1000000 twice=1000000
-    makes "$kind" "$count"
-    makes "$kind" $((2 * count))
-    spends "$count" 1
+    local name=$1 count=$2 runs=1 turn once=1000000 twice=1000000
+    shift 2
+    spends "$count" 1 "$@"
     runs=$((100 / spent + 1))
     for ((turn = 0; turn < 5; turn++)); do
-        spends "$count" $runs
+        spends "$count" $runs "$@"
         [ "$spent" -ge "$once" ] || once=$spent
-        spends $((2 * count)) $runs
+        spends $((2 * count)) $runs "$@"
         [ "$spent" -ge "$twice" ] || twice=$spent
     done
     [ "$twice" -le $((3 * once)) ] || fails "$name" "$once ms for $count, and $twice ms for twice as many, in $runs runs"
 }
 
-grows 'labels, ascending' ascending 12000
-grows 'labels, descending' descending 12000
-grows 'ranges' ranges 12000
-grows 'segments' segments 11000
-grows 'lines of an include file' lines 12000
+# lists NAME KIND COUNT: so do groups, or lines of an include file, that da65 reads.
+lists() {
+    makes "$2" "$3"
+    makes "$2" $((2 * $3))
+    grows "$1" "$3" "$program" -S 0 -i @.info -o out.s @.bin
+}
+
+# assembles NAME KIND COUNT: so do lines that as65 assembles.
+assembles() {
+    groups "$2" "$3" >"$3.s"
+    groups "$2" $((2 * $3)) >$((2 * $3)).s
+    grows "$1" "$3" "$assembler" -S 0 -o out.bin @.s
+}
+
+lists 'labels, ascending' ascending 12000
+lists 'labels, descending' descending 12000
+lists 'ranges' ranges 12000
+lists 'segments' segments 11000
+lists 'lines of an include file' lines 12000
+assembles 'definitions' definitions 25000
 
 [ "$failed" = 0 ] && echo 'work: every test passed'
 exit "$failed"

@@ -10,7 +10,7 @@ use Rattle.map65.specs.MapView.{MapView}
 use Rattle.map65.specs.Names.{Base, has_name, place_in, place_of}
 use Rattle.map65.specs.Roles.{is_skip, role_at}
 use Rattle.map65.specs.declared.name.Place.TheVariants as place
-use Rattle.info65.specs.declared.range.RangeType.{RangeType}
+use Rattle.info65.specs.declared.information.range.RangeType.{RangeType}
 use Rattle.stmt65.specs.Views as view
 use Rattle.da65.specs.BaseNames.{is_constant, names_of}
 use Rattle.da65.specs.Instructions.{instruction_in, whole_in}

@@ -5,9 +5,10 @@ use Rattle.std.specs.Option.{option_map}
 use Rattle.std.proofs.lemmas.Bool.{cases_eq, eq-eqb, false≢true, ne_eqb}
 use Rattle.info65.specs.Names.{AreNames, blank_name, covering, default_name, has_name_form, name_at}
 use Rattle.info65.specs.Views.{NameView}
-use Rattle.map65.proofs.Public.{base-covered, base-none, base-unwanted, base-wanted, base_law, home-default, home-given, kind-of, last-name, name-short, text-of}
+use Rattle.info65.proofs.Public.{last_name}
+use Rattle.map65.proofs.Public.{base-covered, base-none, base-unreferenced, base-referenced, base_law, entry_start-default, entry_start-given, kind-of, name-short, text-of}
 use Rattle.map65.specs.MapView.{MapView}
-use Rattle.map65.specs.Names.{Base, base_at, given_base, has_name, home, home_base, is_wanted, kind_at, kind_by, place_of, text_at, text_by}
+use Rattle.map65.specs.Names.{Base, base_at, given_base, has_name, entry_start, entry_base, is_referenced, kind_at, kind_by, place_of, text_at, text_by}
 use Rattle.map65.specs.declared.name.NameKind.{NameKind}
 use Rattle.map65.specs.declared.name.Place.{Place}
 use Rattle.stmt65.specs.Printable.{IsNameLong}
@@ -26,7 +27,7 @@ form-some (b ∷ bs) is = omega arith
 
 name-long : (names : List NameView) (a : ℕ) (v : NameView) → AreNames names → covering names a ≡ Some v → IsNameLong v.text
 name-long names a v are is =
-    let r = last-name names a v is in
+    let r = last_name names a v is in
     let some : 1 ≤ length v.text = omega (arith, ap (λ (x : NameView). length x.text) r.is, form-some (name_at names r.index).text (are.each r.index blank_name r.low).form) in
     (some, name-short names a v are is)
 
@@ -37,20 +38,20 @@ default-long a = (omega arith, omega arith)
 same-base : (b c : Base) → Some b ≡ Some c → b ≡ c
 same-base b c is = cc
 
-home-long : (m : MapView) (a : ℕ) → AreNames m.info.names → IsNameLong (home_base m a).text
-home-long m a are = go (covering m.info.names (home m a)) refl
+entry_start-long : (m : MapView) (a : ℕ) → AreNames m.info.names → IsNameLong (entry_base m a).text
+entry_start-long m a are = go (covering m.info.names (entry_start m a)) refl
   where
-    go : (o : Option NameView) → covering m.info.names (home m a) ≡ o → IsNameLong (home_base m a).text
-    go (Some v) e = subst (λ (x : Base). IsNameLong x.text) (sym (home-given m a v e)) (name-long m.info.names (home m a) v are e)
-    go None e = subst (λ (x : Base). IsNameLong x.text) (sym (home-default m a e)) (default-long (home m a))
+    go : (o : Option NameView) → covering m.info.names (entry_start m a) ≡ o → IsNameLong (entry_base m a).text
+    go (Some v) e = subst (λ (x : Base). IsNameLong x.text) (sym (entry_start-given m a v e)) (name-long m.info.names (entry_start m a) v are e)
+    go None e = subst (λ (x : Base). IsNameLong x.text) (sym (entry_start-default m a e)) (default-long (entry_start m a))
 
 pub base-long : (m : MapView) (a : ℕ) (b : Base) → AreNames m.info.names → base_at m a ≡ Some b → IsNameLong b.text
-base-long m a b are is = go (covering m.info.names a) refl (is_wanted m a) refl
+base-long m a b are is = go (covering m.info.names a) refl (is_referenced m a) refl
   where
-    go : (o : Option NameView) → covering m.info.names a ≡ o → (w : Bool) → is_wanted m a ≡ w → IsNameLong b.text
+    go : (o : Option NameView) → covering m.info.names a ≡ o → (w : Bool) → is_referenced m a ≡ w → IsNameLong b.text
     go (Some v) e w f = subst (λ (x : Base). IsNameLong x.text) (same-base (given_base v) b (sym (base-covered m a v e) ∙ is)) (name-long m.info.names a v are e)
-    go None e true f = subst (λ (x : Base). IsNameLong x.text) (same-base (home_base m a) b (sym (base-wanted m a e f) ∙ is)) (home-long m a are)
-    go None e false f = let none : None ≡ Some b = sym (base-unwanted m a e f) ∙ is in absurd cc
+    go None e true f = subst (λ (x : Base). IsNameLong x.text) (same-base (entry_base m a) b (sym (base-referenced m a e f) ∙ is)) (entry_start-long m a are)
+    go None e false f = let none : None ≡ Some b = sym (base-unreferenced m a e f) ∙ is in absurd cc
 
 -- the text of an address that has a name
 pub text-long : (m : MapView) (a : ℕ) (k : NameKind) → AreNames m.info.names → kind_at m a ≡ Some k → IsNameLong (text_at m a)

@@ -12,9 +12,9 @@ use Rattle.stmt65.specs.Names.{has_name_form}
 use Rattle.stmt65.specs.Printable.{IsNameLong, IsPrintable}
 use Rattle.stmt65.specs.Views as view
 use Rattle.std.proofs.lemmas.List.Elements.{All-head, All-tail}
+use Rattle.info65.proofs.Public.{last_name}
 use Rattle.map65.specs.MapView.{MapView}
 use Rattle.map65.specs.Segments as map_segments
-use Rattle.map65.proofs.Public.{last-name}
 use Rattle.da65.specs.Comments.{comment_at, comment_by}
 use Rattle.da65.specs.Segments.{segment_at}
 use Rattle.da65.proofs.NameTexts.{form-same, text-long}
@@ -46,7 +46,7 @@ comment-printable m a text are e = go (covering m.info.names a) refl e
   where
     has : (n : NameView) → covering m.info.names a ≡ Some n → IfSome n.comment IsComment
     has n f =
-        let last = last-name m.info.names a n f in
+        let last = last_name m.info.names a n f in
         subst (λ (n : NameView). IfSome n.comment IsComment) (sym last.is) (are.each last.index blank_name last.low).comment
 
     of : (n : NameView) → covering m.info.names a ≡ Some n → (own : Bool) → (if own then n.comment else None) ≡ Some text → IsPrintable (view.remark text)

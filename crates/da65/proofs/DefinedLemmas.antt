@@ -1,8 +1,8 @@
 -- Which addresses of a group are defined by name.
 use Rattle.std.proofs.Common.{◌≡◌, ◌∙◌, ◌⊎◌, inl, inr, ℕ, ◌+◌, ◌-◌, ◌<◌, Bool, true, false, length, Option, Some, None, refl, sym, ap, subst, arith}
 use Rattle.std.proofs.lemmas.Bool.{eqb-true, true≢false}
-use Rattle.info65.specs.declared.range.RangeType.{RangeType}
-use Rattle.info65.specs.declared.range.RangeType.TheVariants as role
+use Rattle.info65.specs.declared.information.range.RangeType.{RangeType}
+use Rattle.info65.specs.declared.information.range.RangeType.TheVariants as role
 use Rattle.map65.specs.Bases.{IsInCode, IsOutside}
 use Rattle.map65.specs.ImageView.{is_inside}
 use Rattle.map65.specs.Items.{item_len, size_for}

@@ -1,5 +1,5 @@
 -- Entries of tables: by the targets that a map tells, and by the bytes of a line.
-use Rattle.std.proofs.Common.{◌≡◌, ◌∙◌, inl, inr, ℕ, ◌==◌, ◌*◌, ◌%◌, ◌<◌, ◌≤◌, false, List, length, Option, Some, None, refl, sym, ap, subst, arith}
+use Rattle.std.proofs.Common.{◌≡◌, ◌≢◌, ◌∙◌, inl, inr, ℕ, ◌==◌, ◌*◌, ◌%◌, ◌<◌, ◌≤◌, false, List, length, Option, Some, None, refl, sym, ap, subst, arith}
 use Rattle.std.specs.Option.{option_map}
 use Rattle.std.proofs.lemmas.Bool.{cond_both, eqb-false}
 use Rattle.isa65.specs.declared.byte_order.ByteOrder.{ByteOrder}
@@ -7,9 +7,10 @@ use Rattle.isa65.specs.declared.byte_order.ByteOrder.TheVariants.{LittleEndian, 
 use Rattle.isa65.specs.Opcodes.{Table}
 use Rattle.info65.proofs.Public.{layout_entry}
 use Rattle.info65.specs.Layouts.{IsEntry, IsNumber, layout_of}
-use Rattle.info65.specs.declared.range.Entry.{Entry}
-use Rattle.info65.specs.declared.range.Entry.TheVariants.{Number, Address, Return, Character}
-use Rattle.info65.specs.declared.range.RangeType.{RangeType}
+use Rattle.info65.specs.declared.information.range.Entry.{Entry}
+use Rattle.info65.specs.declared.information.range.Entry.TheVariants.{Instruction, Number, Address, Return, Character, Skipped}
+use Rattle.info65.specs.declared.information.range.RangeType.{RangeType}
+use Rattle.info65.specs.declared.information.range.RangeType.TheVariants.{Code, ByteTable, WordTable, DbyteTable, DwordTable, AddrTable, RtsTable, TextTable, Skip}
 use Rattle.map65.specs.Names.{Base}
 use Rattle.stmt65.specs.declared.directive.Directive.{Directive}
 use Rattle.stmt65.specs.declared.directive.Directive.TheVariants.{Word}
@@ -109,6 +110,32 @@ text_of_role t r bytes is of =
     let are = subst (λ (e : Entry). IsLineOf t (layout_of r).unit (layout_of r).per_line e bytes) is of in
     few_entries (layout_of r).unit (layout_of r).per_line bytes entry.1 are
 
-pub ruleset lines = (numbers_of_role, address_of_role, return_of_role, text_of_role)
+-- a line of a table is one whatever the opcodes are
+pub group_of_table : (t u : Table) (r : RangeType) (bytes : List ℕ) → r ≢ Code → IsGroupOf t r bytes → IsGroupOf u r bytes
+group_of_table t u Code bytes other is = absurd (other refl)
+group_of_table t u ByteTable bytes other is = is
+group_of_table t u WordTable bytes other is = is
+group_of_table t u DbyteTable bytes other is = is
+group_of_table t u DwordTable bytes other is = is
+group_of_table t u AddrTable bytes other is = is
+group_of_table t u RtsTable bytes other is = is
+group_of_table t u TextTable bytes other is = is
+group_of_table t u Skip bytes other is = absurd is
+
+pub no_instruction : (r : RangeType) → r ≢ Code → (layout_of r).entry ≡ Instruction → ⊥
+no_instruction Code other is = other refl
+no_instruction ByteTable other is = absurd cc
+no_instruction WordTable other is = absurd cc
+no_instruction DbyteTable other is = absurd cc
+no_instruction DwordTable other is = absurd cc
+no_instruction AddrTable other is = absurd cc
+no_instruction RtsTable other is = absurd cc
+no_instruction TextTable other is = absurd cc
+no_instruction Skip other is = absurd cc
+
+pub no_skipped : (t : Table) (r : RangeType) (bytes : List ℕ) → IsGroupOf t r bytes → (layout_of r).entry ≡ Skipped → ⊥
+no_skipped t r bytes of is = subst (λ (e : Entry). IsLineOf t (layout_of r).unit (layout_of r).per_line e bytes) is of
+
+pub ruleset lines = (numbers_of_role, address_of_role, return_of_role, text_of_role, no_instruction, no_skipped)
 
 pub ruleset entries = (addr_some, addr_none, rts_some, rts_none)

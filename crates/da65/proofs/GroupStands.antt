@@ -15,9 +15,9 @@ use Rattle.isa65.specs.declared.byte_order.ByteOrder.{ByteOrder}
 use Rattle.isa65.specs.declared.byte_order.ByteOrder.TheVariants.{LittleEndian}
 use Rattle.info65.proofs.Public.{layout_entry}
 use Rattle.info65.specs.Layouts.{IsEntry, layout_of}
-use Rattle.info65.specs.declared.range.Entry.{Entry as TableEntry}
-use Rattle.info65.specs.declared.range.Entry.TheVariants.{Instruction, Number, Address, Return, Character, Skipped}
-use Rattle.info65.specs.declared.range.RangeType.{RangeType}
+use Rattle.info65.specs.declared.information.range.Entry.{Entry as TableEntry}
+use Rattle.info65.specs.declared.information.range.Entry.TheVariants.{Instruction, Number, Address, Return, Character, Skipped}
+use Rattle.info65.specs.declared.information.range.RangeType.{RangeType}
 use Rattle.stmt65.specs.Views as view
 use Rattle.stmt65.specs.Views.{OperandsView, StatementView}
 use Rattle.stmt65.specs.SourceLine.{Value, NumberValue, NameValue, Operation, Instr, Data, SourceLine, Statement, Values}

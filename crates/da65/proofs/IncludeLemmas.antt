@@ -12,10 +12,10 @@ use Rattle.da65.specs.declared.runs.preparing.Stop.{Stop}
 use Rattle.da65.specs.declared.runs.preparing.Stop.TheVariants.{Memory, Refused}
 
 -- the information file names no input
-pub unnamed : (o : OptionsView) (info : List ℕ) (i : InfoView) → information o info ≡ Ok i → is_some i.settings.input ≡ false → accepted o info ≡ Err no_input_message
+pub unnamed : (o : OptionsView) (info : List ℕ) (i : InfoView) → information o info ≡ Ok i → is_some i.settings.input ≡ false → accepted (information o info) ≡ Err no_input_message
 unnamed o info i h e = rw (h, e) refl
 
-pub named : (o : OptionsView) (info : List ℕ) (i : InfoView) → information o info ≡ Ok i → is_some i.settings.input ≡ true → accepted o info ≡ Ok i
+pub named : (o : OptionsView) (info : List ℕ) (i : InfoView) → information o info ≡ Ok i → is_some i.settings.input ≡ true → accepted (information o info) ≡ Ok i
 named o info i h e = rw (h, e) refl
 
 -- ---- one include file after the other

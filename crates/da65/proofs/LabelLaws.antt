@@ -6,9 +6,9 @@ use Rattle.isa65.specs.Opcodes.{Table}
 use Rattle.isa65.specs.declared.byte_order.ByteOrder.{ByteOrder}
 use Rattle.isa65.specs.declared.op.Op.{Op}
 use Rattle.info65.specs.Layouts.{layout_of}
-use Rattle.info65.specs.declared.range.Entry.{Entry}
-use Rattle.info65.specs.declared.range.Entry.TheVariants.{Instruction, Number, Address, Return, Character, Skipped}
-use Rattle.info65.specs.declared.range.RangeType.{RangeType}
+use Rattle.info65.specs.declared.information.range.Entry.{Entry}
+use Rattle.info65.specs.declared.information.range.Entry.TheVariants.{Instruction, Number, Address, Return, Character, Skipped}
+use Rattle.info65.specs.declared.information.range.RangeType.{RangeType}
 use Rattle.stmt65.specs.Views as view
 use Rattle.stmt65.specs.Views.{OperandsView, StatementView}
 use Rattle.stmt65.specs.SourceLine.{Statement}

@@ -34,6 +34,7 @@ pub mod MapNames
 pub mod PieceLines
 pub mod BeginLaws
 pub mod RunLaws
+pub mod RefusalLemmas
 pub mod ListingRows
 pub mod LabelLaws
 pub mod Readings

@@ -3,8 +3,8 @@ use Rattle.std.proofs.Common.{◌≡◌, ℕ, ◌+◌, List, [], ◌∷◌, ◌+
 use Rattle.std.specs.Prelude.{Result, Ok, Err}
 use Rattle.std.proofs.lemmas.List.{append-nil}
 use Rattle.isa65.specs.declared.cpu.Cpu.{Cpu}
-use Rattle.stmt65.specs.declared.fault.AsmFault.{AsmFault}
-use Rattle.stmt65.specs.declared.fault.AsmFaultKind.{AsmFaultKind}
+use Rattle.stmt65.specs.declared.assembling.fault.AsmFault.{AsmFault}
+use Rattle.stmt65.specs.declared.assembling.fault.AsmFaultKind.{AsmFaultKind}
 use Rattle.stmt65.specs.SourceLine.{SourceLine}
 use Rattle.stmt65.specs.Symbols.{Definition}
 use Rattle.stmt65.specs.Meaning.{State, final, after, coded, unless, with_front, fault_of, bytes_of}

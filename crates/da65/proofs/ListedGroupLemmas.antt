@@ -1,19 +1,21 @@
 -- The groups that the code lists, and their statements.
 use Rattle.std.proofs.Common.{◌≡◌, ◌∙◌, ℕ, ◌+◌, ◌<◌, ◌≤◌, Bool, List, Option, length, refl, ap, sym, subst, arith}
 use Rattle.isa65.specs.Cpu.{table_of}
+use Rattle.isa65.specs.Opcodes.{Table}
 use Rattle.isa65.specs.declared.cpu.Cpu.{Cpu}
-use Rattle.info65.specs.declared.range.RangeType.{RangeType}
+use Rattle.info65.specs.declared.information.range.RangeType.{RangeType}
+use Rattle.info65.specs.declared.information.range.RangeType.TheVariants.{Code}
 use Rattle.map65.specs.ImageView.{IsPlaced}
 use Rattle.map65.specs.MapView.{MapView, opcodes}
 use Rattle.map65.specs.Roles.{role_of}
 use Rattle.stmt65.specs.Printable.{MayBeLabelled}
 use Rattle.stmt65.specs.Views.{StatementView}
-use Rattle.da65.specs.BaseNames.{names_of}
+use Rattle.da65.specs.BaseNames.{Names, names_of}
 use Rattle.da65.specs.Code.ListedGroups.{IsGroupIn}
 use Rattle.da65.specs.Groups.{group_bytes}
 use Rattle.da65.specs.Listing.{group_line, has_empty_line, line_text}
 use Rattle.da65.specs.Shapes.{IsGroupOf}
-use Rattle.da65.specs.Statements.{statement_at, statement_for}
+use Rattle.da65.specs.Statements.{statement_at, statement_for, statement_in}
 use Rattle.da65.specs.Style.{style_of}
 use Rattle.da65.specs.declared.listing.group.Group.{Group}
 use Rattle.da65.specs.declared.listing.style.Style.{Style}
@@ -36,6 +38,11 @@ of-role m cpu g same is =
 
 pub is-short : (m : MapView) (g : Group) → IsGroupIn m g → length g.bytes.now ≤ 16
 is-short m g is = few-bytes (opcodes m) g.role g.bytes.now (of-role m m.info.settings.cpu g refl is)
+
+-- the statement of code is that of a group of its role
+pub code-for : (n : Names) (t : Table) (r : RangeType) (a : ℕ) (bytes : List ℕ) (s : StatementView) → r ≡ Code → s ≡ statement_in n t a bytes → s ≡ statement_for n t r a bytes
+unfolding statement_for
+code-for n t r a bytes s is told = told ∙ ap (λ (r : RangeType). statement_for n t r a bytes) (sym is)
 
 -- its statement, by the map and the opcodes that the code has
 pub statement-is : (n m : MapView) (cpu : Cpu) (g : Group) (s : StatementView) → n ≡ m → cpu ≡ m.info.settings.cpu → IsGroupIn m g

@@ -7,7 +7,7 @@ use Rattle.std.proofs.lemmas.Simd.{map-map}
 use Rattle.isa65.specs.Cpu.{cpu_text}
 use Rattle.info65.specs.Names as given
 use Rattle.stmt65.specs.Columns.{fits_label}
-use Rattle.stmt65.specs.declared.columns.Columns.{Columns}
+use Rattle.stmt65.specs.declared.printing.columns.Columns.{Columns}
 use Rattle.stmt65.specs.Views as view
 use Rattle.stmt65.specs.Views.{StatementView}
 use Rattle.stmt65.specs.SourceLine.{Nothing, Operation, SetCpu, SourceLine, Assignment, PlaceAssignment, Statement}

@@ -5,15 +5,14 @@ use Rattle.std.specs.List.{find, flat_map, list_any}
 use Rattle.std.proofs.lemmas.Bool.{cases_lt}
 use denote.Bor.{Bor}
 use Rattle.info65.specs.Code.Names.{given_seen}
-use Rattle.info65.specs.declared.name.Given.{Given}
+use Rattle.info65.specs.declared.information.name.Given.{Given}
 use Rattle.std.specs.Bool.{OnFalse, OnTrue}
-use Rattle.info65.specs.Names.{AreNames, covering, name_at}
-use Rattle.info65.specs.Segments.{AreSegments, contains, segment_covering}
+use Rattle.info65.specs.Names.{covering, name_at}
+use Rattle.info65.specs.Segments.{contains, segment_covering}
 use Rattle.info65.specs.Views.{InfoView, NameView, SegmentView}
 use Rattle.isa65.specs.declared.cpu.Cpu.{Cpu}
-use Rattle.map65.proofs.Public.{last-name}
-use Rattle.map65.specs.ImageView.{ImageView, IsPlaced}
-use Rattle.map65.specs.MapView.{MapView}
+use Rattle.info65.proofs.Public.{last_name}
+use Rattle.map65.specs.MapView.{IsSoundMap, MapView}
 use Rattle.map65.specs.Spans.{addresses}
 use Rattle.da65.specs.Code.SkipRanges.{is_skip_range}
 use Rattle.da65.specs.Comments.{comment_at, comment_by}
@@ -32,7 +31,7 @@ bare-comment m a none = go (covering m.info.names a) refl
   where
     has : (n : NameView) → covering m.info.names a ≡ Some n → n.comment ≡ None
     has n e =
-        let last = last-name m.info.names a n e in
+        let last = last_name m.info.names a n e in
         subst (λ (n : NameView). n.comment ≡ None) (sym last.is) (none last.index last.low)
 
     of : (n : NameView) (own : Bool) → n.comment ≡ None → (if own then n.comment else None) ≡ None
@@ -96,20 +95,14 @@ none-shown given n t same is off = sym (ap (λ (n : NameView). n.comment) same) 
 
 -- ---- what is listed
 
-pub listed-of : (m : MapView) (i : InfoView) (image : ImageView) (t : Style) (cpu : Cpu) (marked all : Bool) → m ≡ record { info = i; image = image } → t ≡ style_of i.settings → cpu ≡ t.cpu → IsPlaced image → AreNames i.names → AreSegments i.segments
-    → OnFalse marked (HasNoMarks i t) → OnTrue marked (HasMarks i t) → all ≡ not (list_any is_skip_range i.ranges) → IsListed m i image t cpu marked all
-listed-of m i image t cpu marked all built is cpu_is placed names segments none some listed =
-    let info : m.info ≡ i = ap (λ (m : MapView). m.info) built in
-    let picture : m.image ≡ image = ap (λ (m : MapView). m.image) built in
+pub listed-of : (m : MapView) (i : InfoView) (t : Style) (cpu : Cpu) (marked all : Bool) → m.info ≡ i → t ≡ style_of i.settings → cpu ≡ t.cpu → IsSoundMap m → OnFalse marked (HasNoMarks i t) → OnTrue marked (HasMarks i t) → all ≡ not (list_any is_skip_range i.ranges)
+    → IsListed m t cpu marked all
+listed-of m i t cpu marked all info is cpu_is sound none some listed =
     let style : t ≡ style_of m.info.settings = is ∙ ap (λ (i : InfoView). style_of i.settings) (sym info) in
     record {
-      info_is = info;
-      image_is = picture;
       style_is = style;
       cpu_is = cpu_is;
-      placed = subst IsPlaced (sym picture) placed;
-      names = subst (λ (i : InfoView). AreNames i.names) (sym info) names;
-      segments = subst (λ (i : InfoView). AreSegments i.segments) (sym info) segments;
+      sound = sound;
       unmarked = λ off. unmarked m i t info style (subst (λ (b : Bool). OnFalse b (HasNoMarks i t)) off none);
       has_marks = λ on. subst (λ (t : Style). HasMarks m.info t) style (subst (λ (i : InfoView). HasMarks i t) (sym info) (subst (λ (b : Bool). OnTrue b (HasMarks i t)) on some));
       listed = listed ∙ ap (λ (i : InfoView). not (list_any is_skip_range i.ranges)) (sym info);

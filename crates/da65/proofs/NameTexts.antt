@@ -15,9 +15,10 @@ use Rattle.info65.specs.Views.{NameView}
 use Rattle.stmt65.specs.Lexing.{is_word_byte}
 use Rattle.stmt65.specs.Names.{has_name_form, is_name, is_reserved, letters, same}
 use Rattle.stmt65.specs.Printable.{IsNameLong}
+use Rattle.info65.proofs.Public.{last_name}
 use Rattle.map65.specs.MapView.{MapView}
-use Rattle.map65.specs.Names.{Base, base_at, base_by, given_base, home, home_base, is_wanted}
-use Rattle.map65.proofs.Public.{home-default, home-given, last-name}
+use Rattle.map65.specs.Names.{Base, base_at, base_by, given_base, entry_start, entry_base, is_referenced}
+use Rattle.map65.proofs.Public.{entry_start-default, entry_start-given}
 
 -- a text that can be printed, and that reads as a name
 pub record IsNameText (text : List ℕ) : Type 0 where
@@ -90,24 +91,24 @@ default-text a = text-of-form (default_name a) (default-form a) (default-free a)
 
 covering-text : (names : List NameView) (a : ℕ) (v : NameView) → AreNames names → covering names a ≡ Some v → IsNameText v.text
 covering-text names a v are e =
-    let last = last-name names a v e in
+    let last = last_name names a v e in
     subst (λ (n : NameView). IsNameText n.text) (sym last.is) (given-text (name_at names last.index) (are.each last.index blank_name last.low))
 
-home-text : (m : MapView) (a : ℕ) → AreNames m.info.names → IsNameText (home_base m a).text
-home-text m a are = go (covering m.info.names (home m a)) refl
+entry_start-text : (m : MapView) (a : ℕ) → AreNames m.info.names → IsNameText (entry_base m a).text
+entry_start-text m a are = go (covering m.info.names (entry_start m a)) refl
   where
-    go : (o : Option NameView) → covering m.info.names (home m a) ≡ o → IsNameText (home_base m a).text
-    go (Some v) e = subst (λ (b : Base). IsNameText b.text) (sym (home-given m a v e)) (covering-text m.info.names (home m a) v are e)
-    go None e = subst (λ (b : Base). IsNameText b.text) (sym (home-default m a e)) (default-text (home m a))
+    go : (o : Option NameView) → covering m.info.names (entry_start m a) ≡ o → IsNameText (entry_base m a).text
+    go (Some v) e = subst (λ (b : Base). IsNameText b.text) (sym (entry_start-given m a v e)) (covering-text m.info.names (entry_start m a) v are e)
+    go None e = subst (λ (b : Base). IsNameText b.text) (sym (entry_start-default m a e)) (default-text (entry_start m a))
 
 the-base : (b d : Base) → Some b ≡ Some d → b ≡ d
 the-base b d e = cc
 
 pub base-text : (m : MapView) (a : ℕ) (b : Base) → AreNames m.info.names → base_at m a ≡ Some b → IsNameText b.text
 unfolding base_at
-base-text m a b are e = go (covering m.info.names a) refl (is_wanted m a) e
+base-text m a b are e = go (covering m.info.names a) refl (is_referenced m a) e
   where
-    go : (o : Option NameView) → covering m.info.names a ≡ o → (w : Bool) → base_by o w (home_base m a) ≡ Some b → IsNameText b.text
+    go : (o : Option NameView) → covering m.info.names a ≡ o → (w : Bool) → base_by o w (entry_base m a) ≡ Some b → IsNameText b.text
     go (Some v) f w e = subst (λ (x : Base). IsNameText x.text) (the-base (given_base v) b e) (covering-text m.info.names a v are f)
-    go None f true e = subst (λ (x : Base). IsNameText x.text) (the-base (home_base m a) b e) (home-text m a are)
+    go None f true e = subst (λ (x : Base). IsNameText x.text) (the-base (entry_base m a) b e) (entry_start-text m a are)
     go None f false e = absurd cc

@@ -3,8 +3,8 @@ use Rattle.std.proofs.Common.{◌≡◌, ◌∙◌, inl, inr, ℕ, suc, ◌+◌,
 use Rattle.std.proofs.Math.Nat.{add-mod_right, add-mul, mod-add-mod, mod-eq_of_lt, mul-div_cancel}
 use Rattle.std.proofs.lemmas.Bool.{and_from, cases_eq, cases_lt, eq-eqb, eqb-true, true≢false}
 use Rattle.info65.proofs.Public.{layout_line, layout_some}
-use Rattle.info65.specs.declared.range.RangeType.{RangeType}
-use Rattle.map65.specs.Items.{item_len, size_at, wanted_at}
+use Rattle.info65.specs.declared.information.range.RangeType.{RangeType}
+use Rattle.map65.specs.Items.{item_len, size_at, full_len_at}
 use Rattle.map65.specs.MapView.{MapView}
 use Rattle.map65.specs.Pieces.{AreOnePiece, is_joined}
 use Rattle.map65.specs.Roles.{is_skip, role_of, unit_of}
@@ -14,7 +14,7 @@ use Rattle.da65.proofs.GroupLemmas.{group-some, item-begun, stride-group, stride
 use Rattle.da65.proofs.InsideLemmas.{full-more, group-piece}
 use Rattle.da65.proofs.DefinedLemmas.{IsTable, group-unnamed}
 use Rattle.da65.proofs.PlaceLemmas.{Leads, each-place}
-use Rattle.da65.proofs.ShapeLemmas.{role-past, group-one, limit-other, limit-whole, one-more, size-is, wanted-of}
+use Rattle.da65.proofs.ShapeLemmas.{role-past, group-one, limit-other, limit-whole, one-more, size-is, full_len-of}
 
 none-over : (r : RangeType) → 0 % limit_of r ≡ 0
 none-over r = mod-eq_of_lt (omega (arith, layout_line r))
@@ -82,24 +82,24 @@ module _ (m : MapView) (r : RangeType) (table : IsTable m r) where
       begun : item_len m a ≡ size_at m a
       begun = item-len-at m p low shown here.item
 
-      wanted : wanted_at m a ≡ unit_of r
-      wanted = wanted-of m a r role-a ∙ table.sizes _
+      full_len : full_len_at m a ≡ unit_of r
+      full_len = full_len-of m a r role-a ∙ table.sizes _
 
       -- it can't be a leftover byte: the piece has room for its item, since it has room for the whole one after it
       size : is_whole m a ≡ false → size_at m a ≡ unit_of r
       size cut = ⊎_elim
-          (λ all. all ∙ wanted)
+          (λ all. all ∙ full_len)
           (λ one.
           let alone : group_len m a ≡ item_len m a = group-one m a (limit-other m a cut) in
           let place : a + 1 ≡ next = omega (arith, len, alone, begun, one) in
           let after : item_len m next ≡ unit_of r = eqb-true (item_len m next) (unit_of (role_of m.info next)) whole ∙ ap unit_of role-is in
           let after-size : size_at m next ≡ unit_of r = sym (item-begun m next (omega (arith, after, layout_some r))).size ∙ after in
-          let piece : AreOnePiece m a (a + wanted_at m a - 1) = λ x low high.
+          let piece : AreOnePiece m a (a + full_len_at m a - 1) = λ x low high.
           ⊎_elim
           (λ same. ap (is_joined m) same ∙ joined)
-          (λ other. size-one-piece m next x (omega (arith, low, place, other)) (omega (arith, high, wanted, after-size, place)))
+          (λ other. size-one-piece m next x (omega (arith, low, place, other)) (omega (arith, high, full_len, after-size, place)))
           (cases_eq x next) in
-          sym begun ∙ (item_law m).items.whole a (omega (arith, begun, one)) piece ∙ wanted)
+          sym begun ∙ (item_law m).items.whole a (omega (arith, begun, one)) piece ∙ full_len)
           (size-is m a)
 
       long : is_whole m a ≡ true → n ≡ limit_of r * unit_of r

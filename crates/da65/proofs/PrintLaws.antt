@@ -14,9 +14,9 @@ use Rattle.isa65.specs.declared.op.Op.{Op}
 use Rattle.isa65.specs.declared.byte_order.ByteOrder.{ByteOrder}
 use Rattle.info65.proofs.Public.{layout_entry}
 use Rattle.info65.specs.Layouts.{IsEntry, layout_of}
-use Rattle.info65.specs.declared.range.Entry.{Entry}
-use Rattle.info65.specs.declared.range.Entry.TheVariants.{Instruction, Number, Address, Return, Character, Skipped}
-use Rattle.info65.specs.declared.range.RangeType.{RangeType}
+use Rattle.info65.specs.declared.information.range.Entry.{Entry}
+use Rattle.info65.specs.declared.information.range.Entry.TheVariants.{Instruction, Number, Address, Return, Character, Skipped}
+use Rattle.info65.specs.declared.information.range.RangeType.{RangeType}
 use Rattle.stmt65.specs.declared.directive.Directive.{Directive}
 use Rattle.stmt65.specs.declared.directive.Directive.TheVariants.{Word}
 use Rattle.stmt65.specs.Views as view
@@ -24,7 +24,7 @@ use Rattle.stmt65.specs.Views.{ExprView, OperandsView, StatementView}
 use Rattle.stmt65.specs.Line.{line_of}
 use Rattle.stmt65.specs.Printable.{IsLong, IsPrintable, IsShort, IsTable, IsWrittenIn, MayBeForced, MayBeLabelled}
 use Rattle.stmt65.specs.Printed.{HasLabelName, HasName, HasNames, HasNamesIn, PrintsAs, source_line, with_label}
-use Rattle.stmt65.specs.code.Widths.{AreWordWide, IsInWidth, IsWordWide}
+use Rattle.stmt65.specs.Code.Widths.{AreWordWide, IsInWidth, IsWordWide}
 use Rattle.stmt65.proofs.Public.{one_line, reads_back}
 use Rattle.map65.specs.ImageView.{AreBytes}
 use Rattle.map65.specs.Names.{Base}

@@ -4,7 +4,7 @@ use Rattle.std.specs.List.{filter, flat_map}
 use Rattle.isa65.specs.Cpu.{cpu_text, table_of}
 use Rattle.isa65.specs.Opcodes.{Table}
 use Rattle.isa65.specs.declared.cpu.Cpu.{Cpu}
-use Rattle.info65.specs.declared.range.RangeType.{RangeType}
+use Rattle.info65.specs.declared.information.range.RangeType.{RangeType}
 use Rattle.stmt65.specs.Meaning.{operation_in}
 use Rattle.stmt65.specs.Printed.{source_line}
 use Rattle.stmt65.specs.SourceLine.{Operation, Nothing, Segment, Code, SetCpu, SourceLine, Assignment, PlaceAssignment, Statement}

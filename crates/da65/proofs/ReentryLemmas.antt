@@ -9,7 +9,7 @@ use Rattle.std.proofs.lemmas.Slice.Eq.{bytes_eq-Decides}
 use Rattle.info65.specs.Code.Segments.{segment_seen}
 use Rattle.info65.specs.Segments.{AreSegments, first_named, segment_covering, segment_key}
 use Rattle.info65.specs.Views.{InfoView, SegmentView}
-use Rattle.info65.specs.declared.segment.SegmentSpec.{SegmentSpec}
+use Rattle.info65.specs.declared.information.segment.SegmentSpec.{SegmentSpec}
 use Rattle.info65.proofs.Public.{covering_keyed, none_keyed, one_key, some_keyed}
 use Rattle.map65.specs.ImageView.{ImageView}
 use Rattle.map65.specs.MapView.{MapView}

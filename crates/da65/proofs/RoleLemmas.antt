@@ -6,7 +6,7 @@ use Rattle.std.proofs.lemmas.Bool.{and_parts, and_from, both_ways, cond-false, c
 use Rattle.info65.proofs.Public.{own_address_wins}
 use Rattle.info65.specs.Names.{AreNames, covering, name_at}
 use Rattle.info65.specs.Views.{NameView}
-use Rattle.info65.specs.declared.range.RangeType.{RangeType}
+use Rattle.info65.specs.declared.information.range.RangeType.{RangeType}
 use Rattle.map65.specs.ImageView.{IsPlaced, end_of, is_inside}
 use Rattle.map65.specs.Items.{item_len}
 use Rattle.map65.specs.MapView.{MapView}

@@ -10,10 +10,10 @@ use Rattle.isa65.specs.declared.mode.Mode.{Mode}
 use Rattle.isa65.specs.declared.mode.Mode.TheVariants.{Imp}
 use Rattle.isa65.specs.declared.op.Op.{Op}
 use Rattle.info65.proofs.Public.{layout_line}
-use Rattle.info65.specs.declared.range.RangeType.{RangeType}
-use Rattle.info65.specs.declared.range.RangeType.TheVariants as role
+use Rattle.info65.specs.declared.information.range.RangeType.{RangeType}
+use Rattle.info65.specs.declared.information.range.RangeType.TheVariants as role
 use Rattle.map65.specs.ImageView.{byte_at, bytes_from}
-use Rattle.map65.specs.Items.{code_size, item_len, size_at, size_for, wanted_at}
+use Rattle.map65.specs.Items.{code_size, item_len, size_at, size_for, full_len_at}
 use Rattle.map65.specs.MapView.{MapView, opcodes}
 use Rattle.map65.specs.Pieces.{are_joined, is_joined}
 use Rattle.map65.specs.Roles.{is_skip, role_of, unit_of}
@@ -110,14 +110,14 @@ record Counted (r : RangeType) (len : ℕ) : Type 0 where
 abbrev IsLong : RangeType → ℕ → Type 0
 IsLong r len = (len ≡ 1) ⊎ Counted r len
 
-pub size-is : (m : MapView) (a : ℕ) → (size_at m a ≡ wanted_at m a) ⊎ (size_at m a ≡ 1)
+pub size-is : (m : MapView) (a : ℕ) → (size_at m a ≡ full_len_at m a) ⊎ (size_at m a ≡ 1)
 unfolding size_at
 size-is m a =
-    cond_both (are_joined m (wanted_at m a - 1) a) (wanted_at m a) 1 (λ n. (n ≡ wanted_at m a) ⊎ (n ≡ 1)) (λ _. inl refl) (λ _. inr refl)
+    cond_both (are_joined m (full_len_at m a - 1) a) (full_len_at m a) 1 (λ n. (n ≡ full_len_at m a) ⊎ (n ≡ 1)) (λ _. inl refl) (λ _. inr refl)
 
-pub wanted-of : (m : MapView) (a : ℕ) (r : RangeType) → role_of m.info a ≡ r → wanted_at m a ≡ size_for m r (byte_at m.image a)
-unfolding wanted_at
-wanted-of m a r e = ap (λ (r : RangeType). size_for m r (byte_at m.image a)) e
+pub full_len-of : (m : MapView) (a : ℕ) (r : RangeType) → role_of m.info a ≡ r → full_len_at m a ≡ size_for m r (byte_at m.image a)
+unfolding full_len_at
+full_len-of m a r e = ap (λ (r : RangeType). size_for m r (byte_at m.image a)) e
 
 pub limit-whole : (m : MapView) (a : ℕ) → is_whole m a ≡ true → limit_at m a ≡ limit_of (role_of m.info a)
 limit-whole m a e = cond-true (is_whole m a) _ _ e
@@ -132,13 +132,13 @@ group-one m a e =
     omega (arith, none)
 
 -- of a role whose items all have the same size
-table-long : (m : MapView) (a : ℕ) (r : RangeType) → role_of m.info a ≡ r → wanted_at m a ≡ unit_of r → item_len m a ≡ size_at m a → IsLong r (group_len m a)
+table-long : (m : MapView) (a : ℕ) (r : RangeType) → role_of m.info a ≡ r → full_len_at m a ≡ unit_of r → item_len m a ≡ size_at m a → IsLong r (group_len m a)
 unfolding group_len
-table-long m a r e wanted begun = go (is_whole m a) refl
+table-long m a r e full_len begun = go (is_whole m a) refl
   where
-    single : (size_at m a ≡ wanted_at m a) ⊎ (size_at m a ≡ 1) → is_whole m a ≡ false → item_len m a ≡ 1
+    single : (size_at m a ≡ full_len_at m a) ⊎ (size_at m a ≡ 1) → is_whole m a ≡ false → item_len m a ≡ 1
     single (inr one) h = begun ∙ one
-    single (inl whole) h = absurd (true≢false (sym (eq-eqb (item_len m a) (unit_of (role_of m.info a)) (begun ∙ whole ∙ wanted ∙ sym (ap unit_of e))) ∙ h))
+    single (inl whole) h = absurd (true≢false (sym (eq-eqb (item_len m a) (unit_of (role_of m.info a)) (begun ∙ whole ∙ full_len ∙ sym (ap unit_of e))) ∙ h))
 
     go : (t : Bool) → is_whole m a ≡ t → IsLong r (item_len m a + more_at m (limit_at m a - 1) (a + item_len m a))
     go false h = inl (group-one m a (limit-other m a h) ∙ single (size-is m a) h)
@@ -152,7 +152,7 @@ table-long m a r e wanted begun = go (is_whole m a) refl
 pub limit-code : (m : MapView) (a : ℕ) → role_of m.info a ≡ role.Code → limit_at m a ≡ 1
 limit-code m a e = cond_both (is_whole m a) (limit_of (role_of m.info a)) 1 (λ n. n ≡ 1) (λ _. ap limit_of e) (λ _. refl)
 
-either : {len size wanted code code' : ℕ} → len ≡ size → code ≡ code' → wanted ≡ code → (size ≡ wanted) ⊎ (size ≡ 1) → (len ≡ code') ⊎ (len ≡ 1)
+either : {len size full_len code code' : ℕ} → len ≡ size → code ≡ code' → full_len ≡ code → (size ≡ full_len) ⊎ (size ≡ 1) → (len ≡ code') ⊎ (len ≡ 1)
 either e f g (inl h) = inl (e ∙ h ∙ g ∙ f)
 either e f g (inr h) = inr (e ∙ h)
 
@@ -183,7 +183,7 @@ module _ (m : MapView) (k : ℕ) (here : IsGroupPlace m k) (low : k < length m.i
       let some : 1 ≤ group_len m a = group-some m k here low shown in
       let first : slice_index (group_bytes m a) 0 ≡ byte_at m.image a = ap (λ (bytes : List ℕ). slice_index bytes 0) (group-index m k) ∙ byte-first m k (group_len m a) some in
       let size : length (group_bytes m a) ≡ size_at m a = long ∙ group-one m a (limit-code m a e) ∙ begun in
-      instruction-size (opcodes m) (group_bytes m a) (omega (arith, long, some)) (either size (sym (ap (λ (b : ℕ). code_size (decoded (opcodes m) b)) first)) (wanted-of m a role.Code e) (size-is m a))
+      instruction-size (opcodes m) (group_bytes m a) (omega (arith, long, some)) (either size (sym (ap (λ (b : ℕ). code_size (decoded (opcodes m) b)) first)) (full_len-of m a role.Code e) (size-is m a))
 
   pub group-shape : IsGroupOf (opcodes m) (role_of m.info (m.image.start + k)) (group_bytes m (m.image.start + k))
   group-shape = go (role_of m.info (m.image.start + k)) refl
@@ -191,7 +191,7 @@ module _ (m : MapView) (k : ℕ) (here : IsGroupPlace m k) (low : k < length m.i
       go : (r : RangeType) → role_of m.info (m.image.start + k) ≡ r → IsGroupOf (opcodes m) r (group_bytes m (m.image.start + k))
       go role.Code e = code e
       go role.Skip e = absurd (true≢false (sym (ap is_skip e) ∙ shown))
-      go r e = entries r (table-long m (m.image.start + k) r e (wanted-of m (m.image.start + k) r e) begun)
+      go r e = entries r (table-long m (m.image.start + k) r e (full_len-of m (m.image.start + k) r e) begun)
 
 -- ---- the law
 

@@ -3,7 +3,7 @@ use Rattle.std.proofs.Common.{◌≡◌, ℕ, suc, zero, ◌+◌, Bool, true, fa
 use Rattle.std.specs.Prelude.{if◌then◌else◌, ◌||◌}
 use Rattle.std.specs.List.{list_any}
 use Rattle.info65.specs.Ranges.{has_address}
-use Rattle.info65.specs.declared.range.RangeSpec.{RangeSpec}
+use Rattle.info65.specs.declared.information.range.RangeSpec.{RangeSpec}
 use Rattle.map65.specs.MapView.{MapView}
 use Rattle.map65.specs.Roles.{is_skip, role_in, role_of}
 use Rattle.map65.specs.Spans.{addresses}

@@ -12,16 +12,17 @@ use Rattle.isa65.specs.declared.op.Op.{Op}
 use Rattle.info65.specs.Names.{AreNames, blank_name, covering, name_at}
 use Rattle.info65.specs.Views.{NameView}
 use Rattle.info65.specs.Layouts.{layout_of}
-use Rattle.info65.specs.declared.range.Entry.{Entry}
-use Rattle.info65.specs.declared.range.Entry.TheVariants.{Instruction, Address, Return}
-use Rattle.info65.specs.declared.range.RangeType.{RangeType}
+use Rattle.info65.specs.declared.information.range.Entry.{Entry}
+use Rattle.info65.specs.declared.information.range.Entry.TheVariants.{Instruction, Address, Return}
+use Rattle.info65.specs.declared.information.range.RangeType.{RangeType}
+use Rattle.info65.proofs.Public.{last_name}
 use Rattle.map65.specs.ImageView.{AreBytes, ImageView, IsPlaced, bytes_from, is_inside}
 use Rattle.map65.specs.Items.{item_len, size_at}
 use Rattle.map65.specs.MapView.{MapView, opcodes}
-use Rattle.map65.specs.Names.{Base, IsWanted, base_at, base_by, home_base, is_wanted}
+use Rattle.map65.specs.Names.{Base, IsReferenced, base_at, base_by, entry_base, is_referenced}
 use Rattle.map65.specs.Roles.{role_of}
 use Rattle.map65.specs.Targets.{byte_of, code_target, entry_of, entry_target, is_jump, only_inside, operand_target, return_target, target_at, target_for, word_of}
-use Rattle.map65.proofs.Public.{begun, last-name, size-fits, wanted_law}
+use Rattle.map65.proofs.Public.{begun, size-fits, reference_law}
 use Rattle.da65.proofs.FragmentLaws.{target_is}
 
 pub byte-small : (bytes : List ℕ) → AreBytes bytes → (i : ℕ) → slice_index bytes i < 256
@@ -110,15 +111,15 @@ target-small m item t placed are some e =
 
 -- ---- addresses that have a name
 
-wanted-small : (m : MapView) (a : ℕ) → IsPlaced m.image → AreBytes m.image.bytes → is_wanted m a ≡ true → a < 65536
-wanted-small m a placed are h =
-    let w : IsWanted m a = (wanted_law m a).0 h in
+referenced-small : (m : MapView) (a : ℕ) → IsPlaced m.image → AreBytes m.image.bytes → is_referenced m a ≡ true → a < 65536
+referenced-small m a placed are h =
+    let w : IsReferenced m a = (reference_law m a).0 h in
     let small = target-small m w.is_target.item w.target placed are w.is_target.begins w.is_target.has in
     ⊎_elim (λ same. omega (arith, same, small)) (λ inner. omega (arith, inner.after, small)) w.place
 
 name-small : (names : List NameView) (a : ℕ) (v : NameView) → AreNames names → covering names a ≡ Some v → a < 65536
 name-small names a v are e =
-    let last = last-name names a v e in
+    let last = last_name names a v e in
     let name : NameView = name_at names last.index in
     let is = are.each last.index blank_name last.low in
     let bounds = and_parts _ (nat_lt a (name.address + name.size)) last.covers_it in
@@ -126,9 +127,9 @@ name-small names a v are e =
 
 pub base-small : (m : MapView) (a : ℕ) (b : Base) → IsPlaced m.image → AreBytes m.image.bytes → AreNames m.info.names → base_at m a ≡ Some b → a < 65536
 unfolding base_at
-base-small m a b placed are names e = go (covering m.info.names a) refl (is_wanted m a) refl e
+base-small m a b placed are names e = go (covering m.info.names a) refl (is_referenced m a) refl e
   where
-    go : (o : Option NameView) → covering m.info.names a ≡ o → (w : Bool) → is_wanted m a ≡ w → base_by o w (home_base m a) ≡ Some b → a < 65536
+    go : (o : Option NameView) → covering m.info.names a ≡ o → (w : Bool) → is_referenced m a ≡ w → base_by o w (entry_base m a) ≡ Some b → a < 65536
     go (Some v) f w g e = name-small m.info.names a v names f
-    go None f true g e = wanted-small m a placed are g
+    go None f true g e = referenced-small m a placed are g
     go None f false g e = absurd cc

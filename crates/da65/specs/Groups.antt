@@ -6,8 +6,8 @@
 use Rattle.std.specs.Prelude.{◌≡◌, ◌↔◌, ◌⊎◌, ℕ, zero, suc, ◌+◌, ◌-◌, ◌*◌, ◌%◌, ◌<◌, ◌≤◌, ◌==◌, ◌&&◌, not, Bool, true, false, List, length, take, if◌then◌else◌}
 use Rattle.std.specs.List.{filter, list_any}
 use Rattle.info65.specs.Layouts.{layout_of}
-use Rattle.info65.specs.declared.range.RangeType.{RangeType}
-use Rattle.info65.specs.declared.range.RangeType.TheVariants as role
+use Rattle.info65.specs.declared.information.range.RangeType.{RangeType}
+use Rattle.info65.specs.declared.information.range.RangeType.TheVariants as role
 use Rattle.map65.specs.ImageView.{bytes_from, is_inside}
 use Rattle.map65.specs.Items.{item_len, size_at}
 use Rattle.map65.specs.MapView.{MapView}

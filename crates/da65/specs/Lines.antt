@@ -1,12 +1,8 @@
 -- The lines of a listing that are left from a place on.
 use Rattle.std.specs.Prelude.{◌≡◌, ℕ, ◌+◌, ◌-◌, ◌<◌, ◌≤◌, Bool, true, false, List, [], ◌∷◌, ◌++◌, length, map, not, Option, None}
 use Rattle.std.specs.List.{flat_map, list_any}
-use Rattle.info65.specs.Names.{AreNames}
-use Rattle.info65.specs.Segments.{AreSegments}
-use Rattle.info65.specs.Views.{InfoView}
 use Rattle.isa65.specs.declared.cpu.Cpu.{Cpu}
-use Rattle.map65.specs.ImageView.{ImageView, IsPlaced}
-use Rattle.map65.specs.MapView.{MapView}
+use Rattle.map65.specs.MapView.{IsSoundMap, MapView}
 use Rattle.map65.specs.Roles.{is_skip, role_of}
 use Rattle.da65.specs.BaseNames.{names_of}
 use Rattle.da65.specs.Code.SkipRanges.{is_skip_range}
@@ -142,14 +138,10 @@ pub record IsUnmarked (m : MapView) : Type 0 where
 
 -- what information, an image, its map, a style and a CPU know of a listing; `marked` says whether it may have separators, segments or comments, and `all` that no range
 -- has the type SKIP
-pub record IsListed (m : MapView) (info : InfoView) (image : ImageView) (t : Style) (cpu : Cpu) (marked all : Bool) : Type 0 where
-  pub info_is : m.info ≡ info
-  pub image_is : m.image ≡ image
+pub record IsListed (m : MapView) (t : Style) (cpu : Cpu) (marked all : Bool) : Type 0 where
   pub style_is : t ≡ style_of m.info.settings
   pub cpu_is : cpu ≡ t.cpu
-  pub placed : IsPlaced m.image
-  pub names : AreNames m.info.names
-  pub segments : AreSegments m.info.segments
+  pub sound : IsSoundMap m
   pub unmarked : marked ≡ false → IsUnmarked m
   pub has_marks : marked ≡ true → HasMarks m.info (style_of m.info.settings)
   pub listed : all ≡ not (list_any is_skip_range m.info.ranges)

@@ -15,7 +15,7 @@ use Rattle.isa65.specs.declared.mnemonic.Mnemonic.TheVariants.{Jmp, Rts}
 use Rattle.stmt65.specs.Views as view
 use Rattle.stmt65.specs.Views.{RemarksView, StatementView}
 use Rattle.stmt65.specs.Columns.{fits_label}
-use Rattle.stmt65.specs.declared.columns.Columns.{Columns}
+use Rattle.stmt65.specs.declared.printing.columns.Columns.{Columns}
 use Rattle.stmt65.specs.Line.{line_of}
 use Rattle.map65.specs.MapView.{MapView}
 use Rattle.map65.specs.Pieces.{is_in_run}

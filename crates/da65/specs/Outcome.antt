@@ -78,9 +78,9 @@ or_message message (Err fault) = Err (message fault)
 abbrev pub with_input : InfoView → Result InfoView (List ℕ)
 with_input i = if is_some i.settings.input then Ok i else Err no_input_message
 
--- what the information file says under some options
-abbrev pub accepted : OptionsView → List ℕ → Result InfoView (List ℕ)
-accepted options info = or_message info_message (information options info) >>= with_input
+-- what an information file says that was read or refused
+abbrev pub accepted : Result InfoView InfoFault → Result InfoView (List ℕ)
+accepted read = or_message info_message read >>= with_input
 
 -- with the names of the include file at an index, which has this name and these bytes; refused if no such file is handed in
 abbrev pub with_include : ℕ → List ℕ → InfoView → Option (List ℕ) → Result InfoView (List ℕ)
@@ -100,10 +100,14 @@ with_includes files index (x ∷ xs) i = with_file files index x i >>= with_incl
 abbrev pub with_all_includes : List FileView → InfoView → Result InfoView (List ℕ)
 with_all_includes files i = with_includes files 0 i.includes i
 
--- What these options, the bytes of the information file and the files that are handed in give. Refused for the first of these: a fault
+-- What an information file that was read or refused gives with the files that are handed in. Refused for the first of these: a fault
 -- of the information file, no input name, an include file that is not handed in or has a fault.
-unfoldable pub prepared : OptionsView → List ℕ → List FileView → Result InfoView (List ℕ)
-prepared options info files = accepted options info >>= with_all_includes files
+unfoldable pub prepared_by : Result InfoView InfoFault → List FileView → Result InfoView (List ℕ)
+prepared_by read files = accepted read >>= with_all_includes files
+
+-- what these options, the bytes of the information file and the files that are handed in give
+abbrev pub prepared : OptionsView → List ℕ → List FileView → Result InfoView (List ℕ)
+prepared options info files = prepared_by (information options info) files
 
 -- ---- the outcome
 

@@ -16,7 +16,7 @@ use Rattle.stmt65.specs.Coding.{Fragment, Fixed, Single, ZeroPage, word_operand,
 use Rattle.stmt65.specs.Meaning.{State, fault_of, bytes_of, after, final, initial, meaning, meaning_of}
 use Rattle.info65.specs.Names as given
 use Rattle.info65.specs.Segments.{AreSegments}
-use Rattle.info65.specs.declared.range.RangeType.{RangeType}
+use Rattle.info65.specs.declared.information.range.RangeType.{RangeType}
 use Rattle.map65.specs.ImageView.{AreBytes, ImageView, IsPlaced, end_of}
 use Rattle.map65.specs.MapView.{MapView, opcodes}
 use Rattle.map65.specs.Names.{Base}

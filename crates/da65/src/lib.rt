@@ -1,8 +1,10 @@
 //! Listings of binary images as ca65 source.
 //!
 //! [`run`] reads an information file, the [`File`]s that it includes and then an image from a [`Source`], lists it
-//! on a [`Sink`] and reports refusals and warnings on a second one. [`options_of`] reads a command line, and [`needs`]
-//! gives the names of the files that a run asks for. [`Told`] makes readers and writers of std such devices.
+//! on a [`Sink`] and reports refusals and warnings on a second one. [`options_of`] reads a command line, [`address_in`]
+//! an address in one, and [`needs`] gives the names of the files that a run asks for. [`run_read`] and [`needs_read`] take an
+//! information file that [`read_info`] has read, so that a program reads it once. [`Told`] makes readers and writers of
+//! std such devices.
 #![tactic(auto)]
 
 mod command_line;
@@ -11,9 +13,9 @@ mod listing;
 mod runs;
 
 pub use command_line::command::{help_text, version_text};
-pub use command_line::usage::options_of;
+pub use command_line::usage::{address_in, options_of};
 pub use command_line::usage_fault::UsageFault;
-pub use info65::Options;
+pub use info65::{Info, InfoFault, Options, read_info};
 pub use laws::{
     expressions_have_their_values, forced_where_needed, group_gives_its_bytes, group_law,
     groups_are_groups, item_gives_its_bytes, listing_gives_image, mode_is_chosen_back,
@@ -21,9 +23,8 @@ pub use laws::{
     unwritten_is_bytes, worked_listings, written_is_instruction,
 };
 pub use listing::lines::{Lines, write_lines};
-pub use map65::{DeviceFault, Sink, Source, Told};
+pub use map65::{DeviceFault, Sink, Source, Told, write_whole};
 pub use runs::files::{File, Needs};
-pub use runs::needs::needs;
+pub use runs::needs::{needs, needs_read};
 pub use runs::outcome::{RunFault, Status};
-pub use runs::running::run;
-pub use runs::write::write_whole;
+pub use runs::running::{run, run_read};

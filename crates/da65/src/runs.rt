@@ -8,4 +8,3 @@ pub(crate) mod outcome;
 mod preparing;
 pub(crate) mod running;
 mod segment_reentry;
-pub(crate) mod write;

@@ -9,7 +9,7 @@ use Rattle.da65.specs.declared.runs.outcome.RunFault.TheVariants.{Memory, Write,
 use Rattle.da65.specs.declared.runs.outcome.Status.{Status}
 use Rattle.map65.specs.Device.{AppendsFront}
 use Rattle.da65_cli.specs.Delivery.{Delivers, HasPrefix}
-use Rattle.da65_cli.specs.Code.Settling.{HasRoom, IsListed, IsShortOf, Settles}
+use Rattle.da65_cli.specs.Code.Reporting.{HasRoom, IsListed, IsShortOf, FlushesThenReports}
 
 pub Keeps-same : (known : Option (List ℕ)) → Keeps known known
 Keeps-same None = tt
@@ -20,7 +20,7 @@ pub short_of : (out : Option (List ℕ)) (left : List ℕ) → IsShortOf (append
 short_of out left = record { left = left; kept = Keeps-same (append_known out left) }
 
 -- a run that gave up stays as it ended
-pub given_up : (was : Result Status RunFault) (fault : RunFault) (out errors : Option (List ℕ)) (left messages : List ℕ) → was ≡ Err fault → HasRoom was → Settles was (Err fault) (append_known out left) out messages errors errors
+pub given_up : (was : Result Status RunFault) (fault : RunFault) (out errors : Option (List ℕ)) (left messages : List ℕ) → was ≡ Err fault → HasRoom was → FlushesThenReports was (Err fault) (append_known out left) out messages errors errors
 given_up was Memory out errors left messages is room = (is, short_of out left, Keeps-same errors)
 given_up was Write out errors left messages is room = (short_of out left, Keeps-same errors)
 given_up was Messages out errors left messages is room = absurd (room is)
@@ -77,35 +77,35 @@ none_out None out k s = absurd k
 none_out (Some xs) None k s = absurd s.kept
 none_out (Some xs) (Some ys) k s = ap Some (nil_left ys s.left (s.kept ∙ k))
 
-delivers_from : (was result : Result Status RunFault) (outcome : Outcome) (taken out : Option (List ℕ)) (held : List ℕ) (errors errors' : Option (List ℕ)) → Writes was outcome (Some []) taken (Some []) (Some held) → Settles was result taken out held errors errors' → Delivers result outcome out errors errors'
-delivers_from was (Ok status) outcome taken out held errors errors' w s =
-    let P : Result Status RunFault → Type 0 = λ r. Writes r outcome (Some []) taken (Some []) (Some held) in
+delivers_from : (was result : Result Status RunFault) (outcome : Outcome) (taken out : Option (List ℕ)) (waiting : List ℕ) (errors errors' : Option (List ℕ)) → Writes was outcome (Some []) taken (Some []) (Some waiting) → FlushesThenReports was result taken out waiting errors errors' → Delivers result outcome out errors errors'
+delivers_from was (Ok status) outcome taken out waiting errors errors' w s =
+    let P : Result Status RunFault → Type 0 = λ r. Writes r outcome (Some []) taken (Some []) (Some waiting) in
     let done : P (Ok status) = subst P s.0 w in
     (done.0, whole_out taken out outcome.listing done.1 s.1, (let Q : List ℕ → Type 0 = λ t. Appends errors errors' t in subst Q done.2 s.2))
-delivers_from was (Err Messages) outcome taken out held errors errors' w s =
-    let whole = listed_whole was outcome taken (Some held) s.0 w in
+delivers_from was (Err Messages) outcome taken out waiting errors errors' w s =
+    let whole = listed_whole was outcome taken (Some waiting) s.0 w in
     (whole_out taken out outcome.listing whole.0 s.1, (let Q : List ℕ → Type 0 = λ t. AppendsFront errors errors' t in subst Q whole.1 s.2))
-delivers_from was (Err Write) outcome taken out held errors errors' w s = (prefix_out taken out outcome.listing (front_of was outcome taken (Some held) w) s.0, s.1)
-delivers_from was (Err Memory) outcome taken out held errors errors' w s =
-    let P : Result Status RunFault → Type 0 = λ r. Writes r outcome (Some []) taken (Some []) (Some held) in
+delivers_from was (Err Write) outcome taken out waiting errors errors' w s = (prefix_out taken out outcome.listing (front_of was outcome taken (Some waiting) w) s.0, s.1)
+delivers_from was (Err Memory) outcome taken out waiting errors errors' w s =
+    let P : Result Status RunFault → Type 0 = λ r. Writes r outcome (Some []) taken (Some []) (Some waiting) in
     let none : P (Err Memory) = subst P s.0 w in
     (none_out taken out none.0 s.1, s.2)
 
 -- From what the run promises of the buffer to what is on the output.
-delivers : (was result : Result Status RunFault) (outcome : Outcome) (old taken out : Option (List ℕ)) (msgs : Option (List ℕ)) (held : List ℕ) (errors errors' : Option (List ℕ))
-    → old ≡ Some [] → msgs ≡ Some [] → Writes was outcome old taken msgs (Some held) → Settles was result taken out held errors errors' → Delivers result outcome out errors errors'
-delivers was result outcome old taken out msgs held errors errors' o m w s =
-    let P : Option (List ℕ) → Type 0 = λ x. Writes was outcome x taken msgs (Some held) in
-    let Q : Option (List ℕ) → Type 0 = λ x. Writes was outcome (Some []) taken x (Some held) in
-    delivers_from was result outcome taken out held errors errors' (subst Q m (subst P o w)) s
+delivers : (was result : Result Status RunFault) (outcome : Outcome) (old taken out : Option (List ℕ)) (msgs : Option (List ℕ)) (waiting : List ℕ) (errors errors' : Option (List ℕ))
+    → old ≡ Some [] → msgs ≡ Some [] → Writes was outcome old taken msgs (Some waiting) → FlushesThenReports was result taken out waiting errors errors' → Delivers result outcome out errors errors'
+delivers was result outcome old taken out msgs waiting errors errors' o m w s =
+    let P : Option (List ℕ) → Type 0 = λ x. Writes was outcome x taken msgs (Some waiting) in
+    let Q : Option (List ℕ) → Type 0 = λ x. Writes was outcome (Some []) taken x (Some waiting) in
+    delivers_from was result outcome taken out waiting errors errors' (subst Q m (subst P o w)) s
 
 -- a buffer before a sink that has taken nothing, with no byte in it, has taken nothing
 pub fresh_taken : (out : Option (List ℕ)) (bytes : List ℕ) → out ≡ Some [] → bytes ≡ [] → append_known out bytes ≡ Some []
 fresh_taken out bytes o b = rw (o, b) refl
 
 -- The same for the input's bytes, where they are told.
-pub delivers_told : (left : Option (List ℕ)) (outcome : List ℕ → Outcome) (was result : Result Status RunFault) (old taken out : Option (List ℕ)) (msgs : Option (List ℕ)) (held : List ℕ) (errors errors' : Option (List ℕ))
-    → old ≡ Some [] → msgs ≡ Some [] → IfSome left (λ bytes. Writes was (outcome bytes) old taken msgs (Some held)) → Settles was result taken out held errors errors'
+pub delivers_told : (left : Option (List ℕ)) (outcome : List ℕ → Outcome) (was result : Result Status RunFault) (old taken out : Option (List ℕ)) (msgs : Option (List ℕ)) (waiting : List ℕ) (errors errors' : Option (List ℕ))
+    → old ≡ Some [] → msgs ≡ Some [] → IfSome left (λ bytes. Writes was (outcome bytes) old taken msgs (Some waiting)) → FlushesThenReports was result taken out waiting errors errors'
     → IfSome left (λ bytes. Delivers result (outcome bytes) out errors errors')
-delivers_told None outcome was result old taken out msgs held errors errors' o m w s = tt
-delivers_told (Some bytes) outcome was result old taken out msgs held errors errors' o m w s = delivers was result (outcome bytes) old taken out msgs held errors errors' o m w s
+delivers_told None outcome was result old taken out msgs waiting errors errors' o m w s = tt
+delivers_told (Some bytes) outcome was result old taken out msgs waiting errors errors' o m w s = delivers was result (outcome bytes) old taken out msgs waiting errors errors' o m w s

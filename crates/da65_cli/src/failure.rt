@@ -1,6 +1,7 @@
 //! Why the program gives up.
 
 use da65::{RunFault, UsageFault};
+use files65::FileFault;
 use std::alloc::{AllocError, AllocFailed};
 use std::io::{Error as IoError, ErrorKind};
 use thiserror::Error;
@@ -14,12 +15,9 @@ pub enum Failure {
     /// Memory ran out.
     #[error("out of memory")]
     Memory,
-    /// The information file of this name can't be read, or the input of this name can't be opened.
-    #[error("cannot read {0}")]
-    Reading(String),
-    /// The output file of this name can't be created.
-    #[error("cannot create {0}")]
-    Creating(String),
+    /// The information file can't be read, the input can't be opened, or the output file can't be created.
+    #[error("{0}")]
+    File(FileFault),
     /// The run gave up. After a failed write of a message, of the help text or of the version nothing more is said.
     #[error("{0}")]
     Run(RunFault),
@@ -37,28 +35,6 @@ impl Failure {
         match error.kind() {
             ErrorKind::OutOfMemory => Failure::Memory,
             _ => Failure::Usage(UsageFault::Words),
-        }
-    }
-
-    /// The failure of a file of this name that can't be read.
-    pub fn of_reading(error: &IoError, name: String) -> Failure
-        ensures memory { error_kind error.now ≡ ErrorKind.OutOfMemory → result ≡ Failure.Memory }
-        ensures name { error_kind error.now ≢ ErrorKind.OutOfMemory → result ≡ Failure.Reading name }
-    {
-        match error.kind() {
-            ErrorKind::OutOfMemory => Failure::Memory,
-            _ => Failure::Reading(name),
-        }
-    }
-
-    /// The failure of a file of this name that can't be created.
-    pub fn of_creating(error: &IoError, name: String) -> Failure
-        ensures memory { error_kind error.now ≡ ErrorKind.OutOfMemory → result ≡ Failure.Memory }
-        ensures name { error_kind error.now ≢ ErrorKind.OutOfMemory → result ≡ Failure.Creating name }
-    {
-        match error.kind() {
-            ErrorKind::OutOfMemory => Failure::Memory,
-            _ => Failure::Creating(name),
         }
     }
 }
@@ -94,6 +70,17 @@ impl From<UsageFault> for Failure {
 
     fn from(fault: UsageFault) -> Failure {
         Failure::Usage(fault)
+    }
+}
+
+impl From<FileFault> for Failure {
+    ghost use Rattle.std.specs.Prelude.{◌≡◌};
+    ghost use Rattle.da65_cli.specs.declared.failure.Failure.TheVariants.{File};
+
+    ghost from_gives = { λ e f. f ≡ File e };
+
+    fn from(fault: FileFault) -> Failure {
+        Failure::File(fault)
     }
 }
 

@@ -5,8 +5,9 @@ ghost use Rattle.std.specs.List.{list_any};
 ghost use Rattle.da65.specs.Files.{files_seen};
 ghost use Rattle.da65_cli.specs.Code.IncludeFiles.{content_seen, has_name};
 
-use crate::contents::contents;
+use crate::LIMIT;
 use da65::File;
+use files65::contents;
 use std::alloc::{AllocError, AllocFailed, Global};
 
 /// An include file that was read.
@@ -41,22 +42,22 @@ pub fn include_files(rt: &HostRuntime, names: Vec<String>) -> Result<Vec<Content
         if is_read(&files, name.as_str()) {
             continue;
         }
-        let read = contents(rt, name.as_str())?;
+        let read = contents(rt, name.as_str(), LIMIT)?;
         add(&mut files, name, read)?;
     }
     Ok(files)
 }
 
 /// The files as a run takes them.
-pub fn handed_in(alloc: Global, files: &[Content]) -> Result<Vec<File<'_>>, AllocError>
-    ensures { IfOk result (λ handed. files_seen handed.items ≡ map content_seen files.now) }
+pub fn files_for_run(alloc: Global, files: &[Content]) -> Result<Vec<File<'_>>, AllocError>
+    ensures { IfOk result (λ lent. files_seen lent.items ≡ map content_seen files.now) }
 {
-    let mut handed = Vec::new(alloc);
+    let mut lent = Vec::new(alloc);
     for file in files {
-        handed.push(File {
+        lent.push(File {
             name: file.name.as_str(),
             bytes: file.bytes.as_slice(),
         })?;
     }
-    Ok(handed)
+    Ok(lent)
 }

@@ -1,19 +1,25 @@
 //! A run whose output is buffered, and whose messages wait for the end of the listing.
 
-ghost use Rattle.std.specs.Prelude.{◌≡◌, ◌-◌, ◌^◌, ◌<◌, [], Some, IfSome, IsErrOf};
+ghost use Rattle.std.specs.Prelude.{◌≡◌, ◌-◌, ◌^◌, ◌<◌, [], Some, IfSome, IsErrOf, Result};
 ghost use Rattle.std.specs.Io.KnownBytes.{Keeps};
+ghost use Rattle.info65.specs.Code.Results.{Gives};
+ghost use Rattle.info65.specs.Views.{InfoView};
+ghost use Rattle.info65.specs.declared.fault.InfoFault.{InfoFault};
 ghost use Rattle.map65.specs.Device.{TakesUpTo, has_failed};
 ghost use Rattle.da65.specs.Files.{files_seen};
-ghost use Rattle.da65.specs.Outcome.{outcome_of, prepared};
+ghost use Rattle.da65.specs.Outcome.{outcome_by, outcome_of, prepared, prepared_by};
 ghost use Rattle.da65.specs.RunLaw.{Reassembles};
 ghost use Rattle.da65.specs.Running.{FailsAtMostOnce, MessagesCount, OutCount, most_read};
 ghost use Rattle.da65_cli.specs.Code.Buffered.{buffered_out, buffered_taken};
 ghost use Rattle.da65_cli.specs.Delivery.{Delivers};
-ghost use Rattle.da65_cli.specs.Code.Settling.{HasRoom, Settles, SettlesOutCount};
+ghost use Rattle.da65_cli.specs.Code.Reporting.{HasRoom, FlushesThenReports, ReportsOutCount};
 
 use crate::buffered::Buffered;
-use crate::held::Held;
-use da65::{File, Options, RunFault, Sink, Source, Status, run, write_whole};
+use crate::message_buffer::MessageBuffer;
+use da65::{
+    File, Info, InfoFault, Options, RunFault, Sink, Source, Status, read_info, run_read,
+    write_whole,
+};
 use std::alloc::Allocator;
 
 /// How a listing ended, and the output that it was written on.
@@ -23,15 +29,15 @@ pub struct Listed<W> {
 }
 
 /// Flushes the listing and then passes the messages on, unless the run has given up before.
-fn settle<W: Sink, M: Sink>(
+fn flush_then_report<W: Sink, M: Sink>(
     was: Result<Status, RunFault>,
     buffer: &mut Buffered<W>,
     messages: &[u8],
     errors: &mut M,
 ) -> Result<Status, RunFault>
     requires { HasRoom was }
-    ensures text { Settles was result (buffered_taken W.taken buffer.old) (W.taken (buffered_out buffer.new)) messages.now (M.taken errors.old) (M.taken errors.new) }
-    ensures out_count { SettlesOutCount was result (W.faults (buffered_out buffer.old)) (W.faults (buffered_out buffer.new)) }
+    ensures text { FlushesThenReports was result (buffered_taken W.taken buffer.old) (W.taken (buffered_out buffer.new)) messages.now (M.taken errors.old) (M.taken errors.new) }
+    ensures out_count { ReportsOutCount was result (W.faults (buffered_out buffer.old)) (W.faults (buffered_out buffer.new)) }
     ensures errors_count { MessagesCount result (M.faults errors.old) (M.faults errors.new) }
 {
     let status = was?;
@@ -78,10 +84,37 @@ pub fn run_buffered<A: Allocator + Copy, N: Allocator, R: Source, W: Sink, M: Si
     ensures errors_count { MessagesCount result.result (M.faults errors.old) (M.faults errors.new) }
     ensures input_count { FailsAtMostOnce (R.faults input.old) (R.faults input.new) }
 {
+    let read = read_info(alloc, options, info);
+    run_read_buffered(alloc, read, files, input, output, errors)
+}
+
+/// Does what [`run_buffered`] does for an information file that `read_info` has read or refused.
+pub fn run_read_buffered<A: Allocator + Copy, R: Source, W: Sink, M: Sink>(
+    alloc: A,
+    read: Result<Info<A>, InfoFault>,
+    files: &[File<'_>],
+    input: &mut R,
+    output: W,
+    errors: &mut M,
+) -> Listed<W>
+    // As those of `run_buffered`, for whatever file it is that was read or refused.
+    ensures answer { (defined : Result InfoView InfoFault) → Gives (λ i. i) read defined → R.faults input.old < 2 ^ 64 - 1 → W.taken output ≡ Some [] → IfSome (R.left input.old) (λ bytes.
+        Delivers result.result (outcome_by (prepared_by defined (files_seen files.now)) bytes (has_failed (R.faults input.old) (R.faults input.new)))
+        (W.taken result.output) (M.taken errors.old) (M.taken errors.new)) }
+    ensures reassembles { (defined : Result InfoView InfoFault) → Gives (λ i. i) read defined → R.faults input.old < 2 ^ 64 - 1 → W.taken output ≡ Some [] → IfSome (R.left input.old) (λ bytes.
+        Reassembles result.result (prepared_by defined (files_seen files.now)) bytes (has_failed (R.faults input.old) (R.faults input.new))
+        (Some []) (W.taken result.output)) }
+    ensures memory { IsErrOf result.result RunFault.Memory → Keeps (M.taken errors.old) (M.taken errors.new) }
+    ensures write { IsErrOf result.result RunFault.Write → Keeps (M.taken errors.old) (M.taken errors.new) }
+    ensures reads { (defined : Result InfoView InfoFault) → Gives (λ i. i) read defined → TakesUpTo (most_read (prepared_by defined (files_seen files.now))) (R.left input.old) (R.left input.new) }
+    ensures out_count { OutCount result.result (W.faults output) (W.faults result.output) }
+    ensures errors_count { MessagesCount result.result (M.faults errors.old) (M.faults errors.new) }
+    ensures input_count { FailsAtMostOnce (R.faults input.old) (R.faults input.new) }
+{
     let mut buffer = Buffered::new(output);
-    let mut held = Held::new();
-    let was = run(alloc, options, info, files, input, &mut buffer, &mut held);
-    let result = settle(was, &mut buffer, held.as_slice(), errors);
+    let mut waiting = MessageBuffer::new();
+    let was = run_read(alloc, read, files, input, &mut buffer, &mut waiting);
+    let result = flush_then_report(was, &mut buffer, waiting.as_slice(), errors);
     Listed {
         output: buffer.into_out(),
         result,

@@ -3,28 +3,32 @@
 //! In order: the options, then help or version, the information file, its include files, the input, the output
 //! file, which is created empty, and the run. The listing goes to the output file or to standard output, messages go
 //! to standard error once the whole listing is written. The status is 0 if the listing, the help text or
-//! the version was written, else 1.
+//! the version was written, otherwise 1.
 #![tactic(auto)]
 
 mod block;
 mod buffered;
-mod contents;
 mod failure;
-mod held;
 mod include_files;
 mod information;
 mod listing;
+mod message_buffer;
 
 use da65::{
-    File, Needs, Options, RunFault, Status, Told, help_text, needs, options_of, version_text,
+    File, Info, InfoFault, Needs, Options, RunFault, Status, Told, help_text, needs_read,
+    options_of, read_info, version_text,
 };
 use failure::Failure;
-use include_files::{handed_in, include_files};
+use files65::{FileFault, Input, Output, Placeholders};
+use include_files::{files_for_run, include_files};
 use information::information;
-use listing::{Listed, run_buffered};
-use std::io::{Read, Write};
+use listing::{Listed, run_read_buffered};
+use std::env;
+use std::io::Write;
 use std::process::ExitCode;
-use std::{env, fs};
+
+/// The most that is read of an information file or an include file: one byte more than it may have.
+const LIMIT: usize = 1_048_577;
 
 /// The options of the program's words.
 fn options(rt: &HostRuntime) -> Result<Options, Failure> {
@@ -48,23 +52,16 @@ fn tell(rt: &HostRuntime, text: &str) -> Result<Status, Failure> {
 }
 
 /// Lists the input on the output.
-fn list_on<R: Read + Drop, W: Write + Drop>(
+fn list(
     rt: &HostRuntime,
-    options: &Options,
-    info: &[u8],
+    read: Result<Info, InfoFault>,
     files: &[File<'_>],
-    input: R,
-    output: W,
+    mut input: Input,
+    output: Output,
 ) -> Result<Status, Failure> {
-    let listed = run_buffered(
-        rt.alloc(),
-        options,
-        info,
-        files,
-        &mut Told::new(input),
-        Told::new(output),
-        &mut Told::new(rt.stderr()),
-    );
+    let alloc = rt.alloc();
+    let mut errors = Told::new(rt.stderr());
+    let listed = run_read_buffered(alloc, read, files, &mut input, output, &mut errors);
     let Listed {
         output: _output,
         result,
@@ -72,43 +69,19 @@ fn list_on<R: Read + Drop, W: Write + Drop>(
     Ok(result?)
 }
 
-/// Lists the input on the output file of this name, which is created empty, or on standard output.
-fn list_to<R: Read + Drop>(
+/// Opens the named input, then creates the output. Without an input name the run is refused, and no output
+/// file is created.
+fn devices(
     rt: &HostRuntime,
-    options: &Options,
-    info: &[u8],
-    files: &[File<'_>],
-    input: R,
-    output: Option<String>,
-) -> Result<Status, Failure> {
-    let Some(name) = output else {
-        return list_on(rt, options, info, files, input, rt.stdout());
-    };
-    match fs::File::create(rt, name.as_str()) {
-        Ok(file) => list_on(rt, options, info, files, input, file),
-        Err(error) => Err(Failure::of_creating(&error, name)),
-    }
-}
-
-/// Lists the named input. Without an input name the run is refused, and no output file is created.
-fn list_needed(
-    rt: &HostRuntime,
-    options: &Options,
-    info: &[u8],
-    files: &[File<'_>],
     input: Option<String>,
     output: Option<String>,
-) -> Result<Status, Failure> {
+) -> Result<(Input, Output), FileFault> {
     let Some(name) = input else {
-        return list_on(rt, options, info, files, [].as_slice(), rt.stdout());
+        return Ok((Input::Nothing, Output::standard(rt)));
     };
-    // A pipe that another user made can be read, but not opened by its name.
-    if name.as_str() == "/dev/stdin" {
-        return list_to(rt, options, info, files, rt.stdin(), output);
-    }
-    match fs::File::open(rt, name.as_str()) {
-        Ok(file) => list_to(rt, options, info, files, file, output),
-        Err(error) => Err(Failure::of_reading(&error, name)),
+    match Input::open(rt, name.as_str()) {
+        Ok(input) => Ok((input, Output::create(rt, output)?)),
+        Err(error) => Err(FileFault::of_reading(&error, name)),
     }
 }
 
@@ -120,27 +93,21 @@ fn program(rt: &HostRuntime) -> Result<Status, Failure> {
     if options.version {
         return tell(rt, version_text());
     }
-    let info = information(rt, &options.info)?;
+    let read = read_info(rt.alloc(), &options, &information(rt, &options.info)?);
     let Needs {
         input,
         output,
         includes,
-    } = needs(rt.alloc(), &options, &info)?;
+    } = needs_read(rt.alloc(), &read)?;
     let contents = include_files(rt, includes)?;
-    let files = handed_in(rt.alloc(), &contents)?;
-    list_needed(rt, &options, &info, &files, input, output)
-}
-
-/// Takes the number of a standard stream that is closed, which would else go to the next file.
-fn placeholder(rt: &HostRuntime) -> Option<fs::File> {
-    fs::File::open(rt, "/dev/null").ok()
+    let files = files_for_run(rt.alloc(), &contents)?;
+    let (input, output) = devices(rt, input, output)?;
+    list(rt, read, &files, input, output)
 }
 
 fn main(rt: HostRuntime) -> ExitCode {
-    // Without these, messages to a closed standard error could end up in the output file.
-    let _input = placeholder(&rt);
-    let _output = placeholder(&rt);
-    let _errors = placeholder(&rt);
+    // Messages to a closed standard error must not end up in the output file.
+    let _placeholders = Placeholders::take(&rt);
     match program(&rt) {
         Ok(Status::Done) => ExitCode::SUCCESS,
         Ok(Status::Refused) | Err(Failure::Run(RunFault::Messages)) => ExitCode::FAILURE,

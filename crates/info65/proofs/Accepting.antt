@@ -14,8 +14,8 @@ use Rattle.info65.specs.Reader.{Place, State, after_group, at_attribute, at_brac
 use Rattle.info65.specs.Tokens.{TokenView}
 use Rattle.info65.specs.Values.{ValueView, value_of}
 use Rattle.info65.specs.Views.{OptionsView}
-use Rattle.info65.specs.declared.attribute.Attribute.{Attribute}
-use Rattle.info65.specs.declared.attribute.GroupKind.{GroupKind}
+use Rattle.info65.specs.declared.syntax.attribute.Attribute.{Attribute}
+use Rattle.info65.specs.declared.syntax.attribute.GroupKind.{GroupKind}
 use Rattle.info65.specs.declared.fault.InfoFault.{InfoFault}
 use Rattle.info65.specs.declared.fault.InfoFaultKind.{InfoFaultKind}
 use Rattle.info65.proofs.Cases.{by_result, by_test}

@@ -9,12 +9,13 @@ use Rattle.info65.specs.Names.{AreNames, blank_name, covering, covering_below, c
 use Rattle.info65.specs.Views.{NameView}
 use Rattle.info65.proofs.Cases.{by_test, same_some}
 
-record Last (names : List NameView) (a n : ℕ) (v : NameView) : Type 0 where
-  index : ℕ
-  low : index < n
-  covers_it : covers (name_at names index) a ≡ true
-  is : v ≡ name_at names index
-  later : (i : ℕ) → index < i → i < n → covers (name_at names i) a ≡ false
+-- the last of the first n names that cover the address
+pub record Last (names : List NameView) (a n : ℕ) (v : NameView) : Type 0 where
+  pub index : ℕ
+  pub low : index < n
+  pub covers_it : covers (name_at names index) a ≡ true
+  pub is : v ≡ name_at names index
+  pub later : (i : ℕ) → index < i → i < n → covers (name_at names i) a ≡ false
 
 below_hits : (names : List NameView) (a n : ℕ) → covers (name_at names n) a ≡ true → covering_below names (suc n) a ≡ Some (name_at names n)
 unfolding covering_below
@@ -65,12 +66,12 @@ covering_is : (names : List NameView) (a : ℕ) → covering names a ≡ coverin
 unfolding covering
 covering_is names a = refl
 
-last_of : (names : List NameView) (a : ℕ) (v : NameView) → covering names a ≡ Some v → Last names a (length names) v
-last_of names a v is = some_below names a (length names) v (sym (covering_is names a) ∙ is)
+pub last_name : (names : List NameView) (a : ℕ) (v : NameView) → covering names a ≡ Some v → Last names a (length names) v
+last_name names a v is = some_below names a (length names) v (sym (covering_is names a) ∙ is)
 
 highest : (names : List NameView) → AreNames names → (a : ℕ) (v : NameView) → covering names a ≡ Some v → IsHighest names a v
 highest names sorted a v is =
-    let r = last_of names a v is in
+    let r = last_name names a v is in
     let own = ap (λ (x : NameView). x.address) r.is in
     record {
       index = r.index;
@@ -88,7 +89,7 @@ highest names sorted a v is =
           (order i r.index);
     }
 
-none_covers : (names : List NameView) (a : ℕ) → covering names a ≡ None → (i : ℕ) → i < length names → covers (name_at names i) a ≡ false
+pub none_covers : (names : List NameView) (a : ℕ) → covering names a ≡ None → (i : ℕ) → i < length names → covers (name_at names i) a ≡ false
 none_covers names a is = none_below names a (length names) (sym (covering_is names a) ∙ is)
 
 pub covers_highest : CoversHighest
@@ -108,7 +109,7 @@ own_of names sorted i here None is =
     absurd (false≢true (sym (none_covers names v.address is i here) ∙ covers_own v.address v.size (sorted.each i blank_name here).sized))
 own_of names sorted i here (Some b) is =
     let v = name_at names i in
-    let r = last_of names v.address b is in
+    let r = last_name names v.address b is in
     let w = name_at names r.index in
     let begun = (and_parts (nat_le w.address v.address) (nat_lt v.address (w.address + w.size)) r.covers_it).0 in
     let below : w.address ≤ v.address = grind (arith, nat_tests, begun) in

@@ -6,7 +6,7 @@ use Rattle.std.specs.Option.{option_or, unwrap_or}
 use Rattle.std.proofs.lemmas.Bool.Decides.{nat_tests}
 use denote.Bor.{Bor}
 use denote.Enum.Bare.{same_true}
-use Rattle.info65.specs.contracts.attribute.Attribute as attribute_type
+use Rattle.info65.specs.contracts.syntax.attribute.Attribute as attribute_type
 use Rattle.info65.specs.Code.Groups.{IsAtMost}
 use Rattle.info65.specs.Attributes.{boolean_named, form_of, type_named}
 use Rattle.isa65.specs.Cpu.{cpu_named}
@@ -19,15 +19,15 @@ use Rattle.info65.specs.Settings.{settings_of}
 use Rattle.info65.specs.Tokens.{TokenView, tokens_of}
 use Rattle.info65.specs.Values.{HasForm, ValueView, a_number, a_name, as_name, as_number, boolean_of, boolean_value, comment_value, cpu_value, in_form, is_file_name, is_on_command_line, label_value, name_value, type_value, value_of}
 use Rattle.info65.specs.Views.{AreInLimits, AreOptions, IsColumn, OptionsView}
-use Rattle.info65.specs.declared.attribute.Attribute.{Attribute}
-use Rattle.info65.specs.declared.attribute.Attribute.TheVariants as attribute
-use Rattle.info65.specs.declared.attribute.Form.{Form}
-use Rattle.info65.specs.declared.attribute.Form.TheVariants as form
-use Rattle.info65.specs.declared.attribute.GroupKind.{GroupKind}
-use Rattle.info65.specs.declared.attribute.GroupKind.TheVariants as group_kind
+use Rattle.info65.specs.declared.syntax.attribute.Attribute.{Attribute}
+use Rattle.info65.specs.declared.syntax.attribute.Attribute.TheVariants as attribute
+use Rattle.info65.specs.declared.syntax.attribute.Form.{Form}
+use Rattle.info65.specs.declared.syntax.attribute.Form.TheVariants as form
+use Rattle.info65.specs.declared.syntax.attribute.GroupKind.{GroupKind}
+use Rattle.info65.specs.declared.syntax.attribute.GroupKind.TheVariants as group_kind
 use Rattle.isa65.specs.declared.cpu.Cpu.{Cpu}
 use Rattle.info65.specs.declared.fault.InfoFault.{InfoFault}
-use Rattle.info65.specs.declared.range.RangeType.{RangeType}
+use Rattle.info65.specs.declared.information.range.RangeType.{RangeType}
 use Rattle.info65.proofs.Accepting.{groups_accepted}
 use Rattle.info65.proofs.Cases.{by_test}
 

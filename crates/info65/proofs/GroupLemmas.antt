@@ -7,8 +7,8 @@ use Rattle.std.proofs.lemmas.List.{at_drop_all, at_drop_more}
 use Rattle.std.proofs.lemmas.List.Folds.{find-append, list_any-append}
 use Rattle.info65.specs.Code.Groups.{group_seen}
 use Rattle.info65.specs.Groups.{AssignmentView, GroupView, global_given, global_part, has, is_of, value_in}
-use Rattle.info65.specs.declared.attribute.Attribute.{Attribute}
-use Rattle.info65.specs.declared.assignment.Group.{Group}
+use Rattle.info65.specs.declared.syntax.attribute.Attribute.{Attribute}
+use Rattle.info65.specs.declared.syntax.assignment.Group.{Group}
 
 has_next : (a : Attribute) (g : GroupView) (gs : List GroupView) → has a (global_given (g ∷ gs)) ≡ (has a (global_part g) || has a (global_given gs))
 unfolding has global_given

@@ -1,16 +1,15 @@
 -- The names that a whole include file adds, and the fault that it is refused for.
-use Rattle.std.proofs.Common.{◌≡◌, ◌≢◌, ◌∙◌, ◌+◌, ◌≤◌, ◌<◌, ◌==◌, ℕ, Bool, List, [], ◌∷◌, ◌++◌, true, false, ap, append_assoc, arith, get_or, inl, inr, length, refl, subst, sym}
-use Rattle.std.specs.Prelude.{All, Any, Option, Some, None, Result, Ok, Err, ◌⊎◌, ◌↔◌, nat_lt, option_to_list}
+use Rattle.std.proofs.Common.{◌≡◌, ◌≢◌, ◌∙◌, ◌+◌, ◌≤◌, ℕ, Bool, List, [], ◌∷◌, ◌++◌, true, false, ap, append_assoc, arith, get_or, inl, inr, length, refl, subst, sym}
+use Rattle.std.specs.Prelude.{All, Option, Some, None, Result, Ok, Err, nat_lt, option_to_list}
 use Rattle.std.specs.List.{list_all, list_any}
 use Rattle.std.proofs.lemmas.Bool.{eq-eqb, eqb-true, ltb-false, ne_eqb}
 use Rattle.std.proofs.lemmas.Bool.Decides.{nat_tests}
 use Rattle.std.proofs.lemmas.List.{append-nil}
 use Rattle.std.proofs.lemmas.List.Folds.{Any-from_list_any, list_any-from_Any}
-use Rattle.info65.specs.Faults.{◌>>=◌, fault}
-use Rattle.info65.specs.IncludeLaws.{AreAdded, IncludedNames, IsBlankLine, IsFirstFault, IsIncluded, IsPassedOver, IsRefused, IsSpelling, LineAdds}
+use Rattle.info65.specs.Faults.{fault}
+use Rattle.info65.specs.IncludeLaws.{AreAdded, IncludedNames, IsIncluded, IsPassedOver, IsRefused, IsSpelling, LineAdds}
 use Rattle.info65.specs.Includes.{assignment_in, is_blank, judged, line_adds, line_in, lines_of, name_adds, names_included, names_with, optional_adds, or_bad, without_comment}
 use Rattle.info65.specs.Labels.{by_address, is_at, is_elsewhere}
-use Rattle.info65.specs.NameFaultLaws.{IsFree, IsReserved}
 use Rattle.info65.specs.Names.{is_reserved}
 use Rattle.info65.specs.Views.{IncludeView, NameView}
 use Rattle.info65.specs.declared.fault.InfoFault.{InfoFault}

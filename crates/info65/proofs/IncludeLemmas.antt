@@ -8,7 +8,7 @@ use Rattle.std.proofs.lemmas.Grind.{flat_map-append}
 use Rattle.std.proofs.lemmas.List.{append-nil, at_drop_all, at_drop_more}
 use Rattle.std.proofs.lemmas.List.Elements.{All-append}
 use denote.Enum.Bare.{same_true}
-use Rattle.info65.specs.contracts.attribute.Attribute as attribute_type
+use Rattle.info65.specs.contracts.syntax.attribute.Attribute as attribute_type
 use Rattle.info65.specs.Attributes.{form_of}
 use Rattle.info65.specs.Closing.{closing_fault, include_fault}
 use Rattle.info65.specs.Code.Groups.{group_seen}
@@ -20,12 +20,12 @@ use Rattle.info65.specs.Reader.{groups_of, read}
 use Rattle.info65.specs.Tokens.{tokens_of}
 use Rattle.info65.specs.Values.{HasForm, ValueView, a_boolean, a_character, a_name, as_boolean, as_character, as_name, is_file_name}
 use Rattle.info65.specs.Views.{IncludeView, OptionsView}
-use Rattle.info65.specs.declared.assignment.Group.{Group}
-use Rattle.info65.specs.declared.attribute.Attribute.{Attribute}
-use Rattle.info65.specs.declared.attribute.Attribute.TheVariants as attribute
-use Rattle.info65.specs.declared.attribute.Form.TheVariants as form
-use Rattle.info65.specs.declared.attribute.GroupKind.{GroupKind}
-use Rattle.info65.specs.declared.attribute.GroupKind.TheVariants as kind
+use Rattle.info65.specs.declared.syntax.assignment.Group.{Group}
+use Rattle.info65.specs.declared.syntax.attribute.Attribute.{Attribute}
+use Rattle.info65.specs.declared.syntax.attribute.Attribute.TheVariants as attribute
+use Rattle.info65.specs.declared.syntax.attribute.Form.TheVariants as form
+use Rattle.info65.specs.declared.syntax.attribute.GroupKind.{GroupKind}
+use Rattle.info65.specs.declared.syntax.attribute.GroupKind.TheVariants as kind
 use Rattle.info65.specs.declared.fault.InfoFaultKind.{InfoFaultKind}
 use Rattle.info65.proofs.Accepting.{groups_accepted}
 use Rattle.info65.proofs.Cases.{by_test}

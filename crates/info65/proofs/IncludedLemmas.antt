@@ -22,8 +22,8 @@ use Rattle.info65.specs.Sound.{IsSound}
 use Rattle.info65.specs.Views.{IncludeView, InfoView, NameView}
 use Rattle.info65.specs.declared.fault.InfoFault.{InfoFault}
 use Rattle.info65.specs.declared.fault.InfoFaultKind.{InfoFaultKind}
-use Rattle.info65.specs.declared.index.Index.{Index}
-use Rattle.info65.specs.declared.name.Given.{Given}
+use Rattle.info65.specs.declared.lookup.index.Index.{Index}
+use Rattle.info65.specs.declared.information.name.Given.{Given}
 use Rattle.info65.specs.declared.fault.InfoFaultKind.TheVariants.{BadName, NameTwice, ReservedName, TooLarge}
 use Rattle.info65.proofs.Cases.{by_result, by_test}
 use Rattle.info65.proofs.IndexLemmas.{fault_none, no_fault}

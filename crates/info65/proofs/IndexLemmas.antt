@@ -16,8 +16,8 @@ use Rattle.std.proofs.lemmas.Slice.Eq.{bytes_eq-Decides}
 use Rattle.info65.specs.Closing.{closing_fault, label_fault, optional_name_fault, range_fault}
 use Rattle.info65.specs.Code.Names.{given_seen}
 use Rattle.info65.specs.Groups.{AssignmentView, GroupView}
-use Rattle.info65.specs.declared.attribute.GroupKind.{GroupKind}
-use Rattle.info65.specs.declared.attribute.GroupKind.TheVariants as kind
+use Rattle.info65.specs.declared.syntax.attribute.GroupKind.{GroupKind}
+use Rattle.info65.specs.declared.syntax.attribute.GroupKind.TheVariants as kind
 use Rattle.info65.specs.Code.Index.{IsIndex, any_in, found_in, own, text_at}
 use Rattle.info65.specs.Code.Texts.{AreTexts, StandsToo, TextsView, stands_in}
 use Rattle.info65.specs.Labels.{is_at, is_elsewhere, label_in, name_fault, name_part, named_at, names_from, names_said, range_name}
@@ -26,8 +26,8 @@ use Rattle.info65.specs.Ranges.{has_address, overlaps, range_in, ranges_of}
 use Rattle.info65.specs.Views.{NameView}
 use Rattle.info65.specs.declared.fault.InfoFaultKind.{InfoFaultKind}
 use Rattle.info65.specs.declared.fault.InfoFaultKind.TheVariants.{AddressTwice, NameTwice, RangesOverlap, ReservedName}
-use Rattle.info65.specs.declared.name.Given.{Given}
-use Rattle.info65.specs.declared.range.RangeSpec.{RangeSpec}
+use Rattle.info65.specs.declared.information.name.Given.{Given}
+use Rattle.info65.specs.declared.information.range.RangeSpec.{RangeSpec}
 use Rattle.info65.proofs.Cases.{by_test, or_last, same_ok}
 use Rattle.info65.proofs.RangeLemmas.{any_shared, closes_range, ranges_more, shared_overlap}
 

@@ -9,7 +9,8 @@ mod IncludeLines
 mod IncludeRows
 mod IncludedLemmas
 mod IndexLemmas
-mod Laws
+mod FileLaws
+mod KeptLemmas
 mod LayoutLemmas
 mod NameFaultLemmas
 mod NameLemmas

@@ -17,10 +17,10 @@ use Rattle.info65.specs.NameFaultLaws.{AreDistinct, AreFaultless, DistinctAccept
 use Rattle.info65.specs.Names.{is_reserved}
 use Rattle.info65.specs.Ranges.{overlaps, range_in, ranges_of}
 use Rattle.info65.specs.Views.{NameView}
-use Rattle.info65.specs.declared.attribute.GroupKind.TheVariants as kind
+use Rattle.info65.specs.declared.syntax.attribute.GroupKind.TheVariants as kind
 use Rattle.info65.specs.declared.fault.InfoFaultKind.{InfoFaultKind}
 use Rattle.info65.specs.declared.fault.InfoFaultKind.TheVariants.{AddressTwice, NameTwice, ReservedName}
-use Rattle.info65.specs.declared.range.RangeSpec.{RangeSpec}
+use Rattle.info65.specs.declared.information.range.RangeSpec.{RangeSpec}
 use Rattle.info65.proofs.Cases.{by_test}
 use Rattle.info65.proofs.IndexLemmas.{fault_elsewhere, fault_none, fault_reserved, fault_taken, range_overlaps}
 use Rattle.info65.proofs.RangeLemmas.{overlaps_share}

@@ -23,13 +23,13 @@ use Rattle.info65.specs.Reader.{groups_of, read}
 use Rattle.info65.specs.Tokens.{tokens_of}
 use Rattle.info65.specs.Values.{HasForm, ValueView, a_comment, a_name, as_address, as_comment, as_name, as_number}
 use Rattle.info65.specs.Views.{NameView, OptionsView}
-use Rattle.info65.specs.declared.attribute.Attribute.TheVariants as attribute
-use Rattle.info65.specs.declared.attribute.Form.TheVariants as form
-use Rattle.info65.specs.declared.attribute.GroupKind.{GroupKind}
-use Rattle.info65.specs.declared.attribute.GroupKind.TheVariants as kind
+use Rattle.info65.specs.declared.syntax.attribute.Attribute.TheVariants as attribute
+use Rattle.info65.specs.declared.syntax.attribute.Form.TheVariants as form
+use Rattle.info65.specs.declared.syntax.attribute.GroupKind.{GroupKind}
+use Rattle.info65.specs.declared.syntax.attribute.GroupKind.TheVariants as kind
 use Rattle.info65.specs.declared.fault.InfoFaultKind.{InfoFaultKind}
 use Rattle.info65.specs.declared.fault.InfoFaultKind.TheVariants.{OutOfRange}
-use Rattle.info65.specs.declared.range.RangeSpec.{RangeSpec}
+use Rattle.info65.specs.declared.information.range.RangeSpec.{RangeSpec}
 use Rattle.info65.proofs.Accepting.{groups_accepted}
 use Rattle.info65.proofs.Cases.{by_test, same_ok, same_some}
 use Rattle.info65.proofs.FormLemmas.{found_formed, groups_formed, size_in}

@@ -6,15 +6,15 @@ use Rattle.std.proofs.lemmas.List.Folds.{list_any-append}
 use Rattle.std.proofs.lemmas.Grind.{flat_map-append}
 use Rattle.std.proofs.lemmas.Bool.{and_left, and_right, or_from, or_parts}
 use denote.Enum.Bare.{false_same, sameb, same_false}
-use Rattle.info65.specs.contracts.attribute.Attribute as attribute_type
+use Rattle.info65.specs.contracts.syntax.attribute.Attribute as attribute_type
 use Rattle.info65.specs.Grammar.{AreGroups, AreNew}
 use Rattle.info65.specs.Groups.{AssignmentView, GroupView, global_given, global_part, given_before, has, has_instead, is_given, is_of}
 use Rattle.info65.specs.Laws.{AreOnce, GivenOnce, GlobalOnce, IsOnce}
 use Rattle.info65.specs.Values.{ValueView}
-use Rattle.info65.specs.declared.attribute.Attribute.{Attribute}
-use Rattle.info65.specs.declared.attribute.Attribute.TheVariants as attribute
-use Rattle.info65.specs.declared.attribute.GroupKind.{GroupKind}
-use Rattle.info65.specs.declared.attribute.GroupKind.TheVariants as group
+use Rattle.info65.specs.declared.syntax.attribute.Attribute.{Attribute}
+use Rattle.info65.specs.declared.syntax.attribute.Attribute.TheVariants as attribute
+use Rattle.info65.specs.declared.syntax.attribute.GroupKind.{GroupKind}
+use Rattle.info65.specs.declared.syntax.attribute.GroupKind.TheVariants as group
 use Rattle.info65.proofs.Cases.{or_last}
 
 other : (a b : Attribute) → sameb attribute_type.the_type a b ≡ false → sameb attribute_type.the_type b a ≡ false

@@ -9,8 +9,8 @@ use Rattle.std.proofs.lemmas.Bool.Decides.{eqb_tells, nat_tests}
 use Rattle.info65.specs.Code.Pool.{AreAbove, IsPool, IsWithin, ReachTo, blank_entry, bytes_of, entry_seen, optional, reach_of, rest_after, span_of}
 use Rattle.info65.specs.Names.{AreNames, blank_name, covering, covering_below, covers, name_at}
 use Rattle.info65.specs.Views.{NameView}
-use Rattle.info65.specs.declared.pool.Entry.{Entry}
-use Rattle.info65.specs.declared.pool.Span.{Span}
+use Rattle.info65.specs.declared.information.pool.Entry.{Entry}
+use Rattle.info65.specs.declared.information.pool.Span.{Span}
 use Rattle.info65.proofs.Cases.{by_test}
 
 pub seen_at : (pool : List ℕ) (es : List Entry) (i : ℕ) (d : Entry) → i < length es → name_at (map (entry_seen pool) es) i ≡ entry_seen pool (get_or es i d)

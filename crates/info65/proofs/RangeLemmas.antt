@@ -1,9 +1,9 @@
 -- The ranges of an accepted file: what their groups say, and that no two share an address.
-use Rattle.std.proofs.Common.{◌≡◌, ◌∙◌, ◌≤◌, ◌<◌, ◌+◌, ◌-◌, ◌&&◌, ℕ, zero, suc, List, [], ◌∷◌, ◌++◌, true, false, ap, append_assoc, arith, drop, get_or, inl, inr, length, map, refl, subst, sym}
+use Rattle.std.proofs.Common.{◌≡◌, ◌∙◌, ◌≤◌, ◌<◌, ◌+◌, ◌-◌, ◌&&◌, ℕ, zero, suc, List, [], ◌∷◌, ◌++◌, true, false, ap, append_assoc, arith, get_or, inl, inr, length, refl, subst, sym}
 use Rattle.std.specs.Prelude.{All, AllPairs, Any, IfSome, Option, Some, None, Result, Ok, Err, ◌⊎◌, nat_le}
 use Rattle.std.specs.List.{flat_map, list_any}
 use Rattle.std.proofs.lemmas.Bool.Decides.{nat_tests}
-use Rattle.std.proofs.lemmas.List.{append-nil, at_drop_all, at_drop_more}
+use Rattle.std.proofs.lemmas.List.{append-nil}
 use Rattle.std.proofs.lemmas.List.Elements.{All-append}
 use Rattle.std.proofs.lemmas.List.Folds.{Any-from_list_any, list_any_at, list_any-from_Any}
 use Rattle.std.proofs.lemmas.List.Quantifiers.{all_pairs_push}
@@ -11,7 +11,6 @@ use Rattle.std.proofs.lemmas.Grind.{flat_map-append}
 use Rattle.std.proofs.lemmas.Bool.{and_parts}
 use Rattle.info65.specs.Attributes.{form_of}
 use Rattle.info65.specs.Closing.{closing_fault, optional_name_fault, range_fault}
-use Rattle.info65.specs.Code.Groups.{group_seen}
 use Rattle.info65.specs.Comments.{lacks_name}
 use Rattle.info65.specs.Grammar.{AreGroups}
 use Rattle.info65.specs.Groups.{AreAllFormed, AreFormed, AssignmentView, GroupView, value_in}
@@ -23,31 +22,18 @@ use Rattle.info65.specs.Reader.{groups_of, read}
 use Rattle.info65.specs.Tokens.{tokens_of}
 use Rattle.info65.specs.Values.{ValueView, a_number, a_type, an_address, as_address, as_number, as_type}
 use Rattle.info65.specs.Views.{NameView, OptionsView}
-use Rattle.info65.specs.declared.attribute.Attribute.TheVariants as attribute
-use Rattle.info65.specs.declared.attribute.GroupKind.{GroupKind}
-use Rattle.info65.specs.declared.attribute.GroupKind.TheVariants as kind
+use Rattle.info65.specs.declared.syntax.attribute.Attribute.TheVariants as attribute
+use Rattle.info65.specs.declared.syntax.attribute.GroupKind.{GroupKind}
+use Rattle.info65.specs.declared.syntax.attribute.GroupKind.TheVariants as kind
 use Rattle.info65.specs.declared.fault.InfoFaultKind.{InfoFaultKind}
 use Rattle.info65.specs.declared.fault.InfoFaultKind.TheVariants.{AddressTwice, Missing, NameTwice, OutOfRange, RangesOverlap, ReservedName}
-use Rattle.info65.specs.declared.assignment.Group.{Group}
-use Rattle.info65.specs.declared.range.RangeSpec.{RangeSpec}
-use Rattle.info65.specs.declared.range.RangeType.{RangeType}
+use Rattle.info65.specs.declared.information.range.RangeSpec.{RangeSpec}
+use Rattle.info65.specs.declared.information.range.RangeType.{RangeType}
 use Rattle.info65.proofs.Accepting.{groups_accepted}
 use Rattle.info65.proofs.Cases.{by_test}
 use Rattle.info65.proofs.FormLemmas.{found_formed, groups_formed, size_in}
 
 -- ---- group by group
-
--- the group at a place of the list is the next
-pub ranges_next : {Z : Type 0} (gs : List (Group Z)) (i : ℕ) (x : Group Z) → i < length gs → x ≡ get_or gs i x
-    → ranges_of (map group_seen (drop i gs)) ≡ range_part (group_seen x) ++ ranges_of (map group_seen (drop (i + 1) gs))
-unfolding ranges_of
-ranges_next gs i x here is =
-    at_drop_more (λ l. ranges_of (map group_seen l)) gs i x here
-    ∙ ap (λ y. ranges_of (group_seen y ∷ map group_seen (drop (i + 1) gs))) (sym is)
-
-pub ranges_none : {Z : Type 0} (gs : List (Group Z)) (i : ℕ) → length gs ≤ i → ranges_of (map group_seen (drop i gs)) ≡ []
-unfolding ranges_of
-ranges_none gs i past = at_drop_all (λ l. ranges_of (map group_seen l)) gs i past
 
 pub ranges_more : (before : List GroupView) (g : GroupView) → ranges_of (before ++ g ∷ []) ≡ ranges_of before ++ range_part g
 unfolding ranges_of

@@ -13,12 +13,12 @@ use Rattle.info65.specs.Code.Steps.{kind_seen}
 use Rattle.info65.specs.Tokens.{Stream, TokenView, ended, refused, with_token}
 use Rattle.info65.specs.Values.{ValueView}
 use Rattle.info65.specs.Views.{OptionsView}
-use Rattle.info65.specs.declared.attribute.Attribute.{Attribute}
-use Rattle.info65.specs.declared.attribute.GroupKind.{GroupKind}
+use Rattle.info65.specs.declared.syntax.attribute.Attribute.{Attribute}
+use Rattle.info65.specs.declared.syntax.attribute.GroupKind.{GroupKind}
 use Rattle.info65.specs.declared.fault.InfoFault.{InfoFault}
 use Rattle.info65.specs.declared.fault.InfoFaultKind.TheVariants.{Expected, UnknownGroup}
-use Rattle.info65.specs.declared.token.TokenKind.{TokenKind}
-use Rattle.info65.specs.declared.token.TokenKind.TheVariants as kind
+use Rattle.info65.specs.declared.syntax.token.TokenKind.{TokenKind}
+use Rattle.info65.specs.declared.syntax.token.TokenKind.TheVariants as kind
 
 -- the next token is read
 pub read_next : (o : OptionsView) (p : Place) (b : List GroupView) (t : TokenView) (old new : Stream) → old ≡ with_token t new → read o p b old ≡ read_token o p b t new

@@ -10,7 +10,7 @@ use Rattle.info65.specs.Code.SegmentTable.{AreKeys, IsHolder}
 use Rattle.info65.specs.Code.Segments.{segment_seen}
 use Rattle.info65.specs.Segments.{AreSegments, blank_segment, contains, first_named, segment_at, segment_covering, segment_key}
 use Rattle.info65.specs.Views.{SegmentView}
-use Rattle.info65.specs.declared.segment.SegmentSpec.{SegmentSpec}
+use Rattle.info65.specs.declared.information.segment.SegmentSpec.{SegmentSpec}
 use Rattle.info65.proofs.Cases.{by_test}
 use Rattle.info65.proofs.SegmentCovering.{covers_one, one_contains}
 

@@ -1,12 +1,12 @@
 -- Where the texts of names are found.
-use Rattle.std.proofs.Common.{◌≡◌, ◌∙◌, ◌==◌, ℕ, Bool, List, [], ◌∷◌, true, false, ap, get_or, refl, subst, sym, if◌then◌else◌}
+use Rattle.std.proofs.Common.{◌≡◌, ◌∙◌, ◌==◌, ℕ, List, true, false, ap, get_or, refl, sym, if◌then◌else◌}
 use Rattle.std.specs.Prelude.{Option, Some, None}
 use Rattle.std.specs.Str.{bytes_eq}
-use Rattle.std.proofs.lemmas.Bool.{eq-eqb, eqb-true, false≢true}
+use Rattle.std.proofs.lemmas.Bool.{eq-eqb, eqb-true}
 use Rattle.std.proofs.lemmas.Slice.Eq.{bytes_eq-Decides}
 use Rattle.info65.specs.Code.Slots.{slot_of}
 use Rattle.info65.specs.Code.Texts.{AreTexts, StandsToo, TextsView, by_slot, if_its_text, slotted, stands_in}
-use Rattle.info65.specs.declared.name.Given.{Given}
+use Rattle.info65.specs.declared.information.name.Given.{Given}
 use Rattle.info65.proofs.Cases.{by_test}
 
 same_text : (t u : List ℕ) → bytes_eq t u ≡ true → t ≡ u

@@ -1,7 +1,9 @@
 -- What ties the code to the rules: what contracts see of the code's own types, and what its parts return.
+pub mod GroupLists
 pub mod Groups
 pub mod Includes
 pub mod Index
+pub mod Kept
 pub mod Names
 pub mod Pool
 pub mod Reading

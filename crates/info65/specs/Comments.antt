@@ -2,7 +2,7 @@
 use Rattle.std.specs.Prelude.{◌&&◌, ◌∷◌, ℕ, Bool, not, List, Option, Some, None, is_some}
 use Rattle.info65.specs.Groups.{AssignmentView, has, value_in}
 use Rattle.info65.specs.Values.{as_comment}
-use Rattle.info65.specs.declared.attribute.Attribute.TheVariants as attribute
+use Rattle.info65.specs.declared.syntax.attribute.Attribute.TheVariants as attribute
 
 -- an empty comment counts as none
 abbrev pub not_empty : Option (List ℕ) → Option (List ℕ)

@@ -2,13 +2,13 @@
 use Rattle.std.specs.Prelude.{◌||◌, Bool, false, List, [], Option, option_map}
 use Rattle.std.specs.List.{AllByRecursion, find, flat_map, list_any}
 use denote.Enum.Bare.{sameb}
-use Rattle.info65.specs.contracts.attribute.Attribute as attribute_type
+use Rattle.info65.specs.contracts.syntax.attribute.Attribute as attribute_type
 use Rattle.info65.specs.Attributes.{form_of}
 use Rattle.info65.specs.Values.{HasForm, ValueView}
-use Rattle.info65.specs.declared.attribute.Attribute.{Attribute}
-use Rattle.info65.specs.declared.attribute.Attribute.TheVariants as attribute
-use Rattle.info65.specs.declared.attribute.GroupKind.{GroupKind}
-use Rattle.info65.specs.declared.attribute.GroupKind.TheVariants as group
+use Rattle.info65.specs.declared.syntax.attribute.Attribute.{Attribute}
+use Rattle.info65.specs.declared.syntax.attribute.Attribute.TheVariants as attribute
+use Rattle.info65.specs.declared.syntax.attribute.GroupKind.{GroupKind}
+use Rattle.info65.specs.declared.syntax.attribute.GroupKind.TheVariants as group
 
 -- an attribute and its value
 pub record AssignmentView : Type 0 where

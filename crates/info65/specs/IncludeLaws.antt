@@ -1,5 +1,5 @@
 -- Laws of include files: which there are, what a line of one spells, and which names a whole file adds.
-use Rattle.std.specs.Prelude.{◌≡◌, ◌≢◌, ◌⊎◌, ◌↔◌, ◌++◌, ◌==◌, ◌+◌, ◌<◌, ◌≤◌, ℕ, Bool, not, true, false, List, [], ◌∷◌, Option, Some, None, Result, Ok, Err, All, Any, codes, length}
+use Rattle.std.specs.Prelude.{◌≡◌, ◌≢◌, ◌⊎◌, ◌↔◌, ◌++◌, ◌==◌, ◌+◌, ◌<◌, ◌≤◌, ℕ, not, true, false, List, [], ◌∷◌, Option, Some, None, Result, Ok, Err, All, Any, codes, length}
 use Rattle.std.specs.List.{list_all}
 use Rattle.std.specs.Str.Parse.{digits_value}
 use Rattle.info65.specs.Faults.{fault}
@@ -12,9 +12,9 @@ use Rattle.info65.specs.Lexemes.{are_digits}
 use Rattle.info65.specs.NameFaultLaws.{IsFree, IsReserved}
 use Rattle.info65.specs.Values.{ValueView, a_boolean, a_character, a_name}
 use Rattle.info65.specs.Views.{IncludeView, InfoView, NameView, OptionsView}
-use Rattle.info65.specs.declared.attribute.Attribute.TheVariants as attribute
-use Rattle.info65.specs.declared.attribute.GroupKind.{GroupKind}
-use Rattle.info65.specs.declared.attribute.GroupKind.TheVariants as group
+use Rattle.info65.specs.declared.syntax.attribute.Attribute.TheVariants as attribute
+use Rattle.info65.specs.declared.syntax.attribute.GroupKind.{GroupKind}
+use Rattle.info65.specs.declared.syntax.attribute.GroupKind.TheVariants as group
 use Rattle.info65.specs.declared.fault.InfoFault.{InfoFault}
 use Rattle.info65.specs.declared.fault.InfoFaultKind.{InfoFaultKind}
 use Rattle.info65.specs.declared.fault.InfoFaultKind.TheVariants.{BadInclude, BadName, NameTwice, ReservedName, TooLarge}

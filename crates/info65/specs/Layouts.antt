@@ -2,11 +2,11 @@
 use Rattle.std.specs.Prelude.{◌≡◌, ◌⊎◌, ◌*◌, ◌≤◌, ℕ}
 use Rattle.isa65.specs.declared.byte_order.ByteOrder.{ByteOrder}
 use Rattle.isa65.specs.declared.byte_order.ByteOrder.TheVariants.{LittleEndian, BigEndian}
-use Rattle.info65.specs.declared.range.Entry.{Entry}
-use Rattle.info65.specs.declared.range.Entry.TheVariants.{Instruction, Number, Address, Return, Character, Skipped}
-use Rattle.info65.specs.declared.range.Layout.{Layout}
-use Rattle.info65.specs.declared.range.RangeType.{RangeType}
-use Rattle.info65.specs.declared.range.RangeType.TheVariants as range_type
+use Rattle.info65.specs.declared.information.range.Entry.{Entry}
+use Rattle.info65.specs.declared.information.range.Entry.TheVariants.{Instruction, Number, Address, Return, Character, Skipped}
+use Rattle.info65.specs.declared.information.range.Layout.{Layout}
+use Rattle.info65.specs.declared.information.range.RangeType.{RangeType}
+use Rattle.info65.specs.declared.information.range.RangeType.TheVariants as range_type
 
 -- how many bytes an entry has, how many entries a line takes at most, and what an entry is
 abbrev pub row : ℕ → ℕ → Entry → Layout

@@ -4,8 +4,8 @@ use Rattle.std.specs.List.{list_all, prefix_len}
 use Rattle.std.specs.Char.{is_ascii_alphabetic, is_ascii_alphanumeric, is_ascii_digit, is_ascii_hexdigit, is_digit}
 use Rattle.std.specs.Str.Parse.{digits_value}
 use Rattle.info65.specs.Faults.{fault}
-use Rattle.info65.specs.declared.lexeme.Class.{Class}
-use Rattle.info65.specs.declared.lexeme.Class.TheVariants as class
+use Rattle.info65.specs.declared.syntax.lexeme.Class.{Class}
+use Rattle.info65.specs.declared.syntax.lexeme.Class.TheVariants as class
 use Rattle.info65.specs.declared.fault.InfoFault.{InfoFault}
 use Rattle.info65.specs.declared.fault.InfoFaultKind.TheVariants.{BadByte, OpenString, BadNumber}
 

@@ -10,10 +10,10 @@ use Rattle.info65.specs.Laws.{Share}
 use Rattle.info65.specs.Names.{default_name, is_reserved, registers}
 use Rattle.info65.specs.Ranges.{range_in, ranges_of}
 use Rattle.info65.specs.Views.{NameView}
-use Rattle.info65.specs.declared.attribute.GroupKind.TheVariants as group
+use Rattle.info65.specs.declared.syntax.attribute.GroupKind.TheVariants as group
 use Rattle.info65.specs.declared.fault.InfoFaultKind.{InfoFaultKind}
 use Rattle.info65.specs.declared.fault.InfoFaultKind.TheVariants.{AddressTwice, NameTwice, ReservedName}
-use Rattle.info65.specs.declared.range.RangeSpec.{RangeSpec}
+use Rattle.info65.specs.declared.information.range.RangeSpec.{RangeSpec}
 
 -- ---- reserved names
 

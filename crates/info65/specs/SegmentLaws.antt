@@ -6,9 +6,9 @@ use Rattle.info65.specs.Groups.{AssignmentView, GroupView, value_in}
 use Rattle.info65.specs.Segments.{AreSegments, contains, segment_at, segment_covering, segment_in, segments_of}
 use Rattle.info65.specs.Values.{a_name, an_address}
 use Rattle.info65.specs.Views.{InfoView, OptionsView, SegmentView}
-use Rattle.info65.specs.declared.attribute.Attribute.TheVariants as attribute
-use Rattle.info65.specs.declared.attribute.GroupKind.{GroupKind}
-use Rattle.info65.specs.declared.attribute.GroupKind.TheVariants as group
+use Rattle.info65.specs.declared.syntax.attribute.Attribute.TheVariants as attribute
+use Rattle.info65.specs.declared.syntax.attribute.GroupKind.{GroupKind}
+use Rattle.info65.specs.declared.syntax.attribute.GroupKind.TheVariants as group
 use Rattle.info65.specs.declared.fault.InfoFaultKind.TheVariants.{SegmentsOverlap}
 
 -- What is given in a group SEGMENT says this segment: START is its first address, END its last, and NAME

@@ -7,9 +7,9 @@ use Rattle.info65.specs.Groups.{AssignmentView, GroupView, value_in}
 use Rattle.info65.specs.Names.{has_name_form}
 use Rattle.info65.specs.Values.{as_address, as_name}
 use Rattle.info65.specs.Views.{SegmentView}
-use Rattle.info65.specs.declared.attribute.Attribute.TheVariants as attribute
-use Rattle.info65.specs.declared.attribute.GroupKind.{GroupKind}
-use Rattle.info65.specs.declared.attribute.GroupKind.TheVariants as group
+use Rattle.info65.specs.declared.syntax.attribute.Attribute.TheVariants as attribute
+use Rattle.info65.specs.declared.syntax.attribute.GroupKind.{GroupKind}
+use Rattle.info65.specs.declared.syntax.attribute.GroupKind.TheVariants as group
 use Rattle.info65.specs.declared.fault.InfoFaultKind.{InfoFaultKind}
 use Rattle.info65.specs.declared.fault.InfoFaultKind.TheVariants.{Missing, OutOfRange}
 

@@ -9,7 +9,7 @@ use Rattle.info65.specs.Ranges.{ranges_of}
 use Rattle.info65.specs.Segments.{segments_of}
 use Rattle.info65.specs.Values.{as_boolean, as_name, as_number, as_address, as_cpu}
 use Rattle.info65.specs.Views.{InfoView, OptionsView, SettingsView}
-use Rattle.info65.specs.declared.attribute.Attribute.TheVariants as attribute
+use Rattle.info65.specs.declared.syntax.attribute.Attribute.TheVariants as attribute
 
 -- the settings that options and the groups GLOBAL give
 unfoldable pub settings_of : OptionsView → List AssignmentView → SettingsView

@@ -9,13 +9,13 @@ use Rattle.info65.specs.Lexemes.{KindView, character, number, string, word}
 use Rattle.info65.specs.Names.{has_comment_form, has_name_form}
 use Rattle.info65.specs.Tokens.{TokenView}
 use Rattle.info65.specs.Views.{OptionsView}
-use Rattle.info65.specs.declared.attribute.Attribute.{Attribute}
-use Rattle.info65.specs.declared.attribute.Attribute.TheVariants as attribute
-use Rattle.info65.specs.declared.attribute.Form.{Form}
-use Rattle.info65.specs.declared.attribute.Form.TheVariants as form
+use Rattle.info65.specs.declared.syntax.attribute.Attribute.{Attribute}
+use Rattle.info65.specs.declared.syntax.attribute.Attribute.TheVariants as attribute
+use Rattle.info65.specs.declared.syntax.attribute.Form.{Form}
+use Rattle.info65.specs.declared.syntax.attribute.Form.TheVariants as form
 use Rattle.info65.specs.declared.fault.InfoFault.{InfoFault}
 use Rattle.info65.specs.declared.fault.InfoFaultKind.TheVariants.{Expected, OutOfRange, BadName, NameConflict}
-use Rattle.info65.specs.declared.range.RangeType.{RangeType}
+use Rattle.info65.specs.declared.information.range.RangeType.{RangeType}
 
 -- the value of an attribute
 pub data ValueView : Type 0 where

@@ -3,7 +3,7 @@ use Rattle.std.specs.Prelude.{◌≤◌, ℕ, Bool, false, IfSome, List, Option,
 use Rattle.std.specs.String.{string_bytes}
 use Rattle.isa65.specs.declared.cpu.Cpu.{Cpu}
 use Rattle.isa65.specs.declared.cpu.Cpu.TheVariants.{M6502}
-use Rattle.info65.specs.declared.range.RangeSpec.{RangeSpec}
+use Rattle.info65.specs.declared.information.range.RangeSpec.{RangeSpec}
 
 abbrev pub name_seen : {Z : Type 0} → Option (String Z) → Option (List ℕ)
 name_seen = option_map string_bytes

@@ -7,21 +7,21 @@ use Rattle.std.proofs.lemmas.Bool.Decides.{nat_tests}
 use Rattle.std.specs.List.{list_any}
 use Rattle.std.specs.Str.{str_eq_ignore_ascii_case}
 use Rattle.isa65.specs.Mnemonic.{mnemonic_named}
-use Rattle.info65.proofs.Public.{layout_some}
+use Rattle.info65.proofs.Public.{last_name, layout_some, none_covers}
 use Rattle.info65.specs.Names.{AreNames, blank_name, covering, covers, default_name, hex_digit, is_like_default, is_reserved, is_upper_hex, name_at, registers}
 use Rattle.info65.specs.Views.{NameView}
-use Rattle.info65.specs.declared.range.RangeType.{RangeType}
-use Rattle.info65.specs.declared.range.RangeType.TheVariants.{Code}
+use Rattle.info65.specs.declared.information.range.RangeType.{RangeType}
+use Rattle.info65.specs.declared.information.range.RangeType.TheVariants.{Code}
 use Rattle.map65.proofs.ItemLaws.{begun, item_law}
 use Rattle.map65.proofs.ItemLemmas.{is_cut_at, joined-uncut}
-use Rattle.map65.proofs.NameLemmas.{base-covered, base-wanted, home-default, home-given, last-name, name-low, none-covers}
-use Rattle.map65.proofs.NameLaws.{home-home, home-inner, home-low, home-wanted, under, wide-shown}
+use Rattle.map65.proofs.NameLemmas.{base-covered, base-referenced, entry_start-default, entry_start-given, name-low}
+use Rattle.map65.proofs.NameLaws.{entry_start-entry_start, entry_start-inner, entry_start-low, entry_start-referenced, under, wide-shown}
 use Rattle.map65.proofs.PieceLaws.{own-some}
 use Rattle.map65.specs.Bases.{BaseLaw, IsInCode, PlaceLaw}
 use Rattle.map65.specs.ImageView.{byte_at, is_inside}
-use Rattle.map65.specs.Items.{item_len, size_at, size_for, wanted_at}
+use Rattle.map65.specs.Items.{item_len, size_at, size_for, full_len_at}
 use Rattle.map65.specs.MapView.{MapView}
-use Rattle.map65.specs.Names.{Base, IsInner, base_at, base_by, default_base, given_base, home, home_base, is_wanted, place_in, place_of}
+use Rattle.map65.specs.Names.{Base, IsInner, base_at, base_by, default_base, given_base, entry_start, entry_base, is_referenced, place_in, place_of}
 use Rattle.map65.specs.Pieces.{are_joined, is_joined, is_own}
 use Rattle.map65.specs.Roles.{is_skip, is_wide, role_at, role_of, unit_of}
 use Rattle.map65.specs.declared.name.Place.TheVariants.{Constant, Forward, Label}
@@ -36,13 +36,13 @@ pub record FromName (m : MapView) (a : ℕ) (b : Base) : Type 0 where
   pub covers_it : covering m.info.names at ≡ Some name
   pub is : b ≡ given_base name
 
--- or from an address that is wanted
+-- or from an address that is referenced
 pub record FromAddress (m : MapView) (a : ℕ) (b : Base) : Type 0 where
   pub at : ℕ
   pub low : at ≤ a
   pub none : covering m.info.names at ≡ None
-  pub wanted : is_wanted m at ≡ true
-  pub home_is : home m at ≡ at
+  pub referenced : is_referenced m at ≡ true
+  pub start_is : entry_start m at ≡ at
   pub is : b ≡ default_base at
 
 some-base : (b c : Base) → Some b ≡ Some c → b ≡ c
@@ -51,18 +51,18 @@ some-base b c is = cc
 not-base : (b : Base) → None ≡ Some b → ⊥
 not-base b is = cc
 
-from-home : (m : MapView) (a : ℕ) (b : Base) → is_wanted m a ≡ true → home_base m a ≡ b → (o : Option NameView) → covering m.info.names (home m a) ≡ o → FromName m a b ⊎ FromAddress m a b
-from-home m a b wanted is (Some v) covers_it = inl (record { at = home m a; low = home-low m a; name = v; covers_it = covers_it; is = sym is ∙ home-given m a v covers_it })
-from-home m a b wanted is None none = inr (record { at = home m a; low = home-low m a; none = none; wanted = home-wanted m a wanted; home_is = home-home m a; is = sym is ∙ home-default m a none })
+from-entry_start : (m : MapView) (a : ℕ) (b : Base) → is_referenced m a ≡ true → entry_base m a ≡ b → (o : Option NameView) → covering m.info.names (entry_start m a) ≡ o → FromName m a b ⊎ FromAddress m a b
+from-entry_start m a b referenced is (Some v) covers_it = inl (record { at = entry_start m a; low = entry_start-low m a; name = v; covers_it = covers_it; is = sym is ∙ entry_start-given m a v covers_it })
+from-entry_start m a b referenced is None none = inr (record { at = entry_start m a; low = entry_start-low m a; none = none; referenced = entry_start-referenced m a referenced; start_is = entry_start-entry_start m a; is = sym is ∙ entry_start-default m a none })
 
-from : (m : MapView) (a : ℕ) (b : Base) (o : Option NameView) (w : Bool) → covering m.info.names a ≡ o → is_wanted m a ≡ w → base_by o w (home_base m a) ≡ Some b → FromName m a b ⊎ FromAddress m a b
-from m a b (Some v) w covers_it wanted is = inl (record { at = a; low = omega arith; name = v; covers_it = covers_it; is = sym (some-base _ b is) })
-from m a b None true none wanted is = from-home m a b wanted (some-base _ b is) (covering m.info.names (home m a)) refl
-from m a b None false none wanted is = absurd (not-base b is)
+from : (m : MapView) (a : ℕ) (b : Base) (o : Option NameView) (w : Bool) → covering m.info.names a ≡ o → is_referenced m a ≡ w → base_by o w (entry_base m a) ≡ Some b → FromName m a b ⊎ FromAddress m a b
+from m a b (Some v) w covers_it referenced is = inl (record { at = a; low = omega arith; name = v; covers_it = covers_it; is = sym (some-base _ b is) })
+from m a b None true none referenced is = from-entry_start m a b referenced (some-base _ b is) (covering m.info.names (entry_start m a)) refl
+from m a b None false none referenced is = absurd (not-base b is)
 
 source : (m : MapView) (a : ℕ) (b : Base) → base_at m a ≡ Some b → FromName m a b ⊎ FromAddress m a b
 unfolding base_at
-source m a b is = from m a b (covering m.info.names a) (is_wanted m a) refl refl is
+source m a b is = from m a b (covering m.info.names a) (is_referenced m a) refl refl is
 
 base-low : (m : MapView) (a : ℕ) (b : Base) → base_at m a ≡ Some b → b.address ≤ a
 base-low m a b is =
@@ -78,9 +78,9 @@ covers-own v some = and_from _ _ (le-leb v.address v.address (omega arith)) (lt-
 
 own-by : (names : List NameView) → AreNames names → (i : ℕ) → i < length names → (o : Option NameView) → covering names (name_at names i).address ≡ o → o ≡ Some (name_at names i)
 own-by names are i low None is =
-    absurd (both_ways (covers (name_at names i) (name_at names i).address) (none-covers names (name_at names i).address is i low) (covers-own (name_at names i) (are.each i blank_name low).sized))
+    absurd (both_ways (covers (name_at names i) (name_at names i).address) (none_covers names (name_at names i).address is i low) (covers-own (name_at names i) (are.each i blank_name low).sized))
 own-by names are i low (Some v) is =
-    let r = last-name names (name_at names i).address v is in
+    let r = last_name names (name_at names i).address v is in
     ⊎_elim
     (λ same. ap (λ (x : NameView). Some x) (r.is ∙ ap (name_at names) same))
     (λ other.
@@ -98,7 +98,7 @@ own-by names are i low (Some v) is =
 
 own-name : (names : List NameView) → AreNames names → (a : ℕ) (v : NameView) → covering names a ≡ Some v → covering names v.address ≡ Some v
 own-name names are a v is =
-    let r = last-name names a v is in
+    let r = last_name names a v is in
     ap (λ (x : NameView). covering names x.address) r.is ∙ own-by names are r.index r.low (covering names (name_at names r.index).address) refl ∙ ap (λ (x : NameView). Some x) (sym r.is)
 
 base-own : (m : MapView) → AreNames m.info.names → (a : ℕ) (b : Base) → base_at m a ≡ Some b → base_at m b.address ≡ Some b
@@ -107,8 +107,8 @@ base-own m are a b is =
     (λ n. ap (λ (x : Base). base_at m x.address) n.is ∙ base-covered m n.name.address n.name (own-name m.info.names are n.at n.name n.covers_it) ∙ ap (λ (x : Base). Some x) (sym n.is))
     (λ d.
     ap (λ (x : Base). base_at m x.address) d.is
-    ∙ base-wanted m d.at d.none d.wanted
-    ∙ ap (λ (x : Base). Some x) (home-default m d.at (ap (covering m.info.names) d.home_is ∙ d.none) ∙ ap default_base d.home_is ∙ sym d.is))
+    ∙ base-referenced m d.at d.none d.referenced
+    ∙ ap (λ (x : Base). Some x) (entry_start-default m d.at (ap (covering m.info.names) d.start_is ∙ d.none) ∙ ap default_base d.start_is ∙ sym d.is))
     (source m a b is)
 
 -- ---- one text, one base
@@ -163,7 +163,7 @@ make text address = record { text = text; address = address }
 -- a name that is given is not the default name of another address
 name-default : (m : MapView) (a c : ℕ) (b d : Base) → AreNames m.info.names → c < 65536 → FromName m a b → FromAddress m c d → b.text ≡ d.text → b.address ≡ d.address
 name-default m a c b d are low n f is =
-    let r = last-name m.info.names n.at n.name n.covers_it in
+    let r = last_name m.info.names n.at n.name n.covers_it in
     let v = are.each r.index blank_name r.low in
     let text : (name_at m.info.names r.index).text ≡ default_name f.at = sym (ap (λ (x : NameView). x.text) r.is) ∙ sym (ap (λ (x : Base). x.text) n.is) ∙ is ∙ ap (λ (x : Base). x.text) f.is in
     let same = reserved-same (name_at m.info.names r.index).address f.at (name_at m.info.names r.index).text (omega (arith, v.room, v.sized)) (omega (arith, f.low, low)) v.free text in
@@ -171,8 +171,8 @@ name-default m a c b d are low n f is =
 
 name-name : (m : MapView) (a c : ℕ) (b d : Base) → AreNames m.info.names → FromName m a b → FromName m c d → b.text ≡ d.text → b.address ≡ d.address
 name-name m a c b d are n o is =
-    let r = last-name m.info.names n.at n.name n.covers_it in
-    let s = last-name m.info.names o.at o.name o.covers_it in
+    let r = last_name m.info.names n.at n.name n.covers_it in
+    let s = last_name m.info.names o.at o.name o.covers_it in
     let text : (name_at m.info.names r.index).text ≡ (name_at m.info.names s.index).text = sym (ap (λ (x : NameView). x.text) r.is) ∙ sym (ap (λ (x : Base). x.text) n.is) ∙ is ∙ ap (λ (x : Base). x.text) o.is ∙ ap (λ (x : NameView). x.text) s.is in
     let same = same-name m.info.names are r.index s.index r.low s.low text in
     ap (λ (x : Base). x.address) n.is ∙ ap (λ (x : NameView). x.address) (r.is ∙ same ∙ sym s.is) ∙ sym (ap (λ (x : Base). x.address) o.is)
@@ -228,16 +228,16 @@ named-free m n own inside wide =
 
 name-free : (m : MapView) (a : ℕ) (v : NameView) → covering m.info.names a ≡ Some v → IsFree m v.address
 name-free m a v is =
-    let r = last-name m.info.names a v is in
+    let r = last_name m.info.names a v is in
     named-free m v.address (own-some m.info.names v.address r.index blank_name r.low (sym (ap (λ (x : NameView). x.address) r.is)))
 
-home-free : (m : MapView) (n : ℕ) → home m n ≡ n → IsFree m n
-home-free m n own inside wide =
+entry_start-free : (m : MapView) (n : ℕ) → entry_start m n ≡ n → IsFree m n
+entry_start-free m n own inside wide =
     ⊎_elim
     (λ none.
     let u = under m n inside (wide-shown (role_of m.info n) wide) none in
     let inner : IsInner m n u.first = record { wide = wide; begins = u.begins; after = u.after; before = u.before } in
-    absurd (omega (arith, home-inner m n u.first inner, own, u.after)))
+    absurd (omega (arith, entry_start-inner m n u.first inner, own, u.after)))
     (λ some. omega (arith, some))
     (cases_eq (item_len m n) 0)
 
@@ -245,7 +245,7 @@ base-free : (m : MapView) (a : ℕ) (b : Base) → base_at m a ≡ Some b → Is
 base-free m a b is =
     ⊎_elim
     (λ n. subst (λ (x : Base). IsFree m x.address) (sym n.is) (name-free m n.at n.name n.covers_it))
-    (λ d. subst (λ (x : Base). IsFree m x.address) (sym d.is) (home-free m d.at d.home_is))
+    (λ d. subst (λ (x : Base). IsFree m x.address) (sym d.is) (entry_start-free m d.at d.start_is))
     (source m a b is)
 
 unit-one : (n : ℕ) → 1 ≤ n → nat_lt 1 n ≡ false → n ≡ 1
@@ -257,7 +257,7 @@ code-or-byte m Code narrow = inl refl
 code-or-byte m r narrow = inr (λ b. unit-one (unit_of r) (layout_some r) narrow)
 
 size-one : (m : MapView) (a : ℕ) → ((b : ℕ) → size_for m (role_of m.info a) b ≡ 1) → size_at m a ≡ 1
-unfolding size_at wanted_at
+unfolding size_at full_len_at
 size-one m a one = cond_both (are_joined m (size_for m (role_of m.info a) (byte_at m.image a) - 1) a) (size_for m (role_of m.info a) (byte_at m.image a)) 1 (λ (n : ℕ). n ≡ 1) (λ _. one (byte_at m.image a)) (λ _. refl)
 
 in-code : (m : MapView) (n : ℕ) → is_inside m.image n ≡ true → is_skip (role_of m.info n) ≡ false → item_len m n ≡ 0 → is_wide (role_of m.info n) ≡ false → IsInCode m n

@@ -2,8 +2,8 @@
 use Rattle.std.proofs.Common.{◌≡◌, ◌≢◌, ◌∙◌, ℕ, ◌+◌, ◌/◌, ◌%◌, ◌<◌, Bool, true, false, List, Option, Some, None, length, get_or, set, refl, ap, sym, subst, arith, ⊎_elim}
 use Rattle.std.proofs.lemmas.Bool.{cases_eq, cond_both, eq-eqb, eqb-false, ne_eqb}
 use Rattle.std.proofs.lemmas.List.{get_or-set_other, get_or-set_same}
-use Rattle.info65.specs.declared.range.RangeType.{RangeType}
-use Rattle.info65.specs.declared.range.RangeType.TheVariants.{Code}
+use Rattle.info65.specs.declared.information.range.RangeType.{RangeType}
+use Rattle.info65.specs.declared.information.range.RangeType.TheVariants.{Code}
 use Rattle.map65.specs.Code.Cells.{CellLaw, AreNamed, cell_of, coded, is_named, has_border, is_wide_cell, is_wide_role, len_in_cell, role_in_cell, with_name, with_len}
 use Rattle.map65.specs.Cells.{bit, code_of}
 

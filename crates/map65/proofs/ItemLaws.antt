@@ -1,9 +1,9 @@
 -- The law of items.
 use Rattle.std.proofs.Common.{◌≡◌, refl, ◌≢◌, ◌∙◌, inl, inr, ℕ, zero, suc, ◌+◌, ◌-◌, ◌<◌, ◌≤◌, ◌&&◌, ◌==◌, nat_le, nat_lt, not, Bool, true, false, ap, sym, arith, ⊎_elim}
 use Rattle.std.proofs.lemmas.Bool.{and_from, and_parts, both_ways, cases_Bool, cases_eq, cond-true, cond_both, eqb-true, leb-true, ltb-true, not-true}
-use Rattle.map65.proofs.ItemLemmas.{are_joined-none, are_joined-suc, item-len-at, joined-piece, left-begun, left-past, left-first, left-going, one-role, size-one-piece, size-positive, wanted-positive}
+use Rattle.map65.proofs.ItemLemmas.{are_joined-none, are_joined-suc, item-len-at, joined-piece, left-begun, left-past, left-first, left-going, one-role, size-one-piece, size-positive, full_len-positive}
 use Rattle.map65.specs.ImageView.{end_of, is_inside}
-use Rattle.map65.specs.Items.{AreItems, CanBegin, EndsBefore, ItemLaw, item_len, size_at, wanted_at}
+use Rattle.map65.specs.Items.{AreItems, CanBegin, EndsBefore, ItemLaw, item_len, size_at, full_len_at}
 use Rattle.map65.specs.MapView.{MapView}
 use Rattle.map65.specs.Pieces.{AreOnePiece, are_joined, is_joined}
 use Rattle.map65.specs.Roles.{is_skip, role_of}
@@ -162,16 +162,16 @@ piece-joined m zero a piece = are_joined-none m a
 piece-joined m (suc n) a piece =
     are_joined-suc m n a ∙ and_from _ _ (piece (a + 1) (omega arith) (omega arith)) (piece-joined m n (a + 1) (λ x low high. piece x (omega (arith, low)) (omega (arith, high))))
 
-size-whole : (m : MapView) (a : ℕ) → AreOnePiece m a (a + wanted_at m a - 1) → size_at m a ≡ wanted_at m a
+size-whole : (m : MapView) (a : ℕ) → AreOnePiece m a (a + full_len_at m a - 1) → size_at m a ≡ full_len_at m a
 unfolding size_at
 size-whole m a piece =
-    cond-true _ (wanted_at m a) 1 (piece-joined m (wanted_at m a - 1) a (λ x low high. piece x low (omega (arith, high, wanted-positive m a))))
+    cond-true _ (full_len_at m a) 1 (piece-joined m (full_len_at m a - 1) a (λ x low high. piece x low (omega (arith, high, full_len-positive m a))))
 
-size-cut : (m : MapView) (a : ℕ) → (AreOnePiece m a (a + wanted_at m a - 1) → ⊥) → size_at m a ≡ 1
+size-cut : (m : MapView) (a : ℕ) → (AreOnePiece m a (a + full_len_at m a - 1) → ⊥) → size_at m a ≡ 1
 unfolding size_at
 size-cut m a apart =
-    cond_both (are_joined m (wanted_at m a - 1) a) (wanted_at m a) 1 (λ (n : ℕ). n ≡ 1)
-    (λ are. absurd (apart (λ x low high. joined-piece m (wanted_at m a - 1) a are x low (omega (arith, high, wanted-positive m a)))))
+    cond_both (are_joined m (full_len_at m a - 1) a) (full_len_at m a) 1 (λ (n : ℕ). n ≡ 1)
+    (λ are. absurd (apart (λ x low high. joined-piece m (full_len_at m a - 1) a are x low (omega (arith, high, full_len-positive m a)))))
     (λ _. refl)
 
 counted : (m : MapView) → AreItems m (item_len m)
@@ -200,12 +200,12 @@ same-size : (m : MapView) (len other : ℕ → ℕ) → AreItems m len → AreIt
 same-size m len other are are_too a some some_too =
     ⊎_elim
     (λ joined.
-    let piece : AreOnePiece m a (a + wanted_at m a - 1) = λ x low high. joined-piece m (wanted_at m a - 1) a joined x low (omega (arith, high, wanted-positive m a)) in
+    let piece : AreOnePiece m a (a + full_len_at m a - 1) = λ x low high. joined-piece m (full_len_at m a - 1) a joined x low (omega (arith, high, full_len-positive m a)) in
     are.whole a some piece ∙ sym (are_too.whole a some_too piece))
     (λ apart.
-    let cut : AreOnePiece m a (a + wanted_at m a - 1) → ⊥ = λ piece. both_ways (are_joined m (wanted_at m a - 1) a) apart (piece-joined m (wanted_at m a - 1) a (λ x low high. piece x low (omega (arith, high, wanted-positive m a)))) in
+    let cut : AreOnePiece m a (a + full_len_at m a - 1) → ⊥ = λ piece. both_ways (are_joined m (full_len_at m a - 1) a) apart (piece-joined m (full_len_at m a - 1) a (λ x low high. piece x low (omega (arith, high, full_len-positive m a)))) in
     are.cut a some cut ∙ sym (are_too.cut a some_too cut))
-    (cases_Bool (are_joined m (wanted_at m a - 1) a))
+    (cases_Bool (are_joined m (full_len_at m a - 1) a))
 
 same-len : (m : MapView) (len other : ℕ → ℕ) → AreItems m len → AreItems m other → (a : ℕ) → ((b : ℕ) → b < a → len b ≡ other b) → len a ≡ other a
 same-len m len other are are_too a same =

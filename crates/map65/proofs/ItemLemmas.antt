@@ -7,11 +7,11 @@ use Rattle.isa65.specs.declared.mode.Mode.{Mode}
 use Rattle.isa65.specs.declared.mode.Mode.TheVariants.{Imp}
 use Rattle.isa65.specs.declared.op.Op.{Op}
 use Rattle.isa65.specs.Opcodes.{decoded}
-use Rattle.info65.specs.contracts.range.RangeType as range_type
-use Rattle.info65.specs.declared.range.RangeType.{RangeType}
-use Rattle.info65.specs.declared.range.RangeType.TheVariants.{Code, Skip}
+use Rattle.info65.specs.contracts.information.range.RangeType as range_type
+use Rattle.info65.specs.declared.information.range.RangeType.{RangeType}
+use Rattle.info65.specs.declared.information.range.RangeType.TheVariants.{Code, Skip}
 use Rattle.map65.specs.ImageView.{byte_at, end_of, is_inside}
-use Rattle.map65.specs.Items.{code_size, item_len, size_at, size_for, wanted_at}
+use Rattle.map65.specs.Items.{code_size, item_len, size_at, size_for, full_len_at}
 use Rattle.map65.specs.MapView.{MapView, opcodes}
 use Rattle.map65.specs.Pieces.{AreOnePiece, AreOneRun, are_joined, is_in_run, is_joined, is_own}
 use Rattle.map65.specs.Roles.{is_role, is_skip, is_wide, role_of}
@@ -124,26 +124,26 @@ size_for-skip : (m : MapView) (r : RangeType) (b : ℕ) → is_skip r ≡ true �
 size_for-skip m Skip b is = refl
 size_for-skip m _ b is = absurd (false≢true is)
 
-pub wanted-positive : (m : MapView) (a : ℕ) → 1 ≤ wanted_at m a
-unfolding wanted_at
-wanted-positive m a = size_for-positive m (role_of m.info a) (byte_at m.image a)
+pub full_len-positive : (m : MapView) (a : ℕ) → 1 ≤ full_len_at m a
+unfolding full_len_at
+full_len-positive m a = size_for-positive m (role_of m.info a) (byte_at m.image a)
 
 -- every item has a byte
 pub size-positive : (m : MapView) (a : ℕ) → 1 ≤ size_at m a
 unfolding size_at
 size-positive m a =
-    cond_both (are_joined m (wanted_at m a - 1) a) (wanted_at m a) 1 (λ n. 1 ≤ n) (λ _. wanted-positive m a) (λ _. omega arith)
+    cond_both (are_joined m (full_len_at m a - 1) a) (full_len_at m a) 1 (λ n. 1 ≤ n) (λ _. full_len-positive m a) (λ _. omega arith)
 
 pub skip-size : (m : MapView) (a : ℕ) → is_skip (role_of m.info a) ≡ true → size_at m a ≡ 1
-unfolding size_at wanted_at
+unfolding size_at full_len_at
 skip-size m a skip =
     let one = size_for-skip m (role_of m.info a) (byte_at m.image a) skip in
-    cond_both (are_joined m (wanted_at m a - 1) a) (wanted_at m a) 1 (λ n. n ≡ 1) (λ _. one) (λ _. refl)
+    cond_both (are_joined m (full_len_at m a - 1) a) (full_len_at m a) 1 (λ n. n ≡ 1) (λ _. one) (λ _. refl)
 
 size-joined : (m : MapView) (a : ℕ) → are_joined m (size_at m a - 1) a ≡ true
 unfolding size_at
 size-joined m a =
-    cond_both (are_joined m (wanted_at m a - 1) a) (wanted_at m a) 1 (λ n. are_joined m (n - 1) a ≡ true) (λ are. are) (λ _. are_joined-none m a)
+    cond_both (are_joined m (full_len_at m a - 1) a) (full_len_at m a) 1 (λ n. are_joined m (n - 1) a ≡ true) (λ are. are) (λ _. are_joined-none m a)
 
 -- the bytes of an item lie in one piece
 pub size-one-piece : (m : MapView) (a : ℕ) → AreOnePiece m a (a + size_at m a - 1)

@@ -11,4 +11,5 @@ mod ReadLemmas
 mod RunLemmas
 mod MarkingLemmas
 mod TargetLemmas
+mod WriteLemmas
 pub mod Public

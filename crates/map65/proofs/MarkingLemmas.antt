@@ -8,8 +8,8 @@ use Rattle.isa65.specs.Opcodes.{decoded}
 use Rattle.isa65.specs.declared.mode.Mode.{Mode}
 use Rattle.isa65.specs.declared.mode.Mode.TheVariants.{Imp}
 use Rattle.isa65.specs.declared.op.Op.{Op}
-use Rattle.info65.specs.declared.range.RangeType.{RangeType}
-use Rattle.info65.specs.declared.range.RangeType.TheVariants.{Code}
+use Rattle.info65.specs.declared.information.range.RangeType.{RangeType}
+use Rattle.info65.specs.declared.information.range.RangeType.TheVariants.{Code}
 use Rattle.map65.proofs.CellLemmas.{named-test, cell-role, cell-wide, set-cell, with_len-border, with_len-lay, with_len-rest}
 use Rattle.map65.proofs.ItemLaws.{begun}
 use Rattle.map65.proofs.ItemLemmas.{are_joined-none, are_joined-suc, in-run, is_cut_at, item-len-at, joined-high, joined-if, joined-run, joined-uncut, left-past, left-first, left-inside, size-fits, size-positive}
@@ -18,7 +18,7 @@ use Rattle.map65.specs.Code.Cells.{AreNamed, IsLaid, are_one_run, cell_of, is_na
 use Rattle.map65.specs.Cells.{bit}
 use Rattle.map65.specs.Code.Marking.{AreMarkedBelow, is_joined_in}
 use Rattle.map65.specs.ImageView.{byte_at, end_of, is_inside}
-use Rattle.map65.specs.Items.{code_size, item_len, size_at, size_for, wanted_at}
+use Rattle.map65.specs.Items.{code_size, item_len, size_at, size_for, full_len_at}
 use Rattle.map65.specs.MapView.{MapView, opcodes}
 use Rattle.map65.specs.Pieces.{are_joined, is_in_run, is_joined, is_own}
 use Rattle.map65.specs.Roles.{is_skip, is_wide, role_at, role_of}
@@ -98,21 +98,21 @@ size-more m n i a below joined so_far =
     sym here ∙ so_far
 
 -- the piece ends before
-pub size-cut : (m : MapView) (w i a : ℕ) → w ≡ wanted_at m a → i < w - 1 → is_joined m (a + i + 1) ≡ false → are_joined m (w - 1 - i) (a + i) ≡ are_joined m (w - 1) a → 1 ≡ size_at m a
+pub size-cut : (m : MapView) (w i a : ℕ) → w ≡ full_len_at m a → i < w - 1 → is_joined m (a + i + 1) ≡ false → are_joined m (w - 1 - i) (a + i) ≡ are_joined m (w - 1) a → 1 ≡ size_at m a
 unfolding size_at
 size-cut m w i a is below apart so_far =
     let here : are_joined m (w - 1 - i) (a + i) ≡ false = are_joined-next m (w - 1) i a below ∙ rw apart refl in
-    let cut : are_joined m (wanted_at m a - 1) a ≡ false = sym (ap (λ (k : ℕ). are_joined m (k - 1) a) is) ∙ sym so_far ∙ here in
-    sym (cond-false _ (wanted_at m a) 1 cut)
+    let cut : are_joined m (full_len_at m a - 1) a ≡ false = sym (ap (λ (k : ℕ). are_joined m (k - 1) a) is) ∙ sym so_far ∙ here in
+    sym (cond-false _ (full_len_at m a) 1 cut)
 
 -- the piece has room
-pub size-whole : (m : MapView) (w i a : ℕ) → w ≡ wanted_at m a → w - 1 ≤ i → are_joined m (w - 1 - i) (a + i) ≡ are_joined m (w - 1) a → w ≡ size_at m a
+pub size-whole : (m : MapView) (w i a : ℕ) → w ≡ full_len_at m a → w - 1 ≤ i → are_joined m (w - 1 - i) (a + i) ≡ are_joined m (w - 1) a → w ≡ size_at m a
 unfolding size_at
 size-whole m w i a is past so_far =
     let none : w - 1 - i ≡ 0 = omega arith in
     let here : are_joined m (w - 1 - i) (a + i) ≡ true = ap (λ (k : ℕ). are_joined m k (a + i)) none ∙ are_joined-none m (a + i) in
-    let whole : are_joined m (wanted_at m a - 1) a ≡ true = sym (ap (λ (k : ℕ). are_joined m (k - 1) a) is) ∙ sym so_far ∙ here in
-    is ∙ sym (cond-true _ (wanted_at m a) 1 whole)
+    let whole : are_joined m (full_len_at m a - 1) a ≡ true = sym (ap (λ (k : ℕ). are_joined m (k - 1) a) is) ∙ sym so_far ∙ here in
+    is ∙ sym (cond-true _ (full_len_at m a) 1 whole)
 
 len-small : (x : Mode) → len_of x ≤ 4
 len-small Imp = omega arith
@@ -126,13 +126,13 @@ size_for-small : (m : MapView) (r : RangeType) (b : ℕ) → size_for m r b ≤ 
 size_for-small m Code b = code_size-small (decoded (opcodes m) b)
 size_for-small m _ b = omega arith
 
-wanted-small : (m : MapView) (a : ℕ) → wanted_at m a ≤ 4
-unfolding wanted_at
-wanted-small m a = size_for-small m (role_of m.info a) (byte_at m.image a)
+full_len-small : (m : MapView) (a : ℕ) → full_len_at m a ≤ 4
+unfolding full_len_at
+full_len-small m a = size_for-small m (role_of m.info a) (byte_at m.image a)
 
 size-small : (m : MapView) (a : ℕ) → size_at m a ≤ 4
 unfolding size_at
-size-small m a = cond_both (are_joined m (wanted_at m a - 1) a) (wanted_at m a) 1 (λ n. n ≤ 4) (λ _. wanted-small m a) (λ _. omega arith)
+size-small m a = cond_both (are_joined m (full_len_at m a - 1) a) (full_len_at m a) 1 (λ n. n ≤ 4) (λ _. full_len-small m a) (λ _. omega arith)
 
 pub item-small : (m : MapView) (a : ℕ) → item_len m a ≤ 4
 unfolding item_len

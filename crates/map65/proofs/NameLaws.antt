@@ -4,18 +4,19 @@ use Rattle.std.proofs.lemmas.Bool.{and_from, and_parts, both_ways, cases_Bool, c
 use Rattle.std.proofs.lemmas.List.Folds.{Any-from_list_any, list_any_at}
 use Rattle.info65.specs.Names.{AreNames, blank_name, covering, covers, name_at}
 use Rattle.info65.specs.Views.{NameView}
-use Rattle.info65.specs.declared.range.RangeType.{RangeType}
-use Rattle.info65.specs.declared.range.RangeType.TheVariants.{Skip}
+use Rattle.info65.specs.declared.information.range.RangeType.{RangeType}
+use Rattle.info65.specs.declared.information.range.RangeType.TheVariants.{Skip}
+use Rattle.info65.proofs.Public.{last_name, none_covers}
 use Rattle.map65.proofs.ItemLaws.{begun, holder}
 use Rattle.map65.proofs.ItemLemmas.{item-len-at, left-first, one-role, size-one-piece, size-positive}
-use Rattle.map65.proofs.NameLemmas.{base-covered, base-unwanted, base-wanted, last-name, none-covers, not-some}
-use Rattle.map65.proofs.NamingLemmas.{home-narrow, home-wide, last-before, last-here}
+use Rattle.map65.proofs.NameLemmas.{base-covered, base-unreferenced, base-referenced, not-some}
+use Rattle.map65.proofs.NamingLemmas.{entry_start-narrow, entry_start-wide, last-before, last-here}
 use Rattle.map65.proofs.MarkingLemmas.{inside-item, item-fits}
 use Rattle.map65.proofs.TargetLemmas.{none-at}
 use Rattle.map65.specs.ImageView.{end_of, is_inside}
 use Rattle.map65.specs.Items.{item_len, size_at}
 use Rattle.map65.specs.MapView.{MapView}
-use Rattle.map65.specs.Names.{Base, HomeLaw, IsHighest, IsInner, IsUncovered, IsWanted, NameLaw, WantedLaw, base_at, default_base, base_by, base_or, given_base, home, home_base, is_wanted, last_item, refers, refers_by}
+use Rattle.map65.specs.Names.{Base, EntryStartLaw, IsHighest, IsInner, IsUncovered, IsReferenced, NameLaw, ReferenceLaw, base_at, default_base, base_by, base_or, given_base, entry_start, entry_base, is_referenced, last_item, refers, refers_by}
 use Rattle.map65.specs.Pieces.{AreOnePiece}
 use Rattle.map65.specs.Roles.{is_skip, is_wide, role_of}
 use Rattle.map65.specs.Spans.{addresses, left_at}
@@ -78,53 +79,53 @@ inner-inside m a first i =
     let is = begun m first i.begins in
     inside-if m a (omega (arith, is.low, i.after)) (omega (arith, i.before, item-fits m first i.begins))
 
-pub home-inner : (m : MapView) (a first : ℕ) → IsInner m a first → home m a ≡ first
-home-inner m a first i =
+pub entry_start-inner : (m : MapView) (a first : ℕ) → IsInner m a first → entry_start m a ≡ first
+entry_start-inner m a first i =
     let d : ℕ = a - first in
     let place : a ≡ first + d = omega (arith, i.after) in
-    home-wide m a (and_from _ _ (inner-inside m a first i) i.wide) ∙ ap (last_item m) place ∙ last-inner m first d i.begins (omega (arith, i.before, place))
+    entry_start-wide m a (and_from _ _ (inner-inside m a first i) i.wide) ∙ ap (last_item m) place ∙ last-inner m first d i.begins (omega (arith, i.before, place))
 
--- the first byte of an item is its own home
-pub home-item : (m : MapView) (a : ℕ) → 0 < item_len m a → home m a ≡ a
-home-item m a begins =
+-- the first byte of an item is its own entry start
+pub entry_start-item : (m : MapView) (a : ℕ) → 0 < item_len m a → entry_start m a ≡ a
+entry_start-item m a begins =
     ⊎_elim
-    (λ is. home-wide m a is ∙ last-here m a begins)
-    (λ is. home-narrow m a is)
+    (λ is. entry_start-wide m a is ∙ last-here m a begins)
+    (λ is. entry_start-narrow m a is)
     (cases_Bool (is_inside m.image a && is_wide (role_of m.info a)))
 
--- an address is its own home, or lies inside an item
-pub home-cases : (m : MapView) (a : ℕ) → (home m a ≡ a) ⊎ ((first : ℕ) × IsInner m a first)
-home-cases m a =
+-- an address is its own entry start, or lies inside an item
+pub entry_start-cases : (m : MapView) (a : ℕ) → (entry_start m a ≡ a) ⊎ ((first : ℕ) × IsInner m a first)
+entry_start-cases m a =
     ⊎_elim
     (λ is.
     let parts = and_parts (is_inside m.image a) (is_wide (role_of m.info a)) is in
     ⊎_elim
     (λ none. let u = under m a parts.0 (wide-shown (role_of m.info a) parts.1) none in inr (u.first, record { wide = parts.1; begins = u.begins; after = u.after; before = u.before }))
-    (λ some. inl (home-item m a (omega (arith, some))))
+    (λ some. inl (entry_start-item m a (omega (arith, some))))
     (cases_eq (item_len m a) 0))
-    (λ is. inl (home-narrow m a is))
+    (λ is. inl (entry_start-narrow m a is))
     (cases_Bool (is_inside m.image a && is_wide (role_of m.info a)))
 
-home-other : (m : MapView) (a : ℕ) → ((first : ℕ) → IsInner m a first → ⊥) → home m a ≡ a
-home-other m a other = ⊎_elim (λ same. same) (λ inner. absurd (other inner.0 inner.1)) (home-cases m a)
+entry_start-other : (m : MapView) (a : ℕ) → ((first : ℕ) → IsInner m a first → ⊥) → entry_start m a ≡ a
+entry_start-other m a other = ⊎_elim (λ same. same) (λ inner. absurd (other inner.0 inner.1)) (entry_start-cases m a)
 
-pub home_law : (m : MapView) → HomeLaw m
-home_law m = record { inner = home-inner m; other = home-other m }
+pub entry_start_law : (m : MapView) → EntryStartLaw m
+entry_start_law m = record { inner = entry_start-inner m; other = entry_start-other m }
 
-pub home-low : (m : MapView) (a : ℕ) → home m a ≤ a
-home-low m a =
+pub entry_start-low : (m : MapView) (a : ℕ) → entry_start m a ≤ a
+entry_start-low m a =
     ⊎_elim
     (λ same. omega (arith, same))
-    (λ inner. omega (arith, home-inner m a inner.0 inner.1, inner.1.after))
-    (home-cases m a)
+    (λ inner. omega (arith, entry_start-inner m a inner.0 inner.1, inner.1.after))
+    (entry_start-cases m a)
 
--- the home of an address is its own home
-pub home-home : (m : MapView) (a : ℕ) → home m (home m a) ≡ home m a
-home-home m a =
+-- the entry start of an address is its own entry start
+pub entry_start-entry_start : (m : MapView) (a : ℕ) → entry_start m (entry_start m a) ≡ entry_start m a
+entry_start-entry_start m a =
     ⊎_elim
-    (λ same. ap (home m) same)
-    (λ inner. let is = home-inner m a inner.0 inner.1 in ap (home m) is ∙ home-item m inner.0 inner.1.begins ∙ sym is)
-    (home-cases m a)
+    (λ same. ap (entry_start m) same)
+    (λ inner. let is = entry_start-inner m a inner.0 inner.1 in ap (entry_start m) is ∙ entry_start-item m inner.0 inner.1.begins ∙ sym is)
+    (entry_start-cases m a)
 
 -- ---- targets
 
@@ -135,7 +136,7 @@ target-item m item t has =
     (λ some. record { item = item; begins = omega (arith, some); has = has })
     (cases_eq (item_len m item) 0)
 
--- ---- what is wanted
+-- ---- what is referenced
 
 or-true : (p q : Bool) → (p || q) ≡ true → (p ≡ true) ⊎ (q ≡ true)
 or-true true q is = inl refl
@@ -148,27 +149,27 @@ or-second : (p q : Bool) → q ≡ true → (p || q) ≡ true
 or-second true q is = refl
 or-second false q is = is
 
-home-place : (m : MapView) (t a : ℕ) → home m t ≡ a → (a ≡ t) ⊎ IsInner m t a
-home-place m t a is =
+entry_start-place : (m : MapView) (t a : ℕ) → entry_start m t ≡ a → (a ≡ t) ⊎ IsInner m t a
+entry_start-place m t a is =
     ⊎_elim
     (λ same. inl (sym is ∙ same))
-    (λ inner. inr (subst (IsInner m t) (sym (home-inner m t inner.0 inner.1) ∙ is) inner.1))
-    (home-cases m t)
+    (λ inner. inr (subst (IsInner m t) (sym (entry_start-inner m t inner.0 inner.1) ∙ is) inner.1))
+    (entry_start-cases m t)
 
-wanted-by : (m : MapView) (a item : ℕ) (o : Option ℕ) → target_at m item ≡ o → refers_by m o a ≡ true → IsWanted m a
-wanted-by m a item None has is = absurd (false≢true is)
-wanted-by m a item (Some t) has is =
+referenced-by : (m : MapView) (a item : ℕ) (o : Option ℕ) → target_at m item ≡ o → refers_by m o a ≡ true → IsReferenced m a
+referenced-by m a item None has is = absurd (false≢true is)
+referenced-by m a item (Some t) has is =
     record {
       target = t;
       is_target = target-item m item t has;
-      place = ⊎_elim (λ same. inl (sym (eqb-true t a same))) (λ moved. home-place m t a (eqb-true (home m t) a moved)) (or-true (t == a) (home m t == a) is);
+      place = ⊎_elim (λ same. inl (sym (eqb-true t a same))) (λ moved. entry_start-place m t a (eqb-true (entry_start m t) a moved)) (or-true (t == a) (entry_start m t == a) is);
     }
 
-wanted-then : (m : MapView) (a : ℕ) → is_wanted m a ≡ true → IsWanted m a
-unfolding is_wanted refers
-wanted-then m a is =
+referenced-then : (m : MapView) (a : ℕ) → is_referenced m a ≡ true → IsReferenced m a
+unfolding is_referenced refers
+referenced-then m a is =
     let found = Any-from_list_any (refers m a) (addresses (length m.image.bytes) m.image.start) is in
-    wanted-by m a found.1 (target_at m found.1) refl found.4
+    referenced-by m a found.1 (target_at m found.1) refl found.4
 
 address-at : (n k a d : ℕ) → k < n → get_or (addresses n a) k d ≡ a + k
 unfolding addresses
@@ -181,14 +182,14 @@ unfolding addresses
 address-count zero a = refl
 address-count (suc n) a = ap suc (address-count n (a + 1))
 
-refers-if : (m : MapView) (item t a : ℕ) → target_at m item ≡ Some t → (t ≡ a) ⊎ (home m t ≡ a) → refers m a item ≡ true
+refers-if : (m : MapView) (item t a : ℕ) → target_at m item ≡ Some t → (t ≡ a) ⊎ (entry_start m t ≡ a) → refers m a item ≡ true
 unfolding refers
 refers-if m item t a has is =
-    ap (λ o. refers_by m o a) has ∙ ⊎_elim (λ same. or-first (t == a) (home m t == a) (eq-eqb t a same)) (λ moved. or-second (t == a) (home m t == a) (eq-eqb (home m t) a moved)) is
+    ap (λ o. refers_by m o a) has ∙ ⊎_elim (λ same. or-first (t == a) (entry_start m t == a) (eq-eqb t a same)) (λ moved. or-second (t == a) (entry_start m t == a) (eq-eqb (entry_start m t) a moved)) is
 
-pub wanted-if : (m : MapView) (t a : ℕ) → IsTarget m t → (t ≡ a) ⊎ (home m t ≡ a) → is_wanted m a ≡ true
-unfolding is_wanted
-wanted-if m t a target is =
+pub referenced-if : (m : MapView) (t a : ℕ) → IsTarget m t → (t ≡ a) ⊎ (entry_start m t ≡ a) → is_referenced m a ≡ true
+unfolding is_referenced
+referenced-if m t a target is =
     let b = begun m target.item target.begins in
     let k : ℕ = target.item - m.image.start in
     let n : ℕ = length m.image.bytes in
@@ -196,30 +197,30 @@ wanted-if m t a target is =
     let at : get_or (addresses n m.image.start) k 0 ≡ target.item = address-at n k m.image.start 0 low ∙ omega (arith, b.low) in
     list_any_at (refers m a) (addresses n m.image.start) k 0 (omega (arith, address-count n m.image.start, low)) (ap (refers m a) at ∙ refers-if m target.item t a target.has is)
 
-wanted-from : (m : MapView) (a : ℕ) → IsWanted m a → is_wanted m a ≡ true
-wanted-from m a w = wanted-if m w.target a w.is_target (⊎_elim (λ same. inl (sym same)) (λ inner. inr (home-inner m w.target a inner)) w.place)
+referenced-from : (m : MapView) (a : ℕ) → IsReferenced m a → is_referenced m a ≡ true
+referenced-from m a w = referenced-if m w.target a w.is_target (⊎_elim (λ same. inl (sym same)) (λ inner. inr (entry_start-inner m w.target a inner)) w.place)
 
-pub wanted_law : (m : MapView) → WantedLaw m
-wanted_law m a = (wanted-then m a, wanted-from m a)
+pub reference_law : (m : MapView) → ReferenceLaw m
+reference_law m a = (referenced-then m a, referenced-from m a)
 
--- the home of an address that is wanted is wanted
-pub home-wanted : (m : MapView) (a : ℕ) → is_wanted m a ≡ true → is_wanted m (home m a) ≡ true
-home-wanted m a is =
-    let w = wanted-then m a is in
+-- the entry start of an address that is referenced is referenced
+pub entry_start-referenced : (m : MapView) (a : ℕ) → is_referenced m a ≡ true → is_referenced m (entry_start m a) ≡ true
+entry_start-referenced m a is =
+    let w = referenced-then m a is in
     ⊎_elim
-    (λ same. wanted-if m w.target (home m a) w.is_target (inr (ap (home m) (sym same))))
+    (λ same. referenced-if m w.target (entry_start m a) w.is_target (inr (ap (entry_start m) (sym same))))
     (λ inner.
-    let own : home m a ≡ a = home-item m a inner.begins in
-    ap (is_wanted m) own ∙ is)
+    let own : entry_start m a ≡ a = entry_start-item m a inner.begins in
+    ap (is_referenced m) own ∙ is)
     w.place
 
 -- ---- the name, case by case
 
 -- the last name that covers an address is the one whose own address is highest
 highest-last : (names : List NameView) → AreNames names → (a : ℕ) (b : Base) → IsHighest names a b → (o : Option NameView) → covering names a ≡ o → (v : NameView) × ((o ≡ Some v) × (given_base v ≡ b))
-highest-last names are a b h None is = absurd (both_ways (covers (name_at names h.index) a) (none-covers names a is h.index h.low) h.covers_it)
+highest-last names are a b h None is = absurd (both_ways (covers (name_at names h.index) a) (none_covers names a is h.index h.low) h.covers_it)
 highest-last names are a b h (Some v) is =
-    let r = last-name names a v is in
+    let r = last_name names a v is in
     let own : b.address ≡ (name_at names h.index).address = ap (λ (x : Base). x.address) h.is in
     ⊎_elim
     (λ same. (v, (refl, ap given_base r.is ∙ ap (λ (k : ℕ). given_base (name_at names k)) same ∙ sym h.is)))
@@ -237,7 +238,7 @@ name-given m are a b h =
 
 uncovered : (names : List NameView) (a : ℕ) → IsUncovered names a → (o : Option NameView) → covering names a ≡ o → o ≡ None
 uncovered names a none None is = refl
-uncovered names a none (Some v) is = let r = last-name names a v is in absurd (both_ways (covers (name_at names r.index) a) (none r.index r.low) r.covers_it)
+uncovered names a none (Some v) is = let r = last_name names a v is in absurd (both_ways (covers (name_at names r.index) a) (none r.index r.low) r.covers_it)
 
 pub free : (names : List NameView) (a : ℕ) → IsUncovered names a → covering names a ≡ None
 free names a none = uncovered names a none (covering names a) refl
@@ -246,39 +247,39 @@ either : (o : Option NameView) (b : Base) → base_by o true (base_or o b) ≡ S
 either None b = refl
 either (Some v) b = refl
 
-home-own : (m : MapView) (a : ℕ) → home m a ≡ a → home_base m a ≡ base_or (covering m.info.names a) (default_base a)
-unfolding home_base
-home-own m a is = ap (λ (x : ℕ). base_or (covering m.info.names x) (default_base x)) is
+entry_start-own : (m : MapView) (a : ℕ) → entry_start m a ≡ a → entry_base m a ≡ base_or (covering m.info.names a) (default_base a)
+unfolding entry_base
+entry_start-own m a is = ap (λ (x : ℕ). base_or (covering m.info.names x) (default_base x)) is
 
-home-of-inner : (m : MapView) (a first : ℕ) → home m a ≡ first → home_base m a ≡ base_or (covering m.info.names first) (default_base first)
-unfolding home_base
-home-of-inner m a first is = ap (λ (x : ℕ). base_or (covering m.info.names x) (default_base x)) is
+entry_start-of-inner : (m : MapView) (a first : ℕ) → entry_start m a ≡ first → entry_base m a ≡ base_or (covering m.info.names first) (default_base first)
+unfolding entry_base
+entry_start-of-inner m a first is = ap (λ (x : ℕ). base_or (covering m.info.names x) (default_base x)) is
 
-base-is : (m : MapView) (a : ℕ) → is_wanted m a ≡ true → base_at m a ≡ base_by (covering m.info.names a) true (home_base m a)
+base-is : (m : MapView) (a : ℕ) → is_referenced m a ≡ true → base_at m a ≡ base_by (covering m.info.names a) true (entry_base m a)
 unfolding base_at
-base-is m a wanted = ap (λ (w : Bool). base_by (covering m.info.names a) w (home_base m a)) wanted
+base-is m a referenced = ap (λ (w : Bool). base_by (covering m.info.names a) w (entry_base m a)) referenced
 
 name-inner : (m : MapView) (a first : ℕ) → IsUncovered m.info.names a → IsTarget m a → IsInner m a first → base_at m a ≡ base_at m first
 name-inner m a first none target inner =
-    let moved = home-inner m a first inner in
-    let stays = home-item m first inner.begins in
-    let first_wanted : is_wanted m first ≡ true = wanted-if m a first target (inr moved) in
-    base-wanted m a (free m.info.names a none) (wanted-if m a a target (inl refl))
-    ∙ ap (λ (b : Base). Some b) (home-of-inner m a first moved)
-    ∙ sym (base-is m first first_wanted ∙ ap (base_by (covering m.info.names first) true) (home-own m first stays) ∙ either (covering m.info.names first) (default_base first))
+    let moved = entry_start-inner m a first inner in
+    let stays = entry_start-item m first inner.begins in
+    let first_referenced : is_referenced m first ≡ true = referenced-if m a first target (inr moved) in
+    base-referenced m a (free m.info.names a none) (referenced-if m a a target (inl refl))
+    ∙ ap (λ (b : Base). Some b) (entry_start-of-inner m a first moved)
+    ∙ sym (base-is m first first_referenced ∙ ap (base_by (covering m.info.names first) true) (entry_start-own m first stays) ∙ either (covering m.info.names first) (default_base first))
 
-name-default : (m : MapView) (a : ℕ) → IsUncovered m.info.names a → IsWanted m a → ((first : ℕ) → IsInner m a first → ⊥) → base_at m a ≡ Some (default_base a)
-name-default m a none wanted other =
+name-default : (m : MapView) (a : ℕ) → IsUncovered m.info.names a → IsReferenced m a → ((first : ℕ) → IsInner m a first → ⊥) → base_at m a ≡ Some (default_base a)
+name-default m a none referenced other =
     let is = free m.info.names a none in
-    base-wanted m a is (wanted-from m a wanted)
-    ∙ ap (λ (b : Base). Some b) (home-own m a (home-other m a other) ∙ ap (λ o. base_or o (default_base a)) is)
+    base-referenced m a is (referenced-from m a referenced)
+    ∙ ap (λ (b : Base). Some b) (entry_start-own m a (entry_start-other m a other) ∙ ap (λ o. base_or o (default_base a)) is)
 
-name-none : (m : MapView) (a : ℕ) → IsUncovered m.info.names a → (IsWanted m a → ⊥) → base_at m a ≡ None
-name-none m a none unwanted =
+name-none : (m : MapView) (a : ℕ) → IsUncovered m.info.names a → (IsReferenced m a → ⊥) → base_at m a ≡ None
+name-none m a none unreferenced =
     ⊎_elim
-    (λ is. absurd (unwanted (wanted-then m a is)))
-    (λ is. base-unwanted m a (free m.info.names a none) is)
-    (cases_Bool (is_wanted m a))
+    (λ is. absurd (unreferenced (referenced-then m a is)))
+    (λ is. base-unreferenced m a (free m.info.names a none) is)
+    (cases_Bool (is_referenced m a))
 
 pub name_law : (m : MapView) → AreNames m.info.names → NameLaw m
 name_law m are = record { given = name-given m are; inner = name-inner m; default = name-default m; none = name-none m }

@@ -8,19 +8,19 @@ use Rattle.std.proofs.lemmas.List.{get_or_default, take_all}
 use Rattle.std.proofs.lemmas.List.Folds.{Any-from_list_any, list_any_more}
 use Rattle.info65.specs.Names.{AreNames, blank_name, covering, covering_below, covers, name_at}
 use Rattle.info65.specs.Views.{NameView}
-use Rattle.info65.specs.declared.range.RangeType.{RangeType}
-use Rattle.info65.specs.declared.range.RangeType.TheVariants.{Code}
+use Rattle.info65.specs.declared.information.range.RangeType.{RangeType}
+use Rattle.info65.specs.declared.information.range.RangeType.TheVariants.{Code}
 use Rattle.map65.proofs.CellLemmas.{named-as, cell-len, cell-role, cell-wide, set-cell, with_name-border, with_name-lay, with_name-rest}
 use Rattle.map65.proofs.NameLemmas.{named-is}
 use Rattle.map65.proofs.RunLemmas.{plain-code, role_at-inside}
 use Rattle.map65.proofs.MarkingLemmas.{item-fits, item-small}
 use Rattle.map65.specs.Code.Cells.{AreCells, AreNamed, IsLaid, is_wide_cell, is_wide_role, len_in_cell, nowhere, role_in_cell, with_name}
 use Rattle.map65.specs.Cells.{AreCellsOf, bit, code_of}
-use Rattle.map65.specs.Code.Marking.{KeepsLay, Reaches, also, is_covered, is_covered_below, is_wanted_below, is_within}
+use Rattle.map65.specs.Code.Marking.{KeepsLay, Reaches, also, is_covered, is_covered_below, is_referenced_below, is_within}
 use Rattle.map65.specs.ImageView.{end_of, is_inside}
 use Rattle.map65.specs.Items.{item_len}
 use Rattle.map65.specs.MapView.{MapView}
-use Rattle.map65.specs.Names.{has_name, home, is_wanted, last_item, refers, refers_by}
+use Rattle.map65.specs.Names.{has_name, entry_start, is_referenced, last_item, refers, refers_by}
 use Rattle.map65.specs.Pieces.{is_own}
 use Rattle.map65.specs.Roles.{is_wide, role_at, role_of}
 use Rattle.map65.specs.Spans.{addresses}
@@ -294,19 +294,19 @@ wide-at : (m : MapView) (a : ℕ) → is_wide_role (role_at m a) ≡ (is_inside 
 unfolding role_at
 wide-at m a = wide-inside (is_inside m.image a) (role_of m.info a)
 
-pub home-wide : (m : MapView) (a : ℕ) → (is_inside m.image a && is_wide (role_of m.info a)) ≡ true → home m a ≡ last_item m a
-unfolding home
-home-wide m a is = cond-true (is_inside m.image a && is_wide (role_of m.info a)) (last_item m a) a is
+pub entry_start-wide : (m : MapView) (a : ℕ) → (is_inside m.image a && is_wide (role_of m.info a)) ≡ true → entry_start m a ≡ last_item m a
+unfolding entry_start
+entry_start-wide m a is = cond-true (is_inside m.image a && is_wide (role_of m.info a)) (last_item m a) a is
 
-pub home-narrow : (m : MapView) (a : ℕ) → (is_inside m.image a && is_wide (role_of m.info a)) ≡ false → home m a ≡ a
-unfolding home
-home-narrow m a is = cond-false (is_inside m.image a && is_wide (role_of m.info a)) (last_item m a) a is
+pub entry_start-narrow : (m : MapView) (a : ℕ) → (is_inside m.image a && is_wide (role_of m.info a)) ≡ false → entry_start m a ≡ a
+unfolding entry_start
+entry_start-narrow m a is = cond-false (is_inside m.image a && is_wide (role_of m.info a)) (last_item m a) a is
 
-pub home-here : (m : MapView) (cells : List ℕ) (a : ℕ) → IsLaid m cells → a < 65536 → is_wide_cell (get_or cells a 0) ≡ false → home m a ≡ a
-home-here m cells a laid room is = home-narrow m a (sym (wide-at m a) ∙ sym (laid-wide m cells a laid room) ∙ is)
+pub entry_start-here : (m : MapView) (cells : List ℕ) (a : ℕ) → IsLaid m cells → a < 65536 → is_wide_cell (get_or cells a 0) ≡ false → entry_start m a ≡ a
+entry_start-here m cells a laid room is = entry_start-narrow m a (sym (wide-at m a) ∙ sym (laid-wide m cells a laid room) ∙ is)
 
-pub home-before : (m : MapView) (cells : List ℕ) (a : ℕ) → IsLaid m cells → a < 65536 → is_wide_cell (get_or cells a 0) ≡ true → home m a ≡ last_item m a
-home-before m cells a laid room is = home-wide m a (sym (wide-at m a) ∙ sym (laid-wide m cells a laid room) ∙ is)
+pub entry_start-before : (m : MapView) (cells : List ℕ) (a : ℕ) → IsLaid m cells → a < 65536 → is_wide_cell (get_or cells a 0) ≡ true → entry_start m a ≡ last_item m a
+entry_start-before m cells a laid room is = entry_start-wide m a (sym (wide-at m a) ∙ sym (laid-wide m cells a laid room) ∙ is)
 
 pub last-zero : (m : MapView) → last_item m 0 ≡ 0
 unfolding last_item
@@ -334,7 +334,7 @@ refers-none m item p cells is named =
     named-as p (also p (λ a. refers_by m (target_at m item) a)) cells (λ a room. or-none (p a) ∙ ap (λ o. p a || refers_by m o a) (sym is)) named
 
 -- a target and the first byte of its item are marked
-module _ (m : MapView) (item t h : ℕ) (cells one two : List ℕ) (laid : IsLaid m cells) (t_room : t < 65536) (h_room : h < 65536) (is : target_at m item ≡ Some t) (at : h ≡ home m t) (then_one : one ≡ set cells t (with_name (get_or cells t 0))) (then_two : two ≡ set one h (with_name (get_or one h 0))) where
+module _ (m : MapView) (item t h : ℕ) (cells one two : List ℕ) (laid : IsLaid m cells) (t_room : t < 65536) (h_room : h < 65536) (is : target_at m item ≡ Some t) (at : h ≡ entry_start m t) (then_one : one ≡ set cells t (with_name (get_or cells t 0))) (then_two : two ≡ set one h (with_name (get_or one h 0))) where
   one-keeps : KeepsLay cells one
   one-keeps = subst (KeepsLay cells) (sym then_one) (mark-keeps cells cells t laid.count t_room (keeps-same cells))
 
@@ -363,31 +363,31 @@ any-more p (suc n) a =
     let place : a + 1 + n ≡ a + suc n = omega arith in
     ap (λ (q : Bool). p a || q) (any-more p n (a + 1)) ∙ sym (or-assoc (p a) (list_any p (addresses n (a + 1))) (p (a + 1 + n))) ∙ ap (λ (k : ℕ). (p a || list_any p (addresses n (a + 1))) || p k) place
 
-wanted-next : (m : MapView) (n a : ℕ) → is_wanted_below m (n + 1) a ≡ (is_wanted_below m n a || refers m a (m.image.start + n))
-unfolding is_wanted_below
-wanted-next m n a = let next : n + 1 ≡ suc n = omega arith in ap (λ (k : ℕ). list_any (refers m a) (addresses k m.image.start)) next ∙ any-more (refers m a) n m.image.start
+referenced-next : (m : MapView) (n a : ℕ) → is_referenced_below m (n + 1) a ≡ (is_referenced_below m n a || refers m a (m.image.start + n))
+unfolding is_referenced_below
+referenced-next m n a = let next : n + 1 ≡ suc n = omega arith in ap (λ (k : ℕ). list_any (refers m a) (addresses k m.image.start)) next ∙ any-more (refers m a) n m.image.start
 
-wanted-none : (m : MapView) (a : ℕ) → is_wanted_below m 0 a ≡ false
-unfolding is_wanted_below addresses
-wanted-none m a = refl
+referenced-none : (m : MapView) (a : ℕ) → is_referenced_below m 0 a ≡ false
+unfolding is_referenced_below addresses
+referenced-none m a = refl
 
-wanted-all : (m : MapView) (n a : ℕ) → n ≡ length m.image.bytes → (is_covered m.info.names a || is_wanted_below m n a) ≡ has_name m a
-unfolding is_wanted_below is_wanted
-wanted-all m n a is = ap (λ (k : ℕ). is_covered m.info.names a || list_any (refers m a) (addresses k m.image.start)) is ∙ sym (named-is m a)
+referenced-all : (m : MapView) (n a : ℕ) → n ≡ length m.image.bytes → (is_covered m.info.names a || is_referenced_below m n a) ≡ has_name m a
+unfolding is_referenced_below is_referenced
+referenced-all m n a is = ap (λ (k : ℕ). is_covered m.info.names a || list_any (refers m a) (addresses k m.image.start)) is ∙ sym (named-is m a)
 
-pub targets-start : (m : MapView) (cells : List ℕ) → AreNamed (is_covered m.info.names) cells → AreNamed (also (is_covered m.info.names) (is_wanted_below m 0)) cells
-targets-start m cells named = named-as (is_covered m.info.names) (also (is_covered m.info.names) (is_wanted_below m 0)) cells (λ a room. or-none (is_covered m.info.names a) ∙ ap (λ (q : Bool). is_covered m.info.names a || q) (sym (wanted-none m a))) named
+pub targets-start : (m : MapView) (cells : List ℕ) → AreNamed (is_covered m.info.names) cells → AreNamed (also (is_covered m.info.names) (is_referenced_below m 0)) cells
+targets-start m cells named = named-as (is_covered m.info.names) (also (is_covered m.info.names) (is_referenced_below m 0)) cells (λ a room. or-none (is_covered m.info.names a) ∙ ap (λ (q : Bool). is_covered m.info.names a || q) (sym (referenced-none m a))) named
 
-pub targets-next : (m : MapView) (n item : ℕ) (cells : List ℕ) → item ≡ m.image.start + n → AreNamed (also (also (is_covered m.info.names) (is_wanted_below m n)) (λ a. refers m a item)) cells → AreNamed (also (is_covered m.info.names) (is_wanted_below m (n + 1))) cells
+pub targets-next : (m : MapView) (n item : ℕ) (cells : List ℕ) → item ≡ m.image.start + n → AreNamed (also (also (is_covered m.info.names) (is_referenced_below m n)) (λ a. refers m a item)) cells → AreNamed (also (is_covered m.info.names) (is_referenced_below m (n + 1))) cells
 targets-next m n item cells is named =
-    named-as _ (also (is_covered m.info.names) (is_wanted_below m (n + 1))) cells
+    named-as _ (also (is_covered m.info.names) (is_referenced_below m (n + 1))) cells
     (λ a room.
-    or-assoc (is_covered m.info.names a) (is_wanted_below m n a) (refers m a item)
-    ∙ ap (λ (q : Bool). is_covered m.info.names a || q) (ap (λ (k : ℕ). is_wanted_below m n a || refers m a k) is ∙ sym (wanted-next m n a)))
+    or-assoc (is_covered m.info.names a) (is_referenced_below m n a) (refers m a item)
+    ∙ ap (λ (q : Bool). is_covered m.info.names a || q) (ap (λ (k : ℕ). is_referenced_below m n a || refers m a k) is ∙ sym (referenced-next m n a)))
     named
 
-pub targets-end : (m : MapView) (n : ℕ) (cells : List ℕ) → n ≡ length m.image.bytes → AreNamed (also (is_covered m.info.names) (is_wanted_below m n)) cells → AreNamed (has_name m) cells
-targets-end m n cells is named = named-as (also (is_covered m.info.names) (is_wanted_below m n)) (has_name m) cells (λ a room. wanted-all m n a is) named
+pub targets-end : (m : MapView) (n : ℕ) (cells : List ℕ) → n ≡ length m.image.bytes → AreNamed (also (is_covered m.info.names) (is_referenced_below m n)) cells → AreNamed (has_name m) cells
+targets-end m n cells is named = named-as (also (is_covered m.info.names) (is_referenced_below m n)) (has_name m) cells (λ a room. referenced-all m n a is) named
 
 -- ---- the item that a cell holds
 

@@ -6,9 +6,9 @@ use Rattle.std.proofs.lemmas.List.{drop_more, take_all}
 use Rattle.std.proofs.lemmas.List.Folds.{list_any_more}
 use Rattle.info65.specs.Ranges.{has_address}
 use Rattle.info65.specs.Views.{SegmentView}
-use Rattle.info65.specs.declared.range.RangeSpec.{RangeSpec}
-use Rattle.info65.specs.declared.range.RangeType.{RangeType}
-use Rattle.info65.specs.declared.range.RangeType.TheVariants.{Code}
+use Rattle.info65.specs.declared.information.range.RangeSpec.{RangeSpec}
+use Rattle.info65.specs.declared.information.range.RangeType.{RangeType}
+use Rattle.info65.specs.declared.information.range.RangeType.TheVariants.{Code}
 use Rattle.map65.proofs.CellLemmas.{cell-small, set-cell}
 use Rattle.map65.specs.Code.Cells.{AreNamed, cell_of, nowhere, with_border}
 use Rattle.map65.specs.Cells.{bit, code_of}

@@ -7,8 +7,9 @@ use Rattle.std.proofs.lemmas.Bool.Decides.{nat_tests}
 use Rattle.std.specs.Io.KnownBytes.{Consumes, IsAtEnd, Keeps}
 use Rattle.info65.specs.Views.{SettingsView}
 use Rattle.map65.specs.Device.{TakesUpTo}
-use Rattle.map65.specs.Image.{GivesImage, IsReadTo, ReadCount, StopsAt, asked_of, image_by, image_of, is_short, most_of, sized, start_of}
+use Rattle.map65.specs.Image.{GivesImage, ReadCount, StopsAt, asked_of, image_by, image_of, is_short, most_of, sized, start_of}
 use Rattle.map65.specs.ImageView.{ImageView}
+use Rattle.map65.specs.Taking.{IsReadTo}
 use Rattle.map65.specs.Code.Passing.{IsAllTaken, Takes}
 use Rattle.map65.specs.declared.image.ImageFault.{ImageFault}
 use Rattle.map65.specs.declared.image.ImageFault.TheVariants.{Empty, TooLarge, Short}

@@ -7,8 +7,8 @@ use Rattle.std.proofs.lemmas.Bool.Decides.{nat_tests}
 use Rattle.std.specs.Cmp.{both_ways}
 use Rattle.info65.specs.Segments.{contains, segment_covering}
 use Rattle.info65.specs.Views.{SegmentView}
-use Rattle.info65.specs.declared.range.RangeType.{RangeType}
-use Rattle.info65.specs.declared.range.RangeType.TheVariants.{Code}
+use Rattle.info65.specs.declared.information.range.RangeType.{RangeType}
+use Rattle.info65.specs.declared.information.range.RangeType.TheVariants.{Code}
 use Rattle.map65.proofs.CellLemmas.{code-small, coded-code, has_border-is}
 use Rattle.map65.proofs.ItemLemmas.{InRun, in-run, run-if}
 use Rattle.map65.specs.Code.Cells.{are_one_run, cell_of, coded, has_border, is_same_role}

@@ -8,9 +8,9 @@ use Rattle.isa65.specs.declared.mode.Mode.{Mode}
 use Rattle.isa65.specs.declared.mode.Mode.TheVariants.{Acc, Imp}
 use Rattle.isa65.specs.declared.op.Op.{Op}
 use Rattle.info65.specs.Layouts.{layout_of}
-use Rattle.info65.specs.declared.range.Entry.{Entry}
-use Rattle.info65.specs.declared.range.Entry.TheVariants.{Address, Instruction, Return}
-use Rattle.info65.specs.declared.range.RangeType.{RangeType}
+use Rattle.info65.specs.declared.information.range.Entry.{Entry}
+use Rattle.info65.specs.declared.information.range.Entry.TheVariants.{Address, Instruction, Return}
+use Rattle.info65.specs.declared.information.range.RangeType.{RangeType}
 use Rattle.map65.specs.ImageView.{ImageView, bytes_from}
 use Rattle.map65.specs.Items.{item_len}
 use Rattle.map65.specs.MapView.{MapView, opcodes}

@@ -1,6 +1,6 @@
 -- Where base names lie. A listing defines each base name once, so that it assembles back.
 use Rattle.std.specs.Prelude.{◌≡◌, ◌⊎◌, ℕ, ◌+◌, ◌<◌, ◌≤◌, true, false, Some}
-use Rattle.info65.specs.declared.range.RangeType.TheVariants.{Code}
+use Rattle.info65.specs.declared.information.range.RangeType.TheVariants.{Code}
 use Rattle.map65.specs.ImageView.{is_inside}
 use Rattle.map65.specs.Items.{item_len}
 use Rattle.map65.specs.MapView.{MapView}

@@ -3,8 +3,11 @@ use Rattle.std.specs.Prelude.{◌≡◌, ℕ, ◌+◌, ◌-◌, ◌==◌, ◌||�
 use Rattle.info65.specs.Views.{SettingsView}
 use Rattle.map65.specs.declared.image.ImageFault.{ImageFault}
 use Rattle.map65.specs.declared.image.ImageFault.TheVariants.{Empty, TooLarge, Short, Read, Memory}
+use Rattle.map65.specs.declared.devices.taking.TakeFault.{TakeFault}
+use Rattle.map65.specs.declared.devices.taking.TakeFault.TheVariants as Taken
 use Rattle.map65.specs.Device.{one_more}
 use Rattle.map65.specs.ImageView.{ImageView}
+use Rattle.map65.specs.Taking.{IsReadTo}
 
 -- ---- what is asked of the reader
 
@@ -25,10 +28,6 @@ most_of (Some n) = n
 -- how many bytes are read at most, from the first one of the input on
 abbrev pub read_limit : SettingsView → ℕ
 read_limit s = s.offset + most_of s.size
-
--- Reading went on to the limit, or to the end if the input is shorter. For a reader that reports its bytes.
-abbrev pub IsReadTo : ℕ → Option (List ℕ) → Option (List ℕ) → Type 0
-IsReadTo limit old new = IfSome old (λ xs. new ≡ Some (drop limit xs))
 
 -- ---- the image of some bytes
 
@@ -56,6 +55,11 @@ image_of s bytes failed = if failed then Err Read else image_by s.start s.size (
 
 -- ---- the answer
 
+-- the fault of bytes that were not read
+abbrev pub image_fault : TakeFault → ImageFault
+image_fault Taken.Read = Read
+image_fault Taken.Memory = Memory
+
 -- the result is the expected one, unless memory ran out
 abbrev pub GivesImage : Result ImageView ImageFault → Result ImageView ImageFault → Type 0
 GivesImage (Ok image) expected = expected ≡ Ok image
@@ -82,12 +86,3 @@ StopsAt (Err TooLarge) limit old new = IsReadTo limit old new
 StopsAt (Err Short) limit old new = IsReadTo limit old new
 StopsAt (Err Read) limit old new = ⊤
 StopsAt (Err Memory) limit old new = ⊤
-
--- the same of a reader that refuses no bytes: its only faults are Read and Memory
-abbrev pub TakeCount : {T : Type 0} → Result T ImageFault → ℕ → ℕ → Type 0
-TakeCount (Ok v) old new = new ≡ old
-TakeCount (Err Empty) old new = ⊥
-TakeCount (Err TooLarge) old new = ⊥
-TakeCount (Err Short) old new = ⊥
-TakeCount (Err Read) old new = new ≡ one_more old
-TakeCount (Err Memory) old new = new ≡ old

@@ -8,8 +8,8 @@ use Rattle.std.specs.Prelude.{◌≡◌, ◌↔◌, ◌⊎◌, ℕ, ◌+◌, ◌
 use Rattle.isa65.specs.Mode.{len_of}
 use Rattle.isa65.specs.Opcodes.{decoded}
 use Rattle.isa65.specs.declared.op.Op.{Op}
-use Rattle.info65.specs.declared.range.RangeType.{RangeType}
-use Rattle.info65.specs.declared.range.RangeType.TheVariants as role
+use Rattle.info65.specs.declared.information.range.RangeType.{RangeType}
+use Rattle.info65.specs.declared.information.range.RangeType.TheVariants as role
 use Rattle.map65.specs.ImageView.{byte_at, is_inside}
 use Rattle.map65.specs.MapView.{MapView, opcodes}
 use Rattle.map65.specs.Pieces.{AreOnePiece, IsFirst, are_joined}
@@ -28,8 +28,9 @@ abbrev pub size_for : MapView → RangeType → ℕ → ℕ
 size_for m role.Code b = code_size (decoded (opcodes m) b)
 size_for m r b = unit_of r
 
-unfoldable pub wanted_at : MapView → ℕ → ℕ
-wanted_at m a = size_for m (role_of m.info a) (byte_at m.image a)
+-- how many bytes the item that begins at an address has, if its piece has room for them
+unfoldable pub full_len_at : MapView → ℕ → ℕ
+full_len_at m a = size_for m (role_of m.info a) (byte_at m.image a)
 
 -- `len` is here the length of the item that begins at an address, and 0 where none does.
 
@@ -48,14 +49,14 @@ pub record CanBegin (m : MapView) (len : ℕ → ℕ) (a : ℕ) : Type 0 where
 
 pub record AreItems (m : MapView) (len : ℕ → ℕ) : Type 0 where
   pub begins : (a : ℕ) → 0 < len a ↔ CanBegin m len a
-  pub whole : (a : ℕ) → 0 < len a → AreOnePiece m a (a + wanted_at m a - 1) → len a ≡ wanted_at m a
-  pub cut : (a : ℕ) → 0 < len a → (AreOnePiece m a (a + wanted_at m a - 1) → ⊥) → len a ≡ 1
+  pub whole : (a : ℕ) → 0 < len a → AreOnePiece m a (a + full_len_at m a - 1) → len a ≡ full_len_at m a
+  pub cut : (a : ℕ) → 0 < len a → (AreOnePiece m a (a + full_len_at m a - 1) → ⊥) → len a ≡ 1
 
 -- ---- how items are counted
 
 -- the length of an item that begins at an address of the image
 unfoldable pub size_at : MapView → ℕ → ℕ
-size_at m a = if are_joined m (wanted_at m a - 1) a then wanted_at m a else 1
+size_at m a = if are_joined m (full_len_at m a - 1) a then full_len_at m a else 1
 
 -- the length of the item that begins at an address, and 0 where none does; it is counted from the start of the image on
 unfoldable pub item_len : MapView → ℕ → ℕ

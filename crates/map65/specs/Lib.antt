@@ -10,6 +10,7 @@ pub mod Pieces
 pub mod Roles
 pub mod Segments
 pub mod Spans
+pub mod Taking
 pub mod Targets
 pub mod Told
 pub mod Code

@@ -1,12 +1,20 @@
 -- What contracts see of a map: what it was built from.
 use Rattle.isa65.specs.Cpu.{table_of}
 use Rattle.isa65.specs.Opcodes.{Table}
+use Rattle.info65.specs.Names.{AreNames}
+use Rattle.info65.specs.Segments.{AreSegments}
 use Rattle.info65.specs.Views.{InfoView}
-use Rattle.map65.specs.ImageView.{ImageView}
+use Rattle.map65.specs.ImageView.{ImageView, IsPlaced}
 
 pub record MapView : Type 0 where
   pub info : InfoView
   pub image : ImageView
+
+-- what holds of the information and the image of each map
+pub record IsSoundMap (m : MapView) : Type 0 where
+  pub names : AreNames m.info.names
+  pub segments : AreSegments m.info.segments
+  pub placed : IsPlaced m.image
 
 -- the opcodes of its CPU
 abbrev pub opcodes : MapView → Table

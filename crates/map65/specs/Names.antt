@@ -10,7 +10,7 @@ use Rattle.std.specs.List.{list_any}
 use Rattle.std.specs.Option.{option_map}
 use Rattle.info65.specs.Names.{covering, covers, default_name, name_at}
 use Rattle.info65.specs.Views.{NameView}
-use Rattle.info65.specs.declared.range.RangeType.{RangeType}
+use Rattle.info65.specs.declared.information.range.RangeType.{RangeType}
 use Rattle.map65.specs.ImageView.{is_inside}
 use Rattle.map65.specs.Items.{item_len}
 use Rattle.map65.specs.MapView.{MapView}
@@ -36,22 +36,22 @@ last_item m zero = zero
 last_item m (suc a) = if nat_lt 0 (item_len m (suc a)) then suc a else last_item m a
 
 -- the first byte of the item that the address lies inside, in such a table; any other address itself
-unfoldable pub home : MapView → ℕ → ℕ
-home m a = if is_inside m.image a && is_wide (role_of m.info a) then last_item m a else a
+unfoldable pub entry_start : MapView → ℕ → ℕ
+entry_start m a = if is_inside m.image a && is_wide (role_of m.info a) then last_item m a else a
 
 -- ---- which addresses need a name
 
 -- the target is the address, or lies inside the item that begins there
 abbrev pub refers_by : MapView → Option ℕ → ℕ → Bool
 refers_by m None a = false
-refers_by m (Some t) a = t == a || home m t == a
+refers_by m (Some t) a = t == a || entry_start m t == a
 
 unfoldable pub refers : MapView → ℕ → ℕ → Bool
 refers m a item = refers_by m (target_at m item) a
 
 -- the address is a target, or the first byte of an item that a target lies inside
-unfoldable pub is_wanted : MapView → ℕ → Bool
-is_wanted m a = list_any (refers m a) (addresses (length m.image.bytes) m.image.start)
+unfoldable pub is_referenced : MapView → ℕ → Bool
+is_referenced m a = list_any (refers m a) (addresses (length m.image.bytes) m.image.start)
 
 -- ---- the name
 
@@ -72,17 +72,17 @@ base_or (Some n) b = given_base n
 base_or None b = b
 
 -- the base of the address of an item, or of an address outside such items
-unfoldable pub home_base : MapView → ℕ → Base
-home_base m a = base_or (covering m.info.names (home m a)) (default_base (home m a))
+unfoldable pub entry_base : MapView → ℕ → Base
+entry_base m a = base_or (covering m.info.names (entry_start m a)) (default_base (entry_start m a))
 
 abbrev pub base_by : Option NameView → Bool → Base → Option Base
-base_by (Some n) wanted b = Some (given_base n)
+base_by (Some n) referenced b = Some (given_base n)
 base_by None true b = Some b
 base_by None false b = None
 
 -- the base of an address's name
 unfoldable pub base_at : MapView → ℕ → Option Base
-base_at m a = base_by (covering m.info.names a) (is_wanted m a) (home_base m a)
+base_at m a = base_by (covering m.info.names a) (is_referenced m a) (entry_base m a)
 
 -- ---- where a base is defined
 
@@ -117,18 +117,18 @@ has_name m a = is_some (kind_at m a)
 -- ---- the laws
 
 -- the address is a target, or the first byte of an item that a target lies inside
-pub record IsWanted (m : MapView) (a : ℕ) : Type 0 where
+pub record IsReferenced (m : MapView) (a : ℕ) : Type 0 where
   pub target : ℕ
   pub is_target : IsTarget m target
   pub place : (a ≡ target) ⊎ IsInner m target a
 
-abbrev pub WantedLaw : MapView → Type 0
-WantedLaw m = (a : ℕ) → (is_wanted m a ≡ true) ↔ IsWanted m a
+abbrev pub ReferenceLaw : MapView → Type 0
+ReferenceLaw m = (a : ℕ) → (is_referenced m a ≡ true) ↔ IsReferenced m a
 
 -- an address inside an item of such a table belongs to its first byte, any other to itself
-pub record HomeLaw (m : MapView) : Type 0 where
-  pub inner : (a first : ℕ) → IsInner m a first → home m a ≡ first
-  pub other : (a : ℕ) → ((first : ℕ) → IsInner m a first → ⊥) → home m a ≡ a
+pub record EntryStartLaw (m : MapView) : Type 0 where
+  pub inner : (a first : ℕ) → IsInner m a first → entry_start m a ≡ first
+  pub other : (a : ℕ) → ((first : ℕ) → IsInner m a first → ⊥) → entry_start m a ≡ a
 
 -- of the names that cover the address, the one with the highest address of its own
 pub record IsHighest (names : List NameView) (a : ℕ) (b : Base) : Type 0 where
@@ -146,5 +146,5 @@ IsUncovered names a = (i : ℕ) → i < length names → covers (name_at names i
 pub record NameLaw (m : MapView) : Type 0 where
   pub given : (a : ℕ) (b : Base) → IsHighest m.info.names a b → base_at m a ≡ Some b
   pub inner : (a first : ℕ) → IsUncovered m.info.names a → IsTarget m a → IsInner m a first → base_at m a ≡ base_at m first
-  pub default : (a : ℕ) → IsUncovered m.info.names a → IsWanted m a → ((first : ℕ) → IsInner m a first → ⊥) → base_at m a ≡ Some (default_base a)
-  pub none : (a : ℕ) → IsUncovered m.info.names a → (IsWanted m a → ⊥) → base_at m a ≡ None
+  pub default : (a : ℕ) → IsUncovered m.info.names a → IsReferenced m a → ((first : ℕ) → IsInner m a first → ⊥) → base_at m a ≡ Some (default_base a)
+  pub none : (a : ℕ) → IsUncovered m.info.names a → (IsReferenced m a → ⊥) → base_at m a ≡ None

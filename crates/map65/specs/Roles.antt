@@ -1,15 +1,15 @@
 -- The role of an address.
 use Rattle.std.specs.Prelude.{◌≡◌, ℕ, Bool, true, false, List, [], ◌∷◌, All, Option, Some, None, nat_lt, if◌then◌else◌}
 use denote.Enum.Bare.{sameb}
-use Rattle.info65.specs.contracts.range.RangeType as range_type
+use Rattle.info65.specs.contracts.information.range.RangeType as range_type
 use Rattle.info65.specs.Layouts.{layout_of}
 use Rattle.info65.specs.Ranges.{AreDisjoint, has_address}
 use Rattle.info65.specs.Views.{InfoView}
-use Rattle.info65.specs.declared.range.Entry.{Entry}
-use Rattle.info65.specs.declared.range.Entry.TheVariants.{Skipped}
-use Rattle.info65.specs.declared.range.RangeSpec.{RangeSpec}
-use Rattle.info65.specs.declared.range.RangeType.{RangeType}
-use Rattle.info65.specs.declared.range.RangeType.TheVariants as role
+use Rattle.info65.specs.declared.information.range.Entry.{Entry}
+use Rattle.info65.specs.declared.information.range.Entry.TheVariants.{Skipped}
+use Rattle.info65.specs.declared.information.range.RangeSpec.{RangeSpec}
+use Rattle.info65.specs.declared.information.range.RangeType.{RangeType}
+use Rattle.info65.specs.declared.information.range.RangeType.TheVariants as role
 use Rattle.map65.specs.ImageView.{is_inside}
 use Rattle.map65.specs.MapView.{MapView}
 

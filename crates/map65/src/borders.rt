@@ -1,6 +1,7 @@
 //! Marks the segment borders in the cells of a map.
 
 ghost use Rattle.std.specs.Prelude.{◌≡◌, ◌+◌, ◌==◌, ◌||◌, ◌<◌, ◌≤◌, ℕ, length, slice_index};
+ghost use Rattle.info65.specs.Segments.{AreSegments};
 ghost use Rattle.map65.specs.Code.Marking.{bordered};
 ghost use Rattle.map65.specs.Segments.{is_border};
 
@@ -34,6 +35,7 @@ pub fn mark_borders<A: Allocator>(cells: &mut [u16], info: &Info<A>)
     requires count { length cells.old ≡ 65536 }
     ensures count { length cells.new ≡ 65536 }
     ensures each { (a : ℕ) → a < 65536 → slice_index cells.new a ≡ bordered (is_border info.now.segments a) (slice_index cells.old a) }
+    ensures sound { AreSegments info.now.segments }
 {
     let segments = info.segments();
     for i in 0..segments.len() {

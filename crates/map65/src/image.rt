@@ -1,12 +1,11 @@
 //! The image.
 
 ghost use Rattle.std.specs.Prelude.{◌≡◌, IfOk};
-ghost use Rattle.map65.specs.declared.image.ImageFault.TheVariants.{Read, Memory};
 ghost use Rattle.map65.specs.Image.{image_by, is_short, start_of};
 ghost use Rattle.map65.specs.ImageView.{AreBytes, IsPlaced};
 
-use crate::devices::DeviceFault;
-use std::alloc::{AllocError, Allocator, Global};
+use crate::devices::TakeFault;
+use std::alloc::{Allocator, Global};
 use std::marker::Model;
 use thiserror::Error;
 
@@ -108,18 +107,15 @@ pub enum ImageFault {
     Memory,
 }
 
-impl From<AllocError> for ImageFault {
-    ghost from_gives = { λ _ e. e ≡ Memory };
+impl From<TakeFault> for ImageFault {
+    ghost use Rattle.map65.specs.Image.{image_fault};
 
-    fn from(_: AllocError) -> ImageFault {
-        ImageFault::Memory
-    }
-}
+    ghost from_gives = { λ f e. e ≡ image_fault f };
 
-impl From<DeviceFault> for ImageFault {
-    ghost from_gives = { λ _ e. e ≡ Read };
-
-    fn from(_: DeviceFault) -> ImageFault {
-        ImageFault::Read
+    fn from(fault: TakeFault) -> ImageFault {
+        match fault {
+            TakeFault::Read => ImageFault::Read,
+            TakeFault::Memory => ImageFault::Memory,
+        }
     }
 }

@@ -2,12 +2,12 @@
 
 ghost use Rattle.std.specs.Prelude.{List};
 ghost use Rattle.info65.specs.Names.{AreNames};
-ghost use Rattle.info65.specs.declared.range.RangeSpec.{RangeSpec};
+ghost use Rattle.info65.specs.declared.information.range.RangeSpec.{RangeSpec};
 ghost use Rattle.map65.specs.Bases.{BaseLaw, PlaceLaw};
 ghost use Rattle.map65.specs.Code.Cells.{CellLaw};
 ghost use Rattle.map65.specs.Items.{ItemLaw};
 ghost use Rattle.map65.specs.MapView.{MapView};
-ghost use Rattle.map65.specs.Names.{HomeLaw, NameLaw, WantedLaw};
+ghost use Rattle.map65.specs.Names.{EntryStartLaw, NameLaw, ReferenceLaw};
 ghost use Rattle.map65.specs.Pieces.{PieceLaw, RunLaw};
 ghost use Rattle.map65.specs.Roles.{RoleLaw};
 
@@ -39,13 +39,13 @@ pub fn cell_law()
 {}
 
 /// An address inside an item of a table whose entries have more than one byte belongs to the item's first byte.
-pub fn home_law()
-    ensures { (m : MapView) → HomeLaw m }
+pub fn entry_start_law()
+    ensures { (m : MapView) → EntryStartLaw m }
 {}
 
 /// An address is marked if it is a target, or the first byte of an item that a target lies inside.
-pub fn wanted_law()
-    ensures { (m : MapView) → WantedLaw m }
+pub fn reference_law()
+    ensures { (m : MapView) → ReferenceLaw m }
 {}
 
 /// The name of an address is that of the first case of the rule that applies.

@@ -3,11 +3,12 @@
 ghost use Rattle.std.specs.Prelude.{◌≡◌, ◌+◌, ◌-◌, ◌/◌, ◌%◌, ◌<◌, ◌≤◌, ℕ, IfOk, IfSome, length, option_map, slice_index};
 ghost use Rattle.info65.specs.Code.Names.{given_seen};
 ghost use Rattle.info65.specs.Names.{covering, default_name};
-ghost use Rattle.map65.specs.Code.Cells.{AreCells, is_named, len_in_cell, role_in_cell};
+ghost use Rattle.map65.specs.Code.Cells.{IsBuilt, is_named, len_in_cell, role_in_cell};
 ghost use Rattle.map65.specs.Cells.{AreCellsOf, bit, code_of};
-ghost use Rattle.map65.specs.ImageView.{end_of};
+ghost use Rattle.map65.specs.ImageView.{IsPlaced, end_of};
 ghost use Rattle.map65.specs.Items.{item_len};
-ghost use Rattle.map65.specs.Names.{given_base, has_name, home, home_base, kind_at, kind_by, place_in, place_of, text_at};
+ghost use Rattle.map65.specs.MapView.{IsSoundMap};
+ghost use Rattle.map65.specs.Names.{given_base, has_name, entry_start, entry_base, kind_at, kind_by, place_in, place_of, text_at};
 ghost use Rattle.map65.specs.Pieces.{is_in_run};
 ghost use Rattle.map65.specs.Roles.{role_at};
 ghost use Rattle.map65.specs.Segments.{is_border, segment_at};
@@ -16,7 +17,7 @@ use crate::cells::{are_one_run, blank_cells, is_named, len_in, role_in};
 use crate::image::{ADDRESSES, Image};
 use crate::marking::{mark_items, mark_roles};
 use crate::name::{NameBuf, NameKind, Place, put_default, put_text};
-use crate::naming::{home_of, mark_covered, mark_own, mark_targets};
+use crate::naming::{entry_start_of, mark_covered, mark_own, mark_targets};
 use crate::roles::is_skip;
 use info65::{Given, Info, RangeType};
 use isa65::DecodeTable;
@@ -38,9 +39,9 @@ impl<'a, A: Allocator> Model for Map<'a, A> {
 
     ghost view = { λ m. record { info = m.info.now; image = m.image.now } };
 
-    ghost use Rattle.map65.specs.Code.Cells.{AreCells};
+    ghost use Rattle.map65.specs.Code.Cells.{IsBuilt};
 
-    ghost invariant = { λ m. AreCells (record { info = m.info.now; image = m.image.now }) m.cells.items };
+    ghost invariant = { λ m. IsBuilt (record { info = m.info.now; image = m.image.now }) m.cells.items };
 }
 
 impl<'a, A: Allocator> Map<'a, A> {
@@ -55,14 +56,16 @@ impl<'a, A: Allocator> Map<'a, A> {
 
     /// Returns the information that the map was built from.
     pub fn info(&self) -> &'a Info<A>
-        ensures { result.now ≡ self.now.info }
+        ensures info { result.now ≡ self.now.info }
+        ensures sound { IsSoundMap self.now }
     {
         self.info
     }
 
     /// Returns the image that the map was built from.
     pub fn image(&self) -> &'a Image<A>
-        ensures { result.now ≡ self.now.image }
+        ensures image { result.now ≡ self.now.image }
+        ensures placed { IsPlaced self.now.image }
     {
         self.image
     }
@@ -106,7 +109,7 @@ impl<'a, A: Allocator> Map<'a, A> {
     }
 
     /// Returns the name of the segment that the address belongs to, and `None` outside all segments.
-    pub fn segment_at(&self, address: u16) -> Option<&[u8]>
+    pub fn segment_at(&self, address: u16) -> Option<&'a [u8]>
         ensures { option_map (λ n. n.now) result ≡ segment_at self.now address }
     {
         self.info.segment_covering(address)
@@ -132,7 +135,7 @@ impl<'a, A: Allocator> Map<'a, A> {
         if let Some(given) = self.given(address) {
             return Some(self.put_given(given, address, name));
         }
-        Some(self.put_home(address, name))
+        Some(self.put_entry_start(address, name))
     }
 
     /// The cell of the address.
@@ -148,11 +151,11 @@ impl<'a, A: Allocator> Map<'a, A> {
 
     /// The first byte of the item that the address lies inside, in a table whose entries have more than one byte, and
     /// any other address itself.
-    fn home(&self, address: u16) -> u16
-        ensures value { result ≡ home self.now address }
+    fn entry_start(&self, address: u16) -> u16
+        ensures value { result ≡ entry_start self.now address }
         ensures below { result ≤ address }
     {
-        home_of(self.cells.as_slice(), address)
+        entry_start_of(self.cells.as_slice(), address)
     }
 
     /// The name that is given to the address.
@@ -188,18 +191,18 @@ impl<'a, A: Allocator> Map<'a, A> {
     }
 
     /// Puts the name of the first byte of the address's item in the buffer.
-    fn put_home(&self, address: u16, name: &mut NameBuf) -> NameKind
-        ensures kind { result ≡ kind_by self.now address (home_base self.now address) }
-        ensures text { name.new.items ≡ (home_base self.now address).text }
+    fn put_entry_start(&self, address: u16, name: &mut NameBuf) -> NameKind
+        ensures kind { result ≡ kind_by self.now address (entry_base self.now address) }
+        ensures text { name.new.items ≡ (entry_base self.now address).text }
     {
-        let home = self.home(address);
-        if let Some(given) = self.given(home) {
+        let entry_start = self.entry_start(address);
+        if let Some(given) = self.given(entry_start) {
             return self.put_given(given, address, name);
         }
-        put_default(name, home);
+        put_default(name, entry_start);
         NameKind {
-            place: self.place_of(home),
-            offset: address - home,
+            place: self.place_of(entry_start),
+            offset: address - entry_start,
         }
     }
 }
@@ -208,7 +211,7 @@ impl<'a, A: Allocator> Map<'a, A> {
 fn mark_all<A: Allocator>(cells: &mut [u16], info: &Info<A>, image: &Image<A>)
     requires count { length cells.old ≡ 65536 }
     requires blank { (a : ℕ) → a < 65536 → slice_index cells.old a ≡ 0 }
-    ensures { AreCells (record { info = info.now; image = image.now }) cells.new }
+    ensures { IsBuilt (record { info = info.now; image = image.now }) cells.new }
 {
     mark_roles(cells, info, image);
     mark_own(cells, info);

@@ -3,10 +3,11 @@
 ghost use Rattle.std.specs.Prelude.{◌≡◌, ◌+◌, ◌-◌, ◌<◌, ◌≤◌, ℕ, [], length, slice_index};
 ghost use Rattle.isa65.specs.Cpu.{table_of};
 ghost use Rattle.isa65.specs.Opcodes.{decoded};
+ghost use Rattle.info65.specs.Segments.{AreSegments};
 ghost use Rattle.map65.specs.Code.Cells.{AreNamed, IsLaid, is_cut, nowhere};
 ghost use Rattle.map65.specs.Code.Marking.{AreMarkedBelow, ArePainted, is_joined_in, painted, painted_by};
 ghost use Rattle.map65.specs.ImageView.{IsPlaced, end_of};
-ghost use Rattle.map65.specs.Items.{code_size, size_at, wanted_at};
+ghost use Rattle.map65.specs.Items.{code_size, size_at, full_len_at};
 ghost use Rattle.map65.specs.Pieces.{is_own};
 ghost use Rattle.map65.specs.Roles.{role_of};
 ghost use Rattle.map65.specs.Spans.{left_at};
@@ -67,6 +68,7 @@ pub fn mark_roles<A: Allocator>(cells: &mut [u16], info: &Info<A>, image: &Image
     requires blank { (a : ℕ) → a < 65536 → slice_index cells.old a ≡ 0 }
     ensures marked { AreMarkedBelow (record { info = info.now; image = image.now }) 0 cells.new }
     ensures named { AreNamed nowhere cells.new }
+    ensures sound { AreSegments info.now.segments }
 {
     paint_code(cells, image);
     let ranges = info.ranges();
@@ -112,8 +114,8 @@ fn code_size(opcodes: &DecodeTable, byte: u8) -> u8
 
 /// Returns the length of an item of this role that begins at the address, if its piece has room for it. The opcodes are those
 /// of the information's CPU.
-#[tactic(auto, unfolding(crate::specs::Items::wanted_at))]
-fn wanted_at<A: Allocator>(
+#[tactic(auto, unfolding(crate::specs::Items::full_len_at))]
+fn full_len_at<A: Allocator>(
     info: &Info<A>,
     image: &Image<A>,
     opcodes: &DecodeTable,
@@ -124,7 +126,7 @@ fn wanted_at<A: Allocator>(
     requires low { image.now.start ≤ address }
     requires high { address < end_of image.now }
     requires role { role ≡ role_of info.now address }
-    ensures value { result ≡ wanted_at (record { info = info.now; image = image.now }) address }
+    ensures value { result ≡ full_len_at (record { info = info.now; image = image.now }) address }
     ensures positive { 1 ≤ result }
     ensures small { result ≤ 4 }
 {
@@ -158,14 +160,14 @@ fn size_at<A: Allocator>(
     ensures positive { 1 ≤ result }
     ensures small { result ≤ 4 }
 {
-    let wanted = wanted_at(info, image, opcodes, role, address);
+    let full_len = full_len_at(info, image, opcodes, role, address);
     let first = usize::from(address);
-    for i in 0..wanted - 1 {
+    for i in 0..full_len - 1 {
         if !is_joined_in(cells, first + usize::from(i) + 1) {
             return 1;
         }
     }
-    wanted
+    full_len
 }
 
 /// Writes the length of the item that begins at the address, and returns it. A skipped byte is no item, and
@@ -211,6 +213,7 @@ pub fn mark_items<A: Allocator>(
     requires own { AreNamed (is_own info.now.names) cells.old }
     ensures laid { IsLaid (record { info = info.now; image = image.now }) cells.new }
     ensures own { AreNamed (is_own info.now.names) cells.new }
+    ensures placed { IsPlaced image.now }
 {
     let mut at = usize::from(image.start());
     let end = at + image.bytes().len();

@@ -7,7 +7,7 @@ ghost use Rattle.map65.specs.Code.Cells.{AreCells, AreNamed, IsLaid, nowhere, wi
 ghost use Rattle.map65.specs.Code.Marking.{KeepsLay, Reaches, also, is_covered, is_covered_below, is_within};
 ghost use Rattle.map65.specs.ImageView.{IsPlaced, end_of};
 ghost use Rattle.map65.specs.MapView.{MapView};
-ghost use Rattle.map65.specs.Names.{home, refers};
+ghost use Rattle.map65.specs.Names.{entry_start, refers};
 ghost use Rattle.map65.specs.Pieces.{is_own};
 
 use crate::cells::{is_wide_cell, len_in, role_in, with_name};
@@ -34,6 +34,7 @@ pub fn mark_own<A: Allocator>(cells: &mut [u16], info: &Info<A>)
     requires named { AreNamed nowhere cells.old }
     ensures keeps { KeepsLay cells.old cells.new }
     ensures named { AreNamed (is_own info.now.names) cells.new }
+    ensures sound { AreNames info.now.names }
 {
     for i in 0..info.given_count() {
         mark(cells, info.given(i).address);
@@ -87,16 +88,16 @@ pub fn mark_covered<A: Allocator>(cells: &mut [u16], info: &Info<A>)
 
 /// Returns the first byte of the item that the address lies inside, in a table whose entries have more than one
 /// byte, and any other address itself.
-pub fn home_of(cells: &[u16], address: u16) -> u16
+pub fn entry_start_of(cells: &[u16], address: u16) -> u16
     requires { length cells.now ≡ 65536 }
-    ensures value { (m : MapView) → IsLaid m cells.now → result ≡ home m address }
+    ensures value { (m : MapView) → IsLaid m cells.now → result ≡ entry_start m address }
     ensures below { result ≤ address }
 {
     if !is_wide_cell(cells[usize::from(address)]) {
         return address;
     }
     let mut at = address;
-    'home: while 0 < at && len_in(cells[usize::from(at)]) == 0 {
+    'back: while 0 < at && len_in(cells[usize::from(at)]) == 0 {
         at -= 1;
     }
     at
@@ -126,7 +127,7 @@ fn mark_target<A: Allocator>(
     }
     let role = role_in(cell).unwrap();
     if let Some(target) = target_at(info, image, opcodes, role, len, address) {
-        let first = home_of(cells, target);
+        let first = entry_start_of(cells, target);
         mark(cells, target);
         mark(cells, first);
     }

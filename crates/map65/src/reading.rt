@@ -1,66 +1,18 @@
 //! Reading an image.
 
 ghost use Rattle.std.specs.Prelude.{◌≡◌, ◌+◌, ◌-◌, ◌^◌, ◌<◌, ◌≤◌, take, drop, IfSome, IfOk, length};
-ghost use Rattle.map65.specs.Device.{Counts, TakesUpTo, has_failed};
-ghost use Rattle.map65.specs.Image.{GivesImage, IsReadTo, ReadCount, StopsAt, TakeCount, image_of, read_limit, most_of};
+ghost use Rattle.map65.specs.Device.{TakesUpTo, has_failed};
+ghost use Rattle.map65.specs.Image.{GivesImage, ReadCount, StopsAt, image_of, read_limit, most_of};
 ghost use Rattle.map65.specs.ImageView.{AreBytes, IsPlaced};
-ghost use Rattle.map65.specs.Code.Passing.{Passes};
+ghost use Rattle.map65.specs.Taking.{IsReadTo, TakeCount};
 
-use crate::devices::{DeviceFault, Source};
+use crate::devices::{Source, TakeFault, pass_over, take_up_to};
 use crate::image::{Image, ImageFault};
 use info65::Info;
 use std::alloc::Allocator;
 
-/// The most that one read takes.
-const CHUNK: usize = 4096;
-
 /// The most that is read if no size is given: one byte more than an image may have.
 const LIMIT: usize = 65_537;
-
-/// Passes over this many bytes without storing them. Returns false if the input ends before.
-fn pass_over<R: Source>(input: &mut R, count: usize) -> Result<bool, DeviceFault>
-    ensures passed { Passes result count (R.left input.old) (R.left input.new) }
-    ensures bound { TakesUpTo count (R.left input.old) (R.left input.new) }
-    ensures count { Counts (R.faults input.old) (R.faults input.new) result }
-{
-    let mut chunk = [0u8; CHUNK];
-    let mut left = count;
-    'passes: while 0 < left {
-        let room = CHUNK.min(left);
-        let n = input.read_some(&mut chunk[..room])?;
-        if n == 0 {
-            return Ok(false);
-        }
-        left -= n;
-    }
-    Ok(true)
-}
-
-/// Reads up to the end of the input, or up to `limit` bytes. Fails with `Read` if a read fails, which is not
-/// tried again, and with `Memory` if it runs out of memory.
-#[tactic(auto, using(crate::proofs::ReadLemmas::took_more, crate::proofs::ReadLemmas::took_all, crate::proofs::ReadLemmas::took_limit, crate::proofs::ReadLemmas::rest_end, crate::proofs::ReadLemmas::rest_limit))]
-pub fn take_up_to<A: Allocator, R: Source>(
-    alloc: A,
-    input: &mut R,
-    limit: usize,
-) -> Result<Vec<u8, A>, ImageFault>
-    ensures bytes { IfOk result (λ v. IfSome (R.left input.old) (λ xs. v.items ≡ take limit xs)) }
-    ensures rest { IfOk result (λ _. IsReadTo limit (R.left input.old) (R.left input.new)) }
-    ensures bound { TakesUpTo limit (R.left input.old) (R.left input.new) }
-    ensures count { TakeCount result (R.faults input.old) (R.faults input.new) }
-{
-    let mut bytes = Vec::new(alloc);
-    let mut chunk = [0u8; CHUNK];
-    'reads: while bytes.len() < limit {
-        let room = CHUNK.min(limit - bytes.len());
-        let n = input.read_some(&mut chunk[..room])?;
-        if n == 0 {
-            return Ok(bytes);
-        }
-        bytes.extend_from_slice(&chunk[..n])?;
-    }
-    Ok(bytes)
-}
 
 /// The bytes after the first `offset`, up to the end or `limit` of them.
 #[tactic(auto, using(crate::proofs::ReadLemmas::bound_after))]
@@ -69,7 +21,7 @@ fn take_after<A: Allocator, R: Source>(
     input: &mut R,
     offset: usize,
     limit: usize,
-) -> Result<Vec<u8, A>, ImageFault>
+) -> Result<Vec<u8, A>, TakeFault>
     ensures bytes { IfOk result (λ v. IfSome (R.left input.old) (λ xs. v.items ≡ take limit (drop offset xs))) }
     ensures rest { IfOk result (λ _. IsReadTo (offset + limit) (R.left input.old) (R.left input.new)) }
     ensures bound { TakesUpTo (offset + limit) (R.left input.old) (R.left input.new) }

@@ -10,7 +10,10 @@ use std::fs::File;
 const LIMIT: usize = 65_537;
 
 fn read<R: Source>(alloc: Global, input: &mut R) -> Result<Vec<u8>, Failure> {
-    Ok(take_up_to(alloc, input, LIMIT)?)
+    match take_up_to(alloc, input, LIMIT) {
+        Ok(bytes) => Ok(bytes),
+        Err(fault) => Err(Failure::Image(ImageFault::from(fault))),
+    }
 }
 
 /// The bytes of the file of this name, at most 65,537. `/dev/stdin` is standard input.

@@ -5,7 +5,7 @@ use Rattle.std.specs.List.{All, flat_map, prefix_len}
 use Rattle.std.proofs.lemmas.List.{append-nil}
 use Rattle.std.proofs.lemmas.List.Elements.{All-head, All-tail}
 use Rattle.std.proofs.lemmas.Bool.{leb-false, leb-true}
-use Rattle.stmt65.specs.declared.fault.AsmFault.{AsmFault}
+use Rattle.stmt65.specs.declared.assembling.fault.AsmFault.{AsmFault}
 use Rattle.stmt65.specs.SourceLine.{SourceLine}
 use Rattle.stmt65.specs.Lines.{text_lines}
 use Rattle.stmt65.specs.Lexing.{parts}
@@ -14,8 +14,8 @@ use Rattle.stmt65.specs.Symbols.{Definition}
 use Rattle.stmt65.specs.Meaning.{State, after, bytes_of, fault_of, initial, meaning, readings}
 use Rattle.stmt65.specs.TextLaws.{Line, IsFaultless, line_bytes, lines_below, lines_of, names_of}
 use Rattle.stmt65.specs.LineAddresses.{FindsLine, GivesByte, address_after, line_addresses, line_past}
-use Rattle.stmt65.specs.code.Held.{held}
-use Rattle.stmt65.specs.code.MeaningViews.{held_after}
+use Rattle.stmt65.specs.Code.Held.{held}
+use Rattle.stmt65.specs.Code.MeaningViews.{held_after}
 use Rattle.stmt65.proofs.HeldLemmas.{after-held, held_state, initial-held, none_fits, small_same}
 use Rattle.stmt65.proofs.PassLaws.{readings_more, readings_nil}
 use Rattle.stmt65.proofs.TextLemmas.{at-after, means_bytes}

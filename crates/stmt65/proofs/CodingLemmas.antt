@@ -1,24 +1,14 @@
 -- How codings are found and how long they are.
-use Rattle.std.proofs.Common.{◌≡◌, ℕ, suc, Bool, true, false, ◌+◌, ◌*◌, ◌<◌, ◌≤◌, List, [], ◌∷◌, ◌++◌, length, drop, get_or, map, Option, Some, None, refl, sym, ap, ◌∙◌, append_assoc, arith}
-use Rattle.std.proofs.Math.Nat.{suc-mul, zero-mul}
-use Rattle.std.proofs.Math.Seq.{drop-cons}
-use Rattle.std.proofs.Math.ListN.{drop_of_length-le}
+use Rattle.std.proofs.Common.{◌≡◌, ℕ, Bool, true, false, ◌+◌, List, [], ◌∷◌, ◌++◌, length, map, Option, Some, None, refl, ap, ◌∙◌, arith}
 use Rattle.isa65.specs.declared.cpu.Cpu.{Cpu}
 use Rattle.isa65.specs.declared.mnemonic.Mnemonic.{Mnemonic}
 use Rattle.isa65.specs.Cpu.{table_of}
 use Rattle.isa65.specs.Opcodes.{encoded}
 use Rattle.std.specs.Prelude.{◌&&◌}
 use Rattle.std.specs.List.{list_all, flat_map}
-use Rattle.stmt65.specs.declared.source_line.Value.{Value as CodeValue}
-use Rattle.stmt65.specs.declared.source_line.Datum.{Datum as CodeDatum}
-use Rattle.stmt65.specs.declared.source_line.Datum.TheVariants.{Number, String}
-use Rattle.stmt65.specs.declared.directive.Directive.{Directive}
-use Rattle.stmt65.specs.Directives.{entry_len}
-use Rattle.stmt65.specs.Symbols.{Definition, is_known}
-use Rattle.stmt65.specs.code.SourceLineViews.{value_of, datum_of}
-use Rattle.stmt65.specs.Coding.{Fragment, Fixed, Entry, Way, first_way, coded_so, datum_fragments, is_fragment_known, fragment_fits, fragment_bytes, coding_len}
-use Rattle.stmt65.specs.code.CodingViews.{data_fragments, entry_fragments}
-use Rattle.stmt65.specs.code.Held.{held}
+use Rattle.stmt65.specs.Symbols.{Definition}
+use Rattle.stmt65.specs.Coding.{Fragment, Fixed, Way, first_way, coded_so, is_fragment_known, fragment_fits, fragment_bytes, coding_len}
+use Rattle.stmt65.specs.Code.Held.{held}
 
 abbrev pub or_way : Option (List Fragment) → Option (List Fragment) → Option (List Fragment)
 or_way None other = other
@@ -68,24 +58,17 @@ unfolding coding_len
 datum_len [] = refl
 datum_len (b ∷ bs) = let ih = datum_len bs in omega arith
 
-pub entry_fragments_len : (d : Directive) (vs : List CodeValue) → coding_len (entry_fragments d vs) ≡ length vs * entry_len d
-unfolding coding_len
-entry_fragments_len d [] = sym (zero-mul (entry_len d))
-entry_fragments_len d (v ∷ vs) = omega (arith, entry_fragments_len d vs, suc-mul (length vs) (entry_len d))
+-- a sum that is held at its limit, one piece on
+pub len_step : (all piece rest : List Fragment) (len more new total : ℕ) → all ≡ piece ++ rest → more ≡ coding_len piece → new ≡ held (len + more)
+    → held (len + coding_len all) ≡ total → held (new + coding_len rest) ≡ total
+len_step all piece rest len more new total cut e sum so_far =
+    let both : coding_len all ≡ coding_len piece + coding_len rest = ap (λ (fs : List Fragment). coding_len fs) cut ∙ coding_len_append piece rest in
+    omega arith
 
--- a sum over data that is held at its limit, one datum on
-pub data_len_step : (ds : List CodeDatum) (i len new : ℕ) (d : CodeDatum) (total : ℕ) → i < length ds → new ≡ held (len + coding_len (datum_fragments (datum_of (get_or ds i d))))
-    → held (len + coding_len (data_fragments (drop i ds))) ≡ total → held (new + coding_len (data_fragments (drop (i + 1) ds))) ≡ total
-data_len_step ds i len new d total h e so_far =
-    let one : i + 1 ≡ suc i = omega arith in
-    let all : coding_len (data_fragments (drop i ds)) ≡ coding_len (datum_fragments (datum_of (get_or ds i d))) + coding_len (data_fragments (drop (suc i) ds)) =
-    ap (λ (l : List CodeDatum). coding_len (data_fragments l)) (drop-cons ds i d h) ∙ coding_len_append (datum_fragments (datum_of (get_or ds i d))) (data_fragments (drop (suc i) ds)) in
-    rw (one) (omega arith)
-
-pub data_len_end : (ds : List CodeDatum) (i len total : ℕ) → length ds ≤ i → held len ≡ len → held (len + coding_len (data_fragments (drop i ds))) ≡ total → len ≡ total
+pub len_end : (rest : List Fragment) (len total : ℕ) → rest ≡ [] → held len ≡ len → held (len + coding_len rest) ≡ total → len ≡ total
 unfolding coding_len
-data_len_end ds i len total h small so_far =
-    let none : coding_len (data_fragments (drop i ds)) ≡ 0 = ap (λ (l : List CodeDatum). coding_len (data_fragments l)) (drop_of_length-le ds h) in omega arith
+len_end rest len total e small so_far =
+    let none : coding_len rest ≡ 0 = ap (λ (fs : List Fragment). coding_len fs) e in omega arith
 
 -- ---- tests of each fragment
 
@@ -101,12 +84,6 @@ pub string_known : (all : List Definition) (bs : List ℕ) → list_all (is_frag
 string_known all [] = refl
 string_known all (b ∷ bs) = string_known all bs
 
-pub data_known : (all : List Definition) (ds : List CodeDatum) → list_all (is_fragment_known all) (data_fragments ds) ≡ true
-unfolding is_known
-data_known all [] = refl
-data_known all (Number n ∷ ds) = data_known all ds
-data_known all (String t ∷ ds) = rw (list_all_append (is_fragment_known all) (map Fixed t.now) (data_fragments ds), string_known all t.now) (data_known all ds)
-
 pub string_fits : (all : List Definition) (next : ℕ) (bs : List ℕ) → list_all (fragment_fits all next) (map Fixed bs) ≡ true
 unfolding fragment_fits
 string_fits all next [] = refl
@@ -118,12 +95,3 @@ pub string_bytes : (all : List Definition) (next : ℕ) (bs : List ℕ) → flat
 unfolding fragment_bytes
 string_bytes all next [] = refl
 string_bytes all next (b ∷ bs) = ap (λ (l : List ℕ). b ∷ l) (string_bytes all next bs)
-
--- one number more of some
-pub values_bytes_step : (all : List Definition) (next : ℕ) (d : Directive) (vs : List CodeValue) (i : ℕ) (v : CodeValue) (out more total : List ℕ)
-    → i < length vs → more ≡ out ++ fragment_bytes all next (Entry d (value_of (get_or vs i v)))
-    → out ++ flat_map (fragment_bytes all next) (entry_fragments d (drop i vs)) ≡ total → more ++ flat_map (fragment_bytes all next) (entry_fragments d (drop (i + 1) vs)) ≡ total
-values_bytes_step all next d vs i v out more total h g so_far =
-    let one : i + 1 ≡ suc i = omega arith in
-    let cut = ap (λ (l : List CodeValue). out ++ flat_map (fragment_bytes all next) (entry_fragments d l)) (drop-cons vs i v h) in
-    rw (one, g, append_assoc) (sym cut ∙ so_far)

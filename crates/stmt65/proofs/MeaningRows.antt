@@ -2,9 +2,9 @@
 use Rattle.std.specs.Prelude.{◌≡◌, ℕ, List, [], ◌∷◌, codes, Option, Some, None, Result, Ok, Err, refl}
 use Rattle.isa65.specs.declared.mnemonic.Mnemonic.{Mnemonic}
 use Rattle.isa65.specs.declared.mnemonic.Mnemonic.TheVariants.{Bne, Bra, Asl, Jmp, Lda, Nop, Sta, Stx}
-use Rattle.stmt65.specs.declared.fault.AsmFault.{AsmFault}
-use Rattle.stmt65.specs.declared.fault.AsmFaultKind.{AsmFaultKind}
-use Rattle.stmt65.specs.declared.fault.AsmFaultKind.TheVariants.{Syntax, UnknownCpu, NoSuchForm, Undefined, DefinedTwice, OutOfRange, PastEnd}
+use Rattle.stmt65.specs.declared.assembling.fault.AsmFault.{AsmFault}
+use Rattle.stmt65.specs.declared.assembling.fault.AsmFaultKind.{AsmFaultKind}
+use Rattle.stmt65.specs.declared.assembling.fault.AsmFaultKind.TheVariants.{Syntax, UnknownCpu, NoSuchForm, Undefined, DefinedTwice, OutOfRange, PastEnd}
 use Rattle.stmt65.specs.SourceLine.{Value, NumberValue, NameValue, Form, Empty, Immediate, Direct, DirectY, NumberDatum, StringDatum, Operation, Nothing, Instr, Data, Values, Segment, Code, SetCpu, SourceLine, Assignment, PlaceAssignment, Statement}
 use Rattle.stmt65.specs.declared.source_line.AddressSize.TheVariants.{Absolute, Automatic}
 use Rattle.stmt65.specs.declared.source_line.Minus.TheVariants.{Zero, One}

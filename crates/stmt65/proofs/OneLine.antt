@@ -16,7 +16,7 @@ use Rattle.isa65.specs.declared.mnemonic.Mnemonic.{Mnemonic}
 use Rattle.isa65.specs.declared.mnemonic.Mnemonic.TheVariants.{Adc}
 use Rattle.isa65.specs.declared.mode.Mode.{Mode}
 use Rattle.isa65.specs.declared.mode.Mode.TheVariants.{Imp, Acc, Imm, Zp, Zpx, Zpy, Abs, Absx, Absy, Ind, Indx, Indy, Zpind, Absindx, Rel, Zprel}
-use Rattle.stmt65.specs.declared.columns.Columns.{Columns}
+use Rattle.stmt65.specs.declared.printing.columns.Columns.{Columns}
 use Rattle.stmt65.specs.declared.directive.Directive.{Directive}
 use Rattle.stmt65.specs.declared.directive.Directive.TheVariants as directive
 use Rattle.stmt65.specs.Directives.{directive_text, order_of}
@@ -32,7 +32,7 @@ use Rattle.stmt65.specs.Statements.{has_bytes, next_text, comma_list, bytes_text
 use Rattle.stmt65.specs.Lexing.{is_word_start, is_word_byte, is_text_byte}
 use Rattle.stmt65.specs.Names.{is_name}
 use Rattle.stmt65.specs.Printed.{HasNames, HasLabelName}
-use Rattle.stmt65.specs.code.Widths.{IsInWidth}
+use Rattle.stmt65.specs.Code.Widths.{IsInWidth}
 use Rattle.stmt65.specs.Views.{ExprView, OperandsView, TargetView, StatementView, RemarksView}
 use Rattle.stmt65.specs.Views as view
 use Rattle.stmt65.proofs.Lexed.{IsWordText}

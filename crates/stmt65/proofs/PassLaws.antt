@@ -2,15 +2,15 @@
 use Rattle.std.proofs.Common.{◌≡◌, ℕ, ◌+◌, List, [], ◌∷◌, ◌++◌, map, Option, Some, None, refl, sym, ap, ◌∙◌, append_assoc}
 use Rattle.std.specs.Prelude.{Result, Ok, Err}
 use Rattle.std.proofs.lemmas.List.{append-nil}
-use Rattle.stmt65.specs.declared.fault.AsmFault.{AsmFault}
-use Rattle.stmt65.specs.declared.fault.AsmFaultKind.{AsmFaultKind}
+use Rattle.stmt65.specs.declared.assembling.fault.AsmFault.{AsmFault}
+use Rattle.stmt65.specs.declared.assembling.fault.AsmFaultKind.{AsmFaultKind}
 use Rattle.stmt65.specs.SourceLine.{SourceLine}
 use Rattle.stmt65.specs.Lines.{text_lines}
 use Rattle.stmt65.specs.Lexing.{parts}
 use Rattle.stmt65.specs.Reading.{reading_of}
 use Rattle.stmt65.specs.Symbols.{Definition}
 use Rattle.stmt65.specs.Meaning.{State, after, bytes_of, coded, fault_of, final, initial, meaning, meaning_of, readings, unless, with_front}
-use Rattle.stmt65.specs.code.MeaningViews.{held_after, held_definition, held_final}
+use Rattle.stmt65.specs.Code.MeaningViews.{held_after, held_definition, held_final}
 use Rattle.stmt65.proofs.HeldLemmas.{fault-all, bytes-all}
 
 pub readings_more : (text line rest : List ℕ) → text_lines text ≡ line ∷ text_lines rest → readings text ≡ reading_of (parts line) ∷ readings rest

@@ -19,7 +19,7 @@ use Rattle.isa65.specs.declared.mode.Mode.TheVariants.{Imp, Acc, Imm, Zp, Zpx, Z
 use Rattle.stmt65.specs.declared.directive.Directive.{Directive}
 use Rattle.stmt65.specs.declared.directive.Directive.TheVariants as directive
 use Rattle.stmt65.specs.Directives.{directive_text, entry_len}
-use Rattle.stmt65.specs.declared.columns.Columns.{Columns}
+use Rattle.stmt65.specs.declared.printing.columns.Columns.{Columns}
 use Rattle.stmt65.specs.Digits.{digits4, hex2, hex4, offset_text}
 use Rattle.stmt65.specs.Levels.{spaced_byte, character, level_fields}
 use Rattle.stmt65.specs.Line.{filled, with_fields, plain_line, line_of}
@@ -36,7 +36,7 @@ use Rattle.stmt65.specs.Reading.{reading_of}
 use Rattle.stmt65.specs.Spelling as item
 use Rattle.stmt65.specs.Spelling.{Item, word, mark, define, number, string, quoted_name, value, data_list, value_list, IsValue, IsItem, Spells, prefix_items, form_items, operation_items, IsSpelling}
 use Rattle.stmt65.specs.Printed.{address_size, entry_value, source_value, source_form, source_line, with_label, HasName, HasNamesIn, HasNames, HasLabelName}
-use Rattle.stmt65.specs.code.Widths.{IsWordWide, AreWordWide, AreBytes, IsInWidth}
+use Rattle.stmt65.specs.Code.Widths.{IsWordWide, AreWordWide, AreBytes, IsInWidth}
 use Rattle.stmt65.specs.Views.{ExprView, OperandsView, TargetView, StatementView, RemarksView}
 use Rattle.stmt65.specs.Views as view
 use Rattle.stmt65.proofs.SpelledIsRead.{line_again}

@@ -9,8 +9,8 @@ use Rattle.std.specs.Map.{update}
 use Rattle.std.proofs.lemmas.Slice.Eq.{bytes_eq-Decides}
 use Rattle.std.proofs.lemmas.List.{map-append}
 use Rattle.stmt65.specs.Symbols.{Definition, find_name}
-use Rattle.stmt65.specs.declared.symbols.Definition.{Definition as CodeDefinition}
-use Rattle.stmt65.specs.code.SymbolViews.{definition_of, place_of, IsIndex}
+use Rattle.stmt65.specs.declared.assembling.symbols.Definition.{Definition as CodeDefinition}
+use Rattle.stmt65.specs.Code.SymbolViews.{definition_of, place_of, IsIndex}
 
 -- no names in no definitions
 pub index_empty : (ds : List CodeDefinition) (first : BTreeMap (Bor (List ℕ)) ℕ) → ds ≡ [] → first.entries ≡ [] → IsIndex ds first

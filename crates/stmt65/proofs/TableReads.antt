@@ -23,7 +23,7 @@ use Rattle.stmt65.specs.Spelling.{IsValue, IsDatum, IsList}
 use Rattle.stmt65.specs.Printed.{entry_value}
 use Rattle.stmt65.specs.Statements.{bytes_text, comma_list, datum_text, data_text, entry_text, numbers_text}
 use Rattle.stmt65.specs.Tables.{in_order, low_number, pieces, entries, is_plain, cut_text}
-use Rattle.stmt65.specs.code.Widths.{AreBytes}
+use Rattle.stmt65.specs.Code.Widths.{AreBytes}
 use Rattle.stmt65.proofs.Cases.{both}
 use Rattle.stmt65.proofs.Lexed.{Ends, parts_comma, parts_text, hex_is_digit, hex_value, below_16, parts_hex, parts_hex2, number_of-hex2}
 use Rattle.stmt65.proofs.PartLemmas.{parts_nil}

@@ -3,8 +3,8 @@ use Rattle.std.proofs.Common.{◌≡◌, ℕ, ◌+◌, List, [], ◌∷◌, ◌+
 use Rattle.std.specs.Prelude.{Result, Ok, Err}
 use Rattle.std.specs.List.{All, flat_map}
 use Rattle.std.proofs.lemmas.List.Elements.{All-cons, All-head, All-tail}
-use Rattle.stmt65.specs.declared.fault.AsmFault.{AsmFault}
-use Rattle.stmt65.specs.declared.fault.AsmFaultKind.{AsmFaultKind}
+use Rattle.stmt65.specs.declared.assembling.fault.AsmFault.{AsmFault}
+use Rattle.stmt65.specs.declared.assembling.fault.AsmFaultKind.{AsmFaultKind}
 use Rattle.stmt65.specs.SourceLine.{SourceLine}
 use Rattle.stmt65.specs.Directives.{entry_len, order_of}
 use Rattle.stmt65.specs.Tables.{low_bytes}

@@ -1,6 +1,6 @@
 -- The columns of a listing, and which labels stand on the line of their statement.
 use Rattle.std.specs.Prelude.{ℕ, ◌+◌, Bool, ◌&&◌, List, length, nat_le, nat_lt}
-use Rattle.stmt65.specs.declared.columns.Columns.{Columns}
+use Rattle.stmt65.specs.declared.printing.columns.Columns.{Columns}
 
 -- those of a listing whose options say nothing of them
 abbrev pub default_columns : Columns

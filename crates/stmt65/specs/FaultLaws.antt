@@ -3,8 +3,8 @@ use Rattle.std.specs.Prelude.{◌≡◌, ◌↔◌, ◌⊎◌, ℕ, ◌+◌, ◌
 use Rattle.std.specs.List.{Any}
 use Rattle.isa65.specs.Cpu.{cpu_named}
 use Rattle.isa65.specs.declared.cpu.Cpu.{Cpu}
-use Rattle.stmt65.specs.declared.fault.AsmFaultKind.{AsmFaultKind}
-use Rattle.stmt65.specs.declared.fault.AsmFaultKind.TheVariants.{Syntax, UnknownCpu, NoSuchForm, Undefined, DefinedTwice, OutOfRange, PastEnd, Memory}
+use Rattle.stmt65.specs.declared.assembling.fault.AsmFaultKind.{AsmFaultKind}
+use Rattle.stmt65.specs.declared.assembling.fault.AsmFaultKind.TheVariants.{Syntax, UnknownCpu, NoSuchForm, Undefined, DefinedTwice, OutOfRange, PastEnd, Memory}
 use Rattle.stmt65.specs.SourceLine.{Value, NumberValue, NameValue, Operation, Instr, Values, SetCpu, SourceLine}
 use Rattle.stmt65.specs.Directives.{entry_limit}
 use Rattle.stmt65.specs.Symbols.{Definition, find_name, value_in}

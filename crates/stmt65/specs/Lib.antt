@@ -31,4 +31,4 @@ pub mod TextLaws
 pub mod LineAddresses
 pub mod ModeLaws
 pub mod FaultLaws
-pub mod code
+pub mod Code

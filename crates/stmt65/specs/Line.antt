@@ -1,6 +1,6 @@
 -- A line as fields at their columns.
 use Rattle.std.specs.Prelude.{ℕ, ◌-◌, List, [], ◌∷◌, ◌++◌, length, replicate, nat_lt, ◌==◌, if◌then◌else◌}
-use Rattle.stmt65.specs.declared.columns.Columns.{Columns}
+use Rattle.stmt65.specs.declared.printing.columns.Columns.{Columns}
 use Rattle.stmt65.specs.Levels.{fields_after}
 use Rattle.stmt65.specs.Statements.{Field, label_fields, fields_of}
 use Rattle.stmt65.specs.Views.{StatementView, RemarksView}

@@ -3,9 +3,9 @@ use Rattle.std.specs.Prelude.{ℕ, ◌+◌, Bool, true, false, ◌||◌, not, Li
 use Rattle.std.specs.List.{list_any, list_all, flat_map}
 use Rattle.isa65.specs.declared.cpu.Cpu.{Cpu}
 use Rattle.isa65.specs.declared.cpu.Cpu.TheVariants.{M6502}
-use Rattle.stmt65.specs.declared.fault.AsmFault.{AsmFault}
-use Rattle.stmt65.specs.declared.fault.AsmFaultKind.{AsmFaultKind}
-use Rattle.stmt65.specs.declared.fault.AsmFaultKind.TheVariants.{Syntax, UnknownCpu, NoSuchForm, Undefined, DefinedTwice, OutOfRange, PastEnd}
+use Rattle.stmt65.specs.declared.assembling.fault.AsmFault.{AsmFault}
+use Rattle.stmt65.specs.declared.assembling.fault.AsmFaultKind.{AsmFaultKind}
+use Rattle.stmt65.specs.declared.assembling.fault.AsmFaultKind.TheVariants.{Syntax, UnknownCpu, NoSuchForm, Undefined, DefinedTwice, OutOfRange, PastEnd}
 use Rattle.stmt65.specs.SourceLine.{Operation, Nothing, SetCpu, SourceLine, Assignment, PlaceAssignment, Statement}
 use Rattle.stmt65.specs.Lines.{text_lines}
 use Rattle.stmt65.specs.Lexing.{parts}

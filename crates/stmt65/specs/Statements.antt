@@ -7,7 +7,7 @@ use Rattle.isa65.specs.declared.op.Op.{Op}
 use Rattle.isa65.specs.Cpu.{cpu_text}
 use Rattle.isa65.specs.Mnemonic.{text_of}
 use Rattle.stmt65.specs.declared.directive.Directive.{Directive}
-use Rattle.stmt65.specs.declared.columns.Columns.{Columns}
+use Rattle.stmt65.specs.declared.printing.columns.Columns.{Columns}
 use Rattle.stmt65.specs.Directives.{directive_text, order_of}
 use Rattle.stmt65.specs.Digits.{digits2, hex2, hex4}
 use Rattle.stmt65.specs.Operands.{named_text, operand_text}

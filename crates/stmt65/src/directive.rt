@@ -3,7 +3,7 @@
 ghost use Rattle.std.specs.Prelude.{◌≡◌, ◌≤◌, ◌^◌, length};
 ghost use Rattle.stmt65.specs.Directives.{directive_text, entry_len, order_of, entry_limit, first_directive_named, directive_named};
 
-use crate::names::is_word;
+use crate::reading::names::is_word;
 use isa65::ByteOrder;
 
 /// A directive whose entries are numbers of several bytes.

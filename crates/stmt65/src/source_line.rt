@@ -1,7 +1,7 @@
 //! What a line of assembler source says.
 
 use crate::directive::Directive;
-use crate::numeral::Numeral;
+use crate::reading::numeral::Numeral;
 use isa65::Mnemonic;
 use std::alloc::{Allocator, Global};
 

@@ -1,5 +1,6 @@
 //! What a line of a listing says.
 
+use crate::source_line::AddressSize;
 use isa65::{Cpu, Op};
 
 /// An operand's value, as it is written.
@@ -34,11 +35,11 @@ pub struct Target<'a> {
 /// A statement, a remark or an empty line. Instructions, tables and their entries have bytes.
 #[derive(Clone, Copy, Debug, PartialEq, Eq)]
 pub enum Statement<'a> {
-    /// An instruction. `absolute` says that `a:` stands before its operand, in `Abs`, `Absx` and
+    /// An instruction. The size is `Absolute` if `a:` stands before its operand, in `Abs`, `Absx` and
     /// `Absy` alone.
     Instr {
         op: Op,
-        absolute: bool,
+        size: AddressSize,
         operands: Operands<'a>,
     },
     /// `.byte` and 1 to 8 bytes.
@@ -77,7 +78,7 @@ pub enum Statement<'a> {
 impl Statement<'_> {
     ghost use Rattle.std.specs.Prelude.{◌≡◌};
     ghost use Rattle.stmt65.specs.Statements.{has_bytes};
-    ghost use Rattle.stmt65.specs.code.StatementViews.{statement_seen};
+    ghost use Rattle.stmt65.specs.Code.StatementViews.{statement_seen};
 
     /// Whether it is an instruction or data.
     pub fn has_bytes(&self) -> bool

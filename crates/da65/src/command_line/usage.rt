@@ -191,9 +191,10 @@ fn number_in(digits: &[u8], radix: u32, most: u32) -> Result<u32, UsageFault>
     }
 }
 
-/// An address from 0 to $FFFF: hexadecimal after `$`, `0x` or `0X`, octal after `0`, else decimal.
+/// Returns the address that a text writes, as after `-S`: hexadecimal after `$`, `0x` or `0X`, octal after `0`, else
+/// decimal. Fails with `BadNumber` if the text is not a number, and with `OutOfRange` if it is above $FFFF.
 #[tactic(auto, unfolding(crate::specs::Number::address_in))]
-fn address_in(text: &[u8]) -> Result<u16, UsageFault>
+pub fn address_in(text: &[u8]) -> Result<u16, UsageFault>
     ensures { result ≡ address_in text.now }
 {
     let (radix, digits) = if text.starts_with(b"$") {

@@ -4,7 +4,7 @@ ghost use Rattle.std.specs.Prelude.{◌≡◌, ◌<◌, ◌≤◌, length, IfSom
 ghost use Rattle.info65.specs.Names.{AreNames};
 ghost use Rattle.map65.specs.Names.{base_at};
 ghost use Rattle.stmt65.specs.Printable.{IsLong, IsNameLong, IsShort};
-ghost use Rattle.stmt65.specs.code.StatementViews.{expr_seen, target_seen};
+ghost use Rattle.stmt65.specs.Code.StatementViews.{expr_seen, target_seen};
 ghost use Rattle.da65.specs.BaseNames.{base_name, names_of};
 ghost use Rattle.da65.specs.Code.Bases.{base_place, constant_offset, own_place};
 ghost use Rattle.da65.specs.Groups.{is_defined};

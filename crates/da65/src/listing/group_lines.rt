@@ -1,9 +1,10 @@
 //! The lines of a group: its forward lines, its label and its statement.
 
-ghost use Rattle.std.specs.Prelude.{◌≡◌, ◌+◌, ◌-◌, ◌<◌, ◌≤◌, [], ◌∷◌, ◌++◌, IfSome, MatchOption, None, Some, length};
+ghost use Rattle.std.specs.Prelude.{◌≡◌, ◌≢◌, ◌+◌, ◌-◌, ◌<◌, ◌≤◌, [], ◌∷◌, ◌++◌, IfSome, MatchOption, None, Some, length};
 ghost use Rattle.std.specs.Option.{option_copied};
 ghost use Rattle.std.specs.Bool.{OnTrue};
-ghost use Rattle.stmt65.specs.Printable.{IsNameLong, MayBeLabelled};
+ghost use Rattle.stmt65.specs.Code.StatementViews.{statement_seen};
+ghost use Rattle.stmt65.specs.Printable.{IsNameLong, IsPrintable, MayBeLabelled};
 ghost use Rattle.stmt65.specs.Views as view;
 ghost use Rattle.da65.specs.BaseNames.{base_name, is_base, names_of};
 ghost use Rattle.da65.specs.Code.ListedGroups.{IsGroupIn};
@@ -20,33 +21,17 @@ use crate::listing::line_groups::{group_len, role_inside};
 use crate::listing::listed_image::ListedImage;
 use crate::listing::place::ListingPlace;
 use crate::listing::statement_line::{put_plain, put_statement};
-use crate::listing::statements::{OperandNames, statement_for};
+use crate::listing::statements::{OperandNames, code_statement, table_statement};
 use crate::listing::style::has_empty_line;
+use info65::RangeType;
 use map65::NameBuf;
 use std::alloc::Allocator;
 use stmt65::{Line, Statement};
 
 /// Replaces the buffer by the forward line of the address in the group that begins at `first`, if the address is
-/// defined by name.
-fn put_forward_at<A: Allocator>(
-    out: &mut Line,
-    listed: &ListedImage<'_, A>,
-    first: u16,
-    address: u16,
-) -> bool
-    requires { first ≤ address }
-    ensures is { result ≡ is_base (names_of listed.now) address }
-    ensures line { OnTrue result (out.new.items ≡ line_text (style_of listed.now.info.settings) (plain (view.forward (base_name (names_of listed.now) address) (address - first)))) }
-{
-    if !listed.map().has_name(address) {
-        return false;
-    }
-    put_forward_named(out, listed, first, address)
-}
-
-/// The same, for an address that has a name.
+/// defined by name. The buffer for the name has a stack frame of its own.
 #[inline(never)]
-fn put_forward_named<A: Allocator>(
+fn put_forward_at<A: Allocator>(
     out: &mut Line,
     listed: &ListedImage<'_, A>,
     first: u16,
@@ -86,7 +71,7 @@ fn put_forward<A: Allocator>(
 {
     let mut at = from;
     'addresses: while at < end {
-        if put_forward_at(out, listed, first, at as u16) {
+        if listed.map().has_name(at as u16) && put_forward_at(out, listed, first, at as u16) {
             return Some(at);
         }
         at += 1;
@@ -117,6 +102,50 @@ pub fn group_at<'a, A: Allocator>(listed: &ListedImage<'a, A>, index: usize) -> 
     }
 }
 
+/// Replaces the buffer by this statement of a group, after this label if there is one, and returns the next place.
+#[inline(always)]
+fn put_group_statement<A: Allocator>(
+    out: &mut Line,
+    listed: &ListedImage<'_, A>,
+    group: Group<'_>,
+    label: Option<&[u8]>,
+    statement: &Statement<'_>,
+) -> ListingPlace
+    requires group { IsGroupIn listed.now group }
+    requires statement { statement_seen statement.now ≡ statement_at listed.now (listed.now.image.start + group.index) }
+    requires printable { IsPrintable (statement_seen statement.now) }
+    requires label { MayBeLabelled (style_of listed.now.info.settings).columns (option_copied label) (statement_at listed.now (listed.now.image.start + group.index)) }
+    ensures { IsNext listed.now (group_line (option_copied label.entry) (statement_at listed.now (listed.now.image.start + group.entry.index)) (listed.now.image.start + group.entry.index) (group_bytes listed.now (listed.now.image.start + group.entry.index)) ∷ after_group listed.now group.entry.index) out.new.items result (segment_at listed.now (listed.now.image.start + group.entry.index)) }
+{
+    let style = listed.style();
+    put_statement(out, style, label, statement, group.address, group.bytes);
+    let index = group.index + group.bytes.len();
+    if has_empty_line(style, statement) {
+        ListingPlace::Ending { index }
+    } else {
+        ListingPlace::Group { index }
+    }
+}
+
+/// Replaces the buffer by the line of a table, after this label if there is one, and returns the next place. It has a stack frame
+/// of its own, so that lines of code are made in a small one.
+#[inline(never)]
+fn put_table_line<A: Allocator>(
+    out: &mut Line,
+    listed: &ListedImage<'_, A>,
+    names: &mut OperandNames,
+    group: Group<'_>,
+    label: Option<&[u8]>,
+) -> ListingPlace
+    requires table { group.role ≢ RangeType.Code }
+    requires group { IsGroupIn listed.now group }
+    requires label { MayBeLabelled (style_of listed.now.info.settings).columns (option_copied label) (statement_at listed.now (listed.now.image.start + group.index)) }
+    ensures { IsNext listed.now (group_line (option_copied label.entry) (statement_at listed.now (listed.now.image.start + group.entry.index)) (listed.now.image.start + group.entry.index) (group_bytes listed.now (listed.now.image.start + group.entry.index)) ∷ after_group listed.now group.entry.index) out.new.items result (segment_at listed.now (listed.now.image.start + group.entry.index)) }
+{
+    let statement = table_statement(listed.map(), group.role, group.bytes, names);
+    put_group_statement(out, listed, group, label, &statement)
+}
+
 /// Replaces the buffer by the statement of a group, after this label if there is one, and returns the next place.
 #[inline(always)]
 fn put_group<A: Allocator>(
@@ -130,14 +159,18 @@ fn put_group<A: Allocator>(
     requires label { MayBeLabelled (style_of listed.now.info.settings).columns (option_copied label) (statement_at listed.now (listed.now.image.start + group.index)) }
     ensures { IsNext listed.now (group_line (option_copied label.entry) (statement_at listed.now (listed.now.image.start + group.entry.index)) (listed.now.image.start + group.entry.index) (group_bytes listed.now (listed.now.image.start + group.entry.index)) ∷ after_group listed.now group.entry.index) out.new.items result (segment_at listed.now (listed.now.image.start + group.entry.index)) }
 {
-    let style = listed.style();
-    let statement = statement_for(listed.opcodes(), listed.map(), group, names);
-    put_statement(out, style, label, &statement, group.address, group.bytes);
-    let index = group.index + group.bytes.len();
-    if has_empty_line(style, &statement) {
-        ListingPlace::Ending { index }
-    } else {
-        ListingPlace::Group { index }
+    match group.role {
+        RangeType::Code => {
+            let statement = code_statement(
+                listed.opcodes(),
+                listed.map(),
+                group.address,
+                group.bytes,
+                names,
+            );
+            put_group_statement(out, listed, group, label, &statement)
+        }
+        _ => put_table_line(out, listed, names, group, label),
     }
 }
 

@@ -10,8 +10,8 @@ ghost use Rattle.da65.specs.Code.SkipRanges.{is_skip_range};
 ghost use Rattle.da65.specs.Groups.{goes_on, group_len, is_whole, limit_at, limit_of, more_at, skips};
 
 use crate::listing::base_names::is_defined;
-use info65::{Info, RangeSpec, RangeType};
-use map65::{Image, Map, is_skip, unit_of};
+use info65::{RangeSpec, RangeType};
+use map65::{Map, is_skip, unit_of};
 use std::alloc::Allocator;
 
 /// The number of addresses, $10000.
@@ -168,23 +168,21 @@ pub fn has_skip_range(ranges: &[RangeSpec]) -> bool
 }
 
 /// Whether a byte of the image is skipped. Allocates nothing.
-pub fn has_skipped<A: Allocator>(info: &Info<A>, map: &Map<'_, A>, image: &Image<A>) -> bool
-    requires info { map.now.info ≡ info.now }
-    requires image { map.now.image ≡ image.now }
+pub fn has_skipped<A: Allocator>(map: &Map<'_, A>) -> bool
     ensures { result ≡ skips map.now }
 {
-    if !has_skip_range(info.ranges()) {
+    if !has_skip_range(map.info().ranges()) {
         return false;
     }
-    is_any_skipped(map, image)
+    is_any_skipped(map)
 }
 
 /// Whether a byte of the image is skipped, by each byte.
 #[tactic(auto, unfolding(crate::specs::Groups::skips))]
-fn is_any_skipped<A: Allocator>(map: &Map<'_, A>, image: &Image<A>) -> bool
-    requires { map.now.image ≡ image.now }
+fn is_any_skipped<A: Allocator>(map: &Map<'_, A>) -> bool
     ensures { result ≡ skips map.now }
 {
+    let image = map.image();
     let start = image.start() as usize;
     let count = image.bytes().len();
     let mut at = 0;

@@ -19,9 +19,8 @@ use crate::listing::listed_image::ListedImage;
 use crate::listing::place::ListingPlace;
 use crate::listing::statement_line::{put_blank, put_cpu, put_title};
 use crate::listing::statements::OperandNames;
-use crate::runs::write::write_whole;
 use info65::Info;
-use map65::{DeviceFault, Image, Map, Sink};
+use map65::{DeviceFault, Image, Map, Sink, write_whole};
 use std::alloc::{Allocator, Global};
 use std::marker::Model;
 use stmt65::Line;
@@ -211,7 +210,7 @@ impl<'a, A: Allocator> Lines<'a, A> {
         ensures { result ≡ lines_of map.entry.now }
     {
         Lines {
-            listed: ListedImage::new(info, image, map),
+            listed: ListedImage::new(map),
             place: ListingPlace::Title,
             segment: None,
             names: OperandNames::new(),

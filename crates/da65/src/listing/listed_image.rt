@@ -15,15 +15,13 @@ use crate::listing::line_groups::has_skip_range;
 use crate::listing::style::{Style, style_of};
 use info65::Info;
 use isa65::DecodeTable;
-use map65::{Image, Map};
+use map65::Map;
 use std::alloc::{Allocator, Global};
 use std::marker::Model;
 
 /// An image as it is listed: what its information and its map say, and how its lines are written. A contract sees the map.
 #[derive(Drop)]
 pub struct ListedImage<'a, A: Allocator = Global> {
-    info: &'a Info<A>,
-    image: &'a Image<A>,
     map: &'a Map<'a, A>,
     style: Style,
     opcodes: DecodeTable,
@@ -40,27 +38,20 @@ impl<'a, A: Allocator> Model for ListedImage<'a, A> {
 
     ghost use Rattle.da65.specs.Lines.{IsListed};
 
-    ghost invariant = { λ l. IsListed l.map.now l.info.now l.image.now l.style l.opcodes l.marked l.lists_all };
+    ghost invariant = { λ l. IsListed l.map.now l.style l.opcodes l.marked l.lists_all };
 }
 
 impl<'a, A: Allocator> ListedImage<'a, A> {
-    /// The image of a map that was built from these two.
-    pub fn new(info: &'a Info<A>, image: &'a Image<A>, map: &'a Map<'a, A>) -> ListedImage<'a, A>
-        requires { map.now ≡ record { info = info.now; image = image.now } }
+    /// The image of a map.
+    pub fn new(map: &'a Map<'a, A>) -> ListedImage<'a, A>
         ensures { result ≡ map.entry.now }
     {
-        // The limits of an image are known where its bytes are looked at, those of names where they are counted, and those of
-        // segments where they are lent.
-        let _ = image.bytes();
-        let _ = info.given_count();
-        let _ = info.segments();
+        let info = map.info();
         let style = style_of(info.settings());
         let opcodes = DecodeTable::new(style.cpu);
         let marked = has_marks(info, &style);
         let lists_all = !has_skip_range(info.ranges());
         ListedImage {
-            info,
-            image,
             map,
             style,
             opcodes,
@@ -74,7 +65,7 @@ impl<'a, A: Allocator> ListedImage<'a, A> {
         ensures info { result.now ≡ self.now.info }
         ensures names { AreNames result.now.names }
     {
-        self.info
+        self.map.info()
     }
 
     /// The map.
@@ -122,15 +113,16 @@ impl<'a, A: Allocator> ListedImage<'a, A> {
         ensures bytes { result.now ≡ self.now.image.bytes }
         ensures placed { IsPlaced self.now.image }
     {
-        self.image.bytes()
+        self.map.image().bytes()
     }
 
     /// The address of the first byte.
     pub fn start(&self) -> usize
         ensures start { result ≡ self.now.image.start }
         ensures bound { result ≤ 65536 }
+        ensures placed { IsPlaced self.now.image }
     {
-        usize::from(self.image.start())
+        usize::from(self.map.image().start())
     }
 
     /// The address of the byte of this index.
@@ -138,8 +130,6 @@ impl<'a, A: Allocator> ListedImage<'a, A> {
         requires { at < length self.now.image.bytes }
         ensures { result ≡ self.now.image.start + at }
     {
-        // The limits of an image are known where its bytes are looked at.
-        let _ = self.image.bytes();
-        (self.image.start() as usize + at) as u16
+        (self.start() + at) as u16
     }
 }

@@ -3,7 +3,7 @@
 ghost use Rattle.std.specs.Prelude.{◌≡◌, ◌≤◌, codes, length};
 ghost use Rattle.std.specs.Option.{option_copied};
 ghost use Rattle.stmt65.specs.Printable.{IsPrintable, MayBeLabelled};
-ghost use Rattle.stmt65.specs.code.StatementViews.{statement_seen};
+ghost use Rattle.stmt65.specs.Code.StatementViews.{statement_seen};
 ghost use Rattle.stmt65.specs.Views as view;
 ghost use Rattle.da65.specs.Listing.{group_line, line_text, plain};
 

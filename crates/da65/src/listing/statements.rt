@@ -1,23 +1,24 @@
 //! The statement of a group.
 
-ghost use Rattle.std.specs.Prelude.{◌≡◌, ◌+◌, ◌<◌, ◌≤◌, length, IfSome, option_map};
+ghost use Rattle.std.specs.Prelude.{◌≡◌, ◌≢◌, ◌+◌, ◌<◌, ◌≤◌, ℕ, [], Some, is_some, length, true};
 ghost use Rattle.info65.specs.Names.{AreNames};
 ghost use Rattle.isa65.specs.Mode.{len_of};
-ghost use Rattle.map65.specs.Targets.{entry_of};
+ghost use Rattle.isa65.specs.Opcodes.{Table};
+ghost use Rattle.map65.specs.Targets.{entry_of, target_of};
 ghost use Rattle.stmt65.specs.Printable.{IsPrintable, IsWrittenIn};
-ghost use Rattle.stmt65.specs.code.StatementViews.{operands_seen, statement_seen};
-ghost use Rattle.da65.specs.BaseNames.{names_of};
+ghost use Rattle.stmt65.specs.Reading.{is_absolute};
+ghost use Rattle.stmt65.specs.Code.StatementViews.{operands_seen, statement_seen};
+ghost use Rattle.da65.specs.BaseNames.{Names, names_of};
 ghost use Rattle.da65.specs.Instructions.{instruction_in};
 ghost use Rattle.da65.specs.Shapes.{IsGroupOf};
 ghost use Rattle.da65.specs.Statements.{address_entry, is_forced, numbers, operands_of, return_entry, statement_for, statement_in};
 
 use crate::listing::base_names::{address_expr, target, zero_page_expr};
-use crate::listing::group::Group;
-use info65::Entry;
+use info65::{Entry, RangeType};
 use isa65::{ByteOrder, Mode, Op, OpcodeSet};
 use map65::{Map, NameBuf, target_of, word_of};
 use std::alloc::Allocator;
-use stmt65::{Expr, Operands, Statement};
+use stmt65::{AddressSize, Expr, Operands, Statement};
 
 /// The buffers for the names in the operands of a statement.
 #[derive(Drop)]
@@ -52,8 +53,35 @@ fn instruction_in<S: OpcodeSet>(set: &S, bytes: &[u8]) -> Option<Op>
     }
 }
 
-/// The operands of an instruction in this mode at this address, with the names of their addresses: none if its
-/// target lies outside the address space.
+/// Whether the target of an instruction in this mode at this address lies in the address space, if it has one.
+#[inline(always)]
+#[tactic(auto, unfolding(crate::specs::Statements::operands_of))]
+fn is_in_reach(mode: Mode, address: u16, bytes: &[u8]) -> bool
+    requires all { len_of mode ≤ length bytes.now }
+    requires room { address + length bytes.now ≤ 65536 }
+    ensures { (names : Names) → result ≡ is_some (operands_of names mode address bytes.now) }
+{
+    match mode {
+        Mode::Rel => target_of(u32::from(address) + 2, bytes[1]).is_some(),
+        Mode::Zprel => target_of(u32::from(address) + 3, bytes[2]).is_some(),
+        _ => true,
+    }
+}
+
+/// The address that a branch leads to, which lies in the address space.
+fn branch_target(next: u32, offset: u8) -> u16
+    requires small { next ≤ 65536 }
+    requires inside { is_some (target_of next offset) ≡ true }
+    ensures { Some result ≡ target_of next offset }
+{
+    match target_of(next, offset) {
+        Some(target) => target,
+        None => unreachable!(),
+    }
+}
+
+/// The operands of an instruction in this mode at this address, with the names of their addresses.
+#[inline(never)]
 #[tactic(auto, unfolding(crate::specs::Statements::operands_of))]
 fn operands_of<'n, A: Allocator>(
     map: &Map<'_, A>,
@@ -61,36 +89,38 @@ fn operands_of<'n, A: Allocator>(
     address: u16,
     bytes: &[u8],
     names: &'n mut OperandNames,
-) -> Option<Operands<'n>>
+) -> Operands<'n>
     requires names { AreNames map.now.info.names }
     requires all { len_of mode ≤ length bytes.now }
     requires room { address + length bytes.now ≤ 65536 }
-    ensures value { option_map operands_seen result ≡ operands_of (names_of map.now) mode address bytes.now }
-    ensures written { IfSome result (λ os. IsWrittenIn mode (operands_seen os)) }
+    requires inside { is_some (operands_of (names_of map.now) mode address bytes.now) ≡ true }
+    ensures value { Some (operands_seen result) ≡ operands_of (names_of map.now) mode address bytes.now }
+    ensures written { IsWrittenIn mode (operands_seen result) }
 {
     let one = match mode {
-        Mode::Imp | Mode::Acc => return Some(Operands::None),
+        Mode::Imp | Mode::Acc => return Operands::None,
         Mode::Imm => Expr::Number(u16::from(bytes[1])),
         Mode::Abs | Mode::Absx | Mode::Absy | Mode::Ind | Mode::Absindx => {
             address_expr(map, word_of(bytes), &mut names.first)
         }
         Mode::Rel => {
-            let target = target_of(u32::from(address) + 2, bytes[1])?;
+            let target = branch_target(u32::from(address) + 2, bytes[1]);
             address_expr(map, target, &mut names.first)
         }
         Mode::Zprel => {
-            let target = target_of(u32::from(address) + 3, bytes[2])?;
+            let target = branch_target(u32::from(address) + 3, bytes[2]);
             let tested = zero_page_expr(map, bytes[1], &mut names.first);
-            return Some(Operands::Two(tested, address_expr(map, target, &mut names.second)));
+            return Operands::Two(tested, address_expr(map, target, &mut names.second));
         }
         Mode::Zp | Mode::Zpx | Mode::Zpy | Mode::Indx | Mode::Indy | Mode::Zpind => {
             zero_page_expr(map, bytes[1], &mut names.first)
         }
     };
-    Some(Operands::One(one))
+    Operands::One(one)
 }
 
 /// Whether `a:` stands before the operand: an assembler would take the zero-page mode without it.
+#[inline(always)]
 fn is_forced<S: OpcodeSet>(set: &S, op: Op, bytes: &[u8]) -> bool
     requires { len_of op.mode ≤ length bytes.now }
     ensures { result ≡ is_forced (S.table set.now) op bytes.now }
@@ -101,9 +131,22 @@ fn is_forced<S: OpcodeSet>(set: &S, op: Op, bytes: &[u8]) -> bool
     }
 }
 
+/// The size that is written before the operand.
+fn written_size<S: OpcodeSet>(set: &S, op: Op, bytes: &[u8]) -> AddressSize
+    requires { len_of op.mode ≤ length bytes.now }
+    ensures { is_absolute result ≡ is_forced (S.table set.now) op bytes.now }
+{
+    if is_forced(set, op, bytes) {
+        AddressSize::Absolute
+    } else {
+        AddressSize::Automatic
+    }
+}
+
 /// The statement of an item of code: its instruction, or its bytes.
+#[inline(always)]
 #[tactic(auto, unfolding(crate::specs::Statements::statement_in, crate::specs::Instructions::instruction_in))]
-fn statement_in<'a, S: OpcodeSet, A: Allocator>(
+pub fn code_statement<'a, S: OpcodeSet, A: Allocator>(
     set: &S,
     map: &Map<'_, A>,
     address: u16,
@@ -120,16 +163,14 @@ fn statement_in<'a, S: OpcodeSet, A: Allocator>(
         let (item, _) = bytes.split_at(1);
         return Statement::Bytes(item);
     };
-    match operands_of(map, op.mode, address, bytes, names) {
-        Some(operands) => Statement::Instr {
-            op,
-            absolute: is_forced(set, op, bytes),
-            operands,
-        },
-        None => {
-            let (item, _) = bytes.split_at(usize::from(op.mode.len()));
-            Statement::Bytes(item)
-        }
+    if !is_in_reach(op.mode, address, bytes) {
+        let (item, _) = bytes.split_at(usize::from(op.mode.len()));
+        return Statement::Bytes(item);
+    }
+    Statement::Instr {
+        op,
+        size: written_size(set, op, bytes),
+        operands: operands_of(map, op.mode, address, bytes, names),
     }
 }
 
@@ -202,26 +243,24 @@ fn numbers(unit: u8, order: ByteOrder, bytes: &[u8]) -> Statement<'_>
     }
 }
 
-/// The statement of a group.
+/// The statement of a line of a table, in which no opcode has a say.
 #[tactic(auto, using(crate::proofs::EntryLemmas::lines), unfolding(crate::specs::Statements::statement_for))]
-pub fn statement_for<'a, S: OpcodeSet, A: Allocator>(
-    set: &S,
+pub fn table_statement<'a, A: Allocator>(
     map: &Map<'_, A>,
-    group: Group<'a>,
+    role: RangeType,
+    bytes: &'a [u8],
     names: &'a mut OperandNames,
 ) -> Statement<'a>
     requires names { AreNames map.now.info.names }
-    requires some { 0 < length group.bytes.now }
-    requires room { group.address + length group.bytes.now ≤ 65536 }
-    requires shape { IsGroupOf (S.table set.now) group.role group.bytes.now }
-    ensures value { statement_seen result ≡ statement_for (names_of map.now) (S.table set.now) group.entry.role group.entry.address group.entry.bytes.now }
+    requires some { 0 < length bytes.now }
+    requires table { role ≢ RangeType.Code }
+    requires shape { IsGroupOf [] role bytes.now }
+    ensures value { (t : Table) (address : ℕ) → statement_seen result ≡ statement_for (names_of map.now) t role address bytes.entry.now }
     ensures printable { IsPrintable (statement_seen result) }
 {
-    let bytes = group.bytes;
-    let layout = group.role.layout();
+    let layout = role.layout();
     let is_leftover = bytes.len() < usize::from(layout.unit);
     match layout.entry {
-        Entry::Instruction => statement_in(set, map, group.address, bytes, names),
         Entry::Number(order) => {
             if is_leftover {
                 Statement::Bytes(bytes)
@@ -244,6 +283,6 @@ pub fn statement_for<'a, S: OpcodeSet, A: Allocator>(
             }
         }
         Entry::Character => Statement::Text(bytes),
-        Entry::Skipped => Statement::Blank,
+        Entry::Instruction | Entry::Skipped => unreachable!(),
     }
 }

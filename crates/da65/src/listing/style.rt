@@ -4,7 +4,7 @@ ghost use Rattle.std.specs.Prelude.{◌≡◌, ◌≤◌};
 ghost use Rattle.da65.specs.Listing.{has_empty_line};
 ghost use Rattle.da65.specs.Style.{columns_of, style_of};
 ghost use Rattle.info65.specs.Views.{AreInLimits};
-ghost use Rattle.stmt65.specs.code.StatementViews.{statement_seen};
+ghost use Rattle.stmt65.specs.Code.StatementViews.{statement_seen};
 
 use info65::Settings;
 use isa65::{Cpu, Mnemonic};
@@ -18,7 +18,7 @@ pub struct Style {
     pub cpu: Cpu,
     /// Where the fields of a line stand.
     pub columns: Columns,
-    /// How much is remarked.
+    /// What the remarks of a line have.
     pub level: Level,
     /// Whether offsets are written in hex digits.
     pub hexoffs: bool,

@@ -1,11 +1,14 @@
 //! Which files a run needs, by its options and its information file.
 
-ghost use Rattle.std.specs.Prelude.{◌≡◌, IfOk};
+ghost use Rattle.std.specs.Prelude.{◌≡◌, IfOk, Result};
+ghost use Rattle.info65.specs.Code.Results.{Gives};
 ghost use Rattle.info65.specs.Reader.{information};
+ghost use Rattle.info65.specs.Views.{InfoView};
+ghost use Rattle.info65.specs.declared.fault.InfoFault.{InfoFault};
 ghost use Rattle.da65.specs.NeededFiles.{needs_in};
 
 use crate::runs::files::{Needs, needs_of, nothing};
-use info65::{InfoFaultKind, Options, read_info};
+use info65::{Info, InfoFault, InfoFaultKind, Options, read_info};
 use std::alloc::{AllocError, Allocator};
 
 /// Returns the names of the files that a run needs: the input, the output, and the include files in the order of their
@@ -18,8 +21,18 @@ pub fn needs<A: Allocator + Copy, B: Allocator>(
 ) -> Result<Needs<A>, AllocError>
     ensures { IfOk result (λ n. n ≡ needs_in (information options.now info.now)) }
 {
-    match read_info(alloc, options, info) {
-        Ok(info) => needs_of(alloc, &info),
+    needs_read(alloc, &read_info(alloc, options, info))
+}
+
+/// Returns what [`needs`] returns for an information file that `info65::read_info` has read or refused.
+pub fn needs_read<A: Allocator + Copy>(
+    alloc: A,
+    read: &Result<Info<A>, InfoFault>,
+) -> Result<Needs<A>, AllocError>
+    ensures { (defined : Result InfoView InfoFault) → Gives (λ i. i) read.now defined → IfOk result (λ n. n ≡ needs_in defined) }
+{
+    match read {
+        Ok(info) => needs_of(alloc, info),
         Err(fault) => {
             if fault.kind == InfoFaultKind::Memory {
                 Err(AllocError)

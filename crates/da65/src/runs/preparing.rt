@@ -1,18 +1,18 @@
-//! What a run lists its input by: the information file, with the names of its include files.
+//! What a run lists its input by: what the information file says, with the names of its include files.
 
 ghost use Rattle.std.specs.Prelude.{◌≡◌, ◌≢◌, ◌<◌, ℕ, List, Result, get_or, is_some, length};
-ghost use Rattle.info65.specs.Code.Results.{Fails};
+ghost use Rattle.info65.specs.Code.Results.{Fails, Gives};
 ghost use Rattle.info65.specs.Views.{IncludeView, InfoView};
 ghost use Rattle.info65.specs.declared.fault.InfoFault.{InfoFault};
 ghost use Rattle.da65.specs.Code.Preparing.{Changes, Prepares, Stops};
 ghost use Rattle.da65.specs.Files.{files_seen};
-ghost use Rattle.da65.specs.Outcome.{accepted, or_message, prepared, with_all_includes, with_file};
+ghost use Rattle.da65.specs.Outcome.{accepted, or_message, prepared_by, with_all_includes, with_file};
 
 use crate::runs::files::{File, file_named};
 use crate::runs::messages::{
     Message, include_message, info_message, missing_message, no_input_message,
 };
-use info65::{Info, InfoFault, InfoFaultKind, Options, read_include, read_info};
+use info65::{Info, InfoFault, InfoFaultKind, read_include};
 use std::alloc::Allocator;
 
 /// Why a run ends before it reads its input.
@@ -44,15 +44,11 @@ fn names_input<A: Allocator>(info: &Info<A>) -> bool
     info.settings().input.is_some()
 }
 
-/// What the information file says, if an input is named.
-fn read_named<A: Allocator + Copy, N: Allocator>(
-    alloc: A,
-    options: &Options<N>,
-    info: &[u8],
-) -> Result<Info<A>, Stop>
-    ensures { Prepares result (accepted options.now info.now) }
+/// What the information file says, if it was not refused and an input is named.
+fn accept<A: Allocator>(read: Result<Info<A>, InfoFault>) -> Result<Info<A>, Stop>
+    ensures { (defined : Result InfoView InfoFault) → Gives (λ i. i) read defined → Prepares result (accepted defined) }
 {
-    match read_info(alloc, options, info) {
+    match read {
         Ok(info) if names_input(&info) => Ok(info),
         Ok(_) => Err(Stop::Refused(no_input_message())),
         Err(fault) => Err(stop_of(fault, info_message(fault))),
@@ -100,17 +96,16 @@ fn add_includes<A: Allocator + Copy>(
     Ok(())
 }
 
-/// Reads the information file, asks for an input name, and adds the names of the include files.
-#[tactic(auto, unfolding(crate::specs::Outcome::prepared))]
-pub(crate) fn prepare<A: Allocator + Copy, N: Allocator>(
+/// Asks for an input name, and adds the names of the include files to what the information file says.
+#[tactic(auto, unfolding(crate::specs::Outcome::prepared_by))]
+pub(crate) fn prepare<A: Allocator + Copy>(
     alloc: A,
-    options: &Options<N>,
-    info: &[u8],
+    read: Result<Info<A>, InfoFault>,
     files: &[File<'_>],
 ) -> Result<Info<A>, Stop>
-    ensures { Prepares result (prepared options.now info.now (files_seen files.now)) }
+    ensures { (defined : Result InfoView InfoFault) → Gives (λ i. i) read defined → Prepares result (prepared_by defined (files_seen files.now)) }
 {
-    let mut info = read_named(alloc, options, info)?;
+    let mut info = accept(read)?;
     add_includes(alloc, &mut info, files)?;
     Ok(info)
 }

@@ -1,12 +1,15 @@
 //! From an information file and an input to a listing and messages.
 
-ghost use Rattle.std.specs.Prelude.{◌≡◌, ◌-◌, ◌^◌, ◌<◌, ◌≤◌, Ok, false, IfSome, IfOk, IsErrOf, length};
+ghost use Rattle.std.specs.Prelude.{◌≡◌, ◌-◌, ◌^◌, ◌<◌, ◌≤◌, Ok, false, IfSome, IfOk, IsErrOf, Result, length};
 ghost use Rattle.std.specs.Io.KnownBytes.{Keeps};
+ghost use Rattle.info65.specs.Code.Results.{Gives};
+ghost use Rattle.info65.specs.Views.{InfoView};
+ghost use Rattle.info65.specs.declared.fault.InfoFault.{InfoFault};
 ghost use Rattle.map65.specs.Device.{TakesUpTo, has_failed};
-ghost use Rattle.map65.specs.ImageView.{AreBytes, IsPlaced};
+ghost use Rattle.map65.specs.ImageView.{AreBytes};
 ghost use Rattle.da65.specs.Files.{files_seen};
 ghost use Rattle.da65.specs.Groups.{skips};
-ghost use Rattle.da65.specs.Outcome.{done, image_message, outcome_by, outcome_of, prepared, warnings};
+ghost use Rattle.da65.specs.Outcome.{done, image_message, outcome_by, outcome_of, prepared, prepared_by, warnings};
 ghost use Rattle.da65.specs.RunLaw.{Reassembles, Took};
 ghost use Rattle.da65.specs.Code.Refusals.{RefusesOrGivesUp, Tells};
 ghost use Rattle.da65.specs.Running.{Writes, WritesFew, OutCount, MessagesCount, FailsAtMostOnce, most_read};
@@ -18,9 +21,8 @@ use crate::runs::messages::{Message, image_message, warnings};
 use crate::runs::outcome::{RunFault, Status};
 use crate::runs::preparing::{Stop, prepare};
 use crate::runs::segment_reentry::is_entered_again;
-use crate::runs::write::write_whole;
-use info65::{Info, Options};
-use map65::{Image, ImageFault, Map, Sink, Source, read_image};
+use info65::{Info, InfoFault, Options, read_info};
+use map65::{ImageFault, Map, Sink, Source, read_image, write_whole};
 use std::alloc::Allocator;
 
 /// Writes the message of a refusal, which is its only one.
@@ -50,13 +52,11 @@ fn refuse_image<M: Sink>(msgs: &mut M, fault: ImageFault) -> Result<Status, RunF
     }
 }
 
-/// The warnings that apply to the listing of an image. The map is the one of these two.
-fn warnings_of<A: Allocator>(info: &Info<A>, image: &Image<A>, map: &Map<'_, A>) -> Message
-    requires { map.now ≡ record { info = info.now; image = image.now } }
+/// The warnings that apply to the listing of an image.
+fn warnings_of<A: Allocator>(map: &Map<'_, A>) -> Message
     ensures { result.items ≡ warnings map.now }
 {
-    let is_entered_again = is_entered_again(info, image, map);
-    warnings(has_skipped(info, map, image), is_entered_again)
+    warnings(has_skipped(map), is_entered_again(map))
 }
 
 /// Writes the warnings after a listing.
@@ -72,31 +72,23 @@ fn warn<M: Sink>(msgs: &mut M, warnings: &[u8]) -> Result<Status, RunFault>
     }
 }
 
-/// Writes the listing of an image and then its warnings. The map is the one of these two. Allocates
-/// nothing.
+/// Writes the listing of an image and then its warnings. Allocates nothing.
 fn write_listing<A: Allocator, W: Sink, M: Sink>(
-    info: &Info<A>,
-    image: &Image<A>,
     map: &Map<'_, A>,
     messages: &[u8],
     out: &mut W,
     msgs: &mut M,
 ) -> Result<Status, RunFault>
-    requires built { map.now ≡ record { info = info.now; image = image.now } }
-    requires placed { IsPlaced image.now }
-    requires are_bytes { AreBytes image.now.bytes }
+    requires are_bytes { AreBytes map.now.image.bytes }
     requires messages { messages.now ≡ warnings map.now }
     requires few { length messages.now ≤ 320 }
     ensures text { Writes result (done map.now) (W.taken out.old) (W.taken out.new) (M.taken msgs.old) (M.taken msgs.new) }
     ensures few { WritesFew (M.taken msgs.old) (M.taken msgs.new) }
-    ensures reassembles { IfOk result (λ status. skips map.now ≡ false → Took image.now (W.taken out.old) (W.taken out.new)) }
+    ensures reassembles { IfOk result (λ status. skips map.now ≡ false → Took map.now.image (W.taken out.old) (W.taken out.new)) }
     ensures out_count { OutCount result (W.faults out.old) (W.faults out.new) }
     ensures messages_count { MessagesCount result (M.faults msgs.old) (M.faults msgs.new) }
 {
-    // What holds of all given names is known where they are counted, and of all segments where they are lent.
-    let _ = info.given_count();
-    let _ = info.segments();
-    match write_lines(Lines::new(info, image, map), out) {
+    match write_lines(Lines::new(map.info(), map.image(), map), out) {
         Ok(()) => warn(msgs, messages),
         Err(_) => Err(RunFault::Write),
     }
@@ -134,19 +126,19 @@ fn list_input<A: Allocator + Copy, R: Source, W: Sink, M: Sink>(
         Ok(map) => map,
         Err(_) => return Err(RunFault::Memory),
     };
-    let warnings = warnings_of(info, &image, &map);
-    write_listing(info, &image, &map, warnings.as_slice(), out, msgs)
+    let warnings = warnings_of(&map);
+    write_listing(&map, warnings.as_slice(), out, msgs)
 }
 
 /// Lists the input on `out` as source for ca65. If it is refused, the reason goes to `msgs`.
 ///
 /// The options of the command line and the information file `info` give the settings; no information file
 /// is the same as an empty one. Each of its groups ASMINC includes the first of `files` that has the group's
-/// file name, in the order of the groups; the other files play no part. A run is refused, with one message
+/// file name, in the order of the groups; the other files are not read. A run is refused, with one message
 /// and no listing, for the first of these reasons: the information file has a fault; there is no input name;
 /// an include file is not among `files` or has a fault; a read fails; the input has fewer
 /// than INPUTSIZE bytes after the first INPUTOFFS; it is empty; it is too large (more than 65,536 bytes,
-/// or it extends past $FFFF). Help and version play no part.
+/// or it extends past $FFFF). Help and version are ignored.
 ///
 /// The type of the RANGE that has an address says how its byte is listed: as code, where there is none; on
 /// one line with its neighbours of the same type, up to 8 bytes, 16 bytes of text or 4 words; or, with
@@ -190,7 +182,37 @@ pub fn run<A: Allocator + Copy, N: Allocator, R: Source, W: Sink, M: Sink>(
     ensures messages_count { MessagesCount result (M.faults msgs.old) (M.faults msgs.new) }
     ensures input_count { FailsAtMostOnce (R.faults input.old) (R.faults input.new) }
 {
-    match prepare(alloc, options, info, files) {
+    let read = read_info(alloc, options, info);
+    run_read(alloc, read, files, input, out, msgs)
+}
+
+/// Does what [`run`] does for an information file that `info65::read_info` has read or refused.
+pub fn run_read<A: Allocator + Copy, R: Source, W: Sink, M: Sink>(
+    alloc: A,
+    read: Result<Info<A>, InfoFault>,
+    files: &[File<'_>],
+    input: &mut R,
+    out: &mut W,
+    msgs: &mut M,
+) -> Result<Status, RunFault>
+    // As those of `run`, for whatever file it is that was read or refused.
+    ensures answer { (defined : Result InfoView InfoFault) → Gives (λ i. i) read defined → R.faults input.old < 2 ^ 64 - 1 → IfSome (R.left input.old) (λ bytes.
+        Writes result (outcome_by (prepared_by defined (files_seen files.now)) bytes (has_failed (R.faults input.old) (R.faults input.new)))
+        (W.taken out.old) (W.taken out.new) (M.taken msgs.old) (M.taken msgs.new)) }
+    ensures reassembles { (defined : Result InfoView InfoFault) → Gives (λ i. i) read defined → R.faults input.old < 2 ^ 64 - 1 → IfSome (R.left input.old) (λ bytes.
+        Reassembles result (prepared_by defined (files_seen files.now)) bytes (has_failed (R.faults input.old) (R.faults input.new))
+        (W.taken out.old) (W.taken out.new)) }
+    ensures memory { IsErrOf result RunFault.Memory → Keeps (W.taken out.old) (W.taken out.new) }
+    ensures memory_messages { IsErrOf result RunFault.Memory → Keeps (M.taken msgs.old) (M.taken msgs.new) }
+    ensures write { IsErrOf result RunFault.Write → Keeps (M.taken msgs.old) (M.taken msgs.new) }
+    ensures refused { IfOk result (λ status. status ≡ Status.Refused → Keeps (W.taken out.old) (W.taken out.new)) }
+    ensures few { WritesFew (M.taken msgs.old) (M.taken msgs.new) }
+    ensures reads { (defined : Result InfoView InfoFault) → Gives (λ i. i) read defined → TakesUpTo (most_read (prepared_by defined (files_seen files.now))) (R.left input.old) (R.left input.new) }
+    ensures out_count { OutCount result (W.faults out.old) (W.faults out.new) }
+    ensures messages_count { MessagesCount result (M.faults msgs.old) (M.faults msgs.new) }
+    ensures input_count { FailsAtMostOnce (R.faults input.old) (R.faults input.new) }
+{
+    match prepare(alloc, read, files) {
         Ok(info) => list_input(alloc, &info, input, out, msgs),
         Err(Stop::Refused(message)) => refuse(msgs, message.as_slice()),
         Err(Stop::Memory) => Err(RunFault::Memory),

@@ -9,8 +9,7 @@ ghost use Rattle.da65.specs.Segments.{segment_at};
 
 use crate::listing::line_groups::{group_len, is_skipped, role_inside};
 use crate::runs::key_set::KeySet;
-use info65::Info;
-use map65::{Image, Map};
+use map65::Map;
 use std::alloc::Allocator;
 
 /// The segments of the groups so far, each by the key of its name.
@@ -25,12 +24,10 @@ struct Entered {
 }
 
 /// The key of the segment of an address. The default has none.
-fn segment_key<A: Allocator>(info: &Info<A>, map: &Map<'_, A>, address: u16) -> Option<u16>
-    requires { map.now.info ≡ info.now }
+fn segment_key<A: Allocator>(map: &Map<'_, A>, address: u16) -> Option<u16>
     ensures { IsKeyed map.now.info.segments (segment_at map.now address) result }
 {
-    let _ = map;
-    info.segment_key(address)
+    map.info().segment_key(address)
 }
 
 fn is_same_key(one: Option<u16>, other: Option<u16>) -> bool
@@ -111,15 +108,14 @@ impl Entered {
 /// The default counts as CODE. The names of the segments are compared by their keys, of which a set of a fixed
 /// size is kept, so this allocates nothing. The time grows as n log s with n groups and s segments.
 #[tactic(auto, unfolding(crate::specs::SegmentReentry::is_entered_again))]
-pub fn is_entered_again<A: Allocator>(info: &Info<A>, image: &Image<A>, map: &Map<'_, A>) -> bool
-    requires { map.now ≡ record { info = info.now; image = image.now } }
+pub fn is_entered_again<A: Allocator>(map: &Map<'_, A>) -> bool
     ensures { result ≡ is_entered_again map.now }
 {
+    let info = map.info();
     if info.segments().is_empty() {
         return false;
     }
-    // What holds of all given names is known where they are counted.
-    let _ = info.given_count();
+    let image = map.image();
     let code = info.first_named(b"CODE");
     let start = image.start() as usize;
     let count = image.bytes().len();
@@ -130,7 +126,7 @@ pub fn is_entered_again<A: Allocator>(info: &Info<A>, image: &Image<A>, map: &Ma
         if is_skipped(map, address) {
             at += 1;
         } else {
-            let segment = segment_key(info, map, address);
+            let segment = segment_key(map, address);
             if entered.add(segment, name_key(segment, code)) {
                 return true;
             }

@@ -7,9 +7,9 @@ use Rattle.info65.specs.Includes.{included}
 use Rattle.info65.specs.Views.{IncludeView, InfoView, NameView}
 use Rattle.info65.specs.declared.fault.InfoFault.{InfoFault}
 use Rattle.info65.specs.declared.fault.InfoFaultKind.{InfoFaultKind}
-use Rattle.info65.specs.declared.include_groups.NamedFile.{NamedFile}
-use Rattle.info65.specs.declared.index.Index.{Index}
-use Rattle.info65.specs.declared.name.Given.{Given}
+use Rattle.info65.specs.declared.groups.include_groups.NamedFile.{NamedFile}
+use Rattle.info65.specs.declared.lookup.index.Index.{Index}
+use Rattle.info65.specs.declared.information.name.Given.{Given}
 
 abbrev pub named_seen : NamedFile → IncludeView
 named_seen n = record { file = n.file.now; comment_start = n.comment_start; ignore_unknown = n.ignore_unknown }

@@ -7,11 +7,11 @@ use Rattle.info65.specs.Code.Texts.{AreTexts, TextsView, stands_in, texts_seen}
 use Rattle.info65.specs.Groups.{GroupView}
 use Rattle.info65.specs.Labels.{named_at, names_said}
 use Rattle.info65.specs.Ranges.{has_address, ranges_of}
-use Rattle.info65.specs.Segments.{contains, segments_of}
+use Rattle.info65.specs.Segments.{contains}
 use Rattle.info65.specs.Views.{NameView, SegmentView}
-use Rattle.info65.specs.declared.index.Index.{Index}
-use Rattle.info65.specs.declared.name.Given.{Given}
-use Rattle.info65.specs.declared.range.RangeSpec.{RangeSpec}
+use Rattle.info65.specs.declared.lookup.index.Index.{Index}
+use Rattle.info65.specs.declared.information.name.Given.{Given}
+use Rattle.info65.specs.declared.information.range.RangeSpec.{RangeSpec}
 
 -- the first of the names that has this text
 abbrev pub text_at : List NameView → List ℕ → Option NameView
@@ -54,8 +54,3 @@ pub record AreMarked (segments : List SegmentView) (table : List Bool) : Type 0 
   pub ordered : All (λ s. s.first ≤ s.last) segments
   pub size : length table ≡ 0x1_0000
   pub marked : (a : ℕ) → a < 0x1_0000 → get_or table a false ≡ list_any (λ s. contains s a) segments
-
--- the index and the cells are those of what these groups say
-pub record IsIndexed {Z : Type 0} (groups : List GroupView) (i : Index Z) (table : List Bool) : Type 0 where
-  pub index : IndexesGroups groups i
-  pub marks : AreMarked (segments_of groups) table

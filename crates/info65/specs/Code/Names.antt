@@ -6,7 +6,7 @@ use Rattle.isa65.specs.Mnemonic.{mnemonic_named}
 use Rattle.info65.specs.Names.{registers}
 use Rattle.info65.specs.Views.{NameView}
 use Rattle.info65.specs.declared.fault.InfoFaultKind.{InfoFaultKind}
-use Rattle.info65.specs.declared.name.Given.{Given}
+use Rattle.info65.specs.declared.information.name.Given.{Given}
 
 abbrev pub given_seen : Given → NameView
 given_seen g = record { address = g.address; size = g.size; text = g.text.now; comment = option_map (λ c. c.now) g.comment }

@@ -1,8 +1,8 @@
 -- Names as an `Info` keeps them: entries by address, whose texts stand in one pool of bytes.
 use Rattle.std.specs.Prelude.{◌+◌, ◌≤◌, ◌<◌, ◌&&◌, ℕ, Bool, List, [], Option, None, Some, IfSome, drop, get_or, length, nat_le, nat_lt, option_map, take, if◌then◌else◌}
 use Rattle.info65.specs.Views.{NameView}
-use Rattle.info65.specs.declared.pool.Entry.{Entry}
-use Rattle.info65.specs.declared.pool.Span.{Span}
+use Rattle.info65.specs.declared.information.pool.Entry.{Entry}
+use Rattle.info65.specs.declared.information.pool.Span.{Span}
 
 -- the bytes of the pool that a span is for
 abbrev pub bytes_of : List ℕ → Span → List ℕ

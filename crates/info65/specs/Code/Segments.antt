@@ -2,8 +2,8 @@
 use Rattle.std.specs.Prelude.{◌≡◌, Result, Ok, Err}
 use Rattle.info65.specs.Views.{SegmentView}
 use Rattle.info65.specs.declared.fault.InfoFaultKind.{InfoFaultKind}
-use Rattle.info65.specs.declared.segment.SegmentSpec.{SegmentSpec}
-use Rattle.info65.specs.declared.segment_groups.SegmentParts.{SegmentParts}
+use Rattle.info65.specs.declared.information.segment.SegmentSpec.{SegmentSpec}
+use Rattle.info65.specs.declared.groups.segment_groups.SegmentParts.{SegmentParts}
 
 abbrev pub segment_seen : {Z : Type 0} → SegmentSpec Z → SegmentView
 segment_seen s = record { first = s.first; last = s.last; name = s.name.items }

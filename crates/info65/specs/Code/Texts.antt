@@ -5,8 +5,8 @@ use Rattle.std.specs.Cmp.Lexicographic.{slice_cmp}
 use Rattle.std.specs.Ordering.{nat_cmp}
 use Rattle.std.specs.Str.{bytes_eq}
 use Rattle.info65.specs.Code.Slots.{slot_of}
-use Rattle.info65.specs.declared.texts.Texts.{Texts}
-use Rattle.info65.specs.declared.name.Given.{Given}
+use Rattle.info65.specs.declared.lookup.texts.Texts.{Texts}
+use Rattle.info65.specs.declared.information.name.Given.{Given}
 
 -- for each slot the address of the name that took it, and for each other text the address where it stands
 pub record TextsView : Type 0 where

@@ -1,11 +1,11 @@
 -- How a cell is packed: beside what `Cells` says of it, the bit above the name's says whether a segment border stands before the address.
 use Rattle.std.specs.Prelude.{◌≡◌, ◌==◌, ◌+◌, ◌*◌, ◌/◌, ◌%◌, ◌<◌, ◌&&◌, not, ℕ, Bool, true, false, List, length, slice_index, Option, Some, None, if◌then◌else◌}
 use Rattle.info65.specs.Views.{SegmentView}
-use Rattle.info65.specs.declared.range.RangeType.{RangeType}
-use Rattle.info65.specs.declared.range.RangeType.TheVariants as role
+use Rattle.info65.specs.declared.information.range.RangeType.{RangeType}
+use Rattle.info65.specs.declared.information.range.RangeType.TheVariants as role
 use Rattle.map65.specs.Cells.{bit, code_of}
 use Rattle.map65.specs.Items.{item_len}
-use Rattle.map65.specs.MapView.{MapView}
+use Rattle.map65.specs.MapView.{IsSoundMap, MapView}
 use Rattle.map65.specs.Names.{has_name}
 use Rattle.map65.specs.Roles.{is_wide, role_at}
 use Rattle.map65.specs.Segments.{is_border}
@@ -106,6 +106,11 @@ nowhere a = false
 pub record AreCells (m : MapView) (cells : List ℕ) : Type 0 where
   pub laid : IsLaid m cells
   pub named : AreNamed (has_name m) cells
+
+-- a map that was built, with its cells
+pub record IsBuilt (m : MapView) (cells : List ℕ) : Type 0 where
+  pub sound : IsSoundMap m
+  pub are_cells : AreCells m cells
 
 -- ---- the law
 

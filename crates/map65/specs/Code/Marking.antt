@@ -4,8 +4,8 @@ use Rattle.std.specs.List.{list_any}
 use Rattle.info65.specs.Names.{covering, covering_below, name_at}
 use Rattle.info65.specs.Views.{NameView}
 use Rattle.info65.specs.Ranges.{has_address}
-use Rattle.info65.specs.declared.range.RangeSpec.{RangeSpec}
-use Rattle.info65.specs.declared.range.RangeType.{RangeType}
+use Rattle.info65.specs.declared.information.range.RangeSpec.{RangeSpec}
+use Rattle.info65.specs.declared.information.range.RangeType.{RangeType}
 use Rattle.map65.specs.ImageView.{ImageView, is_inside}
 use Rattle.map65.specs.MapView.{MapView}
 use Rattle.map65.specs.Names.{refers}
@@ -74,5 +74,5 @@ abbrev pub Reaches : List NameView → ℕ → ℕ → Type 0
 Reaches names n reach = (a : ℕ) → ((i : ℕ) → i < n → (name_at names i).address ≤ a) → a < reach → is_covered_below names n a ≡ true
 
 -- one of the first n items of the image refers to the address
-unfoldable pub is_wanted_below : MapView → ℕ → ℕ → Bool
-is_wanted_below m n a = list_any (refers m a) (addresses n m.image.start)
+unfoldable pub is_referenced_below : MapView → ℕ → ℕ → Bool
+is_referenced_below m n a = list_any (refers m a) (addresses n m.image.start)

@@ -1,7 +1,7 @@
 -- Bytes that are passed over.
 use Rattle.std.specs.Prelude.{◌≡◌, ℕ, List, [], drop, length, true, false, Bool, IfSome, Option, Some, Result, Ok, Err, ⊤}
 use Rattle.std.specs.Io.KnownBytes.{Consumes}
-use Rattle.map65.specs.Image.{IsReadTo}
+use Rattle.map65.specs.Taking.{IsReadTo}
 
 -- exactly this many bytes were taken, of a reader that reports its bytes
 pub record Takes (count : ℕ) (old new : Option (List ℕ)) : Type 0 where

@@ -6,7 +6,7 @@ use crate::tests::source_lines::source;
 use isa65::{Cpu, Mnemonic, Mode, Op};
 use std::alloc::{AllocError, Global};
 use std::process::Abort;
-use stmt65::{Column, Columns, Expr, LabelBreak, Level, Operands, Remarks, Statement};
+use stmt65::{AddressSize, Column, Columns, Expr, LabelBreak, Level, Operands, Remarks, Statement};
 
 /// The remarks of a statement at $1000 with these bytes, without a label.
 fn remarks_at<'a>(level: Level, bytes: &'a [u8]) -> Remarks<'a> {
@@ -51,7 +51,7 @@ const LOAD: Statement<'static> = Statement::Instr {
         mnemonic: Mnemonic::Lda,
         mode: Mode::Imm,
     },
-    absolute: false,
+    size: AddressSize::Automatic,
     operands: Operands::One(Expr::Number(0x41)),
 };
 
@@ -172,7 +172,7 @@ const BRANCH: Statement<'static> = Statement::Instr {
         mnemonic: Mnemonic::Bbr0,
         mode: Mode::Zprel,
     },
-    absolute: false,
+    size: AddressSize::Automatic,
     operands: Operands::Two(Expr::Name(LONG, 65535), Expr::Name(LONG, 65535)),
 };
 

@@ -5,13 +5,14 @@ ghost use Rattle.std.specs.Bool.{OnTrue};
 ghost use Rattle.std.specs.List.{list_all};
 ghost use Rattle.std.specs.Option.{option_copied};
 ghost use Rattle.stmt65.specs.Printable.{IsByte, IsLong, IsNameLong, IsPrintable, IsShort, IsWrittenIn, MayBeForced, MayBeLabelled};
-ghost use Rattle.stmt65.specs.code.StatementViews.{expr_seen, operands_seen, statement_seen};
+ghost use Rattle.stmt65.specs.Reading.{is_absolute};
+ghost use Rattle.stmt65.specs.Code.StatementViews.{expr_seen, operands_seen, statement_seen};
 
 use crate::tests::asserts::assert_that;
 use isa65::{Mnemonic, Mode, Op};
 use std::alloc::Global;
 use std::process::Abort;
-use stmt65::{Columns, Expr, Line, Operands, Remarks, Statement, put_line};
+use stmt65::{AddressSize, Columns, Expr, Line, Operands, Remarks, Statement, put_line};
 
 /// A name of 80 bytes.
 pub const LONG: &[u8] =
@@ -77,12 +78,12 @@ fn is_written_in(mode: Mode, operands: &Operands) -> bool
     }
 }
 
-fn may_be_forced(mode: Mode, absolute: bool) -> bool
-    ensures { OnTrue result (MayBeForced mode absolute) }
+fn may_be_forced(mode: Mode, size: AddressSize) -> bool
+    ensures { OnTrue result (MayBeForced mode (is_absolute size)) }
 {
     match mode {
         Mode::Abs | Mode::Absx | Mode::Absy => true,
-        _ => !absolute,
+        _ => size == AddressSize::Automatic,
     }
 }
 
@@ -97,11 +98,8 @@ fn is_printable(statement: &Statement) -> bool
     ensures { OnTrue result (IsPrintable (statement_seen statement.now)) }
 {
     match statement {
-        Statement::Instr {
-            op,
-            absolute,
-            operands,
-        } => is_written_in(op.mode, operands) && may_be_forced(op.mode, *absolute),
+        Statement::Instr { op, size, operands } => is_written_in(op.mode, operands)
+            && may_be_forced(op.mode, *size),
         Statement::Bytes(bytes) => !bytes.is_empty() && bytes.len() <= 8,
         Statement::Text(bytes) => !bytes.is_empty() && bytes.len() <= 16,
         Statement::Words(bytes) | Statement::Dbyts(bytes) => {
@@ -150,7 +148,7 @@ pub fn printed(
 pub fn instruction<'a>(
     mnemonic: Mnemonic,
     mode: Mode,
-    absolute: bool,
+    size: AddressSize,
     first: Expr<'a>,
     second: Expr<'a>,
 ) -> Statement<'a> {
@@ -161,7 +159,7 @@ pub fn instruction<'a>(
     };
     Statement::Instr {
         op: Op { mnemonic, mode },
-        absolute,
+        size,
         operands,
     }
 }

@@ -7,8 +7,8 @@ use isa65::{Mnemonic, Mode, Op};
 use std::alloc::{AllocError, Global};
 use std::process::Abort;
 use stmt65::{
-    Column, Columns, Expr, LabelBreak, Level, LimitError, Operands, Remarks, Statement, Target,
-    assemble,
+    AddressSize, Column, Columns, Expr, LabelBreak, Level, LimitError, Operands, Remarks,
+    Statement, Target, assemble,
 };
 
 /// A statement with its label, and its line, ` => ` and what the line says. In these `@` stands for the name of 80 bytes, and `|n|`
@@ -34,7 +34,7 @@ const BRANCH: Statement<'static> = Statement::Instr {
         mnemonic: Mnemonic::Bne,
         mode: Mode::Rel,
     },
-    absolute: false,
+    size: AddressSize::Automatic,
     operands: Operands::One(Expr::Name(b"L1000", 0)),
 };
 
@@ -43,7 +43,7 @@ const JUMP: Statement<'static> = Statement::Instr {
         mnemonic: Mnemonic::Jmp,
         mode: Mode::Abs,
     },
-    absolute: false,
+    size: AddressSize::Automatic,
     operands: Operands::One(Expr::Name(b"L1001", 0)),
 };
 
@@ -52,7 +52,7 @@ const LOAD: Statement<'static> = Statement::Instr {
         mnemonic: Mnemonic::Lda,
         mode: Mode::Imm,
     },
-    absolute: false,
+    size: AddressSize::Automatic,
     operands: Operands::One(Expr::Number(1)),
 };
 
@@ -61,7 +61,7 @@ const LOAD_INSIDE: Statement<'static> = Statement::Instr {
         mnemonic: Mnemonic::Lda,
         mode: Mode::Abs,
     },
-    absolute: false,
+    size: AddressSize::Automatic,
     operands: Operands::One(Expr::Name(b"L2002", 1)),
 };
 
@@ -70,7 +70,7 @@ const LOAD_NEAR: Statement<'static> = Statement::Instr {
         mnemonic: Mnemonic::Lda,
         mode: Mode::Zp,
     },
-    absolute: false,
+    size: AddressSize::Automatic,
     operands: Operands::One(Expr::Name(b"buf", 1)),
 };
 
@@ -79,7 +79,7 @@ const LOAD_FAR: Statement<'static> = Statement::Instr {
         mnemonic: Mnemonic::Lda,
         mode: Mode::Abs,
     },
-    absolute: false,
+    size: AddressSize::Automatic,
     operands: Operands::One(Expr::Name(b"buf", 2)),
 };
 

@@ -5,7 +5,9 @@ use crate::tests::printed::{instruction, printed, spaced};
 use isa65::{Cpu, Mnemonic, Mode};
 use std::alloc::Global;
 use std::process::Abort;
-use stmt65::{Column, Columns, Expr, LabelBreak, Level, LimitError, Remarks, Statement};
+use stmt65::{
+    AddressSize, Column, Columns, Expr, LabelBreak, Level, LimitError, Remarks, Statement,
+};
 
 /// The line of a statement at these columns is this text.
 fn shows(rt: &impl Abort, columns: &Columns, hexoffs: bool, statement: &Statement, want: &str) {
@@ -67,11 +69,11 @@ const FORCED: &[(Mnemonic, Mode, Expr<'static>, &str)] = &[
 fn show_rows(
     rt: &impl Abort,
     alloc: Global,
-    absolute: bool,
+    size: AddressSize,
     rows: &[(Mnemonic, Mode, Expr<'static>, &str)],
 ) {
     for (mnemonic, mode, operand, want) in rows {
-        let statement = instruction(*mnemonic, *mode, absolute, *operand, LABEL);
+        let statement = instruction(*mnemonic, *mode, size, *operand, LABEL);
         let want = format!(in alloc; "        {want}\n").expect(rt, "format");
         shows(rt, &Columns::default(), false, &statement, &want);
     }
@@ -79,8 +81,8 @@ fn show_rows(
 
 #[test]
 fn operand_of_each_mode(rt: HostRuntime) {
-    show_rows(&rt, rt.alloc(), false, OPERANDS);
-    show_rows(&rt, rt.alloc(), true, FORCED);
+    show_rows(&rt, rt.alloc(), AddressSize::Automatic, OPERANDS);
+    show_rows(&rt, rt.alloc(), AddressSize::Absolute, FORCED);
 }
 
 /// What stands after the mnemonic for an operand in this mode, with offsets in hexadecimal or not.
@@ -96,7 +98,7 @@ const OFFSETS: &[(bool, Mode, &[u8], u16, &str)] = &[
 fn offsets_of_names(rt: HostRuntime) {
     for (hexoffs, mode, name, offset, want) in OFFSETS {
         let operand = Expr::Name(name, *offset);
-        let statement = instruction(Mnemonic::Lda, *mode, false, operand, NEAR);
+        let statement = instruction(Mnemonic::Lda, *mode, AddressSize::Automatic, operand, NEAR);
         let want = format!(in rt.alloc(); "        lda     {want}\n").expect(&rt, "format");
         shows(&rt, &Columns::default(), *hexoffs, &statement, &want);
     }
@@ -129,7 +131,13 @@ const BLANKS: &[(u8, u8, usize, usize)] = &[
 
 #[test]
 fn columns_of_the_operand(rt: HostRuntime) {
-    let load = instruction(Mnemonic::Lda, Mode::Imm, false, Expr::Number(1), NEAR);
+    let load = instruction(
+        Mnemonic::Lda,
+        Mode::Imm,
+        AddressSize::Automatic,
+        Expr::Number(1),
+        NEAR,
+    );
     for (mnemonic, argument, before, between) in BLANKS {
         let mut columns = Columns::default();
         columns.mnemonic = Column::try_from(*mnemonic).expect(&rt, "try_from");

@@ -1,7 +1,7 @@
 use crate::tests::asserts::{assert_equal, assert_equal_at};
 use crate::tests::inputs::info_of;
 use info65::Info;
-use map65::{DeviceFault, ImageFault, Sink, Source, Told, read_image, take_up_to};
+use map65::{DeviceFault, ImageFault, Sink, Source, TakeFault, Told, read_image, take_up_to};
 use std::alloc::Global;
 use std::io;
 use std::io::{ErrorKind, Read, Write};
@@ -133,7 +133,7 @@ fn nothing_is_taken_after_a_failed_read(rt: HostRuntime) {
     for kind in KINDS {
         let mut reader = FailsOnce::new(kind, 3);
         let answer = take_up_to(rt.alloc(), &mut Told::new(&mut reader), 9);
-        assert_equal(&rt, &answer.err(), &Some(ImageFault::Read));
+        assert_equal(&rt, &answer.err(), &Some(TakeFault::Read));
         assert_equal(&rt, &reader.calls, &3);
     }
 }

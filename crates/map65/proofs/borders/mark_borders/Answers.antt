@@ -33,6 +33,7 @@ loop-i-preserved g c =
 
 pub returns : goal.returns
 returns g c = record {
+  sound = c.segments-segments.ensures.sound;
   count = c.loop-i.invariant.count;
   each = λ a below.
       let all : length c.args.info.now.segments ≡ length c.segments-segments.result.now = sym (ap length c.segments-segments.ensures.segments) ∙ length-map c.segments-segments.result.now segment_seen in

@@ -20,4 +20,8 @@ returns g c =
     let m : MapView = record { info = c.args.info.now; image = c.args.image.now } in
     let bytes = ap length c.bytes.ensures.bytes in
     let past : end_of c.args.image.now ≤ c.items.at = omega (arith, c.from-at.ensures ∙ c.start.ensures, bytes, c.items-test.false) in
-    record { laid = all-marked m c.items.at c.items.cells past c.items.invariant.marked; own = c.items.invariant.own }
+    record {
+      laid = all-marked m c.items.at c.items.cells past c.items.invariant.marked;
+      own = c.items.invariant.own;
+      placed = c.bytes.ensures.placed;
+    }

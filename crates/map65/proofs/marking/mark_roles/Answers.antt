@@ -1,6 +1,6 @@
 use Rattle.std.proofs.Common.{◌≡◌, ◌+◌, ◌-◌, ◌<◌, ℕ, List, arith, drop, length, sym, subst}
-use Rattle.info65.specs.declared.range.RangeSpec.{RangeSpec}
-use Rattle.info65.specs.declared.range.RangeType.TheVariants.{Code}
+use Rattle.info65.specs.declared.information.range.RangeSpec.{RangeSpec}
+use Rattle.info65.specs.declared.information.range.RangeType.TheVariants.{Code}
 use Rattle.map65.specs.Code.Marking.{ArePainted}
 use Rattle.map65.specs.MapView.{MapView}
 use Rattle.map65.proofs.PaintLemmas.{none-named, none-marked, painted-more}
@@ -30,6 +30,7 @@ returns g c =
     let m : MapView = record { info = c.args.info.now; image = c.args.image.now } in
     let none : c.painting.left ≡ 0 = omega (arith, c.painting-test.false) in
     record {
+      sound = c.mark_borders.ensures.sound;
       marked = none-marked m c.painting.left c.painting.cells c.mark_borders.new.cells none c.painting.invariant.painted c.mark_borders.ensures.count c.mark_borders.ensures.each;
       named = none-named m c.painting.left c.painting.cells c.mark_borders.new.cells none c.painting.invariant.painted c.mark_borders.ensures.count c.mark_borders.ensures.each;
     }

@@ -9,5 +9,5 @@ invariant-loop-i g l =
     let m : MapView = record { info = l.info; image = l.image } in
     record {
       inside : l.address + l.i < end_of l.image;
-      same : are_joined m (l.wanted - 1 - l.i) (l.address + l.i) ≡ are_joined m (l.wanted - 1) l.address;
+      same : are_joined m (l.full_len - 1 - l.i) (l.address + l.i) ≡ are_joined m (l.full_len - 1) l.address;
     }

@@ -26,6 +26,7 @@ loop-i-preserved g c =
 
 pub returns : goal.returns
 returns g c = record {
+  sound = c.given_count-i-end.ensures.sound;
   keeps = c.loop-i.invariant.keeps;
   named = own-end c.args.info.now.names c.loop-i.i c.loop-i.cells (omega (arith, c.loop-i-test.false, c.given_count-i-end.ensures.count)) c.loop-i.invariant.named;
 }

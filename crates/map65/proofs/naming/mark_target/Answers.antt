@@ -39,14 +39,14 @@ returns-in-Some-clause-laid g c =
     let m : MapView = record { info = c.args.info.now; image = c.args.image.now } in
     let t : c.in-Some.target < 65536 = omega arith in
     let is : target_at m c.args.address ≡ Some c.in-Some.target = sym c.target_at.ensures ∙ c.in-Some.is in
-    target-laid m c.args.address c.in-Some.target c.home_of-first.result c.args.cells.now c.mark.new.cells c.mark-in-Some.new.cells c.requires.laid t (omega (arith, c.home_of-first.ensures.below)) is (c.home_of-first.ensures.value m c.requires.laid) c.mark.ensures c.mark-in-Some.ensures
+    target-laid m c.args.address c.in-Some.target c.entry_start_of-first.result c.args.cells.now c.mark.new.cells c.mark-in-Some.new.cells c.requires.laid t (omega (arith, c.entry_start_of-first.ensures.below)) is (c.entry_start_of-first.ensures.value m c.requires.laid) c.mark.ensures c.mark-in-Some.ensures
 
 pub returns-in-Some-clause-named : goal.returns-in-Some-clause-named
 returns-in-Some-clause-named g c =
     let m : MapView = record { info = c.args.info.now; image = c.args.image.now } in
     let t : c.in-Some.target < 65536 = omega arith in
     let is : target_at m c.args.address ≡ Some c.in-Some.target = sym c.target_at.ensures ∙ c.in-Some.is in
-    target-named m c.args.address c.in-Some.target c.home_of-first.result c.args.cells.now c.mark.new.cells c.mark-in-Some.new.cells c.requires.laid t (omega (arith, c.home_of-first.ensures.below)) is (c.home_of-first.ensures.value m c.requires.laid) c.mark.ensures c.mark-in-Some.ensures
+    target-named m c.args.address c.in-Some.target c.entry_start_of-first.result c.args.cells.now c.mark.new.cells c.mark-in-Some.new.cells c.requires.laid t (omega (arith, c.entry_start_of-first.ensures.below)) is (c.entry_start_of-first.ensures.value m c.requires.laid) c.mark.ensures c.mark-in-Some.ensures
 
 pub returns-in_default-clause-named : goal.returns-in_default-clause-named
 returns-in_default-clause-named g c = λ p named.

@@ -1,5 +1,5 @@
 use Rattle.std.proofs.Common.{◌≡◌, ◌+◌, ap, arith, length}
-use Rattle.map65.specs.Code.Marking.{also, is_covered, is_wanted_below}
+use Rattle.map65.specs.Code.Marking.{also, is_covered, is_referenced_below}
 use Rattle.map65.specs.MapView.{MapView}
 use Rattle.map65.proofs.NamingLemmas.{targets-end, targets-next, targets-start}
 use Rattle.map65.proofs.naming.mark_targets.Goals as goal
@@ -15,7 +15,7 @@ loop-k-preserved g c =
     let place : c.from-start.result + c.loop-k.k ≡ c.args.image.now.start + c.loop-k.k = omega (arith, c.from-start.ensures, c.start.ensures) in
     record {
       laid = c.mark_target.ensures.laid;
-      named = targets-next m c.loop-k.k (c.from-start.result + c.loop-k.k) c.mark_target.new.cells place (c.mark_target.ensures.named (also (is_covered c.args.info.now.names) (is_wanted_below m c.loop-k.k)) c.loop-k.invariant.named);
+      named = targets-next m c.loop-k.k (c.from-start.result + c.loop-k.k) c.mark_target.new.cells place (c.mark_target.ensures.named (also (is_covered c.args.info.now.names) (is_referenced_below m c.loop-k.k)) c.loop-k.invariant.named);
     }
 
 pub returns : goal.returns

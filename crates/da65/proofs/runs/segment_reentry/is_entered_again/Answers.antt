@@ -18,7 +18,7 @@ groups-init g c = record {
 pub groups-preserved-then-is_skipped : goal.groups-preserved-then-is_skipped
 groups-preserved-then-is_skipped g c =
     let m : MapView = c.args.map.now in
-    let here = byte-told m _ _ _ _ (ap (λ (x : MapView). x.image) c.requires) c.bytes-count.ensures.bytes c.start-start.ensures c.groups-test.true in
+    let here = byte-told m _ _ _ _ (sym c.image-image.ensures.image) c.bytes-count.ensures.bytes c.start-start.ensures c.groups-test.true in
     let skip = skip-told m _ _ _ _ here c.is_skipped.ensures c.if-is_skipped.true in
     record {
       place = place-skip m _ c.groups.invariant.place here.low skip;
@@ -28,22 +28,22 @@ groups-preserved-then-is_skipped g c =
 pub returns-then-add : goal.returns-then-add
 returns-then-add g c =
     let m : MapView = c.args.map.now in
-    let here = byte-told m _ _ _ _ (ap (λ (x : MapView). x.image) c.requires) c.bytes-count.ensures.bytes c.start-start.ensures c.groups-test.true in
+    let here = byte-told m _ _ _ _ (sym c.image-image.ensures.image) c.bytes-count.ensures.bytes c.start-start.ensures c.groups-test.true in
     let shown = skip-told m _ _ _ _ here c.is_skipped.ensures c.if-is_skipped.false in
-    let keys = keys-told m _ _ _ _ _ _ (ap (λ (x : MapView). x.info) c.requires) c.segments.ensures.sound here c.segment_key-segment.ensures c.first_named-code.ensures.first c.name_key.ensures in
+    let keys = keys-told m _ _ _ _ _ _ (sym c.info-info.ensures.info) c.segments.ensures.sound here c.segment_key-segment.ensures c.first_named-code.ensures.first c.name_key.ensures in
     known-back m _ c.groups.entered _ _ c.groups.invariant.place here.low shown keys c.groups.invariant.known (sym c.add.ensures.back ∙ c.if-add.true)
 
 pub group_len-at-requires-clause-begins : goal.group_len-at-requires-clause-begins
 group_len-at-requires-clause-begins g c =
     let m : MapView = c.args.map.now in
-    let here = byte-told m _ _ _ _ (ap (λ (x : MapView). x.image) c.requires) c.bytes-count.ensures.bytes c.start-start.ensures c.groups-test.true in
+    let here = byte-told m _ _ _ _ (sym c.image-image.ensures.image) c.bytes-count.ensures.bytes c.start-start.ensures c.groups-test.true in
     let shown = skip-told m _ _ _ _ here c.is_skipped.ensures c.if-is_skipped.false in
     subst (λ (a : ℕ). 0 < item_len m a) (sym here.address) (item-begins m _ c.groups.invariant.place here.low shown)
 
 pub groups-smaller : goal.groups-smaller
 groups-smaller g c =
     let m : MapView = c.args.map.now in
-    let here = byte-told m _ _ _ _ (ap (λ (x : MapView). x.image) c.requires) c.bytes-count.ensures.bytes c.start-start.ensures c.groups-test.true in
+    let here = byte-told m _ _ _ _ (sym c.image-image.ensures.image) c.bytes-count.ensures.bytes c.start-start.ensures c.groups-test.true in
     let shown = skip-told m _ _ _ _ here c.is_skipped.ensures c.if-is_skipped.false in
     let len : c.group_len-at.result ≡ group_len m (m.image.start + c.groups.at) = c.group_len-at.ensures.len ∙ ap (group_len m) here.address in
     let some : 1 ≤ group_len m (m.image.start + c.groups.at) = group-some m _ c.groups.invariant.place here.low shown in
@@ -52,10 +52,10 @@ groups-smaller g c =
 pub groups-preserved : goal.groups-preserved
 groups-preserved g c =
     let m : MapView = c.args.map.now in
-    let here = byte-told m _ _ _ _ (ap (λ (x : MapView). x.image) c.requires) c.bytes-count.ensures.bytes c.start-start.ensures c.groups-test.true in
+    let here = byte-told m _ _ _ _ (sym c.image-image.ensures.image) c.bytes-count.ensures.bytes c.start-start.ensures c.groups-test.true in
     let shown = skip-told m _ _ _ _ here c.is_skipped.ensures c.if-is_skipped.false in
     let len : c.group_len-at.result ≡ group_len m (m.image.start + c.groups.at) = c.group_len-at.ensures.len ∙ ap (group_len m) here.address in
-    let keys = keys-told m _ _ _ _ _ _ (ap (λ (x : MapView). x.info) c.requires) c.segments.ensures.sound here c.segment_key-segment.ensures c.first_named-code.ensures.first c.name_key.ensures in
+    let keys = keys-told m _ _ _ _ _ _ (sym c.info-info.ensures.info) c.segments.ensures.sound here c.segment_key-segment.ensures c.first_named-code.ensures.first c.name_key.ensures in
     record {
       place = subst (λ (n : ℕ). IsGroupPlace m (c.groups.at + n)) (sym len) (place-next m _ c.groups.invariant.place here.low shown);
       known = known-next m _ _ c.groups.entered c.add.new.self _ _ c.groups.invariant.place here.low shown keys c.groups.invariant.known (sym c.add.ensures.back ∙ c.if-add.false) len (on-false _ _ c.if-add.false c.add.ensures.after);
@@ -64,11 +64,11 @@ groups-preserved g c =
 pub returns : goal.returns
 returns g c =
     let m : MapView = c.args.map.now in
-    let same = ap (λ (x : MapView). x.image) c.requires in
+    let same = sym c.image-image.ensures.image in
     let count = count-told m _ _ same c.bytes-count.ensures.bytes in
     let end : c.groups.at ≡ length m.image.bytes = omega (arith, count, c.groups.invariant.place.bound, c.groups-test.false) in
     known-end m _ _ end c.groups.invariant.known
 
 pub returns-then-is_empty : goal.returns-then-is_empty
 returns-then-is_empty g c =
-    never-entered c.args.map.now (none-seen c.args.map.now _ _ (ap (λ (x : MapView). x.info) c.requires) c.segments.ensures.segments (nil_from_length _ (eqb-true _ _ (sym c.is_empty.ensures ∙ c.if-is_empty.true))))
+    never-entered c.args.map.now (none-seen c.args.map.now _ _ (sym c.info-info.ensures.info) c.segments.ensures.segments (nil_from_length _ (eqb-true _ _ (sym c.is_empty.ensures ∙ c.if-is_empty.true))))

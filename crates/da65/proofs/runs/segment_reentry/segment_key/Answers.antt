@@ -1,5 +1,6 @@
+use Rattle.std.proofs.Common.{sym}
 use Rattle.da65.proofs.ReentryLemmas.{keyed-map}
 use Rattle.da65.proofs.runs.segment_reentry.segment_key.Goals as goal
 
 pub returns : goal.returns
-returns g c = keyed-map c.args.map.now c.args.info.now c.args.address c.segment_key.result c.requires c.segment_key.ensures.sound c.segment_key.ensures.key
+returns g c = keyed-map c.args.map.now c.info.result.now c.args.address c.segment_key.result (sym c.info.ensures.info) c.segment_key.ensures.sound c.segment_key.ensures.key

@@ -8,5 +8,5 @@ pub returns : goal.returns
 returns g c =
     let m : MapView = record { info = c.self.inside.info.now; image = c.self.inside.image.now } in
     let cells = c.self.inside.cells.items in
-    let here : AreCellsOf c.args.self.now cells = subst (λ (v : MapView). AreCellsOf v cells) c.self.view_is (described m cells c.self.invariant) in
+    let here : AreCellsOf c.args.self.now cells = subst (λ (v : MapView). AreCellsOf v cells) c.self.view_is (described m cells c.self.invariant.are_cells) in
     subst (λ (l : List ℕ). AreCellsOf c.args.self.now l) (sym c.as_slice.ensures.value) here

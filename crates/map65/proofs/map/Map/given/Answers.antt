@@ -4,7 +4,7 @@ use Rattle.std.specs.Option.{option_map}
 use Rattle.info65.specs.Code.Names.{given_seen}
 use Rattle.info65.specs.Names.{AreNames, covering}
 use Rattle.info65.specs.Views.{NameView}
-use Rattle.info65.specs.declared.name.Given.{Given}
+use Rattle.info65.specs.declared.information.name.Given.{Given}
 use Rattle.map65.specs.MapView.{MapView}
 use Rattle.map65.proofs.NameLemmas.{name-low, name-short}
 use Rattle.map65.proofs.map.Map.given.Goals as goal

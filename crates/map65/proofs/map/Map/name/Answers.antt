@@ -2,8 +2,8 @@ use Rattle.std.proofs.Common.{◌≡◌, ◌∙◌, ap, sym, true}
 use Rattle.std.specs.Prelude.{None, Some}
 use Rattle.std.specs.Option.{option_map}
 use Rattle.info65.specs.Code.Names.{given_seen}
-use Rattle.map65.specs.Names.{base_at, given_base, has_name, home_base}
-use Rattle.map65.proofs.NameLemmas.{base-covered, base-home, base-none, kind-of, text-of}
+use Rattle.map65.specs.Names.{base_at, given_base, has_name, entry_base}
+use Rattle.map65.proofs.NameLemmas.{base-covered, base-entry_start, base-none, kind-of, text-of}
 use Rattle.map65.proofs.map.Map.name.Goals as goal
 
 pub returns-then-not-is_named-clause-kind : goal.returns-then-not-is_named-clause-kind
@@ -32,12 +32,12 @@ pub returns-clause-kind : goal.returns-clause-kind
 returns-clause-kind g c =
     let m = c.args.self.now in
     let named : has_name m c.args.address ≡ true = sym c.cell.ensures.named ∙ sym c.is_named.ensures ∙ c.if-not-is_named.false in
-    let base : base_at m c.args.address ≡ Some (home_base m c.args.address) = base-home m c.args.address named (sym c.given.ensures.value ∙ ap (option_map given_seen) c.in_default.is) in
-    ap (λ k. Some k) c.put_home.ensures.kind ∙ sym (kind-of m c.args.address _ base)
+    let base : base_at m c.args.address ≡ Some (entry_base m c.args.address) = base-entry_start m c.args.address named (sym c.given.ensures.value ∙ ap (option_map given_seen) c.in_default.is) in
+    ap (λ k. Some k) c.put_entry_start.ensures.kind ∙ sym (kind-of m c.args.address _ base)
 
 pub returns-clause-text : goal.returns-clause-text
 returns-clause-text g c =
     let m = c.args.self.now in
     let named : has_name m c.args.address ≡ true = sym c.cell.ensures.named ∙ sym c.is_named.ensures ∙ c.if-not-is_named.false in
-    let base : base_at m c.args.address ≡ Some (home_base m c.args.address) = base-home m c.args.address named (sym c.given.ensures.value ∙ ap (option_map given_seen) c.in_default.is) in
-    c.put_home.ensures.text ∙ sym (text-of m c.args.address _ base)
+    let base : base_at m c.args.address ≡ Some (entry_base m c.args.address) = base-entry_start m c.args.address named (sym c.given.ensures.value ∙ ap (option_map given_seen) c.in_default.is) in
+    c.put_entry_start.ensures.text ∙ sym (text-of m c.args.address _ base)

@@ -1,0 +1,4 @@
+pub mod Assembled
+pub mod Image
+pub mod Origins
+pub mod Stretches

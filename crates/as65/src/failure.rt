@@ -1,0 +1,96 @@
+//! Why the program gives up.
+
+ghost use Rattle.std.specs.Prelude.{◌≡◌};
+
+use da65::UsageFault;
+use files65::FileFault;
+use std::alloc::{AllocError, AllocFailed};
+use std::io::{Error as IoError, ErrorKind};
+use stmt65::AsmFault;
+use thiserror::Error;
+
+/// What ends the program early.
+#[derive(Debug, Drop, Error)]
+pub enum Failure {
+    /// The command line is refused.
+    #[error("{0}")]
+    Usage(UsageFault),
+    /// Neither a start address nor an image is given.
+    #[error("no start address: give -S, or --compare an image that ends at $FFFF")]
+    NoStart,
+    /// Memory ran out.
+    #[error("out of memory")]
+    Memory,
+    /// A file can't be read or created.
+    #[error("{0}")]
+    File(FileFault),
+    /// The image to compare with has no byte.
+    #[error("the image is empty")]
+    EmptyImage,
+    /// The image to compare with has more than 65,536 bytes, or extends past $FFFF.
+    #[error("the image is too large")]
+    LargeImage,
+    /// The listing has more than 16 MiB.
+    #[error("input is too large")]
+    LargeListing,
+    /// A line of the listing of this name is none that a listing can have.
+    #[error("{0}:{1}: syntax error: not a line of a listing")]
+    NoLine(String, usize),
+    /// A line of the listing of this name has another fault.
+    #[error("{0}:{1}")]
+    Line(String, AsmFault),
+    /// A write of the bytes, of the differences, of the help text or of the version failed.
+    #[error("cannot write the output")]
+    Writing,
+}
+
+impl From<AllocError> for Failure {
+    ghost use Rattle.as65.specs.declared.failure.Failure.TheVariants.{Memory};
+
+    ghost from_gives = { λ _ f. f ≡ Memory };
+
+    fn from(_: AllocError) -> Failure {
+        Failure::Memory
+    }
+}
+
+impl<T: Drop> From<AllocFailed<T>> for Failure {
+    ghost use Rattle.as65.specs.declared.failure.Failure.TheVariants.{Memory};
+
+    ghost from_gives = { λ _ f. f ≡ Memory };
+
+    fn from(failed: AllocFailed<T>) -> Failure {
+        let _ = failed;
+        Failure::Memory
+    }
+}
+
+/// The words of the command line are not valid UTF-8, or memory ran out.
+impl From<IoError> for Failure {
+    fn from(error: IoError) -> Failure {
+        match error.kind() {
+            ErrorKind::OutOfMemory => Failure::Memory,
+            _ => Failure::Usage(UsageFault::Words),
+        }
+    }
+}
+
+impl From<UsageFault> for Failure {
+    ghost use Rattle.as65.specs.declared.failure.Failure.TheVariants.{Usage};
+
+    ghost from_gives = { λ e f. f ≡ Usage e };
+
+    fn from(fault: UsageFault) -> Failure {
+        Failure::Usage(fault)
+    }
+}
+
+impl From<FileFault> for Failure {
+    ghost use Rattle.as65.specs.declared.failure.Failure.TheVariants.{File};
+
+    ghost from_gives = { λ e f. f ≡ File e };
+
+    fn from(fault: FileFault) -> Failure {
+        Failure::File(fault)
+    }
+}

@@ -1,0 +1,89 @@
+//! Which line of a listing gave a byte.
+
+ghost use Rattle.std.specs.Prelude.{◌≡◌, ◌+◌, ◌-◌, ◌≤◌, drop, length, nat_le};
+ghost use Rattle.std.specs.List.{prefix_len};
+ghost use Rattle.stmt65.specs.LineAddresses.{line_past};
+
+use std::marker::Model;
+use stmt65::first_line;
+
+/// A line of a listing, and its number, from 1.
+#[derive(Clone, Copy, Debug)]
+pub struct Origin<'a> {
+    pub number: usize,
+    pub line: &'a [u8],
+}
+
+/// Goes over the lines of a listing.
+#[derive(Drop)]
+pub struct Origins<'a> {
+    /// The text from the first line on that was not passed over, and the address after each of its lines.
+    rest: &'a [u8],
+    ends: &'a [u64],
+    /// How many lines were passed over.
+    passed: usize,
+}
+
+impl<'a> Model for Origins<'a> {
+    ghost use Rattle.std.specs.Prelude.{◌<◌, ◌+◌, ◌^◌, length};
+    ghost use Rattle.as65.specs.Origins.{OriginsView};
+
+    ghost Value = { OriginsView };
+
+    ghost view = { λ o. record { ends = o.ends.now; passed = o.passed } };
+
+    ghost invariant = { λ o. o.passed + length o.ends.now < 2 ^ 63 };
+}
+
+/// The text after this many lines.
+fn after_lines(text: &[u8], count: usize) -> &[u8] {
+    let mut rest = text;
+    'lines: for _ in 0..count {
+        match first_line(rest) {
+            Some((_, after)) => rest = after,
+            None => break,
+        }
+    }
+    rest
+}
+
+/// How many addresses come before the first that is greater than this one.
+fn count_up_to(addresses: &[u64], address: u64) -> usize
+    ensures value { result ≡ prefix_len (λ a. nat_le a address) addresses.now }
+    ensures fits { result ≤ length addresses.now }
+{
+    addresses.iter().take_while(|a| **a <= address).count()
+}
+
+impl<'a> Origins<'a> {
+    /// Over a text, by the address after each of its lines.
+    pub fn new(text: &'a [u8], ends: &'a [u64]) -> Origins<'a>
+        ensures { result ≡ record { ends = ends.entry.now; passed = 0 } }
+    {
+        Origins {
+            rest: text,
+            ends,
+            passed: 0,
+        }
+    }
+
+    /// The line that gave the byte at this address, if no earlier call asked for a higher one.
+    pub fn of_byte(&mut self, address: u64) -> Origin<'a>
+        ensures number { result.number ≡ self.old.passed + line_past address self.old.ends }
+        ensures passed { self.new.passed + 1 ≡ result.number }
+        ensures left { self.new.ends ≡ drop (self.new.passed - self.old.passed) self.old.ends }
+    {
+        let count = count_up_to(self.ends, address);
+        self.ends = &self.ends[count..];
+        self.rest = after_lines(self.rest, count);
+        self.passed += count;
+        let line = match first_line(self.rest) {
+            Some((line, _)) => line,
+            None => &[],
+        };
+        Origin {
+            number: self.passed + 1,
+            line,
+        }
+    }
+}

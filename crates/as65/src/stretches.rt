@@ -1,0 +1,67 @@
+//! Where two rows of bytes differ.
+
+ghost use Rattle.std.specs.Prelude.{◌≡◌, ◌<◌, ◌≤◌, ℕ, IfNone, IfOk, IfSome, false, length, not, true};
+ghost use Rattle.as65.specs.Stretches.{AreRuns, differs};
+
+use std::alloc::{AllocError, Global};
+
+/// Bytes that differ, from an offset up to before another.
+#[derive(Clone, Copy, Debug, PartialEq, Eq)]
+pub struct Stretch {
+    pub at: usize,
+    pub end: usize,
+}
+
+/// The first offset from this one on where the bytes differ, or where they don't; else the end of the shorter row.
+fn first_where(one: &[u8], other: &[u8], from: usize, differ: bool) -> usize
+    requires one { from ≤ length one.now }
+    requires other { from ≤ length other.now }
+    ensures low { from ≤ result }
+    ensures one { result ≤ length one.now }
+    ensures other { result ≤ length other.now }
+    ensures before { (i : ℕ) → from ≤ i → i < result → differs one.now other.now i ≡ not differ }
+    ensures here { result < length one.now → result < length other.now → differs one.now other.now result ≡ differ }
+{
+    let common = one.len().min(other.len());
+    'bytes: for at in from..common {
+        if (one[at] != other[at]) == differ {
+            return at;
+        }
+    }
+    common
+}
+
+/// The first stretch from an offset on.
+fn next_stretch(one: &[u8], other: &[u8], from: usize) -> Option<Stretch>
+    requires one { from ≤ length one.now }
+    requires other { from ≤ length other.now }
+    ensures low { IfSome result (λ s. from ≤ s.at) }
+    ensures before { IfSome result (λ s. (i : ℕ) → from ≤ i → i < s.at → differs one.now other.now i ≡ false) }
+    ensures some { IfSome result (λ s. s.at < s.end) }
+    ensures inside { IfSome result (λ s. (i : ℕ) → s.at ≤ i → i < s.end → differs one.now other.now i ≡ true) }
+    ensures after { IfSome result (λ s. differs one.now other.now s.end ≡ false) }
+    ensures one { IfSome result (λ s. s.end ≤ length one.now) }
+    ensures other { IfSome result (λ s. s.end ≤ length other.now) }
+    ensures none { IfNone result ((i : ℕ) → from ≤ i → differs one.now other.now i ≡ false) }
+{
+    let at = first_where(one, other, from, true);
+    let end = first_where(one, other, at, false);
+    if at < end {
+        Some(Stretch { at, end })
+    } else {
+        None
+    }
+}
+
+/// The stretches of bytes that differ, each as long as it can be, in order.
+pub fn stretches(alloc: Global, one: &[u8], other: &[u8]) -> Result<Vec<Stretch>, AllocError>
+    ensures { IfOk result (λ found. AreRuns (differs one.now other.now) 0 found.items) }
+{
+    let mut found = Vec::new(alloc);
+    let mut from = 0;
+    'stretches: while let Some(stretch) = next_stretch(one, other, from) {
+        found.push(stretch)?;
+        from = stretch.end;
+    }
+    Ok(found)
+}

@@ -1,0 +1,18 @@
+use Rattle.std.proofs.Common.{◌≡◌, ℕ, List}
+use Rattle.std.specs.Prelude.{Result, Err}
+use Rattle.info65.specs.Views.{InfoView}
+use Rattle.da65.specs.Files.{files_seen}
+use Rattle.da65.specs.Outcome.{prepared_by}
+use Rattle.da65.proofs.RefusalLemmas.{refused_writes}
+use Rattle.da65.proofs.runs.running.run_read.Goals as goal
+
+pub returns-in-Ok-clause-answer : goal.returns-in-Ok-clause-answer
+returns-in-Ok-clause-answer g c defined gives = rw (c.in-Ok.ensures defined gives) c.list_input.ensures.answer
+
+pub returns-in-Ok-clause-reassembles : goal.returns-in-Ok-clause-reassembles
+returns-in-Ok-clause-reassembles g c defined gives = rw (c.in-Ok.ensures defined gives) c.list_input.ensures.reassembles
+
+pub returns-in-Err-Refused-clause-answer : goal.returns-in-Err-Refused-clause-answer
+returns-in-Err-Refused-clause-answer g c defined gives =
+    let refused : ◌≡◌ {A = Result InfoView (List ℕ)} (prepared_by defined (files_seen c.args.files.now)) (Err c.in-Err-Refused.message.items) = rw (c.in-Err-Refused.is, c.in-Err-Refused.field-0-is) at (c.prepare.ensures defined gives) in
+    rw refused (λ few. refused_writes _ _ _ _ _ _ (rw (c.as_slice.ensures.value, c.in-Err-Refused.field-0-is) at c.refuse.ensures.text))

@@ -1,0 +1,86 @@
+-- What is kept of closed groups says what all of them say.
+use Rattle.std.proofs.Common.{◌≡◌, ◌∙◌, List, [], ◌∷◌, ◌++◌, ap, ap₂, length, refl}
+use Rattle.std.specs.Prelude.{nat_lt}
+use Rattle.std.specs.List.{flat_map}
+use Rattle.std.proofs.lemmas.Grind.{flat_map-append}
+use Rattle.std.proofs.lemmas.List.{append-nil}
+use Rattle.info65.specs.Code.Kept.{kept_of, kept_part}
+use Rattle.info65.specs.Groups.{AreAllFormed, AreFormed, AssignmentView, GroupView, global_given, global_part, given_before, is_given}
+use Rattle.info65.specs.IncludeGroups.{has_room, include_part, includes_of}
+use Rattle.info65.specs.Segments.{segment_part, segments_of}
+use Rattle.info65.specs.declared.syntax.attribute.Attribute.{Attribute}
+use Rattle.info65.specs.declared.syntax.attribute.Attribute.TheVariants as attribute
+use Rattle.info65.specs.declared.syntax.attribute.GroupKind.{GroupKind}
+use Rattle.info65.specs.declared.syntax.attribute.GroupKind.TheVariants as kind
+
+pub kept_more : (before : List GroupView) (g : GroupView) → kept_of (before ++ g ∷ []) ≡ kept_of before ++ kept_part g
+unfolding kept_of
+kept_more before g = flat_map-append kept_part before (g ∷ []) ∙ ap (λ l. flat_map kept_part before ++ l) (append-nil (kept_part g))
+
+-- what is said by the kept group alone is said by the kept groups
+kept_says : {X : Type 0} (f : GroupView → List X) → ((k : GroupKind) (given : List AssignmentView) → flat_map f (kept_part (record { kind = k; given = given })) ≡ f (record { kind = k; given = given })) → (gs : List GroupView) → flat_map f (flat_map kept_part gs) ≡ flat_map f gs
+kept_says f same [] = refl
+kept_says f same (g ∷ gs) = flat_map-append f (kept_part g) (flat_map kept_part gs) ∙ ap₂ (λ a b. a ++ b) (same g.kind g.given) (kept_says f same gs)
+
+pub global_kept : (gs : List GroupView) → global_given (kept_of gs) ≡ global_given gs
+unfolding global_given kept_of
+global_kept gs = kept_says global_part same gs
+  where
+    same : (k : GroupKind) (given : List AssignmentView) → flat_map global_part (kept_part (record { kind = k; given = given })) ≡ global_part (record { kind = k; given = given })
+    same kind.Global given = append-nil given
+    same kind.Range given = refl
+    same kind.Label given = refl
+    same kind.Segment given = refl
+    same kind.Include given = refl
+
+pub segments_kept : (gs : List GroupView) → segments_of (kept_of gs) ≡ segments_of gs
+unfolding segments_of kept_of
+segments_kept gs = kept_says segment_part same gs
+  where
+    same : (k : GroupKind) (given : List AssignmentView) → flat_map segment_part (kept_part (record { kind = k; given = given })) ≡ segment_part (record { kind = k; given = given })
+    same kind.Global given = refl
+    same kind.Range given = refl
+    same kind.Label given = refl
+    same kind.Segment given = append-nil (segment_part (record { kind = kind.Segment; given = given }))
+    same kind.Include given = refl
+
+pub includes_kept : (gs : List GroupView) → includes_of (kept_of gs) ≡ includes_of gs
+unfolding includes_of kept_of
+includes_kept gs = kept_says include_part same gs
+  where
+    same : (k : GroupKind) (given : List AssignmentView) → flat_map include_part (kept_part (record { kind = k; given = given })) ≡ include_part (record { kind = k; given = given })
+    same kind.Global given = refl
+    same kind.Range given = refl
+    same kind.Label given = refl
+    same kind.Segment given = refl
+    same kind.Include given = append-nil (include_part (record { kind = kind.Include; given = given }))
+
+-- so the tests of an attribute need no other groups
+
+before_kept : (gs : List GroupView) (k : GroupKind) → given_before (kept_of gs) k ≡ given_before gs k
+before_kept gs kind.Global = global_kept gs
+before_kept gs kind.Range = refl
+before_kept gs kind.Label = refl
+before_kept gs kind.Segment = refl
+before_kept gs kind.Include = refl
+
+pub given_kept : (gs : List GroupView) (k : GroupKind) (given : List AssignmentView) (a : Attribute) → is_given (kept_of gs) k given a ≡ is_given gs k given a
+unfolding is_given
+given_kept gs k given a = rw (before_kept gs k) refl
+
+pub room_kept : (gs : List GroupView) (a : Attribute) → has_room (kept_of gs) a ≡ has_room gs a
+unfolding has_room
+room_kept gs attribute.File = ap (λ l. nat_lt (length l) 16) (includes_kept gs)
+room_kept gs _ = refl
+
+pub formed_kept : (gs : List GroupView) → AreAllFormed gs → AreAllFormed (kept_of gs)
+unfolding kept_of
+formed_kept [] f = f
+formed_kept (g ∷ gs) f = more g.kind g.given f.0 (formed_kept gs f.1)
+  where
+    more : (k : GroupKind) (given : List AssignmentView) → AreFormed given → AreAllFormed (kept_of gs) → AreAllFormed (kept_part (record { kind = k; given = given }) ++ kept_of gs)
+    more kind.Global given f rest = (f, rest)
+    more kind.Range given f rest = rest
+    more kind.Label given f rest = rest
+    more kind.Segment given f rest = (f, rest)
+    more kind.Include given f rest = (f, rest)

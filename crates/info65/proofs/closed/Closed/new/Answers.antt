@@ -1,9 +1,0 @@
-use Rattle.info65.specs.Labels.{names_said}
-use Rattle.info65.specs.Ranges.{ranges_of}
-use Rattle.info65.specs.Segments.{segments_of}
-use Rattle.info65.proofs.SegmentLemmas.{no_marks}
-use Rattle.info65.proofs.closed.Closed.new.Goals as goal
-
-pub invariant_of-result : goal.invariant_of-result
-unfolding names_said ranges_of segments_of
-invariant_of-result g c = rw c.new-groups.ensures.items (record { index = c.in_ok-index.ensures; marks = no_marks _ c.in_ok-segmented.ensures.size c.in_ok-segmented.ensures.blank })

@@ -1,0 +1,29 @@
+use Rattle.std.proofs.Common.{◌≡◌, ◌∙◌, ◌++◌, ◌∷◌, [], ap, map, subst, sym}
+use Rattle.std.specs.Prelude.{List, None}
+use Rattle.std.proofs.lemmas.List.{take_at}
+use Rattle.info65.specs.Closing.{closing_fault}
+use Rattle.info65.specs.Code.Groups.{assignment_seen, group_seen}
+use Rattle.info65.specs.Code.Index.{AreMarked}
+use Rattle.info65.specs.Code.Kept.{kept_part}
+use Rattle.info65.specs.Groups.{GroupView}
+use Rattle.info65.specs.Ranges.{range_part}
+use Rattle.info65.specs.Segments.{segments_of}
+use Rattle.info65.proofs.KeptLemmas.{kept_more}
+use Rattle.info65.proofs.RangeLemmas.{ranges_more}
+use Rattle.info65.proofs.groups.closed.Closed.with.Goals as goal
+
+pub invariant_of-result : goal.invariant_of-result
+invariant_of-result g c =
+    let gs : List GroupView = c.self.inside.groups in
+    let one = group_seen c.args.group in
+    let fine : closing_fault gs c.args.group.kind (map assignment_seen c.as_slice.result.now) ≡ None = rw (c.self.view_is, c.as_slice.ensures.value) c.requires in
+    let index = c.in_ok-add.ensures.done gs c.self.invariant.index fine in
+    let written = take_at c.mark_segment.new.table _ c.self.inside.segmented.len (c.mark_segment.ensures.size ∙ c.as_mut_slice.ensures.len) in
+    let marks = c.mark_segment.ensures.marked gs (subst (AreMarked (segments_of gs)) (sym c.as_mut_slice.ensures.value) c.self.invariant.marks) in
+    let marked : AreMarked (segments_of (gs ++ one ∷ [])) c.mark_segment.new.table = rw c.as_slice-2.ensures.value at marks in
+    rw c.with-groups.ensures (record {
+      again = c.in_ok-keep.ensures.done ∙ ap (λ l. l ++ kept_part one) c.self.invariant.again ∙ sym (kept_more gs one);
+      ranged = c.in_ok-push_range.ensures.done ∙ ap (λ l. l ++ range_part one) c.self.invariant.ranged ∙ sym (ranges_more gs one);
+      index = rw c.as_slice.ensures.value at index;
+      marks = subst (AreMarked (segments_of (gs ++ one ∷ []))) (sym written) marked;
+    })

@@ -1,0 +1,7 @@
+use Rattle.std.proofs.Common.{◌≡◌, drop, map}
+use Rattle.info65.specs.Code.Groups.{group_seen}
+use Rattle.info65.specs.Groups.{global_given, value_in}
+use Rattle.info65.proofs.groups.group_values.global_value.Given as goal
+
+abbrev pub invariant-loop-group : goal.invariant-loop-group
+invariant-loop-group g l = value_in l.attribute (global_given (map group_seen (drop l.group-index l.groups))) ≡ value_in l.attribute (global_given (map group_seen l.groups))

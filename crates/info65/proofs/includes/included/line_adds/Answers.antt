@@ -1,0 +1,12 @@
+use Rattle.std.proofs.Common.{option_map, subst}
+use Rattle.info65.specs.Code.Names.{given_seen}
+use Rattle.info65.specs.Code.Steps.{Sees}
+use Rattle.info65.specs.Includes.{line_adds}
+use Rattle.info65.specs.Views.{IncludeView}
+use Rattle.info65.proofs.IncludedLemmas.{line_seen}
+use Rattle.info65.proofs.includes.included.line_adds.Goals as goal
+
+pub returns : goal.returns
+returns g c = λ names i.
+    subst (λ (x : IncludeView). Sees (option_map given_seen) c.judged.result (line_adds x c.args.number names c.args.line.now)) c.include.view_is
+    (line_seen _ c.args.number names c.args.line.now c.line_in-said.result c.optional_adds-added.result c.judged.result c.line_in-said.ensures (c.optional_adds-added.ensures names i) c.judged.ensures)

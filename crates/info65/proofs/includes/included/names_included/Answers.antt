@@ -1,0 +1,49 @@
+use Rattle.std.proofs.Common.{◌≡◌, ◌∙◌, ◌++◌, List, ap, arith, false, inl, inr, length, nat_lt, refl, subst, sym, ⊎_elim}
+use Rattle.std.specs.Prelude.{Ok, option_to_list}
+use Rattle.std.proofs.lemmas.Bool.Decides.{nat_tests}
+use Rattle.std.proofs.lemmas.Result.{err_from_is_err_and}
+use Rattle.info65.specs.Code.Results.{Gives}
+use Rattle.info65.specs.Includes.{lines_of}
+use Rattle.info65.specs.Labels.{by_address}
+use Rattle.info65.specs.Views.{NameView}
+use Rattle.info65.proofs.IncludedLemmas.{accepted, bad_line, last_line, next_line, refused}
+use Rattle.info65.proofs.IndexLemmas.{names_same}
+use Rattle.info65.proofs.includes.included.names_included.Goals as goal
+
+pub lines-init : goal.lines-init
+lines-init g c = record { all = c.args.names.now; indexed = c.in_ok-index.ensures; same = refl; shorter = omega arith }
+
+pub returns-in_err-add_line : goal.returns-in_err-add_line
+returns-in_err-add_line g c =
+    let p = err_from_is_err_and c.from_residual-in_err-add_line.result c.from_residual-in_err-add_line.ensures.1 in
+    let q = c.lines.invariant in
+    let small : nat_lt 1_048_576 (length c.args.bytes.now) ≡ false = grind (arith, nat_tests, c.if-bytes-gt-MOST_BYTES.false) in
+    rw (p.1, p.2) (⊎_elim
+    (λ h. inl (refused c.args.include.now c.args.names.now c.args.bytes.now _ small (q.same ∙ bad_line c.args.include.now c.lines.number q.all c.lines.rest.now c.in-Some.line.now (lines_of c.in-Some.after.now) _ c.in-Some.ensures.0 h)))
+    (λ m. inr m)
+    (c.in_err-add_line.ensures q.all q.indexed))
+
+pub overflow_add-number : goal.overflow_add-number
+overflow_add-number g c = omega (arith, c.lines.invariant.shorter, c.if-bytes-gt-MOST_BYTES.false)
+
+pub lines-smaller : goal.lines-smaller
+lines-smaller g c = c.in-Some.ensures.1
+
+pub lines-preserved : goal.lines-preserved
+lines-preserved g c =
+    let p = c.lines.invariant in
+    let a = c.in_ok-add_line.ensures p.all p.indexed in
+    record {
+      all = p.all ++ option_to_list a.0;
+      indexed = a.2;
+      same = p.same ∙ next_line c.args.include.now c.lines.number p.all c.lines.rest.now c.in-Some.line.now (lines_of c.in-Some.after.now) a.0 c.in-Some.ensures.0 a.1;
+      shorter = omega (arith, p.shorter, c.in-Some.ensures.1);
+    }
+
+pub returns : goal.returns
+unfolding by_address
+returns g c =
+    let p = c.lines.invariant in
+    let small : nat_lt 1_048_576 (length c.args.bytes.now) ≡ false = grind (arith, nat_tests, c.if-bytes-gt-MOST_BYTES.false) in
+    let done = accepted c.args.include.now c.args.names.now p.all c.args.bytes.now small (p.same ∙ last_line c.args.include.now c.lines.number p.all c.lines.rest.now c.in_default.ensures) in
+    subst (Gives (λ p. p) c.names.result) (ap (λ (l : List NameView). Ok l) (names_same _ _ p.indexed.addresses 0 0x1_0000) ∙ sym done) c.names.ensures

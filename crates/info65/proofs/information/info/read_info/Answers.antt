@@ -1,0 +1,79 @@
+use Rattle.std.proofs.Common.{◌≡◌, ◌∙◌, arith, false, length, nat_lt, refl, subst, sym, ℕ, inl, inr}
+use Rattle.std.specs.Prelude.{List, Ok, Result}
+use Rattle.std.proofs.lemmas.Result.{err_from_is_err_and}
+use Rattle.std.proofs.lemmas.Bool.Decides.{nat_tests}
+use Rattle.info65.specs.Code.Kept.{kept_of}
+use Rattle.info65.specs.Code.Results.{Fails}
+use Rattle.info65.specs.Groups.{AreFormed, GroupView, global_given}
+use Rattle.info65.specs.IncludeGroups.{AreIncludes, includes_of}
+use Rattle.info65.specs.Labels.{by_address, names_said}
+use Rattle.info65.specs.Names.{AreNames}
+use Rattle.info65.specs.Ranges.{AreRanges, ranges_of}
+use Rattle.info65.specs.Segments.{AreSegments, segments_of}
+use Rattle.info65.specs.Reader.{groups_of, information}
+use Rattle.info65.specs.Settings.{settings_of}
+use Rattle.info65.specs.Views.{AreInLimits, InfoView, OptionsView}
+use Rattle.info65.specs.declared.fault.InfoFault.{InfoFault}
+use Rattle.info65.proofs.FormLemmas.{read_all_formed, read_formed, settings_in_limits}
+use Rattle.info65.proofs.IncludeLemmas.{read_includes}
+use Rattle.info65.proofs.KeptLemmas.{formed_kept, global_kept, includes_kept, segments_kept}
+use Rattle.info65.proofs.NamesLemmas.{read_named}
+use Rattle.info65.proofs.RangeLemmas.{read_sound}
+use Rattle.info65.proofs.SegmentLemmas.{read_segments}
+use Rattle.info65.proofs.information.info.read_info.Goals as goal
+use Rattle.info65.proofs.Cases.{same_ok}
+
+pub settings_of-requires : goal.settings_of-requires
+settings_of-requires g c = rw (c.kept.ensures, global_kept c.in_ok-closed.closed) (read_formed c.args.options.now c.args.bytes.now c.in_ok-closed.closed c.in_ok-closed.ensures)
+
+pub includes_of-requires : goal.includes_of-requires
+includes_of-requires g c = rw c.kept-3.ensures (formed_kept c.in_ok-closed.closed (read_all_formed c.args.options.now c.args.bytes.now c.in_ok-closed.closed c.in_ok-closed.ensures))
+
+-- what the kept groups say, they all say
+settings_said : (o : OptionsView) (groups kept : List GroupView) → kept ≡ kept_of groups → settings_of o (global_given kept) ≡ settings_of o (global_given groups)
+settings_said o groups kept is = rw (is, global_kept groups) refl
+
+segments_said : (groups kept : List GroupView) → kept ≡ kept_of groups → segments_of kept ≡ segments_of groups
+segments_said groups kept is = rw (is, segments_kept groups) refl
+
+includes_said : (groups kept : List GroupView) → kept ≡ kept_of groups → includes_of kept ≡ includes_of groups
+includes_said groups kept is = rw (is, includes_kept groups) refl
+
+pub invariant_of-result : goal.invariant_of-result
+invariant_of-result g c =
+    let groups = c.in_ok-closed.closed in
+    let formed : AreFormed (global_given groups) = read_formed c.args.options.now c.args.bytes.now groups c.in_ok-closed.ensures in
+    let segmented : segments_of groups ≡ c.in_ok-segments.segments = sym (segments_said groups _ c.kept-2.ensures) ∙ same_ok c.in_ok-said.ensures ∙ same_ok c.in_ok-segments.ensures in
+    record {
+      limits = subst AreInLimits (sym (settings_said c.args.options.now groups _ c.kept.ensures) ∙ same_ok c.in_ok-settings.ensures) (settings_in_limits c.args.options.now (global_given groups) c.limits.ensures formed);
+      ranges = subst AreRanges (sym c.in_ok-ranges.ensures.ranges) (read_sound c.args.options.now c.args.bytes.now groups c.in_ok-closed.ensures);
+      segments = subst AreSegments segmented (read_segments c.args.options.now c.args.bytes.now groups c.in_ok-closed.ensures);
+      includes = subst AreIncludes (sym (includes_said groups _ c.kept-3.ensures) ∙ same_ok c.in_ok-includes.ensures) (read_includes c.args.options.now c.args.bytes.now groups c.in_ok-closed.ensures);
+      names = subst AreNames (sym c.in_ok-ranges.ensures.names) (read_named c.args.options.now c.args.bytes.now groups c.in_ok-closed.ensures);
+    }
+
+-- the parts are those of the groups
+together : (o : OptionsView) (bytes : List ℕ) (groups : List GroupView) (i : InfoView) → nat_lt 1_048_576 (length bytes) ≡ false → groups_of o bytes ≡ Ok groups
+    → settings_of o (global_given groups) ≡ i.settings → ranges_of groups ≡ i.ranges → segments_of groups ≡ i.segments → by_address (names_said groups) ≡ i.names → includes_of groups ≡ i.includes → information o bytes ≡ Ok i
+unfolding information
+together o bytes groups i small read s r g n c = rw (small, read, s, r, g, n, c) refl
+
+pub returns : goal.returns
+returns g c =
+    let groups = c.in_ok-closed.closed in
+    together c.args.options.now c.args.bytes.now groups _ (grind (arith, nat_tests, c.if-bytes-gt-MOST_BYTES.false)) c.in_ok-closed.ensures
+    (sym (settings_said c.args.options.now groups _ c.kept.ensures) ∙ same_ok c.in_ok-settings.ensures)
+    (sym c.in_ok-ranges.ensures.ranges)
+    (sym (segments_said groups _ c.kept-2.ensures) ∙ same_ok c.in_ok-said.ensures ∙ same_ok c.in_ok-segments.ensures)
+    (sym c.in_ok-ranges.ensures.names)
+    (sym (includes_said groups _ c.kept-3.ensures) ∙ same_ok c.in_ok-includes.ensures)
+
+-- what the rules accept is refused only if an allocation failed
+lost : {A B : Type 0} {given : A} {e : InfoFault} {r : Result B InfoFault} → Fails e (Ok given) → Fails e r
+lost (inl wrong) = absurd cc
+lost (inr memory) = inr memory
+
+pub returns-in_err-includes : goal.returns-in_err-includes
+returns-in_err-includes g c =
+    let p = err_from_is_err_and c.from_residual-in_err-includes.result c.from_residual-in_err-includes.ensures.1 in
+    rw (p.1, p.2) (lost c.in_err-includes.ensures)

@@ -1,5 +1,0 @@
-use Rattle.info65.proofs.NamesLemmas.{names_given}
-use Rattle.info65.proofs.law.names_given.Goals as goal
-
-pub returns : goal.returns
-returns c = names_given

@@ -1,5 +1,0 @@
-use Rattle.info65.proofs.SegmentLemmas.{segments_apart}
-use Rattle.info65.proofs.law.segments_apart.Goals as goal
-
-pub returns : goal.returns
-returns c = segments_apart

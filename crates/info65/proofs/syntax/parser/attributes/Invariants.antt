@@ -1,0 +1,13 @@
+use Rattle.std.proofs.Common.{◌≡◌, ◌≤◌, [], length, map}
+use Rattle.info65.specs.Code.Groups.{assignment_seen}
+use Rattle.info65.specs.Reader.{inside, read}
+use Rattle.info65.proofs.syntax.parser.attributes.Given as goal
+
+abbrev pub invariant-attributes : goal.invariant-attributes
+invariant-attributes g l = record {
+  same : read l.fn.options (inside l.fn.kind (map assignment_seen l.given.items)) l.fn.before l.lexer ≡ read l.fn.options (inside l.fn.kind []) l.fn.before l.fn.lexer;
+  shorter : length l.lexer.tokens ≤ length l.fn.lexer.tokens;
+}
+
+abbrev pub decreases-attributes : goal.decreases-attributes
+decreases-attributes g l = length l.lexer.tokens

@@ -1,0 +1,31 @@
+-- What is kept of closed groups.
+use Rattle.std.specs.Prelude.{◌≡◌, Bool, List, [], ◌∷◌}
+use Rattle.std.specs.List.{flat_map}
+use Rattle.info65.specs.Code.Index.{AreMarked, IndexesGroups}
+use Rattle.info65.specs.Groups.{GroupView}
+use Rattle.info65.specs.Ranges.{ranges_of}
+use Rattle.info65.specs.Segments.{segments_of}
+use Rattle.info65.specs.declared.information.range.RangeSpec.{RangeSpec}
+use Rattle.info65.specs.declared.lookup.index.Index.{Index}
+use Rattle.info65.specs.declared.syntax.attribute.GroupKind.{GroupKind}
+use Rattle.info65.specs.declared.syntax.attribute.GroupKind.TheVariants as group
+
+-- the group, if it is read again: a group RANGE or LABEL is not
+abbrev pub kept_part : GroupView → List GroupView
+kept_part g = if_read g.kind g
+  where
+    if_read : GroupKind → GroupView → List GroupView
+    if_read group.Range g = []
+    if_read group.Label g = []
+    if_read _ g = g ∷ []
+
+-- the groups that are read again, in their order
+unfoldable pub kept_of : List GroupView → List GroupView
+kept_of groups = flat_map kept_part groups
+
+-- what is kept is that of these groups
+pub record AreKept {Z : Type 0} (groups kept : List GroupView) (ranges : List RangeSpec) (i : Index Z) (table : List Bool) : Type 0 where
+  pub again : kept ≡ kept_of groups
+  pub ranged : ranges ≡ ranges_of groups
+  pub index : IndexesGroups groups i
+  pub marks : AreMarked (segments_of groups) table

@@ -1,0 +1,178 @@
+//! The groups of an information file that are closed.
+
+ghost use Rattle.std.specs.Prelude.{◌≡◌, ◌++◌, IfErr, IfOk, map};
+ghost use Rattle.info65.specs.Code.Groups.{group_seen};
+ghost use Rattle.info65.specs.Code.Kept.{kept_part};
+ghost use Rattle.info65.specs.Faults.{out_of_memory};
+
+use crate::fault::{InfoFault, InfoFaultKind};
+use crate::groups::group_list::GroupList;
+use crate::groups::group_values::is_given;
+use crate::groups::include_groups::{has_room, include_in};
+use crate::groups::range_groups::push_range;
+use crate::groups::segment_groups::{mark_segment, segment_fault};
+use crate::information::pool::Pool;
+use crate::information::range::RangeSpec;
+use crate::lookup::index::Index;
+use crate::lookup::marks::{ADDRESSES, blank_table};
+use crate::syntax::assignment::{Assignment, Group};
+use crate::syntax::attribute::{Attribute, GroupKind};
+use std::alloc::Allocator;
+use std::marker::Model;
+
+/// What is kept of the groups that are closed. Of a group RANGE that is its range and its name, and of a group LABEL its
+/// name. A contract sees the list of all groups.
+#[derive(Drop)]
+pub struct Closed<'a, A: Allocator> {
+    groups: GroupList<'a, A>,
+    /// The groups that are read again, of the other kinds.
+    kept: Vec<Group<'a, A>, A>,
+    ranges: Vec<RangeSpec, A>,
+    /// The addresses of the ranges, and the names.
+    index: Index<'a, A>,
+    /// For each address, whether it belongs to a segment.
+    segmented: Vec<bool, A>,
+}
+
+impl<'a, A: Allocator> Model for Closed<'a, A> {
+    ghost use Rattle.std.specs.Prelude.{List, map};
+    ghost use Rattle.info65.specs.Code.Groups.{group_seen};
+    ghost use Rattle.info65.specs.Code.Kept.{AreKept};
+    ghost use Rattle.info65.specs.Groups.{GroupView};
+
+    ghost Value = { List GroupView };
+
+    ghost view = { λ c. c.groups };
+
+    ghost invariant = { λ c. AreKept c.groups (map group_seen c.kept.items) c.ranges.items c.index c.segmented.items };
+}
+
+// Adds a group to those that are read again, if it is one.
+fn keep<'a, A: Allocator>(
+    kept: &mut Vec<Group<'a, A>, A>,
+    group: Group<'a, A>,
+) -> Result<(), InfoFault>
+    ensures done { IfOk result (λ _. map group_seen kept.new.items ≡ map group_seen kept.old.items ++ kept_part (group_seen group.entry)) }
+    ensures err { IfErr result (λ e. e ≡ out_of_memory) }
+{
+    match group.kind {
+        GroupKind::Range | GroupKind::Label => Ok(()),
+        GroupKind::Global | GroupKind::Segment | GroupKind::Include => {
+            kept.push(group)?;
+            Ok(())
+        }
+    }
+}
+
+impl<'a, A: Allocator + Copy> Closed<'a, A> {
+    ghost use Rattle.std.specs.Prelude.{◌≡◌, ◌∷◌, ◌++◌, IfErr, IfOk, List, None, Ok, [], map};
+    ghost use Rattle.info65.specs.Closing.{closing_fault};
+    ghost use Rattle.info65.specs.Code.Groups.{assignment_seen, group_seen};
+    ghost use Rattle.info65.specs.Code.Kept.{kept_of};
+    ghost use Rattle.info65.specs.Code.Results.{Gives};
+    ghost use Rattle.info65.specs.Faults.{out_of_memory};
+    ghost use Rattle.info65.specs.Groups.{GroupView, is_given};
+    ghost use Rattle.info65.specs.IncludeGroups.{has_room};
+    ghost use Rattle.info65.specs.Labels.{by_address, names_said};
+    ghost use Rattle.info65.specs.Ranges.{ranges_of};
+
+    /// No groups.
+    pub fn new(alloc: A) -> Result<Self, InfoFault>
+        ensures { Gives (λ c. c) result (Ok []) }
+    {
+        let groups = GroupList::new();
+        let kept = Vec::new(alloc);
+        let ranges = Vec::new(alloc);
+        let index = Index::new(alloc)?;
+        let segmented = blank_table(alloc, ADDRESSES)?;
+        Ok(Closed {
+            groups,
+            kept,
+            ranges,
+            index,
+            segmented,
+        })
+    }
+
+    /// The groups GLOBAL, SEGMENT and ASMINC, in their order.
+    pub fn kept(&self) -> &[Group<'a, A>]
+        ensures { map group_seen result.now ≡ kept_of self.now }
+    {
+        self.kept.as_slice()
+    }
+
+    /// The attribute was given before in its group, where END and SIZE count as one.
+    pub fn is_given(&self, kind: GroupKind, given: &[Assignment], attribute: Attribute) -> bool
+        ensures { result ≡ is_given self.now kind (map assignment_seen given.now) attribute }
+    {
+        is_given(self.kept.as_slice(), kind, given, attribute)
+    }
+
+    /// One more value of the attribute can be given after these groups.
+    pub fn has_room(&self, attribute: Attribute) -> bool
+        ensures { result ≡ has_room self.now attribute }
+    {
+        has_room(self.kept.as_slice(), attribute)
+    }
+
+    /// The first fault of a group after these, where it closes.
+    #[tactic(auto, unfolding(crate::specs::Closing::closing_fault))]
+    pub fn closing_fault(&self, kind: GroupKind, given: &[Assignment<'a>]) -> Option<InfoFaultKind>
+        ensures { result ≡ closing_fault self.now kind (map assignment_seen given.now) }
+    {
+        match kind {
+            GroupKind::Global => None,
+            GroupKind::Range => self.index.range_fault(given),
+            GroupKind::Label => self.index.label_fault(given),
+            GroupKind::Segment => segment_fault(self.segmented.as_slice(), given),
+            GroupKind::Include => include_in(given).err(),
+        }
+    }
+
+    /// These groups and one more, which has no fault.
+    pub fn with(self, group: Group<'a, A>) -> Result<Self, InfoFault>
+        requires { closing_fault self group.kind (map assignment_seen group.given.items) ≡ None }
+        ensures { Gives (λ c. c) result (Ok (self.entry ++ group_seen group.entry ∷ [])) }
+    {
+        let Closed {
+            groups,
+            mut kept,
+            mut ranges,
+            mut index,
+            mut segmented,
+        } = self;
+        index.add(group.kind, group.given.as_slice())?;
+        mark_segment(segmented.as_mut_slice(), group.kind, group.given.as_slice());
+        push_range(&mut ranges, &group)?;
+        let groups = groups.with(&group);
+        keep(&mut kept, group)?;
+        Ok(Closed {
+            groups,
+            kept,
+            ranges,
+            index,
+            segmented,
+        })
+    }
+
+    /// The ranges of the groups, in their order, and the names that they say, by address.
+    pub fn ranges_and_names(self, alloc: A) -> Result<(Vec<RangeSpec, A>, Pool<A>), InfoFault>
+        ensures ranges { IfOk result (λ said. said.0.items ≡ ranges_of self.entry) }
+        ensures names { IfOk result (λ said. said.1 ≡ by_address (names_said self.entry)) }
+        ensures err { IfErr result (λ e. e ≡ out_of_memory) }
+    {
+        let Closed {
+            groups,
+            kept,
+            ranges,
+            index,
+            segmented,
+        } = self;
+        // What is not read again is given back before the pool of the names grows.
+        drop(groups);
+        drop(kept);
+        drop(segmented);
+        let names = index.names(alloc)?;
+        Ok((ranges, names))
+    }
+}

@@ -1,0 +1,34 @@
+//! The comment that a group gives its name.
+
+ghost use Rattle.std.specs.Prelude.{◌≡◌, map, option_map};
+ghost use Rattle.info65.specs.Code.Groups.{assignment_seen};
+ghost use Rattle.info65.specs.Comments.{comment_in, lacks_name, not_empty};
+
+use crate::groups::group_values::{has, value_in};
+use crate::syntax::assignment::{Assignment, as_comment};
+use crate::syntax::attribute::Attribute;
+
+fn not_empty(text: Option<&[u8]>) -> Option<&[u8]>
+    ensures { option_map (λ s. s.now) result ≡ not_empty (option_map (λ s. s.now) text.entry) }
+{
+    match text {
+        Some(text) => { if text.is_empty() { None } else { Some(text) } }
+        None => None,
+    }
+}
+
+/// The comment that is given; an empty one counts as none.
+#[tactic(auto, unfolding(crate::specs::Comments::comment_in))]
+pub fn comment_in<'a>(given: &[Assignment<'a>]) -> Option<&'a [u8]>
+    ensures { option_map (λ s. s.now) result ≡ comment_in (map assignment_seen given.now) }
+{
+    not_empty(as_comment(value_in(given, Attribute::Comment)))
+}
+
+/// A comment is given, and no name for it.
+#[tactic(auto, unfolding(crate::specs::Comments::lacks_name))]
+pub fn lacks_name(given: &[Assignment]) -> bool
+    ensures { result ≡ lacks_name (map assignment_seen given.now) }
+{
+    comment_in(given).is_some() && !has(given, Attribute::Name)
+}

@@ -1,0 +1,107 @@
+//! What is given in groups.
+
+ghost use Rattle.std.specs.Prelude.{◌≡◌, map, option_map};
+ghost use Rattle.info65.specs.Code.Groups.{assignment_seen, group_seen, value_seen};
+ghost use Rattle.info65.specs.Groups.{given_before, global_given, global_part, has, has_instead, is_given, value_in};
+
+use crate::syntax::assignment::{Assignment, Group, Value};
+use crate::syntax::attribute::{Attribute, GroupKind};
+use std::alloc::Allocator;
+
+/// The attribute is given.
+#[tactic(auto, unfolding(crate::specs::Groups::has))]
+pub fn has(given: &[Assignment], attribute: Attribute) -> bool
+    ensures { result ≡ has attribute (map assignment_seen given.now) }
+{
+    for each in given {
+        if attribute == each.attribute {
+            return true;
+        }
+    }
+    false
+}
+
+// The attribute is given in a group GLOBAL.
+fn has_global<A: Allocator>(groups: &[Group<A>], attribute: Attribute) -> bool
+    ensures { result ≡ has attribute (global_given (map group_seen groups.now)) }
+{
+    for group in groups {
+        if has(global_part(group), attribute) {
+            return true;
+        }
+    }
+    false
+}
+
+fn global_part<'a, 'b, A: Allocator>(group: &'b Group<'a, A>) -> &'b [Assignment<'a>]
+    ensures { map assignment_seen result.now ≡ global_part (group_seen group.now) }
+{
+    match group.kind {
+        GroupKind::Global => group.given.as_slice(),
+        GroupKind::Range | GroupKind::Label | GroupKind::Segment | GroupKind::Include => &[],
+    }
+}
+
+/// The attribute was given before in its group, where END and SIZE count as one.
+#[tactic(auto, unfolding(crate::specs::Groups::is_given))]
+pub fn is_given<A: Allocator>(
+    before: &[Group<A>],
+    kind: GroupKind,
+    given: &[Assignment],
+    attribute: Attribute,
+) -> bool
+    ensures { result ≡ is_given (map group_seen before.now) kind (map assignment_seen given.now) attribute }
+{
+    has_before(before, kind, attribute) || has(given, attribute) || has_instead(given, attribute)
+}
+
+#[tactic(auto, unfolding(crate::specs::Groups::has_instead))]
+fn has_instead(given: &[Assignment], attribute: Attribute) -> bool
+    ensures { result ≡ has_instead attribute (map assignment_seen given.now) }
+{
+    match attribute {
+        Attribute::End => has(given, Attribute::Size),
+        Attribute::Size => has(given, Attribute::End),
+        _ => false,
+    }
+}
+
+fn has_before<A: Allocator>(before: &[Group<A>], kind: GroupKind, attribute: Attribute) -> bool
+    ensures { result ≡ has attribute (given_before (map group_seen before.now) kind) }
+{
+    match kind {
+        GroupKind::Global => has_global(before, attribute),
+        GroupKind::Range => false,
+        GroupKind::Label => false,
+        GroupKind::Segment => false,
+        GroupKind::Include => false,
+    }
+}
+
+/// The value that the attribute is given.
+#[tactic(auto, unfolding(crate::specs::Groups::value_in))]
+pub fn value_in<'a>(given: &[Assignment<'a>], attribute: Attribute) -> Option<Value<'a>>
+    ensures { option_map value_seen result ≡ value_in attribute (map assignment_seen given.now) }
+{
+    for each in given {
+        if attribute == each.attribute {
+            return Some(each.value);
+        }
+    }
+    None
+}
+
+/// The value that the groups GLOBAL give the attribute.
+pub fn global_value<'a, A: Allocator>(
+    groups: &[Group<'a, A>],
+    attribute: Attribute,
+) -> Option<Value<'a>>
+    ensures { option_map value_seen result ≡ value_in attribute (global_given (map group_seen groups.now)) }
+{
+    for group in groups {
+        if let Some(value) = value_in(global_part(group), attribute) {
+            return Some(value);
+        }
+    }
+    None
+}

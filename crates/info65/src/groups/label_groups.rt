@@ -1,0 +1,67 @@
+//! The names that groups LABEL and RANGE say.
+
+ghost use Rattle.std.specs.Prelude.{◌≡◌, ◌≤◌, ◌<◌, IfOk, Ok, map, option_map};
+ghost use Rattle.info65.specs.Code.Groups.{assignment_seen};
+ghost use Rattle.info65.specs.Code.Names.{SeesName, given_seen};
+ghost use Rattle.info65.specs.Labels.{label_from, label_in, label_sized, range_name};
+
+use crate::fault::InfoFaultKind;
+use crate::groups::comments::comment_in;
+use crate::groups::group_values::value_in;
+use crate::information::name::Given;
+use crate::information::range::RangeSpec;
+use crate::syntax::assignment::{Assignment, as_address, as_name, as_number};
+use crate::syntax::attribute::Attribute;
+
+/// The name that a group LABEL says by what is given in it. It is Missing where ADDR or NAME is not given,
+/// and OutOfRange where its addresses go past $FFFF.
+#[tactic(auto, unfolding(crate::specs::Labels::label_in))]
+pub fn label_in<'a>(given: &[Assignment<'a>]) -> Result<Given<'a>, InfoFaultKind>
+    ensures { SeesName result (label_in (map assignment_seen given.now)) }
+{
+    let address = as_address(value_in(given, Attribute::Address));
+    let text = as_name(value_in(given, Attribute::Name));
+    let size = as_number(value_in(given, Attribute::Size));
+    match (address, text) {
+        (Some(address), Some(text)) => {
+            label_sized(address, text, size.unwrap_or(1), comment_in(given))
+        }
+        _ => Err(InfoFaultKind::Missing),
+    }
+}
+
+fn label_sized<'a>(
+    address: u16,
+    text: &'a [u8],
+    size: u32,
+    comment: Option<&'a [u8]>,
+) -> Result<Given<'a>, InfoFaultKind>
+    ensures { SeesName result (label_sized address text.entry.now size (option_map (λ s. s.now) comment.entry)) }
+{
+    if u64::from(address) + u64::from(size) <= 0x1_0000 {
+        Ok(Given {
+            address,
+            size,
+            text,
+            comment,
+        })
+    } else {
+        Err(InfoFaultKind::OutOfRange)
+    }
+}
+
+/// The name that a group RANGE says: that of its first address, with its comment.
+#[tactic(auto, unfolding(crate::specs::Labels::range_name))]
+pub fn range_name<'a>(given: &[Assignment<'a>], range: RangeSpec) -> Option<Given<'a>>
+    ensures { option_map given_seen result ≡ range_name (map assignment_seen given.now) range }
+{
+    match as_name(value_in(given, Attribute::Name)) {
+        Some(text) => Some(Given {
+            address: range.first,
+            size: 1,
+            text,
+            comment: comment_in(given),
+        }),
+        None => None,
+    }
+}

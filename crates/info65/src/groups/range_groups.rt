@@ -1,0 +1,98 @@
+//! The ranges that groups RANGE say.
+
+ghost use Rattle.std.specs.Prelude.{◌≡◌, ◌++◌, IfErr, IfOk, map, option_to_list};
+ghost use Rattle.info65.specs.Code.Groups.{assignment_seen, group_seen};
+ghost use Rattle.info65.specs.Faults.{out_of_memory};
+ghost use Rattle.info65.specs.Ranges.{last_from, range_between, range_in, range_of_parts, range_part};
+
+use crate::fault::{InfoFault, InfoFaultKind};
+use crate::groups::comments::lacks_name;
+use crate::groups::group_values::value_in;
+use crate::information::range::{RangeSpec, RangeType};
+use crate::syntax::assignment::{Assignment, Group, as_address, as_number, as_type};
+use crate::syntax::attribute::{Attribute, GroupKind};
+use std::alloc::Allocator;
+
+/// The range that a group RANGE says by what is given in it. It is Missing where START, TYPE, or both END
+/// and SIZE are not given, or a comment is given and no name, and OutOfRange where it ends before it begins
+/// or past $FFFF.
+#[tactic(auto, unfolding(crate::specs::Ranges::range_in))]
+pub fn range_in(given: &[Assignment]) -> Result<RangeSpec, InfoFaultKind>
+    ensures { result ≡ range_in (map assignment_seen given.now) }
+{
+    if lacks_name(given) {
+        return Err(InfoFaultKind::Missing);
+    }
+    range_of_parts(given)
+}
+
+#[tactic(auto, unfolding(crate::specs::Ranges::range_of_parts))]
+fn range_of_parts(given: &[Assignment]) -> Result<RangeSpec, InfoFaultKind>
+    ensures { result ≡ range_of_parts (map assignment_seen given.now) }
+{
+    let first = as_address(value_in(given, Attribute::Start));
+    let end = as_address(value_in(given, Attribute::End));
+    let size = as_number(value_in(given, Attribute::Size));
+    let role = as_type(value_in(given, Attribute::Role));
+    match (first, role) {
+        (Some(first), Some(role)) => range_between(first, role, last_from(first, end, size)),
+        _ => Err(InfoFaultKind::Missing),
+    }
+}
+
+// The last address by END or SIZE, which may lie past $FFFF.
+fn last_from(first: u16, end: Option<u16>, size: Option<u32>) -> Option<u64>
+    ensures { result ≡ last_from first end size }
+{
+    match (end, size) {
+        (Some(last), _) => Some(u64::from(last)),
+        (None, Some(size)) => Some((u64::from(first) + u64::from(size)).saturating_sub(1)),
+        (None, None) => None,
+    }
+}
+
+fn range_between(first: u16, role: RangeType, last: Option<u64>) -> Result<RangeSpec, InfoFaultKind>
+    ensures { result ≡ range_between first role last }
+{
+    match last {
+        None => Err(InfoFaultKind::Missing),
+        Some(last) => {
+            if u64::from(first) <= last && last <= 0xFFFF {
+                Ok(RangeSpec {
+                    first,
+                    last: last as u16,
+                    role,
+                })
+            } else {
+                Err(InfoFaultKind::OutOfRange)
+            }
+        }
+    }
+}
+
+// The range of a group RANGE.
+fn range_part<A: Allocator>(group: &Group<A>) -> Option<RangeSpec>
+    ensures { option_to_list result ≡ range_part (group_seen group.now) }
+{
+    match group.kind {
+        GroupKind::Range => range_in(group.given.as_slice()).ok(),
+        GroupKind::Global | GroupKind::Label | GroupKind::Segment | GroupKind::Include => None,
+    }
+}
+
+/// Adds the range of the group, if it says one.
+pub fn push_range<A: Allocator, B: Allocator>(
+    ranges: &mut Vec<RangeSpec, A>,
+    group: &Group<B>,
+) -> Result<(), InfoFault>
+    ensures done { IfOk result (λ _. ranges.new.items ≡ ranges.old.items ++ range_part (group_seen group.now)) }
+    ensures err { IfErr result (λ e. e ≡ out_of_memory) }
+{
+    match range_part(group) {
+        Some(range) => {
+            ranges.push(range)?;
+            Ok(())
+        }
+        None => Ok(()),
+    }
+}

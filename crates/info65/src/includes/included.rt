@@ -1,0 +1,126 @@
+//! The names of an information with those of an include file.
+
+ghost use Rattle.std.specs.Prelude.{◌≡◌, [], List, MatchResult, option_map};
+ghost use Rattle.info65.specs.Code.Includes.{Adds, SeesName, name_result_seen};
+ghost use Rattle.info65.specs.Code.Index.{Indexes};
+ghost use Rattle.info65.specs.Code.Names.{given_seen};
+ghost use Rattle.info65.specs.Code.Steps.{Sees};
+ghost use Rattle.info65.specs.Faults.{out_of_memory};
+ghost use Rattle.info65.specs.Code.Results.{Gives};
+ghost use Rattle.info65.specs.Includes.{judged, line_adds, names_included, optional_adds};
+ghost use Rattle.info65.specs.Names.{AreNames};
+ghost use Rattle.info65.specs.Views.{NameView};
+
+use crate::fault::{InfoFault, InfoFaultKind};
+use crate::includes::include::IncludeSpec;
+use crate::includes::include_lines::{first_line, line_in};
+use crate::information::name::Given;
+use crate::information::pool::Pool;
+use crate::lookup::index::Index;
+use std::alloc::Allocator;
+
+// The bytes that an include file has at most.
+const MOST_BYTES: usize = 1_048_576;
+
+// The index of these names.
+fn index_of<'a, A: Allocator + Copy>(
+    alloc: A,
+    names: &'a Pool<A>,
+) -> Result<Index<'a, A>, InfoFault>
+    requires { AreNames names.now }
+    ensures { MatchResult result (λ i. Indexes [] names.now i) (λ e. e ≡ out_of_memory) }
+{
+    let mut index = Index::new(alloc)?;
+    for place in 0..names.count() {
+        index.add_name(names.given(place))?;
+    }
+    Ok(index)
+}
+
+// What a line adds to the names of the index by what it says, or its fault.
+fn optional_adds<'a, A: Allocator + Copy>(
+    index: &Index<'a, A>,
+    said: Result<Option<Given<'a>>, InfoFaultKind>,
+) -> Result<Option<Given<'a>>, InfoFaultKind>
+    ensures { (names : List NameView) → Indexes [] names index.now → SeesName result (optional_adds names (name_result_seen said.entry)) }
+{
+    match said? {
+        Some(name) => index.name_adds(name),
+        None => Ok(None),
+    }
+}
+
+// The same at a line of this number. Where faults are passed over, a line that has one adds nothing.
+fn judged<'a>(
+    ignore_unknown: bool,
+    number: u32,
+    added: Result<Option<Given<'a>>, InfoFaultKind>,
+) -> Result<Option<Given<'a>>, InfoFault>
+    ensures { Sees (option_map given_seen) result (judged ignore_unknown number (name_result_seen added.entry)) }
+{
+    match added {
+        Ok(added) => Ok(added),
+        Err(kind) => {
+            if ignore_unknown {
+                Ok(None)
+            } else {
+                Err(InfoFault::new(number, kind))
+            }
+        }
+    }
+}
+
+// What a line of this number adds to the names of the index, or its fault.
+#[tactic(auto, unfolding(crate::specs::Includes::line_adds))]
+fn line_adds<'a, A: Allocator + Copy>(
+    index: &Index<'a, A>,
+    include: &IncludeSpec<A>,
+    number: u32,
+    line: &'a [u8],
+) -> Result<Option<Given<'a>>, InfoFault>
+    ensures { (names : List NameView) → Indexes [] names index.now → Sees (option_map given_seen) result (line_adds include.now number names line.now) }
+{
+    let said = line_in(include.comment_start, line);
+    let added = optional_adds(index, said);
+    judged(include.ignore_unknown, number, added)
+}
+
+// Adds the name that a line of this number adds, if it adds one.
+fn add_line<'a, A: Allocator + Copy>(
+    index: &mut Index<'a, A>,
+    include: &IncludeSpec<A>,
+    number: u32,
+    line: &'a [u8],
+) -> Result<(), InfoFault>
+    ensures { (names : List NameView) → Indexes [] names index.old → Adds names (line_adds include.now number names line.now) result index.new }
+{
+    match line_adds(index, include, number, line)? {
+        Some(name) => index.add_name(name),
+        None => Ok(()),
+    }
+}
+
+/// These names with those of an include file, by address, or its first fault.
+#[tactic(auto, unfolding(crate::specs::Includes::names_included))]
+pub fn names_included<A: Allocator + Copy>(
+    alloc: A,
+    include: &IncludeSpec<A>,
+    names: &Pool<A>,
+    bytes: &[u8],
+) -> Result<Pool<A>, InfoFault>
+    requires { AreNames names.now }
+    ensures { Gives (λ p. p) result (names_included include.now names.now bytes.now) }
+{
+    if bytes.len() > MOST_BYTES {
+        return Err(InfoFault::new(1, InfoFaultKind::TooLarge));
+    }
+    let mut index = index_of(alloc, names)?;
+    let mut rest = bytes;
+    let mut number = 1;
+    'lines: while let Some((line, after)) = first_line(rest) {
+        add_line(&mut index, include, number, line)?;
+        rest = after;
+        number += 1;
+    }
+    index.names(alloc)
+}

@@ -1,0 +1,208 @@
+//! What an information file says.
+
+ghost use Rattle.std.specs.Prelude.{◌≡◌, ◌<◌, length};
+ghost use Rattle.info65.specs.Code.Includes.{Includes};
+ghost use Rattle.info65.specs.Code.Results.{Gives};
+ghost use Rattle.info65.specs.Reader.{information};
+
+use crate::fault::{InfoFault, InfoFaultKind};
+use crate::groups::include_groups::includes_of;
+use crate::groups::segment_groups::segments_of;
+use crate::includes::include::IncludeSpec;
+use crate::includes::included::names_included;
+use crate::information::merge::settings_of;
+use crate::information::name::Given;
+use crate::information::options::Options;
+use crate::information::pool::Pool;
+use crate::information::range::RangeSpec;
+use crate::information::segment::SegmentSpec;
+use crate::information::segment_table::SegmentTable;
+use crate::information::settings::Settings;
+use crate::syntax::parser::read_groups;
+use std::alloc::{Allocator, Global};
+use std::marker::Model;
+
+// The bytes that an information file has at most.
+const MOST_BYTES: usize = 1_048_576;
+
+/// An information file that was accepted, merged with the options. The bytes of all names stand in one pool.
+#[derive(Drop)]
+pub struct Info<A: Allocator = Global> {
+    settings: Settings<A>,
+    ranges: Vec<RangeSpec, A>,
+    segments: SegmentTable<A>,
+    names: Pool<A>,
+    includes: Vec<IncludeSpec<A>, A>,
+}
+
+impl<A: Allocator> Model for Info<A> {
+    ghost use Rattle.info65.specs.Sound.{IsSound};
+    ghost use Rattle.info65.specs.Views.{InfoView};
+
+    ghost Value = { InfoView };
+
+    ghost view = { λ i. record { settings = i.settings; ranges = i.ranges.items; segments = i.segments; names = i.names; includes = i.includes.items } };
+
+    ghost invariant = { λ i. IsSound (record { settings = i.settings; ranges = i.ranges.items; segments = i.segments; names = i.names; includes = i.includes.items }) };
+}
+
+impl<A: Allocator> Info<A> {
+    ghost use Rattle.std.specs.Prelude.{◌≡◌, ◌<◌, length, map, option_map};
+    ghost use Rattle.info65.specs.Code.Names.{given_seen};
+    ghost use Rattle.info65.specs.Code.Segments.{segment_seen};
+    ghost use Rattle.info65.specs.IncludeGroups.{AreIncludes};
+    ghost use Rattle.info65.specs.Names.{AreNames, covering, name_at};
+    ghost use Rattle.info65.specs.Ranges.{AreRanges};
+    ghost use Rattle.info65.specs.Segments.{AreSegments, first_named, segment_covering, segment_key};
+    ghost use Rattle.info65.specs.Views.{AreInLimits};
+
+    /// The settings: the options, the groups GLOBAL and the defaults.
+    pub fn settings(&self) -> &Settings<A>
+        ensures settings { result.now ≡ self.now.settings }
+        ensures limits { AreInLimits self.now.settings }
+    {
+        &self.settings
+    }
+
+    /// The ranges, in the order of their groups. No two of them share an address.
+    pub fn ranges(&self) -> &[RangeSpec]
+        ensures ranges { result.now ≡ self.now.ranges }
+        ensures sound { AreRanges self.now.ranges }
+    {
+        self.ranges.as_slice()
+    }
+
+    /// The segments, in the order of their groups. No two of them share an address.
+    pub fn segments(&self) -> &[SegmentSpec<A>]
+        ensures segments { map segment_seen result.now ≡ self.now.segments }
+        ensures sound { AreSegments self.now.segments }
+    {
+        self.segments.as_slice()
+    }
+
+    /// The name of the segment that contains an address.
+    /// It takes a time that grows with the logarithm of the number of segments.
+    pub fn segment_covering(&self, address: u16) -> Option<&[u8]>
+        ensures name { option_map (λ n. n.now) result ≡ segment_covering self.now.segments address }
+        ensures sound { AreSegments self.now.segments }
+    {
+        self.segments.covering(address)
+    }
+
+    /// Where the first segment of a name begins, in the order of the groups. Two names have the same start
+    /// only if they are one name, since no two segments share an address, so it is a key of the name.
+    /// It takes a time that grows with the number of segments.
+    pub fn first_named(&self, name: &[u8]) -> Option<u16>
+        ensures first { result ≡ first_named self.now.segments name.now }
+        ensures sound { AreSegments self.now.segments }
+    {
+        self.segments.first_named(name)
+    }
+
+    /// The key of the name of the segment that contains an address, which is what [`Info::first_named`] returns
+    /// for that name. It takes a time that grows with the logarithm of the number of segments.
+    pub fn segment_key(&self, address: u16) -> Option<u16>
+        ensures key { result ≡ segment_key self.now.segments address }
+        ensures sound { AreSegments self.now.segments }
+    {
+        self.segments.key(address)
+    }
+
+    /// The include files, in the order of their groups, 16 at most. A file that two groups name is there twice.
+    pub fn includes(&self) -> &[IncludeSpec<A>]
+        ensures includes { result.now ≡ self.now.includes }
+        ensures sound { AreIncludes self.now.includes }
+    {
+        self.includes.as_slice()
+    }
+
+    /// How many names are given.
+    pub fn given_count(&self) -> usize
+        ensures count { result ≡ length self.now.names }
+        ensures sound { AreNames self.now.names }
+    {
+        self.names.count()
+    }
+
+    /// The given name at this place, by address.
+    pub fn given(&self, index: usize) -> Given<'_>
+        requires { index < length self.now.names }
+        ensures name { given_seen result ≡ name_at self.now.names index }
+        ensures sound { AreNames self.now.names }
+    {
+        self.names.given(index)
+    }
+
+    /// The given name of an address: of those that are for it the one with the highest address of its own.
+    /// It takes a time that grows with the logarithm of the number of names.
+    pub fn covering(&self, address: u16) -> Option<Given<'_>>
+        ensures name { option_map given_seen result ≡ covering self.now.names address }
+        ensures sound { AreNames self.now.names }
+    {
+        self.names.covering(address)
+    }
+}
+
+/// Reads an information file under the options of the command line. No information file is the empty one.
+///
+/// The grammar is that of the da65 Users Guide, with these groups and attributes: GLOBAL with INPUTNAME,
+/// OUTPUTNAME, INPUTOFFS, INPUTSIZE, STARTADDR, CPU, COMMENTS, MNEMONICCOLUMN, ARGUMENTCOLUMN, COMMENTCOLUMN,
+/// TEXTCOLUMN, LABELBREAK, HEXOFFS, NEWLINEAFTERJMP, NEWLINEAFTERRTS and PAGELENGTH; RANGE with START, END,
+/// SIZE, TYPE, NAME and COMMENT; LABEL with ADDR, NAME, SIZE and COMMENT; SEGMENT with START, END and NAME;
+/// ASMINC with FILE, COMMENTSTART and IGNOREUNKNOWN. Include files are read apart, by [`read_include`].
+/// A file is accepted exactly when its tokens are groups that keep every condition; else it is refused for
+/// the first fault from left to right, with that fault's line. A file of more than 1,048,576 bytes is TooLarge at line 1. It returns Memory at line 0 only if an
+/// allocation failed. The time grows with the size of the file: no group is read again at a closing brace.
+#[tactic(auto, unfolding(crate::specs::Reader::information))]
+pub fn read_info<A: Allocator + Copy, B: Allocator>(
+    alloc: A,
+    options: &Options<B>,
+    bytes: &[u8],
+) -> Result<Info<A>, InfoFault>
+    ensures { Gives (λ i. i) result (information options.now bytes.now) }
+{
+    if bytes.len() > MOST_BYTES {
+        return Err(InfoFault::new(1, InfoFaultKind::TooLarge));
+    }
+    options.limits();
+    let closed = read_groups(alloc, options, bytes)?;
+    let settings = settings_of(alloc, options, closed.kept())?;
+    let said = segments_of(alloc, closed.kept())?;
+    let segments = SegmentTable::new(alloc, said)?;
+    let includes = includes_of(alloc, closed.kept())?;
+    let (ranges, names) = closed.ranges_and_names(alloc)?;
+    Ok(Info {
+        settings,
+        ranges,
+        segments,
+        names,
+        includes,
+    })
+}
+
+/// Adds the names of an include file to an information. `index` is the file's place in [`Info::includes`], and
+/// `bytes` is what it holds. Files are meant to be read in the order of their places.
+///
+/// Lines end by a line feed, and one carriage return at a line's end is dropped. A comment begins at the first
+/// COMMENTSTART byte of a line. What is left is blank, or it is `name = value` or `name := value`: a letter or
+/// `_`, then letters, digits and `_`; and a number 0 to 65,535, in decimal, after `$` in hex, or after `%` in
+/// binary. Spaces and TABs may stand around each part. Any other line is BadInclude. A name of more than 80
+/// bytes is BadName, and a reserved one ReservedName. Then a line whose address has a name already is passed over, and
+/// a name that stands at another address is NameTwice. The first fault is returned, with its line. With
+/// IGNOREUNKNOWN each line that has a fault is passed over. A file of more than 1,048,576 bytes is TooLarge at line 1, with
+/// IGNOREUNKNOWN too. It returns Memory at line 0 only if an allocation failed.
+///
+/// If it returns an error, the information is as before.
+pub fn read_include<A: Allocator + Copy>(
+    alloc: A,
+    info: &mut Info<A>,
+    index: usize,
+    bytes: &[u8],
+) -> Result<(), InfoFault>
+    requires { index < length info.old.includes }
+    ensures { Includes info.old index bytes.now result info.new }
+{
+    let names = names_included(alloc, &info.includes[index], &info.names, bytes)?;
+    info.names = names;
+    Ok(())
+}

@@ -1,0 +1,247 @@
+//! Names by address, with the bytes of all of them in one pool.
+
+ghost use Rattle.std.specs.Prelude.{◌≡◌, ◌+◌, ◌<◌, ◌≤◌, ◌++◌, IfErr, IfOk, length, map, option_map};
+ghost use Rattle.std.specs.List.Sorted.{IsNonDecreasingBy};
+ghost use Rattle.info65.specs.Code.Pool.{AreAbove, IsPool, IsWithin, ReachTo, bytes_of, entry_covers, entry_seen, optional, reach_of, rest_after, span_of};
+ghost use Rattle.info65.specs.Code.Names.{given_seen};
+ghost use Rattle.info65.specs.Faults.{out_of_memory};
+ghost use Rattle.info65.specs.Names.{AreNames, covering, name_at};
+
+use crate::fault::InfoFault;
+use crate::information::name::Given;
+use crate::lookup::cells::narrow;
+use std::alloc::{Allocator, Global};
+use std::marker::Model;
+
+/// Bytes of the pool.
+#[derive(Clone, Copy)]
+pub struct Span {
+    pub first: u32,
+    pub size: u32,
+}
+
+/// A name, by its bytes in the pool. None of the entries from the `before`-th up to it reaches further
+/// than it does, so a search that this name ends for goes on below them.
+#[derive(Clone, Copy)]
+pub struct Entry {
+    pub address: u16,
+    pub size: u32,
+    pub text: Span,
+    pub comment: Option<Span>,
+    pub before: u32,
+}
+
+/// Names, with the bytes of all of them in one pool. A contract sees the list of the names. Names are
+/// added at the end, and a pool that was not taken over leaves nothing behind.
+#[derive(Drop)]
+pub struct Pool<A: Allocator = Global> {
+    entries: Vec<Entry, A>,
+    bytes: Vec<u8, A>,
+}
+
+impl<A: Allocator> Model for Pool<A> {
+    ghost use Rattle.std.specs.Prelude.{List, map};
+    ghost use Rattle.info65.specs.Code.Pool.{IsPool, entry_seen};
+    ghost use Rattle.info65.specs.Views.{NameView};
+
+    ghost Value = { List NameView };
+
+    ghost view = { λ p. map (entry_seen p.bytes.items) p.entries.items };
+
+    ghost invariant = { λ p. IsPool p.bytes.items p.entries.items };
+}
+
+impl<A: Allocator + Copy> Pool<A> {
+    ghost use Rattle.std.specs.Prelude.{◌≡◌, []};
+
+    /// No names.
+    pub fn new(alloc: A) -> Self
+        ensures { result ≡ [] }
+    {
+        let entries = Vec::new(alloc);
+        let bytes = Vec::new(alloc);
+        Pool { entries, bytes }
+    }
+}
+
+impl<A: Allocator> Pool<A> {
+    ghost use Rattle.std.specs.Prelude.{◌≡◌, ◌<◌, ◌∷◌, ◌++◌, Ok, [], length, option_map, option_to_list};
+    ghost use Rattle.info65.specs.Code.Names.{given_seen};
+    ghost use Rattle.info65.specs.Code.Results.{Gives};
+    ghost use Rattle.info65.specs.Names.{AreNames, covering, name_at};
+
+    /// How many names there are.
+    pub fn count(&self) -> usize
+        ensures { result ≡ length self.now }
+    {
+        self.entries.len()
+    }
+
+    /// The name at this place.
+    pub fn given(&self, index: usize) -> Given<'_>
+        requires { index < length self.now }
+        ensures { given_seen result ≡ name_at self.now index }
+    {
+        given_at(self.entries.as_slice(), self.bytes.as_slice(), index)
+    }
+
+    /// The last of the names that covers the address.
+    pub fn covering(&self, address: u16) -> Option<Given<'_>>
+        requires { AreNames self.now }
+        ensures { option_map given_seen result ≡ covering self.now address }
+    {
+        covering_in(self.entries.as_slice(), self.bytes.as_slice(), address)
+    }
+
+    /// These names and, if there is one, one more.
+    pub fn with_optional(self, name: Option<Given<'_>>) -> Result<Self, InfoFault>
+        ensures { Gives (λ p. p) result (Ok (self ++ option_to_list (option_map given_seen name.entry))) }
+    {
+        match name {
+            Some(name) => self.with(name),
+            None => Ok(self),
+        }
+    }
+
+    /// These names and one more.
+    pub fn with(self, name: Given<'_>) -> Result<Self, InfoFault>
+        ensures { Gives (λ p. p) result (Ok (self ++ given_seen name.entry ∷ [])) }
+    {
+        let Pool {
+            mut entries,
+            mut bytes,
+        } = self;
+        let text = put(&mut bytes, name.text)?;
+        let comment = put_optional(&mut bytes, name.comment)?;
+        let reach = u64::from(name.address) + u64::from(name.size);
+        let before = narrow(link(entries.as_slice(), bytes.as_slice(), reach))?;
+        entries.push(Entry {
+            address: name.address,
+            size: name.size,
+            text,
+            comment,
+            before,
+        })?;
+        Ok(Pool { entries, bytes })
+    }
+}
+
+// Appends bytes, and returns where they are.
+fn put<A: Allocator>(bytes: &mut Vec<u8, A>, text: &[u8]) -> Result<Span, InfoFault>
+    ensures bytes { IfOk result (λ s. bytes.new.items ≡ bytes.old.items ++ text.now) }
+    ensures span { IfOk result (λ s. s ≡ span_of bytes.old.items text.now) }
+    ensures err { IfErr result (λ e. e ≡ out_of_memory) }
+{
+    let first = narrow(bytes.len())?;
+    let size = narrow(text.len())?;
+    bytes.extend_from_slice(text)?;
+    Ok(Span { first, size })
+}
+
+// Appends bytes if there are some.
+fn put_optional<A: Allocator>(
+    bytes: &mut Vec<u8, A>,
+    text: Option<&[u8]>,
+) -> Result<Option<Span>, InfoFault>
+    ensures bytes { IfOk result (λ s. bytes.new.items ≡ bytes.old.items ++ optional (option_map (λ t. t.now) text.entry)) }
+    ensures span { IfOk result (λ s. s ≡ option_map (span_of bytes.old.items) (option_map (λ t. t.now) text.entry)) }
+    ensures err { IfErr result (λ e. e ≡ out_of_memory) }
+{
+    match text {
+        Some(text) => Ok(Some(put(bytes, text)?)),
+        None => Ok(None),
+    }
+}
+
+// The first entry from which on none reaches further than so far.
+fn link(entries: &[Entry], pool: &[u8], reach: u64) -> usize
+    requires { IsPool pool.now entries.now }
+    ensures low { result ≤ length entries.now }
+    ensures reach { ReachTo entries.now result reach }
+{
+    let mut left = entries.len();
+    'left: while 0 < left {
+        let entry = &entries[left - 1];
+        if reach < reach_of(entry) {
+            return left;
+        }
+        left = entry.before as usize;
+    }
+    0
+}
+
+fn bytes_of<'a>(pool: &'a [u8], span: Span) -> &'a [u8]
+    requires { IsWithin pool.now span }
+    ensures { result.now ≡ bytes_of pool.entry.now span }
+{
+    let first = span.first as usize;
+    &pool[first..first + span.size as usize]
+}
+
+// The name of the entry at this place.
+fn given_at<'a>(entries: &[Entry], pool: &'a [u8], index: usize) -> Given<'a>
+    requires within { index < length entries.now }
+    requires pool { IsPool pool.now entries.now }
+    ensures { given_seen result ≡ name_at (map (entry_seen pool.entry.now) entries.now) index }
+{
+    let entry = entries[index];
+    let comment = match entry.comment {
+        Some(span) => Some(bytes_of(pool, span)),
+        None => None,
+    };
+    Given {
+        address: entry.address,
+        size: entry.size,
+        text: bytes_of(pool, entry.text),
+        comment,
+    }
+}
+
+fn reach_of(entry: &Entry) -> u64
+    ensures { result ≡ reach_of entry.now }
+{
+    u64::from(entry.address) + u64::from(entry.size)
+}
+
+fn covers(entry: &Entry, address: u16) -> bool
+    ensures { result ≡ entry_covers entry.now address }
+{
+    entry.address <= address && u64::from(address) < reach_of(entry)
+}
+
+// The last of the entries that covers the address.
+fn covering_in<'a>(entries: &[Entry], pool: &'a [u8], address: u16) -> Option<Given<'a>>
+    requires names { AreNames (map (entry_seen pool.now) entries.now) }
+    requires pool { IsPool pool.now entries.now }
+    ensures { option_map given_seen result ≡ covering (map (entry_seen pool.entry.now) entries.now) address }
+{
+    let mut left = count_upto(entries, address);
+    'left: while 0 < left {
+        left -= 1;
+        let entry = &entries[left];
+        if covers(entry, address) {
+            return Some(given_at(entries, pool, left));
+        }
+        left = rest_after(entry, left, address);
+    }
+    None
+}
+
+// How many entries have addresses up to this one.
+fn count_upto(entries: &[Entry], address: u16) -> usize
+    requires { IsNonDecreasingBy (λ (e : Entry). e.address) entries.now }
+    ensures bound { result ≤ length entries.now }
+    ensures rest { AreAbove entries.now result address }
+{
+    entries.partition_point(|entry| entry.address <= address)
+}
+
+fn rest_after(entry: &Entry, left: usize, address: u16) -> usize
+    ensures { result ≡ rest_after entry.now left address }
+{
+    if entry.address <= address {
+        entry.before as usize
+    } else {
+        left
+    }
+}

@@ -1,0 +1,191 @@
+//! What a token is, from its first byte on.
+
+ghost use Rattle.std.specs.Prelude.{◌≡◌, ◌+◌, ◌-◌, ◌<◌, ◌≤◌, IfOk, IfSome, length};
+ghost use Rattle.std.specs.List.{prefix_len};
+ghost use Rattle.info65.specs.Lexemes.{character_at, in_class, lexeme_at, mark, number_at, number_in, starts_word, string_at, word_at};
+ghost use Rattle.info65.specs.Code.Steps.{Sees, kind_seen, lexeme_seen};
+
+use crate::fault::{InfoFault, InfoFaultKind};
+use crate::syntax::digits::number_of_digits;
+use crate::syntax::token::TokenKind;
+
+/// Bytes that run on within a token.
+#[derive(Clone, Copy)]
+pub enum Class {
+    Word,
+    Decimal,
+    Hexadecimal,
+    Text,
+}
+
+/// A token at the front of some bytes: what it is, and how many bytes it takes after its first.
+#[derive(Clone, Copy)]
+pub struct Lexeme<'a> {
+    pub kind: TokenKind<'a>,
+    pub more: usize,
+}
+
+#[tactic(auto, unfolding(crate::specs::Lexemes::in_class))]
+fn is_in(class: Class, byte: u8) -> bool
+    ensures { result ≡ in_class class byte }
+{
+    match class {
+        Class::Word => byte.is_ascii_alphanumeric() || byte == b'_',
+        Class::Decimal => byte.is_ascii_digit(),
+        Class::Hexadecimal => byte.is_ascii_hexdigit(),
+        Class::Text => byte == b'\t' || byte >= 0x20 && byte < 0x7F && byte != b'"' || byte >= 0x80,
+    }
+}
+
+// How many bytes at the front are of the class.
+#[inline(always)]
+fn run_len(bytes: &[u8], class: Class) -> usize
+    ensures value { result ≡ prefix_len (in_class class) bytes.now }
+    ensures bound { result ≤ length bytes.now }
+{
+    for (i, byte) in bytes.iter().enumerate() {
+        if !is_in(class, *byte) {
+            return i;
+        }
+    }
+    bytes.len()
+}
+
+fn starts_word(byte: u8) -> bool
+    ensures { result ≡ starts_word byte }
+{
+    byte.is_ascii_alphabetic() || byte == b'_'
+}
+
+fn mark<'a>(kind: TokenKind<'a>) -> Lexeme<'a>
+    ensures value { lexeme_seen result ≡ mark (kind_seen kind.entry) }
+    ensures within { result.more ≡ 0 }
+{
+    Lexeme { kind, more: 0 }
+}
+
+#[tactic(auto, unfolding(crate::specs::Lexemes::word_at))]
+#[inline(always)]
+fn word_at<'a>(rest: &'a [u8]) -> Lexeme<'a>
+    ensures value { lexeme_seen result ≡ word_at rest.entry.now }
+    ensures within { result.more ≤ length rest.entry.now }
+{
+    Lexeme {
+        kind: TokenKind::Word,
+        more: run_len(rest, Class::Word),
+    }
+}
+
+// A number by its digits, after a sign of `sign` bytes.
+#[tactic(auto, unfolding(crate::specs::Lexemes::number_at))]
+#[inline(always)]
+fn number_at<'a>(
+    line: u32,
+    class: Class,
+    radix: u32,
+    sign: usize,
+    bytes: &'a [u8],
+) -> Result<Lexeme<'a>, InfoFault>
+    requires low { 2 ≤ radix }
+    requires high { radix ≤ 36 }
+    requires signed { sign ≤ 1 }
+    ensures value { Sees lexeme_seen result (number_at line class radix sign bytes.entry.now) }
+    ensures within { IfOk result (λ l. l.more ≤ sign + length bytes.entry.now - 1) }
+{
+    let size = run_len(bytes, class);
+    if size < bytes.len() && starts_word(bytes[size]) {
+        return Err(InfoFault::new(line, InfoFaultKind::BadNumber));
+    }
+    match number_in(&bytes[..size], radix) {
+        Some(value) => Ok(Lexeme {
+            kind: TokenKind::Number(value),
+            more: sign + size - 1,
+        }),
+        None => Err(InfoFault::new(line, InfoFaultKind::BadNumber)),
+    }
+}
+
+// A string, of which the opening quote is taken.
+#[tactic(auto, unfolding(crate::specs::Lexemes::string_at))]
+#[inline(always)]
+fn string_at<'a>(line: u32, rest: &'a [u8]) -> Result<Lexeme<'a>, InfoFault>
+    ensures value { Sees lexeme_seen result (string_at line rest.entry.now) }
+    ensures within { IfOk result (λ l. l.more ≤ length rest.entry.now) }
+{
+    let size = run_len(rest, Class::Text);
+    if size == rest.len() {
+        return Err(InfoFault::new(line, InfoFaultKind::OpenString));
+    }
+    match rest[size] {
+        b'"' => {
+            let (content, _) = rest.split_at(size);
+            Ok(Lexeme {
+                kind: TokenKind::Text(content),
+                more: size + 1,
+            })
+        }
+        b'\r' | b'\n' => Err(InfoFault::new(line, InfoFaultKind::OpenString)),
+        _ => Err(InfoFault::new(line, InfoFaultKind::BadByte)),
+    }
+}
+
+// A character constant, of which the first apostrophe is taken.
+#[tactic(auto, unfolding(crate::specs::Lexemes::character_at))]
+fn character_at<'a>(line: u32, rest: &'a [u8]) -> Result<Lexeme<'a>, InfoFault>
+    ensures value { Sees lexeme_seen result (character_at line rest.entry.now) }
+    ensures within { IfOk result (λ l. l.more ≤ length rest.entry.now) }
+{
+    if rest.len() >= 2 && rest[0] >= 0x20 && rest[0] <= 0x7E && rest[1] == b'\'' {
+        Ok(Lexeme {
+            kind: TokenKind::Character(rest[0]),
+            more: 2,
+        })
+    } else {
+        Err(InfoFault::new(line, InfoFaultKind::BadByte))
+    }
+}
+
+/// The token at the front of these bytes, or its fault.
+#[tactic(auto, unfolding(crate::specs::Lexemes::lexeme_at))]
+pub fn lexeme_at<'a>(line: u32, bytes: &'a [u8]) -> Result<Lexeme<'a>, InfoFault>
+    requires { 0 < length bytes.now }
+    ensures value { Sees lexeme_seen result (lexeme_at line bytes.entry.now) }
+    ensures within { IfOk result (λ l. l.more ≤ length bytes.entry.now - 1) }
+{
+    let first = bytes[0];
+    let rest = &bytes[1..];
+    if starts_word(first) {
+        Ok(word_at(rest))
+    } else if first.is_ascii_digit() {
+        number_at(line, Class::Decimal, 10, 0, bytes)
+    } else if first == b'$' {
+        number_at(line, Class::Hexadecimal, 16, 1, rest)
+    } else if first == b'"' {
+        string_at(line, rest)
+    } else if first == b'\'' {
+        character_at(line, rest)
+    } else if first == b'{' {
+        Ok(mark(TokenKind::OpenBrace))
+    } else if first == b'}' {
+        Ok(mark(TokenKind::CloseBrace))
+    } else if first == b';' {
+        Ok(mark(TokenKind::Semicolon))
+    } else {
+        Err(InfoFault::new(line, InfoFaultKind::BadByte))
+    }
+}
+
+/// The number that the digits write, where there is one and it is at most 2^32 - 1.
+#[tactic(auto, unfolding(crate::specs::Lexemes::number_in))]
+#[inline(always)]
+pub fn number_in(digits: &[u8], radix: u32) -> Option<u32>
+    requires low { 2 ≤ radix }
+    requires high { radix ≤ 36 }
+    ensures value { result ≡ number_in radix digits.now }
+    ensures some { IfSome result (λ _. 0 < length digits.now) }
+{
+    match number_of_digits(digits, radix) {
+        Some(value) if value <= u64::from(u32::MAX) => Some(value as u32),
+        _ => None,
+    }
+}

@@ -1,0 +1,258 @@
+//! The groups of an information file, token by token.
+
+ghost use Rattle.std.specs.Prelude.{◌≡◌, ◌≤◌, ◌∷◌, ◌++◌, IfErr, IfOk, List, None, Ok, [], length, map};
+ghost use Rattle.info65.specs.Closing.{closing_fault};
+ghost use Rattle.info65.specs.Faults.{fault};
+ghost use Rattle.info65.specs.Code.Results.{Gives};
+ghost use Rattle.info65.specs.Code.Groups.{assignment_seen, group_seen, value_seen};
+ghost use Rattle.info65.specs.Groups.{AssignmentView, GroupView};
+ghost use Rattle.info65.specs.Code.Reading.{Grows, Leads, is_semicolon};
+ghost use Rattle.info65.specs.Reader.{attribute_at, assigned, closed, closed_by, group, groups_of, inside, one, opening, outside, read, read_token, value_at, valued, wanted};
+ghost use Rattle.info65.specs.Code.Steps.{Sees, kind_seen, seen};
+ghost use Rattle.info65.specs.Tokens.{Stream, with_token};
+ghost use Rattle.info65.specs.Views.{OptionsView};
+ghost use Rattle.info65.specs.declared.syntax.attribute.GroupKind.{GroupKind};
+ghost use Rattle.info65.specs.declared.syntax.attribute.Attribute.{Attribute};
+ghost use Rattle.info65.specs.declared.fault.InfoFaultKind.TheVariants.{Expected};
+ghost use Rattle.info65.specs.declared.syntax.token.TokenKind.TheVariants.{Word};
+
+use crate::fault::{InfoFault, InfoFaultKind};
+use crate::groups::closed::Closed;
+use crate::information::options::Options;
+use crate::syntax::assignment::{Assignment, Group, Value};
+use crate::syntax::attribute::{Attribute, GroupKind, attribute_named, group_named};
+use crate::syntax::lexer::{Lexer, Next};
+use crate::syntax::token::{Token, TokenKind};
+use crate::syntax::values::value_of;
+use std::alloc::Allocator;
+
+/// The groups of an information file, or its first fault.
+pub fn read_groups<'a, A: Allocator + Copy, B: Allocator>(
+    alloc: A,
+    options: &Options<B>,
+    bytes: &'a [u8],
+) -> Result<Closed<'a, A>, InfoFault>
+    requires { length bytes.now ≤ 1_048_576 }
+    ensures { Gives (λ groups. groups) result (groups_of options.now bytes.entry.now) }
+{
+    let mut lexer = Lexer::new(bytes);
+    let mut groups = Closed::new(alloc)?;
+    let mut after_group = false;
+    'groups: loop {
+        match lexer.next()? {
+            Next::End(_) => return Ok(groups),
+            Next::Token(token) => {
+                if after_group && is_semicolon(token.kind) {
+                    after_group = false;
+                } else {
+                    let next = group(alloc, options, &mut lexer, &groups, token)?;
+                    groups = groups.with(next)?;
+                    after_group = true;
+                }
+            }
+        }
+    }
+}
+
+fn is_semicolon(kind: TokenKind) -> bool
+    ensures { result ≡ is_semicolon (kind_seen kind.entry) }
+{
+    matches!(kind, TokenKind::Semicolon)
+}
+
+fn expected(line: u32) -> InfoFault
+    ensures { result ≡ fault line Expected }
+{
+    InfoFault::new(line, InfoFaultKind::Expected)
+}
+
+// The token that is due.
+fn due<'a>(lexer: &mut Lexer<'a>) -> Result<Token<'a>, InfoFault>
+    ensures shorter { length lexer.new.tokens ≤ length lexer.old.tokens }
+    ensures ok { IfOk result (λ t. lexer.old ≡ with_token (seen t) lexer.new) }
+    ensures err { IfErr result (λ e. (lexer.old.tokens ≡ []) × (wanted lexer.old.ending ≡ e)) }
+{
+    match lexer.next()? {
+        Next::Token(token) => Ok(token),
+        Next::End(line) => Err(expected(line)),
+    }
+}
+
+// A group after those before it, of which this token is the name.
+fn group<'a, A: Allocator + Copy, B: Allocator>(
+    alloc: A,
+    options: &Options<B>,
+    lexer: &mut Lexer<'a>,
+    before: &Closed<'a, A>,
+    name: Token<'a>,
+) -> Result<Group<'a, A>, InfoFault>
+    ensures closes { IfOk result (λ g. closing_fault before.now g.kind (map assignment_seen g.given.items) ≡ None) }
+    ensures read { Grows (read_token options.now outside before.now (seen name.entry) lexer.old) result (λ g. read options.now closed (before.now ++ group_seen g ∷ []) lexer.new) }
+    ensures shorter { length lexer.new.tokens ≤ length lexer.old.tokens }
+{
+    let kind = group_kind(name)?;
+    brace(lexer)?;
+    attributes(alloc, options, lexer, before, kind)
+}
+
+fn group_kind(name: Token) -> Result<GroupKind, InfoFault>
+    ensures { (o : OptionsView) (before : List GroupView) (rest : Stream) → Leads (read_token o outside before (seen name.entry) rest) result (λ k. read o (opening k) before rest) }
+{
+    match name.kind {
+        TokenKind::Word => match group_named(name.text) {
+            Some(kind) => Ok(kind),
+            None => Err(InfoFault::new(name.line, InfoFaultKind::UnknownGroup)),
+        },
+        _ => Err(expected(name.line)),
+    }
+}
+
+fn brace(lexer: &mut Lexer) -> Result<(), InfoFault>
+    ensures read { (o : OptionsView) (k : GroupKind) (before : List GroupView) → Leads (read o (opening k) before lexer.old) result (λ _. read o (inside k []) before lexer.new) }
+    ensures shorter { length lexer.new.tokens ≤ length lexer.old.tokens }
+{
+    let token = due(lexer)?;
+    match token.kind {
+        TokenKind::OpenBrace => Ok(()),
+        _ => Err(expected(token.line)),
+    }
+}
+
+fn separator(lexer: &mut Lexer) -> Result<(), InfoFault>
+    ensures read { (o : OptionsView) (k : GroupKind) (given : List AssignmentView) (before : List GroupView) → Leads (read o (assigned k given) before lexer.old) result (λ _. read o (inside k given) before lexer.new) }
+    ensures shorter { length lexer.new.tokens ≤ length lexer.old.tokens }
+{
+    let token = due(lexer)?;
+    match token.kind {
+        TokenKind::Semicolon => Ok(()),
+        _ => Err(expected(token.line)),
+    }
+}
+
+fn value<'a, A: Allocator + Copy, B: Allocator>(
+    options: &Options<B>,
+    lexer: &mut Lexer<'a>,
+    before: &Closed<'a, A>,
+    attribute: Attribute,
+) -> Result<Value<'a>, InfoFault>
+    ensures read { (k : GroupKind) (given : List AssignmentView) → Leads (read options.now (valued k given attribute) before.now lexer.old) result (λ v. read options.now (assigned k (given ++ one attribute (value_seen v) ∷ [])) before.now lexer.new) }
+    ensures shorter { length lexer.new.tokens ≤ length lexer.old.tokens }
+{
+    let token = due(lexer)?;
+    value_at(options, before, attribute, token)
+}
+
+// The value of an attribute, if there is room for one more.
+#[tactic(auto, unfolding(crate::specs::Reader::value_at))]
+fn value_at<'a, A: Allocator + Copy, B: Allocator>(
+    options: &Options<B>,
+    before: &Closed<'a, A>,
+    attribute: Attribute,
+    token: Token<'a>,
+) -> Result<Value<'a>, InfoFault>
+    ensures { Sees value_seen result (value_at options.now before.now attribute (seen token.entry)) }
+{
+    let value = value_of(options, attribute, token)?;
+    if before.has_room(attribute) {
+        Ok(value)
+    } else {
+        Err(InfoFault::new(token.line, InfoFaultKind::TooLarge))
+    }
+}
+
+// What is given in a group, up to its closing brace.
+fn attributes<'a, A: Allocator + Copy, B: Allocator>(
+    alloc: A,
+    options: &Options<B>,
+    lexer: &mut Lexer<'a>,
+    before: &Closed<'a, A>,
+    kind: GroupKind,
+) -> Result<Group<'a, A>, InfoFault>
+    ensures closes { IfOk result (λ g. closing_fault before.now g.kind (map assignment_seen g.given.items) ≡ None) }
+    ensures read { Grows (read options.now (inside kind []) before.now lexer.old) result (λ g. read options.now closed (before.now ++ group_seen g ∷ []) lexer.new) }
+    ensures shorter { length lexer.new.tokens ≤ length lexer.old.tokens }
+{
+    let mut given = Vec::new(alloc);
+    'attributes: loop {
+        let name = due(lexer)?;
+        match name.kind {
+            TokenKind::CloseBrace => {
+                is_whole(before, kind, given.as_slice(), name.line)?;
+                return Ok(Group { kind, given });
+            }
+            TokenKind::Word => {
+                let next = attribute(options, lexer, before, kind, given.as_slice(), name)?;
+                given.push(next)?;
+            }
+            _ => return Err(expected(name.line)),
+        }
+    }
+}
+
+// A group may close here.
+fn is_whole<'a, A: Allocator + Copy>(
+    before: &Closed<'a, A>,
+    kind: GroupKind,
+    given: &[Assignment<'a>],
+    line: u32,
+) -> Result<(), InfoFault>
+    ensures closes { IfOk result (λ _. closing_fault before.now kind (map assignment_seen given.now) ≡ None) }
+    ensures read { Leads (closed_by before.now kind (map assignment_seen given.now) line (closing_fault before.now kind (map assignment_seen given.now))) result (λ _. Ok (closed, before.now ++ group kind (map assignment_seen given.now) ∷ [])) }
+{
+    match before.closing_fault(kind, given) {
+        Some(fault) => Err(InfoFault::new(line, fault)),
+        None => Ok(()),
+    }
+}
+
+// An attribute, of which this word is the name, its value and the `;` after it.
+fn attribute<'a, A: Allocator + Copy, B: Allocator>(
+    options: &Options<B>,
+    lexer: &mut Lexer<'a>,
+    before: &Closed<'a, A>,
+    kind: GroupKind,
+    given: &[Assignment<'a>],
+    name: Token<'a>,
+) -> Result<Assignment<'a>, InfoFault>
+    requires { name.kind ≡ Word }
+    ensures read { Leads (read_token options.now (inside kind (map assignment_seen given.now)) before.now (seen name.entry) lexer.old) result (λ g. read options.now (inside kind (map assignment_seen given.now ++ assignment_seen g ∷ [])) before.now lexer.new) }
+    ensures shorter { length lexer.new.tokens ≤ length lexer.old.tokens }
+{
+    let attribute = attribute_name(before, kind, given, name)?;
+    let value = value(options, lexer, before, attribute)?;
+    separator(lexer)?;
+    Ok(Assignment { attribute, value })
+}
+
+fn attribute_name<'a, A: Allocator + Copy>(
+    before: &Closed<'a, A>,
+    kind: GroupKind,
+    given: &[Assignment],
+    name: Token,
+) -> Result<Attribute, InfoFault>
+    requires { name.kind ≡ Word }
+    ensures { (o : OptionsView) (rest : Stream) → Leads (read_token o (inside kind (map assignment_seen given.now)) before.now (seen name.entry) rest) result (λ a. read o (valued kind (map assignment_seen given.now) a) before.now rest) }
+{
+    attribute_at(before, kind, given, name)
+}
+
+#[tactic(auto, unfolding(crate::specs::Reader::attribute_at))]
+fn attribute_at<'a, A: Allocator + Copy>(
+    before: &Closed<'a, A>,
+    kind: GroupKind,
+    given: &[Assignment],
+    name: Token,
+) -> Result<Attribute, InfoFault>
+    ensures { result ≡ attribute_at before.now kind (map assignment_seen given.now) (seen name.entry) }
+{
+    match attribute_named(kind, name.text) {
+        Some(attribute) => {
+            if before.is_given(kind, given, attribute) {
+                Err(InfoFault::new(name.line, InfoFaultKind::GivenTwice))
+            } else {
+                Ok(attribute)
+            }
+        }
+        None => Err(InfoFault::new(name.line, InfoFaultKind::UnknownAttribute)),
+    }
+}

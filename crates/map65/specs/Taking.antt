@@ -1,0 +1,15 @@
+-- How far a source is read, and which of its reads failed.
+use Rattle.std.specs.Prelude.{◌≡◌, ℕ, List, drop, IfSome, Option, Some, Result, Ok, Err}
+use Rattle.map65.specs.declared.devices.taking.TakeFault.{TakeFault}
+use Rattle.map65.specs.declared.devices.taking.TakeFault.TheVariants.{Read, Memory}
+use Rattle.map65.specs.Device.{one_more}
+
+-- Reading went on to the limit, or to the end if the input is shorter. For a reader that reports its bytes.
+abbrev pub IsReadTo : ℕ → Option (List ℕ) → Option (List ℕ) → Type 0
+IsReadTo limit old new = IfSome old (λ xs. new ≡ Some (drop limit xs))
+
+-- the count of failed reads rises by one exactly when the result is Read
+abbrev pub TakeCount : {T : Type 0} → Result T TakeFault → ℕ → ℕ → Type 0
+TakeCount (Ok v) old new = new ≡ old
+TakeCount (Err Read) old new = new ≡ one_more old
+TakeCount (Err Memory) old new = new ≡ old

@@ -1,0 +1,11 @@
+use Rattle.std.proofs.Common.{◌≡◌, ◌++◌, length}
+use Rattle.stmt65.specs.Meaning.{initial, readings}
+use Rattle.stmt65.specs.Code.MeaningViews.{state_of}
+use Rattle.stmt65.proofs.AddressLemmas.{held_addresses}
+use Rattle.stmt65.proofs.assembling.addresses.line_addresses.Given as goal
+
+abbrev pub invariant-lines : goal.invariant-lines
+invariant-lines g l = l.found.items ++ held_addresses (state_of l.state) (readings l.rest) ≡ held_addresses (initial l.fn.start) (readings l.fn.text)
+
+abbrev pub decreases-lines : goal.decreases-lines
+decreases-lines g l = length l.rest

@@ -1,6 +1,0 @@
-use Rattle.std.proofs.Common.{◌≡◌, ◌+◌, ◌++◌, length, take, map}
-use Rattle.stmt65.specs.Levels.{character}
-use Rattle.stmt65.proofs.print.levels.put_characters.Given as goal
-
-abbrev pub invariant-loop-byte : goal.invariant-loop-byte
-invariant-loop-byte l = (l.out.items ≡ l.initial.out.items ++ map character (take l.byte-index l.bytes)) × (length l.out.items ≡ length l.initial.out.items + l.byte-index)

@@ -1,8 +1,0 @@
-use Rattle.std.proofs.Common.{◌≡◌, ◌+◌, ◌*◌, ◌++◌, length, take}
-use Rattle.std.specs.List.{flat_map}
-use Rattle.stmt65.specs.Digits.{hex2}
-use Rattle.stmt65.specs.Statements.{next_text}
-use Rattle.stmt65.proofs.print.put_bytes.Given as goal
-
-abbrev pub invariant-loop-byte : goal.invariant-loop-byte
-invariant-loop-byte l = (l.out.items ≡ l.initial.out.items ++ flat_map (next_text hex2) (take l.byte-index l.rest)) × (length l.out.items ≡ length l.initial.out.items + 4 * l.byte-index)

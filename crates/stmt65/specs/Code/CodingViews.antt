@@ -1,0 +1,64 @@
+-- What the fragments of a statement stand for.
+use Rattle.std.specs.Prelude.{ℕ, suc, List, [], ◌∷◌, length, map}
+use Rattle.std.specs.List.{flat_map}
+use Rattle.stmt65.specs.declared.assembling.coding.Fragment.{Fragment as CodeFragment}
+use Rattle.stmt65.specs.declared.assembling.coding.Fragment.TheVariants as code_fragment
+use Rattle.stmt65.specs.declared.assembling.coding.Operand.{Operand as CodeOperand}
+use Rattle.stmt65.specs.declared.assembling.coding.Operand.TheVariants as code_operand
+use Rattle.stmt65.specs.declared.assembling.coding.Instruction.{Instruction as CodeInstruction}
+use Rattle.stmt65.specs.declared.directive.Directive.{Directive}
+use Rattle.stmt65.specs.declared.assembling.coding.Coded.{Coded as CodeCoded}
+use Rattle.stmt65.specs.declared.assembling.coding.Coded.TheVariants as code_coded
+use Rattle.stmt65.specs.declared.assembling.pieces.Piece.{Piece as CodePiece}
+use Rattle.stmt65.specs.declared.assembling.pieces.Piece.TheVariants as code_piece
+use Rattle.stmt65.specs.declared.source_line.Value.{Value as CodeValue}
+use Rattle.stmt65.specs.declared.source_line.Datum.{Datum as CodeDatum}
+use Rattle.stmt65.specs.Coding.{Fragment, Fixed, Single, ZeroPage, Oversized, Entry, Distance, datum_fragments}
+use Rattle.stmt65.specs.Code.SourceLineViews.{value_of, datum_of}
+
+abbrev pub fragment_of : CodeFragment → Fragment
+fragment_of (code_fragment.Fixed b) = Fixed b
+fragment_of (code_fragment.Single v) = Single (value_of v)
+fragment_of (code_fragment.ZeroPage v) = ZeroPage (value_of v)
+fragment_of (code_fragment.Oversized v) = Oversized (value_of v)
+fragment_of (code_fragment.Entry d v) = Entry d (value_of v)
+fragment_of (code_fragment.Distance v) = Distance (value_of v)
+
+abbrev pub operand_of : CodeOperand → List Fragment
+operand_of code_operand.None = []
+operand_of (code_operand.One f) = fragment_of f ∷ []
+operand_of (code_operand.Two f g) = fragment_of f ∷ fragment_of g ∷ []
+
+abbrev pub instruction_of : CodeInstruction → List Fragment
+instruction_of i = Fixed i.opcode ∷ operand_of i.operand
+
+abbrev pub data_fragments : List CodeDatum → List Fragment
+data_fragments ds = flat_map datum_fragments (map datum_of ds)
+
+abbrev pub entry_fragments : Directive → List CodeValue → List Fragment
+entry_fragments d vs = map (Entry d) (map value_of vs)
+
+abbrev pub coded_of : CodeCoded → List Fragment
+coded_of code_coded.Nothing = []
+coded_of (code_coded.Instruction i) = instruction_of i
+coded_of (code_coded.Operand o) = operand_of o
+coded_of (code_coded.Data ds) = data_fragments ds.now
+coded_of (code_coded.Values d vs) = entry_fragments d vs.now
+
+-- the fragments of a piece of a coding
+abbrev pub piece_of : CodePiece → List Fragment
+piece_of (code_piece.One f) = fragment_of f ∷ []
+piece_of (code_piece.String bs) = map Fixed bs.now
+
+-- how many pieces are left of a coding
+abbrev pub operands_left : CodeOperand → ℕ
+operands_left code_operand.None = 0
+operands_left (code_operand.One f) = 1
+operands_left (code_operand.Two f g) = 2
+
+abbrev pub pieces_left : CodeCoded → ℕ
+pieces_left code_coded.Nothing = 0
+pieces_left (code_coded.Instruction i) = suc (operands_left i.operand)
+pieces_left (code_coded.Operand o) = operands_left o
+pieces_left (code_coded.Data ds) = length ds.now
+pieces_left (code_coded.Values d vs) = length vs.now

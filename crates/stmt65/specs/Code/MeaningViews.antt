@@ -1,0 +1,45 @@
+-- What the assembler's values stand for.
+use Rattle.std.specs.Prelude.{◌≡◌, ◌++◌, List, [], ◌∷◌, map, Option, Some, None, unwrap_or}
+use Rattle.std.specs.Option.{option_map, option_to_list}
+use Rattle.stmt65.specs.declared.assembling.coding.Coded.{Coded as CodeCoded}
+use Rattle.stmt65.specs.declared.assembling.symbols.Definition.{Definition as CodeDefinition}
+use Rattle.stmt65.specs.declared.assembling.state.State.{State as CodeState}
+use Rattle.stmt65.specs.declared.assembling.state.Placed.{Placed}
+use Rattle.stmt65.specs.SourceLine.{SourceLine}
+use Rattle.stmt65.specs.Symbols.{Definition}
+use Rattle.stmt65.specs.Code.SymbolViews.{definition_of}
+use Rattle.stmt65.specs.Coding.{Fragment, coding}
+use Rattle.stmt65.specs.Code.CodingViews.{coded_of}
+use Rattle.stmt65.specs.Code.Held.{held}
+use Rattle.stmt65.specs.Meaning.{State, next_of, cpu_after, operation_in, defined_by}
+
+-- ---- a line
+
+abbrev pub state_of : {A : Type 0} → CodeState A → State
+state_of s = record { at = s.address; cpu = s.cpu; above = s.above }
+
+-- a definition as the code holds it
+abbrev pub held_definition : Definition → Definition
+held_definition d = record { name = d.name; value = held d.value; constant = d.constant }
+
+abbrev pub fragments_in : Option CodeCoded → List Fragment
+fragments_in coded = unwrap_or (option_map coded_of coded) []
+
+abbrev pub definitions_in : Option CodeDefinition → List Definition
+definitions_in d = option_to_list (option_map definition_of d)
+
+-- what the bytes of a line stand for in its state, the address after it, and what it defines
+pub record IsPlaced (p : Placed) (s : State) (source : SourceLine) : Type 0 where
+  pub coded : option_map coded_of p.coded ≡ coding s.cpu s.above (operation_in source)
+  pub next : p.next ≡ held (next_of s source)
+  pub definition : definitions_in p.definition ≡ map held_definition (defined_by s.at source)
+
+-- below a line, as the code holds it
+unfoldable pub held_after : State → Option SourceLine → State
+held_after s None = s
+held_after s (Some source) = record { at = held (next_of s source); cpu = cpu_after s.cpu (operation_in source); above = s.above ++ map held_definition (defined_by s.at source) }
+
+-- below all lines, as the code holds it
+unfoldable pub held_final : State → List (Option SourceLine) → State
+held_final s [] = s
+held_final s (l ∷ ls) = held_final (held_after s l) ls

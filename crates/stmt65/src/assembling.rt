@@ -1,0 +1,14 @@
+//! From a text to its bytes, or to its first fault.
+
+pub(crate) mod addresses;
+pub(crate) mod assembler;
+mod coding;
+mod emit;
+pub(crate) mod fault;
+mod fragment_bytes;
+mod line_faults;
+pub(crate) mod lines;
+mod pieces;
+mod state;
+mod symbols;
+mod values;

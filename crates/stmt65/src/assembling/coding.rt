@@ -1,0 +1,249 @@
+//! How a statement is coded: what each of its bytes stands for.
+
+ghost use Rattle.std.specs.Prelude.{◌≡◌, [], ◌∷◌};
+ghost use Rattle.std.specs.Option.{option_map};
+ghost use Rattle.stmt65.specs.Code.SourceLineViews.{value_of, form_of, operation_of};
+ghost use Rattle.stmt65.specs.SourceLine.{Direct};
+ghost use Rattle.stmt65.specs.declared.source_line.AddressSize.TheVariants.{Automatic};
+ghost use Rattle.stmt65.specs.Coding.{word_operand, zero_page, by_size, ways, first_way, coding};
+ghost use Rattle.stmt65.specs.Code.CodingViews.{fragment_of, operand_of, instruction_of, coded_of};
+
+use crate::assembling::symbols::Symbols;
+use crate::assembling::values::has_zero_page_size;
+use crate::directive::Directive;
+use crate::source_line::{AddressSize, Datum, Form, Operation, Value};
+use isa65::{Cpu, Mnemonic, Mode, OpcodeSet};
+use std::alloc::Allocator;
+
+/// What bytes of a statement stand for.
+#[derive(Clone, Copy, Debug)]
+pub enum Fragment<'a> {
+    /// A byte that the line itself gives: an opcode, or a byte of a string.
+    Fixed(u8),
+    /// A value from 0 to $FF.
+    Single(Value<'a>),
+    /// A zero-page address.
+    ZeroPage(Value<'a>),
+    /// The operand of a zero-page mode that has not zero-page size, so it never fits.
+    Oversized(Value<'a>),
+    /// A number as the directive gives it.
+    Entry(Directive, Value<'a>),
+    /// A word, as its signed distance from the address after the statement.
+    Distance(Value<'a>),
+}
+
+/// What follows an opcode.
+#[derive(Clone, Copy, Debug)]
+pub enum Operand<'a> {
+    None,
+    One(Fragment<'a>),
+    Two(Fragment<'a>, Fragment<'a>),
+}
+
+/// An opcode and its operand.
+#[derive(Clone, Copy, Debug)]
+pub struct Instruction<'a> {
+    pub opcode: u8,
+    pub operand: Operand<'a>,
+}
+
+/// The coding of an operation, or what is left of it.
+#[derive(Clone, Copy, Debug)]
+pub enum Coded<'s, 'a> {
+    /// No bytes.
+    Nothing,
+    /// An opcode and its operand.
+    Instruction(Instruction<'a>),
+    /// An operand whose opcode has been taken.
+    Operand(Operand<'a>),
+    /// Numbers and strings.
+    Data(&'s [Datum<'a>]),
+    /// Numbers as the directive gives them.
+    Values(Directive, &'s [Value<'a>]),
+}
+
+/// A mode, and what then follows the opcode.
+type Way<'a> = (Mode, Operand<'a>);
+
+fn way<'a>(cpu: Cpu, mnemonic: Mnemonic, way: Way<'a>) -> Option<Instruction<'a>>
+    ensures { option_map instruction_of result ≡ first_way cpu mnemonic ((way.entry.0, operand_of way.entry.1) ∷ []) }
+{
+    let (mode, operand) = way;
+    let opcode = cpu.encode(mnemonic, mode)?;
+    Some(Instruction { opcode, operand })
+}
+
+/// The first of two ways whose mode the mnemonic has.
+#[tactic(auto, using(crate::proofs::CodingLemmas::tries))]
+fn first_way<'a>(
+    cpu: Cpu,
+    mnemonic: Mnemonic,
+    first: Way<'a>,
+    second: Way<'a>,
+) -> Option<Instruction<'a>>
+    ensures { option_map instruction_of result ≡ first_way cpu mnemonic ((first.entry.0, operand_of first.entry.1) ∷ (second.entry.0, operand_of second.entry.1) ∷ []) }
+{
+    if let Some(found) = way(cpu, mnemonic, first) {
+        return Some(found);
+    }
+    way(cpu, mnemonic, second)
+}
+
+/// An operand of 16 bits, as `.addr` gives it.
+fn word_operand(value: Value<'_>) -> Fragment<'_>
+    ensures { fragment_of result ≡ word_operand (value_of value.entry) }
+{
+    Fragment::Entry(Directive::Addr, value)
+}
+
+/// An operand that only the zero page has.
+fn zero_page<'a, A: Allocator + Clone>(above: &Symbols<'_, A>, value: Value<'a>) -> Fragment<'a>
+    ensures { fragment_of result ≡ zero_page above.now (value_of value.entry) }
+{
+    if has_zero_page_size(above, value) {
+        Fragment::ZeroPage(value)
+    } else {
+        Fragment::Oversized(value)
+    }
+}
+
+/// The zero-page mode first if the operand has that size, else the absolute one.
+fn by_size<'a, A: Allocator + Clone>(
+    cpu: Cpu,
+    above: &Symbols<'_, A>,
+    mnemonic: Mnemonic,
+    short: Mode,
+    long: Mode,
+    value: Value<'a>,
+) -> Option<Instruction<'a>>
+    ensures { option_map instruction_of result ≡ first_way cpu mnemonic (by_size above.now short long (value_of value.entry)) }
+{
+    let absolute = (long, Operand::One(word_operand(value)));
+    if has_zero_page_size(above, value) {
+        let zero_page = (short, Operand::One(Fragment::ZeroPage(value)));
+        return first_way(cpu, mnemonic, zero_page, absolute);
+    }
+    let zero_page = (short, Operand::One(Fragment::Oversized(value)));
+    first_way(cpu, mnemonic, absolute, zero_page)
+}
+
+/// An expression alone: by size, else relative.
+#[tactic(auto, using(crate::proofs::CodingLemmas::after_sizes), unfolding(crate::specs::Coding::ways))]
+fn direct<'a, A: Allocator + Clone>(
+    cpu: Cpu,
+    above: &Symbols<'_, A>,
+    mnemonic: Mnemonic,
+    value: Value<'a>,
+) -> Option<Instruction<'a>>
+    ensures { option_map instruction_of result ≡ first_way cpu mnemonic (ways above.now (Direct Automatic (value_of value.entry))) }
+{
+    if let Some(found) = by_size(cpu, above, mnemonic, Mode::Zp, Mode::Abs, value) {
+        return Some(found);
+    }
+    way(
+        cpu,
+        mnemonic,
+        (Mode::Rel, Operand::One(Fragment::Distance(value))),
+    )
+}
+
+/// The absolute mode alone, as after `a:`.
+fn absolute<'a>(
+    cpu: Cpu,
+    mnemonic: Mnemonic,
+    mode: Mode,
+    value: Value<'a>,
+) -> Option<Instruction<'a>>
+    ensures { option_map instruction_of result ≡ first_way cpu mnemonic ((mode, word_operand (value_of value.entry) ∷ []) ∷ []) }
+{
+    way(cpu, mnemonic, (mode, Operand::One(word_operand(value))))
+}
+
+/// A mode that only the zero page has, else one that takes either size.
+fn indirect<'a, A: Allocator + Clone>(
+    cpu: Cpu,
+    above: &Symbols<'_, A>,
+    mnemonic: Mnemonic,
+    short: Mode,
+    long: Mode,
+    value: Value<'a>,
+) -> Option<Instruction<'a>>
+    ensures { option_map instruction_of result ≡ first_way cpu mnemonic ((short, zero_page above.now (value_of value.entry) ∷ []) ∷ (long, word_operand (value_of value.entry) ∷ []) ∷ []) }
+{
+    let zero_page = (short, Operand::One(zero_page(above, value)));
+    let absolute = (long, Operand::One(word_operand(value)));
+    first_way(cpu, mnemonic, zero_page, absolute)
+}
+
+/// The coding of an instruction, or `None` if the mnemonic has no mode of the written form.
+#[tactic(auto, unfolding(crate::specs::Coding::ways))]
+fn instruction_in<'a, A: Allocator + Clone>(
+    cpu: Cpu,
+    above: &Symbols<'_, A>,
+    mnemonic: Mnemonic,
+    form: Form<'a>,
+) -> Option<Instruction<'a>>
+    ensures { option_map instruction_of result ≡ first_way cpu mnemonic (ways above.now (form_of form.entry)) }
+{
+    match form {
+        Form::Empty => way(cpu, mnemonic, (Mode::Imp, Operand::None)),
+        Form::Accumulator => way(cpu, mnemonic, (Mode::Acc, Operand::None)),
+        Form::Immediate(v) => way(
+            cpu,
+            mnemonic,
+            (Mode::Imm, Operand::One(Fragment::Single(v))),
+        ),
+        Form::Direct(AddressSize::Absolute, v) => absolute(cpu, mnemonic, Mode::Abs, v),
+        Form::Direct(AddressSize::Automatic, v) => direct(cpu, above, mnemonic, v),
+        Form::DirectX(AddressSize::Absolute, v) => absolute(cpu, mnemonic, Mode::Absx, v),
+        Form::DirectX(AddressSize::Automatic, v) => by_size(
+            cpu,
+            above,
+            mnemonic,
+            Mode::Zpx,
+            Mode::Absx,
+            v,
+        ),
+        Form::DirectY(AddressSize::Absolute, v) => absolute(cpu, mnemonic, Mode::Absy, v),
+        Form::DirectY(AddressSize::Automatic, v) => by_size(
+            cpu,
+            above,
+            mnemonic,
+            Mode::Zpy,
+            Mode::Absy,
+            v,
+        ),
+        Form::Two(v, w) => {
+            let operand = Operand::Two(zero_page(above, v), Fragment::Distance(w));
+            way(cpu, mnemonic, (Mode::Zprel, operand))
+        }
+        Form::Indirect(v) => indirect(cpu, above, mnemonic, Mode::Zpind, Mode::Ind, v),
+        Form::IndirectX(v) => indirect(cpu, above, mnemonic, Mode::Indx, Mode::Absindx, v),
+        Form::IndirectY(v) => {
+            let operand = Operand::One(zero_page(above, v));
+            way(cpu, mnemonic, (Mode::Indy, operand))
+        }
+    }
+}
+
+/// The coding of an operation, or `None` if a mnemonic has no mode of the written form.
+#[tactic(auto, unfolding(crate::specs::Coding::coding))]
+pub fn coding<'s, 'a, A: Allocator + Clone, B: Allocator>(
+    cpu: Cpu,
+    above: &Symbols<'_, A>,
+    operation: &'s Operation<'a, B>,
+) -> Option<Coded<'s, 'a>>
+    ensures { option_map coded_of result ≡ coding cpu above.now (operation_of operation.now) }
+{
+    match operation {
+        Operation::Instr(mnemonic, form) => {
+            let instruction = instruction_in(cpu, above, *mnemonic, *form)?;
+            Some(Coded::Instruction(instruction))
+        }
+        Operation::Data(data) => Some(Coded::Data(data)),
+        Operation::Values(directive, values) => Some(Coded::Values(*directive, values)),
+        Operation::Nothing | Operation::Segment(_) | Operation::Code | Operation::SetCpu(_) => {
+            Some(Coded::Nothing)
+        }
+    }
+}

@@ -1,0 +1,131 @@
+//! The length of a coding, whether it can be emitted, and its bytes.
+
+ghost use Rattle.std.specs.Prelude.{◌≡◌, ◌≤◌, ◌++◌, OnOk};
+ghost use Rattle.std.specs.List.{list_all, flat_map};
+ghost use Rattle.stmt65.specs.Coding.{is_fragment_known, fragment_len, fragment_fits, fragment_bytes, coding_len};
+ghost use Rattle.stmt65.specs.Code.CodingViews.{fragment_of, piece_of, coded_of};
+ghost use Rattle.stmt65.specs.Code.Held.{held};
+
+use crate::assembling::coding::{Coded, Fragment};
+use crate::assembling::fragment_bytes::{fragment_fits, is_fragment_known, put_fragment};
+use crate::assembling::pieces::{Piece, first_piece};
+use crate::assembling::symbols::Symbols;
+use std::alloc::{AllocError, Allocator};
+
+fn fragment_len(fragment: Fragment) -> u64
+    ensures value { result ≡ fragment_len (fragment_of fragment.entry) }
+    ensures small { result ≤ 4 }
+{
+    match fragment {
+        Fragment::Entry(directive, _) => directive.entry_len() as u64,
+        Fragment::Fixed(_)
+        | Fragment::Single(_)
+        | Fragment::ZeroPage(_)
+        | Fragment::Oversized(_)
+        | Fragment::Distance(_) => 1,
+    }
+}
+
+#[tactic(auto, using(crate::proofs::CodingLemmas::datum_len), unfolding(crate::specs::Coding::coding_len))]
+fn piece_len(piece: Piece) -> u64
+    ensures { result ≡ coding_len (piece_of piece.entry) }
+{
+    match piece {
+        Piece::One(fragment) => fragment_len(fragment),
+        Piece::String(bytes) => bytes.len() as u64,
+    }
+}
+
+/// How many bytes the coding has; 2^64 - 1 in place of every greater length.
+pub fn coded_len(coded: Coded) -> u64
+    ensures { result ≡ held (coding_len (coded_of coded.entry)) }
+{
+    let mut len: u64 = 0;
+    let mut rest = coded;
+    'pieces: while let Some((piece, after)) = first_piece(rest) {
+        len = len.saturating_add(piece_len(piece));
+        rest = after;
+    }
+    len
+}
+
+fn is_piece_known<A: Allocator + Clone>(names: &Symbols<'_, A>, piece: Piece) -> bool
+    ensures { result ≡ list_all (is_fragment_known names.now) (piece_of piece.entry) }
+{
+    match piece {
+        Piece::One(fragment) => is_fragment_known(names, fragment),
+        Piece::String(_) => true,
+    }
+}
+
+/// Whether each name in the coding has a definition.
+#[tactic(auto, using(crate::proofs::CodingLemmas::list_all_append))]
+pub fn are_known<A: Allocator + Clone>(names: &Symbols<'_, A>, coded: Coded) -> bool
+    ensures { result ≡ list_all (is_fragment_known names.now) (coded_of coded.entry) }
+{
+    let mut rest = coded;
+    'pieces: while let Some((piece, after)) = first_piece(rest) {
+        if !is_piece_known(names, piece) {
+            return false;
+        }
+        rest = after;
+    }
+    true
+}
+
+#[tactic(auto, using(crate::proofs::CodingLemmas::string_fits))]
+fn piece_fits<A: Allocator + Clone>(names: &Symbols<'_, A>, next: u64, piece: Piece) -> bool
+    ensures { result ≡ list_all (fragment_fits names.now next) (piece_of piece.entry) }
+{
+    match piece {
+        Piece::One(fragment) => fragment_fits(names, next, fragment),
+        Piece::String(_) => true,
+    }
+}
+
+/// Whether the coding has room for its values; `next` is the address after it.
+#[tactic(auto, using(crate::proofs::CodingLemmas::list_all_append))]
+pub fn fits<A: Allocator + Clone>(names: &Symbols<'_, A>, next: u64, coded: Coded) -> bool
+    ensures { result ≡ list_all (fragment_fits names.now next) (coded_of coded.entry) }
+{
+    let mut rest = coded;
+    'pieces: while let Some((piece, after)) = first_piece(rest) {
+        if !piece_fits(names, next, piece) {
+            return false;
+        }
+        rest = after;
+    }
+    true
+}
+
+#[tactic(auto, using(crate::proofs::CodingLemmas::string_bytes))]
+fn put_piece<A: Allocator + Clone, B: Allocator>(
+    out: &mut Vec<u8, B>,
+    names: &Symbols<'_, A>,
+    next: u64,
+    piece: Piece,
+) -> Result<(), AllocError>
+    ensures { OnOk result (out.new.items ≡ out.old.items ++ flat_map (fragment_bytes names.now next) (piece_of piece.entry)) }
+{
+    match piece {
+        Piece::One(fragment) => put_fragment(out, names, next, fragment),
+        Piece::String(bytes) => out.extend_from_slice(bytes),
+    }
+}
+
+/// Adds the bytes of a coding that has room for its values; `next` is the address after it.
+pub fn put_coded<A: Allocator + Clone, B: Allocator>(
+    out: &mut Vec<u8, B>,
+    names: &Symbols<'_, A>,
+    next: u64,
+    coded: Coded,
+) -> Result<(), AllocError>
+    ensures { OnOk result (out.new.items ≡ out.old.items ++ flat_map (fragment_bytes names.now next) (coded_of coded.entry)) }
+{
+    let mut rest = coded;
+    'pieces: while let Some((piece, after)) = first_piece(rest) {
+        put_piece(out, names, next, piece)?;
+        rest = after;
+    }
+    Ok(())
+}

@@ -1,0 +1,107 @@
+//! What is wrong with a line.
+
+ghost use Rattle.std.specs.Prelude.{◌≡◌, ◌||◌, not, nat_lt, is_some, Some};
+ghost use Rattle.std.specs.List.{list_any, list_all};
+ghost use Rattle.stmt65.specs.Code.SourceLineViews.{source_of};
+ghost use Rattle.stmt65.specs.Symbols.{find_name};
+ghost use Rattle.stmt65.specs.Coding.{is_fragment_known, fragment_fits};
+ghost use Rattle.stmt65.specs.Meaning.{operation_in, has_unknown_cpu, first_of, fault_of};
+ghost use Rattle.stmt65.specs.Code.MeaningViews.{state_of, fragments_in, definitions_in, IsPlaced};
+
+use crate::assembling::coding::Coded;
+use crate::assembling::emit::{are_known, fits};
+use crate::assembling::fault::AsmFaultKind;
+use crate::assembling::state::{Placed, State, cpu_set};
+use crate::assembling::symbols::{Definition, Symbols};
+use crate::source_line::{Operation, SourceLine};
+use std::alloc::Allocator;
+
+#[tactic(auto, unfolding(crate::specs::Meaning::has_unknown_cpu))]
+fn has_unknown_cpu<'a, B: Allocator>(source: &SourceLine<'a, B>) -> bool
+    ensures { result ≡ has_unknown_cpu (operation_in (source_of source.now)) }
+{
+    match source {
+        SourceLine::Statement {
+            operation: Operation::SetCpu(text),
+            ..
+        } => cpu_set(text).is_none(),
+        _ => false,
+    }
+}
+
+fn is_known<A: Allocator + Clone>(all: &Symbols<'_, A>, coded: Option<Coded>) -> bool
+    ensures { result ≡ list_all (is_fragment_known all.now) (fragments_in coded.entry) }
+{
+    match coded {
+        Some(coded) => are_known(all, coded),
+        None => true,
+    }
+}
+
+fn has_room<A: Allocator + Clone>(all: &Symbols<'_, A>, next: u64, coded: Option<Coded>) -> bool
+    ensures { result ≡ list_all (fragment_fits all.now next) (fragments_in coded.entry) }
+{
+    match coded {
+        Some(coded) => fits(all, next, coded),
+        None => true,
+    }
+}
+
+fn is_above<A: Allocator + Clone>(above: &Symbols<'_, A>, definition: Option<Definition>) -> bool
+    ensures { result ≡ list_any (λ d. is_some (find_name d.name above.now)) (definitions_in definition.entry) }
+{
+    match definition {
+        Some(definition) => above.find(definition.name).is_some(),
+        None => false,
+    }
+}
+
+fn is_large(definition: Option<Definition>) -> bool
+    ensures { result ≡ list_any (λ d. nat_lt 65535 d.value) (definitions_in definition.entry) }
+{
+    match definition {
+        Some(definition) => definition.value > 65535,
+        None => false,
+    }
+}
+
+fn is_out_of_range<A: Allocator + Clone>(all: &Symbols<'_, A>, placed: Placed) -> bool
+    ensures { result ≡ (list_any (λ d. nat_lt 65535 d.value) (definitions_in placed.entry.definition) || not (list_all (fragment_fits all.now placed.entry.next) (fragments_in placed.entry.coded))) }
+{
+    is_large(placed.definition) || !has_room(all, placed.next, placed.coded)
+}
+
+/// The first kind whose test holds.
+fn first_of(tests: &[(AsmFaultKind, bool)]) -> Option<AsmFaultKind>
+    ensures { result ≡ first_of tests.now }
+{
+    for (kind, holds) in tests {
+        if *holds {
+            return Some(*kind);
+        }
+    }
+    None
+}
+
+/// The lowest fault of a line in its state; `all` are the definitions of the whole text.
+pub fn fault_of<'a, A: Allocator + Clone, B: Allocator>(
+    all: &Symbols<'_, A>,
+    state: &State<'_, A>,
+    source: &SourceLine<'a, B>,
+    placed: Placed<'_, 'a>,
+) -> Option<AsmFaultKind>
+    requires { IsPlaced placed (state_of state.now) (source_of source.now) }
+    ensures { result ≡ fault_of all.now (state_of state.now) (Some (source_of source.now)) }
+{
+    first_of(&[
+        (AsmFaultKind::UnknownCpu, has_unknown_cpu(source)),
+        (AsmFaultKind::NoSuchForm, placed.coded.is_none()),
+        (AsmFaultKind::Undefined, !is_known(all, placed.coded)),
+        (
+            AsmFaultKind::DefinedTwice,
+            is_above(&state.above, placed.definition),
+        ),
+        (AsmFaultKind::OutOfRange, is_out_of_range(all, placed)),
+        (AsmFaultKind::PastEnd, placed.next > 65536),
+    ])
+}

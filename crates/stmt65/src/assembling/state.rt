@@ -1,0 +1,168 @@
+//! What stands above a line, and what the line adds.
+
+ghost use Rattle.std.specs.Prelude.{◌≡◌, ◌++◌, Some, map, IfOk, OnOk};
+ghost use Rattle.std.specs.Option.{option_map};
+ghost use Rattle.stmt65.specs.Code.SourceLineViews.{source_of};
+ghost use Rattle.stmt65.specs.Coding.{coding, coding_len};
+ghost use Rattle.stmt65.specs.Code.CodingViews.{coded_of};
+ghost use Rattle.stmt65.specs.Code.Held.{held};
+ghost use Rattle.stmt65.specs.Meaning.{cpu_set, cpu_after, operation_in, defined_by, initial};
+ghost use Rattle.stmt65.specs.Code.MeaningViews.{state_of, held_definition, definitions_in, fragments_in, IsPlaced, held_after};
+
+use crate::assembling::coding::{Coded, coding};
+use crate::assembling::emit::coded_len;
+use crate::assembling::symbols::{Definition, Symbols};
+use crate::source_line::{Operation, SourceLine};
+use isa65::Cpu;
+use std::alloc::{AllocError, Allocator, Global};
+
+/// What stands above a line: its address, the CPU, and the definitions.
+#[derive(Drop)]
+pub struct State<'a, A: Allocator = Global> {
+    /// 2^64 - 1 in place of every greater address.
+    pub address: u64,
+    pub cpu: Cpu,
+    pub above: Symbols<'a, A>,
+}
+
+/// A line in its state: what its bytes stand for, or `None` if the CPU has no such form, the
+/// address after it, and what it defines.
+#[derive(Clone, Copy, Debug)]
+pub struct Placed<'s, 'a> {
+    pub coded: Option<Coded<'s, 'a>>,
+    pub next: u64,
+    pub definition: Option<Definition<'a>>,
+}
+
+/// Before the first line; the CPU is the 6502.
+pub fn first_state<'a, A: Allocator + Clone>(
+    alloc: A,
+    start: u16,
+) -> Result<State<'a, A>, AllocError>
+    ensures { IfOk result (λ s. state_of s ≡ initial start) }
+{
+    let above = Symbols::new(alloc)?;
+    Ok(State {
+        address: u64::from(start),
+        cpu: Cpu::M6502,
+        above,
+    })
+}
+
+#[tactic(auto, unfolding(crate::specs::Coding::coding))]
+fn coding_in<'s, 'a, A: Allocator + Clone, B: Allocator>(
+    state: &State<'_, A>,
+    source: &'s SourceLine<'a, B>,
+) -> Option<Coded<'s, 'a>>
+    ensures { option_map coded_of result ≡ coding state.now.cpu state.now.above (operation_in (source_of source.now)) }
+{
+    match source {
+        SourceLine::Statement { operation, .. } => coding(state.cpu, &state.above, operation),
+        SourceLine::Assignment(_, _) | SourceLine::PlaceAssignment(_, _) => Some(Coded::Nothing),
+    }
+}
+
+#[tactic(auto, unfolding(crate::specs::Coding::coding_len))]
+fn length_of(coded: Option<Coded>) -> u64
+    ensures { result ≡ held (coding_len (fragments_in coded.entry)) }
+{
+    match coded {
+        Some(coded) => coded_len(coded),
+        None => 0,
+    }
+}
+
+/// What a line at this address defines.
+#[tactic(auto, unfolding(crate::specs::Meaning::defined_by))]
+fn definition_in<'a, B: Allocator>(
+    address: u64,
+    source: &SourceLine<'a, B>,
+) -> Option<Definition<'a>>
+    ensures { definitions_in result ≡ map held_definition (defined_by address (source_of source.now)) }
+{
+    match source {
+        SourceLine::Assignment(name, n) => Some(Definition {
+            name: *name,
+            value: n.value(),
+            constant: true,
+        }),
+        SourceLine::PlaceAssignment(name, n) => Some(Definition {
+            name: *name,
+            value: address.saturating_add(n.value()),
+            constant: false,
+        }),
+        SourceLine::Statement {
+            label: Some(name),
+            ..
+        } => Some(Definition {
+            name: *name,
+            value: address,
+            constant: false,
+        }),
+        SourceLine::Statement { label: None, .. } => None,
+    }
+}
+
+/// The line in its state.
+pub fn place<'s, 'a, A: Allocator + Clone, B: Allocator>(
+    state: &State<'_, A>,
+    source: &'s SourceLine<'a, B>,
+) -> Placed<'s, 'a>
+    ensures { IsPlaced result (state_of state.now) (source_of source.now) }
+{
+    let coded = coding_in(state, source);
+    Placed {
+        coded,
+        next: state.address.saturating_add(length_of(coded)),
+        definition: definition_in(state.address, source),
+    }
+}
+
+/// The CPU that the text of `.setcpu` names, in any letter case.
+pub fn cpu_set(text: &[u8]) -> Option<Cpu>
+    ensures { result ≡ cpu_set text.now }
+{
+    Cpu::from_bytes(text)
+}
+
+/// An unknown CPU leaves it as it was.
+#[tactic(auto, unfolding(crate::specs::Meaning::cpu_after))]
+fn cpu_after<'a, B: Allocator>(cpu: Cpu, source: &SourceLine<'a, B>) -> Cpu
+    ensures { result ≡ cpu_after cpu (operation_in (source_of source.now)) }
+{
+    match source {
+        SourceLine::Statement {
+            operation: Operation::SetCpu(text),
+            ..
+        } => cpu_set(text).unwrap_or(cpu),
+        _ => cpu,
+    }
+}
+
+fn define<'a, A: Allocator + Clone>(
+    above: &mut Symbols<'a, A>,
+    definition: Option<Definition<'a>>,
+) -> Result<(), AllocError>
+    ensures { OnOk result (above.new ≡ above.old ++ definitions_in definition.entry) }
+{
+    if let Some(definition) = definition {
+        above.define(definition)?;
+    }
+    Ok(())
+}
+
+/// Goes on below the line.
+#[tactic(auto, unfolding(crate::specs::Code::MeaningViews::held_after))]
+pub fn advance<'a, A: Allocator + Clone, B: Allocator>(
+    state: &mut State<'a, A>,
+    source: &SourceLine<'a, B>,
+    placed: Placed<'_, 'a>,
+) -> Result<(), AllocError>
+    requires { IsPlaced placed (state_of state.old) (source_of source.now) }
+    ensures { OnOk result (state_of state.new ≡ held_after (state_of state.old) (Some (source_of source.now))) }
+{
+    define(&mut state.above, placed.definition)?;
+    state.cpu = cpu_after(state.cpu, source);
+    state.address = placed.next;
+    Ok(())
+}

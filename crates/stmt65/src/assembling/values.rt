@@ -1,0 +1,127 @@
+//! The value and size of an expression.
+
+ghost use Rattle.std.specs.Prelude.{◌≡◌};
+ghost use Rattle.stmt65.specs.Code.SourceLineViews.{value_of};
+ghost use Rattle.stmt65.specs.Code.Held.{held_value};
+ghost use Rattle.stmt65.specs.Directives.{entry_limit};
+ghost use Rattle.stmt65.specs.Coding.{entry_in};
+ghost use Rattle.stmt65.specs.Symbols.{find_name, below, lowered, value_in, is_known, word_in, is_small, is_constant, has_zero_page_size};
+
+use crate::assembling::symbols::Symbols;
+use crate::directive::Directive;
+use crate::source_line::{Minus, Value};
+use std::alloc::Allocator;
+
+/// The value, or `None` if it is below 0 or the name is undefined. A number of the expression that
+/// is greater than 2^64 - 1 counts as that.
+#[tactic(auto, unfolding(crate::specs::Symbols::value_in))]
+fn value_in<A: Allocator + Clone>(names: &Symbols<'_, A>, value: Value) -> Option<u128>
+    ensures { result ≡ value_in names.now (held_value (value_of value.entry)) }
+{
+    match value {
+        Value::Number(n) => Some(u128::from(n.value())),
+        Value::Name(name, n, minus) => {
+            let definition = names.find(name)?;
+            lowered(minus, u128::from(definition.value) + u128::from(n.value()))
+        }
+    }
+}
+
+/// The difference, or `None` if it is below 0.
+fn lowered(minus: Minus, n: u128) -> Option<u128>
+    ensures { result ≡ lowered minus n }
+{
+    match minus {
+        Minus::Zero => Some(n),
+        Minus::One => n.checked_sub(1),
+    }
+}
+
+/// Whether each name in the expression has a definition.
+#[tactic(auto, unfolding(crate::specs::Symbols::is_known))]
+pub fn is_known<A: Allocator + Clone>(names: &Symbols<'_, A>, value: Value) -> bool
+    ensures { result ≡ is_known names.now (value_of value.entry) }
+{
+    match value {
+        Value::Number(_) => true,
+        Value::Name(name, _, _) => names.find(name).is_some(),
+    }
+}
+
+/// The value if it is at most $FFFF.
+fn in_a_word(value: Option<u128>) -> Option<u16>
+    ensures { result ≡ below 65536 value }
+{
+    let value = value?;
+    if value < 65536 {
+        Some(value as u16)
+    } else {
+        None
+    }
+}
+
+/// The value if an entry of the directive has room for it.
+fn in_an_entry(directive: Directive, value: Option<u128>) -> Option<u32>
+    ensures { result ≡ below (entry_limit directive) value }
+{
+    let value = value?;
+    if value < u128::from(directive.limit()) {
+        Some(value as u32)
+    } else {
+        None
+    }
+}
+
+/// The value if it is from 0 to $FFFF.
+pub fn word_in<A: Allocator + Clone>(names: &Symbols<'_, A>, value: Value) -> Option<u16>
+    ensures { result ≡ word_in names.now (value_of value.entry) }
+{
+    in_a_word(value_in(names, value))
+}
+
+/// The value if an entry of the directive has room for it.
+pub fn entry_in<A: Allocator + Clone>(
+    names: &Symbols<'_, A>,
+    directive: Directive,
+    value: Value,
+) -> Option<u32>
+    ensures { result ≡ entry_in names.now directive (value_of value.entry) }
+{
+    in_an_entry(directive, value_in(names, value))
+}
+
+/// Whether the expression has zero-page size, with its number held in 64 bits.
+#[tactic(auto, unfolding(crate::specs::Symbols::has_zero_page_size))]
+fn held_zero_page_size<A: Allocator + Clone>(above: &Symbols<'_, A>, value: Value) -> bool
+    ensures { result ≡ has_zero_page_size above.now (held_value (value_of value.entry)) }
+{
+    match value {
+        Value::Number(n) => n.value() < 256,
+        Value::Name(name, _, _) => is_constant(above, name) && is_small(value_in(above, value)),
+    }
+}
+
+/// Whether the value is below $100, and a name in it is defined as `name := number`.
+pub fn has_zero_page_size<A: Allocator + Clone>(above: &Symbols<'_, A>, value: Value) -> bool
+    ensures { result ≡ has_zero_page_size above.now (value_of value.entry) }
+{
+    held_zero_page_size(above, value)
+}
+
+fn is_constant<A: Allocator + Clone>(above: &Symbols<'_, A>, name: &[u8]) -> bool
+    ensures { result ≡ is_constant (find_name name.now above.now) }
+{
+    match above.find(name) {
+        Some(definition) => definition.constant,
+        None => false,
+    }
+}
+
+fn is_small(value: Option<u128>) -> bool
+    ensures { result ≡ is_small value }
+{
+    match value {
+        Some(value) => value < 256,
+        None => true,
+    }
+}

@@ -1,0 +1,68 @@
+//! Names that a line defines.
+
+ghost use Rattle.std.specs.Prelude.{◌≡◌, ◌+◌, ◌≤◌, ◌++◌, codes, Some};
+ghost use Rattle.arrayvec.specs.ArrayVec.{array_vec_len};
+ghost use Rattle.stmt65.specs.Code.StatementViews.{in_hex};
+ghost use Rattle.stmt65.specs.Digits.{hex4};
+ghost use Rattle.stmt65.specs.Line.{filled, with_fields};
+ghost use Rattle.stmt65.specs.Printable.{IsNameLong};
+ghost use Rattle.stmt65.specs.Statements.{distance_text, label_fields, definition_fields};
+
+use crate::printing::columns::{Column, Columns};
+use crate::printing::digits::{Offsets, put_distance, put_hex4};
+use crate::printing::fields::{put, start_field};
+use crate::printing::line::Line;
+
+/// Appends a name and `:`.
+pub(super) fn put_label(out: &mut Line, name: &[u8])
+    requires room { array_vec_len out.old ≤ 82 }
+    requires name { IsNameLong name.now }
+    ensures items { out.new.items ≡ with_fields out.old.items (label_fields (Some name.now)) }
+    ensures len { array_vec_len out.new ≤ array_vec_len out.old + 82 }
+{
+    start_field(out, Column::first());
+    put(out, name);
+    out.push(b':');
+}
+
+/// Appends a name, and `:=` at the argument column.
+fn start_definition(out: &mut Line, columns: &Columns, name: &[u8])
+    requires room { array_vec_len out.old ≤ 82 }
+    requires name { IsNameLong name.now }
+    ensures items { out.new.items ≡ filled (filled out.old.items 1 ++ name.now) columns.now.argument ++ codes ":= " }
+    ensures len { array_vec_len out.new ≤ 256 }
+{
+    start_field(out, Column::first());
+    put(out, name);
+    start_field(out, columns.argument);
+    put(out, b":= ");
+}
+
+/// Appends a name and its number.
+pub(super) fn put_const(out: &mut Line, columns: &Columns, name: &[u8], number: u16)
+    requires room { array_vec_len out.old ≤ 82 }
+    requires name { IsNameLong name.now }
+    ensures items { out.new.items ≡ with_fields out.old.items (definition_fields columns.now name.now (hex4 number)) }
+    ensures len { array_vec_len out.new ≤ 340 }
+{
+    start_definition(out, columns, name);
+    put_hex4(out, number);
+}
+
+/// Appends a name and its distance from this line.
+pub(super) fn put_forward(
+    out: &mut Line,
+    columns: &Columns,
+    offsets: Offsets,
+    name: &[u8],
+    distance: u16,
+)
+    requires room { array_vec_len out.old ≤ 82 }
+    requires name { IsNameLong name.now }
+    ensures items { out.new.items ≡ with_fields out.old.items (definition_fields columns.now name.now (codes "* + " ++ distance_text (in_hex offsets) distance)) }
+    ensures len { array_vec_len out.new ≤ 340 }
+{
+    start_definition(out, columns, name);
+    put(out, b"* + ");
+    put_distance(out, offsets, distance);
+}

@@ -1,0 +1,132 @@
+//! Numbers in hex digits and in decimal.
+
+ghost use Rattle.std.specs.Prelude.{◌≡◌, ◌+◌, ◌<◌, ◌≤◌, ◌++◌, decimal, true};
+ghost use Rattle.arrayvec.specs.ArrayVec.{array_vec_len};
+ghost use Rattle.stmt65.specs.Digits.{hex_digit, digits2, digits4, hex2, hex4, offset_text};
+ghost use Rattle.stmt65.specs.Statements.{distance_text};
+ghost use Rattle.stmt65.specs.Code.StatementViews.{in_hex};
+
+use crate::printing::fields::put;
+use crate::printing::line::Line;
+use itoa::Buffer;
+
+/// How offsets and distances are written.
+#[derive(Clone, Copy, Debug, PartialEq, Eq)]
+pub enum Offsets {
+    /// In decimal.
+    Decimal,
+    /// In hex digits.
+    Hexadecimal,
+}
+
+impl Offsets {
+    ghost use Rattle.std.specs.Prelude.{◌≡◌};
+    ghost use Rattle.stmt65.specs.Code.StatementViews.{in_hex};
+
+    /// In hex digits if `hexoffs` is set.
+    #[inline(always)]
+    pub fn of(hexoffs: bool) -> Self
+        ensures { in_hex result ≡ hexoffs }
+    {
+        if hexoffs {
+            Offsets::Hexadecimal
+        } else {
+            Offsets::Decimal
+        }
+    }
+}
+
+fn hex_digit(digit: u8) -> u8
+    requires { digit < 16 }
+    ensures { result ≡ hex_digit digit }
+{
+    if digit < 10 {
+        b'0' + digit
+    } else {
+        b'A' - 10 + digit
+    }
+}
+
+/// Appends two hex digits.
+pub(super) fn put_digits2(out: &mut Line, number: u8)
+    requires { array_vec_len out.old + 2 ≤ 512 }
+    ensures { out.new.items ≡ out.old.items ++ digits2 number }
+{
+    out.push(hex_digit(number / 16));
+    out.push(hex_digit(number % 16));
+}
+
+/// Appends four hex digits.
+pub(super) fn put_digits4(out: &mut Line, number: u16)
+    requires { array_vec_len out.old + 4 ≤ 512 }
+    ensures { out.new.items ≡ out.old.items ++ digits4 number }
+{
+    out.push(hex_digit((number / 4096 % 16) as u8));
+    out.push(hex_digit((number / 256 % 16) as u8));
+    out.push(hex_digit((number / 16 % 16) as u8));
+    out.push(hex_digit((number % 16) as u8));
+}
+
+/// Appends `$` and two hex digits.
+pub(super) fn put_hex2(out: &mut Line, number: u8)
+    requires { array_vec_len out.old + 3 ≤ 512 }
+    ensures { out.new.items ≡ out.old.items ++ hex2 number }
+{
+    out.push(b'$');
+    put_digits2(out, number);
+}
+
+/// Appends `$` and four hex digits.
+pub(super) fn put_hex4(out: &mut Line, number: u16)
+    requires { array_vec_len out.old + 5 ≤ 512 }
+    ensures { out.new.items ≡ out.old.items ++ hex4 number }
+{
+    out.push(b'$');
+    put_digits4(out, number);
+}
+
+fn put_decimal(out: &mut Line, number: u16)
+    requires { array_vec_len out.old + 5 ≤ 512 }
+    ensures items { out.new.items ≡ out.old.items ++ decimal number }
+    ensures len { array_vec_len out.new ≤ array_vec_len out.old + 5 }
+{
+    let mut buffer = Buffer::new();
+    put(out, buffer.format(number).as_bytes());
+}
+
+/// Appends an offset in two hex digits if it has no more, else in four.
+fn put_hex_offset(out: &mut Line, offset: u16)
+    requires { array_vec_len out.old + 5 ≤ 512 }
+    ensures items { out.new.items ≡ out.old.items ++ offset_text true offset }
+    ensures len { array_vec_len out.new ≤ array_vec_len out.old + 5 }
+{
+    if offset < 256 {
+        put_hex2(out, offset as u8);
+    } else {
+        put_hex4(out, offset);
+    }
+}
+
+/// Appends what is added to a name.
+pub(super) fn put_offset(out: &mut Line, offsets: Offsets, offset: u16)
+    requires { array_vec_len out.old + 5 ≤ 512 }
+    ensures items { out.new.items ≡ out.old.items ++ offset_text (in_hex offsets) offset }
+    ensures len { array_vec_len out.new ≤ array_vec_len out.old + 5 }
+{
+    match offsets {
+        Offsets::Decimal => put_decimal(out, offset),
+        Offsets::Hexadecimal => put_hex_offset(out, offset),
+    }
+}
+
+/// Appends the distance of a name from its own line.
+pub(super) fn put_distance(out: &mut Line, offsets: Offsets, distance: u16)
+    requires { array_vec_len out.old + 5 ≤ 512 }
+    ensures items { out.new.items ≡ out.old.items ++ distance_text (in_hex offsets) distance }
+    ensures len { array_vec_len out.new ≤ array_vec_len out.old + 5 }
+{
+    match offsets {
+        Offsets::Decimal => put_decimal(out, distance),
+        Offsets::Hexadecimal => put_hex4(out, distance),
+    }
+}

@@ -1,0 +1,105 @@
+//! What stands after a statement that has bytes, by the comment level.
+
+ghost use Rattle.std.specs.Prelude.{◌≡◌, ◌+◌, ◌*◌, ◌≤◌, ◌++◌, length, map};
+ghost use Rattle.std.specs.List.{flat_map};
+ghost use Rattle.arrayvec.specs.ArrayVec.{array_vec_len};
+ghost use Rattle.stmt65.specs.Levels.{character, fields_after, level_fields, spaced_byte};
+ghost use Rattle.stmt65.specs.Line.{with_fields};
+ghost use Rattle.stmt65.specs.Code.StatementViews.{remarks_seen, statement_seen};
+
+use crate::printing::columns::Columns;
+use crate::printing::digits::{put_digits2, put_digits4};
+use crate::printing::fields::{put, start_field};
+use crate::printing::line::Line;
+use crate::printing::remarks::Remarks;
+use crate::statement::Statement;
+
+/// Appends the bytes in hex digits, each after a blank.
+fn put_spaced_bytes(out: &mut Line, bytes: &[u8])
+    requires { array_vec_len out.old + 3 * length bytes.now ≤ 512 }
+    ensures items { out.new.items ≡ out.old.items ++ flat_map spaced_byte bytes.now }
+    ensures len { array_vec_len out.new ≡ array_vec_len out.old + 3 * length bytes.now }
+{
+    for byte in bytes {
+        out.push(b' ');
+        put_digits2(out, *byte);
+    }
+}
+
+/// The byte if it is from $20 to $7E, else a dot.
+fn character(byte: u8) -> u8
+    ensures { result ≡ character byte }
+{
+    if byte > 0x1F && byte < 0x7F {
+        byte
+    } else {
+        b'.'
+    }
+}
+
+/// Appends the bytes as characters.
+fn put_characters(out: &mut Line, bytes: &[u8])
+    requires { array_vec_len out.old + length bytes.now ≤ 512 }
+    ensures items { out.new.items ≡ out.old.items ++ map character bytes.now }
+    ensures len { array_vec_len out.new ≡ array_vec_len out.old + length bytes.now }
+{
+    for byte in bytes {
+        out.push(character(*byte));
+    }
+}
+
+/// Appends what stands after a statement from level 2 on, with the statement's address and bytes.
+#[inline(never)]
+fn put_remarked(out: &mut Line, columns: &Columns, level: u8, address: u16, bytes: &[u8])
+    requires level { 2 ≤ level }
+    requires room { array_vec_len out.old ≤ 340 }
+    requires few { length bytes.now ≤ 16 }
+    ensures items { out.new.items ≡ with_fields out.old.items (level_fields columns.now level address bytes.now) }
+    ensures len { array_vec_len out.new ≤ 511 }
+{
+    start_field(out, columns.comment);
+    put(out, b"; ");
+    put_digits4(out, address);
+    if level < 3 {
+        return;
+    }
+    put_spaced_bytes(out, bytes);
+    if level < 4 {
+        return;
+    }
+    start_field(out, columns.text);
+    put_characters(out, bytes);
+}
+
+/// Appends what stands after a statement at this level. Below level 2 that is nothing.
+#[inline(always)]
+fn put_level(out: &mut Line, columns: &Columns, level: u8, address: u16, bytes: &[u8])
+    requires room { array_vec_len out.old ≤ 340 }
+    requires few { length bytes.now ≤ 16 }
+    ensures items { out.new.items ≡ with_fields out.old.items (level_fields columns.now level address bytes.now) }
+    ensures len { array_vec_len out.new ≤ 511 }
+{
+    if level < 2 {
+        return;
+    }
+    put_remarked(out, columns, level, address, bytes);
+}
+
+/// Appends what stands after the statement.
+#[inline(always)]
+pub(super) fn put_after(out: &mut Line, columns: &Columns, statement: &Statement, remarks: &Remarks)
+    requires room { array_vec_len out.old ≤ 340 }
+    requires few { length remarks.now.bytes.now ≤ 16 }
+    ensures items { out.new.items ≡ with_fields out.old.items (fields_after columns.now (statement_seen statement.now) (remarks_seen remarks.now)) }
+    ensures len { array_vec_len out.new ≤ 511 }
+{
+    if statement.has_bytes() {
+        put_level(
+            out,
+            columns,
+            remarks.level.get(),
+            remarks.address,
+            remarks.bytes,
+        );
+    }
+}

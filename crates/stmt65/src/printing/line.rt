@@ -1,0 +1,296 @@
+//! Printing a statement as a line.
+
+ghost use Rattle.std.specs.Prelude.{◌≡◌, ◌+◌, ◌<◌, ◌≤◌, ◌*◌, [], ◌∷◌, ◌++◌, length, codes, Some, IfSome};
+ghost use Rattle.std.specs.Option.{option_copied, option_map};
+ghost use Rattle.arrayvec.specs.ArrayVec.{array_vec_len};
+ghost use Rattle.isa65.specs.Cpu.{cpu_text};
+ghost use Rattle.stmt65.specs.Directives.{directive_text};
+ghost use Rattle.stmt65.specs.Line.{filled, with_fields, line_of};
+ghost use Rattle.stmt65.specs.Printable.{IsNameLong, IsWrittenIn, IsTable, IsPrintable, MayBeLabelled};
+ghost use Rattle.stmt65.specs.Printed.{HasNames, HasLabelName, PrintsAs, source_line, with_label};
+ghost use Rattle.stmt65.specs.Statements.{bytes_text, quoted, data_text, numbers_text, has_operand, return_text, instr_fields, with_operands, label_fields, remark_fields, fields_of};
+ghost use Rattle.stmt65.specs.Tables.{cut_text};
+ghost use Rattle.stmt65.specs.Code.StatementViews.{in_hex, operands_seen, target_seen, statement_seen, remarks_seen};
+ghost use Rattle.stmt65.specs.Reading.{is_absolute};
+ghost use Rattle.stmt65.specs.Views as view;
+ghost use Rattle.stmt65.specs.Operands.{named_text};
+ghost use Rattle.stmt65.specs.Code.Widths.{AreWordWide, AreBytes, IsInWidth};
+
+use crate::directive::Directive;
+use crate::printing::columns::{Column, Columns};
+use crate::printing::definitions::{put_const, put_forward, put_label};
+use crate::printing::digits::{Offsets, put_hex2};
+use crate::printing::fields::{put, start_field};
+use crate::printing::levels::put_after;
+use crate::printing::operand::{put_named, put_operands};
+use crate::printing::remarks::Remarks;
+use crate::printing::tables::{put_entries, put_text};
+use crate::source_line::AddressSize;
+use crate::statement::{Operands, Statement, Target};
+use arrayvec::ArrayVec;
+use isa65::{Cpu, Mode, Op};
+
+/// The bytes of a line, with its line feed.
+pub type Line = ArrayVec<u8, 512>;
+
+fn has_operand(mode: Mode) -> bool
+    ensures { result ≡ has_operand mode }
+{
+    !matches!(mode, Mode::Imp)
+}
+
+fn put_operation(out: &mut Line, columns: &Columns, operation: &[u8])
+    requires room { array_vec_len out.old ≤ 82 }
+    requires short { length operation.now ≤ 8 }
+    ensures items { out.new.items ≡ filled out.old.items columns.now.mnemonic ++ operation.now }
+    ensures len { array_vec_len out.new ≤ 128 }
+{
+    start_field(out, columns.mnemonic);
+    put(out, operation);
+}
+
+/// Appends the text of a mnemonic. Most have three letters.
+#[inline(always)]
+fn put_mnemonic(out: &mut Line, text: &[u8])
+    requires { array_vec_len out.old + length text.now ≤ 512 }
+    ensures { out.new.items ≡ out.old.items ++ text.now }
+{
+    if let [first, second, third] = *text {
+        out.push(first);
+        out.push(second);
+        out.push(third);
+    } else {
+        put(out, text);
+    }
+}
+
+#[inline(always)]
+#[tactic(auto, using(crate::proofs::OperandTexts::mnemonic_len))]
+fn put_instr(
+    out: &mut Line,
+    columns: &Columns,
+    offsets: Offsets,
+    op: Op,
+    size: AddressSize,
+    operands: &Operands,
+)
+    requires room { array_vec_len out.old ≤ 82 }
+    requires written { IsWrittenIn op.mode (operands_seen operands.now) }
+    ensures items { out.new.items ≡ with_fields out.old.items (instr_fields columns.now (in_hex offsets) op (is_absolute size) (operands_seen operands.now)) }
+    ensures len { array_vec_len out.new ≤ 340 }
+    ensures width { AreWordWide (operands_seen operands.now) }
+{
+    start_field(out, columns.mnemonic);
+    put_mnemonic(out, op.mnemonic.text());
+    if has_operand(op.mode) {
+        start_field(out, columns.argument);
+        put_operands(out, offsets, op.mode, size, operands);
+    }
+}
+
+#[tactic(auto, unfolding(crate::specs::Statements::comma_list))]
+fn put_bytes(out: &mut Line, bytes: &[u8])
+    requires some { 1 ≤ length bytes.now }
+    requires room { array_vec_len out.old + 4 * length bytes.now ≤ 512 }
+    ensures items { out.new.items ≡ out.old.items ++ bytes_text bytes.now }
+    ensures len { array_vec_len out.new ≤ array_vec_len out.old + 4 * length bytes.now }
+{
+    let [first, rest @ ..] = bytes else {
+        unreachable!()
+    };
+    put_hex2(out, *first);
+    for byte in rest {
+        out.push(b',');
+        put_hex2(out, *byte);
+    }
+}
+
+fn put_data(out: &mut Line, columns: &Columns, bytes: &[u8])
+    requires room { array_vec_len out.old ≤ 82 }
+    requires some { 1 ≤ length bytes.now }
+    requires few { length bytes.now ≤ 8 }
+    ensures items { out.new.items ≡ with_fields out.old.items (with_operands columns.now (codes ".byte") (bytes_text bytes.now)) }
+    ensures len { array_vec_len out.new ≤ 340 }
+    ensures width { AreBytes bytes.now }
+{
+    put_operation(out, columns, b".byte");
+    start_field(out, columns.argument);
+    put_bytes(out, bytes);
+}
+
+fn put_text_data(out: &mut Line, columns: &Columns, bytes: &[u8])
+    requires room { array_vec_len out.old ≤ 82 }
+    requires some { 1 ≤ length bytes.now }
+    requires few { length bytes.now ≤ 16 }
+    ensures items { out.new.items ≡ with_fields out.old.items (with_operands columns.now (codes ".byte") (data_text (cut_text bytes.now))) }
+    ensures len { array_vec_len out.new ≤ 340 }
+    ensures width { AreBytes bytes.now }
+{
+    put_operation(out, columns, b".byte");
+    start_field(out, columns.argument);
+    put_text(out, bytes);
+}
+
+fn put_numbers(out: &mut Line, columns: &Columns, directive: Directive, bytes: &[u8])
+    requires room { array_vec_len out.old ≤ 82 }
+    requires table { IsTable directive bytes.now }
+    ensures items { out.new.items ≡ with_fields out.old.items (with_operands columns.now (directive_text directive) (numbers_text directive bytes.now)) }
+    ensures len { array_vec_len out.new ≤ 340 }
+    ensures width { AreBytes bytes.now }
+{
+    put_operation(out, columns, directive.text());
+    start_field(out, columns.argument);
+    put_entries(out, directive, bytes);
+}
+
+/// Appends an operation, and its operand in double quotes.
+fn put_string(out: &mut Line, columns: &Columns, operation: &[u8], text: &[u8])
+    requires room { array_vec_len out.old ≤ 82 }
+    requires short { length operation.now ≤ 8 }
+    requires fits { length text.now ≤ 80 }
+    ensures items { out.new.items ≡ with_fields out.old.items (with_operands columns.now operation.now (quoted text.now)) }
+    ensures len { array_vec_len out.new ≤ 340 }
+{
+    put_operation(out, columns, operation);
+    start_field(out, columns.argument);
+    out.push(b'"');
+    put(out, text);
+    out.push(b'"');
+}
+
+#[tactic(auto, using(crate::proofs::OperandTexts::cpu_len))]
+fn put_set_cpu(out: &mut Line, columns: &Columns, cpu: Cpu)
+    requires room { array_vec_len out.old ≤ 82 }
+    ensures items { out.new.items ≡ with_fields out.old.items (with_operands columns.now (codes ".setcpu") (quoted (cpu_text cpu))) }
+    ensures len { array_vec_len out.new ≤ 340 }
+{
+    put_string(out, columns, b".setcpu", cpu.text());
+}
+
+fn put_addr(out: &mut Line, columns: &Columns, offsets: Offsets, target: Target)
+    requires room { array_vec_len out.old ≤ 82 }
+    requires name { IsNameLong target.name.now }
+    ensures items { out.new.items ≡ with_fields out.old.items (with_operands columns.now (codes ".addr") (named_text (in_hex offsets) target.entry.name.now target.entry.offset)) }
+    ensures len { array_vec_len out.new ≤ 340 }
+    ensures width { target.entry.offset < 65536 }
+{
+    put_operation(out, columns, b".addr");
+    start_field(out, columns.argument);
+    put_named(out, offsets, target.name, target.offset);
+}
+
+/// Appends the entry of a return table.
+fn put_return(out: &mut Line, offsets: Offsets, target: Option<Target>)
+    requires room { array_vec_len out.old ≤ 200 }
+    requires name { IsPrintable (view.rts (option_map target_seen target)) }
+    ensures items { out.new.items ≡ out.old.items ++ return_text (in_hex offsets) (option_map target_seen target.entry) }
+    ensures len { array_vec_len out.new ≤ array_vec_len out.old + 88 }
+    ensures width { IsInWidth (view.rts (option_map target_seen target.entry)) }
+{
+    match target {
+        Some(Target { name, offset }) => {
+            put_named(out, offsets, name, offset);
+            put(out, b"-1");
+        }
+        None => put(out, b"$FFFF"),
+    }
+}
+
+fn put_rts(out: &mut Line, columns: &Columns, offsets: Offsets, target: Option<Target>)
+    requires room { array_vec_len out.old ≤ 82 }
+    requires name { IsPrintable (view.rts (option_map target_seen target)) }
+    ensures items { out.new.items ≡ with_fields out.old.items (with_operands columns.now (codes ".word") (return_text (in_hex offsets) (option_map target_seen target.entry))) }
+    ensures len { array_vec_len out.new ≤ 340 }
+    ensures width { IsInWidth (view.rts (option_map target_seen target.entry)) }
+{
+    put_operation(out, columns, b".word");
+    start_field(out, columns.argument);
+    put_return(out, offsets, target);
+}
+
+fn put_remark(out: &mut Line, text: &[u8])
+    requires room { array_vec_len out.old ≤ 82 }
+    requires fits { length text.now ≤ 200 }
+    ensures items { out.new.items ≡ with_fields out.old.items (remark_fields text.now) }
+    ensures len { array_vec_len out.new ≤ 340 }
+{
+    start_field(out, Column::first());
+    put(out, b"; ");
+    put(out, text);
+}
+
+/// Appends the fields of the statement.
+#[inline(always)]
+fn put_fields(out: &mut Line, columns: &Columns, offsets: Offsets, statement: &Statement)
+    requires room { array_vec_len out.old ≤ 82 }
+    requires printable { IsPrintable (statement_seen statement.now) }
+    ensures items { out.new.items ≡ with_fields out.old.items (fields_of columns.now (in_hex offsets) (statement_seen statement.now)) }
+    ensures len { array_vec_len out.new ≤ 340 }
+    ensures width { IsInWidth (statement_seen statement.now) }
+{
+    match *statement {
+        Statement::Instr {
+            op,
+            size,
+            ref operands,
+        } => put_instr(out, columns, offsets, op, size, operands),
+        Statement::Bytes(bytes) => put_data(out, columns, bytes),
+        Statement::Text(bytes) => put_text_data(out, columns, bytes),
+        Statement::Words(bytes) => put_numbers(out, columns, Directive::Word, bytes),
+        Statement::Dbyts(bytes) => put_numbers(out, columns, Directive::Dbyt, bytes),
+        Statement::Dwords(bytes) => put_numbers(out, columns, Directive::Dword, bytes),
+        Statement::Addr(target) => put_addr(out, columns, offsets, target),
+        Statement::Rts(target) => put_rts(out, columns, offsets, target),
+        Statement::Label(name) => put_label(out, name),
+        Statement::Const(name, number) => put_const(out, columns, name, number),
+        Statement::Forward(name, distance) => put_forward(out, columns, offsets, name, distance),
+        Statement::Segment(name) => put_string(out, columns, b".segment", name),
+        Statement::Code => put_operation(out, columns, b".code"),
+        Statement::SetCpu(cpu) => put_set_cpu(out, columns, cpu),
+        Statement::Blank => {}
+        Statement::Remark(text) => put_remark(out, text),
+    }
+}
+
+/// Begins an empty line with the label, if there is one.
+#[inline(always)]
+fn start_line(out: &mut Line, label: Option<&[u8]>)
+    requires empty { out.old.items ≡ [] }
+    requires name { IfSome (option_copied label) IsNameLong }
+    ensures items { out.new.items ≡ with_fields [] (label_fields (option_copied label.entry)) }
+    ensures len { array_vec_len out.new ≤ 82 }
+{
+    if let Some(name) = label {
+        put_label(out, name);
+    }
+}
+
+/// Replaces `out` by the line of the statement at these columns, with its line feed.
+///
+/// Allocates nothing. The caller keeps the limits of each kind of statement: there are as many
+/// operands as the mode writes, the operand of `Imm` is a number, a number that is written with two
+/// digits is below $100, `AddressSize::Absolute` stands in the absolute modes alone, there are 1 to 8 bytes, 1
+/// to 16 of text, 2, 4, 6 or 8 of words and 4 or 8 of double words, a name has 1 to 80 bytes, and a remark at most 200
+/// without a line feed. A label stands before an instruction or data alone; its name has at most as
+/// many bytes as the label break, and that number plus 1 is below the mnemonic column. At most 16
+/// bytes are remarked.
+///
+/// If the names in the statement and the label are names that ca65 takes, none of them reserved, the
+/// line reads as this statement with this label, at every level; reading is a function of the line,
+/// so it reads as no other. The name of a segment may be reserved.
+#[inline(always)]
+#[tactic(auto, unfolding(crate::specs::Line::line_of))]
+pub fn put_line(out: &mut Line, columns: &Columns, statement: &Statement, remarks: &Remarks)
+    requires printable { IsPrintable (statement_seen statement.now) }
+    requires few { length remarks.now.bytes.now ≤ 16 }
+    requires label { MayBeLabelled columns.now (option_copied remarks.now.label) (statement_seen statement.now) }
+    ensures line { out.new.items ≡ line_of columns.now (statement_seen statement.now) (remarks_seen remarks.now) ++ 10 ∷ [] }
+    ensures fits { array_vec_len out.new ≤ 512 }
+    ensures reads { HasNames (statement_seen statement.now) → HasLabelName (option_copied remarks.now.label) → PrintsAs out.new.items (with_label (option_copied remarks.now.label) (source_line (statement_seen statement.now))) }
+{
+    out.clear();
+    start_line(out, remarks.label);
+    put_fields(out, columns, Offsets::of(remarks.hexoffs), statement);
+    put_after(out, columns, statement, remarks);
+    out.push(b'\n');
+}

@@ -1,0 +1,151 @@
+//! The parts of a line, each taken as long as it can be.
+
+ghost use Rattle.std.specs.Prelude.{◌≡◌, ◌+◌, ◌<◌, ◌≤◌, [], ◌∷◌, length, MatchOption, drop, slice_index, false};
+ghost use Rattle.std.specs.List.{prefix_len};
+ghost use Rattle.std.specs.Char.{is_ascii_digit, is_ascii_hexdigit};
+ghost use Rattle.stmt65.specs.Lexing.{is_blank, is_word_start, is_word_byte, is_text_byte, hex_len, part_at, parts};
+ghost use Rattle.stmt65.specs.Code.PartViews.{part_of};
+
+/// What stands in a line: words and numbers as they are written, the bytes between the quotes of a
+/// string, `:=`, and any other byte by itself.
+#[derive(Clone, Copy, Debug)]
+pub enum Part<'a> {
+    Word(&'a [u8]),
+    Number(&'a [u8]),
+    Text(&'a [u8]),
+    Define,
+    Mark(u8),
+}
+
+fn is_blank(b: u8) -> bool
+    ensures { result ≡ is_blank b }
+{
+    b == b' ' || b == b'\t'
+}
+
+fn is_word_start(b: u8) -> bool
+    ensures { result ≡ is_word_start b }
+{
+    b.is_ascii_alphabetic() || b == b'_' || b == b'.'
+}
+
+/// Whether the byte is a letter, a digit or `_`.
+pub fn is_word_byte(b: u8) -> bool
+    ensures { result ≡ is_word_byte b }
+{
+    b.is_ascii_alphanumeric() || b == b'_'
+}
+
+fn is_text_byte(b: u8) -> bool
+    ensures { result ≡ is_text_byte b }
+{
+    b > 0x1F && b < 0x7F && b != b'"'
+}
+
+fn word_len(bytes: &[u8]) -> usize
+    ensures value { result ≡ prefix_len is_word_byte bytes.now }
+    ensures fits { result ≤ length bytes.now }
+{
+    bytes.iter().take_while(|b| is_word_byte(**b)).count()
+}
+
+fn digits_len(bytes: &[u8]) -> usize
+    ensures value { result ≡ prefix_len is_ascii_digit bytes.now }
+    ensures fits { result ≤ length bytes.now }
+{
+    bytes.iter().take_while(|b| b.is_ascii_digit()).count()
+}
+
+fn hex_digits_len(bytes: &[u8]) -> usize
+    ensures value { result ≡ prefix_len is_ascii_hexdigit bytes.now }
+    ensures fits { result ≤ length bytes.now }
+{
+    bytes.iter().take_while(|b| b.is_ascii_hexdigit()).count()
+}
+
+/// How many hex digits a `$` before the bytes takes.
+fn hex_len(bytes: &[u8]) -> usize
+    ensures value { result ≡ hex_len bytes.now }
+    ensures fits { result ≤ length bytes.now }
+{
+    let len = hex_digits_len(bytes);
+    if len < 8 { len } else { 8 }
+}
+
+fn text_len(bytes: &[u8]) -> usize
+    ensures value { result ≡ prefix_len is_text_byte bytes.now }
+    ensures fits { result ≤ length bytes.now }
+{
+    bytes.iter().take_while(|b| is_text_byte(**b)).count()
+}
+
+/// The part that begins with the first byte, and how many of the bytes after it belong to it.
+#[tactic(auto, unfolding(crate::specs::Lexing::part_at))]
+fn part_at(bytes: &[u8]) -> (Part<'_>, usize)
+    requires { 0 < length bytes.now }
+    ensures part { part_of result.0 ≡ (part_at (slice_index bytes.now 0) (drop 1 bytes.now)).0 }
+    ensures more { result.1 ≡ (part_at (slice_index bytes.now 0) (drop 1 bytes.now)).1 }
+    ensures fits { result.1 < length bytes.now }
+{
+    let [first, after @ ..] = bytes else {
+        unreachable!()
+    };
+    let first = *first;
+    if is_word_start(first) {
+        let len = word_len(after);
+        return (Part::Word(&bytes[..len + 1]), len);
+    }
+    if first.is_ascii_digit() {
+        let len = digits_len(after);
+        return (Part::Number(&bytes[..len + 1]), len);
+    }
+    if first == b'$' {
+        let len = hex_len(after);
+        if len > 0 {
+            return (Part::Number(&bytes[..len + 1]), len);
+        }
+    }
+    if first == b'"' {
+        let len = text_len(after);
+        if len < after.len() && after[len] == b'"' {
+            return (Part::Text(&after[..len]), len + 1);
+        }
+    }
+    if first == b':' && !after.is_empty() && after[0] == b'=' {
+        return (Part::Define, 1);
+    }
+    (Part::Mark(first), 0)
+}
+
+/// The bytes from the first on that is no blank.
+#[tactic(auto, using(crate::proofs::PartLemmas::lexing))]
+fn after_blanks(bytes: &[u8]) -> &[u8]
+    ensures parts { parts result.now ≡ parts bytes.now }
+    ensures stop { 0 < length result.now → is_blank (slice_index result.now 0) ≡ false }
+{
+    for (i, b) in bytes.iter().enumerate() {
+        if !is_blank(*b) {
+            return &bytes[i..];
+        }
+    }
+    &[]
+}
+
+/// The first part of the line, and the bytes after it.
+#[tactic(auto, using(crate::proofs::PartLemmas::lexing))]
+pub fn first_part(bytes: &[u8]) -> Option<(Part<'_>, &[u8])>
+    ensures { MatchOption result (parts bytes.now ≡ [])
+        (λ found. parts bytes.now ≡ part_of found.0 ∷ parts found.1.now) }
+{
+    let bytes = after_blanks(bytes);
+    match bytes {
+        [] => None,
+        [first, ..] => {
+            if *first == b';' {
+                return None;
+            }
+            let (part, more) = part_at(bytes);
+            Some((part, &bytes[more + 1..]))
+        }
+    }
+}

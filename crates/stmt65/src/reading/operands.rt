@@ -1,0 +1,97 @@
+//! The written forms of an operand.
+
+ghost use Rattle.std.specs.Prelude.{◌≡◌};
+ghost use Rattle.stmt65.specs.Code.Found.{Gives};
+ghost use Rattle.stmt65.specs.Code.SourceLineViews.{value_of, form_of as form_of_code};
+ghost use Rattle.stmt65.specs.Reading.{whole, is_absolute, tail_at, inner_at, form_of};
+
+use crate::reading::expressions::next_value;
+use crate::reading::parts::Parts;
+use crate::source_line::{AddressSize, Form, Value};
+
+/// The form, if nothing is left.
+fn whole<'a>(form: Form<'a>, parts: &Parts<'a>) -> Option<Form<'a>>
+    ensures { Gives form_of_code result (whole (form_of_code form.entry) parts.now) }
+{
+    if parts.is_done() { Some(form) } else { None }
+}
+
+fn is_absolute(size: AddressSize) -> bool
+    ensures { result ≡ is_absolute size }
+{
+    matches!(size, AddressSize::Absolute)
+}
+
+/// After the first expression; `size` says whether `a:` stands before it.
+#[tactic(auto, unfolding(crate::specs::Reading::tail_at))]
+fn tail_at<'a>(size: AddressSize, value: Value<'a>, parts: &mut Parts<'a>) -> Option<Form<'a>>
+    ensures { Gives form_of_code result (tail_at size (value_of value.entry) parts.old) }
+{
+    if !parts.eat(b',') {
+        return whole(Form::Direct(size, value), parts);
+    }
+    if parts.eat_word(b"x") {
+        return whole(Form::DirectX(size, value), parts);
+    }
+    if parts.eat_word(b"y") {
+        return whole(Form::DirectY(size, value), parts);
+    }
+    if is_absolute(size) {
+        return None;
+    }
+    let second = next_value(parts)?;
+    whole(Form::Two(value, second), parts)
+}
+
+/// After `(` and an expression.
+#[tactic(auto, unfolding(crate::specs::Reading::inner_at))]
+fn inner_at<'a>(value: Value<'a>, parts: &mut Parts<'a>) -> Option<Form<'a>>
+    ensures { Gives form_of_code result (inner_at (value_of value.entry) parts.old) }
+{
+    if parts.eat(b')') {
+        if !parts.eat(b',') {
+            return whole(Form::Indirect(value), parts);
+        }
+        if !parts.eat_word(b"y") {
+            return None;
+        }
+        return whole(Form::IndirectY(value), parts);
+    }
+    if !parts.eat(b',') {
+        return None;
+    }
+    if !parts.eat_word(b"x") {
+        return None;
+    }
+    if !parts.eat(b')') {
+        return None;
+    }
+    whole(Form::IndirectX(value), parts)
+}
+
+/// The operand: everything after a mnemonic.
+#[tactic(auto, unfolding(crate::specs::Reading::form_of))]
+pub fn form_of<'a>(parts: &mut Parts<'a>) -> Option<Form<'a>>
+    ensures { Gives form_of_code result (form_of parts.old) }
+{
+    if parts.eat(b'#') {
+        let value = next_value(parts)?;
+        return whole(Form::Immediate(value), parts);
+    }
+    if parts.eat(b'(') {
+        let value = next_value(parts)?;
+        return inner_at(value, parts);
+    }
+    if parts.eat_word(b"a") {
+        if !parts.eat(b':') {
+            return whole(Form::Accumulator, parts);
+        }
+        let value = next_value(parts)?;
+        return tail_at(AddressSize::Absolute, value, parts);
+    }
+    if parts.is_done() {
+        return Some(Form::Empty);
+    }
+    let value = next_value(parts)?;
+    tail_at(AddressSize::Automatic, value, parts)
+}

@@ -1,0 +1,123 @@
+//! A cursor over the parts of a line.
+
+ghost use Rattle.std.specs.Prelude.{◌≡◌, [], ◌∷◌, MatchOption, drop};
+ghost use Rattle.std.specs.Bool.{OnTrue, OnFalse};
+ghost use Rattle.stmt65.specs.Lexing.{parts};
+ghost use Rattle.stmt65.specs.Code.PartViews.{part_of};
+ghost use Rattle.stmt65.specs.Code.Found.{Reads};
+ghost use Rattle.stmt65.specs.Code.SourceLineViews.{numeral_of};
+ghost use Rattle.stmt65.specs.Reading.{is_mark, is_define, is_word_here, is_number_here, is_nil, number_in};
+
+use crate::reading::lexer::{Part, first_part};
+use crate::reading::numeral::Numeral;
+use std::marker::Model;
+
+/// The parts of a line that are left, which contracts see as their list.
+#[derive(Drop)]
+pub struct Parts<'a> {
+    rest: &'a [u8],
+}
+
+impl<'a> Model for Parts<'a> {
+    ghost use Rattle.std.specs.Prelude.{List};
+    ghost use Rattle.stmt65.specs.Parts.{Part as APart};
+    ghost use Rattle.stmt65.specs.Lexing.{parts};
+
+    ghost Value = { List APart };
+
+    ghost view = { λ p. parts p.rest.now };
+}
+
+impl<'a> Parts<'a> {
+    /// All parts of the line.
+    pub fn new(line: &'a [u8]) -> Self
+        ensures { result ≡ parts line.now }
+    {
+        Parts { rest: line }
+    }
+
+    /// Takes the next part. At the end the answer is `None`, again and again.
+    pub fn next(&mut self) -> Option<Part<'a>>
+        ensures { MatchOption result ((self.old ≡ []) × (self.new ≡ []))
+            (λ part. self.old ≡ part_of part ∷ self.new) }
+    {
+        let (part, rest) = first_part(self.rest)?;
+        self.rest = rest;
+        Some(part)
+    }
+
+    /// Takes the next part if it is this byte by itself.
+    pub fn eat(&mut self, mark: u8) -> bool
+        ensures value { result ≡ is_mark mark self.old }
+        ensures taken { OnTrue result (self.new ≡ drop 1 self.old) }
+        ensures left { OnFalse result (self.new ≡ self.old) }
+    {
+        if let Some((Part::Mark(b), rest)) = first_part(self.rest) {
+            if b == mark {
+                self.rest = rest;
+                return true;
+            }
+        }
+        false
+    }
+
+    /// Takes the next part if it is this word, in any letter case.
+    pub fn eat_word(&mut self, word: &[u8]) -> bool
+        ensures value { result ≡ is_word_here word.now self.old }
+        ensures taken { OnTrue result (self.new ≡ drop 1 self.old) }
+        ensures left { OnFalse result (self.new ≡ self.old) }
+    {
+        if let Some((Part::Word(w), rest)) = first_part(self.rest) {
+            if w.eq_ignore_ascii_case(word) {
+                self.rest = rest;
+                return true;
+            }
+        }
+        false
+    }
+
+    /// Takes the next part if it is a number that is written so.
+    pub fn eat_number(&mut self, text: &[u8]) -> bool
+        ensures value { result ≡ is_number_here text.now self.old }
+        ensures taken { OnTrue result (self.new ≡ drop 1 self.old) }
+        ensures left { OnFalse result (self.new ≡ self.old) }
+    {
+        if let Some((Part::Number(t), rest)) = first_part(self.rest) {
+            if t == text {
+                self.rest = rest;
+                return true;
+            }
+        }
+        false
+    }
+
+    /// Takes the next part if it is `:=`.
+    pub fn eat_define(&mut self) -> bool
+        ensures value { result ≡ is_define self.old }
+        ensures taken { OnTrue result (self.new ≡ drop 1 self.old) }
+        ensures left { OnFalse result (self.new ≡ self.old) }
+    {
+        if let Some((Part::Define, rest)) = first_part(self.rest) {
+            self.rest = rest;
+            return true;
+        }
+        false
+    }
+
+    /// Takes the next part if it is a number.
+    pub fn number(&mut self) -> Option<Numeral<'a>>
+        ensures { Reads numeral_of result (number_in self.old) self.new }
+    {
+        if let Some(Part::Number(text)) = self.next() {
+            return Some(Numeral { text });
+        }
+        None
+    }
+
+    /// Whether no part is left.
+    pub fn is_done(&self) -> bool
+        ensures { result ≡ is_nil self.now }
+    {
+        first_part(self.rest).is_none()
+    }
+}

@@ -1,0 +1,136 @@
+//! What a line says.
+
+ghost use Rattle.std.specs.Prelude.{◌≡◌, IfOk, Option, Some, None, if◌then◌else◌};
+ghost use Rattle.std.specs.Option.{option_copied, option_map};
+ghost use Rattle.stmt65.specs.Code.Found.{Gives};
+ghost use Rattle.stmt65.specs.Code.SourceLineViews.{operation_of, source_of};
+ghost use Rattle.stmt65.specs.Lexing.{parts};
+ghost use Rattle.stmt65.specs.Names.{is_name};
+ghost use Rattle.stmt65.specs.Reading.{constant_of, stated, operation_at, operation_of as operation_read, line_at, reading_of};
+
+use crate::reading::lexer::Part;
+use crate::reading::names::is_name;
+use crate::reading::operations::{operation_at, operation_of};
+use crate::reading::parts::Parts;
+use crate::source_line::{Operation, SourceLine};
+use std::alloc::{AllocError, Allocator};
+
+/// After the name and `:=`.
+#[tactic(auto, unfolding(crate::specs::Reading::constant_of))]
+fn constant_of<'a, A: Allocator>(name: &'a [u8], parts: &mut Parts<'a>) -> Option<SourceLine<'a, A>>
+    ensures { Gives source_of result (constant_of name.now parts.old) }
+{
+    if parts.eat(b'*') {
+        if !parts.eat(b'+') {
+            return None;
+        }
+        let plus = parts.number()?;
+        if !parts.is_done() {
+            return None;
+        }
+        return Some(SourceLine::PlaceAssignment(name, plus));
+    }
+    let value = parts.number()?;
+    if !parts.is_done() {
+        return None;
+    }
+    Some(SourceLine::Assignment(name, value))
+}
+
+/// The operation, if there is one, after the optional label.
+fn stated<'a, A: Allocator>(
+    label: Option<&'a [u8]>,
+    operation: Option<Operation<'a, A>>,
+) -> Option<SourceLine<'a, A>>
+    ensures { Gives source_of result (stated (option_copied label.entry) (option_map operation_of operation.entry)) }
+{
+    let operation = operation?;
+    Some(SourceLine::Statement { label, operation })
+}
+
+/// After a label and its colon.
+fn labelled<'a, A: Allocator>(
+    alloc: A,
+    word: &'a [u8],
+    parts: &mut Parts<'a>,
+) -> Result<Option<SourceLine<'a, A>>, AllocError>
+    ensures { IfOk result (λ found. Gives source_of found (if is_name word.now then stated (Some word.now) (operation_read parts.old) else None)) }
+{
+    if !is_name(word) {
+        return Ok(None);
+    }
+    let operation = operation_of(alloc, parts)?;
+    Ok(stated(Some(word), operation))
+}
+
+/// After a name and `:=`, if it is one.
+fn defined<'a, A: Allocator>(word: &'a [u8], parts: &mut Parts<'a>) -> Option<SourceLine<'a, A>>
+    ensures { Gives source_of result (if is_name word.now then constant_of word.now parts.old else None) }
+{
+    if !is_name(word) {
+        return None;
+    }
+    constant_of(word, parts)
+}
+
+/// After the word of an operation without a label.
+fn unlabelled<'a, A: Allocator>(
+    alloc: A,
+    word: &'a [u8],
+    parts: &mut Parts<'a>,
+) -> Result<Option<SourceLine<'a, A>>, AllocError>
+    ensures { IfOk result (λ found. Gives source_of found (stated None (operation_at word.now parts.old))) }
+{
+    let operation = operation_at(alloc, word, parts)?;
+    Ok(stated(None, operation))
+}
+
+/// A line that begins with the word.
+#[tactic(auto, unfolding(crate::specs::Reading::line_at))]
+fn line_at<'a, A: Allocator>(
+    alloc: A,
+    word: &'a [u8],
+    parts: &mut Parts<'a>,
+) -> Result<Option<SourceLine<'a, A>>, AllocError>
+    ensures { IfOk result (λ found. Gives source_of found (line_at word.now parts.old)) }
+{
+    if parts.eat(b':') {
+        return labelled(alloc, word, parts);
+    }
+    if parts.eat_define() {
+        return Ok(defined(word, parts));
+    }
+    unlabelled(alloc, word, parts)
+}
+
+/// What the parts say.
+#[tactic(auto, unfolding(crate::specs::Reading::reading_of))]
+fn read_parts<'a, A: Allocator>(
+    alloc: A,
+    parts: &mut Parts<'a>,
+) -> Result<Option<SourceLine<'a, A>>, AllocError>
+    ensures { IfOk result (λ found. Gives source_of found (reading_of parts.old)) }
+{
+    match parts.next() {
+        None => Ok(Some(SourceLine::Statement {
+            label: None,
+            operation: Operation::Nothing,
+        })),
+        Some(Part::Word(word)) => line_at(alloc, word, parts),
+        Some(_) => Ok(None),
+    }
+}
+
+/// What a line, without its line feed, says; `None` if it is no line of assembler text. The
+/// names and strings of the answer are borrowed from the line.
+///
+/// Fails if an allocation for a list of operands is refused.
+pub fn read_line<'a, A: Allocator>(
+    alloc: A,
+    line: &'a [u8],
+) -> Result<Option<SourceLine<'a, A>>, AllocError>
+    ensures { IfOk result (λ found. Gives source_of found (reading_of (parts line.now))) }
+{
+    let mut parts = Parts::new(line);
+    read_parts(alloc, &mut parts)
+}

@@ -1,0 +1,290 @@
+#!/usr/bin/env bash
+# The assembler on real files: what it writes, where, and with which status. Then each example and random images go to their listing and
+# back: da65 lists them, and as65 gives the same bytes.
+# Usage: tests/as65.sh AS65 DA65
+set -u
+program=$(realpath "$1")
+da65=$(realpath "$2")
+root=$(realpath "$(dirname "$0")/..")
+. "$root/tests/rows.sh"
+. "$root/tests/random.sh"
+
+# gives NAME TEXT STDOUT WORD..: the program takes the text on the words, and gives these bytes.
+gives() {
+    local name=$1 text=$2 out=$3
+    shift 3
+    printf '%b' "$text" >text.s
+    runs "$name" 0 "$out" '' "$@" text.s
+}
+
+# refuses NAME TEXT LINE CAUSE: the program refuses the text at this line, and leaves the output as it was.
+refuses() {
+    printf '%b' "$2" >text.s
+    echo old >out.bin
+    runs "$1" 1 '' "as65: text.s:$3: $4\n" -S 0x1000 -o out.bin text.s
+    holds "$1" out.bin 'old\n'
+}
+
+help="as65 reads ca65's language as far as listings need it; for everything else there is ca65.\n"
+help+='Usage: as65 [options] [listing]\n'
+help+='  -S, --start-addr addr    start address\n'
+help+='  -o name                  output file\n'
+help+='  --compare image          print where the bytes differ from an image\n'
+help+='  -h, --help               this text\n'
+help+='  -V, --version            version\n'
+no_start='as65: no start address: give -S, or --compare an image that ends at $FFFF\n'
+no_line='syntax error: not a line of a listing'
+
+three='; da65 listing\n\n        .setcpu "6502"\n\n        lda     #$01\n        rts\n'
+bytes='\xa9\x01\x60'
+printf '%b' "$three" >three.s
+printf '%b' "$bytes" >three.bin
+: >empty
+mkdir folder
+head -c 65536 /dev/zero | tr '\0' '\352' >large.bin
+yes '        nop' | head -n 65536 >large.s
+head -c 16777216 /dev/zero | tr '\0' '\n' >lines.s
+{ cat lines.s; echo; } >too_large.s
+
+runs 'help' 0 "$help" '' -h
+runs 'help by its long name, before the version and all files' 0 "$help" '' --version --help -o no.bin no.s
+is_absent 'help creates no file' no.bin
+runs 'version' 0 'as65 profile 1\n' '' -V
+runs 'version before all files' 0 'as65 profile 1\n' '' --version -S 0 -o no.bin no.s
+is_absent 'version creates no file' no.bin
+
+# ---- bytes
+
+runs 'bytes on standard output' 0 "$bytes" '' -S 0x1000 three.s
+runs 'bytes in a file' 0 '' '' -S 0x1000 -o out.bin three.s
+holds 'bytes in a file' out.bin "$bytes"
+gives 'the start counts' 'here: jmp here\n' '\x4c\x00\x20' -S '$2000'
+gives 'the start by its long name, in decimal' 'here: jmp here\n' '\x4c\xf0\xff' --start-addr=65520
+gives 'the start in octal' 'here: jmp here\n' '\x4c\x08\x00' -S 010
+gives 'a last line without a line feed' '\n rts' '\x60' -S 0
+gives 'all of it' \
+    'one := $10\nTwo := * + $01\n.setcpu "65c02" ; \xff\n.segment "S"\nlong: lda one\n lda a:one\n.code\n bra long-1\n.word Two,$1234\n.dbyt $5678\n.addr long\n.byte "A;",$22\n' \
+    '\xa5\x10\xad\x10\x00\x80\xf8\x01\x10\x34\x12\x56\x78\x00\x10A;\x22' -S 0x1000
+runs 'no bytes' 0 '' '' -S 0 -o none.bin empty
+holds 'no bytes' none.bin ''
+runs '64 KiB' 0 '' '' -S 0 -o out.bin large.s
+same '64 KiB' out.bin large.bin
+runs 'the largest listing' 0 '' '' -S 0 lines.s
+
+for words in "/dev/stdin" ""; do
+    "$program" -S 0x1000 $words <three.s >stdout 2>stderr
+    ends "standard input $words" 0 $? ''
+    holds "standard input $words" stdout "$bytes"
+    { head -c 40 three.s; sleep 0.05; tail -c +41 three.s; } | "$program" -S 0x1000 $words >stdout 2>stderr
+    ends "a pipe $words" 0 $? ''
+    holds "a pipe $words" stdout "$bytes"
+    printf 'rts2\n' | "$program" -S 0x1000 $words >stdout 2>stderr
+    ends "a fault on standard input $words" 1 $? "as65: /dev/stdin:1: $no_line\n"
+done
+[ "$(printf 'abcdef' | { "$program" -S 0 three.s >stdout; cat; })" = abcdef ] || fails 'standard input that is not asked for' 'it was read'
+
+# ---- faults of a listing
+
+refuses 'a line that is none' ' nop\n rts2\n' 2 "$no_line"
+refuses 'half of an address' 'put := $1234\n lda #<put\n' 2 "$no_line"
+refuses 'a table of low bytes' 'put := $1234\n.lobytes put\n' 2 "$no_line"
+refuses 'an expression' 'put := $1234\n lda put*2\n' 2 "$no_line"
+refuses 'a label of a reserved name' 'lda: rts\n' 1 "$no_line"
+refuses 'a carriage return' ' rts\r\n' 1 "$no_line"
+refuses 'an unknown CPU' ' .setcpu "65816"\n' 1 'unknown CPU'
+refuses 'a form that the CPU lacks' ' nop\n lda (16)\n' 2 'no such form'
+refuses 'a mnemonic that the CPU lacks' ' stz $10\n' 1 'no such form'
+refuses 'an undefined name' ' nop\n\n jmp nowhere\n' 3 'undefined name'
+refuses 'a name that is defined twice' 'x1: nop\nx1: nop\n' 2 'name defined twice'
+refuses 'a value out of range' ' lda #$100\n' 1 'value out of range'
+refuses 'a branch out of range' ' bne far\n.segment "S"\nfar := $2000\n' 1 'value out of range'
+runs 'past the end of the address space' 1 '' 'as65: three.s:6: past the end of the address space\n' -S 0xFFFE -o out.bin three.s
+runs 'more than 64 KiB' 1 '' 'as65: large.s:65536: past the end of the address space\n' -S 1 large.s
+
+# ---- a comparison
+
+runs 'nothing differs' 0 '' '' -S 0x1000 --compare three.bin three.s
+runs 'an image that ends at $FFFF' 0 '' '' --compare three.bin three.s
+printf 'here: jmp here\n' >here.s
+printf '\x4c\xfd\xff' >here.bin
+runs 'the start is that of the image' 0 '' '' --compare here.bin here.s
+runs 'another start' 1 '$1001: FD FF -> 00 10, line 1: here: jmp here\n' '' -S 0x1000 --compare here.bin here.s
+printf '\xa9\x02\x60' >other.bin
+runs 'one byte differs' 1 '$FFFE: 02 -> 01, line 5: lda     #$01\n' '' --compare other.bin three.s
+runs 'one byte differs, at a start' 1 '$1001: 02 -> 01, line 5: lda     #$01\n' '' -S 4096 --compare other.bin three.s
+printf 'first: nop ; one\n\n nop\n.byte 1,2,3,4,5,6,7,8,9,10\n nop\n' >stretches.s
+printf '\x00\xea\x00\x00\x00\x00\x00\x00\x00\x00\x00\x0a\x00' >stretches.bin
+runs 'stretches' 1 "\$2000: 00 -> EA, line 1: first: nop ; one\n\
+\$2002: 00 00 00 00 00 00 00 00 .. -> 01 02 03 04 05 06 07 08 .., line 4: .byte 1,2,3,4,5,6,7,8,9,10\n\
+\$200C: 00 -> EA, line 5: nop\n" '' -S 0x2000 --compare stretches.bin stretches.s
+printf '\xea\xea\x01\x02\x03\x04\x05\x06\x07\x08\x09\x00\xea' >stretches.bin
+runs 'a stretch of one byte in a line of ten' 1 '$200B: 00 -> 0A, line 4: .byte 1,2,3,4,5,6,7,8,9,10\n' '' -S 0x2000 --compare stretches.bin stretches.s
+printf '\xea\xea\x01\x00\x03\x00\x05\x06\x07\x08\x09\x0a\xea' >stretches.bin
+runs 'two stretches in one line' 1 "\$2003: 00 -> 02, line 4: .byte 1,2,3,4,5,6,7,8,9,10\n\
+\$2005: 00 -> 04, line 4: .byte 1,2,3,4,5,6,7,8,9,10\n" '' -S 0x2000 --compare stretches.bin stretches.s
+printf '\xa9\x01' >short.bin
+runs 'a listing with more bytes' 1 'the image has 2 bytes, the listing 3\n' '' -S 0 --compare short.bin three.s
+printf '\xa9\x02\x60\xea' >long.bin
+runs 'a listing with fewer bytes' 1 '$0001: 02 -> 01, line 5: lda     #$01\nthe image has 4 bytes, the listing 3\n' '' -S 0 --compare long.bin three.s
+runs 'a listing without bytes' 1 'the image has 3 bytes, the listing 0\n' '' -S 0 --compare three.bin empty
+runs '64 KiB that do not differ' 0 '' '' --compare large.bin large.s
+head -c 65536 /dev/zero >zeros.bin
+runs '64 KiB that differ' 1 '$0000: 00 00 00 00 00 00 00 00 .. -> EA EA EA EA EA EA EA EA .., line 1: nop\n' '' --compare zeros.bin large.s
+"$program" --compare other.bin <three.s >stdout 2>stderr
+ends 'a comparison with standard input' 1 $? ''
+holds 'a comparison with standard input' stdout '$FFFE: 02 -> 01, line 5: lda     #$01\n'
+"$program" --compare /dev/stdin three.s <other.bin >stdout 2>stderr
+ends 'an image on standard input' 1 $? ''
+holds 'an image on standard input' stdout '$FFFE: 02 -> 01, line 5: lda     #$01\n'
+runs 'a fault before a comparison' 1 '' "as65: three.s:6: past the end of the address space\n" -S 0xFFFE --compare short.bin three.s
+
+# ---- the words
+
+runs 'neither a start nor an image' 1 '' "$no_start" three.s
+runs 'no word' 1 '' "$no_start"
+runs 'neither a start nor an image, and no listing' 1 '' "$no_start" -o new.bin no.s
+is_absent 'neither a start nor an image' new.bin
+runs 'an output beside an image' 1 '' 'as65: bad arguments\n' -S 0 -o new.bin --compare three.bin three.s
+is_absent 'an output beside an image' new.bin
+runs 'two listings' 1 '' 'as65: bad arguments\n' -S 0 three.s three.s
+runs 'an option given twice' 1 '' 'as65: bad arguments\n' -S 0 -S 0 three.s
+runs 'an option without its value' 1 '' 'as65: bad arguments\n' three.s -S
+runs 'an option that is not known' 1 '' 'as65: bad arguments\n' -S 0 --cpu 6502 three.s
+runs 'an argument that is no text' 1 '' 'as65: bad arguments\n' "$(printf 'a\xff')"
+runs 'a bad number' 1 '' 'as65: bad number\n' -S 1000h three.s
+runs 'an argument out of range' 1 '' 'as65: argument out of range\n' -S 65536 three.s
+
+# ---- files that can't be used
+
+echo old >out.bin
+runs 'a missing listing' 1 '' 'as65: cannot read no.s\n' -S 0 -o out.bin no.s
+runs 'a listing that is a folder' 1 '' 'as65: cannot read folder\n' -S 0 -o out.bin folder
+runs 'a listing above its limit' 1 '' 'as65: input is too large\n' -S 0 -o out.bin too_large.s
+runs 'an empty name' 1 '' 'as65: cannot read \n' -S 0 -o out.bin ''
+holds 'a listing that can not be used leaves the output' out.bin 'old\n'
+runs 'a missing image' 1 '' 'as65: cannot read no.bin\n' --compare no.bin three.s
+runs 'an image that is a folder' 1 '' 'as65: cannot read folder\n' --compare folder three.s
+runs 'an empty image' 1 '' 'as65: the image is empty\n' --compare empty three.s
+runs 'an image above its limit' 1 '' 'as65: the image is too large\n' --compare lines.s three.s
+runs 'an image that extends past $FFFF' 1 '' 'as65: the image is too large\n' -S 0xFFFE --compare three.bin three.s
+runs 'an output that can not be created' 1 '' 'as65: cannot create folder/no/out.bin\n' -S 0 -o folder/no/out.bin three.s
+runs 'an output that is a folder' 1 '' 'as65: cannot create folder\n' -S 0 -o folder three.s
+# More bytes than there may be, without an end.
+(ulimit -v 1000000; timeout 60 "$program" -S 0 /dev/zero >stdout 2>stderr)
+ends 'a listing without an end' 1 $? 'as65: input is too large\n'
+runs 'an image without an end' 1 '' 'as65: the image is too large\n' --compare /dev/zero three.s
+
+as() {
+    "${as_other[@]}" ./copied "$@"
+}
+cp three.s secret.s
+cp three.bin secret.bin
+chmod 0 secret.s secret.bin
+as -S 0 secret.s >stdout 2>stderr
+ends 'a listing that may not be read' 1 $? 'as65: cannot read secret.s\n'
+as --compare secret.bin three.s >stdout 2>stderr
+ends 'an image that may not be read' 1 $? 'as65: cannot read secret.bin\n'
+as -S 0 -o secret.bin three.s >stdout 2>stderr
+ends 'an output that may not be written' 1 $? 'as65: cannot create secret.bin\n'
+cat three.s | as -S 0 /dev/stdin >stdout 2>stderr
+ends "another user's pipe" 0 $? ''
+holds "another user's pipe" stdout "$bytes"
+
+# ---- streams that are closed or full
+
+"$program" -S 0 -o out.bin three.s <&- >&- 2>&-
+[ $? = 0 ] || fails 'no standard stream' 'status'
+holds 'no standard stream' out.bin "$bytes"
+echo old >out.bin
+"$program" -S 0 -o out.bin no.s <&- >&- 2>&-
+[ $? = 1 ] || fails 'a message without standard error' 'status'
+holds 'a message without standard error' out.bin 'old\n'
+"$program" -S 0 -o new.bin /dev/stdin <&- 2>stderr
+ends 'a closed standard input has no bytes' 0 $? ''
+holds 'a closed standard input has no bytes' new.bin ''
+"$program" -S 0 three.s >&- 2>stderr
+ends 'a closed standard output' 1 $? 'as65: cannot write the output\n'
+if [ -e /dev/full ]; then
+    "$program" -S 0 three.s >/dev/full 2>stderr
+    ends 'a full output' 1 $? 'as65: cannot write the output\n'
+    "$program" -S 0 -o /dev/full three.s 2>stderr
+    ends 'a full output file' 1 $? 'as65: cannot write the output\n'
+    "$program" --compare other.bin three.s >/dev/full 2>stderr
+    ends 'differences on a full output' 1 $? 'as65: cannot write the output\n'
+    "$program" --compare three.bin three.s >/dev/full 2>stderr
+    ends 'no difference, and a full output' 0 $? ''
+    "$program" -h >/dev/full 2>stderr
+    ends 'help on a full output' 1 $? 'as65: cannot write the output\n'
+    "$program" -S 0 no.s 2>/dev/full
+    [ $? = 1 ] || fails 'a full standard error' 'status'
+fi
+# The file may have 32 KiB, which is in the middle of the bytes.
+(trap '' XFSZ; ulimit -f 32; exec "$program" -S 0 -o cut.bin large.s 2>stderr)
+ends 'a file that is full in the middle' 1 $? 'as65: cannot write the output\n'
+is_prefix 'a file that is full in the middle' cut.bin 32768 large.bin
+
+# ---- less and less memory
+
+# Writes all bytes, or runs out and writes none. Below some limit the program is not even started.
+ran_out=0
+for limit in $(seq 16384 -256 256); do
+    (ulimit -v "$limit"; exec "$program" -S 0 large.s >stdout 2>stderr) 2>/dev/null
+    got=$?
+    if [ "$got" = 0 ]; then
+        same "memory of $limit KiB" stdout large.bin
+    elif [ "$got" = 1 ]; then
+        ran_out=1
+        ends "memory of $limit KiB" 1 1 'as65: out of memory\n'
+        holds "memory of $limit KiB" stdout ''
+    else
+        break
+    fi
+done
+[ "$ran_out" = 1 ] || fails 'less and less memory' 'the program never ran out of it'
+
+# ---- from an image to its listing and back
+
+loops=0
+
+# returns NAME START IMAGE WORD..: da65 lists the image on the words, and as65 gives the image again.
+returns() {
+    local name=$1 start=$2 image=$3
+    shift 3
+    (cd "$root" && "$da65" "$@") >listing.s 2>messages || fails "$name" "$(cat messages)"
+    runs "$name" 0 '' '' -S "$start" --compare "$image" listing.s
+    runs "$name" 0 '' '' -S "$start" -o back.bin listing.s
+    same "$name" back.bin "$image"
+    loops=$((loops + 1))
+}
+
+# attribute NAME FILE: the first value that the information file gives the attribute, as a number or a name.
+attribute() {
+    sed -nE "s/^(.*[^A-Z])?$1[[:space:]]+\"?([^\";]*)\"?;.*/\2/p" "$2" | head -n 1 | sed 's/^\$/0x/'
+}
+
+for example in "$root"/examples/*.info "$root"/examples/board/*.info; do
+    input=$root/$(attribute INPUTNAME "$example")
+    offset=$(($(attribute INPUTOFFS "$example")))
+    size=$(attribute INPUTSIZE "$example")
+    tail -c +$((offset + 1)) "$input" | head -c $((${size:-65536})) >example.bin
+    start=$(attribute STARTADDR "$example")
+    returns "$(basename "$example")" $((${start:-65536 - $(stat -c %s example.bin)})) example.bin -i "$example"
+done
+for example in "$root"/examples/*.bin "$root"/examples/board/*.bin; do
+    for cpu in "${cpus[@]}"; do
+        returns "$(basename "$example") for the $cpu" $((65536 - $(stat -c %s "$example"))) "$example" --cpu "$cpu" "$example"
+    done
+done
+seed 1
+for size in 1 300 5000; do
+    for cpu in "${cpus[@]}"; do
+        bytes=
+        draw_bytes "$size"
+        printf '%b' "$bytes" >image.bin
+        draw $((65537 - size))
+        returns "$size random bytes for the $cpu" "$number" "$work/image.bin" -S "$number" --cpu "$cpu" "$work/image.bin"
+    done
+done
+
+[ "$failed" = 0 ] && echo "as65: every test passed; $loops images went to their listing and back"
+exit "$failed"

@@ -1,0 +1,61 @@
+# What tests of a program on real files have in common, for scripts to source that have set `program`: a folder of its own, in which
+# the script goes on and from which it is taken away at the end, and the rows of its table. `failed` is 1 once a row failed.
+
+work=$(mktemp -d)
+trap 'rm -rf "$work"' EXIT
+cd "$work" || exit 1
+failed=0
+
+# runs NAME STATUS STDOUT STDERR WORD..: the program on the words gives this status and these two texts.
+runs() {
+    local name=$1 status=$2 out=$3 err=$4 got
+    shift 4
+    "$program" "$@" >stdout 2>stderr </dev/null
+    got=$?
+    [ "$got" = "$status" ] || fails "$name" "status $got and not $status"
+    printf '%b' "$out" | cmp -s - stdout || fails "$name" "standard output: $(cat stdout)"
+    printf '%b' "$err" | cmp -s - stderr || fails "$name" "standard error: $(cat stderr)"
+}
+
+# ends NAME STATUS GOT STDERR: the program ended with this status and this text on standard error, in the file stderr.
+ends() {
+    [ "$3" = "$2" ] || fails "$1" "status $3 and not $2"
+    printf '%b' "$4" | cmp -s - stderr || fails "$1" "standard error: $(cat stderr)"
+}
+
+# holds NAME FILE TEXT: the file has exactly this text.
+holds() {
+    printf '%b' "$3" >wanted_text
+    same "$1" "$2" wanted_text
+}
+
+# same NAME FILE WANTED: two files have the same text. Else it shows the first lines that differ: wanted after `<`, found after `>`.
+same() {
+    cmp -s "$3" - <"$2" || fails "$1" "$2 has another text: $(diff -a "$3" - <"$2" | head -n 5 | cat -v)"
+}
+
+# is_prefix NAME FILE SIZE WHOLE: the file has exactly this many bytes, and is a prefix of another.
+is_prefix() {
+    [ "$(wc -c <"$2")" = "$3" ] || fails "$1" "$2 has $(wc -c <"$2") bytes and not $3"
+    head -c "$3" "$4" | cmp -s - "$2" || fails "$1" "$2 is no prefix of $4"
+}
+
+# is_absent NAME FILE
+is_absent() {
+    [ ! -e "$2" ] || fails "$1" "there is a file $2"
+}
+
+fails() {
+    echo "$(basename "$0" .sh): $1: $2"
+    failed=1
+}
+
+# The program as a user that may not open what is this one's: another one for root, who may open everything.
+as_other=()
+if [ "$(id -u)" = 0 ]; then
+    command -v setpriv >/dev/null || { echo "$(basename "$0" .sh): root needs setpriv, of util-linux"; exit 1; }
+    as_other=(setpriv --reuid 65534 --regid 65534 --clear-groups)
+fi
+chmod 755 .
+cp "$program" ./copied
+chmod 755 copied
