@@ -23,8 +23,8 @@ mod target;
 pub use devices::{DeviceFault, Sink, Source, TakeFault, Told, take_up_to, write_whole};
 pub use image::{Image, ImageFault};
 pub use laws::{
-    base_law, cell_law, entry_start_law, item_law, name_law, piece_law, place_law, role_law, run_law,
-    reference_law,
+    base_law, cell_law, entry_start_law, item_law, name_law, piece_law, place_law, reference_law,
+    role_law, run_law,
 };
 pub use map::Map;
 pub use name::{NameBuf, NameKind, Place};
