@@ -14,7 +14,7 @@ use Rattle.stmt65.specs.Printable.{IsPrintable, TakesLabel}
 use Rattle.stmt65.specs.Printed.{PrintsAs, source_line, with_label}
 use Rattle.stmt65.specs.Lexing.{parts}
 use Rattle.stmt65.specs.Reading.{reading_of}
-use Rattle.stmt65.specs.Lines.{onto_first, text_lines}
+use Rattle.text65.specs.Lines.{onto_first, text_lines}
 use Rattle.stmt65.specs.Meaning.{meaning, meaning_of, readings}
 use Rattle.map65.specs.ImageView.{AreBytes, IsPlaced, bytes_from}
 use Rattle.map65.specs.MapView.{MapView, opcodes}

@@ -6,9 +6,10 @@ use Rattle.std.proofs.lemmas.Bool.{eq-eqb, eqb-true, ltb-false, ne_eqb}
 use Rattle.std.proofs.lemmas.Bool.Decides.{nat_tests}
 use Rattle.std.proofs.lemmas.List.{append-nil}
 use Rattle.std.proofs.lemmas.List.Folds.{Any-from_list_any, list_any-from_Any}
+use Rattle.text65.specs.Lines.{text_lines}
 use Rattle.info65.specs.Faults.{fault}
 use Rattle.info65.specs.IncludeLaws.{AreAdded, IncludedNames, IsIncluded, IsPassedOver, IsRefused, IsSpelling, LineAdds}
-use Rattle.info65.specs.Includes.{assignment_in, is_blank, judged, line_adds, line_in, lines_of, name_adds, names_included, names_with, optional_adds, or_bad, without_comment}
+use Rattle.info65.specs.Includes.{assignment_in, is_blank, judged, line_adds, line_in, name_adds, names_included, names_with, optional_adds, or_bad, without_comment}
 use Rattle.info65.specs.Labels.{by_address, is_at, is_elsewhere}
 use Rattle.info65.specs.Names.{is_reserved}
 use Rattle.info65.specs.Views.{IncludeView, NameView}
@@ -279,9 +280,9 @@ unfolding names_included
 is_accepted i names bytes all h =
     by_test (nat_lt 1_048_576 (length bytes))
     (λ large. let e : ◌≡◌ {A = Result (List NameView) InfoFault} (Err (fault 1 TooLarge)) (Ok all) = rw large at h in absurd cc)
-    (λ small. by_result (names_with i 1 names (lines_of bytes))
+    (λ small. by_result (names_with i 1 names (text_lines bytes))
     (λ more e.
-    let w = with_added i 1 names (lines_of bytes) more e in
+    let w = with_added i 1 names (text_lines bytes) more e in
     let same : ◌≡◌ {A = Result (List NameView) InfoFault} (Ok (by_address more)) (Ok all) = rw (small, e) at h in
     record { small = ltb-false 1_048_576 (length bytes) small; added = w.added; are = w.are; is = sym (same_ok same) ∙ ap by_address w.is })
     (λ f e. let wrong : ◌≡◌ {A = Result (List NameView) InfoFault} (Err f) (Ok all) = rw (small, e) at h in absurd cc))
@@ -291,18 +292,18 @@ unfolding names_included
 accepted_is i names bytes all s =
     let low = s.small in
     let small : nat_lt 1_048_576 (length bytes) ≡ false = grind (arith, nat_tests, low) in
-    rw (small, added_with i 1 names (lines_of bytes) s.added s.are) (ap (λ (x : List NameView). Ok x) (sym s.is))
+    rw (small, added_with i 1 names (text_lines bytes) s.added s.are) (ap (λ (x : List NameView). Ok x) (sym s.is))
 
 is_refused : (i : IncludeView) (names : List NameView) (bytes : List ℕ) (e : InfoFault) → names_included i names bytes ≡ Err e → IsRefused i names bytes e
 unfolding names_included
 is_refused i names bytes e h =
     by_test (nat_lt 1_048_576 (length bytes))
     (λ large. let f : ◌≡◌ {A = Result (List NameView) InfoFault} (Err (fault 1 TooLarge)) (Err e) = rw large at h in inl (grind (arith, nat_tests, large), cc))
-    (λ small. by_result (names_with i 1 names (lines_of bytes))
+    (λ small. by_result (names_with i 1 names (text_lines bytes))
     (λ more g. let wrong : ◌≡◌ {A = Result (List NameView) InfoFault} (Ok (by_address more)) (Err e) = rw (small, g) at h in absurd cc)
     (λ f g.
     let same : ◌≡◌ {A = Result (List NameView) InfoFault} (Err f) (Err e) = rw (small, g) at h in
-    let w = first i 1 names (lines_of bytes) e (g ∙ same) in
+    let w = first i 1 names (text_lines bytes) e (g ∙ same) in
     let number : 1 + length w.front ≡ length w.front + 1 = omega arith in
     inr (
       ltb-false 1_048_576 (length bytes) small,
@@ -331,7 +332,7 @@ refused_is i names bytes e (inr h) =
     let s = h.1 in
     let small : nat_lt 1_048_576 (length bytes) ≡ false = grind (arith, nat_tests, low) in
     let number : 1 + length s.front ≡ length s.front + 1 = omega arith in
-    let lines : names_with i 1 names (lines_of bytes) ≡ Err e =
+    let lines : names_with i 1 names (text_lines bytes) ≡ Err e =
     ap (names_with i 1 names) s.parts ∙ first_with i 1 names s.front s.line s.rest s.added s.kind s.are s.heeded s.has ∙ ap (λ (m : ℕ). Err (fault m s.kind)) number ∙ ap (λ (x : InfoFault). Err x) (sym s.is) in
     rw (small, lines) refl
 

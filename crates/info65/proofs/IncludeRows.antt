@@ -2,8 +2,9 @@
 use Rattle.std.proofs.Common.{◌≡◌, ℕ, Bool, List, [], ◌∷◌, ◌++◌, true, false, refl}
 use Rattle.std.specs.Prelude.{Result, Ok, Err, codes, map}
 use Rattle.isa65.specs.Mnemonic.{mnemonic_named}
+use Rattle.text65.specs.Lines.{text_lines}
 use Rattle.info65.specs.Faults.{fault}
-use Rattle.info65.specs.Includes.{address_written, assignment_in, is_identifier, line_adds, line_in, lines_of, name_adds, names_with, plain_name, trimmed, without_comment}
+use Rattle.info65.specs.Includes.{address_written, assignment_in, is_identifier, line_adds, line_in, name_adds, names_with, plain_name, trimmed, without_comment}
 use Rattle.info65.specs.Lexemes.{number_in}
 use Rattle.info65.specs.Names.{default_name, is_like_default, is_reserved}
 use Rattle.info65.specs.Views.{NameView}
@@ -18,7 +19,7 @@ record Row : Type 0 where
   gives : Result (List NameView) InfoFault
 
 abbrev gives : Row → Result (List NameView) InfoFault
-gives r = names_with (record { file = []; comment_start = r.start; ignore_unknown = r.ignore }) 1 (plain_name (codes "go") 3 ∷ []) (lines_of r.text)
+gives r = names_with (record { file = []; comment_start = r.start; ignore_unknown = r.ignore }) 1 (plain_name (codes "go") 3 ∷ []) (text_lines r.text)
 
 -- with `;` (59) for comments
 abbrev row : Bool → List ℕ → Result (List NameView) InfoFault → Row
@@ -72,5 +73,5 @@ rows =
     ∷ []
 
 rows_hold : map gives rows ≡ map (λ r. r.gives) rows
-unfolding names_with lines_of line_adds line_in without_comment assignment_in is_identifier trimmed address_written number_in name_adds is_reserved mnemonic_named is_like_default default_name
+unfolding names_with text_lines line_adds line_in without_comment assignment_in is_identifier trimmed address_written number_in name_adds is_reserved mnemonic_named is_like_default default_name
 rows_hold = refl

@@ -8,13 +8,14 @@ use Rattle.std.proofs.lemmas.List.{append-nil, get_or-take, get_or_default, leng
 use Rattle.std.proofs.lemmas.List.Folds.{list_any_none}
 use Rattle.std.proofs.lemmas.Slice.Eq.{bytes_eq-Decides}
 use Rattle.std.proofs.lemmas.Bool.{and_parts}
+use Rattle.text65.specs.Lines.{text_lines}
 use Rattle.info65.specs.Code.Includes.{Adds, SeesName, name_result_seen}
 use Rattle.info65.specs.Code.Index.{Indexes}
 use Rattle.info65.specs.Code.Names.{given_seen}
 use Rattle.info65.specs.Code.Steps.{Sees}
 use Rattle.info65.specs.Faults.{◌>>=◌, fault, out_of_memory}
 use Rattle.info65.specs.Code.Results.{Fails}
-use Rattle.info65.specs.Includes.{address_written, after_sign, as_address, assignment_in, before_sign, blank_include, included, is_blank, is_identifier, judged, line_adds, line_in, lines_of, name_adds, names_included, names_with, optional_adds, or_bad, plain_name, trimmed, with_names, without_comment}
+use Rattle.info65.specs.Includes.{address_written, after_sign, as_address, assignment_in, before_sign, blank_include, included, is_blank, is_identifier, judged, line_adds, line_in, name_adds, names_included, names_with, optional_adds, or_bad, plain_name, trimmed, with_names, without_comment}
 use Rattle.info65.specs.Labels.{by_address, is_at, is_elsewhere, name_fault}
 use Rattle.info65.specs.Lexemes.{number_in, starts_word}
 use Rattle.info65.specs.Names.{AreNames, IsName, blank_name, has_name_form, is_name_byte, is_reserved, name_at}
@@ -232,26 +233,26 @@ fresh names i are low =
 pub record IsUpTo {Z : Type 0} (i : IncludeView) (names : List NameView) (bytes rest : List ℕ) (number : ℕ) (index : Index Z) : Type 0 where
   pub all : List NameView
   pub indexed : Indexes [] all index
-  pub same : names_with i 1 names (lines_of bytes) ≡ names_with i number all (lines_of rest)
+  pub same : names_with i 1 names (text_lines bytes) ≡ names_with i number all (text_lines rest)
   pub shorter : number + length rest ≤ length bytes + 1
 
-pub next_line : (i : IncludeView) (number : ℕ) (all : List NameView) (rest l : List ℕ) (ls : List (List ℕ)) (added : Option NameView) → lines_of rest ≡ l ∷ ls → line_adds i number all l ≡ Ok added → names_with i number all (lines_of rest) ≡ names_with i (number + 1) (all ++ option_to_list added) ls
+pub next_line : (i : IncludeView) (number : ℕ) (all : List NameView) (rest l : List ℕ) (ls : List (List ℕ)) (added : Option NameView) → text_lines rest ≡ l ∷ ls → line_adds i number all l ≡ Ok added → names_with i number all (text_lines rest) ≡ names_with i (number + 1) (all ++ option_to_list added) ls
 unfolding names_with
 next_line i number all rest l ls added is adds = rw (is, adds) refl
 
-pub bad_line : (i : IncludeView) (number : ℕ) (all : List NameView) (rest l : List ℕ) (ls : List (List ℕ)) (e : InfoFault) → lines_of rest ≡ l ∷ ls → line_adds i number all l ≡ Err e → names_with i number all (lines_of rest) ≡ Err e
+pub bad_line : (i : IncludeView) (number : ℕ) (all : List NameView) (rest l : List ℕ) (ls : List (List ℕ)) (e : InfoFault) → text_lines rest ≡ l ∷ ls → line_adds i number all l ≡ Err e → names_with i number all (text_lines rest) ≡ Err e
 unfolding names_with
 bad_line i number all rest l ls e is adds = rw (is, adds) refl
 
-pub last_line : (i : IncludeView) (number : ℕ) (all : List NameView) (rest : List ℕ) → lines_of rest ≡ [] → names_with i number all (lines_of rest) ≡ Ok all
+pub last_line : (i : IncludeView) (number : ℕ) (all : List NameView) (rest : List ℕ) → text_lines rest ≡ [] → names_with i number all (text_lines rest) ≡ Ok all
 unfolding names_with
 last_line i number all rest is = rw is refl
 
-pub refused : (i : IncludeView) (names : List NameView) (bytes : List ℕ) (e : InfoFault) → nat_lt 1_048_576 (length bytes) ≡ false → names_with i 1 names (lines_of bytes) ≡ Err e → names_included i names bytes ≡ Err e
+pub refused : (i : IncludeView) (names : List NameView) (bytes : List ℕ) (e : InfoFault) → nat_lt 1_048_576 (length bytes) ≡ false → names_with i 1 names (text_lines bytes) ≡ Err e → names_included i names bytes ≡ Err e
 unfolding names_included
 refused i names bytes e small is = rw (small, is) refl
 
-pub accepted : (i : IncludeView) (names all : List NameView) (bytes : List ℕ) → nat_lt 1_048_576 (length bytes) ≡ false → names_with i 1 names (lines_of bytes) ≡ Ok all → names_included i names bytes ≡ Ok (by_address all)
+pub accepted : (i : IncludeView) (names all : List NameView) (bytes : List ℕ) → nat_lt 1_048_576 (length bytes) ≡ false → names_with i 1 names (text_lines bytes) ≡ Ok all → names_included i names bytes ≡ Ok (by_address all)
 unfolding names_included
 accepted i names all bytes small is = rw (small, is) refl
 
@@ -260,9 +261,9 @@ accepted i names all bytes small is = rw (small, is) refl
 given_names : (names : List NameView) → AreNames names → AreGiven names
 given_names names are = record { each = are.each; texts = are.distinct; addresses = λ i j d lt low same. omega (arith, are.rising i j d lt low, same) }
 
-sorted_given : (r : Result (List NameView) InfoFault) (i : IncludeView) (names : List NameView) (bytes : List ℕ) (all : List NameView) → AreNames names → names_with i 1 names (lines_of bytes) ≡ r → (r >>= λ all. Ok (by_address all)) ≡ Ok all → AreNames all
+sorted_given : (r : Result (List NameView) InfoFault) (i : IncludeView) (names : List NameView) (bytes : List ℕ) (all : List NameView) → AreNames names → names_with i 1 names (text_lines bytes) ≡ r → (r >>= λ all. Ok (by_address all)) ≡ Ok all → AreNames all
 sorted_given (Err e) i names bytes all are is h = absurd cc
-sorted_given (Ok more) i names bytes all are is h = let s : by_address more ≡ all = cc in subst AreNames s (sorted_names more (all_given i 1 names (lines_of bytes) more (given_names names are) is))
+sorted_given (Ok more) i names bytes all are is h = let s : by_address more ≡ all = cc in subst AreNames s (sorted_names more (all_given i 1 names (text_lines bytes) more (given_names names are) is))
 
 -- with the names of an include file they are still the names of a file
 pub names_sound : (i : IncludeView) (names : List NameView) (bytes : List ℕ) (all : List NameView) → AreNames names → names_included i names bytes ≡ Ok all → AreNames all
@@ -270,7 +271,7 @@ unfolding names_included
 names_sound i names bytes all are h =
     by_test (nat_lt 1_048_576 (length bytes))
     (λ large. let e : ◌≡◌ {A = Result (List NameView) InfoFault} (Err (fault 1 TooLarge)) (Ok all) = rw large at h in absurd cc)
-    (λ small. sorted_given (names_with i 1 names (lines_of bytes)) i names bytes all are refl (rw small at h))
+    (λ small. sorted_given (names_with i 1 names (text_lines bytes)) i names bytes all are refl (rw small at h))
 
 pub info_sound : (i : InfoView) (names : List NameView) → IsSound i → AreNames names → IsSound (with_names i names)
 info_sound i names s are = record { limits = s.limits; ranges = s.ranges; segments = s.segments; names = are; includes = s.includes }

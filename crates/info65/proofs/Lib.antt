@@ -5,7 +5,6 @@ mod FormLemmas
 mod GroupLemmas
 mod IncludeFileLemmas
 mod IncludeLemmas
-mod IncludeLines
 mod IncludeRows
 mod IncludedLemmas
 mod IndexLemmas

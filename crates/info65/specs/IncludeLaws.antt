@@ -2,11 +2,12 @@
 use Rattle.std.specs.Prelude.{◌≡◌, ◌≢◌, ◌⊎◌, ◌↔◌, ◌++◌, ◌==◌, ◌+◌, ◌<◌, ◌≤◌, ℕ, not, true, false, List, [], ◌∷◌, Option, Some, None, Result, Ok, Err, All, Any, codes, length}
 use Rattle.std.specs.List.{list_all}
 use Rattle.std.specs.Str.Parse.{digits_value}
+use Rattle.text65.specs.Lines.{text_lines}
 use Rattle.info65.specs.Faults.{fault}
 use Rattle.info65.specs.Grammar.{IsInformation}
 use Rattle.info65.specs.Groups.{AssignmentView, GroupView, value_in}
 use Rattle.info65.specs.IncludeGroups.{AreIncludes}
-use Rattle.info65.specs.Includes.{is_blank, is_identifier, line_in, lines_of, names_included, plain_name}
+use Rattle.info65.specs.Includes.{is_blank, is_identifier, line_in, names_included, plain_name}
 use Rattle.info65.specs.Labels.{by_address}
 use Rattle.info65.specs.Lexemes.{are_digits}
 use Rattle.info65.specs.NameFaultLaws.{IsFree, IsReserved}
@@ -136,7 +137,7 @@ AreAdded i names (l ∷ ls) (n ∷ ns) = (IsPassedOver i names l × AreAdded i n
 pub record IsIncluded (i : IncludeView) (names : List NameView) (bytes : List ℕ) (all : List NameView) : Type 0 where
   pub small : length bytes ≤ 1_048_576
   pub added : List NameView
-  pub are : AreAdded i names (lines_of bytes) added
+  pub are : AreAdded i names (text_lines bytes) added
   pub is : all ≡ by_address (names ++ added)
 
 -- the fault of the first line that has one, at the number of that line
@@ -154,7 +155,7 @@ pub record IsFirstFault (i : IncludeView) (names : List NameView) (lines : List 
 
 -- it is too large, whatever it holds, or a line of it has a fault
 abbrev pub IsRefused : IncludeView → List NameView → List ℕ → InfoFault → Type 0
-IsRefused i names bytes e = ((1_048_576 < length bytes) × (e ≡ fault 1 TooLarge)) ⊎ ((length bytes ≤ 1_048_576) × IsFirstFault i names (lines_of bytes) e)
+IsRefused i names bytes e = ((1_048_576 < length bytes) × (e ≡ fault 1 TooLarge)) ⊎ ((length bytes ≤ 1_048_576) × IsFirstFault i names (text_lines bytes) e)
 
 -- An include file adds exactly the names of its lines, in their order, or is refused for exactly the first line that has a fault.
 pub record IsFileLaw (i : IncludeView) (names : List NameView) (bytes : List ℕ) : Type 0 where

@@ -1,7 +1,8 @@
 -- Include files: what a line of one says, and the names that a file of such lines adds.
 use Rattle.std.specs.Prelude.{◌+◌, ◌++◌, ◌==◌, ◌-◌, ◌&&◌, ◌||◌, ℕ, Bool, true, false, List, [], ◌∷◌, Option, Some, None, Result, Ok, Err, drop, get_or, length, nat_le, nat_lt, option_map, option_to_list, take, if◌then◌else◌}
 use Rattle.std.specs.Io.BufRead.{strip_last}
-use Rattle.std.specs.List.{after_first, before_first, list_all, list_any, prefix_len, slice_split, suffix_len}
+use Rattle.std.specs.List.{after_first, before_first, list_all, list_any, prefix_len, suffix_len}
+use Rattle.text65.specs.Lines.{text_lines}
 use Rattle.info65.specs.Faults.{fault, ◌>>=◌}
 use Rattle.info65.specs.Labels.{by_address, is_at, is_elsewhere, named}
 use Rattle.info65.specs.Lexemes.{number_in, starts_word}
@@ -12,16 +13,6 @@ use Rattle.info65.specs.declared.fault.InfoFaultKind.{InfoFaultKind}
 use Rattle.info65.specs.declared.fault.InfoFaultKind.TheVariants.{BadInclude, BadName, NameTwice, ReservedName, TooLarge}
 
 -- ---- a line
-
--- the parts of a text without the last one, if that is empty
-abbrev pub without_empty_last : List (List ℕ) → List (List ℕ)
-without_empty_last [] = []
-without_empty_last ([] ∷ []) = []
-without_empty_last (l ∷ ls) = l ∷ without_empty_last ls
-
--- what stands between line feeds (10); what comes after the last of them is a line only if it has a byte
-unfoldable pub lines_of : List ℕ → List (List ℕ)
-lines_of bytes = without_empty_last (slice_split (λ b. b == 10) bytes)
 
 -- a line without the one carriage return at its end, up to where its comment begins
 unfoldable pub without_comment : ℕ → List ℕ → List ℕ
@@ -118,7 +109,7 @@ names_with i line names (l ∷ ls) = line_adds i line names l >>= λ added. name
 unfoldable pub names_included : IncludeView → List NameView → List ℕ → Result (List NameView) InfoFault
 names_included i names bytes =
     if nat_lt 1_048_576 (length bytes) then Err (fault 1 TooLarge)
-    else names_with i 1 names (lines_of bytes) >>= λ all. Ok (by_address all)
+    else names_with i 1 names (text_lines bytes) >>= λ all. Ok (by_address all)
 
 -- ---- an information with the names of an include file
 

@@ -18,7 +18,6 @@ mod TableReads
 mod RemarkLemmas
 mod ReadBack
 mod OneLine
-mod LineLaws
 mod MeaningRows
 mod SymbolLaws
 mod CodingLemmas

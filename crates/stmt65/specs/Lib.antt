@@ -21,7 +21,6 @@ pub mod Reading
 pub mod Spelling
 pub mod ReadingLaws
 pub mod Printed
-pub mod Lines
 pub mod Symbols
 pub mod Coding
 pub mod TableLaws

@@ -7,7 +7,7 @@ use Rattle.stmt65.specs.declared.assembling.fault.AsmFault.{AsmFault}
 use Rattle.stmt65.specs.declared.assembling.fault.AsmFaultKind.{AsmFaultKind}
 use Rattle.stmt65.specs.declared.assembling.fault.AsmFaultKind.TheVariants.{Syntax, UnknownCpu, NoSuchForm, Undefined, DefinedTwice, OutOfRange, PastEnd}
 use Rattle.stmt65.specs.SourceLine.{Operation, Nothing, SetCpu, SourceLine, Assignment, PlaceAssignment, Statement}
-use Rattle.stmt65.specs.Lines.{text_lines}
+use Rattle.text65.specs.Lines.{text_lines}
 use Rattle.stmt65.specs.Lexing.{parts}
 use Rattle.stmt65.specs.Reading.{reading_of}
 use Rattle.stmt65.specs.Symbols.{Definition, find_name}

@@ -7,7 +7,6 @@ mod emit;
 pub(crate) mod fault;
 mod fragment_bytes;
 mod line_faults;
-pub(crate) mod lines;
 mod pieces;
 mod state;
 mod symbols;

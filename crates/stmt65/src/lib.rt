@@ -28,7 +28,6 @@ mod statement;
 pub use assembling::addresses::line_addresses;
 pub use assembling::assembler::assemble;
 pub use assembling::fault::{AsmFault, AsmFaultKind};
-pub use assembling::lines::first_line;
 pub use directive::Directive;
 pub use laws::meaning_laws::{
     codes_alike, finds_lowest_fault, means_first_fault, means_its_lines, takes_modes,
@@ -43,3 +42,4 @@ pub use reading::numeral::Numeral;
 pub use reading::whole_line::read_line;
 pub use source_line::{AddressSize, Datum, Form, Minus, Operation, SourceLine, Value};
 pub use statement::{Expr, Operands, Statement, Target};
+pub use text65::first_line;

@@ -1,4 +1,4 @@
-//! Tests of what `isa65`, `stmt65`, `info65` and `map65` make public.
+//! Tests of what `isa65`, `text65`, `stmt65`, `info65` and `map65` make public.
 #![tactic(auto)]
 
 #[cfg(test)]

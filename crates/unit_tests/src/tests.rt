@@ -13,6 +13,7 @@ mod inputs;
 mod items;
 mod levels;
 mod lexing;
+mod lines;
 mod maps;
 mod opcodes;
 mod printed;

@@ -1,32 +1,16 @@
-//! The lines of an include file.
+//! What a line of an include file says.
 
 ghost use Rattle.std.specs.Prelude.{◌≡◌, ◌<◌, ◌≤◌, ◌∷◌, ◌==◌, [], MatchOption, drop, length, not, option_map};
 ghost use Rattle.std.specs.Io.BufRead.{strip_last};
 ghost use Rattle.std.specs.List.{list_all, position_or_len, prefix_len, suffix_len};
 ghost use Rattle.info65.specs.Code.Includes.{SeesName};
 ghost use Rattle.info65.specs.Code.Names.{given_seen};
-ghost use Rattle.info65.specs.Includes.{address_written, as_address, assignment_in, is_blank, is_identifier, line_in, lines_of, trimmed, trimmed_end, without_comment};
+ghost use Rattle.info65.specs.Includes.{address_written, as_address, assignment_in, is_blank, is_identifier, line_in, trimmed, trimmed_end, without_comment};
 
 use crate::fault::InfoFaultKind;
 use crate::information::name::Given;
 use crate::syntax::lexeme::number_in;
 use crate::syntax::names::are_name_bytes;
-
-/// The first line without its line feed, and the text after it. A last line may lack the line feed.
-#[tactic(auto, using(crate::proofs::IncludeLines::first_lines))]
-pub fn first_line(text: &[u8]) -> Option<(&[u8], &[u8])>
-    ensures { MatchOption result (lines_of text.now ≡ [])
-        (λ found. (lines_of text.now ≡ found.0.now ∷ lines_of found.1.now) × (length found.1.now < length text.now)) }
-{
-    if text.len() == 0 {
-        return None;
-    }
-    let len = until(text, b'\n');
-    if len < text.len() {
-        return Some((&text[..len], &text[len + 1..]));
-    }
-    Some((text, &[]))
-}
 
 // How many bytes stand before the first of this value.
 fn until(bytes: &[u8], end: u8) -> usize

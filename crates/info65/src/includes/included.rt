@@ -13,11 +13,12 @@ ghost use Rattle.info65.specs.Views.{NameView};
 
 use crate::fault::{InfoFault, InfoFaultKind};
 use crate::includes::include::IncludeSpec;
-use crate::includes::include_lines::{first_line, line_in};
+use crate::includes::include_lines::line_in;
 use crate::information::name::Given;
 use crate::information::pool::Pool;
 use crate::lookup::index::Index;
 use std::alloc::Allocator;
+use text65::first_line;
 
 // The bytes that an include file has at most.
 const MOST_BYTES: usize = 1_048_576;

@@ -6,9 +6,9 @@ ghost use Rattle.stmt65.specs.LineAddresses.{line_addresses};
 ghost use Rattle.stmt65.specs.Code.Held.{held};
 
 use crate::assembling::assembler::pass_line;
-use crate::assembling::lines::first_line;
 use crate::assembling::state::first_state;
 use std::alloc::{AllocError, Allocator};
+use text65::first_line;
 
 /// The address after each line of a text that begins at `start`, in the order of the lines. A line that is none
 /// has no bytes, and 2^64 - 1 stands for every greater address. Of a text that assembles no address is above $10000,

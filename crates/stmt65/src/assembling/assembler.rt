@@ -13,12 +13,12 @@ ghost use Rattle.stmt65.specs.Answer.{Assembles};
 use crate::assembling::emit::put_coded;
 use crate::assembling::fault::{AsmFault, AsmFaultKind};
 use crate::assembling::line_faults::fault_of;
-use crate::assembling::lines::first_line;
 use crate::assembling::state::{Placed, State, advance, first_state, place};
 use crate::assembling::symbols::Symbols;
 use crate::reading::whole_line::read_line;
 use crate::source_line::SourceLine;
 use std::alloc::{AllocError, Allocator};
+use text65::first_line;
 
 /// Goes on below a line, whatever it says.
 #[tactic(auto, unfolding(crate::specs::Code::MeaningViews::held_after))]

@@ -2,8 +2,8 @@ use Rattle.std.proofs.Common.{◌≡◌, ◌∙◌, ◌++◌, List, ap, arith, f
 use Rattle.std.specs.Prelude.{Ok, option_to_list}
 use Rattle.std.proofs.lemmas.Bool.Decides.{nat_tests}
 use Rattle.std.proofs.lemmas.Result.{err_from_is_err_and}
+use Rattle.text65.specs.Lines.{text_lines}
 use Rattle.info65.specs.Code.Results.{Gives}
-use Rattle.info65.specs.Includes.{lines_of}
 use Rattle.info65.specs.Labels.{by_address}
 use Rattle.info65.specs.Views.{NameView}
 use Rattle.info65.proofs.IncludedLemmas.{accepted, bad_line, last_line, next_line, refused}
@@ -19,7 +19,7 @@ returns-in_err-add_line g c =
     let q = c.lines.invariant in
     let small : nat_lt 1_048_576 (length c.args.bytes.now) ≡ false = grind (arith, nat_tests, c.if-bytes-gt-MOST_BYTES.false) in
     rw (p.1, p.2) (⊎_elim
-    (λ h. inl (refused c.args.include.now c.args.names.now c.args.bytes.now _ small (q.same ∙ bad_line c.args.include.now c.lines.number q.all c.lines.rest.now c.in-Some.line.now (lines_of c.in-Some.after.now) _ c.in-Some.ensures.0 h)))
+    (λ h. inl (refused c.args.include.now c.args.names.now c.args.bytes.now _ small (q.same ∙ bad_line c.args.include.now c.lines.number q.all c.lines.rest.now c.in-Some.line.now (text_lines c.in-Some.after.now) _ c.in-Some.ensures.0 h)))
     (λ m. inr m)
     (c.in_err-add_line.ensures q.all q.indexed))
 
@@ -36,7 +36,7 @@ lines-preserved g c =
     record {
       all = p.all ++ option_to_list a.0;
       indexed = a.2;
-      same = p.same ∙ next_line c.args.include.now c.lines.number p.all c.lines.rest.now c.in-Some.line.now (lines_of c.in-Some.after.now) a.0 c.in-Some.ensures.0 a.1;
+      same = p.same ∙ next_line c.args.include.now c.lines.number p.all c.lines.rest.now c.in-Some.line.now (text_lines c.in-Some.after.now) a.0 c.in-Some.ensures.0 a.1;
       shorter = omega (arith, p.shorter, c.in-Some.ensures.1);
     }
 

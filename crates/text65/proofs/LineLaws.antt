@@ -4,7 +4,7 @@ use Rattle.std.specs.Prelude.{not, ◌==◌}
 use Rattle.std.specs.List.{prefix_len}
 use Rattle.std.proofs.lemmas.List.{take_rest, length-drop}
 use Rattle.std.proofs.lemmas.List.Sums.{prefix_len-le-length}
-use Rattle.stmt65.specs.Lines.{text_lines, onto_first}
+use Rattle.text65.specs.Lines.{text_lines, onto_first}
 
 abbrev pub in_line : ℕ → Bool
 in_line b = not (b == 10)

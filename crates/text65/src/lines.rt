@@ -2,7 +2,7 @@
 
 ghost use Rattle.std.specs.Prelude.{◌≡◌, ◌<◌, ◌≤◌, ◌+◌, ◌∷◌, [], length, not, ◌==◌, MatchOption};
 ghost use Rattle.std.specs.List.{prefix_len};
-ghost use Rattle.stmt65.specs.Lines.{text_lines};
+ghost use Rattle.text65.specs.Lines.{text_lines};
 
 /// The first line without its line feed, and the text after it. A last line may lack the line feed.
 #[tactic(auto, using(crate::proofs::LineLaws::first_lines))]
