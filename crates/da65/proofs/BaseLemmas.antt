@@ -3,7 +3,8 @@ use Rattle.std.proofs.Common.{◌≡◌, ◌∙◌, ℕ, ◌-◌, ◌≤◌, ◌
 use Rattle.std.specs.Prelude.{IfSome, if◌then◌else◌}
 use Rattle.std.specs.Option.{option_map}
 use Rattle.std.proofs.lemmas.Bool.{cases_eq, eq-eqb, false≢true, ne_eqb}
-use Rattle.info65.specs.Names.{AreNames, blank_name, covering, default_name, has_name_form, name_at}
+use Rattle.text65.specs.Names.{has_name_form}
+use Rattle.info65.specs.Names.{AreNames, blank_name, covering, default_name, name_at}
 use Rattle.info65.specs.Views.{NameView}
 use Rattle.info65.proofs.Public.{last_name}
 use Rattle.map65.proofs.Public.{base-covered, base-none, base-unreferenced, base-referenced, base_law, entry_start-default, entry_start-given, kind-of, name-short, text-of}

@@ -4,11 +4,10 @@ use Rattle.std.specs.Prelude.{IfSome, ◌==◌, if◌then◌else◌, option_map}
 use Rattle.std.specs.List.{find, list_all}
 use Rattle.std.proofs.lemmas.Bool.{and_from, and_parts, leb-true}
 use Rattle.std.proofs.lemmas.Bool.Decides.{nat_tests}
+use Rattle.text65.specs.Names.{has_name_form}
 use Rattle.info65.specs.Names.{AreNames, IsComment, blank_name, covering, has_comment_form, is_comment_byte}
-use Rattle.info65.specs.Names.{has_name_form as given_form}
 use Rattle.info65.specs.Segments.{AreSegments, IsSegment, contains, segment_covering}
 use Rattle.info65.specs.Views.{InfoView, NameView, SegmentView}
-use Rattle.stmt65.specs.Names.{has_name_form}
 use Rattle.stmt65.specs.Printable.{IsNameLong, IsPrintable}
 use Rattle.stmt65.specs.Views as view
 use Rattle.std.proofs.lemmas.List.Elements.{All-head, All-tail}
@@ -17,7 +16,7 @@ use Rattle.map65.specs.MapView.{MapView}
 use Rattle.map65.specs.Segments as map_segments
 use Rattle.da65.specs.Comments.{comment_at, comment_by}
 use Rattle.da65.specs.Segments.{segment_at}
-use Rattle.da65.proofs.NameTexts.{form-same, text-long}
+use Rattle.da65.proofs.NameTexts.{text-long}
 
 -- ---- comments
 
@@ -64,19 +63,19 @@ some-printable m a (Some text) are e = comment-printable m a text are (sym e)
 -- ---- segments
 
 -- what is found among segments is one of them
-found-segment : (f : SegmentView → Bool) (segments : List SegmentView) (name : List ℕ) → All IsSegment segments → option_map (λ s. s.name) (find f segments) ≡ Some name → given_form name ≡ true
+found-segment : (f : SegmentView → Bool) (segments : List SegmentView) (name : List ℕ) → All IsSegment segments → option_map (λ s. s.name) (find f segments) ≡ Some name → has_name_form name ≡ true
 found-segment f [] name each e = absurd cc
 found-segment f (s ∷ segments) name each e = of (f s) e (found-segment f segments name (All-tail IsSegment s segments each))
   where
     of : (t : Bool) → option_map (λ s. s.name) (if t then Some s else find f segments) ≡ Some name
-        → (option_map (λ s. s.name) (find f segments) ≡ Some name → given_form name ≡ true) → given_form name ≡ true
-    of true e past = let same : s.name ≡ name = cc in subst (λ (n : List ℕ). given_form n ≡ true) same (All-head IsSegment s segments each).form
+        → (option_map (λ s. s.name) (find f segments) ≡ Some name → has_name_form name ≡ true) → has_name_form name ≡ true
+    of true e past = let same : s.name ≡ name = cc in subst (λ (n : List ℕ). has_name_form n ≡ true) same (All-head IsSegment s segments each).form
     of false e past = past e
 
 pub segment-printable : (m : MapView) (a : ℕ) (name : List ℕ) → AreSegments m.info.segments → segment_at m a ≡ Some name → IsNameLong name × (has_name_form name ≡ true)
 unfolding segment_at segment_covering
 segment-printable m a name are e =
-    let form = form-same name (found-segment (λ s. contains s a) m.info.segments name are.each e) in
+    let form = found-segment (λ s. contains s a) m.info.segments name are.each e in
     (text-long name form, form)
 
 pub some-segment : (m : MapView) (a : ℕ) (o : Option (List ℕ)) → AreSegments m.info.segments → o ≡ segment_at m a → IfSome o IsNameLong

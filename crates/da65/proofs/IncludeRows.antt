@@ -3,6 +3,7 @@ use Rattle.std.proofs.Common.{◌≡◌, ℕ, Bool, List, [], ◌∷◌, Some, t
 use Rattle.std.specs.Prelude.{Ok, Err, Result}
 use Rattle.isa65.specs.Mnemonic.{mnemonic_named}
 use Rattle.text65.specs.Lines.{text_lines}
+use Rattle.text65.specs.Names.{is_reserved_word}
 use Rattle.info65.specs.Faults.{fault}
 use Rattle.info65.specs.Includes.{address_written, assignment_in, included, is_identifier, line_adds, line_in, name_adds, names_included, names_with, plain_name, trimmed, without_comment}
 use Rattle.info65.specs.Labels.{by_address}
@@ -33,17 +34,17 @@ Gives files includes (Ok names) = with_all_includes files (info [] includes) ≡
 Gives files includes (Err message) = with_all_includes files (info [] includes) ≡ Err message
 
 system_calls : Gives (system ∷ []) (include (codes "k.inc") true ∷ []) (Ok (by_address (plain_name (codes "CHROUT") 0xFFD2 ∷ [])))
-unfolding with_includes file_named included names_included names_with text_lines line_adds line_in without_comment assignment_in is_identifier trimmed address_written number_in name_adds is_reserved mnemonic_named is_like_default default_name
+unfolding with_includes file_named included names_included names_with text_lines line_adds line_in without_comment assignment_in is_identifier trimmed address_written number_in name_adds is_reserved is_reserved_word mnemonic_named is_like_default default_name
 system_calls = refl
 
 -- the first of two files of a name counts
 first_of_a_name : Gives (file (codes "k") (codes "@") ∷ system ∷ file (codes "k.inc") [] ∷ []) (include (codes "k.inc") true ∷ []) (Ok (by_address (plain_name (codes "CHROUT") 0xFFD2 ∷ [])))
-unfolding with_includes file_named included names_included names_with text_lines line_adds line_in without_comment assignment_in is_identifier trimmed address_written number_in name_adds is_reserved mnemonic_named is_like_default default_name
+unfolding with_includes file_named included names_included names_with text_lines line_adds line_in without_comment assignment_in is_identifier trimmed address_written number_in name_adds is_reserved is_reserved_word mnemonic_named is_like_default default_name
 first_of_a_name = refl
 
 -- the first refusal counts, in the order of the groups
 bad_line : Gives (system ∷ []) (include (codes "k.inc") false ∷ include (codes "j.inc") false ∷ []) (Err (include_message (codes "k.inc") (fault 3 BadInclude)))
-unfolding with_includes file_named included names_included names_with text_lines line_adds line_in without_comment assignment_in is_identifier trimmed address_written number_in name_adds is_reserved mnemonic_named is_like_default default_name
+unfolding with_includes file_named included names_included names_with text_lines line_adds line_in without_comment assignment_in is_identifier trimmed address_written number_in name_adds is_reserved is_reserved_word mnemonic_named is_like_default default_name
 bad_line = refl
 
 not_handed_in : Gives (system ∷ []) (include (codes "j.inc") false ∷ include (codes "k.inc") false ∷ []) (Err (codes "da65: cannot read include j.inc\n"))

@@ -1,19 +1,16 @@
 -- The texts of a map's names are names, and none of them is reserved.
-use Rattle.std.proofs.Common.{◌≡◌, ℕ, ◌/◌, ◌%◌, ◌<◌, ◌≤◌, Bool, true, false, not, List, [], ◌∷◌, length, Option, Some, None, nat_lt, refl, sym, ap, subst, arith}
-use Rattle.std.specs.Prelude.{is_some, ◌||◌, ◌&&◌, ◌==◌}
-use Rattle.std.specs.List.{list_all, list_any}
+use Rattle.std.proofs.Common.{◌≡◌, ℕ, ◌/◌, ◌%◌, ◌<◌, Bool, true, false, not, List, [], ◌∷◌, length, Option, Some, None, nat_lt, refl, sym, ap, subst, arith}
+use Rattle.std.specs.Prelude.{◌||◌, ◌&&◌, ◌==◌}
+use Rattle.std.specs.List.{list_all}
 use Rattle.std.specs.Char.{is_ascii_alphabetic}
 use Rattle.std.proofs.lemmas.Bool.{and_from, and_parts, ltb-true, or_parts}
 use Rattle.std.proofs.lemmas.Bool.Decides.{nat_tests}
-use Rattle.isa65.specs.Mnemonic.{mnemonic_named, text_of}
-use Rattle.isa65.specs.MnemonicLaws.{mnemonic_named-is}
-use Rattle.isa65.specs.declared.mnemonic.Mnemonic.{Mnemonic}
-use Rattle.isa65.specs.declared.mnemonic.Mnemonic.TheVariants.{Adc}
-use Rattle.info65.specs.Names.{AreNames, IsName, blank_name, covering, default_name, hex_digit, name_at}
-use Rattle.info65.specs.Names.{has_name_form as given_form, is_reserved as given_reserved}
+use Rattle.text65.specs.Digits.{hex_digit}
+use Rattle.text65.specs.Names.{has_name_form, is_reserved_word, is_word_byte}
+use Rattle.text65.proofs.Public.{long_word}
+use Rattle.info65.specs.Names.{AreNames, IsName, blank_name, covering, default_name, is_reserved, name_at}
 use Rattle.info65.specs.Views.{NameView}
-use Rattle.stmt65.specs.Lexing.{is_word_byte}
-use Rattle.stmt65.specs.Names.{has_name_form, is_name, is_reserved, letters, same}
+use Rattle.stmt65.specs.Names.{is_name}
 use Rattle.stmt65.specs.Printable.{IsNameLong}
 use Rattle.info65.proofs.Public.{last_name}
 use Rattle.map65.specs.MapView.{MapView}
@@ -33,56 +30,32 @@ text-long (b ∷ w) h =
     let short = ltb-true (length w) 80 both.1 in
     (omega arith, omega (arith, short))
 
-text-of-form : (text : List ℕ) → has_name_form text ≡ true → is_reserved text ≡ false → IsNameText text
+text-of-form : (text : List ℕ) → has_name_form text ≡ true → is_reserved_word text ≡ false → IsNameText text
 unfolding is_name
-text-of-form text form free = record { name = and_from (has_name_form text) (not (is_reserved text)) form (ap not free); long = text-long text form }
+text-of-form text form free = record { name = and_from (has_name_form text) (not (is_reserved_word text)) form (ap not free); long = text-long text form }
 
 -- ---- names that are given
 
-pub form-same : (text : List ℕ) → given_form text ≡ true → has_name_form text ≡ true
-unfolding given_form has_name_form
-form-same [] h = absurd cc
-form-same (b ∷ w) h =
-    let both = and_parts (is_ascii_alphabetic b || b == 95) (list_all is_word_byte w && nat_lt (length w) 80) h in
-    let more = and_parts (list_all is_word_byte w) (nat_lt (length w) 80) both.1 in
-    and_from ((is_ascii_alphabetic b || b == 95) && list_all is_word_byte w) (nat_lt (length w) 80) (and_from (is_ascii_alphabetic b || b == 95) (list_all is_word_byte w) both.0 more.0) more.1
-
-reserved-same : (address : ℕ) (text : List ℕ) → given_reserved address text ≡ false → is_reserved text ≡ false
-unfolding given_reserved is_reserved
-reserved-same address text h =
-    let one = or_parts (list_any (same text) letters) _ h in
-    let two = or_parts (is_some (mnemonic_named text)) _ one.1 in
-    rw (two.0, one.0) refl
+no-word : (address : ℕ) (text : List ℕ) → is_reserved address text ≡ false → is_reserved_word text ≡ false
+unfolding is_reserved
+no-word address text h = (or_parts (is_reserved_word text) _ h).0
 
 given-text : (n : NameView) → IsName n → IsNameText n.text
-given-text n is = text-of-form n.text (form-same n.text is.form) (reserved-same n.address n.text is.free)
+given-text n is = text-of-form n.text is.form (no-word n.address n.text is.free)
 
 -- ---- default names
 
 hex-word : (d : ℕ) → d < 16 → is_word_byte (hex_digit d) ≡ true
 hex-word d low = grind (arith, nat_tests)
 
-mnemonic-short : (m : Mnemonic) → length (text_of m) ≤ 4
-mnemonic-short Adc = omega arith
-mnemonic-short _ = omega arith
-
-no-mnemonic : (a b c d e : ℕ) → is_some (mnemonic_named (a ∷ b ∷ c ∷ d ∷ e ∷ [])) ≡ false
-no-mnemonic a b c d e = go (mnemonic_named (a ∷ b ∷ c ∷ d ∷ e ∷ [])) refl
-  where
-    go : (o : Option Mnemonic) → mnemonic_named (a ∷ b ∷ c ∷ d ∷ e ∷ []) ≡ o → is_some o ≡ false
-    go None f = refl
-    go (Some m) f =
-        let same : 5 ≡ length (text_of m) = ap length ((mnemonic_named-is (a ∷ b ∷ c ∷ d ∷ e ∷ []) m).0 f) in
-        absurd (omega (arith, same, mnemonic-short m))
-
 default-form : (a : ℕ) → has_name_form (default_name a) ≡ true
 unfolding has_name_form default_name
 default-form a =
     rw (hex-word (a / 4096 % 16) (omega arith), hex-word (a / 256 % 16) (omega arith), hex-word (a / 16 % 16) (omega arith), hex-word (a % 16) (omega arith)) refl
 
-default-free : (a : ℕ) → is_reserved (default_name a) ≡ false
-unfolding is_reserved default_name
-default-free a = rw (no-mnemonic 76 (hex_digit (a / 4096 % 16)) (hex_digit (a / 256 % 16)) (hex_digit (a / 16 % 16)) (hex_digit (a % 16))) refl
+default-free : (a : ℕ) → is_reserved_word (default_name a) ≡ false
+unfolding default_name
+default-free a = long_word (default_name a) (omega arith)
 
 default-text : (a : ℕ) → IsNameText (default_name a)
 default-text a = text-of-form (default_name a) (default-form a) (default-free a)

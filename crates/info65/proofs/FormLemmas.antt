@@ -6,6 +6,7 @@ use Rattle.std.specs.Option.{option_or, unwrap_or}
 use Rattle.std.proofs.lemmas.Bool.Decides.{nat_tests}
 use denote.Bor.{Bor}
 use denote.Enum.Bare.{same_true}
+use Rattle.text65.specs.Names.{has_name_form}
 use Rattle.info65.specs.contracts.syntax.attribute.Attribute as attribute_type
 use Rattle.info65.specs.Code.Groups.{IsAtMost}
 use Rattle.info65.specs.Attributes.{boolean_named, form_of, type_named}
@@ -13,7 +14,7 @@ use Rattle.isa65.specs.Cpu.{cpu_named}
 use Rattle.info65.specs.Grammar.{Item, Spells, end_items, given_items, group_items, without_marks}
 use Rattle.info65.specs.Groups.{AreAllFormed, AreFormed, AssignmentView, GroupView, global_given, global_part, is_of, value_in}
 use Rattle.info65.specs.Lexemes.{KindView, character, number, string, word}
-use Rattle.info65.specs.Names.{has_comment_form, has_name_form}
+use Rattle.info65.specs.Names.{has_comment_form}
 use Rattle.info65.specs.Reader.{groups_of, read}
 use Rattle.info65.specs.Settings.{settings_of}
 use Rattle.info65.specs.Tokens.{TokenView, tokens_of}

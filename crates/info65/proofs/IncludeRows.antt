@@ -3,6 +3,7 @@ use Rattle.std.proofs.Common.{◌≡◌, ℕ, Bool, List, [], ◌∷◌, ◌++�
 use Rattle.std.specs.Prelude.{Result, Ok, Err, codes, map}
 use Rattle.isa65.specs.Mnemonic.{mnemonic_named}
 use Rattle.text65.specs.Lines.{text_lines}
+use Rattle.text65.specs.Names.{is_reserved_word}
 use Rattle.info65.specs.Faults.{fault}
 use Rattle.info65.specs.Includes.{address_written, assignment_in, is_identifier, line_adds, line_in, name_adds, names_with, plain_name, trimmed, without_comment}
 use Rattle.info65.specs.Lexemes.{number_in}
@@ -73,5 +74,5 @@ rows =
     ∷ []
 
 rows_hold : map gives rows ≡ map (λ r. r.gives) rows
-unfolding names_with text_lines line_adds line_in without_comment assignment_in is_identifier trimmed address_written number_in name_adds is_reserved mnemonic_named is_like_default default_name
+unfolding names_with text_lines line_adds line_in without_comment assignment_in is_identifier trimmed address_written number_in name_adds is_reserved is_reserved_word mnemonic_named is_like_default default_name
 rows_hold = refl

@@ -9,6 +9,7 @@ use Rattle.std.proofs.lemmas.List.Folds.{list_any_none}
 use Rattle.std.proofs.lemmas.Slice.Eq.{bytes_eq-Decides}
 use Rattle.std.proofs.lemmas.Bool.{and_parts}
 use Rattle.text65.specs.Lines.{text_lines}
+use Rattle.text65.specs.Names.{has_name_form, is_word_byte}
 use Rattle.info65.specs.Code.Includes.{Adds, SeesName, name_result_seen}
 use Rattle.info65.specs.Code.Index.{Indexes}
 use Rattle.info65.specs.Code.Names.{given_seen}
@@ -18,7 +19,7 @@ use Rattle.info65.specs.Code.Results.{Fails}
 use Rattle.info65.specs.Includes.{address_written, after_sign, as_address, assignment_in, before_sign, blank_include, included, is_blank, is_identifier, judged, line_adds, line_in, name_adds, names_included, names_with, optional_adds, or_bad, plain_name, trimmed, with_names, without_comment}
 use Rattle.info65.specs.Labels.{by_address, is_at, is_elsewhere, name_fault}
 use Rattle.info65.specs.Lexemes.{number_in, starts_word}
-use Rattle.info65.specs.Names.{AreNames, IsName, blank_name, has_name_form, is_name_byte, is_reserved, name_at}
+use Rattle.info65.specs.Names.{AreNames, IsName, blank_name, is_reserved, name_at}
 use Rattle.info65.specs.Sound.{IsSound}
 use Rattle.info65.specs.Views.{IncludeView, InfoView, NameView}
 use Rattle.info65.specs.declared.fault.InfoFault.{InfoFault}
@@ -126,7 +127,7 @@ identified : (text : List ℕ) → is_identifier text ≡ true → nat_lt 80 (le
 unfolding is_identifier has_name_form
 identified [] h short = absurd cc
 identified (b ∷ bs) h short =
-    let e = and_parts (starts_word b) (list_all is_name_byte bs) h in
+    let e = and_parts (starts_word b) (list_all is_word_byte bs) h in
     let low : nat_lt (length bs) 80 ≡ true = grind (arith, nat_tests, short) in
     rw (e.0, e.1, low) refl
 

@@ -11,6 +11,7 @@ use Rattle.std.proofs.lemmas.List.Kept.{AllPairs-cons}
 use Rattle.std.proofs.lemmas.List.Quantifiers.{all_pairs_push}
 use Rattle.std.proofs.str.Laws.{order}
 use Rattle.std.proofs.lemmas.Bool.{eq-eqb, eqb-true}
+use Rattle.text65.specs.Names.{has_name_form}
 use Rattle.info65.specs.Attributes.{form_of}
 use Rattle.info65.specs.Closing.{closing_fault, optional_name_fault}
 use Rattle.info65.specs.Comments.{comment_in, not_empty}
@@ -18,7 +19,7 @@ use Rattle.info65.specs.Grammar.{AreGroups}
 use Rattle.info65.specs.Groups.{AreAllFormed, AreFormed, AssignmentView, GroupView, value_in}
 use Rattle.info65.specs.Labels.{by_address, is_at, label_from, label_in, label_sized, named, named_at, names_from, names_said, range_name}
 use Rattle.info65.specs.NameLaws.{NamesGiven}
-use Rattle.info65.specs.Names.{AreNames, IsComment, IsName, has_name_form}
+use Rattle.info65.specs.Names.{AreNames, IsComment, IsName}
 use Rattle.info65.specs.Reader.{groups_of, read}
 use Rattle.info65.specs.Tokens.{tokens_of}
 use Rattle.info65.specs.Values.{HasForm, ValueView, a_comment, a_name, as_address, as_comment, as_name, as_number}

@@ -1,6 +1,6 @@
 -- Which names are reserved.
-use Rattle.std.proofs.Common.{◌≡◌, ◌∙◌, ◌⊎◌, inl, inr, ◌≤◌, ◌<◌, ◌+◌, ◌-◌, ◌*◌, ◌/◌, ◌%◌, ◌==◌, ◌&&◌, ◌||◌, ℕ, suc, Bool, true, false, not, List, [], ◌∷◌, ap, arith, drop, length, refl, sym}
-use Rattle.std.specs.Prelude.{Any, Option, Some, None, is_some, nat_le, nat_lt, slice_index}
+use Rattle.std.proofs.Common.{◌≡◌, ◌∙◌, ◌⊎◌, inl, inr, ◌≤◌, ◌<◌, ◌+◌, ◌-◌, ◌*◌, ◌/◌, ◌%◌, ◌==◌, ◌&&◌, ◌||◌, ℕ, Bool, true, false, not, List, [], ◌∷◌, ap, arith, drop, length, refl, sym}
+use Rattle.std.specs.Prelude.{Any, Option, Some, None, is_some, nat_lt, slice_index}
 use Rattle.std.specs.List.{list_all, list_any}
 use Rattle.std.specs.Str.{bytes_eq, str_eq_ignore_ascii_case, str_to_ascii_lowercase}
 use Rattle.std.proofs.lemmas.Bool.Decides.{nat_tests}
@@ -10,10 +10,10 @@ use Rattle.std.proofs.lemmas.Bool.{and_parts, eqb-true}
 use Rattle.isa65.specs.Mnemonic.{mnemonic_named, text_of}
 use Rattle.isa65.specs.MnemonicLaws.{mnemonic_named-is, mnemonic_named-text_of}
 use Rattle.isa65.specs.declared.mnemonic.Mnemonic.{Mnemonic}
-use Rattle.isa65.specs.declared.mnemonic.Mnemonic.TheVariants.{Adc}
-use Rattle.info65.specs.Code.Names.{is_word}
+use Rattle.text65.specs.Digits.{hex_digit}
+use Rattle.text65.specs.Names.{is_reserved_word, registers}
 use Rattle.info65.specs.NameFaultLaws.{IsDefaultElsewhere, IsInAnyCase, ReservedNames}
-use Rattle.info65.specs.Names.{default_name, hex_digit, is_like_default, is_reserved, is_upper_hex, registers}
+use Rattle.info65.specs.Names.{default_name, is_like_default, is_reserved, is_upper_hex}
 use Rattle.info65.proofs.Cases.{by_test}
 
 -- ---- the default names
@@ -145,73 +145,29 @@ is_elsewhere address text h =
     (λ own. absurd (h.3 ((bytes_eq-Decides text (default_name address)).0 own)))
     (λ other. rw (like, other) refl)
 
-one_of : (p q r : Bool) {P Q R : Type 0} → (p ≡ true → P) → (q ≡ true → Q) → (r ≡ true → R) → (p || (q || r)) ≡ true → P ⊎ (Q ⊎ R)
+one_of : (p q r : Bool) {P Q R : Type 0} → (p ≡ true → P) → (q ≡ true → Q) → (r ≡ true → R) → ((p || q) || r) ≡ true → P ⊎ (Q ⊎ R)
 one_of true q r f g h e = inl (f refl)
 one_of false true r f g h e = inr (inl (g refl))
 one_of false false true f g h e = inr (inr (h refl))
 one_of false false false f g h e = absurd cc
 
-any_of : (p q r : Bool) {P Q R : Type 0} → (P → p ≡ true) → (Q → q ≡ true) → (R → r ≡ true) → P ⊎ (Q ⊎ R) → (p || (q || r)) ≡ true
+any_of : (p q r : Bool) {P Q R : Type 0} → (P → p ≡ true) → (Q → q ≡ true) → (R → r ≡ true) → P ⊎ (Q ⊎ R) → ((p || q) || r) ≡ true
 any_of p q r f g h (inl x) = rw (f x) refl
 any_of p q r f g h (inr (inl x)) = rw (g x) (of p)
   where
-    of : (b : Bool) → (b || true) ≡ true
+    of : (b : Bool) → ((b || true) || r) ≡ true
     of true = refl
     of false = refl
 any_of p q r f g h (inr (inr x)) = rw (h x) (of p q)
   where
-    of : (b c : Bool) → (b || (c || true)) ≡ true
+    of : (b c : Bool) → ((b || c) || true) ≡ true
     of true c = refl
     of false true = refl
     of false false = refl
 
 pub reserved_names : ReservedNames
-unfolding is_reserved
+unfolding is_reserved is_reserved_word
 reserved_names address text = (
   one_of (list_any (str_eq_ignore_ascii_case text) registers) (is_some (mnemonic_named text)) (is_like_default text && not (bytes_eq text (default_name address))) (register_is text) (mnemonic_is text) (elsewhere_is address text),
   any_of (list_any (str_eq_ignore_ascii_case text) registers) (is_some (mnemonic_named text)) (is_like_default text && not (bytes_eq text (default_name address))) (is_register text) (λ m. is_mnemonic text m.0 m.1) (is_elsewhere address text),
 )
-
--- ---- words by their length
-
-same_length : (text : List ℕ) → length (str_to_ascii_lowercase text) ≡ length text
-same_length [] = refl
-same_length (b ∷ bs) = ap suc (same_length bs)
-
-short_mnemonic : (m : Mnemonic) → nat_le (length (text_of m)) 4 ≡ true
-short_mnemonic Adc = refl
-short_mnemonic _ = refl
-
-short_word : (m : Mnemonic) → length (text_of m) ≤ 4
-short_word m = let short = short_mnemonic m in grind (arith, nat_tests, short)
-
-unlike : (word text : List ℕ) → length word < length text → str_eq_ignore_ascii_case text word ≡ false
-unlike word text long = by_test (str_eq_ignore_ascii_case text word)
-    (λ hit.
-    let same : length text ≡ length word = sym (same_length text) ∙ ap length (in_any_case word text hit) ∙ same_length word in absurd (omega (arith, long, same)))
-    (λ miss. miss)
-
-long_register : (text : List ℕ) → 4 < length text → list_any (str_eq_ignore_ascii_case text) registers ≡ false
-long_register text long =
-    let other : (b : ℕ) → str_eq_ignore_ascii_case text (b ∷ []) ≡ false = λ b. unlike (b ∷ []) text (omega (arith, long)) in
-    rw (other 65, other 70, other 83, other 88, other 89, other 90) refl
-
-long_mnemonic : (text : List ℕ) → 4 < length text → is_some (mnemonic_named text) ≡ false
-long_mnemonic text long = by_test (is_some (mnemonic_named text))
-    (λ hit.
-    let found = mnemonic_is text hit in
-    let size : length text ≡ length (text_of found.0) = sym (same_length text) ∙ ap length found.1 ∙ same_length (text_of found.0) in
-    let short = short_word found.0 in absurd (omega (arith, long, size, short)))
-    (λ miss. miss)
-
--- a text of more than four bytes is neither a register nor a mnemonic
-pub long_text : (text : List ℕ) → 4 < length text → is_word text ≡ false
-long_text text long = rw (long_register text long, long_mnemonic text long) refl
-
-pub reserved_by : (address : ℕ) (text : List ℕ) → is_reserved address text ≡ (is_word text || (is_like_default text && not (bytes_eq text (default_name address))))
-unfolding is_reserved
-reserved_by address text = of (list_any (str_eq_ignore_ascii_case text) registers) (is_some (mnemonic_named text)) (is_like_default text && not (bytes_eq text (default_name address)))
-  where
-    of : (p q r : Bool) → (p || (q || r)) ≡ ((p || q) || r)
-    of true q r = refl
-    of false q r = refl

@@ -12,10 +12,10 @@ use Rattle.std.proofs.lemmas.Bool.Decides.{nat_tests}
 use Rattle.std.proofs.lemmas.List.{append-nil, drop_more, length-drop, length-reverse, reverse-append, reverse-reverse, take-append-drop}
 use Rattle.std.proofs.lemmas.List.Folds.{list_all-append, list_all_at}
 use Rattle.std.proofs.lemmas.List.Sums.{passes_at_first, prefix_len-le-length, split_at_first}
+use Rattle.text65.specs.Names.{is_word_byte}
 use Rattle.info65.specs.Includes.{address_written, after_sign, as_address, assignment_in, before_sign, is_blank, is_identifier, line_in, or_bad, plain_name, trimmed, trimmed_end, without_comment}
 use Rattle.info65.specs.IncludeLaws.{AreDigitsOf, EndsLine, IsAssignment, IsBlankLine, IsSpelling, IsText, LinesSpelled, WritesAddress}
 use Rattle.info65.specs.Lexemes.{are_digits, number_in, starts_word}
-use Rattle.info65.specs.Names.{is_name_byte}
 use Rattle.info65.specs.Views.{NameView}
 use Rattle.info65.specs.declared.fault.InfoFaultKind.{InfoFaultKind}
 use Rattle.info65.proofs.Cases.{by_test}
@@ -257,19 +257,19 @@ record Solid (xs : List ℕ) : Type 0 where
   some : 0 < length xs
   seen : list_all visible xs ≡ true
 
-word_starts : (b : ℕ) → starts_word b ≡ true → is_name_byte b ≡ true
+word_starts : (b : ℕ) → starts_word b ≡ true → is_word_byte b ≡ true
 word_starts b h = grind (arith, nat_tests, h)
 
-name_bytes : (m : List ℕ) → is_identifier m ≡ true → (0 < length m) × (list_all is_name_byte m ≡ true)
+name_bytes : (m : List ℕ) → is_identifier m ≡ true → (0 < length m) × (list_all is_word_byte m ≡ true)
 unfolding is_identifier
 name_bytes [] h = absurd (false≢true h)
-name_bytes (b ∷ bs) h = let p = and_parts (starts_word b) (list_all is_name_byte bs) h in (omega arith, rw (word_starts b p.0, p.1) refl)
+name_bytes (b ∷ bs) h = let p = and_parts (starts_word b) (list_all is_word_byte bs) h in (omega arith, rw (word_starts b p.0, p.1) refl)
 
-name_visible : (b : ℕ) → is_name_byte b ≡ true → visible b ≡ true
+name_visible : (b : ℕ) → is_word_byte b ≡ true → visible b ≡ true
 name_visible b h = grind (arith, nat_tests, h)
 
 name_solid : (m : List ℕ) → is_identifier m ≡ true → Solid m
-name_solid m h = let p = name_bytes m h in record { some = p.0; seen = all_more is_name_byte visible name_visible m p.1 }
+name_solid m h = let p = name_bytes m h in record { some = p.0; seen = all_more is_word_byte visible name_visible m p.1 }
 
 digit_visible : (radix b : ℕ) → radix ≤ 16 → is_digit b radix ≡ true → visible b ≡ true
 digit_visible radix b low h =
@@ -308,10 +308,10 @@ blank_no_return b h = grind (arith, nat_tests, h)
 visible_no_return : (b : ℕ) → visible b ≡ true → other 13 b ≡ true
 visible_no_return b h = grind (arith, nat_tests, h)
 
-name_no_equals : (b : ℕ) → is_name_byte b ≡ true → other 61 b ≡ true
+name_no_equals : (b : ℕ) → is_word_byte b ≡ true → other 61 b ≡ true
 name_no_equals b h = grind (arith, nat_tests, h)
 
-name_no_colon : (b : ℕ) → is_name_byte b ≡ true → other 58 b ≡ true
+name_no_colon : (b : ℕ) → is_word_byte b ≡ true → other 58 b ≡ true
 name_no_colon b h = grind (arith, nat_tests, h)
 
 -- ---- the address that a value writes
@@ -476,10 +476,10 @@ assigns t n a =
     whole : t ≡ left ++ (a.sign ++ right)
     whole = a.is ∙ sym (regroup a.first n.text a.second (a.sign ++ right))
 
-    free : (c : ℕ) → 32 < c → ((d : ℕ) → is_name_byte d ≡ true → other c d ≡ true) → list_all (other c) left ≡ true
+    free : (c : ℕ) → 32 < c → ((d : ℕ) → is_word_byte d ≡ true → other c d ≡ true) → list_all (other c) left ≡ true
     free c low h =
         all_both (other c) a.first (n.text ++ a.second) (all_more is_blank (other c) (λ d. blank_other c d low) a.first b.first)
-        (all_both (other c) n.text a.second (all_more is_name_byte (other c) h n.text (name_bytes n.text a.form).1) (all_more is_blank (other c) (λ d. blank_other c d low) a.second b.second))
+        (all_both (other c) n.text a.second (all_more is_word_byte (other c) h n.text (name_bytes n.text a.form).1) (all_more is_blank (other c) (λ d. blank_other c d low) a.second b.second))
 
     no_equals : list_all (other 61) left ≡ true
     no_equals = free 61 (omega arith) name_no_equals

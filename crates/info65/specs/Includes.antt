@@ -3,10 +3,11 @@ use Rattle.std.specs.Prelude.{◌+◌, ◌++◌, ◌==◌, ◌-◌, ◌&&◌, �
 use Rattle.std.specs.Io.BufRead.{strip_last}
 use Rattle.std.specs.List.{after_first, before_first, list_all, list_any, prefix_len, suffix_len}
 use Rattle.text65.specs.Lines.{text_lines}
+use Rattle.text65.specs.Names.{is_word_byte}
 use Rattle.info65.specs.Faults.{fault, ◌>>=◌}
 use Rattle.info65.specs.Labels.{by_address, is_at, is_elsewhere, named}
 use Rattle.info65.specs.Lexemes.{number_in, starts_word}
-use Rattle.info65.specs.Names.{is_name_byte, is_reserved}
+use Rattle.info65.specs.Names.{is_reserved}
 use Rattle.info65.specs.Views.{IncludeView, InfoView, NameView}
 use Rattle.info65.specs.declared.fault.InfoFault.{InfoFault}
 use Rattle.info65.specs.declared.fault.InfoFaultKind.{InfoFaultKind}
@@ -32,7 +33,7 @@ trimmed bytes = trimmed_end (drop (prefix_len is_blank bytes) bytes)
 -- a letter or `_`, then letters, digits and `_`
 unfoldable pub is_identifier : List ℕ → Bool
 is_identifier [] = false
-is_identifier (b ∷ bs) = starts_word b && list_all is_name_byte bs
+is_identifier (b ∷ bs) = starts_word b && list_all is_word_byte bs
 
 abbrev pub as_address : Option ℕ → Option ℕ
 as_address None = None

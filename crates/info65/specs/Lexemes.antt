@@ -1,8 +1,9 @@
 -- What a token is, from its first byte on.
 use Rattle.std.specs.Prelude.{◌==◌, ◌+◌, ◌-◌, ◌&&◌, ◌||◌, ℕ, Bool, not, List, Option, Some, None, Result, Ok, Err, length, take, drop, nat_le, nat_lt, slice_index, if◌then◌else◌}
 use Rattle.std.specs.List.{list_all, prefix_len}
-use Rattle.std.specs.Char.{is_ascii_alphabetic, is_ascii_alphanumeric, is_ascii_digit, is_ascii_hexdigit, is_digit}
+use Rattle.std.specs.Char.{is_ascii_alphabetic, is_ascii_digit, is_ascii_hexdigit, is_digit}
 use Rattle.std.specs.Str.Parse.{digits_value}
+use Rattle.text65.specs.Names.{is_word_byte}
 use Rattle.info65.specs.Faults.{fault}
 use Rattle.info65.specs.declared.syntax.lexeme.Class.{Class}
 use Rattle.info65.specs.declared.syntax.lexeme.Class.TheVariants as class
@@ -24,7 +25,7 @@ pub record LexemeView : Type 0 where
 -- bytes that run on within a token: in a word letters, digits and `_`; in a string TAB, $20 to $7E
 -- without `"`, and $80 to $FF
 unfoldable pub in_class : Class → ℕ → Bool
-in_class class.Word b = is_ascii_alphanumeric b || b == 95
+in_class class.Word b = is_word_byte b
 in_class class.Decimal b = is_ascii_digit b
 in_class class.Hexadecimal b = is_ascii_hexdigit b
 in_class class.Text b = b == 9 || (nat_le 0x20 b && nat_lt b 0x7F && not (b == 34)) || nat_le 0x80 b

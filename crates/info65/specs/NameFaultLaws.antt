@@ -3,11 +3,12 @@ use Rattle.std.specs.Prelude.{◌≡◌, ◌≢◌, ◌↔◌, ◌⊎◌, ◌≤
 use Rattle.std.specs.Str.{str_to_ascii_lowercase}
 use Rattle.isa65.specs.Mnemonic.{text_of}
 use Rattle.isa65.specs.declared.mnemonic.Mnemonic.{Mnemonic}
+use Rattle.text65.specs.Names.{registers}
 use Rattle.info65.specs.Closing.{closing_fault}
 use Rattle.info65.specs.Groups.{AssignmentView, GroupView}
 use Rattle.info65.specs.Labels.{label_in, name_fault, names_said, range_name}
 use Rattle.info65.specs.Laws.{Share}
-use Rattle.info65.specs.Names.{default_name, is_reserved, registers}
+use Rattle.info65.specs.Names.{default_name, is_reserved}
 use Rattle.info65.specs.Ranges.{range_in, ranges_of}
 use Rattle.info65.specs.Views.{NameView}
 use Rattle.info65.specs.declared.syntax.attribute.GroupKind.TheVariants as group

@@ -1,30 +1,17 @@
--- Names of addresses: their form, which of them are reserved, which addresses a name is for, and what
--- holds of all names of an information file.
-use Rattle.std.specs.Prelude.{◌≡◌, ◌≢◌, ◌==◌, ◌+◌, ◌/◌, ◌%◌, ◌<◌, ◌≤◌, ◌&&◌, ◌||◌, ℕ, zero, suc, Bool, true, false, not, List, [], ◌∷◌, Option, Some, None, All, AllPairs, IfSome, codes, drop, get_or, is_some, length, nat_le, nat_lt, slice_index, if◌then◌else◌}
-use Rattle.std.specs.Char.{is_ascii_alphabetic, is_ascii_alphanumeric}
-use Rattle.std.specs.List.{list_all, list_any}
-use Rattle.std.specs.Str.{bytes_eq, str_eq_ignore_ascii_case}
-use Rattle.isa65.specs.Mnemonic.{mnemonic_named}
+-- Names of addresses: which of them are reserved, which addresses a name is for, and what holds of all
+-- names of an information file.
+use Rattle.std.specs.Prelude.{◌≡◌, ◌≢◌, ◌==◌, ◌+◌, ◌<◌, ◌≤◌, ◌&&◌, ◌||◌, ℕ, zero, suc, Bool, true, false, not, List, [], ◌∷◌, Option, Some, None, All, AllPairs, IfSome, drop, get_or, length, nat_le, nat_lt, slice_index, if◌then◌else◌}
+use Rattle.std.specs.List.{list_all}
+use Rattle.std.specs.Str.{bytes_eq}
+use Rattle.text65.specs.Digits.{digits4}
+use Rattle.text65.specs.Names.{has_name_form, is_reserved_word}
 use Rattle.info65.specs.Views.{NameView}
 
 -- ---- the text of a name
 
--- a letter, a digit or `_`
-abbrev pub is_name_byte : ℕ → Bool
-is_name_byte b = is_ascii_alphanumeric b || b == 95
-
--- a letter or `_`, then letters, digits and `_`; 80 bytes at most
-unfoldable pub has_name_form : List ℕ → Bool
-has_name_form [] = false
-has_name_form (b ∷ bs) = (is_ascii_alphabetic b || b == 95) && (list_all is_name_byte bs && nat_lt (length bs) 80)
-
--- a hex digit, with letters in upper case
-abbrev pub hex_digit : ℕ → ℕ
-hex_digit d = if nat_lt d 10 then 48 + d else 55 + d
-
 -- the default name of an address: `L` and four hex digits
 unfoldable pub default_name : ℕ → List ℕ
-default_name a = 76 ∷ hex_digit (a / 4096 % 16) ∷ hex_digit (a / 256 % 16) ∷ hex_digit (a / 16 % 16) ∷ hex_digit (a % 16) ∷ []
+default_name a = 76 ∷ digits4 a
 
 -- 0 to 9 or A to F
 abbrev pub is_upper_hex : ℕ → Bool
@@ -34,17 +21,11 @@ is_upper_hex b = (nat_le 48 b && nat_le b 57) || (nat_le 65 b && nat_le b 70)
 unfoldable pub is_like_default : List ℕ → Bool
 is_like_default text = length text == 5 && (slice_index text 0 == 76 && list_all is_upper_hex (drop 1 text))
 
--- the letters that ca65 takes for a register
-abbrev pub registers : List (List ℕ)
-registers = codes "A" ∷ codes "F" ∷ codes "S" ∷ codes "X" ∷ codes "Y" ∷ codes "Z" ∷ []
-
 -- A name that this address can't have: a register or a mnemonic, in any case, or the default name of
 -- another address.
 unfoldable pub is_reserved : ℕ → List ℕ → Bool
 is_reserved address text =
-    list_any (str_eq_ignore_ascii_case text) registers
-    || (is_some (mnemonic_named text)
-    || (is_like_default text && not (bytes_eq text (default_name address))))
+    is_reserved_word text || (is_like_default text && not (bytes_eq text (default_name address)))
 
 -- TAB, $20 to $7E, or $80 to $FF
 abbrev pub is_comment_byte : ℕ → Bool

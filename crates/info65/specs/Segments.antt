@@ -3,8 +3,8 @@
 use Rattle.std.specs.Prelude.{◌≡◌, ◌≤◌, ◌&&◌, ℕ, Bool, true, List, [], ◌∷◌, Option, Some, Result, Ok, Err, All, AllPairs, get_or, nat_le, option_map, option_and_then, if◌then◌else◌}
 use Rattle.std.specs.List.{find, flat_map}
 use Rattle.std.specs.Str.{bytes_eq}
+use Rattle.text65.specs.Names.{has_name_form}
 use Rattle.info65.specs.Groups.{AssignmentView, GroupView, value_in}
-use Rattle.info65.specs.Names.{has_name_form}
 use Rattle.info65.specs.Values.{as_address, as_name}
 use Rattle.info65.specs.Views.{SegmentView}
 use Rattle.info65.specs.declared.syntax.attribute.Attribute.TheVariants as attribute

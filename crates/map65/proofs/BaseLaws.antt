@@ -1,14 +1,13 @@
 -- The laws of base names.
-use Rattle.std.proofs.Common.{◌≡◌, ◌∙◌, ◌⊎◌, inl, inr, ℕ, ◌+◌, ◌-◌, ◌/◌, ◌%◌, ◌<◌, ◌≤◌, ◌&&◌, ◌||◌, ◌==◌, Bool, true, false, not, List, Option, Some, None, length, get_or, nat_le, nat_lt, is_some, refl, ap, ap₂, sym, subst, arith, ⊎_elim}
+use Rattle.std.proofs.Common.{◌≡◌, ◌∙◌, ◌⊎◌, inl, inr, ℕ, ◌+◌, ◌-◌, ◌/◌, ◌%◌, ◌<◌, ◌≤◌, ◌&&◌, ◌||◌, ◌==◌, Bool, true, false, not, List, Option, Some, None, length, get_or, nat_le, nat_lt, refl, ap, ap₂, sym, subst, arith, ⊎_elim}
 use Rattle.std.specs.Str.{bytes_eq}
 use Rattle.std.proofs.lemmas.Slice.Eq.{bytes_eq-Decides}
 use Rattle.std.proofs.lemmas.Bool.{and_from, and_parts, both_ways, cases_Bool, cases_eq, cases_lt, cond_both, eq-eqb, false≢true, le-leb, lt-ltb, ne_eqb}
 use Rattle.std.proofs.lemmas.Bool.Decides.{nat_tests}
-use Rattle.std.specs.List.{list_any}
-use Rattle.std.specs.Str.{str_eq_ignore_ascii_case}
-use Rattle.isa65.specs.Mnemonic.{mnemonic_named}
+use Rattle.text65.specs.Digits.{hex_digit}
+use Rattle.text65.specs.Names.{is_reserved_word}
 use Rattle.info65.proofs.Public.{last_name, layout_some, none_covers}
-use Rattle.info65.specs.Names.{AreNames, blank_name, covering, covers, default_name, hex_digit, is_like_default, is_reserved, is_upper_hex, name_at, registers}
+use Rattle.info65.specs.Names.{AreNames, blank_name, covering, covers, default_name, is_like_default, is_reserved, is_upper_hex, name_at}
 use Rattle.info65.specs.Views.{NameView}
 use Rattle.info65.specs.declared.information.range.RangeType.{RangeType}
 use Rattle.info65.specs.declared.information.range.RangeType.TheVariants.{Code}
@@ -132,18 +131,17 @@ like-default : (v : ℕ) → is_like_default (default_name v) ≡ true
 unfolding is_like_default default_name
 like-default v = rw (upper (v / 4096 % 16) (omega arith), upper (v / 256 % 16) (omega arith), upper (v / 16 % 16) (omega arith), upper (v % 16) (omega arith)) refl
 
-or-last : (p q r s : Bool) → (p || (q || (r && not s))) ≡ false → r ≡ true → s ≡ true
-or-last true q r s is like = absurd (false≢true (sym is))
-or-last false true r s is like = absurd (false≢true (sym is))
-or-last false false true true is like = refl
-or-last false false true false is like = absurd (false≢true (sym is))
-or-last false false false s is like = absurd (false≢true like)
+or-last : (p q r : Bool) → (p || (q && not r)) ≡ false → q ≡ true → r ≡ true
+or-last true q r is like = absurd (false≢true (sym is))
+or-last false true true is like = refl
+or-last false true false is like = absurd (false≢true (sym is))
+or-last false false r is like = absurd (false≢true like)
 
 -- a name of the form of a default name stands for its own address
 reserved-same : (address v : ℕ) (text : List ℕ) → address < 65536 → v < 65536 → is_reserved address text ≡ false → text ≡ default_name v → address ≡ v
 unfolding is_reserved
 reserved-same address v text low also_low unreserved is =
-    let own = or-last (list_any (str_eq_ignore_ascii_case text) registers) (is_some (mnemonic_named text)) (is_like_default text) (bytes_eq text (default_name address)) unreserved (ap is_like_default is ∙ like-default v) in
+    let own = or-last (is_reserved_word text) (is_like_default text) (bytes_eq text (default_name address)) unreserved (ap is_like_default is ∙ like-default v) in
     default-same address v low also_low (sym ((bytes_eq-Decides text (default_name address)).0 own) ∙ is)
 
 same-name : (names : List NameView) → AreNames names → (i j : ℕ) → i < length names → j < length names → (name_at names i).text ≡ (name_at names j).text → name_at names i ≡ name_at names j

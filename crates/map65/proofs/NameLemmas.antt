@@ -4,7 +4,8 @@ use Rattle.std.specs.Char.{is_ascii_alphabetic}
 use Rattle.std.specs.List.{list_all}
 use Rattle.std.specs.Option.{option_map}
 use Rattle.std.proofs.lemmas.Bool.{and_parts, false≢true, leb-true, ltb-true}
-use Rattle.info65.specs.Names.{AreNames, blank_name, covering, covers, has_name_form, is_name_byte, name_at}
+use Rattle.text65.specs.Names.{has_name_form, is_word_byte}
+use Rattle.info65.specs.Names.{AreNames, blank_name, covering, covers, name_at}
 use Rattle.info65.specs.Views.{NameView}
 use Rattle.info65.proofs.Public.{last_name}
 use Rattle.map65.specs.Code.Marking.{is_covered}
@@ -27,8 +28,7 @@ form-short : (text : List ℕ) → has_name_form text ≡ true → length text �
 unfolding has_name_form
 form-short [] is = omega arith
 form-short (b ∷ bs) is =
-    let rest = (and_parts (is_ascii_alphabetic b || b == 95) (list_all is_name_byte bs && nat_lt (length bs) 80) is).1 in
-    omega (arith, ltb-true (length bs) 80 (and_parts (list_all is_name_byte bs) (nat_lt (length bs) 80) rest).1)
+    omega (arith, ltb-true (length bs) 80 (and_parts ((is_ascii_alphabetic b || b == 95) && list_all is_word_byte bs) (nat_lt (length bs) 80) is).1)
 
 -- and its text has at most 80 bytes
 pub name-short : (names : List NameView) (a : ℕ) (v : NameView) → AreNames names → covering names a ≡ Some v → length v.text ≤ 80

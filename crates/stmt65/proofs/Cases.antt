@@ -10,12 +10,13 @@ use Rattle.isa65.specs.declared.mnemonic.Mnemonic.TheVariants.{Adc}
 use Rattle.isa65.specs.Mnemonic.{text_of, mnemonic_named}
 use Rattle.isa65.specs.MnemonicLaws.{mnemonic_named-is, mnemonic_named-text_of}
 use Rattle.isa65.specs.Finding.{find-passes}
+use Rattle.text65.specs.Names.{has_name_form, is_reserved_word, registers}
 use Rattle.stmt65.specs.declared.directive.Directive.{Directive}
 use Rattle.stmt65.specs.declared.directive.Directive.TheVariants as directive
 use Rattle.stmt65.specs.declared.directive.TheConstants.{ALL}
 use Rattle.stmt65.specs.Directives.{directive_text, directive_named}
 use Rattle.stmt65.specs.Parts.{Part, Word, Number, Define, Mark, number_of}
-use Rattle.stmt65.specs.Names.{same, letters, is_reserved, has_name_form, is_name}
+use Rattle.stmt65.specs.Names.{same, is_name}
 use Rattle.stmt65.specs.Reading.{is_mark, is_define, is_word_here, is_number_here, number_in}
 
 pub by_test : {P : Type 0} (b : Bool) → (b ≡ true → P) → (b ≡ false → P) → P
@@ -133,9 +134,9 @@ no_dot _ = record { directive = refl; byte = refl; segment = refl; code = refl; 
 
 -- a name is none of the operand words
 pub no_letter : (w : List ℕ) → is_name w ≡ true → (same w (codes "a") ≡ false) × (same w (codes "x") ≡ false) × (same w (codes "y") ≡ false)
-unfolding is_name is_reserved
+unfolding is_name is_reserved_word
 no_letter w h =
-    let any = (neither (is_some (mnemonic_named w)) (list_any (same w) letters) (not_true _ (both (has_name_form w) _ h).1)).1 in
+    let any = (neither (list_any (same w) registers) (is_some (mnemonic_named w)) (not_true _ (both (has_name_form w) _ h).1)).0 in
     let a = neither (same w (codes "a")) _ any in let f = neither (same w (codes "f")) _ a.1 in let s = neither (same w (codes "s")) _ f.1 in
     let x = neither (same w (codes "x")) _ s.1 in let y = neither (same w (codes "y")) _ x.1 in
     (a.0, x.0, y.0)

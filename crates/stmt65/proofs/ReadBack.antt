@@ -16,11 +16,13 @@ use Rattle.isa65.specs.declared.mnemonic.Mnemonic.{Mnemonic}
 use Rattle.isa65.specs.declared.mnemonic.Mnemonic.TheVariants.{Adc}
 use Rattle.isa65.specs.declared.mode.Mode.{Mode}
 use Rattle.isa65.specs.declared.mode.Mode.TheVariants.{Imp, Acc, Imm, Zp, Zpx, Zpy, Abs, Absx, Absy, Ind, Indx, Indy, Zpind, Absindx, Rel, Zprel}
+use Rattle.text65.specs.Digits.{digits4}
+use Rattle.text65.specs.Names.{has_name_form, is_word_byte}
 use Rattle.stmt65.specs.declared.directive.Directive.{Directive}
 use Rattle.stmt65.specs.declared.directive.Directive.TheVariants as directive
 use Rattle.stmt65.specs.Directives.{directive_text, entry_len}
 use Rattle.stmt65.specs.declared.printing.columns.Columns.{Columns}
-use Rattle.stmt65.specs.Digits.{digits4, hex2, hex4, offset_text}
+use Rattle.stmt65.specs.Digits.{hex2, hex4, offset_text}
 use Rattle.stmt65.specs.Levels.{spaced_byte, character, level_fields}
 use Rattle.stmt65.specs.Line.{filled, with_fields, plain_line, line_of}
 use Rattle.stmt65.specs.Operands.{named_text, short_text, long_text, prefix_text, operand_text}
@@ -30,8 +32,8 @@ use Rattle.stmt65.specs.SourceLine.{Value, NumberValue, NameValue, NumberDatum, 
 use Rattle.stmt65.specs.declared.source_line.Minus.TheVariants.{Zero, One}
 use Rattle.stmt65.specs.Tables.{entries, cut_text}
 use Rattle.stmt65.specs.Parts.{Part, Word, Number, Text, Define, Mark, begins_with}
-use Rattle.stmt65.specs.Lexing.{is_word_start, is_word_byte, is_text_byte, parts}
-use Rattle.stmt65.specs.Names.{has_name_form, is_name}
+use Rattle.stmt65.specs.Lexing.{is_word_start, is_text_byte, parts}
+use Rattle.stmt65.specs.Names.{is_name}
 use Rattle.stmt65.specs.Reading.{reading_of}
 use Rattle.stmt65.specs.Spelling as item
 use Rattle.stmt65.specs.Spelling.{Item, word, mark, define, number, string, quoted_name, value, data_list, value_list, IsValue, IsItem, Spells, prefix_items, form_items, operation_items, IsSpelling}

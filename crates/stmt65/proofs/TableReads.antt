@@ -10,12 +10,13 @@ use Rattle.std.specs.List.{list_all, flat_map}
 use Rattle.std.proofs.lemmas.Bool.{ltb-true, eqb-true, eq-eqb}
 use Rattle.std.proofs.lemmas.Bool.Decides.{nat_tests}
 use Rattle.std.proofs.lemmas.List.{append-nil, reverse-append, length-reverse, length-take-le, length-drop}
+use Rattle.text65.specs.Digits.{hex_digit}
 use Rattle.stmt65.specs.declared.directive.Directive.{Directive}
 use Rattle.stmt65.specs.declared.directive.Directive.TheVariants.{Word}
 use Rattle.stmt65.specs.Directives.{entry_len, order_of}
 use Rattle.isa65.specs.declared.byte_order.ByteOrder.{ByteOrder}
 use Rattle.isa65.specs.declared.byte_order.ByteOrder.TheVariants.{LittleEndian, BigEndian}
-use Rattle.stmt65.specs.Digits.{hex_digit, digits2, hex2}
+use Rattle.stmt65.specs.Digits.{digits2, hex2}
 use Rattle.stmt65.specs.SourceLine.{Datum, NumberDatum, StringDatum}
 use Rattle.stmt65.specs.Parts.{Part, Number, Text, number_of}
 use Rattle.stmt65.specs.Lexing.{is_text_byte, parts}

@@ -1,17 +1,10 @@
 -- Numbers as text.
-use Rattle.std.specs.Prelude.{ℕ, ◌+◌, ◌/◌, ◌%◌, Bool, List, [], ◌∷◌, decimal, nat_lt, if◌then◌else◌}
-
--- a hex digit, in upper case
-abbrev pub hex_digit : ℕ → ℕ
-hex_digit d = if nat_lt d 10 then 48 + d else 55 + d
+use Rattle.std.specs.Prelude.{ℕ, ◌/◌, ◌%◌, Bool, List, [], ◌∷◌, decimal, nat_lt, if◌then◌else◌}
+use Rattle.text65.specs.Digits.{digits4, hex_digit}
 
 -- `hh`, the two low digits
 abbrev pub digits2 : ℕ → List ℕ
 digits2 n = hex_digit (n / 16 % 16) ∷ hex_digit (n % 16) ∷ []
-
--- `hhhh`, the four low digits
-abbrev pub digits4 : ℕ → List ℕ
-digits4 n = hex_digit (n / 4096 % 16) ∷ hex_digit (n / 256 % 16) ∷ hex_digit (n / 16 % 16) ∷ hex_digit (n % 16) ∷ []
 
 -- `$hh`
 abbrev pub hex2 : ℕ → List ℕ

@@ -1,7 +1,8 @@
 -- The parts of a line, as the lexer takes them: from the left, each as long as it can be.
 use Rattle.std.specs.Prelude.{ℕ, zero, suc, ◌+◌, Bool, ◌&&◌, ◌||◌, not, List, [], ◌∷◌, take, drop, min, nat_lt, ◌==◌, if◌then◌else◌}
 use Rattle.std.specs.List.{prefix_len}
-use Rattle.std.specs.Char.{is_ascii_digit, is_ascii_hexdigit, is_ascii_alphabetic, is_ascii_alphanumeric}
+use Rattle.std.specs.Char.{is_ascii_digit, is_ascii_hexdigit, is_ascii_alphabetic}
+use Rattle.text65.specs.Names.{is_word_byte}
 use Rattle.stmt65.specs.Signs.{tab, space, quote, dollar, dot, colon, semicolon, equals, underscore}
 use Rattle.stmt65.specs.Parts.{Part, Word, Number, Text, Define, Mark, begins_with}
 
@@ -12,10 +13,6 @@ is_blank b = b == space || b == tab
 -- a letter, `_` or `.`
 abbrev pub is_word_start : ℕ → Bool
 is_word_start b = is_ascii_alphabetic b || b == underscore || b == dot
-
--- a letter, a digit or `_`
-abbrev pub is_word_byte : ℕ → Bool
-is_word_byte b = is_ascii_alphanumeric b || b == underscore
 
 -- $20 to $7E without `"`
 abbrev pub is_text_byte : ℕ → Bool

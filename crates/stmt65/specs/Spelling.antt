@@ -2,6 +2,7 @@
 use Rattle.std.specs.Prelude.{◌≡◌, ◌⊎◌, ℕ, true, List, [], ◌∷◌, ◌++◌, codes, ◌==◌, if◌then◌else◌, Some, None}
 use Rattle.std.specs.Char.{is_ascii_alphabetic}
 use Rattle.isa65.specs.Mnemonic.{text_of}
+use Rattle.text65.specs.Names.{has_name_form}
 use Rattle.stmt65.specs.Signs.{star, plus, comma, minus, colon}
 use Rattle.stmt65.specs.declared.source_line.AddressSize.{AddressSize}
 use Rattle.stmt65.specs.declared.source_line.AddressSize.TheVariants.{Absolute, Automatic}
@@ -11,7 +12,7 @@ use Rattle.stmt65.specs.SourceLine.{Value, NumberValue, NameValue, Form, Datum, 
 use Rattle.stmt65.specs.Forms.{form_text, form_values, form_size, expression}
 use Rattle.stmt65.specs.Parts.{Part, Word, Number, Text, Define, Mark, number_of}
 use Rattle.stmt65.specs.Directives.{directive_text}
-use Rattle.stmt65.specs.Names.{same, has_name_form, is_name}
+use Rattle.stmt65.specs.Names.{same, is_name}
 
 -- what can stand in a line: a word in any case, a character, `:=`, a name with its case, a number, a string,
 -- a string of the form of a name, an expression, and lists joined by commas

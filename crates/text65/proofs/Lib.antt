@@ -1,1 +1,3 @@
 mod LineLaws
+mod NameLemmas
+pub mod Public

@@ -15,6 +15,7 @@ mod levels;
 mod lexing;
 mod lines;
 mod maps;
+mod names;
 mod opcodes;
 mod printed;
 mod printed_names;

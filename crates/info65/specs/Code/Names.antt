@@ -1,9 +1,5 @@
 -- What contracts see of a name.
-use Rattle.std.specs.Prelude.{◌≡◌, ◌||◌, ℕ, Bool, List, Result, Ok, Err, is_some, option_map}
-use Rattle.std.specs.List.{list_any}
-use Rattle.std.specs.Str.{str_eq_ignore_ascii_case}
-use Rattle.isa65.specs.Mnemonic.{mnemonic_named}
-use Rattle.info65.specs.Names.{registers}
+use Rattle.std.specs.Prelude.{◌≡◌, Result, Ok, Err, option_map}
 use Rattle.info65.specs.Views.{NameView}
 use Rattle.info65.specs.declared.fault.InfoFaultKind.{InfoFaultKind}
 use Rattle.info65.specs.declared.information.name.Given.{Given}
@@ -15,7 +11,3 @@ given_seen g = record { address = g.address; size = g.size; text = g.text.now; c
 abbrev pub SeesName : Result Given InfoFaultKind → Result NameView InfoFaultKind → Type 0
 SeesName (Ok n) defined = defined ≡ Ok (given_seen n)
 SeesName (Err f) defined = defined ≡ Err f
-
--- a register or a mnemonic, in any letter case
-abbrev pub is_word : List ℕ → Bool
-is_word text = list_any (str_eq_ignore_ascii_case text) registers || is_some (mnemonic_named text)

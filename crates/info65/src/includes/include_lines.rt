@@ -1,6 +1,6 @@
 //! What a line of an include file says.
 
-ghost use Rattle.std.specs.Prelude.{◌≡◌, ◌<◌, ◌≤◌, ◌∷◌, ◌==◌, [], MatchOption, drop, length, not, option_map};
+ghost use Rattle.std.specs.Prelude.{◌≡◌, ◌≤◌, ◌==◌, [], drop, length, option_map};
 ghost use Rattle.std.specs.Io.BufRead.{strip_last};
 ghost use Rattle.std.specs.List.{list_all, position_or_len, prefix_len, suffix_len};
 ghost use Rattle.info65.specs.Code.Includes.{SeesName};
@@ -10,7 +10,7 @@ ghost use Rattle.info65.specs.Includes.{address_written, as_address, assignment_
 use crate::fault::InfoFaultKind;
 use crate::information::name::Given;
 use crate::syntax::lexeme::number_in;
-use crate::syntax::names::are_name_bytes;
+use text65::are_word_bytes;
 
 // How many bytes stand before the first of this value.
 fn until(bytes: &[u8], end: u8) -> usize
@@ -100,7 +100,7 @@ fn is_identifier(text: &[u8]) -> bool
     match text {
         [] => false,
         [first, rest @ ..] => {
-            (first.is_ascii_alphabetic() || *first == b'_') && are_name_bytes(rest)
+            (first.is_ascii_alphabetic() || *first == b'_') && are_word_bytes(rest)
         }
     }
 }

@@ -8,6 +8,7 @@ ghost use Rattle.info65.specs.Code.Steps.{Sees, kind_seen, lexeme_seen};
 use crate::fault::{InfoFault, InfoFaultKind};
 use crate::syntax::digits::number_of_digits;
 use crate::syntax::token::TokenKind;
+use text65::is_word_byte;
 
 /// Bytes that run on within a token.
 #[derive(Clone, Copy)]
@@ -30,7 +31,7 @@ fn is_in(class: Class, byte: u8) -> bool
     ensures { result ≡ in_class class byte }
 {
     match class {
-        Class::Word => byte.is_ascii_alphanumeric() || byte == b'_',
+        Class::Word => is_word_byte(byte),
         Class::Decimal => byte.is_ascii_digit(),
         Class::Hexadecimal => byte.is_ascii_hexdigit(),
         Class::Text => byte == b'\t' || byte >= 0x20 && byte < 0x7F && byte != b'"' || byte >= 0x80,

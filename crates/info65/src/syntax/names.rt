@@ -1,39 +1,10 @@
-//! The texts of names: their form, and which of them are reserved.
+//! The texts of comments, the default names of addresses, and which names are reserved.
 
-ghost use Rattle.std.specs.Prelude.{◌≡◌, ◌<◌};
-ghost use Rattle.std.specs.List.{list_all, list_any};
-ghost use Rattle.std.specs.Str.{str_eq_ignore_ascii_case};
-ghost use Rattle.info65.specs.Code.Names.{is_word};
-ghost use Rattle.info65.specs.Names.{default_name, has_comment_form, has_name_form, hex_digit, is_comment_byte, is_like_default, is_name_byte, is_reserved, is_upper_hex, registers};
+ghost use Rattle.std.specs.Prelude.{◌≡◌};
+ghost use Rattle.std.specs.List.{list_all};
+ghost use Rattle.info65.specs.Names.{default_name, has_comment_form, is_comment_byte, is_like_default, is_reserved, is_upper_hex};
 
-use isa65::Mnemonic;
-
-// The bytes of the longest mnemonic. A register has one.
-const LONGEST_WORD: usize = 4;
-
-/// Letters, digits and `_`.
-pub fn are_name_bytes(bytes: &[u8]) -> bool
-    ensures { result ≡ list_all is_name_byte bytes.now }
-{
-    bytes
-        .iter()
-        .all(|b| b.is_ascii_alphanumeric() || *b == b'_')
-}
-
-/// The text is a letter or `_`, then letters, digits and `_`, 1 to 80 bytes.
-#[tactic(auto, unfolding(crate::specs::Names::has_name_form))]
-pub fn has_name_form(text: &[u8]) -> bool
-    ensures { result ≡ has_name_form text.now }
-{
-    match text {
-        [] => false,
-        [first, rest @ ..] => {
-            (first.is_ascii_alphabetic() || *first == b'_')
-                && are_name_bytes(rest)
-                && rest.len() < 80
-        }
-    }
-}
+use text65::{hex_digit, is_reserved_word};
 
 fn are_comment_bytes(bytes: &[u8]) -> bool
     ensures { result ≡ list_all is_comment_byte bytes.now }
@@ -49,17 +20,6 @@ pub fn has_comment_form(text: &[u8]) -> bool
     ensures { result ≡ has_comment_form text.now }
 {
     text.len() <= 200 && are_comment_bytes(text)
-}
-
-fn hex_digit(digit: u8) -> u8
-    requires { digit < 16 }
-    ensures { result ≡ hex_digit digit }
-{
-    if digit < 10 {
-        b'0' + digit
-    } else {
-        b'A' - 10 + digit
-    }
 }
 
 /// Returns the default name of an address: `L` and its four hex digits, in upper case.
@@ -93,31 +53,10 @@ fn is_like_default(text: &[u8]) -> bool
     text.len() == 5 && text[0] == b'L' && are_upper_hex(&text[1..])
 }
 
-fn is_register(text: &[u8]) -> bool
-    ensures { result ≡ list_any (str_eq_ignore_ascii_case text.now) registers }
-{
-    text.eq_ignore_ascii_case(b"A")
-        || text.eq_ignore_ascii_case(b"F")
-        || text.eq_ignore_ascii_case(b"S")
-        || text.eq_ignore_ascii_case(b"X")
-        || text.eq_ignore_ascii_case(b"Y")
-        || text.eq_ignore_ascii_case(b"Z")
-}
-
-// A register or a mnemonic. Most names are longer than these, and then the words need not be compared.
-fn is_word(text: &[u8]) -> bool
-    ensures { result ≡ is_word text.now }
-{
-    if text.len() > LONGEST_WORD {
-        return false;
-    }
-    is_register(text) || Mnemonic::from_bytes(text).is_some()
-}
-
 /// The address can't have this name: it is a register, a mnemonic, or the default name of another address.
-#[tactic(auto, using(crate::proofs::ReservedLemmas::reserved_by))]
+#[tactic(auto, unfolding(crate::specs::Names::is_reserved))]
 pub fn is_reserved(address: u16, text: &[u8]) -> bool
     ensures { result ≡ is_reserved address text.now }
 {
-    is_word(text) || is_like_default(text) && text != default_name(address).as_slice()
+    is_reserved_word(text) || is_like_default(text) && text != default_name(address).as_slice()
 }

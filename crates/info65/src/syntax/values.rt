@@ -10,10 +10,11 @@ use crate::information::options::Options;
 use crate::information::range::RangeType;
 use crate::syntax::assignment::Value;
 use crate::syntax::attribute::{Attribute, Form, boolean_named, form_of, type_named};
-use crate::syntax::names::{has_comment_form, has_name_form};
+use crate::syntax::names::has_comment_form;
 use crate::syntax::token::{Token, TokenKind};
 use isa65::Cpu;
 use std::alloc::Allocator;
+use text65::has_name_form;
 
 #[tactic(auto, unfolding(crate::specs::Values::is_on_command_line))]
 fn is_on_command_line<A: Allocator>(options: &Options<A>, attribute: Attribute) -> bool

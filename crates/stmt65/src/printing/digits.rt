@@ -1,14 +1,16 @@
 //! Numbers in hex digits and in decimal.
 
 ghost use Rattle.std.specs.Prelude.{◌≡◌, ◌+◌, ◌<◌, ◌≤◌, ◌++◌, decimal, true};
+ghost use Rattle.text65.specs.Digits.{hex_digit, digits4};
 ghost use Rattle.arrayvec.specs.ArrayVec.{array_vec_len};
-ghost use Rattle.stmt65.specs.Digits.{hex_digit, digits2, digits4, hex2, hex4, offset_text};
+ghost use Rattle.stmt65.specs.Digits.{digits2, hex2, hex4, offset_text};
 ghost use Rattle.stmt65.specs.Statements.{distance_text};
 ghost use Rattle.stmt65.specs.Code.StatementViews.{in_hex};
 
 use crate::printing::fields::put;
 use crate::printing::line::Line;
 use itoa::Buffer;
+use text65::hex_digit;
 
 /// How offsets and distances are written.
 #[derive(Clone, Copy, Debug, PartialEq, Eq)]
@@ -33,17 +35,6 @@ impl Offsets {
         } else {
             Offsets::Decimal
         }
-    }
-}
-
-fn hex_digit(digit: u8) -> u8
-    requires { digit < 16 }
-    ensures { result ≡ hex_digit digit }
-{
-    if digit < 10 {
-        b'0' + digit
-    } else {
-        b'A' - 10 + digit
     }
 }
 

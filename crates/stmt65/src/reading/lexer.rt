@@ -3,8 +3,11 @@
 ghost use Rattle.std.specs.Prelude.{◌≡◌, ◌+◌, ◌<◌, ◌≤◌, [], ◌∷◌, length, MatchOption, drop, slice_index, false};
 ghost use Rattle.std.specs.List.{prefix_len};
 ghost use Rattle.std.specs.Char.{is_ascii_digit, is_ascii_hexdigit};
-ghost use Rattle.stmt65.specs.Lexing.{is_blank, is_word_start, is_word_byte, is_text_byte, hex_len, part_at, parts};
+ghost use Rattle.text65.specs.Names.{is_word_byte};
+ghost use Rattle.stmt65.specs.Lexing.{is_blank, is_word_start, is_text_byte, hex_len, part_at, parts};
 ghost use Rattle.stmt65.specs.Code.PartViews.{part_of};
+
+use text65::is_word_byte;
 
 /// What stands in a line: words and numbers as they are written, the bytes between the quotes of a
 /// string, `:=`, and any other byte by itself.
@@ -27,13 +30,6 @@ fn is_word_start(b: u8) -> bool
     ensures { result ≡ is_word_start b }
 {
     b.is_ascii_alphabetic() || b == b'_' || b == b'.'
-}
-
-/// Whether the byte is a letter, a digit or `_`.
-pub fn is_word_byte(b: u8) -> bool
-    ensures { result ≡ is_word_byte b }
-{
-    b.is_ascii_alphanumeric() || b == b'_'
 }
 
 fn is_text_byte(b: u8) -> bool

@@ -11,13 +11,14 @@ ghost use Rattle.stmt65.specs.SourceLine.{Code};
 use crate::directive::Directive;
 use crate::reading::expressions::next_value;
 use crate::reading::lexer::Part;
-use crate::reading::names::{has_name_form, is_word};
+use crate::reading::names::is_word;
 use crate::reading::numeral::Numeral;
 use crate::reading::operands::form_of;
 use crate::reading::parts::Parts;
 use crate::source_line::{Datum, Operation, Value};
 use isa65::Mnemonic;
 use std::alloc::{AllocError, Allocator};
+use text65::has_name_form;
 
 /// What stands in a list.
 trait Listed<'a>: Sized {
