@@ -41,7 +41,6 @@ pub mod Readings
 pub mod Knowledge
 pub mod ValueLaws
 pub mod WorthLaws
-pub mod NumberLemmas
 pub mod OperandLaws
 pub mod GroupStands
 pub mod ForcedLaws

@@ -2,9 +2,9 @@
 use Rattle.std.proofs.Common.{◌≡◌, ◌∙◌, ◌==◌, ℕ, true, false, refl, sym, ◌+◌, ◌*◌, ◌≤◌, ◌<◌, List, [], ◌∷◌, length, get_or, drop, min, ap, arith, ⊎_elim, ◌&&◌, lt-ltb}
 use Rattle.std.proofs.lemmas.List.{at_drop_more}
 use Rattle.std.proofs.lemmas.Bool.Decides.{nat_tests}
-use Rattle.std.specs.Prelude.{Option, Some, None, nat_le}
+use Rattle.std.specs.Prelude.{Option, Some, None, nat_le, if◌then◌else◌}
 use Rattle.info65.specs.Digits.{number_of_digits}
-use Rattle.info65.specs.Lexemes.{are_digits, number_in}
+use Rattle.info65.specs.Lexemes.{are_digits}
 use Rattle.info65.proofs.Cases.{by_test}
 use Rattle.std.proofs.Math.Nat.{mul-le-mul_left}
 use Rattle.std.proofs.str.Laws.{order}
@@ -36,9 +36,16 @@ next_value radix value ds i here = at_drop_more (digits_value_after radix value)
 
 -- ---- a number that is at most a limit
 
-pub number_none : (radix : ℕ) (ds : List ℕ) → None ≡ number_of_digits radix ds → None ≡ number_in radix ds
-unfolding number_of_digits number_in
-number_none radix ds h =
+-- what digits give where a number may be at most so great: `bad` if they write none, `high` if it is greater
+abbrev pub number_upto : {R : Type 0} → R → R → (ℕ → R) → ℕ → ℕ → List ℕ → R
+number_upto bad high good radix most ds =
+    if length ds == 0 then bad
+    else (if are_digits radix ds then (if nat_le (digits_value radix ds) most then good (digits_value radix ds) else high)
+    else bad)
+
+pub number_none : {R : Type 0} (bad high : R) (good : ℕ → R) (radix most : ℕ) (ds : List ℕ) → None ≡ number_of_digits radix ds → bad ≡ number_upto bad high good radix most ds
+unfolding number_of_digits
+number_none bad high good radix most ds h =
     by_test (length ds == 0)
     (λ none. rw none refl)
     (λ some. by_test (are_digits radix ds)
@@ -59,18 +66,18 @@ number_is radix ds value h =
     (λ yes. let is : ◌≡◌ {A = Option ℕ} (Some value) (Some (min (digits_value radix ds) 0x1_0000_0000)) = rw (some, yes) at h in record { some = some; digits = yes; is = cc })
     (λ no_digits. let wrong : ◌≡◌ {A = Option ℕ} (Some value) None = rw (some, no_digits) at h in absurd cc))
 
-pub number_small : (radix : ℕ) (ds : List ℕ) (value : ℕ) → Some value ≡ number_of_digits radix ds → value ≤ 0xFFFF_FFFF → Some value ≡ number_in radix ds
-unfolding number_in
-number_small radix ds value h small =
+pub number_small : {R : Type 0} (bad high : R) (good : ℕ → R) (radix most : ℕ) (ds : List ℕ) (value : ℕ)
+    → Some value ≡ number_of_digits radix ds → most < 0x1_0000_0000 → value ≤ most → good value ≡ number_upto bad high good radix most ds
+number_small bad high good radix most ds value h room small =
     let n = number_is radix ds value h in
-    let same : digits_value radix ds ≡ value = omega (arith, n.is, small) in
-    let fits : nat_le (digits_value radix ds) 0xFFFF_FFFF ≡ true = grind (arith, nat_tests, same, small) in
-    rw (n.some, n.digits, fits) (ap (λ (v : ℕ). Some v) (sym same))
+    let same : digits_value radix ds ≡ value = omega (arith, n.is, small, room) in
+    let fits : nat_le (digits_value radix ds) most ≡ true = grind (arith, nat_tests, same, small) in
+    rw (n.some, n.digits, fits) (ap good (sym same))
 
-pub number_great : (radix : ℕ) (ds : List ℕ) (value : ℕ) → Some value ≡ number_of_digits radix ds → 0xFFFF_FFFF < value → None ≡ number_in radix ds
-unfolding number_in
-number_great radix ds value h great =
+pub number_great : {R : Type 0} (bad high : R) (good : ℕ → R) (radix most : ℕ) (ds : List ℕ) (value : ℕ)
+    → Some value ≡ number_of_digits radix ds → most < value → high ≡ number_upto bad high good radix most ds
+number_great bad high good radix most ds value h great =
     let n = number_is radix ds value h in
-    let past : 0xFFFF_FFFF < digits_value radix ds = omega (arith, n.is, great) in
-    let out : nat_le (digits_value radix ds) 0xFFFF_FFFF ≡ false = grind (arith, nat_tests, past) in
+    let past : most < digits_value radix ds = omega (arith, n.is, great) in
+    let out : nat_le (digits_value radix ds) most ≡ false = grind (arith, nat_tests, past) in
     rw (n.some, n.digits, out) refl

@@ -1,12 +1,19 @@
 use Rattle.std.proofs.Common.{arith}
+use Rattle.std.specs.Prelude.{Some, None}
+use Rattle.info65.specs.Lexemes.{number_in}
 use Rattle.info65.proofs.NumberLemmas.{number_great, number_none, number_small}
 use Rattle.info65.proofs.syntax.lexeme.number_in.Goals as goal
 
 pub returns-in-Some-clause-value : goal.returns-in-Some-clause-value
-returns-in-Some-clause-value c = number_small c.args.radix c.args.digits.now c.in-Some.value c.in-Some.ensures.value (omega (arith, c.from.ensures, c.if-value-from.true))
+unfolding number_in
+returns-in-Some-clause-value c =
+    number_small None None (λ n. Some n) c.args.radix 0xFFFF_FFFF c.args.digits.now c.in-Some.value c.in-Some.ensures.value (omega arith) (omega (arith, c.from.ensures, c.if-value-from.true))
 
 pub returns-in_default-clause-value : goal.returns-in_default-clause-value
-returns-in_default-clause-value c = number_great c.args.radix c.args.digits.now c.in-Some.value c.in-Some.ensures.value (omega (arith, c.from.ensures, c.if-value-from.false))
+unfolding number_in
+returns-in_default-clause-value c =
+    number_great None None (λ n. Some n) c.args.radix 0xFFFF_FFFF c.args.digits.now c.in-Some.value c.in-Some.ensures.value (omega (arith, c.from.ensures, c.if-value-from.false))
 
 pub returns-in_default-2-clause-value : goal.returns-in_default-2-clause-value
-returns-in_default-2-clause-value c = number_none c.args.radix c.args.digits.now c.in_default.ensures.value
+unfolding number_in
+returns-in_default-2-clause-value c = number_none None None (λ n. Some n) c.args.radix 0xFFFF_FFFF c.args.digits.now c.in_default.ensures.value
