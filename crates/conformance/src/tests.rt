@@ -19,3 +19,4 @@ mod runs;
 mod segments;
 mod settings;
 mod texts;
+mod work;

@@ -1,5 +1,5 @@
 // Listings for each CPU, and their assembly.
-use crate::tests::asserts::assert_equal_at;
+use crate::tests::asserts::{assert_equal_at, assert_same};
 use crate::tests::command_lines::options_on;
 use crate::tests::runs::{assert_assembles, gives};
 use da65::UsageFault;
@@ -175,7 +175,7 @@ fn lines_by_cpu(rt: HostRuntime) {
             row.lines
         )
         .expect(&rt, "format");
-        assert_equal_at(&rt, &found.as_str(), &want.as_str(), &row.cpu);
+        assert_same(&rt, found.as_bytes(), want.as_bytes(), &row.cpu);
     }
 }
 

@@ -67,6 +67,7 @@ pub struct Tape<'a> {
     at_once: usize,
     failing: Failing,
     given: usize,
+    reads: usize,
 }
 
 impl<'a> Tape<'a> {
@@ -77,6 +78,7 @@ impl<'a> Tape<'a> {
             at_once,
             failing: Failing::new(bytes.len(), None),
             given: 0,
+            reads: 0,
         }
     }
 
@@ -87,12 +89,18 @@ impl<'a> Tape<'a> {
             at_once: 1,
             failing: Failing::new(room, Some(Fault::Fails(kind))),
             given: 0,
+            reads: 0,
         }
     }
 
     /// How many bytes it gave.
     pub fn given(&self) -> usize {
         self.given
+    }
+
+    /// How many reads there were.
+    pub fn reads(&self) -> usize {
+        self.reads
     }
 
     /// How many reads came after the one that failed.
@@ -103,6 +111,7 @@ impl<'a> Tape<'a> {
 
 impl Read for Tape<'_> {
     fn read(&mut self, buf: &mut [u8]) -> io::Result<usize> {
+        self.reads = self.reads.saturating_add(1);
         let most = self.failing.moves(buf.len().min(self.at_once))?;
         let room = &mut buf[..most];
         let n = self.bytes.read(room)?;
@@ -178,6 +187,37 @@ impl Write for ByBytes<'_> {
     fn write(&mut self, buf: &[u8]) -> io::Result<usize> {
         let n = buf.len().min(1);
         self.bytes.extend_from_slice(&buf[..n])?;
+        Ok(n)
+    }
+
+    fn flush(&mut self) -> io::Result<()> {
+        Ok(())
+    }
+}
+
+/// A writer that counts its bytes and its writes, each of which takes at most `at_once` bytes.
+#[derive(Debug, Drop)]
+pub struct Counted {
+    at_once: usize,
+    pub bytes: usize,
+    pub writes: usize,
+}
+
+impl Counted {
+    pub fn new(at_once: usize) -> Counted {
+        Counted {
+            at_once,
+            bytes: 0,
+            writes: 0,
+        }
+    }
+}
+
+impl Write for Counted {
+    fn write(&mut self, buf: &[u8]) -> io::Result<usize> {
+        let n = buf.len().min(self.at_once);
+        self.bytes = self.bytes.saturating_add(n);
+        self.writes = self.writes.saturating_add(1);
         Ok(n)
     }
 

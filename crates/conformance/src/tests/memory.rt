@@ -1,6 +1,8 @@
 // Worked rows through `run`, over memory that is counted and over memory that is refused.
 use crate::heap::Refusing;
-use crate::tests::asserts::{assert_equal, assert_equal_at, assert_that, assert_that_at};
+use crate::tests::asserts::{
+    assert_equal, assert_equal_at, assert_same, assert_that, assert_that_at,
+};
 use crate::tests::command_lines::options_on;
 use crate::tests::refusals::{MANY, Refusals};
 use crate::tests::runs::{NAMED, run_including, run_with, shown};
@@ -12,15 +14,15 @@ use std::process::Abort;
 
 /// The words of a command line, an information file, what `k.inc` has, and an input; then the result, the messages and the
 /// listing.
-struct Row {
-    words: &'static [&'static str],
-    info: &'static str,
-    include: &'static str,
-    input: &'static [u8],
-    gives: &'static str,
+pub struct Row {
+    pub words: &'static [&'static str],
+    pub info: &'static str,
+    pub include: &'static str,
+    pub input: &'static [u8],
+    pub gives: &'static str,
 }
 
-const ROWS: &[Row] = &[
+pub const ROWS: &[Row] = &[
     // three bytes
     Row {
         words: &["a.bin"],
@@ -153,7 +155,7 @@ fn assert_row(rt: &impl Abort, alloc: Global, row: &Row) {
         refusals.count(rt, &heap, granted, failed);
         let found = shown(rt, alloc, &ran);
         let want = if failed { "Err(Memory)\n" } else { row.gives };
-        assert_equal_at(rt, &found.as_str(), &want, &granted);
+        assert_same(rt, found.as_bytes(), want.as_bytes(), &granted);
         if !failed {
             break;
         }
@@ -168,8 +170,44 @@ fn each_allocation_refused_in_turn(rt: HostRuntime) {
     }
 }
 
-/// Calls the parts of a run one after the other, up to the first that refuses. At most two files are included. The map is one
-/// allocation.
+/// A map has two bytes for each address, and so has the table of ranges.
+const CELLS: u64 = 131_072;
+
+/// Names are found by four bytes for each address and four for each of 131,072 slots.
+const NAME_TABLES: u64 = 262_144 + 524_288;
+
+/// One byte for each address, for the addresses that an include file names.
+const MARKS: u64 = 65_536;
+
+/// What else an information file or an include file of these rows is granted, at most.
+const SMALL: u64 = 1_024;
+
+/// How many bytes are granted for an image of this size, which is read 4,096 bytes at a time into a vector that doubles.
+fn image_bytes(count: usize) -> u64 {
+    if count == 0 {
+        return 0;
+    }
+    let count = count as u64;
+    let mut room = count.clamp(8, 4_096);
+    let mut granted = room;
+    for _ in 0..64u8 {
+        if room < count {
+            room = room.saturating_mul(2);
+            granted = granted.saturating_add(room);
+        }
+    }
+    granted
+}
+
+/// Since it had granted `before` bytes, the heap granted so many, and at most `more`.
+fn assert_granted(rt: &impl Abort, heap: &Refusing<Global>, before: u64, bytes: u64, more: u64) {
+    let granted = heap.bytes().saturating_sub(before);
+    let wanted = granted.max(bytes).min(bytes.saturating_add(more));
+    assert_equal(rt, &granted, &wanted);
+}
+
+/// Calls the parts of a run one after the other, up to the first that refuses, and looks at what each is granted. At most two
+/// files are included. The map is one allocation.
 fn call_parts(
     rt: &impl Abort,
     heap: &Refusing<Global>,
@@ -179,22 +217,39 @@ fn call_parts(
     input: &[u8],
 ) {
     let Ok(mut info) = read_info(heap, options, info) else {
+        assert_granted(rt, heap, 0, CELLS, SMALL);
         return;
     };
+    let tables = if info.given_count() == 0 {
+        0
+    } else {
+        NAME_TABLES
+    };
+    assert_granted(rt, heap, 0, CELLS.saturating_add(tables), SMALL);
     for index in 0..2 {
-        if index < info.includes().len() && read_include(heap, &mut info, index, include).is_err() {
-            return;
+        if index < info.includes().len() {
+            let before = heap.bytes();
+            let read = read_include(heap, &mut info, index, include);
+            assert_granted(rt, heap, before, NAME_TABLES + MARKS, SMALL);
+            if read.is_err() {
+                return;
+            }
         }
     }
-    let Ok(image) = read_image(heap, &info, &mut Told::new(input)) else {
+    let before = heap.bytes();
+    let read = read_image(heap, &info, &mut Told::new(input));
+    assert_granted(rt, heap, before, image_bytes(input.len()), 0);
+    let Ok(image) = read else {
         return;
     };
-    let before = heap.left();
+    let allocations = heap.left();
+    let before = heap.bytes();
     assert_that(rt, Map::build(heap, &info, &image).is_ok());
-    assert_equal(rt, &before.wrapping_sub(heap.left()), &1);
+    assert_equal(rt, &allocations.wrapping_sub(heap.left()), &1);
+    assert_granted(rt, heap, before, CELLS, 0);
 }
 
-/// A run allocates as often as its parts do by themselves.
+/// A run allocates as often as its parts do by themselves, and as many bytes.
 fn assert_as_its_parts(
     rt: &impl Abort,
     alloc: Global,
@@ -214,6 +269,7 @@ fn assert_as_its_parts(
     let whole = Refusing::after(alloc, u64::MAX);
     run_including(alloc, &whole, &options, info.as_bytes(), &files, input);
     assert_equal_at(rt, &whole.left(), &parts.left(), &info);
+    assert_equal_at(rt, &whole.bytes(), &parts.bytes(), &info);
 }
 
 #[test]

@@ -1,5 +1,5 @@
 // Runs with ranges.
-use crate::tests::asserts::assert_equal_at;
+use crate::tests::asserts::assert_same;
 use crate::tests::runs::{AT_1000, HEADER, assert_lists, assert_refused, gives};
 
 /// What is written if a byte of the image is skipped.
@@ -174,7 +174,7 @@ fn lines_and_warnings(rt: HostRuntime) {
             let want = format!(in rt.alloc(); "Ok(Done)\n{WARNING}{HEADER}{lines}").expect(
                 &rt, "format",
             );
-            assert_equal_at(&rt, &found.as_str(), &want.as_str(), &row.info);
+            assert_same(&rt, found.as_bytes(), want.as_bytes(), &row.info);
         } else {
             assert_lists(&rt, rt.alloc(), &found, row.lines, START, row.image);
         }

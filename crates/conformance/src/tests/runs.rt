@@ -1,5 +1,5 @@
 // Runs over memory, and over devices.
-use crate::tests::asserts::{assert_equal, assert_equal_at, assert_that_at};
+use crate::tests::asserts::{assert_equal_at, assert_same};
 use crate::tests::command_lines::options_on;
 use crate::tests::devices::ByBytes;
 use da65::{File, Options, RunFault, Status, Told, run};
@@ -40,7 +40,7 @@ pub fn gives(
     let found = shown(rt, alloc, &ran);
     let slow = run_by_bytes(alloc, &options, info.as_bytes(), files, input);
     let slow = shown(rt, alloc, &slow);
-    assert_that_at(rt, slow.as_str() == found.as_str(), &info);
+    assert_same(rt, slow.as_bytes(), found.as_bytes(), &info);
     found
 }
 
@@ -66,7 +66,7 @@ pub fn assert_assembles(rt: &impl Abort, alloc: Global, found: &str, start: u16,
         None => "?",
     };
     let bytes = assemble(alloc, listing.as_bytes(), start).expect(rt, "assemble");
-    assert_that_at(rt, bytes.as_slice() == image, &listing);
+    assert_same(rt, &bytes, image, &start);
 }
 
 /// This is what a run gives that lists, without a message: the header, and then these lines. They assemble from this start to the
@@ -80,14 +80,14 @@ pub fn assert_lists(
     image: &[u8],
 ) {
     let want = format!(in alloc; "Ok(Done)\n{HEADER}{lines}").expect(rt, "format");
-    assert_equal(rt, &found, &want.as_str());
+    assert_same(rt, found.as_bytes(), want.as_bytes(), &start);
     assert_assembles(rt, alloc, found, start, image);
 }
 
 /// This is what a run gives that is refused with this message.
 pub fn assert_refused(rt: &impl Abort, alloc: Global, found: &str, message: &str) {
     let want = format!(in alloc; "Ok(Refused)\nda65: {message}\n").expect(rt, "format");
-    assert_equal(rt, &found, &want.as_str());
+    assert_same(rt, found.as_bytes(), want.as_bytes(), &message);
 }
 
 /// The listing of an image from this start on, under an information file, assembles to the image.
@@ -96,7 +96,7 @@ pub fn assert_back(rt: &impl Abort, alloc: Global, start: u16, info: &[u8], imag
     let ran = run_with(alloc, alloc, &options, info, image);
     assert_equal_at(rt, &ran.result, &Ok(Status::Done), &info.escape_ascii());
     let bytes = assemble(alloc, &ran.listing, start).expect(rt, "assemble");
-    assert_that_at(rt, bytes.as_slice() == image, &info.escape_ascii());
+    assert_same(rt, &bytes, image, &info.escape_ascii());
 }
 
 /// What a run returned, and what it wrote.

@@ -1,5 +1,5 @@
 // Listings with segments, comments and columns.
-use crate::tests::asserts::{assert_equal, assert_equal_at, assert_that, assert_that_at};
+use crate::tests::asserts::{assert_equal, assert_same, assert_that, assert_that_at};
 use crate::tests::ranges::WARNING;
 use crate::tests::runs::{AT_1000, HEADER, assert_assembles, assert_refused, gives, gives_from};
 use std::alloc::{AllocError, Global};
@@ -208,7 +208,7 @@ fn worked_listings(rt: HostRuntime) {
             &rt, "format",
         );
         assert_that_at(&rt, front.starts_with(want.as_str()), &row.info);
-        assert_equal_at(&rt, &lines, &row.lines, &row.info);
+        assert_same(&rt, lines.as_bytes(), row.lines.as_bytes(), &row.info);
         assert_assembles(&rt, rt.alloc(), &found, 0x1000, row.image);
     }
 }
