@@ -13,6 +13,7 @@ pub mod BaseLemmas
 pub mod BareLemmas
 pub mod SkipLemmas
 pub mod EntryLemmas
+pub mod WrittenOps
 pub mod CommandLemmas
 pub mod MatchLemmas
 pub mod Rows

@@ -1,8 +1,12 @@
 -- The groups that the code lists, and their statements.
-use Rattle.std.proofs.Common.{◌≡◌, ◌∙◌, ℕ, ◌+◌, ◌<◌, ◌≤◌, Bool, List, Option, length, refl, ap, sym, subst, arith}
+use Rattle.std.proofs.Common.{◌≡◌, ◌∙◌, ℕ, ◌+◌, ◌<◌, ◌≤◌, Bool, List, Option, None, Some, length, refl, ap, sym, subst, arith}
 use Rattle.isa65.specs.Cpu.{table_of}
+use Rattle.isa65.specs.Mode.{len_of}
 use Rattle.isa65.specs.Opcodes.{Table}
 use Rattle.isa65.specs.declared.cpu.Cpu.{Cpu}
+use Rattle.isa65.specs.declared.mode.Mode.{Mode}
+use Rattle.isa65.specs.declared.mode.Mode.TheVariants.{Imp}
+use Rattle.isa65.specs.declared.op.Op.{Op}
 use Rattle.info65.specs.declared.information.range.RangeType.{RangeType}
 use Rattle.info65.specs.declared.information.range.RangeType.TheVariants.{Code}
 use Rattle.map65.specs.ImageView.{IsPlaced}
@@ -13,6 +17,7 @@ use Rattle.stmt65.specs.Views.{StatementView}
 use Rattle.da65.specs.BaseNames.{Names, names_of}
 use Rattle.da65.specs.Code.ListedGroups.{IsGroupIn}
 use Rattle.da65.specs.Groups.{group_bytes}
+use Rattle.da65.specs.Instructions.{instruction_in, size_of}
 use Rattle.da65.specs.Listing.{group_line, has_empty_line, line_text}
 use Rattle.da65.specs.Shapes.{IsGroupOf}
 use Rattle.da65.specs.Statements.{statement_at, statement_for, statement_in}
@@ -38,6 +43,23 @@ of-role m cpu g same is =
 
 pub is-short : (m : MapView) (g : Group) → IsGroupIn m g → length g.bytes.now ≤ 16
 is-short m g is = few-bytes (opcodes m) g.role g.bytes.now (of-role m m.info.settings.cpu g refl is)
+
+-- ---- code
+
+-- an item of code is an instruction, or one byte
+pub code-item : (m : MapView) (cpu : Cpu) (g : Group) → cpu ≡ m.info.settings.cpu → g.role ≡ Code → IsGroupIn m g → size_of (instruction_in (table_of cpu) g.bytes.now) ≡ length g.bytes.now
+code-item m cpu g same code is = subst (λ (r : RangeType). IsGroupOf (table_of cpu) r g.bytes.now) code (of-role m cpu g same is)
+
+len-few : (x : Mode) → len_of x ≤ 8
+len-few Imp = omega arith
+len-few _ = omega arith
+
+size-few : (o : Option Op) → size_of o ≤ 8
+size-few None = omega arith
+size-few (Some op) = len-few op.mode
+
+pub code-fits : (m : MapView) (g : Group) → g.role ≡ Code → IsGroupIn m g → (1 ≤ length g.bytes.now) × (length g.bytes.now ≤ 8)
+code-fits m g code is = (omega (arith, has-bytes m g is), omega (arith, size-few (instruction_in (opcodes m) g.bytes.now), code-item m m.info.settings.cpu g refl code is))
 
 -- the statement of code is that of a group of its role
 pub code-for : (n : Names) (t : Table) (r : RangeType) (a : ℕ) (bytes : List ℕ) (s : StatementView) → r ≡ Code → s ≡ statement_in n t a bytes → s ≡ statement_for n t r a bytes

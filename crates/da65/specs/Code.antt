@@ -8,3 +8,4 @@ pub mod Preparing
 pub mod Refusals
 pub mod SegmentReentry
 pub mod SkipRanges
+pub mod WrittenOps

@@ -21,7 +21,7 @@ use crate::listing::line_groups::{group_len, role_inside};
 use crate::listing::listed_image::ListedImage;
 use crate::listing::place::ListingPlace;
 use crate::listing::statement_line::{put_plain, put_statement};
-use crate::listing::statements::{OperandNames, code_statement, table_statement};
+use crate::listing::statements::{OperandNames, instruction, table_statement, written_op};
 use crate::listing::style::has_empty_line;
 use info65::RangeType;
 use map65::NameBuf;
@@ -146,6 +146,34 @@ fn put_table_line<A: Allocator>(
     put_group_statement(out, listed, group, label, &statement)
 }
 
+/// Replaces the buffer by the line of an item of code, after this label if there is one, and returns the next place.
+#[inline(always)]
+fn put_code_line<A: Allocator>(
+    out: &mut Line,
+    listed: &ListedImage<'_, A>,
+    names: &mut OperandNames,
+    group: Group<'_>,
+    label: Option<&[u8]>,
+) -> ListingPlace
+    requires code { group.role ≡ RangeType.Code }
+    requires group { IsGroupIn listed.now group }
+    requires label { MayBeLabelled (style_of listed.now.info.settings).columns (option_copied label) (statement_at listed.now (listed.now.image.start + group.index)) }
+    ensures { IsNext listed.now (group_line (option_copied label.entry) (statement_at listed.now (listed.now.image.start + group.entry.index)) (listed.now.image.start + group.entry.index) (group_bytes listed.now (listed.now.image.start + group.entry.index)) ∷ after_group listed.now group.entry.index) out.new.items result (segment_at listed.now (listed.now.image.start + group.entry.index)) }
+{
+    let map = listed.map();
+    let opcodes = listed.opcodes();
+    match written_op(opcodes, group.address, group.bytes) {
+        Some(op) => {
+            let statement = instruction(opcodes, map, op, group.address, group.bytes, names);
+            put_group_statement(out, listed, group, label, &statement)
+        }
+        None => {
+            let statement = Statement::Bytes(group.bytes);
+            put_group_statement(out, listed, group, label, &statement)
+        }
+    }
+}
+
 /// Replaces the buffer by the statement of a group, after this label if there is one, and returns the next place.
 #[inline(always)]
 fn put_group<A: Allocator>(
@@ -160,16 +188,7 @@ fn put_group<A: Allocator>(
     ensures { IsNext listed.now (group_line (option_copied label.entry) (statement_at listed.now (listed.now.image.start + group.entry.index)) (listed.now.image.start + group.entry.index) (group_bytes listed.now (listed.now.image.start + group.entry.index)) ∷ after_group listed.now group.entry.index) out.new.items result (segment_at listed.now (listed.now.image.start + group.entry.index)) }
 {
     match group.role {
-        RangeType::Code => {
-            let statement = code_statement(
-                listed.opcodes(),
-                listed.map(),
-                group.address,
-                group.bytes,
-                names,
-            );
-            put_group_statement(out, listed, group, label, &statement)
-        }
+        RangeType::Code => put_code_line(out, listed, names, group, label),
         _ => put_table_line(out, listed, names, group, label),
     }
 }

@@ -7,8 +7,10 @@ ghost use Rattle.isa65.specs.Opcodes.{Table};
 ghost use Rattle.map65.specs.Targets.{entry_of, target_of};
 ghost use Rattle.stmt65.specs.Printable.{IsPrintable, IsWrittenIn};
 ghost use Rattle.stmt65.specs.Reading.{is_absolute};
-ghost use Rattle.stmt65.specs.Code.StatementViews.{operands_seen, statement_seen};
+ghost use Rattle.stmt65.specs.Code.StatementViews.{expr_seen, operands_seen, statement_seen};
+ghost use Rattle.stmt65.specs.Views.{one};
 ghost use Rattle.da65.specs.BaseNames.{Names, names_of};
+ghost use Rattle.da65.specs.Code.WrittenOps.{IsWrittenOp};
 ghost use Rattle.da65.specs.Instructions.{instruction_in};
 ghost use Rattle.da65.specs.Shapes.{IsGroupOf};
 ghost use Rattle.da65.specs.Statements.{address_entry, is_forced, numbers, operands_of, return_entry, statement_for, statement_in};
@@ -68,6 +70,21 @@ fn is_in_reach(mode: Mode, address: u16, bytes: &[u8]) -> bool
     }
 }
 
+/// The instruction that an item of code at this address is written as. None if its opcode is undefined, or if the target of the
+/// instruction lies outside the address space: then its bytes are written.
+#[inline(always)]
+pub fn written_op<S: OpcodeSet>(set: &S, address: u16, bytes: &[u8]) -> Option<Op>
+    requires { address + length bytes.now ≤ 65536 }
+    ensures { IsWrittenOp (S.table set.now) address bytes.now result }
+{
+    let op = instruction_in(set, bytes)?;
+    if is_in_reach(op.mode, address, bytes) {
+        Some(op)
+    } else {
+        None
+    }
+}
+
 /// The address that a branch leads to, which lies in the address space.
 fn branch_target(next: u32, offset: u8) -> u16
     requires small { next ≤ 65536 }
@@ -80,8 +97,65 @@ fn branch_target(next: u32, offset: u8) -> u16
     }
 }
 
-/// The operands of an instruction in this mode at this address, with the names of their addresses.
+/// The operand of an instruction in this mode, which writes one, at this address.
 #[inline(never)]
+#[tactic(auto, unfolding(crate::specs::Statements::operands_of))]
+fn operand_of<'n, A: Allocator>(
+    map: &Map<'_, A>,
+    mode: Mode,
+    address: u16,
+    bytes: &[u8],
+    name: &'n mut NameBuf,
+) -> Expr<'n>
+    requires names { AreNames map.now.info.names }
+    requires all { len_of mode ≤ length bytes.now }
+    requires room { address + length bytes.now ≤ 65536 }
+    requires inside { is_some (operands_of (names_of map.now) mode address bytes.now) ≡ true }
+    requires implied { mode ≢ Mode.Imp }
+    requires accumulator { mode ≢ Mode.Acc }
+    requires two { mode ≢ Mode.Zprel }
+    ensures value { Some (one (expr_seen result)) ≡ operands_of (names_of map.now) mode address bytes.now }
+    ensures written { IsWrittenIn mode (one (expr_seen result)) }
+{
+    match mode {
+        Mode::Imp | Mode::Acc | Mode::Zprel => unreachable!(),
+        Mode::Imm => Expr::Number(u16::from(bytes[1])),
+        Mode::Abs | Mode::Absx | Mode::Absy | Mode::Ind | Mode::Absindx => {
+            address_expr(map, word_of(bytes), name)
+        }
+        Mode::Rel => {
+            let target = branch_target(u32::from(address) + 2, bytes[1]);
+            address_expr(map, target, name)
+        }
+        Mode::Zp | Mode::Zpx | Mode::Zpy | Mode::Indx | Mode::Indy | Mode::Zpind => {
+            zero_page_expr(map, bytes[1], name)
+        }
+    }
+}
+
+/// The operands of a branch on a bit at this address: the byte that it tests, and its target.
+#[inline(never)]
+#[tactic(auto, unfolding(crate::specs::Statements::operands_of))]
+fn bit_branch_operands<'n, A: Allocator>(
+    map: &Map<'_, A>,
+    address: u16,
+    bytes: &[u8],
+    names: &'n mut OperandNames,
+) -> Operands<'n>
+    requires names { AreNames map.now.info.names }
+    requires all { 3 ≤ length bytes.now }
+    requires room { address + length bytes.now ≤ 65536 }
+    requires inside { is_some (operands_of (names_of map.now) Mode.Zprel address bytes.now) ≡ true }
+    ensures value { Some (operands_seen result) ≡ operands_of (names_of map.now) Mode.Zprel address bytes.now }
+    ensures written { IsWrittenIn Mode.Zprel (operands_seen result) }
+{
+    let target = branch_target(u32::from(address) + 3, bytes[2]);
+    let tested = zero_page_expr(map, bytes[1], &mut names.first);
+    Operands::Two(tested, address_expr(map, target, &mut names.second))
+}
+
+/// The operands of an instruction in this mode at this address, with the names of their addresses.
+#[inline(always)]
 #[tactic(auto, unfolding(crate::specs::Statements::operands_of))]
 fn operands_of<'n, A: Allocator>(
     map: &Map<'_, A>,
@@ -97,26 +171,11 @@ fn operands_of<'n, A: Allocator>(
     ensures value { Some (operands_seen result) ≡ operands_of (names_of map.now) mode address bytes.now }
     ensures written { IsWrittenIn mode (operands_seen result) }
 {
-    let one = match mode {
-        Mode::Imp | Mode::Acc => return Operands::None,
-        Mode::Imm => Expr::Number(u16::from(bytes[1])),
-        Mode::Abs | Mode::Absx | Mode::Absy | Mode::Ind | Mode::Absindx => {
-            address_expr(map, word_of(bytes), &mut names.first)
-        }
-        Mode::Rel => {
-            let target = branch_target(u32::from(address) + 2, bytes[1]);
-            address_expr(map, target, &mut names.first)
-        }
-        Mode::Zprel => {
-            let target = branch_target(u32::from(address) + 3, bytes[2]);
-            let tested = zero_page_expr(map, bytes[1], &mut names.first);
-            return Operands::Two(tested, address_expr(map, target, &mut names.second));
-        }
-        Mode::Zp | Mode::Zpx | Mode::Zpy | Mode::Indx | Mode::Indy | Mode::Zpind => {
-            zero_page_expr(map, bytes[1], &mut names.first)
-        }
-    };
-    Operands::One(one)
+    match mode {
+        Mode::Imp | Mode::Acc => Operands::None,
+        Mode::Zprel => bit_branch_operands(map, address, bytes, names),
+        _ => Operands::One(operand_of(map, mode, address, bytes, &mut names.first)),
+    }
 }
 
 /// Whether `a:` stands before the operand: an assembler would take the zero-page mode without it.
@@ -143,30 +202,22 @@ fn written_size<S: OpcodeSet>(set: &S, op: Op, bytes: &[u8]) -> AddressSize
     }
 }
 
-/// The statement of an item of code: its instruction, or its bytes.
+/// The statement of an item of code that is written as this instruction.
 #[inline(always)]
-#[tactic(auto, unfolding(crate::specs::Statements::statement_in, crate::specs::Instructions::instruction_in))]
-pub fn code_statement<'a, S: OpcodeSet, A: Allocator>(
+pub fn instruction<'a, S: OpcodeSet, A: Allocator>(
     set: &S,
     map: &Map<'_, A>,
+    op: Op,
     address: u16,
-    bytes: &'a [u8],
+    bytes: &[u8],
     names: &'a mut OperandNames,
 ) -> Statement<'a>
     requires names { AreNames map.now.info.names }
-    requires some { 0 < length bytes.now }
     requires room { address + length bytes.now ≤ 65536 }
-    ensures value { statement_seen result ≡ statement_in (names_of map.now) (S.table set.now) address bytes.entry.now }
+    requires written { IsWrittenOp (S.table set.now) address bytes.now (Some op) }
+    ensures value { statement_seen result ≡ statement_in (names_of map.now) (S.table set.now) address bytes.now }
     ensures printable { IsPrintable (statement_seen result) }
 {
-    let Some(op) = instruction_in(set, bytes) else {
-        let (item, _) = bytes.split_at(1);
-        return Statement::Bytes(item);
-    };
-    if !is_in_reach(op.mode, address, bytes) {
-        let (item, _) = bytes.split_at(usize::from(op.mode.len()));
-        return Statement::Bytes(item);
-    }
     Statement::Instr {
         op,
         size: written_size(set, op, bytes),

@@ -1,0 +1,47 @@
+-- What an item of code is written as.
+use Rattle.std.proofs.Common.{◌≡◌, ◌∙◌, ℕ, ◌≤◌, nat_le, Bool, true, false, List, [], ◌∷◌, length, Option, Some, None, cond, refl, ap, sym, subst, arith}
+use Rattle.std.specs.Prelude.{is_some}
+use Rattle.std.proofs.lemmas.Bool.{leb-true}
+use Rattle.std.proofs.lemmas.List.{take_all}
+use Rattle.isa65.specs.Mode.{len_of}
+use Rattle.isa65.specs.Opcodes.{Table, decoded}
+use Rattle.isa65.specs.declared.op.Op.{Op}
+use Rattle.stmt65.specs.Views.{OperandsView}
+use Rattle.stmt65.specs.Views as view
+use Rattle.da65.specs.BaseNames.{Names}
+use Rattle.da65.specs.Instructions.{instruction_in, size_of, whole_in}
+use Rattle.da65.specs.Statements.{bytes_statement, is_forced, operands_of, statement_in, statement_of, written}
+
+-- all bytes of an item, if there are that many
+whole-item : (count : ℕ) (bytes : List ℕ) → count ≡ length bytes → bytes_statement count bytes ≡ view.bytes bytes
+whole-item count bytes e = ap view.bytes (take_all count bytes (omega (arith, e)))
+
+pub undefined : (n : Names) (t : Table) (a : ℕ) (bytes : List ℕ) → instruction_in t bytes ≡ None → size_of (instruction_in t bytes) ≡ length bytes → statement_in n t a bytes ≡ view.bytes bytes
+unfolding statement_in
+undefined n t a bytes none whole = ap (statement_of n t a bytes) none ∙ whole-item 1 bytes (sym (ap size_of none) ∙ whole)
+
+unwritten : (t : Table) (op : Op) (bytes : List ℕ) (o : Option OperandsView) → false ≡ is_some o → len_of op.mode ≡ length bytes → written t op bytes o ≡ view.bytes bytes
+unwritten t op bytes None h e = whole-item (len_of op.mode) bytes e
+unwritten t op bytes (Some os) h e = absurd cc
+
+pub unreached : (n : Names) (t : Table) (a : ℕ) (bytes : List ℕ) (op : Op) → instruction_in t bytes ≡ Some op → false ≡ is_some (operands_of n op.mode a bytes) → size_of (instruction_in t bytes) ≡ length bytes → statement_in n t a bytes ≡ view.bytes bytes
+unfolding statement_in
+unreached n t a bytes op some out whole = ap (statement_of n t a bytes) some ∙ unwritten t op bytes (operands_of n op.mode a bytes) out (sym (ap size_of some) ∙ whole)
+
+-- an instruction has all of its bytes
+whole-len : (count : ℕ) (o : Option Op) (op : Op) → whole_in count o ≡ Some op → len_of op.mode ≤ count
+whole-len count None op h = absurd cc
+whole-len count (Some x) op h = by_test (nat_le (len_of x.mode) count) (λ fits. leb-true (len_of x.mode) count fits) h
+  where
+    by_test : (b : Bool) → (b ≡ true → len_of x.mode ≤ count) → cond b (Some x) None ≡ Some op → len_of op.mode ≤ count
+    by_test true fits h = subst (λ (o : Option Op). elim o as (λ (o : Option Op). Type 0) [ None ↦ ⊥ | Some x ↦ len_of x.mode ≤ count ]) h (fits refl)
+    by_test false fits h = absurd cc
+
+pub has-all : (t : Table) (bytes : List ℕ) (op : Op) → instruction_in t bytes ≡ Some op → len_of op.mode ≤ length bytes
+unfolding instruction_in
+has-all t [] op h = absurd cc
+has-all t (b ∷ bytes) op h = whole-len (length (b ∷ bytes)) (decoded t b) op h
+
+pub as-instruction : (n : Names) (t : Table) (a : ℕ) (bytes : List ℕ) (op : Op) (os : OperandsView) → instruction_in t bytes ≡ Some op → Some os ≡ operands_of n op.mode a bytes → view.instr op (is_forced t op bytes) os ≡ statement_in n t a bytes
+unfolding statement_in
+as-instruction n t a bytes op os some is = ap (written t op bytes) is ∙ sym (ap (statement_of n t a bytes) some)

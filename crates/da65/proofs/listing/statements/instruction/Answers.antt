@@ -1,0 +1,11 @@
+use Rattle.da65.proofs.WrittenOps.{as-instruction, has-all}
+use Rattle.da65.proofs.listing.statements.instruction.Goals as goal
+
+pub written_size-requires : goal.written_size-requires
+written_size-requires g c = has-all _ _ _ c.requires.written.0
+
+pub operands_of-requires-clause-all : goal.operands_of-requires-clause-all
+operands_of-requires-clause-all g c = has-all _ _ _ c.requires.written.0
+
+pub returns-clause-value : goal.returns-clause-value
+returns-clause-value g c = rw c.written_size.ensures (as-instruction _ _ _ _ _ _ c.requires.written.0 c.operands_of.ensures.value)
