@@ -9,7 +9,7 @@ use Rattle.std.proofs.lemmas.List.Folds.{Any-from_list_any, list_any-from_Any}
 use Rattle.text65.specs.Lines.{text_lines}
 use Rattle.info65.specs.Faults.{fault}
 use Rattle.info65.specs.IncludeLaws.{AreAdded, IncludedNames, IsIncluded, IsPassedOver, IsRefused, IsSpelling, LineAdds}
-use Rattle.info65.specs.Includes.{assignment_in, is_blank, judged, line_adds, line_in, name_adds, names_included, names_with, optional_adds, or_bad, without_comment}
+use Rattle.info65.specs.Includes.{assignment_in, is_blank, unless_ignored, line_adds, line_in, name_adds, names_included, names_with, optional_adds, or_bad, without_comment}
 use Rattle.info65.specs.Labels.{by_address, is_at, is_elsewhere}
 use Rattle.info65.specs.Names.{is_reserved}
 use Rattle.info65.specs.Views.{IncludeView, NameView}
@@ -124,23 +124,23 @@ is_line c names line (Err _) h = absurd h
 
 -- ---- a line of a file
 
-judged_ok : (ignore : Bool) (k : ℕ) (o : Option NameView) → judged ignore k (Ok o) ≡ Ok o
-judged_ok true k o = refl
-judged_ok false k o = refl
+unless_ignored_ok : (ignore : Bool) (k : ℕ) (o : Option NameView) → unless_ignored ignore k (Ok o) ≡ Ok o
+unless_ignored_ok true k o = refl
+unless_ignored_ok false k o = refl
 
-adds_by : (i : IncludeView) (k : ℕ) (names : List NameView) (l : List ℕ) (r : Added) → LineAdds i.comment_start names l r → line_adds i k names l ≡ judged i.ignore_unknown k r
+adds_by : (i : IncludeView) (k : ℕ) (names : List NameView) (l : List ℕ) (r : Added) → LineAdds i.comment_start names l r → line_adds i k names l ≡ unless_ignored i.ignore_unknown k r
 unfolding line_adds
-adds_by i k names l r h = ap (judged i.ignore_unknown k) (is_line i.comment_start names l r h)
+adds_by i k names l r h = ap (unless_ignored i.ignore_unknown k) (is_line i.comment_start names l r h)
 
 passes : (i : IncludeView) (k : ℕ) (names : List NameView) (l : List ℕ) → IsPassedOver i names l → line_adds i k names l ≡ Ok None
-passes i k names l (inl h) = adds_by i k names l (Ok None) h ∙ judged_ok i.ignore_unknown k None
-passes i k names l (inr h) = adds_by i k names l (Err h.1.0) h.1.1 ∙ ap (λ (b : Bool). judged b k (Err h.1.0)) h.0
+passes i k names l (inl h) = adds_by i k names l (Ok None) h ∙ unless_ignored_ok i.ignore_unknown k None
+passes i k names l (inr h) = adds_by i k names l (Err h.1.0) h.1.1 ∙ ap (λ (b : Bool). unless_ignored b k (Err h.1.0)) h.0
 
 adds : (i : IncludeView) (k : ℕ) (names : List NameView) (l : List ℕ) (n : NameView) → LineAdds i.comment_start names l (Ok (Some n)) → line_adds i k names l ≡ Ok (Some n)
-adds i k names l n h = adds_by i k names l (Ok (Some n)) h ∙ judged_ok i.ignore_unknown k (Some n)
+adds i k names l n h = adds_by i k names l (Ok (Some n)) h ∙ unless_ignored_ok i.ignore_unknown k (Some n)
 
 fails : (i : IncludeView) (k : ℕ) (names : List NameView) (l : List ℕ) (f : InfoFaultKind) → i.ignore_unknown ≡ false → LineAdds i.comment_start names l (Err f) → line_adds i k names l ≡ Err (fault k f)
-fails i k names l f off h = adds_by i k names l (Err f) h ∙ ap (λ (b : Bool). judged b k (Err f)) off
+fails i k names l f off h = adds_by i k names l (Err f) h ∙ ap (λ (b : Bool). unless_ignored b k (Err f)) off
 
 -- a line is passed over, adds a name, or has a fault
 by_line : {P : Type 0} (i : IncludeView) (names : List NameView) (l : List ℕ) → (IsPassedOver i names l → P) → ((n : NameView) → LineAdds i.comment_start names l (Ok (Some n)) → P) → ((f : InfoFaultKind) → i.ignore_unknown ≡ false → LineAdds i.comment_start names l (Err f) → P) → P

@@ -16,7 +16,7 @@ use Rattle.info65.specs.Code.Names.{given_seen}
 use Rattle.info65.specs.Code.Steps.{Sees}
 use Rattle.info65.specs.Faults.{◌>>=◌, fault, out_of_memory}
 use Rattle.info65.specs.Code.Results.{Fails}
-use Rattle.info65.specs.Includes.{address_written, after_sign, as_address, assignment_in, before_sign, blank_include, included, is_blank, is_identifier, judged, line_adds, line_in, name_adds, names_included, names_with, optional_adds, or_bad, plain_name, trimmed, with_names, without_comment}
+use Rattle.info65.specs.Includes.{address_written, after_sign, as_address, assignment_in, before_sign, blank_include, included, is_blank, is_identifier, unless_ignored, line_adds, line_in, name_adds, names_included, names_with, optional_adds, or_bad, plain_name, trimmed, with_names, without_comment}
 use Rattle.info65.specs.Labels.{by_address, is_at, is_elsewhere, name_fault}
 use Rattle.info65.specs.Lexemes.{number_in, starts_word}
 use Rattle.info65.specs.Names.{AreNames, IsName, blank_name, is_reserved, name_at}
@@ -131,11 +131,11 @@ identified (b ∷ bs) h short =
     let low : nat_lt (length bs) 80 ≡ true = grind (arith, nat_tests, short) in
     rw (e.0, e.1, low) refl
 
-judged_is : (ignore : Bool) (line : ℕ) (r : Added) (n : NameView) → judged ignore line r ≡ Ok (Some n) → r ≡ Ok (Some n)
-judged_is true line (Ok o) n h = cc
-judged_is false line (Ok o) n h = cc
-judged_is true line (Err f) n h = absurd cc
-judged_is false line (Err f) n h = absurd cc
+unless_ignored_is : (ignore : Bool) (line : ℕ) (r : Added) (n : NameView) → unless_ignored ignore line r ≡ Ok (Some n) → r ≡ Ok (Some n)
+unless_ignored_is true line (Ok o) n h = cc
+unless_ignored_is false line (Ok o) n h = cc
+unless_ignored_is true line (Err f) n h = absurd cc
+unless_ignored_is false line (Err f) n h = absurd cc
 
 -- a name that a line adds to these names
 pub record Joins (names : List NameView) (n : NameView) : Type 0 where
@@ -164,7 +164,7 @@ optional_joins names start line (Ok (Some m)) n is h = joins names m n (line_pla
 
 pub line_joins : (i : IncludeView) (line : ℕ) (names : List NameView) (text : List ℕ) (n : NameView) → line_adds i line names text ≡ Ok (Some n) → Joins names n
 unfolding line_adds
-line_joins i line names text n h = optional_joins names i.comment_start text (line_in i.comment_start text) n refl (judged_is i.ignore_unknown line (optional_adds names (line_in i.comment_start text)) n h)
+line_joins i line names text n h = optional_joins names i.comment_start text (line_in i.comment_start text) n refl (unless_ignored_is i.ignore_unknown line (optional_adds names (line_in i.comment_start text)) n h)
 
 -- ---- the names of all lines
 
@@ -186,7 +186,7 @@ pub seen_is : (r : Result (Option Given) InfoFaultKind) (defined : Added) → Se
 seen_is (Ok o) defined h = h
 seen_is (Err f) defined h = h
 
-pub line_seen : (i : IncludeView) (line : ℕ) (names : List NameView) (text : List ℕ) (said added : Result (Option Given) InfoFaultKind) (r : Result (Option Given) InfoFault) → SeesName said (line_in i.comment_start text) → SeesName added (optional_adds names (name_result_seen said)) → Sees (option_map given_seen) r (judged i.ignore_unknown line (name_result_seen added))
+pub line_seen : (i : IncludeView) (line : ℕ) (names : List NameView) (text : List ℕ) (said added : Result (Option Given) InfoFaultKind) (r : Result (Option Given) InfoFault) → SeesName said (line_in i.comment_start text) → SeesName added (optional_adds names (name_result_seen said)) → Sees (option_map given_seen) r (unless_ignored i.ignore_unknown line (name_result_seen added))
     → Sees (option_map given_seen) r (line_adds i line names text)
 unfolding line_adds
 line_seen i line names text said added r a b c =

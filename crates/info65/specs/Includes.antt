@@ -92,14 +92,14 @@ optional_adds names (Ok None) = Ok None
 optional_adds names (Ok (Some n)) = name_adds names n
 
 -- with IGNOREUNKNOWN a line that has a fault adds nothing
-abbrev pub judged : Bool → ℕ → Result (Option NameView) InfoFaultKind → Result (Option NameView) InfoFault
-judged ignore_unknown line (Ok added) = Ok added
-judged true line (Err f) = Ok None
-judged false line (Err f) = Err (fault line f)
+abbrev pub unless_ignored : Bool → ℕ → Result (Option NameView) InfoFaultKind → Result (Option NameView) InfoFault
+unless_ignored ignore_unknown line (Ok added) = Ok added
+unless_ignored true line (Err f) = Ok None
+unless_ignored false line (Err f) = Err (fault line f)
 
 -- what a line of this number adds to the names before it, or its fault
 unfoldable pub line_adds : IncludeView → ℕ → List NameView → List ℕ → Result (Option NameView) InfoFault
-line_adds i line names text = judged i.ignore_unknown line (optional_adds names (line_in i.comment_start text))
+line_adds i line names text = unless_ignored i.ignore_unknown line (optional_adds names (line_in i.comment_start text))
 
 -- the names with those that the lines add, whose numbers begin here, or the first fault of a line
 unfoldable pub names_with : IncludeView → ℕ → List NameView → List (List ℕ) → Result (List NameView) InfoFault

@@ -7,7 +7,7 @@ ghost use Rattle.info65.specs.Code.Names.{given_seen};
 ghost use Rattle.info65.specs.Code.Steps.{Sees};
 ghost use Rattle.info65.specs.Faults.{out_of_memory};
 ghost use Rattle.info65.specs.Code.Results.{Gives};
-ghost use Rattle.info65.specs.Includes.{judged, line_adds, names_included, optional_adds};
+ghost use Rattle.info65.specs.Includes.{unless_ignored, line_adds, names_included, optional_adds};
 ghost use Rattle.info65.specs.Names.{AreNames};
 ghost use Rattle.info65.specs.Views.{NameView};
 
@@ -52,12 +52,12 @@ fn optional_adds<'a, A: Allocator + Copy>(
 }
 
 // The same at a line of this number. Where faults are passed over, a line that has one adds nothing.
-fn judged<'a>(
+fn unless_ignored<'a>(
     ignore_unknown: bool,
     number: u32,
     added: Result<Option<Given<'a>>, InfoFaultKind>,
 ) -> Result<Option<Given<'a>>, InfoFault>
-    ensures { Sees (option_map given_seen) result (judged ignore_unknown number (name_result_seen added.entry)) }
+    ensures { Sees (option_map given_seen) result (unless_ignored ignore_unknown number (name_result_seen added.entry)) }
 {
     match added {
         Ok(added) => Ok(added),
@@ -83,7 +83,7 @@ fn line_adds<'a, A: Allocator + Copy>(
 {
     let said = line_in(include.comment_start, line);
     let added = optional_adds(index, said);
-    judged(include.ignore_unknown, number, added)
+    unless_ignored(include.ignore_unknown, number, added)
 }
 
 // Adds the name that a line of this number adds, if it adds one.
