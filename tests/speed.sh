@@ -1,6 +1,7 @@
 #!/usr/bin/env bash
 # How fast the program is, in instructions by valgrind's callgrind, beside cc65's da65 on the same bytes; and for large
-# information files also the most memory that it holds. Twice as many groups or lines take at most 2.3 times the instructions.
+# information files also the most memory that it holds. Each row has the ratio that docs/PROOFS.md gives it: more than a tenth above
+# it is a failure. Twice as many groups or lines take at most 2.3 times the instructions.
 # Usage: tests/speed.sh PROGRAM
 set -u
 program=$(realpath "$1")
@@ -12,6 +13,7 @@ done
 work=$(mktemp -d)
 trap 'rm -rf "$work"' EXIT
 cd "$work" || exit 1
+failed=0
 
 # instructions COMMAND..: sets `count` to how many instructions the command takes.
 instructions() {
@@ -22,15 +24,22 @@ instructions() {
     count=$(sed -nE 's/.*Collected : ([0-9]+).*/\1/p' valgrind.log)
 }
 
-# compares NAME WORD..: instructions of the program and of cc65's da65 on the same words, and their ratio.
+# limits NAME RATIO LIMIT: a ratio in percent, at most a tenth above this one.
+limits() {
+    awk "BEGIN { exit !($2 > 1.1 * $3) }" && { echo "speed: $1: $2 % of cc65's instructions, more than a tenth above $3 %"; failed=1; }
+}
+
+# compares NAME LIMIT WORD..: instructions of the program and of cc65's da65 on the same words, and their ratio.
 compares() {
-    local name=$1 ours theirs
-    shift
+    local name=$1 limit=$2 ours theirs ratio
+    shift 2
     instructions "$program" "$@" -o ours.s
     ours=$count
     instructions da65 "$@" -o theirs.s
     theirs=$count
-    printf '%-44s %12d %12d %6.1f %%\n' "$name" "$ours" "$theirs" "$(awk "BEGIN { print 100 * $ours / $theirs }")"
+    ratio=$(awk "BEGIN { print 100 * $ours / $theirs }")
+    printf '%-44s %12d %12d %6.1f %%\n' "$name" "$ours" "$theirs" "$ratio"
+    limits "$name" "$ratio" "$limit"
 }
 
 seed 1
@@ -55,11 +64,11 @@ printf '%b' "$bytes" >mixed.bin
 
 printf '%-44s %12s %12s %8s\n' 'instructions for 64 KiB' 'da65 here' 'cc65' 'ratio'
 for cpu in "${cpus[@]}"; do
-    compares "random bytes, $cpu" -S 0 --cpu "$cpu" random.bin
+    compares "random bytes, $cpu" 25.3 -S 0 --cpu "$cpu" random.bin
 done
-compares 'nop' -S 0 nop.bin
-compares 'mixed bytes, without ranges' -S 0 mixed.bin
-compares "mixed bytes, $(wc -l <mixed.info) ranges" -S 0 -i mixed.info mixed.bin
+compares 'nop' 33.0 -S 0 nop.bin
+compares 'mixed bytes, without ranges' 24.4 -S 0 mixed.bin
+compares "mixed bytes, $(wc -l <mixed.info) ranges" 26.0 -S 0 -i mixed.info mixed.bin
 
 # labels COUNT ORDER: prints that many groups LABEL, with ascending, descending or shuffled addresses.
 labels() {
@@ -114,9 +123,9 @@ memory() {
     peak=$(tail -n 1 time.log)
 }
 
-# beside NAME: what it takes to list one byte with input.info, beside cc65's da65. Sets `count` to the instructions.
+# beside NAME LIMIT: what it takes to list one byte with input.info, beside cc65's da65. Sets `count` to the instructions.
 beside() {
-    local ours theirs
+    local ours theirs ratio
     local words=(-i input.info -S 0 one.bin -o out.s)
     memory da65 "${words[@]}"
     theirs=$peak
@@ -125,28 +134,31 @@ beside() {
     instructions da65 "${words[@]}"
     local peer=$count
     instructions "$program" "${words[@]}"
+    ratio=$(awk "BEGIN { print 100 * $count / $peer }")
     printf '%-28s %12d %12d %7.1f %% %8d %8d %7.1f %%\n' "$1" "$count" "$peer" \
-        "$(awk "BEGIN { print 100 * $count / $peer }")" "$ours" "$theirs" "$(awk "BEGIN { print 100 * $ours / $theirs }")"
+        "$ratio" "$ours" "$theirs" "$(awk "BEGIN { print 100 * $ours / $theirs }")"
+    limits "$1" "$ratio" "$2"
 }
 
-# grows GROUPS COUNT [ORDER]: the same with that many groups or lines, and with half as many.
+# grows LIMIT GROUPS COUNT [ORDER]: the same with that many groups or lines, and with half as many.
 grows() {
-    local half
+    local limit=$1 half
+    shift
     "$1" $(($2 / 2)) "${3-}" >input.info
-    beside "$(($2 / 2)) $1${3:+, $3}"
+    beside "$(($2 / 2)) $1${3:+, $3}" "$limit"
     half=$count
     "$1" "$2" "${3-}" >input.info
-    beside "$2 $1${3:+, $3}"
+    beside "$2 $1${3:+, $3}" "$limit"
     awk "BEGIN { exit !($count > 2.3 * $half) }" && { echo "speed: $2 $1 ${3-}: more than 2.3 times those of half as many"; failed=1; }
 }
 
-failed=0
 printf '\xea' >one.bin
 printf '\n%-28s %12s %12s %9s %8s %8s %9s\n' 'instructions and kilobytes' 'da65 here' 'cc65' 'ratio' 'here' 'cc65' 'ratio'
 for order in ascending descending shuffled; do
-    grows labels 20000 $order
+    grows 79 labels 20000 $order
 done
-grows colliding 20000
-grows included 60000
-grows ranges 20000
+grows 112 colliding 20000
+grows 80 included 60000
+grows 88 ranges 20000
+[ "$failed" = 0 ] && echo 'speed: no ratio is more than a tenth above that of docs/PROOFS.md'
 exit $failed
