@@ -7,9 +7,10 @@ set -u
 cd "$(dirname "$0")/../crates" || exit 1
 
 # Contracts, imports, comments and signatures are left out: what stands is where such an answer is made or looked at. An import that
-# gives it another name, or takes a variant by itself, stands too, since the lines that use it could not be told.
+# gives it another name, or takes a variant by itself or all names of a place, stands too, since the lines that use it could not be told.
 found=$(find . -path './*/src/*' -name '*.rt' ! -path './*/out/*' ! -path './conformance/*' ! -path './unit_tests/*' | while read -r file; do
-    lines=$(sed -E 's/^ *(pub )?use .*\b(AllocError as|AllocFailed as|OutOfMemory|Memory)\b/::Memory/' "$file" |
+    lines=$(sed -E '/^ *(pub )?use [^;]*$/ { :more; N; /;/! b more; s/\n */ /g }' "$file" |
+        sed -E 's/^ *(pub )?use .*(\b(AllocError as|AllocFailed as|OutOfMemory|Memory)\b|\*)/::Memory/' |
         grep -vE '^ *(//|ensures|requires|ghost|use |pub use |(pub |pub\(crate\) )?fn |impl|\) -> )' |
         grep -cE '\b(AllocError|AllocFailed|OutOfMemory|out_of_memory)\b|::(Memory|MEMORY)\b')
     crate=${file#./}

@@ -165,12 +165,12 @@ holds 'hexadecimal offsets in a file' out.s \
     "${header}L2001           := * + \$0001\n        lda     L2003\nL2003:  jmp     L2001\n"
 
 # Every option at once, each with a word of its own for its value, and the input name last.
-every='; da65 listing\n\n  .setcpu "65SC02"\n\nbegin   := $1000\n\n'
-every+="${separator}L2001   := * + \$0001\n  lda   L2003         ; 2000 AD 03 20              .. \n"
-every+="L2003:\n  jmp   L2001         ; 2003 4C 01 20              L. \n"
+every='; da65 listing\n\n       .setcpu "65SC02"\n\nbegin        := $1000\n\n'
+every+="${separator}L2001        := * + \$0001\n       lda   L2003    ; 2000 AD 03 20              .. \n"
+every+="L2003:\n       jmp   L2001    ; 2003 4C 01 20              L. \n"
 printf 'LABEL { ADDR $1000; NAME "begin"; };' >begin.info
-words=(-i begin.info -o out.s -S 0x2000 --cpu 65SC02 --comments 4 --mnemonic-column 3 --argument-column 9 --comment-column 23
-    --text-column 52 --label-break 0 --hexoffs)
+words=(-i begin.info -o out.s -S 0x2000 --cpu 65SC02 --comments 4 --mnemonic-column 8 --argument-column 14 --comment-column 23
+    --text-column 52 --label-break 4 --hexoffs)
 runs 'every option at once' 0 '' '' "${words[@]}" -- inside.bin
 holds 'every option at once' out.s "$every"
 runs 'thirty words, the last of which is one too many' 1 '' 'da65: bad arguments\n' "${words[@]}" -- three.bin a b c d e f g
@@ -273,6 +273,14 @@ holds 'standard input to a file' out.s "$three"
     "$program" -i /dev/stdin three.bin >stdout 2>stderr
 ends 'an information file from a pipe' 0 $? ''
 holds 'an information file from a pipe' stdout "$header        .byte   \$A9,\$01,\$60\n"
+
+# No byte after those that tell that a file is too large is read.
+{ cat large.info; printf 'rest'; } | { "$program" -i /dev/stdin three.bin >stdout 2>stderr; echo $? >status; cat >left; }
+ends 'an information file above its limit from a pipe' 1 "$(cat status)" 'da65: info:1: too large\n'
+holds 'an information file above its limit from a pipe' left 'rest'
+{ cat large.inc; printf 'rest'; } | { "$program" -i piped.info three.bin >stdout 2>stderr; echo $? >status; cat >left; }
+ends 'an include file above its limit from a pipe' 1 "$(cat status)" 'da65: include /dev/stdin:1: too large\n'
+holds 'an include file above its limit from a pipe' left 'rest'
 
 # More bytes than an information file may have, without an end.
 (ulimit -v 1000000; timeout 60 "$program" -i /dev/zero three.bin >stdout 2>stderr)

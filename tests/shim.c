@@ -1,7 +1,7 @@
 /* Loaded before the C library (LD_PRELOAD), it counts the files that a program opens, its reads, writes and bytes of memory, and can
    refuse one allocation, or to open one file.
-   At the end it writes five numbers on the file that SHIM_COUNTS names: the files opened, the reads, the writes, the greatest number
-   of bytes of memory at one time, and the allocations. SHIM_REFUSE is the number of the allocation that is refused, and SHIM_REFUSE_OPEN that
+   At the end it writes six numbers on the file that SHIM_COUNTS names: the files opened, the reads, the writes, the greatest number
+   of bytes of memory at one time, the bytes asked for over the whole run, and the allocations. SHIM_REFUSE is the number of the allocation that is refused, and SHIM_REFUSE_OPEN that
    of the file, both counted from 1. */
 #define _GNU_SOURCE
 #include <dlfcn.h>
@@ -14,7 +14,7 @@
 #include <sys/syscall.h>
 #include <unistd.h>
 
-static unsigned long opens, reads, writes, held, most, allocations, refused, refused_open;
+static unsigned long opens, reads, writes, held, most, asked, allocations, refused, refused_open;
 static void *(*real_malloc)(size_t);
 static void *(*real_realloc)(void *, size_t);
 static void (*real_free)(void *);
@@ -27,7 +27,7 @@ __attribute__((constructor)) static void begin(void)
     real_malloc = dlsym(RTLD_NEXT, "malloc");
     real_realloc = dlsym(RTLD_NEXT, "realloc");
     real_free = dlsym(RTLD_NEXT, "free");
-    opens = reads = writes = allocations = 0;
+    opens = reads = writes = asked = allocations = 0;
     refused = number ? strtoul(number, NULL, 10) : 0;
     refused_open = number_open ? strtoul(number_open, NULL, 10) : 0;
 }
@@ -36,15 +36,16 @@ __attribute__((destructor)) static void end(void)
 {
     const char *name = getenv("SHIM_COUNTS");
     char text[100];
-    int length = snprintf(text, sizeof text, "%lu %lu %lu %lu %lu\n", opens, reads, writes, most, allocations);
+    int length = snprintf(text, sizeof text, "%lu %lu %lu %lu %lu %lu\n", opens, reads, writes, most, asked, allocations);
     int file = name ? (int)syscall(SYS_openat, AT_FDCWD, name, O_WRONLY | O_CREAT | O_TRUNC, 0666) : -1;
 
     if (0 <= file)
         syscall(SYS_write, file, text, (size_t)length);
 }
 
-static int is_refused(void)
+static int is_refused(size_t size)
 {
+    asked += size;
     if (++allocations != refused)
         return 0;
     errno = ENOMEM;
@@ -62,7 +63,7 @@ void *malloc(size_t size)
 {
     if (!real_malloc)
         begin();
-    return is_refused() ? NULL : granted(real_malloc(size));
+    return is_refused(size) ? NULL : granted(real_malloc(size));
 }
 
 /* A block that is moved counts twice for a moment, as it does while it is copied. */
@@ -71,7 +72,7 @@ void *realloc(void *block, size_t size)
     size_t old = block ? malloc_usable_size(block) : 0;
     void *other;
 
-    if (is_refused())
+    if (is_refused(size))
         return NULL;
     other = real_realloc(block, size);
     granted(other);

@@ -63,12 +63,13 @@ done
 printf '%b' "$bytes" >mixed.bin
 
 printf '%-44s %12s %12s %8s\n' 'instructions for 64 KiB' 'da65 here' 'cc65' 'ratio'
+declare -A random=([6502]=23.8 [65SC02]=24.5 [65C02]=25.3)
 for cpu in "${cpus[@]}"; do
-    compares "random bytes, $cpu" 25.3 -S 0 --cpu "$cpu" random.bin
+    compares "random bytes, $cpu" "${random[$cpu]}" -S 0 --cpu "$cpu" random.bin
 done
-compares 'nop' 33.0 -S 0 nop.bin
-compares 'mixed bytes, without ranges' 24.4 -S 0 mixed.bin
-compares "mixed bytes, $(wc -l <mixed.info) ranges" 26.0 -S 0 -i mixed.info mixed.bin
+compares 'nop' 33.1 -S 0 nop.bin
+compares 'mixed bytes, without ranges' 23.8 -S 0 mixed.bin
+compares "mixed bytes, $(wc -l <mixed.info) ranges" 25.5 -S 0 -i mixed.info mixed.bin
 
 # labels COUNT ORDER: prints that many groups LABEL, with ascending, descending or shuffled addresses.
 labels() {

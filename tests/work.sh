@@ -13,26 +13,27 @@ compiler=${CC:-cc}
 # ---- calls and memory
 
 # counted WORD..: runs the program on the words, with the file `given` as standard input, and sets opens, reads, writes, most (bytes of
-# memory at one time), allocations and status.
+# memory at one time), asked (bytes over the whole run), allocations and status.
 given=/dev/null
 counted() {
     rm -f counts
     LD_PRELOAD=$work/shim.so SHIM_COUNTS=$work/counts "$program" "$@" >stdout 2>stderr <"$given"
     status=$?
-    read -r opens reads writes most allocations <counts || fails "$*" 'the shim counted nothing'
+    read -r opens reads writes most asked allocations <counts || fails "$*" 'the shim counted nothing'
 }
 
-# counts NAME STATUS OPENS READS WRITES BYTES WORD..: this status, that many files opened, reads and writes, and at most that many bytes
-# of memory at one time.
+# counts NAME STATUS OPENS READS WRITES BYTES ALL WORD..: this status, that many files opened, reads and writes, and at most that many
+# bytes of memory at one time, and ALL over the whole run.
 counts() {
-    local name=$1 wanted=$2 wanted_opens=$3 wanted_reads=$4 wanted_writes=$5 bytes=$6
-    shift 6
+    local name=$1 wanted=$2 wanted_opens=$3 wanted_reads=$4 wanted_writes=$5 bytes=$6 all=$7
+    shift 7
     counted "$@"
     [ "$status" = "$wanted" ] || fails "$name" "status $status and not $wanted: $(cat stderr)"
     [ "$opens" = "$wanted_opens" ] || fails "$name" "$opens files opened and not $wanted_opens"
     [ "$reads" = "$wanted_reads" ] || fails "$name" "$reads reads and not $wanted_reads"
     [ "$writes" = "$wanted_writes" ] || fails "$name" "$writes writes and not $wanted_writes"
     [ "$most" -le "$bytes" ] || fails "$name" "$most bytes of memory and not at most $bytes"
+    [ "$asked" -le "$all" ] || fails "$name" "$asked bytes of memory over the whole run and not at most $all"
 }
 
 # refuses_in_turn NAME LEAST WORD..: each allocation refused in turn, of which there are at least LEAST: the program says
@@ -90,20 +91,21 @@ else
     "$compiler" -O1 -shared -fPIC -o shim.so "$root/tests/shim.c" -ldl || exit 1
 
     # /dev/null is opened three times, for standard streams that are closed. 4 KiB a read and one read at the end, 8 KiB a write. The
-    # map of an image has two bytes for each address. Only names need the tables that find them.
-    counts 'three bytes' 0 4 2 1 133000 three.bin
-    counts 'three bytes in a file' 0 5 2 1 133000 -o out.s three.bin
-    counts '64 KiB' 0 4 17 97 202000 large.bin
-    given=large.bin counts '64 KiB of standard input' 0 3 17 97 202000 /dev/stdin
-    given=all.info counts 'an information file of standard input' 0 7 9 1 1192000 -i /dev/stdin
-    counts 'help' 0 3 0 1 18000 -h
-    counts 'the version' 0 3 0 1 18000 -V
-    counts 'an information file and include files' 0 8 9 1 1192000 -i all.info
-    counts 'a warning' 0 5 4 2 133000 -i skip.info three.bin
-    counts 'no input name' 1 3 0 1 133000
-    counts 'an empty input' 1 4 1 1 133000 empty.bin
-    counts 'a refused information file' 1 4 2 1 133000 -i bad.info three.bin
-    counts 'an input that is not there' 1 4 0 1 133000 no.bin
+    # map of an image has two bytes for each address, and so have the tables of an information file, which are given back before. Only
+    # names need the tables that find them.
+    counts 'three bytes' 0 4 2 1 133000 284000 three.bin
+    counts 'three bytes in a file' 0 5 2 1 133000 286000 -o out.s three.bin
+    counts '64 KiB' 0 4 17 97 202000 411000 large.bin
+    given=large.bin counts '64 KiB of standard input' 0 3 17 97 202000 411000 /dev/stdin
+    given=all.info counts 'an information file of standard input' 0 7 9 1 1192000 4486000 -i /dev/stdin
+    counts 'help' 0 3 0 1 18000 21500 -h
+    counts 'the version' 0 3 0 1 18000 21500 -V
+    counts 'an information file and include files' 0 8 9 1 1192000 4486000 -i all.info
+    counts 'a warning' 0 5 4 2 133000 286500 -i skip.info three.bin
+    counts 'no input name' 1 3 0 1 133000 152500
+    counts 'an empty input' 1 4 1 1 133000 153000 empty.bin
+    counts 'a refused information file' 1 4 2 1 133000 155000 -i bad.info three.bin
+    counts 'an input that is not there' 1 4 0 1 133000 153000 no.bin
 
     refuses_in_turn 'the command line' 40 --cpu 65c02 -S 0x1000 --comments 4 --text-column 60 three.bin
     refuses_in_turn 'an information file and include files' 60 -i all.info
