@@ -113,7 +113,7 @@ runs 'the output is created empty before an include file is refused' 1 '' 'da65:
 holds 'the output is created empty before an include file is refused' out.s ''
 runs 'an input that can not be opened comes before an include file' 1 '' 'da65: cannot read no.bin\n' -i missing.info no.bin
 runs 'no input name comes before an include file' 1 '' 'da65: no input file\n' -i missing.info
-# A name that stands twice is read once, also from standard input.
+# A name that stands twice is that of one file. That it is read once is counted by tests/work.sh.
 printf 'CHROUT = $FFD2\n' | "$program" -i piped.info call.bin >stdout 2>stderr
 ends 'an include file from a pipe' 0 $? ''
 holds 'an include file from a pipe' stdout "$call"

@@ -173,6 +173,13 @@ lists() {
     grows "$1" "$3" "$program" -S 0 -i @.info -o out.s @.bin
 }
 
+# jumps COUNT: an image of that many jumps, each to another address from $8000 on, and an information file with as many labels before
+# that address. Of these a look-up of an address without a name passes over all at once.
+jumps() {
+    printf '%b' "$(awk -v count="$1" 'BEGIN { for (a = 32768; a < 32768 + count; a++) printf "\\x4c\\x%02x\\x%02x", a % 256, a / 256 }')" >"$1.bin"
+    groups ascending "$1" >"$1.info"
+}
+
 # assembles NAME KIND COUNT: so do lines that as65 assembles.
 assembles() {
     groups "$2" "$3" >"$3.s"
@@ -185,6 +192,9 @@ lists 'labels, descending' descending 12000
 lists 'ranges' ranges 12000
 lists 'segments' segments 11000
 lists 'lines of an include file' lines 12000
+jumps 5000
+jumps 10000
+grows 'addresses after many labels' 5000 "$program" -S 0x8000 -i @.info -o out.s @.bin
 assembles 'definitions' definitions 25000
 
 [ "$failed" = 0 ] && echo 'work: every test passed'
