@@ -225,22 +225,31 @@ is_prefix 'a file that is full in the middle' cut.bin 32768 large.bin
 
 # ---- less and less memory
 
-# Writes all bytes, or runs out and writes none. Below some limit the program is not even started.
-ran_out=0
-for limit in $(seq 16384 -256 256); do
-    (ulimit -v "$limit"; exec "$program" -S 0 large.s >stdout 2>stderr) 2>/dev/null
-    got=$?
-    if [ "$got" = 0 ]; then
-        same "memory of $limit KiB" stdout large.bin
-    elif [ "$got" = 1 ]; then
-        ran_out=1
-        ends "memory of $limit KiB" 1 1 'as65: out of memory\n'
-        holds "memory of $limit KiB" stdout ''
-    else
-        break
-    fi
-done
-[ "$ran_out" = 1 ] || fails 'less and less memory' 'the program never ran out of it'
+# scarce NAME STATUS WHOLE WORD..: in less and less memory it writes all of a file with this status, or runs out and writes nothing.
+# Below some limit the program is not even started.
+scarce() {
+    local name=$1 status=$2 whole=$3 ran_out=0 limit got
+    shift 3
+    for limit in $(seq 16384 -256 256); do
+        (ulimit -v "$limit"; exec "$program" "$@" >stdout 2>stderr) 2>/dev/null
+        got=$?
+        if [ "$got" = "$status" ] && [ ! -s stderr ]; then
+            same "$name in $limit KiB" stdout "$whole"
+        elif [ "$got" = 1 ]; then
+            ran_out=1
+            ends "$name in $limit KiB" 1 1 'as65: out of memory\n'
+            holds "$name in $limit KiB" stdout ''
+        else
+            break
+        fi
+    done
+    [ "$ran_out" = 1 ] || fails "$name" 'the program never ran out of memory'
+}
+
+scarce 'bytes' 0 large.bin -S 0 large.s
+"$program" -S 0 --compare zeros.bin large.s >whole 2>stderr
+ends 'differences' 1 $? ''
+scarce 'differences' 1 whole -S 0 --compare zeros.bin large.s
 
 # ---- from an image to its listing and back
 

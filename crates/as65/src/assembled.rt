@@ -83,6 +83,7 @@ impl<'a> Assembled<'a> {
         ensures whole { OnOk result (IfOk (meaning self.now.start self.now.text) (Appends (W.taken out.old) (W.taken out.new))) }
         ensures front { OnErr result (IfOk (meaning self.now.start self.now.text) (AppendsFront (W.taken out.old) (W.taken out.new))) }
         ensures count { Counts (W.faults out.old) (W.faults out.new) result }
+        ensures failure { IfErr result (λ e. e ≡ Failure.Writing) }
     {
         match write_whole(out, self.bytes.as_slice()) {
             Ok(()) => Ok(()),

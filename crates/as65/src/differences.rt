@@ -1,6 +1,6 @@
 //! The lines that say where a listing and an image differ.
 
-ghost use Rattle.std.specs.Prelude.{◌≡◌, IfOk, Ok};
+ghost use Rattle.std.specs.Prelude.{◌≡◌, ◌⊎◌, IfErr, IfOk, Ok};
 ghost use Rattle.as65.specs.Stretches.{Compares};
 
 use crate::Ended;
@@ -75,6 +75,7 @@ pub fn compare<W: Write>(
 ) -> Result<Ended, Failure>
     ensures answer { IfOk result (Compares image.now.bytes assembled.now.bytes) }
     ensures same { image.now.bytes ≡ assembled.now.bytes → result ≡ Ok Ended.Done }
+    ensures failure { IfErr result (λ e. (e ≡ Failure.Memory) ⊎ (e ≡ Failure.Writing)) }
 {
     if image.bytes() == assembled.bytes() {
         return Ok(Ended::Done);
