@@ -1,1 +1,2 @@
+pub mod OriginLemmas
 pub mod StretchLemmas

@@ -1,7 +1,8 @@
 -- Which line of a listing gave a byte.
 use Rattle.std.specs.Prelude.{ℕ, List}
 
--- the addresses after the lines that were not passed over, and how many were
+-- the lines that were not passed over, the address after each of them, and how many were
 pub record OriginsView : Type 0 where
+  pub lines : List (List ℕ)
   pub ends : List ℕ
   pub passed : ℕ

@@ -1,11 +1,12 @@
 //! Which line of a listing gave a byte.
 
-ghost use Rattle.std.specs.Prelude.{◌≡◌, ◌+◌, ◌-◌, ◌≤◌, drop, length, nat_le};
+ghost use Rattle.std.specs.Prelude.{◌≡◌, ◌+◌, ◌-◌, ◌≤◌, [], drop, get_or, length, nat_le};
 ghost use Rattle.std.specs.List.{prefix_len};
+ghost use Rattle.text65.specs.Lines.{text_lines};
 ghost use Rattle.stmt65.specs.LineAddresses.{line_past};
 
 use std::marker::Model;
-use stmt65::first_line;
+use text65::first_line;
 
 /// A line of a listing, and its number, from 1.
 #[derive(Clone, Copy, Debug)]
@@ -26,23 +27,28 @@ pub struct Origins<'a> {
 
 impl<'a> Model for Origins<'a> {
     ghost use Rattle.std.specs.Prelude.{◌<◌, ◌+◌, ◌^◌, length};
+    ghost use Rattle.text65.specs.Lines.{text_lines};
     ghost use Rattle.as65.specs.Origins.{OriginsView};
 
     ghost Value = { OriginsView };
 
-    ghost view = { λ o. record { ends = o.ends.now; passed = o.passed } };
+    ghost view = { λ o. record { lines = text_lines o.rest.now; ends = o.ends.now; passed = o.passed } };
 
     ghost invariant = { λ o. o.passed + length o.ends.now < 2 ^ 63 };
 }
 
 /// The text after this many lines.
-fn after_lines(text: &[u8], count: usize) -> &[u8] {
+fn after_lines(text: &[u8], count: usize) -> &[u8]
+    ensures { text_lines result.now ≡ drop count (text_lines text.now) }
+{
     let mut rest = text;
-    'lines: for _ in 0..count {
+    let mut left = count;
+    'lines: while 0 < left {
         match first_line(rest) {
             Some((_, after)) => rest = after,
-            None => break,
+            None => return rest,
         }
+        left -= 1;
     }
     rest
 }
@@ -58,7 +64,7 @@ fn count_up_to(addresses: &[u64], address: u64) -> usize
 impl<'a> Origins<'a> {
     /// Over a text, by the address after each of its lines.
     pub fn new(text: &'a [u8], ends: &'a [u64]) -> Origins<'a>
-        ensures { result ≡ record { ends = ends.entry.now; passed = 0 } }
+        ensures { result ≡ record { lines = text_lines text.entry.now; ends = ends.entry.now; passed = 0 } }
     {
         Origins {
             rest: text,
@@ -71,7 +77,9 @@ impl<'a> Origins<'a> {
     pub fn of_byte(&mut self, address: u64) -> Origin<'a>
         ensures number { result.number ≡ self.old.passed + line_past address self.old.ends }
         ensures passed { self.new.passed + 1 ≡ result.number }
-        ensures left { self.new.ends ≡ drop (self.new.passed - self.old.passed) self.old.ends }
+        ensures ends { self.new.ends ≡ drop (self.new.passed - self.old.passed) self.old.ends }
+        ensures lines { self.new.lines ≡ drop (self.new.passed - self.old.passed) self.old.lines }
+        ensures line { result.line.now ≡ get_or self.new.lines 0 [] }
     {
         let count = count_up_to(self.ends, address);
         self.ends = &self.ends[count..];
