@@ -179,8 +179,17 @@ const NAME_TABLES: u64 = 262_144 + 524_288;
 /// One byte for each address, for the addresses that an include file names.
 const MARKS: u64 = 65_536;
 
-/// What else an information file or an include file of these rows is granted, at most.
+/// What else an information file of these rows is granted, at most.
 const SMALL: u64 = 1_024;
+
+/// Room for four names while they are looked up. No include file of these rows leaves more.
+const LOOKED_UP: u64 = 4 * 48;
+
+/// Room for four names where they stand in the end.
+const KEPT: u64 = 4 * 32;
+
+/// Room for the text of these names, at most.
+const TEXT: u64 = 64;
 
 /// How many bytes are granted for an image of this size, which is read 4,096 bytes at a time into a vector that doubles.
 fn image_bytes(count: usize) -> u64 {
@@ -230,10 +239,12 @@ fn call_parts(
         if index < info.includes().len() {
             let before = heap.bytes();
             let read = read_include(heap, &mut info, index, include);
-            assert_granted(rt, heap, before, NAME_TABLES + MARKS, SMALL);
+            let found = NAME_TABLES + MARKS + LOOKED_UP;
             if read.is_err() {
+                assert_granted(rt, heap, before, found, 0);
                 return;
             }
+            assert_granted(rt, heap, before, found + KEPT, TEXT);
         }
     }
     let before = heap.bytes();
