@@ -13,9 +13,9 @@ use crate::op::Op;
 
 /// The opcodes of a CPU.
 ///
-/// An implementation gives its table, `decode` and `sibling`, and proves three laws of the table: an
-/// opcode is a byte, `encode` is the inverse of `decode`, and two modes of a mnemonic that are written
-/// alike are a zero-page and absolute pair.
+/// An implementation gives its table and `decode`, and proves three laws of the table: an opcode is a byte,
+/// `encode` is the inverse of `decode`, and two modes of a mnemonic that are written alike are a zero-page
+/// and absolute pair. It may give a faster `sibling`.
 pub trait OpcodeSet {
     /// Each opcode with its mnemonic and mode.
     ghost table: { Self → Table };
@@ -24,10 +24,16 @@ pub trait OpcodeSet {
     fn decode(&self, byte: u8) -> Option<Op>
         ensures { result ≡ decoded (table self.now) byte };
 
-    /// The zero-page mode that is written like the absolute mode of `op`, if the mnemonic has it.
-    /// Takes constant time.
+    /// The zero-page mode that is written like the absolute mode of `op`, if the mnemonic has it. Searches
+    /// all opcodes. The sets of this crate take constant time.
     fn sibling(&self, op: Op) -> Option<Mode>
-        ensures { result ≡ sibling_in (table self.now) op };
+        ensures { result ≡ sibling_in (table self.now) op }
+    {
+        match op.mode.zero_page() {
+            Some(mode) if self.encode(op.mnemonic, mode).is_some() => Some(mode),
+            _ => None,
+        }
+    }
 
     /// The opcode of a mnemonic in a mode, or `None` if it has no such form. Searches all opcodes.
     fn encode(&self, mnemonic: Mnemonic, mode: Mode) -> Option<u8>
