@@ -1,1 +1,2 @@
+mod Matrix
 pub mod Opcodes

@@ -1,3 +1,4 @@
 mod LineLaws
 mod NameLemmas
+mod Rows
 pub mod Public
