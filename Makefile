@@ -30,6 +30,7 @@ bin/as65: bin/da65 $(sources)
 test:
 	@mkdir -p bin
 	@tests/memory.sh
+	@tests/readings.sh
 	@tests/promises.sh
 	@tests/edits.sh
 	@echo 'Everything from nothing: docs/PROOFS.md, "The gate", says how long that takes. bin/gate.log keeps what the prover says.'

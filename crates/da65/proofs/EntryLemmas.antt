@@ -14,7 +14,7 @@ use Rattle.info65.specs.declared.information.range.RangeType.TheVariants.{Code, 
 use Rattle.map65.specs.Names.{Base}
 use Rattle.stmt65.specs.declared.directive.Directive.{Directive}
 use Rattle.stmt65.specs.declared.directive.Directive.TheVariants.{Word}
-use Rattle.stmt65.specs.Directives.{entry_len}
+use Rattle.stmt65.specs.Tables.{entry_len}
 use Rattle.stmt65.specs.Printable.{IsPrintable, IsTable}
 use Rattle.stmt65.specs.Views as view
 use Rattle.stmt65.specs.Views.{TargetView}

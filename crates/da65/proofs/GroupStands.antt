@@ -26,9 +26,8 @@ use Rattle.stmt65.specs.declared.source_line.Minus.TheVariants.{Zero, One}
 use Rattle.stmt65.specs.Symbols.{Definition}
 use Rattle.stmt65.specs.declared.directive.Directive.{Directive}
 use Rattle.stmt65.specs.declared.directive.Directive.TheVariants.{Word, Addr}
-use Rattle.stmt65.specs.Directives.{entry_len, order_of}
 use Rattle.stmt65.specs.Coding.{Fixed, Entry, coding, datum_fragments}
-use Rattle.stmt65.specs.Tables.{entries, cut_text}
+use Rattle.stmt65.specs.Tables.{entry_len, order_of, entries, cut_text}
 use Rattle.stmt65.specs.Meaning.{State, has_unknown_cpu, cpu_after, operation_in}
 use Rattle.map65.specs.ImageView.{AreBytes, ImageView}
 use Rattle.map65.specs.Names.{Base}

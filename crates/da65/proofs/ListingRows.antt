@@ -188,6 +188,26 @@ first_columns : IsListedWhole (with_columns 1 1 (code_at 0x1000 (0xA9 ∷ 1 ∷ 
 unfolding addresses are_joined base_at begins comma_list comment_at comment_lines comments covering covering_below cut_text default_name entries pieces address_entry address_expr constant_lines constants ending_lines forward_lines forwards goes_on group_addresses group_len group_lines filled has_name entry_start entry_base instruction_in is_border is_in_run is_joined is_own is_referenced item_len last_item left_at line_of line_text listing_below more_at opening_lines operand_target operand_text operands_of place_of refers return_entry role_at role_in segment_at segment_before segment_covering segment_lines separator separator_lines size_at statement_for statement_in statement_lines stride_at style_of target_at target_for target_of text_of full_len_at zero_page_expr
 first_columns = refl
 
+lines_of_words : IsListed (with_ranges (range 0x1000 0x100A role.WordTable ∷ []) (code_at 0x1000 (1 ∷ 2 ∷ 3 ∷ 4 ∷ 5 ∷ 6 ∷ 7 ∷ 8 ∷ 9 ∷ 10 ∷ 11 ∷ [])))
+    (codes "        .word   $0201,$0403,$0605,$0807\n        .word   $0A09\n        .byte   $0B\n")
+unfolding addresses are_joined base_at begins comma_list comment_at comment_lines comments covering covering_below cut_text default_name entries pieces address_entry address_expr constant_lines constants ending_lines forward_lines forwards goes_on group_addresses group_len group_lines filled has_name entry_start entry_base instruction_in is_border is_in_run is_joined is_own is_referenced item_len last_item left_at line_of line_text listing_below more_at opening_lines operand_target operand_text operands_of place_of refers return_entry role_at role_in segment_at segment_before segment_covering segment_lines separator separator_lines size_at statement_for statement_in statement_lines stride_at style_of target_at target_for target_of text_of full_len_at zero_page_expr
+lines_of_words = refl
+
+lines_of_dbytes : IsListed (with_ranges (range 0x1000 0x100A role.DbyteTable ∷ []) (code_at 0x1000 (1 ∷ 2 ∷ 3 ∷ 4 ∷ 5 ∷ 6 ∷ 7 ∷ 8 ∷ 9 ∷ 10 ∷ 11 ∷ [])))
+    (codes "        .dbyt   $0102,$0304,$0506,$0708\n        .dbyt   $090A\n        .byte   $0B\n")
+unfolding addresses are_joined base_at begins comma_list comment_at comment_lines comments covering covering_below cut_text default_name entries pieces address_entry address_expr constant_lines constants ending_lines forward_lines forwards goes_on group_addresses group_len group_lines filled has_name entry_start entry_base instruction_in is_border is_in_run is_joined is_own is_referenced item_len last_item left_at line_of line_text listing_below more_at opening_lines operand_target operand_text operands_of place_of refers return_entry role_at role_in segment_at segment_before segment_covering segment_lines separator separator_lines size_at statement_for statement_in statement_lines stride_at style_of target_at target_for target_of text_of full_len_at zero_page_expr
+lines_of_dbytes = refl
+
+lines_of_double_words : IsListed (with_ranges (range 0x1000 0x100C role.DwordTable ∷ []) (code_at 0x1000 (1 ∷ 2 ∷ 3 ∷ 4 ∷ 5 ∷ 6 ∷ 7 ∷ 8 ∷ 9 ∷ 10 ∷ 11 ∷ 12 ∷ 13 ∷ [])))
+    (codes "        .dword  $04030201,$08070605\n        .dword  $0C0B0A09\n        .byte   $0D\n")
+unfolding addresses are_joined base_at begins comma_list comment_at comment_lines comments covering covering_below cut_text default_name entries pieces address_entry address_expr constant_lines constants ending_lines forward_lines forwards goes_on group_addresses group_len group_lines filled has_name entry_start entry_base instruction_in is_border is_in_run is_joined is_own is_referenced item_len last_item left_at line_of line_text listing_below more_at opening_lines operand_target operand_text operands_of place_of refers return_entry role_at role_in segment_at segment_before segment_covering segment_lines separator separator_lines size_at statement_for statement_in statement_lines stride_at style_of target_at target_for target_of text_of full_len_at zero_page_expr
+lines_of_double_words = refl
+
+lines_of_text : IsListed (with_ranges (range 0x1000 0x1010 role.TextTable ∷ []) (code_at 0x1000 (0x41 ∷ 0x42 ∷ 0x43 ∷ 0x44 ∷ 0x45 ∷ 0x46 ∷ 0x47 ∷ 0x48 ∷ 0x49 ∷ 0x4A ∷ 0x4B ∷ 0x4C ∷ 0x4D ∷ 0x4E ∷ 0x4F ∷ 0x50 ∷ 0x51 ∷ [])))
+    (codes "        .byte   \"ABCDEFGHIJKLMNOP\"\n        .byte   \"Q\"\n")
+unfolding addresses are_joined base_at begins comma_list comment_at comment_lines comments covering covering_below cut_text default_name entries pieces address_entry address_expr constant_lines constants ending_lines forward_lines forwards goes_on group_addresses group_len group_lines filled has_name entry_start entry_base instruction_in is_border is_in_run is_joined is_own is_referenced item_len last_item left_at line_of line_text listing_below more_at opening_lines operand_target operand_text operands_of place_of refers return_entry role_at role_in segment_at segment_before segment_covering segment_lines separator separator_lines size_at statement_for statement_in statement_lines stride_at style_of target_at target_for target_of text_of full_len_at zero_page_expr
+lines_of_text = refl
+
 pub worked_listings : WorkedListings
 worked_listings = record {
   three_bytes = three_bytes;
@@ -222,4 +242,8 @@ worked_listings = record {
   every_remark = every_remark;
   newline_after_rts = newline_after_rts;
   first_columns = first_columns;
+  lines_of_words = lines_of_words;
+  lines_of_dbytes = lines_of_dbytes;
+  lines_of_double_words = lines_of_double_words;
+  lines_of_text = lines_of_text;
 }

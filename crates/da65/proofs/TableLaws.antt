@@ -10,9 +10,8 @@ use Rattle.stmt65.specs.Symbols.{Definition}
 use Rattle.stmt65.specs.Coding.{Fixed, Entry, datum_fragments}
 use Rattle.stmt65.specs.declared.directive.Directive.{Directive}
 use Rattle.stmt65.specs.declared.directive.Directive.TheVariants.{Word}
-use Rattle.stmt65.specs.Directives.{entry_len}
 use Rattle.stmt65.specs.Printed.{entry_value}
-use Rattle.stmt65.specs.Tables.{pieces, entries, is_plain, onto_stretch, cut_text}
+use Rattle.stmt65.specs.Tables.{entry_len, pieces, entries, is_plain, onto_stretch, cut_text}
 use Rattle.map65.specs.ImageView.{AreBytes}
 use Rattle.da65.proofs.FragmentLaws.{FragmentsGive, fixed_gives, no_fragments, single_gives, entry_gives}
 

@@ -1,16 +1,15 @@
 -- The bytes of fragments whose values are expressions.
-use Rattle.std.proofs.Common.{◌≡◌, ℕ, ◌+◌, ◌*◌, ◌%◌, ◌<◌, List, [], ◌∷◌, Some, refl, sym, ap, subst, length, ◌++◌, arith}
+use Rattle.std.proofs.Common.{◌≡◌, ℕ, ◌+◌, ◌*◌, ◌%◌, ◌<◌, List, [], ◌∷◌, Some, refl, sym, ap, ◌∙◌, subst, length, ◌++◌, arith}
 use Rattle.std.proofs.lemmas.Bool.{lt-ltb}
 use Rattle.std.proofs.lemmas.List.Elements.{All-cons, All-nil}
 use Rattle.isa65.specs.declared.byte_order.ByteOrder.TheVariants.{LittleEndian}
 use Rattle.stmt65.specs.declared.directive.Directive.{Directive}
-use Rattle.stmt65.specs.Directives.{entry_len, order_of, entry_limit}
-use Rattle.stmt65.specs.Tables.{low_number, entry_number}
-use Rattle.stmt65.proofs.Public.{bytes_back, number_fits}
+use Rattle.stmt65.specs.Tables.{entry_len, order_of, low_number, entry_number}
+use Rattle.stmt65.proofs.Public.{entry_size, bytes_back, number_fits}
 use Rattle.map65.specs.ImageView.{AreBytes}
 use Rattle.stmt65.specs.SourceLine.{Value}
 use Rattle.stmt65.specs.Symbols.{Definition, word_in}
-use Rattle.stmt65.specs.Coding.{Fragment, ZeroPage, Entry, Distance, entry_in, fragment_fits, fragment_bytes}
+use Rattle.stmt65.specs.Coding.{entry_limit, Fragment, ZeroPage, Entry, Distance, entry_in, fragment_fits, fragment_bytes}
 use Rattle.da65.proofs.FragmentLaws.{FragmentsGive, IsTarget, more_fragments}
 use Rattle.da65.proofs.ValueLaws.{IsWorth}
 
@@ -43,7 +42,7 @@ pub entry_worth_gives : (Full : List Definition → Type 0) (next : ℕ) (d : Di
 unfolding fragment_fits fragment_bytes
 entry_worth_gives Full next d v entry fragments bytes is long are rest =
     let room = number_fits d entry long are in
-    more_fragments Full next (Entry d v) fragments entry bytes (sym long) (λ all full. (is all full).known)
+    more_fragments Full next (Entry d v) fragments entry bytes (entry_size d ∙ sym long) (λ all full. (is all full).known)
     (λ all full. rw (entry-in all d v (entry_number d entry) (is all full) room) refl)
     (λ all full. rw (entry-in all d v (entry_number d entry) (is all full) room) (bytes_back d entry long are)) rest
 

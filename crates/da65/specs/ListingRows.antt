@@ -125,3 +125,12 @@ pub record WorkedListings : Type 0 where
       (codes "; ----------------------------------------------------------------------------\n        lda     #$41                            ; 1000 A9 41                    .A\n")
   pub newline_after_rts : IsListed (with_newline_after_rts (code_at 0xFFFD (0xA9 ∷ 1 ∷ 0x60 ∷ []))) (codes "        lda     #$01\n        rts\n\n")
   pub first_columns : IsListedWhole (with_columns 1 1 (code_at 0x1000 (0xA9 ∷ 1 ∷ []))) (codes "; da65 listing\n\n.setcpu \"6502\"\n\nlda #$01\n")
+  -- whole lines of numbers, one more number, and a byte that is left over
+  pub lines_of_words : IsListed (with_ranges (range 0x1000 0x100A role.WordTable ∷ []) (code_at 0x1000 (1 ∷ 2 ∷ 3 ∷ 4 ∷ 5 ∷ 6 ∷ 7 ∷ 8 ∷ 9 ∷ 10 ∷ 11 ∷ [])))
+      (codes "        .word   $0201,$0403,$0605,$0807\n        .word   $0A09\n        .byte   $0B\n")
+  pub lines_of_dbytes : IsListed (with_ranges (range 0x1000 0x100A role.DbyteTable ∷ []) (code_at 0x1000 (1 ∷ 2 ∷ 3 ∷ 4 ∷ 5 ∷ 6 ∷ 7 ∷ 8 ∷ 9 ∷ 10 ∷ 11 ∷ [])))
+      (codes "        .dbyt   $0102,$0304,$0506,$0708\n        .dbyt   $090A\n        .byte   $0B\n")
+  pub lines_of_double_words : IsListed (with_ranges (range 0x1000 0x100C role.DwordTable ∷ []) (code_at 0x1000 (1 ∷ 2 ∷ 3 ∷ 4 ∷ 5 ∷ 6 ∷ 7 ∷ 8 ∷ 9 ∷ 10 ∷ 11 ∷ 12 ∷ 13 ∷ [])))
+      (codes "        .dword  $04030201,$08070605\n        .dword  $0C0B0A09\n        .byte   $0D\n")
+  pub lines_of_text : IsListed (with_ranges (range 0x1000 0x1010 role.TextTable ∷ []) (code_at 0x1000 (0x41 ∷ 0x42 ∷ 0x43 ∷ 0x44 ∷ 0x45 ∷ 0x46 ∷ 0x47 ∷ 0x48 ∷ 0x49 ∷ 0x4A ∷ 0x4B ∷ 0x4C ∷ 0x4D ∷ 0x4E ∷ 0x4F ∷ 0x50 ∷ 0x51 ∷ [])))
+      (codes "        .byte   \"ABCDEFGHIJKLMNOP\"\n        .byte   \"Q\"\n")

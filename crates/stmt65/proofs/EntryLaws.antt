@@ -1,90 +1,113 @@
 -- What holds of the entries of tables.
-use Rattle.std.proofs.Common.{◌≡◌, ℕ, zero, suc, ◌+◌, ◌-◌, ◌*◌, ◌/◌, ◌%◌, ◌^◌, ◌<◌, ◌≤◌, List, [], ◌∷◌, ◌++◌, length, reverse, take, drop, refl, sym, ap, ◌∙◌, arith, append_assoc}
+use Rattle.std.proofs.Common.{◌≡◌, ℕ, suc, ◌+◌, ◌*◌, ◌/◌, ◌<◌, ◌≤◌, List, [], ◌∷◌, length, take, drop, refl, ap, arith}
 use Rattle.std.specs.List.{All}
-use Rattle.std.proofs.Math.Nat.{pow-suc}
-use Rattle.std.proofs.lemmas.List.{append-nil, length-reverse, length-drop, reverse-reverse, reverse-append}
-use Rattle.std.proofs.lemmas.List.Elements.{All-head, All-tail, All-append, All-cons, All-nil}
+use Rattle.std.proofs.lemmas.List.{length-reverse, length-drop}
+use Rattle.std.proofs.lemmas.List.Elements.{All-head, All-tail}
 use Rattle.isa65.specs.declared.byte_order.ByteOrder.{ByteOrder}
 use Rattle.isa65.specs.declared.byte_order.ByteOrder.TheVariants.{LittleEndian, BigEndian}
 use Rattle.stmt65.specs.declared.directive.Directive.{Directive}
-use Rattle.stmt65.specs.declared.directive.Directive.TheVariants.{Dword}
-use Rattle.stmt65.specs.Directives.{entry_len, order_of, entry_limit}
-use Rattle.stmt65.specs.Tables.{in_order, low_number, low_bytes, pieces, entries, entry_number, entry_bytes}
+use Rattle.stmt65.specs.declared.directive.Directive.TheVariants.{Word, Dbyt, Addr, Dword}
+use Rattle.stmt65.specs.Coding.{low, entry_bytes, entry_limit}
+use Rattle.stmt65.specs.Tables.{entry_len, in_order, low_number, pieces, entries, entry_number}
 
--- ---- the bytes of a number
+-- ---- the order of bytes
 
 pub in_order-length : (o : ByteOrder) (bytes : List ℕ) → length (in_order o bytes) ≡ length bytes
 in_order-length LittleEndian bytes = refl
 in_order-length BigEndian bytes = length-reverse bytes
 
-in_order-twice : (o : ByteOrder) (bytes : List ℕ) → in_order o (in_order o bytes) ≡ bytes
-in_order-twice LittleEndian bytes = refl
-in_order-twice BigEndian bytes = reverse-reverse bytes
+-- ---- the number that is printed of an entry codes its bytes
 
-pub low_bytes-length : (len n : ℕ) → length (low_bytes len n) ≡ len
-unfolding low_bytes
-low_bytes-length zero n = refl
-low_bytes-length (suc len) n = ap suc (low_bytes-length len (n / 256))
+-- a directive codes as many bytes of every number as an entry has
+pub entry_bytes-length : (d : Directive) (n : ℕ) → length (entry_bytes d n) ≡ length (entry_bytes d 0)
+entry_bytes-length Dword n = refl
+entry_bytes-length _ n = refl
 
--- no bytes are put; the low byte, and then the others; the others, and then the low byte
-pub number_none : (o : ByteOrder) (len n : ℕ) (out : List ℕ) → len ≡ 0 → out ≡ out ++ in_order o (low_bytes len n)
-unfolding low_bytes
-number_none LittleEndian len n out none = rw none (sym (append-nil out))
-number_none BigEndian len n out none = rw none (sym (append-nil out))
+pub entry_size : (d : Directive) → length (entry_bytes d 0) ≡ entry_len d
+entry_size Dword = refl
+entry_size _ = refl
 
-low_bytes-more : (len n : ℕ) → 0 < len → low_bytes len n ≡ n % 256 ∷ low_bytes (len - 1) (n / 256)
-unfolding low_bytes
-low_bytes-more zero n some = absurd (omega arith)
-low_bytes-more (suc len) n some = let less : suc len - 1 ≡ len = omega arith in rw less refl
+-- the bytes of a number, the low one first
+record IsPair (n a b : ℕ) : Type 0 where
+  first : low n ≡ a
+  second : low (n / 0x100) ≡ b
+  room : n < 0x10000
 
-pub number_low : (o : ByteOrder) (len n : ℕ) (out first new : List ℕ) → o ≡ LittleEndian → 0 < len → first ≡ out ++ n % 256 ∷ [] → new ≡ first ++ in_order o (low_bytes (len - 1) (n / 256))
-    → new ≡ out ++ in_order o (low_bytes len n)
-number_low o len n out first new is some f e = rw (e, f, is, low_bytes-more len n some) (append_assoc out (n % 256 ∷ []) (low_bytes (len - 1) (n / 256)))
+record IsQuad (n a b c e : ℕ) : Type 0 where
+  first : low n ≡ a
+  second : low (n / 0x100) ≡ b
+  third : low (n / 0x10000) ≡ c
+  fourth : low (n / 0x1000000) ≡ e
+  room : n < 0x100000000
 
-pub number_high : (o : ByteOrder) (len n : ℕ) (out others new : List ℕ) → o ≡ BigEndian → 0 < len → others ≡ out ++ in_order o (low_bytes (len - 1) (n / 256)) → new ≡ others ++ n % 256 ∷ []
-    → new ≡ out ++ in_order o (low_bytes len n)
-number_high o len n out others new is some f e =
-    rw (e, f, is, low_bytes-more len n some, reverse-append (n % 256 ∷ []) (low_bytes (len - 1) (n / 256))) (append_assoc out (reverse (low_bytes (len - 1) (n / 256))) (n % 256 ∷ []))
+pair_of : (a b : ℕ) → a < 256 → b < 256 → IsPair (a + 256 * (b + 256 * 0)) a b
+pair_of a b h g = record { first = omega arith; second = omega arith; room = omega arith }
 
-low_bytes-number : (bytes : List ℕ) → All (λ b. b < 256) bytes → low_bytes (length bytes) (low_number bytes) ≡ bytes
-unfolding low_bytes low_number
-low_bytes-number [] are = refl
-low_bytes-number (b ∷ bytes) are =
-    let small = All-head (λ b. b < 256) b bytes are in
-    let low : (b + 256 * low_number bytes) % 256 ≡ b = omega (arith, small) in
-    let high : (b + 256 * low_number bytes) / 256 ≡ low_number bytes = omega (arith, small) in
-    rw (low, high) (ap (λ (l : List ℕ). b ∷ l) (low_bytes-number bytes (All-tail (λ b. b < 256) b bytes are)))
+quad_of : (a b c e : ℕ) → a < 256 → b < 256 → c < 256 → e < 256 → IsQuad (a + 256 * (b + 256 * (c + 256 * (e + 256 * 0)))) a b c e
+quad_of a b c e h g i j = record { first = omega arith; second = omega arith; third = omega arith; fourth = omega arith; room = omega arith }
 
-low_number-lt : (bytes : List ℕ) → All (λ b. b < 256) bytes → low_number bytes < 256 ^ length bytes
+-- the number of the entry has room, and its bytes are those of the entry
+record CodesBack (d : Directive) (entry : List ℕ) : Type 0 where
+  back : entry_bytes d (entry_number d entry) ≡ entry
+  fits : entry_number d entry < entry_limit d
+
+words_back : (a b : ℕ) → a < 256 → b < 256 → CodesBack Word (a ∷ b ∷ [])
 unfolding low_number
-low_number-lt [] are = omega arith
-low_number-lt (b ∷ bytes) are =
-    omega (arith, All-head (λ b. b < 256) b bytes are, low_number-lt bytes (All-tail (λ b. b < 256) b bytes are), pow-suc 256 (length bytes))
+words_back a b h g = let is = pair_of a b h g in record { back = rw (is.first, is.second) refl; fits = is.room }
 
-reverse-bytes : (bytes : List ℕ) → All (λ b. b < 256) bytes → All (λ b. b < 256) (reverse bytes)
-reverse-bytes [] are = All-nil (λ b. b < 256)
-reverse-bytes (b ∷ bytes) are =
-    rw (reverse-append (b ∷ []) bytes) (All-append (λ b. b < 256) (reverse bytes) (b ∷ []) (reverse-bytes bytes (All-tail (λ b. b < 256) b bytes are)) (All-cons (λ b. b < 256) b [] (All-head (λ b. b < 256) b bytes are) (All-nil (λ b. b < 256))))
+addrs_back : (a b : ℕ) → a < 256 → b < 256 → CodesBack Addr (a ∷ b ∷ [])
+unfolding low_number
+addrs_back a b h g = let is = pair_of a b h g in record { back = rw (is.first, is.second) refl; fits = is.room }
 
-ordered-bytes : (o : ByteOrder) (bytes : List ℕ) → All (λ b. b < 256) bytes → All (λ b. b < 256) (in_order o bytes)
-ordered-bytes LittleEndian bytes are = are
-ordered-bytes BigEndian bytes are = reverse-bytes bytes are
+dbyts_back : (a b : ℕ) → a < 256 → b < 256 → CodesBack Dbyt (a ∷ b ∷ [])
+unfolding low_number
+dbyts_back a b h g = let is = pair_of b a g h in record { back = rw (is.first, is.second) refl; fits = is.room }
+
+dwords_back : (a b c e : ℕ) → a < 256 → b < 256 → c < 256 → e < 256 → CodesBack Dword (a ∷ b ∷ c ∷ e ∷ [])
+unfolding low_number
+dwords_back a b c e h g i j = let is = quad_of a b c e h g i j in record { back = rw (is.first, is.second, is.third, is.fourth) refl; fits = is.room }
+
+abbrev AreBytes : List ℕ → Type 0
+AreBytes bytes = All (λ b. b < 256) bytes
+
+head : (b : ℕ) (bytes : List ℕ) → AreBytes (b ∷ bytes) → b < 256
+head b bytes are = All-head (λ b. b < 256) b bytes are
+
+tail : (b : ℕ) (bytes : List ℕ) → AreBytes (b ∷ bytes) → AreBytes bytes
+tail b bytes are = All-tail (λ b. b < 256) b bytes are
+
+two_bytes : (P : List ℕ → Type 0) (bytes : List ℕ) → length bytes ≡ 2 → AreBytes bytes → ((a b : ℕ) → a < 256 → b < 256 → P (a ∷ b ∷ [])) → P bytes
+two_bytes P [] long are all = absurd (omega (arith, long))
+two_bytes P (a ∷ []) long are all = absurd (omega (arith, long))
+two_bytes P (a ∷ b ∷ []) long are all = all a b (head a (b ∷ []) are) (head b [] (tail a (b ∷ []) are))
+two_bytes P (a ∷ b ∷ c ∷ bytes) long are all = absurd (omega (arith, long))
+
+four_bytes : (P : List ℕ → Type 0) (bytes : List ℕ) → length bytes ≡ 4 → AreBytes bytes → ((a b c e : ℕ) → a < 256 → b < 256 → c < 256 → e < 256 → P (a ∷ b ∷ c ∷ e ∷ [])) → P bytes
+four_bytes P [] long are all = absurd (omega (arith, long))
+four_bytes P (a ∷ bytes) long are all =
+    let rest = tail a bytes are in
+    three bytes (omega (arith, long)) rest
+  where
+    first : a < 256
+    first = head a bytes are
+
+    three : (bytes : List ℕ) → length bytes ≡ 3 → AreBytes bytes → P (a ∷ bytes)
+    three [] long are = absurd (omega (arith, long))
+    three (b ∷ bytes) long are = two_bytes (λ cs. P (a ∷ b ∷ cs)) bytes (omega (arith, long)) (tail b bytes are) (λ c e i j. all a b c e first (head b bytes are) i j)
+
+codes_back : (d : Directive) (entry : List ℕ) → length entry ≡ entry_len d → AreBytes entry → CodesBack d entry
+codes_back Word entry long are = two_bytes (CodesBack Word) entry long are words_back
+codes_back Dbyt entry long are = two_bytes (CodesBack Dbyt) entry long are dbyts_back
+codes_back Addr entry long are = two_bytes (CodesBack Addr) entry long are addrs_back
+codes_back Dword entry long are = four_bytes (CodesBack Dword) entry long are dwords_back
 
 -- the bytes of the number of an entry are those of the entry
 pub bytes_back : (d : Directive) (entry : List ℕ) → length entry ≡ entry_len d → All (λ b. b < 256) entry → entry_bytes d (entry_number d entry) ≡ entry
-bytes_back d entry long are =
-    let low = in_order (order_of d) entry in
-    let len : entry_len d ≡ length low = sym (in_order-length (order_of d) entry ∙ long) in
-    let same = low_bytes-number low (ordered-bytes (order_of d) entry are) in
-    ap (λ (n : ℕ). in_order (order_of d) (low_bytes n (low_number low))) len ∙ ap (in_order (order_of d)) same ∙ in_order-twice (order_of d) entry
+bytes_back d entry long are = (codes_back d entry long are).back
 
--- an entry has room for its number
+-- there is room for the number of an entry
 pub number_fits : (d : Directive) (entry : List ℕ) → length entry ≡ entry_len d → All (λ b. b < 256) entry → entry_number d entry < entry_limit d
-number_fits d entry long are =
-    let low = in_order (order_of d) entry in
-    let len : length low ≡ entry_len d = in_order-length (order_of d) entry ∙ long in
-    let lt = low_number-lt low (ordered-bytes (order_of d) entry are) in
-    rw len at lt
+number_fits d entry long are = (codes_back d entry long are).fits
 
 -- ---- the entries of a table
 

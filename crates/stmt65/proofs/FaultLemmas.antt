@@ -13,9 +13,8 @@ use Rattle.stmt65.specs.declared.assembling.fault.AsmFaultKind.{AsmFaultKind}
 use Rattle.stmt65.specs.declared.assembling.fault.AsmFaultKind.TheVariants.{Syntax, UnknownCpu, NoSuchForm, Undefined, DefinedTwice, OutOfRange, PastEnd, Memory}
 use Rattle.stmt65.specs.SourceLine.{Value, NumberValue, NameValue, Form, Empty, Accumulator, Immediate, Direct, DirectX, DirectY, Two, Indirect, IndirectX, IndirectY, Datum, NumberDatum, StringDatum, Operation, Nothing, Instr, Data, Values, Segment, Code, SetCpu, SourceLine}
 use Rattle.stmt65.specs.declared.source_line.AddressSize.TheVariants.{Absolute, Automatic}
-use Rattle.stmt65.specs.Directives.{entry_limit}
 use Rattle.stmt65.specs.Symbols.{Definition, find_name, value_in, is_known, below, word_in, has_zero_page_size}
-use Rattle.stmt65.specs.Coding.{Fragment, Fixed, Single, ZeroPage, Oversized, Entry, Distance, Way, zero_page, datum_fragments, is_fragment_known, is_near, fragment_fits, entry_in, word_operand, ways, first_way, coding}
+use Rattle.stmt65.specs.Coding.{entry_limit, Fragment, Fixed, Single, ZeroPage, Oversized, Entry, Distance, Way, zero_page, datum_fragments, is_fragment_known, is_near, fragment_fits, entry_in, word_operand, ways, first_way, coding}
 use Rattle.stmt65.specs.Meaning.{State, operation_in, fragments_of, next_of, defined_by, has_unknown_cpu, has_no_form, is_undefined, is_twice, is_out_of_range, is_past_end, first_of, fault_of}
 use Rattle.stmt65.specs.Forms.{form_values}
 use Rattle.stmt65.specs.FaultLaws.{rank, operation_values, NamesNoCpu, HasNoMode, IsUnknown, HasRoom, HasFault, FindsLowest, FindsNone}

@@ -18,9 +18,8 @@ use Rattle.stmt65.specs.SourceLine.{SourceLine, Assignment, PlaceAssignment, Sta
 use Rattle.stmt65.specs.declared.source_line.AddressSize.TheVariants.{Absolute, Automatic}
 use Rattle.stmt65.specs.declared.directive.Directive.{Directive}
 use Rattle.stmt65.specs.declared.directive.Directive.TheVariants.{Word}
-use Rattle.stmt65.specs.Directives.{entry_limit}
 use Rattle.stmt65.specs.Symbols.{Definition, find_name, below, lowered, value_in, is_known, word_in, is_small, is_constant, has_zero_page_size}
-use Rattle.stmt65.specs.Coding.{Fragment, Fixed, Single, ZeroPage, Oversized, Entry, Distance, entry_in, is_fragment_known, is_near, fragment_fits, fragment_bytes, ways, first_way, coding, coding_len}
+use Rattle.stmt65.specs.Coding.{entry_limit, Fragment, Fixed, Single, ZeroPage, Oversized, Entry, Distance, entry_in, is_fragment_known, is_near, fragment_fits, fragment_bytes, ways, first_way, coding, coding_len}
 use Rattle.stmt65.specs.Code.CodingViews.{coded_of}
 use Rattle.stmt65.specs.Code.Held.{held, held_value}
 use Rattle.stmt65.specs.Meaning.{State, operation_in, fragments_of, next_of, defined_by, has_unknown_cpu, has_no_form, is_undefined, is_twice, is_out_of_range, is_past_end, first_of, fault_of, bytes_of, after, final, initial}

@@ -21,7 +21,7 @@ use Rattle.text65.specs.Names.{is_word_byte}
 use Rattle.stmt65.specs.declared.printing.columns.Columns.{Columns}
 use Rattle.stmt65.specs.declared.directive.Directive.{Directive}
 use Rattle.stmt65.specs.declared.directive.Directive.TheVariants as directive
-use Rattle.stmt65.specs.Directives.{directive_text, order_of}
+use Rattle.stmt65.specs.Directives.{directive_text}
 use Rattle.stmt65.specs.Digits.{digits2, hex2, hex4, offset_text}
 use Rattle.stmt65.specs.Levels.{address_text, spaced_byte, address_and_bytes, character, level_fields}
 use Rattle.stmt65.specs.Line.{filled, with_fields, plain_line, line_of}
@@ -29,7 +29,7 @@ use Rattle.stmt65.specs.Operands.{named_text, short_text, long_text, prefix_text
 use Rattle.stmt65.specs.Printable.{IsWrittenIn, IsPrintable}
 use Rattle.stmt65.specs.SourceLine.{Datum}
 use Rattle.stmt65.specs.SourceLine as source
-use Rattle.stmt65.specs.Tables.{in_order, entries, cut_text}
+use Rattle.stmt65.specs.Tables.{order_of, in_order, entries, cut_text}
 use Rattle.stmt65.specs.Statements.{has_bytes, next_text, comma_list, bytes_text, quoted, datum_text, data_text, entry_text, numbers_text, alone, with_operands, return_text, distance_text, instr_fields, label_fields, definition_fields, fields_of}
 use Rattle.stmt65.specs.Lexing.{is_word_start, is_text_byte}
 use Rattle.stmt65.specs.Names.{is_name}

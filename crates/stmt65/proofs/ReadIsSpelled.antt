@@ -6,12 +6,12 @@ use Rattle.isa65.specs.Mnemonic.{text_of, mnemonic_named}
 use Rattle.text65.specs.Names.{has_name_form}
 use Rattle.stmt65.specs.declared.source_line.AddressSize.{AddressSize}
 use Rattle.stmt65.specs.declared.source_line.AddressSize.TheVariants.{Absolute, Automatic}
-use Rattle.stmt65.specs.SourceLine.{Value, Form, Immediate, Two, Operation, Instr, Data, Values, SetCpu}
+use Rattle.stmt65.specs.SourceLine.{is_absolute, Value, Form, Immediate, Two, Operation, Instr, Data, Values, SetCpu}
 use Rattle.stmt65.specs.declared.directive.Directive.{Directive}
 use Rattle.stmt65.specs.Directives.{directive_text, directive_named}
 use Rattle.stmt65.specs.Parts.{Part, Word, Number, Text, Define, Mark}
 use Rattle.stmt65.specs.Names.{same, is_name}
-use Rattle.stmt65.specs.Reading.{is_absolute, is_mark, is_define, is_word_here, is_number_here, number_in, ◌>>=◌, less_one, named_at, next_value, whole, tail_at, inner_at, form_of, joined, list_of, next_datum, text_in, data_of, segment_of, values_of, set_cpu_of, instruction_of, other_at, operation_at, operation_of, constant_of, line_at, reading_of}
+use Rattle.stmt65.specs.Reading.{is_mark, is_define, is_word_here, is_number_here, number_in, ◌>>=◌, less_one, named_at, next_value, whole, tail_at, inner_at, form_of, joined, list_of, next_datum, text_in, data_of, segment_of, values_of, set_cpu_of, instruction_of, other_at, operation_at, operation_of, constant_of, line_at, reading_of}
 use Rattle.stmt65.specs.Spelling.{Item, word, mark, define, name, number, string, quoted_name, value, data_list, value_list, IsPlus, IsValue, IsDatum, prefix_items, IsList, IsItem, Spells, form_items, operation_items, IsSpelling}
 use Rattle.stmt65.proofs.Cases.{by_test, by_option, by_list, mark_is, define_is, word_is, number_is, number_here_is, mnemonic_is, directive_is}
 

@@ -13,7 +13,6 @@ use Rattle.std.proofs.lemmas.List.{append-nil, reverse-append, length-reverse, l
 use Rattle.text65.specs.Digits.{hex_digit}
 use Rattle.stmt65.specs.declared.directive.Directive.{Directive}
 use Rattle.stmt65.specs.declared.directive.Directive.TheVariants.{Word}
-use Rattle.stmt65.specs.Directives.{entry_len, order_of}
 use Rattle.isa65.specs.declared.byte_order.ByteOrder.{ByteOrder}
 use Rattle.isa65.specs.declared.byte_order.ByteOrder.TheVariants.{LittleEndian, BigEndian}
 use Rattle.stmt65.specs.Digits.{digits2, hex2}
@@ -23,7 +22,7 @@ use Rattle.stmt65.specs.Lexing.{is_text_byte, parts}
 use Rattle.stmt65.specs.Spelling.{IsValue, IsDatum, IsList}
 use Rattle.stmt65.specs.Printed.{entry_value}
 use Rattle.stmt65.specs.Statements.{bytes_text, comma_list, datum_text, data_text, entry_text, numbers_text}
-use Rattle.stmt65.specs.Tables.{in_order, low_number, pieces, entries, is_plain, cut_text}
+use Rattle.stmt65.specs.Tables.{entry_len, order_of, in_order, low_number, pieces, entries, is_plain, cut_text}
 use Rattle.stmt65.specs.Code.Widths.{AreBytes}
 use Rattle.stmt65.proofs.Cases.{both}
 use Rattle.stmt65.proofs.Lexed.{Ends, parts_comma, parts_text, hex_is_digit, hex_value, below_16, parts_hex, parts_hex2, number_of-hex2}

@@ -6,9 +6,7 @@ use Rattle.std.proofs.lemmas.List.Elements.{All-cons, All-head, All-tail}
 use Rattle.stmt65.specs.declared.assembling.fault.AsmFault.{AsmFault}
 use Rattle.stmt65.specs.declared.assembling.fault.AsmFaultKind.{AsmFaultKind}
 use Rattle.stmt65.specs.SourceLine.{SourceLine}
-use Rattle.stmt65.specs.Directives.{entry_len, order_of}
-use Rattle.stmt65.specs.Tables.{low_bytes}
-use Rattle.stmt65.proofs.EntryLaws.{in_order-length, low_bytes-length}
+use Rattle.stmt65.proofs.EntryLaws.{entry_bytes-length}
 use Rattle.stmt65.specs.Symbols.{Definition}
 use Rattle.stmt65.specs.Coding.{Fragment, Fixed, Single, ZeroPage, Oversized, Entry, Distance, entry_or_zero, fragment_len, fragment_bytes, coding_len}
 use Rattle.stmt65.specs.Meaning.{State, initial, after, fault_of, fragments_of, next_of, bytes_of, coded, meaning_of, with_front}
@@ -22,7 +20,7 @@ fragment_len-bytes all next (Fixed b) = refl
 fragment_len-bytes all next (Single v) = refl
 fragment_len-bytes all next (ZeroPage v) = refl
 fragment_len-bytes all next (Oversized v) = refl
-fragment_len-bytes all next (Entry d v) = in_order-length (order_of d) (low_bytes (entry_len d) (entry_or_zero all d v)) ∙ low_bytes-length (entry_len d) (entry_or_zero all d v)
+fragment_len-bytes all next (Entry d v) = entry_bytes-length d (entry_or_zero all d v)
 fragment_len-bytes all next (Distance v) = refl
 
 coding_len-bytes : (all : List Definition) (next : ℕ) (fs : List Fragment) → length (flat_map (fragment_bytes all next) fs) ≡ coding_len fs

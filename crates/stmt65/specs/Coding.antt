@@ -1,5 +1,5 @@
 -- How a statement is coded, as a list of fragments: what each byte of it stands for.
-use Rattle.std.specs.Prelude.{ℕ, ◌+◌, ◌-◌, ◌%◌, Bool, true, false, ◌&&◌, List, [], ◌∷◌, ◌++◌, map, nat_le, if◌then◌else◌, Option, Some, None, is_some, unwrap_or}
+use Rattle.std.specs.Prelude.{ℕ, ◌+◌, ◌-◌, ◌/◌, ◌%◌, Bool, true, false, ◌&&◌, List, [], ◌∷◌, ◌++◌, length, map, nat_le, if◌then◌else◌, Option, Some, None, is_some, unwrap_or}
 use Rattle.std.specs.List.{flat_map}
 use Rattle.isa65.specs.declared.cpu.Cpu.{Cpu}
 use Rattle.isa65.specs.declared.mnemonic.Mnemonic.{Mnemonic}
@@ -10,10 +10,28 @@ use Rattle.isa65.specs.Opcodes.{encoded}
 use Rattle.stmt65.specs.SourceLine.{Value, NumberValue, Form, Empty, Accumulator, Immediate, Direct, DirectX, DirectY, Two, Indirect, IndirectX, IndirectY, Datum, NumberDatum, StringDatum, Operation, Nothing, Instr, Data, Values, Segment, Code, SetCpu}
 use Rattle.stmt65.specs.declared.source_line.AddressSize.TheVariants.{Absolute, Automatic}
 use Rattle.stmt65.specs.declared.directive.Directive.{Directive}
-use Rattle.stmt65.specs.declared.directive.Directive.TheVariants.{Addr}
-use Rattle.stmt65.specs.Directives.{entry_len, entry_limit}
-use Rattle.stmt65.specs.Tables.{entry_bytes}
+use Rattle.stmt65.specs.declared.directive.Directive.TheVariants.{Word, Dbyt, Addr, Dword}
 use Rattle.stmt65.specs.Symbols.{Definition, value_in, is_known, below, word_in, byte_in, has_zero_page_size}
+
+-- ---- numbers
+
+-- the low byte
+abbrev pub low : ℕ → ℕ
+low n = n % 256
+
+-- the bytes of a number that a directive gives
+abbrev pub entry_bytes : Directive → ℕ → List ℕ
+entry_bytes Word n = low n ∷ low (n / 0x100) ∷ []
+entry_bytes Dbyt n = low (n / 0x100) ∷ low n ∷ []
+entry_bytes Addr n = low n ∷ low (n / 0x100) ∷ []
+entry_bytes Dword n = low n ∷ low (n / 0x100) ∷ low (n / 0x10000) ∷ low (n / 0x1000000) ∷ []
+
+-- the first number that it has no room for
+abbrev pub entry_limit : Directive → ℕ
+entry_limit Word = 0x10000
+entry_limit Dbyt = 0x10000
+entry_limit Addr = 0x10000
+entry_limit Dword = 0x100000000
 
 -- ---- fragments
 
@@ -36,7 +54,7 @@ fragment_len (Fixed b) = 1
 fragment_len (Single v) = 1
 fragment_len (ZeroPage v) = 1
 fragment_len (Oversized v) = 1
-fragment_len (Entry d v) = entry_len d
+fragment_len (Entry d v) = length (entry_bytes d 0)
 fragment_len (Distance v) = 1
 
 -- whether each name in it has a definition
@@ -72,9 +90,6 @@ word_or_zero all v = unwrap_or (word_in all v) 0
 
 abbrev pub entry_or_zero : List Definition → Directive → Value → ℕ
 entry_or_zero all d v = unwrap_or (entry_in all d v) 0
-
-abbrev pub low : ℕ → ℕ
-low n = n % 256
 
 -- the signed distance from `next` as a byte
 abbrev pub distance : ℕ → ℕ → ℕ

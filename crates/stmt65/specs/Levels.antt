@@ -5,7 +5,6 @@ use Rattle.std.specs.List.{flat_map}
 use Rattle.text65.specs.Digits.{digits4}
 use Rattle.stmt65.specs.declared.printing.columns.Columns.{Columns}
 use Rattle.stmt65.specs.Digits.{digits2}
-use Rattle.stmt65.specs.Signs.{space, dot}
 use Rattle.stmt65.specs.Statements.{Field, has_bytes}
 use Rattle.stmt65.specs.Views.{StatementView, RemarksView}
 
@@ -15,7 +14,7 @@ address_text address = codes "; " ++ digits4 address
 
 -- each byte after a blank
 abbrev pub spaced_byte : ℕ → List ℕ
-spaced_byte b = space ∷ digits2 b
+spaced_byte b = codes " " ++ digits2 b
 
 -- `; `, the address, and the bytes
 abbrev pub address_and_bytes : ℕ → List ℕ → List ℕ
@@ -23,7 +22,7 @@ address_and_bytes address bytes = address_text address ++ flat_map spaced_byte b
 
 -- $20 to $7E stand for themselves, every other byte is a dot
 abbrev pub character : ℕ → ℕ
-character b = if nat_lt 0x1F b && nat_lt b 0x7F then b else dot
+character b = if nat_lt 0x1F b && nat_lt b 0x7F then b else 0x2E
 
 -- the fields of a level, with the address and the bytes of the statement
 abbrev pub level_fields : Columns → ℕ → ℕ → List ℕ → List Field

@@ -13,8 +13,7 @@ use Rattle.isa65.specs.Mode.{len_of, written, zero_page_of, IsZeroPageOf}
 use Rattle.isa65.specs.contracts.mode.Mode as mode
 use Rattle.isa65.specs.Opcodes.{encoded}
 use Rattle.stmt65.specs.Forms.{form_text, form_values, form_size}
-use Rattle.stmt65.specs.SourceLine.{Value, Form, Instr}
-use Rattle.stmt65.specs.Reading.{is_absolute}
+use Rattle.stmt65.specs.SourceLine.{is_absolute, Value, Form, Instr}
 use Rattle.stmt65.specs.Symbols.{Definition, has_zero_page_size}
 use Rattle.stmt65.specs.Coding.{Fragment, Fixed, Single, word_operand, Distance, Way, zero_page, ways, coding, coding_len}
 

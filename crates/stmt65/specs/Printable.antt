@@ -6,7 +6,7 @@ use Rattle.isa65.specs.declared.mode.Mode.TheVariants.{Imp, Acc, Imm, Zp, Zpx, Z
 use Rattle.stmt65.specs.declared.printing.columns.Columns.{Columns}
 use Rattle.stmt65.specs.Columns.{fits_label}
 use Rattle.stmt65.specs.declared.directive.Directive.{Directive}
-use Rattle.stmt65.specs.Directives.{entry_len}
+use Rattle.stmt65.specs.Tables.{entry_len}
 use Rattle.stmt65.specs.Statements.{has_bytes}
 use Rattle.stmt65.specs.Views.{ExprView, OperandsView, StatementView}
 use Rattle.stmt65.specs.Views as view

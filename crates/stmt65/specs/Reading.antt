@@ -4,7 +4,7 @@ use Rattle.std.specs.Str.{bytes_eq}
 use Rattle.isa65.specs.Mnemonic.{mnemonic_named}
 use Rattle.text65.specs.Names.{has_name_form}
 use Rattle.stmt65.specs.Signs.{hash, left_paren, right_paren, star, plus, comma, minus, colon}
-use Rattle.stmt65.specs.SourceLine.{Value, NumberValue, NameValue, Form, Empty, Accumulator, Immediate, Direct, DirectX, DirectY, Two, Indirect, IndirectX, IndirectY, Datum, NumberDatum, StringDatum, Operation, Nothing, Instr, Data, Values, Segment, Code, SetCpu, SourceLine, Assignment, PlaceAssignment, Statement}
+use Rattle.stmt65.specs.SourceLine.{is_absolute, Value, NumberValue, NameValue, Form, Empty, Accumulator, Immediate, Direct, DirectX, DirectY, Two, Indirect, IndirectX, IndirectY, Datum, NumberDatum, StringDatum, Operation, Nothing, Instr, Data, Values, Segment, Code, SetCpu, SourceLine, Assignment, PlaceAssignment, Statement}
 use Rattle.stmt65.specs.declared.source_line.AddressSize.{AddressSize}
 use Rattle.stmt65.specs.declared.source_line.AddressSize.TheVariants.{Absolute, Automatic}
 use Rattle.stmt65.specs.declared.source_line.Minus.TheVariants.{Zero, One}
@@ -71,11 +71,6 @@ next_value (Word w ∷ ps) = if is_name w then named_at w ps else None
 next_value _ = None
 
 -- ---- operands
-
--- whether `a:` stands before an expression
-abbrev pub is_absolute : AddressSize → Bool
-is_absolute Absolute = true
-is_absolute Automatic = false
 
 -- after the first expression; `size` says whether `a:` stands before it
 unfoldable pub tail_at : AddressSize → Value → List Part → Option Form

@@ -46,8 +46,5 @@ semicolon = 59
 abbrev pub equals : ℕ
 equals = 61
 
-abbrev pub backslash : ℕ
-backslash = 92
-
 abbrev pub underscore : ℕ
 underscore = 95

@@ -1,9 +1,15 @@
 -- What a line of assembler source can say.
-use Rattle.std.specs.Prelude.{ℕ, List, Option}
+use Rattle.std.specs.Prelude.{ℕ, Bool, true, false, List, Option}
 use Rattle.isa65.specs.declared.mnemonic.Mnemonic.{Mnemonic}
 use Rattle.stmt65.specs.declared.directive.Directive.{Directive}
 use Rattle.stmt65.specs.declared.source_line.AddressSize.{AddressSize}
+use Rattle.stmt65.specs.declared.source_line.AddressSize.TheVariants.{Absolute, Automatic}
 use Rattle.stmt65.specs.declared.source_line.Minus.{Minus}
+
+-- whether `a:` stands before an expression
+abbrev pub is_absolute : AddressSize → Bool
+is_absolute Absolute = true
+is_absolute Automatic = false
 
 -- an expression: a number; or a name, the number that is added to its value, and what is subtracted
 pub data Value : Type 0 where

@@ -8,12 +8,12 @@ use Rattle.isa65.specs.Cpu.{cpu_text}
 use Rattle.isa65.specs.Mnemonic.{text_of}
 use Rattle.stmt65.specs.declared.directive.Directive.{Directive}
 use Rattle.stmt65.specs.declared.printing.columns.Columns.{Columns}
-use Rattle.stmt65.specs.Directives.{directive_text, order_of}
+use Rattle.stmt65.specs.Directives.{directive_text}
 use Rattle.stmt65.specs.Digits.{digits2, hex2, hex4}
 use Rattle.stmt65.specs.Operands.{named_text, operand_text}
 use Rattle.stmt65.specs.SourceLine.{Datum}
 use Rattle.stmt65.specs.SourceLine as source
-use Rattle.stmt65.specs.Tables.{in_order, entries, cut_text}
+use Rattle.stmt65.specs.Tables.{in_order, order_of, entries, cut_text}
 use Rattle.stmt65.specs.Views.{OperandsView, StatementView, TargetView}
 use Rattle.stmt65.specs.Views as view
 

@@ -4,6 +4,7 @@ pub(crate) mod addresses;
 pub(crate) mod assembler;
 mod coding;
 mod emit;
+mod entries;
 pub(crate) mod fault;
 mod fragment_bytes;
 mod line_faults;

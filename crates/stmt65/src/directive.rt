@@ -1,7 +1,8 @@
-//! The directives that give numbers, in one table.
+//! The directives that give numbers, and how a table of them is printed. What they code stands in `assembling::entries`.
 
-ghost use Rattle.std.specs.Prelude.{◌≡◌, ◌≤◌, ◌^◌, length};
-ghost use Rattle.stmt65.specs.Directives.{directive_text, entry_len, order_of, entry_limit, first_directive_named, directive_named};
+ghost use Rattle.std.specs.Prelude.{◌≡◌, ◌≤◌, length};
+ghost use Rattle.stmt65.specs.Directives.{directive_text, first_directive_named, directive_named};
+ghost use Rattle.stmt65.specs.Tables.{entry_len, order_of};
 
 use crate::reading::names::is_word;
 use isa65::ByteOrder;
@@ -41,7 +42,7 @@ impl Directive {
         }
     }
 
-    /// How many bytes an entry has.
+    /// How many bytes of a table an entry has.
     pub fn entry_len(self) -> usize
         ensures value { result ≡ entry_len self }
         ensures some { 2 ≤ result }
@@ -51,14 +52,6 @@ impl Directive {
             Directive::Word | Directive::Dbyt | Directive::Addr => 2,
             Directive::Dword => 4,
         }
-    }
-
-    /// The first number that an entry has no room for.
-    pub fn limit(self) -> u64
-        ensures value { result ≡ entry_limit self }
-        ensures few { result ≤ 2 ^ 32 }
-    {
-        256u64.pow(self.entry_len() as u32)
     }
 
     /// In which order the bytes of an entry stand.

@@ -6,7 +6,7 @@ ghost use Rattle.isa65.specs.Mode.{len_of};
 ghost use Rattle.isa65.specs.Opcodes.{Table};
 ghost use Rattle.map65.specs.Targets.{entry_of, target_of};
 ghost use Rattle.stmt65.specs.Printable.{IsPrintable, IsWrittenIn};
-ghost use Rattle.stmt65.specs.Reading.{is_absolute};
+ghost use Rattle.stmt65.specs.SourceLine.{is_absolute};
 ghost use Rattle.stmt65.specs.Code.StatementViews.{expr_seen, operands_seen, statement_seen};
 ghost use Rattle.stmt65.specs.Views.{one};
 ghost use Rattle.da65.specs.BaseNames.{Names, names_of};

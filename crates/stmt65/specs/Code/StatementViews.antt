@@ -1,7 +1,7 @@
 -- What a value of the code's types is as a statement of the rules.
 use Rattle.std.specs.Prelude.{Bool, true, false}
 use Rattle.std.specs.Option.{option_copied, option_map}
-use Rattle.stmt65.specs.Reading.{is_absolute}
+use Rattle.stmt65.specs.SourceLine.{is_absolute}
 use Rattle.stmt65.specs.Views.{ExprView, OperandsView, RemarksView, StatementView, TargetView}
 use Rattle.stmt65.specs.Views as view
 use Rattle.stmt65.specs.declared.directive.Directive.TheVariants.{Word, Dbyt, Dword}

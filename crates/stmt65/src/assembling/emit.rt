@@ -7,6 +7,7 @@ ghost use Rattle.stmt65.specs.Code.CodingViews.{fragment_of, piece_of, coded_of}
 ghost use Rattle.stmt65.specs.Code.Held.{held};
 
 use crate::assembling::coding::{Coded, Fragment};
+use crate::assembling::entries::size;
 use crate::assembling::fragment_bytes::{fragment_fits, is_fragment_known, put_fragment};
 use crate::assembling::pieces::{Piece, first_piece};
 use crate::assembling::symbols::Symbols;
@@ -17,7 +18,7 @@ fn fragment_len(fragment: Fragment) -> u64
     ensures small { result ≤ 4 }
 {
     match fragment {
-        Fragment::Entry(directive, _) => directive.entry_len() as u64,
+        Fragment::Entry(directive, _) => size(directive),
         Fragment::Fixed(_)
         | Fragment::Single(_)
         | Fragment::ZeroPage(_)

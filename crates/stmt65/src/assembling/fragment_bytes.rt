@@ -3,16 +3,15 @@
 ghost use Rattle.std.specs.Prelude.{◌≡◌, ◌++◌, [], ◌∷◌, Option, is_some, OnOk, ◌<◌};
 ghost use Rattle.stmt65.specs.Code.SourceLineViews.{value_of};
 ghost use Rattle.stmt65.specs.Symbols.{word_in, byte_in};
-ghost use Rattle.stmt65.specs.Coding.{is_fragment_known, is_near, fragment_fits, word_or_zero, entry_or_zero, low, distance, fragment_bytes};
-ghost use Rattle.stmt65.specs.Tables.{in_order, low_bytes, entry_bytes};
+ghost use Rattle.stmt65.specs.Coding.{is_fragment_known, is_near, fragment_fits, word_or_zero, entry_or_zero, low, distance, entry_bytes, fragment_bytes};
 ghost use Rattle.stmt65.specs.Code.CodingViews.{fragment_of};
 
 use crate::assembling::coding::Fragment;
+use crate::assembling::entries::put_number;
 use crate::assembling::symbols::Symbols;
 use crate::assembling::values::{entry_in, is_known, word_in};
 use crate::directive::Directive;
 use crate::source_line::Value;
-use isa65::ByteOrder;
 use std::alloc::{AllocError, Allocator};
 
 /// Whether each name in the fragment has a definition.
@@ -97,33 +96,6 @@ fn put_one<A: Allocator>(out: &mut Vec<u8, A>, byte: u8) -> Result<(), AllocErro
     Ok(())
 }
 
-/// Adds the bytes of a number, this many, in the order.
-fn put_number<A: Allocator>(
-    out: &mut Vec<u8, A>,
-    order: ByteOrder,
-    len: usize,
-    number: u32,
-) -> Result<(), AllocError>
-    ensures { OnOk result (out.new.items ≡ out.old.items ++ in_order order (low_bytes len number)) }
-{
-    if len == 0 {
-        return Ok(());
-    }
-    let low = (number % 256) as u8;
-    match order {
-        ByteOrder::LittleEndian => {
-            put_one(out, low)?;
-            put_number(out, order, len - 1, number / 256)?;
-            Ok(())
-        }
-        ByteOrder::BigEndian => {
-            put_number(out, order, len - 1, number / 256)?;
-            put_one(out, low)?;
-            Ok(())
-        }
-    }
-}
-
 fn put_entry<A: Allocator + Clone, B: Allocator>(
     out: &mut Vec<u8, B>,
     names: &Symbols<'_, A>,
@@ -133,7 +105,7 @@ fn put_entry<A: Allocator + Clone, B: Allocator>(
     ensures { OnOk result (out.new.items ≡ out.old.items ++ entry_bytes directive (entry_or_zero names.now directive (value_of value.entry))) }
 {
     let number = entry_in(names, directive, value).unwrap_or(0);
-    put_number(out, directive.order(), directive.entry_len(), number)
+    put_number(out, directive, number)
 }
 
 /// Adds the bytes of a fragment that has room for its value; `next` is the address after the statement.

@@ -3,10 +3,10 @@
 ghost use Rattle.std.specs.Prelude.{◌≡◌};
 ghost use Rattle.stmt65.specs.Code.SourceLineViews.{value_of};
 ghost use Rattle.stmt65.specs.Code.Held.{held_value};
-ghost use Rattle.stmt65.specs.Directives.{entry_limit};
-ghost use Rattle.stmt65.specs.Coding.{entry_in};
+ghost use Rattle.stmt65.specs.Coding.{entry_limit, entry_in};
 ghost use Rattle.stmt65.specs.Symbols.{find_name, below, lowered, value_in, is_known, word_in, is_small, is_constant, has_zero_page_size};
 
+use crate::assembling::entries::limit;
 use crate::assembling::symbols::Symbols;
 use crate::directive::Directive;
 use crate::source_line::{Minus, Value};
@@ -65,7 +65,7 @@ fn in_an_entry(directive: Directive, value: Option<u128>) -> Option<u32>
     ensures { result ≡ below (entry_limit directive) value }
 {
     let value = value?;
-    if value < u128::from(directive.limit()) {
+    if value < u128::from(limit(directive)) {
         Some(value as u32)
     } else {
         None

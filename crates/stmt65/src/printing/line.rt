@@ -11,7 +11,7 @@ ghost use Rattle.stmt65.specs.Printed.{HasNames, HasLabelName, PrintsAs, source_
 ghost use Rattle.stmt65.specs.Statements.{bytes_text, quoted, data_text, numbers_text, has_operand, return_text, instr_fields, with_operands, label_fields, remark_fields, fields_of};
 ghost use Rattle.stmt65.specs.Tables.{cut_text};
 ghost use Rattle.stmt65.specs.Code.StatementViews.{in_hex, operands_seen, target_seen, statement_seen, remarks_seen};
-ghost use Rattle.stmt65.specs.Reading.{is_absolute};
+ghost use Rattle.stmt65.specs.SourceLine.{is_absolute};
 ghost use Rattle.stmt65.specs.Views as view;
 ghost use Rattle.stmt65.specs.Operands.{named_text};
 ghost use Rattle.stmt65.specs.Code.Widths.{AreWordWide, AreBytes, IsInWidth};

@@ -3,7 +3,7 @@
 ghost use Rattle.std.specs.Prelude.{◌≡◌, ◌+◌, ◌≤◌, ◌++◌, length};
 ghost use Rattle.arrayvec.specs.ArrayVec.{array_vec_len};
 ghost use Rattle.stmt65.specs.Operands.{named_text, short_text, long_text, prefix_text, bare_text, operand_text};
-ghost use Rattle.stmt65.specs.Reading.{is_absolute};
+ghost use Rattle.stmt65.specs.SourceLine.{is_absolute};
 ghost use Rattle.stmt65.specs.Printable.{IsShort, IsLong, IsWrittenIn};
 ghost use Rattle.stmt65.specs.Views.{one};
 ghost use Rattle.stmt65.specs.Code.StatementViews.{expr_seen, in_hex, operands_seen};

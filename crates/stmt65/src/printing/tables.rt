@@ -4,9 +4,8 @@ ghost use Rattle.std.specs.Prelude.{◌≡◌, ◌+◌, ◌<◌, ◌≤◌, ◌*
 ghost use Rattle.std.specs.List.{prefix_len, flat_map};
 ghost use Rattle.arrayvec.specs.ArrayVec.{array_vec_len};
 ghost use Rattle.stmt65.specs.Digits.{digits2};
-ghost use Rattle.stmt65.specs.Directives.{entry_len};
 ghost use Rattle.stmt65.specs.Statements.{data_text, datum_text, entry_text, next_text, numbers_text};
-ghost use Rattle.stmt65.specs.Tables.{entries, is_plain, cut_text};
+ghost use Rattle.stmt65.specs.Tables.{entry_len, entries, is_plain, cut_text};
 
 use crate::directive::Directive;
 use crate::printing::digits::{put_digits2, put_hex2};

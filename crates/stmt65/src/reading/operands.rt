@@ -3,7 +3,8 @@
 ghost use Rattle.std.specs.Prelude.{◌≡◌};
 ghost use Rattle.stmt65.specs.Code.Found.{Gives};
 ghost use Rattle.stmt65.specs.Code.SourceLineViews.{value_of, form_of as form_of_code};
-ghost use Rattle.stmt65.specs.Reading.{whole, is_absolute, tail_at, inner_at, form_of};
+ghost use Rattle.stmt65.specs.SourceLine.{is_absolute};
+ghost use Rattle.stmt65.specs.Reading.{whole, tail_at, inner_at, form_of};
 
 use crate::reading::expressions::next_value;
 use crate::reading::parts::Parts;

@@ -1,5 +1,5 @@
 use Rattle.std.proofs.Common.{◌∙◌, ap}
-use Rattle.stmt65.specs.Directives.{entry_limit}
+use Rattle.stmt65.specs.Coding.{entry_limit}
 use Rattle.stmt65.specs.Symbols.{below}
 use Rattle.stmt65.specs.Code.SourceLineViews.{value_of}
 use Rattle.stmt65.proofs.HeldLemmas.{entry_in-held_value}

@@ -1,7 +1,7 @@
 use Rattle.std.proofs.Common.{arith}
 use Rattle.std.proofs.lemmas.Grind.{common_steps}
 use Rattle.stmt65.specs.Code.StatementViews.{expr_seen, in_hex}
-use Rattle.stmt65.specs.Reading.{is_absolute}
+use Rattle.stmt65.specs.SourceLine.{is_absolute}
 use Rattle.stmt65.proofs.OperandTexts.{none_text, operands_as_many}
 use Rattle.stmt65.proofs.printing.operand.put_operands.Goals as goal
 
