@@ -2,6 +2,7 @@ mod BaseLaws
 mod CellLemmas
 mod ItemLaws
 mod ItemLemmas
+mod MapRows
 mod NameLemmas
 mod NameLaws
 mod NamingLemmas

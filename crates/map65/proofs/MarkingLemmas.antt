@@ -1,5 +1,5 @@
 -- Items that are marked in cells.
-use Rattle.std.proofs.Common.{◌≡◌, ◌≢◌, ◌∙◌, ℕ, suc, ◌+◌, ◌-◌, ◌/◌, ◌%◌, ◌<◌, ◌≤◌, ◌&&◌, ◌==◌, nat_lt, not, Bool, true, false, Option, Some, None, List, length, get_or, set, unwrap_or, refl, ap, sym, arith, ⊎_elim, if◌then◌else◌}
+use Rattle.std.proofs.Common.{◌≡◌, ◌≢◌, ◌∙◌, ℕ, suc, ◌+◌, ◌-◌, ◌/◌, ◌%◌, ◌<◌, ◌≤◌, ◌&&◌, ◌==◌, nat_lt, not, Bool, true, false, Option, Some, None, List, length, get_or, set, refl, ap, sym, arith, ⊎_elim, if◌then◌else◌}
 use Rattle.std.proofs.Math.ListN.{length-set}
 use Rattle.std.proofs.lemmas.Bool.{and_parts, and_from, cases_eq, cases_lt, cond-true, cond-false, cond_both, lt-ltb, ltb-true, ne_eqb, not-true}
 use Rattle.std.specs.Cmp.{both_ways}

@@ -1,5 +1,5 @@
 -- The image that an input gives.
-use Rattle.std.specs.Prelude.{◌≡◌, ℕ, ◌+◌, ◌-◌, ◌==◌, ◌||◌, Bool, false, nat_lt, if◌then◌else◌, List, length, drop, take, IfSome, Option, Some, None, Result, Ok, Err, ⊤}
+use Rattle.std.specs.Prelude.{◌≡◌, ℕ, ◌+◌, ◌-◌, ◌==◌, ◌||◌, Bool, false, nat_lt, if◌then◌else◌, List, length, drop, take, Option, Some, None, Result, Ok, Err, ⊤}
 use Rattle.info65.specs.Views.{SettingsView}
 use Rattle.map65.specs.declared.image.ImageFault.{ImageFault}
 use Rattle.map65.specs.declared.image.ImageFault.TheVariants.{Empty, TooLarge, Short, Read, Memory}

@@ -4,6 +4,7 @@ pub mod Device
 pub mod Image
 pub mod ImageView
 pub mod Items
+pub mod MapRows
 pub mod MapView
 pub mod Names
 pub mod Pieces

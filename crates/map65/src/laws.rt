@@ -1,4 +1,4 @@
-//! The laws of roles, pieces, items and cells, each stated by a function that does nothing.
+//! The laws of roles, pieces, items and cells, and the worked examples, each stated by a function that does nothing.
 
 ghost use Rattle.std.specs.Prelude.{List};
 ghost use Rattle.info65.specs.Names.{AreNames};
@@ -6,6 +6,7 @@ ghost use Rattle.info65.specs.declared.information.range.RangeSpec.{RangeSpec};
 ghost use Rattle.map65.specs.Bases.{BaseLaw, PlaceLaw};
 ghost use Rattle.map65.specs.Code.Cells.{CellLaw};
 ghost use Rattle.map65.specs.Items.{ItemLaw};
+ghost use Rattle.map65.specs.MapRows.{WorkedMaps};
 ghost use Rattle.map65.specs.MapView.{MapView};
 ghost use Rattle.map65.specs.Names.{EntryStartLaw, NameLaw, ReferenceLaw};
 ghost use Rattle.map65.specs.Pieces.{PieceLaw, RunLaw};
@@ -61,4 +62,9 @@ pub fn place_law()
 /// A base is not after the addresses that it names, is the name of its own address, and has a text of its own.
 pub fn base_law()
     ensures { (m : MapView) → AreNames m.info.names → BaseLaw m }
+{}
+
+/// The worked examples have these targets, names and images, and the types these codes.
+pub fn worked_maps()
+    ensures { WorkedMaps }
 {}

@@ -4,7 +4,7 @@
 //! them from any `std::io::Read` or `Write`. [`take_up_to`] reads some bytes, and [`write_whole`] writes some. [`read_image`] reads the [`Image`] that the settings of an `Info` ask
 //! for, and [`Map::build`] builds its [`Map`]: the role and the name of each address, and the length of the item that
 //! begins there. `cells` packs these into 16 bits; `marking`, `borders` and `naming` write the cells of an image.
-//! `laws` states the laws of roles, runs, pieces, items, names and cells.
+//! `laws` states the laws of roles, runs, pieces, items, names and cells, and the worked examples.
 #![tactic(auto)]
 
 mod borders;
@@ -24,7 +24,7 @@ pub use devices::{DeviceFault, Sink, Source, TakeFault, Told, take_up_to, write_
 pub use image::{Image, ImageFault};
 pub use laws::{
     base_law, cell_law, entry_start_law, item_law, name_law, piece_law, place_law, reference_law,
-    role_law, run_law,
+    role_law, run_law, worked_maps,
 };
 pub use map::Map;
 pub use name::{NameBuf, NameKind, Place};

@@ -1,5 +1,5 @@
 -- How a cell is packed: beside what `Cells` says of it, the bit above the name's says whether a segment border stands before the address.
-use Rattle.std.specs.Prelude.{◌≡◌, ◌==◌, ◌+◌, ◌*◌, ◌/◌, ◌%◌, ◌<◌, ◌&&◌, not, ℕ, Bool, true, false, List, length, slice_index, Option, Some, None, if◌then◌else◌}
+use Rattle.std.specs.Prelude.{◌≡◌, ◌==◌, ◌+◌, ◌*◌, ◌/◌, ◌%◌, ◌<◌, ◌&&◌, not, ℕ, Bool, false, List, length, slice_index, Option, Some, None, if◌then◌else◌}
 use Rattle.info65.specs.Views.{SegmentView}
 use Rattle.info65.specs.declared.information.range.RangeType.{RangeType}
 use Rattle.info65.specs.declared.information.range.RangeType.TheVariants as role
