@@ -1,6 +1,6 @@
 //! A listing and its bytes.
 
-ghost use Rattle.std.specs.Prelude.{◌≡◌, ℕ, List, Result, IfErr, IfOk, OnErr, OnOk};
+ghost use Rattle.std.specs.Prelude.{◌≡◌, ℕ, List, Result, IfErr, IfOk, Ok, OnErr, OnOk};
 ghost use Rattle.std.specs.Io.KnownBytes.{Appends};
 ghost use Rattle.map65.specs.Device.{AppendsFront, Counts};
 ghost use Rattle.stmt65.specs.Meaning.{meaning};
@@ -52,6 +52,7 @@ impl<'a> Assembled<'a> {
         name: &str,
     ) -> Result<Assembled<'a>, Failure>
         ensures whole { IfOk result (λ a. (a.text ≡ text.entry.now) × (a.start ≡ start)) }
+        ensures means { IfOk result (λ a. meaning start text.entry.now ≡ Ok a.bytes) }
         ensures fault { IfErr result (Reports name.now (meaning start text.entry.now)) }
     {
         match assemble(alloc, text, start) {
@@ -72,8 +73,10 @@ impl<'a> Assembled<'a> {
         self.start
     }
 
+    /// The bytes that the text means from the start.
     pub fn bytes(&self) -> &[u8]
-        ensures { result.now ≡ self.now.bytes }
+        ensures bytes { result.now ≡ self.now.bytes }
+        ensures means { meaning self.now.start self.now.text ≡ Ok result.now }
     {
         self.bytes.as_slice()
     }
