@@ -9,6 +9,7 @@ mod IncludeRows
 mod IncludedLemmas
 mod IndexLemmas
 mod FileLaws
+mod FileRows
 mod KeptLemmas
 mod LayoutLemmas
 mod NameFaultLemmas
