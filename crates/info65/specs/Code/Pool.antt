@@ -1,5 +1,5 @@
 -- Names as an `Info` keeps them: entries by address, whose texts stand in one pool of bytes.
-use Rattle.std.specs.Prelude.{◌+◌, ◌≤◌, ◌<◌, ◌&&◌, ℕ, Bool, List, [], Option, None, Some, IfSome, drop, get_or, length, nat_le, nat_lt, option_map, take, if◌then◌else◌}
+use Rattle.std.specs.Prelude.{◌+◌, ◌≤◌, ◌<◌, ◌&&◌, ℕ, zero, suc, Bool, List, [], Option, None, Some, IfSome, drop, get_or, length, nat_le, nat_lt, option_map, take, if◌then◌else◌}
 use Rattle.info65.specs.Views.{NameView}
 use Rattle.info65.specs.declared.information.pool.Entry.{Entry}
 use Rattle.info65.specs.declared.information.pool.Span.{Span}
@@ -36,6 +36,11 @@ IsWithin pool s = s.first + s.size ≤ length pool
 -- the entries from this one on reach no further than so far
 abbrev pub ReachTo : List Entry → ℕ → ℕ → Type 0
 ReachTo entries first reach = (j : ℕ) → first ≤ j → j < length entries → reach_of (get_or entries j blank_entry) ≤ reach
+
+-- no entry is before this one, or the one before it reaches further
+abbrev pub IsFirstTo : List Entry → ℕ → ℕ → Type 0
+IsFirstTo entries zero reach = Unit {0}
+IsFirstTo entries (suc n) reach = reach < reach_of (get_or entries n blank_entry)
 
 -- Each entry's bytes lie in the pool, and no entry from its link on up to it reaches further than it does.
 pub record IsPool (pool : List ℕ) (entries : List Entry) : Type 0 where

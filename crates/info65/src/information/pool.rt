@@ -2,7 +2,7 @@
 
 ghost use Rattle.std.specs.Prelude.{◌≡◌, ◌+◌, ◌<◌, ◌≤◌, ◌++◌, IfErr, IfOk, length, map, option_map};
 ghost use Rattle.std.specs.List.Sorted.{IsNonDecreasingBy};
-ghost use Rattle.info65.specs.Code.Pool.{AreAbove, IsPool, IsWithin, ReachTo, bytes_of, entry_covers, entry_seen, optional, reach_of, rest_after, span_of};
+ghost use Rattle.info65.specs.Code.Pool.{AreAbove, IsFirstTo, IsPool, IsWithin, ReachTo, bytes_of, entry_covers, entry_seen, optional, reach_of, rest_after, span_of};
 ghost use Rattle.info65.specs.Code.Names.{given_seen};
 ghost use Rattle.info65.specs.Faults.{out_of_memory};
 ghost use Rattle.info65.specs.Names.{AreNames, covering, name_at};
@@ -158,6 +158,7 @@ fn link(entries: &[Entry], pool: &[u8], reach: u64) -> usize
     requires { IsPool pool.now entries.now }
     ensures low { result ≤ length entries.now }
     ensures reach { ReachTo entries.now result reach }
+    ensures first { IsFirstTo entries.now result reach }
 {
     let mut left = entries.len();
     'left: while 0 < left {

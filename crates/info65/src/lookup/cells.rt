@@ -1,6 +1,6 @@
 //! Rows of cells that are allocated when the first of them is set.
 
-ghost use Rattle.std.specs.Prelude.{◌≡◌, ◌≤◌, ℕ, IfErr, IfOk, get_or, length};
+ghost use Rattle.std.specs.Prelude.{◌≡◌, ◌<◌, ◌≤◌, ℕ, IfErr, IfOk, get_or, length};
 ghost use Rattle.info65.specs.Faults.{out_of_memory};
 
 use crate::fault::InfoFault;
@@ -9,7 +9,7 @@ use std::alloc::Allocator;
 /// A place, in four bytes. It fails with Memory past 2^32 - 1: no table has room for more.
 pub fn narrow(place: usize) -> Result<u32, InfoFault>
     ensures ok { IfOk result (λ p. p ≡ place) }
-    ensures err { IfErr result (λ e. e ≡ out_of_memory) }
+    ensures err { IfErr result (λ e. (e ≡ out_of_memory) × (0xFFFF_FFFF < place)) }
 {
     if place <= 0xFFFF_FFFF {
         Ok(place as u32)
