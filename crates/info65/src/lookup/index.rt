@@ -164,10 +164,11 @@ impl<'a, A: Allocator + Copy> Index<'a, A> {
         match range_in(given) {
             Err(fault) => Some(fault),
             Ok(range) => {
+                let name_fault = self.optional_name_fault(range_name(given, range));
                 if is_marked(self.ranged.as_slice(), range.first, range.last) {
                     Some(InfoFaultKind::RangesOverlap)
                 } else {
-                    self.optional_name_fault(range_name(given, range))
+                    name_fault
                 }
             }
         }

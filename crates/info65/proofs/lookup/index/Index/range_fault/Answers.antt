@@ -21,5 +21,5 @@ returns-else-is_marked g c = λ ranges names i.
     let r = c.in-Ok.range in
     let low : r.last < 0x1_0000 = omega arith in
     let over = overlaps_marked ranges _ r i.ordered i.ranged (ordered_in _ r (sym c.in-Ok.ensures)) low in
-    c.optional_name_fault.ensures ranges names i ∙ ap (optional_name_fault names) c.range_name.ensures
+    c.optional_name_fault-name_fault.ensures ranges names i ∙ ap (optional_name_fault names) c.range_name.ensures
     ∙ sym (range_apart ranges names _ r _ c.in-Ok.ensures (sym over ∙ ap (λ (t : List Bool). any_in t r.first (r.last + 1 - r.first)) (sym c.as_slice.ensures.value) ∙ sym c.is_marked.ensures ∙ c.if-is_marked.false))
