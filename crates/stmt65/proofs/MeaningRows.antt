@@ -1,7 +1,7 @@
 -- Worked rows of the meaning: what a few lines mean from a start.
 use Rattle.std.specs.Prelude.{◌≡◌, ℕ, List, [], ◌∷◌, codes, Option, Some, None, Result, Ok, Err, refl}
 use Rattle.isa65.specs.declared.mnemonic.Mnemonic.{Mnemonic}
-use Rattle.isa65.specs.declared.mnemonic.Mnemonic.TheVariants.{Bne, Bra, Asl, Jmp, Lda, Nop, Sta, Stx}
+use Rattle.isa65.specs.declared.mnemonic.Mnemonic.TheVariants.{Bne, Bra, Asl, Jmp, Lda, Nop, Smb0, Sta, Stx}
 use Rattle.stmt65.specs.declared.assembling.fault.AsmFault.{AsmFault}
 use Rattle.stmt65.specs.declared.assembling.fault.AsmFaultKind.{AsmFaultKind}
 use Rattle.stmt65.specs.declared.assembling.fault.AsmFaultKind.TheVariants.{Syntax, UnknownCpu, NoSuchForm, Undefined, DefinedTwice, OutOfRange, PastEnd}
@@ -9,13 +9,24 @@ use Rattle.stmt65.specs.SourceLine.{Value, NumberValue, NameValue, Form, Empty, 
 use Rattle.stmt65.specs.declared.source_line.AddressSize.TheVariants.{Absolute, Automatic}
 use Rattle.stmt65.specs.declared.source_line.Minus.TheVariants.{Zero, One}
 use Rattle.stmt65.specs.declared.directive.Directive.TheVariants.{Word, Dbyt, Addr, Dword}
+use Rattle.isa65.specs.Mnemonic.{mnemonic_named}
+use Rattle.text65.specs.Lines.{text_lines}
+use Rattle.text65.specs.Names.{has_name_form, is_reserved_word}
+use Rattle.stmt65.specs.Directives.{directive_named}
+use Rattle.stmt65.specs.Lexing.{part_at, parts_after}
+use Rattle.stmt65.specs.Names.{is_name}
+use Rattle.stmt65.specs.Parts.{number_of}
+use Rattle.stmt65.specs.Reading.{less_one, named_at, next_value, tail_at, inner_at, form_of, joined, next_datum, text_in, other_at, operation_at, operation_of, constant_of, line_at, reading_of}
 use Rattle.stmt65.specs.Symbols.{find_name, value_in, is_known, word_in, has_zero_page_size}
 use Rattle.isa65.specs.Cpu.{cpu_named}
 use Rattle.stmt65.specs.Coding.{entry_in, fragment_fits, fragment_bytes, ways, coding, coding_len}
-use Rattle.stmt65.specs.Meaning.{fragments_of, next_of, defined_by, has_unknown_cpu, has_no_form, is_undefined, is_twice, is_out_of_range, is_past_end, fault_of, bytes_of, cpu_after, after, final, coded, meaning_of}
+use Rattle.stmt65.specs.Meaning.{fragments_of, next_of, defined_by, has_unknown_cpu, has_no_form, is_undefined, is_twice, is_out_of_range, is_past_end, fault_of, bytes_of, cpu_after, after, final, coded, meaning_of, meaning}
 
 abbrev foo : List ℕ
 foo = codes "foo"
+
+abbrev bar : List ℕ
+bar = codes "bar"
 
 abbrev name : List ℕ → Value
 name w = NameValue w 0 Zero
@@ -105,6 +116,21 @@ one_less : meaning_of 0x1000 (Some (Assignment foo 1) ∷ op Lda (Direct Automat
 unfolding find_name value_in is_known word_in has_zero_page_size cpu_named fragment_fits fragment_bytes entry_in ways coding coding_len fragments_of next_of defined_by has_unknown_cpu has_no_form is_undefined is_twice is_out_of_range is_past_end fault_of bytes_of cpu_after after final coded meaning_of
 one_less = refl
 
+-- `foo-1` where foo is 0 counts as zero page all the same, so the label below it is at $FFFF and the entry above has room for it
+size_below_zero : meaning_of 0xFFFB (Some (Assignment foo 0) ∷ line (Values Addr (name bar ∷ [])) ∷ op Lda (Direct Automatic (NameValue foo 0 One)) ∷ label bar Nothing ∷ []) ≡ at_line 3 OutOfRange
+unfolding find_name value_in is_known word_in has_zero_page_size cpu_named fragment_fits fragment_bytes entry_in ways coding coding_len fragments_of next_of defined_by has_unknown_cpu has_no_form is_undefined is_twice is_out_of_range is_past_end fault_of bytes_of cpu_after after final coded meaning_of
+size_below_zero = refl
+
+-- below an unknown CPU the one above it counts, so `smb0 $12` has two bytes, and the label below it no room in the entry above
+cpu_below_an_unknown_one : meaning_of 0xFFFC (line (Values Addr (name bar ∷ [])) ∷ line (SetCpu (codes "65C02")) ∷ line (SetCpu (codes "6809")) ∷ op Smb0 (Direct Automatic (NumberValue 0x12)) ∷ label bar Nothing ∷ []) ≡ at_line 1 OutOfRange
+unfolding find_name value_in is_known word_in has_zero_page_size cpu_named fragment_fits fragment_bytes entry_in ways coding coding_len fragments_of next_of defined_by has_unknown_cpu has_no_form is_undefined is_twice is_out_of_range is_past_end fault_of bytes_of cpu_after after final coded meaning_of
+cpu_below_an_unknown_one = refl
+
+-- of two definitions the first counts
+first_definition : meaning_of 0x1000 (op Lda (Immediate (name foo)) ∷ Some (Assignment foo 0x100) ∷ Some (Assignment foo 1) ∷ []) ≡ at_line 1 OutOfRange
+unfolding find_name value_in is_known word_in has_zero_page_size cpu_named fragment_fits fragment_bytes entry_in ways coding coding_len fragments_of next_of defined_by has_unknown_cpu has_no_form is_undefined is_twice is_out_of_range is_past_end fault_of bytes_of cpu_after after final coded meaning_of
+first_definition = refl
+
 -- data, and lines without bytes
 data_lines : meaning_of 0x1000 (line (Data (NumberDatum 1 ∷ StringDatum (codes "AB") ∷ StringDatum [] ∷ [])) ∷ line Code ∷ line (Segment foo) ∷ line (Values Dbyt (NumberValue 0x1234 ∷ [])) ∷ line (Values Addr (NumberValue 0x1234 ∷ [])) ∷ Some (PlaceAssignment foo 2) ∷ line (Values Word (name foo ∷ NumberValue 0xFFFF ∷ [])) ∷ [])
     ≡ Ok (1 ∷ 65 ∷ 66 ∷ 0x12 ∷ 0x34 ∷ 0x34 ∷ 0x12 ∷ 0x09 ∷ 0x10 ∷ 0xFF ∷ 0xFF ∷ [])
@@ -119,6 +145,18 @@ large_double_word : meaning_of 0x1000 (line (Values Dword (NumberValue 0x1000000
 unfolding find_name value_in is_known word_in has_zero_page_size cpu_named fragment_fits fragment_bytes entry_in ways coding coding_len fragments_of next_of defined_by has_unknown_cpu has_no_form is_undefined is_twice is_out_of_range is_past_end fault_of bytes_of cpu_after after final coded meaning_of
 large_double_word = refl
 
+large_word : meaning_of 0x1000 (line (Values Word (NumberValue 0xFFFF ∷ [])) ∷ line (Values Word (NumberValue 0x10000 ∷ [])) ∷ []) ≡ at_line 2 OutOfRange
+unfolding find_name value_in is_known word_in has_zero_page_size cpu_named fragment_fits fragment_bytes entry_in ways coding coding_len fragments_of next_of defined_by has_unknown_cpu has_no_form is_undefined is_twice is_out_of_range is_past_end fault_of bytes_of cpu_after after final coded meaning_of
+large_word = refl
+
+large_dbyt : meaning_of 0x1000 (line (Values Dbyt (NumberValue 0xFFFF ∷ [])) ∷ line (Values Dbyt (NumberValue 0x10000 ∷ [])) ∷ []) ≡ at_line 2 OutOfRange
+unfolding find_name value_in is_known word_in has_zero_page_size cpu_named fragment_fits fragment_bytes entry_in ways coding coding_len fragments_of next_of defined_by has_unknown_cpu has_no_form is_undefined is_twice is_out_of_range is_past_end fault_of bytes_of cpu_after after final coded meaning_of
+large_dbyt = refl
+
+large_address : meaning_of 0x1000 (line (Values Addr (NumberValue 0xFFFF ∷ [])) ∷ line (Values Addr (NumberValue 0x10000 ∷ [])) ∷ []) ≡ at_line 2 OutOfRange
+unfolding find_name value_in is_known word_in has_zero_page_size cpu_named fragment_fits fragment_bytes entry_in ways coding coding_len fragments_of next_of defined_by has_unknown_cpu has_no_form is_undefined is_twice is_out_of_range is_past_end fault_of bytes_of cpu_after after final coded meaning_of
+large_address = refl
+
 -- a byte that is too large; `a:` before a branch; nothing at all
 large_byte : meaning_of 0x1000 (line (Data (NumberDatum 0x100 ∷ [])) ∷ []) ≡ at_line 1 OutOfRange
 unfolding find_name value_in is_known word_in has_zero_page_size cpu_named fragment_fits fragment_bytes entry_in ways coding coding_len fragments_of next_of defined_by has_unknown_cpu has_no_form is_undefined is_twice is_out_of_range is_past_end fault_of bytes_of cpu_after after final coded meaning_of
@@ -131,3 +169,8 @@ long_branch = refl
 no_line : meaning_of 0x1000 [] ≡ Ok []
 unfolding find_name value_in is_known word_in has_zero_page_size cpu_named fragment_fits fragment_bytes entry_in ways coding coding_len fragments_of next_of defined_by has_unknown_cpu has_no_form is_undefined is_twice is_out_of_range is_past_end fault_of bytes_of cpu_after after final coded meaning_of
 no_line = refl
+
+-- the same from a text
+data_from_text : meaning 0x1000 (codes ".byte $01,\"AB\"\n.word $1234\n.ADDR 4660\n.dbyt $1234\n.dword $12345678\n") ≡ Ok (1 ∷ 65 ∷ 66 ∷ 0x34 ∷ 0x12 ∷ 0x34 ∷ 0x12 ∷ 0x12 ∷ 0x34 ∷ 0x78 ∷ 0x56 ∷ 0x34 ∷ 0x12 ∷ [])
+unfolding find_name value_in is_known word_in has_zero_page_size cpu_named fragment_fits fragment_bytes entry_in ways coding coding_len fragments_of next_of defined_by has_unknown_cpu has_no_form is_undefined is_twice is_out_of_range is_past_end fault_of bytes_of cpu_after after final coded meaning_of text_lines part_at parts_after number_of is_name has_name_form is_reserved_word less_one named_at next_value tail_at inner_at form_of joined next_datum text_in other_at operation_at operation_of constant_of line_at reading_of directive_named mnemonic_named meaning
+data_from_text = refl

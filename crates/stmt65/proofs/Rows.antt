@@ -4,8 +4,9 @@ use Rattle.std.specs.Prelude.{codes, decimal}
 use Rattle.isa65.specs.declared.cpu.Cpu.TheVariants.{M6502}
 use Rattle.isa65.specs.declared.mnemonic.Mnemonic.TheVariants.{Bne, Lda, Sta}
 use Rattle.isa65.specs.declared.mode.Mode.TheVariants.{Imm, Abs, Absy, Rel}
-use Rattle.stmt65.specs.declared.directive.Directive.TheVariants.{Word, Dbyt, Dword}
+use Rattle.stmt65.specs.declared.directive.Directive.TheVariants.{Word, Dbyt, Addr, Dword}
 use Rattle.stmt65.specs.Columns.{default_columns}
+use Rattle.stmt65.specs.Directives.{directive_text}
 use Rattle.stmt65.specs.Line.{filled, line_of}
 use Rattle.stmt65.specs.Operands.{operand_text}
 use Rattle.stmt65.specs.Statements.{comma_list, data_text, numbers_text}
@@ -123,6 +124,9 @@ last_return_entry = refl
 text : data_text (cut_text (0x48 ∷ 0x22 ∷ 0x5C ∷ 0x49 ∷ 0x0D ∷ [])) ≡ codes "\"H\",$22,$5C,\"I\",$0D"
 unfolding comma_list cut_text
 text = refl
+
+directive_words : directive_text Word ∷ directive_text Dbyt ∷ directive_text Addr ∷ directive_text Dword ∷ [] ≡ codes ".word" ∷ codes ".dbyt" ∷ codes ".addr" ∷ codes ".dword" ∷ []
+directive_words = refl
 
 words : numbers_text Word (0x01 ∷ 0x02 ∷ 0x03 ∷ 0x04 ∷ []) ≡ codes "$0201,$0403"
 unfolding comma_list entries pieces
