@@ -43,7 +43,7 @@ printf '%b' "$bytes" >three.bin
 mkdir folder
 head -c 65536 /dev/zero | tr '\0' '\352' >large.bin
 yes '        nop' | head -n 65536 >large.s
-head -c 16777216 /dev/zero | tr '\0' '\n' >lines.s
+head -c 67108864 /dev/zero | tr '\0' '\n' >lines.s
 { cat lines.s; echo; } >too_large.s
 
 runs 'help' 0 "$help" '' -h
@@ -65,13 +65,12 @@ gives 'a last line without a line feed' '\n rts' '\x60' -S 0
 gives 'all of it' \
     'one := $10\nTwo := * + $01\n.setcpu "65c02" ; \xff\n.segment "S"\nlong: lda one\n lda a:one\n.code\n bra long-1\n.word Two,$1234\n.dbyt $5678\n.addr long\n.byte "A;",$22\n' \
     '\xa5\x10\xad\x10\x00\x80\xf8\x01\x10\x34\x12\x56\x78\x00\x10A;\x22' -S 0x1000
-runs 'no bytes' 0 '' '' -S 0 -o none.bin empty
-holds 'no bytes' none.bin ''
+gives 'a listing without an operation has no bytes' '; nothing\n' '' -S 0
 runs '64 KiB' 0 '' '' -S 0 -o out.bin large.s
 same '64 KiB' out.bin large.bin
 runs 'the largest listing' 0 '' '' -S 0 lines.s
 
-for words in "/dev/stdin" ""; do
+for words in "/dev/stdin" "-" ""; do
     "$program" -S 0x1000 $words <three.s >stdout 2>stderr
     ends "standard input $words" 0 $? ''
     holds "standard input $words" stdout "$bytes"
@@ -81,6 +80,13 @@ for words in "/dev/stdin" ""; do
     printf 'rts2\n' | "$program" -S 0x1000 $words >stdout 2>stderr
     ends "a fault on standard input $words" 1 $? "as65: /dev/stdin:1: $no_line\n"
 done
+runs 'standard output by its name' 0 "$bytes" '' -S 0x1000 -o - three.s
+is_absent 'standard output by its name' -
+cp three.s ./-
+runs 'a listing of that name' 0 "$bytes" '' -S 0x1000 ./-
+runs 'an output of that name' 0 '' '' -S 0x1000 -o ./- three.s
+holds 'an output of that name' - "$bytes"
+rm ./-
 [ "$(printf 'abcdef' | { "$program" -S 0 three.s >stdout; cat; })" = abcdef ] || fails 'standard input that is not asked for' 'it was read'
 
 # ---- faults of a listing
@@ -126,17 +132,20 @@ printf '\xa9\x01' >short.bin
 runs 'a listing with more bytes' 1 'the image has 2 bytes, the listing 3\n' '' -S 0 --compare short.bin three.s
 printf '\xa9\x02\x60\xea' >long.bin
 runs 'a listing with fewer bytes' 1 '$0001: 02 -> 01, line 5: lda     #$01\nthe image has 4 bytes, the listing 3\n' '' -S 0 --compare long.bin three.s
-runs 'a listing without bytes' 1 'the image has 3 bytes, the listing 0\n' '' -S 0 --compare three.bin empty
+printf '; nothing\n' >nothing.s
+runs 'a listing without bytes' 1 'the image has 3 bytes, the listing 0\n' '' -S 0 --compare three.bin nothing.s
 runs '64 KiB that do not differ' 0 '' '' --compare large.bin large.s
 head -c 65536 /dev/zero >zeros.bin
 runs '64 KiB that differ' 1 '$0000: 00 00 00 00 00 00 00 00 .. -> EA EA EA EA EA EA EA EA .., line 1: nop\n' '' --compare zeros.bin large.s
 "$program" --compare other.bin <three.s >stdout 2>stderr
 ends 'a comparison with standard input' 1 $? ''
 holds 'a comparison with standard input' stdout '$FFFE: 02 -> 01, line 5: lda     #$01\n'
-"$program" --compare /dev/stdin three.s <other.bin >stdout 2>stderr
-ends 'an image on standard input' 1 $? ''
-holds 'an image on standard input' stdout '$FFFE: 02 -> 01, line 5: lda     #$01\n'
-runs 'a fault before a comparison' 1 '' "as65: three.s:6: past the end of the address space\n" -S 0xFFFE --compare short.bin three.s
+for image in /dev/stdin -; do
+    "$program" --compare "$image" three.s <other.bin >stdout 2>stderr
+    ends "an image on standard input, $image" 1 $? ''
+    holds "an image on standard input, $image" stdout '$FFFE: 02 -> 01, line 5: lda     #$01\n'
+done
+runs 'a fault before a comparison' 2 '' "as65: three.s:6: past the end of the address space\n" -S 0xFFFE --compare short.bin three.s
 
 # ---- the words
 
@@ -144,12 +153,24 @@ runs 'neither a start nor an image' 1 '' "$no_start" three.s
 runs 'no word' 1 '' "$no_start"
 runs 'neither a start nor an image, and no listing' 1 '' "$no_start" -o new.bin no.s
 is_absent 'neither a start nor an image' new.bin
-runs 'an output beside an image' 1 '' 'as65: bad arguments\n' -S 0 -o new.bin --compare three.bin three.s
+runs 'an output beside an image' 2 '' 'as65: bad arguments\n' -S 0 -o new.bin --compare three.bin three.s
 is_absent 'an output beside an image' new.bin
 runs 'two listings' 1 '' 'as65: bad arguments\n' -S 0 three.s three.s
 runs 'an option given twice' 1 '' 'as65: bad arguments\n' -S 0 -S 0 three.s
 runs 'an option without its value' 1 '' 'as65: bad arguments\n' three.s -S
 runs 'an option that is not known' 1 '' 'as65: bad arguments\n' -S 0 --cpu 6502 three.s
+runs 'long names that are none' 1 '' 'as65: bad arguments\n' -S 0 --output new.bin three.s
+runs 'a letter that is none' 1 '' 'as65: bad arguments\n' -S 0 -c three.bin three.s
+runs 'a word past the ninth' 2 '' 'as65: bad arguments\n' -S 0 -h -V --compare three.bin three.s -o new.bin more
+runs 'help before a bad number' 0 "$help" '' -h -S x
+runs 'help before an output beside an image' 0 "$help" '' -h -S x -o new.bin --compare three.bin three.s
+runs 'version before a bad number' 0 'as65 profile 1\n' '' -S x -V
+runs 'trouble beside an image' 2 '' 'as65: bad number\n' -S x --compare three.bin three.s
+runs 'trouble beside an image in one word' 2 '' 'as65: bad arguments\n' --compare=three.bin --no three.s
+runs 'trouble with a listing called --compare' 1 '' 'as65: cannot read --compare\n' -S 0 -- --compare
+for words in '/dev/stdin' '- -' '/dev/stdin /dev/stdin' '-- -'; do
+    runs "standard input as image and listing, $words" 2 '' 'as65: the image and the listing are both standard input\n' --compare=${words/#-- /- }
+done
 runs 'an argument that is no text' 1 '' 'as65: bad arguments\n' "$(printf 'a\xff')"
 runs 'a bad number' 1 '' 'as65: bad number\n' -S 1000h three.s
 runs 'an argument out of range' 1 '' 'as65: argument out of range\n' -S 65536 three.s
@@ -162,17 +183,64 @@ runs 'a listing that is a folder' 1 '' 'as65: cannot read folder\n' -S 0 -o out.
 runs 'a listing above its limit' 1 '' 'as65: input is too large\n' -S 0 -o out.bin too_large.s
 runs 'an empty name' 1 '' 'as65: cannot read \n' -S 0 -o out.bin ''
 holds 'a listing that can not be used leaves the output' out.bin 'old\n'
-runs 'a missing image' 1 '' 'as65: cannot read no.bin\n' --compare no.bin three.s
-runs 'an image that is a folder' 1 '' 'as65: cannot read folder\n' --compare folder three.s
-runs 'an empty image' 1 '' 'as65: the image is empty\n' --compare empty three.s
-runs 'an image above its limit' 1 '' 'as65: the image is too large\n' --compare lines.s three.s
-runs 'an image that extends past $FFFF' 1 '' 'as65: the image is too large\n' -S 0xFFFE --compare three.bin three.s
+runs 'an empty listing' 1 '' 'as65: empty: no bytes\n' -S 0 -o out.bin empty
+holds 'an empty listing leaves the output' out.bin 'old\n'
+runs 'an empty listing beside an image' 2 '' 'as65: empty: no bytes\n' --compare three.bin empty
+runs 'a name of two lines' 1 '' 'as65: cannot read a\\nb\n' -S 0 $'a\nb'
+cp three.s $'a\nb'
+runs 'a listing with a name of two lines' 1 '' 'as65: a\\nb:6: past the end of the address space\n' -S 0xFFFE $'a\nb'
+runs 'a missing image' 2 '' 'as65: cannot read no.bin\n' --compare no.bin three.s
+runs 'an image that is a folder' 2 '' 'as65: cannot read folder\n' --compare folder three.s
+runs 'an empty image' 2 '' 'as65: the image is empty\n' --compare empty three.s
+runs 'an image above its limit' 2 '' 'as65: the image is too large\n' --compare lines.s three.s
+runs 'an image that extends past $FFFF' 2 '' 'as65: the image is too large\n' -S 0xFFFE --compare three.bin three.s
 runs 'an output that can not be created' 1 '' 'as65: cannot create folder/no/out.bin\n' -S 0 -o folder/no/out.bin three.s
 runs 'an output that is a folder' 1 '' 'as65: cannot create folder\n' -S 0 -o folder three.s
 # More bytes than there may be, without an end.
 (ulimit -v 1000000; timeout 60 "$program" -S 0 /dev/zero >stdout 2>stderr)
 ends 'a listing without an end' 1 $? 'as65: input is too large\n'
-runs 'an image without an end' 1 '' 'as65: the image is too large\n' --compare /dev/zero three.s
+runs 'an image without an end' 2 '' 'as65: the image is too large\n' --compare /dev/zero three.s
+
+# ---- an output that is an input
+
+# keeps NAME WORD..: the program refuses to write to this name, and the listing stays as it was.
+keeps() {
+    local name=$1
+    shift
+    cp three.s mine.s
+    runs "writing to $name" 1 '' "as65: the output is an input: $name\n" -S 0x1000 -o "$name" "$@"
+    same "writing to $name" mine.s three.s
+}
+
+cp three.s mine.s
+ln -s mine.s link.s
+ln mine.s hard.s
+keeps mine.s mine.s
+keeps ./mine.s mine.s
+keeps mine.s ./folder/../mine.s
+keeps link.s mine.s
+keeps mine.s link.s
+ln -f mine.s hard.s
+runs 'an output that is a link to the listing' 1 '' 'as65: the output is an input: hard.s\n' -S 0x1000 -o hard.s mine.s
+same 'an output that is a link to the listing' mine.s three.s
+runs 'an output of the name of a listing that is not there' 1 '' 'as65: the output is an input: no.s\n' -S 0 -o no.s no.s
+is_absent 'an output of the name of a listing that is not there' no.s
+"$program" -S 0x1000 -o mine.s <mine.s >stdout 2>stderr
+ends 'an output that standard input is read from' 1 $? 'as65: the output is an input: mine.s\n'
+same 'an output that standard input is read from' mine.s three.s
+"$program" -S 0x1000 mine.s >>mine.s 2>stderr
+ends 'a listing with its bytes after it' 1 $? 'as65: the output is an input: mine.s\n'
+same 'a listing with its bytes after it' mine.s three.s
+for file in other.bin mine.s; do
+    cp "$file" before
+    "$program" --compare other.bin mine.s >>"$file" 2>stderr
+    ends "differences after $file" 2 $? "as65: the output is an input: $file\n"
+    same "differences after $file" "$file" before
+done
+runs 'a device that is no file' 1 '' 'as65: /dev/null: no bytes\n' -S 0 -o /dev/../dev/null /dev/null
+cp three.s mine.s
+runs 'another output' 0 '' '' -S 0x1000 -o copy.bin mine.s
+holds 'another output' copy.bin "$bytes"
 
 as() {
     "${as_other[@]}" ./copied "$@"
@@ -183,7 +251,7 @@ chmod 0 secret.s secret.bin
 as -S 0 secret.s >stdout 2>stderr
 ends 'a listing that may not be read' 1 $? 'as65: cannot read secret.s\n'
 as --compare secret.bin three.s >stdout 2>stderr
-ends 'an image that may not be read' 1 $? 'as65: cannot read secret.bin\n'
+ends 'an image that may not be read' 2 $? 'as65: cannot read secret.bin\n'
 as -S 0 -o secret.bin three.s >stdout 2>stderr
 ends 'an output that may not be written' 1 $? 'as65: cannot create secret.bin\n'
 cat three.s | as -S 0 /dev/stdin >stdout 2>stderr
@@ -200,8 +268,8 @@ echo old >out.bin
 [ $? = 1 ] || fails 'a message without standard error' 'status'
 holds 'a message without standard error' out.bin 'old\n'
 "$program" -S 0 -o new.bin /dev/stdin <&- 2>stderr
-ends 'a closed standard input has no bytes' 0 $? ''
-holds 'a closed standard input has no bytes' new.bin ''
+ends 'a closed standard input has no bytes' 1 $? 'as65: /dev/stdin: no bytes\n'
+is_absent 'a closed standard input has no bytes' new.bin
 "$program" -S 0 three.s >&- 2>stderr
 ends 'a closed standard output' 1 $? 'as65: cannot write the output\n'
 if [ -e /dev/full ]; then
@@ -210,7 +278,7 @@ if [ -e /dev/full ]; then
     "$program" -S 0 -o /dev/full three.s 2>stderr
     ends 'a full output file' 1 $? 'as65: cannot write the output\n'
     "$program" --compare other.bin three.s >/dev/full 2>stderr
-    ends 'differences on a full output' 1 $? 'as65: cannot write the output\n'
+    ends 'differences on a full output' 2 $? 'as65: cannot write the output\n'
     "$program" --compare three.bin three.s >/dev/full 2>stderr
     ends 'no difference, and a full output' 0 $? ''
     "$program" -h >/dev/full 2>stderr
@@ -225,19 +293,20 @@ is_prefix 'a file that is full in the middle' cut.bin 32768 large.bin
 
 # ---- less and less memory
 
-# scarce NAME STATUS WHOLE WORD..: in less and less memory it writes all of a file with this status, or runs out and writes nothing.
+# scarce NAME STATUS TROUBLE WHOLE WORD..: in less and less memory it writes all of a file with this status, or runs out, writes nothing and
+# ends with the status of trouble.
 # Below some limit the program is not even started.
 scarce() {
-    local name=$1 status=$2 whole=$3 ran_out=0 limit got
-    shift 3
+    local name=$1 status=$2 trouble=$3 whole=$4 ran_out=0 limit got
+    shift 4
     for limit in $(seq 16384 -256 256); do
         (ulimit -v "$limit"; exec "$program" "$@" >stdout 2>stderr) 2>/dev/null
         got=$?
         if [ "$got" = "$status" ] && [ ! -s stderr ]; then
             same "$name in $limit KiB" stdout "$whole"
-        elif [ "$got" = 1 ]; then
+        elif [ "$got" = "$trouble" ]; then
             ran_out=1
-            ends "$name in $limit KiB" 1 1 'as65: out of memory\n'
+            ends "$name in $limit KiB" "$trouble" "$got" 'as65: out of memory\n'
             holds "$name in $limit KiB" stdout ''
         else
             break
@@ -246,10 +315,10 @@ scarce() {
     [ "$ran_out" = 1 ] || fails "$name" 'the program never ran out of memory'
 }
 
-scarce 'bytes' 0 large.bin -S 0 large.s
+scarce 'bytes' 0 1 large.bin -S 0 large.s
 "$program" -S 0 --compare zeros.bin large.s >whole 2>stderr
 ends 'differences' 1 $? ''
-scarce 'differences' 1 whole -S 0 --compare zeros.bin large.s
+scarce 'differences' 1 2 whole -S 0 --compare zeros.bin large.s
 
 # ---- from an image to its listing and back
 

@@ -20,7 +20,7 @@ done | LC_ALL=C sort)
 allowed=$(LC_ALL=C sort <<'END'
 as65/assembled.rt 1
 as65/failure.rt 3
-as65/request.rt 1
+as65/request.rt 2
 da65/messages.rt 1
 da65/needs.rt 2
 da65/preparing.rt 2

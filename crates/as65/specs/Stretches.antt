@@ -1,8 +1,8 @@
 -- Where two rows of bytes differ.
 use Rattle.std.specs.Prelude.{◌≡◌, ◌≢◌, ◌==◌, ◌<◌, ◌≤◌, ◌&&◌, ℕ, Bool, true, false, not, nat_lt, List, [], ◌∷◌, length, slice_index_or}
 use Rattle.as65.specs.declared.stretches.Stretch.{Stretch}
-use Rattle.as65.specs.declared.Ended.{Ended}
-use Rattle.as65.specs.declared.Ended.TheVariants.{Done, Differs}
+use Rattle.as65.specs.declared.status.Ended.{Ended}
+use Rattle.as65.specs.declared.status.Ended.TheVariants.{Done, Differs}
 
 -- whether both have a byte at this offset, and not the same one
 abbrev pub differs : List ℕ → List ℕ → ℕ → Bool

@@ -3,10 +3,10 @@
 ghost use Rattle.std.specs.Prelude.{◌≡◌, ◌⊎◌, IfErr, IfOk, Ok};
 ghost use Rattle.as65.specs.Stretches.{Compares};
 
-use crate::Ended;
 use crate::assembled::Assembled;
 use crate::failure::Failure;
 use crate::origins::{Origin, Origins};
+use crate::status::Ended;
 use crate::stretches::{Stretch, stretches};
 use map65::Image;
 use std::alloc::Global;

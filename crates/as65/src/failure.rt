@@ -18,6 +18,12 @@ pub enum Failure {
     /// Neither a start address nor an image is given.
     #[error("no start address: give -S, or --compare an image that ends at $FFFF")]
     NoStart,
+    /// The output of this name is the listing or the image.
+    #[error("the output is an input: {0}")]
+    OutputIsInput(String),
+    /// Standard input would have to be both the image and the listing.
+    #[error("the image and the listing are both standard input")]
+    BothStandard,
     /// Memory ran out.
     #[error("out of memory")]
     Memory,
@@ -30,7 +36,10 @@ pub enum Failure {
     /// The image to compare with has more than 65,536 bytes, or extends past $FFFF.
     #[error("the image is too large")]
     LargeImage,
-    /// The listing has more than 16 MiB.
+    /// The listing of this name has no byte.
+    #[error("{0}: no bytes")]
+    EmptyListing(String),
+    /// The listing has more than 64 MiB.
     #[error("input is too large")]
     LargeListing,
     /// A line of the listing of this name is none that a listing can have.
@@ -42,6 +51,22 @@ pub enum Failure {
     /// A write of the bytes, of the differences, of the help text or of the version failed.
     #[error("cannot write the output")]
     Writing,
+}
+
+impl Failure {
+    ghost use Rattle.std.specs.Prelude.{◌≡◌, ◌≢◌};
+    ghost use Rattle.std.specs.IoError.{error_kind};
+
+    /// The failure of the words of the command line: they are not valid UTF-8, or there is no memory for them.
+    pub fn of_words(error: &IoError) -> Failure
+        ensures memory { error_kind error.now ≡ ErrorKind.OutOfMemory → result ≡ Failure.Memory }
+        ensures words { error_kind error.now ≢ ErrorKind.OutOfMemory → result ≡ Failure.Usage UsageFault.Words }
+    {
+        match error.kind() {
+            ErrorKind::OutOfMemory => Failure::Memory,
+            _ => Failure::Usage(UsageFault::Words),
+        }
+    }
 }
 
 impl From<AllocError> for Failure {
@@ -62,16 +87,6 @@ impl<T: Drop> From<AllocFailed<T>> for Failure {
     fn from(failed: AllocFailed<T>) -> Failure {
         let _ = failed;
         Failure::Memory
-    }
-}
-
-/// The words of the command line are not valid UTF-8, or memory ran out.
-impl From<IoError> for Failure {
-    fn from(error: IoError) -> Failure {
-        match error.kind() {
-            ErrorKind::OutOfMemory => Failure::Memory,
-            _ => Failure::Usage(UsageFault::Words),
-        }
     }
 }
 

@@ -1,47 +1,49 @@
 //! Assembles a listing: `as65 [options] [listing]`.
 //!
-//! In order: the options, then help or version, the image to compare with, the listing, its bytes, and the output,
-//! which is created only now. With `--compare` nothing is written but the differences from the image, on
-//! standard output. The status is 0 if the bytes, the help text or the version was written, or if no byte differs, otherwise 1.
+//! In order: the options, then help or version, whether the output is an input, the image to compare with, the listing,
+//! its bytes, and the output, which is created only now. With `--compare` nothing is written but the differences from the
+//! image, on standard output. `status` has the statuses.
 #![tactic(auto)]
 
 mod assembled;
+mod command;
 mod differences;
 mod failure;
 mod image;
+mod listing;
+mod message;
 mod origins;
 mod request;
+mod same_file;
+mod status;
 mod stretches;
 
 use assembled::Assembled;
+use command::{help_text, version_text};
 use differences::compare;
 use failure::Failure;
-use files65::{Output, Placeholders, needed_contents};
+use files65::{Output, Placeholders};
 use image::image;
-use request::{Comparing, Request, Writing, help_text, request_of, version_text};
+use listing::listing;
+use message::say;
+use request::{Comparing, Request, Writing, is_comparing, request_of};
+use same_file::keep_input;
+use status::{Ended, status_of};
 use std::env;
 use std::io::{BufWriter, Write};
 use std::process::ExitCode;
 
-/// The most that a listing may have: 16 MiB.
-const LISTING_LIMIT: usize = 16_777_216;
-
-/// How a run ended that did what it was asked for.
-#[derive(Clone, Copy, Debug, PartialEq, Eq)]
-pub enum Ended {
-    /// What was asked for was written, or no byte differs.
-    Done,
-    /// Bytes differ.
-    Differs,
-}
-
-/// What the program's words ask for.
-fn requested(rt: &HostRuntime) -> Result<Request, Failure> {
+/// The program's words.
+fn words(rt: &HostRuntime) -> Result<Vec<String>, Failure> {
     let mut words = Vec::new(rt.alloc());
-    for word in env::args(rt)? {
+    let args = match env::args(rt) {
+        Ok(args) => args,
+        Err(error) => return Err(Failure::of_words(&error)),
+    };
+    for word in args {
         words.push(word)?;
     }
-    request_of(rt.alloc(), words.as_slice())
+    Ok(words)
 }
 
 /// Writes a text about the program on standard output.
@@ -52,19 +54,12 @@ fn tell(rt: &HostRuntime, text: &str) -> Result<Ended, Failure> {
     }
 }
 
-/// The text of the listing of this name.
-fn listing(rt: &HostRuntime, name: &str) -> Result<Vec<u8>, Failure> {
-    let text = needed_contents(rt, name, LISTING_LIMIT + 1)?;
-    if LISTING_LIMIT < text.len() {
-        return Err(Failure::LargeListing);
-    }
-    Ok(text)
-}
-
 /// Writes the bytes of the listing. The output is created once they are there.
 fn write_image(rt: &HostRuntime, writing: Writing) -> Result<Ended, Failure> {
-    let text = listing(rt, writing.listing.as_str())?;
-    let assembled = Assembled::new(rt.alloc(), &text, writing.start, writing.listing.as_str())?;
+    let name = writing.listing.as_str();
+    keep_input(rt, writing.output.as_deref(), name)?;
+    let text = listing(rt, name)?;
+    let assembled = Assembled::new(rt.alloc(), &text, writing.start, name)?;
     let mut output = Output::create(rt, writing.output)?;
     assembled.write(&mut output)?;
     Ok(Ended::Done)
@@ -72,10 +67,15 @@ fn write_image(rt: &HostRuntime, writing: Writing) -> Result<Ended, Failure> {
 
 /// Writes on standard output where the bytes of the listing differ from those of the image.
 fn compare_with(rt: &HostRuntime, comparing: &Comparing) -> Result<Ended, Failure> {
+    keep_input(rt, None, comparing.image.as_str())?;
+    keep_input(rt, None, comparing.listing.as_str())?;
     let image = image(rt, comparing.image.as_str(), comparing.start)?;
     let text = listing(rt, comparing.listing.as_str())?;
     let assembled = Assembled::new(rt.alloc(), &text, image.start(), comparing.listing.as_str())?;
-    let mut out = BufWriter::new(rt.alloc(), rt.stdout())?;
+    let mut out = match BufWriter::new(rt.alloc(), rt.stdout()) {
+        Ok(out) => out,
+        Err(error) => return Err(Failure::of_words(&error)),
+    };
     let ended = compare(rt.alloc(), &image, &assembled, &mut out)?;
     match out.flush() {
         Ok(()) => Ok(ended),
@@ -83,8 +83,8 @@ fn compare_with(rt: &HostRuntime, comparing: &Comparing) -> Result<Ended, Failur
     }
 }
 
-fn program(rt: &HostRuntime) -> Result<Ended, Failure> {
-    match requested(rt)? {
+fn program(rt: &HostRuntime, words: &[String]) -> Result<Ended, Failure> {
+    match request_of(rt.alloc(), words)? {
         Request::Help => tell(rt, help_text()),
         Request::Version => tell(rt, version_text()),
         Request::Write(writing) => write_image(rt, writing),
@@ -92,15 +92,19 @@ fn program(rt: &HostRuntime) -> Result<Ended, Failure> {
     }
 }
 
+/// How the program ends, after a message where it gives up.
+fn end(rt: &HostRuntime, is_comparing: bool, outcome: Result<Ended, Failure>) -> ExitCode {
+    if let Err(failure) = &outcome {
+        say(rt, failure);
+    }
+    ExitCode::from(status_of(is_comparing, outcome.ok()))
+}
+
 fn main(rt: HostRuntime) -> ExitCode {
     // Messages to a closed standard error must not end up in the output file.
     let _placeholders = Placeholders::take(&rt);
-    match program(&rt) {
-        Ok(Ended::Done) => ExitCode::SUCCESS,
-        Ok(Ended::Differs) => ExitCode::FAILURE,
-        Err(failure) => {
-            let _ = eprintln!(rt; "as65: {failure}");
-            ExitCode::FAILURE
-        }
+    match words(&rt) {
+        Ok(words) => end(&rt, is_comparing(&words), program(&rt, &words)),
+        Err(failure) => end(&rt, false, Err(failure)),
     }
 }

@@ -1,0 +1,41 @@
+-- The command as `clap` sees it: its options and the name of the listing, and how it reads the words.
+use Rattle.std.specs.Prelude.{List, Some, codes, true}
+use Rattle.clap.specs.Words.{App, Kinds, Row, Rule, Text, fault_of, matches_of, new_app, new_rule, with_rule}
+use Rattle.clap.specs.Simple.{on_top}
+use Rattle.clap.specs.declared.builder.ArgAction.TheVariants.{SetTrue}
+
+-- the program's name, with no help and no version of `clap`'s own
+abbrev pub bare : App
+bare = on_top (λ s. record s { disable_help_flag = true; disable_version_flag = true }) (new_app (codes "as65"))
+
+-- `-S addr`
+abbrev pub start_rule : Rule
+start_rule = record (new_rule (codes "start")) { short = Some 83; long = Some (codes "start-addr") }
+
+-- `-o name`
+abbrev pub output_rule : Rule
+output_rule = record (new_rule (codes "output")) { short = Some 111 }
+
+-- `--compare image`
+abbrev pub compare_rule : Rule
+compare_rule = record (new_rule (codes "compare")) { long = Some (codes "compare") }
+
+-- `-h`
+abbrev pub help_rule : Rule
+help_rule = record (new_rule (codes "help")) { short = Some 104; long = Some (codes "help"); action = Some SetTrue }
+
+-- `-V`
+abbrev pub version_rule : Rule
+version_rule = record (new_rule (codes "version")) { short = Some 86; long = Some (codes "version"); action = Some SetTrue }
+
+-- the command: its options, and an optional listing; each may be given once
+unfoldable pub app : App
+app = with_rule (with_rule (with_rule (with_rule (with_rule (with_rule bare start_rule) output_rule) compare_rule) help_rule) version_rule) (new_rule (codes "listing"))
+
+-- the matches of the words, if they are accepted
+unfoldable pub rows_on : List Text → List Row
+rows_on words = matches_of app words
+
+-- why the words are refused; empty if they are accepted
+unfoldable pub faults_on : List Text → Kinds
+faults_on words = fault_of app words

@@ -1,0 +1,129 @@
+-- What a command line asks for.
+use Rattle.std.specs.Prelude.{◌≡◌, ◌==◌, ◌&&◌, ◌||◌, ℕ, Bool, false, not, nat_eq, List, String, Option, Some, None, Result, Ok, Err, codes, drop, length, option_map, if◌then◌else◌}
+use Rattle.std.specs.List.{list_any, starts_with, take_while}
+use Rattle.std.specs.Option.{option_map_or}
+use Rattle.std.specs.Str.{bytes_eq}
+use Rattle.std.specs.String.{string_bytes}
+use Rattle.clap.specs.Words.{Row, Text, first_of}
+use Rattle.da65.specs.Number.{address_in}
+use Rattle.da65.specs.declared.command_line.usage_fault.UsageFault.{UsageFault}
+use Rattle.da65.specs.declared.command_line.usage_fault.UsageFault.TheVariants.{Words}
+use Rattle.as65.specs.Command.{faults_on, rows_on}
+use Rattle.as65.specs.declared.failure.Failure.{Failure}
+use Rattle.as65.specs.declared.failure.Failure.TheVariants as failure
+use Rattle.as65.specs.declared.request.Request.{Request}
+use Rattle.as65.specs.declared.request.Request.TheVariants.{Help, Version, Write, Compare}
+
+-- what is asked for: a listing with its start and output, or a listing with the start of both and the image
+pub data Asked : Type 0 where
+  AskHelp : Asked
+  AskVersion : Asked
+  AskWrite : Text → ℕ → Option Text → Asked
+  AskCompare : Text → Option ℕ → Text → Asked
+
+-- why a command line is refused
+pub data Refusal : Type 0 where
+  BadUsage : UsageFault → Refusal
+  LacksStart : Refusal
+  SameName : Text → Refusal
+  TwoOfStandardInput : Refusal
+
+-- a request as what it asks for
+abbrev pub asked_of : Request → Asked
+asked_of Help = AskHelp
+asked_of Version = AskVersion
+asked_of (Write w) = AskWrite (string_bytes w.listing) w.start (option_map string_bytes w.output)
+asked_of (Compare c) = AskCompare (string_bytes c.listing) c.start (string_bytes c.image)
+
+-- the failure is the refusal of the definition, unless memory ran out
+abbrev pub Fails : {A : Type 0} → Failure → Result A Refusal → Type 0
+Fails failure.Memory defined = Unit {0}
+Fails (failure.Usage e) defined = defined ≡ Err (BadUsage e)
+Fails failure.NoStart defined = defined ≡ Err LacksStart
+Fails (failure.OutputIsInput name) defined = defined ≡ Err (SameName (string_bytes name))
+Fails failure.BothStandard defined = defined ≡ Err TwoOfStandardInput
+Fails _ defined = ⊥
+
+-- the result, seen by `seen`, is the one of the definition, unless memory ran out
+abbrev pub Gives : {X A : Type 0} → (X → A) → Result X Failure → Result A Refusal → Type 0
+Gives seen (Ok x) defined = defined ≡ Ok (seen x)
+Gives seen (Err e) defined = Fails e defined
+
+-- a chain that stops at its first refusal
+infixl 10 ◌>>=◌
+abbrev pub ◌>>=◌ : {A B : Type 0} → Result A Refusal → (A → Result B Refusal) → Result B Refusal
+(Ok x) >>= f = f x
+(Err e) >>= f = Err e
+
+-- a flag is set if its value is `true`
+abbrev pub is_set : Text → List Row → Bool
+is_set id rows = option_map_or (λ t. bytes_eq t (codes "true")) (first_of id rows) false
+
+-- an address, or why it is none
+abbrev pub address_or_fault : Result ℕ UsageFault → Result (Option ℕ) Refusal
+address_or_fault (Ok n) = Ok (Some n)
+address_or_fault (Err e) = Err (BadUsage e)
+
+-- the start, if one is given
+abbrev pub start_in : Option Text → Result (Option ℕ) Refusal
+start_in None = Ok None
+start_in (Some text) = address_or_fault (address_in text)
+
+-- the name of standard input
+abbrev pub standard_input : Text
+standard_input = codes "/dev/stdin"
+
+-- `-` stands for a standard stream; a file of that name is `./-`
+abbrev pub is_standard : Text → Bool
+is_standard name = bytes_eq name (codes "-")
+
+-- the name of what is read: `-`, and a listing without a name, is standard input
+abbrev pub input_named : Option Text → Text
+input_named None = standard_input
+input_named (Some name) = if is_standard name then standard_input else name
+
+-- the name of the output; None is standard output
+abbrev pub output_named : Option Text → Option Text
+output_named None = None
+output_named (Some name) = if is_standard name then None else Some name
+
+-- the bytes of a listing are to be written, and not into the listing
+unfoldable pub to_write : Text → Option ℕ → Option Text → Result Asked Refusal
+to_write listing None output = Err LacksStart
+to_write listing (Some start) None = Ok (AskWrite listing start None)
+to_write listing (Some start) (Some output) = if bytes_eq output listing then Err (SameName output) else Ok (AskWrite listing start (Some output))
+
+-- a listing is to be compared with an image, without an output beside it; standard input can be only one of the two
+unfoldable pub to_compare : Text → Option ℕ → Option Text → Text → Result Asked Refusal
+to_compare listing start None image =
+    if bytes_eq listing standard_input && bytes_eq image standard_input then Err TwoOfStandardInput else Ok (AskCompare listing start image)
+to_compare listing start (Some output) image = Err (BadUsage Words)
+
+-- with an image it is a comparison
+abbrev pub asked_beside : Text → Option ℕ → Option Text → Option Text → Result Asked Refusal
+asked_beside listing start output None = to_write listing start output
+asked_beside listing start output (Some image) = to_compare listing start output (input_named (Some image))
+
+-- help comes first, then the version; both before the value of any option
+unfoldable pub asked_in : List Row → Result Asked Refusal
+asked_in rows =
+    if is_set (codes "help") rows then Ok AskHelp
+    else (if is_set (codes "version") rows then Ok AskVersion
+    else (start_in (first_of (codes "start") rows) >>= λ start.
+    asked_beside (input_named (first_of (codes "listing") rows)) start (output_named (first_of (codes "output") rows)) (first_of (codes "compare") rows)))
+
+-- the matches, if the words are accepted
+unfoldable pub accepted : List Text → Result (List Row) Refusal
+accepted words = if length (faults_on words) == 0 then Ok (rows_on words) else Err (BadUsage Words)
+
+-- what the words ask for, of which the first is the program's name
+unfoldable pub asked : List Text → Result Asked Refusal
+asked words = accepted words >>= asked_in
+
+-- `--compare`, with its image in the same word or in the next
+abbrev pub is_compare_word : {Z : Type 0} → String Z → Bool
+is_compare_word word = bytes_eq (string_bytes word) (codes "--compare") || starts_with nat_eq (string_bytes word) (codes "--compare=")
+
+-- whether a comparison is asked for, however well; after `--` there are names alone
+abbrev pub is_comparing : {Z : Type 0} → List (String Z) → Bool
+is_comparing words = list_any is_compare_word (take_while (λ word. not (bytes_eq (string_bytes word) (codes "--"))) (drop 1 words))

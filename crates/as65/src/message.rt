@@ -1,0 +1,38 @@
+//! Messages on standard error.
+
+use crate::failure::Failure;
+use std::fmt;
+use std::fmt::Write as FmtWrite;
+use std::io::{Stderr, Write};
+
+/// Standard error, with each line feed that is passed on as `\n`, so that a message is one line.
+#[derive(Drop)]
+struct OneLine(Stderr);
+
+impl FmtWrite for OneLine {
+    fn write_str(&mut self, text: &str) -> fmt::Result {
+        for (index, piece) in text.as_bytes().split(|byte| *byte == b'\n').enumerate() {
+            if 0 < index {
+                self.put(b"\\n")?;
+            }
+            self.put(piece)?;
+        }
+        Ok(())
+    }
+}
+
+impl OneLine {
+    fn put(&mut self, bytes: &[u8]) -> fmt::Result {
+        match self.0.write_all(bytes) {
+            Ok(()) => Ok(()),
+            Err(_) => Err(fmt::Error),
+        }
+    }
+}
+
+/// Says why the program gives up, in one line. Nothing is left to be said where that fails.
+pub fn say(rt: &HostRuntime, failure: &Failure) {
+    let mut out = OneLine(rt.stderr());
+    let _ = write!(out, "as65: {failure}");
+    let _ = out.0.write_all(b"\n");
+}
