@@ -1,6 +1,7 @@
 # `make` proves the programs, builds them into bin/da65 and bin/as65, and lists an example.
 # `make test` is the merge gate: every proof from nothing, the edits that must fail, the tests and the stored runs; then the programs
 # that this built on real files, and listings through ca65 where ca65 is installed. The result of `rt ci` is its last line.
+# `make contracts` writes docs/contracts anew, after a change of public contracts that is meant.
 # `make speed` compares the program with cc65's da65, which needs cc65, valgrind and GNU time.
 # `make install` puts the programs and their man pages under PREFIX, and `make uninstall` takes them away. DESTDIR is prepended to both.
 # RTFLAGS goes to the prover, as in `make RTFLAGS="--jobs 1"`.
@@ -9,7 +10,7 @@ PREFIX ?= /usr/local
 DESTDIR ?=
 SHELL := bash
 .SHELLFLAGS := -eu -o pipefail -c
-.PHONY: all test speed install uninstall clean
+.PHONY: all test contracts speed install uninstall clean
 
 all: bin/da65 bin/as65
 	bin/da65 examples/three.bin
@@ -31,6 +32,7 @@ test:
 	@mkdir -p bin
 	@tests/memory.sh
 	@tests/readings.sh
+	@tests/contracts.py
 	@tests/promises.sh
 	@tests/edits.sh
 	@echo 'Everything from nothing: docs/PROOFS.md, "The gate", says how long that takes. bin/gate.log keeps what the prover says.'
@@ -46,6 +48,9 @@ test:
 	tests/ca65.sh bin/da65 10
 	@[ "$${CA65-}" != skip ] || echo 'CA65=skip: no listing went through ca65 and ld65, which need cc65'
 	@tail -n 1 bin/gate.log
+
+contracts:
+	tests/contracts.py --write
 
 speed: bin/da65
 	tests/speed.sh bin/da65

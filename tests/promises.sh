@@ -1,7 +1,7 @@
 #!/usr/bin/env bash
-# Each promise of docs/PROOFS.md stands in the code: each function that its tables name has a contract, and each clause that they
-# name stands in the contract of a function of its row, or of each function of it where the row says `of each`. Else a clause that no
-# other proof needs could be lost without a word.
+# Each promise of docs/PROOFS.md stands in the public contracts: each function that its tables name has a contract, and each clause
+# that they name stands in the contract of a function of its row, or of each function of it where the row says `of each`. What the
+# contracts are is in docs/contracts, which tests/contracts.py compares with the code.
 # Usage: tests/promises.sh
 set -u
 cd "$(dirname "$0")/.." || exit 1
@@ -10,20 +10,14 @@ cd "$(dirname "$0")/.." || exit 1
 # something, and `clause NAME CLAUSE`, both with the name of the function. A method goes by its own name and by `Type::name`, and a
 # conversion by `From<Source>`.
 declared() {
-    find "crates/$1/src" -name '*.rt' -exec cat {} + | awk '
-        /^ *(pub )?(struct|enum|trait|type) / { for (k = 1; k < NF; k++) if ($k ~ /^(struct|enum|trait|type)$/) break
-                                                 name = $(k + 1); sub(/[^A-Za-z0-9_].*/, "", name); print "type", name }
-        /^(unsafe )?impl/ || /^pub trait / { owner = $0; sub(/^(unsafe )?impl(<([^<>]|<[^<>]*>)*>)? */, "", owner)
-                                             source = match($0, / From<.*> for /) ? substr($0, RSTART + 1, RLENGTH - 6) : ""
-                                             if (source) print "function", source
-                                             sub(/^pub trait /, "", owner); sub(/^.* for /, "", owner); sub(/[^A-Za-z0-9_].*/, "", owner) }
-        /^}/ { owner = "" }
-        /^ *(pub(\(crate\))? )?(unsafe )?fn / { name = $0; sub(/^.*fn /, "", name); sub(/[^A-Za-z0-9_].*/, "", name)
-                                                print "function", name; if (owner) print "function", owner "::" name }
-        /^ *ensures / { print "contract", name; if (owner) print "contract", owner "::" name }
-        /^ *(requires|ensures) [a-z]/ { print "clause", name, $2; if (owner) print "clause", owner "::" name, $2 }
-        /^ *ghost ([a-z_]*_gives|is_default) = / { print "clause", owner, $2
-                                                               if (source) { print "contract", source; print "clause", source, $2 } }'
+    awk '
+        function say(what, clause,   k) { for (k = 1; k <= names; k++) print what, name[k], clause }
+        /^[^ ]/ { names = split($0, name, ": "); if (/::/) { name[++names] = $0; sub(/.*::/, "", name[names]) } }
+        /^    fn / { say("function") }
+        /^    impl.* From<.* for / { print "function", name[names] }
+        /^    (struct|enum|trait|type) / { say("type") }
+        /^    (ensures|ghost) / { say("contract") }
+        /^    (requires|ensures|ghost) [a-z]/ { say("clause", $2) }' "docs/contracts/$1.txt"
 }
 
 # promised CRATE: the rows of the table of the crate, each as the words in back quotes of its last two columns: those of the
