@@ -2,9 +2,10 @@
 use Rattle.std.specs.Prelude.{◌≡◌, ◌⊎◌, ℕ, ◌+◌, ◌<◌, ◌≤◌, List, length, IfSome, Option, Result, Ok, Err}
 use Rattle.std.specs.Io.KnownBytes.{Keeps, Appends}
 use Rattle.info65.specs.Views.{InfoView}
-use Rattle.map65.specs.Device.{one_more, AppendsFront}
+use Rattle.map65.specs.Device.{one_more, AppendsFront, TakesUpTo}
 use Rattle.map65.specs.Image.{read_limit}
 use Rattle.da65.specs.declared.runs.outcome.Status.{Status}
+use Rattle.da65.specs.declared.runs.outcome.Status.TheVariants.{Done, Refused}
 use Rattle.da65.specs.declared.runs.outcome.RunFault.{RunFault}
 use Rattle.da65.specs.declared.runs.outcome.RunFault.TheVariants.{Memory, Write, Messages}
 use Rattle.da65.specs.Outcome.{Outcome}
@@ -17,10 +18,10 @@ Writes (Err Memory) outcome out out' msgs msgs' = Keeps out out' × Keeps msgs m
 Writes (Err Write) outcome out out' msgs msgs' = AppendsFront out out' outcome.listing × Keeps msgs msgs'
 Writes (Err Messages) outcome out out' msgs msgs' = Appends out out' outcome.listing × AppendsFront msgs msgs' outcome.messages × (0 < length outcome.messages)
 
--- how many bytes of the input are read at most: none if the run is refused before that
-abbrev pub most_read : Result InfoView (List ℕ) → ℕ
-most_read (Ok i) = read_limit i.settings
-most_read (Err message) = 0
+-- at most the bytes that the settings ask for are read, if the run is not refused before that
+abbrev pub ReadsUpTo : Result InfoView (List ℕ) → Option (List ℕ) → Option (List ℕ) → Type 0
+ReadsUpTo (Ok i) old new = TakesUpTo (read_limit i.settings) old new
+ReadsUpTo (Err message) old new = new ≡ old
 
 -- the count of failed writes of the listing rises by one exactly when the result is Write
 abbrev pub OutCount : Result Status RunFault → ℕ → ℕ → Type 0
@@ -43,3 +44,11 @@ WritesFew old new = IfSome old (λ xs. IfSome new (λ ys. length ys ≤ length x
 -- at most one call failed
 abbrev pub FailsAtMostOnce : ℕ → ℕ → Type 0
 FailsAtMostOnce old new = (new ≡ old) ⊎ (new ≡ one_more old)
+
+-- a read failed only if there was a message to write of it
+abbrev pub InputCount : Result Status RunFault → ℕ → ℕ → Type 0
+InputCount (Ok Done) old new = new ≡ old
+InputCount (Ok Refused) old new = FailsAtMostOnce old new
+InputCount (Err Memory) old new = new ≡ old
+InputCount (Err Write) old new = new ≡ old
+InputCount (Err Messages) old new = FailsAtMostOnce old new

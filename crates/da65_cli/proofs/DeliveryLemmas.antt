@@ -26,7 +26,7 @@ given_up was Write out errors left messages is room = (short_of out left, Keeps-
 given_up was Messages out errors left messages is room = absurd (room is)
 
 -- the few messages of a run fit, so none was refused
-pub has_room : (was : Result Status RunFault) (old new : List ℕ) (before after : ℕ) → MessagesCount was before after → before ≡ 0 → old ≡ [] → WritesFew (Some old) (Some new) → (0 < after → length new ≡ 1024) → HasRoom was
+pub has_room : (was : Result Status RunFault) (old new : List ℕ) (before after : ℕ) → MessagesCount was before after → before ≡ 0 → old ≡ [] → WritesFew (Some old) (Some new) → (0 < after → length new ≡ 321) → HasRoom was
 has_room was old new before after count b o few full = λ is.
     let one = rw (is, b) at count in
     let all = full (omega (arith, one)) in

@@ -7,8 +7,8 @@ use arrayvec::ArrayVec;
 use da65::{DeviceFault, Sink};
 use std::marker::Model;
 
-/// Room for the messages of a run, which have at most 320 bytes.
-type Messages = ArrayVec<u8, 1024>;
+/// Room for one byte more than the messages of a run have at most, so that it is never full.
+type Messages = ArrayVec<u8, 321>;
 
 /// Keeps messages until they are passed on.
 #[derive(Drop)]
@@ -25,7 +25,7 @@ impl Model for MessageBuffer {
 
     ghost view = { λ h. record { bytes = h.messages.items; faults = h.faults } };
 
-    ghost invariant = { λ h. 0 < h.faults → length h.messages.items ≡ 1024 };
+    ghost invariant = { λ h. 0 < h.faults → length h.messages.items ≡ 321 };
 }
 
 impl MessageBuffer {
@@ -42,14 +42,14 @@ impl MessageBuffer {
     /// The messages. A write failed only if there was no room left.
     pub fn as_slice(&self) -> &[u8]
         ensures bytes { result.now ≡ self.now.bytes }
-        ensures full { 0 < self.now.faults → length self.now.bytes ≡ 1024 }
+        ensures full { 0 < self.now.faults → length self.now.bytes ≡ 321 }
     {
         self.messages.as_slice()
     }
 }
 
 fn put(messages: &mut Messages, bytes: &[u8])
-    requires { array_vec_len messages.old + length bytes.now ≤ 1024 }
+    requires { array_vec_len messages.old + length bytes.now ≤ 321 }
     ensures { messages.new.items ≡ messages.old.items ++ bytes.now }
 {
     let taken = messages.try_extend_from_slice(bytes);

@@ -1,18 +1,19 @@
 //! From an information file and an input to a listing and messages.
 
-ghost use Rattle.std.specs.Prelude.{◌≡◌, ◌-◌, ◌^◌, ◌<◌, ◌≤◌, Ok, false, IfSome, IfOk, IsErrOf, Result, length};
+ghost use Rattle.std.specs.Prelude.{◌≡◌, ◌-◌, ◌^◌, ◌<◌, ◌≤◌, Ok, false, IfErr, IfSome, IfOk, IsErrOf, Result, length};
 ghost use Rattle.std.specs.Io.KnownBytes.{Keeps};
 ghost use Rattle.info65.specs.Code.Results.{Gives};
 ghost use Rattle.info65.specs.Views.{InfoView};
 ghost use Rattle.info65.specs.declared.fault.InfoFault.{InfoFault};
 ghost use Rattle.map65.specs.Device.{TakesUpTo, has_failed};
+ghost use Rattle.map65.specs.Image.{read_limit};
 ghost use Rattle.map65.specs.ImageView.{AreBytes};
 ghost use Rattle.da65.specs.Files.{files_seen};
 ghost use Rattle.da65.specs.Groups.{skips};
 ghost use Rattle.da65.specs.Outcome.{done, image_message, outcome_by, outcome_of, prepared, prepared_by, warnings};
 ghost use Rattle.da65.specs.RunLaw.{Reassembles, Took};
 ghost use Rattle.da65.specs.Code.Refusals.{RefusesOrGivesUp, Tells};
-ghost use Rattle.da65.specs.Running.{Writes, WritesFew, OutCount, MessagesCount, FailsAtMostOnce, most_read};
+ghost use Rattle.da65.specs.Running.{InputCount, MessagesCount, OutCount, ReadsUpTo, Writes, WritesFew};
 
 use crate::listing::line_groups::has_skipped;
 use crate::listing::lines::{Lines, write_lines};
@@ -113,10 +114,10 @@ fn list_input<A: Allocator + Copy, R: Source, W: Sink, M: Sink>(
     ensures write { IsErrOf result RunFault.Write → Keeps (M.taken msgs.old) (M.taken msgs.new) }
     ensures refused { IfOk result (λ status. status ≡ Status.Refused → Keeps (W.taken out.old) (W.taken out.new)) }
     ensures few { WritesFew (M.taken msgs.old) (M.taken msgs.new) }
-    ensures reads { TakesUpTo (most_read (Ok info.now)) (R.left input.old) (R.left input.new) }
+    ensures reads { TakesUpTo (read_limit info.now.settings) (R.left input.old) (R.left input.new) }
     ensures out_count { OutCount result (W.faults out.old) (W.faults out.new) }
     ensures messages_count { MessagesCount result (M.faults msgs.old) (M.faults msgs.new) }
-    ensures input_count { FailsAtMostOnce (R.faults input.old) (R.faults input.new) }
+    ensures input_count { InputCount result (R.faults input.old) (R.faults input.new) }
 {
     let image = match read_image(alloc, info, input) {
         Ok(image) => image,
@@ -141,8 +142,8 @@ fn list_input<A: Allocator + Copy, R: Source, W: Sink, M: Sink>(
 /// or it extends past $FFFF). Help and version are ignored.
 ///
 /// The type of the RANGE that has an address says how its byte is listed: as code, where there is none; on
-/// one line with its neighbours of the same type, up to 8 bytes, 16 bytes of text or 4 words; or, with
-/// SKIP, not at all. If a byte of the image is skipped, a warning follows the listing on `msgs`, and another one if
+/// one line with its neighbours of the same type, up to 8 bytes, 16 bytes of text, 4 words or 2 double words; in a table
+/// of addresses or return addresses one entry on a line; or, with SKIP, not at all. If a byte of the image is skipped, a warning follows the listing on `msgs`, and another one if
 /// a segment is entered again.
 ///
 /// After INPUTOFFS bytes at most INPUTSIZE bytes are read, or 65,537 without a size. Nothing is read if the
@@ -175,12 +176,13 @@ pub fn run<A: Allocator + Copy, N: Allocator, R: Source, W: Sink, M: Sink>(
     ensures write { IsErrOf result RunFault.Write → Keeps (M.taken msgs.old) (M.taken msgs.new) }
     ensures refused { IfOk result (λ status. status ≡ Status.Refused → Keeps (W.taken out.old) (W.taken out.new)) }
     ensures few { WritesFew (M.taken msgs.old) (M.taken msgs.new) }
-    ensures reads { TakesUpTo (most_read (prepared options.now info.now (files_seen files.now))) (R.left input.old) (R.left input.new) }
+    ensures reads { ReadsUpTo (prepared options.now info.now (files_seen files.now)) (R.left input.old) (R.left input.new) }
+    ensures unread { IfErr (prepared options.now info.now (files_seen files.now)) (λ _. input.new ≡ input.old) }
 
     // A failed write is reported, and nothing else is reported as one.
     ensures out_count { OutCount result (W.faults out.old) (W.faults out.new) }
     ensures messages_count { MessagesCount result (M.faults msgs.old) (M.faults msgs.new) }
-    ensures input_count { FailsAtMostOnce (R.faults input.old) (R.faults input.new) }
+    ensures input_count { InputCount result (R.faults input.old) (R.faults input.new) }
 {
     let read = read_info(alloc, options, info);
     run_read(alloc, read, files, input, out, msgs)
@@ -207,10 +209,11 @@ pub fn run_read<A: Allocator + Copy, R: Source, W: Sink, M: Sink>(
     ensures write { IsErrOf result RunFault.Write → Keeps (M.taken msgs.old) (M.taken msgs.new) }
     ensures refused { IfOk result (λ status. status ≡ Status.Refused → Keeps (W.taken out.old) (W.taken out.new)) }
     ensures few { WritesFew (M.taken msgs.old) (M.taken msgs.new) }
-    ensures reads { (defined : Result InfoView InfoFault) → Gives (λ i. i) read defined → TakesUpTo (most_read (prepared_by defined (files_seen files.now))) (R.left input.old) (R.left input.new) }
+    ensures reads { (defined : Result InfoView InfoFault) → Gives (λ i. i) read defined → ReadsUpTo (prepared_by defined (files_seen files.now)) (R.left input.old) (R.left input.new) }
+    ensures unread { (defined : Result InfoView InfoFault) → Gives (λ i. i) read defined → IfErr (prepared_by defined (files_seen files.now)) (λ _. input.new ≡ input.old) }
     ensures out_count { OutCount result (W.faults out.old) (W.faults out.new) }
     ensures messages_count { MessagesCount result (M.faults msgs.old) (M.faults msgs.new) }
-    ensures input_count { FailsAtMostOnce (R.faults input.old) (R.faults input.new) }
+    ensures input_count { InputCount result (R.faults input.old) (R.faults input.new) }
 {
     match prepare(alloc, read, files) {
         Ok(info) => list_input(alloc, &info, input, out, msgs),
