@@ -20,7 +20,7 @@ use Rattle.da65.specs.Comments.{comment_at}
 use Rattle.da65.specs.Groups.{begins, goes_on, group_addresses, group_len, more_at, stride_at}
 use Rattle.da65.specs.Instructions.{instruction_in}
 use Rattle.da65.specs.Listing.{comment_lines, comments, constant_lines, constants, ending_lines, forward_lines, forwards, group_lines, line_text, listing_below, opening_lines, segment_lines, separator, separator_lines, statement_lines, text_of}
-use Rattle.da65.specs.ListingRows.{IsListed, IsListedWhole, WorkedListings, code_at, label, range, segment, with_columns, with_comments, with_hexoffs, with_labels, with_newline_after_rts, with_ranges, with_segments}
+use Rattle.da65.specs.ListingRows.{IsListed, IsListedWhole, WorkedListings, code_at, label, range, segment, with_columns, with_comments, with_hexoffs, with_labels, with_newline_after_jmp, with_newline_after_rts, with_ranges, with_segments}
 use Rattle.da65.specs.Segments.{segment_at, segment_before}
 use Rattle.da65.specs.Style.{style_of}
 use Rattle.da65.specs.Statements.{address_entry, address_expr, operands_of, return_entry, statement_for, statement_in, zero_page_expr}
@@ -184,6 +184,14 @@ newline_after_rts : IsListed (with_newline_after_rts (code_at 0xFFFD (0xA9 ∷ 1
 unfolding addresses are_joined base_at begins comma_list comment_at comment_lines comments covering covering_below cut_text default_name entries pieces address_entry address_expr constant_lines constants ending_lines forward_lines forwards goes_on group_addresses group_len group_lines filled has_name entry_start entry_base instruction_in is_border is_in_run is_joined is_own is_referenced item_len last_item left_at line_of line_text listing_below more_at opening_lines operand_target operand_text operands_of place_of refers return_entry role_at role_in segment_at segment_before segment_covering segment_lines separator separator_lines size_at statement_for statement_in statement_lines stride_at style_of target_at target_for target_of text_of full_len_at zero_page_expr
 newline_after_rts = refl
 
+newline_after_rts_alone : IsListed (with_newline_after_rts (code_at 0x1000 (0x40 ∷ 0x4C ∷ 1 ∷ 0x10 ∷ 0x60 ∷ []))) (codes "        rti\nL1001:  jmp     L1001\n        rts\n\n")
+unfolding addresses are_joined base_at begins comma_list comment_at comment_lines comments covering covering_below cut_text default_name entries pieces address_entry address_expr constant_lines constants ending_lines forward_lines forwards goes_on group_addresses group_len group_lines filled has_name entry_start entry_base instruction_in is_border is_in_run is_joined is_own is_referenced item_len last_item left_at line_of line_text listing_below more_at opening_lines operand_target operand_text operands_of place_of refers return_entry role_at role_in segment_at segment_before segment_covering segment_lines separator separator_lines size_at statement_for statement_in statement_lines stride_at style_of target_at target_for target_of text_of full_len_at zero_page_expr
+newline_after_rts_alone = refl
+
+newline_after_jmp_alone : IsListed (with_newline_after_jmp (code_at 0x1000 (0x40 ∷ 0x4C ∷ 1 ∷ 0x10 ∷ 0x60 ∷ []))) (codes "        rti\nL1001:  jmp     L1001\n\n        rts\n")
+unfolding addresses are_joined base_at begins comma_list comment_at comment_lines comments covering covering_below cut_text default_name entries pieces address_entry address_expr constant_lines constants ending_lines forward_lines forwards goes_on group_addresses group_len group_lines filled has_name entry_start entry_base instruction_in is_border is_in_run is_joined is_own is_referenced item_len last_item left_at line_of line_text listing_below more_at opening_lines operand_target operand_text operands_of place_of refers return_entry role_at role_in segment_at segment_before segment_covering segment_lines separator separator_lines size_at statement_for statement_in statement_lines stride_at style_of target_at target_for target_of text_of full_len_at zero_page_expr
+newline_after_jmp_alone = refl
+
 first_columns : IsListedWhole (with_columns 1 1 (code_at 0x1000 (0xA9 ∷ 1 ∷ []))) (codes "; da65 listing\n\n.setcpu \"6502\"\n\nlda #$01\n")
 unfolding addresses are_joined base_at begins comma_list comment_at comment_lines comments covering covering_below cut_text default_name entries pieces address_entry address_expr constant_lines constants ending_lines forward_lines forwards goes_on group_addresses group_len group_lines filled has_name entry_start entry_base instruction_in is_border is_in_run is_joined is_own is_referenced item_len last_item left_at line_of line_text listing_below more_at opening_lines operand_target operand_text operands_of place_of refers return_entry role_at role_in segment_at segment_before segment_covering segment_lines separator separator_lines size_at statement_for statement_in statement_lines stride_at style_of target_at target_for target_of text_of full_len_at zero_page_expr
 first_columns = refl
@@ -241,6 +249,8 @@ worked_listings = record {
   commented_label = commented_label;
   every_remark = every_remark;
   newline_after_rts = newline_after_rts;
+  newline_after_rts_alone = newline_after_rts_alone;
+  newline_after_jmp_alone = newline_after_jmp_alone;
   first_columns = first_columns;
   lines_of_words = lines_of_words;
   lines_of_dbytes = lines_of_dbytes;

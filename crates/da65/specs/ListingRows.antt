@@ -63,6 +63,9 @@ with_columns mnemonic argument e = record e { settings = record e.settings { mne
 abbrev pub with_newline_after_rts : Example → Example
 with_newline_after_rts e = record e { settings = record e.settings { newline_after_rts = true } }
 
+abbrev pub with_newline_after_jmp : Example → Example
+with_newline_after_jmp e = record e { settings = record e.settings { newline_after_jmp = true } }
+
 -- Below the four lines of the header, with the constants up to $FF, the listing has this text.
 abbrev pub IsListed : Example → List ℕ → Type 0
 IsListed e body = text_of (map (line_text (style_of (map_of e).info.settings)) (drop 4 (listing_below 0x100 (map_of e)))) ≡ body
@@ -124,6 +127,9 @@ pub record WorkedListings : Type 0 where
   pub every_remark : IsListed (with_comments 4 (code_at 0x1000 (0xA9 ∷ 0x41 ∷ [])))
       (codes "; ----------------------------------------------------------------------------\n        lda     #$41                            ; 1000 A9 41                    .A\n")
   pub newline_after_rts : IsListed (with_newline_after_rts (code_at 0xFFFD (0xA9 ∷ 1 ∷ 0x60 ∷ []))) (codes "        lda     #$01\n        rts\n\n")
+  -- neither after `rti` nor after `jmp`
+  pub newline_after_rts_alone : IsListed (with_newline_after_rts (code_at 0x1000 (0x40 ∷ 0x4C ∷ 1 ∷ 0x10 ∷ 0x60 ∷ []))) (codes "        rti\nL1001:  jmp     L1001\n        rts\n\n")
+  pub newline_after_jmp_alone : IsListed (with_newline_after_jmp (code_at 0x1000 (0x40 ∷ 0x4C ∷ 1 ∷ 0x10 ∷ 0x60 ∷ []))) (codes "        rti\nL1001:  jmp     L1001\n\n        rts\n")
   pub first_columns : IsListedWhole (with_columns 1 1 (code_at 0x1000 (0xA9 ∷ 1 ∷ []))) (codes "; da65 listing\n\n.setcpu \"6502\"\n\nlda #$01\n")
   -- whole lines of numbers, one more number, and a byte that is left over
   pub lines_of_words : IsListed (with_ranges (range 0x1000 0x100A role.WordTable ∷ []) (code_at 0x1000 (1 ∷ 2 ∷ 3 ∷ 4 ∷ 5 ∷ 6 ∷ 7 ∷ 8 ∷ 9 ∷ 10 ∷ 11 ∷ [])))
