@@ -111,6 +111,14 @@ runs 'an include file above its limit' 1 '' 'da65: include large.inc:1: too larg
 echo old >out.s
 runs 'the output is created empty before an include file is refused' 1 '' 'da65: cannot read include no.inc\n' -i missing.info -o out.s three.bin
 holds 'the output is created empty before an include file is refused' out.s ''
+# The output has the name of a file that was read before: an include file, or the information file.
+cp k.inc own.inc
+printf 'GLOBAL { STARTADDR $1000; };\nASMINC { FILE "own.inc"; IGNOREUNKNOWN on; };' >own.info
+runs 'an include file is read before the output is created' 0 '' '' -i own.info -o own.inc call.bin
+holds 'an include file is read before the output is created' own.inc "$call"
+cp words.info own.info
+runs 'an information file is read before the output is created' 0 '' '' -i own.info -o own.info three.bin
+holds 'an information file is read before the output is created' own.info "$header        .word   \$01A9\n        .byte   \$60\n"
 runs 'an input that can not be opened comes before an include file' 1 '' 'da65: cannot read no.bin\n' -i missing.info no.bin
 runs 'no input name comes before an include file' 1 '' 'da65: no input file\n' -i missing.info
 # A name that stands twice is that of one file. That it is read once is counted by tests/work.sh.
@@ -207,6 +215,19 @@ ends 'an include file that may not be read' 1 $? 'da65: cannot read include secr
 as -o secret.bin three.bin >stdout 2>stderr
 ends 'an output that may not be written' 1 $? 'da65: cannot create secret.bin\n'
 
+# ---- names of standard streams
+
+# Only /dev/stdin stands for a stream. Any other name is opened, so that a file is read from its first byte on and created empty.
+{ dd bs=1 count=1 of=/dev/null status=none; "$program" /dev/stdin >stdout 2>stderr; } <three.bin
+ends 'standard input from its second byte on' 0 $? ''
+holds 'standard input from its second byte on' stdout "$header        ora     (\$60,x)\n"
+{ dd bs=1 count=1 of=/dev/null status=none; "$program" /dev/fd/0 >stdout 2>stderr; } <three.bin
+ends 'the file behind standard input' 0 $? ''
+holds 'the file behind standard input' stdout "$three"
+{ echo old; "$program" -o /dev/stdout three.bin 2>stderr; } >stdout
+ends 'the file behind standard output' 0 $? ''
+holds 'the file behind standard output' stdout "$three"
+
 # ---- sizes around those of the reads
 
 for size in 1 4095 4096 4097 4999 5000 5001 8191 8192 8193; do
@@ -232,6 +253,9 @@ echo old >out.s
 runs 'an input that can not be opened' 1 '' 'da65: cannot read no.bin\n' -o out.s no.bin
 holds 'an input that can not be opened leaves the output' out.s 'old\n'
 runs 'an output that can not be created' 1 '' 'da65: cannot create folder/no/out.s\n' -o folder/no/out.s three.bin
+cp three.bin own.bin
+runs 'an output with the name of the input' 1 '' 'da65: input is empty\n' -o own.bin own.bin
+holds 'an output with the name of the input' own.bin ''
 runs 'the input comes before the output' 1 '' 'da65: cannot read no.bin\n' -o folder/no/out.s no.bin
 
 runs 'no input name' 1 '' 'da65: no input file\n' -o new.s
