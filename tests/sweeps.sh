@@ -246,6 +246,12 @@ awk 'BEGIN { printf "; da65 listing\n\n        .setcpu \"6502\"\n\n"
              for (a = 0; a < 65535; a++) printf "%-16s:= $%04X\n", sprintf("m%04x", a), a; printf "\nmffff:  nop\n" }' >wanted.s
 printf 'ASMINC{FILE "many.inc";}' >some.info
 lists '100,000 lines of an include file' -i some.info image.bin
+# More bytes of names than a file may have, in three include files.
+awk 'BEGIN { for (n = 0; n < 33000; n++) printf "n%079d=%d\n", n, n >(int(n / 11000) ".inc") }'
+awk -v nop="$nop" 'BEGIN { printf "; da65 listing\n\n        .setcpu \"6502\"\n\n"
+                           for (n = 0; n < 33000; n++) printf "n%079d := $%04X\n", n, n; printf "\n%s", nop }' >wanted.s
+printf 'ASMINC{FILE "%d.inc";}' 0 1 2 >some.info
+lists '33,000 names of 80 bytes' -i some.info image.bin
 
 [ "$failed" = 0 ] && echo 'sweeps: every test passed'
 exit "$failed"

@@ -1,5 +1,6 @@
 mod assembled;
 mod asserts;
+mod built;
 mod command_lines;
 mod cpus;
 mod devices;

@@ -1,28 +1,23 @@
 // Command lines.
-use crate::tests::asserts::{assert_equal_at, assert_that_at};
+use crate::tests::asserts::{assert_equal, assert_equal_at, assert_that, assert_that_at};
 use da65::{Options, UsageFault, options_of};
 use isa65::Cpu;
-use std::alloc::Global;
+use std::alloc::{AllocError, Global};
 use std::process::Abort;
 
 /// The words of a command line: the program's name, and then these.
-fn words_of(rt: &impl Abort, alloc: Global, words: &[&str]) -> Vec<String> {
+fn words_of(alloc: Global, words: &[&str]) -> Result<Vec<String>, AllocError> {
     let mut all = Vec::new(alloc);
-    put_word(rt, alloc, &mut all, "da65");
+    all.push(String::from_str(alloc, "da65")?)?;
     for word in words {
-        put_word(rt, alloc, &mut all, word);
+        all.push(String::from_str(alloc, word)?)?;
     }
-    all
-}
-
-fn put_word(rt: &impl Abort, alloc: Global, words: &mut Vec<String>, word: &str) {
-    let word = String::from_str(alloc, word).expect(rt, "from_str");
-    words.push(word).expect(rt, "push");
+    Ok(all)
 }
 
 /// The options of these words, which follow the program's name.
 pub fn options_on(rt: &impl Abort, alloc: Global, words: &[&str]) -> Result<Options, UsageFault> {
-    options_of(alloc, &words_of(rt, alloc, words))
+    options_of(alloc, &words_of(alloc, words).expect(rt, "words_of"))
 }
 
 const STARTS: &[(&str, &str, u16)] = &[
@@ -193,6 +188,27 @@ fn each_option(rt: HostRuntime) {
         let options = options_on(&rt, rt.alloc(), row.words).expect(&rt, "options_on");
         assert_that_at(&rt, is_row(&options, row), &format_args!("{:?}", row.words));
     }
+}
+
+/// What it prints without memory for the words, without memory for the options, and with the options of the row. tests/work.sh
+/// refuses each of its allocations in turn.
+#[test]
+fn options_in_little_memory(rt: HostRuntime) {
+    let row = ROWS.first().expect(&rt, "a row");
+    let found = match words_of(rt.alloc(), row.words) {
+        Ok(words) => match options_of(rt.alloc(), &words) {
+            Ok(options) => {
+                assert_that(&rt, is_row(&options, row));
+                "options"
+            }
+            Err(fault) => {
+                assert_equal(&rt, &fault, &UsageFault::Memory);
+                "no memory for options"
+            }
+        },
+        Err(_) => "no memory for words",
+    };
+    println!(rt; "{found}").expect(&rt, "println");
 }
 
 /// Why a command line is refused.

@@ -102,9 +102,16 @@ const LISTED: &[Listed] = &[
     Listed {
         cpu: "65C02",
         start: 0x1000,
-        image: &[0x07, 0x12, 0xCB],
+        image: &[0x07, 0x12],
         info: "",
-        lines: "        rmb0    $12\n        .byte   $CB\n",
+        lines: "        rmb0    $12\n",
+    },
+    Listed {
+        cpu: "65C02",
+        start: 0x1000,
+        image: &[0xCB],
+        info: "",
+        lines: "        .byte   $CB\n",
     },
     Listed {
         cpu: "65SC02",

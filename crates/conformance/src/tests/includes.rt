@@ -1,7 +1,7 @@
 // Runs with include files.
 use crate::tests::asserts::{assert_equal, assert_that};
 use crate::tests::devices::Tape;
-use crate::tests::runs::{AT_1000, assert_lists, assert_refused, gives, named};
+use crate::tests::runs::{AT_1000, assert_lists, assert_refused, gives, named, repeated};
 use da65::{File, Status, Told, run};
 use std::alloc::Global;
 use std::process::Abort;
@@ -266,10 +266,7 @@ fn size_of_an_include_file(rt: HostRuntime) {
 /// The longest file name that an information file can have.
 #[test]
 fn message_of_the_longest_name(rt: HostRuntime) {
-    let mut name = String::new(rt.alloc());
-    for _ in 0..255 {
-        name.push('n').expect(&rt, "push");
-    }
+    let name = repeated(rt.alloc(), 'n', 255).expect(&rt, "repeated");
     let info = format!(in rt.alloc(); "ASMINC {{ FILE \"{name}\"; }};").expect(&rt, "format");
     let missing = format!(in rt.alloc(); "cannot read include {name}").expect(&rt, "format");
     jump(&rt, rt.alloc(), info.as_str(), &[], Err(missing.as_str()));

@@ -3,12 +3,13 @@ use crate::heap::Refusing;
 use crate::tests::asserts::{
     assert_equal, assert_equal_at, assert_same, assert_that, assert_that_at,
 };
+use crate::tests::built::{CELLS, assert_one_allocation};
 use crate::tests::command_lines::options_on;
 use crate::tests::refusals::{MANY, Refusals};
 use crate::tests::runs::{NAMED, run_including, run_with, shown};
 use da65::{File, Options, RunFault, Status, Told};
 use info65::{read_include, read_info};
-use map65::{Map, read_image};
+use map65::read_image;
 use std::alloc::Global;
 use std::process::Abort;
 
@@ -170,9 +171,6 @@ fn each_allocation_refused_in_turn(rt: HostRuntime) {
     }
 }
 
-/// A map has two bytes for each address, and so has the table of ranges.
-const CELLS: u64 = 131_072;
-
 /// Names are found by four bytes for each address and four for each of 131,072 slots.
 const NAME_TABLES: u64 = 262_144 + 524_288;
 
@@ -216,7 +214,7 @@ fn assert_granted(rt: &impl Abort, heap: &Refusing<Global>, before: u64, bytes: 
 }
 
 /// Calls the parts of a run one after the other, up to the first that refuses, and looks at what each is granted. At most two
-/// files are included. The map is one allocation.
+/// files are included. The table of ranges has as many bytes as a map.
 fn call_parts(
     rt: &impl Abort,
     heap: &Refusing<Global>,
@@ -250,14 +248,9 @@ fn call_parts(
     let before = heap.bytes();
     let read = read_image(heap, &info, &mut Told::new(input));
     assert_granted(rt, heap, before, image_bytes(input.len()), 0);
-    let Ok(image) = read else {
-        return;
-    };
-    let allocations = heap.left();
-    let before = heap.bytes();
-    assert_that(rt, Map::build(heap, &info, &image).is_ok());
-    assert_equal(rt, &allocations.wrapping_sub(heap.left()), &1);
-    assert_granted(rt, heap, before, CELLS, 0);
+    if let Ok(image) = read {
+        assert_one_allocation(rt, heap, &info, &image);
+    }
 }
 
 /// A run allocates as often as its parts do by themselves, and as many bytes.

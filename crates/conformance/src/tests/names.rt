@@ -1,10 +1,10 @@
 // Listings with names.
-use crate::tests::asserts::{assert_equal, assert_that};
+use crate::tests::asserts::{assert_equal, assert_same, assert_that};
 use crate::tests::ranges::WARNING;
 use crate::tests::runs::{
-    AT_1000, HEADER, assert_assembles, assert_lists, assert_refused, gives, gives_from,
+    AT_1000, HEADER, assert_assembles, assert_lists, assert_refused, gives, gives_from, repeated,
 };
-use std::alloc::Global;
+use std::alloc::{AllocError, Global};
 use std::process::Abort;
 
 /// An image from a start on, an information file, whether offsets are hexadecimal by the command line, and the
@@ -247,20 +247,76 @@ fn calls_without_end(rt: HostRuntime) {
     assert_that(&rt, found.ends_with("\n        .byte   $20\n"));
 }
 
+/// The lines of 65,536 bytes D0: a branch 46 bytes back every two bytes. The first 23 would leave the address space, and to the last 23
+/// none leads.
+fn branch_lines(alloc: Global) -> Result<String, AllocError> {
+    let mut lines = String::new(alloc);
+    for number in 0..32_768u32 {
+        let address = 2 * number;
+        if number < 32_745 {
+            write!(lines, "L{address:04X}:  ")?;
+        } else {
+            lines.push_str("        ")?;
+        }
+        if number < 23 {
+            lines.push_str(".byte   $D0,$D0\n")?;
+        } else {
+            write!(lines, "bne     L{:04X}\n", address.saturating_sub(46))?;
+        }
+    }
+    Ok(lines)
+}
+
 #[test]
 fn branches_without_end(rt: HostRuntime) {
     let found = gives_value(&rt, rt.alloc(), 0xD0);
-    assert_equal(&rt, &found.lines().count(), &(5 + 23 + 32_745));
-    let first = format!(in rt.alloc(); "Ok(Done)\n{HEADER}L0000:  .byte   $D0,$D0\n").expect(
-        &rt, "format",
-    );
-    assert_that(&rt, found.starts_with(first.as_str()));
-    let labels = found
-        .lines()
-        .filter(|line| line.as_bytes().get(5) == Some(&b':'));
-    assert_equal(&rt, &labels.count(), &32_745);
-    let branches = found
-        .lines()
-        .filter(|line| line.as_bytes().get(8) == Some(&b'b'));
-    assert_equal(&rt, &branches.count(), &32_745);
+    let lines = branch_lines(rt.alloc()).expect(&rt, "branch_lines");
+    let want = format!(in rt.alloc(); "Ok(Done)\n{HEADER}{lines}").expect(&rt, "format");
+    assert_same(&rt, found.as_bytes(), want.as_bytes(), &"branches");
+}
+
+/// 20,000 groups LABEL, and their constant lines.
+fn constants(alloc: Global) -> Result<(String, String), AllocError> {
+    let mut info = String::new(alloc);
+    let mut lines = String::new(alloc);
+    for number in 0..20_000u16 {
+        write!(info, "LABEL {{ ADDR {number}; NAME \"m{number}\"; }};\n")?;
+        write!(lines, "m{number:<15}:= ${number:04X}\n")?;
+    }
+    lines.push_str("\n        rts\n")?;
+    Ok((info, lines))
+}
+
+#[test]
+fn twenty_thousand_labels(rt: HostRuntime) {
+    let (info, lines) = constants(rt.alloc()).expect(&rt, "constants");
+    let found = gives_from(&rt, rt.alloc(), 0xFFFF, &info, &[0x60]);
+    assert_lists(&rt, rt.alloc(), &found, &lines, 0xFFFF, &[0x60]);
+}
+
+/// A group LABEL for $1000 with a name and a comment of these sizes, and its lines before `rts`.
+fn long_label(alloc: Global, name: usize, comment: usize) -> Result<(String, String), AllocError> {
+    let name = repeated(alloc, 'n', name)?;
+    let comment = repeated(alloc, 'c', comment)?;
+    let info = format!(in alloc;
+        "LABEL {{ ADDR $1000; NAME \"{name}\"; COMMENT \"{comment}\"; }};"
+    )?;
+    let lines = format!(in alloc; "; {comment}\n{name}:\n        rts\n")?;
+    Ok((info, lines))
+}
+
+/// The sizes of a name and of its comment, and whether there is a listing.
+const SIZES: &[(usize, usize, bool)] = &[(80, 200, true), (81, 200, false), (80, 201, false)];
+
+#[test]
+fn longest_name_and_comment(rt: HostRuntime) {
+    for (name, comment, is_listed) in SIZES {
+        let (info, lines) = long_label(rt.alloc(), *name, *comment).expect(&rt, "long_label");
+        let found = gives(&rt, rt.alloc(), AT_1000, &info, &[], &[0x60]);
+        if *is_listed {
+            assert_lists(&rt, rt.alloc(), &found, &lines, 0x1000, &[0x60]);
+        } else {
+            assert_refused(&rt, rt.alloc(), &found, "info:1: bad name");
+        }
+    }
 }

@@ -1,9 +1,10 @@
 // Runs over memory, and over devices.
-use crate::tests::asserts::{assert_equal_at, assert_same};
+use crate::tests::asserts::{assert_equal_at, assert_same, assert_that_at};
+use crate::tests::built::builds_map;
 use crate::tests::command_lines::options_on;
 use crate::tests::devices::ByBytes;
 use da65::{File, Options, RunFault, Status, Told, run};
-use std::alloc::{Allocator, Global};
+use std::alloc::{AllocError, Allocator, Global};
 use std::io::{Read, Write};
 use std::process::Abort;
 use stmt65::assemble;
@@ -26,7 +27,7 @@ pub const NAMED: &[&str] = &["image.bin"];
 pub const AT_1000: &[&str] = &["-S", "$1000", "image.bin"];
 
 /// What a run under a command line gives, as text: its result, its messages and its listing. Writers that take one byte at each
-/// write get the same.
+/// write get the same. The map of a listing is built by one allocation.
 pub fn gives(
     rt: &impl Abort,
     alloc: Global,
@@ -41,6 +42,8 @@ pub fn gives(
     let slow = run_by_bytes(alloc, &options, info.as_bytes(), files, input);
     let slow = shown(rt, alloc, &slow);
     assert_same(rt, slow.as_bytes(), found.as_bytes(), &info);
+    let is_built = builds_map(rt, alloc, &options, info.as_bytes(), files, input);
+    assert_that_at(rt, is_built || ran.listing.is_empty(), &info);
     found
 }
 
@@ -105,6 +108,15 @@ pub struct Ran {
     pub result: Result<Status, RunFault>,
     pub listing: Vec<u8>,
     pub messages: Vec<u8>,
+}
+
+/// A letter, so many times.
+pub fn repeated(alloc: Global, letter: char, count: usize) -> Result<String, AllocError> {
+    let mut text = String::new(alloc);
+    for _ in 0..count {
+        text.push(letter)?;
+    }
+    Ok(text)
 }
 
 /// Options with an input name and this start.

@@ -1,7 +1,9 @@
 // Runs with options and an information file.
-use crate::tests::asserts::assert_equal_at;
+use crate::tests::asserts::{assert_equal_at, assert_same};
 use crate::tests::devices::Endless;
-use crate::tests::runs::{THREE, THREE_LINES, assert_lists, assert_refused, gives, named, run_on};
+use crate::tests::runs::{
+    THREE, THREE_LINES, assert_lists, assert_refused, gives, named, repeated, run_on,
+};
 use da65::Status;
 
 /// Command lines with the names of the input and the output, with one of them, and with neither.
@@ -179,24 +181,32 @@ fn the_command_line_wins_and_help_plays_no_part(rt: HostRuntime) {
     assert_lists(&rt, rt.alloc(), &found, lines, 0x2000, image);
 }
 
-/// Information files, how many bytes of an input without end are read, and whether there is a listing.
-const READ: &[(&str, usize, bool)] = &[
-    ("", 65_537, false),
-    ("GLOBAL { INPUTOFFS 5; }", 65_542, false),
-    ("GLOBAL { INPUTSIZE 1; }", 1, true),
+/// Information files, how many bytes of an input without end are read, and the message, if there is no listing.
+const READ: &[(&str, usize, &str)] = &[
+    ("", 65_537, "da65: input is too large\n"),
+    (
+        "GLOBAL { INPUTOFFS 5; }",
+        65_542,
+        "da65: input is too large\n",
+    ),
+    ("GLOBAL { INPUTSIZE 1; }", 1, ""),
     (
         "GLOBAL { INPUTOFFS 16777216; INPUTSIZE 1; }",
         16_777_217,
-        true,
+        "",
     ),
-    ("GLOBAL { INPUTSIZE $10000; }", 65_536, true),
-    ("GLOBAL { INPUTOFFS 5; INPUTOFFS 5; }", 0, false),
-    ("@", 0, false),
+    ("GLOBAL { INPUTSIZE $10000; }", 65_536, ""),
+    (
+        "GLOBAL { INPUTOFFS 5; INPUTOFFS 5; }",
+        0,
+        "da65: info:1: attribute given twice\n",
+    ),
+    ("@", 0, "da65: info:1: bad byte\n"),
 ];
 
 #[test]
 fn no_more_is_read_than_asked_for(rt: HostRuntime) {
-    for (info, given, done) in READ {
+    for (info, given, message) in READ {
         let mut listing = Vec::new(rt.alloc());
         let mut messages = Vec::new(rt.alloc());
         let mut reader = Endless { given: 0 };
@@ -208,10 +218,22 @@ fn no_more_is_read_than_asked_for(rt: HostRuntime) {
             &mut listing,
             &mut messages,
         );
-        let status = if *done { Status::Done } else { Status::Refused };
+        let done = message.is_empty();
+        let status = if done { Status::Done } else { Status::Refused };
         assert_equal_at(&rt, &result, &Ok(status), info);
         assert_equal_at(&rt, &reader.given, given, info);
-        assert_equal_at(&rt, &listing.is_empty(), &!*done, info);
-        assert_equal_at(&rt, &messages.is_empty(), done, info);
+        assert_equal_at(&rt, &listing.is_empty(), &!done, info);
+        assert_same(&rt, &messages, message.as_bytes(), info);
     }
+}
+
+/// The largest information file, and one with a byte more.
+#[test]
+fn size_of_an_information_file(rt: HostRuntime) {
+    let largest = repeated(rt.alloc(), '#', 1_048_576).expect(&rt, "repeated");
+    let found = gives(&rt, rt.alloc(), INPUT, &largest, &[], THREE);
+    assert_lists(&rt, rt.alloc(), &found, THREE_LINES, 0xFFFD, THREE);
+    let large = repeated(rt.alloc(), '#', 1_048_577).expect(&rt, "repeated");
+    let found = gives(&rt, rt.alloc(), INPUT, &large, &[], THREE);
+    assert_refused(&rt, rt.alloc(), &found, "info:1: too large");
 }
