@@ -1,16 +1,25 @@
-# `make` proves the programs, builds them into bin/da65 and bin/as65, and lists an example.
-# `make test` is the merge gate: every proof from nothing, the edits that must fail, the tests and the stored runs; then the programs
-# that this built on real files, and listings through ca65 where ca65 is installed. The result of `rt ci` is its last line.
-# `make contracts` writes docs/contracts anew, after a change of public contracts that is meant.
-# `make speed` compares the program with cc65's da65, which needs cc65, valgrind and GNU time.
-# `make install` puts the programs and their man pages under PREFIX, and `make uninstall` takes them away. DESTDIR is prepended to both.
+# make               proves the programs, builds them into bin/da65 and bin/as65, and lists an example
+# make test          the merge gate: every proof from nothing, the edits that must fail, the tests and the stored runs; then the programs
+#                    that this built on real files, and listings through ca65. The result of `rt ci` is its last line.
+#                    CA65=skip leaves out what needs cc65, and CC=skip what needs a C compiler.
+# make check         the same
+# make contracts     writes docs/contracts anew, after a change of public contracts that is meant
+# make manual        writes docs/da65.info.5 anew, after a change of docs/INFORMATION_FILE.md
+# make speed         compares the program with cc65's da65, which needs cc65, valgrind and GNU time
+# make install       puts the programs, their man pages and what bash and zsh complete under PREFIX, /usr/local unless it is given.
+#                    PROGRAM_PREFIX is put before their names, as in `make install PROGRAM_PREFIX=proved-`, and DESTDIR before PREFIX.
+# make uninstall     takes them away, with the same PREFIX, PROGRAM_PREFIX and DESTDIR
+# make clean         takes away what was built
+# make help          prints this
+#
 # RTFLAGS goes to the prover, as in `make RTFLAGS="--jobs 1"`.
 RTFLAGS ?=
 PREFIX ?= /usr/local
+PROGRAM_PREFIX ?=
 DESTDIR ?=
 SHELL := bash
 .SHELLFLAGS := -eu -o pipefail -c
-.PHONY: all test contracts speed install uninstall clean
+.PHONY: all test check contracts manual speed install uninstall clean help
 
 all: bin/da65 bin/as65
 	bin/da65 examples/three.bin
@@ -19,7 +28,7 @@ sources := crates.txt $(shell find crates -name out -prune -o \( -name '*.rt' -o
 
 bin/da65: $(sources)
 	@mkdir -p bin
-	@echo 'Proving and building bin/da65 and bin/as65. From a fresh checkout this takes a while: docs/PROOFS.md, "The gate", has figures.'
+	@echo 'Proving and building bin/da65 and bin/as65. From a fresh checkout this takes about a quarter of an hour on four cores, half an hour or more on slow ones.'
 	@echo 'The prover says what it has checked, and bin/build.log keeps that.'
 	@cd crates/da65_cli && rt run $(RTFLAGS) -- --version 2>&1 | tee ../../bin/build.log
 	@cp crates/da65_cli/out/da65_cli bin/da65
@@ -33,6 +42,7 @@ test:
 	@tests/memory.sh
 	@tests/readings.sh
 	@tests/contracts.py
+	@tests/manual.py
 	@tests/promises.sh
 	@tests/edits.sh
 	@echo 'Everything from nothing: docs/PROOFS.md, "The gate", says how long that takes. bin/gate.log keeps what the prover says.'
@@ -44,24 +54,46 @@ test:
 	tests/sweeps.sh bin/da65
 	tests/work.sh bin/da65
 	tests/speed.sh bin/da65
+	tests/install.sh bin/da65
 	tests/guide.sh bin/da65
 	tests/ca65.sh bin/da65 10
 	@[ "$${CA65-}" != skip ] || echo 'CA65=skip: no listing went through ca65 and ld65, which need cc65'
 	@tail -n 1 bin/gate.log
 
+check: test
+
 contracts:
 	tests/contracts.py --write
+
+manual:
+	tests/manual.py --write
 
 speed: bin/da65
 	tests/speed.sh bin/da65
 
+share := $(DESTDIR)$(PREFIX)/share
+
 install: bin/da65 bin/as65
-	install -D -m 755 -t '$(DESTDIR)$(PREFIX)/bin' bin/da65 bin/as65
-	install -D -m 644 -t '$(DESTDIR)$(PREFIX)/share/man/man1' docs/da65.1 docs/as65.1
+	@for program in da65 as65; do \
+	    name='$(PROGRAM_PREFIX)'$$program; \
+	    install -D -m 755 bin/$$program "$(DESTDIR)$(PREFIX)/bin/$$name"; \
+	    install -D -m 644 docs/$$program.1 "$(share)/man/man1/$$name.1"; \
+	    install -D -m 644 completions/$$program.bash "$(share)/bash-completion/completions/$$name"; \
+	    install -D -m 644 completions/_$$program "$(share)/zsh/site-functions/_$$name"; \
+	    sed -i "s/^\(complete .* \|#compdef \)$$program$$/\1$$name/" \
+	        "$(share)/bash-completion/completions/$$name" "$(share)/zsh/site-functions/_$$name"; \
+	done
+	@install -D -m 644 docs/da65.info.5 '$(share)/man/man5/$(PROGRAM_PREFIX)da65.info.5'
 
 uninstall:
-	rm -f '$(DESTDIR)$(PREFIX)/bin/da65' '$(DESTDIR)$(PREFIX)/share/man/man1/da65.1'
-	rm -f '$(DESTDIR)$(PREFIX)/bin/as65' '$(DESTDIR)$(PREFIX)/share/man/man1/as65.1'
+	@for name in '$(PROGRAM_PREFIX)da65' '$(PROGRAM_PREFIX)as65'; do \
+	    rm -f "$(DESTDIR)$(PREFIX)/bin/$$name" "$(share)/man/man1/$$name.1" \
+	        "$(share)/bash-completion/completions/$$name" "$(share)/zsh/site-functions/_$$name"; \
+	done
+	@rm -f '$(share)/man/man5/$(PROGRAM_PREFIX)da65.info.5'
+
+help:
+	@sed -n '/^#/!q; s/^#\( \|$$\)//p' Makefile
 
 clean:
 	rm -rf bin crates/*/out

@@ -53,8 +53,8 @@ opens() {
     page=$1
     folder=$work/$(basename "$1")
     mkdir -p "$folder/bin" "$folder/docs" "$folder/crates"
-    cp -r "$root/examples" "$root/Makefile" "$folder"
-    cp "$root/docs/da65.1" "$root/docs/as65.1" "$folder/docs"
+    cp -r "$root/examples" "$root/completions" "$root/Makefile" "$folder"
+    cp "$root"/docs/*.[15] "$folder/docs"
     : >"$folder/crates.txt"
     cp "$program" "$folder/bin/da65"
     cp "$assembler" "$folder/bin/as65"

@@ -1,0 +1,11 @@
+# What bash completes after as65.
+_as65() {
+    local word=${COMP_WORDS[COMP_CWORD]} before=${COMP_WORDS[COMP_CWORD - 1]}
+    COMPREPLY=()
+    case $before in
+    --compare | -o) return ;;
+    -S | --start-addr) compopt +o default; return ;;
+    esac
+    [[ $word != -* ]] || COMPREPLY=($(compgen -W '-S --start-addr -o --compare -h --help -V --version' -- "$word"))
+}
+complete -o default -F _as65 as65
