@@ -6,7 +6,7 @@
 #   ```        are excerpts: their lines stand, one after the other, in what the last commands printed or in a file that the page made
 #
 # and in its tables a command `bin/da65 ..` or `bin/as65 ..` is run, and where a row has an information file or a command, and beside it
-# the message `da65: ..`, that is what the program says. The assembler is the as65 beside the program. The example of as65's man page is
+# the message `da65: ..` or the word nothing, that is what the program says. The assembler is the as65 beside the program. The example of as65's man page is
 # run, and that of da65's at five addresses, and for 64 KiB.
 # Without ca65 and ld65 the script fails, unless CA65=skip is set: then each section ends at the first block that needs them.
 # Usage: tests/guide.sh PROGRAM
@@ -133,10 +133,11 @@ blocks() {
 tables() {
     local row text message
     head -c 65536 /dev/zero >zeros.bin
+    printf '\xef\xbb\xbfGLOBAL { };' >bom.info
     while IFS= read -r row; do
-        if [[ $row =~ ^\|\ \`([^\`]+)\`\ \|\ \`(da65:\ [^\`]+)\` ]]; then
+        if [[ $row =~ ^\|\ \`([^\`]+)\`\ \|\ (\`(da65:\ [^\`]+)\`|nothing) ]]; then
             text=${BASH_REMATCH[1]//\\|/|}
-            message=${BASH_REMATCH[2]}
+            message=${BASH_REMATCH[3]}
             if [[ $text == bin/da65* ]]; then
                 bash -c "$text" >printed 2>messages
             else

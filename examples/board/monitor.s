@@ -438,9 +438,21 @@ message_end:
 low:    .lobytes hello, what, usage
 high:   .hibytes hello, what, usage
 
+; prints the text at A and Y, the low byte and the high one
+print:  sta     TARGET
+        sty     TARGET + 1
+        ldy     #0
+        beq     message_byte
+
+; prints the commands: an address that is loaded into two registers
+tell:   lda     #<usage
+        ldy     #>usage
+        jmp     print
+
 ; ---- entries at fixed places, for programs, and the vectors
 
         .segment "ENTRIES"
+        jmp     tell
         jmp     unhook
         jmp     message
         jmp     put
