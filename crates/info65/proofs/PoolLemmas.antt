@@ -6,12 +6,11 @@ use Rattle.std.proofs.lemmas.List.Sorted.{IsNonDecreasingBy-from_default}
 use Rattle.std.proofs.lemmas.List.{append-nil, drop-append-le, drop_at, get_or-map, get_or_append_left, get_or_at, length-map, map-append, take-append-le, take_at}
 use Rattle.std.proofs.lemmas.Bool.{false≢true}
 use Rattle.std.proofs.lemmas.Bool.Decides.{eqb_tells, nat_tests}
-use Rattle.info65.specs.Code.Pool.{AreAbove, IsPool, IsWithin, ReachTo, blank_entry, bytes_of, entry_seen, optional, reach_of, rest_after, span_of}
+use Rattle.info65.specs.Code.Pool.{AreAbove, IsPool, IsWithin, ReachTo, blank_entry, block_start, bytes_of, entry_seen, optional, reach_of, span_of}
 use Rattle.info65.specs.Names.{AreNames, blank_name, covering, covering_below, covers, name_at}
 use Rattle.info65.specs.Views.{NameView}
 use Rattle.info65.specs.declared.information.pool.Entry.{Entry}
 use Rattle.info65.specs.declared.information.pool.Span.{Span}
-use Rattle.info65.proofs.Cases.{by_test}
 
 pub seen_at : (pool : List ℕ) (es : List Entry) (i : ℕ) (d : Entry) → i < length es → name_at (map (entry_seen pool) es) i ≡ entry_seen pool (get_or es i d)
 seen_at pool es i d below = get_or-map (entry_seen pool) es i d blank_name below
@@ -81,34 +80,16 @@ ended low reach a past = let no_more : nat_lt a reach ≡ false = grind (arith, 
   off true y is = is
   off false y is = refl
 
-past_end : (low reach a : ℕ) → (nat_le low a && nat_lt a reach) ≡ false → nat_le low a ≡ true → reach ≤ a
-past_end low reach a is begun = let late : nat_lt a reach ≡ false = rw begun at is in grind (arith, nat_tests)
-
-pub rest_low : (pool : List ℕ) (es : List Entry) (i a : ℕ) → IsPool pool es → i < length es → rest_after (get_or es i blank_entry) i a ≤ i
-rest_low pool es i a pooled below = chosen (nat_le (get_or es i blank_entry).address a) (get_or es i blank_entry).before (pooled.low i below) where
-  chosen : (b : Bool) (n : ℕ) → n ≤ i → (if b then n else i) ≤ i
-  chosen true n low = low
-  chosen false n low = omega arith
-
-pub rest_same : (pool : List ℕ) (es : List Entry) (i a : ℕ) → IsPool pool es → i < length es → covers (entry_seen pool (get_or es i blank_entry)) a ≡ false → covering_below (map (entry_seen pool) es) i a ≡ covering_below (map (entry_seen pool) es) (rest_after (get_or es i blank_entry) i a) a
-rest_same pool es i a pooled below miss =
-    let e = get_or es i blank_entry in
+-- entries that end at or before the address
+pub passed_over : (pool : List ℕ) (es : List Entry) (n i a : ℕ) → n ≤ i → i ≤ length es → ReachTo es n i a → covering_below (map (entry_seen pool) es) i a ≡ covering_below (map (entry_seen pool) es) n a
+passed_over pool es n i a le within past =
     let names = map (entry_seen pool) es in
-    let m : ℕ = e.before in
-    by_test (nat_le e.address a)
-    (λ begun.
-    let low = pooled.low i below in
-    let place : m + (i - m) ≡ i = omega (arith, low) in
-    let past = past_end e.address (e.address + e.size) a miss begun in
-    let skip : covering_below names (m + (i - m)) a ≡ covering_below names m a = below_skip names m a (i - m) (λ j from upto.
+    let place : n + (i - n) ≡ i = omega (arith, le) in
+    sym (ap (λ (k : ℕ). covering_below names k a) place)
+    ∙ below_skip names n a (i - n) (λ j from upto.
     let f = get_or es j blank_entry in
-    let lt : j < i = omega (arith, low) in
-    let reach = pooled.links i j below from lt in
-    let here : j < length es = omega (arith, lt) in
-    ap (λ (v : NameView). covers v a) (seen_at pool es j blank_entry here) ∙ ended f.address (f.address + f.size) a (omega (arith, reach, past)))
-    in
-    rw begun (sym (ap (λ (k : ℕ). covering_below names k a) place) ∙ skip))
-    (λ later. rw later refl)
+    let lt : j < i = omega (arith, upto, place) in
+    ap (λ (v : NameView). covers v a) (seen_at pool es j blank_entry (omega (arith, lt, within))) ∙ ended f.address (f.address + f.size) a (past j from lt))
 
 -- ---- no names
 
@@ -126,8 +107,7 @@ no_pool : (pool : List ℕ) → IsPool pool []
 no_pool pool = record {
   texts = λ i l. absurd (omega (arith, l));
   comments = λ i l. absurd (omega (arith, l));
-  low = λ i l. absurd (omega (arith, l));
-  links = λ i j l. absurd (omega (arith, l));
+  blocks = record { each = λ i l. absurd (omega (arith, l)) };
 }
 
 pub none_pooled : (pool : List ℕ) (es : List Entry) → es ≡ [] → IsPool pool es
@@ -158,8 +138,7 @@ pub pool_grows : (pool more : List ℕ) (es : List Entry) → IsPool pool es →
 pool_grows pool more es p = record {
   texts = λ i l. within_grow pool more (get_or es i blank_entry).text (p.texts i l);
   comments = λ i l. comment_grow pool more (get_or es i blank_entry).comment (p.comments i l);
-  low = p.low;
-  links = p.links;
+  blocks = p.blocks;
 }
 
 comment_seen : (pool more : List ℕ) (s : Option Span) → IfSome s (IsWithin pool) → option_map (bytes_of (pool ++ more)) s ≡ option_map (bytes_of pool) s
@@ -179,8 +158,8 @@ seen_grows pool more (e ∷ es) h =
 record IsAdded (pool after : List ℕ) (es : List Entry) (e : Entry) : Type 0 where
   text : IsWithin after e.text
   comment : IfSome e.comment (IsWithin after)
-  low : e.before ≤ length es
-  reach : ReachTo es e.before (reach_of e)
+  own : reach_of e ≤ e.most
+  block : ReachTo es (block_start (length es + 1)) (length es) e.most
 
 pool_more : (pool : List ℕ) (es : List Entry) (e : Entry) → IsPool pool es → IsAdded pool pool es e → IsPool pool (es ++ e ∷ [])
 pool_more pool es e p a =
@@ -188,27 +167,27 @@ pool_more pool es e p a =
     record {
       texts = λ i l. last_or (λ x. IsWithin pool x.text) i (omega (arith, l, long)) (p.texts i) a.text;
       comments = λ i l. last_or (λ x. IfSome x.comment (IsWithin pool)) i (omega (arith, l, long)) (p.comments i) a.comment;
-      low = λ i l.
-          ⊎_elim
-          (λ last. let at = get_or_at es e [] blank_entry i (sym last.1) in let b = ap (λ (x : Entry). x.before) at in omega (arith, b, a.low, last.1))
-          (λ other. let here : i < length es = omega (arith, l, long, other.1) in let b = ap (λ (x : Entry). x.before) (get_or_append_left es (e ∷ []) blank_entry i here) in omega (arith, b, p.low i here))
-          (eqb_tells i (length es));
-      links = λ i j l from below.
-          let there : j < length es = omega (arith, l, long, below) in
-          let f = ap (λ (x : Entry). reach_of x) (get_or_append_left es (e ∷ []) blank_entry j there) in
-          ⊎_elim
-          (λ last.
-          let at = get_or_at es e [] blank_entry i (sym last.1) in
-          let b = ap (λ (x : Entry). x.before) at in
-          let r = ap (λ (x : Entry). reach_of x) at in
-          omega (arith, f, r, a.reach j (omega (arith, b, from)) there))
-          (λ other.
-          let here : i < length es = omega (arith, l, long, other.1) in
-          let at = get_or_append_left es (e ∷ []) blank_entry i here in
-          let b = ap (λ (x : Entry). x.before) at in
-          let r = ap (λ (x : Entry). reach_of x) at in
-          omega (arith, f, r, p.links i j here (omega (arith, b, from)) below))
-          (eqb_tells i (length es));
+      blocks = record {
+        each = λ i l j from below.
+            ⊎_elim
+            (λ last.
+            let most = ap (λ (x : Entry). x.most) (get_or_at es e [] blank_entry i (sym last.1)) in
+            ⊎_elim
+            (λ same. let own = ap (λ (x : Entry). reach_of x) (get_or_at es e [] blank_entry j (sym (same.1 ∙ last.1))) in omega (arith, own, most, a.own))
+            (λ other.
+            let there : j < length es = omega (arith, below, other.1, last.1) in
+            let start = ap (λ (k : ℕ). block_start (k + 1)) last.1 in
+            let f = ap (λ (x : Entry). reach_of x) (get_or_append_left es (e ∷ []) blank_entry j there) in
+            omega (arith, f, most, a.block j (omega (arith, start, from)) there))
+            (eqb_tells j i))
+            (λ other.
+            let here : i < length es = omega (arith, l, long, other.1) in
+            let there : j < length es = omega (arith, below, here) in
+            let most = ap (λ (x : Entry). x.most) (get_or_append_left es (e ∷ []) blank_entry i here) in
+            let f = ap (λ (x : Entry). reach_of x) (get_or_append_left es (e ∷ []) blank_entry j there) in
+            omega (arith, f, most, p.blocks.each i here j from below))
+            (eqb_tells i (length es));
+      };
     }
   where
     last_or : (P : Entry → Type 0) (i : ℕ) → i < length es + 1 → (i < length es → P (get_or es i blank_entry)) → P e → P (get_or (es ++ e ∷ []) i blank_entry)
@@ -225,8 +204,8 @@ pub record IsPut (pool after : List ℕ) (es : List Entry) (e : Entry) (n : Name
   pub size : e.size ≡ n.size
   pub text : e.text ≡ span_of pool n.text
   pub comment : e.comment ≡ option_map (span_of (pool ++ n.text)) n.comment
-  pub low : e.before ≤ length es
-  pub reach : ReachTo es e.before (reach_of e)
+  pub own : reach_of e ≤ e.most
+  pub block : ReachTo es (block_start (length es + 1)) (length es) e.most
 
 span_within : (pool text : List ℕ) → IsWithin (pool ++ text) (span_of pool text)
 span_within pool text = omega (arith, length-append pool text)
@@ -246,8 +225,8 @@ put_pooled pool after es e n p a =
     pool_more after es e grown (record {
       text = rw (a.bytes, a.text) (within_grow (pool ++ n.text) (optional n.comment) (span_of pool n.text) (span_within pool n.text));
       comment = rw (a.bytes, a.comment) (comment_within (pool ++ n.text) n.comment);
-      low = a.low;
-      reach = a.reach;
+      own = a.own;
+      block = a.block;
     })
 
 pub put_seen : (pool after : List ℕ) (es : List Entry) (e : Entry) (n : NameView) → IsPool pool es → IsPut pool after es e n → map (entry_seen after) (es ++ e ∷ []) ≡ map (entry_seen pool) es ++ n ∷ []

@@ -1,5 +1,6 @@
 -- Names as an `Info` keeps them: entries by address, whose texts stand in one pool of bytes.
-use Rattle.std.specs.Prelude.{◌+◌, ◌≤◌, ◌<◌, ◌&&◌, ℕ, zero, suc, Bool, List, [], Option, None, Some, IfSome, drop, get_or, length, nat_le, nat_lt, option_map, take, if◌then◌else◌}
+use Rattle.std.specs.Prelude.{◌+◌, ◌-◌, ◌≤◌, ◌<◌, ◌&&◌, ℕ, Bool, List, [], Option, None, Some, IfSome, drop, get_or, length, nat_le, nat_lt, option_map, take}
+use Rattle.std.specs.Int.Bits.{bit_and}
 use Rattle.info65.specs.Views.{NameView}
 use Rattle.info65.specs.declared.information.pool.Entry.{Entry}
 use Rattle.info65.specs.declared.information.pool.Span.{Span}
@@ -24,7 +25,7 @@ abbrev pub blank_span : Span
 blank_span = record { first = 0; size = 0 }
 
 abbrev pub blank_entry : Entry
-blank_entry = record { address = 0; size = 0; text = blank_span; comment = None; before = 0 }
+blank_entry = record { address = 0; size = 0; text = blank_span; comment = None; most = 0 }
 
 -- the address after the last that the entry is for
 abbrev pub reach_of : Entry → ℕ
@@ -33,21 +34,23 @@ reach_of e = e.address + e.size
 abbrev pub IsWithin : List ℕ → Span → Type 0
 IsWithin pool s = s.first + s.size ≤ length pool
 
--- the entries from this one on reach no further than so far
-abbrev pub ReachTo : List Entry → ℕ → ℕ → Type 0
-ReachTo entries first reach = (j : ℕ) → first ≤ j → j < length entries → reach_of (get_or entries j blank_entry) ≤ reach
+-- the entries from this one on, up to the n-th, reach no further than so far
+abbrev pub ReachTo : List Entry → ℕ → ℕ → ℕ → Type 0
+ReachTo entries first n reach = (j : ℕ) → first ≤ j → j < n → reach_of (get_or entries j blank_entry) ≤ reach
 
--- no entry is before this one, or the one before it reaches further
-abbrev pub IsFirstTo : List Entry → ℕ → ℕ → Type 0
-IsFirstTo entries zero reach = Unit {0}
-IsFirstTo entries (suc n) reach = reach < reach_of (get_or entries n blank_entry)
+-- where the block begins that ends before the n-th entry: n without its lowest bit
+unfoldable pub block_start : ℕ → ℕ
+block_start n = bit_and n (n - 1)
 
--- Each entry's bytes lie in the pool, and no entry from its link on up to it reaches further than it does.
+-- each entry says how far the block reaches that it ends
+pub record AreBlocks (entries : List Entry) : Type 0 where
+  pub each : (i : ℕ) → i < length entries → ReachTo entries (block_start (i + 1)) (i + 1) (get_or entries i blank_entry).most
+
+-- each entry's bytes lie in the pool
 pub record IsPool (pool : List ℕ) (entries : List Entry) : Type 0 where
   pub texts : (i : ℕ) → i < length entries → IsWithin pool (get_or entries i blank_entry).text
   pub comments : (i : ℕ) → i < length entries → IfSome (get_or entries i blank_entry).comment (IsWithin pool)
-  pub low : (i : ℕ) → i < length entries → (get_or entries i blank_entry).before ≤ i
-  pub links : (i j : ℕ) → i < length entries → (get_or entries i blank_entry).before ≤ j → j < i → reach_of (get_or entries j blank_entry) ≤ reach_of (get_or entries i blank_entry)
+  pub blocks : AreBlocks entries
 
 -- the entries from the n-th on have addresses above this one
 pub record AreAbove (entries : List Entry) (n address : ℕ) : Type 0 where
@@ -56,7 +59,3 @@ pub record AreAbove (entries : List Entry) (n address : ℕ) : Type 0 where
 -- the address is one of those that the entry is for
 abbrev pub entry_covers : Entry → ℕ → Bool
 entry_covers e a = nat_le e.address a && nat_lt a (reach_of e)
-
--- how many entries are still to be looked at after the left-th, which does not cover the address
-abbrev pub rest_after : Entry → ℕ → ℕ → ℕ
-rest_after e left a = if nat_le e.address a then e.before else left

@@ -134,7 +134,7 @@ impl<A: Allocator> Info<A> {
     }
 
     /// The given name of an address: of those that are for it the one with the highest address of its own.
-    /// It takes a time that grows with the logarithm of the number of names.
+    /// It takes a time that grows with the square of the logarithm of the number of names, however these overlap.
     pub fn covering(&self, address: u16) -> Option<Given<'_>>
         ensures name { option_map given_seen result ≡ covering self.now.names address }
         ensures sound { AreNames self.now.names }

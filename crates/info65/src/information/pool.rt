@@ -1,8 +1,8 @@
 //! Names by address, with the bytes of all of them in one pool.
 
-ghost use Rattle.std.specs.Prelude.{◌≡◌, ◌+◌, ◌<◌, ◌≤◌, ◌++◌, IfErr, IfOk, length, map, option_map};
+ghost use Rattle.std.specs.Prelude.{◌≡◌, ◌+◌, ◌-◌, ◌<◌, ◌≤◌, ◌++◌, IfErr, IfOk, length, map, option_map};
 ghost use Rattle.std.specs.List.Sorted.{IsNonDecreasingBy};
-ghost use Rattle.info65.specs.Code.Pool.{AreAbove, IsFirstTo, IsPool, IsWithin, ReachTo, bytes_of, entry_covers, entry_seen, optional, reach_of, rest_after, span_of};
+ghost use Rattle.info65.specs.Code.Pool.{AreAbove, AreBlocks, IsPool, IsWithin, ReachTo, block_start, bytes_of, entry_covers, entry_seen, optional, reach_of, span_of};
 ghost use Rattle.info65.specs.Code.Names.{given_seen};
 ghost use Rattle.info65.specs.Faults.{out_of_memory};
 ghost use Rattle.info65.specs.Names.{AreNames, covering, name_at};
@@ -20,15 +20,15 @@ pub struct Span {
     pub size: u32,
 }
 
-/// A name, by its bytes in the pool. None of the entries from the `before`-th up to it reaches further
-/// than it does, so a search that this name ends for goes on below them.
+/// A name, by its bytes in the pool. None of the entries of the block that it ends reaches further than `most`, so a search
+/// passes over a block that ends before its address.
 #[derive(Clone, Copy)]
 pub struct Entry {
     pub address: u16,
     pub size: u32,
     pub text: Span,
     pub comment: Option<Span>,
-    pub before: u32,
+    pub most: u32,
 }
 
 /// Names, with the bytes of all of them in one pool. A contract sees the list of the names. Names are
@@ -114,13 +114,13 @@ impl<A: Allocator> Pool<A> {
         let text = put(&mut bytes, name.text)?;
         let comment = put_optional(&mut bytes, name.comment)?;
         let reach = u64::from(name.address) + u64::from(name.size);
-        let before = narrow(link(entries.as_slice(), bytes.as_slice(), reach))?;
+        let most = narrow(most_reached(entries.as_slice(), reach) as usize)?;
         entries.push(Entry {
             address: name.address,
             size: name.size,
             text,
             comment,
-            before,
+            most,
         })?;
         Ok(Pool { entries, bytes })
     }
@@ -153,22 +153,31 @@ fn put_optional<A: Allocator>(
     }
 }
 
-// The first entry from which on none reaches further than so far.
-fn link(entries: &[Entry], pool: &[u8], reach: u64) -> usize
-    requires { IsPool pool.now entries.now }
-    ensures low { result ≤ length entries.now }
-    ensures reach { ReachTo entries.now result reach }
-    ensures first { IsFirstTo entries.now result reach }
+// Where the block begins that ends before the n-th entry. Each n has a block, which has as many entries as its lowest bit
+// says, and the blocks that begin in another one end in it. So a search passes over all entries in a few blocks.
+#[tactic(auto, unfolding(crate::specs::Code::Pool::block_start))]
+fn block_start(end: usize) -> usize
+    requires { 0 < end }
+    ensures value { result ≡ block_start end }
+    ensures below { result < end }
 {
+    end & (end - 1)
+}
+
+// How far the entries of a block reach whose last one is put after these and reaches so far.
+fn most_reached(entries: &[Entry], reach: u64) -> u64
+    requires { AreBlocks entries.now }
+    ensures own { reach ≤ result }
+    ensures block { ReachTo entries.now (block_start (length entries.now + 1)) (length entries.now) result }
+{
+    let first = block_start(entries.len() + 1);
+    let mut most = reach;
     let mut left = entries.len();
-    'left: while 0 < left {
-        let entry = &entries[left - 1];
-        if reach < reach_of(entry) {
-            return left;
-        }
-        left = entry.before as usize;
+    'left: while first < left {
+        most = most.max(u64::from(entries[left - 1].most));
+        left = block_start(left);
     }
-    0
+    most
 }
 
 fn bytes_of<'a>(pool: &'a [u8], span: Span) -> &'a [u8]
@@ -218,12 +227,10 @@ fn covering_in<'a>(entries: &[Entry], pool: &'a [u8], address: u16) -> Option<Gi
 {
     let mut left = count_upto(entries, address);
     'left: while 0 < left {
-        left -= 1;
-        let entry = &entries[left];
-        if covers(entry, address) {
-            return Some(given_at(entries, pool, left));
+        if covers(&entries[left - 1], address) {
+            return Some(given_at(entries, pool, left - 1));
         }
-        left = rest_after(entry, left, address);
+        left = rest_after(entries, left, address);
     }
     None
 }
@@ -237,12 +244,17 @@ fn count_upto(entries: &[Entry], address: u16) -> usize
     entries.partition_point(|entry| entry.address <= address)
 }
 
-fn rest_after(entry: &Entry, left: usize, address: u16) -> usize
-    ensures { result ≡ rest_after entry.now left address }
+// How many entries are still to be looked at after the last of these, which does not cover the address.
+fn rest_after(entries: &[Entry], left: usize, address: u16) -> usize
+    requires blocks { AreBlocks entries.now }
+    requires some { 0 < left }
+    requires within { left ≤ length entries.now }
+    ensures below { result < left }
+    ensures passed { ReachTo entries.now result (left - 1) address }
 {
-    if entry.address <= address {
-        entry.before as usize
+    if entries[left - 1].most <= u32::from(address) {
+        block_start(left)
     } else {
-        left
+        left - 1
     }
 }

@@ -1,9 +1,9 @@
-use Rattle.std.proofs.Common.{ℕ, ◌≡◌, ◌∙◌, ◌-◌, ◌<◌, ap, sym, arith, length, map, get_or, true, false}
+use Rattle.std.proofs.Common.{◌≡◌, ◌∙◌, ◌-◌, ◌<◌, ◌≤◌, ap, sym, arith, length, map, get_or, true, false}
 use Rattle.std.specs.Prelude.{Some}
-use Rattle.info65.specs.Code.Pool.{blank_entry, entry_seen, rest_after}
-use Rattle.info65.specs.Names.{covering_below, covers}
+use Rattle.info65.specs.Code.Pool.{blank_entry, entry_seen}
+use Rattle.info65.specs.Names.{covers}
 use Rattle.info65.specs.Views.{NameView}
-use Rattle.info65.proofs.PoolLemmas.{below_hit, below_miss, below_none, covering_rest, entries_rise, seen_at, rest_low, rest_same}
+use Rattle.info65.proofs.PoolLemmas.{below_hit, below_miss, below_none, covering_rest, entries_rise, passed_over, seen_at}
 use Rattle.info65.proofs.information.pool.covering_in.Goals as goal
 
 pub count_upto-left-requires : goal.count_upto-left-requires
@@ -33,20 +33,11 @@ left-preserved c =
     let pool = c.args.pool.now in
     let v : NameView = entry_seen pool (get_or es i blank_entry) in
     let miss : covers v c.args.address ≡ false = sym c.covers.ensures ∙ c.if-covers.false in
-    let names = map (entry_seen pool) es in
-    let to : c.rest_after-left.result ≡ rest_after (get_or es i blank_entry) i c.args.address = c.rest_after-left.ensures in
+    let below : c.rest_after-left.result ≤ i = omega (arith, c.rest_after-left.ensures.below, c.left-test.true) in
     record {
-      low = omega (arith, to, rest_low pool es i c.args.address c.requires.pool here, here);
-      same = ap (λ (k : ℕ). covering_below names k c.args.address) to ∙ sym (rest_same pool es i c.args.address c.requires.pool here miss) ∙ sym (below_miss names c.left.left i c.args.address v (omega (arith, c.left-test.true)) (seen_at pool es i blank_entry here) miss) ∙ c.left.invariant.same;
+      low = omega (arith, below, here);
+      same = sym (passed_over pool es c.rest_after-left.result i c.args.address below (omega (arith, here)) c.rest_after-left.ensures.passed) ∙ sym (below_miss (map (entry_seen pool) es) c.left.left i c.args.address v (omega (arith, c.left-test.true)) (seen_at pool es i blank_entry here) miss) ∙ c.left.invariant.same;
     }
-
-pub left-smaller : goal.left-smaller
-left-smaller c =
-    let es = c.args.entries.now in
-    let i = c.left.left - 1 in
-    let here : i < length es = omega (arith, c.left.invariant.low, c.left-test.true) in
-    let to : c.rest_after-left.result ≡ rest_after (get_or es i blank_entry) i c.args.address = c.rest_after-left.ensures in
-    omega (arith, to, rest_low c.args.pool.now es i c.args.address c.requires.pool here, c.left-test.true)
 
 pub returns : goal.returns
 returns c = sym (below_none _ c.left.left c.args.address (omega (arith, c.left-test.false))) ∙ c.left.invariant.same
