@@ -46,7 +46,6 @@ impl Directive {
     pub fn entry_len(self) -> usize
         ensures value { result ≡ entry_len self }
         ensures some { 2 ≤ result }
-        ensures few { result ≤ 4 }
     {
         match self {
             Directive::Word | Directive::Dbyt | Directive::Addr => 2,

@@ -14,8 +14,7 @@ use crate::assembling::symbols::Symbols;
 use std::alloc::{AllocError, Allocator};
 
 fn fragment_len(fragment: Fragment) -> u64
-    ensures value { result ≡ fragment_len (fragment_of fragment.entry) }
-    ensures small { result ≤ 4 }
+    ensures { result ≡ fragment_len (fragment_of fragment.entry) }
 {
     match fragment {
         Fragment::Entry(directive, _) => size(directive),
