@@ -1,6 +1,6 @@
 //! The directives that give numbers, and how a table of them is printed. What they code stands in `assembling::entries`.
 
-ghost use Rattle.std.specs.Prelude.{◌≡◌, ◌≤◌, length};
+ghost use Rattle.std.specs.Prelude.{◌≡◌, ◌≤◌};
 ghost use Rattle.stmt65.specs.Directives.{directive_text, first_directive_named, directive_named};
 ghost use Rattle.stmt65.specs.Tables.{entry_len, order_of};
 
@@ -32,7 +32,6 @@ impl Directive {
     /// What is written.
     pub fn text(self) -> &'static [u8]
         ensures text { result.now ≡ directive_text self }
-        ensures len { length result.now ≤ 8 }
     {
         match self {
             Directive::Word => b".word",
