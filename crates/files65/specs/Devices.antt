@@ -1,6 +1,6 @@
 -- What contracts know of what is read and written. Standard streams and files do not report their bytes.
-use Rattle.std.specs.Prelude.{ℕ, List, [], Option, Some, None}
-use Rattle.map65.specs.Told.{told_faults}
+use Rattle.std.specs.Prelude.{ℕ, Bool, false, List, [], Option, Some, None}
+use Rattle.map65.specs.Told.{told_failed, told_faults}
 use Rattle.files65.specs.declared.input.Input.{Input}
 use Rattle.files65.specs.declared.input.Input.TheVariants.{Standard, File, Nothing}
 use Rattle.files65.specs.declared.output.Output.{Output}
@@ -17,6 +17,12 @@ abbrev pub input_faults : Input → ℕ
 input_faults (Standard told) = told_faults told
 input_faults (File told) = told_faults told
 input_faults Nothing = 0
+
+-- whether the last read failed
+abbrev pub input_failed : Input → Bool
+input_failed (Standard told) = told_failed told
+input_failed (File told) = told_failed told
+input_failed Nothing = false
 
 -- the bytes that were written
 abbrev pub output_taken : Output → Option (List ℕ)

@@ -1,6 +1,6 @@
 //! What is read.
 
-ghost use Rattle.files65.specs.Devices.{input_faults, input_left};
+ghost use Rattle.files65.specs.Devices.{input_failed, input_faults, input_left};
 
 use map65::{DeviceFault, Source, Told};
 use std::fs::File;
@@ -32,6 +32,8 @@ impl Source for Input {
     ghost left = { input_left };
 
     ghost faults = { input_faults };
+
+    ghost failed = { input_failed };
 
     fn read_some(&mut self, buf: &mut [u8]) -> Result<usize, DeviceFault> {
         match self {

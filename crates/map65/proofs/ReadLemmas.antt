@@ -1,5 +1,5 @@
 -- What a reader has left after one read and then another, and which image its bytes give.
-use Rattle.std.proofs.Common.{drop-drop, ◌≡◌, ℕ, ◌+◌, ◌<◌, ◌≤◌, ◌==◌, ◌||◌, refl, Bool, false, nat_lt, arith, length-append, List, [], ◌++◌, length, take, drop, Option, None, Some, IfSome, Result, Ok, Err, sym, ◌∙◌, ap, append_assoc, ⊎_elim}
+use Rattle.std.proofs.Common.{drop-drop, ◌≡◌, ℕ, ◌+◌, ◌<◌, ◌≤◌, ◌==◌, ◌||◌, refl, Bool, false, nat_lt, arith, length-append, List, [], ◌++◌, length, take, drop, Option, None, Some, IfSome, Result, Ok, Err, sym, ◌∙◌, ap, ap₂, subst, append_assoc, ⊎_elim}
 use Rattle.std.proofs.Math.Seq.{drop-append_seam}
 use Rattle.std.proofs.lemmas.List.{append-nil, take_at, take_all, length-take, drop_all}
 use Rattle.std.proofs.lemmas.Bool.{le-ltb, cases_lt, cond_both}
@@ -7,7 +7,7 @@ use Rattle.std.proofs.lemmas.Bool.Decides.{nat_tests}
 use Rattle.std.specs.Io.KnownBytes.{Consumes, IsAtEnd, Keeps}
 use Rattle.info65.specs.Views.{SettingsView}
 use Rattle.map65.specs.Device.{TakesUpTo}
-use Rattle.map65.specs.Image.{GivesImage, ReadCount, StopsAt, asked_of, image_by, image_of, is_short, most_of, sized, start_of}
+use Rattle.map65.specs.Image.{GivesImage, ReadCount, StopsAt, asked_of, image_by, image_of, is_short, most_of, read_limit, sized, start_of}
 use Rattle.map65.specs.ImageView.{ImageView}
 use Rattle.map65.specs.Taking.{IsReadTo}
 use Rattle.map65.specs.Code.Passing.{IsAllTaken, Takes}
@@ -133,8 +133,12 @@ pub of_bytes : (start size : Option ℕ) (xs : List ℕ) (n : ℕ) → ReadCount
 of_bytes start size xs n = image_cases (λ r. ReadCount r n n) start size xs refl refl refl (λ v. refl)
 
 -- reading went as far as it had to
-pub stops_there : (start size : Option ℕ) (xs : List ℕ) (limit : ℕ) (old new : Option (List ℕ)) → IsReadTo limit old new → StopsAt (image_by start size xs) limit old new
-stops_there start size xs limit old new is = image_cases (λ r. StopsAt r limit old new) start size xs is is is (λ v. is)
+stops_there : (start size : Option ℕ) (xs : List ℕ) (limit : ℕ) (old new : Option (List ℕ)) (failed : Bool) → IsReadTo limit old new → StopsAt (image_by start size xs) limit old new failed
+stops_there start size xs limit old new failed is = image_cases (λ r. StopsAt r limit old new failed) start size xs is is is (λ v. is)
+
+pub stops_here : (s : SettingsView) (offset most : ℕ) (start size : Option ℕ) (xs : List ℕ) (old new : Option (List ℕ)) (failed : Bool) (answer : Result ImageView ImageFault) → answer ≡ image_by start size xs → offset ≡ s.offset → most ≡ most_of s.size → IsReadTo (offset + most) old new → StopsAt answer (read_limit s) old new failed
+stops_here s offset most start size xs old new failed answer is at many p =
+    rw is (stops_there start size xs (read_limit s) old new failed (subst (λ n. IsReadTo n old new) (ap₂ (λ a b. a + b) at many) p))
 
 -- an answer is its own
 gives_same : (start size : Option ℕ) (xs : List ℕ) → GivesImage (image_by start size xs) (image_by start size xs)

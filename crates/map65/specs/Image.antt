@@ -1,5 +1,5 @@
 -- The image that an input gives.
-use Rattle.std.specs.Prelude.{◌≡◌, ℕ, ◌+◌, ◌-◌, ◌==◌, ◌||◌, Bool, false, nat_lt, if◌then◌else◌, List, length, drop, take, Option, Some, None, Result, Ok, Err, ⊤}
+use Rattle.std.specs.Prelude.{◌≡◌, ℕ, ◌+◌, ◌-◌, ◌==◌, ◌||◌, Bool, true, false, nat_lt, if◌then◌else◌, List, length, drop, take, Option, Some, None, Result, Ok, Err, ⊤}
 use Rattle.info65.specs.Views.{SettingsView}
 use Rattle.map65.specs.declared.image.ImageFault.{ImageFault}
 use Rattle.map65.specs.declared.image.ImageFault.TheVariants.{Empty, TooLarge, Short, Read, Memory}
@@ -78,11 +78,11 @@ ReadCount (Err Short) old new = new ≡ old
 ReadCount (Err Read) old new = new ≡ one_more old
 ReadCount (Err Memory) old new = new ≡ old
 
--- reading went on to the limit or the end, unless a read failed or memory ran out
-abbrev pub StopsAt : {T : Type 0} → Result T ImageFault → ℕ → Option (List ℕ) → Option (List ℕ) → Type 0
-StopsAt (Ok v) limit old new = IsReadTo limit old new
-StopsAt (Err Empty) limit old new = IsReadTo limit old new
-StopsAt (Err TooLarge) limit old new = IsReadTo limit old new
-StopsAt (Err Short) limit old new = IsReadTo limit old new
-StopsAt (Err Read) limit old new = ⊤
-StopsAt (Err Memory) limit old new = ⊤
+-- reading went on to the limit or the end, or to the first read that failed, which was the last one; unless memory ran out
+abbrev pub StopsAt : {T : Type 0} → Result T ImageFault → ℕ → Option (List ℕ) → Option (List ℕ) → Bool → Type 0
+StopsAt (Ok v) limit old new failed = IsReadTo limit old new
+StopsAt (Err Empty) limit old new failed = IsReadTo limit old new
+StopsAt (Err TooLarge) limit old new failed = IsReadTo limit old new
+StopsAt (Err Short) limit old new failed = IsReadTo limit old new
+StopsAt (Err Read) limit old new failed = failed ≡ true
+StopsAt (Err Memory) limit old new failed = ⊤

@@ -1,5 +1,5 @@
 -- How far a source is read, and which of its reads failed.
-use Rattle.std.specs.Prelude.{◌≡◌, ℕ, List, drop, IfSome, Option, Some, Result, Ok, Err}
+use Rattle.std.specs.Prelude.{◌≡◌, ℕ, Bool, true, List, drop, IfSome, Option, Some, Result, Ok, Err, ⊤}
 use Rattle.map65.specs.declared.devices.taking.TakeFault.{TakeFault}
 use Rattle.map65.specs.declared.devices.taking.TakeFault.TheVariants.{Read, Memory}
 use Rattle.map65.specs.Device.{one_more}
@@ -13,3 +13,9 @@ abbrev pub TakeCount : {T : Type 0} → Result T TakeFault → ℕ → ℕ → T
 TakeCount (Ok v) old new = new ≡ old
 TakeCount (Err Read) old new = new ≡ one_more old
 TakeCount (Err Memory) old new = new ≡ old
+
+-- A read that failed was the last one. No more than one fails, by the count.
+abbrev pub TakesNoMore : {T : Type 0} → Result T TakeFault → Bool → Type 0
+TakesNoMore (Ok v) failed = ⊤
+TakesNoMore (Err Read) failed = failed ≡ true
+TakesNoMore (Err Memory) failed = ⊤

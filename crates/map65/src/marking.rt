@@ -15,7 +15,7 @@ ghost use Rattle.map65.specs.Spans.{left_at};
 use crate::borders::mark_borders;
 use crate::cells::{are_one_run, cell_of, is_named, is_wide_cell, role_in, with_len};
 use crate::image::Image;
-use crate::roles::{is_skip, unit_of};
+use crate::roles::is_skip;
 use info65::{Info, RangeSpec, RangeType};
 use isa65::{DecodeTable, OpcodeSet};
 use std::alloc::Allocator;
@@ -136,7 +136,7 @@ fn full_len_at<A: Allocator>(
             let byte = bytes[usize::from(address - image.start())];
             code_size(opcodes, byte)
         }
-        _ => unit_of(role),
+        _ => role.layout().unit,
     }
 }
 

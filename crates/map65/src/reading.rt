@@ -4,7 +4,7 @@ ghost use Rattle.std.specs.Prelude.{◌≡◌, ◌+◌, ◌-◌, ◌^◌, ◌<�
 ghost use Rattle.map65.specs.Device.{TakesUpTo, has_failed};
 ghost use Rattle.map65.specs.Image.{GivesImage, ReadCount, StopsAt, image_of, read_limit, most_of};
 ghost use Rattle.map65.specs.ImageView.{AreBytes, IsPlaced};
-ghost use Rattle.map65.specs.Taking.{IsReadTo, TakeCount};
+ghost use Rattle.map65.specs.Taking.{IsReadTo, TakeCount, TakesNoMore};
 
 use crate::devices::{Source, TakeFault, pass_over, take_up_to};
 use crate::image::{Image, ImageFault};
@@ -26,6 +26,7 @@ fn take_after<A: Allocator, R: Source>(
     ensures rest { IfOk result (λ _. IsReadTo (offset + limit) (R.left input.old) (R.left input.new)) }
     ensures bound { TakesUpTo (offset + limit) (R.left input.old) (R.left input.new) }
     ensures count { TakeCount result (R.faults input.old) (R.faults input.new) }
+    ensures last { TakesNoMore result (R.failed input.new) }
 {
     if pass_over(input, offset)? {
         take_up_to(alloc, input, limit)
@@ -60,7 +61,7 @@ pub fn read_image<A: Allocator, R: Source>(
         GivesImage result (image_of info.now.settings xs (has_failed (R.faults input.old) (R.faults input.new)))) }
     ensures placed { IfOk result (λ image. IsPlaced image) }
     ensures are_bytes { IfOk result (λ image. AreBytes image.bytes) }
-    ensures rest { StopsAt result (read_limit info.now.settings) (R.left input.old) (R.left input.new) }
+    ensures rest { StopsAt result (read_limit info.now.settings) (R.left input.old) (R.left input.new) (R.failed input.new) }
     ensures bound { TakesUpTo (read_limit info.now.settings) (R.left input.old) (R.left input.new) }
     ensures count { ReadCount result (R.faults input.old) (R.faults input.new) }
 {

@@ -1,15 +1,13 @@
 //! What follows from the role of an address alone.
 
-ghost use Rattle.std.specs.Prelude.{◌≡◌, ◌≤◌};
+ghost use Rattle.std.specs.Prelude.{◌≡◌};
 ghost use Rattle.map65.specs.Roles.{is_skip, is_wide, unit_of};
 
 use info65::{Entry, RangeType};
 
 /// Returns how many bytes an entry of a table of this role has, and 1 for what is no table.
 pub fn unit_of(role: RangeType) -> u8
-    ensures value { result ≡ unit_of role }
-    ensures positive { 1 ≤ result }
-    ensures small { result ≤ 4 }
+    ensures { result ≡ unit_of role }
 {
     role.layout().unit
 }

@@ -1,8 +1,8 @@
 //! Where bytes are read from and written to.
 
-ghost use Rattle.std.specs.Prelude.{ℕ, ◌<◌, ◌≤◌, List, length, IfOk, Option};
+ghost use Rattle.std.specs.Prelude.{ℕ, Bool, ◌<◌, ◌≤◌, List, length, IfOk, Option};
 ghost use Rattle.std.specs.Io.KnownBytes.{ReadConsumes, WriteAppends};
-ghost use Rattle.map65.specs.Device.{Counts};
+ghost use Rattle.map65.specs.Device.{Counts, IsFailure};
 
 use thiserror::Error;
 
@@ -19,12 +19,16 @@ pub trait Source {
     /// How many reads have failed. The count stays at 2^64 - 1.
     ghost faults: { Self → ℕ };
 
+    /// Whether the last read failed.
+    ghost failed: { Self → Bool };
+
     /// Reads once into the beginning of `buf`, and returns the number of bytes. That is 0 at the end, and
     /// for an empty buffer.
     fn read_some(&mut self, buf: &mut [u8]) -> Result<usize, DeviceFault>
         ensures bound { IfOk result (λ n. n ≤ length buf.new) }
         ensures bytes { ReadConsumes (left self.old) (left self.new) result buf.new }
-        ensures count { Counts (faults self.old) (faults self.new) result };
+        ensures count { Counts (faults self.old) (faults self.new) result }
+        ensures last { IsFailure (failed self.new) result };
 }
 
 /// Where bytes are written to.

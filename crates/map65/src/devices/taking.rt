@@ -1,9 +1,9 @@
 //! Reading some bytes of a source, whatever they are.
 
-ghost use Rattle.std.specs.Prelude.{◌≡◌, take, IfSome, IfOk};
+ghost use Rattle.std.specs.Prelude.{◌≡◌, true, take, IfSome, IfOk, OnErr};
 ghost use Rattle.map65.specs.declared.devices.taking.TakeFault.TheVariants.{Read, Memory};
 ghost use Rattle.map65.specs.Device.{Counts, TakesUpTo};
-ghost use Rattle.map65.specs.Taking.{IsReadTo, TakeCount};
+ghost use Rattle.map65.specs.Taking.{IsReadTo, TakeCount, TakesNoMore};
 ghost use Rattle.map65.specs.Code.Passing.{Passes};
 
 use crate::devices::device::{DeviceFault, Source};
@@ -45,6 +45,7 @@ pub fn pass_over<R: Source>(input: &mut R, count: usize) -> Result<bool, DeviceF
     ensures passed { Passes result count (R.left input.old) (R.left input.new) }
     ensures bound { TakesUpTo count (R.left input.old) (R.left input.new) }
     ensures count { Counts (R.faults input.old) (R.faults input.new) result }
+    ensures last { OnErr result (R.failed input.new ≡ true) }
 {
     let mut chunk = [0u8; CHUNK];
     let mut left = count;
@@ -70,6 +71,7 @@ pub fn take_up_to<A: Allocator, R: Source>(
     ensures rest { IfOk result (λ _. IsReadTo limit (R.left input.old) (R.left input.new)) }
     ensures bound { TakesUpTo limit (R.left input.old) (R.left input.new) }
     ensures count { TakeCount result (R.faults input.old) (R.faults input.new) }
+    ensures last { TakesNoMore result (R.failed input.new) }
 {
     let mut bytes = Vec::new(alloc);
     let mut chunk = [0u8; CHUNK];

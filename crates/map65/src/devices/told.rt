@@ -2,7 +2,7 @@
 
 ghost use Rattle.std.specs.Prelude.{◌≡◌, ◌<◌, ◌⊎◌, IfErr, IfOk, IsErr, MatchResult, Ok, length};
 ghost use Rattle.map65.specs.Device.{Counts};
-ghost use Rattle.map65.specs.Told.{told_inner, told_faults};
+ghost use Rattle.map65.specs.Told.{told_of};
 
 use crate::devices::device::{DeviceFault, Sink, Source};
 use std::io::{Read, Write};
@@ -12,15 +12,20 @@ use std::io::{Read, Write};
 pub struct Told<T> {
     inner: T,
     faults: u64,
+    /// Whether the last read failed.
+    failed: bool,
 }
 
 impl<T> Told<T> {
     /// Wraps a reader or a writer. The count begins at 0.
     pub fn new(inner: T) -> Told<T>
-        ensures inner { told_inner result ≡ inner }
-        ensures faults { told_faults result ≡ 0 }
+        ensures { result ≡ told_of inner }
     {
-        Told { inner, faults: 0 }
+        Told {
+            inner,
+            faults: 0,
+            failed: false,
+        }
     }
 }
 
@@ -55,8 +60,11 @@ impl<T: Read> Source for Told<T> {
 
     ghost faults = { λ t. t.faults };
 
+    ghost failed = { λ t. t.failed };
+
     fn read_some(&mut self, buf: &mut [u8]) -> Result<usize, DeviceFault> {
         let call = self.inner.read(buf);
+        self.failed = call.is_err();
         counted(&mut self.faults, call)
     }
 }
