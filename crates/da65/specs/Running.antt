@@ -1,9 +1,7 @@
 -- What a run has written and read, for each of its results.
 use Rattle.std.specs.Prelude.{◌≡◌, ◌⊎◌, ℕ, ◌+◌, ◌<◌, ◌≤◌, List, length, IfSome, Option, Result, Ok, Err}
 use Rattle.std.specs.Io.KnownBytes.{Keeps, Appends}
-use Rattle.info65.specs.Views.{InfoView}
-use Rattle.map65.specs.Device.{one_more, AppendsFront, TakesUpTo}
-use Rattle.map65.specs.Image.{read_limit}
+use Rattle.map65.specs.Device.{one_more, AppendsFront}
 use Rattle.da65.specs.declared.runs.outcome.Status.{Status}
 use Rattle.da65.specs.declared.runs.outcome.Status.TheVariants.{Done, Refused}
 use Rattle.da65.specs.declared.runs.outcome.RunFault.{RunFault}
@@ -17,11 +15,6 @@ Writes (Ok status) outcome out out' msgs msgs' = (status ≡ outcome.status) × 
 Writes (Err Memory) outcome out out' msgs msgs' = Keeps out out' × Keeps msgs msgs'
 Writes (Err Write) outcome out out' msgs msgs' = AppendsFront out out' outcome.listing × Keeps msgs msgs'
 Writes (Err Messages) outcome out out' msgs msgs' = Appends out out' outcome.listing × AppendsFront msgs msgs' outcome.messages × (0 < length outcome.messages)
-
--- at most the bytes that the settings ask for are read, if the run is not refused before that
-abbrev pub ReadsUpTo : Result InfoView (List ℕ) → Option (List ℕ) → Option (List ℕ) → Type 0
-ReadsUpTo (Ok i) old new = TakesUpTo (read_limit i.settings) old new
-ReadsUpTo (Err message) old new = new ≡ old
 
 -- the count of failed writes of the listing rises by one exactly when the result is Write
 abbrev pub OutCount : Result Status RunFault → ℕ → ℕ → Type 0

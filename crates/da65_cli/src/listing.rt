@@ -1,15 +1,16 @@
 //! A run whose output is buffered, and whose messages wait for the end of the listing.
 
-ghost use Rattle.std.specs.Prelude.{◌≡◌, ◌-◌, ◌^◌, ◌<◌, [], Some, IfErr, IfSome, IsErrOf, Result};
+ghost use Rattle.std.specs.Prelude.{◌≡◌, ◌-◌, ◌^◌, ◌<◌, [], Some, IfErr, IfOk, IfSome, IsErrOf, Result};
 ghost use Rattle.std.specs.Io.KnownBytes.{Keeps};
 ghost use Rattle.info65.specs.Code.Results.{Gives};
 ghost use Rattle.info65.specs.Views.{InfoView};
 ghost use Rattle.info65.specs.declared.fault.InfoFault.{InfoFault};
-ghost use Rattle.map65.specs.Device.{has_failed};
+ghost use Rattle.map65.specs.Device.{TakesUpTo, has_failed};
+ghost use Rattle.map65.specs.Image.{read_limit};
 ghost use Rattle.da65.specs.Files.{files_seen};
 ghost use Rattle.da65.specs.Outcome.{outcome_by, outcome_of, prepared, prepared_by};
 ghost use Rattle.da65.specs.RunLaw.{Reassembles};
-ghost use Rattle.da65.specs.Running.{MessagesCount, OutCount, ReadsUpTo};
+ghost use Rattle.da65.specs.Running.{MessagesCount, OutCount};
 ghost use Rattle.da65_cli.specs.Code.Buffered.{buffered_out, buffered_taken};
 ghost use Rattle.da65_cli.specs.Delivery.{Delivers, InputCount};
 ghost use Rattle.da65_cli.specs.Code.Reporting.{HasRoom, FlushesThenReports, ReportsOutCount};
@@ -77,7 +78,7 @@ pub fn run_buffered<A: Allocator + Copy, N: Allocator, R: Source, W: Sink, M: Si
     // These hold for every reader and every output.
     ensures memory { IsErrOf result.result RunFault.Memory → Keeps (M.taken errors.old) (M.taken errors.new) }
     ensures write { IsErrOf result.result RunFault.Write → Keeps (M.taken errors.old) (M.taken errors.new) }
-    ensures reads { ReadsUpTo (prepared options.now info.now (files_seen files.now)) (R.left input.old) (R.left input.new) }
+    ensures reads { IfOk (prepared options.now info.now (files_seen files.now)) (λ i. TakesUpTo (read_limit i.settings) (R.left input.old) (R.left input.new)) }
     ensures unread { IfErr (prepared options.now info.now (files_seen files.now)) (λ _. input.new ≡ input.old) }
 
     // A failed write is reported, and nothing else is reported as one.
@@ -107,7 +108,7 @@ pub fn run_read_buffered<A: Allocator + Copy, R: Source, W: Sink, M: Sink>(
         (Some []) (W.taken result.output)) }
     ensures memory { IsErrOf result.result RunFault.Memory → Keeps (M.taken errors.old) (M.taken errors.new) }
     ensures write { IsErrOf result.result RunFault.Write → Keeps (M.taken errors.old) (M.taken errors.new) }
-    ensures reads { (defined : Result InfoView InfoFault) → Gives (λ i. i) read defined → ReadsUpTo (prepared_by defined (files_seen files.now)) (R.left input.old) (R.left input.new) }
+    ensures reads { (defined : Result InfoView InfoFault) → Gives (λ i. i) read defined → IfOk (prepared_by defined (files_seen files.now)) (λ i. TakesUpTo (read_limit i.settings) (R.left input.old) (R.left input.new)) }
     ensures unread { (defined : Result InfoView InfoFault) → Gives (λ i. i) read defined → IfErr (prepared_by defined (files_seen files.now)) (λ _. input.new ≡ input.old) }
     ensures out_count { OutCount result.result (W.faults output) (W.faults result.output) }
     ensures errors_count { MessagesCount result.result (M.faults errors.old) (M.faults errors.new) }

@@ -13,7 +13,7 @@ ghost use Rattle.da65.specs.Groups.{skips};
 ghost use Rattle.da65.specs.Outcome.{done, image_message, outcome_by, outcome_of, prepared, prepared_by, warnings};
 ghost use Rattle.da65.specs.RunLaw.{Reassembles, Took};
 ghost use Rattle.da65.specs.Code.Refusals.{RefusesOrGivesUp, Tells};
-ghost use Rattle.da65.specs.Running.{InputCount, MessagesCount, OutCount, ReadsUpTo, Writes, WritesFew};
+ghost use Rattle.da65.specs.Running.{InputCount, MessagesCount, OutCount, Writes, WritesFew};
 
 use crate::listing::line_groups::has_skipped;
 use crate::listing::lines::{Lines, write_lines};
@@ -176,7 +176,7 @@ pub fn run<A: Allocator + Copy, N: Allocator, R: Source, W: Sink, M: Sink>(
     ensures write { IsErrOf result RunFault.Write → Keeps (M.taken msgs.old) (M.taken msgs.new) }
     ensures refused { IfOk result (λ status. status ≡ Status.Refused → Keeps (W.taken out.old) (W.taken out.new)) }
     ensures few { WritesFew (M.taken msgs.old) (M.taken msgs.new) }
-    ensures reads { ReadsUpTo (prepared options.now info.now (files_seen files.now)) (R.left input.old) (R.left input.new) }
+    ensures reads { IfOk (prepared options.now info.now (files_seen files.now)) (λ i. TakesUpTo (read_limit i.settings) (R.left input.old) (R.left input.new)) }
     ensures unread { IfErr (prepared options.now info.now (files_seen files.now)) (λ _. input.new ≡ input.old) }
 
     // A failed write is reported, and nothing else is reported as one.
@@ -209,7 +209,7 @@ pub fn run_read<A: Allocator + Copy, R: Source, W: Sink, M: Sink>(
     ensures write { IsErrOf result RunFault.Write → Keeps (M.taken msgs.old) (M.taken msgs.new) }
     ensures refused { IfOk result (λ status. status ≡ Status.Refused → Keeps (W.taken out.old) (W.taken out.new)) }
     ensures few { WritesFew (M.taken msgs.old) (M.taken msgs.new) }
-    ensures reads { (defined : Result InfoView InfoFault) → Gives (λ i. i) read defined → ReadsUpTo (prepared_by defined (files_seen files.now)) (R.left input.old) (R.left input.new) }
+    ensures reads { (defined : Result InfoView InfoFault) → Gives (λ i. i) read defined → IfOk (prepared_by defined (files_seen files.now)) (λ i. TakesUpTo (read_limit i.settings) (R.left input.old) (R.left input.new)) }
     ensures unread { (defined : Result InfoView InfoFault) → Gives (λ i. i) read defined → IfErr (prepared_by defined (files_seen files.now)) (λ _. input.new ≡ input.old) }
     ensures out_count { OutCount result (W.faults out.old) (W.faults out.new) }
     ensures messages_count { MessagesCount result (M.faults msgs.old) (M.faults msgs.new) }
