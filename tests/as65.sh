@@ -40,6 +40,7 @@ bytes='\xa9\x01\x60'
 printf '%b' "$three" >three.s
 printf '%b' "$bytes" >three.bin
 : >empty
+head -c 65536 /dev/zero >zeros.bin
 mkdir folder
 head -c 65536 /dev/zero | tr '\0' '\352' >large.bin
 yes '        nop' | head -n 65536 >large.s
@@ -126,8 +127,26 @@ runs 'stretches' 1 "\$2000: 00 -> EA, line 1: first: nop ; one\n\
 printf '\xea\xea\x01\x02\x03\x04\x05\x06\x07\x08\x09\x00\xea' >stretches.bin
 runs 'a stretch of one byte in a line of ten' 1 '$200B: 00 -> 0A, line 4: .byte 1,2,3,4,5,6,7,8,9,10\n' '' -S 0x2000 --compare stretches.bin stretches.s
 printf '\xea\xea\x01\x00\x03\x00\x05\x06\x07\x08\x09\x0a\xea' >stretches.bin
+printf '\xea\xea\x09\x09\x09\x09\x09\x09\x09\x09\x09\x0a\xea' >stretches.bin
+runs 'a stretch of exactly eight bytes' 1 "\$2002: 09 09 09 09 09 09 09 09 -> 01 02 03 04 05 06 07 08, line 4: .byte 1,2,3,4,5,6,7,8,9,10\n" '' \
+    -S 0x2000 --compare stretches.bin stretches.s
+printf '\xea\xea\x01\x00\x03\x00\x05\x06\x07\x08\x09\x0a\xea' >stretches.bin
 runs 'two stretches in one line' 1 "\$2003: 00 -> 02, line 4: .byte 1,2,3,4,5,6,7,8,9,10\n\
 \$2005: 00 -> 04, line 4: .byte 1,2,3,4,5,6,7,8,9,10\n" '' -S 0x2000 --compare stretches.bin stretches.s
+printf ' nop ; \x1b[2J\x7f\ttab \r \t\n' >control.s
+runs 'control bytes of a line' 1 '$1000: A9 -> EA, line 1: nop ; ?[2J??tab\nthe image has 3 bytes, the listing 1\n' '' -S 0x1000 --compare three.bin control.s
+for len in 80 81 5000; do
+    { printf ' nop ;'; head -c $((len - 5)) /dev/zero | tr '\0' x; echo ' '; } >wide.s
+    dots=
+    [ "$len" = 80 ] || dots=' ..'
+    runs "a line of $len characters" 1 "\$1000: A9 -> EA, line 1: nop ;$(head -c 75 /dev/zero | tr '\0' x)$dots\nthe image has 3 bytes, the listing 1\n" '' \
+        -S 0x1000 --compare three.bin wide.s
+done
+yes ' .byte 0,1' | head -n 32768 >every.s
+"$program" --compare zeros.bin every.s >stdout 2>stderr
+ends 'every second byte' 1 $? ''
+[ "$(wc -l <stdout)" = 32768 ] || fails 'every second byte' "$(wc -l <stdout) lines and not 32768"
+[ "$(tail -n 1 stdout)" = '$FFFF: 00 -> 01, line 32768: .byte 0,1' ] || fails 'every second byte' "$(tail -n 1 stdout)"
 printf '\xa9\x01' >short.bin
 runs 'a listing with more bytes' 1 'the image has 2 bytes, the listing 3\n' '' -S 0 --compare short.bin three.s
 printf '\xa9\x02\x60\xea' >long.bin
@@ -135,7 +154,6 @@ runs 'a listing with fewer bytes' 1 '$0001: 02 -> 01, line 5: lda     #$01\nthe 
 printf '; nothing\n' >nothing.s
 runs 'a listing without bytes' 1 'the image has 3 bytes, the listing 0\n' '' -S 0 --compare three.bin nothing.s
 runs '64 KiB that do not differ' 0 '' '' --compare large.bin large.s
-head -c 65536 /dev/zero >zeros.bin
 runs '64 KiB that differ' 1 '$0000: 00 00 00 00 00 00 00 00 .. -> EA EA EA EA EA EA EA EA .., line 1: nop\n' '' --compare zeros.bin large.s
 "$program" --compare other.bin <three.s >stdout 2>stderr
 ends 'a comparison with standard input' 1 $? ''
@@ -190,6 +208,7 @@ runs 'a name of two lines' 1 '' 'as65: cannot read a\\nb\n' -S 0 $'a\nb'
 cp three.s $'a\nb'
 runs 'a listing with a name of two lines' 1 '' 'as65: a\\nb:6: past the end of the address space\n' -S 0xFFFE $'a\nb'
 runs 'a missing image' 2 '' 'as65: cannot read no.bin\n' --compare no.bin three.s
+runs 'the image comes before the listing' 2 '' 'as65: cannot read no.bin\n' --compare no.bin no.s
 runs 'an image that is a folder' 2 '' 'as65: cannot read folder\n' --compare folder three.s
 runs 'an empty image' 2 '' 'as65: the image is empty\n' --compare empty three.s
 runs 'an image above its limit' 2 '' 'as65: the image is too large\n' --compare lines.s three.s

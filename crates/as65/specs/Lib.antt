@@ -1,5 +1,8 @@
 pub mod Assembled
+pub mod Code
 pub mod Command
+pub mod Comparison
+pub mod Differences
 pub mod Image
 pub mod Origins
 pub mod Request

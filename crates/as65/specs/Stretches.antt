@@ -1,8 +1,6 @@
 -- Where two rows of bytes differ.
-use Rattle.std.specs.Prelude.{◌≡◌, ◌≢◌, ◌==◌, ◌<◌, ◌≤◌, ◌&&◌, ℕ, Bool, true, false, not, nat_lt, List, [], ◌∷◌, length, slice_index_or}
+use Rattle.std.specs.Prelude.{◌≡◌, ◌==◌, ◌<◌, ◌≤◌, ◌&&◌, ℕ, Bool, true, false, not, nat_lt, List, [], ◌∷◌, length, slice_index_or}
 use Rattle.as65.specs.declared.stretches.Stretch.{Stretch}
-use Rattle.as65.specs.declared.status.Ended.{Ended}
-use Rattle.as65.specs.declared.status.Ended.TheVariants.{Done, Differs}
 
 -- whether both have a byte at this offset, and not the same one
 abbrev pub differs : List ℕ → List ℕ → ℕ → Bool
@@ -16,8 +14,3 @@ AreRuns differ from (s ∷ later) =
     (from ≤ s.at) × ((i : ℕ) → from ≤ i → i < s.at → differ i ≡ false)
     × (s.at < s.end) × ((i : ℕ) → s.at ≤ i → i < s.end → differ i ≡ true)
     × (differ s.end ≡ false) × AreRuns differ s.end later
-
--- whether bytes are those of an image
-abbrev pub Compares : List ℕ → List ℕ → Ended → Type 0
-Compares image bytes Done = image ≡ bytes
-Compares image bytes Differs = image ≢ bytes

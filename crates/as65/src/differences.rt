@@ -1,90 +1,212 @@
 //! The lines that say where a listing and an image differ.
 
-ghost use Rattle.std.specs.Prelude.{◌≡◌, ◌⊎◌, IfErr, IfOk, Ok};
-ghost use Rattle.as65.specs.Stretches.{Compares};
+ghost use Rattle.std.specs.Prelude.{◌≡◌, ◌+◌, ◌-◌, ◌++◌, [], IfOk, OnOk, decimal, drop, flat_map, get_or, map, take};
+ghost use Rattle.text65.specs.Digits.{digits4};
+ghost use Rattle.stmt65.specs.LineAddresses.{line_past};
+ghost use Rattle.as65.specs.Differences.{IsDifferences, change_text, compared, dots_above, lengths_line, line_of, origin_text, shown_byte, shown_bytes, shown_line, spaced, stretch_bytes, stretch_line, trimmed};
+ghost use Rattle.as65.specs.Code.Passing.{IsInBoth, IsReady, beside};
 
 use crate::assembled::Assembled;
-use crate::failure::Failure;
 use crate::origins::{Origin, Origins};
-use crate::status::Ended;
 use crate::stretches::{Stretch, stretches};
+use itoa::Buffer;
 use map65::Image;
-use std::alloc::Global;
-use std::io::{Result as IoResult, Write};
+use std::alloc::{AllocError, Global};
 use stmt65::line_addresses;
+use text65::hex_digit;
 
 /// How many bytes of a stretch are shown.
-const SHOWN: usize = 8;
+const SHOWN_BYTES: usize = 8;
 
-/// Puts the first bytes of a stretch, each after a blank.
-fn put_bytes<W: Write>(out: &mut W, bytes: &[u8], stretch: &Stretch) -> IoResult<()> {
-    let len = stretch.end.saturating_sub(stretch.at);
-    for byte in bytes.iter().skip(stretch.at).take(len.min(SHOWN)) {
-        write!(out, " {byte:02X}")?;
-    }
-    if SHOWN < len {
-        write!(out, " ..")?;
+/// How many characters of a line are shown.
+const SHOWN_CHARACTERS: usize = 80;
+
+/// Appends each byte as two hex digits after a blank.
+fn put_spaced(out: &mut Vec<u8>, bytes: &[u8]) -> Result<(), AllocError>
+    ensures { OnOk result (out.new.items ≡ out.old.items ++ flat_map spaced bytes.now) }
+{
+    'bytes: for byte in bytes {
+        let text = [b' ', hex_digit(*byte / 16), hex_digit(*byte % 16)];
+        out.extend_from_slice(&text)?;
     }
     Ok(())
 }
 
-/// Puts the line of a stretch: the address, the bytes of the image and of the listing, and the line of the first.
-fn put_stretch<W: Write>(
-    out: &mut W,
+/// Appends two dots after what is not shown whole.
+fn put_dots(out: &mut Vec<u8>, most: usize, len: usize) -> Result<(), AllocError>
+    ensures { OnOk result (out.new.items ≡ out.old.items ++ dots_above most len) }
+{
+    if most < len {
+        out.extend_from_slice(b" ..")?;
+    }
+    Ok(())
+}
+
+/// The first elements, if there are more than this many.
+fn at_most(bytes: &[u8], most: usize) -> &[u8]
+    ensures { result.now ≡ take most bytes.now }
+{
+    if bytes.len() <= most {
+        return bytes;
+    }
+    &bytes[..most]
+}
+
+/// Appends the first bytes of a stretch, each after a blank.
+fn put_bytes(out: &mut Vec<u8>, bytes: &[u8]) -> Result<(), AllocError>
+    ensures { OnOk result (out.new.items ≡ out.old.items ++ shown_bytes bytes.now) }
+{
+    put_spaced(out, at_most(bytes, SHOWN_BYTES))?;
+    put_dots(out, SHOWN_BYTES, bytes.len())
+}
+
+/// Appends bytes, with `?` for each control byte.
+fn put_characters(out: &mut Vec<u8>, line: &[u8]) -> Result<(), AllocError>
+    ensures { OnOk result (out.new.items ≡ out.old.items ++ map shown_byte line.now) }
+{
+    'characters: for byte in line {
+        out.push(if byte.is_ascii_control() { b'?' } else { *byte })?;
+    }
+    Ok(())
+}
+
+/// The line without the blanks around it.
+fn trimmed(line: &[u8]) -> &[u8]
+    ensures { result.now ≡ trimmed line.now }
+{
+    line.trim_ascii()
+}
+
+/// Appends the beginning of a line.
+#[tactic(auto, unfolding(crate::specs::Differences::shown_line))]
+fn put_line(out: &mut Vec<u8>, line: &[u8]) -> Result<(), AllocError>
+    ensures { OnOk result (out.new.items ≡ out.old.items ++ shown_line line.now) }
+{
+    let line = trimmed(line);
+    put_characters(out, at_most(line, SHOWN_CHARACTERS))?;
+    put_dots(out, SHOWN_CHARACTERS, line.len())
+}
+
+/// Appends four hex digits.
+fn put_address(out: &mut Vec<u8>, address: usize) -> Result<(), AllocError>
+    ensures { OnOk result (out.new.items ≡ out.old.items ++ digits4 address) }
+{
+    let text = [
+        hex_digit((address / 4096 % 16) as u8),
+        hex_digit((address / 256 % 16) as u8),
+        hex_digit((address / 16 % 16) as u8),
+        hex_digit((address % 16) as u8),
+    ];
+    out.extend_from_slice(&text)
+}
+
+fn put_decimal(out: &mut Vec<u8>, number: usize) -> Result<(), AllocError>
+    ensures { OnOk result (out.new.items ≡ out.old.items ++ decimal number) }
+{
+    let mut buffer = Buffer::new();
+    out.extend_from_slice(buffer.format(number).as_bytes())
+}
+
+/// Appends an address, and the bytes that the image and the listing have there.
+#[tactic(auto, unfolding(crate::specs::Differences::change_text))]
+fn put_change(
+    out: &mut Vec<u8>,
+    address: usize,
+    image: &[u8],
+    bytes: &[u8],
+) -> Result<(), AllocError>
+    ensures { OnOk result (out.new.items ≡ out.old.items ++ change_text address image.now bytes.now) }
+{
+    out.extend_from_slice(b"$")?;
+    put_address(out, address)?;
+    out.extend_from_slice(b":")?;
+    put_bytes(out, image)?;
+    out.extend_from_slice(b" ->")?;
+    put_bytes(out, bytes)
+}
+
+/// Appends the number of a line, and its beginning.
+#[tactic(auto, unfolding(crate::specs::Differences::origin_text))]
+fn put_origin(out: &mut Vec<u8>, origin: &Origin<'_>) -> Result<(), AllocError>
+    ensures { OnOk result (out.new.items ≡ out.old.items ++ origin_text origin.now.number origin.now.line.now) }
+{
+    out.extend_from_slice(b", line ")?;
+    put_decimal(out, origin.number)?;
+    out.extend_from_slice(b": ")?;
+    put_line(out, origin.line)?;
+    out.extend_from_slice(b"\n")
+}
+
+/// Appends a line for lengths that differ.
+#[tactic(auto, unfolding(crate::specs::Differences::lengths_line))]
+fn put_lengths(out: &mut Vec<u8>, had: usize, has: usize) -> Result<(), AllocError>
+    ensures { OnOk result (out.new.items ≡ out.old.items ++ lengths_line had has) }
+{
+    if had == has {
+        return Ok(());
+    }
+    out.extend_from_slice(b"the image has ")?;
+    put_decimal(out, had)?;
+    out.extend_from_slice(b" bytes, the listing ")?;
+    put_decimal(out, has)?;
+    out.extend_from_slice(b"\n")
+}
+
+/// Appends the line of a stretch, at whose first byte the lines go on.
+fn put_found(
+    out: &mut Vec<u8>,
     image: &Image,
     bytes: &[u8],
     stretch: &Stretch,
-    origin: Origin<'_>,
-) -> IoResult<()> {
-    let address = usize::from(image.start()).saturating_add(stretch.at);
-    write!(out, "${address:04X}:")?;
-    put_bytes(out, image.bytes(), stretch)?;
-    write!(out, " ->")?;
-    put_bytes(out, bytes, stretch)?;
-    write!(out, ", line {}: ", origin.number)?;
-    out.write_all(origin.line.trim_ascii())?;
-    out.write_all(b"\n")
+    origins: &mut Origins<'_>,
+) -> Result<(), AllocError>
+    requires inside { IsInBoth image.now.bytes bytes.now stretch.now }
+    ensures line { OnOk result (out.new.items ≡ out.old.items ++ stretch_line (image.now.start + stretch.now.at) (stretch_bytes stretch.now image.now.bytes) (stretch_bytes stretch.now bytes.now) (origins.new.passed + 1) (get_or origins.new.lines 0 [])) }
+    ensures passed { origins.new.passed + 1 ≡ origins.old.passed + line_past (image.now.start + stretch.now.at) origins.old.ends }
+    ensures ends { origins.new.ends ≡ drop (origins.new.passed - origins.old.passed) origins.old.ends }
+    ensures lines { origins.new.lines ≡ drop (origins.new.passed - origins.old.passed) origins.old.lines }
+{
+    let old = image.bytes();
+    let address = usize::from(image.start()) + stretch.at;
+    let origin = origins.of_byte(address as u64);
+    let old = &old[stretch.at..stretch.end];
+    put_change(out, address, old, &bytes[stretch.at..stretch.end])?;
+    put_origin(out, &origin)
 }
 
-/// Puts a line for each stretch of bytes that differ, and one for lengths that differ.
-fn put_differences<W: Write>(
-    out: &mut W,
+/// Appends the line of each stretch.
+fn put_all(
+    out: &mut Vec<u8>,
     image: &Image,
     bytes: &[u8],
     found: &[Stretch],
-    mut origins: Origins<'_>,
-) -> IoResult<()> {
-    for stretch in found {
-        let address = u64::from(image.start()).saturating_add(stretch.at as u64);
-        put_stretch(out, image, bytes, stretch, origins.of_byte(address))?;
-    }
-    let had = image.bytes().len();
-    let has = bytes.len();
-    if had != has {
-        writeln!(out, "the image has {had} bytes, the listing {has}")?;
+    origins: &mut Origins<'_>,
+) -> Result<(), AllocError>
+    requires first { origins.old.passed ≡ 0 }
+    requires ready { IsReady (beside image.now bytes.now origins.old) 0 found.now }
+    ensures { OnOk result (out.new.items ≡ out.old.items ++ flat_map (line_of (beside image.now bytes.now origins.old)) found.now) }
+{
+    let mut rest = found;
+    'stretches: while let Some((stretch, later)) = rest.split_first() {
+        put_found(out, image, bytes, stretch, origins)?;
+        rest = later;
     }
     Ok(())
 }
 
-/// Compares an image with the bytes of a listing, and writes where they differ. Both begin at the same address.
-pub fn compare<W: Write>(
+/// The lines that say where an image and a listing differ: one for each stretch of bytes, and one for lengths that differ.
+pub fn differences(
     alloc: Global,
     image: &Image,
     assembled: &Assembled<'_>,
-    out: &mut W,
-) -> Result<Ended, Failure>
-    ensures answer { IfOk result (Compares image.now.bytes assembled.now.bytes) }
-    ensures same { image.now.bytes ≡ assembled.now.bytes → result ≡ Ok Ended.Done }
-    ensures failure { IfErr result (λ e. (e ≡ Failure.Memory) ⊎ (e ≡ Failure.Writing)) }
+) -> Result<Vec<u8>, AllocError>
+    ensures { IfOk result (λ text. IsDifferences (compared image.now assembled.now) text.items) }
 {
-    if image.bytes() == assembled.bytes() {
-        return Ok(Ended::Done);
-    }
     let found = stretches(alloc, image.bytes(), assembled.bytes())?;
     let ends = line_addresses(alloc, assembled.text(), assembled.start())?;
-    let origins = Origins::new(assembled.text(), &ends);
-    match put_differences(out, image, assembled.bytes(), &found, origins) {
-        Ok(()) => Ok(Ended::Differs),
-        Err(_) => Err(Failure::Writing),
-    }
+    let mut origins = Origins::new(assembled.text(), &ends);
+    let mut out = Vec::new(alloc);
+    put_all(&mut out, image, assembled.bytes(), &found, &mut origins)?;
+    put_lengths(&mut out, image.bytes().len(), assembled.bytes().len())?;
+    Ok(out)
 }

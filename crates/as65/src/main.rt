@@ -7,6 +7,7 @@
 
 mod assembled;
 mod command;
+mod comparison;
 mod differences;
 mod failure;
 mod image;
@@ -20,7 +21,7 @@ mod stretches;
 
 use assembled::Assembled;
 use command::{help_text, version_text};
-use differences::compare;
+use comparison::compare;
 use failure::Failure;
 use files65::{Output, Placeholders};
 use image::image;
@@ -30,7 +31,7 @@ use request::{Comparing, Request, Writing, is_comparing, request_of};
 use same_file::keep_input;
 use status::{Ended, status_of};
 use std::env;
-use std::io::{BufWriter, Write};
+use std::io::Write;
 use std::process::ExitCode;
 
 /// The program's words.
@@ -72,15 +73,7 @@ fn compare_with(rt: &HostRuntime, comparing: &Comparing) -> Result<Ended, Failur
     let image = image(rt, comparing.image.as_str(), comparing.start)?;
     let text = listing(rt, comparing.listing.as_str())?;
     let assembled = Assembled::new(rt.alloc(), &text, image.start(), comparing.listing.as_str())?;
-    let mut out = match BufWriter::new(rt.alloc(), rt.stdout()) {
-        Ok(out) => out,
-        Err(error) => return Err(Failure::of_words(&error)),
-    };
-    let ended = compare(rt.alloc(), &image, &assembled, &mut out)?;
-    match out.flush() {
-        Ok(()) => Ok(ended),
-        Err(_) => Err(Failure::Writing),
-    }
+    compare(rt.alloc(), &image, &assembled, &mut Output::standard(rt))
 }
 
 fn program(rt: &HostRuntime, words: &[String]) -> Result<Ended, Failure> {

@@ -1,0 +1,130 @@
+-- The lines are passed over once, as the stretches rise.
+use Rattle.std.proofs.Common.{◌≡◌, ◌∙◌, ◌+◌, ◌-◌, ◌<◌, ◌≤◌, ◌&&◌, ℕ, zero, suc, Bool, true, false, cond, List, [], ◌∷◌, ap, arith, drop, get_or, length, nat_le, nat_lt, not, refl, sym, subst, ap₂, append_assoc, flat_map, ◌++◌}
+use Rattle.std.proofs.lemmas.Bool.Decides.{nat_tests}
+use Rattle.std.proofs.lemmas.List.{drop-drop, get_or-drop}
+use Rattle.std.specs.List.{prefix_len}
+use Rattle.stmt65.specs.LineAddresses.{line_past}
+use Rattle.as65.specs.Code.Passing.{IsInBoth, IsReady, passed_at}
+use Rattle.as65.specs.Differences.{Compared, line_of, stretch_bytes, stretch_line}
+use Rattle.as65.specs.Origins.{OriginsView}
+use Rattle.as65.specs.Stretches.{AreRuns, differs}
+use Rattle.as65.specs.declared.stretches.Stretch.{Stretch}
+
+prefix_left_in : (p : ℕ → Bool) (k x : ℕ) (xs : List ℕ) (b : Bool) → p x ≡ b → (k ≤ prefix_len p xs → prefix_len p xs ≡ k + prefix_len p (drop k xs))
+    → suc k ≤ cond b (1 + prefix_len p xs) 0 → cond b (1 + prefix_len p xs) 0 ≡ suc k + prefix_len p (drop k xs)
+prefix_left_in p k x xs true is rest few = let fewer : k ≤ prefix_len p xs = omega arith in omega (arith, rest fewer)
+prefix_left_in p k x xs false is rest few = absurd (omega arith)
+
+-- the first elements that pass the test, after some of them
+pub prefix_left : (p : ℕ → Bool) (k : ℕ) (xs : List ℕ) → k ≤ prefix_len p xs → prefix_len p xs ≡ k + prefix_len p (drop k xs)
+prefix_left p zero xs few = omega arith
+prefix_left p (suc k) [] few = absurd (omega arith)
+prefix_left p (suc k) (x ∷ xs) few = prefix_left_in p k x xs (p x) refl (prefix_left p k xs) few
+
+prefix_rises_in : (m n x : ℕ) (xs : List ℕ) → m ≤ n → prefix_len (λ a. nat_le a m) xs ≤ prefix_len (λ a. nat_le a n) xs
+    → cond (nat_le x m) (1 + prefix_len (λ a. nat_le a m) xs) 0 ≤ cond (nat_le x n) (1 + prefix_len (λ a. nat_le a n) xs) 0
+prefix_rises_in m n x xs less rest = grind (arith, nat_tests)
+
+-- more addresses come before a greater one
+pub prefix_rises : (m n : ℕ) (xs : List ℕ) → m ≤ n → prefix_len (λ a. nat_le a m) xs ≤ prefix_len (λ a. nat_le a n) xs
+prefix_rises m n [] less = omega arith
+prefix_rises m n (x ∷ xs) less = prefix_rises_in m n x xs less (prefix_rises m n xs less)
+
+-- where rows differ both have a byte
+below_one : (one other : List ℕ) (i : ℕ) → differs one other i ≡ true → i < length one
+below_one one other i is = grind (arith, nat_tests)
+
+below_other : (one other : List ℕ) (i : ℕ) → differs one other i ≡ true → i < length other
+below_other one other i is = grind (arith, nat_tests)
+
+in_both : (one other : List ℕ) (s : Stretch) → s.at < s.end → ((i : ℕ) → s.at ≤ i → i < s.end → differs one other i ≡ true) → IsInBoth one other s
+in_both one other s some all =
+    let last : differs one other (s.end - 1) ≡ true = all (s.end - 1) (omega arith) (omega arith) in
+    record { order = omega arith; in_one = omega (arith, below_one one other (s.end - 1) last); in_other = omega (arith, below_other one other (s.end - 1) last) }
+
+ready_more : (c : Compared) (passed : ℕ) (s : Stretch) (later : List Stretch) → passed ≤ passed_at c s → IsInBoth c.image c.bytes s → IsReady c (passed_at c s) later → IsReady c passed (s ∷ later)
+unfolding IsReady
+ready_more c passed s later few both rest = (few, both, rest)
+
+ready_none : (c : Compared) (passed : ℕ) → IsReady c passed []
+unfolding IsReady
+ready_none c passed = tt
+
+-- all runs, of which the lines before the first offset may have been passed over
+pub runs_are_ready : (c : Compared) (from passed : ℕ) (found : List Stretch) → passed ≤ prefix_len (λ a. nat_le a (c.start + from)) c.ends
+    → AreRuns (differs c.image c.bytes) from found → IsReady c passed found
+unfolding AreRuns
+runs_are_ready c from passed [] few runs = ready_none c passed
+runs_are_ready c from passed (s ∷ later) few (low, before, some, inside, after, rest) =
+    let rises : prefix_len (λ a. nat_le a (c.start + from)) c.ends ≤ passed_at c s = prefix_rises (c.start + from) (c.start + s.at) c.ends (omega arith) in
+    ready_more c passed s later (omega arith) (in_both c.image c.bytes s some inside)
+    (runs_are_ready c s.end (passed_at c s) later (prefix_rises (c.start + s.at) (c.start + s.end) c.ends (omega arith)) rest)
+
+-- the parts of what is ready
+pub ready_first : (c : Compared) (passed : ℕ) (s : Stretch) (later : List Stretch) → IsReady c passed (s ∷ later) → passed ≤ passed_at c s
+unfolding IsReady
+ready_first c passed s later ready = ready.0
+
+pub ready_both : (c : Compared) (passed : ℕ) (s : Stretch) (later : List Stretch) → IsReady c passed (s ∷ later) → IsInBoth c.image c.bytes s
+unfolding IsReady
+ready_both c passed s later ready = ready.1
+
+pub ready_later : (c : Compared) (passed : ℕ) (s : Stretch) (later : List Stretch) → IsReady c passed (s ∷ later) → IsReady c (passed_at c s) later
+unfolding IsReady
+ready_later c passed s later ready = ready.2
+
+-- how the lines go on to an address
+pub record Moves (address : ℕ) (old new : OriginsView) : Type 0 where
+  pub passed : new.passed + 1 ≡ old.passed + line_past address old.ends
+  pub ends : new.ends ≡ drop (new.passed - old.passed) old.ends
+  pub lines : new.lines ≡ drop (new.passed - old.passed) old.lines
+
+-- those of all lines that are left
+pub record AreLeft (c : Compared) (o : OriginsView) : Type 0 where
+  pub ends : o.ends ≡ drop o.passed c.ends
+  pub lines : o.lines ≡ drop o.passed c.lines
+
+-- the lines that end at or before the stretch are passed over
+pub passed_is : (c : Compared) (s : Stretch) (old new : OriginsView) → AreLeft c old → Moves (c.start + s.at) old new → old.passed ≤ passed_at c s → new.passed ≡ passed_at c s
+passed_is c s old new left moves few =
+    let p = λ (a : ℕ). nat_le a (c.start + s.at) in
+    let same : prefix_len p old.ends ≡ prefix_len p (drop old.passed c.ends) = ap (prefix_len p) left.ends in
+    let all : passed_at c s ≡ old.passed + prefix_len p (drop old.passed c.ends) = prefix_left p old.passed c.ends few in
+    omega (arith, same, all, moves.passed)
+
+dropped : {A : Type 0} (m n : ℕ) (xs : List A) → m ≤ n → drop (n - m) (drop m xs) ≡ drop n xs
+dropped m n xs less =
+    let sum : m + (n - m) ≡ n = omega arith in
+    drop-drop (n - m) m xs ∙ ap (λ k. drop k xs) sum
+
+-- and the others are left
+pub left_after : (c : Compared) (s : Stretch) (old new : OriginsView) → AreLeft c old → Moves (c.start + s.at) old new → old.passed ≤ passed_at c s → AreLeft c new
+left_after c s old new left moves few =
+    let is : new.passed ≡ passed_at c s = passed_is c s old new left moves few in
+    record {
+      ends = moves.ends ∙ ap (drop (new.passed - old.passed)) left.ends ∙ dropped old.passed new.passed c.ends (omega arith);
+      lines = moves.lines ∙ ap (drop (new.passed - old.passed)) left.lines ∙ dropped old.passed new.passed c.lines (omega arith);
+    }
+
+-- so the line that is shown is the one that gives the first byte
+pub line_is : (c : Compared) (s : Stretch) (o : OriginsView) → AreLeft c o → o.passed ≡ passed_at c s
+    → stretch_line (c.start + s.at) (stretch_bytes s c.image) (stretch_bytes s c.bytes) (o.passed + 1) (get_or o.lines 0 []) ≡ line_of c s
+line_is c s o left is =
+    let line : get_or o.lines 0 [] ≡ get_or c.lines (passed_at c s + 1 - 1) [] =
+    ap (λ l. get_or l 0 []) left.lines ∙ get_or-drop o.passed c.lines 0 [] ∙ (let same : o.passed + 0 ≡ passed_at c s + 1 - 1 = omega arith in ap (λ n. get_or c.lines n []) same) in
+    let number : o.passed + 1 ≡ passed_at c s + 1 = omega arith in
+    ap₂ (λ n l. stretch_line (c.start + s.at) (stretch_bytes s c.image) (stretch_bytes s c.bytes) n l) number line
+
+-- one line more, of the first stretch
+pub text_more : (f : Stretch → List ℕ) (s : Stretch) (rest later : List Stretch) (out more all line : List ℕ) → rest ≡ s ∷ later → more ≡ out ++ line → line ≡ f s
+    → out ++ flat_map f rest ≡ all → more ++ flat_map f later ≡ all
+text_more f s rest later out more all line is puts here before = rw (puts, append_assoc, here) (rw is at before)
+
+-- all runs are ready before any line was passed over
+pub ready_at_first : (c : Compared) (one other : List ℕ) (found all : List Stretch) → one ≡ c.image → other ≡ c.bytes → found ≡ all
+    → AreRuns (differs one other) 0 found → IsReady c 0 all
+ready_at_first c one other found all image bytes same runs =
+    let P : List Stretch → Type 0 = λ l. IsReady c 0 l in
+    let Q : List ℕ → Type 0 = λ l. AreRuns (differs c.image l) 0 found in
+    let R : List ℕ → Type 0 = λ l. AreRuns (differs l other) 0 found in
+    subst P same (runs_are_ready c 0 0 found (omega arith) (subst Q bytes (subst R image runs)))

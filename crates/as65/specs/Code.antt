@@ -1,0 +1,2 @@
+-- What ties the code to the rules: in which order its lines are passed over.
+pub mod Passing

@@ -1,0 +1,26 @@
+-- The lines are passed over once, as the stretches rise.
+use Rattle.std.specs.Prelude.{ℕ, ◌+◌, ◌≤◌, List, [], ◌∷◌, length, nat_le}
+use Rattle.std.specs.List.{prefix_len}
+use Rattle.map65.specs.ImageView.{ImageView}
+use Rattle.as65.specs.Differences.{Compared}
+use Rattle.as65.specs.Origins.{OriginsView}
+use Rattle.as65.specs.declared.stretches.Stretch.{Stretch}
+
+-- an image beside bytes, and the lines that gave them
+abbrev pub beside : ImageView → List ℕ → OriginsView → Compared
+beside image bytes o = record { start = image.start; image = image.bytes; bytes = bytes; lines = o.lines; ends = o.ends }
+
+-- both rows have the bytes of the stretch
+pub record IsInBoth (one other : List ℕ) (s : Stretch) : Type 0 where
+  pub order : s.at ≤ s.end
+  pub in_one : s.end ≤ length one
+  pub in_other : s.end ≤ length other
+
+-- how many lines end at or before the first byte of a stretch
+abbrev pub passed_at : Compared → Stretch → ℕ
+passed_at c s = prefix_len (λ a. nat_le a (c.start + s.at)) c.ends
+
+-- so many lines may be passed over before the first stretch, and before each of the others those of the one before it
+unfoldable pub IsReady : Compared → ℕ → List Stretch → Type 0
+IsReady c passed [] = Unit {0}
+IsReady c passed (s ∷ later) = (passed ≤ passed_at c s) × IsInBoth c.image c.bytes s × IsReady c (passed_at c s) later

@@ -1,0 +1,33 @@
+//! A comparison of an image with a listing.
+
+ghost use Rattle.std.specs.Prelude.{◌≡◌, Ok};
+ghost use Rattle.as65.specs.Comparison.{Compares, CountsWrites};
+ghost use Rattle.as65.specs.Differences.{compared};
+
+use crate::assembled::Assembled;
+use crate::differences::differences;
+use crate::failure::Failure;
+use crate::status::Ended;
+use map65::{Image, Sink, write_whole};
+use std::alloc::Global;
+
+/// Compares an image with the bytes of a listing, and writes where they differ. Both begin at the same address.
+pub fn compare<W: Sink>(
+    alloc: Global,
+    image: &Image,
+    assembled: &Assembled<'_>,
+    out: &mut W,
+) -> Result<Ended, Failure>
+    ensures answer { Compares (compared image.now assembled.now) (W.taken out.old) (W.taken out.new) result }
+    ensures count { CountsWrites (W.faults out.old) (W.faults out.new) result }
+    ensures same { image.now.bytes ≡ assembled.now.bytes → result ≡ Ok Ended.Done }
+{
+    if image.bytes() == assembled.bytes() {
+        return Ok(Ended::Done);
+    }
+    let text = differences(alloc, image, assembled)?;
+    match write_whole(out, text.as_slice()) {
+        Ok(()) => Ok(Ended::Differs),
+        Err(_) => Err(Failure::Writing),
+    }
+}
