@@ -166,16 +166,6 @@ fn prefixes_of_a_group(rt: HostRuntime) {
     }
 }
 
-#[test]
-fn the_largest_file(rt: HostRuntime) {
-    let mut text = vec![in rt.alloc(); b'#'; 1_048_576].expect(&rt, "vec");
-    let found = said(&rt, rt.alloc(), CommandLine::Nothing, &text);
-    assert_equal(&rt, &found.as_str(), &"");
-    text.push(b'@').expect(&rt, "push");
-    let found = said(&rt, rt.alloc(), CommandLine::Nothing, &text);
-    assert_equal(&rt, &found.as_str(), &" 1: too large");
-}
-
 const KINDS: &[(InfoFaultKind, &str)] = &[
     (InfoFaultKind::BadByte, "bad byte"),
     (InfoFaultKind::OpenString, "string not closed"),

@@ -4,7 +4,7 @@ use info65::{InfoFault, InfoFaultKind, Lexer, TokenKind};
 
 #[test]
 fn a_fault_stays(rt: HostRuntime) {
-    let mut lexer = Lexer::new(b"GLOBAL @ {");
+    let mut lexer = Lexer::new(b"GLOBAL @");
     let first = lexer.next_token().expect(&rt, "a token");
     let word = first.expect(&rt, "a word");
     assert_equal(&rt, &word.kind, &TokenKind::Word);
