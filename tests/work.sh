@@ -1,6 +1,6 @@
 #!/usr/bin/env bash
-# How much the program does: the files that it opens, its reads, its writes and its memory, which tests/shim.c counts, and how its
-# time grows, and that of the as65 beside it. And each of its allocations refused in turn.
+# How much the program does, and the as65 beside it: the files that they open, their reads, their writes and their memory, which
+# tests/shim.c counts, and how their time grows. And each allocation refused in turn, of the program and of the test of options_of.
 # Without cc, which makes the shim, it fails, unless CC=skip is set: then only the growth of time is tested.
 # Usage: tests/work.sh PROGRAM
 set -u
@@ -56,6 +56,26 @@ refuses_in_turn() {
     done
 }
 
+# refuses_options: each allocation refused in turn in a test of `conformance` that makes words and calls options_of. There are at
+# least 40 of that call. `rt test` makes the program of these tests.
+refuses_options() {
+    local name='options_of by itself' test=tests::command_lines::options_in_little_memory at said refused=0
+    local program=$root/crates/conformance/out/conformance_tests
+    [ -x "$program" ] || { fails "$name" "$program is not there"; return; }
+    counted "$test"
+    [ "$(head -n 1 stdout)" = options ] || fails "$name" "$(cat stdout stderr)"
+    for ((at = 1; at <= allocations; at++)); do
+        SHIM_REFUSE=$at LD_PRELOAD=$work/shim.so "$program" "$test" >stdout 2>stderr </dev/null
+        read -r said <stdout
+        case $said in
+        'no memory for words') ;;
+        'no memory for options') refused=$((refused + 1)) ;;
+        *) fails "$name" "allocation $at: $(cat stdout stderr)" ;;
+        esac
+    done
+    [ 40 -le "$refused" ] || fails "$name" "$refused allocations and not at least 40"
+}
+
 # refuses_files NAME WORD..: each file but those for standard streams refused in turn, since the system is out of memory: the program
 # says so.
 refuses_files() {
@@ -81,6 +101,12 @@ printf 'third = $30\n' >more.inc
 : >empty.bin
 printf 'GLOBAL { STARTADDR $1000; };\nRANGE { START $1001; END $1001; TYPE Skip; };' >skip.info
 printf '@' >bad.info
+# What is large: a name, an information file, an include file; and a listing of 20,000 labels, each with an address of another.
+long=.$(printf '%0.s/' {1..4000})three.bin
+{ head -c 300000 /dev/zero | tr '\0' '#'; printf '\nASMINC{FILE "wide.inc";}GLOBAL{STARTADDR 0;}'; } >wide.info
+{ printf 'n = 1\n'; head -c 300000 /dev/zero | tr '\0' ';'; } >wide.inc
+awk 'BEGIN { for (n = 0; n < 20000; n++) printf "n%d: .addr n%d\n", n, n * 7919 % 20000 }' >labels.s
+head -c 40000 /dev/zero >zeros.bin
 
 if [ "$compiler" = skip ]; then
     echo 'work: calls, memory and refused allocations are left out, since CC=skip is set'
@@ -92,21 +118,27 @@ else
 
     # /dev/null is opened three times, for standard streams that are closed. 4 KiB a read and one read at the end, 8 KiB a write. The
     # map of an image has two bytes for each address, and so have the tables of an information file, which are given back before. Only
-    # names need the tables that find them.
+    # names need the tables that find them. What has been read is given back before the run, and copied no more often than it must be.
     counts 'three bytes' 0 4 2 1 133000 284000 three.bin
     counts 'three bytes in a file' 0 5 2 1 133000 286000 -o out.s three.bin
     counts '64 KiB' 0 4 17 97 202000 411000 large.bin
     given=large.bin counts '64 KiB of standard input' 0 3 17 97 202000 411000 /dev/stdin
-    given=all.info counts 'an information file of standard input' 0 7 9 1 1192000 4486000 -i /dev/stdin
+    given=all.info counts 'an information file of standard input' 0 7 9 1 930000 4486000 -i /dev/stdin
     counts 'help' 0 3 0 1 18000 21500 -h
     counts 'the version' 0 3 0 1 18000 21500 -V
-    counts 'an information file and include files' 0 8 9 1 1192000 4486000 -i all.info
+    counts 'an information file and include files' 0 8 9 1 930000 4486000 -i all.info
+    counts 'large files and a long name' 0 7 152 1 1388000 3250000 -i wide.info -o out.s "$long"
     counts 'a warning' 0 5 4 2 133000 286500 -i skip.info three.bin
     counts 'no input name' 1 3 0 1 133000 152500
     counts 'an empty input' 1 4 1 1 133000 153000 empty.bin
     counts 'a refused information file' 1 4 2 1 133000 155000 -i bad.info three.bin
     counts 'an input that is not there' 1 4 0 1 133000 153000 no.bin
 
+    # as65 holds a listing, its names, its bytes, and the image beside it.
+    program=$assembler counts 'labels that are assembled' 0 5 99 1 5090000 15150000 -S 0 -o out.bin labels.s
+    program=$assembler counts 'labels that differ' 1 5 110 4 5160000 22800000 -S 0 --compare zeros.bin labels.s
+
+    refuses_options
     refuses_in_turn 'the command line' 40 --cpu 65c02 -S 0x1000 --comments 4 --text-column 60 three.bin
     refuses_in_turn 'an information file and include files' 60 -i all.info
     refuses_files 'an information file, include files and an output' -i all.info -o out.s
@@ -119,11 +151,12 @@ groups() {
     awk -v kind="$1" -v count="$2" 'BEGIN {
         for (k = 0; k < count; k++) {
             a = kind == "descending" ? count - 1 - k : k
+            size = kind == "ends" ? count - k : 1
             if (kind == "ranges") printf "RANGE{START $%04X;SIZE 1;TYPE CODE;}\n", a
             else if (kind == "segments") printf "SEGMENT{START $%04X;END $%04X;NAME \"s%04x\";}\n", a, a, a
             else if (kind == "lines") printf "n%04x = $%04X\n", a, a
             else if (kind == "definitions") printf "n%04x := $%04X\n", a, a
-            else printf "LABEL{ADDR $%04X;NAME \"n%04x\";}\n", a, a
+            else printf "LABEL{ADDR $%04X;NAME \"n%04x\";SIZE %d;}\n", a, a, size
         }
     }'
 }
@@ -187,7 +220,7 @@ assembles() {
     grows "$1" "$3" "$assembler" -S 0 -o out.bin @.s
 }
 
-lists 'labels, ascending' ascending 12000
+lists 'labels that end at one address' ends 12000
 lists 'labels, descending' descending 12000
 lists 'ranges' ranges 12000
 lists 'segments' segments 11000
