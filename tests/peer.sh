@@ -19,6 +19,7 @@ printf '\xa5\x10\xe8\xd0\xfb\x85\x11\xea' >image.bin
 printf '\x4c\x04\x10\x60\x60' >jumps.bin
 printf '\xa5\x10\x6c\x10\x00' >indirect.bin
 printf '\xdb\xcb' >stop.bin
+printf '\xff\xff\x60' >ffff.bin
 { printf '# %01048600d\n' 0; echo 'LABEL { ADDR $1000; NAME "start"; };'; } >above_1_mib.info
 
 # lists PROGRAM FILE LISTING: the program on the information file. A file that names no input gets image.bin at $1000.
