@@ -7,7 +7,7 @@
 #
 # and in its tables a command `bin/da65 ..` or `bin/as65 ..` is run, and where a row has an information file or a command, and beside it
 # the message `da65: ..` or the word nothing, that is what the program says. The assembler is the as65 beside the program. The example of as65's man page is
-# run, and that of da65's at five addresses, and for 64 KiB.
+# run, and that of da65's at five addresses, and for 64 KiB. So are the rows of docs/INFORMATION_FILE.md that have a message.
 # Without ca65 and ld65 the script fails, unless CA65=skip is set: then each section ends at the first block that needs them.
 # Usage: tests/guide.sh PROGRAM
 set -u
@@ -135,7 +135,9 @@ tables() {
     head -c 65536 /dev/zero >zeros.bin
     printf '\xef\xbb\xbfGLOBAL { };' >bom.info
     while IFS= read -r row; do
-        if [[ $row =~ ^\|\ \`([^\`]+)\`\ \|\ (\`(da65:\ [^\`]+)\`|nothing) ]]; then
+        row=${row//'` and in line 2 `'/$'\n'}
+        row=${row/'` and a line feed |'/$'\n` |'}
+        if [[ $row =~ ^\|\ \`([^\`]+)\`\ \|\ (\`(da65:\ [^\`]+)\`|nothing\ \|) ]]; then
             text=${BASH_REMATCH[1]//\\|/|}
             message=${BASH_REMATCH[3]}
             if [[ $text == bin/da65* ]]; then
@@ -171,6 +173,8 @@ for page in README.md docs/GUIDE.md docs/RECIPES.md; do
     blocks
     tables
 done
+opens docs/INFORMATION_FILE.md
+tables
 opens docs/as65.1
 head -c 4096 "$program" >rom.bin
 runs "$(example docs/as65.1)"
