@@ -1,5 +1,6 @@
 -- The definitions of maps and images, held against worked examples.
-use Rattle.std.proofs.Common.{refl}
+use Rattle.std.proofs.Common.{◌≡◌, ◌≤◌, ℕ, List, [], ◌∷◌, ◌++◌, length, length-append, drop, Option, None, Some, refl, ap, arith}
+use Rattle.std.proofs.lemmas.Bool.{false≢true}
 use Rattle.info65.specs.Names.{covering, covering_below, default_name}
 use Rattle.map65.specs.Cells.{code_of}
 use Rattle.map65.specs.Image.{image_by, image_of}
@@ -11,6 +12,19 @@ use Rattle.map65.specs.Roles.{role_at, role_in}
 use Rattle.map65.specs.Segments.{is_border}
 use Rattle.map65.specs.Spans.{addresses, left_at}
 use Rattle.map65.specs.Targets.{operand_target, target_at, target_for, target_of}
+
+abbrev get_or_empty : Option (List ℕ) → List ℕ
+get_or_empty None = []
+get_or_empty (Some xs) = xs
+
+abbrev one : List ℕ
+one = 1 ∷ []
+
+early : Some one ≡ Some (drop 9 one) → ⊥
+early p = let is : length one ≡ 0 = ap (λ o. length (get_or_empty o)) p in omega (arith, is)
+
+more : (bytes : List ℕ) → length bytes ≤ 0 → one ≡ bytes ++ [] → ⊥
+more bytes low is = omega (arith, low, ap length is, length-append bytes [])
 
 pub worked_maps : WorkedMaps
 unfolding addresses are_joined base_at code_of covering covering_below default_name entry_base entry_start full_len_at image_by image_of is_border is_in_run is_joined is_own is_referenced item_len kind_at last_item left_at operand_target place_of refers role_at role_in size_at target_at target_for target_of text_at
@@ -33,4 +47,10 @@ worked_maps = record {
   short = refl;
   empty = refl;
   read = refl;
+  no_read_after_a_failure = λ p. false≢true p;
+  no_taking_after_a_failure = λ p. false≢true p;
+  no_second_failure = λ p. omega (arith, p);
+  no_made_up_failure = λ p. omega (arith, p);
+  no_early_end = λ p. early p;
+  no_byte_more = λ p. more p.bytes p.bound p.taken;
 }

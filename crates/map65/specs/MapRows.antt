@@ -1,4 +1,4 @@
--- Worked examples: roles, targets, names and images of a few bytes.
+-- Worked examples: roles, targets, names and images of a few bytes, and what no reading may come to.
 use Rattle.std.specs.Prelude.{◌≡◌, ℕ, true, false, List, [], ◌∷◌, map, codes, Option, None, Some, Result, Ok, Err}
 use Rattle.isa65.specs.declared.cpu.Cpu.{Cpu}
 use Rattle.isa65.specs.declared.cpu.Cpu.TheVariants.{M6502, M65C02}
@@ -7,13 +7,16 @@ use Rattle.info65.specs.declared.information.range.RangeSpec.{RangeSpec}
 use Rattle.info65.specs.declared.information.range.RangeType.TheVariants as role
 use Rattle.map65.specs.declared.image.ImageFault.{ImageFault}
 use Rattle.map65.specs.declared.image.ImageFault.TheVariants.{Empty, TooLarge, Short, Read}
+use Rattle.map65.specs.declared.devices.taking.TakeFault.TheVariants as Taken
 use Rattle.map65.specs.declared.name.NameKind.{NameKind}
 use Rattle.map65.specs.declared.name.Place.TheVariants as place
 use Rattle.map65.specs.Cells.{code_of}
-use Rattle.map65.specs.Image.{image_of}
+use Rattle.map65.specs.Device.{TakesUpTo}
+use Rattle.map65.specs.Image.{ReadCount, StopsAt, image_of}
 use Rattle.map65.specs.ImageView.{ImageView}
 use Rattle.map65.specs.MapView.{MapView}
 use Rattle.map65.specs.Names.{kind_at, text_at}
+use Rattle.map65.specs.Taking.{TakeCount, TakesNoMore}
 use Rattle.map65.specs.Targets.{target_at}
 
 -- ---- how an example is written
@@ -90,3 +93,10 @@ pub record WorkedMaps : Type 0 where
   pub empty : image_with None None 4 (1 ∷ 2 ∷ 3 ∷ 4 ∷ []) ≡ Err Empty
   -- a failed read comes before what the bytes are
   pub read : image_of default_settings [] true ≡ Err Read
+  -- what no reading may come to: a read after one that failed, two failures, a failure without a read that failed, an early end, a byte more
+  pub no_read_after_a_failure : StopsAt {T = ImageView} (Err Read) 9 (Some []) (Some []) false → ⊥
+  pub no_taking_after_a_failure : TakesNoMore {T = ℕ} (Err Taken.Read) false → ⊥
+  pub no_second_failure : ReadCount {T = ImageView} (Err Read) 0 2 → ⊥
+  pub no_made_up_failure : TakeCount {T = ℕ} (Err Taken.Read) 0 0 → ⊥
+  pub no_early_end : StopsAt {T = ImageView} (Err Short) 9 (Some (1 ∷ [])) (Some (1 ∷ [])) false → ⊥
+  pub no_byte_more : TakesUpTo 0 (Some (1 ∷ [])) (Some []) → ⊥

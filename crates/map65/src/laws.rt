@@ -64,7 +64,7 @@ pub fn base_law()
     ensures { (m : MapView) → AreNames m.info.names → BaseLaw m }
 {}
 
-/// The worked examples have these targets, names and images, and the types these codes.
+/// The worked examples have these targets, names and images, and the types these codes; and no reading comes to what it may not.
 pub fn worked_maps()
     ensures { WorkedMaps }
 {}
