@@ -1,6 +1,6 @@
 //! The contents of files.
 
-ghost use Rattle.std.specs.Prelude.{◌≡◌, take, IfErr, IfNone, IfOk, IfSome, IsErr, Ok};
+ghost use Rattle.std.specs.Prelude.{◌≡◌, take, IfErr, IfNone, IfOk, IfSome, IsErr, MatchOption, Ok};
 ghost use Rattle.map65.specs.Device.{one_more};
 ghost use Rattle.files65.specs.Faults.{IsUnread};
 
@@ -17,7 +17,7 @@ pub fn read_from<R: Source>(
     limit: usize,
 ) -> Result<Option<Vec<u8>>, AllocError>
     ensures bytes { IfOk result (λ found. IfSome found (λ bytes. IfSome (R.left input.old) (λ xs. bytes.items ≡ take limit xs))) }
-    ensures none { IfOk result (λ found. IfNone found (R.faults input.new ≡ one_more (R.faults input.old))) }
+    ensures count { IfOk result (λ found. MatchOption found (R.faults input.new ≡ one_more (R.faults input.old)) (λ _. R.faults input.new ≡ R.faults input.old)) }
 {
     match take_up_to(alloc, input, limit) {
         Ok(bytes) => Ok(Some(bytes)),
