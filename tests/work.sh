@@ -210,7 +210,7 @@ lists() {
 # that address. Of these a look-up of an address without a name passes over all at once.
 jumps() {
     printf '%b' "$(awk -v count="$1" 'BEGIN { for (a = 32768; a < 32768 + count; a++) printf "\\x4c\\x%02x\\x%02x", a % 256, a / 256 }')" >"$1.bin"
-    groups ascending "$1" >"$1.info"
+    groups ends "$1" >"$1.info"
 }
 
 # assembles NAME KIND COUNT: so do lines that as65 assembles.
