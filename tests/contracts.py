@@ -371,6 +371,8 @@ class Definitions:
                 self.imports += imports(bare[4:]) or self.refuse(number, f"an import {bare}")
                 continue
             head = HEAD.match(bare)
+            if bare.startswith("pub use ") or "Rattle." in bare:
+                self.refuse(number, "names of other files outside `use` lines")
             if head:
                 name = head[1] or head[2] or head[3] or f"module {number}"
                 self.names[name] = name
@@ -504,6 +506,8 @@ def entry(here, head, lines, ghosts=()):
     """An item of the snapshot: its name, its lines, and what these cite."""
     named = types_in(here) | {name: resolved(target) for name, target in [*here.ghosts, *ghosts]}
     clauses = [line for line in lines if re.match(r"requires|ensures|decreases|ghost", line)]
+    if any(re.search(r"\bRattle\b|\bcrate\b", line) for line in clauses):
+        here.refuse(f"{head} names other files outside `ghost use`", 1)
     cited = sorted({(definition(one).name, checksum(one)) for line in clauses for one in cited_in(line, named) if not isinstance(one, str)})
     outside = sorted({one for line in clauses for one in cited_in(line, named) if isinstance(one, str) and not one.startswith(PRELUDE)})
     return head, [*lines, *(f"cites {name} {sum_}" for name, sum_ in cited), *(f"cites {name}" for name in outside)]
@@ -518,7 +522,7 @@ def visible(text):
     return text[0] + " " + ", ".join(shown + [".."] * (len(shown) < len(fields))) + " " + text[-1]
 
 
-def block_entries(here, item, types):
+def block_entries(here, item, is_public_type):
     """The entries of a trait, of an `impl` of a trait, or of the methods of a type; none for a trait that is not public."""
     of_trait = re.match(r"impl(?:<(?:[^<>]|<[^<>]*>)*>)? (.*) for ", item.text)
     laws = set()
@@ -526,7 +530,7 @@ def block_entries(here, item, types):
         found = types_in(here).get(re.match(r"\w+", of_trait[1])[0])
         if found:
             declared = next(one for one in source(*found[1:3]).items if one.name == found[3] and one.kind == "trait")
-            if found[1] == here.crate and not types[declared.name]:
+            if not is_public_type(here, declared.name):
                 return
             laws = {one.name for one in declared.members if re.match(r"ghost \w+: \{ \(", one.text)}
     ghosts = [one.text for one in item.members if one.kind == "ghost" and one.name not in laws]
@@ -576,16 +580,22 @@ def entries(crate):
             return item.is_public
         return own.get(item.name) == here.path
 
-    types = {item.name: is_public(here, item) for here in sources(crate) for item in here.items if item.kind in TYPES}
+    def is_public_type(here, name):
+        found = types_in(here).get(name)
+        if not found or found[1] != crate:
+            return True
+        there = source(crate, found[2])
+        return any(is_public(there, one) for one in there.items if one.kind in TYPES and one.name == found[3])
+
     for other in others:
         yield f"use {other}", []
     for here in sources(crate):
         for item in here.items:
             if item.kind == "impl":
-                if types.get(item.name, True) or any(f"{item.name}::{one.name}" in promised for one in item.members):
-                    yield from block_entries(here, item, types)
+                if is_public_type(here, item.name) or any(f"{item.name}::{one.name}" in promised for one in item.members):
+                    yield from block_entries(here, item, is_public_type)
             elif is_public(here, item):
-                yield from block_entries(here, item, types) if item.kind == "trait" else [plain_entry(here, item)]
+                yield from block_entries(here, item, is_public_type) if item.kind == "trait" else [plain_entry(here, item)]
 
 
 def plain_entry(here, item):
