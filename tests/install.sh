@@ -33,7 +33,7 @@ installed() {
 
 # options NAME: those of the help text, one a line.
 options() {
-    "bin/$1" -h | grep '^  -' | sed 's/  *[^ ]*$//' | grep -oE '(^|[ ,])--?[a-zA-Z][a-z-]*' | tr -d ' ,'
+    "bin/$1" -h | grep -oE '^  -[^ ]+( --[^ ]+)?' | grep -oE -- '-[^ ,]+'
 }
 
 # bash_completes FILE NAME WORD..: what bash offers for the last of these words after the name, one a line.
