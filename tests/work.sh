@@ -127,7 +127,7 @@ else
     counts 'help' 0 3 0 1 18000 21500 -h
     counts 'the version' 0 3 0 1 18000 21500 -V
     counts 'an information file and include files' 0 8 9 1 930000 4486000 -i all.info
-    counts 'large files and a long name' 0 7 152 1 1388000 3250000 -i wide.info -o out.s "$long"
+    counts 'large files and a long name' 0 7 152 1 1388000 3248500 -i wide.info -o out.s "$long"
     counts 'a warning' 0 5 4 2 133000 286500 -i skip.info three.bin
     counts 'no input name' 1 3 0 1 133000 152500
     counts 'an empty input' 1 4 1 1 133000 153000 empty.bin
