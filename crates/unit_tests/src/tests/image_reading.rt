@@ -4,7 +4,7 @@ ghost use Rattle.std.specs.Prelude.{Some};
 use crate::tests::asserts::{assert_equal, assert_equal_at, assert_that};
 use crate::tests::inputs::info_of;
 use info65::Info;
-use map65::{DeviceFault, ImageFault, Sink, Told, read_image};
+use map65::{DeviceFault, ImageFault, Sink, TakeFault, Told, read_image};
 use std::alloc::Global;
 use std::io;
 use std::io::{ErrorKind, Read, Write};
@@ -174,9 +174,18 @@ const TEXTS: &[(ImageFault, &str)] = &[
     (ImageFault::Memory, "out of memory"),
 ];
 
+const TAKING_TEXTS: &[(TakeFault, &str)] = &[
+    (TakeFault::Read, "a read failed"),
+    (TakeFault::Memory, "out of memory"),
+];
+
 #[test]
 fn texts_of_faults(rt: HostRuntime) {
     for (fault, text) in TEXTS {
+        let shown = format!(in rt.alloc(); "{fault}").expect(&rt, "format");
+        assert_equal(&rt, &shown.as_str(), text);
+    }
+    for (fault, text) in TAKING_TEXTS {
         let shown = format!(in rt.alloc(); "{fault}").expect(&rt, "format");
         assert_equal(&rt, &shown.as_str(), text);
     }
