@@ -27,6 +27,7 @@ refuses() {
 
 help="as65 reads ca65's language as far as listings need it; for everything else there is ca65.\n"
 help+='Usage: as65 [options] [listing]\n'
+help+='  -i, --info name          information file of da65, for the start and the part\n'
 help+='  -S, --start-addr addr    start address\n'
 help+='  -o name                  output file\n'
 help+='  --compare image          print where the bytes differ from an image\n'
@@ -117,7 +118,7 @@ printf '\x4c\xfd\xff' >here.bin
 runs 'the start is that of the image' 0 '' '' --compare here.bin here.s
 runs 'another start' 1 '$1001: FD FF -> 00 10, line 1: here: jmp here\n' '' -S 0x1000 --compare here.bin here.s
 printf '\xa9\x02\x60' >other.bin
-runs 'one byte differs' 1 '$FFFE: 02 -> 01, line 5: lda     #$01\n' '' --compare other.bin three.s
+runs 'one byte differs' 1 '$FFFE: 02 -> 01, line 5: lda     #$01\n' 'as65: other.bin is taken to begin at $FFFD\n' --compare other.bin three.s
 runs 'one byte differs, at a start' 1 '$1001: 02 -> 01, line 5: lda     #$01\n' '' -S 4096 --compare other.bin three.s
 printf 'first: nop ; one\n\n nop\n.byte 1,2,3,4,5,6,7,8,9,10\n nop\n' >stretches.s
 printf '\x00\xea\x00\x00\x00\x00\x00\x00\x00\x00\x00\x0a\x00' >stretches.bin
@@ -143,7 +144,7 @@ for len in 80 81 5000; do
         -S 0x1000 --compare three.bin wide.s
 done
 yes ' .byte 0,1' | head -n 32768 >every.s
-"$program" --compare zeros.bin every.s >stdout 2>stderr
+"$program" -S 0 --compare zeros.bin every.s >stdout 2>stderr
 ends 'every second byte' 1 $? ''
 [ "$(wc -l <stdout)" = 32768 ] || fails 'every second byte' "$(wc -l <stdout) lines and not 32768"
 [ "$(tail -n 1 stdout)" = '$FFFF: 00 -> 01, line 32768: .byte 0,1' ] || fails 'every second byte' "$(tail -n 1 stdout)"
@@ -154,16 +155,45 @@ runs 'a listing with fewer bytes' 1 '$0001: 02 -> 01, line 5: lda     #$01\nthe 
 printf '; nothing\n' >nothing.s
 runs 'a listing without bytes' 1 'the image has 3 bytes, the listing 0\n' '' -S 0 --compare three.bin nothing.s
 runs '64 KiB that do not differ' 0 '' '' --compare large.bin large.s
-runs '64 KiB that differ' 1 '$0000: 00 00 00 00 00 00 00 00 .. -> EA EA EA EA EA EA EA EA .., line 1: nop\n' '' --compare zeros.bin large.s
+runs '64 KiB that differ' 1 '$0000: 00 00 00 00 00 00 00 00 .. -> EA EA EA EA EA EA EA EA .., line 1: nop\n' 'as65: zeros.bin is taken to begin at $0000\n' --compare zeros.bin large.s
 "$program" --compare other.bin <three.s >stdout 2>stderr
-ends 'a comparison with standard input' 1 $? ''
+ends 'a comparison with standard input' 1 $? 'as65: other.bin is taken to begin at $FFFD\n'
 holds 'a comparison with standard input' stdout '$FFFE: 02 -> 01, line 5: lda     #$01\n'
 for image in /dev/stdin -; do
     "$program" --compare "$image" three.s <other.bin >stdout 2>stderr
-    ends "an image on standard input, $image" 1 $? ''
+    ends "an image on standard input, $image" 1 $? 'as65: /dev/stdin is taken to begin at $FFFD\n'
     holds "an image on standard input, $image" stdout '$FFFE: 02 -> 01, line 5: lda     #$01\n'
 done
 runs 'a fault before a comparison' 2 '' "as65: three.s:6: past the end of the address space\n" -S 0xFFFE --compare short.bin three.s
+
+# ---- where the image is
+
+printf 'GLOBAL { STARTADDR $1000; };' >start.info
+printf 'GLOBAL { INPUTSIZE 3; };' >size.info
+printf 'GLOBAL { INPUTOFFS 2; };' >header.info
+printf 'GLOBAL { INPUTOFFS 2; INPUTSIZE 3; STARTADDR $1000; };' >part.info
+printf 'GLOBAL { INPUTSIZE 9; };' >nine.info
+printf 'GLOBAL { STARTADDR F000; };' >bad.info
+printf '\x01\x10\xa9\x02\x60' >header.prg
+printf '\x01\x10\xa9\x02\x60\x00\x00' >part.prg
+runs 'the start of an information file' 0 '\x4c\x00\x10' '' -i start.info here.s
+runs 'the start of an information file by its long name' 0 '\x4c\x00\x10' '' --info=start.info here.s
+runs 'the start of the command line wins' 0 '\x4c\x00\x20' '' -S 0x2000 -i start.info here.s
+runs 'the size of an information file' 0 '\x4c\xfd\xff' '' -i size.info here.s
+runs 'an information file without a start' 1 '' "$no_start" -i header.info here.s
+runs 'a refused information file' 1 '' 'as65: info:1: something else expected\n' -i bad.info no.s
+runs 'a refused information file beside an image' 2 '' 'as65: info:1: something else expected\n' -i bad.info --compare no.bin no.s
+runs 'a missing information file' 1 '' 'as65: cannot read no.info\n' -i no.info here.s
+runs 'a file with a header' 1 '$FFFE: 02 -> 01, line 5: lda     #$01\n' 'as65: header.prg is taken to begin at $FFFD\n' \
+    -i header.info --compare header.prg three.s
+runs 'a part of a file' 1 '$1001: 02 -> 01, line 5: lda     #$01\n' '' -i part.info --compare part.prg three.s
+runs 'a part of a file, at another start' 1 '$2001: 02 -> 01, line 5: lda     #$01\n' '' -i part.info -S 0x2000 --compare part.prg three.s
+runs 'a file that is shorter than its part' 2 '' 'as65: the image is too short\n' -i nine.info --compare part.prg three.s
+runs 'an output that is the information file' 1 '' 'as65: the output is an input: start.info\n' -i start.info -o start.info here.s
+runs 'an output that is the information file by another name' 1 '' 'as65: the output is an input: ./start.info\n' -i start.info -o ./start.info here.s
+runs 'an information file and a listing on standard input' 1 '' 'as65: standard input can be only one of the inputs\n' -i /dev/stdin -
+runs 'an information file and an image on standard input' 2 '' 'as65: standard input can be only one of the inputs\n' \
+    -i /dev/stdin --compare - three.s
 
 # ---- the words
 
@@ -187,7 +217,7 @@ runs 'trouble beside an image' 2 '' 'as65: bad number\n' -S x --compare three.bi
 runs 'trouble beside an image in one word' 2 '' 'as65: bad arguments\n' --compare=three.bin --no three.s
 runs 'trouble with a listing called --compare' 1 '' 'as65: cannot read --compare\n' -S 0 -- --compare
 for words in '/dev/stdin' '- -' '/dev/stdin /dev/stdin' '-- -'; do
-    runs "standard input as image and listing, $words" 2 '' 'as65: the image and the listing are both standard input\n' --compare=${words/#-- /- }
+    runs "standard input as image and listing, $words" 2 '' 'as65: standard input can be only one of the inputs\n' --compare=${words/#-- /- }
 done
 runs 'an argument that is no text' 1 '' 'as65: bad arguments\n' "$(printf 'a\xff')"
 runs 'a bad number' 1 '' 'as65: bad number\n' -S 1000h three.s
@@ -297,7 +327,7 @@ if [ -e /dev/full ]; then
     "$program" -S 0 -o /dev/full three.s 2>stderr
     ends 'a full output file' 1 $? 'as65: cannot write the output\n'
     "$program" --compare other.bin three.s >/dev/full 2>stderr
-    ends 'differences on a full output' 2 $? 'as65: cannot write the output\n'
+    ends 'differences on a full output' 2 $? 'as65: other.bin is taken to begin at $FFFD\nas65: cannot write the output\n'
     "$program" --compare three.bin three.s >/dev/full 2>stderr
     ends 'no difference, and a full output' 0 $? ''
     "$program" -h >/dev/full 2>stderr

@@ -20,6 +20,8 @@ done | LC_ALL=C sort)
 allowed=$(LC_ALL=C sort <<'END'
 as65/assembled.rt 1
 as65/failure.rt 3
+as65/image.rt 1
+as65/information.rt 1
 as65/request.rt 2
 da65/messages.rt 1
 da65/needs.rt 2

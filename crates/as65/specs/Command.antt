@@ -8,6 +8,10 @@ use Rattle.clap.specs.declared.builder.ArgAction.TheVariants.{SetTrue}
 abbrev pub bare : App
 bare = on_top (λ s. record s { disable_help_flag = true; disable_version_flag = true }) (new_app (codes "as65"))
 
+-- `-i name`
+abbrev pub info_rule : Rule
+info_rule = record (new_rule (codes "info")) { short = Some 105; long = Some (codes "info") }
+
 -- `-S addr`
 abbrev pub start_rule : Rule
 start_rule = record (new_rule (codes "start")) { short = Some 83; long = Some (codes "start-addr") }
@@ -30,7 +34,7 @@ version_rule = record (new_rule (codes "version")) { short = Some 86; long = Som
 
 -- the command: its options, and an optional listing; each may be given once
 unfoldable pub app : App
-app = with_rule (with_rule (with_rule (with_rule (with_rule (with_rule bare start_rule) output_rule) compare_rule) help_rule) version_rule) (new_rule (codes "listing"))
+app = with_rule (with_rule (with_rule (with_rule (with_rule (with_rule (with_rule bare info_rule) start_rule) output_rule) compare_rule) help_rule) version_rule) (new_rule (codes "listing"))
 
 -- the matches of the words, if they are accepted
 unfoldable pub rows_on : List Text → List Row

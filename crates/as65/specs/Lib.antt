@@ -4,6 +4,7 @@ pub mod Command
 pub mod Comparison
 pub mod Differences
 pub mod Image
+pub mod Information
 pub mod Origins
 pub mod Request
 pub mod Status

@@ -1,5 +1,5 @@
 -- What a command line asks for.
-use Rattle.std.specs.Prelude.{◌≡◌, ◌==◌, ◌&&◌, ◌||◌, ℕ, Bool, false, not, nat_eq, List, String, Option, Some, None, Result, Ok, Err, codes, drop, length, option_map, if◌then◌else◌}
+use Rattle.std.specs.Prelude.{◌≡◌, ◌==◌, ◌&&◌, ◌||◌, ℕ, Bool, false, not, nat_eq, List, String, Option, Some, None, Result, Ok, Err, codes, drop, length, option_map, is_some, if◌then◌else◌}
 use Rattle.std.specs.List.{list_any, starts_with, take_while}
 use Rattle.std.specs.Option.{option_map_or}
 use Rattle.std.specs.Str.{bytes_eq}
@@ -14,12 +14,12 @@ use Rattle.as65.specs.declared.failure.Failure.TheVariants as failure
 use Rattle.as65.specs.declared.request.Request.{Request}
 use Rattle.as65.specs.declared.request.Request.TheVariants.{Help, Version, Write, Compare}
 
--- what is asked for: a listing with its start and output, or a listing with the start of both and the image
+-- what is asked for: a listing with the information file, the start and the output, or the same with an image
 pub data Asked : Type 0 where
   AskHelp : Asked
   AskVersion : Asked
-  AskWrite : Text → ℕ → Option Text → Asked
-  AskCompare : Text → Option ℕ → Text → Asked
+  AskWrite : Text → Option Text → Option ℕ → Option Text → Asked
+  AskCompare : Text → Option Text → Option ℕ → Text → Asked
 
 -- why a command line is refused
 pub data Refusal : Type 0 where
@@ -32,8 +32,8 @@ pub data Refusal : Type 0 where
 abbrev pub asked_of : Request → Asked
 asked_of Help = AskHelp
 asked_of Version = AskVersion
-asked_of (Write w) = AskWrite (string_bytes w.listing) w.start (option_map string_bytes w.output)
-asked_of (Compare c) = AskCompare (string_bytes c.listing) c.start (string_bytes c.image)
+asked_of (Write w) = AskWrite (string_bytes w.listing) (option_map string_bytes w.info) w.start (option_map string_bytes w.output)
+asked_of (Compare c) = AskCompare (string_bytes c.listing) (option_map string_bytes c.info) c.start (string_bytes c.image)
 
 -- the failure is the refusal of the definition, unless memory ran out
 abbrev pub Fails : {A : Type 0} → Failure → Result A Refusal → Type 0
@@ -41,7 +41,7 @@ Fails failure.Memory defined = Unit {0}
 Fails (failure.Usage e) defined = defined ≡ Err (BadUsage e)
 Fails failure.NoStart defined = defined ≡ Err LacksStart
 Fails (failure.OutputIsInput name) defined = defined ≡ Err (SameName (string_bytes name))
-Fails failure.BothStandard defined = defined ≡ Err TwoOfStandardInput
+Fails failure.StandardTwice defined = defined ≡ Err TwoOfStandardInput
 Fails _ defined = ⊥
 
 -- the result, seen by `seen`, is the one of the definition, unless memory ran out
@@ -87,22 +87,42 @@ abbrev pub output_named : Option Text → Option Text
 output_named None = None
 output_named (Some name) = if is_standard name then None else Some name
 
--- the bytes of a listing are to be written, and not into the listing
-unfoldable pub to_write : Text → Option ℕ → Option Text → Result Asked Refusal
-to_write listing None output = Err LacksStart
-to_write listing (Some start) None = Ok (AskWrite listing start None)
-to_write listing (Some start) (Some output) = if bytes_eq output listing then Err (SameName output) else Ok (AskWrite listing start (Some output))
+-- whether a name is that of the information file
+abbrev pub is_info : Option Text → Text → Bool
+is_info None name = false
+is_info (Some info) name = bytes_eq info name
 
--- a listing is to be compared with an image, without an output beside it; standard input can be only one of the two
-unfoldable pub to_compare : Text → Option ℕ → Option Text → Text → Result Asked Refusal
-to_compare listing start None image =
-    if bytes_eq listing standard_input && bytes_eq image standard_input then Err TwoOfStandardInput else Ok (AskCompare listing start image)
-to_compare listing start (Some output) image = Err (BadUsage Words)
+-- whether standard input would have to be this input and the information file
+abbrev pub is_taken : Option Text → Text → Bool
+is_taken info name = bytes_eq name standard_input && is_info info standard_input
+
+-- the output is none of the inputs
+unfoldable pub to_write_into : Text → Option Text → Option ℕ → Option Text → Result Asked Refusal
+to_write_into listing info start None = Ok (AskWrite listing info start None)
+to_write_into listing info start (Some output) =
+    if bytes_eq output listing || is_info info output then Err (SameName output) else Ok (AskWrite listing info start (Some output))
+
+-- the bytes of a listing are to be written: there is a start, or an information file that may have one
+unfoldable pub to_write : Text → Option Text → Option ℕ → Option Text → Result Asked Refusal
+to_write listing info start output =
+    if not (is_some start || is_some info) then Err LacksStart
+    else (if is_taken info listing then Err TwoOfStandardInput else to_write_into listing info start output)
+
+-- a listing is to be compared with an image; standard input can be only one of the inputs
+unfoldable pub to_compare : Text → Option Text → Option ℕ → Text → Result Asked Refusal
+to_compare listing info start image =
+    if bytes_eq listing standard_input && bytes_eq image standard_input then Err TwoOfStandardInput
+    else (if is_taken info listing || is_taken info image then Err TwoOfStandardInput else Ok (AskCompare listing info start image))
+
+-- an image, and whether there is no output beside it
+abbrev pub to_compare_beside : Text → Option Text → Option ℕ → Option Text → Text → Result Asked Refusal
+to_compare_beside listing info start None image = to_compare listing info start image
+to_compare_beside listing info start (Some output) image = Err (BadUsage Words)
 
 -- with an image it is a comparison
-abbrev pub asked_beside : Text → Option ℕ → Option Text → Option Text → Result Asked Refusal
-asked_beside listing start output None = to_write listing start output
-asked_beside listing start output (Some image) = to_compare listing start output (input_named (Some image))
+abbrev pub asked_beside : Text → Option Text → Option ℕ → Option Text → Option Text → Result Asked Refusal
+asked_beside listing info start output None = to_write listing info start output
+asked_beside listing info start output (Some image) = to_compare_beside listing info start output (input_named (Some image))
 
 -- help comes first, then the version; both before the value of any option
 unfoldable pub asked_in : List Row → Result Asked Refusal
@@ -110,7 +130,7 @@ asked_in rows =
     if is_set (codes "help") rows then Ok AskHelp
     else (if is_set (codes "version") rows then Ok AskVersion
     else (start_in (first_of (codes "start") rows) >>= λ start.
-    asked_beside (input_named (first_of (codes "listing") rows)) start (output_named (first_of (codes "output") rows)) (first_of (codes "compare") rows)))
+    asked_beside (input_named (first_of (codes "listing") rows)) (first_of (codes "info") rows) start (output_named (first_of (codes "output") rows)) (first_of (codes "compare") rows)))
 
 -- the matches, if the words are accepted
 unfoldable pub accepted : List Text → Result (List Row) Refusal

@@ -27,6 +27,7 @@ fn whole_command<'a>(alloc: Global) -> Result<Command<'a>, AllocError>
     ensures { IfOk result (λ c. app_of c ≡ app) }
 {
     let command = bare_command(alloc);
+    let command = with_short_option(alloc, command, "info", 'i', "info")?;
     let command = with_short_option(alloc, command, "start", 'S', "start-addr")?;
     let command = with_short(alloc, command, "output", 'o')?;
     let command = with_option(alloc, command, "compare", "compare")?;
@@ -110,6 +111,7 @@ fn bare_command<'a>(alloc: Global) -> Command<'a>
 pub fn help_text() -> &'static str {
     "as65 reads ca65's language as far as listings need it; for everything else there is ca65.\n\
      Usage: as65 [options] [listing]\n  \
+     -i, --info name          information file of da65, for the start and the part\n  \
      -S, --start-addr addr    start address\n  \
      -o name                  output file\n  \
      --compare image          print where the bytes differ from an image\n  \

@@ -4,6 +4,7 @@ ghost use Rattle.std.specs.Prelude.{◌≡◌};
 
 use da65::UsageFault;
 use files65::FileFault;
+use info65::InfoFault;
 use std::alloc::{AllocError, AllocFailed};
 use std::io::{Error as IoError, ErrorKind};
 use stmt65::AsmFault;
@@ -21,15 +22,21 @@ pub enum Failure {
     /// The output of this name is the listing or the image.
     #[error("the output is an input: {0}")]
     OutputIsInput(String),
-    /// Standard input would have to be both the image and the listing.
-    #[error("the image and the listing are both standard input")]
-    BothStandard,
+    /// Standard input would have to be two of the inputs.
+    #[error("standard input can be only one of the inputs")]
+    StandardTwice,
+    /// The information file is refused.
+    #[error("info:{0}")]
+    Info(InfoFault),
     /// Memory ran out.
     #[error("out of memory")]
     Memory,
     /// A file can't be read or created.
     #[error("{0}")]
     File(FileFault),
+    /// The image to compare with has fewer bytes than INPUTSIZE asks for.
+    #[error("the image is too short")]
+    ShortImage,
     /// The image to compare with has no byte.
     #[error("the image is empty")]
     EmptyImage,

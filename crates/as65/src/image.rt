@@ -1,29 +1,54 @@
 //! The image that a listing is compared with.
 
-ghost use Rattle.std.specs.Prelude.{◌≡◌, IfErr, IfOk, Ok, None};
-ghost use Rattle.map65.specs.Image.{image_by};
-ghost use Rattle.as65.specs.Image.{IsNoImage};
+ghost use Rattle.std.specs.Prelude.{◌≡◌, ◌<◌, ◌-◌, ◌^◌, IfErr, IfOk, IfSome, Ok};
+ghost use Rattle.map65.specs.Device.{has_failed};
+ghost use Rattle.map65.specs.Image.{image_of};
+ghost use Rattle.as65.specs.Image.{IsFailureOf, IsNoImage};
 
 use crate::failure::Failure;
-use files65::needed_contents;
-use map65::{Image, ImageFault};
+use files65::{FileFault, Input};
+use info65::Info;
+use map65::{Image, ImageFault, Source, read_image};
+use std::alloc::Global;
 
-/// The most that is read: one byte more than an image may have, so that a longer one is refused and not cut.
-const LIMIT: usize = 65_537;
-
-/// The image of these bytes at this start, as da65 takes it: without a start its last byte is at $FFFF.
-fn image_of(start: Option<u16>, bytes: Vec<u8>) -> Result<Image, Failure>
-    ensures image { IfOk result (λ image. image_by start None bytes.items ≡ Ok image) }
-    ensures refused { IfErr result (IsNoImage (image_by start None bytes.items)) }
+/// The failure of an image of this name.
+fn failure_of(alloc: Global, fault: ImageFault, name: &str) -> Failure
+    ensures { IsFailureOf fault result }
 {
-    match Image::from_bytes(start, None, bytes) {
+    match (fault, String::from_str(alloc, name)) {
+        (ImageFault::Empty, _) => Failure::EmptyImage,
+        (ImageFault::Short, _) => Failure::ShortImage,
+        (ImageFault::TooLarge, _) => Failure::LargeImage,
+        (ImageFault::Read, Ok(name)) => Failure::File(FileFault::Reading(name)),
+        (ImageFault::Memory, _) | (ImageFault::Read, Err(_)) => Failure::Memory,
+    }
+}
+
+/// The image that the information finds in what is read, as da65 takes it: without a start its last byte is at $FFFF.
+fn image_in<R: Source>(
+    alloc: Global,
+    info: &Info,
+    input: &mut R,
+    name: &str,
+) -> Result<Image, Failure>
+    ensures image { R.faults input.old < 2 ^ 64 - 1 → IfSome (R.left input.old) (λ xs.
+        IfOk result (λ image. image_of info.now.settings xs (has_failed (R.faults input.old) (R.faults input.new)) ≡ Ok image)) }
+    ensures refused { R.faults input.old < 2 ^ 64 - 1 → IfSome (R.left input.old) (λ xs.
+        IfErr result (IsNoImage (image_of info.now.settings xs (has_failed (R.faults input.old) (R.faults input.new))))) }
+{
+    match read_image(alloc, info, input) {
         Ok(image) => Ok(image),
-        Err(ImageFault::Empty) => Err(Failure::EmptyImage),
-        Err(_) => Err(Failure::LargeImage),
+        Err(fault) => Err(failure_of(alloc, fault, name)),
     }
 }
 
 /// The image of the file of this name.
-pub fn image(rt: &HostRuntime, name: &str, start: Option<u16>) -> Result<Image, Failure> {
-    image_of(start, needed_contents(rt, name, LIMIT)?)
+pub fn image(rt: &HostRuntime, name: &str, info: &Info) -> Result<Image, Failure> {
+    match Input::open(rt, name) {
+        Ok(mut input) => image_in(rt.alloc(), info, &mut input, name),
+        Err(error) => {
+            let name = String::from_str(rt.alloc(), name)?;
+            Err(Failure::File(FileFault::of_reading(&error, name)))
+        }
+    }
 }

@@ -1,6 +1,6 @@
 //! Assembles a listing: `as65 [options] [listing]`.
 //!
-//! In order: the options, then help or version, whether the output is an input, the image to compare with, the listing,
+//! In order: the options, then help or version, whether the output is an input, the information file, the image to compare with, the listing,
 //! its bytes, and the output, which is created only now. With `--compare` nothing is written but the differences from the
 //! image, on standard output. `status` has the statuses.
 #![tactic(auto)]
@@ -11,6 +11,7 @@ mod comparison;
 mod differences;
 mod failure;
 mod image;
+mod information;
 mod listing;
 mod message;
 mod origins;
@@ -25,8 +26,10 @@ use comparison::compare;
 use failure::Failure;
 use files65::{Output, Placeholders};
 use image::image;
+use information::{information, placed_at};
 use listing::listing;
-use message::say;
+use map65::Image;
+use message::{say, say_start};
 use request::{Comparing, Request, Writing, is_comparing, request_of};
 use same_file::keep_input;
 use status::{Ended, status_of};
@@ -55,24 +58,53 @@ fn tell(rt: &HostRuntime, text: &str) -> Result<Ended, Failure> {
     }
 }
 
+/// The start of a listing that is not compared.
+fn start_of(rt: &HostRuntime, info: Option<&str>, start: Option<u16>) -> Result<u16, Failure> {
+    match placed_at(information(rt, info, start)?.settings()) {
+        Some(start) => Ok(start),
+        None => Err(Failure::NoStart),
+    }
+}
+
+/// Refuses an output that is an input.
+fn keep_inputs(rt: &HostRuntime, writing: &Writing) -> Result<(), Failure> {
+    let output = writing.output.as_deref();
+    if let Some(info) = writing.info.as_deref() {
+        keep_input(rt, output, info)?;
+    }
+    keep_input(rt, output, writing.listing.as_str())
+}
+
 /// Writes the bytes of the listing. The output is created once they are there.
 fn write_image(rt: &HostRuntime, writing: Writing) -> Result<Ended, Failure> {
+    keep_inputs(rt, &writing)?;
+    let start = start_of(rt, writing.info.as_deref(), writing.start)?;
     let name = writing.listing.as_str();
-    keep_input(rt, writing.output.as_deref(), name)?;
     let text = listing(rt, name)?;
-    let assembled = Assembled::new(rt.alloc(), &text, writing.start, name)?;
+    let assembled = Assembled::new(rt.alloc(), &text, start, name)?;
     let mut output = Output::create(rt, writing.output)?;
     assembled.write(&mut output)?;
     Ok(Ended::Done)
 }
 
+/// The image to compare with, and whether its start is only assumed.
+fn image_to_compare(rt: &HostRuntime, comparing: &Comparing) -> Result<(Image, bool), Failure> {
+    let info = information(rt, comparing.info.as_deref(), comparing.start)?;
+    let image = image(rt, comparing.image.as_str(), &info)?;
+    Ok((image, info.settings().start.is_none()))
+}
+
 /// Writes on standard output where the bytes of the listing differ from those of the image.
 fn compare_with(rt: &HostRuntime, comparing: &Comparing) -> Result<Ended, Failure> {
+    let name = comparing.listing.as_str();
     keep_input(rt, None, comparing.image.as_str())?;
-    keep_input(rt, None, comparing.listing.as_str())?;
-    let image = image(rt, comparing.image.as_str(), comparing.start)?;
-    let text = listing(rt, comparing.listing.as_str())?;
-    let assembled = Assembled::new(rt.alloc(), &text, image.start(), comparing.listing.as_str())?;
+    keep_input(rt, None, name)?;
+    let (image, is_assumed) = image_to_compare(rt, comparing)?;
+    let text = listing(rt, name)?;
+    let assembled = Assembled::new(rt.alloc(), &text, image.start(), name)?;
+    if is_assumed && image.bytes() != assembled.bytes() {
+        say_start(rt, comparing.image.as_str(), image.start());
+    }
     compare(rt.alloc(), &image, &assembled, &mut Output::standard(rt))
 }
 

@@ -36,3 +36,10 @@ pub fn say(rt: &HostRuntime, failure: &Failure) {
     let _ = write!(out, "as65: {failure}");
     let _ = out.0.write_all(b"\n");
 }
+
+/// Says where an image is taken to begin whose start nobody gave.
+pub fn say_start(rt: &HostRuntime, name: &str, start: u16) {
+    let mut out = OneLine(rt.stderr());
+    let _ = write!(out, "as65: {name} is taken to begin at ${start:04X}");
+    let _ = out.0.write_all(b"\n");
+}

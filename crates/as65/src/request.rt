@@ -3,7 +3,7 @@
 ghost use Rattle.std.specs.Prelude.{◌≡◌, IfOk, Ok, map, option_map};
 ghost use Rattle.std.specs.String.{string_bytes};
 ghost use Rattle.clap.specs.Words.{first_of, found_of, rows_of};
-ghost use Rattle.as65.specs.Request.{Gives, accepted, asked, asked_in, asked_of, input_named, is_compare_word, is_comparing, is_set, output_named, start_in, to_compare, to_write};
+ghost use Rattle.as65.specs.Request.{Gives, accepted, asked, asked_in, asked_of, input_named, is_compare_word, is_comparing, is_info, is_set, is_taken, output_named, start_in, to_compare, to_write, to_write_into};
 
 use crate::command::matches_of_words;
 use crate::failure::Failure;
@@ -28,7 +28,9 @@ pub enum Request {
 #[derive(Debug, Drop)]
 pub struct Writing {
     pub listing: String,
-    pub start: u16,
+    pub info: Option<String>,
+    /// The address of the first byte; without one the information file says where it is.
+    pub start: Option<u16>,
     /// The file that they are written to; without one standard output.
     pub output: Option<String>,
 }
@@ -37,7 +39,8 @@ pub struct Writing {
 #[derive(Debug, Drop)]
 pub struct Comparing {
     pub listing: String,
-    /// The start of both; without one the image ends at $FFFF.
+    pub info: Option<String>,
+    /// The start of both; without one it is that of the information file, or the image ends at $FFFF.
     pub start: Option<u16>,
     pub image: String,
 }
@@ -101,62 +104,103 @@ fn request_in(alloc: Global, matches: &ArgMatches) -> Result<Request, Failure>
         return Ok(Request::Version);
     }
     let start = start_in(text_of(matches, "start"))?;
+    let info = text_of(matches, "info");
     let listing = input_named(text_of(matches, "listing"));
     let output = output_named(text_of(matches, "output"));
     match text_of(matches, "compare") {
-        Some(image) => to_compare(alloc, listing, start, output, input_named(Some(image))),
-        None => to_write(alloc, listing, start, output),
+        Some(_) if output.is_some() => Err(Failure::Usage(UsageFault::Words)),
+        Some(image) => to_compare(alloc, listing, info, start, input_named(Some(image))),
+        None => to_write(alloc, listing, info, start, output),
     }
 }
 
-/// The bytes of a listing are to be written, and not into the listing.
+/// Whether a name is that of the information file.
+fn is_info(info: Option<&str>, name: &str) -> bool
+    ensures { result ≡ is_info (option_map (λ s. s.now) info.entry) name.now }
+{
+    match info {
+        Some(info) => info == name,
+        None => false,
+    }
+}
+
+/// Whether standard input would have to be this input and the information file.
+fn is_taken(info: Option<&str>, name: &str) -> bool
+    ensures { result ≡ is_taken (option_map (λ s. s.now) info.entry) name.now }
+{
+    name == STANDARD_INPUT && is_info(info, STANDARD_INPUT)
+}
+
+/// The bytes of a listing are to be written: there is a start, or an information file that may have one.
 #[tactic(auto, unfolding(crate::specs::Request::to_write))]
 fn to_write(
     alloc: Global,
     listing: &str,
+    info: Option<&str>,
     start: Option<u16>,
     output: Option<&str>,
 ) -> Result<Request, Failure>
-    ensures { Gives asked_of result (to_write listing.now start (option_map (λ s. s.now) output.entry)) }
+    ensures { Gives asked_of result (to_write listing.now (option_map (λ s. s.now) info.entry) start (option_map (λ s. s.now) output.entry)) }
 {
-    let Some(start) = start else {
+    if !(start.is_some() || info.is_some()) {
         return Err(Failure::NoStart);
-    };
+    }
+    if is_taken(info, listing) {
+        return Err(Failure::StandardTwice);
+    }
+    to_write_into(alloc, listing, info, start, output)
+}
+
+/// The output is none of the inputs.
+#[tactic(auto, unfolding(crate::specs::Request::to_write_into))]
+fn to_write_into(
+    alloc: Global,
+    listing: &str,
+    info: Option<&str>,
+    start: Option<u16>,
+    output: Option<&str>,
+) -> Result<Request, Failure>
+    ensures { Gives asked_of result (to_write_into listing.now (option_map (λ s. s.now) info.entry) start (option_map (λ s. s.now) output.entry)) }
+{
     if let Some(name) = output {
-        if name == listing {
+        if name == listing || is_info(info, name) {
             return Err(Failure::OutputIsInput(String::from_str(alloc, name)?));
         }
     }
     let listing = String::from_str(alloc, listing)?;
+    let info = owned(alloc, info)?;
     let output = owned(alloc, output)?;
     Ok(Request::Write(Writing {
         listing,
+        info,
         start,
         output,
     }))
 }
 
-/// A listing is to be compared with an image, and there is no output beside it.
+/// A listing is to be compared with an image. Standard input can be only one of the inputs.
 #[tactic(auto, unfolding(crate::specs::Request::to_compare))]
 fn to_compare(
     alloc: Global,
     listing: &str,
+    info: Option<&str>,
     start: Option<u16>,
-    output: Option<&str>,
     image: &str,
 ) -> Result<Request, Failure>
-    ensures { Gives asked_of result (to_compare listing.now start (option_map (λ s. s.now) output.entry) image.now) }
+    ensures { Gives asked_of result (to_compare listing.now (option_map (λ s. s.now) info.entry) start image.now) }
 {
-    if output.is_some() {
-        return Err(Failure::Usage(UsageFault::Words));
-    }
     if listing == STANDARD_INPUT && image == STANDARD_INPUT {
-        return Err(Failure::BothStandard);
+        return Err(Failure::StandardTwice);
+    }
+    if is_taken(info, listing) || is_taken(info, image) {
+        return Err(Failure::StandardTwice);
     }
     let listing = String::from_str(alloc, listing)?;
+    let info = owned(alloc, info)?;
     let image = String::from_str(alloc, image)?;
     Ok(Request::Compare(Comparing {
         listing,
+        info,
         start,
         image,
     }))

@@ -1,0 +1,52 @@
+//! Where an image is, as an information file of da65 says it.
+
+ghost use Rattle.std.specs.Prelude.{◌≡◌, IfErr, IfOk, Ok};
+ghost use Rattle.info65.specs.Reader.{information};
+ghost use Rattle.as65.specs.Information.{IsRefused, options_at, placed_at};
+
+use crate::failure::Failure;
+use files65::needed_contents;
+use info65::{Info, InfoFaultKind, Options, Settings, read_info};
+use std::alloc::Global;
+
+/// The most that is read of an information file: one byte more than it may have, so that a longer one is refused.
+const LIMIT: usize = 1_048_577;
+
+/// What the file of this name says, under the start of the command line. Without a name it is the empty file.
+pub fn information(
+    rt: &HostRuntime,
+    name: Option<&str>,
+    start: Option<u16>,
+) -> Result<Info, Failure> {
+    match name {
+        Some(name) => information_in(rt.alloc(), start, &needed_contents(rt, name, LIMIT)?),
+        None => information_in(rt.alloc(), start, &[]),
+    }
+}
+
+/// What these bytes say, under the start of the command line.
+fn information_in(alloc: Global, start: Option<u16>, bytes: &[u8]) -> Result<Info, Failure>
+    ensures value { IfOk result (λ info. information (options_at start) bytes.now ≡ Ok info) }
+    ensures refused { IfErr result (IsRefused (information (options_at start) bytes.now)) }
+{
+    let mut options: Options = Options::none();
+    options.start = start;
+    match read_info(alloc, &options, bytes) {
+        Ok(info) => Ok(info),
+        Err(fault) => match fault.kind {
+            InfoFaultKind::Memory => Err(Failure::Memory),
+            _ => Err(Failure::Info(fault)),
+        },
+    }
+}
+
+/// Where settings place an image: at its start, or so that its size ends at $FFFF.
+pub fn placed_at(settings: &Settings) -> Option<u16>
+    ensures { result ≡ placed_at settings.now.start settings.now.size }
+{
+    match (settings.start, settings.size) {
+        (Some(start), _) => Some(start),
+        (None, Some(size)) if 0 < size && size <= 65_536 => Some((65_536 - size) as u16),
+        (None, _) => None,
+    }
+}
