@@ -144,7 +144,8 @@ for len in 80 81 5000; do
         -S 0x1000 --compare three.bin wide.s
 done
 yes ' .byte 0,1' | head -n 32768 >every.s
-"$program" -S 0 --compare zeros.bin every.s >stdout 2>stderr
+# Lines that are looked for from the first one on, for each stretch anew, take far longer.
+timeout 5 "$program" -S 0 --compare zeros.bin every.s >stdout 2>stderr
 ends 'every second byte' 1 $? ''
 [ "$(wc -l <stdout)" = 32768 ] || fails 'every second byte' "$(wc -l <stdout) lines and not 32768"
 [ "$(tail -n 1 stdout)" = '$FFFF: 00 -> 01, line 32768: .byte 0,1' ] || fails 'every second byte' "$(tail -n 1 stdout)"
@@ -368,6 +369,30 @@ scarce 'bytes' 0 1 large.bin -S 0 large.s
 "$program" -S 0 --compare zeros.bin large.s >whole 2>stderr
 ends 'differences' 1 $? ''
 scarce 'differences' 1 2 whole -S 0 --compare zeros.bin large.s
+
+# ---- calls and memory
+
+# counts NAME OPENS READS WRITES ALL WORD..: the program opens that many files, reads and writes that often, and asks for at most ALL bytes of memory.
+counts() {
+    local name=$1 wanted="$2 $3 $4" all=$5 opens reads writes most asked allocations
+    shift 5
+    LD_PRELOAD=$work/shim.so SHIM_COUNTS=$work/counts "$program" "$@" >stdout 2>stderr
+    read -r opens reads writes most asked allocations <counts || fails "$name" 'the shim counted nothing'
+    [ "$opens $reads $writes" = "$wanted" ] || fails "$name" "$opens $reads $writes opens, reads and writes, and not $wanted"
+    [ "$asked" -le "$all" ] || fails "$name" "$asked bytes of memory and not at most $all"
+}
+
+compiler=${CC:-cc}
+if [ "$compiler" = skip ]; then
+    echo 'as65: calls and memory are left out, since CC=skip is set'
+else
+    "$compiler" -O1 -shared -fPIC -o shim.so "$root/tests/shim.c" -ldl || exit 1
+    # /dev/null is opened three times, for standard streams that are closed. 4 KiB a read and one read at the end, and one write for all.
+    counts 'bytes' 5 193 1 2400000 -S 0 -o out.bin large.s
+    counts 'one stretch' 5 210 1 3600000 -S 0 --compare zeros.bin large.s
+    counts 'every second byte' 5 106 1 16900000 -S 0 --compare zeros.bin every.s
+    counts 'nothing that differs' 5 210 0 3300000 --compare large.bin large.s
+fi
 
 # ---- from an image to its listing and back
 
