@@ -1,0 +1,289 @@
+-- One step of a search after the other.
+use Rattle.std.proofs.Common.{◌≡◌, ◌≢◌, ◌⊎◌, ◌+◌, ◌<◌, ◌≤◌, ◌∙◌, ℕ, Bool, true, false, not, List, [], ◌∷◌, ◌++◌, length, get_or, set, replicate, Option, Some, None, ap, arith, sym, subst, inl, inr, cond, length-append}
+use Rattle.std.specs.List.{Contains, count_by, sum_by}
+use Rattle.std.proofs.lemmas.Bool.{cond_both, cases_eq, cases_lt}
+use Rattle.std.proofs.lemmas.List.{get_or-set_same, get_or-set_other, get_or-replicate, get_or_past, length-replicate, get_or_default}
+use Rattle.std.proofs.Math.ListN.{length-set}
+use Rattle.std.proofs.lemmas.List.Elements.{Contains-append_left, Contains-get_or, Contains-push, Contains-push_cases}
+use Rattle.std.proofs.lemmas.List.Sums.{sum_by-set}
+use Rattle.map65.specs.ImageView.{IsPlaced, is_inside}
+use Rattle.map65.specs.MapView.{MapView}
+use Rattle.reach65.specs.Code.Searching.{HasEntries, HasEntriesTo, IsFollowed, IsSearch, Nothing, State, put, put_inside, put_some}
+use Rattle.reach65.specs.Flow.{LeadsTo, goal_at, next_at}
+use Rattle.reach65.proofs.FlowLemmas.{leads-below, within}
+use Rattle.reach65.specs.Reached.{AreReached, Reached, entry, led, is_marked}
+
+-- ---- what a step does
+
+-- the marks after an address is marked, for an address that is another one or not
+marks_set : (marks : List Bool) (a b : ℕ) (P : Bool → Type 0) → a < length marks → (b ≡ a → P true) → (b ≢ a → P (is_marked marks b)) → P (is_marked (set marks a true) b)
+marks_set marks a b P room here there =
+    elim (cases_eq b a) as (λ _. P (is_marked (set marks a true) b)) [
+      | inl is ↦ subst P (sym (ap (is_marked (set marks a true)) is ∙ get_or-set_same marks a true false room)) (here is)
+      | inr other ↦ subst P (sym (get_or-set_other marks a b true false other)) (there other)
+    ]
+
+-- a step either does nothing, since the address is marked, or marks it
+by_put : (s : State) (a : ℕ) (P : State → Type 0)
+    → (is_marked s.marks a ≡ true → P s) → (is_marked s.marks a ≡ false → P (record { marks = set s.marks a true; todo = s.todo ++ a ∷ [] })) → P (put s a)
+unfolding put
+by_put s a P old new = cond_both (is_marked s.marks a) s (record { marks = set s.marks a true; todo = s.todo ++ a ∷ [] }) P old new
+
+pub put-marked : (s : State) (a : ℕ) → a < length s.marks → is_marked (put s a).marks a ≡ true
+put-marked s a room = by_put s a (λ t. is_marked t.marks a ≡ true) (λ is. is) (λ _. get_or-set_same s.marks a true false room)
+
+pub put-grows : (s : State) (a b : ℕ) → a < length s.marks → is_marked s.marks b ≡ true → is_marked (put s a).marks b ≡ true
+put-grows s a b room is =
+    by_put s a (λ t. is_marked t.marks b ≡ true) (λ _. is)
+    (λ _. marks_set s.marks a b (λ v. v ≡ true) room (λ here i. true) (λ there. is))
+
+pub put-count : (s : State) (a : ℕ) → length (put s a).marks ≡ length s.marks
+put-count s a = by_put s a (λ t. length t.marks ≡ length s.marks) (λ _ i. length s.marks) (λ _. length-set s.marks a true)
+
+-- ---- how much is left to do
+
+pub open_of : List Bool → ℕ
+open_of marks = count_by not marks
+
+pub left_to_do : State → ℕ
+left_to_do s = open_of s.marks + length s.todo
+
+pub put-left : (s : State) (a : ℕ) → a < length s.marks → left_to_do (put s a) ≡ left_to_do s
+unfolding left_to_do open_of
+put-left s a room =
+    by_put s a (λ t. left_to_do t ≡ left_to_do s) (λ _ i. left_to_do s)
+    (λ free.
+    let sums : sum_by (λ b. cond (not b) 1 0) (set s.marks a true) + cond (not (get_or s.marks a false)) 1 0 ≡ sum_by (λ b. cond (not b) 1 0) s.marks + 0 = sum_by-set (λ (b : Bool). cond (not b) 1 0) s.marks a true false room in
+    let one : cond {A = ℕ} (not (get_or s.marks a false)) 1 0 ≡ 1 = ap (λ (b : Bool). cond (not b) 1 0) free in
+    omega (arith, sums, one, length-append s.todo (a ∷ [])))
+
+pub next-left : (old new : State) (a : ℕ) → new.marks ≡ old.marks → old.todo ≡ new.todo ++ a ∷ [] → left_to_do new + 1 ≡ left_to_do old
+unfolding left_to_do
+next-left old new a marks todo = omega (arith, ap open_of marks, ap length todo, length-append new.todo (a ∷ []))
+
+-- ---- what holds at each step
+
+blank-unmarked : (marks : List Bool) (a : ℕ) → marks ≡ replicate 65536 false → is_marked marks a ≡ true → ⊥
+blank-unmarked marks a is marked =
+    let none : is_marked (replicate 65536 false) a ≡ false = elim (cases_lt a 65536) as (λ _. is_marked (replicate 65536 false) a ≡ false) [
+      | inl below ↦ get_or-replicate 65536 a false false below
+      | inr past ↦ get_or_past (replicate 65536 false) a false (omega (arith, past, length-replicate 65536 false))
+    ] in
+    let no : false ≡ true = sym none ∙ sym (ap (λ l. is_marked l a) is) ∙ marked in cc
+
+abbrev no_address : List ℕ
+no_address = []
+
+contains-nil : (a : ℕ) → Contains no_address a → ⊥
+contains-nil a has = omega (arith, has.1)
+
+pub search-new : (m : MapView) (entries : List ℕ) (s : State) → s.marks ≡ replicate 65536 false → s.todo ≡ [] → IsSearch m entries Nothing s
+search-new m entries s marks todo = record {
+  count = ap length marks ∙ length-replicate 65536 false;
+  reached = λ a is. absurd (blank-unmarked s.marks a marks is);
+  todo = λ a has. absurd (contains-nil a (subst (λ l. Contains l a) todo has));
+  followed = λ a is. absurd (blank-unmarked s.marks a marks is);
+}
+
+pub search-put : (m : MapView) (entries : List ℕ) (Now : ℕ → Type 0) (s : State) (a : ℕ) → a < 65536 → Reached m entries a → IsSearch m entries Now s → IsSearch m entries Now (put s a)
+search-put m entries Now s a small is old =
+    let room : a < length s.marks = omega (arith, small, old.count) in
+    by_put s a (IsSearch m entries Now) (λ _. old)
+    (λ free. record {
+      count = length-set s.marks a true ∙ old.count;
+      reached = λ b. marks_set s.marks a b (λ v. v ≡ true → Reached m entries b) room (λ here _. subst (Reached m entries) (sym here) is) (λ there. old.reached b);
+      todo = λ b has. elim (Contains-push_cases s.todo a b has) as (λ _. Reached m entries b) [ inl before ↦ old.todo b before | inr now ↦ subst (Reached m entries) now is ];
+      followed = λ b. marks_set s.marks a b (λ v. v ≡ true → Contains (s.todo ++ a ∷ []) b ⊎ (Now b ⊎ IsFollowed m (set s.marks a true) b)) room
+          (λ here _. inl (subst (Contains (s.todo ++ a ∷ [])) (sym here) (Contains-push s.todo a)))
+          (λ there marked. elim (old.followed b marked) as (λ _. Contains (s.todo ++ a ∷ []) b ⊎ (Now b ⊎ IsFollowed m (set s.marks a true) b)) [
+            | inl before ↦ inl (Contains-append_left s.todo (a ∷ []) b before)
+            | inr rest ↦ elim rest as (λ _. Contains (s.todo ++ a ∷ []) b ⊎ (Now b ⊎ IsFollowed m (set s.marks a true) b)) [
+              | inl now ↦ inr (inl now)
+              | inr done ↦ inr (inr (record { each = λ c leads. marks_set s.marks a c (λ v. v ≡ true) room (λ here i. true) (λ _. done.each c leads) }))
+            ]
+          ]);
+    })
+
+-- an address that was taken from the list is about to be followed
+pub search-next : (m : MapView) (entries : List ℕ) (old new : State) (a : ℕ) → new.marks ≡ old.marks → old.todo ≡ new.todo ++ a ∷ []
+    → IsSearch m entries Nothing old → IsSearch m entries (λ b. b ≡ a) new
+search-next m entries old new a marks todo was = record {
+  count = ap length marks ∙ was.count;
+  reached = λ b is. was.reached b (sym (ap (λ l. is_marked l b) marks) ∙ is);
+  todo = λ b has. was.todo b (subst (λ l. Contains l b) (sym todo) (Contains-append_left new.todo (a ∷ []) b has));
+  followed = λ b is. elim (was.followed b (sym (ap (λ l. is_marked l b) marks) ∙ is)) as (λ _. Contains new.todo b ⊎ ((b ≡ a) ⊎ IsFollowed m new.marks b)) [
+    | inl before ↦ elim (Contains-push_cases new.todo a b (subst (λ l. Contains l b) todo before)) as (λ _. Contains new.todo b ⊎ ((b ≡ a) ⊎ IsFollowed m new.marks b)) [
+      | inl there ↦ inl there
+      | inr here ↦ inr (inl (sym here))
+    ]
+    | inr rest ↦ elim rest as (λ _. Contains new.todo b ⊎ ((b ≡ a) ⊎ IsFollowed m new.marks b)) [
+      | inl never ↦ absurd never
+      | inr done ↦ inr (inr (subst (λ l. IsFollowed m l b) (sym marks) done))
+    ]
+  ];
+}
+
+-- the one that was taken is reached
+pub next-reached : (m : MapView) (entries : List ℕ) (old new : State) (a : ℕ) → old.todo ≡ new.todo ++ a ∷ [] → IsSearch m entries Nothing old → Reached m entries a
+next-reached m entries old new a todo was = was.todo a (subst (λ l. Contains l a) (sym todo) (Contains-push new.todo a))
+
+-- it was followed
+pub search-followed : (m : MapView) (entries : List ℕ) (a : ℕ) (s : State) → IsFollowed m s.marks a → IsSearch m entries (λ b. b ≡ a) s → IsSearch m entries Nothing s
+search-followed m entries a s done was = record {
+  count = was.count;
+  reached = was.reached;
+  todo = was.todo;
+  followed = λ b is. elim (was.followed b is) as (λ _. Contains s.todo b ⊎ (Nothing b ⊎ IsFollowed m s.marks b)) [
+    | inl before ↦ inl before
+    | inr rest ↦ elim rest as (λ _. Contains s.todo b ⊎ (Nothing b ⊎ IsFollowed m s.marks b)) [
+      | inl now ↦ inr (inr (subst (IsFollowed m s.marks) (sym now) done))
+      | inr old ↦ inr (inr old)
+    ]
+  ];
+}
+
+-- ---- the end
+
+pub reached-marked : (m : MapView) (entries : List ℕ) (s : State) → s.todo ≡ [] → IsSearch m entries Nothing s → HasEntries m entries s.marks
+    → (a : ℕ) → Reached m entries a → is_marked s.marks a ≡ true
+reached-marked m entries s todo was all _ (entry a has inside) = all.each a has inside
+reached-marked m entries s todo was all _ (led b a from leads) =
+    elim (was.followed b (reached-marked m entries s todo was all b from)) as (λ _. is_marked s.marks a ≡ true) [
+      | inl before ↦ absurd (contains-nil b (subst (λ l. Contains l b) todo before))
+      | inr rest ↦ elim rest as (λ _. is_marked s.marks a ≡ true) [
+        | inl never ↦ absurd never
+        | inr done ↦ done.each a leads
+      ]
+    ]
+
+pub search-end : (m : MapView) (entries : List ℕ) (s : State) → s.todo ≡ [] → IsSearch m entries Nothing s → HasEntries m entries s.marks → AreReached m entries s.marks
+search-end m entries s todo was all = record {
+  count = was.count;
+  each = λ a. (was.reached a, reached-marked m entries s todo was all a);
+}
+
+-- ---- one instruction
+
+pub put_some-search : (m : MapView) (entries : List ℕ) (Now : ℕ → Type 0) (s : State) (a : ℕ) (o : Option ℕ) → IsPlaced m.image → Reached m entries a
+    → ((b : ℕ) → o ≡ Some b → LeadsTo m a b) → IsSearch m entries Now s → IsSearch m entries Now (put_some s o)
+put_some-search m entries Now s a None placed is leads old = old
+put_some-search m entries Now s a (Some b) placed is leads old =
+    let there = leads b (λ i. Some b) in
+    search-put m entries Now s b (leads-below m a b placed there) (led a b is there) old
+
+pub put_some-left : (m : MapView) (s : State) (a : ℕ) (o : Option ℕ) → IsPlaced m.image → length s.marks ≡ 65536
+    → ((b : ℕ) → o ≡ Some b → LeadsTo m a b) → left_to_do (put_some s o) ≡ left_to_do s
+put_some-left m s a None placed count leads = λ i. left_to_do s
+put_some-left m s a (Some b) placed count leads = put-left s b (omega (arith, count, leads-below m a b placed (leads b (λ i. Some b))))
+
+pub put_some-grows : (m : MapView) (s : State) (a : ℕ) (o : Option ℕ) → IsPlaced m.image → length s.marks ≡ 65536
+    → ((b : ℕ) → o ≡ Some b → LeadsTo m a b) → (b : ℕ) → is_marked s.marks b ≡ true → is_marked (put_some s o).marks b ≡ true
+put_some-grows m s a None placed count leads b is = is
+put_some-grows m s a (Some x) placed count leads b is = put-grows s x b (omega (arith, count, leads-below m a x placed (leads x (λ i. Some x)))) is
+
+pub put_some-marked : (m : MapView) (s : State) (a : ℕ) (o : Option ℕ) → IsPlaced m.image → length s.marks ≡ 65536
+    → ((b : ℕ) → o ≡ Some b → LeadsTo m a b) → (b : ℕ) → o ≡ Some b → is_marked (put_some s o).marks b ≡ true
+put_some-marked m s a None placed count leads b is = cc
+put_some-marked m s a (Some x) placed count leads b is =
+    let same : x ≡ b = cc in
+    subst (λ k. is_marked (put s x).marks k ≡ true) same (put-marked s x (omega (arith, count, leads-below m a x placed (leads x (λ i. Some x)))))
+
+-- after both addresses that an instruction can lead to the search goes on
+pub followed-both : (m : MapView) (entries : List ℕ) (old new : State) (a : ℕ) (next goal : Option ℕ) (mid end : State) → IsPlaced m.image
+    → new.marks ≡ old.marks → old.todo ≡ new.todo ++ a ∷ [] → next ≡ next_at m a → goal ≡ goal_at m a → mid ≡ put_some new next → end ≡ put_some mid goal
+    → IsSearch m entries Nothing old → IsSearch m entries Nothing end
+followed-both m entries old new a next goal mid end placed marks todo next_is goal_is mid_is end_is was =
+    let here = next-reached m entries old new a todo was in
+    let taken = search-next m entries old new a marks todo was in
+    let by_next : (b : ℕ) → next ≡ Some b → LeadsTo m a b = λ b is. inl (sym next_is ∙ is) in
+    let by_goal : (b : ℕ) → goal ≡ Some b → LeadsTo m a b = λ b is. inr (sym goal_is ∙ is) in
+    let halfway : IsSearch m entries (λ b. b ≡ a) (put_some new next) = put_some-search m entries (λ b. b ≡ a) new a next placed here by_next taken in
+    let whole : IsSearch m entries (λ b. b ≡ a) (put_some (put_some new next) goal) = put_some-search m entries (λ b. b ≡ a) (put_some new next) a goal placed here by_goal halfway in
+    let done : IsFollowed m (put_some (put_some new next) goal).marks a = record {
+      each = λ b leads. elim leads as (λ _. is_marked (put_some (put_some new next) goal).marks b ≡ true) [
+        | inl is ↦ put_some-grows m (put_some new next) a goal placed halfway.count by_goal b (put_some-marked m new a next placed taken.count by_next b (next_is ∙ is))
+        | inr is ↦ put_some-marked m (put_some new next) a goal placed halfway.count by_goal b (goal_is ∙ is)
+      ];
+    } in
+    let both : put_some (put_some new next) goal ≡ end = sym (ap (λ t. put_some t goal) mid_is) ∙ sym end_is in
+    subst (IsSearch m entries Nothing) both (search-followed m entries a (put_some (put_some new next) goal) done whole)
+
+-- and one address fewer is left
+pub followed-left : (m : MapView) (entries : List ℕ) (old new : State) (a : ℕ) (next goal : Option ℕ) (mid end : State) → IsPlaced m.image
+    → new.marks ≡ old.marks → old.todo ≡ new.todo ++ a ∷ [] → next ≡ next_at m a → goal ≡ goal_at m a → mid ≡ put_some new next → end ≡ put_some mid goal
+    → IsSearch m entries Nothing old → left_to_do end + 1 ≡ left_to_do old
+followed-left m entries old new a next goal mid end placed marks todo next_is goal_is mid_is end_is was =
+    let here = next-reached m entries old new a todo was in
+    let taken = search-next m entries old new a marks todo was in
+    let by_next : (b : ℕ) → next ≡ Some b → LeadsTo m a b = λ b is. inl (sym next_is ∙ is) in
+    let by_goal : (b : ℕ) → goal ≡ Some b → LeadsTo m a b = λ b is. inr (sym goal_is ∙ is) in
+    let halfway : IsSearch m entries (λ b. b ≡ a) (put_some new next) = put_some-search m entries (λ b. b ≡ a) new a next placed here by_next taken in
+    let both : put_some (put_some new next) goal ≡ end = sym (ap (λ t. put_some t goal) mid_is) ∙ sym end_is in
+    let first = put_some-left m new a next placed taken.count by_next in
+    let second = put_some-left m (put_some new next) a goal placed halfway.count by_goal in
+    omega (arith, ap left_to_do both, first, second, next-left old new a marks todo)
+
+-- marks stay, so the entries stay marked
+pub followed-entries : (m : MapView) (entries : List ℕ) (old new : State) (a : ℕ) (next goal : Option ℕ) (mid end : State) → IsPlaced m.image
+    → new.marks ≡ old.marks → old.todo ≡ new.todo ++ a ∷ [] → next ≡ next_at m a → goal ≡ goal_at m a → mid ≡ put_some new next → end ≡ put_some mid goal
+    → IsSearch m entries Nothing old → HasEntries m entries old.marks → HasEntries m entries end.marks
+followed-entries m entries old new a next goal mid end placed marks todo next_is goal_is mid_is end_is was all =
+    let here = next-reached m entries old new a todo was in
+    let taken = search-next m entries old new a marks todo was in
+    let by_next : (b : ℕ) → next ≡ Some b → LeadsTo m a b = λ b is. inl (sym next_is ∙ is) in
+    let by_goal : (b : ℕ) → goal ≡ Some b → LeadsTo m a b = λ b is. inr (sym goal_is ∙ is) in
+    let halfway : IsSearch m entries (λ b. b ≡ a) (put_some new next) = put_some-search m entries (λ b. b ≡ a) new a next placed here by_next taken in
+    let both : put_some (put_some new next) goal ≡ end = sym (ap (λ t. put_some t goal) mid_is) ∙ sym end_is in
+    record {
+      each = λ x has inside.
+          subst (λ t. is_marked t.marks x ≡ true) both
+          (put_some-grows m (put_some new next) a goal placed halfway.count by_goal x
+          (put_some-grows m new a next placed taken.count by_next x (ap (λ l. is_marked l x) marks ∙ all.each x has inside)));
+    }
+
+-- ---- the entries
+
+pub entries-none : (m : MapView) (entries : List ℕ) (marks : List Bool) → HasEntriesTo m entries 0 marks
+entries-none m entries marks = record { each = λ k below. absurd (omega (arith, below)) }
+
+entries-put : (m : MapView) (entries : List ℕ) (k : ℕ) (s : State) (a : ℕ) → a < length s.marks → get_or entries k 0 ≡ a → HasEntriesTo m entries k s.marks → HasEntriesTo m entries (k + 1) (put s a).marks
+entries-put m entries k s a room here old = record {
+  each = λ i below inside. elim (cases_lt i k) as (λ _. is_marked (put s a).marks (get_or entries i 0) ≡ true) [
+    | inl before ↦ put-grows s a (get_or entries i 0) room (old.each i before inside)
+    | inr past ↦ let same : i ≡ k = omega (arith, below, past) in
+        subst (λ x. is_marked (put s a).marks x ≡ true) (sym here ∙ ap (λ j. get_or entries j 0) (sym same)) (put-marked s a room)
+  ];
+}
+
+entries-passed : (m : MapView) (entries : List ℕ) (k : ℕ) (marks : List Bool) → is_inside m.image (get_or entries k 0) ≡ false → HasEntriesTo m entries k marks → HasEntriesTo m entries (k + 1) marks
+entries-passed m entries k marks outside old = record {
+  each = λ i below inside. elim (cases_lt i k) as (λ _. is_marked marks (get_or entries i 0) ≡ true) [
+    | inl before ↦ old.each i before inside
+    | inr past ↦ let same : i ≡ k = omega (arith, below, past) in
+        let no : false ≡ true = sym outside ∙ ap (λ j. is_inside m.image (get_or entries j 0)) (sym same) ∙ inside in cc
+  ];
+}
+
+-- an entry is marked if it lies in the image
+pub entries-search : (m : MapView) (entries : List ℕ) (k : ℕ) (s : State) (a : ℕ) → IsPlaced m.image → k < length entries → get_or entries k 0 ≡ a
+    → IsSearch m entries Nothing s → IsSearch m entries Nothing (put_inside m.image s a)
+unfolding put_inside
+entries-search m entries k s a placed low here old =
+    cond_both (is_inside m.image a) (put s a) s (IsSearch m entries Nothing)
+    (λ inside. search-put m entries Nothing s a (omega (arith, placed.room, (within m a inside).high)) (entry a (subst (Contains entries) here (Contains-get_or entries k 0 low)) inside) old)
+    (λ _. old)
+
+pub entries-next : (m : MapView) (entries : List ℕ) (k : ℕ) (s : State) (a : ℕ) → IsPlaced m.image → get_or entries k 0 ≡ a
+    → IsSearch m entries Nothing s → HasEntriesTo m entries k s.marks → HasEntriesTo m entries (k + 1) (put_inside m.image s a).marks
+unfolding put_inside
+entries-next m entries k s a placed here was old =
+    cond_both (is_inside m.image a) (put s a) s (λ t. HasEntriesTo m entries (k + 1) t.marks)
+    (λ inside. entries-put m entries k s a (omega (arith, was.count, placed.room, (within m a inside).high)) here old)
+    (λ outside. entries-passed m entries k s.marks (ap (is_inside m.image) here ∙ outside) old)
+
+pub entries-all : (m : MapView) (entries : List ℕ) (k : ℕ) (marks : List Bool) → length entries ≤ k → HasEntriesTo m entries k marks → HasEntries m entries marks
+entries-all m entries k marks whole old = record {
+  each = λ a has inside.
+      let here : get_or entries has.0 0 ≡ a = get_or_default entries has.0 0 a has.1 ∙ has.2 in
+      subst (λ x. is_marked marks x ≡ true) here (old.each has.0 (omega (arith, whole, has.1)) (ap (is_inside m.image) here ∙ inside));
+}

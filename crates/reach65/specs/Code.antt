@@ -1,0 +1,2 @@
+-- what the code computes beside the definitions
+pub mod Searching

@@ -1,0 +1,6 @@
+-- the rules: where an instruction leads, where reading begins, what is reached
+pub mod Flow
+pub mod Entries
+pub mod Reached
+pub mod Taken
+pub mod Code

@@ -1,0 +1,18 @@
+-- What is reached: the least set of addresses that has the entries in the image, and with an address those that its instruction leads to.
+use Rattle.std.specs.Prelude.{◌≡◌, ◌↔◌, ℕ, Bool, true, false, List, length, get_or, Contains}
+use Rattle.map65.specs.ImageView.{is_inside}
+use Rattle.map65.specs.MapView.{MapView}
+use Rattle.reach65.specs.Flow.{LeadsTo}
+
+pub data Reached (m : MapView) (entries : List ℕ) : ℕ → Type 0 where
+  entry : (a : ℕ) → Contains entries a → is_inside m.image a ≡ true → Reached m entries a
+  led : (b a : ℕ) → Reached m entries b → LeadsTo m b a → Reached m entries a
+
+-- there is a mark for each address from $0000 to $FFFF
+abbrev pub is_marked : List Bool → ℕ → Bool
+is_marked marks a = get_or marks a false
+
+-- an address is marked exactly when it is reached
+pub record AreReached (m : MapView) (entries : List ℕ) (marks : List Bool) : Type 0 where
+  pub count : length marks ≡ 65536
+  pub each : (a : ℕ) → is_marked marks a ≡ true ↔ Reached m entries a

@@ -1,0 +1,43 @@
+-- Which addresses are spoken for: those of a range of the information file, and the bytes of reached instructions.
+use Rattle.std.specs.Prelude.{◌≡◌, ◌⊎◌, ◌↔◌, ℕ, ◌+◌, ◌<◌, ◌&&◌, ◌||◌, nat_le, nat_lt, Bool, true, false, List, length, Option, Some, None}
+use Rattle.std.specs.List.{list_any}
+use Rattle.isa65.specs.Mode.{len_of}
+use Rattle.isa65.specs.declared.op.Op.{Op}
+use Rattle.info65.specs.Ranges.{has_address}
+use Rattle.info65.specs.declared.information.range.RangeSpec.{RangeSpec}
+use Rattle.map65.specs.MapView.{MapView}
+use Rattle.map65.specs.Spans.{addresses}
+use Rattle.reach65.specs.Flow.{instruction_at}
+use Rattle.reach65.specs.Reached.{Reached, is_marked}
+
+abbrev pub is_within : ℕ → Option Op → ℕ → Bool
+is_within b None a = false
+is_within b (Some op) a = nat_le b a && nat_lt a (b + len_of op.mode)
+
+-- the instruction that begins at the first address has the second one
+unfoldable pub has_byte : MapView → ℕ → ℕ → Bool
+has_byte m b a = is_within b (instruction_at m b) a
+
+-- a marked instruction has the address
+unfoldable pub is_of_code : MapView → List Bool → ℕ → ℕ → Bool
+is_of_code m marks a b = is_marked marks b && has_byte m b a
+
+-- a range has the address
+unfoldable pub is_given : List RangeSpec → ℕ → Bool
+is_given ranges a = list_any (λ r. has_address r a) ranges
+
+unfoldable pub is_taken : MapView → List Bool → ℕ → Bool
+is_taken m marks a = is_given m.info.ranges a || list_any (is_of_code m marks a) (addresses (length m.image.bytes) m.image.start)
+
+-- there is a mark for each address, and it says this
+pub record AreMarkedBy (p : ℕ → Bool) (marks : List Bool) : Type 0 where
+  pub count : length marks ≡ 65536
+  pub each : (a : ℕ) → a < 65536 → is_marked marks a ≡ p a
+
+-- ---- the law
+
+-- a reached instruction has the address
+pub record IsCode (m : MapView) (entries : List ℕ) (a : ℕ) : Type 0 where
+  pub instruction : ℕ
+  pub reached : Reached m entries instruction
+  pub has : has_byte m instruction a ≡ true

@@ -1,0 +1,176 @@
+//! Where reading begins.
+
+ghost use Rattle.std.specs.Prelude.{◌≡◌, ◌+◌, ◌++◌, ◌<◌, ◌≤◌, ℕ, IfOk, IfSome, OnOk, length};
+ghost use Rattle.std.specs.Option.{option_to_list};
+ghost use Rattle.map65.specs.ImageView.{IsPlaced, byte_at, end_of};
+ghost use Rattle.map65.specs.MapView.{MapView};
+ghost use Rattle.map65.specs.Targets.{entry_of, return_target};
+ghost use Rattle.reach65.specs.Entries.{code_start, code_starts, entries_of, has_vectors, pointer_at, pointer_for, pointers, vectors, word_at};
+
+use crate::flow::bytes_from;
+use info65::{Entry, RangeSpec, RangeType};
+use map65::{Image, Map};
+use std::alloc::{AllocError, Allocator};
+
+/// Adds an address, if there is one.
+fn put_some<A: Allocator>(found: &mut Vec<u16, A>, address: Option<u16>) -> Result<(), AllocError>
+    ensures { OnOk result (found.new.items ≡ found.old.items ++ option_to_list address) }
+{
+    if let Some(address) = address {
+        found.push(address)?;
+    }
+    Ok(())
+}
+
+// ---- tables
+
+/// The word of a table's entry, low byte first.
+fn entry_of(bytes: &[u8]) -> u16
+    requires { 2 ≤ length bytes.now }
+    ensures { result ≡ entry_of bytes.now }
+{
+    u16::from(bytes[0]) + 256 * u16::from(bytes[1])
+}
+
+/// The address that a return leads to with this word on the stack.
+fn return_target(word: u16) -> Option<u16>
+    ensures { result ≡ return_target word }
+{
+    if word == 0xFFFF { None } else { Some(word + 1) }
+}
+
+/// The address that a table's entry refers to, which has the first bytes of these.
+#[tactic(auto, unfolding(crate::specs::Entries::pointer_for))]
+fn pointer_for(entry: Entry, len: u8, bytes: &[u8]) -> Option<u16>
+    requires { len ≤ length bytes.now }
+    ensures { (m : MapView) (a : ℕ) → result ≡ pointer_for m a entry len bytes.now }
+{
+    if len != 2 {
+        return None;
+    }
+    match entry {
+        Entry::Address => Some(entry_of(bytes)),
+        Entry::Return => return_target(entry_of(bytes)),
+        _ => None,
+    }
+}
+
+/// The address that the entry of a table of addresses, or of returns, refers to that begins at the address.
+fn pointer_at<A: Allocator>(map: &Map<'_, A>, address: u16) -> Option<u16>
+    requires low { map.now.image.start ≤ address }
+    requires high { address < end_of map.now.image }
+    ensures { result ≡ pointer_at map.now address }
+{
+    let role = map.role(address)?;
+    let bytes = bytes_from(map.image(), address);
+    pointer_for(role.layout().entry, map.item_len(address), bytes)
+}
+
+/// Adds what the tables of addresses and of returns refer to.
+fn put_pointers<A: Allocator, B: Allocator>(
+    found: &mut Vec<u16, A>,
+    map: &Map<'_, B>,
+) -> Result<(), AllocError>
+    ensures { OnOk result (found.new.items ≡ found.old.items ++ pointers map.now) }
+{
+    let image = map.image();
+    let start = usize::from(image.start());
+    'pointers: for k in 0..image.bytes().len() {
+        put_some(found, pointer_at(map, (start + k) as u16))?;
+    }
+    Ok(())
+}
+
+// ---- ranges of code
+
+/// The first address of a range of code.
+fn code_start(range: RangeSpec) -> Option<u16>
+    ensures { option_to_list result ≡ code_start range }
+{
+    if range.role == RangeType::Code {
+        Some(range.first)
+    } else {
+        None
+    }
+}
+
+/// Adds the first address of each range of code.
+fn put_code_starts<A: Allocator>(
+    found: &mut Vec<u16, A>,
+    ranges: &[RangeSpec],
+) -> Result<(), AllocError>
+    ensures { OnOk result (found.new.items ≡ found.old.items ++ code_starts ranges.now) }
+{
+    'starts: for &range in ranges {
+        put_some(found, code_start(range))?;
+    }
+    Ok(())
+}
+
+// ---- vectors
+
+/// Whether the image has the bytes at $FFFA to $FFFF.
+fn has_vectors<A: Allocator>(image: &Image<A>) -> bool
+    ensures { result ≡ has_vectors image.now }
+{
+    image.start() <= 0xFFFA && usize::from(image.start()) + image.bytes().len() == 0x1_0000
+}
+
+/// The byte at an address of the image.
+fn byte_at<A: Allocator>(image: &Image<A>, address: u16) -> u8
+    requires low { image.now.start ≤ address }
+    requires high { address < end_of image.now }
+    ensures { result ≡ byte_at image.now address }
+{
+    image.bytes()[usize::from(address - image.start())]
+}
+
+/// The word at an address of the image, low byte first.
+fn word_at<A: Allocator>(image: &Image<A>, address: u16) -> u16
+    requires low { image.now.start ≤ address }
+    requires high { address + 1 < end_of image.now }
+    requires room { address + 1 < 65536 }
+    ensures { result ≡ word_at image.now address }
+{
+    u16::from(byte_at(image, address)) + 256 * u16::from(byte_at(image, address + 1))
+}
+
+/// Adds the vectors of the CPU, if the image has them.
+#[tactic(auto, unfolding(crate::specs::Entries::vectors))]
+fn put_vectors<A: Allocator, B: Allocator>(
+    found: &mut Vec<u16, A>,
+    image: &Image<B>,
+) -> Result<(), AllocError>
+    ensures { OnOk result (found.new.items ≡ found.old.items ++ vectors image.now) }
+{
+    if has_vectors(image) {
+        found.push(word_at(image, 0xFFFA))?;
+        found.push(word_at(image, 0xFFFC))?;
+        found.push(word_at(image, 0xFFFE))?;
+    }
+    Ok(())
+}
+
+// ---- all
+
+/// Returns where reading begins: the addresses that are given; what the entries of the tables of addresses and of returns refer to; the
+/// first address of each range of code; the vectors, if the image has $FFFA to $FFFF; and without any of these the first address
+/// of the image. Fails only if an allocation failed.
+#[tactic(auto, unfolding(crate::specs::Entries::entries_of))]
+pub fn entries_of<A: Allocator, B: Allocator>(
+    alloc: A,
+    map: &Map<'_, B>,
+    given: &[u16],
+) -> Result<Vec<u16, A>, AllocError>
+    ensures { IfOk result (λ found. found.items ≡ entries_of map.now given.now) }
+{
+    let mut found = Vec::new(alloc);
+    found.extend_from_slice(given)?;
+    put_pointers(&mut found, map)?;
+    put_code_starts(&mut found, map.info().ranges())?;
+    put_vectors(&mut found, map.image())?;
+    if found.is_empty() {
+        found.push(map.image().start())?;
+    }
+    Ok(found)
+}

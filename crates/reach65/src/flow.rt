@@ -1,0 +1,164 @@
+//! Where instructions lead.
+
+ghost use Rattle.std.specs.Prelude.{◌≡◌, ◌+◌, ◌≤◌, ◌<◌, length, IfSome, IsTrue};
+ghost use Rattle.isa65.specs.Mode.{len_of};
+ghost use Rattle.map65.specs.ImageView.{byte_at, bytes_from, end_of, is_inside};
+ghost use Rattle.map65.specs.Targets.{is_jump, only_inside};
+ghost use Rattle.reach65.specs.Flow.{goal_at, goal_of, instruction_at, is_last, next_at};
+
+use info65::RangeType;
+use isa65::{DecodeTable, Mnemonic, Mode, Op, OpcodeSet};
+use map65::{Image, Map, target_of, word_of};
+use std::alloc::{Allocator, Global};
+use std::marker::Model;
+
+/// The instructions of a map, and where they lead.
+#[derive(Drop)]
+pub struct Flow<'a, A: Allocator = Global> {
+    map: &'a Map<'a, A>,
+    opcodes: DecodeTable,
+}
+
+impl<'a, A: Allocator> Model for Flow<'a, A> {
+    ghost use Rattle.std.specs.Prelude.{◌≡◌};
+    ghost use Rattle.map65.specs.MapView.{MapView};
+
+    ghost Value = { MapView };
+
+    ghost view = { λ f. f.map.now };
+
+    ghost invariant = { λ f. f.opcodes ≡ f.map.now.info.settings.cpu };
+}
+
+/// Whether the next instruction does not run after it.
+fn is_last(mnemonic: Mnemonic) -> bool
+    ensures { result ≡ is_last mnemonic }
+{
+    mnemonic == Mnemonic::Jmp
+        || mnemonic == Mnemonic::Bra
+        || mnemonic == Mnemonic::Rts
+        || mnemonic == Mnemonic::Rti
+        || mnemonic == Mnemonic::Brk
+}
+
+/// Whether the instruction goes to its absolute operand.
+fn is_jump(mnemonic: Mnemonic) -> bool
+    ensures { result ≡ is_jump mnemonic }
+{
+    mnemonic == Mnemonic::Jmp || mnemonic == Mnemonic::Jsr
+}
+
+/// Whether the address, which may be $10000, lies in the image.
+pub fn is_inside<A: Allocator>(image: &Image<A>, address: usize) -> bool
+    ensures value { result ≡ is_inside image.now address }
+    ensures fits { IsTrue result → address < 65536 }
+{
+    usize::from(image.start()) <= address
+        && address < usize::from(image.start()) + image.bytes().len()
+}
+
+/// The address, if it lies in the image.
+fn only_inside<A: Allocator>(image: &Image<A>, address: usize) -> Option<u16>
+    ensures { result ≡ only_inside image.now address }
+{
+    if is_inside(image, address) {
+        Some(address as u16)
+    } else {
+        None
+    }
+}
+
+/// The bytes of the image from an address of it on.
+pub fn bytes_from<A: Allocator>(image: &Image<A>, address: u16) -> &[u8]
+    requires low { image.now.start ≤ address }
+    requires high { address < end_of image.now }
+    ensures bytes { result.now ≡ bytes_from image.now address }
+    ensures some { 0 < length result.now }
+    ensures len { address + length result.now ≡ end_of image.now }
+    ensures room { end_of image.now ≤ 65536 }
+{
+    let (_, bytes) = image.bytes().split_at(usize::from(address - image.start()));
+    bytes
+}
+
+/// The address that an instruction of these bytes goes to by its operand.
+#[tactic(auto, unfolding(crate::specs::Flow::goal_of))]
+fn goal_of(op: Op, address: u16, bytes: &[u8]) -> Option<u16>
+    requires all { len_of op.mode ≤ length bytes.now }
+    requires room { address + len_of op.mode ≤ 65536 }
+    ensures { result ≡ goal_of op.mnemonic op.mode address bytes.now }
+{
+    match op.mode {
+        Mode::Abs => {
+            if is_jump(op.mnemonic) {
+                return Some(word_of(bytes));
+            }
+            None
+        }
+        Mode::Rel => target_of(u32::from(address) + 2, bytes[1]),
+        Mode::Zprel => target_of(u32::from(address) + 3, bytes[2]),
+        _ => None,
+    }
+}
+
+impl<'a, A: Allocator> Flow<'a, A> {
+    /// The instructions of a map.
+    pub fn new(map: &'a Map<'a, A>) -> Flow<'a, A>
+        ensures { result ≡ map.now }
+    {
+        let opcodes = DecodeTable::new(map.info().settings().cpu);
+        Flow { map, opcodes }
+    }
+
+    /// Returns the map.
+    pub fn map(&self) -> &'a Map<'a, A>
+        ensures { result.now ≡ self.now }
+    {
+        self.map
+    }
+
+    /// Returns the instruction that begins at the address: `None` if the address is no code of the image, if its opcode is
+    /// undefined, or if its bytes do not all lie in the image.
+    #[tactic(auto, unfolding(crate::specs::Flow::instruction_at))]
+    pub fn instruction_at(&self, address: u16) -> Option<Op>
+        ensures value { result ≡ instruction_at self.now address }
+        ensures low { IfSome result (λ _. self.now.image.start ≤ address) }
+        ensures high { IfSome result (λ _. address < end_of self.now.image) }
+        ensures whole { IfSome result (λ op. address + len_of op.mode ≤ end_of self.now.image) }
+    {
+        let Some(RangeType::Code) = self.map.role(address) else {
+            return None;
+        };
+        let bytes = bytes_from(self.map.image(), address);
+        match self.opcodes.decode(bytes[0]) {
+            Some(op) if usize::from(op.mode.len()) <= bytes.len() => Some(op),
+            _ => None,
+        }
+    }
+
+    /// Returns the address after the instruction, if it leads there.
+    #[tactic(auto, unfolding(crate::specs::Flow::next_at))]
+    pub fn next_at(&self, address: u16) -> Option<u16>
+        ensures { result ≡ next_at self.now address }
+    {
+        let op = self.instruction_at(address)?;
+        if is_last(op.mnemonic) {
+            return None;
+        }
+        only_inside(
+            self.map.image(),
+            usize::from(address) + usize::from(op.mode.len()),
+        )
+    }
+
+    /// Returns the address that the instruction goes to by its operand, if it lies in the image.
+    #[tactic(auto, unfolding(crate::specs::Flow::goal_at))]
+    pub fn goal_at(&self, address: u16) -> Option<u16>
+        ensures { result ≡ goal_at self.now address }
+    {
+        let op = self.instruction_at(address)?;
+        let image = self.map.image();
+        let goal = goal_of(op, address, bytes_from(image, address))?;
+        only_inside(image, usize::from(goal))
+    }
+}

@@ -1,0 +1,13 @@
+//! What the code of an image reaches.
+//!
+//! [`Flow`] says where the instruction of an address leads, [`entries_of`] where reading begins, and [`reached`] marks what is reached from there.
+#![tactic(auto)]
+
+mod entries;
+mod flow;
+mod search;
+mod taken;
+
+pub use entries::entries_of;
+pub use flow::Flow;
+pub use search::reached;
