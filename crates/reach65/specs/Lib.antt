@@ -3,4 +3,5 @@ pub mod Flow
 pub mod Entries
 pub mod Reached
 pub mod Taken
+pub mod Pieces
 pub mod Code

@@ -1,5 +1,5 @@
 -- Which addresses are spoken for: those of a range of the information file, and the bytes of reached instructions.
-use Rattle.std.specs.Prelude.{◌≡◌, ◌⊎◌, ◌↔◌, ℕ, ◌+◌, ◌<◌, ◌&&◌, ◌||◌, nat_le, nat_lt, Bool, true, false, List, length, Option, Some, None}
+use Rattle.std.specs.Prelude.{◌≡◌, ℕ, ◌+◌, ◌<◌, ◌&&◌, ◌||◌, nat_le, nat_lt, Bool, false, List, length, Option, Some, None}
 use Rattle.std.specs.List.{list_any}
 use Rattle.isa65.specs.Mode.{len_of}
 use Rattle.isa65.specs.declared.op.Op.{Op}
@@ -8,7 +8,7 @@ use Rattle.info65.specs.declared.information.range.RangeSpec.{RangeSpec}
 use Rattle.map65.specs.MapView.{MapView}
 use Rattle.map65.specs.Spans.{addresses}
 use Rattle.reach65.specs.Flow.{instruction_at}
-use Rattle.reach65.specs.Reached.{Reached, is_marked}
+use Rattle.reach65.specs.Reached.{is_marked}
 
 abbrev pub is_within : ℕ → Option Op → ℕ → Bool
 is_within b None a = false
@@ -33,11 +33,3 @@ is_taken m marks a = is_given m.info.ranges a || list_any (is_of_code m marks a)
 pub record AreMarkedBy (p : ℕ → Bool) (marks : List Bool) : Type 0 where
   pub count : length marks ≡ 65536
   pub each : (a : ℕ) → a < 65536 → is_marked marks a ≡ p a
-
--- ---- the law
-
--- a reached instruction has the address
-pub record IsCode (m : MapView) (entries : List ℕ) (a : ℕ) : Type 0 where
-  pub instruction : ℕ
-  pub reached : Reached m entries instruction
-  pub has : has_byte m instruction a ≡ true

@@ -2,12 +2,12 @@
 
 ghost use Rattle.std.specs.Prelude.{◌≡◌, ◌+◌, ◌++◌, ◌<◌, ◌≤◌, ℕ, IfOk, IfSome, OnOk, length};
 ghost use Rattle.std.specs.Option.{option_to_list};
-ghost use Rattle.map65.specs.ImageView.{IsPlaced, byte_at, end_of};
+ghost use Rattle.map65.specs.ImageView.{end_of};
 ghost use Rattle.map65.specs.MapView.{MapView};
 ghost use Rattle.map65.specs.Targets.{entry_of, return_target};
 ghost use Rattle.reach65.specs.Entries.{code_start, code_starts, entries_of, has_vectors, pointer_at, pointer_for, pointers, vectors, word_at};
 
-use crate::flow::bytes_from;
+use crate::flow::{byte_at, bytes_from};
 use info65::{Entry, RangeSpec, RangeType};
 use map65::{Image, Map};
 use std::alloc::{AllocError, Allocator};
@@ -116,23 +116,14 @@ fn has_vectors<A: Allocator>(image: &Image<A>) -> bool
     image.start() <= 0xFFFA && usize::from(image.start()) + image.bytes().len() == 0x1_0000
 }
 
-/// The byte at an address of the image.
-fn byte_at<A: Allocator>(image: &Image<A>, address: u16) -> u8
-    requires low { image.now.start ≤ address }
-    requires high { address < end_of image.now }
-    ensures { result ≡ byte_at image.now address }
-{
-    image.bytes()[usize::from(address - image.start())]
-}
-
 /// The word at an address of the image, low byte first.
 fn word_at<A: Allocator>(image: &Image<A>, address: u16) -> u16
     requires low { image.now.start ≤ address }
     requires high { address + 1 < end_of image.now }
-    requires room { address + 1 < 65536 }
     ensures { result ≡ word_at image.now address }
 {
-    u16::from(byte_at(image, address)) + 256 * u16::from(byte_at(image, address + 1))
+    let at = usize::from(address);
+    u16::from(byte_at(image, at)) + 256 * u16::from(byte_at(image, at + 1))
 }
 
 /// Adds the vectors of the CPU, if the image has them.

@@ -51,6 +51,8 @@ fn is_jump(mnemonic: Mnemonic) -> bool
 /// Whether the address, which may be $10000, lies in the image.
 pub fn is_inside<A: Allocator>(image: &Image<A>, address: usize) -> bool
     ensures value { result ≡ is_inside image.now address }
+    ensures low { IsTrue result → image.now.start ≤ address }
+    ensures high { IsTrue result → address < end_of image.now }
     ensures fits { IsTrue result → address < 65536 }
 {
     usize::from(image.start()) <= address
@@ -66,6 +68,15 @@ fn only_inside<A: Allocator>(image: &Image<A>, address: usize) -> Option<u16>
     } else {
         None
     }
+}
+
+/// The byte at an address of the image.
+pub fn byte_at<A: Allocator>(image: &Image<A>, address: usize) -> u8
+    requires low { image.now.start ≤ address }
+    requires high { address < end_of image.now }
+    ensures { result ≡ byte_at image.now address }
+{
+    image.bytes()[address - usize::from(image.start())]
 }
 
 /// The bytes of the image from an address of it on.

@@ -5,9 +5,12 @@
 
 mod entries;
 mod flow;
+mod pieces;
 mod search;
 mod taken;
 
 pub use entries::entries_of;
 pub use flow::Flow;
+pub use pieces::Ground;
 pub use search::reached;
+pub use taken::mark_taken;

@@ -1,0 +1,150 @@
+-- One piece after the other.
+use Rattle.std.proofs.Common.{◌≡◌, ◌+◌, ◌<◌, ◌≤◌, ◌∙◌, ◌&&◌, ◌||◌, not, nat_le, nat_lt, ℕ, Bool, true, false, List, [], ◌∷◌, ◌++◌, append_assoc, ap, arith, inl, inr, refl, subst, sym}
+use Rattle.std.proofs.lemmas.Bool.{and_parts, cases_lt, cond_both, leb-true, le-leb, lt-leb, lt-ltb, ltb-true, le-ltb}
+use Rattle.std.proofs.lemmas.List.{append-nil}
+use Rattle.info65.specs.Ranges.{has_address}
+use Rattle.info65.specs.declared.information.range.RangeSpec.{RangeSpec}
+use Rattle.info65.specs.declared.information.range.RangeType.{RangeType}
+use Rattle.info65.specs.declared.information.range.RangeType.TheVariants as role
+use Rattle.map65.specs.ImageView.{byte_at, end_of, is_inside}
+use Rattle.reach65.specs.Pieces.{ArePieces, Ground, IsPiece, is_break, is_char, is_free, is_text}
+use Rattle.reach65.specs.Taken.{is_given}
+
+-- ---- free addresses
+
+-- nothing past the image is free
+pub past-free : (g : Ground) (a : ℕ) → end_of g.image ≤ a → is_free g a ≡ false
+unfolding is_free
+past-free g a past = no-first (is_inside g.image a) _ (no-second (nat_le g.image.start a) (nat_lt a (end_of g.image)) (le-ltb a (end_of g.image) past))
+  where
+    no-first : (x y : Bool) → x ≡ false → (x && y) ≡ false
+    no-first true y is = cc
+    no-first false y is = refl
+
+    no-second : (x y : Bool) → y ≡ false → (x && y) ≡ false
+    no-second true y is = is
+    no-second false y is = refl
+
+pub past-char : (g : Ground) (a : ℕ) → end_of g.image ≤ a → is_char g a ≡ false
+unfolding is_char
+past-char g a past = no-first (is_free g a) _ (past-free g a past)
+  where
+    no-first : (x y : Bool) → x ≡ false → (x && y) ≡ false
+    no-first true y is = cc
+    no-first false y is = refl
+
+pub past-break : (g : Ground) (a : ℕ) → end_of g.image ≤ a → is_break g a ≡ true
+unfolding is_break
+past-break g a past = turned (is_free g a) (is_text g a) (past-free g a past)
+  where
+    turned : (x y : Bool) → x ≡ false → (not x || y) ≡ true
+    turned true y is = cc
+    turned false y is = refl
+
+pub char-free : (g : Ground) (a : ℕ) → is_char g a ≡ true → is_free g a ≡ true
+unfolding is_char
+char-free g a is = (and_parts (is_free g a) (nat_lt 0x1F (byte_at g.image a) && nat_lt (byte_at g.image a) 0x7F) is).0
+
+pub text-char : (g : Ground) (a : ℕ) → is_text g a ≡ true → is_char g a ≡ true
+unfolding is_text
+text-char g a is = (and_parts (is_char g a) (is_char g (a + 1) && (is_char g (a + 2) && (is_char g (a + 3) && is_char g (a + 4)))) is).0
+
+pub break-free : (g : Ground) (a : ℕ) → is_break g a ≡ false → is_free g a ≡ true
+unfolding is_break
+break-free g a is = turned (is_free g a) (is_text g a) is
+  where
+    turned : (x y : Bool) → (not x || y) ≡ false → x ≡ true
+    turned true y is = refl
+    turned false y is = cc
+
+pub free-break : (g : Ground) (a : ℕ) → is_free g a ≡ true → is_text g a ≡ false → is_break g a ≡ false
+unfolding is_break
+free-break g a free none = turned (is_free g a) (is_text g a) free none
+  where
+    turned : (x y : Bool) → x ≡ true → y ≡ false → (not x || y) ≡ false
+    turned true y free none = none
+    turned false y free none = cc
+
+-- each address of a piece is free
+piece-free : (g : Ground) (r : RangeType) (from end a : ℕ) → IsPiece g r from end → from ≤ a → a < end → is_free g a ≡ true
+piece-free g role.TextTable from end a piece low high = char-free g a (piece.1 a low high)
+piece-free g role.ByteTable from end a piece low high = break-free g a (piece.1 a low high)
+piece-free g role.Code from end a piece low high = absurd piece
+piece-free g role.WordTable from end a piece low high = absurd piece
+piece-free g role.DbyteTable from end a piece low high = absurd piece
+piece-free g role.DwordTable from end a piece low high = absurd piece
+piece-free g role.AddrTable from end a piece low high = absurd piece
+piece-free g role.RtsTable from end a piece low high = absurd piece
+piece-free g role.Skip from end a piece low high = absurd piece
+
+-- ---- pieces in order
+
+pieces-none : (g : Ground) (from : ℕ) → ((a : ℕ) → from ≤ a → is_free g a ≡ false) → ArePieces g from []
+unfolding ArePieces
+pieces-none g from none = none
+
+pieces-more : (g : Ground) (from : ℕ) (r : RangeSpec) (later : List RangeSpec) → from ≤ r.first → ((a : ℕ) → from ≤ a → a < r.first → is_free g a ≡ false)
+    → r.first ≤ r.last → IsPiece g r.role r.first (r.last + 1) → ArePieces g (r.last + 1) later → ArePieces g from (r ∷ later)
+unfolding ArePieces
+pieces-more g from r later low before ordered piece rest = (low, before, ordered, piece, rest)
+
+-- those that were found and the next one
+pub pieces-pushed : (g : Ground) (from next : ℕ) (r : RangeSpec) (found all : List RangeSpec)
+    → ((later : List RangeSpec) → ArePieces g from later → ArePieces g 0 (found ++ later)) → all ≡ found ++ r ∷ [] → next ≡ r.last + 1
+    → from ≤ r.first → ((a : ℕ) → from ≤ a → a < r.first → is_free g a ≡ false) → r.first ≤ r.last → IsPiece g r.role r.first (r.last + 1)
+    → (later : List RangeSpec) → ArePieces g next later → ArePieces g 0 (all ++ later)
+pieces-pushed g from next r found all old is place low before ordered piece later rest =
+    rw (is, append_assoc) (old (r ∷ later) (pieces-more g from r later low before ordered piece (subst (λ n. ArePieces g n later) place rest)))
+
+-- those that were found, if nothing is free after them
+pub pieces-end : (g : Ground) (from : ℕ) (found : List RangeSpec)
+    → ((later : List RangeSpec) → ArePieces g from later → ArePieces g 0 (found ++ later)) → ((a : ℕ) → from ≤ a → is_free g a ≡ false) → ArePieces g 0 found
+pieces-end g from found old none =
+    let P : List RangeSpec → Type 0 = λ l. ArePieces g 0 l in
+    subst P (append-nil found) (old [] (pieces-none g from none))
+
+-- ---- what they cover
+
+below-range : (r : RangeSpec) (a : ℕ) → a < r.first → has_address r a ≡ false
+below-range r a below = rw (lt-leb r.first a below) refl
+
+above-range : (r : RangeSpec) (a : ℕ) → r.last < a → has_address r a ≡ false
+above-range r a above = no-second (nat_le r.first a) (nat_le a r.last) (lt-leb a r.last above)
+  where
+    no-second : (x y : Bool) → y ≡ false → (x && y) ≡ false
+    no-second true y is = is
+    no-second false y is = refl
+
+in-range : (r : RangeSpec) (a : ℕ) → r.first ≤ a → a ≤ r.last → has_address r a ≡ true
+in-range r a low high = rw (le-leb r.first a low, le-leb a r.last high) refl
+
+no-pieces : (g : Ground) (from a : ℕ) (rs : List RangeSpec) → a < from → ArePieces g from rs → is_given rs a ≡ false
+unfolding is_given ArePieces
+no-pieces g from a [] below are = refl
+no-pieces g from a (r ∷ rs) below are =
+    let low : from ≤ r.first = are.0 in
+    let ordered : r.first ≤ r.last = are.2 in
+    rw (below-range r a (omega (arith, below, low))) (no-pieces g (r.last + 1) a rs (omega (arith, below, low, ordered)) are.4)
+
+covers-from : (g : Ground) (from a : ℕ) (rs : List RangeSpec) → from ≤ a → ArePieces g from rs → is_given rs a ≡ is_free g a
+unfolding is_given ArePieces
+covers-from g from a [] low are = sym (are a low)
+covers-from g from a (r ∷ rs) low are =
+    elim (cases_lt a r.first) as (λ _. is_given (r ∷ rs) a ≡ is_free g a) [
+      | inl before ↦ rw (below-range r a before) (no-pieces g (r.last + 1) a rs (omega (arith, before, are.2)) are.4 ∙ sym (are.1 a low before))
+      | inr from_first ↦ elim (cases_lt r.last a) as (λ _. is_given (r ∷ rs) a ≡ is_free g a) [
+        | inl after ↦ rw (above-range r a after) (covers-from g (r.last + 1) a rs (omega (arith, after)) are.4)
+        | inr inside ↦ rw (in-range r a from_first inside) (sym (piece-free g r.role r.first (r.last + 1) a are.3 from_first (omega (arith, inside))))
+      ]
+    ]
+
+pub pieces-cover : (g : Ground) (rs : List RangeSpec) → ArePieces g 0 rs → (a : ℕ) → is_given rs a ≡ is_free g a
+pieces-cover g rs are a = covers-from g 0 a rs (omega arith) are
+
+-- nothing is free from an address on, if nothing is up to an address past the image
+pub free-none : (g : Ground) (from at : ℕ) → end_of g.image ≤ at → ((a : ℕ) → from ≤ a → a < at → is_free g a ≡ false) → (a : ℕ) → from ≤ a → is_free g a ≡ false
+free-none g from at past before a low =
+    elim (cases_lt a at) as (λ _. is_free g a ≡ false) [
+      | inl below ↦ before a low below
+      | inr after ↦ past-free g a (omega (arith, past, after))
+    ]

@@ -1,0 +1,13 @@
+use Rattle.std.proofs.Common.{◌-◌, ◌≤◌, ◌++◌, List}
+use Rattle.info65.specs.declared.information.range.RangeSpec.{RangeSpec}
+use Rattle.reach65.specs.Pieces.{ArePieces}
+use Rattle.reach65.proofs.pieces.Ground.pieces.Given as goal
+
+abbrev pub invariant-pieces : goal.invariant-pieces
+invariant-pieces g l = record {
+  room : l.from ≤ 65536;
+  pieces : (later : List RangeSpec) → ArePieces l.self l.from later → ArePieces l.self 0 (l.found.items ++ later);
+}
+
+abbrev pub decreases-pieces : goal.decreases-pieces
+decreases-pieces g l = 65536 - l.from
