@@ -14,12 +14,12 @@ use std::marker::Model;
 
 /// The instructions of a map, and where they lead.
 #[derive(Drop)]
-pub struct Flow<'a, A: Allocator = Global> {
-    map: &'a Map<'a, A>,
+pub struct Flow<'a, 'm, A: Allocator = Global> {
+    map: &'a Map<'m, A>,
     opcodes: DecodeTable,
 }
 
-impl<'a, A: Allocator> Model for Flow<'a, A> {
+impl<'a, 'm, A: Allocator> Model for Flow<'a, 'm, A> {
     ghost use Rattle.std.specs.Prelude.{◌≡◌};
     ghost use Rattle.map65.specs.MapView.{MapView};
 
@@ -112,9 +112,9 @@ fn goal_of(op: Op, address: u16, bytes: &[u8]) -> Option<u16>
     }
 }
 
-impl<'a, A: Allocator> Flow<'a, A> {
+impl<'a, 'm, A: Allocator> Flow<'a, 'm, A> {
     /// The instructions of a map.
-    pub fn new(map: &'a Map<'a, A>) -> Flow<'a, A>
+    pub fn new(map: &'a Map<'m, A>) -> Flow<'a, 'm, A>
         ensures { result ≡ map.now }
     {
         let opcodes = DecodeTable::new(map.info().settings().cpu);
@@ -122,7 +122,7 @@ impl<'a, A: Allocator> Flow<'a, A> {
     }
 
     /// Returns the map.
-    pub fn map(&self) -> &'a Map<'a, A>
+    pub fn map(&self) -> &'a Map<'m, A>
         ensures { result.now ≡ self.now }
     {
         self.map

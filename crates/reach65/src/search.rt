@@ -101,7 +101,7 @@ impl<A: Allocator> Search<A> {
 /// Marks the entries that lie in the image.
 fn put_entries<A: Allocator, B: Allocator>(
     search: &mut Search<A>,
-    flow: &Flow<'_, B>,
+    flow: &Flow<'_, '_, B>,
     entries: &[u16],
 ) -> Result<(), AllocError>
     requires search { IsSearch flow.now entries.now Nothing search.old }
@@ -120,7 +120,7 @@ fn put_entries<A: Allocator, B: Allocator>(
 /// allocation failed.
 pub fn reached<A: Allocator + Copy, B: Allocator>(
     alloc: A,
-    flow: &Flow<'_, B>,
+    flow: &Flow<'_, '_, B>,
     entries: &[u16],
 ) -> Result<Vec<bool, A>, AllocError>
     ensures { IfOk result (λ marks. AreReached flow.now entries.now marks.items) }

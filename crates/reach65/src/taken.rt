@@ -50,7 +50,7 @@ fn mark_ranges(marks: &mut [bool], ranges: &[RangeSpec])
 
 /// Marks the addresses of the instruction that begins at the address.
 #[tactic(auto, unfolding(crate::specs::Taken::has_byte))]
-fn mark_instruction<A: Allocator>(marks: &mut [bool], flow: &Flow<'_, A>, address: u16)
+fn mark_instruction<A: Allocator>(marks: &mut [bool], flow: &Flow<'_, '_, A>, address: u16)
     requires count { length marks.old ≡ 65536 }
     ensures count { length marks.new ≡ 65536 }
     ensures each { (a : ℕ) → is_marked marks.new a ≡ (is_marked marks.old a || has_byte flow.now address a) }
@@ -67,7 +67,7 @@ fn mark_instruction<A: Allocator>(marks: &mut [bool], flow: &Flow<'_, A>, addres
 #[tactic(auto, unfolding(crate::specs::Taken::is_of_code))]
 fn mark_reached<A: Allocator>(
     marks: &mut [bool],
-    flow: &Flow<'_, A>,
+    flow: &Flow<'_, '_, A>,
     reached: &[bool],
     address: u16,
 )
@@ -82,7 +82,7 @@ fn mark_reached<A: Allocator>(
 }
 
 /// Marks the addresses of all reached instructions.
-fn mark_code<A: Allocator>(marks: &mut [bool], flow: &Flow<'_, A>, reached: &[bool])
+fn mark_code<A: Allocator>(marks: &mut [bool], flow: &Flow<'_, '_, A>, reached: &[bool])
     requires count { length marks.old ≡ 65536 }
     requires reached { length reached.now ≡ 65536 }
     ensures count { length marks.new ≡ 65536 }
@@ -97,7 +97,7 @@ fn mark_code<A: Allocator>(marks: &mut [bool], flow: &Flow<'_, A>, reached: &[bo
 
 /// Marks each address that is spoken for, where none is marked.
 #[tactic(auto, unfolding(crate::specs::Taken::is_taken))]
-fn mark_all<A: Allocator>(marks: &mut [bool], flow: &Flow<'_, A>, reached: &[bool])
+fn mark_all<A: Allocator>(marks: &mut [bool], flow: &Flow<'_, '_, A>, reached: &[bool])
     requires blank { marks.old ≡ replicate 65536 false }
     requires reached { length reached.now ≡ 65536 }
     ensures { AreMarkedBy (is_taken flow.now reached.now) marks.new }
@@ -111,7 +111,7 @@ fn mark_all<A: Allocator>(marks: &mut [bool], flow: &Flow<'_, A>, reached: &[boo
 /// Fails only if an allocation failed.
 pub fn mark_taken<A: Allocator, B: Allocator>(
     alloc: A,
-    flow: &Flow<'_, B>,
+    flow: &Flow<'_, '_, B>,
     reached: &[bool],
 ) -> Result<Vec<bool, A>, AllocError>
     requires { length reached.now ≡ 65536 }
