@@ -1,4 +1,4 @@
-# make               proves the programs, builds them into bin/da65 and bin/as65, and lists an example
+# make               proves the programs, builds them into bin/da65, bin/as65 and bin/trace65, and lists an example
 # make test          the merge gate: every proof from nothing, the edits that must fail, the tests and the stored runs; then the programs
 #                    that this built on real files, and listings through ca65. The result of `rt ci` is its last line.
 #                    CA65=skip leaves out what needs cc65, and CC=skip what needs a C compiler.
@@ -21,14 +21,14 @@ SHELL := bash
 .SHELLFLAGS := -eu -o pipefail -c
 .PHONY: all test check contracts manual speed install uninstall clean help
 
-all: bin/da65 bin/as65
+all: bin/da65 bin/as65 bin/trace65
 	bin/da65 examples/three.bin
 
 sources := crates.txt $(shell find crates -name out -prune -o \( -name '*.rt' -o -name '*.antt' \) -print)
 
 bin/da65: $(sources)
 	@mkdir -p bin
-	@echo 'Proving and building bin/da65 and bin/as65. From a fresh checkout this takes about a quarter of an hour on four cores, half an hour or more on slow ones.'
+	@echo 'Proving and building bin/da65, bin/as65 and bin/trace65. From a fresh checkout this takes about a quarter of an hour on four cores, half an hour or more on slow ones.'
 	@echo 'The prover says what it has checked, and bin/build.log keeps that.'
 	@cd crates/da65_cli && rt run $(RTFLAGS) -- --version 2>&1 | tee ../../bin/build.log
 	@cp crates/da65_cli/out/da65_cli bin/da65
@@ -36,6 +36,10 @@ bin/da65: $(sources)
 bin/as65: bin/da65 $(sources)
 	@cd crates/as65 && rt run $(RTFLAGS) -- --version 2>&1 | tee -a ../../bin/build.log
 	@cp crates/as65/out/as65 bin/as65
+
+bin/trace65: bin/as65 $(sources)
+	@cd crates/trace65 && rt run $(RTFLAGS) -- --version 2>&1 | tee -a ../../bin/build.log
+	@cp crates/trace65/out/trace65 bin/trace65
 
 test:
 	@mkdir -p bin
@@ -49,8 +53,10 @@ test:
 	@rt ci 2>&1 | tee bin/gate.log
 	@cp crates/da65_cli/out/da65_cli bin/da65
 	@cp crates/as65/out/as65 bin/as65
+	@cp crates/trace65/out/trace65 bin/trace65
 	tests/program.sh bin/da65
 	tests/as65.sh bin/as65 bin/da65
+	tests/trace65.sh bin/trace65 bin/da65 bin/as65
 	tests/sweeps.sh bin/da65
 	tests/work.sh bin/da65
 	tests/speed.sh bin/da65
@@ -73,8 +79,8 @@ speed: bin/da65
 
 share := $(DESTDIR)$(PREFIX)/share
 
-install: bin/da65 bin/as65
-	@for program in da65 as65; do \
+install: bin/da65 bin/as65 bin/trace65
+	@for program in da65 as65 trace65; do \
 	    name='$(PROGRAM_PREFIX)'$$program; \
 	    install -D -m 755 bin/$$program "$(DESTDIR)$(PREFIX)/bin/$$name"; \
 	    install -D -m 644 docs/$$program.1 "$(share)/man/man1/$$name.1"; \
@@ -86,7 +92,7 @@ install: bin/da65 bin/as65
 	@install -D -m 644 docs/da65.info.5 '$(share)/man/man5/$(PROGRAM_PREFIX)da65.info.5'
 
 uninstall:
-	@for name in '$(PROGRAM_PREFIX)da65' '$(PROGRAM_PREFIX)as65'; do \
+	@for name in '$(PROGRAM_PREFIX)da65' '$(PROGRAM_PREFIX)as65' '$(PROGRAM_PREFIX)trace65'; do \
 	    rm -f "$(DESTDIR)$(PREFIX)/bin/$$name" "$(share)/man/man1/$$name.1" \
 	        "$(share)/bash-completion/completions/$$name" "$(share)/zsh/site-functions/_$$name"; \
 	done

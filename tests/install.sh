@@ -20,12 +20,12 @@ fails() {
 mkdir bin crates
 cp -r "$root/Makefile" "$root/completions" "$root/docs" .
 : >crates.txt
-cp "$programs/da65" "$programs/as65" bin
+cp "$programs/da65" "$programs/as65" "$programs/trace65" bin
 
 # installed PREFIX: the files of the programs whose names begin with it.
 installed() {
     local name
-    for name in "$1da65" "$1as65"; do
+    for name in "$1da65" "$1as65" "$1trace65"; do
         printf '%s\n' "bin/$name" "share/man/man1/$name.1" "share/bash-completion/completions/$name" "share/zsh/site-functions/_$name"
     done
     echo "share/man/man5/$1da65.info.5"
@@ -53,7 +53,7 @@ for prefix in '' proved-; do
     made=$work/made$prefix
     make -s install DESTDIR="$made" PREFIX=/usr PROGRAM_PREFIX="$prefix" || fails "make install PROGRAM_PREFIX=$prefix"
     diff <(installed "$prefix" | sort) <(cd "$made/usr" && find . -type f | sed 's,^\./,,' | sort) || fails "other files with PROGRAM_PREFIX=$prefix"
-    for program in da65 as65; do
+    for program in da65 as65 trace65; do
         name=$prefix$program
         cmp -s "bin/$program" "$made/usr/bin/$name" || fails "$name is another program"
         listed=$(command -v zsh >/dev/null && zsh_completes "$made/usr/share/zsh/site-functions" "$name -" '-o ')

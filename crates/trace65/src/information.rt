@@ -1,0 +1,52 @@
+//! What the information file and its include files say, and the image.
+
+use crate::failure::Failure;
+use files65::{FileFault, Input, needed_contents};
+use info65::{Info, Options, read_include, read_info};
+use map65::{Image, read_image};
+
+/// The most that is read of an information file or an include file: one byte more than it may have.
+const LIMIT: usize = 1_048_577;
+
+/// Adds the names of the include file at this index.
+fn add_include(rt: &HostRuntime, info: &mut Info, index: usize) -> Result<(), Failure> {
+    let Some(include) = info.includes().get(index) else {
+        return Ok(());
+    };
+    let name = String::from_str(rt.alloc(), include.file.as_str())?;
+    let bytes = needed_contents(rt, name.as_str(), LIMIT)?;
+    match read_include(rt.alloc(), info, index, &bytes) {
+        Ok(()) => Ok(()),
+        Err(fault) => Err(Failure::Include(name, fault)),
+    }
+}
+
+/// What the information file says under the options, with the names of its include files.
+pub fn information(rt: &HostRuntime, options: &Options) -> Result<Info, Failure> {
+    let bytes = match &options.info {
+        Some(name) => needed_contents(rt, name.as_str(), LIMIT)?,
+        None => Vec::new(rt.alloc()),
+    };
+    let mut info = match read_info(rt.alloc(), options, &bytes) {
+        Ok(info) => info,
+        Err(fault) => return Err(Failure::Info(fault)),
+    };
+    for index in 0..info.includes().len() {
+        add_include(rt, &mut info, index)?;
+    }
+    Ok(info)
+}
+
+/// The image that the settings ask for.
+pub fn image(rt: &HostRuntime, info: &Info) -> Result<Image, Failure> {
+    let Some(name) = &info.settings().input else {
+        return Err(Failure::NoInput);
+    };
+    match Input::open(rt, name.as_str()) {
+        Ok(mut input) => Ok(read_image(rt.alloc(), info, &mut input)?),
+        Err(error) => {
+            let name = String::from_str(rt.alloc(), name.as_str())?;
+            Err(Failure::File(FileFault::of_reading(&error, name)))
+        }
+    }
+}

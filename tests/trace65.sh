@@ -1,0 +1,152 @@
+#!/usr/bin/env bash
+# trace65 on real files: its messages, what it proposes, and that da65 lists each image with what it proposes, and as65 gives the image
+# back.
+# Usage: tests/trace65.sh TRACE65 DA65 AS65
+set -u
+program=$(realpath "$1")
+da65=$(realpath "$2")
+as65=$(realpath "$3")
+root=$(realpath "$(dirname "$0")/..")
+. "$root/tests/rows.sh"
+ln -s "$root/examples" examples
+
+# proposes NAME RANGES WORD..: exactly these ranges are proposed, each as FIRST-LAST TYPE.
+proposes() {
+    local name=$1 wanted=$2 got
+    shift 2
+    got=$("$program" "$@" | sed -nE 's/^RANGE \{ START \$(....); END \$(....); TYPE (.*); \}; # .*$/\1-\2 \3/p' | tr '\n' ';')
+    [ "$got" = "$wanted" ] || fails "$name" "proposed: $got"
+}
+
+# comes_back NAME START IMAGE WORD..: da65 accepts what is proposed on the words after the information file that was given, and the
+# image comes back from its listing.
+comes_back() {
+    local name=$1 start=$2 image=$3 given=/dev/null word
+    shift 3
+    for word in "$@"; do
+        case $word in *.info) given=$word ;; esac
+    done
+    rm -f proposed.info
+    "$program" -S "$start" "$@" -o proposed.info "$image" || { fails "$name" 'not traced'; return; }
+    cat "$given" proposed.info >both.info
+    "$da65" -S "$start" -i both.info -o both.s "$image" 2>errors || { fails "$name" "not listed: $(<errors)"; return; }
+    "$as65" -S "$start" --compare "$image" both.s || fails "$name" 'its listing gives other bytes'
+}
+
+# image NAME BYTES: a file of these bytes.
+image() {
+    printf '%b' "$2" >"$1"
+}
+
+help='Usage: trace65 [options] [image]\n'
+help+='  -i, --info name          information file\n'
+help+='  -o name                  output file, which must not be there yet\n'
+help+='  -S, --start-addr addr    start address\n'
+help+='  --cpu type               6502, 65SC02 or 65C02\n'
+help+='  --entry addr[,addr..]    entries of code\n'
+help+='  -h, --help               this text\n'
+help+='  -V, --version            version\n'
+
+# ---- words and files
+
+runs 'help' 0 "$help" '' -h
+runs 'version' 0 'trace65 profile 1\n' '' -V
+runs 'an unknown option' 1 '' 'trace65: bad arguments\n' --hexoffs examples/three.bin
+runs 'an entry that is no number' 1 '' 'trace65: bad number\n' --entry 0x1000,x examples/three.bin
+runs 'an entry past $FFFF' 1 '' 'trace65: argument out of range\n' --entry 0x10000 examples/three.bin
+runs 'an unknown CPU' 1 '' 'trace65: argument out of range\n' --cpu 8080 examples/three.bin
+runs 'no image' 1 '' 'trace65: no input file\n'
+runs 'no such image' 1 '' 'trace65: cannot read none.bin\n' none.bin
+: >empty
+runs 'an empty image' 1 '' 'trace65: input is empty\n' empty
+head -c 65537 /dev/zero >large
+runs 'an image that is too large' 1 '' 'trace65: input is too large\n' large
+image twice.info '\nLABEL { ADDR 1; ADDR 2; NAME "abc"; };'
+runs 'a refused information file' 1 '' 'trace65: info:2: attribute given twice\n' -i twice.info examples/three.bin
+image lost.info 'ASMINC { FILE "none.inc"; };\n'
+runs 'no such include file' 1 '' 'trace65: cannot read none.inc\n' -i lost.info examples/three.bin
+image bad.inc '\n1\n'
+image bad.info 'ASMINC { FILE "bad.inc"; };\n'
+runs 'a refused include file' 1 '' 'trace65: include bad.inc:2: bad include line\n' -i bad.info examples/three.bin
+
+echo old >out.info
+runs 'an output that is there already' 1 '' 'trace65: cannot create out.info\n' -o out.info examples/three.bin
+holds 'an output that is there already' out.info 'old\n'
+cp examples/three.bin three.bin
+runs 'the image as the output, by another name' 1 '' 'trace65: cannot create ./three.bin\n' -o ./three.bin three.bin
+same 'the image as the output, by another name' three.bin examples/three.bin
+runs 'a refused run creates no output' 1 '' 'trace65: cannot read none.bin\n' -o new.info none.bin
+is_absent 'a refused run creates no output' new.info
+"$program" examples/three.bin >/dev/full 2>stderr
+ends 'a full output' 1 $? 'trace65: cannot write the output\n'
+
+# ---- what is proposed
+
+legend='# a character for 64 bytes: # code that is reached, + partly,\n# r in a range of the information file, . neither\n'
+runs 'all is code' 0 "$legend# \$1000 #\n# 3 bytes of code that is reached, 0 in ranges, 0 in neither\n" '' -S 0x1000 examples/three.bin
+proposes 'hello: a text, and the bytes after it' 'F00E-F015 TextTable;F016-F02B ByteTable;' -S 0xF000 examples/hello.bin
+proposes 'hello: its information file covers all' '' -i examples/hello.info
+# lda #1; beq +2; rts; a byte; rts
+image branch.bin '\xa9\x01\xf0\x02\x60\xff\x60'
+proposes 'a branch and what is after it' '1005-1005 ByteTable;' -S 0x1000 branch.bin
+# jmp $1006 over three bytes; rts
+image jump.bin '\x4c\x06\x10\x01\x02\x03\x60'
+proposes 'a jump leads to its target alone' '1003-1005 ByteTable;' -S 0x1000 jump.bin
+# jsr $1005; rts; a byte; rts
+image call.bin '\x20\x05\x10\x60\xff\x60'
+proposes 'a call leads to both' '1004-1004 ByteTable;' -S 0x1000 call.bin
+for last in 40 60 00; do
+    image last.bin "\\x$last\\xea"
+    proposes "nothing after \$$last" '1001-1001 ByteTable;' -S 0x1000 last.bin
+done
+image indirect.bin '\x6c\x03\x10\x05\x10\x60'
+proposes 'an indirect jump leads nowhere' '1003-1005 ByteTable;' -S 0x1000 indirect.bin
+# bra +1; a byte; rts
+image bra.bin '\x80\x01\xff\x60'
+proposes 'bra on the 65SC02' '1002-1002 ByteTable;' -S 0x1000 --cpu 65sc02 bra.bin
+proposes 'an undefined opcode leads nowhere' '1000-1003 ByteTable;' -S 0x1000 bra.bin
+# bbr0 $10, +1; a byte after rts; rts
+image bbr.bin '\x0f\x10\x01\x60\x60\xff'
+proposes 'a bit branch leads to both' '1005-1005 ByteTable;' -S 0x1000 --cpu 65c02 bbr.bin
+image cut.bin '\xea\x20\x00'
+proposes 'an instruction that leaves the image is none' '1001-1002 ByteTable;' -S 0x1000 cut.bin
+# lda #$ea; rts: the operand is an instruction too
+image inside.bin '\xa9\xea\x60\xff'
+proposes 'an entry in the middle of an instruction' '1000-1000 ByteTable;1003-1003 ByteTable;' -S 0x1000 --entry 0x1001 inside.bin
+proposes 'and at its head too' '1003-1003 ByteTable;' -S 0x1000 --entry 0x1001,0x1000 inside.bin
+image four.bin 'ABCD\x01ABCDE\x7f'
+proposes 'five characters are a text' '1000-1004 ByteTable;1005-1009 TextTable;100A-100A ByteTable;' -S 0x1000 --entry 0 four.bin
+
+# rts at $1000; entries by a table of addresses, one of returns, and a range of code
+image table.bin '\x06\x10\x06\x10\xff\xff\x60\x60\x60\xff'
+image table.info 'RANGE { START $1000; END $1001; TYPE AddrTable; };\nRANGE { START $1002; END $1003; TYPE RtsTable; };\nRANGE { START $1008; END $1008; TYPE Code; };\n'
+proposes 'entries of the information file' '1004-1005 ByteTable;1009-1009 ByteTable;' -S 0x1000 -i table.info table.bin
+
+# the image ends at $FFFF, and its vectors lead to rts at $FFF8, $FFF7 and $FFF9
+image vectors.bin '\xff\x60\x60\x60\xf8\xff\xf7\xff\xf9\xff'
+proposes 'vectors' 'FFF6-FFF6 ByteTable;FFFA-FFFF ByteTable;' vectors.bin
+
+# What the monitor of the board has besides its tables and what the vectors and the command table reach: the routines that programs call,
+# and the jumps to them.
+proposes 'the monitor with its information file' 'FE3B-FE42 ByteTable;FEA0-FEC1 ByteTable;FFE2-FFF9 ByteTable;' -i examples/board/board.info
+proposes 'and with these routines as entries' 'FFE2-FFF9 ByteTable;' -i examples/board/board.info --entry 0xFE3B,0xFEA0,0xFEAB
+
+# ---- there and back
+
+comes_back 'hello' 0xF000 examples/hello.bin
+comes_back 'an information file before it' 0x1000 table.bin -i table.info
+comes_back 'the monitor of the board' 0xFC00 examples/board/monitor.bin
+for cpu in 6502 65SC02 65C02; do
+    for seed in 1 2 3 4 5; do
+        awk -v seed="$seed$cpu" 'BEGIN { srand(seed + 0); n = int(rand() * 3000) + 1; for (k = 0; k < n; k++) printf "%02x", int(rand() * 256) }' |
+            xxd -r -p >random.bin
+        comes_back "random image $seed of the $cpu" 0x2000 random.bin --cpu "$cpu"
+    done
+done
+for byte in 00 20 4c 60 ea 41 ff 0f; do
+    head -c 65536 /dev/zero | tr '\0' "\\$(printf '%03o' "0x$byte")" >whole.bin
+    comes_back "64 KiB of \$$byte" 0 whole.bin --cpu 65C02
+done
+
+[ "$failed" = 0 ] && echo 'trace65: it proposes what it should, and each image comes back'
+exit "$failed"
