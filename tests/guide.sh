@@ -6,13 +6,14 @@
 #   ```        are excerpts: their lines stand, one after the other, in what the last commands printed or in a file that the page made
 #
 # and in its tables a command `bin/da65 ..` or `bin/as65 ..` is run, and where a row has an information file or a command, and beside it
-# the message `da65: ..` or the word nothing, that is what the program says. The assembler is the as65 beside the program. The example of as65's man page is
+# the message `da65: ..` or the word nothing, that is what the program says. The assembler is the as65 beside the program. The examples of as65's and trace65's man pages are
 # run, and that of da65's at five addresses, and for 64 KiB. So are the rows of docs/INFORMATION_FILE.md that have a message.
 # Without ca65 and ld65 the script fails, unless CA65=skip is set: then each section ends at the first block that needs them.
 # Usage: tests/guide.sh PROGRAM
 set -u
 program=$(realpath "$1")
 assembler=$(dirname "$program")/as65
+tracer=$(dirname "$program")/trace65
 root=$(realpath "$(dirname "$0")/..")
 work=$(mktemp -d)
 ran=0
@@ -58,7 +59,8 @@ opens() {
     : >"$folder/crates.txt"
     cp "$program" "$folder/bin/da65"
     cp "$assembler" "$folder/bin/as65"
-    ln -sf "$folder/bin/da65" "$folder/bin/as65" "$work/path"
+    cp "$tracer" "$folder/bin/trace65"
+    ln -sf "$folder/bin/da65" "$folder/bin/as65" "$folder/bin/trace65" "$work/path"
     cd "$folder" || exit 1
     : >printed
 }
@@ -158,7 +160,7 @@ tables() {
 
 # example PAGE: the commands of the man page's example.
 example() {
-    awk '/^\.SH EXAMPLES/ { inside = 1 } /^\.SH SEE/ { inside = 0 } inside && /^(da65|as65|ca65|ld65|cmp) /' "$root/$1" |
+    awk '/^\.SH EXAMPLES/ { inside = 1 } /^\.SH SEE/ { inside = 0 } inside && /^(da65|as65|trace65|ca65|ld65|cmp) /' "$root/$1" |
         sed -e 's/\\(aq/'\''/g' -e 's/\\-/-/g'
 }
 
@@ -178,6 +180,9 @@ tables
 opens docs/as65.1
 head -c 4096 "$program" >rom.bin
 runs "$(example docs/as65.1)"
+opens docs/trace65.1
+head -c 4096 "$program" >rom.bin
+runs "$(example docs/trace65.1)"
 opens docs/da65.1
 if needs ca65 ld65; then
     . "$root/tests/random.sh"
