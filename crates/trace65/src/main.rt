@@ -16,7 +16,7 @@ use failure::Failure;
 use files65::{FileFault, Placeholders};
 use information::{image, information};
 use map65::Map;
-use report::put_report;
+use report::{Findings, put_report, search_image};
 use request::{Request, Tracing, help_text, request_of, version_text};
 use std::env;
 use std::fs::File;
@@ -44,11 +44,11 @@ fn tell(rt: &HostRuntime, text: &str) -> Result<(), Failure> {
 fn write_report<W: Write + Drop>(
     rt: &HostRuntime,
     map: &Map<'_>,
-    entries: &[u16],
+    findings: &Findings,
     out: W,
 ) -> Result<(), Failure> {
     let mut out = BufWriter::new(rt.alloc(), out)?;
-    put_report(rt.alloc(), map, entries, &mut out)?;
+    put_report(&mut out, map, findings)?;
     match out.flush() {
         Ok(()) => Ok(()),
         Err(_) => Err(Failure::Writing),
@@ -60,12 +60,12 @@ fn trace(rt: &HostRuntime, tracing: &Tracing) -> Result<(), Failure> {
     let info = information(rt, &tracing.options)?;
     let image = image(rt, &info)?;
     let map = Map::build(rt.alloc(), &info, &image)?;
-    let entries = tracing.entries.as_slice();
+    let findings = search_image(rt.alloc(), &map, tracing.entries.as_slice())?;
     let Some(name) = &tracing.output else {
-        return write_report(rt, &map, entries, rt.stdout());
+        return write_report(rt, &map, &findings, rt.stdout());
     };
     match File::create_new(rt, name.as_str()) {
-        Ok(file) => write_report(rt, &map, entries, file),
+        Ok(file) => write_report(rt, &map, &findings, file),
         Err(error) => {
             let name = String::from_str(rt.alloc(), name.as_str())?;
             Err(Failure::File(FileFault::of_creating(&error, name)))

@@ -5,7 +5,7 @@ use crate::picture::put_picture;
 use info65::{RangeSpec, RangeType};
 use map65::{Image, Map};
 use reach65::{Flow, Ground, entries_of, mark_taken, reached};
-use std::alloc::Global;
+use std::alloc::{AllocError, Global};
 use std::io::{Result as IoResult, Write};
 
 /// How many bytes of a range are shown.
@@ -48,21 +48,37 @@ fn put_range<W: Write>(out: &mut W, image: &Image, range: RangeSpec) -> IoResult
     writeln!(out)
 }
 
+/// What is reached, what something speaks for, and what is proposed for the rest.
+#[derive(Drop)]
+pub struct Findings {
+    reached: Vec<bool>,
+    taken: Vec<bool>,
+    ranges: Vec<RangeSpec>,
+}
+
+/// Returns what is found from the entries that are given and those of the information file and the image.
+pub fn search_image(alloc: Global, map: &Map<'_>, given: &[u16]) -> Result<Findings, AllocError> {
+    let flow = Flow::new(map);
+    let entries = entries_of(alloc, map, given)?;
+    let reached = reached(alloc, &flow, &entries)?;
+    let taken = mark_taken(alloc, &flow, &reached)?;
+    let ranges = Ground::new(map.image(), &taken).pieces(alloc)?;
+    Ok(Findings {
+        reached,
+        taken,
+        ranges,
+    })
+}
+
 /// Puts the picture, the counts and the ranges.
-fn put_all<W: Write>(
-    out: &mut W,
-    map: &Map<'_>,
-    flow: &Flow<'_, '_>,
-    reached: &[bool],
-    taken: &[bool],
-    ranges: &[RangeSpec],
-) -> IoResult<()> {
+fn put_all<W: Write>(out: &mut W, map: &Map<'_>, findings: &Findings) -> IoResult<()> {
     writeln!(
         out,
         "# a character for 64 bytes: # code that is reached, + partly,"
     )?;
     writeln!(out, "# r in a range of the information file, . neither")?;
-    let counts = put_picture(out, map, flow, reached, taken)?;
+    let flow = Flow::new(map);
+    let counts = put_picture(out, map, &flow, &findings.reached, &findings.taken)?;
     let code = counts.code;
     let given = counts.given;
     let other = counts.all.saturating_sub(code).saturating_sub(given);
@@ -70,25 +86,19 @@ fn put_all<W: Write>(
         out,
         "# {code} bytes of code that is reached, {given} in ranges, {other} in neither"
     )?;
-    for range in ranges {
+    for range in &findings.ranges {
         put_range(out, map.image(), *range)?;
     }
     Ok(())
 }
 
-/// Puts what is reached from the entries that are given and those of the information file and the image.
+/// Puts what is found as text of an information file.
 pub fn put_report<W: Write>(
-    alloc: Global,
-    map: &Map<'_>,
-    given: &[u16],
     out: &mut W,
+    map: &Map<'_>,
+    findings: &Findings,
 ) -> Result<(), Failure> {
-    let flow = Flow::new(map);
-    let entries = entries_of(alloc, map, given)?;
-    let reached = reached(alloc, &flow, &entries)?;
-    let taken = mark_taken(alloc, &flow, &reached)?;
-    let ranges = Ground::new(map.image(), &taken).pieces(alloc)?;
-    match put_all(out, map, &flow, &reached, &taken, &ranges) {
+    match put_all(out, map, findings) {
         Ok(()) => Ok(()),
         Err(_) => Err(Failure::Writing),
     }
