@@ -1,4 +1,4 @@
-use Rattle.std.proofs.Common.{◌≡◌, ◌&&◌, ◌||◌, ◌≤◌, ℕ, nat_le, nat_lt}
+use Rattle.std.proofs.Common.{◌≡◌, ◌&&◌, ◌||◌, ℕ, nat_le, nat_lt}
 use Rattle.reach65.specs.Reached.{is_marked}
 use Rattle.reach65.proofs.taken.mark_span.Given as goal
 
