@@ -206,7 +206,7 @@ fn to_compare(
     }))
 }
 
-#[tactic(auto, using(da65::proofs::MatchLemmas::read_rows))]
+#[tactic(auto, using(da65::proofs::Public::read_rows))]
 fn text_of<'a>(matches: &ArgMatches<'a>, id: &str) -> Option<&'a str>
     ensures { option_map (λ s. s.now) result ≡ first_of id.now (rows_of (found_of matches.now)) }
 {

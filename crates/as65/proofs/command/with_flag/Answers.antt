@@ -1,4 +1,4 @@
-use Rattle.da65.proofs.CommandLemmas.{arg_added, with_action, with_long, with_short}
+use Rattle.da65.proofs.Public.{arg_added, with_action, with_long, with_short}
 use Rattle.as65.proofs.command.with_flag.Goals as goal
 
 pub returns : goal.returns

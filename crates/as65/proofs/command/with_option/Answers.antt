@@ -1,4 +1,4 @@
-use Rattle.da65.proofs.CommandLemmas.{arg_added, with_long}
+use Rattle.da65.proofs.Public.{arg_added, with_long}
 use Rattle.as65.proofs.command.with_option.Goals as goal
 
 pub returns : goal.returns

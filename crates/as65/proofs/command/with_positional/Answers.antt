@@ -1,4 +1,4 @@
-use Rattle.da65.proofs.CommandLemmas.{arg_added}
+use Rattle.da65.proofs.Public.{arg_added}
 use Rattle.as65.proofs.command.with_positional.Goals as goal
 
 pub returns : goal.returns
