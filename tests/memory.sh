@@ -40,6 +40,7 @@ relist/failure.rt 2
 stmt65/fault.rt 1
 stmt65/symbols.rt 1
 trace65/failure.rt 3
+trace65/information.rt 2
 trace65/request.rt 1
 END
 )

@@ -131,6 +131,26 @@ proposes 'vectors' 'FFF6-FFF6 ByteTable;FFFA-FFFF ByteTable;' vectors.bin
 proposes 'the monitor with its information file' 'FE3B-FE42 ByteTable;FEA0-FEC1 ByteTable;FFE2-FFF9 ByteTable;' -i examples/board/board.info
 proposes 'and with these routines as entries' 'FFE2-FFF9 ByteTable;' -i examples/board/board.info --entry 0xFE3B,0xFEA0,0xFEAB
 
+# ---- less and less memory
+
+# It writes all of the text, or runs out of memory and writes nothing. Below some limit the program is not even started.
+"$program" examples/board/monitor.bin >whole.txt
+ran_out=0
+for limit in $(seq 8192 -64 256); do
+    (ulimit -v "$limit"; exec "$program" examples/board/monitor.bin >stdout 2>stderr) 2>/dev/null
+    got=$?
+    if [ "$got" = 0 ]; then
+        same "in $limit KiB" stdout whole.txt
+    elif [ "$got" = 1 ]; then
+        ran_out=1
+        ends "in $limit KiB" 1 1 'trace65: out of memory\n'
+        holds "in $limit KiB" stdout ''
+    else
+        break
+    fi
+done
+[ "$ran_out" = 1 ] || fails 'less and less memory' 'it never ran out'
+
 # ---- there and back
 
 comes_back 'hello' 0xF000 examples/hello.bin

@@ -1,12 +1,26 @@
 //! What the information file and its include files say, and the image.
 
+ghost use Rattle.std.specs.Prelude.{◌≡◌, ◌≢◌};
+
 use crate::failure::Failure;
 use files65::{FileFault, Input, needed_contents};
-use info65::{Info, Options, read_include, read_info};
+use info65::{Info, InfoFault, InfoFaultKind, Options, read_include, read_info};
 use map65::{Image, read_image};
 
 /// The most that is read of an information file or an include file: one byte more than it may have.
 const LIMIT: usize = 1_048_577;
+
+/// The failure for a fault of a file: this one, unless memory ran out.
+fn failure_of(fault: InfoFault, failure: Failure) -> Failure
+    ensures memory { fault.kind ≡ InfoFaultKind.Memory → result ≡ Failure.Memory }
+    ensures other { fault.kind ≢ InfoFaultKind.Memory → result ≡ failure }
+{
+    if fault.kind == InfoFaultKind::Memory {
+        Failure::Memory
+    } else {
+        failure
+    }
+}
 
 /// Adds the names of the include file at this index.
 fn add_include(rt: &HostRuntime, info: &mut Info, index: usize) -> Result<(), Failure> {
@@ -17,7 +31,7 @@ fn add_include(rt: &HostRuntime, info: &mut Info, index: usize) -> Result<(), Fa
     let bytes = needed_contents(rt, name.as_str(), LIMIT)?;
     match read_include(rt.alloc(), info, index, &bytes) {
         Ok(()) => Ok(()),
-        Err(fault) => Err(Failure::Include(name, fault)),
+        Err(fault) => Err(failure_of(fault, Failure::Include(name, fault))),
     }
 }
 
@@ -29,7 +43,7 @@ pub fn information(rt: &HostRuntime, options: &Options) -> Result<Info, Failure>
     };
     let mut info = match read_info(rt.alloc(), options, &bytes) {
         Ok(info) => info,
-        Err(fault) => return Err(Failure::Info(fault)),
+        Err(fault) => return Err(failure_of(fault, Failure::Info(fault))),
     };
     for index in 0..info.includes().len() {
         add_include(rt, &mut info, index)?;
