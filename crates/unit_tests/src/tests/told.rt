@@ -180,14 +180,3 @@ fn text_of_the_fault(rt: HostRuntime) {
         &"a read or a write failed",
     );
 }
-
-#[test]
-fn texts_of_faults_of_taking(rt: HostRuntime) {
-    for (fault, text) in [
-        (TakeFault::Read, "a read failed"),
-        (TakeFault::Memory, "out of memory"),
-    ] {
-        let shown = format!(in rt.alloc(); "{fault}").expect(&rt, "format");
-        assert_equal(&rt, &shown.as_str(), &text);
-    }
-}
