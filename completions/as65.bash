@@ -3,9 +3,9 @@ _as65() {
     local word=${COMP_WORDS[COMP_CWORD]} before=${COMP_WORDS[COMP_CWORD - 1]}
     COMPREPLY=()
     case $before in
-    --compare | -o) return ;;
+    -i | --info | --compare | -o) return ;;
     -S | --start-addr) compopt +o default; return ;;
     esac
-    [[ $word != -* ]] || COMPREPLY=($(compgen -W '-S --start-addr -o --compare -h --help -V --version' -- "$word"))
+    [[ $word != -* ]] || COMPREPLY=($(compgen -W '-i --info -S --start-addr -o --compare -h --help -V --version' -- "$word"))
 }
 complete -o default -F _as65 as65
