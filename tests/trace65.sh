@@ -128,8 +128,8 @@ proposes 'vectors' 'FFF6-FFF6 ByteTable;FFFA-FFFF ByteTable;' vectors.bin
 
 # What the monitor of the board has besides its tables and what the vectors and the command table reach: the routines that programs call,
 # and the jumps to them.
-proposes 'the monitor with its information file' 'FE3B-FE42 ByteTable;FEA0-FEC1 ByteTable;FFE2-FFF9 ByteTable;' -i examples/board/board.info
-proposes 'and with these routines as entries' 'FFE2-FFF9 ByteTable;' -i examples/board/board.info --entry 0xFE3B,0xFEA0,0xFEAB
+proposes 'the monitor with its information file' 'FE3B-FE42 ByteTable;FEA0-FEC1 ByteTable;FEC8-FED6 ByteTable;FFDF-FFF9 ByteTable;' -i examples/board/board.info
+proposes 'and with these routines as entries' 'FFDF-FFF9 ByteTable;' -i examples/board/board.info --entry 0xFE3B,0xFEA0,0xFEAB,0xFED0
 
 # ---- less and less memory
 
