@@ -158,8 +158,8 @@ comes_back 'an information file before it' 0x1000 table.bin -i table.info
 comes_back 'the monitor of the board' 0xFC00 examples/board/monitor.bin
 for cpu in 6502 65SC02 65C02; do
     for seed in 1 2 3 4 5; do
-        awk -v seed="$seed$cpu" 'BEGIN { srand(seed + 0); n = int(rand() * 3000) + 1; for (k = 0; k < n; k++) printf "%02x", int(rand() * 256) }' |
-            xxd -r -p >random.bin
+        image random.bin "$(awk -v seed="$seed$cpu" 'BEGIN {
+            srand(seed + 0); n = int(rand() * 3000) + 1; for (k = 0; k < n; k++) printf "\\x%02x", int(rand() * 256) }')"
         comes_back "random image $seed of the $cpu" 0x2000 random.bin --cpu "$cpu"
     done
 done
