@@ -1,11 +1,12 @@
 -- The definitions at lines of listings.
 use Rattle.std.proofs.Common.{◌≡◌, ℕ, Bool, true, false, List, [], ◌∷◌, ◌++◌, Option, Some, None, refl}
-use Rattle.std.specs.Prelude.{codes, decimal}
+use Rattle.std.specs.Prelude.{codes, decimal, map}
 use Rattle.isa65.specs.declared.cpu.Cpu.TheVariants.{M6502}
 use Rattle.isa65.specs.declared.mnemonic.Mnemonic.TheVariants.{Bne, Lda, Sta}
 use Rattle.isa65.specs.declared.mode.Mode.TheVariants.{Imm, Abs, Absy, Rel}
 use Rattle.stmt65.specs.declared.directive.Directive.TheVariants.{Word, Dbyt, Addr, Dword}
 use Rattle.stmt65.specs.Columns.{default_columns}
+use Rattle.stmt65.specs.Digits.{offset_text}
 use Rattle.stmt65.specs.Directives.{directive_text}
 use Rattle.stmt65.specs.Line.{filled, line_of}
 use Rattle.stmt65.specs.Operands.{operand_text}
@@ -33,6 +34,10 @@ hex_shown s = line_of default_columns s (remarks true None)
 
 target : List ℕ → ℕ → TargetView
 target name offset = record { name = name; offset = offset }
+
+-- hex digits of an offset: two below $100, else four
+offset_digits : map (offset_text true) (1 ∷ 0xFF ∷ 0x100 ∷ 0xFFFF ∷ []) ≡ codes "$01" ∷ codes "$FF" ∷ codes "$0100" ∷ codes "$FFFF" ∷ []
+offset_digits = refl
 
 row : shown (view.instr (record { mnemonic = Lda; mode = Abs }) true (view.one (view.number 0x12))) ≡ codes "        lda     a:$0012"
 unfolding shown remarks line_of filled operand_text
