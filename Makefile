@@ -43,12 +43,7 @@ bin/trace65: bin/as65 $(sources)
 
 test:
 	@mkdir -p bin
-	@tests/memory.sh
-	@tests/readings.sh
-	@tests/contracts.py
-	@tests/manual.py
-	@tests/promises.sh
-	@tests/edits.sh
+	@python3 tests/lint
 	@echo 'Everything from nothing: docs/PROOFS.md, "The gate", says how long that takes. bin/gate.log keeps what the prover says.'
 	@rt ci 2>&1 | tee bin/gate.log
 	@cp crates/da65_cli/out/da65_cli bin/da65
@@ -69,10 +64,10 @@ test:
 check: test
 
 contracts:
-	tests/contracts.py --write
+	python3 tests/lint --write contracts
 
 manual:
-	tests/manual.py --write
+	python3 tests/lint --write manual
 
 speed: bin/da65
 	tests/speed.sh bin/da65

@@ -1,20 +1,15 @@
-#!/usr/bin/env python3
-"""The man page of information files, docs/da65.info.5, made of docs/INFORMATION_FILE.md. What stands between `<!-- page -->` and
-`<!-- /page -->` there is left out: it refers to what is not installed.
-
-Usage: tests/manual.py           fails if the man page is another one, and shows the difference
-       tests/manual.py --write   writes it
-"""
+"""The man page of information files, docs/da65.info.5, is made of docs/INFORMATION_FILE.md. What stands between `<!-- page -->` and
+`<!-- /page -->` there is left out: it refers to what is not installed."""
 
 import difflib
 import re
-import sys
 import textwrap
-from pathlib import Path
 
-DOCS = Path(__file__).resolve().parent.parent / "docs"
+from source import ROOT
+
+DOCS = ROOT / "docs"
 SOURCE, TARGET = DOCS / "INFORMATION_FILE.md", DOCS / "da65.info.5"
-HEAD = """.\\" Made of docs/INFORMATION_FILE.md by tests/manual.py. Rendered by: man -l docs/da65.info.5
+HEAD = """.\\" Made of docs/INFORMATION_FILE.md by tests/lint. Rendered by: man -l docs/da65.info.5
 .TH DA65.INFO 5 "2026-11-25" "da65 profile 1" "File Formats"
 .SH NAME
 da65.info \\- information file of da65
@@ -81,18 +76,9 @@ def manual():
     return HEAD + re.sub(r"\.PP\n(?=\.SH|\.TP|$)", "", body) + FOOT
 
 
-def main(words):
+def check(write):
+    """What differs from the man page that is there, a line each; with `write` it is written anew."""
     made = manual()
-    if words == ["--write"]:
+    if write:
         TARGET.write_text(made)
-    elif words:
-        return __doc__
-    difference = list(difflib.unified_diff(TARGET.read_text().splitlines(), made.splitlines(), str(TARGET), str(SOURCE), lineterm=""))
-    if difference:
-        print(*difference, sep="\n")
-        return "manual: docs/da65.info.5 is not made of docs/INFORMATION_FILE.md: tests/manual.py --write"
-    print("manual: docs/da65.info.5 is docs/INFORMATION_FILE.md")
-    return 0
-
-
-sys.exit(main(sys.argv[1:]))
+    yield from difflib.unified_diff(TARGET.read_text().splitlines(), made.splitlines(), TARGET.name, SOURCE.name, lineterm="")

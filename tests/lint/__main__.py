@@ -1,0 +1,50 @@
+"""What can be seen of the tree without the prover, in a few seconds: that its public contracts are those of docs/contracts, that each promise
+of docs/PROOFS.md has its clause, that each edit that must fail can be applied, where the code answers out of memory by itself, what a listing
+and the meaning of a text share, and that the man page of information files is made of its page.
+
+Usage: python3 tests/lint                    fails if one of these does not hold, and says what
+       python3 tests/lint --write contracts  writes docs/contracts anew, and `manual` the man page
+"""
+
+import sys
+
+sys.dont_write_bytecode = True
+
+import contracts, edits, manual, memory, promises, readings  # noqa: E401
+from source import Refused
+
+CHECKS = {
+    contracts: "the public contracts are those of docs/contracts",
+    promises: "each promise of docs/PROOFS.md has its clause",
+    edits: "each edit that must fail can be applied, and each wrong body has its edit or its test",
+    memory: "every answer out of memory is made in a listed place",
+    readings: "a listing and the meaning of a text share no definition but those listed",
+    manual: "docs/da65.info.5 is docs/INFORMATION_FILE.md",
+}
+WRITTEN = {module.__name__: module for module in (contracts, manual)}
+
+
+def faults(check, write=False):
+    """What a check says of the tree, a line each; what it does not understand is a fault too."""
+    try:
+        return list(check.check(write))
+    except Refused as cause:
+        return [str(cause)]
+
+
+def main(words):
+    if words[:1] == ["--write"] and words[1:] and set(words[1:]) <= WRITTEN.keys():
+        for name in words[1:]:
+            print(*faults(WRITTEN[name], write=True), sep="\n")
+        return 0
+    if words:
+        return __doc__
+    failed = False
+    for check, holds in CHECKS.items():
+        found = faults(check)
+        failed = failed or bool(found)
+        print(*(f"{check.__name__}: {line}" for line in found or [holds]), sep="\n")
+    return int(failed)
+
+
+sys.exit(main(sys.argv[1:]))

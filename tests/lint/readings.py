@@ -1,0 +1,70 @@
+"""A listing and the meaning of a text are defined apart, so that the law of reassembly compares two definitions. What the definitions of both
+stand on is listed here: each module of `specs/` that the imports of both lead to, and the names that either group takes from it. Look at a
+module or a name more or less than these, and then change the list."""
+
+from definitions import definitions
+from source import ROOT
+
+# The modules that the definition of a listing begins with, and those of what a text means. The types of the code (`declared`) and what
+# is said of a constant (`contracts`) are no definitions.
+LISTING = "da65.Listing stmt65.Line stmt65.Printable stmt65.Code.StatementViews"
+TEXT = "stmt65.Meaning stmt65.LineAddresses stmt65.Spelling stmt65.Spacing stmt65.Code.MeaningViews"
+OUTSIDE = ("std", "arrayvec", "itoa", "clap")
+SHARED = """
+isa65.Cmos65Sc02
+isa65.Cpu cpu_named cpu_text table_of
+isa65.Mnemonic mnemonic_named text_of
+isa65.Mode len_of
+isa65.Mos6502
+isa65.Opcodes Table decoded encoded sibling_in
+isa65.Rockwell65C02
+stmt65.Directives directive_named directive_text
+stmt65.Names is_name same
+stmt65.SourceLine * Accumulator Assignment Code Data Datum Direct DirectX DirectY Empty Form Immediate Indirect IndirectX IndirectY Instr NameValue Nothing NumberDatum NumberValue Operation PlaceAssignment Segment SetCpu SourceLine Statement StringDatum Two Value Values is_absolute
+text65.Names has_name_form is_reserved_word is_word_byte
+"""
+
+
+def file_of(module):
+    crate, *steps = module.split(".")
+    return (ROOT / "crates" / crate / "specs").joinpath(*steps).with_suffix(".antt")
+
+
+def taken(module):
+    """The definitions that a module imports, each as its module and its name, or `*` for a whole module."""
+    for _, path in definitions(file_of(module)).imports:
+        crate, _, rest = path.removeprefix("Rattle.").partition(".specs.")
+        if not path.startswith("Rattle.") or not rest or crate in OUTSIDE or rest.startswith(("declared.", "contracts.")):
+            continue
+        whole = f"{crate}.{rest}"
+        yield (whole, "*") if file_of(whole).exists() else tuple(whole.rsplit(".", 1))
+
+
+def reached(modules):
+    """The modules that the imports of these lead to."""
+    found, left = set(), modules.split()
+    while left:
+        module = left.pop()
+        if module not in found:
+            found.add(module)
+            left += [other for other, _ in taken(module)]
+    return found
+
+
+def shared():
+    """The modules that both groups lead to, each with the names that a module of one group alone takes from it."""
+    listing, text = reached(LISTING), reached(TEXT)
+    names = {module: set() for module in listing & text}
+    for module in listing ^ text:
+        for other, name in taken(module):
+            if other in names:
+                names[other].add(name)
+    return {module: " ".join([module, *sorted(taken_names)]) for module, taken_names in names.items()}
+
+
+def check(write):
+    found, listed = set(shared().values()), set(SHARED.strip().split("\n"))
+    for line in sorted(found - listed):
+        yield f"both share {line}, which tests/lint/readings.py does not list"
+    for line in sorted(listed - found):
+        yield f"they do not share {line}, which tests/lint/readings.py lists"
