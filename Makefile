@@ -21,25 +21,30 @@ SHELL := bash
 .SHELLFLAGS := -eu -o pipefail -c
 .PHONY: all test check contracts manual speed install uninstall clean help
 
+# Two crates at a time where there are two processors and 8 GB, unless the command line says how many.
+MAKEFLAGS += -j$(shell [ "$$(nproc)" -ge 2 ] && awk '/^MemAvailable/ { print ($$2 > 8000000) + 1 }' /proc/meminfo || echo 1)
+
 all: bin/da65 bin/as65 bin/trace65
 	bin/da65 examples/three.bin
 
-sources := crates.txt $(shell find crates -name out -prune -o \( -name '*.rt' -o -name '*.antt' \) -print)
+bin/da65: bin/made/da65_cli
+	@cp crates/da65_cli/out/da65_cli $@
 
-bin/da65: $(sources)
-	@mkdir -p bin
-	@echo 'Proving and building bin/da65, bin/as65 and bin/trace65. From a fresh checkout this takes about a quarter of an hour on four cores, half an hour or more on slow ones.'
-	@echo 'The prover says what it has checked, and bin/build.log keeps that.'
-	@cd crates/da65_cli && rt run $(RTFLAGS) -- --version 2>&1 | tee ../../bin/build.log
-	@cp crates/da65_cli/out/da65_cli bin/da65
+bin/as65 bin/trace65: bin/%: bin/made/%
+	@cp crates/$*/out/$* $@
 
-bin/as65: bin/da65 $(sources)
-	@cd crates/as65 && rt run $(RTFLAGS) -- --version 2>&1 | tee -a ../../bin/build.log
-	@cp crates/as65/out/as65 bin/as65
-
-bin/trace65: bin/as65 $(sources)
-	@cd crates/trace65 && rt run $(RTFLAGS) -- --version 2>&1 | tee -a ../../bin/build.log
-	@cp crates/trace65/out/trace65 bin/trace65
+# A crate is proved once those that it stands on are, by the lines of crates.txt; a program is run too, for its version. A line on the
+# screen says how long that took, and bin/made/CRATE has what the prover says.
+crates := $(shell sed -nE 's/^([a-z0-9_]+):.*/\1/p' crates.txt)
+programs := da65_cli as65 trace65
+below = $(filter $(crates),$(shell sed -nE 's/^$(1)://p' crates.txt))
+define crate
+bin/made/$(1): $(patsubst %,bin/made/%,$(call below,$(1))) $(shell find crates/$(1) -name out -prune -o -path '*/src/*' -print -o -name '*.antt' -print)
+	@mkdir -p bin/made; begin=$$$$SECONDS; \
+	    rt $(if $(filter $(1),$(programs)),run $(1) $$(RTFLAGS) -- --version,lib $(1) $$(RTFLAGS)) >$$@.log 2>&1 || { tail -n 20 $$@.log; exit 1; }; \
+	    printf '%-10s proved in %d seconds\n' $(1) $$$$((SECONDS - begin)); mv $$@.log $$@
+endef
+$(foreach name,$(crates),$(eval $(call crate,$(name))))
 
 test:
 	@mkdir -p bin

@@ -53,7 +53,8 @@ export SHELL=/bin/sh HOME=$work/home DESTDIR=$work/installed PATH=$work/path:$PA
 opens() {
     page=$1
     folder=$work/$(basename "$1")
-    mkdir -p "$folder/bin" "$folder/docs" "$folder/crates"
+    mkdir -p "$folder/bin/made" "$folder/docs" "$folder/crates"
+    touch "$folder"/bin/made/{da65_cli,as65,trace65}
     cp -r "$root/examples" "$root/completions" "$root/Makefile" "$folder"
     cp "$root"/docs/*.[15] "$folder/docs"
     : >"$folder/crates.txt"

@@ -17,7 +17,8 @@ fails() {
 }
 
 # A checkout after `make`, in which nothing has to be built.
-mkdir bin crates
+mkdir -p bin/made crates
+touch bin/made/{da65_cli,as65,trace65}
 cp -r "$root/Makefile" "$root/completions" "$root/docs" .
 : >crates.txt
 cp "$programs/da65" "$programs/as65" "$programs/trace65" bin
