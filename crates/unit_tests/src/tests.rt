@@ -21,7 +21,6 @@ mod printed;
 mod printed_names;
 mod printing;
 mod ranges;
-mod rules;
 mod said;
 mod segments;
 mod source_lines;
