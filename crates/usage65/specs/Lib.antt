@@ -1,0 +1,3 @@
+pub mod Code
+pub mod Number
+pub mod Values

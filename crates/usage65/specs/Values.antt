@@ -1,0 +1,32 @@
+-- The values of a command line: what a program takes from the matches of `clap`, up to the first fault.
+use Rattle.std.specs.Prelude.{◌≡◌, Bool, false, true, Result, Ok, Err, List, codes}
+use Rattle.std.specs.Str.{bytes_eq}
+use Rattle.std.specs.Option.{option_map_or}
+use Rattle.clap.specs.Words.{App, Row, Text, first_of, new_app}
+use Rattle.clap.specs.Simple.{on_top}
+use Rattle.usage65.specs.declared.fault.UsageFault.{UsageFault}
+use Rattle.usage65.specs.declared.fault.UsageFault.TheVariants.{Memory}
+
+-- the fault is the one of the definition, unless memory ran out
+abbrev pub Fails : {A : Type 0} → UsageFault → Result A UsageFault → Type 0
+Fails Memory defined = Unit {0}
+Fails e defined = defined ≡ Err e
+
+-- the result, seen by `seen`, is the one of the definition, unless memory ran out
+abbrev pub Gives : {X A : Type 0} → (X → A) → Result X UsageFault → Result A UsageFault → Type 0
+Gives seen (Ok x) defined = defined ≡ Ok (seen x)
+Gives seen (Err e) defined = Fails e defined
+
+-- a chain that stops at its first fault
+infixl 10 ◌>>=◌
+abbrev pub ◌>>=◌ : {A B : Type 0} → Result A UsageFault → (A → Result B UsageFault) → Result B UsageFault
+(Ok x) >>= f = f x
+(Err e) >>= f = Err e
+
+-- a flag is set if its value is `true`
+abbrev pub is_set : Text → List Row → Bool
+is_set id rows = option_map_or (λ t. bytes_eq t (codes "true")) (first_of id rows) false
+
+-- a command of this name, with no help and no version of `clap`'s own
+abbrev pub bare : Text → App
+bare name = on_top (λ s. record s { disable_help_flag = true; disable_version_flag = true }) (new_app name)

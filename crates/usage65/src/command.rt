@@ -1,0 +1,127 @@
+//! A command as `clap` reads it, put together from its arguments, and the values of its matches.
+
+ghost use Rattle.std.specs.Prelude.{Ok, Some, option_map, true, ◌≡◌};
+ghost use Rattle.clap.specs.Words.{app_of, first_of, found_of, new_rule, rows_of};
+ghost use Rattle.clap.specs.declared.builder.ArgAction.TheVariants.{SetTrue};
+ghost use Rattle.info65.specs.Views.{name_seen};
+ghost use Rattle.usage65.specs.Code.CommandRules.{AddsRule};
+ghost use Rattle.usage65.specs.Values.{Gives, bare, is_set};
+
+use crate::fault::UsageFault;
+use clap::{Arg, ArgAction, ArgMatches, Command};
+use std::alloc::{AllocError, Global};
+
+/// Returns the command of this name, without `clap`'s own help and version.
+pub fn bare_command(alloc: Global, name: &str) -> Command<'_>
+    ensures { app_of result ≡ bare name.entry.now }
+{
+    Command::new(alloc, name)
+        .disable_help_flag(true)
+        .disable_version_flag(true)
+}
+
+/// Adds an option with a long name.
+pub fn with_option<'a>(
+    alloc: Global,
+    command: Command<'a>,
+    id: &'a str,
+    long: &'a str,
+) -> Result<Command<'a>, AllocError>
+    ensures { AddsRule command.entry (record (new_rule id.entry.now) { long = Some long.entry.now }) result }
+{
+    command.arg(Arg::new(alloc, id).long(long))
+}
+
+/// Adds an option with a letter and a long name.
+pub fn with_short_option<'a>(
+    alloc: Global,
+    command: Command<'a>,
+    id: &'a str,
+    short: char,
+    long: &'a str,
+) -> Result<Command<'a>, AllocError>
+    ensures { AddsRule command.entry (record (new_rule id.entry.now) { short = Some short; long = Some long.entry.now }) result }
+{
+    command.arg(Arg::new(alloc, id).short(short).long(long))
+}
+
+/// Adds an option with a letter.
+pub fn with_short<'a>(
+    alloc: Global,
+    command: Command<'a>,
+    id: &'a str,
+    short: char,
+) -> Result<Command<'a>, AllocError>
+    ensures { AddsRule command.entry (record (new_rule id.entry.now) { short = Some short }) result }
+{
+    command.arg(Arg::new(alloc, id).short(short))
+}
+
+/// Adds a flag with a letter and a long name.
+pub fn with_flag<'a>(
+    alloc: Global,
+    command: Command<'a>,
+    id: &'a str,
+    short: char,
+    long: &'a str,
+) -> Result<Command<'a>, AllocError>
+    ensures { AddsRule command.entry (record (new_rule id.entry.now) { short = Some short; long = Some long.entry.now; action = Some SetTrue }) result }
+{
+    command.arg(
+        Arg::new(alloc, id)
+            .short(short)
+            .long(long)
+            .action(ArgAction::SetTrue),
+    )
+}
+
+/// Adds a flag with a long name.
+pub fn with_long_flag<'a>(
+    alloc: Global,
+    command: Command<'a>,
+    id: &'a str,
+    long: &'a str,
+) -> Result<Command<'a>, AllocError>
+    ensures { AddsRule command.entry (record (new_rule id.entry.now) { long = Some long.entry.now; action = Some SetTrue }) result }
+{
+    command.arg(Arg::new(alloc, id).long(long).action(ArgAction::SetTrue))
+}
+
+/// Adds a name without an option, which may be left out.
+pub fn with_positional<'a>(
+    alloc: Global,
+    command: Command<'a>,
+    id: &'a str,
+) -> Result<Command<'a>, AllocError>
+    ensures { AddsRule command.entry (new_rule id.entry.now) result }
+{
+    command.arg(Arg::new(alloc, id))
+}
+
+/// Returns the text that a match has under this id.
+#[tactic(auto, using(crate::proofs::MatchLemmas::read_rows))]
+pub fn text_of<'a>(matches: &ArgMatches<'a>, id: &str) -> Option<&'a str>
+    ensures { option_map (λ s. s.now) result ≡ first_of id.now (rows_of (found_of matches.now)) }
+{
+    matches.get_str(id)
+}
+
+/// Whether the flag of this id is given.
+pub fn is_set(matches: &ArgMatches, id: &str) -> bool
+    ensures { result ≡ is_set id.now (rows_of (found_of matches.now)) }
+{
+    match text_of(matches, id) {
+        Some(text) => text == "true",
+        None => false,
+    }
+}
+
+/// Returns a copy of a text, if there is one. Fails only if memory ran out.
+pub fn owned(alloc: Global, text: Option<&str>) -> Result<Option<String>, UsageFault>
+    ensures { Gives (λ o. name_seen o) result (Ok (option_map (λ s. s.now) text.entry)) }
+{
+    match text {
+        Some(text) => Ok(Some(String::from_str(alloc, text)?)),
+        None => Ok(None),
+    }
+}
