@@ -4,4 +4,5 @@ pub mod Entries
 pub mod Reached
 pub mod Taken
 pub mod Pieces
+pub mod RangeLines
 pub mod Code

@@ -1,0 +1,38 @@
+-- The lines of the ranges that are proposed: each is a group of an information file, with the bytes of the range as a comment.
+use Rattle.std.specs.Prelude.{ℕ, ◌+◌, ◌-◌, ◌&&◌, List, [], ◌++◌, codes, drop, flat_map, length, map, nat_lt, take, if◌then◌else◌}
+use Rattle.text65.specs.Digits.{digits4}
+use Rattle.info65.specs.declared.information.range.RangeSpec.{RangeSpec}
+use Rattle.info65.specs.declared.information.range.RangeType.{RangeType}
+use Rattle.info65.specs.declared.information.range.RangeType.TheVariants as role
+use Rattle.map65.specs.ImageView.{ImageView, bytes_from}
+
+-- a byte from $20 to $7E is shown as it is, another one as a dot
+abbrev pub shown_byte : ℕ → ℕ
+shown_byte b = if nat_lt 0x1F b && nat_lt b 0x7F then b else 46
+
+-- two dots after what is not shown whole
+abbrev pub dots_above : ℕ → List ℕ
+dots_above len = if nat_lt 32 len then codes " .." else []
+
+-- at most 32 characters
+unfoldable pub shown_bytes : List ℕ → List ℕ
+shown_bytes bytes = map shown_byte (take 32 bytes) ++ dots_above (length bytes)
+
+-- the bytes of a range
+abbrev pub range_bytes : ImageView → RangeSpec → List ℕ
+range_bytes image r = take (r.last + 1 - r.first) (bytes_from image r.first)
+
+-- a table of bytes, unless it is a text
+abbrev pub type_text : RangeType → List ℕ
+type_text role.TextTable = codes "TextTable"
+type_text _ = codes "ByteTable"
+
+-- `RANGE { START $hhhh; END $hhhh; TYPE t; }; # ..`, and the end of the line
+unfoldable pub range_line : ImageView → RangeSpec → List ℕ
+range_line image r =
+    codes "RANGE { START $" ++ digits4 r.first ++ codes "; END $" ++ digits4 r.last ++ codes "; TYPE " ++ type_text r.role ++ codes "; }; # "
+    ++ shown_bytes (range_bytes image r) ++ codes "\n"
+
+-- in order
+unfoldable pub range_lines : ImageView → List RangeSpec → List ℕ
+range_lines image ranges = flat_map (range_line image) ranges
