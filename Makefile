@@ -60,8 +60,7 @@ test:
 	tests/sweeps.sh bin/da65
 	tests/work.sh bin/da65
 	tests/speed.sh bin/da65
-	tests/install.sh bin/da65
-	tests/guide.sh bin/da65
+	tests/docs.sh bin/da65
 	tests/ca65.sh bin/da65 10
 	@[ "$${CA65-}" != skip ] || echo 'CA65=skip: no listing went through ca65 and ld65, which need cc65'
 	@tail -n 1 bin/gate.log

@@ -1,5 +1,5 @@
 #!/usr/bin/env bash
-# Runs what the pages show: every command of README.md, docs/GUIDE.md, docs/RECIPES.md and the examples of the man page, each page in a
+# Runs what the pages show: every command of README.md, docs/GUIDE.md, docs/RECIPES.md and the examples of the man pages, each page in a
 # folder of its own that looks like a checkout after `make`. A page's blocks
 #
 #   ```sh      are commands, run in their order; the words after `sh` are further programs that the block needs
@@ -9,25 +9,28 @@
 # the message `da65: ..` or the word nothing, that is what the program says. The assembler is the as65 beside the program. The examples of as65's and trace65's man pages are
 # run, and that of da65's at five addresses, and for 64 KiB. So are the rows of docs/INFORMATION_FILE.md that have a message.
 # Without ca65 and ld65 the script fails, unless CA65=skip is set: then each section ends at the first block that needs them.
-# Usage: tests/guide.sh PROGRAM
+#
+# Then it installs, under the programs' names and under others, and takes everything away again: bash and zsh complete every option of the
+# help texts, and the man pages are well formed and refer to nothing that is not installed. zsh and mandoc are left out where they are
+# not installed.
+# Usage: tests/docs.sh PROGRAM
 set -u
 program=$(realpath "$1")
-assembler=$(dirname "$program")/as65
-tracer=$(dirname "$program")/trace65
+programs=$(dirname "$program")
 root=$(realpath "$(dirname "$0")/..")
-work=$(mktemp -d)
+. "$root/tests/rows.sh"
 ran=0
 shown=0
 left_out=0
 
-# fails CAUSE: ends the script, and leaves its files.
-fails() {
-    echo "guide: $1 (its files are in $work)"
+# ends_with CAUSE: ends the script.
+ends_with() {
+    fails "$@"
     exit 1
 }
 
 if ! { command -v ca65 && command -v ld65; } >/dev/null; then
-    [ "${CA65-}" = skip ] || { echo 'guide: ca65 and ld65 of cc65 are not installed; CA65=skip leaves out what needs them'; exit 1; }
+    [ "${CA65-}" = skip ] || ends_with 'ca65 and ld65' 'not installed; CA65=skip leaves out what needs them'
 fi
 
 # What a login to another machine would run, for the commands that spread their work: it runs here.
@@ -58,9 +61,7 @@ opens() {
     cp -r "$root/examples" "$root/completions" "$root/Makefile" "$folder"
     cp "$root"/docs/*.[15] "$folder/docs"
     : >"$folder/crates.txt"
-    cp "$program" "$folder/bin/da65"
-    cp "$assembler" "$folder/bin/as65"
-    cp "$tracer" "$folder/bin/trace65"
+    cp "$programs"/{da65,as65,trace65} "$folder/bin"
     ln -sf "$folder/bin/da65" "$folder/bin/as65" "$folder/bin/trace65" "$work/path"
     cd "$folder" || exit 1
     : >printed
@@ -98,9 +99,9 @@ found() {
     return 1
 }
 
-# runs COMMANDS: they end with status 0. What they print is in the file printed.
-runs() {
-    bash -eu -o pipefail -c "$1" >printed 2>&1 || fails "$page: $1: $(cat printed)"
+# does COMMANDS: they end with status 0. What they print is in the file printed.
+does() {
+    bash -eu -o pipefail -c "$1" >printed 2>&1 || ends_with "$page: $1" "$(cat printed)"
     ran=$((ran + 1))
 }
 
@@ -116,18 +117,18 @@ blocks() {
         case $kind in
         sh | sh\ *)
             if ! needs ${kind#sh} || { grep -Eq '(ca|cl|ld)65' "$block" && ! needs ca65 ld65; }; then
-                echo "guide: $page: left out: $(head -n 1 "$block")"
+                echo "docs: $page: left out: $(head -n 1 "$block")"
                 left_out=$((left_out + 1))
                 skipped=$section
                 continue
             fi
-            runs "$(cat "$block")"
+            does "$(cat "$block")"
             ;;
         shown)
-            found "$(cat "$block")" || fails "$page: not in what the commands made: $(cat "$block")"
+            found "$(cat "$block")" || ends_with "$page" "not in what the commands made: $(cat "$block")"
             shown=$((shown + 1))
             ;;
-        *) fails "$page: a block of kind $kind" ;;
+        *) ends_with "$page" "a block of kind $kind" ;;
         esac
     done
 }
@@ -149,11 +150,11 @@ tables() {
                 printf '%s' "$text" >mistake.info
                 bin/da65 -i mistake.info examples/three.bin >printed 2>messages
             fi
-            [ "$(cat messages)" = "$message" ] || fails "$page: $text: $(cat messages)"
+            [ "$(cat messages)" = "$message" ] || ends_with "$page: $text" "$(cat messages)"
             ran=$((ran + 1))
         else
             while read -r text; do
-                [ -z "$text" ] || runs "$text"
+                [ -z "$text" ] || does "$text"
             done < <(grep -oE '`bin/(da|as)65[^`]*`' <<<"$row" | tr -d '`')
         fi
     done < <(grep '^|' "$root/$page")
@@ -168,7 +169,7 @@ example() {
 # assembles_at START SIZE: the commands of da65's man page, for an image of the random bytes, repeated, at this address.
 assembles_at() {
     printf '%b' "$bytes$bytes$bytes$bytes" | head -c "$2" >rom.bin
-    runs "$(example docs/da65.1 | sed "s/0xF000/$1/g")"
+    does "$(example docs/da65.1 | sed "s/0xF000/$1/g")"
 }
 
 for page in README.md docs/GUIDE.md docs/RECIPES.md; do
@@ -180,10 +181,10 @@ opens docs/INFORMATION_FILE.md
 tables
 opens docs/as65.1
 head -c 4096 "$program" >rom.bin
-runs "$(example docs/as65.1)"
+does "$(example docs/as65.1)"
 opens docs/trace65.1
 head -c 4096 "$program" >rom.bin
-runs "$(example docs/trace65.1)"
+does "$(example docs/trace65.1)"
 opens docs/da65.1
 if needs ca65 ld65; then
     . "$root/tests/random.sh"
@@ -196,6 +197,70 @@ if needs ca65 ld65; then
     assembles_at 0xF000 4096
     assembles_at 0x0000 65536
 fi
-cd "$root" || exit 1
-rm -rf "$work"
-echo "guide: ran $ran commands and found $shown excerpts; left out $left_out"
+# ---- installing
+
+# A checkout after `make`, in which nothing has to be built.
+mkdir -p "$work/installing/bin/made" "$work/installing/crates"
+cd "$work/installing" || exit 1
+touch bin/made/{da65_cli,as65,trace65}
+cp -r "$root/Makefile" "$root/completions" "$root/docs" .
+: >crates.txt
+cp "$programs"/{da65,as65,trace65} bin
+
+# installed PREFIX: the files of the programs whose names begin with it.
+installed() {
+    local name
+    for name in "$1da65" "$1as65" "$1trace65"; do
+        printf '%s\n' "bin/$name" "share/man/man1/$name.1" "share/bash-completion/completions/$name" "share/zsh/site-functions/_$name"
+    done
+    echo "share/man/man5/$1da65.info.5"
+}
+
+# options NAME: those of the help text, one a line.
+options() {
+    "bin/$1" -h | grep -oE '^  -[^ ]+( --[^ ]+)?' | grep -oE -- '-[^ ,]+'
+}
+
+# bash_completes FILE NAME WORD..: what bash offers for the last of these words after the name, one a line.
+bash_completes() {
+    bash -c 'source "$1"; shift; COMP_WORDS=("$@") COMP_CWORD=$(($# - 1))
+        function=$(complete -p "$1") && function=${function#*-F } && "${function% *}" 2>/dev/null && printf "%s\n" "${COMPREPLY[@]}"' - "$@"
+}
+
+# zsh_completes FOLDER LINE WORD: what zsh shows after two TABs behind the line, up to the word.
+zsh_completes() {
+    timeout 60 zsh -f -c 'zmodload zsh/zpty; zpty z "TERM=dumb zsh -f -i"
+        zpty -w z "PS1=; fpath=($1 \$fpath); autoload -Uz compinit; compinit -u -D; LISTMAX=0; COLUMNS=120; LINES=100; print re''ady"
+        zpty -r z out "*ready*"; zpty -w -n z "$2"$'"'\\t\\t'"'; zpty -r z out "*$3*"; print -r -- "$out"' - "$@"
+}
+
+for prefix in '' proved-; do
+    made=$work/made$prefix
+    make -s install DESTDIR="$made" PREFIX=/usr PROGRAM_PREFIX="$prefix" || fails installing "make install PROGRAM_PREFIX=$prefix"
+    diff <(installed "$prefix" | sort) <(cd "$made/usr" && find . -type f | sed 's,^\./,,' | sort) || fails installing "other files with PROGRAM_PREFIX=$prefix"
+    for program in da65 as65 trace65; do
+        name=$prefix$program
+        cmp -s "bin/$program" "$made/usr/bin/$name" || fails installing "$name is another program"
+        listed=$(command -v zsh >/dev/null && zsh_completes "$made/usr/share/zsh/site-functions" "$name -" '-o ')
+        while read -r option; do
+            bash_completes "$made/usr/share/bash-completion/completions/$name" "$name" "$option" | grep -qxe "$option" ||
+                fails installing "bash does not complete $option after $name"
+            ! command -v zsh >/dev/null || grep -qE -- "(^|[ ])$option " <<<"$listed" || fails installing "zsh does not complete $option after $name"
+        done < <(options "$program")
+    done
+    cpus=$(bash_completes "$made/usr/share/bash-completion/completions/${prefix}da65" "${prefix}da65" --cpu 65 | tr '\n' ' ')
+    [ "$cpus" = '6502 65SC02 65C02 ' ] || fails installing "bash completes --cpu to $cpus"
+    make -s uninstall DESTDIR="$made" PREFIX=/usr PROGRAM_PREFIX="$prefix" || fails installing "make uninstall PROGRAM_PREFIX=$prefix"
+    [ -z "$(find "$made" -type f)" ] || fails installing "left after make uninstall: $(find "$made" -type f)"
+done
+[ "$(options da65 | wc -l)" = 17 ] && [ "$(options as65 | wc -l)" = 10 ] && [ "$(options trace65 | wc -l)" = 11 ] || fails installing 'the help texts have other options than these lists'
+
+grep -nE '\.md\b|docs/|crates/|examples/' docs/*.[15] | grep -v ':1:' && fails installing 'a man page refers to what is not installed'
+if command -v mandoc >/dev/null; then
+    mandoc -T lint docs/*.[15] || fails installing 'a man page is not well formed'
+else
+    echo 'docs: mandoc is not installed, so no man page was looked at'
+fi
+command -v zsh >/dev/null || echo 'docs: zsh is not installed, so its completion was not run'
+[ "$failed" = 0 ] && echo "docs: ran $ran commands and found $shown excerpts; left out $left_out; everything is installed and taken away, and every option completed"
+exit "$failed"
