@@ -16,7 +16,6 @@ as65 Failure::of_words 2
 as65 accepted 2
 as65 failure_of 4
 as65 information_in 2
-da65 UsageFault::from 1
 da65 accepted 2
 da65 image_message 1
 da65 list_input 1
@@ -43,6 +42,7 @@ stmt65 Symbols::define 1
 trace65 Failure::from 4
 trace65 failure_of 2
 trace65 matches_of 2
+usage65 UsageFault::from 1
 """
 
 

@@ -5,7 +5,7 @@ in docs/contracts."""
 import re
 
 from contracts import SNAPSHOT
-from source import ROOT
+from source import ROOT, Refused
 
 
 class Declared:
@@ -14,8 +14,10 @@ class Declared:
 
     def __init__(self, crate):
         self.types, self.functions, self.clauses = set(), set(), {}
-        names = []
-        for line in (SNAPSHOT / f"{crate}.txt").read_text().splitlines():
+        names, snapshot = [], SNAPSHOT / f"{crate}.txt"
+        if not snapshot.is_file():
+            raise Refused(f"docs/contracts has no {snapshot.name}")
+        for line in snapshot.read_text().splitlines():
             if line and not line.startswith(" "):
                 names = [*line.split(": "), *re.findall(r"::(\w+)$", line)]
             elif re.match(r"    fn |    impl.* From<.* for ", line):

@@ -1,12 +1,8 @@
 -- The command as `clap` sees it: its options and the name of the listing, and how it reads the words.
-use Rattle.std.specs.Prelude.{List, Some, codes, true}
-use Rattle.clap.specs.Words.{App, Kinds, Row, Rule, Text, fault_of, matches_of, new_app, new_rule, with_rule}
-use Rattle.clap.specs.Simple.{on_top}
+use Rattle.std.specs.Prelude.{List, Some, codes}
+use Rattle.clap.specs.Words.{App, Kinds, Row, Rule, Text, fault_of, matches_of, new_rule, with_rule}
+use Rattle.usage65.specs.Values.{bare}
 use Rattle.clap.specs.declared.builder.ArgAction.TheVariants.{SetTrue}
-
--- the program's name, with no help and no version of `clap`'s own
-abbrev pub bare : App
-bare = on_top (λ s. record s { disable_help_flag = true; disable_version_flag = true }) (new_app (codes "as65"))
 
 -- `-i name`
 abbrev pub info_rule : Rule
@@ -34,7 +30,7 @@ version_rule = record (new_rule (codes "version")) { short = Some 86; long = Som
 
 -- the command: its options, and an optional listing; each may be given once
 unfoldable pub app : App
-app = with_rule (with_rule (with_rule (with_rule (with_rule (with_rule (with_rule bare info_rule) start_rule) output_rule) compare_rule) help_rule) version_rule) (new_rule (codes "listing"))
+app = with_rule (with_rule (with_rule (with_rule (with_rule (with_rule (with_rule (bare (codes "as65")) info_rule) start_rule) output_rule) compare_rule) help_rule) version_rule) (new_rule (codes "listing"))
 
 -- the matches of the words, if they are accepted
 unfoldable pub rows_on : List Text → List Row

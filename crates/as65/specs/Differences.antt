@@ -1,5 +1,5 @@
 -- The lines that say where a listing and an image differ.
-use Rattle.std.specs.Prelude.{◌≡◌, ◌==◌, ◌≤◌, ℕ, ◌+◌, ◌-◌, List, [], ◌∷◌, ◌++◌, codes, decimal, drop, flat_map, get_or, length, map, nat_lt, take, if◌then◌else◌}
+use Rattle.std.specs.Prelude.{◌≡◌, ◌==◌, ℕ, ◌+◌, ◌-◌, List, [], ◌∷◌, ◌++◌, codes, decimal, drop, flat_map, get_or, length, map, nat_lt, take, if◌then◌else◌}
 use Rattle.std.specs.Char.{is_ascii_control, is_ascii_whitespace}
 use Rattle.std.specs.List.{prefix_len, suffix_len}
 use Rattle.text65.specs.Digits.{digits4}

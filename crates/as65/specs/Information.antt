@@ -1,5 +1,5 @@
 -- Where an image is, as an information file says it.
-use Rattle.std.specs.Prelude.{◌≡◌, ◌&&◌, ◌-◌, ℕ, Option, Some, None, Result, Ok, Err, nat_le, nat_lt, if◌then◌else◌}
+use Rattle.std.specs.Prelude.{◌≡◌, ◌&&◌, ◌-◌, ℕ, Option, Some, None, Result, Err, nat_le, nat_lt, if◌then◌else◌}
 use Rattle.info65.specs.Views.{InfoView, OptionsView, no_options}
 use Rattle.info65.specs.declared.fault.InfoFault.{InfoFault}
 use Rattle.as65.specs.declared.failure.Failure.{Failure}

@@ -1,13 +1,13 @@
 -- What a command line asks for.
 use Rattle.std.specs.Prelude.{◌≡◌, ◌==◌, ◌&&◌, ◌||◌, ℕ, Bool, false, not, nat_eq, List, String, Option, Some, None, Result, Ok, Err, codes, drop, length, option_map, is_some, if◌then◌else◌}
 use Rattle.std.specs.List.{list_any, starts_with, take_while}
-use Rattle.std.specs.Option.{option_map_or}
 use Rattle.std.specs.Str.{bytes_eq}
 use Rattle.std.specs.String.{string_bytes}
 use Rattle.clap.specs.Words.{Row, Text, first_of}
-use Rattle.da65.specs.Number.{address_in}
-use Rattle.da65.specs.declared.command_line.usage_fault.UsageFault.{UsageFault}
-use Rattle.da65.specs.declared.command_line.usage_fault.UsageFault.TheVariants.{Words}
+use Rattle.usage65.specs.Number.{address_in}
+use Rattle.usage65.specs.Values.{is_set}
+use Rattle.usage65.specs.declared.fault.UsageFault.{UsageFault}
+use Rattle.usage65.specs.declared.fault.UsageFault.TheVariants.{Words}
 use Rattle.as65.specs.Command.{faults_on, rows_on}
 use Rattle.as65.specs.declared.failure.Failure.{Failure}
 use Rattle.as65.specs.declared.failure.Failure.TheVariants as failure
@@ -54,10 +54,6 @@ infixl 10 ◌>>=◌
 abbrev pub ◌>>=◌ : {A B : Type 0} → Result A Refusal → (A → Result B Refusal) → Result B Refusal
 (Ok x) >>= f = f x
 (Err e) >>= f = Err e
-
--- a flag is set if its value is `true`
-abbrev pub is_set : Text → List Row → Bool
-is_set id rows = option_map_or (λ t. bytes_eq t (codes "true")) (first_of id rows) false
 
 -- an address, or why it is none
 abbrev pub address_or_fault : Result ℕ UsageFault → Result (Option ℕ) Refusal

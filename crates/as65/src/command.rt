@@ -2,13 +2,14 @@
 
 ghost use Rattle.std.specs.Prelude.{IfOk, map, ◌≡◌};
 ghost use Rattle.std.specs.String.{string_bytes};
-ghost use Rattle.clap.specs.Words.{FailsBy, app_of, found_of, new_rule, rows_of};
-ghost use Rattle.clap.specs.declared.builder.ArgAction.TheVariants.{SetTrue};
-ghost use Rattle.da65.specs.Code.CommandRules.{AddsRule};
-ghost use Rattle.as65.specs.Command.{app, bare, faults_on, rows_on};
+ghost use Rattle.clap.specs.Words.{FailsBy, app_of, found_of, rows_of};
+ghost use Rattle.as65.specs.Command.{app, faults_on, rows_on};
 
-use clap::{Arg, ArgAction, ArgMatches, Command, Error};
+use clap::{ArgMatches, Command, Error};
 use std::alloc::{AllocError, Global};
+use usage65::{
+    bare_command, with_flag, with_option, with_positional, with_short, with_short_option,
+};
 
 /// Reads the words. The first word is the program's name.
 pub(crate) fn matches_of_words<'a>(
@@ -26,7 +27,7 @@ pub(crate) fn matches_of_words<'a>(
 fn whole_command<'a>(alloc: Global) -> Result<Command<'a>, AllocError>
     ensures { IfOk result (λ c. app_of c ≡ app) }
 {
-    let command = bare_command(alloc);
+    let command = bare_command(alloc, "as65");
     let command = with_short_option(alloc, command, "info", 'i', "info")?;
     let command = with_short_option(alloc, command, "start", 'S', "start-addr")?;
     let command = with_short(alloc, command, "output", 'o')?;
@@ -35,76 +36,6 @@ fn whole_command<'a>(alloc: Global) -> Result<Command<'a>, AllocError>
     let command = with_flag(alloc, command, "version", 'V', "version")?;
     let command = with_positional(alloc, command, "listing")?;
     Ok(command)
-}
-
-fn with_option<'a>(
-    alloc: Global,
-    command: Command<'a>,
-    id: &'a str,
-    long: &'a str,
-) -> Result<Command<'a>, AllocError>
-    ensures { AddsRule command.entry (record (new_rule id.entry.now) { long = Some long.entry.now }) result }
-{
-    command.arg(Arg::new(alloc, id).long(long))
-}
-
-fn with_short_option<'a>(
-    alloc: Global,
-    command: Command<'a>,
-    id: &'a str,
-    short: char,
-    long: &'a str,
-) -> Result<Command<'a>, AllocError>
-    ensures { AddsRule command.entry (record (new_rule id.entry.now) { short = Some short; long = Some long.entry.now }) result }
-{
-    command.arg(Arg::new(alloc, id).short(short).long(long))
-}
-
-fn with_short<'a>(
-    alloc: Global,
-    command: Command<'a>,
-    id: &'a str,
-    short: char,
-) -> Result<Command<'a>, AllocError>
-    ensures { AddsRule command.entry (record (new_rule id.entry.now) { short = Some short }) result }
-{
-    command.arg(Arg::new(alloc, id).short(short))
-}
-
-fn with_flag<'a>(
-    alloc: Global,
-    command: Command<'a>,
-    id: &'a str,
-    short: char,
-    long: &'a str,
-) -> Result<Command<'a>, AllocError>
-    ensures { AddsRule command.entry (record (new_rule id.entry.now) { short = Some short; long = Some long.entry.now; action = Some SetTrue }) result }
-{
-    command.arg(
-        Arg::new(alloc, id)
-            .short(short)
-            .long(long)
-            .action(ArgAction::SetTrue),
-    )
-}
-
-fn with_positional<'a>(
-    alloc: Global,
-    command: Command<'a>,
-    id: &'a str,
-) -> Result<Command<'a>, AllocError>
-    ensures { AddsRule command.entry (new_rule id.entry.now) result }
-{
-    command.arg(Arg::new(alloc, id))
-}
-
-/// The program's name, without `clap`'s own help and version.
-fn bare_command<'a>(alloc: Global) -> Command<'a>
-    ensures { app_of result ≡ bare }
-{
-    Command::new(alloc, "as65")
-        .disable_help_flag(true)
-        .disable_version_flag(true)
 }
 
 /// What `--help` prints: what listings are, the usage line, and a line for each option.

@@ -2,13 +2,13 @@
 
 ghost use Rattle.std.specs.Prelude.{◌≡◌};
 
-use da65::UsageFault;
 use files65::FileFault;
 use info65::InfoFault;
 use std::alloc::{AllocError, AllocFailed};
 use std::io::{Error as IoError, ErrorKind};
 use stmt65::AsmFault;
 use thiserror::Error;
+use usage65::UsageFault;
 
 /// What ends the program early.
 #[derive(Debug, Drop, Error)]

@@ -3,14 +3,14 @@
 ghost use Rattle.std.specs.Prelude.{◌≡◌, IfOk, Ok, map, option_map};
 ghost use Rattle.std.specs.String.{string_bytes};
 ghost use Rattle.clap.specs.Words.{first_of, found_of, rows_of};
-ghost use Rattle.as65.specs.Request.{Gives, accepted, asked, asked_in, asked_of, input_named, is_compare_word, is_comparing, is_info, is_set, is_taken, output_named, start_in, to_compare, to_write, to_write_into};
+ghost use Rattle.as65.specs.Request.{Gives, accepted, asked, asked_in, asked_of, input_named, is_compare_word, is_comparing, is_info, is_taken, output_named, start_in, to_compare, to_write, to_write_into};
 
 use crate::command::matches_of_words;
 use crate::failure::Failure;
 use clap::ArgMatches;
 use clap::error::ErrorKind;
-use da65::{UsageFault, address_in};
 use std::alloc::Global;
+use usage65::{UsageFault, address_in, is_set, owned, text_of};
 
 /// What a listing without a name is read from.
 const STANDARD_INPUT: &str = "/dev/stdin";
@@ -206,22 +206,6 @@ fn to_compare(
     }))
 }
 
-#[tactic(auto, using(da65::proofs::Public::read_rows))]
-fn text_of<'a>(matches: &ArgMatches<'a>, id: &str) -> Option<&'a str>
-    ensures { option_map (λ s. s.now) result ≡ first_of id.now (rows_of (found_of matches.now)) }
-{
-    matches.get_str(id)
-}
-
-fn is_set(matches: &ArgMatches, id: &str) -> bool
-    ensures { result ≡ is_set id.now (rows_of (found_of matches.now)) }
-{
-    match text_of(matches, id) {
-        Some(text) => text == "true",
-        None => false,
-    }
-}
-
 fn start_in(text: Option<&str>) -> Result<Option<u16>, Failure>
     ensures { Gives (λ s. s) result (start_in (option_map (λ s. s.now) text.entry)) }
 {
@@ -248,14 +232,5 @@ fn output_named(name: Option<&str>) -> Option<&str>
     match name {
         Some(name) if name != "-" => Some(name),
         _ => None,
-    }
-}
-
-fn owned(alloc: Global, text: Option<&str>) -> Result<Option<String>, Failure>
-    ensures { Gives (λ o. option_map string_bytes o) result (Ok (option_map (λ s. s.now) text.entry)) }
-{
-    match text {
-        Some(text) => Ok(Some(String::from_str(alloc, text)?)),
-        None => Ok(None),
     }
 }

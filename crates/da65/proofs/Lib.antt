@@ -15,8 +15,6 @@ pub mod SkipLemmas
 pub mod EntryLemmas
 pub mod WrittenOps
 pub mod CommandLemmas
-pub mod MatchLemmas
-pub mod Public
 pub mod Rows
 pub mod IncludeRows
 pub mod LineLaws

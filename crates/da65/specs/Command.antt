@@ -1,9 +1,9 @@
 -- The command as `clap` sees it: its options and the input name, and how it reads the words.
 use Rattle.std.specs.Prelude.{ℕ, List, [], ◌∷◌, Option, Some, None, codes, true}
-use Rattle.clap.specs.Words.{App, Kinds, Row, Rule, Text, fault_of, matches_of, new_app, new_rule, with_rule}
-use Rattle.clap.specs.Simple.{on_top}
+use Rattle.clap.specs.Words.{App, Kinds, Row, Rule, Text, fault_of, matches_of, new_rule, with_rule}
 use Rattle.clap.specs.declared.builder.ArgAction.{ArgAction}
 use Rattle.clap.specs.declared.builder.ArgAction.TheVariants.{SetTrue}
+use Rattle.usage65.specs.Values.{bare}
 use Rattle.da65.specs.Choices.{Choice, choices, input_id}
 
 abbrev pub short_in : Text → Option ℕ
@@ -23,17 +23,13 @@ action_in (c ∷ cs) = None
 abbrev pub rule_for : Choice → Rule
 rule_for c = record (new_rule c.id) { short = short_in c.short; long = long_in c.long; action = action_in c.value }
 
--- the program's name, with no help and no version of `clap`'s own
-abbrev pub bare : App
-bare = on_top (λ s. record s { disable_help_flag = true; disable_version_flag = true }) (new_app (codes "da65"))
-
 abbrev pub with_choices : App → List Choice → App
 with_choices a [] = a
 with_choices a (c ∷ cs) = with_choices (with_rule a (rule_for c)) cs
 
 -- the command: each option of the table, and an optional input name; each may be given once
 unfoldable pub app : App
-app = with_rule (with_choices bare choices) (new_rule input_id)
+app = with_rule (with_choices (bare (codes "da65")) choices) (new_rule input_id)
 
 -- the matches of the words, if they are accepted
 unfoldable pub rows_on : List Text → List Row

@@ -14,7 +14,6 @@ pub mod Listing
 pub mod Marks
 pub mod NeededFiles
 pub mod NeedsView
-pub mod Number
 pub mod Outcome
 pub mod ReassemblyLaw
 pub mod RunLaw

@@ -8,35 +8,16 @@ use Rattle.isa65.specs.declared.cpu.Cpu.{Cpu}
 use Rattle.info65.specs.Views.{OptionsView}
 use Rattle.da65.specs.Choices.{argument_column_choice, comment_column_choice, comments_choice, cpu_choice, help_choice, hexoffs_choice, info_choice, input_id, label_break_choice, mnemonic_column_choice, output_choice, start_choice, text_column_choice, version_choice}
 use Rattle.da65.specs.Command.{faults_on, rows_on}
-use Rattle.da65.specs.Number.{address_in, decimal_in}
+use Rattle.usage65.specs.Number.{address_in, decimal_in}
+use Rattle.usage65.specs.Values.{◌>>=◌, is_set}
 use Rattle.da65.specs.declared.command_line.usage.Layout.{Layout}
-use Rattle.da65.specs.declared.command_line.usage_fault.UsageFault.{UsageFault}
-use Rattle.da65.specs.declared.command_line.usage_fault.UsageFault.TheVariants.{Words, OutOfRange, Memory}
-
--- the fault is the one of the definition, unless memory ran out
-abbrev pub Fails : {A : Type 0} → UsageFault → Result A UsageFault → Type 0
-Fails Memory defined = Unit {0}
-Fails e defined = defined ≡ Err e
-
--- the result, seen by `seen`, is the one of the definition, unless memory ran out
-abbrev pub Gives : {X A : Type 0} → (X → A) → Result X UsageFault → Result A UsageFault → Type 0
-Gives seen (Ok x) defined = defined ≡ Ok (seen x)
-Gives seen (Err e) defined = Fails e defined
-
--- a chain that stops at its first fault
-infixl 10 ◌>>=◌
-abbrev pub ◌>>=◌ : {A B : Type 0} → Result A UsageFault → (A → Result B UsageFault) → Result B UsageFault
-(Ok x) >>= f = f x
-(Err e) >>= f = Err e
+use Rattle.usage65.specs.declared.fault.UsageFault.{UsageFault}
+use Rattle.usage65.specs.declared.fault.UsageFault.TheVariants.{Words, OutOfRange}
 
 -- the value of an option, if it is given
 abbrev pub given : {A : Type 0} → (Text → Result A UsageFault) → Option Text → Result (Option A) UsageFault
 given read None = Ok None
 given read (Some text) = read text >>= λ x. Ok (Some x)
-
--- a flag is set if its value is `true`
-abbrev pub is_set : Text → List Row → Bool
-is_set id rows = option_map_or (λ t. bytes_eq t (codes "true")) (first_of id rows) false
 
 abbrev pub known : Option Cpu → Result Cpu UsageFault
 known (Some c) = Ok c

@@ -2,4 +2,3 @@
 
 pub(crate) mod command;
 pub(crate) mod usage;
-pub(crate) mod usage_fault;

@@ -13,8 +13,7 @@ mod listing;
 mod runs;
 
 pub use command_line::command::{help_text, version_text};
-pub use command_line::usage::{address_in, options_of};
-pub use command_line::usage_fault::UsageFault;
+pub use command_line::usage::options_of;
 pub use info65::{Info, InfoFault, Options, read_info};
 pub use laws::{
     expressions_have_their_values, forced_where_needed, group_gives_its_bytes, group_law,
@@ -28,3 +27,4 @@ pub use runs::files::{File, Needs};
 pub use runs::needs::{needs, needs_read};
 pub use runs::outcome::{RunFault, Status};
 pub use runs::running::{run, run_read};
+pub use usage65::{UsageFault, address_in};

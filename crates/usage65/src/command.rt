@@ -1,13 +1,12 @@
 //! A command as `clap` reads it, put together from its arguments, and the values of its matches.
 
-ghost use Rattle.std.specs.Prelude.{Ok, Some, option_map, true, ◌≡◌};
+ghost use Rattle.std.specs.Prelude.{IfOk, Some, option_map, true, ◌≡◌};
 ghost use Rattle.clap.specs.Words.{app_of, first_of, found_of, new_rule, rows_of};
 ghost use Rattle.clap.specs.declared.builder.ArgAction.TheVariants.{SetTrue};
 ghost use Rattle.info65.specs.Views.{name_seen};
 ghost use Rattle.usage65.specs.Code.CommandRules.{AddsRule};
-ghost use Rattle.usage65.specs.Values.{Gives, bare, is_set};
+ghost use Rattle.usage65.specs.Values.{bare, is_set};
 
-use crate::fault::UsageFault;
 use clap::{Arg, ArgAction, ArgMatches, Command};
 use std::alloc::{AllocError, Global};
 
@@ -116,9 +115,9 @@ pub fn is_set(matches: &ArgMatches, id: &str) -> bool
     }
 }
 
-/// Returns a copy of a text, if there is one. Fails only if memory ran out.
-pub fn owned(alloc: Global, text: Option<&str>) -> Result<Option<String>, UsageFault>
-    ensures { Gives (λ o. name_seen o) result (Ok (option_map (λ s. s.now) text.entry)) }
+/// Returns a copy of a text, if there is one.
+pub fn owned(alloc: Global, text: Option<&str>) -> Result<Option<String>, AllocError>
+    ensures { IfOk result (λ copy. name_seen copy ≡ option_map (λ s. s.now) text.entry) }
 {
     match text {
         Some(text) => Ok(Some(String::from_str(alloc, text)?)),

@@ -3,18 +3,18 @@
 ghost use Rattle.std.specs.Prelude.{IfOk, IfSome, map, option_map, ◌≡◌, ◌≤◌};
 ghost use Rattle.std.specs.String.{string_bytes};
 ghost use Rattle.clap.specs.Words.{first_of, found_of, rows_of};
-ghost use Rattle.info65.specs.Views.{name_seen};
+ghost use Rattle.usage65.specs.Number.{address_in, decimal_in};
+ghost use Rattle.usage65.specs.Values.{Gives};
 ghost use Rattle.da65.specs.Code.Layout.{IsLayout};
-ghost use Rattle.da65.specs.Number.{address_in, decimal_in, number_in};
-ghost use Rattle.da65.specs.Usage.{Gives, accepted, cpu_in, given, is_set, layout_in, options_in, usage_of};
+ghost use Rattle.da65.specs.Usage.{accepted, cpu_in, given, layout_in, options_in, usage_of};
 
 use crate::command_line::command::matches_of_words;
-use crate::command_line::usage_fault::UsageFault;
 use clap::ArgMatches;
 use clap::error::ErrorKind;
-use info65::{Options, number_of_digits};
+use info65::Options;
 use isa65::Cpu;
 use std::alloc::Global;
+use usage65::{UsageFault, address_in, decimal_in, is_set, owned, text_of};
 
 /// Returns the options of a command line. The first word is the program's name.
 ///
@@ -113,22 +113,6 @@ fn options_in(alloc: Global, matches: &ArgMatches) -> Result<Options, UsageFault
     })
 }
 
-#[tactic(auto, using(crate::proofs::MatchLemmas::read_rows))]
-fn text_of<'a>(matches: &ArgMatches<'a>, id: &str) -> Option<&'a str>
-    ensures { option_map (λ s. s.now) result ≡ first_of id.now (rows_of (found_of matches.now)) }
-{
-    matches.get_str(id)
-}
-
-fn is_set(matches: &ArgMatches, id: &str) -> bool
-    ensures { result ≡ is_set id.now (rows_of (found_of matches.now)) }
-{
-    match text_of(matches, id) {
-        Some(text) => text == "true",
-        None => false,
-    }
-}
-
 fn start_in(text: Option<&str>) -> Result<Option<u16>, UsageFault>
     ensures { result ≡ given address_in (option_map (λ s. s.now) text.entry) }
 {
@@ -159,15 +143,6 @@ fn number_of(matches: &ArgMatches, id: &str, least: u8, most: u8) -> Result<Opti
     }
 }
 
-fn owned(alloc: Global, text: Option<&str>) -> Result<Option<String>, UsageFault>
-    ensures { Gives (λ o. name_seen o) result (Ok (option_map (λ s. s.now) text.entry)) }
-{
-    match text {
-        Some(text) => Ok(Some(String::from_str(alloc, text)?)),
-        None => Ok(None),
-    }
-}
-
 fn cpu_in(text: &str) -> Result<Cpu, UsageFault>
     ensures { result ≡ cpu_in text.now }
 {
@@ -175,50 +150,4 @@ fn cpu_in(text: &str) -> Result<Cpu, UsageFault>
         Some(cpu) => Ok(cpu),
         None => Err(UsageFault::OutOfRange),
     }
-}
-
-/// The number that the digits write. Fails if it is above `most`.
-fn number_in(digits: &[u8], radix: u32, most: u32) -> Result<u32, UsageFault>
-    requires low { 2 ≤ radix }
-    requires high { radix ≤ 36 }
-    ensures value { result ≡ number_in radix most digits.now }
-    ensures small { IfOk result (λ n. n ≤ most) }
-{
-    match number_of_digits(digits, radix) {
-        None => Err(UsageFault::BadNumber),
-        Some(number) if number <= u64::from(most) => Ok(number as u32),
-        Some(_) => Err(UsageFault::OutOfRange),
-    }
-}
-
-/// Returns the address that a text writes, as after `-S`: hexadecimal after `$`, `0x` or `0X`, octal after `0`, else
-/// decimal. Fails with `BadNumber` if the text is not a number, and with `OutOfRange` if it is above $FFFF.
-#[tactic(auto, unfolding(crate::specs::Number::address_in))]
-pub fn address_in(text: &[u8]) -> Result<u16, UsageFault>
-    ensures { result ≡ address_in text.now }
-{
-    let (radix, digits) = if text.starts_with(b"$") {
-        (16, &text[1..])
-    } else if text.starts_with(b"0x") || text.starts_with(b"0X") {
-        (16, &text[2..])
-    } else if text.starts_with(b"0") {
-        (8, text)
-    } else {
-        (10, text)
-    };
-    Ok(number_in(digits, radix, 0xFFFF)? as u16)
-}
-
-/// The number from `least` to `most` that decimal digits write.
-#[tactic(auto, unfolding(crate::specs::Number::decimal_in))]
-fn decimal_in(text: &[u8], least: u8, most: u8) -> Result<u8, UsageFault>
-    ensures value { result ≡ decimal_in least most text.now }
-    ensures low { IfOk result (λ n. least ≤ n) }
-    ensures high { IfOk result (λ n. n ≤ most) }
-{
-    let number = number_in(text, 10, u32::from(most))? as u8;
-    if number < least {
-        return Err(UsageFault::OutOfRange);
-    }
-    Ok(number)
 }
