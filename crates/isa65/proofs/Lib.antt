@@ -1,2 +1,4 @@
 mod Matrix
 pub mod Opcodes
+mod CandidateLaws
+mod FilledLemmas

@@ -1,7 +1,9 @@
 -- the rules: modes, mnemonics, opcode tables, CPUs
 pub mod Mode
 pub mod Mnemonic
+pub mod Candidates
 pub mod Opcodes
+pub mod Places
 pub mod Mos6502
 pub mod Cmos65Sc02
 pub mod Rockwell65C02

@@ -10,7 +10,7 @@ use Rattle.isa65.specs.declared.mnemonic.TheConstants.{ALL}
 use Rattle.isa65.specs.Finding.{find-passes}
 use Rattle.isa65.specs.Mnemonic.{text_of, mnemonic_named}
 
-lowercase-text_of : (m : Mnemonic) → str_to_ascii_lowercase (text_of m) ≡ text_of m
+pub lowercase-text_of : (m : Mnemonic) → str_to_ascii_lowercase (text_of m) ≡ text_of m
 lowercase-text_of Adc = refl
 lowercase-text_of _ = refl
 

@@ -3,7 +3,7 @@
 //! A [`Mnemonic`] and a [`Mode`] together are an [`Op`], and an [`OpcodeSet`] says which byte stands
 //! for which `Op`, by laws that every set keeps. [`Mos6502`], [`Cmos65Sc02`] and [`Rockwell65C02`] are
 //! the sets of three CPUs, each with the opcodes of the one before and more. A [`Cpu`] is the set of the
-//! CPU that it names, and a [`DecodeTable`] is the same as a table by byte. [`later_keep_earlier`] is the law between the sets.
+//! CPU that it names, a [`DecodeTable`] is the same as a table by byte, and an [`EncodeTable`] as one by mnemonic and mode. [`later_keep_earlier`] is the law between the sets.
 //! [`ByteOrder`] is the order in which a number of several bytes stands.
 #![tactic(auto)]
 
@@ -11,6 +11,7 @@ mod byte_order;
 mod cmos_65sc02;
 mod cpu;
 mod decode_table;
+mod encode_table;
 mod laws;
 mod mnemonic;
 mod mode;
@@ -23,6 +24,7 @@ pub use byte_order::ByteOrder;
 pub use cmos_65sc02::Cmos65Sc02;
 pub use cpu::Cpu;
 pub use decode_table::DecodeTable;
+pub use encode_table::EncodeTable;
 pub use laws::later_keep_earlier;
 pub use mnemonic::Mnemonic;
 pub use mode::Mode;

@@ -1,8 +1,10 @@
 //! The mnemonics of the 6502 family.
 
-ghost use Rattle.std.specs.Prelude.{◌≡◌, ◌↔◌, Some};
+ghost use Rattle.std.specs.Prelude.{◌≡◌, ◌↔◌, Some, get_or};
 ghost use Rattle.std.specs.Str.{str_eq_ignore_ascii_case, str_to_ascii_lowercase};
-ghost use Rattle.isa65.specs.Mnemonic.{text_of, first_named, mnemonic_named};
+ghost use Rattle.isa65.specs.Mnemonic.{text_of, mnemonic_named};
+ghost use Rattle.isa65.specs.Candidates.{candidate, if_spelled, number_of};
+ghost use Rattle.isa65.specs.declared.mnemonic.Mnemonic.TheVariants.{Adc};
 
 /// The name of an instruction: the 56 of the 6502, the 8 that the 65SC02 adds, and the 32 bit
 /// instructions of the 65C02, in this order.
@@ -302,6 +304,12 @@ const ALL: [Mnemonic; 96] = [
     Mnemonic::Smb7,
 ];
 
+// Where the text of this number stands in `ALL`. A number that no text has leads to the first. The factors of `number_of` were
+// found by search: no two texts have one number.
+const PLACES: [u8; 247] = [
+    29, 0, 0, 0, 21, 0, 61, 0, 0, 0, 0, 63, 46, 0, 0, 0, 0, 0, 0, 14, 0, 8, 49, 0, 0, 0, 0, 0, 0, 0, 41, 0, 0, 0, 0, 13, 1, 0, 48, 0, 0, 0, 35, 0, 0, 0, 0, 0, 0, 36, 0, 0, 0, 0, 0, 0, 0, 0, 39, 0, 24, 0, 0, 4, 0, 0, 0, 0, 0, 0, 0, 7, 3, 0, 0, 0, 0, 0, 0, 2, 37, 0, 0, 0, 55, 0, 0, 38, 0, 0, 0, 0, 45, 20, 0, 0, 0, 0, 0, 0, 0, 0, 0, 0, 6, 0, 0, 0, 44, 0, 31, 0, 0, 0, 5, 72, 0, 42, 0, 0, 12, 0, 0, 56, 73, 62, 30, 0, 0, 11, 0, 64, 0, 74, 0, 0, 34, 80, 88, 0, 65, 0, 75, 0, 0, 0, 81, 89, 0, 66, 0, 76, 58, 52, 0, 82, 90, 54, 67, 47, 77, 0, 0, 0, 83, 91, 0, 68, 57, 78, 0, 0, 0, 84, 92, 9, 69, 0, 79, 0, 0, 0, 85, 93, 0, 70, 15, 0, 0, 0, 60, 86, 94, 0, 71, 0, 23, 0, 53, 0, 87, 95, 26, 43, 0, 0, 59, 17, 0, 40, 10, 0, 0, 51, 27, 19, 0, 0, 25, 0, 0, 0, 0, 0, 0, 16, 0, 0, 0, 50, 0, 18, 0, 0, 0, 22, 0, 33, 0, 28, 0, 32, 0, 0, 0, 0, 0,
+];
+
 impl Mnemonic {
     ghost use Rattle.isa65.specs.declared.mnemonic.Mnemonic.{Mnemonic};
 
@@ -411,25 +419,74 @@ impl Mnemonic {
     }
 
     /// The mnemonic that the bytes spell in any letter case, if there is one.
-    #[tactic(auto, unfolding(crate::specs::Mnemonic::mnemonic_named))]
     pub fn from_bytes(bytes: &[u8]) -> Option<Mnemonic>
         ensures value { result ≡ mnemonic_named bytes.now }
 
         // The bytes name m exactly when they are its text, but for case.
         ensures named { (m : Mnemonic) → (result ≡ Some m) ↔ (str_to_ascii_lowercase bytes.now ≡ text_of m) }
     {
-        named_in(&ALL, bytes)
+        if_spelled(candidate(bytes), bytes)
     }
 }
 
-/// The first of these mnemonics that the bytes spell, if there is one.
-fn named_in(mnemonics: &[Mnemonic], bytes: &[u8]) -> Option<Mnemonic>
-    ensures { result ≡ first_named bytes.now mnemonics.now }
+/// The mnemonic, if the bytes spell it.
+fn if_spelled(mnemonic: Mnemonic, bytes: &[u8]) -> Option<Mnemonic>
+    ensures { result ≡ if_spelled mnemonic bytes.now }
 {
-    mnemonics
-        .iter()
-        .copied()
-        .find(|m| is_same_word(m.text(), bytes))
+    if is_same_word(mnemonic.text(), bytes) {
+        Some(mnemonic)
+    } else {
+        None
+    }
+}
+
+/// The only mnemonic that the bytes can spell.
+#[tactic(auto, unfolding(crate::specs::Candidates::candidate))]
+fn candidate(bytes: &[u8]) -> Mnemonic
+    ensures { result ≡ candidate (str_to_ascii_lowercase bytes.now) }
+{
+    let place = place_in(&PLACES, number_of(bytes));
+    nth(&ALL, usize::from(place))
+}
+
+/// A number that tells the texts of the mnemonics apart, in any letter case.
+#[tactic(auto, unfolding(crate::specs::Candidates::number_of))]
+fn number_of(bytes: &[u8]) -> usize
+    ensures { result ≡ number_of (str_to_ascii_lowercase bytes.now) }
+{
+    let first = usize::from(lowercase_at(bytes, 0));
+    let second = usize::from(lowercase_at(bytes, 1));
+    let third = usize::from(lowercase_at(bytes, 2));
+    let fourth = usize::from(lowercase_at(bytes, 3));
+    (first + second * 133 + third * 231 + fourth * 9) % 247
+}
+
+/// A byte in lower case, or 0 after the last one.
+fn lowercase_at(bytes: &[u8], place: usize) -> u8
+    ensures { result ≡ get_or (str_to_ascii_lowercase bytes.now) place 0 }
+{
+    match bytes.get(place) {
+        Some(byte) => byte.to_ascii_lowercase(),
+        None => 0,
+    }
+}
+
+fn place_in(places: &[u8], number: usize) -> u8
+    ensures { result ≡ get_or places.now number 0 }
+{
+    match places.get(number) {
+        Some(place) => *place,
+        None => 0,
+    }
+}
+
+fn nth(mnemonics: &[Mnemonic], place: usize) -> Mnemonic
+    ensures { result ≡ get_or mnemonics.now place Adc }
+{
+    match mnemonics.get(place) {
+        Some(mnemonic) => *mnemonic,
+        None => Mnemonic::Adc,
+    }
 }
 
 /// Whether the bytes are the text, in any letter case.
