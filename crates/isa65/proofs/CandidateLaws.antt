@@ -34,12 +34,14 @@ candidate-is bytes = go (str_eq_ignore_ascii_case (text_of c) bytes) refl
   where
     c : Mnemonic
     c = candidate (str_to_ascii_lowercase bytes)
+
     other : (o : Option Mnemonic) → mnemonic_named bytes ≡ o → str_eq_ignore_ascii_case (text_of c) bytes ≡ false → None ≡ o
     other None e h = refl
     other (Some m) e h =
         let word : str_to_ascii_lowercase bytes ≡ text_of m = (mnemonic_named-is bytes m).0 e in
         let same : c ≡ m = ap candidate word ∙ candidate-text_of m in
         absurd (both_ways _ h (spells c bytes (word ∙ sym (ap text_of same))))
+
     go : (t : Bool) → str_eq_ignore_ascii_case (text_of c) bytes ≡ t → if_spelled c bytes ≡ mnemonic_named bytes
     go true h = rw h (sym ((mnemonic_named-is bytes c).1 (spelled c bytes h)))
     go false h = rw h (other (mnemonic_named bytes) refl h)

@@ -55,8 +55,8 @@ filled-next t sound k codes None none filled = record {
   size = filled.size;
   holds = λ m x b h e. elim (cases_eq b k) [
     | inl same ↦ (let here : decoded t b ≡ Some (op_of m x) = (encoded-decoded t sound b (op_of m x)).0 e in
-      let there : decoded t k ≡ Some (op_of m x) = rw same at here in
-      let both : None ≡ Some (op_of m x) = sym none ∙ there in absurd cc)
+        let there : decoded t k ≡ Some (op_of m x) = rw same at here in
+        let both : None ≡ Some (op_of m x) = sym none ∙ there in absurd cc)
     | inr other ↦ filled.holds m x b (omega (arith, h, other)) e
   ];
   only = filled.only;
@@ -65,10 +65,10 @@ filled-next t sound k codes (Some op) some filled = record {
   size = length-set codes here (Some k) ∙ filled.size;
   holds = λ m x b h e. elim (cases_eq b k) [
     | inl same ↦ (let there : decoded t b ≡ Some (op_of m x) = (encoded-decoded t sound b (op_of m x)).0 e in
-      let both : Some op ≡ Some (op_of m x) = sym some ∙ (rw same at there) in
-      let is : op ≡ op_of m x = cc in
-      let cell : place_of m x ≡ here = ap (λ p. place_of p.mnemonic p.mode) (sym is) in
-      rw (cell, same) (get_or-set_same codes here (Some k) None room))
+        let both : Some op ≡ Some (op_of m x) = sym some ∙ (rw same at there) in
+        let is : op ≡ op_of m x = cc in
+        let cell : place_of m x ≡ here = ap (λ p. place_of p.mnemonic p.mode) (sym is) in
+        rw (cell, same) (get_or-set_same codes here (Some k) None room))
     | inr other ↦ elim (cases_eq (place_of m x) here) [
       | inl same ↦ absurd (other (code_of m x b same e))
       | inr apart ↦ get_or-set_other codes here (place_of m x) (Some k) None apart ∙ filled.holds m x b (omega (arith, h, other)) e
@@ -76,22 +76,25 @@ filled-next t sound k codes (Some op) some filled = record {
   ];
   only = λ m x b h. elim (cases_eq (place_of m x) here) [
     | inl same ↦ (let found : slice_index_or (slice_set codes here (Some k)) here None ≡ Some b = rw same at h in
-      let both : Some k ≡ Some b = sym (get_or-set_same codes here (Some k) None room) ∙ found in
-      let is : k ≡ b = cc in rw (← is) (code m x same))
+        let both : Some k ≡ Some b = sym (get_or-set_same codes here (Some k) None room) ∙ found in
+        let is : k ≡ b = cc in rw (← is) (code m x same))
     | inr apart ↦ filled.only m x b (sym (get_or-set_other codes here (place_of m x) (Some k) None apart) ∙ h)
   ];
 }
   where
     here : ℕ
     here = place_of op.mnemonic op.mode
+
     room : here < length codes
     room = omega (arith, place_lt op.mnemonic op.mode, filled.size)
+
     -- a pair in this cell has the opcode k
     code : (m : Mnemonic) (x : Mode) → place_of m x ≡ here → encoded t m x ≡ Some k
     code m x same =
         let name : m ≡ op.mnemonic = same_mnemonic m op.mnemonic x op.mode same in
         let way : x ≡ op.mode = same_mode m op.mnemonic x op.mode same in
         rw (name, way) ((encoded-decoded t sound k op).1 some)
+
     code_of : (m : Mnemonic) (x : Mode) (b : ℕ) → place_of m x ≡ here → encoded t m x ≡ Some b → b ≡ k
     code_of m x b same e = let both : Some b ≡ Some k = sym e ∙ code m x same in cc
 

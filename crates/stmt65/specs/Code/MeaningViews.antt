@@ -16,7 +16,7 @@ use Rattle.stmt65.specs.Meaning.{State, next_of, cpu_after, operation_in, define
 -- ---- a line
 
 abbrev pub state_of : {A : Type 0} → CodeState A → State
-state_of s = record { at = s.address; cpu = s.cpu; above = s.above }
+state_of s = record { at = s.address; cpu = s.opcodes; above = s.above }
 
 -- a definition as the code holds it
 abbrev pub held_definition : Definition → Definition

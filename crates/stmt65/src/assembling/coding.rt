@@ -12,7 +12,7 @@ use crate::assembling::symbols::Symbols;
 use crate::assembling::values::has_zero_page_size;
 use crate::directive::Directive;
 use crate::source_line::{AddressSize, Datum, Form, Operation, Value};
-use isa65::{Cpu, Mnemonic, Mode, OpcodeSet};
+use isa65::{EncodeTable, Mnemonic, Mode};
 use std::alloc::Allocator;
 
 /// What bytes of a statement stand for.
@@ -65,28 +65,28 @@ pub enum Coded<'s, 'a> {
 /// A mode, and what then follows the opcode.
 type Way<'a> = (Mode, Operand<'a>);
 
-fn way<'a>(cpu: Cpu, mnemonic: Mnemonic, way: Way<'a>) -> Option<Instruction<'a>>
-    ensures { option_map instruction_of result ≡ first_way cpu mnemonic ((way.entry.0, operand_of way.entry.1) ∷ []) }
+fn way<'a>(opcodes: &EncodeTable, mnemonic: Mnemonic, way: Way<'a>) -> Option<Instruction<'a>>
+    ensures { option_map instruction_of result ≡ first_way opcodes.now mnemonic ((way.entry.0, operand_of way.entry.1) ∷ []) }
 {
     let (mode, operand) = way;
-    let opcode = cpu.encode(mnemonic, mode)?;
+    let opcode = opcodes.encode(mnemonic, mode)?;
     Some(Instruction { opcode, operand })
 }
 
 /// The first of two ways whose mode the mnemonic has.
 #[tactic(auto, using(crate::proofs::CodingLemmas::tries))]
 fn first_way<'a>(
-    cpu: Cpu,
+    opcodes: &EncodeTable,
     mnemonic: Mnemonic,
     first: Way<'a>,
     second: Way<'a>,
 ) -> Option<Instruction<'a>>
-    ensures { option_map instruction_of result ≡ first_way cpu mnemonic ((first.entry.0, operand_of first.entry.1) ∷ (second.entry.0, operand_of second.entry.1) ∷ []) }
+    ensures { option_map instruction_of result ≡ first_way opcodes.now mnemonic ((first.entry.0, operand_of first.entry.1) ∷ (second.entry.0, operand_of second.entry.1) ∷ []) }
 {
-    if let Some(found) = way(cpu, mnemonic, first) {
+    if let Some(found) = way(opcodes, mnemonic, first) {
         return Some(found);
     }
-    way(cpu, mnemonic, second)
+    way(opcodes, mnemonic, second)
 }
 
 /// An operand of 16 bits, as `.addr` gives it.
@@ -109,39 +109,39 @@ fn zero_page<'a, A: Allocator + Clone>(above: &Symbols<'_, A>, value: Value<'a>)
 
 /// The zero-page mode first if the operand has that size, else the absolute one.
 fn by_size<'a, A: Allocator + Clone>(
-    cpu: Cpu,
+    opcodes: &EncodeTable,
     above: &Symbols<'_, A>,
     mnemonic: Mnemonic,
     short: Mode,
     long: Mode,
     value: Value<'a>,
 ) -> Option<Instruction<'a>>
-    ensures { option_map instruction_of result ≡ first_way cpu mnemonic (by_size above.now short long (value_of value.entry)) }
+    ensures { option_map instruction_of result ≡ first_way opcodes.now mnemonic (by_size above.now short long (value_of value.entry)) }
 {
     let absolute = (long, Operand::One(word_operand(value)));
     if has_zero_page_size(above, value) {
         let zero_page = (short, Operand::One(Fragment::ZeroPage(value)));
-        return first_way(cpu, mnemonic, zero_page, absolute);
+        return first_way(opcodes, mnemonic, zero_page, absolute);
     }
     let zero_page = (short, Operand::One(Fragment::Oversized(value)));
-    first_way(cpu, mnemonic, absolute, zero_page)
+    first_way(opcodes, mnemonic, absolute, zero_page)
 }
 
 /// An expression alone: by size, else relative.
 #[tactic(auto, using(crate::proofs::CodingLemmas::after_sizes), unfolding(crate::specs::Coding::ways))]
 fn direct<'a, A: Allocator + Clone>(
-    cpu: Cpu,
+    opcodes: &EncodeTable,
     above: &Symbols<'_, A>,
     mnemonic: Mnemonic,
     value: Value<'a>,
 ) -> Option<Instruction<'a>>
-    ensures { option_map instruction_of result ≡ first_way cpu mnemonic (ways above.now (Direct Automatic (value_of value.entry))) }
+    ensures { option_map instruction_of result ≡ first_way opcodes.now mnemonic (ways above.now (Direct Automatic (value_of value.entry))) }
 {
-    if let Some(found) = by_size(cpu, above, mnemonic, Mode::Zp, Mode::Abs, value) {
+    if let Some(found) = by_size(opcodes, above, mnemonic, Mode::Zp, Mode::Abs, value) {
         return Some(found);
     }
     way(
-        cpu,
+        opcodes,
         mnemonic,
         (Mode::Rel, Operand::One(Fragment::Distance(value))),
     )
@@ -149,64 +149,64 @@ fn direct<'a, A: Allocator + Clone>(
 
 /// The absolute mode alone, as after `a:`.
 fn absolute<'a>(
-    cpu: Cpu,
+    opcodes: &EncodeTable,
     mnemonic: Mnemonic,
     mode: Mode,
     value: Value<'a>,
 ) -> Option<Instruction<'a>>
-    ensures { option_map instruction_of result ≡ first_way cpu mnemonic ((mode, word_operand (value_of value.entry) ∷ []) ∷ []) }
+    ensures { option_map instruction_of result ≡ first_way opcodes.now mnemonic ((mode, word_operand (value_of value.entry) ∷ []) ∷ []) }
 {
-    way(cpu, mnemonic, (mode, Operand::One(word_operand(value))))
+    way(opcodes, mnemonic, (mode, Operand::One(word_operand(value))))
 }
 
 /// A mode that only the zero page has, else one that takes either size.
 fn indirect<'a, A: Allocator + Clone>(
-    cpu: Cpu,
+    opcodes: &EncodeTable,
     above: &Symbols<'_, A>,
     mnemonic: Mnemonic,
     short: Mode,
     long: Mode,
     value: Value<'a>,
 ) -> Option<Instruction<'a>>
-    ensures { option_map instruction_of result ≡ first_way cpu mnemonic ((short, zero_page above.now (value_of value.entry) ∷ []) ∷ (long, word_operand (value_of value.entry) ∷ []) ∷ []) }
+    ensures { option_map instruction_of result ≡ first_way opcodes.now mnemonic ((short, zero_page above.now (value_of value.entry) ∷ []) ∷ (long, word_operand (value_of value.entry) ∷ []) ∷ []) }
 {
     let zero_page = (short, Operand::One(zero_page(above, value)));
     let absolute = (long, Operand::One(word_operand(value)));
-    first_way(cpu, mnemonic, zero_page, absolute)
+    first_way(opcodes, mnemonic, zero_page, absolute)
 }
 
 /// The coding of an instruction, or `None` if the mnemonic has no mode of the written form.
 #[tactic(auto, unfolding(crate::specs::Coding::ways))]
 fn instruction_in<'a, A: Allocator + Clone>(
-    cpu: Cpu,
+    opcodes: &EncodeTable,
     above: &Symbols<'_, A>,
     mnemonic: Mnemonic,
     form: Form<'a>,
 ) -> Option<Instruction<'a>>
-    ensures { option_map instruction_of result ≡ first_way cpu mnemonic (ways above.now (form_of form.entry)) }
+    ensures { option_map instruction_of result ≡ first_way opcodes.now mnemonic (ways above.now (form_of form.entry)) }
 {
     match form {
-        Form::Empty => way(cpu, mnemonic, (Mode::Imp, Operand::None)),
-        Form::Accumulator => way(cpu, mnemonic, (Mode::Acc, Operand::None)),
+        Form::Empty => way(opcodes, mnemonic, (Mode::Imp, Operand::None)),
+        Form::Accumulator => way(opcodes, mnemonic, (Mode::Acc, Operand::None)),
         Form::Immediate(v) => way(
-            cpu,
+            opcodes,
             mnemonic,
             (Mode::Imm, Operand::One(Fragment::Single(v))),
         ),
-        Form::Direct(AddressSize::Absolute, v) => absolute(cpu, mnemonic, Mode::Abs, v),
-        Form::Direct(AddressSize::Automatic, v) => direct(cpu, above, mnemonic, v),
-        Form::DirectX(AddressSize::Absolute, v) => absolute(cpu, mnemonic, Mode::Absx, v),
+        Form::Direct(AddressSize::Absolute, v) => absolute(opcodes, mnemonic, Mode::Abs, v),
+        Form::Direct(AddressSize::Automatic, v) => direct(opcodes, above, mnemonic, v),
+        Form::DirectX(AddressSize::Absolute, v) => absolute(opcodes, mnemonic, Mode::Absx, v),
         Form::DirectX(AddressSize::Automatic, v) => by_size(
-            cpu,
+            opcodes,
             above,
             mnemonic,
             Mode::Zpx,
             Mode::Absx,
             v,
         ),
-        Form::DirectY(AddressSize::Absolute, v) => absolute(cpu, mnemonic, Mode::Absy, v),
+        Form::DirectY(AddressSize::Absolute, v) => absolute(opcodes, mnemonic, Mode::Absy, v),
         Form::DirectY(AddressSize::Automatic, v) => by_size(
-            cpu,
+            opcodes,
             above,
             mnemonic,
             Mode::Zpy,
@@ -215,13 +215,13 @@ fn instruction_in<'a, A: Allocator + Clone>(
         ),
         Form::Two(v, w) => {
             let operand = Operand::Two(zero_page(above, v), Fragment::Distance(w));
-            way(cpu, mnemonic, (Mode::Zprel, operand))
+            way(opcodes, mnemonic, (Mode::Zprel, operand))
         }
-        Form::Indirect(v) => indirect(cpu, above, mnemonic, Mode::Zpind, Mode::Ind, v),
-        Form::IndirectX(v) => indirect(cpu, above, mnemonic, Mode::Indx, Mode::Absindx, v),
+        Form::Indirect(v) => indirect(opcodes, above, mnemonic, Mode::Zpind, Mode::Ind, v),
+        Form::IndirectX(v) => indirect(opcodes, above, mnemonic, Mode::Indx, Mode::Absindx, v),
         Form::IndirectY(v) => {
             let operand = Operand::One(zero_page(above, v));
-            way(cpu, mnemonic, (Mode::Indy, operand))
+            way(opcodes, mnemonic, (Mode::Indy, operand))
         }
     }
 }
@@ -229,15 +229,15 @@ fn instruction_in<'a, A: Allocator + Clone>(
 /// The coding of an operation, or `None` if a mnemonic has no mode of the written form.
 #[tactic(auto, unfolding(crate::specs::Coding::coding))]
 pub fn coding<'s, 'a, A: Allocator + Clone, B: Allocator>(
-    cpu: Cpu,
+    opcodes: &EncodeTable,
     above: &Symbols<'_, A>,
     operation: &'s Operation<'a, B>,
 ) -> Option<Coded<'s, 'a>>
-    ensures { option_map coded_of result ≡ coding cpu above.now (operation_of operation.now) }
+    ensures { option_map coded_of result ≡ coding opcodes.now above.now (operation_of operation.now) }
 {
     match operation {
         Operation::Instr(mnemonic, form) => {
-            let instruction = instruction_in(cpu, above, *mnemonic, *form)?;
+            let instruction = instruction_in(opcodes, above, *mnemonic, *form)?;
             Some(Coded::Instruction(instruction))
         }
         Operation::Data(data) => Some(Coded::Data(data)),

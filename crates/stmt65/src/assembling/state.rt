@@ -1,6 +1,6 @@
 //! What stands above a line, and what the line adds.
 
-ghost use Rattle.std.specs.Prelude.{◌≡◌, ◌++◌, Some, map, IfOk, OnOk};
+ghost use Rattle.std.specs.Prelude.{◌≡◌, ◌++◌, Some, map, unwrap_or, IfOk, OnOk};
 ghost use Rattle.std.specs.Option.{option_map};
 ghost use Rattle.stmt65.specs.Code.SourceLineViews.{source_of};
 ghost use Rattle.stmt65.specs.Coding.{coding, coding_len};
@@ -13,7 +13,7 @@ use crate::assembling::coding::{Coded, coding};
 use crate::assembling::emit::coded_len;
 use crate::assembling::symbols::{Definition, Symbols};
 use crate::source_line::{Operation, SourceLine};
-use isa65::Cpu;
+use isa65::{Cpu, EncodeTable};
 use std::alloc::{AllocError, Allocator, Global};
 
 /// What stands above a line: its address, the CPU, and the definitions.
@@ -21,7 +21,8 @@ use std::alloc::{AllocError, Allocator, Global};
 pub struct State<'a, A: Allocator = Global> {
     /// 2^64 - 1 in place of every greater address.
     pub address: u64,
-    pub cpu: Cpu,
+    /// The opcodes of the CPU.
+    pub opcodes: EncodeTable,
     pub above: Symbols<'a, A>,
 }
 
@@ -44,7 +45,7 @@ pub fn first_state<'a, A: Allocator + Clone>(
     let above = Symbols::new(alloc)?;
     Ok(State {
         address: u64::from(start),
-        cpu: Cpu::M6502,
+        opcodes: EncodeTable::new(Cpu::M6502),
         above,
     })
 }
@@ -54,10 +55,10 @@ fn coding_in<'s, 'a, A: Allocator + Clone, B: Allocator>(
     state: &State<'_, A>,
     source: &'s SourceLine<'a, B>,
 ) -> Option<Coded<'s, 'a>>
-    ensures { option_map coded_of result ≡ coding state.now.cpu state.now.above (operation_in (source_of source.now)) }
+    ensures { option_map coded_of result ≡ coding state.now.opcodes state.now.above (operation_in (source_of source.now)) }
 {
     match source {
-        SourceLine::Statement { operation, .. } => coding(state.cpu, &state.above, operation),
+        SourceLine::Statement { operation, .. } => coding(&state.opcodes, &state.above, operation),
         SourceLine::Assignment(_, _) | SourceLine::PlaceAssignment(_, _) => Some(Coded::Nothing),
     }
 }
@@ -125,17 +126,29 @@ pub fn cpu_set(text: &[u8]) -> Option<Cpu>
     Cpu::from_bytes(text)
 }
 
-/// An unknown CPU leaves it as it was.
+/// Selects the opcodes of a CPU, if there is one. They are tabled anew only if it is another one than before.
+fn select(opcodes: &mut EncodeTable, cpu: Option<Cpu>)
+    ensures { opcodes.new ≡ unwrap_or cpu opcodes.old }
+{
+    let Some(cpu) = cpu else {
+        return;
+    };
+    if cpu != opcodes.cpu() {
+        *opcodes = EncodeTable::new(cpu);
+    }
+}
+
+/// Selects the CPU that the line sets. An unknown one leaves the opcodes as they were.
 #[tactic(auto, unfolding(crate::specs::Meaning::cpu_after))]
-fn cpu_after<'a, B: Allocator>(cpu: Cpu, source: &SourceLine<'a, B>) -> Cpu
-    ensures { result ≡ cpu_after cpu (operation_in (source_of source.now)) }
+fn follow<'a, B: Allocator>(opcodes: &mut EncodeTable, source: &SourceLine<'a, B>)
+    ensures { opcodes.new ≡ cpu_after opcodes.old (operation_in (source_of source.now)) }
 {
     match source {
         SourceLine::Statement {
             operation: Operation::SetCpu(text),
             ..
-        } => cpu_set(text).unwrap_or(cpu),
-        _ => cpu,
+        } => select(opcodes, cpu_set(text)),
+        _ => {}
     }
 }
 
@@ -162,7 +175,7 @@ pub fn advance<'a, A: Allocator + Clone, B: Allocator>(
     ensures { OnOk result (state_of state.new ≡ held_after (state_of state.old) (Some (source_of source.now))) }
 {
     define(&mut state.above, placed.definition)?;
-    state.cpu = cpu_after(state.cpu, source);
+    follow(&mut state.opcodes, source);
     state.address = placed.next;
     Ok(())
 }
