@@ -1,4 +1,6 @@
 mod Accepting
+mod AppendedGroups
+mod AppendedTokens
 mod Cases
 mod CoveringLemmas
 mod FormLemmas

@@ -3,3 +3,8 @@ pub mod FlowLemmas
 pub mod SearchLemmas
 pub mod TakenLemmas
 pub mod PieceLemmas
+pub mod CodeLemmas
+pub mod CodeRows
+pub mod TextLemmas
+pub mod TextLaws
+pub mod TextRows

@@ -66,7 +66,7 @@ free-break g a free none = turned (is_free g a) (is_text g a) free none
     turned false y free none = cc
 
 -- each address of a piece is free
-piece-free : (g : Ground) (r : RangeType) (from end a : ℕ) → IsPiece g r from end → from ≤ a → a < end → is_free g a ≡ true
+pub piece-free : (g : Ground) (r : RangeType) (from end a : ℕ) → IsPiece g r from end → from ≤ a → a < end → is_free g a ≡ true
 piece-free g role.TextTable from end a piece low high = char-free g a (piece.1 a low high)
 piece-free g role.ByteTable from end a piece low high = break-free g a (piece.1 a low high)
 piece-free g role.Code from end a piece low high = absurd piece

@@ -5,4 +5,6 @@ pub mod Reached
 pub mod Taken
 pub mod Pieces
 pub mod RangeLines
+pub mod TextLaws
+pub mod Laws
 pub mod Code

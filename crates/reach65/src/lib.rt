@@ -5,6 +5,7 @@
 
 mod entries;
 mod flow;
+pub mod laws;
 mod pieces;
 mod search;
 mod taken;

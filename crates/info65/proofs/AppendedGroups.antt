@@ -1,0 +1,211 @@
+-- Groups RANGE after those of a file: both are accepted, and say what the file says, with the ranges of those groups besides.
+use Rattle.std.proofs.Common.{◌≡◌, ◌∙◌, ◌+◌, ◌<◌, ◌≤◌, ◌&&◌, ◌||◌, ℕ, zero, suc, Bool, true, false, List, [], ◌∷◌, ◌++◌, append_assoc, ap, arith, length, map, nat_le, refl, sym, subst, get_or}
+use Rattle.std.specs.Prelude.{Any, All, Option, Some, None, Result, Ok, Err, IsOk}
+use Rattle.std.specs.List.{flat_map, list_any}
+use Rattle.std.proofs.lemmas.Bool.Decides.{nat_tests}
+use Rattle.std.proofs.lemmas.Bool.{and_parts, le-leb}
+use Rattle.std.proofs.lemmas.List.{append-nil}
+use Rattle.std.proofs.lemmas.List.Elements.{All-append}
+use Rattle.std.proofs.lemmas.List.Folds.{Any-from_list_any, list_any_at}
+use Rattle.std.proofs.lemmas.Grind.{flat_map-append}
+use Rattle.info65.specs.Closing.{closing_fault}
+use Rattle.info65.specs.Comments.{comment_in, lacks_name}
+use Rattle.info65.specs.Grammar.{Accepts, AreGroups, AreNew, IsGroup, IsInformation, IsToken, Item, Spells, group_items, without_marks}
+use Rattle.info65.specs.Groups.{AssignmentView, GroupView, global_given, global_part, has, has_instead, is_given, value_in}
+use Rattle.info65.specs.IncludeGroups.{has_room, include_part, includes_of}
+use Rattle.info65.specs.Labels.{by_address, name_part, names_said, range_name}
+use Rattle.info65.specs.Laws.{Share}
+use Rattle.info65.specs.Ranges.{has_address, overlaps, range_in, range_of_parts, range_part, ranges_of}
+use Rattle.info65.specs.Reader.{information, one}
+use Rattle.info65.specs.Segments.{segment_part, segments_of}
+use Rattle.info65.specs.Settings.{info_of}
+use Rattle.info65.specs.Tokens.{Stream, TokenView, tokens_after, tokens_of}
+use Rattle.info65.specs.Values.{a_type, an_address}
+use Rattle.info65.specs.Views.{InfoView, OptionsView}
+use Rattle.info65.specs.declared.syntax.attribute.Attribute.TheVariants as attribute
+use Rattle.info65.specs.declared.syntax.attribute.GroupKind.TheVariants as group
+use Rattle.info65.specs.declared.fault.InfoFault.{InfoFault}
+use Rattle.info65.specs.declared.information.range.RangeSpec.{RangeSpec}
+use Rattle.info65.proofs.AppendedTokens.{after_tokens, tokens-before}
+use Rattle.info65.proofs.Cases.{by_result, by_test}
+use Rattle.info65.proofs.FileLaws.{accepts_files}
+use Rattle.info65.proofs.RangeLemmas.{overlap_shared, ranges_ordered}
+
+-- ---- a group of a range
+
+-- `START first; END last; TYPE role;`
+abbrev pub range_given : RangeSpec → List AssignmentView
+range_given r = one attribute.Start (an_address r.first) ∷ one attribute.End (an_address r.last) ∷ one attribute.Role (a_type r.role) ∷ []
+
+abbrev pub range_group : RangeSpec → GroupView
+range_group r = record { kind = group.Range; given = range_given r }
+
+abbrev pub range_groups : List RangeSpec → List GroupView
+range_groups ranges = map range_group ranges
+
+-- each with a `;` after it
+abbrev pub range_spelling : List RangeSpec → List (GroupView × Bool)
+range_spelling ranges = map (λ r. (range_group r, true)) ranges
+
+-- a range that can follow others
+pub record IsAdded (old : List RangeSpec) (r : RangeSpec) : Type 0 where
+  pub ordered : r.first ≤ r.last
+  pub low : r.last ≤ 0xFFFF
+  pub apart : (a : ℕ) → has_address r a ≡ true → list_any (λ q. has_address q a) old ≡ true → ⊥
+
+abbrev pub AreAdded : List RangeSpec → List RangeSpec → Type 0
+AreAdded old [] = Unit {0}
+AreAdded old (r ∷ rs) = IsAdded old r × AreAdded (old ++ r ∷ []) rs
+
+range-said : (r : RangeSpec) → r.first ≤ r.last → r.last ≤ 0xFFFF → range_in (range_given r) ≡ Ok r
+unfolding range_in range_of_parts value_in lacks_name comment_in
+range-said r ordered low = rw (le-leb r.first r.last ordered, le-leb r.last 0xFFFF low) refl
+
+overlap-none : (r : RangeSpec) (old : List RangeSpec) → All (λ q. q.first ≤ q.last) old → IsAdded old r → list_any (overlaps r) old ≡ false
+overlap-none r old ordered is =
+    by_test (list_any (overlaps r) old)
+    (λ yes.
+    let any = Any-from_list_any (overlaps r) old yes in
+    let q : RangeSpec = any.1 in
+    let q_ordered : q.first ≤ q.last = subst (λ (x : RangeSpec). x.first ≤ x.last) any.3 (ordered any.0 q any.2) in
+    let shared = overlap_shared r q is.ordered q_ordered any.4 in
+    absurd (is.apart shared.0 shared.1 (list_any_at (λ p. has_address p shared.0) old any.0 q any.2 (ap (λ (p : RangeSpec). has_address p shared.0) any.3 ∙ shared.2))))
+    (λ none. none)
+
+range-new : (before : List GroupView) (r : RangeSpec) → AreNew before group.Range [] (range_given r)
+unfolding is_given has has_instead has_room
+range-new before r = (refl, refl, (refl, refl, (refl, refl, tt)))
+
+range-closes : (before : List GroupView) (r : RangeSpec) → r.first ≤ r.last → r.last ≤ 0xFFFF → list_any (overlaps r) (ranges_of before) ≡ false → closing_fault before group.Range (range_given r) ≡ None
+unfolding closing_fault range_name value_in
+range-closes before r ordered low none = rw (range-said r ordered low, none) refl
+
+ranges-of-more : (before : List GroupView) (r : RangeSpec) → r.first ≤ r.last → r.last ≤ 0xFFFF → ranges_of (before ++ range_group r ∷ []) ≡ ranges_of before ++ r ∷ []
+unfolding ranges_of
+ranges-of-more before r ordered low = flat_map-append range_part before (range_group r ∷ []) ∙ ap (λ l. flat_map range_part before ++ l) (rw (range-said r ordered low) refl)
+
+added-groups : (before : List GroupView) (old ranges : List RangeSpec) → old ≡ ranges_of before → All (λ q. q.first ≤ q.last) old → AreAdded old ranges → AreGroups before (range_groups ranges)
+added-groups before old [] is ordered added = tt
+added-groups before old (r ∷ rs) is ordered added =
+    let first = added.0 in
+    let none : list_any (overlaps r) (ranges_of before) ≡ false = sym (ap (λ l. list_any (overlaps r) l) is) ∙ overlap-none r old ordered first in (
+      record { new = range-new before r; closes = range-closes before r first.ordered first.low none },
+      added-groups (before ++ range_group r ∷ []) (old ++ r ∷ []) rs (ap (λ l. l ++ r ∷ []) is ∙ sym (ranges-of-more before r first.ordered first.low)) (All-append (λ q. q.first ≤ q.last) old (r ∷ []) ordered (one-ordered r first.ordered)) added.1,
+    )
+  where
+    one-ordered : (r : RangeSpec) → r.first ≤ r.last → All (λ (q : RangeSpec). q.first ≤ q.last) (r ∷ [])
+    one-ordered r is zero d below = is
+    one-ordered r is (suc k) d below = absurd (omega (arith, below))
+
+-- ---- what all groups say
+
+none-more : {A : Type 0} (f : GroupView → List A) (groups : List GroupView) (ranges : List RangeSpec) → ((r : RangeSpec) → f (range_group r) ≡ []) → flat_map f (groups ++ range_groups ranges) ≡ flat_map f groups
+none-more f groups ranges none = flat_map-append f groups (range_groups ranges) ∙ ap (λ l. flat_map f groups ++ l) (all-none ranges) ∙ append-nil (flat_map f groups)
+  where
+    all-none : (rs : List RangeSpec) → flat_map f (range_groups rs) ≡ []
+    all-none [] = refl
+    all-none (r ∷ rs) = rw (none r, all-none rs) refl
+
+global-more : (groups : List GroupView) (ranges : List RangeSpec) → global_given (groups ++ range_groups ranges) ≡ global_given groups
+unfolding global_given
+global-more groups ranges = none-more global_part groups ranges (λ r. refl)
+
+segments-more : (groups : List GroupView) (ranges : List RangeSpec) → segments_of (groups ++ range_groups ranges) ≡ segments_of groups
+unfolding segments_of
+segments-more groups ranges = none-more segment_part groups ranges (λ r. refl)
+
+includes-more : (groups : List GroupView) (ranges : List RangeSpec) → includes_of (groups ++ range_groups ranges) ≡ includes_of groups
+unfolding includes_of
+includes-more groups ranges = none-more include_part groups ranges (λ r. refl)
+
+-- a name that a group RANGE without NAME says
+name-none : (r : RangeSpec) → name_part (range_group r) ≡ []
+unfolding range_name value_in
+name-none r = by_result (range_in (range_given r)) (λ q is. rw is refl) (λ f is. rw is refl)
+
+names-more : (groups : List GroupView) (ranges : List RangeSpec) → names_said (groups ++ range_groups ranges) ≡ names_said groups
+unfolding names_said
+names-more groups ranges = none-more name_part groups ranges name-none
+
+ranges-more : (groups : List GroupView) (old ranges : List RangeSpec) → AreAdded old ranges → ranges_of (groups ++ range_groups ranges) ≡ ranges_of groups ++ ranges
+unfolding ranges_of
+ranges-more groups old ranges added = flat_map-append range_part groups (range_groups ranges) ∙ ap (λ l. flat_map range_part groups ++ l) (all-said old ranges added)
+  where
+    all-said : (old rs : List RangeSpec) → AreAdded old rs → flat_map range_part (range_groups rs) ≡ rs
+    all-said old [] added = refl
+    all-said old (r ∷ rs) added = rw (range-said r added.0.ordered added.0.low, all-said (old ++ r ∷ []) rs added.1) refl
+
+-- the information with more ranges
+abbrev pub with_ranges : InfoView → List RangeSpec → InfoView
+with_ranges info ranges = record info { ranges = info.ranges ++ ranges }
+
+info-more : (o : OptionsView) (groups : List GroupView) (old ranges : List RangeSpec) → AreAdded old ranges → info_of o (groups ++ range_groups ranges) ≡ with_ranges (info_of o groups) ranges
+info-more o groups old ranges added = rw (global-more groups ranges, segments-more groups ranges, includes-more groups ranges, names-more groups ranges, ranges-more groups old ranges added) refl
+
+-- ---- tokens that spell more groups
+
+pub spells-append : (o : OptionsView) (items more : List Item) (ts us : List TokenView) → Spells o items ts → Spells o more us → Spells o (items ++ more) (ts ++ us)
+spells-append o [] more [] us first second = second
+spells-append o [] more (t ∷ ts) us first second = absurd first
+spells-append o (i ∷ items) more [] us first second = absurd first
+spells-append o (i ∷ items) more (t ∷ ts) us first second = (first.0, spells-append o items more ts us first.1 second)
+
+groups-append : (before gs hs : List GroupView) → AreGroups before gs → AreGroups (before ++ gs) hs → AreGroups before (gs ++ hs)
+groups-append before [] hs first second = let P : List GroupView → Type 0 = λ l. AreGroups l hs in subst P (append-nil before) second
+groups-append before (g ∷ gs) hs first second =
+    let P : List GroupView → Type 0 = λ l. AreGroups l hs in
+    (first.0, groups-append (before ++ g ∷ []) gs hs first.1 (subst P (sym (append_assoc before (g ∷ []) gs)) second))
+
+marks-append : (xs : List (GroupView × Bool)) (ranges : List RangeSpec) → without_marks (xs ++ range_spelling ranges) ≡ without_marks xs ++ range_groups ranges
+marks-append [] ranges = all ranges
+  where
+    all : (rs : List RangeSpec) → without_marks (range_spelling rs) ≡ range_groups rs
+    all [] = refl
+    all (r ∷ rs) = ap (λ l. range_group r ∷ l) (all rs)
+marks-append (x ∷ xs) ranges = ap (λ l. x.0 ∷ l) (marks-append xs ranges)
+
+-- what these ranges are written as
+abbrev pub range_items : List RangeSpec → List Item
+range_items ranges = flat_map group_items (range_spelling ranges)
+
+accepts-more : (o : OptionsView) (ts us : List TokenView) (groups : List GroupView) (ranges : List RangeSpec) → Accepts o ts groups → AreAdded (ranges_of groups) ranges → Spells o (range_items ranges) us
+    → Accepts o (ts ++ us) (groups ++ range_groups ranges)
+accepts-more o ts us groups ranges a added spelled = record {
+  spelling = a.spelling ++ range_spelling ranges;
+  of = marks-append a.spelling ranges ∙ ap (λ l. l ++ range_groups ranges) a.of;
+  spelled = rw (flat_map-append group_items a.spelling (range_spelling ranges)) (spells-append o (flat_map group_items a.spelling) (range_items ranges) ts us a.spelled spelled);
+  keeps = groups-append [] groups (range_groups ranges) a.keeps (added-groups groups (ranges_of groups) ranges refl (ranges_ordered groups) added);
+}
+
+-- ---- the law
+
+-- the tokens of a stream are these groups, and nothing else
+pub record Gives (o : OptionsView) (ranges : List RangeSpec) (s : Stream) : Type 0 where
+  pub whole : IsOk s.ending
+  pub spelled : Spells o (range_items ranges) s.tokens
+
+ok-line : (r : Result ℕ InfoFault) → IsOk r → (line : ℕ) × (r ≡ Ok line)
+ok-line (Ok line) is = (line, refl)
+ok-line (Err e) is = absurd cc
+
+information-with : (o : OptionsView) (file text : List ℕ) (info : InfoView) (ranges : List RangeSpec) → IsInformation o file info → AreAdded info.ranges ranges → length (file ++ 35 ∷ text) ≤ 1_048_576
+    → ((line : ℕ) → Gives o ranges (tokens_after 0 true line text)) → IsInformation o (file ++ 35 ∷ text) (with_ranges info ranges)
+information-with o file text info ranges i added small gives =
+    let old : ranges_of i.groups ≡ info.ranges = sym (ap (λ (v : InfoView). v.ranges) i.says) in
+    let end = ok-line (tokens_of 1 file).ending i.whole in
+    let given = gives end.0 in
+    let all : tokens_of 1 (file ++ 35 ∷ text) ≡ after_tokens (tokens_of 1 file).tokens (tokens_after 0 true end.0 text) = tokens-before 0 false 1 file text end.0 (omega arith) end.1 in
+    let P : List RangeSpec → Type 0 = λ l. AreAdded l ranges in
+    record {
+      small = small;
+      whole = rw all given.whole;
+      groups = i.groups ++ range_groups ranges;
+      accepts = rw all (accepts-more o (tokens_of 1 file).tokens (tokens_after 0 true end.0 text).tokens i.groups ranges i.accepts (subst P (sym old) added) given.spelled);
+      says = ap (λ (v : InfoView). with_ranges v ranges) i.says ∙ sym (info-more o i.groups info.ranges ranges added);
+    }
+
+-- A file that is accepted, and a text after it that gives ranges: both are accepted, and say what the file says, with these ranges besides.
+pub information-more : (o : OptionsView) (file text : List ℕ) (info : InfoView) (ranges : List RangeSpec) → information o file ≡ Ok info → AreAdded info.ranges ranges → length (file ++ 35 ∷ text) ≤ 1_048_576
+    → ((line : ℕ) → Gives o ranges (tokens_after 0 true line text)) → information o (file ++ 35 ∷ text) ≡ Ok (with_ranges info ranges)
+information-more o file text info ranges accepted added small gives =
+    (accepts_files o (file ++ 35 ∷ text) (with_ranges info ranges)).1 (information-with o file text info ranges ((accepts_files o file info).0 accepted) added small gives)

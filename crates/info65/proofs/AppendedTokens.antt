@@ -1,0 +1,203 @@
+-- A text after a file: the tokens of both are those of the file and then those of the text. The text begins with a `#`, so whatever the
+-- file ends with, a comment begins or goes on there.
+use Rattle.std.proofs.Common.{◌≡◌, ◌∙◌, ◌==◌, ◌&&◌, ◌||◌, ◌+◌, ◌-◌, ◌<◌, ◌≤◌, ℕ, zero, suc, Bool, true, false, List, [], ◌∷◌, ◌++◌, add-one, ap, arith, length, length-append, take, drop, refl, sym, inl, inr, cond, nat_le}
+use Rattle.std.specs.Prelude.{Option, Some, None, Result, Ok, Err, slice_index, if◌then◌else◌}
+use Rattle.std.specs.List.{prefix_len}
+use Rattle.std.specs.Char.{is_ascii_digit}
+use Rattle.std.proofs.lemmas.Bool.{cases_lt, cond-false, eqb-false, le-leb, ne_eqb}
+use Rattle.std.proofs.lemmas.List.{get_or_append_left, get_or-append_right, get_or_past, take-append-le}
+use Rattle.std.proofs.lemmas.List.Folds.{prefix_len-append}
+use Rattle.std.proofs.lemmas.List.Sums.{prefix_len-le-length}
+use Rattle.info65.specs.Lexemes.{LexemeView, character, closing_brace, mark, number, opening_brace, semicolon, string, word, character_at, in_class, lexeme_at, number_at, number_in, starts_word, string_at, word_at}
+use Rattle.info65.specs.Tokens.{Stream, TokenView, found, is_blank, opens_comment, tokens_after}
+use Rattle.info65.specs.Faults.{fault}
+use Rattle.info65.specs.declared.fault.InfoFault.{InfoFault}
+use Rattle.info65.specs.declared.fault.InfoFaultKind.TheVariants.{BadByte}
+use Rattle.info65.specs.declared.syntax.lexeme.Class.{Class}
+use Rattle.info65.specs.declared.syntax.lexeme.Class.TheVariants as class
+use Rattle.info65.proofs.Cases.{by_test}
+
+-- ---- bytes with more after them
+
+-- what ends before a byte that does not run on ends there with more after it
+prefix-before : (p : ℕ → Bool) (bs rest : List ℕ) (b : ℕ) → p b ≡ false → prefix_len p (bs ++ b ∷ rest) ≡ prefix_len p bs
+prefix-before p [] rest b none = rw none refl
+prefix-before p (x ∷ xs) rest b none = ap (λ n. cond (p x) (1 + n) 0) (prefix-before p xs rest b none)
+
+prefix-inside : (p : ℕ → Bool) (bs more : List ℕ) → prefix_len p bs < length bs → prefix_len p (bs ++ more) ≡ prefix_len p bs
+prefix-inside p bs more low = prefix_len-append p bs more ∙ cond-false _ _ _ (ne_eqb (prefix_len p bs) (length bs) (λ same. omega (arith, same, low)))
+
+byte-inside : (bs more : List ℕ) (n : ℕ) → n < length bs → slice_index (bs ++ more) n ≡ slice_index bs n
+byte-inside bs more n low = get_or_append_left bs more 0 n low
+
+-- the byte after some of them, where a `#` stands after all
+word-inside : (bs rest : List ℕ) (n : ℕ) → n ≤ length bs → starts_word (slice_index (bs ++ 35 ∷ rest) n) ≡ starts_word (slice_index bs n)
+word-inside bs rest n low =
+    elim (cases_lt n (length bs)) as (λ _. starts_word (slice_index (bs ++ 35 ∷ rest) n) ≡ starts_word (slice_index bs n)) [
+      | inl below ↦ ap starts_word (byte-inside bs (35 ∷ rest) n below)
+      | inr past ↦
+          let here : slice_index (bs ++ 35 ∷ rest) n ≡ slice_index (35 ∷ rest) (n - length bs) = get_or-append_right bs (35 ∷ rest) (length bs) n 0 refl past in
+          let first : n - length bs ≡ 0 = omega (arith, low) in
+          ap starts_word (here ∙ ap (slice_index (35 ∷ rest)) first) ∙ sym (ap starts_word (get_or_past bs n 0 past))
+    ]
+
+-- ---- a token with more after it
+
+-- the token that is found, and that it lies within the bytes
+record IsKept (r : Result LexemeView InfoFault) (p : LexemeView) (most : ℕ) : Type 0 where
+  same : r ≡ Ok p
+  fits : p.more ≤ most
+
+as-ok : (p q : LexemeView) → ◌≡◌ {A = Result LexemeView InfoFault} (Ok p) (Ok q) → p ≡ q
+as-ok p q is = cc
+
+not-ok : {P : Type 0} (e : InfoFault) (q : LexemeView) → ◌≡◌ {A = Result LexemeView InfoFault} (Err e) (Ok q) → P
+not-ok e q is = absurd cc
+
+by_option : {A P : Type 0} (o : Option A) → (o ≡ None → P) → ((x : A) → o ≡ Some x → P) → P
+by_option None f g = f refl
+by_option (Some x) f g = g x refl
+
+kept-as : (r : Result LexemeView InfoFault) (q p : LexemeView) (most : ℕ) → r ≡ Ok q → ◌≡◌ {A = Result LexemeView InfoFault} (Ok q) (Ok p) → q.more ≤ most → IsKept r p most
+kept-as r q p most here is fits =
+    let same = as-ok q p is in
+    record { same = here ∙ is; fits = omega (arith, fits, sym (ap (λ (x : LexemeView). x.more) same)) }
+
+word-kept : (bs rest : List ℕ) → word_at (bs ++ 35 ∷ rest) ≡ word_at bs
+unfolding word_at in_class
+word-kept bs rest = ap (λ n. record { kind = word; more = n }) (prefix-before (in_class class.Word) bs rest 35 refl)
+
+number-kept : (line : ℕ) (c : Class) (radix sign : ℕ) (bs rest : List ℕ) (p : LexemeView) → in_class c 35 ≡ false → number_at line c radix sign bs ≡ Ok p → IsKept (number_at line c radix sign (bs ++ 35 ∷ rest)) p (sign + length bs - 1)
+unfolding number_at
+number-kept line c radix sign bs rest p none is =
+    let n : ℕ = prefix_len (in_class c) bs in
+    let low : n ≤ length bs = prefix_len-le-length (in_class c) bs in
+    let same : prefix_len (in_class c) (bs ++ 35 ∷ rest) ≡ n = prefix-before (in_class c) bs rest 35 none in
+    let next = word-inside bs rest n low in
+    let digits : take n (bs ++ 35 ∷ rest) ≡ take n bs = take-append-le n bs (35 ∷ rest) low in
+    by_test (starts_word (slice_index bs n))
+    (λ on. not-ok _ p (rw on at is))
+    (λ off. by_option (number_in radix (take n bs))
+    (λ bad. not-ok _ p (rw (off, bad) at is))
+    (λ value good. kept-as _ (record { kind = number value; more = sign + n - 1 }) p (sign + length bs - 1) (rw (same, next, digits, off, good) refl) (rw (off, good) at is) (omega (arith, low))))
+
+string-kept : (line : ℕ) (bs rest : List ℕ) (p : LexemeView) → string_at line bs ≡ Ok p → IsKept (string_at line (bs ++ 35 ∷ rest)) p (length bs)
+unfolding string_at
+string-kept line bs rest p is =
+    let n : ℕ = prefix_len (in_class class.Text) bs in
+    let upto : n ≤ length bs = prefix_len-le-length (in_class class.Text) bs in
+    by_test (n == length bs)
+    (λ ends. not-ok _ p (rw ends at is))
+    (λ some.
+    let low : n < length bs = omega (arith, upto, eqb-false n (length bs) some) in
+    let same : prefix_len (in_class class.Text) (bs ++ 35 ∷ rest) ≡ n = prefix-inside (in_class class.Text) bs (35 ∷ rest) low in
+    let more : (n == length (bs ++ 35 ∷ rest)) ≡ false = ne_eqb n (length (bs ++ 35 ∷ rest)) (λ e. omega (arith, e, low, length-append bs (35 ∷ rest))) in
+    let next : slice_index (bs ++ 35 ∷ rest) n ≡ slice_index bs n = byte-inside bs (35 ∷ rest) n low in
+    let text : take n (bs ++ 35 ∷ rest) ≡ take n bs = take-append-le n bs (35 ∷ rest) upto in
+    by_test (slice_index bs n == 34)
+    (λ closed. kept-as _ (record { kind = string (take n bs); more = n + 1 }) p (length bs) (rw (same, more, next, text, closed) refl) (rw (some, closed) at is) (omega (arith, low)))
+    (λ bad. by_test (slice_index bs n == 13 || slice_index bs n == 10)
+    (λ line_end. not-ok _ p (rw (some, bad, line_end) at is))
+    (λ other. not-ok _ p (rw (some, bad, other) at is))))
+
+character-kept : (line : ℕ) (bs rest : List ℕ) (p : LexemeView) → character_at line bs ≡ Ok p → IsKept (character_at line (bs ++ 35 ∷ rest)) p (length bs)
+unfolding character_at
+character-kept line [] rest p is = not-ok _ p is
+character-kept line (x ∷ []) rest p is = not-ok _ p is
+character-kept line (x ∷ (y ∷ ys)) rest p is =
+    by_test (nat_le 0x20 x && (nat_le x 0x7E && y == 39))
+    (λ good. kept-as _ (record { kind = character x; more = 2 }) p (length (x ∷ (y ∷ ys))) (at-two x y (ys ++ 35 ∷ rest) good) (sym (at-two x y ys good) ∙ is) (omega arith))
+    (λ bad. not-ok _ p (sym (not-two x y ys bad) ∙ is))
+  where
+    at-two : (x y : ℕ) (zs : List ℕ) → (nat_le 0x20 x && (nat_le x 0x7E && y == 39)) ≡ true → cond {A = Result LexemeView InfoFault} (nat_le 2 (length (x ∷ (y ∷ zs))) && (nat_le 0x20 x && (nat_le x 0x7E && y == 39))) (Ok (record { kind = character x; more = 2 })) (Err (fault line BadByte)) ≡ Ok (record { kind = character x; more = 2 })
+    at-two x y zs good = let two : nat_le 2 (length (x ∷ (y ∷ zs))) ≡ true = le-leb 2 _ (omega arith) in rw (two, good) refl
+
+    not-two : (x y : ℕ) (zs : List ℕ) → (nat_le 0x20 x && (nat_le x 0x7E && y == 39)) ≡ false → cond {A = Result LexemeView InfoFault} (nat_le 2 (length (x ∷ (y ∷ zs))) && (nat_le 0x20 x && (nat_le x 0x7E && y == 39))) (Ok (record { kind = character x; more = 2 })) (Err (fault line BadByte)) ≡ Err (fault line BadByte)
+    not-two x y zs bad = let two : nat_le 2 (length (x ∷ (y ∷ zs))) ≡ true = le-leb 2 _ (omega arith) in rw (two, bad) refl
+
+mark-kept : (q p : LexemeView) (most : ℕ) → q.more ≡ 0 → ◌≡◌ {A = Result LexemeView InfoFault} (Ok q) (Ok p) → IsKept (Ok q) p most
+mark-kept q p most none is = kept-as (Ok q) q p most refl is (omega (arith, none))
+
+word-fits : (bs : List ℕ) → (word_at bs).more ≤ length bs
+unfolding word_at
+word-fits bs = prefix_len-le-length (in_class class.Word) bs
+
+decimal-ends : in_class class.Decimal 35 ≡ false
+unfolding in_class
+decimal-ends = refl
+
+hexadecimal-ends : in_class class.Hexadecimal 35 ≡ false
+unfolding in_class
+hexadecimal-ends = refl
+
+fitting : {r : Result LexemeView InfoFault} {p : LexemeView} {n m : ℕ} → n ≤ m → IsKept r p n → IsKept r p m
+fitting le k = record { same = k.same; fits = omega (arith, le, k.fits) }
+
+lexeme-kept : (line b : ℕ) (bs rest : List ℕ) (p : LexemeView) → lexeme_at line (b ∷ bs) ≡ Ok p → IsKept (lexeme_at line (b ∷ (bs ++ 35 ∷ rest))) p (length bs)
+unfolding lexeme_at
+lexeme-kept line b bs rest p is =
+    by_test (starts_word b)
+    (λ on. rw on (kept-as _ (word_at bs) p (length bs) (ap (λ (q : LexemeView). Ok q) (word-kept bs rest)) (rw on at is) (word-fits bs)))
+    (λ no_word. by_test (is_ascii_digit b)
+    (λ on. rw (no_word, on) (fitting (omega arith) (number-kept line class.Decimal 10 0 (b ∷ bs) rest p decimal-ends (rw (no_word, on) at is))))
+    (λ no_digit. by_test (b == 36)
+    (λ on. rw (no_word, no_digit, on) (fitting (omega arith) (number-kept line class.Hexadecimal 16 1 bs rest p hexadecimal-ends (rw (no_word, no_digit, on) at is))))
+    (λ no_dollar. by_test (b == 34)
+    (λ on. rw (no_word, no_digit, no_dollar, on) (string-kept line bs rest p (rw (no_word, no_digit, no_dollar, on) at is)))
+    (λ no_quote. by_test (b == 39)
+    (λ on. rw (no_word, no_digit, no_dollar, no_quote, on) (character-kept line bs rest p (rw (no_word, no_digit, no_dollar, no_quote, on) at is)))
+    (λ no_mark. by_test (b == 123)
+    (λ on. rw (no_word, no_digit, no_dollar, no_quote, no_mark, on) (mark-kept (mark opening_brace) p (length bs) refl (rw (no_word, no_digit, no_dollar, no_quote, no_mark, on) at is)))
+    (λ no_open. by_test (b == 125)
+    (λ on. rw (no_word, no_digit, no_dollar, no_quote, no_mark, no_open, on) (mark-kept (mark closing_brace) p (length bs) refl (rw (no_word, no_digit, no_dollar, no_quote, no_mark, no_open, on) at is)))
+    (λ no_close. by_test (b == 59)
+    (λ on. rw (no_word, no_digit, no_dollar, no_quote, no_mark, no_open, no_close, on) (mark-kept (mark semicolon) p (length bs) refl (rw (no_word, no_digit, no_dollar, no_quote, no_mark, no_open, no_close, on) at is)))
+    (λ none. not-ok _ p (rw (no_word, no_digit, no_dollar, no_quote, no_mark, no_open, no_close, none) at is)))))))))
+
+-- ---- the tokens of both
+
+-- the first two bytes say whether a comment begins
+opens-same : (b : ℕ) (bs rest : List ℕ) → opens_comment (b ∷ (bs ++ 35 ∷ rest)) ≡ opens_comment (b ∷ bs)
+opens-same b [] rest = refl
+opens-same b (x ∷ bs) rest = refl
+
+-- these tokens, and then those of a stream
+abbrev pub after_tokens : List TokenView → Stream → Stream
+after_tokens ts s = record s { tokens = ts ++ s.tokens }
+
+hash-begins : (c : Bool) (line : ℕ) (rest : List ℕ) → tokens_after 0 c line (35 ∷ rest) ≡ tokens_after 0 true line rest
+unfolding tokens_after
+hash-begins true line rest = refl
+hash-begins false line rest = refl
+
+same-line : (line last : ℕ) → ◌≡◌ {A = Result ℕ InfoFault} (Ok line) (Ok last) → line ≡ last
+same-line line last is = cc
+
+found-before : (line : ℕ) (b : ℕ) (bs rest : List ℕ) (last : ℕ) (r : Result LexemeView InfoFault) (f g : ℕ → Stream) → lexeme_at line (b ∷ bs) ≡ r
+    → ((more : ℕ) → more ≤ length bs → (f more).ending ≡ Ok last → g more ≡ after_tokens (f more).tokens (tokens_after 0 true last rest))
+    → (found line (b ∷ bs) r f).ending ≡ Ok last
+    → found line (b ∷ (bs ++ 35 ∷ rest)) (lexeme_at line (b ∷ (bs ++ 35 ∷ rest))) g ≡ after_tokens (found line (b ∷ bs) r f).tokens (tokens_after 0 true last rest)
+found-before line b bs rest last (Err e) f g is next ends = absurd cc
+found-before line b bs rest last (Ok p) f g is next ends =
+    let kept = lexeme-kept line b bs rest p is in
+    let text : take (p.more + 1) (b ∷ (bs ++ 35 ∷ rest)) ≡ take (p.more + 1) (b ∷ bs) = take-append-le (p.more + 1) (b ∷ bs) (35 ∷ rest) (omega (arith, kept.fits)) in
+    rw (kept.same, text, next p.more kept.fits ends) refl
+
+-- The tokens of bytes that end without a fault, and of a `#` and more bytes after them.
+pub tokens-before : (skip : ℕ) (c : Bool) (line : ℕ) (bs rest : List ℕ) (last : ℕ) → skip ≤ length bs → (tokens_after skip c line bs).ending ≡ Ok last → tokens_after skip c line (bs ++ 35 ∷ rest) ≡ after_tokens (tokens_after skip c line bs).tokens (tokens_after 0 true last rest)
+unfolding tokens_after
+tokens-before zero c line [] rest last room ends = hash-begins c line rest ∙ ap (λ n. tokens_after 0 true n rest) (same-line line last ends)
+tokens-before (suc k) c line [] rest last room ends = absurd (omega (arith, room))
+tokens-before (suc k) c line (b ∷ bs) rest last room ends = tokens-before k c line bs rest last (omega (arith, room)) ends
+tokens-before zero c line (b ∷ bs) rest last room ends =
+    by_test (b == 10)
+    (λ feed. rw feed (tokens-before 0 false (line + 1) bs rest last (omega arith) (rw feed at ends)))
+    (λ other. by_test c
+    (λ on. rw (other, on) (tokens-before 0 true line bs rest last (omega arith) (rw (other, on) at ends)))
+    (λ off. by_test (is_blank b)
+    (λ blank. rw (other, off, blank) (tokens-before 0 false line bs rest last (omega arith) (rw (other, off, blank) at ends)))
+    (λ solid. by_test (opens_comment (b ∷ bs))
+    (λ opens. rw (other, off, solid, opens-same b bs rest, opens) (tokens-before 0 true line bs rest last (omega arith) (rw (other, off, solid, opens) at ends)))
+    (λ closed. rw (other, off, solid, opens-same b bs rest, closed)
+    (found-before line b bs rest last (lexeme_at line (b ∷ bs)) (λ more. tokens_after more false line bs) (λ more. tokens_after more false line (bs ++ 35 ∷ rest)) refl
+    (λ more fits ending. tokens-before more false line bs rest last fits ending) (rw (other, off, solid, closed) at ends))))))

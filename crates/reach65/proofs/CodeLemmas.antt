@@ -1,0 +1,352 @@
+-- With the ranges that are proposed each reached instruction is an item.
+use Rattle.std.proofs.Common.{◌≡◌, ◌∙◌, ℕ, zero, suc, ◌+◌, ◌-◌, ◌<◌, ◌≤◌, ◌&&◌, ◌||◌, nat_le, nat_lt, not, Bool, true, false, List, [], ◌∷◌, ◌++◌, length, Option, Some, None, refl, ap, sym, subst, arith, inl, inr, ⊎_elim, ◌⊎◌, cond}
+use Rattle.std.specs.List.{list_any}
+use Rattle.std.proofs.lemmas.Bool.{and_from, and_parts, cases_Bool, cases_eq, cases_lt, cond-true, cond-false, cond_both, le-leb, leb-true, lt-ltb, ltb-true}
+use denote.Enum.Bare.{true_same}
+use Rattle.isa65.specs.Mode.{len_of}
+use Rattle.isa65.specs.Opcodes.{Table, decoded}
+use Rattle.isa65.specs.Cpu.{table_of}
+use Rattle.isa65.specs.declared.mode.Mode.{Mode}
+use Rattle.isa65.specs.declared.mode.Mode.TheVariants.{Imp}
+use Rattle.isa65.specs.declared.op.Op.{Op}
+use Rattle.info65.specs.contracts.information.range.RangeType as range_type
+use Rattle.info65.specs.Ranges.{has_address}
+use Rattle.info65.specs.Views.{InfoView}
+use Rattle.info65.specs.declared.information.range.RangeSpec.{RangeSpec}
+use Rattle.info65.specs.declared.information.range.RangeType.{RangeType}
+use Rattle.info65.specs.declared.information.range.RangeType.TheVariants as role
+use Rattle.map65.proofs.Public.{in-run, item_law, joined-in}
+use Rattle.map65.specs.ImageView.{IsPlaced, byte_at, end_of, is_inside}
+use Rattle.map65.specs.Items.{CanBegin, EndsBefore, full_len_at, item_len, size_for}
+use Rattle.map65.specs.MapView.{MapView, opcodes}
+use Rattle.map65.specs.Pieces.{AreOnePiece, AreOneRun, IsFirst, is_in_run, is_joined, is_own}
+use Rattle.map65.specs.Roles.{is_skip, is_wide, role_at, role_in, role_of}
+use Rattle.map65.specs.Segments.{is_border}
+use Rattle.map65.specs.Spans.{addresses}
+use Rattle.reach65.proofs.FlowLemmas.{IsWithin, within}
+use Rattle.reach65.proofs.PieceLemmas.{pieces-cover}
+use Rattle.reach65.specs.Flow.{if_whole, instruction_at, op_in}
+use Rattle.reach65.specs.Laws.{AreWhole, CodeLaw, IsOfCode, IsReachedBefore, IsWith, KeepsItems, with_info}
+use Rattle.reach65.specs.Pieces.{ArePieces, Ground, IsPiece, is_free}
+use Rattle.reach65.specs.Reached.{is_marked}
+use Rattle.reach65.specs.Taken.{AreMarkedBy, has_byte, is_given, is_of_code, is_taken, is_within}
+
+-- ---- the roles of ranges after others
+
+role-none : (rs : List RangeSpec) (a : ℕ) → is_given rs a ≡ false → role_in rs a ≡ role.Code
+unfolding is_given role_in
+role-none [] a none = refl
+role-none (r ∷ rs) a none = by_first (has_address r a) (is_given rs a) (role_in rs a) r.role none (role-none rs a)
+  where
+    by_first : (x y : Bool) (q p : RangeType) → (x || y) ≡ false → (y ≡ false → q ≡ role.Code) → cond x p q ≡ role.Code
+    by_first true y q p is rest = cc
+    by_first false y q p is rest = rest is
+
+role-given : (rs later : List RangeSpec) (a : ℕ) → is_given rs a ≡ true → role_in (rs ++ later) a ≡ role_in rs a
+unfolding is_given role_in
+role-given [] later a is = cc
+role-given (r ∷ rs) later a is = by_first (has_address r a) (is_given rs a) (role_in (rs ++ later) a) (role_in rs a) r.role is (role-given rs later a)
+  where
+    by_first : (x y : Bool) (p q o : RangeType) → (x || y) ≡ true → (y ≡ true → p ≡ q) → cond x o p ≡ cond x o q
+    by_first true y p q o is rest = refl
+    by_first false y p q o is rest = rest is
+
+role-later : (rs later : List RangeSpec) (a : ℕ) → is_given rs a ≡ false → role_in (rs ++ later) a ≡ role_in later a
+unfolding is_given role_in
+role-later [] later a none = refl
+role-later (r ∷ rs) later a none = by_first (has_address r a) (is_given rs a) (role_in (rs ++ later) a) (role_in later a) r.role none (role-later rs later a)
+  where
+    by_first : (x y : Bool) (p q o : RangeType) → (x || y) ≡ false → (y ≡ false → p ≡ q) → cond x o p ≡ q
+    by_first true y p q o is rest = cc
+    by_first false y p q o is rest = rest is
+
+-- a piece is no code
+piece-other : (g : Ground) (r : RangeType) (from end : ℕ) → IsPiece g r from end → r ≡ role.Code → ⊥
+piece-other g role.Code from end piece is = piece
+piece-other g _ from end piece is = cc
+
+pieces-other : (g : Ground) (from a : ℕ) (rs : List RangeSpec) → ArePieces g from rs → is_given rs a ≡ true → role_in rs a ≡ role.Code → ⊥
+unfolding ArePieces is_given role_in
+pieces-other g from a [] are given is = cc
+pieces-other g from a (r ∷ rs) are given is =
+    by_first (has_address r a) (is_given rs a) (role_in rs a) given is (piece-other g r.role r.first (r.last + 1) are.3) (pieces-other g (r.last + 1) a rs are.4)
+  where
+    by_first : (x y : Bool) (q : RangeType) → (x || y) ≡ true → cond x r.role q ≡ role.Code → (r.role ≡ role.Code → ⊥) → (y ≡ true → q ≡ role.Code → ⊥) → ⊥
+    by_first true y q given is first rest = first is
+    by_first false y q given is first rest = rest given is
+
+-- ---- one of some addresses
+
+any-at : (p : ℕ → Bool) (n start k : ℕ) → k < n → p (start + k) ≡ true → list_any p (addresses n start) ≡ true
+unfolding addresses
+any-at p zero start k low is = absurd (omega (arith, low))
+any-at p (suc n) start zero low is = let same : start + 0 ≡ start = omega arith in rw (ap p (sym same) ∙ is) refl
+any-at p (suc n) start (suc k) low is =
+    let same : start + suc k ≡ start + 1 + k = omega arith in
+    or-right (p start) (list_any p (addresses n (start + 1))) (any-at p n (start + 1) k (omega (arith, low)) (ap p (sym same) ∙ is))
+  where
+    or-right : (x y : Bool) → y ≡ true → (x || y) ≡ true
+    or-right true y is = refl
+    or-right false y is = is
+
+any-some : (p : ℕ → Bool) (n start : ℕ) → list_any p (addresses n start) ≡ true → (a : ℕ) × (p a ≡ true)
+unfolding addresses
+any-some p zero start is = cc
+any-some p (suc n) start is = by_first (p start) refl is (λ rest. any-some p n (start + 1) rest)
+  where
+    by_first : (x : Bool) → p start ≡ x → (x || list_any p (addresses n (start + 1))) ≡ true → (list_any p (addresses n (start + 1)) ≡ true → (a : ℕ) × (p a ≡ true)) → (a : ℕ) × (p a ≡ true)
+    by_first true here is rest = (start, here)
+    by_first false here is rest = rest is
+
+-- ---- the instruction of an address
+
+record IsInstruction (m : MapView) (a : ℕ) (op : Op) : Type 0 where
+  inside : is_inside m.image a ≡ true
+  code : role_of m.info a ≡ role.Code
+  decoded : decoded (opcodes m) (byte_at m.image a) ≡ Some op
+  fits : a + len_of op.mode ≤ end_of m.image
+
+whole-is : (m : MapView) (a : ℕ) (o : Option Op) (op : Op) → if_whole m a o ≡ Some op → (o ≡ Some op) × (a + len_of op.mode ≤ end_of m.image)
+whole-is m a None op is = cc
+whole-is m a (Some p) op is =
+    cond_both (nat_le (a + len_of p.mode) (end_of m.image)) (Some p) None (λ v. v ≡ Some op → (Some p ≡ Some op) × (a + len_of op.mode ≤ end_of m.image))
+    (λ fits same. let e : p ≡ op = cc in (same, subst (λ (q : Op). a + len_of q.mode ≤ end_of m.image) e (leb-true (a + len_of p.mode) (end_of m.image) fits)))
+    (λ _ none. cc) is
+
+op-is : (m : MapView) (r : Option RangeType) (a : ℕ) (op : Op) → op_in m r a ≡ Some op → (r ≡ Some role.Code) × (decoded (opcodes m) (byte_at m.image a) ≡ Some op)
+op-is m (Some role.Code) a op is = (refl, is)
+op-is m (Some role.ByteTable) a op is = cc
+op-is m (Some role.WordTable) a op is = cc
+op-is m (Some role.DbyteTable) a op is = cc
+op-is m (Some role.DwordTable) a op is = cc
+op-is m (Some role.AddrTable) a op is = cc
+op-is m (Some role.RtsTable) a op is = cc
+op-is m (Some role.TextTable) a op is = cc
+op-is m (Some role.Skip) a op is = cc
+op-is m None a op is = cc
+
+role-is : (m : MapView) (a : ℕ) (r : RangeType) → role_at m a ≡ Some r → (is_inside m.image a ≡ true) × (role_of m.info a ≡ r)
+unfolding role_at
+role-is m a r is =
+    cond_both (is_inside m.image a) (Some (role_of m.info a)) None (λ v. v ≡ Some r → (is_inside m.image a ≡ true) × (role_of m.info a ≡ r))
+    (λ inside same. (inside, cc)) (λ _ none. cc) is
+
+instruction-is : (m : MapView) (a : ℕ) (op : Op) → instruction_at m a ≡ Some op → IsInstruction m a op
+unfolding instruction_at
+instruction-is m a op is =
+    let first = whole-is m a (op_in m (role_at m a) a) op is in
+    let second = op-is m (role_at m a) a op first.0 in
+    let third = role-is m a role.Code second.0 in
+    record { inside = third.0; code = third.1; decoded = second.1; fits = first.1 }
+
+-- the instruction that has an address
+record Holds (m : MapView) (b a : ℕ) : Type 0 where
+  op : Op
+  is : instruction_at m b ≡ Some op
+  low : b ≤ a
+  high : a < b + len_of op.mode
+
+holds-by : (m : MapView) (b a : ℕ) (o : Option Op) → instruction_at m b ≡ o → is_within b o a ≡ true → Holds m b a
+holds-by m b a None is within = cc
+holds-by m b a (Some op) is has =
+    let parts = and_parts (nat_le b a) (nat_lt a (b + len_of op.mode)) has in
+    record { op = op; is = is; low = leb-true b a parts.0; high = ltb-true a (b + len_of op.mode) parts.1 }
+
+holds : (m : MapView) (b a : ℕ) → has_byte m b a ≡ true → Holds m b a
+unfolding has_byte
+holds m b a has = holds-by m b a (instruction_at m b) refl has
+
+has-if : (m : MapView) (b a : ℕ) (op : Op) → instruction_at m b ≡ Some op → b ≤ a → a < b + len_of op.mode → has_byte m b a ≡ true
+unfolding has_byte
+has-if m b a op is low high = ap (λ o. is_within b o a) is ∙ and_from _ _ (le-leb b a low) (lt-ltb a (b + len_of op.mode) high)
+
+-- ---- what is spoken for
+
+given-taken : (m : MapView) (marks : List Bool) (a : ℕ) → is_taken m marks a ≡ true → is_given m.info.ranges a ≡ false → IsOfCode m marks a
+unfolding is_taken is_of_code
+given-taken m marks a is none =
+    let any = any-some (is_of_code m marks a) (length m.image.bytes) m.image.start (by_first (is_given m.info.ranges a) _ none is) in
+    let parts = and_parts (is_marked marks any.0) (has_byte m any.0 a) any.1 in
+    record { at = any.0; marked = parts.0; has = parts.1 }
+  where
+    by_first : (x y : Bool) → x ≡ false → (x || y) ≡ true → y ≡ true
+    by_first true y none is = cc
+    by_first false y none is = is
+
+code-taken : (m : MapView) (marks : List Bool) (a : ℕ) → IsOfCode m marks a → is_taken m marks a ≡ true
+unfolding is_taken is_of_code
+code-taken m marks a is =
+    let h = holds m is.at a is.has in
+    let w = within m is.at (instruction-is m is.at h.op h.is).inside in
+    let k : ℕ = is.at - m.image.start in
+    let same : m.image.start + k ≡ is.at = omega (arith, w.low) in
+    let here : is_of_code m marks a (m.image.start + k) ≡ true = ap (is_of_code m marks a) same ∙ and_from _ _ is.marked is.has in
+    or-right (is_given m.info.ranges a) _ (any-at (is_of_code m marks a) (length m.image.bytes) m.image.start k (omega (arith, w.low, w.high)) here)
+  where
+    or-right : (x y : Bool) → y ≡ true → (x || y) ≡ true
+    or-right true y is = refl
+    or-right false y is = is
+
+len-positive : (x : Mode) → 0 < len_of x
+len-positive Imp = omega arith
+len-positive _ = omega arith
+
+-- ---- runs
+
+module _ (m : MapView) (a : ℕ) where
+  run-if : m.image.start < a → a < end_of m.image → role_of m.info (a - 1) ≡ role_of m.info a → is_border m.info.segments a ≡ false → is_in_run m a ≡ true
+  unfolding is_in_run
+  run-if low high same unbroken =
+      and_from _ _ (lt-ltb m.image.start a low) (and_from _ _ (lt-ltb a (end_of m.image) high) (and_from _ _ (true_same range_type.the_type (role_of m.info (a - 1)) (role_of m.info a) same) (ap not unbroken)))
+
+  joined-run : is_joined m a ≡ true → is_in_run m a ≡ true
+  unfolding is_joined
+  joined-run is = (and_parts (is_in_run m a) (not (is_wide (role_of m.info a) && is_own m.info.names a)) is).0
+
+  -- no name cuts code
+  joined-code : is_in_run m a ≡ true → role_of m.info a ≡ role.Code → is_joined m a ≡ true
+  unfolding is_joined
+  joined-code run code = and_from _ _ run (ap (λ r. not (is_wide r && is_own m.info.names a)) code)
+
+run-role : (m : MapView) (b n : ℕ) → AreOneRun m b (b + n) → role_of m.info (b + n) ≡ role_of m.info b
+run-role m b zero run = let place : b + 0 ≡ b = omega arith in ap (role_of m.info) place
+run-role m b (suc n) run =
+    let before = run-role m b n (λ x low high. run x low (omega (arith, high))) in
+    let place : b + suc n - 1 ≡ b + n = omega arith in
+    sym (in-run m (b + suc n) (run (b + suc n) (omega arith) (omega arith))).same ∙ ap (role_of m.info) place ∙ before
+
+-- ---- with the ranges that are proposed
+
+module _ (m : MapView) (marks taken : List Bool) (pieces : List RangeSpec) (info : InfoView) (placed : IsPlaced m.image) (spoken : AreMarkedBy (is_taken m marks) taken) (are : ArePieces (record { image = m.image; taken = taken }) 0 pieces) (new : IsWith m.info info pieces) (whole : AreWhole m marks) where
+  abbrev ground : Ground
+  ground = record { image = m.image; taken = taken }
+
+  abbrev all : MapView
+  all = with_info m info
+
+  taken-is : (x : ℕ) → is_inside m.image x ≡ true → is_marked taken x ≡ is_taken m marks x
+  taken-is x inside = spoken.each x (omega (arith, placed.room, (within m x inside).high))
+
+  unfree : (x : ℕ) → is_inside m.image x ≡ true → is_taken m marks x ≡ true → is_free ground x ≡ false
+  unfolding is_free
+  unfree x inside is = no-second (is_inside m.image x) (is_marked taken x) (taken-is x inside ∙ is)
+    where
+      no-second : (p q : Bool) → q ≡ true → (p && not q) ≡ false
+      no-second true true is = refl
+      no-second true false is = cc
+      no-second false q is = refl
+
+  free-not : (x : ℕ) → is_inside m.image x ≡ true → is_free ground x ≡ false → is_taken m marks x ≡ true
+  unfolding is_free
+  free-not x inside is = sym (taken-is x inside) ∙ second (is_inside m.image x) (is_marked taken x) inside is
+    where
+      second : (p q : Bool) → p ≡ true → (p && not q) ≡ false → q ≡ true
+      second true true inside is = refl
+      second true false inside is = cc
+      second false q inside is = cc
+
+  -- what was code and is reached is code
+  role-kept : (x : ℕ) → is_inside m.image x ≡ true → role_of m.info x ≡ role.Code → IsOfCode m marks x → role_of info x ≡ role.Code
+  role-kept x inside code is =
+      ap (λ l. role_in l x) new.ranges ∙ elim (cases_Bool (is_given m.info.ranges x)) as (λ _. role_in (m.info.ranges ++ pieces) x ≡ role.Code) [
+        | inl given ↦ role-given m.info.ranges pieces x given ∙ code
+        | inr none ↦ role-later m.info.ranges pieces x none ∙ role-none pieces x (pieces-cover ground pieces are x ∙ unfree x inside (code-taken m marks x is))
+      ]
+
+  -- what is code belongs to a range that was given, or is reached
+  code-reached : (x : ℕ) → is_inside m.image x ≡ true → role_of info x ≡ role.Code → (is_given m.info.ranges x ≡ true → IsOfCode m marks x) → IsOfCode m marks x
+  code-reached x inside code given =
+      elim (cases_Bool (is_given m.info.ranges x)) as (λ _. IsOfCode m marks x) [
+        | inl is ↦ given is
+        | inr none ↦ elim (cases_Bool (is_given pieces x)) as (λ _. IsOfCode m marks x) [
+          | inl proposed ↦ absurd (pieces-other ground 0 x pieces are proposed (sym (role-later m.info.ranges pieces x none) ∙ sym (ap (λ l. role_in l x) new.ranges) ∙ code))
+          | inr apart ↦ given-taken m marks x (free-not x inside (sym (pieces-cover ground pieces are x) ∙ apart)) none
+        ]
+      ]
+
+  -- each byte of a reached instruction is code, before and now
+  byte-code : (b x : ℕ) (op : Op) → is_marked marks b ≡ true → instruction_at m b ≡ Some op → b ≤ x → x < b + len_of op.mode → role_of info x ≡ role.Code
+  byte-code b x op marked is low high =
+      let i = instruction-is m b op is in
+      let w = within m b i.inside in
+      let inside : is_inside m.image x ≡ true = and_from _ _ (le-leb m.image.start x (omega (arith, w.low, low))) (lt-ltb x (end_of m.image) (omega (arith, high, i.fits))) in
+      let code : role_of m.info x ≡ role.Code =
+      let n : ℕ = x - b in
+      let place : b + n ≡ x = omega (arith, low) in
+      sym (ap (role_of m.info) place) ∙ run-role m b n (λ y above upto. whole.run b op marked is y above (omega (arith, upto, place, high))) ∙ i.code in
+      role-kept x inside code (record { at = b; marked = marked; has = has-if m b x op is low high })
+
+  -- each byte of a reached instruction after its first is joined
+  byte-joined : (b x : ℕ) (op : Op) → is_marked marks b ≡ true → instruction_at m b ≡ Some op → b < x → x < b + len_of op.mode → is_joined all x ≡ true
+  byte-joined b x op marked is low high =
+      let old = in-run m x (whole.run b op marked is x low (omega (arith, high))) in
+      let here = byte-code b x op marked is (omega (arith, low)) high in
+      let before = byte-code b (x - 1) op marked is (omega (arith, low)) (omega (arith, low, high)) in
+      joined-code all x (run-if all x old.low old.high (before ∙ sym here) (ap (λ s. is_border s x) new.segments ∙ old.unbroken)) here
+
+  -- the item is as long as the instruction
+  full-len : (a : ℕ) (op : Op) → is_marked marks a ≡ true → instruction_at m a ≡ Some op → a < a + len_of op.mode → full_len_at all a ≡ len_of op.mode
+  unfolding full_len_at
+  full-len a op marked is some =
+      let i = instruction-is m a op is in
+      let code = byte-code a a op marked is (omega arith) some in
+      let decodes : decoded (opcodes all) (byte_at m.image a) ≡ Some op = ap (λ c. decoded (table_of c) (byte_at m.image a)) new.cpu ∙ i.decoded in
+      rw (code, decodes) refl
+
+  -- the bytes of a reached instruction lie in one piece
+  one-piece : (b : ℕ) (op : Op) → is_marked marks b ≡ true → instruction_at m b ≡ Some op → AreOnePiece all b (b + len_of op.mode - 1)
+  one-piece b op marked is x low high = byte-joined b x op marked is low (omega (arith, low, high))
+
+  -- where an item can begin at a reached instruction, it is as long as that
+  item-whole : (a : ℕ) (op : Op) → is_marked marks a ≡ true → instruction_at m a ≡ Some op → CanBegin all (item_len all) a → item_len all a ≡ len_of op.mode
+  item-whole a op marked is can =
+      let law = (item_law all).items in
+      let full = full-len a op marked is (omega (arith, len-positive op.mode)) in
+      let some : 0 < item_len all a = (law.begins a).1 can in
+      let piece : AreOnePiece all a (a + full_len_at all a - 1) = λ x low high. one-piece a op marked is x low (omega (arith, high, full)) in
+      law.whole a some piece ∙ full
+
+  -- the instruction that has the byte before another one ends there
+  ends-there : (a b : ℕ) (op : Op) → is_marked marks a ≡ true → instruction_at m a ≡ Some op → is_marked marks b ≡ true → (h : Holds m b (a - 1)) → 0 < a → b + len_of h.op.mode ≡ a
+  ends-there a b op marked is b_marked h some =
+      elim (cases_lt a (b + len_of h.op.mode)) as (λ _. b + len_of h.op.mode ≡ a) [
+        | inl over ↦
+            let same : b ≡ a = whole.apart b a a b_marked marked (has-if m b a h.op h.is (omega (arith, h.low)) over) (has-if m a a op is (omega arith) (omega (arith, len-positive op.mode))) in
+            absurd (omega (arith, same, h.low, some))
+        | inr under ↦ omega (arith, under, h.high, some)
+      ]
+
+  items-below : (n a : ℕ) (op : Op) → a < n → is_marked marks a ≡ true → instruction_at m a ≡ Some op → IsReachedBefore m all marks a → item_len all a ≡ len_of op.mode
+  items-below zero a op below marked is before = absurd (omega (arith, below))
+  items-below (suc n) a op below marked is before =
+      let i = instruction-is m a op is in
+      let code = byte-code a a op marked is (omega arith) (omega (arith, len-positive op.mode)) in
+      item-whole a op marked is (record {
+        inside = i.inside;
+        shown = ap is_skip code;
+        place = elim (cases_Bool (is_joined all a)) as (λ _. IsFirst all a ⊎ EndsBefore all (item_len all) a) [
+          | inr apart ↦ inl (inr apart)
+          | inl joined ↦
+              let here = joined-in all a joined in
+              let last_inside : is_inside m.image (a - 1) ≡ true = and_from _ _ (le-leb m.image.start (a - 1) (omega (arith, here.low))) (lt-ltb (a - 1) (end_of m.image) (omega (arith, here.high))) in
+              let last_run : AreOneRun all (a - 1) a = λ y low high. let same : y ≡ a = omega (arith, low, high) in subst (λ z. is_in_run all z ≡ true) (sym same) (joined-run all a joined) in
+              let last = code-reached (a - 1) last_inside (here.same ∙ code) (before (a - 1) (omega (arith, here.low)) last_run) in
+              let h = holds m last.at (a - 1) last.has in
+              let ends = ends-there a last.at op marked is last.marked h (omega (arith, here.low)) in
+              let piece : AreOnePiece all last.at a = λ y low high. elim (cases_eq y a) as (λ _. is_joined all y ≡ true) [
+                | inl same ↦ subst (λ z. is_joined all z ≡ true) (sym same) joined
+                | inr other ↦ byte-joined last.at y h.op last.marked h.is low (omega (arith, high, other, ends))
+              ] in
+              let earlier : IsReachedBefore m all marks last.at = λ x low run given. before x (omega (arith, low, h.low, here.low)) (λ y above upto. elim (cases_lt last.at y) as (λ _. is_in_run all y ≡ true) [
+                | inl later ↦ joined-run all y (piece y later upto)
+                | inr upto_last ↦ run y above upto_last
+              ]) given in
+              let len = items-below n last.at h.op (omega (arith, below, ends, len-positive h.op.mode)) last.marked h.is earlier in
+              inr (record { item = last.at; begins = omega (arith, len, len-positive h.op.mode); ends = omega (arith, len, ends); piece = piece })
+        ];
+      })
+
+pub code_law : (m : MapView) → CodeLaw m
+code_law m entries marks taken pieces info placed reached spoken are new whole = record {
+  each = λ a op marked is before. items-below m marks taken pieces info placed spoken are new whole (suc a) a op (omega arith) marked is before;
+}

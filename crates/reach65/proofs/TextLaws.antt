@@ -1,0 +1,142 @@
+-- The text that is proposed is accepted after the file, and adds its ranges.
+use Rattle.std.proofs.Common.{◌≡◌, ◌∙◌, ◌+◌, ◌<◌, ◌≤◌, ◌&&◌, ◌||◌, ℕ, zero, suc, Bool, true, false, not, List, [], ◌∷◌, ◌++◌, append_assoc, ap, arith, inl, inr, length, nat_le, nat_lt, refl, subst, sym}
+use Rattle.std.specs.Prelude.{All, Result, Ok, Err, IsOk}
+use Rattle.std.specs.List.{flat_map, list_any}
+use Rattle.std.proofs.lemmas.Bool.{and_parts, leb-true, lt-leb, ltb-true}
+use Rattle.std.proofs.lemmas.List.{append-nil}
+use Rattle.info65.specs.Grammar.{Item, Spells}
+use Rattle.info65.specs.Ranges.{has_address}
+use Rattle.info65.specs.Reader.{information}
+use Rattle.info65.specs.Tokens.{Stream, TokenView, tokens_after, tokens_of}
+use Rattle.info65.specs.Views.{InfoView, OptionsView}
+use Rattle.info65.specs.declared.information.range.RangeSpec.{RangeSpec}
+use Rattle.info65.specs.declared.information.range.RangeType.{RangeType}
+use Rattle.info65.specs.declared.information.range.RangeType.TheVariants as role
+use Rattle.map65.specs.ImageView.{IsPlaced, end_of, is_inside}
+use Rattle.map65.specs.MapView.{MapView}
+use Rattle.info65.proofs.Public.{AreAdded, Gives, IsAdded, after_tokens, information-more, range_items, with_ranges}
+use Rattle.reach65.proofs.FlowLemmas.{within}
+use Rattle.reach65.proofs.PieceLemmas.{piece-free}
+use Rattle.reach65.proofs.TextLemmas.{AreTables, IsTable, Later, Opens, comment-passed, comments-open, later-then, opens-none, ranges-open}
+use Rattle.reach65.specs.TextLaws.{IsProposal, TextLaw, comment_line}
+use Rattle.reach65.specs.Pieces.{ArePieces, Ground, IsPiece, is_free}
+use Rattle.reach65.specs.RangeLines.{range_lines}
+use Rattle.reach65.specs.Reached.{is_marked}
+use Rattle.reach65.specs.Taken.{AreMarkedBy, is_given, is_taken}
+
+-- ---- pieces as ranges that are added
+
+free-inside : (g : Ground) (a : ℕ) → is_free g a ≡ true → is_inside g.image a ≡ true
+unfolding is_free
+free-inside g a is = (and_parts (is_inside g.image a) (not (is_marked g.taken a)) is).0
+
+piece-low : (g : Ground) (r : RangeSpec) → IsPlaced g.image → r.first ≤ r.last → IsPiece g r.role r.first (r.last + 1) → r.last ≤ 0xFFFF
+piece-low g r placed ordered piece =
+    let free : is_free g r.last ≡ true = piece-free g r.role r.first (r.last + 1) r.last piece ordered (omega arith) in
+    let inside = and_parts (nat_le g.image.start r.last) (nat_lt r.last (end_of g.image)) (free-inside g r.last free) in
+    omega (arith, placed.room, ltb-true r.last (end_of g.image) inside.1)
+
+piece-table : (g : Ground) (t : RangeType) (from end : ℕ) → IsPiece g t from end → IsTable t
+piece-table g role.TextTable from end piece = inl refl
+piece-table g role.ByteTable from end piece = inr refl
+piece-table g role.Code from end piece = absurd piece
+piece-table g role.WordTable from end piece = absurd piece
+piece-table g role.DbyteTable from end piece = absurd piece
+piece-table g role.DwordTable from end piece = absurd piece
+piece-table g role.AddrTable from end piece = absurd piece
+piece-table g role.RtsTable from end piece = absurd piece
+piece-table g role.Skip from end piece = absurd piece
+
+pieces-tables : (g : Ground) (from : ℕ) (rs : List RangeSpec) → IsPlaced g.image → ArePieces g from rs → AreTables rs
+unfolding ArePieces
+pieces-tables g from [] placed are = tt
+pieces-tables g from (r ∷ rs) placed are = (piece-table g r.role r.first (r.last + 1) are.3, are.2, piece-low g r placed are.2 are.3, pieces-tables g (r.last + 1) rs placed are.4)
+
+-- no address from this one on is free and in one of these ranges
+abbrev ArePast : Ground → ℕ → List RangeSpec → Type 0
+ArePast g from old = (a : ℕ) → from ≤ a → list_any (λ q. has_address q a) old ≡ true → is_free g a ≡ false
+
+any-append : (old : List RangeSpec) (r : RangeSpec) (a : ℕ) → list_any (λ q. has_address q a) (old ++ r ∷ []) ≡ true → has_address r a ≡ false → list_any (λ q. has_address q a) old ≡ true
+any-append [] r a is none = first (has_address r a) is none
+  where
+    first : (x : Bool) → (x || false) ≡ true → x ≡ false → false ≡ true
+    first true is none = cc
+    first false is none = is
+any-append (q ∷ old) r a is none = next (has_address q a) (list_any (λ p. has_address p a) (old ++ r ∷ [])) (list_any (λ p. has_address p a) old) is (λ more. any-append old r a more none)
+  where
+    next : (x y z : Bool) → (x || y) ≡ true → (y ≡ true → z ≡ true) → (x || z) ≡ true
+    next true y z is more = refl
+    next false y z is more = more is
+
+above-none : (r : RangeSpec) (a : ℕ) → r.last < a → has_address r a ≡ false
+above-none r a above = second (nat_le r.first a) (nat_le a r.last) (lt-leb a r.last above)
+  where
+    second : (x y : Bool) → y ≡ false → (x && y) ≡ false
+    second true y is = is
+    second false y is = refl
+
+pieces-added : (g : Ground) (from : ℕ) (old rs : List RangeSpec) → IsPlaced g.image → ArePieces g from rs → ArePast g from old → AreAdded old rs
+unfolding ArePieces
+pieces-added g from old [] placed are past = tt
+pieces-added g from old (r ∷ rs) placed are past = (
+  record {
+    ordered = are.2;
+    low = piece-low g r placed are.2 are.3;
+    apart = λ a has given.
+        let parts = and_parts (nat_le r.first a) (nat_le a r.last) has in
+        let low = leb-true r.first a parts.0 in
+        let free = piece-free g r.role r.first (r.last + 1) a are.3 low (omega (arith, leb-true a r.last parts.1)) in
+        clash (is_free g a) free (past a (omega (arith, low, are.0)) given);
+  },
+  pieces-added g (r.last + 1) (old ++ r ∷ []) rs placed are.4 (λ a above given. past a (omega (arith, above, are.0, are.2)) (any-append old r a given (above-none r a (omega (arith, above))))),
+)
+  where
+    clash : (x : Bool) → x ≡ true → x ≡ false → ⊥
+    clash x on off = cc
+
+-- ---- the text
+
+gives-of : (o : OptionsView) (ranges : List RangeSpec) (all : Stream) → Later o (range_items ranges) all [] → Gives o ranges all
+unfolding tokens_after
+gives-of o ranges all later =
+    let P : Stream → Type 0 = λ s. Gives o ranges s in
+    subst P (sym later.opens.is) (record { whole = refl; spelled = rw (append-nil later.opens.tokens) later.opens.spelled })
+
+text-gives : (o : OptionsView) (m : MapView) (ranges : List RangeSpec) (text : List ℕ) (p : IsProposal m.image ranges text) → AreTables ranges → (line : ℕ)
+    → Gives o ranges (tokens_after 0 true line ((p.first ++ 10 ∷ []) ++ (flat_map comment_line p.before ++ (range_lines m.image ranges ++ flat_map comment_line p.after))))
+text-gives o m ranges text p tables line =
+    let last : List ℕ = flat_map comment_line p.after in
+    let middle : List ℕ = range_lines m.image ranges ++ last in
+    let rest : List ℕ = flat_map comment_line p.before ++ middle in
+    let second = comments-open o (line + 1) p.before middle p.lines.1 in
+    let third = ranges-open o m.image second.line ranges last tables in
+    let fourth = comments-open o third.line p.after [] p.last_lines in
+    let fourth_is : Later o [] (tokens_of third.line last) [] = rw (append-nil last) at fourth in
+    let both : Later o (range_items ranges ++ []) (tokens_of second.line middle) [] = later-then o (range_items ranges) [] (tokens_of second.line middle) third.line last [] third.opens fourth_is in
+    let from_before : Later o (range_items ranges ++ []) (tokens_of (line + 1) rest) [] = later-then o [] (range_items ranges ++ []) (tokens_of (line + 1) rest) second.line middle [] second.opens both in
+    let all : tokens_after 0 true line ((p.first ++ 10 ∷ []) ++ rest) ≡ tokens_of (line + 1) rest = ap (tokens_after 0 true line) (append_assoc p.first (10 ∷ []) rest) ∙ comment-passed line p.first rest p.lines.0 in
+    let P : List Item → Type 0 = λ l. Later o l (tokens_of (line + 1) rest) [] in
+    let Q : Stream → Type 0 = λ s. Gives o ranges s in
+    subst Q (sym all) (gives-of o ranges (tokens_of (line + 1) rest) (subst P (append-nil (range_items ranges)) from_before))
+
+-- what a range of the file has is not free
+given-past : (m : MapView) (marks taken : List Bool) → IsPlaced m.image → AreMarkedBy (is_taken m marks) taken → ArePast (record { image = m.image; taken = taken }) 0 m.info.ranges
+unfolding is_free is_taken is_given
+given-past m marks taken placed spoken a low given = by_inside (is_inside m.image a) refl
+  where
+    by_inside : (x : Bool) → is_inside m.image a ≡ x → (is_inside m.image a && not (is_marked taken a)) ≡ false
+    by_inside false out = rw out refl
+    by_inside true inside =
+        let here : is_marked taken a ≡ true = spoken.each a (omega (arith, placed.room, (within m a inside).high)) ∙ rw given refl in
+        rw (inside, here) refl
+
+pub text_law : (m : MapView) → TextLaw m
+text_law m o file text info marks taken pieces accepted same placed spoken are p small =
+    let g : Ground = record { image = m.image; taken = taken } in
+    let P : List RangeSpec → Type 0 = λ l. ArePast g 0 l in
+    let past : ArePast g 0 info.ranges = subst P same (given-past m marks taken placed spoken) in
+    let added = pieces-added g 0 info.ranges pieces placed are past in
+    let tail : List ℕ = (p.first ++ 10 ∷ []) ++ (flat_map comment_line p.before ++ (range_lines m.image pieces ++ flat_map comment_line p.after)) in
+    let R : List ℕ → Type 0 = λ t. length (file ++ t) ≤ 1_048_576 in
+    let Q : List ℕ → Type 0 = λ t. information o (file ++ t) ≡ Ok (with_ranges info pieces) in
+    subst Q (sym p.parts) (information-more o file tail info pieces accepted added (subst R p.parts small) (λ line. text-gives o m pieces text p (pieces-tables g 0 pieces placed are) line))

@@ -1,0 +1,280 @@
+-- The text that is proposed, as the reader of information files sees it.
+use Rattle.std.proofs.Common.{◌≡◌, ◌∙◌, ◌==◌, ◌+◌, ◌*◌, ◌/◌, ◌%◌, ◌<◌, ◌≤◌, ◌&&◌, ◌⊎◌, ℕ, zero, suc, Bool, true, false, not, List, [], ◌∷◌, ◌++◌, append_assoc, ap, arith, inl, inr, length, map, nat_le, nat_lt, refl, sym, take}
+use Rattle.std.specs.Prelude.{Option, Some, None, Result, Ok, Err, codes, if◌then◌else◌}
+use Rattle.std.specs.Char.{digit_value, is_ascii_hexdigit}
+use Rattle.std.specs.List.{flat_map, list_all}
+use Rattle.std.specs.Str.Parse.{digits_value}
+use Rattle.std.proofs.lemmas.Bool.{and_parts, le-leb, lt-ltb}
+use Rattle.std.proofs.lemmas.Bool.Decides.{nat_tests}
+use Rattle.text65.specs.Digits.{digits4, hex_digit}
+use Rattle.text65.specs.Names.{is_word_byte}
+use Rattle.info65.specs.Attributes.{attribute_named, form_of, group_named, type_named}
+use Rattle.info65.specs.Grammar.{Item, IsToken, Spells, attribute_name, group_name, value, mark}
+use Rattle.info65.specs.Lexemes.{LexemeView, are_digits, closing_brace, in_class, lexeme_at, number, number_at, number_in, opening_brace, semicolon, word, word_at}
+use Rattle.info65.specs.Tokens.{Stream, TokenView, tokens_after, tokens_of}
+use Rattle.info65.specs.Values.{a_type, an_address, value_of}
+use Rattle.info65.specs.Views.{OptionsView}
+use Rattle.info65.specs.declared.fault.InfoFault.{InfoFault}
+use Rattle.info65.specs.declared.syntax.attribute.Attribute.{Attribute}
+use Rattle.info65.specs.declared.syntax.attribute.Attribute.TheVariants as attribute
+use Rattle.info65.specs.declared.syntax.attribute.Form.TheVariants as form
+use Rattle.info65.specs.declared.syntax.attribute.GroupKind.TheVariants as group
+use Rattle.info65.specs.declared.information.range.RangeSpec.{RangeSpec}
+use Rattle.info65.specs.declared.information.range.RangeType.{RangeType}
+use Rattle.info65.specs.declared.information.range.RangeType.TheVariants as role
+use Rattle.map65.specs.ImageView.{ImageView}
+use Rattle.info65.proofs.Public.{after_tokens, range_items, spells-append}
+use Rattle.reach65.specs.TextLaws.{AreLines, comment_line, is_line}
+use Rattle.reach65.specs.RangeLines.{dots_above, range_bytes, range_line, range_lines, shown_byte, shown_bytes}
+
+-- ---- tokens that are these items, and then those of a stream
+
+pub record Opens (o : OptionsView) (items : List Item) (all rest : Stream) : Type 0 where
+  pub tokens : List TokenView
+  pub is : all ≡ after_tokens tokens rest
+  pub spelled : Spells o items tokens
+
+pub opens-none : (o : OptionsView) (s : Stream) → Opens o [] s s
+opens-none o s = record { tokens = []; is = refl; spelled = tt }
+
+opens-then : (o : OptionsView) (items more : List Item) (all middle rest : Stream) → Opens o items all middle → Opens o more middle rest → Opens o (items ++ more) all rest
+opens-then o items more all middle rest first second = record {
+  tokens = first.tokens ++ second.tokens;
+  is = first.is ∙ ap (after_tokens first.tokens) second.is ∙ rw (append_assoc first.tokens second.tokens rest.tokens) refl;
+  spelled = spells-append o items more first.tokens second.tokens first.spelled second.spelled;
+}
+
+-- ---- the words of a line
+
+abbrev a_word : ℕ → List ℕ → TokenView
+a_word line text = record { kind = word; text = text; line = line }
+
+abbrev start_items : List Item
+start_items = group_name group.Range ∷ mark opening_brace ∷ attribute_name group.Range attribute.Start ∷ []
+
+start-opens : (o : OptionsView) (line : ℕ) (rest : List ℕ) → Opens o start_items (tokens_of line (codes "RANGE { START " ++ rest)) (tokens_of line rest)
+unfolding tokens_after lexeme_at word_at in_class group_named attribute_named
+start-opens o line rest = record {
+  tokens = a_word line (codes "RANGE") ∷ record { kind = opening_brace; text = codes "{"; line = line } ∷ a_word line (codes "START") ∷ [];
+  is = refl;
+  spelled = ((refl, refl), (refl, ((refl, refl), tt)));
+}
+
+end-opens : (o : OptionsView) (line : ℕ) (rest : List ℕ) → Opens o (attribute_name group.Range attribute.End ∷ []) (tokens_of line (codes " END " ++ rest)) (tokens_of line rest)
+unfolding tokens_after lexeme_at word_at in_class attribute_named
+end-opens o line rest = record { tokens = a_word line (codes "END") ∷ []; is = refl; spelled = ((refl, refl), tt) }
+
+abbrev type_items : RangeType → List Item
+type_items t = attribute_name group.Range attribute.Role ∷ value attribute.Role (a_type t) ∷ mark semicolon ∷ mark closing_brace ∷ mark semicolon ∷ []
+
+abbrev type_tokens : ℕ → List ℕ → List TokenView
+type_tokens line text =
+    a_word line (codes "TYPE") ∷ a_word line text ∷ record { kind = semicolon; text = codes ";"; line = line } ∷ record { kind = closing_brace; text = codes "}"; line = line }
+    ∷ record { kind = semicolon; text = codes ";"; line = line } ∷ []
+
+text-opens : (o : OptionsView) (line : ℕ) (rest : List ℕ) → Opens o (type_items role.TextTable) (tokens_of line (codes " TYPE TextTable; }; # " ++ rest)) (tokens_after 0 true line rest)
+unfolding tokens_after lexeme_at word_at in_class attribute_named value_of form_of type_named
+text-opens o line rest = record { tokens = type_tokens line (codes "TextTable"); is = refl; spelled = ((refl, refl), (refl, (refl, (refl, (refl, tt))))) }
+
+bytes-opens : (o : OptionsView) (line : ℕ) (rest : List ℕ) → Opens o (type_items role.ByteTable) (tokens_of line (codes " TYPE ByteTable; }; # " ++ rest)) (tokens_after 0 true line rest)
+unfolding tokens_after lexeme_at word_at in_class attribute_named value_of form_of type_named
+bytes-opens o line rest = record { tokens = type_tokens line (codes "ByteTable"); is = refl; spelled = ((refl, refl), (refl, (refl, (refl, (refl, tt))))) }
+
+-- ---- a number of four hex digits
+
+hex-is-digit : (d : ℕ) → d < 16 → is_ascii_hexdigit (hex_digit d) ≡ true
+hex-is-digit d low = grind (arith, nat_tests)
+
+hex-value : (d : ℕ) → d < 16 → digit_value (hex_digit d) ≡ d
+hex-value d low = grind (arith, nat_tests)
+
+below-16 : (n : ℕ) → n % 16 < 16
+below-16 n = omega arith
+
+digits-number : (a b c d va vb vc vd : ℕ) → digit_value a ≡ va → digit_value b ≡ vb → digit_value c ≡ vc → digit_value d ≡ vd → va < 16 → vb < 16 → vc < 16 → vd < 16
+    → number_in 16 (a ∷ b ∷ c ∷ d ∷ []) ≡ Some (((va * 16 + vb) * 16 + vc) * 16 + vd)
+unfolding number_in
+digits-number a b c d va vb vc vd a_is b_is c_is d_is a_low b_low c_low d_low =
+    let total : digits_value 16 (a ∷ b ∷ c ∷ d ∷ []) ≡ ((va * 16 + vb) * 16 + vc) * 16 + vd = rw (a_is, b_is, c_is, d_is) (omega arith) in
+    let digits : are_digits 16 (a ∷ b ∷ c ∷ d ∷ []) ≡ true = rw (a_is, b_is, c_is, d_is, lt-ltb va 16 a_low, lt-ltb vb 16 b_low, lt-ltb vc 16 c_low, lt-ltb vd 16 d_low) refl in
+    let small : nat_le (((va * 16 + vb) * 16 + vc) * 16 + vd) 0xFFFF_FFFF ≡ true = le-leb _ _ (omega (arith, a_low, b_low, c_low, d_low)) in
+    rw (digits, total, small) refl
+
+hex-lexeme : (line a b c d v : ℕ) (rest : List ℕ) → is_ascii_hexdigit a ≡ true → is_ascii_hexdigit b ≡ true → is_ascii_hexdigit c ≡ true → is_ascii_hexdigit d ≡ true → number_in 16 (a ∷ b ∷ c ∷ d ∷ []) ≡ Some v
+    → lexeme_at line (36 ∷ a ∷ b ∷ c ∷ d ∷ 59 ∷ rest) ≡ Ok (record { kind = number v; more = 4 })
+unfolding lexeme_at number_at in_class
+hex-lexeme line a b c d v rest a_is b_is c_is d_is is = rw (a_is, b_is, c_is, d_is, is) refl
+
+semicolon-lexeme : (line : ℕ) (rest : List ℕ) → lexeme_at line (59 ∷ rest) ≡ Ok (record { kind = semicolon; more = 0 })
+unfolding lexeme_at
+semicolon-lexeme line rest = refl
+
+four-digits : (line n : ℕ) (rest : List ℕ) → n ≤ 0xFFFF → lexeme_at line (36 ∷ (digits4 n ++ 59 ∷ rest)) ≡ Ok (record { kind = number n; more = 4 })
+four-digits line n rest low =
+    let va : ℕ = n / 4096 % 16 in
+    let vb : ℕ = n / 256 % 16 in
+    let vc : ℕ = n / 16 % 16 in
+    let vd : ℕ = n % 16 in
+    let al = below-16 (n / 4096) in
+    let bl = below-16 (n / 256) in
+    let cl = below-16 (n / 16) in
+    let dl = below-16 n in
+    let value : ((va * 16 + vb) * 16 + vc) * 16 + vd ≡ n = omega (arith, low) in
+    hex-lexeme line (hex_digit va) (hex_digit vb) (hex_digit vc) (hex_digit vd) n rest (hex-is-digit va al) (hex-is-digit vb bl) (hex-is-digit vc cl) (hex-is-digit vd dl)
+    (digits-number (hex_digit va) (hex_digit vb) (hex_digit vc) (hex_digit vd) va vb vc vd (hex-value va al) (hex-value vb bl) (hex-value vc cl) (hex-value vd dl) al bl cl dl ∙ ap (λ k. Some k) value)
+
+abbrev number_items : Attribute → ℕ → List Item
+number_items a n = value a (an_address n) ∷ mark semicolon ∷ []
+
+address-of : (o : OptionsView) (a : Attribute) (line n : ℕ) (text : List ℕ) → form_of a ≡ form.Address → n ≤ 0xFFFF → value_of o a (record { kind = number n; text = text; line = line }) ≡ Ok (an_address n)
+unfolding value_of
+address-of o a line n text is low = rw (is, le-leb n 0xFFFF low) refl
+
+number-opens : (o : OptionsView) (a : Attribute) (line n : ℕ) (rest : List ℕ) → form_of a ≡ form.Address → n ≤ 0xFFFF → Opens o (number_items a n) (tokens_of line (36 ∷ (digits4 n ++ 59 ∷ rest))) (tokens_of line rest)
+unfolding tokens_after
+number-opens o a line n rest is low =
+    let text : List ℕ = take 5 (36 ∷ (digits4 n ++ 59 ∷ rest)) in
+    record {
+      tokens = record { kind = number n; text = text; line = line } ∷ record { kind = semicolon; text = codes ";"; line = line } ∷ [];
+      is = rw (four-digits line n rest low, semicolon-lexeme line rest) refl;
+      spelled = (address-of o a line n text is low, (refl, tt));
+    }
+
+start-form : form_of attribute.Start ≡ form.Address
+unfolding form_of
+start-form = refl
+
+end-form : form_of attribute.End ≡ form.Address
+unfolding form_of
+end-form = refl
+
+-- ---- comments
+
+pub comment-passed : (line : ℕ) (bs rest : List ℕ) → is_line bs ≡ true → tokens_after 0 true line (bs ++ 10 ∷ rest) ≡ tokens_of (line + 1) rest
+unfolding tokens_after
+comment-passed line [] rest is = refl
+comment-passed line (b ∷ bs) rest is =
+    let parts = and_parts (not (b == 10)) (is_line bs) is in
+    rw (off (b == 10) parts.0) (comment-passed line bs rest parts.1)
+  where
+    off : (x : Bool) → not x ≡ true → x ≡ false
+    off true is = cc
+    off false is = refl
+
+shown-line : (bs : List ℕ) → is_line (map shown_byte bs) ≡ true
+shown-line [] = refl
+shown-line (b ∷ bs) = rw (shown b, shown-line bs) refl
+  where
+    shown : (b : ℕ) → not (shown_byte b == 10) ≡ true
+    shown b = grind (arith, nat_tests)
+
+lines-append : (bs cs : List ℕ) → is_line bs ≡ true → is_line cs ≡ true → is_line (bs ++ cs) ≡ true
+lines-append [] cs first second = second
+lines-append (b ∷ bs) cs first second =
+    let parts = and_parts (not (b == 10)) (is_line bs) first in
+    rw (parts.0, lines-append bs cs parts.1 second) refl
+
+dots-line : (n : ℕ) → is_line (dots_above n) ≡ true
+dots-line n = by_size (nat_lt 32 n)
+  where
+    by_size : (x : Bool) → is_line (if x then codes " .." else []) ≡ true
+    by_size true = refl
+    by_size false = refl
+
+shown-is-line : (bs : List ℕ) → is_line (shown_bytes bs) ≡ true
+unfolding shown_bytes
+shown-is-line bs = lines-append (map shown_byte (take 32 bs)) (dots_above (length bs)) (shown-line (take 32 bs)) (dots-line (length bs))
+
+-- ---- the line of a range
+
+-- a range that is proposed has one of two types
+abbrev pub IsTable : RangeType → Type 0
+IsTable t = (t ≡ role.TextTable) ⊎ (t ≡ role.ByteTable)
+
+-- the line up to its type, and what comes after that
+abbrev up-to-type : RangeSpec → List ℕ → List ℕ
+up-to-type r rest = codes "RANGE { START " ++ (36 ∷ (digits4 r.first ++ 59 ∷ (codes " END " ++ (36 ∷ (digits4 r.last ++ 59 ∷ rest)))))
+
+abbrev range_front : RangeSpec → List Item
+range_front r = start_items ++ (number_items attribute.Start r.first ++ (attribute_name group.Range attribute.End ∷ number_items attribute.End r.last))
+
+front-opens : (o : OptionsView) (line : ℕ) (r : RangeSpec) (rest : List ℕ) → r.first ≤ 0xFFFF → r.last ≤ 0xFFFF → Opens o (range_front r) (tokens_of line (up-to-type r rest)) (tokens_of line rest)
+front-opens o line r rest first_low last_low =
+    let four = number-opens o attribute.End line r.last rest end-form last_low in
+    let three = end-opens o line (36 ∷ (digits4 r.last ++ 59 ∷ rest)) in
+    let two = number-opens o attribute.Start line r.first (codes " END " ++ (36 ∷ (digits4 r.last ++ 59 ∷ rest))) start-form first_low in
+    let one = start-opens o line (36 ∷ (digits4 r.first ++ 59 ∷ (codes " END " ++ (36 ∷ (digits4 r.last ++ 59 ∷ rest))))) in
+    opens-then o _ _ _ _ _ one (opens-then o _ _ _ _ _ two (opens-then o _ _ _ _ _ three four))
+
+text-line : (image : ImageView) (first last : ℕ) (rest : List ℕ)
+    → range_line image (record { first = first; last = last; role = role.TextTable }) ++ rest
+    ≡ up-to-type (record { first = first; last = last; role = role.TextTable }) (codes " TYPE TextTable; }; # " ++ (shown_bytes (range_bytes image (record { first = first; last = last; role = role.TextTable })) ++ 10 ∷ rest))
+unfolding range_line
+text-line image first last rest = rw (append_assoc (shown_bytes (range_bytes image (record { first = first; last = last; role = role.TextTable }))) (10 ∷ []) rest) refl
+
+bytes-line : (image : ImageView) (first last : ℕ) (rest : List ℕ)
+    → range_line image (record { first = first; last = last; role = role.ByteTable }) ++ rest
+    ≡ up-to-type (record { first = first; last = last; role = role.ByteTable }) (codes " TYPE ByteTable; }; # " ++ (shown_bytes (range_bytes image (record { first = first; last = last; role = role.ByteTable })) ++ 10 ∷ rest))
+unfolding range_line
+bytes-line image first last rest = rw (append_assoc (shown_bytes (range_bytes image (record { first = first; last = last; role = role.ByteTable }))) (10 ∷ []) rest) refl
+
+-- the rest of a line, from its type on
+rest-opens : (o : OptionsView) (line : ℕ) (t : RangeType) (all : Stream) (bs rest : List ℕ) → is_line bs ≡ true → Opens o (type_items t) all (tokens_after 0 true line (bs ++ 10 ∷ rest)) → Opens o (type_items t) all (tokens_of (line + 1) rest)
+rest-opens o line t all bs rest is opens = rw (comment-passed line bs rest is) at opens
+
+range-opens : (o : OptionsView) (image : ImageView) (line first last : ℕ) (t : RangeType) (rest : List ℕ) → IsTable t → first ≤ 0xFFFF → last ≤ 0xFFFF
+    → Opens o (range_items (record { first = first; last = last; role = t } ∷ [])) (tokens_of line (range_line image (record { first = first; last = last; role = t }) ++ rest)) (tokens_of (line + 1) rest)
+range-opens o image line first last role.TextTable rest table first_low last_low =
+    let r : RangeSpec = record { first = first; last = last; role = role.TextTable } in
+    let shown : List ℕ = shown_bytes (range_bytes image r) in
+    let tail = rest-opens o line role.TextTable _ shown rest (shown-is-line (range_bytes image r)) (text-opens o line (shown ++ 10 ∷ rest)) in
+    rw (text-line image first last rest) (opens-then o (range_front r) (type_items role.TextTable) _ _ _ (front-opens o line r (codes " TYPE TextTable; }; # " ++ (shown ++ 10 ∷ rest)) first_low last_low) tail)
+range-opens o image line first last role.ByteTable rest table first_low last_low =
+    let r : RangeSpec = record { first = first; last = last; role = role.ByteTable } in
+    let shown : List ℕ = shown_bytes (range_bytes image r) in
+    let tail = rest-opens o line role.ByteTable _ shown rest (shown-is-line (range_bytes image r)) (bytes-opens o line (shown ++ 10 ∷ rest)) in
+    rw (bytes-line image first last rest) (opens-then o (range_front r) (type_items role.ByteTable) _ _ _ (front-opens o line r (codes " TYPE ByteTable; }; # " ++ (shown ++ 10 ∷ rest)) first_low last_low) tail)
+range-opens o image line first last role.Code rest (inl is) first_low last_low = cc
+range-opens o image line first last role.Code rest (inr is) first_low last_low = cc
+range-opens o image line first last role.WordTable rest (inl is) first_low last_low = cc
+range-opens o image line first last role.WordTable rest (inr is) first_low last_low = cc
+range-opens o image line first last role.DbyteTable rest (inl is) first_low last_low = cc
+range-opens o image line first last role.DbyteTable rest (inr is) first_low last_low = cc
+range-opens o image line first last role.DwordTable rest (inl is) first_low last_low = cc
+range-opens o image line first last role.DwordTable rest (inr is) first_low last_low = cc
+range-opens o image line first last role.AddrTable rest (inl is) first_low last_low = cc
+range-opens o image line first last role.AddrTable rest (inr is) first_low last_low = cc
+range-opens o image line first last role.RtsTable rest (inl is) first_low last_low = cc
+range-opens o image line first last role.RtsTable rest (inr is) first_low last_low = cc
+range-opens o image line first last role.Skip rest (inl is) first_low last_low = cc
+range-opens o image line first last role.Skip rest (inr is) first_low last_low = cc
+
+-- ---- lines of ranges, and of comments
+
+-- ranges of these types within the address space
+abbrev pub AreTables : List RangeSpec → Type 0
+AreTables [] = Unit {0}
+AreTables (r ∷ rs) = IsTable r.role × (r.first ≤ r.last) × (r.last ≤ 0xFFFF) × AreTables rs
+
+-- where reading goes on, some lines later
+pub record Later (o : OptionsView) (items : List Item) (all : Stream) (rest : List ℕ) : Type 0 where
+  pub line : ℕ
+  pub opens : Opens o items all (tokens_of line rest)
+
+pub later-then : (o : OptionsView) (items more : List Item) (all : Stream) (line : ℕ) (middle rest : List ℕ) → Opens o items all (tokens_of line middle) → Later o more (tokens_of line middle) rest → Later o (items ++ more) all rest
+later-then o items more all line middle rest first second = record { line = second.line; opens = opens-then o items more all (tokens_of line middle) (tokens_of second.line rest) first second.opens }
+
+pub ranges-open : (o : OptionsView) (image : ImageView) (line : ℕ) (ranges : List RangeSpec) (rest : List ℕ) → AreTables ranges → Later o (range_items ranges) (tokens_of line (range_lines image ranges ++ rest)) rest
+unfolding range_lines
+ranges-open o image line [] rest are = record { line = line; opens = opens-none o (tokens_of line rest) }
+ranges-open o image line (r ∷ rs) rest are =
+    rw (append_assoc (range_line image r) (range_lines image rs) rest)
+    (later-then o (range_items (r ∷ [])) (range_items rs) _ (line + 1) (range_lines image rs ++ rest) rest
+    (range-opens o image line r.first r.last r.role (range_lines image rs ++ rest) are.0 (omega (arith, are.1, are.2)) are.2) (ranges-open o image (line + 1) rs rest are.3))
+
+pub comments-open : (o : OptionsView) (line : ℕ) (comments : List (List ℕ)) (rest : List ℕ) → AreLines comments → Later o [] (tokens_of line (flat_map comment_line comments ++ rest)) rest
+unfolding tokens_after
+comments-open o line [] rest are = record { line = line; opens = opens-none o (tokens_of line rest) }
+comments-open o line (c ∷ cs) rest are =
+    let more = comments-open o (line + 1) cs rest are.1 in
+    rw (append_assoc c (10 ∷ []) (flat_map comment_line cs), append_assoc c (10 ∷ flat_map comment_line cs) rest, comment-passed line c (flat_map comment_line cs ++ rest) are.0) more

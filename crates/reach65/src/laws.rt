@@ -1,0 +1,17 @@
+//! The laws of what is proposed, each stated by a function that does nothing.
+
+ghost use Rattle.map65.specs.MapView.{MapView};
+ghost use Rattle.reach65.specs.Laws.{CodeLaw};
+ghost use Rattle.reach65.specs.TextLaws.{TextLaw};
+
+/// With the ranges that are proposed besides those that were given, each reached instruction is an item of the map, if no
+/// two of them share a byte and each lies in one run.
+pub fn code_law()
+    ensures { (m : MapView) → CodeLaw m }
+{}
+
+/// The text of what is proposed, after the information file that was given: both are accepted, and say what the file says,
+/// with the ranges that are proposed after its own.
+pub fn text_law()
+    ensures { (m : MapView) → TextLaw m }
+{}
