@@ -77,10 +77,8 @@ tail : (b : ℕ) (bytes : List ℕ) → AreBytes (b ∷ bytes) → AreBytes byte
 tail b bytes are = All-tail (λ b. b < 256) b bytes are
 
 two_bytes : (P : List ℕ → Type 0) (bytes : List ℕ) → length bytes ≡ 2 → AreBytes bytes → ((a b : ℕ) → a < 256 → b < 256 → P (a ∷ b ∷ [])) → P bytes
-two_bytes P [] long are all = absurd (omega (arith, long))
-two_bytes P (a ∷ []) long are all = absurd (omega (arith, long))
 two_bytes P (a ∷ b ∷ []) long are all = all a b (head a (b ∷ []) are) (head b [] (tail a (b ∷ []) are))
-two_bytes P (a ∷ b ∷ c ∷ bytes) long are all = absurd (omega (arith, long))
+two_bytes P _ long are all = absurd (omega (arith, long))
 
 four_bytes : (P : List ℕ → Type 0) (bytes : List ℕ) → length bytes ≡ 4 → AreBytes bytes → ((a b c e : ℕ) → a < 256 → b < 256 → c < 256 → e < 256 → P (a ∷ b ∷ c ∷ e ∷ [])) → P bytes
 four_bytes P [] long are all = absurd (omega (arith, long))

@@ -2,12 +2,11 @@
 use Rattle.std.proofs.Common.{◌≡◌, ℕ, zero, suc, Bool, true, false, eqb, ltb, ◌-◌, ◌/◌, ◌%◌, ◌<◌, List, [], ◌∷◌, ◌++◌, length, reverse, replicate, Option, Some, None, refl, arith}
 use Rattle.std.specs.Prelude.{◌==◌, not, codes, map}
 use Rattle.std.specs.List.{list_all, flat_map}
-use Rattle.std.specs.Char.{digit_value, is_ascii_digit}
+use Rattle.std.specs.Char.{is_ascii_digit}
 use Rattle.std.specs.Fmt.{decimal}
 use Rattle.std.specs.Str.Parse.{AllDigits}
 use Rattle.std.proofs.lemmas.Bool.Decides.{nat_tests}
 use Rattle.std.proofs.lemmas.Fmt.{decimal_is_IsNumeral}
-use Rattle.std.proofs.lemmas.Str.Parse.{digit_from_value}
 use Rattle.isa65.specs.Cpu.{cpu_text}
 use Rattle.isa65.specs.Mnemonic.{text_of}
 use Rattle.isa65.specs.declared.cpu.Cpu.{Cpu}
@@ -37,7 +36,7 @@ use Rattle.stmt65.specs.Printed.{HasNames, HasLabelName}
 use Rattle.stmt65.specs.Code.Widths.{IsInWidth}
 use Rattle.stmt65.specs.Views.{ExprView, OperandsView, TargetView, StatementView, RemarksView}
 use Rattle.stmt65.specs.Views as view
-use Rattle.stmt65.proofs.Lexed.{IsWordText}
+use Rattle.stmt65.proofs.Lexed.{IsWordText, is_digit}
 use Rattle.stmt65.proofs.ReadBack.{IsRead, AreRead, are_read, name_word, name_quotes}
 use Rattle.stmt65.proofs.TableReads.{is_sound, cut_sound}
 use Rattle.stmt65.proofs.Cases.{both, by_test}
@@ -89,9 +88,6 @@ hex2_line n = rw (hex (n / 16 % 16), hex (n % 16)) refl
 
 hex4_line : (n : ℕ) → InLine (hex4 n)
 hex4_line n = rw (hex (n / 4096 % 16), hex (n / 256 % 16), hex (n / 16 % 16), hex (n % 16)) refl
-
-is_digit : (d : ℕ) → digit_value d < 10 → is_ascii_digit d ≡ true
-is_digit d h = let r = digit_from_value d h in grind (arith, nat_tests)
 
 digits_line : (ds : List ℕ) → AllDigits 10 ds → InLine ds
 digits_line [] h = refl

@@ -9,10 +9,10 @@ use Rattle.std.proofs.lemmas.List.Folds.{list_all-append}
 use Rattle.text65.specs.Names.{is_word_byte}
 use Rattle.stmt65.specs.Lexing.{is_blank, is_word_start, is_text_byte, hex_len, part_at, parts, parts_after}
 use Rattle.stmt65.specs.Parts.{Part, Mark, begins_with}
-use Rattle.stmt65.specs.SourceLine.{Value, NumberValue, NameValue, Form, Empty, Accumulator, Immediate, Direct, DirectX, DirectY, Two, Indirect, IndirectX, IndirectY, Datum, NumberDatum, StringDatum, Operation, Nothing, Instr, SourceLine, Assignment, PlaceAssignment, Statement}
+use Rattle.stmt65.specs.SourceLine.{Value, NumberValue, NameValue, Form, Direct, DirectX, DirectY, Datum, NumberDatum, StringDatum, Operation, Nothing, Instr, SourceLine, Assignment, PlaceAssignment, Statement}
 use Rattle.stmt65.specs.Spelling as item
 use Rattle.stmt65.specs.Spelling.{Item, IsPlus, IsMinus, IsValue, IsDatum, IsList, IsItem, Spells, IsSpelling, form_items, operation_items, line_items}
-use Rattle.stmt65.specs.declared.source_line.AddressSize.TheVariants.{Absolute, Automatic}
+use Rattle.stmt65.specs.declared.source_line.AddressSize.TheVariants.{Absolute}
 use Rattle.stmt65.specs.declared.source_line.Minus.{Minus}
 use Rattle.stmt65.specs.declared.source_line.Minus.TheVariants.{Zero, One}
 use Rattle.stmt65.proofs.Cases.{by_test, both}
@@ -156,18 +156,9 @@ spells_closed (i ∷ is) ps k h =
 
 form_closed : (f : Form) → list_all is_closed_item (form_items f) ≡ true
 form_closed (Direct Absolute v) = refl
-form_closed (Direct Automatic v) = refl
 form_closed (DirectX Absolute v) = refl
-form_closed (DirectX Automatic v) = refl
 form_closed (DirectY Absolute v) = refl
-form_closed (DirectY Automatic v) = refl
-form_closed Empty = refl
-form_closed Accumulator = refl
-form_closed (Immediate v) = refl
-form_closed (Two v w) = refl
-form_closed (Indirect v) = refl
-form_closed (IndirectX v) = refl
-form_closed (IndirectY v) = refl
+form_closed _ = refl
 
 operation_closed : (o : Operation) → list_all is_closed_item (operation_items o) ≡ true
 operation_closed (Instr m f) = form_closed f

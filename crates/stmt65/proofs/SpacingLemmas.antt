@@ -3,7 +3,7 @@ use Rattle.std.proofs.Common.{◌≡◌, ℕ, zero, suc, Bool, true, false, eqb,
 use Rattle.std.specs.Prelude.{◌⊎◌, ◌&&◌, ◌||◌, nat_lt}
 use Rattle.std.specs.List.{prefix_len, list_all}
 use Rattle.std.specs.Char.{is_ascii_digit, is_ascii_hexdigit}
-use Rattle.std.proofs.lemmas.Bool.{ltb-true, lt-ltb, eqb-true}
+use Rattle.std.proofs.lemmas.Bool.{ltb-true, lt-ltb, eqb-true, or_parts}
 use Rattle.std.proofs.lemmas.Bool.Decides.{nat_tests}
 use Rattle.std.proofs.lemmas.List.{take_at, drop_at, length-append, length-drop, length-take, length-take-le, take-append-drop}
 use Rattle.text65.specs.Names.{is_word_byte}
@@ -12,7 +12,8 @@ use Rattle.stmt65.specs.Lexing.{is_blank, is_word_start, is_text_byte, hex_len, 
 use Rattle.stmt65.specs.Spacing.{IsDecimal, IsHex, is_alone, IsText, IsRemark, IsSpacing}
 use Rattle.stmt65.specs.ReadingLaws.{TakesParts}
 use Rattle.stmt65.proofs.PartLemmas.{parts_nil, parts_blank, parts_remark, parts_part}
-use Rattle.stmt65.proofs.Cases.{by_test, both, neither, not_true}
+use Rattle.stmt65.proofs.Cases.{by_test, both, not_true}
+use Rattle.stmt65.proofs.Lexed.{digit_no_word}
 
 -- ---- runs of bytes
 
@@ -91,16 +92,13 @@ record IsBest (found : Part × ℕ) (q : Part) (n : ℕ) : Type 0 where
   bound : n ≤ found.1 + 1
   same : n ≡ found.1 + 1 → q ≡ found.0
 
-digit_starts_none : (b : ℕ) → is_ascii_digit b ≡ true → is_word_start b ≡ false
-digit_starts_none b h = grind (arith, nat_tests)
-
 best_word : (b : ℕ) (w more : List ℕ) → is_word_start b ≡ true → list_all is_word_byte w ≡ true → IsBest (part_at b (w ++ more)) (Word (b ∷ w)) (suc (length w))
 unfolding part_at
 best_word b w more h g = rw h (record { bound = omega (arith, at_least is_word_byte w more g); same = λ e. let k : prefix_len is_word_byte (w ++ more) ≡ length w = omega arith in rw (k, take_at w more (length w) refl) refl })
 
 best_decimal : (b : ℕ) (ds more : List ℕ) → is_ascii_digit b ≡ true → list_all is_ascii_digit ds ≡ true → IsBest (part_at b (ds ++ more)) (Number (b ∷ ds)) (suc (length ds))
 unfolding part_at
-best_decimal b ds more h g = rw (digit_starts_none b h, h) (record { bound = omega (arith, at_least is_ascii_digit ds more g); same = λ e. let k : prefix_len is_ascii_digit (ds ++ more) ≡ length ds = omega arith in rw (k, take_at ds more (length ds) refl) refl })
+best_decimal b ds more h g = rw (digit_no_word b h, h) (record { bound = omega (arith, at_least is_ascii_digit ds more g); same = λ e. let k : prefix_len is_ascii_digit (ds ++ more) ≡ length ds = omega arith in rw (k, take_at ds more (length ds) refl) refl })
 
 best_hex : (ds more : List ℕ) → list_all is_ascii_hexdigit ds ≡ true → 0 < length ds → length ds ≤ 8 → IsBest (part_at 36 (ds ++ more)) (Number (36 ∷ ds)) (suc (length ds))
 unfolding part_at
@@ -118,7 +116,7 @@ unfolding part_at
 best_define more = record { bound = omega arith; same = λ e. refl }
 
 alone_begins : (b : ℕ) → is_alone b ≡ true → (is_word_start b ≡ false) × (is_ascii_digit b ≡ false)
-alone_begins b h = let n = neither (eqb b 59) _ (neither (is_blank b) _ (not_true (is_blank b || (eqb b 59 || (is_word_start b || is_ascii_digit b))) h)).1 in neither (is_word_start b) _ n.1
+alone_begins b h = let n = or_parts (eqb b 59) _ (or_parts (is_blank b) _ (not_true (is_blank b || (eqb b 59 || (is_word_start b || is_ascii_digit b))) h)).1 in or_parts (is_word_start b) _ n.1
 
 best_mark : (b : ℕ) (bs : List ℕ) → is_alone b ≡ true → IsBest (part_at b bs) (Mark b) 1
 unfolding part_at
@@ -202,8 +200,8 @@ text_begins (Number t) text h = rw h.0 (number_begins t h.1)
 text_begins (Text t) text h = (34, t ++ 34 ∷ [], h.0, refl, refl)
 text_begins Define text h = (58, 61 ∷ [], h, refl, refl)
 text_begins (Mark b) text h =
-    let n = neither (is_blank b) _ (not_true (is_blank b || (eqb b 59 || (is_word_start b || is_ascii_digit b))) h.1) in
-    (b, [], h.0, n.0, (neither (eqb b 59) (is_word_start b || is_ascii_digit b) n.1).0)
+    let n = or_parts (is_blank b) _ (not_true (is_blank b || (eqb b 59 || (is_word_start b || is_ascii_digit b))) h.1) in
+    (b, [], h.0, n.0, (or_parts (eqb b 59) (is_word_start b || is_ascii_digit b) n.1).0)
 
 again : (ps : List Part) (line : List ℕ) → IsSpacing ps line → parts line ≡ ps
 again [] line s = rw s.2 (parts_blanks s.0 s.1 s.3 ∙ go s.4)

@@ -68,16 +68,13 @@ IsPrintable (view.bytes bs) = (1 ≤ length bs) × (length bs ≤ 8)
 IsPrintable (view.text bs) = (1 ≤ length bs) × (length bs ≤ 16)
 IsPrintable (view.numbers d bs) = IsTable d bs
 IsPrintable (view.addr t) = IsNameLong t.name
-IsPrintable (view.rts None) = Unit {0}
 IsPrintable (view.rts (Some t)) = IsNameLong t.name
 IsPrintable (view.label name) = IsNameLong name
 IsPrintable (view.assignment name n) = IsNameLong name
 IsPrintable (view.forward name n) = IsNameLong name
 IsPrintable (view.segment name) = IsNameLong name
-IsPrintable view.code = Unit {0}
-IsPrintable (view.set_cpu cpu) = Unit {0}
-IsPrintable view.blank = Unit {0}
 IsPrintable (view.remark text) = (length text ≤ 200) × (list_all (λ b. not (b == 10)) text ≡ true)
+IsPrintable _ = Unit {0}
 
 -- an instruction or data
 abbrev pub TakesLabel : StatementView → Type 0

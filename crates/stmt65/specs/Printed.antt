@@ -91,20 +91,13 @@ HasNamesIn (view.two e f) = HasName e × HasName f
 -- The names of the statement are names; that of a segment may be reserved.
 abbrev pub HasNames : StatementView → Type 0
 HasNames (view.instr op absolute operands) = HasNamesIn operands
-HasNames (view.bytes bs) = Unit {0}
-HasNames (view.text bs) = Unit {0}
-HasNames (view.numbers d bs) = Unit {0}
 HasNames (view.addr t) = is_name t.name ≡ true
-HasNames (view.rts None) = Unit {0}
 HasNames (view.rts (Some t)) = is_name t.name ≡ true
 HasNames (view.label name) = is_name name ≡ true
 HasNames (view.assignment name n) = is_name name ≡ true
 HasNames (view.forward name n) = is_name name ≡ true
 HasNames (view.segment name) = has_name_form name ≡ true
-HasNames view.code = Unit {0}
-HasNames (view.set_cpu cpu) = Unit {0}
-HasNames view.blank = Unit {0}
-HasNames (view.remark text) = Unit {0}
+HasNames _ = Unit {0}
 
 -- A label is a name.
 abbrev pub HasLabelName : Option (List ℕ) → Type 0
@@ -117,3 +110,7 @@ pub record PrintsAs (bytes : List ℕ) (r : SourceLine) : Type 0 where
   pub ends : bytes ≡ line ++ 10 ∷ []
   pub one_line : list_all (λ b. not (b == 10)) line ≡ true
   pub reads : reading_of (parts line) ≡ Some r
+
+-- With names that are names, the bytes are one line that reads as the statement after this label.
+abbrev pub ReadsBack : StatementView → Option (List ℕ) → List ℕ → Type 0
+ReadsBack s label bytes = HasNames s → HasLabelName label → PrintsAs bytes (with_label label (source_line s))

@@ -1,5 +1,5 @@
 -- The widths of the numbers in a statement, as its types have them.
-use Rattle.std.specs.Prelude.{◌≡◌, ℕ, ◌<◌, true, List, Some, None, nat_lt}
+use Rattle.std.specs.Prelude.{◌≡◌, ℕ, ◌<◌, true, List, Some, nat_lt}
 use Rattle.std.specs.List.{list_all}
 use Rattle.stmt65.specs.Views.{ExprView, OperandsView, StatementView}
 use Rattle.stmt65.specs.Views as view
@@ -25,13 +25,7 @@ IsInWidth (view.bytes bs) = AreBytes bs
 IsInWidth (view.text bs) = AreBytes bs
 IsInWidth (view.numbers d bs) = AreBytes bs
 IsInWidth (view.addr t) = t.offset < 65536
-IsInWidth (view.rts None) = Unit {0}
 IsInWidth (view.rts (Some t)) = t.offset < 65536
-IsInWidth (view.label name) = Unit {0}
 IsInWidth (view.assignment name n) = n < 65536
 IsInWidth (view.forward name n) = n < 65536
-IsInWidth (view.segment name) = Unit {0}
-IsInWidth view.code = Unit {0}
-IsInWidth (view.set_cpu cpu) = Unit {0}
-IsInWidth view.blank = Unit {0}
-IsInWidth (view.remark text) = Unit {0}
+IsInWidth _ = Unit {0}

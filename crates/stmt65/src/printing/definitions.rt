@@ -59,7 +59,8 @@ pub(super) fn put_forward(
 )
     requires room { array_vec_len out.old ≤ 82 }
     requires name { IsNameLong name.now }
-    ensures items { out.new.items ≡ with_fields out.old.items (definition_fields columns.now name.now (codes "* + " ++ distance_text (in_hex offsets) distance)) }
+    ensures items { out.new.items ≡ with_fields out.old.items (definition_fields columns.now name.now
+        (codes "* + " ++ distance_text (in_hex offsets) distance)) }
     ensures len { array_vec_len out.new ≤ 340 }
 {
     start_definition(out, columns, name);

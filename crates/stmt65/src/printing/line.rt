@@ -7,7 +7,7 @@ ghost use Rattle.isa65.specs.Cpu.{cpu_text};
 ghost use Rattle.stmt65.specs.Directives.{directive_text};
 ghost use Rattle.stmt65.specs.Line.{filled, with_fields, line_of};
 ghost use Rattle.stmt65.specs.Printable.{IsNameLong, IsWrittenIn, IsTable, IsPrintable, MayBeLabelled};
-ghost use Rattle.stmt65.specs.Printed.{HasNames, HasLabelName, PrintsAs, source_line, with_label};
+ghost use Rattle.stmt65.specs.Printed.{ReadsBack};
 ghost use Rattle.stmt65.specs.Statements.{bytes_text, quoted, data_text, numbers_text, has_operand, return_text, instr_fields, with_operands, label_fields, remark_fields, fields_of};
 ghost use Rattle.stmt65.specs.Tables.{cut_text};
 ghost use Rattle.stmt65.specs.Code.StatementViews.{in_hex, operands_seen, target_seen, statement_seen, remarks_seen};
@@ -170,7 +170,8 @@ fn put_set_cpu(out: &mut Line, columns: &Columns, cpu: Cpu)
 fn put_addr(out: &mut Line, columns: &Columns, offsets: Offsets, target: Target)
     requires room { array_vec_len out.old ≤ 82 }
     requires name { IsNameLong target.name.now }
-    ensures items { out.new.items ≡ with_fields out.old.items (with_operands columns.now (codes ".addr") (named_text (in_hex offsets) target.entry.name.now target.entry.offset)) }
+    ensures items { out.new.items ≡ with_fields out.old.items (with_operands columns.now (codes ".addr")
+        (named_text (in_hex offsets) target.entry.name.now target.entry.offset)) }
     ensures len { array_vec_len out.new ≤ 340 }
     ensures width { target.entry.offset < 65536 }
 {
@@ -199,7 +200,8 @@ fn put_return(out: &mut Line, offsets: Offsets, target: Option<Target>)
 fn put_rts(out: &mut Line, columns: &Columns, offsets: Offsets, target: Option<Target>)
     requires room { array_vec_len out.old ≤ 82 }
     requires name { IsPrintable (view.rts (option_map target_seen target)) }
-    ensures items { out.new.items ≡ with_fields out.old.items (with_operands columns.now (codes ".word") (return_text (in_hex offsets) (option_map target_seen target.entry))) }
+    ensures items { out.new.items ≡ with_fields out.old.items (with_operands columns.now (codes ".word")
+        (return_text (in_hex offsets) (option_map target_seen target.entry))) }
     ensures len { array_vec_len out.new ≤ 340 }
     ensures width { IsInWidth (view.rts (option_map target_seen target.entry)) }
 {
@@ -286,7 +288,7 @@ pub fn put_line(out: &mut Line, columns: &Columns, statement: &Statement, remark
     requires label { MayBeLabelled columns.now (option_copied remarks.now.label) (statement_seen statement.now) }
     ensures line { out.new.items ≡ line_of columns.now (statement_seen statement.now) (remarks_seen remarks.now) ++ 10 ∷ [] }
     ensures fits { array_vec_len out.new ≤ 512 }
-    ensures reads { HasNames (statement_seen statement.now) → HasLabelName (option_copied remarks.now.label) → PrintsAs out.new.items (with_label (option_copied remarks.now.label) (source_line (statement_seen statement.now))) }
+    ensures reads { ReadsBack (statement_seen statement.now) (option_copied remarks.now.label) out.new.items }
 {
     out.clear();
     start_line(out, remarks.label);

@@ -52,7 +52,8 @@ fn put_entry(out: &mut Line, directive: Directive, bytes: &[u8])
 fn put_first_entry<'a>(out: &mut Line, directive: Directive, bytes: &'a [u8]) -> &'a [u8]
     requires some { entry_len directive ≤ length bytes.now }
     requires room { array_vec_len out.old + 3 * length bytes.now ≤ 512 }
-    ensures items { out.new.items ++ flat_map (next_text (entry_text directive)) (entries directive result.now) ≡ out.old.items ++ numbers_text directive bytes.now }
+    ensures items { out.new.items ++ flat_map (next_text (entry_text directive)) (entries directive result.now)
+        ≡ out.old.items ++ numbers_text directive bytes.now }
     ensures len { array_vec_len out.new + 3 * length result.now < array_vec_len out.old + 3 * length bytes.now }
     ensures fewer { length result.now < length bytes.now }
 {
