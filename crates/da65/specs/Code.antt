@@ -3,6 +3,7 @@ pub mod Bases
 pub mod KeySet
 pub mod Layout
 pub mod ListedGroups
+pub mod NamedCells
 pub mod Preparing
 pub mod Refusals
 pub mod SegmentReentry

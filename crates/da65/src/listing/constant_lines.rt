@@ -1,10 +1,12 @@
 //! The constant lines of a listing.
 
-ghost use Rattle.std.specs.Prelude.{◌≡◌, ◌+◌, ◌-◌, ◌<◌, ◌≤◌, [], ◌∷◌, IfSome, MatchOption, None, true};
+ghost use Rattle.std.specs.Prelude.{◌≡◌, ◌+◌, ◌-◌, ◌<◌, ◌≤◌, ℕ, [], ◌∷◌, IfSome, MatchOption, None, false, length, true};
 ghost use Rattle.std.specs.Bool.{OnTrue};
+ghost use Rattle.std.specs.List.{prefix_len};
 ghost use Rattle.stmt65.specs.Printable.{IsNameLong};
-ghost use Rattle.map65.specs.Names.{place_of};
+ghost use Rattle.map65.specs.Names.{has_name, place_of};
 ghost use Rattle.da65.specs.BaseNames.{base_name, is_constant, names_of};
+ghost use Rattle.da65.specs.Code.NamedCells.{is_unnamed};
 ghost use Rattle.da65.specs.Lines.{IsConstant, IsNext, constants_left};
 ghost use Rattle.da65.specs.Listing.{assignment_line, constants, has_constant_line, line_text};
 ghost use Rattle.da65.specs.Style.{style_of};
@@ -53,6 +55,30 @@ fn is_named_constant<A: Allocator>(
     true
 }
 
+/// How many of these cells of a map stand before the first whose address has a name.
+fn unnamed_before(cells: &[u16]) -> usize
+    ensures value { result ≡ prefix_len is_unnamed cells.now }
+    ensures fits { result ≤ length cells.now }
+{
+    cells
+        .iter()
+        .take_while(|cell| **cell / 128 % 2 == 0)
+        .count()
+}
+
+/// The first address from this one on that has a name, if it lies before `end`, else `end`.
+fn named_from<A: Allocator>(map: &Map<'_, A>, from: usize, end: usize) -> usize
+    requires order { from ≤ end }
+    requires bound { end ≤ 65536 }
+    ensures low { from ≤ result }
+    ensures high { result ≤ end }
+    ensures between { (a : ℕ) → from ≤ a → a < result → has_name map.now a ≡ false }
+{
+    let (before, _) = map.cells().split_at(end);
+    let (_, cells) = before.split_at(from);
+    from + unnamed_before(cells)
+}
+
 /// The first address from this one on and before `end` that has a constant line. The buffer holds its name.
 fn constant_before<A: Allocator>(
     listed: &ListedImage<'_, A>,
@@ -67,12 +93,13 @@ fn constant_before<A: Allocator>(
     ensures text { IfSome result (λ v. name.new.items ≡ base_name (names_of listed.now) v) }
     ensures long { IfSome result (λ v. IsNameLong name.new.items) }
 {
-    let mut at = from;
+    let map = listed.map();
+    let mut at = named_from(map, from, end);
     'addresses: while at < end {
         if is_named_constant(listed, at as u16, name) {
             return Some(at);
         }
-        at += 1;
+        at = named_from(map, at + 1, end);
     }
     None
 }

@@ -1,12 +1,22 @@
-use Rattle.std.proofs.Common.{◌≡◌, ◌∙◌, ◌-◌, ℕ, ap, arith, sym}
+use Rattle.std.proofs.Common.{◌≡◌, ◌∙◌, ◌-◌, ◌+◌, ℕ, ap, arith, false, subst, sym}
+use Rattle.map65.specs.MapView.{MapView}
+use Rattle.map65.specs.Names.{has_name}
 use Rattle.da65.specs.Listing.{constants}
+use Rattle.da65.proofs.ConstantLemmas.{constants-unnamed}
 use Rattle.da65.proofs.NextLemmas.{constants-next}
 use Rattle.da65.proofs.listing.constant_lines.constant_before.Goals as goal
 
+pub addresses-init : goal.addresses-init
+addresses-init g c = record {
+  same = constants-unnamed _ c.args.from c.named_from-at.result c.named_from-at.ensures.low (omega (arith, c.named_from-at.ensures.high, c.requires.bound)) (λ a low high. subst (λ (m : MapView). has_name m a ≡ false) c.map-map.ensures.map (c.named_from-at.ensures.between a low high));
+  bound = c.named_from-at.ensures.high;
+}
+
 pub addresses-preserved : goal.addresses-preserved
 addresses-preserved g c = record {
-  same = c.addresses.invariant.same ∙ constants-next _ c.addresses.at (omega (arith, c.addresses-test.true, c.requires.bound)) (sym c.is_named_constant.ensures.is ∙ c.if-is_named_constant.false);
-  bound = omega (arith, c.addresses-test.true);
+  same = c.addresses.invariant.same ∙ constants-next _ c.addresses.at (omega (arith, c.addresses-test.true, c.requires.bound)) (sym c.is_named_constant.ensures.is ∙ c.if-is_named_constant.false)
+      ∙ constants-unnamed _ (c.addresses.at + 1) c.named_from-at-in-addresses.result c.named_from-at-in-addresses.ensures.low (omega (arith, c.named_from-at-in-addresses.ensures.high, c.requires.bound)) (λ a low high. subst (λ (m : MapView). has_name m a ≡ false) c.map-map.ensures.map (c.named_from-at-in-addresses.ensures.between a low high));
+  bound = c.named_from-at-in-addresses.ensures.high;
 }
 
 pub returns-clause-lines : goal.returns-clause-lines
