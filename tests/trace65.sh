@@ -33,6 +33,25 @@ comes_back() {
     "$as65" -S "$start" --compare "$image" both.s || fails "$name" 'its listing gives other bytes'
 }
 
+# program_text SEED: the text of a random program, whose jumps pass over tables of bytes.
+program_text() {
+    awk -v seed="$1" 'BEGIN {
+        srand(seed); count = 2 + int(rand() * 30)
+        forms = split("nop;lda #$41;sta $0200;inx;ldy $20;jsr L1;bne L1;lda ($20),y;jsr L2;beq L2", form, ";")
+        for (block = 1; block <= count; block++) {
+            print "L" block ":"
+            for (k = int(rand() * 9); k >= 0; k--) print "        " form[1 + int(rand() * (block < 3 ? forms : forms - 4))]
+            print "        jmp L" (block < count ? block + 1 : 1)
+            for (k = int(rand() * 12); k > 0; k--) printf "        .byte $%02x\n", int(rand() * 256)
+        }
+    }'
+}
+
+# mnemonics TEXT: those of its instructions, in order.
+mnemonics() {
+    sed -nE 's/^([A-Za-z0-9_]+:)?[[:space:]]+([a-z]{3})([[:space:]].*)?$/\2/p' "$1"
+}
+
 # image NAME BYTES: a file of these bytes.
 image() {
     printf '%b' "$2" >"$1"
@@ -166,6 +185,17 @@ done
 for byte in 00 20 4c 60 ea 41 ff 0f; do
     head -c 65536 /dev/zero | tr '\0' "\\$(printf '%03o' "0x$byte")" >whole.bin
     comes_back "64 KiB of \$$byte" 0 whole.bin --cpu 65C02
+done
+
+# ---- each instruction that is reached stands in the listing
+
+for seed in $(seq 20); do
+    program_text "$seed" >code.s
+    "$as65" -S 0x2000 -o code.bin code.s || fails "random program $seed" 'not assembled'
+    comes_back "random program $seed" 0x2000 code.bin
+    mnemonics code.s >wanted.txt
+    mnemonics both.s >got.txt
+    same "instructions of random program $seed" got.txt wanted.txt
 done
 
 [ "$failed" = 0 ] && echo 'trace65: it proposes what it should, and each image comes back'
