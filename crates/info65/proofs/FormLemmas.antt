@@ -138,18 +138,15 @@ found_formed a (g ∷ gs) h =
 
 offset_in : (v : Option ValueView) → IfSome v (HasForm (form.Number 0 16_777_216)) → unwrap_or (as_number v) 0 ≤ 16_777_216
 offset_in (Some (a_number n)) h = h.1
-offset_in (Some _) h = omega arith
-offset_in None h = omega arith
+offset_in _ h = omega arith
 
 pub size_in : (v : Option ValueView) → IfSome v (HasForm (form.Number 1 0x1_0000)) → IfSome (as_number v) (λ n. (1 ≤ n) × (n ≤ 0x1_0000))
 size_in (Some (a_number n)) h = h
-size_in (Some _) h = tt
-size_in None h = tt
+size_in _ h = tt
 
 file_name_in : (v : Option ValueView) → IfSome v (HasForm form.FileName) → IfSome (as_name v) (λ t. is_file_name t ≡ true)
 file_name_in (Some (a_name t)) h = h
-file_name_in (Some _) h = tt
-file_name_in None h = tt
+file_name_in _ h = tt
 
 -- the names of files among such values are file names
 pub file_name_formed : (a : Attribute) (given : List AssignmentView) → form_of a ≡ form.FileName → AreFormed given → IfSome (as_name (value_in a given)) (λ t. is_file_name t ≡ true)
@@ -159,8 +156,7 @@ file_name_formed a given is h = file_name_in (value_in a given) (rw is at (found
 number_in : (o : Option ℕ) (low high : ℕ) (v : Option ValueView) (d : ℕ) (P : ℕ → Type 0) → IfSome o P → IfSome v (HasForm (form.Number low high)) → ((n : ℕ) → low ≤ n → n ≤ high → P n) → P d → P (unwrap_or (option_or o (as_number v)) d)
 number_in (Some n) low high v d P h f g k = h
 number_in None low high (Some (a_number n)) d P h f g k = g n f.0 f.1
-number_in None low high (Some _) d P h f g k = k
-number_in None low high None d P h f g k = k
+number_in None low high _ d P h f g k = k
 
 at_most_in : (f : Form) (v : Option ValueView) → IsAtMost 120 f → IfSome v (HasForm f) → IfSome (as_number v) (λ n. n ≤ 120)
 at_most_in (form.Number low high) (Some (a_number n)) h k = omega (arith, h, k.1)

@@ -129,10 +129,7 @@ part_few before kind.Include given (Ok i) new e few =
     let room = few_before before (room_for before kind.Include [] given attribute.File (a_name i.file) new (file_in given i e)) in
     rw e (omega (arith, room))
 part_few before kind.Include given (Err f) new e few = rw e (omega (arith, few))
-part_few before kind.Global given x new e few = omega (arith, few)
-part_few before kind.Range given x new e few = omega (arith, few)
-part_few before kind.Label given x new e few = omega (arith, few)
-part_few before kind.Segment given x new e few = omega (arith, few)
+part_few before _ given x new e few = omega (arith, few)
 
 groups_few : (before gs : List GroupView) → AreGroups before gs → length (includes_of before) ≤ 16 → length (includes_of (before ++ gs)) ≤ 16
 groups_few before [] h few = rw (append-nil before) few
@@ -201,11 +198,8 @@ closes before given h = by_part (include_in given) refl h
     by_part (Err w) e n = absurd cc
 
 said_more : (before : List GroupView) (k : GroupKind) (given : List AssignmentView) (gs : List GroupView) → AreFormed given → closing_fault before k given ≡ None → AreSaid gs (includes_of gs) → AreSaid (record { kind = k; given = given } ∷ gs) (include_part (record { kind = k; given = given }) ++ includes_of gs)
-said_more before kind.Global given gs f h said = said
-said_more before kind.Range given gs f h said = said
-said_more before kind.Label given gs f h said = said
-said_more before kind.Segment given gs f h said = said
 said_more before kind.Include given gs f h said = let c = closes before given h in rw c.1 (says given c.0 f c.1, said)
+said_more before _ given gs f h said = said
 
 groups_said : (before gs : List GroupView) → AreGroups before gs → AreAllFormed gs → AreSaid gs (includes_of gs)
 unfolding includes_of

@@ -28,41 +28,29 @@ global_kept gs = kept_says global_part same gs
   where
     same : (k : GroupKind) (given : List AssignmentView) → flat_map global_part (kept_part (record { kind = k; given = given })) ≡ global_part (record { kind = k; given = given })
     same kind.Global given = append-nil given
-    same kind.Range given = refl
-    same kind.Label given = refl
-    same kind.Segment given = refl
-    same kind.Include given = refl
+    same _ given = refl
 
 pub segments_kept : (gs : List GroupView) → segments_of (kept_of gs) ≡ segments_of gs
 unfolding segments_of kept_of
 segments_kept gs = kept_says segment_part same gs
   where
     same : (k : GroupKind) (given : List AssignmentView) → flat_map segment_part (kept_part (record { kind = k; given = given })) ≡ segment_part (record { kind = k; given = given })
-    same kind.Global given = refl
-    same kind.Range given = refl
-    same kind.Label given = refl
     same kind.Segment given = append-nil (segment_part (record { kind = kind.Segment; given = given }))
-    same kind.Include given = refl
+    same _ given = refl
 
 pub includes_kept : (gs : List GroupView) → includes_of (kept_of gs) ≡ includes_of gs
 unfolding includes_of kept_of
 includes_kept gs = kept_says include_part same gs
   where
     same : (k : GroupKind) (given : List AssignmentView) → flat_map include_part (kept_part (record { kind = k; given = given })) ≡ include_part (record { kind = k; given = given })
-    same kind.Global given = refl
-    same kind.Range given = refl
-    same kind.Label given = refl
-    same kind.Segment given = refl
     same kind.Include given = append-nil (include_part (record { kind = kind.Include; given = given }))
+    same _ given = refl
 
 -- so the tests of an attribute need no other groups
 
 before_kept : (gs : List GroupView) (k : GroupKind) → given_before (kept_of gs) k ≡ given_before gs k
 before_kept gs kind.Global = global_kept gs
-before_kept gs kind.Range = refl
-before_kept gs kind.Label = refl
-before_kept gs kind.Segment = refl
-before_kept gs kind.Include = refl
+before_kept gs _ = refl
 
 pub given_kept : (gs : List GroupView) (k : GroupKind) (given : List AssignmentView) (a : Attribute) → is_given (kept_of gs) k given a ≡ is_given gs k given a
 unfolding is_given

@@ -2,7 +2,7 @@
 use Rattle.std.proofs.Common.{◌≤◌, inl, inr, refl, arith}
 use Rattle.info65.specs.Layouts.{IsEntry, layout_of}
 use Rattle.info65.specs.declared.information.range.RangeType.{RangeType}
-use Rattle.info65.specs.declared.information.range.RangeType.TheVariants.{ByteTable, Code, DwordTable, Skip, TextTable, AddrTable, RtsTable}
+use Rattle.info65.specs.declared.information.range.RangeType.TheVariants.{ByteTable, Code, DwordTable, WordTable, DbyteTable}
 
 pub layout_some : (r : RangeType) → 1 ≤ (layout_of r).unit
 layout_some Code = omega arith
@@ -13,11 +13,8 @@ layout_line Code = omega arith
 layout_line _ = omega arith
 
 pub layout_entry : (r : RangeType) → IsEntry (layout_of r).unit (layout_of r).per_line (layout_of r).entry
-layout_entry Code = (refl, omega arith)
 layout_entry ByteTable = (inl refl, omega arith)
-layout_entry TextTable = (refl, omega arith)
-layout_entry AddrTable = (refl, omega arith)
-layout_entry RtsTable = (refl, omega arith)
-layout_entry Skip = (refl, omega arith)
+layout_entry WordTable = (inr (inl refl), omega arith)
+layout_entry DbyteTable = (inr (inl refl), omega arith)
 layout_entry DwordTable = (inr (inr (refl, refl)), omega arith)
-layout_entry _ = (inr (inl refl), omega arith)
+layout_entry _ = (refl, omega arith)

@@ -14,7 +14,7 @@ use Rattle.std.proofs.lemmas.Bool.{eq-eqb, eqb-true}
 use Rattle.text65.specs.Names.{has_name_form}
 use Rattle.info65.specs.Attributes.{form_of}
 use Rattle.info65.specs.Closing.{closing_fault, optional_name_fault}
-use Rattle.info65.specs.Comments.{comment_in, not_empty}
+use Rattle.info65.specs.Comments.{comment_in, unless_empty}
 use Rattle.info65.specs.Grammar.{AreGroups}
 use Rattle.info65.specs.Groups.{AreAllFormed, AreFormed, AssignmentView, GroupView, value_in}
 use Rattle.info65.specs.Labels.{by_address, is_at, label_from, label_in, label_sized, named, named_at, names_from, names_said, range_name}
@@ -140,7 +140,7 @@ comment_is : (given : List AssignmentView) → AreFormed given → IfSome (comme
 unfolding comment_in form_of
 comment_is given f = formed (value_in attribute.Comment given) (found_formed attribute.Comment given f)
   where
-    formed : (v : Option ValueView) → IfSome v (HasForm form.Comment) → IfSome (not_empty (as_comment v)) IsComment
+    formed : (v : Option ValueView) → IfSome v (HasForm form.Comment) → IfSome (unless_empty (as_comment v)) IsComment
     formed (Some (a_comment [])) h = tt
     formed (Some (a_comment (b ∷ bs))) h = record { some = omega arith; form = h }
     formed (Some _) h = tt

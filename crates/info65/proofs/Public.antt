@@ -4,4 +4,5 @@ pub use Rattle.info65.proofs.AppendedTokens.{after_tokens}
 pub use Rattle.info65.proofs.CoveringLemmas.{Last, last_name, none_covers, own_address_wins}
 pub use Rattle.info65.proofs.LayoutLemmas.{layout_entry, layout_line, layout_some}
 pub use Rattle.info65.proofs.NumberLemmas.{number_great, number_none, number_small}
+pub use Rattle.info65.proofs.ReservedLemmas.{like_default}
 pub use Rattle.info65.proofs.SegmentKeys.{covering_keyed, none_keyed, one_key, some_keyed}

@@ -68,18 +68,15 @@ from None e z t r h i = absurd cc
 
 pub address_is : (v : Option ValueView) (n : ℕ) → as_address v ≡ Some n → v ≡ Some (an_address n)
 address_is (Some (an_address m)) n h = let e : m ≡ n = cc in ap (λ x. Some (an_address x)) e
-address_is (Some _) n h = absurd cc
-address_is None n h = absurd cc
+address_is _ n h = absurd cc
 
 number_is : (v : Option ValueView) (n : ℕ) → as_number v ≡ Some n → v ≡ Some (a_number n)
 number_is (Some (a_number m)) n h = let e : m ≡ n = cc in ap (λ x. Some (a_number x)) e
-number_is (Some _) n h = absurd cc
-number_is None n h = absurd cc
+number_is _ n h = absurd cc
 
 type_is : (v : Option ValueView) (t : RangeType) → as_type v ≡ Some t → v ≡ Some (a_type t)
 type_is (Some (a_type u)) t h = let e : u ≡ t = cc in ap (λ x. Some (a_type x)) e
-type_is (Some _) t h = absurd cc
-type_is None t h = absurd cc
+type_is _ t h = absurd cc
 
 some_low : (z : Option ℕ) → IfSome z (λ n. (1 ≤ n) × (n ≤ 0x1_0000)) → IfSome z (λ n. 1 ≤ n)
 some_low (Some n) h = h.0
@@ -113,8 +110,7 @@ ordered_between f t None r h = absurd cc
 
 ordered_from : (s e z : Option ℕ) (t : Option RangeType) (r : RangeSpec) → range_from s e z t ≡ Ok r → r.first ≤ r.last
 ordered_from (Some f) e z (Some t) r h = ordered_between f t (last_from f e z) r h
-ordered_from (Some f) e z None r h = absurd cc
-ordered_from None e z t r h = absurd cc
+ordered_from _ e z _ r h = absurd cc
 
 pub ordered_in : (given : List AssignmentView) (r : RangeSpec) → range_in given ≡ Ok r → r.first ≤ r.last
 unfolding range_of_parts
@@ -126,8 +122,7 @@ low_between f t None r h = absurd cc
 
 low_from : (s e z : Option ℕ) (t : Option RangeType) (r : RangeSpec) → range_from s e z t ≡ Ok r → r.last ≤ 0xFFFF
 low_from (Some f) e z (Some t) r h = low_between f t (last_from f e z) r h
-low_from (Some f) e z None r h = absurd cc
-low_from None e z t r h = absurd cc
+low_from _ e z _ r h = absurd cc
 
 -- a range ends at or below $FFFF
 pub low_in : (given : List AssignmentView) (r : RangeSpec) → range_in given ≡ Ok r → r.last ≤ 0xFFFF
@@ -147,10 +142,7 @@ ordered_one r h (suc k) d l = absurd (omega (arith, l))
 ordered_part : (k : GroupKind) (given : List AssignmentView) (x : Result RangeSpec InfoFaultKind) → range_in given ≡ x → Ordered (range_part (record { kind = k; given = given }))
 ordered_part kind.Range given (Ok r) e = rw e (ordered_one r (ordered_in given r e))
 ordered_part kind.Range given (Err f) e = rw e ordered_none
-ordered_part kind.Global given x e = ordered_none
-ordered_part kind.Label given x e = ordered_none
-ordered_part kind.Segment given x e = ordered_none
-ordered_part kind.Include given x e = ordered_none
+ordered_part _ given x e = ordered_none
 
 pub ranges_ordered : (groups : List GroupView) → Ordered (ranges_of groups)
 unfolding ranges_of
@@ -241,13 +233,10 @@ apart_from r rs free k d l a there here =
     let yes = list_any_at (overlaps r) rs k d l (shared_overlap r (get_or rs k d) (a, here, there)) in absurd (let e : true ≡ false = sym yes ∙ free in cc)
 
 pairs_more : (before : List GroupView) (k : GroupKind) (given : List AssignmentView) → closing_fault before k given ≡ None → AllPairs AreApart (ranges_of before) → AllPairs AreApart (ranges_of before ++ range_part (record { kind = k; given = given }))
-pairs_more before kind.Global given h old = rw (append-nil (ranges_of before)) old
-pairs_more before kind.Label given h old = rw (append-nil (ranges_of before)) old
-pairs_more before kind.Segment given h old = rw (append-nil (ranges_of before)) old
-pairs_more before kind.Include given h old = rw (append-nil (ranges_of before)) old
 pairs_more before kind.Range given h old =
     let c = closes_range before given h in
     rw c.is (all_pairs_push AreApart (ranges_of before) c.range old (apart_from c.range (ranges_of before) c.free))
+pairs_more before _ given h old = rw (append-nil (ranges_of before)) old
 
 groups_apart : (before gs : List GroupView) → AreGroups before gs → AllPairs AreApart (ranges_of before) → AllPairs AreApart (ranges_of (before ++ gs))
 groups_apart before [] h old = rw (append-nil before) old
@@ -264,11 +253,8 @@ pub groups_sound : (groups : List GroupView) → AreGroups [] groups → AreRang
 groups_sound groups h = record { disjoint = record { each = groups_apart [] groups h none_apart }; ordered = ranges_ordered groups }
 
 said_more : (before : List GroupView) (k : GroupKind) (given : List AssignmentView) (gs : List GroupView) → closing_fault before k given ≡ None → AreFormed given → AreSaid gs (ranges_of gs) → AreSaid (record { kind = k; given = given } ∷ gs) (range_part (record { kind = k; given = given }) ++ ranges_of gs)
-said_more before kind.Global given gs h f said = said
-said_more before kind.Label given gs h f said = said
-said_more before kind.Segment given gs h f said = said
-said_more before kind.Include given gs h f said = said
 said_more before kind.Range given gs h f said = let c = closes_range before given h in rw c.is (says given c.range f c.is, said)
+said_more before _ given gs h f said = said
 
 groups_said : (before gs : List GroupView) → AreGroups before gs → AreAllFormed gs → AreSaid gs (ranges_of gs)
 unfolding ranges_of

@@ -21,7 +21,7 @@ use Rattle.info65.proofs.Cases.{by_test}
 upper : (d : ℕ) → d < 16 → is_upper_hex (hex_digit d) ≡ true
 upper d low = grind (arith, nat_tests)
 
-like_default : (a : ℕ) → is_like_default (default_name a) ≡ true
+pub like_default : (a : ℕ) → is_like_default (default_name a) ≡ true
 unfolding is_like_default default_name
 like_default a = rw (upper (a / 4096 % 16) (omega arith), upper (a / 256 % 16) (omega arith), upper (a / 16 % 16) (omega arith), upper (a % 16) (omega arith)) refl
 
@@ -46,13 +46,8 @@ record AreFive (text : List ℕ) : Type 0 where
   are : text ≡ a ∷ b ∷ c ∷ d ∷ e ∷ []
 
 five : (text : List ℕ) → length text ≡ 5 → AreFive text
-five [] h = absurd (omega (arith, h))
-five (a ∷ []) h = absurd (omega (arith, h))
-five (a ∷ b ∷ []) h = absurd (omega (arith, h))
-five (a ∷ b ∷ c ∷ []) h = absurd (omega (arith, h))
-five (a ∷ b ∷ c ∷ d ∷ []) h = absurd (omega (arith, h))
 five (a ∷ b ∷ c ∷ d ∷ e ∷ []) h = record { a = a; b = b; c = c; d = d; e = e; are = refl }
-five (a ∷ b ∷ c ∷ d ∷ e ∷ f ∷ rest) h = absurd (omega (arith, h))
+five _ h = absurd (omega (arith, h))
 
 -- an address of four digits
 record IsAddress (x y z w : ℕ) : Type 0 where

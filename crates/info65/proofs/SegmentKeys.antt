@@ -44,9 +44,6 @@ named_past segments k t past = ap (λ (ss : List SegmentView). first_named ss t)
 pub record IsRest (segments : List SegmentView) (k : ℕ) (found : List ℕ → Option ℕ) : Type 0 where
   pub is : (t : List ℕ) → option_or (found t) (first_named (drop k segments) t) ≡ first_named segments t
 
-pub rest_all : (segments : List SegmentView) (found : List ℕ → Option ℕ) → ((t : List ℕ) → found t ≡ None) → IsRest segments 0 found
-rest_all segments found none = record { is = λ t. ap (λ (o : Option ℕ). option_or o (first_named segments t)) (none t) }
-
 or_else : (o : Option ℕ) (n : ℕ) → option_or o (Some n) ≡ Some (unwrap_or o n)
 or_else None n = refl
 or_else (Some m) n = refl

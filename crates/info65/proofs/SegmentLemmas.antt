@@ -103,20 +103,16 @@ segment_is given s h = by_parts (as_address (value_in attribute.Start given)) (a
   where
     by_parts : (f l : Option ℕ) (n : Option (List ℕ)) → as_address (value_in attribute.Start given) ≡ f → as_address (value_in attribute.End given) ≡ l → as_name (value_in attribute.Name given) ≡ n → segment_from f l n ≡ Ok s → IsSaid given s
     by_parts (Some f) (Some l) (Some n) ef el en i = let h = from f l n s i in record { first = rw h.0 ef; last = rw h.0 el; name = rw h.0 en; ordered = rw h.0 h.1 }
-    by_parts (Some f) (Some l) None ef el en i = absurd cc
-    by_parts (Some f) None n ef el en i = absurd cc
-    by_parts None l n ef el en i = absurd cc
+    by_parts _ _ _ ef el en i = absurd cc
 
 address_low : (v : Option ValueView) → IfSome v (HasForm form.Address) → (n : ℕ) → as_address v ≡ Some n → n ≤ 0xFFFF
 address_low (Some (an_address m)) h n e = let same : m ≡ n = cc in subst (λ (k : ℕ). k ≤ 0xFFFF) same h
-address_low (Some _) h n e = absurd cc
-address_low None h n e = absurd cc
+address_low _ h n e = absurd cc
 
 -- a value that is a name
 pub text_is : (v : Option ValueView) (t : List ℕ) → as_name v ≡ Some t → v ≡ Some (a_name t)
 text_is (Some (a_name u)) t h = let e : u ≡ t = cc in ap (λ x. Some (a_name x)) e
-text_is (Some _) t h = absurd cc
-text_is None t h = absurd cc
+text_is _ t h = absurd cc
 
 segment_good : (given : List AssignmentView) (s : SegmentView) → AreFormed given → segment_in given ≡ Ok s → IsSegment s
 unfolding form_of
@@ -166,11 +162,8 @@ pub marked_other : (before : List GroupView) (k : GroupKind) (given : List Assig
 marked_other before k given table other m = segments_moved _ _ table (segments_more before (record { kind = k; given = given }) ∙ none k other) m
   where
     none : (k : GroupKind) → (k ≡ kind.Segment → ⊥) → segments_of before ++ segment_part (record { kind = k; given = given }) ≡ segments_of before
-    none kind.Global other = append-nil (segments_of before)
-    none kind.Range other = append-nil (segments_of before)
-    none kind.Label other = append-nil (segments_of before)
-    none kind.Include other = append-nil (segments_of before)
     none kind.Segment other = absurd (other refl)
+    none _ other = append-nil (segments_of before)
 
 -- ---- no two share an address
 
@@ -197,16 +190,13 @@ apart_from s ss free k d l a there here =
     let yes = list_any_at (meets s) ss k d l (shared_overlap (extent s) (extent (get_or ss k d)) (a, here, there)) in absurd (let e : true ≡ false = sym yes ∙ free in cc)
 
 good_more : (before : List GroupView) (k : GroupKind) (given : List AssignmentView) → AreFormed given → closing_fault before k given ≡ None → AreSegments (segments_of before) → AreSegments (segments_of before ++ segment_part (record { kind = k; given = given }))
-good_more before kind.Global given f h old = rw (append-nil (segments_of before)) old
-good_more before kind.Range given f h old = rw (append-nil (segments_of before)) old
-good_more before kind.Label given f h old = rw (append-nil (segments_of before)) old
-good_more before kind.Include given f h old = rw (append-nil (segments_of before)) old
 good_more before kind.Segment given f h old =
     let c = closes_segment before given h in
     rw c.is (record {
       each = All-push IsSegment (segments_of before) c.segment old.each (segment_good given c.segment f c.is);
       apart = all_pairs_push AreApart (segments_of before) c.segment old.apart (apart_from c.segment (segments_of before) c.free);
     })
+good_more before _ given f h old = rw (append-nil (segments_of before)) old
 
 groups_good : (before gs : List GroupView) → AreGroups before gs → AreAllFormed gs → AreSegments (segments_of before) → AreSegments (segments_of (before ++ gs))
 groups_good before [] h f old = rw (append-nil before) old
@@ -229,11 +219,8 @@ read_segments o bytes groups e =
 -- ---- the laws
 
 said_more : (before : List GroupView) (k : GroupKind) (given : List AssignmentView) (gs : List GroupView) → closing_fault before k given ≡ None → AreSaid gs (segments_of gs) → AreSaid (record { kind = k; given = given } ∷ gs) (segment_part (record { kind = k; given = given }) ++ segments_of gs)
-said_more before kind.Global given gs h said = said
-said_more before kind.Range given gs h said = said
-said_more before kind.Label given gs h said = said
-said_more before kind.Include given gs h said = said
 said_more before kind.Segment given gs h said = let c = closes_segment before given h in rw c.is (says given c.segment c.is, said)
+said_more before _ given gs h said = said
 
 groups_said : (before gs : List GroupView) → AreGroups before gs → AreSaid gs (segments_of gs)
 unfolding segments_of
@@ -257,10 +244,7 @@ segments_ordered (g ∷ gs) = All-append (λ (s : SegmentView). s.first ≤ s.la
     part : (k : GroupKind) (given : List AssignmentView) (x : Result SegmentView InfoFaultKind) → segment_in given ≡ x → All (λ (s : SegmentView). s.first ≤ s.last) (segment_part (record { kind = k; given = given }))
     part kind.Segment given (Ok s) e = rw e (one s (segment_is given s e).ordered)
     part kind.Segment given (Err f) e = rw e (λ k d l. absurd (omega (arith, l)))
-    part kind.Global given x e = λ k d l. absurd (omega (arith, l))
-    part kind.Range given x e = λ k d l. absurd (omega (arith, l))
-    part kind.Label given x e = λ k d l. absurd (omega (arith, l))
-    part kind.Include given x e = λ k d l. absurd (omega (arith, l))
+    part _ given x e = λ k d l. absurd (omega (arith, l))
 
 refused_meets : (s : SegmentView) (ss : List SegmentView) → segment_fault ss (Ok s) ≡ Some SegmentsOverlap → list_any (meets s) ss ≡ true
 refused_meets s ss h =

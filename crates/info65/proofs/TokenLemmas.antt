@@ -1,27 +1,15 @@
 -- The tokens of what is left.
 use Rattle.info65.specs.declared.fault.InfoFault.{InfoFault}
-use Rattle.std.proofs.Common.{◌||◌, add-one, ◌≡◌, ◌∙◌, ◌+◌, ◌<◌, ◌==◌, ℕ, zero, suc, Bool, true, false, List, [], ◌∷◌, length, drop, slice_index, refl, ap, arith, if◌then◌else◌, Result, Ok, Err}
+use Rattle.std.proofs.Common.{◌||◌, add-one, ◌≡◌, ◌∙◌, ◌+◌, ◌<◌, ◌==◌, ℕ, suc, Bool, true, false, List, [], ◌∷◌, length, drop, refl, ap, arith, Result, Ok, Err}
 use Rattle.std.proofs.lemmas.Bool.{ne_eqb, or_parts}
 use Rattle.info65.specs.Tokens.{Stream, ended, found, is_blank, opens_comment, stops, token_of, tokens_after, tokens_of, with_token}
 use Rattle.info65.specs.Lexemes.{LexemeView, lexeme_at}
 
--- the first byte decides
-pub at_byte : (in_comment : Bool) (line : ℕ) (rest : List ℕ) → 0 < length rest → tokens_after 0 in_comment line rest ≡ (
-    if slice_index rest 0 == 10 then tokens_after 0 false (line + 1) (drop 1 rest)
-    else (if in_comment then tokens_after 0 true line (drop 1 rest)
-    else (if is_blank (slice_index rest 0) then tokens_after 0 false line (drop 1 rest)
-    else (if opens_comment rest then tokens_after 0 true line (drop 1 rest)
-    else found line rest (lexeme_at line rest) (λ more. tokens_after more false line (drop 1 rest))))))
-unfolding tokens_after
-at_byte in_comment line [] some = absurd (omega arith)
-at_byte in_comment line (b ∷ bs) some = refl
-
 -- the rest of a token is passed over
 pub passed : (skip line : ℕ) (bs : List ℕ) → tokens_after skip false line bs ≡ tokens_of line (drop skip bs)
 unfolding tokens_after
-passed zero line bs = refl
-passed (suc skip) line [] = refl
 passed (suc skip) line (b ∷ bs) = passed skip line bs
+passed _ line _ = refl
 
 found_same : (line : ℕ) (bytes : List ℕ) (r : Result LexemeView InfoFault) (f g : ℕ → Stream) → ((more : ℕ) → f more ≡ g more) → found line bytes r f ≡ found line bytes r g
 found_same line bytes (Ok p) f g same = ap (with_token (token_of line bytes p)) (same p.more)

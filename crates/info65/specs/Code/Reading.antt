@@ -1,9 +1,14 @@
 -- What the parts of the reader return, against what is read of the whole.
-use Rattle.std.specs.Prelude.{◌≡◌, Bool, true, false, Result, Ok, Err}
+use Rattle.std.specs.Prelude.{◌≡◌, Bool, true, false, List, [], ◌∷◌, ◌++◌, Result, Ok, Err}
+use Rattle.info65.specs.Code.Groups.{group_seen}
 use Rattle.info65.specs.Code.Results.{Fails}
+use Rattle.info65.specs.Groups.{GroupView}
 use Rattle.info65.specs.Lexemes.{KindView, semicolon}
-use Rattle.info65.specs.Reader.{Place, closed, outside}
+use Rattle.info65.specs.Reader.{Place, closed, outside, read, read_token}
+use Rattle.info65.specs.Tokens.{Stream, TokenView}
+use Rattle.info65.specs.Views.{OptionsView}
 use Rattle.info65.specs.declared.fault.InfoFault.{InfoFault}
+use Rattle.info65.specs.declared.syntax.assignment.Group.{Group}
 
 abbrev pub is_semicolon : KindView → Bool
 is_semicolon semicolon = true
@@ -23,3 +28,21 @@ Leads whole (Err e) on = whole ≡ Err e
 abbrev pub Grows : {R X : Type 0} → Result R InfoFault → Result X InfoFault → (X → Result R InfoFault) → Type 0
 Grows whole (Ok x) on = whole ≡ on x
 Grows whole (Err e) on = Fails e whole
+
+-- ---- from one place of the reader to the next
+
+-- under these options and after these groups, a part reads on from a place to where `next` is due
+abbrev pub Moves : {X : Type 0} → OptionsView → List GroupView → Place → Stream → Result X InfoFault → (X → Place) → Stream → Type 0
+Moves o before place old result next new = Leads (read o place before old) result (λ x. read o (next x) before new)
+
+-- the same under all options and after any groups
+abbrev pub AlwaysMoves : {X : Type 0} → Place → Stream → Result X InfoFault → (X → Place) → Stream → Type 0
+AlwaysMoves place old result next new = (o : OptionsView) (before : List GroupView) → Moves o before place old result next new
+
+-- a part takes this token, whatever comes after it
+abbrev pub TakesToken : {X : Type 0} → List GroupView → Place → TokenView → Result X InfoFault → (X → Place) → Type 0
+TakesToken before place t result next = (o : OptionsView) (rest : Stream) → Leads (read_token o place before t rest) result (λ x. read o (next x) before rest)
+
+-- a part reads on to the end of a group
+abbrev pub ReadsGroup : {Z : Type 0} → OptionsView → List GroupView → Result (List GroupView) InfoFault → Result (Group Z) InfoFault → Stream → Type 0
+ReadsGroup o before whole result new = Grows whole result (λ g. read o closed (before ++ group_seen g ∷ []) new)

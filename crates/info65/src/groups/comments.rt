@@ -2,14 +2,14 @@
 
 ghost use Rattle.std.specs.Prelude.{◌≡◌, map, option_map};
 ghost use Rattle.info65.specs.Code.Groups.{assignment_seen};
-ghost use Rattle.info65.specs.Comments.{comment_in, lacks_name, not_empty};
+ghost use Rattle.info65.specs.Comments.{comment_in, lacks_name, unless_empty};
 
 use crate::groups::group_values::{has, value_in};
 use crate::syntax::assignment::{Assignment, as_comment};
 use crate::syntax::attribute::Attribute;
 
-fn not_empty(text: Option<&[u8]>) -> Option<&[u8]>
-    ensures { option_map (λ s. s.now) result ≡ not_empty (option_map (λ s. s.now) text.entry) }
+fn unless_empty(text: Option<&[u8]>) -> Option<&[u8]>
+    ensures { option_map (λ s. s.now) result ≡ unless_empty (option_map (λ s. s.now) text.entry) }
 {
     match text {
         Some(text) => { if text.is_empty() { None } else { Some(text) } }
@@ -22,7 +22,7 @@ fn not_empty(text: Option<&[u8]>) -> Option<&[u8]>
 pub fn comment_in<'a>(given: &[Assignment<'a>]) -> Option<&'a [u8]>
     ensures { option_map (λ s. s.now) result ≡ comment_in (map assignment_seen given.now) }
 {
-    not_empty(as_comment(value_in(given, Attribute::Comment)))
+    unless_empty(as_comment(value_in(given, Attribute::Comment)))
 }
 
 /// A comment is given, and no name for it.

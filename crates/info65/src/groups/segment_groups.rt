@@ -80,7 +80,8 @@ pub fn segment_fault(table: &[bool], given: &[Assignment]) -> Option<InfoFaultKi
 pub fn mark_segment(table: &mut [bool], kind: GroupKind, given: &[Assignment])
     requires { length table.old ≡ 0x1_0000 }
     ensures size { length table.new ≡ length table.old }
-    ensures marked { (before : List GroupView) → AreMarked (segments_of before) table.old → AreMarked (segments_of (before ++ group kind (map assignment_seen given.now) ∷ [])) table.new }
+    ensures marked { (before : List GroupView) → AreMarked (segments_of before) table.old
+        → AreMarked (segments_of (before ++ group kind (map assignment_seen given.now) ∷ [])) table.new }
 {
     if let GroupKind::Segment = kind {
         if let Ok(segment) = segment_in(given) {

@@ -4,13 +4,12 @@ ghost use Rattle.std.specs.Prelude.{◌≡◌, ◌≤◌, ◌∷◌, ◌++◌, I
 ghost use Rattle.info65.specs.Closing.{closing_fault};
 ghost use Rattle.info65.specs.Faults.{fault};
 ghost use Rattle.info65.specs.Code.Results.{Gives};
-ghost use Rattle.info65.specs.Code.Groups.{assignment_seen, group_seen, value_seen};
+ghost use Rattle.info65.specs.Code.Groups.{assignment_seen, value_seen};
 ghost use Rattle.info65.specs.Groups.{AssignmentView, GroupView};
-ghost use Rattle.info65.specs.Code.Reading.{Grows, Leads, is_semicolon};
+ghost use Rattle.info65.specs.Code.Reading.{AlwaysMoves, Leads, Moves, ReadsGroup, TakesToken, is_semicolon};
 ghost use Rattle.info65.specs.Reader.{attribute_at, assigned, closed, closed_by, group, groups_of, inside, one, opening, outside, read, read_token, value_at, valued, wanted};
 ghost use Rattle.info65.specs.Code.Steps.{Sees, kind_seen, seen};
-ghost use Rattle.info65.specs.Tokens.{Stream, with_token};
-ghost use Rattle.info65.specs.Views.{OptionsView};
+ghost use Rattle.info65.specs.Tokens.{with_token};
 ghost use Rattle.info65.specs.declared.syntax.attribute.GroupKind.{GroupKind};
 ghost use Rattle.info65.specs.declared.syntax.attribute.Attribute.{Attribute};
 ghost use Rattle.info65.specs.declared.fault.InfoFaultKind.TheVariants.{Expected};
@@ -87,7 +86,7 @@ fn group<'a, A: Allocator + Copy, B: Allocator>(
     name: Token<'a>,
 ) -> Result<Group<'a, A>, InfoFault>
     ensures closes { IfOk result (λ g. closing_fault before.now g.kind (map assignment_seen g.given.items) ≡ None) }
-    ensures read { Grows (read_token options.now outside before.now (seen name.entry) lexer.old) result (λ g. read options.now closed (before.now ++ group_seen g ∷ []) lexer.new) }
+    ensures read { ReadsGroup options.now before.now (read_token options.now outside before.now (seen name.entry) lexer.old) result lexer.new }
     ensures shorter { length lexer.new.tokens ≤ length lexer.old.tokens }
 {
     let kind = group_kind(name)?;
@@ -96,7 +95,7 @@ fn group<'a, A: Allocator + Copy, B: Allocator>(
 }
 
 fn group_kind(name: Token) -> Result<GroupKind, InfoFault>
-    ensures { (o : OptionsView) (before : List GroupView) (rest : Stream) → Leads (read_token o outside before (seen name.entry) rest) result (λ k. read o (opening k) before rest) }
+    ensures { (before : List GroupView) → TakesToken before outside (seen name.entry) result opening }
 {
     match name.kind {
         TokenKind::Word => match group_named(name.text) {
@@ -108,7 +107,7 @@ fn group_kind(name: Token) -> Result<GroupKind, InfoFault>
 }
 
 fn brace(lexer: &mut Lexer) -> Result<(), InfoFault>
-    ensures read { (o : OptionsView) (k : GroupKind) (before : List GroupView) → Leads (read o (opening k) before lexer.old) result (λ _. read o (inside k []) before lexer.new) }
+    ensures read { (k : GroupKind) → AlwaysMoves (opening k) lexer.old result (λ _. inside k []) lexer.new }
     ensures shorter { length lexer.new.tokens ≤ length lexer.old.tokens }
 {
     let token = due(lexer)?;
@@ -119,7 +118,7 @@ fn brace(lexer: &mut Lexer) -> Result<(), InfoFault>
 }
 
 fn separator(lexer: &mut Lexer) -> Result<(), InfoFault>
-    ensures read { (o : OptionsView) (k : GroupKind) (given : List AssignmentView) (before : List GroupView) → Leads (read o (assigned k given) before lexer.old) result (λ _. read o (inside k given) before lexer.new) }
+    ensures read { (k : GroupKind) (given : List AssignmentView) → AlwaysMoves (assigned k given) lexer.old result (λ _. inside k given) lexer.new }
     ensures shorter { length lexer.new.tokens ≤ length lexer.old.tokens }
 {
     let token = due(lexer)?;
@@ -135,7 +134,8 @@ fn value<'a, A: Allocator + Copy, B: Allocator>(
     before: &Closed<'a, A>,
     attribute: Attribute,
 ) -> Result<Value<'a>, InfoFault>
-    ensures read { (k : GroupKind) (given : List AssignmentView) → Leads (read options.now (valued k given attribute) before.now lexer.old) result (λ v. read options.now (assigned k (given ++ one attribute (value_seen v) ∷ [])) before.now lexer.new) }
+    ensures read { (k : GroupKind) (given : List AssignmentView) → Moves options.now before.now (valued k given attribute) lexer.old result
+        (λ v. assigned k (given ++ one attribute (value_seen v) ∷ [])) lexer.new }
     ensures shorter { length lexer.new.tokens ≤ length lexer.old.tokens }
 {
     let token = due(lexer)?;
@@ -169,7 +169,7 @@ fn attributes<'a, A: Allocator + Copy, B: Allocator>(
     kind: GroupKind,
 ) -> Result<Group<'a, A>, InfoFault>
     ensures closes { IfOk result (λ g. closing_fault before.now g.kind (map assignment_seen g.given.items) ≡ None) }
-    ensures read { Grows (read options.now (inside kind []) before.now lexer.old) result (λ g. read options.now closed (before.now ++ group_seen g ∷ []) lexer.new) }
+    ensures read { ReadsGroup options.now before.now (read options.now (inside kind []) before.now lexer.old) result lexer.new }
     ensures shorter { length lexer.new.tokens ≤ length lexer.old.tokens }
 {
     let mut given = Vec::new(alloc);
@@ -197,7 +197,8 @@ fn is_whole<'a, A: Allocator + Copy>(
     line: u32,
 ) -> Result<(), InfoFault>
     ensures closes { IfOk result (λ _. closing_fault before.now kind (map assignment_seen given.now) ≡ None) }
-    ensures read { Leads (closed_by before.now kind (map assignment_seen given.now) line (closing_fault before.now kind (map assignment_seen given.now))) result (λ _. Ok (closed, before.now ++ group kind (map assignment_seen given.now) ∷ [])) }
+    ensures read { Leads (closed_by before.now kind (map assignment_seen given.now) line (closing_fault before.now kind (map assignment_seen given.now))) result
+        (λ _. Ok (closed, before.now ++ group kind (map assignment_seen given.now) ∷ [])) }
 {
     match before.closing_fault(kind, given) {
         Some(fault) => Err(InfoFault::new(line, fault)),
@@ -215,7 +216,8 @@ fn attribute<'a, A: Allocator + Copy, B: Allocator>(
     name: Token<'a>,
 ) -> Result<Assignment<'a>, InfoFault>
     requires { name.kind ≡ Word }
-    ensures read { Leads (read_token options.now (inside kind (map assignment_seen given.now)) before.now (seen name.entry) lexer.old) result (λ g. read options.now (inside kind (map assignment_seen given.now ++ assignment_seen g ∷ [])) before.now lexer.new) }
+    ensures read { Leads (read_token options.now (inside kind (map assignment_seen given.now)) before.now (seen name.entry) lexer.old) result
+        (λ g. read options.now (inside kind (map assignment_seen given.now ++ assignment_seen g ∷ [])) before.now lexer.new) }
     ensures shorter { length lexer.new.tokens ≤ length lexer.old.tokens }
 {
     let attribute = attribute_name(before, kind, given, name)?;
@@ -231,7 +233,7 @@ fn attribute_name<'a, A: Allocator + Copy>(
     name: Token,
 ) -> Result<Attribute, InfoFault>
     requires { name.kind ≡ Word }
-    ensures { (o : OptionsView) (rest : Stream) → Leads (read_token o (inside kind (map assignment_seen given.now)) before.now (seen name.entry) rest) result (λ a. read o (valued kind (map assignment_seen given.now) a) before.now rest) }
+    ensures { TakesToken before.now (inside kind (map assignment_seen given.now)) (seen name.entry) result (valued kind (map assignment_seen given.now)) }
 {
     attribute_at(before, kind, given, name)
 }
