@@ -32,28 +32,28 @@ pointer-here m a o r low high known some =
 
 -- ---- addresses in order
 
-after_all : (f : ℕ → List ℕ) (n a : ℕ) → n ≡ 0 → flat_map f (addresses n a) ≡ []
+after_all : {B : Type 0} (f : ℕ → List B) (n a : ℕ) → n ≡ 0 → flat_map f (addresses n a) ≡ []
 unfolding addresses
 after_all f zero a none = λ i. []
 after_all f (suc n) a none = absurd (omega (arith, none))
 
-before_more : (f : ℕ → List ℕ) (n k a b : ℕ) → n ≡ suc k → b ≡ a + 1 → flat_map f (addresses n a) ≡ f a ++ flat_map f (addresses k b)
+before_more : {B : Type 0} (f : ℕ → List B) (n k a b : ℕ) → n ≡ suc k → b ≡ a + 1 → flat_map f (addresses n a) ≡ f a ++ flat_map f (addresses k b)
 unfolding addresses
 before_more f n k a b more next = rw (more, next) (λ i. f a ++ flat_map f (addresses k (a + 1)))
 
-pub listed-start : (f : ℕ → List ℕ) (n a : ℕ) (xs ys : List ℕ) → ys ≡ flat_map f (addresses n a) → xs ++ flat_map f (addresses (n - 0) (a + 0)) ≡ xs ++ ys
+pub listed-start : {B : Type 0} (f : ℕ → List B) (n a : ℕ) (xs ys : List B) → ys ≡ flat_map f (addresses n a) → xs ++ flat_map f (addresses (n - 0) (a + 0)) ≡ xs ++ ys
 listed-start f n a xs ys is =
     let count : n - 0 ≡ n = omega arith in
     let place : a + 0 ≡ a = omega arith in
     rw (count, place, is) (λ i. xs ++ flat_map f (addresses n a))
 
-pub listed-next : (f : ℕ → List ℕ) (n a k : ℕ) (xs more all : List ℕ) → k < n → more ≡ xs ++ f (a + k)
+pub listed-next : {B : Type 0} (f : ℕ → List B) (n a k : ℕ) (xs more all : List B) → k < n → more ≡ xs ++ f (a + k)
     → xs ++ flat_map f (addresses (n - k) (a + k)) ≡ all → more ++ flat_map f (addresses (n - (k + 1)) (a + (k + 1))) ≡ all
 listed-next f n a k xs more all some is before =
     let split = before_more f (n - k) (n - (k + 1)) (a + k) (a + (k + 1)) (omega (arith, some)) (omega arith) in
     rw (is, append_assoc) (sym (ap (λ l. xs ++ l) split) ∙ before)
 
-pub listed-end : (f : ℕ → List ℕ) (n a k : ℕ) (xs all : List ℕ) → n ≤ k → xs ++ flat_map f (addresses (n - k) (a + k)) ≡ all → xs ≡ all
+pub listed-end : {B : Type 0} (f : ℕ → List B) (n a k : ℕ) (xs all : List B) → n ≤ k → xs ++ flat_map f (addresses (n - k) (a + k)) ≡ all → xs ≡ all
 listed-end f n a k xs all done before = sym (append-nil xs) ∙ sym (ap (λ l. xs ++ l) (after_all f (n - k) (a + k) (omega (arith, done)))) ∙ before
 
 pub pointers-are : (m : MapView) → pointers m ≡ flat_map (λ a. option_to_list (pointer_at m a)) (addresses (length m.image.bytes) m.image.start)

@@ -1,13 +1,13 @@
 -- One piece after the other.
-use Rattle.std.proofs.Common.{◌≡◌, ◌+◌, ◌<◌, ◌≤◌, ◌∙◌, ◌&&◌, ◌||◌, not, nat_le, nat_lt, ℕ, Bool, true, false, List, [], ◌∷◌, ◌++◌, append_assoc, arith, inl, inr, refl, subst, sym}
-use Rattle.std.proofs.lemmas.Bool.{and_parts, cases_lt, le-leb, lt-leb, le-ltb}
+use Rattle.std.proofs.Common.{All, zero, suc, ◌≡◌, ◌+◌, ◌<◌, ◌≤◌, ◌∙◌, ◌&&◌, ◌||◌, not, nat_le, nat_lt, ℕ, Bool, true, false, List, [], ◌∷◌, ◌++◌, append_assoc, arith, inl, inr, refl, subst, sym}
+use Rattle.std.proofs.lemmas.Bool.{and_parts, cases_lt, le-leb, leb-true, lt-leb, ltb-true, le-ltb}
 use Rattle.std.proofs.lemmas.List.{append-nil}
 use Rattle.info65.specs.Ranges.{has_address}
 use Rattle.info65.specs.declared.information.range.RangeSpec.{RangeSpec}
 use Rattle.info65.specs.declared.information.range.RangeType.{RangeType}
 use Rattle.info65.specs.declared.information.range.RangeType.TheVariants as role
 use Rattle.map65.specs.ImageView.{byte_at, end_of, is_inside}
-use Rattle.reach65.specs.Pieces.{ArePieces, Ground, IsPiece, is_break, is_char, is_free, is_text}
+use Rattle.reach65.specs.Pieces.{ArePieces, Ground, IsPiece, LiesIn, is_break, is_char, is_free, is_text}
 use Rattle.reach65.specs.Taken.{is_given}
 
 -- ---- free addresses
@@ -148,3 +148,25 @@ free-none g from at past before a low =
       | inl below ↦ before a low below
       | inr after ↦ past-free g a (omega (arith, past, after))
     ]
+
+-- ---- pieces in the image
+
+free-parts : (g : Ground) (a : ℕ) → is_free g a ≡ true → (g.image.start ≤ a) × (a < end_of g.image)
+unfolding is_free
+free-parts g a free =
+    let inside = (and_parts (is_inside g.image a) _ free).0 in
+    let parts = and_parts (nat_le g.image.start a) (nat_lt a (end_of g.image)) inside in
+    (leb-true g.image.start a parts.0, ltb-true a (end_of g.image) parts.1)
+
+piece-lies : (g : Ground) (r : RangeSpec) → r.first ≤ r.last → IsPiece g r.role r.first (r.last + 1) → LiesIn g.image r
+piece-lies g r order piece = record {
+  low = (free-parts g r.first (piece-free g r.role r.first (r.last + 1) r.first piece (omega arith) (omega arith))).0;
+  order = order;
+  high = (free-parts g r.last (piece-free g r.role r.first (r.last + 1) r.last piece order (omega arith))).1;
+}
+
+pub pieces-lie : (g : Ground) (from : ℕ) (ranges : List RangeSpec) → ArePieces g from ranges → All (LiesIn g.image) ranges
+unfolding ArePieces
+pieces-lie g from [] pieces k d some = absurd (omega (arith, some))
+pieces-lie g from (r ∷ later) (low, before, order, piece, rest) zero d some = piece-lies g r order piece
+pieces-lie g from (r ∷ later) (low, before, order, piece, rest) (suc k) d some = pieces-lie g (r.last + 1) later rest k d (omega (arith, some))

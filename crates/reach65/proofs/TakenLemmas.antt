@@ -8,7 +8,7 @@ use Rattle.std.specs.List.{list_any}
 use Rattle.info65.specs.Ranges.{has_address}
 use Rattle.info65.specs.declared.information.range.RangeSpec.{RangeSpec}
 use Rattle.map65.specs.Spans.{addresses}
-use Rattle.reach65.specs.Taken.{AreMarkedBy, is_given, is_of_code, is_taken}
+use Rattle.reach65.specs.Taken.{AreMarkedBy, is_code, is_given, is_of_code, is_taken}
 
 or_shift : (x y z : Bool) → ((x || y) || z) ≡ (x || (y || z))
 or_shift true y z = refl
@@ -75,4 +75,13 @@ taken-all m reached blank given marks ranges empty said count first second = rec
   each = λ a _.
       let one : is_marked given a ≡ is_given m.info.ranges a = first a ∙ ap (λ b. b || is_given ranges a) (blank-false blank a empty) ∙ ap (λ l. is_given l a) said in
       second a ∙ ap (λ b. b || list_any (is_of_code m reached a) (addresses (length m.image.bytes) m.image.start)) one;
+}
+
+pub code-all : (m : MapView) (reached blank marks : List Bool) → blank ≡ replicate 65536 false → length marks ≡ 65536
+    → ((a : ℕ) → is_marked marks a ≡ (is_marked blank a || list_any (is_of_code m reached a) (addresses (length m.image.bytes) m.image.start)))
+    → AreMarkedBy (is_code m reached) marks
+unfolding is_code
+code-all m reached blank marks empty count each = record {
+  count = count;
+  each = λ a _. each a ∙ ap (λ b. b || list_any (is_of_code m reached a) (addresses (length m.image.bytes) m.image.start)) (blank-false blank a empty);
 }

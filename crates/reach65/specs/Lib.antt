@@ -3,6 +3,7 @@ pub mod Flow
 pub mod Entries
 pub mod Reached
 pub mod Taken
+pub mod Pairs
 pub mod Pieces
 pub mod RangeLines
 pub mod TextLaws

@@ -1,11 +1,11 @@
 -- What is proposed for the addresses of the image that nothing speaks for.
 --
 -- A text is a longest stretch of at least five characters, $20 to $7E, among these addresses. What lies between texts is a table of bytes.
-use Rattle.std.specs.Prelude.{◌≡◌, ℕ, ◌+◌, ◌<◌, ◌≤◌, ◌&&◌, ◌||◌, not, nat_lt, Bool, true, false, List, [], ◌∷◌}
+use Rattle.std.specs.Prelude.{All, ◌≡◌, ℕ, ◌+◌, ◌<◌, ◌≤◌, ◌&&◌, ◌||◌, not, nat_lt, Bool, true, false, List, [], ◌∷◌}
 use Rattle.info65.specs.declared.information.range.RangeSpec.{RangeSpec}
 use Rattle.info65.specs.declared.information.range.RangeType.{RangeType}
 use Rattle.info65.specs.declared.information.range.RangeType.TheVariants as role
-use Rattle.map65.specs.ImageView.{ImageView, byte_at, is_inside}
+use Rattle.map65.specs.ImageView.{ImageView, byte_at, end_of, is_inside}
 use Rattle.reach65.specs.Reached.{is_marked}
 
 -- the image, and the addresses that something speaks for
@@ -42,3 +42,12 @@ ArePieces g from [] = (a : ℕ) → from ≤ a → is_free g a ≡ false
 ArePieces g from (r ∷ later) =
     (from ≤ r.first) × ((a : ℕ) → from ≤ a → a < r.first → is_free g a ≡ false)
     × (r.first ≤ r.last) × IsPiece g r.role r.first (r.last + 1) × ArePieces g (r.last + 1) later
+
+-- the image has all addresses of the range
+pub record LiesIn (image : ImageView) (r : RangeSpec) : Type 0 where
+  pub low : image.start ≤ r.first
+  pub order : r.first ≤ r.last
+  pub high : r.last < end_of image
+
+abbrev pub LieIn : ImageView → List RangeSpec → Type 0
+LieIn image ranges = All (LiesIn image) ranges

@@ -26,6 +26,10 @@ is_of_code m marks a b = is_marked marks b && has_byte m b a
 unfoldable pub is_given : List RangeSpec → ℕ → Bool
 is_given ranges a = list_any (λ r. has_address r a) ranges
 
+-- a reached instruction has the address
+unfoldable pub is_code : MapView → List Bool → ℕ → Bool
+is_code m marks a = list_any (is_of_code m marks a) (addresses (length m.image.bytes) m.image.start)
+
 unfoldable pub is_taken : MapView → List Bool → ℕ → Bool
 is_taken m marks a = is_given m.info.ranges a || list_any (is_of_code m marks a) (addresses (length m.image.bytes) m.image.start)
 

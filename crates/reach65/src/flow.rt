@@ -74,7 +74,8 @@ fn only_inside<A: Allocator>(image: &Image<A>, address: usize) -> Option<u16>
 pub fn byte_at<A: Allocator>(image: &Image<A>, address: usize) -> u8
     requires low { image.now.start ≤ address }
     requires high { address < end_of image.now }
-    ensures { result ≡ byte_at image.now address }
+    ensures value { result ≡ byte_at image.now address }
+    ensures fits { address < 65536 }
 {
     image.bytes()[address - usize::from(image.start())]
 }

@@ -6,12 +6,14 @@
 mod entries;
 mod flow;
 pub mod laws;
+mod pairs;
 mod pieces;
 mod search;
 mod taken;
 
 pub use entries::entries_of;
 pub use flow::Flow;
+pub use pairs::{Pair, Register, Store, pairs_of};
 pub use pieces::Ground;
 pub use search::reached;
-pub use taken::mark_taken;
+pub use taken::{mark_instructions, mark_taken};

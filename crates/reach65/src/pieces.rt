@@ -2,7 +2,7 @@
 
 ghost use Rattle.std.specs.Prelude.{◌≡◌, ◌+◌, ◌<◌, ◌≤◌, ℕ, IfNone, IfOk, IfSome, IsTrue, false, true, length};
 ghost use Rattle.map65.specs.ImageView.{IsPlaced, byte_at, end_of, is_inside};
-ghost use Rattle.reach65.specs.Pieces.{ArePieces, IsPiece, is_break, is_char, is_free, is_text};
+ghost use Rattle.reach65.specs.Pieces.{ArePieces, IsPiece, LieIn, is_break, is_char, is_free, is_text};
 ghost use Rattle.reach65.specs.Taken.{is_given};
 
 use crate::flow::{byte_at, is_inside};
@@ -194,6 +194,7 @@ impl<'a, A: Allocator> Ground<'a, A> {
 
         // They have exactly the addresses that nothing speaks for.
         ensures cover { IfOk result (λ found. (a : ℕ) → is_given found.items a ≡ is_free self.now a) }
+        ensures inside { IfOk result (λ found. LieIn self.now.image found.items) }
     {
         let mut found = Vec::new(alloc);
         let mut from = 0;

@@ -6,7 +6,7 @@ ghost use Rattle.map65.specs.ImageView.{end_of};
 ghost use Rattle.reach65.specs.Reached.{is_marked};
 ghost use Rattle.std.specs.List.{list_any};
 ghost use Rattle.map65.specs.Spans.{addresses};
-ghost use Rattle.reach65.specs.Taken.{AreMarkedBy, has_byte, is_given, is_of_code, is_taken};
+ghost use Rattle.reach65.specs.Taken.{AreMarkedBy, has_byte, is_code, is_given, is_of_code, is_taken};
 
 use crate::flow::Flow;
 use crate::search::{ADDRESSES, blank_marks};
@@ -119,5 +119,29 @@ pub fn mark_taken<A: Allocator, B: Allocator>(
 {
     let mut marks = blank_marks(alloc, ADDRESSES)?;
     mark_all(marks.as_mut_slice(), flow, reached);
+    Ok(marks)
+}
+
+/// Marks each address that a reached instruction has, where none is marked.
+fn mark_bytes<A: Allocator>(marks: &mut [bool], flow: &Flow<'_, '_, A>, reached: &[bool])
+    requires blank { marks.old ≡ replicate 65536 false }
+    requires reached { length reached.now ≡ 65536 }
+    ensures { AreMarkedBy (is_code flow.now reached.now) marks.new }
+{
+    mark_code(marks, flow, reached);
+}
+
+/// Marks each address that a reached instruction has. There is a mark for each address from $0000 to $FFFF. Fails only if an
+/// allocation failed.
+pub fn mark_instructions<A: Allocator, B: Allocator>(
+    alloc: A,
+    flow: &Flow<'_, '_, B>,
+    reached: &[bool],
+) -> Result<Vec<bool, A>, AllocError>
+    requires { length reached.now ≡ 65536 }
+    ensures { IfOk result (λ marks. AreMarkedBy (is_code flow.now reached.now) marks.items) }
+{
+    let mut marks = blank_marks(alloc, ADDRESSES)?;
+    mark_bytes(marks.as_mut_slice(), flow, reached);
     Ok(marks)
 }

@@ -1,5 +1,5 @@
 use Rattle.std.proofs.Common.{◌+◌, ap, arith}
-use Rattle.reach65.proofs.PieceLemmas.{pieces-cover, pieces-end, pieces-pushed}
+use Rattle.reach65.proofs.PieceLemmas.{pieces-cover, pieces-end, pieces-lie, pieces-pushed}
 use Rattle.reach65.proofs.pieces.Ground.pieces.Goals as goal
 
 pub pieces-preserved : goal.pieces-preserved
@@ -16,4 +16,4 @@ pieces-smaller g c = omega (arith, c.in-Some.ensures.room, c.from-from.ensures, 
 pub returns : goal.returns
 returns g c =
     let all = pieces-end c.args.self.now c.pieces.from c.pieces.found.items c.pieces.invariant.pieces c.in_default.ensures.none in
-    record { pieces = all; cover = pieces-cover c.args.self.now c.pieces.found.items all }
+    record { pieces = all; cover = pieces-cover c.args.self.now c.pieces.found.items all; inside = pieces-lie c.args.self.now 0 c.pieces.found.items all }
