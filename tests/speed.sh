@@ -1,6 +1,6 @@
 #!/usr/bin/env bash
 # How fast the program is, in instructions by valgrind's callgrind, beside cc65's da65 on the same bytes; and for large
-# information files also the most memory that it holds; and how fast the as65 beside it is, beside ca65. Each row has the ratio that
+# information files also the most memory that it holds; and how fast the as65 beside it is, beside ca65 and ld65. Each row has the ratio that
 # docs/PROOFS.md gives it: more than a twentieth above it is a failure. Runs differ by less than a thousandth. Twice as many groups
 # or lines take at most 2.3 times the instructions.
 # Usage: tests/speed.sh PROGRAM
@@ -8,7 +8,7 @@ set -u
 program=$(realpath "$1")
 assembler=$(dirname "$program")/as65
 root=$(realpath "$(dirname "$0")/..")
-for tool in valgrind da65 ca65 /usr/bin/time; do
+for tool in valgrind da65 ca65 ld65 /usr/bin/time; do
     command -v $tool >/dev/null || { echo "speed: left out, since $tool is not installed"; exit 0; }
 done
 . "$root/tests/random.sh"
@@ -49,13 +49,16 @@ compares() {
     shows "$name" "$limit" "$ours" "$count"
 }
 
-# assembles NAME LIMIT LISTING: those of as65 and of ca65, which then leaves the place of the bytes to the linker.
+# assembles NAME LIMIT LISTING: those of as65, and those of ca65 and ld65 together, for the listing of 64 KiB.
 assembles() {
-    local ours
+    local ours theirs
     instructions "$assembler" -S 0 -o ours.bin "$3"
     ours=$count
     instructions ca65 --relax-checks -o theirs.o "$3"
-    shows "$1" "$2" "$ours" "$count"
+    theirs=$count
+    instructions ld65 -C flat.cfg -o theirs.bin theirs.o
+    cmp -s ours.bin theirs.bin || { echo "speed: $1: as65 and ld65 write other bytes"; failed=1; }
+    shows "$1" "$2" "$ours" $((theirs + count))
 }
 
 seed 1
@@ -98,9 +101,15 @@ compares 'mixed bytes, without ranges' 23.8 -S 0 mixed.bin
 compares "mixed bytes, $(wc -l <mixed.info) ranges" 25.5 -S 0 -i mixed.info mixed.bin
 compares 'a byte table' 17.5 -S 0 -i table.info nop.bin
 compares 'a byte table in 1,024 segments' 38.2 -S 0 -i segments.info nop.bin
-head -c 16384 mixed.bin >quarter.bin
-"$program" -S 0 -i mixed.info quarter.bin >quarter.s
-assembles 'the listing of a quarter, by as65' 125.3 quarter.s
+
+printf 'MEMORY { MAIN: start = 0, size = $10000, file = %%O; }\nSEGMENTS { CODE: load = MAIN, type = ro; }\n' >flat.cfg
+printf '\n%-44s %12s %12s %8s\n' 'instructions for the listing of 64 KiB' 'as65' 'ca65, ld65' 'ratio'
+"$program" -S 0 random.bin -o random.s
+"$program" -S 0 nop.bin -o nop.s
+"$program" -S 0 -i mixed.info mixed.bin -o mixed.s
+assembles 'random bytes' 82.8 random.s
+assembles 'nop' 65.1 nop.s
+assembles "mixed bytes, $(wc -l <mixed.info) ranges" 76.0 mixed.s
 
 # labels COUNT ORDER: prints that many groups LABEL, with ascending or shuffled addresses.
 labels() {
