@@ -1,5 +1,5 @@
 -- How codings are found and how long they are.
-use Rattle.std.proofs.Common.{◌≡◌, ℕ, Bool, true, false, ◌+◌, List, [], ◌∷◌, ◌++◌, length, map, Option, Some, None, refl, ap, ◌∙◌, arith}
+use Rattle.std.proofs.Common.{◌≡◌, ℕ, Bool, true, false, ◌+◌, List, [], ◌∷◌, ◌++◌, length, map, Option, Some, None, refl, ap, ◌∙◌, append_assoc, arith}
 use Rattle.isa65.specs.declared.cpu.Cpu.{Cpu}
 use Rattle.isa65.specs.declared.mnemonic.Mnemonic.{Mnemonic}
 use Rattle.isa65.specs.Cpu.{table_of}
@@ -7,7 +7,7 @@ use Rattle.isa65.specs.Opcodes.{encoded}
 use Rattle.std.specs.Prelude.{◌&&◌}
 use Rattle.std.specs.List.{list_all, flat_map}
 use Rattle.stmt65.specs.Symbols.{Definition}
-use Rattle.stmt65.specs.Coding.{Fragment, Fixed, Way, first_way, coded_so, is_fragment_known, fragment_fits, fragment_bytes, coding_len}
+use Rattle.stmt65.specs.Coding.{Fragment, Fixed, fragment_len, Way, first_way, coded_so, is_fragment_known, fragment_fits, fragment_bytes, coding_len}
 use Rattle.stmt65.specs.Code.Held.{held}
 
 abbrev pub or_way : Option (List Fragment) → Option (List Fragment) → Option (List Fragment)
@@ -58,6 +58,17 @@ unfolding coding_len
 datum_len [] = refl
 datum_len (b ∷ bs) = let ih = datum_len bs in omega arith
 
+-- an instruction without an operand, and with one
+pub opcode_len : (b : ℕ) → 1 ≡ held (coding_len (Fixed b ∷ []))
+unfolding coding_len
+opcode_len b = refl
+
+pub with_operand_len : (b : ℕ) (f : Fragment) (len n : ℕ) → len ≡ fragment_len f → n ≡ held (len + 1) → n ≡ held (coding_len (Fixed b ∷ f ∷ []))
+unfolding coding_len
+with_operand_len b f len n e h = omega (arith, e, h)
+
+pub ruleset instruction_lens = (opcode_len, with_operand_len)
+
 -- a sum that is held at its limit, one piece on
 pub len_step : (all piece rest : List Fragment) (len more new total : ℕ) → all ≡ piece ++ rest → more ≡ coding_len piece → new ≡ held (len + more)
     → held (len + coding_len all) ≡ total → held (new + coding_len rest) ≡ total
@@ -89,7 +100,16 @@ unfolding fragment_fits
 string_fits all next [] = refl
 string_fits all next (b ∷ bs) = string_fits all next bs
 
+pub opcode_fits : (all : List Definition) (next b : ℕ) (fs : List Fragment) (fit : Bool) → fit ≡ list_all (fragment_fits all next) fs → fit ≡ list_all (fragment_fits all next) (Fixed b ∷ fs)
+unfolding fragment_fits
+opcode_fits all next b fs fit e = e
+
 -- ---- bytes
+
+pub opcode_bytes : (all : List Definition) (next b : ℕ) (fs : List Fragment) (old with_opcode new : List ℕ) → with_opcode ≡ old ++ b ∷ [] → new ≡ with_opcode ++ flat_map (fragment_bytes all next) fs
+    → new ≡ old ++ flat_map (fragment_bytes all next) (Fixed b ∷ fs)
+unfolding fragment_bytes
+opcode_bytes all next b fs old with_opcode new e f = f ∙ ap (λ (l : List ℕ). l ++ flat_map (fragment_bytes all next) fs) e ∙ append_assoc old (b ∷ []) (flat_map (fragment_bytes all next) fs)
 
 pub string_bytes : (all : List Definition) (next : ℕ) (bs : List ℕ) → flat_map (fragment_bytes all next) (map Fixed bs) ≡ bs
 unfolding fragment_bytes

@@ -3,10 +3,10 @@
 ghost use Rattle.std.specs.Prelude.{◌≡◌, ◌≤◌, ◌++◌, OnOk};
 ghost use Rattle.std.specs.List.{list_all, flat_map};
 ghost use Rattle.stmt65.specs.Coding.{is_fragment_known, fragment_len, fragment_fits, fragment_bytes, coding_len};
-ghost use Rattle.stmt65.specs.Code.CodingViews.{fragment_of, piece_of, coded_of};
+ghost use Rattle.stmt65.specs.Code.CodingViews.{fragment_of, operand_of, instruction_of, piece_of, coded_of};
 ghost use Rattle.stmt65.specs.Code.Held.{held};
 
-use crate::assembling::coding::{Coded, Fragment};
+use crate::assembling::coding::{Coded, Fragment, Instruction, Operand};
 use crate::assembling::entries::size;
 use crate::assembling::fragment_bytes::{fragment_fits, is_fragment_known, put_fragment};
 use crate::assembling::pieces::{Piece, first_piece};
@@ -36,8 +36,8 @@ fn piece_len(piece: Piece) -> u64
     }
 }
 
-/// How many bytes the coding has; 2^64 - 1 in place of every greater length.
-pub fn coded_len(coded: Coded) -> u64
+/// The same piece by piece.
+fn pieces_len(coded: Coded) -> u64
     ensures { result ≡ held (coding_len (coded_of coded.entry)) }
 {
     let mut len: u64 = 0;
@@ -49,6 +49,30 @@ pub fn coded_len(coded: Coded) -> u64
     len
 }
 
+/// An instruction with one operand, as most have, is not taken apart.
+#[tactic(auto, using(crate::proofs::CodingLemmas::instruction_lens))]
+fn instruction_len(instruction: Instruction) -> u64
+    ensures { result ≡ held (coding_len (instruction_of instruction.entry)) }
+{
+    match instruction.operand {
+        Operand::None => 1,
+        Operand::One(fragment) => fragment_len(fragment).saturating_add(1),
+        Operand::Two(_, _) => pieces_len(Coded::Instruction(instruction)),
+    }
+}
+
+/// How many bytes the coding has; 2^64 - 1 in place of every greater length.
+#[tactic(auto, unfolding(crate::specs::Coding::coding_len))]
+pub fn coded_len(coded: Coded) -> u64
+    ensures { result ≡ held (coding_len (coded_of coded.entry)) }
+{
+    match coded {
+        Coded::Nothing => 0,
+        Coded::Instruction(instruction) => instruction_len(instruction),
+        Coded::Operand(_) | Coded::Data(_) | Coded::Values(_, _) => pieces_len(coded),
+    }
+}
+
 fn is_piece_known<A: Allocator + Clone>(names: &Symbols<'_, A>, piece: Piece) -> bool
     ensures { result ≡ list_all (is_fragment_known names.now) (piece_of piece.entry) }
 {
@@ -58,9 +82,9 @@ fn is_piece_known<A: Allocator + Clone>(names: &Symbols<'_, A>, piece: Piece) ->
     }
 }
 
-/// Whether each name in the coding has a definition.
+/// The same piece by piece.
 #[tactic(auto, using(crate::proofs::CodingLemmas::list_all_append))]
-pub fn are_known<A: Allocator + Clone>(names: &Symbols<'_, A>, coded: Coded) -> bool
+fn are_pieces_known<A: Allocator + Clone>(names: &Symbols<'_, A>, coded: Coded) -> bool
     ensures { result ≡ list_all (is_fragment_known names.now) (coded_of coded.entry) }
 {
     let mut rest = coded;
@@ -73,6 +97,27 @@ pub fn are_known<A: Allocator + Clone>(names: &Symbols<'_, A>, coded: Coded) -> 
     true
 }
 
+fn is_operand_known<A: Allocator + Clone>(names: &Symbols<'_, A>, operand: Operand) -> bool
+    ensures { result ≡ list_all (is_fragment_known names.now) (operand_of operand.entry) }
+{
+    match operand {
+        Operand::None => true,
+        Operand::One(fragment) => is_fragment_known(names, fragment),
+        Operand::Two(_, _) => are_pieces_known(names, Coded::Operand(operand)),
+    }
+}
+
+/// Whether each name in the coding has a definition.
+pub fn are_known<A: Allocator + Clone>(names: &Symbols<'_, A>, coded: Coded) -> bool
+    ensures { result ≡ list_all (is_fragment_known names.now) (coded_of coded.entry) }
+{
+    match coded {
+        Coded::Nothing => true,
+        Coded::Instruction(instruction) => is_operand_known(names, instruction.operand),
+        Coded::Operand(_) | Coded::Data(_) | Coded::Values(_, _) => are_pieces_known(names, coded),
+    }
+}
+
 #[tactic(auto, using(crate::proofs::CodingLemmas::string_fits))]
 fn piece_fits<A: Allocator + Clone>(names: &Symbols<'_, A>, next: u64, piece: Piece) -> bool
     ensures { result ≡ list_all (fragment_fits names.now next) (piece_of piece.entry) }
@@ -83,9 +128,9 @@ fn piece_fits<A: Allocator + Clone>(names: &Symbols<'_, A>, next: u64, piece: Pi
     }
 }
 
-/// Whether the coding has room for its values; `next` is the address after it.
+/// The same piece by piece.
 #[tactic(auto, using(crate::proofs::CodingLemmas::list_all_append))]
-pub fn fits<A: Allocator + Clone>(names: &Symbols<'_, A>, next: u64, coded: Coded) -> bool
+fn pieces_fit<A: Allocator + Clone>(names: &Symbols<'_, A>, next: u64, coded: Coded) -> bool
     ensures { result ≡ list_all (fragment_fits names.now next) (coded_of coded.entry) }
 {
     let mut rest = coded;
@@ -96,6 +141,28 @@ pub fn fits<A: Allocator + Clone>(names: &Symbols<'_, A>, next: u64, coded: Code
         rest = after;
     }
     true
+}
+
+fn operand_fits<A: Allocator + Clone>(names: &Symbols<'_, A>, next: u64, operand: Operand) -> bool
+    ensures { result ≡ list_all (fragment_fits names.now next) (operand_of operand.entry) }
+{
+    match operand {
+        Operand::None => true,
+        Operand::One(fragment) => fragment_fits(names, next, fragment),
+        Operand::Two(_, _) => pieces_fit(names, next, Coded::Operand(operand)),
+    }
+}
+
+/// Whether the coding has room for its values; `next` is the address after it.
+#[tactic(auto, using(crate::proofs::CodingLemmas::opcode_fits))]
+pub fn fits<A: Allocator + Clone>(names: &Symbols<'_, A>, next: u64, coded: Coded) -> bool
+    ensures { result ≡ list_all (fragment_fits names.now next) (coded_of coded.entry) }
+{
+    match coded {
+        Coded::Nothing => true,
+        Coded::Instruction(instruction) => operand_fits(names, next, instruction.operand),
+        Coded::Operand(_) | Coded::Data(_) | Coded::Values(_, _) => pieces_fit(names, next, coded),
+    }
 }
 
 #[tactic(auto, using(crate::proofs::CodingLemmas::string_bytes))]
@@ -113,8 +180,8 @@ fn put_piece<A: Allocator + Clone, B: Allocator>(
     }
 }
 
-/// Adds the bytes of a coding that has room for its values; `next` is the address after it.
-pub fn put_coded<A: Allocator + Clone, B: Allocator>(
+/// The same piece by piece.
+fn put_pieces<A: Allocator + Clone, B: Allocator>(
     out: &mut Vec<u8, B>,
     names: &Symbols<'_, A>,
     next: u64,
@@ -128,4 +195,50 @@ pub fn put_coded<A: Allocator + Clone, B: Allocator>(
         rest = after;
     }
     Ok(())
+}
+
+fn put_operand<A: Allocator + Clone, B: Allocator>(
+    out: &mut Vec<u8, B>,
+    names: &Symbols<'_, A>,
+    next: u64,
+    operand: Operand,
+) -> Result<(), AllocError>
+    ensures { OnOk result (out.new.items ≡ out.old.items ++ flat_map (fragment_bytes names.now next) (operand_of operand.entry)) }
+{
+    match operand {
+        Operand::None => Ok(()),
+        Operand::One(fragment) => put_fragment(out, names, next, fragment),
+        Operand::Two(_, _) => put_pieces(out, names, next, Coded::Operand(operand)),
+    }
+}
+
+#[tactic(auto, using(crate::proofs::CodingLemmas::opcode_bytes))]
+fn put_instruction<A: Allocator + Clone, B: Allocator>(
+    out: &mut Vec<u8, B>,
+    names: &Symbols<'_, A>,
+    next: u64,
+    instruction: Instruction,
+) -> Result<(), AllocError>
+    ensures { OnOk result (out.new.items ≡ out.old.items ++ flat_map (fragment_bytes names.now next) (instruction_of instruction.entry)) }
+{
+    out.push(instruction.opcode)?;
+    put_operand(out, names, next, instruction.operand)
+}
+
+/// Adds the bytes of a coding that has room for its values; `next` is the address after it.
+pub fn put_coded<A: Allocator + Clone, B: Allocator>(
+    out: &mut Vec<u8, B>,
+    names: &Symbols<'_, A>,
+    next: u64,
+    coded: Coded,
+) -> Result<(), AllocError>
+    ensures { OnOk result (out.new.items ≡ out.old.items ++ flat_map (fragment_bytes names.now next) (coded_of coded.entry)) }
+{
+    match coded {
+        Coded::Nothing => Ok(()),
+        Coded::Instruction(instruction) => put_instruction(out, names, next, instruction),
+        Coded::Operand(_) | Coded::Data(_) | Coded::Values(_, _) => {
+            put_pieces(out, names, next, coded)
+        }
+    }
 }

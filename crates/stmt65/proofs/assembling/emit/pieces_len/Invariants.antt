@@ -2,7 +2,7 @@ use Rattle.std.proofs.Common.{◌≡◌, ◌+◌}
 use Rattle.stmt65.specs.Coding.{coding_len}
 use Rattle.stmt65.specs.Code.CodingViews.{coded_of, pieces_left}
 use Rattle.stmt65.specs.Code.Held.{held}
-use Rattle.stmt65.proofs.assembling.emit.coded_len.Given as goal
+use Rattle.stmt65.proofs.assembling.emit.pieces_len.Given as goal
 
 abbrev pub invariant-pieces : goal.invariant-pieces
 invariant-pieces l = record {

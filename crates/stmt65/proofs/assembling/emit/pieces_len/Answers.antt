@@ -1,7 +1,7 @@
 use Rattle.std.proofs.Common.{arith}
 use Rattle.stmt65.specs.Code.CodingViews.{coded_of, piece_of}
 use Rattle.stmt65.proofs.CodingLemmas.{len_step, len_end}
-use Rattle.stmt65.proofs.assembling.emit.coded_len.Goals as goal
+use Rattle.stmt65.proofs.assembling.emit.pieces_len.Goals as goal
 
 pub pieces-preserved : goal.pieces-preserved
 pieces-preserved c = record {

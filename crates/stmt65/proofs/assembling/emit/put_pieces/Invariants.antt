@@ -2,7 +2,7 @@ use Rattle.std.proofs.Common.{◌≡◌, ◌++◌}
 use Rattle.std.specs.List.{flat_map}
 use Rattle.stmt65.specs.Coding.{fragment_bytes}
 use Rattle.stmt65.specs.Code.CodingViews.{coded_of, pieces_left}
-use Rattle.stmt65.proofs.assembling.emit.put_coded.Given as goal
+use Rattle.stmt65.proofs.assembling.emit.put_pieces.Given as goal
 
 abbrev pub invariant-pieces : goal.invariant-pieces
 invariant-pieces g l = l.out.items ++ flat_map (fragment_bytes l.names l.next) (coded_of l.rest) ≡ l.initial.out.items ++ flat_map (fragment_bytes l.names l.next) (coded_of l.fn.coded)
