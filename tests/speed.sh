@@ -102,6 +102,19 @@ compares "mixed bytes, $(wc -l <mixed.info) ranges" 25.5 -S 0 -i mixed.info mixe
 compares 'a byte table' 17.5 -S 0 -i table.info nop.bin
 compares 'a byte table in 1,024 segments' 38.2 -S 0 -i segments.info nop.bin
 
+# What people run: a few bytes, a few tables and names. What is done once whatever there is shows most. (cc65's has no SIZE.)
+printf '%s\n' 'GLOBAL { STARTADDR $F000; };' \
+    'RANGE { START $F00E; END $F017; TYPE TextTable; NAME "message"; };' \
+    'RANGE { START $F018; END $F01B; TYPE AddrTable; NAME "vectors"; };' \
+    'RANGE { START $F01C; END $F01D; TYPE WordTable; };' \
+    'RANGE { START $F01E; END $F021; TYPE DByteTable; };' \
+    'RANGE { START $F022; END $F02B; TYPE ByteTable; };' \
+    'LABEL { ADDR $FFD2; NAME "CHROUT"; };' >hello.info
+head -c 1024 random.bin >kilobyte.bin
+echo 'LABEL { ADDR $1000; NAME "entry"; };' >label.info
+compares '44 bytes with five tables and three names' 95 -i hello.info "$root/examples/hello.bin"
+compares '1 KiB with one label' 95 -S 0 -i label.info kilobyte.bin
+
 printf 'MEMORY { MAIN: start = 0, size = $10000, file = %%O; }\nSEGMENTS { CODE: load = MAIN, type = ro; }\n' >flat.cfg
 printf '\n%-44s %12s %12s %8s\n' 'instructions for the listing of 64 KiB' 'as65' 'ca65, ld65' 'ratio'
 "$program" -S 0 random.bin -o random.s

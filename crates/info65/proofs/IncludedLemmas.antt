@@ -11,13 +11,14 @@ use Rattle.std.proofs.lemmas.Bool.{and_parts}
 use Rattle.text65.specs.Lines.{text_lines}
 use Rattle.text65.specs.Names.{has_name_form, is_word_byte}
 use Rattle.info65.specs.Code.Includes.{Adds, SeesName, name_result_seen}
-use Rattle.info65.specs.Code.Index.{Indexes}
+use Rattle.info65.specs.Code.Index.{Indexes, IsIndex, found_in}
 use Rattle.info65.specs.Code.Names.{given_seen}
 use Rattle.info65.specs.Code.Steps.{Sees}
+use Rattle.info65.specs.Code.Texts.{TextsView}
 use Rattle.info65.specs.Faults.{◌>>=◌, fault, out_of_memory}
 use Rattle.info65.specs.Code.Results.{Fails}
 use Rattle.info65.specs.Includes.{address_written, after_sign, as_address, assignment_in, before_sign, blank_include, included, is_blank, is_identifier, unless_ignored, line_adds, line_in, name_adds, names_included, names_with, optional_adds, or_bad, plain_name, trimmed, with_names, without_comment}
-use Rattle.info65.specs.Labels.{by_address, is_at, is_elsewhere, name_fault}
+use Rattle.info65.specs.Labels.{by_address, is_at, is_elsewhere, name_fault, named_at, names_from}
 use Rattle.info65.specs.Lexemes.{number_in, starts_word}
 use Rattle.info65.specs.Names.{AreNames, IsName, blank_name, is_reserved, name_at}
 use Rattle.info65.specs.Sound.{IsSound}
@@ -28,8 +29,8 @@ use Rattle.info65.specs.declared.lookup.index.Index.{Index}
 use Rattle.info65.specs.declared.information.name.Given.{Given}
 use Rattle.info65.specs.declared.fault.InfoFaultKind.TheVariants.{BadName, NameTwice, ReservedName, TooLarge}
 use Rattle.info65.proofs.Cases.{by_result, by_test}
-use Rattle.info65.proofs.IndexLemmas.{fault_none, no_fault}
-use Rattle.info65.proofs.NamesLemmas.{AreGiven, one_more, sorted_names}
+use Rattle.info65.proofs.IndexLemmas.{fault_none, names_same, no_fault}
+use Rattle.info65.proofs.NamesLemmas.{AreGiven, named_alike, one_more, sorted_names, text_alike}
 
 abbrev Added : Type 0
 Added = Result (Option NameView) InfoFaultKind
@@ -194,7 +195,7 @@ line_seen i line names text said added r a b c =
     let f = seen_is added (optional_adds names (name_result_seen said)) b in
     rw (e, f) c
 
-pub joined : {X Z : Type 0} (names : List NameView) (n : NameView) (defined : Result (Option NameView) InfoFault) (r : Result X InfoFault) (new : Index Z) → defined ≡ Ok (Some n) → IfOk r (λ _. Indexes [] (names ++ n ∷ []) new) → IfErr r (λ e. e ≡ out_of_memory) → Adds names defined r new
+pub joined : {X Z : Type 0} (names : List NameView) (n : NameView) (defined : Result (Option NameView) InfoFault) (r : Result X InfoFault) (new : Index Z) → defined ≡ Ok (Some n) → IfOk r (λ _. Indexes (names ++ n ∷ []) new) → IfErr r (λ e. e ≡ out_of_memory) → Adds names defined r new
 joined names n defined (Ok x) new is done err = (Some n, is, done)
 joined names n defined (Err e) new is done err = inr err
 
@@ -233,9 +234,8 @@ fresh names i are low =
 -- the names so far, and the lines that are left
 pub record IsUpTo {Z : Type 0} (i : IncludeView) (names : List NameView) (bytes rest : List ℕ) (number : ℕ) (index : Index Z) : Type 0 where
   pub all : List NameView
-  pub indexed : Indexes [] all index
+  pub indexed : Indexes all index
   pub same : names_with i 1 names (text_lines bytes) ≡ names_with i number all (text_lines rest)
-  pub shorter : number + length rest ≤ length bytes + 1
 
 pub next_line : (i : IncludeView) (number : ℕ) (all : List NameView) (rest l : List ℕ) (ls : List (List ℕ)) (added : Option NameView) → text_lines rest ≡ l ∷ ls → line_adds i number all l ≡ Ok added → names_with i number all (text_lines rest) ≡ names_with i (number + 1) (all ++ option_to_list added) ls
 unfolding names_with
@@ -291,3 +291,39 @@ included_same i j index bytes r is h = ap (λ (x : InfoView). included x index b
 
 pub included_fails : (i j : InfoView) (index : ℕ) (bytes : List ℕ) (e : InfoFault) → i ≡ j → Fails e (included i index bytes) → Fails e (included j index bytes)
 included_fails i j index bytes e is h = subst (λ (x : InfoView). Fails e (included x index bytes)) is h
+
+-- ---- the names of a file
+
+-- an index of names is one of the same names by address
+sorted_index : (names : List NameView) (found : ℕ → Option Given) (texts : TextsView) → AreGiven names → IsIndex names found texts → IsIndex (by_address names) found texts
+sorted_index names found texts g i = record {
+  distinct = (sorted_names names g).distinct;
+  addresses = λ a. i.addresses a ∙ sym (named_alike names g a);
+  slotted = i.slotted;
+  stands = λ t. i.stands t ∙ ap (option_map (λ (n : NameView). n.address)) (sym (text_alike names g t));
+}
+
+-- by address they are by address
+still_sorted : (names : List NameView) → AreGiven names → by_address (by_address names) ≡ by_address names
+unfolding by_address
+still_sorted names g = names_same _ _ (named_alike names g) 0 0x1_0000
+
+pub file_added : {Z : Type 0} (i : IncludeView) (names all : List NameView) (bytes : List ℕ) (index : Index Z) → AreNames names → nat_lt 1_048_576 (length bytes) ≡ false → names_with i 1 names (text_lines bytes) ≡ Ok all → Indexes all index
+    → (more : List NameView) × (names_included i names bytes ≡ Ok more) × (by_address more ≡ more) × Indexes more index
+file_added i names all bytes index are small is indexed =
+    let g = all_given i 1 names (text_lines bytes) all (given_names names are) is in
+    (by_address all, accepted i names all bytes small is, still_sorted all g, sorted_index all _ _ g indexed)
+
+-- what is found by address are the names by address
+found_all : (all names : List NameView) (found : ℕ → Option Given) → ((a : ℕ) → option_map given_seen (found a) ≡ named_at all a) → by_address all ≡ all → names_from (λ a. option_map given_seen (found a)) 0 0x1_0000 ≡ names → all ≡ names
+unfolding by_address
+found_all all names found addresses sorted is = sym sorted ∙ sym (names_same _ _ addresses 0 0x1_0000) ∙ is
+
+pub file_read : {Z : Type 0} (i : IncludeView) (names pool : List NameView) (bytes : List ℕ) (index : Index Z) → (all : List NameView) × (names_included i names bytes ≡ Ok all) × (by_address all ≡ all) × Indexes all index
+    → names_from (λ a. option_map given_seen (found_in index.names.items index.numbers a)) 0 0x1_0000 ≡ pool → names_included i names bytes ≡ Ok pool
+file_read i names pool bytes index a is = a.1 ∙ ap (λ (l : List NameView). Ok l) (found_all a.0 pool _ a.3.addresses a.2 is)
+
+-- what the rules accept is refused only if an allocation failed
+pub lost : {A B : Type 0} {given : A} {e : InfoFault} {r : Result B InfoFault} → Fails e (Ok given) → Fails e r
+lost (inl wrong) = absurd cc
+lost (inr memory) = inr memory

@@ -1,15 +1,16 @@
 -- The index of closed groups.
-use Rattle.std.proofs.Common.{◌≡◌, ◌≢◌, ◌∙◌, ◌≤◌, ◌<◌, ◌+◌, ◌-◌, ◌==◌, ◌&&◌, ◌||◌, ℕ, zero, suc, Bool, List, [], ◌∷◌, ◌++◌, true, false, ⊎_elim, ap, ap₂, arith, get_or, length, option_map, refl, sym, if◌then◌else◌}
+use Rattle.std.proofs.Common.{◌≡◌, ◌≢◌, ◌∙◌, ◌≤◌, ◌<◌, ◌+◌, ◌-◌, ◌==◌, ◌&&◌, ◌||◌, ℕ, zero, suc, Bool, List, [], ◌∷◌, ◌++◌, true, false, ⊎_elim, ap, ap₂, arith, drop, get_or, length, min, option_map, refl, sym, if◌then◌else◌}
 use Rattle.std.specs.Option.{option_or}
 use Rattle.std.specs.Prelude.{All, AllPairs, Option, Some, None, Result, Ok, Err, IfOk, is_some, option_to_list, nat_le, nat_lt, not, slice_get}
-use Rattle.std.specs.List.{find, flat_map, list_any}
+use Rattle.std.specs.List.{find, flat_map, list_any, prefix_len}
 use Rattle.std.specs.Ordering.{is_eq, nat_cmp}
 use Rattle.std.specs.Str.{bytes_eq}
 use Rattle.std.proofs.lemmas.Bool.{eqb-true, false≢true, or_from, or_left, or_right}
 use Rattle.std.proofs.lemmas.Bool.Decides.{eqb_tells, nat_tests}
 use Rattle.std.proofs.lemmas.List.Folds.{Any-from_list_any, find-append, list_any_none, list_any-append, list_any_at, list_any-from_Any}
 use Rattle.std.proofs.lemmas.Grind.{flat_map-append}
-use Rattle.std.proofs.lemmas.List.{append-nil}
+use Rattle.std.proofs.lemmas.List.{append-nil, get_or-drop, length-drop}
+use Rattle.std.proofs.lemmas.List.Sums.{prefix_len-le-length, prefix_len_passes}
 use Rattle.std.proofs.lemmas.List.Elements.{All-push}
 use Rattle.std.proofs.lemmas.List.Quantifiers.{all_pairs_push}
 use Rattle.std.proofs.lemmas.Slice.Eq.{bytes_eq-Decides}
@@ -18,7 +19,7 @@ use Rattle.info65.specs.Code.Names.{given_seen}
 use Rattle.info65.specs.Groups.{AssignmentView, GroupView}
 use Rattle.info65.specs.declared.syntax.attribute.GroupKind.{GroupKind}
 use Rattle.info65.specs.declared.syntax.attribute.GroupKind.TheVariants as kind
-use Rattle.info65.specs.Code.Index.{IsIndex, any_in, found_in, own, text_at}
+use Rattle.info65.specs.Code.Index.{AreRanged, IsIndex, any_in, found_in, numbered, own, text_at}
 use Rattle.info65.specs.Code.Texts.{AreTexts, StandsToo, TextsView, stands_in}
 use Rattle.info65.specs.Labels.{is_at, is_elsewhere, label_in, name_fault, name_part, named_at, names_from, names_said, range_name}
 use Rattle.info65.specs.Names.{is_reserved}
@@ -29,7 +30,7 @@ use Rattle.info65.specs.declared.fault.InfoFaultKind.TheVariants.{AddressTwice, 
 use Rattle.info65.specs.declared.information.name.Given.{Given}
 use Rattle.info65.specs.declared.information.range.RangeSpec.{RangeSpec}
 use Rattle.info65.proofs.Cases.{by_test, or_last, same_ok}
-use Rattle.info65.proofs.RangeLemmas.{any_shared, closes_range, ranges_more, shared_overlap}
+use Rattle.info65.proofs.RangeLemmas.{any_shared, closes_range, ordered_in, ranges_more, shared_overlap}
 
 -- ---- marked addresses
 
@@ -191,16 +192,12 @@ text_free names n new =
 -- ---- what is added
 
 -- the ranges of one range more
-pub range_added : (ranges : List RangeSpec) (names : List NameView) (table after : List Bool) (found : ℕ → Option Given) (texts : TextsView) (r : RangeSpec) → IsIndex ranges names table found texts → r.first ≤ r.last → length after ≡ length table
-    → ((a : ℕ) → a < 0x1_0000 → get_or after a false ≡ (get_or table a false || has_address r a)) → IsIndex (ranges ++ r ∷ []) names after found texts
-range_added ranges names table after found texts r i ordered long marked = record {
+range_added : (ranges : List RangeSpec) (table after : List Bool) (r : RangeSpec) → AreRanged ranges table → r.first ≤ r.last → length after ≡ length table
+    → ((a : ℕ) → a < 0x1_0000 → get_or after a false ≡ (get_or table a false || has_address r a)) → AreRanged (ranges ++ r ∷ []) after
+range_added ranges table after r i ordered long marked = record {
   ordered = All-push (λ (x : RangeSpec). x.first ≤ x.last) ranges r i.ordered ordered;
   size = long ∙ i.size;
   ranged = λ a low. marked a low ∙ ap (λ b. b || has_address r a) (i.ranged a low) ∙ ap (λ b. list_any (λ (x : RangeSpec). has_address x a) ranges || b) (sym (or_last (has_address r a))) ∙ sym (list_any-append (λ (x : RangeSpec). has_address x a) ranges (r ∷ []));
-  distinct = i.distinct;
-  addresses = i.addresses;
-  slotted = i.slotted;
-  stands = i.stands;
 }
 
 chosen : {X : Type 0} (b : Bool) (x y : X) → b ≡ true → (if b then x else y) ≡ x
@@ -226,15 +223,12 @@ no_find p xs h = is_none (find p xs) (sym (is_some_find p xs) ∙ h)
     is_none None h = refl
     is_none (Some x) h = absurd (false≢true (sym h))
 
-pub name_added : (ranges : List RangeSpec) (names : List NameView) (table : List Bool) (found more : ℕ → Option Given) (texts told : TextsView) (n : Given) → IsIndex ranges names table found texts → name_fault names (given_seen n) ≡ None
-    → ((a : ℕ) → more a ≡ (if n.address == a then Some n else found a)) → StandsToo found more n texts told → IsIndex ranges (names ++ given_seen n ∷ []) table more told
+pub name_added : (names : List NameView) (found more : ℕ → Option Given) (texts told : TextsView) (n : Given) → IsIndex names found texts → name_fault names (given_seen n) ≡ None
+    → ((a : ℕ) → more a ≡ (if n.address == a then Some n else found a)) → StandsToo found more n texts told → IsIndex (names ++ given_seen n ∷ []) more told
 unfolding named_at
-name_added ranges names table found more texts told n i fine here there =
+name_added names found more texts told n i fine here there =
     let new = no_fault names (given_seen n) fine in
     record {
-      ordered = i.ordered;
-      size = i.size;
-      ranged = i.ranged;
       distinct = all_pairs_push (λ (x y : NameView). x.text ≢ y.text) names (given_seen n) i.distinct (new_text names (given_seen n) new);
       addresses = λ a.
           by_test (n.address == a)
@@ -257,31 +251,31 @@ name_added ranges names table found more texts told n i fine here there =
     }
 
 -- its address has no name
-pub no_name_there : (ranges : List RangeSpec) (names : List NameView) (table : List Bool) (found : ℕ → Option Given) (texts : TextsView) (n : Given) → IsIndex ranges names table found texts → name_fault names (given_seen n) ≡ None → found n.address ≡ None
+pub no_name_there : (names : List NameView) (found : ℕ → Option Given) (texts : TextsView) (n : Given) → IsIndex names found texts → name_fault names (given_seen n) ≡ None → found n.address ≡ None
 unfolding named_at
-no_name_there ranges names table found texts n i fine = nothing (found n.address) (i.addresses n.address ∙ no_find (is_at n.address) names (no_fault names (given_seen n) fine).untaken)
+no_name_there names found texts n i fine = nothing (found n.address) (i.addresses n.address ∙ no_find (is_at n.address) names (no_fault names (given_seen n) fine).untaken)
   where
     nothing : (o : Option Given) → option_map given_seen o ≡ None → o ≡ None
     nothing None h = refl
     nothing (Some x) h = absurd cc
 
 -- and its text stands nowhere
-pub no_text_there : (ranges : List RangeSpec) (names : List NameView) (table : List Bool) (found : ℕ → Option Given) (texts : TextsView) (n : Given) → IsIndex ranges names table found texts → name_fault names (given_seen n) ≡ None → stands_in found texts n.text.now ≡ None
-no_text_there ranges names table found texts n i fine = i.stands n.text.now ∙ ap (option_map (λ (m : NameView). m.address)) (text_free names (given_seen n) (no_fault names (given_seen n) fine))
+pub no_text_there : (names : List NameView) (found : ℕ → Option Given) (texts : TextsView) (n : Given) → IsIndex names found texts → name_fault names (given_seen n) ≡ None → stands_in found texts n.text.now ≡ None
+no_text_there names found texts n i fine = i.stands n.text.now ∙ ap (option_map (λ (m : NameView). m.address)) (text_free names (given_seen n) (no_fault names (given_seen n) fine))
 
--- ---- no groups
+-- ---- no names, and no ranges
 
-pub no_index : (table : List Bool) (found : ℕ → Option Given) (texts : TextsView) → length table ≡ 0x1_0000 → ((a : ℕ) → get_or table a false ≡ false) → ((a : ℕ) → found a ≡ None) → AreTexts texts → ((t : List ℕ) → stands_in found texts t ≡ None) → IsIndex [] [] table found texts
+pub no_index : (found : ℕ → Option Given) (texts : TextsView) → ((a : ℕ) → found a ≡ None) → AreTexts texts → ((t : List ℕ) → stands_in found texts t ≡ None) → IsIndex [] found texts
 unfolding named_at
-no_index table found texts size blank none are silent = record {
-  ordered = λ k d l. absurd (omega (arith, l));
-  size = size;
-  ranged = λ a low. blank a;
+no_index found texts none are silent = record {
   distinct = λ i j d lt l. absurd (omega (arith, l));
   addresses = λ a. ap (option_map given_seen) (none a);
   slotted = are;
   stands = λ t. silent t;
 }
+
+pub no_ranges : (table : List Bool) → length table ≡ 0x1_0000 → ((a : ℕ) → get_or table a false ≡ false) → AreRanged [] table
+no_ranges table size blank = record { ordered = λ k d l. absurd (omega (arith, l)); size = size; ranged = λ a low. blank a }
 
 -- ---- the faults of a group
 
@@ -293,7 +287,7 @@ range_apart ranges names given r x is miss = rw (← is) (rw miss refl)
 
 -- ---- what a group adds
 
-pub ranges_more_range : (before : List GroupView) (given : List AssignmentView) (r : RangeSpec) → range_in given ≡ Ok r → ranges_of (before ++ record { kind = kind.Range; given = given } ∷ []) ≡ ranges_of before ++ r ∷ []
+ranges_more_range : (before : List GroupView) (given : List AssignmentView) (r : RangeSpec) → range_in given ≡ Ok r → ranges_of (before ++ record { kind = kind.Range; given = given } ∷ []) ≡ ranges_of before ++ r ∷ []
 ranges_more_range before given r is = ranges_more before (record { kind = kind.Range; given = given }) ∙ rw is refl
 
 names_more : (before : List GroupView) (g : GroupView) → names_said (before ++ g ∷ []) ≡ names_said before ++ name_part g
@@ -306,7 +300,7 @@ names_more_range before given r is = names_more before (record { kind = kind.Ran
 pub names_more_label : (before : List GroupView) (given : List AssignmentView) (n : NameView) → label_in given ≡ Ok n → names_said (before ++ record { kind = kind.Label; given = given } ∷ []) ≡ names_said before ++ n ∷ []
 names_more_label before given n is = names_more before (record { kind = kind.Label; given = given }) ∙ rw is refl
 
-pub ranges_more_other : (before : List GroupView) (k : GroupKind) (given : List AssignmentView) → (k ≡ kind.Range → ⊥) → ranges_of (before ++ record { kind = k; given = given } ∷ []) ≡ ranges_of before
+ranges_more_other : (before : List GroupView) (k : GroupKind) (given : List AssignmentView) → (k ≡ kind.Range → ⊥) → ranges_of (before ++ record { kind = k; given = given } ∷ []) ≡ ranges_of before
 ranges_more_other before kind.Range given other = absurd (other refl)
 ranges_more_other before kind.Global given other = ranges_more before (record { kind = kind.Global; given = given }) ∙ append-nil (ranges_of before)
 ranges_more_other before kind.Label given other = ranges_more before (record { kind = kind.Label; given = given }) ∙ append-nil (ranges_of before)
@@ -351,10 +345,46 @@ unfolding names_from
 names_none a zero = refl
 names_none a (suc n) = names_none (a + 1) n
 
+pub none_numbered : (a k : ℕ) → own a (numbered [] k) ≡ None
+none_numbered a zero = refl
+none_numbered a (suc k) = refl
+
 -- no names
-pub names_empty : (names : List Given) (places : List ℕ) → length names ≡ 0 → names_from (λ a. option_map given_seen (found_in names places a)) 0 0x1_0000 ≡ []
-names_empty [] places none = names_none 0 0x1_0000
-names_empty (x ∷ xs) places none = absurd (omega (arith, none))
+pub names_empty : (names : List Given) (numbers : List ℕ) → length names ≡ 0 → names_from (λ a. option_map given_seen (found_in names numbers a)) 0 0x1_0000 ≡ []
+names_empty [] numbers none = names_same _ (λ a. None) (λ a. ap (option_map given_seen) (none_numbered a (get_or numbers a 0))) 0 0x1_0000 ∙ names_none 0 0x1_0000
+names_empty (x ∷ xs) numbers none = absurd (omega (arith, none))
+
+-- zeros from an address on
+pub zeros_passed : (numbers rest : List ℕ) (from start len : ℕ) → rest ≡ drop start numbers → len ≡ length numbers → start ≡ min from len → (a : ℕ) → from ≤ a → a < from + prefix_len (λ n. n == 0) rest → get_or numbers a 0 ≡ 0
+zeros_passed numbers rest from start len is all at a low high =
+    let p : ℕ → Bool = λ n. n == 0 in
+    let fits = prefix_len-le-length p rest in
+    let long : length rest ≡ length numbers - start = ap (λ (l : List ℕ). length l) is ∙ length-drop start numbers in
+    let same : start + (a - from) ≡ a = omega (arith, all, at, low, high, fits, long) in
+    let hit = prefix_len_passes p rest (a - from) 0 (omega (arith, low, high)) in
+    let cell : get_or rest (a - from) 0 ≡ get_or numbers a 0 = ap (λ (l : List ℕ). get_or l (a - from) 0) is ∙ get_or-drop start numbers (a - from) 0 ∙ ap (λ (k : ℕ). get_or numbers k 0) same in
+    sym cell ∙ eqb-true (get_or rest (a - from) 0) 0 hit
+
+-- an address without a number has no name
+unnumbered : (names : List Given) (a k : ℕ) → k ≡ 0 → option_map given_seen (own a (numbered names k)) ≡ None
+unnumbered names a k none = rw none refl
+
+passed_over : (f : ℕ → Option NameView) (n a : ℕ) → a + n ≤ 0x1_0000 → ((b : ℕ) → a ≤ b → b < a + n → f b ≡ None) → names_from f a (0x1_0000 - a) ≡ names_from f (a + n) (0x1_0000 - (a + n))
+passed_over f zero a bound none = ap (λ (b : ℕ). names_from f b (0x1_0000 - b)) (let e : a ≡ a + 0 = omega arith in e)
+passed_over f (suc n) a bound none =
+    names_next f a (omega (arith, bound))
+    ∙ ap (λ (o : Option NameView). option_to_list o ++ names_from f (a + 1) (0x1_0000 - (a + 1))) (none a (omega arith) (omega arith))
+    ∙ passed_over f n (a + 1) (omega (arith, bound)) (λ b low high. none b (omega (arith, low)) (omega (arith, high)))
+    ∙ ap (λ (b : ℕ). names_from f b (0x1_0000 - b)) (let e : a + 1 + n ≡ a + suc n = omega arith in e)
+
+-- addresses without a number have no names
+pub names_passed : (names : List Given) (numbers : List ℕ) (from to : ℕ) → from ≤ to → to ≤ 0x1_0000 → ((a : ℕ) → from ≤ a → a < to → get_or numbers a 0 ≡ 0)
+    → names_from (λ a. option_map given_seen (found_in names numbers a)) from (0x1_0000 - from) ≡ names_from (λ a. option_map given_seen (found_in names numbers a)) to (0x1_0000 - to)
+names_passed names numbers from to order bound none =
+    let f : ℕ → Option NameView = λ a. option_map given_seen (found_in names numbers a) in
+    let at : from + (to - from) ≡ to = omega (arith, order) in
+    passed_over f (to - from) from (omega (arith, at, bound)) (λ b low high. unnumbered names b (get_or numbers b 0) (none b low (omega (arith, high, at))))
+    ∙ ap (λ (b : ℕ). names_from f b (0x1_0000 - b)) at
 
 at_end : (a : ℕ) (names : List Given) (n : Given) → own a (slice_get (names ++ n ∷ []) (length names)) ≡ own a (Some n)
 at_end a [] n = refl
@@ -366,12 +396,17 @@ before_end a [] n (suc p) other = refl
 before_end a (x ∷ xs) n zero other = refl
 before_end a (x ∷ xs) n (suc p) other = before_end a xs n p other
 
--- one name more, with its place
-pub place_added : (names : List Given) (places more : List ℕ) (n : Given) → ((a : ℕ) → get_or more a 0 ≡ (if n.address == a then length names else get_or places a 0)) → (a : ℕ) → found_in (names ++ n ∷ []) more a ≡ (if n.address == a then Some n else found_in names places a)
-place_added names places more n h a =
+numbered_before_end : (a : ℕ) (names : List Given) (n : Given) (k : ℕ) → (n.address == a) ≡ false → own a (numbered (names ++ n ∷ []) k) ≡ own a (numbered names k)
+numbered_before_end a names n zero other = refl
+numbered_before_end a names n (suc p) other = before_end a names n p other
+
+-- one name more, with its number
+pub number_added : (names : List Given) (numbers more : List ℕ) (n : Given) → ((a : ℕ) → get_or more a 0 ≡ (if n.address == a then length names + 1 else get_or numbers a 0)) → (a : ℕ) → found_in (names ++ n ∷ []) more a ≡ (if n.address == a then Some n else found_in names numbers a)
+number_added names numbers more n h a =
+    let e : length names + 1 ≡ suc (length names) = omega arith in
     by_test (n.address == a)
-    (λ at. ap (λ (p : ℕ). own a (slice_get (names ++ n ∷ []) p)) (h a ∙ chosen (n.address == a) (length names) (get_or places a 0) at) ∙ at_end a names n ∙ chosen (n.address == a) (Some n) None at ∙ sym (chosen (n.address == a) (Some n) (found_in names places a) at))
-    (λ apart. ap (λ (p : ℕ). own a (slice_get (names ++ n ∷ []) p)) (h a ∙ passed (n.address == a) (length names) (get_or places a 0) apart) ∙ before_end a names n (get_or places a 0) apart ∙ sym (passed (n.address == a) (Some n) (found_in names places a) apart))
+    (λ at. ap (λ (k : ℕ). own a (numbered (names ++ n ∷ []) k)) (h a ∙ chosen (n.address == a) (length names + 1) (get_or numbers a 0) at ∙ e) ∙ at_end a names n ∙ chosen (n.address == a) (Some n) None at ∙ sym (chosen (n.address == a) (Some n) (found_in names numbers a) at))
+    (λ apart. ap (λ (k : ℕ). own a (numbered (names ++ n ∷ []) k)) (h a ∙ passed (n.address == a) (length names + 1) (get_or numbers a 0) apart) ∙ numbered_before_end a names n (get_or numbers a 0) apart ∙ sym (passed (n.address == a) (Some n) (found_in names numbers a) apart))
 
 -- ---- a group more
 
@@ -400,28 +435,22 @@ range_fine before given r h is =
     let same : c.range ≡ r = same_ok (sym c.is ∙ is) in
     ap (λ (x : RangeSpec). optional_name_fault (names_said before) (range_name given x)) (sym same) ∙ c.named
 
-moved : (ranges rs : List RangeSpec) (names ns : List NameView) (t : List Bool) (f : ℕ → Option Given) (s : TextsView) → rs ≡ ranges → ns ≡ names → IsIndex ranges names t f s → IsIndex rs ns t f s
-moved ranges rs names ns t f s e d i = rw (e, d) i
+-- the index of the names that are said is that of the names
+pub moved : (names said : List NameView) (f : ℕ → Option Given) (t : TextsView) → said ≡ names → IsIndex names f t → IsIndex said f t
+moved names said f t is i = rw is i
 
-pub global_said : (before : List GroupView) (given : List AssignmentView) (t : List Bool) (f : ℕ → Option Given) (s : TextsView) → IsIndex (ranges_of before) (names_said before) t f s
-    → IsIndex (ranges_of (before ++ record { kind = kind.Global; given = given } ∷ [])) (names_said (before ++ record { kind = kind.Global; given = given } ∷ [])) t f s
-global_said before given t f s i = moved _ _ _ _ t f s (ranges_more_other before kind.Global given (λ e. absurd cc)) (names_more_global before given) i
+-- a group RANGE with a range marks it
+pub marked_range : (before : List GroupView) (given : List AssignmentView) (r : RangeSpec) (old new : List Bool) → range_in given ≡ Ok r → length new ≡ length old
+    → ((a : ℕ) → a < 0x1_0000 → get_or new a false ≡ (get_or old a false || has_address r a)) → AreRanged (ranges_of before) old → AreRanged (ranges_of (before ++ record { kind = kind.Range; given = given } ∷ [])) new
+marked_range before given r old new is long marked m = rw (ranges_more_range before given r is) (range_added (ranges_of before) old new r m (ordered_in given r is) long marked)
 
-pub segment_said : (before : List GroupView) (given : List AssignmentView) (t : List Bool) (f : ℕ → Option Given) (s : TextsView) → IsIndex (ranges_of before) (names_said before) t f s
-    → IsIndex (ranges_of (before ++ record { kind = kind.Segment; given = given } ∷ [])) (names_said (before ++ record { kind = kind.Segment; given = given } ∷ [])) t f s
-segment_said before given t f s i = moved _ _ _ _ t f s (ranges_more_other before kind.Segment given (λ e. absurd cc)) (names_more_segment before given) i
+-- one with a fault says none
+pub range_faulty : (before : List GroupView) (given : List AssignmentView) (f : InfoFaultKind) (table : List Bool) → range_in given ≡ Err f → AreRanged (ranges_of before) table → AreRanged (ranges_of (before ++ record { kind = kind.Range; given = given } ∷ [])) table
+range_faulty before given f table is m = rw (ranges_more before (record { kind = kind.Range; given = given })) (rw is (rw (append-nil (ranges_of before)) m))
 
-pub include_said : (before : List GroupView) (given : List AssignmentView) (t : List Bool) (f : ℕ → Option Given) (s : TextsView) → IsIndex (ranges_of before) (names_said before) t f s
-    → IsIndex (ranges_of (before ++ record { kind = kind.Include; given = given } ∷ [])) (names_said (before ++ record { kind = kind.Include; given = given } ∷ [])) t f s
-include_said before given t f s i = moved _ _ _ _ t f s (ranges_more_other before kind.Include given (λ e. absurd cc)) (names_more_include before given) i
-
-pub range_said : (before : List GroupView) (given : List AssignmentView) (r : RangeSpec) (n : Option NameView) (t : List Bool) (f : ℕ → Option Given) (s : TextsView) → range_in given ≡ Ok r → n ≡ range_name given r → IsIndex (ranges_of before ++ r ∷ []) (names_said before ++ option_to_list n) t f s
-    → IsIndex (ranges_of (before ++ record { kind = kind.Range; given = given } ∷ [])) (names_said (before ++ record { kind = kind.Range; given = given } ∷ [])) t f s
-range_said before given r n t f s is named i = moved _ _ _ _ t f s (ranges_more_range before given r is) (names_more_range before given r is ∙ ap (λ (o : Option NameView). names_said before ++ option_to_list o) (sym named)) i
-
-pub label_said : (before : List GroupView) (given : List AssignmentView) (n : NameView) (t : List Bool) (f : ℕ → Option Given) (s : TextsView) → label_in given ≡ Ok n → IsIndex (ranges_of before) (names_said before ++ n ∷ []) t f s
-    → IsIndex (ranges_of (before ++ record { kind = kind.Label; given = given } ∷ [])) (names_said (before ++ record { kind = kind.Label; given = given } ∷ [])) t f s
-label_said before given n t f s is i = moved _ _ _ _ t f s (ranges_more_other before kind.Label given (λ e. absurd cc)) (names_more_label before given n is) i
+-- and any other group says none
+pub range_other : (before : List GroupView) (k : GroupKind) (given : List AssignmentView) (table : List Bool) → (k ≡ kind.Range → ⊥) → AreRanged (ranges_of before) table → AreRanged (ranges_of (before ++ record { kind = k; given = given } ∷ [])) table
+range_other before k given table other m = rw (ranges_more_other before k given other) m
 
 pub ok_map : {X E : Type 0} {P Q : X → Type 0} (r : Result X E) → ((x : X) → P x → Q x) → IfOk r P → IfOk r Q
 ok_map (Ok x) f h = f x h

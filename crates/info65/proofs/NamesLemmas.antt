@@ -10,7 +10,11 @@ use Rattle.std.proofs.lemmas.List.Folds.{list_any_at}
 use Rattle.std.proofs.lemmas.List.Kept.{AllPairs-cons}
 use Rattle.std.proofs.lemmas.List.Quantifiers.{all_pairs_push}
 use Rattle.std.proofs.str.Laws.{order}
-use Rattle.std.proofs.lemmas.Bool.{eq-eqb, eqb-true}
+use Rattle.std.proofs.lemmas.Bool.{eq-eqb, eqb-true, false≢true}
+use Rattle.std.proofs.lemmas.List.{get_or_default}
+use Rattle.std.proofs.lemmas.Slice.Eq.{bytes_eq-Decides}
+use Rattle.std.specs.Str.{bytes_eq}
+use Rattle.info65.specs.Code.Index.{text_at}
 use Rattle.text65.specs.Names.{has_name_form}
 use Rattle.info65.specs.Attributes.{form_of}
 use Rattle.info65.specs.Closing.{closing_fault, optional_name_fault}
@@ -34,7 +38,7 @@ use Rattle.info65.specs.declared.information.range.RangeSpec.{RangeSpec}
 use Rattle.info65.proofs.Accepting.{groups_accepted}
 use Rattle.info65.proofs.Cases.{by_test, same_ok, same_some}
 use Rattle.info65.proofs.FormLemmas.{found_formed, groups_formed, size_in}
-use Rattle.info65.proofs.IndexLemmas.{IsNew, taken_is, names_more_global, names_more_include, names_more_label, names_more_range, names_more_segment, new_text, no_fault, closes_label}
+use Rattle.info65.proofs.IndexLemmas.{IsNew, is_some_find, taken_is, names_more_global, names_more_include, names_more_label, names_more_range, names_more_segment, new_text, no_fault, closes_label}
 use Rattle.info65.proofs.RangeLemmas.{closes_range, low_in, ordered_in}
 
 -- ---- by address
@@ -68,11 +72,11 @@ pub record Place (names : List NameView) (x : NameView) : Type 0 where
   pub low : index < length names
   pub is : (d : NameView) → get_or names index d ≡ x
 
-record Found (p : NameView → Bool) (names : List NameView) (x : NameView) : Type 0 where
-  place : Place names x
-  passes : p x ≡ true
+pub record Found (p : NameView → Bool) (names : List NameView) (x : NameView) : Type 0 where
+  pub place : Place names x
+  pub passes : p x ≡ true
 
-found_some : (p : NameView → Bool) (names : List NameView) (x : NameView) → find p names ≡ Some x → Found p names x
+pub found_some : (p : NameView → Bool) (names : List NameView) (x : NameView) → find p names ≡ Some x → Found p names x
 found_some p [] x is = absurd cc
 found_some p (y ∷ ys) x is =
     by_test (p y)
@@ -286,7 +290,7 @@ found_itself names n g h = itself (named_at names n.address) refl
         (order i j))
         (eqb_tells i j)
 
-exactly : (names : List NameView) → AreGiven names → (n : NameView) → Contains (by_address names) n ↔ Contains names n
+pub exactly : (names : List NameView) → AreGiven names → (n : NameView) → Contains (by_address names) n ↔ Contains names n
 unfolding by_address
 exactly names g n = (
   λ h. subst (Contains names) h.2 (all_from (Contains names) (named_at names) 0 0x1_0000 (λ b x low is. let r = (named_place names b x is).place in (r.index, r.low, r.is x)) h.0 n h.1),
@@ -300,3 +304,50 @@ names_given o bytes info i =
     let formed : AreAllFormed i.groups = subst AreAllFormed i.accepts.of (groups_formed o i.accepts.spelling (tokens_of 1 bytes).tokens i.accepts.spelled) in
     let given = accepted_given i.groups i.accepts.keeps formed in
     rw i.says (sorted_names (names_said i.groups) given, exactly (names_said i.groups) given)
+
+-- ---- the same names in another order
+
+-- names that are told apart by this are one name where it is the same
+same_name : {K : Type 0} (key : NameView → K) (names : List NameView) → AllPairs (λ n m. key n ≢ key m) names → (n m : NameView) → Contains names n → Contains names m → key n ≡ key m → n ≡ m
+same_name key names apart n m h k same =
+    let i : ℕ = h.0 in
+    let j : ℕ = k.0 in
+    let there : get_or names j n ≡ m = get_or_default names j n m k.1 ∙ k.2 in
+    ⊎_elim
+    (λ at. sym h.2 ∙ ap (λ (p : ℕ). get_or names p n) at.1 ∙ there)
+    (λ other.
+    ⊎_elim
+    (λ before. absurd (apart i j n (omega (arith, before, other.1)) k.1 (ap key h.2 ∙ same ∙ sym (ap key there))))
+    (λ after. absurd (apart j i n (omega (arith, after, other.1)) h.1 (ap key there ∙ sym same ∙ sym (ap key h.2))))
+    (order i j))
+    (eqb_tells i j)
+
+some_found : (p : NameView → Bool) (names : List NameView) (n : NameView) → Contains names n → p n ≡ true → is_some (find p names) ≡ true
+some_found p names n h hit = sym (is_some_find p names) ∙ list_any_at p names h.0 n h.1 (ap p h.2 ∙ hit)
+
+-- what only one name can be is found in any order
+find_alike : (p : NameView → Bool) (names others : List NameView) → ((n : NameView) → Contains others n ↔ Contains names n) → ((n m : NameView) → Contains names n → Contains names m → p n ≡ true → p m ≡ true → n ≡ m) → find p others ≡ find p names
+find_alike p names others same once = by_found (find p names) refl (find p others) refl
+  where
+    at : (xs : List NameView) (x : NameView) → Found p xs x → Contains xs x
+    at xs x f = (f.place.index, f.place.low, f.place.is x)
+
+    by_found : (o : Option NameView) → find p names ≡ o → (q : Option NameView) → find p others ≡ q → q ≡ o
+    by_found None e None f = refl
+    by_found (Some x) e (Some y) f =
+        let a = found_some p names x e in
+        let b = found_some p others y f in
+        ap (λ (v : NameView). Some v) (once y x ((same y).0 (at others y b)) (at names x a) b.passes a.passes)
+    by_found None e (Some y) f =
+        let b = found_some p others y f in
+        absurd (false≢true (sym (ap is_some e) ∙ some_found p names y ((same y).0 (at others y b)) b.passes))
+    by_found (Some x) e None f =
+        let a = found_some p names x e in
+        absurd (false≢true (sym (ap is_some f) ∙ some_found p others x ((same x).1 (at names x a)) a.passes))
+
+pub named_alike : (names : List NameView) → AreGiven names → (a : ℕ) → named_at (by_address names) a ≡ named_at names a
+unfolding named_at
+named_alike names g a = find_alike (is_at a) names (by_address names) (exactly names g) (λ n m h k p q. same_name (λ x. x.address) names g.addresses n m h k (eqb-true n.address a p ∙ sym (eqb-true m.address a q)))
+
+pub text_alike : (names : List NameView) → AreGiven names → (t : List ℕ) → text_at (by_address names) t ≡ text_at names t
+text_alike names g t = find_alike (λ n. bytes_eq t n.text) names (by_address names) (exactly names g) (λ n m h k p q. same_name (λ x. x.text) names g.texts n m h k (sym ((bytes_eq-Decides t n.text).0 p) ∙ (bytes_eq-Decides t m.text).0 q))

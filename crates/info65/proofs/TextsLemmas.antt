@@ -4,7 +4,7 @@ use Rattle.std.specs.Prelude.{Option, Some, None}
 use Rattle.std.specs.Str.{bytes_eq}
 use Rattle.std.proofs.lemmas.Bool.{eq-eqb, eqb-true}
 use Rattle.std.proofs.lemmas.Slice.Eq.{bytes_eq-Decides}
-use Rattle.info65.specs.Code.Slots.{slot_of}
+use Rattle.info65.specs.Code.Slots.{SlotsView, slot_of}
 use Rattle.info65.specs.Code.Texts.{AreTexts, StandsToo, TextsView, by_slot, if_its_text, slotted, stands_in}
 use Rattle.info65.specs.declared.information.name.Given.{Given}
 use Rattle.info65.proofs.Cases.{by_test}
@@ -29,36 +29,44 @@ passed_by found more n t other (Some a) none grows apart =
     ap (if_its_text t other) now ∙ (rw apart refl) ∙ sym (ap (if_its_text t other) was))
     (λ off. let now : more a ≡ found a = grows a ∙ (rw off refl) in ap (if_its_text t other) now)
 
+-- the slot of a text gets this address
+pub record SlotIsPut (old new : TextsView) (text : List ℕ) (address : ℕ) : Type 0 where
+  pub put : (t : List ℕ) → slotted new t ≡ (if slot_of old.slots.count text == slot_of old.slots.count t then Some address else slotted old t)
+
+pub slot_put : (old new : TextsView) (text : List ℕ) (address : ℕ) → new.slots.count ≡ old.slots.count → ((k : ℕ) → get_or new.slots.cells k None ≡ (if slot_of old.slots.count text == k then Some address else get_or old.slots.cells k None)) → SlotIsPut old new text address
+slot_put old new text address count cells = record { put = λ t. ap (λ (c : ℕ). get_or new.slots.cells (slot_of c t) None) count ∙ cells (slot_of old.slots.count t) }
+
 -- it is found in the slot that it took
 in_its_slot : (found more : ℕ → Option Given) (old new : TextsView) (n : Given) → AreTexts old → slotted old n.text.now ≡ None → found n.address ≡ None → ((a : ℕ) → more a ≡ (if n.address == a then Some n else found a))
-    → ((k : ℕ) → get_or new.slots k None ≡ (if slot_of n.text.now == k then Some n.address else get_or old.slots k None)) → ((t : List ℕ) → new.others t ≡ old.others t)
+    → SlotIsPut old new n.text.now n.address → ((t : List ℕ) → new.others t ≡ old.others t)
     → (t : List ℕ) → stands_in more new t ≡ (if bytes_eq n.text.now t then Some n.address else stands_in found old t)
 in_its_slot found more old new n are free none grows slots others t =
     by_test (bytes_eq n.text.now t)
     (λ at.
     let same : n.text.now ≡ t = same_text n.text.now t at in
-    let mine : slotted new t ≡ Some n.address = slots (slot_of t) ∙ ap (λ (k : ℕ). if slot_of n.text.now == k then Some n.address else get_or old.slots k None) (sym (ap slot_of same)) ∙ (rw (eq-eqb (slot_of n.text.now) (slot_of n.text.now) refl) refl) in
+    let own : ℕ = slot_of old.slots.count n.text.now in
+    let mine : slotted new t ≡ Some n.address = slots.put t ∙ ap (λ (u : List ℕ). if own == slot_of old.slots.count u then Some n.address else slotted old u) (sym same) ∙ (rw (eq-eqb own own refl) refl) in
     let here : more n.address ≡ Some n = grows n.address ∙ (rw (eq-eqb n.address n.address refl) refl) in
     ap (by_slot more t (new.others t)) mine ∙ ap (if_its_text t (new.others t)) here ∙ (rw at refl))
     (λ apart.
-    by_test (slot_of n.text.now == slot_of t)
+    by_test (slot_of old.slots.count n.text.now == slot_of old.slots.count t)
     (λ at.
-    let same : slot_of n.text.now ≡ slot_of t = eqb-true _ _ at in
-    let mine : slotted new t ≡ Some n.address = slots (slot_of t) ∙ (rw at refl) in
+    let same : slot_of old.slots.count n.text.now ≡ slot_of old.slots.count t = eqb-true _ _ at in
+    let mine : slotted new t ≡ Some n.address = slots.put t ∙ (rw at refl) in
     let here : more n.address ≡ Some n = grows n.address ∙ (rw (eq-eqb n.address n.address refl) refl) in
-    let was : slotted old t ≡ None = ap (λ (k : ℕ). get_or old.slots k None) (sym same) ∙ free in
+    let was : slotted old t ≡ None = ap (λ (k : ℕ). get_or old.slots.cells k None) (sym same) ∙ free in
     ap (by_slot more t (new.others t)) mine ∙ ap (if_its_text t (new.others t)) here ∙ (rw apart (others t ∙ are t was ∙ sym (unslotted found old t was))))
     (λ off.
-    let still : slotted new t ≡ slotted old t = slots (slot_of t) ∙ (rw off refl) in
+    let still : slotted new t ≡ slotted old t = slots.put t ∙ (rw off refl) in
     ap (by_slot more t (new.others t)) still ∙ passed_by found more n t (new.others t) (slotted old t) none grows apart ∙ (rw apart (ap (λ o. by_slot found t o (slotted old t)) (others t)))))
 
 -- the others stay where no slot is taken
 slot_lone : (old new : TextsView) (text : List ℕ) (address : ℕ) → AreTexts old
-    → ((k : ℕ) → get_or new.slots k None ≡ (if slot_of text == k then Some address else get_or old.slots k None)) → ((t : List ℕ) → new.others t ≡ old.others t) → AreTexts new
+    → SlotIsPut old new text address → ((t : List ℕ) → new.others t ≡ old.others t) → AreTexts new
 slot_lone old new text address are slots others = λ t none.
-    by_test (slot_of text == slot_of t)
-    (λ at. let wrong : ◌≡◌ {A = Option ℕ} (Some address) None = sym (slots (slot_of t) ∙ (rw at refl)) ∙ none in absurd cc)
-    (λ off. others t ∙ are t (sym (slots (slot_of t) ∙ (rw off refl)) ∙ none))
+    by_test (slot_of old.slots.count text == slot_of old.slots.count t)
+    (λ at. let wrong : ◌≡◌ {A = Option ℕ} (Some address) None = sym (slots.put t ∙ (rw at refl)) ∙ none in absurd cc)
+    (λ off. others t ∙ are t (sym (slots.put t ∙ (rw off refl)) ∙ none))
 
 -- a name whose slot is taken is found by its text
 its_text : (found : ℕ → Option Given) (t : List ℕ) (other : Option ℕ) (o : Option Given) (n : Given) → bytes_eq n.text.now t ≡ true → if_its_text t other o ≡ None → if_its_text t (Some n.address) o ≡ Some n.address
@@ -84,7 +92,7 @@ beside_its_slot : (found more : ℕ → Option Given) (old new : TextsView) (n :
     → new.slots ≡ old.slots → ((t : List ℕ) → new.others t ≡ (if bytes_eq n.text.now t then Some n.address else old.others t))
     → (t : List ℕ) → stands_in more new t ≡ (if bytes_eq n.text.now t then Some n.address else stands_in found old t)
 beside_its_slot found more old new n taken none silent grows slots others t =
-    let still : slotted new t ≡ slotted old t = ap (λ (l : List (Option ℕ)). get_or l (slot_of t) None) slots in
+    let still : slotted new t ≡ slotted old t = ap (λ (v : SlotsView). get_or v.cells (slot_of v.count t) None) slots in
     ap (by_slot more t (new.others t)) still ∙
     by_test (bytes_eq n.text.now t)
     (λ at.
@@ -97,7 +105,7 @@ beside_its_slot found more old new n taken none silent grows slots others t =
 
 beside_lone : (old new : TextsView) (text : List ℕ) (address : ℕ) → AreTexts old → (slotted old text ≡ None → ⊥) → new.slots ≡ old.slots → ((t : List ℕ) → new.others t ≡ (if bytes_eq text t then Some address else old.others t)) → AreTexts new
 beside_lone old new text address are taken slots others = λ t none.
-    let was : slotted old t ≡ None = ap (λ (l : List (Option ℕ)). get_or l (slot_of t) None) (sym slots) ∙ none in
+    let was : slotted old t ≡ None = ap (λ (v : SlotsView). get_or v.cells (slot_of v.count t) None) (sym slots) ∙ none in
     by_test (bytes_eq text t)
     (λ at. absurd (taken (ap (slotted old) (same_text text t at) ∙ was)))
     (λ apart. others t ∙ (rw apart (are t was)))
@@ -105,7 +113,7 @@ beside_lone old new text address are taken slots others = λ t none.
 -- ---- a name more
 
 pub takes_slot : (found more : ℕ → Option Given) (old new : TextsView) (n : Given) → AreTexts old → slotted old n.text.now ≡ None → found n.address ≡ None → ((a : ℕ) → more a ≡ (if n.address == a then Some n else found a))
-    → ((k : ℕ) → get_or new.slots k None ≡ (if slot_of n.text.now == k then Some n.address else get_or old.slots k None)) → ((t : List ℕ) → new.others t ≡ old.others t) → StandsToo found more n old new
+    → SlotIsPut old new n.text.now n.address → ((t : List ℕ) → new.others t ≡ old.others t) → StandsToo found more n old new
 takes_slot found more old new n are free none grows slots others = record {
   texts = slot_lone old new n.text.now n.address are slots others;
   stands = in_its_slot found more old new n are free none grows slots others;

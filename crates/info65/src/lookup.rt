@@ -1,8 +1,8 @@
-//! Where the ranges and names of closed groups are found by address, and names by text.
+//! Where ranges and segments are found by address, and names by address and by text.
 
 pub(crate) mod cells;
 pub(crate) mod index;
 pub(crate) mod marks;
-mod places;
+mod numbers;
 mod slots;
 mod texts;

@@ -4,18 +4,18 @@ use Rattle.std.specs.BTreeMap as tree
 use Rattle.std.specs.Cmp.Lexicographic.{slice_cmp}
 use Rattle.std.specs.Ordering.{nat_cmp}
 use Rattle.std.specs.Str.{bytes_eq}
-use Rattle.info65.specs.Code.Slots.{slot_of}
+use Rattle.info65.specs.Code.Slots.{SlotsView, slot_of}
 use Rattle.info65.specs.declared.lookup.texts.Texts.{Texts}
 use Rattle.info65.specs.declared.information.name.Given.{Given}
 
 -- for each slot the address of the name that took it, and for each other text the address where it stands
 pub record TextsView : Type 0 where
-  pub slots : List (Option ℕ)
+  pub slots : SlotsView
   pub others : List ℕ → Option ℕ
 
 -- the address that stands in the slot of a text
 abbrev pub slotted : TextsView → List ℕ → Option ℕ
-slotted s t = get_or s.slots (slot_of t) None
+slotted s t = get_or s.slots.cells (slot_of s.slots.count t) None
 
 -- the address of this name if it has the text, else the other one
 abbrev pub if_its_text : List ℕ → Option ℕ → Option Given → Option ℕ

@@ -9,7 +9,7 @@ use crate::fault::{InfoFault, InfoFaultKind};
 use crate::groups::group_list::GroupList;
 use crate::groups::group_values::is_given;
 use crate::groups::include_groups::{has_room, include_in};
-use crate::groups::range_groups::push_range;
+use crate::groups::range_groups::{mark_range, push_range, range_fault};
 use crate::groups::segment_groups::{mark_segment, segment_fault};
 use crate::information::pool::Pool;
 use crate::information::range::RangeSpec;
@@ -28,8 +28,9 @@ pub struct Closed<'a, A: Allocator> {
     /// The groups that are read again, of the other kinds.
     kept: Vec<Group<'a, A>, A>,
     ranges: Vec<RangeSpec, A>,
-    /// The addresses of the ranges, and the names.
-    index: Index<'a, A>,
+    /// For each address, whether it belongs to a range.
+    ranged: Vec<bool, A>,
+    names: Index<'a, A>,
     /// For each address, whether it belongs to a segment.
     segmented: Vec<bool, A>,
 }
@@ -44,7 +45,7 @@ impl<'a, A: Allocator> Model for Closed<'a, A> {
 
     ghost view = { λ c. c.groups };
 
-    ghost invariant = { λ c. AreKept c.groups (map group_seen c.kept.items) c.ranges.items c.index c.segmented.items };
+    ghost invariant = { λ c. AreKept c.groups (map group_seen c.kept.items) c.ranges.items c.names c.ranged.items c.segmented.items };
 }
 
 // Adds a group to those that are read again, if it is one.
@@ -76,20 +77,22 @@ impl<'a, A: Allocator + Copy> Closed<'a, A> {
     ghost use Rattle.info65.specs.Labels.{by_address, names_said};
     ghost use Rattle.info65.specs.Ranges.{ranges_of};
 
-    /// No groups.
-    pub fn new(alloc: A) -> Result<Self, InfoFault>
+    /// No groups, where those of that many bytes are to come.
+    pub fn new(alloc: A, bytes: usize) -> Result<Self, InfoFault>
         ensures { Gives (λ c. c) result (Ok []) }
     {
         let groups = GroupList::new();
         let kept = Vec::new(alloc);
         let ranges = Vec::new(alloc);
-        let index = Index::new(alloc)?;
+        let ranged = blank_table(alloc, ADDRESSES)?;
+        let names = Index::new(alloc, bytes);
         let segmented = blank_table(alloc, ADDRESSES)?;
         Ok(Closed {
             groups,
             kept,
             ranges,
-            index,
+            ranged,
+            names,
             segmented,
         })
     }
@@ -122,8 +125,8 @@ impl<'a, A: Allocator + Copy> Closed<'a, A> {
     {
         match kind {
             GroupKind::Global => None,
-            GroupKind::Range => self.index.range_fault(given),
-            GroupKind::Label => self.index.label_fault(given),
+            GroupKind::Range => range_fault(self.ranged.as_slice(), &self.names, given),
+            GroupKind::Label => self.names.label_fault(given),
             GroupKind::Segment => segment_fault(self.segmented.as_slice(), given),
             GroupKind::Include => include_in(given).err(),
         }
@@ -138,10 +141,12 @@ impl<'a, A: Allocator + Copy> Closed<'a, A> {
             groups,
             mut kept,
             mut ranges,
-            mut index,
+            mut ranged,
+            mut names,
             mut segmented,
         } = self;
-        index.add(group.kind, group.given.as_slice())?;
+        names.add(group.kind, group.given.as_slice())?;
+        mark_range(ranged.as_mut_slice(), group.kind, group.given.as_slice());
         mark_segment(segmented.as_mut_slice(), group.kind, group.given.as_slice());
         push_range(&mut ranges, &group)?;
         let groups = groups.with(&group);
@@ -150,7 +155,8 @@ impl<'a, A: Allocator + Copy> Closed<'a, A> {
             groups,
             kept,
             ranges,
-            index,
+            ranged,
+            names,
             segmented,
         })
     }
@@ -165,14 +171,16 @@ impl<'a, A: Allocator + Copy> Closed<'a, A> {
             groups,
             kept,
             ranges,
-            index,
+            ranged,
+            names,
             segmented,
         } = self;
         // What is not read again is given back before the pool of the names grows.
         drop(groups);
         drop(kept);
+        drop(ranged);
         drop(segmented);
-        let names = index.names(alloc)?;
+        let names = names.names(alloc)?;
         Ok((ranges, names))
     }
 }

@@ -1,14 +1,23 @@
 //! The ranges that groups RANGE say.
 
-ghost use Rattle.std.specs.Prelude.{◌≡◌, ◌++◌, IfErr, IfOk, map, option_to_list};
+ghost use Rattle.std.specs.Prelude.{◌≡◌, ◌++◌, ◌∷◌, [], IfErr, IfOk, List, length, map, option_to_list};
+ghost use Rattle.info65.specs.Closing.{range_fault};
 ghost use Rattle.info65.specs.Code.Groups.{assignment_seen, group_seen};
+ghost use Rattle.info65.specs.Code.Index.{AreRanged, Indexes};
 ghost use Rattle.info65.specs.Faults.{out_of_memory};
-ghost use Rattle.info65.specs.Ranges.{last_from, range_between, range_in, range_of_parts, range_part};
+ghost use Rattle.info65.specs.Groups.{GroupView};
+ghost use Rattle.info65.specs.Ranges.{last_from, range_between, range_in, range_of_parts, range_part, ranges_of};
+ghost use Rattle.info65.specs.Reader.{group};
+ghost use Rattle.info65.specs.Views.{NameView};
+ghost use Rattle.info65.specs.declared.information.range.RangeSpec.{RangeSpec};
 
 use crate::fault::{InfoFault, InfoFaultKind};
 use crate::groups::comments::lacks_name;
 use crate::groups::group_values::value_in;
+use crate::groups::label_groups::range_name;
 use crate::information::range::{RangeSpec, RangeType};
+use crate::lookup::index::Index;
+use crate::lookup::marks::{is_marked, mark};
 use crate::syntax::assignment::{Assignment, Group, as_address, as_number, as_type};
 use crate::syntax::attribute::{Attribute, GroupKind};
 use std::alloc::Allocator;
@@ -66,6 +75,40 @@ fn range_between(first: u16, role: RangeType, last: Option<u64>) -> Result<Range
             } else {
                 Err(InfoFaultKind::OutOfRange)
             }
+        }
+    }
+}
+
+/// The fault of a group RANGE at its closing brace, after ranges that the table marks and the names of the index.
+pub fn range_fault<'a, A: Allocator + Copy>(
+    table: &[bool],
+    names: &Index<'a, A>,
+    given: &[Assignment<'a>],
+) -> Option<InfoFaultKind>
+    requires { length table.now ≡ 0x1_0000 }
+    ensures { (ranges : List RangeSpec) (before : List NameView) → AreRanged ranges table.now → Indexes before names.now → result ≡ range_fault ranges before (map assignment_seen given.now) (range_in (map assignment_seen given.now)) }
+{
+    match range_in(given) {
+        Err(fault) => Some(fault),
+        Ok(range) => {
+            if is_marked(table, range.first, range.last) {
+                Some(InfoFaultKind::RangesOverlap)
+            } else {
+                names.optional_name_fault(range_name(given, range))
+            }
+        }
+    }
+}
+
+/// Marks the range of a group that has no fault, if it says one.
+pub fn mark_range(table: &mut [bool], kind: GroupKind, given: &[Assignment])
+    requires { length table.old ≡ 0x1_0000 }
+    ensures size { length table.new ≡ length table.old }
+    ensures marked { (before : List GroupView) → AreRanged (ranges_of before) table.old → AreRanged (ranges_of (before ++ group kind (map assignment_seen given.now) ∷ [])) table.new }
+{
+    if let GroupKind::Range = kind {
+        if let Ok(range) = range_in(given) {
+            mark(table, range.first, range.last);
         }
     }
 }

@@ -9,7 +9,7 @@ use crate::fault::{InfoFault, InfoFaultKind};
 use crate::groups::include_groups::includes_of;
 use crate::groups::segment_groups::segments_of;
 use crate::includes::include::IncludeSpec;
-use crate::includes::included::names_included;
+use crate::includes::included::{add_file, index_of};
 use crate::information::merge::settings_of;
 use crate::information::name::Given;
 use crate::information::options::Options;
@@ -202,7 +202,9 @@ pub fn read_include<A: Allocator + Copy>(
     requires { index < length info.old.includes }
     ensures { Includes info.old index bytes.now result info.new }
 {
-    let names = names_included(alloc, &info.includes[index], &info.names, bytes)?;
+    let mut found = index_of(alloc, &info.names, bytes.len())?;
+    add_file(&mut found, &info.includes[index], bytes)?;
+    let names = found.names(alloc)?;
     info.names = names;
     Ok(())
 }

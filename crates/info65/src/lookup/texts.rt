@@ -25,12 +25,12 @@ impl<'a, A: Allocator + Copy> Texts<'a, A> {
     ghost use Rattle.info65.specs.Faults.{out_of_memory};
     ghost use Rattle.info65.specs.declared.information.name.Given.{Given};
 
-    /// No texts.
-    pub fn new(alloc: A) -> Self
+    /// No texts, where those of a file of that many bytes are to come. Allocates nothing.
+    pub fn new(alloc: A, bytes: usize) -> Self
         ensures texts { AreTexts (texts_seen result) }
         ensures none { (found : ℕ → Option Given) (t : List ℕ) → stands_in found (texts_seen result) t ≡ None }
     {
-        let slots = Slots::new(alloc);
+        let slots = Slots::new(alloc, bytes);
         let others = BTreeMap::new(alloc);
         Texts { slots, others }
     }

@@ -35,7 +35,7 @@ pub fn read_groups<'a, A: Allocator + Copy, B: Allocator>(
     ensures { Gives (λ groups. groups) result (groups_of options.now bytes.entry.now) }
 {
     let mut lexer = Lexer::new(bytes);
-    let mut groups = Closed::new(alloc)?;
+    let mut groups = Closed::new(alloc, bytes.len())?;
     let mut after_group = false;
     'groups: loop {
         match lexer.next()? {

@@ -16,7 +16,7 @@ loop-place-preserved g c =
     let n = given_seen c.given.result in
     let fine : name_fault (take i names) n ≡ None = ap (name_fault (take i names)) c.given.ensures ∙ fresh names i c.requires (omega arith) in
     let more : take i names ++ n ∷ [] ≡ take (i + 1) names = ap (λ (x : NameView). take i names ++ x ∷ []) c.given.ensures ∙ sym (take_more names i blank_name (omega arith)) in
-    subst (λ (l : List NameView). Indexes [] l c.add_name.new.self) more (c.in_ok-add_name.ensures.done [] (take i names) c.loop-place.invariant fine)
+    subst (λ (l : List NameView). Indexes l c.add_name.new.self) more (c.in_ok-add_name.ensures.done (take i names) c.loop-place.invariant fine)
 
 pub returns : goal.returns
-returns g c = subst (λ (l : List NameView). Indexes [] l c.loop-place.index) (take_all c.loop-place.place c.args.names.now (omega arith)) c.loop-place.invariant
+returns g c = subst (λ (l : List NameView). Indexes l c.loop-place.index) (take_all c.loop-place.place c.args.names.now (omega arith)) c.loop-place.invariant

@@ -3,10 +3,10 @@ use Rattle.std.specs.Prelude.{List, None}
 use Rattle.std.proofs.lemmas.List.{take_at}
 use Rattle.info65.specs.Closing.{closing_fault}
 use Rattle.info65.specs.Code.Groups.{assignment_seen, group_seen}
-use Rattle.info65.specs.Code.Index.{AreMarked}
+use Rattle.info65.specs.Code.Index.{AreMarked, AreRanged}
 use Rattle.info65.specs.Code.Kept.{kept_part}
 use Rattle.info65.specs.Groups.{GroupView}
-use Rattle.info65.specs.Ranges.{range_part}
+use Rattle.info65.specs.Ranges.{range_part, ranges_of}
 use Rattle.info65.specs.Segments.{segments_of}
 use Rattle.info65.proofs.KeptLemmas.{kept_more}
 use Rattle.info65.proofs.RangeLemmas.{ranges_more}
@@ -18,12 +18,16 @@ invariant_of-result g c =
     let one = group_seen c.args.group in
     let fine : closing_fault gs c.args.group.kind (map assignment_seen c.as_slice.result.now) ≡ None = rw (c.self.view_is, c.as_slice.ensures.value) c.requires in
     let index = c.in_ok-add.ensures.done gs c.self.invariant.index fine in
-    let written = take_at c.mark_segment.new.table _ c.self.inside.segmented.len (c.mark_segment.ensures.size ∙ c.as_mut_slice.ensures.len) in
-    let marks = c.mark_segment.ensures.marked gs (subst (AreMarked (segments_of gs)) (sym c.as_mut_slice.ensures.value) c.self.invariant.marks) in
-    let marked : AreMarked (segments_of (gs ++ one ∷ [])) c.mark_segment.new.table = rw c.as_slice-2.ensures.value at marks in
+    let ranged_written = take_at c.mark_range.new.table _ c.self.inside.ranged.len (c.mark_range.ensures.size ∙ c.as_mut_slice.ensures.len) in
+    let ranges = c.mark_range.ensures.marked gs (subst (AreRanged (ranges_of gs)) (sym c.as_mut_slice.ensures.value) c.self.invariant.ranged) in
+    let ranged : AreRanged (ranges_of (gs ++ one ∷ [])) c.mark_range.new.table = rw c.as_slice-2.ensures.value at ranges in
+    let written = take_at c.mark_segment.new.table _ c.self.inside.segmented.len (c.mark_segment.ensures.size ∙ c.as_mut_slice-2.ensures.len) in
+    let marks = c.mark_segment.ensures.marked gs (subst (AreMarked (segments_of gs)) (sym c.as_mut_slice-2.ensures.value) c.self.invariant.marks) in
+    let marked : AreMarked (segments_of (gs ++ one ∷ [])) c.mark_segment.new.table = rw c.as_slice-3.ensures.value at marks in
     rw c.with-groups.ensures (record {
       again = c.in_ok-keep.ensures.done ∙ ap (λ l. l ++ kept_part one) c.self.invariant.again ∙ sym (kept_more gs one);
-      ranged = c.in_ok-push_range.ensures.done ∙ ap (λ l. l ++ range_part one) c.self.invariant.ranged ∙ sym (ranges_more gs one);
+      said = c.in_ok-push_range.ensures.done ∙ ap (λ l. l ++ range_part one) c.self.invariant.said ∙ sym (ranges_more gs one);
       index = rw c.as_slice.ensures.value at index;
+      ranged = subst (AreRanged (ranges_of (gs ++ one ∷ []))) (sym ranged_written) ranged;
       marks = subst (AreMarked (segments_of (gs ++ one ∷ []))) (sym written) marked;
     })

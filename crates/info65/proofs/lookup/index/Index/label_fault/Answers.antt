@@ -3,4 +3,4 @@ use Rattle.info65.specs.Closing.{label_fault}
 use Rattle.info65.proofs.lookup.index.Index.label_fault.Goals as goal
 
 pub returns-in-Ok : goal.returns-in-Ok
-returns-in-Ok g c = λ ranges names i. c.name_fault.ensures ranges names i ∙ ap (label_fault names) (sym c.in-Ok.ensures)
+returns-in-Ok g c = λ names i. c.name_fault.ensures names i ∙ ap (label_fault names) (sym c.in-Ok.ensures)

@@ -1,0 +1,9 @@
+use Rattle.std.proofs.Common.{◌≡◌, ◌<◌, drop}
+use Rattle.info65.specs.Code.Slots.{hash_from}
+use Rattle.info65.proofs.lookup.slots.hash_of.Given as goal
+
+abbrev pub invariant-loop-byte : goal.invariant-loop-byte
+invariant-loop-byte l = record {
+  within : l.hash < 0x2_0000;
+  same : hash_from l.hash (drop l.byte-index l.text) ≡ hash_from 0 l.text;
+}
