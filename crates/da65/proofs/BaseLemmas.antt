@@ -14,7 +14,7 @@ use Rattle.map65.specs.declared.name.NameKind.{NameKind}
 use Rattle.map65.specs.declared.name.Place.{Place}
 use Rattle.stmt65.specs.Printable.{IsNameLong}
 use Rattle.stmt65.specs.Views as view
-use Rattle.stmt65.specs.Views.{ExprView, TargetView}
+use Rattle.stmt65.specs.Views.{TargetView}
 use Rattle.da65.specs.BaseNames.{base_name, is_constant, is_own, names_of}
 use Rattle.da65.specs.Code.Bases.{base_place, constant_offset, own_place}
 use Rattle.da65.specs.Statements.{address_expr, constant_base, expr_from, target_by, zero_page_expr}
@@ -36,7 +36,7 @@ default-long : (a : ℕ) → IsNameLong (default_name a)
 unfolding default_name
 default-long a = (omega arith, omega arith)
 
-same-base : (b c : Base) → Some b ≡ Some c → b ≡ c
+pub same-base : (b c : Base) → Some b ≡ Some c → b ≡ c
 same-base b c is = cc
 
 entry_start-long : (m : MapView) (a : ℕ) → AreNames m.info.names → IsNameLong (entry_base m a).text

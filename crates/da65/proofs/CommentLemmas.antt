@@ -13,10 +13,10 @@ use Rattle.stmt65.specs.Views as view
 use Rattle.std.proofs.lemmas.List.Elements.{All-head, All-tail}
 use Rattle.info65.proofs.Public.{last_name}
 use Rattle.map65.specs.MapView.{MapView}
-use Rattle.map65.specs.Segments as map_segments
 use Rattle.da65.specs.Comments.{comment_at, comment_by}
-use Rattle.da65.specs.Segments.{segment_at}
+use Rattle.map65.specs.Segments.{segment_at}
 use Rattle.da65.proofs.NameTexts.{text-long}
+use Rattle.da65.specs.Listing.{comment_line, comment_lines}
 
 -- ---- comments
 
@@ -82,16 +82,14 @@ pub some-segment : (m : MapView) (a : ℕ) (o : Option (List ℕ)) → AreSegmen
 some-segment m a None are e = tt
 some-segment m a (Some name) are e = (segment-printable m a name are (sym e)).0
 
--- no comment without a covering name
-pub none-comment : (m : MapView) (a : ℕ) → covering m.info.names a ≡ None → comment_at m a ≡ None
-unfolding comment_at
-none-comment m a e = ap (comment_by a) e
-
 pub given-told : (i : InfoView) (m : MapView) (a : ℕ) (o : Option (List ℕ)) → o ≡ comment_by a (covering i.names a) → i ≡ m.info → o ≡ comment_at m a
 unfolding comment_at
 given-told i m a o is same = is ∙ ap (λ (i : InfoView). comment_by a (covering i.names a)) same
 
 -- what a map tells of it
-pub segment-told : (n m : MapView) (a : ℕ) (o : Option (List ℕ)) → o ≡ map_segments.segment_at n a → n ≡ m → o ≡ segment_at m a
-unfolding segment_at
-segment-told n m a o is same = is ∙ ap (λ (m : MapView). map_segments.segment_at m a) same
+pub segment-told : (n m : MapView) (a : ℕ) (o : Option (List ℕ)) → o ≡ segment_at n a → n ≡ m → o ≡ segment_at m a
+segment-told n m a o is same = is ∙ ap (λ (m : MapView). segment_at m a) same
+
+pub comment-none : (m : MapView) (a : ℕ) → comment_at m a ≡ None → comment_lines m a ≡ []
+unfolding comment_lines
+comment-none m a is = ap comment_line is

@@ -18,8 +18,8 @@ use Rattle.da65.specs.Listing.{constants, has_constant_line}
 use Rattle.da65.proofs.BareLemmas.{constant-some}
 use Rattle.da65.proofs.BaseLemmas.{place-none}
 use Rattle.da65.proofs.NextLemmas.{constants-end, constants-next, line-none}
-use Rattle.da65.proofs.RoleLemmas.{bounds-inside}
 use Rattle.da65.proofs.SkipLemmas.{skip-in}
+use Rattle.map65.proofs.Public.{inside-if}
 
 and-none : (s t : Bool) → t ≡ false → (s && t) ≡ false
 and-none true t none = none
@@ -27,7 +27,7 @@ and-none false t none = refl
 
 role-listed : (m : MapView) (a : ℕ) → m.image.start ≤ a → a < end_of m.image → role_at m a ≡ Some (role_of m.info a)
 unfolding role_at
-role-listed m a low high = cond-true (is_inside m.image a) _ _ (bounds-inside m a low high)
+role-listed m a low high = cond-true (is_inside m.image a) _ _ (inside-if m a low high)
 
 none-listed : (m : MapView) (a : ℕ) → list_any is_skip_range m.info.ranges ≡ false → m.image.start ≤ a → a < end_of m.image → has_constant_line (names_of m) a ≡ false
 none-listed m a all low high = and-none _ _ (constant-some m a (role_of m.info a) (role-listed m a low high) ∙ skip-in m.info.ranges a all)

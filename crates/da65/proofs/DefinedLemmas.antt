@@ -1,18 +1,20 @@
 -- Which addresses of a group are defined by name.
-use Rattle.std.proofs.Common.{◌≡◌, ◌∙◌, ◌⊎◌, inl, inr, ℕ, ◌+◌, ◌-◌, ◌<◌, Bool, true, false, length, Option, Some, None, refl, sym, ap, subst, arith}
+use Rattle.std.proofs.Common.{◌≡◌, ◌∙◌, inl, inr, ℕ, ◌+◌, ◌-◌, ◌<◌, Bool, true, false, length, Option, Some, None, refl, sym, ap, subst, arith}
 use Rattle.std.proofs.lemmas.Bool.{eqb-true, true≢false}
 use Rattle.info65.specs.declared.information.range.RangeType.{RangeType}
 use Rattle.info65.specs.declared.information.range.RangeType.TheVariants as role
-use Rattle.map65.specs.Bases.{IsInCode, IsOutside}
+use Rattle.map65.specs.Bases.{IsInCode, IsOutside, LiesBy}
 use Rattle.map65.specs.ImageView.{is_inside}
 use Rattle.map65.specs.Items.{item_len, size_for}
 use Rattle.map65.specs.MapView.{MapView}
-use Rattle.map65.specs.Names.{Base, base_at}
+use Rattle.map65.specs.Names.{Base, base_at, place_of}
 use Rattle.map65.specs.Roles.{is_skip, role_of, unit_of}
-use Rattle.map65.proofs.Public.{one-role, place_law}
+use Rattle.map65.specs.declared.name.Place.{Place}
+use Rattle.map65.specs.declared.name.Place.TheVariants as defined
+use Rattle.map65.proofs.Public.{one-role, place_law, inside-index}
 use Rattle.da65.specs.BaseNames.{is_own}
 use Rattle.da65.specs.Groups.{IsGroupPlace, group_len, is_defined}
-use Rattle.da65.proofs.GroupLemmas.{group-fits, inside-index, item-begun, item-goes-on}
+use Rattle.da65.proofs.GroupLemmas.{group-fits, item-begun, item-goes-on}
 use Rattle.da65.proofs.InsideLemmas.{Further, group-piece, item-inside}
 
 -- what defines the address by name
@@ -75,13 +77,15 @@ group-unnamed m r p x here inside shown role-is table low high = go (is_defined 
     not-code : IsInCode m x → ⊥
     not-code code = true≢false (sym (ap is_code code.code) ∙ ap is_code role-x ∙ table.other)
 
-    at : {A B C : Type 0} (n : ℕ) → (IsOutside m n × A) ⊎ (((0 < item_len m n) × B) ⊎ (IsInCode m n × C)) → n ≡ x → is_defined m x ≡ true → ⊥
-    at n (inl out) own named = outside (subst (IsOutside m) own out.0)
-    at n (inr (inl item)) own named = not-item (subst (λ (y : ℕ). 0 < item_len m y) own item.0) named
-    at n (inr (inr code)) own named = not-code (subst (IsInCode m) own code.0)
+    lies : (p : Place) → LiesBy p m x → is_defined m x ≡ true → ⊥
+    lies defined.Constant out named = outside out
+    lies defined.Label item named = not-item item named
+    lies defined.Forward code named = not-code code
 
     none : is_defined m x ≡ true → ⊥
-    none named = let d = defined-base m x named in at d.base.address (place_law m x d.base d.is) d.own named
+    none named =
+        let d = defined-base m x named in
+        lies (place_of m x) (subst (λ (y : ℕ). LiesBy (place_of m y) m y) d.own (place_law m x d.base d.is)) named
 
     go : (t : Bool) → is_defined m x ≡ t → is_defined m x ≡ false
     go false e = e

@@ -10,7 +10,7 @@ use Rattle.info65.specs.Layouts.{IsEntry, IsNumber, layout_of}
 use Rattle.info65.specs.declared.information.range.Entry.{Entry}
 use Rattle.info65.specs.declared.information.range.Entry.TheVariants.{Instruction, Number, Address, Return, Character, Skipped}
 use Rattle.info65.specs.declared.information.range.RangeType.{RangeType}
-use Rattle.info65.specs.declared.information.range.RangeType.TheVariants.{Code, ByteTable, WordTable, DbyteTable, DwordTable, AddrTable, RtsTable, TextTable, Skip}
+use Rattle.info65.specs.declared.information.range.RangeType.TheVariants.{Code, Skip}
 use Rattle.map65.specs.Names.{Base}
 use Rattle.stmt65.specs.declared.directive.Directive.{Directive}
 use Rattle.stmt65.specs.declared.directive.Directive.TheVariants.{Word}
@@ -113,25 +113,12 @@ text_of_role t r bytes is of =
 -- a line of a table is one whatever the opcodes are
 pub group_of_table : (t u : Table) (r : RangeType) (bytes : List ℕ) → r ≢ Code → IsGroupOf t r bytes → IsGroupOf u r bytes
 group_of_table t u Code bytes other is = absurd (other refl)
-group_of_table t u ByteTable bytes other is = is
-group_of_table t u WordTable bytes other is = is
-group_of_table t u DbyteTable bytes other is = is
-group_of_table t u DwordTable bytes other is = is
-group_of_table t u AddrTable bytes other is = is
-group_of_table t u RtsTable bytes other is = is
-group_of_table t u TextTable bytes other is = is
 group_of_table t u Skip bytes other is = absurd is
+group_of_table t u _ bytes other is = is
 
 pub no_instruction : (r : RangeType) → r ≢ Code → (layout_of r).entry ≡ Instruction → ⊥
 no_instruction Code other is = other refl
-no_instruction ByteTable other is = absurd cc
-no_instruction WordTable other is = absurd cc
-no_instruction DbyteTable other is = absurd cc
-no_instruction DwordTable other is = absurd cc
-no_instruction AddrTable other is = absurd cc
-no_instruction RtsTable other is = absurd cc
-no_instruction TextTable other is = absurd cc
-no_instruction Skip other is = absurd cc
+no_instruction _ other is = absurd cc
 
 pub no_skipped : (t : Table) (r : RangeType) (bytes : List ℕ) → IsGroupOf t r bytes → (layout_of r).entry ≡ Skipped → ⊥
 no_skipped t r bytes of is = subst (λ (e : Entry). IsLineOf t (layout_of r).unit (layout_of r).per_line e bytes) is of

@@ -1,5 +1,5 @@
 -- The bytes of fragments whose values are numbers.
-use Rattle.std.proofs.Common.{◌≡◌, ℕ, true, false, cond, ◌+◌, ◌-◌, ◌%◌, ◌<◌, ◌≤◌, List, [], ◌∷◌, ◌++◌, length, map, Option, Some, None, refl, sym, ap, ◌∙◌, arith, length-append}
+use Rattle.std.proofs.Common.{◌≡◌, ℕ, true, cond, ◌+◌, ◌-◌, ◌%◌, ◌<◌, ◌≤◌, List, [], ◌∷◌, ◌++◌, length, map, Option, Some, None, refl, sym, ap, ◌∙◌, arith, length-append}
 use Rattle.std.specs.Prelude.{nat_lt, nat_le}
 use Rattle.std.specs.List.{list_all, flat_map}
 use Rattle.std.proofs.lemmas.Bool.{lt-ltb, le-leb, ltb-true, ltb-false, leb-true, and_from, cond_both}
@@ -9,8 +9,8 @@ use Rattle.stmt65.specs.Tables.{entry_len, entry_number}
 use Rattle.stmt65.specs.Printed.{entry_value}
 use Rattle.stmt65.proofs.Public.{entry_size, bytes_back, number_fits}
 use Rattle.stmt65.specs.SourceLine.{NumberValue, NumberDatum}
-use Rattle.stmt65.specs.Symbols.{Definition, value_in, is_known, word_in, has_zero_page_size}
-use Rattle.stmt65.specs.Coding.{entry_limit, Fragment, Fixed, Single, ZeroPage, Entry, Distance, entry_in, is_fragment_known, fragment_fits, fragment_bytes, fragment_len, coding_len, datum_fragments, is_near, distance}
+use Rattle.stmt65.specs.Symbols.{Definition, value_in, is_known, word_in}
+use Rattle.stmt65.specs.Coding.{entry_limit, Fragment, Fixed, Single, Entry, entry_in, is_fragment_known, fragment_fits, fragment_bytes, fragment_len, coding_len, datum_fragments, is_near, distance}
 use Rattle.map65.specs.ImageView.{AreBytes}
 use Rattle.map65.specs.Targets.{target_of}
 
@@ -19,14 +19,6 @@ use Rattle.map65.specs.Targets.{target_of}
 pub word_of_number : (all : List Definition) (n : ℕ) → n < 65536 → word_in all (NumberValue n) ≡ Some n
 unfolding word_in value_in
 word_of_number all n h = rw (lt-ltb n 65536 h) refl
-
-pub small_number : (above : List Definition) (n : ℕ) → n < 256 → has_zero_page_size above (NumberValue n) ≡ true
-unfolding has_zero_page_size
-small_number above n h = lt-ltb n 256 h
-
-pub large_number : (above : List Definition) (n : ℕ) → nat_lt n 256 ≡ false → has_zero_page_size above (NumberValue n) ≡ false
-unfolding has_zero_page_size
-large_number above n h = h
 
 pub number_known : (all : List Definition) (n : ℕ) → is_known all (NumberValue n) ≡ true
 unfolding is_known
@@ -63,20 +55,13 @@ pub fixed_gives : (Full : List Definition → Type 0) (next b : ℕ) (fragments 
 unfolding fragment_fits fragment_bytes
 fixed_gives Full next b fragments bytes rest = more_fragments Full next (Fixed b) fragments (b ∷ []) bytes refl (λ all full. refl) (λ all full. refl) (λ all full. refl) rest
 
-low_byte : (n : ℕ) → n < 256 → n % 256 ≡ n
+pub low_byte : (n : ℕ) → n < 256 → n % 256 ≡ n
 low_byte n h = omega arith
 
 pub single_gives : (Full : List Definition → Type 0) (next n : ℕ) (fragments : List Fragment) (bytes : List ℕ) → n < 256 → FragmentsGive Full next fragments bytes → FragmentsGive Full next (Single (NumberValue n) ∷ fragments) (n ∷ bytes)
 unfolding fragment_fits fragment_bytes
 single_gives Full next n fragments bytes h rest =
     more_fragments Full next (Single (NumberValue n)) fragments (n ∷ []) bytes refl (λ all full. number_known all n)
-    (λ all full. rw (word_of_number all n (omega arith), lt-ltb n 256 h) refl)
-    (λ all full. rw (word_of_number all n (omega arith)) (ap (λ (b : ℕ). b ∷ []) (low_byte n h))) rest
-
-pub zero_page_gives : (Full : List Definition → Type 0) (next n : ℕ) (fragments : List Fragment) (bytes : List ℕ) → n < 256 → FragmentsGive Full next fragments bytes → FragmentsGive Full next (ZeroPage (NumberValue n) ∷ fragments) (n ∷ bytes)
-unfolding fragment_fits fragment_bytes
-zero_page_gives Full next n fragments bytes h rest =
-    more_fragments Full next (ZeroPage (NumberValue n)) fragments (n ∷ []) bytes refl (λ all full. number_known all n)
     (λ all full. rw (word_of_number all n (omega arith), lt-ltb n 256 h) refl)
     (λ all full. rw (word_of_number all n (omega arith)) (ap (λ (b : ℕ). b ∷ []) (low_byte n h))) rest
 
@@ -126,14 +111,6 @@ target_is next b target room h =
     (λ high. cond_both (nat_le (256 - b) next) (Some (next - (256 - b))) None (λ (o : Option ℕ). o ≡ Some target → IsTarget next b target)
     (λ inside e. let same : next - (256 - b) ≡ target = cc in rw (← same) (backward_target next b (ltb-false b 128 high) h room (leb-true (256 - b) next inside)))
     (λ outside e. absurd cc))
-
-pub distance_gives : (Full : List Definition → Type 0) (next b target : ℕ) (fragments : List Fragment) (bytes : List ℕ) → IsTarget next b target → FragmentsGive Full next fragments bytes
-    → FragmentsGive Full next (Distance (NumberValue target) ∷ fragments) (b ∷ bytes)
-unfolding fragment_fits fragment_bytes
-distance_gives Full next b target fragments bytes is rest =
-    more_fragments Full next (Distance (NumberValue target)) fragments (b ∷ []) bytes refl (λ all full. number_known all target)
-    (λ all full. rw (word_of_number all target is.room) is.near)
-    (λ all full. rw (word_of_number all target is.room) (ap (λ (c : ℕ). c ∷ []) is.back)) rest
 
 -- ---- data
 

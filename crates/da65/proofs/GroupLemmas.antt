@@ -1,6 +1,6 @@
 -- Groups, byte by byte.
 use Rattle.std.proofs.Common.{◌≡◌, ◌≢◌, ◌∙◌, ℕ, zero, suc, ◌+◌, ◌-◌, ◌<◌, ◌≤◌, ◌&&◌, ◌==◌, nat_le, nat_lt, not, Bool, true, false, List, [], ◌∷◌, length, refl, ap, sym, subst, arith, ⊎_elim, if◌then◌else◌}
-use Rattle.std.proofs.lemmas.Bool.{and_parts, and_from, cond-true, cond-false, cond_both, cases_eq, cases_lt, eq-eqb, ne_eqb, eqb-true, lt-ltb, ltb-true, leb-true, le-leb, not-true}
+use Rattle.std.proofs.lemmas.Bool.{and_parts, and_from, cond-true, cond-false, cond_both, cases_eq, cases_lt, eq-eqb, ne_eqb, eqb-true, ltb-true, leb-true, not-true}
 use Rattle.info65.proofs.Public.{layout_some}
 use Rattle.map65.specs.ImageView.{end_of, is_inside}
 use Rattle.map65.specs.Items.{item_len, size_at}
@@ -8,7 +8,7 @@ use Rattle.map65.specs.MapView.{MapView}
 use Rattle.map65.specs.Pieces.{is_joined}
 use Rattle.map65.specs.Roles.{is_skip, role_of, unit_of}
 use Rattle.map65.specs.Spans.{addresses, left_at}
-use Rattle.map65.proofs.Public.{item-len-at, left-begun, left-first, left-going, left-inside, left-past, size-fits, size-positive, skip-size}
+use Rattle.map65.proofs.Public.{item-len-at, left-begun, left-first, left-going, left-inside, left-past, size-fits, size-positive, skip-size, inside-index}
 use Rattle.da65.specs.Groups.{IsGroupPlace, begins, goes_on, group_addresses, group_len, groups_from, is_defined, is_whole, limit_at, more_at, stride_at}
 
 -- ---- items
@@ -178,9 +178,6 @@ unfolding begins
 begins-index m k =
     let same : m.image.start + k - m.image.start ≡ k = omega arith in
     ap (λ (n : ℕ). is_inside m.image (m.image.start + k) && (not (is_skip (role_of m.info (m.image.start + k))) && left_at (stride_at m) m.image.start n == 0)) same
-
-pub inside-index : (m : MapView) (k : ℕ) → k < length m.image.bytes → is_inside m.image (m.image.start + k) ≡ true
-inside-index m k low = and_from _ _ (le-leb m.image.start (m.image.start + k) (omega arith)) (lt-ltb (m.image.start + k) (end_of m.image) (omega (arith, low)))
 
 pub begins-true : (m : MapView) (k : ℕ) → k < length m.image.bytes → is_skip (role_of m.info (m.image.start + k)) ≡ false → left_at (stride_at m) m.image.start k ≡ 0 → begins m (m.image.start + k) ≡ true
 begins-true m k low shown none =

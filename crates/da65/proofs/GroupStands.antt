@@ -35,7 +35,7 @@ use Rattle.map65.specs.Roles.{is_skip, is_skipped, unit_of}
 use Rattle.map65.specs.Targets.{entry_of}
 use Rattle.da65.specs.BaseNames.{AreSound, IsBaseOf, Names}
 use Rattle.da65.specs.Groups.{limit_of}
-use Rattle.da65.specs.Instructions.{instruction_in, size_of}
+use Rattle.da65.specs.Instructions.{instruction_in}
 use Rattle.da65.specs.KnownNames.{KnowsAll, KnowsConstants}
 use Rattle.da65.specs.ReassemblyLaw.{GivesBytes, GroupGivesItsBytes, IsWritten, ItemGivesItsBytes, ModeIsChosenBack, fragments_in, item_in}
 use Rattle.da65.specs.Shapes.{AreEntries, IsGroupOf, IsLineOf}
@@ -46,9 +46,11 @@ use Rattle.da65.proofs.LabelLaws.{group_takes, item_takes, label_read}
 use Rattle.da65.proofs.WorthLaws.{AlwaysWorth, word_worth_gives}
 use Rattle.da65.proofs.OperandLaws.{bytes_of_operands, operands_code}
 use Rattle.da65.proofs.ValueLaws.{IsWorth, before_worth, is-base, name_worth, number_worth}
-use Rattle.da65.proofs.StandsLaws.{Stands, after_unlabelled, at_some, begins_with, bytes_stand, data_stands, len_positive, no_fault}
+use Rattle.da65.proofs.StandsLaws.{Stands, after_unlabelled, at_some, begins_with, bytes_stand, data_stands, no_fault}
 use Rattle.da65.proofs.WrittenLaws.{first_byte, other_bytes}
 use Rattle.da65.proofs.TableLaws.{entries_give, text_give}
+use Rattle.map65.proofs.Public.{len-positive}
+use Rattle.map65.specs.Items.{code_size}
 
 -- ---- instructions
 
@@ -97,7 +99,7 @@ module _ (image : ImageView) (m : Names) (names : AreSound image m) where
         known_cpu = refl;
         same_cpu = refl;
         coded = codes.coded;
-        gives = rw (length-take-le (len_of op.mode) bytes long, ← first_again (len_of op.mode) is.first is.past bytes is.bytes_are (len_positive op.mode)) all;
+        gives = rw (length-take-le (len_of op.mode) bytes long, ← first_again (len_of op.mode) is.first is.past bytes is.bytes_are (len-positive op.mode)) all;
       }
 
   -- ---- items
@@ -115,12 +117,12 @@ module _ (image : ImageView) (m : Names) (names : AreSound image m) where
       with_operands op e None f = data_of (len_of op.mode)
       with_operands op e (Some os) f = instruction_stands p s bytes op os known (record { are_bytes = are; begins = e; has = f }) room
 
-      go : (o : Option Op) → instruction_in (table_of s.cpu) bytes ≡ o → Stands Full s (operation_in (source_line (statement_of m (table_of s.cpu) s.at bytes o))) (take (size_of o) bytes)
+      go : (o : Option Op) → instruction_in (table_of s.cpu) bytes ≡ o → Stands Full s (operation_in (source_line (statement_of m (table_of s.cpu) s.at bytes o))) (take (code_size o) bytes)
       go None e = data_of 1
       go (Some op) e = with_operands op e (operands_of m op.mode s.at bytes) refl
 
   code_stands : (p : ℕ → Bool) (s : State) (bytes : List ℕ) → KnowsConstants m p s.above → AreBytes bytes → s.at + length bytes ≤ 65536
-      → size_of (instruction_in (table_of s.cpu) bytes) ≡ length bytes → Stands Full s (operation_in (source_line (statement_in m (table_of s.cpu) s.at bytes))) bytes
+      → code_size (instruction_in (table_of s.cpu) bytes) ≡ length bytes → Stands Full s (operation_in (source_line (statement_in m (table_of s.cpu) s.at bytes))) bytes
   code_stands p s bytes known are room size =
       let whole : item_in (table_of s.cpu) bytes ≡ bytes = ap (λ (n : ℕ). take n bytes) size ∙ take_all (length bytes) bytes (omega arith) in
       subst (λ (front : List ℕ). Stands Full s (operation_in (source_line (statement_in m (table_of s.cpu) s.at bytes))) front) whole (item_stands p s bytes known are room)
@@ -235,7 +237,7 @@ module _ (image : ImageView) (m : Names) (names : AreSound image m) where
       let source : StatementView = statement_in m (table_of s.cpu) s.at bytes in
       subst (λ (line : SourceLine). GivesBytes all s line (item_in (table_of s.cpu) bytes)) (sym (label_read source None (item_takes m (table_of s.cpu) s.at bytes)))
       (stands_give all s (operation_in (source_line source)) (item_in (table_of s.cpu) bytes) k (item_stands p s bytes known are room)
-      (omega (arith, room, length-take (size_of (instruction_in (table_of s.cpu) bytes)) bytes)))
+      (omega (arith, room, length-take (code_size (instruction_in (table_of s.cpu) bytes)) bytes)))
 
   pub group_gives : (p : ℕ → Bool) (all : List Definition) (s : State) (r : RangeType) (bytes : List ℕ) → KnowsAll m all → KnowsConstants m p s.above → AreBytes bytes → s.at + length bytes ≤ 65536
       → IsGroupOf (table_of s.cpu) r bytes → GivesBytes all s (source_line (statement_for m (table_of s.cpu) r s.at bytes)) bytes
@@ -245,7 +247,7 @@ module _ (image : ImageView) (m : Names) (names : AreSound image m) where
       (stands_give all s (operation_in (source_line source)) bytes k (group_stands_at p s r bytes known are room of) room)
 
 pub item_gives_its_bytes : ItemGivesItsBytes
-item_gives_its_bytes image m p all s bytes names k known are some room = item_gives image m names p all s bytes k known are room
+item_gives_its_bytes image m all s bytes h = item_gives image m h.sound h.defined all s bytes h.known h.constants h.are_bytes h.room
 
 pub group_gives_its_bytes : GroupGivesItsBytes
-group_gives_its_bytes image m p all s r bytes names k known are some room of = group_gives image m names p all s r bytes k known are room of
+group_gives_its_bytes image m all s r bytes h of = group_gives image m h.sound h.defined all s r bytes h.known h.constants h.are_bytes h.room of

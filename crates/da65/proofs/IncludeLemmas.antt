@@ -1,22 +1,14 @@
 -- Preparing a run: its information file, and then one include file after the other.
-use Rattle.std.proofs.Common.{◌≡◌, ◌∙◌, ◌<◌, ◌≤◌, ◌+◌, ℕ, List, ◌∷◌, true, false, get_or, length, add-one, ap, drop, drop-cons, refl, sym}
+use Rattle.std.proofs.Common.{◌≡◌, ◌∙◌, ◌<◌, ◌≤◌, ◌+◌, ℕ, List, ◌∷◌, get_or, length, add-one, ap, drop, drop-cons, sym}
 use Rattle.std.proofs.lemmas.List.{drop_all, get_or_default}
-use Rattle.std.specs.Prelude.{Ok, Err, Result, is_some}
+use Rattle.std.specs.Prelude.{Ok, Result}
 use Rattle.info65.specs.Includes.{blank_include}
-use Rattle.info65.specs.Reader.{information}
-use Rattle.info65.specs.Views.{IncludeView, InfoView, OptionsView}
+use Rattle.info65.specs.Views.{IncludeView, InfoView}
 use Rattle.da65.specs.Code.Preparing.{Stops}
 use Rattle.da65.specs.Files.{FileView}
-use Rattle.da65.specs.Outcome.{◌>>=◌, accepted, no_input_message, with_file, with_includes}
+use Rattle.da65.specs.Outcome.{◌>>=◌, with_file, with_includes}
 use Rattle.da65.specs.declared.runs.preparing.Stop.{Stop}
 use Rattle.da65.specs.declared.runs.preparing.Stop.TheVariants.{Memory, Refused}
-
--- the information file names no input
-pub unnamed : (o : OptionsView) (info : List ℕ) (i : InfoView) → information o info ≡ Ok i → is_some i.settings.input ≡ false → accepted (information o info) ≡ Err no_input_message
-unnamed o info i h e = rw (h, e) refl
-
-pub named : (o : OptionsView) (info : List ℕ) (i : InfoView) → information o info ≡ Ok i → is_some i.settings.input ≡ true → accepted (information o info) ≡ Ok i
-named o info i h e = rw (h, e) refl
 
 -- ---- one include file after the other
 

@@ -17,7 +17,7 @@ use Rattle.stmt65.specs.Views.{StatementView}
 use Rattle.da65.specs.BaseNames.{Names, names_of}
 use Rattle.da65.specs.Code.ListedGroups.{IsGroupIn}
 use Rattle.da65.specs.Groups.{group_bytes}
-use Rattle.da65.specs.Instructions.{instruction_in, size_of}
+use Rattle.da65.specs.Instructions.{instruction_in}
 use Rattle.da65.specs.Listing.{group_line, has_empty_line, line_text}
 use Rattle.da65.specs.Shapes.{IsGroupOf}
 use Rattle.da65.specs.Statements.{statement_at, statement_for, statement_in}
@@ -27,6 +27,7 @@ use Rattle.da65.specs.declared.listing.style.Style.{Style}
 use Rattle.da65.proofs.GroupLemmas.{group-fits, group-some}
 use Rattle.da65.proofs.NextLemmas.{few-bytes}
 use Rattle.da65.proofs.ShapeLemmas.{group-shape}
+use Rattle.map65.specs.Items.{code_size}
 
 pub has-bytes : (m : MapView) (g : Group) → IsGroupIn m g → 0 < length g.bytes.now
 has-bytes m g is = omega (arith, is.len_is, group-some m g.index is.start.place is.start.inside is.start.shown)
@@ -47,14 +48,14 @@ is-short m g is = few-bytes (opcodes m) g.role g.bytes.now (of-role m m.info.set
 -- ---- code
 
 -- an item of code is an instruction, or one byte
-pub code-item : (m : MapView) (cpu : Cpu) (g : Group) → cpu ≡ m.info.settings.cpu → g.role ≡ Code → IsGroupIn m g → size_of (instruction_in (table_of cpu) g.bytes.now) ≡ length g.bytes.now
+pub code-item : (m : MapView) (cpu : Cpu) (g : Group) → cpu ≡ m.info.settings.cpu → g.role ≡ Code → IsGroupIn m g → code_size (instruction_in (table_of cpu) g.bytes.now) ≡ length g.bytes.now
 code-item m cpu g same code is = subst (λ (r : RangeType). IsGroupOf (table_of cpu) r g.bytes.now) code (of-role m cpu g same is)
 
 len-few : (x : Mode) → len_of x ≤ 8
 len-few Imp = omega arith
 len-few _ = omega arith
 
-size-few : (o : Option Op) → size_of o ≤ 8
+size-few : (o : Option Op) → code_size o ≤ 8
 size-few None = omega arith
 size-few (Some op) = len-few op.mode
 

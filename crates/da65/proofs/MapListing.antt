@@ -23,7 +23,8 @@ use Rattle.da65.specs.Comments.{comment_at}
 use Rattle.da65.specs.Groups.{IsGroupPlace, begins, group_addresses, group_bytes, group_len, skips, stride_at}
 use Rattle.da65.specs.Listing.{ListingLine, assignment_line, comment_line, comment_lines, comments, constant_lines, constants, ending_lines, forward_lines, forwards, group_line, group_lines, has_constant_line, has_empty_line, label_at, labelled, listing, listing_below, opening_lines, plain, segment_lines, separator, separator_lines, statement_lines, with_empty_line}
 use Rattle.da65.specs.ReassemblyLaw.{ListingGivesImage, NamesAreDefinedOnce, readings_of}
-use Rattle.da65.specs.Segments.{is_same_segment, segment_at, segment_before, segment_statement}
+use Rattle.da65.specs.Segments.{is_same_segment, segment_before, segment_statement}
+use Rattle.map65.specs.Segments.{segment_at}
 use Rattle.da65.specs.Statements.{statement_at}
 use Rattle.da65.specs.Style.{style_of}
 use Rattle.da65.proofs.GroupLemmas.{GroupBegins, begins-inside, begins-true, first_place, group-begun, group-some, left-within, place-next, place-of, stride-group}

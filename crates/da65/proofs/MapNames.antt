@@ -1,14 +1,15 @@
 -- The names of a map are such that its listing assembles back.
-use Rattle.std.proofs.Common.{◌≡◌, ◌∙◌, ◌⊎◌, inl, inr, ℕ, zero, suc, ◌+◌, ◌-◌, ◌<◌, Bool, true, false, not, length, Some, nat_le, nat_lt, refl, sym, ap, subst, arith}
+use Rattle.std.proofs.Common.{◌≡◌, ◌∙◌, inl, inr, ℕ, zero, suc, ◌+◌, ◌-◌, ◌<◌, Bool, true, false, not, length, Some, nat_le, nat_lt, refl, sym, ap, subst, arith}
 use Rattle.std.specs.List.{list_any}
 use Rattle.std.proofs.lemmas.Bool.{and_parts, leb-true, ltb-true, or_parts, true≢false}
-use Rattle.map65.specs.Bases.{BaseLaw, IsInCode, IsOutside}
+use Rattle.map65.specs.Bases.{BaseLaw, IsInCode, IsOutside, LiesBy}
 use Rattle.map65.specs.ImageView.{end_of, is_inside}
 use Rattle.map65.specs.Items.{item_len, size_at}
 use Rattle.map65.specs.MapView.{MapView}
 use Rattle.map65.specs.Names.{Base, base_at, place_of, text_by}
 use Rattle.map65.specs.Roles.{is_skip, role_of}
 use Rattle.map65.specs.Spans.{addresses}
+use Rattle.map65.specs.declared.name.Place.{Place}
 use Rattle.map65.specs.declared.name.Place.TheVariants as place
 use Rattle.map65.proofs.Public.{base_law, begun, inside-if, place_law, size-fits}
 use Rattle.da65.specs.BaseNames.{base_name, is_constant, names_of}
@@ -49,7 +50,8 @@ text-is : (m : MapView) (a : ℕ) (b : Base) → base_at m a ≡ Some b → base
 text-is m a b e = ap text_by e
 
 constant-is : (m : MapView) (a : ℕ) → skips m ≡ false → Defined m a → is_constant (place_of m a) ≡ not (is_inside m.image a)
-constant-is m a none h = at h.base.address (place_law m a h.base h.is) h.own
+constant-is m a none h =
+    lies (place_of m a) (subst (λ (x : ℕ). LiesBy (place_of m x) m x) h.own (place_law m a h.base h.is))
   where
     apart : (t : Bool) → is_inside m.image a ≡ t → (is_skip (role_of m.info a) ≡ true) → not (is_inside m.image a) ≡ true
     apart true e skip = absurd (true≢false (sym skip ∙ shown-inside m a none e))
@@ -68,13 +70,10 @@ constant-is m a none h = at h.base.address (place_law m a h.base h.is) h.own
         let size : size_at m (m.image.start + k) ≡ item_len m code.item = ap (size_at m) spot ∙ sym item.len in
         inside-if m a (omega (arith, item.low, code.after)) (omega (arith, spot, fits, size, code.before))
 
-    at : (n : ℕ) → (IsOutside m n × (place_of m n ≡ place.Constant)) ⊎ (((0 < item_len m n) × (place_of m n ≡ place.Label)) ⊎ (IsInCode m n × (place_of m n ≡ place.Forward)))
-        → n ≡ a → is_constant (place_of m a) ≡ not (is_inside m.image a)
-    at n (inl out) same = sym (ap (λ (x : ℕ). is_constant (place_of m x)) same) ∙ ap is_constant out.1 ∙ sym (outside (subst (IsOutside m) same out.0))
-    at n (inr (inl item)) same =
-        sym (ap (λ (x : ℕ). is_constant (place_of m x)) same) ∙ ap is_constant item.1 ∙ sym (ap not (begun m a (subst (λ (x : ℕ). 0 < item_len m x) same item.0)).inside)
-    at n (inr (inr code)) same =
-        sym (ap (λ (x : ℕ). is_constant (place_of m x)) same) ∙ ap is_constant code.1 ∙ sym (ap not (in-code (subst (IsInCode m) same code.0)))
+    lies : (p : Place) → LiesBy p m a → is_constant p ≡ not (is_inside m.image a)
+    lies place.Constant out = sym (outside out)
+    lies place.Label item = sym (ap not (begun m a item).inside)
+    lies place.Forward code = sym (ap not (in-code code))
 
 pub names_are_sound : NamesAreSound
 names_are_sound m placed are names none =

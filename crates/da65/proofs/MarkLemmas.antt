@@ -1,15 +1,14 @@
 -- A listing at comment level 0, without segments and comments, has no lines at the heads of its groups.
 use Rattle.std.proofs.Common.{◌≡◌, ◌∙◌, ◌+◌, ◌++◌, ◌-◌, ◌<◌, ℕ, Bool, true, false, List, [], ◌∷◌, Option, Some, None, refl, sym, ap, subst, arith, ⊎_elim}
 use Rattle.std.specs.Prelude.{if◌then◌else◌, ◌==◌, is_some, not, option_map}
-use Rattle.std.specs.List.{find, flat_map, list_any}
+use Rattle.std.specs.List.{flat_map, list_any}
 use Rattle.std.proofs.lemmas.Bool.{cases_lt}
 use denote.Bor.{Bor}
 use Rattle.info65.specs.Code.Names.{given_seen}
 use Rattle.info65.specs.declared.information.name.Given.{Given}
 use Rattle.std.specs.Bool.{OnFalse, OnTrue}
 use Rattle.info65.specs.Names.{covering, name_at}
-use Rattle.info65.specs.Segments.{contains, segment_covering}
-use Rattle.info65.specs.Views.{InfoView, NameView, SegmentView}
+use Rattle.info65.specs.Views.{InfoView, NameView}
 use Rattle.isa65.specs.declared.cpu.Cpu.{Cpu}
 use Rattle.info65.proofs.Public.{last_name}
 use Rattle.map65.specs.MapView.{IsSoundMap, MapView}
@@ -18,12 +17,13 @@ use Rattle.da65.specs.Code.SkipRanges.{is_skip_range}
 use Rattle.da65.specs.Comments.{comment_at, comment_by}
 use Rattle.da65.specs.Groups.{group_len}
 use Rattle.da65.specs.Lines.{IsListed, IsUnmarked}
-use Rattle.da65.specs.Listing.{ListingLine, comment_line, comment_lines, comments, opening_lines, segment_lines, separator_lines}
+use Rattle.da65.specs.Listing.{ListingLine, comment_lines, comments, opening_lines, segment_lines, separator_lines}
 use Rattle.da65.specs.Marks.{HasMarks, HasNoComments, HasNoMarks}
-use Rattle.da65.specs.Segments.{segment_at}
+use Rattle.map65.specs.Segments.{segment_at}
 use Rattle.da65.specs.Style.{style_of}
 use Rattle.da65.specs.declared.listing.style.Style.{Style}
-use Rattle.da65.proofs.SegmentLemmas.{segment-none}
+use Rattle.da65.proofs.SegmentLemmas.{segment-none, bare-segment}
+use Rattle.da65.proofs.CommentLemmas.{comment-none}
 
 bare-comment : (m : MapView) (a : ℕ) → HasNoComments m.info.names → comment_at m a ≡ None
 unfolding comment_at
@@ -46,17 +46,9 @@ flat-nothing : (f : ℕ → List ListingLine) → ((a : ℕ) → f a ≡ []) →
 flat-nothing f none [] = refl
 flat-nothing f none (x ∷ xs) = ap (λ (ls : List ListingLine). ls ++ flat_map f xs) (none x) ∙ flat-nothing f none xs
 
-bare-lines : (m : MapView) (a : ℕ) → comment_at m a ≡ None → comment_lines m a ≡ []
-unfolding comment_lines
-bare-lines m a is = ap comment_line is
-
 bare-comments : (m : MapView) (n a : ℕ) → ((a : ℕ) → comment_at m a ≡ None) → comments m n a ≡ []
 unfolding comments
-bare-comments m n a none = flat-nothing (comment_lines m) (λ a. bare-lines m a (none a)) (addresses n a)
-
-bare-segment : (m : MapView) (a : ℕ) → m.info.segments ≡ [] → segment_at m a ≡ None
-unfolding segment_at segment_covering
-bare-segment m a none = ap (λ (segments : List SegmentView). option_map (λ (s : SegmentView). s.name) (find (λ s. contains s a) segments)) none
+bare-comments m n a none = flat-nothing (comment_lines m) (λ a. comment-none m a (none a)) (addresses n a)
 
 bare-segments : (m : MapView) (a : ℕ) → ((a : ℕ) → segment_at m a ≡ None) → segment_lines m a ≡ []
 unfolding segment_lines

@@ -16,6 +16,7 @@ use Rattle.info65.proofs.Public.{last_name}
 use Rattle.map65.specs.MapView.{MapView}
 use Rattle.map65.specs.Names.{Base, base_at, base_by, given_base, entry_start, entry_base, is_referenced}
 use Rattle.map65.proofs.Public.{entry_start-default, entry_start-given}
+use Rattle.da65.proofs.BaseLemmas.{same-base}
 
 -- a text that can be printed, and that reads as a name
 pub record IsNameText (text : List ℕ) : Type 0 where
@@ -74,14 +75,11 @@ entry_start-text m a are = go (covering m.info.names (entry_start m a)) refl
     go (Some v) e = subst (λ (b : Base). IsNameText b.text) (sym (entry_start-given m a v e)) (covering-text m.info.names (entry_start m a) v are e)
     go None e = subst (λ (b : Base). IsNameText b.text) (sym (entry_start-default m a e)) (default-text (entry_start m a))
 
-the-base : (b d : Base) → Some b ≡ Some d → b ≡ d
-the-base b d e = cc
-
 pub base-text : (m : MapView) (a : ℕ) (b : Base) → AreNames m.info.names → base_at m a ≡ Some b → IsNameText b.text
 unfolding base_at
 base-text m a b are e = go (covering m.info.names a) refl (is_referenced m a) e
   where
     go : (o : Option NameView) → covering m.info.names a ≡ o → (w : Bool) → base_by o w (entry_base m a) ≡ Some b → IsNameText b.text
-    go (Some v) f w e = subst (λ (x : Base). IsNameText x.text) (the-base (given_base v) b e) (covering-text m.info.names a v are f)
-    go None f true e = subst (λ (x : Base). IsNameText x.text) (the-base (entry_base m a) b e) (entry_start-text m a are)
+    go (Some v) f w e = subst (λ (x : Base). IsNameText x.text) (same-base (given_base v) b e) (covering-text m.info.names a v are f)
+    go None f true e = subst (λ (x : Base). IsNameText x.text) (same-base (entry_base m a) b e) (entry_start-text m a are)
     go None f false e = absurd cc

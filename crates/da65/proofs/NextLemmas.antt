@@ -1,8 +1,8 @@
 -- The next of the lines that are left.
-use Rattle.std.proofs.Common.{◌≡◌, ◌∙◌, ℕ, suc, ◌+◌, ◌-◌, ◌<◌, ◌≤◌, ◌∷◌, ◌++◌, ◌&&◌, [], Bool, true, false, List, Option, Some, None, length, map, refl, ap, sym, subst, codes, arith, append_assoc, ⊎_elim}
+use Rattle.std.proofs.Common.{◌≡◌, ◌∙◌, ℕ, suc, ◌+◌, ◌-◌, ◌<◌, ◌≤◌, ◌∷◌, ◌++◌, ◌&&◌, [], Bool, true, false, List, Option, Some, None, length, map, refl, ap, sym, subst, codes, arith, append_assoc}
 use Rattle.std.specs.Prelude.{MatchOption, if◌then◌else◌}
 use Rattle.std.specs.List.{flat_map}
-use Rattle.std.proofs.lemmas.Bool.{and_parts, cases_lt}
+use Rattle.std.proofs.lemmas.Bool.{and_parts}
 use Rattle.isa65.specs.Mode.{len_of}
 use Rattle.isa65.specs.Opcodes.{Table}
 use Rattle.isa65.specs.declared.mode.Mode.{Mode}
@@ -23,10 +23,11 @@ use Rattle.da65.specs.BaseNames.{Names, base_name, is_base, is_constant, names_o
 use Rattle.da65.specs.Code.Bases.{base_place}
 use Rattle.da65.specs.Comments.{comment_at}
 use Rattle.da65.specs.Groups.{IsGroupPlace, group_bytes, group_len, groups_from, limit_of}
-use Rattle.da65.specs.Lines.{IsConstant, IsFirstOf, IsGroupStart, IsInGroup, IsNext, IsPlace, IsUnmarked, after_group, closed, comments_left, constants_left, group_left, groups_left, left_from, lines_from, segment_left, segment_of}
+use Rattle.da65.specs.Lines.{IsConstant, IsFirstOf, IsGroupStart, IsInGroup, IsNext, IsPlace, IsUnmarked, after_group, with_blank_after, comments_left, constants_left, group_left, groups_left, left_from, lines_from, segment_left, segment_of, IsLabelNext, IsNextIn}
 use Rattle.da65.specs.Listing.{ListingLine, assignment_line, comment_line, comment_lines, comments, constant_lines, constants, ending_lines, forward_lines, forwards, group_line, group_lines, has_constant_line, has_empty_line, has_separator, label_at, labelled, line_text, listing, listing_below, opening_lines, plain, segment_lines, separator, separator_lines, statement_lines}
-use Rattle.da65.specs.Segments.{is_same_segment, segment_at, segment_before, segment_statement}
-use Rattle.da65.specs.Instructions.{instruction_in, size_of}
+use Rattle.da65.specs.Segments.{is_same_segment, segment_before, segment_statement}
+use Rattle.map65.specs.Segments.{segment_at}
+use Rattle.da65.specs.Instructions.{instruction_in}
 use Rattle.da65.specs.Shapes.{IsGroupOf, IsLineOf}
 use Rattle.da65.specs.Statements.{statement_at}
 use Rattle.da65.specs.Style.{style_of}
@@ -41,6 +42,8 @@ use Rattle.stmt65.specs.Columns.{fits_label}
 use Rattle.stmt65.specs.Printable.{TakesLabel}
 use Rattle.stmt65.specs.Views as view
 use Rattle.stmt65.specs.Views.{StatementView}
+use Rattle.da65.proofs.CommentLemmas.{comment-none}
+use Rattle.map65.specs.Items.{code_size}
 
 -- ---- one line after the other
 
@@ -54,9 +57,6 @@ next-lines m p next text segment is =
     let t : Style = style_of m.info.settings in
     ap (map (line_text t)) is.lines.lines ∙ ap (λ (t : List ℕ). t ∷ lines_from next m) (sym is.lines.text_is)
 
-pub end-lines : (m : MapView) (p : ListingPlace) → left_from p m ≡ [] → lines_from p m ≡ []
-end-lines m p is = ap (map (line_text (style_of m.info.settings))) is
-
 -- a plain line
 pub next-plain : (m : MapView) (left : List ListingLine) (text : List ℕ) (next : ListingPlace) (segment : Option (List ℕ)) (t : Style) (s : StatementView)
     → left ≡ plain s ∷ left_from next m → text ≡ line_text t (plain s) → t ≡ style_of m.info.settings → IsPlace next m → segment_of next m ≡ segment → IsNext m left text next segment
@@ -69,6 +69,11 @@ next-plain m left text next segment t s lines is same place where_is = record {
 -- the same lines
 pub next-moved : (m : MapView) (left same : List ListingLine) (text : List ℕ) (next : ListingPlace) (segment : Option (List ℕ)) → left ≡ same → IsNext m same text next segment → IsNext m left text next segment
 next-moved m left same text next segment is known = subst (λ (ls : List ListingLine). IsNext m ls text next segment) (sym is) known
+
+-- the label and the statement of a group, where these are their lines
+pub from-label : (m : MapView) (k : ℕ) (lines : List ListingLine) (text : List ℕ) (next : ListingPlace) → statement_lines m (m.image.start + k) ≡ lines
+    → IsNextIn m k (lines ++ after_group m k) text next → IsLabelNext m k text next
+from-label m k lines text next is known = next-moved m _ (lines ++ after_group m k) text next _ (ap (λ (ls : List ListingLine). ls ++ after_group m k) is) known
 
 -- the same segment
 pub next-there : (m : MapView) (left : List ListingLine) (text : List ℕ) (next : ListingPlace) (segment same : Option (List ℕ)) → segment ≡ same → IsNext m left text next segment → IsNext m left text next same
@@ -134,10 +139,6 @@ constants-end m v high = flat-none (constant_lines m) 65536 v high
 pub comment-some : (m : MapView) (a : ℕ) (text : List ℕ) → comment_at m a ≡ Some text → comment_lines m a ≡ plain (view.remark text) ∷ []
 unfolding comment_lines
 comment-some m a text is = ap comment_line is
-
-pub comment-none : (m : MapView) (a : ℕ) → comment_at m a ≡ None → comment_lines m a ≡ []
-unfolding comment_lines
-comment-none m a is = ap comment_line is
 
 pub comments-here : (m : MapView) (end v : ℕ) (text : List ℕ) → v < end → comment_at m v ≡ Some text → comments m (end - v) v ≡ plain (view.remark text) ∷ comments m (end - (v + 1)) (v + 1)
 unfolding comments
@@ -296,9 +297,9 @@ forward-first m k v u first end t text here there is =
 
 -- ---- constant lines, and what follows
 
-closed-first : (any : Bool) (head : ListingLine) (rest : List ListingLine) → closed any (head ∷ rest) ≡ head ∷ closed true rest
-closed-first true head rest = refl
-closed-first false head rest = refl
+with_blank_after-first : (any : Bool) (head : ListingLine) (rest : List ListingLine) → with_blank_after any (head ∷ rest) ≡ head ∷ with_blank_after true rest
+with_blank_after-first true head rest = refl
+with_blank_after-first false head rest = refl
 
 pub constant-comment : (m : MapView) (v : ℕ) (any : Bool) (text : List ℕ) → IsConstant m v → comment_at m v ≡ Some text
     → constants_left m v any ≡ plain (view.remark text) ∷ assignment_line (names_of m) v ∷ constants_left m (v + 1) true
@@ -307,8 +308,8 @@ constant-comment m v any text is comment =
     let rest : List ListingLine = constants m (65536 - (v + 1)) (v + 1) in
     let front : constants m (65536 - v) v ≡ plain (view.remark text) ∷ assignment_line (names_of m) v ∷ rest =
     constants-here m v is ∙ ap (λ (ls : List ListingLine). ls ++ assignment_line (names_of m) v ∷ rest) (comment-some m v text comment) in
-    ap (λ (ls : List ListingLine). closed any ls ++ groups_left m 0) front
-    ∙ ap (λ (ls : List ListingLine). ls ++ groups_left m 0) (closed-first any (plain (view.remark text)) (assignment_line (names_of m) v ∷ rest))
+    ap (λ (ls : List ListingLine). with_blank_after any ls ++ groups_left m 0) front
+    ∙ ap (λ (ls : List ListingLine). ls ++ groups_left m 0) (with_blank_after-first any (plain (view.remark text)) (assignment_line (names_of m) v ∷ rest))
 
 pub constant-bare : (m : MapView) (v : ℕ) (any : Bool) → IsConstant m v → comment_lines m v ≡ []
     → constants_left m v any ≡ assignment_line (names_of m) v ∷ constants_left m (v + 1) true
@@ -317,20 +318,20 @@ constant-bare m v any is none =
     let rest : List ListingLine = constants m (65536 - (v + 1)) (v + 1) in
     let front : constants m (65536 - v) v ≡ assignment_line (names_of m) v ∷ rest =
     constants-here m v is ∙ ap (λ (ls : List ListingLine). ls ++ assignment_line (names_of m) v ∷ rest) none in
-    ap (λ (ls : List ListingLine). closed any ls ++ groups_left m 0) front
-    ∙ ap (λ (ls : List ListingLine). ls ++ groups_left m 0) (closed-first any (assignment_line (names_of m) v) rest)
+    ap (λ (ls : List ListingLine). with_blank_after any ls ++ groups_left m 0) front
+    ∙ ap (λ (ls : List ListingLine). ls ++ groups_left m 0) (with_blank_after-first any (assignment_line (names_of m) v) rest)
 
 pub constant-moved : (m : MapView) (v u : ℕ) (any : Bool) → constants m (65536 - v) v ≡ constants m (65536 - u) u → constants_left m v any ≡ constants_left m u any
 unfolding constants_left
-constant-moved m v u any same = ap (λ (ls : List ListingLine). closed any ls ++ groups_left m 0) same
+constant-moved m v u any same = ap (λ (ls : List ListingLine). with_blank_after any ls ++ groups_left m 0) same
 
 pub constant-blank : (m : MapView) (v : ℕ) → constants m (65536 - v) v ≡ [] → constants_left m v true ≡ plain view.blank ∷ groups_left m 0
 unfolding constants_left
-constant-blank m v none = ap (λ (ls : List ListingLine). closed true ls ++ groups_left m 0) none
+constant-blank m v none = ap (λ (ls : List ListingLine). with_blank_after true ls ++ groups_left m 0) none
 
 pub constant-none : (m : MapView) (v : ℕ) → constants m (65536 - v) v ≡ [] → constants_left m v false ≡ groups_left m 0
 unfolding constants_left
-constant-none m v none = ap (λ (ls : List ListingLine). closed false ls ++ groups_left m 0) none
+constant-none m v none = ap (λ (ls : List ListingLine). with_blank_after false ls ++ groups_left m 0) none
 
 -- ---- the label and the statement
 
@@ -481,13 +482,6 @@ stay-in-segment m k a text next here old place is before same known =
 
 -- ---- where a group begins
 
-pub group-start : (m : MapView) (k : ℕ) (bytes : List ℕ) → IsGroupPlace m k → bytes ≡ m.image.bytes → (k ≡ length bytes → ⊥)
-    → (k < length m.image.bytes → is_skip (role_of m.info (m.image.start + k)) ≡ false) → IsGroupStart m k
-group-start m k bytes here same other shown =
-    let count : length bytes ≡ length m.image.bytes = ap length same in
-    let low : k < length m.image.bytes = ⊎_elim (λ is. is) (λ high. absurd (other (omega (arith, high, here.bound, count)))) (cases_lt k (length m.image.bytes)) in
-    record { place = here; inside = low; shown = shown low }
-
 pub inside-start : (m : MapView) (k a : ℕ) → IsGroupStart m k → a ≡ m.image.start + k → IsInGroup m k (a + 1)
 inside-start m k a start place =
     let some = group-some m k start.place start.inside start.shown in
@@ -502,7 +496,7 @@ len-small _ = omega arith
 few-in : (t : Table) (unit per_line : ℕ) (e : Entry) (bytes : List ℕ) → IsEntry unit per_line e → IsLineOf t unit per_line e bytes → length bytes ≤ 16
 few-in t unit per_line Instruction bytes is of = small (instruction_in t bytes) of
   where
-    small : (o : Option Op) → size_of o ≡ length bytes → length bytes ≤ 16
+    small : (o : Option Op) → code_size o ≡ length bytes → length bytes ≤ 16
     small None e = omega (arith, e)
     small (Some op) e = omega (arith, e, len-small op.mode)
 few-in t unit per_line (Number order) bytes is of = few_entries unit per_line bytes (omega (arith, is.1)) of

@@ -14,7 +14,8 @@ use Rattle.da65.proofs.GroupLemmas.{group-some, item-begun, stride-group, stride
 use Rattle.da65.proofs.InsideLemmas.{full-more, group-piece}
 use Rattle.da65.proofs.DefinedLemmas.{IsTable, group-unnamed}
 use Rattle.da65.proofs.PlaceLemmas.{Leads, each-place}
-use Rattle.da65.proofs.ShapeLemmas.{role-past, group-one, limit-other, limit-whole, one-more, size-is, full_len-of}
+use Rattle.da65.proofs.ShapeLemmas.{role-past, limit-other, limit-whole, one-more, size-is, full_len-of}
+use Rattle.da65.proofs.StepLemmas.{group-one}
 
 none-over : (r : RangeType) → 0 % limit_of r ≡ 0
 none-over r = mod-eq_of_lt (omega (arith, layout_line r))

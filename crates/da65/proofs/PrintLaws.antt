@@ -41,7 +41,8 @@ use Rattle.da65.proofs.EntryLemmas.{address_bytes, few_entries, number_small, nu
 use Rattle.da65.proofs.FragmentLaws.{target_is}
 use Rattle.da65.proofs.NameTexts.{IsNameText}
 use Rattle.da65.proofs.TargetBounds.{byte-small, entry-small, word-small}
-use Rattle.da65.proofs.StandsLaws.{at_some, begins_with, len_positive}
+use Rattle.da65.proofs.StandsLaws.{at_some, begins_with}
+use Rattle.map65.proofs.Public.{len-positive}
 
 -- what `put_line` takes, with the widths that its types keep
 pub record StatementPrints (s : StatementView) : Type 0 where
@@ -171,7 +172,7 @@ unfolding statement_in
 item_prints m h t a bytes are some room = go (instruction_in t bytes) refl
   where
     with_operands : (op : Op) → instruction_in t bytes ≡ Some op → (o : Option OperandsView) → operands_of m op.mode a bytes ≡ o → StatementPrints (written t op bytes o)
-    with_operands op e None f = bytes_print (len_of op.mode) bytes are (len_positive op.mode) (len_small op.mode) (begins_with t bytes op e).long
+    with_operands op e None f = bytes_print (len_of op.mode) bytes are (len-positive op.mode) (len_small op.mode) (begins_with t bytes op e).long
     with_operands op e (Some os) f =
         let long : len_of op.mode ≤ length bytes = (begins_with t bytes op e).long in
         let keep = at_some (Keep op.mode) (operands_of m op.mode a bytes) os f (operands_print m h op.mode a bytes are long (omega arith)) in

@@ -4,10 +4,11 @@ use Rattle.isa65.specs.Mode.{len_of}
 use Rattle.isa65.specs.declared.op.Op.{Op}
 use Rattle.stmt65.specs.Views as view
 use Rattle.stmt65.specs.Views.{OperandsView}
-use Rattle.da65.specs.Instructions.{instruction_in, size_of}
+use Rattle.da65.specs.Instructions.{instruction_in}
 use Rattle.da65.specs.ReassemblyLaw.{TargetIsInRange, UnwrittenIsBytes, WrittenIsInstruction}
 use Rattle.da65.specs.Statements.{operands_of, statement_in, statement_of, written}
 use Rattle.da65.proofs.FragmentLaws.{target_is}
+use Rattle.map65.specs.Items.{code_size}
 
 pub written_is_instruction : WrittenIsInstruction
 unfolding statement_in
@@ -22,7 +23,7 @@ unwritten_is_bytes m t a bytes are none = go (instruction_in t bytes) refl
     with_operands op e None f = refl
     with_operands op e (Some os) f = absurd (none op os (record { are_bytes = are; begins = e; has = f }))
 
-    go : (o : Option Op) → instruction_in t bytes ≡ o → statement_of m t a bytes o ≡ view.bytes (take (size_of o) bytes)
+    go : (o : Option Op) → instruction_in t bytes ≡ o → statement_of m t a bytes o ≡ view.bytes (take (code_size o) bytes)
     go None e = refl
     go (Some op) e = with_operands op e (operands_of m op.mode a bytes) refl
 

@@ -1,10 +1,9 @@
 -- Which groups are left to decide whether a segment is entered again.
 use Rattle.std.proofs.Common.{◌≡◌, ◌∙◌, ◌+◌, ◌<◌, ◌&&◌, ◌||◌, ℕ, Bool, List, [], ◌∷◌, true, false, ap, length, map, not, refl, subst, sym}
 use Rattle.std.specs.Prelude.{◌==◌, Option, None, Some, codes, is_some}
-use Rattle.std.specs.Bool.{OnFalse}
 use Rattle.std.specs.Option.{option_or}
 use Rattle.std.specs.Str.{bytes_eq}
-use Rattle.std.proofs.lemmas.Bool.{eq-eqb, eqb-true, false≢true}
+use Rattle.std.proofs.lemmas.Bool.{eq-eqb, eqb-true, false≢true, false_from_ne_true}
 use Rattle.std.proofs.lemmas.Slice.Eq.{bytes_eq-Decides}
 use Rattle.info65.specs.Code.Segments.{segment_seen}
 use Rattle.info65.specs.Segments.{AreSegments, first_named, segment_covering, segment_key}
@@ -15,12 +14,13 @@ use Rattle.map65.specs.ImageView.{ImageView}
 use Rattle.map65.specs.MapView.{MapView}
 use Rattle.map65.specs.Roles.{is_skip, role_of}
 use Rattle.da65.specs.SegmentReentry.{enters_again, is_entered_again, leads_back, segment_name}
-use Rattle.da65.specs.Code.SegmentReentry.{IsAfter, IsDecidedFrom, IsKeyed, IsKnownFrom, IsNew, by_key, has_had, has_key, is_back, is_same_key, of_name}
-use Rattle.da65.specs.Code.KeySet.{has_bit}
+use Rattle.da65.specs.Code.SegmentReentry.{IsAfter, IsDecidedFrom, IsKeyed, IsKnownFrom, IsNew, by_key, has_had, is_back, is_same_key, of_name}
 use Rattle.da65.specs.declared.runs.segment_reentry.Entered.{Entered}
 use Rattle.da65.specs.Groups.{IsGroupPlace, group_addresses, group_len, groups_from}
-use Rattle.da65.specs.Segments.{is_same_segment, segment_at}
+use Rattle.da65.specs.Segments.{is_same_segment}
+use Rattle.map65.specs.Segments.{segment_at}
 use Rattle.da65.proofs.GroupLemmas.{groups-end, groups-first, groups-next, groups-skip}
+use Rattle.da65.proofs.SegmentLemmas.{bare-segment}
 
 -- ---- keys
 
@@ -29,18 +29,9 @@ by_option None some none = none refl
 by_option (Some x) some none = some x refl
 
 alike : (b c : Bool) → (b ≡ true → c ≡ true) → (c ≡ true → b ≡ true) → b ≡ c
-alike true true f g = refl
 alike true false f g = absurd (false≢true (f refl))
 alike false true f g = absurd (false≢true (g refl))
-alike false false f g = refl
-
-not_so : (b : Bool) → (b ≡ true → ⊥) → b ≡ false
-not_so true f = absurd (f refl)
-not_so false f = refl
-
-or-none : (b : Bool) → (b || false) ≡ b
-or-none true = refl
-or-none false = refl
+alike _ _ f g = refl
 
 same_some : {X : Type 0} {x y : X} → ◌≡◌ {A = Option X} (Some x) (Some y) → x ≡ y
 same_some is = cc
@@ -54,17 +45,15 @@ key-tells segments n t k l are is also =
 
 -- names whose keys are not equal are not
 key-apart : (segments : List SegmentView) (n t : List ℕ) (o p : Option ℕ) → first_named segments n ≡ o → first_named segments t ≡ p → (o ≡ p → ⊥) → bytes_eq n t ≡ false
-key-apart segments n t o p is also apart = not_so (bytes_eq n t) (λ yes. apart (sym is ∙ ap (first_named segments) ((bytes_eq-Decides n t).0 yes) ∙ also))
+key-apart segments n t o p is also apart = false_from_ne_true (bytes_eq n t) (λ yes. apart (sym is ∙ ap (first_named segments) ((bytes_eq-Decides n t).0 yes) ∙ also))
 
 same-keys : (segments : List SegmentView) (s t : Option (List ℕ)) (k l : Option ℕ) → AreSegments segments → IsKeyed segments s k → IsKeyed segments t l → is_same_key k l ≡ is_same_segment s t
 same-keys segments None t (Some k) l are is also = absurd is
 same-keys segments (Some n) t None l are is also = absurd is
 same-keys segments s None k (Some l) are is also = absurd also
 same-keys segments s (Some u) k None are is also = absurd also
-same-keys segments None None None None are is also = refl
-same-keys segments None (Some u) None (Some l) are is also = refl
-same-keys segments (Some n) None (Some k) None are is also = refl
 same-keys segments (Some n) (Some u) (Some k) (Some l) are is also = key-tells segments n u k l are is also
+same-keys segments s t k l are is also = refl
 
 -- the key of the name by which a segment is compared
 pub record IsNameKey (segments : List SegmentView) (n : List ℕ) (key : Option ℕ) : Type 0 where
@@ -73,9 +62,8 @@ pub record IsNameKey (segments : List SegmentView) (n : List ℕ) (key : Option 
 
 name-keyed : (segments : List SegmentView) (s : Option (List ℕ)) (k code : Option ℕ) → IsKeyed segments s k → code ≡ first_named segments (codes "CODE") → IsNameKey segments (segment_name s) (option_or k code)
 name-keyed segments None None code is also = record { is = sym also; code = λ none. refl }
-name-keyed segments None (Some k) code is also = absurd is
-name-keyed segments (Some n) None code is also = absurd is
 name-keyed segments (Some n) (Some k) code is also = record { is = is; code = λ none. absurd cc }
+name-keyed segments _ _ code is also = absurd is
 
 code-name : (n : List ℕ) (b : Bool) → n ≡ codes "CODE" → (b && bytes_eq (codes "CODE") n) ≡ b
 code-name n true is = (bytes_eq-Decides (codes "CODE") n).1 (sym is)
@@ -145,15 +133,6 @@ unfolding segment_at
 keyed-map m i a key same are is = keyed-at m.info.segments a key (subst (λ (x : InfoView). AreSegments x.segments) (sym same) are) (is ∙ ap (λ (x : InfoView). segment_key x.segments a) (sym same))
 
 -- ---- names that are kept
-
-pub none-kept : (words : List ℕ) → ((k : ℕ) → has_bit words k ≡ false) → (k : Option ℕ) → has_key words false k ≡ false
-none-kept words none None = refl
-none-kept words none (Some k) = none k
-
--- what holds if a test is false
-pub on-false : (b : Bool) (P : Type 0) → b ≡ false → OnFalse b P → P
-on-false true P is h = absurd (false≢true (sym is))
-on-false false P is h = h
 
 -- ---- groups that are left
 
@@ -309,14 +288,10 @@ known-end m k e end known = decided-end m k known.segment (of_name m.info.segmen
 
 -- ---- no segments
 
-segment-none : (m : MapView) (a : ℕ) → m.info.segments ≡ [] → segment_at m a ≡ None
-unfolding segment_at segment_covering
-segment-none m a none = rw none refl
-
 enters-default : (m : MapView) (gs : List ℕ) (had : List (List ℕ)) → m.info.segments ≡ [] → enters_again None had (map (segment_at m) gs) ≡ false
 enters-default m [] had none = enters-none None had
 enters-default m (a ∷ gs) had none =
-    ap (λ (s : Option (List ℕ)). enters_again None had (s ∷ map (segment_at m) gs)) (segment-none m a none)
+    ap (λ (s : Option (List ℕ)). enters_again None had (s ∷ map (segment_at m) gs)) (bare-segment m a none)
     ∙ enters-step None None had (map (segment_at m) gs)
     ∙ enters-default m gs (segment_name None ∷ had) none
 

@@ -2,7 +2,7 @@
 use Rattle.std.proofs.Common.{◌≡◌, ◌∙◌, ℕ, suc, ◌<◌, ◌≤◌, ◌&&◌, ◌||◌, ◌==◌, nat_le, nat_lt, not, Bool, true, false, List, [], ◌∷◌, Option, Some, None, length, refl, ap, sym, arith}
 use Rattle.std.proofs.lemmas.Option.{cond_some, none-some}
 use Rattle.std.specs.List.{list_any}
-use Rattle.std.proofs.lemmas.Bool.{and_parts, and_from, both_ways, cond-false, cond_both, eq-eqb, eqb-true, false≢true, lt-ltb, ltb-true, leb-true, le-leb}
+use Rattle.std.proofs.lemmas.Bool.{and_parts, both_ways, cond-false, cond_both, eq-eqb, eqb-true, false≢true, ltb-true, leb-true}
 use Rattle.info65.proofs.Public.{own_address_wins}
 use Rattle.info65.specs.Names.{AreNames, covering, name_at}
 use Rattle.info65.specs.Views.{NameView}
@@ -12,7 +12,7 @@ use Rattle.map65.specs.Items.{item_len}
 use Rattle.map65.specs.MapView.{MapView}
 use Rattle.map65.specs.Names.{Base}
 use Rattle.map65.specs.Pieces.{is_in_run, is_joined, is_own}
-use Rattle.map65.proofs.Public.{base-covered, in-run}
+use Rattle.map65.proofs.Public.{base-covered, in-run, inside-if}
 use Rattle.map65.specs.Roles.{is_wide, role_at, role_of}
 use Rattle.da65.specs.BaseNames as base_names
 use Rattle.da65.specs.Groups.{goes_on, is_defined, is_whole}
@@ -27,9 +27,6 @@ pub inside-bounds : (m : MapView) (a : ℕ) → is_inside m.image a ≡ true →
 inside-bounds m a is =
     let both = and_parts (nat_le m.image.start a) (nat_lt a (end_of m.image)) is in
     record { low = leb-true m.image.start a both.0; high = ltb-true a (end_of m.image) both.1 }
-
-pub bounds-inside : (m : MapView) (a : ℕ) → m.image.start ≤ a → a < end_of m.image → is_inside m.image a ≡ true
-bounds-inside m a low high = and_from _ _ (le-leb m.image.start a low) (lt-ltb a (end_of m.image) high)
 
 -- no address after $FFFF lies in the image
 outside : (m : MapView) (a : ℕ) → IsPlaced m.image → 65536 ≤ a → is_inside m.image a ≡ false
@@ -66,7 +63,7 @@ run-outside m a none = go (is_in_run m a) refl
   where
     go : (t : Bool) → is_in_run m a ≡ t → t ≡ false
     go false is = refl
-    go true is = let run = in-run m a is in absurd (both_ways (is_inside m.image a) (role-none m a none) (bounds-inside m a (omega (arith, run.low)) run.high))
+    go true is = let run = in-run m a is in absurd (both_ways (is_inside m.image a) (role-none m a none) (inside-if m a (omega (arith, run.low)) run.high))
 
 -- ---- items that go on
 
@@ -95,12 +92,8 @@ own-defined m a are is =
     ap (λ (o : Option Base). base_names.is_own a o) (base-covered m a (name_at m.info.names g.index) wins) ∙ eq-eqb (name_at m.info.names g.index).address a g.here
 
 goes-by : (r wide own whole named : Bool) → (own ≡ true → named ≡ true) → ((r && not (wide && own)) && (whole && not named)) ≡ (r && (whole && not named))
-goes-by false wide own whole named known = refl
-goes-by true false own whole named known = refl
-goes-by true true false whole named known = refl
-goes-by true true true true true known = refl
-goes-by true true true false named known = refl
 goes-by true true true true false known = absurd (let no : false ≡ true = known refl in cc)
+goes-by _ _ _ _ _ known = refl
 
 -- the item at an address of a run goes on if it is whole and not defined by name
 pub goes-run : (m : MapView) (a : ℕ) → AreNames m.info.names → goes_on m a ≡ (is_in_run m a && (is_whole m a && not (is_defined m a)))

@@ -1,13 +1,15 @@
 -- The segment of the group before.
-use Rattle.std.proofs.Common.{◌≡◌, ◌∙◌, ℕ, zero, suc, ◌+◌, ◌-◌, ◌<◌, true, false, List, length, Option, Some, None, refl, ap, arith}
+use Rattle.std.proofs.Common.{◌≡◌, ◌∙◌, ℕ, zero, suc, ◌+◌, ◌-◌, ◌<◌, true, false, List, length, Option, Some, None, refl, ap, arith, []}
 use Rattle.std.proofs.lemmas.Bool.{cond-true, cond-false, cond_both}
 use Rattle.std.proofs.lemmas.Slice.Eq.{bytes_eq-Decides}
 use Rattle.map65.specs.MapView.{MapView}
 use Rattle.map65.specs.Roles.{is_skip, role_of}
 use Rattle.da65.specs.Groups.{begins, group_len, stride_at}
 use Rattle.da65.specs.Lines.{IsGroupStart}
-use Rattle.da65.specs.Segments.{is_same_segment, segment_at, segment_before}
+use Rattle.da65.specs.Segments.{is_same_segment, segment_before}
+use Rattle.map65.specs.Segments.{segment_at}
 use Rattle.da65.proofs.GroupLemmas.{begins-inside, begins-skip, begins-true, group-fits, group-some, left-within, stride-group}
+use Rattle.info65.specs.Segments.{segment_covering}
 
 segment-here : (m : MapView) (k : ℕ) → begins m (m.image.start + k) ≡ true → segment_before m (suc k) ≡ segment_at m (m.image.start + k)
 unfolding segment_before
@@ -55,6 +57,10 @@ segment-none m (suc k) none =
 
 pub same-segment : (s t : Option (List ℕ)) → is_same_segment s t ≡ true → s ≡ t
 same-segment None None same = refl
-same-segment None (Some t) same = absurd cc
-same-segment (Some s) None same = absurd cc
 same-segment (Some s) (Some t) same = ap (λ (x : List ℕ). Some x) ((bytes_eq-Decides s t).0 same)
+same-segment _ _ same = absurd cc
+
+-- without segments there is none
+pub bare-segment : (m : MapView) (a : ℕ) → m.info.segments ≡ [] → segment_at m a ≡ None
+unfolding segment_at segment_covering
+bare-segment m a none = rw none refl

@@ -6,8 +6,6 @@ use Rattle.std.proofs.Math.Nat.{mul-le-mul_right, mul-mod_left}
 use Rattle.std.proofs.lemmas.List.{get_or-drop, get_or-take, length-take-le}
 use Rattle.isa65.specs.Mode.{len_of}
 use Rattle.isa65.specs.Opcodes.{Table, decoded}
-use Rattle.isa65.specs.declared.mode.Mode.{Mode}
-use Rattle.isa65.specs.declared.mode.Mode.TheVariants.{Imp}
 use Rattle.isa65.specs.declared.op.Op.{Op}
 use Rattle.info65.proofs.Public.{layout_line}
 use Rattle.info65.specs.declared.information.range.RangeType.{RangeType}
@@ -17,12 +15,13 @@ use Rattle.map65.specs.Items.{code_size, item_len, size_at, size_for, full_len_a
 use Rattle.map65.specs.MapView.{MapView, opcodes}
 use Rattle.map65.specs.Pieces.{are_joined, is_joined}
 use Rattle.map65.specs.Roles.{is_skip, role_of, unit_of}
-use Rattle.map65.proofs.Public.{item-len-at, joined-in, one-role, size-one-piece, size-positive}
+use Rattle.map65.proofs.Public.{item-len-at, joined-in, one-role, size-one-piece, size-positive, len-positive}
 use Rattle.da65.specs.Groups.{IsGroupPlace, goes_on, group_bytes, group_len, is_whole, limit_at, limit_of, more_at}
-use Rattle.da65.specs.Instructions.{instruction_in, size_of, whole_in}
+use Rattle.da65.specs.Instructions.{instruction_in, whole_in}
 use Rattle.da65.specs.ReassemblyLaw.{GroupsAreGroups, IsGroup}
 use Rattle.da65.specs.Shapes.{AreEntries, IsGroupOf}
 use Rattle.da65.proofs.GroupLemmas.{group-begun, group-fits, group-some, item-begun, item-goes-on, more-false, more-none, more-true, place-of}
+use Rattle.da65.proofs.StepLemmas.{group-one}
 
 -- ---- the bytes from an address on
 
@@ -40,15 +39,11 @@ group-long m k fits =
 
 -- ---- code
 
-len-positive : (x : Mode) → 1 ≤ len_of x
-len-positive Imp = omega arith
-len-positive _ = omega arith
-
-whole-size : (count : ℕ) (o : Option Op) → ((count ≡ code_size o) ⊎ (count ≡ 1)) → size_of (whole_in count o) ≡ count
+whole-size : (count : ℕ) (o : Option Op) → ((count ≡ code_size o) ⊎ (count ≡ 1)) → code_size (whole_in count o) ≡ count
 whole-size count None (inl e) = sym e
 whole-size count None (inr e) = sym e
 whole-size count (Some op) h =
-    cond_both (nat_le (len_of op.mode) count) (Some op) None (λ (o : Option Op). size_of o ≡ count)
+    cond_both (nat_le (len_of op.mode) count) (Some op) None (λ (o : Option Op). code_size o ≡ count)
     (λ fits. is-len (leb-true (len_of op.mode) count fits) h)
     (λ cut. is-one (leb-false (len_of op.mode) count cut) h)
   where
@@ -61,7 +56,7 @@ whole-size count (Some op) h =
     is-one cut (inr e) = sym e
 
 -- an instruction that has all of its bytes, or one byte
-instruction-size : (t : Table) (bytes : List ℕ) → 0 < length bytes → ((length bytes ≡ code_size (decoded t (slice_index bytes 0))) ⊎ (length bytes ≡ 1)) → size_of (instruction_in t bytes) ≡ length bytes
+instruction-size : (t : Table) (bytes : List ℕ) → 0 < length bytes → ((length bytes ≡ code_size (decoded t (slice_index bytes 0))) ⊎ (length bytes ≡ 1)) → code_size (instruction_in t bytes) ≡ length bytes
 unfolding instruction_in
 instruction-size t [] some h = absurd (omega (arith, some))
 instruction-size t (b ∷ bytes) some h = whole-size (length (b ∷ bytes)) (decoded t b) h
@@ -125,12 +120,6 @@ limit-whole m a e = cond-true (is_whole m a) _ _ e
 pub limit-other : (m : MapView) (a : ℕ) → is_whole m a ≡ false → limit_at m a ≡ 1
 limit-other m a e = cond-false (is_whole m a) _ _ e
 
-pub group-one : (m : MapView) (a : ℕ) → limit_at m a ≡ 1 → group_len m a ≡ item_len m a
-unfolding group_len
-group-one m a e =
-    let none : more_at m (limit_at m a - 1) (a + item_len m a) ≡ 0 = ap (λ (n : ℕ). more_at m (n - 1) (a + item_len m a)) e ∙ more-none m (a + item_len m a) in
-    omega (arith, none)
-
 -- of a role whose items all have the same size
 table-long : (m : MapView) (a : ℕ) (r : RangeType) → role_of m.info a ≡ r → full_len_at m a ≡ unit_of r → item_len m a ≡ size_at m a → IsLong r (group_len m a)
 unfolding group_len
@@ -177,7 +166,7 @@ module _ (m : MapView) (k : ℕ) (here : IsGroupPlace m k) (low : k < length m.i
       let high : suc some.count * unit_of r ≤ limit_of r * unit_of r = mul-le-mul_right (unit_of r) (omega (arith, some.bound, layout_line r)) in
       inr (ap (λ (n : ℕ). n % unit_of r) all ∙ mul-mod_left (suc some.count) (unit_of r), omega (arith, all, high))
 
-  code : role_of m.info (m.image.start + k) ≡ role.Code → size_of (instruction_in (opcodes m) (group_bytes m (m.image.start + k))) ≡ length (group_bytes m (m.image.start + k))
+  code : role_of m.info (m.image.start + k) ≡ role.Code → code_size (instruction_in (opcodes m) (group_bytes m (m.image.start + k))) ≡ length (group_bytes m (m.image.start + k))
   code e =
       let a : ℕ = m.image.start + k in
       let some : 1 ≤ group_len m a = group-some m k here low shown in

@@ -1,7 +1,8 @@
 -- Without a range SKIP no byte is skipped.
 use Rattle.std.proofs.Common.{◌≡◌, ℕ, suc, zero, ◌+◌, Bool, true, false, List, [], ◌∷◌, length, refl}
-use Rattle.std.specs.Prelude.{if◌then◌else◌, ◌||◌}
+use Rattle.std.specs.Prelude.{if◌then◌else◌}
 use Rattle.std.specs.List.{list_any}
+use Rattle.std.proofs.lemmas.Bool.{or_parts}
 use Rattle.info65.specs.Ranges.{has_address}
 use Rattle.info65.specs.declared.information.range.RangeSpec.{RangeSpec}
 use Rattle.map65.specs.MapView.{MapView}
@@ -10,16 +11,11 @@ use Rattle.map65.specs.Spans.{addresses}
 use Rattle.da65.specs.Code.SkipRanges.{is_skip_range}
 use Rattle.da65.specs.Groups.{skips}
 
-or-false : (s t : Bool) → (s || t) ≡ false → (s ≡ false) × (t ≡ false)
-or-false false false is = (refl, refl)
-or-false false true is = absurd cc
-or-false true t is = absurd cc
-
 pub skip-in : (ranges : List RangeSpec) (a : ℕ) → list_any is_skip_range ranges ≡ false → is_skip (role_in ranges a) ≡ false
 unfolding role_in
 skip-in [] a none = refl
 skip-in (r ∷ rs) a none =
-    let both = or-false (is_skip_range r) (list_any is_skip_range rs) none in
+    let both = or_parts (is_skip_range r) (list_any is_skip_range rs) none in
     go (has_address r a) both.0 (skip-in rs a both.1)
   where
     go : (t : Bool) → is_skip r.role ≡ false → is_skip (role_in rs a) ≡ false → is_skip (if t then r.role else role_in rs a) ≡ false

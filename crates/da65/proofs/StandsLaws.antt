@@ -1,13 +1,11 @@
 -- One statement in its state: it has no fault, and gives its bytes.
-use Rattle.std.proofs.Common.{◌≡◌, ℕ, zero, suc, false, ◌+◌, ◌≤◌, List, [], ◌∷◌, ◌++◌, length, take, drop, map, Option, Some, None, refl, subst, ◌∙◌, arith}
+use Rattle.std.proofs.Common.{◌≡◌, ℕ, false, ◌+◌, ◌≤◌, List, [], ◌∷◌, ◌++◌, length, map, Option, Some, None, refl, subst, ◌∙◌}
 use Rattle.std.specs.Prelude.{nat_le, IfSome}
 use Rattle.std.specs.List.{flat_map}
 use Rattle.std.proofs.lemmas.Bool.{le-ltb, leb-true, cond_both}
 use Rattle.std.proofs.lemmas.List.{append-nil}
 use Rattle.isa65.specs.Mode.{len_of}
 use Rattle.isa65.specs.Opcodes.{Table, decoded}
-use Rattle.isa65.specs.declared.mode.Mode.{Mode}
-use Rattle.isa65.specs.declared.mode.Mode.TheVariants.{Imp}
 use Rattle.isa65.specs.declared.op.Op.{Op}
 use Rattle.stmt65.specs.SourceLine.{NumberDatum, Operation, Data, Statement}
 use Rattle.stmt65.specs.Symbols.{Definition}
@@ -118,12 +116,3 @@ begins_with t (b ∷ bytes) op e =
 pub at_some : {A : Type 0} (P : A → Type 0) (o : Option A) (x : A) → o ≡ Some x → IfSome o P → P x
 at_some P None x e h = absurd cc
 at_some P (Some y) x e h = let same : y ≡ x = cc in subst P same h
-
--- the first of some bytes, and those after it
-first_again : (n b : ℕ) (past bytes : List ℕ) → bytes ≡ b ∷ past → 1 ≤ n → b ∷ drop 1 (take n bytes) ≡ take n bytes
-first_again zero b past bytes e some = absurd (omega arith)
-first_again (suc n) b past bytes e some = rw e refl
-
-pub len_positive : (m : Mode) → 1 ≤ len_of m
-len_positive Imp = omega arith
-len_positive _ = omega arith

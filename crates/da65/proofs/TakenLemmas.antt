@@ -1,16 +1,16 @@
 -- What known bytes are after the lines of a text.
 use Rattle.std.proofs.Common.{subst, ◌∷◌, ◌≡◌, ℕ, List, ◌++◌, Option, ap, append_assoc, ◌∙◌}
 use Rattle.std.specs.Io.KnownBytes.{Appends}
+use Rattle.std.proofs.KnownBytes.{Appends-trans}
 use Rattle.da65.specs.Listing.{text_of}
 use Rattle.map65.specs.Device.{HasTaken, AppendsFront}
-use Rattle.map65.proofs.Public.{appends-more}
 
 -- the first part of what was left is taken
 pub taken_line : {old mid new : Option (List ℕ)} {text : List ℕ} (line rest : List ℕ) → HasTaken old mid text (line ++ rest) → Appends mid new line → HasTaken old new text rest
 taken_line {old} {mid} {new} {text} line rest h w = record {
   front = h.front ++ line;
   parts = rw append_assoc h.parts;
-  taken = appends-more old mid new h.front line h.taken w;
+  taken = Appends-trans old mid new h.front line h.taken w;
 }
 
 -- a prefix of the first part of what was left is taken
@@ -19,7 +19,7 @@ taken_in_line {old} {mid} {new} {text} line rest h w =
     let whole : HasTaken old new text (w.rest ++ rest) = record {
       front = h.front ++ w.front.front;
       parts = rw append_assoc (h.parts ∙ ap (λ r. h.front ++ r) (rw (w.front.parts, append_assoc)));
-      taken = appends-more old mid new h.front w.front.front h.taken w.front.taken;
+      taken = Appends-trans old mid new h.front w.front.front h.taken w.front.taken;
     } in record { rest = w.rest ++ rest; front = whole }
 
 -- the first of the lines that were left is taken

@@ -24,7 +24,8 @@ use Rattle.da65.specs.BaseNames.{base_name, is_base, names_of}
 use Rattle.da65.specs.Comments.{comment_at}
 use Rattle.da65.specs.Groups.{begins, group_addresses, group_bytes, group_len}
 use Rattle.da65.specs.Listing.{ListingLine, assignment_line, comment_line, comment_lines, comments, constant_lines, constants, ending_lines, forward_lines, forwards, group_line, group_lines, has_constant_line, has_empty_line, label_at, labelled, line_text, lines_of, listing, listing_below, opening_lines, plain, segment_lines, separator, separator_lines, statement_lines, text_of, with_empty_line}
-use Rattle.da65.specs.Segments.{is_same_segment, segment_at, segment_before, segment_statement}
+use Rattle.da65.specs.Segments.{is_same_segment, segment_before, segment_statement}
+use Rattle.map65.specs.Segments.{segment_at}
 use Rattle.da65.specs.Statements.{statement_at}
 use Rattle.da65.specs.Style.{style_of}
 use Rattle.da65.specs.declared.listing.style.Style.{Style}

@@ -37,9 +37,7 @@ all-names image m v names base = rw (names.constants v base) (any (nat_le image.
   where
     any : (t u : Bool) → (not (t && u) || u) ≡ true
     any true true = refl
-    any true false = refl
-    any false true = refl
-    any false false = refl
+    any _ _ = refl
 
 listing_block : (limit : ℕ) (l : Layout) (cpu : Cpu) (m : Names) (image : ImageView) (g : Groups) → 65536 ≤ limit → CanBeListed l cpu m image g
     → KnownBlock m (initial image.start) (listing_below limit l cpu m image g) image.bytes (end_of image) cpu (λ v. true)

@@ -1,5 +1,5 @@
 -- The bytes of fragments whose values are expressions.
-use Rattle.std.proofs.Common.{◌≡◌, ℕ, ◌+◌, ◌*◌, ◌%◌, ◌<◌, List, [], ◌∷◌, Some, refl, sym, ap, ◌∙◌, subst, length, ◌++◌, arith}
+use Rattle.std.proofs.Common.{◌≡◌, ℕ, ◌+◌, ◌*◌, ◌<◌, List, [], ◌∷◌, Some, refl, sym, ap, ◌∙◌, subst, length, ◌++◌, arith}
 use Rattle.std.proofs.lemmas.Bool.{lt-ltb}
 use Rattle.std.proofs.lemmas.List.Elements.{All-cons, All-nil}
 use Rattle.isa65.specs.declared.byte_order.ByteOrder.TheVariants.{LittleEndian}
@@ -10,7 +10,7 @@ use Rattle.map65.specs.ImageView.{AreBytes}
 use Rattle.stmt65.specs.SourceLine.{Value}
 use Rattle.stmt65.specs.Symbols.{Definition, word_in}
 use Rattle.stmt65.specs.Coding.{entry_limit, Fragment, ZeroPage, Entry, Distance, entry_in, fragment_fits, fragment_bytes}
-use Rattle.da65.proofs.FragmentLaws.{FragmentsGive, IsTarget, more_fragments}
+use Rattle.da65.proofs.FragmentLaws.{FragmentsGive, IsTarget, more_fragments, low_byte}
 use Rattle.da65.proofs.ValueLaws.{IsWorth}
 
 -- for each table of which Full holds, this is its value
@@ -20,9 +20,6 @@ AlwaysWorth Full v n = (all : List Definition) → Full all → IsWorth all v n
 word-in : (all : List Definition) (v : Value) (n : ℕ) → IsWorth all v n → n < 65536 → word_in all v ≡ Some n
 unfolding word_in
 word-in all v n is room = rw (is.value, lt-ltb n 65536 room) refl
-
-low_byte : (n : ℕ) → n < 256 → n % 256 ≡ n
-low_byte n h = omega arith
 
 pub zero_page_worth_gives : (Full : List Definition → Type 0) (next : ℕ) (v : Value) (n : ℕ) (fragments : List Fragment) (bytes : List ℕ) → AlwaysWorth Full v n → n < 256 → FragmentsGive Full next fragments bytes
     → FragmentsGive Full next (ZeroPage v ∷ fragments) (n ∷ bytes)

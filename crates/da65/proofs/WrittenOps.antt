@@ -9,24 +9,25 @@ use Rattle.isa65.specs.declared.op.Op.{Op}
 use Rattle.stmt65.specs.Views.{OperandsView}
 use Rattle.stmt65.specs.Views as view
 use Rattle.da65.specs.BaseNames.{Names}
-use Rattle.da65.specs.Instructions.{instruction_in, size_of, whole_in}
+use Rattle.da65.specs.Instructions.{instruction_in, whole_in}
 use Rattle.da65.specs.Statements.{bytes_statement, is_forced, operands_of, statement_in, statement_of, written}
+use Rattle.map65.specs.Items.{code_size}
 
 -- all bytes of an item, if there are that many
 whole-item : (count : ℕ) (bytes : List ℕ) → count ≡ length bytes → bytes_statement count bytes ≡ view.bytes bytes
 whole-item count bytes e = ap view.bytes (take_all count bytes (omega (arith, e)))
 
-pub undefined : (n : Names) (t : Table) (a : ℕ) (bytes : List ℕ) → instruction_in t bytes ≡ None → size_of (instruction_in t bytes) ≡ length bytes → statement_in n t a bytes ≡ view.bytes bytes
+pub undefined : (n : Names) (t : Table) (a : ℕ) (bytes : List ℕ) → instruction_in t bytes ≡ None → code_size (instruction_in t bytes) ≡ length bytes → statement_in n t a bytes ≡ view.bytes bytes
 unfolding statement_in
-undefined n t a bytes none whole = ap (statement_of n t a bytes) none ∙ whole-item 1 bytes (sym (ap size_of none) ∙ whole)
+undefined n t a bytes none whole = ap (statement_of n t a bytes) none ∙ whole-item 1 bytes (sym (ap code_size none) ∙ whole)
 
 unwritten : (t : Table) (op : Op) (bytes : List ℕ) (o : Option OperandsView) → false ≡ is_some o → len_of op.mode ≡ length bytes → written t op bytes o ≡ view.bytes bytes
 unwritten t op bytes None h e = whole-item (len_of op.mode) bytes e
 unwritten t op bytes (Some os) h e = absurd cc
 
-pub unreached : (n : Names) (t : Table) (a : ℕ) (bytes : List ℕ) (op : Op) → instruction_in t bytes ≡ Some op → false ≡ is_some (operands_of n op.mode a bytes) → size_of (instruction_in t bytes) ≡ length bytes → statement_in n t a bytes ≡ view.bytes bytes
+pub unreached : (n : Names) (t : Table) (a : ℕ) (bytes : List ℕ) (op : Op) → instruction_in t bytes ≡ Some op → false ≡ is_some (operands_of n op.mode a bytes) → code_size (instruction_in t bytes) ≡ length bytes → statement_in n t a bytes ≡ view.bytes bytes
 unfolding statement_in
-unreached n t a bytes op some out whole = ap (statement_of n t a bytes) some ∙ unwritten t op bytes (operands_of n op.mode a bytes) out (sym (ap size_of some) ∙ whole)
+unreached n t a bytes op some out whole = ap (statement_of n t a bytes) some ∙ unwritten t op bytes (operands_of n op.mode a bytes) out (sym (ap code_size some) ∙ whole)
 
 -- an instruction has all of its bytes
 whole-len : (count : ℕ) (o : Option Op) (op : Op) → whole_in count o ≡ Some op → len_of op.mode ≤ count

@@ -13,8 +13,3 @@ whole_in count (Some op) = if nat_le (len_of op.mode) count then Some op else No
 unfoldable pub instruction_in : Table → List ℕ → Option Op
 instruction_in t [] = None
 instruction_in t (b ∷ bytes) = whole_in (length (b ∷ bytes)) (decoded t b)
-
--- an undefined or cut opcode is an item of one byte
-abbrev pub size_of : Option Op → ℕ
-size_of None = 1
-size_of (Some op) = len_of op.mode

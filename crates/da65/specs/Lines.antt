@@ -1,5 +1,5 @@
 -- The lines of a listing that are left from a place on.
-use Rattle.std.specs.Prelude.{◌≡◌, ℕ, ◌+◌, ◌-◌, ◌<◌, ◌≤◌, Bool, true, false, List, [], ◌∷◌, ◌++◌, length, map, not, Option, None}
+use Rattle.std.specs.Prelude.{◌≡◌, ℕ, ◌+◌, ◌-◌, ◌<◌, ◌≤◌, Bool, true, false, List, [], ◌∷◌, ◌++◌, length, map, not, MatchOption, Option, None}
 use Rattle.std.specs.List.{flat_map, list_any}
 use Rattle.isa65.specs.declared.cpu.Cpu.{Cpu}
 use Rattle.map65.specs.MapView.{IsSoundMap, MapView}
@@ -10,34 +10,39 @@ use Rattle.da65.specs.Comments.{comment_at}
 use Rattle.da65.specs.Groups.{IsGroupPlace, group_bytes, group_len, groups_from}
 use Rattle.da65.specs.Listing.{ListingLine, assignment_line, comments, constants, ending_lines, forwards, group_line, group_lines, has_constant_line, line_text, listing, opening_lines, plain, segment_lines, statement_lines, with_empty_line}
 use Rattle.da65.specs.Marks.{HasMarks}
-use Rattle.da65.specs.Segments.{segment_at, segment_before}
+use Rattle.da65.specs.Segments.{segment_before}
+use Rattle.map65.specs.Segments.{segment_at}
 use Rattle.da65.specs.Statements.{statement_at}
 use Rattle.da65.specs.Style.{style_of}
 use Rattle.da65.specs.declared.listing.place.ListingPlace.{ListingPlace}
 use Rattle.da65.specs.declared.listing.place.ListingPlace.TheVariants.{Title, AfterTitle, CpuLine, AfterCpu, Constant, Assignment, Group, Segment, Comment, Forward, Statement, Ending}
 use Rattle.da65.specs.declared.listing.style.Style.{Style}
+use Rattle.stmt65.specs.Printable.{MayBeLabelled}
 use Rattle.stmt65.specs.Views as view
 
 -- the lines of the groups from the k-th byte on
 unfoldable pub groups_left : MapView → ℕ → List ListingLine
 groups_left m k = flat_map (group_lines m) (groups_from m k)
 
--- the constant lines that are left, and the empty line after them; the Bool says whether one was written before
-abbrev pub closed : Bool → List ListingLine → List ListingLine
-closed true ls = ls ++ plain view.blank ∷ []
-closed false ls = with_empty_line ls
+-- the constant lines that are left, with an empty line after them if there is one of them, or one was written before
+abbrev pub with_blank_after : Bool → List ListingLine → List ListingLine
+with_blank_after true ls = ls ++ plain view.blank ∷ []
+with_blank_after false ls = with_empty_line ls
 
 -- from the lines of the constant of an address on
 unfoldable pub constants_left : MapView → ℕ → Bool → List ListingLine
-constants_left m v any = closed any (constants m (65536 - v) v) ++ groups_left m 0
+constants_left m v any = with_blank_after any (constants m (65536 - v) v) ++ groups_left m 0
 
 -- what follows the statement of the group that begins with the k-th byte
 unfoldable pub after_group : MapView → ℕ → List ListingLine
 after_group m k = ending_lines m (m.image.start + k) ++ groups_left m (k + group_len m (m.image.start + k))
 
--- from the statement of that group on
+-- from the statement of that group on, after this label if there is one
+abbrev pub labelled_left : MapView → ℕ → Option (List ℕ) → List ListingLine
+labelled_left m k label = group_line label (statement_at m (m.image.start + k)) (m.image.start + k) (group_bytes m (m.image.start + k)) ∷ after_group m k
+
 abbrev pub statement_left : MapView → ℕ → List ListingLine
-statement_left m k = group_line None (statement_at m (m.image.start + k)) (m.image.start + k) (group_bytes m (m.image.start + k)) ∷ after_group m k
+statement_left m k = labelled_left m k None
 
 -- from the forward line of the address v in that group on
 unfoldable pub group_left : MapView → ℕ → ℕ → List ListingLine
@@ -127,6 +132,32 @@ pub record IsNext (m : MapView) (left : List ListingLine) (text : List ℕ) (nex
   pub lines : IsFirstOf (style_of m.info.settings) left text (left_from next m)
   pub place : IsPlace next m
   pub segment_is : segment_of next m ≡ segment
+
+-- the same, where there may be no line
+abbrev pub MayBeNext : MapView → List ListingLine → List ℕ → Option ListingPlace → Option (List ℕ) → Type 0
+MayBeNext m left text next segment = MatchOption next (left ≡ []) (λ place. IsNext m left text place segment)
+
+-- the same of the lines of the group that begins with the k-th byte
+abbrev pub IsNextIn : MapView → ℕ → List ListingLine → List ℕ → ListingPlace → Type 0
+IsNextIn m k left text next = IsNext m left text next (segment_at m (m.image.start + k))
+
+-- the text is that of its statement, after this label if there is one
+abbrev pub IsStatementNext : MapView → ℕ → Option (List ℕ) → List ℕ → ListingPlace → Type 0
+IsStatementNext m k label text next = IsNextIn m k (labelled_left m k label) text next
+
+-- the text is that of its first line after its forward lines
+abbrev pub IsLabelNext : MapView → ℕ → List ℕ → ListingPlace → Type 0
+IsLabelNext m k text next = IsNextIn m k (statement_lines m (m.image.start + k) ++ after_group m k) text next
+
+-- its statement may stand after this label
+abbrev pub MayFollow : MapView → ℕ → Option (List ℕ) → Type 0
+MayFollow m k label = MayBeLabelled (style_of m.info.settings).columns label (statement_at m (m.image.start + k))
+
+-- Of the lines of the addresses from one on and before `end`, where `lines` says those of so many addresses from one on: the text of
+-- the first, and the address that has it. None is found where there are no lines.
+abbrev pub IsFirstFrom : MapView → (ℕ → ℕ → List ListingLine) → ℕ → ℕ → Option ℕ → List ℕ → Type 0
+IsFirstFrom m lines from end found text = MatchOption found (lines (end - from) from ≡ []) (λ v.
+    IsFirstOf (style_of m.info.settings) (lines (end - from) from) text (lines (end - (v + 1)) (v + 1)))
 
 -- ---- what lists an image
 

@@ -23,7 +23,8 @@ use Rattle.map65.specs.Spans.{addresses}
 use Rattle.da65.specs.BaseNames.{Names, base_name, is_base, names_of}
 use Rattle.da65.specs.Comments.{comment_at}
 use Rattle.da65.specs.Groups.{group_addresses, group_bytes, group_len}
-use Rattle.da65.specs.Segments.{is_same_segment, segment_at, segment_before, segment_statement}
+use Rattle.da65.specs.Segments.{is_same_segment, segment_before, segment_statement}
+use Rattle.map65.specs.Segments.{segment_at}
 use Rattle.da65.specs.Statements.{statement_at}
 use Rattle.da65.specs.Style.{style_of}
 use Rattle.da65.specs.declared.listing.style.Style.{Style}
@@ -106,8 +107,11 @@ opening_lines m a = separator_lines m a ++ (segment_lines m a ++ comments m (gro
 -- ---- the lines of a group
 
 -- a name inside the group that begins at `first` is defined before it, by the distance from its first byte
+abbrev pub forward_line : Names → ℕ → ℕ → ListingLine
+forward_line m first v = plain (view.forward (base_name m v) (v - first))
+
 unfoldable pub forward_lines : Names → ℕ → ℕ → List ListingLine
-forward_lines m first v = if is_base m v then plain (view.forward (base_name m v) (v - first)) ∷ [] else []
+forward_lines m first v = if is_base m v then forward_line m first v ∷ [] else []
 
 -- of the n addresses from one on, in their order
 unfoldable pub forwards : Names → ℕ → ℕ → ℕ → List ListingLine

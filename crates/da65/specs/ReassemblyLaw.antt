@@ -24,11 +24,12 @@ use Rattle.map65.specs.Roles.{role_of}
 use Rattle.map65.specs.Targets.{target_of, word_of}
 use Rattle.da65.specs.BaseNames.{AreSound, Names, base_name, is_base, names_of}
 use Rattle.da65.specs.Groups.{begins, group_bytes, group_len, skips}
-use Rattle.da65.specs.Instructions.{instruction_in, size_of}
+use Rattle.da65.specs.Instructions.{instruction_in}
 use Rattle.da65.specs.KnownNames.{KnowsAll, KnowsConstants, definition_of, definitions_of}
 use Rattle.da65.specs.Listing.{ListingLine, lines_of, listing, text_of}
 use Rattle.da65.specs.Shapes.{IsGroupOf}
 use Rattle.da65.specs.Statements.{address_expr, constant_base, is_forced, operands_of, statement_for, statement_in, zero_page_expr}
+use Rattle.map65.specs.Items.{code_size}
 
 -- ---- what a listing says
 
@@ -69,7 +70,7 @@ ExpressionsHaveTheirValues = (image : ImageView) (m : Names) (all : List Definit
 
 -- the bytes of the item that begins with the first of these
 abbrev pub item_in : Table → List ℕ → List ℕ
-item_in t bytes = take (size_of (instruction_in t bytes)) bytes
+item_in t bytes = take (code_size (instruction_in t bytes)) bytes
 
 -- what the bytes after the opcode stand for, in each mode
 abbrev pub fragments_in : Mode → OperandsView → List Fragment
@@ -140,11 +141,21 @@ pub record GivesBytes (all : List Definition) (s : State) (source : SourceLine) 
   pub gives : bytes_of all s (Some source) ≡ bytes
   pub leads : after s (Some source) ≡ record { at = s.at + length bytes; cpu = s.cpu; above = s.above }
 
--- The statement of each item of code gives the item's bytes, below the constant lines in a text that defines all names: of an instruction,
--- and of a cut, an undefined and one whose target lies outside the address space.
+-- a place for bytes below the constant lines, in a text that defines all names
+pub record IsPlaceFor (image : ImageView) (m : Names) (all : List Definition) (s : State) (bytes : List ℕ) : Type 0 where
+  pub sound : AreSound image m
+  pub known : KnowsAll m all
+  -- these are defined above
+  pub defined : ℕ → Bool
+  pub constants : KnowsConstants m defined s.above
+  pub are_bytes : AreBytes bytes
+  pub some : 0 < length bytes
+  pub room : s.at + length bytes ≤ 65536
+
+-- The statement of each item of code gives the item's bytes: of an instruction, and of a cut, an undefined and one whose target lies
+-- outside the address space.
 abbrev pub ItemGivesItsBytes : Type 0
-ItemGivesItsBytes = (image : ImageView) (m : Names) (p : ℕ → Bool) (all : List Definition) (s : State) (bytes : List ℕ)
-    → AreSound image m → KnowsAll m all → KnowsConstants m p s.above → AreBytes bytes → 0 < length bytes → s.at + length bytes ≤ 65536
+ItemGivesItsBytes = (image : ImageView) (m : Names) (all : List Definition) (s : State) (bytes : List ℕ) → IsPlaceFor image m all s bytes
     → GivesBytes all s (source_line (statement_in m (table_of s.cpu) s.at bytes)) (item_in (table_of s.cpu) bytes)
 
 -- ---- groups
@@ -160,10 +171,9 @@ pub record IsGroup (m : MapView) (a : ℕ) : Type 0 where
 abbrev pub GroupsAreGroups : Type 0
 GroupsAreGroups = (m : MapView) (a : ℕ) → begins m a ≡ true → IsGroup m a
 
--- The statement of each group gives the group's bytes, below the constant lines in a text that defines all names.
+-- The statement of each group gives the group's bytes.
 abbrev pub GroupGivesItsBytes : Type 0
-GroupGivesItsBytes = (image : ImageView) (m : Names) (p : ℕ → Bool) (all : List Definition) (s : State) (r : RangeType) (bytes : List ℕ)
-    → AreSound image m → KnowsAll m all → KnowsConstants m p s.above → AreBytes bytes → 0 < length bytes → s.at + length bytes ≤ 65536
+GroupGivesItsBytes = (image : ImageView) (m : Names) (all : List Definition) (s : State) (r : RangeType) (bytes : List ℕ) → IsPlaceFor image m all s bytes
     → IsGroupOf (table_of s.cpu) r bytes → GivesBytes all s (source_line (statement_for m (table_of s.cpu) r s.at bytes)) bytes
 
 -- ---- the whole

@@ -1,9 +1,13 @@
 -- What a run has written and read, for each of its results.
-use Rattle.std.specs.Prelude.{◌≡◌, ◌⊎◌, ℕ, ◌+◌, ◌<◌, ◌≤◌, List, length, IfSome, Option, Result, Ok, Err}
+use Rattle.std.specs.Prelude.{◌≡◌, ◌⊎◌, ℕ, ◌+◌, ◌-◌, ◌^◌, ◌<◌, ◌≤◌, List, length, IfOk, IfSome, Option, Result, Ok, Err}
 use Rattle.std.specs.Io.KnownBytes.{Keeps, Appends}
-use Rattle.map65.specs.Device.{one_more, AppendsFront}
+use Rattle.info65.specs.Code.Results.{Gives}
+use Rattle.info65.specs.Views.{InfoView}
+use Rattle.info65.specs.declared.fault.InfoFault.{InfoFault}
+use Rattle.map65.specs.Device.{AppendsFront, TakesUpTo, one_more}
+use Rattle.map65.specs.Image.{read_limit}
 use Rattle.da65.specs.declared.runs.outcome.Status.{Status}
-use Rattle.da65.specs.declared.runs.outcome.Status.TheVariants.{Done, Refused}
+use Rattle.da65.specs.declared.runs.outcome.Status.TheVariants.{Refused}
 use Rattle.da65.specs.declared.runs.outcome.RunFault.{RunFault}
 use Rattle.da65.specs.declared.runs.outcome.RunFault.TheVariants.{Memory, Write, Messages}
 use Rattle.da65.specs.Outcome.{Outcome}
@@ -18,17 +22,13 @@ Writes (Err Messages) outcome out out' msgs msgs' = Appends out out' outcome.lis
 
 -- the count of failed writes of the listing rises by one exactly when the result is Write
 abbrev pub OutCount : Result Status RunFault → ℕ → ℕ → Type 0
-OutCount (Ok status) old new = new ≡ old
-OutCount (Err Memory) old new = new ≡ old
 OutCount (Err Write) old new = new ≡ one_more old
-OutCount (Err Messages) old new = new ≡ old
+OutCount _ old new = new ≡ old
 
 -- the count of failed writes of the messages rises by one exactly when the result is Messages
 abbrev pub MessagesCount : Result Status RunFault → ℕ → ℕ → Type 0
-MessagesCount (Ok status) old new = new ≡ old
-MessagesCount (Err Memory) old new = new ≡ old
-MessagesCount (Err Write) old new = new ≡ old
 MessagesCount (Err Messages) old new = new ≡ one_more old
+MessagesCount _ old new = new ≡ old
 
 -- at most 320 bytes of messages were written: an include file's name has at most 255
 abbrev pub WritesFew : Option (List ℕ) → Option (List ℕ) → Type 0
@@ -40,8 +40,20 @@ FailsAtMostOnce old new = (new ≡ old) ⊎ (new ≡ one_more old)
 
 -- a read failed only if there was a message to write of it
 abbrev pub InputCount : Result Status RunFault → ℕ → ℕ → Type 0
-InputCount (Ok Done) old new = new ≡ old
 InputCount (Ok Refused) old new = FailsAtMostOnce old new
-InputCount (Err Memory) old new = new ≡ old
-InputCount (Err Write) old new = new ≡ old
 InputCount (Err Messages) old new = FailsAtMostOnce old new
+InputCount _ old new = new ≡ old
+
+-- ---- what is known of the files that are read
+
+-- what holds of an information file that was read or refused, whichever it is
+abbrev pub OfRead : Result InfoView InfoFault → (Result InfoView InfoFault → Type 0) → Type 0
+OfRead read P = (defined : Result InfoView InfoFault) → Gives (λ i. i) read defined → P defined
+
+-- what holds of an input's bytes, where it tells them and its count of failures can still rise
+abbrev pub OfBytes : ℕ → Option (List ℕ) → (List ℕ → Type 0) → Type 0
+OfBytes faults left P = faults < 2 ^ 64 - 1 → IfSome left P
+
+-- at most the bytes that the settings ask for are read, if the run is not refused before
+abbrev pub ReadsFor : Result InfoView (List ℕ) → Option (List ℕ) → Option (List ℕ) → Type 0
+ReadsFor info old new = IfOk info (λ i. TakesUpTo (read_limit i.settings) old new)

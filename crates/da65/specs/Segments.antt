@@ -1,15 +1,11 @@
--- The segment of each group, and where a listing names it.
+-- The segment of each group, and where a listing names it; the default segment has no name.
 use Rattle.std.specs.Prelude.{ℕ, zero, suc, ◌+◌, Bool, true, false, List, Option, Some, None, if◌then◌else◌}
 use Rattle.std.specs.Str.{bytes_eq}
-use Rattle.info65.specs.Segments.{segment_covering}
 use Rattle.stmt65.specs.Views as view
 use Rattle.stmt65.specs.Views.{StatementView}
 use Rattle.map65.specs.MapView.{MapView}
+use Rattle.map65.specs.Segments.{segment_at}
 use Rattle.da65.specs.Groups.{begins}
-
--- the name of the segment of an address; the default has none
-unfoldable pub segment_at : MapView → ℕ → Option (List ℕ)
-segment_at m a = segment_covering m.info.segments a
 
 -- both are the default, or both have this name; so a segment that is named CODE is not the default
 abbrev pub is_same_segment : Option (List ℕ) → Option (List ℕ) → Bool

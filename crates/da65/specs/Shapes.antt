@@ -5,7 +5,8 @@ use Rattle.info65.specs.Layouts.{layout_of}
 use Rattle.info65.specs.declared.information.range.Entry.{Entry}
 use Rattle.info65.specs.declared.information.range.Entry.TheVariants.{Instruction, Number, Address, Return, Character, Skipped}
 use Rattle.info65.specs.declared.information.range.RangeType.{RangeType}
-use Rattle.da65.specs.Instructions.{instruction_in, size_of}
+use Rattle.da65.specs.Instructions.{instruction_in}
+use Rattle.map65.specs.Items.{code_size}
 
 -- a leftover byte, or whole entries, as many as a line takes
 abbrev pub AreEntries : ℕ → ℕ → List ℕ → Type 0
@@ -13,7 +14,7 @@ AreEntries unit per_line bytes = (length bytes ≡ 1) ⊎ ((length bytes % unit 
 
 -- one item of code, or a line of a table
 abbrev pub IsLineOf : Table → ℕ → ℕ → Entry → List ℕ → Type 0
-IsLineOf t unit per_line Instruction bytes = size_of (instruction_in t bytes) ≡ length bytes
+IsLineOf t unit per_line Instruction bytes = code_size (instruction_in t bytes) ≡ length bytes
 IsLineOf t unit per_line (Number order) bytes = AreEntries unit per_line bytes
 IsLineOf t unit per_line Address bytes = AreEntries unit per_line bytes
 IsLineOf t unit per_line Return bytes = AreEntries unit per_line bytes

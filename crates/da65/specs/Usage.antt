@@ -1,7 +1,5 @@
 -- The options of a command line.
-use Rattle.std.specs.Prelude.{◌≡◌, ◌==◌, ℕ, Bool, false, List, Option, Some, None, Result, Ok, Err, codes, length, if◌then◌else◌}
-use Rattle.std.specs.Str.{bytes_eq}
-use Rattle.std.specs.Option.{option_map_or}
+use Rattle.std.specs.Prelude.{◌==◌, ℕ, List, Option, Some, None, Result, Ok, Err, length, if◌then◌else◌}
 use Rattle.clap.specs.Words.{Row, Text, first_of}
 use Rattle.isa65.specs.Cpu.{cpu_named}
 use Rattle.isa65.specs.declared.cpu.Cpu.{Cpu}

@@ -2,6 +2,7 @@
 use Rattle.std.proofs.Common.{◌≡◌, ◌<◌, ℕ, List, [], ◌∷◌, ◌++◌, IfSome, Option, None, Some, Result, Ok, Err, length, refl, sym, ◌∙◌, ap, subst, append_assoc, arith}
 use Rattle.std.proofs.lemmas.List.{append-nil}
 use Rattle.std.specs.Io.KnownBytes.{Appends, Keeps, append_known}
+use Rattle.std.proofs.KnownBytes.{Keeps-refl}
 use Rattle.da65.specs.Outcome.{Outcome}
 use Rattle.da65.specs.Running.{MessagesCount, WritesFew, Writes}
 use Rattle.da65.specs.declared.runs.outcome.RunFault.{RunFault}
@@ -11,18 +12,14 @@ use Rattle.map65.specs.Device.{AppendsFront}
 use Rattle.da65_cli.specs.Delivery.{Delivers, HasPrefix}
 use Rattle.da65_cli.specs.Code.Reporting.{HasRoom, IsListed, IsShortOf, FlushesThenReports}
 
-pub Keeps-same : (known : Option (List ℕ)) → Keeps known known
-Keeps-same None = tt
-Keeps-same (Some xs) = refl
-
 -- what is left in the buffer is all that the output lacks
 pub short_of : (out : Option (List ℕ)) (left : List ℕ) → IsShortOf (append_known out left) out
-short_of out left = record { left = left; kept = Keeps-same (append_known out left) }
+short_of out left = record { left = left; kept = Keeps-refl (append_known out left) }
 
 -- a run that gave up stays as it ended
 pub given_up : (was : Result Status RunFault) (fault : RunFault) (out errors : Option (List ℕ)) (left messages : List ℕ) → was ≡ Err fault → HasRoom was → FlushesThenReports was (Err fault) (append_known out left) out messages errors errors
-given_up was Memory out errors left messages is room = (is, short_of out left, Keeps-same errors)
-given_up was Write out errors left messages is room = (short_of out left, Keeps-same errors)
+given_up was Memory out errors left messages is room = (is, short_of out left, Keeps-refl errors)
+given_up was Write out errors left messages is room = (short_of out left, Keeps-refl errors)
 given_up was Messages out errors left messages is room = absurd (room is)
 
 -- the few messages of a run fit, so none was refused

@@ -1,12 +1,13 @@
 -- What the output and standard error have at the end of a run, for each of its results.
-use Rattle.std.specs.Prelude.{◌≡◌, ◌⊎◌, ℕ, List, [], ◌++◌, Option, Some, Result, Ok, Err}
+use Rattle.std.specs.Prelude.{◌≡◌, ℕ, List, [], ◌++◌, Option, Some, Result, Ok, Err}
 use Rattle.std.specs.Io.KnownBytes.{Appends, Keeps}
 use Rattle.da65.specs.Outcome.{Outcome}
+use Rattle.da65.specs.Running.{FailsAtMostOnce}
 use Rattle.da65.specs.declared.runs.outcome.RunFault.{RunFault}
 use Rattle.da65.specs.declared.runs.outcome.RunFault.TheVariants.{Memory, Write, Messages}
 use Rattle.da65.specs.declared.runs.outcome.Status.{Status}
-use Rattle.da65.specs.declared.runs.outcome.Status.TheVariants.{Done, Refused}
-use Rattle.map65.specs.Device.{AppendsFront, one_more}
+use Rattle.da65.specs.declared.runs.outcome.Status.TheVariants.{Done}
+use Rattle.map65.specs.Device.{AppendsFront}
 
 -- these bytes are a prefix of a text
 pub record HasPrefix (bytes : Option (List ℕ)) (text : List ℕ) : Type 0 where
@@ -26,6 +27,5 @@ Delivers (Err Memory) outcome out errors errors' = (out ≡ Some []) × Keeps er
 -- no read failed where the listing is done or memory ran out; else at most one did
 abbrev pub InputCount : Result Status RunFault → ℕ → ℕ → Type 0
 InputCount (Ok Done) old new = new ≡ old
-InputCount (Ok Refused) old new = (new ≡ old) ⊎ (new ≡ one_more old)
 InputCount (Err Memory) old new = new ≡ old
-InputCount (Err _) old new = (new ≡ old) ⊎ (new ≡ one_more old)
+InputCount _ old new = FailsAtMostOnce old new

@@ -1,26 +1,20 @@
 //! A run whose output is buffered, and whose messages wait for the end of the listing.
 
-ghost use Rattle.std.specs.Prelude.{◌≡◌, ◌-◌, ◌^◌, ◌<◌, [], Some, IfErr, IfOk, IfSome, IsErrOf, Result};
+ghost use Rattle.std.specs.Prelude.{◌≡◌, ◌-◌, ◌<◌, [], Some, IfErr, IsErrOf, Result};
 ghost use Rattle.std.specs.Io.KnownBytes.{Keeps};
-ghost use Rattle.info65.specs.Code.Results.{Gives};
-ghost use Rattle.info65.specs.Views.{InfoView};
 ghost use Rattle.info65.specs.declared.fault.InfoFault.{InfoFault};
-ghost use Rattle.map65.specs.Device.{TakesUpTo, has_failed};
-ghost use Rattle.map65.specs.Image.{read_limit};
+ghost use Rattle.map65.specs.Device.{has_failed};
 ghost use Rattle.da65.specs.Files.{files_seen};
-ghost use Rattle.da65.specs.Outcome.{outcome_by, outcome_of, prepared, prepared_by};
+ghost use Rattle.da65.specs.Outcome.{outcome_by, prepared_by};
 ghost use Rattle.da65.specs.RunLaw.{Reassembles};
-ghost use Rattle.da65.specs.Running.{MessagesCount, OutCount};
+ghost use Rattle.da65.specs.Running.{MessagesCount, OfBytes, OfRead, OutCount, ReadsFor};
 ghost use Rattle.da65_cli.specs.Code.Buffered.{buffered_out, buffered_taken};
 ghost use Rattle.da65_cli.specs.Delivery.{Delivers, InputCount};
 ghost use Rattle.da65_cli.specs.Code.Reporting.{HasRoom, FlushesThenReports, ReportsOutCount};
 
 use crate::buffered::Buffered;
 use crate::message_buffer::MessageBuffer;
-use da65::{
-    File, Info, InfoFault, Options, RunFault, Sink, Source, Status, read_info, run_read,
-    write_whole,
-};
+use da65::{File, Info, InfoFault, RunFault, Sink, Source, Status, run_read, write_whole};
 use std::alloc::Allocator;
 
 /// How a listing ended, and the output that it was written on.
@@ -37,7 +31,8 @@ fn flush_then_report<W: Sink, M: Sink>(
     errors: &mut M,
 ) -> Result<Status, RunFault>
     requires { HasRoom was }
-    ensures text { FlushesThenReports was result (buffered_taken W.taken buffer.old) (W.taken (buffered_out buffer.new)) messages.now (M.taken errors.old) (M.taken errors.new) }
+    ensures text { FlushesThenReports was result (buffered_taken W.taken buffer.old) (W.taken (buffered_out buffer.new))
+        messages.now (M.taken errors.old) (M.taken errors.new) }
     ensures out_count { ReportsOutCount was result (W.faults (buffered_out buffer.old)) (W.faults (buffered_out buffer.new)) }
     ensures errors_count { MessagesCount result (M.faults errors.old) (M.faults errors.new) }
 {
@@ -51,46 +46,11 @@ fn flush_then_report<W: Sink, M: Sink>(
     }
 }
 
-/// Lists the input on the output, and writes the messages on `errors` once the whole listing is on the
-/// output.
+/// Lists the input on the output, under an information file that `read_info` has read or refused, and writes the
+/// messages on `errors` once the whole listing is on the output.
 ///
 /// The listing goes to the output 8 KiB at a time. If a write of it fails, no message is written. If a
 /// write of a message fails, the listing is whole. No write that failed is tried again.
-pub fn run_buffered<A: Allocator + Copy, N: Allocator, R: Source, W: Sink, M: Sink>(
-    alloc: A,
-    options: &Options<N>,
-    info: &[u8],
-    files: &[File<'_>],
-    input: &mut R,
-    output: W,
-    errors: &mut M,
-) -> Listed<W>
-    // What is on the output and on standard error, of an output that begins empty.
-    ensures answer { R.faults input.old < 2 ^ 64 - 1 → W.taken output ≡ Some [] → IfSome (R.left input.old) (λ bytes.
-        Delivers result.result (outcome_of options.now info.now (files_seen files.now) bytes (has_failed (R.faults input.old) (R.faults input.new)))
-        (W.taken result.output) (M.taken errors.old) (M.taken errors.new)) }
-
-    // If the result is Done and no byte of the image is skipped, the output assembles to the image.
-    ensures reassembles { R.faults input.old < 2 ^ 64 - 1 → W.taken output ≡ Some [] → IfSome (R.left input.old) (λ bytes.
-        Reassembles result.result (prepared options.now info.now (files_seen files.now)) bytes (has_failed (R.faults input.old) (R.faults input.new))
-        (Some []) (W.taken result.output)) }
-
-    // These hold for every reader and every output.
-    ensures memory { IsErrOf result.result RunFault.Memory → Keeps (M.taken errors.old) (M.taken errors.new) }
-    ensures write { IsErrOf result.result RunFault.Write → Keeps (M.taken errors.old) (M.taken errors.new) }
-    ensures reads { IfOk (prepared options.now info.now (files_seen files.now)) (λ i. TakesUpTo (read_limit i.settings) (R.left input.old) (R.left input.new)) }
-    ensures unread { IfErr (prepared options.now info.now (files_seen files.now)) (λ _. input.new ≡ input.old) }
-
-    // A failed write is reported, and nothing else is reported as one.
-    ensures out_count { OutCount result.result (W.faults output) (W.faults result.output) }
-    ensures errors_count { MessagesCount result.result (M.faults errors.old) (M.faults errors.new) }
-    ensures input_count { InputCount result.result (R.faults input.old) (R.faults input.new) }
-{
-    let read = read_info(alloc, options, info);
-    run_read_buffered(alloc, read, files, input, output, errors)
-}
-
-/// Does what [`run_buffered`] does for an information file that `read_info` has read or refused.
 pub fn run_read_buffered<A: Allocator + Copy, R: Source, W: Sink, M: Sink>(
     alloc: A,
     read: Result<Info<A>, InfoFault>,
@@ -99,17 +59,23 @@ pub fn run_read_buffered<A: Allocator + Copy, R: Source, W: Sink, M: Sink>(
     output: W,
     errors: &mut M,
 ) -> Listed<W>
-    // As those of `run_buffered`, for whatever file it is that was read or refused.
-    ensures answer { (defined : Result InfoView InfoFault) → Gives (λ i. i) read defined → R.faults input.old < 2 ^ 64 - 1 → W.taken output ≡ Some [] → IfSome (R.left input.old) (λ bytes.
+    // What is on the output and on standard error, of an output that begins empty.
+    ensures answer { OfRead read (λ defined. W.taken output ≡ Some [] → OfBytes (R.faults input.old) (R.left input.old) (λ bytes.
         Delivers result.result (outcome_by (prepared_by defined (files_seen files.now)) bytes (has_failed (R.faults input.old) (R.faults input.new)))
-        (W.taken result.output) (M.taken errors.old) (M.taken errors.new)) }
-    ensures reassembles { (defined : Result InfoView InfoFault) → Gives (λ i. i) read defined → R.faults input.old < 2 ^ 64 - 1 → W.taken output ≡ Some [] → IfSome (R.left input.old) (λ bytes.
+        (W.taken result.output) (M.taken errors.old) (M.taken errors.new))) }
+
+    // If the result is Done and no byte of the image is skipped, the output assembles to the image.
+    ensures reassembles { OfRead read (λ defined. W.taken output ≡ Some [] → OfBytes (R.faults input.old) (R.left input.old) (λ bytes.
         Reassembles result.result (prepared_by defined (files_seen files.now)) bytes (has_failed (R.faults input.old) (R.faults input.new))
-        (Some []) (W.taken result.output)) }
+        (Some []) (W.taken result.output))) }
+
+    // These hold for every reader and every output.
     ensures memory { IsErrOf result.result RunFault.Memory → Keeps (M.taken errors.old) (M.taken errors.new) }
     ensures write { IsErrOf result.result RunFault.Write → Keeps (M.taken errors.old) (M.taken errors.new) }
-    ensures reads { (defined : Result InfoView InfoFault) → Gives (λ i. i) read defined → IfOk (prepared_by defined (files_seen files.now)) (λ i. TakesUpTo (read_limit i.settings) (R.left input.old) (R.left input.new)) }
-    ensures unread { (defined : Result InfoView InfoFault) → Gives (λ i. i) read defined → IfErr (prepared_by defined (files_seen files.now)) (λ _. input.new ≡ input.old) }
+    ensures reads { OfRead read (λ defined. ReadsFor (prepared_by defined (files_seen files.now)) (R.left input.old) (R.left input.new)) }
+    ensures unread { OfRead read (λ defined. IfErr (prepared_by defined (files_seen files.now)) (λ _. input.new ≡ input.old)) }
+
+    // A failed write is reported, and nothing else is reported as one.
     ensures out_count { OutCount result.result (W.faults output) (W.faults result.output) }
     ensures errors_count { MessagesCount result.result (M.faults errors.old) (M.faults errors.new) }
     ensures input_count { InputCount result.result (R.faults input.old) (R.faults input.new) }

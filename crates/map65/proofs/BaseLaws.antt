@@ -1,28 +1,29 @@
 -- The laws of base names.
-use Rattle.std.proofs.Common.{◌≡◌, ◌∙◌, ◌⊎◌, inl, inr, ℕ, ◌+◌, ◌-◌, ◌/◌, ◌%◌, ◌<◌, ◌≤◌, ◌&&◌, ◌||◌, ◌==◌, Bool, true, false, not, List, Option, Some, None, length, get_or, nat_le, nat_lt, refl, ap, ap₂, sym, subst, arith, ⊎_elim}
+use Rattle.std.proofs.Common.{◌≡◌, ◌∙◌, ◌⊎◌, inl, inr, ℕ, ◌-◌, ◌/◌, ◌%◌, ◌<◌, ◌≤◌, ◌&&◌, ◌||◌, ◌==◌, Bool, true, false, not, List, Option, Some, None, length, get_or, nat_lt, refl, ap, ap₂, sym, subst, arith, ⊎_elim}
 use Rattle.std.specs.Str.{bytes_eq}
 use Rattle.std.proofs.lemmas.Slice.Eq.{bytes_eq-Decides}
-use Rattle.std.proofs.lemmas.Bool.{and_from, and_parts, both_ways, cases_Bool, cases_eq, cases_lt, cond_both, eq-eqb, false≢true, le-leb, lt-ltb, ne_eqb}
+use Rattle.std.proofs.lemmas.Bool.{and_from, both_ways, cases_Bool, cases_eq, cases_lt, cond_both, eq-eqb, false≢true, ne_eqb}
 use Rattle.std.proofs.lemmas.Bool.Decides.{nat_tests}
 use Rattle.text65.specs.Digits.{hex_digit}
 use Rattle.text65.specs.Names.{is_reserved_word}
-use Rattle.info65.proofs.Public.{last_name, layout_some, none_covers}
-use Rattle.info65.specs.Names.{AreNames, blank_name, covering, covers, default_name, is_like_default, is_reserved, is_upper_hex, name_at}
+use Rattle.info65.proofs.Public.{last_name, layout_some, own_address_wins, like_default}
+use Rattle.info65.specs.Names.{AreNames, blank_name, covering, default_name, is_like_default, is_reserved, name_at}
 use Rattle.info65.specs.Views.{NameView}
 use Rattle.info65.specs.declared.information.range.RangeType.{RangeType}
 use Rattle.info65.specs.declared.information.range.RangeType.TheVariants.{Code}
 use Rattle.map65.proofs.ItemLaws.{begun, item_law}
 use Rattle.map65.proofs.ItemLemmas.{is_cut_at, joined-uncut}
-use Rattle.map65.proofs.NameLemmas.{base-covered, base-referenced, entry_start-default, entry_start-given, name-low}
+use Rattle.map65.proofs.NameLemmas.{base-covered, base-referenced, entry_start-default, entry_start-given, name-low, not-some}
 use Rattle.map65.proofs.NameLaws.{entry_start-entry_start, entry_start-inner, entry_start-low, entry_start-referenced, under, wide-shown}
 use Rattle.map65.proofs.PieceLaws.{own-some}
-use Rattle.map65.specs.Bases.{BaseLaw, IsInCode, PlaceLaw}
+use Rattle.map65.specs.Bases.{BaseLaw, IsInCode, LiesBy, PlaceLaw}
 use Rattle.map65.specs.ImageView.{byte_at, is_inside}
 use Rattle.map65.specs.Items.{item_len, size_at, size_for, full_len_at}
 use Rattle.map65.specs.MapView.{MapView}
 use Rattle.map65.specs.Names.{Base, IsInner, base_at, base_by, default_base, given_base, entry_start, entry_base, is_referenced, place_in, place_of}
 use Rattle.map65.specs.Pieces.{are_joined, is_joined, is_own}
 use Rattle.map65.specs.Roles.{is_skip, is_wide, role_at, role_of, unit_of}
+use Rattle.map65.specs.declared.name.Place.{Place}
 use Rattle.map65.specs.declared.name.Place.TheVariants.{Constant, Forward, Label}
 
 -- ---- where a base comes from
@@ -47,9 +48,6 @@ pub record FromAddress (m : MapView) (a : ℕ) (b : Base) : Type 0 where
 some-base : (b c : Base) → Some b ≡ Some c → b ≡ c
 some-base b c is = cc
 
-not-base : (b : Base) → None ≡ Some b → ⊥
-not-base b is = cc
-
 from-entry_start : (m : MapView) (a : ℕ) (b : Base) → is_referenced m a ≡ true → entry_base m a ≡ b → (o : Option NameView) → covering m.info.names (entry_start m a) ≡ o → FromName m a b ⊎ FromAddress m a b
 from-entry_start m a b referenced is (Some v) covers_it = inl (record { at = entry_start m a; low = entry_start-low m a; name = v; covers_it = covers_it; is = sym is ∙ entry_start-given m a v covers_it })
 from-entry_start m a b referenced is None none = inr (record { at = entry_start m a; low = entry_start-low m a; none = none; referenced = entry_start-referenced m a referenced; start_is = entry_start-entry_start m a; is = sym is ∙ entry_start-default m a none })
@@ -57,7 +55,7 @@ from-entry_start m a b referenced is None none = inr (record { at = entry_start 
 from : (m : MapView) (a : ℕ) (b : Base) (o : Option NameView) (w : Bool) → covering m.info.names a ≡ o → is_referenced m a ≡ w → base_by o w (entry_base m a) ≡ Some b → FromName m a b ⊎ FromAddress m a b
 from m a b (Some v) w covers_it referenced is = inl (record { at = a; low = omega arith; name = v; covers_it = covers_it; is = sym (some-base _ b is) })
 from m a b None true none referenced is = from-entry_start m a b referenced (some-base _ b is) (covering m.info.names (entry_start m a)) refl
-from m a b None false none referenced is = absurd (not-base b is)
+from m a b None false none referenced is = absurd (not-some b is)
 
 source : (m : MapView) (a : ℕ) (b : Base) → base_at m a ≡ Some b → FromName m a b ⊎ FromAddress m a b
 unfolding base_at
@@ -72,33 +70,10 @@ base-low m a b is =
 
 -- ---- a base names its own address
 
-covers-own : (v : NameView) → 1 ≤ v.size → covers v v.address ≡ true
-covers-own v some = and_from _ _ (le-leb v.address v.address (omega arith)) (lt-ltb v.address (v.address + v.size) (omega arith))
-
-own-by : (names : List NameView) → AreNames names → (i : ℕ) → i < length names → (o : Option NameView) → covering names (name_at names i).address ≡ o → o ≡ Some (name_at names i)
-own-by names are i low None is =
-    absurd (both_ways (covers (name_at names i) (name_at names i).address) (none_covers names (name_at names i).address is i low) (covers-own (name_at names i) (are.each i blank_name low).sized))
-own-by names are i low (Some v) is =
-    let r = last_name names (name_at names i).address v is in
-    ⊎_elim
-    (λ same. ap (λ (x : NameView). Some x) (r.is ∙ ap (name_at names) same))
-    (λ other.
-    ⊎_elim
-    (λ below. absurd (both_ways (covers (name_at names i) (name_at names i).address) (r.later i below low) (covers-own (name_at names i) (are.each i blank_name low).sized)))
-    (λ above.
-    let high = are.rising i r.index blank_name (omega (arith, above, other)) r.low in
-    let reach = leb-low (name_at names r.index) (name_at names i).address r.covers_it in
-    absurd (omega (arith, high, reach)))
-    (cases_lt r.index i))
-    (cases_eq r.index i)
-  where
-    leb-low : (v : NameView) (a : ℕ) → covers v a ≡ true → v.address ≤ a
-    leb-low v a is = let parts = and_parts (nat_le v.address a) (nat_lt a (v.address + v.size)) is in grind (arith, nat_tests)
-
 own-name : (names : List NameView) → AreNames names → (a : ℕ) (v : NameView) → covering names a ≡ Some v → covering names v.address ≡ Some v
 own-name names are a v is =
     let r = last_name names a v is in
-    ap (λ (x : NameView). covering names x.address) r.is ∙ own-by names are r.index r.low (covering names (name_at names r.index).address) refl ∙ ap (λ (x : NameView). Some x) (sym r.is)
+    ap (λ (x : NameView). covering names x.address) r.is ∙ own_address_wins names are r.index r.low ∙ ap (λ (x : NameView). Some x) (sym r.is)
 
 base-own : (m : MapView) → AreNames m.info.names → (a : ℕ) (b : Base) → base_at m a ≡ Some b → base_at m b.address ≡ Some b
 base-own m are a b is =
@@ -124,13 +99,6 @@ default-same u v low also_low is =
     let fourth = digit-same (u % 16) (v % 16) (omega arith) (omega arith) (ap (λ (l : List ℕ). get_or l 4 0) is) in
     omega (arith, first, second, third, fourth)
 
-upper : (d : ℕ) → d < 16 → is_upper_hex (hex_digit d) ≡ true
-upper d low = grind (arith, nat_tests)
-
-like-default : (v : ℕ) → is_like_default (default_name v) ≡ true
-unfolding is_like_default default_name
-like-default v = rw (upper (v / 4096 % 16) (omega arith), upper (v / 256 % 16) (omega arith), upper (v / 16 % 16) (omega arith), upper (v % 16) (omega arith)) refl
-
 or-last : (p q r : Bool) → (p || (q && not r)) ≡ false → q ≡ true → r ≡ true
 or-last true q r is like = absurd (false≢true (sym is))
 or-last false true true is like = refl
@@ -141,7 +109,7 @@ or-last false false r is like = absurd (false≢true like)
 reserved-same : (address v : ℕ) (text : List ℕ) → address < 65536 → v < 65536 → is_reserved address text ≡ false → text ≡ default_name v → address ≡ v
 unfolding is_reserved
 reserved-same address v text low also_low unreserved is =
-    let own = or-last (is_reserved_word text) (is_like_default text) (bytes_eq text (default_name address)) unreserved (ap is_like_default is ∙ like-default v) in
+    let own = or-last (is_reserved_word text) (is_like_default text) (bytes_eq text (default_name address)) unreserved (ap is_like_default is ∙ like_default v) in
     default-same address v low also_low (sym ((bytes_eq-Decides text (default_name address)).0 own) ∙ is)
 
 same-name : (names : List NameView) → AreNames names → (i j : ℕ) → i < length names → j < length names → (name_at names i).text ≡ (name_at names j).text → name_at names i ≡ name_at names j
@@ -268,13 +236,16 @@ in-code m n inside shown none narrow =
     absurd (omega (arith, single, (begun m u.first u.begins).len, u.after, u.before)))
     (code-or-byte m (role_of m.info n) narrow)
 
-placed-inside : (m : MapView) (n : ℕ) → IsFree m n → is_inside m.image n ≡ true → is_skip (role_of m.info n) ≡ false → ((0 < item_len m n) × (place_of m n ≡ Label)) ⊎ (IsInCode m n × (place_of m n ≡ Forward))
+lies : (m : MapView) (n : ℕ) (p : Place) → place_of m n ≡ p → LiesBy p m n → LiesBy (place_of m n) m n
+lies m n p is there = subst (λ (q : Place). LiesBy q m n) (sym is) there
+
+placed-inside : (m : MapView) (n : ℕ) → IsFree m n → is_inside m.image n ≡ true → is_skip (role_of m.info n) ≡ false → LiesBy (place_of m n) m n
 placed-inside m n unhidden inside shown =
     ⊎_elim
     (λ none.
     let narrow : is_wide (role_of m.info n) ≡ false = ⊎_elim (λ wide. absurd (omega (arith, none, unhidden inside wide))) (λ is. is) (cases_Bool (is_wide (role_of m.info n))) in
-    inr (in-code m n inside shown none narrow, place-forward m n inside shown none))
-    (λ some. let begins : 0 < item_len m n = omega (arith, some) in inl (begins, place-label m n inside shown begins))
+    lies m n Forward (place-forward m n inside shown none) (in-code m n inside shown none narrow))
+    (λ some. let begins : 0 < item_len m n = omega (arith, some) in lies m n Label (place-label m n inside shown begins) begins)
     (cases_eq (item_len m n) 0)
 
 pub place_law : (m : MapView) → PlaceLaw m
@@ -283,8 +254,8 @@ place_law m a b is =
     ⊎_elim
     (λ inside.
     ⊎_elim
-    (λ skip. inl (inr skip, place-skip m n inside skip))
-    (λ shown. inr (placed-inside m n (base-free m a b is) inside shown))
+    (λ skip. lies m n Constant (place-skip m n inside skip) (inr skip))
+    (λ shown. placed-inside m n (base-free m a b is) inside shown)
     (cases_Bool (is_skip (role_of m.info n))))
-    (λ out. inl (inl out, place-outside m n out))
+    (λ out. lies m n Constant (place-outside m n out) (inl out))
     (cases_Bool (is_inside m.image n))

@@ -88,10 +88,6 @@ with_name-rest c false is = rw (is_named-is c false is) (omega (arith, is))
 
 -- ---- all cells
 
-pub bit-small : (b : Bool) → bit b < 2
-bit-small true = omega arith
-bit-small false = omega arith
-
 pub named-test : (p : ℕ → Bool) (cells : List ℕ) (a : ℕ) → AreNamed p cells → a < 65536 → is_named (get_or cells a 0) ≡ p a
 named-test p cells a named room = is_named-is (get_or cells a 0) (p a) (named.each a room)
 

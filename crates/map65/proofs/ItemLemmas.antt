@@ -108,7 +108,7 @@ one-role m b a le piece = one-run-role m b a le (λ x low high. joined-run m x (
 
 -- ---- sizes
 
-len-positive : (x : Mode) → 1 ≤ len_of x
+pub len-positive : (x : Mode) → 1 ≤ len_of x
 len-positive Imp = omega arith
 len-positive _ = omega arith
 
@@ -197,7 +197,7 @@ left-past size positive start k none =
 
 -- ---- items
 
-inside-index : (m : MapView) (k : ℕ) → k < length m.image.bytes → is_inside m.image (m.image.start + k) ≡ true
+pub inside-index : (m : MapView) (k : ℕ) → k < length m.image.bytes → is_inside m.image (m.image.start + k) ≡ true
 inside-index m k low = and_from _ _ (le-leb m.image.start (m.image.start + k) (omega arith)) (lt-ltb (m.image.start + k) (end_of m.image) (omega arith))
 
 -- an item begins where no other is left, unless the byte is skipped

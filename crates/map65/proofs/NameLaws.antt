@@ -1,6 +1,6 @@
 -- The laws of targets and names.
 use Rattle.std.proofs.Common.{◌≡◌, ◌≢◌, ◌∙◌, ◌⊎◌, inl, inr, ℕ, zero, suc, ◌+◌, ◌-◌, ◌<◌, ◌≤◌, ◌&&◌, ◌||◌, ◌==◌, Bool, true, false, List, Option, Some, None, length, get_or, nat_le, nat_lt, refl, ap, sym, subst, arith, ⊎_elim}
-use Rattle.std.proofs.lemmas.Bool.{and_from, and_parts, both_ways, cases_Bool, cases_eq, cases_lt, eq-eqb, eqb-true, false≢true, le-leb, leb-true, lt-ltb, ltb-true}
+use Rattle.std.proofs.lemmas.Bool.{and_from, and_parts, both_ways, cases_Bool, cases_eq, cases_lt, eq-eqb, eqb-true, false≢true, le-leb, leb-true, lt-ltb, ltb-true, or_left, or_right}
 use Rattle.std.proofs.lemmas.List.Folds.{Any-from_list_any, list_any_at}
 use Rattle.info65.specs.Names.{AreNames, blank_name, covering, covers, name_at}
 use Rattle.info65.specs.Views.{NameView}
@@ -142,13 +142,6 @@ or-true : (p q : Bool) → (p || q) ≡ true → (p ≡ true) ⊎ (q ≡ true)
 or-true true q is = inl refl
 or-true false q is = inr is
 
-or-first : (p q : Bool) → p ≡ true → (p || q) ≡ true
-or-first p q is = rw is refl
-
-or-second : (p q : Bool) → q ≡ true → (p || q) ≡ true
-or-second true q is = refl
-or-second false q is = is
-
 entry_start-place : (m : MapView) (t a : ℕ) → entry_start m t ≡ a → (a ≡ t) ⊎ IsInner m t a
 entry_start-place m t a is =
     ⊎_elim
@@ -185,7 +178,7 @@ address-count (suc n) a = ap suc (address-count n (a + 1))
 refers-if : (m : MapView) (item t a : ℕ) → target_at m item ≡ Some t → (t ≡ a) ⊎ (entry_start m t ≡ a) → refers m a item ≡ true
 unfolding refers
 refers-if m item t a has is =
-    ap (λ o. refers_by m o a) has ∙ ⊎_elim (λ same. or-first (t == a) (entry_start m t == a) (eq-eqb t a same)) (λ moved. or-second (t == a) (entry_start m t == a) (eq-eqb (entry_start m t) a moved)) is
+    ap (λ o. refers_by m o a) has ∙ ⊎_elim (λ same. or_left (t == a) (entry_start m t == a) (eq-eqb t a same)) (λ moved. or_right (t == a) (entry_start m t == a) (eq-eqb (entry_start m t) a moved)) is
 
 pub referenced-if : (m : MapView) (t a : ℕ) → IsTarget m t → (t ≡ a) ⊎ (entry_start m t ≡ a) → is_referenced m a ≡ true
 unfolding is_referenced

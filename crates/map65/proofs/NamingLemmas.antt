@@ -2,7 +2,7 @@
 use Rattle.std.proofs.Common.{◌≡◌, ◌≢◌, ◌∙◌, ℕ, zero, suc, ◌+◌, ◌-◌, ◌/◌, ◌%◌, ◌<◌, ◌≤◌, ◌&&◌, ◌||◌, ◌==◌, Bool, true, false, List, Option, Some, None, length, get_or, set, take, max, nat_le, nat_lt, refl, ap, sym, subst, arith, ⊎_elim, if◌then◌else◌}
 use Rattle.std.specs.List.{list_any}
 use Rattle.std.proofs.Math.ListN.{length-set}
-use Rattle.std.proofs.lemmas.Bool.{and_from, and_parts, both_ways, cases_Bool, cases_eq, cases_lt, cond-false, cond-true, eq-eqb, eqb-true, le-leb, leb-true, lt-ltb, ltb-true, ne_eqb}
+use Rattle.std.proofs.lemmas.Bool.{and_from, and_parts, both_ways, cases_Bool, cases_eq, cases_lt, cond-false, cond-true, eq-eqb, eqb-true, le-leb, leb-true, lt-ltb, ltb-true, ne_eqb, or_left, or_right}
 use Rattle.std.proofs.lemmas.Bool.Decides.{nat_tests}
 use Rattle.std.proofs.lemmas.List.{get_or_default, take_all}
 use Rattle.std.proofs.lemmas.List.Folds.{Any-from_list_any, list_any_more}
@@ -31,24 +31,14 @@ or-none : (p : Bool) → p ≡ (p || false)
 or-none true = refl
 or-none false = refl
 
-or-either : (p q : Bool) → p ≡ true → (p || q) ≡ true
-or-either p q is = rw is refl
-
-or-second : (p q : Bool) → q ≡ true → (p || q) ≡ true
-or-second true q is = refl
-or-second false q is = is
-
 or-assoc : (p q r : Bool) → ((p || q) || r) ≡ (p || (q || r))
 or-assoc true q r = refl
 or-assoc false q r = refl
 
 -- ---- one bit
 
-keeps-same : (cells : List ℕ) → KeepsLay cells cells
-keeps-same cells = record { count = refl; each = λ a room. refl; borders = λ a room. refl }
-
 pub keeps-start : (cells : List ℕ) → KeepsLay cells cells
-keeps-start = keeps-same
+keeps-start cells = record { count = refl; each = λ a room. refl; borders = λ a room. refl }
 
 pub keeps-then : (old mid new : List ℕ) → KeepsLay old mid → KeepsLay mid new → KeepsLay old new
 keeps-then old mid new first second = record {
@@ -69,7 +59,7 @@ mark-keeps old cells n count room keeps = record {
 }
 
 bit-set : (b : Bool) (n : ℕ) → 1 ≡ bit (b || n == n)
-bit-set b n = ap bit (sym (or-second b (n == n) (eq-eqb n n refl)))
+bit-set b n = ap bit (sym (or_right b (n == n) (eq-eqb n n refl)))
 
 bit-other : (b : Bool) (n a : ℕ) → a ≢ n → bit b ≡ bit (b || n == a)
 bit-other b n a other = ap bit (or-none b ∙ ap (λ (q : Bool). b || q) (sym (ne_eqb n a (λ same. other (sym same)))))
@@ -198,8 +188,8 @@ module _ (names : List NameView) (are : AreNames names) (i reach : ℕ) (below :
       (λ hit.
       let bounds = covers-low (name_at names i) a hit in
       ⊎_elim
-      (λ within. or-either _ _ (reaches a (earlier a bounds.0) within) ∙ sym (below-hit names i a hit))
-      (λ past. or-second (is_covered_below names i a) _ (and_from _ _ (le-leb (max (name_at names i).address reach) a (omega (arith, bounds.0, past))) (lt-ltb a ((name_at names i).address + (name_at names i).size) bounds.1)) ∙ sym (below-hit names i a hit))
+      (λ within. or_left _ _ (reaches a (earlier a bounds.0) within) ∙ sym (below-hit names i a hit))
+      (λ past. or_right (is_covered_below names i a) _ (and_from _ _ (le-leb (max (name_at names i).address reach) a (omega (arith, bounds.0, past))) (lt-ltb a ((name_at names i).address + (name_at names i).size) bounds.1)) ∙ sym (below-hit names i a hit))
       (cases_lt a reach))
       (λ miss.
       let apart : is_within (max (name_at names i).address reach) ((name_at names i).address + (name_at names i).size) a ≡ false =
@@ -335,7 +325,7 @@ refers-none m item p cells is named =
 -- a target and the first byte of its item are marked
 module _ (m : MapView) (item t h : ℕ) (cells one two : List ℕ) (laid : IsLaid m cells) (t_room : t < 65536) (h_room : h < 65536) (is : target_at m item ≡ Some t) (at : h ≡ entry_start m t) (then_one : one ≡ set cells t (with_name (get_or cells t 0))) (then_two : two ≡ set one h (with_name (get_or one h 0))) where
   one-keeps : KeepsLay cells one
-  one-keeps = subst (KeepsLay cells) (sym then_one) (mark-keeps cells cells t laid.count t_room (keeps-same cells))
+  one-keeps = subst (KeepsLay cells) (sym then_one) (mark-keeps cells cells t laid.count t_room (keeps-start cells))
 
   one-count : length one ≡ 65536
   one-count = one-keeps.count ∙ laid.count

@@ -96,9 +96,7 @@ twice c = omega arith
 pub bordered-or : (p q : Bool) (c : ℕ) → bordered q (bordered p c) ≡ bordered (p || q) c
 unfolding bordered
 bordered-or true true c = twice c
-bordered-or true false c = refl
-bordered-or false true c = refl
-bordered-or false false c = refl
+bordered-or _ _ c = refl
 
 pub bordered-none : (c : ℕ) → bordered false c ≡ c
 unfolding bordered

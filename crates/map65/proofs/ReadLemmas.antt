@@ -1,16 +1,17 @@
 -- What a reader has left after one read and then another, and which image its bytes give.
-use Rattle.std.proofs.Common.{drop-drop, ◌≡◌, ℕ, ◌+◌, ◌<◌, ◌≤◌, ◌==◌, ◌||◌, refl, Bool, false, nat_lt, arith, length-append, List, [], ◌++◌, length, take, drop, Option, None, Some, IfSome, Result, Ok, Err, sym, ◌∙◌, ap, ap₂, subst, append_assoc, ⊎_elim}
+use Rattle.std.proofs.Common.{◌≡◌, ℕ, ◌+◌, ◌<◌, ◌≤◌, ◌==◌, ◌||◌, refl, Bool, false, nat_lt, arith, length-append, List, ◌++◌, length, take, drop, Option, None, Some, IfSome, Result, Ok, Err, sym, ◌∙◌, ap, ap₂, subst, ⊎_elim}
 use Rattle.std.proofs.Math.Seq.{drop-append_seam}
 use Rattle.std.proofs.lemmas.List.{append-nil, take_at, take_all, length-take, drop_all}
 use Rattle.std.proofs.lemmas.Bool.{le-ltb, cases_lt, cond_both}
 use Rattle.std.proofs.lemmas.Bool.Decides.{nat_tests}
-use Rattle.std.specs.Io.KnownBytes.{Consumes, IsAtEnd, Keeps}
+use Rattle.std.specs.Io.KnownBytes.{Consumes, IsAtEnd}
+use Rattle.std.proofs.KnownBytes.{Consumes-trans}
 use Rattle.info65.specs.Views.{SettingsView}
 use Rattle.map65.specs.Device.{TakesUpTo}
 use Rattle.map65.specs.Image.{GivesImage, ReadCount, StopsAt, asked_of, image_by, image_of, is_short, most_of, read_limit, sized, start_of}
 use Rattle.map65.specs.ImageView.{ImageView}
 use Rattle.map65.specs.Taking.{IsReadTo}
-use Rattle.map65.specs.Code.Passing.{IsAllTaken, Takes}
+use Rattle.map65.specs.Code.Passing.{Takes}
 use Rattle.map65.specs.declared.image.ImageFault.{ImageFault}
 use Rattle.map65.specs.declared.image.ImageFault.TheVariants.{Empty, TooLarge, Short}
 
@@ -18,17 +19,7 @@ use Rattle.map65.specs.declared.image.ImageFault.TheVariants.{Empty, TooLarge, S
 
 -- two pieces are one
 pub took_more : (old mid new : Option (List ℕ)) (a b : List ℕ) → Consumes old mid a → Consumes mid new b → Consumes old new (a ++ b)
-took_more None mid new a b f g = tt
-took_more (Some xs) None new a b f g = absurd f
-took_more (Some xs) (Some ys) None a b f g = absurd g
-took_more (Some xs) (Some ys) (Some zs) a b f g = rw (f, g, append_assoc)
-
--- a read that failed took none
-took_none : (old mid new : Option (List ℕ)) (a : List ℕ) → Consumes old mid a → Keeps mid new → Consumes old new a
-took_none None mid new a f g = tt
-took_none (Some xs) None new a f g = absurd f
-took_none (Some xs) (Some ys) None a f g = absurd g
-took_none (Some xs) (Some ys) (Some zs) a f g = rw g f
+took_more = Consumes-trans
 
 -- at the end, all was taken
 pub took_all : (old new : Option (List ℕ)) (bytes : List ℕ) (limit : ℕ) → Consumes old new bytes → IsAtEnd new → length bytes ≤ limit → IfSome old (λ xs. bytes ≡ take limit xs)
@@ -71,38 +62,12 @@ took_up_to old mid new a b limit f g h = record {
 
 -- ---- bytes that are passed over
 
-same_bytes : (old : Option (List ℕ)) → Consumes old old []
-same_bytes None = tt
-same_bytes (Some xs) = refl
-
-pub takes_none : (old : Option (List ℕ)) (n : ℕ) → n ≡ 0 → Takes n old old
-takes_none old n is = record { bytes = []; count_is = sym is; taken = same_bytes old }
-
 pub takes_more : (old mid new : Option (List ℕ)) (b : List ℕ) (n m : ℕ) → Takes n old mid → Consumes mid new b → n + length b ≡ m → Takes m old new
 takes_more old mid new b n m t g is = record {
   bytes = t.bytes ++ b;
   count_is = omega (arith, length-append t.bytes b, t.count_is, is);
   taken = took_more old mid new t.bytes b t.taken g;
 }
-
-pub takes_kept : (old mid new : Option (List ℕ)) (n limit : ℕ) → Takes n old mid → Keeps mid new → n ≤ limit → TakesUpTo limit old new
-takes_kept old mid new n limit t g le = record { bytes = t.bytes; bound = omega (arith, t.count_is); taken = took_none old mid new t.bytes t.taken g }
-
-pub takes_up_to : (old new : Option (List ℕ)) (n limit : ℕ) → Takes n old new → n ≤ limit → TakesUpTo limit old new
-takes_up_to old new n limit t le = record { bytes = t.bytes; bound = omega (arith, t.count_is); taken = t.taken }
-
-pub passed_all : (old new : Option (List ℕ)) (n : ℕ) → Takes n old new → IsReadTo n old new
-passed_all old new n t = rest_limit old new t.bytes n t.taken t.count_is
-
-all_taken : (old new : Option (List ℕ)) (bytes : List ℕ) (limit : ℕ) → Consumes old new bytes → IsAtEnd new → length bytes ≤ limit → IsAllTaken limit old new
-all_taken None new bytes limit f e h = tt
-all_taken (Some xs) None bytes limit f e h = absurd f
-all_taken (Some xs) (Some ys) bytes limit f e h =
-    let whole : xs ≡ bytes = f ∙ (ap (λ r. bytes ++ r) e ∙ append-nil bytes) in
-    (ap (drop limit) whole ∙ drop_all limit bytes h, ap Some e)
-
-pub passed_end : (old mid new : Option (List ℕ)) (b : List ℕ) (n limit : ℕ) → Takes n old mid → Consumes mid new b → IsAtEnd new → n + length b ≤ limit → IsAllTaken limit old new
-passed_end old mid new b n limit t g e le = all_taken old new (t.bytes ++ b) limit (took_more old mid new t.bytes b t.taken g) e (omega (arith, length-append t.bytes b, t.count_is))
 
 -- ---- which image some bytes give
 
@@ -161,24 +126,5 @@ image_seen (Some xs) old new s offset most bytes answer same is at many all =
 
 -- ---- what is taken after bytes that were passed over
 
-pub bytes_after : (old mid : Option (List ℕ)) (items : List ℕ) (offset limit : ℕ) → IsReadTo offset old mid → IfSome mid (λ xs. items ≡ take limit xs) → IfSome old (λ xs. items ≡ take limit (drop offset xs))
-bytes_after None mid items offset limit p q = tt
-bytes_after (Some xs) mid items offset limit p q = rw p at q
-
-pub rest_after : (old mid new : Option (List ℕ)) (offset limit : ℕ) → IsReadTo offset old mid → IsReadTo limit mid new → IsReadTo (offset + limit) old new
-rest_after None mid new offset limit p q = tt
-rest_after (Some xs) mid new offset limit p q = let r : new ≡ Some (drop limit (drop offset xs)) = rw p at q in r ∙ ap Some (drop-drop limit offset xs)
-
 pub bound_after : (old mid new : Option (List ℕ)) (offset limit : ℕ) → TakesUpTo offset old mid → TakesUpTo limit mid new → TakesUpTo (offset + limit) old new
 bound_after old mid new offset limit p q = took_up_to old mid new p.bytes q.bytes (offset + limit) p.taken q.taken (omega (arith, p.bound, q.bound))
-
-pub bound_more : (old new : Option (List ℕ)) (offset limit : ℕ) → TakesUpTo offset old new → TakesUpTo (offset + limit) old new
-bound_more old new offset limit p = record { bytes = p.bytes; bound = omega (arith, p.bound); taken = p.taken }
-
-pub end_bytes : (old new : Option (List ℕ)) (offset limit : ℕ) → IsAllTaken offset old new → IfSome old (λ xs. [] ≡ take limit (drop offset xs))
-end_bytes None new offset limit p = tt
-end_bytes (Some xs) new offset limit p = sym (ap (take limit) p.0 ∙ take_all limit [] (omega arith))
-
-pub end_rest : (old new : Option (List ℕ)) (offset limit : ℕ) → IsAllTaken offset old new → IsReadTo (offset + limit) old new
-end_rest None new offset limit p = tt
-end_rest (Some xs) new offset limit p = p.1 ∙ ap Some (sym (sym (drop-drop limit offset xs) ∙ ap (drop limit) p.0 ∙ drop_all limit [] (omega arith)))

@@ -1,8 +1,8 @@
 -- Runs: what their definition says of segments, and how they are read from cells.
-use Rattle.std.proofs.Common.{◌≡◌, ◌≢◌, ◌∙◌, ℕ, zero, suc, ◌+◌, ◌-◌, ◌/◌, ◌%◌, ◌<◌, ◌≤◌, ◌&&◌, ◌||◌, ◌==◌, nat_le, nat_lt, not, Bool, true, false, Option, Some, None, List, [], ◌∷◌, refl, ap, sym, arith, ⊎_elim, if◌then◌else◌}
+use Rattle.std.proofs.Common.{◌≡◌, ◌≢◌, ◌∙◌, ℕ, zero, suc, ◌+◌, ◌-◌, ◌/◌, ◌%◌, ◌<◌, ◌≤◌, ◌&&◌, ◌==◌, nat_le, nat_lt, not, Bool, true, false, Option, Some, None, List, [], ◌∷◌, refl, ap, sym, arith, ⊎_elim, if◌then◌else◌}
 use Rattle.std.specs.List.{find}
 use Rattle.std.specs.Option.{option_map}
-use Rattle.std.proofs.lemmas.Bool.{and_from, and_parts, cases_Bool, cond-true, cond_both, eq-eqb, eqb-true, le-leb, leb-true, lt-ltb, ltb-true, ne_eqb, not-true}
+use Rattle.std.proofs.lemmas.Bool.{and_from, and_parts, cases_Bool, cond-true, cond_both, eq-eqb, eqb-true, le-leb, leb-true, lt-ltb, ltb-true, ne_eqb, not-true, or_parts}
 use Rattle.std.proofs.lemmas.Bool.Decides.{nat_tests}
 use Rattle.std.specs.Cmp.{both_ways}
 use Rattle.info65.specs.Segments.{contains, segment_covering}
@@ -25,10 +25,6 @@ use Rattle.map65.specs.Segments.{borders, is_border, segment_at}
 contains-same : (s : SegmentView) (a : ℕ) → 0 < a → borders s a ≡ false → contains s a ≡ contains s (a - 1)
 contains-same s a some none = grind (arith, nat_tests, some, none)
 
-or-parts : (p q : Bool) → (p || q) ≡ false → (p ≡ false) × (q ≡ false)
-or-parts false q is = (refl, is)
-or-parts true q is = absurd cc
-
 cond-same : {X : Type 0} (p q : Bool) (x y z : X) → p ≡ q → y ≡ z → (if p then x else y) ≡ (if q then x else z)
 cond-same p q x y z first second = rw (first, second) refl
 
@@ -36,11 +32,11 @@ found-same : (segments : List SegmentView) (a : ℕ) → 0 < a → is_border seg
 unfolding is_border
 found-same [] a some none = refl
 found-same (s ∷ rest) a some none =
-    let parts = or-parts (borders s a) (is_border rest a) none in
+    let parts = or_parts (borders s a) (is_border rest a) none in
     cond-same (contains s a) (contains s (a - 1)) (Some s) (find (λ s. contains s a) rest) (find (λ s. contains s (a - 1)) rest) (contains-same s a some parts.0) (found-same rest a some parts.1)
 
 segment-before : (m : MapView) (a : ℕ) → InRun m a → segment_at m a ≡ segment_at m (a - 1)
-unfolding segment_covering
+unfolding segment_at segment_covering
 segment-before m a here = ap (option_map (λ (s : SegmentView). s.name)) (found-same m.info.segments a (omega (arith, here.low)) here.unbroken)
 
 segment-after : (m : MapView) (n b : ℕ) → AreOneRun m b (b + n) → segment_at m (b + n) ≡ segment_at m b

@@ -1,22 +1,16 @@
 -- What known bytes are after one write and then another.
-use Rattle.std.proofs.Common.{◌≡◌, ℕ, ◌-◌, List, ◌++◌, length, take, drop, Option, None, Some, sym, ◌∙◌, ap, append_assoc}
+use Rattle.std.proofs.Common.{◌≡◌, ℕ, ◌-◌, List, ◌++◌, length, take, drop, Option, sym, ◌∙◌, ap, append_assoc}
 use Rattle.std.proofs.lemmas.List.{take-append-drop, take_rest, append-nil, nil_from_length}
 use Rattle.std.specs.Io.KnownBytes.{Appends}
+use Rattle.std.proofs.KnownBytes.{Appends-trans}
 use Rattle.map65.specs.Device.{HasTaken}
-
--- two growths are one
-pub appends-more : (old mid new : Option (List ℕ)) (a b : List ℕ) → Appends old mid a → Appends mid new b → Appends old new (a ++ b)
-appends-more None mid new a b f g = tt
-appends-more (Some xs) None new a b f g = absurd f
-appends-more (Some xs) (Some ys) None a b f g = absurd g
-appends-more (Some xs) (Some ys) (Some zs) a b f g = rw (g, f, append_assoc)
 
 -- a write took n bytes of what was left
 pub taken_more : {old mid new : Option (List ℕ)} {text rest : List ℕ} (n : ℕ) → HasTaken old mid text rest → Appends mid new (take n rest) → HasTaken old new text (take (length rest - n) (drop n rest))
 taken_more {old} {mid} {new} {text} {rest} n h w = record {
   front = h.front ++ take n rest;
   parts = rw (take_rest, append_assoc, take-append-drop) h.parts;
-  taken = appends-more old mid new h.front (take n rest) h.taken w;
+  taken = Appends-trans old mid new h.front (take n rest) h.taken w;
 }
 
 -- nothing is left

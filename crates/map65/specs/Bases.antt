@@ -6,6 +6,7 @@ use Rattle.map65.specs.Items.{item_len}
 use Rattle.map65.specs.MapView.{MapView}
 use Rattle.map65.specs.Names.{Base, base_at, place_of}
 use Rattle.map65.specs.Roles.{is_skip, role_of}
+use Rattle.map65.specs.declared.name.Place.{Place}
 use Rattle.map65.specs.declared.name.Place.TheVariants.{Constant, Forward, Label}
 
 -- the address lies outside the image, or is skipped
@@ -20,10 +21,16 @@ pub record IsInCode (m : MapView) (n : ℕ) : Type 0 where
   pub before : n < item + item_len m item
   pub code : role_of m.info n ≡ Code
 
+-- where an address lies that is defined in this way
+abbrev pub LiesBy : Place → MapView → ℕ → Type 0
+LiesBy Constant m n = IsOutside m n
+LiesBy Label m n = 0 < item_len m n
+LiesBy Forward m n = IsInCode m n
+
 -- The base of an address's name lies outside the image or in skipped bytes, or an item begins there, or it lies inside an item of code;
 -- its place says which. So no base lies inside an item of a table.
 abbrev pub PlaceLaw : MapView → Type 0
-PlaceLaw m = (a : ℕ) (b : Base) → base_at m a ≡ Some b → (IsOutside m b.address × (place_of m b.address ≡ Constant)) ⊎ (((0 < item_len m b.address) × (place_of m b.address ≡ Label)) ⊎ (IsInCode m b.address × (place_of m b.address ≡ Forward)))
+PlaceLaw m = (a : ℕ) (b : Base) → base_at m a ≡ Some b → LiesBy (place_of m b.address) m b.address
 
 pub record BaseLaw (m : MapView) : Type 0 where
   -- a base is not after an address that it names, so it lies in the address space

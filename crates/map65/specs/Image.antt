@@ -62,27 +62,16 @@ image_fault Taken.Memory = Memory
 
 -- the result is the expected one, unless memory ran out
 abbrev pub GivesImage : Result ImageView ImageFault → Result ImageView ImageFault → Type 0
-GivesImage (Ok image) expected = expected ≡ Ok image
-GivesImage (Err Empty) expected = expected ≡ Err Empty
-GivesImage (Err TooLarge) expected = expected ≡ Err TooLarge
-GivesImage (Err Short) expected = expected ≡ Err Short
-GivesImage (Err Read) expected = expected ≡ Err Read
 GivesImage (Err Memory) expected = ⊤
+GivesImage result expected = expected ≡ result
 
 -- the count of failed reads rises by one exactly when the result is Read
 abbrev pub ReadCount : {T : Type 0} → Result T ImageFault → ℕ → ℕ → Type 0
-ReadCount (Ok v) old new = new ≡ old
-ReadCount (Err Empty) old new = new ≡ old
-ReadCount (Err TooLarge) old new = new ≡ old
-ReadCount (Err Short) old new = new ≡ old
 ReadCount (Err Read) old new = new ≡ one_more old
-ReadCount (Err Memory) old new = new ≡ old
+ReadCount _ old new = new ≡ old
 
 -- reading went on to the limit or the end, or to the first read that failed, which was the last one; unless memory ran out
 abbrev pub StopsAt : {T : Type 0} → Result T ImageFault → ℕ → Option (List ℕ) → Option (List ℕ) → Bool → Type 0
-StopsAt (Ok v) limit old new failed = IsReadTo limit old new
-StopsAt (Err Empty) limit old new failed = IsReadTo limit old new
-StopsAt (Err TooLarge) limit old new failed = IsReadTo limit old new
-StopsAt (Err Short) limit old new failed = IsReadTo limit old new
 StopsAt (Err Read) limit old new failed = failed ≡ true
 StopsAt (Err Memory) limit old new failed = ⊤
+StopsAt _ limit old new failed = IsReadTo limit old new

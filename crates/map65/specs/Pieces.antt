@@ -15,10 +15,6 @@ use Rattle.map65.specs.Segments.{is_border, segment_at}
 unfoldable pub is_in_run : MapView → ℕ → Bool
 is_in_run m a = nat_lt m.image.start a && (nat_lt a (end_of m.image) && (is_role (role_of m.info (a - 1)) (role_of m.info a) && not (is_border m.info.segments a)))
 
--- a run begins at the address
-abbrev pub begins_run : MapView → ℕ → Bool
-begins_run m a = is_inside m.image a && not (is_in_run m a)
-
 -- one of these names has the address as its own
 unfoldable pub is_own : List NameView → ℕ → Bool
 is_own names a = list_any (λ n. n.address == a) names

@@ -6,7 +6,7 @@ use Rattle.info65.specs.Views.{SegmentView}
 use Rattle.map65.specs.MapView.{MapView}
 
 -- the name of the segment that the address belongs to; none outside all segments
-abbrev pub segment_at : MapView → ℕ → Option (List ℕ)
+unfoldable pub segment_at : MapView → ℕ → Option (List ℕ)
 segment_at m a = segment_covering m.info.segments a
 
 -- a border stands before the START of a segment, and one after its END

@@ -10,9 +10,8 @@ IsReadTo limit old new = IfSome old (λ xs. new ≡ Some (drop limit xs))
 
 -- the count of failed reads rises by one exactly when the result is Read
 abbrev pub TakeCount : {T : Type 0} → Result T TakeFault → ℕ → ℕ → Type 0
-TakeCount (Ok v) old new = new ≡ old
 TakeCount (Err Read) old new = new ≡ one_more old
-TakeCount (Err Memory) old new = new ≡ old
+TakeCount _ old new = new ≡ old
 
 -- A read that failed was the last one. No more than one fails, by the count.
 abbrev pub TakesNoMore : {T : Type 0} → Result T TakeFault → Bool → Type 0

@@ -59,7 +59,8 @@ fn mark_name(cells: &mut [u16], name: Given<'_>, reach: usize) -> usize
     requires count { length cells.old ≡ 65536 }
     requires room { name.address + name.size ≤ 65536 }
     ensures keeps { KeepsLay cells.old cells.new }
-    ensures named { (p : ℕ → Bool) → AreNamed p cells.old → AreNamed (also p (is_within (max name.entry.address reach) (name.entry.address + name.entry.size))) cells.new }
+    ensures named { (p : ℕ → Bool) → AreNamed p cells.old
+        → AreNamed (also p (is_within (max name.entry.address reach) (name.entry.address + name.entry.size))) cells.new }
     ensures reach { result ≡ max reach (name.entry.address + name.entry.size) }
 {
     let first = usize::from(name.address);
@@ -117,7 +118,8 @@ fn mark_target<A: Allocator>(
     requires high { address < end_of image.now }
     requires laid { IsLaid (record { info = info.now; image = image.now }) cells.old }
     ensures laid { IsLaid (record { info = info.now; image = image.now }) cells.new }
-    ensures named { (p : ℕ → Bool) → AreNamed p cells.old → AreNamed (also p (λ a. refers (record { info = info.now; image = image.now }) a address)) cells.new }
+    ensures named { (p : ℕ → Bool) → AreNamed p cells.old
+        → AreNamed (also p (λ a. refers (record { info = info.now; image = image.now }) a address)) cells.new }
 {
     let cell = cells[usize::from(address)];
     let len = len_in(cell);

@@ -7,7 +7,7 @@ use Rattle.map65.specs.MapView.{MapView}
 use Rattle.da65.specs.Code.KeySet.{has_bit}
 use Rattle.da65.specs.SegmentReentry.{enters_again, is_among, is_entered_again}
 use Rattle.da65.specs.Groups.{groups_from}
-use Rattle.da65.specs.Segments.{segment_at}
+use Rattle.map65.specs.Segments.{segment_at}
 use Rattle.da65.specs.declared.runs.segment_reentry.Entered.{Entered}
 
 -- the key is that of the segment's name; the default has none

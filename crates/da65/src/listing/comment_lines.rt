@@ -1,14 +1,13 @@
 //! The comments of given names.
 
-ghost use Rattle.std.specs.Prelude.{◌≡◌, ◌+◌, ◌-◌, ◌<◌, ◌≤◌, [], IfSome, MatchOption};
+ghost use Rattle.std.specs.Prelude.{◌≡◌, ◌+◌, ◌-◌, ◌<◌, ◌≤◌, IfSome};
 ghost use Rattle.std.specs.Option.{option_copied};
 ghost use Rattle.stmt65.specs.Printable.{IsPrintable};
 ghost use Rattle.stmt65.specs.Views as view;
 ghost use Rattle.da65.specs.Comments.{comment_at, comment_by};
 ghost use Rattle.info65.specs.Names.{covering};
-ghost use Rattle.da65.specs.Lines.{IsFirstOf};
+ghost use Rattle.da65.specs.Lines.{IsFirstFrom};
 ghost use Rattle.da65.specs.Listing.{comments};
-ghost use Rattle.da65.specs.Style.{style_of};
 
 use crate::listing::listed_image::ListedImage;
 use crate::listing::statement_line::put_plain;
@@ -49,7 +48,7 @@ pub fn put_comment<A: Allocator>(
 ) -> Option<usize>
     requires inside { end ≤ 65536 }
     requires before { from ≤ end }
-    ensures line { MatchOption result (comments listed.now (end - from) from ≡ []) (λ v. IsFirstOf (style_of listed.now.info.settings) (comments listed.now (end - from) from) out.new.items (comments listed.now (end - (v + 1)) (v + 1))) }
+    ensures line { IsFirstFrom listed.now (comments listed.now) from end result out.new.items }
     ensures low { IfSome result (λ v. from ≤ v) }
     ensures high { IfSome result (λ v. v < end) }
 {

@@ -1,17 +1,15 @@
 //! The lines of a group: its forward lines, its label and its statement.
 
-ghost use Rattle.std.specs.Prelude.{◌≡◌, ◌≢◌, ◌+◌, ◌-◌, ◌<◌, ◌≤◌, [], ◌∷◌, ◌++◌, IfSome, MatchOption, None, Some, length};
+ghost use Rattle.std.specs.Prelude.{◌≡◌, ◌≢◌, ◌+◌, ◌-◌, ◌<◌, ◌≤◌, IfSome, None, Some, length};
 ghost use Rattle.std.specs.Option.{option_copied};
 ghost use Rattle.std.specs.Bool.{OnTrue};
 ghost use Rattle.stmt65.specs.Code.StatementViews.{statement_seen};
-ghost use Rattle.stmt65.specs.Printable.{IsNameLong, IsPrintable, MayBeLabelled};
-ghost use Rattle.stmt65.specs.Views as view;
-ghost use Rattle.da65.specs.BaseNames.{base_name, is_base, names_of};
+ghost use Rattle.stmt65.specs.Printable.{IsNameLong, IsPrintable};
+ghost use Rattle.da65.specs.BaseNames.{is_base, names_of};
 ghost use Rattle.da65.specs.Code.ListedGroups.{IsGroupIn};
-ghost use Rattle.da65.specs.Groups.{group_bytes, group_len};
-ghost use Rattle.da65.specs.Lines.{IsFirstOf, IsGroupStart, IsInGroup, IsNext, after_group, group_left, statement_left};
-ghost use Rattle.da65.specs.Listing.{forwards, group_line, label_at, line_text, plain, statement_lines};
-ghost use Rattle.da65.specs.Segments.{segment_at};
+ghost use Rattle.da65.specs.Groups.{group_len};
+ghost use Rattle.da65.specs.Lines.{IsFirstFrom, IsGroupStart, IsInGroup, IsLabelNext, IsNextIn, IsStatementNext, MayFollow, group_left};
+ghost use Rattle.da65.specs.Listing.{forward_line, forwards, label_at, line_text};
 ghost use Rattle.da65.specs.Statements.{statement_at};
 ghost use Rattle.da65.specs.Style.{style_of};
 
@@ -39,7 +37,7 @@ fn put_forward_at<A: Allocator>(
 ) -> bool
     requires { first ≤ address }
     ensures is { result ≡ is_base (names_of listed.now) address }
-    ensures line { OnTrue result (out.new.items ≡ line_text (style_of listed.now.info.settings) (plain (view.forward (base_name (names_of listed.now) address) (address - first)))) }
+    ensures line { OnTrue result (out.new.items ≡ line_text (style_of listed.now.info.settings) (forward_line (names_of listed.now) first address)) }
 {
     let mut name = NameBuf::new();
     let Some(_) = base_at(listed.map(), address, &mut name) else {
@@ -65,7 +63,7 @@ fn put_forward<A: Allocator>(
     requires after { first ≤ from }
     requires inside { end ≤ 65536 }
     requires before { from ≤ end }
-    ensures line { MatchOption result (forwards (names_of listed.now) first (end - from) from ≡ []) (λ v. IsFirstOf (style_of listed.now.info.settings) (forwards (names_of listed.now) first (end - from) from) out.new.items (forwards (names_of listed.now) first (end - (v + 1)) (v + 1))) }
+    ensures line { IsFirstFrom listed.now (forwards (names_of listed.now) first) from end result out.new.items }
     ensures low { IfSome result (λ v. from ≤ v) }
     ensures high { IfSome result (λ v. v < end) }
 {
@@ -114,8 +112,8 @@ fn put_group_statement<A: Allocator>(
     requires group { IsGroupIn listed.now group }
     requires statement { statement_seen statement.now ≡ statement_at listed.now (listed.now.image.start + group.index) }
     requires printable { IsPrintable (statement_seen statement.now) }
-    requires label { MayBeLabelled (style_of listed.now.info.settings).columns (option_copied label) (statement_at listed.now (listed.now.image.start + group.index)) }
-    ensures { IsNext listed.now (group_line (option_copied label.entry) (statement_at listed.now (listed.now.image.start + group.entry.index)) (listed.now.image.start + group.entry.index) (group_bytes listed.now (listed.now.image.start + group.entry.index)) ∷ after_group listed.now group.entry.index) out.new.items result (segment_at listed.now (listed.now.image.start + group.entry.index)) }
+    requires label { MayFollow listed.now group.index (option_copied label) }
+    ensures { IsStatementNext listed.now group.entry.index (option_copied label.entry) out.new.items result }
 {
     let style = listed.style();
     put_statement(out, style, label, statement, group.address, group.bytes);
@@ -139,8 +137,8 @@ fn put_table_line<A: Allocator>(
 ) -> ListingPlace
     requires table { group.role ≢ RangeType.Code }
     requires group { IsGroupIn listed.now group }
-    requires label { MayBeLabelled (style_of listed.now.info.settings).columns (option_copied label) (statement_at listed.now (listed.now.image.start + group.index)) }
-    ensures { IsNext listed.now (group_line (option_copied label.entry) (statement_at listed.now (listed.now.image.start + group.entry.index)) (listed.now.image.start + group.entry.index) (group_bytes listed.now (listed.now.image.start + group.entry.index)) ∷ after_group listed.now group.entry.index) out.new.items result (segment_at listed.now (listed.now.image.start + group.entry.index)) }
+    requires label { MayFollow listed.now group.index (option_copied label) }
+    ensures { IsStatementNext listed.now group.entry.index (option_copied label.entry) out.new.items result }
 {
     let statement = table_statement(listed.map(), group.role, group.bytes, names);
     put_group_statement(out, listed, group, label, &statement)
@@ -157,8 +155,8 @@ fn put_code_line<A: Allocator>(
 ) -> ListingPlace
     requires code { group.role ≡ RangeType.Code }
     requires group { IsGroupIn listed.now group }
-    requires label { MayBeLabelled (style_of listed.now.info.settings).columns (option_copied label) (statement_at listed.now (listed.now.image.start + group.index)) }
-    ensures { IsNext listed.now (group_line (option_copied label.entry) (statement_at listed.now (listed.now.image.start + group.entry.index)) (listed.now.image.start + group.entry.index) (group_bytes listed.now (listed.now.image.start + group.entry.index)) ∷ after_group listed.now group.entry.index) out.new.items result (segment_at listed.now (listed.now.image.start + group.entry.index)) }
+    requires label { MayFollow listed.now group.index (option_copied label) }
+    ensures { IsStatementNext listed.now group.entry.index (option_copied label.entry) out.new.items result }
 {
     let map = listed.map();
     let opcodes = listed.opcodes();
@@ -184,8 +182,8 @@ fn put_group<A: Allocator>(
     label: Option<&[u8]>,
 ) -> ListingPlace
     requires group { IsGroupIn listed.now group }
-    requires label { MayBeLabelled (style_of listed.now.info.settings).columns (option_copied label) (statement_at listed.now (listed.now.image.start + group.index)) }
-    ensures { IsNext listed.now (group_line (option_copied label.entry) (statement_at listed.now (listed.now.image.start + group.entry.index)) (listed.now.image.start + group.entry.index) (group_bytes listed.now (listed.now.image.start + group.entry.index)) ∷ after_group listed.now group.entry.index) out.new.items result (segment_at listed.now (listed.now.image.start + group.entry.index)) }
+    requires label { MayFollow listed.now group.index (option_copied label) }
+    ensures { IsStatementNext listed.now group.entry.index (option_copied label.entry) out.new.items result }
 {
     match group.role {
         RangeType::Code => put_code_line(out, listed, names, group, label),
@@ -205,7 +203,7 @@ fn put_labelled<A: Allocator>(
     requires group { IsGroupIn listed.now group }
     requires label { label_at (names_of listed.now) (listed.now.image.start + group.index) ≡ Some label.now }
     requires long { IsNameLong label.now }
-    ensures { IsNext listed.now (statement_lines listed.now (listed.now.image.start + group.entry.index) ++ after_group listed.now group.entry.index) out.new.items result (segment_at listed.now (listed.now.image.start + group.entry.index)) }
+    ensures { IsLabelNext listed.now group.entry.index out.new.items result }
 {
     let style = listed.style();
     if style.columns.fits_label(label) {
@@ -225,7 +223,7 @@ fn put_named<A: Allocator>(
     group: Group<'_>,
 ) -> ListingPlace
     requires { IsGroupIn listed.now group }
-    ensures { IsNext listed.now (statement_lines listed.now (listed.now.image.start + group.entry.index) ++ after_group listed.now group.entry.index) out.new.items result (segment_at listed.now (listed.now.image.start + group.entry.index)) }
+    ensures { IsLabelNext listed.now group.entry.index out.new.items result }
 {
     let mut label = NameBuf::new();
     match base_at(listed.map(), group.address, &mut label) {
@@ -237,14 +235,14 @@ fn put_named<A: Allocator>(
 /// Replaces the buffer by the first line of a group after its forward lines, and returns the next place. Most
 /// groups begin at an address without a name, and need no buffer for one.
 #[inline(always)]
-fn put_first<A: Allocator>(
+fn put_from_label<A: Allocator>(
     out: &mut Line,
     listed: &ListedImage<'_, A>,
     names: &mut OperandNames,
     group: Group<'_>,
 ) -> ListingPlace
     requires { IsGroupIn listed.now group }
-    ensures { IsNext listed.now (statement_lines listed.now (listed.now.image.start + group.entry.index) ++ after_group listed.now group.entry.index) out.new.items result (segment_at listed.now (listed.now.image.start + group.entry.index)) }
+    ensures { IsLabelNext listed.now group.entry.index out.new.items result }
 {
     if listed.map().has_name(group.address) {
         put_named(out, listed, names, group)
@@ -255,7 +253,7 @@ fn put_first<A: Allocator>(
 
 /// Replaces the buffer by the first line of a group from the forward line of this address on, and returns the next place.
 #[inline(always)]
-pub fn put_inside<A: Allocator>(
+pub fn put_from_forwards<A: Allocator>(
     out: &mut Line,
     listed: &ListedImage<'_, A>,
     names: &mut OperandNames,
@@ -263,7 +261,7 @@ pub fn put_inside<A: Allocator>(
     address: usize,
 ) -> ListingPlace
     requires { IsInGroup listed.now index address }
-    ensures { IsNext listed.now (group_left listed.now index address) out.new.items result (segment_at listed.now (listed.now.image.start + index)) }
+    ensures { IsNextIn listed.now index (group_left listed.now index address) out.new.items result }
 {
     let group = group_at(listed, index);
     let end = group.address as usize + group.bytes.len();
@@ -272,19 +270,19 @@ pub fn put_inside<A: Allocator>(
             index,
             address: next + 1,
         },
-        None => put_first(out, listed, names, group),
+        None => put_from_label(out, listed, names, group),
     }
 }
 
 /// Replaces the buffer by the statement of the group that begins with the byte of this index, and returns the next place.
-pub fn put_rest<A: Allocator>(
+pub fn put_from_statement<A: Allocator>(
     out: &mut Line,
     listed: &ListedImage<'_, A>,
     names: &mut OperandNames,
     index: usize,
 ) -> ListingPlace
     requires { IsGroupStart listed.now index }
-    ensures { IsNext listed.now (statement_left listed.now index) out.new.items result (segment_at listed.now (listed.now.image.start + index)) }
+    ensures { IsStatementNext listed.now index None out.new.items result }
 {
     put_group(out, listed, names, group_at(listed, index), None)
 }

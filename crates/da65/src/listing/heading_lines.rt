@@ -1,14 +1,15 @@
 //! The lines before a group: the separator, the segment and the comments of its names.
 
 ghost use Rattle.std.specs.Option.{option_copied};
-ghost use Rattle.std.specs.Prelude.{IfSome, ◌+◌, ◌≡◌, ◌≤◌};
+ghost use Rattle.std.specs.Prelude.{IfSome, ◌+◌, ◌≡◌};
 ghost use Rattle.stmt65.specs.Printable.{IsNameLong};
-ghost use Rattle.da65.specs.Lines.{IsGroupStart, IsNext, IsOfGroup, comments_left, groups_left, segment_left};
+ghost use Rattle.da65.specs.Lines.{IsGroupStart, IsNext, IsNextIn, IsOfGroup, comments_left, groups_left, segment_left};
 ghost use Rattle.da65.specs.Listing.{has_separator, line_text, plain, separator};
-ghost use Rattle.da65.specs.Segments.{is_same_segment, segment_at, segment_before, segment_statement};
+ghost use Rattle.da65.specs.Segments.{is_same_segment, segment_before, segment_statement};
+ghost use Rattle.map65.specs.Segments.{segment_at};
 
 use crate::listing::comment_lines::put_comment;
-use crate::listing::group_lines::{group_at, put_inside};
+use crate::listing::group_lines::{group_at, put_from_forwards};
 use crate::listing::listed_image::ListedImage;
 use crate::listing::place::ListingPlace;
 use crate::listing::statement_line::put_plain;
@@ -61,7 +62,7 @@ fn put_segment_line(out: &mut Line, style: &Style, segment: Option<&[u8]>)
 
 /// Replaces the buffer by the first line of a group from the comment of the name of this address on, and returns the next
 /// place.
-pub fn put_comments<A: Allocator>(
+pub fn put_from_comments<A: Allocator>(
     out: &mut Line,
     listed: &ListedImage<'_, A>,
     names: &mut OperandNames,
@@ -69,7 +70,7 @@ pub fn put_comments<A: Allocator>(
     address: usize,
 ) -> ListingPlace
     requires { IsOfGroup listed.now index address }
-    ensures { IsNext listed.now (comments_left listed.now index address) out.new.items result (segment_at listed.now (listed.now.image.start + index)) }
+    ensures { IsNextIn listed.now index (comments_left listed.now index address) out.new.items result }
 {
     let group = group_at(listed, index);
     let first = group.address as usize;
@@ -78,13 +79,13 @@ pub fn put_comments<A: Allocator>(
             index,
             address: next + 1,
         },
-        None => put_inside(out, listed, names, index, first + 1),
+        None => put_from_forwards(out, listed, names, index, first + 1),
     }
 }
 
 /// Replaces the buffer by the first line of a group after its separator, and returns the next place. `segment` is that of the
 /// group before, and becomes that of this group.
-pub fn put_segment<'a, A: Allocator>(
+pub fn put_from_segment<'a, A: Allocator>(
     out: &mut Line,
     listed: &ListedImage<'a, A>,
     segment: &mut Option<&'a [u8]>,
@@ -98,7 +99,7 @@ pub fn put_segment<'a, A: Allocator>(
     let address = listed.address(index);
     let here = segment_at(listed, address);
     if is_same_segment(here, *segment) {
-        return put_comments(out, listed, names, index, address as usize);
+        return put_from_comments(out, listed, names, index, address as usize);
     }
     *segment = here;
     put_segment_line(out, listed.style(), here);
@@ -122,7 +123,7 @@ fn has_separator<A: Allocator>(listed: &ListedImage<'_, A>, index: usize) -> boo
 /// Replaces the buffer by the first line of a group, and returns the next place. `segment` is that of the group before, and becomes
 /// that of this group where its line is written.
 #[inline(never)]
-pub fn put_opening<'a, A: Allocator>(
+pub fn put_from_separator<'a, A: Allocator>(
     out: &mut Line,
     listed: &ListedImage<'a, A>,
     segment: &mut Option<&'a [u8]>,
@@ -137,5 +138,5 @@ pub fn put_opening<'a, A: Allocator>(
         put_separator(out, listed.style());
         return ListingPlace::Segment { index };
     }
-    put_segment(out, listed, segment, names, index)
+    put_from_segment(out, listed, segment, names, index)
 }

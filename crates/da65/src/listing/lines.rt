@@ -5,15 +5,14 @@ ghost use Rattle.std.specs.Option.{option_copied};
 ghost use Rattle.std.specs.Bool.{OnTrue, OnFalse};
 ghost use Rattle.std.specs.Io.KnownBytes.{Appends};
 ghost use Rattle.map65.specs.Device.{Counts, AppendsFront};
-ghost use Rattle.map65.specs.Roles.{is_skip, role_of};
 ghost use Rattle.da65.specs.Groups.{IsGroupPlace};
-ghost use Rattle.da65.specs.Lines.{IsGroupStart, IsNext, IsPlace, groups_left, constants_left, left_from, segment_of};
+ghost use Rattle.da65.specs.Lines.{IsGroupStart, IsNext, IsPlace, MayBeNext, groups_left, constants_left, left_from, segment_of};
 ghost use Rattle.da65.specs.Listing.{lines_of, text_of};
 ghost use Rattle.da65.specs.Segments.{segment_before};
 
 use crate::listing::constant_lines::{put_assignment, put_next_constant};
-use crate::listing::group_lines::{put_inside, put_rest};
-use crate::listing::heading_lines::{put_comments, put_opening, put_segment};
+use crate::listing::group_lines::{put_from_forwards, put_from_statement};
+use crate::listing::heading_lines::{put_from_comments, put_from_segment, put_from_separator};
 use crate::listing::line_groups::is_skipped;
 use crate::listing::listed_image::ListedImage;
 use crate::listing::place::ListingPlace;
@@ -92,9 +91,9 @@ fn put_group_at<'a, A: Allocator>(
     ensures { IsNext listed.now (groups_left listed.now index) out.new.items result (option_copied segment.new) }
 {
     if listed.is_marked() {
-        return put_opening(out, listed, segment, names, index);
+        return put_from_separator(out, listed, segment, names, index);
     }
-    put_inside(
+    put_from_forwards(
         out,
         listed,
         names,
@@ -115,7 +114,7 @@ fn put_next_group<'a, A: Allocator>(
 ) -> Option<ListingPlace>
     requires place { IsGroupPlace listed.now from }
     requires segment { option_copied segment.old ≡ segment_before listed.now from }
-    ensures next { MatchOption result (groups_left listed.now from ≡ []) (λ next. IsNext listed.now (groups_left listed.now from) out.new.items next (option_copied segment.new)) }
+    ensures next { MayBeNext listed.now (groups_left listed.now from) out.new.items result (option_copied segment.new) }
     ensures kept { IfNone result (option_copied segment.new ≡ option_copied segment.old) }
 {
     let index = shown_from(listed, from)?;
@@ -133,7 +132,7 @@ fn put_constants<'a, A: Allocator>(
 ) -> Option<ListingPlace>
     requires inside { address ≤ 65536 }
     requires segment { option_copied segment.old ≡ None }
-    ensures next { MatchOption result (constants_left listed.now address after_another ≡ []) (λ next. IsNext listed.now (constants_left listed.now address after_another) out.new.items next (option_copied segment.new)) }
+    ensures next { MayBeNext listed.now (constants_left listed.now address after_another) out.new.items result (option_copied segment.new) }
     ensures kept { IfNone result (option_copied segment.new ≡ option_copied segment.old) }
 {
     if let Some(next) = put_next_constant(out, listed, address, after_another) {
@@ -158,7 +157,7 @@ fn put_next<'a, A: Allocator>(
 ) -> Option<ListingPlace>
     requires place { IsPlace place listed.now }
     requires segment { option_copied segment.old ≡ segment_of place listed.now }
-    ensures next { MatchOption result (left_from place listed.now ≡ []) (λ next. IsNext listed.now (left_from place listed.now) out.new.items next (option_copied segment.new)) }
+    ensures next { MayBeNext listed.now (left_from place listed.now) out.new.items result (option_copied segment.new) }
     ensures kept { IfNone result (option_copied segment.new ≡ option_copied segment.old) }
 {
     match place {
@@ -187,14 +186,16 @@ fn put_next<'a, A: Allocator>(
         } => put_constants(out, listed, segment, names, address, after_another),
         ListingPlace::Assignment { address } => Some(put_assignment(out, listed, address)),
         ListingPlace::Group { index } => put_next_group(out, listed, segment, names, index),
-        ListingPlace::Segment { index } => Some(put_segment(out, listed, segment, names, index)),
+        ListingPlace::Segment { index } => Some(put_from_segment(
+            out, listed, segment, names, index,
+        )),
         ListingPlace::Comment { index, address } => {
-            Some(put_comments(out, listed, names, index, address))
+            Some(put_from_comments(out, listed, names, index, address))
         },
         ListingPlace::Forward { index, address } => {
-            Some(put_inside(out, listed, names, index, address))
+            Some(put_from_forwards(out, listed, names, index, address))
         },
-        ListingPlace::Statement { index } => Some(put_rest(out, listed, names, index)),
+        ListingPlace::Statement { index } => Some(put_from_statement(out, listed, names, index)),
         ListingPlace::Ending { index } => {
             put_blank(out, listed.style());
             Some(ListingPlace::Group { index })

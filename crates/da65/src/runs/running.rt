@@ -1,9 +1,7 @@
 //! From an information file and an input to a listing and messages.
 
-ghost use Rattle.std.specs.Prelude.{◌≡◌, ◌-◌, ◌^◌, ◌<◌, ◌≤◌, Ok, false, IfErr, IfSome, IfOk, IsErrOf, Result, length};
+ghost use Rattle.std.specs.Prelude.{◌≡◌, ◌-◌, ◌<◌, ◌≤◌, Ok, false, IfErr, IfOk, IsErrOf, Result, length};
 ghost use Rattle.std.specs.Io.KnownBytes.{Keeps};
-ghost use Rattle.info65.specs.Code.Results.{Gives};
-ghost use Rattle.info65.specs.Views.{InfoView};
 ghost use Rattle.info65.specs.declared.fault.InfoFault.{InfoFault};
 ghost use Rattle.map65.specs.Device.{TakesUpTo, has_failed};
 ghost use Rattle.map65.specs.Image.{read_limit};
@@ -13,7 +11,7 @@ ghost use Rattle.da65.specs.Groups.{skips};
 ghost use Rattle.da65.specs.Outcome.{done, image_message, outcome_by, outcome_of, prepared, prepared_by, warnings};
 ghost use Rattle.da65.specs.RunLaw.{Reassembles, Took};
 ghost use Rattle.da65.specs.Code.Refusals.{RefusesOrGivesUp, Tells};
-ghost use Rattle.da65.specs.Running.{InputCount, MessagesCount, OutCount, Writes, WritesFew};
+ghost use Rattle.da65.specs.Running.{InputCount, MessagesCount, OfBytes, OfRead, OutCount, ReadsFor, Writes, WritesFew};
 
 use crate::listing::line_groups::has_skipped;
 use crate::listing::lines::{Lines, write_lines};
@@ -103,10 +101,10 @@ fn list_input<A: Allocator + Copy, R: Source, W: Sink, M: Sink>(
     out: &mut W,
     msgs: &mut M,
 ) -> Result<Status, RunFault>
-    ensures answer { R.faults input.old < 2 ^ 64 - 1 → IfSome (R.left input.old) (λ bytes.
+    ensures answer { OfBytes (R.faults input.old) (R.left input.old) (λ bytes.
         Writes result (outcome_by (Ok info.now) bytes (has_failed (R.faults input.old) (R.faults input.new)))
         (W.taken out.old) (W.taken out.new) (M.taken msgs.old) (M.taken msgs.new)) }
-    ensures reassembles { R.faults input.old < 2 ^ 64 - 1 → IfSome (R.left input.old) (λ bytes.
+    ensures reassembles { OfBytes (R.faults input.old) (R.left input.old) (λ bytes.
         Reassembles result (Ok info.now) bytes (has_failed (R.faults input.old) (R.faults input.new))
         (W.taken out.old) (W.taken out.new)) }
     ensures memory { IsErrOf result RunFault.Memory → Keeps (W.taken out.old) (W.taken out.new) }
@@ -161,12 +159,12 @@ pub fn run<A: Allocator + Copy, N: Allocator, R: Source, W: Sink, M: Sink>(
     msgs: &mut M,
 ) -> Result<Status, RunFault>
     // The listing, the messages and the status are those of the options, the information file, the files and the input.
-    ensures answer { R.faults input.old < 2 ^ 64 - 1 → IfSome (R.left input.old) (λ bytes.
+    ensures answer { OfBytes (R.faults input.old) (R.left input.old) (λ bytes.
         Writes result (outcome_of options.now info.now (files_seen files.now) bytes (has_failed (R.faults input.old) (R.faults input.new)))
         (W.taken out.old) (W.taken out.new) (M.taken msgs.old) (M.taken msgs.new)) }
 
     // If the result is Done and no byte of the image is skipped, what was written on `out` assembles to the image.
-    ensures reassembles { R.faults input.old < 2 ^ 64 - 1 → IfSome (R.left input.old) (λ bytes.
+    ensures reassembles { OfBytes (R.faults input.old) (R.left input.old) (λ bytes.
         Reassembles result (prepared options.now info.now (files_seen files.now)) bytes (has_failed (R.faults input.old) (R.faults input.new))
         (W.taken out.old) (W.taken out.new)) }
 
@@ -176,7 +174,7 @@ pub fn run<A: Allocator + Copy, N: Allocator, R: Source, W: Sink, M: Sink>(
     ensures write { IsErrOf result RunFault.Write → Keeps (M.taken msgs.old) (M.taken msgs.new) }
     ensures refused { IfOk result (λ status. status ≡ Status.Refused → Keeps (W.taken out.old) (W.taken out.new)) }
     ensures few { WritesFew (M.taken msgs.old) (M.taken msgs.new) }
-    ensures reads { IfOk (prepared options.now info.now (files_seen files.now)) (λ i. TakesUpTo (read_limit i.settings) (R.left input.old) (R.left input.new)) }
+    ensures reads { ReadsFor (prepared options.now info.now (files_seen files.now)) (R.left input.old) (R.left input.new) }
     ensures unread { IfErr (prepared options.now info.now (files_seen files.now)) (λ _. input.new ≡ input.old) }
 
     // A failed write is reported, and nothing else is reported as one.
@@ -198,19 +196,19 @@ pub fn run_read<A: Allocator + Copy, R: Source, W: Sink, M: Sink>(
     msgs: &mut M,
 ) -> Result<Status, RunFault>
     // As those of `run`, for whatever file it is that was read or refused.
-    ensures answer { (defined : Result InfoView InfoFault) → Gives (λ i. i) read defined → R.faults input.old < 2 ^ 64 - 1 → IfSome (R.left input.old) (λ bytes.
+    ensures answer { OfRead read (λ defined. OfBytes (R.faults input.old) (R.left input.old) (λ bytes.
         Writes result (outcome_by (prepared_by defined (files_seen files.now)) bytes (has_failed (R.faults input.old) (R.faults input.new)))
-        (W.taken out.old) (W.taken out.new) (M.taken msgs.old) (M.taken msgs.new)) }
-    ensures reassembles { (defined : Result InfoView InfoFault) → Gives (λ i. i) read defined → R.faults input.old < 2 ^ 64 - 1 → IfSome (R.left input.old) (λ bytes.
+        (W.taken out.old) (W.taken out.new) (M.taken msgs.old) (M.taken msgs.new))) }
+    ensures reassembles { OfRead read (λ defined. OfBytes (R.faults input.old) (R.left input.old) (λ bytes.
         Reassembles result (prepared_by defined (files_seen files.now)) bytes (has_failed (R.faults input.old) (R.faults input.new))
-        (W.taken out.old) (W.taken out.new)) }
+        (W.taken out.old) (W.taken out.new))) }
     ensures memory { IsErrOf result RunFault.Memory → Keeps (W.taken out.old) (W.taken out.new) }
     ensures memory_messages { IsErrOf result RunFault.Memory → Keeps (M.taken msgs.old) (M.taken msgs.new) }
     ensures write { IsErrOf result RunFault.Write → Keeps (M.taken msgs.old) (M.taken msgs.new) }
     ensures refused { IfOk result (λ status. status ≡ Status.Refused → Keeps (W.taken out.old) (W.taken out.new)) }
     ensures few { WritesFew (M.taken msgs.old) (M.taken msgs.new) }
-    ensures reads { (defined : Result InfoView InfoFault) → Gives (λ i. i) read defined → IfOk (prepared_by defined (files_seen files.now)) (λ i. TakesUpTo (read_limit i.settings) (R.left input.old) (R.left input.new)) }
-    ensures unread { (defined : Result InfoView InfoFault) → Gives (λ i. i) read defined → IfErr (prepared_by defined (files_seen files.now)) (λ _. input.new ≡ input.old) }
+    ensures reads { OfRead read (λ defined. ReadsFor (prepared_by defined (files_seen files.now)) (R.left input.old) (R.left input.new)) }
+    ensures unread { OfRead read (λ defined. IfErr (prepared_by defined (files_seen files.now)) (λ _. input.new ≡ input.old)) }
     ensures out_count { OutCount result (W.faults out.old) (W.faults out.new) }
     ensures messages_count { MessagesCount result (M.faults msgs.old) (M.faults msgs.new) }
     ensures input_count { InputCount result (R.faults input.old) (R.faults input.new) }

@@ -5,7 +5,7 @@ ghost use Rattle.std.specs.Bool.{OnFalse};
 ghost use Rattle.std.specs.Option.{option_or};
 ghost use Rattle.da65.specs.Code.SegmentReentry.{IsAfter, IsKeyed, IsNew, has_had, is_back, is_same_key};
 ghost use Rattle.da65.specs.SegmentReentry.{is_entered_again};
-ghost use Rattle.da65.specs.Segments.{segment_at};
+ghost use Rattle.map65.specs.Segments.{segment_at};
 
 use crate::listing::line_groups::{group_len, is_skipped, role_inside};
 use crate::runs::key_set::KeySet;

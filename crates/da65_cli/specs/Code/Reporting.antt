@@ -29,7 +29,5 @@ FlushesThenReports was (Err Memory) taken out messages errors errors' = (was ≡
 
 -- the count of failed writes of the output, from the end of the run on
 abbrev pub ReportsOutCount : Result Status RunFault → Result Status RunFault → ℕ → ℕ → Type 0
-ReportsOutCount was (Ok status) old new = new ≡ old
-ReportsOutCount was (Err Messages) old new = new ≡ old
 ReportsOutCount was (Err Write) old new = ((was ≡ Err Write) × (new ≡ old)) ⊎ (IsListed was × (new ≡ one_more old))
-ReportsOutCount was (Err Memory) old new = new ≡ old
+ReportsOutCount was _ old new = new ≡ old

@@ -2,7 +2,7 @@ use Rattle.std.proofs.Common.{◌≡◌, ◌∙◌, ◌++◌, List, true, false,
 use Rattle.da65.specs.Lines.{after_group}
 use Rattle.da65.specs.Listing.{ListingLine}
 use Rattle.da65.specs.declared.listing.style.Style.{Style}
-use Rattle.da65.proofs.NextLemmas.{above-lines, beside-lines, next-moved, next-plain, takes-label}
+use Rattle.da65.proofs.NextLemmas.{above-lines, beside-lines, next-plain, takes-label, from-label}
 use Rattle.stmt65.specs.Columns.{fits_label}
 use Rattle.da65.proofs.listing.group_lines.put_labelled.Goals as goal
 
@@ -14,7 +14,7 @@ put_group-requires-clause-label g c =
 pub returns-then-fits_label : goal.returns-then-fits_label
 returns-then-fits_label g c =
     let fits = subst (λ (t : Style). fits_label t.columns c.args.label.now ≡ true) c.style-style.ensures.style (sym c.fits_label.ensures ∙ c.if-fits_label.true) in
-    next-moved _ _ _ _ _ _ (ap (λ (ls : List ListingLine). ls ++ after_group c.args.listed.now c.args.group.index) (beside-lines _ _ _ c.requires.label fits)) c.put_group.ensures
+    from-label c.args.listed.now c.args.group.index _ _ _ (beside-lines _ _ _ c.requires.label fits) c.put_group.ensures
 
 pub returns-else-fits_label : goal.returns-else-fits_label
 returns-else-fits_label g c =

@@ -1,10 +1,9 @@
-use Rattle.std.proofs.Common.{◌∙◌, ◌++◌, ℕ, List, Some, ap, sym}
+use Rattle.std.proofs.Common.{◌∙◌, ℕ, List, Some, ap, sym}
 use Rattle.map65.specs.MapView.{MapView}
 use Rattle.da65.specs.BaseNames.{base_name, names_of}
 use Rattle.da65.specs.Code.Bases.{base_place}
-use Rattle.da65.specs.Lines.{after_group}
-use Rattle.da65.specs.Listing.{ListingLine, label_at}
-use Rattle.da65.proofs.NextLemmas.{label-none, label-some, next-moved, unlabelled-lines}
+use Rattle.da65.specs.Listing.{label_at}
+use Rattle.da65.proofs.NextLemmas.{label-none, label-some, unlabelled-lines, from-label}
 use Rattle.da65.proofs.listing.group_lines.put_named.Goals as goal
 
 pub put_labelled-requires-clause-label : goal.put_labelled-requires-clause-label
@@ -16,4 +15,4 @@ put_labelled-requires-clause-label g c =
 pub returns-in-None : goal.returns-in-None
 returns-in-None g c =
     let none = ap (label_at (names_of c.args.listed.now)) (sym c.requires.address_is) ∙ label-none _ _ (sym (ap (λ (m : MapView). base_place m c.args.group.address) c.map.ensures.map) ∙ sym c.base_at.ensures.place ∙ c.in-None.is) in
-    next-moved _ _ _ _ _ _ (ap (λ (ls : List ListingLine). ls ++ after_group c.args.listed.now c.args.group.index) (unlabelled-lines _ _ none)) c.put_group.ensures
+    from-label c.args.listed.now c.args.group.index _ _ _ (unlabelled-lines _ _ none) c.put_group.ensures

@@ -4,8 +4,8 @@ use Rattle.da65.proofs.NextLemmas.{inside-start, lines-unmarked, next-moved, nex
 use Rattle.da65.proofs.SegmentLemmas.{segment-none}
 use Rattle.da65.proofs.listing.lines.put_group_at.Goals as goal
 
-pub put_inside-requires : goal.put_inside-requires
-put_inside-requires g c = inside-start _ _ _ c.requires.start c.address.ensures
+pub put_from_forwards-requires : goal.put_from_forwards-requires
+put_from_forwards-requires g c = inside-start _ _ _ c.requires.start c.address.ensures
 
 pub returns : goal.returns
 returns g c =
@@ -13,4 +13,4 @@ returns g c =
     next-there _ _ _ _ _ _ (none.segments _ ∙ sym (segment-none _ _ none.segments) ∙ sym c.requires.segment)
     (next-moved _ _ _ _ _ _
     (lines-unmarked _ _ none c.requires.start ∙ ap (λ (n : ℕ). group_left c.args.listed.now c.args.index (n + 1)) (sym c.address.ensures))
-    c.put_inside.ensures)
+    c.put_from_forwards.ensures)

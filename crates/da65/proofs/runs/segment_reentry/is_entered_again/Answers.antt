@@ -1,11 +1,11 @@
 use Rattle.std.proofs.Common.{◌≡◌, ◌∙◌, ◌+◌, ◌<◌, ◌≤◌, length, ap, arith, subst, sym}
 use Rattle.map65.specs.Items.{item_len}
 use Rattle.map65.specs.MapView.{MapView}
-use Rattle.std.proofs.lemmas.Bool.{eqb-true}
+use Rattle.std.proofs.lemmas.Bool.{eqb-true, OnFalse_at}
 use Rattle.std.proofs.lemmas.List.{nil_from_length}
 use Rattle.std.specs.Prelude.{ℕ}
 use Rattle.da65.specs.Groups.{IsGroupPlace, group_len}
-use Rattle.da65.proofs.ReentryLemmas.{byte-told, count-told, keys-told, known-back, known-end, known-first, known-next, known-skip, never-entered, none-seen, on-false, skip-told}
+use Rattle.da65.proofs.ReentryLemmas.{byte-told, count-told, keys-told, known-back, known-end, known-first, known-next, known-skip, never-entered, none-seen, skip-told}
 use Rattle.da65.proofs.GroupLemmas.{first_place, group-some, item-begins, place-next, place-skip}
 use Rattle.da65.proofs.runs.segment_reentry.is_entered_again.Goals as goal
 
@@ -58,7 +58,7 @@ groups-preserved g c =
     let keys = keys-told m _ _ _ _ _ _ (sym c.info-info.ensures.info) c.segments.ensures.sound here c.segment_key-segment.ensures c.first_named-code.ensures.first c.name_key.ensures in
     record {
       place = subst (λ (n : ℕ). IsGroupPlace m (c.groups.at + n)) (sym len) (place-next m _ c.groups.invariant.place here.low shown);
-      known = known-next m _ _ c.groups.entered c.add.new.self _ _ c.groups.invariant.place here.low shown keys c.groups.invariant.known (sym c.add.ensures.back ∙ c.if-add.false) len (on-false _ _ c.if-add.false c.add.ensures.after);
+      known = known-next m _ _ c.groups.entered c.add.new.self _ _ c.groups.invariant.place here.low shown keys c.groups.invariant.known (sym c.add.ensures.back ∙ c.if-add.false) len (OnFalse_at c.if-add.false c.add.ensures.after);
     }
 
 pub returns : goal.returns

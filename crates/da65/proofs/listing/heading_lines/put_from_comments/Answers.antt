@@ -2,7 +2,7 @@ use Rattle.std.proofs.Common.{◌∙◌, ◌+◌, ℕ, ap, arith, refl, sym}
 use Rattle.da65.specs.Lines.{group_left}
 use Rattle.da65.proofs.GroupLemmas.{group-some}
 use Rattle.da65.proofs.NextLemmas.{comment-end, comment-first, next-moved}
-use Rattle.da65.proofs.listing.heading_lines.put_comments.Goals as goal
+use Rattle.da65.proofs.listing.heading_lines.put_from_comments.Goals as goal
 
 pub returns-in-Some : goal.returns-in-Some
 returns-in-Some g c =
@@ -17,8 +17,8 @@ returns-in-Some g c =
       segment_is = refl;
     }
 
-pub put_inside-requires : goal.put_inside-requires
-put_inside-requires g c =
+pub put_from_forwards-requires : goal.put_from_forwards-requires
+put_from_forwards-requires g c =
     let address = rw c.group_at-group.ensures.index at c.group_at-group.ensures.group.address_is in
     let s = c.requires.group in
     let some = group-some c.args.listed.now _ s.place s.inside s.shown in
@@ -29,4 +29,4 @@ returns-in-None g c =
     let address = rw c.group_at-group.ensures.index at c.group_at-group.ensures.group.address_is in
     next-moved _ _ _ _ _ _
     (comment-end _ _ _ _ (omega (arith, address, c.group_at-group.ensures.len)) c.in-None.ensures.line ∙ ap (λ (n : ℕ). group_left c.args.listed.now c.args.index (n + 1)) (sym address))
-    c.put_inside.ensures
+    c.put_from_forwards.ensures

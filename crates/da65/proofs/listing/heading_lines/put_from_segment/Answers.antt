@@ -1,10 +1,10 @@
 use Rattle.std.proofs.Common.{◌∙◌, sym}
 use Rattle.da65.proofs.NextLemmas.{enter-segment, stay-in-segment}
-use Rattle.da65.proofs.listing.heading_lines.put_segment.Goals as goal
+use Rattle.da65.proofs.listing.heading_lines.put_from_segment.Goals as goal
 
 pub returns-then-is_same_segment : goal.returns-then-is_same_segment
 returns-then-is_same_segment g c =
-    stay-in-segment _ _ _ _ _ _ _ c.address-address.ensures c.segment_at-here.ensures.segment c.requires.segment (sym c.is_same_segment.ensures ∙ c.if-is_same_segment.true) c.put_comments.ensures
+    stay-in-segment _ _ _ _ _ _ _ c.address-address.ensures c.segment_at-here.ensures.segment c.requires.segment (sym c.is_same_segment.ensures ∙ c.if-is_same_segment.true) c.put_from_comments.ensures
 
 pub returns : goal.returns
 returns g c =
