@@ -1,7 +1,9 @@
 //! The addressing modes.
 
 ghost use Rattle.std.specs.Prelude.{◌≡◌};
-ghost use Rattle.isa65.specs.Mode.{len_of, zero_page_of};
+ghost use Rattle.isa65.specs.Mode.{len_of, row_of, zero_page_of};
+
+use crate::row::{OperandKind, Pattern, Row};
 
 /// How an instruction names its operand: the modes of the 6502, 65SC02 and 65C02.
 #[derive(Clone, Copy, Debug, PartialEq, Eq)]
@@ -41,21 +43,40 @@ pub enum Mode {
 }
 
 impl Mode {
+    /// The operands of the mode: how they are written, and the kind of each.
+    #[inline(always)]
+    pub fn row(self) -> Row
+        ensures { result ≡ row_of self }
+    {
+        match self {
+            Mode::Imp => Row::Implied,
+            Mode::Acc => Row::Accumulator,
+            Mode::Imm => Row::One(Pattern::Immediate, OperandKind::Byte),
+            Mode::Zp => Row::One(Pattern::Direct, OperandKind::ZeroPage),
+            Mode::Zpx => Row::One(Pattern::DirectX, OperandKind::ZeroPage),
+            Mode::Zpy => Row::One(Pattern::DirectY, OperandKind::ZeroPage),
+            Mode::Abs => Row::One(Pattern::Direct, OperandKind::Word),
+            Mode::Absx => Row::One(Pattern::DirectX, OperandKind::Word),
+            Mode::Absy => Row::One(Pattern::DirectY, OperandKind::Word),
+            Mode::Ind => Row::One(Pattern::Indirect, OperandKind::Word),
+            Mode::Indx => Row::One(Pattern::IndirectX, OperandKind::ZeroPage),
+            Mode::Indy => Row::One(Pattern::IndirectY, OperandKind::ZeroPage),
+            Mode::Zpind => Row::One(Pattern::Indirect, OperandKind::ZeroPage),
+            Mode::Absindx => Row::One(Pattern::IndirectX, OperandKind::Word),
+            Mode::Rel => Row::One(Pattern::Direct, OperandKind::Distance),
+            Mode::Zprel => Row::Two(OperandKind::ZeroPage, OperandKind::Distance),
+        }
+    }
+
     /// The length of an instruction of this mode, opcode included: 1 to 3 bytes.
+    #[inline(always)]
     pub fn len(self) -> u8
         ensures { result ≡ len_of self }
     {
-        match self {
-            Mode::Imp | Mode::Acc => 1,
-            Mode::Imm
-            | Mode::Zp
-            | Mode::Zpx
-            | Mode::Zpy
-            | Mode::Indx
-            | Mode::Indy
-            | Mode::Zpind
-            | Mode::Rel => 2,
-            Mode::Abs | Mode::Absx | Mode::Absy | Mode::Ind | Mode::Absindx | Mode::Zprel => 3,
+        match self.row() {
+            Row::Implied | Row::Accumulator => 1,
+            Row::One(_, kind) => 1 + kind.size(),
+            Row::Two(first, second) => 1 + first.size() + second.size(),
         }
     }
 
@@ -64,10 +85,10 @@ impl Mode {
     pub fn zero_page(self) -> Option<Mode>
         ensures { result ≡ zero_page_of self }
     {
-        match self {
-            Mode::Abs => Some(Mode::Zp),
-            Mode::Absx => Some(Mode::Zpx),
-            Mode::Absy => Some(Mode::Zpy),
+        match self.row() {
+            Row::One(Pattern::Direct, OperandKind::Word) => Some(Mode::Zp),
+            Row::One(Pattern::DirectX, OperandKind::Word) => Some(Mode::Zpx),
+            Row::One(Pattern::DirectY, OperandKind::Word) => Some(Mode::Zpy),
             _ => None,
         }
     }
