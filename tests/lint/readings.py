@@ -14,7 +14,7 @@ SHARED = """
 isa65.Cmos65Sc02
 isa65.Cpu cpu_named cpu_text table_of
 isa65.Mnemonic mnemonic_named text_of
-isa65.Mode len_of
+isa65.Mode expression len_of row_of row_text size_of zero_page_of
 isa65.Mos6502
 isa65.Opcodes Table decoded encoded sibling_in
 isa65.Rockwell65C02

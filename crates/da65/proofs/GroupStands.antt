@@ -44,7 +44,8 @@ use Rattle.da65.proofs.EntryLemmas.{address_bytes, are_table, directive_is}
 use Rattle.da65.proofs.FragmentLaws.{FragmentsGive, fixed_gives, no_fragments}
 use Rattle.da65.proofs.LabelLaws.{group_takes, item_takes, label_read}
 use Rattle.da65.proofs.WorthLaws.{AlwaysWorth, word_worth_gives}
-use Rattle.da65.proofs.OperandLaws.{bytes_of_operands, operands_code}
+use Rattle.da65.proofs.ModeLaws.{coded_in_mode}
+use Rattle.da65.proofs.OperandLaws.{bytes_of_operands}
 use Rattle.da65.proofs.ValueLaws.{IsWorth, before_worth, is-base, name_worth, number_worth}
 use Rattle.da65.proofs.StandsLaws.{Stands, after_unlabelled, at_some, begins_with, bytes_stand, data_stands, no_fault}
 use Rattle.da65.proofs.WrittenLaws.{first_byte, other_bytes}
@@ -61,9 +62,7 @@ mode_is_chosen_back image m p cpu above a bytes op os names known h =
     record {
       opcode = is.first;
       is_opcode = opcode;
-      coded = at_some (λ os. coding cpu above (Instr op.mnemonic (source_form op.mode (is_forced (table_of cpu) op bytes) os)) ≡ Some (Fixed is.first ∷ fragments_in op.mode os))
-          (operands_of m op.mode a bytes) os h.has
-          (operands_code image m p names cpu above known op.mnemonic is.first op.mode a bytes (is_forced (table_of cpu) op bytes) opcode h.are_bytes is.long refl);
+      coded = coded_in_mode image m p names cpu above known op.mnemonic is.first op.mode opcode a bytes h.are_bytes is.long os h.has;
     }
 
 -- the first of some bytes, and those after it
@@ -90,9 +89,7 @@ module _ (image : ImageView) (m : Names) (names : AreSound image m) where
       let is = begins_with (table_of s.cpu) bytes op h.begins in
       let long : len_of op.mode ≤ length bytes = is.long in
       let codes = mode_is_chosen_back image m p s.cpu s.above s.at bytes op os names known h in
-      let past = bytes_of_operands image m names op.mode s.at bytes h.are_bytes long (omega arith) in
-      let give : FragmentsGive Full (s.at + len_of op.mode) (fragments_in op.mode os) (drop 1 (take (len_of op.mode) bytes)) =
-      at_some (λ os. FragmentsGive Full (s.at + len_of op.mode) (fragments_in op.mode os) (drop 1 (take (len_of op.mode) bytes))) (operands_of m op.mode s.at bytes) os h.has past in
+      let give = bytes_of_operands image m names op.mode s.at bytes os h.are_bytes long (omega arith) h.has in
       let all = fixed_gives Full (s.at + len_of op.mode) is.first (fragments_in op.mode os) (drop 1 (take (len_of op.mode) bytes)) give in
       record {
         fragments = Fixed is.first ∷ fragments_in op.mode os;

@@ -1,16 +1,19 @@
 -- Each line of a listing can be printed, and reads as its statement with its label.
-use Rattle.std.proofs.Common.{◌≡◌, ℕ, true, ◌+◌, ◌<◌, ◌≤◌, List, [], ◌∷◌, length, take, Option, Some, None, refl, arith}
+use Rattle.std.proofs.Common.{◌≡◌, ℕ, true, ◌+◌, ◌*◌, ◌<◌, ◌≤◌, List, [], ◌∷◌, length, take, Option, Some, None, refl, arith}
 use Rattle.std.specs.Prelude.{IfSome, nat_lt, slice_index, ◌==◌}
 use Rattle.std.specs.List.{list_all}
+use Rattle.std.specs.Option.{option_map}
 use Rattle.std.proofs.lemmas.Bool.{and_from, cond_both, eqb-false, lt-ltb, ltb-false, ltb-true}
 use Rattle.std.proofs.lemmas.List.{length-take-le}
 use Rattle.std.proofs.lemmas.List.Elements.{All-head, All-tail, All-take}
-use Rattle.isa65.specs.Mode.{len_of}
+use Rattle.isa65.specs.Mode.{len_of, row_len, row_of, size_of}
 use Rattle.isa65.specs.Opcodes.{Table}
-use Rattle.isa65.specs.declared.mnemonic.Mnemonic.{Mnemonic}
 use Rattle.isa65.specs.declared.mode.Mode.{Mode}
-use Rattle.isa65.specs.declared.mode.Mode.TheVariants.{Imp, Acc, Imm, Zp, Zpx, Zpy, Abs, Absx, Absy, Ind, Indx, Indy, Zpind, Absindx, Rel, Zprel}
 use Rattle.isa65.specs.declared.op.Op.{Op}
+use Rattle.isa65.specs.declared.row.OperandKind.{OperandKind}
+use Rattle.isa65.specs.declared.row.OperandKind.TheVariants as kind
+use Rattle.isa65.specs.declared.row.Row.{Row}
+use Rattle.isa65.specs.declared.row.Row.TheVariants as row
 use Rattle.isa65.specs.declared.byte_order.ByteOrder.{ByteOrder}
 use Rattle.info65.proofs.Public.{layout_entry}
 use Rattle.info65.specs.Layouts.{IsEntry, layout_of}
@@ -22,26 +25,27 @@ use Rattle.stmt65.specs.declared.directive.Directive.TheVariants.{Word}
 use Rattle.stmt65.specs.Views as view
 use Rattle.stmt65.specs.Views.{ExprView, OperandsView, StatementView}
 use Rattle.stmt65.specs.Line.{line_of}
-use Rattle.stmt65.specs.Printable.{IsLong, IsPrintable, IsShort, IsTable, IsWrittenIn, MayBeForced, MayBeLabelled}
+use Rattle.stmt65.specs.Printable.{AreOperands, IsOperand, IsPrintable, IsTable, MayBeLabelled}
 use Rattle.stmt65.specs.Printed.{HasLabelName, HasName, HasNames, HasNamesIn, PrintsAs, source_line, with_label}
 use Rattle.stmt65.specs.Code.Widths.{AreWordWide, IsInWidth, IsWordWide}
 use Rattle.stmt65.proofs.Public.{one_line, reads_back}
 use Rattle.map65.specs.ImageView.{AreBytes}
 use Rattle.map65.specs.Names.{Base}
 use Rattle.map65.specs.Roles.{unit_of}
-use Rattle.map65.specs.Targets.{byte_of, entry_of, target_of, word_of}
+use Rattle.map65.specs.Targets.{entry_of, target_of}
 use Rattle.da65.specs.BaseNames.{Names}
 use Rattle.da65.specs.Groups.{limit_of}
 use Rattle.da65.specs.Instructions.{instruction_in}
 use Rattle.da65.specs.Listing.{ListingLine, line_text, remarks_of}
-use Rattle.da65.specs.Statements.{addr_from, address_entry, address_expr, bytes_statement, constant_base, expr_from, is_forced, operands_of, directive_of, entries_or_byte, numbers, return_entry, rts_from, rts_to, statement_by, statement_for, statement_in, statement_of, written, zero_page_expr}
+use Rattle.da65.specs.Statements.{addr_from, address_entry, address_expr, bytes_statement, constant_base, expr_from, is_forced, operand_expr, operands_of, directive_of, entries_or_byte, numbers, return_entry, rts_from, rts_to, statement_by, statement_for, statement_in, statement_of, written, zero_page_expr}
 use Rattle.da65.specs.Shapes.{IsGroupOf, IsLineOf}
 use Rattle.da65.specs.declared.listing.style.Style.{Style}
 use Rattle.da65.proofs.EntryLemmas.{address_bytes, few_entries, number_small, numbers_print}
 use Rattle.da65.proofs.FragmentLaws.{target_is}
 use Rattle.da65.proofs.NameTexts.{IsNameText}
-use Rattle.da65.proofs.TargetBounds.{byte-small, entry-small, word-small}
-use Rattle.da65.proofs.StandsLaws.{at_some, begins_with}
+use Rattle.da65.proofs.TargetBounds.{byte-small, entry-small}
+use Rattle.da65.proofs.StandsLaws.{begins_with}
+use Rattle.da65.proofs.WrittenLaws.{AreAll, may_be_forced, of_each}
 use Rattle.map65.proofs.Public.{len-positive}
 
 -- what `put_line` takes, with the widths that its types keep
@@ -82,90 +86,82 @@ bytes_print n bytes are low high long =
 pub record HaveTexts (m : Names) : Type 0 where
   pub texts : (a : ℕ) (b : Base) → m.base_at a ≡ Some b → IsNameText b.text
 
-record ShortPrints (e : ExprView) : Type 0 where
-  form : IsShort e
+-- what an operand of a kind keeps, and the operands of a row
+record OperandPrints (k : OperandKind) (e : ExprView) : Type 0 where
+  form : IsOperand k e
   width : IsWordWide e
   name : HasName e
 
-record LongPrints (e : ExprView) : Type 0 where
-  form : IsLong e
-  width : IsWordWide e
-  name : HasName e
+record Keep (r : Row) (os : OperandsView) : Type 0 where
+  form : AreOperands r os
+  width : AreWordWide os
+  names : HasNamesIn os
 
-short_prints_expr : (m : Names) (a : ℕ) → HaveTexts m → a < 256 → ShortPrints (zero_page_expr m a)
+short_prints_expr : (m : Names) (a : ℕ) → HaveTexts m → a < 256 → OperandPrints kind.ZeroPage (zero_page_expr m a)
 unfolding zero_page_expr
 short_prints_expr m a h low = go (m.base_at a) refl
   where
-    number : ShortPrints (view.number a)
+    number : OperandPrints kind.ZeroPage (view.number a)
     number = record { form = low; width = omega (arith, low); name = tt }
 
-    go : (o : Option Base) → m.base_at a ≡ o → ShortPrints (expr_from a (constant_base m o))
+    go : (o : Option Base) → m.base_at a ≡ o → OperandPrints kind.ZeroPage (expr_from a (constant_base m o))
     go None e = number
     go (Some b) e =
         let text : IsNameText b.text = h.texts a b e in
-        cond_both (m.has_constant b.address) (Some b) None (λ o. ShortPrints (expr_from a o)) (λ _. record { form = text.long; width = omega (arith, low); name = text.name }) (λ _. number)
+        cond_both (m.has_constant b.address) (Some b) None (λ o. OperandPrints kind.ZeroPage (expr_from a o)) (λ _. record { form = text.long; width = omega (arith, low); name = text.name }) (λ _. number)
 
-long_prints_expr : (m : Names) (a : ℕ) → HaveTexts m → a < 65536 → LongPrints (address_expr m a)
+long_prints_expr : (m : Names) (a : ℕ) → HaveTexts m → a < 65536 → OperandPrints kind.Word (address_expr m a)
 unfolding address_expr
 long_prints_expr m a h low = go (m.base_at a) refl
   where
-    go : (o : Option Base) → m.base_at a ≡ o → LongPrints (expr_from a o)
+    go : (o : Option Base) → m.base_at a ≡ o → OperandPrints kind.Word (expr_from a o)
     go None e = record { form = tt; width = low; name = tt }
     go (Some b) e = let text : IsNameText b.text = h.texts a b e in record { form = text.long; width = omega (arith, low); name = text.name }
 
 -- ---- operands
 
--- what the operands of a mode keep
-record Keep (mode : Mode) (os : OperandsView) : Type 0 where
-  form : IsWrittenIn mode os
-  width : AreWordWide os
-  names : HasNamesIn os
+operand_prints : (m : Names) → HaveTexts m → (next : ℕ) (bytes : List ℕ) → AreBytes bytes → next ≤ 65536 → (k : OperandKind) (at : ℕ) → at + size_of k ≤ length bytes
+    → IfSome (operand_expr m k next at bytes) (OperandPrints k)
+operand_prints m h next bytes are room kind.Byte at long = let small = byte-small bytes are at in record { form = small; width = omega (arith, small); name = tt }
+operand_prints m h next bytes are room kind.ZeroPage at long = short_prints_expr m (slice_index bytes at) h (byte-small bytes are at)
+operand_prints m h next bytes are room kind.Word at long =
+    long_prints_expr m (slice_index bytes at + 256 * slice_index bytes (at + 1)) h (omega (arith, byte-small bytes are at, byte-small bytes are (at + 1)))
+operand_prints m h next bytes are room kind.Distance at long = go (target_of next (slice_index bytes at)) refl
+  where
+    go : (o : Option ℕ) → target_of next (slice_index bytes at) ≡ o → IfSome (option_map (address_expr m) o) (OperandPrints kind.Distance)
+    go None e = tt
+    go (Some t) e =
+        let expr = long_prints_expr m t h (target_is next (slice_index bytes at) t room (byte-small bytes are at) e).room in
+        record { form = expr.form; width = expr.width; name = expr.name }
 
-operands_print : (m : Names) → HaveTexts m → (mode : Mode) (a : ℕ) (bytes : List ℕ) → AreBytes bytes → len_of mode ≤ length bytes → a + len_of mode ≤ 65536 → IfSome (operands_of m mode a bytes) (Keep mode)
+kept : (r : Row) (os : OperandsView) → AreAll (λ k at e. OperandPrints k e) r os → Keep r os
+kept row.Implied view.none h = record { form = tt; width = tt; names = tt }
+kept row.Accumulator view.none h = record { form = tt; width = tt; names = tt }
+kept (row.One p k) (view.one e) h = record { form = h.form; width = h.width; names = h.name }
+kept (row.Two k l) (view.two e f) h = record { form = (h.0.form, h.1.form); width = (h.0.width, h.1.width); names = (h.0.name, h.1.name) }
+kept _ _ h = absurd h
+
+operands_print : (m : Names) → HaveTexts m → (mode : Mode) (a : ℕ) (bytes : List ℕ) (os : OperandsView) → AreBytes bytes → len_of mode ≤ length bytes → a + len_of mode ≤ 65536
+    → operands_of m mode a bytes ≡ Some os → Keep (row_of mode) os
 unfolding operands_of
-operands_print m h Imp a bytes are long room = record { form = tt; width = tt; names = tt }
-operands_print m h Acc a bytes are long room = record { form = tt; width = tt; names = tt }
-operands_print m h Imm a bytes are long room = let small = byte-small bytes are 1 in record { form = small; width = omega (arith, small); names = tt }
-operands_print m h Zp a bytes are long room = let e = short_prints_expr m (byte_of bytes) h (byte-small bytes are 1) in record { form = e.form; width = e.width; names = e.name }
-operands_print m h Zpx a bytes are long room = let e = short_prints_expr m (byte_of bytes) h (byte-small bytes are 1) in record { form = e.form; width = e.width; names = e.name }
-operands_print m h Zpy a bytes are long room = let e = short_prints_expr m (byte_of bytes) h (byte-small bytes are 1) in record { form = e.form; width = e.width; names = e.name }
-operands_print m h Indx a bytes are long room = let e = short_prints_expr m (byte_of bytes) h (byte-small bytes are 1) in record { form = e.form; width = e.width; names = e.name }
-operands_print m h Indy a bytes are long room = let e = short_prints_expr m (byte_of bytes) h (byte-small bytes are 1) in record { form = e.form; width = e.width; names = e.name }
-operands_print m h Zpind a bytes are long room = let e = short_prints_expr m (byte_of bytes) h (byte-small bytes are 1) in record { form = e.form; width = e.width; names = e.name }
-operands_print m h Abs a bytes are long room = let e = long_prints_expr m (word_of bytes) h (word-small bytes are) in record { form = e.form; width = e.width; names = e.name }
-operands_print m h Absx a bytes are long room = let e = long_prints_expr m (word_of bytes) h (word-small bytes are) in record { form = e.form; width = e.width; names = e.name }
-operands_print m h Absy a bytes are long room = let e = long_prints_expr m (word_of bytes) h (word-small bytes are) in record { form = e.form; width = e.width; names = e.name }
-operands_print m h Ind a bytes are long room = let e = long_prints_expr m (word_of bytes) h (word-small bytes are) in record { form = e.form; width = e.width; names = e.name }
-operands_print m h Absindx a bytes are long room = let e = long_prints_expr m (word_of bytes) h (word-small bytes are) in record { form = e.form; width = e.width; names = e.name }
-operands_print m h Rel a bytes are long room = go (target_of (a + 2) (byte_of bytes)) refl
-  where
-    go : (o : Option ℕ) → target_of (a + 2) (byte_of bytes) ≡ o → IfSome (operands_of m Rel a bytes) (Keep Rel)
-    go None e = rw e tt
-    go (Some t) e =
-        let is = target_is (a + 2) (byte_of bytes) t room (byte-small bytes are 1) e in
-        let expr = long_prints_expr m t h is.room in
-        rw e (record { form = expr.form; width = expr.width; names = expr.name })
-operands_print m h Zprel a bytes are long room = go (target_of (a + 3) (slice_index bytes 2)) refl
-  where
-    go : (o : Option ℕ) → target_of (a + 3) (slice_index bytes 2) ≡ o → IfSome (operands_of m Zprel a bytes) (Keep Zprel)
-    go None e = rw e tt
-    go (Some t) e =
-        let is = target_is (a + 3) (slice_index bytes 2) t room (byte-small bytes are 2) e in
-        let front = short_prints_expr m (byte_of bytes) h (byte-small bytes are 1) in
-        let back = long_prints_expr m t h is.room in
-        rw e (record { form = (front.form, back.form); width = (front.width, back.width); names = (front.name, back.name) })
-
-may_be_forced : (t : Table) (m : Mnemonic) (mode : Mode) (bytes : List ℕ) → MayBeForced mode (is_forced t (record { mnemonic = m; mode = mode }) bytes)
-may_be_forced t m Abs bytes = tt
-may_be_forced t m Absx bytes = tt
-may_be_forced t m Absy bytes = tt
-may_be_forced t m _ bytes = refl
+operands_print m h mode a bytes os are long room e =
+    kept (row_of mode) os (at_some (AreAll (λ k at e. OperandPrints k e) (row_of mode)) (operands_of m mode a bytes) os e
+    (of_each (λ k at e. OperandPrints k e) m (a + len_of mode) bytes (operand_prints m h (a + len_of mode) bytes are room) (row_of mode) long))
 
 -- ---- items
 
+size_small : (k : OperandKind) → size_of k ≤ 2
+size_small kind.Byte = omega arith
+size_small _ = omega arith
+
+row_small : (r : Row) → row_len r ≤ 8
+row_small row.Implied = omega arith
+row_small row.Accumulator = omega arith
+row_small (row.One p k) = omega (arith, size_small k)
+row_small (row.Two k l) = omega (arith, size_small k, size_small l)
+
 len_small : (m : Mode) → len_of m ≤ 8
-len_small Imp = omega arith
-len_small _ = omega arith
+len_small m = row_small (row_of m)
 
 item_prints : (m : Names) → HaveTexts m → (t : Table) (a : ℕ) (bytes : List ℕ) → AreBytes bytes → 0 < length bytes → a + length bytes ≤ 65536 → StatementPrints (statement_in m t a bytes)
 unfolding statement_in
@@ -175,7 +171,7 @@ item_prints m h t a bytes are some room = go (instruction_in t bytes) refl
     with_operands op e None f = bytes_print (len_of op.mode) bytes are (len-positive op.mode) (len_small op.mode) (begins_with t bytes op e).long
     with_operands op e (Some os) f =
         let long : len_of op.mode ≤ length bytes = (begins_with t bytes op e).long in
-        let keep = at_some (Keep op.mode) (operands_of m op.mode a bytes) os f (operands_print m h op.mode a bytes are long (omega arith)) in
+        let keep = operands_print m h op.mode a bytes os are long (omega arith) f in
         record { printable = (keep.form, may_be_forced t op.mnemonic op.mode bytes); width = keep.width; names = keep.names }
 
     go : (o : Option Op) → instruction_in t bytes ≡ o → StatementPrints (statement_of m t a bytes o)

@@ -3,12 +3,16 @@ use Rattle.std.proofs.Common.{◌≡◌, ◌∙◌, ℕ, zero, suc, ◌+◌, ◌
 use Rattle.std.specs.Prelude.{slice_index}
 use Rattle.std.proofs.lemmas.Bool.{and_parts, cond_both, eqb-true, eqb-false, ltb-true}
 use Rattle.std.proofs.lemmas.List.Elements.{All-drop, All-head, All-tail}
-use Rattle.isa65.specs.Mode.{len_of}
+use Rattle.isa65.specs.Mode.{len_of, row_of, size_of}
 use Rattle.isa65.specs.Opcodes.{decoded}
 use Rattle.isa65.specs.declared.mnemonic.Mnemonic.{Mnemonic}
 use Rattle.isa65.specs.declared.mode.Mode.{Mode}
-use Rattle.isa65.specs.declared.mode.Mode.TheVariants.{Imp, Acc, Imm, Zp, Zpx, Zpy, Abs, Absx, Absy, Ind, Indx, Indy, Zpind, Absindx, Rel, Zprel}
 use Rattle.isa65.specs.declared.op.Op.{Op}
+use Rattle.isa65.specs.declared.row.OperandKind.TheVariants.{Word, Distance}
+use Rattle.isa65.specs.declared.row.Pattern.{Pattern}
+use Rattle.isa65.specs.declared.row.Pattern.TheVariants.{Direct}
+use Rattle.isa65.specs.declared.row.Row.{Row}
+use Rattle.isa65.specs.declared.row.Row.TheVariants.{One, Two}
 use Rattle.info65.specs.Names.{AreNames, blank_name, covering, name_at}
 use Rattle.info65.specs.Views.{NameView}
 use Rattle.info65.specs.Layouts.{layout_of}
@@ -21,7 +25,7 @@ use Rattle.map65.specs.Items.{item_len, size_at}
 use Rattle.map65.specs.MapView.{MapView, opcodes}
 use Rattle.map65.specs.Names.{Base, IsReferenced, base_at, base_by, entry_base, is_referenced}
 use Rattle.map65.specs.Roles.{role_of}
-use Rattle.map65.specs.Targets.{byte_of, code_target, entry_of, entry_target, is_jump, only_inside, operand_target, return_target, target_at, target_for, word_of}
+use Rattle.map65.specs.Targets.{byte_of, code_target, entry_of, entry_target, is_jump, only_inside, operand_target, return_target, row_target, target_at, target_for, word_of, word_target}
 use Rattle.map65.proofs.Public.{begun, size-fits, reference_law}
 use Rattle.da65.proofs.FragmentLaws.{target_is}
 
@@ -45,26 +49,20 @@ one-small t u low e = omega (arith, low, the-same t u e)
 inside-small : (image : ImageView) (t u : ℕ) → t < 65536 → only_inside image t ≡ Some u → u < 65536
 inside-small image t u low = cond_both (is_inside image t) (Some t) None (λ (o : Option ℕ). o ≡ Some u → u < 65536) (λ _ e. one-small t u low e) (λ _ e. absurd cc)
 
+word-target-small : (image : ImageView) (m : Mnemonic) (p : Pattern) (w t : ℕ) → w < 65536 → word_target image m p w ≡ Some t → t < 65536
+word-target-small image m Direct w t low e =
+    cond_both (is_jump m) (Some w) (only_inside image w) (λ (o : Option ℕ). o ≡ Some t → t < 65536) (λ _. one-small w t low) (λ _. inside-small image w t low) e
+word-target-small image m _ w t low e = inside-small image w t low e
+
+row-small : (image : ImageView) (m : Mnemonic) (r : Row) (next : ℕ) (bytes : List ℕ) (t : ℕ) → AreBytes bytes → next ≤ 65536 → row_target image m r next bytes ≡ Some t → t < 65536
+row-small image m (One p Word) next bytes t are room e = word-target-small image m p (word_of bytes) t (word-small bytes are) e
+row-small image m (One p Distance) next bytes t are room e = (target_is next (byte_of bytes) t room (byte-small bytes are 1) e).room
+row-small image m (Two k Distance) next bytes t are room e = (target_is next (slice_index bytes (1 + size_of k)) t room (byte-small bytes are (1 + size_of k)) e).room
+row-small image m _ next bytes t are room e = absurd cc
+
 operand-small : (image : ImageView) (m : Mnemonic) (mode : Mode) (a : ℕ) (bytes : List ℕ) (t : ℕ) → AreBytes bytes → a + len_of mode ≤ 65536 → operand_target image m mode a bytes ≡ Some t → t < 65536
 unfolding operand_target
-operand-small image m Abs a bytes t are room e =
-    let P : Option ℕ → Type 0 = λ o. o ≡ Some t → t < 65536 in
-    cond_both (is_jump m) (Some (word_of bytes)) (only_inside image (word_of bytes)) P (λ _. one-small (word_of bytes) t (word-small bytes are)) (λ _. inside-small image (word_of bytes) t (word-small bytes are)) e
-operand-small image m Absx a bytes t are room e = inside-small image (word_of bytes) t (word-small bytes are) e
-operand-small image m Absy a bytes t are room e = inside-small image (word_of bytes) t (word-small bytes are) e
-operand-small image m Ind a bytes t are room e = inside-small image (word_of bytes) t (word-small bytes are) e
-operand-small image m Absindx a bytes t are room e = inside-small image (word_of bytes) t (word-small bytes are) e
-operand-small image m Rel a bytes t are room e = (target_is (a + 2) (byte_of bytes) t room (byte-small bytes are 1) e).room
-operand-small image m Zprel a bytes t are room e = (target_is (a + 3) (slice_index bytes 2) t room (byte-small bytes are 2) e).room
-operand-small image m Imp a bytes t are room e = absurd cc
-operand-small image m Acc a bytes t are room e = absurd cc
-operand-small image m Imm a bytes t are room e = absurd cc
-operand-small image m Zp a bytes t are room e = absurd cc
-operand-small image m Zpx a bytes t are room e = absurd cc
-operand-small image m Zpy a bytes t are room e = absurd cc
-operand-small image m Indx a bytes t are room e = absurd cc
-operand-small image m Indy a bytes t are room e = absurd cc
-operand-small image m Zpind a bytes t are room e = absurd cc
+operand-small image m mode a bytes t are room e = row-small image m (row_of mode) (a + len_of mode) bytes t are room e
 
 code-small : (image : ImageView) (o : Option Op) (n a : ℕ) (bytes : List ℕ) (t : ℕ) → AreBytes bytes → a + n ≤ 65536 → code_target image o n a bytes ≡ Some t → t < 65536
 code-small image None n a bytes t are room e = absurd cc

@@ -1,20 +1,25 @@
--- The operands of an instruction: how they are coded, and their bytes.
-use Rattle.std.proofs.Common.{◌≡◌, ℕ, Bool, ◌<◌, List, ◌∷◌, Option, Some}
-use Rattle.std.specs.Prelude.{IfSome}
+-- The operands of an instruction: what is known of each, and of `a:` before them.
+use Rattle.std.proofs.Common.{◌≡◌, ℕ, ◌+◌, Bool, true, cond, ◌<◌, ◌≤◌, List, ◌∷◌, length, Option, Some, None, refl, sym, ◌∙◌, arith}
+use Rattle.std.specs.Prelude.{◌&&◌, IfSome, is_some, nat_lt, option_and_then}
+use Rattle.std.specs.Option.{option_map}
+use Rattle.std.proofs.lemmas.Bool.{and_parts}
 use Rattle.std.proofs.lemmas.List.Elements.{All-head, All-tail}
 use Rattle.isa65.specs.Cpu.{table_of}
+use Rattle.isa65.specs.Mode.{row_len, size_of, zero_page_of}
+use Rattle.isa65.specs.Opcodes.{Table, encoded, sibling_in}
 use Rattle.isa65.specs.declared.cpu.Cpu.{Cpu}
 use Rattle.isa65.specs.declared.mnemonic.Mnemonic.{Mnemonic}
 use Rattle.isa65.specs.declared.mode.Mode.{Mode}
-use Rattle.stmt65.specs.Views.{OperandsView}
-use Rattle.stmt65.specs.SourceLine.{Instr}
-use Rattle.stmt65.specs.Printed.{source_form}
-use Rattle.stmt65.specs.Symbols.{Definition}
-use Rattle.stmt65.specs.Coding.{Fixed, coding}
+use Rattle.isa65.specs.declared.row.OperandKind.{OperandKind}
+use Rattle.isa65.specs.declared.row.Row.{Row}
+use Rattle.isa65.specs.declared.row.Row.TheVariants as row
+use Rattle.stmt65.specs.Views.{ExprView, OperandsView}
+use Rattle.stmt65.specs.Views as view
+use Rattle.stmt65.specs.Printable.{MayBeForced}
 use Rattle.map65.specs.ImageView.{AreBytes}
-use Rattle.da65.specs.Statements.{is_forced}
-use Rattle.da65.specs.ReassemblyLaw.{fragments_in}
-use Rattle.da65.proofs.FragmentLaws.{FragmentsGive}
+use Rattle.map65.specs.Targets.{word_of}
+use Rattle.da65.specs.BaseNames.{Names}
+use Rattle.da65.specs.Statements.{both, is_forced, operand_expr, row_operands}
 
 -- ---- bytes
 
@@ -24,19 +29,60 @@ first_byte b bytes h = All-head (λ b. b < 256) b bytes h
 pub other_bytes : (b : ℕ) (bytes : List ℕ) → AreBytes (b ∷ bytes) → AreBytes bytes
 other_bytes b bytes h = All-tail (λ b. b < 256) b bytes h
 
--- ---- what an operand's bytes are, in each mode
+-- ---- what is known of each operand
 
--- the bytes after the opcode
-abbrev pub OperandsGive : (List Definition → Type 0) → Mode → ℕ → List ℕ → Option OperandsView → Type 0
-OperandsGive Full mode next past o = IfSome o (λ os. FragmentsGive Full next (fragments_in mode os) past)
+-- something of each operand of a row and of the index where its bytes begin; the operands are as many as the row writes
+abbrev pub AreAll : (OperandKind → ℕ → ExprView → Type 0) → Row → OperandsView → Type 0
+AreAll P row.Implied view.none = Unit {0}
+AreAll P row.Accumulator view.none = Unit {0}
+AreAll P (row.One pattern kind) (view.one e) = P kind 1 e
+AreAll P (row.Two first second) (view.two e f) = P first 1 e × P second (1 + size_of first) f
+AreAll P _ _ = ⊥
 
--- ---- how an operand is coded, in each mode
+pub of_each : (P : OperandKind → ℕ → ExprView → Type 0) (n : Names) (next : ℕ) (bytes : List ℕ)
+    → ((k : OperandKind) (at : ℕ) → at + size_of k ≤ length bytes → IfSome (operand_expr n k next at bytes) (P k at))
+    → (r : Row) → row_len r ≤ length bytes → IfSome (row_operands n r next bytes) (AreAll P r)
+of_each P n next bytes each row.Implied long = tt
+of_each P n next bytes each row.Accumulator long = tt
+of_each P n next bytes each (row.One p k) long = go (operand_expr n k next 1 bytes) (each k 1 long)
+  where
+    go : (o : Option ExprView) → IfSome o (P k 1) → IfSome (option_map (λ e. view.one e) o) (AreAll P (row.One p k))
+    go None h = tt
+    go (Some e) h = h
+of_each P n next bytes each (row.Two k l) long = go (operand_expr n k next 1 bytes) (operand_expr n l next (1 + size_of k) bytes) (each k 1 (omega (arith, long))) (each l (1 + size_of k) long)
+  where
+    go : (o u : Option ExprView) → IfSome o (P k 1) → IfSome u (P l (1 + size_of k)) → IfSome (both o u) (AreAll P (row.Two k l))
+    go None u h g = tt
+    go (Some e) None h g = tt
+    go (Some e) (Some f) h g = (h, g)
 
-abbrev pub OperandsCode : Cpu → List Definition → Mnemonic → Mode → ℕ → Bool → Option OperandsView → Type 0
-OperandsCode cpu above m mode b absolute o = IfSome o (λ os. coding cpu above (Instr m (source_form mode absolute os)) ≡ Some (Fixed b ∷ fragments_in mode os))
+-- ---- whether there are operands
+
+pub one_some : (o : Option ExprView) → is_some (option_map (λ e. view.one e) o) ≡ is_some o
+one_some None = refl
+one_some (Some e) = refl
+
+pub both_some : (o u : Option ExprView) → is_some (both o u) ≡ (is_some o && is_some u)
+both_some None u = refl
+both_some (Some e) None = refl
+both_some (Some e) (Some f) = refl
+
+pub is_one : (o : Option ExprView) → is_some (option_map (λ e. view.one e) o) ≡ true → is_some o ≡ true
+is_one o h = sym (one_some o) ∙ h
+
+pub are_both : (o u : Option ExprView) → is_some (both o u) ≡ true → (is_some o ≡ true) × (is_some u ≡ true)
+are_both o u h = and_parts (is_some o) (is_some u) (sym (both_some o u) ∙ h)
 
 -- ---- `a:` where it is needed
 
 -- the mnemonic has the zero-page mode that is written alike, and an assembler would take it for this operand
 abbrev pub needs : Cpu → Mnemonic → Mode → List ℕ → Bool
 needs cpu m mode bytes = is_forced (table_of cpu) (record { mnemonic = m; mode = mode }) bytes
+
+-- `a:` stands only in a mode with a zero-page mode that is written alike
+pub may_be_forced : (t : Table) (m : Mnemonic) (mode : Mode) (bytes : List ℕ) → MayBeForced mode (is_forced t (record { mnemonic = m; mode = mode }) bytes)
+may_be_forced t m mode bytes h = go (zero_page_of mode) (and_parts (is_some (sibling_in t (record { mnemonic = m; mode = mode }))) (nat_lt (word_of bytes) 256) h).0
+  where
+    go : (o : Option Mode) → is_some (option_and_then (λ x. cond (is_some (encoded t m x)) (Some x) None) o) ≡ true → is_some o ≡ true
+    go None e = e
+    go (Some x) e = refl

@@ -1,13 +1,17 @@
 -- The listing of an image, assembled from the image's start, gives the image's bytes.
 use Rattle.std.specs.Prelude.{◌≡◌, ◌↔◌, ℕ, ◌+◌, ◌-◌, ◌<◌, ◌≤◌, Bool, true, false, List, [], ◌∷◌, length, map, take, Option, Some, None, Ok}
 use Rattle.isa65.specs.Cpu.{table_of}
+use Rattle.isa65.specs.Mode.{row_of}
 use Rattle.isa65.specs.Opcodes.{Table, encoded}
 use Rattle.isa65.specs.declared.cpu.Cpu.{Cpu}
 use Rattle.isa65.specs.declared.mode.Mode.{Mode}
-use Rattle.isa65.specs.declared.mode.Mode.TheVariants.{Imm, Zp, Zpx, Zpy, Abs, Absx, Absy, Ind, Indx, Indy, Zpind, Absindx, Rel, Zprel}
 use Rattle.isa65.specs.declared.op.Op.{Op}
+use Rattle.isa65.specs.declared.row.OperandKind.{OperandKind}
+use Rattle.isa65.specs.declared.row.OperandKind.TheVariants as kind
+use Rattle.isa65.specs.declared.row.Row.{Row}
+use Rattle.isa65.specs.declared.row.Row.TheVariants as row
 use Rattle.stmt65.specs.Views as view
-use Rattle.stmt65.specs.Views.{OperandsView}
+use Rattle.stmt65.specs.Views.{ExprView, OperandsView}
 use Rattle.stmt65.specs.SourceLine.{Instr, NameValue, SourceLine}
 use Rattle.stmt65.specs.declared.source_line.Minus.TheVariants.{One}
 use Rattle.stmt65.specs.Printed.{source_value, source_form, source_line, with_label}
@@ -72,23 +76,21 @@ ExpressionsHaveTheirValues = (image : ImageView) (m : Names) (all : List Definit
 abbrev pub item_in : Table → List ℕ → List ℕ
 item_in t bytes = take (code_size (instruction_in t bytes)) bytes
 
--- what the bytes after the opcode stand for, in each mode
+-- what the bytes of an operand of a kind stand for
+abbrev pub operand_fragment : OperandKind → ExprView → Fragment
+operand_fragment kind.Byte e = Single (source_value e)
+operand_fragment kind.ZeroPage e = ZeroPage (source_value e)
+operand_fragment kind.Word e = word_operand (source_value e)
+operand_fragment kind.Distance e = Distance (source_value e)
+
+abbrev pub row_fragments : Row → OperandsView → List Fragment
+row_fragments (row.One pattern kind) (view.one e) = operand_fragment kind e ∷ []
+row_fragments (row.Two first second) (view.two e f) = operand_fragment first e ∷ operand_fragment second f ∷ []
+row_fragments _ _ = []
+
+-- what the bytes after the opcode stand for in a mode
 abbrev pub fragments_in : Mode → OperandsView → List Fragment
-fragments_in Imm (view.one e) = Single (source_value e) ∷ []
-fragments_in Zp (view.one e) = ZeroPage (source_value e) ∷ []
-fragments_in Zpx (view.one e) = ZeroPage (source_value e) ∷ []
-fragments_in Zpy (view.one e) = ZeroPage (source_value e) ∷ []
-fragments_in Abs (view.one e) = word_operand (source_value e) ∷ []
-fragments_in Absx (view.one e) = word_operand (source_value e) ∷ []
-fragments_in Absy (view.one e) = word_operand (source_value e) ∷ []
-fragments_in Ind (view.one e) = word_operand (source_value e) ∷ []
-fragments_in Indx (view.one e) = ZeroPage (source_value e) ∷ []
-fragments_in Indy (view.one e) = ZeroPage (source_value e) ∷ []
-fragments_in Zpind (view.one e) = ZeroPage (source_value e) ∷ []
-fragments_in Absindx (view.one e) = word_operand (source_value e) ∷ []
-fragments_in Rel (view.one e) = Distance (source_value e) ∷ []
-fragments_in Zprel (view.two e f) = ZeroPage (source_value e) ∷ Distance (source_value f) ∷ []
-fragments_in _ _ = []
+fragments_in m os = row_fragments (row_of m) os
 
 -- written with `a:` or without, the instruction is coded by an opcode of its own mnemonic and mode, with the fragments of that mode
 pub record CodesInMode (cpu : Cpu) (above : List Definition) (op : Op) (absolute : Bool) (os : OperandsView) : Type 0 where

@@ -4,13 +4,16 @@
 -- constant line defines the base of the name. Each entry of an address or return table goes by its target's name. Anything else is a
 -- number. `a:` stands before an absolute operand below $100 if the mnemonic has the zero-page mode that is written alike. An undefined or
 -- cut opcode, an instruction whose target lies outside the address space, and a leftover byte are written as bytes.
-use Rattle.std.specs.Prelude.{ℕ, ◌+◌, ◌-◌, ◌==◌, ◌&&◌, nat_lt, Bool, if◌then◌else◌, List, length, slice_index, take, Option, Some, None, is_some}
+use Rattle.std.specs.Prelude.{ℕ, ◌+◌, ◌-◌, ◌*◌, ◌==◌, ◌&&◌, nat_lt, Bool, if◌then◌else◌, List, length, slice_index, take, Option, Some, None, is_some}
 use Rattle.std.specs.Option.{option_map}
-use Rattle.isa65.specs.Mode.{len_of}
+use Rattle.isa65.specs.Mode.{len_of, row_of, size_of}
 use Rattle.isa65.specs.Opcodes.{Table, sibling_in}
 use Rattle.isa65.specs.declared.mode.Mode.{Mode}
-use Rattle.isa65.specs.declared.mode.Mode.TheVariants.{Imp, Acc, Imm, Zp, Zpx, Zpy, Abs, Absx, Absy, Ind, Indx, Indy, Zpind, Absindx, Rel, Zprel}
 use Rattle.isa65.specs.declared.op.Op.{Op}
+use Rattle.isa65.specs.declared.row.OperandKind.{OperandKind}
+use Rattle.isa65.specs.declared.row.OperandKind.TheVariants as kind
+use Rattle.isa65.specs.declared.row.Row.{Row}
+use Rattle.isa65.specs.declared.row.Row.TheVariants as row
 use Rattle.stmt65.specs.declared.directive.Directive.{Directive}
 use Rattle.stmt65.specs.declared.directive.Directive.TheVariants.{Word, Dbyt, Dword}
 use Rattle.stmt65.specs.Views as view
@@ -24,7 +27,7 @@ use Rattle.info65.specs.declared.information.range.RangeType.{RangeType}
 use Rattle.map65.specs.MapView.{MapView, opcodes}
 use Rattle.map65.specs.Names.{Base}
 use Rattle.map65.specs.Roles.{role_of, unit_of}
-use Rattle.map65.specs.Targets.{byte_of, entry_of, return_target, target_of, word_of}
+use Rattle.map65.specs.Targets.{entry_of, return_target, target_of, word_of}
 use Rattle.da65.specs.BaseNames.{Names, names_of}
 use Rattle.da65.specs.Groups.{group_bytes}
 use Rattle.da65.specs.Instructions.{instruction_in}
@@ -51,27 +54,27 @@ zero_page_expr m a = expr_from a (constant_base m (m.base_at a))
 
 -- ---- operands, of an instruction's bytes
 
-abbrev pub one : ExprView → Option OperandsView
-one e = Some (view.one e)
+-- an operand of a kind, whose bytes begin at an index; `next` is the address after the instruction. The target of a distance may lie
+-- outside the address space.
+abbrev pub operand_expr : Names → OperandKind → ℕ → ℕ → List ℕ → Option ExprView
+operand_expr m kind.Byte next at bytes = Some (view.number (slice_index bytes at))
+operand_expr m kind.ZeroPage next at bytes = Some (zero_page_expr m (slice_index bytes at))
+operand_expr m kind.Word next at bytes = Some (address_expr m (slice_index bytes at + 256 * slice_index bytes (at + 1)))
+operand_expr m kind.Distance next at bytes = option_map (address_expr m) (target_of next (slice_index bytes at))
+
+abbrev pub both : Option ExprView → Option ExprView → Option OperandsView
+both (Some e) (Some f) = Some (view.two e f)
+both _ _ = None
+
+abbrev pub row_operands : Names → Row → ℕ → List ℕ → Option OperandsView
+row_operands m row.Implied next bytes = Some view.none
+row_operands m row.Accumulator next bytes = Some view.none
+row_operands m (row.One pattern kind) next bytes = option_map (λ e. view.one e) (operand_expr m kind next 1 bytes)
+row_operands m (row.Two first second) next bytes = both (operand_expr m first next 1 bytes) (operand_expr m second next (1 + size_of first) bytes)
 
 -- The operands of an instruction in a mode at an address: none if its target lies outside the address space.
 unfoldable pub operands_of : Names → Mode → ℕ → List ℕ → Option OperandsView
-operands_of m Imp a bytes = Some view.none
-operands_of m Acc a bytes = Some view.none
-operands_of m Imm a bytes = one (view.number (byte_of bytes))
-operands_of m Zp a bytes = one (zero_page_expr m (byte_of bytes))
-operands_of m Zpx a bytes = one (zero_page_expr m (byte_of bytes))
-operands_of m Zpy a bytes = one (zero_page_expr m (byte_of bytes))
-operands_of m Abs a bytes = one (address_expr m (word_of bytes))
-operands_of m Absx a bytes = one (address_expr m (word_of bytes))
-operands_of m Absy a bytes = one (address_expr m (word_of bytes))
-operands_of m Ind a bytes = one (address_expr m (word_of bytes))
-operands_of m Indx a bytes = one (zero_page_expr m (byte_of bytes))
-operands_of m Indy a bytes = one (zero_page_expr m (byte_of bytes))
-operands_of m Zpind a bytes = one (zero_page_expr m (byte_of bytes))
-operands_of m Absindx a bytes = one (address_expr m (word_of bytes))
-operands_of m Rel a bytes = option_map (λ t. view.one (address_expr m t)) (target_of (a + 2) (byte_of bytes))
-operands_of m Zprel a bytes = option_map (λ t. view.two (zero_page_expr m (byte_of bytes)) (address_expr m t)) (target_of (a + 3) (slice_index bytes 2))
+operands_of m mode a bytes = row_operands m (row_of mode) (a + len_of mode) bytes
 
 -- `a:` stands before an absolute operand below $100 if the mnemonic has the zero-page mode that is written alike, which an
 -- assembler would take

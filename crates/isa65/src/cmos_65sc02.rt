@@ -1,9 +1,6 @@
 //! The opcodes of the 65SC02.
 
-ghost use Rattle.std.specs.Prelude.{◌≡◌, is_some};
-ghost use Rattle.isa65.specs.Cmos65Sc02.{cmos_65sc02, cmos_additions};
-ghost use Rattle.isa65.specs.declared.mode.Mode.TheVariants.{Zp, Zpx};
-ghost use Rattle.isa65.specs.Opcodes.{encoded};
+ghost use Rattle.isa65.specs.Cmos65Sc02.{cmos_65sc02};
 ghost use Rattle.isa65.specs.CpuLaws.{cmos_65sc02-sound};
 ghost use Rattle.isa65.specs.OpcodeLaws.{opcode-lt, encoded-decoded, written_alike};
 
@@ -16,26 +13,6 @@ use crate::opcode_set::{OpcodeSet, op};
 /// The 178 opcodes of the 65SC02: those of the MOS 6502 and 27 more.
 #[derive(Clone, Copy, Debug, PartialEq, Eq)]
 pub struct Cmos65Sc02;
-
-/// Whether the form `E`, with its operand in the zero page, is one that the 65SC02 adds.
-fn adds_zp(mnemonic: Mnemonic) -> bool
-    ensures { result ≡ is_some (encoded cmos_additions mnemonic Zp) }
-{
-    match mnemonic {
-        Mnemonic::Stz | Mnemonic::Trb | Mnemonic::Tsb => true,
-        _ => false,
-    }
-}
-
-/// Whether the form `E,x`, with its operand in the zero page, is one that the 65SC02 adds.
-fn adds_zpx(mnemonic: Mnemonic) -> bool
-    ensures { result ≡ is_some (encoded cmos_additions mnemonic Zpx) }
-{
-    match mnemonic {
-        Mnemonic::Stz | Mnemonic::Bit => true,
-        _ => false,
-    }
-}
 
 impl OpcodeSet for Cmos65Sc02 {
     ghost table = { λ _. cmos_65sc02 };
@@ -71,14 +48,6 @@ impl OpcodeSet for Cmos65Sc02 {
             0xF2 => op(Mnemonic::Sbc, Mode::Zpind),
             0xFA => op(Mnemonic::Plx, Mode::Imp),
             _ => Mos6502.decode(byte),
-        }
-    }
-
-    fn sibling(&self, op: Op) -> Option<Mode> {
-        match op.mode {
-            Mode::Abs if adds_zp(op.mnemonic) => Some(Mode::Zp),
-            Mode::Absx if adds_zpx(op.mnemonic) => Some(Mode::Zpx),
-            _ => Mos6502.sibling(op),
         }
     }
 

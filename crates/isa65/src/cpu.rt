@@ -6,7 +6,6 @@ ghost use Rattle.isa65.specs.Cpu.{first_cpu_named};
 
 use crate::cmos_65sc02::Cmos65Sc02;
 use crate::mnemonic::{Mnemonic, is_same_word};
-use crate::mode::Mode;
 use crate::mos_6502::Mos6502;
 use crate::op::Op;
 use crate::opcode_set::OpcodeSet;
@@ -79,14 +78,6 @@ impl OpcodeSet for Cpu {
             Cpu::M6502 => Mos6502.decode(byte),
             Cpu::M65SC02 => Cmos65Sc02.decode(byte),
             Cpu::M65C02 => Rockwell65C02.decode(byte),
-        }
-    }
-
-    fn sibling(&self, op: Op) -> Option<Mode> {
-        match self {
-            Cpu::M6502 => Mos6502.sibling(op),
-            Cpu::M65SC02 => Cmos65Sc02.sibling(op),
-            Cpu::M65C02 => Rockwell65C02.sibling(op),
         }
     }
 

@@ -3,17 +3,20 @@
 ghost use Rattle.std.specs.Prelude.{◌≡◌};
 
 use crate::cpu::Cpu;
+use crate::encode_table::EncodeTable;
+use crate::mnemonic::Mnemonic;
 use crate::mode::Mode;
 use crate::op::Op;
 use crate::opcode_set::OpcodeSet;
 use std::marker::Model;
 
 /// The opcodes of a CPU, each decoded once, in a table by byte. It is itself an [`OpcodeSet`], that of the CPU's opcodes, and
-/// serves whoever decodes many bytes: [`OpcodeSet::decode`] is one look-up.
+/// serves whoever decodes many bytes: [`OpcodeSet::decode`] is one look-up, and so are [`OpcodeSet::encode`] and
+/// [`OpcodeSet::sibling`].
 #[derive(Drop)]
 pub struct DecodeTable {
-    cpu: Cpu,
     ops: [Option<Op>; 256],
+    codes: EncodeTable,
 }
 
 impl Model for DecodeTable {
@@ -24,9 +27,9 @@ impl Model for DecodeTable {
 
     ghost Value = { Cpu };
 
-    ghost view = { λ t. t.cpu };
+    ghost view = { λ t. t.codes };
 
-    ghost invariant = { λ t. (b : ℕ) → b < 256 → get_or t.ops b None ≡ decoded (table_of t.cpu) b };
+    ghost invariant = { λ t. (b : ℕ) → b < 256 → get_or t.ops b None ≡ decoded (table_of t.codes) b };
 }
 
 impl DecodeTable {
@@ -38,7 +41,10 @@ impl DecodeTable {
         'bytes: for byte in 0..ops.len() {
             ops[byte] = cpu.decode(byte as u8);
         }
-        DecodeTable { cpu, ops }
+        DecodeTable {
+            ops,
+            codes: EncodeTable::new(cpu),
+        }
     }
 }
 
@@ -54,8 +60,8 @@ impl OpcodeSet for DecodeTable {
         self.ops[usize::from(byte)]
     }
 
-    fn sibling(&self, op: Op) -> Option<Mode> {
-        self.cpu.sibling(op)
+    fn encode(&self, mnemonic: Mnemonic, mode: Mode) -> Option<u8> {
+        self.codes.encode(mnemonic, mode)
     }
 
     ghost is_byte = { λ s b op h. opcode-lt (table_of s) (table_of-sound s) b op h };

@@ -1,9 +1,6 @@
 //! The opcodes of the MOS 6502.
 
-ghost use Rattle.std.specs.Prelude.{◌≡◌, is_some};
 ghost use Rattle.isa65.specs.Mos6502.{mos_6502};
-ghost use Rattle.isa65.specs.declared.mode.Mode.TheVariants.{Zp, Zpx, Zpy};
-ghost use Rattle.isa65.specs.Opcodes.{encoded};
 ghost use Rattle.isa65.specs.CpuLaws.{mos_6502-sound};
 ghost use Rattle.isa65.specs.OpcodeLaws.{opcode-lt, encoded-decoded, written_alike};
 
@@ -15,71 +12,6 @@ use crate::opcode_set::{OpcodeSet, op};
 /// The 151 documented opcodes of the MOS 6502. `brk` has one byte.
 #[derive(Clone, Copy, Debug, PartialEq, Eq)]
 pub struct Mos6502;
-
-/// Whether the mnemonic has the form `E`, with its operand in the zero page.
-fn has_zp(mnemonic: Mnemonic) -> bool
-    ensures { result ≡ is_some (encoded mos_6502 mnemonic Zp) }
-{
-    match mnemonic {
-        Mnemonic::Adc
-        | Mnemonic::And
-        | Mnemonic::Cmp
-        | Mnemonic::Eor
-        | Mnemonic::Lda
-        | Mnemonic::Ora
-        | Mnemonic::Sbc
-        | Mnemonic::Sta
-        | Mnemonic::Asl
-        | Mnemonic::Lsr
-        | Mnemonic::Rol
-        | Mnemonic::Ror
-        | Mnemonic::Dec
-        | Mnemonic::Inc
-        | Mnemonic::Ldx
-        | Mnemonic::Ldy
-        | Mnemonic::Stx
-        | Mnemonic::Sty
-        | Mnemonic::Cpx
-        | Mnemonic::Cpy
-        | Mnemonic::Bit => true,
-        _ => false,
-    }
-}
-
-/// Whether the mnemonic has the form `E,x`, with its operand in the zero page.
-fn has_zpx(mnemonic: Mnemonic) -> bool
-    ensures { result ≡ is_some (encoded mos_6502 mnemonic Zpx) }
-{
-    match mnemonic {
-        Mnemonic::Adc
-        | Mnemonic::And
-        | Mnemonic::Cmp
-        | Mnemonic::Eor
-        | Mnemonic::Lda
-        | Mnemonic::Ora
-        | Mnemonic::Sbc
-        | Mnemonic::Sta
-        | Mnemonic::Asl
-        | Mnemonic::Lsr
-        | Mnemonic::Rol
-        | Mnemonic::Ror
-        | Mnemonic::Dec
-        | Mnemonic::Inc
-        | Mnemonic::Ldy
-        | Mnemonic::Sty => true,
-        _ => false,
-    }
-}
-
-/// Whether the mnemonic has the form `E,y`, with its operand in the zero page.
-fn has_zpy(mnemonic: Mnemonic) -> bool
-    ensures { result ≡ is_some (encoded mos_6502 mnemonic Zpy) }
-{
-    match mnemonic {
-        Mnemonic::Ldx | Mnemonic::Stx => true,
-        _ => false,
-    }
-}
 
 impl OpcodeSet for Mos6502 {
     ghost table = { λ _. mos_6502 };
@@ -238,15 +170,6 @@ impl OpcodeSet for Mos6502 {
             0xF9 => op(Mnemonic::Sbc, Mode::Absy),
             0xFD => op(Mnemonic::Sbc, Mode::Absx),
             0xFE => op(Mnemonic::Inc, Mode::Absx),
-            _ => None,
-        }
-    }
-
-    fn sibling(&self, op: Op) -> Option<Mode> {
-        match op.mode {
-            Mode::Abs if has_zp(op.mnemonic) => Some(Mode::Zp),
-            Mode::Absx if has_zpx(op.mnemonic) => Some(Mode::Zpx),
-            Mode::Absy if has_zpy(op.mnemonic) => Some(Mode::Zpy),
             _ => None,
         }
     }

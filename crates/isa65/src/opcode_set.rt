@@ -25,7 +25,7 @@ pub trait OpcodeSet {
         ensures { result ≡ decoded (table self.now) byte };
 
     /// The zero-page mode that is written like the absolute mode of `op`, if the mnemonic has it. Searches
-    /// all opcodes. The sets of this crate take constant time.
+    /// all opcodes. Takes constant time where `encode` does.
     fn sibling(&self, op: Op) -> Option<Mode>
         ensures { result ≡ sibling_in (table self.now) op }
     {

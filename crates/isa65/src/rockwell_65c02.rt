@@ -1,9 +1,6 @@
 //! The opcodes of the 65C02 with Rockwell's bit instructions.
 
-ghost use Rattle.std.specs.Prelude.{◌≡◌, is_some};
-ghost use Rattle.isa65.specs.Rockwell65C02.{rockwell_65c02, rockwell_additions};
-ghost use Rattle.isa65.specs.declared.mode.Mode.TheVariants.{Zp};
-ghost use Rattle.isa65.specs.Opcodes.{encoded};
+ghost use Rattle.isa65.specs.Rockwell65C02.{rockwell_65c02};
 ghost use Rattle.isa65.specs.CpuLaws.{rockwell_65c02-sound};
 ghost use Rattle.isa65.specs.OpcodeLaws.{opcode-lt, encoded-decoded, written_alike};
 
@@ -17,31 +14,6 @@ use crate::opcode_set::{OpcodeSet, op};
 /// other makers use, are undefined.
 #[derive(Clone, Copy, Debug, PartialEq, Eq)]
 pub struct Rockwell65C02;
-
-/// Whether the mnemonic resets or sets a bit of the zero page.
-fn adds_zp(mnemonic: Mnemonic) -> bool
-    ensures { result ≡ is_some (encoded rockwell_additions mnemonic Zp) }
-{
-    match mnemonic {
-        Mnemonic::Rmb0
-        | Mnemonic::Rmb1
-        | Mnemonic::Rmb2
-        | Mnemonic::Rmb3
-        | Mnemonic::Rmb4
-        | Mnemonic::Rmb5
-        | Mnemonic::Rmb6
-        | Mnemonic::Rmb7
-        | Mnemonic::Smb0
-        | Mnemonic::Smb1
-        | Mnemonic::Smb2
-        | Mnemonic::Smb3
-        | Mnemonic::Smb4
-        | Mnemonic::Smb5
-        | Mnemonic::Smb6
-        | Mnemonic::Smb7 => true,
-        _ => false,
-    }
-}
 
 impl OpcodeSet for Rockwell65C02 {
     ghost table = { λ _. rockwell_65c02 };
@@ -82,13 +54,6 @@ impl OpcodeSet for Rockwell65C02 {
             0xF7 => op(Mnemonic::Smb7, Mode::Zp),
             0xFF => op(Mnemonic::Bbs7, Mode::Zprel),
             _ => Cmos65Sc02.decode(byte),
-        }
-    }
-
-    fn sibling(&self, op: Op) -> Option<Mode> {
-        match op.mode {
-            Mode::Abs if adds_zp(op.mnemonic) => Some(Mode::Zp),
-            _ => Cmos65Sc02.sibling(op),
         }
     }
 

@@ -6,14 +6,18 @@
 -- operands, numbers and text are no targets, and undefined and cut opcodes and leftover bytes have none.
 use Rattle.std.specs.Prelude.{◌≡◌, ℕ, ◌+◌, ◌-◌, ◌*◌, ◌<◌, ◌==◌, ◌||◌, nat_le, nat_lt, Bool, if◌then◌else◌, List, slice_index, Option, Some, None}
 use denote.Enum.Bare.{sameb}
-use Rattle.isa65.specs.Mode.{len_of}
+use Rattle.isa65.specs.Mode.{len_of, row_of, size_of}
 use Rattle.isa65.specs.Opcodes.{decoded}
 use Rattle.isa65.specs.contracts.mnemonic.Mnemonic as mnemonic
 use Rattle.isa65.specs.declared.mnemonic.Mnemonic.{Mnemonic}
 use Rattle.isa65.specs.declared.mnemonic.Mnemonic.TheVariants.{Jmp, Jsr}
 use Rattle.isa65.specs.declared.mode.Mode.{Mode}
-use Rattle.isa65.specs.declared.mode.Mode.TheVariants.{Imp, Acc, Imm, Zp, Zpx, Zpy, Abs, Absx, Absy, Ind, Indx, Indy, Zpind, Absindx, Rel, Zprel}
 use Rattle.isa65.specs.declared.op.Op.{Op}
+use Rattle.isa65.specs.declared.row.OperandKind.TheVariants.{Word, Distance}
+use Rattle.isa65.specs.declared.row.Pattern.{Pattern}
+use Rattle.isa65.specs.declared.row.Pattern.TheVariants.{Direct}
+use Rattle.isa65.specs.declared.row.Row.{Row}
+use Rattle.isa65.specs.declared.row.Row.TheVariants.{One, Two}
 use Rattle.info65.specs.Layouts.{layout_of}
 use Rattle.info65.specs.declared.information.range.Entry.{Entry}
 use Rattle.info65.specs.declared.information.range.Entry.TheVariants as entry
@@ -48,24 +52,24 @@ is_jump m = sameb mnemonic.the_type m Jmp || sameb mnemonic.the_type m Jsr
 abbrev pub only_inside : ImageView → ℕ → Option ℕ
 only_inside image t = if is_inside image t then Some t else None
 
+-- where a word leads: that of a jump to an absolute address wherever it lies, any other only inside the image
+abbrev pub word_target : ImageView → Mnemonic → Pattern → ℕ → Option ℕ
+word_target image m Direct t = if is_jump m then Some t else only_inside image t
+word_target image m pattern t = only_inside image t
+
+-- the target of a branch, by its distance from the address after it
+abbrev pub branch_target : Row → ℕ → List ℕ → Option ℕ
+branch_target (One pattern Distance) next bytes = target_of next (byte_of bytes)
+branch_target (Two first Distance) next bytes = target_of next (slice_index bytes (1 + size_of first))
+branch_target row next bytes = None
+
+abbrev pub row_target : ImageView → Mnemonic → Row → ℕ → List ℕ → Option ℕ
+row_target image m (One pattern Word) next bytes = word_target image m pattern (word_of bytes)
+row_target image m row next bytes = branch_target row next bytes
+
 -- the target of an instruction in a mode, at an address, of these bytes
 unfoldable pub operand_target : ImageView → Mnemonic → Mode → ℕ → List ℕ → Option ℕ
-operand_target image m Abs a bytes = if is_jump m then Some (word_of bytes) else only_inside image (word_of bytes)
-operand_target image m Absx a bytes = only_inside image (word_of bytes)
-operand_target image m Absy a bytes = only_inside image (word_of bytes)
-operand_target image m Ind a bytes = only_inside image (word_of bytes)
-operand_target image m Absindx a bytes = only_inside image (word_of bytes)
-operand_target image m Rel a bytes = target_of (a + 2) (byte_of bytes)
-operand_target image m Zprel a bytes = target_of (a + 3) (slice_index bytes 2)
-operand_target image m Imp a bytes = None
-operand_target image m Acc a bytes = None
-operand_target image m Imm a bytes = None
-operand_target image m Zp a bytes = None
-operand_target image m Zpx a bytes = None
-operand_target image m Zpy a bytes = None
-operand_target image m Indx a bytes = None
-operand_target image m Indy a bytes = None
-operand_target image m Zpind a bytes = None
+operand_target image m mode a bytes = row_target image m (row_of mode) (a + len_of mode) bytes
 
 -- ---- the target of an item
 

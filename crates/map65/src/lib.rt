@@ -30,4 +30,4 @@ pub use map::Map;
 pub use name::{NameBuf, NameKind, Place};
 pub use reading::read_image;
 pub use roles::{is_skip, unit_of};
-pub use target::{target_of, word_of};
+pub use target::{branch_target, target_of, word_of};

@@ -2,16 +2,16 @@
 
 ghost use Rattle.std.specs.Prelude.{◌≡◌, ◌+◌, ◌<◌, ◌≤◌, length, slice_index};
 ghost use Rattle.isa65.specs.Cpu.{table_of};
-ghost use Rattle.isa65.specs.Mode.{len_of};
+ghost use Rattle.isa65.specs.Mode.{len_of, row_len};
 ghost use Rattle.isa65.specs.Opcodes.{decoded};
 ghost use Rattle.map65.specs.ImageView.{bytes_from, end_of, is_inside};
 ghost use Rattle.map65.specs.Items.{item_len};
 ghost use Rattle.map65.specs.Roles.{role_of};
-ghost use Rattle.map65.specs.Targets.{code_target, entry_of, is_jump, only_inside, operand_target, return_target, target_at, target_for, target_of, word_of};
+ghost use Rattle.map65.specs.Targets.{branch_target, code_target, entry_of, is_jump, only_inside, operand_target, return_target, row_target, target_at, target_for, target_of, word_of, word_target};
 
 use crate::image::Image;
 use info65::{Entry, Info, RangeType};
-use isa65::{DecodeTable, Mnemonic, Mode, Op, OpcodeSet};
+use isa65::{DecodeTable, Mnemonic, Op, OpcodeSet, OperandKind, Pattern, Row};
 use std::alloc::Allocator;
 
 /// Returns the word after the opcode, low byte first.
@@ -82,6 +82,64 @@ struct Item<'a> {
     bytes: &'a [u8],
 }
 
+/// Where a word leads, as the operand of an instruction in this pattern.
+fn word_target<A: Allocator>(
+    image: &Image<A>,
+    mnemonic: Mnemonic,
+    pattern: Pattern,
+    word: u16,
+) -> Option<u16>
+    ensures { result ≡ word_target image.now mnemonic pattern word }
+{
+    match pattern {
+        Pattern::Direct => {
+            if is_jump(mnemonic) {
+                return Some(word);
+            }
+            only_inside(image, word)
+        }
+        _ => only_inside(image, word),
+    }
+}
+
+/// Returns the address that a branch with these operands leads to, whose bytes these are; `next` is the address after it. None if
+/// no operand is a distance, or if the branch ends outside the address space.
+#[inline(always)]
+pub fn branch_target(row: Row, next: u32, bytes: &[u8]) -> Option<u16>
+    requires all { row_len row ≤ length bytes.now }
+    requires room { next ≤ 65536 }
+    ensures { result ≡ branch_target row next bytes.now }
+{
+    match row {
+        Row::One(_, OperandKind::Distance) => target_of(next, bytes[1]),
+        Row::Two(first, OperandKind::Distance) => {
+            target_of(next, bytes[1 + usize::from(first.size())])
+        }
+        _ => None,
+    }
+}
+
+/// The target of an instruction with these operands, whose bytes these are.
+#[inline(always)]
+fn row_target<A: Allocator>(
+    image: &Image<A>,
+    mnemonic: Mnemonic,
+    row: Row,
+    next: u32,
+    bytes: &[u8],
+) -> Option<u16>
+    requires all { row_len row ≤ length bytes.now }
+    requires room { next ≤ 65536 }
+    ensures { result ≡ row_target image.now mnemonic row next bytes.now }
+{
+    match row {
+        Row::One(pattern, OperandKind::Word) => {
+            word_target(image, mnemonic, pattern, word_of(bytes))
+        }
+        _ => branch_target(row, next, bytes),
+    }
+}
+
 /// The target of an instruction that lies whole in the image, and has these bytes first.
 #[tactic(auto, unfolding(crate::specs::Targets::operand_target))]
 fn operand_target<A: Allocator>(image: &Image<A>, op: Op, address: u16, bytes: &[u8]) -> Option<u16>
@@ -89,26 +147,8 @@ fn operand_target<A: Allocator>(image: &Image<A>, op: Op, address: u16, bytes: &
     requires room { address + len_of op.mode ≤ 65536 }
     ensures { result ≡ operand_target image.now op.mnemonic op.mode address bytes.now }
 {
-    match op.mode {
-        Mode::Abs => {
-            if is_jump(op.mnemonic) {
-                return Some(word_of(bytes));
-            }
-            only_inside(image, word_of(bytes))
-        }
-        Mode::Absx | Mode::Absy | Mode::Ind | Mode::Absindx => only_inside(image, word_of(bytes)),
-        Mode::Rel => target_of(u32::from(address) + 2, bytes[1]),
-        Mode::Zprel => target_of(u32::from(address) + 3, bytes[2]),
-        Mode::Imp
-        | Mode::Acc
-        | Mode::Imm
-        | Mode::Zpx
-        | Mode::Zpy
-        | Mode::Indx
-        | Mode::Indy
-        | Mode::Zpind
-        | Mode::Zp => None,
-    }
+    let next = u32::from(address) + u32::from(op.mode.len());
+    row_target(image, op.mnemonic, op.mode.row(), next, bytes)
 }
 
 /// The target of an item of code: none if the opcode is undefined or cut.

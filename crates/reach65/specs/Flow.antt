@@ -3,22 +3,25 @@
 -- The instruction of an address begins there: the address is code of the image, its opcode is defined, and all its bytes lie in the
 -- image. It leads to the address after it, but for `jmp`, `bra`, `rts`, `rti` and `brk`, and to the target of a relative mode, of `jmp`
 -- or of `jsr` to an absolute address; to each of them only inside the image.
-use Rattle.std.specs.Prelude.{◌≡◌, ◌⊎◌, ℕ, ◌+◌, ◌||◌, nat_le, Bool, List, if◌then◌else◌, slice_index, Option, Some, None, option_and_then}
+use Rattle.std.specs.Prelude.{◌≡◌, ◌⊎◌, ℕ, ◌+◌, ◌||◌, nat_le, Bool, List, if◌then◌else◌, Option, Some, None, option_and_then}
 use denote.Enum.Bare.{sameb}
-use Rattle.isa65.specs.Mode.{len_of}
+use Rattle.isa65.specs.Mode.{len_of, row_of}
 use Rattle.isa65.specs.Opcodes.{decoded}
 use Rattle.isa65.specs.contracts.mnemonic.Mnemonic as mnemonic
 use Rattle.isa65.specs.declared.mnemonic.Mnemonic.{Mnemonic}
 use Rattle.isa65.specs.declared.mnemonic.Mnemonic.TheVariants.{Bra, Brk, Jmp, Rti, Rts}
 use Rattle.isa65.specs.declared.mode.Mode.{Mode}
-use Rattle.isa65.specs.declared.mode.Mode.TheVariants.{Abs, Rel, Zprel}
 use Rattle.isa65.specs.declared.op.Op.{Op}
+use Rattle.isa65.specs.declared.row.OperandKind.TheVariants.{Word}
+use Rattle.isa65.specs.declared.row.Pattern.TheVariants.{Direct}
+use Rattle.isa65.specs.declared.row.Row.{Row}
+use Rattle.isa65.specs.declared.row.Row.TheVariants.{One}
 use Rattle.info65.specs.declared.information.range.RangeType.{RangeType}
 use Rattle.info65.specs.declared.information.range.RangeType.TheVariants as role
 use Rattle.map65.specs.ImageView.{byte_at, bytes_from, end_of}
 use Rattle.map65.specs.MapView.{MapView, opcodes}
 use Rattle.map65.specs.Roles.{role_at}
-use Rattle.map65.specs.Targets.{byte_of, is_jump, only_inside, target_of, word_of}
+use Rattle.map65.specs.Targets.{branch_target, is_jump, only_inside, word_of}
 
 -- ---- the instruction of an address
 
@@ -52,12 +55,14 @@ next_of m a (Some op) = if is_last op.mnemonic then None else only_inside m.imag
 unfoldable pub next_at : MapView → ℕ → Option ℕ
 next_at m a = next_of m a (instruction_at m a)
 
+-- a jump goes to its absolute operand
+abbrev pub row_goal : Mnemonic → Row → ℕ → List ℕ → Option ℕ
+row_goal m (One Direct Word) next bytes = if is_jump m then Some (word_of bytes) else None
+row_goal m row next bytes = branch_target row next bytes
+
 -- the address that an instruction of these bytes goes to by its operand
 unfoldable pub goal_of : Mnemonic → Mode → ℕ → List ℕ → Option ℕ
-goal_of m Abs a bytes = if is_jump m then Some (word_of bytes) else None
-goal_of m Rel a bytes = target_of (a + 2) (byte_of bytes)
-goal_of m Zprel a bytes = target_of (a + 3) (slice_index bytes 2)
-goal_of m _ a bytes = None
+goal_of m mode a bytes = row_goal m (row_of mode) (a + len_of mode) bytes
 
 abbrev pub goal_by : MapView → ℕ → Option Op → Option ℕ
 goal_by m a None = None

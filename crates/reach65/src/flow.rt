@@ -1,14 +1,14 @@
 //! Where instructions lead.
 
 ghost use Rattle.std.specs.Prelude.{◌≡◌, ◌+◌, ◌≤◌, ◌<◌, length, IfSome, IsTrue};
-ghost use Rattle.isa65.specs.Mode.{len_of};
+ghost use Rattle.isa65.specs.Mode.{len_of, row_len};
 ghost use Rattle.map65.specs.ImageView.{byte_at, bytes_from, end_of, is_inside};
 ghost use Rattle.map65.specs.Targets.{is_jump, only_inside};
-ghost use Rattle.reach65.specs.Flow.{goal_at, goal_of, instruction_at, is_last, next_at};
+ghost use Rattle.reach65.specs.Flow.{goal_at, goal_of, instruction_at, is_last, next_at, row_goal};
 
 use info65::RangeType;
-use isa65::{DecodeTable, Mnemonic, Mode, Op, OpcodeSet};
-use map65::{Image, Map, target_of, word_of};
+use isa65::{DecodeTable, Mnemonic, Op, OpcodeSet, OperandKind, Pattern, Row};
+use map65::{Image, Map, branch_target, word_of};
 use std::alloc::{Allocator, Global};
 use std::marker::Model;
 
@@ -93,6 +93,23 @@ pub fn bytes_from<A: Allocator>(image: &Image<A>, address: u16) -> &[u8]
     bytes
 }
 
+/// The address that an instruction with these operands goes to by them; `next` is the address after it.
+fn row_goal(mnemonic: Mnemonic, row: Row, next: u32, bytes: &[u8]) -> Option<u16>
+    requires all { row_len row ≤ length bytes.now }
+    requires room { next ≤ 65536 }
+    ensures { result ≡ row_goal mnemonic row next bytes.now }
+{
+    match row {
+        Row::One(Pattern::Direct, OperandKind::Word) => {
+            if is_jump(mnemonic) {
+                return Some(word_of(bytes));
+            }
+            None
+        }
+        _ => branch_target(row, next, bytes),
+    }
+}
+
 /// The address that an instruction of these bytes goes to by its operand.
 #[tactic(auto, unfolding(crate::specs::Flow::goal_of))]
 fn goal_of(op: Op, address: u16, bytes: &[u8]) -> Option<u16>
@@ -100,17 +117,8 @@ fn goal_of(op: Op, address: u16, bytes: &[u8]) -> Option<u16>
     requires room { address + len_of op.mode ≤ 65536 }
     ensures { result ≡ goal_of op.mnemonic op.mode address bytes.now }
 {
-    match op.mode {
-        Mode::Abs => {
-            if is_jump(op.mnemonic) {
-                return Some(word_of(bytes));
-            }
-            None
-        }
-        Mode::Rel => target_of(u32::from(address) + 2, bytes[1]),
-        Mode::Zprel => target_of(u32::from(address) + 3, bytes[2]),
-        _ => None,
-    }
+    let next = u32::from(address) + u32::from(op.mode.len());
+    row_goal(op.mnemonic, op.mode.row(), next, bytes)
 }
 
 impl<'a, 'm, A: Allocator> Flow<'a, 'm, A> {

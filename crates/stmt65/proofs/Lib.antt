@@ -9,7 +9,6 @@ mod LineLemmas
 mod TableLists
 mod EntryLaws
 mod OperandTexts
-mod PatternLemmas
 mod TableTexts
 mod WidthLemmas
 mod Rows

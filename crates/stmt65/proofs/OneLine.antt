@@ -9,12 +9,18 @@ use Rattle.std.proofs.lemmas.Bool.Decides.{nat_tests}
 use Rattle.std.proofs.lemmas.Fmt.{decimal_is_IsNumeral}
 use Rattle.isa65.specs.Cpu.{cpu_text}
 use Rattle.isa65.specs.Mnemonic.{text_of}
+use Rattle.isa65.specs.Mode.{expression, row_of, row_text}
 use Rattle.isa65.specs.declared.cpu.Cpu.{Cpu}
 use Rattle.isa65.specs.CpuLaws.{cpu_name}
 use Rattle.isa65.specs.declared.mnemonic.Mnemonic.{Mnemonic}
 use Rattle.isa65.specs.declared.mnemonic.Mnemonic.TheVariants.{Adc}
 use Rattle.isa65.specs.declared.mode.Mode.{Mode}
-use Rattle.isa65.specs.declared.mode.Mode.TheVariants.{Imp, Acc, Imm, Zp, Zpx, Zpy, Abs, Absx, Absy, Ind, Indx, Indy, Zpind, Absindx, Rel, Zprel}
+use Rattle.isa65.specs.declared.mode.Mode.TheVariants.{Imp}
+use Rattle.isa65.specs.declared.row.OperandKind.{OperandKind}
+use Rattle.isa65.specs.declared.row.OperandKind.TheVariants as kind
+use Rattle.isa65.specs.declared.row.Pattern.TheVariants as pattern
+use Rattle.isa65.specs.declared.row.Row.{Row}
+use Rattle.isa65.specs.declared.row.Row.TheVariants as row
 use Rattle.text65.specs.Digits.{hex_digit}
 use Rattle.text65.specs.Names.{is_word_byte}
 use Rattle.stmt65.specs.declared.printing.columns.Columns.{Columns}
@@ -24,8 +30,8 @@ use Rattle.stmt65.specs.Directives.{directive_text}
 use Rattle.stmt65.specs.Digits.{digits2, hex2, hex4, offset_text}
 use Rattle.stmt65.specs.Levels.{address_text, spaced_byte, address_and_bytes, character, level_fields}
 use Rattle.stmt65.specs.Line.{filled, with_fields, plain_line, line_of}
-use Rattle.stmt65.specs.Operands.{named_text, short_text, long_text, prefix_text, operand_text}
-use Rattle.stmt65.specs.Printable.{IsWrittenIn, IsPrintable}
+use Rattle.stmt65.specs.Operands.{named_text, short_text, long_text, kind_text, kind_texts, prefix_text, in_pattern, operand_text}
+use Rattle.stmt65.specs.Printable.{IsPrintable}
 use Rattle.stmt65.specs.SourceLine.{Datum}
 use Rattle.stmt65.specs.SourceLine as source
 use Rattle.stmt65.specs.Tables.{order_of, in_order, entries, cut_text}
@@ -125,25 +131,40 @@ prefix_line false = refl
 between : (before text after : List ℕ) → InLine before → InLine text → InLine after → InLine (before ++ text ++ after)
 between before text after h g i = joined (before ++ text) after (joined before text h g) i
 
-operand_line : (h : Bool) (m : Mode) (a : Bool) (os : OperandsView) → IsWrittenIn m os → AreRead os → InLine (operand_text h m a os)
+kind_line : (h : Bool) (k : OperandKind) (e : ExprView) → IsRead e → InLine (kind_text h k e)
+kind_line h kind.Byte e n = two_line h e n
+kind_line h kind.ZeroPage e n = two_line h e n
+kind_line h kind.Word e n = four_line h e n
+kind_line h kind.Distance e n = four_line h e n
+
+abbrev AreInLine : List (List ℕ) → Type 0
+AreInLine [] = Unit {0}
+AreInLine (t ∷ texts) = InLine t × AreInLine texts
+
+texts_line : (h : Bool) (r : Row) (os : OperandsView) → AreRead os → AreInLine (kind_texts h r os)
+texts_line h (row.One p k) (view.one e) n = (kind_line h k e n, tt)
+texts_line h (row.Two k l) (view.two e f) n = (kind_line h k e n.0, (kind_line h l f n.1, tt))
+texts_line h _ _ n = tt
+
+row_line : (r : Row) → InLine (row_text r)
+row_line (row.One pattern.Immediate k) = refl
+row_line (row.One _ k) = refl
+row_line _ = refl
+
+pattern_line : (pattern : List ℕ) (texts : List (List ℕ)) → InLine pattern → AreInLine texts → InLine (in_pattern pattern texts)
+pattern_line [] texts h g = refl
+pattern_line (c ∷ pattern) [] h g = let a = both (in_line c) (list_all in_line pattern) h in rw (a.0, pattern_line pattern [] a.1 g) refl
+pattern_line (c ∷ pattern) (t ∷ texts) h g =
+    let a = both (in_line c) (list_all in_line pattern) h in
+    by_test (c == expression)
+    (λ e. rw e (joined t (in_pattern pattern texts) g.0 (pattern_line pattern texts a.1 g.1)))
+    (λ e. rw (e, a.0, pattern_line pattern (t ∷ texts) a.1 g) refl)
+
+operand_line : (h : Bool) (m : Mode) (a : Bool) (os : OperandsView) → AreRead os → InLine (operand_text h m a os)
 unfolding operand_text
-operand_line h Imp a view.none w n = refl
-operand_line h Acc a view.none w n = refl
-operand_line h Imm a (view.one e) w n = joined (codes "#") (short_text h e) refl (two_line h e n)
-operand_line h Zp a (view.one e) w n = two_line h e n
-operand_line h Zpx a (view.one e) w n = joined (short_text h e) (codes ",x") (two_line h e n) refl
-operand_line h Zpy a (view.one e) w n = joined (short_text h e) (codes ",y") (two_line h e n) refl
-operand_line h Abs a (view.one e) w n = joined (prefix_text a) (long_text h e) (prefix_line a) (four_line h e n)
-operand_line h Absx a (view.one e) w n = between (prefix_text a) (long_text h e) (codes ",x") (prefix_line a) (four_line h e n) refl
-operand_line h Absy a (view.one e) w n = between (prefix_text a) (long_text h e) (codes ",y") (prefix_line a) (four_line h e n) refl
-operand_line h Ind a (view.one e) w n = between (codes "(") (long_text h e) (codes ")") refl (four_line h e n) refl
-operand_line h Indx a (view.one e) w n = between (codes "(") (short_text h e) (codes ",x)") refl (two_line h e n) refl
-operand_line h Indy a (view.one e) w n = between (codes "(") (short_text h e) (codes "),y") refl (two_line h e n) refl
-operand_line h Zpind a (view.one e) w n = between (codes "(") (short_text h e) (codes ")") refl (two_line h e n) refl
-operand_line h Absindx a (view.one e) w n = between (codes "(") (long_text h e) (codes ",x)") refl (four_line h e n) refl
-operand_line h Rel a (view.one e) w n = four_line h e n
-operand_line h Zprel a (view.two e f) w n = between (short_text h e) (codes ",") (long_text h f) (two_line h e n.0) refl (four_line h f n.1)
-operand_line h _ a _ w n = absurd w
+operand_line h m a os n =
+    let row = row_of m in
+    joined (prefix_text a) (in_pattern (row_text row) (kind_texts h row os)) (prefix_line a) (pattern_line (row_text row) (kind_texts h row os) (row_line row) (texts_line h row os n))
 
 -- ---- the other texts
 
@@ -218,10 +239,10 @@ alone_line line c w l h = field_line line c.mnemonic w l h
 with_line : (line : List ℕ) (c : Columns) (w operands : List ℕ) → InLine line → InLine w → InLine operands → InLine (with_fields line (with_operands c w operands))
 with_line line c w operands l h g = field_line (filled line c.mnemonic ++ w) c.argument operands (field_line line c.mnemonic w l h) g
 
-instr_line : (line : List ℕ) (c : Columns) (h : Bool) (m : Mnemonic) (mode : Mode) (a : Bool) (os : OperandsView) → InLine line → IsWrittenIn mode os → AreRead os
+instr_line : (line : List ℕ) (c : Columns) (h : Bool) (m : Mnemonic) (mode : Mode) (a : Bool) (os : OperandsView) → InLine line → AreRead os
     → InLine (with_fields line (instr_fields c h (record { mnemonic = m; mode = mode }) a os))
-instr_line line c h m Imp a os l w n = alone_line line c (text_of m) l (mnemonic_line m)
-instr_line line c h m mode a os l w n = with_line line c (text_of m) (operand_text h mode a os) l (mnemonic_line m) (operand_line h mode a os w n)
+instr_line line c h m Imp a os l n = alone_line line c (text_of m) l (mnemonic_line m)
+instr_line line c h m mode a os l n = with_line line c (text_of m) (operand_text h mode a os) l (mnemonic_line m) (operand_line h mode a os n)
 
 -- ---- names
 
@@ -249,7 +270,7 @@ distance_line false n lt = offset_line false n lt
 
 -- the line goes on with the fields of a statement
 fields_line : (line : List ℕ) (c : Columns) (h : Bool) (s : StatementView) → InLine line → IsPrintable s → IsInWidth s → HasNames s → InLine (with_fields line (fields_of c h s))
-fields_line line c h (view.instr op a os) l p w n = instr_line line c h op.mnemonic op.mode a os l p.0 (are_read os n w)
+fields_line line c h (view.instr op a os) l p w n = instr_line line c h op.mnemonic op.mode a os l (are_read os n w)
 fields_line line c h (view.bytes bs) l p w n = with_line line c (codes ".byte") (bytes_text bs) l refl (bytes_line bs)
 fields_line line c h (view.text bs) l p w n = with_line line c (codes ".byte") (data_text (cut_text bs)) l refl (data_line (cut_text bs) (cut_sound bs w))
 fields_line line c h (view.numbers d bs) l p w n = with_line line c (directive_text d) (numbers_text d bs) l (directive_line d) (numbers_line d bs)

@@ -1,6 +1,6 @@
 -- The line of a statement is a spelling of that statement, so it reads as it.
 use Rattle.std.proofs.Common.{◌≡◌, ℕ, suc, Bool, Option, None, true, false, eqb, ltb, ◌-◌, ◌<◌, ◌≤◌, List, [], ◌∷◌, ◌++◌, length, replicate, refl, sym, ap, ◌∙◌, arith, inl, inr, append_assoc}
-use Rattle.std.specs.Prelude.{◌&&◌, ◌||◌, codes, map, Some}
+use Rattle.std.specs.Prelude.{◌&&◌, ◌||◌, codes, map, Some, IsSome}
 use Rattle.std.specs.List.{list_all, flat_map}
 use Rattle.std.specs.Str.{str_to_ascii_lowercase}
 use Rattle.std.specs.Char.{is_ascii_alphabetic}
@@ -10,12 +10,19 @@ use Rattle.std.proofs.lemmas.List.{append-nil, length-append}
 use Rattle.std.proofs.lemmas.Slice.Eq.{bytes_eq-Decides}
 use Rattle.isa65.specs.Cpu.{cpu_text}
 use Rattle.isa65.specs.Mnemonic.{text_of}
+use Rattle.isa65.specs.Mode.{row_of, zero_page_row}
 use Rattle.isa65.specs.declared.cpu.Cpu.{Cpu}
 use Rattle.isa65.specs.CpuLaws.{cpu_name}
 use Rattle.isa65.specs.declared.mnemonic.Mnemonic.{Mnemonic}
 use Rattle.isa65.specs.declared.mnemonic.Mnemonic.TheVariants.{Adc}
 use Rattle.isa65.specs.declared.mode.Mode.{Mode}
-use Rattle.isa65.specs.declared.mode.Mode.TheVariants.{Imp, Acc, Imm, Zp, Zpx, Zpy, Abs, Absx, Absy, Ind, Indx, Indy, Zpind, Absindx, Rel, Zprel}
+use Rattle.isa65.specs.declared.mode.Mode.TheVariants.{Imp}
+use Rattle.isa65.specs.declared.row.OperandKind.{OperandKind}
+use Rattle.isa65.specs.declared.row.OperandKind.TheVariants as kind
+use Rattle.isa65.specs.declared.row.Pattern.{Pattern}
+use Rattle.isa65.specs.declared.row.Pattern.TheVariants as pattern
+use Rattle.isa65.specs.declared.row.Row.{Row}
+use Rattle.isa65.specs.declared.row.Row.TheVariants as row
 use Rattle.text65.specs.Digits.{digits4}
 use Rattle.text65.specs.Names.{has_name_form, is_word_byte}
 use Rattle.stmt65.specs.declared.directive.Directive.{Directive}
@@ -25,10 +32,11 @@ use Rattle.stmt65.specs.declared.printing.columns.Columns.{Columns}
 use Rattle.stmt65.specs.Digits.{hex2, hex4, offset_text}
 use Rattle.stmt65.specs.Levels.{spaced_byte, character, level_fields}
 use Rattle.stmt65.specs.Line.{filled, with_fields, plain_line, line_of}
-use Rattle.stmt65.specs.Operands.{named_text, short_text, long_text, prefix_text, operand_text}
-use Rattle.stmt65.specs.Printable.{IsByte, IsShort, IsWrittenIn, IsPrintable, MayBeLabelled}
+use Rattle.stmt65.specs.Operands.{named_text, short_text, long_text, kind_text, prefix_text, row_operands, operand_text}
+use Rattle.stmt65.specs.Printable.{IsByte, IsShort, IsOperand, AreOperands, IsWrittenIn, MayBeForced, IsPrintable, MayBeLabelled}
 use Rattle.stmt65.specs.Statements.{has_bytes, bytes_text, quoted, data_text, numbers_text, alone, with_operands, return_text, distance_text, instr_fields, label_fields, definition_fields, remark_fields, fields_of}
 use Rattle.stmt65.specs.SourceLine.{Value, NumberValue, NameValue, NumberDatum, Empty, Operation, Nothing, Instr, Segment, Code, SetCpu, Assignment, PlaceAssignment, Statement}
+use Rattle.stmt65.specs.declared.source_line.AddressSize.TheVariants.{Absolute, Automatic}
 use Rattle.stmt65.specs.declared.source_line.Minus.TheVariants.{Zero, One}
 use Rattle.stmt65.specs.Tables.{entry_len, entries, cut_text}
 use Rattle.stmt65.specs.Parts.{Part, Word, Number, Text, Define, Mark, begins_with}
@@ -37,7 +45,7 @@ use Rattle.stmt65.specs.Names.{is_name}
 use Rattle.stmt65.specs.Reading.{reading_of}
 use Rattle.stmt65.specs.Spelling as item
 use Rattle.stmt65.specs.Spelling.{Item, word, mark, define, number, string, quoted_name, value, data_list, value_list, IsValue, IsItem, Spells, prefix_items, form_items, operation_items, IsSpelling}
-use Rattle.stmt65.specs.Printed.{address_size, entry_value, source_value, source_form, source_line, with_label, HasName, HasNamesIn, HasNames, HasLabelName}
+use Rattle.stmt65.specs.Printed.{entry_value, source_value, pattern_form, row_form, source_form, source_line, with_label, HasName, HasNamesIn, HasNames, HasLabelName}
 use Rattle.stmt65.specs.Code.Widths.{IsWordWide, AreWordWide, AreBytes, IsInWidth}
 use Rattle.stmt65.specs.Views.{ExprView, OperandsView, TargetView, StatementView, RemarksView}
 use Rattle.stmt65.specs.Views as view
@@ -156,17 +164,19 @@ x_close = marked 44 _ (codes ",x)") (parts (codes "x)")) (parts_comma (codes "x)
 
 -- ---- expressions and what stands around them
 
-short_then : (h : Bool) (e : ExprView) (is : List Item) (rest : List ℕ) → IsShort e → IsRead e → Ends rest → Spells is (parts rest) → Spells (value (source_value e) ∷ is) (parts (short_text h e ++ rest))
-short_then h e is rest s has ends t = valued (source_value e) is (short_text h e) rest (two_parts h e rest s has ends) t
+byte_short : (e : ExprView) → IsByte e → IsShort e
+byte_short (view.number n) b = b
+byte_short (view.name name offset) b = absurd b
 
-long_then : (h : Bool) (e : ExprView) (is : List Item) (rest : List ℕ) → IsRead e → Ends rest → Spells is (parts rest) → Spells (value (source_value e) ∷ is) (parts (long_text h e ++ rest))
-long_then h e is rest has ends t = valued (source_value e) is (long_text h e) rest (four_parts h e rest has ends) t
+kind_parts : (h : Bool) (k : OperandKind) (e : ExprView) (rest : List ℕ) → IsOperand k e → IsRead e → Ends rest → ValueParts (kind_text h k e) (source_value e) rest
+kind_parts h kind.Byte e rest s has ends = two_parts h e rest (byte_short e s) has ends
+kind_parts h kind.ZeroPage e rest s has ends = two_parts h e rest s has ends
+kind_parts h kind.Word e rest s has ends = four_parts h e rest has ends
+kind_parts h kind.Distance e rest s has ends = four_parts h e rest has ends
 
-short_alone : (h : Bool) (e : ExprView) → IsShort e → IsRead e → Spells (value (source_value e) ∷ []) (parts (short_text h e))
-short_alone h e s has = let t = short_then h e [] [] s has refl nothing in rw append-nil at t
-
-long_alone : (h : Bool) (e : ExprView) → IsRead e → Spells (value (source_value e) ∷ []) (parts (long_text h e))
-long_alone h e has = let t = long_then h e [] [] has refl nothing in rw append-nil at t
+kind_then : (h : Bool) (k : OperandKind) (e : ExprView) (is : List Item) (rest : List ℕ) → IsOperand k e → IsRead e → Ends rest → Spells is (parts rest)
+    → Spells (value (source_value e) ∷ is) (parts (kind_text h k e ++ rest))
+kind_then h k e is rest s has ends t = valued (source_value e) is (kind_text h k e) rest (kind_parts h k e rest s has ends) t
 
 opened : (is : List Item) (rest : List ℕ) → Spells is (parts rest) → Spells (mark 40 ∷ is) (parts (40 ∷ rest))
 opened is rest t = marked 40 is (40 ∷ rest) (parts rest) (parts_open rest) t
@@ -184,46 +194,52 @@ no_equals h (view.name name offset) rest has = go name (name_word name has.0) (e
     go (b ∷ w) i true f = rw f (word_no_equals b i.0)
     go (b ∷ w) i false f = rw f (word_no_equals b i.0)
 
--- an absolute operand, with `a:` or without
-forced : (h a : Bool) (e : ExprView) (is : List Item) (rest : List ℕ) → IsRead e → Ends rest → Spells is (parts rest) → Spells (prefix_items (address_size a) ++ value (source_value e) ∷ is) (parts (prefix_text a ++ (long_text h e ++ rest)))
-forced h false e is rest has ends t = long_then h e is rest has ends t
-forced h true e is rest has ends t =
-    worded (codes "a") _ (97 ∷ 58 ∷ (long_text h e ++ rest)) (parts (58 ∷ (long_text h e ++ rest))) (parts_word (codes "a") (58 ∷ (long_text h e ++ rest)) (refl, refl) refl)
-    (marked 58 _ (58 ∷ (long_text h e ++ rest)) (parts (long_text h e ++ rest)) (parts_colon (long_text h e ++ rest) (no_equals h e rest has)) (long_then h e is rest has ends t))
+-- a word after `a:`
+forced : (h : Bool) (e : ExprView) (is : List Item) (rest : List ℕ) → IsRead e → Ends rest → Spells is (parts rest)
+    → Spells (prefix_items Absolute ++ value (source_value e) ∷ is) (parts (prefix_text true ++ (long_text h e ++ rest)))
+forced h e is rest has ends t =
+    let text = long_text h e ++ rest in
+    worded (codes "a") _ (97 ∷ 58 ∷ text) (parts (58 ∷ text)) (parts_word (codes "a") (58 ∷ text) (refl, refl) refl)
+    (marked 58 _ (58 ∷ text) (parts text) (parts_colon text (no_equals h e rest has)) (valued (source_value e) is (long_text h e) rest (four_parts h e rest has ends) t))
 
-forced_then : (h a : Bool) (e : ExprView) (is : List Item) (rest : List ℕ) → IsRead e → Ends rest → Spells is (parts rest) → Spells (prefix_items (address_size a) ++ value (source_value e) ∷ is) (parts (prefix_text a ++ long_text h e ++ rest))
-forced_then h a e is rest has ends t = let f = forced h a e is rest has ends t in rw append_assoc f
+-- ---- the operands of each row
 
-forced_alone : (h a : Bool) (e : ExprView) → IsRead e → Spells (prefix_items (address_size a) ++ value (source_value e) ∷ []) (parts (prefix_text a ++ long_text h e))
-forced_alone h a e has = let f = forced h a e [] [] has refl nothing in rw append-nil at f
+row_spelled : (h : Bool) (r : Row) (os : OperandsView) → AreOperands r os → AreRead os → Spells (form_items (row_form r Automatic os)) (parts (row_operands h r false os))
+row_spelled h row.Implied view.none w n = nothing
+row_spelled h row.Accumulator view.none w n = one_word 97 (refl, refl)
+row_spelled h (row.One pattern.Immediate k) (view.one e) w n =
+    let text = kind_text h k e ++ [] in
+    marked 35 _ (35 ∷ text) (parts text) (parts_hash text) (kind_then h k e [] [] w n refl nothing)
+row_spelled h (row.One pattern.Direct k) (view.one e) w n = kind_then h k e [] [] w n refl nothing
+row_spelled h (row.One pattern.DirectX k) (view.one e) w n = kind_then h k e _ (codes ",x") w n refl comma_x
+row_spelled h (row.One pattern.DirectY k) (view.one e) w n = kind_then h k e _ (codes ",y") w n refl comma_y
+row_spelled h (row.One pattern.Indirect k) (view.one e) w n = opened _ (kind_text h k e ++ codes ")") (kind_then h k e _ (codes ")") w n refl close)
+row_spelled h (row.One pattern.IndirectX k) (view.one e) w n = opened _ (kind_text h k e ++ codes ",x)") (kind_then h k e _ (codes ",x)") w n refl x_close)
+row_spelled h (row.One pattern.IndirectY k) (view.one e) w n = opened _ (kind_text h k e ++ codes "),y") (kind_then h k e _ (codes "),y") w n refl close_y)
+row_spelled h (row.Two k l) (view.two e f) w n =
+    let text = kind_text h l f ++ [] in
+    kind_then h k e _ (44 ∷ text) w.0 n.0 refl (marked 44 _ (44 ∷ text) (parts text) (parts_comma text) (kind_then h l f [] [] w.1 n.1 refl nothing))
+row_spelled h _ _ w n = absurd w
 
-byte_short : (e : ExprView) → IsByte e → IsShort e
-byte_short (view.number n) b = b
-byte_short (view.name name offset) b = absurd b
+forced_one : (h : Bool) (p : Pattern) (k : OperandKind) (e : ExprView) → IsRead e → IsSome (zero_page_row (row.One p k))
+    → Spells (form_items (pattern_form p Absolute (source_value e))) (parts (row_operands h (row.One p k) true (view.one e)))
+forced_one h pattern.Direct kind.Word e n f = forced h e [] [] n refl nothing
+forced_one h pattern.DirectX kind.Word e n f = forced h e _ (codes ",x") n refl comma_x
+forced_one h pattern.DirectY kind.Word e n f = forced h e _ (codes ",y") n refl comma_y
+forced_one h _ kind.Word e n f = absurd cc
+forced_one h _ _ e n f = absurd cc
 
--- ---- the operands of each mode
+forced_spelled : (h : Bool) (r : Row) (os : OperandsView) → AreOperands r os → AreRead os → IsSome (zero_page_row r) → Spells (form_items (row_form r Absolute os)) (parts (row_operands h r true os))
+forced_spelled h (row.One p k) (view.one e) w n f = forced_one h p k e n f
+forced_spelled h row.Implied os w n f = absurd cc
+forced_spelled h row.Accumulator os w n f = absurd cc
+forced_spelled h (row.Two k l) os w n f = absurd cc
+forced_spelled h _ _ w n f = absurd w
 
-pub operand_spelled : (h : Bool) (m : Mode) (a : Bool) (os : OperandsView) → IsWrittenIn m os → AreRead os → Spells (form_items (source_form m a os)) (parts (operand_text h m a os))
+pub operand_spelled : (h : Bool) (m : Mode) (a : Bool) (os : OperandsView) → IsWrittenIn m os → MayBeForced m a → AreRead os → Spells (form_items (source_form m a os)) (parts (operand_text h m a os))
 unfolding operand_text source_form
-operand_spelled h Imp a view.none w n = nothing
-operand_spelled h Acc a view.none w n = one_word 97 (refl, refl)
-operand_spelled h Imm a (view.one e) w n = marked 35 _ (35 ∷ short_text h e) (parts (short_text h e)) (parts_hash (short_text h e)) (short_alone h e (byte_short e w) n)
-operand_spelled h Zp a (view.one e) w n = short_alone h e w n
-operand_spelled h Zpx a (view.one e) w n = short_then h e _ (codes ",x") w n refl comma_x
-operand_spelled h Zpy a (view.one e) w n = short_then h e _ (codes ",y") w n refl comma_y
-operand_spelled h Abs a (view.one e) w n = forced_alone h a e n
-operand_spelled h Absx a (view.one e) w n = forced_then h a e _ (codes ",x") n refl comma_x
-operand_spelled h Absy a (view.one e) w n = forced_then h a e _ (codes ",y") n refl comma_y
-operand_spelled h Ind a (view.one e) w n = opened _ (long_text h e ++ codes ")") (long_then h e _ (codes ")") n refl close)
-operand_spelled h Indx a (view.one e) w n = opened _ (short_text h e ++ codes ",x)") (short_then h e _ (codes ",x)") w n refl x_close)
-operand_spelled h Indy a (view.one e) w n = opened _ (short_text h e ++ codes "),y") (short_then h e _ (codes "),y") w n refl close_y)
-operand_spelled h Zpind a (view.one e) w n = opened _ (short_text h e ++ codes ")") (short_then h e _ (codes ")") w n refl close)
-operand_spelled h Absindx a (view.one e) w n = opened _ (long_text h e ++ codes ",x)") (long_then h e _ (codes ",x)") n refl x_close)
-operand_spelled h Rel a (view.one e) w n = long_alone h e n
-operand_spelled h Zprel a (view.two e f) w n =
-    let t = short_then h e _ (44 ∷ long_text h f) w.0 n.0 refl (marked 44 _ (44 ∷ long_text h f) (parts (long_text h f)) (parts_comma (long_text h f)) (long_alone h f n.1)) in
-    rw append_assoc t
-operand_spelled h _ a _ w n = absurd w
+operand_spelled h m false os w f n = row_spelled h (row_of m) os w n
+operand_spelled h m true os w f n = forced_spelled h (row_of m) os w n (f refl)
 
 -- ---- data
 
@@ -399,13 +415,13 @@ unoperated label c w o n e h =
     rw (parts_alone line (label_parts label) c w (leads_start label n) h)
     (labelled label o (Word w ∷ parts []) n (rw e (a_word w [] (parts []) nothing)))
 
-instr_spelled : (label : Option (List ℕ)) (c : Columns) (h : Bool) (m : Mnemonic) (mode : Mode) (a : Bool) (os : OperandsView) → HasLabelName label → IsWrittenIn mode os → AreRead os
+instr_spelled : (label : Option (List ℕ)) (c : Columns) (h : Bool) (m : Mnemonic) (mode : Mode) (a : Bool) (os : OperandsView) → HasLabelName label → IsWrittenIn mode os → MayBeForced mode a → AreRead os
     → IsSpelling (with_label label (Statement None (Instr m (source_form mode a os)))) (parts (with_fields (with_fields [] (label_fields label)) (instr_fields c h (record { mnemonic = m; mode = mode }) a os)))
 unfolding source_form
-instr_spelled label c h m Imp a view.none l w n = unoperated label c (text_of m) (Instr m Empty) l refl (mnemonic_word m)
-instr_spelled label c h m Imp a (view.one e) l w n = absurd w
-instr_spelled label c h m Imp a (view.two e f) l w n = absurd w
-instr_spelled label c h m mode a os l w n = operated label c (text_of m) (operand_text h mode a os) (Instr m (source_form mode a os)) _ l refl (mnemonic_word m) (operand_spelled h mode a os w n)
+instr_spelled label c h m Imp a view.none l w f n = unoperated label c (text_of m) (Instr m Empty) l refl (mnemonic_word m)
+instr_spelled label c h m Imp a (view.one e) l w f n = absurd w
+instr_spelled label c h m Imp a (view.two e g) l w f n = absurd w
+instr_spelled label c h m mode a os l w f n = operated label c (text_of m) (operand_text h mode a os) (Instr m (source_form mode a os)) _ l refl (mnemonic_word m) (operand_spelled h mode a os w f n)
 
 -- ---- table entries that are names
 
@@ -485,7 +501,7 @@ remark_spelled text = parts_remark (32 ∷ text)
 -- the line of a statement is a spelling of it
 spelled_back : (c : Columns) (h : Bool) (label : Option (List ℕ)) (s : StatementView) → IsPrintable s → IsInWidth s → HasNames s → MayBeLabelled c label s → HasLabelName label
     → IsSpelling (with_label label (source_line s)) (parts (with_fields (with_fields [] (label_fields label)) (fields_of c h s)))
-spelled_back c h label (view.instr op a os) p w n m l = instr_spelled label c h op.mnemonic op.mode a os l p.0 (are_read os n w)
+spelled_back c h label (view.instr op a os) p w n m l = instr_spelled label c h op.mnemonic op.mode a os l p.0 p.1 (are_read os n w)
 spelled_back c h label (view.bytes bs) p w n m l = operated label c (codes ".byte") (bytes_text bs) _ _ l refl (refl, refl) (bytes_spelled bs p.0 w)
 spelled_back c h label (view.text bs) p w n m l = operated label c (codes ".byte") (data_text (cut_text bs)) _ _ l refl (refl, refl) (text_spelled bs p.0 w)
 spelled_back c h label (view.numbers d bs) p w n m l = operated label c (directive_text d) (numbers_text d bs) _ _ l refl (directive_word d) (numbers_spelled d bs p.1.0 w)

@@ -36,7 +36,3 @@ form_size (Direct size v) = size
 form_size (DirectX size v) = size
 form_size (DirectY size v) = size
 form_size _ = Automatic
-
--- the letter that stands for an expression
-abbrev pub expression : ℕ
-expression = 69

@@ -11,7 +11,6 @@ pub mod Line
 pub mod Printable
 pub mod SourceLine
 pub mod Forms
-pub mod PatternLaws
 pub mod Signs
 pub mod Parts
 pub mod Lexing

@@ -7,9 +7,12 @@ use denote.Enum.Bare.{sameb}
 use Rattle.isa65.specs.declared.cpu.Cpu.{Cpu}
 use Rattle.isa65.specs.declared.mnemonic.Mnemonic.{Mnemonic}
 use Rattle.isa65.specs.declared.mode.Mode.{Mode}
-use Rattle.isa65.specs.declared.mode.Mode.TheVariants.{Imm, Zp, Zpx, Zpy, Abs, Absx, Absy, Ind, Indx, Indy, Zpind, Absindx, Rel, Zprel}
+use Rattle.isa65.specs.declared.row.OperandKind.{OperandKind}
+use Rattle.isa65.specs.declared.row.OperandKind.TheVariants as kind
+use Rattle.isa65.specs.declared.row.Row.{Row}
+use Rattle.isa65.specs.declared.row.Row.TheVariants as row
 use Rattle.isa65.specs.Cpu.{table_of}
-use Rattle.isa65.specs.Mode.{len_of, written, zero_page_of, IsZeroPageOf}
+use Rattle.isa65.specs.Mode.{len_of, row_of, written, zero_page_of, IsZeroPageOf}
 use Rattle.isa65.specs.contracts.mode.Mode as mode
 use Rattle.isa65.specs.Opcodes.{encoded}
 use Rattle.stmt65.specs.Forms.{form_text, form_values, form_size}
@@ -58,23 +61,21 @@ abbrev pub is_short : List Definition → List Value → Bool
 is_short above [] = false
 is_short above (v ∷ vs) = has_zero_page_size above v
 
--- what stands after the opcode in each mode
+-- what an operand of a kind is coded as
+abbrev pub kind_fragment : List Definition → OperandKind → Value → Fragment
+kind_fragment above kind.Byte v = Single v
+kind_fragment above kind.ZeroPage v = zero_page above v
+kind_fragment above kind.Word v = word_operand v
+kind_fragment above kind.Distance v = Distance v
+
+abbrev pub row_fragments : List Definition → Row → List Value → List Fragment
+row_fragments above (row.One pattern kind) (v ∷ []) = kind_fragment above kind v ∷ []
+row_fragments above (row.Two first second) (v ∷ w ∷ []) = kind_fragment above first v ∷ kind_fragment above second w ∷ []
+row_fragments above _ _ = []
+
+-- what stands after the opcode in a mode
 abbrev pub mode_fragments : List Definition → Mode → List Value → List Fragment
-mode_fragments above Imm (v ∷ []) = Single v ∷ []
-mode_fragments above Zp (v ∷ []) = zero_page above v ∷ []
-mode_fragments above Zpx (v ∷ []) = zero_page above v ∷ []
-mode_fragments above Zpy (v ∷ []) = zero_page above v ∷ []
-mode_fragments above Abs (v ∷ []) = word_operand v ∷ []
-mode_fragments above Absx (v ∷ []) = word_operand v ∷ []
-mode_fragments above Absy (v ∷ []) = word_operand v ∷ []
-mode_fragments above Ind (v ∷ []) = word_operand v ∷ []
-mode_fragments above Indx (v ∷ []) = zero_page above v ∷ []
-mode_fragments above Indy (v ∷ []) = zero_page above v ∷ []
-mode_fragments above Zpind (v ∷ []) = zero_page above v ∷ []
-mode_fragments above Absindx (v ∷ []) = word_operand v ∷ []
-mode_fragments above Rel (v ∷ []) = Distance v ∷ []
-mode_fragments above Zprel (v ∷ w ∷ []) = zero_page above v ∷ Distance w ∷ []
-mode_fragments above _ _ = []
+mode_fragments above m vs = row_fragments above (row_of m) vs
 
 -- The fragments are those of one mode of the form. If the mnemonic has a zero-page and an absolute mode that are written so, it is
 -- the one of the operand's size.

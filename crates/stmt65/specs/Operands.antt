@@ -1,7 +1,11 @@
--- How the operands of an instruction are written in each mode.
-use Rattle.std.specs.Prelude.{ℕ, Bool, true, false, List, [], ◌++◌, codes, ◌==◌, if◌then◌else◌}
+-- How the operands of an instruction are written: as the pattern of the mode, with the expressions in it.
+use Rattle.std.specs.Prelude.{ℕ, Bool, true, false, List, [], ◌∷◌, ◌++◌, codes, ◌==◌, if◌then◌else◌}
+use Rattle.isa65.specs.Mode.{expression, row_of, row_text}
 use Rattle.isa65.specs.declared.mode.Mode.{Mode}
-use Rattle.isa65.specs.declared.mode.Mode.TheVariants.{Imp, Acc, Imm, Zp, Zpx, Zpy, Abs, Absx, Absy, Ind, Indx, Indy, Zpind, Absindx, Rel, Zprel}
+use Rattle.isa65.specs.declared.row.OperandKind.{OperandKind}
+use Rattle.isa65.specs.declared.row.OperandKind.TheVariants.{Byte, ZeroPage, Word, Distance}
+use Rattle.isa65.specs.declared.row.Row.{Row}
+use Rattle.isa65.specs.declared.row.Row.TheVariants.{One, Two}
 use Rattle.stmt65.specs.Digits.{hex2, hex4, offset_text}
 use Rattle.stmt65.specs.Views.{ExprView, OperandsView}
 use Rattle.stmt65.specs.Views as view
@@ -20,33 +24,34 @@ abbrev pub long_text : Bool → ExprView → List ℕ
 long_text hexoffs (view.number n) = hex4 n
 long_text hexoffs (view.name name offset) = named_text hexoffs name offset
 
+-- an operand of a kind: a word and the target of a distance have four digits
+abbrev pub kind_text : Bool → OperandKind → ExprView → List ℕ
+kind_text hexoffs Byte e = short_text hexoffs e
+kind_text hexoffs ZeroPage e = short_text hexoffs e
+kind_text hexoffs Word e = long_text hexoffs e
+kind_text hexoffs Distance e = long_text hexoffs e
+
+-- the operands of a row, if they are as many as it writes
+abbrev pub kind_texts : Bool → Row → OperandsView → List (List ℕ)
+kind_texts hexoffs (One pattern kind) (view.one e) = kind_text hexoffs kind e ∷ []
+kind_texts hexoffs (Two first second) (view.two e f) = kind_text hexoffs first e ∷ kind_text hexoffs second f ∷ []
+kind_texts hexoffs _ _ = []
+
 -- the prefix that makes an operand absolute
 abbrev pub prefix_text : Bool → List ℕ
 prefix_text true = codes "a:"
 prefix_text false = []
 
--- the operand of a mode that takes no expression
-abbrev pub bare_text : Mode → List ℕ
-bare_text Acc = codes "a"
-bare_text _ = []
+-- a pattern with the next of the texts in place of each E
+abbrev pub in_pattern : List ℕ → List (List ℕ) → List ℕ
+in_pattern [] texts = []
+in_pattern (c ∷ pattern) [] = c ∷ in_pattern pattern []
+in_pattern (c ∷ pattern) (t ∷ texts) = if c == expression then t ++ in_pattern pattern texts else c ∷ in_pattern pattern (t ∷ texts)
 
--- The operands of an instruction in its mode, if they are as many as the mode writes. h says whether offsets have hex digits,
--- `absolute` whether `a:` stands before the expression.
+abbrev pub row_operands : Bool → Row → Bool → OperandsView → List ℕ
+row_operands hexoffs row absolute operands = prefix_text absolute ++ in_pattern (row_text row) (kind_texts hexoffs row operands)
+
+-- The operands of an instruction in its mode. `hexoffs` says whether offsets have hex digits, `absolute` whether `a:` stands before
+-- them.
 unfoldable pub operand_text : Bool → Mode → Bool → OperandsView → List ℕ
-operand_text h Imp absolute view.none = []
-operand_text h Acc absolute view.none = codes "a"
-operand_text h Imm absolute (view.one e) = codes "#" ++ short_text h e
-operand_text h Zp absolute (view.one e) = short_text h e
-operand_text h Zpx absolute (view.one e) = short_text h e ++ codes ",x"
-operand_text h Zpy absolute (view.one e) = short_text h e ++ codes ",y"
-operand_text h Abs absolute (view.one e) = prefix_text absolute ++ long_text h e
-operand_text h Absx absolute (view.one e) = prefix_text absolute ++ long_text h e ++ codes ",x"
-operand_text h Absy absolute (view.one e) = prefix_text absolute ++ long_text h e ++ codes ",y"
-operand_text h Ind absolute (view.one e) = codes "(" ++ long_text h e ++ codes ")"
-operand_text h Indx absolute (view.one e) = codes "(" ++ short_text h e ++ codes ",x)"
-operand_text h Indy absolute (view.one e) = codes "(" ++ short_text h e ++ codes "),y"
-operand_text h Zpind absolute (view.one e) = codes "(" ++ short_text h e ++ codes ")"
-operand_text h Absindx absolute (view.one e) = codes "(" ++ long_text h e ++ codes ",x)"
-operand_text h Rel absolute (view.one e) = long_text h e
-operand_text h Zprel absolute (view.two e f) = short_text h e ++ codes "," ++ long_text h f
-operand_text _ _ _ _ = []
+operand_text hexoffs m absolute operands = row_operands hexoffs (row_of m) absolute operands

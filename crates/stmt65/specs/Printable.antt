@@ -1,8 +1,12 @@
 -- What a caller of `put_line` keeps: the limits within which a line has at most 512 bytes and reads as its statement.
-use Rattle.std.specs.Prelude.{◌≡◌, ℕ, ◌%◌, ◌<◌, ◌≤◌, Bool, true, false, not, List, length, ◌==◌, Option, Some, None}
+use Rattle.std.specs.Prelude.{◌≡◌, ℕ, ◌%◌, ◌<◌, ◌≤◌, Bool, true, not, List, length, ◌==◌, Option, Some, None, IsSome}
 use Rattle.std.specs.List.{list_all}
+use Rattle.isa65.specs.Mode.{row_of, zero_page_of}
 use Rattle.isa65.specs.declared.mode.Mode.{Mode}
-use Rattle.isa65.specs.declared.mode.Mode.TheVariants.{Imp, Acc, Imm, Zp, Zpx, Zpy, Abs, Absx, Absy, Ind, Indx, Indy, Zpind, Absindx, Rel, Zprel}
+use Rattle.isa65.specs.declared.row.OperandKind.{OperandKind}
+use Rattle.isa65.specs.declared.row.OperandKind.TheVariants.{Byte, ZeroPage, Word, Distance}
+use Rattle.isa65.specs.declared.row.Row.{Row}
+use Rattle.isa65.specs.declared.row.Row.TheVariants.{Implied, Accumulator, One, Two}
 use Rattle.stmt65.specs.declared.printing.columns.Columns.{Columns}
 use Rattle.stmt65.specs.Columns.{fits_label}
 use Rattle.stmt65.specs.declared.directive.Directive.{Directive}
@@ -30,32 +34,27 @@ abbrev pub IsLong : ExprView → Type 0
 IsLong (view.number n) = Unit {0}
 IsLong (view.name name offset) = IsNameLong name
 
+-- what can be an operand of a kind
+abbrev pub IsOperand : OperandKind → ExprView → Type 0
+IsOperand Byte e = IsByte e
+IsOperand ZeroPage e = IsShort e
+IsOperand Word e = IsLong e
+IsOperand Distance e = IsLong e
+
+abbrev pub AreOperands : Row → OperandsView → Type 0
+AreOperands Implied view.none = Unit {0}
+AreOperands Accumulator view.none = Unit {0}
+AreOperands (One pattern kind) (view.one e) = IsOperand kind e
+AreOperands (Two first second) (view.two e f) = IsOperand first e × IsOperand second f
+AreOperands _ _ = ⊥
+
 -- The operands are as many as the mode writes, and can stand there.
 abbrev pub IsWrittenIn : Mode → OperandsView → Type 0
-IsWrittenIn Imp view.none = Unit {0}
-IsWrittenIn Acc view.none = Unit {0}
-IsWrittenIn Imm (view.one e) = IsByte e
-IsWrittenIn Zp (view.one e) = IsShort e
-IsWrittenIn Zpx (view.one e) = IsShort e
-IsWrittenIn Zpy (view.one e) = IsShort e
-IsWrittenIn Abs (view.one e) = IsLong e
-IsWrittenIn Absx (view.one e) = IsLong e
-IsWrittenIn Absy (view.one e) = IsLong e
-IsWrittenIn Ind (view.one e) = IsLong e
-IsWrittenIn Indx (view.one e) = IsShort e
-IsWrittenIn Indy (view.one e) = IsShort e
-IsWrittenIn Zpind (view.one e) = IsShort e
-IsWrittenIn Absindx (view.one e) = IsLong e
-IsWrittenIn Rel (view.one e) = IsLong e
-IsWrittenIn Zprel (view.two e f) = IsShort e × IsLong f
-IsWrittenIn _ _ = ⊥
+IsWrittenIn m operands = AreOperands (row_of m) operands
 
--- `a:` stands in the absolute modes alone
+-- `a:` stands only in a mode with a zero-page mode that is written alike
 abbrev pub MayBeForced : Mode → Bool → Type 0
-MayBeForced Abs absolute = Unit {0}
-MayBeForced Absx absolute = Unit {0}
-MayBeForced Absy absolute = Unit {0}
-MayBeForced _ absolute = absolute ≡ false
+MayBeForced m absolute = absolute ≡ true → IsSome (zero_page_of m)
 
 -- a line of a table has an entry at least, whole entries, and at most 8 bytes
 abbrev pub IsTable : Directive → List ℕ → Type 0

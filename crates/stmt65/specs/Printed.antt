@@ -2,8 +2,12 @@
 use Rattle.std.specs.Prelude.{◌≡◌, ℕ, Bool, true, false, not, List, [], ◌∷◌, ◌++◌, map, Option, Some, None, ◌==◌}
 use Rattle.std.specs.List.{list_all}
 use Rattle.isa65.specs.Cpu.{cpu_text}
+use Rattle.isa65.specs.Mode.{row_of}
 use Rattle.isa65.specs.declared.mode.Mode.{Mode}
-use Rattle.isa65.specs.declared.mode.Mode.TheVariants.{Acc, Imm, Zp, Zpx, Zpy, Abs, Absx, Absy, Ind, Indx, Indy, Zpind, Absindx, Rel, Zprel}
+use Rattle.isa65.specs.declared.row.Pattern.{Pattern}
+use Rattle.isa65.specs.declared.row.Pattern.TheVariants as pattern
+use Rattle.isa65.specs.declared.row.Row.{Row}
+use Rattle.isa65.specs.declared.row.Row.TheVariants as row
 use Rattle.text65.specs.Names.{has_name_form}
 use Rattle.stmt65.specs.SourceLine.{Value, NumberValue, NameValue, Form, Empty, Accumulator, Immediate, Direct, DirectX, DirectY, Two, Indirect, IndirectX, IndirectY, NumberDatum, Nothing, Instr, Data, Values, Segment, Code, SetCpu, SourceLine, Assignment, PlaceAssignment, Statement}
 use Rattle.stmt65.specs.declared.directive.Directive.{Directive}
@@ -27,24 +31,25 @@ abbrev pub address_size : Bool → AddressSize
 address_size true = Absolute
 address_size false = Automatic
 
--- the written form of an operand in its mode; `absolute` says whether `a:` stands before the expression
+-- an operand in a pattern; `size` says whether `a:` stands before it
+abbrev pub pattern_form : Pattern → AddressSize → Value → Form
+pattern_form pattern.Immediate size v = Immediate v
+pattern_form pattern.Direct size v = Direct size v
+pattern_form pattern.DirectX size v = DirectX size v
+pattern_form pattern.DirectY size v = DirectY size v
+pattern_form pattern.Indirect size v = Indirect v
+pattern_form pattern.IndirectX size v = IndirectX v
+pattern_form pattern.IndirectY size v = IndirectY v
+
+abbrev pub row_form : Row → AddressSize → OperandsView → Form
+row_form row.Accumulator size view.none = Accumulator
+row_form (row.One pattern kind) size (view.one e) = pattern_form pattern size (source_value e)
+row_form (row.Two first second) size (view.two e f) = Two (source_value e) (source_value f)
+row_form _ size _ = Empty
+
+-- the written form of the operands in their mode; `absolute` says whether `a:` stands before them
 unfoldable pub source_form : Mode → Bool → OperandsView → Form
-source_form Acc absolute view.none = Accumulator
-source_form Imm absolute (view.one e) = Immediate (source_value e)
-source_form Zp absolute (view.one e) = Direct Automatic (source_value e)
-source_form Zpx absolute (view.one e) = DirectX Automatic (source_value e)
-source_form Zpy absolute (view.one e) = DirectY Automatic (source_value e)
-source_form Abs absolute (view.one e) = Direct (address_size absolute) (source_value e)
-source_form Absx absolute (view.one e) = DirectX (address_size absolute) (source_value e)
-source_form Absy absolute (view.one e) = DirectY (address_size absolute) (source_value e)
-source_form Ind absolute (view.one e) = Indirect (source_value e)
-source_form Indx absolute (view.one e) = IndirectX (source_value e)
-source_form Indy absolute (view.one e) = IndirectY (source_value e)
-source_form Zpind absolute (view.one e) = Indirect (source_value e)
-source_form Absindx absolute (view.one e) = IndirectX (source_value e)
-source_form Rel absolute (view.one e) = Direct Automatic (source_value e)
-source_form Zprel absolute (view.two e f) = Two (source_value e) (source_value f)
-source_form _ _ _ = Empty
+source_form m absolute operands = row_form (row_of m) (address_size absolute) operands
 
 -- an entry of a table
 abbrev pub entry_value : Directive → List ℕ → Value

@@ -2,6 +2,7 @@
 use Rattle.std.specs.Prelude.{◌≡◌, ◌⊎◌, ℕ, true, List, [], ◌∷◌, ◌++◌, codes, ◌==◌, if◌then◌else◌, Some, None}
 use Rattle.std.specs.Char.{is_ascii_alphabetic}
 use Rattle.isa65.specs.Mnemonic.{text_of}
+use Rattle.isa65.specs.Mode.{expression}
 use Rattle.text65.specs.Names.{has_name_form}
 use Rattle.stmt65.specs.Signs.{star, plus, comma, minus, colon}
 use Rattle.stmt65.specs.declared.source_line.AddressSize.{AddressSize}
@@ -9,7 +10,7 @@ use Rattle.stmt65.specs.declared.source_line.AddressSize.TheVariants.{Absolute, 
 use Rattle.stmt65.specs.declared.source_line.Minus.{Minus}
 use Rattle.stmt65.specs.declared.source_line.Minus.TheVariants.{Zero, One}
 use Rattle.stmt65.specs.SourceLine.{Value, NumberValue, NameValue, Form, Datum, NumberDatum, StringDatum, Operation, Nothing, Instr, Data, Values, Segment, Code, SetCpu, SourceLine, Assignment, PlaceAssignment, Statement}
-use Rattle.stmt65.specs.Forms.{form_text, form_values, form_size, expression}
+use Rattle.stmt65.specs.Forms.{form_text, form_values, form_size}
 use Rattle.stmt65.specs.Parts.{Part, Word, Number, Text, Define, Mark, number_of}
 use Rattle.stmt65.specs.Directives.{directive_text}
 use Rattle.stmt65.specs.Names.{same, is_name}

@@ -32,9 +32,7 @@ pub use directive::Directive;
 pub use laws::meaning_laws::{
     codes_alike, finds_lowest_fault, means_first_fault, means_its_lines, takes_modes,
 };
-pub use laws::reading_laws::{
-    cuts_texts, prints_patterns, reads_lines, reads_spellings, spells_one, takes_parts,
-};
+pub use laws::reading_laws::{cuts_texts, reads_lines, reads_spellings, spells_one, takes_parts};
 pub use printing::columns::{Column, Columns, LabelBreak, Level, LimitError, Within};
 pub use printing::line::{Line, put_line};
 pub use printing::remarks::Remarks;

@@ -1,23 +1,23 @@
 //! The statement of a group.
 
-ghost use Rattle.std.specs.Prelude.{◌≡◌, ◌≢◌, ◌+◌, ◌<◌, ◌≤◌, ℕ, [], Some, is_some, length, true};
+ghost use Rattle.std.specs.Prelude.{◌≡◌, ◌≢◌, ◌+◌, ◌*◌, ◌<◌, ◌≤◌, ℕ, [], Some, is_some, length, slice_index, true};
 ghost use Rattle.info65.specs.Names.{AreNames};
-ghost use Rattle.isa65.specs.Mode.{len_of};
+ghost use Rattle.isa65.specs.Mode.{len_of, row_len, size_of};
 ghost use Rattle.isa65.specs.Opcodes.{Table};
+ghost use Rattle.isa65.specs.declared.row.Row.TheVariants.{Two};
 ghost use Rattle.map65.specs.Targets.{entry_of, target_of};
-ghost use Rattle.stmt65.specs.Printable.{IsPrintable, IsWrittenIn};
+ghost use Rattle.stmt65.specs.Printable.{AreOperands, IsOperand, IsPrintable, IsWrittenIn};
 ghost use Rattle.stmt65.specs.SourceLine.{is_absolute};
 ghost use Rattle.stmt65.specs.Code.StatementViews.{expr_seen, operands_seen, statement_seen};
-ghost use Rattle.stmt65.specs.Views.{one};
 ghost use Rattle.da65.specs.BaseNames.{Names, names_of};
 ghost use Rattle.da65.specs.Code.WrittenOps.{IsWrittenOp};
 ghost use Rattle.da65.specs.Instructions.{instruction_in};
 ghost use Rattle.da65.specs.Shapes.{IsGroupOf};
-ghost use Rattle.da65.specs.Statements.{address_entry, is_forced, numbers, operands_of, return_entry, statement_for, statement_in};
+ghost use Rattle.da65.specs.Statements.{address_entry, is_forced, numbers, operand_expr, operands_of, return_entry, row_operands, statement_for, statement_in};
 
 use crate::listing::base_names::{address_expr, target, zero_page_expr};
 use info65::{Entry, RangeType};
-use isa65::{ByteOrder, Mode, Op, OpcodeSet};
+use isa65::{ByteOrder, Mode, Op, OpcodeSet, OperandKind, Row};
 use map65::{Map, NameBuf, target_of, word_of};
 use std::alloc::Allocator;
 use stmt65::{AddressSize, Expr, Operands, Statement};
@@ -55,6 +55,38 @@ fn instruction_in<S: OpcodeSet>(set: &S, bytes: &[u8]) -> Option<Op>
     }
 }
 
+/// Whether an operand of this kind, whose bytes begin at an index, has an expression: the target of a distance may lie outside the
+/// address space.
+#[inline(always)]
+fn has_expr(kind: OperandKind, next: u32, at: usize, bytes: &[u8]) -> bool
+    requires all { at + size_of kind ≤ length bytes.now }
+    requires room { next ≤ 65536 }
+    ensures { (names : Names) → result ≡ is_some (operand_expr names kind next at bytes.now) }
+{
+    match kind {
+        OperandKind::Distance => target_of(next, bytes[at]).is_some(),
+        OperandKind::Byte | OperandKind::ZeroPage | OperandKind::Word => true,
+    }
+}
+
+/// Whether each operand of a row has an expression.
+#[inline(always)]
+#[tactic(auto, using(crate::proofs::WrittenLaws::one_some, crate::proofs::WrittenLaws::both_some))]
+fn has_operands(row: Row, next: u32, bytes: &[u8]) -> bool
+    requires all { row_len row ≤ length bytes.now }
+    requires room { next ≤ 65536 }
+    ensures { (names : Names) → result ≡ is_some (row_operands names row next bytes.now) }
+{
+    match row {
+        Row::Implied | Row::Accumulator => true,
+        Row::One(_, kind) => has_expr(kind, next, 1, bytes),
+        Row::Two(first, second) => {
+            has_expr(first, next, 1, bytes)
+                && has_expr(second, next, 1 + usize::from(first.size()), bytes)
+        }
+    }
+}
+
 /// Whether the target of an instruction in this mode at this address lies in the address space, if it has one.
 #[inline(always)]
 #[tactic(auto, unfolding(crate::specs::Statements::operands_of))]
@@ -63,11 +95,11 @@ fn is_in_reach(mode: Mode, address: u16, bytes: &[u8]) -> bool
     requires room { address + length bytes.now ≤ 65536 }
     ensures { (names : Names) → result ≡ is_some (operands_of names mode address bytes.now) }
 {
-    match mode {
-        Mode::Rel => target_of(u32::from(address) + 2, bytes[1]).is_some(),
-        Mode::Zprel => target_of(u32::from(address) + 3, bytes[2]).is_some(),
-        _ => true,
-    }
+    has_operands(
+        mode.row(),
+        u32::from(address) + u32::from(mode.len()),
+        bytes,
+    )
 }
 
 /// The instruction that an item of code at this address is written as. None if its opcode is undefined, or if the target of the
@@ -97,64 +129,97 @@ fn branch_target(next: u32, offset: u8) -> u16
     }
 }
 
-/// The operand of an instruction in this mode, which writes one, at this address.
+/// The word whose bytes begin at an index, low byte first.
+fn word_at(bytes: &[u8], at: usize) -> u16
+    requires { at + 2 ≤ length bytes.now }
+    ensures { result ≡ slice_index bytes.now at + 256 * slice_index bytes.now (at + 1) }
+{
+    u16::from(bytes[at]) + 256 * u16::from(bytes[at + 1])
+}
+
+/// The operand of this kind whose bytes begin at an index; `next` is the address after the instruction.
 #[inline(never)]
-#[tactic(auto, unfolding(crate::specs::Statements::operands_of))]
-fn operand_of<'n, A: Allocator>(
+fn operand_expr<'n, A: Allocator>(
     map: &Map<'_, A>,
-    mode: Mode,
-    address: u16,
+    kind: OperandKind,
+    next: u32,
+    at: usize,
     bytes: &[u8],
     name: &'n mut NameBuf,
 ) -> Expr<'n>
     requires names { AreNames map.now.info.names }
-    requires all { len_of mode ≤ length bytes.now }
-    requires room { address + length bytes.now ≤ 65536 }
-    requires inside { is_some (operands_of (names_of map.now) mode address bytes.now) ≡ true }
-    requires implied { mode ≢ Mode.Imp }
-    requires accumulator { mode ≢ Mode.Acc }
-    requires two { mode ≢ Mode.Zprel }
-    ensures value { Some (one (expr_seen result)) ≡ operands_of (names_of map.now) mode address bytes.now }
-    ensures written { IsWrittenIn mode (one (expr_seen result)) }
+    requires all { at + size_of kind ≤ length bytes.now }
+    requires room { next ≤ 65536 }
+    requires inside { is_some (operand_expr (names_of map.now) kind next at bytes.now) ≡ true }
+    ensures value { Some (expr_seen result) ≡ operand_expr (names_of map.now) kind next at bytes.now }
+    ensures written { IsOperand kind (expr_seen result) }
 {
-    match mode {
-        Mode::Imp | Mode::Acc | Mode::Zprel => unreachable!(),
-        Mode::Imm => Expr::Number(u16::from(bytes[1])),
-        Mode::Abs | Mode::Absx | Mode::Absy | Mode::Ind | Mode::Absindx => {
-            address_expr(map, word_of(bytes), name)
-        }
-        Mode::Rel => {
-            let target = branch_target(u32::from(address) + 2, bytes[1]);
-            address_expr(map, target, name)
-        }
-        Mode::Zp | Mode::Zpx | Mode::Zpy | Mode::Indx | Mode::Indy | Mode::Zpind => {
-            zero_page_expr(map, bytes[1], name)
-        }
+    match kind {
+        OperandKind::Byte => Expr::Number(u16::from(bytes[at])),
+        OperandKind::ZeroPage => zero_page_expr(map, bytes[at], name),
+        OperandKind::Word => address_expr(map, word_at(bytes, at), name),
+        OperandKind::Distance => address_expr(map, branch_target(next, bytes[at]), name),
     }
 }
 
-/// The operands of a branch on a bit at this address: the byte that it tests, and its target.
+/// Two operands, of these kinds.
 #[inline(never)]
-#[tactic(auto, unfolding(crate::specs::Statements::operands_of))]
-fn bit_branch_operands<'n, A: Allocator>(
+#[tactic(auto, using(crate::proofs::WrittenLaws::are_both))]
+fn two_operands<'n, A: Allocator>(
     map: &Map<'_, A>,
-    address: u16,
+    first: OperandKind,
+    second: OperandKind,
+    next: u32,
     bytes: &[u8],
     names: &'n mut OperandNames,
 ) -> Operands<'n>
     requires names { AreNames map.now.info.names }
-    requires all { 3 ≤ length bytes.now }
-    requires room { address + length bytes.now ≤ 65536 }
-    requires inside { is_some (operands_of (names_of map.now) Mode.Zprel address bytes.now) ≡ true }
-    ensures value { Some (operands_seen result) ≡ operands_of (names_of map.now) Mode.Zprel address bytes.now }
-    ensures written { IsWrittenIn Mode.Zprel (operands_seen result) }
+    requires all { row_len (Two first second) ≤ length bytes.now }
+    requires room { next ≤ 65536 }
+    requires inside { is_some (row_operands (names_of map.now) (Two first second) next bytes.now) ≡ true }
+    ensures value { Some (operands_seen result) ≡ row_operands (names_of map.now) (Two first second) next bytes.now }
+    ensures written { AreOperands (Two first second) (operands_seen result) }
 {
-    let target = branch_target(u32::from(address) + 3, bytes[2]);
-    let tested = zero_page_expr(map, bytes[1], &mut names.first);
-    Operands::Two(tested, address_expr(map, target, &mut names.second))
+    let at = 1 + usize::from(first.size());
+    let tested = operand_expr(map, first, next, 1, bytes, &mut names.first);
+    Operands::Two(
+        tested,
+        operand_expr(map, second, next, at, bytes, &mut names.second),
+    )
 }
 
-/// The operands of an instruction in this mode at this address, with the names of their addresses.
+/// The operands of a row, with the names of their addresses.
+#[inline(always)]
+#[tactic(auto, using(crate::proofs::WrittenLaws::is_one))]
+fn row_operands<'n, A: Allocator>(
+    map: &Map<'_, A>,
+    row: Row,
+    next: u32,
+    bytes: &[u8],
+    names: &'n mut OperandNames,
+) -> Operands<'n>
+    requires names { AreNames map.now.info.names }
+    requires all { row_len row ≤ length bytes.now }
+    requires room { next ≤ 65536 }
+    requires inside { is_some (row_operands (names_of map.now) row next bytes.now) ≡ true }
+    ensures value { Some (operands_seen result) ≡ row_operands (names_of map.now) row next bytes.now }
+    ensures written { AreOperands row (operands_seen result) }
+{
+    match row {
+        Row::Implied | Row::Accumulator => Operands::None,
+        Row::One(_, kind) => Operands::One(operand_expr(
+            map,
+            kind,
+            next,
+            1,
+            bytes,
+            &mut names.first,
+        )),
+        Row::Two(first, second) => two_operands(map, first, second, next, bytes, names),
+    }
+}
+
+/// The operands of an instruction in this mode at this address.
 #[inline(always)]
 #[tactic(auto, unfolding(crate::specs::Statements::operands_of))]
 fn operands_of<'n, A: Allocator>(
@@ -171,11 +236,8 @@ fn operands_of<'n, A: Allocator>(
     ensures value { Some (operands_seen result) ≡ operands_of (names_of map.now) mode address bytes.now }
     ensures written { IsWrittenIn mode (operands_seen result) }
 {
-    match mode {
-        Mode::Imp | Mode::Acc => Operands::None,
-        Mode::Zprel => bit_branch_operands(map, address, bytes, names),
-        _ => Operands::One(operand_of(map, mode, address, bytes, &mut names.first)),
-    }
+    let next = u32::from(address) + u32::from(mode.len());
+    row_operands(map, mode.row(), next, bytes, names)
 }
 
 /// Whether `a:` stands before the operand: an assembler would take the zero-page mode without it.
@@ -184,8 +246,8 @@ fn is_forced<S: OpcodeSet>(set: &S, op: Op, bytes: &[u8]) -> bool
     requires { len_of op.mode ≤ length bytes.now }
     ensures { result ≡ is_forced (S.table set.now) op bytes.now }
 {
-    match op.mode {
-        Mode::Abs | Mode::Absx | Mode::Absy => word_of(bytes) < 256 && op.sibling(set).is_some(),
+    match op.mode.row() {
+        Row::One(_, OperandKind::Word) => word_of(bytes) < 256 && op.sibling(set).is_some(),
         _ => false,
     }
 }

@@ -2,7 +2,6 @@
 
 ghost use Rattle.stmt65.specs.ReadingLaws.{ReadsSpellings, SpellsOne, TakesParts, ReadsLines};
 ghost use Rattle.stmt65.specs.TableLaws.{CutsTexts};
-ghost use Rattle.stmt65.specs.PatternLaws.{PrintsPatterns};
 
 /// The parts of a line parse as a statement exactly when they are a source form of it.
 #[tactic(auto, using(crate::proofs::LineLemmas::reads_spellings))]
@@ -31,9 +30,4 @@ pub fn reads_lines()
 /// A text is cut into the longest stretches and the bytes between, and in no other way.
 pub fn cuts_texts()
     ensures { CutsTexts }
-{}
-
-/// What is printed of an operand is the pattern of its mode with the expressions in it.
-pub fn prints_patterns()
-    ensures { PrintsPatterns }
 {}

@@ -4,12 +4,12 @@ ghost use Rattle.std.specs.Prelude.{◌≡◌, ◌≤◌, ◌==◌, length, not}
 ghost use Rattle.std.specs.Bool.{OnTrue};
 ghost use Rattle.std.specs.List.{list_all};
 ghost use Rattle.std.specs.Option.{option_copied};
-ghost use Rattle.stmt65.specs.Printable.{IsByte, IsLong, IsNameLong, IsPrintable, IsShort, IsWrittenIn, MayBeForced, MayBeLabelled};
+ghost use Rattle.stmt65.specs.Printable.{AreOperands, IsByte, IsLong, IsNameLong, IsOperand, IsPrintable, IsShort, IsWrittenIn, MayBeForced, MayBeLabelled};
 ghost use Rattle.stmt65.specs.SourceLine.{is_absolute};
 ghost use Rattle.stmt65.specs.Code.StatementViews.{expr_seen, operands_seen, statement_seen};
 
 use crate::tests::asserts::assert_that;
-use isa65::{Mnemonic, Mode, Op};
+use isa65::{Mnemonic, Mode, Op, OperandKind, Row};
 use std::alloc::Global;
 use std::process::Abort;
 use stmt65::{AddressSize, Columns, Expr, Line, Operands, Remarks, Statement, put_line};
@@ -56,34 +56,44 @@ fn is_long(operand: &Expr) -> bool
     }
 }
 
-fn is_written_in(mode: Mode, operands: &Operands) -> bool
-    ensures { OnTrue result (IsWrittenIn mode (operands_seen operands.now)) }
+fn is_operand(kind: OperandKind, operand: &Expr) -> bool
+    ensures { OnTrue result (IsOperand kind (expr_seen operand.now)) }
+{
+    match kind {
+        OperandKind::Byte => is_byte(operand),
+        OperandKind::ZeroPage => is_short(operand),
+        OperandKind::Word | OperandKind::Distance => is_long(operand),
+    }
+}
+
+fn are_operands(row: Row, operands: &Operands) -> bool
+    ensures { OnTrue result (AreOperands row (operands_seen operands.now)) }
 {
     match operands {
-        Operands::None => matches!(mode, Mode::Imp | Mode::Acc),
-        Operands::One(operand) => match mode {
-            Mode::Imm => is_byte(operand),
-            Mode::Zp | Mode::Zpx | Mode::Zpy | Mode::Indx | Mode::Indy | Mode::Zpind => {
-                is_short(operand)
-            }
-            Mode::Abs | Mode::Absx | Mode::Absy | Mode::Ind | Mode::Absindx | Mode::Rel => is_long(
-                operand,
-            ),
-            Mode::Imp | Mode::Acc | Mode::Zprel => false,
+        Operands::None => matches!(row, Row::Implied | Row::Accumulator),
+        Operands::One(operand) => match row {
+            Row::One(_, kind) => is_operand(kind, operand),
+            _ => false,
         },
-        Operands::Two(first, second) => match mode {
-            Mode::Zprel => is_short(first) && is_long(second),
+        Operands::Two(first, second) => match row {
+            Row::Two(tested, target) => is_operand(tested, first) && is_operand(target, second),
             _ => false,
         },
     }
 }
 
+fn is_written_in(mode: Mode, operands: &Operands) -> bool
+    ensures { OnTrue result (IsWrittenIn mode (operands_seen operands.now)) }
+{
+    are_operands(mode.row(), operands)
+}
+
 fn may_be_forced(mode: Mode, size: AddressSize) -> bool
     ensures { OnTrue result (MayBeForced mode (is_absolute size)) }
 {
-    match mode {
-        Mode::Abs | Mode::Absx | Mode::Absy => true,
-        _ => size == AddressSize::Automatic,
+    match size {
+        AddressSize::Absolute => mode.zero_page().is_some(),
+        AddressSize::Automatic => true,
     }
 }
 
