@@ -44,7 +44,7 @@ use Rattle.da65.proofs.EntryLemmas.{address_bytes, few_entries, number_small, nu
 use Rattle.da65.proofs.FragmentLaws.{target_is}
 use Rattle.da65.proofs.NameTexts.{IsNameText}
 use Rattle.da65.proofs.TargetBounds.{byte-small, entry-small}
-use Rattle.da65.proofs.StandsLaws.{begins_with}
+use Rattle.da65.proofs.StandsLaws.{at_some, begins_with}
 use Rattle.da65.proofs.WrittenLaws.{AreAll, may_be_forced, of_each}
 use Rattle.map65.proofs.Public.{len-positive}
 
