@@ -94,8 +94,6 @@ rm ./-
 # ---- faults of a listing
 
 refuses 'a line that is none' ' nop\n rts2\n' 2 "$no_line"
-refuses 'half of an address' 'put := $1234\n lda #<put\n' 2 "$no_line"
-refuses 'a table of low bytes' 'put := $1234\n.lobytes put\n' 2 "$no_line"
 refuses 'an expression' 'put := $1234\n lda put*2\n' 2 "$no_line"
 refuses 'a label of a reserved name' 'lda: rts\n' 1 "$no_line"
 refuses 'a carriage return' ' rts\r\n' 1 "$no_line"
@@ -108,6 +106,40 @@ refuses 'a value out of range' ' lda #$100\n' 1 'value out of range'
 refuses 'a branch out of range' ' bne far\n.segment "S"\nfar := $2000\n' 1 'value out of range'
 runs 'past the end of the address space' 1 '' 'as65: three.s:6: past the end of the address space\n' -S 0xFFFE -o out.bin three.s
 runs 'more than 64 KiB' 1 '' 'as65: large.s:65536: past the end of the address space\n' -S 1 large.s
+
+# ---- halves of values
+
+gives 'halves' 'put := $1234\n lda #<put ; low\n ldx # >put\n .byte <put,"<;,", > put,1\n' '\xa9\x34\xa2\x12\x34<;,\x12\x01' -S 0x1000
+gives 'tables of halves' 'put := $1234\nlow: .lobytes put,low-1,put+$CD,$1FF ; <\nhigh:.HiBytes put, high+1-1 ,put+$CD\n' '\x34\xff\x01\xff\x12\x10\x13' -S 0x1000
+gives 'halves of a later name' ' lda #<later\n ldx #>later\n ldy #<later-1\n .byte <later+1-1\nlater: nop\n' '\xa9\x02\xa2\x11\xa0\x01\x02\xea' -S 0x10FB
+gives 'halves of sums in parentheses' ' lda #>(later-1)\n pha\n lda #<(later-1)\nlater: .byte >(later+$FF),<( $1234 )\n' '\xa9\x10\x48\xa9\xff\x11\x34' -S 0x10FB
+gives 'a half is one byte' 'zp := $12\n lda #<zp\n lda zp\nhere: jmp here\n' '\xa9\x12\xa5\x12\x4c\x04\x10' -S 0x1000
+gives 'lines with and without halves' ' nop\n .byte >far\n .byte ">"\nfar: bne far' '\xea\x10>\xd0\xfe' -S 0x1000
+refuses 'a sum after >, which ca65 reads otherwise' 'put := $1234\n lda #>put+1\n' 2 "$no_line"
+refuses 'one less after >' 'put := $1234\n .byte >put-1\n' 2 "$no_line"
+refuses 'a half in a sum' 'put := $1234\n lda #put+<put\n' 2 "$no_line"
+refuses 'a half as an address' 'put := $1234\n lda <put\n' 2 "$no_line"
+refuses 'a half of .word' 'put := $1234\n .word <put\n' 2 "$no_line"
+refuses 'a half of a difference' 'put := $1234\n lda #<put-put\n' 2 "$no_line"
+refuses 'a half of a half' 'put := $1234\n .lobytes <put\n' 2 "$no_line"
+refuses 'half of nothing' ' nop\n lda #<\n' 2 "$no_line"
+refuses 'a table of nothing' ' .lobytes\n' 1 "$no_line"
+refuses 'a table that ends with a comma' ' .lobytes 1,\n' 1 "$no_line"
+refuses 'half of a reserved name' ' lda #<x\n' 1 "$no_line"
+refuses 'a half and a carriage return' ' lda #<1\r\n' 1 "$no_line"
+refuses 'a half of an undefined name' 'put := $1234\n lda #<pet\n' 2 'undefined name'
+refuses 'an undefined name in .byte' 'put := $1234\n .byte <put,>pet\n' 2 'undefined name'
+refuses 'a half of a value that has no room' ' nop\n .lobytes $FFFF,$10000\n' 2 'value out of range'
+refuses 'a half of a value below 0' 'zero := 0\n lda #<zero-1\n' 2 'value out of range'
+refuses 'the lowest kind of the halves of a line' ' .byte <$10000,<pet\n' 1 'undefined name'
+refuses 'a half before another fault' ' lda #<pet\n rts2\n' 1 'undefined name'
+refuses 'a half after another fault' ' jmp nowhere\n .byte <$10000\n' 1 'undefined name'
+refuses 'a half after a line that is none' ' rts2\n lda #<pet\n' 1 "$no_line"
+refuses 'a line that is none after one with halves' ' lda #<1\n rts2\n' 2 "$no_line"
+refuses 'an undefined half under a label that is defined twice' 'x1:\nx1: .byte <pet\n' 2 'undefined name'
+refuses 'a half out of range under a label that is defined twice' 'x1:\nx1: .byte <$10000\n' 2 'name defined twice'
+refuses 'a half of a form that the CPU lacks' ' stz #<pet\n' 1 'no such form'
+refuses 'a half out of range with others that are not' ' .byte <1,>$10000,<2\n' 1 'value out of range'
 
 # ---- a comparison
 
@@ -165,6 +197,11 @@ for image in /dev/stdin -; do
     ends "an image on standard input, $image" 1 $? 'as65: /dev/stdin is taken to begin at $FFFD\n'
     holds "an image on standard input, $image" stdout '$FFFE: 02 -> 01, line 5: lda     #$01\n'
 done
+printf 'put := $1234\n nop\n ; here\n lda #>put\n.lobytes put,put+1\n' >halves.s
+printf '\xea\xa9\x34\x34\x36' >halves.bin
+runs 'halves that differ' 1 '$1002: 34 -> 12, line 4: lda #>put\n$1004: 36 -> 35, line 5: .lobytes put,put+1\n' '' -S 0x1000 --compare halves.bin halves.s
+printf '\xea\xa9\x12\x34\x35' >halves.bin
+runs 'halves that do not differ' 0 '' '' -S 0x1000 --compare halves.bin halves.s
 runs 'a fault before a comparison' 2 '' "as65: three.s:6: past the end of the address space\n" -S 0xFFFE --compare short.bin three.s
 
 # ---- where the image is

@@ -1,7 +1,7 @@
 #!/usr/bin/env bash
 # Lists random images of each CPU with random ranges, names, segments, comments and columns, and every example, and assembles
 # each listing with the real ca65 and ld65 of cc65, and with as65, which stands beside the program: the result must be the image. Then
-# random texts, most of them right, go to both: where both give bytes, these are the same. The same seed gives the same images and texts.
+# random texts, most of them right and many with halves of values, go to both: where both give bytes, these are the same. The same seed gives the same images and texts.
 # Left out, since ca65 treats them in its own way: a segment named ZEROPAGE, and a byte $FF in a comment.
 # Without ca65 and ld65 it fails, unless CA65=skip is set.
 # Usage: tests/ca65.sh PROGRAM [COUNT [SEED]]
@@ -276,6 +276,31 @@ draw_value() {
     word=$value
 }
 
+# Sets `word` to a value with `<` or `>` before it. A sum after `>` needs parentheses, any other value may have them.
+draw_half() {
+    local sign
+    pick '<' '>' '< ' '> '
+    sign=$word
+    draw_value
+    draw 3
+    case $sign$word in
+    \>*[-+]*) number=0 ;;
+    esac
+    [ $number = 0 ] && word="($word)"
+    word=$sign$word
+}
+
+# Sets `line` to a statement with halves.
+draw_halves() {
+    local mnemonic
+    draw 3
+    case $number in
+    0) pick adc and cmp cpx cpy eor lda ldx ldy ora sbc; mnemonic=$word; draw_half; line="$mnemonic #$word" ;;
+    1) draw_half; line=".byte $word"; draw_half; line+=", $word,\"<;\","; draw_number 256; line+=$word ;;
+    2) pick .lobytes .hibytes .LoBytes .HIBYTES; line="$word "; draw_value; line+=$word; draw_value; line+=", $word" ;;
+    esac
+}
+
 # Sets `word` to an operand of `any_form`.
 draw_operand() {
     local size= form
@@ -299,8 +324,9 @@ draw_statement() {
     # Only the newer CPUs have these.
     pick 'bra here1' 'stz $10' 'lda ($20)' 'rmb3 $40' 'bbs7 $12,here1' 'inc a'
     newer=$word
-    draw 14
+    draw 16
     case $number in
+    14 | 15) draw_halves ;;
     0) draw_number 256; line=".byte $word"; draw_number 256; line+=", $word, \"A;b\"" ;;
     1) pick .word .addr .dbyt .dword .WORD; line="$word "; draw_value; line+=$word; draw_number 65536; line+=,$word ;;
     2) pick 6502 65SC02 65C02 65c02; line=".setcpu \"$word\"" ;;

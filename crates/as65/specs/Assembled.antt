@@ -7,7 +7,7 @@ use Rattle.stmt65.specs.declared.assembling.fault.AsmFaultKind.TheVariants as ki
 use Rattle.as65.specs.declared.failure.Failure.{Failure}
 use Rattle.as65.specs.declared.failure.Failure.TheVariants.{Memory, NoLine, Line}
 
--- a text, the address of its first byte, and the bytes that it means
+-- a text, which may have halves, the address of its first byte, and the bytes that it means
 pub record AssembledView : Type 0 where
   pub text : List ℕ
   pub start : ℕ

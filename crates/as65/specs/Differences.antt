@@ -9,6 +9,7 @@ use Rattle.stmt65.specs.Digits.{digits2}
 use Rattle.stmt65.specs.LineAddresses.{line_addresses, line_past}
 use Rattle.stmt65.specs.Meaning.{readings}
 use Rattle.as65.specs.Assembled.{AssembledView}
+use Rattle.as65.specs.Filled.{replaced}
 use Rattle.as65.specs.Stretches.{AreRuns, differs}
 use Rattle.as65.specs.declared.stretches.Stretch.{Stretch}
 
@@ -86,14 +87,14 @@ lengths_line had has = if had == has then [] else codes "the image has " ++ deci
 abbrev pub difference_lines : Compared → List Stretch → List ℕ
 difference_lines c found = flat_map (line_of c) found ++ lengths_line (length c.image) (length c.bytes)
 
--- an image and a listing as what is compared
+-- an image and a listing as what is compared; the lines are shown as they were given, and the listing that they stand for has one for each
 abbrev pub compared : ImageView → AssembledView → Compared
 compared image a = record {
   start = image.start;
   image = image.bytes;
   bytes = a.bytes;
   lines = text_lines a.text;
-  ends = line_addresses a.start (readings a.text);
+  ends = line_addresses a.start (readings (replaced a.start a.text));
 }
 
 -- the text has a line for each run of bytes that differ, in order, and one for lengths that differ

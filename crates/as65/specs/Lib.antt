@@ -3,6 +3,8 @@ pub mod Code
 pub mod Command
 pub mod Comparison
 pub mod Differences
+pub mod Filled
+pub mod Halves
 pub mod Image
 pub mod Information
 pub mod Origins

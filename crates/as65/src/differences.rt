@@ -203,7 +203,7 @@ pub fn differences(
     ensures { IfOk result (λ text. IsDifferences (compared image.now assembled.now) text.items) }
 {
     let found = stretches(alloc, image.bytes(), assembled.bytes())?;
-    let ends = line_addresses(alloc, assembled.text(), assembled.start())?;
+    let ends = line_addresses(alloc, assembled.listing(), assembled.start())?;
     let mut origins = Origins::new(assembled.text(), &ends);
     let mut out = Vec::new(alloc);
     put_all(&mut out, image, assembled.bytes(), &found, &mut origins)?;

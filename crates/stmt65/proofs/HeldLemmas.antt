@@ -47,7 +47,7 @@ is_some-held : (o : Option Definition) → is_some (option_map held_definition o
 is_some-held None = refl
 is_some-held (Some d) = refl
 
-is_known-held : (ds : List Definition) (v : Value) → is_known (map held_definition ds) v ≡ is_known ds v
+pub is_known-held : (ds : List Definition) (v : Value) → is_known (map held_definition ds) v ≡ is_known ds v
 unfolding is_known
 is_known-held ds (NumberValue n) = refl
 is_known-held ds (NameValue w n less) = rw (find_name-held w ds) (is_some-held (find_name w ds))
@@ -95,7 +95,7 @@ entry_far : (d : Directive) → IsFarBelow (entry_limit d)
 entry_far Word = omega arith
 entry_far _ = omega arith
 
-word_in-held : (ds : List Definition) (v : Value) → word_in (map held_definition ds) v ≡ word_in ds v
+pub word_in-held : (ds : List Definition) (v : Value) → word_in (map held_definition ds) v ≡ word_in ds v
 unfolding word_in
 word_in-held ds v = value_in-held 65536 word_far ds v
 

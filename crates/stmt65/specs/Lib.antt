@@ -24,6 +24,7 @@ pub mod Symbols
 pub mod Coding
 pub mod TableLaws
 pub mod Meaning
+pub mod Definitions
 pub mod Answer
 pub mod TextLaws
 pub mod LineAddresses

@@ -3,6 +3,7 @@
 pub(crate) mod addresses;
 pub(crate) mod assembler;
 mod coding;
+pub(crate) mod definitions;
 mod emit;
 mod entries;
 pub(crate) mod fault;

@@ -12,7 +12,8 @@
 //!
 //! `assembling`: [`assemble`] answers the bytes that a text means from a start, or its first fault. It
 //! goes over the lines twice: once for the names (`symbols`), once for the bytes (`coding`, `emit`).
-//! [`line_addresses`] returns the address after each line, which says which line gave a byte.
+//! [`line_addresses`] returns the address after each line, which says which line gave a byte, and [`Definitions`] the
+//! value of an expression by all names of a text.
 //!
 //! `laws`: that a line parses as a statement exactly when it is a source form of it, and what a text means.
 #![tactic(auto)]
@@ -27,6 +28,7 @@ mod statement;
 
 pub use assembling::addresses::line_addresses;
 pub use assembling::assembler::assemble;
+pub use assembling::definitions::Definitions;
 pub use assembling::fault::{AsmFault, AsmFaultKind};
 pub use directive::Directive;
 pub use laws::meaning_laws::{

@@ -40,7 +40,7 @@ pub fn pass_line<'a, 'b, A: Allocator>(
 
 /// The names that the text defines.
 #[tactic(auto, using(crate::proofs::PassLaws::finals))]
-fn names_of<'a, 'b, A: Allocator>(
+pub fn names_of<'a, 'b, A: Allocator>(
     alloc: &'b A,
     text: &'a [u8],
     start: u16,
