@@ -34,7 +34,7 @@ help+='  --compare image          print where the bytes differ from an image\n'
 help+='  -h, --help               this text\n'
 help+='  -V, --version            version\n'
 no_start='as65: no start address: give -S, or --compare an image that ends at $FFFF\n'
-no_line='syntax error: not a line of a listing'
+no_line='syntax error: not a line of a listing: rts2'
 
 three='; da65 listing\n\n        .setcpu "6502"\n\n        lda     #$01\n        rts\n'
 bytes='\xa9\x01\x60'
@@ -80,7 +80,7 @@ for words in "/dev/stdin" "-" ""; do
     ends "a pipe $words" 0 $? ''
     holds "a pipe $words" stdout "$bytes"
     printf 'rts2\n' | "$program" -S 0x1000 $words >stdout 2>stderr
-    ends "a fault on standard input $words" 1 $? "as65: /dev/stdin:1: $no_line\n"
+    ends "a fault on standard input $words" 1 $? "as65: /dev/stdin:1: syntax error: a label needs a colon: rts2\n"
 done
 runs 'standard output by its name' 0 "$bytes" '' -S 0x1000 -o - three.s
 is_absent 'standard output by its name' -
@@ -94,18 +94,49 @@ rm ./-
 # ---- faults of a listing
 
 refuses 'a line that is none' ' nop\n rts2\n' 2 "$no_line"
-refuses 'an expression' 'put := $1234\n lda put*2\n' 2 "$no_line"
-refuses 'a label of a reserved name' 'lda: rts\n' 1 "$no_line"
-refuses 'a carriage return' ' rts\r\n' 1 "$no_line"
-refuses 'an unknown CPU' ' .setcpu "65816"\n' 1 'unknown CPU'
-refuses 'a form that the CPU lacks' ' nop\n lda (16)\n' 2 'no such form'
-refuses 'a mnemonic that the CPU lacks' ' stz $10\n' 1 'no such form'
-refuses 'an undefined name' ' nop\n\n jmp nowhere\n' 3 'undefined name'
-refuses 'a name that is defined twice' 'x1: nop\nx1: nop\n' 2 'name defined twice'
-refuses 'a value out of range' ' lda #$100\n' 1 'value out of range'
-refuses 'a branch out of range' ' bne far\n.segment "S"\nfar := $2000\n' 1 'value out of range'
-runs 'past the end of the address space' 1 '' 'as65: three.s:6: past the end of the address space\n' -S 0xFFFE -o out.bin three.s
-runs 'more than 64 KiB' 1 '' 'as65: large.s:65536: past the end of the address space\n' -S 1 large.s
+refuses 'an expression' 'put := $1234\n lda put*2\n' 2 'syntax error: * and other expressions (see ca65): lda put*2'
+refuses 'a label of a reserved name' 'lda: rts\n' 1 'syntax error: not a line of a listing: lda: rts'
+refuses 'a carriage return' ' rts\r\n' 1 'syntax error: a carriage return ends the line: lines end with a line feed: rts'
+refuses 'an unknown CPU' ' .setcpu "65816"\n' 1 'unknown CPU: 6502, 65SC02 or 65C02: .setcpu "65816"'
+refuses 'a form that the CPU lacks' ' nop\n lda (16)\n' 2 'no such form: lda (16)'
+refuses 'a mnemonic that the CPU lacks' ' stz $10\n' 1 'no such form: stz $10'
+refuses 'an undefined name' ' nop\n\n jmp nowhere\n' 3 'undefined name: nowhere: jmp nowhere'
+refuses 'a name that is defined twice' 'x1: nop\nx1: nop\n' 2 'name defined twice: x1: nop'
+refuses 'a value out of range' ' lda #$100\n' 1 'value out of range: lda #$100'
+refuses 'a branch out of range' ' bne far\n.segment "S"\nfar := $2000\n' 1 'value out of range: branch too far: bne far'
+runs 'past the end of the address space' 1 '' 'as65: three.s:6: past the end of the address space: rts\n' -S 0xFFFE -o out.bin three.s
+runs 'more than 64 KiB' 1 '' 'as65: large.s:65536: past the end of the address space: nop\n' -S 1 large.s
+
+# What a fault is about, by the text of its line.
+refuses 'a byte order mark' '\xef\xbb\xbf rts\n' 1 'syntax error: a byte order mark: \xef\xbb\xbf rts'
+refuses 'a character constant' " lda #'a'\n" 1 "syntax error: character constants (see ca65): lda #'a'"
+refuses 'a binary number' ' nop\n lda #%101 ; five\n' 2 'syntax error: binary numbers (see ca65): lda #%101 ; five'
+refuses 'an origin' '*=$1000\n' 1 'syntax error: * and other expressions (see ca65): *=$1000'
+refuses 'a constant of another assembler' 'x1 = 5\n' 1 'syntax error: a constant is NAME := NUMBER: x1 = 5'
+refuses 'a constant that is no number' 'x1 := 5\nx2 := x1\n' 2 'syntax error: a constant is NAME := NUMBER: x2 := x1'
+refuses 'a directive of ca65' 'room: .res 5\n' 1 'syntax error: other directives and operands (see ca65): room: .res 5'
+refuses 'a label without a colon' 'loop lda #1\n' 1 'syntax error: a label needs a colon: loop lda #1'
+refuses 'a mnemonic at the beginning' 'lda #1 2\n' 1 'syntax error: not a line of a listing: lda #1 2'
+refuses 'marks in a comment' " rts2 ; a.b = 'c' * %1\n" 1 "$no_line ; a.b = 'c' * %1"
+for operand in '#nowhere' 'nowhere+1' 'nowhere,x' 'nowhere,y' '(nowhere,x)' '(nowhere),y'; do
+    refuses "an undefined name in $operand" " lda $operand\n" 1 "undefined name: nowhere: lda $operand"
+done
+refuses 'an undefined name in an indirect jump' ' jmp (nowhere)\n' 1 'undefined name: nowhere: jmp (nowhere)'
+refuses 'an undefined name of a table' '.addr nowhere-1\n' 1 'undefined name: nowhere: .addr nowhere-1'
+refuses 'one undefined name of two' 'here: .addr here,nowhere\n' 1 'undefined name: one of several: here: .addr here,nowhere'
+refuses 'an undefined name after a number' ' .setcpu "65c02"\n bbr0 $10,nowhere\n' 2 'undefined name: nowhere: bbr0 $10,nowhere'
+refuses 'an undefined name after another' ' .setcpu "65c02"\n bbr0 nowhere,here\nhere:\n' 2 'undefined name: one of several: bbr0 nowhere,here'
+refuses 'a relative operand beside another' ' .setcpu "65c02"\n bbr0 $10,far\n far := $9000\n' 2 'value out of range: branch too far: bbr0 $10,far'
+refuses 'a value out of range in a table' '.byte 256\n' 1 'value out of range: .byte 256'
+refuses 'control bytes of a faulty line' ' \x1b[2J\x07\t1 \r\n' 1 'syntax error: a carriage return ends the line: lines end with a line feed: ?[2J??1'
+for len in 80 81 5000; do
+    dots=
+    [ "$len" = 80 ] || dots=' ..'
+    refuses "a faulty line of $len characters" " rts2 ;$(head -c $((len - 6)) /dev/zero | tr '\0' x) \n" 1 \
+        "$no_line ;$(head -c 74 /dev/zero | tr '\0' x)$dots"
+done
+refuses 'a faulty line that is no text' ' rts2 ; \xff\n' 1 "$no_line ; \\xff"
+refuses 'a faulty line of control bytes' '\x01' 1 'syntax error: not a line of a listing: ?'
 
 # ---- halves of values
 
@@ -115,30 +146,30 @@ gives 'halves of a later name' ' lda #<later\n ldx #>later\n ldy #<later-1\n .by
 gives 'halves of sums in parentheses' ' lda #>(later-1)\n pha\n lda #<(later-1)\nlater: .byte >(later+$FF),<( $1234 )\n' '\xa9\x10\x48\xa9\xff\x11\x34' -S 0x10FB
 gives 'a half is one byte' 'zp := $12\n lda #<zp\n lda zp\nhere: jmp here\n' '\xa9\x12\xa5\x12\x4c\x04\x10' -S 0x1000
 gives 'lines with and without halves' ' nop\n .byte >far\n .byte ">"\nfar: bne far' '\xea\x10>\xd0\xfe' -S 0x1000
-refuses 'a sum after >, which ca65 reads otherwise' 'put := $1234\n lda #>put+1\n' 2 "$no_line"
-refuses 'one less after >' 'put := $1234\n .byte >put-1\n' 2 "$no_line"
-refuses 'a half in a sum' 'put := $1234\n lda #put+<put\n' 2 "$no_line"
-refuses 'a half as an address' 'put := $1234\n lda <put\n' 2 "$no_line"
-refuses 'a half of .word' 'put := $1234\n .word <put\n' 2 "$no_line"
-refuses 'a half of a difference' 'put := $1234\n lda #<put-put\n' 2 "$no_line"
-refuses 'a half of a half' 'put := $1234\n .lobytes <put\n' 2 "$no_line"
-refuses 'half of nothing' ' nop\n lda #<\n' 2 "$no_line"
-refuses 'a table of nothing' ' .lobytes\n' 1 "$no_line"
-refuses 'a table that ends with a comma' ' .lobytes 1,\n' 1 "$no_line"
-refuses 'half of a reserved name' ' lda #<x\n' 1 "$no_line"
-refuses 'a half and a carriage return' ' lda #<1\r\n' 1 "$no_line"
-refuses 'a half of an undefined name' 'put := $1234\n lda #<pet\n' 2 'undefined name'
-refuses 'an undefined name in .byte' 'put := $1234\n .byte <put,>pet\n' 2 'undefined name'
-refuses 'a half of a value that has no room' ' nop\n .lobytes $FFFF,$10000\n' 2 'value out of range'
-refuses 'a half of a value below 0' 'zero := 0\n lda #<zero-1\n' 2 'value out of range'
-refuses 'the lowest kind of the halves of a line' ' .byte <$10000,<pet\n' 1 'undefined name'
-refuses 'a half before another fault' ' lda #<pet\n rts2\n' 1 'undefined name'
-refuses 'a half after another fault' ' jmp nowhere\n .byte <$10000\n' 1 'undefined name'
+refuses 'a sum after >, which ca65 reads otherwise' 'put := $1234\n lda #>put+1\n' 2 'syntax error: not a line of a listing: lda #>put+1'
+refuses 'one less after >' 'put := $1234\n .byte >put-1\n' 2 'syntax error: other directives and operands (see ca65): .byte >put-1'
+refuses 'a half in a sum' 'put := $1234\n lda #put+<put\n' 2 'syntax error: not a line of a listing: lda #put+<put'
+refuses 'a half as an address' 'put := $1234\n lda <put\n' 2 'syntax error: not a line of a listing: lda <put'
+refuses 'a half of .word' 'put := $1234\n .word <put\n' 2 'syntax error: other directives and operands (see ca65): .word <put'
+refuses 'a half of a difference' 'put := $1234\n lda #<put-put\n' 2 'syntax error: not a line of a listing: lda #<put-put'
+refuses 'a half of a half' 'put := $1234\n .lobytes <put\n' 2 'syntax error: other directives and operands (see ca65): .lobytes <put'
+refuses 'half of nothing' ' nop\n lda #<\n' 2 'syntax error: not a line of a listing: lda #<'
+refuses 'a table of nothing' ' .lobytes\n' 1 'syntax error: other directives and operands (see ca65): .lobytes'
+refuses 'a table that ends with a comma' ' .lobytes 1,\n' 1 'syntax error: other directives and operands (see ca65): .lobytes 1,'
+refuses 'half of a reserved name' ' lda #<x\n' 1 'syntax error: not a line of a listing: lda #<x'
+refuses 'a half and a carriage return' ' lda #<1\r\n' 1 'syntax error: a carriage return ends the line: lines end with a line feed: lda #<1'
+refuses 'a half of an undefined name' 'put := $1234\n lda #<pet\n' 2 'undefined name: lda #<pet'
+refuses 'an undefined name in .byte' 'put := $1234\n .byte <put,>pet\n' 2 'undefined name: .byte <put,>pet'
+refuses 'a half of a value that has no room' ' nop\n .lobytes $FFFF,$10000\n' 2 'value out of range: .lobytes $FFFF,$10000'
+refuses 'a half of a value below 0' 'zero := 0\n lda #<zero-1\n' 2 'value out of range: lda #<zero-1'
+refuses 'the lowest kind of the halves of a line' ' .byte <$10000,<pet\n' 1 'undefined name: .byte <$10000,<pet'
+refuses 'a half before another fault' ' lda #<pet\n rts2\n' 1 'undefined name: lda #<pet'
+refuses 'a half after another fault' ' jmp nowhere\n .byte <$10000\n' 1 'undefined name: nowhere: jmp nowhere'
 refuses 'a half after a line that is none' ' rts2\n lda #<pet\n' 1 "$no_line"
 refuses 'a line that is none after one with halves' ' lda #<1\n rts2\n' 2 "$no_line"
-refuses 'an undefined half under a label that is defined twice' 'x1:\nx1: .byte <pet\n' 2 'undefined name'
-refuses 'a half out of range under a label that is defined twice' 'x1:\nx1: .byte <$10000\n' 2 'name defined twice'
-refuses 'a half of a form that the CPU lacks' ' stz #<pet\n' 1 'no such form'
+refuses 'an undefined half under a label that is defined twice' 'x1:\nx1: .byte <pet\n' 2 'undefined name: x1: .byte <pet'
+refuses 'a half out of range under a label that is defined twice' 'x1:\nx1: .byte <$10000\n' 2 'name defined twice: x1: .byte <$10000'
+refuses 'a half of a form that the CPU lacks' ' stz #<pet\n' 1 'no such form: stz #<pet'
 refuses 'a half out of range with others that are not' ' .byte <1,>$10000,<2\n' 1 'value out of range'
 
 # ---- a comparison
@@ -202,7 +233,28 @@ printf '\xea\xa9\x34\x34\x36' >halves.bin
 runs 'halves that differ' 1 '$1002: 34 -> 12, line 4: lda #>put\n$1004: 36 -> 35, line 5: .lobytes put,put+1\n' '' -S 0x1000 --compare halves.bin halves.s
 printf '\xea\xa9\x12\x34\x35' >halves.bin
 runs 'halves that do not differ' 0 '' '' -S 0x1000 --compare halves.bin halves.s
-runs 'a fault before a comparison' 2 '' "as65: three.s:6: past the end of the address space\n" -S 0xFFFE --compare short.bin three.s
+runs 'a fault before a comparison' 2 '' "as65: three.s:6: past the end of the address space: rts\n" -S 0xFFFE --compare short.bin three.s
+
+# ---- a start that the names of labels speak for
+
+# speaks NAME TEXT SAID: the text is compared with three bytes that differ, without a start, and that is said of its labels.
+speaks() {
+    printf '%b' "$2" >named.s
+    "$program" --compare other.bin named.s >stdout 2>stderr
+    ends "$1" 1 $? "as65: other.bin is taken to begin at \$FFFD\n$3"
+}
+
+speaks 'labels of another start' 'L1000: lda #$01\nL1002: rts\n' 'as65: 2 of the labels LXXXX would be at $XXXX with -S 0x1000\n'
+speaks 'a label of another start after others' 'first: lda #$01\nL0FF2: rts\n' 'as65: 1 of the labels LXXXX would be at $XXXX with -S 0x0FF0\n'
+speaks 'a label of another start, and a constant' 'L2000 := $2000\nfirst: lda #$01\nL0FF2: rts\n' 'as65: 1 of the labels LXXXX would be at $XXXX with -S 0x0FF0\n'
+speaks 'labels of two starts' 'L2000: lda #$01\nL1002:\nL2002: rts\n' 'as65: 2 of the labels LXXXX would be at $XXXX with -S 0x2000\n'
+speaks 'a label at its place before one that is not' 'LFFFD: lda #$01\nL1002: rts\n' ''
+speaks 'names of another form' 'l1000:\nL100:\nLABCG:\nL10_0:\nLabcd:\nM1000: lda #$01\nL10000: rts\n' ''
+speaks 'a name whose start would be below 0' ' lda #$01\nL0001:\nL1002: rts\n' 'as65: 1 of the labels LXXXX would be at $XXXX with -S 0x1000\n'
+speaks 'a name whose start would be 0' ' lda #$01\nL0002: rts\n' 'as65: 1 of the labels LXXXX would be at $XXXX with -S 0x0000\n'
+printf 'L1000: lda #$01\nL1002: rts\n' >named.s
+runs 'labels of another start, and a start' 1 '$2001: 02 -> 01, line 1: L1000: lda #$01\n' '' -S 0x2000 --compare other.bin named.s
+runs 'labels of another start where nothing differs' 0 '' '' --compare three.bin named.s
 
 # ---- where the image is
 
@@ -274,7 +326,7 @@ holds 'an empty listing leaves the output' out.bin 'old\n'
 runs 'an empty listing beside an image' 2 '' 'as65: empty: no bytes\n' --compare three.bin empty
 runs 'a name of two lines' 1 '' 'as65: cannot read a\\nb\n' -S 0 $'a\nb'
 cp three.s $'a\nb'
-runs 'a listing with a name of two lines' 1 '' 'as65: a\\nb:6: past the end of the address space\n' -S 0xFFFE $'a\nb'
+runs 'a listing with a name of two lines' 1 '' 'as65: a\\nb:6: past the end of the address space: rts\n' -S 0xFFFE $'a\nb'
 runs 'a missing image' 2 '' 'as65: cannot read no.bin\n' --compare no.bin three.s
 runs 'the image comes before the listing' 2 '' 'as65: cannot read no.bin\n' --compare no.bin no.s
 runs 'an image that is a folder' 2 '' 'as65: cannot read folder\n' --compare folder three.s
@@ -419,16 +471,18 @@ counts() {
     [ "$asked" -le "$all" ] || fails "$name" "$asked bytes of memory and not at most $all"
 }
 
-compiler=${CC:-cc}
-if [ "$compiler" = skip ]; then
-    echo 'as65: calls and memory are left out, since CC=skip is set'
-else
-    "$compiler" -O1 -shared -fPIC -o shim.so "$root/tests/shim.c" -ldl || exit 1
+if has_shim; then
+    needs_null 'without /dev/null' 1 'as65: cannot read /dev/null\n' out.bin -S 0 -o out.bin three.s
+    needs_null 'a comparison without /dev/null' 2 'as65: cannot read /dev/null\n' out.bin --compare other.bin three.s
+    needs_null 'help without /dev/null' 1 'as65: cannot read /dev/null\n' out.bin -h
+
     # /dev/null is opened three times, for standard streams that are closed. 4 KiB a read and one read at the end, and one write for all.
     counts 'bytes' 5 193 1 2400000 -S 0 -o out.bin large.s
     counts 'one stretch' 5 210 1 3600000 -S 0 --compare zeros.bin large.s
     counts 'every second byte' 5 106 1 16900000 -S 0 --compare zeros.bin every.s
     counts 'nothing that differs' 5 210 0 3300000 --compare large.bin large.s
+else
+    echo 'as65: calls and memory are left out, since CC=skip is set'
 fi
 
 # ---- from an image to its listing and back

@@ -337,6 +337,13 @@ holds 'no standard stream' out.s "$skipped"
 "$program" -o out.s /dev/stdin <&- >&- 2>&-
 [ $? = 1 ] || fails 'no standard stream, the output first' 'status'
 holds 'no standard stream, the output first' out.s ''
+if has_shim; then
+    needs_null 'without /dev/null' 1 'da65: cannot read /dev/null\n' null.s -o null.s three.bin
+    needs_null 'with a warning, without /dev/null' 1 'da65: cannot read /dev/null\n' null.s -i skip.info -o null.s three.bin
+    needs_null 'help without /dev/null' 1 'da65: cannot read /dev/null\n' null.s -h
+else
+    echo 'program: what needs the shim is left out, since CC=skip is set'
+fi
 "$program" /dev/stdin <&- >stdout 2>stderr
 ends 'a closed standard input' 1 $? 'da65: input is empty\n'
 holds 'a closed standard input' stdout ''

@@ -2,7 +2,7 @@
    refuse one allocation, or to open one file.
    At the end it writes six numbers on the file that SHIM_COUNTS names: the files opened, the reads, the writes, the greatest number
    of bytes of memory at one time, the bytes asked for over the whole run, and the allocations. SHIM_REFUSE is the number of the allocation that is refused, and SHIM_REFUSE_OPEN that
-   of the file, both counted from 1. */
+   of the file, both counted from 1. SHIM_ERROR is the number of the error with which the file is refused, ENOMEM if it is not set. */
 #define _GNU_SOURCE
 #include <dlfcn.h>
 #include <errno.h>
@@ -15,6 +15,7 @@
 #include <unistd.h>
 
 static unsigned long opens, reads, writes, held, most, asked, allocations, refused, refused_open;
+static int open_error;
 static void *(*real_malloc)(size_t);
 static void *(*real_realloc)(void *, size_t);
 static void (*real_free)(void *);
@@ -23,6 +24,7 @@ __attribute__((constructor)) static void begin(void)
 {
     const char *number = getenv("SHIM_REFUSE");
     const char *number_open = getenv("SHIM_REFUSE_OPEN");
+    const char *number_error = getenv("SHIM_ERROR");
 
     real_malloc = dlsym(RTLD_NEXT, "malloc");
     real_realloc = dlsym(RTLD_NEXT, "realloc");
@@ -30,6 +32,7 @@ __attribute__((constructor)) static void begin(void)
     opens = reads = writes = asked = allocations = 0;
     refused = number ? strtoul(number, NULL, 10) : 0;
     refused_open = number_open ? strtoul(number_open, NULL, 10) : 0;
+    open_error = number_error ? atoi(number_error) : ENOMEM;
 }
 
 __attribute__((destructor)) static void end(void)
@@ -92,7 +95,7 @@ void free(void *block)
     mode_t mode;                                                            \
                                                                             \
     if (++opens == refused_open) {                                          \
-        errno = ENOMEM;                                                     \
+        errno = open_error;                                                 \
         return -1;                                                          \
     }                                                                       \
     va_start(rest, flags);                                                  \

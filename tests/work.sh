@@ -7,7 +7,6 @@ set -u
 program=$(realpath "$1")
 assembler=$(dirname "$program")/as65
 root=$(realpath "$(dirname "$0")/..")
-compiler=${CC:-cc}
 . "$root/tests/rows.sh"
 
 # ---- calls and memory
@@ -36,21 +35,22 @@ counts() {
     [ "$asked" -le "$all" ] || fails "$name" "$asked bytes of memory over the whole run and not at most $all"
 }
 
-# refuses_in_turn NAME LEAST WORD..: each allocation refused in turn, of which there are at least LEAST: the program says
-# that it is out of memory, and writes no listing.
+# refuses_in_turn NAME LEAST DONE TROUBLE WORD..: each allocation refused in turn, of which there are at least LEAST, of a run with the status
+# DONE: the program says that it is out of memory, ends with a status of the pattern TROUBLE, and writes nothing on standard output.
 refuses_in_turn() {
-    local name=$1 least=$2 at=1
-    shift 2
+    local name=$1 least=$2 wanted=$3 trouble=$4 at=1
+    shift 4
     counted "$@"
-    [ "$status" = 0 ] || fails "$name" "status $status: $(cat stderr)"
+    [ "$status" = "$wanted" ] || fails "$name" "status $status: $(cat stderr)"
     mv stdout whole
+    mv stderr said
     [ "$least" -le "$allocations" ] || fails "$name" "$allocations allocations and not at least $least"
     for ((at = 1; at <= allocations; at++)); do
         SHIM_REFUSE=$at LD_PRELOAD=$work/shim.so "$program" "$@" >stdout 2>stderr </dev/null
         status=$?
-        if [ "$status" = 0 ]; then
+        if [ "$status" = "$wanted" ] && cmp -s stderr said; then
             same "$name, allocation $at" stdout whole
-        elif [ "$(cat stderr)" != 'da65: out of memory' ] || [ -s stdout ] || [ "$status" != 1 ]; then
+        elif [ "$(tail -n 1 stderr)" != "$(basename "$program"): out of memory" ] || [ -s stdout ] || [[ $status != $trouble ]]; then
             fails "$name" "allocation $at: status $status: $(cat stderr)"
         fi
     done
@@ -107,15 +107,12 @@ long=.$(printf '%0.s/' {1..4000})three.bin
 { printf 'n = 1\n'; head -c 300000 /dev/zero | tr '\0' ';'; } >wide.inc
 awk 'BEGIN { for (n = 0; n < 20000; n++) printf "n%d: .addr n%d\n", n, n * 7919 % 20000 }' >labels.s
 head -c 40000 /dev/zero >zeros.bin
+printf 'L1000: lda #$02\nL1002: rts\n' >short.s
+printf ' jmp nowhere\n' >faulty.s
 
-if [ "$compiler" = skip ]; then
+if ! has_shim; then
     echo 'work: calls, memory and refused allocations are left out, since CC=skip is set'
-elif ! command -v "$compiler" >/dev/null; then
-    echo "work: $compiler is not there, which makes the shim: install gcc or clang, or set CC=skip"
-    exit 1
 else
-    "$compiler" -O1 -shared -fPIC -o shim.so "$root/tests/shim.c" -ldl || exit 1
-
     # /dev/null is opened three times, for standard streams that are closed. 4 KiB a read and one read at the end, 8 KiB a write. The
     # map of an image has two bytes for each address, and so have the tables of an information file, which are given back before. Only
     # names need the tables that find them. What has been read is given back before the run, and copied no more often than it must be.
@@ -139,8 +136,12 @@ else
     program=$assembler counts 'labels that differ' 1 5 110 1 5165000 22860000 -S 0 --compare zeros.bin labels.s
 
     refuses_options
-    refuses_in_turn 'the command line' 40 --cpu 65c02 -S 0x1000 --comments 4 --text-column 60 three.bin
-    refuses_in_turn 'an information file and include files' 60 -i all.info
+    refuses_in_turn 'the command line' 40 0 1 --cpu 65c02 -S 0x1000 --comments 4 --text-column 60 three.bin
+    refuses_in_turn 'an information file and include files' 60 0 1 -i all.info
+    program=$assembler refuses_in_turn 'a listing' 30 0 1 -S 0x1000 -o - short.s
+    # Without its words it does not know that it compares: the status is 1 then.
+    program=$assembler refuses_in_turn 'differences' 30 1 '[12]' --compare three.bin short.s
+    program=$assembler refuses_in_turn 'a faulty line' 30 1 1 -S 0x1000 -o - faulty.s
     refuses_files 'an information file, include files and an output' -i all.info -o out.s
 fi
 
@@ -199,6 +200,12 @@ grows() {
     [ "$twice" -le $((3 * once)) ] || fails "$name" "$once ms for $count, and $twice ms for twice as many, in $runs runs"
 }
 
+# differ COMMAND..: the command finds differences, which are not kept.
+differ() {
+    "$@" >/dev/null
+    [ $? = 1 ]
+}
+
 # lists NAME KIND COUNT: so do groups, or lines of an include file, that da65 reads.
 lists() {
     makes "$2" "$3"
@@ -220,6 +227,12 @@ assembles() {
     grows "$1" "$3" "$assembler" -S 0 -o out.bin @.s
 }
 
+# compares COUNT: an image and a listing that differ in that many stretches.
+compares() {
+    head -c $((2 * $1)) /dev/zero >"$1.bin"
+    yes ' .byte 0,1' | head -n "$1" >"$1.s"
+}
+
 lists 'labels that end at one address' ends 12000
 lists 'labels, descending' descending 12000
 lists 'ranges' ranges 12000
@@ -229,6 +242,9 @@ jumps 5000
 jumps 10000
 grows 'addresses after many labels' 5000 "$program" -S 0x8000 -i @.info -o out.s @.bin
 assembles 'definitions' definitions 25000
+compares 8000
+compares 16000
+grows 'stretches that differ' 8000 differ "$assembler" -S 0 --compare @.bin @.s
 
 [ "$failed" = 0 ] && echo 'work: every test passed'
 exit "$failed"

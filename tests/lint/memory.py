@@ -14,7 +14,7 @@ ALLOWED = """
 as65 Failure::from 2
 as65 Failure::of_words 2
 as65 accepted 2
-as65 failure_of 4
+as65 failure_of 5
 as65 information_in 2
 da65 accepted 2
 da65 image_message 1

@@ -1,6 +1,8 @@
 pub mod CommandLemmas
 pub mod FilledLemmas
 pub mod LineForLine
+pub mod HintLemmas
+pub mod NamedStartLemmas
 pub mod OriginLemmas
 pub mod PassingLemmas
 pub mod PieceLemmas

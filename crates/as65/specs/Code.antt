@@ -1,4 +1,5 @@
--- What ties the code to the rules: in which order its lines are passed over, and what its halves are.
+-- What ties the code to the rules: in which order its lines are passed over, what its halves are, and what its values stand for.
 pub mod HalfViews
 pub mod Listings
+pub mod NamedStarts
 pub mod Passing

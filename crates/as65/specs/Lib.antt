@@ -5,8 +5,11 @@ pub mod Comparison
 pub mod Differences
 pub mod Filled
 pub mod Halves
+pub mod FaultyLine
+pub mod Hint
 pub mod Image
 pub mod Information
+pub mod NamedStart
 pub mod Origins
 pub mod Request
 pub mod Status

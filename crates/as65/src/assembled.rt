@@ -7,10 +7,11 @@ ghost use Rattle.text65.specs.Lines.{text_lines};
 ghost use Rattle.map65.specs.Device.{AppendsFront, Counts};
 ghost use Rattle.stmt65.specs.Meaning.{meaning};
 ghost use Rattle.stmt65.specs.Answer.{Assembles, out_of_memory};
-ghost use Rattle.as65.specs.Assembled.{FailsWith, Reports};
+ghost use Rattle.as65.specs.FaultyLine.{FailsWith, Reports};
 ghost use Rattle.as65.specs.Filled.{first_fault, is_before, meaning_with_halves, names_of, replaced, unless_before};
 
 use crate::failure::Failure;
+use crate::faulty_line::failure_of;
 use crate::filled::{FilledText, filled, zeroed};
 use crate::half_values::{Numbers, rank};
 use map65::{Sink, write_whole};
@@ -39,17 +40,6 @@ impl<'a> Model for Assembled<'a> {
     ghost view = { λ a. record { text = a.text.now; start = a.start; bytes = a.bytes.items } };
 
     ghost invariant = { λ a. (meaning_with_halves a.start a.text.now ≡ Ok a.bytes.items) × (listing_of a.text.now a.filled ≡ replaced a.start a.text.now) };
-}
-
-/// The failure of a listing of this name.
-fn failure_of(alloc: Global, fault: AsmFault, name: &str) -> Failure
-    ensures { (m : Result (List ℕ) AsmFault) → FailsWith fault m → Reports name.now m result }
-{
-    match (fault.kind, String::from_str(alloc, name)) {
-        (AsmFaultKind::Memory, _) | (_, Err(_)) => Failure::Memory,
-        (AsmFaultKind::Syntax, Ok(name)) => Failure::NoLine(name, fault.line),
-        (_, Ok(name)) => Failure::Line(name, fault),
-    }
 }
 
 /// Whether a fault is on a lower line, or of a lower kind on the same line.
@@ -118,7 +108,7 @@ impl<'a> Assembled<'a> {
         ensures whole { IfOk result (λ a. (a.text ≡ text.entry.now) × (a.start ≡ start)) }
         ensures means { IfOk result (λ a. meaning start (replaced start text.entry.now) ≡ Ok a.bytes) }
         ensures halves { IfOk result (λ a. meaning_with_halves start text.entry.now ≡ Ok a.bytes) }
-        ensures fault { IfErr result (Reports name.now (meaning_with_halves start text.entry.now)) }
+        ensures fault { IfErr result (Reports name.now text.entry.now (meaning_with_halves start text.entry.now)) }
     {
         match assemble(alloc, text, start) {
             Ok(bytes) => Ok(Assembled {
@@ -143,7 +133,7 @@ impl<'a> Assembled<'a> {
         ensures whole { IfOk result (λ a. (a.text ≡ text.entry.now) × (a.start ≡ start)) }
         ensures means { IfOk result (λ a. meaning start (replaced start text.entry.now) ≡ Ok a.bytes) }
         ensures halves { IfOk result (λ a. meaning_with_halves start text.entry.now ≡ Ok a.bytes) }
-        ensures fault { IfErr result (Reports name.now (meaning_with_halves start text.entry.now)) }
+        ensures fault { IfErr result (Reports name.now text.entry.now (meaning_with_halves start text.entry.now)) }
     {
         match with_halves(alloc, text, start) {
             Ok((listing, bytes)) => Ok(Assembled {
@@ -152,7 +142,7 @@ impl<'a> Assembled<'a> {
                 filled: Some(listing),
                 bytes,
             }),
-            Err(fault) => Err(failure_of(alloc, fault, name)),
+            Err(fault) => Err(failure_of(alloc, fault, name, text)),
         }
     }
 

@@ -79,7 +79,7 @@ fn trimmed(line: &[u8]) -> &[u8]
 
 /// Appends the beginning of a line.
 #[tactic(auto, unfolding(crate::specs::Differences::shown_line))]
-fn put_line(out: &mut Vec<u8>, line: &[u8]) -> Result<(), AllocError>
+pub(crate) fn put_line(out: &mut Vec<u8>, line: &[u8]) -> Result<(), AllocError>
     ensures { OnOk result (out.new.items ≡ out.old.items ++ shown_line line.now) }
 {
     let line = trimmed(line);

@@ -1,6 +1,7 @@
 //! Why the program gives up.
 
 ghost use Rattle.std.specs.Prelude.{◌≡◌};
+ghost use Rattle.as65.specs.FaultyLine.{said_after};
 
 use files65::FileFault;
 use info65::InfoFault;
@@ -49,12 +50,9 @@ pub enum Failure {
     /// The listing has more than 64 MiB.
     #[error("input is too large")]
     LargeListing,
-    /// A line of the listing of this name is none that a listing can have.
-    #[error("{0}:{1}: syntax error: not a line of a listing")]
-    NoLine(String, usize),
-    /// A line of the listing of this name has another fault.
+    /// A line of the listing of this name has a fault; and what is said after its text.
     #[error("{0}:{1}")]
-    Line(String, AsmFault),
+    Line(String, AsmFault, Vec<u8>),
     /// A write of the bytes, of the differences, of the help text or of the version failed.
     #[error("cannot write the output")]
     Writing,
@@ -63,6 +61,16 @@ pub enum Failure {
 impl Failure {
     ghost use Rattle.std.specs.Prelude.{◌≡◌, ◌≢◌};
     ghost use Rattle.std.specs.IoError.{error_kind};
+
+    /// What is said after the text of the failure. It need not be valid UTF-8.
+    pub fn about(&self) -> &[u8]
+        ensures { result.now ≡ said_after self.now }
+    {
+        match self {
+            Failure::Line(_, _, said) => said.as_slice(),
+            _ => &[],
+        }
+    }
 
     /// The failure of the words of the command line: they are not valid UTF-8, or there is no memory for them.
     pub fn of_words(error: &IoError) -> Failure

@@ -10,13 +10,16 @@ mod command;
 mod comparison;
 mod differences;
 mod failure;
+mod faulty_line;
 mod filled;
 mod half_values;
 mod halves;
+mod hint;
 mod image;
 mod information;
 mod listing;
 mod message;
+mod named_start;
 mod origins;
 mod request;
 mod same_file;
@@ -32,7 +35,8 @@ use image::image;
 use information::{information, placed_at};
 use listing::listing;
 use map65::Image;
-use message::{say, say_start};
+use message::{say, say_named_start, say_start};
+use named_start::named_start;
 use request::{Comparing, Request, Writing, is_comparing, request_of};
 use same_file::keep_input;
 use status::{Ended, status_of};
@@ -97,6 +101,16 @@ fn image_to_compare(rt: &HostRuntime, comparing: &Comparing) -> Result<(Image, b
     Ok((image, info.settings().start.is_none()))
 }
 
+/// Says on standard error where an image is taken to begin whose start nobody gave, and what the names of the listing say of that.
+fn say_assumed(rt: &HostRuntime, name: &str, assembled: &Assembled<'_>) -> Result<(), Failure> {
+    let named = named_start(rt.alloc(), assembled.listing(), assembled.start())?;
+    say_start(rt, name, assembled.start());
+    if let Some(named) = &named {
+        say_named_start(rt, named);
+    }
+    Ok(())
+}
+
 /// Writes on standard output where the bytes of the listing differ from those of the image.
 fn compare_with(rt: &HostRuntime, comparing: &Comparing) -> Result<Ended, Failure> {
     let name = comparing.listing.as_str();
@@ -106,12 +120,14 @@ fn compare_with(rt: &HostRuntime, comparing: &Comparing) -> Result<Ended, Failur
     let text = listing(rt, name)?;
     let assembled = Assembled::new(rt.alloc(), &text, image.start(), name)?;
     if is_assumed && image.bytes() != assembled.bytes() {
-        say_start(rt, comparing.image.as_str(), image.start());
+        say_assumed(rt, comparing.image.as_str(), &assembled)?;
     }
     compare(rt.alloc(), &image, &assembled, &mut Output::standard(rt))
 }
 
 fn program(rt: &HostRuntime, words: &[String]) -> Result<Ended, Failure> {
+    // Messages to a closed standard error must not end up in the output file.
+    let _placeholders = Placeholders::take(rt)?;
     match request_of(rt.alloc(), words)? {
         Request::Help => tell(rt, help_text()),
         Request::Version => tell(rt, version_text()),
@@ -129,8 +145,6 @@ fn end(rt: &HostRuntime, is_comparing: bool, outcome: Result<Ended, Failure>) ->
 }
 
 fn main(rt: HostRuntime) -> ExitCode {
-    // Messages to a closed standard error must not end up in the output file.
-    let _placeholders = Placeholders::take(&rt);
     match words(&rt) {
         Ok(words) => end(&rt, is_comparing(&words), program(&rt, &words)),
         Err(failure) => end(&rt, false, Err(failure)),

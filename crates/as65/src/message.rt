@@ -1,6 +1,7 @@
 //! Messages on standard error.
 
 use crate::failure::Failure;
+use crate::named_start::NamedStart;
 use std::fmt;
 use std::fmt::Write as FmtWrite;
 use std::io::{Stderr, Write};
@@ -34,6 +35,7 @@ impl OneLine {
 pub fn say(rt: &HostRuntime, failure: &Failure) {
     let mut out = OneLine(rt.stderr());
     let _ = write!(out, "as65: {failure}");
+    let _ = out.put(failure.about());
     let _ = out.0.write_all(b"\n");
 }
 
@@ -41,5 +43,16 @@ pub fn say(rt: &HostRuntime, failure: &Failure) {
 pub fn say_start(rt: &HostRuntime, name: &str, start: u16) {
     let mut out = OneLine(rt.stderr());
     let _ = write!(out, "as65: {name} is taken to begin at ${start:04X}");
+    let _ = out.0.write_all(b"\n");
+}
+
+/// Says which other start the names of a listing speak for.
+pub fn say_named_start(rt: &HostRuntime, named: &NamedStart) {
+    let mut out = OneLine(rt.stderr());
+    let NamedStart { start, labels } = *named;
+    let _ = write!(
+        out,
+        "as65: {labels} of the labels LXXXX would be at $XXXX with -S 0x{start:04X}"
+    );
     let _ = out.0.write_all(b"\n");
 }

@@ -53,6 +53,16 @@ fn after_lines(text: &[u8], count: usize) -> &[u8]
     rest
 }
 
+/// The line after this many lines; empty if there is none.
+pub(crate) fn line_after(text: &[u8], count: usize) -> &[u8]
+    ensures { result.now ≡ get_or (drop count (text_lines text.now)) 0 [] }
+{
+    match first_line(after_lines(text, count)) {
+        Some((line, _)) => line,
+        None => &[],
+    }
+}
+
 /// How many addresses come before the first that is greater than this one.
 fn count_up_to(addresses: &[u64], address: u64) -> usize
     ensures value { result ≡ prefix_len (λ a. nat_le a address) addresses.now }

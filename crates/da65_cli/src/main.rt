@@ -86,6 +86,8 @@ fn devices(
 }
 
 fn program(rt: &HostRuntime) -> Result<Status, Failure> {
+    // Messages to a closed standard error must not end up in the output file.
+    let _placeholders = Placeholders::take(rt)?;
     let options = options(rt)?;
     if options.help {
         return tell(rt, help_text());
@@ -106,8 +108,6 @@ fn program(rt: &HostRuntime) -> Result<Status, Failure> {
 }
 
 fn main(rt: HostRuntime) -> ExitCode {
-    // Messages to a closed standard error must not end up in the output file.
-    let _placeholders = Placeholders::take(&rt);
     match program(&rt) {
         Ok(Status::Done) => ExitCode::SUCCESS,
         Ok(Status::Refused) | Err(Failure::Run(RunFault::Messages)) => ExitCode::FAILURE,

@@ -1,27 +1,43 @@
 //! Standard streams that are closed.
 
+ghost use Rattle.std.specs.Prelude.{codes, IfErr};
+ghost use Rattle.files65.specs.Faults.{IsUnread};
+
+use crate::fault::FileFault;
 use std::fs::File;
 
 /// What takes the numbers of the standard streams that are closed, as long as it lives. Else a file that is
 /// opened later would get such a number, and messages could end up in it.
 #[derive(Drop)]
 pub struct Placeholders {
-    input: Option<File>,
-    output: Option<File>,
-    errors: Option<File>,
+    input: File,
+    output: File,
+    errors: File,
 }
 
 impl Placeholders {
-    /// Takes the numbers. To be called before any file is opened.
-    pub fn take(rt: &HostRuntime) -> Placeholders {
-        Placeholders {
-            input: placeholder(rt),
-            output: placeholder(rt),
-            errors: placeholder(rt),
-        }
+    /// Takes the numbers. To be called before any file is opened. Fails with `Reading` if `/dev/null` can't be opened: whether a
+    /// stream is closed is not known then, so nothing may be opened.
+    pub fn take(rt: &HostRuntime) -> Result<Placeholders, FileFault>
+        ensures { IfErr result (IsUnread (codes "/dev/null")) }
+    {
+        Ok(Placeholders {
+            input: opened(rt, "/dev/null")?,
+            output: opened(rt, "/dev/null")?,
+            errors: opened(rt, "/dev/null")?,
+        })
     }
 }
 
-fn placeholder(rt: &HostRuntime) -> Option<File> {
-    File::open(rt, "/dev/null").ok()
+/// The file of this name.
+fn opened(rt: &HostRuntime, name: &str) -> Result<File, FileFault>
+    ensures { IfErr result (IsUnread name.now) }
+{
+    match File::open(rt, name) {
+        Ok(file) => Ok(file),
+        Err(error) => {
+            let name = String::from_str(rt.alloc(), name)?;
+            Err(FileFault::of_reading(&error, name))
+        }
+    }
 }

@@ -74,6 +74,8 @@ fn trace(rt: &HostRuntime, tracing: &Tracing) -> Result<(), Failure> {
 }
 
 fn program(rt: &HostRuntime) -> Result<(), Failure> {
+    // Messages to a closed standard error must not end up in the output file.
+    let _placeholders = Placeholders::take(rt)?;
     match requested(rt)? {
         Request::Help => tell(rt, help_text()),
         Request::Version => tell(rt, version_text()),
@@ -82,8 +84,6 @@ fn program(rt: &HostRuntime) -> Result<(), Failure> {
 }
 
 fn main(rt: HostRuntime) -> ExitCode {
-    // Messages to a closed standard error must not end up in the output file.
-    let _placeholders = Placeholders::take(&rt);
     match program(&rt) {
         Ok(()) => ExitCode::SUCCESS,
         Err(failure) => {

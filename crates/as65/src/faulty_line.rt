@@ -1,0 +1,48 @@
+//! The line of a listing that has a fault.
+
+ghost use Rattle.std.specs.Prelude.{◌≡◌, ◌++◌, ℕ, List, Result, IfOk, OnOk};
+ghost use Rattle.as65.specs.FaultyLine.{FailsWith, Reports, about, hint_text, line_at};
+
+use crate::differences::put_line;
+use crate::failure::Failure;
+use crate::hint::hint;
+use crate::origins::line_after;
+use std::alloc::{AllocError, Global};
+use stmt65::{AsmFault, AsmFaultKind};
+
+/// Appends what a fault is about, if the line does not say it.
+fn put_hint(out: &mut Vec<u8>, hint: &[u8]) -> Result<(), AllocError>
+    ensures { OnOk result (out.new.items ≡ out.old.items ++ hint_text hint.now) }
+{
+    if hint.is_empty() {
+        return Ok(());
+    }
+    out.extend_from_slice(b": ")?;
+    out.extend_from_slice(hint)
+}
+
+/// What comes after the text of a fault: what it is about, and the line.
+#[tactic(auto, unfolding(crate::specs::FaultyLine::about))]
+fn about(alloc: Global, fault: AsmFault, text: &[u8]) -> Result<Vec<u8>, AllocError>
+    ensures { IfOk result (λ said. said.items ≡ about fault text.now) }
+{
+    let line = line_after(text, fault.line.saturating_sub(1));
+    let mut out = Vec::new(alloc);
+    put_hint(&mut out, hint(alloc, fault.kind, line)?)?;
+    out.extend_from_slice(b": ")?;
+    put_line(&mut out, line)?;
+    Ok(out)
+}
+
+/// The failure of a listing of this name and text.
+pub fn failure_of(alloc: Global, fault: AsmFault, name: &str, text: &[u8]) -> Failure
+    ensures { (m : Result (List ℕ) AsmFault) → FailsWith fault m → Reports name.now text.now m result }
+{
+    if fault.kind == AsmFaultKind::Memory {
+        return Failure::Memory;
+    }
+    match (String::from_str(alloc, name), about(alloc, fault, text)) {
+        (Ok(name), Ok(said)) => Failure::Line(name, fault, said),
+        _ => Failure::Memory,
+    }
+}
