@@ -60,8 +60,16 @@ prefix_is true = refl
 prefix_is false = refl
 
 pub row_prefix : (r : Row) (a : Bool) (os : OperandsView) → has_prefix (row_form r (address_size a) os) ≡ true → a ≡ true
+row_prefix row.Implied a os h = absurd cc
+row_prefix row.Accumulator a view.none h = absurd cc
+row_prefix row.Accumulator a (view.one e) h = absurd cc
+row_prefix row.Accumulator a (view.two e f) h = absurd cc
+row_prefix (row.One p k) a view.none h = absurd cc
 row_prefix (row.One p k) a (view.one e) h = sym (prefix_is a) ∙ pattern_prefix p (address_size a) (source_value e) h
-row_prefix _ a _ h = absurd cc
+row_prefix (row.One p k) a (view.two e f) h = absurd cc
+row_prefix (row.Two k l) a view.none h = absurd cc
+row_prefix (row.Two k l) a (view.one e) h = absurd cc
+row_prefix (row.Two k l) a (view.two e f) h = absurd cc
 
 -- it is written as its mode is
 row_is : (P : OperandKind → ℕ → ExprView → Type 0) (r : Row) (size : AddressSize) (os : OperandsView) → AreAll P r os → row_text r ≡ form_text (row_form r size os)

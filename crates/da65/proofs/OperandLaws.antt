@@ -1,4 +1,5 @@
 -- The bytes of an instruction's operands.
+use Rattle.std.proofs.Math.Seq.{take-add}
 use Rattle.std.proofs.Common.{◌≡◌, ℕ, zero, suc, ◌+◌, ◌*◌, ◌<◌, ◌≤◌, List, [], ◌∷◌, ◌++◌, length, take, drop, Option, Some, None, refl, sym, ap, subst, ◌∙◌, arith}
 use Rattle.std.specs.Prelude.{IfSome, slice_index}
 use Rattle.std.specs.Option.{option_map}
@@ -30,19 +31,10 @@ use Rattle.da65.proofs.WrittenLaws.{AreAll, of_each}
 
 -- ---- the bytes after an opcode
 
-take_none : (m : ℕ) → take m [] ≡ []
-take_none zero = refl
-take_none (suc m) = refl
-
-take_both : (n m : ℕ) (bytes : List ℕ) → take (n + m) bytes ≡ take n bytes ++ take m (drop n bytes)
-take_both zero m bytes = refl
-take_both (suc n) m [] = sym (take_none m)
-take_both (suc n) m (b ∷ bytes) = ap (λ (bs : List ℕ). b ∷ bs) (take_both n m bytes)
-
 past_two : (n m : ℕ) (bytes : List ℕ) → drop 1 (take (1 + n + m) bytes) ≡ take n (drop 1 bytes) ++ take m (drop (1 + n) bytes)
 past_two n m bytes =
     let sum : 1 + n + m ≡ 1 + (n + m) = omega arith in
-    ap (λ (k : ℕ). drop 1 (take k bytes)) sum ∙ drop-take 1 (n + m) bytes ∙ take_both n m (drop 1 bytes)
+    ap (λ (k : ℕ). drop 1 (take k bytes)) sum ∙ drop-take 1 (n + m) bytes ∙ take-add n m (drop 1 bytes)
     ∙ ap (λ (bs : List ℕ). take n (drop 1 bytes) ++ take m bs) (drop-drop n 1 bytes)
 
 module _ (image : ImageView) (n : Names) (names : AreSound image n) (next : ℕ) (room : next ≤ 65536) (bytes : List ℕ) (are : AreBytes bytes) where
