@@ -14,8 +14,8 @@ const FEWEST: usize = 16;
 
 const MOST: usize = 0x2_0000;
 
-// A name and what else a file says of it have at least so many bytes, most of them more. With fewer, names share slots.
-const BYTES_OF_A_SLOT: usize = 8;
+// A name and what else a file says of it have at least so many bytes, most of them more.
+const BYTES_OF_A_SLOT: usize = 4;
 
 /// Slots, each of which can hold an address. A contract sees their number and the list of them, which is empty until an
 /// address is put into one. The slot of a text is found by a hash of its bytes.
