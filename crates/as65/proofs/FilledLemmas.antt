@@ -1,6 +1,6 @@
 -- The lines of a text with halves, one after the other, and that a text which means bytes by itself has none.
-use Rattle.std.proofs.Common.{◌≡◌, ℕ, Bool, true, false, ◌+◌, List, [], ◌∷◌, ◌++◌, flat_map, map, Option, Some, None, refl, ap, sym, ◌∙◌, append_assoc}
-use Rattle.std.specs.Prelude.{◌||◌, ◌&&◌, Result, Ok, Err}
+use Rattle.std.proofs.Common.{◌≡◌, ℕ, Bool, true, false, ◌+◌, List, [], ◌∷◌, ◌++◌, map, Option, Some, None, refl, ap, sym, ◌∙◌, append_assoc}
+use Rattle.std.specs.Prelude.{◌||◌, Result, Ok, Err}
 use Rattle.std.specs.List.{list_any}
 use Rattle.std.specs.Option.{option_or}
 use Rattle.std.proofs.lemmas.List.{append-nil}

@@ -1,5 +1,5 @@
 -- A text with a number for each half has the lines of the text, one for one.
-use Rattle.std.proofs.Common.{◌≡◌, ℕ, zero, suc, Bool, true, false, eqb, ltb, ◌+◌, ◌/◌, ◌%◌, List, [], ◌∷◌, ◌++◌, flat_map, map, drop, Option, refl, ap, sym, ◌∙◌, arith, append_assoc}
+use Rattle.std.proofs.Common.{◌≡◌, ℕ, zero, suc, Bool, true, false, eqb, ltb, ◌+◌, ◌/◌, ◌%◌, List, [], ◌∷◌, ◌++◌, map, drop, Option, refl, ap, ◌∙◌, arith, append_assoc}
 use Rattle.std.specs.Prelude.{◌||◌, ◌&&◌, codes, not}
 use Rattle.std.specs.Prelude.{take}
 use Rattle.std.specs.List.{list_all, list_any, prefix_len}
@@ -9,8 +9,8 @@ use Rattle.text65.specs.Names.{is_word_byte}
 use Rattle.text65.specs.Lines.{onto_first, text_lines}
 use Rattle.stmt65.specs.Digits.{hex2}
 use Rattle.stmt65.specs.Symbols.{Definition}
-use Rattle.as65.specs.Filled.{filled, lines_filled, names_of, replaced}
-use Rattle.as65.specs.Halves.{Half, Halved, counted_half, expression_len, half_of, halved, has_halves, is_list, is_remark, is_word_at, line_filled, outside_at, piece_text, pieces, pieces_after, pieces_text, step_at}
+use Rattle.as65.specs.Filled.{filled, lines_filled}
+use Rattle.as65.specs.Halves.{Half, Halved, counted_half, expression_len, half_of, halved, has_halves, is_list, is_remark, is_word_at, line_filled, outside_at, piece_text, pieces_after, pieces_text, step_at}
 use Rattle.as65.specs.declared.halves.Place.{Place}
 use Rattle.as65.specs.declared.halves.Place.TheVariants.{Outside, Quoted, Listed}
 

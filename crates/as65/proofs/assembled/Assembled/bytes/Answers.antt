@@ -1,7 +1,6 @@
 use Rattle.std.proofs.Common.{◌≡◌, ℕ, List, ap, subst, sym, ◌∙◌}
-use Rattle.std.specs.Prelude.{Result, Ok}
+use Rattle.std.specs.Prelude.{Ok}
 use Rattle.stmt65.specs.Meaning.{meaning}
-use Rattle.stmt65.specs.declared.assembling.fault.AsmFault.{AsmFault}
 use Rattle.as65.specs.Assembled.{AssembledView}
 use Rattle.as65.specs.Filled.{replaced}
 use Rattle.as65.proofs.FilledLemmas.{means_replaced}
