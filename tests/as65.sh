@@ -170,7 +170,7 @@ refuses 'a line that is none after one with halves' ' lda #<1\n rts2\n' 2 "$no_l
 refuses 'an undefined half under a label that is defined twice' 'x1:\nx1: .byte <pet\n' 2 'undefined name: x1: .byte <pet'
 refuses 'a half out of range under a label that is defined twice' 'x1:\nx1: .byte <$10000\n' 2 'name defined twice: x1: .byte <$10000'
 refuses 'a half of a form that the CPU lacks' ' stz #<pet\n' 1 'no such form: stz #<pet'
-refuses 'a half out of range with others that are not' ' .byte <1,>$10000,<2\n' 1 'value out of range'
+refuses 'a half out of range with others that are not' ' .byte <1,>$10000,<2\n' 1 'value out of range: .byte <1,>$10000,<2'
 
 # ---- a comparison
 
