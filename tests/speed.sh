@@ -120,9 +120,9 @@ printf '\n%-44s %12s %12s %8s\n' 'instructions for the listing of 64 KiB' 'as65'
 "$program" -S 0 random.bin -o random.s
 "$program" -S 0 nop.bin -o nop.s
 "$program" -S 0 -i mixed.info mixed.bin -o mixed.s
-assembles 'random bytes' 82.8 random.s
-assembles 'nop' 65.1 nop.s
-assembles "mixed bytes, $(wc -l <mixed.info) ranges" 76.0 mixed.s
+assembles 'random bytes' 70.8 random.s
+assembles 'nop' 38.7 nop.s
+assembles "mixed bytes, $(wc -l <mixed.info) ranges" 68.3 mixed.s
 
 # labels COUNT ORDER: prints that many groups LABEL, with ascending or shuffled addresses.
 labels() {
