@@ -92,13 +92,13 @@ echo 'RANGE { START 0; END $FFFF; TYPE BYTETABLE; };' >table.info
 } >segments.info
 
 printf '%-44s %12s %12s %8s\n' 'instructions for 64 KiB' 'here' 'cc65' 'ratio'
-declare -A random=([6502]=23.8 [65SC02]=24.5 [65C02]=25.3)
+declare -A random=([6502]=27.4 [65SC02]=28.3 [65C02]=29.2)
 for cpu in "${cpus[@]}"; do
     compares "random bytes, $cpu" "${random[$cpu]}" -S 0 --cpu "$cpu" random.bin
 done
-compares 'nop' 33.1 -S 0 nop.bin
-compares 'mixed bytes, without ranges' 23.8 -S 0 mixed.bin
-compares "mixed bytes, $(wc -l <mixed.info) ranges" 25.5 -S 0 -i mixed.info mixed.bin
+compares 'nop' 41.4 -S 0 nop.bin
+compares 'mixed bytes, without ranges' 27.4 -S 0 mixed.bin
+compares "mixed bytes, $(wc -l <mixed.info) ranges" 27.8 -S 0 -i mixed.info mixed.bin
 compares 'a byte table' 17.5 -S 0 -i table.info nop.bin
 compares 'a byte table in 1,024 segments' 38.2 -S 0 -i segments.info nop.bin
 
@@ -112,8 +112,8 @@ printf '%s\n' 'GLOBAL { STARTADDR $F000; };' \
     'LABEL { ADDR $FFD2; NAME "CHROUT"; };' >hello.info
 head -c 1024 random.bin >kilobyte.bin
 echo 'LABEL { ADDR $1000; NAME "entry"; };' >label.info
-compares '44 bytes with five tables and three names' 95 -i hello.info "$root/examples/hello.bin"
-compares '1 KiB with one label' 95 -S 0 -i label.info kilobyte.bin
+compares '44 bytes with five tables and three names' 97.1 -i hello.info "$root/examples/hello.bin"
+compares '1 KiB with one label' 61.2 -S 0 -i label.info kilobyte.bin
 
 printf 'MEMORY { MAIN: start = 0, size = $10000, file = %%O; }\nSEGMENTS { CODE: load = MAIN, type = ro; }\n' >flat.cfg
 printf '\n%-44s %12s %12s %8s\n' 'instructions for the listing of 64 KiB' 'as65' 'ca65, ld65' 'ratio'
@@ -212,7 +212,7 @@ for order in ascending shuffled; do
     grows 78 76 labels 20000 $order
 done
 grows 110 112 colliding 20000
-grows 72 80 included 60000
+grows 77.5 82.6 included 60000
 grows 88 88 ranges 20000
 [ "$failed" = 0 ] && echo 'speed: no ratio is more than a twentieth above that of docs/PROOFS.md'
 exit $failed
