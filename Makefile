@@ -41,7 +41,7 @@ below = $(filter $(crates),$(shell sed -nE 's/^$(1)://p' crates.txt))
 define crate
 bin/made/$(1): $(patsubst %,bin/made/%,$(call below,$(1))) $(shell find crates/$(1) -name out -prune -o -path '*/src/*' -print -o -name '*.antt' -print)
 	@mkdir -p bin/made; begin=$$$$SECONDS; \
-	    rt $(if $(filter $(1),$(programs)),run $(1) $$(RTFLAGS) -- --version,lib $(1) $$(RTFLAGS)) >$$@.log 2>&1 || { tail -n 20 $$@.log; exit 1; }; \
+	    (cd crates/$(1) && rt $(if $(filter $(1),$(programs)),run $$(RTFLAGS) -- --version,lib $$(RTFLAGS))) >$$@.log 2>&1 || { tail -n 20 $$@.log; exit 1; }; \
 	    printf '%-10s proved in %d seconds\n' $(1) $$$$((SECONDS - begin)); mv $$@.log $$@
 endef
 $(foreach name,$(crates),$(eval $(call crate,$(name))))
