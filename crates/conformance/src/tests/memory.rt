@@ -171,11 +171,15 @@ fn each_allocation_refused_in_turn(rt: HostRuntime) {
     }
 }
 
-/// Names are found by four bytes for each address and four for each of 131,072 slots.
-const NAME_TABLES: u64 = 262_144 + 524_288;
+/// Names are found by four bytes for each address, and four for each slot: there is a slot for four bytes of what gives the
+/// names, and there are 16 to 131,072.
+fn name_tables(bytes: usize) -> u64 {
+    let slots = (bytes as u64 / 4).clamp(16, 131_072);
+    slots.saturating_mul(4).saturating_add(262_144)
+}
 
-/// One byte for each address, for the addresses that an include file names.
-const MARKS: u64 = 65_536;
+/// What a name that is there before an include file counts for, beside the bytes of the file.
+const BYTES_OF_A_NAME: usize = 16;
 
 /// What else an information file of these rows is granted, at most.
 const SMALL: u64 = 1_024;
@@ -223,26 +227,24 @@ fn call_parts(
     include: &[u8],
     input: &[u8],
 ) {
+    let tables = name_tables(info.len());
     let Ok(mut info) = read_info(heap, options, info) else {
         assert_granted(rt, heap, 0, CELLS, SMALL);
         return;
     };
-    let tables = if info.given_count() == 0 {
-        0
-    } else {
-        NAME_TABLES
-    };
+    let tables = if info.given_count() == 0 { 0 } else { tables };
     assert_granted(rt, heap, 0, CELLS.saturating_add(tables), SMALL);
     for index in 0..2 {
         if index < info.includes().len() {
             let before = heap.bytes();
+            let names = info.given_count().saturating_mul(BYTES_OF_A_NAME);
             let read = read_include(heap, &mut info, index, include);
-            let found = NAME_TABLES + MARKS + LOOKED_UP;
+            let found = name_tables(include.len().saturating_add(names)).saturating_add(LOOKED_UP);
             if read.is_err() {
                 assert_granted(rt, heap, before, found, 0);
                 return;
             }
-            assert_granted(rt, heap, before, found + KEPT, TEXT);
+            assert_granted(rt, heap, before, found.saturating_add(KEPT), TEXT);
         }
     }
     let before = heap.bytes();
