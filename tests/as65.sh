@@ -103,7 +103,7 @@ refuses 'a mnemonic that the CPU lacks' ' stz $10\n' 1 'no such form: stz $10'
 refuses 'an undefined name' ' nop\n\n jmp nowhere\n' 3 'undefined name: nowhere: jmp nowhere'
 refuses 'a name that is defined twice' 'x1: nop\nx1: nop\n' 2 'name defined twice: x1: nop'
 refuses 'a value out of range' ' lda #$100\n' 1 'value out of range: lda #$100'
-refuses 'a branch out of range' ' bne far\n.segment "S"\nfar := $2000\n' 1 'value out of range: branch too far: bne far'
+refuses 'a branch out of range' ' bne far\n.segment "S"\nfar := $2000\n' 1 'value out of range: branch too far: 4094 bytes: bne far'
 runs 'past the end of the address space' 1 '' 'as65: three.s:6: past the end of the address space: rts\n' -S 0xFFFE -o out.bin three.s
 runs 'more than 64 KiB' 1 '' 'as65: large.s:65536: past the end of the address space: nop\n' -S 1 large.s
 
@@ -123,10 +123,17 @@ for operand in '#nowhere' 'nowhere+1' 'nowhere,x' 'nowhere,y' '(nowhere,x)' '(no
 done
 refuses 'an undefined name in an indirect jump' ' jmp (nowhere)\n' 1 'undefined name: nowhere: jmp (nowhere)'
 refuses 'an undefined name of a table' '.addr nowhere-1\n' 1 'undefined name: nowhere: .addr nowhere-1'
-refuses 'one undefined name of two' 'here: .addr here,nowhere\n' 1 'undefined name: one of several: here: .addr here,nowhere'
+refuses 'one undefined name of two' 'here: .addr here,nowhere\n' 1 'undefined name: nowhere: here: .addr here,nowhere'
 refuses 'an undefined name after a number' ' .setcpu "65c02"\n bbr0 $10,nowhere\n' 2 'undefined name: nowhere: bbr0 $10,nowhere'
-refuses 'an undefined name after another' ' .setcpu "65c02"\n bbr0 nowhere,here\nhere:\n' 2 'undefined name: one of several: bbr0 nowhere,here'
-refuses 'a relative operand beside another' ' .setcpu "65c02"\n bbr0 $10,far\n far := $9000\n' 2 'value out of range: branch too far: bbr0 $10,far'
+refuses 'an undefined name after another' ' .setcpu "65c02"\n bbr0 nowhere,here\nhere:\n' 2 'undefined name: nowhere: bbr0 nowhere,here'
+refuses 'a relative operand beside another' ' .setcpu "65c02"\n bbr0 $10,far\n far := $9000\n' 2 'value out of range: branch too far: 32765 bytes: bbr0 $10,far'
+refuses 'the first of the undefined names' 'here: .addr here,nowhere,here+1,elsewhere\n' 1 'undefined name: nowhere: here: .addr here,nowhere,here+1,elsewhere'
+gives 'a branch as far as it can go' 'far := $1081\n bne far\n' '\xd0\x7f' -S 0x1000
+gives 'a branch as far back as it can go' 'far := $0F82\n bne far\n' '\xd0\x80' -S 0x1000
+refuses 'a branch a byte too far' 'far := $1082\n bne far\n' 2 'value out of range: branch too far: 128 bytes: bne far'
+refuses 'a branch a byte too far back' 'far := $0F81\n bne far\n' 2 'value out of range: branch too far: -129 bytes: bne far'
+refuses 'a branch out of the address space' 'far := $1000\n bne far+$FFFF\n' 2 'value out of range: bne far+$FFFF'
+refuses 'a branch that is not too far beside an operand out of range' ' .setcpu "65c02"\n bbr0 $100,here\nhere:\n' 2 'value out of range: bbr0 $100,here'
 refuses 'a value out of range in a table' '.byte 256\n' 1 'value out of range: .byte 256'
 refuses 'control bytes of a faulty line' ' \x1b[2J\x07\t1 \r\n' 1 'syntax error: a carriage return ends the line: lines end with a line feed: ?[2J??1'
 for len in 80 81 5000; do
@@ -158,16 +165,18 @@ refuses 'a table of nothing' ' .lobytes\n' 1 'syntax error: other directives and
 refuses 'a table that ends with a comma' ' .lobytes 1,\n' 1 'syntax error: other directives and operands (see ca65): .lobytes 1,'
 refuses 'half of a reserved name' ' lda #<x\n' 1 'syntax error: not a line of a listing: lda #<x'
 refuses 'a half and a carriage return' ' lda #<1\r\n' 1 'syntax error: a carriage return ends the line: lines end with a line feed: lda #<1'
-refuses 'a half of an undefined name' 'put := $1234\n lda #<pet\n' 2 'undefined name: lda #<pet'
-refuses 'an undefined name in .byte' 'put := $1234\n .byte <put,>pet\n' 2 'undefined name: .byte <put,>pet'
+refuses 'a half of an undefined name' 'put := $1234\n lda #<pet\n' 2 'undefined name: pet: lda #<pet'
+refuses 'an undefined name in .byte' 'put := $1234\n .byte <put,>pet\n' 2 'undefined name: pet: .byte <put,>pet'
+refuses 'the first of the undefined names in halves' 'put := $1234\n .byte <put,>pet,1,<pot\n' 2 'undefined name: pet: .byte <put,>pet,1,<pot'
+refuses 'a branch too far below a half' ' lda #<far\n bne far\nfar := $2000\n' 2 'value out of range: branch too far: 4092 bytes: bne far'
 refuses 'a half of a value that has no room' ' nop\n .lobytes $FFFF,$10000\n' 2 'value out of range: .lobytes $FFFF,$10000'
 refuses 'a half of a value below 0' 'zero := 0\n lda #<zero-1\n' 2 'value out of range: lda #<zero-1'
-refuses 'the lowest kind of the halves of a line' ' .byte <$10000,<pet\n' 1 'undefined name: .byte <$10000,<pet'
-refuses 'a half before another fault' ' lda #<pet\n rts2\n' 1 'undefined name: lda #<pet'
+refuses 'the lowest kind of the halves of a line' ' .byte <$10000,<pet\n' 1 'undefined name: pet: .byte <$10000,<pet'
+refuses 'a half before another fault' ' lda #<pet\n rts2\n' 1 'undefined name: pet: lda #<pet'
 refuses 'a half after another fault' ' jmp nowhere\n .byte <$10000\n' 1 'undefined name: nowhere: jmp nowhere'
 refuses 'a half after a line that is none' ' rts2\n lda #<pet\n' 1 "$no_line"
 refuses 'a line that is none after one with halves' ' lda #<1\n rts2\n' 2 "$no_line"
-refuses 'an undefined half under a label that is defined twice' 'x1:\nx1: .byte <pet\n' 2 'undefined name: x1: .byte <pet'
+refuses 'an undefined half under a label that is defined twice' 'x1:\nx1: .byte <pet\n' 2 'undefined name: pet: x1: .byte <pet'
 refuses 'a half out of range under a label that is defined twice' 'x1:\nx1: .byte <$10000\n' 2 'name defined twice: x1: .byte <$10000'
 refuses 'a half of a form that the CPU lacks' ' stz #<pet\n' 1 'no such form: stz #<pet'
 refuses 'a half out of range with others that are not' ' .byte <1,>$10000,<2\n' 1 'value out of range: .byte <1,>$10000,<2'

@@ -1,5 +1,5 @@
 -- A text with a number for each half has the lines of the text, one for one.
-use Rattle.std.proofs.Common.{◌≡◌, ℕ, zero, suc, Bool, true, false, eqb, ltb, ◌+◌, ◌/◌, ◌%◌, List, [], ◌∷◌, ◌++◌, map, drop, Option, refl, ap, ◌∙◌, arith, append_assoc}
+use Rattle.std.proofs.Common.{◌≡◌, ℕ, zero, suc, Bool, true, false, eqb, ltb, ◌+◌, ◌/◌, ◌%◌, List, [], ◌∷◌, ◌++◌, map, drop, Option, Some, refl, ap, ◌∙◌, arith, append_assoc}
 use Rattle.std.specs.Prelude.{◌||◌, ◌&&◌, codes, not}
 use Rattle.std.specs.Prelude.{take}
 use Rattle.std.specs.List.{list_all, list_any, prefix_len}
@@ -9,7 +9,7 @@ use Rattle.text65.specs.Names.{is_word_byte}
 use Rattle.text65.specs.Lines.{onto_first, text_lines}
 use Rattle.stmt65.specs.Digits.{hex2}
 use Rattle.stmt65.specs.Symbols.{Definition}
-use Rattle.as65.specs.Filled.{filled, lines_filled}
+use Rattle.as65.specs.Filled.{filled, lines_filled, names_of, replaced}
 use Rattle.as65.specs.Halves.{Half, Halved, counted_half, expression_len, half_of, halved, has_halves, is_list, is_remark, is_word_at, line_filled, outside_at, piece_text, pieces_after, pieces_text, step_at}
 use Rattle.as65.specs.declared.halves.Place.{Place}
 use Rattle.as65.specs.declared.halves.Place.TheVariants.{Outside, Quoted, Listed}
@@ -156,10 +156,14 @@ lines_kept all (l ∷ ls) none =
     rw (line_kept all l (or_left (has_halves l) (list_any has_halves ls) none))
     (ap (λ (more : List (List ℕ)). l ∷ more) (lines_kept all ls (or_right (has_halves l) (list_any has_halves ls) none)))
 
-pub filled_line_for_line : (all : Option (List Definition)) (text : List ℕ) → text_lines (filled all text) ≡ map (line_filled all) (text_lines text)
+filled_line_for_line : (all : Option (List Definition)) (text : List ℕ) → text_lines (filled all text) ≡ map (line_filled all) (text_lines text)
 unfolding filled
 filled_line_for_line all text = by_halves (list_any has_halves (text_lines text)) refl
   where
     by_halves : (any : Bool) → list_any has_halves (text_lines text) ≡ any → text_lines (filled all text) ≡ map (line_filled all) (text_lines text)
     by_halves true e = rw e (lines_of_lines all (text_lines text) (lines_inside text))
     by_halves false e = rw e (lines_kept all (text_lines text) e)
+
+pub replaced_line_for_line : (start : ℕ) (text listing : List ℕ) → listing ≡ replaced start text → text_lines listing ≡ map (line_filled (Some (names_of start text))) (text_lines text)
+unfolding replaced
+replaced_line_for_line start text listing is = ap text_lines is ∙ filled_line_for_line (Some (names_of start text)) text

@@ -3,10 +3,9 @@ use Rattle.std.proofs.Common.{◌≡◌, ◌∙◌, ◌+◌, ◌-◌, ◌<◌, �
 use Rattle.std.proofs.lemmas.Bool.Decides.{nat_tests}
 use Rattle.std.proofs.lemmas.List.{drop-drop, get_or-drop}
 use Rattle.std.specs.List.{prefix_len}
-use Rattle.stmt65.specs.LineAddresses.{line_past}
-use Rattle.as65.specs.Code.Passing.{IsInBoth, IsReady, passed_at}
+use Rattle.as65.specs.Code.Passing.{IsInBoth, IsReady, line_left, passed_at}
 use Rattle.as65.specs.Differences.{Compared, line_of, stretch_bytes, stretch_line}
-use Rattle.as65.specs.Origins.{OriginsView}
+use Rattle.as65.specs.Origins.{Moves, OriginsView}
 use Rattle.as65.specs.Stretches.{AreRuns, differs}
 use Rattle.as65.specs.declared.stretches.Stretch.{Stretch}
 
@@ -73,12 +72,6 @@ pub ready_later : (c : Compared) (passed : ℕ) (s : Stretch) (later : List Stre
 unfolding IsReady
 ready_later c passed s later ready = ready.2
 
--- how the lines go on to an address
-pub record Moves (address : ℕ) (old new : OriginsView) : Type 0 where
-  pub passed : new.passed + 1 ≡ old.passed + line_past address old.ends
-  pub ends : new.ends ≡ drop (new.passed - old.passed) old.ends
-  pub lines : new.lines ≡ drop (new.passed - old.passed) old.lines
-
 -- those of all lines that are left
 pub record AreLeft (c : Compared) (o : OriginsView) : Type 0 where
   pub ends : o.ends ≡ drop o.passed c.ends
@@ -108,7 +101,7 @@ left_after c s old new left moves few =
 
 -- so the line that is shown is the one that gives the first byte
 pub line_is : (c : Compared) (s : Stretch) (o : OriginsView) → AreLeft c o → o.passed ≡ passed_at c s
-    → stretch_line (c.start + s.at) (stretch_bytes s c.image) (stretch_bytes s c.bytes) (o.passed + 1) (get_or o.lines 0 []) ≡ line_of c s
+    → line_left c o s ≡ line_of c s
 line_is c s o left is =
     let line : get_or o.lines 0 [] ≡ get_or c.lines (passed_at c s + 1 - 1) [] =
     ap (λ l. get_or l 0 []) left.lines ∙ get_or-drop o.passed c.lines 0 [] ∙ (let same : o.passed + 0 ≡ passed_at c s + 1 - 1 = omega arith in ap (λ n. get_or c.lines n []) same) in

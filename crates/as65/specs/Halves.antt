@@ -142,9 +142,13 @@ operand_value h (Some (Statement label (Instr m (Direct Automatic v)))) = if is_
 operand_value h (Some (Statement label (Instr m (Indirect v)))) = Some v
 operand_value h _ = None
 
+-- a line with it as its operand
+abbrev pub half_line : Half → List ℕ
+half_line h = codes "jmp " ++ h.text
+
 -- the value of a half, as the reader of lines has it
 abbrev pub value_of : Half → Option Value
-value_of h = operand_value h (reading_of (parts (codes "jmp " ++ h.text)))
+value_of h = operand_value h (reading_of (parts (half_line h)))
 
 -- the number of `.word` with this value, or its fault there
 abbrev pub word_or_range : Option ℕ → Result ℕ AsmFaultKind
@@ -204,10 +208,13 @@ abbrev pub has_values : Option AsmFaultKind → Bool
 has_values (Some Syntax) = false
 has_values _ = true
 
+-- each half has a value, and with a number for each the line may have them
+abbrev pub is_filled_line : List ℕ → Bool
+is_filled_line line = has_values (lowest None None (pieces line)) && takes_halves (reading_of (parts (pieces_text None (pieces line))))
+
 -- whether halves make a line of what is none by itself
 unfoldable pub has_halves : List ℕ → Bool
-has_halves line =
-    not (is_some (reading_of (parts line))) && (has_values (lowest None None (pieces line)) && takes_halves (reading_of (parts (pieces_text None (pieces line)))))
+has_halves line = not (is_some (reading_of (parts line))) && is_filled_line line
 
 -- the line with a number for each half
 unfoldable pub line_filled : Option (List Definition) → List ℕ → List ℕ

@@ -7,6 +7,7 @@ ghost use Rattle.text65.specs.Lines.{text_lines};
 ghost use Rattle.map65.specs.Device.{AppendsFront, Counts};
 ghost use Rattle.stmt65.specs.Meaning.{meaning};
 ghost use Rattle.stmt65.specs.Answer.{Assembles, out_of_memory};
+ghost use Rattle.as65.specs.Assembled.{IsLineForLine, meaning_of};
 ghost use Rattle.as65.specs.FaultyLine.{FailsWith, Reports};
 ghost use Rattle.as65.specs.Filled.{first_fault, is_before, meaning_with_halves, names_of, replaced, unless_before};
 
@@ -30,16 +31,14 @@ pub struct Assembled<'a> {
 }
 
 impl<'a> Model for Assembled<'a> {
-    ghost use Rattle.std.specs.Prelude.{◌≡◌, Ok};
     ghost use Rattle.as65.specs.Assembled.{AssembledView};
-    ghost use Rattle.as65.specs.Code.Listings.{listing_of};
-    ghost use Rattle.as65.specs.Filled.{meaning_with_halves, replaced};
+    ghost use Rattle.as65.specs.Code.Listings.{IsAssembled};
 
     ghost Value = { AssembledView };
 
     ghost view = { λ a. record { text = a.text.now; start = a.start; bytes = a.bytes.items } };
 
-    ghost invariant = { λ a. (meaning_with_halves a.start a.text.now ≡ Ok a.bytes.items) × (listing_of a.text.now a.filled ≡ replaced a.start a.text.now) };
+    ghost invariant = { λ a. IsAssembled a.start a.text.now a.filled a.bytes.items };
 }
 
 /// Whether a fault is on a lower line, or of a lower kind on the same line.
@@ -89,7 +88,7 @@ fn listing_at(alloc: Global, text: &[u8], start: u16) -> Result<FilledText, Allo
 fn with_halves(alloc: Global, text: &[u8], start: u16) -> Result<(Vec<u8>, Vec<u8>), AsmFault>
     ensures listing { IfOk result (λ a. a.0.items ≡ replaced start text.now) }
     ensures bytes { IfOk result (λ a. meaning_with_halves start text.now ≡ Ok a.1.items) }
-    ensures fault { IfErr result (λ e. FailsWith e (meaning_with_halves start text.now)) }
+    ensures fault { IfErr result (λ e. FailsWith e start text.now) }
 {
     let listing = listing_at(alloc, text, start)?;
     let bytes = unless_before(listing.fault, assemble(alloc, &listing.text, start))?;
@@ -108,7 +107,7 @@ impl<'a> Assembled<'a> {
         ensures whole { IfOk result (λ a. (a.text ≡ text.entry.now) × (a.start ≡ start)) }
         ensures means { IfOk result (λ a. meaning start (replaced start text.entry.now) ≡ Ok a.bytes) }
         ensures halves { IfOk result (λ a. meaning_with_halves start text.entry.now ≡ Ok a.bytes) }
-        ensures fault { IfErr result (Reports name.now text.entry.now (meaning_with_halves start text.entry.now)) }
+        ensures fault { IfErr result (Reports name.now start text.entry.now) }
     {
         match assemble(alloc, text, start) {
             Ok(bytes) => Ok(Assembled {
@@ -133,7 +132,7 @@ impl<'a> Assembled<'a> {
         ensures whole { IfOk result (λ a. (a.text ≡ text.entry.now) × (a.start ≡ start)) }
         ensures means { IfOk result (λ a. meaning start (replaced start text.entry.now) ≡ Ok a.bytes) }
         ensures halves { IfOk result (λ a. meaning_with_halves start text.entry.now ≡ Ok a.bytes) }
-        ensures fault { IfErr result (Reports name.now text.entry.now (meaning_with_halves start text.entry.now)) }
+        ensures fault { IfErr result (Reports name.now start text.entry.now) }
     {
         match with_halves(alloc, text, start) {
             Ok((listing, bytes)) => Ok(Assembled {
@@ -142,7 +141,7 @@ impl<'a> Assembled<'a> {
                 filled: Some(listing),
                 bytes,
             }),
-            Err(fault) => Err(failure_of(alloc, fault, name, text)),
+            Err(fault) => Err(failure_of(alloc, fault, name, text, start)),
         }
     }
 
@@ -153,8 +152,10 @@ impl<'a> Assembled<'a> {
     }
 
     /// The listing that the text stands for: the text itself, or with a number for each half.
+    #[tactic(auto, using(crate::proofs::LineForLine::replaced_line_for_line))]
     pub fn listing(&self) -> &[u8]
-        ensures { result.now ≡ replaced self.now.start self.now.text }
+        ensures value { result.now ≡ replaced self.now.start self.now.text }
+        ensures lines { IsLineForLine self.now result.now }
     {
         match &self.filled {
             Some(listing) => listing.as_slice(),
@@ -171,15 +172,15 @@ impl<'a> Assembled<'a> {
     /// The bytes that the text means from the start: those of the listing that it stands for.
     pub fn bytes(&self) -> &[u8]
         ensures bytes { result.now ≡ self.now.bytes }
-        ensures means { meaning self.now.start (replaced self.now.start self.now.text) ≡ Ok result.now }
+        ensures means { meaning_of self.now ≡ Ok result.now }
     {
         self.bytes.as_slice()
     }
 
     /// Writes the bytes.
     pub fn write<W: Sink>(&self, out: &mut W) -> Result<(), Failure>
-        ensures whole { OnOk result (IfOk (meaning self.now.start (replaced self.now.start self.now.text)) (Appends (W.taken out.old) (W.taken out.new))) }
-        ensures front { OnErr result (IfOk (meaning self.now.start (replaced self.now.start self.now.text)) (AppendsFront (W.taken out.old) (W.taken out.new))) }
+        ensures whole { OnOk result (IfOk (meaning_of self.now) (Appends (W.taken out.old) (W.taken out.new))) }
+        ensures front { OnErr result (IfOk (meaning_of self.now) (AppendsFront (W.taken out.old) (W.taken out.new))) }
         ensures count { Counts (W.faults out.old) (W.faults out.new) result }
         ensures failure { IfErr result (λ e. e ≡ Failure.Writing) }
     {

@@ -1,10 +1,10 @@
 //! The lines that say where a listing and an image differ.
 
-ghost use Rattle.std.specs.Prelude.{◌≡◌, ◌+◌, ◌-◌, ◌++◌, [], IfOk, OnOk, decimal, drop, flat_map, get_or, map, take};
+ghost use Rattle.std.specs.Prelude.{◌≡◌, ◌+◌, ◌++◌, IfOk, OnOk, decimal, flat_map, map, take};
 ghost use Rattle.text65.specs.Digits.{digits4};
-ghost use Rattle.stmt65.specs.LineAddresses.{line_past};
-ghost use Rattle.as65.specs.Differences.{IsDifferences, change_text, compared, dots_above, lengths_line, line_of, origin_text, shown_byte, shown_bytes, shown_line, spaced, stretch_bytes, stretch_line, trimmed};
-ghost use Rattle.as65.specs.Code.Passing.{IsInBoth, IsReady, beside};
+ghost use Rattle.as65.specs.Differences.{IsDifferences, change_text, compared, dots_above, lengths_line, line_of, origin_text, shown_byte, shown_bytes, shown_line, spaced, trimmed};
+ghost use Rattle.as65.specs.Origins.{Moves};
+ghost use Rattle.as65.specs.Code.Passing.{IsInBoth, IsReady, beside, line_left};
 
 use crate::assembled::Assembled;
 use crate::origins::{Origin, Origins};
@@ -100,7 +100,7 @@ fn put_address(out: &mut Vec<u8>, address: usize) -> Result<(), AllocError>
     out.extend_from_slice(&text)
 }
 
-fn put_decimal(out: &mut Vec<u8>, number: usize) -> Result<(), AllocError>
+pub(crate) fn put_decimal(out: &mut Vec<u8>, number: usize) -> Result<(), AllocError>
     ensures { OnOk result (out.new.items ≡ out.old.items ++ decimal number) }
 {
     let mut buffer = Buffer::new();
@@ -161,10 +161,8 @@ fn put_found(
     origins: &mut Origins<'_>,
 ) -> Result<(), AllocError>
     requires inside { IsInBoth image.now.bytes bytes.now stretch.now }
-    ensures line { OnOk result (out.new.items ≡ out.old.items ++ stretch_line (image.now.start + stretch.now.at) (stretch_bytes stretch.now image.now.bytes) (stretch_bytes stretch.now bytes.now) (origins.new.passed + 1) (get_or origins.new.lines 0 [])) }
-    ensures passed { origins.new.passed + 1 ≡ origins.old.passed + line_past (image.now.start + stretch.now.at) origins.old.ends }
-    ensures ends { origins.new.ends ≡ drop (origins.new.passed - origins.old.passed) origins.old.ends }
-    ensures lines { origins.new.lines ≡ drop (origins.new.passed - origins.old.passed) origins.old.lines }
+    ensures line { OnOk result (out.new.items ≡ out.old.items ++ line_left (beside image.now bytes.now origins.old) origins.new stretch.now) }
+    ensures moves { Moves (image.now.start + stretch.now.at) origins.old origins.new }
 {
     let old = image.bytes();
     let address = usize::from(image.start()) + stretch.at;

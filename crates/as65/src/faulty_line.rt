@@ -1,12 +1,12 @@
 //! The line of a listing that has a fault.
 
-ghost use Rattle.std.specs.Prelude.{◌≡◌, ◌++◌, ℕ, List, Result, IfOk, OnOk};
-ghost use Rattle.as65.specs.FaultyLine.{FailsWith, Reports, about, hint_text, line_at};
+ghost use Rattle.std.specs.Prelude.{◌≡◌, ◌++◌, IfOk, OnOk};
+ghost use Rattle.as65.specs.FaultyLine.{FailsWith, Reports, about, hint_text};
 
 use crate::differences::put_line;
 use crate::failure::Failure;
 use crate::hint::hint;
-use crate::origins::line_after;
+use crate::origins::line_at;
 use std::alloc::{AllocError, Global};
 use stmt65::{AsmFault, AsmFaultKind};
 
@@ -23,25 +23,29 @@ fn put_hint(out: &mut Vec<u8>, hint: &[u8]) -> Result<(), AllocError>
 
 /// What comes after the text of a fault: what it is about, and the line.
 #[tactic(auto, unfolding(crate::specs::FaultyLine::about))]
-fn about(alloc: Global, fault: AsmFault, text: &[u8]) -> Result<Vec<u8>, AllocError>
-    ensures { IfOk result (λ said. said.items ≡ about fault text.now) }
+fn about(alloc: Global, fault: AsmFault, text: &[u8], start: u16) -> Result<Vec<u8>, AllocError>
+    ensures { IfOk result (λ said. said.items ≡ about fault start text.now) }
 {
-    let line = line_after(text, fault.line.saturating_sub(1));
+    let hint = hint(alloc, fault, text, start)?;
     let mut out = Vec::new(alloc);
-    put_hint(&mut out, hint(alloc, fault.kind, line)?)?;
+    put_hint(&mut out, &hint)?;
     out.extend_from_slice(b": ")?;
-    put_line(&mut out, line)?;
+    put_line(&mut out, line_at(text, fault.line))?;
     Ok(out)
 }
 
 /// The failure of a listing of this name and text.
-pub fn failure_of(alloc: Global, fault: AsmFault, name: &str, text: &[u8]) -> Failure
-    ensures { (m : Result (List ℕ) AsmFault) → FailsWith fault m → Reports name.now text.now m result }
+pub fn failure_of(alloc: Global, fault: AsmFault, name: &str, text: &[u8], start: u16) -> Failure
+    requires { FailsWith fault start text.now }
+    ensures { Reports name.now start text.now result }
 {
     if fault.kind == AsmFaultKind::Memory {
         return Failure::Memory;
     }
-    match (String::from_str(alloc, name), about(alloc, fault, text)) {
+    match (
+        String::from_str(alloc, name),
+        about(alloc, fault, text, start),
+    ) {
         (Ok(name), Ok(said)) => Failure::Line(name, fault, said),
         _ => Failure::Memory,
     }

@@ -1,6 +1,6 @@
 //! The listing that a text with halves stands for.
 
-ghost use Rattle.std.specs.Prelude.{◌≡◌, ◌&&◌, ◌++◌, IfOk, None, is_some};
+ghost use Rattle.std.specs.Prelude.{◌≡◌, ◌++◌, IfOk, None, is_some};
 ghost use Rattle.std.specs.List.{list_any};
 ghost use Rattle.std.specs.Option.{option_map};
 ghost use Rattle.stmt65.specs.Code.SourceLineViews.{source_of};
@@ -8,7 +8,7 @@ ghost use Rattle.stmt65.specs.Lexing.{parts};
 ghost use Rattle.stmt65.specs.Reading.{reading_of};
 ghost use Rattle.text65.specs.Lines.{text_lines};
 ghost use Rattle.as65.specs.Filled.{fault_at, filled, first_fault, lines_filled};
-ghost use Rattle.as65.specs.Halves.{has_halves, has_values, line_fault, line_filled, lowest, piece_fault, piece_text, pieces, pieces_text, takes_halves};
+ghost use Rattle.as65.specs.Halves.{has_halves, is_filled_line, line_fault, line_filled, lowest, piece_fault, piece_text, pieces, pieces_text, takes_halves};
 ghost use Rattle.as65.specs.Code.HalfViews.{piece_of};
 
 use crate::half_values::{Numbers, counted_half, half_of, lower};
@@ -89,7 +89,7 @@ fn is_line(alloc: Global, line: &[u8]) -> Result<bool, AllocError>
 
 /// Whether each half of a line has a value, and the line may have them.
 fn is_filled_line(alloc: Global, line: &[u8]) -> Result<bool, AllocError>
-    ensures { IfOk result (λ is. is ≡ (has_values (lowest None None (pieces line.now)) && takes_halves (reading_of (parts (pieces_text None (pieces line.now)))))) }
+    ensures { IfOk result (λ is. is ≡ is_filled_line line.now) }
 {
     let none: Numbers<'static, 'static> = Numbers { names: None };
     let mut zeros = Vec::new(alloc);

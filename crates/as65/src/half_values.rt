@@ -5,7 +5,7 @@ ghost use Rattle.std.specs.Option.{option_map};
 ghost use Rattle.stmt65.specs.Code.Found.{Gives};
 ghost use Rattle.stmt65.specs.Code.SourceLineViews.{source_of, value_of as value_seen};
 ghost use Rattle.stmt65.specs.FaultLaws.{rank};
-ghost use Rattle.as65.specs.Halves.{counted, counted_half, half_of, is_clear, is_plain, lower, operand_value, word_or_fault};
+ghost use Rattle.as65.specs.Halves.{counted, counted_half, half_line, half_of, is_clear, is_plain, lower, operand_value, word_or_fault};
 ghost use Rattle.as65.specs.Code.HalfViews.{half_seen};
 
 use crate::halves::Half;
@@ -40,7 +40,7 @@ fn is_clear(half: &Half<'_>, value: Value<'_>) -> bool
 
 /// The value in an operand of `jmp`.
 #[tactic(auto, unfolding(crate::specs::Halves::operand_value))]
-fn operand_value<'a>(half: &Half<'_>, source: &Option<SourceLine<'a>>) -> Option<Value<'a>>
+pub fn operand_value<'a>(half: &Half<'_>, source: &Option<SourceLine<'a>>) -> Option<Value<'a>>
     ensures { Gives value_seen result (operand_value (half_seen half.now) (option_map source_of source.now)) }
 {
     match source {
@@ -86,6 +86,16 @@ fn counted(numbers: &Numbers<'_, '_>, value: Option<Value<'_>>) -> Result<u16, A
     }
 }
 
+/// A line with the value of a half as its operand.
+pub fn half_line(alloc: Global, half: &Half<'_>) -> Result<Vec<u8>, AllocError>
+    ensures { IfOk result (λ line. line.items ≡ half_line (half_seen half.now)) }
+{
+    let mut line = Vec::new(alloc);
+    line.extend_from_slice(b"jmp ")?;
+    line.extend_from_slice(half.text)?;
+    Ok(line)
+}
+
 /// What the value of a half counts, or its fault. Without names each value counts 0.
 pub fn counted_half(
     alloc: Global,
@@ -94,9 +104,7 @@ pub fn counted_half(
 ) -> Result<Result<u16, AsmFaultKind>, AllocError>
     ensures { IfOk result (λ n. n ≡ counted_half numbers.now.names (half_seen half.now)) }
 {
-    let mut line = Vec::new(alloc);
-    line.extend_from_slice(b"jmp ")?;
-    line.extend_from_slice(half.text)?;
+    let line = half_line(alloc, half)?;
     let source = read_line(alloc, &line)?;
     Ok(counted(numbers, operand_value(half, &source)))
 }

@@ -1,9 +1,10 @@
 //! Which line of a listing gave a byte.
 
-ghost use Rattle.std.specs.Prelude.{◌≡◌, ◌+◌, ◌-◌, ◌≤◌, [], drop, get_or, length, nat_le};
+ghost use Rattle.std.specs.Prelude.{◌≡◌, ◌+◌, ◌≤◌, [], drop, get_or, length, nat_le};
 ghost use Rattle.std.specs.List.{prefix_len};
 ghost use Rattle.text65.specs.Lines.{text_lines};
-ghost use Rattle.stmt65.specs.LineAddresses.{line_past};
+ghost use Rattle.as65.specs.Origins.{Moves};
+ghost use Rattle.as65.specs.Hint.{line_at};
 
 use std::marker::Model;
 use text65::first_line;
@@ -53,11 +54,11 @@ fn after_lines(text: &[u8], count: usize) -> &[u8]
     rest
 }
 
-/// The line after this many lines; empty if there is none.
-pub(crate) fn line_after(text: &[u8], count: usize) -> &[u8]
-    ensures { result.now ≡ get_or (drop count (text_lines text.now)) 0 [] }
+/// The line of this number, from 1; empty if there is none.
+pub(crate) fn line_at(text: &[u8], number: usize) -> &[u8]
+    ensures { result.now ≡ line_at number text.now }
 {
-    match first_line(after_lines(text, count)) {
+    match first_line(after_lines(text, number.saturating_sub(1))) {
         Some((line, _)) => line,
         None => &[],
     }
@@ -85,10 +86,8 @@ impl<'a> Origins<'a> {
 
     /// The line that gave the byte at this address, if no earlier call asked for a higher one.
     pub fn of_byte(&mut self, address: u64) -> Origin<'a>
-        ensures number { result.number ≡ self.old.passed + line_past address self.old.ends }
-        ensures passed { self.new.passed + 1 ≡ result.number }
-        ensures ends { self.new.ends ≡ drop (self.new.passed - self.old.passed) self.old.ends }
-        ensures lines { self.new.lines ≡ drop (self.new.passed - self.old.passed) self.old.lines }
+        ensures moves { Moves address self.old self.new }
+        ensures number { result.number ≡ self.new.passed + 1 }
         ensures line { result.line.now ≡ get_or self.new.lines 0 [] }
     {
         let count = count_up_to(self.ends, address);

@@ -1,14 +1,18 @@
 -- The lines are passed over once, as the stretches rise.
-use Rattle.std.specs.Prelude.{ℕ, ◌+◌, ◌≤◌, List, [], ◌∷◌, length, nat_le}
+use Rattle.std.specs.Prelude.{ℕ, ◌+◌, ◌≤◌, List, [], ◌∷◌, get_or, length, nat_le}
 use Rattle.std.specs.List.{prefix_len}
 use Rattle.map65.specs.ImageView.{ImageView}
-use Rattle.as65.specs.Differences.{Compared}
+use Rattle.as65.specs.Differences.{Compared, stretch_bytes, stretch_line}
 use Rattle.as65.specs.Origins.{OriginsView}
 use Rattle.as65.specs.declared.stretches.Stretch.{Stretch}
 
 -- an image beside bytes, and the lines that gave them
 abbrev pub beside : ImageView → List ℕ → OriginsView → Compared
 beside image bytes o = record { start = image.start; image = image.bytes; bytes = bytes; lines = o.lines; ends = o.ends }
+
+-- the line of a stretch whose first byte is given by the first line that is left
+abbrev pub line_left : Compared → OriginsView → Stretch → List ℕ
+line_left c o s = stretch_line (c.start + s.at) (stretch_bytes s c.image) (stretch_bytes s c.bytes) (o.passed + 1) (get_or o.lines 0 [])
 
 -- both rows have the bytes of the stretch
 pub record IsInBoth (one other : List ℕ) (s : Stretch) : Type 0 where

@@ -2,7 +2,7 @@ use Rattle.std.proofs.Common.{◌+◌, ◌∷◌, ℕ, List, subst, sym}
 use Rattle.as65.specs.Code.Passing.{IsReady, beside}
 use Rattle.as65.specs.Differences.{line_of}
 use Rattle.as65.specs.declared.stretches.Stretch.{Stretch}
-use Rattle.as65.proofs.PassingLemmas.{AreLeft, Moves, left_after, line_is, passed_is, ready_both, ready_first, ready_later, text_more}
+use Rattle.as65.proofs.PassingLemmas.{AreLeft, left_after, line_is, passed_is, ready_both, ready_first, ready_later, text_more}
 use Rattle.as65.proofs.differences.put_all.Goals as goal
 
 pub put_found-requires : goal.put_found-requires
@@ -22,7 +22,7 @@ stretches-preserved c =
     let ready : IsReady all old.passed (s ∷ c.in-Some.later.now) = subst P c.in-Some.ensures.cases.0 c.stretches.invariant.ready in
     let few = ready_first all old.passed s c.in-Some.later.now ready in
     let left : AreLeft all old = record { ends = c.stretches.invariant.ends; lines = c.stretches.invariant.lines } in
-    let moves : Moves (all.start + s.at) old new = record { passed = c.put_found.ensures.passed; ends = c.put_found.ensures.ends; lines = c.put_found.ensures.lines } in
+    let moves = c.put_found.ensures.moves in
     let is = passed_is all s old new left moves few in
     let after : AreLeft all new = left_after all s old new left moves few in
     let Q : ℕ → Type 0 = λ n. IsReady all n c.in-Some.later.now in
