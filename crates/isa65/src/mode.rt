@@ -44,7 +44,7 @@ pub enum Mode {
 
 impl Mode {
     /// The operands of the mode: how they are written, and the kind of each.
-    #[inline(always)]
+    #[inline]
     pub fn row(self) -> Row
         ensures { result ≡ row_of self }
     {
@@ -69,7 +69,7 @@ impl Mode {
     }
 
     /// The length of an instruction of this mode, opcode included: 1 to 3 bytes.
-    #[inline(always)]
+    #[inline]
     pub fn len(self) -> u8
         ensures { result ≡ len_of self }
     {

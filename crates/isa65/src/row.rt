@@ -37,7 +37,7 @@ pub enum OperandKind {
 
 impl OperandKind {
     /// How many bytes the operand has.
-    #[inline(always)]
+    #[inline]
     pub fn size(self) -> u8
         ensures { result ≡ size_of self }
     {

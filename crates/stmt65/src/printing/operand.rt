@@ -58,29 +58,18 @@ fn put_long(out: &mut Line, offsets: Offsets, expr: &Expr)
     }
 }
 
-/// Appends an operand of this kind between two texts.
-fn put_between(
-    out: &mut Line,
-    offsets: Offsets,
-    before: &[u8],
-    kind: OperandKind,
-    expr: &Expr,
-    after: &[u8],
-)
+/// Appends an operand of this kind.
+fn put_kind(out: &mut Line, offsets: Offsets, kind: OperandKind, expr: &Expr)
     requires room { array_vec_len out.old ≤ 300 }
     requires operand { IsOperand kind (expr_seen expr.now) }
-    requires before_fits { length before.now ≤ 3 }
-    requires after_fits { length after.now ≤ 3 }
-    ensures items { out.new.items ≡ out.old.items ++ (before.now ++ kind_text (in_hex offsets) kind (expr_seen expr.now) ++ after.now) }
-    ensures len { array_vec_len out.new ≤ array_vec_len out.old + 92 }
+    ensures items { out.new.items ≡ out.old.items ++ kind_text (in_hex offsets) kind (expr_seen expr.now) }
+    ensures len { array_vec_len out.new ≤ array_vec_len out.old + 86 }
     ensures width { IsWordWide (expr_seen expr.now) }
 {
-    put(out, before);
     match kind {
         OperandKind::Byte | OperandKind::ZeroPage => put_short(out, offsets, expr),
         OperandKind::Word | OperandKind::Distance => put_long(out, offsets, expr),
     }
-    put(out, after);
 }
 
 /// Appends the operand of a row that writes one, in its pattern.
@@ -96,13 +85,34 @@ fn put_one(out: &mut Line, offsets: Offsets, row: Row, expr: &Expr)
         unreachable!()
     };
     match pattern {
-        Pattern::Immediate => put_between(out, offsets, b"#", kind, expr, b""),
-        Pattern::Direct => put_between(out, offsets, b"", kind, expr, b""),
-        Pattern::DirectX => put_between(out, offsets, b"", kind, expr, b",x"),
-        Pattern::DirectY => put_between(out, offsets, b"", kind, expr, b",y"),
-        Pattern::Indirect => put_between(out, offsets, b"(", kind, expr, b")"),
-        Pattern::IndirectX => put_between(out, offsets, b"(", kind, expr, b",x)"),
-        Pattern::IndirectY => put_between(out, offsets, b"(", kind, expr, b"),y"),
+        Pattern::Immediate => {
+            out.push(b'#');
+            put_kind(out, offsets, kind, expr);
+        }
+        Pattern::Direct => put_kind(out, offsets, kind, expr),
+        Pattern::DirectX => {
+            put_kind(out, offsets, kind, expr);
+            put(out, b",x");
+        }
+        Pattern::DirectY => {
+            put_kind(out, offsets, kind, expr);
+            put(out, b",y");
+        }
+        Pattern::Indirect => {
+            out.push(b'(');
+            put_kind(out, offsets, kind, expr);
+            out.push(b')');
+        }
+        Pattern::IndirectX => {
+            out.push(b'(');
+            put_kind(out, offsets, kind, expr);
+            put(out, b",x)");
+        }
+        Pattern::IndirectY => {
+            out.push(b'(');
+            put_kind(out, offsets, kind, expr);
+            put(out, b"),y");
+        }
     }
 }
 
@@ -117,8 +127,9 @@ fn put_two(out: &mut Line, offsets: Offsets, row: Row, first: &Expr, second: &Ex
     let Row::Two(tested, target) = row else {
         unreachable!()
     };
-    put_between(out, offsets, b"", tested, first, b",");
-    put_between(out, offsets, b"", target, second, b"");
+    put_kind(out, offsets, tested, first);
+    out.push(b',');
+    put_kind(out, offsets, target, second);
 }
 
 /// The operand of a row that writes no expression.
@@ -134,14 +145,15 @@ fn bare(row: Row) -> &'static [u8]
     }
 }
 
-/// The prefix that makes an operand absolute.
-fn prefix(size: AddressSize) -> &'static [u8]
-    ensures text { result.now ≡ prefix_text (is_absolute size) }
-    ensures len { length result.now ≤ 2 }
+/// Appends the prefix that makes an operand absolute, if there is one.
+fn put_prefix(out: &mut Line, size: AddressSize)
+    requires { array_vec_len out.old ≤ 500 }
+    ensures items { out.new.items ≡ out.old.items ++ prefix_text (is_absolute size) }
+    ensures len { array_vec_len out.new ≤ array_vec_len out.old + 2 }
 {
     match size {
-        AddressSize::Absolute => b"a:",
-        AddressSize::Automatic => b"",
+        AddressSize::Absolute => put(out, b"a:"),
+        AddressSize::Automatic => {}
     }
 }
 
@@ -161,10 +173,11 @@ pub(super) fn put_operands(
     ensures len { array_vec_len out.new ≤ array_vec_len out.old + 200 }
     ensures width { AreWordWide (operands_seen operands.now) }
 {
-    put(out, prefix(size));
+    put_prefix(out, size);
+    let row = mode.row();
     match operands {
-        Operands::None => put(out, bare(mode.row())),
-        Operands::One(expr) => put_one(out, offsets, mode.row(), expr),
-        Operands::Two(first, second) => put_two(out, offsets, mode.row(), first, second),
+        Operands::None => put(out, bare(row)),
+        Operands::One(expr) => put_one(out, offsets, row, expr),
+        Operands::Two(first, second) => put_two(out, offsets, row, first, second),
     }
 }
