@@ -1,13 +1,15 @@
 -- How codings are found and how long they are.
-use Rattle.std.proofs.Common.{◌≡◌, ℕ, Bool, true, false, ◌+◌, List, [], ◌∷◌, ◌++◌, length, map, Option, Some, None, refl, ap, ◌∙◌, append_assoc, arith}
+use Rattle.std.proofs.Common.{◌≡◌, ℕ, Bool, true, false, ◌+◌, List, [], ◌∷◌, ◌++◌, length, map, Option, Some, None, refl, ap, sym, ◌∙◌, append_assoc, arith}
 use Rattle.isa65.specs.declared.cpu.Cpu.{Cpu}
 use Rattle.isa65.specs.declared.mnemonic.Mnemonic.{Mnemonic}
 use Rattle.isa65.specs.Cpu.{table_of}
 use Rattle.isa65.specs.Opcodes.{encoded}
-use Rattle.std.specs.Prelude.{◌&&◌}
+use Rattle.std.specs.Prelude.{◌&&◌, is_some, option_and_then}
+use Rattle.std.proofs.lemmas.Bool.{and_parts}
 use Rattle.std.specs.List.{list_all, flat_map}
-use Rattle.stmt65.specs.Symbols.{Definition}
-use Rattle.stmt65.specs.Coding.{Fragment, Fixed, fragment_len, Way, first_way, coded_so, is_fragment_known, fragment_fits, fragment_bytes, coding_len}
+use Rattle.stmt65.specs.SourceLine.{Value, NumberValue, NameValue}
+use Rattle.stmt65.specs.Symbols.{Definition, below, find_name, is_known, lowered, value_in, word_in}
+use Rattle.stmt65.specs.Coding.{Fragment, Fixed, Single, ZeroPage, Oversized, Entry, Distance, entry_in, entry_limit, is_near, fragment_len, Way, first_way, coded_so, is_fragment_known, fragment_fits, fragment_bytes, coding_len}
 use Rattle.stmt65.specs.Code.Held.{held}
 
 abbrev pub or_way : Option (List Fragment) → Option (List Fragment) → Option (List Fragment)
@@ -34,8 +36,6 @@ first_missed None fragments others e = refl
 first_missed (Some b) fragments others e = cc
 
 pub ruleset tries = (first_found, first_missed)
-
--- after the two modes of a size, another way
 
 -- the same of ways before other ways
 pub found_first : (cpu : Cpu) (m : Mnemonic) (ws vs : List Way) (x : List Fragment) → Some x ≡ first_way cpu m ws → Some x ≡ first_way cpu m (ws ++ vs)
@@ -90,6 +90,44 @@ list_all_append p (f ∷ fs) gs = go (p f) refl (list_all_append p fs gs)
     go : (b : Bool) → p f ≡ b → list_all p (fs ++ gs) ≡ (list_all p fs && list_all p gs) → (p f && list_all p (fs ++ gs)) ≡ ((p f && list_all p fs) && list_all p gs)
     go true e ih = rw e ih
     go false e ih = rw e refl
+
+-- an expression that has a value, a small one or one near an address, has names that are defined
+below_some : (limit : ℕ) (o : Option ℕ) → is_some (below limit o) ≡ true → is_some o ≡ true
+below_some limit None h = cc
+below_some limit (Some n) h = refl
+
+near_some : (next : ℕ) (o : Option ℕ) → is_near next o ≡ true → is_some o ≡ true
+near_some next None h = cc
+near_some next (Some n) h = refl
+
+value_known : (all : List Definition) (v : Value) → is_some (value_in all v) ≡ true → is_known all v ≡ true
+unfolding value_in is_known
+value_known all (NumberValue n) h = refl
+value_known all (NameValue w n minus) h = go (find_name w all) h
+  where
+    go : (o : Option Definition) → is_some (option_and_then (λ d. lowered minus (d.value + n)) o) ≡ true → is_some o ≡ true
+    go None h = cc
+    go (Some d) h = refl
+
+word_known : (all : List Definition) (v : Value) → is_some (word_in all v) ≡ true → is_known all v ≡ true
+unfolding word_in
+word_known all v h = value_known all v (below_some 65536 (value_in all v) h)
+
+fragment_known : (all : List Definition) (next : ℕ) (f : Fragment) → fragment_fits all next f ≡ true → is_fragment_known all f ≡ true
+unfolding fragment_fits entry_in
+fragment_known all next (Fixed b) h = refl
+fragment_known all next (Single v) h = word_known all v (below_some 256 (word_in all v) h)
+fragment_known all next (ZeroPage v) h = word_known all v (below_some 256 (word_in all v) h)
+fragment_known all next (Oversized v) h = cc
+fragment_known all next (Entry d v) h = value_known all v (below_some (entry_limit d) (value_in all v) h)
+fragment_known all next (Distance v) h = word_known all v (near_some next (word_in all v) h)
+
+-- so has a coding that has room for its values
+pub known_where_fit : (all : List Definition) (next : ℕ) (fs : List Fragment) → true ≡ list_all (fragment_fits all next) fs → true ≡ list_all (is_fragment_known all) fs
+known_where_fit all next [] h = refl
+known_where_fit all next (f ∷ fs) h =
+    let both = and_parts (fragment_fits all next f) (list_all (fragment_fits all next) fs) (sym h) in
+    rw (fragment_known all next f both.0) (known_where_fit all next fs (sym both.1))
 
 pub string_known : (all : List Definition) (bs : List ℕ) → list_all (is_fragment_known all) (map Fixed bs) ≡ true
 string_known all [] = refl

@@ -1,6 +1,8 @@
 -- What a part of the code stands for.
+use Rattle.std.specs.Prelude.{ℕ, List, [], ◌∷◌, Option, Some, None}
 use Rattle.stmt65.specs.declared.reading.lexer.Part.{Part as CodePart}
 use Rattle.stmt65.specs.declared.reading.lexer.Part.TheVariants as code
+use Rattle.stmt65.specs.Lexing.{parts}
 use Rattle.stmt65.specs.Parts.{Part, Word, Number, Text, Define, Mark}
 
 abbrev pub part_of : CodePart → Part
@@ -9,3 +11,8 @@ part_of (code.Number t) = Number t.now
 part_of (code.Text t) = Text t.now
 part_of code.Define = Define
 part_of (code.Mark b) = Mark b
+
+-- a part that was cut, if there was one, and those of the bytes after it
+abbrev pub parts_from : Option CodePart → List ℕ → List Part
+parts_from None rest = []
+parts_from (Some part) rest = part_of part ∷ parts rest

@@ -29,10 +29,16 @@ fn has_unknown_cpu<'a, B: Allocator>(source: &SourceLine<'a, B>) -> bool
     }
 }
 
-fn is_known<A: Allocator + Clone>(all: &Symbols<'_, A>, coded: Option<Coded>) -> bool
-    ensures { result ≡ list_all (is_fragment_known all.now) (fragments_in coded.entry) }
+/// Whether each name in the coding has a definition: so it has if the values have room, and then it is not looked up again.
+#[tactic(auto, using(crate::proofs::CodingLemmas::known_where_fit))]
+fn is_known<A: Allocator + Clone>(all: &Symbols<'_, A>, placed: Placed, has_room: bool) -> bool
+    requires { has_room ≡ list_all (fragment_fits all.now placed.next) (fragments_in placed.coded) }
+    ensures { result ≡ list_all (is_fragment_known all.now) (fragments_in placed.entry.coded) }
 {
-    match coded {
+    if has_room {
+        return true;
+    }
+    match placed.coded {
         Some(coded) => are_known(all, coded),
         None => true,
     }
@@ -65,10 +71,10 @@ fn is_large(definition: Option<Definition>) -> bool
     }
 }
 
-fn is_out_of_range<A: Allocator + Clone>(all: &Symbols<'_, A>, placed: Placed) -> bool
-    ensures { result ≡ (list_any (λ d. nat_lt 65535 d.value) (definitions_in placed.entry.definition) || not (list_all (fragment_fits all.now placed.entry.next) (fragments_in placed.entry.coded))) }
+fn is_out_of_range(definition: Option<Definition>, has_room: bool) -> bool
+    ensures { result ≡ (list_any (λ d. nat_lt 65535 d.value) (definitions_in definition.entry) || not has_room) }
 {
-    is_large(placed.definition) || !has_room(all, placed.next, placed.coded)
+    is_large(definition) || !has_room
 }
 
 /// The first kind whose test holds.
@@ -93,15 +99,19 @@ pub fn fault_of<'a, A: Allocator + Clone, B: Allocator>(
     requires { IsPlaced placed (state_of state.now) (source_of source.now) }
     ensures { result ≡ fault_of all.now (state_of state.now) (Some (source_of source.now)) }
 {
+    let has_room = has_room(all, placed.next, placed.coded);
     first_of(&[
         (AsmFaultKind::UnknownCpu, has_unknown_cpu(source)),
         (AsmFaultKind::NoSuchForm, placed.coded.is_none()),
-        (AsmFaultKind::Undefined, !is_known(all, placed.coded)),
+        (AsmFaultKind::Undefined, !is_known(all, placed, has_room)),
         (
             AsmFaultKind::DefinedTwice,
             is_above(&state.above, placed.definition),
         ),
-        (AsmFaultKind::OutOfRange, is_out_of_range(all, placed)),
+        (
+            AsmFaultKind::OutOfRange,
+            is_out_of_range(placed.definition, has_room),
+        ),
         (AsmFaultKind::PastEnd, placed.next > 65536),
     ])
 }

@@ -1,14 +1,15 @@
 //! The value and size of an expression.
 
-ghost use Rattle.std.specs.Prelude.{◌≡◌};
-ghost use Rattle.stmt65.specs.Code.SourceLineViews.{value_of};
-ghost use Rattle.stmt65.specs.Code.Held.{held_value};
+ghost use Rattle.std.specs.Prelude.{◌≡◌, ◌+◌};
+ghost use Rattle.stmt65.specs.Code.SourceLineViews.{numeral_of, value_of};
+ghost use Rattle.stmt65.specs.Code.Held.{held, held_value};
 ghost use Rattle.stmt65.specs.Coding.{entry_limit, entry_in};
-ghost use Rattle.stmt65.specs.Symbols.{find_name, below, lowered, value_in, is_known, word_in, is_small, is_constant, has_zero_page_size};
+ghost use Rattle.stmt65.specs.Symbols.{below, lowered, value_in, is_known, word_in, is_small, has_zero_page_size};
 
 use crate::assembling::entries::limit;
-use crate::assembling::symbols::Symbols;
+use crate::assembling::symbols::{Definition, Symbols};
 use crate::directive::Directive;
+use crate::reading::numeral::Numeral;
 use crate::source_line::{Minus, Value};
 use std::alloc::Allocator;
 
@@ -22,9 +23,16 @@ fn value_in<A: Allocator + Clone>(names: &Symbols<'_, A>, value: Value) -> Optio
         Value::Number(n) => Some(u128::from(n.value())),
         Value::Name(name, n, minus) => {
             let definition = names.find(name)?;
-            lowered(minus, u128::from(definition.value) + u128::from(n.value()))
+            value_from(definition, n, minus)
         }
     }
+}
+
+/// The value of a name with this definition, and of what is added to it.
+fn value_from(definition: Definition, n: Numeral, minus: Minus) -> Option<u128>
+    ensures { result ≡ lowered minus (definition.entry.value + held (numeral_of n.entry)) }
+{
+    lowered(minus, u128::from(definition.value) + u128::from(n.value()))
 }
 
 /// The difference, or `None` if it is below 0.
@@ -91,13 +99,18 @@ pub fn entry_in<A: Allocator + Clone>(
 }
 
 /// Whether the expression has zero-page size, with its number held in 64 bits.
-#[tactic(auto, unfolding(crate::specs::Symbols::has_zero_page_size))]
+#[tactic(auto, unfolding(crate::specs::Symbols::has_zero_page_size, crate::specs::Symbols::value_in))]
 fn held_zero_page_size<A: Allocator + Clone>(above: &Symbols<'_, A>, value: Value) -> bool
     ensures { result ≡ has_zero_page_size above.now (held_value (value_of value.entry)) }
 {
     match value {
         Value::Number(n) => n.value() < 256,
-        Value::Name(name, _, _) => is_constant(above, name) && is_small(value_in(above, value)),
+        Value::Name(name, n, minus) => match above.find(name) {
+            Some(definition) => {
+                definition.constant && is_small(value_from(definition, n, minus))
+            }
+            None => false,
+        },
     }
 }
 
@@ -106,15 +119,6 @@ pub fn has_zero_page_size<A: Allocator + Clone>(above: &Symbols<'_, A>, value: V
     ensures { result ≡ has_zero_page_size above.now (value_of value.entry) }
 {
     held_zero_page_size(above, value)
-}
-
-fn is_constant<A: Allocator + Clone>(above: &Symbols<'_, A>, name: &[u8]) -> bool
-    ensures { result ≡ is_constant (find_name name.now above.now) }
-{
-    match above.find(name) {
-        Some(definition) => definition.constant,
-        None => false,
-    }
 }
 
 fn is_small(value: Option<u128>) -> bool

@@ -12,20 +12,21 @@ use crate::reading::lexer::{Part, first_part};
 use crate::reading::numeral::Numeral;
 use std::marker::Model;
 
-/// The parts of a line that are left, which contracts see as their list.
+/// The parts of a line that are left, which contracts see as their list. The first of them is cut already, so that each is cut once.
 #[derive(Drop)]
 pub struct Parts<'a> {
+    first: Option<Part<'a>>,
     rest: &'a [u8],
 }
 
 impl<'a> Model for Parts<'a> {
     ghost use Rattle.std.specs.Prelude.{List};
     ghost use Rattle.stmt65.specs.Parts.{Part as APart};
-    ghost use Rattle.stmt65.specs.Lexing.{parts};
+    ghost use Rattle.stmt65.specs.Code.PartViews.{parts_from};
 
     ghost Value = { List APart };
 
-    ghost view = { λ p. parts p.rest.now };
+    ghost view = { λ p. parts_from p.first p.rest.now };
 }
 
 impl<'a> Parts<'a> {
@@ -33,7 +34,16 @@ impl<'a> Parts<'a> {
     pub fn new(line: &'a [u8]) -> Self
         ensures { result ≡ parts line.now }
     {
-        Parts { rest: line }
+        match first_part(line) {
+            Some((part, rest)) => Parts {
+                first: Some(part),
+                rest,
+            },
+            None => Parts {
+                first: None,
+                rest: line,
+            },
+        }
     }
 
     /// Takes the next part. At the end the answer is `None`, again and again.
@@ -41,9 +51,18 @@ impl<'a> Parts<'a> {
         ensures { MatchOption result ((self.old ≡ []) × (self.new ≡ []))
             (λ part. self.old ≡ part_of part ∷ self.new) }
     {
-        let (part, rest) = first_part(self.rest)?;
-        self.rest = rest;
+        let part = self.first?;
+        self.pass();
         Some(part)
+    }
+
+    /// Passes over the next part, if there is one.
+    fn pass(&mut self)
+        ensures { self.new ≡ drop 1 self.old }
+    {
+        if self.first.is_some() {
+            *self = Parts::new(self.rest);
+        }
     }
 
     /// Takes the next part if it is this byte by itself.
@@ -52,9 +71,9 @@ impl<'a> Parts<'a> {
         ensures taken { OnTrue result (self.new ≡ drop 1 self.old) }
         ensures left { OnFalse result (self.new ≡ self.old) }
     {
-        if let Some((Part::Mark(b), rest)) = first_part(self.rest) {
+        if let Some(Part::Mark(b)) = self.first {
             if b == mark {
-                self.rest = rest;
+                self.pass();
                 return true;
             }
         }
@@ -67,9 +86,9 @@ impl<'a> Parts<'a> {
         ensures taken { OnTrue result (self.new ≡ drop 1 self.old) }
         ensures left { OnFalse result (self.new ≡ self.old) }
     {
-        if let Some((Part::Word(w), rest)) = first_part(self.rest) {
+        if let Some(Part::Word(w)) = self.first {
             if w.eq_ignore_ascii_case(word) {
-                self.rest = rest;
+                self.pass();
                 return true;
             }
         }
@@ -82,9 +101,9 @@ impl<'a> Parts<'a> {
         ensures taken { OnTrue result (self.new ≡ drop 1 self.old) }
         ensures left { OnFalse result (self.new ≡ self.old) }
     {
-        if let Some((Part::Number(t), rest)) = first_part(self.rest) {
+        if let Some(Part::Number(t)) = self.first {
             if t == text {
-                self.rest = rest;
+                self.pass();
                 return true;
             }
         }
@@ -97,8 +116,8 @@ impl<'a> Parts<'a> {
         ensures taken { OnTrue result (self.new ≡ drop 1 self.old) }
         ensures left { OnFalse result (self.new ≡ self.old) }
     {
-        if let Some((Part::Define, rest)) = first_part(self.rest) {
-            self.rest = rest;
+        if let Some(Part::Define) = self.first {
+            self.pass();
             return true;
         }
         false
@@ -118,6 +137,6 @@ impl<'a> Parts<'a> {
     pub fn is_done(&self) -> bool
         ensures { result ≡ is_nil self.now }
     {
-        first_part(self.rest).is_none()
+        self.first.is_none()
     }
 }

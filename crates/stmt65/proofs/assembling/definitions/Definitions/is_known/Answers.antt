@@ -1,4 +1,4 @@
-use Rattle.std.proofs.Common.{◌≡◌, List, ap, map, sym, ◌∙◌}
+use Rattle.std.proofs.Common.{◌≡◌, List, ap, map, ◌∙◌}
 use Rattle.stmt65.specs.Code.MeaningViews.{held_definition}
 use Rattle.stmt65.specs.Code.SourceLineViews.{value_of}
 use Rattle.stmt65.specs.Symbols.{Definition, is_known}
