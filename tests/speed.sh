@@ -92,13 +92,13 @@ echo 'RANGE { START 0; END $FFFF; TYPE BYTETABLE; };' >table.info
 } >segments.info
 
 printf '%-44s %12s %12s %8s\n' 'instructions for 64 KiB' 'here' 'cc65' 'ratio'
-declare -A random=([6502]=27.4 [65SC02]=28.3 [65C02]=29.2)
+declare -A random=([6502]=24.8 [65SC02]=25.6 [65C02]=26.6)
 for cpu in "${cpus[@]}"; do
     compares "random bytes, $cpu" "${random[$cpu]}" -S 0 --cpu "$cpu" random.bin
 done
-compares 'nop' 41.4 -S 0 nop.bin
-compares 'mixed bytes, without ranges' 27.4 -S 0 mixed.bin
-compares "mixed bytes, $(wc -l <mixed.info) ranges" 27.8 -S 0 -i mixed.info mixed.bin
+compares 'nop' 35.1 -S 0 nop.bin
+compares 'mixed bytes, without ranges' 24.8 -S 0 mixed.bin
+compares "mixed bytes, $(wc -l <mixed.info) ranges" 26.2 -S 0 -i mixed.info mixed.bin
 compares 'a byte table' 17.5 -S 0 -i table.info nop.bin
 compares 'a byte table in 1,024 segments' 38.2 -S 0 -i segments.info nop.bin
 
