@@ -57,9 +57,7 @@ test:
 	tests/program.sh bin/da65
 	tests/as65.sh bin/as65 bin/da65
 	tests/trace65.sh bin/trace65 bin/da65 bin/as65
-	tests/sweeps.sh bin/da65
-	tests/work.sh bin/da65
-	tests/speed.sh bin/da65
+	tests/growth.sh bin/da65
 	tests/docs.sh bin/da65
 	tests/ca65.sh bin/da65 10
 	@[ "$${CA65-}" != skip ] || echo 'CA65=skip: no listing went through ca65 and ld65, which need cc65'
@@ -74,7 +72,7 @@ manual:
 	python3 tests/lint --write manual
 
 speed: bin/da65
-	tests/speed.sh bin/da65
+	tests/growth.sh bin/da65 speed
 
 share := $(DESTDIR)$(PREFIX)/share
 

@@ -1,15 +1,20 @@
 #!/usr/bin/env bash
-# Lists random images of each CPU with random ranges, names, segments, comments and columns, and every example, and assembles
-# each listing with the real ca65 and ld65 of cc65, and with as65, which stands beside the program: the result must be the image. Then
-# random texts, most of them right and many with halves of values, go to both: where both give bytes, these are the same. The same seed gives the same images and texts.
+# The programs beside those of cc65. Each information file of tests/peer goes through this program and through cc65's da65, and what they
+# say is compared with the tables of docs/DIFFERENCES.md: each row has the file's name, what this program says, what cc65's says, and how the
+# listings compare. With `rows` in place of a count the rows that were found are printed, and nothing else is done.
+# Then random images of each CPU with random ranges, names, segments, comments and columns, and every example, are listed, and each
+# listing is assembled with the real ca65 and ld65, and with the as65 beside the program: the result must be the image. Then
+# random texts, most of them right and many with halves of values, go to both: where both give bytes, these are the same. The same seed
+# gives the same images and texts.
 # Left out, since ca65 treats them in its own way: a segment named ZEROPAGE, and a byte $FF in a comment.
 # Without ca65 and ld65 it fails, unless CA65=skip is set.
-# Usage: tests/ca65.sh PROGRAM [COUNT [SEED]]
+# Usage: tests/ca65.sh PROGRAM [COUNT [SEED]]      PEER is cc65's da65, /usr/bin/da65 if it is not set
 set -u
 program=$(realpath "$1")
 as65=$(dirname "$program")/as65
 count=${2:-10}
 first_seed=${3:-1}
+peer=${PEER:-/usr/bin/da65}
 root=$(realpath "$(dirname "$0")/..")
 if [ "${CA65-}" = skip ]; then
     echo 'ca65: left out, since CA65=skip is set'
@@ -18,17 +23,75 @@ elif ! command -v ca65 >/dev/null || ! command -v ld65 >/dev/null; then
     echo 'ca65: ca65 and ld65 are not there: install cc65, or set CA65=skip'
     exit 1
 fi
+. "$root/tests/rows.sh"
 . "$root/tests/random.sh"
-work=$(mktemp -d)
-cd "$work" || exit 1
 compared=0
 declare -A segmented=()
 
-# fails NAME CAUSE: ends the script, and leaves the files of the listing.
-fails() {
-    echo "ca65: $1: $2 (its files are in $work)"
+# stops NAME CAUSE: ends the script, and leaves the files of the listing.
+stops() {
+    fails "$1" "$2 (its files are in $work)"
+    trap - EXIT
     exit 1
 }
+
+# ---- what both da65 say
+
+# lists PROGRAM FILE LISTING: the program on the information file. A file that names no input gets image.bin at $1000.
+lists() {
+    local words=(-S 0x1000 image.bin)
+    grep -q INPUTNAME "$2" && words=()
+    "$1" -i "$2" "${words[@]}" >"$3" 2>messages
+}
+
+# The lines of a listing after its head, without empty ones, unless they follow a jump or a return.
+body() {
+    sed '1,/^ *\.setcpu/d' "$1" | awk '/./ { print; leaves = /jmp|rts/; next } leaves'
+}
+
+# row NAME: its cells, as they are in the page.
+row() {
+    local here=accepted there=accepted compared=-
+    lists "$program" "$1.info" here.s || here="\`$(cat messages)\`"
+    lists "$peer" "$1.info" there.s || there=refused
+    if [ "$here$there" = acceptedaccepted ]; then
+        compared=another
+        cmp -s <(body here.s) <(body there.s) && compared=same
+    fi
+    echo "| \`$1\` | $here | $there | $compared |"
+}
+
+# The rows of the files of tests/peer, each of which stands in docs/DIFFERENCES.md, which has no others.
+differs() {
+    local file found rows=0
+    cp "$root"/tests/peer/* .
+    printf '\xa5\x10\xe8\xd0\xfb\x85\x11\xea' >image.bin
+    printf '\x4c\x04\x10\x60\x60' >jumps.bin
+    printf '\xa5\x10\x6c\x10\x00' >indirect.bin
+    printf '\xdb\xcb' >stop.bin
+    printf '\xff\xff\x60' >ffff.bin
+    { printf '# %01048600d\n' 0; echo 'LABEL { ADDR $1000; NAME "start"; };'; } >above_1_mib.info
+    for file in *.info; do
+        found=$(row "${file%.info}")
+        if [ "$count" = rows ]; then
+            echo "$found"
+        elif ! grep -qF "$found" "$root/docs/DIFFERENCES.md"; then
+            fails 'docs/DIFFERENCES.md' "no row $found"
+        fi
+        rows=$((rows + 1))
+    done
+    [ "$count" != rows ] || exit 0
+    [ "$(grep -cE '^\| `[a-z0-9_]+` \|' "$root/docs/DIFFERENCES.md")" = "$rows" ] || fails 'docs/DIFFERENCES.md' 'a row without a file'
+    [ "$failed" != 0 ] || echo "ca65: $rows files do in both da65 what docs/DIFFERENCES.md says"
+}
+
+if "$peer" --version 2>&1 | grep -q '^da65 V'; then
+    differs
+else
+    echo "ca65: the rows of docs/DIFFERENCES.md are left out, since $peer is not cc65's da65"
+fi
+
+# ---- listings
 
 # The segments of a listing on standard input, one a line, in the order in which they are entered with a statement. A
 # segment that is entered again comes again. Without an argument; with `renamed` it prints the listing instead, in which
@@ -53,7 +116,7 @@ again='da65: warning: a segment is entered again'
 warns() {
     local expected=
     [ -z "$(segments <listing.s | sort | uniq -d)" ] || expected=$again
-    [ "$(cat messages)" = "$expected" ] || fails "$1" "messages: $(cat messages)"
+    [ "$(cat messages)" = "$expected" ] || stops "$1" "messages: $(cat messages)"
     [ -z "$expected" ] || { segments renamed <listing.s >renamed.s && mv renamed.s listing.s; }
 }
 
@@ -63,14 +126,14 @@ assembles() {
     local name=$1 start=$2 image=$3
     shift 3
     rm -f listing.s listing.o listing.out
-    (cd "$root" && "$program" "$@" -o "$work/listing.s") 2>messages || fails "$name" "$(cat messages)"
-    "$as65" -S "$start" --compare "$image" listing.s >differences 2>&1 || fails "$name" "as65: $(head -3 differences)"
+    (cd "$root" && "$program" "$@" -o "$work/listing.s") 2>messages || stops "$name" "$(cat messages)"
+    "$as65" -S "$start" --compare "$image" listing.s >differences 2>&1 || stops "$name" "as65: $(head -3 differences)"
     warns "$name"
     printf 'MEMORY { MAIN: start = $%04X, size = $%X, file = %%O; }\n' "$start" "$(stat -c %s "$image")" >listing.cfg
     printf 'SEGMENTS {\n%s\n}\n' "$(segments <listing.s | sed 's/.*/    &: load = MAIN, type = ro;/')" >>listing.cfg
-    ca65 --relax-checks -o listing.o listing.s 2>messages || fails "$name" "ca65: $(head -3 messages)"
-    ld65 -C listing.cfg -o listing.out listing.o 2>messages || fails "$name" "ld65: $(head -3 messages)"
-    cmp listing.out "$image" >messages 2>&1 || fails "$name" "$(cat messages)"
+    ca65 --relax-checks -o listing.o listing.s 2>messages || stops "$name" "ca65: $(head -3 messages)"
+    ld65 -C listing.cfg -o listing.out listing.o 2>messages || stops "$name" "ld65: $(head -3 messages)"
+    cmp listing.out "$image" >messages 2>&1 || stops "$name" "$(cat messages)"
     compared=$((compared + 1))
 }
 
@@ -199,7 +262,7 @@ for ((image = 1; image <= count; image++)); do
 done
 if [ "$count" -ge 10 ]; then
     for cpu in "${cpus[@]}"; do
-        [ -n "${segmented[$cpu]-}" ] || fails "seed $first_seed" "no listing for the $cpu enters a segment"
+        [ -n "${segmented[$cpu]-}" ] || stops "seed $first_seed" "no listing for the $cpu enters a segment"
     done
 fi
 
@@ -375,10 +438,10 @@ for ((text = 1; text <= texts; text++)); do
     printf 'MEMORY { MAIN: start = $%04X, size = $%X, file = %%O; }\n' "$start" $((65536 - start)) >listing.cfg
     printf 'SEGMENTS {\n%s\n}\n' "$(segments <renamed.s | sed 's/.*/    &: load = MAIN, type = ro;/')" >>listing.cfg
     ca65 --relax-checks -o listing.o renamed.s 2>messages && ld65 -C listing.cfg -o listing.out listing.o 2>messages || continue
-    cmp listing.out text.out >messages 2>&1 || fails "text $text of seed $first_seed" "$(cat messages)"
+    cmp listing.out text.out >messages 2>&1 || stops "text $text of seed $first_seed" "$(cat messages)"
     agreed=$((agreed + 1))
 done
-[ $((agreed * 2)) -ge "$texts" ] || fails "seed $first_seed" "$agreed of $texts texts have bytes for both"
+[ $((agreed * 2)) -ge "$texts" ] || stops "seed $first_seed" "$agreed of $texts texts have bytes for both"
 
-rm -rf "$work"
-echo "ca65: each of $compared listings assembles to its image, and $agreed of $texts texts give the same bytes"
+[ "$failed" = 0 ] && echo "ca65: each of $compared listings assembles to its image, and $agreed of $texts texts give the same bytes"
+exit "$failed"

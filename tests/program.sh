@@ -121,7 +121,7 @@ runs 'an information file is read before the output is created' 0 '' '' -i own.i
 holds 'an information file is read before the output is created' own.info "$header        .word   \$01A9\n        .byte   \$60\n"
 runs 'an input that can not be opened comes before an include file' 1 '' 'da65: cannot read no.bin\n' -i missing.info no.bin
 runs 'no input name comes before an include file' 1 '' 'da65: no input file\n' -i missing.info
-# A name that stands twice is that of one file. That it is read once is counted by tests/work.sh.
+# A name that stands twice is that of one file. That it is read once is counted by tests/growth.sh.
 printf 'CHROUT = $FFD2\n' | "$program" -i piped.info call.bin >stdout 2>stderr
 ends 'an include file from a pipe' 0 $? ''
 holds 'an include file from a pipe' stdout "$call"

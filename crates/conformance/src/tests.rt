@@ -21,3 +21,4 @@ mod segments;
 mod settings;
 mod texts;
 mod work;
+mod worked;

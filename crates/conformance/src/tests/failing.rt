@@ -1,8 +1,7 @@
 // Runs over devices that fail.
 use crate::tests::asserts::{assert_equal, assert_equal_at, assert_that, assert_that_at};
 use crate::tests::devices::{FAULTS, Fault, Short, Tape};
-use crate::tests::ranges::{START, WARNING};
-use crate::tests::runs::{THREE, THREE_LISTING, named, run_on};
+use crate::tests::runs::{THREE, THREE_LISTING, WARNING, named, run_on};
 use da65::{RunFault, Status};
 use std::io::ErrorKind;
 
@@ -152,7 +151,7 @@ fn a_warning_that_fails_or_takes_none(rt: HostRuntime) {
             let mut messages = Short::new(rt.alloc(), room, fault);
             let result = run_on(
                 rt.alloc(),
-                &named(&rt, rt.alloc(), Some(START)),
+                &named(&rt, rt.alloc(), Some(0x1000)),
                 SKIPPING,
                 [0xEA, 0x20, 0x30, 0xEA].as_slice(),
                 &mut listing,
@@ -179,7 +178,7 @@ fn a_listing_that_fails_has_no_warning(rt: HostRuntime) {
         let mut messages = Vec::new(rt.alloc());
         let result = run_on(
             rt.alloc(),
-            &named(&rt, rt.alloc(), Some(START)),
+            &named(&rt, rt.alloc(), Some(0x1000)),
             SKIPPING,
             [0xEA, 0x20, 0x30, 0xEA].as_slice(),
             &mut out,

@@ -1,194 +1,156 @@
 // Listings with names.
 use crate::tests::asserts::{assert_equal, assert_same, assert_that};
-use crate::tests::ranges::WARNING;
 use crate::tests::runs::{
     AT_1000, HEADER, assert_assembles, assert_lists, assert_refused, gives, gives_from, repeated,
 };
+use crate::tests::worked::show;
 use std::alloc::{AllocError, Global};
 use std::process::Abort;
 
-/// An image from a start on, an information file, whether offsets are hexadecimal by the command line, and the
-/// lines after the header.
-struct Named {
-    start: u16,
-    image: &'static [u8],
-    info: &'static str,
-    hexoffs: bool,
-    lines: &'static str,
-}
+const ROWS: &str = r#"
+= a return table
+-S $1000 image.bin < FF FF FF 0F
+RANGE { START $1000; END $1003; TYPE RTSTABLE; };
+--
+L1000:  .word   $FFFF
+        .word   L1000-1
+= an address table
+-S $1000 image.bin < 00 10 00 20
+RANGE { START $1000; SIZE 4; TYPE ADDRTABLE; };
+--
+L2000           := $2000
 
-const NAMED: &[Named] = &[
-    // a return table
-    Named {
-        start: 0x1000,
-        image: &[0xFF, 0xFF, 0xFF, 0x0F],
-        info: "RANGE { START $1000; END $1003; TYPE RTSTABLE; };",
-        hexoffs: false,
-        lines: "L1000:  .word   $FFFF\n        .word   L1000-1\n",
-    },
-    // an address table
-    Named {
-        start: 0x1000,
-        image: &[0x00, 0x10, 0x00, 0x20],
-        info: "RANGE { START $1000; SIZE 4; TYPE ADDRTABLE; };",
-        hexoffs: false,
-        lines: "L2000           := $2000\n\nL1000:  .addr   L1000\n        .addr   L2000\n",
-    },
-    // a leftover byte of each
-    Named {
-        start: 0x1000,
-        image: &[0x00, 0x20, 0x01],
-        info: "RANGE { START $1000; SIZE 3; TYPE ADDRTABLE; };",
-        hexoffs: false,
-        lines: "L2000           := $2000\n\n        .addr   L2000\n        .byte   $01\n",
-    },
-    // a word table cut at a name
-    Named {
-        start: 0x2000,
-        image: &[1, 2, 3, 4, 5],
-        info: "RANGE { START $2000; SIZE 5; TYPE WORDTABLE; }; LABEL { ADDR $2002; NAME \"mid\"; };",
-        hexoffs: false,
-        lines: "        .word   $0201\nmid:    .word   $0403\n        .byte   $05\n",
-    },
-    Named {
-        start: 0x2000,
-        image: &[1, 2, 3, 4, 5],
-        info: "RANGE { START $2000; SIZE 5; TYPE WORDTABLE; }; LABEL { ADDR $2001; NAME \"mid\"; };",
-        hexoffs: false,
-        lines: "        .byte   $01\nmid:    .word   $0302,$0504\n",
-    },
-    // a target inside a word
-    Named {
-        start: 0x1FFF,
-        image: &[0xAD, 0x03, 0x20, 0x34, 0x12],
-        info: "RANGE { START $2002; END $2003; TYPE WORDTABLE; };",
-        hexoffs: false,
-        lines: "        lda     L2002+1\nL2002:  .word   $1234\n",
-    },
-    Named {
-        start: 0x1FFF,
-        image: &[0xAD, 0x03, 0x20, 0x34, 0x12],
-        info: "RANGE { START $2002; END $2003; TYPE WORDTABLE; };",
-        hexoffs: true,
-        lines: "        lda     L2002+$01\nL2002:  .word   $1234\n",
-    },
-    // a sized name across the zero page
-    Named {
-        start: 0xFFFB,
-        image: &[0xA5, 0xFF, 0xAD, 0x00, 0x01],
-        info: "LABEL { ADDR $FE; NAME \"buf\"; SIZE 4; };",
-        hexoffs: false,
-        lines: "buf             := $00FE\n\n        lda     buf+1\n        lda     buf+2\n",
-    },
-    // a name inside an instruction
-    Named {
-        start: 0x1000,
-        image: &[0xA9, 0x01],
-        info: "LABEL { ADDR $1001; NAME \"mid\"; };",
-        hexoffs: false,
-        lines: "mid             := * + 1\n        lda     #$01\n",
-    },
-    // hexadecimal offsets, by the command line and by the information file
-    Named {
-        start: 0x1000,
-        image: &[0x4C, 0x01, 0x10],
-        info: "",
-        hexoffs: true,
-        lines: "L1001           := * + $0001\n        jmp     L1001\n",
-    },
-    Named {
-        start: 0x1000,
-        image: &[0x4C, 0x01, 0x10],
-        info: "GLOBAL { HEXOFFS on; };",
-        hexoffs: false,
-        lines: "L1001           := * + $0001\n        jmp     L1001\n",
-    },
-    // the default name, given to its own address
-    Named {
-        start: 0x2000,
-        image: &[0x60],
-        info: "LABEL { ADDR $2000; NAME \"L2000\"; };",
-        hexoffs: false,
-        lines: "L2000:  rts\n",
-    },
-    // long labels
-    Named {
-        start: 0x1000,
-        image: &[0xA9, 0x01],
-        info: "LABEL { ADDR $1000; NAME \"longname\"; };",
-        hexoffs: false,
-        lines: "longname:\n        lda     #$01\n",
-    },
-    Named {
-        start: 0x1000,
-        image: &[0xA9, 0x01],
-        info: "LABEL { ADDR $1000; NAME \"chrout7\"; };",
-        hexoffs: false,
-        lines: "chrout7: lda    #$01\n",
-    },
-    // names outside the image have a constant line each, used or not, in address order
-    Named {
-        start: 0x1000,
-        image: &[0x60],
-        info: "LABEL { ADDR $FFD2; NAME \"chrout\"; }; LABEL { ADDR 1; NAME \"port\"; }; LABEL { ADDR $80; NAME \"area\"; SIZE 9; };",
-        hexoffs: false,
-        lines: "port            := $0001\narea            := $0080\nchrout          := $FFD2\n\n        rts\n",
-    },
-    // a byte table breaks before a name, and is counted anew from it
-    Named {
-        start: 0x1000,
-        image: &[0, 1, 2, 3, 4, 5, 6, 7, 8, 9, 10, 11],
-        info: "RANGE { START $1000; SIZE 12; TYPE BYTETABLE; }; LABEL { ADDR $1003; NAME \"rest\"; };",
-        hexoffs: false,
-        lines: "        .byte   $00,$01,$02\nrest:   .byte   $03,$04,$05,$06,$07,$08,$09,$0A\n        .byte   $0B\n",
-    },
-    // forward lines ascend, and stand before the label
-    Named {
-        start: 0x1000,
-        image: &[0xAD, 0x00, 0x20],
-        info: "LABEL { ADDR $1002; NAME \"high\"; }; LABEL { ADDR $1001; NAME \"low\"; }; LABEL { ADDR $1000; NAME \"op\"; };",
-        hexoffs: false,
-        lines: "low             := * + 1\nhigh            := * + 2\nop:     lda     $2000\n",
-    },
-    // a branch out of the address space names nothing
-    Named {
-        start: 0xFFFC,
-        image: &[0xD0, 0x7F, 0xEA, 0xEA],
-        info: "LABEL { ADDR $7D; NAME \"wrapped\"; };",
-        hexoffs: false,
-        lines: "wrapped         := $007D\n\n        .byte   $D0,$7F\n        nop\n        nop\n",
-    },
-];
+L1000:  .addr   L1000
+        .addr   L2000
+= a leftover byte of each
+-S $1000 image.bin < 00 20 01
+RANGE { START $1000; SIZE 3; TYPE ADDRTABLE; };
+--
+L2000           := $2000
 
-/// What a run under `--hexoffs` gives for an image from an address on.
-fn gives_hexoffs(rt: &impl Abort, alloc: Global, start: u16, info: &str, image: &[u8]) -> String {
-    let start = format!(in alloc; "{start}").expect(rt, "format");
-    let words = ["--hexoffs", "-S", start.as_str(), "image.bin"];
-    gives(rt, alloc, &words, info, &[], image)
-}
+        .addr   L2000
+        .byte   $01
+= a word table cut at a name
+-S $2000 image.bin < 01 02 03 04 05
+RANGE { START $2000; SIZE 5; TYPE WORDTABLE; };
+LABEL { ADDR $2002; NAME "mid"; };
+--
+        .word   $0201
+mid:    .word   $0403
+        .byte   $05
+= a word table cut before its second byte
+-S $2000 image.bin < 01 02 03 04 05
+RANGE { START $2000; SIZE 5; TYPE WORDTABLE; };
+LABEL { ADDR $2001; NAME "mid"; };
+--
+        .byte   $01
+mid:    .word   $0302,$0504
+= a target inside a word
+-S $1FFF image.bin < AD 03 20 34 12
+RANGE { START $2002; END $2003; TYPE WORDTABLE; };
+--
+        lda     L2002+1
+L2002:  .word   $1234
+= the same with hexadecimal offsets
+-S $1FFF --hexoffs image.bin < AD 03 20 34 12
+RANGE { START $2002; END $2003; TYPE WORDTABLE; };
+--
+        lda     L2002+$01
+L2002:  .word   $1234
+= a sized name across the zero page
+-S $FFFB image.bin < A5 FF AD 00 01
+LABEL { ADDR $FE; NAME "buf"; SIZE 4; };
+--
+buf             := $00FE
+
+        lda     buf+1
+        lda     buf+2
+= a name inside an instruction
+-S $1000 image.bin < A9 01
+LABEL { ADDR $1001; NAME "mid"; };
+--
+mid             := * + 1
+        lda     #$01
+= hexadecimal offsets by the command line
+-S $1000 --hexoffs image.bin < 4C 01 10
+--
+L1001           := * + $0001
+        jmp     L1001
+= hexadecimal offsets by the information file
+-S $1000 image.bin < 4C 01 10
+GLOBAL { HEXOFFS on; };
+--
+L1001           := * + $0001
+        jmp     L1001
+= the default name, given to its own address
+-S $2000 image.bin < 60
+LABEL { ADDR $2000; NAME "L2000"; };
+--
+L2000:  rts
+= a label longer than the label break
+-S $1000 image.bin < A9 01
+LABEL { ADDR $1000; NAME "longname"; };
+--
+longname:
+        lda     #$01
+= the longest label that fits
+-S $1000 image.bin < A9 01
+LABEL { ADDR $1000; NAME "chrout7"; };
+--
+chrout7: lda    #$01
+= names outside the image have a constant line each, used or not, in address order
+-S $1000 image.bin < 60
+LABEL { ADDR $FFD2; NAME "chrout"; };
+LABEL { ADDR 1; NAME "port"; };
+LABEL { ADDR $80; NAME "area"; SIZE 9; };
+--
+port            := $0001
+area            := $0080
+chrout          := $FFD2
+
+        rts
+= a byte table breaks before a name, and is counted anew from it
+-S $1000 image.bin < 00 01 02 03 04 05 06 07 08 09 0A 0B
+RANGE { START $1000; SIZE 12; TYPE BYTETABLE; };
+LABEL { ADDR $1003; NAME "rest"; };
+--
+        .byte   $00,$01,$02
+rest:   .byte   $03,$04,$05,$06,$07,$08,$09,$0A
+        .byte   $0B
+= forward lines ascend, and stand before the label
+-S $1000 image.bin < AD 00 20
+LABEL { ADDR $1002; NAME "high"; };
+LABEL { ADDR $1001; NAME "low"; };
+LABEL { ADDR $1000; NAME "op"; };
+--
+low             := * + 1
+high            := * + 2
+op:     lda     $2000
+= a branch out of the address space names nothing
+-S $FFFC image.bin < D0 7F EA EA
+LABEL { ADDR $7D; NAME "wrapped"; };
+--
+wrapped         := $007D
+
+        .byte   $D0,$7F
+        nop
+        nop
+= a name in skipped bytes is a constant, used or not
+-S $1000 image.bin < EA 20 30 AD 01 10
+RANGE { START $1001; SIZE 2; TYPE SKIP; };
+LABEL { ADDR $1002; NAME "gap"; };
+--
+da65: warning: skipped bytes, the listing does not assemble to the image
+L1001           := $1001
+gap             := $1002
+
+        nop
+        lda     L1001
+"#;
 
 #[test]
 fn worked_listings(rt: HostRuntime) {
-    for row in NAMED {
-        let found = if row.hexoffs {
-            gives_hexoffs(&rt, rt.alloc(), row.start, row.info, row.image)
-        } else {
-            gives_from(&rt, rt.alloc(), row.start, row.info, row.image)
-        };
-        assert_lists(&rt, rt.alloc(), &found, row.lines, row.start, row.image);
-    }
-}
-
-/// A name in skipped bytes is a constant, used or not.
-#[test]
-fn names_of_skipped_bytes(rt: HostRuntime) {
-    let info = "RANGE { START $1001; SIZE 2; TYPE SKIP; }; LABEL { ADDR $1002; NAME \"gap\"; };";
-    let image = b"\xEA\x20\x30\xAD\x01\x10";
-    let found = gives(&rt, rt.alloc(), AT_1000, info, &[], image);
-    let lines =
-        "L1001           := $1001\ngap             := $1002\n\n        nop\n        lda     L1001\n";
-    let want = format!(in rt.alloc(); "Ok(Done)\n{WARNING}{HEADER}{lines}").expect(&rt, "format");
-    assert_equal(&rt, &found.as_str(), &want.as_str());
+    show(&rt, rt.alloc(), ROWS);
 }
 
 /// Information files that are refused, and their messages.

@@ -2,8 +2,8 @@
 use crate::tests::asserts::assert_that;
 use crate::tests::runs::{
     HEADER, NAMED, THREE, THREE_LINES, assert_assembles, assert_lists, assert_refused, gives,
-    gives_from,
 };
+use crate::tests::worked::show;
 
 #[test]
 fn three_bytes(rt: HostRuntime) {
@@ -11,76 +11,63 @@ fn three_bytes(rt: HostRuntime) {
     assert_lists(&rt, rt.alloc(), &found, THREE_LINES, 0xFFFD, THREE);
 }
 
-/// An image from a start on, and its lines after the header.
-struct Row {
-    start: u16,
-    image: &'static [u8],
-    lines: &'static str,
-}
+const ROWS: &str = r#"
+= forced absolute, and a store without a zero-page form
+-S $1000 image.bin < AD 12 00 99 12 00 4C 14 00
+--
+L0014           := $0014
 
-const LISTED: &[Row] = &[
-    // forced absolute, and a store without a zero-page form
-    Row {
-        start: 0x1000,
-        image: &[0xAD, 0x12, 0x00, 0x99, 0x12, 0x00, 0x4C, 0x14, 0x00],
-        lines: "L0014           := $0014\n\n        lda     a:$0012\n        sta     $0012,y\n        jmp     L0014\n",
-    },
-    // the same where the jump names the address
-    Row {
-        start: 0x1000,
-        image: &[0xAD, 0x12, 0x00, 0x99, 0x12, 0x00, 0x4C, 0x12, 0x00],
-        lines: "L0012           := $0012\n\n        lda     a:L0012\n        sta     L0012,y\n        jmp     L0012\n",
-    },
-    // a branch to itself
-    Row {
-        start: 0x1000,
-        image: &[0xD0, 0xFE],
-        lines: "L1000:  bne     L1000\n",
-    },
-    // a jump into itself
-    Row {
-        start: 0x1000,
-        image: &[0x4C, 0x01, 0x10],
-        lines: "L1001           := * + 1\n        jmp     L1001\n",
-    },
-    // a zero-page operand, and an absolute one below $100
-    Row {
-        start: 0x0000,
-        image: &[0xA5, 0x04, 0xAD, 0x04, 0x00],
-        lines: "        lda     $04\nL0004           := * + 2\n        lda     a:L0004\n",
-    },
-    // an undefined opcode
-    Row {
-        start: 0x1000,
-        image: &[0x02, 0xEA],
-        lines: "        .byte   $02\n        nop\n",
-    },
-    // a cut instruction
-    Row {
-        start: 0x1000,
-        image: &[0x20],
-        lines: "        .byte   $20\n",
-    },
-    // the text `HI` and a line feed
-    Row {
-        start: 0xFFFD,
-        image: &[0x48, 0x49, 0x0A],
-        lines: "        pha\n        eor     #$0A\n",
-    },
-    // a branch out of the address space, forward
-    Row {
-        start: 0xFFFC,
-        image: &[0xD0, 0x7F, 0xEA, 0xEA],
-        lines: "        .byte   $D0,$7F\n        nop\n        nop\n",
-    },
-];
+        lda     a:$0012
+        sta     $0012,y
+        jmp     L0014
+= the same where the jump names the address
+-S $1000 image.bin < AD 12 00 99 12 00 4C 12 00
+--
+L0012           := $0012
+
+        lda     a:L0012
+        sta     L0012,y
+        jmp     L0012
+= a branch to itself
+-S $1000 image.bin < D0 FE
+--
+L1000:  bne     L1000
+= a jump into itself
+-S $1000 image.bin < 4C 01 10
+--
+L1001           := * + 1
+        jmp     L1001
+= a zero-page operand, and an absolute one below $100
+-S $0000 image.bin < A5 04 AD 04 00
+--
+        lda     $04
+L0004           := * + 2
+        lda     a:L0004
+= an undefined opcode
+-S $1000 image.bin < 02 EA
+--
+        .byte   $02
+        nop
+= a cut instruction
+-S $1000 image.bin < 20
+--
+        .byte   $20
+= the text `HI` and a line feed
+-S $FFFD image.bin < 48 49 0A
+--
+        pha
+        eor     #$0A
+= a branch out of the address space, forward
+-S $FFFC image.bin < D0 7F EA EA
+--
+        .byte   $D0,$7F
+        nop
+        nop
+"#;
 
 #[test]
 fn lines_of_code(rt: HostRuntime) {
-    for row in LISTED {
-        let found = gives_from(&rt, rt.alloc(), row.start, "", row.image);
-        assert_lists(&rt, rt.alloc(), &found, row.lines, row.start, row.image);
-    }
+    show(&rt, rt.alloc(), ROWS);
 }
 
 #[test]

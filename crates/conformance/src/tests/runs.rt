@@ -12,6 +12,10 @@ use stmt65::assemble;
 /// What every listing of the 6502 begins with.
 pub const HEADER: &str = "; da65 listing\n\n        .setcpu \"6502\"\n\n";
 
+/// What is written if a byte of the image is skipped.
+pub const WARNING: &str =
+    "da65: warning: skipped bytes, the listing does not assemble to the image\n";
+
 /// Three bytes, their lines after the header, and their listing.
 pub const THREE: &[u8] = &[0xA9, 0x01, 0x60];
 

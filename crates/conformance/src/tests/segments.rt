@@ -1,7 +1,7 @@
 // Listings with segments, comments and columns.
-use crate::tests::asserts::{assert_equal, assert_same, assert_that, assert_that_at};
-use crate::tests::ranges::WARNING;
-use crate::tests::runs::{AT_1000, HEADER, assert_assembles, assert_refused, gives, gives_from};
+use crate::tests::asserts::{assert_equal, assert_that, assert_that_at};
+use crate::tests::runs::{AT_1000, assert_assembles, assert_refused, gives, gives_from};
+use crate::tests::worked::show;
 use std::alloc::{AllocError, Global};
 use std::process::Abort;
 
@@ -16,201 +16,203 @@ fn gives_under(rt: &impl Abort, alloc: Global, words: &[&str], info: &str, image
     gives(rt, alloc, words, &info, &[], image)
 }
 
-/// The words of a command line, an information file, and an image at $1000; then its lines after the header, and the
-/// messages.
-struct Row {
-    words: &'static [&'static str],
-    info: &'static str,
-    image: &'static [u8],
-    lines: &'static str,
-    messages: &'static str,
-}
+const ROWS: &str = r#"
+= an instruction that a segment cuts
+-S $1000 image.bin < A9 01
+SEGMENT { START $1001; END $1001; NAME "DATA"; };
+--
+        .byte   $A9
+        .segment "DATA"
+        .byte   $01
+= the default is entered again
+-S $1000 image.bin < EA EA EA
+SEGMENT { START $1001; END $1001; NAME "DATA"; };
+--
+da65: warning: a segment is entered again
+        nop
+        .segment "DATA"
+        nop
+        .code
+        nop
+= a segment of one name in two places
+-S $1000 image.bin < EA EA EA
+SEGMENT { START $1000; END $1000; NAME "P"; };
+SEGMENT { START $1001; END $1001; NAME "Q"; };
+SEGMENT { START $1002; END $1002; NAME "P"; };
+--
+da65: warning: a segment is entered again
+        .segment "P"
+        nop
+        .segment "Q"
+        nop
+        .segment "P"
+        nop
+= two neighbours of one name are one segment, but their bytes are two runs
+-S $1000 --comments 1 image.bin < EA EA
+SEGMENT { START $1000; END $1000; NAME "P"; };
+SEGMENT { START $1001; END $1001; NAME "P"; };
+--
+; ----------------------------------------------------------------------------
+        .segment "P"
+        nop
+; ----------------------------------------------------------------------------
+        nop
+= names are compared with case
+-S $1000 image.bin < EA EA EA
+SEGMENT { START $1000; END $1000; NAME "P"; };
+SEGMENT { START $1001; END $1001; NAME "Q"; };
+SEGMENT { START $1002; END $1002; NAME "p"; };
+--
+        .segment "P"
+        nop
+        .segment "Q"
+        nop
+        .segment "p"
+        nop
+= the default is not entered again if no earlier group is in it
+-S $1000 image.bin < EA EA
+SEGMENT { START $1000; END $1000; NAME "P"; };
+--
+        .segment "P"
+        nop
+        .code
+        nop
+= a segment that is named CODE is not the default, but the warning takes it for that
+-S $1000 image.bin < EA EA
+SEGMENT { START $1001; END $1001; NAME "CODE"; };
+--
+da65: warning: a segment is entered again
+        nop
+        .segment "CODE"
+        nop
+= a mnemonic as the name of a segment
+-S $1000 image.bin < EA EA
+SEGMENT { START $1000; END $1001; NAME "lda"; };
+--
+        .segment "lda"
+        nop
+        nop
+= the comment of a label
+-S $1000 image.bin < 60
+LABEL { ADDR $1000; NAME "go"; COMMENT "entry"; };
+--
+; entry
+go:     rts
+= of a range, of names inside an instruction, and of constants; an empty comment is none
+-S $1000 image.bin < 4C D2 FF
+RANGE { START $1000; END $1002; TYPE CODE; NAME "op"; COMMENT "jump"; };
+LABEL { ADDR $1002; NAME "high"; COMMENT "H"; };
+LABEL { ADDR $1001; NAME "low"; COMMENT "L"; };
+LABEL { ADDR $FFD2; NAME "chrout"; COMMENT "out"; };
+LABEL { ADDR 2; NAME "bare"; COMMENT ""; };
+--
+bare            := $0002
+; out
+chrout          := $FFD2
 
-const ROWS: &[Row] = &[
-    // an instruction that a segment cuts
-    Row {
-        words: &[],
-        info: "SEGMENT { START $1001; END $1001; NAME \"DATA\"; };",
-        image: &[0xA9, 0x01],
-        lines: "        .byte   $A9\n        .segment \"DATA\"\n        .byte   $01\n",
-        messages: "",
-    },
-    // the default is entered again
-    Row {
-        words: &[],
-        info: "SEGMENT { START $1001; END $1001; NAME \"DATA\"; };",
-        image: &[0xEA, 0xEA, 0xEA],
-        lines: "        nop\n        .segment \"DATA\"\n        nop\n        .code\n        nop\n",
-        messages: AGAIN,
-    },
-    // a segment of one name in two places
-    Row {
-        words: &[],
-        info: "SEGMENT { START $1000; END $1000; NAME \"P\"; }; SEGMENT { START $1001; END $1001; NAME \"Q\"; }; SEGMENT { START $1002; END $1002; NAME \"P\"; };",
-        image: &[0xEA, 0xEA, 0xEA],
-        lines: "        .segment \"P\"\n        nop\n        .segment \"Q\"\n        nop\n        .segment \"P\"\n        nop\n",
-        messages: AGAIN,
-    },
-    // two neighbours of one name are one segment, but their bytes are two runs
-    Row {
-        words: &["--comments", "1"],
-        info: "SEGMENT { START $1000; END $1000; NAME \"P\"; }; SEGMENT { START $1001; END $1001; NAME \"P\"; };",
-        image: &[0xEA, 0xEA],
-        lines: "; ----------------------------------------------------------------------------\n        .segment \"P\"\n        nop\n; ----------------------------------------------------------------------------\n        nop\n",
-        messages: "",
-    },
-    // names are compared with case
-    Row {
-        words: &[],
-        info: "SEGMENT { START $1000; END $1000; NAME \"P\"; }; SEGMENT { START $1001; END $1001; NAME \"Q\"; }; SEGMENT { START $1002; END $1002; NAME \"p\"; };",
-        image: &[0xEA, 0xEA, 0xEA],
-        lines: "        .segment \"P\"\n        nop\n        .segment \"Q\"\n        nop\n        .segment \"p\"\n        nop\n",
-        messages: "",
-    },
-    // the default is not entered again if no earlier group is in it
-    Row {
-        words: &[],
-        info: "SEGMENT { START $1000; END $1000; NAME \"P\"; };",
-        image: &[0xEA, 0xEA],
-        lines: "        .segment \"P\"\n        nop\n        .code\n        nop\n",
-        messages: "",
-    },
-    // a segment that is named CODE is not the default, but the warning takes it for that
-    Row {
-        words: &[],
-        info: "SEGMENT { START $1001; END $1001; NAME \"CODE\"; };",
-        image: &[0xEA, 0xEA],
-        lines: "        nop\n        .segment \"CODE\"\n        nop\n",
-        messages: AGAIN,
-    },
-    // a mnemonic as the name of a segment
-    Row {
-        words: &[],
-        info: "SEGMENT { START $1000; END $1001; NAME \"lda\"; };",
-        image: &[0xEA, 0xEA],
-        lines: "        .segment \"lda\"\n        nop\n        nop\n",
-        messages: "",
-    },
-    // the comment of a label
-    Row {
-        words: &[],
-        info: "LABEL { ADDR $1000; NAME \"go\"; COMMENT \"entry\"; };",
-        image: &[0x60],
-        lines: "; entry\ngo:     rts\n",
-        messages: "",
-    },
-    // of a range, of names inside an instruction, and of constants; an empty comment is none
-    Row {
-        words: &[],
-        info: "RANGE { START $1000; END $1002; TYPE CODE; NAME \"op\"; COMMENT \"jump\"; }; LABEL { ADDR $1002; NAME \"high\"; COMMENT \"H\"; }; LABEL { ADDR $1001; NAME \"low\"; COMMENT \"L\"; }; LABEL { ADDR $FFD2; NAME \"chrout\"; COMMENT \"out\"; }; LABEL { ADDR 2; NAME \"bare\"; COMMENT \"\"; };",
-        image: &[0x4C, 0xD2, 0xFF],
-        lines: "bare            := $0002\n; out\nchrout          := $FFD2\n\n; jump\n; L\n; H\nlow             := * + 1\nhigh            := * + 2\nop:     jmp     chrout\n",
-        messages: "",
-    },
-    // an empty line after rts
-    Row {
-        words: &[],
-        info: "GLOBAL { NEWLINEAFTERRTS on; };",
-        image: &[0xA9, 0x01, 0x60],
-        lines: "        lda     #$01\n        rts\n\n",
-        messages: "",
-    },
-    // empty lines after instructions, which jsr is not
-    Row {
-        words: &[],
-        info: "GLOBAL { NEWLINEAFTERJMP on; NEWLINEAFTERRTS on; }; LABEL { ADDR $FFD2; NAME \"chrout\"; };",
-        image: &[0x20, 0xD2, 0xFF, 0x4C, 0xD2, 0xFF, 0x60, 0x6C, 0x10, 0x00],
-        lines: "chrout          := $FFD2\n\n        jsr     chrout\n        jmp     chrout\n\n        rts\n\n        jmp     ($0010)\n\n",
-        messages: "",
-    },
-    // all remarks
-    Row {
-        words: &["--comments", "4"],
-        info: "",
-        image: &[0xA9, 0x41],
-        lines: "; ----------------------------------------------------------------------------\n        lda     #$41                            ; 1000 A9 41                    .A\n",
-        messages: "",
-    },
-    // each level, and the command line before the information file
-    Row {
-        words: &["--comments", "0"],
-        info: "GLOBAL { COMMENTS 4; };",
-        image: &[0xEA],
-        lines: "        nop\n",
-        messages: "",
-    },
-    Row {
-        words: &["--comments", "2"],
-        info: "GLOBAL { COMMENTS 4; };",
-        image: &[0xEA],
-        lines: "; ----------------------------------------------------------------------------\n        nop                                     ; 1000\n",
-        messages: "",
-    },
-    Row {
-        words: &[],
-        info: "GLOBAL { COMMENTS 3; };",
-        image: &[0xAD, 0x20, 0xD0],
-        lines: "; ----------------------------------------------------------------------------\n        lda     $D020                           ; 1000 AD 20 D0\n",
-        messages: "",
-    },
-    // bytes as characters: $20 and $7E, and neither $1F nor $7F
-    Row {
-        words: &["--comments", "4"],
-        info: "RANGE { START $1000; END $1003; TYPE BYTETABLE; };",
-        image: &[0x1F, 0x20, 0x7E, 0x7F],
-        lines: "; ----------------------------------------------------------------------------\n        .byte   $1F,$20,$7E,$7F                 ; 1000 1F 20 7E 7F              . ~.\n",
-        messages: "",
-    },
-    // a column that is passed already gives one blank
-    Row {
-        words: &[
-            "--mnemonic-column",
-            "3",
-            "--argument-column",
-            "5",
-            "--comment-column",
-            "12",
-            "--text-column",
-            "40",
-            "--comments",
-            "4",
-        ],
-        info: "",
-        image: &[0xA9, 0x41],
-        lines: "; ----------------------------------------------------------------------------\n  lda #$41 ; 1000 A9 41                .A\n",
-        messages: "",
-    },
-    // a label longer than the label break, and one that just fits
-    Row {
-        words: &["--label-break", "3"],
-        info: "LABEL { ADDR $1000; NAME \"long\"; }; LABEL { ADDR $1001; NAME \"fit\"; };",
-        image: &[0xEA, 0xEA],
-        lines: "long:\n        nop\nfit:    nop\n",
-        messages: "",
-    },
-    // a label that does not fit before the mnemonic column
-    Row {
-        words: &["--label-break", "120", "--mnemonic-column", "12"],
-        info: "LABEL { ADDR $1000; NAME \"elevenbytes\"; }; LABEL { ADDR $1001; NAME \"ten_bytes_\"; };",
-        image: &[0xEA, 0xEA],
-        lines: "elevenbytes:\n           nop\nten_bytes_: nop\n",
-        messages: "",
-    },
-];
+; jump
+; L
+; H
+low             := * + 1
+high            := * + 2
+op:     jmp     chrout
+= an empty line after rts
+-S $1000 image.bin < A9 01 60
+GLOBAL { NEWLINEAFTERRTS on; };
+--
+        lda     #$01
+        rts
+
+= empty lines after instructions, which jsr is not
+-S $1000 image.bin < 20 D2 FF 4C D2 FF 60 6C 10 00
+GLOBAL { NEWLINEAFTERJMP on; NEWLINEAFTERRTS on; };
+LABEL { ADDR $FFD2; NAME "chrout"; };
+--
+chrout          := $FFD2
+
+        jsr     chrout
+        jmp     chrout
+
+        rts
+
+        jmp     ($0010)
+
+= all remarks
+-S $1000 --comments 4 image.bin < A9 41
+--
+; ----------------------------------------------------------------------------
+        lda     #$41                            ; 1000 A9 41                    .A
+= level 0 by the command line, 4 by the information file
+-S $1000 --comments 0 image.bin < EA
+GLOBAL { COMMENTS 4; };
+--
+        nop
+= level 2 by the command line, 4 by the information file
+-S $1000 --comments 2 image.bin < EA
+GLOBAL { COMMENTS 4; };
+--
+; ----------------------------------------------------------------------------
+        nop                                     ; 1000
+= level 3
+-S $1000 image.bin < AD 20 D0
+GLOBAL { COMMENTS 3; };
+--
+; ----------------------------------------------------------------------------
+        lda     $D020                           ; 1000 AD 20 D0
+= bytes as characters: $20 and $7E, and neither $1F nor $7F
+-S $1000 --comments 4 image.bin < 1F 20 7E 7F
+RANGE { START $1000; END $1003; TYPE BYTETABLE; };
+--
+; ----------------------------------------------------------------------------
+        .byte   $1F,$20,$7E,$7F                 ; 1000 1F 20 7E 7F              . ~.
+= a column that is passed already gives one blank
+-S $1000 --mnemonic-column 3 --argument-column 5 --comment-column 12 --text-column 40 --comments 4 image.bin < A9 41
+--
+; ----------------------------------------------------------------------------
+  lda #$41 ; 1000 A9 41                .A
+= a label longer than the label break, and one that just fits
+-S $1000 --label-break 3 image.bin < EA EA
+LABEL { ADDR $1000; NAME "long"; };
+LABEL { ADDR $1001; NAME "fit"; };
+--
+long:
+        nop
+fit:    nop
+= a label that does not fit before the mnemonic column
+-S $1000 --label-break 120 --mnemonic-column 12 image.bin < EA EA
+LABEL { ADDR $1000; NAME "elevenbytes"; };
+LABEL { ADDR $1001; NAME "ten_bytes_"; };
+--
+elevenbytes:
+           nop
+ten_bytes_: nop
+= a segment whose bytes are all skipped is not entered
+-S $1000 image.bin < EA EA EA
+SEGMENT { START $1001; END $1001; NAME "DATA"; };
+RANGE { START $1001; SIZE 1; TYPE SKIP; };
+--
+da65: warning: skipped bytes, the listing does not assemble to the image
+        nop
+        nop
+= both warnings
+-S $1000 image.bin < EA EA EA EA EA
+SEGMENT { START $1001; END $1001; NAME "DATA"; };
+RANGE { START $1001; SIZE 1; TYPE SKIP; };
+SEGMENT { START $1003; END $1003; NAME "DATA"; };
+--
+da65: warning: skipped bytes, the listing does not assemble to the image
+da65: warning: a segment is entered again
+        nop
+        nop
+        .segment "DATA"
+        nop
+        .code
+        nop
+"#;
 
 #[test]
 fn worked_listings(rt: HostRuntime) {
-    for row in ROWS {
-        let found = gives_under(&rt, rt.alloc(), row.words, row.info, row.image);
-        let (front, lines) = found.split_once("6502\"\n\n").expect(&rt, "header");
-        let messages = row.messages;
-        let want = format!(in rt.alloc(); "Ok(Done)\n{messages}; da65 listing\n\n").expect(
-            &rt, "format",
-        );
-        assert_that_at(&rt, front.starts_with(want.as_str()), &row.info);
-        assert_same(&rt, lines.as_bytes(), row.lines.as_bytes(), &row.info);
-        assert_assembles(&rt, rt.alloc(), &found, 0x1000, row.image);
-    }
+    show(&rt, rt.alloc(), ROWS);
 }
 
 #[test]
@@ -220,31 +222,6 @@ fn columns_of_the_header(rt: HostRuntime) {
     let want = "Ok(Done)\n; da65 listing\n\n.setcpu \"6502\"\n\nlda #$01\n";
     assert_equal(&rt, &found.as_str(), &want);
     assert_assembles(&rt, rt.alloc(), &found, 0x1000, &[0xA9, 0x01]);
-}
-
-const SKIPPED: &str =
-    "SEGMENT { START $1001; END $1001; NAME \"DATA\"; }; RANGE { START $1001; SIZE 1; TYPE SKIP; };";
-
-const SKIPPED_ONCE: &str =
-    "SEGMENT { START $1001; END $1001; NAME \"DATA\"; }; RANGE { START $1001; SIZE 1; TYPE SKIP; }; \
-    SEGMENT { START $1003; END $1003; NAME \"DATA\"; };";
-
-/// A segment whose bytes are all skipped is not entered; then both warnings.
-#[test]
-fn skipped_segments(rt: HostRuntime) {
-    let found = gives(&rt, rt.alloc(), AT_1000, SKIPPED, &[], &[0xEA, 0xEA, 0xEA]);
-    let lines = "        nop\n        nop\n";
-    let want = format!(in rt.alloc(); "Ok(Done)\n{WARNING}{HEADER}{lines}").expect(&rt, "format");
-    assert_equal(&rt, &found.as_str(), &want.as_str());
-
-    let image = b"\xEA\xEA\xEA\xEA\xEA";
-    let found = gives(&rt, rt.alloc(), AT_1000, SKIPPED_ONCE, &[], image);
-    let lines =
-        "        nop\n        nop\n        .segment \"DATA\"\n        nop\n        .code\n        nop\n";
-    let want = format!(in rt.alloc(); "Ok(Done)\n{WARNING}{AGAIN}{HEADER}{lines}").expect(
-        &rt, "format",
-    );
-    assert_equal(&rt, &found.as_str(), &want.as_str());
 }
 
 /// 1,000 segments of their own names.
