@@ -28,10 +28,10 @@ groups() {
             a = kind == "descending" ? count - 1 - k : kind == "shuffled" ? k * 40503 % 65536 : k
             size = kind == "ends" ? count - k : kind == "nested" ? 65536 - 2 * k : 1
             if (kind == "ranges") printf "RANGE { START $%04X; END $%04X; TYPE CODE; };\n", a, a
-            else if (kind == "segments") printf "SEGMENT { START $%04X; END $%04X; NAME \"s%04x\"; };\n", a, a, a
+            else if (kind == "segments") printf "SEGMENT{START $%04X;END $%04X;NAME \"s%04x\";}\n", a, a, a
             else if (kind == "definitions") printf "n%04x := $%04X\n", a, a
             else if (size == 1) printf "LABEL { ADDR $%04X; NAME \"n%04x\"; };\n", a, a
-            else printf "LABEL { ADDR $%04X; NAME \"n%04x\"; SIZE %d; };\n", a, a, size
+            else printf "LABEL{ADDR $%04X;NAME \"n%04x\";SIZE %d;}\n", a, a, size
         }
     }'
 }
@@ -534,7 +534,7 @@ growing() {
     head -c 65536 /dev/zero | tr '\0' '\352' >large.bin
     reads_groups 'labels that end at one address' ends 12000
     reads_groups 'labels, descending' descending 12000
-    reads_groups 'ranges' ranges 12000
+    reads_groups 'ranges' ranges 11000
     reads_groups 'segments' segments 11000
     reads_groups 'lines of an include file' definitions 12000
     # A look-up of an address without a name passes over the labels that end before it all at once.
