@@ -18,6 +18,14 @@ proposes() {
     [ "$got" = "$wanted" ] || fails "$name" "proposed: $got"
 }
 
+# pairs NAME WANTED WORD..: exactly these comments for pairs of halves are printed, each without what all begin with.
+pairs() {
+    local name=$1 wanted=$2 got
+    shift 2
+    got=$("$program" "$@" | sed -n 's/^# low byte at //p' | tr '\n' ';')
+    [ "$got" = "$wanted" ] || fails "$name" "pairs: $got"
+}
+
 # comes_back NAME START IMAGE WORD..: da65 accepts what is proposed on the words after the information file that was given, and the
 # image comes back from its listing.
 comes_back() {
@@ -73,6 +81,17 @@ runs 'version' 0 'trace65 profile 1\n' '' -V
 runs 'an unknown option' 1 '' 'trace65: bad arguments\n' --hexoffs examples/three.bin
 runs 'an entry that is no number' 1 '' 'trace65: bad number\n' --entry 0x1000,x examples/three.bin
 runs 'an entry past $FFFF' 1 '' 'trace65: argument out of range\n' --entry 0x10000 examples/three.bin
+runs 'an entry between two commas' 1 '' 'trace65: bad number\n' --entry 1,,2 examples/three.bin
+runs 'no entry after a comma' 1 '' 'trace65: bad number\n' --entry 1, examples/three.bin
+runs 'the first fault of two entries' 1 '' 'trace65: bad number\n' --entry x,0x10000 examples/three.bin
+runs 'a start that is no number' 1 '' 'trace65: bad number\n' -S x --cpu 8080 examples/three.bin
+runs 'a start past $FFFF' 1 '' 'trace65: argument out of range\n' -S 65536 --entry x examples/three.bin
+runs 'a CPU before entries' 1 '' 'trace65: argument out of range\n' --cpu 8080 --entry x examples/three.bin
+runs 'an option given twice' 1 '' 'trace65: bad arguments\n' -S 1 -S 1 examples/three.bin
+runs 'an option without a value' 1 '' 'trace65: bad arguments\n' examples/three.bin --entry
+runs 'two images' 1 '' 'trace65: bad arguments\n' examples/three.bin examples/three.bin
+runs 'help beside a bad value' 0 "$help" '' -S x -h
+runs 'help before the version' 0 "$help" '' -V -h
 runs 'an unknown CPU' 1 '' 'trace65: argument out of range\n' --cpu 8080 examples/three.bin
 runs 'no image' 1 '' 'trace65: no input file\n'
 runs 'no such image' 1 '' 'trace65: cannot read none.bin\n' none.bin
@@ -149,6 +168,49 @@ proposes 'vectors' 'FFF6-FFF6 ByteTable;FFFA-FFFF ByteTable;' vectors.bin
 # and the jumps to them.
 proposes 'the monitor with its information file' 'FE3B-FE42 ByteTable;FEA0-FEC1 ByteTable;FEC8-FED6 ByteTable;FFDF-FFF9 ByteTable;' -i examples/board/board.info
 proposes 'and with these routines as entries' 'FFDF-FFF9 ByteTable;' -i examples/board/board.info --entry 0xFE3B,0xFEA0,0xFEAB,0xFED0
+
+# ---- pairs of halves
+
+# lda #$05; ldx #$10; rts; a byte at $1005
+image loads.bin '\xa9\x05\xa2\x10\x60\xff'
+pairs 'two loads, the low byte first' '$1001, high byte at $1003: $1005;' -S 0x1000 loads.bin
+image text.info 'LABEL { ADDR $1005; NAME "text"; };\n'
+pairs 'and the name of the address' '$1001, high byte at $1003: $1005 text;' -S 0x1000 -i text.info loads.bin
+image part.info 'LABEL { ADDR $1003; NAME "part"; SIZE 3; };\n'
+pairs 'and a name before it with a size' '$1001, high byte at $1003: $1005 part+2;' -S 0x1000 -i part.info loads.bin
+image high.bin '\xa0\x10\xa9\x05\x60\xff'
+pairs 'two loads, the high byte first' '$1003, high byte at $1001: $1005;' -S 0x1000 high.bin
+image either.bin '\xa2\x10\xa0\x10\x60'
+pairs 'two loads of one number' '$1001, high byte at $1003: $1010;$1003, high byte at $1001: $1010;' -S 0x1000 either.bin
+image same.bin '\xa9\x05\xa9\x10\x60\xff'
+pairs 'two loads of one register are none' '' -S 0x1000 same.bin
+image between.bin '\xa9\x06\xea\xa2\x10\x60\xff'
+pairs 'nor are loads with something between them' '' -S 0x1000 between.bin
+# lda #$09; sta $f4; lda #$10; sta $f5; rts; a byte at $1009
+image stores.bin '\xa9\x09\x85\xf4\xa9\x10\x85\xf5\x60\xff'
+pairs 'two stores, the low byte first' '$1001, high byte at $1005: $1009;' -S 0x1000 stores.bin
+image high.bin '\xa2\x10\x86\xf5\xa2\x09\x86\xf4\x60\xff'
+pairs 'two stores, the high byte first' '$1005, high byte at $1001: $1009;' -S 0x1000 high.bin
+image absolute.bin '\xa0\x0b\x8c\xff\x02\xa0\x10\x8c\x00\x03\x60\xff'
+pairs 'stores to absolute addresses' '$1001, high byte at $1006: $100B;' -S 0x1000 absolute.bin
+image apart.bin '\xa9\x09\x85\xf4\xa9\x10\x85\xf6\x60\xff'
+pairs 'stores to addresses that are not neighbours' '' -S 0x1000 apart.bin
+image other.bin '\xa9\x09\x85\xf4\xa2\x10\x86\xf5\x60\xff'
+pairs 'stores of two registers' '' -S 0x1000 other.bin
+image far.bin '\xa9\x04\xa2\x11\x60'
+pairs 'the last address after the image' '$1001, high byte at $1003: $1104;' -S 0x1000 far.bin
+image far.bin '\xa9\x05\xa2\x11\x60'
+pairs 'and the one after that' '' -S 0x1000 far.bin
+image before.bin '\xa9\xff\xa2\x0f\x60'
+pairs 'an address before the image' '' -S 0x1000 before.bin
+# jmp $1007 over the loads
+image jumped.bin '\x4c\x07\x10\xa9\x07\xa2\x10\x60'
+pairs 'loads that nothing reaches' '' -S 0x1000 jumped.bin
+pairs 'and with an entry' '$1004, high byte at $1006: $1007;' -S 0x1000 --entry 0x1003 jumped.bin
+pairs 'the monitor' '$FEA1, high byte at $FEA6: $FE17 put;$FED1, high byte at $FED3: $FE90 usage;' -i examples/board/board.info --entry 0xFE3B,0xFEA0,0xFEAB,0xFED0
+image end.info 'LABEL { ADDR $1009; NAME "end"; };\n'
+runs 'the whole text' 0 "$legend# \$1000 +\n# 9 bytes of code that is reached, 0 in ranges, 1 in neither\nRANGE { START \$1009; END \$1009; TYPE ByteTable; }; # .\n# low byte at \$1001, high byte at \$1005: \$1009 end\n" '' \
+    -S 0x1000 -i end.info stores.bin
 
 # ---- less and less memory
 

@@ -43,8 +43,9 @@ relist Failure::from 2
 stmt65 AsmFault::from 1
 stmt65 Symbols::define 1
 trace65 Failure::from 4
+trace65 accepted 2
 trace65 failure_of 2
-trace65 matches_of 2
+trace65 put_entry 1
 usage65 UsageFault::from 1
 """
 

@@ -1,10 +1,10 @@
 -- With the ranges that are proposed each reached instruction is an item.
-use Rattle.std.proofs.Common.{◌≡◌, ◌∙◌, ℕ, zero, suc, ◌+◌, ◌-◌, ◌<◌, ◌≤◌, ◌&&◌, ◌||◌, nat_le, nat_lt, not, Bool, true, false, List, [], ◌∷◌, ◌++◌, length, Option, Some, None, refl, ap, sym, subst, arith, inl, inr, ⊎_elim, ◌⊎◌, cond}
+use Rattle.std.proofs.Common.{◌≡◌, ◌∙◌, ℕ, zero, suc, ◌+◌, ◌-◌, ◌<◌, ◌≤◌, ◌&&◌, ◌||◌, nat_le, nat_lt, not, Bool, true, false, List, [], ◌∷◌, ◌++◌, length, Option, Some, None, refl, ap, sym, subst, arith, inl, inr, ◌⊎◌, cond}
 use Rattle.std.specs.List.{list_any}
-use Rattle.std.proofs.lemmas.Bool.{and_from, and_parts, cases_Bool, cases_eq, cases_lt, cond-true, cond-false, cond_both, le-leb, leb-true, lt-ltb, ltb-true}
+use Rattle.std.proofs.lemmas.Bool.{and_from, and_parts, cases_Bool, cases_eq, cases_lt, cond_both, le-leb, leb-true, lt-ltb, ltb-true}
 use denote.Enum.Bare.{true_same}
 use Rattle.isa65.specs.Mode.{len_of}
-use Rattle.isa65.specs.Opcodes.{Table, decoded}
+use Rattle.isa65.specs.Opcodes.{decoded}
 use Rattle.isa65.specs.Cpu.{table_of}
 use Rattle.isa65.specs.declared.mode.Mode.{Mode}
 use Rattle.isa65.specs.declared.mode.Mode.TheVariants.{Imp}
@@ -17,19 +17,19 @@ use Rattle.info65.specs.declared.information.range.RangeType.{RangeType}
 use Rattle.info65.specs.declared.information.range.RangeType.TheVariants as role
 use Rattle.map65.proofs.Public.{in-run, item_law, joined-in}
 use Rattle.map65.specs.ImageView.{IsPlaced, byte_at, end_of, is_inside}
-use Rattle.map65.specs.Items.{CanBegin, EndsBefore, full_len_at, item_len, size_for}
+use Rattle.map65.specs.Items.{CanBegin, EndsBefore, full_len_at, item_len}
 use Rattle.map65.specs.MapView.{MapView, opcodes}
 use Rattle.map65.specs.Pieces.{AreOnePiece, AreOneRun, IsFirst, is_in_run, is_joined, is_own}
 use Rattle.map65.specs.Roles.{is_skip, is_wide, role_at, role_in, role_of}
 use Rattle.map65.specs.Segments.{is_border}
 use Rattle.map65.specs.Spans.{addresses}
-use Rattle.reach65.proofs.FlowLemmas.{IsWithin, within}
+use Rattle.reach65.proofs.FlowLemmas.{within}
 use Rattle.reach65.proofs.PieceLemmas.{pieces-cover}
 use Rattle.reach65.specs.Flow.{if_whole, instruction_at, op_in}
-use Rattle.reach65.specs.Laws.{AreWhole, CodeLaw, IsOfCode, IsReachedBefore, IsWith, KeepsItems, with_info}
+use Rattle.reach65.specs.Laws.{AreWhole, CodeLaw, IsOfCode, IsReachedBefore, IsWith, with_info}
 use Rattle.reach65.specs.Pieces.{ArePieces, Ground, IsPiece, is_free}
 use Rattle.reach65.specs.Reached.{is_marked}
-use Rattle.reach65.specs.Taken.{AreMarkedBy, has_byte, is_given, is_of_code, is_taken, is_within}
+use Rattle.reach65.specs.Taken.{AreMarkedBy, has_byte, is_code, is_given, is_of_code, is_taken, is_within}
 
 -- ---- the roles of ranges after others
 
@@ -163,7 +163,7 @@ has-if m b a op is low high = ap (λ o. is_within b o a) is ∙ and_from _ _ (le
 -- ---- what is spoken for
 
 given-taken : (m : MapView) (marks : List Bool) (a : ℕ) → is_taken m marks a ≡ true → is_given m.info.ranges a ≡ false → IsOfCode m marks a
-unfolding is_taken is_of_code
+unfolding is_taken is_code is_of_code
 given-taken m marks a is none =
     let any = any-some (is_of_code m marks a) (length m.image.bytes) m.image.start (by_first (is_given m.info.ranges a) _ none is) in
     let parts = and_parts (is_marked marks any.0) (has_byte m any.0 a) any.1 in
@@ -174,7 +174,7 @@ given-taken m marks a is none =
     by_first false y none is = is
 
 code-taken : (m : MapView) (marks : List Bool) (a : ℕ) → IsOfCode m marks a → is_taken m marks a ≡ true
-unfolding is_taken is_of_code
+unfolding is_taken is_code is_of_code
 code-taken m marks a is =
     let h = holds m is.at a is.has in
     let w = within m is.at (instruction-is m is.at h.op h.is).inside in

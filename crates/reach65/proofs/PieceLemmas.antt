@@ -12,6 +12,10 @@ use Rattle.reach65.specs.Taken.{is_given}
 
 -- ---- free addresses
 
+no-second : (x y : Bool) → y ≡ false → (x && y) ≡ false
+no-second true y is = is
+no-second false y is = refl
+
 -- nothing past the image is free
 pub past-free : (g : Ground) (a : ℕ) → end_of g.image ≤ a → is_free g a ≡ false
 unfolding is_free
@@ -20,10 +24,6 @@ past-free g a past = no-first (is_inside g.image a) _ (no-second (nat_le g.image
     no-first : (x y : Bool) → x ≡ false → (x && y) ≡ false
     no-first true y is = cc
     no-first false y is = refl
-
-    no-second : (x y : Bool) → y ≡ false → (x && y) ≡ false
-    no-second true y is = is
-    no-second false y is = refl
 
 pub past-char : (g : Ground) (a : ℕ) → end_of g.image ≤ a → is_char g a ≡ false
 unfolding is_char
@@ -108,12 +108,8 @@ pieces-end g from found old none =
 below-range : (r : RangeSpec) (a : ℕ) → a < r.first → has_address r a ≡ false
 below-range r a below = rw (lt-leb r.first a below) refl
 
-above-range : (r : RangeSpec) (a : ℕ) → r.last < a → has_address r a ≡ false
+pub above-range : (r : RangeSpec) (a : ℕ) → r.last < a → has_address r a ≡ false
 above-range r a above = no-second (nat_le r.first a) (nat_le a r.last) (lt-leb a r.last above)
-  where
-    no-second : (x y : Bool) → y ≡ false → (x && y) ≡ false
-    no-second true y is = is
-    no-second false y is = refl
 
 in-range : (r : RangeSpec) (a : ℕ) → r.first ≤ a → a ≤ r.last → has_address r a ≡ true
 in-range r a low high = rw (le-leb r.first a low, le-leb a r.last high) refl

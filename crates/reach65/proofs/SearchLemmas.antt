@@ -37,9 +37,6 @@ put-grows s a b room is =
     by_put s a (λ t. is_marked t.marks b ≡ true) (λ _. is)
     (λ _. marks_set s.marks a b (λ v. v ≡ true) room (λ here i. true) (λ there. is))
 
-pub put-count : (s : State) (a : ℕ) → length (put s a).marks ≡ length s.marks
-put-count s a = by_put s a (λ t. length t.marks ≡ length s.marks) (λ _ i. length s.marks) (λ _. length-set s.marks a true)
-
 -- ---- how much is left to do
 
 pub open_of : List Bool → ℕ
@@ -242,9 +239,6 @@ followed-entries m entries old new a next goal mid end placed marks todo next_is
     }
 
 -- ---- the entries
-
-pub entries-none : (m : MapView) (entries : List ℕ) (marks : List Bool) → HasEntriesTo m entries 0 marks
-entries-none m entries marks = record { each = λ k below. absurd (omega (arith, below)) }
 
 entries-put : (m : MapView) (entries : List ℕ) (k : ℕ) (s : State) (a : ℕ) → a < length s.marks → get_or entries k 0 ≡ a → HasEntriesTo m entries k s.marks → HasEntriesTo m entries (k + 1) (put s a).marks
 entries-put m entries k s a room here old = record {

@@ -1,6 +1,7 @@
 -- Addresses that are spoken for, one range or instruction after the other.
-use Rattle.std.proofs.Common.{◌≡◌, ◌+◌, ◌-◌, ◌<◌, ◌≤◌, ◌∙◌, ◌||◌, ℕ, zero, suc, Bool, true, false, List, ◌∷◌, length, get_or, drop, drop-cons, replicate, ap, arith, inl, inr, refl, sym}
+use Rattle.std.proofs.Common.{◌≡◌, ◌+◌, ◌-◌, ◌<◌, ◌≤◌, ◌∙◌, ◌||◌, ℕ, zero, suc, Bool, false, List, ◌∷◌, length, get_or, drop, drop-cons, replicate, ap, arith, inl, inr, refl, sym}
 use Rattle.std.proofs.lemmas.List.{drop_all, get_or-replicate, get_or_past, length-replicate}
+use Rattle.std.proofs.Math.Bool.{or-false, or_assoc}
 use Rattle.std.proofs.lemmas.Bool.{cases_lt}
 use Rattle.map65.specs.MapView.{MapView}
 use Rattle.reach65.specs.Reached.{is_marked}
@@ -8,15 +9,7 @@ use Rattle.std.specs.List.{list_any}
 use Rattle.info65.specs.Ranges.{has_address}
 use Rattle.info65.specs.declared.information.range.RangeSpec.{RangeSpec}
 use Rattle.map65.specs.Spans.{addresses}
-use Rattle.reach65.specs.Taken.{AreMarkedBy, is_code, is_given, is_of_code, is_taken}
-
-or_shift : (x y z : Bool) → ((x || y) || z) ≡ (x || (y || z))
-or_shift true y z = refl
-or_shift false y z = refl
-
-or_none : (x : Bool) → (x || false) ≡ x
-or_none true = refl
-or_none false = refl
+use Rattle.reach65.specs.Taken.{AreMarkedBy, is_code, is_given, is_taken}
 
 pub given-next : (ranges : List RangeSpec) (k a : ℕ) (r d : RangeSpec) (old new all : Bool) → k < length ranges → r ≡ get_or ranges k d
     → new ≡ (old || has_address r a) → (old || is_given (drop k ranges) a) ≡ all → (new || is_given (drop (k + 1) ranges) a) ≡ all
@@ -25,13 +18,13 @@ given-next ranges k a r d old new all some here is before =
     let next : suc k ≡ k + 1 = omega arith in
     let split : drop k ranges ≡ get_or ranges k d ∷ drop (k + 1) ranges = drop-cons ranges k d some ∙ ap (λ n. get_or ranges k d ∷ drop n ranges) next in
     let first : is_given (drop k ranges) a ≡ (has_address r a || is_given (drop (k + 1) ranges) a) = ap (λ l. is_given l a) split ∙ ap (λ q. has_address q a || is_given (drop (k + 1) ranges) a) (sym here) in
-    ap (λ b. b || is_given (drop (k + 1) ranges) a) is ∙ or_shift old (has_address r a) (is_given (drop (k + 1) ranges) a) ∙ sym (ap (λ b. old || b) first) ∙ before
+    ap (λ b. b || is_given (drop (k + 1) ranges) a) is ∙ or_assoc old (has_address r a) (is_given (drop (k + 1) ranges) a) ∙ sym (ap (λ b. old || b) first) ∙ before
 
 pub given-end : (ranges : List RangeSpec) (k a : ℕ) (now all : Bool) → length ranges ≤ k → (now || is_given (drop k ranges) a) ≡ all → now ≡ all
 unfolding is_given
 given-end ranges k a now all done before =
     let none : is_given (drop k ranges) a ≡ false = ap (λ l. is_given l a) (drop_all k ranges done) in
-    sym (or_none now) ∙ sym (ap (λ b. now || b) none) ∙ before
+    sym (or-false now) ∙ sym (ap (λ b. now || b) none) ∙ before
 
 any-none : (p : ℕ → Bool) (n a : ℕ) → n ≡ 0 → list_any p (addresses n a) ≡ false
 unfolding addresses
@@ -52,10 +45,10 @@ pub any-next : (p : ℕ → Bool) (n a k : ℕ) (old new all : Bool) → k < n �
     → (old || list_any p (addresses (n - k) (a + k))) ≡ all → (new || list_any p (addresses (n - (k + 1)) (a + (k + 1)))) ≡ all
 any-next p n a k old new all some is before =
     let split = any-more p (n - k) (n - (k + 1)) (a + k) (a + (k + 1)) (omega (arith, some)) (omega arith) in
-    ap (λ b. b || list_any p (addresses (n - (k + 1)) (a + (k + 1)))) is ∙ or_shift old (p (a + k)) (list_any p (addresses (n - (k + 1)) (a + (k + 1)))) ∙ sym (ap (λ b. old || b) split) ∙ before
+    ap (λ b. b || list_any p (addresses (n - (k + 1)) (a + (k + 1)))) is ∙ or_assoc old (p (a + k)) (list_any p (addresses (n - (k + 1)) (a + (k + 1)))) ∙ sym (ap (λ b. old || b) split) ∙ before
 
 pub any-end : (p : ℕ → Bool) (n a k : ℕ) (now all : Bool) → n ≤ k → (now || list_any p (addresses (n - k) (a + k))) ≡ all → now ≡ all
-any-end p n a k now all done before = sym (or_none now) ∙ sym (ap (λ b. now || b) (any-none p (n - k) (a + k) (omega (arith, done)))) ∙ before
+any-end p n a k now all done before = sym (or-false now) ∙ sym (ap (λ b. now || b) (any-none p (n - k) (a + k) (omega (arith, done)))) ∙ before
 
 blank-false : (marks : List Bool) (a : ℕ) → marks ≡ replicate 65536 false → is_marked marks a ≡ false
 blank-false marks a is =
@@ -67,21 +60,20 @@ blank-false marks a is =
 
 pub taken-all : (m : MapView) (reached blank given marks : List Bool) (ranges : List RangeSpec) → blank ≡ replicate 65536 false → ranges ≡ m.info.ranges → length marks ≡ 65536
     → ((a : ℕ) → is_marked given a ≡ (is_marked blank a || is_given ranges a))
-    → ((a : ℕ) → is_marked marks a ≡ (is_marked given a || list_any (is_of_code m reached a) (addresses (length m.image.bytes) m.image.start)))
+    → ((a : ℕ) → is_marked marks a ≡ (is_marked given a || is_code m reached a))
     → AreMarkedBy (is_taken m reached) marks
 unfolding is_taken
 taken-all m reached blank given marks ranges empty said count first second = record {
   count = count;
   each = λ a _.
       let one : is_marked given a ≡ is_given m.info.ranges a = first a ∙ ap (λ b. b || is_given ranges a) (blank-false blank a empty) ∙ ap (λ l. is_given l a) said in
-      second a ∙ ap (λ b. b || list_any (is_of_code m reached a) (addresses (length m.image.bytes) m.image.start)) one;
+      second a ∙ ap (λ b. b || is_code m reached a) one;
 }
 
 pub code-all : (m : MapView) (reached blank marks : List Bool) → blank ≡ replicate 65536 false → length marks ≡ 65536
-    → ((a : ℕ) → is_marked marks a ≡ (is_marked blank a || list_any (is_of_code m reached a) (addresses (length m.image.bytes) m.image.start)))
+    → ((a : ℕ) → is_marked marks a ≡ (is_marked blank a || is_code m reached a))
     → AreMarkedBy (is_code m reached) marks
-unfolding is_code
 code-all m reached blank marks empty count each = record {
   count = count;
-  each = λ a _. each a ∙ ap (λ b. b || list_any (is_of_code m reached a) (addresses (length m.image.bytes) m.image.start)) (blank-false blank a empty);
+  each = λ a _. each a ∙ ap (λ b. b || is_code m reached a) (blank-false blank a empty);
 }

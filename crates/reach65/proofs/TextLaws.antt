@@ -1,23 +1,23 @@
 -- The text that is proposed is accepted after the file, and adds its ranges.
-use Rattle.std.proofs.Common.{◌≡◌, ◌∙◌, ◌+◌, ◌<◌, ◌≤◌, ◌&&◌, ◌||◌, ℕ, zero, suc, Bool, true, false, not, List, [], ◌∷◌, ◌++◌, append_assoc, ap, arith, inl, inr, length, nat_le, nat_lt, refl, subst, sym}
-use Rattle.std.specs.Prelude.{All, Result, Ok, Err, IsOk}
+use Rattle.std.proofs.Common.{◌≡◌, ◌∙◌, ◌+◌, ◌≤◌, ◌&&◌, ◌||◌, ℕ, Bool, true, false, not, List, [], ◌∷◌, ◌++◌, append_assoc, ap, arith, inl, inr, length, nat_le, nat_lt, refl, subst, sym}
+use Rattle.std.specs.Prelude.{Ok}
 use Rattle.std.specs.List.{flat_map, list_any}
-use Rattle.std.proofs.lemmas.Bool.{and_parts, leb-true, lt-leb, ltb-true}
+use Rattle.std.proofs.lemmas.Bool.{and_parts, leb-true, ltb-true}
 use Rattle.std.proofs.lemmas.List.{append-nil}
-use Rattle.info65.specs.Grammar.{Item, Spells}
+use Rattle.info65.specs.Grammar.{Item}
 use Rattle.info65.specs.Ranges.{has_address}
 use Rattle.info65.specs.Reader.{information}
-use Rattle.info65.specs.Tokens.{Stream, TokenView, tokens_after, tokens_of}
-use Rattle.info65.specs.Views.{InfoView, OptionsView}
+use Rattle.info65.specs.Tokens.{Stream, tokens_after, tokens_of}
+use Rattle.info65.specs.Views.{OptionsView}
 use Rattle.info65.specs.declared.information.range.RangeSpec.{RangeSpec}
 use Rattle.info65.specs.declared.information.range.RangeType.{RangeType}
 use Rattle.info65.specs.declared.information.range.RangeType.TheVariants as role
 use Rattle.map65.specs.ImageView.{IsPlaced, end_of, is_inside}
 use Rattle.map65.specs.MapView.{MapView}
-use Rattle.info65.proofs.Public.{AreAdded, Gives, IsAdded, after_tokens, information-more, range_items, with_ranges}
+use Rattle.info65.proofs.Public.{AreAdded, Gives, information-more, range_items, with_ranges}
 use Rattle.reach65.proofs.FlowLemmas.{within}
-use Rattle.reach65.proofs.PieceLemmas.{piece-free}
-use Rattle.reach65.proofs.TextLemmas.{AreTables, IsTable, Later, Opens, comment-passed, comments-open, later-then, opens-none, ranges-open}
+use Rattle.reach65.proofs.PieceLemmas.{above-range, piece-free}
+use Rattle.reach65.proofs.TextLemmas.{AreTables, IsTable, Later, comment-passed, comments-open, later-then, ranges-open}
 use Rattle.reach65.specs.TextLaws.{IsProposal, TextLaw, comment_line}
 use Rattle.reach65.specs.Pieces.{ArePieces, Ground, IsPiece, is_free}
 use Rattle.reach65.specs.RangeLines.{range_lines}
@@ -68,13 +68,6 @@ any-append (q ∷ old) r a is none = next (has_address q a) (list_any (λ p. has
     next true y z is more = refl
     next false y z is more = more is
 
-above-none : (r : RangeSpec) (a : ℕ) → r.last < a → has_address r a ≡ false
-above-none r a above = second (nat_le r.first a) (nat_le a r.last) (lt-leb a r.last above)
-  where
-    second : (x y : Bool) → y ≡ false → (x && y) ≡ false
-    second true y is = is
-    second false y is = refl
-
 pieces-added : (g : Ground) (from : ℕ) (old rs : List RangeSpec) → IsPlaced g.image → ArePieces g from rs → ArePast g from old → AreAdded old rs
 unfolding ArePieces
 pieces-added g from old [] placed are past = tt
@@ -88,7 +81,7 @@ pieces-added g from old (r ∷ rs) placed are past = (
         let free = piece-free g r.role r.first (r.last + 1) a are.3 low (omega (arith, leb-true a r.last parts.1)) in
         clash (is_free g a) free (past a (omega (arith, low, are.0)) given);
   },
-  pieces-added g (r.last + 1) (old ++ r ∷ []) rs placed are.4 (λ a above given. past a (omega (arith, above, are.0, are.2)) (any-append old r a given (above-none r a (omega (arith, above))))),
+  pieces-added g (r.last + 1) (old ++ r ∷ []) rs placed are.4 (λ a above given. past a (omega (arith, above, are.0, are.2)) (any-append old r a given (above-range r a (omega (arith, above))))),
 )
   where
     clash : (x : Bool) → x ≡ true → x ≡ false → ⊥

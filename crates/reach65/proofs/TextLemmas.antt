@@ -1,20 +1,18 @@
 -- The text that is proposed, as the reader of information files sees it.
-use Rattle.std.proofs.Common.{◌≡◌, ◌∙◌, ◌==◌, ◌+◌, ◌*◌, ◌/◌, ◌%◌, ◌<◌, ◌≤◌, ◌&&◌, ◌⊎◌, ℕ, zero, suc, Bool, true, false, not, List, [], ◌∷◌, ◌++◌, append_assoc, ap, arith, inl, inr, length, map, nat_le, nat_lt, refl, sym, take}
-use Rattle.std.specs.Prelude.{Option, Some, None, Result, Ok, Err, codes, if◌then◌else◌}
+use Rattle.std.proofs.Common.{◌≡◌, ◌∙◌, ◌==◌, ◌+◌, ◌*◌, ◌/◌, ◌%◌, ◌<◌, ◌≤◌, ◌⊎◌, ℕ, Bool, true, false, not, List, [], ◌∷◌, ◌++◌, append_assoc, ap, arith, inl, inr, length, map, nat_le, nat_lt, refl, take}
+use Rattle.std.specs.Prelude.{Some, Ok, codes, if◌then◌else◌}
 use Rattle.std.specs.Char.{digit_value, is_ascii_hexdigit}
-use Rattle.std.specs.List.{flat_map, list_all}
+use Rattle.std.specs.List.{flat_map}
 use Rattle.std.specs.Str.Parse.{digits_value}
 use Rattle.std.proofs.lemmas.Bool.{and_parts, le-leb, lt-ltb}
 use Rattle.std.proofs.lemmas.Bool.Decides.{nat_tests}
 use Rattle.text65.specs.Digits.{digits4, hex_digit}
-use Rattle.text65.specs.Names.{is_word_byte}
 use Rattle.info65.specs.Attributes.{attribute_named, form_of, group_named, type_named}
-use Rattle.info65.specs.Grammar.{Item, IsToken, Spells, attribute_name, group_name, value, mark}
-use Rattle.info65.specs.Lexemes.{LexemeView, are_digits, closing_brace, in_class, lexeme_at, number, number_at, number_in, opening_brace, semicolon, word, word_at}
+use Rattle.info65.specs.Grammar.{Item, Spells, attribute_name, group_name, value, mark}
+use Rattle.info65.specs.Lexemes.{are_digits, closing_brace, in_class, lexeme_at, number, number_at, number_in, opening_brace, semicolon, word, word_at}
 use Rattle.info65.specs.Tokens.{Stream, TokenView, tokens_after, tokens_of}
 use Rattle.info65.specs.Values.{a_type, an_address, value_of}
 use Rattle.info65.specs.Views.{OptionsView}
-use Rattle.info65.specs.declared.fault.InfoFault.{InfoFault}
 use Rattle.info65.specs.declared.syntax.attribute.Attribute.{Attribute}
 use Rattle.info65.specs.declared.syntax.attribute.Attribute.TheVariants as attribute
 use Rattle.info65.specs.declared.syntax.attribute.Form.TheVariants as form

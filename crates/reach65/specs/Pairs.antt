@@ -6,7 +6,7 @@
 --     register with an immediate, and the fourth stores it, to two addresses that follow each other, as `lda #$17`, `sta $80`,
 --     `lda #$FE`, `sta $81`: what is stored at the lower address is the low byte.
 -- The address that the two bytes form lies in the image, or is one of the 256 after it.
-use Rattle.std.specs.Prelude.{ℕ, ◌+◌, ◌*◌, ◌==◌, ◌&&◌, nat_le, nat_lt, Bool, not, List, [], ◌∷◌, ◌++◌, length, flat_map, if◌then◌else◌, Option, Some, None}
+use Rattle.std.specs.Prelude.{ℕ, ◌+◌, ◌*◌, ◌==◌, ◌&&◌, nat_le, nat_lt, Bool, List, [], ◌∷◌, ◌++◌, length, flat_map, if◌then◌else◌, Option, Some, None}
 use denote.Enum.Bare.{sameb}
 use Rattle.isa65.specs.Mode.{len_of}
 use Rattle.isa65.specs.declared.mnemonic.Mnemonic.{Mnemonic}

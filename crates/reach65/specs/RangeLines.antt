@@ -1,5 +1,5 @@
 -- The lines of the ranges that are proposed: each is a group of an information file, with the bytes of the range as a comment.
-use Rattle.std.specs.Prelude.{ℕ, ◌+◌, ◌-◌, ◌&&◌, List, [], ◌++◌, codes, drop, flat_map, length, map, nat_lt, take, if◌then◌else◌}
+use Rattle.std.specs.Prelude.{ℕ, ◌+◌, ◌-◌, ◌&&◌, List, [], ◌++◌, codes, flat_map, length, map, nat_lt, take, if◌then◌else◌}
 use Rattle.text65.specs.Digits.{digits4}
 use Rattle.info65.specs.declared.information.range.RangeSpec.{RangeSpec}
 use Rattle.info65.specs.declared.information.range.RangeType.{RangeType}

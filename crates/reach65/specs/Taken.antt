@@ -31,7 +31,7 @@ unfoldable pub is_code : MapView → List Bool → ℕ → Bool
 is_code m marks a = list_any (is_of_code m marks a) (addresses (length m.image.bytes) m.image.start)
 
 unfoldable pub is_taken : MapView → List Bool → ℕ → Bool
-is_taken m marks a = is_given m.info.ranges a || list_any (is_of_code m marks a) (addresses (length m.image.bytes) m.image.start)
+is_taken m marks a = is_given m.info.ranges a || is_code m marks a
 
 -- there is a mark for each address, and it says this
 pub record AreMarkedBy (p : ℕ → Bool) (marks : List Bool) : Type 0 where

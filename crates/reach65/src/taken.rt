@@ -4,8 +4,6 @@ ghost use Rattle.std.specs.Prelude.{◌≡◌, ◌+◌, ◌<◌, ◌≤◌, ◌&
 ghost use Rattle.info65.specs.Ranges.{has_address};
 ghost use Rattle.map65.specs.ImageView.{end_of};
 ghost use Rattle.reach65.specs.Reached.{is_marked};
-ghost use Rattle.std.specs.List.{list_any};
-ghost use Rattle.map65.specs.Spans.{addresses};
 ghost use Rattle.reach65.specs.Taken.{AreMarkedBy, has_byte, is_code, is_given, is_of_code, is_taken};
 
 use crate::flow::Flow;
@@ -82,11 +80,12 @@ fn mark_reached<A: Allocator>(
 }
 
 /// Marks the addresses of all reached instructions.
+#[tactic(auto, unfolding(crate::specs::Taken::is_code))]
 fn mark_code<A: Allocator>(marks: &mut [bool], flow: &Flow<'_, '_, A>, reached: &[bool])
     requires count { length marks.old ≡ 65536 }
     requires reached { length reached.now ≡ 65536 }
     ensures count { length marks.new ≡ 65536 }
-    ensures each { (a : ℕ) → is_marked marks.new a ≡ (is_marked marks.old a || list_any (is_of_code flow.now reached.now a) (addresses (length flow.now.image.bytes) flow.now.image.start)) }
+    ensures each { (a : ℕ) → is_marked marks.new a ≡ (is_marked marks.old a || is_code flow.now reached.now a) }
 {
     let image = flow.map().image();
     let start = usize::from(image.start());

@@ -2,13 +2,13 @@
 
 ghost use Rattle.std.specs.Prelude.{◌≡◌};
 
-use da65::UsageFault;
 use files65::FileFault;
 use info65::InfoFault;
 use map65::ImageFault;
 use std::alloc::{AllocError, AllocFailed};
 use std::io::{Error as IoError, ErrorKind};
 use thiserror::Error;
+use usage65::UsageFault;
 
 /// What ends the program early.
 #[derive(Debug, Drop, Error)]

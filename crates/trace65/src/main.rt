@@ -6,21 +6,26 @@
 //! written, otherwise 1.
 #![tactic(auto)]
 
+mod command;
+mod digits;
 mod failure;
 mod information;
+mod pair_comments;
 mod picture;
+mod ranges;
 mod report;
 mod request;
 
+use command::{help_text, version_text};
 use failure::Failure;
 use files65::{FileFault, Placeholders};
 use information::{image, information};
 use map65::Map;
-use report::{Findings, put_report, search_image};
-use request::{Request, Tracing, help_text, request_of, version_text};
+use report::report;
+use request::{Request, Tracing, request_of};
 use std::env;
 use std::fs::File;
-use std::io::{BufWriter, Write};
+use std::io::Write;
 use std::process::ExitCode;
 
 /// What the program's words ask for.
@@ -29,47 +34,35 @@ fn requested(rt: &HostRuntime) -> Result<Request, Failure> {
     for word in env::args(rt)? {
         words.push(word)?;
     }
-    request_of(rt.alloc(), words.as_slice())
+    Ok(request_of(rt.alloc(), words.as_slice())?)
 }
 
-/// Writes a text about the program on standard output.
-fn tell(rt: &HostRuntime, text: &str) -> Result<(), Failure> {
-    match rt.stdout().write_all(text.as_bytes()) {
+/// Writes a text on a file or standard output.
+fn write<W: Write + Drop>(mut out: W, text: &[u8]) -> Result<(), Failure> {
+    match out.write_all(text) {
         Ok(()) => Ok(()),
         Err(_) => Err(Failure::Writing),
     }
 }
 
-/// Writes what is reached on a file or standard output.
-fn write_report<W: Write + Drop>(
-    rt: &HostRuntime,
-    map: &Map<'_>,
-    findings: &Findings,
-    out: W,
-) -> Result<(), Failure> {
-    let mut out = BufWriter::new(rt.alloc(), out)?;
-    put_report(&mut out, map, findings)?;
-    match out.flush() {
-        Ok(()) => Ok(()),
-        Err(_) => Err(Failure::Writing),
-    }
-}
-
-/// Writes what is reached. The output file must not be there yet, so that no input is written over, whatever its name.
-fn trace(rt: &HostRuntime, tracing: &Tracing) -> Result<(), Failure> {
-    let info = information(rt, &tracing.options)?;
+/// Writes what is found in the image. The output is created once the text is there. It must not be there yet, so that no input
+/// is written over, whatever its name.
+fn trace(rt: &HostRuntime, tracing: Tracing) -> Result<(), Failure> {
+    let Tracing {
+        options,
+        entries,
+        output,
+    } = tracing;
+    let info = information(rt, &options)?;
     let image = image(rt, &info)?;
     let map = Map::build(rt.alloc(), &info, &image)?;
-    let findings = search_image(rt.alloc(), &map, tracing.entries.as_slice())?;
-    let Some(name) = &tracing.output else {
-        return write_report(rt, &map, &findings, rt.stdout());
+    let text = report(rt.alloc(), &map, entries.as_slice())?;
+    let Some(name) = output else {
+        return write(rt.stdout(), &text);
     };
     match File::create_new(rt, name.as_str()) {
-        Ok(file) => write_report(rt, &map, &findings, file),
-        Err(error) => {
-            let name = String::from_str(rt.alloc(), name.as_str())?;
-            Err(Failure::File(FileFault::of_creating(&error, name)))
-        }
+        Ok(file) => write(file, &text),
+        Err(error) => Err(Failure::File(FileFault::of_creating(&error, name))),
     }
 }
 
@@ -77,9 +70,9 @@ fn program(rt: &HostRuntime) -> Result<(), Failure> {
     // Messages to a closed standard error must not end up in the output file.
     let _placeholders = Placeholders::take(rt)?;
     match requested(rt)? {
-        Request::Help => tell(rt, help_text()),
-        Request::Version => tell(rt, version_text()),
-        Request::Trace(tracing) => trace(rt, &tracing),
+        Request::Help => write(rt.stdout(), help_text().as_bytes()),
+        Request::Version => write(rt.stdout(), version_text().as_bytes()),
+        Request::Trace(tracing) => trace(rt, tracing),
     }
 }
 

@@ -1,101 +1,146 @@
-//! A picture of an image: a character for 64 bytes.
+//! A picture of an image: a character for 64 bytes, and the counts of its bytes.
 
-use map65::Map;
-use reach65::Flow;
-use std::io::{Result as IoResult, Write};
+ghost use Rattle.std.specs.Prelude.{◌≡◌, ◌+◌, ◌/◌, ◌++◌, ◌≤◌, OnOk, flat_map, length, map, take};
+ghost use Rattle.std.specs.List.{list_all, list_any};
+ghost use Rattle.map65.specs.Spans.{addresses};
+ghost use Rattle.reach65.specs.TextLaws.{comment_line};
+ghost use Rattle.trace65.specs.Picture.{cell_at, cell_character, counts_comment, image_marks, part, picture_comments, row_comment, set_count};
+
+use crate::digits::{put_address, put_decimal};
+use map65::Image;
+use std::alloc::AllocError;
 
 /// How many bytes a character stands for.
 const CELL: usize = 64;
 
-/// How many characters a line has.
-const CELLS: usize = 16;
+/// How many bytes a line stands for.
+const ROW: usize = 1024;
 
-/// How many bytes belong to reached instructions, and how many others to ranges of the information file.
-#[derive(Clone, Copy, Debug, PartialEq, Eq)]
-pub struct Counts {
-    pub all: usize,
-    pub code: usize,
-    pub given: usize,
+/// The first marks, if there are more than this many.
+fn at_most(marks: &[bool], most: usize) -> &[bool]
+    ensures first { result.now ≡ take most marks.now }
+    ensures few { length result.now ≤ most }
+{
+    if marks.len() <= most {
+        return marks;
+    }
+    &marks[..most]
 }
 
-impl Counts {
-    fn none() -> Counts {
-        Counts {
-            all: 0,
-            code: 0,
-            given: 0,
-        }
+/// This many marks from one on, or those that are left.
+fn part(marks: &[bool], from: usize, count: usize) -> &[bool]
+    ensures part { result.now ≡ part from count marks.now }
+    ensures few { length result.now ≤ count }
+{
+    if marks.len() <= from {
+        return &[];
     }
+    at_most(&marks[from..], count)
+}
 
-    /// Counts a byte.
-    fn add(&mut self, is_code: bool, is_given: bool) {
-        self.all = self.all.saturating_add(1);
-        if is_code {
-            self.code = self.code.saturating_add(1);
-        } else if is_given {
-            self.given = self.given.saturating_add(1);
-        }
-    }
+/// The marks of the bytes of an image.
+pub fn image_marks<'a>(image: &Image, marks: &'a [bool]) -> &'a [bool]
+    ensures marks { result.now ≡ image_marks image.now marks.entry.now }
+    ensures few { image.now.start + length result.now ≤ 65536 }
+{
+    part(marks, usize::from(image.start()), image.bytes().len())
+}
 
-    /// The character of these bytes.
-    fn character(self) -> char {
-        if self.code == self.all {
-            '#'
-        } else if self.code != 0 {
-            '+'
-        } else if self.given != 0 {
-            'r'
-        } else {
-            '.'
-        }
+fn are_set(marks: &[bool]) -> bool
+    ensures { result ≡ list_all (λ b. b) marks.now }
+{
+    marks.iter().all(|is| *is)
+}
+
+fn any_set(marks: &[bool]) -> bool
+    ensures { result ≡ list_any (λ b. b) marks.now }
+{
+    marks.iter().any(|is| *is)
+}
+
+/// The character of these bytes.
+#[tactic(auto, unfolding(crate::specs::Picture::cell_character))]
+fn cell_character(code: &[bool], taken: &[bool]) -> u8
+    ensures { result ≡ cell_character code.now taken.now }
+{
+    if are_set(code) {
+        b'#'
+    } else if any_set(code) {
+        b'+'
+    } else if any_set(taken) {
+        b'r'
+    } else {
+        b'.'
     }
 }
 
-/// The end of the reached instruction that begins at the address, and 0 if none does.
-fn end_at(flow: &Flow<'_, '_>, reached: &[bool], address: usize) -> usize {
-    if reached.get(address) != Some(&true) {
-        return 0;
+/// Appends the characters of a line.
+fn put_cells(out: &mut Vec<u8>, code: &[bool], taken: &[bool]) -> Result<(), AllocError>
+    requires { length code.now ≤ 65536 }
+    ensures { OnOk result (out.new.items ≡ out.old.items ++ map (cell_at code.now taken.now) (addresses ((length code.now + 63) / 64) 0)) }
+{
+    'cells: for k in 0..(code.len() + (CELL - 1)) / CELL {
+        let at = CELL * k;
+        out.push(cell_character(part(code, at, CELL), part(taken, at, CELL)))?;
     }
-    let Ok(place) = u16::try_from(address) else {
-        return 0;
-    };
-    match flow.instruction_at(place) {
-        Some(op) => address.saturating_add(usize::from(op.mode.len())),
-        None => 0,
-    }
+    Ok(())
 }
 
-/// Puts a picture of the image as comments, and counts its bytes.
-pub fn put_picture<W: Write>(
-    out: &mut W,
-    map: &Map<'_>,
-    flow: &Flow<'_, '_>,
-    reached: &[bool],
+/// Appends the line of these bytes, the first of them at the address.
+#[tactic(auto, unfolding(crate::specs::Picture::row_comment))]
+fn put_row(out: &mut Vec<u8>, address: u16, code: &[bool], taken: &[bool]) -> Result<(), AllocError>
+    requires { length code.now ≤ 65536 }
+    ensures { OnOk result (out.new.items ≡ out.old.items ++ comment_line (row_comment address code.now taken.now)) }
+{
+    put_address(out, b"# $", address)?;
+    out.extend_from_slice(b" ")?;
+    put_cells(out, code, taken)?;
+    out.extend_from_slice(b"\n")
+}
+
+/// Appends a picture of the bytes that have these marks, the first of them at the start.
+#[tactic(auto, unfolding(crate::specs::Picture::picture_comments))]
+pub fn put_picture(
+    out: &mut Vec<u8>,
+    start: u16,
+    code: &[bool],
     taken: &[bool],
-) -> IoResult<Counts> {
-    let start = usize::from(map.image().start());
-    let count = map.image().bytes().len();
-    let mut all = Counts::none();
-    let mut cell = Counts::none();
-    let mut end = 0;
-    for k in 0..count {
-        let address = start.saturating_add(k);
-        if k % (CELL * CELLS) == 0 {
-            write!(out, "# ${address:04X} ")?;
-        }
-        end = end.max(end_at(flow, reached, address));
-        let is_given = taken.get(address) == Some(&true);
-        cell.add(address < end, is_given);
-        all.add(address < end, is_given);
-        let next = k.saturating_add(1);
-        if next % CELL == 0 || next == count {
-            let character = cell.character();
-            write!(out, "{character}")?;
-            cell = Counts::none();
-        }
-        if next % (CELL * CELLS) == 0 || next == count {
-            writeln!(out)?;
+) -> Result<(), AllocError>
+    requires { start + length code.now ≤ 65536 }
+    ensures { OnOk result (out.new.items ≡ out.old.items ++ flat_map comment_line (picture_comments start code.now taken.now)) }
+{
+    'rows: for k in 0..(code.len() + (ROW - 1)) / ROW {
+        let at = ROW * k;
+        let address = (usize::from(start) + at) as u16;
+        put_row(out, address, part(code, at, ROW), part(taken, at, ROW))?;
+    }
+    Ok(())
+}
+
+/// How many marks are set.
+fn set_count(marks: &[bool]) -> usize
+    ensures value { result ≡ set_count marks.now }
+    ensures most { result ≤ length marks.now }
+{
+    let mut count = 0;
+    'marks: for is in marks {
+        if *is {
+            count += 1;
         }
     }
-    Ok(all)
+    count
+}
+
+/// Appends the counts of the bytes that have these marks.
+#[tactic(auto, unfolding(crate::specs::Picture::counts_comment))]
+pub fn put_counts(out: &mut Vec<u8>, code: &[bool], taken: &[bool]) -> Result<(), AllocError>
+    ensures { OnOk result (out.new.items ≡ out.old.items ++ comment_line (counts_comment code.now taken.now)) }
+{
+    let reached = set_count(code);
+    let both = set_count(taken);
+    let given = both.saturating_sub(reached);
+    put_decimal(out, b"# ", reached)?;
+    put_decimal(out, b" bytes of code that is reached, ", given)?;
+    put_decimal(out, b" in ranges, ", taken.len() - both)?;
+    out.extend_from_slice(b" in neither\n")
 }

@@ -1,0 +1,146 @@
+-- No line ends within a comment.
+use Rattle.std.proofs.Common.{◌≡◌, ◌∙◌, ◌+◌, ◌-◌, ◌*◌, ◌/◌, ◌%◌, ◌<◌, ◌≤◌, ℕ, Bool, true, false, not, List, [], ◌∷◌, ◌++◌, ap, arith, length, map, nat_lt, refl}
+use Rattle.std.specs.Prelude.{◌==◌, ◌&&◌, ◌||◌, Option, Some, None, codes, decimal, nat_le, if◌then◌else◌}
+use Rattle.std.specs.List.{list_all, list_any}
+use Rattle.std.specs.Char.{digit_value, is_ascii_alphabetic}
+use Rattle.std.specs.Str.Parse.{AllDigits}
+use Rattle.std.proofs.lemmas.Bool.{and_parts, ltb-true}
+use Rattle.std.proofs.lemmas.Bool.Decides.{nat_tests}
+use Rattle.std.proofs.lemmas.Fmt.{decimal_is_IsNumeral}
+use Rattle.std.proofs.lemmas.List.Sums.{count_by-le-length}
+use Rattle.std.proofs.lemmas.Str.Parse.{digit_from_value}
+use Rattle.text65.specs.Digits.{digits4, hex_digit}
+use Rattle.text65.specs.Names.{has_name_form, is_word_byte}
+use Rattle.info65.proofs.Public.{last_name}
+use Rattle.info65.specs.Names.{AreNames, blank_name, covering, name_at}
+use Rattle.info65.specs.Views.{NameView}
+use Rattle.map65.specs.MapView.{MapView}
+use Rattle.map65.specs.Spans.{addresses}
+use Rattle.reach65.specs.TextLaws.{AreLines, is_line}
+use Rattle.reach65.specs.declared.pairs.Pair.{Pair}
+use Rattle.trace65.specs.PairComments.{name_text, offset_text, pair_comment, pair_comments}
+use Rattle.trace65.specs.Picture.{cell_at, cell_character, counts_comment, part, picture_comments, row_at, row_comment, set_count}
+
+abbrev in_line : ℕ → Bool
+in_line b = not (b == 10)
+
+joined : (xs ys : List ℕ) → is_line xs ≡ true → is_line ys ≡ true → is_line (xs ++ ys) ≡ true
+joined [] ys first second = second
+joined (x ∷ xs) ys first second = let parts = and_parts (in_line x) (is_line xs) first in rw (parts.0, joined xs ys parts.1 second) refl
+
+all_as : (p : ℕ → Bool) → ((b : ℕ) → p b ≡ true → in_line b ≡ true) → (xs : List ℕ) → list_all p xs ≡ true → is_line xs ≡ true
+all_as p each [] all = refl
+all_as p each (x ∷ xs) all = let parts = and_parts (p x) (list_all p xs) all in rw (each x parts.0, all_as p each xs parts.1) refl
+
+mapped : (f : ℕ → ℕ) → ((k : ℕ) → in_line (f k) ≡ true) → (ks : List ℕ) → is_line (map f ks) ≡ true
+mapped f each [] = refl
+mapped f each (k ∷ ks) = rw (each k, mapped f each ks) refl
+
+-- ---- numbers and names
+
+hex : (d : ℕ) → in_line (hex_digit d) ≡ true
+hex d = grind (arith, nat_tests)
+
+hex4-line : (n : ℕ) → is_line (digits4 n) ≡ true
+hex4-line n = rw (hex (n / 4096 % 16), hex (n / 256 % 16), hex (n / 16 % 16), hex (n % 16)) refl
+
+digit-line : (d : ℕ) → digit_value d < 10 → in_line d ≡ true
+digit-line d low = let digit = digit_from_value d low in grind (arith, nat_tests)
+
+digits-line : (ds : List ℕ) → AllDigits 10 ds → is_line ds ≡ true
+digits-line [] all = refl
+digits-line (d ∷ ds) all = rw (digit-line d all.0, digits-line ds all.1) refl
+
+decimal-line : (n : ℕ) → n ≤ 65536 → is_line (decimal n) ≡ true
+decimal-line n low = digits-line (decimal n) (decimal_is_IsNumeral n (omega (arith, low))).0.1
+
+word-byte : (b : ℕ) → is_word_byte b ≡ true → in_line b ≡ true
+word-byte b is = grind (arith, nat_tests)
+
+word-start : (b : ℕ) → (is_ascii_alphabetic b || b == 95) ≡ true → in_line b ≡ true
+word-start b is = grind (arith, nat_tests)
+
+formed-line : (text : List ℕ) → has_name_form text ≡ true → is_line text ≡ true
+unfolding has_name_form
+formed-line [] is = refl
+formed-line (b ∷ bs) is =
+    let short = and_parts ((is_ascii_alphabetic b || b == 95) && list_all is_word_byte bs) (nat_lt (length bs) 80) is in
+    let parts = and_parts (is_ascii_alphabetic b || b == 95) (list_all is_word_byte bs) short.0 in
+    rw (word-start b parts.0, all_as is_word_byte word-byte bs parts.1) refl
+
+offset-line : (n : ℕ) → n ≤ 65536 → is_line (offset_text n) ≡ true
+unfolding offset_text
+offset-line n low = by_test (n == 0)
+  where
+    by_test : (x : Bool) → is_line (if x then [] else codes "+" ++ decimal n) ≡ true
+    by_test true = refl
+    by_test false = decimal-line n low
+
+name-line : (names : List NameView) → AreNames names → (a : ℕ) (o : Option NameView) → covering names a ≡ o → is_line (name_text o a) ≡ true
+unfolding name_text
+name-line names are a None is = refl
+name-line names are a (Some v) is =
+    let last = last_name names a v is in
+    let named = are.each last.index blank_name last.low in
+    let form : has_name_form v.text ≡ true = ap (λ (n : NameView). has_name_form n.text) last.is ∙ named.form in
+    let n : NameView = name_at names last.index in
+    let high = ltb-true a (n.address + n.size) (and_parts (nat_le n.address a) (nat_lt a (n.address + n.size)) last.covers_it).1 in
+    joined v.text (offset_text (a - v.address)) (formed-line v.text form) (offset-line (a - v.address) (omega (arith, high, named.room)))
+
+-- ---- the comments
+
+pair-line : (m : MapView) (p : Pair) → AreNames m.info.names → is_line (pair_comment m p) ≡ true
+unfolding pair_comment
+pair-line m p are =
+    let name = name_text (covering m.info.names p.address) p.address in
+    let address = joined (digits4 p.address) name (hex4-line p.address) (name-line m.info.names are p.address (covering m.info.names p.address) refl) in
+    let high = joined (digits4 p.high) (codes ": $" ++ (digits4 p.address ++ name)) (hex4-line p.high) address in
+    joined (digits4 p.low) (codes ", high byte at $" ++ (digits4 p.high ++ (codes ": $" ++ (digits4 p.address ++ name)))) (hex4-line p.low) high
+
+pub pair-lines : (m : MapView) (pairs : List Pair) → AreNames m.info.names → AreLines (pair_comments m pairs)
+pair-lines m [] are = tt
+pair-lines m (p ∷ ps) are = (pair-line m p are, pair-lines m ps are)
+
+cell-line : (code taken : List Bool) → in_line (cell_character code taken) ≡ true
+unfolding cell_character
+cell-line code taken = by_tests (list_all (λ b. b) code) (list_any (λ b. b) code) (list_any (λ b. b) taken)
+  where
+    by_tests : (x y z : Bool) → in_line (if x then 35 else (if y then 43 else (if z then 114 else 46))) ≡ true
+    by_tests true y z = refl
+    by_tests false true z = refl
+    by_tests false false true = refl
+    by_tests false false false = refl
+
+row-line : (address : ℕ) (code taken : List Bool) → is_line (row_comment address code taken) ≡ true
+unfolding row_comment
+row-line address code taken =
+    let cells = map (cell_at code taken) (addresses ((length code + 63) / 64) 0) in
+    joined (digits4 address) (codes " " ++ cells) (hex4-line address)
+    (mapped (cell_at code taken) (λ k. cell-line (part (64 * k) 64 code) (part (64 * k) 64 taken)) (addresses ((length code + 63) / 64) 0))
+
+rows-lines : (start : ℕ) (code taken : List Bool) (ks : List ℕ) → AreLines (map (row_at start code taken) ks)
+rows-lines start code taken [] = tt
+rows-lines start code taken (k ∷ ks) = (row-line (start + 1024 * k) (part (1024 * k) 1024 code) (part (1024 * k) 1024 taken), rows-lines start code taken ks)
+
+counts-line : (code taken : List Bool) → length code ≤ 65536 → length taken ≤ 65536 → is_line (counts_comment code taken) ≡ true
+unfolding counts_comment
+counts-line code taken few few_too =
+    let reached = set_count code in
+    let both = set_count taken in
+    let one = decimal-line reached (omega (arith, few, count_by-le-length (λ b. b) code)) in
+    let two = decimal-line (both - reached) (omega (arith, few_too, count_by-le-length (λ b. b) taken)) in
+    let three = decimal-line (length taken - both) (omega (arith, few_too)) in
+    let first = codes " " ++ decimal reached in
+    let second = codes " bytes of code that is reached, " ++ decimal (both - reached) in
+    let third = codes " in ranges, " ++ decimal (length taken - both) in
+    joined (first ++ second ++ third) (codes " in neither") (joined (first ++ second) third (joined first second one two) three) refl
+
+lines-end : (lines : List (List ℕ)) (line : List ℕ) → AreLines lines → is_line line ≡ true → AreLines (lines ++ line ∷ [])
+lines-end [] line are is = (is, tt)
+lines-end (l ∷ lines) line are is = (are.0, lines-end lines line are.1 is)
+
+pub picture-lines : (start : ℕ) (code taken : List Bool) → length code ≤ 65536 → length taken ≤ 65536 → AreLines (picture_comments start code taken ++ counts_comment code taken ∷ [])
+unfolding picture_comments
+picture-lines start code taken few few_too =
+    lines-end (map (row_at start code taken) (addresses ((length code + 1023) / 1024) 0)) (counts_comment code taken)
+    (rows-lines start code taken (addresses ((length code + 1023) / 1024) 0)) (counts-line code taken few few_too)

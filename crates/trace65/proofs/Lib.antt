@@ -1,0 +1,6 @@
+mod CommandLemmas
+mod AppendLemmas
+mod CommentLemmas
+mod PictureLemmas
+mod ReportLemmas
+mod RequestLemmas

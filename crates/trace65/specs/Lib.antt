@@ -1,0 +1,6 @@
+pub mod Command
+pub mod Findings
+pub mod Picture
+pub mod PairComments
+pub mod Report
+pub mod Request

@@ -1,0 +1,110 @@
+//! The lines of the ranges that are proposed.
+
+ghost use Rattle.std.specs.Prelude.{◌≡◌, ◌++◌, OnOk, codes, map, take};
+ghost use Rattle.reach65.specs.Pieces.{LieIn, LiesIn};
+ghost use Rattle.reach65.specs.RangeLines.{dots_above, range_bytes, range_line, range_lines, shown_byte, shown_bytes, type_text};
+
+use crate::digits::put_address;
+use info65::{RangeSpec, RangeType};
+use map65::Image;
+use std::alloc::AllocError;
+
+/// How many bytes of a range are shown.
+const SHOWN: usize = 32;
+
+/// The first bytes, if there are more than this many.
+fn at_most(bytes: &[u8], most: usize) -> &[u8]
+    ensures { result.now ≡ take most bytes.now }
+{
+    if bytes.len() <= most {
+        return bytes;
+    }
+    &bytes[..most]
+}
+
+/// Appends bytes as characters, with a dot for each that is none.
+fn put_characters(out: &mut Vec<u8>, bytes: &[u8]) -> Result<(), AllocError>
+    ensures { OnOk result (out.new.items ≡ out.old.items ++ map shown_byte bytes.now) }
+{
+    'characters: for byte in bytes {
+        out.push(if 0x1F < *byte && *byte < 0x7F {
+            *byte
+        } else {
+            b'.'
+        })?;
+    }
+    Ok(())
+}
+
+/// Appends two dots after what is not shown whole.
+fn put_dots(out: &mut Vec<u8>, len: usize) -> Result<(), AllocError>
+    ensures { OnOk result (out.new.items ≡ out.old.items ++ dots_above len) }
+{
+    if SHOWN < len {
+        out.extend_from_slice(b" ..")?;
+    }
+    Ok(())
+}
+
+/// Appends the first bytes of a range as characters.
+#[tactic(auto, unfolding(reach65::specs::RangeLines::shown_bytes))]
+fn put_shown(out: &mut Vec<u8>, bytes: &[u8]) -> Result<(), AllocError>
+    ensures { OnOk result (out.new.items ≡ out.old.items ++ shown_bytes bytes.now) }
+{
+    put_characters(out, at_most(bytes, SHOWN))?;
+    put_dots(out, bytes.len())
+}
+
+/// The bytes of a range.
+fn range_bytes(image: &Image, range: RangeSpec) -> &[u8]
+    requires { LiesIn image.now range }
+    ensures { result.now ≡ range_bytes image.now range }
+{
+    let from = range.first - image.start();
+    let len = usize::from(range.last) + 1 - usize::from(range.first);
+    at_most(&image.bytes()[usize::from(from)..], len)
+}
+
+/// What the type of a range is called.
+fn type_text(role: RangeType) -> &'static str
+    ensures { result.now ≡ type_text role }
+{
+    match role {
+        RangeType::TextTable => "TextTable",
+        _ => "ByteTable",
+    }
+}
+
+/// Appends the type of a range, up to the comment.
+fn put_type(out: &mut Vec<u8>, role: RangeType) -> Result<(), AllocError>
+    ensures { OnOk result (out.new.items ≡ out.old.items ++ (codes "; TYPE " ++ type_text role ++ codes "; }; # ")) }
+{
+    out.extend_from_slice(b"; TYPE ")?;
+    out.extend_from_slice(type_text(role).as_bytes())?;
+    out.extend_from_slice(b"; }; # ")
+}
+
+/// Appends the line of a range.
+#[tactic(auto, unfolding(reach65::specs::RangeLines::range_line))]
+fn put_range(out: &mut Vec<u8>, image: &Image, range: RangeSpec) -> Result<(), AllocError>
+    requires { LiesIn image.now range }
+    ensures { OnOk result (out.new.items ≡ out.old.items ++ range_line image.now range) }
+{
+    put_address(out, b"RANGE { START $", range.first)?;
+    put_address(out, b"; END $", range.last)?;
+    put_type(out, range.role)?;
+    put_shown(out, range_bytes(image, range))?;
+    out.extend_from_slice(b"\n")
+}
+
+/// Appends the lines of the ranges.
+#[tactic(auto, unfolding(reach65::specs::RangeLines::range_lines))]
+pub fn put_ranges(out: &mut Vec<u8>, image: &Image, ranges: &[RangeSpec]) -> Result<(), AllocError>
+    requires { LieIn image.now ranges.now }
+    ensures { OnOk result (out.new.items ≡ out.old.items ++ range_lines image.now ranges.now) }
+{
+    'lines: for &range in ranges {
+        put_range(out, image, range)?;
+    }
+    Ok(())
+}
