@@ -100,7 +100,6 @@ pub fn report(alloc: Global, map: &Map<'_>, given: &[u16]) -> Result<Vec<u8>, Al
 {
     text_law();
     map.info();
-    map.image();
     let found = search_image(alloc, map, given)?;
     let mut text = Vec::new(alloc);
     put_report(&mut text, map, &found)?;
