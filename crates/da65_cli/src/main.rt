@@ -85,6 +85,25 @@ fn devices(
     }
 }
 
+/// Reads the include files, opens the input and the output, and lists.
+fn list_with(
+    rt: &HostRuntime,
+    read: Result<Info, InfoFault>,
+    needs: Needs,
+) -> Result<Status, Failure> {
+    let contents = include_files(rt, needs.includes)?;
+    let files = files_for_run(rt.alloc(), &contents)?;
+    let (input, output) = devices(rt, needs.input, needs.output)?;
+    list(rt, read, &files, input, output)
+}
+
+/// Reads the information file, and lists under it.
+fn list_under(rt: &HostRuntime, options: &Options) -> Result<Status, Failure> {
+    let read = read_info(rt.alloc(), options, &information(rt, &options.info)?);
+    let needs = needs_read(rt.alloc(), &read)?;
+    list_with(rt, read, needs)
+}
+
 fn program(rt: &HostRuntime) -> Result<Status, Failure> {
     // Messages to a closed standard error must not end up in the output file.
     let _placeholders = Placeholders::take(rt)?;
@@ -95,16 +114,7 @@ fn program(rt: &HostRuntime) -> Result<Status, Failure> {
     if options.version {
         return tell(rt, version_text());
     }
-    let read = read_info(rt.alloc(), &options, &information(rt, &options.info)?);
-    let Needs {
-        input,
-        output,
-        includes,
-    } = needs_read(rt.alloc(), &read)?;
-    let contents = include_files(rt, includes)?;
-    let files = files_for_run(rt.alloc(), &contents)?;
-    let (input, output) = devices(rt, input, output)?;
-    list(rt, read, &files, input, output)
+    list_under(rt, &options)
 }
 
 fn main(rt: HostRuntime) -> ExitCode {
