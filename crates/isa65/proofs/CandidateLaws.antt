@@ -1,9 +1,6 @@
 -- The candidate of a word is the mnemonic that it spells, if it spells one.
 use Rattle.std.proofs.Common.{◌≡◌, ℕ, Bool, true, false, List, Option, Some, None, refl, sym, ◌∙◌, ap}
-use Rattle.std.specs.Prelude.{get_or, map}
-use Rattle.std.specs.Char.{to_ascii_lowercase}
 use Rattle.std.specs.Str.{str_eq_ignore_ascii_case, str_to_ascii_lowercase}
-use Rattle.std.proofs.Math.ListN.{get_or-map}
 use Rattle.std.proofs.lemmas.Bool.{both_ways}
 use Rattle.std.proofs.lemmas.Slice.Eq.{bytes_eq-Decides}
 use Rattle.isa65.specs.declared.mnemonic.Mnemonic.{Mnemonic}
@@ -17,10 +14,6 @@ candidate-text_of : (m : Mnemonic) → candidate (text_of m) ≡ m
 unfolding candidate number_of
 candidate-text_of Adc = refl
 candidate-text_of _ = refl
-
--- bytes in lower case, one by one
-pub lowercase-at : (bytes : List ℕ) (i : ℕ) → get_or (str_to_ascii_lowercase bytes) i 0 ≡ to_ascii_lowercase (get_or bytes i 0)
-lowercase-at bytes i = get_or-map to_ascii_lowercase bytes i 0
 
 -- what the bytes spell, they spell in lower case
 spelled : (m : Mnemonic) (bytes : List ℕ) → str_eq_ignore_ascii_case (text_of m) bytes ≡ true → str_to_ascii_lowercase bytes ≡ text_of m

@@ -12,7 +12,7 @@ use Rattle.isa65.specs.contracts.mode.Mode as mode
 use Rattle.isa65.specs.declared.mnemonic.Mnemonic.{Mnemonic}
 use Rattle.isa65.specs.declared.mode.Mode.{Mode}
 use Rattle.isa65.specs.declared.op.Op.{Op}
-use Rattle.isa65.specs.Opcodes.{Entry, Table, InTable, decoded, encoded}
+use Rattle.isa65.specs.Opcodes.{DifferInSize, Entry, Table, InTable, decoded, encoded}
 
 -- two functions that agree over a list agree at each of its elements
 map_at : {X : Type 0} (f g : Entry → X) (t : Table) (e : Entry) → map f t ≡ map g t → InTable e t → f e ≡ g e
@@ -105,7 +105,7 @@ module _ (t : Table) (sound : IsSound t) where
     λ h. map_at (λ e. encoded t e.1 e.2) (λ e. Some e.0) t (b, op.mnemonic, op.mode) sound.by_pair (decoded-entry t b op h),
   )
 
-  pub written_alike : (m : Mnemonic) (x y : Mode) → IsSome (encoded t m x) → IsSome (encoded t m y) → written x ≡ written y → (x ≡ y) ⊎ (IsZeroPageOf x y ⊎ IsZeroPageOf y x)
+  pub written_alike : DifferInSize t
   written_alike m x y p q same =
       let first = some_entry t m x (encoded t m x) refl p in
       let second = some_entry t m y (encoded t m y) refl q in

@@ -1,7 +1,7 @@
 -- Tables of opcodes, and look-ups in them.
-use Rattle.std.specs.Prelude.{◌≡◌, ◌⊎◌, ℕ, ◌==◌, ◌&&◌, List, [], ◌∷◌, ◌++◌, Option, Some, None, is_some, if◌then◌else◌, option_and_then}
+use Rattle.std.specs.Prelude.{◌≡◌, ◌⊎◌, ℕ, ◌==◌, ◌&&◌, List, [], ◌∷◌, ◌++◌, Option, Some, None, IsSome, is_some, if◌then◌else◌, option_and_then}
 use denote.Enum.Bare.{sameb}
-use Rattle.isa65.specs.Mode.{zero_page_of}
+use Rattle.isa65.specs.Mode.{IsZeroPageOf, written, zero_page_of}
 use Rattle.isa65.specs.contracts.mnemonic.Mnemonic as mnemonic
 use Rattle.isa65.specs.contracts.mode.Mode as mode
 use Rattle.isa65.specs.declared.mnemonic.Mnemonic.{Mnemonic}
@@ -53,6 +53,11 @@ decoded (e ∷ t) b = if e.0 == b then Some (record { mnemonic = e.1; mode = e.2
 abbrev pub encoded : Table → Mnemonic → Mode → Option ℕ
 encoded [] m x = None
 encoded (e ∷ t) m x = if sameb mnemonic.the_type e.1 m && sameb mode.the_type e.2 x then Some e.0 else encoded t m x
+
+-- of two modes that are written alike, a mnemonic has both only if they differ in the size of their operand alone
+abbrev pub DifferInSize : Table → Type 0
+DifferInSize t = (m : Mnemonic) (x y : Mode) → IsSome (encoded t m x) → IsSome (encoded t m y) → written x ≡ written y
+    → (x ≡ y) ⊎ (IsZeroPageOf x y ⊎ IsZeroPageOf y x)
 
 -- the zero-page mode that is written like this absolute one, if the mnemonic has it
 abbrev pub sibling_in : Table → Op → Option Mode

@@ -55,5 +55,5 @@ impl OpcodeSet for Cmos65Sc02 {
 
     ghost inverse = { λ _ b op. encoded-decoded cmos_65sc02 cmos_65sc02-sound b op };
 
-    ghost sizes = { λ _ m x y p q same. written_alike cmos_65sc02 cmos_65sc02-sound m x y p q same };
+    ghost sizes = { λ _. written_alike cmos_65sc02 cmos_65sc02-sound };
 }

@@ -85,5 +85,5 @@ impl OpcodeSet for Cpu {
 
     ghost inverse = { λ s b op. encoded-decoded (table_of s) (table_of-sound s) b op };
 
-    ghost sizes = { λ s m x y p q same. written_alike (table_of s) (table_of-sound s) m x y p q same };
+    ghost sizes = { λ s. written_alike (table_of s) (table_of-sound s) };
 }

@@ -178,5 +178,5 @@ impl OpcodeSet for Mos6502 {
 
     ghost inverse = { λ _ b op. encoded-decoded mos_6502 mos_6502-sound b op };
 
-    ghost sizes = { λ _ m x y p q same. written_alike mos_6502 mos_6502-sound m x y p q same };
+    ghost sizes = { λ _. written_alike mos_6502 mos_6502-sound };
 }

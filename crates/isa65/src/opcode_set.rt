@@ -1,11 +1,8 @@
 //! What the opcodes of a CPU stand for.
 
-ghost use Rattle.std.specs.Prelude.{◌≡◌, ◌↔◌, ◌<◌, ◌⊎◌, ℕ, Some, IsSome, IsTrue};
-ghost use Rattle.isa65.specs.declared.mnemonic.Mnemonic.{Mnemonic};
-ghost use Rattle.isa65.specs.declared.mode.Mode.{Mode};
+ghost use Rattle.std.specs.Prelude.{◌≡◌, ◌↔◌, ◌<◌, ℕ, Some, IsTrue};
 ghost use Rattle.isa65.specs.declared.op.Op.{Op};
-ghost use Rattle.isa65.specs.Mode.{written, IsZeroPageOf};
-ghost use Rattle.isa65.specs.Opcodes.{Table, decoded, encoded, sibling_in};
+ghost use Rattle.isa65.specs.Opcodes.{Table, DifferInSize, decoded, encoded, sibling_in};
 
 use crate::mnemonic::Mnemonic;
 use crate::mode::Mode;
@@ -55,7 +52,7 @@ pub trait OpcodeSet {
     ghost inverse: { (s : Self) (b : ℕ) (op : Op) → (encoded (table s) op.mnemonic op.mode ≡ Some b) ↔ (decoded (table s) b ≡ Some op) };
 
     /// Two modes of a mnemonic that are written alike differ in the size of their operand alone.
-    ghost sizes: { (s : Self) (m : Mnemonic) (x y : Mode) → IsSome (encoded (table s) m x) → IsSome (encoded (table s) m y) → written x ≡ written y → (x ≡ y) ⊎ (IsZeroPageOf x y ⊎ IsZeroPageOf y x) };
+    ghost sizes: { (s : Self) → DifferInSize (table s) };
 }
 
 /// What an opcode stands for.

@@ -61,5 +61,5 @@ impl OpcodeSet for Rockwell65C02 {
 
     ghost inverse = { λ _ b op. encoded-decoded rockwell_65c02 rockwell_65c02-sound b op };
 
-    ghost sizes = { λ _ m x y p q same. written_alike rockwell_65c02 rockwell_65c02-sound m x y p q same };
+    ghost sizes = { λ _. written_alike rockwell_65c02 rockwell_65c02-sound };
 }

@@ -59,33 +59,21 @@ parts_blanks (suc n) rest = parts_blank 32 (replicate n 32 ++ rest) refl ∙ par
 
 -- ---- bytes by themselves
 
-pub parts_hash : (rest : List ℕ) → parts (35 ∷ rest) ≡ Mark 35 ∷ parts rest
-unfolding part_at
-parts_hash rest = parts_part 35 rest refl refl
+-- what a byte would be the first of
+abbrev begun : ℕ → List Bool
+begun b = is_blank b ∷ eqb b 59 ∷ is_word_start b ∷ is_ascii_digit b ∷ eqb b 36 ∷ eqb b 34 ∷ eqb b 58 ∷ []
 
-pub parts_open : (rest : List ℕ) → parts (40 ∷ rest) ≡ Mark 40 ∷ parts rest
+pub parts_mark : (b : ℕ) (rest : List ℕ) → begun b ≡ replicate 7 false → parts (b ∷ rest) ≡ Mark b ∷ parts rest
 unfolding part_at
-parts_open rest = parts_part 40 rest refl refl
-
-pub parts_close : (rest : List ℕ) → parts (41 ∷ rest) ≡ Mark 41 ∷ parts rest
-unfolding part_at
-parts_close rest = parts_part 41 rest refl refl
-
-pub parts_plus : (rest : List ℕ) → parts (43 ∷ rest) ≡ Mark 43 ∷ parts rest
-unfolding part_at
-parts_plus rest = parts_part 43 rest refl refl
-
-pub parts_comma : (rest : List ℕ) → parts (44 ∷ rest) ≡ Mark 44 ∷ parts rest
-unfolding part_at
-parts_comma rest = parts_part 44 rest refl refl
-
-pub parts_star : (rest : List ℕ) → parts (42 ∷ rest) ≡ Mark 42 ∷ parts rest
-unfolding part_at
-parts_star rest = parts_part 42 rest refl refl
-
-pub parts_minus : (rest : List ℕ) → parts (45 ∷ rest) ≡ Mark 45 ∷ parts rest
-unfolding part_at
-parts_minus rest = parts_part 45 rest refl refl
+parts_mark b rest h =
+    let blank : is_blank b ≡ false = cc in
+    let remark : eqb b 59 ≡ false = cc in
+    let word : is_word_start b ≡ false = cc in
+    let digit : is_ascii_digit b ≡ false = cc in
+    let hex : eqb b 36 ≡ false = cc in
+    let text : eqb b 34 ≡ false = cc in
+    let define : eqb b 58 ≡ false = cc in
+    parts_part b rest blank remark ∙ rw (word, digit, hex, text, define) refl
 
 -- `:=`
 pub parts_define : (rest : List ℕ) → parts (58 ∷ 61 ∷ rest) ≡ Define ∷ parts rest

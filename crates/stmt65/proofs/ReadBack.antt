@@ -50,7 +50,7 @@ use Rattle.stmt65.specs.Code.Widths.{IsWordWide, AreWordWide, AreBytes, IsInWidt
 use Rattle.stmt65.specs.Views.{ExprView, OperandsView, TargetView, StatementView, RemarksView}
 use Rattle.stmt65.specs.Views as view
 use Rattle.stmt65.proofs.SpelledIsRead.{line_again}
-use Rattle.stmt65.proofs.Lexed.{Ends, IsWordText, parts_word, parts_blanks, parts_hash, parts_open, parts_close, parts_plus, parts_comma, parts_star, parts_minus, parts_define, parts_colon, parts_text, parts_hex2, parts_hex4, number_of-hex2, number_of-hex4, parts_digits, parts_decimal, number_of-decimal, OffsetParts, offset_parts}
+use Rattle.stmt65.proofs.Lexed.{Ends, IsWordText, parts_word, parts_blanks, parts_mark, parts_define, parts_colon, parts_text, parts_hex2, parts_hex4, number_of-hex2, number_of-hex4, parts_digits, parts_decimal, number_of-decimal, OffsetParts, offset_parts}
 use Rattle.stmt65.proofs.PartLemmas.{parts_nil, parts_remark}
 use Rattle.stmt65.proofs.RemarkLemmas.{AreClosed, parts_then, spelled_closed}
 use Rattle.stmt65.proofs.Cases.{both, by_test}
@@ -129,7 +129,7 @@ named_parts h name rest offset n lt e = go (eqb offset 0) refl
         rw f (record {
           front = Word name ∷ Mark 43 ∷ Number (offset_text h offset) ∷ [];
           lexes = ap parts shape ∙ parts_word name (43 ∷ (offset_text h offset ++ rest)) (name_word name n) refl
-              ∙ ap (λ (ps : List Part). Word name ∷ ps) (parts_plus (offset_text h offset ++ rest) ∙ ap (λ (ps : List Part). Mark 43 ∷ ps) o.lexes);
+              ∙ ap (λ (ps : List Part). Word name ∷ ps) (parts_mark 43 (offset_text h offset ++ rest) refl ∙ ap (λ (ps : List Part). Mark 43 ∷ ps) o.lexes);
           spells = (Mark 43 ∷ Number (offset_text h offset) ∷ [], [], refl, n, inr (offset_text h offset, o.counts, refl), refl);
         })
 
@@ -147,19 +147,19 @@ one_word : (b : ℕ) → IsWordText (b ∷ []) → Spells (word (b ∷ []) ∷ [
 one_word b h = worded (b ∷ []) [] (b ∷ []) (parts []) (parts_word (b ∷ []) [] h refl) nothing
 
 comma_x : Spells (mark 44 ∷ word (codes "x") ∷ []) (parts (codes ",x"))
-comma_x = marked 44 _ (codes ",x") (parts (codes "x")) (parts_comma (codes "x")) (one_word 120 (refl, refl))
+comma_x = marked 44 _ (codes ",x") (parts (codes "x")) (parts_mark 44 (codes "x") refl) (one_word 120 (refl, refl))
 
 comma_y : Spells (mark 44 ∷ word (codes "y") ∷ []) (parts (codes ",y"))
-comma_y = marked 44 _ (codes ",y") (parts (codes "y")) (parts_comma (codes "y")) (one_word 121 (refl, refl))
+comma_y = marked 44 _ (codes ",y") (parts (codes "y")) (parts_mark 44 (codes "y") refl) (one_word 121 (refl, refl))
 
 close : Spells (mark 41 ∷ []) (parts (codes ")"))
-close = marked 41 [] (codes ")") (parts []) (parts_close []) nothing
+close = marked 41 [] (codes ")") (parts []) (parts_mark 41 [] refl) nothing
 
 close_y : Spells (mark 41 ∷ mark 44 ∷ word (codes "y") ∷ []) (parts (codes "),y"))
-close_y = marked 41 _ (codes "),y") (parts (codes ",y")) (parts_close (codes ",y")) comma_y
+close_y = marked 41 _ (codes "),y") (parts (codes ",y")) (parts_mark 41 (codes ",y") refl) comma_y
 
 x_close : Spells (mark 44 ∷ word (codes "x") ∷ mark 41 ∷ []) (parts (codes ",x)"))
-x_close = marked 44 _ (codes ",x)") (parts (codes "x)")) (parts_comma (codes "x)"))
+x_close = marked 44 _ (codes ",x)") (parts (codes "x)")) (parts_mark 44 (codes "x)") refl)
     (worded (codes "x") _ (codes "x)") (parts (codes ")")) (parts_word (codes "x") (codes ")") (refl, refl) refl) close)
 
 -- ---- expressions and what stands around them
@@ -179,7 +179,7 @@ kind_then : (h : Bool) (k : OperandKind) (e : ExprView) (is : List Item) (rest :
 kind_then h k e is rest s has ends t = valued (source_value e) is (kind_text h k e) rest (kind_parts h k e rest s has ends) t
 
 opened : (is : List Item) (rest : List ℕ) → Spells is (parts rest) → Spells (mark 40 ∷ is) (parts (40 ∷ rest))
-opened is rest t = marked 40 is (40 ∷ rest) (parts rest) (parts_open rest) t
+opened is rest t = marked 40 is (40 ∷ rest) (parts rest) (parts_mark 40 rest refl) t
 
 word_no_equals : (b : ℕ) → is_word_start b ≡ true → eqb b 61 ≡ false
 word_no_equals b h = grind (arith, nat_tests)
@@ -209,7 +209,7 @@ row_spelled h row.Implied view.none w n = nothing
 row_spelled h row.Accumulator view.none w n = one_word 97 (refl, refl)
 row_spelled h (row.One pattern.Immediate k) (view.one e) w n =
     let text = kind_text h k e ++ [] in
-    marked 35 _ (35 ∷ text) (parts text) (parts_hash text) (kind_then h k e [] [] w n refl nothing)
+    marked 35 _ (35 ∷ text) (parts text) (parts_mark 35 text refl) (kind_then h k e [] [] w n refl nothing)
 row_spelled h (row.One pattern.Direct k) (view.one e) w n = kind_then h k e [] [] w n refl nothing
 row_spelled h (row.One pattern.DirectX k) (view.one e) w n = kind_then h k e _ (codes ",x") w n refl comma_x
 row_spelled h (row.One pattern.DirectY k) (view.one e) w n = kind_then h k e _ (codes ",y") w n refl comma_y
@@ -218,7 +218,7 @@ row_spelled h (row.One pattern.IndirectX k) (view.one e) w n = opened _ (kind_te
 row_spelled h (row.One pattern.IndirectY k) (view.one e) w n = opened _ (kind_text h k e ++ codes "),y") (kind_then h k e _ (codes "),y") w n refl close_y)
 row_spelled h (row.Two k l) (view.two e f) w n =
     let text = kind_text h l f ++ [] in
-    kind_then h k e _ (44 ∷ text) w.0 n.0 refl (marked 44 _ (44 ∷ text) (parts text) (parts_comma text) (kind_then h l f [] [] w.1 n.1 refl nothing))
+    kind_then h k e _ (44 ∷ text) w.0 n.0 refl (marked 44 _ (44 ∷ text) (parts text) (parts_mark 44 text refl) (kind_then h l f [] [] w.1 n.1 refl nothing))
 row_spelled h _ _ w n = absurd w
 
 forced_one : (h : Bool) (p : Pattern) (k : OperandKind) (e : ExprView) → IsRead e → IsSome (zero_page_row (row.One p k))
@@ -432,7 +432,7 @@ addr_spelled h t n w =
     last (value_list (NameValue t.name t.offset Zero ∷ [])) (parts (named_text h t.name t.offset)) (rw shape p.spells)
 
 minus_one : parts (codes "-1") ≡ Mark 45 ∷ Number (codes "1") ∷ []
-minus_one = parts_minus (codes "1") ∙ ap (λ (qs : List Part). Mark 45 ∷ qs) (parts_digits (codes "1") [] (omega arith) refl refl ∙ ap (λ (qs : List Part). Number (codes "1") ∷ qs) parts_nil)
+minus_one = parts_mark 45 (codes "1") refl ∙ ap (λ (qs : List Part). Mark 45 ∷ qs) (parts_digits (codes "1") [] (omega arith) refl refl ∙ ap (λ (qs : List Part). Number (codes "1") ∷ qs) parts_nil)
 
 less_one : (w : List ℕ) (n : ℕ) (front : List Part) → IsValue (NameValue w n Zero) front → IsValue (NameValue w n One) (front ++ (Mark 45 ∷ Number (codes "1") ∷ []))
 less_one w n front v =
@@ -481,7 +481,7 @@ distance_parts false n lt = record { lexes = parts_decimal n [] lt refl; counts 
 
 place_parts : (text : List ℕ) → parts (codes "* + " ++ text) ≡ Mark 42 ∷ Mark 43 ∷ parts text
 place_parts text =
-    parts_star (32 ∷ 43 ∷ 32 ∷ text) ∙ ap (λ (qs : List Part). Mark 42 ∷ qs) (parts_blanks 1 (43 ∷ 32 ∷ text) ∙ parts_plus (32 ∷ text) ∙ ap (λ (qs : List Part). Mark 43 ∷ qs) (parts_blanks 1 text))
+    parts_mark 42 (32 ∷ 43 ∷ 32 ∷ text) refl ∙ ap (λ (qs : List Part). Mark 42 ∷ qs) (parts_blanks 1 (43 ∷ 32 ∷ text) ∙ parts_mark 43 (32 ∷ text) refl ∙ ap (λ (qs : List Part). Mark 43 ∷ qs) (parts_blanks 1 text))
 
 forward_spelled : (c : Columns) (h : Bool) (name : List ℕ) (n : ℕ) → is_name name ≡ true → n < 65536
     → IsSpelling (PlaceAssignment name n) (parts (with_fields [] (definition_fields c name (codes "* + " ++ distance_text h n))))

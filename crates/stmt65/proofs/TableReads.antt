@@ -25,7 +25,7 @@ use Rattle.stmt65.specs.Statements.{bytes_text, comma_list, datum_text, data_tex
 use Rattle.stmt65.specs.Tables.{entry_len, order_of, in_order, low_number, pieces, entries, is_plain, cut_text}
 use Rattle.stmt65.specs.Code.Widths.{AreBytes}
 use Rattle.stmt65.proofs.Cases.{both}
-use Rattle.stmt65.proofs.Lexed.{Ends, parts_comma, parts_text, hex_is_digit, hex_value, below_16, parts_hex, parts_hex2, number_of-hex2}
+use Rattle.stmt65.proofs.Lexed.{Ends, parts_mark, parts_text, hex_is_digit, hex_value, below_16, parts_hex, parts_hex2, number_of-hex2}
 use Rattle.stmt65.proofs.PartLemmas.{parts_nil}
 use Rattle.stmt65.proofs.EntryLaws.{in_order-length, entries_more}
 use Rattle.stmt65.proofs.TableLists.{cut_nil, cut_single, cut_onto}
@@ -48,7 +48,7 @@ listed f Is text p each x (y ∷ ys) h =
     let more = both (p x) (list_all p (y ∷ ys)) h in
     let rest = text y ++ flat_map (λ y. 44 ∷ text y) ys in
     let t = each x more.0 (44 ∷ rest) refl in
-    (t.front, parts rest, t.lexes ∙ ap (λ (ps : List Part). t.front ++ ps) (parts_comma rest), t.spells, listed f Is text p each y ys more.1)
+    (t.front, parts rest, t.lexes ∙ ap (λ (ps : List Part). t.front ++ ps) (parts_mark 44 rest refl), t.spells, listed f Is text p each y ys more.1)
 
 -- ---- bytes
 

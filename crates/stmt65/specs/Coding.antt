@@ -124,6 +124,10 @@ by_size above short long v =
     if has_zero_page_size above v then (short, ZeroPage v ∷ []) ∷ (long, word_operand v ∷ []) ∷ []
     else (long, word_operand v ∷ []) ∷ (short, Oversized v ∷ []) ∷ []
 
+-- a zero-page mode and an absolute one: the zero-page one goes first, whatever size the operand has
+abbrev pub zero_page_first : List Definition → Mode → Mode → Value → List Way
+zero_page_first above short long v = (short, zero_page above v ∷ []) ∷ (long, word_operand v ∷ []) ∷ []
+
 -- the modes that are written so, in the order in which they are tried; after `a:` the absolute one alone
 unfoldable pub ways : List Definition → Form → List Way
 ways above Empty = (Imp, []) ∷ []
@@ -136,8 +140,8 @@ ways above (DirectX Automatic v) = by_size above Zpx Absx v
 ways above (DirectY Absolute v) = (Absy, word_operand v ∷ []) ∷ []
 ways above (DirectY Automatic v) = by_size above Zpy Absy v
 ways above (Two v w) = (Zprel, zero_page above v ∷ Distance w ∷ []) ∷ []
-ways above (Indirect v) = (Zpind, zero_page above v ∷ []) ∷ (Ind, word_operand v ∷ []) ∷ []
-ways above (IndirectX v) = (Indx, zero_page above v ∷ []) ∷ (Absindx, word_operand v ∷ []) ∷ []
+ways above (Indirect v) = zero_page_first above Zpind Ind v
+ways above (IndirectX v) = zero_page_first above Indx Absindx v
 ways above (IndirectY v) = (Indy, zero_page above v ∷ []) ∷ []
 
 -- with the opcode in front, or else what the other ways give

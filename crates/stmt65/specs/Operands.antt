@@ -48,8 +48,12 @@ in_pattern [] texts = []
 in_pattern (c ∷ pattern) [] = c ∷ in_pattern pattern []
 in_pattern (c ∷ pattern) (t ∷ texts) = if c == expression then t ++ in_pattern pattern texts else c ∷ in_pattern pattern (t ∷ texts)
 
+-- the pattern of a row, with the operands in it
+abbrev pub in_row : Bool → Row → OperandsView → List ℕ
+in_row hexoffs row operands = in_pattern (row_text row) (kind_texts hexoffs row operands)
+
 abbrev pub row_operands : Bool → Row → Bool → OperandsView → List ℕ
-row_operands hexoffs row absolute operands = prefix_text absolute ++ in_pattern (row_text row) (kind_texts hexoffs row operands)
+row_operands hexoffs row absolute operands = prefix_text absolute ++ in_row hexoffs row operands
 
 -- The operands of an instruction in its mode. `hexoffs` says whether offsets have hex digits, `absolute` whether `a:` stands before
 -- them.

@@ -1,6 +1,10 @@
 -- What the fragments of a statement stand for.
-use Rattle.std.specs.Prelude.{ℕ, suc, List, [], ◌∷◌, length, map}
+use Rattle.std.specs.Prelude.{◌≡◌, ℕ, suc, List, [], ◌∷◌, length, map, Option}
+use Rattle.std.specs.Option.{option_map}
 use Rattle.std.specs.List.{flat_map}
+use Rattle.isa65.specs.declared.cpu.Cpu.{Cpu}
+use Rattle.isa65.specs.declared.mnemonic.Mnemonic.{Mnemonic}
+use Rattle.isa65.specs.declared.mode.Mode.{Mode}
 use Rattle.stmt65.specs.declared.assembling.coding.Fragment.{Fragment as CodeFragment}
 use Rattle.stmt65.specs.declared.assembling.coding.Fragment.TheVariants as code_fragment
 use Rattle.stmt65.specs.declared.assembling.coding.Operand.{Operand as CodeOperand}
@@ -13,7 +17,7 @@ use Rattle.stmt65.specs.declared.assembling.pieces.Piece.{Piece as CodePiece}
 use Rattle.stmt65.specs.declared.assembling.pieces.Piece.TheVariants as code_piece
 use Rattle.stmt65.specs.declared.source_line.Value.{Value as CodeValue}
 use Rattle.stmt65.specs.declared.source_line.Datum.{Datum as CodeDatum}
-use Rattle.stmt65.specs.Coding.{Fragment, Fixed, Single, ZeroPage, Oversized, Entry, Distance, datum_fragments}
+use Rattle.stmt65.specs.Coding.{Fragment, Fixed, Single, ZeroPage, Oversized, Entry, Distance, Way, datum_fragments, first_way}
 use Rattle.stmt65.specs.Code.SourceLineViews.{value_of, datum_of}
 
 abbrev pub fragment_of : CodeFragment → Fragment
@@ -31,6 +35,14 @@ operand_of (code_operand.Two f g) = fragment_of f ∷ fragment_of g ∷ []
 
 abbrev pub instruction_of : CodeInstruction → List Fragment
 instruction_of i = Fixed i.opcode ∷ operand_of i.operand
+
+-- a way as the code holds it
+abbrev pub way_of : Mode × CodeOperand → Way
+way_of w = (w.0, operand_of w.1)
+
+-- the instruction is that of the first of these ways whose mode the mnemonic has
+abbrev pub IsFirstWay : Option CodeInstruction → Cpu → Mnemonic → List Way → Type 0
+IsFirstWay found cpu m ws = option_map instruction_of found ≡ first_way cpu m ws
 
 abbrev pub data_fragments : List CodeDatum → List Fragment
 data_fragments ds = flat_map datum_fragments (map datum_of ds)

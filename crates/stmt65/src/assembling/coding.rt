@@ -5,8 +5,8 @@ ghost use Rattle.std.specs.Option.{option_map};
 ghost use Rattle.stmt65.specs.Code.SourceLineViews.{value_of, form_of, operation_of};
 ghost use Rattle.stmt65.specs.SourceLine.{Direct};
 ghost use Rattle.stmt65.specs.declared.source_line.AddressSize.TheVariants.{Automatic};
-ghost use Rattle.stmt65.specs.Coding.{word_operand, zero_page, by_size, ways, first_way, coding};
-ghost use Rattle.stmt65.specs.Code.CodingViews.{fragment_of, operand_of, instruction_of, coded_of};
+ghost use Rattle.stmt65.specs.Coding.{word_operand, zero_page, zero_page_first, by_size, ways, coding};
+ghost use Rattle.stmt65.specs.Code.CodingViews.{fragment_of, way_of, IsFirstWay, coded_of};
 
 use crate::assembling::symbols::Symbols;
 use crate::assembling::values::has_zero_page_size;
@@ -66,7 +66,7 @@ pub enum Coded<'s, 'a> {
 type Way<'a> = (Mode, Operand<'a>);
 
 fn way<'a>(opcodes: &EncodeTable, mnemonic: Mnemonic, way: Way<'a>) -> Option<Instruction<'a>>
-    ensures { option_map instruction_of result ≡ first_way opcodes.now mnemonic ((way.entry.0, operand_of way.entry.1) ∷ []) }
+    ensures { IsFirstWay result opcodes.now mnemonic (way_of way.entry ∷ []) }
 {
     let (mode, operand) = way;
     let opcode = opcodes.encode(mnemonic, mode)?;
@@ -81,7 +81,7 @@ fn first_way<'a>(
     first: Way<'a>,
     second: Way<'a>,
 ) -> Option<Instruction<'a>>
-    ensures { option_map instruction_of result ≡ first_way opcodes.now mnemonic ((first.entry.0, operand_of first.entry.1) ∷ (second.entry.0, operand_of second.entry.1) ∷ []) }
+    ensures { IsFirstWay result opcodes.now mnemonic (way_of first.entry ∷ way_of second.entry ∷ []) }
 {
     if let Some(found) = way(opcodes, mnemonic, first) {
         return Some(found);
@@ -116,7 +116,7 @@ fn by_size<'a, A: Allocator + Clone>(
     long: Mode,
     value: Value<'a>,
 ) -> Option<Instruction<'a>>
-    ensures { option_map instruction_of result ≡ first_way opcodes.now mnemonic (by_size above.now short long (value_of value.entry)) }
+    ensures { IsFirstWay result opcodes.now mnemonic (by_size above.now short long (value_of value.entry)) }
 {
     let absolute = (long, Operand::One(word_operand(value)));
     if has_zero_page_size(above, value) {
@@ -135,7 +135,7 @@ fn direct<'a, A: Allocator + Clone>(
     mnemonic: Mnemonic,
     value: Value<'a>,
 ) -> Option<Instruction<'a>>
-    ensures { option_map instruction_of result ≡ first_way opcodes.now mnemonic (ways above.now (Direct Automatic (value_of value.entry))) }
+    ensures { IsFirstWay result opcodes.now mnemonic (ways above.now (Direct Automatic (value_of value.entry))) }
 {
     if let Some(found) = by_size(opcodes, above, mnemonic, Mode::Zp, Mode::Abs, value) {
         return Some(found);
@@ -154,7 +154,7 @@ fn absolute<'a>(
     mode: Mode,
     value: Value<'a>,
 ) -> Option<Instruction<'a>>
-    ensures { option_map instruction_of result ≡ first_way opcodes.now mnemonic ((mode, word_operand (value_of value.entry) ∷ []) ∷ []) }
+    ensures { IsFirstWay result opcodes.now mnemonic ((mode, word_operand (value_of value.entry) ∷ []) ∷ []) }
 {
     way(opcodes, mnemonic, (mode, Operand::One(word_operand(value))))
 }
@@ -168,7 +168,7 @@ fn indirect<'a, A: Allocator + Clone>(
     long: Mode,
     value: Value<'a>,
 ) -> Option<Instruction<'a>>
-    ensures { option_map instruction_of result ≡ first_way opcodes.now mnemonic ((short, zero_page above.now (value_of value.entry) ∷ []) ∷ (long, word_operand (value_of value.entry) ∷ []) ∷ []) }
+    ensures { IsFirstWay result opcodes.now mnemonic (zero_page_first above.now short long (value_of value.entry)) }
 {
     let zero_page = (short, Operand::One(zero_page(above, value)));
     let absolute = (long, Operand::One(word_operand(value)));
@@ -183,7 +183,7 @@ fn instruction_in<'a, A: Allocator + Clone>(
     mnemonic: Mnemonic,
     form: Form<'a>,
 ) -> Option<Instruction<'a>>
-    ensures { option_map instruction_of result ≡ first_way opcodes.now mnemonic (ways above.now (form_of form.entry)) }
+    ensures { IsFirstWay result opcodes.now mnemonic (ways above.now (form_of form.entry)) }
 {
     match form {
         Form::Empty => way(opcodes, mnemonic, (Mode::Imp, Operand::None)),

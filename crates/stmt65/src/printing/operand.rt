@@ -3,7 +3,7 @@
 ghost use Rattle.std.specs.Prelude.{◌≡◌, ◌+◌, ◌≤◌, ◌++◌, length};
 ghost use Rattle.arrayvec.specs.ArrayVec.{array_vec_len};
 ghost use Rattle.isa65.specs.Mode.{row_text};
-ghost use Rattle.stmt65.specs.Operands.{in_pattern, kind_text, kind_texts, long_text, named_text, operand_text, prefix_text, short_text};
+ghost use Rattle.stmt65.specs.Operands.{in_row, kind_text, long_text, named_text, operand_text, prefix_text, short_text};
 ghost use Rattle.stmt65.specs.SourceLine.{is_absolute};
 ghost use Rattle.stmt65.specs.Printable.{AreOperands, IsLong, IsOperand, IsShort, IsWrittenIn};
 ghost use Rattle.stmt65.specs.Views.{none, one, two};
@@ -77,7 +77,7 @@ fn put_kind(out: &mut Line, offsets: Offsets, kind: OperandKind, expr: &Expr)
 fn put_one(out: &mut Line, offsets: Offsets, row: Row, expr: &Expr)
     requires room { array_vec_len out.old ≤ 200 }
     requires written { AreOperands row (one (expr_seen expr.now)) }
-    ensures items { out.new.items ≡ out.old.items ++ in_pattern (row_text row) (kind_texts (in_hex offsets) row (one (expr_seen expr.now))) }
+    ensures items { out.new.items ≡ out.old.items ++ in_row (in_hex offsets) row (one (expr_seen expr.now)) }
     ensures len { array_vec_len out.new ≤ array_vec_len out.old + 190 }
     ensures width { IsWordWide (expr_seen expr.now) }
 {
@@ -120,7 +120,7 @@ fn put_one(out: &mut Line, offsets: Offsets, row: Row, expr: &Expr)
 fn put_two(out: &mut Line, offsets: Offsets, row: Row, first: &Expr, second: &Expr)
     requires room { array_vec_len out.old ≤ 200 }
     requires written { AreOperands row (two (expr_seen first.now) (expr_seen second.now)) }
-    ensures items { out.new.items ≡ out.old.items ++ in_pattern (row_text row) (kind_texts (in_hex offsets) row (two (expr_seen first.now) (expr_seen second.now))) }
+    ensures items { out.new.items ≡ out.old.items ++ in_row (in_hex offsets) row (two (expr_seen first.now) (expr_seen second.now)) }
     ensures len { array_vec_len out.new ≤ array_vec_len out.old + 190 }
     ensures width { AreWordWide (two (expr_seen first.now) (expr_seen second.now)) }
 {
