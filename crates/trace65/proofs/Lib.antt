@@ -1,6 +1,7 @@
 mod CommandLemmas
 mod AppendLemmas
 mod CommentLemmas
+mod CommentRows
 mod PictureLemmas
 mod ReportLemmas
 mod RequestLemmas

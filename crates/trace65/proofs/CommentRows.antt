@@ -1,0 +1,46 @@
+-- Comments, held against published bytes.
+use Rattle.std.proofs.Common.{◌≡◌, ℕ, Bool, true, false, List, [], ◌∷◌, ◌++◌, None, refl}
+use Rattle.std.specs.Prelude.{codes}
+use Rattle.info65.specs.Names.{covering, covering_below}
+use Rattle.info65.specs.Views.{InfoView, NameView, default_settings}
+use Rattle.map65.specs.MapView.{MapView}
+use Rattle.map65.specs.Spans.{addresses}
+use Rattle.reach65.specs.declared.pairs.Pair.{Pair}
+use Rattle.trace65.specs.PairComments.{name_text, offset_text, pair_comment}
+use Rattle.trace65.specs.Picture.{cell_character, picture_comments, row_comment}
+
+abbrev a_map : MapView
+a_map = record {
+  info = record {
+    settings = default_settings;
+    ranges = [];
+    segments = [];
+    names = record { address = 0x1005; size = 3; text = codes "text"; comment = None } ∷ [];
+    includes = [];
+  };
+  image = record { start = 0x1000; bytes = 0xA9 ∷ 0x05 ∷ 0xA2 ∷ 0x10 ∷ 0x60 ∷ 0xFF ∷ [] };
+}
+
+named : pair_comment a_map (record { low = 0x1001; high = 0x1003; address = 0x1005 }) ≡ codes " low byte at $1001, high byte at $1003: $1005 text"
+unfolding pair_comment name_text offset_text covering covering_below
+named = refl
+
+unnamed : pair_comment a_map (record { low = 0x1003; high = 0x1001; address = 0x1004 }) ≡ codes " low byte at $1003, high byte at $1001: $1004"
+unfolding pair_comment name_text offset_text covering covering_below
+unnamed = refl
+
+whole : picture_comments 0x1000 (true ∷ true ∷ []) (true ∷ true ∷ []) ≡ codes " $1000 #" ∷ []
+unfolding picture_comments row_comment cell_character addresses
+whole = refl
+
+partly : picture_comments 0xFF00 (true ∷ false ∷ []) (true ∷ true ∷ []) ≡ codes " $FF00 +" ∷ []
+unfolding picture_comments row_comment cell_character addresses
+partly = refl
+
+in_range : picture_comments 0x1000 (false ∷ false ∷ []) (false ∷ true ∷ []) ≡ codes " $1000 r" ∷ []
+unfolding picture_comments row_comment cell_character addresses
+in_range = refl
+
+neither : picture_comments 0x1000 (false ∷ []) (false ∷ []) ≡ codes " $1000 ." ∷ []
+unfolding picture_comments row_comment cell_character addresses
+neither = refl
