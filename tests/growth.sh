@@ -695,9 +695,9 @@ speed() {
     "$program" -S 0 random.bin -o random.s
     "$program" -S 0 nop.bin -o nop.s
     "$program" -S 0 -i mixed.info mixed.bin -o mixed.s
-    assembles 'random bytes' 59.6 random.s
+    assembles 'random bytes' 54.9 random.s
     assembles 'nop' 34.6 nop.s
-    assembles "mixed bytes, $(wc -l <mixed.info) ranges" 58.1 mixed.s
+    assembles "mixed bytes, $(wc -l <mixed.info) ranges" 55 mixed.s
 
     printf '\xea' >one.bin
     printf '\n%-28s %12s %12s %8s %8s %8s %9s\n' 'instructions and kilobytes' 'here' 'cc65' 'ratio' 'here' 'cc65' 'ratio'

@@ -100,3 +100,16 @@ index_added ds first next d n h unknown is now = (λ q i e. bound q i (bytes_eq 
 pub on_ok : {T E : Type 0} (r : Result T E) (P : Type 0) → is_err r ≡ false → OnOk r P → P
 on_ok (Ok x) P e h = h
 on_ok (Err x) P e h = cc
+
+-- an index in which the name leads to its first definition again
+pub index_again : (ds : List CodeDefinition) (first middle next : BTreeMap (Bor (List ℕ)) ℕ) (d : CodeDefinition) (n i : ℕ) → IsIndex ds first → place_of first d.name.now ≡ Some i
+    → ((q : List ℕ) → place_of middle q ≡ update bytes_eq (place_of first) d.name.now (Some n) q)
+    → ((q : List ℕ) → place_of next q ≡ update bytes_eq (place_of middle) d.name.now (Some i) q) → IsIndex (ds ++ d ∷ []) next
+index_again ds first middle next d n i h e one two = (λ q j f. k.0 q j (sym (same q (bytes_eq d.name.now q) refl) ∙ f), λ q. rw (same q (bytes_eq d.name.now q) refl) (k.1 q))
+  where
+    k : IsIndex (ds ++ d ∷ []) first
+    k = index_known ds first d h (rw e refl)
+
+    same : (q : List ℕ) (b : Bool) → bytes_eq d.name.now q ≡ b → place_of next q ≡ place_of first q
+    same q true f = let name = (bytes_eq-Decides d.name.now q).0 f in two q ∙ rw f (sym (rw name at e))
+    same q false f = two q ∙ rw f (one q ∙ rw f refl)

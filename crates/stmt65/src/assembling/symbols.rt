@@ -62,12 +62,19 @@ impl<'a, A: Allocator + Clone> Symbols<'a, A> {
         ensures { OnOk result (self.new ≡ self.old ++ definition_of definition.entry ∷ []) }
     {
         let index = self.definitions.len();
-        let known = self.first.contains_key(definition.name);
         self.definitions.push(definition)?;
-        if !known && self.first.insert(definition.name, index).is_err() {
-            self.definitions.pop();
-            return Err(AllocError);
+        match self.first.insert(definition.name, index) {
+            Ok(None) => Ok(()),
+            Ok(Some(first)) => {
+                // The first definition of the name counts. A name that is there needs no memory.
+                let back = self.first.insert(definition.name, first);
+                prove!(back.is_ok());
+                Ok(())
+            }
+            Err(_) => {
+                self.definitions.pop();
+                Err(AllocError)
+            }
         }
-        Ok(())
     }
 }
