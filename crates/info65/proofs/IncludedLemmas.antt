@@ -11,17 +11,16 @@ use Rattle.std.proofs.lemmas.Bool.{and_parts}
 use Rattle.text65.specs.Lines.{text_lines}
 use Rattle.text65.specs.Names.{has_name_form, is_word_byte}
 use Rattle.info65.specs.Code.Includes.{Adds, SeesName, name_result_seen}
-use Rattle.info65.specs.Code.Index.{Indexes, IsIndex, found_in}
+use Rattle.info65.specs.Code.Index.{AreIndexed, Indexes, IsIndex, names_of}
 use Rattle.info65.specs.Code.Names.{given_seen}
 use Rattle.info65.specs.Code.Steps.{Sees}
 use Rattle.info65.specs.Code.Texts.{TextsView}
 use Rattle.info65.specs.Faults.{◌>>=◌, fault, out_of_memory}
 use Rattle.info65.specs.Code.Results.{Fails}
 use Rattle.info65.specs.Includes.{address_written, after_sign, as_address, assignment_in, before_sign, blank_include, included, is_blank, is_identifier, unless_ignored, line_adds, line_in, name_adds, names_included, names_with, optional_adds, or_bad, plain_name, trimmed, with_names, without_comment}
-use Rattle.info65.specs.Labels.{by_address, is_at, is_elsewhere, name_fault, named_at, names_from}
+use Rattle.info65.specs.Labels.{by_address, is_at, is_elsewhere, name_fault}
 use Rattle.info65.specs.Lexemes.{number_in, starts_word}
 use Rattle.info65.specs.Names.{AreNames, IsName, blank_name, is_reserved, name_at}
-use Rattle.info65.specs.Sound.{IsSound}
 use Rattle.info65.specs.Views.{IncludeView, InfoView, NameView}
 use Rattle.info65.specs.declared.fault.InfoFault.{InfoFault}
 use Rattle.info65.specs.declared.fault.InfoFaultKind.{InfoFaultKind}
@@ -30,7 +29,7 @@ use Rattle.info65.specs.declared.information.name.Given.{Given}
 use Rattle.info65.specs.declared.fault.InfoFaultKind.TheVariants.{BadName, NameTwice, ReservedName, TooLarge}
 use Rattle.info65.proofs.Cases.{by_result, by_test}
 use Rattle.info65.proofs.IndexLemmas.{fault_none, names_same, no_fault}
-use Rattle.info65.proofs.NamesLemmas.{AreGiven, named_alike, one_more, sorted_names, text_alike}
+use Rattle.info65.proofs.NamesLemmas.{AreGiven, given_names, named_alike, names_sorted, one_more, sorted_names, text_alike}
 
 abbrev Added : Type 0
 Added = Result (Option NameView) InfoFaultKind
@@ -259,9 +258,6 @@ accepted i names all bytes small is = rw (small, is) refl
 
 -- ---- the information
 
-given_names : (names : List NameView) → AreNames names → AreGiven names
-given_names names are = record { each = are.each; texts = are.distinct; addresses = λ i j d lt low same. omega (arith, are.rising i j d lt low, same) }
-
 sorted_given : (r : Result (List NameView) InfoFault) (i : IncludeView) (names : List NameView) (bytes : List ℕ) (all : List NameView) → AreNames names → names_with i 1 names (text_lines bytes) ≡ r → (r >>= λ all. Ok (by_address all)) ≡ Ok all → AreNames all
 sorted_given (Err e) i names bytes all are is h = absurd cc
 sorted_given (Ok more) i names bytes all are is h = let s : by_address more ≡ all = cc in subst AreNames s (sorted_names more (all_given i 1 names (text_lines bytes) more (given_names names are) is))
@@ -274,8 +270,11 @@ names_sound i names bytes all are h =
     (λ large. let e : ◌≡◌ {A = Result (List NameView) InfoFault} (Err (fault 1 TooLarge)) (Ok all) = rw large at h in absurd cc)
     (λ small. sorted_given (names_with i 1 names (text_lines bytes)) i names bytes all are refl (rw small at h))
 
-pub info_sound : (i : InfoView) (names : List NameView) → IsSound i → AreNames names → IsSound (with_names i names)
-info_sound i names s are = record { limits = s.limits; ranges = s.ranges; segments = s.segments; names = are; includes = s.includes }
+-- the include file at a place of an information that is seen as this one
+pub file_at : (i j : InfoView) (files : List IncludeView) (index : ℕ) (file : IncludeView) → i ≡ j → index < length j.includes → file ≡ get_or files index file → files ≡ i.includes → file ≡ get_or i.includes index blank_include
+file_at i j files index file seen low at are =
+    let here : index < length i.includes = omega (arith, low, ap (λ (x : InfoView). length x.includes) seen) in
+    at ∙ ap (λ (l : List IncludeView). get_or l index file) are ∙ get_or_default i.includes index file blank_include here
 
 pub included_names : (i : InfoView) (index : ℕ) (file : IncludeView) (bytes : List ℕ) (all : List NameView) → file ≡ get_or i.includes index blank_include → names_included file i.names bytes ≡ Ok all → included i index bytes ≡ Ok (with_names i all)
 unfolding included
@@ -292,6 +291,20 @@ included_same i j index bytes r is h = ap (λ (x : InfoView). included x index b
 pub included_fails : (i j : InfoView) (index : ℕ) (bytes : List ℕ) (e : InfoFault) → i ≡ j → Fails e (included i index bytes) → Fails e (included j index bytes)
 included_fails i j index bytes e is h = subst (λ (x : InfoView). Fails e (included x index bytes)) is h
 
+-- an include file adds names alone
+included_rest : (i j : InfoView) (index : ℕ) (bytes : List ℕ) → included i index bytes ≡ Ok j → j ≡ with_names i j.names
+unfolding included
+included_rest i j index bytes h = by_names (names_included (get_or i.includes index blank_include) i.names bytes) h
+  where
+    by_names : (r : Result (List NameView) InfoFault) → (r >>= λ names. Ok (with_names i names)) ≡ Ok j → j ≡ with_names i j.names
+    by_names (Ok names) e = let s : with_names i names ≡ j = cc in sym s ∙ ap (λ (x : InfoView). with_names i x.names) s
+    by_names (Err f) e = absurd cc
+
+pub read_included : (i opened read new : InfoView) (names : List NameView) (index : ℕ) (bytes : List ℕ) → i ≡ opened → included opened index bytes ≡ Ok read → read.names ≡ names → new ≡ with_names i names → included i index bytes ≡ Ok new
+read_included i opened read new names index bytes is reads are put =
+    ap (λ (x : InfoView). included x index bytes) is ∙ reads
+    ∙ ap (λ (x : InfoView). Ok x) (included_rest opened read index bytes reads ∙ ap (λ (l : List NameView). with_names opened l) are ∙ ap (λ (x : InfoView). with_names x names) (sym is) ∙ sym put)
+
 -- ---- the names of a file
 
 -- an index of names is one of the same names by address
@@ -303,27 +316,29 @@ sorted_index names found texts g i = record {
   stands = λ t. i.stands t ∙ ap (option_map (λ (n : NameView). n.address)) (sym (text_alike names g t));
 }
 
--- by address they are by address
-still_sorted : (names : List NameView) → AreGiven names → by_address (by_address names) ≡ by_address names
+-- what is found by address are the names by address
+found_names : {Z : Type 0} (names : List NameView) (i : Index Z) → Indexes names i → names_of i ≡ by_address names
 unfolding by_address
-still_sorted names g = names_same _ _ (named_alike names g) 0 0x1_0000
+found_names names i is = names_same _ _ is.addresses 0 0x1_0000
 
 pub file_added : {Z : Type 0} (i : IncludeView) (names all : List NameView) (bytes : List ℕ) (index : Index Z) → AreNames names → nat_lt 1_048_576 (length bytes) ≡ false → names_with i 1 names (text_lines bytes) ≡ Ok all → Indexes all index
-    → (more : List NameView) × (names_included i names bytes ≡ Ok more) × (by_address more ≡ more) × Indexes more index
+    → (names_included i names bytes ≡ Ok (names_of index)) × AreIndexed index
 file_added i names all bytes index are small is indexed =
     let g = all_given i 1 names (text_lines bytes) all (given_names names are) is in
-    (by_address all, accepted i names all bytes small is, still_sorted all g, sorted_index all _ _ g indexed)
+    let same = sym (found_names all index indexed) in (
+      accepted i names all bytes small is ∙ ap (λ (l : List NameView). Ok l) same,
+      record {
+        names = subst AreNames same (sorted_names all g);
+        index = subst (λ (l : List NameView). Indexes l index) same (sorted_index all _ _ g indexed);
+      },
+    )
 
--- what is found by address are the names by address
-found_all : (all names : List NameView) (found : ℕ → Option Given) → ((a : ℕ) → option_map given_seen (found a) ≡ named_at all a) → by_address all ≡ all → names_from (λ a. option_map given_seen (found a)) 0 0x1_0000 ≡ names → all ≡ names
-unfolding by_address
-found_all all names found addresses sorted is = sym sorted ∙ sym (names_same _ _ addresses 0 0x1_0000) ∙ is
+-- the index of the names of a file
+pub record IsOf {Z : Type 0} (names : List NameView) (i : Index Z) : Type 0 where
+  pub same : names_of i ≡ names
+  pub indexed : AreIndexed i
 
-pub file_read : {Z : Type 0} (i : IncludeView) (names pool : List NameView) (bytes : List ℕ) (index : Index Z) → (all : List NameView) × (names_included i names bytes ≡ Ok all) × (by_address all ≡ all) × Indexes all index
-    → names_from (λ a. option_map given_seen (found_in index.names.items index.numbers a)) 0 0x1_0000 ≡ pool → names_included i names bytes ≡ Ok pool
-file_read i names pool bytes index a is = a.1 ∙ ap (λ (l : List NameView). Ok l) (found_all a.0 pool _ a.3.addresses a.2 is)
-
--- what the rules accept is refused only if an allocation failed
-pub lost : {A B : Type 0} {given : A} {e : InfoFault} {r : Result B InfoFault} → Fails e (Ok given) → Fails e r
-lost (inl wrong) = absurd cc
-lost (inr memory) = inr memory
+pub index_named : {Z : Type 0} (names : List NameView) (i : Index Z) → AreNames names × Indexes names i → IsOf names i
+index_named names i is =
+    let same : names_of i ≡ names = found_names names i is.1 ∙ names_sorted names is.0 in
+    record { same = same; indexed = record { names = subst AreNames (sym same) is.0; index = subst (λ (l : List NameView). Indexes l i) (sym same) is.1 } }

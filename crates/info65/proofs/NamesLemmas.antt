@@ -1,5 +1,5 @@
 -- The names of an accepted file: what holds of those that its groups say, and of all of them by address.
-use Rattle.std.proofs.Common.{◌≡◌, ◌≢◌, ◌∙◌, ◌≤◌, ◌<◌, ◌+◌, ◌==◌, ℕ, zero, suc, Bool, List, [], ◌∷◌, ◌++◌, true, false, ⊎_elim, ap, append_assoc, arith, get_or, length, option_map, refl, subst, sym}
+use Rattle.std.proofs.Common.{◌≡◌, ◌≢◌, ◌∙◌, ◌≤◌, ◌<◌, ◌+◌, ◌==◌, ℕ, zero, suc, Bool, List, [], ◌∷◌, ◌++◌, true, false, ⊎_elim, ap, ap₂, append_assoc, arith, get_or, length, option_map, refl, subst, sym}
 use Rattle.std.specs.Prelude.{All, AllPairs, IfSome, Option, Some, None, Result, Ok, Err, nat_le, option_to_list, is_some, ◌↔◌}
 use Rattle.std.specs.List.{Contains, find, list_any}
 use Rattle.std.specs.Option.{unwrap_or}
@@ -298,6 +298,45 @@ exactly names g n = (
       let given : IsName n = subst IsName h.2 (g.each h.0 n h.1) in
       in_from (named_at names) 0 0x1_0000 n.address n (omega arith) (omega (arith, given.room, given.sized)) (found_itself names n g h),
 )
+
+-- ---- lists that rise by address
+
+abbrev Rising : List NameView → Type 0
+Rising names = AllPairs (λ n m. n.address < m.address) names
+
+rising_tail : (x : NameView) (xs : List NameView) → Rising (x ∷ xs) → Rising xs
+rising_tail x xs r = λ i j d lt l. r (suc i) (suc j) d (omega arith) (omega arith)
+
+comes_after : (x : NameView) (xs : List NameView) (n : NameView) → Rising (x ∷ xs) → Contains xs n → x.address < n.address
+comes_after x xs n r h = let e = ap (λ (v : NameView). v.address) h.2 in let lt = r 0 (suc h.0) n (omega arith) (omega (arith, h.1)) in omega (arith, e, lt)
+
+first_or : {P : Type 0} (x : NameView) (xs : List NameView) (n : NameView) → Contains (x ∷ xs) n → (x ≡ n → P) → (Contains xs n → P) → P
+first_or {P} x xs n h first rest = go h.0 h.1 h.2
+  where
+    go : (i : ℕ) → i < length (x ∷ xs) → get_or (x ∷ xs) i n ≡ n → P
+    go zero l e = first e
+    go (suc i) l e = rest (i, omega (arith, l), e)
+
+-- those with the same names are one list
+rising_same : (xs ys : List NameView) → Rising xs → Rising ys → ((n : NameView) → Contains xs n → Contains ys n) → ((n : NameView) → Contains ys n → Contains xs n) → xs ≡ ys
+rising_same [] [] r s to back = refl
+rising_same [] (y ∷ ys) r s to back = absurd (omega (arith, (back y (0, omega arith, refl)).1))
+rising_same (x ∷ xs) [] r s to back = absurd (omega (arith, (to x (0, omega arith, refl)).1))
+rising_same (x ∷ xs) (y ∷ ys) r s to back =
+    let same : x ≡ y = first_or y ys x (to x (0, omega arith, refl)) (λ e. sym e) (λ late. first_or x xs y (back y (0, omega arith, refl)) (λ e. e) (λ early. absurd (omega (arith, comes_after y ys x s late, comes_after x xs y r early)))) in
+    let address = ap (λ (v : NameView). v.address) same in
+    ap₂ (λ (v : NameView) (vs : List NameView). v ∷ vs) same (rising_same xs ys (rising_tail x xs r) (rising_tail y ys s)
+    (λ n h. first_or y ys n (to n (suc h.0, omega (arith, h.1), h.2)) (λ e. absurd (omega (arith, comes_after x xs n r h, address, ap (λ (v : NameView). v.address) e))) (λ k. k))
+    (λ n h. first_or x xs n (back n (suc h.0, omega (arith, h.1), h.2)) (λ e. absurd (omega (arith, comes_after y ys n s h, address, ap (λ (v : NameView). v.address) e))) (λ k. k)))
+
+pub given_names : (names : List NameView) → AreNames names → AreGiven names
+given_names names are = record { each = are.each; texts = are.distinct; addresses = λ i j d lt low same. omega (arith, are.rising i j d lt low, same) }
+
+-- the names of a file are by address
+pub names_sorted : (names : List NameView) → AreNames names → by_address names ≡ names
+names_sorted names are =
+    let g = given_names names are in
+    rising_same (by_address names) names (sorted_names names g).rising are.rising (λ n. (exactly names g n).0) (λ n. (exactly names g n).1)
 
 pub names_given : NamesGiven
 names_given o bytes info i =

@@ -23,9 +23,11 @@ mod syntax;
 
 pub use fault::{InfoFault, InfoFaultKind};
 pub use includes::include::IncludeSpec;
+pub use includes::included::Inclusion;
 pub use information::info::{Info, read_include, read_info};
 pub use information::name::Given;
 pub use information::options::Options;
+pub use information::pool::NamePool;
 pub use information::range::{Entry, Layout, RangeSpec, RangeType};
 pub use information::segment::SegmentSpec;
 pub use information::settings::Settings;

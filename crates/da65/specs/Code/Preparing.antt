@@ -18,3 +18,8 @@ Prepares (Err stop) expected = Stops stop expected
 abbrev pub Changes : {T : Type 0} → Result T Stop → InfoView → Result InfoView (List ℕ) → Type 0
 Changes (Ok done) i expected = expected ≡ Ok i
 Changes (Err stop) i expected = Stops stop expected
+
+-- the same of a call that returns the names of the information
+abbrev pub Names : Result (List NameView) Stop → InfoView → Result InfoView (List ℕ) → Type 0
+Names (Ok names) i expected = (expected ≡ Ok (with_names i names)) × AreNames names
+Names (Err stop) i expected = Stops stop expected

@@ -4,7 +4,7 @@ ghost use Rattle.std.specs.Prelude.{◌≡◌, ◌≢◌, ◌<◌, ℕ, List, Re
 ghost use Rattle.info65.specs.Code.Results.{Fails, Gives};
 ghost use Rattle.info65.specs.Views.{IncludeView, InfoView};
 ghost use Rattle.info65.specs.declared.fault.InfoFault.{InfoFault};
-ghost use Rattle.da65.specs.Code.Preparing.{Changes, Prepares, Stops};
+ghost use Rattle.da65.specs.Code.Preparing.{Changes, Names, Prepares, Stops};
 ghost use Rattle.da65.specs.Files.{files_seen};
 ghost use Rattle.da65.specs.Outcome.{accepted, or_message, prepared_by, with_all_includes, with_file};
 
@@ -12,7 +12,7 @@ use crate::runs::files::{File, file_named};
 use crate::runs::messages::{
     Message, include_message, info_message, missing_message, no_input_message,
 };
-use info65::{Info, InfoFault, InfoFaultKind, read_include};
+use info65::{Inclusion, Info, InfoFault, InfoFaultKind, NamePool};
 use std::alloc::Allocator;
 
 /// Why a run ends before it reads its input.
@@ -55,33 +55,56 @@ fn accept<A: Allocator>(read: Result<Info<A>, InfoFault>) -> Result<Info<A>, Sto
     }
 }
 
-/// Adds the names of the include file at this index.
-fn add_include<A: Allocator + Copy>(
-    alloc: A,
-    info: &mut Info<A>,
+/// With the names of the include file at this index.
+fn with_include<'a, A: Allocator + Copy>(
+    included: Inclusion<'a, A>,
     index: usize,
-    files: &[File<'_>],
-) -> Result<(), Stop>
-    requires { index < length info.old.includes }
-    ensures done { (x : IncludeView) → x ≡ get_or info.old.includes index x → Changes result info.new (with_file (files_seen files.now) index x info.old) }
-    ensures includes { info.new.includes ≡ info.old.includes }
+    files: &[File<'a>],
+) -> Result<Inclusion<'a, A>, Stop>
+    requires { index < length included.entry.includes }
+    ensures { (x : IncludeView) → x ≡ get_or included.entry.includes index x → Prepares result (with_file (files_seen files.now) index x included.entry) }
 {
-    let include = &info.includes()[index];
+    let include = &included.includes()[index];
     let name = include.file.as_str();
     let Some(bytes) = file_named(files, name) else {
         return Err(Stop::Refused(missing_message(name.as_bytes())));
     };
-    match read_include(alloc, info, index, bytes) {
-        Ok(()) => Ok(()),
-        Err(fault) => {
-            let include = &info.includes()[index];
-            let message = include_message(include.file.as_bytes(), fault);
-            Err(stop_of(fault, message))
-        }
+    match included.with(index, bytes) {
+        Ok(more) => Ok(more),
+        Err(fault) => Err(stop_of(fault, include_message(name.as_bytes(), fault))),
     }
 }
 
-/// Adds the names of all include files, in the order of their groups.
+/// How many bytes the files have together.
+fn bytes_of(files: &[File]) -> usize {
+    let mut bytes = 0usize;
+    for file in files {
+        bytes = bytes.saturating_add(file.bytes.len());
+    }
+    bytes
+}
+
+/// The names of the information file with those of all include files, in the order of their groups.
+fn all_names<'a, A: Allocator + Copy>(
+    alloc: A,
+    info: &'a Info<A>,
+    files: &[File<'a>],
+) -> Result<NamePool<A>, Stop>
+    ensures { Names info.entry.now result (with_all_includes (files_seen files.now) info.entry.now) }
+{
+    let Ok(mut included) = Inclusion::of(alloc, info, bytes_of(files)) else {
+        return Err(Stop::Memory);
+    };
+    for index in 0..info.includes().len() {
+        included = with_include(included, index, files)?;
+    }
+    match included.names(alloc) {
+        Ok(names) => Ok(names),
+        Err(_) => Err(Stop::Memory),
+    }
+}
+
+/// Adds the names of all include files, if there are some.
 fn add_includes<A: Allocator + Copy>(
     alloc: A,
     info: &mut Info<A>,
@@ -89,10 +112,11 @@ fn add_includes<A: Allocator + Copy>(
 ) -> Result<(), Stop>
     ensures { Changes result info.new (with_all_includes (files_seen files.now) info.old) }
 {
-    let count = info.includes().len();
-    for index in 0..count {
-        add_include(alloc, info, index, files)?;
+    if info.includes().is_empty() {
+        return Ok(());
     }
+    let names = all_names(alloc, info, files)?;
+    info.set_names(names);
     Ok(())
 }
 

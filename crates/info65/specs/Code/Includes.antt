@@ -1,10 +1,9 @@
 -- What contracts see of include files.
 use Rattle.std.specs.Prelude.{◌≡◌, ◌++◌, ℕ, List, Option, Result, Ok, Err, option_map, option_to_list}
-use Rattle.info65.specs.Code.Index.{Indexes}
+use Rattle.info65.specs.Code.Index.{AreIndexed, Indexes, names_of}
 use Rattle.info65.specs.Code.Names.{given_seen}
 use Rattle.info65.specs.Code.Results.{Fails}
 use Rattle.info65.specs.Includes.{included, names_included}
-use Rattle.info65.specs.Labels.{by_address}
 use Rattle.info65.specs.Views.{IncludeView, InfoView, NameView}
 use Rattle.info65.specs.declared.fault.InfoFault.{InfoFault}
 use Rattle.info65.specs.declared.fault.InfoFaultKind.{InfoFaultKind}
@@ -36,7 +35,7 @@ Adds names defined (Err e) new = Fails e defined
 
 -- the index of the names before a file gets those of the file, or the call returns the file's fault
 abbrev pub AddsFile : {X Z : Type 0} → IncludeView → List NameView → List ℕ → Result X InfoFault → Index Z → Type 0
-AddsFile file names bytes (Ok _) new = (all : List NameView) × (names_included file names bytes ≡ Ok all) × (by_address all ≡ all) × Indexes all new
+AddsFile file names bytes (Ok _) new = (names_included file names bytes ≡ Ok (names_of new)) × AreIndexed new
 AddsFile file names bytes (Err e) new = Fails e (names_included file names bytes)
 
 -- The information is the one with the names of the include file. In a refusal, out of memory among them, it

@@ -4,7 +4,8 @@ use Rattle.std.specs.List.{find, list_any}
 use Rattle.std.specs.Str.{bytes_eq}
 use Rattle.info65.specs.Code.Names.{given_seen}
 use Rattle.info65.specs.Code.Texts.{AreTexts, TextsView, stands_in, texts_seen}
-use Rattle.info65.specs.Labels.{named_at}
+use Rattle.info65.specs.Labels.{named_at, names_from}
+use Rattle.info65.specs.Names.{AreNames}
 use Rattle.info65.specs.Ranges.{has_address}
 use Rattle.info65.specs.Segments.{contains}
 use Rattle.info65.specs.Views.{NameView, SegmentView}
@@ -45,6 +46,15 @@ pub record IsIndex (names : List NameView) (found : ℕ → Option Given) (texts
 -- the index is that of these names
 abbrev pub Indexes : {Z : Type 0} → List NameView → Index Z → Type 0
 Indexes names i = IsIndex names (found_in i.names.items i.numbers) (texts_seen i.texts)
+
+-- the names of an index, by address
+abbrev pub names_of : {Z : Type 0} → Index Z → List NameView
+names_of i = names_from (λ a. option_map given_seen (found_in i.names.items i.numbers a)) 0 0x1_0000
+
+-- they are names of a file, and those that it is the index of
+pub record AreIndexed {Z : Type 0} (i : Index Z) : Type 0 where
+  pub names : AreNames (names_of i)
+  pub index : Indexes (names_of i) i
 
 -- the cells say which addresses belong to a range
 pub record AreRanged (ranges : List RangeSpec) (table : List Bool) : Type 0 where

@@ -11,7 +11,7 @@ use crate::groups::group_values::is_given;
 use crate::groups::include_groups::{has_room, include_in};
 use crate::groups::range_groups::{mark_range, push_range, range_fault};
 use crate::groups::segment_groups::{mark_segment, segment_fault};
-use crate::information::pool::Pool;
+use crate::information::pool::NamePool;
 use crate::information::range::RangeSpec;
 use crate::lookup::index::Index;
 use crate::lookup::marks::{ADDRESSES, blank_table};
@@ -162,7 +162,7 @@ impl<'a, A: Allocator + Copy> Closed<'a, A> {
     }
 
     /// The ranges of the groups, in their order, and the names that they say, by address.
-    pub fn ranges_and_names(self, alloc: A) -> Result<(Vec<RangeSpec, A>, Pool<A>), InfoFault>
+    pub fn ranges_and_names(self, alloc: A) -> Result<(Vec<RangeSpec, A>, NamePool<A>), InfoFault>
         ensures ranges { IfOk result (λ said. said.0.items ≡ ranges_of self.entry) }
         ensures names { IfOk result (λ said. said.1 ≡ by_address (names_said self.entry)) }
         ensures err { IfErr result (λ e. e ≡ out_of_memory) }

@@ -13,10 +13,12 @@ ghost use Rattle.info65.specs.Views.{NameView};
 use crate::fault::{InfoFault, InfoFaultKind};
 use crate::includes::include::IncludeSpec;
 use crate::includes::include_lines::line_in;
+use crate::information::info::Info;
 use crate::information::name::Given;
-use crate::information::pool::Pool;
+use crate::information::pool::NamePool;
 use crate::lookup::index::Index;
-use std::alloc::Allocator;
+use std::alloc::{Allocator, Global};
+use std::marker::Model;
 use text65::first_line;
 
 // The bytes that an include file has at most.
@@ -25,21 +27,21 @@ const MOST_BYTES: usize = 1_048_576;
 // What a name counts for that is there before a file, beside the bytes of the file.
 const BYTES_OF_A_NAME: usize = 16;
 
-/// The index of these names, where those of that many bytes are to come.
-pub fn index_of<'a, A: Allocator + Copy>(
+// The index of the names of an information, where those of that many bytes are to come.
+fn index_of<'a, A: Allocator + Copy>(
     alloc: A,
-    names: &'a Pool<A>,
+    info: &'a Info<A>,
     bytes: usize,
 ) -> Result<Index<'a, A>, InfoFault>
-    requires { AreNames names.now }
-    ensures { MatchResult result (λ i. Indexes names.now i) (λ e. e ≡ out_of_memory) }
+    ensures { MatchResult result (λ i. AreNames info.now.names × Indexes info.now.names i) (λ e. e ≡ out_of_memory) }
 {
+    let count = info.given_count();
     let mut index = Index::new(
         alloc,
-        bytes.saturating_add(names.count().saturating_mul(BYTES_OF_A_NAME)),
+        bytes.saturating_add(count.saturating_mul(BYTES_OF_A_NAME)),
     );
-    for place in 0..names.count() {
-        index.add_name(names.given(place))?;
+    for place in 0..count {
+        index.add_name(info.given(place))?;
     }
     Ok(index)
 }
@@ -107,9 +109,9 @@ fn add_line<'a, A: Allocator + Copy>(
     }
 }
 
-/// Adds the names of an include file to the index of those before it, or returns its first fault.
+// Adds the names of an include file to the index of those before it, or returns its first fault.
 #[tactic(auto, unfolding(crate::specs::Includes::names_included))]
-pub fn add_file<'a, A: Allocator + Copy>(
+fn add_file<'a, A: Allocator + Copy>(
     index: &mut Index<'a, A>,
     include: &IncludeSpec<A>,
     bytes: &'a [u8],
@@ -127,4 +129,69 @@ pub fn add_file<'a, A: Allocator + Copy>(
         number += 1;
     }
     Ok(())
+}
+
+/// An information to which the names of include files are added, file by file. A contract sees it as the information with
+/// the names so far.
+#[derive(Drop)]
+pub struct Inclusion<'a, A: Allocator = Global> {
+    info: &'a Info<A>,
+    names: Index<'a, A>,
+}
+
+impl<'a, A: Allocator> Model for Inclusion<'a, A> {
+    ghost use Rattle.info65.specs.Code.Index.{AreIndexed, names_of};
+    ghost use Rattle.info65.specs.Includes.{with_names};
+    ghost use Rattle.info65.specs.Views.{InfoView};
+
+    ghost Value = { InfoView };
+
+    ghost view = { λ i. with_names i.info.now (names_of i.names) };
+
+    ghost invariant = { λ i. AreIndexed i.names };
+}
+
+impl<'a, A: Allocator + Copy> Inclusion<'a, A> {
+    ghost use Rattle.std.specs.Prelude.{◌≡◌, ◌<◌, Ok, length};
+    ghost use Rattle.info65.specs.Code.Results.{Gives};
+    ghost use Rattle.info65.specs.IncludeGroups.{AreIncludes};
+    ghost use Rattle.info65.specs.Includes.{included};
+    ghost use Rattle.info65.specs.Names.{AreNames};
+
+    /// The information as it is. `bytes` is how many bytes its include files have together: memory for looking names up
+    /// is taken in proportion to it.
+    pub fn of(alloc: A, info: &'a Info<A>, bytes: usize) -> Result<Self, InfoFault>
+        ensures { Gives (λ i. i) result (Ok info.entry.now) }
+    {
+        let names = index_of(alloc, info, bytes)?;
+        Ok(Inclusion { info, names })
+    }
+
+    /// The include files of the information, in the order of their groups.
+    pub fn includes(&self) -> &'a [IncludeSpec<A>]
+        ensures includes { result.now ≡ self.now.includes }
+        ensures sound { AreIncludes self.now.includes }
+    {
+        self.info.includes()
+    }
+
+    /// Adds the names of the include file at this place, whose bytes these are. [`read_include`](crate::read_include) says
+    /// which names are added, and when a file is refused. What was read is then gone, and the information is as before.
+    pub fn with(self, index: usize, bytes: &'a [u8]) -> Result<Self, InfoFault>
+        requires { index < length self.includes }
+        ensures { Gives (λ i. i) result (included self.entry index bytes.entry.now) }
+    {
+        let Inclusion { info, mut names } = self;
+        add_file(&mut names, &info.includes()[index], bytes)?;
+        Ok(Inclusion { info, names })
+    }
+
+    /// All names, by address, for [`Info::set_names`].
+    pub fn names(self, alloc: A) -> Result<NamePool<A>, InfoFault>
+        ensures names { Gives (λ n. n) result (Ok self.entry.names) }
+        ensures sound { AreNames self.entry.names }
+    {
+        let Inclusion { info: _, names } = self;
+        names.names(alloc)
+    }
 }

@@ -9,11 +9,11 @@ use crate::fault::{InfoFault, InfoFaultKind};
 use crate::groups::include_groups::includes_of;
 use crate::groups::segment_groups::segments_of;
 use crate::includes::include::IncludeSpec;
-use crate::includes::included::{add_file, index_of};
+use crate::includes::included::Inclusion;
 use crate::information::merge::settings_of;
 use crate::information::name::Given;
 use crate::information::options::Options;
-use crate::information::pool::Pool;
+use crate::information::pool::NamePool;
 use crate::information::range::RangeSpec;
 use crate::information::segment::SegmentSpec;
 use crate::information::segment_table::SegmentTable;
@@ -31,7 +31,7 @@ pub struct Info<A: Allocator = Global> {
     settings: Settings<A>,
     ranges: Vec<RangeSpec, A>,
     segments: SegmentTable<A>,
-    names: Pool<A>,
+    names: NamePool<A>,
     includes: Vec<IncludeSpec<A>, A>,
 }
 
@@ -51,6 +51,7 @@ impl<A: Allocator> Info<A> {
     ghost use Rattle.info65.specs.Code.Names.{given_seen};
     ghost use Rattle.info65.specs.Code.Segments.{segment_seen};
     ghost use Rattle.info65.specs.IncludeGroups.{AreIncludes};
+    ghost use Rattle.info65.specs.Includes.{with_names};
     ghost use Rattle.info65.specs.Names.{AreNames, covering, name_at};
     ghost use Rattle.info65.specs.Ranges.{AreRanges};
     ghost use Rattle.info65.specs.Segments.{AreSegments, first_named, segment_covering, segment_key};
@@ -141,6 +142,14 @@ impl<A: Allocator> Info<A> {
     {
         self.names.covering(address)
     }
+
+    /// Puts names in the place of its own: those of an [`Inclusion`](crate::Inclusion) of this information.
+    pub fn set_names(&mut self, names: NamePool<A>)
+        requires { AreNames names }
+        ensures { self.new ≡ with_names self.old names }
+    {
+        self.names = names;
+    }
 }
 
 /// Reads an information file under the options of the command line. No information file is the empty one.
@@ -202,9 +211,8 @@ pub fn read_include<A: Allocator + Copy>(
     requires { index < length info.old.includes }
     ensures { Includes info.old index bytes.now result info.new }
 {
-    let mut found = index_of(alloc, &info.names, bytes.len())?;
-    add_file(&mut found, &info.includes[index], bytes)?;
-    let names = found.names(alloc)?;
-    info.names = names;
+    let read = Inclusion::of(alloc, info, bytes.len())?.with(index, bytes)?;
+    let names = read.names(alloc)?;
+    info.set_names(names);
     Ok(())
 }

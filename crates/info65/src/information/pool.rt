@@ -34,12 +34,12 @@ pub struct Entry {
 /// Names, with the bytes of all of them in one pool. A contract sees the list of the names. Names are
 /// added at the end, and a pool that was not taken over leaves nothing behind.
 #[derive(Drop)]
-pub struct Pool<A: Allocator = Global> {
+pub struct NamePool<A: Allocator = Global> {
     entries: Vec<Entry, A>,
     bytes: Vec<u8, A>,
 }
 
-impl<A: Allocator> Model for Pool<A> {
+impl<A: Allocator> Model for NamePool<A> {
     ghost use Rattle.std.specs.Prelude.{List, map};
     ghost use Rattle.info65.specs.Code.Pool.{IsPool, entry_seen};
     ghost use Rattle.info65.specs.Views.{NameView};
@@ -51,7 +51,7 @@ impl<A: Allocator> Model for Pool<A> {
     ghost invariant = { λ p. IsPool p.bytes.items p.entries.items };
 }
 
-impl<A: Allocator + Copy> Pool<A> {
+impl<A: Allocator + Copy> NamePool<A> {
     ghost use Rattle.std.specs.Prelude.{◌≡◌, []};
 
     /// No names.
@@ -60,11 +60,11 @@ impl<A: Allocator + Copy> Pool<A> {
     {
         let entries = Vec::new(alloc);
         let bytes = Vec::new(alloc);
-        Pool { entries, bytes }
+        NamePool { entries, bytes }
     }
 }
 
-impl<A: Allocator> Pool<A> {
+impl<A: Allocator> NamePool<A> {
     ghost use Rattle.std.specs.Prelude.{◌≡◌, ◌<◌, ◌∷◌, ◌++◌, Ok, [], length, option_map, option_to_list};
     ghost use Rattle.info65.specs.Code.Names.{given_seen};
     ghost use Rattle.info65.specs.Code.Results.{Gives};
@@ -107,7 +107,7 @@ impl<A: Allocator> Pool<A> {
     pub fn with(self, name: Given<'_>) -> Result<Self, InfoFault>
         ensures { Gives (λ p. p) result (Ok (self ++ given_seen name.entry ∷ [])) }
     {
-        let Pool {
+        let NamePool {
             mut entries,
             mut bytes,
         } = self;
@@ -122,7 +122,7 @@ impl<A: Allocator> Pool<A> {
             comment,
             most,
         })?;
-        Ok(Pool { entries, bytes })
+        Ok(NamePool { entries, bytes })
     }
 }
 

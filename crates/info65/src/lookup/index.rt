@@ -5,7 +5,7 @@ ghost use Rattle.std.specs.List.{list_any};
 ghost use Rattle.info65.specs.Closing.{closing_fault, label_fault, optional_name_fault};
 ghost use Rattle.info65.specs.Code.Groups.{assignment_seen};
 ghost use Rattle.info65.specs.Code.Includes.{SeesName};
-ghost use Rattle.info65.specs.Code.Index.{Indexes, found_in};
+ghost use Rattle.info65.specs.Code.Index.{Indexes, found_in, names_of};
 ghost use Rattle.info65.specs.Code.Names.{given_seen};
 ghost use Rattle.info65.specs.Code.Texts.{stands_in, texts_seen};
 ghost use Rattle.info65.specs.Faults.{out_of_memory};
@@ -20,7 +20,7 @@ use crate::fault::{InfoFault, InfoFaultKind};
 use crate::groups::label_groups::{label_in, range_name};
 use crate::groups::range_groups::range_in;
 use crate::information::name::Given;
-use crate::information::pool::Pool;
+use crate::information::pool::NamePool;
 use crate::lookup::marks::ADDRESSES;
 use crate::lookup::numbers::Numbers;
 use crate::lookup::texts::Texts;
@@ -206,8 +206,8 @@ impl<'a, A: Allocator + Copy> Index<'a, A> {
     }
 
     /// The names, by address.
-    pub fn names(self, alloc: A) -> Result<Pool<A>, InfoFault>
-        ensures { Gives (λ p. p) result (Ok (names_from (λ a. option_map given_seen (found_in self.entry.names.items self.entry.numbers a)) 0 0x1_0000)) }
+    pub fn names(self, alloc: A) -> Result<NamePool<A>, InfoFault>
+        ensures { Gives (λ p. p) result (Ok (names_of self.entry)) }
     {
         let Index {
             names,
@@ -225,10 +225,10 @@ fn pooled<A: Allocator + Copy>(
     alloc: A,
     given: &[Given],
     numbers: &Numbers<A>,
-) -> Result<Pool<A>, InfoFault>
+) -> Result<NamePool<A>, InfoFault>
     ensures { Gives (λ p. p) result (Ok (names_from (λ a. option_map given_seen (found_in given.now numbers.now a)) 0 0x1_0000)) }
 {
-    let mut names = Pool::new(alloc);
+    let mut names = NamePool::new(alloc);
     if given.is_empty() {
         return Ok(names);
     }

@@ -11,12 +11,12 @@ use Rattle.info65.proofs.includes.included.index_of.Goals as goal
 
 pub loop-place-preserved : goal.loop-place-preserved
 loop-place-preserved g c =
-    let names = c.args.names.now in
+    let names = c.args.info.now.names in
     let i = c.loop-place.place in
     let n = given_seen c.given.result in
-    let fine : name_fault (take i names) n ≡ None = ap (name_fault (take i names)) c.given.ensures ∙ fresh names i c.requires (omega arith) in
-    let more : take i names ++ n ∷ [] ≡ take (i + 1) names = ap (λ (x : NameView). take i names ++ x ∷ []) c.given.ensures ∙ sym (take_more names i blank_name (omega arith)) in
+    let fine : name_fault (take i names) n ≡ None = ap (name_fault (take i names)) c.given.ensures.name ∙ fresh names i c.given_count-count.ensures.sound (omega arith) in
+    let more : take i names ++ n ∷ [] ≡ take (i + 1) names = ap (λ (x : NameView). take i names ++ x ∷ []) c.given.ensures.name ∙ sym (take_more names i blank_name (omega arith)) in
     subst (λ (l : List NameView). Indexes l c.add_name.new.self) more (c.in_ok-add_name.ensures.done (take i names) c.loop-place.invariant fine)
 
 pub returns : goal.returns
-returns g c = subst (λ (l : List NameView). Indexes l c.loop-place.index) (take_all c.loop-place.place c.args.names.now (omega arith)) c.loop-place.invariant
+returns g c = (c.given_count-count.ensures.sound, subst (λ (l : List NameView). Indexes l c.loop-place.index) (take_all c.loop-place.place c.args.info.now.names (omega arith)) c.loop-place.invariant)

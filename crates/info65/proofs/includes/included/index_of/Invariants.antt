@@ -3,4 +3,4 @@ use Rattle.info65.specs.Code.Index.{Indexes}
 use Rattle.info65.proofs.includes.included.index_of.Given as goal
 
 abbrev pub invariant-loop-place : goal.invariant-loop-place
-invariant-loop-place g l = Indexes (take l.place l.names) l.index
+invariant-loop-place g l = Indexes (take l.place l.info.names) l.index

@@ -5,8 +5,8 @@ use Rattle.info65.specs.Code.Pool.{IsPool, ReachTo, block_start, entry_seen, opt
 use Rattle.info65.specs.Views.{NameView}
 use Rattle.info65.specs.declared.information.pool.Entry.{Entry}
 use Rattle.info65.proofs.PoolLemmas.{IsPut, put_pooled, put_seen}
-use Rattle.info65.proofs.information.pool.Pool.with.Goals as goal
-use Rattle.info65.proofs.information.pool.Pool.with.Goals.{In_ok-push}
+use Rattle.info65.proofs.information.pool.NamePool.with.Goals as goal
+use Rattle.info65.proofs.information.pool.NamePool.with.Goals.{In_ok-push}
 
 pub most_reached-requires : goal.most_reached-requires
 most_reached-requires g c = let pool : IsPool _ _ = c.self.invariant in rw c.as_slice.ensures.value pool.blocks
