@@ -1,13 +1,15 @@
 -- What is known of an include file: how long its name is, and that adding its names keeps the include files.
-use Rattle.std.proofs.Common.{◌≡◌, ◌<◌, ◌≤◌, ℕ, List, true, get_or, length, arith, subst, sym}
+use Rattle.std.proofs.Common.{◌≡◌, ◌<◌, ◌≤◌, ℕ, List, [], true, ap, get_or, length, arith, subst, sym}
 use Rattle.std.proofs.lemmas.Bool.Decides.{nat_tests}
-use Rattle.std.specs.Prelude.{Ok, Err, Result}
+use Rattle.std.specs.Prelude.{Ok, Err, None, Option, Result, Some}
 use Rattle.info65.specs.Faults.{◌>>=◌}
 use Rattle.info65.specs.IncludeGroups.{AreIncludes}
 use Rattle.info65.specs.Includes.{blank_include, included, names_included, with_names}
 use Rattle.info65.specs.Values.{is_file_name}
 use Rattle.info65.specs.Views.{IncludeView, InfoView, NameView}
 use Rattle.info65.specs.declared.fault.InfoFault.{InfoFault}
+use Rattle.da65.specs.Files.{FileView, file_named}
+use Rattle.da65.specs.Outcome.{include_message, or_message, with_file, with_include}
 
 short_of : (name : List ℕ) → is_file_name name ≡ true → length name ≤ 255
 unfolding is_file_name
@@ -17,11 +19,25 @@ short_of name h = grind (arith, nat_tests)
 pub short_name : (xs : List IncludeView) (k : ℕ) (x : IncludeView) → AreIncludes xs → k < length xs → x ≡ get_or xs k x → length x.file ≤ 255
 short_name xs k x are h e = short_of x.file (subst (λ (y : IncludeView). is_file_name y.file ≡ true) (sym e) (are.each k x h))
 
-keeps_with : (i j : InfoView) (r : Result (List NameView) InfoFault) → (r >>= λ names. Ok (with_names i names)) ≡ Ok j → j.includes ≡ i.includes
-keeps_with i j (Ok names) e = cc
-keeps_with i j (Err fault) e = cc
+pub ok_same : {X E : Type 0} {x y : X} → ◌≡◌ {A = Result X E} (Ok x) (Ok y) → x ≡ y
+ok_same e = cc
 
--- names alone are added
-pub included_keeps : (i j : InfoView) (index : ℕ) (bytes : List ℕ) → included i index bytes ≡ Ok j → j.includes ≡ i.includes
+-- two that differ in names alone have the same include files
+pub same_files : (i j : InfoView) → ((names : List NameView) → with_names j names ≡ with_names i names) → j.includes ≡ i.includes
+same_files i j same = ap (λ (x : InfoView). x.includes) (same [])
+
+pub long_as : (j i : InfoView) (files : List IncludeView) (k : ℕ) → ((names : List NameView) → with_names j names ≡ with_names i names) → files ≡ i.includes → k < length files → k < length j.includes
+long_as j i files k same are low = omega (arith, low, ap (λ (xs : List IncludeView). length xs) are, ap (λ (xs : List IncludeView). length xs) (same_files i j same))
+
+-- an include file adds names alone
+pub file_rest : (fs : List FileView) (k : ℕ) (x : IncludeView) (i j : InfoView) → with_file fs k x i ≡ Ok j → (names : List NameView) → with_names j names ≡ with_names i names
 unfolding included
-included_keeps i j index bytes h = keeps_with i j (names_included (get_or i.includes index blank_include) i.names bytes) h
+file_rest fs k x i j e names = by_file (file_named fs x.file) e
+  where
+    by_read : (r : Result (List NameView) InfoFault) → or_message (include_message x.file) (r >>= λ added. Ok (with_names i added)) ≡ Ok j → with_names j names ≡ with_names i names
+    by_read (Ok added) h = let s : with_names i added ≡ j = cc in ap (λ (y : InfoView). with_names y names) (sym s)
+    by_read (Err fault) h = absurd cc
+
+    by_file : (b : Option (List ℕ)) → with_include k x.file i b ≡ Ok j → with_names j names ≡ with_names i names
+    by_file (Some bytes) h = by_read (names_included (get_or i.includes k blank_include) i.names bytes) h
+    by_file None h = absurd cc

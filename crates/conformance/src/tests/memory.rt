@@ -8,7 +8,7 @@ use crate::tests::command_lines::options_on;
 use crate::tests::refusals::{MANY, Refusals};
 use crate::tests::runs::{NAMED, run_including, run_with, shown};
 use da65::{File, Options, RunFault, Status, Told};
-use info65::{read_include, read_info};
+use info65::{Inclusion, Info, InfoFault, NamePool, read_info};
 use map65::read_image;
 use std::alloc::Global;
 use std::process::Abort;
@@ -217,8 +217,22 @@ fn assert_granted(rt: &impl Abort, heap: &Refusing<Global>, before: u64, bytes: 
     assert_equal(rt, &granted, &wanted);
 }
 
-/// Calls the parts of a run one after the other, up to the first that refuses, and looks at what each is granted. At most two
-/// files are included. The table of ranges has as many bytes as a map.
+/// The names with those of the include files, each of which has these bytes. At most two files are included.
+fn all_names<'a>(
+    heap: &'a Refusing<Global>,
+    info: &'a Info<&'a Refusing<Global>>,
+    include: &'a [u8],
+) -> Result<NamePool<&'a Refusing<Global>>, InfoFault> {
+    let mut included = Inclusion::of(heap, info, include.len())?;
+    for index in 0..2 {
+        if index < included.includes().len() {
+            included = included.with(index, include)?;
+        }
+    }
+    included.names(heap)
+}
+
+/// Calls the parts of a run one after the other, up to the first that refuses, and looks at what each is granted. The table of ranges has as many bytes as a map.
 fn call_parts(
     rt: &impl Abort,
     heap: &Refusing<Global>,
@@ -234,18 +248,16 @@ fn call_parts(
     };
     let tables = if info.given_count() == 0 { 0 } else { tables };
     assert_granted(rt, heap, 0, CELLS.saturating_add(tables), SMALL);
-    for index in 0..2 {
-        if index < info.includes().len() {
-            let before = heap.bytes();
-            let names = info.given_count().saturating_mul(BYTES_OF_A_NAME);
-            let read = read_include(heap, &mut info, index, include);
-            let found = name_tables(include.len().saturating_add(names)).saturating_add(LOOKED_UP);
-            if read.is_err() {
-                assert_granted(rt, heap, before, found, 0);
-                return;
-            }
-            assert_granted(rt, heap, before, found.saturating_add(KEPT), TEXT);
-        }
+    if !info.includes().is_empty() {
+        let before = heap.bytes();
+        let names = info.given_count().saturating_mul(BYTES_OF_A_NAME);
+        let found = name_tables(include.len().saturating_add(names)).saturating_add(LOOKED_UP);
+        let Ok(names) = all_names(heap, &info, include) else {
+            assert_granted(rt, heap, before, found, 0);
+            return;
+        };
+        info.set_names(names);
+        assert_granted(rt, heap, before, found.saturating_add(KEPT), TEXT);
     }
     let before = heap.bytes();
     let read = read_image(heap, &info, &mut Told::new(input));

@@ -1,6 +1,8 @@
 -- What the preparation of a run returns: what the run lists its input by, or why there is nothing to list.
 use Rattle.std.specs.Prelude.{◌≡◌, ℕ, List, Result, Ok, Err}
-use Rattle.info65.specs.Views.{InfoView}
+use Rattle.info65.specs.Includes.{with_names}
+use Rattle.info65.specs.Names.{AreNames}
+use Rattle.info65.specs.Views.{InfoView, NameView}
 use Rattle.da65.specs.declared.runs.preparing.Stop.{Stop}
 use Rattle.da65.specs.declared.runs.preparing.Stop.TheVariants.{Memory, Refused}
 
@@ -13,11 +15,6 @@ Stops Memory expected = Unit {0}
 abbrev pub Prepares : Result InfoView Stop → Result InfoView (List ℕ) → Type 0
 Prepares (Ok i) expected = expected ≡ Ok i
 Prepares (Err stop) expected = Stops stop expected
-
--- the same of a call that changes the information
-abbrev pub Changes : {T : Type 0} → Result T Stop → InfoView → Result InfoView (List ℕ) → Type 0
-Changes (Ok done) i expected = expected ≡ Ok i
-Changes (Err stop) i expected = Stops stop expected
 
 -- the same of a call that returns the names of the information
 abbrev pub Names : Result (List NameView) Stop → InfoView → Result InfoView (List ℕ) → Type 0

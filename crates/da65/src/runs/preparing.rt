@@ -4,7 +4,7 @@ ghost use Rattle.std.specs.Prelude.{◌≡◌, ◌≢◌, ◌<◌, ℕ, List, Re
 ghost use Rattle.info65.specs.Code.Results.{Fails, Gives};
 ghost use Rattle.info65.specs.Views.{IncludeView, InfoView};
 ghost use Rattle.info65.specs.declared.fault.InfoFault.{InfoFault};
-ghost use Rattle.da65.specs.Code.Preparing.{Changes, Names, Prepares, Stops};
+ghost use Rattle.da65.specs.Code.Preparing.{Names, Prepares, Stops};
 ghost use Rattle.da65.specs.Files.{files_seen};
 ghost use Rattle.da65.specs.Outcome.{accepted, or_message, prepared_by, with_all_includes, with_file};
 
@@ -56,12 +56,12 @@ fn accept<A: Allocator>(read: Result<Info<A>, InfoFault>) -> Result<Info<A>, Sto
 }
 
 /// With the names of the include file at this index.
-fn with_include<'a, A: Allocator + Copy>(
+fn with_include<'a, 'f: 'a, A: Allocator + Copy>(
     included: Inclusion<'a, A>,
     index: usize,
-    files: &[File<'a>],
+    files: &[File<'f>],
 ) -> Result<Inclusion<'a, A>, Stop>
-    requires { index < length included.entry.includes }
+    requires { index < length included.includes }
     ensures { (x : IncludeView) → x ≡ get_or included.entry.includes index x → Prepares result (with_file (files_seen files.now) index x included.entry) }
 {
     let include = &included.includes()[index];
@@ -85,12 +85,12 @@ fn bytes_of(files: &[File]) -> usize {
 }
 
 /// The names of the information file with those of all include files, in the order of their groups.
-fn all_names<'a, A: Allocator + Copy>(
+fn all_names<'a, 'f: 'a, A: Allocator + Copy>(
     alloc: A,
     info: &'a Info<A>,
-    files: &[File<'a>],
+    files: &[File<'f>],
 ) -> Result<NamePool<A>, Stop>
-    ensures { Names info.entry.now result (with_all_includes (files_seen files.now) info.entry.now) }
+    ensures { Names result info.entry.now (with_all_includes (files_seen files.now) info.entry.now) }
 {
     let Ok(mut included) = Inclusion::of(alloc, info, bytes_of(files)) else {
         return Err(Stop::Memory);
@@ -104,20 +104,20 @@ fn all_names<'a, A: Allocator + Copy>(
     }
 }
 
-/// Adds the names of all include files, if there are some.
-fn add_includes<A: Allocator + Copy>(
+/// With the names of all include files, if there are some.
+fn with_includes<A: Allocator + Copy>(
     alloc: A,
-    info: &mut Info<A>,
+    mut info: Info<A>,
     files: &[File<'_>],
-) -> Result<(), Stop>
-    ensures { Changes result info.new (with_all_includes (files_seen files.now) info.old) }
+) -> Result<Info<A>, Stop>
+    ensures { Prepares result (with_all_includes (files_seen files.now) info) }
 {
     if info.includes().is_empty() {
-        return Ok(());
+        return Ok(info);
     }
-    let names = all_names(alloc, info, files)?;
+    let names = all_names(alloc, &info, files)?;
     info.set_names(names);
-    Ok(())
+    Ok(info)
 }
 
 /// Asks for an input name, and adds the names of the include files to what the information file says.
@@ -129,7 +129,6 @@ pub(crate) fn prepare<A: Allocator + Copy>(
 ) -> Result<Info<A>, Stop>
     ensures { (defined : Result InfoView InfoFault) → Gives (λ i. i) read defined → Prepares result (prepared_by defined (files_seen files.now)) }
 {
-    let mut info = accept(read)?;
-    add_includes(alloc, &mut info, files)?;
-    Ok(info)
+    let info = accept(read)?;
+    with_includes(alloc, info, files)
 }

@@ -1,6 +1,6 @@
 // Include files.
 use crate::tests::asserts::{assert_equal, assert_equal_at};
-use crate::tests::said::{include, included, repeated};
+use crate::tests::said::{include, included, included_together, repeated};
 use std::alloc::{AllocError, Global};
 
 /// A label `go` at $0003, and an include file.
@@ -132,6 +132,19 @@ const BOTH: &[(usize, &[u8])] = &[
 fn two_include_files(rt: HostRuntime) {
     let found = included(&rt, rt.alloc(), TWO, BOTH);
     assert_equal(&rt, &found.as_str(), &" 1: name given twice 0001 K 0002 I");
+}
+
+#[test]
+fn two_include_files_together(rt: HostRuntime) {
+    let found = included_together(
+        &rt,
+        rt.alloc(),
+        TWO,
+        &[b"K = 1 ; one", b"J = 1\nI = 2 # two\nK = 1"],
+    );
+    assert_equal(&rt, &found.as_str(), &" 0001 K 0002 I");
+    let refused = included_together(&rt, rt.alloc(), TWO, &[b"K = 1", b"I = 2\nK = 3"]);
+    assert_equal(&rt, &refused.as_str(), &" 2: name given twice");
 }
 
 // A line of that many bytes, all of them blanks but for a name at the end.

@@ -3,7 +3,9 @@
 
 use crate::tests::asserts::{assert_equal_at, assert_that_at};
 use crate::tests::inputs::info_of;
-use info65::{Info, Options, RangeSpec, Settings, read_include, read_info};
+use info65::{
+    Inclusion, Info, InfoFault, NamePool, Options, RangeSpec, Settings, read_include, read_info,
+};
 use isa65::Cpu;
 use std::alloc::{AllocError, Global};
 use std::process::Abort;
@@ -222,6 +224,33 @@ pub fn included(rt: &impl Abort, alloc: Global, info: &str, files: &[(usize, &[u
         if let Err(fault) = read_include(alloc, &mut info, *place, file) {
             write!(out, " {fault}").expect(rt, "write");
         }
+    }
+    put_names(&mut out, &info).expect(rt, "put_names");
+    out
+}
+
+/// The names of the information with those of its include files, which are read over one inclusion.
+fn names_of<'a>(
+    rt: &impl Abort,
+    alloc: Global,
+    info: &'a Info,
+    files: &[&'a [u8]],
+) -> Result<NamePool, InfoFault> {
+    let mut included = Inclusion::of(alloc, info, 0)?;
+    for place in 0..files.len() {
+        assert_that_at(rt, place < included.includes().len(), &place);
+        included = included.with(place, files[place])?;
+    }
+    included.names(alloc)
+}
+
+/// The fault of the first include file that has one, and the names, to which those of all files are added if none has.
+pub fn included_together(rt: &impl Abort, alloc: Global, info: &str, files: &[&[u8]]) -> String {
+    let mut info = info_of(rt, alloc, info.as_bytes());
+    let mut out = String::new(alloc);
+    match names_of(rt, alloc, &info, files) {
+        Ok(names) => info.set_names(names),
+        Err(fault) => write!(out, " {fault}").expect(rt, "write"),
     }
     put_names(&mut out, &info).expect(rt, "put_names");
     out
