@@ -20,6 +20,7 @@ as65 information_in 2
 as65 is_memory 1
 as65 rank 1
 da65 accepted 2
+da65 all_names 2
 da65 image_message 1
 da65 list_input 1
 da65 needs_read 2

@@ -1,20 +1,18 @@
 -- Groups RANGE after those of a file: both are accepted, and say what the file says, with the ranges of those groups besides.
-use Rattle.std.proofs.Common.{◌≡◌, ◌∙◌, ◌+◌, ◌<◌, ◌≤◌, ◌&&◌, ◌||◌, ℕ, zero, suc, Bool, true, false, List, [], ◌∷◌, ◌++◌, append_assoc, ap, arith, length, map, nat_le, refl, sym, subst, get_or}
-use Rattle.std.specs.Prelude.{Any, All, Option, Some, None, Result, Ok, Err, IsOk}
+use Rattle.std.proofs.Common.{◌≡◌, ◌∙◌, ◌≤◌, ℕ, zero, suc, Bool, true, false, List, [], ◌∷◌, ◌++◌, append_assoc, ap, arith, length, map, refl, sym, subst}
+use Rattle.std.specs.Prelude.{All, None, Result, Ok, Err, IsOk}
 use Rattle.std.specs.List.{flat_map, list_any}
-use Rattle.std.proofs.lemmas.Bool.Decides.{nat_tests}
-use Rattle.std.proofs.lemmas.Bool.{and_parts, le-leb}
+use Rattle.std.proofs.lemmas.Bool.{le-leb}
 use Rattle.std.proofs.lemmas.List.{append-nil}
 use Rattle.std.proofs.lemmas.List.Elements.{All-append}
 use Rattle.std.proofs.lemmas.List.Folds.{Any-from_list_any, list_any_at}
 use Rattle.std.proofs.lemmas.Grind.{flat_map-append}
 use Rattle.info65.specs.Closing.{closing_fault}
 use Rattle.info65.specs.Comments.{comment_in, lacks_name}
-use Rattle.info65.specs.Grammar.{Accepts, AreGroups, AreNew, IsGroup, IsInformation, IsToken, Item, Spells, group_items, without_marks}
+use Rattle.info65.specs.Grammar.{Accepts, AreGroups, AreNew, IsInformation, Item, Spells, group_items, without_marks}
 use Rattle.info65.specs.Groups.{AssignmentView, GroupView, global_given, global_part, has, has_instead, is_given, value_in}
 use Rattle.info65.specs.IncludeGroups.{has_room, include_part, includes_of}
-use Rattle.info65.specs.Labels.{by_address, name_part, names_said, range_name}
-use Rattle.info65.specs.Laws.{Share}
+use Rattle.info65.specs.Labels.{name_part, names_said, range_name}
 use Rattle.info65.specs.Ranges.{has_address, overlaps, range_in, range_of_parts, range_part, ranges_of}
 use Rattle.info65.specs.Reader.{information, one}
 use Rattle.info65.specs.Segments.{segment_part, segments_of}

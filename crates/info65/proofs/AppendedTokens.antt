@@ -1,7 +1,7 @@
 -- A text after a file: the tokens of both are those of the file and then those of the text. The text begins with a `#`, so whatever the
 -- file ends with, a comment begins or goes on there.
-use Rattle.std.proofs.Common.{◌≡◌, ◌∙◌, ◌==◌, ◌&&◌, ◌||◌, ◌+◌, ◌-◌, ◌<◌, ◌≤◌, ℕ, zero, suc, Bool, true, false, List, [], ◌∷◌, ◌++◌, add-one, ap, arith, length, length-append, take, drop, refl, sym, inl, inr, cond, nat_le}
-use Rattle.std.specs.Prelude.{Option, Some, None, Result, Ok, Err, slice_index, if◌then◌else◌}
+use Rattle.std.proofs.Common.{◌≡◌, ◌∙◌, ◌==◌, ◌&&◌, ◌||◌, ◌+◌, ◌-◌, ◌<◌, ◌≤◌, ℕ, zero, suc, Bool, true, false, List, [], ◌∷◌, ◌++◌, ap, arith, length, length-append, take, refl, sym, inl, inr, cond, nat_le}
+use Rattle.std.specs.Prelude.{Option, Some, None, Result, Ok, Err, slice_index}
 use Rattle.std.specs.List.{prefix_len}
 use Rattle.std.specs.Char.{is_ascii_digit}
 use Rattle.std.proofs.lemmas.Bool.{cases_lt, cond-false, eqb-false, le-leb, ne_eqb}

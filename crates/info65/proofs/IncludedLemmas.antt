@@ -15,7 +15,7 @@ use Rattle.info65.specs.Code.Index.{AreIndexed, Indexes, IsIndex, names_of}
 use Rattle.info65.specs.Code.Names.{given_seen}
 use Rattle.info65.specs.Code.Steps.{Sees}
 use Rattle.info65.specs.Code.Texts.{TextsView}
-use Rattle.info65.specs.Faults.{◌>>=◌, fault, out_of_memory}
+use Rattle.info65.specs.Faults.{◌>>=◌, out_of_memory}
 use Rattle.info65.specs.Code.Results.{Fails}
 use Rattle.info65.specs.Includes.{address_written, after_sign, as_address, assignment_in, before_sign, blank_include, included, is_blank, is_identifier, unless_ignored, line_adds, line_in, name_adds, names_included, names_with, optional_adds, or_bad, plain_name, trimmed, with_names, without_comment}
 use Rattle.info65.specs.Labels.{by_address, is_at, is_elsewhere, name_fault}
@@ -26,7 +26,7 @@ use Rattle.info65.specs.declared.fault.InfoFault.{InfoFault}
 use Rattle.info65.specs.declared.fault.InfoFaultKind.{InfoFaultKind}
 use Rattle.info65.specs.declared.lookup.index.Index.{Index}
 use Rattle.info65.specs.declared.information.name.Given.{Given}
-use Rattle.info65.specs.declared.fault.InfoFaultKind.TheVariants.{BadName, NameTwice, ReservedName, TooLarge}
+use Rattle.info65.specs.declared.fault.InfoFaultKind.TheVariants.{BadName, NameTwice, ReservedName}
 use Rattle.info65.proofs.Cases.{by_result, by_test}
 use Rattle.info65.proofs.IndexLemmas.{fault_none, names_same, no_fault}
 use Rattle.info65.proofs.NamesLemmas.{AreGiven, given_names, named_alike, names_sorted, one_more, sorted_names, text_alike}
@@ -257,18 +257,6 @@ unfolding names_included
 accepted i names all bytes small is = rw (small, is) refl
 
 -- ---- the information
-
-sorted_given : (r : Result (List NameView) InfoFault) (i : IncludeView) (names : List NameView) (bytes : List ℕ) (all : List NameView) → AreNames names → names_with i 1 names (text_lines bytes) ≡ r → (r >>= λ all. Ok (by_address all)) ≡ Ok all → AreNames all
-sorted_given (Err e) i names bytes all are is h = absurd cc
-sorted_given (Ok more) i names bytes all are is h = let s : by_address more ≡ all = cc in subst AreNames s (sorted_names more (all_given i 1 names (text_lines bytes) more (given_names names are) is))
-
--- with the names of an include file they are still the names of a file
-pub names_sound : (i : IncludeView) (names : List NameView) (bytes : List ℕ) (all : List NameView) → AreNames names → names_included i names bytes ≡ Ok all → AreNames all
-unfolding names_included
-names_sound i names bytes all are h =
-    by_test (nat_lt 1_048_576 (length bytes))
-    (λ large. let e : ◌≡◌ {A = Result (List NameView) InfoFault} (Err (fault 1 TooLarge)) (Ok all) = rw large at h in absurd cc)
-    (λ small. sorted_given (names_with i 1 names (text_lines bytes)) i names bytes all are refl (rw small at h))
 
 -- the include file at a place of an information that is seen as this one
 pub file_at : (i j : InfoView) (files : List IncludeView) (index : ℕ) (file : IncludeView) → i ≡ j → index < length j.includes → file ≡ get_or files index file → files ≡ i.includes → file ≡ get_or i.includes index blank_include

@@ -3,7 +3,6 @@ use Rattle.std.proofs.Common.{◌≡◌, ◌≢◌, ◌∙◌, ◌≤◌, ◌<�
 use Rattle.std.specs.Option.{option_or}
 use Rattle.std.specs.Prelude.{All, AllPairs, Option, Some, None, Result, Ok, Err, IfOk, is_some, option_to_list, nat_le, nat_lt, not, slice_get}
 use Rattle.std.specs.List.{find, flat_map, list_any, prefix_len}
-use Rattle.std.specs.Ordering.{is_eq, nat_cmp}
 use Rattle.std.specs.Str.{bytes_eq}
 use Rattle.std.proofs.lemmas.Bool.{eqb-true, false≢true, or_from, or_left, or_right}
 use Rattle.std.proofs.lemmas.Bool.Decides.{eqb_tells, nat_tests}
@@ -31,6 +30,7 @@ use Rattle.info65.specs.declared.information.name.Given.{Given}
 use Rattle.info65.specs.declared.information.range.RangeSpec.{RangeSpec}
 use Rattle.info65.proofs.Cases.{by_test, or_last, same_ok}
 use Rattle.info65.proofs.RangeLemmas.{any_shared, closes_range, ordered_in, ranges_more, shared_overlap}
+use Rattle.info65.proofs.TextsLemmas.{same_text}
 
 -- ---- marked addresses
 
@@ -99,9 +99,6 @@ is_some_find p (x ∷ xs) = by_test (p x) (λ hit. rw hit refl) (λ miss. rw mis
 pub taken_is : (names : List NameView) (a : ℕ) → list_any (is_at a) names ≡ is_some (named_at names a)
 unfolding named_at
 taken_is names a = is_some_find (is_at a) names
-
-same_text : (t u : List ℕ) → bytes_eq t u ≡ true → t ≡ u
-same_text t u h = (bytes_eq-Decides t u).0 h
 
 abbrev Distinct : List NameView → Type 0
 Distinct names = AllPairs (λ n m. n.text ≢ m.text) names
@@ -318,12 +315,6 @@ names_more_include before given = names_more before (record { kind = kind.Includ
 
 pub marked_end : (first last a at : ℕ) → at ≡ last + 1 → (nat_le first a && nat_lt a at) ≡ (nat_le first a && nat_le a last)
 marked_end first last a at is = ap (λ b. nat_le first a && b) (let e : nat_lt a at ≡ nat_le a last = by_test (nat_le a last) (λ h. let f : nat_lt a at ≡ true = grind (arith, nat_tests, h, is) in f ∙ sym h) (λ h. let f : nat_lt a at ≡ false = grind (arith, nat_tests, h, is) in f ∙ sym h) in e)
-
-pub key_is : (k q : ℕ) → is_eq (nat_cmp k q) ≡ (k == q)
-key_is k q =
-    by_test (k == q)
-    (λ same. let e : k ≡ q = eqb-true k q same in let f : nat_lt k q ≡ false = grind (arith, nat_tests, e) in rw (f, same) refl)
-    (λ apart. by_test (nat_lt k q) (λ low. rw (low, apart) refl) (λ high. rw (high, apart) refl))
 
 -- ---- names by address
 

@@ -91,28 +91,6 @@ passed_over pool es n i a le within past =
     let lt : j < i = omega (arith, upto, place) in
     ap (λ (v : NameView). covers v a) (seen_at pool es j blank_entry (omega (arith, lt, within))) ∙ ended f.address (f.address + f.size) a (past j from lt))
 
--- ---- no names
-
-no_names : AreNames []
-no_names = record {
-  each = λ k d l. absurd (omega (arith, l));
-  rising = λ i j d lt l. absurd (omega (arith, l));
-  distinct = λ i j d lt l. absurd (omega (arith, l));
-}
-
-pub none_named : (pool : List ℕ) (es : List Entry) → es ≡ [] → AreNames (map (entry_seen pool) es)
-none_named pool es is = rw is no_names
-
-no_pool : (pool : List ℕ) → IsPool pool []
-no_pool pool = record {
-  texts = λ i l. absurd (omega (arith, l));
-  comments = λ i l. absurd (omega (arith, l));
-  blocks = record { each = λ i l. absurd (omega (arith, l)) };
-}
-
-pub none_pooled : (pool : List ℕ) (es : List Entry) → es ≡ [] → IsPool pool es
-none_pooled pool es is = rw is (no_pool pool)
-
 -- ---- one name more
 
 bytes_grow : (pool more : List ℕ) (s : Span) → IsWithin pool s → bytes_of (pool ++ more) s ≡ bytes_of pool s

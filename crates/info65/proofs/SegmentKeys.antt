@@ -13,9 +13,7 @@ use Rattle.info65.specs.Views.{SegmentView}
 use Rattle.info65.specs.declared.information.segment.SegmentSpec.{SegmentSpec}
 use Rattle.info65.proofs.Cases.{by_test}
 use Rattle.info65.proofs.SegmentCovering.{covers_one, one_contains}
-
-same_name : (t u : List ℕ) → bytes_eq t u ≡ true → t ≡ u
-same_name t u h = (bytes_eq-Decides t u).0 h
+use Rattle.info65.proofs.TextsLemmas.{same_text}
 
 is_name : (t u : List ℕ) → t ≡ u → bytes_eq t u ≡ true
 is_name t u h = (bytes_eq-Decides t u).1 h
@@ -65,7 +63,7 @@ rest_next segments k found more name key low rest same is after = record {
       (λ yes.
       ap (λ (o : Option ℕ). option_or o (first_named (drop (k + 1) segments) t)) (after t ∙ ap (λ (b : Bool). cond b (Some key) (found t)) yes)
       ∙ sym is
-      ∙ ap (first_named segments) (same_name name t yes))
+      ∙ ap (first_named segments) (same_text name t yes))
       (λ no.
       let miss : bytes_eq (segment_at segments k).name t ≡ false = ap (λ (n : List ℕ). bytes_eq n t) (sym same) ∙ no in
       ap (λ (o : Option ℕ). option_or o (first_named (drop (k + 1) segments) t)) (after t ∙ ap (λ (b : Bool). cond b (Some key) (found t)) no)
@@ -86,7 +84,7 @@ unfolding first_named
 named_by [] name key e = absurd cc
 named_by (s ∷ ss) name key e =
     by_test (bytes_eq s.name name)
-    (λ yes. let same : ◌≡◌ {A = Option ℕ} (Some s.first) (Some key) = rw yes at e in record { place = 0; low = omega arith; named = same_name s.name name yes; first = cc })
+    (λ yes. let same : ◌≡◌ {A = Option ℕ} (Some s.first) (Some key) = rw yes at e in record { place = 0; low = omega arith; named = same_text s.name name yes; first = cc })
     (λ no. let n = named_by ss name key (rw no at e) in record { place = suc n.place; low = omega (arith, n.low); named = n.named; first = n.first })
 
 first_within : (segments : List SegmentView) (k : ℕ) → AreSegments segments → k < length segments → contains (segment_at segments k) (segment_at segments k).first ≡ true

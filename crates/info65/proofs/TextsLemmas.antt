@@ -9,7 +9,7 @@ use Rattle.info65.specs.Code.Texts.{AreTexts, StandsToo, TextsView, by_slot, if_
 use Rattle.info65.specs.declared.information.name.Given.{Given}
 use Rattle.info65.proofs.Cases.{by_test}
 
-same_text : (t u : List ℕ) → bytes_eq t u ≡ true → t ≡ u
+pub same_text : (t u : List ℕ) → bytes_eq t u ≡ true → t ≡ u
 same_text t u h = (bytes_eq-Decides t u).0 h
 
 -- nothing stands where no slot is taken

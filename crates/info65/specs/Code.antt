@@ -4,6 +4,7 @@ pub mod Groups
 pub mod Includes
 pub mod Index
 pub mod Kept
+pub mod Lookup
 pub mod Names
 pub mod Pool
 pub mod Reading

@@ -3,7 +3,7 @@
 ghost use Rattle.std.specs.Prelude.{◌≡◌, ◌++◌, ◌∷◌, [], IfErr, IfOk, List, length, map, option_to_list};
 ghost use Rattle.info65.specs.Closing.{range_fault};
 ghost use Rattle.info65.specs.Code.Groups.{assignment_seen, group_seen};
-ghost use Rattle.info65.specs.Code.Index.{AreRanged, Indexes};
+ghost use Rattle.info65.specs.Code.Lookup.{IsRangeFault, RangesToo};
 ghost use Rattle.info65.specs.Faults.{out_of_memory};
 ghost use Rattle.info65.specs.Groups.{GroupView};
 ghost use Rattle.info65.specs.Ranges.{last_from, range_between, range_in, range_of_parts, range_part, ranges_of};
@@ -86,7 +86,7 @@ pub fn range_fault<'a, A: Allocator + Copy>(
     given: &[Assignment<'a>],
 ) -> Option<InfoFaultKind>
     requires { length table.now ≡ 0x1_0000 }
-    ensures { (ranges : List RangeSpec) (before : List NameView) → AreRanged ranges table.now → Indexes before names.now → result ≡ range_fault ranges before (map assignment_seen given.now) (range_in (map assignment_seen given.now)) }
+    ensures { IsRangeFault table.now names.now (map assignment_seen given.now) result }
 {
     match range_in(given) {
         Err(fault) => Some(fault),
@@ -104,7 +104,7 @@ pub fn range_fault<'a, A: Allocator + Copy>(
 pub fn mark_range(table: &mut [bool], kind: GroupKind, given: &[Assignment])
     requires { length table.old ≡ 0x1_0000 }
     ensures size { length table.new ≡ length table.old }
-    ensures marked { (before : List GroupView) → AreRanged (ranges_of before) table.old → AreRanged (ranges_of (before ++ group kind (map assignment_seen given.now) ∷ [])) table.new }
+    ensures marked { RangesToo (group kind (map assignment_seen given.now)) table.old table.new }
 {
     if let GroupKind::Range = kind {
         if let Ok(range) = range_in(given) {

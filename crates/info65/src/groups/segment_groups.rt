@@ -3,7 +3,7 @@
 ghost use Rattle.std.specs.Prelude.{◌≡◌, ◌≤◌, ◌∷◌, ◌++◌, IfErr, IfOk, List, None, Ok, Some, [], length, map, option_map, option_to_list};
 ghost use Rattle.info65.specs.Closing.{closing_fault, segment_fault};
 ghost use Rattle.info65.specs.Code.Groups.{assignment_seen, group_seen};
-ghost use Rattle.info65.specs.Code.Index.{AreMarked};
+ghost use Rattle.info65.specs.Code.Lookup.{IsSegmentFault, SegmentsToo};
 ghost use Rattle.info65.specs.Code.Segments.{SeesSegment, parts_seen, segment_seen};
 ghost use Rattle.info65.specs.Faults.{out_of_memory};
 ghost use Rattle.info65.specs.Code.Results.{Gives};
@@ -62,7 +62,7 @@ fn segment_from<'a>(
 /// The fault of a group SEGMENT at its closing brace, after segments that the table marks.
 pub fn segment_fault(table: &[bool], given: &[Assignment]) -> Option<InfoFaultKind>
     requires { length table.now ≡ 0x1_0000 }
-    ensures { (segments : List SegmentView) → AreMarked segments table.now → result ≡ segment_fault segments (segment_in (map assignment_seen given.now)) }
+    ensures { IsSegmentFault table.now (map assignment_seen given.now) result }
 {
     match segment_in(given) {
         Err(fault) => Some(fault),
@@ -80,8 +80,7 @@ pub fn segment_fault(table: &[bool], given: &[Assignment]) -> Option<InfoFaultKi
 pub fn mark_segment(table: &mut [bool], kind: GroupKind, given: &[Assignment])
     requires { length table.old ≡ 0x1_0000 }
     ensures size { length table.new ≡ length table.old }
-    ensures marked { (before : List GroupView) → AreMarked (segments_of before) table.old
-        → AreMarked (segments_of (before ++ group kind (map assignment_seen given.now) ∷ [])) table.new }
+    ensures marked { SegmentsToo (group kind (map assignment_seen given.now)) table.old table.new }
 {
     if let GroupKind::Segment = kind {
         if let Ok(segment) = segment_in(given) {

@@ -160,8 +160,9 @@ impl<A: Allocator> Info<A> {
 /// SIZE, TYPE, NAME and COMMENT; LABEL with ADDR, NAME, SIZE and COMMENT; SEGMENT with START, END and NAME;
 /// ASMINC with FILE, COMMENTSTART and IGNOREUNKNOWN. Include files are read apart, by [`read_include`].
 /// A file is accepted exactly when its tokens are groups that keep every condition; else it is refused for
-/// the first fault from left to right, with that fault's line. A file of more than 1,048,576 bytes is TooLarge at line 1. It returns Memory at line 0 only if an
-/// allocation failed. The time grows with the size of the file: no group is read again at a closing brace.
+/// the first fault from left to right, with that fault's line. A file of more than 1,048,576 bytes is TooLarge at line 1.
+/// It returns Memory at line 0 only if an allocation failed. The time grows with the size of the file: no group is read
+/// again at a closing brace.
 #[tactic(auto, unfolding(crate::specs::Reader::information))]
 pub fn read_info<A: Allocator + Copy, B: Allocator>(
     alloc: A,

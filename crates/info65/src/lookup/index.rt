@@ -6,6 +6,7 @@ ghost use Rattle.info65.specs.Closing.{closing_fault, label_fault, optional_name
 ghost use Rattle.info65.specs.Code.Groups.{assignment_seen};
 ghost use Rattle.info65.specs.Code.Includes.{SeesName};
 ghost use Rattle.info65.specs.Code.Index.{Indexes, found_in, names_of};
+ghost use Rattle.info65.specs.Code.Lookup.{IndexesGroup, IndexesToo};
 ghost use Rattle.info65.specs.Code.Names.{given_seen};
 ghost use Rattle.info65.specs.Code.Texts.{stands_in, texts_seen};
 ghost use Rattle.info65.specs.Faults.{out_of_memory};
@@ -166,7 +167,7 @@ impl<'a, A: Allocator + Copy> Index<'a, A> {
 
     /// Adds a name that has no fault.
     pub fn add_name(&mut self, name: Given<'a>) -> Result<(), InfoFault>
-        ensures done { (names : List NameView) → Indexes names self.old → name_fault names (given_seen name.entry) ≡ None → IfOk result (λ _. Indexes (names ++ given_seen name.entry ∷ []) self.new) }
+        ensures done { IndexesToo (Some (given_seen name.entry)) self.old result self.new }
         ensures err { IfErr result (λ e. e ≡ out_of_memory) }
     {
         self.texts.add(name)?;
@@ -176,7 +177,7 @@ impl<'a, A: Allocator + Copy> Index<'a, A> {
     }
 
     fn add_optional_name(&mut self, name: Option<Given<'a>>) -> Result<(), InfoFault>
-        ensures done { (names : List NameView) → Indexes names self.old → optional_name_fault names (option_map given_seen name.entry) ≡ None → IfOk result (λ _. Indexes (names ++ option_to_list (option_map given_seen name.entry)) self.new) }
+        ensures done { IndexesToo (option_map given_seen name.entry) self.old result self.new }
         ensures err { IfErr result (λ e. e ≡ out_of_memory) }
     {
         match name {
@@ -187,7 +188,7 @@ impl<'a, A: Allocator + Copy> Index<'a, A> {
 
     /// Adds the name that a group without a fault says, if it says one.
     pub fn add(&mut self, kind: GroupKind, given: &[Assignment<'a>]) -> Result<(), InfoFault>
-        ensures done { (before : List GroupView) → Indexes (names_said before) self.old → closing_fault before kind (map assignment_seen given.now) ≡ None → IfOk result (λ _. Indexes (names_said (before ++ group kind (map assignment_seen given.now) ∷ [])) self.new) }
+        ensures done { IndexesGroup (group kind (map assignment_seen given.now)) self.old result self.new }
         ensures err { IfErr result (λ e. e ≡ out_of_memory) }
     {
         match kind {

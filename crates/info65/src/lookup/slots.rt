@@ -38,6 +38,7 @@ impl<A: Allocator> Model for Slots<A> {
 
 impl<A: Allocator> Slots<A> {
     ghost use Rattle.std.specs.Prelude.{◌≡◌, ◌==◌, ℕ, [], IfErr, IfOk, None, Some, get_or, if◌then◌else◌};
+    ghost use Rattle.info65.specs.Code.Lookup.{IsPut};
     ghost use Rattle.info65.specs.Code.Slots.{slot_of};
     ghost use Rattle.info65.specs.Faults.{out_of_memory};
 
@@ -64,7 +65,7 @@ impl<A: Allocator> Slots<A> {
     /// Puts an address into the slot of a text.
     pub fn put(&mut self, text: &[u8], address: u16) -> Result<(), InfoFault>
         ensures count { self.new.count ≡ self.old.count }
-        ensures done { IfOk result (λ _. (k : ℕ) → get_or self.new.cells k None ≡ (if slot_of self.old.count text.now == k then Some address else get_or self.old.cells k None)) }
+        ensures done { IfOk result (λ _. IsPut text.now address self.old self.new) }
         ensures err { IfErr result (λ e. e ≡ out_of_memory) }
     {
         let slot = slot_of(self.count, text);

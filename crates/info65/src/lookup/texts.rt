@@ -21,6 +21,7 @@ pub struct Texts<'a, A: Allocator> {
 impl<'a, A: Allocator + Copy> Texts<'a, A> {
     ghost use Rattle.std.specs.Prelude.{◌≡◌, ◌==◌, ℕ, List, Option, None, Some, IfErr, IfOk, if◌then◌else◌};
     ghost use Rattle.std.specs.Str.{bytes_eq};
+    ghost use Rattle.info65.specs.Code.Lookup.{StandsIfNew};
     ghost use Rattle.info65.specs.Code.Texts.{AreTexts, StandsToo, slotted, stands_in, texts_seen};
     ghost use Rattle.info65.specs.Faults.{out_of_memory};
     ghost use Rattle.info65.specs.declared.information.name.Given.{Given};
@@ -54,8 +55,7 @@ impl<'a, A: Allocator + Copy> Texts<'a, A> {
 
     /// Adds a name whose text stands nowhere, and whose address has no name.
     pub fn add(&mut self, name: Given<'a>) -> Result<(), InfoFault>
-        ensures done { (found more : ℕ → Option Given) → AreTexts (texts_seen self.old) → found name.entry.address ≡ None → stands_in found (texts_seen self.old) name.entry.text.now ≡ None → ((a : ℕ) → more a ≡ (if name.entry.address == a then Some name.entry else found a))
-            → IfOk result (λ _. StandsToo found more name.entry (texts_seen self.old) (texts_seen self.new)) }
+        ensures done { StandsIfNew name.entry (texts_seen self.old) result (texts_seen self.new) }
         ensures err { IfErr result (λ e. e ≡ out_of_memory) }
     {
         match self.slots.at(name.text) {

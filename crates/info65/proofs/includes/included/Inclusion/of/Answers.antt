@@ -1,4 +1,4 @@
-use Rattle.std.proofs.Common.{◌≡◌, ap, sym}
+use Rattle.std.proofs.Common.{ap, sym}
 use Rattle.std.specs.Prelude.{List, Ok}
 use Rattle.info65.specs.Includes.{with_names}
 use Rattle.info65.specs.Views.{NameView}

@@ -1,4 +1,3 @@
-use Rattle.std.proofs.Common.{◌≡◌}
 use Rattle.std.proofs.lemmas.Result.{err_from_is_err_and}
 use Rattle.info65.specs.Code.Index.{names_of}
 use Rattle.info65.proofs.IncludedLemmas.{file_at, included_fails, included_fault, included_names, included_same}
