@@ -31,8 +31,8 @@ pub struct Entry {
     pub most: u32,
 }
 
-/// Names, with the bytes of all of them in one pool. A contract sees the list of the names. Names are
-/// added at the end, and a pool that was not taken over leaves nothing behind.
+/// The names of an information, by address, with the bytes of all of them in one pool. A contract sees the list of the names.
+/// Names are added at the end, and a pool that was not taken over leaves nothing behind.
 #[derive(Drop)]
 pub struct NamePool<A: Allocator = Global> {
     entries: Vec<Entry, A>,
@@ -55,7 +55,7 @@ impl<A: Allocator + Copy> NamePool<A> {
     ghost use Rattle.std.specs.Prelude.{◌≡◌, []};
 
     /// No names.
-    pub fn new(alloc: A) -> Self
+    pub(crate) fn new(alloc: A) -> Self
         ensures { result ≡ [] }
     {
         let entries = Vec::new(alloc);
@@ -71,14 +71,14 @@ impl<A: Allocator> NamePool<A> {
     ghost use Rattle.info65.specs.Names.{AreNames, covering, name_at};
 
     /// How many names there are.
-    pub fn count(&self) -> usize
+    pub(crate) fn count(&self) -> usize
         ensures { result ≡ length self.now }
     {
         self.entries.len()
     }
 
     /// The name at this place.
-    pub fn given(&self, index: usize) -> Given<'_>
+    pub(crate) fn given(&self, index: usize) -> Given<'_>
         requires { index < length self.now }
         ensures { given_seen result ≡ name_at self.now index }
     {
@@ -86,7 +86,7 @@ impl<A: Allocator> NamePool<A> {
     }
 
     /// The last of the names that covers the address.
-    pub fn covering(&self, address: u16) -> Option<Given<'_>>
+    pub(crate) fn covering(&self, address: u16) -> Option<Given<'_>>
         requires { AreNames self.now }
         ensures { option_map given_seen result ≡ covering self.now address }
     {
@@ -94,7 +94,7 @@ impl<A: Allocator> NamePool<A> {
     }
 
     /// These names and, if there is one, one more.
-    pub fn with_optional(self, name: Option<Given<'_>>) -> Result<Self, InfoFault>
+    pub(crate) fn with_optional(self, name: Option<Given<'_>>) -> Result<Self, InfoFault>
         ensures { Gives (λ p. p) result (Ok (self ++ option_to_list (option_map given_seen name.entry))) }
     {
         match name {
@@ -104,7 +104,7 @@ impl<A: Allocator> NamePool<A> {
     }
 
     /// These names and one more.
-    pub fn with(self, name: Given<'_>) -> Result<Self, InfoFault>
+    pub(crate) fn with(self, name: Given<'_>) -> Result<Self, InfoFault>
         ensures { Gives (λ p. p) result (Ok (self ++ given_seen name.entry ∷ [])) }
     {
         let NamePool {
