@@ -1,19 +1,20 @@
 -- The index of closed groups.
-use Rattle.std.proofs.Common.{◌≡◌, ◌≢◌, ◌∙◌, ◌≤◌, ◌<◌, ◌+◌, ◌-◌, ◌==◌, ◌&&◌, ◌||◌, ℕ, zero, suc, Bool, List, [], ◌∷◌, ◌++◌, true, false, ⊎_elim, ap, ap₂, arith, drop, get_or, length, min, option_map, refl, sym, if◌then◌else◌}
+use Rattle.std.proofs.Common.{◌≡◌, ◌≢◌, ◌∙◌, ◌≤◌, ◌<◌, ◌+◌, ◌-◌, ◌*◌, ◌/◌, ◌==◌, ◌&&◌, ◌||◌, ℕ, zero, suc, Bool, List, [], ◌∷◌, ◌++◌, true, false, ⊎_elim, ap, ap₂, arith, get_or, length, option_map, refl, sym, if◌then◌else◌}
 use Rattle.std.specs.Option.{option_or}
 use Rattle.std.specs.Prelude.{All, AllPairs, Option, Some, None, Result, Ok, Err, IfOk, is_some, option_to_list, nat_le, nat_lt, not, slice_get}
-use Rattle.std.specs.List.{find, flat_map, list_any, prefix_len}
+use Rattle.std.specs.List.{find, flat_map, list_any}
 use Rattle.std.specs.Str.{bytes_eq}
 use Rattle.std.proofs.lemmas.Bool.{eqb-true, false≢true, or_from, or_left, or_right}
 use Rattle.std.proofs.lemmas.Bool.Decides.{eqb_tells, nat_tests}
 use Rattle.std.proofs.lemmas.List.Folds.{Any-from_list_any, find-append, list_any_none, list_any-append, list_any_at, list_any-from_Any}
+use Rattle.std.proofs.Math.Nat.{div-eq_of_lt-le, div-mul-le_self, lt-mul-div-succ}
 use Rattle.std.proofs.lemmas.Grind.{flat_map-append}
-use Rattle.std.proofs.lemmas.List.{append-nil, get_or-drop, length-drop}
-use Rattle.std.proofs.lemmas.List.Sums.{prefix_len-le-length, prefix_len_passes}
+use Rattle.std.proofs.lemmas.List.{append-nil}
 use Rattle.std.proofs.lemmas.List.Elements.{All-push}
 use Rattle.std.proofs.lemmas.List.Quantifiers.{all_pairs_push}
 use Rattle.std.proofs.lemmas.Slice.Eq.{bytes_eq-Decides}
 use Rattle.info65.specs.Closing.{closing_fault, label_fault, optional_name_fault, range_fault}
+use Rattle.info65.specs.Code.Blocks.{AreNamed}
 use Rattle.info65.specs.Code.Names.{given_seen}
 use Rattle.info65.specs.Groups.{AssignmentView, GroupView}
 use Rattle.info65.specs.declared.syntax.attribute.GroupKind.{GroupKind}
@@ -345,21 +346,6 @@ pub names_empty : (names : List Given) (numbers : List ℕ) → length names ≡
 names_empty [] numbers none = names_same _ (λ a. None) (λ a. ap (option_map given_seen) (none_numbered a (get_or numbers a 0))) 0 0x1_0000 ∙ names_none 0 0x1_0000
 names_empty (x ∷ xs) numbers none = absurd (omega (arith, none))
 
--- zeros from an address on
-pub zeros_passed : (numbers rest : List ℕ) (from start len : ℕ) → rest ≡ drop start numbers → len ≡ length numbers → start ≡ min from len → (a : ℕ) → from ≤ a → a < from + prefix_len (λ n. n == 0) rest → get_or numbers a 0 ≡ 0
-zeros_passed numbers rest from start len is all at a low high =
-    let p : ℕ → Bool = λ n. n == 0 in
-    let fits = prefix_len-le-length p rest in
-    let long : length rest ≡ length numbers - start = ap (λ (l : List ℕ). length l) is ∙ length-drop start numbers in
-    let same : start + (a - from) ≡ a = omega (arith, all, at, low, high, fits, long) in
-    let hit = prefix_len_passes p rest (a - from) 0 (omega (arith, low, high)) in
-    let cell : get_or rest (a - from) 0 ≡ get_or numbers a 0 = ap (λ (l : List ℕ). get_or l (a - from) 0) is ∙ get_or-drop start numbers (a - from) 0 ∙ ap (λ (k : ℕ). get_or numbers k 0) same in
-    sym cell ∙ eqb-true (get_or rest (a - from) 0) 0 hit
-
--- an address without a number has no name
-unnumbered : (names : List Given) (a k : ℕ) → k ≡ 0 → option_map given_seen (own a (numbered names k)) ≡ None
-unnumbered names a k none = rw none refl
-
 passed_over : (f : ℕ → Option NameView) (n a : ℕ) → a + n ≤ 0x1_0000 → ((b : ℕ) → a ≤ b → b < a + n → f b ≡ None) → names_from f a (0x1_0000 - a) ≡ names_from f (a + n) (0x1_0000 - (a + n))
 passed_over f zero a bound none = ap (λ (b : ℕ). names_from f b (0x1_0000 - b)) (let e : a ≡ a + 0 = omega arith in e)
 passed_over f (suc n) a bound none =
@@ -368,13 +354,46 @@ passed_over f (suc n) a bound none =
     ∙ passed_over f n (a + 1) (omega (arith, bound)) (λ b low high. none b (omega (arith, low)) (omega (arith, high)))
     ∙ ap (λ (b : ℕ). names_from f b (0x1_0000 - b)) (let e : a + 1 + n ≡ a + suc n = omega arith in e)
 
--- addresses without a number have no names
-pub names_passed : (names : List Given) (numbers : List ℕ) (from to : ℕ) → from ≤ to → to ≤ 0x1_0000 → ((a : ℕ) → from ≤ a → a < to → get_or numbers a 0 ≡ 0)
-    → names_from (λ a. option_map given_seen (found_in names numbers a)) from (0x1_0000 - from) ≡ names_from (λ a. option_map given_seen (found_in names numbers a)) to (0x1_0000 - to)
-names_passed names numbers from to order bound none =
+-- a name that is found is one of the names, and has that address
+found_given : (names : List Given) (number a : ℕ) (n : Given) → own a (numbered names number) ≡ Some n → (k : ℕ) × (k < length names) × (get_or names k n ≡ n) × (n.address ≡ a)
+found_given names zero a n e = absurd cc
+found_given names (suc k) a n e = at_place names k e
+  where
+    at_place : (ns : List Given) (i : ℕ) → own a (slice_get ns i) ≡ Some n → (k : ℕ) × (k < length ns) × (get_or ns k n ≡ n) × (n.address ≡ a)
+    at_place [] i h = absurd cc
+    at_place (m ∷ ms) zero h =
+        by_test (m.address == a)
+        (λ hit. let x : ◌≡◌ {A = Option Given} (Some m) (Some n) = rw hit at h in let same : m ≡ n = cc in (0, omega arith, same, ap (λ (g : Given). g.address) (sym same) ∙ eqb-true m.address a hit))
+        (λ miss. let x : ◌≡◌ {A = Option Given} None (Some n) = rw miss at h in absurd cc)
+    at_place (m ∷ ms) (suc i) h = let r = at_place ms i h in (suc r.0, omega (arith, r.1), r.2, r.3)
+
+-- the address of a block without a name has none
+pub block_free : (names : List Given) (numbers : List ℕ) (blocks : List Bool) (a b : ℕ) → AreNamed names blocks → get_or blocks (a / 256) false ≡ false → a ≤ b → b < (a / 256 + 1) * 256 → option_map given_seen (found_in names numbers b) ≡ None
+block_free names numbers blocks a b are off low high = none (found_in names numbers b) refl
+  where
+    same : b / 256 ≡ a / 256
+    same = let down = div-mul-le_self a 256 in div-eq_of_lt-le {k = a / 256} 256 (omega (arith, down, low)) high
+
+    none : (o : Option Given) → found_in names numbers b ≡ o → option_map given_seen o ≡ None
+    none None e = refl
+    none (Some n) e =
+        let r = found_given names (get_or numbers b 0) b n e in
+        let on : get_or blocks (n.address / 256) false ≡ true = ap (λ (g : Given). get_or blocks (g.address / 256) false) (sym r.2) ∙ are.each r.0 n r.1 in
+        absurd (false≢true (sym off ∙ ap (λ (q : ℕ). get_or blocks q false) (sym same) ∙ ap (λ (x : ℕ). get_or blocks (x / 256) false) (sym r.3) ∙ on))
+
+pub block_below : (a : ℕ) → a < 0x1_0000 → a / 256 < 256
+block_below a low = let down = div-mul-le_self a 256 in omega (arith, down, low)
+
+-- so the block is passed over
+pub names_passed : (names : List Given) (numbers : List ℕ) (blocks : List Bool) (a : ℕ) → AreNamed names blocks → get_or blocks (a / 256) false ≡ false → a < 0x1_0000
+    → names_from (λ a. option_map given_seen (found_in names numbers a)) a (0x1_0000 - a) ≡ names_from (λ a. option_map given_seen (found_in names numbers a)) ((a / 256 + 1) * 256) (0x1_0000 - (a / 256 + 1) * 256)
+names_passed names numbers blocks a are off low =
     let f : ℕ → Option NameView = λ a. option_map given_seen (found_in names numbers a) in
-    let at : from + (to - from) ≡ to = omega (arith, order) in
-    passed_over f (to - from) from (omega (arith, at, bound)) (λ b low high. unnumbered names b (get_or numbers b 0) (none b low (omega (arith, high, at))))
+    let end = (a / 256 + 1) * 256 in
+    let up : a < 256 * (a / 256 + 1) = lt-mul-div-succ a (omega arith) in
+    let q : a / 256 < 256 = block_below a low in
+    let at : a + (end - a) ≡ end = omega (arith, up) in
+    passed_over f (end - a) a (omega (arith, at, q)) (λ b from upto. block_free names numbers blocks a b are off from (omega (arith, upto, at)))
     ∙ ap (λ (b : ℕ). names_from f b (0x1_0000 - b)) at
 
 at_end : (a : ℕ) (names : List Given) (n : Given) → own a (slice_get (names ++ n ∷ []) (length names)) ≡ own a (Some n)

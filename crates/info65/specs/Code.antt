@@ -1,4 +1,5 @@
 -- What ties the code to the rules: what contracts see of the code's own types, and what its parts return.
+pub mod Blocks
 pub mod GroupLists
 pub mod Groups
 pub mod Includes

@@ -1,8 +1,9 @@
 //! An index of names.
 
-ghost use Rattle.std.specs.Prelude.{◌≡◌, ◌++◌, ◌∷◌, IfErr, IfOk, List, None, Ok, [], map, option_map, option_to_list};
+ghost use Rattle.std.specs.Prelude.{◌≡◌, ◌++◌, ◌∷◌, IfErr, IfOk, List, MatchResult, None, Ok, [], map, option_map, option_to_list};
 ghost use Rattle.std.specs.List.{list_any};
 ghost use Rattle.info65.specs.Closing.{closing_fault, label_fault, optional_name_fault};
+ghost use Rattle.info65.specs.Code.Blocks.{AreNamed};
 ghost use Rattle.info65.specs.Code.Groups.{assignment_seen};
 ghost use Rattle.info65.specs.Code.Includes.{SeesName};
 ghost use Rattle.info65.specs.Code.Index.{Indexes, found_in, names_of};
@@ -22,7 +23,7 @@ use crate::groups::label_groups::{label_in, range_name};
 use crate::groups::range_groups::range_in;
 use crate::information::name::Given;
 use crate::information::pool::NamePool;
-use crate::lookup::marks::ADDRESSES;
+use crate::lookup::marks::{ADDRESSES, blank_table};
 use crate::lookup::numbers::Numbers;
 use crate::lookup::texts::Texts;
 use crate::syntax::assignment::Assignment;
@@ -32,6 +33,9 @@ use std::alloc::Allocator;
 
 // The bytes of the longest name.
 const LONGEST_NAME: usize = 80;
+
+// How many addresses a block has.
+const BLOCK: usize = 256;
 
 /// Where names are found without reading again what gives them.
 #[derive(Drop)]
@@ -221,7 +225,18 @@ impl<'a, A: Allocator + Copy> Index<'a, A> {
     }
 }
 
-// The names by address, in a pool.
+// For each block of addresses, whether one of these names has its address in it.
+fn named_blocks<A: Allocator>(alloc: A, given: &[Given]) -> Result<Vec<bool, A>, InfoFault>
+    ensures { MatchResult result (λ t. AreNamed given.now t.items) (λ e. e ≡ out_of_memory) }
+{
+    let mut named = blank_table(alloc, ADDRESSES / BLOCK)?;
+    for place in 0..given.len() {
+        named[usize::from(given[place].address) / BLOCK] = true;
+    }
+    Ok(named)
+}
+
+// The names by address, in a pool. Blocks of addresses without a name are passed over.
 fn pooled<A: Allocator + Copy>(
     alloc: A,
     given: &[Given],
@@ -233,10 +248,15 @@ fn pooled<A: Allocator + Copy>(
     if given.is_empty() {
         return Ok(names);
     }
-    let mut at = numbers.next(0);
+    let named = named_blocks(alloc, given)?;
+    let mut at = 0;
     'names: while at < ADDRESSES {
-        names = names.with_optional(name_at(given, numbers, at as u16))?;
-        at = numbers.next(at + 1);
+        if named[at / BLOCK] {
+            names = names.with_optional(name_at(given, numbers, at as u16))?;
+            at += 1;
+        } else {
+            at = (at / BLOCK + 1) * BLOCK;
+        }
     }
     Ok(names)
 }

@@ -1,7 +1,6 @@
 //! A number for each address.
 
-ghost use Rattle.std.specs.Prelude.{◌≡◌, ◌==◌, ◌≤◌, IfErr, IfOk, length};
-ghost use Rattle.std.specs.List.{prefix_len};
+ghost use Rattle.std.specs.Prelude.{◌≡◌, IfErr, IfOk};
 ghost use Rattle.info65.specs.Faults.{out_of_memory};
 
 use crate::fault::InfoFault;
@@ -25,7 +24,7 @@ impl<A: Allocator> Model for Numbers<A> {
 }
 
 impl<A: Allocator> Numbers<A> {
-    ghost use Rattle.std.specs.Prelude.{◌≡◌, ◌==◌, ◌≤◌, ◌<◌, ℕ, [], IfErr, IfOk, get_or, if◌then◌else◌};
+    ghost use Rattle.std.specs.Prelude.{◌≡◌, ◌==◌, ℕ, [], IfErr, IfOk, get_or, if◌then◌else◌};
     ghost use Rattle.info65.specs.Faults.{out_of_memory};
 
     /// Each number is 0. Allocates nothing.
@@ -57,26 +56,4 @@ impl<A: Allocator> Numbers<A> {
         self.cells[usize::from(address)] = number;
         Ok(())
     }
-
-    /// The next address from this one on that may have a number, or how many addresses there are.
-    pub fn next(&self, from: usize) -> usize
-        requires { from ≤ 0x1_0000 }
-        ensures low { from ≤ result }
-        ensures high { result ≤ 0x1_0000 }
-        ensures between { (a : ℕ) → from ≤ a → a < result → get_or self.now a 0 ≡ 0 }
-    {
-        let cells = self.cells.as_slice();
-        let start = from.min(cells.len());
-        let (_, rest) = cells.split_at(start);
-        let next = from + zeros_before(rest);
-        next.min(ADDRESSES)
-    }
-}
-
-// How many zeros stand before any other number.
-fn zeros_before(numbers: &[u32]) -> usize
-    ensures value { result ≡ prefix_len (λ n. n == 0) numbers.now }
-    ensures fits { result ≤ length numbers.now }
-{
-    numbers.iter().take_while(|n| **n == 0).count()
 }
