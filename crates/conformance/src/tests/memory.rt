@@ -1,4 +1,7 @@
 // Worked rows through `run`, over memory that is counted and over memory that is refused.
+ghost use Rattle.std.specs.Prelude.{IfOk};
+ghost use Rattle.info65.specs.Names.{AreNames};
+
 use crate::heap::Refusing;
 use crate::tests::asserts::{
     assert_equal, assert_equal_at, assert_same, assert_that, assert_that_at,
@@ -221,11 +224,13 @@ fn assert_granted(rt: &impl Abort, heap: &Refusing<Global>, before: u64, bytes: 
 }
 
 /// The names with those of the include files, each of which has these bytes. At most two files are included.
-fn all_names<'a>(
-    heap: &'a Refusing<Global>,
-    info: &'a Info<&'a Refusing<Global>>,
-    include: &'a [u8],
-) -> Result<NamePool<&'a Refusing<Global>>, InfoFault> {
+fn all_names<'h>(
+    heap: &'h Refusing<Global>,
+    info: &Info<&'h Refusing<Global>>,
+    include: &[u8],
+) -> Result<NamePool<&'h Refusing<Global>>, InfoFault>
+    ensures { IfOk result (λ names. AreNames names) }
+{
     let mut included = Inclusion::of(heap, info, include.len())?;
     for index in 0..2 {
         if index < included.includes().len() {

@@ -1,6 +1,9 @@
 //! What information files and include files say, as text, and tables of such files. Each row of a table is a file, ` => ` and
 //! what it says. In the file `|` stands for a line feed. An empty row counts as none, and so does one that begins with `--`.
 
+ghost use Rattle.std.specs.Prelude.{IfOk};
+ghost use Rattle.info65.specs.Names.{AreNames};
+
 use crate::tests::asserts::{assert_equal_at, assert_that_at};
 use crate::tests::inputs::info_of;
 use info65::{
@@ -230,12 +233,14 @@ pub fn included(rt: &impl Abort, alloc: Global, info: &str, files: &[(usize, &[u
 }
 
 /// The names of the information with those of its include files, which are read over one inclusion.
-fn names_of<'a>(
+fn names_of<'a, 'f: 'a>(
     rt: &impl Abort,
     alloc: Global,
     info: &'a Info,
-    files: &[&'a [u8]],
-) -> Result<NamePool, InfoFault> {
+    files: &[&'f [u8]],
+) -> Result<NamePool, InfoFault>
+    ensures { IfOk result (λ names. AreNames names) }
+{
     let mut included = Inclusion::of(alloc, info, 0)?;
     for place in 0..files.len() {
         assert_that_at(rt, place < included.includes().len(), &place);
