@@ -244,6 +244,8 @@ fi
 
 comes_back 'hello' 0xF000 examples/hello.bin
 comes_back 'an information file before it' 0x1000 table.bin -i table.info
+image comment.info 'LABEL { ADDR $1005; NAME "text"; }; # a comment that is not ended'
+comes_back 'an information file that ends within a comment' 0x1000 loads.bin -i comment.info
 comes_back 'the monitor of the board' 0xFC00 examples/board/monitor.bin
 for cpu in 6502 65SC02 65C02; do
     for seed in 1 2 3 4 5; do
@@ -252,9 +254,9 @@ for cpu in 6502 65SC02 65C02; do
         comes_back "random image $seed of the $cpu" 0x2000 random.bin --cpu "$cpu"
     done
 done
-for byte in 00 20 4c 60 ea 41 ff 0f; do
-    head -c 65536 /dev/zero | tr '\0' "\\$(printf '%03o' "0x$byte")" >whole.bin
-    comes_back "64 KiB of \$$byte" 0 whole.bin --cpu 65C02
+for byte in $(seq 0 255); do
+    head -c 65536 /dev/zero | tr '\0' "\\$(printf '%03o' "$byte")" >whole.bin
+    comes_back "64 KiB of the byte $byte" 0 whole.bin --cpu 65C02
 done
 
 # ---- each instruction that is reached stands in the listing
