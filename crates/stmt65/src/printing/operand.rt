@@ -132,15 +132,16 @@ fn put_two(out: &mut Line, offsets: Offsets, row: Row, first: &Expr, second: &Ex
     put_kind(out, offsets, target, second);
 }
 
-/// The operand of a row that writes no expression.
-fn bare(row: Row) -> &'static [u8]
-    requires { AreOperands row none }
-    ensures text { result.now ≡ row_text row }
-    ensures len { length result.now ≤ 1 }
+/// Appends the operand of a row that writes no expression.
+fn put_bare(out: &mut Line, row: Row)
+    requires room { array_vec_len out.old ≤ 500 }
+    requires written { AreOperands row none }
+    ensures items { out.new.items ≡ out.old.items ++ row_text row }
+    ensures len { array_vec_len out.new ≤ array_vec_len out.old + 1 }
 {
     match row {
-        Row::Implied => b"",
-        Row::Accumulator => b"a",
+        Row::Implied => {}
+        Row::Accumulator => out.push(b'a'),
         Row::One(_, _) | Row::Two(_, _) => unreachable!(),
     }
 }
@@ -176,7 +177,7 @@ pub(super) fn put_operands(
     put_prefix(out, size);
     let row = mode.row();
     match operands {
-        Operands::None => put(out, bare(row)),
+        Operands::None => put_bare(out, row),
         Operands::One(expr) => put_one(out, offsets, row, expr),
         Operands::Two(first, second) => put_two(out, offsets, row, first, second),
     }
