@@ -1,11 +1,10 @@
 -- Comments, held against published bytes.
-use Rattle.std.proofs.Common.{◌≡◌, ℕ, Bool, true, false, List, [], ◌∷◌, ◌++◌, None, refl}
+use Rattle.std.proofs.Common.{◌≡◌, true, false, [], ◌∷◌, None, refl}
 use Rattle.std.specs.Prelude.{codes}
 use Rattle.info65.specs.Names.{covering, covering_below}
-use Rattle.info65.specs.Views.{InfoView, NameView, default_settings}
+use Rattle.info65.specs.Views.{default_settings}
 use Rattle.map65.specs.MapView.{MapView}
 use Rattle.map65.specs.Spans.{addresses}
-use Rattle.reach65.specs.declared.pairs.Pair.{Pair}
 use Rattle.trace65.specs.PairComments.{name_text, offset_text, pair_comment}
 use Rattle.trace65.specs.Picture.{cell_character, picture_comments, row_comment}
 
