@@ -19,7 +19,6 @@ as65 failure_of 5
 as65 information_in 2
 as65 is_memory 1
 as65 rank 1
-da65 accepted 2
 da65 all_names 2
 da65 image_message 1
 da65 list_input 1
@@ -29,7 +28,7 @@ da65 run_read 2
 da65 stop_of 2
 da65_cli Failure::from 2
 da65_cli Failure::of_words 2
-files65 FileFault::from 2
+files65 FileFault::from 1
 files65 FileFault::of_creating 2
 files65 FileFault::of_reading 2
 files65 contents 2
@@ -48,6 +47,7 @@ trace65 accepted 2
 trace65 failure_of 2
 trace65 put_entry 1
 usage65 UsageFault::from 1
+usage65 accepted 2
 """
 
 

@@ -119,18 +119,6 @@ pub ruleset meanings = (means_alone, kept_alone, means_replaced)
 
 -- ---- line by line
 
-pub any_step : (text line rest : List ℕ) (whole : Bool) → text_lines text ≡ line ∷ text_lines rest → false ≡ has_halves line → list_any has_halves (text_lines text) ≡ whole
-    → list_any has_halves (text_lines rest) ≡ whole
-any_step text line rest whole is none so =
-    ap (λ (b : Bool). b || list_any has_halves (text_lines rest)) none ∙ sym (ap (list_any has_halves) is) ∙ so
-
-pub any_found : (text line rest : List ℕ) (whole : Bool) → text_lines text ≡ line ∷ text_lines rest → true ≡ has_halves line → list_any has_halves (text_lines text) ≡ whole → true ≡ whole
-any_found text line rest whole is some so =
-    ap (λ (b : Bool). b || list_any has_halves (text_lines rest)) some ∙ sym (ap (list_any has_halves) is) ∙ so
-
-pub any_end : (text : List ℕ) (whole : Bool) → text_lines text ≡ [] → list_any has_halves (text_lines text) ≡ whole → false ≡ whole
-any_end text whole none so = sym (ap (list_any has_halves) none) ∙ so
-
 pub lines_step : (all : Option (List Definition)) (text line rest out put more whole : List ℕ) → text_lines text ≡ line ∷ text_lines rest
     → put ≡ out ++ line_filled all line → more ≡ put ++ 10 ∷ [] → out ++ lines_filled all (text_lines text) ≡ whole → more ++ lines_filled all (text_lines rest) ≡ whole
 lines_step all text line rest out put more whole is filled feed so =
@@ -160,14 +148,3 @@ faults_step all n text line rest found next whole is put so =
 pub faults_end : (all : Option (List Definition)) (n : ℕ) (text : List ℕ) (found whole : Option AsmFault) → text_lines text ≡ [] → option_or found (first_fault all n (text_lines text)) ≡ whole → found ≡ whole
 faults_end all n text found whole none so =
     sym (or_none found) ∙ ap (option_or found) (sym (ap (first_fault all n) none ∙ first_fault_none all n)) ∙ so
-
--- ---- the first fault of a text
-
-pub before_ok : (fault : AsmFault) (m : Result (List ℕ) AsmFault) (bytes : List ℕ) → m ≡ Ok bytes → unless_before (Some fault) m ≡ Err fault
-before_ok fault m bytes is = ap (unless_before (Some fault)) is
-
-pub before_sooner : (fault other : AsmFault) (m : Result (List ℕ) AsmFault) → m ≡ Err other → is_before other fault ≡ true → unless_before (Some fault) m ≡ Err other
-before_sooner fault other m is sooner = ap (unless_before (Some fault)) is ∙ rw sooner refl
-
-pub before_later : (fault other : AsmFault) (m : Result (List ℕ) AsmFault) → m ≡ Err other → is_before other fault ≡ false → unless_before (Some fault) m ≡ Err fault
-before_later fault other m is later = ap (unless_before (Some fault)) is ∙ rw later refl

@@ -31,11 +31,3 @@ version_rule = record (new_rule (codes "version")) { short = Some 86; long = Som
 -- the command: its options, and an optional listing; each may be given once
 unfoldable pub app : App
 app = with_rule (with_rule (with_rule (with_rule (with_rule (with_rule (with_rule (bare (codes "as65")) info_rule) start_rule) output_rule) compare_rule) help_rule) version_rule) (new_rule (codes "listing"))
-
--- the matches of the words, if they are accepted
-unfoldable pub rows_on : List Text → List Row
-rows_on words = matches_of app words
-
--- why the words are refused; empty if they are accepted
-unfoldable pub faults_on : List Text → Kinds
-faults_on words = fault_of app words

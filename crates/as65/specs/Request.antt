@@ -5,10 +5,11 @@ use Rattle.std.specs.Str.{bytes_eq}
 use Rattle.std.specs.String.{string_bytes}
 use Rattle.clap.specs.Words.{Row, Text, first_of}
 use Rattle.usage65.specs.Number.{address_in}
+use Rattle.usage65.specs.Values as usage
 use Rattle.usage65.specs.Values.{is_set}
 use Rattle.usage65.specs.declared.fault.UsageFault.{UsageFault}
 use Rattle.usage65.specs.declared.fault.UsageFault.TheVariants.{Words}
-use Rattle.as65.specs.Command.{faults_on, rows_on}
+use Rattle.as65.specs.Command.{app}
 use Rattle.as65.specs.declared.failure.Failure.{Failure}
 use Rattle.as65.specs.declared.failure.Failure.TheVariants as failure
 use Rattle.as65.specs.declared.request.Request.{Request}
@@ -128,9 +129,13 @@ asked_in rows =
     else (start_in (first_of (codes "start") rows) >>= λ start.
     asked_beside (input_named (first_of (codes "listing") rows)) (first_of (codes "info") rows) start (output_named (first_of (codes "output") rows)) (first_of (codes "compare") rows)))
 
+abbrev pub or_refused : Result (List Row) UsageFault → Result (List Row) Refusal
+or_refused (Ok rows) = Ok rows
+or_refused (Err e) = Err (BadUsage e)
+
 -- the matches, if the words are accepted
 unfoldable pub accepted : List Text → Result (List Row) Refusal
-accepted words = if length (faults_on words) == 0 then Ok (rows_on words) else Err (BadUsage Words)
+accepted words = or_refused (usage.accepted app words)
 
 -- what the words ask for, of which the first is the program's name
 unfoldable pub asked : List Text → Result Asked Refusal

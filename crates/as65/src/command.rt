@@ -2,25 +2,26 @@
 
 ghost use Rattle.std.specs.Prelude.{IfOk, map, ◌≡◌};
 ghost use Rattle.std.specs.String.{string_bytes};
-ghost use Rattle.clap.specs.Words.{FailsBy, app_of, found_of, rows_of};
-ghost use Rattle.as65.specs.Command.{app, faults_on, rows_on};
+ghost use Rattle.clap.specs.Words.{app_of, found_of, rows_of};
+ghost use Rattle.usage65.specs.Values.{Gives, accepted};
+ghost use Rattle.as65.specs.Command.{app};
 
-use clap::{ArgMatches, Command, Error};
+use clap::{ArgMatches, Command};
 use std::alloc::{AllocError, Global};
 use usage65::{
-    bare_command, with_flag, with_option, with_positional, with_short, with_short_option,
+    UsageFault, accepted, bare_command, with_flag, with_option, with_positional, with_short,
+    with_short_option,
 };
 
 /// Reads the words. The first word is the program's name.
 pub(crate) fn matches_of_words<'a>(
     alloc: Global,
     words: &'a [String],
-) -> Result<ArgMatches<'a>, Error>
-    ensures matches { IfOk result (λ m. rows_of (found_of m) ≡ rows_on (map string_bytes words.entry.now)) }
-    ensures faults { FailsBy (faults_on (map string_bytes words.entry.now)) result }
+) -> Result<ArgMatches<'a>, UsageFault>
+    ensures { Gives (λ m. rows_of (found_of m)) result (accepted app (map string_bytes words.entry.now)) }
 {
     let command = whole_command(alloc)?;
-    command.try_get_matches_from(words)
+    accepted(command, words)
 }
 
 /// The options, and the name of the listing.

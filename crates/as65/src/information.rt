@@ -5,12 +5,9 @@ ghost use Rattle.info65.specs.Reader.{information};
 ghost use Rattle.as65.specs.Information.{IsRefused, options_at, placed_at};
 
 use crate::failure::Failure;
-use files65::needed_contents;
+use files65::{INFORMATION_LIMIT, needed_contents};
 use info65::{Info, InfoFaultKind, Options, Settings, read_info};
 use std::alloc::Global;
-
-/// The most that is read of an information file: one byte more than it may have, so that a longer one is refused.
-const LIMIT: usize = 1_048_577;
 
 /// What the file of this name says, under the start of the command line. Without a name it is the empty file.
 pub fn information(
@@ -19,7 +16,11 @@ pub fn information(
     start: Option<u16>,
 ) -> Result<Info, Failure> {
     match name {
-        Some(name) => information_in(rt.alloc(), start, &needed_contents(rt, name, LIMIT)?),
+        Some(name) => information_in(
+            rt.alloc(),
+            start,
+            &needed_contents(rt, name, INFORMATION_LIMIT)?,
+        ),
         None => information_in(rt.alloc(), start, &[]),
     }
 }

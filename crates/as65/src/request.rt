@@ -8,7 +8,6 @@ ghost use Rattle.as65.specs.Request.{Gives, accepted, asked, asked_in, asked_of,
 use crate::command::matches_of_words;
 use crate::failure::Failure;
 use clap::ArgMatches;
-use clap::error::ErrorKind;
 use std::alloc::Global;
 use usage65::{UsageFault, address_in, is_set, owned, text_of};
 
@@ -82,13 +81,8 @@ fn accepted<'a>(alloc: Global, words: &'a [String]) -> Result<ArgMatches<'a>, Fa
 {
     match matches_of_words(alloc, words) {
         Ok(matches) => Ok(matches),
-        Err(error) => {
-            if error.kind() == ErrorKind::OutOfMemory {
-                Err(Failure::Memory)
-            } else {
-                Err(Failure::Usage(UsageFault::Words))
-            }
-        }
+        Err(UsageFault::Memory) => Err(Failure::Memory),
+        Err(fault) => Err(Failure::Usage(fault)),
     }
 }
 

@@ -1,6 +1,7 @@
 -- What a map tells of an address's name.
 use Rattle.std.proofs.Common.{◌≡◌, ◌∙◌, ℕ, ◌-◌, ◌≤◌, ◌==◌, Bool, true, false, List, [], ◌∷◌, Option, Some, None, length, refl, ap, sym, subst, arith, ⊎_elim}
-use Rattle.std.specs.Prelude.{IfSome, if◌then◌else◌}
+use Rattle.std.specs.Bool.{OnTrue}
+use Rattle.std.specs.Prelude.{if◌then◌else◌}
 use Rattle.std.specs.Option.{option_map}
 use Rattle.std.proofs.lemmas.Bool.{cases_eq, eq-eqb, false≢true, ne_eqb}
 use Rattle.text65.specs.Names.{has_name_form}
@@ -11,12 +12,11 @@ use Rattle.map65.proofs.Public.{base-covered, base-none, base-unreferenced, base
 use Rattle.map65.specs.MapView.{MapView}
 use Rattle.map65.specs.Names.{Base, base_at, given_base, has_name, entry_start, entry_base, is_referenced, kind_at, kind_by, place_of, text_at, text_by}
 use Rattle.map65.specs.declared.name.NameKind.{NameKind}
-use Rattle.map65.specs.declared.name.Place.{Place}
 use Rattle.stmt65.specs.Printable.{IsNameLong}
 use Rattle.stmt65.specs.Views as view
 use Rattle.stmt65.specs.Views.{TargetView}
-use Rattle.da65.specs.BaseNames.{base_name, is_constant, is_own, names_of}
-use Rattle.da65.specs.Code.Bases.{base_place, constant_offset, own_place}
+use Rattle.da65.specs.BaseNames.{base_name, is_base, is_constant, is_own, names_of}
+use Rattle.da65.specs.Code.Bases.{constant_offset, is_own_name}
 use Rattle.da65.specs.Statements.{address_expr, constant_base, expr_from, target_by, zero_page_expr}
 
 -- ---- how long a base is
@@ -68,19 +68,17 @@ text-base m a = refl
 
 -- ---- the base that stands for an address
 
-pub place-none : (m : MapView) (a : ℕ) → has_name m a ≡ false → base_place m a ≡ None
-unfolding base_place
-place-none m a is = ap (λ (o : Option Base). if is_own a o then Some (place_of m a) else None) (base-none m a is)
+pub base-unnamed : (m : MapView) (a : ℕ) → has_name m a ≡ false → is_base (names_of m) a ≡ false
+base-unnamed m a is = ap (is_own a) (base-none m a is)
 
-own-here : (m : MapView) (a : ℕ) (o : Option Base) → ((b : Base) → o ≡ Some b → b.address ≤ a)
-    → own_place (option_map (kind_by m a) o) ≡ (if is_own a o then Some (place_of m a) else None)
+own-here : (m : MapView) (a : ℕ) (o : Option Base) → ((b : Base) → o ≡ Some b → b.address ≤ a) → is_own_name (option_map (kind_by m a) o) ≡ is_own a o
 own-here m a None low = refl
 own-here m a (Some b) low =
     ⊎_elim
     (λ same.
     let first : (a - b.address == 0) ≡ true = eq-eqb (a - b.address) 0 (omega (arith, same)) in
     let second : (b.address == a) ≡ true = eq-eqb b.address a same in
-    rw (first, second) (ap (λ (n : ℕ). Some (place_of m n)) same))
+    rw (first, second) refl)
     (λ other.
     let below = low b refl in
     let first : (a - b.address == 0) ≡ false = ne_eqb (a - b.address) 0 (λ is. other (omega (arith, is, below))) in
@@ -88,16 +86,22 @@ own-here m a (Some b) low =
     rw (first, second) refl)
     (cases_eq b.address a)
 
-pub place-own : (m : MapView) (a : ℕ) → AreNames m.info.names → own_place (kind_at m a) ≡ base_place m a
-unfolding base_place kind_at
-place-own m a are = own-here m a (base_at m a) (λ b is. (base_law m are).low a b is)
+pub base-own : (m : MapView) (a : ℕ) → AreNames m.info.names → is_own_name (kind_at m a) ≡ is_base (names_of m) a
+unfolding kind_at
+base-own m a are = own-here m a (base_at m a) (λ b is. (base_law m are).low a b is)
 
-some-named : (m : MapView) (a : ℕ) (o : Option NameKind) (p : Place) → own_place o ≡ Some p → kind_at m a ≡ o → AreNames m.info.names → IsNameLong (text_at m a)
-some-named m a None p is e are = absurd cc
-some-named m a (Some k) p is e are = text-long m a k are e
+own-long : (m : MapView) (a : ℕ) (o : Option NameKind) → is_own_name o ≡ true → kind_at m a ≡ o → AreNames m.info.names → IsNameLong (text_at m a)
+own-long m a None is e are = absurd cc
+own-long m a (Some k) is e are = text-long m a k are e
 
-pub place-long : (m : MapView) (a : ℕ) (p : Place) → AreNames m.info.names → base_place m a ≡ Some p → IsNameLong (text_at m a)
-place-long m a p are is = some-named m a (kind_at m a) p (place-own m a are ∙ is) refl are
+-- what a buffer holds of it
+pub put-text : (m : MapView) (a : ℕ) (t : Bool) (items : List ℕ) → items ≡ text_at m a → OnTrue t (items ≡ base_name (names_of m) a)
+put-text m a false items is = tt
+put-text m a true items is = is ∙ text-base m a
+
+pub put-long : (m : MapView) (a : ℕ) (t : Bool) (items : List ℕ) → AreNames m.info.names → t ≡ is_base (names_of m) a → items ≡ text_at m a → OnTrue t (IsNameLong items)
+put-long m a false items are base is = tt
+put-long m a true items are base is = subst IsNameLong (sym is) (own-long m a (kind_at m a) (base-own m a are ∙ sym base) refl are)
 
 -- ---- expressions
 
@@ -165,13 +169,3 @@ target-named m a k is = target-by a (base_at m a) m k is
 pub target-none : (m : MapView) (a : ℕ) → kind_at m a ≡ None → option_map (target_by a) (base_at m a) ≡ None
 unfolding kind_at
 target-none m a is = target-of-none a (base_at m a) m is
-
--- ---- what a buffer holds of it
-
-pub some-text : (m : MapView) (a : ℕ) (o : Option Place) (items : List ℕ) → items ≡ text_at m a → IfSome o (λ (p : Place). items ≡ base_name (names_of m) a)
-some-text m a None items is = tt
-some-text m a (Some p) items is = is ∙ text-base m a
-
-pub some-long : (m : MapView) (a : ℕ) (o : Option Place) (items : List ℕ) → AreNames m.info.names → o ≡ base_place m a → items ≡ text_at m a → IfSome o (λ (p : Place). IsNameLong items)
-some-long m a None items are place is = tt
-some-long m a (Some p) items are place is = subst IsNameLong (sym is) (place-long m a p are (sym place))

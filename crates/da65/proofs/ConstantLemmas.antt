@@ -16,7 +16,7 @@ use Rattle.da65.specs.Code.NamedCells.{is_unnamed}
 use Rattle.da65.specs.Code.SkipRanges.{is_skip_range}
 use Rattle.da65.specs.Listing.{constants, has_constant_line}
 use Rattle.da65.proofs.BareLemmas.{constant-some}
-use Rattle.da65.proofs.BaseLemmas.{place-none}
+use Rattle.da65.proofs.BaseLemmas.{base-unnamed}
 use Rattle.da65.proofs.NextLemmas.{constants-end, constants-next, line-none}
 use Rattle.da65.proofs.SkipLemmas.{skip-in}
 use Rattle.map65.proofs.Public.{inside-if}
@@ -45,7 +45,7 @@ constants-over m (suc n) v bound none =
 -- no address without a name has a constant line
 pub constants-unnamed : (m : MapView) (from to : ℕ) → from ≤ to → to ≤ 65536 → ((a : ℕ) → from ≤ a → a < to → has_name m a ≡ false) → constants m (65536 - from) from ≡ constants m (65536 - to) to
 constants-unnamed m from to order bound none =
-    constants-over m (to - from) from (omega (arith, order, bound)) (λ a low high. line-none m a (place-none m a (none a low (omega (arith, order, high)))))
+    constants-over m (to - from) from (omega (arith, order, bound)) (λ a low high. line-none m a (base-unnamed m a (none a low (omega (arith, order, high)))))
     ∙ same-place m (from + (to - from)) to (omega (arith, order))
 
 named-bit : (named : Bool) (bits : ℕ) → bits ≡ bit named → (bits == 0) ≡ true → named ≡ false

@@ -20,11 +20,12 @@ use Rattle.stmt65.specs.Symbols.{Definition, has_zero_page_size}
 use Rattle.stmt65.specs.Coding.{Fragment, Fixed, coding}
 use Rattle.stmt65.proofs.Public.{takes_modes}
 use Rattle.map65.specs.ImageView.{ImageView}
+use Rattle.map65.specs.Names.{Base}
 use Rattle.map65.specs.Targets.{word_of}
 use Rattle.da65.specs.BaseNames.{AreSound, Names}
 use Rattle.da65.specs.KnownNames.{KnowsConstants}
 use Rattle.da65.specs.ReassemblyLaw.{CodesInMode, ForcedWhereNeeded, HasKnownSize, IsWritten, fragments_in}
-use Rattle.da65.specs.Statements.{address_expr, expr_from, is_forced, operands_of, row_operands, zero_page_expr}
+use Rattle.da65.specs.Statements.{address_expr, constant_base, expr_from, is_forced, operands_of, row_operands, zero_page_expr}
 use Rattle.da65.proofs.ModeLaws.{of_form, pair, row_prefix, word_size}
 use Rattle.da65.proofs.GroupStands.{mode_is_chosen_back}
 use Rattle.da65.proofs.StandsLaws.{begins_with}
@@ -33,7 +34,11 @@ use Rattle.da65.proofs.ValueLaws.{zero_page_small}
 -- of an address with a known size both expressions are one
 one-expr : (m : Names) (a : ℕ) → HasKnownSize m a → zero_page_expr m a ≡ address_expr m a
 unfolding zero_page_expr address_expr
-one-expr m a h = ap (expr_from a) h
+one-expr m a h = ap (expr_from a) (go (m.base_at a) h)
+  where
+    go : (o : Option Base) → ((b : Base) → o ≡ Some b → m.has_constant b.address ≡ true) → constant_base m o ≡ o
+    go None h = refl
+    go (Some b) h = rw (h b refl) refl
 
 -- the zero-page mode that an instruction has too
 record HasSibling (t : Table) (op : Op) : Type 0 where

@@ -18,9 +18,7 @@ use Rattle.map65.specs.MapView.{MapView, opcodes}
 use Rattle.map65.specs.Names.{place_of}
 use Rattle.map65.specs.Roles.{is_skip, role_of, unit_of}
 use Rattle.map65.specs.Spans.{addresses}
-use Rattle.map65.specs.declared.name.Place.{Place}
 use Rattle.da65.specs.BaseNames.{Names, base_name, is_base, is_constant, names_of}
-use Rattle.da65.specs.Code.Bases.{base_place}
 use Rattle.da65.specs.Comments.{comment_at}
 use Rattle.da65.specs.Groups.{IsGroupPlace, group_bytes, group_len, groups_from, limit_of}
 use Rattle.da65.specs.Lines.{IsConstant, IsFirstOf, IsGroupStart, IsInGroup, IsNext, IsPlace, IsUnmarked, after_group, with_blank_after, comments_left, constants_left, group_left, groups_left, left_from, lines_from, segment_left, segment_of, IsLabelNext, IsNextIn}
@@ -335,37 +333,11 @@ constant-none m v none = ap (λ (ls : List ListingLine). with_blank_after false 
 
 -- ---- the label and the statement
 
-pub label-none : (m : MapView) (a : ℕ) → base_place m a ≡ None → label_at (names_of m) a ≡ None
-unfolding base_place
-label-none m a none = go (is_base (names_of m) a) none
-  where
-    go : (t : Bool) → (if t then Some (place_of m a) else None) ≡ None → (if t then Some (base_name (names_of m) a) else None) ≡ None
-    go true e = absurd cc
-    go false e = refl
+pub label-none : (m : MapView) (a : ℕ) → is_base (names_of m) a ≡ false → label_at (names_of m) a ≡ None
+label-none m a none = rw none refl
 
-pub label-some : (m : MapView) (a : ℕ) (p : Place) → base_place m a ≡ Some p → label_at (names_of m) a ≡ Some (base_name (names_of m) a)
-unfolding base_place
-label-some m a p some = go (is_base (names_of m) a) some
-  where
-    go : (t : Bool) → (if t then Some (place_of m a) else None) ≡ Some p → (if t then Some (base_name (names_of m) a) else None) ≡ Some (base_name (names_of m) a)
-    go true e = refl
-    go false e = absurd cc
-
-pub base-true : (m : MapView) (a : ℕ) (p : Place) → base_place m a ≡ Some p → is_base (names_of m) a ≡ true
-unfolding base_place
-base-true m a p some = go (is_base (names_of m) a) some
-  where
-    go : (t : Bool) → (if t then Some (place_of m a) else None) ≡ Some p → t ≡ true
-    go true e = refl
-    go false e = absurd cc
-
-pub base-false : (m : MapView) (a : ℕ) → base_place m a ≡ None → is_base (names_of m) a ≡ false
-unfolding base_place
-base-false m a none = go (is_base (names_of m) a) none
-  where
-    go : (t : Bool) → (if t then Some (place_of m a) else None) ≡ None → t ≡ false
-    go true e = absurd cc
-    go false e = refl
+pub label-some : (m : MapView) (a : ℕ) → is_base (names_of m) a ≡ true → label_at (names_of m) a ≡ Some (base_name (names_of m) a)
+label-some m a some = rw some refl
 
 -- whether the address has a constant line, by where its base is defined
 pub line-left : (m : MapView) (a : ℕ) → is_constant (place_of m a) ≡ false → has_constant_line (names_of m) a ≡ false
@@ -375,11 +347,15 @@ line-left m a other = go (is_base (names_of m) a)
     go true = other
     go false = refl
 
-pub line-kept : (m : MapView) (a : ℕ) (p : Place) → base_place m a ≡ Some p → is_constant (place_of m a) ≡ true → has_constant_line (names_of m) a ≡ true
-line-kept m a p some is = rw (base-true m a p some) is
+pub line-kept : (m : MapView) (a : ℕ) → is_constant (place_of m a) ≡ true → has_constant_line (names_of m) a ≡ is_base (names_of m) a
+line-kept m a is = go (is_base (names_of m) a)
+  where
+    go : (t : Bool) → (t && is_constant (place_of m a)) ≡ t
+    go true = is
+    go false = refl
 
-pub line-none : (m : MapView) (a : ℕ) → base_place m a ≡ None → has_constant_line (names_of m) a ≡ false
-line-none m a none = rw (base-false m a none) refl
+pub line-none : (m : MapView) (a : ℕ) → is_base (names_of m) a ≡ false → has_constant_line (names_of m) a ≡ false
+line-none m a none = rw none refl
 
 pub unlabelled-lines : (m : MapView) (a : ℕ) → label_at (names_of m) a ≡ None → statement_lines m a ≡ group_line None (statement_at m a) a (group_bytes m a) ∷ []
 unfolding statement_lines

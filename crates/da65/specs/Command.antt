@@ -30,11 +30,3 @@ with_choices a (c ∷ cs) = with_choices (with_rule a (rule_for c)) cs
 -- the command: each option of the table, and an optional input name; each may be given once
 unfoldable pub app : App
 app = with_rule (with_choices (bare (codes "da65")) choices) (new_rule input_id)
-
--- the matches of the words, if they are accepted
-unfoldable pub rows_on : List Text → List Row
-rows_on words = matches_of app words
-
--- why the words are refused; empty if they are accepted
-unfoldable pub faults_on : List Text → Kinds
-faults_on words = fault_of app words

@@ -29,9 +29,17 @@ abbrev pub with_blank_after : Bool → List ListingLine → List ListingLine
 with_blank_after true ls = ls ++ plain view.blank ∷ []
 with_blank_after false ls = with_empty_line ls
 
+-- the constant lines of the addresses from one on
+abbrev pub constants_from : MapView → ℕ → List ListingLine
+constants_from m v = constants m (65536 - v) v
+
+-- no address from one on and before another has a constant line
+abbrev pub PassesOver : MapView → ℕ → ℕ → Type 0
+PassesOver m from to = constants_from m from ≡ constants_from m to
+
 -- from the lines of the constant of an address on
 unfoldable pub constants_left : MapView → ℕ → Bool → List ListingLine
-constants_left m v any = with_blank_after any (constants m (65536 - v) v) ++ groups_left m 0
+constants_left m v any = with_blank_after any (constants_from m v) ++ groups_left m 0
 
 -- what follows the statement of the group that begins with the k-th byte
 unfoldable pub after_group : MapView → ℕ → List ListingLine
@@ -136,6 +144,14 @@ pub record IsNext (m : MapView) (left : List ListingLine) (text : List ℕ) (nex
 -- the same, where there may be no line
 abbrev pub MayBeNext : MapView → List ListingLine → List ℕ → Option ListingPlace → Option (List ℕ) → Type 0
 MayBeNext m left text next segment = MatchOption next (left ≡ []) (λ place. IsNext m left text place segment)
+
+-- the text is that of the first line of the constants from an address on, `any` if one stands above
+abbrev pub IsConstantNext : MapView → ℕ → Bool → List ℕ → ListingPlace → Type 0
+IsConstantNext m v any text next = IsNext m (constants_left m v any) text next None
+
+-- the text is that of the constant line of an address
+abbrev pub IsAssignmentNext : MapView → ℕ → List ℕ → ListingPlace → Type 0
+IsAssignmentNext m v text next = IsNext m (assignment_line (names_of m) v ∷ constants_left m (v + 1) true) text next None
 
 -- the same of the lines of the group that begins with the k-th byte
 abbrev pub IsNextIn : MapView → ℕ → List ListingLine → List ℕ → ListingPlace → Type 0

@@ -32,7 +32,7 @@ use Rattle.da65.specs.Instructions.{instruction_in}
 use Rattle.da65.specs.KnownNames.{KnowsAll, KnowsConstants, definition_of, definitions_of}
 use Rattle.da65.specs.Listing.{ListingLine, lines_of, listing, text_of}
 use Rattle.da65.specs.Shapes.{IsGroupOf}
-use Rattle.da65.specs.Statements.{address_expr, constant_base, is_forced, operands_of, statement_for, statement_in, zero_page_expr}
+use Rattle.da65.specs.Statements.{address_expr, is_forced, operands_of, statement_for, statement_in, zero_page_expr}
 use Rattle.map65.specs.Items.{code_size}
 
 -- ---- what a listing says
@@ -121,7 +121,7 @@ ModeIsChosenBack = (image : ImageView) (m : Names) (p : ℕ → Bool) (cpu : Cpu
 
 -- an address without a name, or with one whose base a constant line defines: an assembler knows whether it lies in the zero page
 abbrev pub HasKnownSize : Names → ℕ → Type 0
-HasKnownSize m a = constant_base m (m.base_at a) ≡ m.base_at a
+HasKnownSize m a = (b : Base) → m.base_at a ≡ Some b → m.has_constant b.address ≡ true
 
 -- `a:` stands exactly where without it another mode would be taken, unless the operand goes by the name of a label, which is never taken
 -- for an address in the zero page.

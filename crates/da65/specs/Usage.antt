@@ -5,9 +5,9 @@ use Rattle.isa65.specs.Cpu.{cpu_named}
 use Rattle.isa65.specs.declared.cpu.Cpu.{Cpu}
 use Rattle.info65.specs.Views.{OptionsView}
 use Rattle.da65.specs.Choices.{argument_column_choice, comment_column_choice, comments_choice, cpu_choice, help_choice, hexoffs_choice, info_choice, input_id, label_break_choice, mnemonic_column_choice, output_choice, start_choice, text_column_choice, version_choice}
-use Rattle.da65.specs.Command.{faults_on, rows_on}
+use Rattle.da65.specs.Command.{app}
 use Rattle.usage65.specs.Number.{address_in, decimal_in}
-use Rattle.usage65.specs.Values.{◌>>=◌, is_set}
+use Rattle.usage65.specs.Values.{◌>>=◌, accepted, is_set}
 use Rattle.da65.specs.declared.command_line.usage.Layout.{Layout}
 use Rattle.usage65.specs.declared.fault.UsageFault.{UsageFault}
 use Rattle.usage65.specs.declared.fault.UsageFault.TheVariants.{Words, OutOfRange}
@@ -36,10 +36,6 @@ column_in text = decimal_in 1 120 text
 -- the length of the longest label that stands on the line of its statement
 abbrev pub label_break_in : Text → Result ℕ UsageFault
 label_break_in text = decimal_in 0 120 text
-
--- the matches, if the words are accepted
-unfoldable pub accepted : List Text → Result (List Row) UsageFault
-accepted words = if length (faults_on words) == 0 then Ok (rows_on words) else Err Words
 
 -- how a listing is laid out by the matches, or the first fault in the order of the option table
 unfoldable pub layout_in : List Row → Result Layout UsageFault
@@ -84,4 +80,4 @@ options_in rows = do
 
 -- the options of the words, of which the first is the program's name
 unfoldable pub usage_of : List Text → Result OptionsView UsageFault
-usage_of words = accepted words >>= options_in
+usage_of words = accepted app words >>= options_in

@@ -1,6 +1,7 @@
 -- What the faults of files are.
-use Rattle.std.specs.Prelude.{◌≡◌, ℕ, List}
+use Rattle.std.specs.Prelude.{◌≡◌, ℕ, List, MatchOption, Option}
 use Rattle.std.specs.String.{string_bytes}
+use Rattle.map65.specs.Device.{one_more}
 use Rattle.files65.specs.declared.fault.FileFault.{FileFault}
 use Rattle.files65.specs.declared.fault.FileFault.TheVariants.{Memory, Reading, Creating}
 
@@ -9,3 +10,7 @@ abbrev pub IsUnread : List ℕ → FileFault → Type 0
 IsUnread name Memory = Unit {0}
 IsUnread name (Reading text) = string_bytes text ≡ name
 IsUnread name (Creating text) = ⊥
+
+-- the count of failed reads rises by one exactly if there are no contents
+abbrev pub CountsMissing : {A : Type 0} → ℕ → ℕ → Option A → Type 0
+CountsMissing old new found = MatchOption found (new ≡ one_more old) (λ _. new ≡ old)

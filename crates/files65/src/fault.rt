@@ -1,6 +1,6 @@
 //! Why a file can't be used.
 
-use std::alloc::{AllocError, AllocFailed};
+use std::alloc::AllocError;
 use std::io::{Error as IoError, ErrorKind};
 use thiserror::Error;
 
@@ -52,18 +52,6 @@ impl From<AllocError> for FileFault {
     ghost from_gives = { λ _ f. f ≡ Memory };
 
     fn from(_: AllocError) -> FileFault {
-        FileFault::Memory
-    }
-}
-
-impl<T: Drop> From<AllocFailed<T>> for FileFault {
-    ghost use Rattle.std.specs.Prelude.{◌≡◌};
-    ghost use Rattle.files65.specs.declared.fault.FileFault.TheVariants.{Memory};
-
-    ghost from_gives = { λ _ f. f ≡ Memory };
-
-    fn from(failed: AllocFailed<T>) -> FileFault {
-        let _ = failed;
         FileFault::Memory
     }
 }

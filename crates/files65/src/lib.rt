@@ -15,4 +15,4 @@ pub use fault::FileFault;
 pub use input::Input;
 pub use output::Output;
 pub use placeholders::Placeholders;
-pub use reading::{contents, needed_contents, read_from};
+pub use reading::{INFORMATION_LIMIT, contents, needed_contents, read_from};

@@ -1,14 +1,17 @@
 //! The contents of files.
 
-ghost use Rattle.std.specs.Prelude.{◌≡◌, take, IfErr, IfNone, IfOk, IfSome, IsErr, MatchOption, Ok};
-ghost use Rattle.map65.specs.Device.{one_more};
-ghost use Rattle.files65.specs.Faults.{IsUnread};
+ghost use Rattle.std.specs.Prelude.{◌≡◌, take, IfErr, IfNone, IfOk, IfSome, IsErr, Ok};
+ghost use Rattle.files65.specs.Faults.{CountsMissing, IsUnread};
 
 use crate::fault::FileFault;
 use crate::input::Input;
 use map65::{Source, TakeFault, take_up_to};
 use std::alloc::{AllocError, Global};
 use std::io::ErrorKind;
+
+/// The most that is read of an information file or of an include file: one byte more than it may have, so that a longer
+/// one is refused.
+pub const INFORMATION_LIMIT: usize = 1_048_577;
 
 /// Reads up to the end or the limit. There are no contents if a read fails.
 pub fn read_from<R: Source>(
@@ -17,7 +20,7 @@ pub fn read_from<R: Source>(
     limit: usize,
 ) -> Result<Option<Vec<u8>>, AllocError>
     ensures bytes { IfOk result (λ found. IfSome found (λ bytes. IfSome (R.left input.old) (λ xs. bytes.items ≡ take limit xs))) }
-    ensures count { IfOk result (λ found. MatchOption found (R.faults input.new ≡ one_more (R.faults input.old)) (λ _. R.faults input.new ≡ R.faults input.old)) }
+    ensures count { IfOk result (CountsMissing (R.faults input.old) (R.faults input.new)) }
 {
     match take_up_to(alloc, input, limit) {
         Ok(bytes) => Ok(Some(bytes)),

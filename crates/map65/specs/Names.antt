@@ -146,5 +146,6 @@ IsUncovered names a = (i : ℕ) → i < length names → covers (name_at names i
 pub record NameLaw (m : MapView) : Type 0 where
   pub given : (a : ℕ) (b : Base) → IsHighest m.info.names a b → base_at m a ≡ Some b
   pub inner : (a first : ℕ) → IsUncovered m.info.names a → IsTarget m a → IsInner m a first → base_at m a ≡ base_at m first
-  pub default : (a : ℕ) → IsUncovered m.info.names a → IsReferenced m a → ((first : ℕ) → IsInner m a first → ⊥) → base_at m a ≡ Some (default_base a)
+  pub default : (a : ℕ) → IsUncovered m.info.names a → IsReferenced m a → ((first : ℕ) → IsInner m a first → ⊥)
+      → base_at m a ≡ Some (default_base a)
   pub none : (a : ℕ) → IsUncovered m.info.names a → (IsReferenced m a → ⊥) → base_at m a ≡ None

@@ -13,7 +13,8 @@ use Rattle.map65.specs.Segments.{is_border, segment_at}
 
 -- the address lies in the run of the address before it: both lie in the image, have one role, and no segment border stands between them
 unfoldable pub is_in_run : MapView → ℕ → Bool
-is_in_run m a = nat_lt m.image.start a && (nat_lt a (end_of m.image) && (is_role (role_of m.info (a - 1)) (role_of m.info a) && not (is_border m.info.segments a)))
+is_in_run m a =
+    nat_lt m.image.start a && (nat_lt a (end_of m.image) && (is_role (role_of m.info (a - 1)) (role_of m.info a) && not (is_border m.info.segments a)))
 
 -- one of these names has the address as its own
 unfoldable pub is_own : List NameView → ℕ → Bool

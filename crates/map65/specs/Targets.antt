@@ -7,7 +7,7 @@
 use Rattle.std.specs.Prelude.{◌≡◌, ℕ, ◌+◌, ◌-◌, ◌*◌, ◌<◌, ◌==◌, ◌||◌, nat_le, nat_lt, Bool, if◌then◌else◌, List, slice_index, Option, Some, None}
 use denote.Enum.Bare.{sameb}
 use Rattle.isa65.specs.Mode.{len_of, row_of, size_of}
-use Rattle.isa65.specs.Opcodes.{decoded}
+use Rattle.isa65.specs.Opcodes.{Table, decoded}
 use Rattle.isa65.specs.contracts.mnemonic.Mnemonic as mnemonic
 use Rattle.isa65.specs.declared.mnemonic.Mnemonic.{Mnemonic}
 use Rattle.isa65.specs.declared.mnemonic.Mnemonic.TheVariants.{Jmp, Jsr}
@@ -78,6 +78,10 @@ abbrev pub code_target : ImageView → Option Op → ℕ → ℕ → List ℕ �
 code_target image None n a bytes = None
 code_target image (Some op) n a bytes = if n == len_of op.mode then operand_target image op.mnemonic op.mode a bytes else None
 
+-- the same, where the first byte is an opcode of this table
+abbrev pub opcode_target : Table → ImageView → ℕ → ℕ → List ℕ → Option ℕ
+opcode_target t image n a bytes = code_target image (decoded t (slice_index bytes 0)) n a bytes
+
 -- the word of an entry, low byte first
 abbrev pub entry_of : List ℕ → ℕ
 entry_of bytes = slice_index bytes 0 + 256 * slice_index bytes 1
@@ -88,7 +92,7 @@ return_target word = if word == 65535 then None else Some (word + 1)
 
 -- the target of an entry of n bytes at an address, whose bytes are the first of these
 abbrev pub entry_target : MapView → Entry → ℕ → ℕ → List ℕ → Option ℕ
-entry_target m entry.Instruction n a bytes = code_target m.image (decoded (opcodes m) (slice_index bytes 0)) n a bytes
+entry_target m entry.Instruction n a bytes = opcode_target (opcodes m) m.image n a bytes
 entry_target m entry.Address n a bytes = if n == 2 then Some (entry_of bytes) else None
 entry_target m entry.Return n a bytes = if n == 2 then return_target (entry_of bytes) else None
 entry_target m (entry.Number order) n a bytes = None

@@ -10,7 +10,7 @@ use std::marker::Model;
 use thiserror::Error;
 
 /// The number of addresses, $10000.
-pub(crate) const ADDRESSES: usize = 65_536;
+pub const ADDRESSES: usize = 65_536;
 
 /// 1 to 65,536 bytes at consecutive addresses, the last at or below $FFFF.
 #[derive(Debug, Drop)]

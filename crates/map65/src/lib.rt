@@ -1,9 +1,9 @@
 //! The image that is listed, what each of its bytes is, and the devices that are read and written.
 //!
 //! `devices` has what is read and written: input comes from a [`Source`], output goes to a [`Sink`], and [`Told`] makes
-//! them from any `std::io::Read` or `Write`. [`take_up_to`] reads some bytes, and [`write_whole`] writes some. [`read_image`] reads the [`Image`] that the settings of an `Info` ask
-//! for, and [`Map::build`] builds its [`Map`]: the role and the name of each address, and the length of the item that
-//! begins there. `cells` packs these into 16 bits; `marking`, `borders` and `naming` write the cells of an image.
+//! them from any `std::io::Read` or `Write`. [`take_up_to`] reads some bytes, and [`write_whole`] writes some.
+//! [`read_image`] reads the [`Image`] that the settings of an `Info` ask for, and [`Map::build`] builds its [`Map`]: the
+//! role and the name of each address, and the length of the item that begins there. `cells` packs these into 16 bits; `marking`, `borders` and `naming` write the cells of an image.
 //! `laws` states the laws of roles, runs, pieces, items, names and cells, and the worked examples.
 #![tactic(auto)]
 
@@ -21,7 +21,7 @@ mod roles;
 mod target;
 
 pub use devices::{DeviceFault, Sink, Source, TakeFault, Told, take_up_to, write_whole};
-pub use image::{Image, ImageFault};
+pub use image::{ADDRESSES, Image, ImageFault};
 pub use laws::{
     base_law, cell_law, entry_start_law, item_law, name_law, piece_law, place_law, reference_law,
     role_law, run_law, worked_maps,
@@ -30,4 +30,4 @@ pub use map::Map;
 pub use name::{NameBuf, NameKind, Place};
 pub use reading::read_image;
 pub use roles::{is_skip, unit_of};
-pub use target::{branch_target, target_of, word_of};
+pub use target::{branch_target, entry_of, target_of, word_of};

@@ -1,13 +1,12 @@
 //! Targets of items: the addresses that they refer to.
 
-ghost use Rattle.std.specs.Prelude.{◌≡◌, ◌+◌, ◌<◌, ◌≤◌, length, slice_index};
+ghost use Rattle.std.specs.Prelude.{◌≡◌, ◌+◌, ◌<◌, ◌≤◌, length};
 ghost use Rattle.isa65.specs.Cpu.{table_of};
 ghost use Rattle.isa65.specs.Mode.{len_of, row_len};
-ghost use Rattle.isa65.specs.Opcodes.{decoded};
 ghost use Rattle.map65.specs.ImageView.{bytes_from, end_of, is_inside};
 ghost use Rattle.map65.specs.Items.{item_len};
 ghost use Rattle.map65.specs.Roles.{role_of};
-ghost use Rattle.map65.specs.Targets.{branch_target, code_target, entry_of, is_jump, only_inside, operand_target, return_target, row_target, target_at, target_for, target_of, word_of, word_target};
+ghost use Rattle.map65.specs.Targets.{branch_target, entry_of, is_jump, only_inside, opcode_target, operand_target, return_target, row_target, target_at, target_for, target_of, word_of, word_target};
 
 use crate::image::Image;
 use info65::{Entry, Info, RangeType};
@@ -156,7 +155,7 @@ fn code_target<A: Allocator>(image: &Image<A>, opcodes: &DecodeTable, item: Item
     requires some { 0 < length item.bytes.now }
     requires all { item.len ≤ length item.bytes.now }
     requires room { item.address + item.len ≤ 65536 }
-    ensures { result ≡ code_target image.now (decoded (table_of opcodes.now) (slice_index item.entry.bytes.now 0)) item.entry.len item.entry.address item.entry.bytes.now }
+    ensures { result ≡ opcode_target (table_of opcodes.now) image.now item.entry.len item.entry.address item.entry.bytes.now }
 {
     match opcodes.decode(item.bytes[0]) {
         Some(op) => {
@@ -169,8 +168,9 @@ fn code_target<A: Allocator>(image: &Image<A>, opcodes: &DecodeTable, item: Item
     }
 }
 
-/// The word of a table's entry, low byte first.
-fn entry_of(bytes: &[u8]) -> u16
+/// Returns the word of a table's entry, low byte first.
+#[inline]
+pub fn entry_of(bytes: &[u8]) -> u16
     requires { 2 ≤ length bytes.now }
     ensures { result ≡ entry_of bytes.now }
 {

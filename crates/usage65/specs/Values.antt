@@ -1,11 +1,11 @@
 -- The values of a command line: what a program takes from the matches of `clap`, up to the first fault.
-use Rattle.std.specs.Prelude.{◌≡◌, Bool, false, true, Result, Ok, Err, List, codes}
+use Rattle.std.specs.Prelude.{◌≡◌, ◌==◌, Bool, false, true, Result, Ok, Err, List, codes, length, if◌then◌else◌}
 use Rattle.std.specs.Str.{bytes_eq}
 use Rattle.std.specs.Option.{option_map_or}
-use Rattle.clap.specs.Words.{App, Row, Text, first_of, new_app}
+use Rattle.clap.specs.Words.{App, Row, Text, fault_of, first_of, is_simple, is_simple_and_free, matches_of, new_app}
 use Rattle.clap.specs.Simple.{on_top}
 use Rattle.usage65.specs.declared.fault.UsageFault.{UsageFault}
-use Rattle.usage65.specs.declared.fault.UsageFault.TheVariants.{Memory}
+use Rattle.usage65.specs.declared.fault.UsageFault.TheVariants.{Memory, Words}
 
 -- the fault is the one of the definition, unless memory ran out
 abbrev pub Fails : {A : Type 0} → UsageFault → Result A UsageFault → Type 0
@@ -30,3 +30,12 @@ is_set id rows = option_map_or (λ t. bytes_eq t (codes "true")) (first_of id ro
 -- a command of this name, with no help and no version of `clap`'s own
 abbrev pub bare : Text → App
 bare name = on_top (λ s. record s { disable_help_flag = true; disable_version_flag = true }) (new_app name)
+
+-- `clap` says the matches and the faults of such a command
+pub record IsPlain (app : App) : Type 0 where
+  pub simple : is_simple app ≡ true
+  pub free : is_simple_and_free app ≡ true
+
+-- the matches of the words, of which the first is the program's name, if the command accepts them
+unfoldable pub accepted : App → List Text → Result (List Row) UsageFault
+accepted app words = if length (fault_of app words) == 0 then Ok (matches_of app words) else Err Words

@@ -1,13 +1,16 @@
 //! A command as `clap` reads it, put together from its arguments, and the values of its matches.
 
-ghost use Rattle.std.specs.Prelude.{IfOk, Some, option_map, true, ◌≡◌};
-ghost use Rattle.clap.specs.Words.{app_of, first_of, found_of, new_rule, rows_of};
+ghost use Rattle.std.specs.Prelude.{IfOk, Some, map, option_map, true, ◌≡◌};
+ghost use Rattle.std.specs.String.{string_bytes};
+ghost use Rattle.clap.specs.Words.{FailsBy, app_of, fault_of, first_of, found_of, matches_of, new_rule, rows_of};
 ghost use Rattle.clap.specs.declared.builder.ArgAction.TheVariants.{SetTrue};
 ghost use Rattle.info65.specs.Views.{name_seen};
 ghost use Rattle.usage65.specs.Code.CommandRules.{AddsRule};
-ghost use Rattle.usage65.specs.Values.{bare, is_set};
+ghost use Rattle.usage65.specs.Values.{Gives, IsPlain, accepted, bare, is_set};
 
-use clap::{Arg, ArgAction, ArgMatches, Command};
+use crate::fault::UsageFault;
+use clap::error::ErrorKind;
+use clap::{Arg, ArgAction, ArgMatches, Command, Error};
 use std::alloc::{AllocError, Global};
 
 /// Returns the command of this name, without `clap`'s own help and version.
@@ -95,6 +98,33 @@ pub fn with_positional<'a>(
     ensures { AddsRule command.entry (new_rule id.entry.now) result }
 {
     command.arg(Arg::new(alloc, id))
+}
+
+fn matches_in<'a>(command: Command<'a>, words: &'a [String]) -> Result<ArgMatches<'a>, Error>
+    requires { IsPlain (app_of command) }
+    ensures matches { IfOk result (λ m. rows_of (found_of m) ≡ matches_of (app_of command.entry) (map string_bytes words.entry.now)) }
+    ensures faults { FailsBy (fault_of (app_of command.entry) (map string_bytes words.entry.now)) result }
+{
+    command.try_get_matches_from(words)
+}
+
+/// Reads the words by a command. The first word is the program's name. Fails with `Words` if a word fits no argument, an
+/// argument is given twice, or a value is missing. `Memory` is returned only if memory ran out.
+#[tactic(auto, unfolding(crate::specs::Values::accepted))]
+pub fn accepted<'a>(command: Command<'a>, words: &'a [String]) -> Result<ArgMatches<'a>, UsageFault>
+    requires { IsPlain (app_of command) }
+    ensures { Gives (λ m. rows_of (found_of m)) result (accepted (app_of command.entry) (map string_bytes words.entry.now)) }
+{
+    match matches_in(command, words) {
+        Ok(matches) => Ok(matches),
+        Err(error) => {
+            if error.kind() == ErrorKind::OutOfMemory {
+                Err(UsageFault::Memory)
+            } else {
+                Err(UsageFault::Words)
+            }
+        }
+    }
 }
 
 /// Returns the text that a match has under this id.

@@ -1,5 +1,5 @@
-//! What the command lines of several programs share: how a command for `clap` is put together, the numbers in it, and why
-//! one is refused.
+//! What the command lines of several programs share: how a command for `clap` is put together and reads its words, the
+//! numbers in it, and why one is refused.
 #![tactic(auto)]
 
 mod command;
@@ -7,8 +7,8 @@ mod fault;
 mod number;
 
 pub use command::{
-    bare_command, is_set, owned, text_of, with_flag, with_long_flag, with_option, with_positional,
-    with_short, with_short_option,
+    accepted, bare_command, is_set, owned, text_of, with_flag, with_long_flag, with_option,
+    with_positional, with_short, with_short_option,
 };
 pub use fault::UsageFault;
 pub use number::{address_in, decimal_in};

@@ -6,11 +6,10 @@ ghost use Rattle.clap.specs.Words.{first_of, found_of, rows_of};
 ghost use Rattle.usage65.specs.Number.{address_in, decimal_in};
 ghost use Rattle.usage65.specs.Values.{Gives};
 ghost use Rattle.da65.specs.Code.Layout.{IsLayout};
-ghost use Rattle.da65.specs.Usage.{accepted, cpu_in, given, layout_in, options_in, usage_of};
+ghost use Rattle.da65.specs.Usage.{cpu_in, given, layout_in, options_in, usage_of};
 
 use crate::command_line::command::matches_of_words;
 use clap::ArgMatches;
-use clap::error::ErrorKind;
 use info65::Options;
 use isa65::Cpu;
 use std::alloc::Global;
@@ -27,25 +26,8 @@ use usage65::{UsageFault, address_in, decimal_in, is_set, owned, text_of};
 pub fn options_of(alloc: Global, words: &[String]) -> Result<Options, UsageFault>
     ensures { Gives (λ o. o) result (usage_of (map string_bytes words.now)) }
 {
-    let matches = accepted(alloc, words)?;
+    let matches = matches_of_words(alloc, words)?;
     options_in(alloc, &matches)
-}
-
-/// The matches, if `clap` accepts the words.
-#[tactic(auto, unfolding(crate::specs::Usage::accepted))]
-fn accepted<'a>(alloc: Global, words: &'a [String]) -> Result<ArgMatches<'a>, UsageFault>
-    ensures { Gives (λ m. rows_of (found_of m)) result (accepted (map string_bytes words.entry.now)) }
-{
-    match matches_of_words(alloc, words) {
-        Ok(matches) => Ok(matches),
-        Err(error) => {
-            if error.kind() == ErrorKind::OutOfMemory {
-                Err(UsageFault::Memory)
-            } else {
-                Err(UsageFault::Words)
-            }
-        }
-    }
 }
 
 /// What the options say of a listing's layout.

@@ -1,12 +1,13 @@
 //! Addresses by their names.
 
 ghost use Rattle.std.specs.Prelude.{◌≡◌, ◌<◌, ◌≤◌, length, IfSome, option_map};
+ghost use Rattle.std.specs.Bool.{OnTrue};
 ghost use Rattle.info65.specs.Names.{AreNames};
 ghost use Rattle.map65.specs.Names.{base_at};
 ghost use Rattle.stmt65.specs.Printable.{IsLong, IsNameLong, IsShort};
 ghost use Rattle.stmt65.specs.Code.StatementViews.{expr_seen, target_seen};
-ghost use Rattle.da65.specs.BaseNames.{base_name, names_of};
-ghost use Rattle.da65.specs.Code.Bases.{base_place, constant_offset, own_place};
+ghost use Rattle.da65.specs.BaseNames.{base_name, is_base, names_of};
+ghost use Rattle.da65.specs.Code.Bases.{constant_offset, is_own_name};
 ghost use Rattle.da65.specs.Groups.{is_defined};
 ghost use Rattle.da65.specs.Statements.{address_expr, target_by, zero_page_expr};
 
@@ -14,15 +15,13 @@ use map65::{Map, NameBuf, NameKind, Place};
 use std::alloc::Allocator;
 use stmt65::{Expr, Target};
 
-/// The place of a name that has no offset.
-fn own_place(kind: Option<NameKind>) -> Option<Place>
-    ensures { result ≡ own_place kind }
+/// Whether a name has no offset.
+fn is_own_name(kind: Option<NameKind>) -> bool
+    ensures { result ≡ is_own_name kind }
 {
-    let kind = kind?;
-    if kind.offset == 0 {
-        Some(kind.place)
-    } else {
-        None
+    match kind {
+        Some(kind) => kind.offset == 0,
+        None => false,
     }
 }
 
@@ -37,22 +36,18 @@ fn constant_offset(kind: Option<NameKind>) -> Option<u16>
     }
 }
 
-/// Puts the base that stands for the address in the buffer and returns where it is defined, if the address
-/// is defined by name.
-pub fn base_at<A: Allocator>(map: &Map<'_, A>, address: u16, name: &mut NameBuf) -> Option<Place>
+/// Puts the base that stands for the address in the buffer, and returns whether there is one: whether the address is
+/// defined by name.
+pub fn put_base<A: Allocator>(map: &Map<'_, A>, address: u16, name: &mut NameBuf) -> bool
     requires { AreNames map.now.info.names }
-    ensures place { result ≡ base_place map.now address }
-    ensures text { IfSome result (λ p. name.new.items ≡ base_name (names_of map.now) address) }
-    ensures long { IfSome result (λ p. IsNameLong name.new.items) }
+    ensures is { result ≡ is_base (names_of map.now) address }
+    ensures text { OnTrue result (name.new.items ≡ base_name (names_of map.now) address) }
+    ensures long { OnTrue result (IsNameLong name.new.items) }
 {
-    if !map.has_name(address) {
-        return None;
-    }
-    own_place(map.name(address, name))
+    is_own_name(map.name(address, name))
 }
 
 /// Whether the address is defined by name.
-#[tactic(auto, unfolding(crate::specs::Code::Bases::base_place))]
 pub fn is_defined<A: Allocator>(map: &Map<'_, A>, address: u16) -> bool
     requires { AreNames map.now.info.names }
     ensures { result ≡ is_defined map.now address }
@@ -61,7 +56,7 @@ pub fn is_defined<A: Allocator>(map: &Map<'_, A>, address: u16) -> bool
         return false;
     }
     let mut name = NameBuf::new();
-    base_at(map, address, &mut name).is_some()
+    put_base(map, address, &mut name)
 }
 
 /// The address by its name, if it has one.

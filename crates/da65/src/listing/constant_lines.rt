@@ -7,17 +7,16 @@ ghost use Rattle.stmt65.specs.Printable.{IsNameLong};
 ghost use Rattle.map65.specs.Names.{has_name, place_of};
 ghost use Rattle.da65.specs.BaseNames.{base_name, is_constant, names_of};
 ghost use Rattle.da65.specs.Code.NamedCells.{is_unnamed};
-ghost use Rattle.da65.specs.Lines.{IsConstant, IsNext, constants_left};
-ghost use Rattle.da65.specs.Listing.{assignment_line, constants, has_constant_line, line_text};
+ghost use Rattle.da65.specs.Lines.{IsAssignmentNext, IsConstant, IsConstantNext, PassesOver, constants_from};
+ghost use Rattle.da65.specs.Listing.{has_constant_line};
 ghost use Rattle.da65.specs.Style.{style_of};
 
-use crate::listing::base_names::base_at;
+use crate::listing::base_names::put_base;
 use crate::listing::comment_lines::comment_at;
-use crate::listing::line_groups::ADDRESSES;
 use crate::listing::listed_image::ListedImage;
 use crate::listing::place::ListingPlace;
 use crate::listing::statement_line::put_plain;
-use map65::{Map, NameBuf, is_skip};
+use map65::{ADDRESSES, Map, NameBuf, is_skip};
 use std::alloc::Allocator;
 use stmt65::{Line, Statement};
 
@@ -49,10 +48,7 @@ fn is_named_constant<A: Allocator>(
     if !has_constant(map, address) {
         return false;
     }
-    let Some(_) = base_at(map, address, name) else {
-        return false;
-    };
-    true
+    put_base(map, address, name)
 }
 
 /// How many of these cells of a map stand before the first whose address has a name.
@@ -88,7 +84,7 @@ fn constant_before<A: Allocator>(
 ) -> Option<usize>
     requires order { from ≤ end }
     requires bound { end ≤ 65536 }
-    ensures lines { MatchOption result (constants listed.now (65536 - from) from ≡ constants listed.now (65536 - end) end) (λ v. constants listed.now (65536 - from) from ≡ constants listed.now (65536 - v) v) }
+    ensures lines { MatchOption result (PassesOver listed.now from end) (PassesOver listed.now from) }
     ensures is { IfSome result (λ v. IsConstant listed.now v) }
     ensures text { IfSome result (λ v. name.new.items ≡ base_name (names_of listed.now) v) }
     ensures long { IfSome result (λ v. IsNameLong name.new.items) }
@@ -108,7 +104,7 @@ fn constant_before<A: Allocator>(
 /// this address.
 fn after_listed<A: Allocator>(listed: &ListedImage<'_, A>, from: usize) -> usize
     requires { from ≤ 65536 }
-    ensures lines { constants listed.now (65536 - from) from ≡ constants listed.now (65536 - result) result }
+    ensures lines { PassesOver listed.now from result }
     ensures bound { result ≤ 65536 }
 {
     let start = listed.start();
@@ -127,7 +123,7 @@ fn constant_from<A: Allocator>(
     name: &mut NameBuf,
 ) -> Option<usize>
     requires { from ≤ 65536 }
-    ensures lines { MatchOption result (constants listed.now (65536 - from) from ≡ []) (λ v. constants listed.now (65536 - from) from ≡ constants listed.now (65536 - v) v) }
+    ensures lines { MatchOption result (constants_from listed.now from ≡ []) (PassesOver listed.now from) }
     ensures is { IfSome result (λ v. IsConstant listed.now v) }
     ensures text { IfSome result (λ v. name.new.items ≡ base_name (names_of listed.now) v) }
     ensures long { IfSome result (λ v. IsNameLong name.new.items) }
@@ -150,7 +146,7 @@ fn put_definition<A: Allocator>(
     requires is { IsConstant listed.now address }
     requires text { name.now ≡ base_name (names_of listed.now) address }
     requires long { IsNameLong name.now }
-    ensures { IsNext listed.now (assignment_line (names_of listed.now) address ∷ constants_left listed.now (address + 1) true) out.new.items result None }
+    ensures { IsAssignmentNext listed.now address out.new.items result }
 {
     put_plain(out, listed.style(), &Statement::Const(name, address as u16));
     ListingPlace::Constant {
@@ -171,7 +167,7 @@ fn put_constant<A: Allocator>(
     requires is { IsConstant listed.now address }
     requires text { name.now ≡ base_name (names_of listed.now) address }
     requires long { IsNameLong name.now }
-    ensures { IsNext listed.now (constants_left listed.now address after_another) out.new.items result None }
+    ensures { IsConstantNext listed.now address after_another out.new.items result }
 {
     if let Some(text) = comment_at(listed, address as u16) {
         put_plain(out, listed.style(), &Statement::Remark(text));
@@ -188,7 +184,7 @@ pub fn put_next_constant<A: Allocator>(
     after_another: bool,
 ) -> Option<ListingPlace>
     requires { from ≤ 65536 }
-    ensures { MatchOption result (constants listed.now (65536 - from) from ≡ []) (λ next. IsNext listed.now (constants_left listed.now from after_another) out.new.items next None) }
+    ensures { MatchOption result (constants_from listed.now from ≡ []) (IsConstantNext listed.now from after_another out.new.items) }
 {
     let mut name = NameBuf::new();
     let address = constant_from(listed, from, &mut name)?;
@@ -202,11 +198,11 @@ pub fn put_assignment<A: Allocator>(
     address: usize,
 ) -> ListingPlace
     requires { IsConstant listed.now address }
-    ensures { IsNext listed.now (assignment_line (names_of listed.now) address ∷ constants_left listed.now (address + 1) true) out.new.items result None }
+    ensures { IsAssignmentNext listed.now address out.new.items result }
 {
     let mut name = NameBuf::new();
-    let Some(_) = base_at(listed.map(), address as u16, &mut name) else {
+    if !put_base(listed.map(), address as u16, &mut name) {
         unreachable!()
-    };
+    }
     put_definition(out, listed, address, name.as_slice())
 }

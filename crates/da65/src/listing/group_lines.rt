@@ -13,7 +13,7 @@ ghost use Rattle.da65.specs.Listing.{forward_line, forwards, label_at, line_text
 ghost use Rattle.da65.specs.Statements.{statement_at};
 ghost use Rattle.da65.specs.Style.{style_of};
 
-use crate::listing::base_names::base_at;
+use crate::listing::base_names::put_base;
 use crate::listing::group::Group;
 use crate::listing::line_groups::{group_len, role_inside};
 use crate::listing::listed_image::ListedImage;
@@ -40,9 +40,9 @@ fn put_forward_at<A: Allocator>(
     ensures line { OnTrue result (out.new.items ≡ line_text (style_of listed.now.info.settings) (forward_line (names_of listed.now) first address)) }
 {
     let mut name = NameBuf::new();
-    let Some(_) = base_at(listed.map(), address, &mut name) else {
+    if !put_base(listed.map(), address, &mut name) {
         return false;
-    };
+    }
     put_plain(
         out,
         listed.style(),
@@ -226,10 +226,10 @@ fn put_named<A: Allocator>(
     ensures { IsLabelNext listed.now group.entry.index out.new.items result }
 {
     let mut label = NameBuf::new();
-    match base_at(listed.map(), group.address, &mut label) {
-        Some(_) => put_labelled(out, listed, names, group, label.as_slice()),
-        None => put_group(out, listed, names, group, None),
+    if !put_base(listed.map(), group.address, &mut label) {
+        return put_group(out, listed, names, group, None);
     }
+    put_labelled(out, listed, names, group, label.as_slice())
 }
 
 /// Replaces the buffer by the first line of a group after its forward lines, and returns the next place. Most

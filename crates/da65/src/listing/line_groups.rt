@@ -11,11 +11,8 @@ ghost use Rattle.da65.specs.Groups.{goes_on, group_len, is_whole, limit_at, limi
 
 use crate::listing::base_names::is_defined;
 use info65::{RangeSpec, RangeType};
-use map65::{Map, is_skip, unit_of};
+use map65::{ADDRESSES, Map, is_skip, unit_of};
 use std::alloc::Allocator;
-
-/// The number of addresses, $10000.
-pub const ADDRESSES: usize = 65_536;
 
 /// How many items a line of this role takes at most.
 fn limit_of(role: RangeType) -> usize

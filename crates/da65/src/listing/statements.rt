@@ -18,7 +18,7 @@ ghost use Rattle.da65.specs.Statements.{address_entry, is_forced, numbers, opera
 use crate::listing::base_names::{address_expr, target, zero_page_expr};
 use info65::{Entry, RangeType};
 use isa65::{ByteOrder, Mode, Op, OpcodeSet, OperandKind, Row};
-use map65::{Map, NameBuf, target_of, word_of};
+use map65::{Map, NameBuf, entry_of, target_of, word_of};
 use std::alloc::Allocator;
 use stmt65::{AddressSize, Expr, Operands, Statement};
 
@@ -285,14 +285,6 @@ pub fn instruction<'a, S: OpcodeSet, A: Allocator>(
         size: written_size(set, op, bytes),
         operands: operands_of(map, op.mode, address, bytes, names),
     }
-}
-
-/// The word of an entry, low byte first.
-fn entry_of(bytes: &[u8]) -> u16
-    requires { 2 ≤ length bytes.now }
-    ensures { result ≡ entry_of bytes.now }
-{
-    u16::from(bytes[0]) + 256 * u16::from(bytes[1])
 }
 
 /// The entry of an address table.

@@ -1,7 +1,6 @@
 use Rattle.std.proofs.Common.{◌∙◌, sym}
-use Rattle.da65.proofs.BaseLemmas.{place-none}
-use Rattle.da65.proofs.NextLemmas.{base-false}
+use Rattle.da65.proofs.BaseLemmas.{base-unnamed}
 use Rattle.da65.proofs.listing.base_names.is_defined.Goals as goal
 
 pub returns-then-not-has_name : goal.returns-then-not-has_name
-returns-then-not-has_name g c = sym (base-false _ _ (place-none _ _ (sym c.has_name.ensures ∙ c.if-not-has_name.true)))
+returns-then-not-has_name g c = sym (base-unnamed _ _ (sym c.has_name.ensures ∙ c.if-not-has_name.true))

@@ -1,16 +1,13 @@
 use Rattle.std.proofs.Common.{◌∙◌, sym}
-use Rattle.da65.proofs.BaseLemmas.{place-none}
+use Rattle.da65.proofs.BaseLemmas.{base-unnamed}
 use Rattle.da65.proofs.NextLemmas.{line-kept, line-left, line-none}
 use Rattle.da65.proofs.listing.constant_lines.is_named_constant.Goals as goal
 
 pub returns-then-not-has_name-clause-is : goal.returns-then-not-has_name-clause-is
-returns-then-not-has_name-clause-is g c = rw (← c.map-map.ensures.map) (sym (line-none _ _ (place-none _ _ (sym c.has_name.ensures ∙ c.if-not-has_name.true))))
+returns-then-not-has_name-clause-is g c = rw (← c.map-map.ensures.map) (sym (line-none _ _ (base-unnamed _ _ (sym c.has_name.ensures ∙ c.if-not-has_name.true))))
 
 pub returns-then-not-has_constant-clause-is : goal.returns-then-not-has_constant-clause-is
 returns-then-not-has_constant-clause-is g c = rw (← c.map-map.ensures.map) (sym (line-left _ _ (sym c.has_constant.ensures ∙ c.if-not-has_constant.true)))
 
-pub returns-in_default-clause-is : goal.returns-in_default-clause-is
-returns-in_default-clause-is g c = rw (← c.map-map.ensures.map) (sym (line-none _ _ (sym c.base_at.ensures.place ∙ c.in_default.is)))
-
 pub returns-clause-is : goal.returns-clause-is
-returns-clause-is g c = rw (← c.map-map.ensures.map) (sym (line-kept _ _ _ (sym c.base_at.ensures.place ∙ c.in-Some.is) (sym c.has_constant.ensures ∙ c.if-not-has_constant.false)))
+returns-clause-is g c = rw (← c.map-map.ensures.map) (c.put_base.ensures.is ∙ sym (line-kept _ _ (sym c.has_constant.ensures ∙ c.if-not-has_constant.false)))

@@ -1,7 +1,6 @@
-use Rattle.std.proofs.Common.{◌∙◌, ℕ, List, Some, ap, sym}
+use Rattle.std.proofs.Common.{◌≡◌, ◌∙◌, Bool, List, Some, ap, false, sym, true, ℕ}
 use Rattle.map65.specs.MapView.{MapView}
-use Rattle.da65.specs.BaseNames.{base_name, names_of}
-use Rattle.da65.specs.Code.Bases.{base_place}
+use Rattle.da65.specs.BaseNames.{base_name, is_base, names_of}
 use Rattle.da65.specs.Listing.{label_at}
 use Rattle.da65.proofs.NextLemmas.{label-none, label-some, unlabelled-lines, from-label}
 use Rattle.da65.proofs.listing.group_lines.put_named.Goals as goal
@@ -9,10 +8,10 @@ use Rattle.da65.proofs.listing.group_lines.put_named.Goals as goal
 pub put_labelled-requires-clause-label : goal.put_labelled-requires-clause-label
 put_labelled-requires-clause-label g c =
     ap (label_at (names_of c.args.listed.now)) (sym c.requires.address_is)
-    ∙ label-some _ _ _ (sym (ap (λ (m : MapView). base_place m c.args.group.address) c.map.ensures.map) ∙ sym c.base_at.ensures.place ∙ c.in-Some.is)
-    ∙ ap (λ (t : List ℕ). Some t) (sym (c.as_slice.ensures.value ∙ c.in-Some.ensures.text ∙ ap (λ (m : MapView). base_name (names_of m) c.args.group.address) c.map.ensures.map))
+    ∙ label-some _ _ (sym (ap (λ (m : MapView). is_base (names_of m) c.args.group.address) c.map.ensures.map) ∙ sym c.put_base.ensures.is ∙ c.if-not-put_base.false)
+    ∙ ap (λ (t : List ℕ). Some t) (sym (c.as_slice.ensures.value ∙ (rw c.if-not-put_base.false at c.put_base.ensures.text) ∙ ap (λ (m : MapView). base_name (names_of m) c.args.group.address) c.map.ensures.map))
 
-pub returns-in-None : goal.returns-in-None
-returns-in-None g c =
-    let none = ap (label_at (names_of c.args.listed.now)) (sym c.requires.address_is) ∙ label-none _ _ (sym (ap (λ (m : MapView). base_place m c.args.group.address) c.map.ensures.map) ∙ sym c.base_at.ensures.place ∙ c.in-None.is) in
-    from-label c.args.listed.now c.args.group.index _ _ _ (unlabelled-lines _ _ none) c.put_group.ensures
+pub returns-then-not-put_base : goal.returns-then-not-put_base
+returns-then-not-put_base g c =
+    let none = label-none _ _ (sym (ap (λ (m : MapView). is_base (names_of m) c.args.group.address) c.map.ensures.map) ∙ sym c.put_base.ensures.is ∙ c.if-not-put_base.true) in
+    from-label c.args.listed.now c.args.group.index _ _ _ (unlabelled-lines _ _ (ap (label_at (names_of c.args.listed.now)) (sym c.requires.address_is) ∙ none)) c.put_group.ensures
