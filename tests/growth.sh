@@ -620,11 +620,14 @@ doubles() {
     awk "BEGIN { exit !($ours > 2.3 * $half) }" && fails "$4 $3" 'more than 2.3 times the instructions of half as many'
 }
 
-# includes COUNT LINES: prints an information file with that many include files, of one name each, and writes them with that many lines.
+# includes COUNT LINES WIDTH: prints an information file with that many include files, and writes them, with that many names, each with a
+# remark of that many bytes.
 includes() {
     local k
     for ((k = 0; k < $1; k++)); do
-        { echo "n_$k = $k"; yes '; a remark' | head -n $(($2 - 1)); } >"$k.inc"
+        awk -v from=$((k * $2)) -v lines="$2" -v width="$3" 'BEGIN {
+            for (a = from; a < from + lines; a++) printf "n%04x := $%04X ; %*s\n", a, a, width, "a remark"
+        }' >"$k.inc"
         echo "ASMINC { FILE \"$k.inc\"; };"
     done
 }
@@ -683,12 +686,12 @@ speed() {
         'RANGE { START $F022; END $F02B; TYPE ByteTable; };' \
         'LABEL { ADDR $FFD2; NAME "CHROUT"; };' >hello.info
     echo 'LABEL { ADDR $1000; NAME "entry"; };' >label.info
-    compares '44 bytes with five tables and three names' 97.1 -i hello.info "$root/examples/hello.bin"
-    compares '1 KiB with one label' 61.2 -S 0 -i label.info kilobyte.bin
-    includes 16 1 >small.info
-    compares '1 KiB with 16 include files of a line' 400 -S 0 -i small.info kilobyte.bin
-    includes 16 95000 >large.info
-    compares '1 KiB with 16 include files of 1 MiB' 130 -S 0 -i large.info kilobyte.bin
+    compares '44 bytes with five tables and three names' 76.7 -i hello.info "$root/examples/hello.bin"
+    compares '1 KiB with one label' 49.3 -S 0 -i label.info kilobyte.bin
+    includes 16 1 10 >small.info
+    compares '1 KiB with 16 include files of a line' 55.9 -S 0 -i small.info kilobyte.bin
+    includes 16 4096 230 >large.info
+    compares '1 KiB with 16 include files of 1 MiB' 47.1 -S 0 -i large.info kilobyte.bin
 
     printf 'MEMORY { MAIN: start = 0, size = $10000, file = %%O; }\nSEGMENTS { CODE: load = MAIN, type = ro; }\n' >flat.cfg
     printf '\n%-44s %12s %12s %8s\n' 'instructions for the listing of 64 KiB' 'as65' 'ca65, ld65' 'ratio'
