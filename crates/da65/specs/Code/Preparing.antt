@@ -3,6 +3,9 @@ use Rattle.std.specs.Prelude.{◌≡◌, ℕ, List, Result, Ok, Err}
 use Rattle.info65.specs.Includes.{with_names}
 use Rattle.info65.specs.Names.{AreNames}
 use Rattle.info65.specs.Views.{InfoView, NameView}
+use Rattle.info65.specs.Code.Results.{Fails}
+use Rattle.info65.specs.declared.fault.InfoFault.{InfoFault}
+use Rattle.da65.specs.Outcome.{or_message}
 use Rattle.da65.specs.declared.runs.preparing.Stop.{Stop}
 use Rattle.da65.specs.declared.runs.preparing.Stop.TheVariants.{Memory, Refused}
 
@@ -10,6 +13,11 @@ use Rattle.da65.specs.declared.runs.preparing.Stop.TheVariants.{Memory, Refused}
 abbrev pub Stops : Stop → Result InfoView (List ℕ) → Type 0
 Stops (Refused message) expected = expected ≡ Err message.items
 Stops Memory expected = Unit {0}
+
+-- of what fails with the fault, and has this message then
+abbrev pub StopsFor : InfoFault → List ℕ → Stop → Type 0
+StopsFor fault message stop =
+    (of : InfoFault → List ℕ) (defined : Result InfoView InfoFault) → message ≡ of fault → Fails fault defined → Stops stop (or_message of defined)
 
 -- the result is the expected one, unless memory ran out
 abbrev pub Prepares : Result InfoView Stop → Result InfoView (List ℕ) → Type 0

@@ -1,12 +1,12 @@
 //! What a run lists its input by: what the information file says, with the names of its include files.
 
-ghost use Rattle.std.specs.Prelude.{◌≡◌, ◌≢◌, ◌<◌, ℕ, List, Result, get_or, is_some, length};
-ghost use Rattle.info65.specs.Code.Results.{Fails, Gives};
+ghost use Rattle.std.specs.Prelude.{◌≡◌, ◌≢◌, ◌<◌, Result, get_or, is_some, length};
+ghost use Rattle.info65.specs.Code.Results.{Gives};
 ghost use Rattle.info65.specs.Views.{IncludeView, InfoView};
 ghost use Rattle.info65.specs.declared.fault.InfoFault.{InfoFault};
-ghost use Rattle.da65.specs.Code.Preparing.{Names, Prepares, Stops};
+ghost use Rattle.da65.specs.Code.Preparing.{Names, Prepares, StopsFor};
 ghost use Rattle.da65.specs.Files.{files_seen};
-ghost use Rattle.da65.specs.Outcome.{accepted, or_message, prepared_by, with_all_includes, with_file};
+ghost use Rattle.da65.specs.Outcome.{accepted, prepared_by, with_all_includes, with_file};
 
 use crate::runs::files::{File, file_named};
 use crate::runs::messages::{
@@ -26,7 +26,7 @@ pub(crate) enum Stop {
 
 /// The end of a run for a fault of a file, which has this message.
 fn stop_of(fault: InfoFault, message: Message) -> Stop
-    ensures stops { (of : InfoFault → List ℕ) (defined : Result InfoView InfoFault) → message.items ≡ of fault → Fails fault defined → Stops result (or_message of defined) }
+    ensures stops { StopsFor fault message.items result }
     ensures memory { result ≡ Stop.Memory → fault.kind ≡ InfoFaultKind.Memory }
     ensures refused { fault.kind ≢ InfoFaultKind.Memory → result ≡ Stop.Refused message }
 {
