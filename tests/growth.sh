@@ -634,7 +634,7 @@ includes() {
 
 speed() {
     local tool cpu from ours bytes=
-    local -A random=([6502]=24.8 [65SC02]=25.6 [65C02]=26.6)
+    local -A random=([6502]=24.6 [65SC02]=25.4 [65C02]=26.4)
     for tool in valgrind da65 ca65 ld65 /usr/bin/time; do
         command -v $tool >/dev/null || { echo "growth: speed is left out, since $tool is not installed"; return; }
     done
@@ -671,11 +671,11 @@ speed() {
     for cpu in "${cpus[@]}"; do
         compares "random bytes, $cpu" "${random[$cpu]}" -S 0 --cpu "$cpu" random.bin
     done
-    compares 'nop' 35.1 -S 0 nop.bin
-    compares 'mixed bytes, without ranges' 24.8 -S 0 mixed.bin
-    compares "mixed bytes, $(wc -l <mixed.info) ranges" 26.2 -S 0 -i mixed.info mixed.bin
+    compares 'nop' 34.7 -S 0 nop.bin
+    compares 'mixed bytes, without ranges' 24.6 -S 0 mixed.bin
+    compares "mixed bytes, $(wc -l <mixed.info) ranges" 26.0 -S 0 -i mixed.info mixed.bin
     compares 'a byte table' 17.5 -S 0 -i table.info nop.bin
-    compares 'a byte table in 1,024 segments' 38.2 -S 0 -i segments.info nop.bin
+    compares 'a byte table in 1,024 segments' 38.0 -S 0 -i segments.info nop.bin
 
     # What people run: a few bytes, a few tables and names. What is done once whatever there is shows most. (cc65's has no SIZE.)
     printf '%s\n' 'GLOBAL { STARTADDR $F000; };' \
@@ -687,11 +687,11 @@ speed() {
         'LABEL { ADDR $FFD2; NAME "CHROUT"; };' >hello.info
     echo 'LABEL { ADDR $1000; NAME "entry"; };' >label.info
     compares '44 bytes with five tables and three names' 76.7 -i hello.info "$root/examples/hello.bin"
-    compares '1 KiB with one label' 49.3 -S 0 -i label.info kilobyte.bin
+    compares '1 KiB with one label' 49.1 -S 0 -i label.info kilobyte.bin
     includes 16 1 10 >small.info
-    compares '1 KiB with 16 include files of a line' 55.9 -S 0 -i small.info kilobyte.bin
+    compares '1 KiB with 16 include files of a line' 55.6 -S 0 -i small.info kilobyte.bin
     includes 16 4096 230 >large.info
-    compares '1 KiB with 16 include files of 1 MiB' 47.1 -S 0 -i large.info kilobyte.bin
+    compares '1 KiB with 16 include files of 1 MiB' 47.2 -S 0 -i large.info kilobyte.bin
 
     printf 'MEMORY { MAIN: start = 0, size = $10000, file = %%O; }\nSEGMENTS { CODE: load = MAIN, type = ro; }\n' >flat.cfg
     printf '\n%-44s %12s %12s %8s\n' 'instructions for the listing of 64 KiB' 'as65' 'ca65, ld65' 'ratio'
@@ -707,7 +707,7 @@ speed() {
     doubles 78 76 labels 20000
     doubles 78 76 shuffled 20000
     doubles 110 112 colliding 20000
-    doubles 77.5 82.6 definitions 60000
+    doubles 77.6 83.0 definitions 60000
     doubles 88 88 ranges 20000
 }
 
