@@ -5,7 +5,7 @@ use Rattle.std.specs.List.{list_any}
 use Rattle.std.proofs.lemmas.Bool.{le-ltb}
 use Rattle.std.proofs.lemmas.List.{append-nil, map-append}
 use Rattle.isa65.specs.Cpu.{cpu_named, cpu_text}
-use Rattle.isa65.specs.CpuLaws.{cpu_named-cpu_text}
+use Rattle.isa65.proofs.CpuNames.{cpu_named-cpu_text}
 use Rattle.isa65.specs.declared.cpu.Cpu.{Cpu}
 use Rattle.stmt65.specs.SourceLine.{Operation, Nothing, Segment, Code, SetCpu, SourceLine}
 use Rattle.stmt65.specs.Symbols.{Definition}

@@ -6,7 +6,7 @@ use Rattle.std.proofs.lemmas.Slice.Eq.{bytes_eq-Decides}
 use Rattle.isa65.specs.declared.mnemonic.Mnemonic.{Mnemonic}
 use Rattle.isa65.specs.declared.mnemonic.Mnemonic.TheVariants.{Adc}
 use Rattle.isa65.specs.Mnemonic.{text_of, mnemonic_named}
-use Rattle.isa65.specs.MnemonicLaws.{lowercase-text_of, mnemonic_named-is}
+use Rattle.isa65.proofs.MnemonicLaws.{lowercase-text_of, mnemonic_named-is}
 use Rattle.isa65.specs.Candidates.{number_of, candidate, if_spelled}
 
 -- each mnemonic is the candidate of its own text

@@ -2,3 +2,6 @@ mod Matrix
 pub mod Opcodes
 mod CandidateLaws
 mod FilledLemmas
+pub mod Finding
+pub mod MnemonicLaws
+pub mod CpuNames

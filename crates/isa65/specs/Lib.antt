@@ -8,8 +8,6 @@ pub mod Mos6502
 pub mod Cmos65Sc02
 pub mod Rockwell65C02
 pub mod Cpu
--- what holds of them
-pub mod Finding
-pub mod MnemonicLaws
+-- what the laws of an opcode set cite
 pub mod OpcodeLaws
 pub mod CpuLaws

@@ -8,8 +8,8 @@ use Rattle.std.proofs.lemmas.Slice.Eq.{bytes_eq-Decides}
 use Rattle.isa65.specs.declared.mnemonic.Mnemonic.{Mnemonic}
 use Rattle.isa65.specs.declared.mnemonic.Mnemonic.TheVariants.{Adc}
 use Rattle.isa65.specs.Mnemonic.{text_of, mnemonic_named}
-use Rattle.isa65.specs.MnemonicLaws.{mnemonic_named-is, mnemonic_named-text_of}
-use Rattle.isa65.specs.Finding.{find-passes}
+use Rattle.isa65.proofs.MnemonicLaws.{mnemonic_named-is, mnemonic_named-text_of}
+use Rattle.isa65.proofs.Finding.{find-passes}
 use Rattle.text65.specs.Names.{has_name_form, is_reserved_word, registers}
 use Rattle.stmt65.specs.declared.directive.Directive.{Directive}
 use Rattle.stmt65.specs.declared.directive.Directive.TheVariants as directive

@@ -6,7 +6,7 @@ use Rattle.std.specs.Str.{str_eq_ignore_ascii_case, str_to_ascii_lowercase}
 use Rattle.std.proofs.lemmas.Bool.Decides.{nat_tests}
 use Rattle.std.proofs.lemmas.Slice.Eq.{bytes_eq-Decides}
 use Rattle.isa65.specs.Mnemonic.{mnemonic_named, text_of}
-use Rattle.isa65.specs.MnemonicLaws.{mnemonic_named-is}
+use Rattle.isa65.proofs.MnemonicLaws.{mnemonic_named-is}
 use Rattle.isa65.specs.declared.mnemonic.Mnemonic.{Mnemonic}
 use Rattle.isa65.specs.declared.mnemonic.Mnemonic.TheVariants.{Adc}
 use Rattle.text65.specs.Names.{is_reserved_word, registers}

@@ -1,6 +1,6 @@
 use Rattle.std.proofs.Common.{sym, ◌∙◌}
 use Rattle.isa65.specs.Cpu.{cpu_named}
-use Rattle.isa65.specs.CpuLaws.{cpu_name, cpu_named-is}
+use Rattle.isa65.proofs.CpuNames.{cpu_name, cpu_named-is}
 use Rattle.isa65.proofs.cpu.Cpu.from_bytes.Goals as goal
 
 pub returns-clause-named : goal.returns-clause-named

@@ -1,5 +1,5 @@
 use Rattle.std.proofs.Common.{sym, ◌∙◌}
-use Rattle.isa65.specs.MnemonicLaws.{mnemonic_named-is}
+use Rattle.isa65.proofs.MnemonicLaws.{mnemonic_named-is}
 use Rattle.isa65.proofs.CandidateLaws.{candidate-is}
 use Rattle.isa65.proofs.mnemonic.Mnemonic.from_bytes.Goals as goal
 

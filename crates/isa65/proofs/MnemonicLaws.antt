@@ -7,7 +7,7 @@ use Rattle.std.proofs.lemmas.Slice.Eq.{bytes_eq-Decides}
 use Rattle.isa65.specs.declared.mnemonic.Mnemonic.{Mnemonic}
 use Rattle.isa65.specs.declared.mnemonic.Mnemonic.TheVariants.{Adc}
 use Rattle.isa65.specs.declared.mnemonic.TheConstants.{ALL}
-use Rattle.isa65.specs.Finding.{find-passes}
+use Rattle.isa65.proofs.Finding.{find-passes}
 use Rattle.isa65.specs.Mnemonic.{text_of, mnemonic_named}
 
 pub lowercase-text_of : (m : Mnemonic) → str_to_ascii_lowercase (text_of m) ≡ text_of m
