@@ -21,8 +21,8 @@ SHELL := bash
 .SHELLFLAGS := -eu -o pipefail -c
 .PHONY: all test check contracts manual speed install uninstall clean help
 
-# Two crates at a time where there are two processors and 8 GB, unless the command line says how many.
-MAKEFLAGS += -j$(shell [ "$$(nproc)" -ge 2 ] && awk '/^MemAvailable/ { print ($$2 > 8000000) + 1 }' /proc/meminfo || echo 1)
+# One crate at a time: rt keeps others out of the crates that it reads, and has up to four jobs in one.
+.NOTPARALLEL:
 
 all: bin/da65 bin/as65 bin/trace65
 	bin/da65 examples/three.bin
