@@ -41,7 +41,7 @@ map65 ImageFault::from 2
 map65 TakeFault::from 1
 relist Failure::from 2
 stmt65 AsmFault::from 1
-stmt65 Symbols::define 1
+stmt65 Symbols::define 2
 trace65 Failure::from 4
 trace65 accepted 2
 trace65 failure_of 2

@@ -6,6 +6,10 @@ use Rattle.isa65.specs.Cpu.{table_of}
 use Rattle.isa65.specs.Opcodes.{encoded}
 use Rattle.std.specs.Prelude.{◌&&◌, is_some, option_and_then}
 use Rattle.std.proofs.lemmas.Bool.{and_parts}
+use Rattle.std.proofs.Math.Bool.{and-true}
+use Rattle.std.proofs.lemmas.List.{append-nil}
+use Rattle.std.specs.Bool.{OnTrue}
+use Rattle.stmt65.specs.Code.CodingViews.{Puts, PutsAll}
 use Rattle.std.specs.List.{list_all, flat_map}
 use Rattle.stmt65.specs.SourceLine.{Value, NumberValue, NameValue}
 use Rattle.stmt65.specs.Symbols.{Definition, below, find_name, is_known, lowered, value_in, word_in}
@@ -133,23 +137,42 @@ pub string_known : (all : List Definition) (bs : List ℕ) → list_all (is_frag
 string_known all [] = refl
 string_known all (b ∷ bs) = string_known all bs
 
-pub string_fits : (all : List Definition) (next : ℕ) (bs : List ℕ) → list_all (fragment_fits all next) (map Fixed bs) ≡ true
+string_fits : (all : List Definition) (next : ℕ) (bs : List ℕ) → list_all (fragment_fits all next) (map Fixed bs) ≡ true
 unfolding fragment_fits
 string_fits all next [] = refl
 string_fits all next (b ∷ bs) = string_fits all next bs
 
-pub opcode_fits : (all : List Definition) (next b : ℕ) (fs : List Fragment) (fit : Bool) → fit ≡ list_all (fragment_fits all next) fs → fit ≡ list_all (fragment_fits all next) (Fixed b ∷ fs)
-unfolding fragment_fits
-opcode_fits all next b fs fit e = e
-
 -- ---- bytes
 
-pub opcode_bytes : (all : List Definition) (next b : ℕ) (fs : List Fragment) (old with_opcode new : List ℕ) → with_opcode ≡ old ++ b ∷ [] → new ≡ with_opcode ++ flat_map (fragment_bytes all next) fs
-    → new ≡ old ++ flat_map (fragment_bytes all next) (Fixed b ∷ fs)
-unfolding fragment_bytes
-opcode_bytes all next b fs old with_opcode new e f = f ∙ ap (λ (l : List ℕ). l ++ flat_map (fragment_bytes all next) fs) e ∙ append_assoc old (b ∷ []) (flat_map (fragment_bytes all next) fs)
-
-pub string_bytes : (all : List Definition) (next : ℕ) (bs : List ℕ) → flat_map (fragment_bytes all next) (map Fixed bs) ≡ bs
+string_bytes : (all : List Definition) (next : ℕ) (bs : List ℕ) → flat_map (fragment_bytes all next) (map Fixed bs) ≡ bs
 unfolding fragment_bytes
 string_bytes all next [] = refl
 string_bytes all next (b ∷ bs) = ap (λ (l : List ℕ). b ∷ l) (string_bytes all next bs)
+
+-- ---- bytes, and whether they have room
+
+on_true : (answer : Bool) {P Q : Type 0} → (P → Q) → OnTrue answer P → OnTrue answer Q
+on_true true f h = f h
+on_true false f h = tt
+
+-- one fragment
+pub one_put : (all : List Definition) (next : ℕ) (f : Fragment) (answer : Bool) (old new : List ℕ) → Puts answer (fragment_fits all next f) (fragment_bytes all next f) old new → PutsAll answer all next (f ∷ []) old new
+one_put all next f answer old new puts = record {
+  says = puts.says ∙ sym (and-true (fragment_fits all next f));
+  adds = on_true answer (λ e. e ∙ ap (λ (bs : List ℕ). old ++ bs) (sym (append-nil (fragment_bytes all next f)))) puts.adds;
+}
+
+-- the bytes of a string
+pub string_put : (all : List Definition) (next : ℕ) (bs old new : List ℕ) → new ≡ old ++ bs → PutsAll true all next (map Fixed bs) old new
+string_put all next bs old new e = record {
+  says = sym (string_fits all next bs);
+  adds = e ∙ ap (λ (l : List ℕ). old ++ l) (sym (string_bytes all next bs));
+}
+
+-- an opcode, and its operand
+pub opcode_put : (all : List Definition) (next b : ℕ) (fs : List Fragment) (answer : Bool) (old with_opcode new : List ℕ) → with_opcode ≡ old ++ b ∷ [] → PutsAll answer all next fs with_opcode new → PutsAll answer all next (Fixed b ∷ fs) old new
+unfolding fragment_fits fragment_bytes
+opcode_put all next b fs answer old with_opcode new e puts = record {
+  says = puts.says;
+  adds = on_true answer (λ h. h ∙ ap (λ (l : List ℕ). l ++ flat_map (fragment_bytes all next) fs) e ∙ append_assoc old (b ∷ []) (flat_map (fragment_bytes all next) fs)) puts.adds;
+}

@@ -1,5 +1,5 @@
 -- What the code holds of a text is enough for its meaning.
-use Rattle.std.proofs.Common.{◌≡◌, ℕ, Bool, true, false, cond, eqb, ltb, leb, ◌+◌, ◌-◌, ◌<◌, ◌≤◌, List, [], ◌∷◌, map, Option, Some, None, refl, sym, ap, ◌∙◌, arith}
+use Rattle.std.proofs.Common.{◌≡◌, ◌++◌, ℕ, Bool, true, false, cond, eqb, ltb, leb, ◌+◌, ◌-◌, ◌<◌, ◌≤◌, List, [], ◌∷◌, map, Option, Some, None, refl, sym, ap, ◌∙◌, arith}
 use Rattle.std.specs.Prelude.{unwrap_or, is_some, not, ◌&&◌, ◌||◌, option_and_then}
 use Rattle.std.specs.List.{list_any, list_all, flat_map}
 use Rattle.std.specs.Option.{option_map}
@@ -20,7 +20,7 @@ use Rattle.stmt65.specs.declared.directive.Directive.{Directive}
 use Rattle.stmt65.specs.declared.directive.Directive.TheVariants.{Word}
 use Rattle.stmt65.specs.Symbols.{Definition, find_name, below, lowered, value_in, is_known, word_in, is_small, is_constant, has_zero_page_size}
 use Rattle.stmt65.specs.Coding.{entry_limit, Fragment, Fixed, Single, ZeroPage, Oversized, Entry, Distance, entry_in, is_fragment_known, is_near, fragment_fits, fragment_bytes, ways, first_way, coding, coding_len}
-use Rattle.stmt65.specs.Code.CodingViews.{coded_of}
+use Rattle.stmt65.specs.Code.CodingViews.{PutsAll, coded_of}
 use Rattle.stmt65.specs.Code.Held.{held, held_value}
 use Rattle.stmt65.specs.Meaning.{State, operation_in, fragments_of, next_of, defined_by, has_unknown_cpu, has_no_form, is_undefined, is_twice, is_out_of_range, is_past_end, first_of, fault_of, bytes_of, after, final, initial}
 use Rattle.stmt65.specs.Code.MeaningViews.{fragments_in, definitions_in, held_definition, IsPlaced, held_after, held_final}
@@ -249,16 +249,18 @@ passed : (b : Bool) (k : AsmFaultKind) (rest : Option AsmFaultKind) → None ≡
 passed true k rest h = absurd cc
 passed false k rest h = (refl, h)
 
-or_left : (a b : Bool) → (a || b) ≡ false → a ≡ false
-or_left true b e = absurd cc
-or_left false b e = refl
+or_parts : (a b : Bool) → (a || not b) ≡ false → (a ≡ false) × (b ≡ true)
+or_parts true b e = absurd cc
+or_parts false true e = (refl, refl)
+or_parts false false e = absurd cc
 
--- the tests of definitions and of the end are false
-pub record Fits (s : State) (source : SourceLine) : Type 0 where
+-- the tests of definitions, of operands and of the end
+pub record Fits (all : List Definition) (s : State) (source : SourceLine) : Type 0 where
   pub values : list_any (λ d. ltb 65535 d.value) (defined_by s.at source) ≡ false
+  pub room : list_all (fragment_fits all (next_of s source)) (fragments_of s source) ≡ true
   pub past : ltb 65536 (next_of s source) ≡ false
 
-pub none_fits : (all : List Definition) (s : State) (source : SourceLine) → None ≡ fault_of all s (Some source) → Fits s source
+pub none_fits : (all : List Definition) (s : State) (source : SourceLine) → None ≡ fault_of all s (Some source) → Fits all s source
 unfolding fault_of is_out_of_range is_past_end
 none_fits all s source h =
     let a = passed (has_unknown_cpu (operation_in source)) UnknownCpu _ h in
@@ -267,7 +269,8 @@ none_fits all s source h =
     let d = passed (is_twice s source) DefinedTwice _ c.1 in
     let e = passed (is_out_of_range all s source) OutOfRange _ d.1 in
     let f = passed (is_past_end s source) PastEnd None e.1 in
-    record { values = or_left (list_any (λ x. ltb 65535 x.value) (defined_by s.at source)) _ e.0; past = f.0 }
+    let g = or_parts (list_any (λ x. ltb 65535 x.value) (defined_by s.at source)) _ e.0 in
+    record { values = g.0; room = g.1; past = f.0 }
 
 pub small_same : (n limit : ℕ) → limit ≤ 65536 → ltb limit n ≡ false → held n ≡ n
 small_same n limit h e = omega (arith, ltb-false limit n e)
@@ -283,12 +286,14 @@ definitions_same (d ∷ ds) h = go (ltb 65535 d.value) refl (definitions_same ds
         let same : held d.value ≡ d.value = omega (arith, ltb-false 65535 d.value e) in
         ap (λ (n : ℕ). record { name = d.name; value = n; constant = d.constant } ∷ map held_definition ds) same ∙ ap (λ (l : List Definition). d ∷ l) (ih h')
 
-pub bytes_exact : (all : List Definition) (p : Placed) (s : State) (source : SourceLine) → IsPlaced p s source → None ≡ fault_of all s (Some source)
-    → flat_map (fragment_bytes all p.next) (fragments_in p.coded) ≡ bytes_of all s (Some source)
+pub bytes_exact : (all : List Definition) (p : Placed) (s : State) (source : SourceLine) (answer : Bool) (old new : List ℕ) → IsPlaced p s source → None ≡ fault_of all s (Some source)
+    → PutsAll answer all p.next (fragments_in p.coded) old new → new ≡ old ++ bytes_of all s (Some source)
 unfolding bytes_of
-bytes_exact all p s source h none =
-    let next : p.next ≡ next_of s source = h.next ∙ small_same (next_of s source) 65536 (omega arith) (none_fits all s source none).past in
-    ap (λ (n : ℕ). flat_map (fragment_bytes all n) (fragments_in p.coded)) next ∙ ap (flat_map (fragment_bytes all (next_of s source))) (fragments-placed p s source h)
+bytes_exact all p s source answer old new h none puts =
+    let fits = none_fits all s source none in
+    let next : p.next ≡ next_of s source = h.next ∙ small_same (next_of s source) 65536 (omega arith) fits.past in
+    let puts' : PutsAll answer all (next_of s source) (fragments_of s source) old new = rw (next, fragments-placed p s source h) at puts in
+    rw (puts'.says ∙ fits.room) at puts'.adds
 
 pub after_exact : (all : List Definition) (s : State) (source : SourceLine) → None ≡ fault_of all s (Some source) → held_after s (Some source) ≡ after s (Some source)
 unfolding held_after after

@@ -1,7 +1,7 @@
 -- What a pass has done, line after line.
-use Rattle.std.proofs.Common.{◌≡◌, ℕ, ◌+◌, List, [], ◌∷◌, ◌++◌, map, Option, Some, None, refl, sym, ap, ◌∙◌, append_assoc}
+use Rattle.std.proofs.Common.{◌≡◌, ℕ, ◌+◌, ◌≤◌, List, [], ◌∷◌, ◌++◌, length, map, take, arith, length-append, Option, Some, None, refl, sym, ap, ◌∙◌, append_assoc}
 use Rattle.std.specs.Prelude.{Result, Ok, Err}
-use Rattle.std.proofs.lemmas.List.{append-nil}
+use Rattle.std.proofs.lemmas.List.{append-nil, length-take-le, take_at}
 use Rattle.stmt65.specs.declared.assembling.fault.AsmFault.{AsmFault}
 use Rattle.stmt65.specs.declared.assembling.fault.AsmFaultKind.{AsmFaultKind}
 use Rattle.stmt65.specs.SourceLine.{SourceLine}
@@ -9,9 +9,11 @@ use Rattle.text65.specs.Lines.{text_lines}
 use Rattle.stmt65.specs.Lexing.{parts}
 use Rattle.stmt65.specs.Reading.{reading_of}
 use Rattle.stmt65.specs.Symbols.{Definition}
-use Rattle.stmt65.specs.Meaning.{State, after, bytes_of, coded, fault_of, final, initial, meaning, meaning_of, readings, unless, with_front}
-use Rattle.stmt65.specs.Code.MeaningViews.{held_after, held_definition, held_final}
-use Rattle.stmt65.proofs.HeldLemmas.{fault-all, bytes-all}
+use Rattle.stmt65.specs.declared.assembling.state.State.{State as CodeState}
+use Rattle.stmt65.specs.declared.assembling.state.Placed.{Placed}
+use Rattle.stmt65.specs.Meaning.{State, after, cpu_after, operation_in, bytes_of, coded, fault_of, final, initial, meaning, meaning_of, readings, unless, with_front}
+use Rattle.stmt65.specs.Code.MeaningViews.{IsPlaced, defined_in, state_of, held_after, held_definition, held_final}
+use Rattle.stmt65.proofs.HeldLemmas.{after_exact, fault-all, bytes-all}
 
 pub readings_more : (text line rest : List ℕ) → text_lines text ≡ line ∷ text_lines rest → readings text ≡ reading_of (parts line) ∷ readings rest
 readings_more text line rest e = ap (map (λ l. reading_of (parts l))) e
@@ -37,6 +39,47 @@ pub final_end : (s : State) (text : List ℕ) (all : State) → held_final s (re
 final_end s text all h e = ap (λ (t : State). t.above) (sym (final_nil s) ∙ ap (held_final s) (sym (readings_nil text e)) ∙ h)
 
 pub ruleset finals = (final_step, final_end)
+
+-- ---- the names of the second pass: those of the lines above, then those of the lines from here on
+
+held_above : (s : State) (r : Option SourceLine) → (held_after s r).above ≡ s.above ++ defined_in s r
+unfolding held_after
+held_above s None = sym (append-nil s.above)
+held_above s (Some source) = refl
+
+final_above : (s : State) (rs : List (Option SourceLine)) → (more : List Definition) × ((held_final s rs).above ≡ s.above ++ more)
+unfolding held_final
+final_above s [] = ([], sym (append-nil s.above))
+final_above s (r ∷ rs) =
+    let ih = final_above (held_after s r) rs in
+    (defined_in s r ++ ih.0, ih.1 ∙ ap (λ (ds : List Definition). ds ++ ih.0) (held_above s r) ∙ append_assoc s.above (defined_in s r) ih.0)
+
+-- the names at the next line
+pub record AtNext (names : List Definition) (n : ℕ) (s : State) (r : Option SourceLine) (rest : List ℕ) : Type 0 where
+  pub fits : n + length (defined_in s r) ≤ length names
+  pub above : take (n + length (defined_in s r)) names ≡ (held_after s r).above
+  pub whole : (held_final (held_after s r) (readings rest)).above ≡ names
+
+pub names_next : (names : List Definition) (n : ℕ) (s : State) (text line rest : List ℕ) → s.above ≡ take n names → n ≤ length names → (held_final s (readings text)).above ≡ names → text_lines text ≡ line ∷ text_lines rest
+    → AtNext names n s (reading_of (parts line)) rest
+names_next names n s text line rest e h all f =
+    let r = reading_of (parts line) in
+    let next = held_after s r in
+    let below : (held_final next (readings rest)).above ≡ names = ap (λ (t : State). t.above) (sym (final_cons s r (readings rest)) ∙ ap (held_final s) (sym (readings_more text line rest f))) ∙ all in
+    let more = final_above next (readings rest) in
+    let whole : names ≡ next.above ++ more.0 = sym below ∙ more.1 in
+    let len : length next.above ≡ n + length (defined_in s r) = omega (arith, ap length (held_above s r), length-append s.above (defined_in s r), ap length e, length-take-le n names h) in
+    record {
+      fits = omega (arith, len, ap length whole, length-append next.above more.0);
+      above = ap (take (n + length (defined_in s r))) whole ∙ take_at next.above more.0 _ len;
+      whole = below;
+    }
+
+-- what the code has after a line without a fault
+pub gone_on : (all : List Definition) (s : State) (q : CodeState) (p : Placed) (source : SourceLine) → IsPlaced p s source → None ≡ fault_of all s (Some source)
+    → q.address ≡ p.next → q.opcodes ≡ cpu_after s.cpu (operation_in source) → state_of q (after s (Some source)).above ≡ after s (Some source)
+unfolding after held_after
+gone_on all s q p source placed none address cpu = rw (address ∙ placed.next ∙ ap (λ (t : State). t.at) (after_exact all s source none), cpu) refl
 
 -- ---- the second pass; the code has the definitions `names` of all lines, held
 

@@ -1,35 +1,84 @@
 -- The table of names keeps its index.
-use Rattle.std.proofs.Common.{◌≡◌, ℕ, zero, suc, Bool, true, false, cond, ◌<◌, List, [], ◌∷◌, ◌++◌, length, map, Option, Some, None, refl, sym, ◌∙◌, arith, length-append, Bor}
-use Rattle.std.specs.Prelude.{is_some, option_and_then, Result, Ok, Err, is_err, OnOk}
-use Rattle.std.specs.Option.{option_map}
+use Rattle.std.proofs.Common.{◌≡◌, ℕ, zero, suc, Bool, true, false, cond, ◌<◌, ◌≤◌, List, [], ◌∷◌, ◌++◌, length, map, take, Option, Some, None, refl, sym, ap, ◌∙◌, arith, length-append, Bor}
+use Rattle.std.specs.Prelude.{is_some}
+use Rattle.std.specs.Option.{option_map, option_or}
 use Rattle.std.specs.List.{slice_get}
 use Rattle.std.specs.Str.{bytes_eq}
-use Rattle.std.specs.BTreeMap.{BTreeMap}
+use Rattle.std.specs.BTreeMap.{BTreeMap, get}
 use Rattle.std.specs.Map.{update}
+use Rattle.std.specs.declared.cmp.Ordering.{Ordering}
+use Rattle.std.specs.declared.cmp.Ordering.TheVariants.{Less, Equal, Greater}
+use Rattle.std.specs.Ordering.{is_eq, nat_cmp}
+use Rattle.std.proofs.lemmas.Cmp.{nat_cmp_total, tied_itself}
+use Rattle.std.proofs.lemmas.Map.Lookups.{exact_unsigned}
 use Rattle.std.proofs.lemmas.Slice.Eq.{bytes_eq-Decides}
-use Rattle.std.proofs.lemmas.List.{map-append}
+use Rattle.std.proofs.lemmas.List.{length-map, map-append}
+use Rattle.std.proofs.Math.Seq.{take-length}
 use Rattle.stmt65.specs.Symbols.{Definition, find_name}
 use Rattle.stmt65.specs.declared.assembling.symbols.Definition.{Definition as CodeDefinition}
-use Rattle.stmt65.specs.Code.SymbolViews.{definition_of, place_of, IsIndex}
+use Rattle.stmt65.specs.Code.SymbolViews.{definition_of, first_at, if_named, is_named, number_of, place_of, IsIndex}
 
 -- no names in no definitions
-pub index_empty : (ds : List CodeDefinition) (first : BTreeMap (Bor (List ℕ)) ℕ) → ds ≡ [] → first.entries ≡ [] → IsIndex ds first
-unfolding find_name
-index_empty ds first e f = rw (e, f) (λ q i h. cc, λ q. refl)
+pub index_empty : (ds : List CodeDefinition) (numbered : BTreeMap ℕ ℕ) (others : BTreeMap (Bor (List ℕ)) ℕ) → ds ≡ [] → numbered.entries ≡ [] → others.entries ≡ [] → IsIndex ds (get nat_cmp numbered) (place_of others)
+unfolding first_at
+index_empty ds numbered others e f g = rw (e, f, g) (record { within = λ n i h. cc; finds = λ q. refl })
 
-abbrev or_this : Option Definition → Bool → Definition → Option Definition
-or_this None named d = cond named (Some d) None
-or_this (Some x) named d = Some x
+pub all_names : (ds : List CodeDefinition) (n : ℕ) → n ≡ length ds → take n (map definition_of ds) ≡ map definition_of ds
+all_names ds n e = rw (e, ← length-map ds definition_of) (take-length (map definition_of ds))
 
-pub find_name-push : (q : List ℕ) (ds : List Definition) (d : Definition) → find_name q (ds ++ d ∷ []) ≡ or_this (find_name q ds) (bytes_eq d.name q) d
-unfolding find_name
-find_name-push q [] d = refl
-find_name-push q (x ∷ ds) d = go (bytes_eq x.name q) refl (find_name-push q ds d)
+-- a name is found where it stands, among the definitions up to there
+found : (q : List ℕ) (ds : List Definition) (n i : ℕ) → first_at q ds ≡ Some i → i < n → find_name q (take n ds) ≡ slice_get ds i
+unfolding find_name first_at
+found q [] n i e h = cc
+found q (x ∷ ds) zero i e h = absurd (omega arith)
+found q (x ∷ ds) (suc n) i e h = go (bytes_eq x.name q) refl (first_at q ds) refl (found q ds n)
   where
-    go : (b : Bool) → bytes_eq x.name q ≡ b → find_name q (ds ++ d ∷ []) ≡ or_this (find_name q ds) (bytes_eq d.name q) d
-        → cond (bytes_eq x.name q) (Some x) (find_name q (ds ++ d ∷ [])) ≡ or_this (cond (bytes_eq x.name q) (Some x) (find_name q ds)) (bytes_eq d.name q) d
-    go true e ih = rw e refl
-    go false e ih = rw e ih
+    go : (b : Bool) → bytes_eq x.name q ≡ b → (o : Option ℕ) → first_at q ds ≡ o → ((j : ℕ) → first_at q ds ≡ Some j → j < n → find_name q (take n ds) ≡ slice_get ds j)
+        → cond (bytes_eq x.name q) (Some x) (find_name q (take n ds)) ≡ slice_get (x ∷ ds) i
+    go true f o k ih = let e' = rw f at e in let same : i ≡ 0 = cc in rw (f, same) refl
+    go false f None k ih = let e' = rw (f, k) at e in absurd cc
+    go false f (Some j) k ih = let e' = rw (f, k) at e in let same : i ≡ suc j = cc in rw (f, same) (ih j k (omega arith))
+
+-- a name that stands nowhere there
+missed : (q : List ℕ) (ds : List Definition) (n : ℕ) → ((i : ℕ) → first_at q ds ≡ Some i → n ≤ i) → find_name q (take n ds) ≡ None
+unfolding find_name first_at
+missed q [] zero h = refl
+missed q [] (suc n) h = refl
+missed q (x ∷ ds) zero h = refl
+missed q (x ∷ ds) (suc n) h = go (bytes_eq x.name q) refl (missed q ds n)
+  where
+    go : (b : Bool) → bytes_eq x.name q ≡ b → (((i : ℕ) → first_at q ds ≡ Some i → n ≤ i) → find_name q (take n ds) ≡ None) → cond (bytes_eq x.name q) (Some x) (find_name q (take n ds)) ≡ None
+    go true f ih = absurd (let k = h 0 (rw f refl) in omega arith)
+    go false f ih = rw f (ih (λ i e. let k = h (suc i) (rw (f, e) refl) in omega arith))
+
+pub find_within : (q : List ℕ) (ds : List Definition) (n i : ℕ) (o : Option ℕ) → o ≡ first_at q ds → o ≡ Some i → i < n → slice_get ds i ≡ find_name q (take n ds)
+find_within q ds n i o e f h = sym (found q ds n i (sym e ∙ f) h)
+
+pub find_past : (q : List ℕ) (ds : List Definition) (n i : ℕ) (o : Option ℕ) → o ≡ first_at q ds → o ≡ Some i → n ≤ i → None ≡ find_name q (take n ds)
+find_past q ds n i o e f h = sym (missed q ds n (λ j g. let same : i ≡ j = cc in omega arith))
+
+pub find_none : (q : List ℕ) (ds : List Definition) (n : ℕ) (o : Option ℕ) → o ≡ first_at q ds → o ≡ None → None ≡ find_name q (take n ds)
+find_none q ds n o e f = sym (missed q ds n (λ j g. absurd cc))
+
+pub ruleset finds = (find_within, find_past, find_none)
+
+-- ---- one more definition
+
+abbrev or_here : Option ℕ → Bool → ℕ → Option ℕ
+or_here None named n = cond named (Some n) None
+or_here (Some i) named n = Some i
+
+first_at-push : (q : List ℕ) (ds : List Definition) (d : Definition) → first_at q (ds ++ d ∷ []) ≡ or_here (first_at q ds) (bytes_eq d.name q) (length ds)
+unfolding first_at
+first_at-push q [] d = refl
+first_at-push q (x ∷ ds) d = go (bytes_eq x.name q) (first_at q ds) (bytes_eq d.name q) (first_at-push q ds d)
+  where
+    go : (b : Bool) (o : Option ℕ) (c : Bool) → first_at q (ds ++ d ∷ []) ≡ or_here o c (length ds)
+        → cond b (Some 0) (option_map suc (first_at q (ds ++ d ∷ []))) ≡ or_here (cond b (Some 0) (option_map suc o)) c (suc (length ds))
+    go true o c e = refl
+    go false None true e = rw e refl
+    go false None false e = rw e refl
+    go false (Some i) c e = rw e refl
 
 slice_get-front : (ds : List CodeDefinition) (d : CodeDefinition) (i : ℕ) → i < length ds → slice_get (ds ++ d ∷ []) i ≡ slice_get ds i
 slice_get-front [] d i h = absurd (omega arith)
@@ -40,76 +89,82 @@ slice_get-last : (ds : List CodeDefinition) (d : CodeDefinition) → slice_get (
 slice_get-last [] d = refl
 slice_get-last (x ∷ ds) d = slice_get-last ds d
 
-some_within : (ds : List CodeDefinition) (i : ℕ) → i < length ds → slice_get ds i ≡ None → ⊥
-some_within [] i h e = absurd (omega arith)
-some_within (x ∷ ds) zero h e = cc
-some_within (x ∷ ds) (suc i) h e = some_within ds i (omega arith) e
+-- where a name stands first, after one more definition
+pushed : (q : List ℕ) (ds : List CodeDefinition) (d : CodeDefinition) → first_at q (map definition_of (ds ++ d ∷ [])) ≡ or_here (first_at q (map definition_of ds)) (bytes_eq d.name.now q) (length ds)
+pushed q ds d = rw (map-append, first_at-push, length-map) refl
 
--- what the index finds, in more definitions
-stays : (ds : List CodeDefinition) (d : CodeDefinition) (q : List ℕ) (i : ℕ) → i < length ds → option_map definition_of (slice_get ds i) ≡ find_name q (map definition_of ds)
-    → option_map definition_of (slice_get (ds ++ d ∷ []) i) ≡ find_name q (map definition_of (ds ++ d ∷ []))
-stays ds d q i h e = rw slice_get-front (go (slice_get ds i) refl)
+-- what a number leads to, in more definitions
+stays : (q : List ℕ) (ds : List CodeDefinition) (d : CodeDefinition) (o : Option ℕ) → ((i : ℕ) → o ≡ Some i → i < length ds) → if_named q (ds ++ d ∷ []) o ≡ if_named q ds o
+stays q ds d None h = refl
+stays q ds d (Some i) h = ap (λ (x : Option CodeDefinition). cond (is_named q x) (Some i) None) (slice_get-front ds d i (h i refl))
+
+-- another name stands where it stood
+other : (o : Option ℕ) (n : ℕ) → o ≡ or_here o false n
+other None n = refl
+other (Some i) n = refl
+
+none : (o : Option ℕ) → is_some o ≡ false → o ≡ None
+none None e = refl
+none (Some i) e = cc
+
+within_more : (ds : List CodeDefinition) (d : CodeDefinition) (i : ℕ) → i < length ds → i < length (ds ++ d ∷ [])
+within_more ds d i h = omega (arith, length-append ds (d ∷ []))
+
+same_name : (d : CodeDefinition) (q : List ℕ) → bytes_eq d.name.now q ≡ true → d.name.now ≡ q
+same_name d q e = (bytes_eq-Decides d.name.now q).0 e
+
+pub index_known : (ds : List CodeDefinition) (numbered : ℕ → Option ℕ) (others : List ℕ → Option ℕ) (d : CodeDefinition) → IsIndex ds numbered others → is_some (first_at d.name.now (map definition_of ds)) ≡ true
+    → IsIndex (ds ++ d ∷ []) numbered others
+index_known ds numbered others d h known = record {
+  within = λ n i e. within_more ds d i (h.within n i e);
+  finds = λ q. ap (λ (o : Option ℕ). option_or o (others q)) (stays q ds d (numbered (number_of q)) (h.within (number_of q))) ∙ h.finds q ∙ go q (bytes_eq d.name.now q) refl (first_at q (map definition_of ds)) refl ∙ sym (pushed q ds d);
+}
   where
-    go : (o : Option CodeDefinition) → slice_get ds i ≡ o → option_map definition_of (slice_get ds i) ≡ find_name q (map definition_of (ds ++ d ∷ []))
-    go None f = absurd (some_within ds i h f)
-    go (Some x) f =
-        let old : Some (definition_of x) ≡ find_name q (map definition_of ds) = rw f at e in
-        rw (f, map-append, find_name-push, ← old) refl
+    go : (q : List ℕ) (b : Bool) → bytes_eq d.name.now q ≡ b → (o : Option ℕ) → first_at q (map definition_of ds) ≡ o
+        → first_at q (map definition_of ds) ≡ or_here (first_at q (map definition_of ds)) (bytes_eq d.name.now q) (length ds)
+    go q true e None f = absurd (let k = rw (same_name d q e, f) at known in cc)
+    go q true e (Some i) f = rw (e, f) refl
+    go q false e o f = rw e (other (first_at q (map definition_of ds)) (length ds))
 
--- a name that the index does not find, in one more definition
-misses : (ds : List CodeDefinition) (d : CodeDefinition) (q : List ℕ) → None ≡ find_name q (map definition_of ds) → bytes_eq d.name.now q ≡ false
-    → None ≡ find_name q (map definition_of (ds ++ d ∷ []))
-misses ds d q e apart = rw (map-append, find_name-push, ← e, apart) refl
-
-pub index_known : (ds : List CodeDefinition) (first : BTreeMap (Bor (List ℕ)) ℕ) (d : CodeDefinition) → IsIndex ds first → is_some (place_of first d.name.now) ≡ true → IsIndex (ds ++ d ∷ []) first
-index_known ds first d h known = (λ q i e. let k = h.0 q i e in omega (arith, length-append ds (d ∷ [])), λ q. go q (place_of first q) refl)
+pub index_other : (ds : List CodeDefinition) (numbered : ℕ → Option ℕ) (others next : List ℕ → Option ℕ) (d : CodeDefinition) (n : ℕ) → IsIndex ds numbered others → is_some (first_at d.name.now (map definition_of ds)) ≡ false → n ≡ length ds
+    → ((q : List ℕ) → next q ≡ update bytes_eq others d.name.now (Some n) q) → IsIndex (ds ++ d ∷ []) numbered next
+index_other ds numbered others next d n h unknown is now = record {
+  within = λ m i e. within_more ds d i (h.within m i e);
+  finds = λ q. ap (λ (o : Option ℕ). option_or o (next q)) (stays q ds d (numbered (number_of q)) (h.within (number_of q))) ∙ go q (bytes_eq d.name.now q) refl (if_named q ds (numbered (number_of q))) (h.finds q) ∙ sym (pushed q ds d);
+}
   where
-    named : (q : List ℕ) (b : Bool) → bytes_eq d.name.now q ≡ b → place_of first q ≡ None → bytes_eq d.name.now q ≡ false
-    named q true e f = let same = (bytes_eq-Decides d.name.now q).0 e in let here : is_some (place_of first q) ≡ true = rw (← same) known in let t = rw f at here in cc
-    named q false e f = e
+    go : (q : List ℕ) (b : Bool) → bytes_eq d.name.now q ≡ b → (o : Option ℕ) → option_or o (others q) ≡ first_at q (map definition_of ds)
+        → option_or o (next q) ≡ or_here (first_at q (map definition_of ds)) (bytes_eq d.name.now q) (length ds)
+    go q true e None f = let k = none _ (rw (same_name d q e) at unknown) in rw (now q, e, k, is) refl
+    go q true e (Some i) f = absurd (let k = none _ (rw (same_name d q e) at unknown) in cc)
+    go q false e o f = rw (now q, e) (f ∙ other (first_at q (map definition_of ds)) (length ds))
 
-    go : (q : List ℕ) (o : Option ℕ) → place_of first q ≡ o → option_map definition_of (option_and_then (slice_get (ds ++ d ∷ [])) (place_of first q)) ≡ find_name q (map definition_of (ds ++ d ∷ []))
-    go q None e = let old = rw e at (h.1 q) in rw e (misses ds d q old (named q (bytes_eq d.name.now q) refl e))
-    go q (Some i) e = let old = rw e at (h.1 q) in rw e (stays ds d q i (h.0 q i e) old)
-
-pub index_added : (ds : List CodeDefinition) (first next : BTreeMap (Bor (List ℕ)) ℕ) (d : CodeDefinition) (n : ℕ) → IsIndex ds first → is_some (place_of first d.name.now) ≡ false → n ≡ length ds
-    → ((q : List ℕ) → place_of next q ≡ update bytes_eq (place_of first) d.name.now (Some n) q) → IsIndex (ds ++ d ∷ []) next
-index_added ds first next d n h unknown is now = (λ q i e. bound q i (bytes_eq d.name.now q) refl (sym (now q) ∙ e), λ q. go q (bytes_eq d.name.now q) refl)
+-- the number of a name, if it is that of no other
+pub index_numbered : (ds : List CodeDefinition) (numbered next : ℕ → Option ℕ) (others : List ℕ → Option ℕ) (d : CodeDefinition) (m n : ℕ) → IsIndex ds numbered others → is_some (first_at d.name.now (map definition_of ds)) ≡ false → n ≡ length ds
+    → m ≡ number_of d.name.now → is_some (numbered m) ≡ false → ((k : ℕ) → next k ≡ cond (is_eq (nat_cmp m k)) (Some n) (numbered k)) → IsIndex (ds ++ d ∷ []) next others
+index_numbered ds numbered next others d m n h unknown is number free now = record {
+  within = λ k i e. bound k i (is_eq (nat_cmp m k)) refl (sym (now k) ∙ e);
+  finds = λ q. go q (nat_cmp m (number_of q)) refl (bytes_eq d.name.now q) refl ∙ sym (pushed q ds d);
+}
   where
-    bound : (q : List ℕ) (i : ℕ) (b : Bool) → bytes_eq d.name.now q ≡ b → update bytes_eq (place_of first) d.name.now (Some n) q ≡ Some i → i < length (ds ++ d ∷ [])
-    bound q i true e f = let f' = rw e at f in let same : n ≡ i = cc in omega (arith, length-append ds (d ∷ []))
-    bound q i false e f = let f' = rw e at f in let k = h.0 q i f' in omega (arith, length-append ds (d ∷ []))
+    bound : (k i : ℕ) (b : Bool) → is_eq (nat_cmp m k) ≡ b → cond (is_eq (nat_cmp m k)) (Some n) (numbered k) ≡ Some i → i < length (ds ++ d ∷ [])
+    bound k i true e f = let f' = rw e at f in let same : n ≡ i = cc in omega (arith, length-append ds (d ∷ []))
+    bound k i false e f = let f' = rw e at f in within_more ds d i (h.within k i f')
 
-    none : (o : Option ℕ) → is_some o ≡ false → o ≡ None
-    none None e = refl
-    none (Some x) e = cc
+    -- a name with another number
+    apart : (q : List ℕ) → is_eq (nat_cmp m (number_of q)) ≡ false → bytes_eq d.name.now q ≡ false → option_or (if_named q (ds ++ d ∷ []) (next (number_of q))) (others q) ≡ or_here (first_at q (map definition_of ds)) (bytes_eq d.name.now q) (length ds)
+    apart q e f = rw (now (number_of q), e, f) (ap (λ (o : Option ℕ). option_or o (others q)) (stays q ds d (numbered (number_of q)) (h.within (number_of q))) ∙ h.finds q ∙ other (first_at q (map definition_of ds)) (length ds))
 
-    go : (q : List ℕ) (b : Bool) → bytes_eq d.name.now q ≡ b → option_map definition_of (option_and_then (slice_get (ds ++ d ∷ [])) (place_of next q)) ≡ find_name q (map definition_of (ds ++ d ∷ []))
-    go q true e =
-        let same = (bytes_eq-Decides d.name.now q).0 e in
-        let here : place_of first q ≡ None = rw (← same) (none (place_of first d.name.now) unknown) in
-        let old = rw here at (h.1 q) in
-        rw (now q, e, is, slice_get-last, map-append, find_name-push, ← old, e) refl
-    go q false e = rw (now q, e) (other (place_of first q) refl)
-      where
-        other : (o : Option ℕ) → place_of first q ≡ o → option_map definition_of (option_and_then (slice_get (ds ++ d ∷ [])) (place_of first q)) ≡ find_name q (map definition_of (ds ++ d ∷ []))
-        other None f = let old = rw f at (h.1 q) in rw f (misses ds d q old e)
-        other (Some i) f = let old = rw f at (h.1 q) in rw f (stays ds d q i (h.0 q i f) old)
+    differs : (q : List ℕ) (b : Bool) → bytes_eq d.name.now q ≡ b → is_eq (nat_cmp m (number_of q)) ≡ false → bytes_eq d.name.now q ≡ false
+    differs q true e f = absurd (let same = rw (number, same_name d q e, tied_itself nat_cmp_total (number_of q)) at f in cc)
+    differs q false e f = e
 
--- what holds of a call that has succeeded
-pub on_ok : {T E : Type 0} (r : Result T E) (P : Type 0) → is_err r ≡ false → OnOk r P → P
-on_ok (Ok x) P e h = h
-on_ok (Err x) P e h = cc
-
--- an index in which the name leads to its first definition again
-pub index_again : (ds : List CodeDefinition) (first middle next : BTreeMap (Bor (List ℕ)) ℕ) (d : CodeDefinition) (n i : ℕ) → IsIndex ds first → place_of first d.name.now ≡ Some i
-    → ((q : List ℕ) → place_of middle q ≡ update bytes_eq (place_of first) d.name.now (Some n) q)
-    → ((q : List ℕ) → place_of next q ≡ update bytes_eq (place_of middle) d.name.now (Some i) q) → IsIndex (ds ++ d ∷ []) next
-index_again ds first middle next d n i h e one two = (λ q j f. k.0 q j (sym (same q (bytes_eq d.name.now q) refl) ∙ f), λ q. rw (same q (bytes_eq d.name.now q) refl) (k.1 q))
-  where
-    k : IsIndex (ds ++ d ∷ []) first
-    k = index_known ds first d h (rw e refl)
-
-    same : (q : List ℕ) (b : Bool) → bytes_eq d.name.now q ≡ b → place_of next q ≡ place_of first q
-    same q true f = let name = (bytes_eq-Decides d.name.now q).0 f in two q ∙ rw f (sym (rw name at e))
-    same q false f = two q ∙ rw f (one q ∙ rw f refl)
+    go : (q : List ℕ) (o : Ordering) → nat_cmp m (number_of q) ≡ o → (b : Bool) → bytes_eq d.name.now q ≡ b
+        → option_or (if_named q (ds ++ d ∷ []) (next (number_of q))) (others q) ≡ or_here (first_at q (map definition_of ds)) (bytes_eq d.name.now q) (length ds)
+    go q Less e b f = let k = ap is_eq e in apart q k (differs q b f k)
+    go q Greater e b f = let k = ap is_eq e in apart q k (differs q b f k)
+    go q Equal e true f = let k = none _ (rw (same_name d q f) at unknown) in rw (now (number_of q), e, is, slice_get-last, f, k) refl
+    go q Equal e false f =
+        let same : m ≡ number_of q = exact_unsigned m (number_of q) e in
+        let old = rw (none _ (rw same at free)) at (h.finds q) in
+        rw (now (number_of q), e, is, slice_get-last, f) (old ∙ other (first_at q (map definition_of ds)) (length ds))

@@ -1,7 +1,8 @@
 -- What the fragments of a statement stand for.
-use Rattle.std.specs.Prelude.{◌≡◌, ℕ, suc, List, [], ◌∷◌, length, map, Option}
+use Rattle.std.specs.Prelude.{◌≡◌, ℕ, suc, Bool, List, [], ◌∷◌, ◌++◌, length, map, Option}
 use Rattle.std.specs.Option.{option_map}
-use Rattle.std.specs.List.{flat_map}
+use Rattle.std.specs.Bool.{OnTrue}
+use Rattle.std.specs.List.{flat_map, list_all}
 use Rattle.isa65.specs.declared.cpu.Cpu.{Cpu}
 use Rattle.isa65.specs.declared.mnemonic.Mnemonic.{Mnemonic}
 use Rattle.isa65.specs.declared.mode.Mode.{Mode}
@@ -17,7 +18,8 @@ use Rattle.stmt65.specs.declared.assembling.pieces.Piece.{Piece as CodePiece}
 use Rattle.stmt65.specs.declared.assembling.pieces.Piece.TheVariants as code_piece
 use Rattle.stmt65.specs.declared.source_line.Value.{Value as CodeValue}
 use Rattle.stmt65.specs.declared.source_line.Datum.{Datum as CodeDatum}
-use Rattle.stmt65.specs.Coding.{Fragment, Fixed, Single, ZeroPage, Oversized, Entry, Distance, Way, datum_fragments, first_way}
+use Rattle.stmt65.specs.Coding.{Fragment, Fixed, Single, ZeroPage, Oversized, Entry, Distance, Way, datum_fragments, first_way, fragment_fits, fragment_bytes}
+use Rattle.stmt65.specs.Symbols.{Definition}
 use Rattle.stmt65.specs.Code.SourceLineViews.{value_of, datum_of}
 
 abbrev pub fragment_of : CodeFragment → Fragment
@@ -74,3 +76,12 @@ pieces_left (code_coded.Instruction i) = suc (operands_left i.operand)
 pieces_left (code_coded.Operand o) = operands_left o
 pieces_left (code_coded.Data ds) = length ds.now
 pieces_left (code_coded.Values d vs) = length vs.now
+
+-- Bytes are added, if the values that they stand for have room; the answer says whether they have.
+pub record Puts (answer fits : Bool) (bytes old new : List ℕ) : Type 0 where
+  pub says : answer ≡ fits
+  pub adds : OnTrue answer (new ≡ old ++ bytes)
+
+-- the same of the bytes of a coding, with the address after it
+abbrev pub PutsAll : Bool → List Definition → ℕ → List Fragment → List ℕ → List ℕ → Type 0
+PutsAll answer all next fs old new = Puts answer (list_all (fragment_fits all next) fs) (flat_map (fragment_bytes all next) fs) old new

@@ -1,22 +1,23 @@
 -- What the assembler's values stand for.
-use Rattle.std.specs.Prelude.{◌≡◌, ◌++◌, List, [], ◌∷◌, map, Option, Some, None, unwrap_or}
+use Rattle.std.specs.Prelude.{◌≡◌, ◌+◌, ◌≤◌, ◌++◌, List, [], ◌∷◌, length, map, take, Option, Some, None, unwrap_or}
 use Rattle.std.specs.Option.{option_map, option_to_list}
 use Rattle.stmt65.specs.declared.assembling.coding.Coded.{Coded as CodeCoded}
 use Rattle.stmt65.specs.declared.assembling.symbols.Definition.{Definition as CodeDefinition}
 use Rattle.stmt65.specs.declared.assembling.state.State.{State as CodeState}
 use Rattle.stmt65.specs.declared.assembling.state.Placed.{Placed}
+use Rattle.stmt65.specs.declared.assembling.assembler.Pass.{Pass}
 use Rattle.stmt65.specs.SourceLine.{SourceLine}
 use Rattle.stmt65.specs.Symbols.{Definition}
 use Rattle.stmt65.specs.Code.SymbolViews.{definition_of}
 use Rattle.stmt65.specs.Coding.{Fragment, coding}
 use Rattle.stmt65.specs.Code.CodingViews.{coded_of}
 use Rattle.stmt65.specs.Code.Held.{held}
-use Rattle.stmt65.specs.Meaning.{State, next_of, cpu_after, operation_in, defined_by}
+use Rattle.stmt65.specs.Meaning.{State, after, next_of, cpu_after, operation_in, defined_by}
 
 -- ---- a line
 
-abbrev pub state_of : {A : Type 0} → CodeState A → State
-state_of s = record { at = s.address; cpu = s.opcodes; above = s.above }
+abbrev pub state_of : CodeState → List Definition → State
+state_of s above = record { at = s.address; cpu = s.opcodes; above = above }
 
 -- a definition as the code holds it
 abbrev pub held_definition : Definition → Definition
@@ -43,3 +44,21 @@ held_after s (Some source) = record { at = held (next_of s source); cpu = cpu_af
 unfoldable pub held_final : State → List (Option SourceLine) → State
 held_final s [] = s
 held_final s (l ∷ ls) = held_final (held_after s l) ls
+
+-- ---- the second pass
+
+-- what stands above the next line
+abbrev pub state_in : {A : Type 0} → Pass A → State
+state_in p = state_of p.state (take p.count p.names.now)
+
+-- what a line defines, as the code holds it
+abbrev pub defined_in : State → Option SourceLine → List Definition
+defined_in s None = []
+defined_in s (Some source) = map held_definition (defined_by s.at source)
+
+-- the pass has gone on below a line; its definitions are counted if the names have them
+pub record GoesOn {A : Type 0} (p q : Pass A) (line : Option SourceLine) : Type 0 where
+  pub names : q.names.now ≡ p.names.now
+  pub state : state_of q.state (after (state_in p) line).above ≡ after (state_in p) line
+  pub held : held_after (state_in p) line ≡ after (state_in p) line
+  pub count : p.count + length (defined_in (state_in p) line) ≤ length p.names.now → q.count ≡ p.count + length (defined_in (state_in p) line)

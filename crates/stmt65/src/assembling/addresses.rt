@@ -7,6 +7,7 @@ ghost use Rattle.stmt65.specs.Code.Held.{held};
 
 use crate::assembling::assembler::pass_line;
 use crate::assembling::state::first_state;
+use crate::assembling::symbols::Symbols;
 use std::alloc::{AllocError, Allocator};
 use text65::first_line;
 
@@ -22,10 +23,11 @@ pub fn line_addresses<A: Allocator + Clone>(
     ensures exact { IfOk result (λ found. IfOk (meaning start text.now) (λ _. found.items ≡ line_addresses start (readings text.now))) }
 {
     let mut found = Vec::new(alloc.clone()?);
-    let mut state = first_state(&alloc, start)?;
+    let mut names = Symbols::new(&alloc)?;
+    let mut state = first_state(start);
     let mut rest = text;
     'lines: while let Some((line, after)) = first_line(rest) {
-        pass_line(&alloc, &mut state, line)?;
+        pass_line(&alloc, &mut state, &mut names, line)?;
         found.push(state.address)?;
         rest = after;
     }

@@ -1,39 +1,72 @@
 //! The assembler: two passes over the lines of a text.
 
-ghost use Rattle.std.specs.Prelude.{◌≡◌, ◌++◌, Some, IfOk, OnOk, IfNone};
-ghost use Rattle.std.specs.List.{flat_map};
+ghost use Rattle.std.specs.Prelude.{◌≡◌, ◌+◌, ◌++◌, [], Some, IfOk, OnOk, IfNone, length, min};
 ghost use Rattle.stmt65.specs.Lexing.{parts};
 ghost use Rattle.stmt65.specs.Reading.{reading_of};
 ghost use Rattle.stmt65.specs.Code.SourceLineViews.{source_of};
-ghost use Rattle.stmt65.specs.Coding.{fragment_bytes};
-ghost use Rattle.stmt65.specs.Meaning.{after, bytes_of, fault_of, initial, meaning, readings};
-ghost use Rattle.stmt65.specs.Code.MeaningViews.{state_of, fragments_in, held_after, held_final};
+ghost use Rattle.stmt65.specs.Code.CodingViews.{PutsAll};
+ghost use Rattle.stmt65.specs.Meaning.{bytes_of, fault_of, initial, meaning, readings};
+ghost use Rattle.stmt65.specs.Code.MeaningViews.{GoesOn, state_in, state_of, definitions_in, fragments_in, held_after, held_final};
 ghost use Rattle.stmt65.specs.Answer.{Assembles};
 
 use crate::assembling::emit::put_coded;
 use crate::assembling::fault::{AsmFault, AsmFaultKind};
 use crate::assembling::line_faults::fault_of;
 use crate::assembling::state::{Placed, State, advance, first_state, place};
-use crate::assembling::symbols::Symbols;
+use crate::assembling::symbols::{Definition, Names, Symbols};
 use crate::reading::whole_line::read_line;
 use crate::source_line::SourceLine;
 use std::alloc::{AllocError, Allocator};
 use text65::first_line;
 
-/// Goes on below a line, whatever it says.
+/// How far the second pass has come in a text with these names.
+#[derive(Drop)]
+struct Pass<'t, 'a, A: Allocator> {
+    names: &'t Symbols<'a, A>,
+    /// How many definitions stand above.
+    count: usize,
+    state: State,
+}
+
+fn define<'a, A: Allocator + Clone>(
+    names: &mut Symbols<'a, A>,
+    definition: Option<Definition<'a>>,
+) -> Result<(), AllocError>
+    ensures { OnOk result (names.new ≡ names.old ++ definitions_in definition.entry) }
+{
+    match definition {
+        Some(definition) => names.define(definition),
+        None => Ok(()),
+    }
+}
+
+/// Goes on below a line.
+#[tactic(auto, unfolding(crate::specs::Code::MeaningViews::held_after))]
+fn pass_source<'a, A: Allocator + Clone, B: Allocator>(
+    state: &mut State,
+    names: &mut Symbols<'a, A>,
+    source: &SourceLine<'a, B>,
+) -> Result<(), AllocError>
+    ensures { OnOk result (state_of state.new names.new ≡ held_after (state_of state.old names.old) (Some (source_of source.now))) }
+{
+    let placed = place(state, &names.all(), source);
+    define(names, placed.definition)?;
+    advance(state, source, placed);
+    Ok(())
+}
+
+/// The same, whatever is written there.
 #[tactic(auto, unfolding(crate::specs::Code::MeaningViews::held_after))]
 pub fn pass_line<'a, 'b, A: Allocator>(
     alloc: &'b A,
-    state: &mut State<'a, &'b A>,
+    state: &mut State,
+    names: &mut Symbols<'a, &'b A>,
     line: &'a [u8],
 ) -> Result<(), AllocError>
-    ensures { OnOk result (state_of state.new ≡ held_after (state_of state.old) (reading_of (parts line.now))) }
+    ensures { OnOk result (state_of state.new names.new ≡ held_after (state_of state.old names.old) (reading_of (parts line.now))) }
 {
     match read_line(alloc, line)? {
-        Some(source) => {
-            let placed = place(state, &source);
-            advance(state, &source, placed)
-        }
+        Some(source) => pass_source(state, names, &source),
         None => Ok(()),
     }
 }
@@ -47,45 +80,59 @@ pub fn names_of<'a, 'b, A: Allocator>(
 ) -> Result<Symbols<'a, &'b A>, AllocError>
     ensures { IfOk result (λ names. names ≡ (held_final (initial start) (readings text.now)).above) }
 {
-    let mut state = first_state(alloc, start)?;
+    let mut names = Symbols::new(alloc)?;
+    let mut state = first_state(start);
     let mut rest = text;
     'lines: while let Some((line, after)) = first_line(rest) {
-        pass_line(alloc, &mut state, line)?;
+        pass_line(alloc, &mut state, &mut names, line)?;
         rest = after;
     }
-    Ok(state.above)
+    Ok(names)
 }
 
 fn put_placed<A: Allocator + Clone, B: Allocator>(
     out: &mut Vec<u8, B>,
-    all: &Symbols<'_, A>,
+    all: &Names<'_, '_, A>,
     placed: Placed,
-) -> Result<(), AllocError>
-    ensures { OnOk result (out.new.items ≡ out.old.items ++ flat_map (fragment_bytes all.now placed.entry.next) (fragments_in placed.entry.coded)) }
+) -> Result<bool, AllocError>
+    ensures { IfOk result (λ fits. PutsAll fits all.now placed.entry.next (fragments_in placed.entry.coded) out.old.items out.new.items) }
 {
     match placed.coded {
         Some(coded) => put_coded(out, all, placed.next, coded),
-        None => Ok(()),
+        None => Ok(true),
+    }
+}
+
+/// How many definitions stand below a line.
+fn count_below(count: usize, definition: Option<Definition>) -> usize
+    ensures { result ≡ min (count + length (definitions_in definition.entry)) 18446744073709551615 }
+{
+    match definition {
+        Some(_) => count.saturating_add(1),
+        None => count,
     }
 }
 
 /// Adds the bytes of a line and goes on below it, or gives its lowest fault.
 fn code_source<'a, A: Allocator + Clone, B: Allocator, C: Allocator>(
-    all: &Symbols<'_, A>,
-    state: &mut State<'a, A>,
+    pass: &mut Pass<'_, 'a, A>,
     source: &SourceLine<'a, B>,
     out: &mut Vec<u8, C>,
 ) -> Result<Option<AsmFaultKind>, AllocError>
-    ensures fault { IfOk result (λ kind. kind ≡ fault_of all.now (state_of state.old) (Some (source_of source.now))) }
-    ensures bytes { IfOk result (λ kind. IfNone kind (out.new.items ≡ out.old.items ++ bytes_of all.now (state_of state.old) (Some (source_of source.now)))) }
-    ensures below { IfOk result (λ kind. IfNone kind (state_of state.new ≡ after (state_of state.old) (Some (source_of source.now)))) }
+    ensures fault { IfOk result (λ kind. kind ≡ fault_of pass.old.names.now (state_in pass.old) (Some (source_of source.now))) }
+    ensures bytes { IfOk result (λ kind. IfNone kind (out.new.items ≡ out.old.items ++ bytes_of pass.old.names.now (state_in pass.old) (Some (source_of source.now)))) }
+    ensures below { IfOk result (λ kind. IfNone kind (GoesOn pass.old pass.new (Some (source_of source.now)))) }
 {
-    let placed = place(state, source);
-    if let Some(kind) = fault_of(all, state, source, placed) {
+    let names = pass.names;
+    let all = names.all();
+    let above = names.first(pass.count);
+    let placed = place(&pass.state, &above, source);
+    let has_room = put_placed(out, &all, placed)?;
+    if let Some(kind) = fault_of(&all, &above, source, placed, has_room) {
         return Ok(Some(kind));
     }
-    put_placed(out, all, placed)?;
-    advance(state, source, placed)?;
+    pass.count = count_below(pass.count, placed.definition);
+    advance(&mut pass.state, source, placed);
     Ok(None)
 }
 
@@ -93,19 +140,48 @@ fn code_source<'a, A: Allocator + Clone, B: Allocator, C: Allocator>(
 #[tactic(auto, unfolding(crate::specs::Meaning::fault_of))]
 fn code_line<'a, 'b, A: Allocator, C: Allocator>(
     alloc: &'b A,
-    all: &Symbols<'_, &'b A>,
-    state: &mut State<'a, &'b A>,
+    pass: &mut Pass<'_, 'a, &'b A>,
     line: &'a [u8],
     out: &mut Vec<u8, C>,
 ) -> Result<Option<AsmFaultKind>, AllocError>
-    ensures fault { IfOk result (λ kind. kind ≡ fault_of all.now (state_of state.old) (reading_of (parts line.now))) }
-    ensures bytes { IfOk result (λ kind. IfNone kind (out.new.items ≡ out.old.items ++ bytes_of all.now (state_of state.old) (reading_of (parts line.now)))) }
-    ensures below { IfOk result (λ kind. IfNone kind (state_of state.new ≡ after (state_of state.old) (reading_of (parts line.now)))) }
+    ensures fault { IfOk result (λ kind. kind ≡ fault_of pass.old.names.now (state_in pass.old) (reading_of (parts line.now))) }
+    ensures bytes { IfOk result (λ kind. IfNone kind (out.new.items ≡ out.old.items ++ bytes_of pass.old.names.now (state_in pass.old) (reading_of (parts line.now)))) }
+    ensures below { IfOk result (λ kind. IfNone kind (GoesOn pass.old pass.new (reading_of (parts line.now)))) }
 {
     match read_line(alloc, line)? {
-        Some(source) => code_source(all, state, &source, out),
+        Some(source) => code_source(pass, &source, out),
         None => Ok(Some(AsmFaultKind::Syntax)),
     }
+}
+
+/// Adds the bytes of a text by the names that it defines.
+#[tactic(auto, unfolding(crate::specs::Meaning::meaning))]
+fn code_text<'a, 'b, A: Allocator, C: Allocator + Drop>(
+    alloc: &'b A,
+    names: &Symbols<'a, &'b A>,
+    text: &'a [u8],
+    start: u16,
+    mut out: Vec<u8, C>,
+) -> Result<Vec<u8, C>, AsmFault>
+    requires names { names.now ≡ (held_final (initial start) (readings text.now)).above }
+    requires empty { out.items ≡ [] }
+    ensures { Assembles result (meaning start text.now) }
+{
+    let mut pass = Pass {
+        names,
+        count: 0,
+        state: first_state(start),
+    };
+    let mut rest = text;
+    let mut number = 1;
+    'lines: while let Some((line, after)) = first_line(rest) {
+        if let Some(kind) = code_line(alloc, &mut pass, line, &mut out)? {
+            return Err(AsmFault { line: number, kind });
+        }
+        rest = after;
+        number += 1;
+    }
+    Ok(out)
 }
 
 /// The bytes that a text of ca65 assembler means from a start address, or the fault of its lowest
@@ -117,7 +193,6 @@ fn code_line<'a, 'b, A: Allocator, C: Allocator>(
 /// defined as `name := number` on a line above.
 ///
 /// A fault of kind `Memory`, at line 0, comes only if an allocation was refused.
-#[tactic(auto, unfolding(crate::specs::Meaning::meaning))]
 pub fn assemble<A: Allocator + Clone>(
     alloc: A,
     text: &[u8],
@@ -125,17 +200,7 @@ pub fn assemble<A: Allocator + Clone>(
 ) -> Result<Vec<u8, A>, AsmFault>
     ensures { Assembles result (meaning start text.now) }
 {
-    let mut out = Vec::new(alloc.clone()?);
-    let all = names_of(&alloc, text, start)?;
-    let mut state = first_state(&alloc, start)?;
-    let mut rest = text;
-    let mut number = 1;
-    'lines: while let Some((line, after)) = first_line(rest) {
-        if let Some(kind) = code_line(&alloc, &all, &mut state, line, &mut out)? {
-            return Err(AsmFault { line: number, kind });
-        }
-        rest = after;
-        number += 1;
-    }
-    Ok(out)
+    let out = Vec::new(alloc.clone()?);
+    let names = names_of(&alloc, text, start)?;
+    code_text(&alloc, &names, text, start, out)
 }

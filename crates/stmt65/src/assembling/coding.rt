@@ -8,7 +8,7 @@ ghost use Rattle.stmt65.specs.declared.source_line.AddressSize.TheVariants.{Auto
 ghost use Rattle.stmt65.specs.Coding.{word_operand, zero_page, zero_page_first, by_size, ways, coding};
 ghost use Rattle.stmt65.specs.Code.CodingViews.{fragment_of, way_of, IsFirstWay, coded_of};
 
-use crate::assembling::symbols::Symbols;
+use crate::assembling::symbols::Names;
 use crate::assembling::values::has_zero_page_size;
 use crate::directive::Directive;
 use crate::source_line::{AddressSize, Datum, Form, Operation, Value};
@@ -97,7 +97,7 @@ fn word_operand(value: Value<'_>) -> Fragment<'_>
 }
 
 /// An operand that only the zero page has.
-fn zero_page<'a, A: Allocator + Clone>(above: &Symbols<'_, A>, value: Value<'a>) -> Fragment<'a>
+fn zero_page<'a, A: Allocator + Clone>(above: &Names<'_, '_, A>, value: Value<'a>) -> Fragment<'a>
     ensures { fragment_of result ≡ zero_page above.now (value_of value.entry) }
 {
     if has_zero_page_size(above, value) {
@@ -110,7 +110,7 @@ fn zero_page<'a, A: Allocator + Clone>(above: &Symbols<'_, A>, value: Value<'a>)
 /// The zero-page mode first if the operand has that size, else the absolute one.
 fn by_size<'a, A: Allocator + Clone>(
     opcodes: &EncodeTable,
-    above: &Symbols<'_, A>,
+    above: &Names<'_, '_, A>,
     mnemonic: Mnemonic,
     short: Mode,
     long: Mode,
@@ -131,7 +131,7 @@ fn by_size<'a, A: Allocator + Clone>(
 #[tactic(auto, using(crate::proofs::CodingLemmas::after_sizes), unfolding(crate::specs::Coding::ways))]
 fn direct<'a, A: Allocator + Clone>(
     opcodes: &EncodeTable,
-    above: &Symbols<'_, A>,
+    above: &Names<'_, '_, A>,
     mnemonic: Mnemonic,
     value: Value<'a>,
 ) -> Option<Instruction<'a>>
@@ -162,7 +162,7 @@ fn absolute<'a>(
 /// A mode that only the zero page has, else one that takes either size.
 fn indirect<'a, A: Allocator + Clone>(
     opcodes: &EncodeTable,
-    above: &Symbols<'_, A>,
+    above: &Names<'_, '_, A>,
     mnemonic: Mnemonic,
     short: Mode,
     long: Mode,
@@ -179,7 +179,7 @@ fn indirect<'a, A: Allocator + Clone>(
 #[tactic(auto, unfolding(crate::specs::Coding::ways))]
 fn instruction_in<'a, A: Allocator + Clone>(
     opcodes: &EncodeTable,
-    above: &Symbols<'_, A>,
+    above: &Names<'_, '_, A>,
     mnemonic: Mnemonic,
     form: Form<'a>,
 ) -> Option<Instruction<'a>>
@@ -230,7 +230,7 @@ fn instruction_in<'a, A: Allocator + Clone>(
 #[tactic(auto, unfolding(crate::specs::Coding::coding))]
 pub fn coding<'s, 'a, A: Allocator + Clone, B: Allocator>(
     opcodes: &EncodeTable,
-    above: &Symbols<'_, A>,
+    above: &Names<'_, '_, A>,
     operation: &'s Operation<'a, B>,
 ) -> Option<Coded<'s, 'a>>
     ensures { option_map coded_of result ≡ coding opcodes.now above.now (operation_of operation.now) }

@@ -48,13 +48,13 @@ impl<'a, 'b, A: Allocator> Definitions<'a, 'b, A> {
     pub fn is_known(&self, value: Value<'_>) -> bool
         ensures { result ≡ is_known self.now (value_of value.entry) }
     {
-        is_known(&self.names, value)
+        is_known(&self.names.all(), value)
     }
 
     /// The value of the expression if it is from 0 to $FFFF, as `.word` takes it.
     pub fn word(&self, value: Value<'_>) -> Option<u16>
         ensures { result ≡ word_in self.now (value_of value.entry) }
     {
-        word_in(&self.names, value)
+        word_in(&self.names.all(), value)
     }
 }

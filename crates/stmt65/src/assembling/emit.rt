@@ -1,16 +1,16 @@
 //! The length of a coding, whether it can be emitted, and its bytes.
 
-ghost use Rattle.std.specs.Prelude.{◌≡◌, ◌≤◌, ◌++◌, OnOk};
-ghost use Rattle.std.specs.List.{list_all, flat_map};
-ghost use Rattle.stmt65.specs.Coding.{is_fragment_known, fragment_len, fragment_fits, fragment_bytes, coding_len};
-ghost use Rattle.stmt65.specs.Code.CodingViews.{fragment_of, operand_of, instruction_of, piece_of, coded_of};
+ghost use Rattle.std.specs.Prelude.{◌≡◌, IfOk};
+ghost use Rattle.std.specs.List.{list_all};
+ghost use Rattle.stmt65.specs.Coding.{is_fragment_known, fragment_len, coding_len};
+ghost use Rattle.stmt65.specs.Code.CodingViews.{PutsAll, fragment_of, operand_of, instruction_of, piece_of, coded_of};
 ghost use Rattle.stmt65.specs.Code.Held.{held};
 
 use crate::assembling::coding::{Coded, Fragment, Instruction, Operand};
 use crate::assembling::entries::size;
-use crate::assembling::fragment_bytes::{fragment_fits, is_fragment_known, put_fragment};
+use crate::assembling::fragment_bytes::{is_fragment_known, put_fragment};
 use crate::assembling::pieces::{Piece, first_piece};
-use crate::assembling::symbols::Symbols;
+use crate::assembling::symbols::Names;
 use std::alloc::{AllocError, Allocator};
 
 fn fragment_len(fragment: Fragment) -> u64
@@ -73,7 +73,7 @@ pub fn coded_len(coded: Coded) -> u64
     }
 }
 
-fn is_piece_known<A: Allocator + Clone>(names: &Symbols<'_, A>, piece: Piece) -> bool
+fn is_piece_known<A: Allocator + Clone>(names: &Names<'_, '_, A>, piece: Piece) -> bool
     ensures { result ≡ list_all (is_fragment_known names.now) (piece_of piece.entry) }
 {
     match piece {
@@ -82,9 +82,9 @@ fn is_piece_known<A: Allocator + Clone>(names: &Symbols<'_, A>, piece: Piece) ->
     }
 }
 
-/// The same piece by piece.
+/// Whether each name in the coding has a definition.
 #[tactic(auto, using(crate::proofs::CodingLemmas::list_all_append))]
-fn are_pieces_known<A: Allocator + Clone>(names: &Symbols<'_, A>, coded: Coded) -> bool
+pub fn are_known<A: Allocator + Clone>(names: &Names<'_, '_, A>, coded: Coded) -> bool
     ensures { result ≡ list_all (is_fragment_known names.now) (coded_of coded.entry) }
 {
     let mut rest = coded;
@@ -97,145 +97,84 @@ fn are_pieces_known<A: Allocator + Clone>(names: &Symbols<'_, A>, coded: Coded) 
     true
 }
 
-fn is_operand_known<A: Allocator + Clone>(names: &Symbols<'_, A>, operand: Operand) -> bool
-    ensures { result ≡ list_all (is_fragment_known names.now) (operand_of operand.entry) }
-{
-    match operand {
-        Operand::None => true,
-        Operand::One(fragment) => is_fragment_known(names, fragment),
-        Operand::Two(_, _) => are_pieces_known(names, Coded::Operand(operand)),
-    }
-}
-
-/// Whether each name in the coding has a definition.
-pub fn are_known<A: Allocator + Clone>(names: &Symbols<'_, A>, coded: Coded) -> bool
-    ensures { result ≡ list_all (is_fragment_known names.now) (coded_of coded.entry) }
-{
-    match coded {
-        Coded::Nothing => true,
-        Coded::Instruction(instruction) => is_operand_known(names, instruction.operand),
-        Coded::Operand(_) | Coded::Data(_) | Coded::Values(_, _) => are_pieces_known(names, coded),
-    }
-}
-
-#[tactic(auto, using(crate::proofs::CodingLemmas::string_fits))]
-fn piece_fits<A: Allocator + Clone>(names: &Symbols<'_, A>, next: u64, piece: Piece) -> bool
-    ensures { result ≡ list_all (fragment_fits names.now next) (piece_of piece.entry) }
+#[tactic(auto, using(crate::proofs::CodingLemmas::one_put))]
+fn put_piece<A: Allocator + Clone, B: Allocator>(
+    out: &mut Vec<u8, B>,
+    names: &Names<'_, '_, A>,
+    next: u64,
+    piece: Piece,
+) -> Result<bool, AllocError>
+    ensures { IfOk result (λ fits. PutsAll fits names.now next (piece_of piece.entry) out.old.items out.new.items) }
 {
     match piece {
-        Piece::One(fragment) => fragment_fits(names, next, fragment),
-        Piece::String(_) => true,
+        Piece::One(fragment) => put_fragment(out, names, next, fragment),
+        Piece::String(bytes) => {
+            out.extend_from_slice(bytes)?;
+            Ok(true)
+        }
     }
 }
 
 /// The same piece by piece.
 #[tactic(auto, using(crate::proofs::CodingLemmas::list_all_append))]
-fn pieces_fit<A: Allocator + Clone>(names: &Symbols<'_, A>, next: u64, coded: Coded) -> bool
-    ensures { result ≡ list_all (fragment_fits names.now next) (coded_of coded.entry) }
+fn put_pieces<A: Allocator + Clone, B: Allocator>(
+    out: &mut Vec<u8, B>,
+    names: &Names<'_, '_, A>,
+    next: u64,
+    coded: Coded,
+) -> Result<bool, AllocError>
+    ensures { IfOk result (λ fits. PutsAll fits names.now next (coded_of coded.entry) out.old.items out.new.items) }
 {
     let mut rest = coded;
     'pieces: while let Some((piece, after)) = first_piece(rest) {
-        if !piece_fits(names, next, piece) {
-            return false;
+        if !put_piece(out, names, next, piece)? {
+            return Ok(false);
         }
         rest = after;
     }
-    true
+    Ok(true)
 }
 
-fn operand_fits<A: Allocator + Clone>(names: &Symbols<'_, A>, next: u64, operand: Operand) -> bool
-    ensures { result ≡ list_all (fragment_fits names.now next) (operand_of operand.entry) }
-{
-    match operand {
-        Operand::None => true,
-        Operand::One(fragment) => fragment_fits(names, next, fragment),
-        Operand::Two(_, _) => pieces_fit(names, next, Coded::Operand(operand)),
-    }
-}
-
-/// Whether the coding has room for its values; `next` is the address after it.
-#[tactic(auto, using(crate::proofs::CodingLemmas::opcode_fits))]
-pub fn fits<A: Allocator + Clone>(names: &Symbols<'_, A>, next: u64, coded: Coded) -> bool
-    ensures { result ≡ list_all (fragment_fits names.now next) (coded_of coded.entry) }
-{
-    match coded {
-        Coded::Nothing => true,
-        Coded::Instruction(instruction) => operand_fits(names, next, instruction.operand),
-        Coded::Operand(_) | Coded::Data(_) | Coded::Values(_, _) => pieces_fit(names, next, coded),
-    }
-}
-
-#[tactic(auto, using(crate::proofs::CodingLemmas::string_bytes))]
-fn put_piece<A: Allocator + Clone, B: Allocator>(
-    out: &mut Vec<u8, B>,
-    names: &Symbols<'_, A>,
-    next: u64,
-    piece: Piece,
-) -> Result<(), AllocError>
-    ensures { OnOk result (out.new.items ≡ out.old.items ++ flat_map (fragment_bytes names.now next) (piece_of piece.entry)) }
-{
-    match piece {
-        Piece::One(fragment) => put_fragment(out, names, next, fragment),
-        Piece::String(bytes) => out.extend_from_slice(bytes),
-    }
-}
-
-/// The same piece by piece.
-fn put_pieces<A: Allocator + Clone, B: Allocator>(
-    out: &mut Vec<u8, B>,
-    names: &Symbols<'_, A>,
-    next: u64,
-    coded: Coded,
-) -> Result<(), AllocError>
-    ensures { OnOk result (out.new.items ≡ out.old.items ++ flat_map (fragment_bytes names.now next) (coded_of coded.entry)) }
-{
-    let mut rest = coded;
-    'pieces: while let Some((piece, after)) = first_piece(rest) {
-        put_piece(out, names, next, piece)?;
-        rest = after;
-    }
-    Ok(())
-}
-
+#[tactic(auto, using(crate::proofs::CodingLemmas::one_put))]
 fn put_operand<A: Allocator + Clone, B: Allocator>(
     out: &mut Vec<u8, B>,
-    names: &Symbols<'_, A>,
+    names: &Names<'_, '_, A>,
     next: u64,
     operand: Operand,
-) -> Result<(), AllocError>
-    ensures { OnOk result (out.new.items ≡ out.old.items ++ flat_map (fragment_bytes names.now next) (operand_of operand.entry)) }
+) -> Result<bool, AllocError>
+    ensures { IfOk result (λ fits. PutsAll fits names.now next (operand_of operand.entry) out.old.items out.new.items) }
 {
     match operand {
-        Operand::None => Ok(()),
+        Operand::None => Ok(true),
         Operand::One(fragment) => put_fragment(out, names, next, fragment),
         Operand::Two(_, _) => put_pieces(out, names, next, Coded::Operand(operand)),
     }
 }
 
-#[tactic(auto, using(crate::proofs::CodingLemmas::opcode_bytes))]
+#[tactic(auto, using(crate::proofs::CodingLemmas::opcode_put))]
 fn put_instruction<A: Allocator + Clone, B: Allocator>(
     out: &mut Vec<u8, B>,
-    names: &Symbols<'_, A>,
+    names: &Names<'_, '_, A>,
     next: u64,
     instruction: Instruction,
-) -> Result<(), AllocError>
-    ensures { OnOk result (out.new.items ≡ out.old.items ++ flat_map (fragment_bytes names.now next) (instruction_of instruction.entry)) }
+) -> Result<bool, AllocError>
+    ensures { IfOk result (λ fits. PutsAll fits names.now next (instruction_of instruction.entry) out.old.items out.new.items) }
 {
     out.push(instruction.opcode)?;
     put_operand(out, names, next, instruction.operand)
 }
 
-/// Adds the bytes of a coding that has room for its values; `next` is the address after it.
+/// Adds the bytes of a coding if it has room for its values, and returns whether it has; `next` is the address after it.
 pub fn put_coded<A: Allocator + Clone, B: Allocator>(
     out: &mut Vec<u8, B>,
-    names: &Symbols<'_, A>,
+    names: &Names<'_, '_, A>,
     next: u64,
     coded: Coded,
-) -> Result<(), AllocError>
-    ensures { OnOk result (out.new.items ≡ out.old.items ++ flat_map (fragment_bytes names.now next) (coded_of coded.entry)) }
+) -> Result<bool, AllocError>
+    ensures { IfOk result (λ fits. PutsAll fits names.now next (coded_of coded.entry) out.old.items out.new.items) }
 {
     match coded {
-        Coded::Nothing => Ok(()),
+        Coded::Nothing => Ok(true),
         Coded::Instruction(instruction) => put_instruction(out, names, next, instruction),
         Coded::Operand(_) | Coded::Data(_) | Coded::Values(_, _) => {
             put_pieces(out, names, next, coded)

@@ -1,21 +1,21 @@
 //! The bytes of one fragment of a statement.
 
-ghost use Rattle.std.specs.Prelude.{◌≡◌, ◌++◌, [], ◌∷◌, Option, is_some, OnOk, ◌<◌};
+ghost use Rattle.std.specs.Prelude.{◌≡◌, [], ◌∷◌, Some, true, is_some, unwrap_or, IfOk};
 ghost use Rattle.stmt65.specs.Code.SourceLineViews.{value_of};
-ghost use Rattle.stmt65.specs.Symbols.{word_in, byte_in};
-ghost use Rattle.stmt65.specs.Coding.{is_fragment_known, is_near, fragment_fits, word_or_zero, entry_or_zero, low, distance, entry_bytes, fragment_bytes};
-ghost use Rattle.stmt65.specs.Code.CodingViews.{fragment_of};
+ghost use Rattle.stmt65.specs.Symbols.{below};
+ghost use Rattle.stmt65.specs.Coding.{is_fragment_known, is_near, fragment_fits, low, distance, entry_bytes, fragment_bytes};
+ghost use Rattle.stmt65.specs.Code.CodingViews.{Puts, fragment_of};
 
 use crate::assembling::coding::Fragment;
 use crate::assembling::entries::put_number;
-use crate::assembling::symbols::Symbols;
+use crate::assembling::symbols::Names;
 use crate::assembling::values::{entry_in, is_known, word_in};
 use crate::directive::Directive;
 use crate::source_line::Value;
 use std::alloc::{AllocError, Allocator};
 
 /// Whether each name in the fragment has a definition.
-pub fn is_fragment_known<A: Allocator + Clone>(names: &Symbols<'_, A>, fragment: Fragment) -> bool
+pub fn is_fragment_known<A: Allocator + Clone>(names: &Names<'_, '_, A>, fragment: Fragment) -> bool
     ensures { result ≡ is_fragment_known names.now (fragment_of fragment.entry) }
 {
     match fragment {
@@ -28,58 +28,13 @@ pub fn is_fragment_known<A: Allocator + Clone>(names: &Symbols<'_, A>, fragment:
     }
 }
 
-/// Whether the fragment has room for its value; `next` is the address after the statement.
-#[tactic(auto, unfolding(crate::specs::Coding::fragment_fits))]
-pub fn fragment_fits<A: Allocator + Clone>(
-    names: &Symbols<'_, A>,
-    next: u64,
-    fragment: Fragment,
-) -> bool
-    ensures { result ≡ fragment_fits names.now next (fragment_of fragment.entry) }
-{
-    match fragment {
-        Fragment::Fixed(_) => true,
-        Fragment::Single(v) => is_byte(names, v),
-        Fragment::ZeroPage(v) => is_byte(names, v),
-        Fragment::Oversized(_) => false,
-        Fragment::Entry(directive, v) => entry_in(names, directive, v).is_some(),
-        Fragment::Distance(v) => is_near(next, word_in(names, v)),
-    }
-}
-
-fn is_byte<A: Allocator + Clone>(names: &Symbols<'_, A>, value: Value) -> bool
-    ensures { result ≡ is_some (byte_in names.now (value_of value.entry)) }
-{
-    match word_in(names, value) {
-        Some(word) => word < 256,
-        None => false,
-    }
-}
-
 /// From 128 below the address `next` to 127 above it.
-fn is_near(next: u64, word: Option<u16>) -> bool
-    ensures { result ≡ is_near next word }
+fn is_near(next: u64, word: u16) -> bool
+    ensures { result ≡ is_near next (Some word) }
 {
-    match word {
-        Some(word) => {
-            let word = u128::from(word);
-            let next = u128::from(next);
-            next <= word + 128 && word <= next + 127
-        }
-        None => false,
-    }
-}
-
-fn word_or_zero<A: Allocator + Clone>(names: &Symbols<'_, A>, value: Value) -> u16
-    ensures { result ≡ word_or_zero names.now (value_of value.entry) }
-{
-    word_in(names, value).unwrap_or(0)
-}
-
-fn low(word: u16) -> u8
-    ensures { result ≡ low word }
-{
-    (word % 256) as u8
+    let word = u128::from(word);
+    let next = u128::from(next);
+    next <= word + 128 && word <= next + 127
 }
 
 /// The signed distance from `next` as a byte.
@@ -89,41 +44,70 @@ fn distance(next: u64, word: u16) -> u8
     ((u64::from(word) + 256).saturating_sub(next) % 256) as u8
 }
 
-fn put_one<A: Allocator>(out: &mut Vec<u8, A>, byte: u8) -> Result<(), AllocError>
-    ensures { OnOk result (out.new.items ≡ out.old.items ++ byte ∷ []) }
+fn put_one<A: Allocator>(out: &mut Vec<u8, A>, byte: u8) -> Result<bool, AllocError>
+    ensures { IfOk result (λ fits. Puts fits true (byte ∷ []) out.old.items out.new.items) }
 {
     out.push(byte)?;
-    Ok(())
+    Ok(true)
 }
 
-fn put_entry<A: Allocator + Clone, B: Allocator>(
-    out: &mut Vec<u8, B>,
-    names: &Symbols<'_, A>,
-    directive: Directive,
-    value: Value,
-) -> Result<(), AllocError>
-    ensures { OnOk result (out.new.items ≡ out.old.items ++ entry_bytes directive (entry_or_zero names.now directive (value_of value.entry))) }
+/// The value as a byte, if it is one.
+fn put_byte<A: Allocator>(out: &mut Vec<u8, A>, word: Option<u16>) -> Result<bool, AllocError>
+    ensures { IfOk result (λ fits. Puts fits (is_some (below 256 word)) (low (unwrap_or word 0) ∷ []) out.old.items out.new.items) }
 {
-    let number = entry_in(names, directive, value).unwrap_or(0);
-    put_number(out, directive, number)
+    match word {
+        Some(word) if word < 256 => put_one(out, word as u8),
+        _ => Ok(false),
+    }
 }
 
-/// Adds the bytes of a fragment that has room for its value; `next` is the address after the statement.
-#[tactic(auto, unfolding(crate::specs::Coding::fragment_bytes))]
+/// The value as a distance, if it is near.
+fn put_distance<A: Allocator>(
+    out: &mut Vec<u8, A>,
+    next: u64,
+    word: Option<u16>,
+) -> Result<bool, AllocError>
+    ensures { IfOk result (λ fits. Puts fits (is_near next word) (distance next (unwrap_or word 0) ∷ []) out.old.items out.new.items) }
+{
+    match word {
+        Some(word) if is_near(next, word) => put_one(out, distance(next, word)),
+        _ => Ok(false),
+    }
+}
+
+/// The value as an entry, if there is one.
+fn put_entry<A: Allocator>(
+    out: &mut Vec<u8, A>,
+    directive: Directive,
+    number: Option<u32>,
+) -> Result<bool, AllocError>
+    ensures { IfOk result (λ fits. Puts fits (is_some number) (entry_bytes directive (unwrap_or number 0)) out.old.items out.new.items) }
+{
+    match number {
+        Some(number) => {
+            put_number(out, directive, number)?;
+            Ok(true)
+        }
+        None => Ok(false),
+    }
+}
+
+/// Adds the bytes of a fragment if it has room for its value, and returns whether it has; `next` is the address after the statement.
+#[tactic(auto, unfolding(crate::specs::Coding::fragment_fits, crate::specs::Coding::fragment_bytes))]
 pub fn put_fragment<A: Allocator + Clone, B: Allocator>(
     out: &mut Vec<u8, B>,
-    names: &Symbols<'_, A>,
+    names: &Names<'_, '_, A>,
     next: u64,
     fragment: Fragment,
-) -> Result<(), AllocError>
-    ensures { OnOk result (out.new.items ≡ out.old.items ++ fragment_bytes names.now next (fragment_of fragment.entry)) }
+) -> Result<bool, AllocError>
+    ensures { IfOk result (λ fits. Puts fits (fragment_fits names.now next (fragment_of fragment.entry)) (fragment_bytes names.now next (fragment_of fragment.entry)) out.old.items out.new.items) }
 {
     match fragment {
         Fragment::Fixed(byte) => put_one(out, byte),
-        Fragment::Single(v) => put_one(out, low(word_or_zero(names, v))),
-        Fragment::ZeroPage(v) => put_one(out, low(word_or_zero(names, v))),
-        Fragment::Oversized(v) => put_one(out, low(word_or_zero(names, v))),
-        Fragment::Entry(directive, v) => put_entry(out, names, directive, v),
-        Fragment::Distance(v) => put_one(out, distance(next, word_or_zero(names, v))),
+        Fragment::Single(v) => put_byte(out, word_in(names, v)),
+        Fragment::ZeroPage(v) => put_byte(out, word_in(names, v)),
+        Fragment::Oversized(_) => Ok(false),
+        Fragment::Entry(directive, v) => put_entry(out, directive, entry_in(names, directive, v)),
+        Fragment::Distance(v) => put_distance(out, next, word_in(names, v)),
     }
 }

@@ -5,14 +5,13 @@ ghost use Rattle.std.specs.List.{list_any, list_all};
 ghost use Rattle.stmt65.specs.Code.SourceLineViews.{source_of};
 ghost use Rattle.stmt65.specs.Symbols.{find_name};
 ghost use Rattle.stmt65.specs.Coding.{is_fragment_known, fragment_fits};
-ghost use Rattle.stmt65.specs.Meaning.{operation_in, has_unknown_cpu, first_of, fault_of};
-ghost use Rattle.stmt65.specs.Code.MeaningViews.{state_of, fragments_in, definitions_in, IsPlaced};
+ghost use Rattle.stmt65.specs.Meaning.{State, operation_in, has_unknown_cpu, first_of, fault_of};
+ghost use Rattle.stmt65.specs.Code.MeaningViews.{fragments_in, definitions_in, IsPlaced};
 
-use crate::assembling::coding::Coded;
-use crate::assembling::emit::{are_known, fits};
+use crate::assembling::emit::are_known;
 use crate::assembling::fault::AsmFaultKind;
-use crate::assembling::state::{Placed, State, cpu_set};
-use crate::assembling::symbols::{Definition, Symbols};
+use crate::assembling::state::{Placed, cpu_set};
+use crate::assembling::symbols::{Definition, Names};
 use crate::source_line::{Operation, SourceLine};
 use std::alloc::Allocator;
 
@@ -31,7 +30,7 @@ fn has_unknown_cpu<'a, B: Allocator>(source: &SourceLine<'a, B>) -> bool
 
 /// Whether each name in the coding has a definition: so it has if the values have room, and then it is not looked up again.
 #[tactic(auto, using(crate::proofs::CodingLemmas::known_where_fit))]
-fn is_known<A: Allocator + Clone>(all: &Symbols<'_, A>, placed: Placed, has_room: bool) -> bool
+fn is_known<A: Allocator + Clone>(all: &Names<'_, '_, A>, placed: Placed, has_room: bool) -> bool
     requires { has_room ≡ list_all (fragment_fits all.now placed.next) (fragments_in placed.coded) }
     ensures { result ≡ list_all (is_fragment_known all.now) (fragments_in placed.entry.coded) }
 {
@@ -44,16 +43,7 @@ fn is_known<A: Allocator + Clone>(all: &Symbols<'_, A>, placed: Placed, has_room
     }
 }
 
-fn has_room<A: Allocator + Clone>(all: &Symbols<'_, A>, next: u64, coded: Option<Coded>) -> bool
-    ensures { result ≡ list_all (fragment_fits all.now next) (fragments_in coded.entry) }
-{
-    match coded {
-        Some(coded) => fits(all, next, coded),
-        None => true,
-    }
-}
-
-fn is_above<A: Allocator + Clone>(above: &Symbols<'_, A>, definition: Option<Definition>) -> bool
+fn is_above<A: Allocator + Clone>(above: &Names<'_, '_, A>, definition: Option<Definition>) -> bool
     ensures { result ≡ list_any (λ d. is_some (find_name d.name above.now)) (definitions_in definition.entry) }
 {
     match definition {
@@ -89,24 +79,24 @@ fn first_of(tests: &[(AsmFaultKind, bool)]) -> Option<AsmFaultKind>
     None
 }
 
-/// The lowest fault of a line in its state; `all` are the definitions of the whole text.
+/// The lowest fault of a line in its state; `all` are the definitions of the whole text, `above` those above the line.
 pub fn fault_of<'a, A: Allocator + Clone, B: Allocator>(
-    all: &Symbols<'_, A>,
-    state: &State<'_, A>,
+    all: &Names<'_, '_, A>,
+    above: &Names<'_, '_, A>,
     source: &SourceLine<'a, B>,
     placed: Placed<'_, 'a>,
+    has_room: bool,
 ) -> Option<AsmFaultKind>
-    requires { IsPlaced placed (state_of state.now) (source_of source.now) }
-    ensures { result ≡ fault_of all.now (state_of state.now) (Some (source_of source.now)) }
+    requires { has_room ≡ list_all (fragment_fits all.now placed.next) (fragments_in placed.coded) }
+    ensures { (s : State) → s.above ≡ above.now → IsPlaced placed.entry s (source_of source.now) → result ≡ fault_of all.now s (Some (source_of source.now)) }
 {
-    let has_room = has_room(all, placed.next, placed.coded);
     first_of(&[
         (AsmFaultKind::UnknownCpu, has_unknown_cpu(source)),
         (AsmFaultKind::NoSuchForm, placed.coded.is_none()),
         (AsmFaultKind::Undefined, !is_known(all, placed, has_room)),
         (
             AsmFaultKind::DefinedTwice,
-            is_above(&state.above, placed.definition),
+            is_above(above, placed.definition),
         ),
         (
             AsmFaultKind::OutOfRange,

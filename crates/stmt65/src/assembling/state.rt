@@ -1,29 +1,28 @@
 //! What stands above a line, and what the line adds.
 
-ghost use Rattle.std.specs.Prelude.{◌≡◌, ◌++◌, Some, map, unwrap_or, IfOk, OnOk};
+ghost use Rattle.std.specs.Prelude.{◌≡◌, [], map, unwrap_or};
 ghost use Rattle.std.specs.Option.{option_map};
 ghost use Rattle.stmt65.specs.Code.SourceLineViews.{source_of};
 ghost use Rattle.stmt65.specs.Coding.{coding, coding_len};
 ghost use Rattle.stmt65.specs.Code.CodingViews.{coded_of};
 ghost use Rattle.stmt65.specs.Code.Held.{held};
 ghost use Rattle.stmt65.specs.Meaning.{cpu_set, cpu_after, operation_in, defined_by, initial};
-ghost use Rattle.stmt65.specs.Code.MeaningViews.{state_of, held_definition, definitions_in, fragments_in, IsPlaced, held_after};
+ghost use Rattle.stmt65.specs.Code.MeaningViews.{state_of, held_definition, definitions_in, fragments_in, IsPlaced};
 
 use crate::assembling::coding::{Coded, coding};
 use crate::assembling::emit::coded_len;
-use crate::assembling::symbols::{Definition, Symbols};
+use crate::assembling::symbols::{Definition, Names};
 use crate::source_line::{Operation, SourceLine};
 use isa65::{Cpu, EncodeTable};
-use std::alloc::{AllocError, Allocator, Global};
+use std::alloc::Allocator;
 
-/// What stands above a line: its address, the CPU, and the definitions.
+/// What stands above a line beside the definitions.
 #[derive(Drop)]
-pub struct State<'a, A: Allocator = Global> {
+pub struct State {
     /// 2^64 - 1 in place of every greater address.
     pub address: u64,
     /// The opcodes of the CPU.
     pub opcodes: EncodeTable,
-    pub above: Symbols<'a, A>,
 }
 
 /// A line in its state: what its bytes stand for, or `None` if the CPU has no such form, the
@@ -36,29 +35,25 @@ pub struct Placed<'s, 'a> {
 }
 
 /// Before the first line; the CPU is the 6502.
-pub fn first_state<'a, A: Allocator + Clone>(
-    alloc: A,
-    start: u16,
-) -> Result<State<'a, A>, AllocError>
-    ensures { IfOk result (λ s. state_of s ≡ initial start) }
+pub fn first_state(start: u16) -> State
+    ensures { state_of result [] ≡ initial start }
 {
-    let above = Symbols::new(alloc)?;
-    Ok(State {
+    State {
         address: u64::from(start),
         opcodes: EncodeTable::new(Cpu::M6502),
-        above,
-    })
+    }
 }
 
 #[tactic(auto, unfolding(crate::specs::Coding::coding))]
 fn coding_in<'s, 'a, A: Allocator + Clone, B: Allocator>(
-    state: &State<'_, A>,
+    opcodes: &EncodeTable,
+    above: &Names<'_, '_, A>,
     source: &'s SourceLine<'a, B>,
 ) -> Option<Coded<'s, 'a>>
-    ensures { option_map coded_of result ≡ coding state.now.opcodes state.now.above (operation_in (source_of source.now)) }
+    ensures { option_map coded_of result ≡ coding opcodes.now above.now (operation_in (source_of source.now)) }
 {
     match source {
-        SourceLine::Statement { operation, .. } => coding(&state.opcodes, &state.above, operation),
+        SourceLine::Statement { operation, .. } => coding(opcodes, above, operation),
         SourceLine::Assignment(_, _) | SourceLine::PlaceAssignment(_, _) => Some(Coded::Nothing),
     }
 }
@@ -106,12 +101,13 @@ fn definition_in<'a, B: Allocator>(
 
 /// The line in its state.
 pub fn place<'s, 'a, A: Allocator + Clone, B: Allocator>(
-    state: &State<'_, A>,
+    state: &State,
+    above: &Names<'_, '_, A>,
     source: &'s SourceLine<'a, B>,
 ) -> Placed<'s, 'a>
-    ensures { IsPlaced result (state_of state.now) (source_of source.now) }
+    ensures { IsPlaced result (state_of state.now above.now) (source_of source.now) }
 {
-    let coded = coding_in(state, source);
+    let coded = coding_in(&state.opcodes, above, source);
     Placed {
         coded,
         next: state.address.saturating_add(length_of(coded)),
@@ -152,30 +148,15 @@ fn follow<'a, B: Allocator>(opcodes: &mut EncodeTable, source: &SourceLine<'a, B
     }
 }
 
-fn define<'a, A: Allocator + Clone>(
-    above: &mut Symbols<'a, A>,
-    definition: Option<Definition<'a>>,
-) -> Result<(), AllocError>
-    ensures { OnOk result (above.new ≡ above.old ++ definitions_in definition.entry) }
-{
-    if let Some(definition) = definition {
-        above.define(definition)?;
-    }
-    Ok(())
-}
-
-/// Goes on below the line.
-#[tactic(auto, unfolding(crate::specs::Code::MeaningViews::held_after))]
-pub fn advance<'a, A: Allocator + Clone, B: Allocator>(
-    state: &mut State<'a, A>,
+/// Goes on below the line, whose definition is added elsewhere.
+pub fn advance<'a, B: Allocator>(
+    state: &mut State,
     source: &SourceLine<'a, B>,
     placed: Placed<'_, 'a>,
-) -> Result<(), AllocError>
-    requires { IsPlaced placed (state_of state.old) (source_of source.now) }
-    ensures { OnOk result (state_of state.new ≡ held_after (state_of state.old) (Some (source_of source.now))) }
+)
+    ensures address { state.new.address ≡ placed.entry.next }
+    ensures cpu { state.new.opcodes ≡ cpu_after state.old.opcodes (operation_in (source_of source.now)) }
 {
-    define(&mut state.above, placed.definition)?;
     follow(&mut state.opcodes, source);
     state.address = placed.next;
-    Ok(())
 }

@@ -7,7 +7,7 @@ ghost use Rattle.stmt65.specs.Coding.{entry_limit, entry_in};
 ghost use Rattle.stmt65.specs.Symbols.{below, lowered, value_in, is_known, word_in, is_small, has_zero_page_size};
 
 use crate::assembling::entries::limit;
-use crate::assembling::symbols::{Definition, Symbols};
+use crate::assembling::symbols::{Definition, Names};
 use crate::directive::Directive;
 use crate::reading::numeral::Numeral;
 use crate::source_line::{Minus, Value};
@@ -16,7 +16,7 @@ use std::alloc::Allocator;
 /// The value, or `None` if it is below 0 or the name is undefined. A number of the expression that
 /// is greater than 2^64 - 1 counts as that.
 #[tactic(auto, unfolding(crate::specs::Symbols::value_in))]
-fn value_in<A: Allocator + Clone>(names: &Symbols<'_, A>, value: Value) -> Option<u128>
+fn value_in<A: Allocator + Clone>(names: &Names<'_, '_, A>, value: Value) -> Option<u128>
     ensures { result ≡ value_in names.now (held_value (value_of value.entry)) }
 {
     match value {
@@ -47,7 +47,7 @@ fn lowered(minus: Minus, n: u128) -> Option<u128>
 
 /// Whether each name in the expression has a definition.
 #[tactic(auto, unfolding(crate::specs::Symbols::is_known))]
-pub fn is_known<A: Allocator + Clone>(names: &Symbols<'_, A>, value: Value) -> bool
+pub fn is_known<A: Allocator + Clone>(names: &Names<'_, '_, A>, value: Value) -> bool
     ensures { result ≡ is_known names.now (value_of value.entry) }
 {
     match value {
@@ -81,7 +81,7 @@ fn in_an_entry(directive: Directive, value: Option<u128>) -> Option<u32>
 }
 
 /// The value if it is from 0 to $FFFF.
-pub fn word_in<A: Allocator + Clone>(names: &Symbols<'_, A>, value: Value) -> Option<u16>
+pub fn word_in<A: Allocator + Clone>(names: &Names<'_, '_, A>, value: Value) -> Option<u16>
     ensures { result ≡ word_in names.now (value_of value.entry) }
 {
     in_a_word(value_in(names, value))
@@ -89,7 +89,7 @@ pub fn word_in<A: Allocator + Clone>(names: &Symbols<'_, A>, value: Value) -> Op
 
 /// The value if an entry of the directive has room for it.
 pub fn entry_in<A: Allocator + Clone>(
-    names: &Symbols<'_, A>,
+    names: &Names<'_, '_, A>,
     directive: Directive,
     value: Value,
 ) -> Option<u32>
@@ -100,7 +100,7 @@ pub fn entry_in<A: Allocator + Clone>(
 
 /// Whether the expression has zero-page size, with its number held in 64 bits.
 #[tactic(auto, unfolding(crate::specs::Symbols::has_zero_page_size, crate::specs::Symbols::value_in))]
-fn held_zero_page_size<A: Allocator + Clone>(above: &Symbols<'_, A>, value: Value) -> bool
+fn held_zero_page_size<A: Allocator + Clone>(above: &Names<'_, '_, A>, value: Value) -> bool
     ensures { result ≡ has_zero_page_size above.now (held_value (value_of value.entry)) }
 {
     match value {
@@ -115,7 +115,7 @@ fn held_zero_page_size<A: Allocator + Clone>(above: &Symbols<'_, A>, value: Valu
 }
 
 /// Whether the value is below $100, and a name in it is defined as `name := number`.
-pub fn has_zero_page_size<A: Allocator + Clone>(above: &Symbols<'_, A>, value: Value) -> bool
+pub fn has_zero_page_size<A: Allocator + Clone>(above: &Names<'_, '_, A>, value: Value) -> bool
     ensures { result ≡ has_zero_page_size above.now (value_of value.entry) }
 {
     held_zero_page_size(above, value)

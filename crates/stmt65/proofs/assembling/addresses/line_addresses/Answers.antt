@@ -6,13 +6,13 @@ use Rattle.stmt65.proofs.assembling.addresses.line_addresses.Goals as goal
 
 pub lines-preserved : goal.lines-preserved
 lines-preserved g c =
-    ap (λ (l : List ℕ). l ++ held_addresses (state_of c.pass_line.new.state) (readings c.in-Some.after.now)) c.in_ok-push.ensures.items
-    ∙ addresses_step (state_of c.lines.state) (state_of c.pass_line.new.state) c.lines.rest.now c.in-Some.line.now c.in-Some.after.now c.lines.found.items _ c.lines.invariant c.in-Some.ensures.0 c.in_ok-pass_line.ensures
+    ap (λ (l : List ℕ). l ++ held_addresses (state_of c.pass_line.new.state c.pass_line.new.names) (readings c.in-Some.after.now)) c.in_ok-push.ensures.items
+    ∙ addresses_step (state_of c.lines.state c.lines.names) (state_of c.pass_line.new.state c.pass_line.new.names) c.lines.rest.now c.in-Some.line.now c.in-Some.after.now c.lines.found.items _ c.lines.invariant c.in-Some.ensures.0 c.in_ok-pass_line.ensures
 
 lines : goal.returns-clause-lines
 lines g c =
     let start : c.args.start < 65536 = omega arith in
-    found_lines c.args.start (state_of c.lines.state) c.args.text.now c.lines.rest.now c.lines.found.items start c.lines.invariant c.in_default.ensures
+    found_lines c.args.start (state_of c.lines.state c.lines.names) c.args.text.now c.lines.rest.now c.lines.found.items start c.lines.invariant c.in_default.ensures
 
 pub returns-clause-lines : goal.returns-clause-lines
 returns-clause-lines = lines

@@ -5,7 +5,7 @@ use Rattle.stmt65.proofs.AddressLemmas.{held_addresses}
 use Rattle.stmt65.proofs.assembling.addresses.line_addresses.Given as goal
 
 abbrev pub invariant-lines : goal.invariant-lines
-invariant-lines g l = l.found.items ++ held_addresses (state_of l.state) (readings l.rest) ≡ held_addresses (initial l.fn.start) (readings l.fn.text)
+invariant-lines g l = l.found.items ++ held_addresses (state_of l.state l.names) (readings l.rest) ≡ held_addresses (initial l.fn.start) (readings l.fn.text)
 
 abbrev pub decreases-lines : goal.decreases-lines
 decreases-lines g l = length l.rest

@@ -4,7 +4,7 @@ use Rattle.stmt65.specs.Code.MeaningViews.{held_final, state_of}
 use Rattle.stmt65.proofs.assembling.assembler.names_of.Given as goal
 
 abbrev pub invariant-lines : goal.invariant-lines
-invariant-lines g l = held_final (state_of l.state) (readings l.rest) ≡ held_final (initial l.fn.start) (readings l.fn.text)
+invariant-lines g l = held_final (state_of l.state l.names) (readings l.rest) ≡ held_final (initial l.fn.start) (readings l.fn.text)
 
 abbrev pub decreases-lines : goal.decreases-lines
 decreases-lines g l = length l.rest

@@ -9,5 +9,5 @@ pub returns : goal.returns
 returns g c =
     let v = value_of c.args.value in
     let all = c.args.self.now in
-    let held : c.self.inside.names ≡ map held_definition all = c.self.invariant ∙ ap (map held_definition) c.self.view_is in
+    let held : c.all.result ≡ map held_definition all = c.all.ensures.names ∙ c.self.invariant ∙ ap (map held_definition) c.self.view_is in
     c.is_known.ensures ∙ ap (λ (ds : List Definition). is_known ds v) held ∙ is_known-held all v
