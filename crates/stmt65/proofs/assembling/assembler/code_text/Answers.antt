@@ -1,7 +1,6 @@
-use Rattle.std.proofs.Common.{◌≡◌, ◌+◌, ◌≤◌, List, length, take, arith, inl, ap, sym, refl, ◌∙◌, ◌<◌}
+use Rattle.std.proofs.Common.{◌≡◌, ◌+◌, length, take, arith, inl, ap, sym, refl, ◌∙◌, ◌<◌}
 use Rattle.stmt65.specs.Lexing.{parts}
 use Rattle.stmt65.specs.Reading.{reading_of}
-use Rattle.stmt65.specs.Symbols.{Definition}
 use Rattle.stmt65.specs.Meaning.{State, after, final, initial, readings}
 use Rattle.stmt65.specs.Code.MeaningViews.{GoesOn, defined_in, held_final, state_in, state_of}
 use Rattle.stmt65.proofs.HeldLemmas.{definitions_held}
