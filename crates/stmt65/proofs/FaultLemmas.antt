@@ -11,15 +11,15 @@ use Rattle.isa65.specs.declared.mode.Mode.TheVariants.{Zp, Zpx, Zpy, Abs, Absx, 
 use Rattle.isa65.specs.Cpu.{cpu_named}
 use Rattle.stmt65.specs.declared.assembling.fault.AsmFaultKind.{AsmFaultKind}
 use Rattle.stmt65.specs.declared.assembling.fault.AsmFaultKind.TheVariants.{Syntax, UnknownCpu, NoSuchForm, Undefined, DefinedTwice, OutOfRange, PastEnd, Memory}
-use Rattle.stmt65.specs.SourceLine.{Value, NumberValue, NameValue, Form, Empty, Accumulator, Immediate, Direct, DirectX, DirectY, Two, Indirect, IndirectX, IndirectY, Datum, NumberDatum, StringDatum, Operation, Nothing, Instr, Data, Values, Segment, Code, SetCpu, SourceLine}
+use Rattle.stmt65.specs.SourceLine.{Value, NumberValue, NameValue, Form, Empty, Accumulator, Immediate, Direct, DirectX, DirectY, Two, Indirect, IndirectX, IndirectY, Datum, NumberDatum, StringDatum, Operation, Instr, Data, Values, SetCpu, SourceLine}
 use Rattle.stmt65.specs.declared.source_line.AddressSize.TheVariants.{Absolute, Automatic}
 use Rattle.stmt65.specs.Symbols.{Definition, find_name, value_in, is_known, below, word_in, has_zero_page_size}
-use Rattle.stmt65.specs.Coding.{entry_limit, Fragment, Fixed, Single, ZeroPage, Oversized, Entry, Distance, Way, zero_page, datum_fragments, is_fragment_known, is_near, fragment_fits, entry_in, word_operand, ways, first_way, coding}
+use Rattle.stmt65.specs.Coding.{entry_limit, Fragment, Fixed, Single, ZeroPage, Oversized, Entry, Distance, Way, zero_page, datum_fragments, is_fragment_known, is_near, fragment_fits, entry_in, ways, first_way, coding}
 use Rattle.stmt65.specs.Meaning.{State, operation_in, fragments_of, next_of, defined_by, has_unknown_cpu, has_no_form, is_undefined, is_twice, is_out_of_range, is_past_end, first_of, fault_of}
 use Rattle.stmt65.specs.Forms.{form_values}
 use Rattle.stmt65.specs.FaultLaws.{rank, operation_values, NamesNoCpu, HasNoMode, IsUnknown, HasRoom, HasFault, FindsLowest, FindsNone}
 use Rattle.stmt65.proofs.CodingLemmas.{string_known}
-use Rattle.stmt65.proofs.ModeLemmas.{false_true, first_case, needs_mode}
+use Rattle.stmt65.proofs.ModeLemmas.{by_sizes, false_true, first_case, needs_mode}
 
 -- ---- a test and its rule
 
@@ -89,23 +89,11 @@ ways_known all above Empty = (refl, tt)
 ways_known all above Accumulator = (refl, tt)
 ways_known all above (Immediate v) = (refl, tt)
 ways_known all above (Direct Absolute v) = (refl, tt)
-ways_known all above (Direct Automatic v) = go (has_zero_page_size above v)
-  where
-    go : (b : Bool) → EachKnown all (Direct Automatic v) (cond b ((Zp, ZeroPage v ∷ []) ∷ (Abs, word_operand v ∷ []) ∷ []) ((Abs, word_operand v ∷ []) ∷ (Zp, Oversized v ∷ []) ∷ []) ++ (Rel, Distance v ∷ []) ∷ [])
-    go true = (refl, (refl, (refl, tt)))
-    go false = (refl, (refl, (refl, tt)))
+ways_known all above (Direct Automatic v) = by_sizes (λ ws. EachKnown all (Direct Automatic v) (ws ++ (Rel, Distance v ∷ []) ∷ [])) above Zp Abs v (refl, (refl, (refl, tt))) (refl, (refl, (refl, tt)))
 ways_known all above (DirectX Absolute v) = (refl, tt)
-ways_known all above (DirectX Automatic v) = go (has_zero_page_size above v)
-  where
-    go : (b : Bool) → EachKnown all (DirectX Automatic v) (cond b ((Zpx, ZeroPage v ∷ []) ∷ (Absx, word_operand v ∷ []) ∷ []) ((Absx, word_operand v ∷ []) ∷ (Zpx, Oversized v ∷ []) ∷ []))
-    go true = (refl, (refl, tt))
-    go false = (refl, (refl, tt))
+ways_known all above (DirectX Automatic v) = by_sizes (EachKnown all (DirectX Automatic v)) above Zpx Absx v (refl, (refl, tt)) (refl, (refl, tt))
 ways_known all above (DirectY Absolute v) = (refl, tt)
-ways_known all above (DirectY Automatic v) = go (has_zero_page_size above v)
-  where
-    go : (b : Bool) → EachKnown all (DirectY Automatic v) (cond b ((Zpy, ZeroPage v ∷ []) ∷ (Absy, word_operand v ∷ []) ∷ []) ((Absy, word_operand v ∷ []) ∷ (Zpy, Oversized v ∷ []) ∷ []))
-    go true = (refl, (refl, tt))
-    go false = (refl, (refl, tt))
+ways_known all above (DirectY Automatic v) = by_sizes (EachKnown all (DirectY Automatic v)) above Zpy Absy v (refl, (refl, tt)) (refl, (refl, tt))
 ways_known all above (Two v w) = (rw (zero_page_known all above v) refl, tt)
 ways_known all above (Indirect v) = (rw (zero_page_known all above v) refl, (refl, tt))
 ways_known all above (IndirectX v) = (rw (zero_page_known all above v) refl, (refl, tt))
@@ -127,13 +115,10 @@ data_known all (StringDatum t ∷ ds) = list_all-append (is_fragment_known all) 
 fragments_known : (all : List Definition) (cpu : Cpu) (above : List Definition) (o : Operation) (fragments : List Fragment) → coding cpu above o ≡ Some fragments
     → list_all (is_fragment_known all) fragments ≡ list_all (is_known all) (operation_values o)
 unfolding coding
-fragments_known all cpu above Nothing fragments e = let same : [] ≡ fragments = cc in rw (← same) refl
 fragments_known all cpu above (Instr m form) fragments e = first_known all cpu m form (ways above form) fragments (ways_known all above form) e
 fragments_known all cpu above (Data ds) fragments e = let same : flat_map datum_fragments ds ≡ fragments = cc in rw (← same) (data_known all ds)
 fragments_known all cpu above (Values d vs) fragments e = let same : map (Entry d) vs ≡ fragments = cc in rw (← same) (list_all-map (is_fragment_known all) (Entry d) vs)
-fragments_known all cpu above (Segment name) fragments e = let same : [] ≡ fragments = cc in rw (← same) refl
-fragments_known all cpu above Code fragments e = let same : [] ≡ fragments = cc in rw (← same) refl
-fragments_known all cpu above (SetCpu text) fragments e = let same : [] ≡ fragments = cc in rw (← same) refl
+fragments_known all cpu above _ fragments e = let same : [] ≡ fragments = cc in rw (← same) refl
 
 unknown_tied : (all : List Definition) (v : Value) → Tied (not (is_known all v)) (IsUnknown all v)
 unfolding is_known

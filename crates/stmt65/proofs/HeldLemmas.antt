@@ -14,12 +14,12 @@ use Rattle.stmt65.specs.declared.assembling.fault.AsmFaultKind.{AsmFaultKind}
 use Rattle.stmt65.specs.declared.assembling.fault.AsmFaultKind.TheVariants.{UnknownCpu, NoSuchForm, Undefined, DefinedTwice, OutOfRange, PastEnd}
 use Rattle.stmt65.specs.declared.source_line.Minus.{Minus}
 use Rattle.stmt65.specs.declared.source_line.Minus.TheVariants.{Zero, One}
-use Rattle.stmt65.specs.SourceLine.{SourceLine, Assignment, PlaceAssignment, Statement, Value, NumberValue, NameValue, Form, Empty, Accumulator, Immediate, Direct, DirectX, DirectY, Two, Indirect, IndirectX, IndirectY, Operation, Nothing, Instr, Data, Values, Segment, Code, SetCpu}
-use Rattle.stmt65.specs.declared.source_line.AddressSize.TheVariants.{Absolute, Automatic}
+use Rattle.stmt65.specs.SourceLine.{SourceLine, Assignment, PlaceAssignment, Statement, Value, NumberValue, NameValue, Form, Empty, Accumulator, Immediate, Direct, DirectX, DirectY, Operation, Instr}
+use Rattle.stmt65.specs.declared.source_line.AddressSize.TheVariants.{Absolute}
 use Rattle.stmt65.specs.declared.directive.Directive.{Directive}
 use Rattle.stmt65.specs.declared.directive.Directive.TheVariants.{Word}
 use Rattle.stmt65.specs.Symbols.{Definition, find_name, below, lowered, value_in, is_known, word_in, is_small, is_constant, has_zero_page_size}
-use Rattle.stmt65.specs.Coding.{entry_limit, Fragment, Fixed, Single, ZeroPage, Oversized, Entry, Distance, entry_in, is_fragment_known, is_near, fragment_fits, fragment_bytes, ways, first_way, coding, coding_len}
+use Rattle.stmt65.specs.Coding.{entry_limit, Fragment, Fixed, Oversized, Entry, Distance, entry_in, is_fragment_known, is_near, fragment_fits, fragment_bytes, ways, first_way, coding, coding_len}
 use Rattle.stmt65.specs.Code.CodingViews.{PutsAll, coded_of}
 use Rattle.stmt65.specs.Code.Held.{held, held_value}
 use Rattle.stmt65.specs.Meaning.{State, operation_in, fragments_of, next_of, defined_by, has_unknown_cpu, has_no_form, is_undefined, is_twice, is_out_of_range, is_past_end, first_of, fault_of, bytes_of, after, final, initial}
@@ -200,12 +200,8 @@ near-held next (Some n) = go (ltb n 65536) refl
 
 fits-held : (all : List Definition) (next : ℕ) (f : Fragment) → fragment_fits all (held next) f ≡ fragment_fits all next f
 unfolding fragment_fits word_in
-fits-held all next (Fixed b) = refl
-fits-held all next (Single v) = refl
-fits-held all next (ZeroPage v) = refl
-fits-held all next (Oversized v) = refl
-fits-held all next (Entry d v) = refl
 fits-held all next (Distance v) = near-held next (value_in all v)
+fits-held all next _ = refl
 
 all_fit-held : (all : List Definition) (next : ℕ) (fs : List Fragment) → list_all (fragment_fits all (held next)) fs ≡ list_all (fragment_fits all next) fs
 all_fit-held all next [] = refl
@@ -312,25 +308,14 @@ ways-held ds Empty = refl
 ways-held ds Accumulator = refl
 ways-held ds (Immediate v) = refl
 ways-held ds (Direct Absolute v) = refl
-ways-held ds (Direct Automatic v) = rw (size-held ds v) refl
 ways-held ds (DirectX Absolute v) = refl
-ways-held ds (DirectX Automatic v) = rw (size-held ds v) refl
 ways-held ds (DirectY Absolute v) = refl
-ways-held ds (DirectY Automatic v) = rw (size-held ds v) refl
-ways-held ds (Two v w) = rw (size-held ds v) refl
-ways-held ds (Indirect v) = rw (size-held ds v) refl
-ways-held ds (IndirectX v) = rw (size-held ds v) refl
-ways-held ds (IndirectY v) = rw (size-held ds v) refl
+ways-held ds _ = rw size-held refl
 
 coding-held : (cpu : Cpu) (ds : List Definition) (operation : Operation) → coding cpu (map held_definition ds) operation ≡ coding cpu ds operation
 unfolding coding
-coding-held cpu ds Nothing = refl
 coding-held cpu ds (Instr m form) = ap (first_way cpu m) (ways-held ds form)
-coding-held cpu ds (Data items) = refl
-coding-held cpu ds (Values d vs) = refl
-coding-held cpu ds (Segment name) = refl
-coding-held cpu ds Code = refl
-coding-held cpu ds (SetCpu text) = refl
+coding-held cpu ds _ = refl
 
 defined-held : (at : ℕ) (source : SourceLine) → map held_definition (defined_by (held at) source) ≡ map held_definition (defined_by at source)
 unfolding defined_by
@@ -366,29 +351,20 @@ definitions_held start ls h =
 
 fragment_known-held : (all : List Definition) (f : Fragment) → is_fragment_known (map held_definition all) f ≡ is_fragment_known all f
 fragment_known-held all (Fixed b) = refl
-fragment_known-held all (Single v) = is_known-held all v
-fragment_known-held all (ZeroPage v) = is_known-held all v
-fragment_known-held all (Oversized v) = is_known-held all v
-fragment_known-held all (Entry d v) = is_known-held all v
-fragment_known-held all (Distance v) = is_known-held all v
+fragment_known-held all _ = is_known-held all _
 
 fragment_fits-all : (all : List Definition) (next : ℕ) (f : Fragment) → fragment_fits (map held_definition all) next f ≡ fragment_fits all next f
 unfolding fragment_fits
 fragment_fits-all all next (Fixed b) = refl
-fragment_fits-all all next (Single v) = rw (word_in-held all v) refl
-fragment_fits-all all next (ZeroPage v) = rw (word_in-held all v) refl
 fragment_fits-all all next (Oversized v) = refl
 fragment_fits-all all next (Entry d v) = rw (entry_in-held all d v) refl
-fragment_fits-all all next (Distance v) = rw (word_in-held all v) refl
+fragment_fits-all all next _ = rw word_in-held refl
 
 fragment_bytes-all : (all : List Definition) (next : ℕ) (f : Fragment) → fragment_bytes (map held_definition all) next f ≡ fragment_bytes all next f
 unfolding fragment_bytes
 fragment_bytes-all all next (Fixed b) = refl
-fragment_bytes-all all next (Single v) = rw (word_in-held all v) refl
-fragment_bytes-all all next (ZeroPage v) = rw (word_in-held all v) refl
-fragment_bytes-all all next (Oversized v) = rw (word_in-held all v) refl
 fragment_bytes-all all next (Entry d v) = rw (entry_in-held all d v) refl
-fragment_bytes-all all next (Distance v) = rw (word_in-held all v) refl
+fragment_bytes-all all next _ = rw word_in-held refl
 
 pub fault-all : (all : List Definition) (s : State) (source : Option SourceLine) → fault_of (map held_definition all) s source ≡ fault_of all s source
 unfolding fault_of is_undefined is_out_of_range

@@ -37,29 +37,29 @@ zero_page_len above v = go (has_zero_page_size above v)
     go true = refl
     go false = refl
 
+-- what holds of the ways of both sizes, whichever goes first
+pub by_sizes : (P : List Way → Type 0) (above : List Definition) (short long : Mode) (v : Value) → P ((short, ZeroPage v ∷ []) ∷ (long, word_operand v ∷ []) ∷ [])
+    → P ((long, word_operand v ∷ []) ∷ (short, Oversized v ∷ []) ∷ []) → P (by_size above short long v)
+by_sizes P above short long v first second = go (has_zero_page_size above v)
+  where
+    go : (b : Bool) → P (cond b ((short, ZeroPage v ∷ []) ∷ (long, word_operand v ∷ []) ∷ []) ((long, word_operand v ∷ []) ∷ (short, Oversized v ∷ []) ∷ []))
+    go true = first
+    go false = second
+
 pub ways_are_modes : WaysAreModes
 unfolding ways coding_len
 ways_are_modes above Empty = (plain Empty (Imp, []) refl refl refl, tt)
 ways_are_modes above Accumulator = (plain Accumulator (Acc, []) refl refl refl, tt)
 ways_are_modes above (Immediate v) = (plain (Immediate v) _ refl refl refl, tt)
 ways_are_modes above (Direct Absolute v) = (record { of_form = (refl, λ p. refl); length = refl }, tt)
-ways_are_modes above (Direct Automatic v) = go (has_zero_page_size above v)
-  where
-    go : (b : Bool) → EachWay (Direct Automatic v) (cond b ((Zp, ZeroPage v ∷ []) ∷ (Abs, word_operand v ∷ []) ∷ []) ((Abs, word_operand v ∷ []) ∷ (Zp, Oversized v ∷ []) ∷ []) ++ (Rel, Distance v ∷ []) ∷ [])
-    go true = (plain (Direct Automatic v) _ refl refl refl, (plain (Direct Automatic v) _ refl refl refl, (plain (Direct Automatic v) _ refl refl refl, tt)))
-    go false = (plain (Direct Automatic v) _ refl refl refl, (plain (Direct Automatic v) _ refl refl refl, (plain (Direct Automatic v) _ refl refl refl, tt)))
+ways_are_modes above (Direct Automatic v) =
+    by_sizes (λ ws. EachWay (Direct Automatic v) (ws ++ (Rel, Distance v ∷ []) ∷ [])) above Zp Abs v
+    (plain (Direct Automatic v) _ refl refl refl, (plain (Direct Automatic v) _ refl refl refl, (plain (Direct Automatic v) _ refl refl refl, tt)))
+    (plain (Direct Automatic v) _ refl refl refl, (plain (Direct Automatic v) _ refl refl refl, (plain (Direct Automatic v) _ refl refl refl, tt)))
 ways_are_modes above (DirectX Absolute v) = (record { of_form = (refl, λ p. refl); length = refl }, tt)
-ways_are_modes above (DirectX Automatic v) = go (has_zero_page_size above v)
-  where
-    go : (b : Bool) → EachWay (DirectX Automatic v) (cond b ((Zpx, ZeroPage v ∷ []) ∷ (Absx, word_operand v ∷ []) ∷ []) ((Absx, word_operand v ∷ []) ∷ (Zpx, Oversized v ∷ []) ∷ []))
-    go true = (plain (DirectX Automatic v) _ refl refl refl, (plain (DirectX Automatic v) _ refl refl refl, tt))
-    go false = (plain (DirectX Automatic v) _ refl refl refl, (plain (DirectX Automatic v) _ refl refl refl, tt))
+ways_are_modes above (DirectX Automatic v) = by_sizes (EachWay (DirectX Automatic v)) above Zpx Absx v (plain (DirectX Automatic v) _ refl refl refl, (plain (DirectX Automatic v) _ refl refl refl, tt)) (plain (DirectX Automatic v) _ refl refl refl, (plain (DirectX Automatic v) _ refl refl refl, tt))
 ways_are_modes above (DirectY Absolute v) = (record { of_form = (refl, λ p. refl); length = refl }, tt)
-ways_are_modes above (DirectY Automatic v) = go (has_zero_page_size above v)
-  where
-    go : (b : Bool) → EachWay (DirectY Automatic v) (cond b ((Zpy, ZeroPage v ∷ []) ∷ (Absy, word_operand v ∷ []) ∷ []) ((Absy, word_operand v ∷ []) ∷ (Zpy, Oversized v ∷ []) ∷ []))
-    go true = (plain (DirectY Automatic v) _ refl refl refl, (plain (DirectY Automatic v) _ refl refl refl, tt))
-    go false = (plain (DirectY Automatic v) _ refl refl refl, (plain (DirectY Automatic v) _ refl refl refl, tt))
+ways_are_modes above (DirectY Automatic v) = by_sizes (EachWay (DirectY Automatic v)) above Zpy Absy v (plain (DirectY Automatic v) _ refl refl refl, (plain (DirectY Automatic v) _ refl refl refl, tt)) (plain (DirectY Automatic v) _ refl refl refl, (plain (DirectY Automatic v) _ refl refl refl, tt))
 ways_are_modes above (Two v w) = (plain (Two v w) _ refl refl (rw (zero_page_len above v) refl), tt)
 ways_are_modes above (Indirect v) = (plain (Indirect v) _ refl refl (rw (zero_page_len above v) refl), (plain (Indirect v) _ refl refl refl, tt))
 ways_are_modes above (IndirectX v) = (plain (IndirectX v) _ refl refl (rw (zero_page_len above v) refl), (plain (IndirectX v) _ refl refl refl, tt))
@@ -78,41 +78,22 @@ among above (Direct Absolute v) Abs p same = refl
 among above (Direct Absolute v) Zp p same = false_true (p refl)
 among above (Direct Absolute v) Rel p same = false_true (p refl)
 among above (Direct Absolute v) _ p same = false_true same
-among above (Direct Automatic v) x p same = go (has_zero_page_size above v) x same
-  where
-    go : (b : Bool) (x : Mode) → bytes_eq (written x) (form_text (Direct Automatic v)) ≡ true → list_any (is_way x) (cond b ((Zp, ZeroPage v ∷ []) ∷ (Abs, word_operand v ∷ []) ∷ []) ((Abs, word_operand v ∷ []) ∷ (Zp, Oversized v ∷ []) ∷ []) ++ (Rel, Distance v ∷ []) ∷ []) ≡ true
-    go true Zp same = refl
-    go true Abs same = refl
-    go true Rel same = refl
-    go true _ same = false_true same
-    go false Zp same = refl
-    go false Abs same = refl
-    go false Rel same = refl
-    go false _ same = false_true same
+among above (Direct Automatic v) Zp p same = by_sizes (λ ws. list_any (is_way Zp) (ws ++ (Rel, Distance v ∷ []) ∷ []) ≡ true) above Zp Abs v refl refl
+among above (Direct Automatic v) Abs p same = by_sizes (λ ws. list_any (is_way Abs) (ws ++ (Rel, Distance v ∷ []) ∷ []) ≡ true) above Zp Abs v refl refl
+among above (Direct Automatic v) Rel p same = by_sizes (λ ws. list_any (is_way Rel) (ws ++ (Rel, Distance v ∷ []) ∷ []) ≡ true) above Zp Abs v refl refl
+among above (Direct Automatic v) _ p same = false_true same
 among above (DirectX Absolute v) Absx p same = refl
 among above (DirectX Absolute v) Zpx p same = false_true (p refl)
 among above (DirectX Absolute v) _ p same = false_true same
-among above (DirectX Automatic v) x p same = go (has_zero_page_size above v) x same
-  where
-    go : (b : Bool) (x : Mode) → bytes_eq (written x) (form_text (DirectX Automatic v)) ≡ true → list_any (is_way x) (cond b ((Zpx, ZeroPage v ∷ []) ∷ (Absx, word_operand v ∷ []) ∷ []) ((Absx, word_operand v ∷ []) ∷ (Zpx, Oversized v ∷ []) ∷ [])) ≡ true
-    go true Zpx same = refl
-    go true Absx same = refl
-    go true _ same = false_true same
-    go false Zpx same = refl
-    go false Absx same = refl
-    go false _ same = false_true same
+among above (DirectX Automatic v) Zpx p same = by_sizes (λ ws. list_any (is_way Zpx) ws ≡ true) above Zpx Absx v refl refl
+among above (DirectX Automatic v) Absx p same = by_sizes (λ ws. list_any (is_way Absx) ws ≡ true) above Zpx Absx v refl refl
+among above (DirectX Automatic v) _ p same = false_true same
 among above (DirectY Absolute v) Absy p same = refl
 among above (DirectY Absolute v) Zpy p same = false_true (p refl)
 among above (DirectY Absolute v) _ p same = false_true same
-among above (DirectY Automatic v) x p same = go (has_zero_page_size above v) x same
-  where
-    go : (b : Bool) (x : Mode) → bytes_eq (written x) (form_text (DirectY Automatic v)) ≡ true → list_any (is_way x) (cond b ((Zpy, ZeroPage v ∷ []) ∷ (Absy, word_operand v ∷ []) ∷ []) ((Absy, word_operand v ∷ []) ∷ (Zpy, Oversized v ∷ []) ∷ [])) ≡ true
-    go true Zpy same = refl
-    go true Absy same = refl
-    go true _ same = false_true same
-    go false Zpy same = refl
-    go false Absy same = refl
-    go false _ same = false_true same
+among above (DirectY Automatic v) Zpy p same = by_sizes (λ ws. list_any (is_way Zpy) ws ≡ true) above Zpy Absy v refl refl
+among above (DirectY Automatic v) Absy p same = by_sizes (λ ws. list_any (is_way Absy) ws ≡ true) above Zpy Absy v refl refl
+among above (DirectY Automatic v) _ p same = false_true same
 among above (Two v w) Zprel p same = refl
 among above (Two v w) _ p same = false_true same
 among above (Indirect v) Ind p same = refl

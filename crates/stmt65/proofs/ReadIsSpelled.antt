@@ -69,19 +69,13 @@ pub value_read : (ps : List Part) → IfSome (next_value ps) (λ v. Fronts (IsVa
 unfolding next_value
 value_read (Number t ∷ ps) = record { front = Number t ∷ []; split = refl; is = (t, refl, refl) }
 value_read (Word w ∷ ps) = by_test (is_name w) (λ n. rw n (named_read w ps n)) (λ n. rw n tt)
-value_read [] = tt
-value_read (Text t ∷ ps) = tt
-value_read (Define ∷ ps) = tt
-value_read (Mark b ∷ ps) = tt
+value_read _ = tt
 
 pub datum_read : (ps : List Part) → IfSome (next_datum ps) (λ x. Fronts (IsDatum x.0) ps x.1)
 unfolding next_datum
 datum_read (Number t ∷ ps) = record { front = Number t ∷ []; split = refl; is = (t, refl, refl) }
 datum_read (Text t ∷ ps) = record { front = Text t ∷ []; split = refl; is = refl }
-datum_read [] = tt
-datum_read (Word w ∷ ps) = tt
-datum_read (Define ∷ ps) = tt
-datum_read (Mark b ∷ ps) = tt
+datum_read _ = tt
 
 -- what holds of what is read, where something is read
 pub at : {A : Type 0} (P : A → Type 0) (o : Option A) (x : A) → o ≡ Some x → IfSome o P → P x
@@ -221,11 +215,7 @@ at_number is ps n h g = let t = number_is ps n h in (Number t.0 ∷ [], n.1, t.2
 text_read : (ps : List Part) → IfSome (text_in ps) (λ t. ps ≡ Text t ∷ [])
 unfolding text_in
 text_read (Text t ∷ ps) = by_list ps (λ end. rw end refl) (λ q qs e. rw e tt)
-text_read [] = tt
-text_read (Word v ∷ ps) = tt
-text_read (Number n ∷ ps) = tt
-text_read (Define ∷ ps) = tt
-text_read (Mark b ∷ ps) = tt
+text_read _ = tt
 
 -- the same of another thing that is made of what is read
 then_read : {A : Type 0} (P : A → Type 0) (o : Option A) (make : A → Operation) (full : List Part)
@@ -273,10 +263,7 @@ operation_of_read : (ps : List Part) → IfSome (operation_of ps) (λ o. Spells 
 unfolding operation_of
 operation_of_read [] = at_end
 operation_of_read (Word w ∷ ps) = operation_read w ps
-operation_of_read (Number n ∷ ps) = tt
-operation_of_read (Text t ∷ ps) = tt
-operation_of_read (Define ∷ ps) = tt
-operation_of_read (Mark b ∷ ps) = tt
+operation_of_read _ = tt
 
 constant_read : (w : List ℕ) (ps : List Part) → is_name w ≡ true → is_define ps ≡ true → IfSome (constant_of w (drop 1 ps)) (λ r. IsSpelling r (Word w ∷ ps))
 unfolding constant_of
@@ -316,7 +303,4 @@ pub reading_read : (ps : List Part) → IfSome (reading_of ps) (λ r. IsSpelling
 unfolding reading_of
 reading_read [] = at_end
 reading_read (Word w ∷ ps) = line_read w ps
-reading_read (Number n ∷ ps) = tt
-reading_read (Text t ∷ ps) = tt
-reading_read (Define ∷ ps) = tt
-reading_read (Mark b ∷ ps) = tt
+reading_read _ = tt

@@ -8,7 +8,7 @@ use Rattle.stmt65.specs.declared.assembling.fault.AsmFaultKind.{AsmFaultKind}
 use Rattle.stmt65.specs.SourceLine.{SourceLine}
 use Rattle.stmt65.proofs.EntryLaws.{entry_bytes-length}
 use Rattle.stmt65.specs.Symbols.{Definition}
-use Rattle.stmt65.specs.Coding.{Fragment, Fixed, Single, ZeroPage, Oversized, Entry, Distance, entry_or_zero, fragment_len, fragment_bytes, coding_len}
+use Rattle.stmt65.specs.Coding.{Fragment, Entry, entry_or_zero, fragment_len, fragment_bytes, coding_len}
 use Rattle.stmt65.specs.Meaning.{State, initial, after, fault_of, fragments_of, next_of, bytes_of, coded, meaning_of, with_front}
 use Rattle.stmt65.specs.TextLaws.{Line, lines_below, names_of, IsFaultless, line_bytes, MeansBytes, MeansFault, StandsAtItsBytes}
 
@@ -16,12 +16,8 @@ use Rattle.stmt65.specs.TextLaws.{Line, lines_below, names_of, IsFaultless, line
 
 fragment_len-bytes : (all : List Definition) (next : ℕ) (f : Fragment) → length (fragment_bytes all next f) ≡ fragment_len f
 unfolding fragment_bytes
-fragment_len-bytes all next (Fixed b) = refl
-fragment_len-bytes all next (Single v) = refl
-fragment_len-bytes all next (ZeroPage v) = refl
-fragment_len-bytes all next (Oversized v) = refl
 fragment_len-bytes all next (Entry d v) = entry_bytes-length d (entry_or_zero all d v)
-fragment_len-bytes all next (Distance v) = refl
+fragment_len-bytes all next _ = refl
 
 coding_len-bytes : (all : List Definition) (next : ℕ) (fs : List Fragment) → length (flat_map (fragment_bytes all next) fs) ≡ coding_len fs
 unfolding coding_len
