@@ -50,7 +50,8 @@ group_items g = group_name g.0.kind ∷ mark opening_brace ∷ (flat_map (given_
 -- none of these attributes was given before it, and there is room for each
 abbrev pub AreNew : List GroupView → GroupKind → List AssignmentView → List AssignmentView → Type 0
 AreNew before k given [] = Unit {0}
-AreNew before k given (x ∷ xs) = (is_given before k given x.attribute ≡ false) × (has_room before x.attribute ≡ true) × AreNew before k (given ++ x ∷ []) xs
+AreNew before k given (x ∷ xs) =
+    (is_given before k given x.attribute ≡ false) × (has_room before x.attribute ≡ true) × AreNew before k (given ++ x ∷ []) xs
 
 -- a group that may stand after those before it
 pub record IsGroup (before : List GroupView) (g : GroupView) : Type 0 where

@@ -19,7 +19,9 @@ include_from None start ignore = Err Missing
 
 -- the include file that a group ASMINC says by what is given in it, or the fault that it has by itself
 unfoldable pub include_in : List AssignmentView → Result IncludeView InfoFaultKind
-include_in given = include_from (as_name (value_in attribute.File given)) (as_character (value_in attribute.CommentStart given)) (as_boolean (value_in attribute.IgnoreUnknown given))
+include_in given =
+    include_from (as_name (value_in attribute.File given)) (as_character (value_in attribute.CommentStart given))
+    (as_boolean (value_in attribute.IgnoreUnknown given))
 
 abbrev pub include_part : GroupView → List IncludeView
 include_part g = if_include g.kind (include_in g.given)

@@ -46,7 +46,8 @@ AreSaid (g ∷ gs) is = Says g.kind g.given is (AreSaid gs)
 
 -- The include files of an information file are those that its groups ASMINC say; there are at most 16, and their names are file names.
 abbrev pub IncludesSaid : Type 0
-IncludesSaid = (o : OptionsView) (bytes : List ℕ) (info : InfoView) (i : IsInformation o bytes info) → AreSaid i.groups info.includes × AreIncludes info.includes
+IncludesSaid =
+    (o : OptionsView) (bytes : List ℕ) (info : InfoView) (i : IsInformation o bytes info) → AreSaid i.groups info.includes × AreIncludes info.includes
 
 -- ---- a line
 
@@ -72,7 +73,8 @@ pub record AreDigitsOf (radix : ℕ) (digits : List ℕ) (address : ℕ) : Type 
 abbrev pub WritesAddress : List ℕ → ℕ → Type 0
 WritesAddress value address =
     AreDigitsOf 10 value address
-    ⊎ (((digits : List ℕ) × (value ≡ 36 ∷ digits) × AreDigitsOf 16 digits address) ⊎ ((digits : List ℕ) × (value ≡ 37 ∷ digits) × AreDigitsOf 2 digits address))
+    ⊎ (((digits : List ℕ) × (value ≡ 36 ∷ digits) × AreDigitsOf 16 digits address)
+    ⊎ ((digits : List ℕ) × (value ≡ 37 ∷ digits) × AreDigitsOf 2 digits address))
 
 -- a name, `=` or `:=`, and a value that writes its address, with blanks around each part
 pub record IsAssignment (text : List ℕ) (n : NameView) : Type 0 where
@@ -114,24 +116,33 @@ LinesSpelled = (comment_start : ℕ) (line : List ℕ) → IsLineLaw comment_sta
 -- What a line adds to the names before it, or its fault.
 abbrev pub LineAdds : ℕ → List NameView → List ℕ → Result (Option NameView) InfoFaultKind → Type 0
 -- nothing: it is blank, or it spells a name, which is not refused, of an address that has one
-LineAdds start names line (Ok None) = IsBlankLine start line ⊎ ((n : NameView) × IsSpelling start line n × (length n.text ≤ 80) × IsFree n × Any (λ m. m.address ≡ n.address) names)
+LineAdds start names line (Ok None) =
+    IsBlankLine start line
+    ⊎ ((n : NameView) × IsSpelling start line n × (length n.text ≤ 80) × IsFree n × Any (λ m. m.address ≡ n.address) names)
 -- a name that it spells, whose text and address are new
-LineAdds start names line (Ok (Some n)) = IsSpelling start line n × (length n.text ≤ 80) × IsFree n × All (λ m. (m.text ≢ n.text) × (m.address ≢ n.address)) names
+LineAdds start names line (Ok (Some n)) =
+    IsSpelling start line n × (length n.text ≤ 80) × IsFree n × All (λ m. (m.text ≢ n.text) × (m.address ≢ n.address)) names
 LineAdds start names line (Err BadInclude) = (IsBlankLine start line → ⊥) × ((n : NameView) → IsSpelling start line n → ⊥)
 LineAdds start names line (Err BadName) = (n : NameView) × IsSpelling start line n × (80 < length n.text)
 LineAdds start names line (Err ReservedName) = (n : NameView) × IsSpelling start line n × (length n.text ≤ 80) × IsReserved n.address n.text
-LineAdds start names line (Err NameTwice) = (n : NameView) × IsSpelling start line n × (length n.text ≤ 80) × IsFree n × All (λ m. m.address ≢ n.address) names × Any (λ m. m.text ≡ n.text) names
+LineAdds start names line (Err NameTwice) =
+    (n : NameView) × IsSpelling start line n × (length n.text ≤ 80) × IsFree n
+    × All (λ m. m.address ≢ n.address) names × Any (λ m. m.text ≡ n.text) names
 LineAdds start names line (Err _) = ⊥
 
 -- the line adds nothing, or has a fault where IGNOREUNKNOWN is on
 abbrev pub IsPassedOver : IncludeView → List NameView → List ℕ → Type 0
-IsPassedOver i names line = LineAdds i.comment_start names line (Ok None) ⊎ ((i.ignore_unknown ≡ true) × ((f : InfoFaultKind) × LineAdds i.comment_start names line (Err f)))
+IsPassedOver i names line =
+    LineAdds i.comment_start names line (Ok None)
+    ⊎ ((i.ignore_unknown ≡ true) × ((f : InfoFaultKind) × LineAdds i.comment_start names line (Err f)))
 
 -- the names that the lines add, one after the other, to those before them
 abbrev pub AreAdded : IncludeView → List NameView → List (List ℕ) → List NameView → Type 0
 AreAdded i names [] added = added ≡ []
 AreAdded i names (l ∷ ls) [] = IsPassedOver i names l × AreAdded i names ls []
-AreAdded i names (l ∷ ls) (n ∷ ns) = (IsPassedOver i names l × AreAdded i names ls (n ∷ ns)) ⊎ (LineAdds i.comment_start names l (Ok (Some n)) × AreAdded i (names ++ n ∷ []) ls ns)
+AreAdded i names (l ∷ ls) (n ∷ ns) =
+    (IsPassedOver i names l × AreAdded i names ls (n ∷ ns))
+    ⊎ (LineAdds i.comment_start names l (Ok (Some n)) × AreAdded i (names ++ n ∷ []) ls ns)
 
 -- the names of a file of these bytes besides those that were there, in the order of their addresses
 pub record IsIncluded (i : IncludeView) (names : List NameView) (bytes : List ℕ) (all : List NameView) : Type 0 where
@@ -155,7 +166,8 @@ pub record IsFirstFault (i : IncludeView) (names : List NameView) (lines : List 
 
 -- it is too large, whatever it holds, or a line of it has a fault
 abbrev pub IsRefused : IncludeView → List NameView → List ℕ → InfoFault → Type 0
-IsRefused i names bytes e = ((1_048_576 < length bytes) × (e ≡ fault 1 TooLarge)) ⊎ ((length bytes ≤ 1_048_576) × IsFirstFault i names (text_lines bytes) e)
+IsRefused i names bytes e =
+    ((1_048_576 < length bytes) × (e ≡ fault 1 TooLarge)) ⊎ ((length bytes ≤ 1_048_576) × IsFirstFault i names (text_lines bytes) e)
 
 -- An include file adds exactly the names of its lines, in their order, or is refused for exactly the first line that has a fault.
 pub record IsFileLaw (i : IncludeView) (names : List NameView) (bytes : List ℕ) : Type 0 where

@@ -33,7 +33,9 @@ label_from _ _ size comment = Err Missing
 
 -- the name that a group LABEL says by what is given in it, or the fault that it has by itself
 unfoldable pub label_in : List AssignmentView → Result NameView InfoFaultKind
-label_in given = label_from (as_address (value_in attribute.Address given)) (as_name (value_in attribute.Name given)) (as_number (value_in attribute.Size given)) (comment_in given)
+label_in given =
+    label_from (as_address (value_in attribute.Address given)) (as_name (value_in attribute.Name given))
+    (as_number (value_in attribute.Size given)) (comment_in given)
 
 -- the name that a group RANGE says: that of its first address
 unfoldable pub range_name : List AssignmentView → RangeSpec → Option NameView

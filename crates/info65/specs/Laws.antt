@@ -23,7 +23,9 @@ AcceptsFiles = (o : OptionsView) (bytes : List ℕ) (info : InfoView) → (infor
 
 -- These tokens have no fault, at any place: at their end only more can be missing.
 abbrev pub IsFaultless : OptionsView → List TokenView → Type 0
-IsFaultless o ts = (line : ℕ) → ((groups : List GroupView) × (read_from o outside [] ts (Ok line) ≡ Ok groups)) ⊎ (read_from o outside [] ts (Ok line) ≡ Err (fault line Expected))
+IsFaultless o ts =
+    (line : ℕ) → ((groups : List GroupView) × (read_from o outside [] ts (Ok line) ≡ Ok groups))
+    ⊎ (read_from o outside [] ts (Ok line) ≡ Err (fault line Expected))
 
 -- whatever follows these tokens, the fault is this
 abbrev pub Refuses : OptionsView → List TokenView → InfoFault → Type 0

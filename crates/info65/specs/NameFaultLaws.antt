@@ -44,7 +44,8 @@ IsFree n = IsReserved n.address n.text → ⊥
 abbrev pub HasFault : List NameView → NameView → Option InfoFaultKind → Type 0
 HasFault before n (Some ReservedName) = IsReserved n.address n.text
 HasFault before n (Some NameTwice) = IsFree n × Any (λ m. (m.text ≡ n.text) × (m.address ≢ n.address)) before
-HasFault before n (Some AddressTwice) = IsFree n × All (λ m. m.text ≡ n.text → m.address ≡ n.address) before × Any (λ m. m.address ≡ n.address) before
+HasFault before n (Some AddressTwice) =
+    IsFree n × All (λ m. m.text ≡ n.text → m.address ≡ n.address) before × Any (λ m. m.address ≡ n.address) before
 HasFault before n (Some _) = ⊥
 HasFault before n None = IsFree n × All (λ m. (m.text ≢ n.text) × (m.address ≢ n.address)) before
 
@@ -53,7 +54,8 @@ HasFault before n None = IsFree n × All (λ m. (m.text ≢ n.text) × (m.addres
 pub record IsFaultAtBrace (before : List GroupView) (n : NameView) (fault : Option InfoFaultKind) : Type 0 where
   pub label : (given : List AssignmentView) → label_in given ≡ Ok n
       → (closing_fault before group.Label given ≡ fault) ↔ HasFault (names_said before) n fault
-  pub range : (given : List AssignmentView) (r : RangeSpec) → range_in given ≡ Ok r → (Any (Share r) (ranges_of before) → ⊥) → range_name given r ≡ Some n
+  pub range : (given : List AssignmentView) (r : RangeSpec) → range_in given ≡ Ok r → (Any (Share r) (ranges_of before) → ⊥)
+      → range_name given r ≡ Some n
       → (closing_fault before group.Range given ≡ fault) ↔ HasFault (names_said before) n fault
 
 abbrev pub NameFaults : Type 0

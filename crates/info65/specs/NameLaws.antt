@@ -25,9 +25,12 @@ CoversHighest = (names : List NameView) → AreNames names → IsCovering names
 
 -- An address that is a name's own has that name.
 abbrev pub OwnAddressWins : Type 0
-OwnAddressWins = (names : List NameView) → AreNames names → (i : ℕ) → i < length names → covering names (name_at names i).address ≡ Some (name_at names i)
+OwnAddressWins =
+    (names : List NameView) → AreNames names → (i : ℕ) → i < length names → covering names (name_at names i).address ≡ Some (name_at names i)
 
 -- The names of an information file are exactly those that its groups LABEL and RANGE say. They ascend by
 -- address, no two have one text, and none is reserved or extends past $FFFF.
 abbrev pub NamesGiven : Type 0
-NamesGiven = (o : OptionsView) (bytes : List ℕ) (info : InfoView) (i : IsInformation o bytes info) → AreNames info.names × ((n : NameView) → Contains info.names n ↔ Contains (names_said i.groups) n)
+NamesGiven =
+    (o : OptionsView) (bytes : List ℕ) (info : InfoView) (i : IsInformation o bytes info)
+    → AreNames info.names × ((n : NameView) → Contains info.names n ↔ Contains (names_said i.groups) n)

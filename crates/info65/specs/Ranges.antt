@@ -55,7 +55,9 @@ range_from _ end size _ = Err Missing
 
 -- the range that START, END, SIZE and TYPE say
 unfoldable pub range_of_parts : List AssignmentView → Result RangeSpec InfoFaultKind
-range_of_parts given = range_from (as_address (value_in attribute.Start given)) (as_address (value_in attribute.End given)) (as_number (value_in attribute.Size given)) (as_type (value_in attribute.Role given))
+range_of_parts given =
+    range_from (as_address (value_in attribute.Start given)) (as_address (value_in attribute.End given))
+    (as_number (value_in attribute.Size given)) (as_type (value_in attribute.Role given))
 
 -- the range that a group RANGE says by what is given in it, or the fault that it has by itself; a comment
 -- needs a name

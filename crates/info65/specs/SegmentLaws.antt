@@ -32,7 +32,8 @@ AreSaid (g ∷ gs) ss = Says g.kind g.given ss (AreSaid gs)
 -- The segments of an information file are those that its groups SEGMENT say; none ends before it begins,
 -- and no address belongs to two of them.
 abbrev pub SegmentsApart : Type 0
-SegmentsApart = (o : OptionsView) (bytes : List ℕ) (info : InfoView) (i : IsInformation o bytes info) → AreSaid i.groups info.segments × AreSegments info.segments
+SegmentsApart =
+    (o : OptionsView) (bytes : List ℕ) (info : InfoView) (i : IsInformation o bytes info) → AreSaid i.groups info.segments × AreSegments info.segments
 
 -- an address belongs to both segments
 abbrev pub Share : SegmentView → SegmentView → Type 0

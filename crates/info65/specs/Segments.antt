@@ -64,7 +64,8 @@ segment_from _ _ _ = Err Missing
 
 -- the segment that a group SEGMENT says by what is given in it, or the fault that it has by itself
 unfoldable pub segment_in : List AssignmentView → Result SegmentView InfoFaultKind
-segment_in given = segment_from (as_address (value_in attribute.Start given)) (as_address (value_in attribute.End given)) (as_name (value_in attribute.Name given))
+segment_in given =
+    segment_from (as_address (value_in attribute.Start given)) (as_address (value_in attribute.End given)) (as_name (value_in attribute.Name given))
 
 abbrev pub segment_part : GroupView → List SegmentView
 segment_part g = if_segment g.kind (segment_in g.given)

@@ -33,4 +33,10 @@ settings_of o given = record {
 
 -- what groups say, merged with the options
 abbrev pub info_of : OptionsView → List GroupView → InfoView
-info_of o groups = record { settings = settings_of o (global_given groups); ranges = ranges_of groups; segments = segments_of groups; names = by_address (names_said groups); includes = includes_of groups }
+info_of o groups = record {
+  settings = settings_of o (global_given groups);
+  ranges = ranges_of groups;
+  segments = segments_of groups;
+  names = by_address (names_said groups);
+  includes = includes_of groups;
+}

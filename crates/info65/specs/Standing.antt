@@ -56,7 +56,8 @@ Ends in_comment line bytes (Err e) = IsNoToken in_comment line bytes e
 -- these tokens stand in the bytes, one after the other, and then they end so
 abbrev pub Stand : Bool → ℕ → List ℕ → List TokenView → Result ℕ InfoFault → Type 0
 Stand in_comment line bytes [] ending = Ends in_comment line bytes ending
-Stand in_comment line bytes (t ∷ ts) ending = (rest : List ℕ) × (more : ℕ) × IsNext in_comment line bytes t rest more × Stand false t.line (drop (more + 1) rest) ts ending
+Stand in_comment line bytes (t ∷ ts) ending =
+    (rest : List ℕ) × (more : ℕ) × IsNext in_comment line bytes t rest more × Stand false t.line (drop (more + 1) rest) ts ending
 
 -- The tokens of a text stand in it in their order, with nothing but blanks and comments between them; each
 -- has the slice of the text that it takes, and the line feeds before it count its line.

@@ -48,13 +48,16 @@ abbrev pub IsColumn : ℕ → Type 0
 IsColumn n = (1 ≤ n) × (n ≤ 120)
 
 -- the limits of the numbers of the options
-pub record AreOptions (o : OptionsView) : Type 0 where
-  pub comments : IfSome o.comments (λ n. n ≤ 4)
-  pub mnemonic_column : IfSome o.mnemonic_column IsColumn
-  pub argument_column : IfSome o.argument_column IsColumn
-  pub comment_column : IfSome o.comment_column IsColumn
-  pub text_column : IfSome o.text_column IsColumn
-  pub label_break : IfSome o.label_break (λ n. n ≤ 120)
+pub record AreOptionNumbers (level mnemonic argument comment text label : Option ℕ) : Type 0 where
+  pub comments : IfSome level (λ n. n ≤ 4)
+  pub mnemonic_column : IfSome mnemonic IsColumn
+  pub argument_column : IfSome argument IsColumn
+  pub comment_column : IfSome comment IsColumn
+  pub text_column : IfSome text IsColumn
+  pub label_break : IfSome label (λ n. n ≤ 120)
+
+abbrev pub AreOptions : OptionsView → Type 0
+AreOptions o = AreOptionNumbers o.comments o.mnemonic_column o.argument_column o.comment_column o.text_column o.label_break
 
 -- what decides how an image is read and listed
 pub record SettingsView : Type 0 where
@@ -95,15 +98,19 @@ default_settings = record {
 }
 
 -- the limits of the numbers of the settings
-pub record AreInLimits (s : SettingsView) : Type 0 where
-  pub offset : s.offset ≤ 16_777_216
-  pub size : IfSome s.size (λ n. (1 ≤ n) × (n ≤ 0x1_0000))
-  pub comments : s.comments ≤ 4
-  pub mnemonic_column : IsColumn s.mnemonic_column
-  pub argument_column : IsColumn s.argument_column
-  pub comment_column : IsColumn s.comment_column
-  pub text_column : IsColumn s.text_column
-  pub label_break : s.label_break ≤ 120
+pub record AreSettingNumbers (from level mnemonic argument comment text label : ℕ) (taken : Option ℕ) : Type 0 where
+  pub offset : from ≤ 16_777_216
+  pub size : IfSome taken (λ n. (1 ≤ n) × (n ≤ 0x1_0000))
+  pub comments : level ≤ 4
+  pub mnemonic_column : IsColumn mnemonic
+  pub argument_column : IsColumn argument
+  pub comment_column : IsColumn comment
+  pub text_column : IsColumn text
+  pub label_break : label ≤ 120
+
+abbrev pub AreInLimits : SettingsView → Type 0
+AreInLimits s =
+    AreSettingNumbers s.offset s.comments s.mnemonic_column s.argument_column s.comment_column s.text_column s.label_break s.size
 
 -- a name: its own address, how many addresses it is for from that on, its text, and its comment
 pub record NameView : Type 0 where

@@ -19,7 +19,8 @@ use Rattle.info65.specs.declared.lookup.index.Index.{Index}
 -- the fault of a group RANGE after the ranges of the table and the names of the index
 abbrev pub IsRangeFault : {Z : Type 0} → List Bool → Index Z → List AssignmentView → Option InfoFaultKind → Type 0
 IsRangeFault table i given fault =
-    (ranges : List RangeSpec) (names : List NameView) → AreRanged ranges table → Indexes names i → fault ≡ range_fault ranges names given (range_in given)
+    (ranges : List RangeSpec) (names : List NameView) → AreRanged ranges table → Indexes names i
+    → fault ≡ range_fault ranges names given (range_in given)
 
 -- the fault of a group SEGMENT after the segments of the table
 abbrev pub IsSegmentFault : List Bool → List AssignmentView → Option InfoFaultKind → Type 0
@@ -38,12 +39,14 @@ SegmentsToo g old new = (before : List GroupView) → AreMarked (segments_of bef
 -- the index has one name more, if there is one that has no fault
 abbrev pub IndexesToo : {X E Z : Type 0} → Option NameView → Index Z → Result X E → Index Z → Type 0
 IndexesToo added old result new =
-    (names : List NameView) → Indexes names old → optional_name_fault names added ≡ None → IfOk result (λ _. Indexes (names ++ option_to_list added) new)
+    (names : List NameView) → Indexes names old → optional_name_fault names added ≡ None
+    → IfOk result (λ _. Indexes (names ++ option_to_list added) new)
 
 -- the index has the names of one group more, which has no fault
 abbrev pub IndexesGroup : {X E Z : Type 0} → GroupView → Index Z → Result X E → Index Z → Type 0
 IndexesGroup g old result new =
-    (before : List GroupView) → Indexes (names_said before) old → closing_fault before g.kind g.given ≡ None → IfOk result (λ _. Indexes (names_said (before ++ g ∷ [])) new)
+    (before : List GroupView) → Indexes (names_said before) old → closing_fault before g.kind g.given ≡ None
+    → IfOk result (λ _. Indexes (names_said (before ++ g ∷ [])) new)
 
 -- ---- texts
 
@@ -54,5 +57,6 @@ IsPut text address old new = (k : ℕ) → get_or new.cells k None ≡ (if slot_
 -- the texts have that of one name more, whose text stands nowhere and whose address has no name
 abbrev pub StandsIfNew : {X E : Type 0} → Given → TextsView → Result X E → TextsView → Type 0
 StandsIfNew n old result new =
-    (found more : ℕ → Option Given) → AreTexts old → found n.address ≡ None → stands_in found old n.text.now ≡ None → ((a : ℕ) → more a ≡ (if n.address == a then Some n else found a))
+    (found more : ℕ → Option Given) → AreTexts old → found n.address ≡ None → stands_in found old n.text.now ≡ None
+    → ((a : ℕ) → more a ≡ (if n.address == a then Some n else found a))
     → IfOk result (λ _. StandsToo found more n old new)

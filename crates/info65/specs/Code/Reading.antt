@@ -41,8 +41,10 @@ AlwaysMoves place old result next new = (o : OptionsView) (before : List GroupVi
 
 -- a part takes this token, whatever comes after it
 abbrev pub TakesToken : {X : Type 0} → List GroupView → Place → TokenView → Result X InfoFault → (X → Place) → Type 0
-TakesToken before place t result next = (o : OptionsView) (rest : Stream) → Leads (read_token o place before t rest) result (λ x. read o (next x) before rest)
+TakesToken before place t result next =
+    (o : OptionsView) (rest : Stream) → Leads (read_token o place before t rest) result (λ x. read o (next x) before rest)
 
 -- a part reads on to the end of a group
-abbrev pub ReadsGroup : {Z : Type 0} → OptionsView → List GroupView → Result (List GroupView) InfoFault → Result (Group Z) InfoFault → Stream → Type 0
+abbrev pub ReadsGroup : {Z : Type 0} → OptionsView → List GroupView → Result (List GroupView) InfoFault
+    → Result (Group Z) InfoFault → Stream → Type 0
 ReadsGroup o before whole result new = Grows whole result (λ g. read o closed (before ++ group_seen g ∷ []) new)

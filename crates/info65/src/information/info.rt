@@ -43,7 +43,7 @@ impl<A: Allocator> Model for Info<A> {
 
     ghost view = { λ i. record { settings = i.settings; ranges = i.ranges.items; segments = i.segments; names = i.names; includes = i.includes.items } };
 
-    ghost invariant = { λ i. IsSound (record { settings = i.settings; ranges = i.ranges.items; segments = i.segments; names = i.names; includes = i.includes.items }) };
+    ghost invariant = { λ i. IsSound i.settings i.ranges.items i.segments i.names i.includes.items };
 }
 
 impl<A: Allocator> Info<A> {

@@ -38,13 +38,28 @@ pub struct Options<A: Allocator = Global> {
 }
 
 impl<A: Allocator> Model for Options<A> {
-    ghost use Rattle.info65.specs.Views.{AreOptions, OptionsView, name_seen};
+    ghost use Rattle.info65.specs.Views.{AreOptionNumbers, OptionsView, name_seen};
 
     ghost Value = { OptionsView };
 
-    ghost view = { λ o. record { info = name_seen o.info; input = name_seen o.input; output = name_seen o.output; start = o.start; cpu = o.cpu; comments = o.comments; mnemonic_column = o.mnemonic_column; argument_column = o.argument_column; comment_column = o.comment_column; text_column = o.text_column; label_break = o.label_break; hexoffs = o.hexoffs; help = o.help; version = o.version } };
+    ghost view = { λ o. record {
+      info = name_seen o.info;
+      input = name_seen o.input;
+      output = name_seen o.output;
+      start = o.start;
+      cpu = o.cpu;
+      comments = o.comments;
+      mnemonic_column = o.mnemonic_column;
+      argument_column = o.argument_column;
+      comment_column = o.comment_column;
+      text_column = o.text_column;
+      label_break = o.label_break;
+      hexoffs = o.hexoffs;
+      help = o.help;
+      version = o.version;
+    } };
 
-    ghost invariant = { λ o. AreOptions (record { info = name_seen o.info; input = name_seen o.input; output = name_seen o.output; start = o.start; cpu = o.cpu; comments = o.comments; mnemonic_column = o.mnemonic_column; argument_column = o.argument_column; comment_column = o.comment_column; text_column = o.text_column; label_break = o.label_break; hexoffs = o.hexoffs; help = o.help; version = o.version }) };
+    ghost invariant = { λ o. AreOptionNumbers o.comments o.mnemonic_column o.argument_column o.comment_column o.text_column o.label_break };
 }
 
 impl<A: Allocator> Options<A> {

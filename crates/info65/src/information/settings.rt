@@ -41,11 +41,27 @@ pub struct Settings<A: Allocator = Global> {
 }
 
 impl<A: Allocator> Model for Settings<A> {
-    ghost use Rattle.info65.specs.Views.{AreInLimits, SettingsView, name_seen};
+    ghost use Rattle.info65.specs.Views.{AreSettingNumbers, SettingsView, name_seen};
 
     ghost Value = { SettingsView };
 
-    ghost view = { λ s. record { input = name_seen s.input; output = name_seen s.output; offset = s.offset; size = s.size; start = s.start; cpu = s.cpu; comments = s.comments; mnemonic_column = s.mnemonic_column; argument_column = s.argument_column; comment_column = s.comment_column; text_column = s.text_column; label_break = s.label_break; hexoffs = s.hexoffs; newline_after_jmp = s.newline_after_jmp; newline_after_rts = s.newline_after_rts } };
+    ghost view = { λ s. record {
+      input = name_seen s.input;
+      output = name_seen s.output;
+      offset = s.offset;
+      size = s.size;
+      start = s.start;
+      cpu = s.cpu;
+      comments = s.comments;
+      mnemonic_column = s.mnemonic_column;
+      argument_column = s.argument_column;
+      comment_column = s.comment_column;
+      text_column = s.text_column;
+      label_break = s.label_break;
+      hexoffs = s.hexoffs;
+      newline_after_jmp = s.newline_after_jmp;
+      newline_after_rts = s.newline_after_rts;
+    } };
 
-    ghost invariant = { λ s. AreInLimits (record { input = name_seen s.input; output = name_seen s.output; offset = s.offset; size = s.size; start = s.start; cpu = s.cpu; comments = s.comments; mnemonic_column = s.mnemonic_column; argument_column = s.argument_column; comment_column = s.comment_column; text_column = s.text_column; label_break = s.label_break; hexoffs = s.hexoffs; newline_after_jmp = s.newline_after_jmp; newline_after_rts = s.newline_after_rts }) };
+    ghost invariant = { λ s. AreSettingNumbers s.offset s.comments s.mnemonic_column s.argument_column s.comment_column s.text_column s.label_break s.size };
 }
