@@ -8,7 +8,6 @@ ghost use Rattle.info65.specs.SegmentLaws.{CoversOne, SegmentsApart, SegmentsSha
 ghost use Rattle.info65.specs.Standing.{TokensStand};
 
 /// A text is accepted exactly where its whole token list splits into groups that keep every condition.
-#[tactic(auto, using(crate::proofs::FileLaws::accepts_files))]
 pub fn accepts_files()
     ensures { AcceptsFiles }
 {}
@@ -27,19 +26,16 @@ pub fn tokens_stand()
 {}
 
 /// In an accepted file no attribute of the groups GLOBAL stands twice.
-#[tactic(auto, using(crate::proofs::OnceLemmas::global_once))]
 pub fn global_once()
     ensures { GlobalOnce }
 {}
 
 /// In an accepted file no attribute stands twice in a group, and not both END and SIZE do.
-#[tactic(auto, using(crate::proofs::OnceLemmas::given_once))]
 pub fn given_once()
     ensures { GivenOnce }
 {}
 
 /// The ranges of an accepted file are those that its groups RANGE say, and no address belongs to two.
-#[tactic(auto, using(crate::proofs::RangeLemmas::ranges_apart))]
 pub fn ranges_apart()
     ensures { RangesApart }
 {}
@@ -64,13 +60,11 @@ pub fn own_address_wins()
 
 /// The names of an accepted file are exactly those that its groups LABEL and RANGE say. They ascend by
 /// address, no two have one text, and none is reserved.
-#[tactic(auto, using(crate::proofs::NamesLemmas::names_given))]
 pub fn names_given()
     ensures { NamesGiven }
 {}
 
 /// The segments of an accepted file are those that its groups SEGMENT say, and no address belongs to two.
-#[tactic(auto, using(crate::proofs::SegmentLemmas::segments_apart))]
 pub fn segments_apart()
     ensures { SegmentsApart }
 {}
@@ -110,7 +104,6 @@ pub fn distinct_accepted()
 /// A line of an include file gives a name exactly where it spells that name and its address: blanks around each part,
 /// `=` or `:=`, a value up to $FFFF that is decimal or follows `$` or `%`, then a comment, one carriage return or nothing.
 /// It gives nothing exactly where it is blank up to there.
-#[tactic(auto, using(crate::proofs::SpellingLemmas::lines_spelled))]
 pub fn lines_spelled()
     ensures { LinesSpelled }
 {}
