@@ -2,7 +2,7 @@
 use Rattle.std.proofs.Common.{◌≡◌, ◌∙◌, ◌⊎◌, inl, inr, ℕ, ◌-◌, ◌/◌, ◌%◌, ◌<◌, ◌≤◌, ◌&&◌, ◌||◌, ◌==◌, Bool, true, false, not, List, Option, Some, None, length, get_or, nat_lt, refl, ap, ap₂, sym, subst, arith, ⊎_elim}
 use Rattle.std.specs.Str.{bytes_eq}
 use Rattle.std.proofs.lemmas.Slice.Eq.{bytes_eq-Decides}
-use Rattle.std.proofs.lemmas.Bool.{and_from, both_ways, cases_Bool, cases_eq, cases_lt, cond_both, eq-eqb, false≢true, ne_eqb}
+use Rattle.std.proofs.lemmas.Bool.{and_from, both_ways, cases_Bool, cases_eq, cases_lt, cond_both, eq-eqb, false_from_ne_true, false≢true, ne_eqb}
 use Rattle.std.proofs.lemmas.Bool.Decides.{nat_tests}
 use Rattle.text65.specs.Digits.{hex_digit}
 use Rattle.text65.specs.Names.{is_reserved_word}
@@ -14,11 +14,12 @@ use Rattle.info65.specs.declared.information.range.RangeType.TheVariants.{Code}
 use Rattle.map65.proofs.ItemLaws.{begun, item_law}
 use Rattle.map65.proofs.ItemLemmas.{is_cut_at, joined-uncut}
 use Rattle.map65.proofs.NameLemmas.{base-covered, base-referenced, entry_start-default, entry_start-given, name-low, not-some}
-use Rattle.map65.proofs.NameLaws.{entry_start-entry_start, entry_start-inner, entry_start-low, entry_start-referenced, under, wide-shown}
+use Rattle.map65.proofs.NameLaws.{entry_start-entry_start, entry_start-inner, entry_start-referenced, under}
+use Rattle.map65.proofs.NamingLemmas.{entry_start-low, wide-shown}
 use Rattle.map65.proofs.PieceLaws.{own-some}
 use Rattle.map65.specs.Bases.{BaseLaw, IsInCode, LiesBy, PlaceLaw}
 use Rattle.map65.specs.ImageView.{byte_at, is_inside}
-use Rattle.map65.specs.Items.{item_len, size_at, size_for, full_len_at}
+use Rattle.map65.specs.Items.{item_len, item_start, size_at, size_for, full_len_at}
 use Rattle.map65.specs.MapView.{MapView}
 use Rattle.map65.specs.Names.{Base, IsInner, base_at, base_by, default_base, given_base, entry_start, entry_base, is_referenced, place_in, place_of}
 use Rattle.map65.specs.Pieces.{are_joined, is_joined, is_own}
@@ -185,11 +186,7 @@ IsFree m n = is_inside m.image n ≡ true → is_wide (role_of m.info n) ≡ tru
 
 named-free : (m : MapView) (n : ℕ) → is_own m.info.names n ≡ true → IsFree m n
 named-free m n own inside wide =
-    let apart : is_joined m n ≡ false =
-    ⊎_elim
-    (λ joined. absurd (both_ways (is_cut_at m n) (joined-uncut m n joined) (and_from _ _ wide own)))
-    (λ is. is)
-    (cases_Bool (is_joined m n)) in
+    let apart : is_joined m n ≡ false = false_from_ne_true (is_joined m n) (λ joined. absurd (both_ways (is_cut_at m n) (joined-uncut m n joined) (and_from _ _ wide own))) in
     ((item_law m).items.begins n).1 (record { inside = inside; shown = wide-shown (role_of m.info n) wide; place = inl (inr apart) })
 
 name-free : (m : MapView) (a : ℕ) (v : NameView) → covering m.info.names a ≡ Some v → IsFree m v.address
@@ -202,8 +199,8 @@ entry_start-free m n own inside wide =
     ⊎_elim
     (λ none.
     let u = under m n inside (wide-shown (role_of m.info n) wide) none in
-    let inner : IsInner m n u.first = record { wide = wide; begins = u.begins; after = u.after; before = u.before } in
-    absurd (omega (arith, entry_start-inner m n u.first inner, own, u.after)))
+    let inner : IsInner m n (item_start m n) = record { wide = wide; begins = u.begins; after = u.after; before = u.before } in
+    absurd (omega (arith, entry_start-inner m n (item_start m n) inner, own, u.after)))
     (λ some. omega (arith, some))
     (cases_eq (item_len m n) 0)
 
@@ -230,10 +227,10 @@ in-code : (m : MapView) (n : ℕ) → is_inside m.image n ≡ true → is_skip (
 in-code m n inside shown none narrow =
     let u = under m n inside shown none in
     ⊎_elim
-    (λ code. record { item = u.first; begins = u.begins; after = u.after; before = u.before; code = code })
+    (λ code. record { item = item_start m n; begins = u.begins; after = u.after; before = u.before; code = code })
     (λ one.
-    let single : size_at m u.first ≡ 1 = size-one m u.first (λ b. sym (ap (λ (r : RangeType). size_for m r b) u.same) ∙ one b) in
-    absurd (omega (arith, single, (begun m u.first u.begins).len, u.after, u.before)))
+    let single : size_at m (item_start m n) ≡ 1 = size-one m (item_start m n) (λ b. sym (ap (λ (r : RangeType). size_for m r b) u.same) ∙ one b) in
+    absurd (omega (arith, single, (begun m (item_start m n) u.begins).len, u.after, u.before)))
     (code-or-byte m (role_of m.info n) narrow)
 
 lies : (m : MapView) (n : ℕ) (p : Place) → place_of m n ≡ p → LiesBy p m n → LiesBy (place_of m n) m n
@@ -243,7 +240,7 @@ placed-inside : (m : MapView) (n : ℕ) → IsFree m n → is_inside m.image n �
 placed-inside m n unhidden inside shown =
     ⊎_elim
     (λ none.
-    let narrow : is_wide (role_of m.info n) ≡ false = ⊎_elim (λ wide. absurd (omega (arith, none, unhidden inside wide))) (λ is. is) (cases_Bool (is_wide (role_of m.info n))) in
+    let narrow : is_wide (role_of m.info n) ≡ false = false_from_ne_true (is_wide (role_of m.info n)) (λ wide. absurd (omega (arith, none, unhidden inside wide))) in
     lies m n Forward (place-forward m n inside shown none) (in-code m n inside shown none narrow))
     (λ some. let begins : 0 < item_len m n = omega (arith, some) in lies m n Label (place-label m n inside shown begins) begins)
     (cases_eq (item_len m n) 0)

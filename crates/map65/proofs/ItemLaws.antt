@@ -1,36 +1,12 @@
 -- The law of items.
-use Rattle.std.proofs.Common.{◌≡◌, refl, ◌≢◌, ◌∙◌, inl, inr, ℕ, zero, suc, ◌+◌, ◌-◌, ◌<◌, ◌≤◌, ◌&&◌, ◌==◌, nat_le, nat_lt, not, Bool, true, false, ap, sym, arith, ⊎_elim}
-use Rattle.std.proofs.lemmas.Bool.{and_from, and_parts, both_ways, cases_Bool, cases_eq, cond-true, cond_both, eqb-true, leb-true, ltb-true, not-true}
-use Rattle.map65.proofs.ItemLemmas.{are_joined-none, are_joined-suc, item-len-at, joined-piece, left-begun, left-past, left-first, left-going, one-role, size-one-piece, size-positive, full_len-positive}
+use Rattle.std.proofs.Common.{◌≡◌, refl, ◌∙◌, inl, inr, ℕ, zero, suc, ◌+◌, ◌-◌, ◌<◌, ◌≤◌, ◌&&◌, ◌==◌, not, Bool, true, false, ap, sym, arith, ⊎_elim}
+use Rattle.std.proofs.lemmas.Bool.{and_from, and_parts, both_ways, cases_Bool, cases_eq, cases_lt, cond-true, cond_both, eqb-true, not-true}
+use Rattle.map65.proofs.ItemLemmas.{are_joined-none, are_joined-suc, belongs, inside-if, item-len-own, item_start-after, item_start-apart, item_start-further, joined-in, joined-piece, one-role, size-positive, start-apart, start-piece, full_len-positive, within}
 use Rattle.map65.specs.ImageView.{end_of, is_inside}
-use Rattle.map65.specs.Items.{AreItems, CanBegin, EndsBefore, ItemLaw, item_len, size_at, full_len_at}
+use Rattle.map65.specs.Items.{AreItems, CanBegin, EndsBefore, ItemLaw, item_len, item_start, size_at, full_len_at}
 use Rattle.map65.specs.MapView.{MapView}
 use Rattle.map65.specs.Pieces.{AreOnePiece, are_joined, is_joined}
 use Rattle.map65.specs.Roles.{is_skip, role_of}
-use Rattle.map65.specs.Spans.{left_at}
-
--- ---- the span that a byte lies in
-
--- the span of the j-th byte, and how far it reaches
-pub record Holder (size : ℕ → ℕ) (start j : ℕ) : Type 0 where
-  pub first : ℕ
-  pub low : first ≤ j
-  pub begin : left_at size start first ≡ 0
-  pub reach : first + size (start + first) ≡ suc j + left_at size start (suc j)
-
-own-holder : (size : ℕ → ℕ) → ((a : ℕ) → 1 ≤ size a) → (start j : ℕ) → left_at size start j ≡ 0 → Holder size start j
-own-holder size positive start j none =
-    record { first = j; low = omega arith; begin = none; reach = omega (arith, left-begun size start j none, positive (start + j)) }
-
-pub holder : (size : ℕ → ℕ) → ((a : ℕ) → 1 ≤ size a) → (start j : ℕ) → Holder size start j
-holder size positive start zero = own-holder size positive start 0 (left-first size start)
-holder size positive start (suc j) =
-    ⊎_elim
-    (λ none. own-holder size positive start (suc j) none)
-    (λ some.
-    let before = holder size positive start j in
-    record { first = before.first; low = omega (arith, before.low); begin = before.begin; reach = omega (arith, before.reach, left-going size start (suc j) some, some) })
-    (cases_eq (left_at size start (suc j)) 0)
 
 -- ---- what is known where an item begins
 
@@ -39,121 +15,81 @@ pub record Begun (m : MapView) (a : ℕ) : Type 0 where
   pub low : m.image.start ≤ a
   pub high : a < end_of m.image
   pub shown : is_skip (role_of m.info a) ≡ false
-  pub none : left_at (size_at m) m.image.start (a - m.image.start) ≡ 0
+  pub own : item_start m a ≡ a
   pub len : item_len m a ≡ size_at m a
 
-begins-if : (m : MapView) (a : ℕ) → m.image.start ≤ a → a < end_of m.image → is_skip (role_of m.info a) ≡ false → left_at (size_at m) m.image.start (a - m.image.start) ≡ 0 → item_len m a ≡ size_at m a
-begins-if m a low high shown none =
-    let k : ℕ = a - m.image.start in
-    let place : m.image.start + k ≡ a = omega (arith, low) in
-    sym (ap (item_len m) place) ∙ item-len-at m k (omega (arith, low, high)) (ap (λ (x : ℕ). is_skip (role_of m.info x)) place ∙ shown) none ∙ ap (size_at m) place
-
-item-test : (m : MapView) (a : ℕ) → 0 < item_len m a → (is_inside m.image a && (not (is_skip (role_of m.info a)) && left_at (size_at m) m.image.start (a - m.image.start) == 0)) ≡ true
+item-test : (m : MapView) (a : ℕ) → 0 < item_len m a → (is_inside m.image a && (not (is_skip (role_of m.info a)) && item_start m a == a)) ≡ true
 unfolding item_len
-item-test m a =
-    let test : Bool = is_inside m.image a && (not (is_skip (role_of m.info a)) && left_at (size_at m) m.image.start (a - m.image.start) == 0) in
-    cond_both test (size_at m a) 0 (λ n. 0 < n → test ≡ true) (λ is _. is) (λ _ none. absurd (omega (arith, none)))
+item-test m a some =
+    let test : Bool = is_inside m.image a && (not (is_skip (role_of m.info a)) && item_start m a == a) in
+    cond_both test (size_at m a) 0 (λ n. 0 < n → test ≡ true) (λ is _. is) (λ _ none. absurd (omega (arith, none))) some
 
 pub begun : (m : MapView) (a : ℕ) → 0 < item_len m a → Begun m a
 begun m a some =
-    let outer = and_parts (is_inside m.image a) (not (is_skip (role_of m.info a)) && left_at (size_at m) m.image.start (a - m.image.start) == 0) (item-test m a some) in
-    let inner = and_parts (not (is_skip (role_of m.info a))) (left_at (size_at m) m.image.start (a - m.image.start) == 0) outer.1 in
-    let bounds = and_parts (nat_le m.image.start a) (nat_lt a (end_of m.image)) outer.0 in
-    let low = leb-true m.image.start a bounds.0 in
-    let high = ltb-true a (end_of m.image) bounds.1 in
+    let outer = and_parts (is_inside m.image a) (not (is_skip (role_of m.info a)) && item_start m a == a) (item-test m a some) in
+    let inner = and_parts (not (is_skip (role_of m.info a))) (item_start m a == a) outer.1 in
+    let at = within m a outer.0 in
     let shown = not-true (is_skip (role_of m.info a)) inner.0 in
-    let none = eqb-true (left_at (size_at m) m.image.start (a - m.image.start)) 0 inner.1 in
-    record { inside = outer.0; low = low; high = high; shown = shown; none = none; len = begins-if m a low high shown none }
+    let own = eqb-true (item_start m a) a inner.1 in
+    record {
+      inside = outer.0;
+      low = at.low;
+      high = at.high;
+      shown = shown;
+      own = own;
+      len = item-len-own m a outer.0 shown own;
+    }
 
-begins-inside : (m : MapView) (a : ℕ) → is_inside m.image a ≡ true → is_skip (role_of m.info a) ≡ false → left_at (size_at m) m.image.start (a - m.image.start) ≡ 0 → 0 < item_len m a
-begins-inside m a inside shown none =
-    let bounds = and_parts (nat_le m.image.start a) (nat_lt a (end_of m.image)) inside in
-    omega (arith, begins-if m a (leb-true m.image.start a bounds.0) (ltb-true a (end_of m.image) bounds.1) shown none, size-positive m a)
+-- where the item begins that an address of the image belongs to, its length is known
+pub start-len : (m : MapView) (a : ℕ) → is_inside m.image a ≡ true → is_skip (role_of m.info a) ≡ false → item_len m (item_start m a) ≡ size_at m (item_start m a)
+start-len m a inside shown =
+    let h = belongs m a in
+    ⊎_elim
+    (λ same. item-len-own m (item_start m a) (ap (is_inside m.image) same ∙ inside) (ap (λ n. is_skip (role_of m.info n)) same ∙ shown) h.own)
+    (λ other.
+    let first : m.image.start < item_start m a + 1 = omega (arith, (joined-in m (item_start m a + 1) (start-piece m a (item_start m a + 1) (omega arith) (omega (arith, h.low, other)))).low) in
+    item-len-own m (item_start m a) (inside-if m (item_start m a) (omega (arith, first)) (omega (arith, h.low, (within m a inside).high))) (sym (ap is_skip (one-role m (item_start m a) a h.low (start-piece m a))) ∙ shown) h.own)
+    (cases_eq (item_start m a) a)
 
 -- ---- the law
 
--- each byte of an item after its first is joined
-left-joined : (m : MapView) (j : ℕ) → left_at (size_at m) m.image.start (suc j) ≢ 0 → is_joined m (m.image.start + suc j) ≡ true
-left-joined m j some =
-    let h = holder (size_at m) (size-positive m) m.image.start j in
-    size-one-piece m (m.image.start + h.first) (m.image.start + suc j) (omega (arith, h.low)) (omega (arith, h.reach, some))
-
--- what is joined to the last byte of an item lies in its piece
-item-piece : (m : MapView) (b a : ℕ) → b + size_at m b ≡ a → is_joined m a ≡ true → AreOnePiece m b a
-item-piece m b a ends joined x low high =
+-- the item that ends just before a joined address where an item begins
+ends-before : (m : MapView) (a : ℕ) → Begun m (suc a) → is_joined m (suc a) ≡ true → EndsBefore m (item_len m) (suc a)
+ends-before m a is joined =
+    let here = joined-in m (suc a) joined in
+    let h = belongs m a in
+    let before : a ≡ suc a - 1 = omega arith in
+    let role : role_of m.info a ≡ role_of m.info (suc a) = ap (role_of m.info) before ∙ here.same in
+    let len = start-len m a (inside-if m a (omega (arith, here.low)) (omega (arith, here.high))) (ap is_skip role ∙ is.shown) in
+    let past : item_start m a + size_at m (item_start m a) ≤ suc a =
     ⊎_elim
-    (λ same. ap (is_joined m) same ∙ joined)
-    (λ other. size-one-piece m b x low (omega (arith, other, ends)))
-    (cases_eq x a)
-
--- the item that ends just before a joined address that no item covers from before
-ends-before : (m : MapView) (j : ℕ) → is_skip (role_of m.info (m.image.start + suc j)) ≡ false → m.image.start + suc j < end_of m.image → left_at (size_at m) m.image.start (suc j) ≡ 0 → is_joined m (m.image.start + suc j) ≡ true → EndsBefore m (item_len m) (m.image.start + suc j)
-ends-before m j shown high none joined =
-    let h = holder (size_at m) (size-positive m) m.image.start j in
-    let a : ℕ = m.image.start + suc j in
-    let b : ℕ = m.image.start + h.first in
-    let ends : b + size_at m b ≡ a = omega (arith, h.reach, none) in
-    let piece : AreOnePiece m b a = item-piece m b a ends joined in
-    let below : b ≤ a = omega (arith, h.low) in
-    let first_shown : is_skip (role_of m.info b) ≡ false = sym (ap is_skip (one-role m b a below piece)) ∙ shown in
-    let len : item_len m b ≡ size_at m b = item-len-at m h.first (omega (arith, h.low, high)) first_shown h.begin in
-    record { item = b; begins = omega (arith, len, size-positive m b); ends = omega (arith, len, ends); piece = piece }
-
-item-then : (m : MapView) (a : ℕ) → 0 < item_len m a → CanBegin m (item_len m) a
-item-then m a some =
-    let is = begun m a some in
+    (λ over. absurd (omega (arith, is.own, item_start-further m a over joined, h.low)))
+    (λ past. past)
+    (cases_lt (suc a) (item_start m a + size_at m (item_start m a))) in
     record {
-      inside = is.inside;
-      shown = is.shown;
-      place = ⊎_elim
-          (λ same. inl (inl same))
-          (λ other.
-          let j : ℕ = a - m.image.start - 1 in
-          let count : a - m.image.start ≡ suc j = omega (arith, is.low, other) in
-          let place : a ≡ m.image.start + suc j = omega (arith, is.low, other) in
-          ⊎_elim
-          (λ joined.
-          let here = ends-before m j (sym (ap (λ (x : ℕ). is_skip (role_of m.info x)) place) ∙ is.shown) (omega (arith, is.high, place)) (sym (ap (left_at (size_at m) m.image.start) count) ∙ is.none) (sym (ap (is_joined m) place) ∙ joined) in
-          inr (rw place here))
-          (λ apart. inl (inr apart))
-          (cases_Bool (is_joined m a)))
-          (cases_eq a m.image.start);
+      item = item_start m a;
+      begins = omega (arith, len, size-positive m (item_start m a));
+      ends = omega (arith, len, past, h.high);
+      piece = λ x low high. ⊎_elim (λ same. ap (is_joined m) same ∙ joined) (λ other. start-piece m a x low (omega (arith, other))) (cases_eq x (suc a));
     }
 
-left-apart : (m : MapView) (a : ℕ) → m.image.start ≤ a → is_joined m a ≡ false → left_at (size_at m) m.image.start (a - m.image.start) ≡ 0
-left-apart m a low apart =
-    ⊎_elim
-    (λ same. let none : a - m.image.start ≡ 0 = omega (arith, same) in ap (left_at (size_at m) m.image.start) none ∙ left-first (size_at m) m.image.start)
-    (λ other.
-    let j : ℕ = a - m.image.start - 1 in
-    let count : a - m.image.start ≡ suc j = omega (arith, low, other) in
-    let place : a ≡ m.image.start + suc j = omega (arith, low, other) in
-    ⊎_elim
-    (λ none. ap (left_at (size_at m) m.image.start) count ∙ none)
-    (λ some. absurd (both_ways (is_joined m a) apart (ap (is_joined m) place ∙ left-joined m j some)))
-    (cases_eq (left_at (size_at m) m.image.start (suc j)) 0))
-    (cases_eq a m.image.start)
-
-left-after : (m : MapView) (a : ℕ) → EndsBefore m (item_len m) a → left_at (size_at m) m.image.start (a - m.image.start) ≡ 0
-left-after m a e =
-    let is = begun m e.item e.begins in
-    let k : ℕ = e.item - m.image.start in
-    let item : m.image.start + k ≡ e.item = omega (arith, is.low) in
-    let size : size_at m (m.image.start + k) ≡ size_at m e.item = ap (size_at m) item in
-    let place : a - m.image.start ≡ k + size_at m (m.image.start + k) = omega (arith, size, e.ends, is.len, item) in
-    ap (left_at (size_at m) m.image.start) place ∙ left-past (size_at m) (size-positive m) m.image.start k is.none
+item-then : (m : MapView) (a : ℕ) → 0 < item_len m a → CanBegin m (item_len m) a
+item-then m zero some = let is = begun m 0 some in record { inside = is.inside; shown = is.shown; place = inl (inl (omega (arith, is.low))) }
+item-then m (suc a) some =
+    let is = begun m (suc a) some in
+    record { inside = is.inside; shown = is.shown; place = ⊎_elim (λ joined. inr (ends-before m a is joined)) (λ apart. inl (inr apart)) (cases_Bool (is_joined m (suc a))) }
 
 item-if : (m : MapView) (a : ℕ) → CanBegin m (item_len m) a → 0 < item_len m a
 item-if m a is =
-    let low = leb-true m.image.start a (and_parts (nat_le m.image.start a) (nat_lt a (end_of m.image)) is.inside).0 in
-    begins-inside m a is.inside is.shown (
+    let own : item_start m a ≡ a =
     ⊎_elim
-    (λ first. ⊎_elim
-    (λ same. let none : a - m.image.start ≡ 0 = omega (arith, same) in ap (left_at (size_at m) m.image.start) none ∙ left-first (size_at m) m.image.start)
-    (λ apart. left-apart m a low apart)
-    first)
-    (λ past. left-after m a past)
-    is.place)
+    (λ first. item_start-apart m a (⊎_elim (λ same. start-apart m a same) (λ apart. apart) first))
+    (λ past.
+    let before = begun m past.item past.begins in
+    let place : past.item + size_at m past.item ≡ a = omega (arith, before.len, past.ends) in
+    sym (ap (item_start m) place) ∙ item_start-after m past.item before.own ∙ place)
+    is.place in
+    omega (arith, item-len-own m a is.inside is.shown own, size-positive m a)
 
 -- ---- how long it is
 

@@ -1,6 +1,6 @@
 -- Items, byte by byte.
-use Rattle.std.proofs.Common.{◌≡◌, ◌≢◌, ◌∙◌, ℕ, zero, suc, ◌+◌, ◌-◌, ◌<◌, ◌≤◌, ◌&&◌, ◌==◌, nat_lt, not, Bool, true, false, length, Option, Some, None, refl, ap, sym, arith, ⊎_elim}
-use Rattle.std.proofs.lemmas.Bool.{false≢true, and_parts, and_from, cond-true, cond-false, cond_both, cases_eq, eq-eqb, ne_eqb, lt-ltb, ltb-true, le-leb, not-true}
+use Rattle.std.proofs.Common.{◌≡◌, ◌≢◌, ◌∙◌, ℕ, zero, suc, ◌+◌, ◌-◌, ◌<◌, ◌≤◌, ◌&&◌, ◌==◌, nat_le, nat_lt, not, Bool, true, false, length, Option, Some, None, refl, ap, sym, arith, ⊎_elim}
+use Rattle.std.proofs.lemmas.Bool.{false≢true, and_parts, and_from, cases_eq, cases_lt, cond-true, cond-false, cond_both, eq-eqb, false_from_ne_true, ne_eqb, lt-ltb, ltb-true, le-leb, le-ltb, leb-true, not-true}
 use denote.Enum.Bare.{same_true, true_same}
 use Rattle.isa65.specs.Mode.{len_of}
 use Rattle.isa65.specs.declared.mode.Mode.{Mode}
@@ -11,7 +11,7 @@ use Rattle.info65.specs.contracts.information.range.RangeType as range_type
 use Rattle.info65.specs.declared.information.range.RangeType.{RangeType}
 use Rattle.info65.specs.declared.information.range.RangeType.TheVariants.{Code, Skip}
 use Rattle.map65.specs.ImageView.{byte_at, end_of, is_inside}
-use Rattle.map65.specs.Items.{code_size, item_len, size_at, size_for, full_len_at}
+use Rattle.map65.specs.Items.{code_size, item_len, item_start, size_at, size_for, full_len_at, start_over}
 use Rattle.map65.specs.MapView.{MapView, opcodes}
 use Rattle.map65.specs.Pieces.{AreOnePiece, AreOneRun, are_joined, is_in_run, is_joined, is_own}
 use Rattle.map65.specs.Roles.{is_role, is_skip, is_wide, role_of}
@@ -195,15 +195,145 @@ left-past size positive start k none =
     let place : k + n ≡ suc k + (n - 1) = omega arith in
     ap (left_at size start) place ∙ left-inside size start k (n - 1) none (omega arith) ∙ omega arith
 
+-- ---- where an item begins
+
+item_start-zero : (m : MapView) → item_start m 0 ≡ 0
+unfolding item_start
+item_start-zero m = refl
+
+pub item_start-apart : (m : MapView) (a : ℕ) → is_joined m a ≡ false → item_start m a ≡ a
+unfolding item_start
+item_start-apart m zero apart = refl
+item_start-apart m (suc a) apart = cond-false (is_joined m (suc a)) _ _ apart
+
+-- where the item before ends
+item_start-past : (m : MapView) (a : ℕ) → item_start m a + size_at m (item_start m a) ≤ suc a → item_start m (suc a) ≡ suc a
+unfolding item_start
+item_start-past m a past =
+    cond_both (is_joined m (suc a)) (start_over m (item_start m a) (suc a)) (suc a) (λ n. n ≡ suc a) (λ _. cond-false _ _ _ (le-ltb (suc a) _ past)) (λ _. refl)
+
+-- at a further byte
+pub item_start-further : (m : MapView) (a : ℕ) → suc a < item_start m a + size_at m (item_start m a) → is_joined m (suc a) ≡ true → item_start m (suc a) ≡ item_start m a
+unfolding item_start
+item_start-further m a below joined = cond-true (is_joined m (suc a)) _ _ joined ∙ cond-true _ _ _ (lt-ltb (suc a) _ below)
+
+-- every byte of an item begins where its first does
+pub item_start-inside : (m : MapView) (n i : ℕ) → item_start m n ≡ n → i < size_at m n → item_start m (n + i) ≡ n
+item_start-inside m n zero own within = let place : n + 0 ≡ n = omega arith in ap (item_start m) place ∙ own
+item_start-inside m n (suc i) own within =
+    let before = item_start-inside m n i own (omega arith) in
+    let place : n + suc i ≡ suc (n + i) = omega arith in
+    let size : size_at m (item_start m (n + i)) ≡ size_at m n = ap (size_at m) before in
+    ap (item_start m) place
+    ∙ item_start-further m (n + i) (omega (arith, before, size)) (size-one-piece m n (suc (n + i)) (omega arith) (omega arith))
+    ∙ before
+
+-- and where an item ends the next one begins
+pub item_start-after : (m : MapView) (n : ℕ) → item_start m n ≡ n → item_start m (n + size_at m n) ≡ n + size_at m n
+item_start-after m n own =
+    let some : 1 ≤ size_at m n = size-positive m n in
+    let before = item_start-inside m n (size_at m n - 1) own (omega arith) in
+    let place : n + size_at m n ≡ suc (n + (size_at m n - 1)) = omega arith in
+    let size : size_at m (item_start m (n + (size_at m n - 1))) ≡ size_at m n = ap (size_at m) before in
+    ap (item_start m) place ∙ item_start-past m (n + (size_at m n - 1)) (omega (arith, before, size)) ∙ sym place
+
+-- what is known of the item that an address belongs to
+pub record Belongs (m : MapView) (a : ℕ) : Type 0 where
+  pub low : item_start m a ≤ a
+  pub high : a < item_start m a + size_at m (item_start m a)
+  pub own : item_start m (item_start m a) ≡ item_start m a
+
+own-belongs : (m : MapView) (a : ℕ) → item_start m a ≡ a → Belongs m a
+own-belongs m a own = record { low = omega (arith, own); high = omega (arith, own, size-positive m (item_start m a)); own = ap (item_start m) own }
+
+pub belongs : (m : MapView) (a : ℕ) → Belongs m a
+belongs m zero = own-belongs m 0 (item_start-zero m)
+belongs m (suc a) =
+    let before = belongs m a in
+    ⊎_elim
+    (λ over.
+    let joined = size-one-piece m (item_start m a) (suc a) (omega (arith, before.low)) (omega (arith, over)) in
+    let same = item_start-further m a over joined in
+    let size : size_at m (item_start m (suc a)) ≡ size_at m (item_start m a) = ap (size_at m) same in
+    record { low = omega (arith, same, before.low); high = omega (arith, same, size, over); own = ap (item_start m) same ∙ before.own ∙ sym same })
+    (λ past. own-belongs m (suc a) (item_start-past m a past))
+    (cases_lt (suc a) (item_start m a + size_at m (item_start m a)))
+
+-- the bytes from there on lie in one piece
+pub start-piece : (m : MapView) (a : ℕ) → AreOnePiece m (item_start m a) a
+start-piece m a x low high = size-one-piece m (item_start m a) x low (omega (arith, high, (belongs m a).high))
+
 -- ---- items
+
+pub inside-if : (m : MapView) (a : ℕ) → m.image.start ≤ a → a < end_of m.image → is_inside m.image a ≡ true
+inside-if m a low high = and_from _ _ (le-leb m.image.start a low) (lt-ltb a (end_of m.image) high)
+
+-- an address of the image
+pub record IsWithin (m : MapView) (a : ℕ) : Type 0 where
+  pub low : m.image.start ≤ a
+  pub high : a < end_of m.image
+
+pub within : (m : MapView) (a : ℕ) → is_inside m.image a ≡ true → IsWithin m a
+within m a inside =
+    let parts = and_parts (nat_le m.image.start a) (nat_lt a (end_of m.image)) inside in
+    record { low = leb-true m.image.start a parts.0; high = ltb-true a (end_of m.image) parts.1 }
 
 pub inside-index : (m : MapView) (k : ℕ) → k < length m.image.bytes → is_inside m.image (m.image.start + k) ≡ true
 inside-index m k low = and_from _ _ (le-leb m.image.start (m.image.start + k) (omega arith)) (lt-ltb (m.image.start + k) (end_of m.image) (omega arith))
 
--- an item begins where no other is left, unless the byte is skipped
-pub item-len-at : (m : MapView) (k : ℕ) → k < length m.image.bytes → is_skip (role_of m.info (m.image.start + k)) ≡ false → left_at (size_at m) m.image.start k ≡ 0 → item_len m (m.image.start + k) ≡ size_at m (m.image.start + k)
+pub item-len-own : (m : MapView) (a : ℕ) → is_inside m.image a ≡ true → is_skip (role_of m.info a) ≡ false → item_start m a ≡ a → item_len m a ≡ size_at m a
 unfolding item_len
-item-len-at m k low shown none =
-    let same : m.image.start + k - m.image.start ≡ k = omega arith in
-    let begun : left_at (size_at m) m.image.start (m.image.start + k - m.image.start) ≡ 0 = ap (left_at (size_at m) m.image.start) same ∙ none in
-    cond-true _ _ _ (and_from _ _ (inside-index m k low) (and_from _ _ (ap not shown) (eq-eqb _ 0 begun)))
+item-len-own m a inside shown own = cond-true _ _ _ (and_from _ _ inside (and_from _ _ (ap not shown) (eq-eqb (item_start m a) a own)))
+
+-- ---- items as spans that follow each other from the start of the image on
+
+-- the image begins with a piece
+pub start-apart : (m : MapView) (a : ℕ) → a ≡ m.image.start → is_joined m a ≡ false
+start-apart m a is = false_from_ne_true (is_joined m a) (λ joined. absurd (omega (arith, is, (joined-in m a joined).low)))
+
+start-own : (m : MapView) → item_start m (m.image.start + 0) ≡ m.image.start + 0
+start-own m = item_start-apart m (m.image.start + 0) (start-apart m (m.image.start + 0) (omega arith))
+
+-- what is left after a byte is what its item has after it
+abbrev IsLeft : MapView → ℕ → Type 0
+IsLeft m k = left_at (size_at m) m.image.start (suc k) + (m.image.start + suc k) ≡ item_start m (m.image.start + k) + size_at m (item_start m (m.image.start + k))
+
+further : (m : MapView) (k : ℕ) → IsLeft m k → left_at (size_at m) m.image.start (suc k) ≢ 0 → item_start m (m.image.start + suc k) ≡ item_start m (m.image.start + k)
+further m k before some =
+    let place : m.image.start + suc k ≡ suc (m.image.start + k) = omega arith in
+    let over : suc (m.image.start + k) < item_start m (m.image.start + k) + size_at m (item_start m (m.image.start + k)) = omega (arith, before, some) in
+    ap (item_start m) place
+    ∙ item_start-further m (m.image.start + k) over (size-one-piece m (item_start m (m.image.start + k)) (suc (m.image.start + k)) (omega (arith, (belongs m (m.image.start + k)).low)) (omega (arith, over)))
+
+next-own : (m : MapView) (k : ℕ) → IsLeft m k → left_at (size_at m) m.image.start (suc k) ≡ 0 → item_start m (m.image.start + suc k) ≡ m.image.start + suc k
+next-own m k before none =
+    let place : m.image.start + suc k ≡ suc (m.image.start + k) = omega arith in
+    ap (item_start m) place ∙ item_start-past m (m.image.start + k) (omega (arith, before, none)) ∙ sym place
+
+own-is : (m : MapView) (k : ℕ) → item_start m (m.image.start + k) ≡ m.image.start + k → left_at (size_at m) m.image.start k ≡ 0 → IsLeft m k
+own-is m k own none = omega (arith, own, ap (size_at m) own, left-begun (size_at m) m.image.start k none, size-positive m (m.image.start + k))
+
+left-is : (m : MapView) (k : ℕ) → IsLeft m k
+left-is m zero = own-is m 0 (start-own m) (left-first (size_at m) m.image.start)
+left-is m (suc k) =
+    let before = left-is m k in
+    ⊎_elim
+    (λ none. own-is m (suc k) (next-own m k before none) none)
+    (λ some. let same = further m k before some in omega (arith, same, ap (size_at m) same, before, left-going (size_at m) m.image.start (suc k) some, some))
+    (cases_eq (left_at (size_at m) m.image.start (suc k)) 0)
+
+-- where none is left an item begins, or a byte is skipped
+left-own : (m : MapView) (k : ℕ) → left_at (size_at m) m.image.start k ≡ 0 → item_start m (m.image.start + k) ≡ m.image.start + k
+left-own m zero none = start-own m
+left-own m (suc k) none = next-own m k (left-is m k) none
+
+pub own-left : (m : MapView) (k : ℕ) → item_start m (m.image.start + k) ≡ m.image.start + k → left_at (size_at m) m.image.start k ≡ 0
+own-left m zero own = left-first (size_at m) m.image.start
+own-left m (suc k) own =
+    ⊎_elim
+    (λ none. none)
+    (λ some. absurd (omega (arith, own, further m k (left-is m k) some, (belongs m (m.image.start + k)).low)))
+    (cases_eq (left_at (size_at m) m.image.start (suc k)) 0)
+
+pub item-len-at : (m : MapView) (k : ℕ) → k < length m.image.bytes → is_skip (role_of m.info (m.image.start + k)) ≡ false → left_at (size_at m) m.image.start k ≡ 0 → item_len m (m.image.start + k) ≡ size_at m (m.image.start + k)
+item-len-at m k low shown none = item-len-own m (m.image.start + k) (inside-index m k low) shown (left-own m k none)

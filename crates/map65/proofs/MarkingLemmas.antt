@@ -1,7 +1,7 @@
 -- Items that are marked in cells.
-use Rattle.std.proofs.Common.{◌≡◌, ◌≢◌, ◌∙◌, ℕ, suc, ◌+◌, ◌-◌, ◌/◌, ◌%◌, ◌<◌, ◌≤◌, ◌&&◌, ◌==◌, nat_lt, not, Bool, true, false, Option, Some, None, List, length, get_or, set, refl, ap, sym, arith, ⊎_elim, if◌then◌else◌}
+use Rattle.std.proofs.Common.{◌≡◌, ◌≢◌, ◌∙◌, ℕ, suc, ◌+◌, ◌-◌, ◌/◌, ◌%◌, ◌<◌, ◌≤◌, ◌&&◌, ◌==◌, nat_lt, not, Bool, true, false, Option, Some, None, List, length, get_or, set, refl, ap, sym, arith, ⊎_elim}
 use Rattle.std.proofs.Math.ListN.{length-set}
-use Rattle.std.proofs.lemmas.Bool.{and_parts, and_from, cases_eq, cases_lt, cond-true, cond-false, cond_both, lt-ltb, ltb-true, ne_eqb, not-true}
+use Rattle.std.proofs.lemmas.Bool.{and_parts, and_from, cases_eq, cases_lt, cond-true, cond-false, cond_both, false≢true, lt-ltb, ltb-true, not-true}
 use Rattle.std.specs.Cmp.{both_ways}
 use Rattle.isa65.specs.Mode.{len_of}
 use Rattle.isa65.specs.Opcodes.{decoded}
@@ -11,19 +11,18 @@ use Rattle.isa65.specs.declared.op.Op.{Op}
 use Rattle.info65.specs.declared.information.range.RangeType.{RangeType}
 use Rattle.info65.specs.declared.information.range.RangeType.TheVariants.{Code}
 use Rattle.map65.proofs.CellLemmas.{named-test, cell-role, cell-wide, set-cell, with_len-border, with_len-lay, with_len-rest}
-use Rattle.map65.proofs.ItemLaws.{begun}
-use Rattle.map65.proofs.ItemLemmas.{are_joined-none, are_joined-suc, in-run, is_cut_at, item-len-at, joined-high, joined-if, joined-run, joined-uncut, left-past, left-first, left-inside, size-fits, size-positive}
+use Rattle.map65.proofs.ItemLaws.{Begun, begun}
+use Rattle.map65.proofs.ItemLemmas.{are_joined-none, are_joined-suc, in-run, is_cut_at, inside-if, item-len-own, item_start-after, item_start-apart, item_start-inside, joined-high, joined-if, joined-run, joined-uncut, size-fits, size-positive, start-apart}
 use Rattle.map65.proofs.RunLemmas.{plain-code, role_at-inside, run-cells, some-same}
 use Rattle.map65.specs.Code.Cells.{AreNamed, IsLaid, are_one_run, cell_of, is_named, is_cut, is_wide_cell, is_wide_role, lay_at, role_in_cell, with_len}
 use Rattle.map65.specs.Cells.{bit}
 use Rattle.map65.specs.Code.Marking.{AreMarkedBelow, is_joined_in}
 use Rattle.map65.specs.ImageView.{byte_at, end_of, is_inside}
-use Rattle.map65.specs.Items.{code_size, item_len, size_at, size_for, full_len_at}
+use Rattle.map65.specs.Items.{code_size, item_len, item_start, size_at, size_for, full_len_at}
 use Rattle.map65.specs.MapView.{MapView, opcodes}
 use Rattle.map65.specs.Pieces.{are_joined, is_in_run, is_joined, is_own}
 use Rattle.map65.specs.Roles.{is_skip, is_wide, role_at, role_of}
 use Rattle.map65.specs.Segments.{is_border}
-use Rattle.map65.specs.Spans.{left_at}
 
 -- ---- roles
 
@@ -137,7 +136,7 @@ size-small m a = cond_both (are_joined m (full_len_at m a - 1) a) (full_len_at m
 pub item-small : (m : MapView) (a : ℕ) → item_len m a ≤ 4
 unfolding item_len
 item-small m a =
-    cond_both (is_inside m.image a && (not (is_skip (role_of m.info a)) && left_at (size_at m) m.image.start (a - m.image.start) == 0)) (size_at m a) 0 (λ n. n ≤ 4) (λ _. size-small m a) (λ _. omega arith)
+    cond_both (is_inside m.image a && (not (is_skip (role_of m.info a)) && item_start m a == a)) (size_at m a) 0 (λ n. n ≤ 4) (λ _. size-small m a) (λ _. omega arith)
 
 -- an item ends in the image
 pub item-fits : (m : MapView) (a : ℕ) → 0 < item_len m a → a + item_len m a ≤ end_of m.image
@@ -150,60 +149,21 @@ item-fits m a some =
 
 -- ---- where no item begins
 
-item-inner : (m : MapView) (a : ℕ) → left_at (size_at m) m.image.start (a - m.image.start) ≢ 0 → item_len m a ≡ 0
-unfolding item_len
-item-inner m a some =
-    let none : (left_at (size_at m) m.image.start (a - m.image.start) == 0) ≡ false = ne_eqb (left_at (size_at m) m.image.start (a - m.image.start)) 0 some in
-    no_third (is_inside m.image a) (not (is_skip (role_of m.info a))) _ (size_at m a) none
-  where
-    no_third : (x y z : Bool) (n : ℕ) → z ≡ false → (if x && (y && z) then n else 0) ≡ 0
-    no_third true true z n is = rw is refl
-    no_third true false z n is = refl
-    no_third false y z n is = refl
-
-item-skip : (m : MapView) (a : ℕ) → is_skip (role_of m.info a) ≡ true → item_len m a ≡ 0
-unfolding item_len
-item-skip m a skip = no_second (is_inside m.image a) _ (left_at (size_at m) m.image.start (a - m.image.start) == 0) (size_at m a) (ap not skip)
-  where
-    no_second : (x y z : Bool) (n : ℕ) → y ≡ false → (if x && (y && z) then n else 0) ≡ 0
-    no_second true y z n is = rw is refl
-    no_second false y z n is = refl
-
-item-before : (m : MapView) (a : ℕ) → a < m.image.start → item_len m a ≡ 0
-item-before m a before =
-    ⊎_elim
-    (λ none. none)
-    (λ some. absurd (omega (arith, before, (begun m a (omega (arith, some))).low)))
-    (cases_eq (item_len m a) 0)
-
-item-past : (m : MapView) (a : ℕ) → end_of m.image ≤ a → item_len m a ≡ 0
-item-past m a past =
-    ⊎_elim
-    (λ none. none)
-    (λ some. absurd (omega (arith, past, (begun m a (omega (arith, some))).high)))
-    (cases_eq (item_len m a) 0)
+no-item : (m : MapView) (a : ℕ) → (Begun m a → ⊥) → item_len m a ≡ 0
+no-item m a not_begun = ⊎_elim (λ none. none) (λ some. absurd (not_begun (begun m a (omega (arith, some))))) (cases_eq (item_len m a) 0)
 
 -- ---- the cells after one item more
 
 -- an item at n, of so many bytes
-module _ (m : MapView) (n len : ℕ) (low : m.image.start ≤ n) (begins : left_at (size_at m) m.image.start (n - m.image.start) ≡ 0) (is : len ≡ size_at m n) where
-  size-here : size_at m (m.image.start + (n - m.image.start)) ≡ len
-  size-here = let place : m.image.start + (n - m.image.start) ≡ n = omega (arith, low) in ap (size_at m) place ∙ sym is
+pub next-begins : (m : MapView) (n len : ℕ) → item_start m n ≡ n → len ≡ size_at m n → item_start m (n + len) ≡ n + len
+next-begins m n len begins is = let place : n + len ≡ n + size_at m n = omega (arith, is) in ap (item_start m) place ∙ item_start-after m n begins ∙ sym place
 
-  pub next-begins : left_at (size_at m) m.image.start (n + len - m.image.start) ≡ 0
-  next-begins =
-      let place : n + len - m.image.start ≡ n - m.image.start + size_at m (m.image.start + (n - m.image.start)) = omega (arith, low, size-here) in
-      ap (left_at (size_at m) m.image.start) place ∙ left-past (size_at m) (size-positive m) m.image.start (n - m.image.start) begins
-
-  pub inside-item : (a : ℕ) → n < a → a < n + len → item_len m a ≡ 0
+module _ (m : MapView) (n len : ℕ) (cells : List ℕ) (low : m.image.start ≤ n) (high : n < end_of m.image) (room : n < 65536) (begins : item_start m n ≡ n) (is : len ≡ size_at m n) (old : AreMarkedBelow m n cells) where
+  inside-item : (a : ℕ) → n < a → a < n + len → item_len m a ≡ 0
   inside-item a after before =
-      let k : ℕ = n - m.image.start in
-      let i : ℕ = a - n - 1 in
-      let place : a - m.image.start ≡ suc k + i = omega (arith, low, after) in
-      let left = left-inside (size_at m) m.image.start k i begins (omega (arith, size-here, after, before)) in
-      item-inner m a (λ none. omega (arith, sym (ap (left_at (size_at m) m.image.start) place) ∙ none, left, size-here, after, before))
+      let place : n + (a - n) ≡ a = omega (arith, after) in
+      no-item m a (λ b. omega (arith, b.own, sym (ap (item_start m) place) ∙ item_start-inside m n (a - n) begins (omega (arith, is, after, before)), after))
 
-module _ (m : MapView) (n len : ℕ) (cells : List ℕ) (low : m.image.start ≤ n) (high : n < end_of m.image) (room : n < 65536) (begins : left_at (size_at m) m.image.start (n - m.image.start) ≡ 0) (is : len ≡ size_at m n) (old : AreMarkedBelow m n cells) where
   lay-none : (a : ℕ) → item_len m a ≡ 0 → lay_at m a ≡ cell_of (role_at m a) 0
   lay-none a none = ap (cell_of (role_at m a)) none
 
@@ -211,14 +171,11 @@ module _ (m : MapView) (n len : ℕ) (cells : List ℕ) (low : m.image.start ≤
   elsewhere a other below before =
       ⊎_elim
       (λ earlier. old.marked a below earlier)
-      (λ later. old.plain a below later ∙ sym (lay-none a (inside-item m n len low begins is a (omega (arith, other, later)) before)))
+      (λ later. old.plain a below later ∙ sym (lay-none a (inside-item a (omega (arith, other, later)) before)))
       (cases_lt a n)
 
   item-here : is_skip (role_of m.info n) ≡ false → item_len m n ≡ len
-  item-here shown =
-      let k : ℕ = n - m.image.start in
-      let place : m.image.start + k ≡ n = omega (arith, low) in
-      sym (ap (item_len m) place) ∙ item-len-at m k (omega (arith, low, high)) (ap (λ (x : ℕ). is_skip (role_of m.info x)) place ∙ shown) begins ∙ ap (size_at m) place ∙ sym is
+  item-here shown = item-len-own m n (inside-if m n low high) shown begins ∙ sym is
 
   here-plain : get_or cells n 0 % 128 ≡ cell_of (role_at m n) 0
   here-plain = old.plain n room (omega arith)
@@ -257,7 +214,7 @@ module _ (m : MapView) (n len : ℕ) (cells : List ℕ) (low : m.image.start ≤
     count = old.count;
     marked = λ a below before.
         ⊎_elim
-        (λ same. rw same (old.plain n room (omega arith) ∙ sym (lay-none n (item-skip m n skip))))
+        (λ same. rw same (old.plain n room (omega arith) ∙ sym (lay-none n (no-item m n (λ b. false≢true (sym b.shown ∙ skip))))))
         (λ other. elsewhere a other below before)
         (cases_eq a n);
     plain = λ a below after. old.plain a below (omega (arith, after));
@@ -266,13 +223,13 @@ module _ (m : MapView) (n len : ℕ) (cells : List ℕ) (low : m.image.start ≤
 
 -- ---- before the first item, and after the last
 
-pub first-begins : (m : MapView) (n : ℕ) → n ≡ m.image.start → left_at (size_at m) m.image.start (n - m.image.start) ≡ 0
-first-begins m n is = let none : n - m.image.start ≡ 0 = omega (arith, is) in ap (left_at (size_at m) m.image.start) none ∙ left-first (size_at m) m.image.start
+pub first-begins : (m : MapView) (n : ℕ) → n ≡ m.image.start → item_start m n ≡ n
+first-begins m n is = item_start-apart m n (start-apart m n is)
 
 pub marked-none : (m : MapView) (n : ℕ) (cells : List ℕ) → n ≡ m.image.start → AreMarkedBelow m 0 cells → AreMarkedBelow m n cells
 marked-none m n cells is old = record {
   count = old.count;
-  marked = λ a below before. old.plain a below (omega arith) ∙ sym (ap (cell_of (role_at m a)) (item-before m a (omega (arith, is, before))));
+  marked = λ a below before. old.plain a below (omega arith) ∙ sym (ap (cell_of (role_at m a)) (no-item m a (λ b. omega (arith, is, before, b.low))));
   plain = λ a below after. old.plain a below (omega arith);
   borders = old.borders;
 }
@@ -284,6 +241,6 @@ all-marked m n cells past old = record {
   each = λ a below.
       ⊎_elim
       (λ before. old.marked a below before)
-      (λ after. old.plain a below after ∙ sym (ap (cell_of (role_at m a)) (item-past m a (omega (arith, past, after)))))
+      (λ after. old.plain a below after ∙ sym (ap (cell_of (role_at m a)) (no-item m a (λ b. omega (arith, past, after, b.high)))))
       (cases_lt a n);
 }

@@ -1,95 +1,56 @@
 -- The laws of targets and names.
-use Rattle.std.proofs.Common.{◌≡◌, ◌≢◌, ◌∙◌, ◌⊎◌, inl, inr, ℕ, zero, suc, ◌+◌, ◌-◌, ◌<◌, ◌≤◌, ◌&&◌, ◌||◌, ◌==◌, Bool, true, false, List, Option, Some, None, length, get_or, nat_le, nat_lt, refl, ap, sym, subst, arith, ⊎_elim}
-use Rattle.std.proofs.lemmas.Bool.{and_from, and_parts, both_ways, cases_Bool, cases_eq, cases_lt, eq-eqb, eqb-true, false≢true, le-leb, leb-true, lt-ltb, ltb-true, or_left, or_right}
+use Rattle.std.proofs.Common.{◌≡◌, ◌∙◌, ◌⊎◌, inl, inr, ℕ, ◌+◌, ◌-◌, ◌<◌, ◌&&◌, ◌==◌, Bool, true, false, List, Option, Some, None, length, get_or, refl, ap, sym, subst, arith, ⊎_elim}
+use Rattle.std.proofs.lemmas.Bool.{and_from, and_parts, both_ways, cases_Bool, cases_eq, cases_lt, eq-eqb, eqb-true, false≢true, or_cases, or_left, or_right}
 use Rattle.std.proofs.lemmas.List.Folds.{Any-from_list_any, list_any_at}
 use Rattle.info65.specs.Names.{AreNames, blank_name, covering, covers, name_at}
 use Rattle.info65.specs.Views.{NameView}
-use Rattle.info65.specs.declared.information.range.RangeType.{RangeType}
-use Rattle.info65.specs.declared.information.range.RangeType.TheVariants.{Skip}
 use Rattle.info65.proofs.Public.{last_name, none_covers}
-use Rattle.map65.proofs.ItemLaws.{begun, holder}
-use Rattle.map65.proofs.ItemLemmas.{item-len-at, left-first, one-role, size-one-piece, size-positive}
+use Rattle.map65.proofs.ItemLaws.{begun, start-len}
+use Rattle.map65.proofs.ItemLemmas.{belongs, inside-if, item_start-inside, one-role, size-positive, start-piece}
 use Rattle.map65.proofs.NameLemmas.{base-covered, base-unreferenced, base-referenced, not-some}
-use Rattle.map65.proofs.NamingLemmas.{entry_start-narrow, entry_start-wide, last-before, last-here}
-use Rattle.map65.proofs.MarkingLemmas.{inside-item, item-fits}
+use Rattle.map65.proofs.NamingLemmas.{address-at, address-count, entry_start-narrow, entry_start-wide, wide-shown}
+use Rattle.map65.proofs.MarkingLemmas.{item-fits}
 use Rattle.map65.proofs.TargetLemmas.{none-at}
-use Rattle.map65.specs.ImageView.{end_of, is_inside}
-use Rattle.map65.specs.Items.{item_len, size_at}
+use Rattle.map65.specs.ImageView.{is_inside}
+use Rattle.map65.specs.Items.{item_len, item_start}
 use Rattle.map65.specs.MapView.{MapView}
-use Rattle.map65.specs.Names.{Base, EntryStartLaw, IsHighest, IsInner, IsUncovered, IsReferenced, NameLaw, ReferenceLaw, base_at, default_base, base_by, base_or, given_base, entry_start, entry_base, is_referenced, last_item, refers, refers_by}
-use Rattle.map65.specs.Pieces.{AreOnePiece}
+use Rattle.map65.specs.Names.{Base, EntryStartLaw, IsHighest, IsInner, IsUncovered, IsReferenced, NameLaw, ReferenceLaw, base_at, default_base, base_by, base_or, given_base, entry_start, entry_base, is_referenced, refers, refers_by}
 use Rattle.map65.specs.Roles.{is_skip, is_wide, role_of}
-use Rattle.map65.specs.Spans.{addresses, left_at}
+use Rattle.map65.specs.Spans.{addresses}
 use Rattle.map65.specs.Targets.{IsTarget, target_at}
 
 -- ---- the item that an address lies inside
 
-pub inside-if : (m : MapView) (a : ℕ) → m.image.start ≤ a → a < end_of m.image → is_inside m.image a ≡ true
-inside-if m a low high = and_from _ _ (le-leb m.image.start a low) (lt-ltb a (end_of m.image) high)
-
-pub inside-parts : (m : MapView) (a : ℕ) → is_inside m.image a ≡ true → (m.image.start ≤ a) × (a < end_of m.image)
-inside-parts m a is =
-    let parts = and_parts (nat_le m.image.start a) (nat_lt a (end_of m.image)) is in
-    (leb-true m.image.start a parts.0, ltb-true a (end_of m.image) parts.1)
-
--- an address after the first byte of an item
-pub record Under (m : MapView) (a : ℕ) : Type 0 where
-  pub first : ℕ
-  pub begins : 0 < item_len m first
-  pub after : first < a
-  pub before : a < first + item_len m first
-  pub same : role_of m.info a ≡ role_of m.info first
-
 -- where no item begins, one lies over the address, unless it is skipped
+pub record Under (m : MapView) (a : ℕ) : Type 0 where
+  pub begins : 0 < item_len m (item_start m a)
+  pub after : item_start m a < a
+  pub before : a < item_start m a + item_len m (item_start m a)
+  pub same : role_of m.info a ≡ role_of m.info (item_start m a)
+
 pub under : (m : MapView) (a : ℕ) → is_inside m.image a ≡ true → is_skip (role_of m.info a) ≡ false → item_len m a ≡ 0 → Under m a
 under m a inside shown none =
-    let bounds = inside-parts m a inside in
-    let k : ℕ = a - m.image.start in
-    let place : m.image.start + k ≡ a = omega (arith, bounds.0) in
-    let some : left_at (size_at m) m.image.start k ≢ 0 = λ is.
-    let here = item-len-at m k (omega (arith, bounds.0, bounds.1)) (ap (λ (x : ℕ). is_skip (role_of m.info x)) place ∙ shown) is in
-    absurd (omega (arith, ap (item_len m) place, here, none, size-positive m (m.image.start + k))) in
-    let later : k ≢ 0 = λ zero_is. some (ap (left_at (size_at m) m.image.start) zero_is ∙ left-first (size_at m) m.image.start) in
-    let j : ℕ = k - 1 in
-    let next : k ≡ suc j = omega (arith, later) in
-    let left : left_at (size_at m) m.image.start k ≡ left_at (size_at m) m.image.start (suc j) = ap (left_at (size_at m) m.image.start) next in
-    let h = holder (size_at m) (size-positive m) m.image.start j in
-    let b : ℕ = m.image.start + h.first in
-    let before : a < b + size_at m b = omega (arith, h.reach, left, some, next, place) in
-    let after : b < a = omega (arith, h.low, next, place) in
-    let piece : AreOnePiece m b a = λ x low high. size-one-piece m b x low (omega (arith, high, before)) in
-    let role : role_of m.info a ≡ role_of m.info b = one-role m b a (omega (arith, after)) piece in
-    let len : item_len m b ≡ size_at m b = item-len-at m h.first (omega (arith, h.low, next, place, bounds.1)) (sym (ap is_skip role) ∙ shown) h.begin in
-    record { first = b; begins = omega (arith, len, size-positive m b); after = after; before = omega (arith, before, len); same = role }
-
-pub wide-shown : (r : RangeType) → is_wide r ≡ true → is_skip r ≡ false
-wide-shown Skip is = absurd (false≢true is)
-wide-shown _ is = refl
-
-last-inner : (m : MapView) (first d : ℕ) → 0 < item_len m first → d < item_len m first → last_item m (first + d) ≡ first
-last-inner m first zero begins low = let place : first + 0 ≡ first = omega arith in ap (last_item m) place ∙ last-here m first begins
-last-inner m first (suc d) begins low =
-    let is = begun m first begins in
-    let none : item_len m (first + suc d) ≡ 0 = inside-item m first (size_at m first) is.low is.none refl (first + suc d) (omega arith) (omega (arith, low, is.len)) in
-    let back : first + suc d - 1 ≡ first + d = omega arith in
-    last-before m (first + suc d) (omega arith) none ∙ ap (last_item m) back ∙ last-inner m first d begins (omega (arith, low))
-
-inner-inside : (m : MapView) (a first : ℕ) → IsInner m a first → is_inside m.image a ≡ true
-inner-inside m a first i =
-    let is = begun m first i.begins in
-    inside-if m a (omega (arith, is.low, i.after)) (omega (arith, i.before, item-fits m first i.begins))
+    let h = belongs m a in
+    let len = start-len m a inside shown in
+    let begins : 0 < item_len m (item_start m a) = omega (arith, len, size-positive m (item_start m a)) in
+    ⊎_elim
+    (λ same. absurd (omega (arith, begins, ap (item_len m) same, none)))
+    (λ other. record { begins = begins; after = omega (arith, h.low, other); before = omega (arith, h.high, len); same = one-role m (item_start m a) a h.low (start-piece m a) })
+    (cases_eq (item_start m a) a)
 
 pub entry_start-inner : (m : MapView) (a first : ℕ) → IsInner m a first → entry_start m a ≡ first
 entry_start-inner m a first i =
-    let d : ℕ = a - first in
-    let place : a ≡ first + d = omega (arith, i.after) in
-    entry_start-wide m a (and_from _ _ (inner-inside m a first i) i.wide) ∙ ap (last_item m) place ∙ last-inner m first d i.begins (omega (arith, i.before, place))
+    let is = begun m first i.begins in
+    let place : first + (a - first) ≡ a = omega (arith, i.after) in
+    entry_start-wide m a (and_from _ _ (inside-if m a (omega (arith, is.low, i.after)) (omega (arith, i.before, item-fits m first i.begins))) i.wide)
+    ∙ sym (ap (item_start m) place)
+    ∙ item_start-inside m first (a - first) is.own (omega (arith, is.len, i.after, i.before))
 
 -- the first byte of an item is its own entry start
 pub entry_start-item : (m : MapView) (a : ℕ) → 0 < item_len m a → entry_start m a ≡ a
 entry_start-item m a begins =
     ⊎_elim
-    (λ is. entry_start-wide m a is ∙ last-here m a begins)
+    (λ is. entry_start-wide m a is ∙ (begun m a begins).own)
     (λ is. entry_start-narrow m a is)
     (cases_Bool (is_inside m.image a && is_wide (role_of m.info a)))
 
@@ -100,7 +61,7 @@ entry_start-cases m a =
     (λ is.
     let parts = and_parts (is_inside m.image a) (is_wide (role_of m.info a)) is in
     ⊎_elim
-    (λ none. let u = under m a parts.0 (wide-shown (role_of m.info a) parts.1) none in inr (u.first, record { wide = parts.1; begins = u.begins; after = u.after; before = u.before }))
+    (λ none. let u = under m a parts.0 (wide-shown (role_of m.info a) parts.1) none in inr (item_start m a, record { wide = parts.1; begins = u.begins; after = u.after; before = u.before }))
     (λ some. inl (entry_start-item m a (omega (arith, some))))
     (cases_eq (item_len m a) 0))
     (λ is. inl (entry_start-narrow m a is))
@@ -111,13 +72,6 @@ entry_start-other m a other = ⊎_elim (λ same. same) (λ inner. absurd (other 
 
 pub entry_start_law : (m : MapView) → EntryStartLaw m
 entry_start_law m = record { inner = entry_start-inner m; other = entry_start-other m }
-
-pub entry_start-low : (m : MapView) (a : ℕ) → entry_start m a ≤ a
-entry_start-low m a =
-    ⊎_elim
-    (λ same. omega (arith, same))
-    (λ inner. omega (arith, entry_start-inner m a inner.0 inner.1, inner.1.after))
-    (entry_start-cases m a)
 
 -- the entry start of an address is its own entry start
 pub entry_start-entry_start : (m : MapView) (a : ℕ) → entry_start m (entry_start m a) ≡ entry_start m a
@@ -138,10 +92,6 @@ target-item m item t has =
 
 -- ---- what is referenced
 
-or-true : (p q : Bool) → (p || q) ≡ true → (p ≡ true) ⊎ (q ≡ true)
-or-true true q is = inl refl
-or-true false q is = inr is
-
 entry_start-place : (m : MapView) (t a : ℕ) → entry_start m t ≡ a → (a ≡ t) ⊎ IsInner m t a
 entry_start-place m t a is =
     ⊎_elim
@@ -155,7 +105,7 @@ referenced-by m a item (Some t) has is =
     record {
       target = t;
       is_target = target-item m item t has;
-      place = ⊎_elim (λ same. inl (sym (eqb-true t a same))) (λ moved. entry_start-place m t a (eqb-true (entry_start m t) a moved)) (or-true (t == a) (entry_start m t == a) is);
+      place = ⊎_elim (λ same. inl (sym (eqb-true t a same))) (λ moved. entry_start-place m t a (eqb-true (entry_start m t) a moved)) (or_cases (t == a) (entry_start m t == a) is);
     }
 
 referenced-then : (m : MapView) (a : ℕ) → is_referenced m a ≡ true → IsReferenced m a
@@ -163,17 +113,6 @@ unfolding is_referenced refers
 referenced-then m a is =
     let found = Any-from_list_any (refers m a) (addresses (length m.image.bytes) m.image.start) is in
     referenced-by m a found.1 (target_at m found.1) refl found.4
-
-address-at : (n k a d : ℕ) → k < n → get_or (addresses n a) k d ≡ a + k
-unfolding addresses
-address-at zero k a d below = absurd (omega arith)
-address-at (suc n) zero a d below = omega arith
-address-at (suc n) (suc k) a d below = address-at n k (a + 1) d (omega arith) ∙ omega arith
-
-address-count : (n a : ℕ) → length (addresses n a) ≡ n
-unfolding addresses
-address-count zero a = refl
-address-count (suc n) a = ap suc (address-count n (a + 1))
 
 refers-if : (m : MapView) (item t a : ℕ) → target_at m item ≡ Some t → (t ≡ a) ⊎ (entry_start m t ≡ a) → refers m a item ≡ true
 unfolding refers

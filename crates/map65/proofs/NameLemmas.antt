@@ -50,14 +50,6 @@ pub base-unreferenced : (m : MapView) (a : ℕ) → covering m.info.names a ≡ 
 unfolding base_at
 base-unreferenced m a is unreferenced = ap (λ o. base_by o (is_referenced m a) (entry_base m a)) is ∙ ap (λ (w : Bool). base_by None w (entry_base m a)) unreferenced
 
-either-none : (o : Option NameView) (w : Bool) → (is_some o || w) ≡ false → (o ≡ None) × (w ≡ false)
-either-none None w is = (refl, is)
-either-none (Some v) w is = absurd (false≢true (sym is))
-
-none-either : (o : Option NameView) (w : Bool) → (is_some o || w) ≡ true → o ≡ None → w ≡ true
-none-either None w is none = is
-none-either (Some v) w is none = absurd (not-some v (sym none))
-
 some-base : (o : Option NameView) (w : Bool) (b : Base) (kind : Base → NameKind) → is_some (option_map kind (base_by o w b)) ≡ (is_some o || w)
 some-base None true b kind = refl
 some-base None false b kind = refl
@@ -68,15 +60,18 @@ pub named-is : (m : MapView) (a : ℕ) → has_name m a ≡ (is_covered m.info.n
 unfolding has_name kind_at base_at
 named-is m a = some-base (covering m.info.names a) (is_referenced m a) (entry_base m a) (kind_by m a)
 
+none-of : (o : Option Base) (kind : Base → NameKind) → is_some (option_map kind o) ≡ false → o ≡ None
+none-of None kind is = refl
+none-of (Some b) kind is = absurd (false≢true (sym is))
+
 -- an address without a name
 pub base-none : (m : MapView) (a : ℕ) → has_name m a ≡ false → base_at m a ≡ None
-base-none m a is =
-    let both = either-none (covering m.info.names a) (is_referenced m a) (sym (named-is m a) ∙ is) in
-    base-unreferenced m a both.0 both.1
+unfolding has_name kind_at
+base-none m a is = none-of (base_at m a) (kind_by m a) is
 
 -- one with a name that is not given
 pub base-entry_start : (m : MapView) (a : ℕ) → has_name m a ≡ true → covering m.info.names a ≡ None → base_at m a ≡ Some (entry_base m a)
-base-entry_start m a is none = base-referenced m a none (none-either (covering m.info.names a) (is_referenced m a) (sym (named-is m a) ∙ is) none)
+base-entry_start m a is none = let referenced = rw (named-is m a, none) at is in base-referenced m a none referenced
 
 pub entry_start-given : (m : MapView) (a : ℕ) (v : NameView) → covering m.info.names (entry_start m a) ≡ Some v → entry_base m a ≡ given_base v
 unfolding entry_base

@@ -1,14 +1,14 @@
 -- The laws of roles and of pieces.
-use Rattle.std.proofs.Common.{◌≡◌, ◌∙◌, ℕ, zero, suc, ◌+◌, ◌-◌, ◌==◌, ◌<◌, ◌≤◌, ◌&&◌, ◌||◌, nat_le, nat_lt, Bool, true, false, List, [], ◌∷◌, All, AllPairs, length, get_or, refl, ap, sym, arith, ⊎_elim}
-use Rattle.std.proofs.lemmas.Bool.{and_from, and_parts, both_ways, cases_Bool, cond-true, cond-false, eq-eqb, leb-true, ltb-true, ne_eqb}
+use Rattle.std.proofs.Common.{◌≡◌, ◌∙◌, ℕ, zero, suc, ◌+◌, ◌-◌, ◌==◌, ◌<◌, ◌≤◌, ◌&&◌, Bool, true, false, List, [], ◌∷◌, All, AllPairs, length, get_or, refl, ap, sym, arith, ⊎_elim}
+use Rattle.std.proofs.lemmas.Bool.{and_from, and_right, both_ways, cases_Bool, cond-true, cond-false, eq-eqb, ne_eqb, or_from, or_left, or_right}
 use Rattle.std.proofs.lemmas.List.Folds.{list_any_at, list_any_none}
 use Rattle.info65.specs.Ranges.{AreApart, has_address}
 use Rattle.info65.specs.declared.information.range.RangeSpec.{RangeSpec}
 use Rattle.info65.specs.declared.information.range.RangeType.TheVariants.{Code}
 use Rattle.info65.specs.Views.{NameView, SegmentView}
-use Rattle.map65.proofs.ItemLemmas.{in-run, is_cut_at, joined-if, joined-run, joined-uncut, one-run-role, run-if}
+use Rattle.map65.proofs.ItemLemmas.{in-run, is_cut_at, joined-if, joined-run, joined-uncut, one-run-role, run-if, within}
 use Rattle.map65.proofs.RunLemmas.{one-run-segment}
-use Rattle.map65.specs.ImageView.{end_of, is_inside}
+use Rattle.map65.specs.ImageView.{is_inside}
 use Rattle.map65.specs.MapView.{MapView}
 use Rattle.map65.specs.Pieces.{AreAlike, AreOnePiece, AreOneRun, AreUnnamed, PieceLaw, RunLaw, is_own}
 use Rattle.map65.specs.Roles.{RoleLaw, is_wide, role_in, role_of}
@@ -55,40 +55,27 @@ border-none : (segments : List SegmentView) (a : ℕ) → All (λ (s : SegmentVi
 unfolding is_border
 border-none segments a starts ends =
     list_any_none (λ (s : SegmentView). borders s a) segments
-    (λ i d below. or_false (ne_eqb (get_or segments i d).first a (starts i d below)) (ne_eqb ((get_or segments i d).last + 1) a (ends i d below)))
-  where
-    or_false : {p q : Bool} → p ≡ false → q ≡ false → (p || q) ≡ false
-    or_false first second = rw first second
+    (λ i d below. or_from _ _ (ne_eqb (get_or segments i d).first a (starts i d below)) (ne_eqb ((get_or segments i d).last + 1) a (ends i d below)))
 
 border-some : (segments : List SegmentView) (a i : ℕ) (d : SegmentView) → i < length segments → borders (get_or segments i d) a ≡ true → is_border segments a ≡ true
 unfolding is_border
 border-some segments a i d below is = list_any_at (λ (s : SegmentView). borders s a) segments i d below is
-
-first-borders : (s : SegmentView) → borders s s.first ≡ true
-first-borders s = rw (eq-eqb s.first s.first refl) refl
-
-last-borders : (s : SegmentView) → borders s (s.last + 1) ≡ true
-last-borders s = or-right (s.first == s.last + 1) (s.last + 1 == s.last + 1) (eq-eqb (s.last + 1) (s.last + 1) refl)
-  where
-    or-right : (p q : Bool) → q ≡ true → (p || q) ≡ true
-    or-right true q is = refl
-    or-right false q is = is
 
 run-alike : (m : MapView) (b a : ℕ) → AreOneRun m b a → AreAlike m b a
 run-alike m b a run = record {
   roles = run-same m b a run;
   starts = λ i d below after upto.
       let s : SegmentView = get_or m.info.segments i d in
-      both_ways (is_border m.info.segments s.first) (in-run m s.first (run s.first after upto)).unbroken (border-some m.info.segments s.first i d below (first-borders s));
+      both_ways (is_border m.info.segments s.first) (in-run m s.first (run s.first after upto)).unbroken (border-some m.info.segments s.first i d below (or_left _ _ (eq-eqb s.first s.first refl)));
   ends = λ i d below after upto.
       let s : SegmentView = get_or m.info.segments i d in
-      both_ways (is_border m.info.segments (s.last + 1)) (in-run m (s.last + 1) (run (s.last + 1) (omega (arith, after)) (omega (arith, upto)))).unbroken (border-some m.info.segments (s.last + 1) i d below (last-borders s));
+      both_ways (is_border m.info.segments (s.last + 1)) (in-run m (s.last + 1) (run (s.last + 1) (omega (arith, after)) (omega (arith, upto)))).unbroken (border-some m.info.segments (s.last + 1) i d below (or_right _ _ (eq-eqb (s.last + 1) (s.last + 1) refl)));
 }
 
 alike-run : (m : MapView) (b a : ℕ) → is_inside m.image b ≡ true → is_inside m.image a ≡ true → AreAlike m b a → AreOneRun m b a
 alike-run m b a b_inside a_inside alike x low high =
-    let first = leb-true m.image.start b (and_parts (nat_le m.image.start b) (nat_lt b (end_of m.image)) b_inside).0 in
-    let last = ltb-true a (end_of m.image) (and_parts (nat_le m.image.start a) (nat_lt a (end_of m.image)) a_inside).1 in
+    let first = (within m b b_inside).low in
+    let last = (within m a a_inside).high in
     run-if m x (record {
       low = omega (arith, first);
       high = omega (arith, last);
@@ -117,11 +104,7 @@ own-some names a i d below is = list_any_at (λ (n : NameView). n.address == a) 
 
 unnamed-uncut : (m : MapView) (b a : ℕ) → AreUnnamed m b a → (x : ℕ) → b < x → x ≤ a → is_cut_at m x ≡ false
 unnamed-uncut m b a none x low high =
-    and_false (is_wide (role_of m.info x)) (is_own m.info.names x) (own-none m.info.names x (λ i d below is. none i d below (omega (arith, is, low)) (omega (arith, is, high))))
-  where
-    and_false : (p q : Bool) → q ≡ false → (p && q) ≡ false
-    and_false true q is = is
-    and_false false q is = refl
+    and_right _ _ (own-none m.info.names x (λ i d below is. none i d below (omega (arith, is, low)) (omega (arith, is, high))))
 
 narrow-uncut : (m : MapView) (b x : ℕ) → is_wide (role_of m.info b) ≡ false → role_of m.info x ≡ role_of m.info b → is_cut_at m x ≡ false
 narrow-uncut m b x narrow role = ap (λ (w : Bool). w && is_own m.info.names x) (ap is_wide role ∙ narrow)

@@ -1,8 +1,8 @@
 -- Runs: what their definition says of segments, and how they are read from cells.
-use Rattle.std.proofs.Common.{◌≡◌, ◌≢◌, ◌∙◌, ℕ, zero, suc, ◌+◌, ◌-◌, ◌/◌, ◌%◌, ◌<◌, ◌≤◌, ◌&&◌, ◌==◌, nat_le, nat_lt, not, Bool, true, false, Option, Some, None, List, [], ◌∷◌, refl, ap, sym, arith, ⊎_elim, if◌then◌else◌}
+use Rattle.std.proofs.Common.{◌≡◌, ◌≢◌, ◌∙◌, ℕ, zero, suc, ◌+◌, ◌-◌, ◌/◌, ◌%◌, ◌<◌, ◌≤◌, ◌&&◌, ◌==◌, not, Bool, true, false, Option, Some, None, List, [], ◌∷◌, refl, ap, sym, arith, if◌then◌else◌}
 use Rattle.std.specs.List.{find}
 use Rattle.std.specs.Option.{option_map}
-use Rattle.std.proofs.lemmas.Bool.{and_from, and_parts, cases_Bool, cond-true, cond_both, eq-eqb, eqb-true, le-leb, leb-true, lt-ltb, ltb-true, ne_eqb, not-true, or_parts}
+use Rattle.std.proofs.lemmas.Bool.{and_from, and_parts, cond-true, cond_both, eq-eqb, eqb-true, false_from_ne_true, false≢true, ne_eqb, not-true, or_parts}
 use Rattle.std.proofs.lemmas.Bool.Decides.{nat_tests}
 use Rattle.std.specs.Cmp.{both_ways}
 use Rattle.info65.specs.Segments.{contains, segment_covering}
@@ -10,7 +10,7 @@ use Rattle.info65.specs.Views.{SegmentView}
 use Rattle.info65.specs.declared.information.range.RangeType.{RangeType}
 use Rattle.info65.specs.declared.information.range.RangeType.TheVariants.{Code}
 use Rattle.map65.proofs.CellLemmas.{code-small, coded-code, has_border-is}
-use Rattle.map65.proofs.ItemLemmas.{InRun, in-run, run-if}
+use Rattle.map65.proofs.ItemLemmas.{InRun, in-run, inside-if, run-if, within}
 use Rattle.map65.specs.Code.Cells.{are_one_run, cell_of, coded, has_border, is_same_role}
 use Rattle.map65.specs.Cells.{bit, code_of}
 use Rattle.map65.specs.ImageView.{end_of, is_inside}
@@ -56,37 +56,30 @@ one-run-segment m b a x run low high =
 
 -- address 0 is the first of its run
 pub first-run : (m : MapView) (a : ℕ) → a ≡ 0 → is_in_run m a ≡ false
-first-run m a is =
-    ⊎_elim
-    (λ run. absurd (omega (arith, is, (in-run m a run).low)))
-    (λ apart. apart)
-    (cases_Bool (is_in_run m a))
+first-run m a is = false_from_ne_true (is_in_run m a) (λ run. absurd (omega (arith, is, (in-run m a run).low)))
 
 -- ---- roles
 
 pub role_at-inside : (m : MapView) (a : ℕ) → m.image.start ≤ a → a < end_of m.image → role_at m a ≡ Some (role_of m.info a)
 unfolding role_at
-role_at-inside m a low high = cond-true (is_inside m.image a) _ _ (and_from _ _ (le-leb m.image.start a low) (lt-ltb a (end_of m.image) high))
+role_at-inside m a low high = cond-true (is_inside m.image a) _ _ (inside-if m a low high)
 
 -- an address that has a role
-record HasRole (m : MapView) (a : ℕ) (r : RangeType) : Type 0 where
-  low : m.image.start ≤ a
-  high : a < end_of m.image
-  is : role_of m.info a ≡ r
+pub record HasRole (m : MapView) (a : ℕ) (r : RangeType) : Type 0 where
+  pub inside : is_inside m.image a ≡ true
+  pub low : m.image.start ≤ a
+  pub high : a < end_of m.image
+  pub is : role_of m.info a ≡ r
 
 pub some-same : (r q : RangeType) → Some r ≡ Some q → r ≡ q
 some-same r q is = cc
 
-role_at-test : (m : MapView) (a : ℕ) (r : RangeType) → role_at m a ≡ Some r → is_inside m.image a ≡ true
+pub has-role : (m : MapView) (a : ℕ) (r : RangeType) → role_at m a ≡ Some r → HasRole m a r
 unfolding role_at
-role_at-test m a r = cond_both (is_inside m.image a) (Some (role_of m.info a)) None (λ (o : Option RangeType). o ≡ Some r → is_inside m.image a ≡ true) (λ is _. is) (λ _ none. absurd cc)
-
-has-role : (m : MapView) (a : ℕ) (r : RangeType) → role_at m a ≡ Some r → HasRole m a r
-has-role m a r is =
-    let inside = and_parts (nat_le m.image.start a) (nat_lt a (end_of m.image)) (role_at-test m a r is) in
-    let low = leb-true m.image.start a inside.0 in
-    let high = ltb-true a (end_of m.image) inside.1 in
-    record { low = low; high = high; is = some-same _ _ (sym (role_at-inside m a low high) ∙ is) }
+has-role m a r =
+    cond_both (is_inside m.image a) (Some (role_of m.info a)) None (λ (o : Option RangeType). o ≡ Some r → HasRole m a r)
+    (λ inside is. let at = within m a inside in record { inside = inside; low = at.low; high = at.high; is = some-same _ _ is })
+    (λ _ none. absurd cc)
 
 -- ---- codes
 
@@ -131,11 +124,8 @@ module _ (m : MapView) (a c d : ℕ) (some : 0 < a) (before : c % 16 ≡ code_of
       let outer = and_parts (is_same_role c d) (not (d % 16 == 0) && not (has_border d)) is in
       let inner = and_parts (not (d % 16 == 0)) (not (has_border d)) outer.1 in
       let same : role_at m (a - 1) ≡ role_at m a = same-code _ _ (sym before ∙ same-role c d outer.0 ∙ here) in
-      let some_code : code_of (role_at m a) ≢ 0 = λ none. both_ways_absurd (d % 16 == 0) (not-true (d % 16 == 0) inner.0) (eq-eqb (d % 16) 0 (here ∙ none)) in
+      let some_code : code_of (role_at m a) ≢ 0 = λ none. false≢true (sym (not-true (d % 16 == 0) inner.0) ∙ eq-eqb (d % 16) 0 (here ∙ none)) in
       alike-by (role_at m a) refl same some_code (sym (has_border-is d (is_border m.info.segments a) border) ∙ not-true (has_border d) inner.1)
-    where
-      both_ways_absurd : (p : Bool) → p ≡ false → p ≡ true → ⊥
-      both_ways_absurd p first second = cc
 
   alike-run : is_in_run m a ≡ true → are_one_run c d ≡ true
   unfolding are_one_run

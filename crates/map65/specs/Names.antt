@@ -5,14 +5,14 @@
 -- 2. for a target inside an item of a table whose entries have more than one byte, the name of the item's first byte;
 -- 3. for any other target, and for the first byte of an item that a target lies inside, `L` and the address in four hex digits.
 -- Any other address has no name.
-use Rattle.std.specs.Prelude.{◌≡◌, ◌↔◌, ◌⊎◌, ℕ, zero, suc, ◌+◌, ◌-◌, ◌<◌, ◌≤◌, ◌==◌, ◌&&◌, ◌||◌, Bool, true, false, List, [], length, nat_lt, if◌then◌else◌, Option, Some, None, is_some}
+use Rattle.std.specs.Prelude.{◌≡◌, ◌↔◌, ◌⊎◌, ℕ, ◌+◌, ◌-◌, ◌<◌, ◌≤◌, ◌==◌, ◌&&◌, ◌||◌, Bool, true, false, List, [], length, if◌then◌else◌, Option, Some, None, is_some}
 use Rattle.std.specs.List.{list_any}
 use Rattle.std.specs.Option.{option_map}
 use Rattle.info65.specs.Names.{covering, covers, default_name, name_at}
 use Rattle.info65.specs.Views.{NameView}
 use Rattle.info65.specs.declared.information.range.RangeType.{RangeType}
 use Rattle.map65.specs.ImageView.{is_inside}
-use Rattle.map65.specs.Items.{item_len}
+use Rattle.map65.specs.Items.{item_len, item_start}
 use Rattle.map65.specs.MapView.{MapView}
 use Rattle.map65.specs.Roles.{is_skip, is_wide, role_at, role_of}
 use Rattle.map65.specs.Spans.{addresses}
@@ -30,14 +30,9 @@ pub record IsInner (m : MapView) (a first : ℕ) : Type 0 where
   pub after : first < a
   pub before : a < first + item_len m first
 
--- the last address up to this one at which an item begins
-unfoldable pub last_item : MapView → ℕ → ℕ
-last_item m zero = zero
-last_item m (suc a) = if nat_lt 0 (item_len m (suc a)) then suc a else last_item m a
-
 -- the first byte of the item that the address lies inside, in such a table; any other address itself
 unfoldable pub entry_start : MapView → ℕ → ℕ
-entry_start m a = if is_inside m.image a && is_wide (role_of m.info a) then last_item m a else a
+entry_start m a = if is_inside m.image a && is_wide (role_of m.info a) then item_start m a else a
 
 -- ---- which addresses need a name
 

@@ -7,10 +7,9 @@ ghost use Rattle.info65.specs.Segments.{AreSegments};
 ghost use Rattle.map65.specs.Code.Cells.{AreNamed, IsLaid, is_cut, nowhere};
 ghost use Rattle.map65.specs.Code.Marking.{AreMarkedBelow, ArePainted, is_joined_in, painted, painted_by};
 ghost use Rattle.map65.specs.ImageView.{IsPlaced, end_of};
-ghost use Rattle.map65.specs.Items.{code_size, size_at, full_len_at};
+ghost use Rattle.map65.specs.Items.{code_size, item_start, size_at, full_len_at};
 ghost use Rattle.map65.specs.Pieces.{is_own};
 ghost use Rattle.map65.specs.Roles.{role_of};
-ghost use Rattle.map65.specs.Spans.{left_at};
 
 use crate::borders::mark_borders;
 use crate::cells::{are_one_run, cell_of, is_named, is_wide_cell, role_in, with_len};
@@ -183,12 +182,12 @@ fn mark_item<A: Allocator>(
     requires placed { IsPlaced image.now }
     requires low { image.now.start ≤ address }
     requires high { address < end_of image.now }
-    requires begins { left_at (size_at (record { info = info.now; image = image.now })) image.now.start (address - image.now.start) ≡ 0 }
+    requires begins { item_start (record { info = info.now; image = image.now }) address ≡ address }
     requires marked { AreMarkedBelow (record { info = info.now; image = image.now }) address cells.old }
     requires own { AreNamed (is_own info.now.names) cells.old }
     ensures positive { 1 ≤ result }
     ensures small { result ≤ 4 }
-    ensures begins { left_at (size_at (record { info = info.now; image = image.now })) image.now.start (address + result - image.now.start) ≡ 0 }
+    ensures begins { item_start (record { info = info.now; image = image.now }) (address + result) ≡ address + result }
     ensures marked { AreMarkedBelow (record { info = info.now; image = image.now }) (address + result) cells.new }
     ensures own { AreNamed (is_own info.now.names) cells.new }
 {

@@ -1,6 +1,6 @@
 //! Targets of items: the addresses that they refer to.
 
-ghost use Rattle.std.specs.Prelude.{◌≡◌, ◌+◌, ◌<◌, ◌≤◌, length};
+ghost use Rattle.std.specs.Prelude.{◌≡◌, ◌+◌, ◌<◌, ◌≤◌, IsTrue, length};
 ghost use Rattle.isa65.specs.Cpu.{table_of};
 ghost use Rattle.isa65.specs.Mode.{len_of, row_len};
 ghost use Rattle.map65.specs.ImageView.{bytes_from, end_of, is_inside};
@@ -45,27 +45,30 @@ pub fn target_of(next: u32, byte: u8) -> Option<u16>
     }
 }
 
-/// Whether the instruction leads to its absolute operand.
-fn is_jump(mnemonic: Mnemonic) -> bool
+/// Returns whether an instruction of this mnemonic leads to its absolute operand.
+pub fn is_jump(mnemonic: Mnemonic) -> bool
     ensures { result ≡ is_jump mnemonic }
 {
     mnemonic == Mnemonic::Jmp || mnemonic == Mnemonic::Jsr
 }
 
-/// Whether the address lies in the image.
-fn is_inside<A: Allocator>(image: &Image<A>, address: u16) -> bool
-    ensures { result ≡ is_inside image.now address }
+/// Returns whether the address, which may be $10000 or above, lies in the image.
+pub fn is_inside<A: Allocator>(image: &Image<A>, address: usize) -> bool
+    ensures value { result ≡ is_inside image.now address }
+    ensures low { IsTrue result → image.now.start ≤ address }
+    ensures high { IsTrue result → address < end_of image.now }
+    ensures fits { IsTrue result → address < 65536 }
 {
-    image.start() <= address
-        && usize::from(address) < usize::from(image.start()) + image.bytes().len()
+    usize::from(image.start()) <= address
+        && address < usize::from(image.start()) + image.bytes().len()
 }
 
-/// The address, if it lies in the image.
-fn only_inside<A: Allocator>(image: &Image<A>, address: u16) -> Option<u16>
+/// Returns the address, if it lies in the image.
+pub fn only_inside<A: Allocator>(image: &Image<A>, address: usize) -> Option<u16>
     ensures { result ≡ only_inside image.now address }
 {
     if is_inside(image, address) {
-        Some(address)
+        Some(address as u16)
     } else {
         None
     }
@@ -95,9 +98,9 @@ fn word_target<A: Allocator>(
             if is_jump(mnemonic) {
                 return Some(word);
             }
-            only_inside(image, word)
+            only_inside(image, usize::from(word))
         }
-        _ => only_inside(image, word),
+        _ => only_inside(image, usize::from(word)),
     }
 }
 
@@ -177,8 +180,8 @@ pub fn entry_of(bytes: &[u8]) -> u16
     u16::from(bytes[0]) + 256 * u16::from(bytes[1])
 }
 
-/// The address that a return leads to with this word on the stack.
-fn return_target(word: u16) -> Option<u16>
+/// Returns the address that a return leads to with this word on the stack, and `None` for $FFFF.
+pub fn return_target(word: u16) -> Option<u16>
     ensures { result ≡ return_target word }
 {
     if word == 0xFFFF { None } else { Some(word + 1) }

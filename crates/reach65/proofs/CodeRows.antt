@@ -4,13 +4,12 @@ use Rattle.isa65.specs.declared.cpu.Cpu.TheVariants.{M6502}
 use Rattle.info65.specs.declared.information.range.RangeSpec.{RangeSpec}
 use Rattle.info65.specs.declared.information.range.RangeType.{RangeType}
 use Rattle.info65.specs.declared.information.range.RangeType.TheVariants as role
-use Rattle.map65.specs.Items.{full_len_at, item_len, size_at}
+use Rattle.map65.specs.Items.{full_len_at, item_len, item_start, size_at}
 use Rattle.map65.specs.MapRows.{map_of}
 use Rattle.map65.specs.MapView.{MapView}
 use Rattle.map65.specs.Pieces.{are_joined, is_in_run, is_joined, is_own}
 use Rattle.map65.specs.Roles.{role_in}
 use Rattle.map65.specs.Segments.{is_border}
-use Rattle.map65.specs.Spans.{left_at}
 
 -- jmp $1006, over two bytes $EA and one $A9, which would take the byte after it as its operand; rts
 abbrev with_ranges : List RangeSpec → MapView
@@ -25,19 +24,19 @@ a_range first last t = record { first = first; last = last; role = t } ∷ []
 
 -- without the range the second is no item
 without : lengths [] ≡ 3 ∷ 0 ∷ []
-unfolding item_len size_at full_len_at are_joined is_in_run is_joined is_own role_in is_border left_at
+unfolding item_len size_at full_len_at are_joined is_in_run is_joined is_own role_in is_border item_start
 without = refl
 
 with_it : lengths (a_range 0x1003 0x1005 role.ByteTable) ≡ 3 ∷ 1 ∷ []
-unfolding item_len size_at full_len_at are_joined is_in_run is_joined is_own role_in is_border left_at
+unfolding item_len size_at full_len_at are_joined is_in_run is_joined is_own role_in is_border item_start
 with_it = refl
 
 -- a range that is a byte too short
 too_short : lengths (a_range 0x1003 0x1004 role.ByteTable) ≡ 3 ∷ 0 ∷ []
-unfolding item_len size_at full_len_at are_joined is_in_run is_joined is_own role_in is_border left_at
+unfolding item_len size_at full_len_at are_joined is_in_run is_joined is_own role_in is_border item_start
 too_short = refl
 
 -- a range of code that was given leaves nothing to propose, and keeps the bytes that are not reached
 given_code : lengths (a_range 0x1000 0x1006 role.Code) ≡ 3 ∷ 0 ∷ []
-unfolding item_len size_at full_len_at are_joined is_in_run is_joined is_own role_in is_border left_at
+unfolding item_len size_at full_len_at are_joined is_in_run is_joined is_own role_in is_border item_start
 given_code = refl

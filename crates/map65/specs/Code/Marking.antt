@@ -1,7 +1,7 @@
 -- Cells while they are written: first the roles, range by range, then the borders, segment by segment, then the lengths, item by item.
-use Rattle.std.specs.Prelude.{◌≡◌, ◌-◌, ◌/◌, ◌%◌, ◌<◌, ◌≤◌, ◌&&◌, ◌||◌, not, ℕ, Bool, true, false, nat_le, nat_lt, List, length, slice_index, Option, Some, None, is_some, if◌then◌else◌}
+use Rattle.std.specs.Prelude.{◌≡◌, ◌-◌, ◌/◌, ◌%◌, ◌<◌, ◌≤◌, ◌&&◌, ◌||◌, not, ℕ, Bool, true, false, nat_le, nat_lt, List, length, slice_index, take, Option, Some, None, is_some, if◌then◌else◌}
 use Rattle.std.specs.List.{list_any}
-use Rattle.info65.specs.Names.{covering, covering_below, name_at}
+use Rattle.info65.specs.Names.{covering, covers, name_at}
 use Rattle.info65.specs.Views.{NameView}
 use Rattle.info65.specs.Ranges.{has_address}
 use Rattle.info65.specs.declared.information.range.RangeSpec.{RangeSpec}
@@ -67,7 +67,7 @@ is_covered names a = is_some (covering names a)
 
 -- one of the first n names covers the address
 abbrev pub is_covered_below : List NameView → ℕ → ℕ → Bool
-is_covered_below names n a = is_some (covering_below names n a)
+is_covered_below names n a = list_any (λ v. covers v a) (take n names)
 
 -- the first n names cover every address below `reach`, from the last of their own addresses on
 abbrev pub Reaches : List NameView → ℕ → ℕ → Type 0
@@ -75,4 +75,4 @@ Reaches names n reach = (a : ℕ) → ((i : ℕ) → i < n → (name_at names i)
 
 -- one of the first n items of the image refers to the address
 unfoldable pub is_referenced_below : MapView → ℕ → ℕ → Bool
-is_referenced_below m n a = list_any (refers m a) (addresses n m.image.start)
+is_referenced_below m n a = list_any (refers m a) (take n (addresses (length m.image.bytes) m.image.start))

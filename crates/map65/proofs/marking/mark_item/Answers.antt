@@ -18,35 +18,31 @@ size_at-len-requires-clause-role g c =
     let m : MapView = record { info = c.args.info.now; image = c.args.image.now } in
     role-here m c.args.address c.from-at.result c.args.cells.now c.role_in.result c.unwrap-role.result c.from-at.ensures c.requires.low c.requires.high (omega arith) c.requires.marked c.role_in.ensures c.unwrap-role.ensures
 
-pub returns-then-not-is_skip-clause-begins : goal.returns-then-not-is_skip-clause-begins
-returns-then-not-is_skip-clause-begins g c =
-    let m : MapView = record { info = c.args.info.now; image = c.args.image.now } in
-    next-begins m c.args.address c.size_at-len.result c.requires.low c.requires.begins c.size_at-len.ensures.value
-
-pub returns-else-not-is_skip-clause-begins : goal.returns-else-not-is_skip-clause-begins
-returns-else-not-is_skip-clause-begins g c =
-    let m : MapView = record { info = c.args.info.now; image = c.args.image.now } in
-    next-begins m c.args.address c.size_at-len.result c.requires.low c.requires.begins c.size_at-len.ensures.value
-
-pub returns-then-not-is_skip-clause-marked : goal.returns-then-not-is_skip-clause-marked
-returns-then-not-is_skip-clause-marked g c =
+pub returns-then-not-is_skip : goal.returns-then-not-is_skip
+returns-then-not-is_skip g c =
     let m : MapView = record { info = c.args.info.now; image = c.args.image.now } in
     let role : c.unwrap-role.result ≡ role_of c.args.info.now c.args.address = role-here m c.args.address c.from-at.result c.args.cells.now c.role_in.result c.unwrap-role.result c.from-at.ensures c.requires.low c.requires.high (omega arith) c.requires.marked c.role_in.ensures c.unwrap-role.ensures in
     let shown : is_skip (role_of c.args.info.now c.args.address) ≡ false = sym (ap is_skip role) ∙ sym c.is_skip.ensures ∙ c.if-not-is_skip.true in
     let cell = c.with_len.ensures ∙ ap (λ (at : ℕ). with_len (get_or c.args.cells.now at 0) c.size_at-len.result) c.from-at.ensures in
-    subst (λ (at : ℕ). AreMarkedBelow m (c.args.address + c.size_at-len.result) (set c.args.cells.now at c.with_len.result)) (sym c.from-at.ensures)
-    (item-marked m c.args.address c.size_at-len.result c.args.cells.now c.requires.low c.requires.high (omega arith) c.requires.begins c.size_at-len.ensures.value c.requires.marked c.with_len.result cell shown)
+    record {
+      positive = c.size_at-len.ensures.positive;
+      small = c.size_at-len.ensures.small;
+      begins = next-begins m c.args.address c.size_at-len.result c.requires.begins c.size_at-len.ensures.value;
+      marked = subst (λ (at : ℕ). AreMarkedBelow m (c.args.address + c.size_at-len.result) (set c.args.cells.now at c.with_len.result)) (sym c.from-at.ensures)
+          (item-marked m c.args.address c.size_at-len.result c.args.cells.now c.requires.low c.requires.high (omega arith) c.requires.begins c.size_at-len.ensures.value c.requires.marked c.with_len.result cell shown);
+      own = subst (λ (at : ℕ). AreNamed (is_own c.args.info.now.names) (set c.args.cells.now at c.with_len.result)) (sym c.from-at.ensures)
+          (item-named m c.args.address c.size_at-len.result c.args.cells.now c.requires.low c.requires.high (omega arith) c.requires.begins c.size_at-len.ensures.value c.requires.marked (is_own c.args.info.now.names) c.with_len.result cell c.requires.own);
+    }
 
-pub returns-then-not-is_skip-clause-own : goal.returns-then-not-is_skip-clause-own
-returns-then-not-is_skip-clause-own g c =
-    let m : MapView = record { info = c.args.info.now; image = c.args.image.now } in
-    let cell = c.with_len.ensures ∙ ap (λ (at : ℕ). with_len (get_or c.args.cells.now at 0) c.size_at-len.result) c.from-at.ensures in
-    subst (λ (at : ℕ). AreNamed (is_own c.args.info.now.names) (set c.args.cells.now at c.with_len.result)) (sym c.from-at.ensures)
-    (item-named m c.args.address c.size_at-len.result c.args.cells.now c.requires.low c.requires.high (omega arith) c.requires.begins c.size_at-len.ensures.value c.requires.marked (is_own c.args.info.now.names) c.with_len.result cell c.requires.own)
-
-pub returns-else-not-is_skip-clause-marked : goal.returns-else-not-is_skip-clause-marked
-returns-else-not-is_skip-clause-marked g c =
+pub returns-else-not-is_skip : goal.returns-else-not-is_skip
+returns-else-not-is_skip g c =
     let m : MapView = record { info = c.args.info.now; image = c.args.image.now } in
     let role : c.unwrap-role.result ≡ role_of c.args.info.now c.args.address = role-here m c.args.address c.from-at.result c.args.cells.now c.role_in.result c.unwrap-role.result c.from-at.ensures c.requires.low c.requires.high (omega arith) c.requires.marked c.role_in.ensures c.unwrap-role.ensures in
     let skip : is_skip (role_of c.args.info.now c.args.address) ≡ true = sym (ap is_skip role) ∙ sym c.is_skip.ensures ∙ c.if-not-is_skip.false in
-    skip-marked m c.args.address c.size_at-len.result c.args.cells.now c.requires.low c.requires.high (omega arith) c.requires.begins c.size_at-len.ensures.value c.requires.marked skip
+    record {
+      positive = c.size_at-len.ensures.positive;
+      small = c.size_at-len.ensures.small;
+      begins = next-begins m c.args.address c.size_at-len.result c.requires.begins c.size_at-len.ensures.value;
+      marked = skip-marked m c.args.address c.size_at-len.result c.args.cells.now c.requires.low c.requires.high (omega arith) c.requires.begins c.size_at-len.ensures.value c.requires.marked skip;
+      own = c.requires.own;
+    }

@@ -1,10 +1,9 @@
 use Rattle.std.proofs.Common.{◌≡◌, ◌-◌, ◌≤◌}
 use Rattle.map65.specs.Code.Cells.{AreNamed}
 use Rattle.map65.specs.Code.Marking.{AreMarkedBelow}
-use Rattle.map65.specs.Items.{size_at}
+use Rattle.map65.specs.Items.{item_start}
 use Rattle.map65.specs.MapView.{MapView}
 use Rattle.map65.specs.Pieces.{is_own}
-use Rattle.map65.specs.Spans.{left_at}
 use Rattle.map65.proofs.marking.mark_items.Given as goal
 
 abbrev pub invariant-items : goal.invariant-items
@@ -12,7 +11,7 @@ invariant-items g l =
     let m : MapView = record { info = l.info; image = l.image } in
     record {
       low : l.image.start ≤ l.at;
-      begins : left_at (size_at m) l.image.start (l.at - l.image.start) ≡ 0;
+      begins : item_start m l.at ≡ l.at;
       marked : AreMarkedBelow m l.at l.cells;
       own : AreNamed (is_own l.info.names) l.cells;
     }

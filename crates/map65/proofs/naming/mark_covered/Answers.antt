@@ -35,5 +35,5 @@ loop-i-preserved g c =
 pub returns : goal.returns
 returns g c = record {
   keeps = c.loop-i.invariant.keeps;
-  named = covered-end c.args.info.now.names c.loop-i.i c.loop-i.cells c.given_count-i-end.ensures.sound (omega (arith, c.loop-i-test.false, c.loop-i.auto.i-end, c.given_count-i-end.ensures.count)) c.loop-i.invariant.named;
+  named = covered-end c.args.info.now.names c.loop-i.i c.loop-i.cells c.given_count-i-end.ensures.sound (omega (arith, c.loop-i-test.false, c.given_count-i-end.ensures.count)) c.loop-i.invariant.named;
 }

@@ -15,12 +15,10 @@ loop-k-preserved g c =
     let place : c.from-start.result + c.loop-k.k ≡ c.args.image.now.start + c.loop-k.k = omega (arith, c.from-start.ensures, c.start.ensures) in
     record {
       laid = c.mark_target.ensures.laid;
-      named = targets-next m c.loop-k.k (c.from-start.result + c.loop-k.k) c.mark_target.new.cells place (c.mark_target.ensures.named (also (is_covered c.args.info.now.names) (is_referenced_below m c.loop-k.k)) c.loop-k.invariant.named);
+      named = targets-next m c.loop-k.k (c.from-start.result + c.loop-k.k) c.mark_target.new.cells (omega (arith, ap length c.bytes-k-end.ensures.bytes, c.loop-k-test.true)) place (c.mark_target.ensures.named (also (is_covered c.args.info.now.names) (is_referenced_below m c.loop-k.k)) c.loop-k.invariant.named);
     }
 
 pub returns : goal.returns
 returns g c =
     let m : MapView = record { info = c.args.info.now; image = c.args.image.now } in
-    let bytes = ap length c.bytes-k-end.ensures.bytes in
-    let all : c.loop-k.k ≡ length c.args.image.now.bytes = omega (arith, bytes, c.loop-k.auto.k-end, c.loop-k-test.false) in
-    record { laid = c.loop-k.invariant.laid; named = targets-end m c.loop-k.k c.loop-k.cells all c.loop-k.invariant.named }
+    record { laid = c.loop-k.invariant.laid; named = targets-end m c.loop-k.k c.loop-k.cells (omega (arith, ap length c.bytes-k-end.ensures.bytes, c.loop-k-test.false)) c.loop-k.invariant.named }
