@@ -1,21 +1,17 @@
 -- With the ranges that are proposed each reached instruction is an item.
-use Rattle.std.proofs.Common.{◌≡◌, ◌∙◌, ℕ, zero, suc, ◌+◌, ◌-◌, ◌<◌, ◌≤◌, ◌&&◌, ◌||◌, nat_le, nat_lt, not, Bool, true, false, List, [], ◌∷◌, ◌++◌, length, Option, Some, None, refl, ap, sym, subst, arith, inl, inr, ◌⊎◌, cond}
-use Rattle.std.specs.List.{list_any}
-use Rattle.std.proofs.lemmas.Bool.{and_from, and_parts, cases_Bool, cases_eq, cases_lt, cond_both, le-leb, leb-true, lt-ltb, ltb-true}
-use denote.Enum.Bare.{true_same}
+use Rattle.std.proofs.Common.{◌≡◌, ◌∙◌, ℕ, zero, suc, ◌+◌, ◌-◌, ◌<◌, ◌≤◌, ◌&&◌, ◌||◌, nat_le, nat_lt, Bool, true, false, List, [], ◌∷◌, ◌++◌, length, get_or, Option, Some, None, refl, ap, sym, subst, arith, inl, inr, ◌⊎◌, cond}
+use Rattle.std.proofs.lemmas.Bool.{and_from, and_parts, and_right, cases_Bool, cases_eq, cases_lt, cond-false, cond_both, le-leb, leb-true, lt-ltb, ltb-true, not-false, not_from_true, or_parts, or_right}
+use Rattle.std.proofs.lemmas.List.Folds.{Any-from_list_any, list_any_at}
 use Rattle.isa65.specs.Mode.{len_of}
 use Rattle.isa65.specs.Opcodes.{decoded}
 use Rattle.isa65.specs.Cpu.{table_of}
-use Rattle.isa65.specs.declared.mode.Mode.{Mode}
-use Rattle.isa65.specs.declared.mode.Mode.TheVariants.{Imp}
 use Rattle.isa65.specs.declared.op.Op.{Op}
-use Rattle.info65.specs.contracts.information.range.RangeType as range_type
 use Rattle.info65.specs.Ranges.{has_address}
 use Rattle.info65.specs.Views.{InfoView}
 use Rattle.info65.specs.declared.information.range.RangeSpec.{RangeSpec}
 use Rattle.info65.specs.declared.information.range.RangeType.{RangeType}
 use Rattle.info65.specs.declared.information.range.RangeType.TheVariants as role
-use Rattle.map65.proofs.Public.{in-run, item_law, joined-in}
+use Rattle.map65.proofs.Public.{address-at, address-count, has-role, in-run, inside-if, item_law, joined-if, joined-in, joined-run, len-positive, one-run-role, run-if, within}
 use Rattle.map65.specs.ImageView.{IsPlaced, byte_at, end_of, is_inside}
 use Rattle.map65.specs.Items.{CanBegin, EndsBefore, full_len_at, item_len}
 use Rattle.map65.specs.MapView.{MapView, opcodes}
@@ -23,7 +19,6 @@ use Rattle.map65.specs.Pieces.{AreOnePiece, AreOneRun, IsFirst, is_in_run, is_jo
 use Rattle.map65.specs.Roles.{is_skip, is_wide, role_at, role_in, role_of}
 use Rattle.map65.specs.Segments.{is_border}
 use Rattle.map65.specs.Spans.{addresses}
-use Rattle.reach65.proofs.FlowLemmas.{within}
 use Rattle.reach65.proofs.PieceLemmas.{pieces-cover}
 use Rattle.reach65.specs.Flow.{if_whole, instruction_at, op_in}
 use Rattle.reach65.specs.Laws.{AreWhole, CodeLaw, IsOfCode, IsReachedBefore, IsWith, with_info}
@@ -36,11 +31,7 @@ use Rattle.reach65.specs.Taken.{AreMarkedBy, has_byte, is_code, is_given, is_of_
 role-none : (rs : List RangeSpec) (a : ℕ) → is_given rs a ≡ false → role_in rs a ≡ role.Code
 unfolding is_given role_in
 role-none [] a none = refl
-role-none (r ∷ rs) a none = by_first (has_address r a) (is_given rs a) (role_in rs a) r.role none (role-none rs a)
-  where
-    by_first : (x y : Bool) (q p : RangeType) → (x || y) ≡ false → (y ≡ false → q ≡ role.Code) → cond x p q ≡ role.Code
-    by_first true y q p is rest = cc
-    by_first false y q p is rest = rest is
+role-none (r ∷ rs) a none = let parts = or_parts (has_address r a) (is_given rs a) none in cond-false (has_address r a) r.role (role_in rs a) parts.0 ∙ role-none rs a parts.1
 
 role-given : (rs later : List RangeSpec) (a : ℕ) → is_given rs a ≡ true → role_in (rs ++ later) a ≡ role_in rs a
 unfolding is_given role_in
@@ -54,11 +45,7 @@ role-given (r ∷ rs) later a is = by_first (has_address r a) (is_given rs a) (r
 role-later : (rs later : List RangeSpec) (a : ℕ) → is_given rs a ≡ false → role_in (rs ++ later) a ≡ role_in later a
 unfolding is_given role_in
 role-later [] later a none = refl
-role-later (r ∷ rs) later a none = by_first (has_address r a) (is_given rs a) (role_in (rs ++ later) a) (role_in later a) r.role none (role-later rs later a)
-  where
-    by_first : (x y : Bool) (p q o : RangeType) → (x || y) ≡ false → (y ≡ false → p ≡ q) → cond x o p ≡ q
-    by_first true y p q o is rest = cc
-    by_first false y p q o is rest = rest is
+role-later (r ∷ rs) later a none = let parts = or_parts (has_address r a) (is_given rs a) none in cond-false (has_address r a) r.role (role_in (rs ++ later) a) parts.0 ∙ role-later rs later a parts.1
 
 -- a piece is no code
 piece-other : (g : Ground) (r : RangeType) (from end : ℕ) → IsPiece g r from end → r ≡ role.Code → ⊥
@@ -74,29 +61,6 @@ pieces-other g from a (r ∷ rs) are given is =
     by_first : (x y : Bool) (q : RangeType) → (x || y) ≡ true → cond x r.role q ≡ role.Code → (r.role ≡ role.Code → ⊥) → (y ≡ true → q ≡ role.Code → ⊥) → ⊥
     by_first true y q given is first rest = first is
     by_first false y q given is first rest = rest given is
-
--- ---- one of some addresses
-
-any-at : (p : ℕ → Bool) (n start k : ℕ) → k < n → p (start + k) ≡ true → list_any p (addresses n start) ≡ true
-unfolding addresses
-any-at p zero start k low is = absurd (omega (arith, low))
-any-at p (suc n) start zero low is = let same : start + 0 ≡ start = omega arith in rw (ap p (sym same) ∙ is) refl
-any-at p (suc n) start (suc k) low is =
-    let same : start + suc k ≡ start + 1 + k = omega arith in
-    or-right (p start) (list_any p (addresses n (start + 1))) (any-at p n (start + 1) k (omega (arith, low)) (ap p (sym same) ∙ is))
-  where
-    or-right : (x y : Bool) → y ≡ true → (x || y) ≡ true
-    or-right true y is = refl
-    or-right false y is = is
-
-any-some : (p : ℕ → Bool) (n start : ℕ) → list_any p (addresses n start) ≡ true → (a : ℕ) × (p a ≡ true)
-unfolding addresses
-any-some p zero start is = cc
-any-some p (suc n) start is = by_first (p start) refl is (λ rest. any-some p n (start + 1) rest)
-  where
-    by_first : (x : Bool) → p start ≡ x → (x || list_any p (addresses n (start + 1))) ≡ true → (list_any p (addresses n (start + 1)) ≡ true → (a : ℕ) × (p a ≡ true)) → (a : ℕ) × (p a ≡ true)
-    by_first true here is rest = (start, here)
-    by_first false here is rest = rest is
 
 -- ---- the instruction of an address
 
@@ -115,29 +79,16 @@ whole-is m a (Some p) op is =
 
 op-is : (m : MapView) (r : Option RangeType) (a : ℕ) (op : Op) → op_in m r a ≡ Some op → (r ≡ Some role.Code) × (decoded (opcodes m) (byte_at m.image a) ≡ Some op)
 op-is m (Some role.Code) a op is = (refl, is)
-op-is m (Some role.ByteTable) a op is = cc
-op-is m (Some role.WordTable) a op is = cc
-op-is m (Some role.DbyteTable) a op is = cc
-op-is m (Some role.DwordTable) a op is = cc
-op-is m (Some role.AddrTable) a op is = cc
-op-is m (Some role.RtsTable) a op is = cc
-op-is m (Some role.TextTable) a op is = cc
-op-is m (Some role.Skip) a op is = cc
+op-is m (Some _) a op is = cc
 op-is m None a op is = cc
-
-role-is : (m : MapView) (a : ℕ) (r : RangeType) → role_at m a ≡ Some r → (is_inside m.image a ≡ true) × (role_of m.info a ≡ r)
-unfolding role_at
-role-is m a r is =
-    cond_both (is_inside m.image a) (Some (role_of m.info a)) None (λ v. v ≡ Some r → (is_inside m.image a ≡ true) × (role_of m.info a ≡ r))
-    (λ inside same. (inside, cc)) (λ _ none. cc) is
 
 instruction-is : (m : MapView) (a : ℕ) (op : Op) → instruction_at m a ≡ Some op → IsInstruction m a op
 unfolding instruction_at
 instruction-is m a op is =
     let first = whole-is m a (op_in m (role_at m a) a) op is in
     let second = op-is m (role_at m a) a op first.0 in
-    let third = role-is m a role.Code second.0 in
-    record { inside = third.0; code = third.1; decoded = second.1; fits = first.1 }
+    let third = has-role m a role.Code second.0 in
+    record { inside = third.inside; code = third.is; decoded = second.1; fits = first.1 }
 
 -- the instruction that has an address
 record Holds (m : MapView) (b a : ℕ) : Type 0 where
@@ -165,13 +116,9 @@ has-if m b a op is low high = ap (λ o. is_within b o a) is ∙ and_from _ _ (le
 given-taken : (m : MapView) (marks : List Bool) (a : ℕ) → is_taken m marks a ≡ true → is_given m.info.ranges a ≡ false → IsOfCode m marks a
 unfolding is_taken is_code is_of_code
 given-taken m marks a is none =
-    let any = any-some (is_of_code m marks a) (length m.image.bytes) m.image.start (by_first (is_given m.info.ranges a) _ none is) in
-    let parts = and_parts (is_marked marks any.0) (has_byte m any.0 a) any.1 in
-    record { at = any.0; marked = parts.0; has = parts.1 }
-  where
-    by_first : (x y : Bool) → x ≡ false → (x || y) ≡ true → y ≡ true
-    by_first true y none is = cc
-    by_first false y none is = is
+    let any = Any-from_list_any (is_of_code m marks a) (addresses (length m.image.bytes) m.image.start) (rw none at is) in
+    let parts = and_parts (is_marked marks any.1) (has_byte m any.1 a) any.4 in
+    record { at = any.1; marked = parts.0; has = parts.1 }
 
 code-taken : (m : MapView) (marks : List Bool) (a : ℕ) → IsOfCode m marks a → is_taken m marks a ≡ true
 unfolding is_taken is_code is_of_code
@@ -179,41 +126,16 @@ code-taken m marks a is =
     let h = holds m is.at a is.has in
     let w = within m is.at (instruction-is m is.at h.op h.is).inside in
     let k : ℕ = is.at - m.image.start in
-    let same : m.image.start + k ≡ is.at = omega (arith, w.low) in
-    let here : is_of_code m marks a (m.image.start + k) ≡ true = ap (is_of_code m marks a) same ∙ and_from _ _ is.marked is.has in
-    or-right (is_given m.info.ranges a) _ (any-at (is_of_code m marks a) (length m.image.bytes) m.image.start k (omega (arith, w.low, w.high)) here)
-  where
-    or-right : (x y : Bool) → y ≡ true → (x || y) ≡ true
-    or-right true y is = refl
-    or-right false y is = is
-
-len-positive : (x : Mode) → 0 < len_of x
-len-positive Imp = omega arith
-len-positive _ = omega arith
+    let low : k < length m.image.bytes = omega (arith, w.low, w.high) in
+    let here : get_or (addresses (length m.image.bytes) m.image.start) k 0 ≡ is.at = address-at (length m.image.bytes) k m.image.start 0 low ∙ omega (arith, w.low) in
+    or_right (is_given m.info.ranges a) _
+    (list_any_at (is_of_code m marks a) (addresses (length m.image.bytes) m.image.start) k 0 (omega (arith, low, address-count (length m.image.bytes) m.image.start)) (ap (is_of_code m marks a) here ∙ and_from _ _ is.marked is.has))
 
 -- ---- runs
 
-module _ (m : MapView) (a : ℕ) where
-  run-if : m.image.start < a → a < end_of m.image → role_of m.info (a - 1) ≡ role_of m.info a → is_border m.info.segments a ≡ false → is_in_run m a ≡ true
-  unfolding is_in_run
-  run-if low high same unbroken =
-      and_from _ _ (lt-ltb m.image.start a low) (and_from _ _ (lt-ltb a (end_of m.image) high) (and_from _ _ (true_same range_type.the_type (role_of m.info (a - 1)) (role_of m.info a) same) (ap not unbroken)))
-
-  joined-run : is_joined m a ≡ true → is_in_run m a ≡ true
-  unfolding is_joined
-  joined-run is = (and_parts (is_in_run m a) (not (is_wide (role_of m.info a) && is_own m.info.names a)) is).0
-
-  -- no name cuts code
-  joined-code : is_in_run m a ≡ true → role_of m.info a ≡ role.Code → is_joined m a ≡ true
-  unfolding is_joined
-  joined-code run code = and_from _ _ run (ap (λ r. not (is_wide r && is_own m.info.names a)) code)
-
-run-role : (m : MapView) (b n : ℕ) → AreOneRun m b (b + n) → role_of m.info (b + n) ≡ role_of m.info b
-run-role m b zero run = let place : b + 0 ≡ b = omega arith in ap (role_of m.info) place
-run-role m b (suc n) run =
-    let before = run-role m b n (λ x low high. run x low (omega (arith, high))) in
-    let place : b + suc n - 1 ≡ b + n = omega arith in
-    sym (in-run m (b + suc n) (run (b + suc n) (omega arith) (omega arith))).same ∙ ap (role_of m.info) place ∙ before
+-- no name cuts code
+joined-code : (m : MapView) (a : ℕ) → is_in_run m a ≡ true → role_of m.info a ≡ role.Code → is_joined m a ≡ true
+joined-code m a run code = joined-if m a run (ap (λ r. is_wide r && is_own m.info.names a) code)
 
 -- ---- with the ranges that are proposed
 
@@ -229,21 +151,11 @@ module _ (m : MapView) (marks taken : List Bool) (pieces : List RangeSpec) (info
 
   unfree : (x : ℕ) → is_inside m.image x ≡ true → is_taken m marks x ≡ true → is_free ground x ≡ false
   unfolding is_free
-  unfree x inside is = no-second (is_inside m.image x) (is_marked taken x) (taken-is x inside ∙ is)
-    where
-      no-second : (p q : Bool) → q ≡ true → (p && not q) ≡ false
-      no-second true true is = refl
-      no-second true false is = cc
-      no-second false q is = refl
+  unfree x inside is = and_right _ _ (not_from_true (is_marked taken x) (taken-is x inside ∙ is))
 
   free-not : (x : ℕ) → is_inside m.image x ≡ true → is_free ground x ≡ false → is_taken m marks x ≡ true
   unfolding is_free
-  free-not x inside is = sym (taken-is x inside) ∙ second (is_inside m.image x) (is_marked taken x) inside is
-    where
-      second : (p q : Bool) → p ≡ true → (p && not q) ≡ false → q ≡ true
-      second true true inside is = refl
-      second true false inside is = cc
-      second false q inside is = cc
+  free-not x inside is = let free = rw inside at is in sym (taken-is x inside) ∙ not-false (is_marked taken x) free
 
   -- what was code and is reached is code
   role-kept : (x : ℕ) → is_inside m.image x ≡ true → role_of m.info x ≡ role.Code → IsOfCode m marks x → role_of info x ≡ role.Code
@@ -269,11 +181,8 @@ module _ (m : MapView) (marks taken : List Bool) (pieces : List RangeSpec) (info
   byte-code b x op marked is low high =
       let i = instruction-is m b op is in
       let w = within m b i.inside in
-      let inside : is_inside m.image x ≡ true = and_from _ _ (le-leb m.image.start x (omega (arith, w.low, low))) (lt-ltb x (end_of m.image) (omega (arith, high, i.fits))) in
-      let code : role_of m.info x ≡ role.Code =
-      let n : ℕ = x - b in
-      let place : b + n ≡ x = omega (arith, low) in
-      sym (ap (role_of m.info) place) ∙ run-role m b n (λ y above upto. whole.run b op marked is y above (omega (arith, upto, place, high))) ∙ i.code in
+      let inside : is_inside m.image x ≡ true = inside-if m x (omega (arith, w.low, low)) (omega (arith, high, i.fits)) in
+      let code : role_of m.info x ≡ role.Code = one-run-role m b x low (λ y above upto. whole.run b op marked is y above (omega (arith, upto, high))) ∙ i.code in
       role-kept x inside code (record { at = b; marked = marked; has = has-if m b x op is low high })
 
   -- each byte of a reached instruction after its first is joined
@@ -282,7 +191,7 @@ module _ (m : MapView) (marks taken : List Bool) (pieces : List RangeSpec) (info
       let old = in-run m x (whole.run b op marked is x low (omega (arith, high))) in
       let here = byte-code b x op marked is (omega (arith, low)) high in
       let before = byte-code b (x - 1) op marked is (omega (arith, low)) (omega (arith, low, high)) in
-      joined-code all x (run-if all x old.low old.high (before ∙ sym here) (ap (λ s. is_border s x) new.segments ∙ old.unbroken)) here
+      joined-code all x (run-if all x (record { low = old.low; high = old.high; same = before ∙ sym here; unbroken = ap (λ s. is_border s x) new.segments ∙ old.unbroken })) here
 
   -- the item is as long as the instruction
   full-len : (a : ℕ) (op : Op) → is_marked marks a ≡ true → instruction_at m a ≡ Some op → a < a + len_of op.mode → full_len_at all a ≡ len_of op.mode
@@ -328,7 +237,7 @@ module _ (m : MapView) (marks taken : List Bool) (pieces : List RangeSpec) (info
           | inr apart ↦ inl (inr apart)
           | inl joined ↦
               let here = joined-in all a joined in
-              let last_inside : is_inside m.image (a - 1) ≡ true = and_from _ _ (le-leb m.image.start (a - 1) (omega (arith, here.low))) (lt-ltb (a - 1) (end_of m.image) (omega (arith, here.high))) in
+              let last_inside = inside-if m (a - 1) (omega (arith, here.low)) (omega (arith, here.high)) in
               let last_run : AreOneRun all (a - 1) a = λ y low high. let same : y ≡ a = omega (arith, low, high) in subst (λ z. is_in_run all z ≡ true) (sym same) (joined-run all a joined) in
               let last = code-reached (a - 1) last_inside (here.same ∙ code) (before (a - 1) (omega (arith, here.low)) last_run) in
               let h = holds m last.at (a - 1) last.has in

@@ -2,7 +2,7 @@ pub mod EntryLemmas
 pub mod FlowLemmas
 pub mod SearchLemmas
 pub mod TakenLemmas
-pub mod PairLemmas
+pub mod LoopLemmas
 pub mod PieceLemmas
 pub mod CodeLemmas
 pub mod CodeRows

@@ -1,6 +1,6 @@
 -- One piece after the other.
-use Rattle.std.proofs.Common.{All, zero, suc, ◌≡◌, ◌+◌, ◌<◌, ◌≤◌, ◌∙◌, ◌&&◌, ◌||◌, not, nat_le, nat_lt, ℕ, Bool, true, false, List, [], ◌∷◌, ◌++◌, append_assoc, arith, inl, inr, refl, subst, sym}
-use Rattle.std.proofs.lemmas.Bool.{and_parts, cases_lt, le-leb, leb-true, lt-leb, ltb-true, le-ltb}
+use Rattle.std.proofs.Common.{All, zero, suc, ◌≡◌, ◌+◌, ◌<◌, ◌≤◌, ◌∙◌, ◌&&◌, not, nat_le, nat_lt, ℕ, true, false, List, [], ◌∷◌, ◌++◌, append_assoc, arith, inl, inr, refl, subst, sym}
+use Rattle.std.proofs.lemmas.Bool.{and_left, and_parts, and_right, cases_lt, le-leb, leb-true, lt-leb, ltb-true, le-ltb, not-false, not_from_false, not_from_true, or_from, or_left, or_parts}
 use Rattle.std.proofs.lemmas.List.{append-nil}
 use Rattle.info65.specs.Ranges.{has_address}
 use Rattle.info65.specs.declared.information.range.RangeSpec.{RangeSpec}
@@ -12,34 +12,18 @@ use Rattle.reach65.specs.Taken.{is_given}
 
 -- ---- free addresses
 
-no-second : (x y : Bool) → y ≡ false → (x && y) ≡ false
-no-second true y is = is
-no-second false y is = refl
-
 -- nothing past the image is free
 pub past-free : (g : Ground) (a : ℕ) → end_of g.image ≤ a → is_free g a ≡ false
 unfolding is_free
-past-free g a past = no-first (is_inside g.image a) _ (no-second (nat_le g.image.start a) (nat_lt a (end_of g.image)) (le-ltb a (end_of g.image) past))
-  where
-    no-first : (x y : Bool) → x ≡ false → (x && y) ≡ false
-    no-first true y is = cc
-    no-first false y is = refl
+past-free g a past = and_left _ _ (and_right (nat_le g.image.start a) _ (le-ltb a (end_of g.image) past))
 
 pub past-char : (g : Ground) (a : ℕ) → end_of g.image ≤ a → is_char g a ≡ false
 unfolding is_char
-past-char g a past = no-first (is_free g a) _ (past-free g a past)
-  where
-    no-first : (x y : Bool) → x ≡ false → (x && y) ≡ false
-    no-first true y is = cc
-    no-first false y is = refl
+past-char g a past = and_left _ _ (past-free g a past)
 
 pub past-break : (g : Ground) (a : ℕ) → end_of g.image ≤ a → is_break g a ≡ true
 unfolding is_break
-past-break g a past = turned (is_free g a) (is_text g a) (past-free g a past)
-  where
-    turned : (x y : Bool) → x ≡ false → (not x || y) ≡ true
-    turned true y is = cc
-    turned false y is = refl
+past-break g a past = or_left _ _ (not_from_false (is_free g a) (past-free g a past))
 
 pub char-free : (g : Ground) (a : ℕ) → is_char g a ≡ true → is_free g a ≡ true
 unfolding is_char
@@ -51,31 +35,17 @@ text-char g a is = (and_parts (is_char g a) (is_char g (a + 1) && (is_char g (a 
 
 pub break-free : (g : Ground) (a : ℕ) → is_break g a ≡ false → is_free g a ≡ true
 unfolding is_break
-break-free g a is = turned (is_free g a) (is_text g a) is
-  where
-    turned : (x y : Bool) → (not x || y) ≡ false → x ≡ true
-    turned true y is = refl
-    turned false y is = cc
+break-free g a is = not-false (is_free g a) (or_parts (not (is_free g a)) (is_text g a) is).0
 
 pub free-break : (g : Ground) (a : ℕ) → is_free g a ≡ true → is_text g a ≡ false → is_break g a ≡ false
 unfolding is_break
-free-break g a free none = turned (is_free g a) (is_text g a) free none
-  where
-    turned : (x y : Bool) → x ≡ true → y ≡ false → (not x || y) ≡ false
-    turned true y free none = none
-    turned false y free none = cc
+free-break g a free none = or_from _ _ (not_from_true (is_free g a) free) none
 
 -- each address of a piece is free
 pub piece-free : (g : Ground) (r : RangeType) (from end a : ℕ) → IsPiece g r from end → from ≤ a → a < end → is_free g a ≡ true
 piece-free g role.TextTable from end a piece low high = char-free g a (piece.1 a low high)
 piece-free g role.ByteTable from end a piece low high = break-free g a (piece.1 a low high)
-piece-free g role.Code from end a piece low high = absurd piece
-piece-free g role.WordTable from end a piece low high = absurd piece
-piece-free g role.DbyteTable from end a piece low high = absurd piece
-piece-free g role.DwordTable from end a piece low high = absurd piece
-piece-free g role.AddrTable from end a piece low high = absurd piece
-piece-free g role.RtsTable from end a piece low high = absurd piece
-piece-free g role.Skip from end a piece low high = absurd piece
+piece-free g _ from end a piece low high = absurd piece
 
 -- ---- pieces in order
 
@@ -109,7 +79,7 @@ below-range : (r : RangeSpec) (a : ℕ) → a < r.first → has_address r a ≡ 
 below-range r a below = rw (lt-leb r.first a below) refl
 
 pub above-range : (r : RangeSpec) (a : ℕ) → r.last < a → has_address r a ≡ false
-above-range r a above = no-second (nat_le r.first a) (nat_le a r.last) (lt-leb a r.last above)
+above-range r a above = and_right (nat_le r.first a) _ (lt-leb a r.last above)
 
 in-range : (r : RangeSpec) (a : ℕ) → r.first ≤ a → a ≤ r.last → has_address r a ≡ true
 in-range r a low high = rw (le-leb r.first a low, le-leb a r.last high) refl
@@ -147,18 +117,17 @@ free-none g from at past before a low =
 
 -- ---- pieces in the image
 
-free-parts : (g : Ground) (a : ℕ) → is_free g a ≡ true → (g.image.start ≤ a) × (a < end_of g.image)
+free-within : (g : Ground) (a : ℕ) → is_free g a ≡ true → (g.image.start ≤ a) × (a < end_of g.image)
 unfolding is_free
-free-parts g a free =
-    let inside = (and_parts (is_inside g.image a) _ free).0 in
-    let parts = and_parts (nat_le g.image.start a) (nat_lt a (end_of g.image)) inside in
+free-within g a free =
+    let parts = and_parts (nat_le g.image.start a) (nat_lt a (end_of g.image)) (and_parts (is_inside g.image a) _ free).0 in
     (leb-true g.image.start a parts.0, ltb-true a (end_of g.image) parts.1)
 
-piece-lies : (g : Ground) (r : RangeSpec) → r.first ≤ r.last → IsPiece g r.role r.first (r.last + 1) → LiesIn g.image r
+pub piece-lies : (g : Ground) (r : RangeSpec) → r.first ≤ r.last → IsPiece g r.role r.first (r.last + 1) → LiesIn g.image r
 piece-lies g r order piece = record {
-  low = (free-parts g r.first (piece-free g r.role r.first (r.last + 1) r.first piece (omega arith) (omega arith))).0;
+  low = (free-within g r.first (piece-free g r.role r.first (r.last + 1) r.first piece (omega arith) (omega arith))).0;
   order = order;
-  high = (free-parts g r.last (piece-free g r.role r.first (r.last + 1) r.last piece order (omega arith))).1;
+  high = (free-within g r.last (piece-free g r.role r.first (r.last + 1) r.last piece order (omega arith))).1;
 }
 
 pub pieces-lie : (g : Ground) (from : ℕ) (ranges : List RangeSpec) → ArePieces g from ranges → All (LiesIn g.image) ranges

@@ -1,16 +1,18 @@
 -- One step of a search after the other.
 use Rattle.std.proofs.Common.{◌≡◌, ◌≢◌, ◌⊎◌, ◌+◌, ◌<◌, ◌≤◌, ◌∙◌, ℕ, Bool, true, false, not, List, [], ◌∷◌, ◌++◌, length, get_or, set, replicate, Option, Some, None, ap, arith, sym, subst, inl, inr, cond, length-append}
 use Rattle.std.specs.List.{Contains, count_by, sum_by}
-use Rattle.std.proofs.lemmas.Bool.{cond_both, cases_eq, cases_lt}
-use Rattle.std.proofs.lemmas.List.{get_or-set_same, get_or-set_other, get_or-replicate, get_or_past, length-replicate, get_or_default}
+use Rattle.std.proofs.lemmas.Bool.{both_ways, cond_both, cases_eq, cases_lt}
+use Rattle.std.proofs.lemmas.List.{get_or-set_same, get_or-set_other, length-replicate, get_or_default}
 use Rattle.std.proofs.Math.ListN.{length-set}
 use Rattle.std.proofs.lemmas.List.Elements.{Contains-append_left, Contains-get_or, Contains-push, Contains-push_cases}
 use Rattle.std.proofs.lemmas.List.Sums.{sum_by-set}
 use Rattle.map65.specs.ImageView.{IsPlaced, is_inside}
 use Rattle.map65.specs.MapView.{MapView}
 use Rattle.reach65.specs.Code.Searching.{HasEntries, HasEntriesTo, IsFollowed, IsSearch, Nothing, State, put, put_inside, put_some}
-use Rattle.reach65.specs.Flow.{LeadsTo, goal_at, next_at}
-use Rattle.reach65.proofs.FlowLemmas.{leads-below, within}
+use Rattle.reach65.specs.Flow.{goal_at, next_at}
+use Rattle.map65.proofs.Public.{within}
+use Rattle.reach65.proofs.FlowLemmas.{leads-below}
+use Rattle.reach65.proofs.TakenLemmas.{blank-false}
 use Rattle.reach65.specs.Reached.{AreReached, Reached, entry, led, is_marked}
 
 -- ---- what a step does
@@ -61,12 +63,7 @@ next-left old new a marks todo = omega (arith, ap open_of marks, ap length todo,
 -- ---- what holds at each step
 
 blank-unmarked : (marks : List Bool) (a : ℕ) → marks ≡ replicate 65536 false → is_marked marks a ≡ true → ⊥
-blank-unmarked marks a is marked =
-    let none : is_marked (replicate 65536 false) a ≡ false = elim (cases_lt a 65536) as (λ _. is_marked (replicate 65536 false) a ≡ false) [
-      | inl below ↦ get_or-replicate 65536 a false false below
-      | inr past ↦ get_or_past (replicate 65536 false) a false (omega (arith, past, length-replicate 65536 false))
-    ] in
-    let no : false ≡ true = sym none ∙ sym (ap (λ l. is_marked l a) is) ∙ marked in cc
+blank-unmarked marks a is marked = both_ways (is_marked marks a) (blank-false marks a is) marked
 
 abbrev no_address : List ℕ
 no_address = []
@@ -161,82 +158,68 @@ search-end m entries s todo was all = record {
 
 -- ---- one instruction
 
-pub put_some-search : (m : MapView) (entries : List ℕ) (Now : ℕ → Type 0) (s : State) (a : ℕ) (o : Option ℕ) → IsPlaced m.image → Reached m entries a
-    → ((b : ℕ) → o ≡ Some b → LeadsTo m a b) → IsSearch m entries Now s → IsSearch m entries Now (put_some s o)
-put_some-search m entries Now s a None placed is leads old = old
-put_some-search m entries Now s a (Some b) placed is leads old =
-    let there = leads b (λ i. Some b) in
-    search-put m entries Now s b (leads-below m a b placed there) (led a b is there) old
+-- an address that there may be is one with a mark
+abbrev IsLow : State → Option ℕ → Type 0
+IsLow s o = (b : ℕ) → o ≡ Some b → b < length s.marks
 
-pub put_some-left : (m : MapView) (s : State) (a : ℕ) (o : Option ℕ) → IsPlaced m.image → length s.marks ≡ 65536
-    → ((b : ℕ) → o ≡ Some b → LeadsTo m a b) → left_to_do (put_some s o) ≡ left_to_do s
-put_some-left m s a None placed count leads = λ i. left_to_do s
-put_some-left m s a (Some b) placed count leads = put-left s b (omega (arith, count, leads-below m a b placed (leads b (λ i. Some b))))
+put_some-search : (m : MapView) (entries : List ℕ) (Now : ℕ → Type 0) (s : State) (o : Option ℕ) → IsLow s o → ((b : ℕ) → o ≡ Some b → Reached m entries b)
+    → IsSearch m entries Now s → IsSearch m entries Now (put_some s o)
+put_some-search m entries Now s None low is old = old
+put_some-search m entries Now s (Some b) low is old = search-put m entries Now s b (omega (arith, low b (λ i. Some b), old.count)) (is b (λ i. Some b)) old
 
-pub put_some-grows : (m : MapView) (s : State) (a : ℕ) (o : Option ℕ) → IsPlaced m.image → length s.marks ≡ 65536
-    → ((b : ℕ) → o ≡ Some b → LeadsTo m a b) → (b : ℕ) → is_marked s.marks b ≡ true → is_marked (put_some s o).marks b ≡ true
-put_some-grows m s a None placed count leads b is = is
-put_some-grows m s a (Some x) placed count leads b is = put-grows s x b (omega (arith, count, leads-below m a x placed (leads x (λ i. Some x)))) is
+put_some-left : (s : State) (o : Option ℕ) → IsLow s o → left_to_do (put_some s o) ≡ left_to_do s
+put_some-left s None low = λ i. left_to_do s
+put_some-left s (Some b) low = put-left s b (low b (λ i. Some b))
 
-pub put_some-marked : (m : MapView) (s : State) (a : ℕ) (o : Option ℕ) → IsPlaced m.image → length s.marks ≡ 65536
-    → ((b : ℕ) → o ≡ Some b → LeadsTo m a b) → (b : ℕ) → o ≡ Some b → is_marked (put_some s o).marks b ≡ true
-put_some-marked m s a None placed count leads b is = cc
-put_some-marked m s a (Some x) placed count leads b is =
-    let same : x ≡ b = cc in
-    subst (λ k. is_marked (put s x).marks k ≡ true) same (put-marked s x (omega (arith, count, leads-below m a x placed (leads x (λ i. Some x)))))
+put_some-grows : (s : State) (o : Option ℕ) → IsLow s o → (b : ℕ) → is_marked s.marks b ≡ true → is_marked (put_some s o).marks b ≡ true
+put_some-grows s None low b is = is
+put_some-grows s (Some x) low b is = put-grows s x b (low x (λ i. Some x)) is
 
--- after both addresses that an instruction can lead to the search goes on
-pub followed-both : (m : MapView) (entries : List ℕ) (old new : State) (a : ℕ) (next goal : Option ℕ) (mid end : State) → IsPlaced m.image
-    → new.marks ≡ old.marks → old.todo ≡ new.todo ++ a ∷ [] → next ≡ next_at m a → goal ≡ goal_at m a → mid ≡ put_some new next → end ≡ put_some mid goal
-    → IsSearch m entries Nothing old → IsSearch m entries Nothing end
-followed-both m entries old new a next goal mid end placed marks todo next_is goal_is mid_is end_is was =
-    let here = next-reached m entries old new a todo was in
-    let taken = search-next m entries old new a marks todo was in
-    let by_next : (b : ℕ) → next ≡ Some b → LeadsTo m a b = λ b is. inl (sym next_is ∙ is) in
-    let by_goal : (b : ℕ) → goal ≡ Some b → LeadsTo m a b = λ b is. inr (sym goal_is ∙ is) in
-    let halfway : IsSearch m entries (λ b. b ≡ a) (put_some new next) = put_some-search m entries (λ b. b ≡ a) new a next placed here by_next taken in
-    let whole : IsSearch m entries (λ b. b ≡ a) (put_some (put_some new next) goal) = put_some-search m entries (λ b. b ≡ a) (put_some new next) a goal placed here by_goal halfway in
-    let done : IsFollowed m (put_some (put_some new next) goal).marks a = record {
-      each = λ b leads. elim leads as (λ _. is_marked (put_some (put_some new next) goal).marks b ≡ true) [
-        | inl is ↦ put_some-grows m (put_some new next) a goal placed halfway.count by_goal b (put_some-marked m new a next placed taken.count by_next b (next_is ∙ is))
-        | inr is ↦ put_some-marked m (put_some new next) a goal placed halfway.count by_goal b (goal_is ∙ is)
-      ];
-    } in
-    let both : put_some (put_some new next) goal ≡ end = sym (ap (λ t. put_some t goal) mid_is) ∙ sym end_is in
-    subst (IsSearch m entries Nothing) both (search-followed m entries a (put_some (put_some new next) goal) done whole)
+put_some-marked : (s : State) (o : Option ℕ) → IsLow s o → (b : ℕ) → o ≡ Some b → is_marked (put_some s o).marks b ≡ true
+put_some-marked s None low b is = cc
+put_some-marked s (Some x) low b is = let same : x ≡ b = cc in subst (λ k. is_marked (put s x).marks k ≡ true) same (put-marked s x (low x (λ i. Some x)))
 
--- and one address fewer is left
-pub followed-left : (m : MapView) (entries : List ℕ) (old new : State) (a : ℕ) (next goal : Option ℕ) (mid end : State) → IsPlaced m.image
-    → new.marks ≡ old.marks → old.todo ≡ new.todo ++ a ∷ [] → next ≡ next_at m a → goal ≡ goal_at m a → mid ≡ put_some new next → end ≡ put_some mid goal
-    → IsSearch m entries Nothing old → left_to_do end + 1 ≡ left_to_do old
-followed-left m entries old new a next goal mid end placed marks todo next_is goal_is mid_is end_is was =
-    let here = next-reached m entries old new a todo was in
-    let taken = search-next m entries old new a marks todo was in
-    let by_next : (b : ℕ) → next ≡ Some b → LeadsTo m a b = λ b is. inl (sym next_is ∙ is) in
-    let by_goal : (b : ℕ) → goal ≡ Some b → LeadsTo m a b = λ b is. inr (sym goal_is ∙ is) in
-    let halfway : IsSearch m entries (λ b. b ≡ a) (put_some new next) = put_some-search m entries (λ b. b ≡ a) new a next placed here by_next taken in
-    let both : put_some (put_some new next) goal ≡ end = sym (ap (λ t. put_some t goal) mid_is) ∙ sym end_is in
-    let first = put_some-left m new a next placed taken.count by_next in
-    let second = put_some-left m (put_some new next) a goal placed halfway.count by_goal in
-    omega (arith, ap left_to_do both, first, second, next-left old new a marks todo)
+-- an address that was taken from the list, and both addresses that its instruction can lead to
+module _ (m : MapView) (entries : List ℕ) (old new mid end : State) (a : ℕ) (placed : IsPlaced m.image) (marks : new.marks ≡ old.marks) (todo : old.todo ≡ new.todo ++ a ∷ []) (next : mid ≡ put_some new (next_at m a)) (goal : end ≡ put_some mid (goal_at m a)) (was : IsSearch m entries Nothing old) where
+  here : Reached m entries a
+  here = next-reached m entries old new a todo was
 
--- marks stay, so the entries stay marked
-pub followed-entries : (m : MapView) (entries : List ℕ) (old new : State) (a : ℕ) (next goal : Option ℕ) (mid end : State) → IsPlaced m.image
-    → new.marks ≡ old.marks → old.todo ≡ new.todo ++ a ∷ [] → next ≡ next_at m a → goal ≡ goal_at m a → mid ≡ put_some new next → end ≡ put_some mid goal
-    → IsSearch m entries Nothing old → HasEntries m entries old.marks → HasEntries m entries end.marks
-followed-entries m entries old new a next goal mid end placed marks todo next_is goal_is mid_is end_is was all =
-    let here = next-reached m entries old new a todo was in
-    let taken = search-next m entries old new a marks todo was in
-    let by_next : (b : ℕ) → next ≡ Some b → LeadsTo m a b = λ b is. inl (sym next_is ∙ is) in
-    let by_goal : (b : ℕ) → goal ≡ Some b → LeadsTo m a b = λ b is. inr (sym goal_is ∙ is) in
-    let halfway : IsSearch m entries (λ b. b ≡ a) (put_some new next) = put_some-search m entries (λ b. b ≡ a) new a next placed here by_next taken in
-    let both : put_some (put_some new next) goal ≡ end = sym (ap (λ t. put_some t goal) mid_is) ∙ sym end_is in
-    record {
-      each = λ x has inside.
-          subst (λ t. is_marked t.marks x ≡ true) both
-          (put_some-grows m (put_some new next) a goal placed halfway.count by_goal x
-          (put_some-grows m new a next placed taken.count by_next x (ap (λ l. is_marked l x) marks ∙ all.each x has inside)));
-    }
+  taken : IsSearch m entries (λ b. b ≡ a) new
+  taken = search-next m entries old new a marks todo was
+
+  next_low : IsLow new (next_at m a)
+  next_low b is = omega (arith, leads-below m a b placed (inl is), taken.count)
+
+  halfway : IsSearch m entries (λ b. b ≡ a) mid
+  halfway = subst (IsSearch m entries (λ b. b ≡ a)) (sym next) (put_some-search m entries (λ b. b ≡ a) new (next_at m a) next_low (λ b is. led a b here (inl is)) taken)
+
+  goal_low : IsLow mid (goal_at m a)
+  goal_low b is = omega (arith, leads-below m a b placed (inr is), halfway.count)
+
+  grows : (b : ℕ) → is_marked mid.marks b ≡ true → is_marked end.marks b ≡ true
+  grows b is = subst (λ t. is_marked t.marks b ≡ true) (sym goal) (put_some-grows mid (goal_at m a) goal_low b is)
+
+  -- after them the search goes on
+  pub followed-both : IsSearch m entries Nothing end
+  followed-both =
+      search-followed m entries a end (record {
+        each = λ b leads. elim leads as (λ _. is_marked end.marks b ≡ true) [
+          | inl is ↦ grows b (subst (λ t. is_marked t.marks b ≡ true) (sym next) (put_some-marked new (next_at m a) next_low b is))
+          | inr is ↦ subst (λ t. is_marked t.marks b ≡ true) (sym goal) (put_some-marked mid (goal_at m a) goal_low b is)
+        ];
+      })
+      (subst (IsSearch m entries (λ b. b ≡ a)) (sym goal) (put_some-search m entries (λ b. b ≡ a) mid (goal_at m a) goal_low (λ b is. led a b here (inr is)) halfway))
+
+  -- and one address fewer is left
+  pub followed-left : left_to_do end + 1 ≡ left_to_do old
+  followed-left = omega (arith, ap left_to_do next, ap left_to_do goal, put_some-left new (next_at m a) next_low, put_some-left mid (goal_at m a) goal_low, next-left old new a marks todo)
+
+  -- marks stay, so the entries stay marked
+  pub followed-entries : HasEntries m entries old.marks → HasEntries m entries end.marks
+  followed-entries all = record {
+    each = λ x has inside.
+        grows x (subst (λ t. is_marked t.marks x ≡ true) (sym next) (put_some-grows new (next_at m a) next_low x (ap (λ l. is_marked l x) marks ∙ all.each x has inside)));
+  }
 
 -- ---- the entries
 

@@ -1,9 +1,11 @@
 -- The text that is proposed is accepted after the file, and adds its ranges.
-use Rattle.std.proofs.Common.{◌≡◌, ◌∙◌, ◌+◌, ◌≤◌, ◌&&◌, ◌||◌, ℕ, Bool, true, false, not, List, [], ◌∷◌, ◌++◌, append_assoc, ap, arith, inl, inr, length, nat_le, nat_lt, refl, subst, sym}
+use Rattle.std.proofs.Common.{◌≡◌, ◌∙◌, ◌+◌, ◌≤◌, ◌&&◌, ◌||◌, ℕ, Bool, true, false, not, List, [], ◌∷◌, ◌++◌, append_assoc, ap, arith, inl, inr, length, nat_le, refl, subst, sym}
 use Rattle.std.specs.Prelude.{Ok}
 use Rattle.std.specs.List.{flat_map, list_any}
-use Rattle.std.proofs.lemmas.Bool.{and_parts, leb-true, ltb-true}
+use Rattle.std.proofs.Math.Bool.{or-false}
+use Rattle.std.proofs.lemmas.Bool.{and_left, and_parts, and_right, both_ways, cases_Bool, leb-true, not_from_true, or_left}
 use Rattle.std.proofs.lemmas.List.{append-nil}
+use Rattle.std.proofs.lemmas.List.Folds.{list_any-append}
 use Rattle.info65.specs.Grammar.{Item}
 use Rattle.info65.specs.Ranges.{has_address}
 use Rattle.info65.specs.Reader.{information}
@@ -12,11 +14,11 @@ use Rattle.info65.specs.Views.{OptionsView}
 use Rattle.info65.specs.declared.information.range.RangeSpec.{RangeSpec}
 use Rattle.info65.specs.declared.information.range.RangeType.{RangeType}
 use Rattle.info65.specs.declared.information.range.RangeType.TheVariants as role
-use Rattle.map65.specs.ImageView.{IsPlaced, end_of, is_inside}
+use Rattle.map65.specs.ImageView.{IsPlaced, is_inside}
 use Rattle.map65.specs.MapView.{MapView}
 use Rattle.info65.proofs.Public.{AreAdded, Gives, information-more, range_items, with_ranges}
-use Rattle.reach65.proofs.FlowLemmas.{within}
-use Rattle.reach65.proofs.PieceLemmas.{above-range, piece-free}
+use Rattle.map65.proofs.Public.{within}
+use Rattle.reach65.proofs.PieceLemmas.{above-range, piece-free, piece-lies}
 use Rattle.reach65.proofs.TextLemmas.{AreTables, IsTable, Later, comment-passed, comments-open, later-then, ranges-open}
 use Rattle.reach65.specs.TextLaws.{IsProposal, TextLaw, comment_line}
 use Rattle.reach65.specs.Pieces.{ArePieces, Ground, IsPiece, is_free}
@@ -26,26 +28,13 @@ use Rattle.reach65.specs.Taken.{AreMarkedBy, is_given, is_taken}
 
 -- ---- pieces as ranges that are added
 
-free-inside : (g : Ground) (a : ℕ) → is_free g a ≡ true → is_inside g.image a ≡ true
-unfolding is_free
-free-inside g a is = (and_parts (is_inside g.image a) (not (is_marked g.taken a)) is).0
-
 piece-low : (g : Ground) (r : RangeSpec) → IsPlaced g.image → r.first ≤ r.last → IsPiece g r.role r.first (r.last + 1) → r.last ≤ 0xFFFF
-piece-low g r placed ordered piece =
-    let free : is_free g r.last ≡ true = piece-free g r.role r.first (r.last + 1) r.last piece ordered (omega arith) in
-    let inside = and_parts (nat_le g.image.start r.last) (nat_lt r.last (end_of g.image)) (free-inside g r.last free) in
-    omega (arith, placed.room, ltb-true r.last (end_of g.image) inside.1)
+piece-low g r placed ordered piece = omega (arith, placed.room, (piece-lies g r ordered piece).high)
 
 piece-table : (g : Ground) (t : RangeType) (from end : ℕ) → IsPiece g t from end → IsTable t
 piece-table g role.TextTable from end piece = inl refl
 piece-table g role.ByteTable from end piece = inr refl
-piece-table g role.Code from end piece = absurd piece
-piece-table g role.WordTable from end piece = absurd piece
-piece-table g role.DbyteTable from end piece = absurd piece
-piece-table g role.DwordTable from end piece = absurd piece
-piece-table g role.AddrTable from end piece = absurd piece
-piece-table g role.RtsTable from end piece = absurd piece
-piece-table g role.Skip from end piece = absurd piece
+piece-table g _ from end piece = absurd piece
 
 pieces-tables : (g : Ground) (from : ℕ) (rs : List RangeSpec) → IsPlaced g.image → ArePieces g from rs → AreTables rs
 unfolding ArePieces
@@ -57,16 +46,8 @@ abbrev ArePast : Ground → ℕ → List RangeSpec → Type 0
 ArePast g from old = (a : ℕ) → from ≤ a → list_any (λ q. has_address q a) old ≡ true → is_free g a ≡ false
 
 any-append : (old : List RangeSpec) (r : RangeSpec) (a : ℕ) → list_any (λ q. has_address q a) (old ++ r ∷ []) ≡ true → has_address r a ≡ false → list_any (λ q. has_address q a) old ≡ true
-any-append [] r a is none = first (has_address r a) is none
-  where
-    first : (x : Bool) → (x || false) ≡ true → x ≡ false → false ≡ true
-    first true is none = cc
-    first false is none = is
-any-append (q ∷ old) r a is none = next (has_address q a) (list_any (λ p. has_address p a) (old ++ r ∷ [])) (list_any (λ p. has_address p a) old) is (λ more. any-append old r a more none)
-  where
-    next : (x y z : Bool) → (x || y) ≡ true → (y ≡ true → z ≡ true) → (x || z) ≡ true
-    next true y z is more = refl
-    next false y z is more = more is
+any-append old r a is none =
+    sym (or-false _) ∙ ap (λ b. list_any (λ q. has_address q a) old || (b || false)) (sym none) ∙ sym (list_any-append (λ q. has_address q a) old (r ∷ [])) ∙ is
 
 pieces-added : (g : Ground) (from : ℕ) (old rs : List RangeSpec) → IsPlaced g.image → ArePieces g from rs → ArePast g from old → AreAdded old rs
 unfolding ArePieces
@@ -79,13 +60,10 @@ pieces-added g from old (r ∷ rs) placed are past = (
         let parts = and_parts (nat_le r.first a) (nat_le a r.last) has in
         let low = leb-true r.first a parts.0 in
         let free = piece-free g r.role r.first (r.last + 1) a are.3 low (omega (arith, leb-true a r.last parts.1)) in
-        clash (is_free g a) free (past a (omega (arith, low, are.0)) given);
+        both_ways (is_free g a) (past a (omega (arith, low, are.0)) given) free;
   },
   pieces-added g (r.last + 1) (old ++ r ∷ []) rs placed are.4 (λ a above given. past a (omega (arith, above, are.0, are.2)) (any-append old r a given (above-range r a (omega (arith, above))))),
 )
-  where
-    clash : (x : Bool) → x ≡ true → x ≡ false → ⊥
-    clash x on off = cc
 
 -- ---- the text
 
@@ -115,13 +93,11 @@ text-gives o m ranges text p tables line =
 -- what a range of the file has is not free
 given-past : (m : MapView) (marks taken : List Bool) → IsPlaced m.image → AreMarkedBy (is_taken m marks) taken → ArePast (record { image = m.image; taken = taken }) 0 m.info.ranges
 unfolding is_free is_taken is_given
-given-past m marks taken placed spoken a low given = by_inside (is_inside m.image a) refl
-  where
-    by_inside : (x : Bool) → is_inside m.image a ≡ x → (is_inside m.image a && not (is_marked taken a)) ≡ false
-    by_inside false out = rw out refl
-    by_inside true inside =
-        let here : is_marked taken a ≡ true = spoken.each a (omega (arith, placed.room, (within m a inside).high)) ∙ rw given refl in
-        rw (inside, here) refl
+given-past m marks taken placed spoken a low given =
+    elim (cases_Bool (is_inside m.image a)) as (λ _. (is_inside m.image a && not (is_marked taken a)) ≡ false) [
+      | inr out ↦ and_left _ _ out
+      | inl inside ↦ and_right _ _ (not_from_true (is_marked taken a) (spoken.each a (omega (arith, placed.room, (within m a inside).high)) ∙ or_left _ _ given))
+    ]
 
 pub text_law : (m : MapView) → TextLaw m
 text_law m o file text info marks taken pieces accepted same placed spoken are p small =

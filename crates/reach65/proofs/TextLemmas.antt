@@ -4,8 +4,9 @@ use Rattle.std.specs.Prelude.{Some, Ok, codes, if◌then◌else◌}
 use Rattle.std.specs.Char.{digit_value, is_ascii_hexdigit}
 use Rattle.std.specs.List.{flat_map}
 use Rattle.std.specs.Str.Parse.{digits_value}
-use Rattle.std.proofs.lemmas.Bool.{and_parts, le-leb, lt-ltb}
+use Rattle.std.proofs.lemmas.Bool.{and_from, and_parts, le-leb, lt-ltb, not-true}
 use Rattle.std.proofs.lemmas.Bool.Decides.{nat_tests}
+use Rattle.std.proofs.lemmas.List.Folds.{list_all-append}
 use Rattle.text65.specs.Digits.{digits4, hex_digit}
 use Rattle.info65.specs.Attributes.{attribute_named, form_of, group_named, type_named}
 use Rattle.info65.specs.Grammar.{Item, Spells, attribute_name, group_name, value, mark}
@@ -23,7 +24,7 @@ use Rattle.info65.specs.declared.information.range.RangeType.TheVariants as role
 use Rattle.map65.specs.ImageView.{ImageView}
 use Rattle.info65.proofs.Public.{after_tokens, range_items, spells-append}
 use Rattle.reach65.specs.TextLaws.{AreLines, comment_line, is_line}
-use Rattle.reach65.specs.RangeLines.{dots_above, range_bytes, range_line, range_lines, shown_byte, shown_bytes}
+use Rattle.reach65.specs.RangeLines.{dots_above, range_bytes, range_line, range_lines, shown_byte, shown_bytes, type_text}
 
 -- ---- tokens that are these items, and then those of a stream
 
@@ -70,13 +71,20 @@ type_tokens line text =
     a_word line (codes "TYPE") ∷ a_word line text ∷ record { kind = semicolon; text = codes ";"; line = line } ∷ record { kind = closing_brace; text = codes "}"; line = line }
     ∷ record { kind = semicolon; text = codes ";"; line = line } ∷ []
 
-text-opens : (o : OptionsView) (line : ℕ) (rest : List ℕ) → Opens o (type_items role.TextTable) (tokens_of line (codes " TYPE TextTable; }; # " ++ rest)) (tokens_after 0 true line rest)
-unfolding tokens_after lexeme_at word_at in_class attribute_named value_of form_of type_named
-text-opens o line rest = record { tokens = type_tokens line (codes "TextTable"); is = refl; spelled = ((refl, refl), (refl, (refl, (refl, (refl, tt))))) }
+-- a range that is proposed has one of two types
+abbrev pub IsTable : RangeType → Type 0
+IsTable t = (t ≡ role.TextTable) ⊎ (t ≡ role.ByteTable)
 
-bytes-opens : (o : OptionsView) (line : ℕ) (rest : List ℕ) → Opens o (type_items role.ByteTable) (tokens_of line (codes " TYPE ByteTable; }; # " ++ rest)) (tokens_after 0 true line rest)
+-- the type of a range, up to the comment
+abbrev type_line : RangeType → List ℕ → List ℕ
+type_line t rest = codes " TYPE " ++ (type_text t ++ (codes "; }; # " ++ rest))
+
+type-opens : (o : OptionsView) (line : ℕ) (t : RangeType) (rest : List ℕ) → IsTable t → Opens o (type_items t) (tokens_of line (type_line t rest)) (tokens_after 0 true line rest)
 unfolding tokens_after lexeme_at word_at in_class attribute_named value_of form_of type_named
-bytes-opens o line rest = record { tokens = type_tokens line (codes "ByteTable"); is = refl; spelled = ((refl, refl), (refl, (refl, (refl, (refl, tt))))) }
+type-opens o line role.TextTable rest table = record { tokens = type_tokens line (codes "TextTable"); is = refl; spelled = ((refl, refl), (refl, (refl, (refl, (refl, tt))))) }
+type-opens o line role.ByteTable rest table = record { tokens = type_tokens line (codes "ByteTable"); is = refl; spelled = ((refl, refl), (refl, (refl, (refl, (refl, tt))))) }
+type-opens o line _ rest (inl is) = cc
+type-opens o line _ rest (inr is) = cc
 
 -- ---- a number of four hex digits
 
@@ -153,11 +161,7 @@ unfolding tokens_after
 comment-passed line [] rest is = refl
 comment-passed line (b ∷ bs) rest is =
     let parts = and_parts (not (b == 10)) (is_line bs) is in
-    rw (off (b == 10) parts.0) (comment-passed line bs rest parts.1)
-  where
-    off : (x : Bool) → not x ≡ true → x ≡ false
-    off true is = cc
-    off false is = refl
+    rw (not-true (b == 10) parts.0) (comment-passed line bs rest parts.1)
 
 shown-line : (bs : List ℕ) → is_line (map shown_byte bs) ≡ true
 shown-line [] = refl
@@ -165,12 +169,6 @@ shown-line (b ∷ bs) = rw (shown b, shown-line bs) refl
   where
     shown : (b : ℕ) → not (shown_byte b == 10) ≡ true
     shown b = grind (arith, nat_tests)
-
-lines-append : (bs cs : List ℕ) → is_line bs ≡ true → is_line cs ≡ true → is_line (bs ++ cs) ≡ true
-lines-append [] cs first second = second
-lines-append (b ∷ bs) cs first second =
-    let parts = and_parts (not (b == 10)) (is_line bs) first in
-    rw (parts.0, lines-append bs cs parts.1 second) refl
 
 dots-line : (n : ℕ) → is_line (dots_above n) ≡ true
 dots-line n = by_size (nat_lt 32 n)
@@ -181,13 +179,9 @@ dots-line n = by_size (nat_lt 32 n)
 
 shown-is-line : (bs : List ℕ) → is_line (shown_bytes bs) ≡ true
 unfolding shown_bytes
-shown-is-line bs = lines-append (map shown_byte (take 32 bs)) (dots_above (length bs)) (shown-line (take 32 bs)) (dots-line (length bs))
+shown-is-line bs = list_all-append (λ b. not (b == 10)) (map shown_byte (take 32 bs)) (dots_above (length bs)) ∙ and_from _ _ (shown-line (take 32 bs)) (dots-line (length bs))
 
 -- ---- the line of a range
-
--- a range that is proposed has one of two types
-abbrev pub IsTable : RangeType → Type 0
-IsTable t = (t ≡ role.TextTable) ⊎ (t ≡ role.ByteTable)
 
 -- the line up to its type, and what comes after that
 abbrev up-to-type : RangeSpec → List ℕ → List ℕ
@@ -204,48 +198,25 @@ front-opens o line r rest first_low last_low =
     let one = start-opens o line (36 ∷ (digits4 r.first ++ 59 ∷ (codes " END " ++ (36 ∷ (digits4 r.last ++ 59 ∷ rest))))) in
     opens-then o _ _ _ _ _ one (opens-then o _ _ _ _ _ two (opens-then o _ _ _ _ _ three four))
 
-text-line : (image : ImageView) (first last : ℕ) (rest : List ℕ)
-    → range_line image (record { first = first; last = last; role = role.TextTable }) ++ rest
-    ≡ up-to-type (record { first = first; last = last; role = role.TextTable }) (codes " TYPE TextTable; }; # " ++ (shown_bytes (range_bytes image (record { first = first; last = last; role = role.TextTable })) ++ 10 ∷ rest))
-unfolding range_line
-text-line image first last rest = rw (append_assoc (shown_bytes (range_bytes image (record { first = first; last = last; role = role.TextTable }))) (10 ∷ []) rest) refl
+regroup : (a b c d e : List ℕ) → (((a ++ b) ++ c) ++ d) ++ e ≡ a ++ (b ++ (c ++ (d ++ e)))
+regroup a b c d e = simp append_assoc
 
-bytes-line : (image : ImageView) (first last : ℕ) (rest : List ℕ)
-    → range_line image (record { first = first; last = last; role = role.ByteTable }) ++ rest
-    ≡ up-to-type (record { first = first; last = last; role = role.ByteTable }) (codes " TYPE ByteTable; }; # " ++ (shown_bytes (range_bytes image (record { first = first; last = last; role = role.ByteTable })) ++ 10 ∷ rest))
+range-line : (image : ImageView) (r : RangeSpec) (rest : List ℕ) → range_line image r ++ rest ≡ up-to-type r (type_line r.role (shown_bytes (range_bytes image r) ++ 10 ∷ rest))
 unfolding range_line
-bytes-line image first last rest = rw (append_assoc (shown_bytes (range_bytes image (record { first = first; last = last; role = role.ByteTable }))) (10 ∷ []) rest) refl
+range-line image r rest =
+    ap (λ l. codes "RANGE { START $" ++ (digits4 r.first ++ (codes "; END $" ++ (digits4 r.last ++ (codes "; TYPE " ++ l)))))
+    (regroup (type_text r.role) (codes "; }; # ") (shown_bytes (range_bytes image r)) (10 ∷ []) rest)
 
 -- the rest of a line, from its type on
 rest-opens : (o : OptionsView) (line : ℕ) (t : RangeType) (all : Stream) (bs rest : List ℕ) → is_line bs ≡ true → Opens o (type_items t) all (tokens_after 0 true line (bs ++ 10 ∷ rest)) → Opens o (type_items t) all (tokens_of (line + 1) rest)
 rest-opens o line t all bs rest is opens = rw (comment-passed line bs rest is) at opens
 
-range-opens : (o : OptionsView) (image : ImageView) (line first last : ℕ) (t : RangeType) (rest : List ℕ) → IsTable t → first ≤ 0xFFFF → last ≤ 0xFFFF
-    → Opens o (range_items (record { first = first; last = last; role = t } ∷ [])) (tokens_of line (range_line image (record { first = first; last = last; role = t }) ++ rest)) (tokens_of (line + 1) rest)
-range-opens o image line first last role.TextTable rest table first_low last_low =
-    let r : RangeSpec = record { first = first; last = last; role = role.TextTable } in
+range-opens : (o : OptionsView) (image : ImageView) (line : ℕ) (r : RangeSpec) (rest : List ℕ) → IsTable r.role → r.first ≤ 0xFFFF → r.last ≤ 0xFFFF
+    → Opens o (range_items (r ∷ [])) (tokens_of line (range_line image r ++ rest)) (tokens_of (line + 1) rest)
+range-opens o image line r rest table first_low last_low =
     let shown : List ℕ = shown_bytes (range_bytes image r) in
-    let tail = rest-opens o line role.TextTable _ shown rest (shown-is-line (range_bytes image r)) (text-opens o line (shown ++ 10 ∷ rest)) in
-    rw (text-line image first last rest) (opens-then o (range_front r) (type_items role.TextTable) _ _ _ (front-opens o line r (codes " TYPE TextTable; }; # " ++ (shown ++ 10 ∷ rest)) first_low last_low) tail)
-range-opens o image line first last role.ByteTable rest table first_low last_low =
-    let r : RangeSpec = record { first = first; last = last; role = role.ByteTable } in
-    let shown : List ℕ = shown_bytes (range_bytes image r) in
-    let tail = rest-opens o line role.ByteTable _ shown rest (shown-is-line (range_bytes image r)) (bytes-opens o line (shown ++ 10 ∷ rest)) in
-    rw (bytes-line image first last rest) (opens-then o (range_front r) (type_items role.ByteTable) _ _ _ (front-opens o line r (codes " TYPE ByteTable; }; # " ++ (shown ++ 10 ∷ rest)) first_low last_low) tail)
-range-opens o image line first last role.Code rest (inl is) first_low last_low = cc
-range-opens o image line first last role.Code rest (inr is) first_low last_low = cc
-range-opens o image line first last role.WordTable rest (inl is) first_low last_low = cc
-range-opens o image line first last role.WordTable rest (inr is) first_low last_low = cc
-range-opens o image line first last role.DbyteTable rest (inl is) first_low last_low = cc
-range-opens o image line first last role.DbyteTable rest (inr is) first_low last_low = cc
-range-opens o image line first last role.DwordTable rest (inl is) first_low last_low = cc
-range-opens o image line first last role.DwordTable rest (inr is) first_low last_low = cc
-range-opens o image line first last role.AddrTable rest (inl is) first_low last_low = cc
-range-opens o image line first last role.AddrTable rest (inr is) first_low last_low = cc
-range-opens o image line first last role.RtsTable rest (inl is) first_low last_low = cc
-range-opens o image line first last role.RtsTable rest (inr is) first_low last_low = cc
-range-opens o image line first last role.Skip rest (inl is) first_low last_low = cc
-range-opens o image line first last role.Skip rest (inr is) first_low last_low = cc
+    let tail = rest-opens o line r.role _ shown rest (shown-is-line (range_bytes image r)) (type-opens o line r.role (shown ++ 10 ∷ rest) table) in
+    rw (range-line image r rest) (opens-then o (range_front r) (type_items r.role) _ _ _ (front-opens o line r (type_line r.role (shown ++ 10 ∷ rest)) first_low last_low) tail)
 
 -- ---- lines of ranges, and of comments
 
@@ -268,7 +239,7 @@ ranges-open o image line [] rest are = record { line = line; opens = opens-none 
 ranges-open o image line (r ∷ rs) rest are =
     rw (append_assoc (range_line image r) (range_lines image rs) rest)
     (later-then o (range_items (r ∷ [])) (range_items rs) _ (line + 1) (range_lines image rs ++ rest) rest
-    (range-opens o image line r.first r.last r.role (range_lines image rs ++ rest) are.0 (omega (arith, are.1, are.2)) are.2) (ranges-open o image (line + 1) rs rest are.3))
+    (range-opens o image line r (range_lines image rs ++ rest) are.0 (omega (arith, are.1, are.2)) are.2) (ranges-open o image (line + 1) rs rest are.3))
 
 pub comments-open : (o : OptionsView) (line : ℕ) (comments : List (List ℕ)) (rest : List ℕ) → AreLines comments → Later o [] (tokens_of line (flat_map comment_line comments ++ rest)) rest
 unfolding tokens_after

@@ -4,12 +4,11 @@ ghost use Rattle.std.specs.Prelude.{◌≡◌, ◌+◌, ◌++◌, ◌<◌, ◌�
 ghost use Rattle.std.specs.Option.{option_to_list};
 ghost use Rattle.map65.specs.ImageView.{end_of};
 ghost use Rattle.map65.specs.MapView.{MapView};
-ghost use Rattle.map65.specs.Targets.{entry_of, return_target};
 ghost use Rattle.reach65.specs.Entries.{code_start, code_starts, entries_of, has_vectors, pointer_at, pointer_for, pointers, vectors, word_at};
 
 use crate::flow::{byte_at, bytes_from};
 use info65::{Entry, RangeSpec, RangeType};
-use map65::{Image, Map};
+use map65::{Image, Map, entry_of, return_target};
 use std::alloc::{AllocError, Allocator};
 
 /// Adds an address, if there is one.
@@ -23,21 +22,6 @@ fn put_some<A: Allocator>(found: &mut Vec<u16, A>, address: Option<u16>) -> Resu
 }
 
 // ---- tables
-
-/// The word of a table's entry, low byte first.
-fn entry_of(bytes: &[u8]) -> u16
-    requires { 2 ≤ length bytes.now }
-    ensures { result ≡ entry_of bytes.now }
-{
-    u16::from(bytes[0]) + 256 * u16::from(bytes[1])
-}
-
-/// The address that a return leads to with this word on the stack.
-fn return_target(word: u16) -> Option<u16>
-    ensures { result ≡ return_target word }
-{
-    if word == 0xFFFF { None } else { Some(word + 1) }
-}
 
 /// The address that a table's entry refers to, which has the first bytes of these.
 #[tactic(auto, unfolding(crate::specs::Entries::pointer_for))]

@@ -1,14 +1,13 @@
 //! Where instructions lead.
 
-ghost use Rattle.std.specs.Prelude.{◌≡◌, ◌+◌, ◌≤◌, ◌<◌, length, IfSome, IsTrue};
+ghost use Rattle.std.specs.Prelude.{◌≡◌, ◌+◌, ◌≤◌, ◌<◌, length, IfSome};
 ghost use Rattle.isa65.specs.Mode.{len_of, row_len};
-ghost use Rattle.map65.specs.ImageView.{byte_at, bytes_from, end_of, is_inside};
-ghost use Rattle.map65.specs.Targets.{is_jump, only_inside};
+ghost use Rattle.map65.specs.ImageView.{byte_at, bytes_from, end_of};
 ghost use Rattle.reach65.specs.Flow.{goal_at, goal_of, instruction_at, is_last, next_at, row_goal};
 
 use info65::RangeType;
 use isa65::{DecodeTable, Mnemonic, Op, OpcodeSet, OperandKind, Pattern, Row};
-use map65::{Image, Map, branch_target, word_of};
+use map65::{Image, Map, branch_target, is_jump, only_inside, word_of};
 use std::alloc::{Allocator, Global};
 use std::marker::Model;
 
@@ -39,35 +38,6 @@ fn is_last(mnemonic: Mnemonic) -> bool
         || mnemonic == Mnemonic::Rts
         || mnemonic == Mnemonic::Rti
         || mnemonic == Mnemonic::Brk
-}
-
-/// Whether the instruction goes to its absolute operand.
-fn is_jump(mnemonic: Mnemonic) -> bool
-    ensures { result ≡ is_jump mnemonic }
-{
-    mnemonic == Mnemonic::Jmp || mnemonic == Mnemonic::Jsr
-}
-
-/// Whether the address, which may be $10000, lies in the image.
-pub fn is_inside<A: Allocator>(image: &Image<A>, address: usize) -> bool
-    ensures value { result ≡ is_inside image.now address }
-    ensures low { IsTrue result → image.now.start ≤ address }
-    ensures high { IsTrue result → address < end_of image.now }
-    ensures fits { IsTrue result → address < 65536 }
-{
-    usize::from(image.start()) <= address
-        && address < usize::from(image.start()) + image.bytes().len()
-}
-
-/// The address, if it lies in the image.
-fn only_inside<A: Allocator>(image: &Image<A>, address: usize) -> Option<u16>
-    ensures { result ≡ only_inside image.now address }
-{
-    if is_inside(image, address) {
-        Some(address as u16)
-    } else {
-        None
-    }
 }
 
 /// The byte at an address of the image.

@@ -6,9 +6,8 @@ ghost use Rattle.map65.specs.ImageView.{end_of, is_inside};
 ghost use Rattle.reach65.specs.Pairs.{by_again, by_loads, by_places, by_stores, is_near, joined, load_at, loaded, operand_address, pairs_at, pairs_of, reached_op, store_at, stored};
 
 use crate::flow::{Flow, byte_at, bytes_from};
-use crate::search::ADDRESSES;
 use isa65::{Mnemonic, Mode, Op};
-use map65::{Image, word_of};
+use map65::{ADDRESSES, Image, word_of};
 use std::alloc::{AllocError, Allocator};
 
 /// A register that an immediate can be loaded into.

@@ -5,9 +5,9 @@ ghost use Rattle.map65.specs.ImageView.{IsPlaced, byte_at, end_of, is_inside};
 ghost use Rattle.reach65.specs.Pieces.{ArePieces, IsPiece, LieIn, is_break, is_char, is_free, is_text};
 ghost use Rattle.reach65.specs.Taken.{is_given};
 
-use crate::flow::{byte_at, is_inside};
+use crate::flow::byte_at;
 use info65::{RangeSpec, RangeType};
-use map65::Image;
+use map65::{Image, is_inside};
 use std::alloc::{AllocError, Allocator, Global};
 use std::marker::Model;
 
@@ -80,9 +80,7 @@ impl<'a, A: Allocator> Ground<'a, A> {
     {
         !self.is_free(address) || self.is_text(address)
     }
-}
 
-impl<'a, A: Allocator> Ground<'a, A> {
     /// The first address after the image.
     fn image_end(&self) -> usize
         ensures value { result ≡ end_of self.now.image }

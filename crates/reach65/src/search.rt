@@ -5,13 +5,10 @@ ghost use Rattle.map65.specs.ImageView.{is_inside};
 ghost use Rattle.reach65.specs.Code.Searching.{HasEntries, IsSearch, Nothing, put, put_inside, put_some};
 ghost use Rattle.reach65.specs.Reached.{AreReached};
 
-use crate::flow::{Flow, is_inside};
-use map65::Image;
+use crate::flow::Flow;
+use map65::{ADDRESSES, Image, is_inside};
 use std::alloc::{AllocError, Allocator, Global};
 use std::marker::Model;
-
-/// How many addresses there are.
-pub const ADDRESSES: usize = 65_536;
 
 /// The addresses that are marked, and those of them that are still to be looked at. An address is to be looked at from when it is
 /// marked, so each is looked at once.

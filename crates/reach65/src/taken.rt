@@ -7,8 +7,9 @@ ghost use Rattle.reach65.specs.Reached.{is_marked};
 ghost use Rattle.reach65.specs.Taken.{AreMarkedBy, has_byte, is_code, is_given, is_of_code, is_taken};
 
 use crate::flow::Flow;
-use crate::search::{ADDRESSES, blank_marks};
+use crate::search::blank_marks;
 use info65::RangeSpec;
+use map65::ADDRESSES;
 use std::alloc::{AllocError, Allocator};
 
 /// Marks the addresses from `from` to before `to`.

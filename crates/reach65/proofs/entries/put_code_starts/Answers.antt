@@ -1,9 +1,19 @@
-use Rattle.std.proofs.Common.{refl}
-use Rattle.reach65.proofs.EntryLemmas.{starts-end, starts-next}
+use Rattle.std.proofs.Common.{◌++◌, ◌∙◌, ap, refl, sym}
+use Rattle.std.proofs.lemmas.List.{append-nil}
+use Rattle.reach65.specs.Entries.{code_start, code_starts}
+use Rattle.reach65.proofs.LoopLemmas.{all-end, all-next}
 use Rattle.reach65.proofs.entries.put_code_starts.Goals as goal
 
+pub starts-init : goal.starts-init
+unfolding code_starts
+starts-init g c = sym (append-nil _)
+
 pub starts-preserved : goal.starts-preserved
-starts-preserved g c = starts-next c.args.ranges.now c.starts.range-index _ _ c.code_start.result c.starts.found.items c.put_some.new.found.items _ c.starts-test.true refl c.code_start.ensures c.in_ok-put_some.ensures c.starts.invariant
+unfolding code_starts
+starts-preserved g c =
+    all-next code_start c.args.ranges.now c.starts.range-index _ _ _ c.starts.found.items c.put_some.new.found.items c.starts-test.true refl
+    (c.in_ok-put_some.ensures ∙ ap (λ l. c.starts.found.items ++ l) c.code_start.ensures) c.starts.invariant
 
 pub returns : goal.returns
-returns g c = starts-end c.args.ranges.now c.starts.range-index c.starts.found.items _ c.starts-test.false c.starts.invariant
+unfolding code_starts
+returns g c = all-end code_start c.args.ranges.now c.starts.range-index _ c.starts.found.items c.starts-test.false c.starts.invariant

@@ -1,5 +1,6 @@
 use Rattle.std.proofs.Common.{◌∙◌, ap, arith, subst, sym}
 use Rattle.map65.specs.ImageView.{IsPlaced}
+use Rattle.reach65.specs.Code.Searching.{put_some}
 use Rattle.reach65.specs.Reached.{AreReached}
 use Rattle.reach65.proofs.SearchLemmas.{followed-both, followed-entries, followed-left, search-end, search-new}
 use Rattle.reach65.proofs.search.reached.Goals as goal
@@ -12,18 +13,18 @@ put_entries-requires g c = record {
 pub search-smaller : goal.search-smaller
 search-smaller g c =
     let placed : IsPlaced c.args.flow.now.image = subst (λ m. IsPlaced m.image) c.map.ensures c.image-image.ensures.placed in
-    let fewer = followed-left c.args.flow.now c.args.entries.now c.search.search c.next.new.self c.in-Some.address c.next_at.result c.goal_at.result c.put_some.new.self c.put_some-in-Some.new.self
-    placed c.next.ensures.marks c.in-Some.ensures.some c.next_at.ensures c.goal_at.ensures c.in_ok-put_some.ensures c.in_ok-put_some-2.ensures c.search.invariant.search in
-    omega (arith, fewer)
+    let next = c.in_ok-put_some.ensures ∙ ap (put_some c.next.new.self) c.next_at.ensures in
+    let goal = c.in_ok-put_some-2.ensures ∙ ap (put_some c.put_some.new.self) c.goal_at.ensures in
+    omega (arith, followed-left c.args.flow.now c.args.entries.now c.search.search c.next.new.self c.put_some.new.self c.put_some-in-Some.new.self c.in-Some.address placed c.next.ensures.marks c.in-Some.ensures.some next goal c.search.invariant.search)
 
 pub search-preserved : goal.search-preserved
 search-preserved g c =
     let placed : IsPlaced c.args.flow.now.image = subst (λ m. IsPlaced m.image) c.map.ensures c.image-image.ensures.placed in
+    let next = c.in_ok-put_some.ensures ∙ ap (put_some c.next.new.self) c.next_at.ensures in
+    let goal = c.in_ok-put_some-2.ensures ∙ ap (put_some c.put_some.new.self) c.goal_at.ensures in
     record {
-      search = followed-both c.args.flow.now c.args.entries.now c.search.search c.next.new.self c.in-Some.address c.next_at.result c.goal_at.result c.put_some.new.self c.put_some-in-Some.new.self
-          placed c.next.ensures.marks c.in-Some.ensures.some c.next_at.ensures c.goal_at.ensures c.in_ok-put_some.ensures c.in_ok-put_some-2.ensures c.search.invariant.search;
-      entries = followed-entries c.args.flow.now c.args.entries.now c.search.search c.next.new.self c.in-Some.address c.next_at.result c.goal_at.result c.put_some.new.self c.put_some-in-Some.new.self
-          placed c.next.ensures.marks c.in-Some.ensures.some c.next_at.ensures c.goal_at.ensures c.in_ok-put_some.ensures c.in_ok-put_some-2.ensures c.search.invariant.search c.search.invariant.entries;
+      search = followed-both c.args.flow.now c.args.entries.now c.search.search c.next.new.self c.put_some.new.self c.put_some-in-Some.new.self c.in-Some.address placed c.next.ensures.marks c.in-Some.ensures.some next goal c.search.invariant.search;
+      entries = followed-entries c.args.flow.now c.args.entries.now c.search.search c.next.new.self c.put_some.new.self c.put_some-in-Some.new.self c.in-Some.address placed c.next.ensures.marks c.in-Some.ensures.some next goal c.search.invariant.search c.search.invariant.entries;
     }
 
 pub returns : goal.returns

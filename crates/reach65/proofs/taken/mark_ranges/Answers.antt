@@ -1,9 +1,18 @@
-use Rattle.std.proofs.Common.{refl}
-use Rattle.reach65.proofs.TakenLemmas.{given-end, given-next}
+use Rattle.std.proofs.Common.{refl, sym}
+use Rattle.std.proofs.Math.Bool.{or-false}
+use Rattle.info65.specs.Ranges.{has_address}
+use Rattle.reach65.specs.Taken.{is_given}
+use Rattle.reach65.proofs.LoopLemmas.{any-end, any-next}
 use Rattle.reach65.proofs.taken.mark_ranges.Goals as goal
 
+pub given-init : goal.given-init
+unfolding is_given
+given-init c = λ a. sym (or-false _)
+
 pub given-preserved : goal.given-preserved
-given-preserved c = λ a. given-next c.args.ranges.now c.given.range-index a _ _ _ _ _ c.given-test.true refl (c.mark_range.ensures.each a) (c.given.invariant a)
+unfolding is_given
+given-preserved c = λ a. any-next (λ r. has_address r a) c.args.ranges.now c.given.range-index _ _ _ _ _ c.given-test.true refl (c.mark_range.ensures.each a) (c.given.invariant a)
 
 pub returns-clause-each : goal.returns-clause-each
-returns-clause-each c = λ a. given-end c.args.ranges.now c.given.range-index a _ _ c.given-test.false (c.given.invariant a)
+unfolding is_given
+returns-clause-each c = λ a. any-end (λ r. has_address r a) c.args.ranges.now c.given.range-index _ _ c.given-test.false (c.given.invariant a)
