@@ -46,7 +46,8 @@ trace65 Failure::from 4
 trace65 accepted 2
 trace65 failure_of 2
 trace65 put_entry 1
-usage65 UsageFault::from 1
+usage65 UsageFault::from 2
+usage65 UsageFault::of_words 2
 usage65 accepted 2
 """
 

@@ -1,3 +1,6 @@
+pub mod Choices
 pub mod Code
+pub mod Command
+pub mod Help
 pub mod Number
 pub mod Values

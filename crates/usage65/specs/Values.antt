@@ -1,11 +1,13 @@
 -- The values of a command line: what a program takes from the matches of `clap`, up to the first fault.
-use Rattle.std.specs.Prelude.{◌≡◌, ◌==◌, Bool, false, true, Result, Ok, Err, List, codes, length, if◌then◌else◌}
+use Rattle.std.specs.Prelude.{◌≡◌, ◌==◌, Bool, false, true, Option, Some, None, Result, Ok, Err, List, codes, length, if◌then◌else◌}
 use Rattle.std.specs.Str.{bytes_eq}
 use Rattle.std.specs.Option.{option_map_or}
 use Rattle.clap.specs.Words.{App, Row, Text, fault_of, first_of, is_simple, is_simple_and_free, matches_of, new_app}
 use Rattle.clap.specs.Simple.{on_top}
+use Rattle.isa65.specs.Cpu.{cpu_named}
+use Rattle.isa65.specs.declared.cpu.Cpu.{Cpu}
 use Rattle.usage65.specs.declared.fault.UsageFault.{UsageFault}
-use Rattle.usage65.specs.declared.fault.UsageFault.TheVariants.{Memory, Words}
+use Rattle.usage65.specs.declared.fault.UsageFault.TheVariants.{Memory, OutOfRange, Words}
 
 -- the fault is the one of the definition, unless memory ran out
 abbrev pub Fails : {A : Type 0} → UsageFault → Result A UsageFault → Type 0
@@ -19,9 +21,22 @@ Gives seen (Err e) defined = Fails e defined
 
 -- a chain that stops at its first fault
 infixl 10 ◌>>=◌
-abbrev pub ◌>>=◌ : {A B : Type 0} → Result A UsageFault → (A → Result B UsageFault) → Result B UsageFault
+abbrev pub ◌>>=◌ : {A B E : Type 0} → Result A E → (A → Result B E) → Result B E
 (Ok x) >>= f = f x
 (Err e) >>= f = Err e
+
+-- the value of an option, if it is given
+abbrev pub given : {A : Type 0} → (Text → Result A UsageFault) → Option Text → Result (Option A) UsageFault
+given read None = Ok None
+given read (Some text) = read text >>= λ x. Ok (Some x)
+
+abbrev pub known : Option Cpu → Result Cpu UsageFault
+known (Some c) = Ok c
+known None = Err OutOfRange
+
+-- the CPU of this name
+abbrev pub cpu_in : Text → Result Cpu UsageFault
+cpu_in text = known (cpu_named text)
 
 -- a flag is set if its value is `true`
 abbrev pub is_set : Text → List Row → Bool

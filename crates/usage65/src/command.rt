@@ -1,12 +1,11 @@
-//! A command as `clap` reads it, put together from its arguments, and the values of its matches.
+//! A command as `clap` reads it, put together from its arguments.
 
-ghost use Rattle.std.specs.Prelude.{IfOk, Some, map, option_map, true, ◌≡◌};
+ghost use Rattle.std.specs.Prelude.{IfOk, Some, map, true, ◌≡◌};
 ghost use Rattle.std.specs.String.{string_bytes};
-ghost use Rattle.clap.specs.Words.{FailsBy, app_of, fault_of, first_of, found_of, matches_of, new_rule, rows_of};
+ghost use Rattle.clap.specs.Words.{FailsBy, app_of, fault_of, found_of, matches_of, new_rule, rows_of};
 ghost use Rattle.clap.specs.declared.builder.ArgAction.TheVariants.{SetTrue};
-ghost use Rattle.info65.specs.Views.{name_seen};
 ghost use Rattle.usage65.specs.Code.CommandRules.{AddsRule};
-ghost use Rattle.usage65.specs.Values.{Gives, IsPlain, accepted, bare, is_set};
+ghost use Rattle.usage65.specs.Values.{Gives, IsPlain, accepted, bare};
 
 use crate::fault::UsageFault;
 use clap::error::ErrorKind;
@@ -124,33 +123,5 @@ pub fn accepted<'a>(command: Command<'a>, words: &'a [String]) -> Result<ArgMatc
                 Err(UsageFault::Words)
             }
         }
-    }
-}
-
-/// Returns the text that a match has under this id.
-#[tactic(auto, using(crate::proofs::MatchLemmas::read_rows))]
-pub fn text_of<'a>(matches: &ArgMatches<'a>, id: &str) -> Option<&'a str>
-    ensures { option_map (λ s. s.now) result ≡ first_of id.now (rows_of (found_of matches.now)) }
-{
-    matches.get_str(id)
-}
-
-/// Whether the flag of this id is given.
-pub fn is_set(matches: &ArgMatches, id: &str) -> bool
-    ensures { result ≡ is_set id.now (rows_of (found_of matches.now)) }
-{
-    match text_of(matches, id) {
-        Some(text) => text == "true",
-        None => false,
-    }
-}
-
-/// Returns a copy of a text, if there is one.
-pub fn owned(alloc: Global, text: Option<&str>) -> Result<Option<String>, AllocError>
-    ensures { IfOk result (λ copy. name_seen copy ≡ option_map (λ s. s.now) text.entry) }
-{
-    match text {
-        Some(text) => Ok(Some(String::from_str(alloc, text)?)),
-        None => Ok(None),
     }
 }

@@ -2,7 +2,8 @@
 
 ghost use Rattle.std.specs.Prelude.{◌≡◌};
 
-use std::alloc::AllocError;
+use std::alloc::{AllocError, AllocFailed};
+use std::io::{Error as IoError, ErrorKind};
 use thiserror::Error;
 
 /// Why a command line has no options. The texts are those of the program's messages, after its name.
@@ -22,12 +23,39 @@ pub enum UsageFault {
     Memory,
 }
 
+impl UsageFault {
+    ghost use Rattle.std.specs.Prelude.{◌≢◌};
+    ghost use Rattle.std.specs.IoError.{error_kind};
+
+    /// The fault of words that can't be had: they are not valid UTF-8, or there is no memory for them.
+    pub fn of_words(error: &IoError) -> UsageFault
+        ensures memory { error_kind error.now ≡ ErrorKind.OutOfMemory → result ≡ UsageFault.Memory }
+        ensures words { error_kind error.now ≢ ErrorKind.OutOfMemory → result ≡ UsageFault.Words }
+    {
+        match error.kind() {
+            ErrorKind::OutOfMemory => UsageFault::Memory,
+            _ => UsageFault::Words,
+        }
+    }
+}
+
 impl From<AllocError> for UsageFault {
     ghost use Rattle.usage65.specs.declared.fault.UsageFault.TheVariants.{Memory};
 
     ghost from_gives = { λ _ e. e ≡ Memory };
 
     fn from(_: AllocError) -> Self {
+        UsageFault::Memory
+    }
+}
+
+impl<T: Drop> From<AllocFailed<T>> for UsageFault {
+    ghost use Rattle.usage65.specs.declared.fault.UsageFault.TheVariants.{Memory};
+
+    ghost from_gives = { λ _ e. e ≡ Memory };
+
+    fn from(failed: AllocFailed<T>) -> Self {
+        let _ = failed;
         UsageFault::Memory
     }
 }
