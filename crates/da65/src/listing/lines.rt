@@ -261,7 +261,7 @@ impl<'a, A: Allocator> Lines<'a, A> {
 }
 
 /// Writes the remaining lines in order. Allocates nothing.
-#[tactic(auto, using(crate::proofs::TakenLemmas::line_taken, crate::proofs::TakenLemmas::front_taken), unfolding(crate::specs::Listing::text_of))]
+#[tactic(auto, using(crate::proofs::NextLine::TakenLemmas::line_taken, crate::proofs::NextLine::TakenLemmas::front_taken), unfolding(crate::specs::Listing::text_of))]
 pub fn write_lines<A: Allocator, W: Sink>(
     mut lines: Lines<'_, A>,
     out: &mut W,

@@ -71,7 +71,7 @@ fn has_expr(kind: OperandKind, next: u32, at: usize, bytes: &[u8]) -> bool
 
 /// Whether each operand of a row has an expression.
 #[inline(always)]
-#[tactic(auto, using(crate::proofs::WrittenLaws::one_some, crate::proofs::WrittenLaws::both_some))]
+#[tactic(auto, using(crate::proofs::Instructions::WrittenLaws::one_some, crate::proofs::Instructions::WrittenLaws::both_some))]
 fn has_operands(row: Row, next: u32, bytes: &[u8]) -> bool
     requires all { row_len row ≤ length bytes.now }
     requires room { next ≤ 65536 }
@@ -164,7 +164,7 @@ fn operand_expr<'n, A: Allocator>(
 
 /// Two operands, of these kinds.
 #[inline(never)]
-#[tactic(auto, using(crate::proofs::WrittenLaws::are_both))]
+#[tactic(auto, using(crate::proofs::Instructions::WrittenLaws::are_both))]
 fn two_operands<'n, A: Allocator>(
     map: &Map<'_, A>,
     first: OperandKind,
@@ -190,7 +190,7 @@ fn two_operands<'n, A: Allocator>(
 
 /// The operands of a row, with the names of their addresses.
 #[inline(always)]
-#[tactic(auto, using(crate::proofs::WrittenLaws::is_one))]
+#[tactic(auto, using(crate::proofs::Instructions::WrittenLaws::is_one))]
 fn row_operands<'n, A: Allocator>(
     map: &Map<'_, A>,
     row: Row,
@@ -288,7 +288,7 @@ pub fn instruction<'a, S: OpcodeSet, A: Allocator>(
 }
 
 /// The entry of an address table.
-#[tactic(auto, using(crate::proofs::EntryLemmas::entries), unfolding(crate::specs::Statements::address_entry))]
+#[tactic(auto, using(crate::proofs::Statements::EntryLemmas::entries), unfolding(crate::specs::Statements::address_entry))]
 fn address_entry<'a, A: Allocator>(
     map: &Map<'_, A>,
     bytes: &'a [u8],
@@ -306,7 +306,7 @@ fn address_entry<'a, A: Allocator>(
 }
 
 /// The entry of a return table.
-#[tactic(auto, using(crate::proofs::EntryLemmas::entries), unfolding(crate::specs::Statements::return_entry))]
+#[tactic(auto, using(crate::proofs::Statements::EntryLemmas::entries), unfolding(crate::specs::Statements::return_entry))]
 fn return_entry<'a, A: Allocator>(
     map: &Map<'_, A>,
     bytes: &'a [u8],
@@ -349,7 +349,7 @@ fn numbers(unit: u8, order: ByteOrder, bytes: &[u8]) -> Statement<'_>
 }
 
 /// The statement of a line of a table, in which no opcode has a say.
-#[tactic(auto, using(crate::proofs::EntryLemmas::lines), unfolding(crate::specs::Statements::statement_for))]
+#[tactic(auto, using(crate::proofs::Statements::EntryLemmas::lines), unfolding(crate::specs::Statements::statement_for))]
 pub fn table_statement<'a, A: Allocator>(
     map: &Map<'_, A>,
     role: RangeType,

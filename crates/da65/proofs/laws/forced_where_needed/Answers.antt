@@ -1,4 +1,4 @@
-use Rattle.da65.proofs.ForcedLaws.{forced_where_needed}
+use Rattle.da65.proofs.Instructions.ForcedLaws.{forced_where_needed}
 use Rattle.da65.proofs.laws.forced_where_needed.Goals as goal
 
 pub returns : goal.returns

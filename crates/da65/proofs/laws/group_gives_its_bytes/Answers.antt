@@ -1,4 +1,4 @@
-use Rattle.da65.proofs.GroupStands.{group_gives_its_bytes}
+use Rattle.da65.proofs.Statements.GroupStands.{group_gives_its_bytes}
 use Rattle.da65.proofs.laws.group_gives_its_bytes.Goals as goal
 
 pub returns : goal.returns

@@ -1,4 +1,4 @@
-use Rattle.da65.proofs.BeginLaws.{group_law}
+use Rattle.da65.proofs.Groups.BeginLaws.{group_law}
 use Rattle.da65.proofs.laws.group_law.Goals as goal
 
 pub returns : goal.returns

@@ -1,4 +1,4 @@
-use Rattle.da65.proofs.GroupStands.{mode_is_chosen_back}
+use Rattle.da65.proofs.Statements.GroupStands.{mode_is_chosen_back}
 use Rattle.da65.proofs.laws.mode_is_chosen_back.Goals as goal
 
 pub returns : goal.returns

@@ -1,4 +1,4 @@
-use Rattle.da65.proofs.MapNames.{names_are_sound}
+use Rattle.da65.proofs.Names.MapNames.{names_are_sound}
 use Rattle.da65.proofs.laws.names_are_sound.Goals as goal
 
 pub returns : goal.returns

@@ -1,4 +1,4 @@
-use Rattle.da65.proofs.Reassembly.{target_is_in_range}
+use Rattle.da65.proofs.Statements.Reassembly.{target_is_in_range}
 use Rattle.da65.proofs.laws.target_is_in_range.Goals as goal
 
 pub returns : goal.returns

@@ -1,4 +1,4 @@
-use Rattle.da65.proofs.Reassembly.{unwritten_is_bytes}
+use Rattle.da65.proofs.Statements.Reassembly.{unwritten_is_bytes}
 use Rattle.da65.proofs.laws.unwritten_is_bytes.Goals as goal
 
 pub returns : goal.returns

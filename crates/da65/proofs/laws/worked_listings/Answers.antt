@@ -1,4 +1,4 @@
-use Rattle.da65.proofs.ListingRows.{worked_listings}
+use Rattle.da65.proofs.Worked.ListingRows.{worked_listings}
 use Rattle.da65.proofs.laws.worked_listings.Goals as goal
 
 pub returns : goal.returns

@@ -1,5 +1,5 @@
 use Rattle.std.proofs.Common.{◌∙◌, sym}
-use Rattle.da65.proofs.BaseLemmas.{expr-named, expr-number, text-long}
+use Rattle.da65.proofs.Names.BaseLemmas.{expr-named, expr-number, text-long}
 use Rattle.da65.proofs.listing.base_names.address_expr.Goals as goal
 
 pub returns-in-Some-clause-value : goal.returns-in-Some-clause-value

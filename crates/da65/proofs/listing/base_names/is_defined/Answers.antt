@@ -1,5 +1,5 @@
 use Rattle.std.proofs.Common.{◌∙◌, sym}
-use Rattle.da65.proofs.BaseLemmas.{base-unnamed}
+use Rattle.da65.proofs.Names.BaseLemmas.{base-unnamed}
 use Rattle.da65.proofs.listing.base_names.is_defined.Goals as goal
 
 pub returns-then-not-has_name : goal.returns-then-not-has_name

@@ -1,5 +1,5 @@
 use Rattle.std.proofs.Common.{◌∙◌, ap}
-use Rattle.da65.proofs.BaseLemmas.{base-own, put-long, put-text}
+use Rattle.da65.proofs.Names.BaseLemmas.{base-own, put-long, put-text}
 use Rattle.da65.specs.Code.Bases.{is_own_name}
 use Rattle.da65.proofs.listing.base_names.put_base.Goals as goal
 

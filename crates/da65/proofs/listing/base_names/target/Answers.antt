@@ -1,5 +1,5 @@
 use Rattle.std.proofs.Common.{◌∙◌, sym}
-use Rattle.da65.proofs.BaseLemmas.{target-named, target-none, text-long}
+use Rattle.da65.proofs.Names.BaseLemmas.{target-named, target-none, text-long}
 use Rattle.da65.proofs.listing.base_names.target.Goals as goal
 
 pub returns-in-Some-clause-value : goal.returns-in-Some-clause-value

@@ -1,6 +1,6 @@
 use Rattle.std.proofs.Common.{◌∙◌, ap, sym}
 use Rattle.da65.specs.Code.Bases.{constant_offset}
-use Rattle.da65.proofs.BaseLemmas.{zero-long, zero-named, zero-number}
+use Rattle.da65.proofs.Names.BaseLemmas.{zero-long, zero-named, zero-number}
 use Rattle.da65.proofs.listing.base_names.zero_page_expr.Goals as goal
 
 pub returns-in-Some-clause-value : goal.returns-in-Some-clause-value

@@ -1,5 +1,5 @@
 use Rattle.std.proofs.Common.{sym}
-use Rattle.da65.proofs.CommentLemmas.{given-told, some-printable}
+use Rattle.da65.proofs.NextLine.CommentLemmas.{given-told, some-printable}
 use Rattle.da65.proofs.listing.comment_lines.comment_at.Goals as goal
 
 pub returns-then-not-is_marked-clause-comment : goal.returns-then-not-is_marked-clause-comment

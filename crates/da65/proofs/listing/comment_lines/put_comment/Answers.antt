@@ -1,5 +1,5 @@
 use Rattle.std.proofs.Common.{◌∙◌, ap, arith, option_copied, sym}
-use Rattle.da65.proofs.NextLemmas.{comments-end, comments-here, comments-next, first-text}
+use Rattle.da65.proofs.NextLine.NextLemmas.{comments-end, comments-here, comments-next, first-text}
 use Rattle.da65.proofs.listing.comment_lines.put_comment.Goals as goal
 
 pub returns-in-Some-clause-line : goal.returns-in-Some-clause-line

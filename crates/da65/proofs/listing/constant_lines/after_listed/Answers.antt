@@ -1,7 +1,7 @@
 use Rattle.std.proofs.Common.{◌≡◌, ◌+◌, ap, arith, length, sym}
 use Rattle.std.proofs.lemmas.Bool.{not-true}
 use Rattle.map65.specs.ImageView.{end_of}
-use Rattle.da65.proofs.ConstantLemmas.{constants-listed}
+use Rattle.da65.proofs.NextLine.ConstantLemmas.{constants-listed}
 use Rattle.da65.proofs.listing.constant_lines.after_listed.Goals as goal
 
 pub returns-then-from-end-clause-lines : goal.returns-then-from-end-clause-lines

@@ -2,8 +2,8 @@ use Rattle.std.proofs.Common.{◌≡◌, ◌∙◌, ◌-◌, ◌+◌, ℕ, ap, a
 use Rattle.map65.specs.MapView.{MapView}
 use Rattle.map65.specs.Names.{has_name}
 use Rattle.da65.specs.Listing.{constants}
-use Rattle.da65.proofs.ConstantLemmas.{constants-unnamed}
-use Rattle.da65.proofs.NextLemmas.{constants-next}
+use Rattle.da65.proofs.NextLine.ConstantLemmas.{constants-unnamed}
+use Rattle.da65.proofs.NextLine.NextLemmas.{constants-next}
 use Rattle.da65.proofs.listing.constant_lines.constant_before.Goals as goal
 
 pub addresses-init : goal.addresses-init

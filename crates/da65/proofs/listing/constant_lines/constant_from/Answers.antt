@@ -1,5 +1,5 @@
 use Rattle.std.proofs.Common.{◌∙◌}
-use Rattle.da65.proofs.ConstantLemmas.{first-constant}
+use Rattle.da65.proofs.NextLine.ConstantLemmas.{first-constant}
 use Rattle.da65.proofs.listing.constant_lines.constant_from.Goals as goal
 
 pub returns-clause-lines : goal.returns-clause-lines

@@ -1,5 +1,5 @@
 use Rattle.std.proofs.Common.{◌∙◌, sym}
-use Rattle.da65.proofs.BareLemmas.{constant-none, constant-some}
+use Rattle.da65.proofs.Names.BareLemmas.{constant-none, constant-some}
 use Rattle.da65.proofs.listing.constant_lines.has_constant.Goals as goal
 
 pub returns-in-Some : goal.returns-in-Some

@@ -1,6 +1,6 @@
 use Rattle.std.proofs.Common.{◌∙◌, sym}
-use Rattle.da65.proofs.BaseLemmas.{base-unnamed}
-use Rattle.da65.proofs.NextLemmas.{line-kept, line-left, line-none}
+use Rattle.da65.proofs.Names.BaseLemmas.{base-unnamed}
+use Rattle.da65.proofs.NextLine.NextLemmas.{line-kept, line-left, line-none}
 use Rattle.da65.proofs.listing.constant_lines.is_named_constant.Goals as goal
 
 pub returns-then-not-has_name-clause-is : goal.returns-then-not-has_name-clause-is

@@ -1,7 +1,7 @@
 use Rattle.std.proofs.Common.{◌∙◌, ap, option_copied, refl, sym}
-use Rattle.da65.proofs.NextLemmas.{constant-bare, constant-comment, next-moved, next-plain}
+use Rattle.da65.proofs.NextLine.NextLemmas.{constant-bare, constant-comment, next-moved, next-plain}
 use Rattle.da65.proofs.listing.constant_lines.put_constant.Goals as goal
-use Rattle.da65.proofs.CommentLemmas.{comment-none}
+use Rattle.da65.proofs.NextLine.CommentLemmas.{comment-none}
 
 pub returns-in-Some : goal.returns-in-Some
 returns-in-Some g c =

@@ -1,5 +1,5 @@
 use Rattle.std.proofs.Common.{refl}
-use Rattle.da65.proofs.NextLemmas.{assignment-told, then-constant}
+use Rattle.da65.proofs.NextLine.NextLemmas.{assignment-told, then-constant}
 use Rattle.da65.proofs.listing.constant_lines.put_definition.Goals as goal
 
 pub returns : goal.returns

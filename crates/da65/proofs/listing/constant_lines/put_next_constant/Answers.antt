@@ -1,4 +1,4 @@
-use Rattle.da65.proofs.NextLemmas.{constant-moved, next-moved}
+use Rattle.da65.proofs.NextLine.NextLemmas.{constant-moved, next-moved}
 use Rattle.da65.proofs.listing.constant_lines.put_next_constant.Goals as goal
 
 pub returns : goal.returns

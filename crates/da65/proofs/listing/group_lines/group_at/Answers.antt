@@ -2,8 +2,8 @@ use Rattle.std.proofs.Common.{◌≡◌, ◌∙◌, ◌+◌, ℕ, ap, arith, dro
 use Rattle.map65.specs.MapView.{MapView}
 use Rattle.map65.specs.Roles.{role_of}
 use Rattle.da65.specs.Groups.{group_len}
-use Rattle.da65.proofs.GroupLemmas.{group-fits, item-begins}
-use Rattle.da65.proofs.ShapeLemmas.{group-index}
+use Rattle.da65.proofs.Groups.GroupLemmas.{group-fits, item-begins}
+use Rattle.da65.proofs.Groups.ShapeLemmas.{group-index}
 use Rattle.da65.proofs.listing.group_lines.group_at.Goals as goal
 
 pub group_len-len-requires-clause-begins : goal.group_len-len-requires-clause-begins

@@ -1,5 +1,5 @@
 use Rattle.std.proofs.Common.{sym}
-use Rattle.da65.proofs.ListedGroupLemmas.{code-fits, code-for, code-item, in-space, statement-is}
+use Rattle.da65.proofs.NextLine.ListedGroupLemmas.{code-fits, code-for, code-item, in-space, statement-is}
 use Rattle.da65.proofs.listing.group_lines.put_code_line.Goals as goal
 
 pub written_op-requires : goal.written_op-requires

@@ -1,7 +1,7 @@
 use Rattle.std.proofs.Common.{◌≡◌, ◌∙◌, arith, false, refl, sym}
 use Rattle.da65.specs.BaseNames.{is_base, names_of}
-use Rattle.da65.proofs.BaseLemmas.{base-unnamed}
-use Rattle.da65.proofs.NextLemmas.{forwards-end, forwards-here, forwards-next, first-text}
+use Rattle.da65.proofs.Names.BaseLemmas.{base-unnamed}
+use Rattle.da65.proofs.NextLine.NextLemmas.{forwards-end, forwards-here, forwards-next, first-text}
 use Rattle.da65.proofs.listing.group_lines.put_forward.Goals as goal
 use Rattle.da65.proofs.listing.group_lines.put_forward.Goals.{else-has_name-via-else-has_name, else-has_name-via-then-has_name+else-put_forward_at}
 

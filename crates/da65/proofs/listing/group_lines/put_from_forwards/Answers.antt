@@ -1,5 +1,5 @@
 use Rattle.std.proofs.Common.{arith, refl}
-use Rattle.da65.proofs.NextLemmas.{forward-end, forward-first, next-moved}
+use Rattle.da65.proofs.NextLine.NextLemmas.{forward-end, forward-first, next-moved}
 use Rattle.da65.proofs.listing.group_lines.put_from_forwards.Goals as goal
 
 pub returns-in-Some : goal.returns-in-Some

@@ -1,8 +1,8 @@
 use Rattle.std.proofs.Common.{◌∙◌, ap, sym}
 use Rattle.map65.specs.MapView.{MapView}
 use Rattle.map65.specs.Names.{has_name}
-use Rattle.da65.proofs.BaseLemmas.{base-unnamed}
-use Rattle.da65.proofs.NextLemmas.{label-none, unlabelled-lines, from-label}
+use Rattle.da65.proofs.Names.BaseLemmas.{base-unnamed}
+use Rattle.da65.proofs.NextLine.NextLemmas.{label-none, unlabelled-lines, from-label}
 use Rattle.da65.proofs.listing.group_lines.put_from_label.Goals as goal
 
 pub returns-else-has_name : goal.returns-else-has_name

@@ -1,6 +1,6 @@
 use Rattle.std.proofs.Common.{◌∙◌, sym}
-use Rattle.da65.proofs.ListedGroupLemmas.{empty-line, is-short, label-fits, line-is}
-use Rattle.da65.proofs.NextLemmas.{then-empty, then-group}
+use Rattle.da65.proofs.NextLine.ListedGroupLemmas.{empty-line, is-short, label-fits, line-is}
+use Rattle.da65.proofs.NextLine.NextLemmas.{then-empty, then-group}
 use Rattle.da65.proofs.listing.group_lines.put_group_statement.Goals as goal
 
 pub put_statement-requires-clause-label : goal.put_statement-requires-clause-label

@@ -2,7 +2,7 @@ use Rattle.std.proofs.Common.{◌≡◌, ◌∙◌, ◌++◌, List, true, false,
 use Rattle.da65.specs.Lines.{after_group}
 use Rattle.da65.specs.Listing.{ListingLine}
 use Rattle.da65.specs.declared.listing.style.Style.{Style}
-use Rattle.da65.proofs.NextLemmas.{above-lines, beside-lines, next-plain, takes-label, from-label}
+use Rattle.da65.proofs.NextLine.NextLemmas.{above-lines, beside-lines, next-plain, takes-label, from-label}
 use Rattle.stmt65.specs.Columns.{fits_label}
 use Rattle.da65.proofs.listing.group_lines.put_labelled.Goals as goal
 

@@ -2,7 +2,7 @@ use Rattle.std.proofs.Common.{◌≡◌, ◌∙◌, Bool, List, Some, ap, false,
 use Rattle.map65.specs.MapView.{MapView}
 use Rattle.da65.specs.BaseNames.{base_name, is_base, names_of}
 use Rattle.da65.specs.Listing.{label_at}
-use Rattle.da65.proofs.NextLemmas.{label-none, label-some, unlabelled-lines, from-label}
+use Rattle.da65.proofs.NextLine.NextLemmas.{label-none, label-some, unlabelled-lines, from-label}
 use Rattle.da65.proofs.listing.group_lines.put_named.Goals as goal
 
 pub put_labelled-requires-clause-label : goal.put_labelled-requires-clause-label

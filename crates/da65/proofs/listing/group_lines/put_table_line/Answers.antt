@@ -1,7 +1,7 @@
 use Rattle.std.proofs.Common.{[], refl}
 use Rattle.map65.specs.MapView.{opcodes}
-use Rattle.da65.proofs.EntryLemmas.{group_of_table}
-use Rattle.da65.proofs.ListedGroupLemmas.{has-bytes, of-role, statement-is}
+use Rattle.da65.proofs.Statements.EntryLemmas.{group_of_table}
+use Rattle.da65.proofs.NextLine.ListedGroupLemmas.{has-bytes, of-role, statement-is}
 use Rattle.da65.proofs.listing.group_lines.put_table_line.Goals as goal
 
 pub table_statement-statement-requires-clause-some : goal.table_statement-statement-requires-clause-some

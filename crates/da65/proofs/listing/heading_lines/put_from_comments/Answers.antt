@@ -1,7 +1,7 @@
 use Rattle.std.proofs.Common.{◌∙◌, ◌+◌, ℕ, ap, arith, refl, sym}
 use Rattle.da65.specs.Lines.{group_left}
-use Rattle.da65.proofs.GroupLemmas.{group-some}
-use Rattle.da65.proofs.NextLemmas.{comment-end, comment-first, next-moved}
+use Rattle.da65.proofs.Groups.GroupLemmas.{group-some}
+use Rattle.da65.proofs.NextLine.NextLemmas.{comment-end, comment-first, next-moved}
 use Rattle.da65.proofs.listing.heading_lines.put_from_comments.Goals as goal
 
 pub returns-in-Some : goal.returns-in-Some

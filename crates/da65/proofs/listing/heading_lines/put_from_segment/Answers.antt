@@ -1,5 +1,5 @@
 use Rattle.std.proofs.Common.{◌∙◌, sym}
-use Rattle.da65.proofs.NextLemmas.{enter-segment, stay-in-segment}
+use Rattle.da65.proofs.NextLine.NextLemmas.{enter-segment, stay-in-segment}
 use Rattle.da65.proofs.listing.heading_lines.put_from_segment.Goals as goal
 
 pub returns-then-is_same_segment : goal.returns-then-is_same_segment

@@ -1,5 +1,5 @@
 use Rattle.std.proofs.Common.{◌∙◌, sym}
-use Rattle.da65.proofs.NextLemmas.{next-moved, next-plain, separator-no, separator-yes}
+use Rattle.da65.proofs.NextLine.NextLemmas.{next-moved, next-plain, separator-no, separator-yes}
 use Rattle.da65.proofs.listing.heading_lines.put_from_separator.Goals as goal
 
 pub returns-then-has_separator : goal.returns-then-has_separator

@@ -1,4 +1,4 @@
-use Rattle.da65.proofs.CommentLemmas.{segment-told, some-segment}
+use Rattle.da65.proofs.NextLine.CommentLemmas.{segment-told, some-segment}
 use Rattle.da65.proofs.listing.heading_lines.segment_at.Goals as goal
 
 pub returns-clause-segment : goal.returns-clause-segment

@@ -1,5 +1,5 @@
 use Rattle.std.proofs.Common.{arith}
-use Rattle.da65.proofs.MarkLemmas.{none-more, none-shown}
+use Rattle.da65.proofs.NextLine.MarkLemmas.{none-more, none-shown}
 use Rattle.da65.proofs.listing.headings.has_comment.Goals as goal
 
 pub names-preserved : goal.names-preserved

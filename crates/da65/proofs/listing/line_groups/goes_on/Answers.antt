@@ -1,5 +1,5 @@
 use Rattle.std.proofs.Common.{◌∙◌, ◌<◌, ap, not, rules, sym}
-use Rattle.da65.proofs.RoleLemmas.{goes-unnamed, outside-stops, role-low, role-some, stops-run, stops-whole}
+use Rattle.da65.proofs.Groups.RoleLemmas.{goes-unnamed, outside-stops, role-low, role-some, stops-run, stops-whole}
 use Rattle.da65.proofs.listing.line_groups.goes_on.Goals as goal
 
 pub returns-in_default : goal.returns-in_default

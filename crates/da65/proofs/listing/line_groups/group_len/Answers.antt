@@ -1,5 +1,5 @@
 use Rattle.std.proofs.Common.{◌∙◌, sym}
-use Rattle.da65.proofs.StepLemmas.{group-one}
+use Rattle.da65.proofs.Groups.StepLemmas.{group-one}
 use Rattle.da65.proofs.listing.line_groups.group_len.Goals as goal
 
 pub returns-then-limit-eq1-clause-len : goal.returns-then-limit-eq1-clause-len

@@ -2,7 +2,7 @@ use Rattle.std.proofs.Common.{◌≡◌, ◌∙◌, ap, sym}
 use Rattle.std.specs.List.{list_any}
 use Rattle.info65.specs.Views.{InfoView}
 use Rattle.da65.specs.Code.SkipRanges.{is_skip_range}
-use Rattle.da65.proofs.SkipLemmas.{no-skips}
+use Rattle.da65.proofs.Groups.SkipLemmas.{no-skips}
 use Rattle.da65.proofs.listing.line_groups.has_skipped.Goals as goal
 
 pub returns-then-not-has_skip_range : goal.returns-then-not-has_skip_range

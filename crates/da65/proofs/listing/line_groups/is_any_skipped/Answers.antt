@@ -1,6 +1,6 @@
 use Rattle.std.proofs.Common.{◌∙◌, Bool, ℕ, arith, sym}
 use Rattle.map65.specs.Roles.{is_skip, role_of}
-use Rattle.da65.proofs.StepLemmas.{any-past, any-end, any-here}
+use Rattle.da65.proofs.Groups.StepLemmas.{any-past, any-end, any-here}
 use Rattle.da65.proofs.listing.line_groups.is_any_skipped.Goals as goal
 
 pub returns-then-is_skipped : goal.returns-then-is_skipped

@@ -1,4 +1,4 @@
-use Rattle.da65.proofs.RoleLemmas.{item-outside}
+use Rattle.da65.proofs.Groups.RoleLemmas.{item-outside}
 use Rattle.std.proofs.Common.{sym, arith}
 use Rattle.da65.proofs.listing.line_groups.item_len.Goals as goal
 

@@ -1,6 +1,6 @@
 use Rattle.std.proofs.Common.{◌∙◌, sym}
 use Rattle.std.proofs.lemmas.Bool.{both_ways}
-use Rattle.da65.proofs.RoleLemmas.{role-none, role-some}
+use Rattle.da65.proofs.Groups.RoleLemmas.{role-none, role-some}
 use Rattle.da65.proofs.listing.line_groups.role_inside.Goals as goal
 
 pub returns : goal.returns

@@ -1,4 +1,4 @@
-use Rattle.da65.proofs.RoleLemmas.{role-outside}
+use Rattle.da65.proofs.Groups.RoleLemmas.{role-outside}
 use Rattle.std.proofs.Common.{sym, arith}
 use Rattle.da65.proofs.listing.line_groups.role_of.Goals as goal
 

@@ -1,7 +1,7 @@
 use Rattle.std.proofs.Common.{◌∙◌, sym}
-use Rattle.da65.proofs.GroupLemmas.{first_place}
-use Rattle.da65.proofs.NextLemmas.{constant-blank, constant-none, match-moved, next-plain, next-there}
-use Rattle.da65.proofs.SegmentLemmas.{segment-first}
+use Rattle.da65.proofs.Groups.GroupLemmas.{first_place}
+use Rattle.da65.proofs.NextLine.NextLemmas.{constant-blank, constant-none, match-moved, next-plain, next-there}
+use Rattle.da65.proofs.NextLine.SegmentLemmas.{segment-first}
 use Rattle.da65.proofs.listing.lines.put_constants.Goals as goal
 
 pub returns-in-Some-clause-next : goal.returns-in-Some-clause-next

@@ -1,7 +1,7 @@
 use Rattle.std.proofs.Common.{◌∙◌, ◌+◌, ℕ, ap, sym}
 use Rattle.da65.specs.Lines.{group_left}
-use Rattle.da65.proofs.NextLemmas.{inside-start, lines-unmarked, next-moved, next-there}
-use Rattle.da65.proofs.SegmentLemmas.{segment-none}
+use Rattle.da65.proofs.NextLine.NextLemmas.{inside-start, lines-unmarked, next-moved, next-there}
+use Rattle.da65.proofs.NextLine.SegmentLemmas.{segment-none}
 use Rattle.da65.proofs.listing.lines.put_group_at.Goals as goal
 
 pub put_from_forwards-requires : goal.put_from_forwards-requires

@@ -1,5 +1,5 @@
 use Rattle.std.proofs.Common.{sym}
-use Rattle.da65.proofs.NextLemmas.{lines-title, next-plain}
+use Rattle.da65.proofs.NextLine.NextLemmas.{lines-title, next-plain}
 use Rattle.da65.proofs.listing.lines.put_next.Goals as goal
 
 pub returns-in-Title-clause-next : goal.returns-in-Title-clause-next

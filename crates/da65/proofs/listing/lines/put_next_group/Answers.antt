@@ -1,5 +1,5 @@
 use Rattle.std.proofs.Common.{sym}
-use Rattle.da65.proofs.NextLemmas.{next-moved}
+use Rattle.da65.proofs.NextLine.NextLemmas.{next-moved}
 use Rattle.da65.proofs.listing.lines.put_next_group.Goals as goal
 
 pub returns-clause-next : goal.returns-clause-next

@@ -1,6 +1,6 @@
 use Rattle.std.proofs.lemmas.Result.{err_from_is_err_and}
 use Rattle.std.proofs.Common.{arith}
-use Rattle.da65.proofs.TakenLemmas.{front_taken}
+use Rattle.da65.proofs.NextLine.TakenLemmas.{front_taken}
 use Rattle.da65.proofs.listing.lines.write_lines.Goals as goal
 
 pub returns-in_err-write_whole-clause-front : goal.returns-in_err-write_whole-clause-front

@@ -1,4 +1,4 @@
-use Rattle.da65.proofs.WrittenOps.{as-instruction, has-all}
+use Rattle.da65.proofs.Instructions.WrittenOps.{as-instruction, has-all}
 use Rattle.da65.proofs.listing.statements.instruction.Goals as goal
 
 pub written_size-requires : goal.written_size-requires

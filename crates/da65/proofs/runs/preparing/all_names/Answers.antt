@@ -6,8 +6,8 @@ use Rattle.info65.specs.Names.{AreNames}
 use Rattle.info65.specs.Views.{InfoView, NameView}
 use Rattle.da65.specs.Code.Preparing.{Stops}
 use Rattle.da65.specs.Files.{files_seen}
-use Rattle.da65.proofs.IncludeFacts.{file_rest, long_as, ok_same, same_files}
-use Rattle.da65.proofs.IncludeLemmas.{all_included, include_at, included_on, is_at, stops_at}
+use Rattle.da65.proofs.Outcomes.IncludeFacts.{file_rest, long_as, ok_same, same_files}
+use Rattle.da65.proofs.Outcomes.IncludeLemmas.{all_included, include_at, included_on, is_at, stops_at}
 use Rattle.da65.proofs.runs.preparing.all_names.Goals as goal
 
 pub with_include-requires : goal.with_include-requires

@@ -1,5 +1,5 @@
 use Rattle.std.proofs.Common.{◌≡◌, ◌≤◌, ℕ, List, length, subst, sym}
-use Rattle.da65.proofs.IncludeFacts.{short_name}
+use Rattle.da65.proofs.Outcomes.IncludeFacts.{short_name}
 use Rattle.da65.proofs.runs.preparing.with_include.Goals as goal
 
 pub missing_message-requires : goal.missing_message-requires

@@ -2,7 +2,7 @@ use Rattle.std.proofs.Common.{◌≡◌, ◌∙◌, List, ap, arith, length, sym
 use Rattle.std.proofs.lemmas.Bool.{eqb-true}
 use Rattle.info65.specs.Views.{IncludeView}
 use Rattle.da65.specs.Files.{files_seen}
-use Rattle.da65.proofs.IncludeLemmas.{all_included}
+use Rattle.da65.proofs.Outcomes.IncludeLemmas.{all_included}
 use Rattle.da65.proofs.runs.preparing.with_includes.Goals as goal
 
 pub returns-then-is_empty : goal.returns-then-is_empty

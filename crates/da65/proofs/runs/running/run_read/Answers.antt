@@ -3,7 +3,7 @@ use Rattle.std.specs.Prelude.{Result, Err}
 use Rattle.info65.specs.Views.{InfoView}
 use Rattle.da65.specs.Files.{files_seen}
 use Rattle.da65.specs.Outcome.{prepared_by}
-use Rattle.da65.proofs.RefusalLemmas.{refused_writes}
+use Rattle.da65.proofs.Outcomes.RefusalLemmas.{refused_writes}
 use Rattle.da65.proofs.runs.running.run_read.Goals as goal
 
 pub returns-in-Ok-clause-answer : goal.returns-in-Ok-clause-answer

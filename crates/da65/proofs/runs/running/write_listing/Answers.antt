@@ -1,4 +1,4 @@
-use Rattle.da65.proofs.RunLaws.{listing_took}
+use Rattle.da65.proofs.Outcomes.RunLaws.{listing_took}
 use Rattle.da65.proofs.runs.running.write_listing.Goals as goal
 
 pub returns-in-Ok-clause-reassembles : goal.returns-in-Ok-clause-reassembles

@@ -5,8 +5,8 @@ use Rattle.std.proofs.lemmas.Bool.{eqb-true, OnFalse_at}
 use Rattle.std.proofs.lemmas.List.{nil_from_length}
 use Rattle.std.specs.Prelude.{ℕ}
 use Rattle.da65.specs.Groups.{IsGroupPlace, group_len}
-use Rattle.da65.proofs.ReentryLemmas.{byte-told, count-told, keys-told, known-back, known-end, known-first, known-next, known-skip, never-entered, none-seen, skip-told}
-use Rattle.da65.proofs.GroupLemmas.{first_place, group-some, item-begins, place-next, place-skip}
+use Rattle.da65.proofs.Reentry.ReentryLemmas.{byte-told, count-told, keys-told, known-back, known-end, known-first, known-next, known-skip, never-entered, none-seen, skip-told}
+use Rattle.da65.proofs.Groups.GroupLemmas.{first_place, group-some, item-begins, place-next, place-skip}
 use Rattle.da65.proofs.runs.segment_reentry.is_entered_again.Goals as goal
 
 pub groups-init : goal.groups-init

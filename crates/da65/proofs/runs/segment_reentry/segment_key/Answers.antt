@@ -1,5 +1,5 @@
 use Rattle.std.proofs.Common.{sym}
-use Rattle.da65.proofs.ReentryLemmas.{keyed-map}
+use Rattle.da65.proofs.Reentry.ReentryLemmas.{keyed-map}
 use Rattle.da65.proofs.runs.segment_reentry.segment_key.Goals as goal
 
 pub returns : goal.returns

@@ -1,5 +1,5 @@
 use Rattle.std.proofs.Common.{◌∙◌, sym}
-use Rattle.da65.proofs.NextLemmas.{next-lines}
+use Rattle.da65.proofs.NextLine.NextLemmas.{next-lines}
 use Rattle.da65.proofs.listing.lines.Lines.next_line.Goals as goal
 
 pub returns-in-Some-clause-next : goal.returns-in-Some-clause-next

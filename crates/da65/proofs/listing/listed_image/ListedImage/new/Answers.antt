@@ -3,7 +3,7 @@ use Rattle.std.specs.Prelude.{not}
 use Rattle.std.specs.List.{list_any}
 use Rattle.da65.specs.Code.SkipRanges.{is_skip_range}
 use Rattle.da65.specs.Style.{style_of}
-use Rattle.da65.proofs.MarkLemmas.{listed-of}
+use Rattle.da65.proofs.NextLine.MarkLemmas.{listed-of}
 use Rattle.da65.proofs.listing.listed_image.ListedImage.new.Goals as goal
 
 pub invariant_of-result : goal.invariant_of-result

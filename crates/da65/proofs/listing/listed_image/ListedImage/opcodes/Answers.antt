@@ -1,7 +1,7 @@
 use Rattle.std.proofs.Common.{◌∙◌, ap}
 use Rattle.map65.specs.MapView.{MapView}
 use Rattle.da65.specs.declared.listing.style.Style.{Style}
-use Rattle.da65.proofs.NextLemmas.{style-cpu}
+use Rattle.da65.proofs.NextLine.NextLemmas.{style-cpu}
 use Rattle.da65.proofs.listing.listed_image.ListedImage.opcodes.Goals as goal
 
 pub returns : goal.returns

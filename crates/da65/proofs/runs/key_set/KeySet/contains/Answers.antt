@@ -1,5 +1,5 @@
 use Rattle.std.proofs.Common.{◌∙◌, ap, bit_and, nat_eq, ℕ, ◌/◌, ◌%◌, ◌^◌, slice_index_or}
-use Rattle.da65.proofs.KeySetLemmas.{bit_tested}
+use Rattle.da65.proofs.Reentry.KeySetLemmas.{bit_tested}
 use Rattle.da65.proofs.runs.key_set.KeySet.contains.Goals as goal
 
 pub returns : goal.returns

@@ -1,5 +1,5 @@
 use Rattle.std.proofs.Common.{arith}
-use Rattle.da65.proofs.KeySetLemmas.{bit_more}
+use Rattle.da65.proofs.Reentry.KeySetLemmas.{bit_more}
 use Rattle.da65.proofs.runs.key_set.KeySet.insert.Goals as goal
 
 pub returns : goal.returns

@@ -1,4 +1,4 @@
-use Rattle.da65.proofs.KeySetLemmas.{no_bit}
+use Rattle.da65.proofs.Reentry.KeySetLemmas.{no_bit}
 use Rattle.da65.proofs.runs.key_set.KeySet.none.Goals as goal
 
 pub returns : goal.returns

@@ -1,0 +1,11 @@
+-- Where groups begin, and which bytes they have.
+pub mod RoleLemmas
+pub mod GroupLemmas
+pub mod StepLemmas
+pub mod PlaceLemmas
+pub mod ShapeLemmas
+pub mod InsideLemmas
+pub mod DefinedLemmas
+pub mod PieceLines
+pub mod BeginLaws
+pub mod SkipLemmas

@@ -1,0 +1,101 @@
+-- Where `a:` stands, an assembler would take another mode without it.
+use Rattle.std.proofs.Common.{◌≡◌, ℕ, ◌+◌, Bool, true, false, cond, List, [], ◌∷◌, Option, Some, None, refl, sym, ap, subst, ◌∙◌}
+use Rattle.std.specs.Prelude.{IsSome, is_some, nat_lt, option_and_then}
+use Rattle.std.proofs.lemmas.Bool.{and_parts}
+use Rattle.isa65.specs.Cpu.{table_of}
+use Rattle.isa65.specs.CpuLaws.{table_of-sound}
+use Rattle.isa65.specs.Mode.{len_of, row_of, row_text, written, zero_page_of}
+use Rattle.isa65.specs.Opcodes.{Table, encoded, sibling_in}
+use Rattle.isa65.specs.OpcodeLaws.{encoded-decoded}
+use Rattle.isa65.specs.declared.cpu.Cpu.{Cpu}
+use Rattle.isa65.specs.declared.mode.Mode.{Mode}
+use Rattle.isa65.specs.declared.op.Op.{Op}
+use Rattle.isa65.specs.declared.row.Row.{Row}
+use Rattle.stmt65.specs.Views.{OperandsView}
+use Rattle.stmt65.specs.Forms.{form_text, form_values}
+use Rattle.stmt65.specs.SourceLine.{Instr}
+use Rattle.stmt65.specs.ModeLaws.{has_prefix, is_short, IsModeOf, TakesMode}
+use Rattle.stmt65.specs.Printed.{address_size, row_form, source_form, source_value}
+use Rattle.stmt65.specs.Symbols.{Definition, has_zero_page_size}
+use Rattle.stmt65.specs.Coding.{Fragment, Fixed, coding}
+use Rattle.stmt65.proofs.Public.{takes_modes}
+use Rattle.map65.specs.ImageView.{ImageView}
+use Rattle.map65.specs.Names.{Base}
+use Rattle.map65.specs.Targets.{word_of}
+use Rattle.da65.specs.BaseNames.{AreSound, Names}
+use Rattle.da65.specs.KnownNames.{KnowsConstants}
+use Rattle.da65.specs.ReassemblyLaw.{CodesInMode, ForcedWhereNeeded, HasKnownSize, IsWritten, fragments_in}
+use Rattle.da65.specs.Statements.{address_expr, constant_base, expr_from, is_forced, operands_of, row_operands, zero_page_expr}
+use Rattle.da65.proofs.Instructions.ModeLaws.{of_form, pair, row_prefix, word_size}
+use Rattle.da65.proofs.Statements.GroupStands.{mode_is_chosen_back}
+use Rattle.da65.proofs.Statements.StandsLaws.{begins_with}
+use Rattle.da65.proofs.Instructions.ValueLaws.{zero_page_small}
+
+-- of an address with a known size both expressions are one
+one-expr : (m : Names) (a : ℕ) → HasKnownSize m a → zero_page_expr m a ≡ address_expr m a
+unfolding zero_page_expr address_expr
+one-expr m a h = ap (expr_from a) (go (m.base_at a) h)
+  where
+    go : (o : Option Base) → ((b : Base) → o ≡ Some b → m.has_constant b.address ≡ true) → constant_base m o ≡ o
+    go None h = refl
+    go (Some b) h = rw (h b refl) refl
+
+-- the zero-page mode that an instruction has too
+record HasSibling (t : Table) (op : Op) : Type 0 where
+  mode : Mode
+  is : zero_page_of op.mode ≡ Some mode
+  has : IsSome (encoded t op.mnemonic mode)
+
+has_sibling : (t : Table) (op : Op) → is_some (sibling_in t op) ≡ true → HasSibling t op
+has_sibling t op h = go (zero_page_of op.mode) refl h
+  where
+    found : (z : Mode) → zero_page_of op.mode ≡ Some z → (o : Option ℕ) → encoded t op.mnemonic z ≡ o → is_some (cond (is_some o) (Some z) None) ≡ true → HasSibling t op
+    found z e (Some c) f h = record { mode = z; is = e; has = ap is_some f }
+    found z e None f h = absurd cc
+
+    go : (o : Option Mode) → zero_page_of op.mode ≡ o → is_some (option_and_then (λ x. cond (is_some (encoded t op.mnemonic x)) (Some x) None) o) ≡ true → HasSibling t op
+    go None e h = absurd cc
+    go (Some z) e h = found z e (encoded t op.mnemonic z) refl h
+
+same_op : (op other : Op) → Some op ≡ Some other → op ≡ other
+same_op op other e = cc
+
+fixed_is : (b c : ℕ) (fs gs : List Fragment) → Fixed b ∷ fs ≡ Fixed c ∷ gs → b ≡ c
+fixed_is b c fs gs e = cc
+
+-- an opcode is that of one mode
+one_mode : (cpu : Cpu) (op : Op) (y : Mode) (b c : ℕ) → encoded (table_of cpu) op.mnemonic op.mode ≡ Some b → encoded (table_of cpu) op.mnemonic y ≡ Some c → b ≡ c → y ≡ op.mode
+one_mode cpu op y b c h g same =
+    let other : Op = record { mnemonic = op.mnemonic; mode = y } in
+    let first = (encoded-decoded (table_of cpu) (table_of-sound cpu) b op).0 h in
+    let second = (encoded-decoded (table_of cpu) (table_of-sound cpu) b other).0 (g ∙ ap Some (sym same)) in
+    ap (λ (o : Op). o.mode) (same_op other op (sym second ∙ first))
+
+-- without `a:` it is coded in its mode only where none stands
+not_forced : (image : ImageView) (m : Names) (p : ℕ → Bool) (cpu : Cpu) (above : List Definition) (a : ℕ) (bytes : List ℕ) (op : Op) (os : OperandsView)
+    → AreSound image m → KnowsConstants m p above → IsWritten m (table_of cpu) a bytes op os → HasKnownSize m (word_of bytes) → CodesInMode cpu above op false os → is_forced (table_of cpu) op bytes ≡ true → ⊥
+unfolding operands_of source_form
+not_forced image m p cpu above a bytes op os names known h sized codes forced =
+    let both = and_parts (is_some (sibling_in (table_of cpu) op)) (nat_lt (word_of bytes) 256) forced in
+    let sibling = has_sibling (table_of cpu) op both.0 in
+    let pairs = pair (row_of op.mode) sibling.mode sibling.is in
+    let form = row_form (row_of op.mode) (address_size false) os in
+    let long = (begins_with (table_of cpu) bytes op h.begins).long in
+    let takes = takes_modes cpu above op.mnemonic form (Fixed codes.opcode ∷ fragments_in op.mode os) codes.coded in
+    let same : takes.mode ≡ op.mode = one_mode cpu op takes.mode codes.opcode takes.opcode codes.is_opcode takes.has (fixed_is _ _ _ _ takes.coded) in
+    let of : IsModeOf form op.mode = of_form image m p names cpu above known op.mnemonic codes.opcode op.mode codes.is_opcode a bytes h.are_bytes long os h.has false (λ no. absurd cc) in
+    let alike : written sibling.mode ≡ written op.mode = ap (λ (r : Row). row_text r) pairs.short ∙ sym (ap (λ (r : Row). row_text r) pairs.long) in
+    let is_long = takes.long sibling.mode (ap (λ (y : Mode). zero_page_of y) same ∙ sibling.is) (alike ∙ of.0, λ prefix. let no = row_prefix (row_of op.mode) false os prefix in absurd cc) sibling.has in
+    let small = ap (λ e. has_zero_page_size above (source_value e)) (sym (one-expr m (word_of bytes) sized)) ∙ zero_page_small image m p above (word_of bytes) names known both.1 in
+    let is_short = word_size image m p names cpu above known pairs.direct (row_of op.mode) pairs.long (address_size false) (a + len_of op.mode) bytes os h.has ∙ small in
+    let no : true ≡ false = sym is_short ∙ is_long in cc
+
+pub forced_where_needed : ForcedWhereNeeded
+forced_where_needed image m p cpu above a bytes op os names known h sized = (
+  λ codes. go codes (is_forced (table_of cpu) op bytes) refl,
+  λ e. subst (λ (t : Bool). CodesInMode cpu above op t os) e (mode_is_chosen_back image m p cpu above a bytes op os names known h),
+)
+  where
+    go : CodesInMode cpu above op false os → (t : Bool) → is_forced (table_of cpu) op bytes ≡ t → is_forced (table_of cpu) op bytes ≡ false
+    go codes false e = e
+    go codes true e = absurd (not_forced image m p cpu above a bytes op os names known h sized codes e)

@@ -1,0 +1,146 @@
+-- Expressions: their values, and their sizes.
+use Rattle.std.proofs.Common.{◌≡◌, ℕ, Bool, true, false, cond, eqb, ◌+◌, ◌-◌, ◌<◌, ◌≤◌, List, Option, Some, None, refl, subst, arith}
+use Rattle.std.specs.Prelude.{◌&&◌, nat_lt, IfSome}
+use Rattle.std.proofs.lemmas.Bool.{eq-eqb, ne_eqb}
+use Rattle.stmt65.specs.SourceLine.{Value, NumberValue, NameValue}
+use Rattle.stmt65.specs.declared.source_line.Minus.TheVariants.{Zero, One}
+use Rattle.stmt65.specs.Printed.{source_value}
+use Rattle.stmt65.specs.Symbols.{Definition, find_name, has_zero_page_size, is_known, value_in}
+use Rattle.map65.specs.ImageView.{ImageView}
+use Rattle.map65.specs.Names.{Base}
+use Rattle.da65.specs.BaseNames.{AreSound, IsBaseOf, Names, base_name, is_base}
+use Rattle.da65.specs.Statements.{address_expr, constant_base, expr_from, zero_page_expr}
+use Rattle.da65.specs.KnownNames.{Knows, KnowsAll, KnowsConstants, definition_of}
+use Rattle.da65.specs.ReassemblyLaw.{ExpressionsHaveTheirValues}
+use Rattle.da65.proofs.Blocks.Knowledge.{knows_all, knows_not, knows_there}
+
+-- ---- bases
+
+own-base : (m : Names) (a : ℕ) (b : Base) → IsBaseOf m a b → is_base m b.address ≡ true
+own-base m a b is = rw is.base (eq-eqb b.address b.address refl)
+
+own-name : (m : Names) (a : ℕ) (b : Base) → IsBaseOf m a b → base_name m b.address ≡ b.text
+own-name m a b is = rw is.base refl
+
+-- the definition of an address's base
+base-all : (m : Names) (all : List Definition) (a : ℕ) (b : Base) → KnowsAll m all → IsBaseOf m a b → find_name b.text all ≡ Some (definition_of m b.address)
+base-all m all a b k is = subst (λ (w : List ℕ). find_name w all ≡ Some (definition_of m b.address)) (own-name m a b is) (knows_all m all b.address k (own-base m a b is))
+
+base-there : (m : Names) (p : ℕ → Bool) (ds : List Definition) (a : ℕ) (b : Base) → Knows m p ds → IsBaseOf m a b → p b.address ≡ true → find_name b.text ds ≡ Some (definition_of m b.address)
+base-there m p ds a b k is passes = subst (λ (w : List ℕ). find_name w ds ≡ Some (definition_of m b.address)) (own-name m a b is) (knows_there m p ds b.address k (own-base m a b is) passes)
+
+base-not : (m : Names) (p : ℕ → Bool) (ds : List Definition) (a : ℕ) (b : Base) → Knows m p ds → IsBaseOf m a b → p b.address ≡ false → find_name b.text ds ≡ None
+base-not m p ds a b k is fails = subst (λ (w : List ℕ). find_name w ds ≡ None) (own-name m a b is) (knows_not m p ds b.address k (own-base m a b is) fails)
+
+-- ---- values
+
+-- its names are known, and this is its value
+pub record IsWorth (all : List Definition) (v : Value) (n : ℕ) : Type 0 where
+  pub known : is_known all v ≡ true
+  pub value : value_in all v ≡ Some n
+
+pub number_worth : (all : List Definition) (n : ℕ) → IsWorth all (NumberValue n) n
+unfolding is_known value_in
+number_worth all n = record { known = refl; value = refl }
+
+pub name_worth : (m : Names) (all : List Definition) (a : ℕ) (b : Base) → KnowsAll m all → IsBaseOf m a b → IsWorth all (NameValue b.text (a - b.address) Zero) a
+unfolding is_known value_in
+name_worth m all a b k is =
+    let low : b.address ≤ a = is.before in
+    let same : b.address + (a - b.address) ≡ a = omega arith in
+    let found = base-all m all a b k is in
+    record { known = rw found refl; value = rw (found, same) refl }
+
+-- the address before
+pub before_worth : (m : Names) (all : List Definition) (a : ℕ) (b : Base) → KnowsAll m all → IsBaseOf m a b → 0 < a → IsWorth all (NameValue b.text (a - b.address) One) (a - 1)
+unfolding is_known value_in
+before_worth m all a b k is some =
+    let low : b.address ≤ a = is.before in
+    let same : b.address + (a - b.address) ≡ a = omega arith in
+    let not-none : eqb a 0 ≡ false = ne_eqb a 0 (λ e. absurd (omega (arith, e, some))) in
+    let found = base-all m all a b k is in
+    record { known = rw found refl; value = rw (found, same, not-none) refl }
+
+-- ---- expressions
+
+from_worth : (m : Names) (all : List Definition) (a : ℕ) (o : Option Base) → KnowsAll m all → IfSome o (λ b. IsBaseOf m a b) → IsWorth all (source_value (expr_from a o)) a
+from_worth m all a None k is = number_worth all a
+from_worth m all a (Some b) k is = name_worth m all a b k is
+
+-- the base of an address's name is one
+pub is-base : (image : ImageView) (m : Names) (a : ℕ) → AreSound image m → (o : Option Base) → m.base_at a ≡ o → IfSome o (λ b. IsBaseOf m a b)
+is-base image m a names None e = tt
+is-base image m a names (Some b) e = names.bases a b e
+
+-- a base with a constant line
+pub record IsConstantOf (m : Names) (a : ℕ) (b : Base) : Type 0 where
+  pub is : IsBaseOf m a b
+  pub constant : m.has_constant b.address ≡ true
+
+pub is-constant : (image : ImageView) (m : Names) (a : ℕ) → AreSound image m → (o : Option Base) → m.base_at a ≡ o → IfSome (constant_base m o) (λ b. IsConstantOf m a b)
+is-constant image m a names None e = tt
+is-constant image m a names (Some b) e = go (m.has_constant b.address) refl
+  where
+    go : (t : Bool) → m.has_constant b.address ≡ t → IfSome (cond t (Some b) None) (λ c. IsConstantOf m a c)
+    go true f = record { is = names.bases a b e; constant = f }
+    go false f = tt
+
+forget : (m : Names) (a : ℕ) (o : Option Base) → IfSome o (λ b. IsConstantOf m a b) → IfSome o (λ b. IsBaseOf m a b)
+forget m a None h = tt
+forget m a (Some b) h = h.is
+
+pub address_worth : (image : ImageView) (m : Names) (all : List Definition) (a : ℕ) → AreSound image m → KnowsAll m all → IsWorth all (source_value (address_expr m a)) a
+unfolding address_expr
+address_worth image m all a names k = from_worth m all a (m.base_at a) k (is-base image m a names (m.base_at a) refl)
+
+pub zero_page_worth : (image : ImageView) (m : Names) (all : List Definition) (a : ℕ) → AreSound image m → KnowsAll m all → IsWorth all (source_value (zero_page_expr m a)) a
+unfolding zero_page_expr
+zero_page_worth image m all a names k = from_worth m all a (constant_base m (m.base_at a)) k (forget m a _ (is-constant image m a names (m.base_at a) refl))
+
+pub expressions_have_their_values : ExpressionsHaveTheirValues
+expressions_have_their_values image m all names k = record {
+  address = λ a. (address_worth image m all a names k).value;
+  zero_page = λ a. (zero_page_worth image m all a names k).value;
+  return = λ a b some e. (before_worth m all a b k (names.bases a b e) some).value;
+}
+
+-- ---- sizes, by the lines above
+
+-- an address from $100 on has absolute size, by any name
+large_from : (m : Names) (p : ℕ → Bool) (above : List Definition) (a : ℕ) (o : Option Base) → Knows m p above → nat_lt a 256 ≡ false → IfSome o (λ b. IsBaseOf m a b)
+    → has_zero_page_size above (source_value (expr_from a o)) ≡ false
+unfolding has_zero_page_size value_in
+large_from m p above a None k large is = large
+large_from m p above a (Some b) k large is = go (p b.address) refl
+  where
+    low : b.address ≤ a
+    low = is.before
+
+    same : b.address + (a - b.address) ≡ a
+    same = omega (arith, low)
+
+    go : (t : Bool) → p b.address ≡ t → has_zero_page_size above (NameValue b.text (a - b.address) Zero) ≡ false
+    go true e = rw (base-there m p above a b k is e, same, large) (off (m.has_constant b.address))
+      where
+        off : (t : Bool) → (t && false) ≡ false
+        off true = refl
+        off false = refl
+    go false e = rw (base-not m p above a b k is e) refl
+
+pub address_large : (image : ImageView) (m : Names) (p : ℕ → Bool) (above : List Definition) (a : ℕ) → AreSound image m → Knows m p above → nat_lt a 256 ≡ false → has_zero_page_size above (source_value (address_expr m a)) ≡ false
+unfolding address_expr
+address_large image m p above a names k large = large_from m p above a (m.base_at a) k large (is-base image m a names (m.base_at a) refl)
+
+-- an operand in the zero page has that size, by the name of a constant too
+small_from : (m : Names) (p : ℕ → Bool) (above : List Definition) (a : ℕ) (o : Option Base) → KnowsConstants m p above → nat_lt a 256 ≡ true → IfSome o (λ b. IsConstantOf m a b)
+    → has_zero_page_size above (source_value (expr_from a o)) ≡ true
+unfolding has_zero_page_size value_in
+small_from m p above a None k small is = small
+small_from m p above a (Some b) k small is =
+    let low : b.address ≤ a = is.is.before in
+    let same : b.address + (a - b.address) ≡ a = omega arith in
+    rw (base-there m p above a b k.knows is.is (k.constants b.address is.constant), is.constant, same, small) refl
+
+pub zero_page_small : (image : ImageView) (m : Names) (p : ℕ → Bool) (above : List Definition) (a : ℕ) → AreSound image m → KnowsConstants m p above → nat_lt a 256 ≡ true → has_zero_page_size above (source_value (zero_page_expr m a)) ≡ true
+unfolding zero_page_expr
+zero_page_small image m p above a names k small = small_from m p above a (constant_base m (m.base_at a)) k small (is-constant image m a names (m.base_at a) refl)

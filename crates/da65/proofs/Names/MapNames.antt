@@ -1,0 +1,90 @@
+-- The names of a map are such that its listing assembles back.
+use Rattle.std.proofs.Common.{◌≡◌, ◌∙◌, inl, inr, ℕ, zero, suc, ◌+◌, ◌-◌, ◌<◌, Bool, true, false, not, length, Some, nat_le, nat_lt, refl, sym, ap, subst, arith}
+use Rattle.std.specs.List.{list_any}
+use Rattle.std.proofs.lemmas.Bool.{and_parts, leb-true, ltb-true, or_parts, true≢false}
+use Rattle.map65.specs.Bases.{BaseLaw, IsInCode, IsOutside, LiesBy}
+use Rattle.map65.specs.ImageView.{end_of, is_inside}
+use Rattle.map65.specs.Items.{item_len, size_at}
+use Rattle.map65.specs.MapView.{MapView}
+use Rattle.map65.specs.Names.{Base, base_at, place_of, text_by}
+use Rattle.map65.specs.Roles.{is_skip, role_of}
+use Rattle.map65.specs.Spans.{addresses}
+use Rattle.map65.specs.declared.name.Place.{Place}
+use Rattle.map65.specs.declared.name.Place.TheVariants as place
+use Rattle.map65.proofs.Public.{base_law, begun, inside-if, place_law, size-fits}
+use Rattle.da65.specs.BaseNames.{base_name, is_constant, names_of}
+use Rattle.da65.specs.Groups.{skips}
+use Rattle.da65.specs.ReassemblyLaw.{NamesAreSound}
+use Rattle.da65.proofs.Groups.DefinedLemmas.{Defined, defined-base}
+use Rattle.da65.proofs.Names.TargetBounds.{base-small}
+
+-- ---- skipped bytes
+
+none-of : (p : ℕ → Bool) (n a k : ℕ) → list_any p (addresses n a) ≡ false → k < n → p (a + k) ≡ false
+unfolding addresses
+none-of p zero a k none low = absurd (omega (arith, low))
+none-of p (suc n) a zero none low = let place : a + 0 ≡ a = omega arith in ap p place ∙ (or_parts (p a) (list_any p (addresses n (a + 1))) none).0
+none-of p (suc n) a (suc k) none low =
+    let place : a + suc k ≡ a + 1 + k = omega arith in
+    ap p place ∙ none-of p n (a + 1) k (or_parts (p a) (list_any p (addresses n (a + 1))) none).1 (omega (arith, low))
+
+pub none-skipped : (m : MapView) (k : ℕ) → skips m ≡ false → k < length m.image.bytes → is_skip (role_of m.info (m.image.start + k)) ≡ false
+unfolding skips
+none-skipped m k none low = none-of (λ a. is_skip (role_of m.info a)) (length m.image.bytes) m.image.start k none low
+
+-- the same of an address
+pub shown-inside : (m : MapView) (a : ℕ) → skips m ≡ false → is_inside m.image a ≡ true → is_skip (role_of m.info a) ≡ false
+shown-inside m a none inside =
+    let both = and_parts (nat_le m.image.start a) (nat_lt a (end_of m.image)) inside in
+    let low = leb-true m.image.start a both.0 in
+    let high = ltb-true a (end_of m.image) both.1 in
+    let same : m.image.start + (a - m.image.start) ≡ a = omega (arith, low) in
+    sym (ap (λ (x : ℕ). is_skip (role_of m.info x)) same) ∙ none-skipped m (a - m.image.start) none (omega (arith, low, high))
+
+-- ---- the law
+
+some-same : (b d : Base) → b ≡ d → b.address ≡ d.address
+some-same b d e = ap (λ (x : Base). x.address) e
+
+text-is : (m : MapView) (a : ℕ) (b : Base) → base_at m a ≡ Some b → base_name (names_of m) a ≡ b.text
+text-is m a b e = ap text_by e
+
+constant-is : (m : MapView) (a : ℕ) → skips m ≡ false → Defined m a → is_constant (place_of m a) ≡ not (is_inside m.image a)
+constant-is m a none h =
+    lies (place_of m a) (subst (λ (x : ℕ). LiesBy (place_of m x) m x) h.own (place_law m a h.base h.is))
+  where
+    apart : (t : Bool) → is_inside m.image a ≡ t → (is_skip (role_of m.info a) ≡ true) → not (is_inside m.image a) ≡ true
+    apart true e skip = absurd (true≢false (sym skip ∙ shown-inside m a none e))
+    apart false e skip = ap not e
+
+    outside : IsOutside m a → not (is_inside m.image a) ≡ true
+    outside (inl out) = ap not out
+    outside (inr skip) = apart (is_inside m.image a) refl skip
+
+    in-code : IsInCode m a → is_inside m.image a ≡ true
+    in-code code =
+        let item = begun m code.item code.begins in
+        let k : ℕ = code.item - m.image.start in
+        let spot : m.image.start + k ≡ code.item = omega (arith, item.low) in
+        let fits = size-fits m k (omega (arith, item.low, item.high)) in
+        let size : size_at m (m.image.start + k) ≡ item_len m code.item = ap (size_at m) spot ∙ sym item.len in
+        inside-if m a (omega (arith, item.low, code.after)) (omega (arith, spot, fits, size, code.before))
+
+    lies : (p : Place) → LiesBy p m a → is_constant p ≡ not (is_inside m.image a)
+    lies place.Constant out = sym (outside out)
+    lies place.Label item = sym (ap not (begun m a item).inside)
+    lies place.Forward code = sym (ap not (in-code code))
+
+pub names_are_sound : NamesAreSound
+names_are_sound m placed are names none =
+    let law : BaseLaw m = base_law m names in
+    record {
+      distinct = λ u v is_u is_v same.
+          let b : Defined m u = defined-base m u is_u in
+          let d : Defined m v = defined-base m v is_v in
+          let text : b.base.text ≡ d.base.text = sym (text-is m u b.base b.is) ∙ same ∙ text-is m v d.base d.is in
+          sym b.own ∙ some-same b.base d.base (law.distinct u v b.base d.base (base-small m u b.base placed are names b.is) (base-small m v d.base placed are names d.is) b.is d.is text) ∙ d.own;
+      in_space = λ v is. let b : Defined m v = defined-base m v is in base-small m v b.base placed are names b.is;
+      bases = λ a b is. record { base = law.own a b is; before = law.low a b is };
+      constants = λ v is. let b : Defined m v = defined-base m v is in constant-is m v none b;
+    }

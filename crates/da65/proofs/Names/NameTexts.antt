@@ -1,0 +1,85 @@
+-- The texts of a map's names are names, and none of them is reserved.
+use Rattle.std.proofs.Common.{◌≡◌, ℕ, ◌/◌, ◌%◌, ◌<◌, Bool, true, false, not, List, [], ◌∷◌, length, Option, Some, None, nat_lt, refl, sym, ap, subst, arith}
+use Rattle.std.specs.Prelude.{◌||◌, ◌&&◌, ◌==◌}
+use Rattle.std.specs.List.{list_all}
+use Rattle.std.specs.Char.{is_ascii_alphabetic}
+use Rattle.std.proofs.lemmas.Bool.{and_from, and_parts, ltb-true, or_parts}
+use Rattle.std.proofs.lemmas.Bool.Decides.{nat_tests}
+use Rattle.text65.specs.Digits.{hex_digit}
+use Rattle.text65.specs.Names.{has_name_form, is_reserved_word, is_word_byte}
+use Rattle.text65.proofs.Public.{long_word}
+use Rattle.info65.specs.Names.{AreNames, IsName, blank_name, covering, default_name, is_reserved, name_at}
+use Rattle.info65.specs.Views.{NameView}
+use Rattle.stmt65.specs.Names.{is_name}
+use Rattle.stmt65.specs.Printable.{IsNameLong}
+use Rattle.info65.proofs.Public.{last_name}
+use Rattle.map65.specs.MapView.{MapView}
+use Rattle.map65.specs.Names.{Base, base_at, base_by, given_base, entry_start, entry_base, is_referenced}
+use Rattle.map65.proofs.Public.{entry_start-default, entry_start-given}
+use Rattle.da65.proofs.Names.BaseLemmas.{same-base}
+
+-- a text that can be printed, and that reads as a name
+pub record IsNameText (text : List ℕ) : Type 0 where
+  pub name : is_name text ≡ true
+  pub long : IsNameLong text
+
+pub text-long : (text : List ℕ) → has_name_form text ≡ true → IsNameLong text
+unfolding has_name_form
+text-long [] h = absurd cc
+text-long (b ∷ w) h =
+    let both = and_parts ((is_ascii_alphabetic b || b == 95) && list_all is_word_byte w) (nat_lt (length w) 80) h in
+    let short = ltb-true (length w) 80 both.1 in
+    (omega arith, omega (arith, short))
+
+text-of-form : (text : List ℕ) → has_name_form text ≡ true → is_reserved_word text ≡ false → IsNameText text
+unfolding is_name
+text-of-form text form free = record { name = and_from (has_name_form text) (not (is_reserved_word text)) form (ap not free); long = text-long text form }
+
+-- ---- names that are given
+
+no-word : (address : ℕ) (text : List ℕ) → is_reserved address text ≡ false → is_reserved_word text ≡ false
+unfolding is_reserved
+no-word address text h = (or_parts (is_reserved_word text) _ h).0
+
+given-text : (n : NameView) → IsName n → IsNameText n.text
+given-text n is = text-of-form n.text is.form (no-word n.address n.text is.free)
+
+-- ---- default names
+
+hex-word : (d : ℕ) → d < 16 → is_word_byte (hex_digit d) ≡ true
+hex-word d low = grind (arith, nat_tests)
+
+default-form : (a : ℕ) → has_name_form (default_name a) ≡ true
+unfolding has_name_form default_name
+default-form a =
+    rw (hex-word (a / 4096 % 16) (omega arith), hex-word (a / 256 % 16) (omega arith), hex-word (a / 16 % 16) (omega arith), hex-word (a % 16) (omega arith)) refl
+
+default-free : (a : ℕ) → is_reserved_word (default_name a) ≡ false
+unfolding default_name
+default-free a = long_word (default_name a) (omega arith)
+
+default-text : (a : ℕ) → IsNameText (default_name a)
+default-text a = text-of-form (default_name a) (default-form a) (default-free a)
+
+-- ---- the names of a map
+
+covering-text : (names : List NameView) (a : ℕ) (v : NameView) → AreNames names → covering names a ≡ Some v → IsNameText v.text
+covering-text names a v are e =
+    let last = last_name names a v e in
+    subst (λ (n : NameView). IsNameText n.text) (sym last.is) (given-text (name_at names last.index) (are.each last.index blank_name last.low))
+
+entry_start-text : (m : MapView) (a : ℕ) → AreNames m.info.names → IsNameText (entry_base m a).text
+entry_start-text m a are = go (covering m.info.names (entry_start m a)) refl
+  where
+    go : (o : Option NameView) → covering m.info.names (entry_start m a) ≡ o → IsNameText (entry_base m a).text
+    go (Some v) e = subst (λ (b : Base). IsNameText b.text) (sym (entry_start-given m a v e)) (covering-text m.info.names (entry_start m a) v are e)
+    go None e = subst (λ (b : Base). IsNameText b.text) (sym (entry_start-default m a e)) (default-text (entry_start m a))
+
+pub base-text : (m : MapView) (a : ℕ) (b : Base) → AreNames m.info.names → base_at m a ≡ Some b → IsNameText b.text
+unfolding base_at
+base-text m a b are e = go (covering m.info.names a) refl (is_referenced m a) e
+  where
+    go : (o : Option NameView) → covering m.info.names a ≡ o → (w : Bool) → base_by o w (entry_base m a) ≡ Some b → IsNameText b.text
+    go (Some v) f w e = subst (λ (x : Base). IsNameText x.text) (same-base (given_base v) b e) (covering-text m.info.names a v are f)
+    go None f true e = subst (λ (x : Base). IsNameText x.text) (same-base (entry_base m a) b e) (entry_start-text m a are)
+    go None f false e = absurd cc

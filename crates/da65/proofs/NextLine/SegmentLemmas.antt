@@ -1,0 +1,66 @@
+-- The segment of the group before.
+use Rattle.std.proofs.Common.{◌≡◌, ◌∙◌, ℕ, zero, suc, ◌+◌, ◌-◌, ◌<◌, true, false, List, length, Option, Some, None, refl, ap, arith, []}
+use Rattle.std.proofs.lemmas.Bool.{cond-true, cond-false, cond_both}
+use Rattle.std.proofs.lemmas.Slice.Eq.{bytes_eq-Decides}
+use Rattle.map65.specs.MapView.{MapView}
+use Rattle.map65.specs.Roles.{is_skip, role_of}
+use Rattle.da65.specs.Groups.{begins, group_len, stride_at}
+use Rattle.da65.specs.Lines.{IsGroupStart}
+use Rattle.da65.specs.Segments.{is_same_segment, segment_before}
+use Rattle.map65.specs.Segments.{segment_at}
+use Rattle.da65.proofs.Groups.GroupLemmas.{begins-inside, begins-skip, begins-true, group-fits, group-some, left-within, stride-group}
+use Rattle.info65.specs.Segments.{segment_covering}
+
+segment-here : (m : MapView) (k : ℕ) → begins m (m.image.start + k) ≡ true → segment_before m (suc k) ≡ segment_at m (m.image.start + k)
+unfolding segment_before
+segment-here m k is = cond-true (begins m (m.image.start + k)) _ _ is
+
+segment-kept : (m : MapView) (k : ℕ) → begins m (m.image.start + k) ≡ false → segment_before m (suc k) ≡ segment_before m k
+unfolding segment_before
+segment-kept m k is = cond-false (begins m (m.image.start + k)) _ _ is
+
+pub segment-first : (m : MapView) → segment_before m 0 ≡ None
+unfolding segment_before
+segment-first m = refl
+
+-- past a skipped byte
+pub segment-skip : (m : MapView) (k : ℕ) → k < length m.image.bytes → is_skip (role_of m.info (m.image.start + k)) ≡ true → segment_before m (k + 1) ≡ segment_before m k
+segment-skip m k low skip = let next : k + 1 ≡ suc k = omega arith in ap (segment_before m) next ∙ segment-kept m k (begins-skip m k low skip)
+
+-- inside a group
+segment-inside : (m : MapView) (k n : ℕ) → IsGroupStart m k → n < group_len m (m.image.start + k) → segment_before m (k + suc n) ≡ segment_at m (m.image.start + k)
+segment-inside m k zero start low =
+    let next : k + suc zero ≡ suc k = omega arith in
+    ap (segment_before m) next ∙ segment-here m k (begins-true m k start.inside start.shown start.place.group)
+segment-inside m k (suc n) start low =
+    let i : ℕ = k + suc n in
+    let next : k + suc (suc n) ≡ suc i = omega arith in
+    let fits = group-fits m k start.place start.inside start.shown in
+    let stride = stride-group m (m.image.start + k) start.shown in
+    ap (segment_before m) next
+    ∙ segment-kept m i (begins-inside m i (omega (arith, low, fits)) (left-within (stride_at m) m.image.start k i start.place.group (omega arith) (omega (arith, low, stride))))
+    ∙ segment-inside m k n start (omega (arith, low))
+
+-- after a group
+pub segment-next : (m : MapView) (k : ℕ) → IsGroupStart m k → segment_before m (k + group_len m (m.image.start + k)) ≡ segment_at m (m.image.start + k)
+segment-next m k start =
+    let some = group-some m k start.place start.inside start.shown in
+    let place : k + group_len m (m.image.start + k) ≡ k + suc (group_len m (m.image.start + k) - 1) = omega (arith, some) in
+    ap (segment_before m) place ∙ segment-inside m k (group_len m (m.image.start + k) - 1) start (omega (arith, some))
+
+-- where each address is of the default
+pub segment-none : (m : MapView) (k : ℕ) → ((a : ℕ) → segment_at m a ≡ None) → segment_before m k ≡ None
+unfolding segment_before
+segment-none m zero none = refl
+segment-none m (suc k) none =
+    cond_both (begins m (m.image.start + k)) (segment_at m (m.image.start + k)) (segment_before m k) (λ s. s ≡ None) (λ _. none (m.image.start + k)) (λ _. segment-none m k none)
+
+pub same-segment : (s t : Option (List ℕ)) → is_same_segment s t ≡ true → s ≡ t
+same-segment None None same = refl
+same-segment (Some s) (Some t) same = ap (λ (x : List ℕ). Some x) ((bytes_eq-Decides s t).0 same)
+same-segment _ _ same = absurd cc
+
+-- without segments there is none
+pub bare-segment : (m : MapView) (a : ℕ) → m.info.segments ≡ [] → segment_at m a ≡ None
+unfolding segment_at segment_covering
+bare-segment m a none = rw none refl

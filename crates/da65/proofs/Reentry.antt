@@ -1,0 +1,3 @@
+-- Whether a segment is entered again.
+pub mod KeySetLemmas
+pub mod ReentryLemmas

@@ -1,0 +1,304 @@
+-- Which groups are left to decide whether a segment is entered again.
+use Rattle.std.proofs.Common.{◌≡◌, ◌∙◌, ◌+◌, ◌<◌, ◌&&◌, ◌||◌, ℕ, Bool, List, [], ◌∷◌, true, false, ap, length, map, not, refl, subst, sym}
+use Rattle.std.specs.Prelude.{◌==◌, Option, None, Some, codes, is_some}
+use Rattle.std.specs.Option.{option_or}
+use Rattle.std.specs.Str.{bytes_eq}
+use Rattle.std.proofs.lemmas.Bool.{eq-eqb, eqb-true, false≢true, false_from_ne_true}
+use Rattle.std.proofs.lemmas.Slice.Eq.{bytes_eq-Decides}
+use Rattle.info65.specs.Code.Segments.{segment_seen}
+use Rattle.info65.specs.Segments.{AreSegments, first_named, segment_covering, segment_key}
+use Rattle.info65.specs.Views.{InfoView, SegmentView}
+use Rattle.info65.specs.declared.information.segment.SegmentSpec.{SegmentSpec}
+use Rattle.info65.proofs.Public.{covering_keyed, none_keyed, one_key, some_keyed}
+use Rattle.map65.specs.ImageView.{ImageView}
+use Rattle.map65.specs.MapView.{MapView}
+use Rattle.map65.specs.Roles.{is_skip, role_of}
+use Rattle.da65.specs.SegmentReentry.{enters_again, is_entered_again, leads_back, segment_name}
+use Rattle.da65.specs.Code.SegmentReentry.{IsAfter, IsDecidedFrom, IsKeyed, IsKnownFrom, IsNew, by_key, has_had, is_back, is_same_key, of_name}
+use Rattle.da65.specs.declared.runs.segment_reentry.Entered.{Entered}
+use Rattle.da65.specs.Groups.{IsGroupPlace, group_addresses, group_len, groups_from}
+use Rattle.da65.specs.Segments.{is_same_segment}
+use Rattle.map65.specs.Segments.{segment_at}
+use Rattle.da65.proofs.Groups.GroupLemmas.{groups-end, groups-first, groups-next, groups-skip}
+use Rattle.da65.proofs.NextLine.SegmentLemmas.{bare-segment}
+
+-- ---- keys
+
+by_option : {X P : Type 0} (o : Option X) → ((x : X) → o ≡ Some x → P) → (o ≡ None → P) → P
+by_option None some none = none refl
+by_option (Some x) some none = some x refl
+
+alike : (b c : Bool) → (b ≡ true → c ≡ true) → (c ≡ true → b ≡ true) → b ≡ c
+alike true false f g = absurd (false≢true (f refl))
+alike false true f g = absurd (false≢true (g refl))
+alike _ _ f g = refl
+
+same_some : {X : Type 0} {x y : X} → ◌≡◌ {A = Option X} (Some x) (Some y) → x ≡ y
+same_some is = cc
+
+-- the keys of two names are equal exactly if the names are
+key-tells : (segments : List SegmentView) (n t : List ℕ) (k l : ℕ) → AreSegments segments → first_named segments n ≡ Some k → first_named segments t ≡ Some l → (k == l) ≡ bytes_eq n t
+key-tells segments n t k l are is also =
+    alike (k == l) (bytes_eq n t)
+    (λ yes. (bytes_eq-Decides n t).1 (one_key segments n t k are is (also ∙ ap (λ (x : ℕ). Some x) (sym (eqb-true k l yes)))))
+    (λ yes. eq-eqb k l (same_some (sym is ∙ ap (first_named segments) ((bytes_eq-Decides n t).0 yes) ∙ also)))
+
+-- names whose keys are not equal are not
+key-apart : (segments : List SegmentView) (n t : List ℕ) (o p : Option ℕ) → first_named segments n ≡ o → first_named segments t ≡ p → (o ≡ p → ⊥) → bytes_eq n t ≡ false
+key-apart segments n t o p is also apart = false_from_ne_true (bytes_eq n t) (λ yes. apart (sym is ∙ ap (first_named segments) ((bytes_eq-Decides n t).0 yes) ∙ also))
+
+same-keys : (segments : List SegmentView) (s t : Option (List ℕ)) (k l : Option ℕ) → AreSegments segments → IsKeyed segments s k → IsKeyed segments t l → is_same_key k l ≡ is_same_segment s t
+same-keys segments None t (Some k) l are is also = absurd is
+same-keys segments (Some n) t None l are is also = absurd is
+same-keys segments s None k (Some l) are is also = absurd also
+same-keys segments s (Some u) k None are is also = absurd also
+same-keys segments (Some n) (Some u) (Some k) (Some l) are is also = key-tells segments n u k l are is also
+same-keys segments s t k l are is also = refl
+
+-- the key of the name by which a segment is compared
+pub record IsNameKey (segments : List SegmentView) (n : List ℕ) (key : Option ℕ) : Type 0 where
+  pub is : first_named segments n ≡ key
+  pub code : key ≡ None → n ≡ codes "CODE"
+
+name-keyed : (segments : List SegmentView) (s : Option (List ℕ)) (k code : Option ℕ) → IsKeyed segments s k → code ≡ first_named segments (codes "CODE") → IsNameKey segments (segment_name s) (option_or k code)
+name-keyed segments None None code is also = record { is = sym also; code = λ none. refl }
+name-keyed segments (Some n) (Some k) code is also = record { is = is; code = λ none. absurd cc }
+name-keyed segments _ _ code is also = absurd is
+
+code-name : (n : List ℕ) (b : Bool) → n ≡ codes "CODE" → (b && bytes_eq (codes "CODE") n) ≡ b
+code-name n true is = (bytes_eq-Decides (codes "CODE") n).1 (sym is)
+code-name n false is = refl
+
+-- what is asked of a name is asked of its key
+asked-by-key : (segments : List SegmentView) (test : Option ℕ → Bool) (n : List ℕ) (key : Option ℕ) → IsNameKey segments n key → of_name segments test n ≡ test key
+asked-by-key segments test n None k = ap (λ (o : Option ℕ). by_key test o n) k.is ∙ code-name n (test None) (k.code refl)
+asked-by-key segments test n (Some key) k = ap (λ (o : Option ℕ). by_key test o n) k.is
+
+or-code : (b c : Bool) → (true && c) ≡ (c || (b && c))
+or-code b true = refl
+or-code true false = refl
+or-code false false = refl
+
+-- one name more, by its key
+added-by-key : (segments : List SegmentView) (test more : Option ℕ → Bool) (n t : List ℕ) (key : Option ℕ) → AreSegments segments → IsNameKey segments n key → ((k : Option ℕ) → more k ≡ (is_same_key key k || test k))
+    → of_name segments more t ≡ (bytes_eq n t || of_name segments test t)
+added-by-key segments test more n t None are name after =
+    by_option (first_named segments t)
+    (λ k is.
+    let miss = key-apart segments n t None (Some k) name.is is (λ e. absurd cc) in
+    ap (λ (o : Option ℕ). by_key more o t) is ∙ after (Some k)
+    ∙ ap (λ (b : Bool). b || test (Some k)) (sym miss)
+    ∙ ap (λ (o : Option ℕ). bytes_eq n t || by_key test o t) (sym is))
+    (λ none.
+    ap (λ (o : Option ℕ). by_key more o t) none
+    ∙ ap (λ (b : Bool). b && bytes_eq (codes "CODE") t) (after None)
+    ∙ or-code (test None) (bytes_eq (codes "CODE") t)
+    ∙ ap (λ (u : List ℕ). bytes_eq u t || (test None && bytes_eq (codes "CODE") t)) (sym (name.code refl))
+    ∙ ap (λ (o : Option ℕ). bytes_eq n t || by_key test o t) (sym none))
+added-by-key segments test more n t (Some j) are name after =
+    by_option (first_named segments t)
+    (λ k is.
+    ap (λ (o : Option ℕ). by_key more o t) is ∙ after (Some k)
+    ∙ ap (λ (b : Bool). b || test (Some k)) (key-tells segments n t j k are name.is is)
+    ∙ ap (λ (o : Option ℕ). bytes_eq n t || by_key test o t) (sym is))
+    (λ none.
+    let miss = key-apart segments n t (Some j) None name.is none (λ e. absurd cc) in
+    ap (λ (o : Option ℕ). by_key more o t) none
+    ∙ ap (λ (b : Bool). b && bytes_eq (codes "CODE") t) (after None)
+    ∙ ap (λ (b : Bool). b || (test None && bytes_eq (codes "CODE") t)) (sym miss)
+    ∙ ap (λ (o : Option ℕ). bytes_eq n t || by_key test o t) (sym none))
+
+none-asked : (segments : List SegmentView) (test : Option ℕ → Bool) (t : List ℕ) → ((k : Option ℕ) → test k ≡ false) → of_name segments test t ≡ false
+none-asked segments test t none = none_by (first_named segments t)
+  where
+    none_by : (o : Option ℕ) → by_key test o t ≡ false
+    none_by (Some k) = none (Some k)
+    none_by None = ap (λ (b : Bool). b && bytes_eq (codes "CODE") t) (none None)
+
+-- the key of an address is that of its segment
+keyed-by : (segments : List SegmentView) (s : Option (List ℕ)) (k : Option ℕ) → (s ≡ None → k ≡ None) → ((n : List ℕ) → s ≡ Some n → (k ≡ first_named segments n) × (is_some (first_named segments n) ≡ true)) → IsKeyed segments s k
+keyed-by segments None None none some = tt
+keyed-by segments None (Some k) none some = let wrong : ◌≡◌ {A = Option ℕ} (Some k) None = none refl in absurd cc
+keyed-by segments (Some n) None none some = let h = some n refl in absurd (false≢true (ap is_some h.0 ∙ h.1))
+keyed-by segments (Some n) (Some k) none some = sym (some n refl).0
+
+keyed-at : (segments : List SegmentView) (a : ℕ) (key : Option ℕ) → AreSegments segments → key ≡ segment_key segments a → IsKeyed segments (segment_covering segments a) key
+keyed-at segments a key are is =
+    keyed-by segments (segment_covering segments a) key
+    (λ none. is ∙ none_keyed segments a none)
+    (λ n some. (is ∙ some_keyed segments a n some, covering_keyed segments a n are some))
+
+pub keyed-map : (m : MapView) (i : InfoView) (a : ℕ) (key : Option ℕ) → m.info ≡ i → AreSegments i.segments → key ≡ segment_key i.segments a → IsKeyed m.info.segments (segment_at m a) key
+unfolding segment_at
+keyed-map m i a key same are is = keyed-at m.info.segments a key (subst (λ (x : InfoView). AreSegments x.segments) (sym same) are) (is ∙ ap (λ (x : InfoView). segment_key x.segments a) (sym same))
+
+-- ---- names that are kept
+
+-- ---- groups that are left
+
+enters-step : (last s : Option (List ℕ)) (had : List (List ℕ)) (ss : List (Option (List ℕ))) → enters_again last had (s ∷ ss) ≡ (leads_back last had s || enters_again s (segment_name s ∷ had) ss)
+unfolding enters_again
+enters-step last s had ss = refl
+
+enters-none : (last : Option (List ℕ)) (had : List (List ℕ)) → enters_again last had [] ≡ false
+unfolding enters_again
+enters-none last had = refl
+
+-- a segment line leads to s, if a group had a segment whose name passes the test
+abbrev pub back_by : Option (List ℕ) → (List ℕ → Bool) → Option (List ℕ) → Bool
+back_by last test s = not (is_same_segment last s) && test (segment_name s)
+
+decided-first : (m : MapView) (last : Option (List ℕ)) (test : List ℕ → Bool) → last ≡ None → ((t : List ℕ) → test t ≡ false) → IsDecidedFrom m 0 last test
+unfolding is_entered_again
+decided-first m last test new none = record {
+  had = [];
+  same = λ t. sym (none t);
+  rest = ap (λ (l : Option (List ℕ)). enters_again l [] (map (segment_at m) (groups_from m 0))) new ∙ ap (λ (gs : List ℕ). enters_again None [] (map (segment_at m) gs)) (sym (groups-first m));
+}
+
+decided-skip : (m : MapView) (k : ℕ) (last : Option (List ℕ)) (test : List ℕ → Bool) → IsGroupPlace m k → k < length m.image.bytes → is_skip (role_of m.info (m.image.start + k)) ≡ true → IsDecidedFrom m k last test → IsDecidedFrom m (k + 1) last test
+decided-skip m k last test place low skip d = record {
+  had = d.had;
+  same = d.same;
+  rest = ap (λ (gs : List ℕ). enters_again last d.had (map (segment_at m) gs)) (sym (groups-skip m k place low skip)) ∙ d.rest;
+}
+
+-- the group that begins with the k-th byte comes first
+decided-here : (m : MapView) (k : ℕ) (last : Option (List ℕ)) (test : List ℕ → Bool) → IsGroupPlace m k → k < length m.image.bytes → is_skip (role_of m.info (m.image.start + k)) ≡ false → (d : IsDecidedFrom m k last test)
+    → (back_by last test (segment_at m (m.image.start + k)) || enters_again (segment_at m (m.image.start + k)) (segment_name (segment_at m (m.image.start + k)) ∷ d.had) (map (segment_at m) (groups_from m (k + group_len m (m.image.start + k))))) ≡ is_entered_again m
+decided-here m k last test place low shown d =
+    let s : Option (List ℕ) = segment_at m (m.image.start + k) in
+    let ss : List (Option (List ℕ)) = map (segment_at m) (groups_from m (k + group_len m (m.image.start + k))) in
+    ap (λ (b : Bool). (not (is_same_segment last s) && b) || enters_again s (segment_name s ∷ d.had) ss) (sym (d.same (segment_name s)))
+    ∙ sym (enters-step last s d.had ss)
+    ∙ ap (λ (gs : List ℕ). enters_again last d.had (map (segment_at m) gs)) (sym (groups-next m k place low shown))
+    ∙ d.rest
+
+decided-back : (m : MapView) (k : ℕ) (last : Option (List ℕ)) (test : List ℕ → Bool) → IsGroupPlace m k → k < length m.image.bytes → is_skip (role_of m.info (m.image.start + k)) ≡ false → IsDecidedFrom m k last test
+    → back_by last test (segment_at m (m.image.start + k)) ≡ true → true ≡ is_entered_again m
+decided-back m k last test place low shown d back =
+    let here = decided-here m k last test place low shown d in
+    ap (λ (b : Bool). b || enters_again (segment_at m (m.image.start + k)) (segment_name (segment_at m (m.image.start + k)) ∷ d.had) (map (segment_at m) (groups_from m (k + group_len m (m.image.start + k))))) (sym back) ∙ here
+
+decided-next : (m : MapView) (k len : ℕ) (last s : Option (List ℕ)) (test then : List ℕ → Bool) → IsGroupPlace m k → k < length m.image.bytes → is_skip (role_of m.info (m.image.start + k)) ≡ false → IsDecidedFrom m k last test
+    → back_by last test (segment_at m (m.image.start + k)) ≡ false → len ≡ group_len m (m.image.start + k)
+    → s ≡ segment_at m (m.image.start + k) → ((t : List ℕ) → then t ≡ (bytes_eq (segment_name (segment_at m (m.image.start + k))) t || test t)) → IsDecidedFrom m (k + len) s then
+decided-next m k len last s test then place low shown d back is_len is_s after =
+    let here = decided-here m k last test place low shown d in
+    let name : List ℕ = segment_name (segment_at m (m.image.start + k)) in
+    record {
+      had = name ∷ d.had;
+      same = λ t. ap (λ (b : Bool). bytes_eq name t || b) (d.same t) ∙ sym (after t);
+      rest = ap (λ (n : ℕ). enters_again s (name ∷ d.had) (map (segment_at m) (groups_from m (k + n)))) is_len
+          ∙ ap (λ (l : Option (List ℕ)). enters_again l (name ∷ d.had) (map (segment_at m) (groups_from m (k + group_len m (m.image.start + k))))) is_s
+          ∙ ap (λ (b : Bool). b || enters_again (segment_at m (m.image.start + k)) (name ∷ d.had) (map (segment_at m) (groups_from m (k + group_len m (m.image.start + k))))) (sym back)
+          ∙ here;
+    }
+
+decided-end : (m : MapView) (k : ℕ) (last : Option (List ℕ)) (test : List ℕ → Bool) → k ≡ length m.image.bytes → IsDecidedFrom m k last test → false ≡ is_entered_again m
+decided-end m k last test end d =
+    sym (enters-none last d.had)
+    ∙ ap (λ (gs : List ℕ). enters_again last d.had (map (segment_at m) gs)) (sym (groups-end m k end))
+    ∙ d.rest
+
+-- ---- what a map and its image tell
+
+pub count-told : (m : MapView) (image : ImageView) (bytes : List ℕ) → m.image ≡ image → bytes ≡ image.bytes → length bytes ≡ length m.image.bytes
+count-told m image bytes same is = ap length (is ∙ ap (λ (i : ImageView). i.bytes) (sym same))
+
+-- the k-th byte has this address
+pub record IsByte (m : MapView) (k a : ℕ) : Type 0 where
+  pub address : a ≡ m.image.start + k
+  pub low : k < length m.image.bytes
+
+pub byte-told : (m : MapView) (image : ImageView) (bytes : List ℕ) (start k : ℕ) → m.image ≡ image → bytes ≡ image.bytes → start ≡ image.start → k < length bytes → IsByte m k (start + k)
+byte-told m image bytes start k same are is low = record {
+  address = ap (λ (n : ℕ). n + k) (is ∙ ap (λ (i : ImageView). i.start) (sym same));
+  low = subst (λ (n : ℕ). k < n) (count-told m image bytes same are) low;
+}
+
+-- what is asked of its address is so of that byte
+pub skip-told : (m : MapView) (k a : ℕ) (result t : Bool) → IsByte m k a → result ≡ is_skip (role_of m.info a) → result ≡ t → is_skip (role_of m.info (m.image.start + k)) ≡ t
+skip-told m k a result t here is same = ap (λ (n : ℕ). is_skip (role_of m.info n)) (sym here.address) ∙ sym is ∙ same
+
+-- ---- what is known by keys
+
+pub segments-told : (m : MapView) (i : InfoView) → m.info ≡ i → AreSegments i.segments → AreSegments m.info.segments
+segments-told m i same are = subst (λ (x : InfoView). AreSegments x.segments) (sym same) are
+
+-- the keys of the segment of this byte, and of its name
+pub record HasKeys (m : MapView) (k : ℕ) (segment name : Option ℕ) : Type 0 where
+  pub sound : AreSegments m.info.segments
+  pub keyed : IsKeyed m.info.segments (segment_at m (m.image.start + k)) segment
+  pub named : IsNameKey m.info.segments (segment_name (segment_at m (m.image.start + k))) name
+
+pub keys-told : (m : MapView) (i : InfoView) (k a : ℕ) (segment name code : Option ℕ) → m.info ≡ i → AreSegments i.segments → IsByte m k a → IsKeyed m.info.segments (segment_at m a) segment → code ≡ first_named i.segments (codes "CODE") → name ≡ option_or segment code
+    → HasKeys m k segment name
+keys-told m i k a segment name code same are here keyed first is =
+    let segments : List SegmentView = m.info.segments in
+    let s : Option (List ℕ) = segment_at m (m.image.start + k) in
+    let keys : IsKeyed segments s segment = subst (λ (n : ℕ). IsKeyed segments (segment_at m n) segment) here.address keyed in
+    record {
+      sound = segments-told m i same are;
+      keyed = keys;
+      named = subst (IsNameKey segments (segment_name s)) (sym is) (name-keyed segments s segment code keys (first ∙ ap (λ (x : InfoView). first_named x.segments (codes "CODE")) (sym same)));
+    }
+
+pub known-first : (m : MapView) (e : Entered) → IsNew e → IsKnownFrom m 0 e
+known-first m e new = record {
+  segment = None;
+  keyed = subst (λ (k : Option ℕ). IsKeyed m.info.segments None k) (sym new.last) tt;
+  decided = decided-first m None (of_name m.info.segments (has_had e)) refl (λ t. none-asked m.info.segments (has_had e) t new.had);
+}
+
+pub known-skip : (m : MapView) (k : ℕ) (e : Entered) → IsGroupPlace m k → k < length m.image.bytes → is_skip (role_of m.info (m.image.start + k)) ≡ true → IsKnownFrom m k e → IsKnownFrom m (k + 1) e
+known-skip m k e place low skip known = record {
+  segment = known.segment;
+  keyed = known.keyed;
+  decided = decided-skip m k known.segment (of_name m.info.segments (has_had e)) place low skip known.decided;
+}
+
+back-keys : (m : MapView) (k : ℕ) (e : Entered) (segment name : Option ℕ) → HasKeys m k segment name → (known : IsKnownFrom m k e)
+    → back_by known.segment (of_name m.info.segments (has_had e)) (segment_at m (m.image.start + k)) ≡ is_back e segment name
+back-keys m k e segment name keys known =
+    let segments : List SegmentView = m.info.segments in
+    let s : Option (List ℕ) = segment_at m (m.image.start + k) in
+    ap (λ (b : Bool). not b && of_name segments (has_had e) (segment_name s)) (sym (same-keys segments known.segment s e.last segment keys.sound known.keyed keys.keyed))
+    ∙ ap (λ (b : Bool). not (is_same_key e.last segment) && b) (asked-by-key segments (has_had e) (segment_name s) name keys.named)
+
+pub known-back : (m : MapView) (k : ℕ) (e : Entered) (segment name : Option ℕ) → IsGroupPlace m k → k < length m.image.bytes → is_skip (role_of m.info (m.image.start + k)) ≡ false → HasKeys m k segment name → IsKnownFrom m k e
+    → is_back e segment name ≡ true → true ≡ is_entered_again m
+known-back m k e segment name place low shown keys known back =
+    decided-back m k known.segment (of_name m.info.segments (has_had e)) place low shown known.decided (back-keys m k e segment name keys known ∙ back)
+
+pub known-next : (m : MapView) (k len : ℕ) (e new : Entered) (segment name : Option ℕ) → IsGroupPlace m k → k < length m.image.bytes → is_skip (role_of m.info (m.image.start + k)) ≡ false → HasKeys m k segment name → IsKnownFrom m k e
+    → is_back e segment name ≡ false → len ≡ group_len m (m.image.start + k) → IsAfter e new segment name → IsKnownFrom m (k + len) new
+known-next m k len e new segment name place low shown keys known back is_len after =
+    let segments : List SegmentView = m.info.segments in
+    let s : Option (List ℕ) = segment_at m (m.image.start + k) in
+    record {
+      segment = s;
+      keyed = subst (IsKeyed segments s) (sym after.last) keys.keyed;
+      decided = decided-next m k len known.segment s (of_name segments (has_had e)) (of_name segments (has_had new)) place low shown known.decided (back-keys m k e segment name keys known ∙ back) is_len refl
+          (λ t. added-by-key segments (has_had e) (has_had new) (segment_name s) t name keys.sound keys.named after.had);
+    }
+
+pub known-end : (m : MapView) (k : ℕ) (e : Entered) → k ≡ length m.image.bytes → IsKnownFrom m k e → false ≡ is_entered_again m
+known-end m k e end known = decided-end m k known.segment (of_name m.info.segments (has_had e)) end known.decided
+
+-- ---- no segments
+
+enters-default : (m : MapView) (gs : List ℕ) (had : List (List ℕ)) → m.info.segments ≡ [] → enters_again None had (map (segment_at m) gs) ≡ false
+enters-default m [] had none = enters-none None had
+enters-default m (a ∷ gs) had none =
+    ap (λ (s : Option (List ℕ)). enters_again None had (s ∷ map (segment_at m) gs)) (bare-segment m a none)
+    ∙ enters-step None None had (map (segment_at m) gs)
+    ∙ enters-default m gs (segment_name None ∷ had) none
+
+-- no segment is seen if there is none
+pub none-seen : {Z : Type 0} (m : MapView) (i : InfoView) (specs : List (SegmentSpec Z)) → m.info ≡ i → map segment_seen specs ≡ i.segments → specs ≡ [] → m.info.segments ≡ []
+none-seen m i specs same seen none = ap (λ (x : InfoView). x.segments) same ∙ sym seen ∙ ap (map segment_seen) none
+
+pub never-entered : (m : MapView) → m.info.segments ≡ [] → false ≡ is_entered_again m
+unfolding is_entered_again
+never-entered m none = sym (enters-default m (group_addresses m) [] none)
