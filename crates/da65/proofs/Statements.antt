@@ -3,6 +3,7 @@ pub mod FragmentLaws
 pub mod StandsLaws
 pub mod TableLaws
 pub mod EntryLemmas
+pub mod EachStatement
 pub mod LabelLaws
 pub mod PrintLaws
 pub mod GroupStands

@@ -9,7 +9,7 @@ use Rattle.da65.specs.Code.SkipRanges.{is_skip_range}
 use Rattle.da65.specs.Comments.{comment_at}
 use Rattle.da65.specs.Groups.{IsGroupPlace, group_bytes, group_len, groups_from}
 use Rattle.da65.specs.Listing.{ListingLine, assignment_line, comments, constants, ending_lines, forwards, group_line, group_lines, has_constant_line, line_text, listing, opening_lines, plain, segment_lines, statement_lines, with_empty_line}
-use Rattle.da65.specs.Marks.{HasMarks}
+use Rattle.da65.specs.Marks.{has_marks}
 use Rattle.da65.specs.Segments.{segment_before}
 use Rattle.map65.specs.Segments.{segment_at}
 use Rattle.da65.specs.Statements.{statement_at}
@@ -183,15 +183,14 @@ pub record IsUnmarked (m : MapView) : Type 0 where
   pub comments : (a : ℕ) → comment_at m a ≡ None
   pub segments : (a : ℕ) → segment_at m a ≡ None
 
--- what information, an image, its map, a style and a CPU know of a listing; `marked` says whether it may have separators, segments or comments, and `all` that no range
--- has the type SKIP
+-- what is kept beside a map is what its information says: the style, the CPU, whether a listing can have marks, and whether no range has the
+-- type SKIP
 pub record IsListed (m : MapView) (t : Style) (cpu : Cpu) (marked all : Bool) : Type 0 where
-  pub style_is : t ≡ style_of m.info.settings
-  pub cpu_is : cpu ≡ t.cpu
   pub sound : IsSoundMap m
-  pub unmarked : marked ≡ false → IsUnmarked m
-  pub has_marks : marked ≡ true → HasMarks m.info (style_of m.info.settings)
-  pub listed : all ≡ not (list_any is_skip_range m.info.ranges)
+  pub style_is : t ≡ style_of m.info.settings
+  pub cpu_is : cpu ≡ m.info.settings.cpu
+  pub marks : marked ≡ has_marks m.info (style_of m.info.settings)
+  pub skips : all ≡ not (list_any is_skip_range m.info.ranges)
 
 -- the lines that are left from a place, where the segment is this one
 pub record AreLines (place : ListingPlace) (m : MapView) (segment : Option (List ℕ)) : Type 0 where

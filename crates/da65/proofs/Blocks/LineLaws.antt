@@ -1,30 +1,53 @@
--- Lines that follow each other: where they lead, and their bytes.
-use Rattle.std.proofs.Common.{◌≡◌, ℕ, ◌+◌, List, [], ◌∷◌, ◌++◌, Option, Some, None, refl, ap, ◌∙◌, append_assoc}
+-- Lines that follow each other: where they lead, what is known of names there, and their bytes.
+use Rattle.std.proofs.Common.{◌≡◌, ℕ, ◌+◌, Bool, true, List, ◌∷◌, ◌++◌, map, Option, Some, None, refl, ap, ◌∙◌, append_assoc, []}
 use Rattle.std.specs.Prelude.{Result, Ok, Err}
-use Rattle.std.proofs.lemmas.List.{append-nil}
+use Rattle.std.proofs.lemmas.List.{map-append}
 use Rattle.isa65.specs.declared.cpu.Cpu.{Cpu}
 use Rattle.stmt65.specs.declared.assembling.fault.AsmFault.{AsmFault}
 use Rattle.stmt65.specs.declared.assembling.fault.AsmFaultKind.{AsmFaultKind}
 use Rattle.stmt65.specs.SourceLine.{SourceLine}
 use Rattle.stmt65.specs.Symbols.{Definition}
 use Rattle.stmt65.specs.Meaning.{State, final, after, coded, unless, with_front, fault_of, bytes_of}
+use Rattle.da65.specs.BaseNames.{Names, is_base}
+use Rattle.da65.specs.KnownNames.{Knows, KnowsAll}
+use Rattle.da65.specs.Listing.{ListingLine}
+use Rattle.da65.specs.ReassemblyLaw.{reading_of_line}
+use Rattle.da65.proofs.Blocks.Knowledge.{knows_same}
+
+-- the address and the CPU before a line, and the bases that are known there
+pub record Point : Type 0 where
+  pub at : ℕ
+  pub cpu : Cpu
+  pub knows : ℕ → Bool
+
+abbrev pub point : ℕ → Cpu → (ℕ → Bool) → Point
+point at cpu knows = record { at = at; cpu = cpu; knows = knows }
+
+-- the state there, below these definitions
+abbrev pub state : Point → List Definition → State
+state p above = record { at = p.at; cpu = p.cpu; above = above }
+
+-- From the state at a point the lines lead to another; and in a text that defines all bases they give the bytes without a fault.
+pub record Leads (m : Names) (p : Point) (above : List Definition) (ls : List ListingLine) (bytes : List ℕ) (q : Point) : Type 0 where
+  pub all_above : List Definition
+  pub known : Knows m q.knows all_above
+  pub reaches : final (state p above) (map reading_of_line ls) ≡ state q all_above
+  pub codes : (all : List Definition) → KnowsAll m all → (n : ℕ) → coded all n (state p above) (map reading_of_line ls) ≡ Ok bytes
+
+-- the same from each state at the point
+pub record Gives (m : Names) (p : Point) (ls : List ListingLine) (bytes : List ℕ) (q : Point) : Type 0 where
+  pub leads : (above : List Definition) → Knows m p.knows above → Leads m p above ls bytes q
+
+pub gives_none : (m : Names) (p : Point) → Gives m p [] [] p
+unfolding final coded
+gives_none m p = record { leads = λ above known. record { all_above = above; known = known; reaches = refl; codes = λ all k n. refl } }
+
+-- ---- one after the other
 
 final-append : (s : State) (xs ys : List (Option SourceLine)) → final s (xs ++ ys) ≡ final (final s xs) ys
 unfolding final
 final-append s [] ys = refl
 final-append s (x ∷ xs) ys = final-append (after s x) xs ys
-
-final-one : (s : State) (x : Option SourceLine) → final s (x ∷ []) ≡ after s x
-unfolding final
-final-one s x = refl
-
-final-none : (s : State) → final s [] ≡ s
-unfolding final
-final-none s = refl
-
-coded-none : (all : List Definition) (n : ℕ) (s : State) → coded all n s [] ≡ Ok []
-unfolding coded
-coded-none all n s = refl
 
 coded-append : (all : List Definition) (n : ℕ) (s : State) (xs ys : List (Option SourceLine)) (bs cs : List ℕ)
     → coded all n s xs ≡ Ok bs → ((k : ℕ) → coded all k (final s xs) ys ≡ Ok cs) → coded all n s (xs ++ ys) ≡ Ok (bs ++ cs)
@@ -44,41 +67,37 @@ coded-append all n s (x ∷ xs) ys bs cs h g =
     go None e (Err b) f h ih = let h' = rw (e, f) at h in absurd cc
     go (Some k) e r f h ih = let h' = rw e at h in absurd cc
 
-coded-one : (all : List Definition) (n : ℕ) (s : State) (x : Option SourceLine) (bs : List ℕ) → fault_of all s x ≡ None → bytes_of all s x ≡ bs → coded all n s (x ∷ []) ≡ Ok bs
-unfolding coded
-coded-one all n s x bs e f = rw (e, f) (ap (λ (l : List ℕ). Ok l) (append-nil bs))
-
--- From the state s the lines lead to the address `at` and the CPU, where Above holds of the definitions; and, for each table of all
--- definitions of the text of which Full holds, they give the bytes without a fault.
-pub record Block (Full : List Definition → Type 0) (s : State) (lines : List (Option SourceLine)) (bytes : List ℕ) (at : ℕ) (cpu : Cpu) (Above : List Definition → Type 0) : Type 0 where
-  pub reaches : (final s lines).at ≡ at
-  pub cpu_is : (final s lines).cpu ≡ cpu
-  pub above : Above (final s lines).above
-  pub codes : (all : List Definition) → Full all → (n : ℕ) → coded all n s lines ≡ Ok bytes
-
-pub block_none : (Full Above : List Definition → Type 0) (s : State) (at : ℕ) (cpu : Cpu) → s.at ≡ at → s.cpu ≡ cpu → Above s.above → Block Full s [] [] at cpu Above
-block_none Full Above s at cpu e f h = record {
-  reaches = ap (λ (t : State). t.at) (final-none s) ∙ e;
-  cpu_is = ap (λ (t : State). t.cpu) (final-none s) ∙ f;
-  above = rw (final-none s) h;
-  codes = λ all full n. coded-none all n s;
+pub gives_append : {m : Names} {p q r : Point} {bs cs : List ℕ} (xs ys : List ListingLine) → Gives m p xs bs q → Gives m q ys cs r → Gives m p (xs ++ ys) (bs ++ cs) r
+gives_append {m} {p} {q} {r} {bs} {cs} xs ys g h = record {
+  leads = λ above known.
+      let first = g.leads above known in
+      let others = h.leads first.all_above first.known in
+      record {
+        all_above = others.all_above;
+        known = others.known;
+        reaches =
+            ap (final (state p above)) (map-append reading_of_line xs ys) ∙ final-append (state p above) (map reading_of_line xs) (map reading_of_line ys)
+            ∙ ap (λ (s : State). final s (map reading_of_line ys)) first.reaches ∙ others.reaches;
+        codes = λ all k n.
+            ap (coded all n (state p above)) (map-append reading_of_line xs ys)
+            ∙ coded-append all n (state p above) (map reading_of_line xs) (map reading_of_line ys) bs cs (first.codes all k n) (λ i. rw first.reaches (others.codes all k i));
+      };
 }
 
-pub block_append : (Full P Q : List Definition → Type 0) (s : State) (xs ys : List (Option SourceLine)) (bs cs : List ℕ) (a b : ℕ) (c d : Cpu)
-    → Block Full s xs bs a c P → Block Full (final s xs) ys cs b d Q → Block Full s (xs ++ ys) (bs ++ cs) b d Q
-block_append Full P Q s xs ys bs cs a b c d h g = record {
-  reaches = ap (λ (t : State). t.at) (final-append s xs ys) ∙ g.reaches;
-  cpu_is = ap (λ (t : State). t.cpu) (final-append s xs ys) ∙ g.cpu_is;
-  above = rw (final-append s xs ys) g.above;
-  codes = λ all full n. coded-append all n s xs ys bs cs (h.codes all full n) (λ k. g.codes all full k);
+-- ---- what is known, in other words
+
+pub gives_to : {m : Names} {p : Point} {at : ℕ} {cpu : Cpu} {knows : ℕ → Bool} {ls : List ListingLine} {bytes : List ℕ} (same : ℕ → Bool)
+    → ((v : ℕ) → is_base m v ≡ true → knows v ≡ same v) → Gives m p ls bytes (point at cpu knows) → Gives m p ls bytes (point at cpu same)
+gives_to {m} same is g = record {
+  leads = λ above known.
+      let h = g.leads above known in
+      record { all_above = h.all_above; known = knows_same m _ same h.all_above h.known is; reaches = h.reaches; codes = h.codes };
 }
 
-pub block_one : (Full Above : List Definition → Type 0) (s t : State) (source : SourceLine) (bytes : List ℕ) → after s (Some source) ≡ t → Above t.above
-    → ((all : List Definition) → Full all → fault_of all s (Some source) ≡ None)
-    → ((all : List Definition) → Full all → bytes_of all s (Some source) ≡ bytes) → Block Full s (Some source ∷ []) bytes t.at t.cpu Above
-block_one Full Above s t source bytes e h f g = record {
-  reaches = ap (λ (u : State). u.at) (final-one s (Some source) ∙ e);
-  cpu_is = ap (λ (u : State). u.cpu) (final-one s (Some source) ∙ e);
-  above = rw (final-one s (Some source), e) h;
-  codes = λ all full n. coded-one all n s (Some source) bytes (f all full) (g all full);
+pub gives_from : {m : Names} {q : Point} {at : ℕ} {cpu : Cpu} {knows : ℕ → Bool} {ls : List ListingLine} {bytes : List ℕ} (same : ℕ → Bool)
+    → ((v : ℕ) → is_base m v ≡ true → same v ≡ knows v) → Gives m (point at cpu knows) ls bytes q → Gives m (point at cpu same) ls bytes q
+gives_from {m} same is g = record {
+  leads = λ above known.
+      let h = g.leads above (knows_same m same _ above known is) in
+      record { all_above = h.all_above; known = h.known; reaches = h.reaches; codes = h.codes };
 }

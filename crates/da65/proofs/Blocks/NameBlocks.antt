@@ -1,19 +1,19 @@
--- The lines of constants, of groups and of the whole listing.
-use Rattle.std.proofs.Common.{◌≡◌, ℕ, zero, suc, Bool, true, false, cond, eqb, ◌+◌, ◌-◌, ◌<◌, ◌≤◌, List, [], ◌∷◌, ◌++◌, refl, ap, ◌∙◌, arith}
-use Rattle.std.specs.Prelude.{◌||◌, ◌&&◌, nat_lt}
+-- The lines of constants, and the forward lines of groups.
+use Rattle.std.proofs.Common.{◌≡◌, ℕ, zero, suc, Bool, true, false, eqb, ◌+◌, ◌-◌, ◌<◌, ◌≤◌, ◌∷◌, ◌++◌, refl, ap, ◌∙◌, arith, []}
+use Rattle.std.specs.Prelude.{◌||◌, ◌&&◌, nat_lt, if◌then◌else◌}
 use Rattle.std.proofs.lemmas.Bool.{and_parts, eqb-true, le-ltb, le-leb, lt-ltb}
 use Rattle.std.proofs.lemmas.Bool.Decides.{nat_tests}
 use Rattle.isa65.specs.declared.cpu.Cpu.{Cpu}
-use Rattle.stmt65.specs.SourceLine.{Nothing, SourceLine, Assignment, PlaceAssignment}
-use Rattle.stmt65.specs.Meaning.{State, defined_by}
+use Rattle.stmt65.specs.SourceLine.{Assignment, PlaceAssignment}
+use Rattle.stmt65.specs.Meaning.{defined_by}
 use Rattle.map65.specs.ImageView.{ImageView, end_of}
+use Rattle.map65.specs.MapView.{MapView}
 use Rattle.map65.specs.Spans.{addresses}
-use Rattle.da65.specs.BaseNames.{AreSound, Names, base_name, is_base}
-use Rattle.da65.specs.Listing.{has_constant_line}
-use Rattle.da65.proofs.Blocks.Readings.{IsLayout, Layout, constant_lines, constants, forward_line, forwards, line, lines, with_empty_line}
-use Rattle.da65.specs.KnownNames.{Knows, KnowsAll}
-use Rattle.da65.proofs.Blocks.Knowledge.{knows_same}
-use Rattle.da65.proofs.Blocks.LineBlocks.{KnownBlock, below, defines_base, known_append, known_none, known_same, nothing_stands, quiet_block, source_block}
+use Rattle.da65.specs.BaseNames.{AreSound, Names, base_name, is_base, names_of}
+use Rattle.da65.specs.Listing.{assignment_line, comment_lines, constant_lines, constants, forward_line, forward_lines, forwards, has_constant_line}
+use Rattle.da65.proofs.Blocks.EachLine.{each_comment}
+use Rattle.da65.proofs.Blocks.LineBlocks.{IsQuiet, base_gives, nothing_stands, quiet_beside, quiet_gives}
+use Rattle.da65.proofs.Blocks.LineLaws.{Gives, gives_append, gives_from, gives_none, gives_to, point}
 
 -- ---- what is known at each place
 
@@ -30,14 +30,6 @@ abbrev pub forwards_to : Names → ℕ → ℕ → ℕ → Bool
 forwards_to m at u v = m.has_constant v || (nat_lt v at || (nat_lt at v && nat_lt v u))
 
 -- ---- constants
-
-constant_block : (image : ImageView) (m : Names) (p : ℕ → Bool) (s : State) (u : ℕ) → AreSound image m → Knows m p s.above → is_base m u ≡ true → m.has_constant u ≡ true → p u ≡ false → s.at ≤ 65536
-    → KnownBlock m s (Assignment (base_name m u) u ∷ []) [] s.at s.cpu (λ v. p v || eqb u v)
-unfolding defined_by
-constant_block image m p s u names known base out new room =
-    known_same m s (Assignment (base_name m u) u ∷ []) [] (s.at + 0) s.at s.cpu s.cpu _ _
-    (source_block m s (Assignment (base_name m u) u) [] (nothing_stands (λ all. KnowsAll m all) s) _ (defines_base image m p s (Assignment (base_name m u) u) u names known base new (rw out refl)) (omega arith))
-    (omega arith) refl (λ v b. refl)
 
 apart : (k v : ℕ) → eqb k v ≡ false → nat_lt v k ≡ nat_lt v (k + 1)
 apart k v e = grind (arith, nat_tests)
@@ -69,59 +61,11 @@ constants_skip m k v h b = go (eqb k v) refl
         rw out' refl
     go false e = ap (λ (t : Bool). m.has_constant v && t) (apart k v e)
 
-constant_one : (image : ImageView) (l : Layout) (m : Names) (k : ℕ) (s : State) → IsLayout l → AreSound image m → s.at ≤ 65536 → Knows m (constants_to m k) s.above
-    → KnownBlock m s (constant_lines l m k) [] s.at s.cpu (constants_to m (k + 1))
-unfolding constant_lines
-constant_one image l m k s laid names room known = go (has_constant_line m k) refl
-  where
-    go : (t : Bool) → has_constant_line m k ≡ t → KnownBlock m s (cond t (lines (l.before_constant k) ++ Assignment (base_name m k) k ∷ []) []) [] s.at s.cpu (constants_to m (k + 1))
-    go true f =
-        let both = and_parts (is_base m k) (m.has_constant k) f in
-        let quiet = quiet_block m (constants_to m k) (l.before_constant k) s s.at s.cpu (laid.before_constant k) refl refl room known in
-        let t : State = below s (lines (l.before_constant k)) in
-        let here = constant_block image m (constants_to m k) t k names quiet.above both.0 both.1 (rw both.1 (le-ltb k k (omega arith))) (omega (arith, quiet.reaches, room)) in
-        known_append m s (lines (l.before_constant k)) (Assignment (base_name m k) k ∷ []) [] [] s.at s.at s.cpu s.cpu (constants_to m k) (constants_to m (k + 1)) quiet
-        (known_same m t (Assignment (base_name m k) k ∷ []) [] t.at s.at t.cpu s.cpu _ _ here quiet.reaches quiet.cpu_is (λ v b. constants_step m k v both.1))
-    go false f = known_none m s s.at s.cpu (constants_to m (k + 1)) refl refl (knows_same m _ _ s.above known (λ v b. constants_skip m k v f b))
-
-pub constants_block : (image : ImageView) (l : Layout) (m : Names) (n k : ℕ) (s : State) (at : ℕ) (cpu : Cpu) → IsLayout l → AreSound image m → s.at ≡ at → s.cpu ≡ cpu → at ≤ 65536 → Knows m (constants_to m k) s.above
-    → KnownBlock m s (constants l m n k) [] at cpu (constants_to m (k + n))
-unfolding constants addresses
-constants_block image l m zero k s at cpu laid names e f room known = let z : k + 0 ≡ k = omega arith in rw z (known_none m s at cpu (constants_to m k) e f known)
-constants_block image l m (suc n) k s at cpu laid names e f room known = go (constants_block image l m n (k + 1))
-  where
-    next : k + 1 + n ≡ k + suc n
-    next = omega arith
-
-    go : ((t : State) (at : ℕ) (cpu : Cpu) → IsLayout l → AreSound image m → t.at ≡ at → t.cpu ≡ cpu → at ≤ 65536 → Knows m (constants_to m (k + 1)) t.above → KnownBlock m t (constants l m n (k + 1)) [] at cpu (constants_to m (k + 1 + n)))
-        → KnownBlock m s (constant_lines l m k ++ constants l m n (k + 1)) [] at cpu (constants_to m (k + suc n))
-    go others =
-        let first = constant_one image l m k s laid names (omega (arith, e, room)) known in
-        let rest = others (below s (constant_lines l m k)) at cpu laid names (first.reaches ∙ e) (first.cpu_is ∙ f) room first.above in
-        rw (← next) (known_append m s (constant_lines l m k) (constants l m n (k + 1)) [] [] s.at at s.cpu cpu _ _ first rest)
-
--- with an empty line after the last
-pub empty_line_block : (m : Names) (p : ℕ → Bool) (s : State) (ls : List SourceLine) (at : ℕ) (cpu : Cpu) → at ≤ 65536 → KnownBlock m s ls [] at cpu p → KnownBlock m s (with_empty_line ls) [] at cpu p
-unfolding with_empty_line
-empty_line_block m p s [] at cpu room h = h
-empty_line_block m p s (source ∷ others) at cpu room h =
-    known_append m s (source ∷ others) (line Nothing ∷ []) [] [] at at cpu cpu p p h (quiet_block m p (Nothing ∷ []) (below s (source ∷ others)) at cpu (refl, tt) h.reaches h.cpu_is room h.above)
-
 -- ---- forward lines
 
 -- a base inside the image has no constant line
 pub no-constant : (image : ImageView) (m : Names) (u : ℕ) → AreSound image m → is_base m u ≡ true → image.start ≤ u → u < end_of image → m.has_constant u ≡ false
 no-constant image m u names base low high = names.constants u base ∙ rw (le-leb image.start u low, lt-ltb u (end_of image) high) refl
-
-forward_block : (image : ImageView) (m : Names) (p : ℕ → Bool) (s : State) (u at : ℕ) → AreSound image m → Knows m p s.above → is_base m u ≡ true → m.has_constant u ≡ false → p u ≡ false → s.at ≡ at → at ≤ u
-    → KnownBlock m s (PlaceAssignment (base_name m u) (u - at) ∷ []) [] at s.cpu (λ v. p v || eqb u v)
-unfolding defined_by
-forward_block image m p s u at names known base out new e low =
-    let room : u < 65536 = names.in_space u base in
-    let value : s.at + (u - at) ≡ u = omega arith in
-    known_same m s (PlaceAssignment (base_name m u) (u - at) ∷ []) [] (s.at + 0) at s.cpu s.cpu _ _
-    (source_block m s (PlaceAssignment (base_name m u) (u - at)) [] (nothing_stands (λ all. KnowsAll m all) s) _ (defines_base image m p s (PlaceAssignment (base_name m u) (u - at)) u names known base new (rw (value, out) refl)) (omega arith))
-    (omega arith) refl (λ v b. refl)
 
 forwards_step : (m : Names) (at u v : ℕ) → at < u → (forwards_to m at u v || eqb u v) ≡ forwards_to m at (u + 1) v
 forwards_step m at u v h = grind (arith, nat_tests)
@@ -136,29 +80,49 @@ forwards_skip m at u v h b = ap (λ (t : Bool). m.has_constant v || (nat_lt v at
 forwards_new : (m : Names) (at u : ℕ) → m.has_constant u ≡ false → at < u → forwards_to m at u u ≡ false
 forwards_new m at u out low = rw (out, le-ltb u at (omega arith), le-ltb u u (omega arith), lt-ltb at u low) refl
 
-forward_one : (image : ImageView) (m : Names) (at u : ℕ) (s : State) → AreSound image m → s.at ≡ at → image.start ≤ at → at < u → u < end_of image → Knows m (forwards_to m at u) s.above
-    → KnownBlock m s (forward_line m at u) [] at s.cpu (forwards_to m at (u + 1))
-unfolding forward_line
-forward_one image m at u s names e low up high known = go (is_base m u) refl
-  where
-    go : (t : Bool) → is_base m u ≡ t → KnownBlock m s (cond t (PlaceAssignment (base_name m u) (u - at) ∷ []) []) [] at s.cpu (forwards_to m at (u + 1))
-    go true f =
-        let out = no-constant image m u names f (omega arith) high in
-        known_same m s (PlaceAssignment (base_name m u) (u - at) ∷ []) [] at at s.cpu s.cpu _ _ (forward_block image m (forwards_to m at u) s u at names known f out (forwards_new m at u out up) e (omega arith)) refl refl (λ v b. forwards_step m at u v up)
-    go false f = known_none m s at s.cpu _ e refl (knows_same m _ _ s.above known (λ v b. forwards_skip m at u v f b))
+-- ---- of a map
 
-pub forwards_block : (image : ImageView) (m : Names) (at n u : ℕ) (s : State) (cpu : Cpu) → AreSound image m → s.at ≡ at → s.cpu ≡ cpu → image.start ≤ at → at < u → u + n ≤ end_of image → Knows m (forwards_to m at u) s.above
-    → KnownBlock m s (forwards m at n u) [] at cpu (forwards_to m at (u + n))
-unfolding forwards addresses
-forwards_block image m at zero u s cpu names e f low up high known = let z : u + 0 ≡ u = omega arith in rw z (known_none m s at cpu (forwards_to m at u) e f known)
-forwards_block image m at (suc n) u s cpu names e f low up high known = go (λ t. forwards_block image m at n (u + 1) t cpu names)
-  where
-    next : u + 1 + n ≡ u + suc n
-    next = omega arith
+module _ (m : MapView) (names : AreSound m.image (names_of m)) (at : ℕ) (room : at ≤ 65536) (cpu : Cpu) where
+  abbrev n : Names
+  n = names_of m
 
-    go : ((t : State) → t.at ≡ at → t.cpu ≡ cpu → image.start ≤ at → at < u + 1 → u + 1 + n ≤ end_of image → Knows m (forwards_to m at (u + 1)) t.above → KnownBlock m t (forwards m at n (u + 1)) [] at cpu (forwards_to m at (u + 1 + n)))
-        → KnownBlock m s (forward_line m at u ++ forwards m at n (u + 1)) [] at cpu (forwards_to m at (u + suc n))
-    go others =
-        let first = forward_one image m at u s names e low up (omega arith) known in
-        let rest = others (below s (forward_line m at u)) first.reaches (first.cpu_is ∙ f) low (omega arith) (omega arith) first.above in
-        rw (← next) (known_append m s (forward_line m at u) (forwards m at n (u + 1)) [] [] at at s.cpu cpu _ _ first rest)
+  constant_gives : (v : ℕ) → Gives n (point at cpu (constants_to n v)) (constant_lines m v) [] (point at cpu (constants_to n (v + 1)))
+  unfolding constant_lines defined_by
+  constant_gives v = go (has_constant_line n v) refl
+    where
+      go : (t : Bool) → has_constant_line n v ≡ t → Gives n (point at cpu (constants_to n v)) (if t then comment_lines m v ++ assignment_line n v ∷ [] else []) [] (point at cpu (constants_to n (v + 1)))
+      go true is =
+          let both = and_parts (is_base n v) (n.has_constant v) is in
+          gives_append (comment_lines m v) (assignment_line n v ∷ [])
+          (quiet_gives n at cpu (constants_to n v) (comment_lines m v) (each_comment m IsQuiet (quiet_beside m) v) room)
+          (gives_to (constants_to n (v + 1)) (λ w b. constants_step n v w both.1)
+          (base_gives m.image n (point at cpu (constants_to n v)) (assignment_line n v) (Assignment (base_name n v) v) [] at v names refl
+          (λ above known. nothing_stands _ _) both.0 (rw both.1 (le-ltb v v (omega arith))) (rw both.1 refl) (omega arith) room))
+      go false is = gives_from (constants_to n v) (λ w b. constants_skip n v w is b) (gives_none n (point at cpu (constants_to n (v + 1))))
+
+  pub constants_give : (count v : ℕ) → Gives n (point at cpu (constants_to n v)) (constants m count v) [] (point at cpu (constants_to n (v + count)))
+  unfolding constants addresses
+  constants_give zero v = let z : v + 0 ≡ v = omega arith in rw z (gives_none n (point at cpu (constants_to n v)))
+  constants_give (suc count) v =
+      let next : v + 1 + count ≡ v + suc count = omega arith in
+      rw (← next) (gives_append (constant_lines m v) (constants m count (v + 1)) (constant_gives v) (constants_give count (v + 1)))
+
+  forward_gives : (u : ℕ) → m.image.start ≤ at → at < u → u < end_of m.image → Gives n (point at cpu (forwards_to n at u)) (forward_lines n at u) [] (point at cpu (forwards_to n at (u + 1)))
+  unfolding forward_lines defined_by
+  forward_gives u low up high = go (is_base n u) refl
+    where
+      go : (t : Bool) → is_base n u ≡ t → Gives n (point at cpu (forwards_to n at u)) (if t then forward_line n at u ∷ [] else []) [] (point at cpu (forwards_to n at (u + 1)))
+      go true base =
+          let out = no-constant m.image n u names base (omega arith) high in
+          let value : at + (u - at) ≡ u = omega arith in
+          gives_to (forwards_to n at (u + 1)) (λ v b. forwards_step n at u v up)
+          (base_gives m.image n (point at cpu (forwards_to n at u)) (forward_line n at u) (PlaceAssignment (base_name n u) (u - at)) [] at u names refl
+          (λ above known. nothing_stands _ _) base (forwards_new n at u out up) (rw (value, out) refl) (omega arith) room)
+      go false none = gives_from (forwards_to n at u) (λ v b. forwards_skip n at u v none b) (gives_none n (point at cpu (forwards_to n at (u + 1))))
+
+  pub forwards_give : (count u : ℕ) → m.image.start ≤ at → at < u → u + count ≤ end_of m.image → Gives n (point at cpu (forwards_to n at u)) (forwards n at count u) [] (point at cpu (forwards_to n at (u + count)))
+  unfolding forwards addresses
+  forwards_give zero u low up high = let z : u + 0 ≡ u = omega arith in rw z (gives_none n (point at cpu (forwards_to n at u)))
+  forwards_give (suc count) u low up high =
+      let next : u + 1 + count ≡ u + suc count = omega arith in
+      rw (← next) (gives_append (forward_lines n at u) (forwards n at count (u + 1)) (forward_gives u low up (omega arith)) (forwards_give count (u + 1) low (omega arith) (omega arith)))

@@ -1,7 +1,7 @@
 -- The text of a listing is read line by line.
-use Rattle.std.proofs.Common.{◌≡◌, ℕ, Bool, true, false, cond, eqb, ◌+◌, ◌-◌, ◌<◌, List, [], ◌∷◌, ◌++◌, length, map, Option, Some, None, refl, ap, ◌∙◌, arith, append_assoc}
-use Rattle.std.specs.Prelude.{codes, not, replicate}
-use Rattle.std.specs.List.{filter, flat_map, list_all}
+use Rattle.std.proofs.Common.{◌≡◌, ℕ, Bool, true, false, cond, eqb, ◌+◌, ◌-◌, ◌<◌, List, ◌∷◌, ◌++◌, length, map, Option, Some, None, refl, ap, ◌∙◌, arith, append_assoc, []}
+use Rattle.std.specs.Prelude.{IfSome, codes, not, replicate}
+use Rattle.std.specs.List.{flat_map, list_all}
 use Rattle.std.proofs.lemmas.Bool.{and_parts, cond_both, not-true}
 use Rattle.std.proofs.lemmas.List.Elements.{All-drop, All-take}
 use Rattle.info65.specs.Names as given
@@ -21,20 +21,19 @@ use Rattle.map65.specs.MapView.{MapView, opcodes}
 use Rattle.map65.specs.Roles.{role_of}
 use Rattle.map65.specs.Spans.{addresses}
 use Rattle.da65.specs.BaseNames.{base_name, is_base, names_of}
-use Rattle.da65.specs.Comments.{comment_at}
 use Rattle.da65.specs.Groups.{begins, group_addresses, group_bytes, group_len}
-use Rattle.da65.specs.Listing.{ListingLine, assignment_line, comment_line, comment_lines, comments, constant_lines, constants, ending_lines, forward_lines, forwards, group_line, group_lines, has_constant_line, has_empty_line, label_at, labelled, line_text, lines_of, listing, listing_below, opening_lines, plain, segment_lines, separator, separator_lines, statement_lines, text_of, with_empty_line}
-use Rattle.da65.specs.Segments.{is_same_segment, segment_before, segment_statement}
+use Rattle.da65.specs.Listing.{ListingLine, assignment_line, comment_lines, constant_lines, constants, ending_lines, forward_lines, forwards, group_line, group_lines, has_constant_line, label_at, labelled, line_text, lines_of, listing, listing_below, opening_lines, plain, separator, statement_lines, text_of, with_empty_line}
+use Rattle.da65.specs.Segments.{segment_statement}
 use Rattle.map65.specs.Segments.{segment_at}
 use Rattle.da65.specs.Statements.{statement_at}
 use Rattle.da65.specs.Style.{style_of}
 use Rattle.da65.specs.declared.listing.style.Style.{Style}
 use Rattle.da65.specs.ReassemblyLaw.{TextGivesImage, reading_of_line}
+use Rattle.da65.proofs.Blocks.EachLine.{Each, HoldsBeside, each_append, each_comment, each_ending, each_filtered, each_flat, each_opening}
 use Rattle.da65.proofs.NextLine.CommentLemmas.{comment-printable, segment-printable}
 use Rattle.da65.proofs.Groups.DefinedLemmas.{Defined, defined-base}
-use Rattle.da65.proofs.Groups.GroupLemmas.{group-begun}
 use Rattle.da65.proofs.Statements.LabelLaws.{group_takes}
-use Rattle.da65.proofs.Blocks.MapListing.{listing_gives_image}
+use Rattle.da65.proofs.Blocks.WholeBlock.{listing_gives_image}
 use Rattle.da65.proofs.Names.NameTexts.{IsNameText, base-text}
 use Rattle.da65.proofs.Statements.PrintLaws.{CanPrint, HaveTexts, StatementPrints, group_prints, prints}
 use Rattle.da65.proofs.Groups.ShapeLemmas.{groups_are_groups}
@@ -60,30 +59,12 @@ first_reading bytes r rest h =
 
 -- ---- the lines of a listing
 
-abbrev pub CanPrintAll : Style → List ListingLine → Type 0
-CanPrintAll t [] = Unit {0}
-CanPrintAll t (l ∷ ls) = CanPrint t l × CanPrintAll t ls
-
-text_reads : (t : Style) (ls : List ListingLine) → CanPrintAll t ls → readings (text_of (map (line_text t) ls)) ≡ map reading_of_line ls
+text_reads : (t : Style) (ls : List ListingLine) → Each (CanPrint t) ls → readings (text_of (map (line_text t) ls)) ≡ map reading_of_line ls
 unfolding text_of
 text_reads t [] h = ap (λ (ls : List (List ℕ)). map (λ l. reading_of (parts l)) ls) no_lines
 text_reads t (l ∷ ls) h =
     first_reading (line_text t l) (with_label l.label (source_line l.statement)) (text_of (map (line_text t) ls)) (prints t l h.0)
     ∙ ap (λ (rs : List (Option SourceLine)). reading_of_line l ∷ rs) (text_reads t ls h.1)
-
-both_print : (t : Style) (xs ys : List ListingLine) → CanPrintAll t xs → CanPrintAll t ys → CanPrintAll t (xs ++ ys)
-both_print t [] ys h g = g
-both_print t (x ∷ xs) ys h g = (h.0, both_print t xs ys h.1 g)
-
-flat_print : (t : Style) (f : ℕ → List ListingLine) → ((a : ℕ) → CanPrintAll t (f a)) → (xs : List ℕ) → CanPrintAll t (flat_map f xs)
-flat_print t f h [] = tt
-flat_print t f h (x ∷ xs) = both_print t (f x) (flat_map f xs) (h x) (flat_print t f h xs)
-
-filtered_print : (t : Style) (f : ℕ → List ListingLine) (p : ℕ → Bool) → ((a : ℕ) → p a ≡ true → CanPrintAll t (f a)) → (xs : List ℕ) → CanPrintAll t (flat_map f (filter p xs))
-filtered_print t f p h [] = tt
-filtered_print t f p h (x ∷ xs) =
-    let others = filtered_print t f p h xs in
-    cond_both (p x) (x ∷ filter p xs) (filter p xs) (λ places. CanPrintAll t (flat_map f places)) (λ is. both_print t (f x) (flat_map f (filter p xs)) (h x is) others) (λ _. others)
 
 plain_prints : (t : Style) (s : StatementView) → StatementPrints s → CanPrint t (plain s)
 plain_prints t s h = record { statement = h; room = tt; label = tt }
@@ -94,19 +75,16 @@ blank_prints t = plain_prints t view.blank (record { printable = tt; width = tt;
 remark_prints : (t : Style) (text : List ℕ) → IsPrintable (view.remark text) → CanPrint t (plain (view.remark text))
 remark_prints t text h = plain_prints t (view.remark text) (record { printable = h; width = tt; names = tt })
 
-empty_print : (t : Style) (ls : List ListingLine) → CanPrintAll t ls → CanPrintAll t (with_empty_line ls)
+empty_print : (t : Style) (ls : List ListingLine) → Each (CanPrint t) ls → Each (CanPrint t) (with_empty_line ls)
 empty_print t [] h = tt
-empty_print t (l ∷ ls) h = both_print t (l ∷ ls) (plain view.blank ∷ []) h (blank_prints t, tt)
+empty_print t (l ∷ ls) h = each_append (CanPrint t) (l ∷ ls) (plain view.blank ∷ []) h (blank_prints t, tt)
 
-labelled_print : (t : Style) (label : Option (List ℕ)) (s : StatementView) (a : ℕ) (bytes : List ℕ) → TakesLabel s → StatementPrints s → ((name : List ℕ) → label ≡ Some name → IsNameText name)
-    → CanPrintAll t (labelled t.columns label s a bytes)
-labelled_print t None s a bytes takes h text = (record { statement = h; room = tt; label = tt }, tt)
-labelled_print t (Some name) s a bytes takes h text = go (fits_label t.columns name) refl
+labelled_print : (t : Style) (label : Option (List ℕ)) (s : StatementView) (a : ℕ) (bytes : List ℕ) → TakesLabel s → StatementPrints s → IfSome label IsNameText
+    → Each (CanPrint t) (labelled t.columns label s a bytes)
+labelled_print t None s a bytes takes h is = (record { statement = h; room = tt; label = tt }, tt)
+labelled_print t (Some name) s a bytes takes h is = go (fits_label t.columns name) refl
   where
-    is : IsNameText name
-    is = text name refl
-
-    go : (fits : Bool) → fits_label t.columns name ≡ fits → CanPrintAll t (cond fits (group_line (Some name) s a bytes ∷ []) (plain (view.label name) ∷ group_line None s a bytes ∷ []))
+    go : (fits : Bool) → fits_label t.columns name ≡ fits → Each (CanPrint t) (cond fits (group_line (Some name) s a bytes ∷ []) (plain (view.label name) ∷ group_line None s a bytes ∷ []))
     go true e = (record { statement = h; room = (takes, is.long, e); label = is.name }, tt)
     go false e = (plain_prints t (view.label name) (record { printable = is.long; width = tt; names = is.name }), (record { statement = h; room = tt; label = tt }, tt))
 
@@ -123,101 +101,66 @@ module _ (m : MapView) (placed : IsPlaced m.image) (are : AreBytes m.image.bytes
       let b : Defined m v = defined-base m v is in
       (rw b.is (base-text m v b.base names b.is), base-small m v b.base placed are names b.is)
 
-  comment_prints : (a : ℕ) → CanPrintAll style (comment_lines m a)
-  unfolding comment_lines
-  comment_prints a = go (comment_at m a) refl
-    where
-      go : (o : Option (List ℕ)) → comment_at m a ≡ o → CanPrintAll style (comment_line o)
-      go None e = tt
-      go (Some text) e = (remark_prints style text (comment-printable m a text names e), tt)
+  segment_prints : (o : Option (List ℕ)) (a : ℕ) → segment_at m a ≡ o → CanPrint style (plain (segment_statement o))
+  segment_prints None a e = plain_prints style view.code (record { printable = tt; width = tt; names = tt })
+  segment_prints (Some name) a e = let is = segment-printable m a name segments e in plain_prints style (view.segment name) (record { printable = is.0; width = tt; names = is.1 })
 
-  comments_print : (n a : ℕ) → CanPrintAll style (comments m n a)
-  unfolding comments
-  comments_print n a = flat_print style (comment_lines m) comment_prints (addresses n a)
+  beside_prints : HoldsBeside m (CanPrint style)
+  unfolding separator
+  beside_prints = record {
+    blank = blank_prints style;
+    separates = remark_prints style (replicate 76 45) (omega arith, refl);
+    enters = λ a. segment_prints (segment_at m a) a refl;
+    comment = λ a text e. remark_prints style text (comment-printable m a text names e);
+  }
 
-  constant_prints : (v : ℕ) → CanPrintAll style (constant_lines m v)
+  constant_prints : (v : ℕ) → Each (CanPrint style) (constant_lines m v)
   unfolding constant_lines
   constant_prints v =
-      cond_both (has_constant_line (names_of m) v) (comment_lines m v ++ assignment_line (names_of m) v ∷ []) [] (CanPrintAll style)
+      cond_both (has_constant_line (names_of m) v) (comment_lines m v ++ assignment_line (names_of m) v ∷ []) [] (Each (CanPrint style))
       (λ is.
       let b = base_is v (and_parts (is_base (names_of m) v) _ is).0 in
-      both_print style (comment_lines m v) (assignment_line (names_of m) v ∷ []) (comment_prints v)
+      each_append (CanPrint style) (comment_lines m v) (assignment_line (names_of m) v ∷ []) (each_comment m (CanPrint style) beside_prints v)
       (plain_prints style (view.assignment (base_name (names_of m) v) v) (record { printable = b.0.long; width = b.1; names = b.0.name }), tt))
       (λ _. tt)
 
-  constants_print : (n v : ℕ) → CanPrintAll style (constants m n v)
-  unfolding constants
-  constants_print n v = flat_print style (constant_lines m) constant_prints (addresses n v)
-
-  forward_prints : (first v : ℕ) → CanPrintAll style (forward_lines (names_of m) first v)
+  forward_prints : (first v : ℕ) → Each (CanPrint style) (forward_lines (names_of m) first v)
   unfolding forward_lines
   forward_prints first v =
-      cond_both (is_base (names_of m) v) (plain (view.forward (base_name (names_of m) v) (v - first)) ∷ []) [] (CanPrintAll style)
+      cond_both (is_base (names_of m) v) (plain (view.forward (base_name (names_of m) v) (v - first)) ∷ []) [] (Each (CanPrint style))
       (λ is.
       let b = base_is v is in
       (plain_prints style (view.forward (base_name (names_of m) v) (v - first)) (record { printable = b.0.long; width = omega (arith, b.1); names = b.0.name }), tt))
       (λ _. tt)
 
-  forwards_print : (first n v : ℕ) → CanPrintAll style (forwards (names_of m) first n v)
-  unfolding forwards
-  forwards_print first n v = flat_print style (forward_lines (names_of m) first) (forward_prints first) (addresses n v)
+  label_text : (a : ℕ) → IfSome (label_at (names_of m) a) IsNameText
+  label_text a = cond_both (is_base (names_of m) a) (Some (base_name (names_of m) a)) None (λ o. IfSome o IsNameText) (λ is. (base_is a is).0) (λ _. tt)
 
-  label_text : (a : ℕ) (name : List ℕ) → label_at (names_of m) a ≡ Some name → IsNameText name
-  label_text a name = go (is_base (names_of m) a) refl
-    where
-      go : (t : Bool) → is_base (names_of m) a ≡ t → cond t (Some (base_name (names_of m) a)) None ≡ Some name → IsNameText name
-      go true is e = let same : base_name (names_of m) a ≡ name = cc in rw (← same) (base_is a is).0
-      go false is e = absurd cc
-
-  separator_prints : (a : ℕ) → CanPrintAll style (separator_lines m a)
-  unfolding separator_lines separator
-  separator_prints a = cond_both _ (plain separator ∷ []) [] (CanPrintAll style) (λ _. (remark_prints style (replicate 76 45) (omega arith, refl), tt)) (λ _. tt)
-
-  segment_prints : (a : ℕ) → CanPrintAll style (segment_lines m a)
-  unfolding segment_lines
-  segment_prints a =
-      cond_both (is_same_segment (segment_at m a) (segment_before m (a - m.image.start))) [] (plain (segment_statement (segment_at m a)) ∷ []) (CanPrintAll style)
-      (λ _. tt) (λ _. (go (segment_at m a) refl, tt))
-    where
-      go : (o : Option (List ℕ)) → segment_at m a ≡ o → CanPrint style (plain (segment_statement o))
-      go None e = plain_prints style view.code (record { printable = tt; width = tt; names = tt })
-      go (Some name) e = let is = segment-printable m a name segments e in plain_prints style (view.segment name) (record { printable = is.0; width = tt; names = is.1 })
-
-  opening_print : (a : ℕ) → CanPrintAll style (opening_lines m a)
-  unfolding opening_lines
-  opening_print a =
-      both_print style (separator_lines m a) (segment_lines m a ++ comments m (group_len m a) a) (separator_prints a)
-      (both_print style (segment_lines m a) (comments m (group_len m a) a) (segment_prints a) (comments_print (group_len m a) a))
-
-  ending_prints : (a : ℕ) → CanPrintAll style (ending_lines m a)
-  unfolding ending_lines
-  ending_prints a = cond_both (has_empty_line style (statement_at m a)) (plain view.blank ∷ []) [] (CanPrintAll style) (λ _. (blank_prints style, tt)) (λ _. tt)
-
-  group_print : (a : ℕ) → begins m a ≡ true → CanPrintAll style (group_lines m a)
-  unfolding group_lines statement_lines
+  group_print : (a : ℕ) → begins m a ≡ true → Each (CanPrint style) (group_lines m a)
+  unfolding group_lines statement_lines forwards
   group_print a is =
       let group = groups_are_groups m a is in
       let statement : StatementPrints (statement_at m a) =
       group_prints (names_of m) have_texts (opcodes m) (role_of m.info a) a (group_bytes m a) (All-take (λ b. b < 256) (group_len m a) (bytes_from m.image a) (All-drop (λ b. b < 256) (a - m.image.start) m.image.bytes are))
       group.some (omega (arith, group.long, group.room, placed.room)) group.of in
-      both_print style (opening_lines m a) _ (opening_print a)
-      (both_print style (forwards (names_of m) a (group_len m a - 1) (a + 1)) _ (forwards_print a (group_len m a - 1) (a + 1))
-      (both_print style (labelled style.columns (label_at (names_of m) a) (statement_at m a) a (group_bytes m a)) (ending_lines m a)
-      (labelled_print style (label_at (names_of m) a) (statement_at m a) a (group_bytes m a) (group_takes (names_of m) (opcodes m) (role_of m.info a) a _ (group-begun m a is).shown) statement (label_text a))
-      (ending_prints a)))
+      each_append (CanPrint style) (opening_lines m a) _ (each_opening m (CanPrint style) beside_prints a)
+      (each_append (CanPrint style) (forwards (names_of m) a (group_len m a - 1) (a + 1)) _ (each_flat (CanPrint style) (forward_lines (names_of m) a) (forward_prints a) (addresses (group_len m a - 1) (a + 1)))
+      (each_append (CanPrint style) (labelled style.columns (label_at (names_of m) a) (statement_at m a) a (group_bytes m a)) (ending_lines m a)
+      (labelled_print style (label_at (names_of m) a) (statement_at m a) a (group_bytes m a) (group_takes (names_of m) (opcodes m) (role_of m.info a) a _ group.of) statement (label_text a))
+      (each_ending m (CanPrint style) beside_prints a)))
 
-  groups_print : CanPrintAll style (flat_map (group_lines m) (group_addresses m))
+  groups_print : Each (CanPrint style) (flat_map (group_lines m) (group_addresses m))
   unfolding group_addresses
-  groups_print = filtered_print style (group_lines m) (begins m) group_print (addresses (length m.image.bytes) m.image.start)
+  groups_print = each_filtered (CanPrint style) (group_lines m) (begins m) group_print (addresses (length m.image.bytes) m.image.start)
 
-  below_prints : (limit : ℕ) → CanPrintAll style (listing_below limit m)
-  unfolding listing_below
+  below_prints : (limit : ℕ) → Each (CanPrint style) (listing_below limit m)
+  unfolding listing_below constants
   below_prints limit =
       let title : CanPrint style (plain (view.remark (codes "da65 listing"))) = remark_prints style (codes "da65 listing") (omega arith, refl) in
       let set_cpu : CanPrint style (plain (view.set_cpu m.info.settings.cpu)) = plain_prints style (view.set_cpu m.info.settings.cpu) (record { printable = tt; width = tt; names = tt }) in
-      (title, (blank_prints style, (set_cpu, (blank_prints style, both_print style (with_empty_line (constants m limit 0)) _ (empty_print style (constants m limit 0) (constants_print limit 0)) groups_print))))
+      (title, (blank_prints style, (set_cpu, (blank_prints style, each_append (CanPrint style) (with_empty_line (constants m limit 0)) _ (empty_print style (constants m limit 0) (each_flat (CanPrint style) (constant_lines m) constant_prints (addresses limit 0))) groups_print))))
 
-  pub listing_prints : CanPrintAll style (listing m)
+  pub listing_prints : Each (CanPrint style) (listing m)
   unfolding listing
   listing_prints = below_prints 65536
 

@@ -1,29 +1,34 @@
--- A listing with names, from its first line to its last.
-use Rattle.std.proofs.Common.{◌≡◌, ℕ, Bool, true, false, ◌+◌, ◌<◌, ◌≤◌, List, [], ◌∷◌, ◌++◌, length, refl, arith}
-use Rattle.std.specs.Prelude.{◌||◌, ◌&&◌, not, nat_lt, nat_le}
+-- A listing, from its first line to its last.
+use Rattle.std.proofs.Common.{◌≡◌, ℕ, Bool, true, false, ◌+◌, ◌<◌, ◌≤◌, ◌∷◌, length, refl, arith, []}
+use Rattle.std.specs.Prelude.{◌||◌, ◌&&◌, not, nat_lt, nat_le, codes}
+use Rattle.std.specs.List.{flat_map}
 use Rattle.std.proofs.lemmas.Bool.{le-ltb}
 use Rattle.std.proofs.lemmas.Bool.Decides.{nat_tests}
-use Rattle.isa65.specs.Cpu.{cpu_text, table_of}
 use Rattle.isa65.specs.declared.cpu.Cpu.{Cpu}
-use Rattle.stmt65.specs.SourceLine.{SetCpu, SourceLine}
-use Rattle.stmt65.specs.Meaning.{State, initial}
-use Rattle.map65.specs.ImageView.{ImageView, end_of}
-use Rattle.da65.specs.BaseNames.{AreSound, Names, is_base}
-use Rattle.da65.proofs.Blocks.Readings.{CanBeListed, Groups, Layout, constants, groups_in, line, lines, listing, listing_below, with_empty_line}
-use Rattle.da65.proofs.Blocks.Knowledge.{knows_nothing, knows_same}
-use Rattle.da65.proofs.Blocks.NameBlocks.{constants_block, constants_to, empty_line_block, names_to}
-use Rattle.da65.proofs.Blocks.GroupBlocks.{all_groups_block}
-use Rattle.da65.proofs.Blocks.LineBlocks.{KnownBlock, below, cpu_block, known_append, known_same, quiet_block}
+use Rattle.isa65.specs.declared.cpu.Cpu.TheVariants.{M6502}
+use Rattle.info65.specs.Names as given
+use Rattle.stmt65.specs.Views as view
+use Rattle.stmt65.specs.Meaning.{final, initial, meaning_of}
+use Rattle.map65.specs.ImageView.{AreBytes, ImageView, IsPlaced, end_of}
+use Rattle.map65.specs.MapView.{MapView}
+use Rattle.da65.specs.BaseNames.{AreSound, Names, is_base, names_of}
+use Rattle.da65.specs.Groups.{group_addresses, skips}
+use Rattle.da65.specs.Listing.{ListingLine, constants, group_lines, listing, listing_below, plain, with_empty_line}
+use Rattle.da65.specs.ReassemblyLaw.{ListingGivesImage, NamesAreDefinedOnce, readings_of}
+use Rattle.da65.proofs.Blocks.GroupBlocks.{groups_give}
+use Rattle.da65.proofs.Blocks.Knowledge.{knows_nothing}
+use Rattle.da65.proofs.Blocks.LineBlocks.{cpu_gives, empty_line_gives, quiet_blank, quiet_gives, quiet_remark}
+use Rattle.da65.proofs.Blocks.LineLaws.{Gives, Leads, gives_append, gives_from, gives_to, point}
+use Rattle.da65.proofs.Blocks.NameBlocks.{constants_give, constants_to, names_to}
+use Rattle.da65.proofs.Groups.GroupLemmas.{first_place, groups-first}
+use Rattle.da65.proofs.Names.MapNames.{names_are_sound}
 
 no-constants : (m : Names) (v : ℕ) → false ≡ constants_to m 0 v
-no-constants m v = off (m.has_constant v)
+no-constants m v = rw (le-ltb v 0 (omega arith)) (none (m.has_constant v))
   where
-    off : (t : Bool) → false ≡ (t && nat_lt v 0)
-    off t = rw (le-ltb v 0 (omega arith)) (none t)
-      where
-        none : (t : Bool) → false ≡ (t && false)
-        none true = refl
-        none false = refl
+    none : (t : Bool) → false ≡ (t && false)
+    none true = refl
+    none false = refl
 
 -- below all constants those of the addresses before the image are known, since all bases there are constants
 all-constants : (image : ImageView) (m : Names) (v n : ℕ) → AreSound image m → is_base m v ≡ true → v < n → constants_to m n v ≡ names_to m image.start v
@@ -39,34 +44,50 @@ all-names image m v names base = rw (names.constants v base) (any (nat_le image.
     any true true = refl
     any _ _ = refl
 
-listing_block : (limit : ℕ) (l : Layout) (cpu : Cpu) (m : Names) (image : ImageView) (g : Groups) → 65536 ≤ limit → CanBeListed l cpu m image g
-    → KnownBlock m (initial image.start) (listing_below limit l cpu m image g) image.bytes (end_of image) cpu (λ v. true)
-unfolding listing_below
-listing_block limit l cpu m image g large can =
-    let start : ℕ = image.start in
-    let fits : end_of image ≤ 65536 = can.placed.room in
-    let room : start ≤ 65536 = omega arith in
-    let s : State = initial start in
-    let cs : List SourceLine = with_empty_line (constants l m limit 0) in
-    let gs : List SourceLine = groups_in l m (table_of cpu) image g (length image.bytes) start in
-    let one = quiet_block m (λ v. false) l.before_cpu s start s.cpu can.layout.before_cpu refl refl room (knows_nothing m) in
-    let s1 : State = below s (lines l.before_cpu) in
-    let two = cpu_block m (λ v. false) s1 start cpu one.reaches room one.above in
-    let s2 : State = below s1 (line (SetCpu (cpu_text cpu)) ∷ []) in
-    let three = quiet_block m (λ v. false) l.after_cpu s2 start cpu can.layout.after_cpu two.reaches two.cpu_is room two.above in
-    let head = known_append m s1 (line (SetCpu (cpu_text cpu)) ∷ []) (lines l.after_cpu) [] [] start start cpu cpu (λ v. false) (λ v. false) two three in
-    let s3 : State = below s1 (line (SetCpu (cpu_text cpu)) ∷ lines l.after_cpu) in
-    let four = constants_block image l m limit 0 s3 start cpu can.layout can.names head.reaches head.cpu_is room (knows_same m (λ v. false) (constants_to m 0) s3.above head.above (λ v b. no-constants m v)) in
-    let five = empty_line_block m (constants_to m (0 + limit)) s3 (constants l m limit 0) start cpu room four in
-    let front = known_same m s3 cs [] start start cpu cpu (constants_to m (0 + limit)) (names_to m start) five refl refl (λ v b. all-constants image m v (0 + limit) can.names b (omega (arith, can.names.in_space v b, large))) in
-    let s4 : State = below s3 cs in
-    let six = all_groups_block image m can.names can.bytes fits l can.layout cpu g can.groups s4 can.placed.some front.reaches front.cpu_is front.above in
-    let back = known_append m s3 cs gs [] image.bytes start (end_of image) cpu cpu (names_to m start) (names_to m (end_of image)) front six in
-    let rest = known_append m s1 (line (SetCpu (cpu_text cpu)) ∷ lines l.after_cpu) (cs ++ gs) [] image.bytes start (end_of image) cpu cpu (λ v. false) (names_to m (end_of image)) head back in
-    let all = known_append m s (lines l.before_cpu) (line (SetCpu (cpu_text cpu)) ∷ lines l.after_cpu ++ (cs ++ gs)) [] image.bytes start (end_of image) s.cpu cpu (λ v. false) (names_to m (end_of image)) one rest in
-    known_same m s (listing_below limit l cpu m image g) image.bytes (end_of image) (end_of image) cpu cpu (names_to m (end_of image)) (λ v. true) all refl refl (λ v b. all-names image m v can.names b)
+module _ (m : MapView) (placed : IsPlaced m.image) (are : AreBytes m.image.bytes) (known : given.AreNames m.info.names) (none : skips m ≡ false) where
+  abbrev n : Names
+  n = names_of m
 
-pub whole_block : (l : Layout) (cpu : Cpu) (m : Names) (image : ImageView) (g : Groups) → CanBeListed l cpu m image g
-    → KnownBlock m (initial image.start) (listing l cpu m image g) image.bytes (end_of image) cpu (λ v. true)
-unfolding listing
-whole_block l cpu m image g can = listing_block 65536 l cpu m image g (omega arith) can
+  abbrev cpu : Cpu
+  cpu = m.info.settings.cpu
+
+  names : AreSound m.image n
+  names = names_are_sound m placed are known none
+
+  room : m.image.start ≤ 65536
+  room = omega (arith, placed.room)
+
+  groups : Gives n (point m.image.start cpu (names_to n m.image.start)) (flat_map (group_lines m) (group_addresses m)) m.image.bytes (point (end_of m.image) cpu (names_to n (end_of m.image)))
+  groups =
+      let place : m.image.start + 0 ≡ m.image.start = omega arith in
+      rw (groups-first m) (rw place at (groups_give m names placed are none (length m.image.bytes) 0 (omega arith) (first_place m)))
+
+  below_gives : (limit : ℕ) → 65536 ≤ limit → Gives n (point m.image.start M6502 (λ v. false)) (listing_below limit m) m.image.bytes (point (end_of m.image) cpu (λ v. true))
+  unfolding listing_below
+  below_gives limit large =
+      let start : ℕ = m.image.start in
+      let title : ListingLine = plain (view.remark (codes "da65 listing")) in
+      let front = quiet_gives n start M6502 (λ v. false) (title ∷ plain view.blank ∷ []) (quiet_remark _, (quiet_blank, tt)) room in
+      let set = cpu_gives n start M6502 cpu (λ v. false) room in
+      let blank = quiet_gives n start cpu (λ v. false) (plain view.blank ∷ []) (quiet_blank, tt) room in
+      let named = empty_line_gives n _ (constants m limit 0) start cpu _ room (gives_from (λ v. false) (λ v b. no-constants n v) (constants_give m names start room cpu limit 0)) in
+      let constant = gives_to (names_to n start) (λ v b. all-constants m.image n v (0 + limit) names b (omega (arith, names.in_space v b, large))) named in
+      let listed = gives_to (λ v. true) (λ v b. all-names m.image n v names b) groups in
+      gives_append (title ∷ plain view.blank ∷ []) _ front
+      (gives_append (plain (view.set_cpu cpu) ∷ []) _ set
+      (gives_append (plain view.blank ∷ []) _ blank (gives_append (with_empty_line (constants m limit 0)) _ constant listed)))
+
+  all_leads : Leads n (point m.image.start M6502 (λ v. false)) [] (listing m) m.image.bytes (point (end_of m.image) cpu (λ v. true))
+  unfolding listing
+  all_leads = (below_gives 65536 (omega arith)).leads [] (knows_nothing n)
+
+pub names_are_defined_once : NamesAreDefinedOnce
+names_are_defined_once m b placed are known none base =
+    let all = all_leads m placed are known none in
+    rw all.reaches (all.known.found b base)
+
+pub listing_gives_image : ListingGivesImage
+unfolding meaning_of
+listing_gives_image m placed are known none =
+    let all = all_leads m placed are known none in
+    all.codes (final (initial m.image.start) (readings_of m)).above (rw all.reaches all.known) 1

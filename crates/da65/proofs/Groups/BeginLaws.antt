@@ -1,7 +1,6 @@
 -- Where groups begin, in terms of items and pieces.
 use Rattle.std.proofs.Common.{◌≡◌, ◌∙◌, ◌⊎◌, inl, inr, ℕ, suc, ◌+◌, ◌-◌, ◌*◌, ◌%◌, ◌<◌, Bool, true, false, length, refl, sym, ap, subst, arith, ⊎_elim}
-use Rattle.std.proofs.Math.Nat.{add-mul}
-use Rattle.std.proofs.lemmas.Bool.{cases_eq, cases_lt, eq-eqb, eqb-true, true≢false}
+use Rattle.std.proofs.lemmas.Bool.{cases_eq, eq-eqb, eqb-true, true≢false}
 use Rattle.info65.specs.declared.information.range.RangeType.{RangeType}
 use Rattle.info65.specs.declared.information.range.RangeType.TheVariants as role
 use Rattle.map65.specs.Items.{item_len, size_at}
@@ -9,12 +8,12 @@ use Rattle.map65.specs.MapView.{MapView}
 use Rattle.map65.specs.Pieces.{AreOnePiece}
 use Rattle.map65.specs.Roles.{is_skip, role_of, unit_of}
 use Rattle.map65.specs.Spans.{left_at}
-use Rattle.map65.proofs.Public.{one-role}
-use Rattle.da65.specs.Groups.{BeginsFullLine, BeginsLine, GroupLaw, IsGroupPlace, IsItemOf, begins, group_len, is_whole, limit_at, limit_of, stride_at}
+use Rattle.map65.proofs.Public.{begun as item-begun, one-role}
+use Rattle.da65.specs.Groups.{BeginsFullLine, BeginsLine, GroupLaw, IsGroupPlace, begins, group_len, is_whole, limit_at, limit_of, stride_at}
 use Rattle.da65.proofs.Groups.DefinedLemmas.{IsTable, group-unnamed}
-use Rattle.da65.proofs.Groups.GroupLemmas.{begins-true, group-begun, holder, item-begins, item-begun, item-goes-on, place-of, stride-group, stride-skip}
+use Rattle.da65.proofs.Groups.GroupLemmas.{begins-true, group-begun, holder, item-begins, item-goes-on, place-of, stride-group, stride-skip}
 use Rattle.da65.proofs.Groups.InsideLemmas.{Further, group-piece, item-inside}
-use Rattle.da65.proofs.Groups.PieceLines.{each-full, join, not-full, one-count}
+use Rattle.da65.proofs.Groups.PieceLines.{each-full, further-item, not-full, one-count}
 use Rattle.da65.proofs.Groups.ShapeLemmas.{limit-code, limit-other, limit-whole}
 
 -- a byte that is left over, or item k of its piece, where the items of a line divide k
@@ -93,20 +92,9 @@ module _ (m : MapView) (p k : ℕ) (h : IsPast m p k) (r : RangeType) (role-is :
           let limit : limit_at m a ≡ limit_of r = limit-whole m a is ∙ ap limit_of role-a in
           let line = each-full m r table p h.here inside role-a is in
           let i : ℕ = suc further.count in
-          let before : a ≡ line.item.first + line.count * unit_of r = line.item.place ∙ ap (λ (r : RangeType). line.item.first + line.count * unit_of r) role-a in
           let step : i * unit_of r ≡ further.count * unit_of r + unit_of r = omega arith in
-          let all : line.item.first + (line.count + i) * unit_of r ≡ m.image.start + k = omega (arith, add-mul line.count i (unit_of r), step, before, further.place, unit) in
-          let item : IsItemOf m (m.image.start + k) (line.count + i) = record {
-            first = line.item.first;
-            is_start = line.item.is_start;
-            one_piece = join m line.item.first a (m.image.start + k) line.item.one_piece (piece-inside m p k h);
-            unnamed = λ x after before'.
-                ⊎_elim
-                (λ past. group-unnamed m r p x h.here inside h.shown role-a table past (omega (arith, before', h.high)))
-                (λ here. line.item.unnamed x after here)
-                (cases_lt a x);
-            place = sym all ∙ sym (ap (λ (r' : RangeType). line.item.first + (line.count + i) * unit_of r') role-is);
-          } in
+          let item = further-item m r a (m.image.start + k) line.count i line.item role-a role-is (piece-inside m p k h)
+          (λ x past before. group-unnamed m r p x h.here inside h.shown role-a table past (omega (arith, before, h.high))) (omega (arith, step, further.place, unit)) in
           let divides : (line.count + i) % limit_of r ≡ 0 = ap (λ (n : ℕ). n % limit_of r) (one-count m (m.image.start + k) (line.count + i) own.index item own.item) ∙ own.divides in
           not-full (limit_of r) line.count i line.full divides (omega arith) (omega (arith, further.bound, limit))
 

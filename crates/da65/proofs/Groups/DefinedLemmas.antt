@@ -11,10 +11,10 @@ use Rattle.map65.specs.Names.{Base, base_at, place_of}
 use Rattle.map65.specs.Roles.{is_skip, role_of, unit_of}
 use Rattle.map65.specs.declared.name.Place.{Place}
 use Rattle.map65.specs.declared.name.Place.TheVariants as defined
-use Rattle.map65.proofs.Public.{one-role, place_law, inside-index}
+use Rattle.map65.proofs.Public.{begun as item-begun, one-role, place_law, inside-index}
 use Rattle.da65.specs.BaseNames.{is_own}
 use Rattle.da65.specs.Groups.{IsGroupPlace, group_len, is_defined}
-use Rattle.da65.proofs.Groups.GroupLemmas.{group-fits, item-begun, item-goes-on}
+use Rattle.da65.proofs.Groups.GroupLemmas.{group-fits, item-goes-on}
 use Rattle.da65.proofs.Groups.InsideLemmas.{Further, group-piece, item-inside}
 
 -- what defines the address by name

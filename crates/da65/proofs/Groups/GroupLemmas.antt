@@ -1,6 +1,6 @@
 -- Groups, byte by byte.
-use Rattle.std.proofs.Common.{◌≡◌, ◌≢◌, ◌∙◌, ℕ, zero, suc, ◌+◌, ◌-◌, ◌<◌, ◌≤◌, ◌&&◌, ◌==◌, nat_le, nat_lt, not, Bool, true, false, List, [], ◌∷◌, length, refl, ap, sym, subst, arith, ⊎_elim, if◌then◌else◌}
-use Rattle.std.proofs.lemmas.Bool.{and_parts, and_from, cond-true, cond-false, cond_both, cases_eq, cases_lt, eq-eqb, ne_eqb, eqb-true, ltb-true, leb-true, not-true}
+use Rattle.std.proofs.Common.{◌≡◌, ◌≢◌, ◌∙◌, ℕ, zero, suc, ◌+◌, ◌-◌, ◌<◌, ◌≤◌, ◌&&◌, ◌==◌, nat_le, nat_lt, not, Bool, true, false, List, ◌∷◌, length, refl, ap, sym, subst, arith, ⊎_elim, if◌then◌else◌, []}
+use Rattle.std.proofs.lemmas.Bool.{and_parts, and_from, cond-true, cond-false, cases_eq, cases_lt, eq-eqb, ne_eqb, eqb-true, ltb-true, leb-true, not-true}
 use Rattle.info65.proofs.Public.{layout_some}
 use Rattle.map65.specs.ImageView.{end_of, is_inside}
 use Rattle.map65.specs.Items.{item_len, size_at}
@@ -8,44 +8,8 @@ use Rattle.map65.specs.MapView.{MapView}
 use Rattle.map65.specs.Pieces.{is_joined}
 use Rattle.map65.specs.Roles.{is_skip, role_of, unit_of}
 use Rattle.map65.specs.Spans.{addresses, left_at}
-use Rattle.map65.proofs.Public.{item-len-at, left-begun, left-first, left-going, left-inside, left-past, size-fits, size-positive, skip-size, inside-index}
+use Rattle.map65.proofs.Public.{begun as item-begun, item-len-at, left-begun, left-first, left-going, left-inside, left-past, size-fits, size-positive, skip-size, inside-index}
 use Rattle.da65.specs.Groups.{IsGroupPlace, begins, goes_on, group_addresses, group_len, groups_from, is_defined, is_whole, limit_at, more_at, stride_at}
-
--- ---- items
-
--- what is known where an item begins
-pub record ItemBegins (m : MapView) (a : ℕ) : Type 0 where
-  pub low : m.image.start ≤ a
-  pub high : a < end_of m.image
-  pub shown : is_skip (role_of m.info a) ≡ false
-  pub none : left_at (size_at m) m.image.start (a - m.image.start) ≡ 0
-  pub size : item_len m a ≡ size_at m a
-
-abbrev has_item : MapView → ℕ → Bool
-has_item m a = is_inside m.image a && (not (is_skip (role_of m.info a)) && left_at (size_at m) m.image.start (a - m.image.start) == 0)
-
-item-test : (m : MapView) (a : ℕ) → 0 < item_len m a → has_item m a ≡ true
-unfolding item_len
-item-test m a =
-    cond_both (has_item m a) (size_at m a) 0 (λ n. 0 < n → has_item m a ≡ true) (λ is some. is) (λ _ some. absurd (omega (arith, some)))
-
-item-len-true : (m : MapView) (a : ℕ) → has_item m a ≡ true → item_len m a ≡ size_at m a
-unfolding item_len
-item-len-true m a is = cond-true (has_item m a) _ _ is
-
-pub item-begun : (m : MapView) (a : ℕ) → 0 < item_len m a → ItemBegins m a
-item-begun m a some =
-    let is = item-test m a some in
-    let both = and_parts (is_inside m.image a) (not (is_skip (role_of m.info a)) && left_at (size_at m) m.image.start (a - m.image.start) == 0) is in
-    let bounds = and_parts (nat_le m.image.start a) (nat_lt a (end_of m.image)) both.0 in
-    let past = and_parts (not (is_skip (role_of m.info a))) (left_at (size_at m) m.image.start (a - m.image.start) == 0) both.1 in
-    record {
-      low = leb-true m.image.start a bounds.0;
-      high = ltb-true a (end_of m.image) bounds.1;
-      shown = not-true (is_skip (role_of m.info a)) past.0;
-      none = eqb-true (left_at (size_at m) m.image.start (a - m.image.start)) 0 past.1;
-      size = item-len-true m a is;
-    }
 
 -- ---- the items that go on
 
@@ -76,20 +40,15 @@ pub more-false : (m : MapView) (n a : ℕ) → goes_on m a ≡ false → more_at
 unfolding more_at
 more-false m n a is = cond-false (goes_on m a) _ _ is
 
--- where the items end that go on from the k-th byte, whose address is a
-record MoreEnds (m : MapView) (n k a : ℕ) : Type 0 where
-  fits : k + more_at m n a ≤ length m.image.bytes
-  item : left_at (size_at m) m.image.start (k + more_at m n a) ≡ 0
-
-none-ends : (m : MapView) (n k a : ℕ) → more_at m n a ≡ 0 → k ≤ length m.image.bytes → left_at (size_at m) m.image.start k ≡ 0 → MoreEnds m n k a
-none-ends m n k a none bound item =
-    let place : k + more_at m n a ≡ k = omega (arith, none) in
-    record { fits = omega (arith, none, bound); item = ap (left_at (size_at m) m.image.start) place ∙ item }
-
--- where an item begins with the k-th byte, it ends where none is under way
+-- where an item begins with the k-th byte, or so many items, they end where none is under way
 record ItemEnds (m : MapView) (k len : ℕ) : Type 0 where
   fits : k + len ≤ length m.image.bytes
   item : left_at (size_at m) m.image.start (k + len) ≡ 0
+
+none-ends : (m : MapView) (n k a : ℕ) → more_at m n a ≡ 0 → k ≤ length m.image.bytes → left_at (size_at m) m.image.start k ≡ 0 → ItemEnds m k (more_at m n a)
+none-ends m n k a none bound item =
+    let place : k + more_at m n a ≡ k = omega (arith, none) in
+    record { fits = omega (arith, none, bound); item = ap (left_at (size_at m) m.image.start) place ∙ item }
 
 item-ends : (m : MapView) (k len : ℕ) → k < length m.image.bytes → len ≡ size_at m (m.image.start + k) → left_at (size_at m) m.image.start k ≡ 0 → ItemEnds m k len
 item-ends m k len low same none =
@@ -99,16 +58,16 @@ item-ends m k len low same none =
       item = ap (left_at (size_at m) m.image.start) place ∙ left-past (size_at m) (size-positive m) m.image.start k none;
     }
 
-more-ends : (m : MapView) (n k a : ℕ) → a ≡ m.image.start + k → k ≤ length m.image.bytes → left_at (size_at m) m.image.start k ≡ 0 → MoreEnds m n k a
+more-ends : (m : MapView) (n k a : ℕ) → a ≡ m.image.start + k → k ≤ length m.image.bytes → left_at (size_at m) m.image.start k ≡ 0 → ItemEnds m k (more_at m n a)
 more-ends m zero k a e bound item = none-ends m zero k a (more-none m a) bound item
 more-ends m (suc n) k a e bound item = go (goes_on m a) refl (more-ends m n)
   where
-    go : (t : Bool) → goes_on m a ≡ t → ((k a : ℕ) → a ≡ m.image.start + k → k ≤ length m.image.bytes → left_at (size_at m) m.image.start k ≡ 0 → MoreEnds m n k a) → MoreEnds m (suc n) k a
+    go : (t : Bool) → goes_on m a ≡ t → ((k a : ℕ) → a ≡ m.image.start + k → k ≤ length m.image.bytes → left_at (size_at m) m.image.start k ≡ 0 → ItemEnds m k (more_at m n a)) → ItemEnds m k (more_at m (suc n) a)
     go false is past = none-ends m (suc n) k a (more-false m n a is) bound item
     go true is past =
         let begun = item-begun m a (item-goes-on m a is).some in
         let low : k < length m.image.bytes = omega (arith, begun.high, e) in
-        let ends = item-ends m k (item_len m a) low (begun.size ∙ ap (size_at m) e) item in
+        let ends = item-ends m k (item_len m a) low (begun.len ∙ ap (size_at m) e) item in
         let others = past (k + item_len m a) (a + item_len m a) (omega (arith, e)) ends.fits ends.item in
         let more = more-true m n a is in
         let place : k + more_at m (suc n) a ≡ k + item_len m a + more_at m n (a + item_len m a) = omega (arith, more) in

@@ -7,9 +7,9 @@ use Rattle.map65.specs.MapView.{MapView}
 use Rattle.map65.specs.Pieces.{AreOnePiece, is_joined}
 use Rattle.map65.specs.Roles.{is_skip, role_of, unit_of}
 use Rattle.map65.specs.Spans.{left_at}
-use Rattle.map65.proofs.Public.{item-len-at, left-past, size-one-piece, size-positive}
+use Rattle.map65.proofs.Public.{begun as item-begun, item-len-at, left-past, size-one-piece, size-positive}
 use Rattle.da65.specs.Groups.{IsGroupPlace, goes_on, group_len, limit_at, more_at}
-use Rattle.da65.proofs.Groups.GroupLemmas.{item-begun, item-goes-on, left-within, more-false, more-none, more-true}
+use Rattle.da65.proofs.Groups.GroupLemmas.{item-goes-on, left-within, more-false, more-none, more-true}
 use Rattle.da65.proofs.Groups.ShapeLemmas.{role-past, one-more}
 
 -- ---- a group lies in one piece
@@ -26,7 +26,7 @@ more-piece m (suc n) b a some piece = go (goes_on m a) refl (more-piece m n b)
         (λ before. piece x low (omega (arith, before)))
         (λ past. ⊎_elim
         (λ same. ap (is_joined m) same ∙ item.joined)
-        (λ other. size-one-piece m a x (omega (arith, past, other)) (omega (arith, high, begun.size)))
+        (λ other. size-one-piece m a x (omega (arith, past, other)) (omega (arith, high, begun.len)))
         (cases_eq x a))
         (cases_lt x a)
 
@@ -62,7 +62,7 @@ full-more m (suc n) a r same more = go (goes_on m a) refl (full-more m n)
         let whole : item_len m a ≡ unit_of r = item.whole ∙ ap unit_of role-is in
         let next : ℕ = a + item_len m a in
         let place : next + more_at m n next ≡ a + more_at m (suc n) a = omega (arith, more-true m n a is) in
-        let others = past next r (λ joined. role-past m a (item_len m a) (item-begun m a item.some).size joined ∙ role-is) (ap (goes_on m) place ∙ more) in
+        let others = past next r (λ joined. role-past m a (item_len m a) (item-begun m a item.some).len joined ∙ role-is) (ap (goes_on m) place ∙ more) in
         more-true m n a is ∙ one-more (item_len m a) (unit_of r) n (more_at m n next) whole others
 
 -- ---- an item after the first of a group
@@ -94,14 +94,14 @@ further m (suc n) b i r same low high here there = go (goes_on m (m.image.start 
         let whole : item_len m a ≡ unit_of r = item.whole ∙ ap unit_of role-is in
         let next : ℕ = b + item_len m a in
         let address : a + item_len m a ≡ m.image.start + next = omega arith in
-        let size : next ≡ b + size_at m a = omega (arith, begun.size) in
+        let size : next ≡ b + size_at m a = omega (arith, begun.len) in
         ⊎_elim
         (λ equal. record { count = 0; bound = omega arith; goes = ap (λ (i : ℕ). goes_on m (m.image.start + i)) equal ∙ is; place = omega (arith, equal) })
         (λ other. ⊎_elim
         (λ within. absurd (left-within (size_at m) m.image.start b i here (omega (arith, low, other)) (omega (arith, within, size)) there))
         (λ beyond.
         let role-next : is_joined m (m.image.start + next) ≡ true → role_of m.info (m.image.start + next) ≡ r =
-        λ joined. ap (role_of m.info) (sym address) ∙ role-past m a (item_len m a) begun.size (ap (is_joined m) address ∙ joined) ∙ role-is in
+        λ joined. ap (role_of m.info) (sym address) ∙ role-past m a (item_len m a) begun.len (ap (is_joined m) address ∙ joined) ∙ role-is in
         let more : more_at m n (a + item_len m a) ≡ more_at m n (m.image.start + next) = ap (more_at m n) address in
         let rest = past next i r role-next beyond (omega (arith, high, more-true m n a is, more)) (ap (left_at (size_at m) m.image.start) size ∙ left-past (size_at m) (size-positive m) m.image.start b here) there in
         let sum : item_len m a + rest.count * unit_of r ≡ suc rest.count * unit_of r = one-more (item_len m a) (unit_of r) rest.count (rest.count * unit_of r) whole refl in

@@ -8,9 +8,9 @@ use Rattle.map65.specs.Items.{item_len, size_at, full_len_at}
 use Rattle.map65.specs.MapView.{MapView}
 use Rattle.map65.specs.Pieces.{AreOnePiece, is_joined}
 use Rattle.map65.specs.Roles.{is_skip, role_of, unit_of}
-use Rattle.map65.proofs.Public.{item-len-at, item_law, joined-in, one-role, size-one-piece}
+use Rattle.map65.proofs.Public.{begun as item-begun, item-len-at, item_law, joined-in, one-role, size-one-piece}
 use Rattle.da65.specs.Groups.{IsGroupPlace, IsItemOf, IsStart, goes_on, group_len, is_defined, is_whole, limit_at, limit_of, more_at, stride_at}
-use Rattle.da65.proofs.Groups.GroupLemmas.{group-some, item-begun, stride-group, stride-skip}
+use Rattle.da65.proofs.Groups.GroupLemmas.{group-some, stride-group, stride-skip}
 use Rattle.da65.proofs.Groups.InsideLemmas.{full-more, group-piece}
 use Rattle.da65.proofs.Groups.DefinedLemmas.{IsTable, group-unnamed}
 use Rattle.da65.proofs.Groups.PlaceLemmas.{Leads, each-place}
@@ -62,6 +62,19 @@ join-one : (m : MapView) (b a c : ℕ) → AreOnePiece m b (a - 1) → a ≡ c �
 join-one m b a c front same joined x low high =
     ⊎_elim (λ equal. ap (is_joined m) equal ∙ joined) (λ other. front x low (omega (arith, high, same, other))) (cases_eq x c)
 
+-- so many items further in the piece
+pub further-item : (m : MapView) (r : RangeType) (a c k i : ℕ) → IsItemOf m a k → role_of m.info a ≡ r → role_of m.info c ≡ r → AreOnePiece m a c → ((x : ℕ) → a < x → x ≤ c → is_defined m x ≡ false) → c ≡ a + i * unit_of r → IsItemOf m c (k + i)
+further-item m r a c k i item role-a role-c piece unnamed place =
+    let before : a ≡ item.first + k * unit_of r = item.place ∙ ap (λ (r : RangeType). item.first + k * unit_of r) role-a in
+    let all : c ≡ item.first + (k + i) * unit_of r = omega (arith, add-mul k i (unit_of r), before, place) in
+    record {
+      first = item.first;
+      is_start = item.is_start;
+      one_piece = join m item.first a c item.one_piece piece;
+      unnamed = λ x after before. ⊎_elim (λ past. unnamed x past before) (λ here. item.unnamed x after here) (cases_lt a x);
+      place = all ∙ sym (ap (λ (r : RangeType). item.first + (k + i) * unit_of r) role-c);
+    }
+
 module _ (m : MapView) (r : RangeType) (table : IsTable m r) where
   -- after a group of the piece
   group-past : (p n : ℕ) → IsGroupPlace m p → p < length m.image.bytes → is_skip (role_of m.info (m.image.start + p)) ≡ false → FullAt m r p → n ≡ group_len m (m.image.start + p)
@@ -94,7 +107,7 @@ module _ (m : MapView) (r : RangeType) (table : IsTable m r) where
           let alone : group_len m a ≡ item_len m a = group-one m a (limit-other m a cut) in
           let place : a + 1 ≡ next = omega (arith, len, alone, begun, one) in
           let after : item_len m next ≡ unit_of r = eqb-true (item_len m next) (unit_of (role_of m.info next)) whole ∙ ap unit_of role-is in
-          let after-size : size_at m next ≡ unit_of r = sym (item-begun m next (omega (arith, after, layout_some r))).size ∙ after in
+          let after-size : size_at m next ≡ unit_of r = sym (item-begun m next (omega (arith, after, layout_some r))).len ∙ after in
           let piece : AreOnePiece m a (a + full_len_at m a - 1) = λ x low high.
           ⊎_elim
           (λ same. ap (is_joined m) same ∙ joined)
@@ -118,26 +131,15 @@ module _ (m : MapView) (r : RangeType) (table : IsTable m r) where
       go false is = absurd (true≢false (sym (eq-eqb (item_len m a) (unit_of (role_of m.info a)) (begun ∙ size is ∙ sym (ap unit_of role-a))) ∙ is))
       go true is =
           let line = known low role-a is in
-          let piece : AreOnePiece m a next = join-one m a (a + group_len m a) next (group-piece m p here low shown) (omega (arith, len)) joined in
-          let before : a ≡ line.item.first + line.count * unit_of r = line.item.place ∙ ap (λ (r : RangeType). line.item.first + line.count * unit_of r) role-a in
-          let all : line.item.first + (line.count + limit_of r) * unit_of r ≡ next = omega (arith, add-mul line.count (limit_of r) (unit_of r), long is, before) in
           record {
             count = line.count + limit_of r;
-            item = record {
-              first = line.item.first;
-              is_start = line.item.is_start;
-              one_piece = join m line.item.first a next line.item.one_piece piece;
-              unnamed = λ x after before.
-                  ⊎_elim
-                  (λ past.
-                  ⊎_elim
-                  (λ same. ap (is_defined m) same ∙ unnamed)
-                  (λ other. group-unnamed m r p x here low shown role-a table past (omega (arith, before, other, len)))
-                  (cases_eq x next))
-                  (λ here. line.item.unnamed x after here)
-                  (cases_lt a x);
-              place = sym all ∙ sym (ap (λ (r' : RangeType). line.item.first + (line.count + limit_of r) * unit_of r') role-is);
-            };
+            item = further-item m r a next line.count (limit_of r) line.item role-a role-is (join-one m a (a + group_len m a) next (group-piece m p here low shown) (omega (arith, len)) joined)
+                (λ x past before.
+                ⊎_elim
+                (λ same. ap (is_defined m) same ∙ unnamed)
+                (λ other. group-unnamed m r p x here low shown role-a table past (omega (arith, before, other, len)))
+                (cases_eq x next))
+                (omega (arith, long is));
             full = add-mod_right line.count (limit_of r) ∙ line.full;
           }
 

@@ -1,10 +1,11 @@
 -- Roles, items and pieces, by what a map tells.
-use Rattle.std.proofs.Common.{◌≡◌, ◌∙◌, ℕ, suc, ◌<◌, ◌≤◌, ◌&&◌, ◌||◌, ◌==◌, nat_le, nat_lt, not, Bool, true, false, List, [], ◌∷◌, Option, Some, None, length, refl, ap, sym, arith}
+use Rattle.std.proofs.Common.{◌≡◌, ◌∙◌, ℕ, ◌<◌, ◌≤◌, ◌&&◌, ◌==◌, nat_le, nat_lt, not, Bool, true, false, Option, Some, None, refl, ap, sym, arith}
+use Rattle.std.proofs.lemmas.List.{get_or_default}
+use Rattle.std.proofs.lemmas.List.Folds.{Any-from_list_any}
 use Rattle.std.proofs.lemmas.Option.{cond_some, none-some}
-use Rattle.std.specs.List.{list_any}
-use Rattle.std.proofs.lemmas.Bool.{and_parts, both_ways, cond-false, cond_both, eq-eqb, eqb-true, false≢true, ltb-true, leb-true}
+use Rattle.std.proofs.lemmas.Bool.{and_parts, both_ways, cond-false, cond_both, eq-eqb, eqb-true, ltb-true, leb-true}
 use Rattle.info65.proofs.Public.{own_address_wins}
-use Rattle.info65.specs.Names.{AreNames, covering, name_at}
+use Rattle.info65.specs.Names.{AreNames, blank_name, covering, name_at}
 use Rattle.info65.specs.Views.{NameView}
 use Rattle.info65.specs.declared.information.range.RangeType.{RangeType}
 use Rattle.map65.specs.ImageView.{IsPlaced, end_of, is_inside}
@@ -68,28 +69,15 @@ run-outside m a none = go (is_in_run m a) refl
 -- ---- items that go on
 
 -- a given name defines its own address
-record Given (names : List NameView) (a : ℕ) : Type 0 where
-  index : ℕ
-  low : index < length names
-  here : (name_at names index).address ≡ a
-
-given-any : (names : List NameView) (a : ℕ) → list_any (λ (n : NameView). n.address == a) names ≡ true → Given names a
-given-any [] a is = absurd (false≢true is)
-given-any (n ∷ ns) a is = go (n.address == a) refl is (given-any ns a)
-  where
-    go : (t : Bool) → (n.address == a) ≡ t → (t || list_any (λ (n : NameView). n.address == a) ns) ≡ true → (list_any (λ (n : NameView). n.address == a) ns ≡ true → Given ns a) → Given (n ∷ ns) a
-    go true e h more = record { index = 0; low = omega arith; here = eqb-true n.address a e }
-    go false e h more = let g : Given ns a = more h in record { index = suc g.index; low = omega (arith, g.low); here = g.here }
-
-given-own : (names : List NameView) (a : ℕ) → is_own names a ≡ true → Given names a
-unfolding is_own
-given-own names a is = given-any names a is
-
 own-defined : (m : MapView) (a : ℕ) → AreNames m.info.names → is_own m.info.names a ≡ true → is_defined m a ≡ true
+unfolding is_own
 own-defined m a are is =
-    let g : Given m.info.names a = given-own m.info.names a is in
-    let wins : covering m.info.names a ≡ Some (name_at m.info.names g.index) = sym (ap (covering m.info.names) g.here) ∙ own_address_wins m.info.names are g.index g.low in
-    ap (λ (o : Option Base). base_names.is_own a o) (base-covered m a (name_at m.info.names g.index) wins) ∙ eq-eqb (name_at m.info.names g.index).address a g.here
+    let found = Any-from_list_any (λ (n : NameView). n.address == a) m.info.names is in
+    let name : name_at m.info.names found.0 ≡ found.1 = get_or_default m.info.names found.0 blank_name found.1 found.2 ∙ found.3 in
+    let here : found.1.address ≡ a = eqb-true found.1.address a found.4 in
+    let wins : covering m.info.names a ≡ Some found.1 =
+    sym (ap (covering m.info.names) (ap (λ (n : NameView). n.address) name ∙ here)) ∙ own_address_wins m.info.names are found.0 found.2 ∙ ap (λ (n : NameView). Some n) name in
+    ap (λ (o : Option Base). base_names.is_own a o) (base-covered m a found.1 wins) ∙ eq-eqb found.1.address a here
 
 goes-by : (r wide own whole named : Bool) → (own ≡ true → named ≡ true) → ((r && not (wide && own)) && (whole && not named)) ≡ (r && (whole && not named))
 goes-by true true true true false known = absurd (let no : false ≡ true = known refl in cc)

@@ -1,5 +1,5 @@
 -- The bytes of a group, by its role.
-use Rattle.std.proofs.Common.{◌≡◌, ◌∙◌, ◌⊎◌, inl, inr, ℕ, zero, suc, ◌+◌, ◌-◌, ◌*◌, ◌%◌, ◌<◌, ◌≤◌, nat_le, Bool, true, false, List, [], ◌∷◌, length, take, drop, Option, Some, None, refl, ap, sym, subst, arith, length-drop}
+use Rattle.std.proofs.Common.{◌≡◌, ◌∙◌, ◌⊎◌, inl, inr, ℕ, zero, suc, ◌+◌, ◌-◌, ◌*◌, ◌%◌, ◌<◌, ◌≤◌, nat_le, Bool, true, false, List, ◌∷◌, length, take, drop, Option, Some, None, refl, ap, sym, subst, arith, length-drop, []}
 use Rattle.std.specs.Prelude.{slice_index}
 use Rattle.std.proofs.lemmas.Bool.{cond-true, cond-false, cond_both, eqb-true, leb-true, leb-false, eq-eqb, true≢false}
 use Rattle.std.proofs.Math.Nat.{mul-le-mul_right, mul-mod_left}
@@ -15,12 +15,12 @@ use Rattle.map65.specs.Items.{code_size, item_len, size_at, size_for, full_len_a
 use Rattle.map65.specs.MapView.{MapView, opcodes}
 use Rattle.map65.specs.Pieces.{are_joined, is_joined}
 use Rattle.map65.specs.Roles.{is_skip, role_of, unit_of}
-use Rattle.map65.proofs.Public.{item-len-at, joined-in, one-role, size-one-piece, size-positive, len-positive}
+use Rattle.map65.proofs.Public.{begun as item-begun, item-len-at, joined-in, one-role, size-one-piece, size-positive, len-positive}
 use Rattle.da65.specs.Groups.{IsGroupPlace, goes_on, group_bytes, group_len, is_whole, limit_at, limit_of, more_at}
 use Rattle.da65.specs.Instructions.{instruction_in, whole_in}
 use Rattle.da65.specs.ReassemblyLaw.{GroupsAreGroups, IsGroup}
 use Rattle.da65.specs.Shapes.{AreEntries, IsGroupOf}
-use Rattle.da65.proofs.Groups.GroupLemmas.{group-begun, group-fits, group-some, item-begun, item-goes-on, more-false, more-none, more-true, place-of}
+use Rattle.da65.proofs.Groups.GroupLemmas.{group-begun, group-fits, group-some, item-goes-on, more-false, more-none, more-true, place-of}
 use Rattle.da65.proofs.Groups.StepLemmas.{group-one}
 
 -- ---- the bytes from an address on
@@ -92,7 +92,7 @@ many m (suc n) a r same = go (goes_on m a) refl (many m n)
         let item = item-goes-on m a is in
         let role-is : role_of m.info a ≡ r = same item.joined in
         let whole : item_len m a ≡ unit_of r = item.whole ∙ ap unit_of role-is in
-        let others = past (a + item_len m a) r (λ joined. role-past m a (item_len m a) (item-begun m a item.some).size joined ∙ role-is) in
+        let others = past (a + item_len m a) r (λ joined. role-past m a (item_len m a) (item-begun m a item.some).len joined ∙ role-is) in
         record { count = suc others.count; bound = omega (arith, others.bound); is = more-true m n a is ∙ one-more (item_len m a) (unit_of r) others.count _ whole others.is }
 
 -- as many bytes as one and `count` further items of the role have

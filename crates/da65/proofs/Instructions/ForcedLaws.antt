@@ -1,5 +1,5 @@
 -- Where `a:` stands, an assembler would take another mode without it.
-use Rattle.std.proofs.Common.{◌≡◌, ℕ, ◌+◌, Bool, true, false, cond, List, [], ◌∷◌, Option, Some, None, refl, sym, ap, subst, ◌∙◌}
+use Rattle.std.proofs.Common.{◌≡◌, ℕ, ◌+◌, Bool, true, false, cond, List, ◌∷◌, Option, Some, None, refl, sym, ap, subst, ◌∙◌}
 use Rattle.std.specs.Prelude.{IsSome, is_some, nat_lt, option_and_then}
 use Rattle.std.proofs.lemmas.Bool.{and_parts}
 use Rattle.isa65.specs.Cpu.{table_of}
@@ -12,12 +12,10 @@ use Rattle.isa65.specs.declared.mode.Mode.{Mode}
 use Rattle.isa65.specs.declared.op.Op.{Op}
 use Rattle.isa65.specs.declared.row.Row.{Row}
 use Rattle.stmt65.specs.Views.{OperandsView}
-use Rattle.stmt65.specs.Forms.{form_text, form_values}
-use Rattle.stmt65.specs.SourceLine.{Instr}
-use Rattle.stmt65.specs.ModeLaws.{has_prefix, is_short, IsModeOf, TakesMode}
+use Rattle.stmt65.specs.ModeLaws.{is_short, IsModeOf}
 use Rattle.stmt65.specs.Printed.{address_size, row_form, source_form, source_value}
 use Rattle.stmt65.specs.Symbols.{Definition, has_zero_page_size}
-use Rattle.stmt65.specs.Coding.{Fragment, Fixed, coding}
+use Rattle.stmt65.specs.Coding.{Fixed}
 use Rattle.stmt65.proofs.Public.{takes_modes}
 use Rattle.map65.specs.ImageView.{ImageView}
 use Rattle.map65.specs.Names.{Base}
@@ -25,7 +23,7 @@ use Rattle.map65.specs.Targets.{word_of}
 use Rattle.da65.specs.BaseNames.{AreSound, Names}
 use Rattle.da65.specs.KnownNames.{KnowsConstants}
 use Rattle.da65.specs.ReassemblyLaw.{CodesInMode, ForcedWhereNeeded, HasKnownSize, IsWritten, fragments_in}
-use Rattle.da65.specs.Statements.{address_expr, constant_base, expr_from, is_forced, operands_of, row_operands, zero_page_expr}
+use Rattle.da65.specs.Statements.{address_expr, constant_base, expr_from, is_forced, operands_of, zero_page_expr}
 use Rattle.da65.proofs.Instructions.ModeLaws.{of_form, pair, row_prefix, word_size}
 use Rattle.da65.proofs.Statements.GroupStands.{mode_is_chosen_back}
 use Rattle.da65.proofs.Statements.StandsLaws.{begins_with}
@@ -57,19 +55,15 @@ has_sibling t op h = go (zero_page_of op.mode) refl h
     go None e h = absurd cc
     go (Some z) e h = found z e (encoded t op.mnemonic z) refl h
 
-same_op : (op other : Op) → Some op ≡ Some other → op ≡ other
-same_op op other e = cc
-
-fixed_is : (b c : ℕ) (fs gs : List Fragment) → Fixed b ∷ fs ≡ Fixed c ∷ gs → b ≡ c
-fixed_is b c fs gs e = cc
-
 -- an opcode is that of one mode
 one_mode : (cpu : Cpu) (op : Op) (y : Mode) (b c : ℕ) → encoded (table_of cpu) op.mnemonic op.mode ≡ Some b → encoded (table_of cpu) op.mnemonic y ≡ Some c → b ≡ c → y ≡ op.mode
 one_mode cpu op y b c h g same =
     let other : Op = record { mnemonic = op.mnemonic; mode = y } in
     let first = (encoded-decoded (table_of cpu) (table_of-sound cpu) b op).0 h in
     let second = (encoded-decoded (table_of cpu) (table_of-sound cpu) b other).0 (g ∙ ap Some (sym same)) in
-    ap (λ (o : Op). o.mode) (same_op other op (sym second ∙ first))
+    let found : Some other ≡ Some op = sym second ∙ first in
+    let same_op : other ≡ op = cc in
+    ap (λ (o : Op). o.mode) same_op
 
 -- without `a:` it is coded in its mode only where none stands
 not_forced : (image : ImageView) (m : Names) (p : ℕ → Bool) (cpu : Cpu) (above : List Definition) (a : ℕ) (bytes : List ℕ) (op : Op) (os : OperandsView)
@@ -82,7 +76,8 @@ not_forced image m p cpu above a bytes op os names known h sized codes forced =
     let form = row_form (row_of op.mode) (address_size false) os in
     let long = (begins_with (table_of cpu) bytes op h.begins).long in
     let takes = takes_modes cpu above op.mnemonic form (Fixed codes.opcode ∷ fragments_in op.mode os) codes.coded in
-    let same : takes.mode ≡ op.mode = one_mode cpu op takes.mode codes.opcode takes.opcode codes.is_opcode takes.has (fixed_is _ _ _ _ takes.coded) in
+    let opcode : codes.opcode ≡ takes.opcode = let coded = takes.coded in cc in
+    let same : takes.mode ≡ op.mode = one_mode cpu op takes.mode codes.opcode takes.opcode codes.is_opcode takes.has opcode in
     let of : IsModeOf form op.mode = of_form image m p names cpu above known op.mnemonic codes.opcode op.mode codes.is_opcode a bytes h.are_bytes long os h.has false (λ no. absurd cc) in
     let alike : written sibling.mode ≡ written op.mode = ap (λ (r : Row). row_text r) pairs.short ∙ sym (ap (λ (r : Row). row_text r) pairs.long) in
     let is_long = takes.long sibling.mode (ap (λ (y : Mode). zero_page_of y) same ∙ sibling.is) (alike ∙ of.0, λ prefix. let no = row_prefix (row_of op.mode) false os prefix in absurd cc) sibling.has in

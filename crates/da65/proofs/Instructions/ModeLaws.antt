@@ -1,11 +1,11 @@
 -- Each instruction is coded in the mode that it was decoded from.
-use Rattle.std.proofs.Common.{◌≡◌, ℕ, ◌+◌, ◌≤◌, Bool, true, false, cond, ◌⊎◌, inl, inr, List, [], ◌∷◌, length, Option, Some, None, refl, sym, ap, subst, ◌∙◌}
-use Rattle.std.specs.Prelude.{IfSome, IsSome, is_some, nat_lt, option_and_then, slice_index, ◌&&◌}
+use Rattle.std.proofs.Common.{◌≡◌, ℕ, ◌+◌, ◌≤◌, Bool, true, false, inl, inr, List, ◌∷◌, length, Option, Some, None, refl, sym, ap, subst, ◌∙◌, []}
+use Rattle.std.specs.Prelude.{IfSome, IsSome, is_some, nat_lt, slice_index}
 use Rattle.std.specs.Option.{option_map}
 use Rattle.std.proofs.lemmas.Bool.{lt-ltb}
 use Rattle.isa65.specs.Cpu.{table_of}
 use Rattle.isa65.specs.CpuLaws.{table_of-sound}
-use Rattle.isa65.specs.Mode.{len_of, pattern_text, row_len, row_of, row_text, size_of, zero_page_of, zero_page_pattern, zero_page_row, IsZeroPageOf}
+use Rattle.isa65.specs.Mode.{len_of, pattern_text, row_of, row_text, size_of, zero_page_of, zero_page_row, IsZeroPageOf}
 use Rattle.isa65.specs.Opcodes.{encoded}
 use Rattle.isa65.specs.OpcodeLaws.{written_alike}
 use Rattle.isa65.specs.declared.cpu.Cpu.{Cpu}
@@ -101,9 +101,6 @@ pair _ x e = absurd cc
 
 -- ---- how an instruction is coded
 
-same_some : (a b : ℕ) → Some a ≡ Some b → a ≡ b
-same_some a b e = cc
-
 by_test : (u : Bool) → (u ≡ true → ⊥) → (u ≡ false → ⊥) → ⊥
 by_test true f g = f refl
 by_test false f g = g refl
@@ -185,7 +182,8 @@ module _ (image : ImageView) (n : Names) (p : ℕ → Bool) (names : AreSound im
 
       own : takes.mode ≡ x → fragments ≡ Fixed b ∷ fragments_in x os
       own same =
-          let code : takes.opcode ≡ b = same_some takes.opcode b (sym takes.has ∙ ap (encoded (table_of cpu) m) same ∙ is) in
+          let has : Some takes.opcode ≡ Some b = sym takes.has ∙ ap (encoded (table_of cpu) m) same ∙ is in
+          let code : takes.opcode ≡ b = cc in
           takes.coded ∙ ap (λ (c : ℕ). Fixed c ∷ mode.mode_fragments above takes.mode (form_values (form u))) code
           ∙ ap (λ (y : Mode). Fixed b ∷ mode.mode_fragments above y (form_values (form u))) same
           ∙ ap (λ (fs : List Fragment). Fixed b ∷ fs) (row_codes (row_of x) (address_size u) os all_small)

@@ -1,15 +1,14 @@
 -- What an item of code is written as.
-use Rattle.std.proofs.Common.{◌≡◌, ◌∙◌, ℕ, ◌≤◌, nat_le, Bool, true, false, List, [], ◌∷◌, length, Option, Some, None, cond, refl, ap, sym, subst, arith}
+use Rattle.std.proofs.Common.{◌≡◌, ◌∙◌, ℕ, false, List, length, Option, Some, None, ap, sym, arith}
 use Rattle.std.specs.Prelude.{is_some}
-use Rattle.std.proofs.lemmas.Bool.{leb-true}
 use Rattle.std.proofs.lemmas.List.{take_all}
 use Rattle.isa65.specs.Mode.{len_of}
-use Rattle.isa65.specs.Opcodes.{Table, decoded}
+use Rattle.isa65.specs.Opcodes.{Table}
 use Rattle.isa65.specs.declared.op.Op.{Op}
 use Rattle.stmt65.specs.Views.{OperandsView}
 use Rattle.stmt65.specs.Views as view
 use Rattle.da65.specs.BaseNames.{Names}
-use Rattle.da65.specs.Instructions.{instruction_in, whole_in}
+use Rattle.da65.specs.Instructions.{instruction_in}
 use Rattle.da65.specs.Statements.{bytes_statement, is_forced, operands_of, statement_in, statement_of, written}
 use Rattle.map65.specs.Items.{code_size}
 
@@ -28,20 +27,6 @@ unwritten t op bytes (Some os) h e = absurd cc
 pub unreached : (n : Names) (t : Table) (a : ℕ) (bytes : List ℕ) (op : Op) → instruction_in t bytes ≡ Some op → false ≡ is_some (operands_of n op.mode a bytes) → code_size (instruction_in t bytes) ≡ length bytes → statement_in n t a bytes ≡ view.bytes bytes
 unfolding statement_in
 unreached n t a bytes op some out whole = ap (statement_of n t a bytes) some ∙ unwritten t op bytes (operands_of n op.mode a bytes) out (sym (ap code_size some) ∙ whole)
-
--- an instruction has all of its bytes
-whole-len : (count : ℕ) (o : Option Op) (op : Op) → whole_in count o ≡ Some op → len_of op.mode ≤ count
-whole-len count None op h = absurd cc
-whole-len count (Some x) op h = by_test (nat_le (len_of x.mode) count) (λ fits. leb-true (len_of x.mode) count fits) h
-  where
-    by_test : (b : Bool) → (b ≡ true → len_of x.mode ≤ count) → cond b (Some x) None ≡ Some op → len_of op.mode ≤ count
-    by_test true fits h = subst (λ (o : Option Op). elim o as (λ (o : Option Op). Type 0) [ None ↦ ⊥ | Some x ↦ len_of x.mode ≤ count ]) h (fits refl)
-    by_test false fits h = absurd cc
-
-pub has-all : (t : Table) (bytes : List ℕ) (op : Op) → instruction_in t bytes ≡ Some op → len_of op.mode ≤ length bytes
-unfolding instruction_in
-has-all t [] op h = absurd cc
-has-all t (b ∷ bytes) op h = whole-len (length (b ∷ bytes)) (decoded t b) op h
 
 pub as-instruction : (n : Names) (t : Table) (a : ℕ) (bytes : List ℕ) (op : Op) (os : OperandsView) → instruction_in t bytes ≡ Some op → Some os ≡ operands_of n op.mode a bytes → view.instr op (is_forced t op bytes) os ≡ statement_in n t a bytes
 unfolding statement_in

@@ -1,9 +1,9 @@
 -- The names of a map are such that its listing assembles back.
-use Rattle.std.proofs.Common.{◌≡◌, ◌∙◌, inl, inr, ℕ, zero, suc, ◌+◌, ◌-◌, ◌<◌, Bool, true, false, not, length, Some, nat_le, nat_lt, refl, sym, ap, subst, arith}
+use Rattle.std.proofs.Common.{◌≡◌, ◌∙◌, inl, inr, ℕ, zero, suc, ◌+◌, ◌-◌, ◌<◌, Bool, true, false, not, length, Some, refl, sym, ap, subst, arith}
 use Rattle.std.specs.List.{list_any}
-use Rattle.std.proofs.lemmas.Bool.{and_parts, leb-true, ltb-true, or_parts, true≢false}
+use Rattle.std.proofs.lemmas.Bool.{or_parts, true≢false}
 use Rattle.map65.specs.Bases.{BaseLaw, IsInCode, IsOutside, LiesBy}
-use Rattle.map65.specs.ImageView.{end_of, is_inside}
+use Rattle.map65.specs.ImageView.{is_inside}
 use Rattle.map65.specs.Items.{item_len, size_at}
 use Rattle.map65.specs.MapView.{MapView}
 use Rattle.map65.specs.Names.{Base, base_at, place_of, text_by}
@@ -16,6 +16,7 @@ use Rattle.da65.specs.BaseNames.{base_name, is_constant, names_of}
 use Rattle.da65.specs.Groups.{skips}
 use Rattle.da65.specs.ReassemblyLaw.{NamesAreSound}
 use Rattle.da65.proofs.Groups.DefinedLemmas.{Defined, defined-base}
+use Rattle.da65.proofs.Groups.RoleLemmas.{inside-bounds}
 use Rattle.da65.proofs.Names.TargetBounds.{base-small}
 
 -- ---- skipped bytes
@@ -35,11 +36,9 @@ none-skipped m k none low = none-of (λ a. is_skip (role_of m.info a)) (length m
 -- the same of an address
 pub shown-inside : (m : MapView) (a : ℕ) → skips m ≡ false → is_inside m.image a ≡ true → is_skip (role_of m.info a) ≡ false
 shown-inside m a none inside =
-    let both = and_parts (nat_le m.image.start a) (nat_lt a (end_of m.image)) inside in
-    let low = leb-true m.image.start a both.0 in
-    let high = ltb-true a (end_of m.image) both.1 in
-    let same : m.image.start + (a - m.image.start) ≡ a = omega (arith, low) in
-    sym (ap (λ (x : ℕ). is_skip (role_of m.info x)) same) ∙ none-skipped m (a - m.image.start) none (omega (arith, low, high))
+    let bounds = inside-bounds m a inside in
+    let same : m.image.start + (a - m.image.start) ≡ a = omega (arith, bounds.low) in
+    sym (ap (λ (x : ℕ). is_skip (role_of m.info x)) same) ∙ none-skipped m (a - m.image.start) none (omega (arith, bounds.low, bounds.high))
 
 -- ---- the law
 

@@ -1,5 +1,5 @@
 -- The texts of a map's names are names, and none of them is reserved.
-use Rattle.std.proofs.Common.{◌≡◌, ℕ, ◌/◌, ◌%◌, ◌<◌, Bool, true, false, not, List, [], ◌∷◌, length, Option, Some, None, nat_lt, refl, sym, ap, subst, arith}
+use Rattle.std.proofs.Common.{◌≡◌, ℕ, ◌/◌, ◌%◌, ◌<◌, Bool, true, false, not, List, ◌∷◌, length, Option, Some, None, nat_lt, refl, sym, ap, subst, arith, []}
 use Rattle.std.specs.Prelude.{◌||◌, ◌&&◌, ◌==◌}
 use Rattle.std.specs.List.{list_all}
 use Rattle.std.specs.Char.{is_ascii_alphabetic}
@@ -16,7 +16,6 @@ use Rattle.info65.proofs.Public.{last_name}
 use Rattle.map65.specs.MapView.{MapView}
 use Rattle.map65.specs.Names.{Base, base_at, base_by, given_base, entry_start, entry_base, is_referenced}
 use Rattle.map65.proofs.Public.{entry_start-default, entry_start-given}
-use Rattle.da65.proofs.Names.BaseLemmas.{same-base}
 
 -- a text that can be printed, and that reads as a name
 pub record IsNameText (text : List ℕ) : Type 0 where
@@ -75,11 +74,18 @@ entry_start-text m a are = go (covering m.info.names (entry_start m a)) refl
     go (Some v) e = subst (λ (b : Base). IsNameText b.text) (sym (entry_start-given m a v e)) (covering-text m.info.names (entry_start m a) v are e)
     go None e = subst (λ (b : Base). IsNameText b.text) (sym (entry_start-default m a e)) (default-text (entry_start m a))
 
-pub base-text : (m : MapView) (a : ℕ) (b : Base) → AreNames m.info.names → base_at m a ≡ Some b → IsNameText b.text
+-- what holds of the base of a name that is given, and of an entry that is referred to, holds of the base of each address
+pub base-cases : (m : MapView) (a : ℕ) (b : Base) (P : Base → Type 0) → ((v : NameView) → covering m.info.names a ≡ Some v → P (given_base v)) → (is_referenced m a ≡ true → P (entry_base m a)) → base_at m a ≡ Some b → P b
 unfolding base_at
-base-text m a b are e = go (covering m.info.names a) refl (is_referenced m a) e
+base-cases m a b P of_given of_entry e = go (covering m.info.names a) refl (is_referenced m a) refl e
   where
-    go : (o : Option NameView) → covering m.info.names a ≡ o → (w : Bool) → base_by o w (entry_base m a) ≡ Some b → IsNameText b.text
-    go (Some v) f w e = subst (λ (x : Base). IsNameText x.text) (same-base (given_base v) b e) (covering-text m.info.names a v are f)
-    go None f true e = subst (λ (x : Base). IsNameText x.text) (same-base (entry_base m a) b e) (entry_start-text m a are)
-    go None f false e = absurd cc
+    same : (x : Base) → Some x ≡ Some b → P x → P b
+    same x e h = let is : x ≡ b = cc in subst P is h
+
+    go : (o : Option NameView) → covering m.info.names a ≡ o → (w : Bool) → is_referenced m a ≡ w → base_by o w (entry_base m a) ≡ Some b → P b
+    go (Some v) f w g e = same (given_base v) e (of_given v f)
+    go None f true g e = same (entry_base m a) e (of_entry g)
+    go None f false g e = absurd cc
+
+pub base-text : (m : MapView) (a : ℕ) (b : Base) → AreNames m.info.names → base_at m a ≡ Some b → IsNameText b.text
+base-text m a b are e = base-cases m a b (λ b. IsNameText b.text) (λ v f. covering-text m.info.names a v are f) (λ _. entry_start-text m a are) e

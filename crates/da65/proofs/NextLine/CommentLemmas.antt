@@ -1,5 +1,5 @@
 -- The comments of given names, and the names of segments, can be printed.
-use Rattle.std.proofs.Common.{◌≡◌, ◌∙◌, ℕ, Bool, true, false, not, List, [], ◌∷◌, length, Option, Some, None, All, nat_le, refl, ap, sym, subst, arith}
+use Rattle.std.proofs.Common.{◌≡◌, ◌∙◌, ℕ, Bool, true, false, not, List, ◌∷◌, length, Option, Some, None, All, nat_le, refl, ap, sym, subst, arith, []}
 use Rattle.std.specs.Prelude.{IfSome, ◌==◌, if◌then◌else◌, option_map}
 use Rattle.std.specs.List.{find, list_all}
 use Rattle.std.proofs.lemmas.Bool.{and_from, and_parts, leb-true}

@@ -1,17 +1,13 @@
 -- The groups that the code lists, and their statements.
 use Rattle.std.proofs.Common.{◌≡◌, ◌∙◌, ℕ, ◌+◌, ◌<◌, ◌≤◌, Bool, List, Option, None, Some, length, refl, ap, sym, subst, arith}
 use Rattle.isa65.specs.Cpu.{table_of}
-use Rattle.isa65.specs.Mode.{len_of}
 use Rattle.isa65.specs.Opcodes.{Table}
 use Rattle.isa65.specs.declared.cpu.Cpu.{Cpu}
-use Rattle.isa65.specs.declared.mode.Mode.{Mode}
-use Rattle.isa65.specs.declared.mode.Mode.TheVariants.{Imp}
 use Rattle.isa65.specs.declared.op.Op.{Op}
 use Rattle.info65.specs.declared.information.range.RangeType.{RangeType}
 use Rattle.info65.specs.declared.information.range.RangeType.TheVariants.{Code}
 use Rattle.map65.specs.ImageView.{IsPlaced}
 use Rattle.map65.specs.MapView.{MapView, opcodes}
-use Rattle.map65.specs.Roles.{role_of}
 use Rattle.stmt65.specs.Printable.{MayBeLabelled}
 use Rattle.stmt65.specs.Views.{StatementView}
 use Rattle.da65.specs.BaseNames.{Names, names_of}
@@ -27,6 +23,7 @@ use Rattle.da65.specs.declared.listing.style.Style.{Style}
 use Rattle.da65.proofs.Groups.GroupLemmas.{group-fits, group-some}
 use Rattle.da65.proofs.NextLine.NextLemmas.{few-bytes}
 use Rattle.da65.proofs.Groups.ShapeLemmas.{group-shape}
+use Rattle.da65.proofs.Statements.EachStatement.{len-small}
 use Rattle.map65.specs.Items.{code_size}
 
 pub has-bytes : (m : MapView) (g : Group) → IsGroupIn m g → 0 < length g.bytes.now
@@ -37,10 +34,7 @@ in-space m g placed is = omega (arith, is.address_is, is.len_is, group-fits m g.
 
 -- they are those of its role
 pub of-role : (m : MapView) (cpu : Cpu) (g : Group) → cpu ≡ m.info.settings.cpu → IsGroupIn m g → IsGroupOf (table_of cpu) g.role g.bytes.now
-of-role m cpu g same is =
-    subst (λ (cpu : Cpu). IsGroupOf (table_of cpu) g.role g.bytes.now) (sym same)
-    (subst (λ (r : RangeType). IsGroupOf (opcodes m) r g.bytes.now) (sym is.role_is)
-    (subst (λ (bytes : List ℕ). IsGroupOf (opcodes m) (role_of m.info (m.image.start + g.index)) bytes) (sym is.bytes_are) (group-shape m g.index is.start.place is.start.inside is.start.shown)))
+of-role m cpu g same is = rw (same, is.role_is, is.bytes_are) (group-shape m g.index is.start.place is.start.inside is.start.shown)
 
 pub is-short : (m : MapView) (g : Group) → IsGroupIn m g → length g.bytes.now ≤ 16
 is-short m g is = few-bytes (opcodes m) g.role g.bytes.now (of-role m m.info.settings.cpu g refl is)
@@ -51,13 +45,9 @@ is-short m g is = few-bytes (opcodes m) g.role g.bytes.now (of-role m m.info.set
 pub code-item : (m : MapView) (cpu : Cpu) (g : Group) → cpu ≡ m.info.settings.cpu → g.role ≡ Code → IsGroupIn m g → code_size (instruction_in (table_of cpu) g.bytes.now) ≡ length g.bytes.now
 code-item m cpu g same code is = subst (λ (r : RangeType). IsGroupOf (table_of cpu) r g.bytes.now) code (of-role m cpu g same is)
 
-len-few : (x : Mode) → len_of x ≤ 8
-len-few Imp = omega arith
-len-few _ = omega arith
-
 size-few : (o : Option Op) → code_size o ≤ 8
 size-few None = omega arith
-size-few (Some op) = len-few op.mode
+size-few (Some op) = omega (arith, len-small op.mode)
 
 pub code-fits : (m : MapView) (g : Group) → g.role ≡ Code → IsGroupIn m g → (1 ≤ length g.bytes.now) × (length g.bytes.now ≤ 8)
 code-fits m g code is = (omega (arith, has-bytes m g is), omega (arith, size-few (instruction_in (opcodes m) g.bytes.now), code-item m m.info.settings.cpu g refl code is))
@@ -70,33 +60,20 @@ code-for n t r a bytes s is told = told ∙ ap (λ (r : RangeType). statement_fo
 -- its statement, by the map and the opcodes that the code has
 pub statement-is : (n m : MapView) (cpu : Cpu) (g : Group) (s : StatementView) → n ≡ m → cpu ≡ m.info.settings.cpu → IsGroupIn m g
     → s ≡ statement_for (names_of n) (table_of cpu) g.role g.address g.bytes.now → s ≡ statement_at m (m.image.start + g.index)
-statement-is n m cpu g s same of is told =
-    told
-    ∙ ap (λ (n : MapView). statement_for (names_of n) (table_of cpu) g.role g.address g.bytes.now) same
-    ∙ ap (λ (cpu : Cpu). statement_for (names_of m) (table_of cpu) g.role g.address g.bytes.now) of
-    ∙ ap (λ (r : RangeType). statement_for (names_of m) (opcodes m) r g.address g.bytes.now) is.role_is
-    ∙ ap (λ (a : ℕ). statement_for (names_of m) (opcodes m) (role_of m.info (m.image.start + g.index)) a g.bytes.now) is.address_is
-    ∙ ap (λ (bytes : List ℕ). statement_for (names_of m) (opcodes m) (role_of m.info (m.image.start + g.index)) (m.image.start + g.index) bytes) is.bytes_are
+statement-is n m cpu g s same of is told = told ∙ rw (same, of, is.role_is, is.address_is, is.bytes_are) refl
 
 -- its line
 pub line-is : (m : MapView) (t : Style) (g : Group) (s : StatementView) (label : Option (List ℕ)) → t ≡ style_of m.info.settings → IsGroupIn m g → s ≡ statement_at m (m.image.start + g.index)
     → line_text t (group_line label s g.address g.bytes.now)
     ≡ line_text (style_of m.info.settings) (group_line label (statement_at m (m.image.start + g.index)) (m.image.start + g.index) (group_bytes m (m.image.start + g.index)))
-line-is m t g s label same is told =
-    ap (λ (t : Style). line_text t (group_line label s g.address g.bytes.now)) same
-    ∙ ap (λ (s : StatementView). line_text (style_of m.info.settings) (group_line label s g.address g.bytes.now)) told
-    ∙ ap (λ (a : ℕ). line_text (style_of m.info.settings) (group_line label (statement_at m (m.image.start + g.index)) a g.bytes.now)) is.address_is
-    ∙ ap (λ (bytes : List ℕ). line_text (style_of m.info.settings) (group_line label (statement_at m (m.image.start + g.index)) (m.image.start + g.index) bytes)) is.bytes_are
+line-is m t g s label same is told = rw (same, told, is.address_is, is.bytes_are) refl
 
 -- it may have the label
 pub label-fits : (m : MapView) (t : Style) (g : Group) (s : StatementView) (label : Option (List ℕ)) → t ≡ style_of m.info.settings → s ≡ statement_at m (m.image.start + g.index)
     → MayBeLabelled (style_of m.info.settings).columns label (statement_at m (m.image.start + g.index)) → MayBeLabelled t.columns label s
-label-fits m t g s label same told may =
-    subst (λ (t : Style). MayBeLabelled t.columns label s) (sym same)
-    (subst (λ (s : StatementView). MayBeLabelled (style_of m.info.settings).columns label s) (sym told) may)
+label-fits m t g s label same told may = rw (same, told) may
 
 -- whether an empty line follows it
 pub empty-line : (m : MapView) (t : Style) (g : Group) (s : StatementView) (empty : Bool) → t ≡ style_of m.info.settings → s ≡ statement_at m (m.image.start + g.index) → has_empty_line t s ≡ empty
     → has_empty_line (style_of m.info.settings) (statement_at m (m.image.start + g.index)) ≡ empty
-empty-line m t g s empty same told is =
-    sym (ap (λ (t : Style). has_empty_line t s) same ∙ ap (has_empty_line (style_of m.info.settings)) told) ∙ is
+empty-line m t g s empty same told is = rw (same, told) at is

@@ -1,12 +1,9 @@
 -- The next of the lines that are left.
-use Rattle.std.proofs.Common.{◌≡◌, ◌∙◌, ℕ, suc, ◌+◌, ◌-◌, ◌<◌, ◌≤◌, ◌∷◌, ◌++◌, ◌&&◌, [], Bool, true, false, List, Option, Some, None, length, map, refl, ap, sym, subst, codes, arith, append_assoc}
-use Rattle.std.specs.Prelude.{MatchOption, if◌then◌else◌}
+use Rattle.std.proofs.Common.{◌≡◌, ◌∙◌, ℕ, suc, ◌+◌, ◌-◌, ◌<◌, ◌≤◌, ◌∷◌, ◌++◌, ◌&&◌, Bool, true, false, List, Option, Some, None, length, map, refl, ap, sym, subst, codes, arith, append_assoc, []}
+use Rattle.std.specs.Prelude.{MatchOption}
 use Rattle.std.specs.List.{flat_map}
-use Rattle.std.proofs.lemmas.Bool.{and_parts}
-use Rattle.isa65.specs.Mode.{len_of}
+use Rattle.std.proofs.lemmas.Bool.{and_parts, cond-false, cond-true}
 use Rattle.isa65.specs.Opcodes.{Table}
-use Rattle.isa65.specs.declared.mode.Mode.{Mode}
-use Rattle.isa65.specs.declared.mode.Mode.TheVariants.{Imp}
 use Rattle.isa65.specs.declared.op.Op.{Op}
 use Rattle.info65.specs.Views.{SettingsView}
 use Rattle.info65.proofs.Public.{layout_entry}
@@ -34,6 +31,8 @@ use Rattle.da65.specs.declared.listing.place.ListingPlace.TheVariants.{AfterTitl
 use Rattle.da65.specs.declared.listing.style.Style.{Style}
 use Rattle.da65.proofs.Statements.EntryLemmas.{few_entries}
 use Rattle.da65.proofs.Groups.GroupLemmas.{group-some, groups-end, groups-first, groups-next, groups-skip, place-next}
+use Rattle.da65.proofs.Groups.ShapeLemmas.{group-shape}
+use Rattle.da65.proofs.Statements.EachStatement.{len-small}
 use Rattle.da65.proofs.Statements.LabelLaws.{group_takes}
 use Rattle.da65.proofs.NextLine.SegmentLemmas.{same-segment, segment-next}
 use Rattle.stmt65.specs.Columns.{fits_label}
@@ -95,38 +94,26 @@ addresses-none : (n a : ℕ) → n ≡ 0 → addresses n a ≡ []
 unfolding addresses
 addresses-none n a none = rw none refl
 
--- the addresses from one on below an end: the first, and those after it
-flat-more : (f : ℕ → List ListingLine) (end v : ℕ) → v < end → flat_map f (addresses (end - v) v) ≡ f v ++ flat_map f (addresses (end - (v + 1)) (v + 1))
-flat-more f end v low =
+-- of the addresses from one on below an end: the lines of the first, and those of the addresses after it
+flat-here : (f : ℕ → List ListingLine) (end v : ℕ) (ls : List ListingLine) → v < end → f v ≡ ls → flat_map f (addresses (end - v) v) ≡ ls ++ flat_map f (addresses (end - (v + 1)) (v + 1))
+flat-here f end v ls low is =
     let count : end - v - 1 ≡ end - (v + 1) = omega arith in
     ap (flat_map f) (addresses-more (end - v) v (omega (arith, low))) ∙ ap (λ (n : ℕ). f v ++ flat_map f (addresses n (v + 1))) count
+    ∙ ap (λ (ls : List ListingLine). ls ++ flat_map f (addresses (end - (v + 1)) (v + 1))) is
 
 flat-none : (f : ℕ → List ListingLine) (end v : ℕ) → end ≤ v → flat_map f (addresses (end - v) v) ≡ []
 flat-none f end v high = ap (flat_map f) (addresses-none (end - v) v (omega (arith, high)))
 
 -- ---- constant lines
 
-cond-lines : (t : Bool) (ls : List ListingLine) → t ≡ true → (if t then ls else []) ≡ ls
-cond-lines t ls is = rw is refl
-
-cond-none : (t : Bool) (ls : List ListingLine) → t ≡ false → (if t then ls else []) ≡ []
-cond-none t ls is = rw is refl
-
 pub constants-here : (m : MapView) (v : ℕ) → IsConstant m v
     → constants m (65536 - v) v ≡ comment_lines m v ++ assignment_line (names_of m) v ∷ constants m (65536 - (v + 1)) (v + 1)
 unfolding constants constant_lines
-constants-here m v is =
-    let rest : List ListingLine = flat_map (constant_lines m) (addresses (65536 - (v + 1)) (v + 1)) in
-    flat-more (constant_lines m) 65536 v is.low
-    ∙ ap (λ (ls : List ListingLine). ls ++ rest) (cond-lines (has_constant_line (names_of m) v) (comment_lines m v ++ assignment_line (names_of m) v ∷ []) is.has)
-    ∙ append_assoc (comment_lines m v) (assignment_line (names_of m) v ∷ []) rest
+constants-here m v is = flat-here (constant_lines m) 65536 v _ is.low (cond-true _ _ _ is.has) ∙ append_assoc (comment_lines m v) (assignment_line (names_of m) v ∷ []) _
 
 pub constants-next : (m : MapView) (v : ℕ) → v < 65536 → has_constant_line (names_of m) v ≡ false → constants m (65536 - v) v ≡ constants m (65536 - (v + 1)) (v + 1)
 unfolding constants constant_lines
-constants-next m v low is =
-    let rest : List ListingLine = flat_map (constant_lines m) (addresses (65536 - (v + 1)) (v + 1)) in
-    flat-more (constant_lines m) 65536 v low
-    ∙ ap (λ (ls : List ListingLine). ls ++ rest) (cond-none (has_constant_line (names_of m) v) (comment_lines m v ++ assignment_line (names_of m) v ∷ []) is)
+constants-next m v low is = flat-here (constant_lines m) 65536 v [] low (cond-false _ _ _ is)
 
 pub constants-end : (m : MapView) (v : ℕ) → 65536 ≤ v → constants m (65536 - v) v ≡ []
 unfolding constants
@@ -140,13 +127,11 @@ comment-some m a text is = ap comment_line is
 
 pub comments-here : (m : MapView) (end v : ℕ) (text : List ℕ) → v < end → comment_at m v ≡ Some text → comments m (end - v) v ≡ plain (view.remark text) ∷ comments m (end - (v + 1)) (v + 1)
 unfolding comments
-comments-here m end v text low is =
-    flat-more (comment_lines m) end v low ∙ ap (λ (ls : List ListingLine). ls ++ flat_map (comment_lines m) (addresses (end - (v + 1)) (v + 1))) (comment-some m v text is)
+comments-here m end v text low is = flat-here (comment_lines m) end v _ low (comment-some m v text is)
 
 pub comments-next : (m : MapView) (end v : ℕ) → v < end → comment_at m v ≡ None → comments m (end - v) v ≡ comments m (end - (v + 1)) (v + 1)
 unfolding comments
-comments-next m end v low is =
-    flat-more (comment_lines m) end v low ∙ ap (λ (ls : List ListingLine). ls ++ flat_map (comment_lines m) (addresses (end - (v + 1)) (v + 1))) (comment-none m v is)
+comments-next m end v low is = flat-here (comment_lines m) end v [] low (comment-none m v is)
 
 pub comments-end : (m : MapView) (end v : ℕ) → end ≤ v → comments m (end - v) v ≡ []
 unfolding comments
@@ -157,17 +142,11 @@ comments-end m end v high = flat-none (comment_lines m) end v high
 pub forwards-here : (m : Names) (first end v : ℕ) → v < end → is_base m v ≡ true
     → forwards m first (end - v) v ≡ plain (view.forward (base_name m v) (v - first)) ∷ forwards m first (end - (v + 1)) (v + 1)
 unfolding forwards forward_lines
-forwards-here m first end v low is =
-    let line : ListingLine = plain (view.forward (base_name m v) (v - first)) in
-    flat-more (forward_lines m first) end v low
-    ∙ ap (λ (ls : List ListingLine). ls ++ flat_map (forward_lines m first) (addresses (end - (v + 1)) (v + 1))) (cond-lines (is_base m v) (line ∷ []) is)
+forwards-here m first end v low is = flat-here (forward_lines m first) end v _ low (cond-true _ _ _ is)
 
 pub forwards-next : (m : Names) (first end v : ℕ) → v < end → is_base m v ≡ false → forwards m first (end - v) v ≡ forwards m first (end - (v + 1)) (v + 1)
 unfolding forwards forward_lines
-forwards-next m first end v low is =
-    let line : ListingLine = plain (view.forward (base_name m v) (v - first)) in
-    flat-more (forward_lines m first) end v low
-    ∙ ap (λ (ls : List ListingLine). ls ++ flat_map (forward_lines m first) (addresses (end - (v + 1)) (v + 1))) (cond-none (is_base m v) (line ∷ []) is)
+forwards-next m first end v low is = flat-here (forward_lines m first) end v [] low (cond-false _ _ _ is)
 
 pub forwards-end : (m : Names) (first end v : ℕ) → end ≤ v → forwards m first (end - v) v ≡ []
 unfolding forwards
@@ -189,12 +168,7 @@ lines-skip m k here low skip = sym (ap (flat_map (group_lines m)) (groups-skip m
 
 -- what opens a group, its forward lines, its statement, and what follows
 regroup : (opening forward statement ending rest : List ListingLine) → (opening ++ (forward ++ (statement ++ ending))) ++ rest ≡ opening ++ ((forward ++ statement) ++ (ending ++ rest))
-regroup opening forward statement ending rest =
-    append_assoc opening (forward ++ (statement ++ ending)) rest
-    ∙ ap (λ (ls : List ListingLine). opening ++ ls)
-    (append_assoc forward (statement ++ ending) rest
-    ∙ ap (λ (ls : List ListingLine). forward ++ ls) (append_assoc statement ending rest)
-    ∙ sym (append_assoc forward statement (ending ++ rest)))
+regroup opening forward statement ending rest = simp append_assoc
 
 pub lines-group : (m : MapView) (k : ℕ) → IsGroupStart m k → groups_left m k ≡ opening_lines m (m.image.start + k) ++ group_left m k (m.image.start + k + 1)
 unfolding groups_left group_left group_lines after_group
@@ -217,11 +191,7 @@ unfolding opening_lines segment_left comments_left
 lines-opening m k start =
     let a : ℕ = m.image.start + k in
     let count : group_len m a ≡ a + group_len m a - a = omega arith in
-    let rest : List ListingLine = group_left m k (a + 1) in
-    lines-group m k start
-    ∙ append_assoc (separator_lines m a) (segment_lines m a ++ comments m (group_len m a) a) rest
-    ∙ ap (λ (ls : List ListingLine). separator_lines m a ++ ls) (append_assoc (segment_lines m a) (comments m (group_len m a) a) rest)
-    ∙ ap (λ (n : ℕ). separator_lines m a ++ (segment_lines m a ++ (comments m n a ++ rest))) count
+    rw (← count) (lines-group m k start ∙ simp append_assoc)
 
 pub separator-yes : (m : MapView) (k : ℕ) → has_separator m (m.image.start + k) ≡ true → IsGroupStart m k → groups_left m k ≡ plain separator ∷ segment_left m k
 unfolding separator_lines
@@ -252,46 +222,33 @@ segment-no m k same = rw (segment-spot m k, same) refl
 
 pub comment-end : (m : MapView) (k v end : ℕ) → end ≡ m.image.start + k + group_len m (m.image.start + k) → comments m (end - v) v ≡ [] → comments_left m k v ≡ group_left m k (m.image.start + k + 1)
 unfolding comments_left
-comment-end m k v end there none =
-    ap (λ (n : ℕ). comments m (n - v) v ++ group_left m k (m.image.start + k + 1)) (sym there) ∙ ap (λ (ls : List ListingLine). ls ++ group_left m k (m.image.start + k + 1)) none
+comment-end m k v end there none = rw (← there) (ap (λ (ls : List ListingLine). ls ++ group_left m k (m.image.start + k + 1)) none)
 
 pub comment-first : (m : MapView) (k v u end : ℕ) (t : Style) (text : List ℕ) → end ≡ m.image.start + k + group_len m (m.image.start + k)
     → IsFirstOf t (comments m (end - v) v) text (comments m (end - (u + 1)) (u + 1)) → IsFirstOf t (comments_left m k v) text (comments_left m k (u + 1))
 unfolding comments_left
-comment-first m k v u end t text there is =
-    let rest : List ListingLine = group_left m k (m.image.start + k + 1) in
-    record {
-      head = is.head;
-      lines =
-          ap (λ (n : ℕ). comments m (n - v) v ++ rest) (sym there)
-          ∙ ap (λ (ls : List ListingLine). ls ++ rest) is.lines
-          ∙ ap (λ (n : ℕ). is.head ∷ comments m (n - (u + 1)) (u + 1) ++ rest) there;
-      text_is = is.text_is;
-    }
+comment-first m k v u end t text there is = record {
+  head = is.head;
+  lines = rw (← there) (ap (λ (ls : List ListingLine). ls ++ group_left m k (m.image.start + k + 1)) is.lines);
+  text_is = is.text_is;
+}
 
 -- ---- the forward lines of a group
-
-forward-same : (m : MapView) (k v first end : ℕ) → first ≡ m.image.start + k → end ≡ m.image.start + k + group_len m (m.image.start + k)
-    → forwards (names_of m) (m.image.start + k) (m.image.start + k + group_len m (m.image.start + k) - v) v ≡ forwards (names_of m) first (end - v) v
-forward-same m k v first end here there = ap (λ (n : ℕ). forwards (names_of m) n (m.image.start + k + group_len m (m.image.start + k) - v) v) (sym here) ∙ ap (λ (n : ℕ). forwards (names_of m) first (n - v) v) (sym there)
 
 pub forward-end : (m : MapView) (k v first end : ℕ) → first ≡ m.image.start + k → end ≡ m.image.start + k + group_len m (m.image.start + k) → forwards (names_of m) first (end - v) v ≡ []
     → group_left m k v ≡ statement_lines m (m.image.start + k) ++ after_group m k
 unfolding group_left
-forward-end m k v first end here there none = ap (λ (ls : List ListingLine). (ls ++ statement_lines m (m.image.start + k)) ++ after_group m k) (forward-same m k v first end here there ∙ none)
+forward-end m k v first end here there none = rw (← there, ← here) (ap (λ (ls : List ListingLine). (ls ++ statement_lines m first) ++ after_group m k) none)
 
 pub forward-first : (m : MapView) (k v u first end : ℕ) (t : Style) (text : List ℕ) → first ≡ m.image.start + k → end ≡ m.image.start + k + group_len m (m.image.start + k)
     → IsFirstOf t (forwards (names_of m) first (end - v) v) text (forwards (names_of m) first (end - (u + 1)) (u + 1))
     → IsFirstOf t (group_left m k v) text (group_left m k (u + 1))
 unfolding group_left
-forward-first m k v u first end t text here there is =
-    let now : forwards (names_of m) (m.image.start + k) (m.image.start + k + group_len m (m.image.start + k) - v) v ≡ is.head ∷ forwards (names_of m) (m.image.start + k) (m.image.start + k + group_len m (m.image.start + k) - (u + 1)) (u + 1) =
-    forward-same m k v first end here there ∙ is.lines ∙ ap (λ (ls : List ListingLine). is.head ∷ ls) (sym (forward-same m k (u + 1) first end here there)) in
-    record {
-      head = is.head;
-      lines = ap (λ (ls : List ListingLine). (ls ++ statement_lines m (m.image.start + k)) ++ after_group m k) now;
-      text_is = is.text_is;
-    }
+forward-first m k v u first end t text here there is = record {
+  head = is.head;
+  lines = rw (← there, ← here) (ap (λ (ls : List ListingLine). (ls ++ statement_lines m first) ++ after_group m k) is.lines);
+  text_is = is.text_is;
+}
 
 -- ---- constant lines, and what follows
 
@@ -299,25 +256,19 @@ with_blank_after-first : (any : Bool) (head : ListingLine) (rest : List ListingL
 with_blank_after-first true head rest = refl
 with_blank_after-first false head rest = refl
 
+constants-first : (m : MapView) (v : ℕ) (any : Bool) (head : ListingLine) (ls : List ListingLine) → constants m (65536 - v) v ≡ head ∷ ls → constants_left m v any ≡ head ∷ (with_blank_after true ls ++ groups_left m 0)
+unfolding constants_left
+constants-first m v any head ls is = ap (λ (ls : List ListingLine). with_blank_after any ls ++ groups_left m 0) is ∙ ap (λ (ls : List ListingLine). ls ++ groups_left m 0) (with_blank_after-first any head ls)
+
 pub constant-comment : (m : MapView) (v : ℕ) (any : Bool) (text : List ℕ) → IsConstant m v → comment_at m v ≡ Some text
     → constants_left m v any ≡ plain (view.remark text) ∷ assignment_line (names_of m) v ∷ constants_left m (v + 1) true
 unfolding constants_left
-constant-comment m v any text is comment =
-    let rest : List ListingLine = constants m (65536 - (v + 1)) (v + 1) in
-    let front : constants m (65536 - v) v ≡ plain (view.remark text) ∷ assignment_line (names_of m) v ∷ rest =
-    constants-here m v is ∙ ap (λ (ls : List ListingLine). ls ++ assignment_line (names_of m) v ∷ rest) (comment-some m v text comment) in
-    ap (λ (ls : List ListingLine). with_blank_after any ls ++ groups_left m 0) front
-    ∙ ap (λ (ls : List ListingLine). ls ++ groups_left m 0) (with_blank_after-first any (plain (view.remark text)) (assignment_line (names_of m) v ∷ rest))
+constant-comment m v any text is comment = constants-first m v any _ _ (constants-here m v is ∙ ap (λ (ls : List ListingLine). ls ++ assignment_line (names_of m) v ∷ constants m (65536 - (v + 1)) (v + 1)) (comment-some m v text comment))
 
 pub constant-bare : (m : MapView) (v : ℕ) (any : Bool) → IsConstant m v → comment_lines m v ≡ []
     → constants_left m v any ≡ assignment_line (names_of m) v ∷ constants_left m (v + 1) true
 unfolding constants_left
-constant-bare m v any is none =
-    let rest : List ListingLine = constants m (65536 - (v + 1)) (v + 1) in
-    let front : constants m (65536 - v) v ≡ assignment_line (names_of m) v ∷ rest =
-    constants-here m v is ∙ ap (λ (ls : List ListingLine). ls ++ assignment_line (names_of m) v ∷ rest) none in
-    ap (λ (ls : List ListingLine). with_blank_after any ls ++ groups_left m 0) front
-    ∙ ap (λ (ls : List ListingLine). ls ++ groups_left m 0) (with_blank_after-first any (assignment_line (names_of m) v) rest)
+constant-bare m v any is none = constants-first m v any _ _ (constants-here m v is ∙ ap (λ (ls : List ListingLine). ls ++ assignment_line (names_of m) v ∷ constants m (65536 - (v + 1)) (v + 1)) none)
 
 pub constant-moved : (m : MapView) (v u : ℕ) (any : Bool) → constants m (65536 - v) v ≡ constants m (65536 - u) u → constants_left m v any ≡ constants_left m u any
 unfolding constants_left
@@ -372,7 +323,7 @@ unfolding statement_lines
 above-lines m a name some long = ap (λ (l : Option (List ℕ)). labelled (style_of m.info.settings).columns l (statement_at m a) a (group_bytes m a)) some ∙ rw long refl
 
 pub takes-label : (m : MapView) (k : ℕ) → IsGroupStart m k → TakesLabel (statement_at m (m.image.start + k))
-takes-label m k start = group_takes (names_of m) (opcodes m) (role_of m.info (m.image.start + k)) (m.image.start + k) _ start.shown
+takes-label m k start = group_takes (names_of m) (opcodes m) (role_of m.info (m.image.start + k)) (m.image.start + k) _ (group-shape m k start.place start.inside start.shown)
 
 -- ---- after the statement of a group
 
@@ -465,20 +416,16 @@ inside-start m k a start place =
 
 -- ---- few bytes
 
-len-small : (x : Mode) → len_of x ≤ 3
-len-small Imp = omega arith
-len-small _ = omega arith
-
 few-in : (t : Table) (unit per_line : ℕ) (e : Entry) (bytes : List ℕ) → IsEntry unit per_line e → IsLineOf t unit per_line e bytes → length bytes ≤ 16
 few-in t unit per_line Instruction bytes is of = small (instruction_in t bytes) of
   where
     small : (o : Option Op) → code_size o ≡ length bytes → length bytes ≤ 16
     small None e = omega (arith, e)
     small (Some op) e = omega (arith, e, len-small op.mode)
-few-in t unit per_line (Number order) bytes is of = few_entries unit per_line bytes (omega (arith, is.1)) of
-few-in t unit per_line Address bytes is of = few_entries unit per_line bytes (omega (arith, is.1)) of
-few-in t unit per_line Return bytes is of = few_entries unit per_line bytes (omega (arith, is.1)) of
-few-in t unit per_line Character bytes is of = few_entries unit per_line bytes is.1 of
+few-in t unit per_line (Number order) bytes is of = few_entries unit per_line 16 bytes (omega arith) (omega (arith, is.1)) of
+few-in t unit per_line Address bytes is of = few_entries unit per_line 16 bytes (omega arith) (omega (arith, is.1)) of
+few-in t unit per_line Return bytes is of = few_entries unit per_line 16 bytes (omega arith) (omega (arith, is.1)) of
+few-in t unit per_line Character bytes is of = few_entries unit per_line 16 bytes (omega arith) is.1 of
 few-in t unit per_line Skipped bytes is of = absurd of
 
 pub few-bytes : (t : Table) (r : RangeType) (bytes : List ℕ) → IsGroupOf t r bytes → length bytes ≤ 16

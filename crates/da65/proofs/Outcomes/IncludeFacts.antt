@@ -1,5 +1,5 @@
 -- What is known of an include file: how long its name is, and that adding its names keeps the include files.
-use Rattle.std.proofs.Common.{◌≡◌, ◌<◌, ◌≤◌, ℕ, List, [], true, ap, get_or, length, arith, subst, sym}
+use Rattle.std.proofs.Common.{◌≡◌, ◌<◌, ◌≤◌, ℕ, List, true, ap, get_or, length, arith, subst, sym, []}
 use Rattle.std.proofs.lemmas.Bool.Decides.{nat_tests}
 use Rattle.std.specs.Prelude.{Ok, Err, None, Option, Result, Some}
 use Rattle.info65.specs.Faults.{◌>>=◌}

@@ -1,5 +1,5 @@
 -- Which groups are left to decide whether a segment is entered again.
-use Rattle.std.proofs.Common.{◌≡◌, ◌∙◌, ◌+◌, ◌<◌, ◌&&◌, ◌||◌, ℕ, Bool, List, [], ◌∷◌, true, false, ap, length, map, not, refl, subst, sym}
+use Rattle.std.proofs.Common.{◌≡◌, ◌∙◌, ◌+◌, ◌<◌, ◌&&◌, ◌||◌, ℕ, Bool, List, ◌∷◌, true, false, ap, length, map, not, refl, subst, sym, []}
 use Rattle.std.specs.Prelude.{◌==◌, Option, None, Some, codes, is_some}
 use Rattle.std.specs.Option.{option_or}
 use Rattle.std.specs.Str.{bytes_eq}
@@ -14,19 +14,16 @@ use Rattle.map65.specs.ImageView.{ImageView}
 use Rattle.map65.specs.MapView.{MapView}
 use Rattle.map65.specs.Roles.{is_skip, role_of}
 use Rattle.da65.specs.SegmentReentry.{enters_again, is_entered_again, leads_back, segment_name}
-use Rattle.da65.specs.Code.SegmentReentry.{IsAfter, IsDecidedFrom, IsKeyed, IsKnownFrom, IsNew, by_key, has_had, is_back, is_same_key, of_name}
+use Rattle.da65.specs.Code.SegmentReentry.{IsAfter, IsKeyed, IsKnownFrom, IsNew, by_key, has_had, is_back, is_same_key, of_name}
 use Rattle.da65.specs.declared.runs.segment_reentry.Entered.{Entered}
 use Rattle.da65.specs.Groups.{IsGroupPlace, group_addresses, group_len, groups_from}
+use Rattle.da65.specs.Lines.{IsGroupStart}
 use Rattle.da65.specs.Segments.{is_same_segment}
 use Rattle.map65.specs.Segments.{segment_at}
 use Rattle.da65.proofs.Groups.GroupLemmas.{groups-end, groups-first, groups-next, groups-skip}
 use Rattle.da65.proofs.NextLine.SegmentLemmas.{bare-segment}
 
 -- ---- keys
-
-by_option : {X P : Type 0} (o : Option X) → ((x : X) → o ≡ Some x → P) → (o ≡ None → P) → P
-by_option None some none = none refl
-by_option (Some x) some none = some x refl
 
 alike : (b c : Bool) → (b ≡ true → c ≡ true) → (c ≡ true → b ≡ true) → b ≡ c
 alike true false f g = absurd (false≢true (f refl))
@@ -74,39 +71,30 @@ asked-by-key : (segments : List SegmentView) (test : Option ℕ → Bool) (n : L
 asked-by-key segments test n None k = ap (λ (o : Option ℕ). by_key test o n) k.is ∙ code-name n (test None) (k.code refl)
 asked-by-key segments test n (Some key) k = ap (λ (o : Option ℕ). by_key test o n) k.is
 
-or-code : (b c : Bool) → (true && c) ≡ (c || (b && c))
-or-code b true = refl
-or-code true false = refl
-or-code false false = refl
+-- a name is this one exactly if its key is that of this one
+name-tells : (segments : List SegmentView) (n t : List ℕ) (key : Option ℕ) → AreSegments segments → IsNameKey segments n key → bytes_eq n t ≡ of_name segments (is_same_key key) t
+name-tells segments n t key are name = go key (first_named segments t) name refl
+  where
+    go : (key o : Option ℕ) → IsNameKey segments n key → first_named segments t ≡ o → bytes_eq n t ≡ by_key (is_same_key key) o t
+    go None None name is = ap (λ (u : List ℕ). bytes_eq u t) (name.code refl)
+    go None (Some k) name is = key-apart segments n t None (Some k) name.is is (λ e. absurd cc)
+    go (Some j) None name is = key-apart segments n t (Some j) None name.is is (λ e. absurd cc)
+    go (Some j) (Some k) name is = sym (key-tells segments n t j k are name.is is)
+
+or-and : (a b c : Bool) → ((a || b) && c) ≡ ((a && c) || (b && c))
+or-and false b c = refl
+or-and true b true = refl
+or-and true true false = refl
+or-and true false false = refl
 
 -- one name more, by its key
 added-by-key : (segments : List SegmentView) (test more : Option ℕ → Bool) (n t : List ℕ) (key : Option ℕ) → AreSegments segments → IsNameKey segments n key → ((k : Option ℕ) → more k ≡ (is_same_key key k || test k))
     → of_name segments more t ≡ (bytes_eq n t || of_name segments test t)
-added-by-key segments test more n t None are name after =
-    by_option (first_named segments t)
-    (λ k is.
-    let miss = key-apart segments n t None (Some k) name.is is (λ e. absurd cc) in
-    ap (λ (o : Option ℕ). by_key more o t) is ∙ after (Some k)
-    ∙ ap (λ (b : Bool). b || test (Some k)) (sym miss)
-    ∙ ap (λ (o : Option ℕ). bytes_eq n t || by_key test o t) (sym is))
-    (λ none.
-    ap (λ (o : Option ℕ). by_key more o t) none
-    ∙ ap (λ (b : Bool). b && bytes_eq (codes "CODE") t) (after None)
-    ∙ or-code (test None) (bytes_eq (codes "CODE") t)
-    ∙ ap (λ (u : List ℕ). bytes_eq u t || (test None && bytes_eq (codes "CODE") t)) (sym (name.code refl))
-    ∙ ap (λ (o : Option ℕ). bytes_eq n t || by_key test o t) (sym none))
-added-by-key segments test more n t (Some j) are name after =
-    by_option (first_named segments t)
-    (λ k is.
-    ap (λ (o : Option ℕ). by_key more o t) is ∙ after (Some k)
-    ∙ ap (λ (b : Bool). b || test (Some k)) (key-tells segments n t j k are name.is is)
-    ∙ ap (λ (o : Option ℕ). bytes_eq n t || by_key test o t) (sym is))
-    (λ none.
-    let miss = key-apart segments n t (Some j) None name.is none (λ e. absurd cc) in
-    ap (λ (o : Option ℕ). by_key more o t) none
-    ∙ ap (λ (b : Bool). b && bytes_eq (codes "CODE") t) (after None)
-    ∙ ap (λ (b : Bool). b || (test None && bytes_eq (codes "CODE") t)) (sym miss)
-    ∙ ap (λ (o : Option ℕ). bytes_eq n t || by_key test o t) (sym none))
+added-by-key segments test more n t key are name after = joined (first_named segments t) ∙ ap (λ (b : Bool). b || of_name segments test t) (sym (name-tells segments n t key are name))
+  where
+    joined : (o : Option ℕ) → by_key more o t ≡ (by_key (is_same_key key) o t || by_key test o t)
+    joined (Some k) = after (Some k)
+    joined None = ap (λ (b : Bool). b && bytes_eq (codes "CODE") t) (after None) ∙ or-and (is_same_key key None) (test None) (bytes_eq (codes "CODE") t)
 
 none-asked : (segments : List SegmentView) (test : Option ℕ → Bool) (t : List ℕ) → ((k : Option ℕ) → test k ≡ false) → of_name segments test t ≡ false
 none-asked segments test t none = none_by (first_named segments t)
@@ -132,8 +120,6 @@ pub keyed-map : (m : MapView) (i : InfoView) (a : ℕ) (key : Option ℕ) → m.
 unfolding segment_at
 keyed-map m i a key same are is = keyed-at m.info.segments a key (subst (λ (x : InfoView). AreSegments x.segments) (sym same) are) (is ∙ ap (λ (x : InfoView). segment_key x.segments a) (sym same))
 
--- ---- names that are kept
-
 -- ---- groups that are left
 
 enters-step : (last s : Option (List ℕ)) (had : List (List ℕ)) (ss : List (Option (List ℕ))) → enters_again last had (s ∷ ss) ≡ (leads_back last had s || enters_again s (segment_name s ∷ had) ss)
@@ -143,63 +129,6 @@ enters-step last s had ss = refl
 enters-none : (last : Option (List ℕ)) (had : List (List ℕ)) → enters_again last had [] ≡ false
 unfolding enters_again
 enters-none last had = refl
-
--- a segment line leads to s, if a group had a segment whose name passes the test
-abbrev pub back_by : Option (List ℕ) → (List ℕ → Bool) → Option (List ℕ) → Bool
-back_by last test s = not (is_same_segment last s) && test (segment_name s)
-
-decided-first : (m : MapView) (last : Option (List ℕ)) (test : List ℕ → Bool) → last ≡ None → ((t : List ℕ) → test t ≡ false) → IsDecidedFrom m 0 last test
-unfolding is_entered_again
-decided-first m last test new none = record {
-  had = [];
-  same = λ t. sym (none t);
-  rest = ap (λ (l : Option (List ℕ)). enters_again l [] (map (segment_at m) (groups_from m 0))) new ∙ ap (λ (gs : List ℕ). enters_again None [] (map (segment_at m) gs)) (sym (groups-first m));
-}
-
-decided-skip : (m : MapView) (k : ℕ) (last : Option (List ℕ)) (test : List ℕ → Bool) → IsGroupPlace m k → k < length m.image.bytes → is_skip (role_of m.info (m.image.start + k)) ≡ true → IsDecidedFrom m k last test → IsDecidedFrom m (k + 1) last test
-decided-skip m k last test place low skip d = record {
-  had = d.had;
-  same = d.same;
-  rest = ap (λ (gs : List ℕ). enters_again last d.had (map (segment_at m) gs)) (sym (groups-skip m k place low skip)) ∙ d.rest;
-}
-
--- the group that begins with the k-th byte comes first
-decided-here : (m : MapView) (k : ℕ) (last : Option (List ℕ)) (test : List ℕ → Bool) → IsGroupPlace m k → k < length m.image.bytes → is_skip (role_of m.info (m.image.start + k)) ≡ false → (d : IsDecidedFrom m k last test)
-    → (back_by last test (segment_at m (m.image.start + k)) || enters_again (segment_at m (m.image.start + k)) (segment_name (segment_at m (m.image.start + k)) ∷ d.had) (map (segment_at m) (groups_from m (k + group_len m (m.image.start + k))))) ≡ is_entered_again m
-decided-here m k last test place low shown d =
-    let s : Option (List ℕ) = segment_at m (m.image.start + k) in
-    let ss : List (Option (List ℕ)) = map (segment_at m) (groups_from m (k + group_len m (m.image.start + k))) in
-    ap (λ (b : Bool). (not (is_same_segment last s) && b) || enters_again s (segment_name s ∷ d.had) ss) (sym (d.same (segment_name s)))
-    ∙ sym (enters-step last s d.had ss)
-    ∙ ap (λ (gs : List ℕ). enters_again last d.had (map (segment_at m) gs)) (sym (groups-next m k place low shown))
-    ∙ d.rest
-
-decided-back : (m : MapView) (k : ℕ) (last : Option (List ℕ)) (test : List ℕ → Bool) → IsGroupPlace m k → k < length m.image.bytes → is_skip (role_of m.info (m.image.start + k)) ≡ false → IsDecidedFrom m k last test
-    → back_by last test (segment_at m (m.image.start + k)) ≡ true → true ≡ is_entered_again m
-decided-back m k last test place low shown d back =
-    let here = decided-here m k last test place low shown d in
-    ap (λ (b : Bool). b || enters_again (segment_at m (m.image.start + k)) (segment_name (segment_at m (m.image.start + k)) ∷ d.had) (map (segment_at m) (groups_from m (k + group_len m (m.image.start + k))))) (sym back) ∙ here
-
-decided-next : (m : MapView) (k len : ℕ) (last s : Option (List ℕ)) (test then : List ℕ → Bool) → IsGroupPlace m k → k < length m.image.bytes → is_skip (role_of m.info (m.image.start + k)) ≡ false → IsDecidedFrom m k last test
-    → back_by last test (segment_at m (m.image.start + k)) ≡ false → len ≡ group_len m (m.image.start + k)
-    → s ≡ segment_at m (m.image.start + k) → ((t : List ℕ) → then t ≡ (bytes_eq (segment_name (segment_at m (m.image.start + k))) t || test t)) → IsDecidedFrom m (k + len) s then
-decided-next m k len last s test then place low shown d back is_len is_s after =
-    let here = decided-here m k last test place low shown d in
-    let name : List ℕ = segment_name (segment_at m (m.image.start + k)) in
-    record {
-      had = name ∷ d.had;
-      same = λ t. ap (λ (b : Bool). bytes_eq name t || b) (d.same t) ∙ sym (after t);
-      rest = ap (λ (n : ℕ). enters_again s (name ∷ d.had) (map (segment_at m) (groups_from m (k + n)))) is_len
-          ∙ ap (λ (l : Option (List ℕ)). enters_again l (name ∷ d.had) (map (segment_at m) (groups_from m (k + group_len m (m.image.start + k))))) is_s
-          ∙ ap (λ (b : Bool). b || enters_again (segment_at m (m.image.start + k)) (name ∷ d.had) (map (segment_at m) (groups_from m (k + group_len m (m.image.start + k))))) (sym back)
-          ∙ here;
-    }
-
-decided-end : (m : MapView) (k : ℕ) (last : Option (List ℕ)) (test : List ℕ → Bool) → k ≡ length m.image.bytes → IsDecidedFrom m k last test → false ≡ is_entered_again m
-decided-end m k last test end d =
-    sym (enters-none last d.had)
-    ∙ ap (λ (gs : List ℕ). enters_again last d.had (map (segment_at m) gs)) (sym (groups-end m k end))
-    ∙ d.rest
 
 -- ---- what a map and its image tell
 
@@ -220,6 +149,9 @@ byte-told m image bytes start k same are is low = record {
 -- what is asked of its address is so of that byte
 pub skip-told : (m : MapView) (k a : ℕ) (result t : Bool) → IsByte m k a → result ≡ is_skip (role_of m.info a) → result ≡ t → is_skip (role_of m.info (m.image.start + k)) ≡ t
 skip-told m k a result t here is same = ap (λ (n : ℕ). is_skip (role_of m.info n)) (sym here.address) ∙ sym is ∙ same
+
+pub start-told : (m : MapView) (k a : ℕ) (result : Bool) → IsGroupPlace m k → IsByte m k a → result ≡ is_skip (role_of m.info a) → result ≡ false → IsGroupStart m k
+start-told m k a result place here is shown = record { place = place; inside = here.low; shown = skip-told m k a result false here is shown }
 
 -- ---- what is known by keys
 
@@ -245,46 +177,57 @@ keys-told m i k a segment name code same are here keyed first is =
     }
 
 pub known-first : (m : MapView) (e : Entered) → IsNew e → IsKnownFrom m 0 e
+unfolding is_entered_again
 known-first m e new = record {
   segment = None;
   keyed = subst (λ (k : Option ℕ). IsKeyed m.info.segments None k) (sym new.last) tt;
-  decided = decided-first m None (of_name m.info.segments (has_had e)) refl (λ t. none-asked m.info.segments (has_had e) t new.had);
+  had = [];
+  same = λ t. sym (none-asked m.info.segments (has_had e) t new.had);
+  rest = ap (λ (gs : List ℕ). enters_again None [] (map (segment_at m) gs)) (sym (groups-first m));
 }
 
 pub known-skip : (m : MapView) (k : ℕ) (e : Entered) → IsGroupPlace m k → k < length m.image.bytes → is_skip (role_of m.info (m.image.start + k)) ≡ true → IsKnownFrom m k e → IsKnownFrom m (k + 1) e
 known-skip m k e place low skip known = record {
   segment = known.segment;
   keyed = known.keyed;
-  decided = decided-skip m k known.segment (of_name m.info.segments (has_had e)) place low skip known.decided;
+  had = known.had;
+  same = known.same;
+  rest = ap (λ (gs : List ℕ). enters_again known.segment known.had (map (segment_at m) gs)) (sym (groups-skip m k place low skip)) ∙ known.rest;
 }
 
-back-keys : (m : MapView) (k : ℕ) (e : Entered) (segment name : Option ℕ) → HasKeys m k segment name → (known : IsKnownFrom m k e)
-    → back_by known.segment (of_name m.info.segments (has_had e)) (segment_at m (m.image.start + k)) ≡ is_back e segment name
-back-keys m k e segment name keys known =
+-- the group that begins with the k-th byte leads back, or those after it decide
+known-here : (m : MapView) (k : ℕ) (e : Entered) (segment name : Option ℕ) → IsGroupStart m k → HasKeys m k segment name → (known : IsKnownFrom m k e)
+    → (is_back e segment name || enters_again (segment_at m (m.image.start + k)) (segment_name (segment_at m (m.image.start + k)) ∷ known.had) (map (segment_at m) (groups_from m (k + group_len m (m.image.start + k))))) ≡ is_entered_again m
+known-here m k e segment name start keys known =
     let segments : List SegmentView = m.info.segments in
     let s : Option (List ℕ) = segment_at m (m.image.start + k) in
-    ap (λ (b : Bool). not b && of_name segments (has_had e) (segment_name s)) (sym (same-keys segments known.segment s e.last segment keys.sound known.keyed keys.keyed))
-    ∙ ap (λ (b : Bool). not (is_same_key e.last segment) && b) (asked-by-key segments (has_had e) (segment_name s) name keys.named)
+    let ss : List (Option (List ℕ)) = map (segment_at m) (groups_from m (k + group_len m (m.image.start + k))) in
+    let rest : Bool = enters_again s (segment_name s ∷ known.had) ss in
+    ap (λ (b : Bool). (not b && has_had e name) || rest) (same-keys segments known.segment s e.last segment keys.sound known.keyed keys.keyed)
+    ∙ ap (λ (b : Bool). (not (is_same_segment known.segment s) && b) || rest) (sym (asked-by-key segments (has_had e) (segment_name s) name keys.named) ∙ sym (known.same (segment_name s)))
+    ∙ sym (enters-step known.segment s known.had ss)
+    ∙ ap (λ (gs : List ℕ). enters_again known.segment known.had (map (segment_at m) gs)) (sym (groups-next m k start.place start.inside start.shown))
+    ∙ known.rest
 
-pub known-back : (m : MapView) (k : ℕ) (e : Entered) (segment name : Option ℕ) → IsGroupPlace m k → k < length m.image.bytes → is_skip (role_of m.info (m.image.start + k)) ≡ false → HasKeys m k segment name → IsKnownFrom m k e
-    → is_back e segment name ≡ true → true ≡ is_entered_again m
-known-back m k e segment name place low shown keys known back =
-    decided-back m k known.segment (of_name m.info.segments (has_had e)) place low shown known.decided (back-keys m k e segment name keys known ∙ back)
+pub known-back : (m : MapView) (k : ℕ) (e : Entered) (segment name : Option ℕ) → IsGroupStart m k → HasKeys m k segment name → IsKnownFrom m k e → is_back e segment name ≡ true → true ≡ is_entered_again m
+known-back m k e segment name start keys known back = rw back at (known-here m k e segment name start keys known)
 
-pub known-next : (m : MapView) (k len : ℕ) (e new : Entered) (segment name : Option ℕ) → IsGroupPlace m k → k < length m.image.bytes → is_skip (role_of m.info (m.image.start + k)) ≡ false → HasKeys m k segment name → IsKnownFrom m k e
+pub known-next : (m : MapView) (k len : ℕ) (e new : Entered) (segment name : Option ℕ) → IsGroupStart m k → HasKeys m k segment name → IsKnownFrom m k e
     → is_back e segment name ≡ false → len ≡ group_len m (m.image.start + k) → IsAfter e new segment name → IsKnownFrom m (k + len) new
-known-next m k len e new segment name place low shown keys known back is_len after =
+known-next m k len e new segment name start keys known back is_len after =
     let segments : List SegmentView = m.info.segments in
     let s : Option (List ℕ) = segment_at m (m.image.start + k) in
     record {
       segment = s;
       keyed = subst (IsKeyed segments s) (sym after.last) keys.keyed;
-      decided = decided-next m k len known.segment s (of_name segments (has_had e)) (of_name segments (has_had new)) place low shown known.decided (back-keys m k e segment name keys known ∙ back) is_len refl
-          (λ t. added-by-key segments (has_had e) (has_had new) (segment_name s) t name keys.sound keys.named after.had);
+      had = segment_name s ∷ known.had;
+      same = λ t. ap (λ (b : Bool). bytes_eq (segment_name s) t || b) (known.same t) ∙ sym (added-by-key segments (has_had e) (has_had new) (segment_name s) t name keys.sound keys.named after.had);
+      rest = ap (λ (n : ℕ). enters_again s (segment_name s ∷ known.had) (map (segment_at m) (groups_from m (k + n)))) is_len ∙ (rw back at (known-here m k e segment name start keys known));
     }
 
 pub known-end : (m : MapView) (k : ℕ) (e : Entered) → k ≡ length m.image.bytes → IsKnownFrom m k e → false ≡ is_entered_again m
-known-end m k e end known = decided-end m k known.segment (of_name m.info.segments (has_had e)) end known.decided
+known-end m k e end known =
+    sym (enters-none known.segment known.had) ∙ ap (λ (gs : List ℕ). enters_again known.segment known.had (map (segment_at m) gs)) (sym (groups-end m k end)) ∙ known.rest
 
 -- ---- no segments
 

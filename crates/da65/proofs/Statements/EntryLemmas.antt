@@ -58,15 +58,16 @@ pub are_table : (unit per_line : ℕ) (d : Directive) (bytes : List ℕ) → IsE
 are_table unit per_line d bytes is line (inl one) more = absurd (omega (arith, one, more, is.wide))
 are_table unit per_line d bytes is line (inr are) more = (ap (λ (n : ℕ). length bytes % n) is.len ∙ are.0, (omega (arith, is.len, more), omega (arith, are.1, line)))
 
+-- no more bytes than the line has room for
+pub few_entries : (unit per_line most : ℕ) (bytes : List ℕ) → 1 ≤ most → per_line * unit ≤ most → AreEntries unit per_line bytes → length bytes ≤ most
+few_entries unit per_line most bytes some line (inl one) = omega (arith, one, some)
+few_entries unit per_line most bytes some line (inr are) = omega (arith, are.1, line)
+
 pub numbers_print : (unit per_line : ℕ) (order : ByteOrder) (bytes : List ℕ) → IsEntry unit per_line (Number order) → AreEntries unit per_line bytes → 0 < length bytes → unit ≤ length bytes → IsPrintable (numbers unit order bytes)
 numbers_print unit per_line order bytes is are some more =
     cond_both (unit == 1) (view.bytes bytes) (view.numbers (directive_of unit order) bytes) IsPrintable
-    (λ _. (omega (arith, some), short are))
+    (λ _. (omega (arith, some), few_entries unit per_line 8 bytes (omega arith) is.1 are))
     (λ other. are_table unit per_line (directive_of unit order) bytes (directive_is unit order is.0 other) is.1 are more)
-  where
-    short : AreEntries unit per_line bytes → length bytes ≤ 8
-    short (inl leftover) = omega (arith, leftover)
-    short (inr whole) = omega (arith, whole.1, is.1)
 
 pub number_small : (unit : ℕ) (order : ByteOrder) → IsNumber unit order → unit ≤ 8
 number_small unit order (inl one) = omega (arith, one)
@@ -78,37 +79,26 @@ pub address_bytes : (unit per_line : ℕ) (bytes : List ℕ) → (unit ≡ 2) ×
 address_bytes unit per_line bytes is (inl one) more = absurd (omega (arith, one, more, is.0))
 address_bytes unit per_line bytes is (inr are) more = omega (arith, are.1, is.0, is.1, more)
 
--- at most 16 bytes
-pub few_entries : (unit per_line : ℕ) (bytes : List ℕ) → per_line * unit ≤ 16 → AreEntries unit per_line bytes → length bytes ≤ 16
-few_entries unit per_line bytes line (inl one) = omega (arith, one)
-few_entries unit per_line bytes line (inr are) = omega (arith, are.1, line)
-
 -- ---- the same, by the role of the line
+
+entry_is : (r : RangeType) (e : Entry) → (layout_of r).entry ≡ e → IsEntry (layout_of r).unit (layout_of r).per_line e
+entry_is r e is = subst (IsEntry (layout_of r).unit (layout_of r).per_line) is (layout_entry r)
+
+line_is : (t : Table) (r : RangeType) (bytes : List ℕ) (e : Entry) → (layout_of r).entry ≡ e → IsGroupOf t r bytes → IsLineOf t (layout_of r).unit (layout_of r).per_line e bytes
+line_is t r bytes e is of = subst (λ (e : Entry). IsLineOf t (layout_of r).unit (layout_of r).per_line e bytes) is of
 
 pub numbers_of_role : (t : Table) (r : RangeType) (order : ByteOrder) (bytes : List ℕ) → (layout_of r).entry ≡ Number order → IsGroupOf t r bytes → 0 < length bytes → (layout_of r).unit ≤ length bytes
     → IsPrintable (numbers (layout_of r).unit order bytes)
-numbers_of_role t r order bytes is of some more =
-    let entry = subst (IsEntry (layout_of r).unit (layout_of r).per_line) is (layout_entry r) in
-    let are = subst (λ (e : Entry). IsLineOf t (layout_of r).unit (layout_of r).per_line e bytes) is of in
-    numbers_print (layout_of r).unit (layout_of r).per_line order bytes entry are some more
+numbers_of_role t r order bytes is of some more = numbers_print _ _ order bytes (entry_is r (Number order) is) (line_is t r bytes (Number order) is of) some more
 
 pub address_of_role : (t : Table) (r : RangeType) (bytes : List ℕ) → (layout_of r).entry ≡ Address → IsGroupOf t r bytes → (layout_of r).unit ≤ length bytes → length bytes ≡ 2
-address_of_role t r bytes is of more =
-    let entry = subst (IsEntry (layout_of r).unit (layout_of r).per_line) is (layout_entry r) in
-    let are = subst (λ (e : Entry). IsLineOf t (layout_of r).unit (layout_of r).per_line e bytes) is of in
-    address_bytes (layout_of r).unit (layout_of r).per_line bytes entry are more
+address_of_role t r bytes is of more = address_bytes _ _ bytes (entry_is r Address is) (line_is t r bytes Address is of) more
 
 pub return_of_role : (t : Table) (r : RangeType) (bytes : List ℕ) → (layout_of r).entry ≡ Return → IsGroupOf t r bytes → (layout_of r).unit ≤ length bytes → length bytes ≡ 2
-return_of_role t r bytes is of more =
-    let entry = subst (IsEntry (layout_of r).unit (layout_of r).per_line) is (layout_entry r) in
-    let are = subst (λ (e : Entry). IsLineOf t (layout_of r).unit (layout_of r).per_line e bytes) is of in
-    address_bytes (layout_of r).unit (layout_of r).per_line bytes entry are more
+return_of_role t r bytes is of more = address_bytes _ _ bytes (entry_is r Return is) (line_is t r bytes Return is of) more
 
 pub text_of_role : (t : Table) (r : RangeType) (bytes : List ℕ) → (layout_of r).entry ≡ Character → IsGroupOf t r bytes → length bytes ≤ 16
-text_of_role t r bytes is of =
-    let entry = subst (IsEntry (layout_of r).unit (layout_of r).per_line) is (layout_entry r) in
-    let are = subst (λ (e : Entry). IsLineOf t (layout_of r).unit (layout_of r).per_line e bytes) is of in
-    few_entries (layout_of r).unit (layout_of r).per_line bytes entry.1 are
+text_of_role t r bytes is of = few_entries _ _ 16 bytes (omega arith) (entry_is r Character is).1 (line_is t r bytes Character is of)
 
 -- a line of a table is one whatever the opcodes are
 pub group_of_table : (t u : Table) (r : RangeType) (bytes : List ℕ) → r ≢ Code → IsGroupOf t r bytes → IsGroupOf u r bytes
@@ -121,7 +111,7 @@ no_instruction Code other is = other refl
 no_instruction _ other is = absurd cc
 
 pub no_skipped : (t : Table) (r : RangeType) (bytes : List ℕ) → IsGroupOf t r bytes → (layout_of r).entry ≡ Skipped → ⊥
-no_skipped t r bytes of is = subst (λ (e : Entry). IsLineOf t (layout_of r).unit (layout_of r).per_line e bytes) is of
+no_skipped t r bytes of is = line_is t r bytes Skipped is of
 
 pub ruleset lines = (numbers_of_role, address_of_role, return_of_role, text_of_role, no_instruction, no_skipped)
 

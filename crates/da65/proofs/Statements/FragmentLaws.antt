@@ -1,16 +1,12 @@
 -- The bytes of fragments whose values are numbers.
-use Rattle.std.proofs.Common.{◌≡◌, ℕ, true, cond, ◌+◌, ◌-◌, ◌%◌, ◌<◌, ◌≤◌, List, [], ◌∷◌, ◌++◌, length, map, Option, Some, None, refl, sym, ap, ◌∙◌, arith, length-append}
+use Rattle.std.proofs.Common.{◌≡◌, ℕ, true, cond, ◌+◌, ◌-◌, ◌%◌, ◌<◌, ◌≤◌, List, ◌∷◌, ◌++◌, length, map, Option, Some, None, refl, sym, ap, arith, length-append, []}
 use Rattle.std.specs.Prelude.{nat_lt, nat_le}
 use Rattle.std.specs.List.{list_all, flat_map}
 use Rattle.std.proofs.lemmas.Bool.{lt-ltb, le-leb, ltb-true, ltb-false, leb-true, and_from, cond_both}
 use Rattle.std.proofs.lemmas.List.Elements.{All-head, All-tail}
-use Rattle.stmt65.specs.declared.directive.Directive.{Directive}
-use Rattle.stmt65.specs.Tables.{entry_len, entry_number}
-use Rattle.stmt65.specs.Printed.{entry_value}
-use Rattle.stmt65.proofs.Public.{entry_size, bytes_back, number_fits}
 use Rattle.stmt65.specs.SourceLine.{NumberValue, NumberDatum}
 use Rattle.stmt65.specs.Symbols.{Definition, value_in, is_known, word_in}
-use Rattle.stmt65.specs.Coding.{entry_limit, Fragment, Fixed, Single, Entry, entry_in, is_fragment_known, fragment_fits, fragment_bytes, fragment_len, coding_len, datum_fragments, is_near, distance}
+use Rattle.stmt65.specs.Coding.{Fragment, Fixed, Single, is_fragment_known, fragment_fits, fragment_bytes, fragment_len, coding_len, datum_fragments, is_near, distance}
 use Rattle.map65.specs.ImageView.{AreBytes}
 use Rattle.map65.specs.Targets.{target_of}
 
@@ -64,16 +60,6 @@ single_gives Full next n fragments bytes h rest =
     more_fragments Full next (Single (NumberValue n)) fragments (n ∷ []) bytes refl (λ all full. number_known all n)
     (λ all full. rw (word_of_number all n (omega arith), lt-ltb n 256 h) refl)
     (λ all full. rw (word_of_number all n (omega arith)) (ap (λ (b : ℕ). b ∷ []) (low_byte n h))) rest
-
--- a number in its entry
-pub entry_gives : (Full : List Definition → Type 0) (next : ℕ) (d : Directive) (entry : List ℕ) (fragments : List Fragment) (bytes : List ℕ) → length entry ≡ entry_len d → AreBytes entry → FragmentsGive Full next fragments bytes
-    → FragmentsGive Full next (Entry d (entry_value d entry) ∷ fragments) (entry ++ bytes)
-unfolding fragment_fits fragment_bytes entry_in value_in
-entry_gives Full next d entry fragments bytes long are rest =
-    let room = lt-ltb (entry_number d entry) (entry_limit d) (number_fits d entry long are) in
-    more_fragments Full next (Entry d (entry_value d entry)) fragments entry bytes (entry_size d ∙ sym long) (λ all full. number_known all (entry_number d entry))
-    (λ all full. rw room refl)
-    (λ all full. rw room (bytes_back d entry long are)) rest
 
 -- ---- targets
 

@@ -1,80 +1,71 @@
 -- One statement in its state: it has no fault, and gives its bytes.
-use Rattle.std.proofs.Common.{◌≡◌, ℕ, false, ◌+◌, ◌≤◌, List, [], ◌∷◌, ◌++◌, length, map, Option, Some, None, refl, subst, ◌∙◌}
-use Rattle.std.specs.Prelude.{nat_le, IfSome}
-use Rattle.std.specs.List.{flat_map}
+use Rattle.std.proofs.Common.{◌≡◌, ℕ, false, ◌+◌, ◌≤◌, List, ◌∷◌, ◌++◌, length, map, Option, Some, None, refl, subst, []}
+use Rattle.std.specs.Prelude.{nat_le, nat_lt, IfSome}
+use Rattle.std.specs.List.{flat_map, list_any}
 use Rattle.std.proofs.lemmas.Bool.{le-ltb, leb-true, cond_both}
-use Rattle.std.proofs.lemmas.List.{append-nil}
 use Rattle.isa65.specs.Mode.{len_of}
 use Rattle.isa65.specs.Opcodes.{Table, decoded}
+use Rattle.isa65.specs.declared.cpu.Cpu.{Cpu}
 use Rattle.isa65.specs.declared.op.Op.{Op}
-use Rattle.stmt65.specs.SourceLine.{NumberDatum, Operation, Data, Statement}
+use Rattle.stmt65.specs.SourceLine.{NumberDatum, Operation, Data, SourceLine}
 use Rattle.stmt65.specs.Symbols.{Definition}
 use Rattle.stmt65.specs.Coding.{Fragment, coding, datum_fragments}
-use Rattle.stmt65.specs.Meaning.{State, fragments_of, next_of, defined_by, has_unknown_cpu, has_no_form, is_undefined, is_twice, is_out_of_range, is_past_end, fault_of, bytes_of, cpu_after, after}
+use Rattle.stmt65.specs.Meaning.{State, fragments_of, next_of, defined_by, has_unknown_cpu, has_no_form, is_undefined, is_twice, is_out_of_range, is_past_end, fault_of, bytes_of, cpu_after, after, operation_in}
 use Rattle.map65.specs.ImageView.{AreBytes}
 use Rattle.da65.specs.Instructions.{instruction_in, whole_in}
 use Rattle.da65.proofs.Statements.FragmentLaws.{FragmentsGive, data_give}
 
--- The operation is coded by fragments that give these bytes; it says nothing of the CPU.
-pub record Stands (Full : List Definition → Type 0) (s : State) (o : Operation) (bytes : List ℕ) : Type 0 where
+-- The operation is coded by fragments that give these bytes, and leads to the CPU.
+pub record StandsTo (Full : List Definition → Type 0) (s : State) (o : Operation) (cpu : Cpu) (bytes : List ℕ) : Type 0 where
   pub fragments : List Fragment
   pub known_cpu : has_unknown_cpu o ≡ false
-  pub same_cpu : cpu_after s.cpu o ≡ s.cpu
+  pub next_cpu : cpu_after s.cpu o ≡ cpu
   pub coded : coding s.cpu s.above o ≡ Some fragments
   pub gives : FragmentsGive Full (s.at + length bytes) fragments bytes
 
+-- the same of one that says nothing of the CPU
+abbrev pub Stands : (List Definition → Type 0) → State → Operation → List ℕ → Type 0
+Stands Full s o bytes = StandsTo Full s o s.cpu bytes
+
 -- ---- a line whose operation stands
 
-fragments_stand : (Full : List Definition → Type 0) (s : State) (label : Option (List ℕ)) (o : Operation) (bytes : List ℕ) (h : Stands Full s o bytes) → fragments_of s (Statement label o) ≡ h.fragments
-unfolding fragments_of
-fragments_stand Full s label o bytes h = rw h.coded refl
+module _ (Full : List Definition → Type 0) (s : State) (source : SourceLine) (cpu : Cpu) (bytes : List ℕ) (h : StandsTo Full s (operation_in source) cpu bytes) where
+  fragments_are : fragments_of s source ≡ h.fragments
+  unfolding fragments_of
+  fragments_are = rw h.coded refl
 
-next_stands : (Full : List Definition → Type 0) (s : State) (label : Option (List ℕ)) (o : Operation) (bytes : List ℕ) (h : Stands Full s o bytes) → next_of s (Statement label o) ≡ s.at + length bytes
-unfolding next_of
-next_stands Full s label o bytes h = rw (fragments_stand Full s label o bytes h, h.gives.long) refl
+  next_is : next_of s source ≡ s.at + length bytes
+  unfolding next_of
+  next_is = rw (fragments_are, h.gives.long) refl
 
-pub after_stands : (Full : List Definition → Type 0) (s : State) (label : Option (List ℕ)) (o : Operation) (bytes : List ℕ) → Stands Full s o bytes
-    → after s (Some (Statement label o)) ≡ record { at = s.at + length bytes; cpu = s.cpu; above = s.above ++ defined_by s.at (Statement label o) }
-unfolding after
-after_stands Full s label o bytes h = rw (next_stands Full s label o bytes h, h.same_cpu) refl
+  pub after_is : after s (Some source) ≡ record { at = s.at + length bytes; cpu = cpu; above = s.above ++ defined_by s.at source }
+  unfolding after
+  after_is = rw (next_is, h.next_cpu) refl
 
-pub after_unlabelled : (Full : List Definition → Type 0) (s : State) (o : Operation) (bytes : List ℕ) → Stands Full s o bytes
-    → after s (Some (Statement None o)) ≡ record { at = s.at + length bytes; cpu = s.cpu; above = s.above }
-unfolding defined_by
-after_unlabelled Full s o bytes h = after_stands Full s None o bytes h ∙ rw (append-nil s.above) refl
+  pub bytes_are : (all : List Definition) → Full all → bytes_of all s (Some source) ≡ bytes
+  unfolding bytes_of
+  bytes_are all full = rw (next_is, fragments_are) (h.gives.gives all full)
 
-pub bytes_stand : (Full : List Definition → Type 0) (s : State) (label : Option (List ℕ)) (o : Operation) (bytes : List ℕ) → Stands Full s o bytes
-    → (all : List Definition) → Full all → bytes_of all s (Some (Statement label o)) ≡ bytes
-unfolding bytes_of
-bytes_stand Full s label o bytes h all full = rw (next_stands Full s label o bytes h, fragments_stand Full s label o bytes h) (h.gives.gives all full)
+  has_form : has_no_form s source ≡ false
+  unfolding has_no_form
+  has_form = rw h.coded refl
 
-has_form : (Full : List Definition → Type 0) (s : State) (label : Option (List ℕ)) (o : Operation) (bytes : List ℕ) → Stands Full s o bytes → has_no_form s (Statement label o) ≡ false
-unfolding has_no_form
-has_form Full s label o bytes h = rw h.coded refl
+  is_defined : (all : List Definition) → Full all → is_undefined all s source ≡ false
+  unfolding is_undefined
+  is_defined all full = rw (fragments_are, h.gives.known all full) refl
 
-is_defined : (Full : List Definition → Type 0) (s : State) (label : Option (List ℕ)) (o : Operation) (bytes : List ℕ) → Stands Full s o bytes
-    → (all : List Definition) → Full all → is_undefined all s (Statement label o) ≡ false
-unfolding is_undefined
-is_defined Full s label o bytes h all full = rw (fragments_stand Full s label o bytes h, h.gives.known all full) refl
+  in_range : (all : List Definition) → Full all → list_any (λ d. nat_lt 65535 d.value) (defined_by s.at source) ≡ false → is_out_of_range all s source ≡ false
+  unfolding is_out_of_range
+  in_range all full e = rw (next_is, fragments_are, h.gives.fits all full, e) refl
 
-not_twice : (s : State) (o : Operation) → is_twice s (Statement None o) ≡ false
-unfolding is_twice defined_by
-not_twice s o = refl
+  has_room : s.at + length bytes ≤ 65536 → is_past_end s source ≡ false
+  unfolding is_past_end
+  has_room room = rw next_is (le-ltb 65536 (s.at + length bytes) room)
 
-in_range : (Full : List Definition → Type 0) (s : State) (o : Operation) (bytes : List ℕ) → Stands Full s o bytes
-    → (all : List Definition) → Full all → is_out_of_range all s (Statement None o) ≡ false
-unfolding is_out_of_range defined_by
-in_range Full s o bytes h all full = rw (next_stands Full s None o bytes h, fragments_stand Full s None o bytes h, h.gives.fits all full) refl
-
-has_room : (Full : List Definition → Type 0) (s : State) (label : Option (List ℕ)) (o : Operation) (bytes : List ℕ) → Stands Full s o bytes → s.at + length bytes ≤ 65536 → is_past_end s (Statement label o) ≡ false
-unfolding is_past_end
-has_room Full s label o bytes h room = rw (next_stands Full s label o bytes h) (le-ltb 65536 (s.at + length bytes) room)
-
-pub no_fault : (Full : List Definition → Type 0) (s : State) (o : Operation) (bytes : List ℕ) → Stands Full s o bytes → s.at + length bytes ≤ 65536
-    → (all : List Definition) → Full all → fault_of all s (Some (Statement None o)) ≡ None
-unfolding fault_of
-no_fault Full s o bytes h room all full =
-    rw (h.known_cpu, has_form Full s None o bytes h, is_defined Full s None o bytes h all full, not_twice s o, in_range Full s o bytes h all full, has_room Full s None o bytes h room) refl
+  -- if it defines nothing twice, and all in the address space
+  pub no_fault : (all : List Definition) → Full all → is_twice s source ≡ false → list_any (λ d. nat_lt 65535 d.value) (defined_by s.at source) ≡ false → s.at + length bytes ≤ 65536 → fault_of all s (Some source) ≡ None
+  unfolding fault_of
+  no_fault all full new space room = rw (h.known_cpu, has_form, is_defined all full, new, in_range all full space, has_room room) refl
 
 -- ---- data
 
@@ -83,7 +74,7 @@ unfolding has_unknown_cpu cpu_after coding
 data_stands Full s bytes are = record {
   fragments = flat_map datum_fragments (map NumberDatum bytes);
   known_cpu = refl;
-  same_cpu = refl;
+  next_cpu = refl;
   coded = refl;
   gives = data_give Full (s.at + length bytes) bytes are;
 }

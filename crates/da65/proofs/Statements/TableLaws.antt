@@ -1,5 +1,5 @@
 -- The bytes of tables: texts, and numbers.
-use Rattle.std.proofs.Common.{◌≡◌, ℕ, zero, suc, ◌*◌, ◌/◌, ◌%◌, ◌<◌, ◌≤◌, List, [], ◌∷◌, length, map, take, drop, refl, subst, ◌∙◌, arith}
+use Rattle.std.proofs.Common.{◌≡◌, ℕ, zero, suc, ◌*◌, ◌/◌, ◌%◌, ◌<◌, ◌≤◌, List, ◌∷◌, length, map, take, drop, refl, subst, ◌∙◌, arith, []}
 use Rattle.std.specs.List.{flat_map}
 use Rattle.std.proofs.Math.Nat.{suc-mul}
 use Rattle.std.proofs.lemmas.Bool.{cond_both}
@@ -13,7 +13,9 @@ use Rattle.stmt65.specs.declared.directive.Directive.TheVariants.{Word}
 use Rattle.stmt65.specs.Printed.{entry_value}
 use Rattle.stmt65.specs.Tables.{entry_len, pieces, entries, is_plain, onto_stretch, cut_text}
 use Rattle.map65.specs.ImageView.{AreBytes}
-use Rattle.da65.proofs.Statements.FragmentLaws.{FragmentsGive, fixed_gives, no_fragments, single_gives, entry_gives}
+use Rattle.da65.proofs.Statements.FragmentLaws.{FragmentsGive, fixed_gives, no_fragments, single_gives}
+use Rattle.da65.proofs.Instructions.ValueLaws.{number_worth}
+use Rattle.da65.proofs.Instructions.WorthLaws.{entry_worth_gives}
 
 -- ---- texts
 
@@ -44,7 +46,7 @@ pieces_give Full next d (suc count) bytes are long =
     let room : n ≤ length bytes = omega (arith, long, suc-mul count n) in
     let left : length (drop n bytes) ≡ count * n = length-drop n bytes ∙ omega (arith, long, suc-mul count n) in
     let others = pieces_give Full next d count (drop n bytes) (All-drop (λ b. b < 256) n bytes are) left in
-    let front = entry_gives Full next d (take n bytes) _ (drop n bytes) (length-take-le n bytes room) (All-take (λ b. b < 256) n bytes are) others in
+    let front = entry_worth_gives Full next d (entry_value d (take n bytes)) (take n bytes) _ (drop n bytes) (λ all full. number_worth all _) (length-take-le n bytes room) (All-take (λ b. b < 256) n bytes are) others in
     subst (λ (l : List ℕ). FragmentsGive Full next (map (Entry d) (map (entry_value d) (pieces (suc count) n bytes))) l) (take-append-drop n bytes) front
 
 -- the entries of a table give its bytes

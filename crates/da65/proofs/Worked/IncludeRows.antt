@@ -1,5 +1,5 @@
 -- The definition of what a run lists its input by, held against small include files.
-use Rattle.std.proofs.Common.{◌≡◌, ℕ, Bool, List, [], ◌∷◌, Some, true, false, codes, refl}
+use Rattle.std.proofs.Common.{◌≡◌, ℕ, Bool, List, ◌∷◌, Some, true, false, codes, refl, []}
 use Rattle.std.specs.Prelude.{Ok, Err, Result}
 use Rattle.isa65.specs.Mnemonic.{mnemonic_named}
 use Rattle.text65.specs.Lines.{text_lines}

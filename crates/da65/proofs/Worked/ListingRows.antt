@@ -1,5 +1,5 @@
 -- The definition of the listing, held against worked examples.
-use Rattle.std.proofs.Common.{◌≡◌, refl, arith, subst, ℕ, List, [], ◌∷◌}
+use Rattle.std.proofs.Common.{◌≡◌, refl, arith, subst, ℕ, List, ◌∷◌, []}
 use Rattle.std.specs.Prelude.{codes, decimal, ◌++◌}
 use Rattle.stmt65.specs.Tables.{entries, pieces, cut_text}
 use Rattle.std.proofs.lemmas.Fmt.{decimal-digits_of}

@@ -1,5 +1,5 @@
 -- The definitions of a run's result, held against small inputs.
-use Rattle.std.proofs.Common.{◌≡◌, ℕ, List, Option, ◌∷◌, [], None, Some, Bool, true, false, codes, refl}
+use Rattle.std.proofs.Common.{◌≡◌, ℕ, List, Option, ◌∷◌, None, Some, Bool, true, false, codes, refl, []}
 use Rattle.std.specs.Prelude.{Ok}
 use Rattle.info65.specs.Views.{InfoView, SettingsView, default_settings}
 use Rattle.map65.specs.Image.{image_by, image_of}

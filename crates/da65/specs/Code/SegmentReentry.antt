@@ -53,14 +53,11 @@ pub record IsNew (e : Entered) : Type 0 where
   pub last : e.last ≡ None
   pub had : (k : Option ℕ) → has_had e k ≡ false
 
--- the groups from the k-th byte on decide the warning, after groups that had segments of the names that pass the test
-pub record IsDecidedFrom (m : MapView) (k : ℕ) (last : Option (List ℕ)) (test : List ℕ → Bool) : Type 0 where
-  pub had : List (List ℕ)
-  pub same : (t : List ℕ) → is_among had t ≡ test t
-  pub rest : enters_again last had (map (segment_at m) (groups_from m k)) ≡ is_entered_again m
-
--- the same with what is known
+-- The groups from the k-th byte on decide the warning, after groups of segments with the names `had`; and all that is asked of these is
+-- known by keys.
 pub record IsKnownFrom (m : MapView) (k : ℕ) (e : Entered) : Type 0 where
   pub segment : Option (List ℕ)
   pub keyed : IsKeyed m.info.segments segment e.last
-  pub decided : IsDecidedFrom m k segment (of_name m.info.segments (has_had e))
+  pub had : List (List ℕ)
+  pub same : (t : List ℕ) → is_among had t ≡ of_name m.info.segments (has_had e) t
+  pub rest : enters_again segment had (map (segment_at m) (groups_from m k)) ≡ is_entered_again m

@@ -1,13 +1,12 @@
 //! An image as it is listed.
 
-ghost use Rattle.std.specs.Prelude.{◌≡◌, ◌+◌, ◌<◌, ◌≤◌, false, length, not, true};
+ghost use Rattle.std.specs.Prelude.{◌≡◌, ◌+◌, ◌<◌, ◌≤◌, length, not};
 ghost use Rattle.std.specs.List.{list_any};
 ghost use Rattle.info65.specs.Names.{AreNames};
 ghost use Rattle.info65.specs.Segments.{AreSegments};
 ghost use Rattle.map65.specs.ImageView.{IsPlaced};
 ghost use Rattle.da65.specs.Code.SkipRanges.{is_skip_range};
-ghost use Rattle.da65.specs.Lines.{IsUnmarked};
-ghost use Rattle.da65.specs.Marks.{HasMarks};
+ghost use Rattle.da65.specs.Marks.{has_marks};
 ghost use Rattle.da65.specs.Style.{style_of};
 
 use crate::listing::headings::has_marks;
@@ -95,8 +94,7 @@ impl<'a, A: Allocator> ListedImage<'a, A> {
 
     /// Whether there may be separators, segments or comments.
     pub fn is_marked(&self) -> bool
-        ensures none { result ≡ false → IsUnmarked self.now }
-        ensures some { result ≡ true → HasMarks self.now.info (style_of self.now.info.settings) }
+        ensures { result ≡ has_marks self.now.info (style_of self.now.info.settings) }
     {
         self.marked
     }

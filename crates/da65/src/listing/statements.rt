@@ -69,15 +69,17 @@ fn has_expr(kind: OperandKind, next: u32, at: usize, bytes: &[u8]) -> bool
     }
 }
 
-/// Whether each operand of a row has an expression.
+/// Whether the target of an instruction in this mode at this address lies in the address space, if it has one, so that each operand has
+/// an expression.
 #[inline(always)]
-#[tactic(auto, using(crate::proofs::Instructions::WrittenLaws::one_some, crate::proofs::Instructions::WrittenLaws::both_some))]
-fn has_operands(row: Row, next: u32, bytes: &[u8]) -> bool
-    requires all { row_len row ≤ length bytes.now }
-    requires room { next ≤ 65536 }
-    ensures { (names : Names) → result ≡ is_some (row_operands names row next bytes.now) }
+#[tactic(auto, using(crate::proofs::Instructions::WrittenLaws::one_some, crate::proofs::Instructions::WrittenLaws::both_some), unfolding(crate::specs::Statements::operands_of))]
+fn is_in_reach(mode: Mode, address: u16, bytes: &[u8]) -> bool
+    requires all { len_of mode ≤ length bytes.now }
+    requires room { address + length bytes.now ≤ 65536 }
+    ensures { (names : Names) → result ≡ is_some (operands_of names mode address bytes.now) }
 {
-    match row {
+    let next = u32::from(address) + u32::from(mode.len());
+    match mode.row() {
         Row::Implied | Row::Accumulator => true,
         Row::One(_, kind) => has_expr(kind, next, 1, bytes),
         Row::Two(first, second) => {
@@ -85,21 +87,6 @@ fn has_operands(row: Row, next: u32, bytes: &[u8]) -> bool
                 && has_expr(second, next, 1 + usize::from(first.size()), bytes)
         }
     }
-}
-
-/// Whether the target of an instruction in this mode at this address lies in the address space, if it has one.
-#[inline(always)]
-#[tactic(auto, unfolding(crate::specs::Statements::operands_of))]
-fn is_in_reach(mode: Mode, address: u16, bytes: &[u8]) -> bool
-    requires all { len_of mode ≤ length bytes.now }
-    requires room { address + length bytes.now ≤ 65536 }
-    ensures { (names : Names) → result ≡ is_some (operands_of names mode address bytes.now) }
-{
-    has_operands(
-        mode.row(),
-        u32::from(address) + u32::from(mode.len()),
-        bytes,
-    )
 }
 
 /// The instruction that an item of code at this address is written as. None if its opcode is undefined, or if the target of the
@@ -188,40 +175,9 @@ fn two_operands<'n, A: Allocator>(
     )
 }
 
-/// The operands of a row, with the names of their addresses.
+/// The operands of an instruction in this mode at this address, with the names of their addresses.
 #[inline(always)]
-#[tactic(auto, using(crate::proofs::Instructions::WrittenLaws::is_one))]
-fn row_operands<'n, A: Allocator>(
-    map: &Map<'_, A>,
-    row: Row,
-    next: u32,
-    bytes: &[u8],
-    names: &'n mut OperandNames,
-) -> Operands<'n>
-    requires names { AreNames map.now.info.names }
-    requires all { row_len row ≤ length bytes.now }
-    requires room { next ≤ 65536 }
-    requires inside { is_some (row_operands (names_of map.now) row next bytes.now) ≡ true }
-    ensures value { Some (operands_seen result) ≡ row_operands (names_of map.now) row next bytes.now }
-    ensures written { AreOperands row (operands_seen result) }
-{
-    match row {
-        Row::Implied | Row::Accumulator => Operands::None,
-        Row::One(_, kind) => Operands::One(operand_expr(
-            map,
-            kind,
-            next,
-            1,
-            bytes,
-            &mut names.first,
-        )),
-        Row::Two(first, second) => two_operands(map, first, second, next, bytes, names),
-    }
-}
-
-/// The operands of an instruction in this mode at this address.
-#[inline(always)]
-#[tactic(auto, unfolding(crate::specs::Statements::operands_of))]
+#[tactic(auto, using(crate::proofs::Instructions::WrittenLaws::is_one), unfolding(crate::specs::Statements::operands_of))]
 fn operands_of<'n, A: Allocator>(
     map: &Map<'_, A>,
     mode: Mode,
@@ -237,7 +193,18 @@ fn operands_of<'n, A: Allocator>(
     ensures written { IsWrittenIn mode (operands_seen result) }
 {
     let next = u32::from(address) + u32::from(mode.len());
-    row_operands(map, mode.row(), next, bytes, names)
+    match mode.row() {
+        Row::Implied | Row::Accumulator => Operands::None,
+        Row::One(_, kind) => Operands::One(operand_expr(
+            map,
+            kind,
+            next,
+            1,
+            bytes,
+            &mut names.first,
+        )),
+        Row::Two(first, second) => two_operands(map, first, second, next, bytes, names),
+    }
 }
 
 /// Whether `a:` stands before the operand: an assembler would take the zero-page mode without it.

@@ -1,9 +1,10 @@
-use Rattle.std.proofs.Common.{sym}
+use Rattle.std.proofs.Common.{◌∙◌, sym}
 use Rattle.da65.proofs.NextLine.CommentLemmas.{given-told, some-printable}
+use Rattle.da65.proofs.NextLine.MarkLemmas.{unmarked}
 use Rattle.da65.proofs.listing.comment_lines.comment_at.Goals as goal
 
 pub returns-then-not-is_marked-clause-comment : goal.returns-then-not-is_marked-clause-comment
-returns-then-not-is_marked-clause-comment g c = sym ((c.is_marked.ensures.none c.if-not-is_marked.true).comments _)
+returns-then-not-is_marked-clause-comment g c = sym ((unmarked _ (sym c.is_marked.ensures ∙ c.if-not-is_marked.true)).comments _)
 
 pub returns-clause-comment : goal.returns-clause-comment
 returns-clause-comment g c = given-told _ _ _ _ c.given_comment.ensures c.info.ensures.info

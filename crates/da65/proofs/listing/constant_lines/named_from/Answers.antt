@@ -1,6 +1,5 @@
-use Rattle.std.proofs.Common.{◌≡◌, ◌∙◌, ◌+◌, ◌<◌, ℕ, List, ap, arith, drop, length, take}
+use Rattle.std.proofs.Common.{◌≡◌, ◌∙◌, ℕ, List, ap, arith, drop, take}
 use Rattle.std.specs.List.{prefix_len}
-use Rattle.std.proofs.lemmas.List.{length-take-le}
 use Rattle.da65.specs.Code.NamedCells.{is_unnamed}
 use Rattle.da65.proofs.NextLine.ConstantLemmas.{unnamed-between}
 use Rattle.da65.proofs.listing.constant_lines.named_from.Goals as goal

@@ -1,4 +1,4 @@
-use Rattle.std.proofs.Common.{[], refl}
+use Rattle.std.proofs.Common.{refl, []}
 use Rattle.map65.specs.MapView.{opcodes}
 use Rattle.da65.proofs.Statements.EntryLemmas.{group_of_table}
 use Rattle.da65.proofs.NextLine.ListedGroupLemmas.{has-bytes, of-role, statement-is}

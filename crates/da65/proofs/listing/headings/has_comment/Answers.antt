@@ -1,9 +1,22 @@
-use Rattle.std.proofs.Common.{arith}
-use Rattle.da65.proofs.NextLine.MarkLemmas.{none-more, none-shown}
+use Rattle.std.proofs.Common.{◌∙◌, ap, arith, refl, sym}
+use Rattle.std.specs.List.{list_any}
+use Rattle.std.proofs.lemmas.List.{take_all}
+use Rattle.std.proofs.lemmas.List.Folds.{list_any_at, list_any_more}
+use Rattle.info65.specs.Names.{blank_name}
+use Rattle.da65.specs.Marks.{has_comment}
+use Rattle.da65.proofs.NextLine.MarkLemmas.{comment-shown}
 use Rattle.da65.proofs.listing.headings.has_comment.Goals as goal
+
+pub returns-then-is_some : goal.returns-then-is_some
+returns-then-is_some g c =
+    sym (list_any_at has_comment c.args.info.now.names c.names.at blank_name (omega arith) (comment-shown c.given-given.result _ c.given-given.ensures.name ∙ sym c.is_some.ensures ∙ c.if-is_some.true))
 
 pub names-preserved : goal.names-preserved
 names-preserved g c = record {
-  none = none-more _ _ c.names.invariant.none (none-shown c.given-given.result _ _ c.given-given.ensures.name c.is_some.ensures c.if-is_some.false);
+  none = list_any_more has_comment c.args.info.now.names c.names.at blank_name (omega arith)
+      ∙ rw (c.names.invariant.none, comment-shown c.given-given.result _ c.given-given.ensures.name ∙ sym c.is_some.ensures ∙ c.if-is_some.false) refl;
   bound = omega arith;
 }
+
+pub returns : goal.returns
+returns g c = sym c.names.invariant.none ∙ ap (list_any has_comment) (take_all c.names.at c.args.info.now.names (omega arith))

@@ -1,10 +1,11 @@
-use Rattle.std.proofs.Common.{◌≡◌, ◌-◌, ◌<◌, ◌≤◌, ℕ, None}
-use Rattle.info65.specs.Names.{name_at}
+use Rattle.std.proofs.Common.{◌≡◌, ◌-◌, ◌≤◌, false, take}
+use Rattle.std.specs.List.{list_any}
+use Rattle.da65.specs.Marks.{has_comment}
 use Rattle.da65.proofs.listing.headings.has_comment.Given as goal
 
 abbrev pub invariant-names : goal.invariant-names
 invariant-names g l = record {
-  none : (i : ℕ) → i < l.at → (name_at l.info.names i).comment ≡ None;
+  none : list_any has_comment (take l.at l.info.names) ≡ false;
   bound : l.at ≤ l.count;
 }
 

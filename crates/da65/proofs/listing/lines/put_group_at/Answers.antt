@@ -1,6 +1,7 @@
 use Rattle.std.proofs.Common.{◌∙◌, ◌+◌, ℕ, ap, sym}
 use Rattle.da65.specs.Lines.{group_left}
 use Rattle.da65.proofs.NextLine.NextLemmas.{inside-start, lines-unmarked, next-moved, next-there}
+use Rattle.da65.proofs.NextLine.MarkLemmas.{unmarked}
 use Rattle.da65.proofs.NextLine.SegmentLemmas.{segment-none}
 use Rattle.da65.proofs.listing.lines.put_group_at.Goals as goal
 
@@ -9,7 +10,7 @@ put_from_forwards-requires g c = inside-start _ _ _ c.requires.start c.address.e
 
 pub returns : goal.returns
 returns g c =
-    let none = c.is_marked.ensures.none c.if-is_marked.false in
+    let none = unmarked _ (sym c.is_marked.ensures ∙ c.if-is_marked.false) in
     next-there _ _ _ _ _ _ (none.segments _ ∙ sym (segment-none _ _ none.segments) ∙ sym c.requires.segment)
     (next-moved _ _ _ _ _ _
     (lines-unmarked _ _ none c.requires.start ∙ ap (λ (n : ℕ). group_left c.args.listed.now c.args.index (n + 1)) (sym c.address.ensures))

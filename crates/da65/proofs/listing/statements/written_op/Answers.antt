@@ -1,6 +1,7 @@
 use Rattle.std.proofs.Common.{◌≡◌, ◌∙◌, None, Some, rules, sym}
 use Rattle.da65.specs.Instructions.{instruction_in}
-use Rattle.da65.proofs.Instructions.WrittenOps.{has-all, undefined, unreached}
+use Rattle.da65.proofs.Instructions.WrittenOps.{undefined, unreached}
+use Rattle.da65.proofs.Statements.StandsLaws.{begins_with}
 use Rattle.da65.proofs.listing.statements.written_op.Goals as goal
 
 pub returns-in_err-op : goal.returns-in_err-op
@@ -12,7 +13,7 @@ returns-in_err-op g c =
 pub is_in_reach-requires-clause-all : goal.is_in_reach-requires-clause-all
 is_in_reach-requires-clause-all g c =
     let some : instruction_in (g.S.OpcodeSet.table c.args.set.now) c.args.bytes.now ≡ Some c.in_ok-op.op = search rules in
-    has-all _ _ _ some
+    (begins_with _ _ _ some).long
 
 pub returns-else-is_in_reach : goal.returns-else-is_in_reach
 returns-else-is_in_reach g c =

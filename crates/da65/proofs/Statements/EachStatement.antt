@@ -1,0 +1,111 @@
+-- What holds of each statement that an item of code or a group can have, form by form.
+use Rattle.std.proofs.Common.{◌≡◌, ◌∙◌, ℕ, ◌+◌, ◌<◌, ◌≤◌, ◌==◌, List, length, take, Option, Some, None, refl, ap, subst, arith}
+use Rattle.std.specs.Prelude.{nat_lt}
+use Rattle.std.proofs.lemmas.Bool.{cond_both, eqb-false, eqb-true, ltb-false, ltb-true}
+use Rattle.std.proofs.lemmas.List.{take_all}
+use Rattle.isa65.specs.Mode.{len_of}
+use Rattle.isa65.specs.Opcodes.{Table}
+use Rattle.isa65.specs.declared.mode.Mode.{Mode}
+use Rattle.isa65.specs.declared.mode.Mode.TheVariants.{Imp}
+use Rattle.isa65.specs.declared.op.Op.{Op}
+use Rattle.info65.proofs.Public.{layout_entry}
+use Rattle.info65.specs.Layouts.{IsEntry, layout_of}
+use Rattle.info65.specs.declared.information.range.Entry.{Entry}
+use Rattle.info65.specs.declared.information.range.Entry.TheVariants.{Instruction, Number, Address, Return, Character, Skipped}
+use Rattle.info65.specs.declared.information.range.RangeType.{RangeType}
+use Rattle.stmt65.specs.declared.directive.Directive.{Directive}
+use Rattle.stmt65.specs.declared.directive.Directive.TheVariants.{Word}
+use Rattle.stmt65.specs.Printable.{IsTable}
+use Rattle.stmt65.specs.Views as view
+use Rattle.stmt65.specs.Views.{OperandsView, StatementView}
+use Rattle.map65.proofs.Public.{len-positive}
+use Rattle.map65.specs.Items.{code_size}
+use Rattle.map65.specs.Names.{Base}
+use Rattle.map65.specs.Roles.{unit_of}
+use Rattle.map65.specs.Targets.{entry_of}
+use Rattle.da65.specs.BaseNames.{Names}
+use Rattle.da65.specs.Groups.{limit_of}
+use Rattle.da65.specs.Instructions.{instruction_in}
+use Rattle.da65.specs.ReassemblyLaw.{item_in}
+use Rattle.da65.specs.Shapes.{IsGroupOf, IsLineOf}
+use Rattle.da65.specs.Statements.{addr_from, address_entry, bytes_statement, directive_of, entries_or_byte, is_forced, numbers, operands_of, return_entry, rts_from, rts_to, statement_by, statement_for, statement_in, statement_of, target_by, written}
+use Rattle.da65.proofs.Statements.EntryLemmas.{address_bytes, are_table, directive_is, few_entries, number_small}
+use Rattle.da65.proofs.Statements.StandsLaws.{begins_with}
+
+pub len-small : (x : Mode) → len_of x ≤ 3
+len-small Imp = omega arith
+len-small _ = omega arith
+
+-- of the statements that an item of code can have, each with its bytes: some of the first bytes, or an instruction
+pub record OfCode (m : Names) (t : Table) (a : ℕ) (bytes : List ℕ) (P : StatementView → List ℕ → Type 0) : Type 0 where
+  pub front : (n : ℕ) → 1 ≤ n → n ≤ 8 → (0 < length bytes → n ≤ length bytes) → P (bytes_statement n bytes) (take n bytes)
+  pub instruction : (op : Op) (os : OperandsView) → instruction_in t bytes ≡ Some op → operands_of m op.mode a bytes ≡ Some os → P (view.instr op (is_forced t op bytes) os) (take (len_of op.mode) bytes)
+
+-- of those that a line of a table can have: bytes, a text, numbers, an address, the entry $FFFF of a return table, and another one
+pub record OfTable (m : Names) (bytes : List ℕ) (P : StatementView → List ℕ → Type 0) : Type 0 where
+  pub plain : length bytes ≤ 8 → P (view.bytes bytes) bytes
+  pub text : length bytes ≤ 16 → P (view.text bytes) bytes
+  pub numbers : (d : Directive) → IsTable d bytes → P (view.numbers d bytes) bytes
+  pub address : (b : Base) → length bytes ≡ 2 → m.base_at (entry_of bytes) ≡ Some b → P (view.addr (target_by (entry_of bytes) b)) bytes
+  pub nowhere : length bytes ≡ 2 → entry_of bytes ≡ 65535 → P (view.rts None) bytes
+  pub return : (b : Base) → length bytes ≡ 2 → (entry_of bytes ≡ 65535 → ⊥) → m.base_at (entry_of bytes + 1) ≡ Some b → P (view.rts (Some (target_by (entry_of bytes + 1) b))) bytes
+
+pub of_item : (m : Names) (t : Table) (a : ℕ) (bytes : List ℕ) (P : StatementView → List ℕ → Type 0) → OfCode m t a bytes P → P (statement_in m t a bytes) (item_in t bytes)
+unfolding statement_in
+of_item m t a bytes P h = go (instruction_in t bytes) refl
+  where
+    written_as : (op : Op) → instruction_in t bytes ≡ Some op → (o : Option OperandsView) → operands_of m op.mode a bytes ≡ o → P (written t op bytes o) (take (len_of op.mode) bytes)
+    written_as op e None f = h.front (len_of op.mode) (len-positive op.mode) (omega (arith, len-small op.mode)) (λ _. (begins_with t bytes op e).long)
+    written_as op e (Some os) f = h.instruction op os e f
+
+    go : (o : Option Op) → instruction_in t bytes ≡ o → P (statement_of m t a bytes o) (take (code_size o) bytes)
+    go None e = h.front 1 (omega arith) (omega arith) (λ some. omega (arith, some))
+    go (Some op) e = written_as op e (operands_of m op.mode a bytes) refl
+
+module _ (m : Names) (t : Table) (a : ℕ) (bytes : List ℕ) (P : StatementView → List ℕ → Type 0) (code : OfCode m t a bytes P) (table : OfTable m bytes P) where
+  -- entries, or the leftover byte
+  either : (unit : ℕ) (entries : StatementView) → unit ≤ 8 → (unit ≤ length bytes → P entries bytes) → P (entries_or_byte unit entries bytes) bytes
+  either unit entries small many =
+      cond_both (nat_lt (length bytes) unit) (view.bytes bytes) entries (λ s. P s bytes)
+      (λ one. table.plain (omega (arith, small, ltb-true (length bytes) unit one)))
+      (λ more. many (ltb-false (length bytes) unit more))
+
+  word : length bytes ≡ 2 → P (view.numbers Word bytes) bytes
+  word two = table.numbers Word (omega (arith, two), (omega (arith, two), omega (arith, two)))
+
+  address : length bytes ≡ 2 → P (address_entry m bytes) bytes
+  unfolding address_entry
+  address two = go (m.base_at (entry_of bytes)) refl
+    where
+      go : (o : Option Base) → m.base_at (entry_of bytes) ≡ o → P (addr_from bytes (entry_of bytes) o) bytes
+      go None e = word two
+      go (Some b) e = table.address b two e
+
+  return : length bytes ≡ 2 → P (return_entry m bytes) bytes
+  unfolding return_entry
+  return two =
+      cond_both (entry_of bytes == 65535) None (Some (entry_of bytes + 1)) (λ o. P (rts_to m bytes o) bytes)
+      (λ is. table.nowhere two (eqb-true (entry_of bytes) 65535 is))
+      (λ other. go (eqb-false (entry_of bytes) 65535 other) (m.base_at (entry_of bytes + 1)) refl)
+    where
+      go : (entry_of bytes ≡ 65535 → ⊥) → (o : Option Base) → m.base_at (entry_of bytes + 1) ≡ o → P (rts_from bytes (entry_of bytes + 1) o) bytes
+      go other None e = word two
+      go other (Some b) e = table.return b two other e
+
+  line : (unit per_line : ℕ) (e : Entry) → IsEntry unit per_line e → IsLineOf t unit per_line e bytes → P (statement_by m t unit e a bytes) bytes
+  line unit per_line Instruction is of =
+      let whole : item_in t bytes ≡ bytes = ap (λ (n : ℕ). take n bytes) of ∙ take_all (length bytes) bytes (omega arith) in
+      subst (P (statement_in m t a bytes)) whole (of_item m t a bytes P code)
+  line unit per_line (Number order) is of =
+      either unit _ (number_small unit order is.0)
+      (λ more. cond_both (unit == 1) (view.bytes bytes) (view.numbers (directive_of unit order) bytes) (λ s. P s bytes)
+      (λ _. table.plain (few_entries unit per_line 8 bytes (omega arith) is.1 of))
+      (λ other. table.numbers (directive_of unit order) (are_table unit per_line (directive_of unit order) bytes (directive_is unit order is.0 other) is.1 of more)))
+  line unit per_line Address is of = either unit _ (omega (arith, is.0)) (λ more. address (address_bytes unit per_line bytes is of more))
+  line unit per_line Return is of = either unit _ (omega (arith, is.0)) (λ more. return (address_bytes unit per_line bytes is of more))
+  line unit per_line Character is of = table.text (few_entries unit per_line 16 bytes (omega arith) is.1 of)
+  line unit per_line Skipped is of = absurd of
+
+  pub of_group : (r : RangeType) → IsGroupOf t r bytes → P (statement_for m t r a bytes) bytes
+  unfolding statement_for
+  of_group r of = line (unit_of r) (limit_of r) (layout_of r).entry (layout_entry r) of
