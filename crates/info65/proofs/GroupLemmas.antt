@@ -1,18 +1,21 @@
 -- What the groups GLOBAL give, group by group.
-use Rattle.std.proofs.Common.{◌≡◌, ◌∙◌, ◌||◌, ◌+◌, ◌<◌, ◌≤◌, ℕ, false, List, ◌∷◌, ap, drop, get_or, length, map, refl, sym}
-use Rattle.std.specs.Prelude.{Option, Some, None, option_map}
+use Rattle.std.proofs.Common.{◌≡◌, ◌∙◌, ◌+◌, ◌<◌, ◌≤◌, ℕ, List, ◌∷◌, ap, drop, get_or, length, map, refl, sym}
+use Rattle.std.specs.Prelude.{Option, Some, None, is_some, option_map}
 use Rattle.std.specs.List.{find}
 use Rattle.std.specs.Option.{option_or}
 use Rattle.std.proofs.lemmas.List.{at_drop_all, at_drop_more}
-use Rattle.std.proofs.lemmas.List.Folds.{find-append, list_any-append}
-use Rattle.info65.specs.Code.Groups.{group_seen}
+use Rattle.std.proofs.lemmas.List.Folds.{find-append}
+use Rattle.info65.specs.Code.Groups.{group_seen, value_seen}
 use Rattle.info65.specs.Groups.{AssignmentView, GroupView, global_given, global_part, has, is_of, value_in}
 use Rattle.info65.specs.declared.syntax.attribute.Attribute.{Attribute}
 use Rattle.info65.specs.declared.syntax.assignment.Group.{Group}
+use Rattle.info65.specs.declared.syntax.assignment.Value.{Value}
+use Rattle.info65.proofs.Cases.{is_some_find, some_map}
 
-has_next : (a : Attribute) (g : GroupView) (gs : List GroupView) → has a (global_given (g ∷ gs)) ≡ (has a (global_part g) || has a (global_given gs))
-unfolding has global_given
-has_next a g gs = list_any-append (is_of a) (global_part g) (global_given gs)
+-- an attribute is given where it has a value
+pub has_value : (a : Attribute) (given : List AssignmentView) (o : Option Value) → option_map value_seen o ≡ value_in a given → is_some o ≡ has a given
+unfolding has value_in
+has_value a given o is = sym (some_map value_seen o) ∙ ap is_some is ∙ some_map (λ g. g.value) (find (is_of a) given) ∙ sym (is_some_find (is_of a) given)
 
 map_or : (x y : Option AssignmentView) → option_map (λ g. g.value) (option_or x y) ≡ option_or (option_map (λ g. g.value) x) (option_map (λ g. g.value) y)
 map_or None y = refl
@@ -23,17 +26,6 @@ unfolding value_in global_given
 value_next a g gs = ap (option_map (λ g. g.value)) (find-append (is_of a) (global_part g) (global_given gs)) ∙ map_or (find (is_of a) (global_part g)) (find (is_of a) (global_given gs))
 
 -- the group at a place of the list is the next
-pub has_more : {Z : Type 0} (a : Attribute) (gs : List (Group Z)) (i : ℕ) (x : Group Z) → i < length gs → x ≡ get_or gs i x
-    → has a (global_given (map group_seen (drop i gs))) ≡ (has a (global_part (group_seen x)) || has a (global_given (map group_seen (drop (i + 1) gs))))
-has_more a gs i x here is =
-    at_drop_more (λ l. has a (global_given (map group_seen l))) gs i x here
-    ∙ ap (λ y. has a (global_given (group_seen y ∷ map group_seen (drop (i + 1) gs)))) (sym is)
-    ∙ has_next a (group_seen x) (map group_seen (drop (i + 1) gs))
-
-pub has_none : {Z : Type 0} (a : Attribute) (gs : List (Group Z)) (i : ℕ) → length gs ≤ i → has a (global_given (map group_seen (drop i gs))) ≡ false
-unfolding has global_given
-has_none a gs i past = at_drop_all (λ l. has a (global_given (map group_seen l))) gs i past
-
 pub value_more : {Z : Type 0} (a : Attribute) (gs : List (Group Z)) (i : ℕ) (x : Group Z) → i < length gs → x ≡ get_or gs i x
     → value_in a (global_given (map group_seen (drop i gs))) ≡ option_or (value_in a (global_part (group_seen x))) (value_in a (global_given (map group_seen (drop (i + 1) gs))))
 value_more a gs i x here is =

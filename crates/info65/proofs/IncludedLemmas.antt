@@ -1,35 +1,33 @@
 -- The names of an include file.
 use Rattle.std.proofs.Common.{◌≡◌, ◌≢◌, ◌∙◌, ◌+◌, ◌≤◌, ◌<◌, ◌==◌, ⊎_elim, ℕ, Bool, List, [], ◌∷◌, ◌++◌, true, false, ap, arith, get_or, inl, inr, length, option_map, refl, subst, sym, take}
-use Rattle.std.specs.Prelude.{IfErr, IfOk, Option, Some, None, Result, Ok, Err, nat_le, nat_lt, option_to_list}
-use Rattle.std.specs.List.{list_all, list_any}
+use Rattle.std.specs.Option.{option_or}
+use Rattle.std.specs.Prelude.{◌||◌, Option, Some, None, Result, Ok, Err, nat_le, nat_lt, is_some, option_to_list}
+use Rattle.std.specs.List.{find, list_all, list_any}
 use Rattle.std.specs.Str.{bytes_eq}
 use Rattle.std.proofs.lemmas.Bool.Decides.{eqb_tells, nat_tests}
 use Rattle.std.proofs.lemmas.List.{append-nil, get_or-take, get_or_default, length-take-le}
-use Rattle.std.proofs.lemmas.List.Folds.{list_any_none}
+use Rattle.std.proofs.lemmas.List.Folds.{find-append, list_any-append, list_any_none}
 use Rattle.std.proofs.lemmas.Slice.Eq.{bytes_eq-Decides}
 use Rattle.std.proofs.lemmas.Bool.{and_parts}
 use Rattle.text65.specs.Lines.{text_lines}
 use Rattle.text65.specs.Names.{has_name_form, is_word_byte}
-use Rattle.info65.specs.Code.Includes.{Adds, SeesName, name_result_seen}
-use Rattle.info65.specs.Code.Index.{AreIndexed, Indexes, IsIndex, names_of}
+use Rattle.info65.specs.Code.Includes.{SeesName, name_result_seen, with_added}
 use Rattle.info65.specs.Code.Names.{given_seen}
 use Rattle.info65.specs.Code.Steps.{Sees}
-use Rattle.info65.specs.Code.Texts.{TextsView}
-use Rattle.info65.specs.Faults.{◌>>=◌, out_of_memory}
+use Rattle.info65.specs.Faults.{◌>>=◌}
 use Rattle.info65.specs.Code.Results.{Fails}
 use Rattle.info65.specs.Includes.{address_written, after_sign, as_address, assignment_in, before_sign, blank_include, included, is_blank, is_identifier, unless_ignored, line_adds, line_in, name_adds, names_included, names_with, optional_adds, or_bad, plain_name, trimmed, with_names, without_comment}
-use Rattle.info65.specs.Labels.{by_address, is_at, is_elsewhere, name_fault}
+use Rattle.info65.specs.Labels.{by_address, is_at, is_elsewhere, name_fault, named_at}
 use Rattle.info65.specs.Lexemes.{number_in, starts_word}
-use Rattle.info65.specs.Names.{AreNames, IsName, blank_name, is_reserved, name_at}
+use Rattle.info65.specs.Names.{AreGiven, AreNames, IsName, blank_name, is_reserved, name_at}
 use Rattle.info65.specs.Views.{IncludeView, InfoView, NameView}
 use Rattle.info65.specs.declared.fault.InfoFault.{InfoFault}
 use Rattle.info65.specs.declared.fault.InfoFaultKind.{InfoFaultKind}
-use Rattle.info65.specs.declared.lookup.index.Index.{Index}
 use Rattle.info65.specs.declared.information.name.Given.{Given}
 use Rattle.info65.specs.declared.fault.InfoFaultKind.TheVariants.{BadName, NameTwice, ReservedName}
 use Rattle.info65.proofs.Cases.{by_result, by_test}
-use Rattle.info65.proofs.IndexLemmas.{fault_none, names_same, no_fault}
-use Rattle.info65.proofs.NamesLemmas.{AreGiven, given_names, named_alike, names_sorted, one_more, sorted_names, text_alike}
+use Rattle.info65.proofs.IndexLemmas.{elsewhere_by, elsewhere_is, fault_none, names_same, no_fault, taken_is}
+use Rattle.info65.proofs.NamesLemmas.{named_alike, one_more, sorted_names, text_alike}
 
 abbrev Added : Type 0
 Added = Result (Option NameView) InfoFaultKind
@@ -194,10 +192,6 @@ line_seen i line names text said added r a b c =
     let f = seen_is added (optional_adds names (name_result_seen said)) b in
     rw (e, f) c
 
-pub joined : {X Z : Type 0} (names : List NameView) (n : NameView) (defined : Result (Option NameView) InfoFault) (r : Result X InfoFault) (new : Index Z) → defined ≡ Ok (Some n) → IfOk r (λ _. Indexes (names ++ n ∷ []) new) → IfErr r (λ e. e ≡ out_of_memory) → Adds names defined r new
-joined names n defined (Ok x) new is done err = (Some n, is, done)
-joined names n defined (Err e) new is done err = inr err
-
 -- ---- the names before the file
 
 record Earlier (y n : NameView) : Type 0 where
@@ -230,19 +224,14 @@ fresh names i are low =
 
 -- ---- line by line
 
--- the names so far, and the lines that are left
-pub record IsUpTo {Z : Type 0} (i : IncludeView) (names : List NameView) (bytes rest : List ℕ) (number : ℕ) (index : Index Z) : Type 0 where
-  pub all : List NameView
-  pub indexed : Indexes all index
-  pub same : names_with i 1 names (text_lines bytes) ≡ names_with i number all (text_lines rest)
-
-pub next_line : (i : IncludeView) (number : ℕ) (all : List NameView) (rest l : List ℕ) (ls : List (List ℕ)) (added : Option NameView) → text_lines rest ≡ l ∷ ls → line_adds i number all l ≡ Ok added → names_with i number all (text_lines rest) ≡ names_with i (number + 1) (all ++ option_to_list added) ls
+-- the names with what a line adds are those after which the next lines are read
+pub next_lines : (i : IncludeView) (number : ℕ) (names : List NameView) (rest l : List ℕ) (ls : List (List ℕ)) (r : Result (List NameView) InfoFault) → text_lines rest ≡ l ∷ ls → with_added names (line_adds i number names l) ≡ r
+    → names_with i number names (text_lines rest) ≡ (r >>= λ more. names_with i (number + 1) more ls)
 unfolding names_with
-next_line i number all rest l ls added is adds = rw (is, adds) refl
-
-pub bad_line : (i : IncludeView) (number : ℕ) (all : List NameView) (rest l : List ℕ) (ls : List (List ℕ)) (e : InfoFault) → text_lines rest ≡ l ∷ ls → line_adds i number all l ≡ Err e → names_with i number all (text_lines rest) ≡ Err e
-unfolding names_with
-bad_line i number all rest l ls e is adds = rw (is, adds) refl
+next_lines i number names rest l ls r is adds =
+    by_result (line_adds i number names l)
+    (λ o e. let more : Ok (names ++ option_to_list o) ≡ r = rw e at adds in rw (is, e, ← more) refl)
+    (λ f e. let bad : ◌≡◌ {A = Result (List NameView) InfoFault} (Err f) r = rw e at adds in rw (is, e, ← bad) refl)
 
 pub last_line : (i : IncludeView) (number : ℕ) (all : List NameView) (rest : List ℕ) → text_lines rest ≡ [] → names_with i number all (text_lines rest) ≡ Ok all
 unfolding names_with
@@ -293,40 +282,60 @@ read_included i opened read new names index bytes is reads are put =
     ap (λ (x : InfoView). included x index bytes) is ∙ reads
     ∙ ap (λ (x : InfoView). Ok x) (included_rest opened read index bytes reads ∙ ap (λ (l : List NameView). with_names opened l) are ∙ ap (λ (x : InfoView). with_names x names) (sym is) ∙ sym put)
 
--- ---- the names of a file
+-- ---- the names before a file in another order
 
--- an index of names is one of the same names by address
-sorted_index : (names : List NameView) (found : ℕ → Option Given) (texts : TextsView) → AreGiven names → IsIndex names found texts → IsIndex (by_address names) found texts
-sorted_index names found texts g i = record {
-  distinct = (sorted_names names g).distinct;
-  addresses = λ a. i.addresses a ∙ sym (named_alike names g a);
-  slotted = i.slotted;
-  stands = λ t. i.stands t ∙ ap (option_map (λ (n : NameView). n.address)) (sym (text_alike names g t));
+-- names that are found alike
+record Alike (xs ys : List NameView) : Type 0 where
+  named : (a : ℕ) → named_at xs a ≡ named_at ys a
+  elsewhere : (n : NameView) → list_any (is_elsewhere n) xs ≡ list_any (is_elsewhere n) ys
+
+adds_alike : (xs ys : List NameView) (n : NameView) → Alike xs ys → name_adds xs n ≡ name_adds ys n
+unfolding name_adds
+adds_alike xs ys n a =
+    let taken = taken_is xs n.address ∙ ap is_some (a.named n.address) ∙ sym (taken_is ys n.address) in
+    rw (taken, a.elsewhere n) refl
+
+line_alike : (i : IncludeView) (line : ℕ) (xs ys : List NameView) (text : List ℕ) → Alike xs ys → line_adds i line xs text ≡ line_adds i line ys text
+unfolding line_adds
+line_alike i line xs ys text a = ap (unless_ignored i.ignore_unknown line) (said (line_in i.comment_start text))
+  where
+    said : (r : Added) → optional_adds xs r ≡ optional_adds ys r
+    said (Err f) = refl
+    said (Ok None) = refl
+    said (Ok (Some n)) = adds_alike xs ys n a
+
+more_alike : (xs ys zs : List NameView) → Alike xs ys → Alike (xs ++ zs) (ys ++ zs)
+unfolding named_at
+more_alike xs ys zs a = record {
+  named = λ p. find-append (is_at p) xs zs ∙ ap (λ (o : Option NameView). option_or o (find (is_at p) zs)) (a.named p) ∙ sym (find-append (is_at p) ys zs);
+  elsewhere = λ n. list_any-append (is_elsewhere n) xs zs ∙ ap (λ b. b || list_any (is_elsewhere n) zs) (a.elsewhere n) ∙ sym (list_any-append (is_elsewhere n) ys zs);
 }
 
--- what is found by address are the names by address
-found_names : {Z : Type 0} (names : List NameView) (i : Index Z) → Indexes names i → names_of i ≡ by_address names
+same_address : (xs ys : List NameView) → Alike xs ys → by_address xs ≡ by_address ys
 unfolding by_address
-found_names names i is = names_same _ _ is.addresses 0 0x1_0000
+same_address xs ys a = names_same (named_at xs) (named_at ys) a.named 0 0x1_0000
 
-pub file_added : {Z : Type 0} (i : IncludeView) (names all : List NameView) (bytes : List ℕ) (index : Index Z) → AreNames names → nat_lt 1_048_576 (length bytes) ≡ false → names_with i 1 names (text_lines bytes) ≡ Ok all → Indexes all index
-    → (names_included i names bytes ≡ Ok (names_of index)) × AreIndexed index
-file_added i names all bytes index are small is indexed =
-    let g = all_given i 1 names (text_lines bytes) all (given_names names are) is in
-    let same = sym (found_names all index indexed) in (
-      accepted i names all bytes small is ∙ ap (λ (l : List NameView). Ok l) same,
-      record {
-        names = subst AreNames same (sorted_names all g);
-        index = subst (λ (l : List NameView). Indexes l index) same (sorted_index all _ _ g indexed);
-      },
-    )
+lines_alike : (i : IncludeView) (line : ℕ) (xs ys : List NameView) (ls : List (List ℕ)) → Alike xs ys → (names_with i line xs ls >>= λ all. Ok (by_address all)) ≡ (names_with i line ys ls >>= λ all. Ok (by_address all))
+unfolding names_with
+lines_alike i line xs ys [] a = ap (λ (l : List NameView). Ok l) (same_address xs ys a)
+lines_alike i line xs ys (l ∷ ls) a =
+    by_result (line_adds i line ys l)
+    (λ o e. rw (line_alike i line xs ys l a, e) (lines_alike i (line + 1) (xs ++ option_to_list o) (ys ++ option_to_list o) ls (more_alike xs ys (option_to_list o) a)))
+    (λ f e. rw (line_alike i line xs ys l a, e) refl)
 
--- the index of the names of a file
-pub record IsOf {Z : Type 0} (names : List NameView) (i : Index Z) : Type 0 where
-  pub same : names_of i ≡ names
-  pub indexed : AreIndexed i
-
-pub index_named : {Z : Type 0} (names : List NameView) (i : Index Z) → AreNames names × Indexes names i → IsOf names i
-index_named names i is =
-    let same : names_of i ≡ names = found_names names i is.1 ∙ names_sorted names is.0 in
-    record { same = same; indexed = record { names = subst AreNames (sym same) is.0; index = subst (λ (l : List NameView). Indexes l i) (sym same) is.1 } }
+-- a file adds the same names to those that are sorted by address
+pub file_sorted : (i : IncludeView) (names : List NameView) (bytes : List ℕ) → AreGiven names → names_included i (by_address names) bytes ≡ names_included i names bytes
+unfolding names_included
+file_sorted i names bytes g =
+    by_test (nat_lt 1_048_576 (length bytes))
+    (λ large. rw large refl)
+    (λ small. rw small (lines_alike i 1 (by_address names) names (text_lines bytes) alike))
+  where
+    alike : Alike (by_address names) names
+    alike = record {
+      named = named_alike names g;
+      elsewhere = λ n.
+          elsewhere_is (by_address names) n (sorted_names names g).distinct
+          ∙ ap (λ (o : Option NameView). elsewhere_by n.address (option_map (λ (m : NameView). m.address) o)) (text_alike names g n.text)
+          ∙ sym (elsewhere_is names n g.texts);
+    }

@@ -1,37 +1,42 @@
 -- The index of closed groups.
-use Rattle.std.proofs.Common.{◌≡◌, ◌≢◌, ◌∙◌, ◌≤◌, ◌<◌, ◌+◌, ◌-◌, ◌*◌, ◌/◌, ◌==◌, ◌&&◌, ◌||◌, ℕ, zero, suc, Bool, List, [], ◌∷◌, ◌++◌, true, false, ⊎_elim, ap, ap₂, arith, get_or, length, option_map, refl, sym, if◌then◌else◌}
+use Rattle.std.proofs.Common.{◌≡◌, ◌≢◌, ◌∙◌, ◌≤◌, ◌<◌, ◌+◌, ◌-◌, ◌==◌, ◌&&◌, ◌||◌, ℕ, zero, suc, Bool, List, [], ◌∷◌, ◌++◌, true, false, ⊎_elim, ap, ap₂, arith, get_or, inl, inr, length, length-append, map, option_map, refl, sym, if◌then◌else◌}
 use Rattle.std.specs.Option.{option_or}
-use Rattle.std.specs.Prelude.{All, AllPairs, Option, Some, None, Result, Ok, Err, IfOk, is_some, option_to_list, nat_le, nat_lt, not, slice_get}
+use Rattle.std.specs.Prelude.{All, AllPairs, Option, Some, None, Result, Ok, Err, is_some, option_to_list, nat_le, nat_lt, not, slice_get}
 use Rattle.std.specs.List.{find, flat_map, list_any}
 use Rattle.std.specs.Str.{bytes_eq}
-use Rattle.std.proofs.lemmas.Bool.{eqb-true, false≢true, or_from, or_left, or_right}
+use Rattle.std.proofs.lemmas.Bool.{eq-eqb, eqb-true, false≢true, or_from, or_left, or_right}
 use Rattle.std.proofs.lemmas.Bool.Decides.{eqb_tells, nat_tests}
 use Rattle.std.proofs.lemmas.List.Folds.{Any-from_list_any, find-append, list_any_none, list_any-append, list_any_at, list_any-from_Any}
-use Rattle.std.proofs.Math.Nat.{div-eq_of_lt-le, div-mul-le_self, lt-mul-div-succ}
 use Rattle.std.proofs.lemmas.Grind.{flat_map-append}
 use Rattle.std.proofs.lemmas.List.{append-nil}
 use Rattle.std.proofs.lemmas.List.Elements.{All-push}
 use Rattle.std.proofs.lemmas.List.Quantifiers.{all_pairs_push}
+use Rattle.std.proofs.lemmas.Option.{slice_get-get_or, slice_get-map}
 use Rattle.std.proofs.lemmas.Slice.Eq.{bytes_eq-Decides}
 use Rattle.info65.specs.Closing.{closing_fault, label_fault, optional_name_fault, range_fault}
-use Rattle.info65.specs.Code.Blocks.{AreNamed}
-use Rattle.info65.specs.Code.Names.{given_seen}
 use Rattle.info65.specs.Groups.{AssignmentView, GroupView}
 use Rattle.info65.specs.declared.syntax.attribute.GroupKind.{GroupKind}
 use Rattle.info65.specs.declared.syntax.attribute.GroupKind.TheVariants as kind
-use Rattle.info65.specs.Code.Index.{AreRanged, IsIndex, any_in, found_in, numbered, own, text_at}
-use Rattle.info65.specs.Code.Texts.{AreTexts, StandsToo, TextsView, stands_in}
+use Rattle.info65.specs.Code.Index.{AreRanged, IsFoundAt, IsIndex, StandsIn, any_in, numbered, stands_by, text_at}
+use Rattle.info65.specs.Code.Names.{given_seen}
+use Rattle.info65.specs.Code.Numbers.{IsSet, NumbersView}
+use Rattle.info65.specs.Code.Texts.{AddsText, TextsView}
 use Rattle.info65.specs.Labels.{is_at, is_elsewhere, label_in, name_fault, name_part, named_at, names_from, names_said, range_name}
-use Rattle.info65.specs.Names.{is_reserved}
+use Rattle.info65.specs.Names.{blank_name, is_reserved}
 use Rattle.info65.specs.Ranges.{has_address, overlaps, range_in, ranges_of}
 use Rattle.info65.specs.Views.{NameView}
 use Rattle.info65.specs.declared.fault.InfoFaultKind.{InfoFaultKind}
 use Rattle.info65.specs.declared.fault.InfoFaultKind.TheVariants.{AddressTwice, NameTwice, RangesOverlap, ReservedName}
 use Rattle.info65.specs.declared.information.name.Given.{Given}
 use Rattle.info65.specs.declared.information.range.RangeSpec.{RangeSpec}
-use Rattle.info65.proofs.Cases.{by_test, or_last, same_ok}
+use Rattle.info65.proofs.Cases.{by_test, is_some_find, or_last, some_map}
 use Rattle.info65.proofs.RangeLemmas.{any_shared, closes_range, ordered_in, ranges_more, shared_overlap}
-use Rattle.info65.proofs.TextsLemmas.{same_text}
+
+pub same_text : (t u : List ℕ) → bytes_eq t u ≡ true → t ≡ u
+same_text t u h = (bytes_eq-Decides t u).0 h
+
+pub other_way : (t u : List ℕ) → bytes_eq t u ≡ false → bytes_eq u t ≡ false
+other_way t u apart = by_test (bytes_eq u t) (λ hit. absurd (false≢true (sym apart ∙ (bytes_eq-Decides t u).1 (sym (same_text u t hit))))) (λ miss. miss)
 
 -- ---- marked addresses
 
@@ -93,10 +98,6 @@ overlaps_marked ranges table r all marks ordered low =
 
 -- ---- names
 
-pub is_some_find : {X : Type 0} (p : X → Bool) (xs : List X) → list_any p xs ≡ is_some (find p xs)
-is_some_find p [] = refl
-is_some_find p (x ∷ xs) = by_test (p x) (λ hit. rw hit refl) (λ miss. rw miss (is_some_find p xs))
-
 pub taken_is : (names : List NameView) (a : ℕ) → list_any (is_at a) names ≡ is_some (named_at names a)
 unfolding named_at
 taken_is names a = is_some_find (is_at a) names
@@ -144,10 +145,6 @@ pub fault_none : (names : List NameView) (n : NameView) → is_reserved n.addres
 unfolding name_fault
 fault_none names n r e t = rw (r, e, t) refl
 
-pub some_map : {X Y : Type 0} (f : X → Y) (o : Option X) → is_some (option_map f o) ≡ is_some o
-some_map f None = refl
-some_map f (Some x) = refl
-
 -- a name without a fault
 pub record IsNew (names : List NameView) (n : NameView) : Type 0 where
   pub free : is_reserved n.address n.text ≡ false
@@ -173,6 +170,12 @@ new_text names n new k d l same =
     by_test (m.address == n.address)
     (λ at. absurd (false≢true (sym new.untaken ∙ list_any_at (is_at n.address) names k d l at)))
     (λ apart. absurd (false≢true (sym new.only ∙ list_any_at (is_elsewhere n) names k d l (rw (equal, apart) refl))))
+
+-- and so is its address
+pub new_address : (names : List NameView) (n : NameView) → IsNew names n → (k : ℕ) (d : NameView) → k < length names → (get_or names k d).address ≢ n.address
+new_address names n new k d l same =
+    let at : ((get_or names k d).address == n.address) ≡ true = rw same (eq-eqb n.address n.address refl) in
+    absurd (false≢true (sym new.untaken ∙ list_any_at (is_at n.address) names k d l at))
 
 pub text_free : (names : List NameView) (n : NameView) → IsNew names n → text_at names n.text ≡ None
 text_free names n new =
@@ -221,56 +224,125 @@ no_find p xs h = is_none (find p xs) (sym (is_some_find p xs) ∙ h)
     is_none None h = refl
     is_none (Some x) h = absurd (false≢true (sym h))
 
-pub name_added : (names : List NameView) (found more : ℕ → Option Given) (texts told : TextsView) (n : Given) → IsIndex names found texts → name_fault names (given_seen n) ≡ None
-    → ((a : ℕ) → more a ≡ (if n.address == a then Some n else found a)) → StandsToo found more n texts told → IsIndex (names ++ given_seen n ∷ []) more told
-unfolding named_at
-name_added names found more texts told n i fine here there =
-    let new = no_fault names (given_seen n) fine in
+-- ---- the index
+
+pub numbered_more : (names : List NameView) (n : NameView) (k : ℕ) → k ≤ length names → numbered (names ++ n ∷ []) k ≡ numbered names k
+numbered_more names n zero low = refl
+numbered_more [] n (suc k) low = absurd (omega (arith, low))
+numbered_more (x ∷ xs) n (suc zero) low = refl
+numbered_more (x ∷ xs) n (suc (suc k)) low = numbered_more xs n (suc k) (omega (arith, low))
+
+numbered_last : (names : List NameView) (n : NameView) → numbered (names ++ n ∷ []) (length names + 1) ≡ Some n
+numbered_last names n = let e : length names + 1 ≡ suc (length names) = omega arith in ap (numbered (names ++ n ∷ [])) e ∙ at_end names
+  where
+    at_end : (xs : List NameView) → slice_get (xs ++ n ∷ []) (length xs) ≡ Some n
+    at_end [] = refl
+    at_end (x ∷ xs) = at_end xs
+
+numbered_map : {X Y : Type 0} (f : X → Y) (xs : List X) (k : ℕ) → option_map f (numbered xs k) ≡ numbered (map f xs) k
+numbered_map f xs zero = refl
+numbered_map f xs (suc k) = sym (slice_get-map f xs k)
+
+-- what the code finds
+pub taken_found : (items : List Given) (numbers : List ℕ) (a : ℕ) → IsFoundAt (map given_seen items) numbers a → is_some (numbered items (get_or numbers a 0)) ≡ list_any (is_at a) (map given_seen items)
+taken_found items numbers a i = sym (some_map given_seen _) ∙ ap is_some (numbered_map given_seen items (get_or numbers a 0) ∙ i.is) ∙ sym (taken_is (map given_seen items) a)
+
+pub stands_found : (items : List Given) (texts : TextsView) (t : List ℕ) → StandsIn (map given_seen items) texts t
+    → stands_by t (texts.others t) (option_map given_seen (numbered items (texts.slotted t))) ≡ option_map (λ (n : NameView). n.address) (text_at (map given_seen items) t)
+stands_found items texts t i = ap (stands_by t (texts.others t)) (numbered_map given_seen items (texts.slotted t)) ∙ i.is
+
+some_numbered : (names : List NameView) (k : ℕ) → (k ≡ 0 → ⊥) → k ≤ length names → (m : NameView) × (numbered names k ≡ Some m)
+some_numbered names zero some low = absurd (some refl)
+some_numbered names (suc k) some low = (get_or names k blank_name, slice_get-get_or names k blank_name (omega (arith, low)))
+
+no_text : (o : Option NameView) → option_map (λ (n : NameView). n.address) o ≡ None → o ≡ None
+no_text None h = refl
+no_text (Some n) h = absurd cc
+
+-- a text is found after one name more
+text_added : (names : List NameView) (texts told : TextsView) (n : NameView) (t : List ℕ) → StandsIn names texts t → IsNew names n
+    → AddsText texts n.text n.address (length names + 1) told t → StandsIn (names ++ n ∷ []) told t
+text_added names texts told n t i new (inl (free, taken, same)) =
+    let long = length-append names (n ∷ []) in
+    let was : option_map (λ (m : NameView). m.address) (text_at names t) ≡ None = sym i.is ∙ ap (λ (k : ℕ). stands_by t (texts.others t) (numbered names k)) free in
+    let none : text_at names t ≡ None = no_text (text_at names t) was in
+    let last : numbered (names ++ n ∷ []) (told.slotted t) ≡ Some n = ap (numbered (names ++ n ∷ [])) taken ∙ numbered_last names n in
     record {
-      distinct = all_pairs_push (λ (x y : NameView). x.text ≢ y.text) names (given_seen n) i.distinct (new_text names (given_seen n) new);
-      addresses = λ a.
-          by_test (n.address == a)
-          (λ at.
-          let same : n.address ≡ a = eqb-true n.address a at in
-          let none : find (is_at a) names ≡ None = no_find (is_at a) names (ap (λ (k : ℕ). list_any (is_at k) names) (sym same) ∙ new.untaken) in
-          ap (option_map given_seen) (here a ∙ chosen (n.address == a) (Some n) (found a) at) ∙ sym (find_more (is_at a) names (given_seen n) none at))
-          (λ apart. ap (option_map given_seen) (here a ∙ passed (n.address == a) (Some n) (found a) apart) ∙ i.addresses a ∙ sym (find_same (is_at a) names (given_seen n) apart));
-      slotted = there.texts;
-      stands = λ t.
-          by_test (bytes_eq t n.text.now)
-          (λ at.
-          let same : t ≡ n.text.now = same_text t n.text.now at in
-          let back : bytes_eq n.text.now t ≡ true = (bytes_eq-Decides n.text.now t).1 (sym same) in
-          let none : text_at names t ≡ None = ap (text_at names) same ∙ text_free names (given_seen n) new in
-          there.stands t ∙ chosen (bytes_eq n.text.now t) (Some n.address) (stands_in found texts t) back ∙ ap (option_map (λ (m : NameView). m.address)) (sym (find_more (λ (m : NameView). bytes_eq t m.text) names (given_seen n) none at)))
-          (λ apart.
-          let back : bytes_eq n.text.now t ≡ false = by_test (bytes_eq n.text.now t) (λ hit. absurd (false≢true (sym apart ∙ (bytes_eq-Decides t n.text.now).1 (sym (same_text n.text.now t hit))))) (λ miss. miss) in
-          there.stands t ∙ passed (bytes_eq n.text.now t) (Some n.address) (stands_in found texts t) back ∙ i.stands t ∙ ap (option_map (λ (m : NameView). m.address)) (sym (find_same (λ (m : NameView). bytes_eq t m.text) names (given_seen n) apart)));
+      low = omega (arith, taken, long);
+      alone = λ empty. absurd (omega (arith, taken, empty));
+      is = ap (stands_by t (told.others t)) last ∙
+          by_test (bytes_eq t n.text)
+          (λ at. chosen (bytes_eq t n.text) (Some n.address) (told.others t) at ∙ ap (option_map (λ (m : NameView). m.address)) (sym (find_more (λ (m : NameView). bytes_eq t m.text) names n none at)))
+          (λ off. passed (bytes_eq t n.text) (Some n.address) (told.others t) off ∙ same ∙ i.alone free ∙ ap (option_map (λ (m : NameView). m.address)) (sym (find_same (λ (m : NameView). bytes_eq t m.text) names n off ∙ none)));
+    }
+text_added names texts told n t i new (inr (inl (some, at, same, beside))) =
+    let long = length-append names (n ∷ []) in
+    let none : text_at names t ≡ None = ap (text_at names) (same_text t n.text at) ∙ text_free names n new in
+    let m = some_numbered names (texts.slotted t) some i.low in
+    let silent : stands_by t (texts.others t) (Some m.0) ≡ None = ap (stands_by t (texts.others t)) (sym m.1) ∙ i.is ∙ ap (option_map (λ (m : NameView). m.address)) none in
+    let other : bytes_eq t m.0.text ≡ false = by_test (bytes_eq t m.0.text) (λ hit. let wrong : ◌≡◌ {A = Option ℕ} (Some m.0.address) None = rw hit at silent in absurd cc) (λ miss. miss) in
+    let by : numbered (names ++ n ∷ []) (told.slotted t) ≡ Some m.0 = ap (numbered (names ++ n ∷ [])) same ∙ numbered_more names n (texts.slotted t) i.low ∙ m.1 in
+    record {
+      low = omega (arith, same, i.low, long);
+      alone = λ empty. absurd (some (sym same ∙ empty));
+      is = ap (stands_by t (told.others t)) by ∙ passed (bytes_eq t m.0.text) (Some m.0.address) (told.others t) other ∙ beside
+          ∙ ap (option_map (λ (m : NameView). m.address)) (sym (find_more (λ (m : NameView). bytes_eq t m.text) names n none at));
+    }
+text_added names texts told n t i new (inr (inr (off, same, also))) =
+    let long = length-append names (n ∷ []) in
+    record {
+      low = omega (arith, same, i.low, long);
+      alone = λ empty. also ∙ i.alone (sym same ∙ empty);
+      is = ap₂ (λ (o : Option ℕ) (k : ℕ). stands_by t o (numbered (names ++ n ∷ []) k)) also same
+          ∙ ap (stands_by t (texts.others t)) (numbered_more names n (texts.slotted t) i.low)
+          ∙ i.is ∙ ap (option_map (λ (m : NameView). m.address)) (sym (find_same (λ (m : NameView). bytes_eq t m.text) names n off));
     }
 
--- its address has no name
-pub no_name_there : (names : List NameView) (found : ℕ → Option Given) (texts : TextsView) (n : Given) → IsIndex names found texts → name_fault names (given_seen n) ≡ None → found n.address ≡ None
+-- and an address
+address_added : (names : List NameView) (numbers more : List ℕ) (n : NameView) (a : ℕ) → IsFoundAt names numbers a → IsNew names n
+    → get_or more a 0 ≡ (if n.address == a then length names + 1 else get_or numbers a 0) → IsFoundAt (names ++ n ∷ []) more a
 unfolding named_at
-no_name_there names found texts n i fine = nothing (found n.address) (i.addresses n.address ∙ no_find (is_at n.address) names (no_fault names (given_seen n) fine).untaken)
-  where
-    nothing : (o : Option Given) → option_map given_seen o ≡ None → o ≡ None
-    nothing None h = refl
-    nothing (Some x) h = absurd cc
+address_added names numbers more n a i new here =
+    let long = length-append names (n ∷ []) in
+    by_test (n.address == a)
+    (λ at.
+    let now : get_or more a 0 ≡ length names + 1 = here ∙ chosen (n.address == a) (length names + 1) (get_or numbers a 0) at in
+    let same : n.address ≡ a = eqb-true n.address a at in
+    let none : find (is_at a) names ≡ None = no_find (is_at a) names (ap (λ (k : ℕ). list_any (is_at k) names) (sym same) ∙ new.untaken) in
+    record { low = omega (arith, now, long); is = ap (numbered (names ++ n ∷ [])) now ∙ numbered_last names n ∙ sym (find_more (is_at a) names n none at) })
+    (λ off.
+    let still : get_or more a 0 ≡ get_or numbers a 0 = here ∙ passed (n.address == a) (length names + 1) (get_or numbers a 0) off in
+    record {
+      low = omega (arith, still, i.low, long);
+      is = ap (numbered (names ++ n ∷ [])) still ∙ numbered_more names n (get_or numbers a 0) i.low ∙ i.is ∙ sym (find_same (is_at a) names n off);
+    })
 
--- and its text stands nowhere
-pub no_text_there : (names : List NameView) (found : ℕ → Option Given) (texts : TextsView) (n : Given) → IsIndex names found texts → name_fault names (given_seen n) ≡ None → stands_in found texts n.text.now ≡ None
-no_text_there names found texts n i fine = i.stands n.text.now ∙ ap (option_map (λ (m : NameView). m.address)) (text_free names (given_seen n) (no_fault names (given_seen n) fine))
+pub name_added : (names : List NameView) (numbers more : NumbersView) (texts told : TextsView) (n : NameView) → IsIndex names numbers texts → name_fault names n ≡ None → n.address < 0x1_0000
+    → more.count ≡ numbers.count → IsSet n.address (length names + 1) numbers.cells more.cells
+    → ((t : List ℕ) → AddsText texts n.text n.address (length names + 1) told t) → IsIndex (names ++ n ∷ []) more told
+name_added names numbers more texts told n i fine low count here there =
+    let new = no_fault names n fine in
+    record {
+      long = count ∙ i.long;
+      low = All-push (λ (x : NameView). x.address < 0x1_0000) names n i.low low;
+      distinct = all_pairs_push (λ (x y : NameView). x.text ≢ y.text) names n i.distinct (new_text names n new);
+      apart = all_pairs_push (λ (x y : NameView). x.address ≢ y.address) names n i.apart (new_address names n new);
+      addresses = λ a. address_added names numbers.cells more.cells n a (i.addresses a) new (here a);
+      texts = λ t. text_added names texts told n t (i.texts t) new (there t);
+    }
 
--- ---- no names, and no ranges
-
-pub no_index : (found : ℕ → Option Given) (texts : TextsView) → ((a : ℕ) → found a ≡ None) → AreTexts texts → ((t : List ℕ) → stands_in found texts t ≡ None) → IsIndex [] found texts
+pub no_index : (numbers : NumbersView) (texts : TextsView) → numbers.count ≡ 0x1_0000 → numbers.cells ≡ [] → ((t : List ℕ) → texts.slotted t ≡ 0) → ((t : List ℕ) → texts.others t ≡ None) → IsIndex [] numbers texts
 unfolding named_at
-no_index found texts none are silent = record {
+no_index numbers texts long none empty lone = record {
+  long = long;
+  low = λ k d l. absurd (omega (arith, l));
   distinct = λ i j d lt l. absurd (omega (arith, l));
-  addresses = λ a. ap (option_map given_seen) (none a);
-  slotted = are;
-  stands = λ t. silent t;
+  apart = λ i j d lt l. absurd (omega (arith, l));
+  addresses = λ a. let zero : get_or numbers.cells a 0 ≡ 0 = ap (λ (l : List ℕ). get_or l a 0) none in record { low = omega (arith, zero); is = ap (numbered []) zero };
+  texts = λ t. record { low = omega (arith, empty t); alone = λ h. lone t; is = ap (λ (k : ℕ). stands_by t (texts.others t) (numbered [] k)) (empty t) };
 }
+
+-- ---- no ranges
 
 pub no_ranges : (table : List Bool) → length table ≡ 0x1_0000 → ((a : ℕ) → get_or table a false ≡ false) → AreRanged [] table
 no_ranges table size blank = record { ordered = λ k d l. absurd (omega (arith, l)); size = size; ranged = λ a low. blank a }
@@ -288,15 +360,9 @@ range_apart ranges names given r x is miss = rw (← is) (rw miss refl)
 ranges_more_range : (before : List GroupView) (given : List AssignmentView) (r : RangeSpec) → range_in given ≡ Ok r → ranges_of (before ++ record { kind = kind.Range; given = given } ∷ []) ≡ ranges_of before ++ r ∷ []
 ranges_more_range before given r is = ranges_more before (record { kind = kind.Range; given = given }) ∙ rw is refl
 
-names_more : (before : List GroupView) (g : GroupView) → names_said (before ++ g ∷ []) ≡ names_said before ++ name_part g
+pub names_more : (before : List GroupView) (g : GroupView) → names_said (before ++ g ∷ []) ≡ names_said before ++ name_part g
 unfolding names_said
 names_more before g = flat_map-append name_part before (g ∷ []) ∙ ap (λ l. flat_map name_part before ++ l) (append-nil (name_part g))
-
-pub names_more_range : (before : List GroupView) (given : List AssignmentView) (r : RangeSpec) → range_in given ≡ Ok r → names_said (before ++ record { kind = kind.Range; given = given } ∷ []) ≡ names_said before ++ option_to_list (range_name given r)
-names_more_range before given r is = names_more before (record { kind = kind.Range; given = given }) ∙ rw is refl
-
-pub names_more_label : (before : List GroupView) (given : List AssignmentView) (n : NameView) → label_in given ≡ Ok n → names_said (before ++ record { kind = kind.Label; given = given } ∷ []) ≡ names_said before ++ n ∷ []
-names_more_label before given n is = names_more before (record { kind = kind.Label; given = given }) ∙ rw is refl
 
 ranges_more_other : (before : List GroupView) (k : GroupKind) (given : List AssignmentView) → (k ≡ kind.Range → ⊥) → ranges_of (before ++ record { kind = k; given = given } ∷ []) ≡ ranges_of before
 ranges_more_other before kind.Range given other = absurd (other refl)
@@ -305,118 +371,15 @@ ranges_more_other before kind.Label given other = ranges_more before (record { k
 ranges_more_other before kind.Segment given other = ranges_more before (record { kind = kind.Segment; given = given }) ∙ append-nil (ranges_of before)
 ranges_more_other before kind.Include given other = ranges_more before (record { kind = kind.Include; given = given }) ∙ append-nil (ranges_of before)
 
-pub names_more_global : (before : List GroupView) (given : List AssignmentView) → names_said (before ++ record { kind = kind.Global; given = given } ∷ []) ≡ names_said before
-names_more_global before given = names_more before (record { kind = kind.Global; given = given }) ∙ append-nil (names_said before)
-
-pub names_more_segment : (before : List GroupView) (given : List AssignmentView) → names_said (before ++ record { kind = kind.Segment; given = given } ∷ []) ≡ names_said before
-names_more_segment before given = names_more before (record { kind = kind.Segment; given = given }) ∙ append-nil (names_said before)
-
-pub names_more_include : (before : List GroupView) (given : List AssignmentView) → names_said (before ++ record { kind = kind.Include; given = given } ∷ []) ≡ names_said before
-names_more_include before given = names_more before (record { kind = kind.Include; given = given }) ∙ append-nil (names_said before)
-
 pub marked_end : (first last a at : ℕ) → at ≡ last + 1 → (nat_le first a && nat_lt a at) ≡ (nat_le first a && nat_le a last)
 marked_end first last a at is = ap (λ b. nat_le first a && b) (let e : nat_lt a at ≡ nat_le a last = by_test (nat_le a last) (λ h. let f : nat_lt a at ≡ true = grind (arith, nat_tests, h, is) in f ∙ sym h) (λ h. let f : nat_lt a at ≡ false = grind (arith, nat_tests, h, is) in f ∙ sym h) in e)
 
 -- ---- names by address
 
-pub names_next : (f : ℕ → Option NameView) (a : ℕ) → a < 0x1_0000 → names_from f a (0x1_0000 - a) ≡ option_to_list (f a) ++ names_from f (a + 1) (0x1_0000 - (a + 1))
-unfolding names_from
-names_next f a lt = let e : 0x1_0000 - a ≡ suc (0x1_0000 - (a + 1)) = omega arith in rw e refl
-
-pub names_over : (f : ℕ → Option NameView) (a : ℕ) → 0x1_0000 ≤ a → names_from f a (0x1_0000 - a) ≡ []
-unfolding names_from
-names_over f a le = let e : 0x1_0000 - a ≡ 0 = omega arith in rw e refl
-
 pub names_same : (f g : ℕ → Option NameView) → ((a : ℕ) → f a ≡ g a) → (a n : ℕ) → names_from f a n ≡ names_from g a n
 unfolding names_from
 names_same f g h a zero = refl
 names_same f g h a (suc n) = ap₂ (λ (x : Option NameView) (xs : List NameView). option_to_list x ++ xs) (h a) (names_same f g h (a + 1) n)
-
-names_none : (a n : ℕ) → names_from (λ b. None) a n ≡ []
-unfolding names_from
-names_none a zero = refl
-names_none a (suc n) = names_none (a + 1) n
-
-pub none_numbered : (a k : ℕ) → own a (numbered [] k) ≡ None
-none_numbered a zero = refl
-none_numbered a (suc k) = refl
-
--- no names
-pub names_empty : (names : List Given) (numbers : List ℕ) → length names ≡ 0 → names_from (λ a. option_map given_seen (found_in names numbers a)) 0 0x1_0000 ≡ []
-names_empty [] numbers none = names_same _ (λ a. None) (λ a. ap (option_map given_seen) (none_numbered a (get_or numbers a 0))) 0 0x1_0000 ∙ names_none 0 0x1_0000
-names_empty (x ∷ xs) numbers none = absurd (omega (arith, none))
-
-passed_over : (f : ℕ → Option NameView) (n a : ℕ) → a + n ≤ 0x1_0000 → ((b : ℕ) → a ≤ b → b < a + n → f b ≡ None) → names_from f a (0x1_0000 - a) ≡ names_from f (a + n) (0x1_0000 - (a + n))
-passed_over f zero a bound none = ap (λ (b : ℕ). names_from f b (0x1_0000 - b)) (let e : a ≡ a + 0 = omega arith in e)
-passed_over f (suc n) a bound none =
-    names_next f a (omega (arith, bound))
-    ∙ ap (λ (o : Option NameView). option_to_list o ++ names_from f (a + 1) (0x1_0000 - (a + 1))) (none a (omega arith) (omega arith))
-    ∙ passed_over f n (a + 1) (omega (arith, bound)) (λ b low high. none b (omega (arith, low)) (omega (arith, high)))
-    ∙ ap (λ (b : ℕ). names_from f b (0x1_0000 - b)) (let e : a + 1 + n ≡ a + suc n = omega arith in e)
-
--- a name that is found is one of the names, and has that address
-found_given : (names : List Given) (number a : ℕ) (n : Given) → own a (numbered names number) ≡ Some n → (k : ℕ) × (k < length names) × (get_or names k n ≡ n) × (n.address ≡ a)
-found_given names zero a n e = absurd cc
-found_given names (suc k) a n e = at_place names k e
-  where
-    at_place : (ns : List Given) (i : ℕ) → own a (slice_get ns i) ≡ Some n → (k : ℕ) × (k < length ns) × (get_or ns k n ≡ n) × (n.address ≡ a)
-    at_place [] i h = absurd cc
-    at_place (m ∷ ms) zero h =
-        by_test (m.address == a)
-        (λ hit. let x : ◌≡◌ {A = Option Given} (Some m) (Some n) = rw hit at h in let same : m ≡ n = cc in (0, omega arith, same, ap (λ (g : Given). g.address) (sym same) ∙ eqb-true m.address a hit))
-        (λ miss. let x : ◌≡◌ {A = Option Given} None (Some n) = rw miss at h in absurd cc)
-    at_place (m ∷ ms) (suc i) h = let r = at_place ms i h in (suc r.0, omega (arith, r.1), r.2, r.3)
-
--- the address of a block without a name has none
-pub block_free : (names : List Given) (numbers : List ℕ) (blocks : List Bool) (a b : ℕ) → AreNamed names blocks → get_or blocks (a / 256) false ≡ false → a ≤ b → b < (a / 256 + 1) * 256 → option_map given_seen (found_in names numbers b) ≡ None
-block_free names numbers blocks a b are off low high = none (found_in names numbers b) refl
-  where
-    same : b / 256 ≡ a / 256
-    same = let down = div-mul-le_self a 256 in div-eq_of_lt-le {k = a / 256} 256 (omega (arith, down, low)) high
-
-    none : (o : Option Given) → found_in names numbers b ≡ o → option_map given_seen o ≡ None
-    none None e = refl
-    none (Some n) e =
-        let r = found_given names (get_or numbers b 0) b n e in
-        let on : get_or blocks (n.address / 256) false ≡ true = ap (λ (g : Given). get_or blocks (g.address / 256) false) (sym r.2) ∙ are.each r.0 n r.1 in
-        absurd (false≢true (sym off ∙ ap (λ (q : ℕ). get_or blocks q false) (sym same) ∙ ap (λ (x : ℕ). get_or blocks (x / 256) false) (sym r.3) ∙ on))
-
-pub block_below : (a : ℕ) → a < 0x1_0000 → a / 256 < 256
-block_below a low = let down = div-mul-le_self a 256 in omega (arith, down, low)
-
--- so the block is passed over
-pub names_passed : (names : List Given) (numbers : List ℕ) (blocks : List Bool) (a : ℕ) → AreNamed names blocks → get_or blocks (a / 256) false ≡ false → a < 0x1_0000
-    → names_from (λ a. option_map given_seen (found_in names numbers a)) a (0x1_0000 - a) ≡ names_from (λ a. option_map given_seen (found_in names numbers a)) ((a / 256 + 1) * 256) (0x1_0000 - (a / 256 + 1) * 256)
-names_passed names numbers blocks a are off low =
-    let f : ℕ → Option NameView = λ a. option_map given_seen (found_in names numbers a) in
-    let end = (a / 256 + 1) * 256 in
-    let up : a < 256 * (a / 256 + 1) = lt-mul-div-succ a (omega arith) in
-    let q : a / 256 < 256 = block_below a low in
-    let at : a + (end - a) ≡ end = omega (arith, up) in
-    passed_over f (end - a) a (omega (arith, at, q)) (λ b from upto. block_free names numbers blocks a b are off from (omega (arith, upto, at)))
-    ∙ ap (λ (b : ℕ). names_from f b (0x1_0000 - b)) at
-
-at_end : (a : ℕ) (names : List Given) (n : Given) → own a (slice_get (names ++ n ∷ []) (length names)) ≡ own a (Some n)
-at_end a [] n = refl
-at_end a (x ∷ xs) n = at_end a xs n
-
-before_end : (a : ℕ) (names : List Given) (n : Given) (place : ℕ) → (n.address == a) ≡ false → own a (slice_get (names ++ n ∷ []) place) ≡ own a (slice_get names place)
-before_end a [] n zero other = rw other refl
-before_end a [] n (suc p) other = refl
-before_end a (x ∷ xs) n zero other = refl
-before_end a (x ∷ xs) n (suc p) other = before_end a xs n p other
-
-numbered_before_end : (a : ℕ) (names : List Given) (n : Given) (k : ℕ) → (n.address == a) ≡ false → own a (numbered (names ++ n ∷ []) k) ≡ own a (numbered names k)
-numbered_before_end a names n zero other = refl
-numbered_before_end a names n (suc p) other = before_end a names n p other
-
--- one name more, with its number
-pub number_added : (names : List Given) (numbers more : List ℕ) (n : Given) → ((a : ℕ) → get_or more a 0 ≡ (if n.address == a then length names + 1 else get_or numbers a 0)) → (a : ℕ) → found_in (names ++ n ∷ []) more a ≡ (if n.address == a then Some n else found_in names numbers a)
-number_added names numbers more n h a =
-    let e : length names + 1 ≡ suc (length names) = omega arith in
-    by_test (n.address == a)
-    (λ at. ap (λ (k : ℕ). own a (numbered (names ++ n ∷ []) k)) (h a ∙ chosen (n.address == a) (length names + 1) (get_or numbers a 0) at ∙ e) ∙ at_end a names n ∙ chosen (n.address == a) (Some n) None at ∙ sym (chosen (n.address == a) (Some n) (found_in names numbers a) at))
-    (λ apart. ap (λ (k : ℕ). own a (numbered (names ++ n ∷ []) k)) (h a ∙ passed (n.address == a) (length names + 1) (get_or numbers a 0) apart) ∙ numbered_before_end a names n (get_or numbers a 0) apart ∙ sym (passed (n.address == a) (Some n) (found_in names numbers a) apart))
 
 -- ---- a group more
 
@@ -433,21 +396,23 @@ pub closes_label : (before : List GroupView) (given : List AssignmentView) → c
 unfolding closing_fault
 closes_label before given h = closed_label (names_said before) given (label_in given) refl h
 
-pub label_fine : (before : List GroupView) (given : List AssignmentView) (n : NameView) → closing_fault before kind.Label given ≡ None → label_in given ≡ Ok n → name_fault (names_said before) n ≡ None
-label_fine before given n h is =
-    let c = closes_label before given h in
-    let same : c.name ≡ n = same_ok (sym c.is ∙ is) in
-    ap (name_fault (names_said before)) (sym same) ∙ c.fine
+one_list : (o q : Option NameView) → option_to_list o ≡ option_to_list q → o ≡ q
+one_list None None h = refl
+one_list None (Some x) h = absurd cc
+one_list (Some x) None h = absurd cc
+one_list (Some x) (Some y) h = let same : x ≡ y = cc in ap (λ (n : NameView). Some n) same
 
-pub range_fine : (before : List GroupView) (given : List AssignmentView) (r : RangeSpec) → closing_fault before kind.Range given ≡ None → range_in given ≡ Ok r → optional_name_fault (names_said before) (range_name given r) ≡ None
-range_fine before given r h is =
+-- the name that such a group says has no fault
+pub name_fine : (before : List GroupView) (k : GroupKind) (given : List AssignmentView) (o : Option NameView) → option_to_list o ≡ name_part (record { kind = k; given = given }) → closing_fault before k given ≡ None → optional_name_fault (names_said before) o ≡ None
+name_fine before kind.Range given o is h =
     let c = closes_range before given h in
-    let same : c.range ≡ r = same_ok (sym c.is ∙ is) in
-    ap (λ (x : RangeSpec). optional_name_fault (names_said before) (range_name given x)) (sym same) ∙ c.named
-
--- the index of the names that are said is that of the names
-pub moved : (names said : List NameView) (f : ℕ → Option Given) (t : TextsView) → said ≡ names → IsIndex names f t → IsIndex said f t
-moved names said f t is i = rw is i
+    ap (optional_name_fault (names_said before)) (one_list o (range_name given c.range) (is ∙ rw c.is refl)) ∙ c.named
+name_fine before kind.Label given o is h =
+    let c = closes_label before given h in
+    ap (optional_name_fault (names_said before)) (one_list o (Some c.name) (is ∙ rw c.is refl)) ∙ c.fine
+name_fine before kind.Global given o is h = ap (optional_name_fault (names_said before)) (one_list o None is)
+name_fine before kind.Segment given o is h = ap (optional_name_fault (names_said before)) (one_list o None is)
+name_fine before kind.Include given o is h = ap (optional_name_fault (names_said before)) (one_list o None is)
 
 -- a group RANGE with a range marks it
 pub marked_range : (before : List GroupView) (given : List AssignmentView) (r : RangeSpec) (old new : List Bool) → range_in given ≡ Ok r → length new ≡ length old
@@ -461,7 +426,3 @@ range_faulty before given f table is m = rw (ranges_more before (record { kind =
 -- and any other group says none
 pub range_other : (before : List GroupView) (k : GroupKind) (given : List AssignmentView) (table : List Bool) → (k ≡ kind.Range → ⊥) → AreRanged (ranges_of before) table → AreRanged (ranges_of (before ++ record { kind = k; given = given } ∷ [])) table
 range_other before k given table other m = rw (ranges_more_other before k given other) m
-
-pub ok_map : {X E : Type 0} {P Q : X → Type 0} (r : Result X E) → ((x : X) → P x → Q x) → IfOk r P → IfOk r Q
-ok_map (Ok x) f h = f x h
-ok_map (Err e) f h = tt

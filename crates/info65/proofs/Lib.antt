@@ -29,6 +29,5 @@ mod SegmentLemmas
 mod SegmentTableLemmas
 mod SpellingLemmas
 mod StandLemmas
-mod TextsLemmas
 mod TokenLemmas
 pub mod Public

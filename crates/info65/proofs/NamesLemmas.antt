@@ -1,29 +1,34 @@
 -- The names of an accepted file: what holds of those that its groups say, and of all of them by address.
-use Rattle.std.proofs.Common.{◌≡◌, ◌≢◌, ◌∙◌, ◌≤◌, ◌<◌, ◌+◌, ◌==◌, ℕ, zero, suc, Bool, List, [], ◌∷◌, ◌++◌, true, false, ⊎_elim, ap, ap₂, append_assoc, arith, get_or, length, option_map, refl, subst, sym}
+use Rattle.std.proofs.Common.{◌≡◌, ◌≢◌, ◌∙◌, ◌≤◌, ◌<◌, ◌+◌, ◌==◌, ℕ, zero, suc, Bool, List, [], ◌∷◌, ◌++◌, true, false, ⊎_elim, ap, ap₂, append_assoc, arith, get_or, length, map, option_map, refl, subst, sym}
 use Rattle.std.specs.Prelude.{All, AllPairs, IfSome, Option, Some, None, Result, Ok, Err, nat_le, option_to_list, is_some, ◌↔◌}
-use Rattle.std.specs.List.{Contains, find, list_any}
+use Rattle.std.specs.List.{Contains, IsDistinct, find, list_any}
+use Rattle.std.specs.List.Sorted.{IsNonDecreasing, IsNonDecreasingBy, IsPermutation}
 use Rattle.std.specs.Option.{unwrap_or}
-use Rattle.std.proofs.lemmas.Bool.Decides.{eqb_tells, nat_tests}
+use Rattle.std.proofs.lemmas.Bool.Decides.{Decides-eqb, eqb_tells, nat_tests}
 use Rattle.std.proofs.lemmas.List.{append-nil}
 use Rattle.std.proofs.lemmas.List.Elements.{All-push, Contains-append_right}
 use Rattle.std.proofs.lemmas.List.Folds.{list_any_at}
-use Rattle.std.proofs.lemmas.List.Kept.{AllPairs-cons}
+use Rattle.std.proofs.lemmas.List.Kept.{AllPairs-cons, AllPairs-from_increasing}
 use Rattle.std.proofs.lemmas.List.Quantifiers.{all_pairs_push}
 use Rattle.std.proofs.str.Laws.{order}
 use Rattle.std.proofs.lemmas.Bool.{eq-eqb, eqb-true, false≢true}
-use Rattle.std.proofs.lemmas.List.{get_or_default}
+use Rattle.std.proofs.lemmas.List.Sorted.{Contains-permutation, IsPermutation-map, IsPermutation-sym}
+use Rattle.std.proofs.lemmas.List.{get_or-map, get_or_default, length-map}
+use Rattle.std.proofs.lemmas.Map.Keys.{IsDistinct-IsPermutation, IsStrictlyIncreasing-from_distinct}
+use Rattle.std.proofs.lemmas.Map.Made.{IsDistinct-from_AllPairs}
 use Rattle.std.proofs.lemmas.Slice.Eq.{bytes_eq-Decides}
 use Rattle.std.specs.Str.{bytes_eq}
 use Rattle.info65.specs.Code.Index.{text_at}
+use Rattle.info65.specs.Code.Names.{given_seen}
 use Rattle.text65.specs.Names.{has_name_form}
 use Rattle.info65.specs.Attributes.{form_of}
 use Rattle.info65.specs.Closing.{closing_fault, optional_name_fault}
 use Rattle.info65.specs.Comments.{comment_in, unless_empty}
 use Rattle.info65.specs.Grammar.{AreGroups}
 use Rattle.info65.specs.Groups.{AreAllFormed, AreFormed, AssignmentView, GroupView, value_in}
-use Rattle.info65.specs.Labels.{by_address, is_at, label_from, label_in, label_sized, named, named_at, names_from, names_said, range_name}
+use Rattle.info65.specs.Labels.{by_address, is_at, label_from, label_in, label_sized, name_part, named, named_at, names_from, names_said, range_name}
 use Rattle.info65.specs.NameLaws.{NamesGiven}
-use Rattle.info65.specs.Names.{AreNames, IsComment, IsName}
+use Rattle.info65.specs.Names.{AreGiven, AreNames, IsComment, IsName, blank_name}
 use Rattle.info65.specs.Reader.{groups_of, read}
 use Rattle.info65.specs.Tokens.{tokens_of}
 use Rattle.info65.specs.Values.{HasForm, ValueView, a_comment, a_name, as_address, as_comment, as_name, as_number}
@@ -34,11 +39,12 @@ use Rattle.info65.specs.declared.syntax.attribute.GroupKind.{GroupKind}
 use Rattle.info65.specs.declared.syntax.attribute.GroupKind.TheVariants as kind
 use Rattle.info65.specs.declared.fault.InfoFaultKind.{InfoFaultKind}
 use Rattle.info65.specs.declared.fault.InfoFaultKind.TheVariants.{OutOfRange}
+use Rattle.info65.specs.declared.information.name.Given.{Given}
 use Rattle.info65.specs.declared.information.range.RangeSpec.{RangeSpec}
 use Rattle.info65.proofs.Accepting.{groups_accepted}
-use Rattle.info65.proofs.Cases.{by_test, same_ok, same_some}
+use Rattle.info65.proofs.Cases.{by_test, is_some_find, same_ok, same_some}
 use Rattle.info65.proofs.FormLemmas.{found_formed, groups_formed, size_in}
-use Rattle.info65.proofs.IndexLemmas.{IsNew, is_some_find, taken_is, names_more_global, names_more_include, names_more_label, names_more_range, names_more_segment, new_text, no_fault, closes_label}
+use Rattle.info65.proofs.IndexLemmas.{IsNew, closes_label, names_more, new_address, new_text, no_fault, taken_is}
 use Rattle.info65.proofs.RangeLemmas.{closes_range, low_in, ordered_in}
 
 -- ---- by address
@@ -89,35 +95,42 @@ named_place names a x is = found_some (is_at a) names x is
 
 -- ---- what holds of the names that groups say
 
-pub record AreGiven (names : List NameView) : Type 0 where
-  pub each : All IsName names
-  pub texts : AllPairs (λ n m. n.text ≢ m.text) names
-  pub addresses : AllPairs (λ n m. n.address ≢ m.address) names
+-- names that are told apart by this are one name where it is the same
+same_name : {K : Type 0} (key : NameView → K) (names : List NameView) → AllPairs (λ n m. key n ≢ key m) names → (n m : NameView) → Contains names n → Contains names m → key n ≡ key m → n ≡ m
+same_name key names apart n m h k same =
+    let i : ℕ = h.0 in
+    let j : ℕ = k.0 in
+    let there : get_or names j n ≡ m = get_or_default names j n m k.1 ∙ k.2 in
+    ⊎_elim
+    (λ at. sym h.2 ∙ ap (λ (p : ℕ). get_or names p n) at.1 ∙ there)
+    (λ other.
+    ⊎_elim
+    (λ before. absurd (apart i j n (omega (arith, before, other.1)) k.1 (ap key h.2 ∙ same ∙ sym (ap key there))))
+    (λ after. absurd (apart j i n (omega (arith, after, other.1)) h.1 (ap key there ∙ sym same ∙ sym (ap key h.2))))
+    (order i j))
+    (eqb_tells i j)
+
+abbrev Rising : List NameView → Type 0
+Rising names = AllPairs (λ n m. n.address < m.address) names
+
+address_of : (names : List NameView) (a : ℕ) (x : NameView) → named_at names a ≡ Some x → x.address ≡ a
+address_of names a x is = eqb-true x.address a (named_place names a x is).passes
+
+rises : (names : List NameView) → Rising (by_address names)
+unfolding by_address
+rises names = pairs_from (λ n m. n.address < m.address) (named_at names) (λ a b x y lt is at. omega (arith, address_of names a x is, address_of names b y at, lt)) 0 0x1_0000
 
 -- sorted by address they are the names of a file
 pub sorted_names : (names : List NameView) → AreGiven names → AreNames (by_address names)
 unfolding by_address
 sorted_names names g = record {
   each = all_from IsName (named_at names) 0 0x1_0000 (λ b x low is. let r = (named_place names b x is).place in subst IsName (r.is x) (g.each r.index x r.low));
-  rising = pairs_from (λ n m. n.address < m.address) (named_at names) (λ a b x y lt is at.
-      let f : x.address ≡ a = eqb-true x.address a (named_place names a x is).passes in
-      let h : y.address ≡ b = eqb-true y.address b (named_place names b y at).passes in
-      omega (arith, f, h, lt)) 0 0x1_0000;
+  rising = rises names;
   distinct = pairs_from (λ n m. n.text ≢ m.text) (named_at names) (λ a b x y lt is at same.
-      let p = named_place names a x is in
-      let q = named_place names b y at in
-      let f : x.address ≡ a = eqb-true x.address a p.passes in
-      let h : y.address ≡ b = eqb-true y.address b q.passes in
-      let i : ℕ = p.place.index in
-      let j : ℕ = q.place.index in
-      ⊎_elim
-      (λ here. let e : x ≡ y = sym (p.place.is x) ∙ ap (λ (k : ℕ). get_or names k x) here.1 ∙ q.place.is x in omega (arith, f, h, lt, ap (λ (v : NameView). v.address) e))
-      (λ apart.
-      ⊎_elim
-      (λ before. g.texts i j x (omega (arith, before, apart.1)) q.place.low (ap (λ (v : NameView). v.text) (p.place.is x) ∙ same ∙ ap (λ (v : NameView). v.text) (sym (q.place.is x))))
-      (λ after. g.texts j i x (omega (arith, after, apart.1)) p.place.low (ap (λ (v : NameView). v.text) (q.place.is x) ∙ sym same ∙ ap (λ (v : NameView). v.text) (sym (p.place.is x))))
-      (order i j))
-      (eqb_tells i j)) 0 0x1_0000;
+      let p = (named_place names a x is).place in
+      let q = (named_place names b y at).place in
+      let e : x ≡ y = same_name (λ n. n.text) names g.texts x y (p.index, p.low, p.is x) (q.index, q.low, q.is y) same in
+      omega (arith, address_of names a x is, address_of names b y at, lt, ap (λ (v : NameView). v.address) e)) 0 0x1_0000;
 }
 
 none_given : AreGiven []
@@ -131,10 +144,7 @@ pub one_more : (names : List NameView) (n : NameView) → AreGiven names → IsN
 one_more names n g is new = record {
   each = All-push IsName names n g.each is;
   texts = all_pairs_push (λ (x y : NameView). x.text ≢ y.text) names n g.texts (new_text names n new);
-  addresses = all_pairs_push (λ (x y : NameView). x.address ≢ y.address) names n g.addresses (λ k d l same.
-      let at : ((get_or names k d).address == n.address) ≡ true = rw same (eq-eqb n.address n.address refl) in
-      let hit : list_any (is_at n.address) names ≡ true = list_any_at (is_at n.address) names k d l at in
-      let wrong : true ≡ false = sym hit ∙ new.untaken in absurd cc);
+  addresses = all_pairs_push (λ (x y : NameView). x.address ≢ y.address) names n g.addresses (new_address names n new);
 }
 
 -- ---- group by group
@@ -211,25 +221,23 @@ given_optional names given r f low g (Some n) is fine =
     let x = named_is given r n is in
     one_more names n g (record { sized = omega (arith, x.size); room = omega (arith, x.size, x.address, low); form = name_formed given n.text f x.text; free = new.free; comment = rw x.comment (comment_is given f) }) new
 
-given_more : (before : List GroupView) (k : GroupKind) (given : List AssignmentView) → AreFormed given → closing_fault before k given ≡ None → AreGiven (names_said before) → AreGiven (names_said (before ++ record { kind = k; given = given } ∷ []))
-given_more before kind.Global given f h g = rw (names_more_global before given) g
-given_more before kind.Segment given f h g = rw (names_more_segment before given) g
-given_more before kind.Include given f h g = rw (names_more_include before given) g
+given_more : (before : List GroupView) (k : GroupKind) (given : List AssignmentView) → AreFormed given → closing_fault before k given ≡ None → AreGiven (names_said before) → AreGiven (names_said before ++ name_part (record { kind = k; given = given }))
 given_more before kind.Range given f h g =
     let c = closes_range before given h in
     let low = low_in given c.range c.is in
     let ordered = ordered_in given c.range c.is in
-    rw (names_more_range before given c.range c.is) (given_optional (names_said before) given c.range f (omega (arith, low, ordered)) g (range_name given c.range) refl c.named)
+    rw c.is (given_optional (names_said before) given c.range f (omega (arith, low, ordered)) g (range_name given c.range) refl c.named)
 given_more before kind.Label given f h g =
     let c = closes_label before given h in
     let new = no_fault (names_said before) c.name c.fine in
     let x = label_is given c.name c.is in
-    rw (names_more_label before given c.name c.is) (one_more (names_said before) c.name g (record { sized = rw x.size (size_some given f); room = x.room; form = name_formed given c.name.text f x.text; free = new.free; comment = rw x.comment (comment_is given f) }) new)
+    rw c.is (one_more (names_said before) c.name g (record { sized = rw x.size (size_some given f); room = x.room; form = name_formed given c.name.text f x.text; free = new.free; comment = rw x.comment (comment_is given f) }) new)
+given_more before _ given f h g = rw (append-nil (names_said before)) g
 
 groups_given : (before gs : List GroupView) → AreGroups before gs → AreAllFormed gs → AreGiven (names_said before) → AreGiven (names_said (before ++ gs))
 groups_given before [] h f g = rw (append-nil before) g
 groups_given before (x ∷ xs) h f g =
-    let more = given_more before x.kind x.given f.0 h.0.closes g in
+    let more : AreGiven (names_said (before ++ x ∷ [])) = rw (names_more before x) (given_more before x.kind x.given f.0 h.0.closes g) in
     let all = groups_given (before ++ x ∷ []) xs h.1 f.1 more in rw (append_assoc before (x ∷ []) xs) at all
 
 none_said : AreGiven (names_said [])
@@ -263,46 +271,28 @@ in_from f a (suc n) b x low high is =
     (eqb_tells b a)
 
 -- the name that is found at the address of a name is that name
-found_itself : (names : List NameView) (n : NameView) → AreGiven names → Contains names n → named_at names n.address ≡ Some n
-found_itself names n g h = itself (named_at names n.address) refl
+found_itself : (names : List NameView) (n : NameView) → AllPairs (λ x y. x.address ≢ y.address) names → Contains names n → named_at names n.address ≡ Some n
+found_itself names n apart h = itself (named_at names n.address) refl
   where
-    hit : list_any (is_at n.address) names ≡ true
-    hit = list_any_at (is_at n.address) names h.0 n h.1 (rw h.2 (eq-eqb n.address n.address refl))
-
     itself : (o : Option NameView) → named_at names n.address ≡ o → o ≡ Some n
-    itself None is = absurd (nothing (sym (taken_is names n.address ∙ ap is_some is) ∙ hit))
-      where
-        nothing : false ≡ true → ⊥
-        nothing e = absurd cc
+    itself None is = absurd (false≢true (sym (taken_is names n.address ∙ ap is_some is) ∙ list_any_at (is_at n.address) names h.0 n h.1 (rw h.2 (eq-eqb n.address n.address refl))))
     itself (Some x) is =
-        let r = named_place names n.address x is in
-        let at : x.address ≡ n.address = eqb-true x.address n.address r.passes in
-        let i : ℕ = r.place.index in
-        let j : ℕ = h.0 in
-        let here : (get_or names i n).address ≡ n.address = ap (λ (v : NameView). v.address) (r.place.is n) ∙ at in
-        let there : (get_or names j n).address ≡ n.address = ap (λ (v : NameView). v.address) h.2 in
-        ⊎_elim
-        (λ same. ap (λ (v : NameView). Some v) (sym (r.place.is n) ∙ ap (λ (k : ℕ). get_or names k n) same.1 ∙ h.2))
-        (λ apart.
-        ⊎_elim
-        (λ before. absurd (g.addresses i j n (omega (arith, before, apart.1)) h.1 (here ∙ sym there)))
-        (λ after. absurd (g.addresses j i n (omega (arith, after, apart.1)) r.place.low (there ∙ sym here)))
-        (order i j))
-        (eqb_tells i j)
+        let p = (named_place names n.address x is).place in
+        ap (λ (v : NameView). Some v) (same_name (λ v. v.address) names apart x n (p.index, p.low, p.is x) h (address_of names n.address x is))
 
-pub exactly : (names : List NameView) → AreGiven names → (n : NameView) → Contains (by_address names) n ↔ Contains names n
+exactly : (names : List NameView) → All (λ n. n.address < 0x1_0000) names → AllPairs (λ n m. n.address ≢ m.address) names → (n : NameView) → Contains (by_address names) n ↔ Contains names n
 unfolding by_address
-exactly names g n = (
+exactly names low apart n = (
   λ h. subst (Contains names) h.2 (all_from (Contains names) (named_at names) 0 0x1_0000 (λ b x low is. let r = (named_place names b x is).place in (r.index, r.low, r.is x)) h.0 n h.1),
   λ h.
-      let given : IsName n = subst IsName h.2 (g.each h.0 n h.1) in
-      in_from (named_at names) 0 0x1_0000 n.address n (omega arith) (omega (arith, given.room, given.sized)) (found_itself names n g h),
+      let there : n.address < 0x1_0000 = subst (λ (x : NameView). x.address < 0x1_0000) h.2 (low h.0 n h.1) in
+      in_from (named_at names) 0 0x1_0000 n.address n (omega arith) (omega (arith, there)) (found_itself names n apart h),
 )
 
--- ---- lists that rise by address
+exactly_given : (names : List NameView) → AreGiven names → (n : NameView) → Contains (by_address names) n ↔ Contains names n
+exactly_given names g = exactly names (λ k d l. let is = g.each k d l in omega (arith, is.sized, is.room)) g.addresses
 
-abbrev Rising : List NameView → Type 0
-Rising names = AllPairs (λ n m. n.address < m.address) names
+-- ---- lists that rise by address
 
 rising_tail : (x : NameView) (xs : List NameView) → Rising (x ∷ xs) → Rising xs
 rising_tail x xs r = λ i j d lt l. r (suc i) (suc j) d (omega arith) (omega arith)
@@ -336,30 +326,52 @@ given_names names are = record { each = are.each; texts = are.distinct; addresse
 pub names_sorted : (names : List NameView) → AreNames names → by_address names ≡ names
 names_sorted names are =
     let g = given_names names are in
-    rising_same (by_address names) names (sorted_names names g).rising are.rising (λ n. (exactly names g n).0) (λ n. (exactly names g n).1)
+    rising_same (by_address names) names (rises names) are.rising (λ n. (exactly_given names g n).0) (λ n. (exactly_given names g n).1)
+
+abbrev addresses : List NameView → List ℕ
+addresses ns = map (λ (n : NameView). n.address) ns
+
+-- names that are put in the order of their addresses are those by address
+pub sorted_is : (xs ys : List NameView) → IsPermutation xs ys → IsNonDecreasingBy (λ (n : NameView). n.address) ys → All (λ n. n.address < 0x1_0000) xs → AllPairs (λ n m. n.address ≢ m.address) xs → by_address xs ≡ ys
+sorted_is xs ys moved up low apart =
+    rising_same (by_address xs) ys (rises xs) (λ i j d lt l.
+    let lower : get_or (addresses ys) i 0 < get_or (addresses ys) j 0 = AllPairs-from_increasing (addresses ys) (IsStrictlyIncreasing-from_distinct (addresses ys) flat distinct) i j 0 lt (omega (arith, l, length-map ys (λ n. n.address))) in
+    omega (arith, lower, get_or-map (λ n. n.address) ys i d 0 (omega (arith, lt, l)), get_or-map (λ n. n.address) ys j d 0 l))
+    (λ n h. Contains-permutation xs ys n moved ((exactly xs low apart n).0 h))
+    (λ n h. (exactly xs low apart n).1 (Contains-permutation ys xs n (IsPermutation-sym xs ys moved) h))
+  where
+    flips : (a b : ℕ) → (a == b) ≡ (b == a)
+    flips a b = ⊎_elim (λ same. ap₂ (λ (x y : ℕ). x == y) same.1 (sym same.1)) (λ other. other.0 ∙ sym (⊎_elim (λ back. absurd (other.1 (sym back.1))) (λ back. back.0) (eqb_tells b a))) (eqb_tells a b)
+
+    flat : IsNonDecreasing (addresses ys)
+    flat i j d le l =
+        let high : j < length ys = omega (arith, l, length-map ys (λ n. n.address)) in
+        let rise : (get_or ys i blank_name).address ≤ (get_or ys j blank_name).address = up i j blank_name le high in
+        let all : get_or (addresses ys) i d ≤ get_or (addresses ys) j d = omega (arith, rise, get_or-map (λ n. n.address) ys i blank_name d (omega (arith, le, high)), get_or-map (λ n. n.address) ys j blank_name d high) in
+        all
+
+    distinct : IsDistinct (λ a b. a == b) (addresses ys)
+    distinct = IsDistinct-IsPermutation (λ a b. a == b) flips (addresses xs) (addresses ys) (IsPermutation-map (λ n. n.address) xs ys moved) (IsDistinct-from_AllPairs Decides-eqb (addresses xs) (λ i j d lt l same.
+        let high : j < length xs = omega (arith, l, length-map xs (λ n. n.address)) in
+        apart i j blank_name lt high (sym (get_or-map (λ n. n.address) xs i blank_name d (omega (arith, lt, high))) ∙ same ∙ get_or-map (λ n. n.address) xs j blank_name d high)))
+
+pub order_seen : (xs : List Given) → IsNonDecreasingBy (λ (n : Given). n.address) xs → IsNonDecreasingBy (λ (n : NameView). n.address) (map given_seen xs)
+order_seen [] up i j d le l = absurd (omega (arith, l))
+order_seen (x ∷ xs) up i j d le l =
+    let high : j < length (x ∷ xs) = omega (arith, l, length-map (x ∷ xs) given_seen) in
+    let a = ap (λ (n : NameView). n.address) (get_or-map given_seen (x ∷ xs) i x d (omega (arith, le, high))) in
+    let b = ap (λ (n : NameView). n.address) (get_or-map given_seen (x ∷ xs) j x d high) in
+    let rise : (get_or (x ∷ xs) i x).address ≤ (get_or (x ∷ xs) j x).address = up i j x le high in
+    let all : (get_or (map given_seen (x ∷ xs)) i d).address ≤ (get_or (map given_seen (x ∷ xs)) j d).address = omega (arith, a, b, rise) in
+    all
 
 pub names_given : NamesGiven
 names_given o bytes info i =
     let formed : AreAllFormed i.groups = subst AreAllFormed i.accepts.of (groups_formed o i.accepts.spelling (tokens_of 1 bytes).tokens i.accepts.spelled) in
     let given = accepted_given i.groups i.accepts.keeps formed in
-    rw i.says (sorted_names (names_said i.groups) given, exactly (names_said i.groups) given)
+    rw i.says (sorted_names (names_said i.groups) given, exactly_given (names_said i.groups) given)
 
 -- ---- the same names in another order
-
--- names that are told apart by this are one name where it is the same
-same_name : {K : Type 0} (key : NameView → K) (names : List NameView) → AllPairs (λ n m. key n ≢ key m) names → (n m : NameView) → Contains names n → Contains names m → key n ≡ key m → n ≡ m
-same_name key names apart n m h k same =
-    let i : ℕ = h.0 in
-    let j : ℕ = k.0 in
-    let there : get_or names j n ≡ m = get_or_default names j n m k.1 ∙ k.2 in
-    ⊎_elim
-    (λ at. sym h.2 ∙ ap (λ (p : ℕ). get_or names p n) at.1 ∙ there)
-    (λ other.
-    ⊎_elim
-    (λ before. absurd (apart i j n (omega (arith, before, other.1)) k.1 (ap key h.2 ∙ same ∙ sym (ap key there))))
-    (λ after. absurd (apart j i n (omega (arith, after, other.1)) h.1 (ap key there ∙ sym same ∙ sym (ap key h.2))))
-    (order i j))
-    (eqb_tells i j)
 
 some_found : (p : NameView → Bool) (names : List NameView) (n : NameView) → Contains names n → p n ≡ true → is_some (find p names) ≡ true
 some_found p names n h hit = sym (is_some_find p names) ∙ list_any_at p names h.0 n h.1 (ap p h.2 ∙ hit)
@@ -386,7 +398,7 @@ find_alike p names others same once = by_found (find p names) refl (find p other
 
 pub named_alike : (names : List NameView) → AreGiven names → (a : ℕ) → named_at (by_address names) a ≡ named_at names a
 unfolding named_at
-named_alike names g a = find_alike (is_at a) names (by_address names) (exactly names g) (λ n m h k p q. same_name (λ x. x.address) names g.addresses n m h k (eqb-true n.address a p ∙ sym (eqb-true m.address a q)))
+named_alike names g a = find_alike (is_at a) names (by_address names) (exactly_given names g) (λ n m h k p q. same_name (λ x. x.address) names g.addresses n m h k (eqb-true n.address a p ∙ sym (eqb-true m.address a q)))
 
 pub text_alike : (names : List NameView) → AreGiven names → (t : List ℕ) → text_at (by_address names) t ≡ text_at names t
-text_alike names g t = find_alike (λ n. bytes_eq t n.text) names (by_address names) (exactly names g) (λ n m h k p q. same_name (λ x. x.text) names g.texts n m h k (sym ((bytes_eq-Decides t n.text).0 p) ∙ (bytes_eq-Decides t m.text).0 q))
+text_alike names g t = find_alike (λ n. bytes_eq t n.text) names (by_address names) (exactly_given names g) (λ n m h k p q. same_name (λ x. x.text) names g.texts n m h k (sym ((bytes_eq-Decides t n.text).0 p) ∙ (bytes_eq-Decides t m.text).0 q))

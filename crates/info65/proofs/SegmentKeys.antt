@@ -13,7 +13,7 @@ use Rattle.info65.specs.Views.{SegmentView}
 use Rattle.info65.specs.declared.information.segment.SegmentSpec.{SegmentSpec}
 use Rattle.info65.proofs.Cases.{by_test}
 use Rattle.info65.proofs.SegmentCovering.{covers_one, one_contains}
-use Rattle.info65.proofs.TextsLemmas.{same_text}
+use Rattle.info65.proofs.IndexLemmas.{same_text}
 
 is_name : (t u : List ℕ) → t ≡ u → bytes_eq t u ≡ true
 is_name t u h = (bytes_eq-Decides t u).1 h

@@ -77,3 +77,9 @@ pub record AreNames (names : List NameView) : Type 0 where
   pub each : All IsName names
   pub rising : AllPairs (λ n m. n.address < m.address) names
   pub distinct : AllPairs (λ n m. n.text ≢ m.text) names
+
+-- names as a file gives them, in any order: no two have one text or one address
+pub record AreGiven (names : List NameView) : Type 0 where
+  pub each : All IsName names
+  pub texts : AllPairs (λ n m. n.text ≢ m.text) names
+  pub addresses : AllPairs (λ n m. n.address ≢ m.address) names

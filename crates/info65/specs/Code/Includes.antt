@@ -1,14 +1,14 @@
 -- What contracts see of include files.
 use Rattle.std.specs.Prelude.{◌≡◌, ◌++◌, ℕ, List, Option, Result, Ok, Err, option_map, option_to_list}
-use Rattle.info65.specs.Code.Index.{AreIndexed, Indexes, names_of}
 use Rattle.info65.specs.Code.Names.{given_seen}
 use Rattle.info65.specs.Code.Results.{Fails}
 use Rattle.info65.specs.Includes.{included, names_included}
+use Rattle.info65.specs.Labels.{by_address}
+use Rattle.info65.specs.Names.{AreGiven}
 use Rattle.info65.specs.Views.{IncludeView, InfoView, NameView}
 use Rattle.info65.specs.declared.fault.InfoFault.{InfoFault}
 use Rattle.info65.specs.declared.fault.InfoFaultKind.{InfoFaultKind}
 use Rattle.info65.specs.declared.groups.include_groups.NamedFile.{NamedFile}
-use Rattle.info65.specs.declared.lookup.index.Index.{Index}
 use Rattle.info65.specs.declared.information.name.Given.{Given}
 
 abbrev pub named_seen : NamedFile → IncludeView
@@ -28,15 +28,15 @@ abbrev pub SeesName : Result (Option Given) InfoFaultKind → Result (Option Nam
 SeesName (Ok n) defined = defined ≡ Ok (option_map given_seen n)
 SeesName (Err f) defined = defined ≡ Err f
 
--- the index of these names gets what the definition adds to them, or the call returns its fault
-abbrev pub Adds : {X Z : Type 0} → List NameView → Result (Option NameView) InfoFault → Result X InfoFault → Index Z → Type 0
-Adds names defined (Ok _) new = (added : Option NameView) × (defined ≡ Ok added) × Indexes (names ++ option_to_list added) new
-Adds names defined (Err e) new = Fails e defined
+-- the names with what a line adds
+abbrev pub with_added : List NameView → Result (Option NameView) InfoFault → Result (List NameView) InfoFault
+with_added names (Ok added) = Ok (names ++ option_to_list added)
+with_added names (Err e) = Err e
 
--- the index of the names before a file gets those of the file, or the call returns the file's fault
-abbrev pub AddsFile : {X Z : Type 0} → IncludeView → List NameView → List ℕ → Result X InfoFault → Index Z → Type 0
-AddsFile file names bytes (Ok _) new = (names_included file names bytes ≡ Ok (names_of new)) × AreIndexed new
-AddsFile file names bytes (Err e) new = Fails e (names_included file names bytes)
+-- the names before a file and those of the file, in the order in which they stand, or the file's fault
+abbrev pub ReadsFile : IncludeView → List NameView → List ℕ → Result (List NameView) InfoFault → Type 0
+ReadsFile file names bytes (Ok all) = (names_included file names bytes ≡ Ok (by_address all)) × (AreGiven names → AreGiven all)
+ReadsFile file names bytes (Err e) = Fails e (names_included file names bytes)
 
 -- The information is the one with the names of the include file. In a refusal, out of memory among them, it
 -- is as before.

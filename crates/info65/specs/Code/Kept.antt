@@ -1,13 +1,13 @@
 -- What is kept of closed groups.
 use Rattle.std.specs.Prelude.{◌≡◌, Bool, List, [], ◌∷◌}
 use Rattle.std.specs.List.{flat_map}
-use Rattle.info65.specs.Code.Index.{AreMarked, AreRanged, Indexes}
+use Rattle.info65.specs.Code.Index.{AreMarked, AreRanged}
 use Rattle.info65.specs.Groups.{GroupView}
 use Rattle.info65.specs.Labels.{names_said}
 use Rattle.info65.specs.Ranges.{ranges_of}
 use Rattle.info65.specs.Segments.{segments_of}
+use Rattle.info65.specs.Views.{NameView}
 use Rattle.info65.specs.declared.information.range.RangeSpec.{RangeSpec}
-use Rattle.info65.specs.declared.lookup.index.Index.{Index}
 use Rattle.info65.specs.declared.syntax.attribute.GroupKind.{GroupKind}
 use Rattle.info65.specs.declared.syntax.attribute.GroupKind.TheVariants as group
 
@@ -25,9 +25,9 @@ unfoldable pub kept_of : List GroupView → List GroupView
 kept_of groups = flat_map kept_part groups
 
 -- what is kept is that of these groups
-pub record AreKept {Z : Type 0} (groups kept : List GroupView) (ranges : List RangeSpec) (i : Index Z) (range_cells segment_cells : List Bool) : Type 0 where
+pub record AreKept (groups kept : List GroupView) (ranges : List RangeSpec) (names : List NameView) (range_cells segment_cells : List Bool) : Type 0 where
   pub again : kept ≡ kept_of groups
   pub said : ranges ≡ ranges_of groups
-  pub index : Indexes (names_said groups) i
+  pub named : names ≡ names_said groups
   pub ranged : AreRanged (ranges_of groups) range_cells
   pub marks : AreMarked (segments_of groups) segment_cells

@@ -1,45 +1,32 @@
--- Where the text of a name is found: in the slot of its hash, or else among those whose slot was taken.
-use Rattle.std.specs.Prelude.{◌≡◌, ℕ, List, Option, Some, None, get_or, if◌then◌else◌}
+-- Where the text of a name is found: in the slot of its hash, or else beside the slots.
+use Rattle.std.specs.Prelude.{◌≡◌, ◌≢◌, ◌⊎◌, ◌+◌, ◌*◌, ◌%◌, ℕ, true, false, List, [], ◌∷◌, Option, Some, get_or}
 use Rattle.std.specs.BTreeMap as tree
 use Rattle.std.specs.Cmp.Lexicographic.{slice_cmp}
 use Rattle.std.specs.Ordering.{nat_cmp}
 use Rattle.std.specs.Str.{bytes_eq}
-use Rattle.info65.specs.Code.Slots.{SlotsView, slot_of}
 use Rattle.info65.specs.declared.lookup.texts.Texts.{Texts}
-use Rattle.info65.specs.declared.information.name.Given.{Given}
 
--- for each slot the address of the name that took it, and for each other text the address where it stands
+-- a hash, with the bytes that follow what it is the hash of
+unfoldable pub hash_from : ℕ → List ℕ → ℕ
+hash_from hash [] = hash
+hash_from hash (b ∷ bs) = hash_from ((hash * 31_821 + b) % 0x2_0000) bs
+
+-- the slot of a text, one of so many
+unfoldable pub slot_of : ℕ → List ℕ → ℕ
+slot_of count text = hash_from 0 text % count
+
+-- for each text the number of the name that took its slot, or 0, and the address where it stands beside the slots
 pub record TextsView : Type 0 where
-  pub slots : SlotsView
+  pub slotted : List ℕ → ℕ
   pub others : List ℕ → Option ℕ
 
--- the address that stands in the slot of a text
-abbrev pub slotted : TextsView → List ℕ → Option ℕ
-slotted s t = get_or s.slots.cells (slot_of s.slots.count t) None
-
--- the address of this name if it has the text, else the other one
-abbrev pub if_its_text : List ℕ → Option ℕ → Option Given → Option ℕ
-if_its_text t other None = other
-if_its_text t other (Some n) = if bytes_eq n.text.now t then Some n.address else other
-
--- where a text stands by the address in its slot, for names that are found by address
-abbrev pub by_slot : (ℕ → Option Given) → List ℕ → Option ℕ → Option ℕ → Option ℕ
-by_slot found t other None = None
-by_slot found t other (Some a) = if_its_text t other (found a)
-
--- the address of the name with this text
-abbrev pub stands_in : (ℕ → Option Given) → TextsView → List ℕ → Option ℕ
-stands_in found s t = by_slot found t (s.others t) (slotted s t)
-
--- a text whose slot no name took stands nowhere
-abbrev pub AreTexts : TextsView → Type 0
-AreTexts s = (t : List ℕ) → slotted s t ≡ None → s.others t ≡ None
-
--- the texts as the code has them
 abbrev pub texts_seen : {Z : Type 0} → Texts Z → TextsView
-texts_seen s = record { slots = s.slots; others = λ t. tree.get_by (λ k. slice_cmp nat_cmp t k.now) s.others }
+texts_seen s = record { slotted = λ t. get_or s.slots.cells (slot_of s.slots.count t) 0; others = λ t. tree.get_by (λ k. slice_cmp nat_cmp t k.now) s.others }
 
--- the texts of the names that are found, and that of one name more
-pub record StandsToo (found more : ℕ → Option Given) (n : Given) (old new : TextsView) : Type 0 where
-  pub texts : AreTexts new
-  pub stands : (t : List ℕ) → stands_in more new t ≡ (if bytes_eq n.text.now t then Some n.address else stands_in found old t)
+-- What becomes of a text when that of a name with this number is added: its slot is given to the name, or it is the
+-- text of the name and stands beside, or it is another text and stands as before.
+abbrev pub AddsText : TextsView → List ℕ → ℕ → ℕ → TextsView → List ℕ → Type 0
+AddsText old text address number new t =
+    ((old.slotted t ≡ 0) × (new.slotted t ≡ number) × (new.others t ≡ old.others t))
+    ⊎ (((old.slotted t ≢ 0) × (bytes_eq t text ≡ true) × (new.slotted t ≡ old.slotted t) × (new.others t ≡ Some address))
+    ⊎ ((bytes_eq t text ≡ false) × (new.slotted t ≡ old.slotted t) × (new.others t ≡ old.others t)))

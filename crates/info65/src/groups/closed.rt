@@ -1,16 +1,21 @@
 //! The groups of an information file that are closed.
 
-ghost use Rattle.std.specs.Prelude.{◌≡◌, ◌++◌, IfErr, IfOk, map};
-ghost use Rattle.info65.specs.Code.Groups.{group_seen};
+ghost use Rattle.std.specs.Prelude.{◌≡◌, ◌++◌, IfErr, IfOk, map, option_map, option_to_list};
+ghost use Rattle.info65.specs.Code.Groups.{assignment_seen, group_seen};
 ghost use Rattle.info65.specs.Code.Kept.{kept_part};
+ghost use Rattle.info65.specs.Code.Names.{given_seen};
 ghost use Rattle.info65.specs.Faults.{out_of_memory};
+ghost use Rattle.info65.specs.Labels.{name_part};
+ghost use Rattle.info65.specs.Reader.{group};
 
 use crate::fault::{InfoFault, InfoFaultKind};
 use crate::groups::group_list::GroupList;
 use crate::groups::group_values::is_given;
 use crate::groups::include_groups::{has_room, include_in};
-use crate::groups::range_groups::{mark_range, push_range, range_fault};
+use crate::groups::label_groups::{label_in, range_name};
+use crate::groups::range_groups::{mark_range, push_range, range_fault, range_in};
 use crate::groups::segment_groups::{mark_segment, segment_fault};
+use crate::information::name::Given;
 use crate::information::pool::NamePool;
 use crate::information::range::RangeSpec;
 use crate::lookup::index::Index;
@@ -62,6 +67,20 @@ fn keep<'a, A: Allocator>(
             kept.push(group)?;
             Ok(())
         }
+    }
+}
+
+// The name that a group without a fault says, if it says one.
+fn name_part<'a>(kind: GroupKind, given: &[Assignment<'a>]) -> Option<Given<'a>>
+    ensures { option_to_list (option_map given_seen result) ≡ name_part (group kind (map assignment_seen given.now)) }
+{
+    match kind {
+        GroupKind::Range => match range_in(given) {
+            Ok(range) => range_name(given, range),
+            Err(_) => None,
+        },
+        GroupKind::Label => label_in(given).ok(),
+        GroupKind::Global | GroupKind::Segment | GroupKind::Include => None,
     }
 }
 
@@ -142,10 +161,10 @@ impl<'a, A: Allocator + Copy> Closed<'a, A> {
             mut kept,
             mut ranges,
             mut ranged,
-            mut names,
+            names,
             mut segmented,
         } = self;
-        names.add(group.kind, group.given.as_slice())?;
+        let names = names.with_optional(name_part(group.kind, group.given.as_slice()))?;
         mark_range(ranged.as_mut_slice(), group.kind, group.given.as_slice());
         mark_segment(segmented.as_mut_slice(), group.kind, group.given.as_slice());
         push_range(&mut ranges, &group)?;

@@ -9,28 +9,10 @@ use crate::syntax::attribute::{Attribute, GroupKind};
 use std::alloc::Allocator;
 
 /// The attribute is given.
-#[tactic(auto, unfolding(crate::specs::Groups::has))]
 pub fn has(given: &[Assignment], attribute: Attribute) -> bool
     ensures { result ≡ has attribute (map assignment_seen given.now) }
 {
-    for each in given {
-        if attribute == each.attribute {
-            return true;
-        }
-    }
-    false
-}
-
-// The attribute is given in a group GLOBAL.
-fn has_global<A: Allocator>(groups: &[Group<A>], attribute: Attribute) -> bool
-    ensures { result ≡ has attribute (global_given (map group_seen groups.now)) }
-{
-    for group in groups {
-        if has(global_part(group), attribute) {
-            return true;
-        }
-    }
-    false
+    value_in(given, attribute).is_some()
 }
 
 fn global_part<'a, 'b, A: Allocator>(group: &'b Group<'a, A>) -> &'b [Assignment<'a>]
@@ -66,15 +48,13 @@ fn has_instead(given: &[Assignment], attribute: Attribute) -> bool
     }
 }
 
+#[tactic(auto, unfolding(crate::specs::Groups::has))]
 fn has_before<A: Allocator>(before: &[Group<A>], kind: GroupKind, attribute: Attribute) -> bool
     ensures { result ≡ has attribute (given_before (map group_seen before.now) kind) }
 {
     match kind {
         GroupKind::Global => has_global(before, attribute),
-        GroupKind::Range => false,
-        GroupKind::Label => false,
-        GroupKind::Segment => false,
-        GroupKind::Include => false,
+        GroupKind::Range | GroupKind::Label | GroupKind::Segment | GroupKind::Include => false,
     }
 }
 
@@ -104,4 +84,11 @@ pub fn global_value<'a, A: Allocator>(
         }
     }
     None
+}
+
+// The attribute is given in a group GLOBAL.
+fn has_global<A: Allocator>(groups: &[Group<A>], attribute: Attribute) -> bool
+    ensures { result ≡ has attribute (global_given (map group_seen groups.now)) }
+{
+    global_value(groups, attribute).is_some()
 }

@@ -1,14 +1,12 @@
 //! The names of an information with those of an include file.
 
-ghost use Rattle.std.specs.Prelude.{◌≡◌, List, MatchResult, option_map};
-ghost use Rattle.info65.specs.Code.Includes.{Adds, AddsFile, SeesName, name_result_seen};
-ghost use Rattle.info65.specs.Code.Index.{Indexes};
+ghost use Rattle.std.specs.Prelude.{Ok, option_map};
+ghost use Rattle.info65.specs.Code.Includes.{ReadsFile, SeesName, name_result_seen, with_added};
 ghost use Rattle.info65.specs.Code.Names.{given_seen};
+ghost use Rattle.info65.specs.Code.Results.{Gives};
 ghost use Rattle.info65.specs.Code.Steps.{Sees};
-ghost use Rattle.info65.specs.Faults.{out_of_memory};
 ghost use Rattle.info65.specs.Includes.{unless_ignored, line_adds, optional_adds};
 ghost use Rattle.info65.specs.Names.{AreNames};
-ghost use Rattle.info65.specs.Views.{NameView};
 
 use crate::fault::{InfoFault, InfoFaultKind};
 use crate::includes::include::IncludeSpec;
@@ -33,7 +31,8 @@ fn index_of<'a, A: Allocator + Copy>(
     info: &'a Info<A>,
     bytes: usize,
 ) -> Result<Index<'a, A>, InfoFault>
-    ensures { MatchResult result (λ i. AreNames info.now.names × Indexes info.now.names i) (λ e. e ≡ out_of_memory) }
+    ensures names { Gives (λ i. i) result (Ok info.entry.now.names) }
+    ensures sound { AreNames info.entry.now.names }
 {
     let count = info.given_count();
     let mut index = Index::new(
@@ -41,7 +40,7 @@ fn index_of<'a, A: Allocator + Copy>(
         bytes.saturating_add(count.saturating_mul(BYTES_OF_A_NAME)),
     );
     for place in 0..count {
-        index.add_name(info.given(place))?;
+        index = index.with(info.given(place))?;
     }
     Ok(index)
 }
@@ -51,7 +50,7 @@ fn optional_adds<'a, A: Allocator + Copy>(
     index: &Index<'a, A>,
     said: Result<Option<Given<'a>>, InfoFaultKind>,
 ) -> Result<Option<Given<'a>>, InfoFaultKind>
-    ensures { (names : List NameView) → Indexes names index.now → SeesName result (optional_adds names (name_result_seen said.entry)) }
+    ensures { SeesName result (optional_adds index.now (name_result_seen said.entry)) }
 {
     match said? {
         Some(name) => index.name_adds(name),
@@ -87,48 +86,49 @@ fn line_adds<'a, A: Allocator + Copy>(
     number: u32,
     line: &'a [u8],
 ) -> Result<Option<Given<'a>>, InfoFault>
-    ensures { (names : List NameView) → Indexes names index.now → Sees (option_map given_seen) result (line_adds include.now number names line.now) }
+    ensures { Sees (option_map given_seen) result (line_adds include.now number index.now line.now) }
 {
     let said = line_in(include.comment_start, line);
     let added = optional_adds(index, said);
     unless_ignored(include.ignore_unknown, number, added)
 }
 
-// Adds the name that a line of this number adds, if it adds one.
-fn add_line<'a, A: Allocator + Copy>(
-    index: &mut Index<'a, A>,
+// The names with the one that a line of this number adds, if it adds one.
+fn with_line<'a, A: Allocator + Copy>(
+    index: Index<'a, A>,
     include: &IncludeSpec<A>,
     number: u32,
     line: &'a [u8],
-) -> Result<(), InfoFault>
-    ensures { (names : List NameView) → Indexes names index.old → Adds names (line_adds include.now number names line.now) result index.new }
+) -> Result<Index<'a, A>, InfoFault>
+    ensures { Gives (λ i. i) result (with_added index.entry (line_adds include.now number index.entry line.now)) }
 {
-    match line_adds(index, include, number, line)? {
-        Some(name) => index.add_name(name),
-        None => Ok(()),
+    match line_adds(&index, include, number, line)? {
+        Some(name) => index.with(name),
+        None => Ok(index),
     }
 }
 
-// Adds the names of an include file to the index of those before it, or returns its first fault.
+// The names with those of an include file, or its first fault.
 #[tactic(auto, unfolding(crate::specs::Includes::names_included))]
-fn add_file<'a, A: Allocator + Copy>(
-    index: &mut Index<'a, A>,
+fn with_file<'a, A: Allocator + Copy>(
+    index: Index<'a, A>,
     include: &IncludeSpec<A>,
     bytes: &'a [u8],
-) -> Result<(), InfoFault>
-    ensures { (names : List NameView) → AreNames names → Indexes names index.old → AddsFile include.now names bytes.entry.now result index.new }
+) -> Result<Index<'a, A>, InfoFault>
+    ensures { ReadsFile include.now index.entry bytes.entry.now result }
 {
     if bytes.len() > MOST_BYTES {
         return Err(InfoFault::new(1, InfoFaultKind::TooLarge));
     }
+    let mut names = index;
     let mut rest = bytes;
     let mut number = 1;
     'lines: while let Some((line, after)) = first_line(rest) {
-        add_line(index, include, number, line)?;
+        names = with_line(names, include, number, line)?;
         rest = after;
         number += 1;
     }
-    Ok(())
+    Ok(names)
 }
 
 /// An information to which the names of include files are added, file by file. A contract sees it as the information with
@@ -140,15 +140,16 @@ pub struct Inclusion<'a, A: Allocator = Global> {
 }
 
 impl<'a, A: Allocator> Model for Inclusion<'a, A> {
-    ghost use Rattle.info65.specs.Code.Index.{AreIndexed, names_of};
     ghost use Rattle.info65.specs.Includes.{with_names};
+    ghost use Rattle.info65.specs.Labels.{by_address};
+    ghost use Rattle.info65.specs.Names.{AreGiven};
     ghost use Rattle.info65.specs.Views.{InfoView};
 
     ghost Value = { InfoView };
 
-    ghost view = { λ i. with_names i.info.now (names_of i.names) };
+    ghost view = { λ i. with_names i.info.now (by_address i.names) };
 
-    ghost invariant = { λ i. AreIndexed i.names };
+    ghost invariant = { λ i. AreGiven i.names };
 }
 
 impl<'a, A: Allocator + Copy> Inclusion<'a, A> {
@@ -181,8 +182,8 @@ impl<'a, A: Allocator + Copy> Inclusion<'a, A> {
         requires { index < length self.includes }
         ensures { Gives (λ i. i) result (included self.entry index bytes.entry.now) }
     {
-        let Inclusion { info, mut names } = self;
-        add_file(&mut names, &info.includes()[index], bytes)?;
+        let Inclusion { info, names } = self;
+        let names = with_file(names, &info.includes()[index], bytes)?;
         Ok(Inclusion { info, names })
     }
 

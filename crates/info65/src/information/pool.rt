@@ -9,7 +9,7 @@ ghost use Rattle.info65.specs.Names.{AreNames, covering, name_at};
 
 use crate::fault::InfoFault;
 use crate::information::name::Given;
-use crate::lookup::cells::narrow;
+use crate::lookup::numbers::narrow;
 use std::alloc::{Allocator, Global};
 use std::marker::Model;
 
@@ -65,7 +65,7 @@ impl<A: Allocator + Copy> NamePool<A> {
 }
 
 impl<A: Allocator> NamePool<A> {
-    ghost use Rattle.std.specs.Prelude.{◌≡◌, ◌<◌, ◌∷◌, ◌++◌, Ok, [], length, option_map, option_to_list};
+    ghost use Rattle.std.specs.Prelude.{◌≡◌, ◌<◌, ◌∷◌, ◌++◌, Ok, [], length, option_map};
     ghost use Rattle.info65.specs.Code.Names.{given_seen};
     ghost use Rattle.info65.specs.Code.Results.{Gives};
     ghost use Rattle.info65.specs.Names.{AreNames, covering, name_at};
@@ -91,16 +91,6 @@ impl<A: Allocator> NamePool<A> {
         ensures { option_map given_seen result ≡ covering self.now address }
     {
         covering_in(self.entries.as_slice(), self.bytes.as_slice(), address)
-    }
-
-    /// These names and, if there is one, one more.
-    pub(crate) fn with_optional(self, name: Option<Given<'_>>) -> Result<Self, InfoFault>
-        ensures { Gives (λ p. p) result (Ok (self ++ option_to_list (option_map given_seen name.entry))) }
-    {
-        match name {
-            Some(name) => self.with(name),
-            None => Ok(self),
-        }
     }
 
     /// These names and one more.

@@ -1,59 +1,101 @@
-//! A number for each address.
+//! Rows of numbers that are allocated when the first of them is set.
 
-ghost use Rattle.std.specs.Prelude.{◌≡◌, IfErr, IfOk};
+ghost use Rattle.std.specs.Prelude.{◌≡◌, ◌<◌, ◌≤◌, ℕ, IfErr, IfOk, get_or, length};
 ghost use Rattle.info65.specs.Faults.{out_of_memory};
 
 use crate::fault::InfoFault;
-use crate::lookup::cells::{fill_up, narrow};
-use crate::lookup::marks::ADDRESSES;
 use std::alloc::Allocator;
 use std::marker::Model;
 
-/// A number for each of the 65,536 addresses. A contract sees the list of them, which is empty until one is set.
+/// A number, in four bytes. It fails with Memory past 2^32 - 1: no table has room for more.
+pub fn narrow(number: usize) -> Result<u32, InfoFault>
+    ensures ok { IfOk result (λ n. n ≡ number) }
+    ensures err { IfErr result (λ e. (e ≡ out_of_memory) × (0xFFFF_FFFF < number)) }
+{
+    if number <= 0xFFFF_FFFF {
+        Ok(number as u32)
+    } else {
+        Err(InfoFault::MEMORY)
+    }
+}
+
+// Adds cells of 0 where there are fewer than that many.
+fn fill_up<A: Allocator>(cells: &mut Vec<u32, A>, count: usize) -> Result<(), InfoFault>
+    ensures size { IfOk result (λ _. count ≤ length cells.new.items) }
+    ensures same { IfOk result (λ _. (k : ℕ) → get_or cells.new.items k 0 ≡ get_or cells.old.items k 0) }
+    ensures err { IfErr result (λ e. e ≡ out_of_memory) }
+{
+    if cells.len() >= count {
+        return Ok(());
+    }
+    cells.resize(count, 0)?;
+    Ok(())
+}
+
+/// A row of numbers, each of which is 0 at first. A contract sees how many there are and the list of them, which is empty
+/// until one is set.
 #[derive(Drop)]
 pub struct Numbers<A: Allocator> {
+    count: usize,
     cells: Vec<u32, A>,
 }
 
 impl<A: Allocator> Model for Numbers<A> {
-    ghost use Rattle.std.specs.Prelude.{ℕ, List};
+    ghost use Rattle.std.specs.Prelude.{◌<◌};
+    ghost use Rattle.info65.specs.Code.Numbers.{NumbersView};
 
-    ghost Value = { List ℕ };
+    ghost Value = { NumbersView };
 
-    ghost view = { λ p. p.cells.items };
+    ghost view = { λ n. record { count = n.count; cells = n.cells.items } };
+
+    ghost invariant = { λ n. 0 < n.count };
 }
 
 impl<A: Allocator> Numbers<A> {
-    ghost use Rattle.std.specs.Prelude.{◌≡◌, ◌==◌, ℕ, [], IfErr, IfOk, get_or, if◌then◌else◌};
+    ghost use Rattle.std.specs.Prelude.{◌≡◌, ◌<◌, [], IfErr, IfOk, get_or};
+    ghost use Rattle.info65.specs.Code.Numbers.{IsSet};
     ghost use Rattle.info65.specs.Faults.{out_of_memory};
 
-    /// Each number is 0. Allocates nothing.
-    pub fn new(alloc: A) -> Self
-        ensures { result ≡ [] }
+    /// So many numbers, each of which is 0. Allocates nothing.
+    pub fn new(alloc: A, count: usize) -> Self
+        requires { 0 < count }
+        ensures count { result.count ≡ count }
+        ensures cells { result.cells ≡ [] }
     {
         Numbers {
+            count,
             cells: Vec::new(alloc),
         }
     }
 
-    /// The number of an address.
-    pub fn at(&self, address: u16) -> usize
-        ensures { result ≡ get_or self.now address 0 }
+    /// How many numbers there are.
+    pub fn count(&self) -> usize
+        ensures value { result ≡ self.now.count }
+        ensures some { 0 < result }
     {
-        match self.cells.get(usize::from(address)) {
+        self.count
+    }
+
+    /// The number at a place.
+    pub fn at(&self, place: usize) -> usize
+        ensures { result ≡ get_or self.now.cells place 0 }
+    {
+        match self.cells.get(place) {
             Some(number) => *number as usize,
             None => 0,
         }
     }
 
-    /// Sets the number of an address.
-    pub fn set(&mut self, address: u16, number: usize) -> Result<(), InfoFault>
-        ensures done { IfOk result (λ _. (a : ℕ) → get_or self.new a 0 ≡ (if address == a then number else get_or self.old a 0)) }
+    /// Sets the number at a place.
+    pub fn set(&mut self, place: usize, number: usize) -> Result<(), InfoFault>
+        requires { place < self.old.count }
+        ensures count { self.new.count ≡ self.old.count }
+        ensures done { IfOk result (λ _. IsSet place number self.old.cells self.new.cells) }
         ensures err { IfErr result (λ e. e ≡ out_of_memory) }
     {
         let number = narrow(number)?;
-        fill_up(&mut self.cells, ADDRESSES, 0)?;
-        self.cells[usize::from(address)] = number;
+        fill_up(&mut self.cells, self.count)?;
+        self.cells[place] = number;
         Ok(())
     }
 }

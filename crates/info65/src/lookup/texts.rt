@@ -1,46 +1,52 @@
 //! Where the texts of names stand.
 
-ghost use Rattle.info65.specs.Faults.{out_of_memory};
+ghost use Rattle.std.specs.Prelude.{◌≡◌, ◌<◌};
+ghost use Rattle.info65.specs.Code.Texts.{hash_from, slot_of};
 
 use crate::fault::InfoFault;
-use crate::information::name::Given;
-use crate::lookup::slots::Slots;
+use crate::lookup::numbers::Numbers;
 use std::alloc::Allocator;
 use std::collections::BTreeMap;
 
-/// Where names are found by their texts. The first name whose text has a slot takes it. The names whose slot was taken
-/// before them stand in a tree, so names that share a slot on purpose cost no more than a look-up in the tree.
+// How many slots there are at least and at most.
+const FEWEST: usize = 16;
+
+const MOST: usize = 0x2_0000;
+
+// A name and what else a file says of it have at least so many bytes, most of them more.
+const BYTES_OF_A_SLOT: usize = 4;
+
+/// Where names are found by their texts. The slot of a text is found by a hash of its bytes, and the first name whose
+/// text has a slot takes it. The names whose slot was taken before them stand in a tree, so names that share a slot on
+/// purpose cost no more than a look-up in the tree.
 #[derive(Drop)]
 pub struct Texts<'a, A: Allocator> {
-    /// For each slot the address of the name that took it.
-    pub slots: Slots<A>,
+    /// For each slot the number of the name that took it.
+    pub slots: Numbers<A>,
     /// The addresses of the names whose slot was taken.
     pub others: BTreeMap<&'a [u8], u16, A>,
 }
 
 impl<'a, A: Allocator + Copy> Texts<'a, A> {
-    ghost use Rattle.std.specs.Prelude.{◌≡◌, ◌==◌, ℕ, List, Option, None, Some, IfErr, IfOk, if◌then◌else◌};
-    ghost use Rattle.std.specs.Str.{bytes_eq};
-    ghost use Rattle.info65.specs.Code.Lookup.{StandsIfNew};
-    ghost use Rattle.info65.specs.Code.Texts.{AreTexts, StandsToo, slotted, stands_in, texts_seen};
+    ghost use Rattle.std.specs.Prelude.{◌≡◌, ℕ, List, None, IfErr, IfOk};
+    ghost use Rattle.info65.specs.Code.Texts.{AddsText, texts_seen};
     ghost use Rattle.info65.specs.Faults.{out_of_memory};
-    ghost use Rattle.info65.specs.declared.information.name.Given.{Given};
 
     /// No texts, where those of a file of that many bytes are to come. Allocates nothing.
     pub fn new(alloc: A, bytes: usize) -> Self
-        ensures texts { AreTexts (texts_seen result) }
-        ensures none { (found : ℕ → Option Given) (t : List ℕ) → stands_in found (texts_seen result) t ≡ None }
+        ensures slotted { (t : List ℕ) → (texts_seen result).slotted t ≡ 0 }
+        ensures others { (t : List ℕ) → (texts_seen result).others t ≡ None }
     {
-        let slots = Slots::new(alloc, bytes);
+        let slots = Numbers::new(alloc, (bytes / BYTES_OF_A_SLOT).max(FEWEST).min(MOST));
         let others = BTreeMap::new(alloc);
         Texts { slots, others }
     }
 
-    /// The address of the name that took the slot of a text. Without one no name has the text.
-    pub fn slotted(&self, text: &[u8]) -> Option<u16>
-        ensures { result ≡ slotted (texts_seen self.now) text.now }
+    /// The number of the name that took the slot of a text, or 0. Without one no name has the text.
+    pub fn slotted(&self, text: &[u8]) -> usize
+        ensures { result ≡ (texts_seen self.now).slotted text.now }
     {
-        self.slots.at(text)
+        self.slots.at(slot_of(self.slots.count(), text))
     }
 
     /// The address of the name with this text, if another name took its slot.
@@ -53,17 +59,38 @@ impl<'a, A: Allocator + Copy> Texts<'a, A> {
         }
     }
 
-    /// Adds a name whose text stands nowhere, and whose address has no name.
-    pub fn add(&mut self, name: Given<'a>) -> Result<(), InfoFault>
-        ensures done { StandsIfNew name.entry (texts_seen self.old) result (texts_seen self.new) }
+    /// Adds the text of a name with this address and number.
+    pub fn add(&mut self, text: &'a [u8], address: u16, number: usize) -> Result<(), InfoFault>
+        ensures done { IfOk result (λ _. (t : List ℕ) → AddsText (texts_seen self.old) text.entry.now address number (texts_seen self.new) t) }
         ensures err { IfErr result (λ e. e ≡ out_of_memory) }
     {
-        match self.slots.at(name.text) {
-            None => self.slots.put(name.text, name.address),
-            Some(_) => {
-                self.others.insert(name.text, name.address)?;
-                Ok(())
-            }
+        let slot = slot_of(self.slots.count(), text);
+        if self.slots.at(slot) == 0 {
+            return self.slots.set(slot, number);
         }
+        self.others.insert(text, address)?;
+        Ok(())
     }
+}
+
+// The hash of a text.
+#[tactic(auto, unfolding(crate::specs::Code::Texts::hash_from))]
+fn hash_of(text: &[u8]) -> u32
+    ensures { result ≡ hash_from 0 text.now }
+{
+    let mut hash: u32 = 0;
+    for byte in text {
+        hash = (hash * 31_821 + u32::from(*byte)) % 0x2_0000;
+    }
+    hash
+}
+
+// The slot of a text, one of so many.
+#[tactic(auto, unfolding(crate::specs::Code::Texts::slot_of))]
+fn slot_of(count: usize, text: &[u8]) -> usize
+    requires { 0 < count }
+    ensures value { result ≡ slot_of count text.now }
+    ensures within { result < count }
+{
+    hash_of(text) as usize % count
 }

@@ -5,16 +5,16 @@ use Rattle.info65.proofs.RangeLemmas.{ordered_in}
 use Rattle.info65.proofs.groups.range_groups.range_fault.Goals as goal
 
 pub returns-then-is_marked : goal.returns-then-is_marked
-returns-then-is_marked g c = λ ranges before m i.
+returns-then-is_marked g c = λ ranges m.
     let r = c.in-Ok.range in
     let low : r.last < 0x1_0000 = omega arith in
     let over = overlaps_marked ranges _ r m.ordered m.ranged (ordered_in _ r (sym c.in-Ok.ensures)) low in
-    sym (range_overlaps ranges before _ r _ c.in-Ok.ensures (sym over ∙ sym c.is_marked.ensures ∙ c.if-is_marked.true))
+    sym (range_overlaps ranges c.args.names.now _ r _ c.in-Ok.ensures (sym over ∙ sym c.is_marked.ensures ∙ c.if-is_marked.true))
 
 pub returns-else-is_marked : goal.returns-else-is_marked
-returns-else-is_marked g c = λ ranges before m i.
+returns-else-is_marked g c = λ ranges m.
     let r = c.in-Ok.range in
     let low : r.last < 0x1_0000 = omega arith in
     let over = overlaps_marked ranges _ r m.ordered m.ranged (ordered_in _ r (sym c.in-Ok.ensures)) low in
-    c.optional_name_fault.ensures before i ∙ ap (optional_name_fault before) c.range_name.ensures
-    ∙ sym (range_apart ranges before _ r _ c.in-Ok.ensures (sym over ∙ sym c.is_marked.ensures ∙ c.if-is_marked.false))
+    c.optional_name_fault.ensures ∙ ap (optional_name_fault c.args.names.now) c.range_name.ensures
+    ∙ sym (range_apart ranges c.args.names.now _ r _ c.in-Ok.ensures (sym over ∙ sym c.is_marked.ensures ∙ c.if-is_marked.false))

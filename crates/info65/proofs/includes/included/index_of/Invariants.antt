@@ -1,6 +1,5 @@
-use Rattle.std.proofs.Common.{take}
-use Rattle.info65.specs.Code.Index.{Indexes}
+use Rattle.std.proofs.Common.{◌≡◌, take}
 use Rattle.info65.proofs.includes.included.index_of.Given as goal
 
 abbrev pub invariant-loop-place : goal.invariant-loop-place
-invariant-loop-place g l = Indexes (take l.place l.info.names) l.index
+invariant-loop-place g l = l.index ≡ take l.place l.info.names

@@ -1,6 +1,6 @@
 use Rattle.std.proofs.Common.{◌≡◌, ◌<◌, drop}
-use Rattle.info65.specs.Code.Slots.{hash_from}
-use Rattle.info65.proofs.lookup.slots.hash_of.Given as goal
+use Rattle.info65.specs.Code.Texts.{hash_from}
+use Rattle.info65.proofs.lookup.texts.hash_of.Given as goal
 
 abbrev pub invariant-loop-byte : goal.invariant-loop-byte
 invariant-loop-byte l = record {
