@@ -42,10 +42,8 @@ map65 TakeFault::from 1
 relist Failure::from 2
 stmt65 AsmFault::from 1
 stmt65 Symbols::define 2
-trace65 Failure::from 4
-trace65 accepted 2
+trace65 Failure::from 1
 trace65 failure_of 2
-trace65 put_entry 1
 usage65 UsageFault::from 2
 usage65 UsageFault::of_words 2
 usage65 accepted 2

@@ -1,13 +1,9 @@
 -- The command is one of which `clap` says its matches and faults.
-use Rattle.std.proofs.Common.{◌≡◌, refl, true}
-use Rattle.clap.specs.Words.{is_simple, is_simple_and_free}
+use Rattle.std.proofs.Common.{refl}
 use Rattle.clap.proofs.OnLiterals.{clap_on_literals}
+use Rattle.usage65.specs.Values.{IsPlain}
 use Rattle.trace65.specs.Command.{app}
 
-pub app_is_simple : is_simple app ≡ true
+pub app_is_plain : IsPlain app
 unfolding clap_on_literals app
-app_is_simple = refl
-
-pub app_is_free : is_simple_and_free app ≡ true
-unfolding clap_on_literals app
-app_is_free = refl
+app_is_plain = record { simple = refl; free = refl }

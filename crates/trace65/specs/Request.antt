@@ -1,16 +1,13 @@
 -- What a command line asks for.
-use Rattle.std.specs.Prelude.{◌==◌, ℕ, Bool, List, [], ◌∷◌, ◌++◌, Option, Some, None, Result, Ok, Err, codes, length, if◌then◌else◌, option_map}
+use Rattle.std.specs.Prelude.{◌==◌, ℕ, Bool, List, [], ◌∷◌, ◌++◌, Option, Some, None, Result, Ok, codes, if◌then◌else◌, option_map}
 use Rattle.std.specs.List.{slice_split}
 use Rattle.std.specs.String.{string_bytes}
 use Rattle.clap.specs.Words.{Row, Text, first_of}
-use Rattle.isa65.specs.Cpu.{cpu_named}
-use Rattle.isa65.specs.declared.cpu.Cpu.{Cpu}
 use Rattle.info65.specs.Views.{OptionsView, no_options}
 use Rattle.usage65.specs.Number.{address_in}
-use Rattle.usage65.specs.Values.{◌>>=◌, is_set}
+use Rattle.usage65.specs.Values.{◌>>=◌, accepted, cpu_in, given, is_set}
 use Rattle.usage65.specs.declared.fault.UsageFault.{UsageFault}
-use Rattle.usage65.specs.declared.fault.UsageFault.TheVariants.{Words, OutOfRange}
-use Rattle.trace65.specs.Command.{faults_on, rows_on}
+use Rattle.trace65.specs.Command.{app}
 use Rattle.trace65.specs.declared.request.Request.{Request}
 use Rattle.trace65.specs.declared.request.Request.TheVariants.{Help, Version, Trace}
 
@@ -27,23 +24,6 @@ asked_of Version = AskVersion
 asked_of (Trace t) = AskTrace t.options t.entries.items (option_map string_bytes t.output)
 
 -- ---- the values
-
--- the value of an option, if it is given
-abbrev pub given : {A : Type 0} → (Text → Result A UsageFault) → Option Text → Result (Option A) UsageFault
-given read None = Ok None
-given read (Some text) = read text >>= λ x. Ok (Some x)
-
-abbrev pub known : Option Cpu → Result Cpu UsageFault
-known (Some c) = Ok c
-known None = Err OutOfRange
-
--- the CPU of this name
-abbrev pub cpu_in : Text → Result Cpu UsageFault
-cpu_in text = known (cpu_named text)
-
--- these addresses and that of a text, or its fault
-abbrev pub with_address : List ℕ → Text → Result (List ℕ) UsageFault
-with_address found text = address_in text >>= λ a. Ok (found ++ a ∷ [])
 
 -- the address of each text, or the first fault
 abbrev pub addresses_in : List Text → Result (List ℕ) UsageFault
@@ -80,10 +60,6 @@ asked_in rows =
     else (if is_set (codes "version") rows then Ok AskVersion
     else traced_in rows)
 
--- the matches, if the words are accepted
-unfoldable pub accepted : List Text → Result (List Row) UsageFault
-accepted words = if length (faults_on words) == 0 then Ok (rows_on words) else Err Words
-
 -- what the words ask for, of which the first is the program's name
 unfoldable pub asked : List Text → Result Asked UsageFault
-asked words = accepted words >>= asked_in
+asked words = accepted app words >>= asked_in

@@ -2,22 +2,26 @@
 
 ghost use Rattle.std.specs.Prelude.{IfOk, map, ◌≡◌};
 ghost use Rattle.std.specs.String.{string_bytes};
-ghost use Rattle.clap.specs.Words.{FailsBy, app_of, found_of, rows_of};
-ghost use Rattle.trace65.specs.Command.{app, faults_on, rows_on};
+ghost use Rattle.clap.specs.Words.{app_of, found_of, rows_of};
+ghost use Rattle.usage65.specs.Values.{Gives, accepted};
+ghost use Rattle.trace65.specs.Command.{app, help_text, version_text};
 
-use clap::{ArgMatches, Command, Error};
+use clap::{ArgMatches, Command};
 use std::alloc::{AllocError, Global};
 use usage65::{
-    bare_command, with_flag, with_option, with_positional, with_short, with_short_option,
+    UsageFault, accepted, bare_command, with_flag, with_option, with_positional, with_short,
+    with_short_option,
 };
 
 /// Reads the words. The first word is the program's name.
-pub fn matches_of_words<'a>(alloc: Global, words: &'a [String]) -> Result<ArgMatches<'a>, Error>
-    ensures matches { IfOk result (λ m. rows_of (found_of m) ≡ rows_on (map string_bytes words.entry.now)) }
-    ensures faults { FailsBy (faults_on (map string_bytes words.entry.now)) result }
+pub(crate) fn matches_of_words<'a>(
+    alloc: Global,
+    words: &'a [String],
+) -> Result<ArgMatches<'a>, UsageFault>
+    ensures { Gives (λ m. rows_of (found_of m)) result (accepted app (map string_bytes words.entry.now)) }
 {
     let command = whole_command(alloc)?;
-    command.try_get_matches_from(words)
+    accepted(command, words)
 }
 
 /// The options, and the name of the image.
@@ -37,7 +41,9 @@ fn whole_command<'a>(alloc: Global) -> Result<Command<'a>, AllocError>
 }
 
 /// What `--help` prints: the usage line, and a line for each option.
-pub fn help_text() -> &'static str {
+pub fn help_text() -> &'static str
+    ensures { result.now ≡ help_text }
+{
     "Usage: trace65 [options] [image]\n  \
      -i, --info name          information file\n  \
      -o name                  output file, which must not be there yet\n  \
@@ -49,6 +55,8 @@ pub fn help_text() -> &'static str {
 }
 
 /// What `--version` prints.
-pub fn version_text() -> &'static str {
+pub fn version_text() -> &'static str
+    ensures { result.now ≡ version_text }
+{
     "trace65 profile 1\n"
 }

@@ -5,8 +5,7 @@ ghost use Rattle.std.specs.Prelude.{◌≡◌};
 use files65::FileFault;
 use info65::InfoFault;
 use map65::ImageFault;
-use std::alloc::{AllocError, AllocFailed};
-use std::io::{Error as IoError, ErrorKind};
+use std::alloc::AllocError;
 use thiserror::Error;
 use usage65::UsageFault;
 
@@ -46,27 +45,6 @@ impl From<AllocError> for Failure {
 
     fn from(_: AllocError) -> Failure {
         Failure::Memory
-    }
-}
-
-impl<T: Drop> From<AllocFailed<T>> for Failure {
-    ghost use Rattle.trace65.specs.declared.failure.Failure.TheVariants.{Memory};
-
-    ghost from_gives = { λ _ f. f ≡ Memory };
-
-    fn from(failed: AllocFailed<T>) -> Failure {
-        let _ = failed;
-        Failure::Memory
-    }
-}
-
-/// The words of the command line are not valid UTF-8, or memory ran out.
-impl From<IoError> for Failure {
-    fn from(error: IoError) -> Failure {
-        match error.kind() {
-            ErrorKind::OutOfMemory => Failure::Memory,
-            _ => Failure::Usage(UsageFault::Words),
-        }
     }
 }
 

@@ -3,12 +3,9 @@
 ghost use Rattle.std.specs.Prelude.{◌≡◌, ◌≢◌};
 
 use crate::failure::Failure;
-use files65::{FileFault, Input, needed_contents};
+use files65::{FileFault, INFORMATION_LIMIT, Input, needed_contents};
 use info65::{Info, InfoFault, InfoFaultKind, Options, read_include, read_info};
 use map65::{Image, read_image};
-
-/// The most that is read of an information file or an include file: one byte more than it may have.
-const LIMIT: usize = 1_048_577;
 
 /// The failure for a fault of a file: this one, unless memory ran out.
 fn failure_of(fault: InfoFault, failure: Failure) -> Failure
@@ -28,7 +25,7 @@ fn add_include(rt: &HostRuntime, info: &mut Info, index: usize) -> Result<(), Fa
         return Ok(());
     };
     let name = String::from_str(rt.alloc(), include.file.as_str())?;
-    let bytes = needed_contents(rt, name.as_str(), LIMIT)?;
+    let bytes = needed_contents(rt, name.as_str(), INFORMATION_LIMIT)?;
     match read_include(rt.alloc(), info, index, &bytes) {
         Ok(()) => Ok(()),
         Err(fault) => Err(failure_of(fault, Failure::Include(name, fault))),
@@ -38,7 +35,7 @@ fn add_include(rt: &HostRuntime, info: &mut Info, index: usize) -> Result<(), Fa
 /// What the information file says under the options, with the names of its include files.
 pub fn information(rt: &HostRuntime, options: &Options) -> Result<Info, Failure> {
     let bytes = match &options.info {
-        Some(name) => needed_contents(rt, name.as_str(), LIMIT)?,
+        Some(name) => needed_contents(rt, name.as_str(), INFORMATION_LIMIT)?,
         None => Vec::new(rt.alloc()),
     };
     let mut info = match read_info(rt.alloc(), options, &bytes) {

@@ -11,6 +11,7 @@ mod digits;
 mod failure;
 mod information;
 mod pair_comments;
+mod part;
 mod picture;
 mod ranges;
 mod report;
@@ -23,18 +24,15 @@ use information::{image, information};
 use map65::Map;
 use report::report;
 use request::{Request, Tracing, request_of};
-use std::env;
 use std::fs::File;
 use std::io::Write;
 use std::process::ExitCode;
+use usage65::words_of;
 
 /// What the program's words ask for.
 fn requested(rt: &HostRuntime) -> Result<Request, Failure> {
-    let mut words = Vec::new(rt.alloc());
-    for word in env::args(rt)? {
-        words.push(word)?;
-    }
-    Ok(request_of(rt.alloc(), words.as_slice())?)
+    let words = words_of(rt)?;
+    Ok(request_of(rt.alloc(), &words)?)
 }
 
 /// Writes a text on a file or standard output.

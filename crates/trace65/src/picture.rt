@@ -1,12 +1,13 @@
 //! A picture of an image: a character for 64 bytes, and the counts of its bytes.
 
-ghost use Rattle.std.specs.Prelude.{◌≡◌, ◌+◌, ◌/◌, ◌++◌, ◌≤◌, OnOk, flat_map, length, map, take};
+ghost use Rattle.std.specs.Prelude.{◌≡◌, ◌+◌, ◌/◌, ◌++◌, ◌≤◌, OnOk, flat_map, length, map};
 ghost use Rattle.std.specs.List.{list_all, list_any};
 ghost use Rattle.map65.specs.Spans.{addresses};
 ghost use Rattle.reach65.specs.TextLaws.{comment_line};
-ghost use Rattle.trace65.specs.Picture.{cell_at, cell_character, counts_comment, image_marks, part, picture_comments, row_comment, set_count};
+ghost use Rattle.trace65.specs.Picture.{cell_at, cell_character, counts_comment, image_marks, picture_comments, row_comment, set_count};
 
 use crate::digits::{put_address, put_decimal};
+use crate::part::part;
 use map65::Image;
 use std::alloc::AllocError;
 
@@ -15,28 +16,6 @@ const CELL: usize = 64;
 
 /// How many bytes a line stands for.
 const ROW: usize = 1024;
-
-/// The first marks, if there are more than this many.
-fn at_most(marks: &[bool], most: usize) -> &[bool]
-    ensures first { result.now ≡ take most marks.now }
-    ensures few { length result.now ≤ most }
-{
-    if marks.len() <= most {
-        return marks;
-    }
-    &marks[..most]
-}
-
-/// This many marks from one on, or those that are left.
-fn part(marks: &[bool], from: usize, count: usize) -> &[bool]
-    ensures part { result.now ≡ part from count marks.now }
-    ensures few { length result.now ≤ count }
-{
-    if marks.len() <= from {
-        return &[];
-    }
-    at_most(&marks[from..], count)
-}
 
 /// The marks of the bytes of an image.
 pub fn image_marks<'a>(image: &Image, marks: &'a [bool]) -> &'a [bool]

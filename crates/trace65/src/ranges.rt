@@ -1,26 +1,17 @@
 //! The lines of the ranges that are proposed.
 
-ghost use Rattle.std.specs.Prelude.{◌≡◌, ◌++◌, OnOk, codes, map, take};
+ghost use Rattle.std.specs.Prelude.{◌≡◌, ◌++◌, OnOk, codes, map};
 ghost use Rattle.reach65.specs.Pieces.{LieIn, LiesIn};
 ghost use Rattle.reach65.specs.RangeLines.{dots_above, range_bytes, range_line, range_lines, shown_byte, shown_bytes, type_text};
 
 use crate::digits::put_address;
+use crate::part::{at_most, part};
 use info65::{RangeSpec, RangeType};
 use map65::Image;
 use std::alloc::AllocError;
 
 /// How many bytes of a range are shown.
 const SHOWN: usize = 32;
-
-/// The first bytes, if there are more than this many.
-fn at_most(bytes: &[u8], most: usize) -> &[u8]
-    ensures { result.now ≡ take most bytes.now }
-{
-    if bytes.len() <= most {
-        return bytes;
-    }
-    &bytes[..most]
-}
 
 /// Appends bytes as characters, with a dot for each that is none.
 fn put_characters(out: &mut Vec<u8>, bytes: &[u8]) -> Result<(), AllocError>
@@ -62,7 +53,7 @@ fn range_bytes(image: &Image, range: RangeSpec) -> &[u8]
 {
     let from = range.first - image.start();
     let len = usize::from(range.last) + 1 - usize::from(range.first);
-    at_most(&image.bytes()[usize::from(from)..], len)
+    part(image.bytes(), usize::from(from), len)
 }
 
 /// What the type of a range is called.

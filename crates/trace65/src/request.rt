@@ -1,20 +1,17 @@
 //! What a command line asks for.
 
-ghost use Rattle.std.specs.Prelude.{◌≡◌, ◌+◌, ◌<◌, drop, length, map, option_map, take};
-ghost use Rattle.std.specs.List.{position_or_len};
+ghost use Rattle.std.specs.Prelude.{◌≡◌, IfOk, map, option_map};
+ghost use Rattle.std.specs.List.{slice_split};
 ghost use Rattle.std.specs.String.{string_bytes};
 ghost use Rattle.clap.specs.Words.{found_of, rows_of};
-ghost use Rattle.usage65.specs.Number.{address_in};
 ghost use Rattle.usage65.specs.Values.{Gives};
-ghost use Rattle.trace65.specs.Request.{accepted, asked, asked_in, asked_of, cpu_in, entries_given, entries_in, given, is_comma, traced_in, with_address};
+ghost use Rattle.trace65.specs.Request.{addresses_in, asked, asked_in, asked_of, entries_given, entries_in, is_comma, traced_in};
 
 use crate::command::matches_of_words;
 use clap::ArgMatches;
-use clap::error::ErrorKind;
 use info65::Options;
-use isa65::Cpu;
-use std::alloc::Global;
-use usage65::{UsageFault, address_in, is_set, owned, text_of};
+use std::alloc::{AllocError, Global};
+use usage65::{UsageFault, address_in, address_of, cpu_of, is_set, owned, text_of};
 
 /// What a command line asks for.
 #[derive(Drop)]
@@ -43,25 +40,8 @@ pub struct Tracing {
 pub fn request_of(alloc: Global, words: &[String]) -> Result<Request, UsageFault>
     ensures { Gives asked_of result (asked (map string_bytes words.now)) }
 {
-    let matches = accepted(alloc, words)?;
+    let matches = matches_of_words(alloc, words)?;
     request_in(alloc, &matches)
-}
-
-/// The matches, if `clap` accepts the words.
-#[tactic(auto, unfolding(crate::specs::Request::accepted))]
-fn accepted<'a>(alloc: Global, words: &'a [String]) -> Result<ArgMatches<'a>, UsageFault>
-    ensures { Gives (λ m. rows_of (found_of m)) result (accepted (map string_bytes words.entry.now)) }
-{
-    match matches_of_words(alloc, words) {
-        Ok(matches) => Ok(matches),
-        Err(error) => {
-            if error.kind() == ErrorKind::OutOfMemory {
-                Err(UsageFault::Memory)
-            } else {
-                Err(UsageFault::Words)
-            }
-        }
-    }
 }
 
 /// What the matches ask for.
@@ -83,8 +63,8 @@ fn request_in(alloc: Global, matches: &ArgMatches) -> Result<Request, UsageFault
 fn traced_in(alloc: Global, matches: &ArgMatches) -> Result<Request, UsageFault>
     ensures { Gives asked_of result (traced_in (rows_of (found_of matches.now))) }
 {
-    let start = start_in(text_of(matches, "start"))?;
-    let cpu = chosen_cpu(text_of(matches, "cpu"))?;
+    let start = address_of(matches, "start")?;
+    let cpu = cpu_of(matches, "cpu")?;
     let entries = entries_given(alloc, text_of(matches, "entry"))?;
     let info = owned(alloc, text_of(matches, "info"))?;
     let input = owned(alloc, text_of(matches, "image"))?;
@@ -101,76 +81,30 @@ fn traced_in(alloc: Global, matches: &ArgMatches) -> Result<Request, UsageFault>
     }))
 }
 
-fn start_in(text: Option<&str>) -> Result<Option<u16>, UsageFault>
-    ensures { result ≡ given address_in (option_map (λ s. s.now) text.entry) }
+/// The texts between the commas of a text.
+fn parts_of(alloc: Global, text: &str) -> Result<Vec<&str>, AllocError>
+    ensures { IfOk result (λ parts. map (λ part. part.now) parts.items ≡ slice_split is_comma text.now) }
 {
-    match text {
-        Some(text) => Ok(Some(address_in(text.as_bytes())?)),
-        None => Ok(None),
+    text.split(',').collect(alloc)
+}
+
+/// The addresses of these texts.
+fn addresses_in(alloc: Global, texts: &[&str]) -> Result<Vec<u16>, UsageFault>
+    ensures { Gives (λ found. found.items) result (addresses_in (map (λ text. text.now) texts.now)) }
+{
+    let mut found = Vec::new(alloc);
+    'texts: for text in texts {
+        found.push(address_in(text.as_bytes())?)?;
     }
-}
-
-fn chosen_cpu(text: Option<&str>) -> Result<Option<Cpu>, UsageFault>
-    ensures { result ≡ given cpu_in (option_map (λ s. s.now) text.entry) }
-{
-    match text {
-        Some(text) => match Cpu::from_bytes(text.as_bytes()) {
-            Some(cpu) => Ok(Some(cpu)),
-            None => Err(UsageFault::OutOfRange),
-        },
-        None => Ok(None),
-    }
-}
-
-/// Adds the address of a text.
-fn put_entry(found: &mut Vec<u16>, text: &[u8]) -> Result<(), UsageFault>
-    ensures { Gives (λ _. found.new.items) result (with_address found.old.items text.now) }
-{
-    let address = address_in(text)?;
-    match found.push(address) {
-        Ok(()) => Ok(()),
-        Err(_) => Err(UsageFault::Memory),
-    }
-}
-
-/// Where the first comma stands; the length of the text if there is none.
-fn comma_in(text: &[u8]) -> usize
-    ensures { result ≡ position_or_len is_comma text.now }
-{
-    text.iter().take_while(|b| **b != b',').count()
-}
-
-/// What stands before this place.
-fn before(text: &[u8], at: usize) -> &[u8]
-    requires { at < length text.now }
-    ensures { result.now ≡ take at text.now }
-{
-    &text[..at]
-}
-
-/// What stands after this place.
-fn after(text: &[u8], at: usize) -> &[u8]
-    requires { at < length text.now }
-    ensures { result.now ≡ drop (at + 1) text.now }
-{
-    &text[at + 1..]
+    Ok(found)
 }
 
 /// The addresses of a text, with commas between them.
 #[tactic(auto, unfolding(crate::specs::Request::entries_in))]
-fn entries_in(alloc: Global, text: &[u8]) -> Result<Vec<u16>, UsageFault>
+fn entries_in(alloc: Global, text: &str) -> Result<Vec<u16>, UsageFault>
     ensures { Gives (λ found. found.items) result (entries_in text.now) }
 {
-    let mut found = Vec::new(alloc);
-    let mut rest = text;
-    let mut at = comma_in(rest);
-    'commas: while at < rest.len() {
-        put_entry(&mut found, before(rest, at))?;
-        rest = after(rest, at);
-        at = comma_in(rest);
-    }
-    put_entry(&mut found, rest)?;
-    Ok(found)
+    addresses_in(alloc, &parts_of(alloc, text)?)
 }
 
 /// The addresses that are given as entries, if any are.
@@ -178,7 +112,7 @@ fn entries_given(alloc: Global, text: Option<&str>) -> Result<Vec<u16>, UsageFau
     ensures { Gives (λ found. found.items) result (entries_given (option_map (λ s. s.now) text.entry)) }
 {
     match text {
-        Some(text) => entries_in(alloc, text.as_bytes()),
+        Some(text) => entries_in(alloc, text),
         None => Ok(Vec::new(alloc)),
     }
 }

@@ -1,22 +1,14 @@
-use Rattle.std.proofs.Common.{ap, subst, map, ◌∙◌}
-use Rattle.std.proofs.lemmas.Result.{IfOk-weaker}
+use Rattle.std.proofs.Common.{map, subst, sym}
 use Rattle.std.specs.String.{string_bytes}
-use Rattle.clap.specs.Words.{App, FailsBy, fault_of, is_simple, is_simple_and_free, matches_of}
-use Rattle.trace65.specs.Command.{faults_on, rows_on}
-use Rattle.trace65.proofs.CommandLemmas.{app_is_free, app_is_simple}
+use Rattle.clap.specs.Words.{App, found_of, rows_of}
+use Rattle.usage65.specs.Values.{Gives, IsPlain, accepted}
+use Rattle.trace65.proofs.CommandLemmas.{app_is_plain}
 use Rattle.trace65.proofs.command.matches_of_words.Goals as goal
 
-pub returns-clause-matches : goal.returns-clause-matches
-unfolding rows_on
-returns-clause-matches c =
-    let is_app = c.in_ok-command.ensures in
-    let words = map string_bytes c.args.words.now in
-    IfOk-weaker c.try_get_matches_from.result _ _
-    (λ m h. (h (ap is_simple is_app ∙ app_is_simple)).0 ∙ ap (λ (a : App). matches_of a words) is_app) c.try_get_matches_from.ensures.matches
+pub accepted-requires : goal.accepted-requires
+accepted-requires c = subst IsPlain (sym c.in_ok-command.ensures) app_is_plain
 
-pub returns-clause-faults : goal.returns-clause-faults
-unfolding faults_on
-returns-clause-faults c =
-    let is_app = c.in_ok-command.ensures in
+pub returns : goal.returns
+returns c =
     let words = map string_bytes c.args.words.now in
-    subst (λ (a : App). FailsBy (fault_of a words) c.try_get_matches_from.result) is_app (c.try_get_matches_from.ensures.kinds (ap is_simple_and_free is_app ∙ app_is_free))
+    subst (λ (a : App). Gives (λ m. rows_of (found_of m)) c.accepted.result (accepted a words)) c.in_ok-command.ensures c.accepted.ensures
