@@ -99,6 +99,8 @@ pub word_in-held : (ds : List Definition) (v : Value) → word_in (map held_defi
 unfolding word_in
 word_in-held ds v = value_in-held 65536 word_far ds v
 
+pub ruleset helds = (is_known-held, word_in-held)
+
 entry_in-held : (ds : List Definition) (d : Directive) (v : Value) → entry_in (map held_definition ds) d v ≡ entry_in ds d v
 unfolding entry_in
 entry_in-held ds d v = value_in-held (entry_limit d) (entry_far d) ds v
@@ -167,6 +169,8 @@ size-held_value ds (NameValue w n minus) = go (find_name w ds)
         let left : d.value + held n ≡ held n + d.value = omega arith in
         let right : n + d.value ≡ d.value + n = omega arith in
         ap (λ (k : ℕ). d.constant && is_small (lowered minus k)) left ∙ ap (λ (b : Bool). d.constant && b) (small-held minus n d.value) ∙ ap (λ (k : ℕ). d.constant && is_small (lowered minus k)) right
+
+pub ruleset held_values = (word_in-held_value, entry_in-held_value, size-held_value)
 
 -- ---- the tests of a line that is placed
 

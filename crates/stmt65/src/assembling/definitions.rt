@@ -45,6 +45,7 @@ impl<'a, 'b, A: Allocator> Definitions<'a, 'b, A> {
     }
 
     /// Whether each name in the expression has a definition.
+    #[tactic(auto, using(crate::proofs::HeldLemmas::helds))]
     pub fn is_known(&self, value: Value<'_>) -> bool
         ensures { result ≡ is_known self.now (value_of value.entry) }
     {
@@ -52,6 +53,7 @@ impl<'a, 'b, A: Allocator> Definitions<'a, 'b, A> {
     }
 
     /// The value of the expression if it is from 0 to $FFFF, as `.word` takes it.
+    #[tactic(auto, using(crate::proofs::HeldLemmas::helds))]
     pub fn word(&self, value: Value<'_>) -> Option<u16>
         ensures { result ≡ word_in self.now (value_of value.entry) }
     {

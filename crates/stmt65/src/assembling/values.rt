@@ -81,6 +81,7 @@ fn in_an_entry(directive: Directive, value: Option<u128>) -> Option<u32>
 }
 
 /// The value if it is from 0 to $FFFF.
+#[tactic(auto, using(crate::proofs::HeldLemmas::held_values))]
 pub fn word_in<A: Allocator + Clone>(names: &Names<'_, '_, A>, value: Value) -> Option<u16>
     ensures { result ≡ word_in names.now (value_of value.entry) }
 {
@@ -88,6 +89,7 @@ pub fn word_in<A: Allocator + Clone>(names: &Names<'_, '_, A>, value: Value) -> 
 }
 
 /// The value if an entry of the directive has room for it.
+#[tactic(auto, using(crate::proofs::HeldLemmas::held_values))]
 pub fn entry_in<A: Allocator + Clone>(
     names: &Names<'_, '_, A>,
     directive: Directive,
@@ -115,6 +117,7 @@ fn held_zero_page_size<A: Allocator + Clone>(above: &Names<'_, '_, A>, value: Va
 }
 
 /// Whether the value is below $100, and a name in it is defined as `name := number`.
+#[tactic(auto, using(crate::proofs::HeldLemmas::held_values))]
 pub fn has_zero_page_size<A: Allocator + Clone>(above: &Names<'_, '_, A>, value: Value) -> bool
     ensures { result ≡ has_zero_page_size above.now (value_of value.entry) }
 {
