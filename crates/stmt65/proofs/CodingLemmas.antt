@@ -8,6 +8,7 @@ use Rattle.std.specs.Prelude.{◌&&◌, is_some, option_and_then}
 use Rattle.std.proofs.lemmas.Bool.{and_parts}
 use Rattle.std.proofs.Math.Bool.{and-true}
 use Rattle.std.proofs.lemmas.List.{append-nil}
+use Rattle.std.proofs.lemmas.List.Folds.{list_all-append}
 use Rattle.std.specs.Bool.{OnTrue}
 use Rattle.stmt65.specs.Code.CodingViews.{Puts, PutsAll}
 use Rattle.std.specs.List.{list_all, flat_map}
@@ -88,12 +89,7 @@ len_end rest len total e small so_far =
 -- ---- tests of each fragment
 
 pub list_all_append : (p : Fragment → Bool) (fs gs : List Fragment) → list_all p (fs ++ gs) ≡ (list_all p fs && list_all p gs)
-list_all_append p [] gs = refl
-list_all_append p (f ∷ fs) gs = go (p f) refl (list_all_append p fs gs)
-  where
-    go : (b : Bool) → p f ≡ b → list_all p (fs ++ gs) ≡ (list_all p fs && list_all p gs) → (p f && list_all p (fs ++ gs)) ≡ ((p f && list_all p fs) && list_all p gs)
-    go true e ih = rw e ih
-    go false e ih = rw e refl
+list_all_append p fs gs = list_all-append p fs gs
 
 -- an expression that has a value, a small one or one near an address, has names that are defined
 below_some : (limit : ℕ) (o : Option ℕ) → is_some (below limit o) ≡ true → is_some o ≡ true

@@ -5,7 +5,7 @@ use Rattle.std.specs.List.{list_any, list_all, flat_map}
 use Rattle.std.specs.Option.{option_map}
 use Rattle.std.specs.Str.{bytes_eq}
 use Rattle.std.proofs.lemmas.List.{map-append}
-use Rattle.std.proofs.lemmas.Bool.{ltb-false, ltb-true}
+use Rattle.std.proofs.lemmas.Bool.{ltb-false, ltb-true, or_parts}
 use Rattle.std.proofs.lemmas.Bool.Decides.{nat_tests}
 use Rattle.isa65.specs.declared.cpu.Cpu.{Cpu}
 use Rattle.stmt65.specs.declared.assembling.coding.Coded.{Coded}
@@ -43,14 +43,14 @@ find_name-held w (d ∷ ds) = go (bytes_eq d.name w) refl (find_name-held w ds)
     go true e ih = rw e refl
     go false e ih = rw e ih
 
-is_some-held : (o : Option Definition) → is_some (option_map held_definition o) ≡ is_some o
-is_some-held None = refl
-is_some-held (Some d) = refl
+is_some-map : {A B : Type 0} (f : A → B) (o : Option A) → is_some (option_map f o) ≡ is_some o
+is_some-map f None = refl
+is_some-map f (Some x) = refl
 
 pub is_known-held : (ds : List Definition) (v : Value) → is_known (map held_definition ds) v ≡ is_known ds v
 unfolding is_known
 is_known-held ds (NumberValue n) = refl
-is_known-held ds (NameValue w n less) = rw (find_name-held w ds) (is_some-held (find_name w ds))
+is_known-held ds (NameValue w n less) = rw (find_name-held w ds) (is_some-map held_definition (find_name w ds))
 
 -- a limit that is far below what is held
 abbrev IsFarBelow : ℕ → Type 0
@@ -174,10 +174,6 @@ pub ruleset held_values = (word_in-held_value, entry_in-held_value, size-held_va
 
 -- ---- the tests of a line that is placed
 
-is_some-map : (coded : Option Coded) → is_some (option_map coded_of coded) ≡ is_some coded
-is_some-map None = refl
-is_some-map (Some c) = refl
-
 any_named-held : (p : List ℕ → Bool) (ds : List Definition) → list_any (λ d. p d.name) (map held_definition ds) ≡ list_any (λ d. p d.name) ds
 any_named-held p [] = refl
 any_named-held p (d ∷ ds) = ap (λ (b : Bool). p d.name || b) (any_named-held p ds)
@@ -231,7 +227,7 @@ pub fault_is : (all : List Definition) (p : Placed) (s : State) (source : Source
     → first_of ((UnknownCpu, has_unknown_cpu (operation_in source)) ∷ (NoSuchForm, none) ∷ (Undefined, not known) ∷ (DefinedTwice, twice) ∷ (OutOfRange, out) ∷ (PastEnd, past) ∷ []) ≡ fault_of all s (Some source)
 unfolding fault_of has_no_form is_undefined is_twice is_out_of_range is_past_end
 fault_is all p s source h none known twice out past a b c d e =
-    let none' : none ≡ not (is_some (coding s.cpu s.above (operation_in source))) = flip (is_some p.coded) none a ∙ ap not (sym (is_some-map p.coded) ∙ ap is_some h.coded) in
+    let none' : none ≡ not (is_some (coding s.cpu s.above (operation_in source))) = flip (is_some p.coded) none a ∙ ap not (sym (is_some-map coded_of p.coded) ∙ ap is_some h.coded) in
     let fragments = fragments-placed p s source h in
     let known' : known ≡ list_all (is_fragment_known all) (fragments_of s source) = b ∙ ap (list_all (is_fragment_known all)) fragments in
     let twice' : twice ≡ list_any (λ d. is_some (find_name d.name s.above)) (defined_by s.at source) =
@@ -249,11 +245,6 @@ passed : (b : Bool) (k : AsmFaultKind) (rest : Option AsmFaultKind) → None ≡
 passed true k rest h = absurd cc
 passed false k rest h = (refl, h)
 
-or_parts : (a b : Bool) → (a || not b) ≡ false → (a ≡ false) × (b ≡ true)
-or_parts true b e = absurd cc
-or_parts false true e = (refl, refl)
-or_parts false false e = absurd cc
-
 -- the tests of definitions, of operands and of the end
 pub record Fits (all : List Definition) (s : State) (source : SourceLine) : Type 0 where
   pub values : list_any (λ d. ltb 65535 d.value) (defined_by s.at source) ≡ false
@@ -270,7 +261,7 @@ none_fits all s source h =
     let e = passed (is_out_of_range all s source) OutOfRange _ d.1 in
     let f = passed (is_past_end s source) PastEnd None e.1 in
     let g = or_parts (list_any (λ x. ltb 65535 x.value) (defined_by s.at source)) _ e.0 in
-    record { values = g.0; room = g.1; past = f.0 }
+    record { values = g.0; room = flip false _ (sym g.1); past = f.0 }
 
 pub small_same : (n limit : ℕ) → limit ≤ 65536 → ltb limit n ≡ false → held n ≡ n
 small_same n limit h e = omega (arith, ltb-false limit n e)

@@ -4,7 +4,7 @@ use Rattle.std.specs.List.{prefix_len, list_all}
 use Rattle.std.specs.Char.{digit_value, is_ascii_hexdigit, is_ascii_digit}
 use Rattle.std.specs.Str.Parse.{AllDigits}
 use Rattle.std.specs.Fmt.{decimal}
-use Rattle.std.proofs.lemmas.Bool.{lt-ltb, ltb-true}
+use Rattle.std.proofs.lemmas.Bool.{and_parts, lt-ltb, ltb-true}
 use Rattle.std.proofs.lemmas.Bool.Decides.{nat_tests}
 use Rattle.std.proofs.lemmas.Fmt.{decimal_is_IsNumeral, decimal_nonempty}
 use Rattle.std.proofs.lemmas.List.{take_at, drop_at, drop-drop}
@@ -15,7 +15,6 @@ use Rattle.stmt65.specs.Digits.{hex2, hex4, offset_text}
 use Rattle.stmt65.specs.Lexing.{is_blank, is_word_start, is_text_byte, part_at, parts}
 use Rattle.stmt65.specs.Parts.{Word, Number, Text, Define, Mark, begins_with, number_of}
 use Rattle.stmt65.proofs.PartLemmas.{parts_blank, parts_part}
-use Rattle.stmt65.proofs.Cases.{both}
 
 -- whether the list begins with an element that passes
 abbrev pub begins : (ℕ → Bool) → List ℕ → Bool
@@ -31,10 +30,10 @@ abbrev pub IsWordText : List ℕ → Type 0
 IsWordText [] = ⊥
 IsWordText (b ∷ w) = (is_word_start b ≡ true) × (list_all is_word_byte w ≡ true)
 
-prefix_stop : (p : ℕ → Bool) (xs ys : List ℕ) → list_all p xs ≡ true → begins p ys ≡ false → prefix_len p (xs ++ ys) ≡ length xs
+pub prefix_stop : (p : ℕ → Bool) (xs ys : List ℕ) → list_all p xs ≡ true → begins p ys ≡ false → prefix_len p (xs ++ ys) ≡ length xs
 prefix_stop p [] [] h g = refl
 prefix_stop p [] (y ∷ ys) h g = rw g refl
-prefix_stop p (x ∷ xs) ys h g = let a = both (p x) (list_all p xs) h in rw a.0 (omega (arith, prefix_stop p xs ys a.1 g))
+prefix_stop p (x ∷ xs) ys h g = let a = and_parts (p x) (list_all p xs) h in rw a.0 (omega (arith, prefix_stop p xs ys a.1 g))
 
 -- ---- words
 
@@ -174,13 +173,13 @@ digit_no_dollar b h = grind (arith, nat_tests)
 decimal_part : (d : ℕ) (ds rest : List ℕ) → list_all is_ascii_digit (d ∷ ds) ≡ true → Ends rest → part_at d (ds ++ rest) ≡ (Number (d ∷ ds), length ds)
 unfolding part_at
 decimal_part d ds rest h e =
-    let a = both (is_ascii_digit d) (list_all is_ascii_digit ds) h in
+    let a = and_parts (is_ascii_digit d) (list_all is_ascii_digit ds) h in
     rw (digit_no_word d a.0, a.0, prefix_stop is_ascii_digit ds rest a.1 (ends_digit rest e), take_at ds rest (length ds) refl) refl
 
 pub parts_digits : (ds rest : List ℕ) → 0 < length ds → list_all is_ascii_digit ds ≡ true → Ends rest → parts (ds ++ rest) ≡ Number ds ∷ parts rest
 parts_digits [] rest lt h e = absurd (omega arith)
 parts_digits (d ∷ ds) rest lt h e =
-    let f = (both (is_ascii_digit d) (list_all is_ascii_digit ds) h).0 in
+    let f = (and_parts (is_ascii_digit d) (list_all is_ascii_digit ds) h).0 in
     parts_part d (ds ++ rest) (digit_no_blank d f) (digit_no_remark d f) ∙ rw (decimal_part d ds rest h e, drop_at ds rest (length ds) refl) refl
 
 pub parts_decimal : (n : ℕ) (rest : List ℕ) → n < 65536 → Ends rest → parts (decimal n ++ rest) ≡ Number (decimal n) ∷ parts rest
@@ -189,7 +188,7 @@ parts_decimal n rest lt e =
 
 no_dollar : (ds : List ℕ) → list_all is_ascii_digit ds ≡ true → begins_with 36 ds ≡ false
 no_dollar [] h = refl
-no_dollar (d ∷ ds) h = digit_no_dollar d (both (is_ascii_digit d) (list_all is_ascii_digit ds) h).0
+no_dollar (d ∷ ds) h = digit_no_dollar d (and_parts (is_ascii_digit d) (list_all is_ascii_digit ds) h).0
 
 pub number_of-decimal : (n : ℕ) → n < 65536 → n ≡ number_of (decimal n)
 unfolding number_of

@@ -1,7 +1,7 @@
 -- Lists joined by commas, one after the other as a loop reads them.
 use Rattle.std.proofs.Common.{◌≡◌, ℕ, zero, suc, true, false, cond, ◌<◌, ◌≤◌, List, [], ◌∷◌, ◌++◌, length, drop, Option, Some, None, refl, sym, ap, ◌∙◌, arith, append_assoc}
 use Rattle.std.specs.Prelude.{map}
-use Rattle.std.proofs.lemmas.List.{length-drop}
+use Rattle.std.proofs.lemmas.List.{length-drop, map-append}
 use Rattle.stmt65.specs.Parts.{Part}
 use Rattle.stmt65.specs.Code.Shortens.{Shortens}
 use Rattle.stmt65.specs.Reading.{◌>>=◌, is_mark, is_nil, whole, joined, list_of}
@@ -34,10 +34,6 @@ fronted-step : {A : Type 0} (before : List A) (x : A) (o : Option (List A)) → 
 fronted-step before x None = refl
 fronted-step {A = A} before x (Some xs) = ap (λ (k : List A). Some k) (sym (append_assoc before (x ∷ []) xs))
 
-map-push : {A B : Type 0} (f : A → B) (xs : List A) (x : A) → map f (xs ++ x ∷ []) ≡ map f xs ++ f x ∷ []
-map-push f [] x = refl
-map-push {B = B} f (y ∷ xs) x = ap (λ (ys : List B). f y ∷ ys) (map-push f xs x)
-
 -- one, and a comma after it
 list_of-comma : {A : Type 0} (read : List Part → Option (A × List Part)) → Shortens read → (ps rest : List Part) (x : A) → read ps ≡ Some (x, rest) → is_mark 44 rest ≡ true → list_of read ps ≡ (list_of read (drop 1 rest) >>= λ others. Some (x ∷ others))
 unfolding joined
@@ -51,11 +47,11 @@ pub list_next : {A B : Type 0} (f : A → B) (read : List Part → Option (B × 
 list_next {B = B} f read s before ps rest left x e h l =
     ap (λ (o : Option (List B)). fronted (map f before) o) (list_of-comma read s ps rest (f x) e h)
     ∙ fronted-step (map f before) (f x) (list_of read (drop 1 rest))
-    ∙ rw (l, map-push f before x) refl
+    ∙ rw (l, map-append f before (x ∷ [])) refl
 
 pub list_last : {A B : Type 0} (f : A → B) (read : List Part → Option (B × List Part)) (before : List A) (ps rest left : List Part) (x : A) → read ps ≡ Some (f x, rest) → is_mark 44 rest ≡ false → left ≡ rest → is_nil left ≡ true → fronted (map f before) (list_of read ps) ≡ Some (map f (before ++ x ∷ []))
 unfolding joined
-list_last f read before ps rest left x e h l d = rw (e, h, ← l, map-push f before x) (go left d)
+list_last f read before ps rest left x e h l d = rw (e, h, ← l, map-append f before (x ∷ [])) (go left d)
   where
     go : (left : List Part) → is_nil left ≡ true → fronted (map f before) (whole (f x ∷ []) left) ≡ Some (map f before ++ f x ∷ [])
     go [] d = refl

@@ -1,5 +1,7 @@
 -- A printed line has no line feed before its end.
-use Rattle.std.proofs.Common.{◌≡◌, ℕ, zero, suc, Bool, true, false, eqb, ltb, ◌-◌, ◌/◌, ◌%◌, ◌<◌, List, [], ◌∷◌, ◌++◌, length, reverse, replicate, Option, Some, None, refl, arith}
+use Rattle.std.proofs.lemmas.List.Folds.{list_all-append}
+use Rattle.std.proofs.lemmas.Bool.{and_parts}
+use Rattle.std.proofs.Common.{◌≡◌, ℕ, zero, suc, Bool, true, false, eqb, ltb, ◌-◌, ◌/◌, ◌%◌, ◌<◌, List, [], ◌∷◌, ◌++◌, length, reverse, replicate, Option, Some, None, refl, ◌∙◌, arith}
 use Rattle.std.specs.Prelude.{◌==◌, not, codes, map}
 use Rattle.std.specs.List.{list_all, flat_map}
 use Rattle.std.specs.Char.{is_ascii_digit}
@@ -45,7 +47,7 @@ use Rattle.stmt65.specs.Views as view
 use Rattle.stmt65.proofs.Lexed.{IsWordText, is_digit}
 use Rattle.stmt65.proofs.ReadBack.{IsRead, AreRead, are_read, name_word, name_quotes}
 use Rattle.stmt65.proofs.TableReads.{is_sound, cut_sound}
-use Rattle.stmt65.proofs.Cases.{both, by_test}
+use Rattle.stmt65.proofs.Cases.{by_test}
 
 abbrev pub in_line : ℕ → Bool
 in_line b = not (b == 10)
@@ -53,16 +55,12 @@ in_line b = not (b == 10)
 abbrev pub InLine : List ℕ → Type 0
 InLine text = list_all in_line text ≡ true
 
-all_append : (p : ℕ → Bool) (xs ys : List ℕ) → list_all p xs ≡ true → list_all p ys ≡ true → list_all p (xs ++ ys) ≡ true
-all_append p [] ys h g = g
-all_append p (x ∷ xs) ys h g = let a = both (p x) (list_all p xs) h in rw (a.0, all_append p xs ys a.1 g) refl
-
 joined : (xs ys : List ℕ) → InLine xs → InLine ys → InLine (xs ++ ys)
-joined xs ys h g = all_append in_line xs ys h g
+joined xs ys h g = list_all-append in_line xs ys ∙ rw (h, g) refl
 
 all_as : (p : ℕ → Bool) → ((b : ℕ) → p b ≡ true → in_line b ≡ true) → (xs : List ℕ) → list_all p xs ≡ true → InLine xs
 all_as p k [] h = refl
-all_as p k (x ∷ xs) h = let a = both (p x) (list_all p xs) h in rw (k x a.0, all_as p k xs a.1) refl
+all_as p k (x ∷ xs) h = let a = and_parts (p x) (list_all p xs) h in rw (k x a.0, all_as p k xs a.1) refl
 
 word_byte : (b : ℕ) → is_word_byte b ≡ true → in_line b ≡ true
 word_byte b h = grind (arith, nat_tests)
@@ -153,9 +151,9 @@ row_line _ = refl
 
 pattern_line : (pattern : List ℕ) (texts : List (List ℕ)) → InLine pattern → AreInLine texts → InLine (in_pattern pattern texts)
 pattern_line [] texts h g = refl
-pattern_line (c ∷ pattern) [] h g = let a = both (in_line c) (list_all in_line pattern) h in rw (a.0, pattern_line pattern [] a.1 g) refl
+pattern_line (c ∷ pattern) [] h g = let a = and_parts (in_line c) (list_all in_line pattern) h in rw (a.0, pattern_line pattern [] a.1 g) refl
 pattern_line (c ∷ pattern) (t ∷ texts) h g =
-    let a = both (in_line c) (list_all in_line pattern) h in
+    let a = and_parts (in_line c) (list_all in_line pattern) h in
     by_test (c == expression)
     (λ e. rw e (joined t (in_pattern pattern texts) g.0 (pattern_line pattern texts a.1 g.1)))
     (λ e. rw (e, a.0, pattern_line pattern (t ∷ texts) a.1 g) refl)
@@ -171,14 +169,14 @@ operand_line h m a os n =
 more_line : {A : Type 0} (text : A → List ℕ) (p : A → Bool) → ((x : A) → p x ≡ true → InLine (text x)) → (xs : List A) → list_all p xs ≡ true → InLine (flat_map (next_text text) xs)
 more_line text p each [] h = refl
 more_line text p each (x ∷ xs) h =
-    let a = both (p x) (list_all p xs) h in
+    let a = and_parts (p x) (list_all p xs) h in
     joined (next_text text x) (flat_map (next_text text) xs) (joined (codes ",") (text x) refl (each x a.0)) (more_line text p each xs a.1)
 
 list_line : {A : Type 0} (text : A → List ℕ) (p : A → Bool) → ((x : A) → p x ≡ true → InLine (text x)) → (xs : List A) → list_all p xs ≡ true → InLine (comma_list text xs)
 unfolding comma_list
 list_line text p each [] h = refl
 list_line text p each (x ∷ xs) h =
-    let a = both (p x) (list_all p xs) h in
+    let a = and_parts (p x) (list_all p xs) h in
     joined (text x) (flat_map (next_text text) xs) (each x a.0) (more_line text p each xs a.1)
 
 any_of : {A : Type 0} (xs : List A) → list_all (λ x. true) xs ≡ true

@@ -4,7 +4,7 @@ use Rattle.std.specs.Prelude.{◌&&◌, ◌||◌, codes, map, Some, IsSome}
 use Rattle.std.specs.List.{list_all, flat_map}
 use Rattle.std.specs.Str.{str_to_ascii_lowercase}
 use Rattle.std.specs.Char.{is_ascii_alphabetic}
-use Rattle.std.proofs.lemmas.Bool.{ltb-true, ne_eqb, eqb-true}
+use Rattle.std.proofs.lemmas.Bool.{and_parts, ltb-true, ne_eqb, eqb-true}
 use Rattle.std.proofs.lemmas.Bool.Decides.{nat_tests}
 use Rattle.std.proofs.lemmas.List.{append-nil, length-append}
 use Rattle.std.proofs.lemmas.Slice.Eq.{bytes_eq-Decides}
@@ -53,7 +53,7 @@ use Rattle.stmt65.proofs.SpelledIsRead.{line_again}
 use Rattle.stmt65.proofs.Lexed.{Ends, IsWordText, parts_word, parts_blanks, parts_mark, parts_define, parts_colon, parts_text, parts_hex2, parts_hex4, number_of-hex2, number_of-hex4, parts_digits, parts_decimal, number_of-decimal, OffsetParts, offset_parts}
 use Rattle.stmt65.proofs.PartLemmas.{parts_nil, parts_remark}
 use Rattle.stmt65.proofs.RemarkLemmas.{AreClosed, parts_then, spelled_closed}
-use Rattle.stmt65.proofs.Cases.{both, by_test}
+use Rattle.stmt65.proofs.Cases.{by_test}
 use Rattle.stmt65.proofs.TableReads.{bytes_listed, numbers_listed, text_listed}
 
 -- ---- items, from the last one to the front
@@ -109,9 +109,9 @@ pub name_word : (w : List ℕ) → is_name w ≡ true → IsWordText w
 unfolding is_name has_name_form
 name_word [] h = absurd cc
 name_word (b ∷ w) h =
-    let form = (both (has_name_form (b ∷ w)) _ h).0 in
-    let front = (both ((is_ascii_alphabetic b || eqb b 95) && list_all is_word_byte w) _ form).0 in
-    let parts = both (is_ascii_alphabetic b || eqb b 95) (list_all is_word_byte w) front in
+    let form = (and_parts (has_name_form (b ∷ w)) _ h).0 in
+    let front = (and_parts ((is_ascii_alphabetic b || eqb b 95) && list_all is_word_byte w) _ form).0 in
+    let parts = and_parts (is_ascii_alphabetic b || eqb b 95) (list_all is_word_byte w) front in
     (letter_starts b parts.0, parts.1)
 
 named_parts : (h : Bool) (name rest : List ℕ) (offset : ℕ) → is_name name ≡ true → offset < 65536 → Ends rest → ValueParts (named_text h name offset) (NameValue name offset Zero) rest
@@ -268,7 +268,7 @@ word_quotes b h = grind (arith, nat_tests)
 
 words_quote : (w : List ℕ) → list_all is_word_byte w ≡ true → list_all is_text_byte w ≡ true
 words_quote [] h = refl
-words_quote (b ∷ w) h = let a = both (is_word_byte b) (list_all is_word_byte w) h in rw (word_quotes b a.0, words_quote w a.1) refl
+words_quote (b ∷ w) h = let a = and_parts (is_word_byte b) (list_all is_word_byte w) h in rw (word_quotes b a.0, words_quote w a.1) refl
 
 first_quotes : (b : ℕ) → (is_ascii_alphabetic b || eqb b 95) ≡ true → is_text_byte b ≡ true
 first_quotes b h = grind (arith, nat_tests)
@@ -277,8 +277,8 @@ pub name_quotes : (w : List ℕ) → has_name_form w ≡ true → list_all is_te
 unfolding has_name_form
 name_quotes [] h = absurd cc
 name_quotes (b ∷ w) h =
-    let front = (both ((is_ascii_alphabetic b || eqb b 95) && list_all is_word_byte w) _ h).0 in
-    let parts = both (is_ascii_alphabetic b || eqb b 95) (list_all is_word_byte w) front in
+    let front = (and_parts ((is_ascii_alphabetic b || eqb b 95) && list_all is_word_byte w) _ h).0 in
+    let parts = and_parts (is_ascii_alphabetic b || eqb b 95) (list_all is_word_byte w) front in
     rw (first_quotes b parts.0, words_quote w parts.1) refl
 
 segment_spelled : (name : List ℕ) → has_name_form name ≡ true → Spells (quoted_name name ∷ []) (parts (quoted name))

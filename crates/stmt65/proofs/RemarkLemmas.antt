@@ -1,9 +1,10 @@
 -- A line that says something has the same parts where a blank and a remark follow it.
+use Rattle.std.proofs.lemmas.List.Sums.{prefix_len-le-length}
 use Rattle.std.proofs.Common.{◌≡◌, ℕ, zero, suc, Bool, true, false, eqb, ◌+◌, ◌<◌, ◌≤◌, List, [], ◌∷◌, ◌++◌, length, drop, refl, ap, arith, inl, inr}
 use Rattle.std.specs.Prelude.{not, Some, None}
 use Rattle.std.specs.List.{prefix_len, list_all}
 use Rattle.std.specs.Char.{is_ascii_digit, is_ascii_hexdigit}
-use Rattle.std.proofs.lemmas.Bool.{eqb-true}
+use Rattle.std.proofs.lemmas.Bool.{and_parts, eqb-true}
 use Rattle.std.proofs.lemmas.List.{take-append-le, drop-append-le, length-drop}
 use Rattle.std.proofs.lemmas.List.Folds.{list_all-append}
 use Rattle.text65.specs.Names.{is_word_byte}
@@ -15,8 +16,8 @@ use Rattle.stmt65.specs.Spelling.{Item, IsPlus, IsMinus, IsValue, IsDatum, IsLis
 use Rattle.stmt65.specs.declared.source_line.AddressSize.TheVariants.{Absolute}
 use Rattle.stmt65.specs.declared.source_line.Minus.{Minus}
 use Rattle.stmt65.specs.declared.source_line.Minus.TheVariants.{Zero, One}
-use Rattle.stmt65.proofs.Cases.{by_test, both}
-use Rattle.stmt65.proofs.SpacingLemmas.{run_fits, taken}
+use Rattle.stmt65.proofs.Cases.{by_test}
+use Rattle.stmt65.proofs.SpacingLemmas.{taken}
 
 -- ---- a part that is no open string is the same before a blank
 
@@ -72,10 +73,10 @@ other_same : (b : ℕ) (bs more : List ℕ) → eqb b 34 ≡ false → part_at b
 unfolding part_at
 other_same b bs more q =
     by_test (is_word_start b)
-    (λ w. rw (w, run_same is_word_byte bs more refl, take-append-le (prefix_len is_word_byte bs) bs (32 ∷ more) (run_fits is_word_byte bs)) refl)
+    (λ w. rw (w, run_same is_word_byte bs more refl, take-append-le (prefix_len is_word_byte bs) bs (32 ∷ more) (prefix_len-le-length is_word_byte bs)) refl)
     (λ w. rw w (by_test (is_ascii_digit b)
-    (λ d. rw (d, run_same is_ascii_digit bs more refl, take-append-le (prefix_len is_ascii_digit bs) bs (32 ∷ more) (run_fits is_ascii_digit bs)) refl)
-    (λ d. rw (d, q, run_same is_ascii_hexdigit bs more refl, take-append-le (hex_len bs) bs (32 ∷ more) (omega (arith, run_fits is_ascii_hexdigit bs)), begins_blank 61 bs more refl) refl)))
+    (λ d. rw (d, run_same is_ascii_digit bs more refl, take-append-le (prefix_len is_ascii_digit bs) bs (32 ∷ more) (prefix_len-le-length is_ascii_digit bs)) refl)
+    (λ d. rw (d, q, run_same is_ascii_hexdigit bs more refl, take-append-le (hex_len bs) bs (32 ∷ more) (omega (arith, prefix_len-le-length is_ascii_hexdigit bs)), begins_blank 61 bs more refl) refl)))
 
 part_same : (b : ℕ) (bs more : List ℕ) → is_closed (part_at b bs).0 ≡ true → part_at b (bs ++ 32 ∷ more) ≡ part_at b bs
 part_same b bs more h =
@@ -98,7 +99,7 @@ parts_then zero (x ∷ xs) more le h e =
     (λ s. rw (t, s) refl)
     (λ s.
     let h' = rw (t, s) at h in
-    let k = both (is_closed (part_at x xs).0) (list_all is_closed (parts_after (part_at x xs).1 xs)) h' in
+    let k = and_parts (is_closed (part_at x xs).0) (list_all is_closed (parts_after (part_at x xs).1 xs)) h' in
     let front = taken x xs t s in
     rw (t, s, part_same x xs more k.0) (ap (λ (ps : List Part). (part_at x xs).0 ∷ ps) (parts_then (part_at x xs).1 xs more front.fits k.1 e))))
 
@@ -151,7 +152,7 @@ spells_closed : (is : List Item) (ps : List Part) → list_all is_closed_item is
 unfolding Spells
 spells_closed [] ps k h = rw h refl
 spells_closed (i ∷ is) ps k h =
-    let b = both (is_closed_item i) (list_all is_closed_item is) k in
+    let b = and_parts (is_closed_item i) (list_all is_closed_item is) k in
     rw h.2 (both_closed h.0 h.1 (item_closed i h.0 b.0 h.3) (spells_closed is h.1 b.1 h.4))
 
 form_closed : (f : Form) → list_all is_closed_item (form_items f) ≡ true

@@ -1,9 +1,10 @@
 -- The lexer takes the parts that stand in the line.
+use Rattle.std.proofs.lemmas.List.Sums.{prefix_len-le-length}
 use Rattle.std.proofs.Common.{◌≡◌, ℕ, zero, suc, Bool, true, false, eqb, ◌+◌, ◌<◌, ◌≤◌, List, [], ◌∷◌, ◌++◌, length, take, drop, refl, sym, ap, subst, ◌∙◌, arith, inl, inr, append_assoc}
 use Rattle.std.specs.Prelude.{◌⊎◌, ◌&&◌, ◌||◌, nat_lt}
 use Rattle.std.specs.List.{prefix_len, list_all}
 use Rattle.std.specs.Char.{is_ascii_digit, is_ascii_hexdigit}
-use Rattle.std.proofs.lemmas.Bool.{ltb-true, lt-ltb, eqb-true, or_parts}
+use Rattle.std.proofs.lemmas.Bool.{and_parts, ltb-true, lt-ltb, eqb-true, or_parts}
 use Rattle.std.proofs.lemmas.Bool.Decides.{nat_tests}
 use Rattle.std.proofs.lemmas.List.{take_at, drop_at, length-append, length-drop, length-take, length-take-le, take-append-drop}
 use Rattle.text65.specs.Names.{is_word_byte}
@@ -12,15 +13,15 @@ use Rattle.stmt65.specs.Lexing.{is_blank, is_word_start, is_text_byte, hex_len, 
 use Rattle.stmt65.specs.Spacing.{IsDecimal, IsHex, is_alone, IsText, IsRemark, IsSpacing}
 use Rattle.stmt65.specs.ReadingLaws.{TakesParts}
 use Rattle.stmt65.proofs.PartLemmas.{parts_nil, parts_blank, parts_remark, parts_part}
-use Rattle.stmt65.proofs.Cases.{by_test, both, not_true}
-use Rattle.stmt65.proofs.Lexed.{digit_no_word}
+use Rattle.stmt65.proofs.Cases.{by_test, not_true}
+use Rattle.stmt65.proofs.Lexed.{digit_no_word, prefix_stop}
 
 -- ---- runs of bytes
 
 -- a run is at least as long as what passes in front
 at_least : (p : ℕ → Bool) (xs ys : List ℕ) → list_all p xs ≡ true → length xs ≤ prefix_len p (xs ++ ys)
 at_least p [] ys h = omega arith
-at_least p (x ∷ xs) ys h = let b = both (p x) (list_all p xs) h in rw b.0 (omega (arith, at_least p xs ys b.1))
+at_least p (x ∷ xs) ys h = let b = and_parts (p x) (list_all p xs) h in rw b.0 (omega (arith, at_least p xs ys b.1))
 
 pub run_passes : (p : ℕ → Bool) (n : ℕ) (xs : List ℕ) → n ≤ prefix_len p xs → list_all p (take n xs) ≡ true
 run_passes p zero xs le = refl
@@ -28,15 +29,6 @@ run_passes p (suc n) [] le = refl
 run_passes p (suc n) (x ∷ xs) le = by_test (p x)
     (λ t. let le : suc n ≤ 1 + prefix_len p xs = rw t at le in rw t (run_passes p n xs (omega arith)))
     (λ t. let le : suc n ≤ 0 = rw t at le in absurd (omega arith))
-
-pub run_fits : (p : ℕ → Bool) (xs : List ℕ) → prefix_len p xs ≤ length xs
-run_fits p [] = omega arith
-run_fits p (x ∷ xs) = by_test (p x) (λ t. rw t (omega (arith, run_fits p xs))) (λ t. rw t (omega arith))
-
--- a run that ends before y
-run_stops : (p : ℕ → Bool) (xs ys : List ℕ) (y : ℕ) → list_all p xs ≡ true → p y ≡ false → prefix_len p (xs ++ y ∷ ys) ≡ length xs
-run_stops p [] ys y h g = rw g refl
-run_stops p (x ∷ xs) ys y h g = let b = both (p x) (list_all p xs) h in rw b.0 (omega (arith, run_stops p xs ys y b.1 g))
 
 -- ---- the part in front
 
@@ -60,18 +52,18 @@ pub taken : (b : ℕ) (bs : List ℕ) → is_blank b ≡ false → eqb b 59 ≡ 
 unfolding part_at
 taken b bs h g =
     by_test (is_word_start b)
-    (λ w. rw w (record { text = (refl, (w, run_passes is_word_byte (prefix_len is_word_byte bs) bs (omega arith))); fits = run_fits is_word_byte bs }))
+    (λ w. rw w (record { text = (refl, (w, run_passes is_word_byte (prefix_len is_word_byte bs) bs (omega arith))); fits = prefix_len-le-length is_word_byte bs }))
     (λ w. rw w (by_test (is_ascii_digit b)
-    (λ d. rw d (record { text = (refl, inl (omega arith, rw d (run_passes is_ascii_digit (prefix_len is_ascii_digit bs) bs (omega arith)))); fits = run_fits is_ascii_digit bs }))
+    (λ d. rw d (record { text = (refl, inl (omega arith, rw d (run_passes is_ascii_digit (prefix_len is_ascii_digit bs) bs (omega arith)))); fits = prefix_len-le-length is_ascii_digit bs }))
     (λ d. rw d (by_test (eqb b 36 && nat_lt 0 (hex_len bs))
-    (λ x. let e = both (eqb b 36) (nat_lt 0 (hex_len bs)) x in let pos = ltb-true 0 (hex_len bs) e.1 in
+    (λ x. let e = and_parts (eqb b 36) (nat_lt 0 (hex_len bs)) x in let pos = ltb-true 0 (hex_len bs) e.1 in
     let long = length-take (hex_len bs) bs in
-    rw x (record { text = (refl, inr (take (hex_len bs) bs, ap (λ (c : ℕ). c ∷ take (hex_len bs) bs) (eqb-true b 36 e.0), omega (arith, long, run_fits is_ascii_hexdigit bs), omega (arith, long), run_passes is_ascii_hexdigit (hex_len bs) bs (omega arith))); fits = omega (arith, run_fits is_ascii_hexdigit bs) }))
+    rw x (record { text = (refl, inr (take (hex_len bs) bs, ap (λ (c : ℕ). c ∷ take (hex_len bs) bs) (eqb-true b 36 e.0), omega (arith, long, prefix_len-le-length is_ascii_hexdigit bs), omega (arith, long), run_passes is_ascii_hexdigit (hex_len bs) bs (omega arith))); fits = omega (arith, prefix_len-le-length is_ascii_hexdigit bs) }))
     (λ x. rw x (by_test (eqb b 34 && begins_with 34 (drop (prefix_len is_text_byte bs) bs))
-    (λ t. let e = both (eqb b 34) (begins_with 34 (drop (prefix_len is_text_byte bs) bs)) t in
-    rw t (text_taken b bs (prefix_len is_text_byte bs) (eqb-true b 34 e.0) (quoted _ e.1) (run_passes is_text_byte (prefix_len is_text_byte bs) bs (omega arith)) (run_fits is_text_byte bs)))
+    (λ t. let e = and_parts (eqb b 34) (begins_with 34 (drop (prefix_len is_text_byte bs) bs)) t in
+    rw t (text_taken b bs (prefix_len is_text_byte bs) (eqb-true b 34 e.0) (quoted _ e.1) (run_passes is_text_byte (prefix_len is_text_byte bs) bs (omega arith)) (prefix_len-le-length is_text_byte bs)))
     (λ t. rw t (by_test (eqb b 58 && begins_with 61 bs)
-    (λ c. let e = both (eqb b 58) (begins_with 61 bs) c in rw c (define_taken b bs (eqb-true b 58 e.0) (equals bs e.1)))
+    (λ c. let e = and_parts (eqb b 58) (begins_with 61 bs) c in rw c (define_taken b bs (eqb-true b 58 e.0) (equals bs e.1)))
     (λ c. rw c (record { text = (refl, stays_alone b h g w d); fits = omega arith }))))))))))
   where
     text_taken : (b : ℕ) (bs : List ℕ) (n : ℕ) → b ≡ 34 → drop n bs ≡ 34 ∷ drop 1 (drop n bs) → list_all is_text_byte (take n bs) ≡ true → n ≤ length bs → Takes b bs (Text (take n bs)) (n + 1)
@@ -109,7 +101,7 @@ best_hex ds more g pos le =
 
 best_text : (t more : List ℕ) → list_all is_text_byte t ≡ true → IsBest (part_at 34 (t ++ 34 ∷ more)) (Text t) (suc (length t + 1))
 unfolding part_at
-best_text t more g = rw (run_stops is_text_byte t more 34 g refl, drop_at t (34 ∷ more) (length t) refl, take_at t (34 ∷ more) (length t) refl) (record { bound = omega arith; same = λ e. refl })
+best_text t more g = rw (prefix_stop is_text_byte t (34 ∷ more) g refl, drop_at t (34 ∷ more) (length t) refl, take_at t (34 ∷ more) (length t) refl) (record { bound = omega arith; same = λ e. refl })
 
 best_define : (more : List ℕ) → IsBest (part_at 58 (61 ∷ more)) Define 2
 unfolding part_at
@@ -123,7 +115,7 @@ unfolding part_at
 best_mark b bs h =
     let a = alone_begins b h in
     rw (a.0, a.1) (by_test (eqb b 36 && nat_lt 0 (hex_len bs))
-    (λ x. let e = ltb-true 0 (hex_len bs) (both (eqb b 36) (nat_lt 0 (hex_len bs)) x).1 in rw x (record { bound = omega arith; same = λ k. absurd (omega arith) }))
+    (λ x. let e = ltb-true 0 (hex_len bs) (and_parts (eqb b 36) (nat_lt 0 (hex_len bs)) x).1 in rw x (record { bound = omega arith; same = λ k. absurd (omega arith) }))
     (λ x. rw x (by_test (eqb b 34 && begins_with 34 (drop (prefix_len is_text_byte bs) bs))
     (λ t. rw t (record { bound = omega arith; same = λ k. absurd (omega arith) }))
     (λ t. rw t (by_test (eqb b 58 && begins_with 61 bs)
@@ -136,7 +128,7 @@ IsBestOf (b ∷ bs) q n = IsBest (part_at b bs) q n
 
 best_number : (t more : List ℕ) → IsDecimal t ⊎ IsHex t → IsBestOf (t ++ more) (Number t) (length t)
 best_number [] more (inl d) = absurd (omega (arith, d.0))
-best_number (b ∷ t) more (inl d) = let e = both (is_ascii_digit b) (list_all is_ascii_digit t) d.1 in best_decimal b t more e.0 e.1
+best_number (b ∷ t) more (inl d) = let e = and_parts (is_ascii_digit b) (list_all is_ascii_digit t) d.1 in best_decimal b t more e.0 e.1
 best_number t more (inr x) = subst (λ (u : List ℕ). IsBestOf (u ++ more) (Number u) (length u)) (sym x.1) (best_hex x.0 more x.4 x.2 x.3)
 
 best_of : (q : Part) (text more : List ℕ) → IsText q text → IsBestOf (text ++ more) q (length text)
@@ -155,7 +147,7 @@ best b bs q text more e h = subst (λ (l : List ℕ). IsBestOf l q (length text)
 
 parts_blanks : (blanks rest : List ℕ) → list_all is_blank blanks ≡ true → parts (blanks ++ rest) ≡ parts rest
 parts_blanks [] rest h = refl
-parts_blanks (b ∷ bs) rest h = let e = both (is_blank b) (list_all is_blank bs) h in parts_blank b (bs ++ rest) e.0 ∙ parts_blanks bs rest e.1
+parts_blanks (b ∷ bs) rest h = let e = and_parts (is_blank b) (list_all is_blank bs) h in parts_blank b (bs ++ rest) e.0 ∙ parts_blanks bs rest e.1
 
 blank_in_front : (ps : List Part) (b : ℕ) (bs : List ℕ) → is_blank b ≡ true → IsSpacing ps bs → IsSpacing ps (b ∷ bs)
 blank_in_front [] b bs h s = (b ∷ s.0, s.1, ap (λ (r : List ℕ). b ∷ r) s.2, rw h s.3, s.4)
@@ -190,7 +182,7 @@ digit_begins b h = (grind (arith, nat_tests), grind (arith, nat_tests))
 
 number_begins : (t : List ℕ) → IsDecimal t ⊎ IsHex t → (b : ℕ) × (bs : List ℕ) × (t ≡ b ∷ bs) × (is_blank b ≡ false) × (eqb b 59 ≡ false)
 number_begins [] (inl d) = absurd (omega (arith, d.0))
-number_begins (b ∷ t) (inl d) = let e = digit_begins b (both (is_ascii_digit b) (list_all is_ascii_digit t) d.1).0 in (b, t, refl, e.0, e.1)
+number_begins (b ∷ t) (inl d) = let e = digit_begins b (and_parts (is_ascii_digit b) (list_all is_ascii_digit t) d.1).0 in (b, t, refl, e.0, e.1)
 number_begins t (inr x) = (36, x.0, x.1, refl, refl)
 
 text_begins : (p : Part) (text : List ℕ) → IsText p text → (b : ℕ) × (bs : List ℕ) × (text ≡ b ∷ bs) × (is_blank b ≡ false) × (eqb b 59 ≡ false)

@@ -1,9 +1,9 @@
 -- The stretches of a text, from the front on.
+use Rattle.std.proofs.lemmas.Bool.{and_parts}
 use Rattle.std.proofs.Common.{◌≡◌, ℕ, suc, Bool, true, false, ◌+◌, ◌≤◌, List, [], ◌∷◌, ◌++◌, length, drop, refl, ap, ◌∙◌, arith}
 use Rattle.std.specs.List.{prefix_len, list_all}
 use Rattle.stmt65.specs.SourceLine.{NumberDatum, StringDatum}
 use Rattle.stmt65.specs.Tables.{is_plain, onto_stretch, cut_text}
-use Rattle.stmt65.proofs.Cases.{both}
 use Rattle.stmt65.proofs.Lexed.{begins}
 
 -- ---- text
@@ -30,9 +30,9 @@ cut_last b (c ∷ cs) h e = cut_onto b (c ∷ cs) h ∙ rw (cut_single c cs e) r
 -- a stretch that is as long as can be
 pub cut_stretch : (t rest : List ℕ) → 1 ≤ length t → list_all is_plain t ≡ true → begins is_plain rest ≡ false → cut_text (t ++ rest) ≡ StringDatum t ∷ cut_text rest
 cut_stretch [] rest lt h e = absurd (omega arith)
-cut_stretch (b ∷ []) rest lt h e = cut_last b rest (both (is_plain b) true h).0 e
+cut_stretch (b ∷ []) rest lt h e = cut_last b rest (and_parts (is_plain b) true h).0 e
 cut_stretch (b ∷ c ∷ t) rest lt h e =
-    let p = both (is_plain b) (list_all is_plain (c ∷ t)) h in
+    let p = and_parts (is_plain b) (list_all is_plain (c ∷ t)) h in
     cut_onto b (c ∷ (t ++ rest)) p.0 ∙ ap (onto_stretch b) (cut_stretch (c ∷ t) rest (omega arith) p.1 e)
 
 -- where a run ends, what follows does not pass

@@ -7,7 +7,7 @@ use Rattle.std.proofs.Math.Nat.{suc-mul}
 use Rattle.std.proofs.lemmas.Int.Digits.{digits_value_push}
 use Rattle.std.proofs.lemmas.List.Folds.{list_all-append}
 use Rattle.std.specs.List.{list_all, flat_map}
-use Rattle.std.proofs.lemmas.Bool.{ltb-true, eqb-true, eq-eqb}
+use Rattle.std.proofs.lemmas.Bool.{and_parts, ltb-true, eqb-true, eq-eqb}
 use Rattle.std.proofs.lemmas.Bool.Decides.{nat_tests}
 use Rattle.std.proofs.lemmas.List.{append-nil, reverse-append, length-reverse, length-take-le, length-drop}
 use Rattle.text65.specs.Digits.{hex_digit}
@@ -24,7 +24,6 @@ use Rattle.stmt65.specs.Printed.{entry_value}
 use Rattle.stmt65.specs.Statements.{bytes_text, comma_list, datum_text, data_text, entry_text, numbers_text}
 use Rattle.stmt65.specs.Tables.{entry_len, order_of, in_order, low_number, pieces, entries, is_plain, cut_text}
 use Rattle.stmt65.specs.Code.Widths.{AreBytes}
-use Rattle.stmt65.proofs.Cases.{both}
 use Rattle.stmt65.proofs.Lexed.{Ends, parts_mark, parts_text, hex_is_digit, hex_value, below_16, parts_hex, parts_hex2, number_of-hex2}
 use Rattle.stmt65.proofs.PartLemmas.{parts_nil}
 use Rattle.stmt65.proofs.EntryLaws.{in_order-length, entries_more}
@@ -42,10 +41,10 @@ listed : {A B : Type 0} (f : A → B) (Is : B → List Part → Type 0) (text : 
     → ((x : A) → p x ≡ true → (rest : List ℕ) → Ends rest → TextParts Is (f x) (text x) rest)
     → (x : A) (xs : List A) → list_all p (x ∷ xs) ≡ true → IsList Is (map f (x ∷ xs)) (parts (text x ++ flat_map (λ y. 44 ∷ text y) xs))
 listed f Is text p each x [] h =
-    let t = each x (both (p x) true h).0 [] refl in
+    let t = each x (and_parts (p x) true h).0 [] refl in
     rw (t.lexes, parts_nil, append-nil) t.spells
 listed f Is text p each x (y ∷ ys) h =
-    let more = both (p x) (list_all p (y ∷ ys)) h in
+    let more = and_parts (p x) (list_all p (y ∷ ys)) h in
     let rest = text y ++ flat_map (λ y. 44 ∷ text y) ys in
     let t = each x more.0 (44 ∷ rest) refl in
     (t.front, parts rest, t.lexes ∙ ap (λ (ps : List Part). t.front ++ ps) (parts_mark 44 rest refl), t.spells, listed f Is text p each y ys more.1)
@@ -79,7 +78,7 @@ digits_count : (bs : List ℕ) → AreBytes bs → digits_value 16 (flat_map dig
 unfolding low_number
 digits_count [] h = refl
 digits_count (b ∷ bs) h =
-    let is = both (ltb b 256) (list_all (λ b. ltb b 256) bs) h in
+    let is = and_parts (ltb b 256) (list_all (λ b. ltb b 256) bs) h in
     let small = ltb-true b 256 is.0 in
     let ih = digits_count bs is.1 in
     let front = flat_map digits2 (reverse bs) in
@@ -98,7 +97,7 @@ is_entry d bytes = (length bytes == entry_len d) && list_all (λ b. nat_lt b 256
 reverse_bytes : (bs : List ℕ) → AreBytes bs → AreBytes (reverse bs)
 reverse_bytes [] h = refl
 reverse_bytes (b ∷ bs) h =
-    let is = both (ltb b 256) (list_all (λ b. ltb b 256) bs) h in
+    let is = and_parts (ltb b 256) (list_all (λ b. ltb b 256) bs) h in
     rw (reverse-append (b ∷ []) bs) (list_all-append (λ b. ltb b 256) (reverse bs) (b ∷ []) ∙ rw (reverse_bytes bs is.1, is.0) refl)
 
 ordered_bytes : (o : ByteOrder) (bs : List ℕ) → AreBytes bs → AreBytes (in_order o bs)
@@ -116,7 +115,7 @@ entry_short _ = omega arith
 each_entry : (d : Directive) (bytes : List ℕ) → is_entry d bytes ≡ true → (rest : List ℕ) → Ends rest → TextParts IsValue (entry_value d bytes) (entry_text d bytes) rest
 unfolding number_of
 each_entry d bytes h rest e =
-    let is = both (length bytes == entry_len d) (list_all (λ b. nat_lt b 256) bytes) h in
+    let is = and_parts (length bytes == entry_len d) (list_all (λ b. nat_lt b 256) bytes) h in
     let long = eqb-true (length bytes) (entry_len d) is.0 in
     let low = in_order (order_of d) bytes in
     let digits = flat_map digits2 (reverse low) in
@@ -130,12 +129,12 @@ each_entry d bytes h rest e =
 take_bytes : (n : ℕ) (bs : List ℕ) → AreBytes bs → AreBytes (take n bs)
 take_bytes zero bs h = refl
 take_bytes (suc n) [] h = refl
-take_bytes (suc n) (b ∷ bs) h = let is = both (ltb b 256) (list_all (λ b. ltb b 256) bs) h in rw (is.0, take_bytes n bs is.1) refl
+take_bytes (suc n) (b ∷ bs) h = let is = and_parts (ltb b 256) (list_all (λ b. ltb b 256) bs) h in rw (is.0, take_bytes n bs is.1) refl
 
 drop_bytes : (n : ℕ) (bs : List ℕ) → AreBytes bs → AreBytes (drop n bs)
 drop_bytes zero bs h = h
 drop_bytes (suc n) [] h = refl
-drop_bytes (suc n) (b ∷ bs) h = drop_bytes n bs (both (ltb b 256) (list_all (λ b. ltb b 256) bs) h).1
+drop_bytes (suc n) (b ∷ bs) h = drop_bytes n bs (and_parts (ltb b 256) (list_all (λ b. ltb b 256) bs) h).1
 
 pieces_are : (d : Directive) (count : ℕ) (bs : List ℕ) → AreBytes bs → count * entry_len d ≤ length bs → list_all (is_entry d) (pieces count (entry_len d) bs) ≡ true
 unfolding pieces
@@ -172,7 +171,7 @@ plain_text b h = grind (arith, nat_tests)
 
 pub cut_sound : (bs : List ℕ) → AreBytes bs → list_all is_sound (cut_text bs) ≡ true
 cut_sound [] h = rw cut_nil refl
-cut_sound (b ∷ bs) h = let a = both (ltb b 256) (list_all (λ b. ltb b 256) bs) h in go (is_plain b) (cut_text bs) refl refl a.0 (cut_sound bs a.1)
+cut_sound (b ∷ bs) h = let a = and_parts (ltb b 256) (list_all (λ b. ltb b 256) bs) h in go (is_plain b) (cut_text bs) refl refl a.0 (cut_sound bs a.1)
   where
     go : (t : Bool) (ds : List Datum) → is_plain b ≡ t → cut_text bs ≡ ds → ltb b 256 ≡ true → list_all is_sound (cut_text bs) ≡ true → list_all is_sound (cut_text (b ∷ bs)) ≡ true
     go false ds p e lt ih = rw (cut_single b bs p, lt) ih
