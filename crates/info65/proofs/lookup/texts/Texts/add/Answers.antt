@@ -1,10 +1,10 @@
-use Rattle.std.proofs.Common.{◌≡◌, ◌∙◌, ◌==◌, ℕ, false, true, ap, get_or, inl, inr, refl, subst, sym}
+use Rattle.std.proofs.Common.{◌≡◌, ◌∙◌, ◌==◌, ℕ, false, true, ap, get_or, inl, inr, refl, sym}
 use Rattle.std.specs.Str.{bytes_eq}
 use Rattle.std.proofs.lemmas.Bool.{eq-eqb, eqb-true}
 use Rattle.std.proofs.lemmas.Map.Text.{btree_map_updates_str}
 use Rattle.std.proofs.lemmas.Result.{IfOk-weaker}
 use Rattle.std.proofs.lemmas.Slice.Eq.{bytes_eq-Decides}
-use Rattle.info65.specs.Code.Texts.{slot_of, texts_seen}
+use Rattle.info65.specs.Code.Texts.{slot_of}
 use Rattle.info65.proofs.Cases.{by_test}
 use Rattle.info65.proofs.IndexLemmas.{other_way, same_text}
 use Rattle.info65.proofs.lookup.texts.Texts.add.Goals as goal
