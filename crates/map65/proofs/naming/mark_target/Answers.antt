@@ -34,19 +34,16 @@ target_at-requires-clause-role g c =
     let m : MapView = record { info = c.args.info.now; image = c.args.image.now } in
     some-same _ _ (sym c.unwrap-role.ensures ∙ laid-known m c.args.cells.now c.args.address (get_or c.args.cells.now c.from.result 0) c.role_in.result c.requires.laid (omega arith) c.requires.low c.requires.high (ap (λ k. get_or c.args.cells.now k 0) c.from.ensures) c.role_in.ensures)
 
-pub returns-in-Some-clause-laid : goal.returns-in-Some-clause-laid
-returns-in-Some-clause-laid g c =
+pub returns-in-Some : goal.returns-in-Some
+returns-in-Some g c =
     let m : MapView = record { info = c.args.info.now; image = c.args.image.now } in
     let t : c.in-Some.target < 65536 = omega arith in
     let is : target_at m c.args.address ≡ Some c.in-Some.target = sym c.target_at.ensures ∙ c.in-Some.is in
-    target-laid m c.args.address c.in-Some.target c.entry_start_of-first.result c.args.cells.now c.mark.new.cells c.mark-in-Some.new.cells c.requires.laid t (omega (arith, c.entry_start_of-first.ensures.below)) is (c.entry_start_of-first.ensures.value m c.requires.laid) c.mark.ensures c.mark-in-Some.ensures
-
-pub returns-in-Some-clause-named : goal.returns-in-Some-clause-named
-returns-in-Some-clause-named g c =
-    let m : MapView = record { info = c.args.info.now; image = c.args.image.now } in
-    let t : c.in-Some.target < 65536 = omega arith in
-    let is : target_at m c.args.address ≡ Some c.in-Some.target = sym c.target_at.ensures ∙ c.in-Some.is in
-    target-named m c.args.address c.in-Some.target c.entry_start_of-first.result c.args.cells.now c.mark.new.cells c.mark-in-Some.new.cells c.requires.laid t (omega (arith, c.entry_start_of-first.ensures.below)) is (c.entry_start_of-first.ensures.value m c.requires.laid) c.mark.ensures c.mark-in-Some.ensures
+    let first = c.entry_start_of-first.ensures.value m c.requires.laid in
+    record {
+      laid = target-laid m c.args.address c.in-Some.target c.entry_start_of-first.result c.args.cells.now c.mark.new.cells c.mark-in-Some.new.cells c.requires.laid t (omega (arith, c.entry_start_of-first.ensures.below)) is first c.mark.ensures c.mark-in-Some.ensures;
+      named = target-named m c.args.address c.in-Some.target c.entry_start_of-first.result c.args.cells.now c.mark.new.cells c.mark-in-Some.new.cells c.requires.laid t (omega (arith, c.entry_start_of-first.ensures.below)) is first c.mark.ensures c.mark-in-Some.ensures;
+    }
 
 pub returns-in_default-clause-named : goal.returns-in_default-clause-named
 returns-in_default-clause-named g c = λ p named.
