@@ -15,7 +15,7 @@ use Rattle.da65.proofs.Groups.InsideLemmas.{full-more, group-piece}
 use Rattle.da65.proofs.Groups.DefinedLemmas.{IsTable, group-unnamed}
 use Rattle.da65.proofs.Groups.PlaceLemmas.{Leads, each-place}
 use Rattle.da65.proofs.Groups.ShapeLemmas.{role-past, limit-other, limit-whole, one-more, size-is, full_len-of}
-use Rattle.da65.proofs.Groups.StepLemmas.{group-one}
+use Rattle.da65.proofs.Groups.StepLemmas.{group_one}
 
 none-over : (r : RangeType) → 0 % limit_of r ≡ 0
 none-over r = mod-eq_of_lt (omega (arith, layout_line r))
@@ -104,7 +104,7 @@ module _ (m : MapView) (r : RangeType) (table : IsTable m r) where
       size cut = ⊎_elim
           (λ all. all ∙ full_len)
           (λ one.
-          let alone : group_len m a ≡ item_len m a = group-one m a (limit-other m a cut) in
+          let alone : group_len m a ≡ item_len m a = group_one m a (limit-other m a cut) in
           let place : a + 1 ≡ next = omega (arith, len, alone, begun, one) in
           let after : item_len m next ≡ unit_of r = eqb-true (item_len m next) (unit_of (role_of m.info next)) whole ∙ ap unit_of role-is in
           let after-size : size_at m next ≡ unit_of r = sym (item-begun m next (omega (arith, after, layout_some r))).len ∙ after in

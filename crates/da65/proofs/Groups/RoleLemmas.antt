@@ -48,13 +48,13 @@ unfolding role_at
 role-none m a =
     cond_both (is_inside m.image a) (Some (role_of m.info a)) None (λ o. o ≡ None → is_inside m.image a ≡ false) (λ _ e. absurd (none-some _ (sym e))) (λ is _. is)
 
-pub role-outside : (m : MapView) (a : ℕ) → IsPlaced m.image → 65536 ≤ a → role_at m a ≡ None
+pub role_outside : (m : MapView) (a : ℕ) → IsPlaced m.image → 65536 ≤ a → role_at m a ≡ None
 unfolding role_at
-role-outside m a placed far = cond-false (is_inside m.image a) _ _ (outside m a placed far)
+role_outside m a placed far = cond-false (is_inside m.image a) _ _ (outside m a placed far)
 
-pub item-outside : (m : MapView) (a : ℕ) → IsPlaced m.image → 65536 ≤ a → item_len m a ≡ 0
+pub item_outside : (m : MapView) (a : ℕ) → IsPlaced m.image → 65536 ≤ a → item_len m a ≡ 0
 unfolding item_len
-item-outside m a placed far = rw (outside m a placed far) refl
+item_outside m a placed far = rw (outside m a placed far) refl
 
 -- ---- runs
 

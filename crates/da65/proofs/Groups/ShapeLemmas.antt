@@ -21,7 +21,7 @@ use Rattle.da65.specs.Instructions.{instruction_in, whole_in}
 use Rattle.da65.specs.ReassemblyLaw.{GroupsAreGroups, IsGroup}
 use Rattle.da65.specs.Shapes.{AreEntries, IsGroupOf}
 use Rattle.da65.proofs.Groups.GroupLemmas.{group-begun, group-fits, group-some, item-goes-on, more-false, more-none, more-true, place-of}
-use Rattle.da65.proofs.Groups.StepLemmas.{group-one}
+use Rattle.da65.proofs.Groups.StepLemmas.{group_one}
 
 -- ---- the bytes from an address on
 
@@ -130,7 +130,7 @@ table-long m a r e full_len begun = go (is_whole m a) refl
     single (inl whole) h = absurd (true≢false (sym (eq-eqb (item_len m a) (unit_of (role_of m.info a)) (begun ∙ whole ∙ full_len ∙ sym (ap unit_of e))) ∙ h))
 
     go : (t : Bool) → is_whole m a ≡ t → IsLong r (item_len m a + more_at m (limit_at m a - 1) (a + item_len m a))
-    go false h = inl (group-one m a (limit-other m a h) ∙ single (size-is m a) h)
+    go false h = inl (group_one m a (limit-other m a h) ∙ single (size-is m a) h)
     go true h =
         let unit : item_len m a ≡ unit_of r = eqb-true (item_len m a) (unit_of (role_of m.info a)) h ∙ ap unit_of e in
         let others = many m (limit_at m a - 1) (a + item_len m a) r (λ joined. role-past m a (item_len m a) begun joined ∙ e) in
@@ -171,7 +171,7 @@ module _ (m : MapView) (k : ℕ) (here : IsGroupPlace m k) (low : k < length m.i
       let a : ℕ = m.image.start + k in
       let some : 1 ≤ group_len m a = group-some m k here low shown in
       let first : slice_index (group_bytes m a) 0 ≡ byte_at m.image a = ap (λ (bytes : List ℕ). slice_index bytes 0) (group-index m k) ∙ byte-first m k (group_len m a) some in
-      let size : length (group_bytes m a) ≡ size_at m a = long ∙ group-one m a (limit-code m a e) ∙ begun in
+      let size : length (group_bytes m a) ≡ size_at m a = long ∙ group_one m a (limit-code m a e) ∙ begun in
       instruction-size (opcodes m) (group_bytes m a) (omega (arith, long, some)) (either size (sym (ap (λ (b : ℕ). code_size (decoded (opcodes m) b)) first)) (full_len-of m a role.Code e) (size-is m a))
 
   pub group-shape : IsGroupOf (opcodes m) (role_of m.info (m.image.start + k)) (group_bytes m (m.image.start + k))

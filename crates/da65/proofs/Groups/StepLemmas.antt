@@ -16,9 +16,9 @@ more-step m n a len some is same =
     ap (λ (n : ℕ). more_at m n a) count ∙ more-true m (n - 1) a is ∙ ap (λ (len : ℕ). len + more_at m (n - 1) (a + len)) (sym same)
 
 -- a line that takes one item has no more
-pub group-one : (m : MapView) (a : ℕ) → limit_at m a ≡ 1 → group_len m a ≡ item_len m a
+pub group_one : (m : MapView) (a : ℕ) → limit_at m a ≡ 1 → group_len m a ≡ item_len m a
 unfolding group_len more_at
-group-one m a one =
+group_one m a one =
     let none : limit_at m a - 1 ≡ 0 = omega (arith, one) in
     let no_more : more_at m (limit_at m a - 1) (a + item_len m a) ≡ 0 = ap (λ (n : ℕ). more_at m n (a + item_len m a)) none in
     omega (arith, no_more)

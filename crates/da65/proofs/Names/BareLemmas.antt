@@ -31,10 +31,10 @@ constant-in r len = go (is_skip r) (len == 0)
     go false true = refl
     go false false = refl
 
-pub constant-some : (m : MapView) (a : ℕ) (r : RangeType) → role_at m a ≡ Some r → is_constant (place_of m a) ≡ is_skip r
+pub constant_some : (m : MapView) (a : ℕ) (r : RangeType) → role_at m a ≡ Some r → is_constant (place_of m a) ≡ is_skip r
 unfolding place_of
-constant-some m a r is = rw is (constant-in r _)
+constant_some m a r is = rw is (constant-in r _)
 
-pub constant-none : (m : MapView) (a : ℕ) → role_at m a ≡ None → is_constant (place_of m a) ≡ true
+pub constant_none : (m : MapView) (a : ℕ) → role_at m a ≡ None → is_constant (place_of m a) ≡ true
 unfolding place_of
-constant-none m a is = rw is refl
+constant_none m a is = rw is refl

@@ -51,8 +51,8 @@ text-base m a = refl
 
 -- ---- the base that stands for an address
 
-pub base-unnamed : (m : MapView) (a : ℕ) → has_name m a ≡ false → is_base (names_of m) a ≡ false
-base-unnamed m a is = ap (is_own a) (base-none m a is)
+pub base_unnamed : (m : MapView) (a : ℕ) → has_name m a ≡ false → is_base (names_of m) a ≡ false
+base_unnamed m a is = ap (is_own a) (base-none m a is)
 
 own-here : (m : MapView) (a : ℕ) (o : Option Base) → ((b : Base) → o ≡ Some b → b.address ≤ a) → is_own_name (option_map (kind_by m a) o) ≡ is_own a o
 own-here m a None low = refl

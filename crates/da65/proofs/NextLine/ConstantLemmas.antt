@@ -15,8 +15,8 @@ use Rattle.da65.specs.BaseNames.{names_of}
 use Rattle.da65.specs.Code.NamedCells.{is_unnamed}
 use Rattle.da65.specs.Code.SkipRanges.{is_skip_range}
 use Rattle.da65.specs.Listing.{constants, has_constant_line}
-use Rattle.da65.proofs.Names.BareLemmas.{constant-some}
-use Rattle.da65.proofs.Names.BaseLemmas.{base-unnamed}
+use Rattle.da65.proofs.Names.BareLemmas.{constant_some}
+use Rattle.da65.proofs.Names.BaseLemmas.{base_unnamed}
 use Rattle.da65.proofs.NextLine.NextLemmas.{constants-end, constants-next, line-none}
 use Rattle.da65.proofs.Groups.SkipLemmas.{skip-in}
 use Rattle.map65.proofs.Public.{inside-if}
@@ -30,7 +30,7 @@ unfolding role_at
 role-listed m a low high = cond-true (is_inside m.image a) _ _ (inside-if m a low high)
 
 none-listed : (m : MapView) (a : ℕ) → list_any is_skip_range m.info.ranges ≡ false → m.image.start ≤ a → a < end_of m.image → has_constant_line (names_of m) a ≡ false
-none-listed m a all low high = and-none _ _ (constant-some m a (role_of m.info a) (role-listed m a low high) ∙ skip-in m.info.ranges a all)
+none-listed m a all low high = and-none _ _ (constant_some m a (role_of m.info a) (role-listed m a low high) ∙ skip-in m.info.ranges a all)
 
 same-place : (m : MapView) (v u : ℕ) → v ≡ u → constants m (65536 - v) v ≡ constants m (65536 - u) u
 same-place m v u same = ap (λ (k : ℕ). constants m (65536 - k) k) same
@@ -45,7 +45,7 @@ constants-over m (suc n) v bound none =
 -- no address without a name has a constant line
 pub constants-unnamed : (m : MapView) (from to : ℕ) → from ≤ to → to ≤ 65536 → ((a : ℕ) → from ≤ a → a < to → has_name m a ≡ false) → constants m (65536 - from) from ≡ constants m (65536 - to) to
 constants-unnamed m from to order bound none =
-    constants-over m (to - from) from (omega (arith, order, bound)) (λ a low high. line-none m a (base-unnamed m a (none a low (omega (arith, order, high)))))
+    constants-over m (to - from) from (omega (arith, order, bound)) (λ a low high. line-none m a (base_unnamed m a (none a low (omega (arith, order, high)))))
     ∙ same-place m (from + (to - from)) to (omega (arith, order))
 
 named-bit : (named : Bool) (bits : ℕ) → bits ≡ bit named → (bits == 0) ≡ true → named ≡ false

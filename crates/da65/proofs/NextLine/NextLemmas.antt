@@ -278,9 +278,9 @@ pub constant-blank : (m : MapView) (v : ℕ) → constants m (65536 - v) v ≡ [
 unfolding constants_left
 constant-blank m v none = ap (λ (ls : List ListingLine). with_blank_after true ls ++ groups_left m 0) none
 
-pub constant-none : (m : MapView) (v : ℕ) → constants m (65536 - v) v ≡ [] → constants_left m v false ≡ groups_left m 0
+pub constant_none : (m : MapView) (v : ℕ) → constants m (65536 - v) v ≡ [] → constants_left m v false ≡ groups_left m 0
 unfolding constants_left
-constant-none m v none = ap (λ (ls : List ListingLine). with_blank_after false ls ++ groups_left m 0) none
+constant_none m v none = ap (λ (ls : List ListingLine). with_blank_after false ls ++ groups_left m 0) none
 
 -- ---- the label and the statement
 

@@ -48,6 +48,7 @@ pub fn put_base<A: Allocator>(map: &Map<'_, A>, address: u16, name: &mut NameBuf
 }
 
 /// Whether the address is defined by name.
+#[tactic(auto, using(crate::proofs::Names::BaseLemmas::base_unnamed))]
 pub fn is_defined<A: Allocator>(map: &Map<'_, A>, address: u16) -> bool
     requires { AreNames map.now.info.names }
     ensures { result ≡ is_defined map.now address }

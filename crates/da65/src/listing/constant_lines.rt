@@ -22,6 +22,7 @@ use stmt65::{Line, Statement};
 
 /// Whether a constant line defines the base that stands for the address, if there is one: the address lies outside
 /// the image, or its byte is skipped.
+#[tactic(auto, using(crate::proofs::Names::BareLemmas::constant_some, crate::proofs::Names::BareLemmas::constant_none))]
 fn has_constant<A: Allocator>(map: &Map<'_, A>, address: u16) -> bool
     ensures { result ≡ is_constant (place_of map.now address) }
 {

@@ -23,6 +23,7 @@ fn limit_of(role: RangeType) -> usize
 }
 
 /// The role of an address, none outside the image.
+#[tactic(auto, using(crate::proofs::Groups::RoleLemmas::role_outside))]
 fn role_of<A: Allocator>(map: &Map<'_, A>, address: usize) -> Option<RangeType>
     requires { IsPlaced map.now.image }
     ensures { result ≡ role_at map.now address }
@@ -35,6 +36,7 @@ fn role_of<A: Allocator>(map: &Map<'_, A>, address: usize) -> Option<RangeType>
 }
 
 /// How long the item is that begins at the address, and 0 where none does.
+#[tactic(auto, using(crate::proofs::Groups::RoleLemmas::item_outside))]
 fn item_len<A: Allocator>(map: &Map<'_, A>, address: usize) -> usize
     requires { IsPlaced map.now.image }
     ensures len { result ≡ item_len map.now address }
@@ -121,7 +123,7 @@ fn limit_at<A: Allocator>(map: &Map<'_, A>, role: RangeType, address: usize) -> 
 /// How many bytes the group has that begins with the item at an address of this role: that item, and
 /// those that go on, as many as the line takes. Allocates nothing.
 #[inline]
-#[tactic(auto, unfolding(crate::specs::Groups::group_len))]
+#[tactic(auto, using(crate::proofs::Groups::StepLemmas::group_one), unfolding(crate::specs::Groups::group_len))]
 pub fn group_len<A: Allocator>(map: &Map<'_, A>, role: RangeType, address: usize) -> usize
     requires placed { IsPlaced map.now.image }
     requires names { AreNames map.now.info.names }

@@ -12,6 +12,7 @@ use stmt65::{Line, Remarks, Statement, put_line};
 
 /// Replaces the buffer by the line of a statement that stands before these bytes, after this label if there is one.
 #[inline(always)]
+#[tactic(auto, unfolding(crate::specs::Listing::line_text))]
 pub fn put_statement(
     out: &mut Line,
     style: &Style,

@@ -1,6 +1,6 @@
 use Rattle.std.proofs.Common.{◌≡◌, ◌∙◌, arith, false, refl, sym}
 use Rattle.da65.specs.BaseNames.{is_base, names_of}
-use Rattle.da65.proofs.Names.BaseLemmas.{base-unnamed}
+use Rattle.da65.proofs.Names.BaseLemmas.{base_unnamed}
 use Rattle.da65.proofs.NextLine.NextLemmas.{forwards-end, forwards-here, forwards-next, first-text}
 use Rattle.da65.proofs.listing.group_lines.put_forward.Goals as goal
 use Rattle.da65.proofs.listing.group_lines.put_forward.Goals.{else-has_name-via-else-has_name, else-has_name-via-then-has_name+else-put_forward_at}
@@ -16,7 +16,7 @@ pub addresses-preserved : goal.addresses-preserved
 addresses-preserved g c =
     let undefined : is_base (names_of c.args.listed.now) c.addresses.at ≡ false = elim c.else-has_name.branch [
       | else-has_name-via-then-has_name+else-put_forward_at w ↦ sym w.put_forward_at.ensures.is ∙ w.if-put_forward_at.false
-      | else-has_name-via-else-has_name w ↦ rw (← c.map.ensures.map) (base-unnamed _ _ (sym c.has_name.ensures ∙ w.if-has_name.false))
+      | else-has_name-via-else-has_name w ↦ rw (← c.map.ensures.map) (base_unnamed _ _ (sym c.has_name.ensures ∙ w.if-has_name.false))
     ] in
     record {
       same = sym (forwards-next _ _ _ c.addresses.at c.addresses-test.true undefined) ∙ c.addresses.invariant.same;
