@@ -39,13 +39,13 @@ outside m a placed far = go (is_inside m.image a) refl
 
 -- ---- what the role of an address tells
 
-pub role-some : (m : MapView) (a : ℕ) (r : RangeType) → role_at m a ≡ Some r → (is_inside m.image a ≡ true) × (role_of m.info a ≡ r)
+pub role_some : (m : MapView) (a : ℕ) (r : RangeType) → role_at m a ≡ Some r → (is_inside m.image a ≡ true) × (role_of m.info a ≡ r)
 unfolding role_at
-role-some m a r = cond_some (is_inside m.image a) (role_of m.info a) r
+role_some m a r = cond_some (is_inside m.image a) (role_of m.info a) r
 
-pub role-none : (m : MapView) (a : ℕ) → role_at m a ≡ None → is_inside m.image a ≡ false
+pub role_none : (m : MapView) (a : ℕ) → role_at m a ≡ None → is_inside m.image a ≡ false
 unfolding role_at
-role-none m a =
+role_none m a =
     cond_both (is_inside m.image a) (Some (role_of m.info a)) None (λ o. o ≡ None → is_inside m.image a ≡ false) (λ _ e. absurd (none-some _ (sym e))) (λ is _. is)
 
 pub role_outside : (m : MapView) (a : ℕ) → IsPlaced m.image → 65536 ≤ a → role_at m a ≡ None
@@ -64,7 +64,7 @@ run-outside m a none = go (is_in_run m a) refl
   where
     go : (t : Bool) → is_in_run m a ≡ t → t ≡ false
     go false is = refl
-    go true is = let run = in-run m a is in absurd (both_ways (is_inside m.image a) (role-none m a none) (inside-if m a (omega (arith, run.low)) run.high))
+    go true is = let run = in-run m a is in absurd (both_ways (is_inside m.image a) (role_none m a none) (inside-if m a (omega (arith, run.low)) run.high))
 
 -- ---- items that go on
 
@@ -102,4 +102,4 @@ pub outside-stops : (m : MapView) (a : ℕ) → AreNames m.info.names → role_a
 outside-stops m a are none = stops-run m a are (run-outside m a none)
 
 pub role-low : (m : MapView) (a : ℕ) (r : RangeType) → IsPlaced m.image → role_at m a ≡ Some r → a < 65536
-role-low m a r placed is = omega (arith, placed.room, (inside-bounds m a (role-some m a r is).0).high)
+role-low m a r placed is = omega (arith, placed.room, (inside-bounds m a (role_some m a r is).0).high)

@@ -41,9 +41,9 @@ unnamed m a is = go (base_at m a) is
     go None is = refl
     go (Some b) is = absurd cc
 
-pub text-long : (m : MapView) (a : ℕ) (k : NameKind) → AreNames m.info.names → kind_at m a ≡ Some k → IsNameLong (text_at m a)
+pub text_long : (m : MapView) (a : ℕ) (k : NameKind) → AreNames m.info.names → kind_at m a ≡ Some k → IsNameLong (text_at m a)
 unfolding text_at
-text-long m a k are is = let b = named m a k is in rw b.is (base-text m a b.base are b.is).long
+text_long m a k are is = let b = named m a k is in rw b.is (base-text m a b.base are b.is).long
 
 pub text-base : (m : MapView) (a : ℕ) → text_at m a ≡ base_name (names_of m) a
 unfolding text_at
@@ -75,7 +75,7 @@ base-own m a are = own-here m a (base_at m a) (λ b is. (base_law m are).low a b
 
 own-long : (m : MapView) (a : ℕ) (o : Option NameKind) → is_own_name o ≡ true → kind_at m a ≡ o → AreNames m.info.names → IsNameLong (text_at m a)
 own-long m a None is e are = absurd cc
-own-long m a (Some k) is e are = text-long m a k are e
+own-long m a (Some k) is e are = text_long m a k are e
 
 -- what a buffer holds of it
 pub put-text : (m : MapView) (a : ℕ) (t : Bool) (items : List ℕ) → items ≡ text_at m a → OnTrue t (items ≡ base_name (names_of m) a)
@@ -88,13 +88,13 @@ put-long m a true items are base is = subst IsNameLong (sym is) (own-long m a (k
 
 -- ---- expressions
 
-pub expr-named : (m : MapView) (a : ℕ) (k : NameKind) → kind_at m a ≡ Some k → address_expr (names_of m) a ≡ view.name (text_at m a) k.offset
+pub expr_named : (m : MapView) (a : ℕ) (k : NameKind) → kind_at m a ≡ Some k → address_expr (names_of m) a ≡ view.name (text_at m a) k.offset
 unfolding address_expr text_at
-expr-named m a k is = let b = named m a k is in rw b.is (ap (λ (k : NameKind). view.name b.base.text k.offset) b.kind)
+expr_named m a k is = let b = named m a k is in rw b.is (ap (λ (k : NameKind). view.name b.base.text k.offset) b.kind)
 
-pub expr-number : (m : MapView) (a : ℕ) → kind_at m a ≡ None → address_expr (names_of m) a ≡ view.number a
+pub expr_number : (m : MapView) (a : ℕ) → kind_at m a ≡ None → address_expr (names_of m) a ≡ view.number a
 unfolding address_expr
-expr-number m a is = rw (unnamed m a is) refl
+expr_number m a is = rw (unnamed m a is) refl
 
 zero-by : (m : MapView) (a n : ℕ) (o : Option Base) → constant_offset (option_map (kind_by m a) o) ≡ Some n → expr_from a (constant_base (names_of m) o) ≡ view.name (text_by o) n
 zero-by m a n None is = absurd cc
@@ -112,28 +112,28 @@ zero-none m a (Some b) is = go (is_constant (place_of m b.address)) is
     go true e = absurd cc
     go false e = refl
 
-pub zero-named : (m : MapView) (a n : ℕ) → constant_offset (kind_at m a) ≡ Some n → zero_page_expr (names_of m) a ≡ view.name (text_at m a) n
+pub zero_named : (m : MapView) (a n : ℕ) → constant_offset (kind_at m a) ≡ Some n → zero_page_expr (names_of m) a ≡ view.name (text_at m a) n
 unfolding zero_page_expr kind_at text_at
-zero-named m a n is = zero-by m a n (base_at m a) is
+zero_named m a n is = zero-by m a n (base_at m a) is
 
-pub zero-number : (m : MapView) (a : ℕ) → constant_offset (kind_at m a) ≡ None → zero_page_expr (names_of m) a ≡ view.number a
+pub zero_number : (m : MapView) (a : ℕ) → constant_offset (kind_at m a) ≡ None → zero_page_expr (names_of m) a ≡ view.number a
 unfolding zero_page_expr kind_at
-zero-number m a is = zero-none m a (base_at m a) is
+zero_number m a is = zero-none m a (base_at m a) is
 
 some-kind : (m : MapView) (a n : ℕ) (o : Option NameKind) → constant_offset o ≡ Some n → kind_at m a ≡ o → AreNames m.info.names → IsNameLong (text_at m a)
 some-kind m a n None is e are = absurd cc
-some-kind m a n (Some k) is e are = text-long m a k are e
+some-kind m a n (Some k) is e are = text_long m a k are e
 
-pub zero-long : (m : MapView) (a n : ℕ) → AreNames m.info.names → constant_offset (kind_at m a) ≡ Some n → IsNameLong (text_at m a)
-zero-long m a n are is = some-kind m a n (kind_at m a) is refl are
+pub zero_long : (m : MapView) (a n : ℕ) → AreNames m.info.names → constant_offset (kind_at m a) ≡ Some n → IsNameLong (text_at m a)
+zero_long m a n are is = some-kind m a n (kind_at m a) is refl are
 
 -- ---- targets
 
-pub target-named : (m : MapView) (a : ℕ) (k : NameKind) → kind_at m a ≡ Some k → option_map (target_by a) (base_at m a) ≡ Some (record { name = text_at m a; offset = k.offset })
+pub target_named : (m : MapView) (a : ℕ) (k : NameKind) → kind_at m a ≡ Some k → option_map (target_by a) (base_at m a) ≡ Some (record { name = text_at m a; offset = k.offset })
 unfolding text_at
-target-named m a k is =
+target_named m a k is =
     let b = named m a k is in
     rw b.is (ap (λ (k : NameKind). let t : TargetView = record { name = b.base.text; offset = k.offset } in Some t) b.kind)
 
-pub target-none : (m : MapView) (a : ℕ) → kind_at m a ≡ None → option_map (target_by a) (base_at m a) ≡ None
-target-none m a is = rw (unnamed m a is) refl
+pub target_none : (m : MapView) (a : ℕ) → kind_at m a ≡ None → option_map (target_by a) (base_at m a) ≡ None
+target_none m a is = rw (unnamed m a is) refl

@@ -22,17 +22,17 @@ pub record IsNameText (text : List ℕ) : Type 0 where
   pub name : is_name text ≡ true
   pub long : IsNameLong text
 
-pub text-long : (text : List ℕ) → has_name_form text ≡ true → IsNameLong text
+pub text_long : (text : List ℕ) → has_name_form text ≡ true → IsNameLong text
 unfolding has_name_form
-text-long [] h = absurd cc
-text-long (b ∷ w) h =
+text_long [] h = absurd cc
+text_long (b ∷ w) h =
     let both = and_parts ((is_ascii_alphabetic b || b == 95) && list_all is_word_byte w) (nat_lt (length w) 80) h in
     let short = ltb-true (length w) 80 both.1 in
     (omega arith, omega (arith, short))
 
 text-of-form : (text : List ℕ) → has_name_form text ≡ true → is_reserved_word text ≡ false → IsNameText text
 unfolding is_name
-text-of-form text form free = record { name = and_from (has_name_form text) (not (is_reserved_word text)) form (ap not free); long = text-long text form }
+text-of-form text form free = record { name = and_from (has_name_form text) (not (is_reserved_word text)) form (ap not free); long = text_long text form }
 
 -- ---- names that are given
 

@@ -15,7 +15,7 @@ use Rattle.info65.proofs.Public.{last_name}
 use Rattle.map65.specs.MapView.{MapView}
 use Rattle.da65.specs.Comments.{comment_at, comment_by}
 use Rattle.map65.specs.Segments.{segment_at}
-use Rattle.da65.proofs.Names.NameTexts.{text-long}
+use Rattle.da65.proofs.Names.NameTexts.{text_long}
 use Rattle.da65.specs.Listing.{comment_line, comment_lines}
 
 -- ---- comments
@@ -76,19 +76,19 @@ pub segment-printable : (m : MapView) (a : ℕ) (name : List ℕ) → AreSegment
 unfolding segment_at segment_covering
 segment-printable m a name are e =
     let form = found-segment (λ s. contains s a) m.info.segments name are.each e in
-    (text-long name form, form)
+    (text_long name form, form)
 
-pub some-segment : (m : MapView) (a : ℕ) (o : Option (List ℕ)) → AreSegments m.info.segments → o ≡ segment_at m a → IfSome o IsNameLong
-some-segment m a None are e = tt
-some-segment m a (Some name) are e = (segment-printable m a name are (sym e)).0
+pub some_segment : (m : MapView) (a : ℕ) (o : Option (List ℕ)) → AreSegments m.info.segments → o ≡ segment_at m a → IfSome o IsNameLong
+some_segment m a None are e = tt
+some_segment m a (Some name) are e = (segment-printable m a name are (sym e)).0
 
 pub given-told : (i : InfoView) (m : MapView) (a : ℕ) (o : Option (List ℕ)) → o ≡ comment_by a (covering i.names a) → i ≡ m.info → o ≡ comment_at m a
 unfolding comment_at
 given-told i m a o is same = is ∙ ap (λ (i : InfoView). comment_by a (covering i.names a)) same
 
 -- what a map tells of it
-pub segment-told : (n m : MapView) (a : ℕ) (o : Option (List ℕ)) → o ≡ segment_at n a → n ≡ m → o ≡ segment_at m a
-segment-told n m a o is same = is ∙ ap (λ (m : MapView). segment_at m a) same
+pub segment_told : (n m : MapView) (a : ℕ) (o : Option (List ℕ)) → o ≡ segment_at n a → n ≡ m → o ≡ segment_at m a
+segment_told n m a o is same = is ∙ ap (λ (m : MapView). segment_at m a) same
 
 pub comment-none : (m : MapView) (a : ℕ) → comment_at m a ≡ None → comment_lines m a ≡ []
 unfolding comment_lines

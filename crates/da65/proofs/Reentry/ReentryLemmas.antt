@@ -116,9 +116,9 @@ keyed-at segments a key are is =
     (λ none. is ∙ none_keyed segments a none)
     (λ n some. (is ∙ some_keyed segments a n some, covering_keyed segments a n are some))
 
-pub keyed-map : (m : MapView) (i : InfoView) (a : ℕ) (key : Option ℕ) → m.info ≡ i → AreSegments i.segments → key ≡ segment_key i.segments a → IsKeyed m.info.segments (segment_at m a) key
+pub keyed_map : (m : MapView) (i : InfoView) (a : ℕ) (key : Option ℕ) → m.info ≡ i → AreSegments i.segments → key ≡ segment_key i.segments a → IsKeyed m.info.segments (segment_at m a) key
 unfolding segment_at
-keyed-map m i a key same are is = keyed-at m.info.segments a key (subst (λ (x : InfoView). AreSegments x.segments) (sym same) are) (is ∙ ap (λ (x : InfoView). segment_key x.segments a) (sym same))
+keyed_map m i a key same are is = keyed-at m.info.segments a key (subst (λ (x : InfoView). AreSegments x.segments) (sym same) are) (is ∙ ap (λ (x : InfoView). segment_key x.segments a) (sym same))
 
 -- ---- groups that are left
 

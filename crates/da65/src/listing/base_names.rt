@@ -61,6 +61,7 @@ pub fn is_defined<A: Allocator>(map: &Map<'_, A>, address: u16) -> bool
 }
 
 /// The address by its name, if it has one.
+#[tactic(auto, using(crate::proofs::Names::BaseLemmas::expr_named, crate::proofs::Names::BaseLemmas::expr_number, crate::proofs::Names::BaseLemmas::text_long))]
 pub fn address_expr<'n, A: Allocator>(
     map: &Map<'_, A>,
     address: u16,
@@ -77,6 +78,7 @@ pub fn address_expr<'n, A: Allocator>(
 }
 
 /// The address of a zero-page operand: by its name only if a constant line defines the base of that name.
+#[tactic(auto, using(crate::proofs::Names::BaseLemmas::zero_named, crate::proofs::Names::BaseLemmas::zero_number, crate::proofs::Names::BaseLemmas::zero_long))]
 pub fn zero_page_expr<'n, A: Allocator>(
     map: &Map<'_, A>,
     address: u8,
@@ -94,6 +96,7 @@ pub fn zero_page_expr<'n, A: Allocator>(
 }
 
 /// The address as a target, if it has a name.
+#[tactic(auto, using(crate::proofs::Names::BaseLemmas::target_named, crate::proofs::Names::BaseLemmas::target_none, crate::proofs::Names::BaseLemmas::text_long))]
 pub fn target<'n, A: Allocator>(
     map: &Map<'_, A>,
     address: u16,

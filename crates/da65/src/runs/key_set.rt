@@ -17,12 +17,14 @@ impl KeySet {
         KeySet { words: [0; 1024] }
     }
 
+    #[tactic(auto, using(crate::proofs::Reentry::KeySetLemmas::bit_tested))]
     pub fn contains(&self, key: u16) -> bool
         ensures { result ≡ has_bit self.now.words key }
     {
         (self.words[usize::from(key / 64)] >> (key % 64)) & 1 == 1
     }
 
+    #[tactic(auto, using(crate::proofs::Reentry::KeySetLemmas::bit_more))]
     pub fn insert(&mut self, key: u16)
         ensures { (k : ℕ) → has_bit self.new.words k ≡ (key == k || has_bit self.old.words k) }
     {

@@ -72,6 +72,7 @@ fn warn<M: Sink>(msgs: &mut M, warnings: &[u8]) -> Result<Status, RunFault>
 }
 
 /// Writes the listing of an image and then its warnings. Allocates nothing.
+#[tactic(auto, using(crate::proofs::Outcomes::RunLaws::listing_took))]
 fn write_listing<A: Allocator, W: Sink, M: Sink>(
     map: &Map<'_, A>,
     messages: &[u8],

@@ -24,6 +24,7 @@ struct Entered {
 }
 
 /// The key of the segment of an address. The default has none.
+#[tactic(auto, using(crate::proofs::Reentry::ReentryLemmas::keyed_map))]
 fn segment_key<A: Allocator>(map: &Map<'_, A>, address: u16) -> Option<u16>
     ensures { IsKeyed map.now.info.segments (segment_at map.now address) result }
 {

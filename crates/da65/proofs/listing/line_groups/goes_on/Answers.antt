@@ -1,12 +1,12 @@
 use Rattle.std.proofs.Common.{◌∙◌, ◌<◌, ap, not, rules, sym}
-use Rattle.da65.proofs.Groups.RoleLemmas.{goes-unnamed, outside-stops, role-low, role-some, stops-run, stops-whole}
+use Rattle.da65.proofs.Groups.RoleLemmas.{goes-unnamed, outside-stops, role-low, role_some, stops-run, stops-whole}
 use Rattle.da65.proofs.listing.line_groups.goes_on.Goals as goal
 
 pub returns-in_default : goal.returns-in_default
 returns-in_default g c = sym (outside-stops _ _ c.requires.names (sym c.role_of.ensures ∙ c.in_default.is))
 
 pub is_whole-requires-clause-role : goal.is_whole-requires-clause-role
-is_whole-requires-clause-role g c = (role-some _ _ _ (sym c.role_of.ensures ∙ c.in-Some.is)).1
+is_whole-requires-clause-role g c = (role_some _ _ _ (sym c.role_of.ensures ∙ c.in-Some.is)).1
 
 pub overflow_cast-address-2 : goal.overflow_cast-address-2
 overflow_cast-address-2 g c = let low : c.args.address < 65536 = role-low _ _ _ c.requires.placed (sym c.role_of.ensures ∙ c.in-Some.is) in search rules
