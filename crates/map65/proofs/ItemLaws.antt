@@ -1,12 +1,13 @@
 -- The law of items.
 use Rattle.std.proofs.Common.{◌≡◌, refl, ◌∙◌, inl, inr, ℕ, zero, suc, ◌+◌, ◌-◌, ◌<◌, ◌≤◌, ◌&&◌, ◌==◌, not, Bool, true, false, ap, sym, arith, ⊎_elim}
 use Rattle.std.proofs.lemmas.Bool.{and_from, and_parts, both_ways, cases_Bool, cases_eq, cases_lt, cond-true, cond_both, eqb-true, not-true}
-use Rattle.map65.proofs.ItemLemmas.{are_joined-none, are_joined-suc, belongs, inside-if, item-len-own, item_start-after, item_start-apart, item_start-further, joined-in, joined-piece, one-role, size-positive, start-apart, start-piece, full_len-positive, within}
+use Rattle.map65.proofs.ItemLemmas.{are_joined-none, are_joined-suc, belongs, inside-if, item-len-own, item_start-after, item_start-apart, item_start-further, joined-in, joined-piece, one-role, own-left, size-positive, start-apart, start-piece, full_len-positive, within}
 use Rattle.map65.specs.ImageView.{end_of, is_inside}
 use Rattle.map65.specs.Items.{AreItems, CanBegin, EndsBefore, ItemLaw, item_len, item_start, size_at, full_len_at}
 use Rattle.map65.specs.MapView.{MapView}
 use Rattle.map65.specs.Pieces.{AreOnePiece, are_joined, is_joined}
 use Rattle.map65.specs.Roles.{is_skip, role_of}
+use Rattle.map65.specs.Spans.{left_at}
 
 -- ---- what is known where an item begins
 
@@ -16,6 +17,7 @@ pub record Begun (m : MapView) (a : ℕ) : Type 0 where
   pub high : a < end_of m.image
   pub shown : is_skip (role_of m.info a) ≡ false
   pub own : item_start m a ≡ a
+  pub none : left_at (size_at m) m.image.start (a - m.image.start) ≡ 0
   pub len : item_len m a ≡ size_at m a
 
 item-test : (m : MapView) (a : ℕ) → 0 < item_len m a → (is_inside m.image a && (not (is_skip (role_of m.info a)) && item_start m a == a)) ≡ true
@@ -31,14 +33,9 @@ begun m a some =
     let at = within m a outer.0 in
     let shown = not-true (is_skip (role_of m.info a)) inner.0 in
     let own = eqb-true (item_start m a) a inner.1 in
-    record {
-      inside = outer.0;
-      low = at.low;
-      high = at.high;
-      shown = shown;
-      own = own;
-      len = item-len-own m a outer.0 shown own;
-    }
+    let place : m.image.start + (a - m.image.start) ≡ a = omega (arith, at.low) in
+    let none = own-left m (a - m.image.start) (ap (item_start m) place ∙ own ∙ sym place) in
+    record { inside = outer.0; low = at.low; high = at.high; shown = shown; own = own; none = none; len = item-len-own m a outer.0 shown own }
 
 -- where the item begins that an address of the image belongs to, its length is known
 pub start-len : (m : MapView) (a : ℕ) → is_inside m.image a ≡ true → is_skip (role_of m.info a) ≡ false → item_len m (item_start m a) ≡ size_at m (item_start m a)
