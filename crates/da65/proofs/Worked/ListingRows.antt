@@ -9,8 +9,8 @@ use Rattle.info65.specs.Segments.{segment_covering}
 use Rattle.stmt65.specs.Line.{filled, line_of}
 use Rattle.stmt65.specs.Operands.{operand_text}
 use Rattle.stmt65.specs.Statements.{comma_list}
-use Rattle.map65.specs.Items.{item_len, size_at, full_len_at}
-use Rattle.map65.specs.Names.{base_at, has_name, entry_start, entry_base, is_referenced, last_item, place_of, refers}
+use Rattle.map65.specs.Items.{item_len, item_start, size_at, full_len_at}
+use Rattle.map65.specs.Names.{base_at, has_name, entry_start, entry_base, is_referenced, place_of, refers}
 use Rattle.map65.specs.Pieces.{are_joined, is_in_run, is_joined, is_own}
 use Rattle.map65.specs.Roles.{role_at, role_in}
 use Rattle.map65.specs.Segments.{is_border, segment_at}
@@ -42,7 +42,7 @@ HasOperand e before after number = HasNumber e before after (number ++ [])
 pub worked_listings : WorkedListings
 unfolding addresses are_joined base_at begins comma_list comment_at comment_lines comments covering covering_below cut_text default_name entries
     pieces address_entry address_expr constant_lines constants ending_lines forward_lines forwards goes_on group_addresses group_len group_lines
-    filled has_name entry_start entry_base instruction_in is_border is_in_run is_joined is_own is_referenced item_len last_item left_at line_of
+    filled has_name entry_start entry_base instruction_in is_border is_in_run is_joined is_own is_referenced item_len item_start left_at line_of
     line_text listing_below more_at opening_lines operand_target operand_text operands_of place_of refers return_entry role_at role_in
     segment_at segment_before segment_covering segment_lines separator separator_lines size_at statement_for statement_in statement_lines
     stride_at style_of target_at target_for target_of text_of full_len_at zero_page_expr
