@@ -1,6 +1,7 @@
 -- The lines of a text with halves, one after the other, and that a text which means bytes by itself has none.
 use Rattle.std.proofs.Common.{◌≡◌, ℕ, Bool, true, false, ◌+◌, List, [], ◌∷◌, ◌++◌, map, Option, Some, None, refl, ap, sym, ◌∙◌, append_assoc}
 use Rattle.std.specs.Prelude.{◌||◌, Result, Ok, Err}
+use Rattle.std.proofs.lemmas.Bool.{or_parts}
 use Rattle.std.specs.List.{list_any}
 use Rattle.std.specs.Option.{option_or}
 use Rattle.std.proofs.lemmas.List.{append-nil}
@@ -67,14 +68,6 @@ filled_alone : (all : Option (List Definition)) (text : List ℕ) → list_any h
 unfolding filled
 filled_alone all text none = rw none refl
 
-or_left : (a b : Bool) → (a || b) ≡ false → a ≡ false
-or_left true b is = absurd cc
-or_left false b is = refl
-
-or_right : (a b : Bool) → (a || b) ≡ false → b ≡ false
-or_right true b is = absurd cc
-or_right false b is = is
-
 fault_alone : (all : Option (List Definition)) (l : List ℕ) → has_halves l ≡ false → line_fault all l ≡ None
 unfolding line_fault
 fault_alone all l none = rw none refl
@@ -90,7 +83,7 @@ first_fault_none all n = refl
 pub no_faults : (all : Option (List Definition)) (n : ℕ) (ls : List (List ℕ)) → list_any has_halves ls ≡ false → first_fault all n ls ≡ None
 no_faults all n [] none = first_fault_none all n
 no_faults all n (l ∷ ls) none =
-    first_fault_more all n l ls ∙ rw (fault_alone all l (or_left (has_halves l) (list_any has_halves ls) none)) (no_faults all (n + 1) ls (or_right (has_halves l) (list_any has_halves ls) none))
+    first_fault_more all n l ls ∙ rw (fault_alone all l (or_parts (has_halves l) (list_any has_halves ls) none).0) (no_faults all (n + 1) ls (or_parts (has_halves l) (list_any has_halves ls) none).1)
 
 pub replaced_alone : (start : ℕ) (text bytes : List ℕ) → meaning start text ≡ Ok bytes → replaced start text ≡ text
 unfolding replaced

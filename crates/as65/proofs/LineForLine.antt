@@ -2,6 +2,8 @@
 use Rattle.std.proofs.Common.{◌≡◌, ℕ, zero, suc, Bool, true, false, eqb, ltb, ◌+◌, ◌/◌, ◌%◌, List, [], ◌∷◌, ◌++◌, map, drop, Option, Some, refl, ap, ◌∙◌, arith, append_assoc}
 use Rattle.std.specs.Prelude.{◌||◌, ◌&&◌, codes, not}
 use Rattle.std.specs.Prelude.{take}
+use Rattle.std.proofs.lemmas.Bool.{and_parts, or_parts}
+use Rattle.std.proofs.lemmas.List.Folds.{list_all-append}
 use Rattle.std.specs.List.{list_all, list_any, prefix_len}
 use Rattle.std.proofs.lemmas.Bool.Decides.{nat_tests}
 use Rattle.text65.specs.Digits.{hex_digit}
@@ -23,22 +25,12 @@ NoFeed l = list_all is_inside l ≡ true
 abbrev NoFeeds : List (List ℕ) → Type 0
 NoFeeds ls = list_all (list_all is_inside) ls ≡ true
 
-and_left : (a b : Bool) → (a && b) ≡ true → a ≡ true
-and_left true b is = refl
-and_left false b is = is
-
-and_right : (a b : Bool) → (a && b) ≡ true → b ≡ true
-and_right true b is = is
-and_right false b is = absurd cc
-
 not_true : (b : Bool) → not b ≡ true → b ≡ false
 not_true true is = absurd cc
 not_true false is = refl
 
 both_inside : (a b : List ℕ) → NoFeed a → NoFeed b → NoFeed (a ++ b)
-both_inside [] b first second = second
-both_inside (x ∷ a) b first second =
-    rw (and_left (is_inside x) (list_all is_inside a) first) (both_inside a b (and_right (is_inside x) (list_all is_inside a) first) second)
+both_inside a b first second = list_all-append is_inside a b ∙ rw (first, second) refl
 
 -- ---- the lines of a text
 
@@ -59,7 +51,7 @@ first_line : (l rest : List ℕ) → NoFeed l → text_lines (l ++ 10 ∷ rest) 
 unfolding text_lines
 first_line [] rest inside = refl
 first_line (b ∷ l) rest inside =
-    rw (not_true (eqb b 10) (and_left (is_inside b) (list_all is_inside l) inside)) (ap (onto_first b) (first_line l rest (and_right (is_inside b) (list_all is_inside l) inside)))
+    rw (not_true (eqb b 10) (and_parts (is_inside b) (list_all is_inside l) inside).0) (ap (onto_first b) (first_line l rest (and_parts (is_inside b) (list_all is_inside l) inside).1))
 
 no_lines : text_lines [] ≡ []
 unfolding text_lines
@@ -111,15 +103,15 @@ pieces_inside : (all : Option (List Definition)) (skip : ℕ) (place : Place) (b
 unfolding pieces_after
 pieces_inside all zero place [] inside = refl
 pieces_inside all (suc skip) place [] inside = refl
-pieces_inside all (suc skip) place (b ∷ bs) inside = pieces_inside all skip place bs (and_right (is_inside b) (list_all is_inside bs) inside)
-pieces_inside all zero place (b ∷ bs) inside = by_remark (is_remark place b) refl (pieces_inside all (step_at place b bs).more (step_at place b bs).place bs (and_right (is_inside b) (list_all is_inside bs) inside))
+pieces_inside all (suc skip) place (b ∷ bs) inside = pieces_inside all skip place bs (and_parts (is_inside b) (list_all is_inside bs) inside).1
+pieces_inside all zero place (b ∷ bs) inside = by_remark (is_remark place b) refl (pieces_inside all (step_at place b bs).more (step_at place b bs).place bs (and_parts (is_inside b) (list_all is_inside bs) inside).1)
   where
     by_remark : (remark : Bool) → is_remark place b ≡ remark → NoFeed (pieces_text all (pieces_after (step_at place b bs).more (step_at place b bs).place bs))
         → NoFeed (pieces_text all (pieces_after 0 place (b ∷ bs)))
     by_remark true e rest = rw e refl
     by_remark false e rest =
         rw e (both_inside (piece_text all (step_at place b bs).piece) (pieces_text all (pieces_after (step_at place b bs).more (step_at place b bs).place bs))
-        (piece_inside all place b bs (and_left (is_inside b) (list_all is_inside bs) inside)) rest)
+        (piece_inside all place b bs (and_parts (is_inside b) (list_all is_inside bs) inside).0) rest)
 
 line_inside : (all : Option (List Definition)) (l : List ℕ) → NoFeed l → NoFeed (line_filled all l)
 unfolding line_filled
@@ -135,16 +127,8 @@ lines_of_lines : (all : Option (List Definition)) (ls : List (List ℕ)) → NoF
 lines_of_lines all [] inside = no_lines
 lines_of_lines all (l ∷ ls) inside =
     ap text_lines (append_assoc (line_filled all l) (10 ∷ []) (lines_filled all ls))
-    ∙ first_line (line_filled all l) (lines_filled all ls) (line_inside all l (and_left (list_all is_inside l) (list_all (list_all is_inside) ls) inside))
-    ∙ ap (λ (more : List (List ℕ)). line_filled all l ∷ more) (lines_of_lines all ls (and_right (list_all is_inside l) (list_all (list_all is_inside) ls) inside))
-
-or_left : (a b : Bool) → (a || b) ≡ false → a ≡ false
-or_left true b is = absurd cc
-or_left false b is = refl
-
-or_right : (a b : Bool) → (a || b) ≡ false → b ≡ false
-or_right true b is = absurd cc
-or_right false b is = is
+    ∙ first_line (line_filled all l) (lines_filled all ls) (line_inside all l (and_parts (list_all is_inside l) (list_all (list_all is_inside) ls) inside).0)
+    ∙ ap (λ (more : List (List ℕ)). line_filled all l ∷ more) (lines_of_lines all ls (and_parts (list_all is_inside l) (list_all (list_all is_inside) ls) inside).1)
 
 line_kept : (all : Option (List Definition)) (l : List ℕ) → has_halves l ≡ false → line_filled all l ≡ l
 unfolding line_filled
@@ -153,8 +137,8 @@ line_kept all l none = rw none refl
 lines_kept : (all : Option (List Definition)) (ls : List (List ℕ)) → list_any has_halves ls ≡ false → ls ≡ map (line_filled all) ls
 lines_kept all [] none = refl
 lines_kept all (l ∷ ls) none =
-    rw (line_kept all l (or_left (has_halves l) (list_any has_halves ls) none))
-    (ap (λ (more : List (List ℕ)). l ∷ more) (lines_kept all ls (or_right (has_halves l) (list_any has_halves ls) none)))
+    rw (line_kept all l (or_parts (has_halves l) (list_any has_halves ls) none).0)
+    (ap (λ (more : List (List ℕ)). l ∷ more) (lines_kept all ls (or_parts (has_halves l) (list_any has_halves ls) none).1))
 
 filled_line_for_line : (all : Option (List Definition)) (text : List ℕ) → text_lines (filled all text) ≡ map (line_filled all) (text_lines text)
 unfolding filled
