@@ -1,6 +1,6 @@
 -- The lines of a text with halves, one after the other, and that a text which means bytes by itself has none.
-use Rattle.std.proofs.Common.{◌≡◌, ℕ, Bool, true, false, ◌+◌, List, [], ◌∷◌, ◌++◌, map, Option, Some, None, refl, ap, sym, ◌∙◌, append_assoc}
-use Rattle.std.specs.Prelude.{◌||◌, Result, Ok, Err}
+use Rattle.std.proofs.Common.{◌≡◌, ℕ, false, ◌+◌, List, [], ◌∷◌, ◌++◌, map, Option, Some, None, refl, ap, sym, ◌∙◌, append_assoc}
+use Rattle.std.specs.Prelude.{Result, Ok, Err}
 use Rattle.std.proofs.lemmas.Bool.{or_parts}
 use Rattle.std.specs.List.{list_any}
 use Rattle.std.specs.Option.{option_or}
@@ -14,7 +14,7 @@ use Rattle.stmt65.specs.Symbols.{Definition}
 use Rattle.stmt65.specs.declared.assembling.fault.AsmFault.{AsmFault}
 use Rattle.stmt65.specs.declared.assembling.fault.AsmFaultKind.{AsmFaultKind}
 use Rattle.stmt65.specs.declared.assembling.fault.AsmFaultKind.TheVariants.{Syntax}
-use Rattle.as65.specs.Filled.{fault_at, filled, first_fault, is_before, lines_filled, meaning_with_halves, names_of, replaced, unless_before}
+use Rattle.as65.specs.Filled.{fault_at, filled, first_fault, lines_filled, meaning_with_halves, names_of, replaced, unless_before}
 use Rattle.as65.specs.Halves.{has_halves, line_fault, line_filled}
 
 -- ---- a line that is one by itself

@@ -1,6 +1,6 @@
 -- A text with a number for each half has the lines of the text, one for one.
 use Rattle.std.proofs.Common.{◌≡◌, ℕ, zero, suc, Bool, true, false, eqb, ltb, ◌+◌, ◌/◌, ◌%◌, List, [], ◌∷◌, ◌++◌, map, drop, Option, Some, refl, ap, ◌∙◌, arith, append_assoc}
-use Rattle.std.specs.Prelude.{◌||◌, ◌&&◌, codes, not}
+use Rattle.std.specs.Prelude.{codes, not}
 use Rattle.std.specs.Prelude.{take}
 use Rattle.std.proofs.lemmas.Bool.{and_parts, or_parts}
 use Rattle.std.proofs.lemmas.List.Folds.{list_all-append}

@@ -1,10 +1,9 @@
 -- What the fault of a line is about: the name that is undefined, how far a branch would go, or a guess from the text of the line.
-use Rattle.std.specs.Prelude.{◌==◌, ◌&&◌, ◌-◌, ℕ, Bool, true, false, not, nat_eq, nat_lt, List, [], ◌∷◌, ◌++◌, Option, Some, None, codes, decimal, drop, get_or, is_some, map, option_and_then, option_to_list, take, unwrap_or, if◌then◌else◌}
+use Rattle.std.specs.Prelude.{◌==◌, ◌&&◌, ◌-◌, ℕ, Bool, not, nat_eq, nat_lt, List, [], ◌∷◌, ◌++◌, Option, Some, None, codes, decimal, drop, get_or, is_some, map, option_and_then, option_to_list, take, unwrap_or, if◌then◌else◌}
 use Rattle.std.specs.List.{flat_map, list_any, prefix_len, slice_get, starts_with}
 use Rattle.isa65.specs.Cpu.{table_of}
 use Rattle.isa65.specs.Opcodes.{encoded}
 use Rattle.isa65.specs.declared.cpu.Cpu.TheVariants.{M65C02}
-use Rattle.isa65.specs.declared.mnemonic.Mnemonic.{Mnemonic}
 use Rattle.isa65.specs.declared.mode.Mode.TheVariants.{Rel}
 use Rattle.stmt65.specs.Code.Held.{held}
 use Rattle.stmt65.specs.FaultLaws.{operation_values}
@@ -12,7 +11,7 @@ use Rattle.stmt65.specs.Lexing.{parts}
 use Rattle.stmt65.specs.LineAddresses.{line_addresses}
 use Rattle.stmt65.specs.Meaning.{operation_in, readings}
 use Rattle.stmt65.specs.Reading.{reading_of}
-use Rattle.stmt65.specs.SourceLine.{Value, NumberValue, NameValue, Form, Direct, Two, Operation, Instr, SourceLine}
+use Rattle.stmt65.specs.SourceLine.{Value, NumberValue, NameValue, Direct, Two, Operation, Instr, SourceLine}
 use Rattle.stmt65.specs.Symbols.{Definition, is_known, word_in}
 use Rattle.stmt65.specs.declared.assembling.fault.AsmFault.{AsmFault}
 use Rattle.stmt65.specs.declared.assembling.fault.AsmFaultKind.{AsmFaultKind}

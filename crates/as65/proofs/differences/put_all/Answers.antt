@@ -1,4 +1,4 @@
-use Rattle.std.proofs.Common.{◌+◌, ◌∷◌, ℕ, List, subst, sym}
+use Rattle.std.proofs.Common.{◌∷◌, ℕ, List, subst, sym}
 use Rattle.as65.specs.Code.Passing.{IsReady, beside}
 use Rattle.as65.specs.Differences.{line_of}
 use Rattle.as65.specs.declared.stretches.Stretch.{Stretch}
