@@ -27,6 +27,6 @@ unfolding addresses
 none-skipped p none zero a = refl
 none-skipped p none (suc n) a = rw (none a) (none-skipped p none n (a + 1))
 
-pub no-skips : (m : MapView) → list_any is_skip_range m.info.ranges ≡ false → skips m ≡ false
+pub no_skips : (m : MapView) → list_any is_skip_range m.info.ranges ≡ false → skips m ≡ false
 unfolding skips
-no-skips m none = none-skipped (λ a. is_skip (role_of m.info a)) (λ a. skip-in m.info.ranges a none) (length m.image.bytes) m.image.start
+no_skips m none = none-skipped (λ a. is_skip (role_of m.info a)) (λ a. skip-in m.info.ranges a none) (length m.image.bytes) m.image.start

@@ -12,7 +12,7 @@ use Rattle.isa65.specs.declared.mode.Mode.{Mode}
 use Rattle.isa65.specs.declared.op.Op.{Op}
 use Rattle.isa65.specs.declared.row.Row.{Row}
 use Rattle.stmt65.specs.Views.{OperandsView}
-use Rattle.stmt65.specs.ModeLaws.{is_short, IsModeOf}
+use Rattle.stmt65.specs.ModeLaws.{IsModeOf}
 use Rattle.stmt65.specs.Printed.{address_size, row_form, source_form, source_value}
 use Rattle.stmt65.specs.Symbols.{Definition, has_zero_page_size}
 use Rattle.stmt65.specs.Coding.{Fixed}

@@ -69,22 +69,22 @@ own-here m a (Some b) low =
     rw (first, second) refl)
     (cases_eq b.address a)
 
-pub base-own : (m : MapView) (a : ℕ) → AreNames m.info.names → is_own_name (kind_at m a) ≡ is_base (names_of m) a
+pub base_own : (m : MapView) (a : ℕ) → AreNames m.info.names → is_own_name (kind_at m a) ≡ is_base (names_of m) a
 unfolding kind_at
-base-own m a are = own-here m a (base_at m a) (λ b is. (base_law m are).low a b is)
+base_own m a are = own-here m a (base_at m a) (λ b is. (base_law m are).low a b is)
 
 own-long : (m : MapView) (a : ℕ) (o : Option NameKind) → is_own_name o ≡ true → kind_at m a ≡ o → AreNames m.info.names → IsNameLong (text_at m a)
 own-long m a None is e are = absurd cc
 own-long m a (Some k) is e are = text_long m a k are e
 
 -- what a buffer holds of it
-pub put-text : (m : MapView) (a : ℕ) (t : Bool) (items : List ℕ) → items ≡ text_at m a → OnTrue t (items ≡ base_name (names_of m) a)
-put-text m a false items is = tt
-put-text m a true items is = is ∙ text-base m a
+pub put_text : (m : MapView) (a : ℕ) (t : Bool) (items : List ℕ) → items ≡ text_at m a → OnTrue t (items ≡ base_name (names_of m) a)
+put_text m a false items is = tt
+put_text m a true items is = is ∙ text-base m a
 
-pub put-long : (m : MapView) (a : ℕ) (t : Bool) (items : List ℕ) → AreNames m.info.names → t ≡ is_base (names_of m) a → items ≡ text_at m a → OnTrue t (IsNameLong items)
-put-long m a false items are base is = tt
-put-long m a true items are base is = subst IsNameLong (sym is) (own-long m a (kind_at m a) (base-own m a are ∙ sym base) refl are)
+pub put_long : (m : MapView) (a : ℕ) (t : Bool) (items : List ℕ) → AreNames m.info.names → t ≡ is_base (names_of m) a → items ≡ text_at m a → OnTrue t (IsNameLong items)
+put_long m a false items are base is = tt
+put_long m a true items are base is = subst IsNameLong (sym is) (own-long m a (kind_at m a) (base_own m a are ∙ sym base) refl are)
 
 -- ---- expressions
 

@@ -56,9 +56,9 @@ comment-printable m a text are e = go (covering m.info.names a) refl e
     go None f e = absurd cc
     go (Some n) f e = of n f (n.address == a) e
 
-pub some-printable : (m : MapView) (a : ℕ) (o : Option (List ℕ)) → AreNames m.info.names → o ≡ comment_at m a → IfSome o (λ text. IsPrintable (view.remark text))
-some-printable m a None are e = tt
-some-printable m a (Some text) are e = comment-printable m a text are (sym e)
+pub some_printable : (m : MapView) (a : ℕ) (o : Option (List ℕ)) → AreNames m.info.names → o ≡ comment_at m a → IfSome o (λ text. IsPrintable (view.remark text))
+some_printable m a None are e = tt
+some_printable m a (Some text) are e = comment-printable m a text are (sym e)
 
 -- ---- segments
 
@@ -82,9 +82,9 @@ pub some_segment : (m : MapView) (a : ℕ) (o : Option (List ℕ)) → AreSegmen
 some_segment m a None are e = tt
 some_segment m a (Some name) are e = (segment-printable m a name are (sym e)).0
 
-pub given-told : (i : InfoView) (m : MapView) (a : ℕ) (o : Option (List ℕ)) → o ≡ comment_by a (covering i.names a) → i ≡ m.info → o ≡ comment_at m a
+pub given_told : (i : InfoView) (m : MapView) (a : ℕ) (o : Option (List ℕ)) → o ≡ comment_by a (covering i.names a) → i ≡ m.info → o ≡ comment_at m a
 unfolding comment_at
-given-told i m a o is same = is ∙ ap (λ (i : InfoView). comment_by a (covering i.names a)) same
+given_told i m a o is same = is ∙ ap (λ (i : InfoView). comment_by a (covering i.names a)) same
 
 -- what a map tells of it
 pub segment_told : (n m : MapView) (a : ℕ) (o : Option (List ℕ)) → o ≡ segment_at n a → n ≡ m → o ≡ segment_at m a

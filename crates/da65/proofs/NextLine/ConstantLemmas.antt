@@ -17,7 +17,7 @@ use Rattle.da65.specs.Code.SkipRanges.{is_skip_range}
 use Rattle.da65.specs.Listing.{constants, has_constant_line}
 use Rattle.da65.proofs.Names.BareLemmas.{constant_some}
 use Rattle.da65.proofs.Names.BaseLemmas.{base_unnamed}
-use Rattle.da65.proofs.NextLine.NextLemmas.{constants-end, constants-next, line-none}
+use Rattle.da65.proofs.NextLine.NextLemmas.{constants-end, constants-next, line_none}
 use Rattle.da65.proofs.Groups.SkipLemmas.{skip-in}
 use Rattle.map65.proofs.Public.{inside-if}
 
@@ -45,7 +45,7 @@ constants-over m (suc n) v bound none =
 -- no address without a name has a constant line
 pub constants-unnamed : (m : MapView) (from to : ℕ) → from ≤ to → to ≤ 65536 → ((a : ℕ) → from ≤ a → a < to → has_name m a ≡ false) → constants m (65536 - from) from ≡ constants m (65536 - to) to
 constants-unnamed m from to order bound none =
-    constants-over m (to - from) from (omega (arith, order, bound)) (λ a low high. line-none m a (base_unnamed m a (none a low (omega (arith, order, high)))))
+    constants-over m (to - from) from (omega (arith, order, bound)) (λ a low high. line_none m a (base_unnamed m a (none a low (omega (arith, order, high)))))
     ∙ same-place m (from + (to - from)) to (omega (arith, order))
 
 named-bit : (named : Bool) (bits : ℕ) → bits ≡ bit named → (bits == 0) ≡ true → named ≡ false
@@ -67,14 +67,14 @@ unnamed-between m cells from end are order bound a low high =
     (ap is_unnamed (sym cell) ∙ prefix_len_passes is_unnamed rest k 0 (omega (arith, low, high)))
 
 -- from an address of such an image its end is as good
-pub constants-listed : (m : MapView) (v end : ℕ) → end ≡ end_of m.image → end ≤ 65536 → list_any is_skip_range m.info.ranges ≡ false → m.image.start ≤ v → v < end → constants m (65536 - v) v ≡ constants m (65536 - end) end
-constants-listed m v end is bound all low high =
+pub constants_listed : (m : MapView) (v end : ℕ) → end ≡ end_of m.image → end ≤ 65536 → list_any is_skip_range m.info.ranges ≡ false → m.image.start ≤ v → v < end → constants m (65536 - v) v ≡ constants m (65536 - end) end
+constants_listed m v end is bound all low high =
     constants-over m (end - v) v (omega (arith, bound, high)) (λ a after before. none-listed m a all (omega (arith, low, after)) (omega (arith, is, before, high)))
     ∙ same-place m (v + (end - v)) end (omega (arith, high))
 
 -- the first constant from one address on is the first from another, if none stands between them
-pub first-constant : (m : MapView) (from after : ℕ) (found : Option ℕ) → constants m (65536 - from) from ≡ constants m (65536 - after) after
+pub first_constant : (m : MapView) (from after : ℕ) (found : Option ℕ) → constants m (65536 - from) from ≡ constants m (65536 - after) after
     → MatchOption found (constants m (65536 - after) after ≡ constants m (65536 - 65536) 65536) (λ v. constants m (65536 - after) after ≡ constants m (65536 - v) v)
     → MatchOption found (constants m (65536 - from) from ≡ []) (λ v. constants m (65536 - from) from ≡ constants m (65536 - v) v)
-first-constant m from after None same none = same ∙ none ∙ constants-end m 65536 (omega arith)
-first-constant m from after (Some v) same some = same ∙ some
+first_constant m from after None same none = same ∙ none ∙ constants-end m 65536 (omega arith)
+first_constant m from after (Some v) same some = same ∙ some

@@ -1,5 +1,5 @@
 -- A listing at comment level 0, without segments and comments, has no lines at the heads of its groups.
-use Rattle.std.proofs.Common.{◌≡◌, ◌∙◌, ◌+◌, ◌++◌, ◌-◌, ℕ, Bool, true, false, List, ◌∷◌, Option, Some, None, refl, sym, ap, []}
+use Rattle.std.proofs.Common.{◌≡◌, ◌∙◌, ◌++◌, ◌-◌, ℕ, Bool, true, false, List, ◌∷◌, Option, Some, None, refl, sym, ap, []}
 use Rattle.std.specs.Prelude.{if◌then◌else◌, ◌==◌, is_some, length, not, option_map}
 use Rattle.std.specs.List.{flat_map, list_any}
 use Rattle.std.proofs.lemmas.Bool.{eqb-true, not-false, or_parts, true≢false}

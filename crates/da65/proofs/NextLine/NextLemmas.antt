@@ -49,8 +49,8 @@ pub first-text : (t u : Style) (left : List ListingLine) (text : List ℕ) (rest
 first-text t u left text rest l lines is same = record { head = l; lines = lines; text_is = is ∙ ap (λ (t : Style). line_text t l) same }
 
 -- the lines that are left as text
-pub next-lines : (m : MapView) (p next : ListingPlace) (text : List ℕ) (segment : Option (List ℕ)) → IsNext m (left_from p m) text next segment → lines_from p m ≡ text ∷ lines_from next m
-next-lines m p next text segment is =
+pub next_lines : (m : MapView) (p next : ListingPlace) (text : List ℕ) (segment : Option (List ℕ)) → IsNext m (left_from p m) text next segment → lines_from p m ≡ text ∷ lines_from next m
+next_lines m p next text segment is =
     let t : Style = style_of m.info.settings in
     ap (map (line_text t)) is.lines.lines ∙ ap (λ (t : List ℕ). t ∷ lines_from next m) (sym is.lines.text_is)
 
@@ -291,22 +291,22 @@ pub label-some : (m : MapView) (a : ℕ) → is_base (names_of m) a ≡ true →
 label-some m a some = rw some refl
 
 -- whether the address has a constant line, by where its base is defined
-pub line-left : (m : MapView) (a : ℕ) → is_constant (place_of m a) ≡ false → has_constant_line (names_of m) a ≡ false
-line-left m a other = go (is_base (names_of m) a)
+pub line_left : (m : MapView) (a : ℕ) → is_constant (place_of m a) ≡ false → has_constant_line (names_of m) a ≡ false
+line_left m a other = go (is_base (names_of m) a)
   where
     go : (t : Bool) → (t && is_constant (place_of m a)) ≡ false
     go true = other
     go false = refl
 
-pub line-kept : (m : MapView) (a : ℕ) → is_constant (place_of m a) ≡ true → has_constant_line (names_of m) a ≡ is_base (names_of m) a
-line-kept m a is = go (is_base (names_of m) a)
+pub line_kept : (m : MapView) (a : ℕ) → is_constant (place_of m a) ≡ true → has_constant_line (names_of m) a ≡ is_base (names_of m) a
+line_kept m a is = go (is_base (names_of m) a)
   where
     go : (t : Bool) → (t && is_constant (place_of m a)) ≡ t
     go true = is
     go false = refl
 
-pub line-none : (m : MapView) (a : ℕ) → is_base (names_of m) a ≡ false → has_constant_line (names_of m) a ≡ false
-line-none m a none = rw none refl
+pub line_none : (m : MapView) (a : ℕ) → is_base (names_of m) a ≡ false → has_constant_line (names_of m) a ≡ false
+line_none m a none = rw none refl
 
 pub unlabelled-lines : (m : MapView) (a : ℕ) → label_at (names_of m) a ≡ None → statement_lines m a ≡ group_line None (statement_at m a) a (group_bytes m a) ∷ []
 unfolding statement_lines
@@ -357,21 +357,21 @@ then-empty m k len text l start same some is = record {
 
 -- ---- what is known of the parts of what is listed
 
-pub style-cpu : (s : SettingsView) → (style_of s).cpu ≡ s.cpu
+pub style_cpu : (s : SettingsView) → (style_of s).cpu ≡ s.cpu
 unfolding style_of
-style-cpu s = refl
+style_cpu s = refl
 
 -- a name as the address has it
-pub assignment-told : (m : MapView) (v : ℕ) (t : Style) (text name : List ℕ) → t ≡ style_of m.info.settings → name ≡ base_name (names_of m) v
+pub assignment_told : (m : MapView) (v : ℕ) (t : Style) (text name : List ℕ) → t ≡ style_of m.info.settings → name ≡ base_name (names_of m) v
     → text ≡ line_text t (plain (view.assignment name v)) → text ≡ line_text (style_of m.info.settings) (assignment_line (names_of m) v)
-assignment-told m v t text name same is told =
+assignment_told m v t text name same is told =
     told ∙ ap (λ (u : Style). line_text u (plain (view.assignment name v))) same
     ∙ ap (λ (bs : List ℕ). line_text (style_of m.info.settings) (plain (view.assignment bs v))) is
 
 -- the constant line of an address, and the next ones
-pub then-constant : (m : MapView) (v : ℕ) (left : List ListingLine) (text : List ℕ) → v < 65536 → left ≡ assignment_line (names_of m) v ∷ constants_left m (v + 1) true
+pub then_constant : (m : MapView) (v : ℕ) (left : List ListingLine) (text : List ℕ) → v < 65536 → left ≡ assignment_line (names_of m) v ∷ constants_left m (v + 1) true
     → text ≡ line_text (style_of m.info.settings) (assignment_line (names_of m) v) → IsNext m left text (Constant (v + 1) true) None
-then-constant m v left text low lines is = record {
+then_constant m v left text low lines is = record {
   lines = record { head = assignment_line (names_of m) v; lines = lines; text_is = is };
   place = omega (arith, low);
   segment_is = refl;

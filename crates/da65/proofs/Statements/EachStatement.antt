@@ -28,7 +28,7 @@ use Rattle.da65.specs.Groups.{limit_of}
 use Rattle.da65.specs.Instructions.{instruction_in}
 use Rattle.da65.specs.ReassemblyLaw.{item_in}
 use Rattle.da65.specs.Shapes.{IsGroupOf, IsLineOf}
-use Rattle.da65.specs.Statements.{addr_from, address_entry, bytes_statement, directive_of, entries_or_byte, is_forced, numbers, operands_of, return_entry, rts_from, rts_to, statement_by, statement_for, statement_in, statement_of, target_by, written}
+use Rattle.da65.specs.Statements.{addr_from, address_entry, bytes_statement, directive_of, entries_or_byte, is_forced, operands_of, return_entry, rts_from, rts_to, statement_by, statement_for, statement_in, statement_of, target_by, written}
 use Rattle.da65.proofs.Statements.EntryLemmas.{address_bytes, are_table, directive_is, few_entries, number_small}
 use Rattle.da65.proofs.Statements.StandsLaws.{begins_with}
 

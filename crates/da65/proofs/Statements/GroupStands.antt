@@ -27,7 +27,7 @@ use Rattle.da65.specs.Instructions.{instruction_in}
 use Rattle.da65.specs.KnownNames.{KnowsAll, KnowsConstants}
 use Rattle.da65.specs.ReassemblyLaw.{GivesBytes, GroupGivesItsBytes, IsWritten, ItemGivesItsBytes, ModeIsChosenBack, fragments_in, item_in}
 use Rattle.da65.specs.Shapes.{IsGroupOf}
-use Rattle.da65.specs.Statements.{is_forced, numbers, statement_for, statement_in}
+use Rattle.da65.specs.Statements.{is_forced, statement_for, statement_in}
 use Rattle.da65.proofs.Statements.EachStatement.{OfCode, OfTable, of_group, of_item}
 use Rattle.da65.proofs.Statements.FragmentLaws.{FragmentsGive, fixed_gives, no_fragments}
 use Rattle.da65.proofs.Statements.LabelLaws.{group_takes, item_takes, label_read}

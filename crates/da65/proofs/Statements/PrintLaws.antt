@@ -14,7 +14,6 @@ use Rattle.isa65.specs.declared.row.OperandKind.TheVariants as kind
 use Rattle.isa65.specs.declared.row.Row.{Row}
 use Rattle.isa65.specs.declared.row.Row.TheVariants as row
 use Rattle.info65.specs.declared.information.range.RangeType.{RangeType}
-use Rattle.stmt65.specs.declared.directive.Directive.TheVariants.{Word}
 use Rattle.stmt65.specs.Views as view
 use Rattle.stmt65.specs.Views.{ExprView, OperandsView, StatementView}
 use Rattle.stmt65.specs.Line.{line_of}
@@ -27,7 +26,7 @@ use Rattle.map65.specs.Names.{Base}
 use Rattle.map65.specs.Targets.{entry_of, target_of}
 use Rattle.da65.specs.BaseNames.{Names}
 use Rattle.da65.specs.Listing.{ListingLine, line_text, remarks_of}
-use Rattle.da65.specs.Statements.{address_expr, constant_base, expr_from, operand_expr, operands_of, numbers, statement_for, zero_page_expr}
+use Rattle.da65.specs.Statements.{address_expr, constant_base, expr_from, operand_expr, operands_of, statement_for, zero_page_expr}
 use Rattle.da65.specs.Shapes.{IsGroupOf}
 use Rattle.da65.specs.declared.listing.style.Style.{Style}
 use Rattle.da65.proofs.Statements.EachStatement.{of_group}

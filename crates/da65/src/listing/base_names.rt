@@ -38,6 +38,7 @@ fn constant_offset(kind: Option<NameKind>) -> Option<u16>
 
 /// Puts the base that stands for the address in the buffer, and returns whether there is one: whether the address is
 /// defined by name.
+#[tactic(auto, using(crate::proofs::Names::BaseLemmas::base_own, crate::proofs::Names::BaseLemmas::put_text, crate::proofs::Names::BaseLemmas::put_long))]
 pub fn put_base<A: Allocator>(map: &Map<'_, A>, address: u16, name: &mut NameBuf) -> bool
     requires { AreNames map.now.info.names }
     ensures is { result ≡ is_base (names_of map.now) address }

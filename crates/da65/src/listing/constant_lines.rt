@@ -33,6 +33,7 @@ fn has_constant<A: Allocator>(map: &Map<'_, A>, address: u16) -> bool
 }
 
 /// Whether the address has a constant line. Then the buffer holds the name.
+#[tactic(auto, using(crate::proofs::NextLine::NextLemmas::line_none, crate::proofs::NextLine::NextLemmas::line_left, crate::proofs::NextLine::NextLemmas::line_kept, crate::proofs::Names::BaseLemmas::base_unnamed))]
 fn is_named_constant<A: Allocator>(
     listed: &ListedImage<'_, A>,
     address: u16,
@@ -103,6 +104,7 @@ fn constant_before<A: Allocator>(
 
 /// The address from which on a constant line may follow: the end of an image of which each byte is listed if this address lies in it, else
 /// this address.
+#[tactic(auto, using(crate::proofs::NextLine::ConstantLemmas::constants_listed))]
 fn after_listed<A: Allocator>(listed: &ListedImage<'_, A>, from: usize) -> usize
     requires { from ≤ 65536 }
     ensures lines { PassesOver listed.now from result }
@@ -138,6 +140,7 @@ fn constant_from<A: Allocator>(
 }
 
 /// Replaces the buffer by the constant line of this address, which has this name, and returns the next place.
+#[tactic(auto, using(crate::proofs::NextLine::NextLemmas::then_constant, crate::proofs::NextLine::NextLemmas::assignment_told))]
 fn put_definition<A: Allocator>(
     out: &mut Line,
     listed: &ListedImage<'_, A>,

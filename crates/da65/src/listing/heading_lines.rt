@@ -19,6 +19,7 @@ use std::alloc::Allocator;
 use stmt65::{Line, Statement};
 
 /// The segment of an address: a name, or the default.
+#[tactic(auto, using(crate::proofs::NextLine::CommentLemmas::segment_told, crate::proofs::NextLine::CommentLemmas::some_segment))]
 fn segment_at<'a, A: Allocator>(listed: &ListedImage<'a, A>, address: u16) -> Option<&'a [u8]>
     ensures segment { option_copied result ≡ segment_at listed.now address }
     ensures long { IfSome (option_copied result) IsNameLong }

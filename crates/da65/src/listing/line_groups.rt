@@ -167,6 +167,7 @@ pub fn has_skip_range(ranges: &[RangeSpec]) -> bool
 }
 
 /// Whether a byte of the image is skipped. Allocates nothing.
+#[tactic(auto, using(crate::proofs::Groups::SkipLemmas::no_skips))]
 pub fn has_skipped<A: Allocator>(map: &Map<'_, A>) -> bool
     ensures { result ≡ skips map.now }
 {

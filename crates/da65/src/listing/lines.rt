@@ -220,6 +220,7 @@ impl<'a, A: Allocator> Lines<'a, A> {
 
     /// Replaces the buffer by the next line, with its line feed, and takes it off the lines that are
     /// left. If none is left it returns false, and the buffer is empty. Allocates nothing.
+    #[tactic(auto, using(crate::proofs::NextLine::NextLemmas::next_lines))]
     pub fn next_line(&mut self, out: &mut Line) -> bool
         ensures next { OnTrue result (self.old ≡ out.new.items ∷ self.new) }
         ensures end { OnFalse result (self.old ≡ []) }

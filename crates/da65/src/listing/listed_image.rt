@@ -78,6 +78,7 @@ impl<'a, A: Allocator> ListedImage<'a, A> {
     }
 
     /// How lines are written.
+    #[tactic(auto, using(crate::proofs::NextLine::NextLemmas::style_cpu))]
     pub fn style(&self) -> &Style
         ensures style { result.now ≡ style_of self.now.info.settings }
         ensures cpu { result.now.cpu ≡ self.now.info.settings.cpu }

@@ -1,5 +1,5 @@
 use Rattle.std.proofs.Common.{◌∙◌, sym}
-use Rattle.da65.proofs.NextLine.CommentLemmas.{given-told, some-printable}
+use Rattle.da65.proofs.NextLine.CommentLemmas.{given_told, some_printable}
 use Rattle.da65.proofs.NextLine.MarkLemmas.{unmarked}
 use Rattle.da65.proofs.listing.comment_lines.comment_at.Goals as goal
 
@@ -7,7 +7,7 @@ pub returns-then-not-is_marked-clause-comment : goal.returns-then-not-is_marked-
 returns-then-not-is_marked-clause-comment g c = sym ((unmarked _ (sym c.is_marked.ensures ∙ c.if-not-is_marked.true)).comments _)
 
 pub returns-clause-comment : goal.returns-clause-comment
-returns-clause-comment g c = given-told _ _ _ _ c.given_comment.ensures c.info.ensures.info
+returns-clause-comment g c = given_told _ _ _ _ c.given_comment.ensures c.info.ensures.info
 
 pub returns-clause-printable : goal.returns-clause-printable
-returns-clause-printable g c = some-printable c.args.listed.now _ _ (rw (← c.info.ensures.info) c.info.ensures.names) (given-told _ c.args.listed.now _ _ c.given_comment.ensures c.info.ensures.info)
+returns-clause-printable g c = some_printable c.args.listed.now _ _ (rw (← c.info.ensures.info) c.info.ensures.names) (given_told _ c.args.listed.now _ _ c.given_comment.ensures c.info.ensures.info)

@@ -1,4 +1,4 @@
-use Rattle.std.proofs.Common.{◌∙◌, List, Some, ap, false, sym, true, ℕ}
+use Rattle.std.proofs.Common.{◌∙◌, List, Some, ap, sym, ℕ}
 use Rattle.map65.specs.MapView.{MapView}
 use Rattle.da65.specs.BaseNames.{base_name, is_base, names_of}
 use Rattle.da65.specs.Listing.{label_at}

@@ -5,7 +5,7 @@ use Rattle.da65.specs.Code.SkipRanges.{is_skip_range}
 use Rattle.da65.specs.Marks.{has_marks}
 use Rattle.da65.specs.Style.{style_of}
 use Rattle.da65.specs.declared.listing.style.Style.{Style}
-use Rattle.da65.proofs.NextLine.NextLemmas.{style-cpu}
+use Rattle.da65.proofs.NextLine.NextLemmas.{style_cpu}
 use Rattle.da65.proofs.listing.listed_image.ListedImage.new.Goals as goal
 
 pub invariant_of-result : goal.invariant_of-result
@@ -15,7 +15,7 @@ invariant_of-result g c =
     record {
       sound = c.info-info.ensures.sound;
       style_is = style;
-      cpu_is = c.new-opcodes.ensures ∙ ap (λ (t : Style). t.cpu) style ∙ style-cpu _;
+      cpu_is = c.new-opcodes.ensures ∙ ap (λ (t : Style). t.cpu) style ∙ style_cpu _;
       marks = c.has_marks-marked.ensures ∙ ap (λ (i : InfoView). has_marks i c.style_of-style.result) info ∙ ap (has_marks c.args.map.now.info) style;
       skips = ap not (c.has_skip_range-lists_all.ensures ∙ ap (list_any is_skip_range) (c.ranges-2.ensures.ranges ∙ ap (λ (i : InfoView). i.ranges) info));
     }
