@@ -12,9 +12,7 @@ ANSWERS = ("AllocError", "AllocFailed", "OutOfMemory", "out_of_memory")
 VARIANTS = ("Memory", "MEMORY")
 ALLOWED = """
 as65 Assembled::new 2
-as65 Failure::from 2
-as65 Failure::of_words 2
-as65 accepted 2
+as65 Failure::from 3
 as65 failure_of 5
 as65 information_in 2
 as65 is_memory 1

@@ -1,33 +1,28 @@
--- The command as `clap` sees it: its options and the name of the listing, and how it reads the words.
-use Rattle.std.specs.Prelude.{List, Some, codes}
-use Rattle.clap.specs.Words.{App, Kinds, Row, Rule, Text, fault_of, matches_of, new_rule, with_rule}
-use Rattle.usage65.specs.Values.{bare}
-use Rattle.clap.specs.declared.builder.ArgAction.TheVariants.{SetTrue}
+-- The command as `clap` sees it, and the texts that the program prints about itself.
+use Rattle.std.specs.Prelude.{List, [], ◌∷◌, ◌++◌, codes}
+use Rattle.clap.specs.Words.{App, Text}
+use Rattle.usage65.specs.Choices.{Choice, help_choice, info_choice, none, output_choice, start_choice, version_choice}
+use Rattle.usage65.specs.Command.{command_of}
+use Rattle.usage65.specs.Help.{help_of, with_line_feed}
 
--- `-i name`
-abbrev pub info_rule : Rule
-info_rule = record (new_rule (codes "info")) { short = Some 105; long = Some (codes "info") }
+abbrev pub place_choice : Choice
+place_choice = record info_choice { purpose = codes "information file of da65, for the start and the part" }
 
--- `-S addr`
-abbrev pub start_rule : Rule
-start_rule = record (new_rule (codes "start")) { short = Some 83; long = Some (codes "start-addr") }
+abbrev pub compare_choice : Choice
+compare_choice = record { id = codes "compare"; short = none; long = codes "compare"; value = codes "image"; purpose = codes "print where the bytes differ from an image" }
 
--- `-o name`
-abbrev pub output_rule : Rule
-output_rule = record (new_rule (codes "output")) { short = Some 111 }
-
--- `--compare image`
-abbrev pub compare_rule : Rule
-compare_rule = record (new_rule (codes "compare")) { long = Some (codes "compare") }
-
--- `-h`
-abbrev pub help_rule : Rule
-help_rule = record (new_rule (codes "help")) { short = Some 104; long = Some (codes "help"); action = Some SetTrue }
-
--- `-V`
-abbrev pub version_rule : Rule
-version_rule = record (new_rule (codes "version")) { short = Some 86; long = Some (codes "version"); action = Some SetTrue }
+-- the options, in the order of the help text
+abbrev pub choices : List Choice
+choices = place_choice ∷ start_choice ∷ output_choice ∷ compare_choice ∷ help_choice ∷ version_choice ∷ []
 
 -- the command: its options, and an optional listing; each may be given once
 unfoldable pub app : App
-app = with_rule (with_rule (with_rule (with_rule (with_rule (with_rule (with_rule (bare (codes "as65")) info_rule) start_rule) output_rule) compare_rule) help_rule) version_rule) (new_rule (codes "listing"))
+app = command_of (codes "as65") choices (codes "listing")
+
+-- what listings are, the usage line, and a line for each option
+abbrev pub help_text : Text
+help_text = with_line_feed (codes "as65 reads ca65's language as far as listings need it; for everything else there is ca65.")
+    ++ help_of (codes "Usage: as65 [options] [listing]") choices
+
+abbrev pub version_text : Text
+version_text = with_line_feed (codes "as65 profile 1")

@@ -1,14 +1,13 @@
 -- What a command line asks for.
-use Rattle.std.specs.Prelude.{◌≡◌, ◌==◌, ◌&&◌, ◌||◌, ℕ, Bool, false, not, nat_eq, List, String, Option, Some, None, Result, Ok, Err, codes, drop, length, option_map, is_some, if◌then◌else◌}
+use Rattle.std.specs.Prelude.{◌≡◌, ◌==◌, ◌&&◌, ◌||◌, ℕ, Bool, false, not, nat_eq, List, String, Option, Some, None, Result, Ok, Err, codes, drop, option_map, is_some, if◌then◌else◌}
 use Rattle.std.specs.List.{list_any, starts_with, take_while}
 use Rattle.std.specs.Str.{bytes_eq}
 use Rattle.std.specs.String.{string_bytes}
 use Rattle.clap.specs.Words.{Row, Text, first_of}
 use Rattle.usage65.specs.Number.{address_in}
-use Rattle.usage65.specs.Values as usage
-use Rattle.usage65.specs.Values.{is_set}
+use Rattle.usage65.specs.Values.{◌>>=◌, accepted, given, is_set}
 use Rattle.usage65.specs.declared.fault.UsageFault.{UsageFault}
-use Rattle.usage65.specs.declared.fault.UsageFault.TheVariants.{Words}
+use Rattle.usage65.specs.declared.fault.UsageFault.TheVariants.{Memory, Words}
 use Rattle.as65.specs.Command.{app}
 use Rattle.as65.specs.declared.failure.Failure.{Failure}
 use Rattle.as65.specs.declared.failure.Failure.TheVariants as failure
@@ -28,6 +27,11 @@ pub data Refusal : Type 0 where
   LacksStart : Refusal
   SameName : Text → Refusal
   TwoOfStandardInput : Refusal
+
+-- the failure for a fault of the command line
+abbrev pub failure_for : UsageFault → Failure
+failure_for Memory = failure.Memory
+failure_for e = failure.Usage e
 
 -- a request as what it asks for
 abbrev pub asked_of : Request → Asked
@@ -50,21 +54,10 @@ abbrev pub Gives : {X A : Type 0} → (X → A) → Result X Failure → Result 
 Gives seen (Ok x) defined = defined ≡ Ok (seen x)
 Gives seen (Err e) defined = Fails e defined
 
--- a chain that stops at its first refusal
-infixl 10 ◌>>=◌
-abbrev pub ◌>>=◌ : {A B : Type 0} → Result A Refusal → (A → Result B Refusal) → Result B Refusal
-(Ok x) >>= f = f x
-(Err e) >>= f = Err e
-
--- an address, or why it is none
-abbrev pub address_or_fault : Result ℕ UsageFault → Result (Option ℕ) Refusal
-address_or_fault (Ok n) = Ok (Some n)
-address_or_fault (Err e) = Err (BadUsage e)
-
--- the start, if one is given
-abbrev pub start_in : Option Text → Result (Option ℕ) Refusal
-start_in None = Ok None
-start_in (Some text) = address_or_fault (address_in text)
+-- the value, or the refusal for its fault
+abbrev pub or_refused : {A : Type 0} → Result A UsageFault → Result A Refusal
+or_refused (Ok x) = Ok x
+or_refused (Err e) = Err (BadUsage e)
 
 -- the name of standard input
 abbrev pub standard_input : Text
@@ -126,20 +119,12 @@ unfoldable pub asked_in : List Row → Result Asked Refusal
 asked_in rows =
     if is_set (codes "help") rows then Ok AskHelp
     else (if is_set (codes "version") rows then Ok AskVersion
-    else (start_in (first_of (codes "start") rows) >>= λ start.
+    else (or_refused (given address_in (first_of (codes "start") rows)) >>= λ start.
     asked_beside (input_named (first_of (codes "listing") rows)) (first_of (codes "info") rows) start (output_named (first_of (codes "output") rows)) (first_of (codes "compare") rows)))
-
-abbrev pub or_refused : Result (List Row) UsageFault → Result (List Row) Refusal
-or_refused (Ok rows) = Ok rows
-or_refused (Err e) = Err (BadUsage e)
-
--- the matches, if the words are accepted
-unfoldable pub accepted : List Text → Result (List Row) Refusal
-accepted words = or_refused (usage.accepted app words)
 
 -- what the words ask for, of which the first is the program's name
 unfoldable pub asked : List Text → Result Asked Refusal
-asked words = accepted words >>= asked_in
+asked words = or_refused (accepted app words) >>= asked_in
 
 -- `--compare`, with its image in the same word or in the next
 abbrev pub is_compare_word : {Z : Type 0} → String Z → Bool

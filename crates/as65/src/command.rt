@@ -4,7 +4,7 @@ ghost use Rattle.std.specs.Prelude.{IfOk, map, ◌≡◌};
 ghost use Rattle.std.specs.String.{string_bytes};
 ghost use Rattle.clap.specs.Words.{app_of, found_of, rows_of};
 ghost use Rattle.usage65.specs.Values.{Gives, accepted};
-ghost use Rattle.as65.specs.Command.{app};
+ghost use Rattle.as65.specs.Command.{app, help_text, version_text};
 
 use clap::{ArgMatches, Command};
 use std::alloc::{AllocError, Global};
@@ -40,7 +40,9 @@ fn whole_command<'a>(alloc: Global) -> Result<Command<'a>, AllocError>
 }
 
 /// What `--help` prints: what listings are, the usage line, and a line for each option.
-pub fn help_text() -> &'static str {
+pub fn help_text() -> &'static str
+    ensures { result.now ≡ help_text }
+{
     "as65 reads ca65's language as far as listings need it; for everything else there is ca65.\n\
      Usage: as65 [options] [listing]\n  \
      -i, --info name          information file of da65, for the start and the part\n  \
@@ -52,6 +54,8 @@ pub fn help_text() -> &'static str {
 }
 
 /// What `--version` prints.
-pub fn version_text() -> &'static str {
+pub fn version_text() -> &'static str
+    ensures { result.now ≡ version_text }
+{
     "as65 profile 1\n"
 }

@@ -5,8 +5,7 @@ ghost use Rattle.as65.specs.FaultyLine.{said_after};
 
 use files65::FileFault;
 use info65::InfoFault;
-use std::alloc::{AllocError, AllocFailed};
-use std::io::{Error as IoError, ErrorKind};
+use std::alloc::AllocError;
 use stmt65::AsmFault;
 use thiserror::Error;
 use usage65::UsageFault;
@@ -59,9 +58,6 @@ pub enum Failure {
 }
 
 impl Failure {
-    ghost use Rattle.std.specs.Prelude.{◌≡◌, ◌≢◌};
-    ghost use Rattle.std.specs.IoError.{error_kind};
-
     /// What is said after the text of the failure. It need not be valid UTF-8.
     pub fn about(&self) -> &[u8]
         ensures { result.now ≡ said_after self.now }
@@ -69,17 +65,6 @@ impl Failure {
         match self {
             Failure::Line(_, _, said) => said.as_slice(),
             _ => &[],
-        }
-    }
-
-    /// The failure of the words of the command line: they are not valid UTF-8, or there is no memory for them.
-    pub fn of_words(error: &IoError) -> Failure
-        ensures memory { error_kind error.now ≡ ErrorKind.OutOfMemory → result ≡ Failure.Memory }
-        ensures words { error_kind error.now ≢ ErrorKind.OutOfMemory → result ≡ Failure.Usage UsageFault.Words }
-    {
-        match error.kind() {
-            ErrorKind::OutOfMemory => Failure::Memory,
-            _ => Failure::Usage(UsageFault::Words),
         }
     }
 }
@@ -94,24 +79,16 @@ impl From<AllocError> for Failure {
     }
 }
 
-impl<T: Drop> From<AllocFailed<T>> for Failure {
-    ghost use Rattle.as65.specs.declared.failure.Failure.TheVariants.{Memory};
-
-    ghost from_gives = { λ _ f. f ≡ Memory };
-
-    fn from(failed: AllocFailed<T>) -> Failure {
-        let _ = failed;
-        Failure::Memory
-    }
-}
-
 impl From<UsageFault> for Failure {
-    ghost use Rattle.as65.specs.declared.failure.Failure.TheVariants.{Usage};
+    ghost use Rattle.as65.specs.Request.{failure_for};
 
-    ghost from_gives = { λ e f. f ≡ Usage e };
+    ghost from_gives = { λ e f. f ≡ failure_for e };
 
     fn from(fault: UsageFault) -> Failure {
-        Failure::Usage(fault)
+        match fault {
+            UsageFault::Memory => Failure::Memory,
+            _ => Failure::Usage(fault),
+        }
     }
 }
 

@@ -40,22 +40,9 @@ use named_start::named_start;
 use request::{Comparing, Request, Writing, is_comparing, request_of};
 use same_file::keep_input;
 use status::{Ended, status_of};
-use std::env;
 use std::io::Write;
 use std::process::ExitCode;
-
-/// The program's words.
-fn words(rt: &HostRuntime) -> Result<Vec<String>, Failure> {
-    let mut words = Vec::new(rt.alloc());
-    let args = match env::args(rt) {
-        Ok(args) => args,
-        Err(error) => return Err(Failure::of_words(&error)),
-    };
-    for word in args {
-        words.push(word)?;
-    }
-    Ok(words)
-}
+use usage65::words_of;
 
 /// Writes a text about the program on standard output.
 fn tell(rt: &HostRuntime, text: &str) -> Result<Ended, Failure> {
@@ -145,8 +132,8 @@ fn end(rt: &HostRuntime, is_comparing: bool, outcome: Result<Ended, Failure>) ->
 }
 
 fn main(rt: HostRuntime) -> ExitCode {
-    match words(&rt) {
+    match words_of(&rt) {
         Ok(words) => end(&rt, is_comparing(&words), program(&rt, &words)),
-        Err(failure) => end(&rt, false, Err(failure)),
+        Err(fault) => end(&rt, false, Err(Failure::from(fault))),
     }
 }

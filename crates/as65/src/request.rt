@@ -1,15 +1,15 @@
 //! What a command line asks for.
 
-ghost use Rattle.std.specs.Prelude.{◌≡◌, IfOk, Ok, map, option_map};
+ghost use Rattle.std.specs.Prelude.{◌≡◌, map, option_map};
 ghost use Rattle.std.specs.String.{string_bytes};
-ghost use Rattle.clap.specs.Words.{first_of, found_of, rows_of};
-ghost use Rattle.as65.specs.Request.{Gives, accepted, asked, asked_in, asked_of, input_named, is_compare_word, is_comparing, is_info, is_taken, output_named, start_in, to_compare, to_write, to_write_into};
+ghost use Rattle.clap.specs.Words.{found_of, rows_of};
+ghost use Rattle.as65.specs.Request.{Gives, asked, asked_in, asked_of, input_named, is_compare_word, is_comparing, is_info, is_taken, output_named, to_compare, to_write, to_write_into};
 
 use crate::command::matches_of_words;
 use crate::failure::Failure;
 use clap::ArgMatches;
 use std::alloc::Global;
-use usage65::{UsageFault, address_in, is_set, owned, text_of};
+use usage65::{UsageFault, address_of, is_set, owned, text_of};
 
 /// What a listing without a name is read from.
 const STANDARD_INPUT: &str = "/dev/stdin";
@@ -70,20 +70,8 @@ fn is_compare_word(word: &String) -> bool
 pub fn request_of(alloc: Global, words: &[String]) -> Result<Request, Failure>
     ensures { Gives asked_of result (asked (map string_bytes words.now)) }
 {
-    let matches = accepted(alloc, words)?;
+    let matches = matches_of_words(alloc, words)?;
     request_in(alloc, &matches)
-}
-
-/// The matches, if `clap` accepts the words.
-#[tactic(auto, unfolding(crate::specs::Request::accepted))]
-fn accepted<'a>(alloc: Global, words: &'a [String]) -> Result<ArgMatches<'a>, Failure>
-    ensures { Gives (λ m. rows_of (found_of m)) result (accepted (map string_bytes words.entry.now)) }
-{
-    match matches_of_words(alloc, words) {
-        Ok(matches) => Ok(matches),
-        Err(UsageFault::Memory) => Err(Failure::Memory),
-        Err(fault) => Err(Failure::Usage(fault)),
-    }
 }
 
 /// What the matches ask for.
@@ -97,7 +85,7 @@ fn request_in(alloc: Global, matches: &ArgMatches) -> Result<Request, Failure>
     if is_set(matches, "version") {
         return Ok(Request::Version);
     }
-    let start = start_in(text_of(matches, "start"))?;
+    let start = address_of(matches, "start")?;
     let info = text_of(matches, "info");
     let listing = input_named(text_of(matches, "listing"));
     let output = output_named(text_of(matches, "output"));
@@ -198,15 +186,6 @@ fn to_compare(
         start,
         image,
     }))
-}
-
-fn start_in(text: Option<&str>) -> Result<Option<u16>, Failure>
-    ensures { Gives (λ s. s) result (start_in (option_map (λ s. s.now) text.entry)) }
-{
-    match text {
-        Some(text) => Ok(Some(address_in(text.as_bytes())?)),
-        None => Ok(None),
-    }
 }
 
 /// The name of what is read. `-`, and a listing without a name, is standard input.
