@@ -127,6 +127,7 @@ proposes 'hello: its information file covers all' '' -i examples/hello.info
 # lda #1; beq +2; rts; a byte; rts
 image branch.bin '\xa9\x01\xf0\x02\x60\xff\x60'
 proposes 'a branch and what is after it' '1005-1005 ByteTable;' -S 0x1000 branch.bin
+proposes 'the start by its long name' '1005-1005 ByteTable;' --start-addr 0x1000 branch.bin
 # jmp $1006 over three bytes; rts
 image jump.bin '\x4c\x06\x10\x01\x02\x03\x60'
 proposes 'a jump leads to its target alone' '1003-1005 ByteTable;' -S 0x1000 jump.bin

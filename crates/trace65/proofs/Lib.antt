@@ -4,4 +4,3 @@ mod CommentLemmas
 mod CommentRows
 mod PictureLemmas
 mod ReportLemmas
-mod RequestLemmas

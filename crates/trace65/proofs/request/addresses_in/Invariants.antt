@@ -1,7 +1,10 @@
-use Rattle.std.proofs.Common.{◌≡◌, drop, map}
+use Rattle.std.proofs.Common.{◌≡◌, ◌++◌, drop, map}
+use Rattle.std.specs.Prelude.{Ok}
+use Rattle.usage65.specs.Values.{◌>>=◌}
 use Rattle.trace65.specs.Request.{addresses_in}
-use Rattle.trace65.proofs.RequestLemmas.{after}
 use Rattle.trace65.proofs.request.addresses_in.Given as goal
 
+-- the addresses so far, and then those of the texts that are left
 abbrev pub invariant-texts : goal.invariant-texts
-invariant-texts l = after l.found.items (addresses_in (map (λ text. text.now) (drop l.text-index l.texts))) ≡ addresses_in (map (λ text. text.now) l.texts)
+invariant-texts l =
+    (addresses_in (map (λ text. text.now) (drop l.text-index l.texts)) >>= λ later. Ok (l.found.items ++ later)) ≡ addresses_in (map (λ text. text.now) l.texts)
