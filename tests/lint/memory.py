@@ -24,8 +24,7 @@ da65 needs_read 2
 da65 refuse_image 2
 da65 run_read 2
 da65 stop_of 2
-da65_cli Failure::from 2
-da65_cli Failure::of_words 2
+da65_cli Failure::from 1
 files65 FileFault::from 1
 files65 FileFault::of_creating 2
 files65 FileFault::of_reading 2

@@ -1,29 +1,14 @@
 -- The options of a command line.
-use Rattle.std.specs.Prelude.{◌==◌, ℕ, List, Option, Some, None, Result, Ok, Err, length, if◌then◌else◌}
+use Rattle.std.specs.Prelude.{ℕ, List, Result, Ok}
 use Rattle.clap.specs.Words.{Row, Text, first_of}
-use Rattle.isa65.specs.Cpu.{cpu_named}
-use Rattle.isa65.specs.declared.cpu.Cpu.{Cpu}
 use Rattle.info65.specs.Views.{OptionsView}
-use Rattle.da65.specs.Choices.{argument_column_choice, comment_column_choice, comments_choice, cpu_choice, help_choice, hexoffs_choice, info_choice, input_id, label_break_choice, mnemonic_column_choice, output_choice, start_choice, text_column_choice, version_choice}
+use Rattle.da65.specs.Choices.{argument_column_choice, comment_column_choice, comments_choice, hexoffs_choice, input_id, label_break_choice, mnemonic_column_choice, text_column_choice}
 use Rattle.da65.specs.Command.{app}
+use Rattle.usage65.specs.Choices.{cpu_choice, help_choice, info_choice, output_choice, start_choice, version_choice}
 use Rattle.usage65.specs.Number.{address_in, decimal_in}
-use Rattle.usage65.specs.Values.{◌>>=◌, accepted, is_set}
+use Rattle.usage65.specs.Values.{◌>>=◌, accepted, cpu_in, given, is_set}
 use Rattle.da65.specs.declared.command_line.usage.Layout.{Layout}
 use Rattle.usage65.specs.declared.fault.UsageFault.{UsageFault}
-use Rattle.usage65.specs.declared.fault.UsageFault.TheVariants.{Words, OutOfRange}
-
--- the value of an option, if it is given
-abbrev pub given : {A : Type 0} → (Text → Result A UsageFault) → Option Text → Result (Option A) UsageFault
-given read None = Ok None
-given read (Some text) = read text >>= λ x. Ok (Some x)
-
-abbrev pub known : Option Cpu → Result Cpu UsageFault
-known (Some c) = Ok c
-known None = Err OutOfRange
-
--- the CPU of this name
-abbrev pub cpu_in : Text → Result Cpu UsageFault
-cpu_in text = known (cpu_named text)
 
 -- a comment level
 abbrev pub level_in : Text → Result ℕ UsageFault

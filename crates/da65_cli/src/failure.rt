@@ -2,8 +2,7 @@
 
 use da65::{RunFault, UsageFault};
 use files65::FileFault;
-use std::alloc::{AllocError, AllocFailed};
-use std::io::{Error as IoError, ErrorKind};
+use std::alloc::AllocError;
 use thiserror::Error;
 
 /// What ends the program early. A refusal is none of these, since `run` writes its message.
@@ -23,22 +22,6 @@ pub enum Failure {
     Run(RunFault),
 }
 
-impl Failure {
-    ghost use Rattle.std.specs.Prelude.{◌≡◌, ◌≢◌};
-    ghost use Rattle.std.specs.IoError.{error_kind};
-
-    /// The failure of the words of the command line: they are not valid UTF-8, or there is no memory for them.
-    pub fn of_words(error: &IoError) -> Failure
-        ensures memory { error_kind error.now ≡ ErrorKind.OutOfMemory → result ≡ Failure.Memory }
-        ensures words { error_kind error.now ≢ ErrorKind.OutOfMemory → result ≡ Failure.Usage UsageFault.Words }
-    {
-        match error.kind() {
-            ErrorKind::OutOfMemory => Failure::Memory,
-            _ => Failure::Usage(UsageFault::Words),
-        }
-    }
-}
-
 impl From<AllocError> for Failure {
     ghost use Rattle.std.specs.Prelude.{◌≡◌};
     ghost use Rattle.da65_cli.specs.declared.failure.Failure.TheVariants.{Memory};
@@ -46,18 +29,6 @@ impl From<AllocError> for Failure {
     ghost from_gives = { λ _ f. f ≡ Memory };
 
     fn from(_: AllocError) -> Failure {
-        Failure::Memory
-    }
-}
-
-impl<T: Drop> From<AllocFailed<T>> for Failure {
-    ghost use Rattle.std.specs.Prelude.{◌≡◌};
-    ghost use Rattle.da65_cli.specs.declared.failure.Failure.TheVariants.{Memory};
-
-    ghost from_gives = { λ _ f. f ≡ Memory };
-
-    fn from(failed: AllocFailed<T>) -> Failure {
-        let _ = failed;
         Failure::Memory
     }
 }

@@ -5,9 +5,8 @@ ghost use Rattle.std.specs.List.{list_any};
 ghost use Rattle.da65.specs.Files.{files_seen};
 ghost use Rattle.da65_cli.specs.Code.IncludeFiles.{content_seen, has_name};
 
-use crate::LIMIT;
 use da65::File;
-use files65::contents;
+use files65::{INFORMATION_LIMIT, contents};
 use std::alloc::{AllocError, AllocFailed, Global};
 
 /// An include file that was read.
@@ -42,7 +41,7 @@ pub fn include_files(rt: &HostRuntime, names: Vec<String>) -> Result<Vec<Content
         if is_read(&files, name.as_str()) {
             continue;
         }
-        let read = contents(rt, name.as_str(), LIMIT)?;
+        let read = contents(rt, name.as_str(), INFORMATION_LIMIT)?;
         add(&mut files, name, read)?;
     }
     Ok(files)

@@ -23,24 +23,14 @@ use files65::{FileFault, Input, Output, Placeholders};
 use include_files::{files_for_run, include_files};
 use information::information;
 use listing::{Listed, run_read_buffered};
-use std::env;
 use std::io::Write;
 use std::process::ExitCode;
-
-/// The most that is read of an information file or an include file: one byte more than it may have.
-const LIMIT: usize = 1_048_577;
+use usage65::words_of;
 
 /// The options of the program's words.
 fn options(rt: &HostRuntime) -> Result<Options, Failure> {
-    let given = match env::args(rt) {
-        Ok(given) => given,
-        Err(error) => return Err(Failure::of_words(&error)),
-    };
-    let mut words = Vec::new(rt.alloc());
-    for word in given {
-        words.push(word)?;
-    }
-    Ok(options_of(rt.alloc(), words.as_slice())?)
+    let words = words_of(rt)?;
+    Ok(options_of(rt.alloc(), &words)?)
 }
 
 /// Writes a text about the program on standard output.

@@ -1,19 +1,18 @@
 //! The options of a command line, and their values.
 
-ghost use Rattle.std.specs.Prelude.{IfOk, IfSome, map, option_map, ◌≡◌, ◌≤◌};
+ghost use Rattle.std.specs.Prelude.{IfOk, IfSome, map, ◌≡◌, ◌≤◌};
 ghost use Rattle.std.specs.String.{string_bytes};
 ghost use Rattle.clap.specs.Words.{first_of, found_of, rows_of};
-ghost use Rattle.usage65.specs.Number.{address_in, decimal_in};
-ghost use Rattle.usage65.specs.Values.{Gives};
+ghost use Rattle.usage65.specs.Number.{decimal_in};
+ghost use Rattle.usage65.specs.Values.{Gives, given};
 ghost use Rattle.da65.specs.Code.Layout.{IsLayout};
-ghost use Rattle.da65.specs.Usage.{cpu_in, given, layout_in, options_in, usage_of};
+ghost use Rattle.da65.specs.Usage.{layout_in, options_in, usage_of};
 
 use crate::command_line::command::matches_of_words;
 use clap::ArgMatches;
 use info65::Options;
-use isa65::Cpu;
 use std::alloc::Global;
-use usage65::{UsageFault, address_in, decimal_in, is_set, owned, text_of};
+use usage65::{UsageFault, address_of, cpu_of, decimal_in, is_set, owned, text_of};
 
 /// Returns the options of a command line. The first word is the program's name.
 ///
@@ -68,8 +67,8 @@ fn layout_in(matches: &ArgMatches) -> Result<Layout, UsageFault>
 fn options_in(alloc: Global, matches: &ArgMatches) -> Result<Options, UsageFault>
     ensures { Gives (λ o. o) result (options_in (rows_of (found_of matches.now))) }
 {
-    let start = start_in(text_of(matches, "start"))?;
-    let cpu = chosen_cpu(text_of(matches, "cpu"))?;
+    let start = address_of(matches, "start")?;
+    let cpu = cpu_of(matches, "cpu")?;
     let layout = layout_in(matches)?;
     let info = owned(alloc, text_of(matches, "info"))?;
     let input = owned(alloc, text_of(matches, "input"))?;
@@ -95,24 +94,6 @@ fn options_in(alloc: Global, matches: &ArgMatches) -> Result<Options, UsageFault
     })
 }
 
-fn start_in(text: Option<&str>) -> Result<Option<u16>, UsageFault>
-    ensures { result ≡ given address_in (option_map (λ s. s.now) text.entry) }
-{
-    match text {
-        Some(text) => Ok(Some(address_in(text.as_bytes())?)),
-        None => Ok(None),
-    }
-}
-
-fn chosen_cpu(text: Option<&str>) -> Result<Option<Cpu>, UsageFault>
-    ensures { result ≡ given cpu_in (option_map (λ s. s.now) text.entry) }
-{
-    match text {
-        Some(text) => Ok(Some(cpu_in(text)?)),
-        None => Ok(None),
-    }
-}
-
 /// The number of an option, from `least` to `most`.
 fn number_of(matches: &ArgMatches, id: &str, least: u8, most: u8) -> Result<Option<u8>, UsageFault>
     ensures value { result ≡ given (decimal_in least most) (first_of id.now (rows_of (found_of matches.now))) }
@@ -122,14 +103,5 @@ fn number_of(matches: &ArgMatches, id: &str, least: u8, most: u8) -> Result<Opti
     match text_of(matches, id) {
         Some(text) => Ok(Some(decimal_in(text.as_bytes(), least, most)?)),
         None => Ok(None),
-    }
-}
-
-fn cpu_in(text: &str) -> Result<Cpu, UsageFault>
-    ensures { result ≡ cpu_in text.now }
-{
-    match Cpu::from_bytes(text.as_bytes()) {
-        Some(cpu) => Ok(cpu),
-        None => Err(UsageFault::OutOfRange),
     }
 }

@@ -1,7 +1,9 @@
 use Rattle.std.proofs.Common.{ap, ◌∙◌}
 use Rattle.clap.specs.Words.{App, new_rule, with_rule}
-use Rattle.da65.specs.Choices.{argument_column_choice, comment_column_choice, comments_choice, cpu_choice, help_choice, hexoffs_choice, info_choice, input_id, label_break_choice, mnemonic_column_choice, output_choice, start_choice, text_column_choice, version_choice}
-use Rattle.da65.specs.Command.{app, rule_for}
+use Rattle.da65.specs.Choices.{argument_column_choice, comment_column_choice, comments_choice, hexoffs_choice, input_id, label_break_choice, mnemonic_column_choice, text_column_choice}
+use Rattle.usage65.specs.Choices.{cpu_choice, help_choice, info_choice, output_choice, start_choice, version_choice}
+use Rattle.usage65.specs.Command.{rule_for}
+use Rattle.da65.specs.Command.{app}
 use Rattle.da65.proofs.command_line.command.whole_command.Goals as goal
 
 pub returns : goal.returns
