@@ -10,142 +10,183 @@ use crate::tests::built::{CELLS, assert_one_allocation};
 use crate::tests::command_lines::options_on;
 use crate::tests::refusals::{MANY, Refusals};
 use crate::tests::runs::{NAMED, run_including, run_with, shown};
+use crate::tests::worked::{Row, rows_of};
 use da65::{File, Options, RunFault, Status, Told};
 use info65::{Inclusion, Info, InfoFault, NamePool, read_info};
 use map65::read_image;
 use std::alloc::Global;
 use std::process::Abort;
 
-/// The words of a command line, an information file, what `k.inc` has, and an input; then the result, the messages and the
-/// listing.
-pub struct Row {
-    pub words: &'static [&'static str],
-    pub info: &'static str,
-    pub include: &'static str,
-    pub input: &'static [u8],
-    pub gives: &'static str,
-}
+/// What a run gives: its result, the messages and the listing.
+pub const ROWS: &str = r#"
+= three bytes
+a.bin < A9 01 60
+--
+Ok(Done)
+; da65 listing
 
-pub const ROWS: &[Row] = &[
-    // three bytes
-    Row {
-        words: &["a.bin"],
-        info: "",
-        include: "",
-        input: &[0xA9, 0x01, 0x60],
-        gives: "Ok(Done)\n; da65 listing\n\n        .setcpu \"6502\"\n\n        lda     #$01\n        rts\n",
-    },
-    // a target inside a word, with decimal and with hexadecimal offsets
-    Row {
-        words: &["-S", "$1FFF", "a.bin"],
-        info: "RANGE { START $2002; END $2003; TYPE WORDTABLE; };",
-        include: "",
-        input: &[0xAD, 0x03, 0x20, 0x34, 0x12],
-        gives: "Ok(Done)\n; da65 listing\n\n        .setcpu \"6502\"\n\n        lda     L2002+1\nL2002:  .word   $1234\n",
-    },
-    Row {
-        words: &["-S", "$1FFF", "--hexoffs", "a.bin"],
-        info: "RANGE { START $2002; END $2003; TYPE WORDTABLE; };",
-        include: "",
-        input: &[0xAD, 0x03, 0x20, 0x34, 0x12],
-        gives: "Ok(Done)\n; da65 listing\n\n        .setcpu \"6502\"\n\n        lda     L2002+$01\nL2002:  .word   $1234\n",
-    },
-    // a bit branch by CPU
-    Row {
-        words: &["-S", "$1000", "--cpu", "65C02", "a.bin"],
-        info: "",
-        include: "",
-        input: &[0x0F, 0x12, 0xFD],
-        gives: "Ok(Done)\n; da65 listing\n\n        .setcpu \"65C02\"\n\nL1000:  bbr0    $12,L1000\n",
-    },
-    Row {
-        words: &["-S", "$1000", "--cpu", "6502", "a.bin"],
-        info: "",
-        include: "",
-        input: &[0x0F, 0x12, 0xFD],
-        gives: "Ok(Done)\n; da65 listing\n\n        .setcpu \"6502\"\n\n        .byte   $0F\n        .byte   $12\n        .byte   $FD\n",
-    },
-    // a sized name across the zero page
-    Row {
-        words: &["a.bin"],
-        info: "LABEL { ADDR $FE; NAME \"buf\"; SIZE 4; };",
-        include: "",
-        input: &[0xA5, 0xFF, 0xAD, 0x00, 0x01],
-        gives: "Ok(Done)\n; da65 listing\n\n        .setcpu \"6502\"\n\nbuf             := $00FE\n\n        lda     buf+1\n        lda     buf+2\n",
-    },
-    // information files that are refused
-    Row {
-        words: &["a.bin"],
-        info: "RANGE { START $1000; END $10FF; TYPE CODE; };\nRANGE { START $10FF; SIZE 2; TYPE SKIP; };",
-        include: "",
-        input: &[0xEA],
-        gives: "Ok(Refused)\nda65: info:2: ranges overlap\n",
-    },
-    Row {
-        words: &["a.bin"],
-        info: "LABEL { ADDR $20; NAME \"z\"; };",
-        include: "",
-        input: &[0xEA],
-        gives: "Ok(Refused)\nda65: info:1: reserved name\n",
-    },
-    Row {
-        words: &["a.bin"],
-        info: "LABEL { ADDR $3000; NAME \"L2000\"; };",
-        include: "",
-        input: &[0xEA],
-        gives: "Ok(Refused)\nda65: info:1: reserved name\n",
-    },
-    Row {
-        words: &["a.bin"],
-        info: "LABEL { ADDR $20; NAME \"ab\n",
-        include: "",
-        input: &[0xEA],
-        gives: "Ok(Refused)\nda65: info:1: string not closed\n",
-    },
-    // names of an include file, which is accepted and refused
-    Row {
-        words: &["-S", "$1000", "a.bin"],
-        info: "ASMINC { FILE \"k.inc\"; IGNOREUNKNOWN on; };",
-        include: "CHROUT = $FFD2\nBSOUT := $FFD2 ; same\n.macro x\n",
-        input: &[0x20, 0xD2, 0xFF],
-        gives: "Ok(Done)\n; da65 listing\n\n        .setcpu \"6502\"\n\nCHROUT          := $FFD2\n\n        jsr     CHROUT\n",
-    },
-    Row {
-        words: &["-S", "$1000", "a.bin"],
-        info: "ASMINC { FILE \"k.inc\"; };",
-        include: "CHROUT = $FFD2\nBSOUT := $FFD2 ; same\n.macro x\n",
-        input: &[0x20, 0xD2, 0xFF],
-        gives: "Ok(Refused)\nda65: include k.inc:3: bad include line\n",
-    },
-    // the same file in two groups
-    Row {
-        words: &["-S", "$1000", "a.bin"],
-        info: "ASMINC { FILE \"k.inc\"; }; ASMINC { FILE \"k.inc\"; };",
-        include: "CHROUT = $FFD2\n",
-        input: &[0x20, 0xD2, 0xFF],
-        gives: "Ok(Done)\n; da65 listing\n\n        .setcpu \"6502\"\n\nCHROUT          := $FFD2\n\n        jsr     CHROUT\n",
-    },
-    // a segment that is entered again
-    Row {
-        words: &["-S", "$1000", "a.bin"],
-        info: "SEGMENT { START $1001; END $1001; NAME \"DATA\"; };",
-        include: "",
-        input: &[0xEA, 0xEA, 0xEA],
-        gives: "Ok(Done)\nda65: warning: a segment is entered again\n; da65 listing\n\n        .setcpu \"6502\"\n\n        nop\n        .segment \"DATA\"\n        nop\n        .code\n        nop\n",
-    },
-    // each kind of table, and skipped bytes
-    Row {
-        words: &["-S", "$1000", "a.bin"],
-        info: "RANGE { START $1001; SIZE 3; TYPE WORDTABLE; }; RANGE { START $1004; SIZE 1; TYPE SKIP; }; RANGE { START $1005; END $1006; TYPE TEXTTABLE; };",
-        include: "",
-        input: &[0xEA, 1, 2, 3, 0xFF, 0x41, 0x42],
-        gives: "Ok(Done)\nda65: warning: skipped bytes, the listing does not assemble to the image\n; da65 listing\n\n        .setcpu \"6502\"\n\n        nop\n        .word   $0201\n        .byte   $03\n        .byte   \"AB\"\n",
-    },
-];
+        .setcpu "6502"
+
+        lda     #$01
+        rts
+= a target inside a word
+-S $1FFF a.bin < AD 03 20 34 12
+RANGE { START $2002; END $2003; TYPE WORDTABLE; };
+--
+Ok(Done)
+; da65 listing
+
+        .setcpu "6502"
+
+        lda     L2002+1
+L2002:  .word   $1234
+= the same with hexadecimal offsets
+-S $1FFF --hexoffs a.bin < AD 03 20 34 12
+RANGE { START $2002; END $2003; TYPE WORDTABLE; };
+--
+Ok(Done)
+; da65 listing
+
+        .setcpu "6502"
+
+        lda     L2002+$01
+L2002:  .word   $1234
+= a bit branch of the 65C02
+-S $1000 --cpu 65C02 a.bin < 0F 12 FD
+--
+Ok(Done)
+; da65 listing
+
+        .setcpu "65C02"
+
+L1000:  bbr0    $12,L1000
+= its bytes on the 6502
+-S $1000 --cpu 6502 a.bin < 0F 12 FD
+--
+Ok(Done)
+; da65 listing
+
+        .setcpu "6502"
+
+        .byte   $0F
+        .byte   $12
+        .byte   $FD
+= a sized name across the zero page
+a.bin < A5 FF AD 00 01
+LABEL { ADDR $FE; NAME "buf"; SIZE 4; };
+--
+Ok(Done)
+; da65 listing
+
+        .setcpu "6502"
+
+buf             := $00FE
+
+        lda     buf+1
+        lda     buf+2
+= ranges that overlap
+a.bin < EA
+RANGE { START $1000; END $10FF; TYPE CODE; };
+RANGE { START $10FF; SIZE 2; TYPE SKIP; };
+--
+Ok(Refused)
+da65: info:2: ranges overlap
+= a reserved name
+a.bin < EA
+LABEL { ADDR $20; NAME "z"; };
+--
+Ok(Refused)
+da65: info:1: reserved name
+= a name that the listing makes
+a.bin < EA
+LABEL { ADDR $3000; NAME "L2000"; };
+--
+Ok(Refused)
+da65: info:1: reserved name
+= a string that is not closed
+a.bin < EA
+LABEL { ADDR $20; NAME "ab
+
+--
+Ok(Refused)
+da65: info:1: string not closed
+= names of an include file
+-S $1000 a.bin < 20 D2 FF
+ASMINC { FILE "k.inc"; IGNOREUNKNOWN on; };
+k.inc:
+CHROUT = $FFD2
+BSOUT := $FFD2 ; same
+.macro x
+
+--
+Ok(Done)
+; da65 listing
+
+        .setcpu "6502"
+
+CHROUT          := $FFD2
+
+        jsr     CHROUT
+= an include file that is refused
+-S $1000 a.bin < 20 D2 FF
+ASMINC { FILE "k.inc"; };
+k.inc:
+CHROUT = $FFD2
+BSOUT := $FFD2 ; same
+.macro x
+
+--
+Ok(Refused)
+da65: include k.inc:3: bad include line
+= an include file in two groups
+-S $1000 a.bin < 20 D2 FF
+ASMINC { FILE "k.inc"; }; ASMINC { FILE "k.inc"; };
+k.inc:
+CHROUT = $FFD2
+
+--
+Ok(Done)
+; da65 listing
+
+        .setcpu "6502"
+
+CHROUT          := $FFD2
+
+        jsr     CHROUT
+= a segment that is entered again
+-S $1000 a.bin < EA EA EA
+SEGMENT { START $1001; END $1001; NAME "DATA"; };
+--
+Ok(Done)
+da65: warning: a segment is entered again
+; da65 listing
+
+        .setcpu "6502"
+
+        nop
+        .segment "DATA"
+        nop
+        .code
+        nop
+= tables and skipped bytes
+-S $1000 a.bin < EA 01 02 03 FF 41 42
+RANGE { START $1001; SIZE 3; TYPE WORDTABLE; }; RANGE { START $1004; SIZE 1; TYPE SKIP; }; RANGE { START $1005; END $1006; TYPE TEXTTABLE; };
+--
+Ok(Done)
+da65: warning: skipped bytes, the listing does not assemble to the image
+; da65 listing
+
+        .setcpu "6502"
+
+        nop
+        .word   $0201
+        .byte   $03
+        .byte   "AB"
+"#;
 
 /// A run gives what the row says, with each allocation refused in turn until none is. If one is refused, nothing is written.
-fn assert_row(rt: &impl Abort, alloc: Global, row: &Row) {
-    let options = options_on(rt, alloc, row.words).expect(rt, "options_on");
+fn assert_row(rt: &impl Abort, alloc: Global, row: &Row<'_>) {
+    let options = options_on(rt, alloc, &row.words).expect(rt, "options_on");
     let files = [File {
         name: "k.inc",
         bytes: row.include.as_bytes(),
@@ -154,11 +195,15 @@ fn assert_row(rt: &impl Abort, alloc: Global, row: &Row) {
     for granted in 0..MANY {
         let heap = Refusing::after(alloc, granted);
         let info = row.info.as_bytes();
-        let ran = run_including(alloc, &heap, &options, info, &files, row.input);
+        let ran = run_including(alloc, &heap, &options, info, &files, &row.input);
         let failed = ran.result == Err(RunFault::Memory);
         refusals.count(rt, &heap, granted, failed);
         let found = shown(rt, alloc, &ran);
-        let want = if failed { "Err(Memory)\n" } else { row.gives };
+        let want = if failed {
+            "Err(Memory)\n"
+        } else {
+            row.gives.as_str()
+        };
         assert_same(rt, found.as_bytes(), want.as_bytes(), &granted);
         if !failed {
             break;
@@ -169,7 +214,7 @@ fn assert_row(rt: &impl Abort, alloc: Global, row: &Row) {
 
 #[test]
 fn each_allocation_refused_in_turn(rt: HostRuntime) {
-    for row in ROWS {
+    for row in &rows_of(&rt, rt.alloc(), ROWS) {
         assert_row(&rt, rt.alloc(), row);
     }
 }
@@ -310,15 +355,15 @@ fn assert_as_its_parts(
 
 #[test]
 fn run_allocates_as_its_parts(rt: HostRuntime) {
-    for row in ROWS {
-        let Row {
-            words,
-            info,
-            include,
-            input,
-            gives: _,
-        } = *row;
-        assert_as_its_parts(&rt, rt.alloc(), words, info, include, input);
+    for row in &rows_of(&rt, rt.alloc(), ROWS) {
+        assert_as_its_parts(
+            &rt,
+            rt.alloc(),
+            &row.words,
+            row.info,
+            row.include,
+            &row.input,
+        );
     }
 }
 

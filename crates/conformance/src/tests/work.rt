@@ -2,8 +2,9 @@
 use crate::tests::asserts::assert_equal_at;
 use crate::tests::command_lines::options_on;
 use crate::tests::devices::{Counted, Tape};
-use crate::tests::memory::{ROWS, Row};
+use crate::tests::memory::ROWS;
 use crate::tests::runs::{NAMED, named};
+use crate::tests::worked::{Row, rows_of};
 use da65::{File, Told, run};
 use std::alloc::Global;
 use std::process::Abort;
@@ -36,13 +37,13 @@ fn writes_of(listing: &str, at_once: usize) -> usize {
 
 /// A run over a row reads its input up to the first empty read, or not at all if it is refused before, and writes each line and
 /// the messages once.
-fn assert_calls(rt: &impl Abort, alloc: Global, row: &Row, at_once: usize) {
-    let options = options_on(rt, alloc, row.words).expect(rt, "options_on");
+fn assert_calls(rt: &impl Abort, alloc: Global, row: &Row<'_>, at_once: usize) {
+    let options = options_on(rt, alloc, &row.words).expect(rt, "options_on");
     let files = [File {
         name: "k.inc",
         bytes: row.include.as_bytes(),
     }];
-    let mut input = Tape::new(row.input, at_once);
+    let mut input = Tape::new(&row.input, at_once);
     let mut listing = Counted::new(at_once);
     let mut messages = Counted::new(at_once);
     let _ = run(
@@ -54,7 +55,7 @@ fn assert_calls(rt: &impl Abort, alloc: Global, row: &Row, at_once: usize) {
         &mut Told::new(&mut listing),
         &mut Told::new(&mut messages),
     );
-    let (want_messages, want_listing) = written(row.gives);
+    let (want_messages, want_listing) = written(row.gives.as_str());
     let reads = if want_listing.is_empty() {
         0
     } else {
@@ -79,7 +80,7 @@ fn assert_calls(rt: &impl Abort, alloc: Global, row: &Row, at_once: usize) {
 
 #[test]
 fn reads_and_writes(rt: HostRuntime) {
-    for row in ROWS {
+    for row in &rows_of(&rt, rt.alloc(), ROWS) {
         for at_once in [1, 3, CHUNK] {
             assert_calls(&rt, rt.alloc(), row, at_once);
         }

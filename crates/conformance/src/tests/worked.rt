@@ -1,5 +1,5 @@
-// Worked listings, as text. A row of a table begins with `= ` and what it shows. Then come a command line with the start of the image,
-// ` < ` and the image's bytes, the information file, a line `--`, and what is written: the warnings, and the lines after the header.
+// Runs as text. A row of a table begins with `= ` and what it shows. Then come a command line, ` < ` and the bytes of the input, the
+// information file, if there is an include file a line `k.inc:` and what it has, a line `--`, and what the run gives.
 use crate::tests::asserts::assert_equal_at;
 use crate::tests::runs::{WARNING, assert_assembles, gives};
 use std::alloc::{AllocError, Global};
@@ -33,35 +33,63 @@ fn start_of(rt: &impl Abort, words: &[&str]) -> u16 {
     u16::from_str_radix(digits, 16).expect(rt, "from_str_radix")
 }
 
-/// A run with these words, information file and image writes this. Its listing assembles to the image, unless bytes are skipped.
-fn show_row(rt: &impl Abort, alloc: Global, words: &str, info: &str, image: &[u8], want: &str) {
-    let words = words_of(alloc, words).expect(rt, "words_of");
-    let found = gives(rt, alloc, &words, info, &[], image);
+/// What a row of a table says.
+#[derive(Drop)]
+pub struct Row<'a> {
+    pub words: Vec<&'a str>,
+    pub input: Vec<u8>,
+    pub info: &'a str,
+    /// What `k.inc` has.
+    pub include: &'a str,
+    pub gives: String,
+}
+
+/// The row of a text.
+fn row_of<'a>(rt: &impl Abort, alloc: Global, text: &'a str) -> Row<'a> {
+    let (head, gives) = text.split_once("\n--\n").expect(rt, "lines");
+    let (_, head) = head.split_once("\n").expect(rt, "name");
+    let (head, include) = head.split_once("\nk.inc:\n").unwrap_or((head, ""));
+    let (command, info) = head.split_once("\n").unwrap_or((head, ""));
+    let (words, bytes) = command.split_once(" < ").expect(rt, "bytes");
+    Row {
+        words: words_of(alloc, words).expect(rt, "words_of"),
+        input: bytes_of(rt, alloc, bytes),
+        info,
+        include,
+        gives: format!(in alloc; "{gives}\n").expect(rt, "format"),
+    }
+}
+
+/// The rows of a table.
+pub fn rows_of<'a>(rt: &impl Abort, alloc: Global, table: &'a str) -> Vec<Row<'a>> {
+    let table = table.strip_suffix("\n").unwrap_or(table);
+    let mut rows = Vec::new(alloc);
+    for text in table.split("\n= ").skip(1) {
+        rows.push(row_of(rt, alloc, text)).expect(rt, "push");
+    }
+    rows
+}
+
+/// A run writes what the row gives: the warnings, and the lines after the header. Its listing assembles to the image, unless bytes are
+/// skipped.
+fn show_row(rt: &impl Abort, alloc: Global, row: &Row<'_>) {
+    let found = gives(rt, alloc, &row.words, row.info, &[], &row.input);
     let (front, listing) = found.split_once("; da65 listing\n\n").expect(rt, "listing");
     let (_, lines) = listing
         .split_once(".setcpu \"6502\"\n\n")
         .expect(rt, "header");
     let written = format!(in alloc; "{front}{lines}").expect(rt, "format");
-    let want = format!(in alloc; "Ok(Done){want}\n").expect(rt, "format");
-    assert_equal_at(rt, &written.as_str(), &want.as_str(), &info);
+    let given = row.gives.as_str();
+    let want = format!(in alloc; "Ok(Done)\n{given}").expect(rt, "format");
+    assert_equal_at(rt, &written.as_str(), &want.as_str(), &row.info);
     if !front.contains(WARNING) {
-        assert_assembles(rt, alloc, &found, start_of(rt, &words), image);
+        assert_assembles(rt, alloc, &found, start_of(rt, &row.words), &row.input);
     }
 }
 
 /// Each row of the table is as it says.
 pub fn show(rt: &impl Abort, alloc: Global, table: &str) {
-    for row in table
-        .strip_suffix("\n")
-        .unwrap_or(table)
-        .split("\n= ")
-        .skip(1)
-    {
-        let (head, want) = row.split_once("\n--").expect(rt, "lines");
-        let (_, head) = head.split_once("\n").expect(rt, "name");
-        let (command, info) = head.split_once("\n").unwrap_or((head, ""));
-        let (words, bytes) = command.split_once(" < ").expect(rt, "bytes");
-        let image = bytes_of(rt, alloc, bytes);
-        show_row(rt, alloc, words, info, &image, want);
+    for row in &rows_of(rt, alloc, table) {
+        show_row(rt, alloc, row);
     }
 }
