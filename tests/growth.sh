@@ -459,8 +459,8 @@ work() {
     counts 'an input that is not there' 1 4 0 1 133000 153000 no.bin
 
     # as65 holds a listing, its names, its bytes, and the image beside it.
-    program=$assembler counts 'labels that are assembled' 0 5 99 1 5095000 15195000 -S 0 -o out.bin labels.s
-    program=$assembler counts 'labels that differ' 1 5 110 1 5165000 22860000 -S 0 --compare zeros.bin labels.s
+    program=$assembler counts 'labels that are assembled' 0 5 99 1 2750000 11870000 -S 0 -o out.bin labels.s
+    program=$assembler counts 'labels that differ' 1 5 110 1 3010000 19295000 -S 0 --compare zeros.bin labels.s
 
     refuses_options
     refuses_in_turn 'the command line' 40 0 1 --cpu 65c02 -S 0x1000 --comments 4 --text-column 60 three.bin
