@@ -226,9 +226,6 @@ fn name_tables(bytes: usize) -> u64 {
     slots.saturating_mul(4).saturating_add(262_144)
 }
 
-/// Names are put in order by a byte for each 256 addresses.
-const BLOCKS: u64 = 256;
-
 /// What a name that is there before an include file counts for, beside the bytes of the file.
 const BYTES_OF_A_NAME: usize = 16;
 
@@ -299,11 +296,7 @@ fn call_parts(
         assert_granted(rt, heap, 0, CELLS, SMALL);
         return;
     };
-    let tables = if info.given_count() == 0 {
-        0
-    } else {
-        tables.saturating_add(BLOCKS)
-    };
+    let tables = if info.given_count() == 0 { 0 } else { tables };
     assert_granted(rt, heap, 0, CELLS.saturating_add(tables), SMALL);
     if !info.includes().is_empty() {
         let before = heap.bytes();
@@ -314,13 +307,7 @@ fn call_parts(
             return;
         };
         info.set_names(names);
-        assert_granted(
-            rt,
-            heap,
-            before,
-            found.saturating_add(KEPT).saturating_add(BLOCKS),
-            TEXT,
-        );
+        assert_granted(rt, heap, before, found.saturating_add(KEPT), TEXT);
     }
     let before = heap.bytes();
     let read = read_image(heap, &info, &mut Told::new(input));
