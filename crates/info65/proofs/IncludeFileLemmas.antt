@@ -7,9 +7,10 @@ use Rattle.std.proofs.lemmas.Bool.Decides.{nat_tests}
 use Rattle.std.proofs.lemmas.List.{append-nil}
 use Rattle.std.proofs.lemmas.List.Folds.{Any-from_list_any, list_any-from_Any}
 use Rattle.text65.specs.Lines.{text_lines}
+use Rattle.text65.specs.Names.{is_blank}
 use Rattle.info65.specs.Faults.{fault}
 use Rattle.info65.specs.IncludeLaws.{AreAdded, IncludedNames, IsIncluded, IsPassedOver, IsRefused, IsSpelling, LineAdds}
-use Rattle.info65.specs.Includes.{assignment_in, is_blank, unless_ignored, line_adds, line_in, name_adds, names_included, names_with, optional_adds, or_bad, without_comment}
+use Rattle.info65.specs.Includes.{assignment_in, unless_ignored, line_adds, line_in, name_adds, names_included, names_with, optional_adds, or_bad, without_comment}
 use Rattle.info65.specs.Labels.{by_address, is_at, is_elsewhere}
 use Rattle.info65.specs.Names.{is_reserved}
 use Rattle.info65.specs.Views.{IncludeView, NameView}

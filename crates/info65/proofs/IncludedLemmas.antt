@@ -10,13 +10,13 @@ use Rattle.std.proofs.lemmas.List.Folds.{find-append, list_any-append, list_any_
 use Rattle.std.proofs.lemmas.Slice.Eq.{bytes_eq-Decides}
 use Rattle.std.proofs.lemmas.Bool.{and_parts}
 use Rattle.text65.specs.Lines.{text_lines}
-use Rattle.text65.specs.Names.{has_name_form, is_word_byte}
+use Rattle.text65.specs.Names.{has_name_form, is_blank, is_word_byte}
 use Rattle.info65.specs.Code.Includes.{SeesName, name_result_seen, with_added}
 use Rattle.info65.specs.Code.Names.{given_seen}
 use Rattle.info65.specs.Code.Steps.{Sees}
 use Rattle.info65.specs.Faults.{◌>>=◌}
 use Rattle.info65.specs.Code.Results.{Fails}
-use Rattle.info65.specs.Includes.{address_written, after_sign, as_address, assignment_in, before_sign, blank_include, included, is_blank, is_identifier, unless_ignored, line_adds, line_in, name_adds, names_included, names_with, optional_adds, or_bad, plain_name, trimmed, with_names, without_comment}
+use Rattle.info65.specs.Includes.{address_written, after_sign, as_address, assignment_in, before_sign, blank_include, included, is_identifier, unless_ignored, line_adds, line_in, name_adds, names_included, names_with, optional_adds, or_bad, plain_name, trimmed, with_names, without_comment}
 use Rattle.info65.specs.Labels.{by_address, is_at, is_elsewhere, name_fault, named_at}
 use Rattle.info65.specs.Lexemes.{number_in, starts_word}
 use Rattle.info65.specs.Names.{AreGiven, AreNames, IsName, blank_name, is_reserved, name_at}

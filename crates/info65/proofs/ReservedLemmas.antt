@@ -8,7 +8,7 @@ use Rattle.std.proofs.lemmas.List.Folds.{Any-from_list_any, list_any-from_Any}
 use Rattle.std.proofs.lemmas.Slice.Eq.{bytes_eq-Decides}
 use Rattle.std.proofs.lemmas.Bool.{and_parts, eqb-true}
 use Rattle.isa65.specs.Mnemonic.{mnemonic_named, text_of}
-use Rattle.isa65.proofs.MnemonicLaws.{mnemonic_named-is, mnemonic_named-text_of}
+use Rattle.isa65.proofs.MnemonicLaws.{lowercase-text_of, mnemonic_named-is}
 use Rattle.isa65.specs.declared.mnemonic.Mnemonic.{Mnemonic}
 use Rattle.text65.specs.Digits.{hex_digit}
 use Rattle.text65.specs.Names.{is_reserved_word, registers}
@@ -113,19 +113,15 @@ register_is text h = let x = Any-from_list_any (str_eq_ignore_ascii_case text) r
 is_register : (text : List ℕ) → Any (λ r. IsInAnyCase r text) registers → list_any (str_eq_ignore_ascii_case text) registers ≡ true
 is_register text x = list_any-from_Any (str_eq_ignore_ascii_case text) registers (x.0, x.1, x.2, x.3, same_case x.1 text x.4)
 
--- a mnemonic's own text has small letters
-small : (m : Mnemonic) → str_to_ascii_lowercase (text_of m) ≡ text_of m
-small m = (mnemonic_named-is (text_of m) m).0 (mnemonic_named-text_of m)
-
 mnemonic_is : (text : List ℕ) → is_some (mnemonic_named text) ≡ true → (m : Mnemonic) × IsInAnyCase (text_of m) text
 mnemonic_is text h = of (mnemonic_named text) refl h
   where
     of : (o : Option Mnemonic) → mnemonic_named text ≡ o → is_some o ≡ true → (m : Mnemonic) × IsInAnyCase (text_of m) text
     of None e h = absurd cc
-    of (Some m) e h = (m, (mnemonic_named-is text m).0 e ∙ sym (small m))
+    of (Some m) e h = (m, (mnemonic_named-is text m).0 e ∙ sym (lowercase-text_of m))
 
 is_mnemonic : (text : List ℕ) (m : Mnemonic) → IsInAnyCase (text_of m) text → is_some (mnemonic_named text) ≡ true
-is_mnemonic text m h = ap is_some ((mnemonic_named-is text m).1 (h ∙ small m))
+is_mnemonic text m h = ap is_some ((mnemonic_named-is text m).1 (h ∙ lowercase-text_of m))
 
 elsewhere_is : (address : ℕ) (text : List ℕ) → (is_like_default text && not (bytes_eq text (default_name address))) ≡ true → IsDefaultElsewhere address text
 elsewhere_is address text h =

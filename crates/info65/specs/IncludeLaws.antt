@@ -3,11 +3,12 @@ use Rattle.std.specs.Prelude.{◌≡◌, ◌≢◌, ◌⊎◌, ◌↔◌, ◌++�
 use Rattle.std.specs.List.{list_all}
 use Rattle.std.specs.Str.Parse.{digits_value}
 use Rattle.text65.specs.Lines.{text_lines}
+use Rattle.text65.specs.Names.{is_blank}
 use Rattle.info65.specs.Faults.{fault}
 use Rattle.info65.specs.Grammar.{IsInformation}
 use Rattle.info65.specs.Groups.{AssignmentView, GroupView, value_in}
 use Rattle.info65.specs.IncludeGroups.{AreIncludes}
-use Rattle.info65.specs.Includes.{is_blank, is_identifier, line_in, names_included, plain_name}
+use Rattle.info65.specs.Includes.{is_identifier, line_in, names_included, plain_name}
 use Rattle.info65.specs.Labels.{by_address}
 use Rattle.info65.specs.Lexemes.{are_digits}
 use Rattle.info65.specs.NameFaultLaws.{IsFree, IsReserved}

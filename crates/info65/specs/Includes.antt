@@ -1,9 +1,9 @@
 -- Include files: what a line of one says, and the names that a file of such lines adds.
-use Rattle.std.specs.Prelude.{◌+◌, ◌++◌, ◌==◌, ◌-◌, ◌&&◌, ◌||◌, ℕ, Bool, true, false, List, [], ◌∷◌, Option, Some, None, Result, Ok, Err, drop, get_or, length, nat_le, nat_lt, option_map, option_to_list, take, if◌then◌else◌}
+use Rattle.std.specs.Prelude.{◌+◌, ◌++◌, ◌==◌, ◌-◌, ◌&&◌, ℕ, Bool, true, false, List, [], ◌∷◌, Option, Some, None, Result, Ok, Err, drop, get_or, length, nat_le, nat_lt, option_map, option_to_list, take, if◌then◌else◌}
 use Rattle.std.specs.Io.BufRead.{strip_last}
 use Rattle.std.specs.List.{after_first, before_first, list_all, list_any, prefix_len, suffix_len}
 use Rattle.text65.specs.Lines.{text_lines}
-use Rattle.text65.specs.Names.{is_word_byte}
+use Rattle.text65.specs.Names.{is_blank, is_word_byte}
 use Rattle.info65.specs.Faults.{fault, ◌>>=◌}
 use Rattle.info65.specs.Labels.{by_address, is_at, is_elsewhere, named}
 use Rattle.info65.specs.Lexemes.{number_in, starts_word}
@@ -18,10 +18,6 @@ use Rattle.info65.specs.declared.fault.InfoFaultKind.TheVariants.{BadInclude, Ba
 -- a line without the one carriage return at its end, up to where its comment begins
 unfoldable pub without_comment : ℕ → List ℕ → List ℕ
 without_comment comment_start line = before_first (λ b. b == comment_start) (strip_last 13 line)
-
--- a space (32) or a TAB (9)
-abbrev pub is_blank : ℕ → Bool
-is_blank b = b == 32 || b == 9
 
 abbrev pub trimmed_end : List ℕ → List ℕ
 trimmed_end bytes = take (length bytes - suffix_len is_blank bytes) bytes

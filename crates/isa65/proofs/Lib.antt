@@ -4,4 +4,5 @@ mod CandidateLaws
 mod FilledLemmas
 pub mod Finding
 pub mod MnemonicLaws
+pub mod ModeLaws
 pub mod CpuNames

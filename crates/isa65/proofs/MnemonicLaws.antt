@@ -1,8 +1,8 @@
 -- A look-up by name finds each mnemonic, and no other.
-use Rattle.std.specs.Prelude.{◌≡◌, ◌↔◌, ℕ, List, Some, refl}
+use Rattle.std.specs.Prelude.{◌≡◌, ◌↔◌, ◌≤◌, ℕ, List, length, Some, refl}
 use Rattle.std.specs.List.{find}
 use Rattle.std.specs.Str.{bytes_eq, str_eq_ignore_ascii_case, str_to_ascii_lowercase}
-use Rattle.std.proofs.Common.{sym, ◌∙◌}
+use Rattle.std.proofs.Common.{sym, ◌∙◌, arith}
 use Rattle.std.proofs.lemmas.Slice.Eq.{bytes_eq-Decides}
 use Rattle.isa65.specs.declared.mnemonic.Mnemonic.{Mnemonic}
 use Rattle.isa65.specs.declared.mnemonic.Mnemonic.TheVariants.{Adc}
@@ -26,6 +26,7 @@ mnemonic_named-is bytes m = (
   λ e. rw e (find-text_of m),
 )
 
--- a mnemonic's own text names it
-pub mnemonic_named-text_of : (m : Mnemonic) → mnemonic_named (text_of m) ≡ Some m
-mnemonic_named-text_of m = (mnemonic_named-is (text_of m) m).1 (lowercase-text_of m)
+-- a mnemonic has at most four letters
+pub mnemonic_len : (m : Mnemonic) → length (text_of m) ≤ 4
+mnemonic_len Adc = omega arith
+mnemonic_len _ = omega arith

@@ -1,10 +1,8 @@
 -- How a word is looked up among the mnemonics: its number leads to the only one that it can be.
-use Rattle.std.specs.Prelude.{ℕ, ◌+◌, ◌*◌, ◌%◌, List, Option, Some, None, get_or, if◌then◌else◌}
-use Rattle.std.specs.Str.{str_eq_ignore_ascii_case}
+use Rattle.std.specs.Prelude.{ℕ, ◌+◌, ◌*◌, ◌%◌, List, get_or}
 use Rattle.isa65.specs.declared.mnemonic.Mnemonic.{Mnemonic}
 use Rattle.isa65.specs.declared.mnemonic.Mnemonic.TheVariants.{Adc}
 use Rattle.isa65.specs.declared.mnemonic.TheConstants.{ALL, PLACES}
-use Rattle.isa65.specs.Mnemonic.{text_of}
 
 -- a number of the first four letters
 unfoldable pub number_of : List ℕ → ℕ
@@ -13,7 +11,3 @@ number_of word = (get_or word 0 0 + get_or word 1 0 * 133 + get_or word 2 0 * 23
 -- the only mnemonic that a word in lower case can be
 unfoldable pub candidate : List ℕ → Mnemonic
 candidate word = get_or ALL (get_or PLACES (number_of word) 0) Adc
-
--- the mnemonic, if the bytes spell it in any letter case
-abbrev pub if_spelled : Mnemonic → List ℕ → Option Mnemonic
-if_spelled m bytes = if str_eq_ignore_ascii_case (text_of m) bytes then Some m else None

@@ -2,10 +2,9 @@
 
 ghost use Rattle.std.specs.Prelude.{◌≡◌, ◌↔◌, Some};
 ghost use Rattle.std.specs.Str.{str_to_ascii_lowercase};
-ghost use Rattle.isa65.specs.Cpu.{first_cpu_named};
 
 use crate::cmos_65sc02::Cmos65Sc02;
-use crate::mnemonic::{Mnemonic, is_same_word};
+use crate::mnemonic::Mnemonic;
 use crate::mos_6502::Mos6502;
 use crate::op::Op;
 use crate::opcode_set::OpcodeSet;
@@ -52,17 +51,10 @@ impl Cpu {
         // The text of each CPU fits in quotes, and names that CPU.
         ensures names { (c : Cpu) → IsNameOf c (cpu_text c) }
     {
-        first_of(&ALL, bytes)
+        ALL.iter()
+            .copied()
+            .find(|cpu| cpu.text().eq_ignore_ascii_case(bytes))
     }
-}
-
-/// The first of these CPUs that the bytes name, if there is one.
-fn first_of(cpus: &[Cpu], bytes: &[u8]) -> Option<Cpu>
-    ensures { result ≡ first_cpu_named bytes.now cpus.now }
-{
-    cpus.iter()
-        .copied()
-        .find(|cpu| is_same_word(cpu.text(), bytes))
 }
 
 impl OpcodeSet for Cpu {

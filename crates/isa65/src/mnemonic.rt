@@ -3,7 +3,7 @@
 ghost use Rattle.std.specs.Prelude.{◌≡◌, ◌↔◌, Some, get_or};
 ghost use Rattle.std.specs.Str.{str_eq_ignore_ascii_case, str_to_ascii_lowercase};
 ghost use Rattle.isa65.specs.Mnemonic.{text_of, mnemonic_named};
-ghost use Rattle.isa65.specs.Candidates.{candidate, if_spelled, number_of};
+ghost use Rattle.isa65.specs.Candidates.{candidate, number_of};
 ghost use Rattle.isa65.specs.declared.mnemonic.Mnemonic.TheVariants.{Adc};
 
 /// The name of an instruction: the 56 of the 6502, the 8 that the 65SC02 adds, and the 32 bit
@@ -433,18 +433,8 @@ impl Mnemonic {
         // The bytes name m exactly when they are its text, but for case.
         ensures named { (m : Mnemonic) → (result ≡ Some m) ↔ (str_to_ascii_lowercase bytes.now ≡ text_of m) }
     {
-        if_spelled(candidate(bytes), bytes)
-    }
-}
-
-/// The mnemonic, if the bytes spell it.
-fn if_spelled(mnemonic: Mnemonic, bytes: &[u8]) -> Option<Mnemonic>
-    ensures { result ≡ if_spelled mnemonic bytes.now }
-{
-    if is_same_word(mnemonic.text(), bytes) {
-        Some(mnemonic)
-    } else {
-        None
+        let mnemonic = candidate(bytes);
+        is_same_word(mnemonic.text(), bytes).then_some(mnemonic)
     }
 }
 
@@ -498,7 +488,7 @@ fn nth(mnemonics: &[Mnemonic], place: usize) -> Mnemonic
 }
 
 /// Whether the bytes are the text, in any letter case.
-pub fn is_same_word(text: &[u8], bytes: &[u8]) -> bool
+fn is_same_word(text: &[u8], bytes: &[u8]) -> bool
     ensures { result ≡ str_eq_ignore_ascii_case text.now bytes.now }
 {
     text.eq_ignore_ascii_case(bytes)

@@ -8,7 +8,7 @@ use Rattle.std.proofs.lemmas.Slice.Eq.{bytes_eq-Decides}
 use Rattle.isa65.specs.declared.mnemonic.Mnemonic.{Mnemonic}
 use Rattle.isa65.specs.declared.mnemonic.Mnemonic.TheVariants.{Adc}
 use Rattle.isa65.specs.Mnemonic.{text_of, mnemonic_named}
-use Rattle.isa65.proofs.MnemonicLaws.{mnemonic_named-is, mnemonic_named-text_of}
+use Rattle.isa65.proofs.MnemonicLaws.{lowercase-text_of, mnemonic_named-is}
 use Rattle.isa65.proofs.Finding.{find-passes}
 use Rattle.text65.specs.Names.{has_name_form, is_reserved_word, registers}
 use Rattle.stmt65.specs.declared.directive.Directive.{Directive}
@@ -60,9 +60,6 @@ number_here_is text _ e = absurd cc
 -- a word is one text only
 pub other : (w s t : List ℕ) → same w s ≡ true → same s t ≡ false → same w t ≡ false
 other w s t h g = let e : str_to_ascii_lowercase w ≡ str_to_ascii_lowercase s = (bytes_eq-Decides _ _).0 h in rw e g
-
-lowercase-text_of : (m : Mnemonic) → str_to_ascii_lowercase (text_of m) ≡ text_of m
-lowercase-text_of m = (mnemonic_named-is (text_of m) m).0 (mnemonic_named-text_of m)
 
 pub mnemonic_is : (w : List ℕ) (m : Mnemonic) → mnemonic_named w ≡ Some m → same w (text_of m) ≡ true
 mnemonic_is w m h = (bytes_eq-Decides _ _).1 ((mnemonic_named-is w m).0 h ∙ sym (lowercase-text_of m))

@@ -8,7 +8,6 @@ mod SpelledIsRead
 mod LineLemmas
 mod TableLists
 mod EntryLaws
-mod OperandTexts
 mod TableTexts
 mod WidthLemmas
 mod Rows

@@ -5,9 +5,9 @@ use Rattle.std.specs.List.{prefix_len}
 use Rattle.std.specs.Char.{is_ascii_digit}
 use Rattle.std.proofs.lemmas.List.{take_rest}
 use Rattle.std.proofs.lemmas.Bool.{ne_eqb, lt-ltb}
-use Rattle.text65.specs.Names.{is_word_byte}
+use Rattle.text65.specs.Names.{is_blank, is_word_byte}
 use Rattle.stmt65.specs.Parts.{Part, Word, Number}
-use Rattle.stmt65.specs.Lexing.{is_blank, is_word_start, hex_len, part_at, parts, parts_after}
+use Rattle.stmt65.specs.Lexing.{is_word_start, hex_len, part_at, parts, parts_after}
 
 pub parts_after-drop : (skip : ℕ) (bs : List ℕ) → parts_after skip bs ≡ parts (drop skip bs)
 unfolding parts_after

@@ -7,8 +7,8 @@ use Rattle.std.specs.Char.{is_ascii_digit, is_ascii_hexdigit}
 use Rattle.std.proofs.lemmas.Bool.{and_parts, eqb-true}
 use Rattle.std.proofs.lemmas.List.{take-append-le, drop-append-le, length-drop}
 use Rattle.std.proofs.lemmas.List.Folds.{list_all-append}
-use Rattle.text65.specs.Names.{is_word_byte}
-use Rattle.stmt65.specs.Lexing.{is_blank, is_word_start, is_text_byte, hex_len, part_at, parts, parts_after}
+use Rattle.text65.specs.Names.{is_blank, is_word_byte}
+use Rattle.stmt65.specs.Lexing.{is_word_start, is_text_byte, hex_len, part_at, parts, parts_after}
 use Rattle.stmt65.specs.Parts.{Part, Mark, begins_with}
 use Rattle.stmt65.specs.SourceLine.{Value, NumberValue, NameValue, Form, Direct, DirectX, DirectY, Datum, NumberDatum, StringDatum, Operation, Nothing, Instr, SourceLine, Assignment, PlaceAssignment, Statement}
 use Rattle.stmt65.specs.Spelling as item

@@ -7,9 +7,9 @@ use Rattle.std.specs.Char.{is_ascii_digit, is_ascii_hexdigit}
 use Rattle.std.proofs.lemmas.Bool.{and_parts, ltb-true, lt-ltb, eqb-true, or_parts}
 use Rattle.std.proofs.lemmas.Bool.Decides.{nat_tests}
 use Rattle.std.proofs.lemmas.List.{take_at, drop_at, length-append, length-drop, length-take, length-take-le, take-append-drop}
-use Rattle.text65.specs.Names.{is_word_byte}
+use Rattle.text65.specs.Names.{is_blank, is_word_byte}
 use Rattle.stmt65.specs.Parts.{Part, Word, Number, Text, Define, Mark, begins_with}
-use Rattle.stmt65.specs.Lexing.{is_blank, is_word_start, is_text_byte, hex_len, part_at, parts}
+use Rattle.stmt65.specs.Lexing.{is_word_start, is_text_byte, hex_len, part_at, parts}
 use Rattle.stmt65.specs.Spacing.{IsDecimal, IsHex, is_alone, IsText, IsRemark, IsSpacing}
 use Rattle.stmt65.specs.ReadingLaws.{TakesParts}
 use Rattle.stmt65.proofs.PartLemmas.{parts_nil, parts_blank, parts_remark, parts_part}

@@ -2,13 +2,9 @@
 use Rattle.std.specs.Prelude.{ℕ, zero, suc, ◌+◌, Bool, ◌&&◌, ◌||◌, not, List, [], ◌∷◌, take, drop, min, nat_lt, ◌==◌, if◌then◌else◌}
 use Rattle.std.specs.List.{prefix_len}
 use Rattle.std.specs.Char.{is_ascii_digit, is_ascii_hexdigit, is_ascii_alphabetic}
-use Rattle.text65.specs.Names.{is_word_byte}
-use Rattle.stmt65.specs.Signs.{tab, space, quote, dollar, dot, colon, semicolon, equals, underscore}
+use Rattle.text65.specs.Names.{is_blank, is_word_byte}
+use Rattle.stmt65.specs.Signs.{quote, dollar, dot, colon, semicolon, equals, underscore}
 use Rattle.stmt65.specs.Parts.{Part, Word, Number, Text, Define, Mark, begins_with}
-
--- a space or a TAB
-abbrev pub is_blank : ℕ → Bool
-is_blank b = b == space || b == tab
 
 -- a letter, `_` or `.`
 abbrev pub is_word_start : ℕ → Bool

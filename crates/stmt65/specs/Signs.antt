@@ -1,12 +1,6 @@
 -- The characters that the grammar of a line names.
 use Rattle.std.specs.Prelude.{ℕ}
 
-abbrev pub tab : ℕ
-tab = 9
-
-abbrev pub space : ℕ
-space = 32
-
 abbrev pub quote : ℕ
 quote = 34
 

@@ -2,10 +2,10 @@
 use Rattle.std.specs.Prelude.{◌≡◌, ◌⊎◌, ℕ, ◌<◌, ◌≤◌, Bool, true, ◌||◌, not, List, [], ◌∷◌, ◌++◌, length, ◌==◌}
 use Rattle.std.specs.List.{list_all}
 use Rattle.std.specs.Char.{is_ascii_digit, is_ascii_hexdigit}
-use Rattle.text65.specs.Names.{is_word_byte}
+use Rattle.text65.specs.Names.{is_blank, is_word_byte}
 use Rattle.stmt65.specs.Signs.{quote, dollar, colon, semicolon, equals}
 use Rattle.stmt65.specs.Parts.{Part, Word, Number, Text, Define, Mark}
-use Rattle.stmt65.specs.Lexing.{is_blank, is_word_start, is_text_byte}
+use Rattle.stmt65.specs.Lexing.{is_word_start, is_text_byte}
 
 -- a letter, `_` or `.`, then letters, digits and `_`
 abbrev pub IsWord : List ℕ → Type 0

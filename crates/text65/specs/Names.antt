@@ -1,9 +1,13 @@
--- The form of a name, and the words that no name may be.
+-- Blanks, the form of a name, and the words that no name may be.
 use Rattle.std.specs.Prelude.{ℕ, Bool, false, ◌&&◌, ◌||◌, List, [], ◌∷◌, length, codes, nat_lt, ◌==◌, is_some}
 use Rattle.std.specs.List.{list_any, list_all}
 use Rattle.std.specs.Char.{is_ascii_alphabetic, is_ascii_alphanumeric}
 use Rattle.std.specs.Str.{str_eq_ignore_ascii_case}
 use Rattle.isa65.specs.Mnemonic.{mnemonic_named}
+
+-- a space or a TAB
+abbrev pub is_blank : ℕ → Bool
+is_blank b = b == 32 || b == 9
 
 -- a letter, a digit or `_` (95)
 abbrev pub is_word_byte : ℕ → Bool

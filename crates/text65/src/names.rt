@@ -1,14 +1,22 @@
-//! The form of a name, and the words that no name may be.
+//! Blanks, the form of a name, and the words that no name may be.
 
 ghost use Rattle.std.specs.Prelude.{◌≡◌};
 ghost use Rattle.std.specs.List.{list_all, list_any};
 ghost use Rattle.std.specs.Str.{str_eq_ignore_ascii_case};
-ghost use Rattle.text65.specs.Names.{has_name_form, is_reserved_word, is_word_byte, registers};
+ghost use Rattle.text65.specs.Names.{has_name_form, is_blank, is_reserved_word, is_word_byte, registers};
 
 use isa65::Mnemonic;
 
 // The bytes of the longest mnemonic. A register has one.
 const LONGEST_WORD: usize = 4;
+
+/// Whether the byte is a space or a TAB.
+#[inline]
+pub fn is_blank(byte: u8) -> bool
+    ensures { result ≡ is_blank byte }
+{
+    byte == b' ' || byte == b'\t'
+}
 
 /// Whether the byte is a letter, a digit or `_`.
 #[inline(always)]

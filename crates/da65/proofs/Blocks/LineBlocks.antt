@@ -5,7 +5,7 @@ use Rattle.std.specs.List.{list_any}
 use Rattle.std.proofs.lemmas.Bool.{le-ltb}
 use Rattle.std.proofs.lemmas.List.{append-nil}
 use Rattle.isa65.specs.Cpu.{cpu_text}
-use Rattle.isa65.proofs.CpuNames.{cpu_named-cpu_text}
+use Rattle.isa65.proofs.CpuNames.{cpu_name}
 use Rattle.isa65.specs.declared.cpu.Cpu.{Cpu}
 use Rattle.stmt65.specs.Views as view
 use Rattle.stmt65.specs.Printed.{source_line, with_label}
@@ -125,7 +125,7 @@ empty_line_gives m p (l ∷ ls) at cpu knows room h = gives_append (l ∷ ls) (p
 
 cpu_stands : (Full : List Definition → Type 0) (s : State) (cpu : Cpu) → StandsTo Full s (SetCpu (cpu_text cpu)) cpu []
 unfolding has_unknown_cpu cpu_after coding
-cpu_stands Full s cpu = record { fragments = []; known_cpu = rw (cpu_named-cpu_text cpu) refl; next_cpu = rw (cpu_named-cpu_text cpu) refl; coded = refl; gives = no_fragments Full (s.at + 0) }
+cpu_stands Full s cpu = record { fragments = []; known_cpu = rw (cpu_name cpu).named refl; next_cpu = rw (cpu_name cpu).named refl; coded = refl; gives = no_fragments Full (s.at + 0) }
 
 pub cpu_gives : (m : Names) (at : ℕ) (old cpu : Cpu) (knows : ℕ → Bool) → at ≤ 65536 → Gives m (point at old knows) (plain (view.set_cpu cpu) ∷ []) [] (point at cpu knows)
 cpu_gives m at old cpu knows room =

@@ -3,14 +3,15 @@
 ghost use Rattle.std.specs.Prelude.{◌≡◌, ◌≤◌, ◌==◌, [], drop, length, option_map};
 ghost use Rattle.std.specs.Io.BufRead.{strip_last};
 ghost use Rattle.std.specs.List.{list_all, position_or_len, prefix_len, suffix_len};
+ghost use Rattle.text65.specs.Names.{is_blank};
 ghost use Rattle.info65.specs.Code.Includes.{SeesName};
 ghost use Rattle.info65.specs.Code.Names.{given_seen};
-ghost use Rattle.info65.specs.Includes.{address_written, as_address, assignment_in, is_blank, is_identifier, line_in, trimmed, trimmed_end, without_comment};
+ghost use Rattle.info65.specs.Includes.{address_written, as_address, assignment_in, is_identifier, line_in, trimmed, trimmed_end, without_comment};
 
 use crate::fault::InfoFaultKind;
 use crate::information::name::Given;
 use crate::syntax::lexeme::number_in;
-use text65::are_word_bytes;
+use text65::{are_word_bytes, is_blank};
 
 // How many bytes stand before the first of this value.
 fn until(bytes: &[u8], end: u8) -> usize
@@ -51,17 +52,10 @@ fn without_comment(comment_start: u8, line: &[u8]) -> &[u8]
     &line[..until(line, comment_start)]
 }
 
-// A space or a TAB.
-fn is_blank(byte: u8) -> bool
-    ensures { result ≡ is_blank byte }
-{
-    byte == b' ' || byte == b'\t'
-}
-
 fn are_blank(bytes: &[u8]) -> bool
     ensures { result ≡ list_all is_blank bytes.now }
 {
-    bytes.iter().all(|b| *b == b' ' || *b == b'\t')
+    bytes.iter().all(|b| is_blank(*b))
 }
 
 fn blanks_before(bytes: &[u8]) -> usize

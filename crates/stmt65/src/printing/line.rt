@@ -65,7 +65,7 @@ fn put_mnemonic(out: &mut Line, text: &[u8])
 }
 
 #[inline(always)]
-#[tactic(auto, using(crate::proofs::OperandTexts::mnemonic_len))]
+#[tactic(auto, using(isa65::proofs::MnemonicLaws::mnemonic_len))]
 fn put_instr(
     out: &mut Line,
     columns: &Columns,
@@ -158,7 +158,7 @@ fn put_string(out: &mut Line, columns: &Columns, operation: &[u8], text: &[u8])
     out.push(b'"');
 }
 
-#[tactic(auto, using(crate::proofs::OperandTexts::cpu_len))]
+#[tactic(auto, using(isa65::proofs::CpuNames::cpu_len))]
 fn put_set_cpu(out: &mut Line, columns: &Columns, cpu: Cpu)
     requires room { array_vec_len out.old ≤ 82 }
     ensures items { out.new.items ≡ with_fields out.old.items (with_operands columns.now (codes ".setcpu") (quoted (cpu_text cpu))) }

@@ -3,11 +3,11 @@
 ghost use Rattle.std.specs.Prelude.{◌≡◌, ◌+◌, ◌<◌, ◌≤◌, [], ◌∷◌, length, MatchOption, drop, slice_index, false};
 ghost use Rattle.std.specs.List.{prefix_len};
 ghost use Rattle.std.specs.Char.{is_ascii_digit, is_ascii_hexdigit};
-ghost use Rattle.text65.specs.Names.{is_word_byte};
-ghost use Rattle.stmt65.specs.Lexing.{is_blank, is_word_start, is_text_byte, hex_len, part_at, parts};
+ghost use Rattle.text65.specs.Names.{is_blank, is_word_byte};
+ghost use Rattle.stmt65.specs.Lexing.{is_word_start, is_text_byte, hex_len, part_at, parts};
 ghost use Rattle.stmt65.specs.Code.PartViews.{part_of};
 
-use text65::is_word_byte;
+use text65::{is_blank, is_word_byte};
 
 /// What stands in a line: words and numbers as they are written, the bytes between the quotes of a
 /// string, `:=`, and any other byte by itself.
@@ -18,12 +18,6 @@ pub enum Part<'a> {
     Text(&'a [u8]),
     Define,
     Mark(u8),
-}
-
-fn is_blank(b: u8) -> bool
-    ensures { result ≡ is_blank b }
-{
-    b == b' ' || b == b'\t'
 }
 
 fn is_word_start(b: u8) -> bool

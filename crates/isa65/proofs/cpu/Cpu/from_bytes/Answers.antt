@@ -1,13 +1,14 @@
-use Rattle.std.proofs.Common.{sym, ◌∙◌}
+use Rattle.std.proofs.Common.{rules}
 use Rattle.isa65.specs.Cpu.{cpu_named}
 use Rattle.isa65.proofs.CpuNames.{cpu_name, cpu_named-is}
 use Rattle.isa65.proofs.cpu.Cpu.from_bytes.Goals as goal
 
-pub returns-clause-named : goal.returns-clause-named
+pub returns-clause-value : goal.returns-clause-value
 unfolding cpu_named
-returns-clause-named c d =
-    let found = cpu_named-is c.args.bytes.now d in
-    (λ h. found.0 (sym c.first_of.ensures ∙ h), λ e. c.first_of.ensures ∙ found.1 e)
+returns-clause-value c = search rules
+
+pub returns-clause-named : goal.returns-clause-named
+returns-clause-named c d = rw (returns-clause-value c) (cpu_named-is c.args.bytes.now d)
 
 pub returns-clause-names : goal.returns-clause-names
 returns-clause-names c = cpu_name

@@ -1,7 +1,7 @@
-use Rattle.std.proofs.Common.{◌≡◌, arith}
+use Rattle.std.proofs.Common.{◌≡◌, sym, arith}
 use Rattle.isa65.specs.Cpu.{table_of}
 use Rattle.isa65.specs.CpuLaws.{table_of-sound}
-use Rattle.isa65.proofs.FilledLemmas.{filled-none, filled-more, filled-all}
+use Rattle.isa65.proofs.FilledLemmas.{filled-none, filled-next, filled-all}
 use Rattle.isa65.proofs.encode_table.EncodeTable.new.Goals as goal
 
 pub bytes-init : goal.bytes-init
@@ -9,7 +9,7 @@ bytes-init c = filled-none (table_of c.args.cpu)
 
 pub bytes-preserved : goal.bytes-preserved
 bytes-preserved c =
-    rw (c.put.ensures, c.decode.ensures) (filled-more (table_of c.args.cpu) (table_of-sound c.args.cpu) c.bytes.byte c.bytes.codes c.bytes.invariant)
+    rw c.put.ensures (filled-next (table_of c.args.cpu) (table_of-sound c.args.cpu) c.bytes.byte c.bytes.codes c.decode.result (sym c.decode.ensures) c.bytes.invariant)
 
 pub invariant_of-result : goal.invariant_of-result
 invariant_of-result c =

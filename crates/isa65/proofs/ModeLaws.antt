@@ -1,0 +1,13 @@
+-- How many bytes an instruction has: one to three.
+use Rattle.std.proofs.Common.{ℕ, ◌≤◌, arith}
+use Rattle.isa65.specs.Mode.{len_of}
+use Rattle.isa65.specs.declared.mode.Mode.{Mode}
+use Rattle.isa65.specs.declared.mode.Mode.TheVariants.{Imp}
+
+pub len-positive : (x : Mode) → 1 ≤ len_of x
+len-positive Imp = omega arith
+len-positive _ = omega arith
+
+pub len-small : (x : Mode) → len_of x ≤ 3
+len-small Imp = omega arith
+len-small _ = omega arith
