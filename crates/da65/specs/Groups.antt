@@ -9,7 +9,7 @@ use Rattle.info65.specs.Layouts.{layout_of}
 use Rattle.info65.specs.declared.information.range.RangeType.{RangeType}
 use Rattle.info65.specs.declared.information.range.RangeType.TheVariants as role
 use Rattle.map65.specs.ImageView.{bytes_from, is_inside}
-use Rattle.map65.specs.Items.{item_len, size_at}
+use Rattle.map65.specs.Items.{item_len, item_start}
 use Rattle.map65.specs.MapView.{MapView}
 use Rattle.map65.specs.Pieces.{AreOnePiece, IsFirst, is_joined}
 use Rattle.map65.specs.Roles.{is_skip, role_of, unit_of}
@@ -67,11 +67,15 @@ group_addresses m = filter (begins m) (addresses (length m.image.bytes) m.image.
 unfoldable pub groups_from : MapView → ℕ → List ℕ
 groups_from m k = filter (begins m) (addresses (length m.image.bytes - k) (m.image.start + k))
 
+-- no item lies over the k-th byte and the one before it
+abbrev pub BeginsItem : MapView → ℕ → Type 0
+BeginsItem m k = item_start m (m.image.start + k) ≡ m.image.start + k
+
 -- a group begins with the k-th byte or it is skipped, or the image ends before it
 pub record IsGroupPlace (m : MapView) (k : ℕ) : Type 0 where
   pub bound : k ≤ length m.image.bytes
   pub group : left_at (stride_at m) m.image.start k ≡ 0
-  pub item : left_at (size_at m) m.image.start k ≡ 0
+  pub item : BeginsItem m k
 
 -- ---- skipped bytes
 

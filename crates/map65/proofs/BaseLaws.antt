@@ -12,7 +12,7 @@ use Rattle.info65.specs.Views.{NameView}
 use Rattle.info65.specs.declared.information.range.RangeType.{RangeType}
 use Rattle.info65.specs.declared.information.range.RangeType.TheVariants.{Code}
 use Rattle.map65.proofs.ItemLaws.{begun, item_law}
-use Rattle.map65.proofs.ItemLemmas.{is_cut_at, joined-uncut}
+use Rattle.map65.proofs.ItemLemmas.{is_cut_at, joined-uncut, one-size}
 use Rattle.map65.proofs.NameLemmas.{base-covered, base-referenced, entry_start-default, entry_start-given, name-low, not-some}
 use Rattle.map65.proofs.NameLaws.{entry_start-entry_start, entry_start-inner, entry_start-referenced, under}
 use Rattle.map65.proofs.NamingLemmas.{entry_start-low, wide-shown}
@@ -30,31 +30,37 @@ use Rattle.map65.specs.declared.name.Place.TheVariants.{Constant, Forward, Label
 -- ---- where a base comes from
 
 -- from a name that is given
-pub record FromName (m : MapView) (a : ℕ) (b : Base) : Type 0 where
-  pub at : ℕ
-  pub low : at ≤ a
-  pub name : NameView
-  pub covers_it : covering m.info.names at ≡ Some name
-  pub is : b ≡ given_base name
+record FromName (m : MapView) (a : ℕ) (b : Base) : Type 0 where
+  index : ℕ
+  bound : index < length m.info.names
+  low : b.address ≤ a
+  text : b.text ≡ (name_at m.info.names index).text
+  address : b.address ≡ (name_at m.info.names index).address
 
 -- or from an address that is referenced
-pub record FromAddress (m : MapView) (a : ℕ) (b : Base) : Type 0 where
-  pub at : ℕ
-  pub low : at ≤ a
-  pub none : covering m.info.names at ≡ None
-  pub referenced : is_referenced m at ≡ true
-  pub start_is : entry_start m at ≡ at
-  pub is : b ≡ default_base at
+record FromAddress (m : MapView) (a : ℕ) (b : Base) : Type 0 where
+  low : b.address ≤ a
+  none : covering m.info.names b.address ≡ None
+  referenced : is_referenced m b.address ≡ true
+  start_is : entry_start m b.address ≡ b.address
+  text : b.text ≡ default_name b.address
 
 some-base : (b c : Base) → Some b ≡ Some c → b ≡ c
 some-base b c is = cc
 
+from-name : (m : MapView) (a at : ℕ) (b : Base) (v : NameView) → at ≤ a → covering m.info.names at ≡ Some v → given_base v ≡ b → FromName m a b
+from-name m a at b v low covers_it is =
+    let r = last_name m.info.names at v covers_it in
+    let same : b ≡ given_base (name_at m.info.names r.index) = sym is ∙ ap given_base r.is in
+    record { index = r.index; bound = r.low; low = omega (arith, ap (λ (x : Base). x.address) is, name-low m.info.names at v covers_it, low); text = ap (λ (x : Base). x.text) same; address = ap (λ (x : Base). x.address) same }
+
 from-entry_start : (m : MapView) (a : ℕ) (b : Base) → is_referenced m a ≡ true → entry_base m a ≡ b → (o : Option NameView) → covering m.info.names (entry_start m a) ≡ o → FromName m a b ⊎ FromAddress m a b
-from-entry_start m a b referenced is (Some v) covers_it = inl (record { at = entry_start m a; low = entry_start-low m a; name = v; covers_it = covers_it; is = sym is ∙ entry_start-given m a v covers_it })
-from-entry_start m a b referenced is None none = inr (record { at = entry_start m a; low = entry_start-low m a; none = none; referenced = entry_start-referenced m a referenced; start_is = entry_start-entry_start m a; is = sym is ∙ entry_start-default m a none })
+from-entry_start m a b referenced is (Some v) covers_it = inl (from-name m a (entry_start m a) b v (entry_start-low m a) covers_it (sym (entry_start-given m a v covers_it) ∙ is))
+from-entry_start m a b referenced is None none =
+    inr (subst (FromAddress m a) (sym (entry_start-default m a none) ∙ is) (record { low = entry_start-low m a; none = none; referenced = entry_start-referenced m a referenced; start_is = entry_start-entry_start m a; text = refl }))
 
 from : (m : MapView) (a : ℕ) (b : Base) (o : Option NameView) (w : Bool) → covering m.info.names a ≡ o → is_referenced m a ≡ w → base_by o w (entry_base m a) ≡ Some b → FromName m a b ⊎ FromAddress m a b
-from m a b (Some v) w covers_it referenced is = inl (record { at = a; low = omega arith; name = v; covers_it = covers_it; is = sym (some-base _ b is) })
+from m a b (Some v) w covers_it referenced is = inl (from-name m a a b v (omega arith) covers_it (some-base _ b is))
 from m a b None true none referenced is = from-entry_start m a b referenced (some-base _ b is) (covering m.info.names (entry_start m a)) refl
 from m a b None false none referenced is = absurd (not-some b is)
 
@@ -63,27 +69,22 @@ unfolding base_at
 source m a b is = from m a b (covering m.info.names a) (is_referenced m a) refl refl is
 
 base-low : (m : MapView) (a : ℕ) (b : Base) → base_at m a ≡ Some b → b.address ≤ a
-base-low m a b is =
-    ⊎_elim
-    (λ n. omega (arith, ap (λ (x : Base). x.address) n.is, name-low m.info.names n.at n.name n.covers_it, n.low))
-    (λ d. omega (arith, ap (λ (x : Base). x.address) d.is, d.low))
-    (source m a b is)
+base-low m a b is = ⊎_elim (λ n. n.low) (λ d. d.low) (source m a b is)
 
 -- ---- a base names its own address
 
-own-name : (names : List NameView) → AreNames names → (a : ℕ) (v : NameView) → covering names a ≡ Some v → covering names v.address ≡ Some v
-own-name names are a v is =
-    let r = last_name names a v is in
-    ap (λ (x : NameView). covering names x.address) r.is ∙ own_address_wins names are r.index r.low ∙ ap (λ (x : NameView). Some x) (sym r.is)
+abbrev make : List ℕ → ℕ → Base
+make text address = record { text = text; address = address }
 
 base-own : (m : MapView) → AreNames m.info.names → (a : ℕ) (b : Base) → base_at m a ≡ Some b → base_at m b.address ≡ Some b
 base-own m are a b is =
     ⊎_elim
-    (λ n. ap (λ (x : Base). base_at m x.address) n.is ∙ base-covered m n.name.address n.name (own-name m.info.names are n.at n.name n.covers_it) ∙ ap (λ (x : Base). Some x) (sym n.is))
+    (λ n.
+    base-covered m b.address (name_at m.info.names n.index) (ap (covering m.info.names) n.address ∙ own_address_wins m.info.names are n.index n.bound)
+    ∙ ap (λ (x : Base). Some x) (sym (ap₂ make n.text n.address)))
     (λ d.
-    ap (λ (x : Base). base_at m x.address) d.is
-    ∙ base-referenced m d.at d.none d.referenced
-    ∙ ap (λ (x : Base). Some x) (entry_start-default m d.at (ap (covering m.info.names) d.start_is ∙ d.none) ∙ ap default_base d.start_is ∙ sym d.is))
+    base-referenced m b.address d.none d.referenced
+    ∙ ap (λ (x : Base). Some x) (entry_start-default m b.address (ap (covering m.info.names) d.start_is ∙ d.none) ∙ ap default_base d.start_is ∙ ap (λ t. make t b.address) (sym d.text)))
     (source m a b is)
 
 -- ---- one text, one base
@@ -124,30 +125,17 @@ same-name names are i j low also_low is =
     (cases_lt i j))
     (cases_eq i j)
 
-abbrev make : List ℕ → ℕ → Base
-make text address = record { text = text; address = address }
-
 -- a name that is given is not the default name of another address
 name-default : (m : MapView) (a c : ℕ) (b d : Base) → AreNames m.info.names → c < 65536 → FromName m a b → FromAddress m c d → b.text ≡ d.text → b.address ≡ d.address
 name-default m a c b d are low n f is =
-    let r = last_name m.info.names n.at n.name n.covers_it in
-    let v = are.each r.index blank_name r.low in
-    let text : (name_at m.info.names r.index).text ≡ default_name f.at = sym (ap (λ (x : NameView). x.text) r.is) ∙ sym (ap (λ (x : Base). x.text) n.is) ∙ is ∙ ap (λ (x : Base). x.text) f.is in
-    let same = reserved-same (name_at m.info.names r.index).address f.at (name_at m.info.names r.index).text (omega (arith, v.room, v.sized)) (omega (arith, f.low, low)) v.free text in
-    ap (λ (x : Base). x.address) n.is ∙ ap (λ (x : NameView). x.address) r.is ∙ same ∙ sym (ap (λ (x : Base). x.address) f.is)
+    let v = are.each n.index blank_name n.bound in
+    n.address ∙ reserved-same (name_at m.info.names n.index).address d.address (name_at m.info.names n.index).text (omega (arith, v.room, v.sized)) (omega (arith, f.low, low)) v.free (sym n.text ∙ is ∙ f.text)
 
 name-name : (m : MapView) (a c : ℕ) (b d : Base) → AreNames m.info.names → FromName m a b → FromName m c d → b.text ≡ d.text → b.address ≡ d.address
-name-name m a c b d are n o is =
-    let r = last_name m.info.names n.at n.name n.covers_it in
-    let s = last_name m.info.names o.at o.name o.covers_it in
-    let text : (name_at m.info.names r.index).text ≡ (name_at m.info.names s.index).text = sym (ap (λ (x : NameView). x.text) r.is) ∙ sym (ap (λ (x : Base). x.text) n.is) ∙ is ∙ ap (λ (x : Base). x.text) o.is ∙ ap (λ (x : NameView). x.text) s.is in
-    let same = same-name m.info.names are r.index s.index r.low s.low text in
-    ap (λ (x : Base). x.address) n.is ∙ ap (λ (x : NameView). x.address) (r.is ∙ same ∙ sym s.is) ∙ sym (ap (λ (x : Base). x.address) o.is)
+name-name m a c b d are n o is = n.address ∙ ap (λ (v : NameView). v.address) (same-name m.info.names are n.index o.index n.bound o.bound (sym n.text ∙ is ∙ o.text)) ∙ sym o.address
 
 default-default : (m : MapView) (a c : ℕ) (b d : Base) → a < 65536 → c < 65536 → FromAddress m a b → FromAddress m c d → b.text ≡ d.text → b.address ≡ d.address
-default-default m a c b d low also_low e f is =
-    let same = default-same e.at f.at (omega (arith, e.low, low)) (omega (arith, f.low, also_low)) (sym (ap (λ (x : Base). x.text) e.is) ∙ is ∙ ap (λ (x : Base). x.text) f.is) in
-    ap (λ (x : Base). x.address) e.is ∙ same ∙ sym (ap (λ (x : Base). x.address) f.is)
+default-default m a c b d low also_low e f is = default-same b.address d.address (omega (arith, e.low, low)) (omega (arith, f.low, also_low)) (sym e.text ∙ is ∙ f.text)
 
 same-address : (m : MapView) (a c : ℕ) (b d : Base) → AreNames m.info.names → a < 65536 → c < 65536 → FromName m a b ⊎ FromAddress m a b → FromName m c d ⊎ FromAddress m c d → b.text ≡ d.text → b.address ≡ d.address
 same-address m a c b d are low also_low (inl n) (inl o) is = name-name m a c b d are n o is
@@ -189,11 +177,6 @@ named-free m n own inside wide =
     let apart : is_joined m n ≡ false = false_from_ne_true (is_joined m n) (λ joined. absurd (both_ways (is_cut_at m n) (joined-uncut m n joined) (and_from _ _ wide own))) in
     ((item_law m).items.begins n).1 (record { inside = inside; shown = wide-shown (role_of m.info n) wide; place = inl (inr apart) })
 
-name-free : (m : MapView) (a : ℕ) (v : NameView) → covering m.info.names a ≡ Some v → IsFree m v.address
-name-free m a v is =
-    let r = last_name m.info.names a v is in
-    named-free m v.address (own-some m.info.names v.address r.index blank_name r.low (sym (ap (λ (x : NameView). x.address) r.is)))
-
 entry_start-free : (m : MapView) (n : ℕ) → entry_start m n ≡ n → IsFree m n
 entry_start-free m n own inside wide =
     ⊎_elim
@@ -207,8 +190,8 @@ entry_start-free m n own inside wide =
 base-free : (m : MapView) (a : ℕ) (b : Base) → base_at m a ≡ Some b → IsFree m b.address
 base-free m a b is =
     ⊎_elim
-    (λ n. subst (λ (x : Base). IsFree m x.address) (sym n.is) (name-free m n.at n.name n.covers_it))
-    (λ d. subst (λ (x : Base). IsFree m x.address) (sym d.is) (entry_start-free m d.at d.start_is))
+    (λ n. named-free m b.address (own-some m.info.names b.address n.index blank_name n.bound (sym n.address)))
+    (λ d. entry_start-free m b.address d.start_is)
     (source m a b is)
 
 unit-one : (n : ℕ) → 1 ≤ n → nat_lt 1 n ≡ false → n ≡ 1
@@ -219,17 +202,14 @@ code-or-byte : (m : MapView) (r : RangeType) → is_wide r ≡ false → (r ≡ 
 code-or-byte m Code narrow = inl refl
 code-or-byte m r narrow = inr (λ b. unit-one (unit_of r) (layout_some r) narrow)
 
-size-one : (m : MapView) (a : ℕ) → ((b : ℕ) → size_for m (role_of m.info a) b ≡ 1) → size_at m a ≡ 1
-unfolding size_at full_len_at
-size-one m a one = cond_both (are_joined m (size_for m (role_of m.info a) (byte_at m.image a) - 1) a) (size_for m (role_of m.info a) (byte_at m.image a)) 1 (λ (n : ℕ). n ≡ 1) (λ _. one (byte_at m.image a)) (λ _. refl)
-
 in-code : (m : MapView) (n : ℕ) → is_inside m.image n ≡ true → is_skip (role_of m.info n) ≡ false → item_len m n ≡ 0 → is_wide (role_of m.info n) ≡ false → IsInCode m n
+unfolding full_len_at
 in-code m n inside shown none narrow =
     let u = under m n inside shown none in
     ⊎_elim
     (λ code. record { item = item_start m n; begins = u.begins; after = u.after; before = u.before; code = code })
     (λ one.
-    let single : size_at m (item_start m n) ≡ 1 = size-one m (item_start m n) (λ b. sym (ap (λ (r : RangeType). size_for m r b) u.same) ∙ one b) in
+    let single : size_at m (item_start m n) ≡ 1 = one-size m (item_start m n) (sym (ap (λ (r : RangeType). size_for m r (byte_at m.image (item_start m n))) u.same) ∙ one (byte_at m.image (item_start m n))) in
     absurd (omega (arith, single, (begun m (item_start m n) u.begins).len, u.after, u.before)))
     (code-or-byte m (role_of m.info n) narrow)
 

@@ -1,10 +1,10 @@
 -- Cells, address by address.
 use Rattle.std.proofs.Common.{◌≡◌, ◌≢◌, ◌∙◌, ℕ, ◌+◌, ◌/◌, ◌%◌, ◌<◌, Bool, true, false, List, Option, Some, None, length, get_or, set, refl, ap, sym, subst, arith, ⊎_elim}
-use Rattle.std.proofs.lemmas.Bool.{cases_eq, cond_both, eq-eqb, eqb-false, ne_eqb}
+use Rattle.std.proofs.lemmas.Bool.{cases_eq, eq-eqb, ne_eqb}
 use Rattle.std.proofs.lemmas.List.{get_or-set_other, get_or-set_same}
 use Rattle.info65.specs.declared.information.range.RangeType.{RangeType}
 use Rattle.info65.specs.declared.information.range.RangeType.TheVariants.{Code}
-use Rattle.map65.specs.Code.Cells.{CellLaw, AreNamed, cell_of, coded, is_named, has_border, is_wide_cell, is_wide_role, len_in_cell, role_in_cell, with_name, with_len}
+use Rattle.map65.specs.Code.Cells.{CellLaw, AreNamed, cell_of, coded, is_named, has_border, is_wide_cell, is_wide_role, len_in_cell, role_in_cell, with_border, with_name, with_len}
 use Rattle.map65.specs.Cells.{bit, code_of}
 
 -- ---- one cell
@@ -55,10 +55,6 @@ pub with_len-rest : (c : ℕ) (r : Option RangeType) (n : ℕ) → n < 8 → c %
 unfolding with_len cell_of
 with_len-rest c r n small is = omega (arith, is, code-small r)
 
-pub with_len-border : (c : ℕ) (r : Option RangeType) (n : ℕ) → n < 8 → c % 128 ≡ cell_of r 0 → with_len c n / 256 ≡ c / 256
-unfolding with_len cell_of
-with_len-border c r n small is = omega (arith, is, code-small r)
-
 is_named-is : (c : ℕ) (b : Bool) → c / 128 % 2 ≡ bit b → is_named c ≡ b
 unfolding is_named
 is_named-is c true is = eq-eqb (c / 128 % 2) 1 (omega (arith, is))
@@ -66,25 +62,28 @@ is_named-is c false is = ne_eqb (c / 128 % 2) 1 (omega (arith, is))
 
 pub with_name-lay : (c : ℕ) → with_name c % 128 ≡ c % 128
 unfolding with_name
-with_name-lay c = cond_both (is_named c) c (c + 128) (λ (x : ℕ). x % 128 ≡ c % 128) (λ _. refl) (λ _. omega arith)
+with_name-lay c = omega arith
 
-even : (c : ℕ) → is_named c ≡ false → c / 128 % 2 ≢ 1
-unfolding is_named
-even c is = eqb-false (c / 128 % 2) 1 is
+pub with_name-bit : (c : ℕ) → with_name c / 128 % 2 ≡ 1
+unfolding with_name
+with_name-bit c = omega arith
 
 pub with_name-border : (c : ℕ) → with_name c / 256 ≡ c / 256
 unfolding with_name
-with_name-border c = cond_both (is_named c) c (c + 128) (λ (x : ℕ). x / 256 ≡ c / 256) (λ _. refl) (λ none. omega (arith, even c none))
+with_name-border c = omega arith
+
+pub with_name-again : (c : ℕ) → with_name (with_name c) ≡ with_name c
+unfolding with_name
+with_name-again c = omega arith
 
 pub has_border-is : (c : ℕ) (b : Bool) → c / 256 ≡ bit b → has_border c ≡ b
 unfolding has_border
 has_border-is c true is = eq-eqb (c / 256 % 2) 1 (omega (arith, is))
 has_border-is c false is = ne_eqb (c / 256 % 2) 1 (omega (arith, is))
 
-pub with_name-rest : (c : ℕ) (b : Bool) → c / 128 % 2 ≡ bit b → with_name c / 128 % 2 ≡ 1
-unfolding with_name
-with_name-rest c true is = rw (is_named-is c true is) is
-with_name-rest c false is = rw (is_named-is c false is) (omega (arith, is))
+pub with_border-again : (c : ℕ) → with_border (with_border c) ≡ with_border c
+unfolding with_border
+with_border-again c = omega arith
 
 -- ---- all cells
 

@@ -1,13 +1,12 @@
 -- The law of items.
 use Rattle.std.proofs.Common.{◌≡◌, refl, ◌∙◌, inl, inr, ℕ, zero, suc, ◌+◌, ◌-◌, ◌<◌, ◌≤◌, ◌&&◌, ◌==◌, not, Bool, true, false, ap, sym, arith, ⊎_elim}
 use Rattle.std.proofs.lemmas.Bool.{and_from, and_parts, both_ways, cases_Bool, cases_eq, cases_lt, cond-true, cond_both, eqb-true, not-true}
-use Rattle.map65.proofs.ItemLemmas.{are_joined-none, are_joined-suc, belongs, inside-if, item-len-own, item_start-after, item_start-apart, item_start-further, joined-in, joined-piece, one-role, own-left, size-positive, start-apart, start-piece, full_len-positive, within}
+use Rattle.map65.proofs.ItemLemmas.{belongs, inside-if, item-len-own, item_start-after, item_start-apart, item_start-further, joined-in, joined-piece, one-role, size-positive, start-apart, start-piece, full_len-is, within}
 use Rattle.map65.specs.ImageView.{end_of, is_inside}
 use Rattle.map65.specs.Items.{AreItems, CanBegin, EndsBefore, ItemLaw, item_len, item_start, size_at, full_len_at}
 use Rattle.map65.specs.MapView.{MapView}
 use Rattle.map65.specs.Pieces.{AreOnePiece, are_joined, is_joined}
 use Rattle.map65.specs.Roles.{is_skip, role_of}
-use Rattle.map65.specs.Spans.{left_at}
 
 -- ---- what is known where an item begins
 
@@ -17,7 +16,6 @@ pub record Begun (m : MapView) (a : ℕ) : Type 0 where
   pub high : a < end_of m.image
   pub shown : is_skip (role_of m.info a) ≡ false
   pub own : item_start m a ≡ a
-  pub none : left_at (size_at m) m.image.start (a - m.image.start) ≡ 0
   pub len : item_len m a ≡ size_at m a
 
 item-test : (m : MapView) (a : ℕ) → 0 < item_len m a → (is_inside m.image a && (not (is_skip (role_of m.info a)) && item_start m a == a)) ≡ true
@@ -33,9 +31,7 @@ begun m a some =
     let at = within m a outer.0 in
     let shown = not-true (is_skip (role_of m.info a)) inner.0 in
     let own = eqb-true (item_start m a) a inner.1 in
-    let place : m.image.start + (a - m.image.start) ≡ a = omega (arith, at.low) in
-    let none = own-left m (a - m.image.start) (ap (item_start m) place ∙ own ∙ sym place) in
-    record { inside = outer.0; low = at.low; high = at.high; shown = shown; own = own; none = none; len = item-len-own m a outer.0 shown own }
+    record { inside = outer.0; low = at.low; high = at.high; shown = shown; own = own; len = item-len-own m a outer.0 shown own }
 
 -- where the item begins that an address of the image belongs to, its length is known
 pub start-len : (m : MapView) (a : ℕ) → is_inside m.image a ≡ true → is_skip (role_of m.info a) ≡ false → item_len m (item_start m a) ≡ size_at m (item_start m a)
@@ -91,20 +87,21 @@ item-if m a is =
 -- ---- how long it is
 
 piece-joined : (m : MapView) (n a : ℕ) → AreOnePiece m a (a + n) → are_joined m n a ≡ true
-piece-joined m zero a piece = are_joined-none m a
+unfolding are_joined
+piece-joined m zero a piece = refl
 piece-joined m (suc n) a piece =
-    are_joined-suc m n a ∙ and_from _ _ (piece (a + 1) (omega arith) (omega arith)) (piece-joined m n (a + 1) (λ x low high. piece x (omega (arith, low)) (omega (arith, high))))
+    and_from _ _ (piece (a + 1) (omega arith) (omega arith)) (piece-joined m n (a + 1) (λ x low high. piece x (omega (arith, low)) (omega (arith, high))))
 
-size-whole : (m : MapView) (a : ℕ) → AreOnePiece m a (a + full_len_at m a - 1) → size_at m a ≡ full_len_at m a
+pub size-whole : (m : MapView) (a : ℕ) → AreOnePiece m a (a + full_len_at m a - 1) → size_at m a ≡ full_len_at m a
 unfolding size_at
 size-whole m a piece =
-    cond-true _ (full_len_at m a) 1 (piece-joined m (full_len_at m a - 1) a (λ x low high. piece x low (omega (arith, high, full_len-positive m a))))
+    cond-true _ (full_len_at m a) 1 (piece-joined m (full_len_at m a - 1) a (λ x low high. piece x low (omega (arith, high, full_len-is m a))))
 
-size-cut : (m : MapView) (a : ℕ) → (AreOnePiece m a (a + full_len_at m a - 1) → ⊥) → size_at m a ≡ 1
+pub size-cut : (m : MapView) (a : ℕ) → (AreOnePiece m a (a + full_len_at m a - 1) → ⊥) → size_at m a ≡ 1
 unfolding size_at
 size-cut m a apart =
     cond_both (are_joined m (full_len_at m a - 1) a) (full_len_at m a) 1 (λ (n : ℕ). n ≡ 1)
-    (λ are. absurd (apart (λ x low high. joined-piece m (full_len_at m a - 1) a are x low (omega (arith, high, full_len-positive m a)))))
+    (λ are. absurd (apart (λ x low high. joined-piece m (full_len_at m a - 1) a are x low (omega (arith, high, full_len-is m a)))))
     (λ _. refl)
 
 counted : (m : MapView) → AreItems m (item_len m)
@@ -133,10 +130,10 @@ same-size : (m : MapView) (len other : ℕ → ℕ) → AreItems m len → AreIt
 same-size m len other are are_too a some some_too =
     ⊎_elim
     (λ joined.
-    let piece : AreOnePiece m a (a + full_len_at m a - 1) = λ x low high. joined-piece m (full_len_at m a - 1) a joined x low (omega (arith, high, full_len-positive m a)) in
+    let piece : AreOnePiece m a (a + full_len_at m a - 1) = λ x low high. joined-piece m (full_len_at m a - 1) a joined x low (omega (arith, high, full_len-is m a)) in
     are.whole a some piece ∙ sym (are_too.whole a some_too piece))
     (λ apart.
-    let cut : AreOnePiece m a (a + full_len_at m a - 1) → ⊥ = λ piece. both_ways (are_joined m (full_len_at m a - 1) a) apart (piece-joined m (full_len_at m a - 1) a (λ x low high. piece x low (omega (arith, high, full_len-positive m a)))) in
+    let cut : AreOnePiece m a (a + full_len_at m a - 1) → ⊥ = λ piece. both_ways (are_joined m (full_len_at m a - 1) a) apart (piece-joined m (full_len_at m a - 1) a (λ x low high. piece x low (omega (arith, high, full_len-is m a)))) in
     are.cut a some cut ∙ sym (are_too.cut a some_too cut))
     (cases_Bool (are_joined m (full_len_at m a - 1) a))
 

@@ -2,9 +2,7 @@
 use Rattle.std.proofs.Common.{◌≡◌, ◌≢◌, ◌∙◌, ℕ, zero, suc, ◌+◌, ◌-◌, ◌<◌, ◌≤◌, ◌&&◌, ◌==◌, nat_le, nat_lt, not, Bool, true, false, length, Option, Some, None, refl, ap, sym, arith, ⊎_elim}
 use Rattle.std.proofs.lemmas.Bool.{false≢true, and_parts, and_from, cases_eq, cases_lt, cond-true, cond-false, cond_both, eq-eqb, false_from_ne_true, ne_eqb, lt-ltb, ltb-true, le-leb, le-ltb, leb-true, not-true}
 use denote.Enum.Bare.{same_true, true_same}
-use Rattle.isa65.specs.Mode.{len_of}
-use Rattle.isa65.specs.declared.mode.Mode.{Mode}
-use Rattle.isa65.specs.declared.mode.Mode.TheVariants.{Imp}
+use Rattle.isa65.proofs.ModeLaws.{len-positive, len-small}
 use Rattle.isa65.specs.declared.op.Op.{Op}
 use Rattle.isa65.specs.Opcodes.{decoded}
 use Rattle.info65.specs.contracts.information.range.RangeType as range_type
@@ -69,19 +67,12 @@ joined-in m a is = in-run m a (joined-run m a is)
 pub joined-high : (m : MapView) (a : ℕ) → is_joined m a ≡ true → a < end_of m.image
 joined-high m a is = (joined-in m a is).high
 
-pub are_joined-none : (m : MapView) (a : ℕ) → are_joined m 0 a ≡ true
-unfolding are_joined
-are_joined-none m a = refl
-
-pub are_joined-suc : (m : MapView) (n a : ℕ) → are_joined m (suc n) a ≡ (is_joined m (a + 1) && are_joined m n (a + 1))
-unfolding are_joined
-are_joined-suc m n a = refl
-
 -- addresses that are joined one by one lie in one piece
 pub joined-piece : (m : MapView) (n a : ℕ) → are_joined m n a ≡ true → AreOnePiece m a (a + n)
+unfolding are_joined
 joined-piece m zero a are x low high = absurd (omega arith)
 joined-piece m (suc n) a are x low high =
-    let parts = and_parts (is_joined m (a + 1)) (are_joined m n (a + 1)) (sym (are_joined-suc m n a) ∙ are) in
+    let parts = and_parts (is_joined m (a + 1)) (are_joined m n (a + 1)) are in
     ⊎_elim
     (λ next. ap (is_joined m) next ∙ parts.0)
     (λ other. joined-piece m n (a + 1) parts.1 x (omega (arith, other)) (omega arith))
@@ -108,42 +99,45 @@ one-role m b a le piece = one-run-role m b a le (λ x low high. joined-run m x (
 
 -- ---- sizes
 
-pub len-positive : (x : Mode) → 1 ≤ len_of x
-len-positive Imp = omega arith
-len-positive _ = omega arith
+-- an item has one to four bytes
+abbrev pub IsSize : ℕ → Type 0
+IsSize n = (1 ≤ n) × (n ≤ 4)
 
-code_size-positive : (o : Option Op) → 1 ≤ code_size o
-code_size-positive None = omega arith
-code_size-positive (Some op) = len-positive op.mode
+code_size-is : (o : Option Op) → IsSize (code_size o)
+code_size-is None = (omega arith, omega arith)
+code_size-is (Some op) = (len-positive op.mode, omega (arith, len-small op.mode))
 
-size_for-positive : (m : MapView) (r : RangeType) (b : ℕ) → 1 ≤ size_for m r b
-size_for-positive m Code b = code_size-positive (decoded (opcodes m) b)
-size_for-positive m _ b = omega arith
+size_for-is : (m : MapView) (r : RangeType) (b : ℕ) → IsSize (size_for m r b)
+size_for-is m Code b = code_size-is (decoded (opcodes m) b)
+size_for-is m _ b = (omega arith, omega arith)
 
 size_for-skip : (m : MapView) (r : RangeType) (b : ℕ) → is_skip r ≡ true → size_for m r b ≡ 1
 size_for-skip m Skip b is = refl
 size_for-skip m _ b is = absurd (false≢true is)
 
-pub full_len-positive : (m : MapView) (a : ℕ) → 1 ≤ full_len_at m a
+pub full_len-is : (m : MapView) (a : ℕ) → IsSize (full_len_at m a)
 unfolding full_len_at
-full_len-positive m a = size_for-positive m (role_of m.info a) (byte_at m.image a)
+full_len-is m a = size_for-is m (role_of m.info a) (byte_at m.image a)
 
--- every item has a byte
-pub size-positive : (m : MapView) (a : ℕ) → 1 ≤ size_at m a
+pub size-is : (m : MapView) (a : ℕ) → IsSize (size_at m a)
 unfolding size_at
-size-positive m a =
-    cond_both (are_joined m (full_len_at m a - 1) a) (full_len_at m a) 1 (λ n. 1 ≤ n) (λ _. full_len-positive m a) (λ _. omega arith)
+size-is m a = cond_both (are_joined m (full_len_at m a - 1) a) (full_len_at m a) 1 IsSize (λ _. full_len-is m a) (λ _. (omega arith, omega arith))
+
+pub size-positive : (m : MapView) (a : ℕ) → 1 ≤ size_at m a
+size-positive m a = (size-is m a).0
+
+pub one-size : (m : MapView) (a : ℕ) → full_len_at m a ≡ 1 → size_at m a ≡ 1
+unfolding size_at
+one-size m a one = cond_both (are_joined m (full_len_at m a - 1) a) (full_len_at m a) 1 (λ n. n ≡ 1) (λ _. one) (λ _. refl)
 
 pub skip-size : (m : MapView) (a : ℕ) → is_skip (role_of m.info a) ≡ true → size_at m a ≡ 1
-unfolding size_at full_len_at
-skip-size m a skip =
-    let one = size_for-skip m (role_of m.info a) (byte_at m.image a) skip in
-    cond_both (are_joined m (full_len_at m a - 1) a) (full_len_at m a) 1 (λ n. n ≡ 1) (λ _. one) (λ _. refl)
+unfolding full_len_at
+skip-size m a skip = one-size m a (size_for-skip m (role_of m.info a) (byte_at m.image a) skip)
 
 size-joined : (m : MapView) (a : ℕ) → are_joined m (size_at m a - 1) a ≡ true
-unfolding size_at
+unfolding size_at are_joined
 size-joined m a =
-    cond_both (are_joined m (full_len_at m a - 1) a) (full_len_at m a) 1 (λ n. are_joined m (n - 1) a ≡ true) (λ are. are) (λ _. are_joined-none m a)
+    cond_both (are_joined m (full_len_at m a - 1) a) (full_len_at m a) 1 (λ n. are_joined m (n - 1) a ≡ true) (λ are. are) (λ _. refl)
 
 -- the bytes of an item lie in one piece
 pub size-one-piece : (m : MapView) (a : ℕ) → AreOnePiece m a (a + size_at m a - 1)
@@ -187,14 +181,6 @@ left-inside size start k (suc i) none within =
     let place : suc k + suc i ≡ suc (suc k + i) = omega arith in
     ap (left_at size start) place ∙ left-going size start (suc k + i) (omega (arith, before)) ∙ omega (arith, before)
 
--- at the end of a span none is left
-pub left-past : (size : ℕ → ℕ) → ((a : ℕ) → 1 ≤ size a) → (start k : ℕ) → left_at size start k ≡ 0 → left_at size start (k + size (start + k)) ≡ 0
-left-past size positive start k none =
-    let n : ℕ = size (start + k) in
-    let some : 1 ≤ n = positive (start + k) in
-    let place : k + n ≡ suc k + (n - 1) = omega arith in
-    ap (left_at size start) place ∙ left-inside size start k (n - 1) none (omega arith) ∙ omega arith
-
 -- ---- where an item begins
 
 item_start-zero : (m : MapView) → item_start m 0 ≡ 0
@@ -227,6 +213,11 @@ item_start-inside m n (suc i) own within =
     ap (item_start m) place
     ∙ item_start-further m (n + i) (omega (arith, before, size)) (size-one-piece m n (suc (n + i)) (omega arith) (omega arith))
     ∙ before
+
+pub item_start-within : (m : MapView) (n a : ℕ) → item_start m n ≡ n → n ≤ a → a < n + size_at m n → item_start m a ≡ n
+item_start-within m n a own low high =
+    let place : n + (a - n) ≡ a = omega (arith, low) in
+    sym (ap (item_start m) place) ∙ item_start-inside m n (a - n) own (omega (arith, low, high))
 
 -- and where an item ends the next one begins
 pub item_start-after : (m : MapView) (n : ℕ) → item_start m n ≡ n → item_start m (n + size_at m n) ≡ n + size_at m n
@@ -285,55 +276,12 @@ pub item-len-own : (m : MapView) (a : ℕ) → is_inside m.image a ≡ true → 
 unfolding item_len
 item-len-own m a inside shown own = cond-true _ _ _ (and_from _ _ inside (and_from _ _ (ap not shown) (eq-eqb (item_start m a) a own)))
 
--- ---- items as spans that follow each other from the start of the image on
-
 -- the image begins with a piece
 pub start-apart : (m : MapView) (a : ℕ) → a ≡ m.image.start → is_joined m a ≡ false
 start-apart m a is = false_from_ne_true (is_joined m a) (λ joined. absurd (omega (arith, is, (joined-in m a joined).low)))
 
-start-own : (m : MapView) → item_start m (m.image.start + 0) ≡ m.image.start + 0
+pub start-own : (m : MapView) → item_start m (m.image.start + 0) ≡ m.image.start + 0
 start-own m = item_start-apart m (m.image.start + 0) (start-apart m (m.image.start + 0) (omega arith))
 
--- what is left after a byte is what its item has after it
-abbrev IsLeft : MapView → ℕ → Type 0
-IsLeft m k = left_at (size_at m) m.image.start (suc k) + (m.image.start + suc k) ≡ item_start m (m.image.start + k) + size_at m (item_start m (m.image.start + k))
-
-further : (m : MapView) (k : ℕ) → IsLeft m k → left_at (size_at m) m.image.start (suc k) ≢ 0 → item_start m (m.image.start + suc k) ≡ item_start m (m.image.start + k)
-further m k before some =
-    let place : m.image.start + suc k ≡ suc (m.image.start + k) = omega arith in
-    let over : suc (m.image.start + k) < item_start m (m.image.start + k) + size_at m (item_start m (m.image.start + k)) = omega (arith, before, some) in
-    ap (item_start m) place
-    ∙ item_start-further m (m.image.start + k) over (size-one-piece m (item_start m (m.image.start + k)) (suc (m.image.start + k)) (omega (arith, (belongs m (m.image.start + k)).low)) (omega (arith, over)))
-
-next-own : (m : MapView) (k : ℕ) → IsLeft m k → left_at (size_at m) m.image.start (suc k) ≡ 0 → item_start m (m.image.start + suc k) ≡ m.image.start + suc k
-next-own m k before none =
-    let place : m.image.start + suc k ≡ suc (m.image.start + k) = omega arith in
-    ap (item_start m) place ∙ item_start-past m (m.image.start + k) (omega (arith, before, none)) ∙ sym place
-
-own-is : (m : MapView) (k : ℕ) → item_start m (m.image.start + k) ≡ m.image.start + k → left_at (size_at m) m.image.start k ≡ 0 → IsLeft m k
-own-is m k own none = omega (arith, own, ap (size_at m) own, left-begun (size_at m) m.image.start k none, size-positive m (m.image.start + k))
-
-left-is : (m : MapView) (k : ℕ) → IsLeft m k
-left-is m zero = own-is m 0 (start-own m) (left-first (size_at m) m.image.start)
-left-is m (suc k) =
-    let before = left-is m k in
-    ⊎_elim
-    (λ none. own-is m (suc k) (next-own m k before none) none)
-    (λ some. let same = further m k before some in omega (arith, same, ap (size_at m) same, before, left-going (size_at m) m.image.start (suc k) some, some))
-    (cases_eq (left_at (size_at m) m.image.start (suc k)) 0)
-
--- where none is left an item begins, or a byte is skipped
-left-own : (m : MapView) (k : ℕ) → left_at (size_at m) m.image.start k ≡ 0 → item_start m (m.image.start + k) ≡ m.image.start + k
-left-own m zero none = start-own m
-left-own m (suc k) none = next-own m k (left-is m k) none
-
-pub own-left : (m : MapView) (k : ℕ) → item_start m (m.image.start + k) ≡ m.image.start + k → left_at (size_at m) m.image.start k ≡ 0
-own-left m zero own = left-first (size_at m) m.image.start
-own-left m (suc k) own =
-    ⊎_elim
-    (λ none. none)
-    (λ some. absurd (omega (arith, own, further m k (left-is m k) some, (belongs m (m.image.start + k)).low)))
-    (cases_eq (left_at (size_at m) m.image.start (suc k)) 0)
-
-pub item-len-at : (m : MapView) (k : ℕ) → k < length m.image.bytes → is_skip (role_of m.info (m.image.start + k)) ≡ false → left_at (size_at m) m.image.start k ≡ 0 → item_len m (m.image.start + k) ≡ size_at m (m.image.start + k)
-item-len-at m k low shown none = item-len-own m (m.image.start + k) (inside-index m k low) shown (left-own m k none)
+pub item-len-at : (m : MapView) (k : ℕ) → k < length m.image.bytes → is_skip (role_of m.info (m.image.start + k)) ≡ false → item_start m (m.image.start + k) ≡ m.image.start + k → item_len m (m.image.start + k) ≡ size_at m (m.image.start + k)
+item-len-at m k low shown own = item-len-own m (m.image.start + k) (inside-index m k low) shown own

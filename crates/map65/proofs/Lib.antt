@@ -1,5 +1,6 @@
 mod BaseLaws
 mod CellLemmas
+mod ChangeLemmas
 mod ItemLaws
 mod ItemLemmas
 mod MapRows

@@ -3,24 +3,18 @@ use Rattle.std.proofs.Common.{◌≡◌, ◌≢◌, ◌∙◌, ℕ, suc, ◌+◌
 use Rattle.std.proofs.Math.ListN.{length-set}
 use Rattle.std.proofs.lemmas.Bool.{and_parts, and_from, cases_eq, cases_lt, cond-true, cond-false, cond_both, false≢true, lt-ltb, ltb-true, not-true}
 use Rattle.std.specs.Cmp.{both_ways}
-use Rattle.isa65.specs.Mode.{len_of}
-use Rattle.isa65.specs.Opcodes.{decoded}
-use Rattle.isa65.specs.declared.mode.Mode.{Mode}
-use Rattle.isa65.specs.declared.mode.Mode.TheVariants.{Imp}
-use Rattle.isa65.specs.declared.op.Op.{Op}
 use Rattle.info65.specs.declared.information.range.RangeType.{RangeType}
-use Rattle.info65.specs.declared.information.range.RangeType.TheVariants.{Code}
-use Rattle.map65.proofs.CellLemmas.{named-test, cell-role, cell-wide, set-cell, with_len-border, with_len-lay, with_len-rest}
+use Rattle.map65.proofs.CellLemmas.{named-test, cell-role, cell-wide, set-cell, with_len-lay, with_len-rest}
 use Rattle.map65.proofs.ItemLaws.{Begun, begun}
-use Rattle.map65.proofs.ItemLemmas.{are_joined-none, are_joined-suc, in-run, is_cut_at, inside-if, item-len-own, item_start-after, item_start-apart, item_start-inside, joined-high, joined-if, joined-run, joined-uncut, size-fits, size-positive, start-apart}
+use Rattle.map65.proofs.ItemLemmas.{in-run, is_cut_at, inside-if, item-len-own, item_start-after, item_start-apart, item_start-within, joined-high, joined-if, joined-run, joined-uncut, size-fits, size-is, size-positive, start-apart}
 use Rattle.map65.proofs.RunLemmas.{plain-code, role_at-inside, run-cells, some-same}
 use Rattle.map65.specs.Code.Cells.{AreNamed, IsLaid, are_one_run, cell_of, is_named, is_cut, is_wide_cell, is_wide_role, lay_at, role_in_cell, with_len}
 use Rattle.map65.specs.Cells.{bit}
 use Rattle.map65.specs.Code.Marking.{AreMarkedBelow, is_joined_in}
-use Rattle.map65.specs.ImageView.{byte_at, end_of, is_inside}
-use Rattle.map65.specs.Items.{code_size, item_len, item_start, size_at, size_for, full_len_at}
-use Rattle.map65.specs.MapView.{MapView, opcodes}
-use Rattle.map65.specs.Pieces.{are_joined, is_in_run, is_joined, is_own}
+use Rattle.map65.specs.ImageView.{end_of, is_inside}
+use Rattle.map65.specs.Items.{item_len, item_start, size_at}
+use Rattle.map65.specs.MapView.{MapView}
+use Rattle.map65.specs.Pieces.{is_in_run, is_joined, is_own}
 use Rattle.map65.specs.Roles.{is_skip, is_wide, role_at, role_of}
 use Rattle.map65.specs.Segments.{is_border}
 
@@ -84,59 +78,10 @@ joined-answer m n a at cells answer b place old own room low after high says is 
 
 -- ---- sizes
 
-are_joined-next : (m : MapView) (n i a : ℕ) → i < n → are_joined m (n - i) (a + i) ≡ (is_joined m (a + i + 1) && are_joined m (n - (i + 1)) (a + (i + 1)))
-are_joined-next m n i a below =
-    let more : n - i ≡ suc (n - (i + 1)) = omega arith in
-    let next : a + i + 1 ≡ a + (i + 1) = omega arith in
-    ap (λ (k : ℕ). are_joined m k (a + i)) more ∙ are_joined-suc m (n - (i + 1)) (a + i) ∙ ap (λ (b : ℕ). is_joined m (a + i + 1) && are_joined m (n - (i + 1)) b) next
-
--- one byte more of the piece
-pub size-more : (m : MapView) (n i a : ℕ) → i < n → is_joined m (a + i + 1) ≡ true → are_joined m (n - i) (a + i) ≡ are_joined m n a → are_joined m (n - (i + 1)) (a + (i + 1)) ≡ are_joined m n a
-size-more m n i a below joined so_far =
-    let here : are_joined m (n - i) (a + i) ≡ are_joined m (n - (i + 1)) (a + (i + 1)) = are_joined-next m n i a below ∙ rw joined refl in
-    sym here ∙ so_far
-
--- the piece ends before
-pub size-cut : (m : MapView) (w i a : ℕ) → w ≡ full_len_at m a → i < w - 1 → is_joined m (a + i + 1) ≡ false → are_joined m (w - 1 - i) (a + i) ≡ are_joined m (w - 1) a → 1 ≡ size_at m a
-unfolding size_at
-size-cut m w i a is below apart so_far =
-    let here : are_joined m (w - 1 - i) (a + i) ≡ false = are_joined-next m (w - 1) i a below ∙ rw apart refl in
-    let cut : are_joined m (full_len_at m a - 1) a ≡ false = sym (ap (λ (k : ℕ). are_joined m (k - 1) a) is) ∙ sym so_far ∙ here in
-    sym (cond-false _ (full_len_at m a) 1 cut)
-
--- the piece has room
-pub size-whole : (m : MapView) (w i a : ℕ) → w ≡ full_len_at m a → w - 1 ≤ i → are_joined m (w - 1 - i) (a + i) ≡ are_joined m (w - 1) a → w ≡ size_at m a
-unfolding size_at
-size-whole m w i a is past so_far =
-    let none : w - 1 - i ≡ 0 = omega arith in
-    let here : are_joined m (w - 1 - i) (a + i) ≡ true = ap (λ (k : ℕ). are_joined m k (a + i)) none ∙ are_joined-none m (a + i) in
-    let whole : are_joined m (full_len_at m a - 1) a ≡ true = sym (ap (λ (k : ℕ). are_joined m (k - 1) a) is) ∙ sym so_far ∙ here in
-    is ∙ sym (cond-true _ (full_len_at m a) 1 whole)
-
-len-small : (x : Mode) → len_of x ≤ 4
-len-small Imp = omega arith
-len-small _ = omega arith
-
-code_size-small : (o : Option Op) → code_size o ≤ 4
-code_size-small None = omega arith
-code_size-small (Some op) = len-small op.mode
-
-size_for-small : (m : MapView) (r : RangeType) (b : ℕ) → size_for m r b ≤ 4
-size_for-small m Code b = code_size-small (decoded (opcodes m) b)
-size_for-small m _ b = omega arith
-
-full_len-small : (m : MapView) (a : ℕ) → full_len_at m a ≤ 4
-unfolding full_len_at
-full_len-small m a = size_for-small m (role_of m.info a) (byte_at m.image a)
-
-size-small : (m : MapView) (a : ℕ) → size_at m a ≤ 4
-unfolding size_at
-size-small m a = cond_both (are_joined m (full_len_at m a - 1) a) (full_len_at m a) 1 (λ n. n ≤ 4) (λ _. full_len-small m a) (λ _. omega arith)
-
 pub item-small : (m : MapView) (a : ℕ) → item_len m a ≤ 4
 unfolding item_len
 item-small m a =
-    cond_both (is_inside m.image a && (not (is_skip (role_of m.info a)) && item_start m a == a)) (size_at m a) 0 (λ n. n ≤ 4) (λ _. size-small m a) (λ _. omega arith)
+    cond_both (is_inside m.image a && (not (is_skip (role_of m.info a)) && item_start m a == a)) (size_at m a) 0 (λ n. n ≤ 4) (λ _. (size-is m a).1) (λ _. omega arith)
 
 -- an item ends in the image
 pub item-fits : (m : MapView) (a : ℕ) → 0 < item_len m a → a + item_len m a ≤ end_of m.image
@@ -160,9 +105,7 @@ next-begins m n len begins is = let place : n + len ≡ n + size_at m n = omega 
 
 module _ (m : MapView) (n len : ℕ) (cells : List ℕ) (low : m.image.start ≤ n) (high : n < end_of m.image) (room : n < 65536) (begins : item_start m n ≡ n) (is : len ≡ size_at m n) (old : AreMarkedBelow m n cells) where
   inside-item : (a : ℕ) → n < a → a < n + len → item_len m a ≡ 0
-  inside-item a after before =
-      let place : n + (a - n) ≡ a = omega (arith, after) in
-      no-item m a (λ b. omega (arith, b.own, sym (ap (item_start m) place) ∙ item_start-inside m n (a - n) begins (omega (arith, is, after, before)), after))
+  inside-item a after before = no-item m a (λ b. omega (arith, b.own, item_start-within m n a begins (omega (arith, after)) (omega (arith, is, before)), after))
 
   lay-none : (a : ℕ) → item_len m a ≡ 0 → lay_at m a ≡ cell_of (role_at m a) 0
   lay-none a none = ap (cell_of (role_at m a)) none
@@ -181,7 +124,7 @@ module _ (m : MapView) (n len : ℕ) (cells : List ℕ) (low : m.image.start ≤
   here-plain = old.plain n room (omega arith)
 
   len-fits : len < 8
-  len-fits = omega (arith, is, size-small m n)
+  len-fits = omega (arith, is, size-is m n)
 
   pub item-marked : (c : ℕ) → c ≡ with_len (get_or cells n 0) len → is_skip (role_of m.info n) ≡ false → AreMarkedBelow m (n + len) (set cells n c)
   item-marked c cell shown =
@@ -191,7 +134,7 @@ module _ (m : MapView) (n len : ℕ) (cells : List ℕ) (low : m.image.start ≤
         count = length-set cells n c ∙ old.count;
         borders = record {
           each = set-cell (λ a x. x / 256 ≡ bit (is_border m.info.segments a)) cells n c lt
-              (ap (λ (x : ℕ). x / 256) cell ∙ with_len-border (get_or cells n 0) (role_at m n) len len-fits here-plain ∙ old.borders.each n room)
+              (ap (λ (x : ℕ). x / 256) cell ∙ omega (arith, with_len-rest (get_or cells n 0) (role_at m n) len len-fits here-plain) ∙ old.borders.each n room)
               (λ a below other. old.borders.each a below);
         };
         marked = set-cell (λ a x. a < n + len → x % 128 ≡ lay_at m a) cells n c lt (λ before. here) (λ a below other before. elsewhere a other below before);

@@ -6,7 +6,7 @@ use Rattle.info65.specs.Names.{AreNames, blank_name, covering, covers, name_at}
 use Rattle.info65.specs.Views.{NameView}
 use Rattle.info65.proofs.Public.{last_name, none_covers}
 use Rattle.map65.proofs.ItemLaws.{begun, start-len}
-use Rattle.map65.proofs.ItemLemmas.{belongs, inside-if, item_start-inside, one-role, size-positive, start-piece}
+use Rattle.map65.proofs.ItemLemmas.{belongs, inside-if, item_start-within, one-role, size-positive, start-piece}
 use Rattle.map65.proofs.NameLemmas.{base-covered, base-unreferenced, base-referenced, not-some}
 use Rattle.map65.proofs.NamingLemmas.{address-at, address-count, entry_start-narrow, entry_start-wide, wide-shown}
 use Rattle.map65.proofs.MarkingLemmas.{item-fits}
@@ -41,10 +41,8 @@ under m a inside shown none =
 pub entry_start-inner : (m : MapView) (a first : ℕ) → IsInner m a first → entry_start m a ≡ first
 entry_start-inner m a first i =
     let is = begun m first i.begins in
-    let place : first + (a - first) ≡ a = omega (arith, i.after) in
     entry_start-wide m a (and_from _ _ (inside-if m a (omega (arith, is.low, i.after)) (omega (arith, i.before, item-fits m first i.begins))) i.wide)
-    ∙ sym (ap (item_start m) place)
-    ∙ item_start-inside m first (a - first) is.own (omega (arith, is.len, i.after, i.before))
+    ∙ item_start-within m first a is.own (omega (arith, i.after)) (omega (arith, is.len, i.before))
 
 -- the first byte of an item is its own entry start
 pub entry_start-item : (m : MapView) (a : ℕ) → 0 < item_len m a → entry_start m a ≡ a
@@ -179,13 +177,9 @@ either : (o : Option NameView) (b : Base) → base_by o true (base_or o b) ≡ S
 either None b = refl
 either (Some v) b = refl
 
-entry_start-own : (m : MapView) (a : ℕ) → entry_start m a ≡ a → entry_base m a ≡ base_or (covering m.info.names a) (default_base a)
+entry_base-at : (m : MapView) (a first : ℕ) → entry_start m a ≡ first → entry_base m a ≡ base_or (covering m.info.names first) (default_base first)
 unfolding entry_base
-entry_start-own m a is = ap (λ (x : ℕ). base_or (covering m.info.names x) (default_base x)) is
-
-entry_start-of-inner : (m : MapView) (a first : ℕ) → entry_start m a ≡ first → entry_base m a ≡ base_or (covering m.info.names first) (default_base first)
-unfolding entry_base
-entry_start-of-inner m a first is = ap (λ (x : ℕ). base_or (covering m.info.names x) (default_base x)) is
+entry_base-at m a first is = ap (λ (x : ℕ). base_or (covering m.info.names x) (default_base x)) is
 
 base-is : (m : MapView) (a : ℕ) → is_referenced m a ≡ true → base_at m a ≡ base_by (covering m.info.names a) true (entry_base m a)
 unfolding base_at
@@ -197,14 +191,14 @@ name-inner m a first none target inner =
     let stays = entry_start-item m first inner.begins in
     let first_referenced : is_referenced m first ≡ true = referenced-if m a first target (inr moved) in
     base-referenced m a (free m.info.names a none) (referenced-if m a a target (inl refl))
-    ∙ ap (λ (b : Base). Some b) (entry_start-of-inner m a first moved)
-    ∙ sym (base-is m first first_referenced ∙ ap (base_by (covering m.info.names first) true) (entry_start-own m first stays) ∙ either (covering m.info.names first) (default_base first))
+    ∙ ap (λ (b : Base). Some b) (entry_base-at m a first moved)
+    ∙ sym (base-is m first first_referenced ∙ ap (base_by (covering m.info.names first) true) (entry_base-at m first first stays) ∙ either (covering m.info.names first) (default_base first))
 
 name-default : (m : MapView) (a : ℕ) → IsUncovered m.info.names a → IsReferenced m a → ((first : ℕ) → IsInner m a first → ⊥) → base_at m a ≡ Some (default_base a)
 name-default m a none referenced other =
     let is = free m.info.names a none in
     base-referenced m a is (referenced-from m a referenced)
-    ∙ ap (λ (b : Base). Some b) (entry_start-own m a (entry_start-other m a other) ∙ ap (λ o. base_or o (default_base a)) is)
+    ∙ ap (λ (b : Base). Some b) (entry_base-at m a a (entry_start-other m a other) ∙ ap (λ o. base_or o (default_base a)) is)
 
 name-none : (m : MapView) (a : ℕ) → IsUncovered m.info.names a → (IsReferenced m a → ⊥) → base_at m a ≡ None
 name-none m a none unreferenced =

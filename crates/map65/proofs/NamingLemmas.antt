@@ -1,11 +1,11 @@
 -- Names that are marked in cells.
 use Rattle.std.proofs.Common.{◌≡◌, ◌≢◌, ◌∙◌, ℕ, zero, suc, ◌+◌, ◌-◌, ◌/◌, ◌%◌, ◌<◌, ◌≤◌, ◌&&◌, ◌||◌, ◌==◌, Bool, true, false, List, Option, Some, None, is_some, length, get_or, set, take, max, nat_le, nat_lt, refl, ap, sym, subst, arith, ⊎_elim, if◌then◌else◌}
 use Rattle.std.specs.List.{list_any}
-use Rattle.std.proofs.Math.Bool.{or-false, or_assoc}
-use Rattle.std.proofs.Math.ListN.{length-set}
+use Rattle.std.proofs.Math.Bool.{or-false}
 use Rattle.std.proofs.lemmas.Bool.{and_from, and_parts, both_ways, cases_Bool, cases_eq, cases_lt, cond-false, cond-true, cond_both, eq-eqb, eqb-true, false≢true, le-leb, leb-true, lt-ltb, ne_eqb, or_left, or_right}
 use Rattle.std.proofs.lemmas.Bool.Decides.{nat_tests}
 use Rattle.std.proofs.lemmas.List.{get_or_default, take_all}
+use Rattle.std.proofs.lemmas.List.FromFn.{get_or-range_with_len, length-range_with_len}
 use Rattle.std.proofs.lemmas.List.Folds.{Any-from_list_any, list_any_at, list_any_kept, list_any_more}
 use Rattle.std.specs.Cmp.{both_ways as equal}
 use Rattle.info65.specs.Names.{AreNames, blank_name, covering, covers, name_at}
@@ -13,15 +13,16 @@ use Rattle.info65.proofs.Public.{last_name, none_covers}
 use Rattle.info65.specs.Views.{NameView}
 use Rattle.info65.specs.declared.information.range.RangeType.{RangeType}
 use Rattle.info65.specs.declared.information.range.RangeType.TheVariants.{Skip}
-use Rattle.map65.proofs.CellLemmas.{named-as, cell-len, cell-role, cell-wide, set-cell, with_name-border, with_name-lay, with_name-rest}
+use Rattle.map65.proofs.CellLemmas.{named-as, cell-len, cell-role, cell-wide, with_name-again, with_name-bit, with_name-border, with_name-lay}
+use Rattle.map65.proofs.ChangeLemmas.{changes-as, changes-more, changes-none, changes-then}
 use Rattle.map65.proofs.NameLemmas.{named-is}
 use Rattle.map65.proofs.RunLemmas.{plain-code, role_at-inside}
 use Rattle.map65.proofs.ItemLaws.{begun, start-len}
-use Rattle.map65.proofs.ItemLemmas.{belongs, item_start-inside, size-positive}
+use Rattle.map65.proofs.ItemLemmas.{belongs, item_start-within, size-positive}
 use Rattle.map65.proofs.MarkingLemmas.{item-fits, item-small}
 use Rattle.map65.specs.Code.Cells.{AreCells, AreNamed, IsLaid, is_wide_cell, is_wide_role, len_in_cell, nowhere, role_in_cell, with_name}
 use Rattle.map65.specs.Cells.{AreCellsOf, bit, code_of}
-use Rattle.map65.specs.Code.Marking.{KeepsLay, Reaches, also, is_covered, is_covered_below, is_referenced_below, is_within}
+use Rattle.map65.specs.Code.Marking.{Changes, KeepsLay, Reaches, changed, is_covered, is_covered_below, is_referenced_below, is_within}
 use Rattle.map65.specs.ImageView.{end_of, is_inside}
 use Rattle.map65.specs.Items.{item_len, item_start}
 use Rattle.map65.specs.MapView.{MapView}
@@ -33,94 +34,34 @@ use Rattle.map65.specs.Targets.{target_at}
 
 -- ---- one bit
 
-pub keeps-start : (cells : List ℕ) → KeepsLay cells cells
-keeps-start cells = record { count = refl; each = λ a room. refl; borders = λ a room. refl }
+changed-lay : (t : Bool) (c : ℕ) → changed with_name t c % 128 ≡ c % 128
+changed-lay true c = with_name-lay c
+changed-lay false c = refl
 
-pub keeps-then : (old mid new : List ℕ) → KeepsLay old mid → KeepsLay mid new → KeepsLay old new
-keeps-then old mid new first second = record {
-  count = second.count ∙ first.count;
-  each = λ a room. second.each a room ∙ first.each a room;
-  borders = λ a room. second.borders a room ∙ first.borders a room;
+changed-border : (t : Bool) (c : ℕ) → changed with_name t c / 256 ≡ c / 256
+changed-border true c = with_name-border c
+changed-border false c = refl
+
+changed-bit : (p q : Bool) (c : ℕ) → c / 128 % 2 ≡ bit p → changed with_name q c / 128 % 2 ≡ bit (p || q)
+changed-bit p true c is = with_name-bit c ∙ ap bit (sym (or_right p true refl))
+changed-bit p false c is = is ∙ ap bit (sym (or-false p))
+
+pub names-keep : (p : ℕ → Bool) (old new : List ℕ) → Changes with_name p old new → KeepsLay old new
+names-keep p old new h = record {
+  count = h.count;
+  each = λ a room. ap (λ (x : ℕ). x % 128) (h.each a room) ∙ changed-lay (p a) (get_or old a 0);
+  borders = λ a room. ap (λ (x : ℕ). x / 256) (h.each a room) ∙ changed-border (p a) (get_or old a 0);
 }
 
-pub mark-keeps : (old cells : List ℕ) (n : ℕ) → length cells ≡ 65536 → n < 65536 → KeepsLay old cells → KeepsLay old (set cells n (with_name (get_or cells n 0)))
-mark-keeps old cells n count room keeps = record {
-  count = length-set cells n _ ∙ keeps.count;
-  each = set-cell (λ a x. x % 128 ≡ get_or old a 0 % 128) cells n (with_name (get_or cells n 0)) (omega (arith, count, room))
-      (with_name-lay (get_or cells n 0) ∙ keeps.each n room)
-      (λ a below other. keeps.each a below);
-  borders = set-cell (λ a x. x / 256 ≡ get_or old a 0 / 256) cells n (with_name (get_or cells n 0)) (omega (arith, count, room))
-      (with_name-border (get_or cells n 0) ∙ keeps.borders n room)
-      (λ a below other. keeps.borders a below);
-}
-
-bit-set : (b : Bool) (n : ℕ) → 1 ≡ bit (b || n == n)
-bit-set b n = ap bit (sym (or_right b (n == n) (eq-eqb n n refl)))
-
-bit-other : (b : Bool) (n a : ℕ) → a ≢ n → bit b ≡ bit (b || n == a)
-bit-other b n a other = ap bit (sym (or-false b) ∙ ap (λ (q : Bool). b || q) (sym (ne_eqb n a (λ same. other (sym same)))))
-
-pub mark-named : (p : ℕ → Bool) (cells : List ℕ) (n : ℕ) → length cells ≡ 65536 → n < 65536 → AreNamed p cells → AreNamed (λ a. p a || n == a) (set cells n (with_name (get_or cells n 0)))
-mark-named p cells n count room named = record {
-  each = set-cell (λ a x. x / 128 % 2 ≡ bit (p a || n == a)) cells n (with_name (get_or cells n 0)) (omega (arith, count, room))
-      (with_name-rest (get_or cells n 0) (p n) (named.each n room) ∙ bit-set (p n) n)
-      (λ a below other. named.each a below ∙ bit-other (p a) n a other);
-}
+pub names-added : (p q : ℕ → Bool) (old new : List ℕ) → Changes with_name q old new → AreNamed p old → AreNamed (λ a. p a || q a) new
+names-added p q old new h named = record { each = λ a room. ap (λ (x : ℕ). x / 128 % 2) (h.each a room) ∙ changed-bit (p a) (q a) (get_or old a 0) (named.each a room) }
 
 pub laid-keeps : (m : MapView) (old new : List ℕ) → KeepsLay old new → IsLaid m old → IsLaid m new
 laid-keeps m old new keeps laid = record {
-  count = keeps.count ∙ laid.count;
+  count = keeps.count;
   each = λ a room. keeps.each a room ∙ laid.each a room;
   borders = record { each = λ a room. keeps.borders a room ∙ laid.borders.each a room };
 }
-
--- ---- own addresses
-
-own-nothing : (names : List NameView) (a : ℕ) → nowhere a ≡ is_own (take 0 names) a
-unfolding is_own
-own-nothing names a = refl
-
-own-more : (names : List NameView) (i a : ℕ) → i < length names → is_own (take (i + 1) names) a ≡ (is_own (take i names) a || (name_at names i).address == a)
-unfolding is_own
-own-more names i a below = list_any_more (λ (n : NameView). n.address == a) names i blank_name below
-
-own-all : (names : List NameView) (n a : ℕ) → length names ≤ n → is_own (take n names) a ≡ is_own names a
-own-all names n a all = ap (λ (l : List NameView). is_own l a) (take_all n names all)
-
-pub own-start : (names : List NameView) (cells : List ℕ) → AreNamed nowhere cells → AreNamed (is_own (take 0 names)) cells
-own-start names cells named = named-as nowhere (is_own (take 0 names)) cells (λ a room. own-nothing names a) named
-
-pub own-next : (names : List NameView) (i n : ℕ) (cells : List ℕ) → i < length names → n ≡ (name_at names i).address → length cells ≡ 65536 → n < 65536 → AreNamed (is_own (take i names)) cells → AreNamed (is_own (take (i + 1) names)) (set cells n (with_name (get_or cells n 0)))
-own-next names i n cells below is count room named =
-    named-as (λ a. is_own (take i names) a || n == a) (is_own (take (i + 1) names)) _
-    (λ a low. ap (λ (k : ℕ). is_own (take i names) a || k == a) is ∙ sym (own-more names i a below))
-    (mark-named (is_own (take i names)) cells n count room named)
-
-pub own-end : (names : List NameView) (n : ℕ) (cells : List ℕ) → length names ≤ n → AreNamed (is_own (take n names)) cells → AreNamed (is_own names) cells
-own-end names n cells all named = named-as (is_own (take n names)) (is_own names) cells (λ a room. own-all names n a all) named
-
--- ---- a span
-
-within-none : (from a : ℕ) → is_within from from a ≡ false
-within-none from a = grind (arith, nat_tests)
-
-within-more : (from at a : ℕ) → from ≤ at → (is_within from at a || at == a) ≡ is_within from (at + 1) a
-within-more from at a low = grind (arith, nat_tests)
-
-within-end : (from to at a : ℕ) → to ≤ at → at ≤ max from to → is_within from at a ≡ is_within from to a
-within-end from to at a past low = grind (arith, nat_tests)
-
-pub span-start : (p : ℕ → Bool) (from : ℕ) (cells : List ℕ) → AreNamed p cells → AreNamed (also p (is_within from from)) cells
-span-start p from cells named = named-as p (also p (is_within from from)) cells (λ a room. sym (or-false (p a)) ∙ ap (λ (q : Bool). p a || q) (sym (within-none from a))) named
-
-pub span-next : (p : ℕ → Bool) (from at : ℕ) (cells : List ℕ) → from ≤ at → length cells ≡ 65536 → at < 65536 → AreNamed (also p (is_within from at)) cells → AreNamed (also p (is_within from (at + 1))) (set cells at (with_name (get_or cells at 0)))
-span-next p from at cells low count room named =
-    named-as (λ a. also p (is_within from at) a || at == a) (also p (is_within from (at + 1))) _
-    (λ a below. or_assoc (p a) (is_within from at a) (at == a) ∙ ap (λ (q : Bool). p a || q) (within-more from at a low))
-    (mark-named (also p (is_within from at)) cells at count room named)
-
-pub span-end : (p : ℕ → Bool) (from to at : ℕ) (cells : List ℕ) → to ≤ at → at ≤ max from to → AreNamed (also p (is_within from at)) cells → AreNamed (also p (is_within from to)) cells
-span-end p from to at cells past low named = named-as (also p (is_within from at)) (also p (is_within from to)) cells (λ a room. ap (λ (q : Bool). p a || q) (within-end from to at a past low)) named
 
 -- ---- names that cover addresses
 
@@ -177,15 +118,13 @@ module _ (names : List NameView) (are : AreNames names) (i reach : ℕ) (below :
       (λ none. ap (λ w. is_covered_below names i a || (w && nat_lt a ((name_at names i).address + (name_at names i).size))) (span-is a none) ∙ sym (covered-more a))
       (cases_Bool (is_covered_below names i a))
 
-  pub covered-next : (p : ℕ → Bool) (cells : List ℕ) → AreNamed (also (also p (is_covered_below names i)) (is_within (max (name_at names i).address reach) ((name_at names i).address + (name_at names i).size))) cells → AreNamed (also p (is_covered_below names (i + 1))) cells
-  covered-next p cells named =
-      named-as _ (also p (is_covered_below names (i + 1))) cells (λ a room. or_assoc (p a) (is_covered_below names i a) _ ∙ ap (λ (q : Bool). p a || q) (span-covers a)) named
+  pub covered-next : (old mid new : List ℕ) → Changes with_name (is_covered_below names i) old mid → Changes with_name (is_within (max (name_at names i).address reach) ((name_at names i).address + (name_at names i).size)) mid new → Changes with_name (is_covered_below names (i + 1)) old new
+  covered-next old mid new first second =
+      changes-as with_name _ (is_covered_below names (i + 1)) old new (λ a room. span-covers a)
+      (changes-then with_name with_name-again (is_covered_below names i) (is_within (max (name_at names i).address reach) ((name_at names i).address + (name_at names i).size)) old mid new first second)
 
 pub reaches-none : (names : List NameView) (reach : ℕ) → reach ≡ 0 → Reaches names 0 reach
 reaches-none names reach is a low high = absurd (omega arith)
-
-pub covered-start : (names : List NameView) (p : ℕ → Bool) (cells : List ℕ) → AreNamed p cells → AreNamed (also p (is_covered_below names 0)) cells
-covered-start names p cells named = named-as p (also p (is_covered_below names 0)) cells (λ a room. sym (or-false (p a))) named
 
 -- a name covers its own address
 own-covered : (names : List NameView) → AreNames names → (a : ℕ) → is_own names a ≡ true → is_covered names a ≡ true
@@ -199,14 +138,14 @@ own-covered names are a is =
     let covers_it : covers n a ≡ true = covers-is n a (omega (arith, here)) (omega (arith, here, ap (λ (v : NameView). v.size) same, sized)) in
     sym (covered-is names a) ∙ list_any_at (λ v. covers v a) names found.0 n found.2 (ap (λ (v : NameView). covers v a) same ∙ covers_it)
 
-pub covered-end : (names : List NameView) (n : ℕ) (cells : List ℕ) → AreNames names → length names ≤ n → AreNamed (also (is_own names) (is_covered_below names n)) cells → AreNamed (is_covered names) cells
-covered-end names n cells are all named =
-    named-as (also (is_own names) (is_covered_below names n)) (is_covered names) cells
+pub covered-end : (names : List NameView) (n : ℕ) (old new : List ℕ) → AreNames names → length names ≤ n → AreNamed (is_own names) old → Changes with_name (is_covered_below names n) old new → AreNamed (is_covered names) new
+covered-end names n old new are all named h =
+    named-as (λ a. is_own names a || is_covered_below names n a) (is_covered names) new
     (λ a room.
     ap (λ l. is_own names a || list_any (λ v. covers v a) l) (take_all n names all)
     ∙ ap (λ b. is_own names a || b) (covered-is names a)
     ∙ absorbed (is_own names a) (is_covered names a) (own-covered names are a))
-    named
+    (names-added (is_own names) (is_covered_below names n) old new h named)
   where
     absorbed : (p q : Bool) → (p ≡ true → q ≡ true) → (p || q) ≡ q
     absorbed true q given = sym (given refl)
@@ -226,19 +165,16 @@ laid-role m cells a laid room = cell-role (get_or cells a 0) (role_at m a) (item
 pub laid-len : (m : MapView) (cells : List ℕ) (a : ℕ) → IsLaid m cells → a < 65536 → len_in_cell (get_or cells a 0) ≡ item_len m a
 laid-len m cells a laid room = cell-len (get_or cells a 0) (role_at m a) (item_len m a) (laid-small m a) (laid.each a room)
 
-len-is : (c : ℕ) → len_in_cell c ≡ c / 16 % 8
-unfolding len_in_cell
-len-is c = refl
-
 -- the cells of a map describe its addresses
 pub described : (m : MapView) (cells : List ℕ) → AreCells m cells → AreCellsOf m cells
+unfolding len_in_cell
 described m cells are =
     record {
       count = are.laid.count;
       each = λ a room.
           record {
             role = laid-plain m cells a are.laid room;
-            len = sym (len-is (get_or cells a 0)) ∙ laid-len m cells a are.laid room;
+            len = laid-len m cells a are.laid room;
             named = are.named.each a room;
           };
     }
@@ -297,78 +233,44 @@ module _ (m : MapView) (cells : List ℕ) (a at : ℕ) (laid : IsLaid m cells) (
   pub entry_start-found : 0 < item_len m at → at ≡ entry_start m a
   entry_start-found some =
       let h = belongs m a in
-      let place : item_start m a + (at - item_start m a) ≡ at = omega (arith, low, start-is) in
-      sym (begun m at some).own ∙ sym (ap (item_start m) place) ∙ item_start-inside m (item_start m a) (at - item_start m a) h.own (omega (arith, h.high, high, low, start-is)) ∙ sym start-is
+      sym (begun m at some).own ∙ item_start-within m (item_start m a) at h.own (omega (arith, low, start-is)) (omega (arith, h.high, high)) ∙ sym start-is
 
--- ---- one target
+-- ---- targets
 
-pub refers-none : (m : MapView) (item : ℕ) (p : ℕ → Bool) (cells : List ℕ) → target_at m item ≡ None → AreNamed p cells → AreNamed (also p (λ a. refers m a item)) cells
+pub refers-none : (m : MapView) (item : ℕ) (cells : List ℕ) → length cells ≡ 65536 → target_at m item ≡ None → Changes with_name (λ a. refers m a item) cells cells
 unfolding refers
-refers-none m item p cells is named =
-    named-as p (also p (λ a. refers_by m (target_at m item) a)) cells (λ a room. sym (or-false (p a)) ∙ ap (λ o. p a || refers_by m o a) (sym is)) named
+refers-none m item cells count is = changes-as with_name nowhere (λ a. refers_by m (target_at m item) a) cells cells (λ a room. ap (λ o. refers_by m o a) (sym is)) (changes-none with_name cells count)
 
 -- a target and the first byte of its item are marked
-module _ (m : MapView) (item t h : ℕ) (cells one two : List ℕ) (laid : IsLaid m cells) (t_room : t < 65536) (h_room : h < 65536) (is : target_at m item ≡ Some t) (at : h ≡ entry_start m t) (then_one : one ≡ set cells t (with_name (get_or cells t 0))) (then_two : two ≡ set one h (with_name (get_or one h 0))) where
-  one-keeps : KeepsLay cells one
-  one-keeps = subst (KeepsLay cells) (sym then_one) (mark-keeps cells cells t laid.count t_room (keeps-start cells))
-
-  one-count : length one ≡ 65536
-  one-count = one-keeps.count ∙ laid.count
-
-  pub target-laid : IsLaid m two
-  target-laid = laid-keeps m cells two (subst (KeepsLay cells) (sym then_two) (mark-keeps cells one h one-count h_room one-keeps)) laid
-
-  marked-refers : (p : ℕ → Bool) (a : ℕ) → ((p a || t == a) || h == a) ≡ also p (λ b. refers m b item) a
-  unfolding refers
-  marked-refers p a = or_assoc (p a) (t == a) (h == a) ∙ ap (λ (k : ℕ). p a || (t == a || k == a)) at ∙ ap (λ o. p a || refers_by m o a) (sym is)
-
-  pub target-named : (p : ℕ → Bool) → AreNamed p cells → AreNamed (also p (λ b. refers m b item)) two
-  target-named p named =
-      let first : AreNamed (λ a. p a || t == a) one = subst (AreNamed (λ a. p a || t == a)) (sym then_one) (mark-named p cells t laid.count t_room named) in
-      let second : AreNamed (λ a. (p a || t == a) || h == a) two = subst (AreNamed (λ a. (p a || t == a) || h == a)) (sym then_two) (mark-named (λ a. p a || t == a) one h one-count h_room first) in
-      named-as (λ a. (p a || t == a) || h == a) (also p (λ b. refers m b item)) two (λ a room. marked-refers p a) second
-
--- ---- all targets
+pub refers-some : (m : MapView) (item t h : ℕ) (old mid new : List ℕ) → target_at m item ≡ Some t → h ≡ entry_start m t → Changes with_name (λ a. t == a) old mid → Changes with_name (λ a. h == a) mid new → Changes with_name (λ a. refers m a item) old new
+unfolding refers
+refers-some m item t h old mid new is at first second =
+    changes-as with_name (λ a. t == a || h == a) (λ a. refers_by m (target_at m item) a) old new (λ a room. ap (λ (k : ℕ). t == a || k == a) at ∙ ap (λ o. refers_by m o a) (sym is))
+    (changes-then with_name with_name-again (λ a. t == a) (λ a. h == a) old mid new first second)
 
 pub address-at : (n k a d : ℕ) → k < n → get_or (addresses n a) k d ≡ a + k
 unfolding addresses
-address-at zero k a d below = absurd (omega arith)
-address-at (suc n) zero a d below = omega arith
-address-at (suc n) (suc k) a d below = address-at n k (a + 1) d (omega arith) ∙ omega arith
+address-at n k a d below = get_or-range_with_len a n k d below
 
 pub address-count : (n a : ℕ) → length (addresses n a) ≡ n
 unfolding addresses
-address-count zero a = refl
-address-count (suc n) a = ap suc (address-count n (a + 1))
+address-count n a = length-range_with_len a n
 
-referenced-next : (m : MapView) (n a : ℕ) → n < length m.image.bytes → is_referenced_below m (n + 1) a ≡ (is_referenced_below m n a || refers m a (m.image.start + n))
-unfolding is_referenced_below
-referenced-next m n a low =
+-- the target of one item more
+pub referenced-next : (m : MapView) (k item : ℕ) (old mid new : List ℕ) → k < length m.image.bytes → item ≡ m.image.start + k → Changes with_name (is_referenced_below m k) old mid → Changes with_name (λ a. refers m a item) mid new → Changes with_name (is_referenced_below m (k + 1)) old new
+referenced-next m k item old mid new low is first second =
     let all : List ℕ = addresses (length m.image.bytes) m.image.start in
-    list_any_more (refers m a) all n 0 (omega (arith, low, address-count (length m.image.bytes) m.image.start)) ∙ ap (λ x. list_any (refers m a) (take n all) || refers m a x) (address-at (length m.image.bytes) n m.image.start 0 low)
+    let here : item ≡ get_or all k 0 = is ∙ sym (address-at (length m.image.bytes) k m.image.start 0 low) in
+    changes-more with_name with_name-again (λ (x a : ℕ). refers m a x) all k 0 old mid new (omega (arith, low, address-count (length m.image.bytes) m.image.start)) first
+    (subst (λ (x : ℕ). Changes with_name (λ a. refers m a x) mid new) here second)
 
-referenced-none : (m : MapView) (a : ℕ) → is_referenced_below m 0 a ≡ false
-unfolding is_referenced_below
-referenced-none m a = refl
-
-referenced-all : (m : MapView) (n a : ℕ) → length m.image.bytes ≤ n → (is_covered m.info.names a || is_referenced_below m n a) ≡ has_name m a
-unfolding is_referenced_below is_referenced
-referenced-all m n a all =
-    ap (λ l. is_covered m.info.names a || list_any (refers m a) l) (take_all n (addresses (length m.image.bytes) m.image.start) (omega (arith, all, address-count (length m.image.bytes) m.image.start))) ∙ sym (named-is m a)
-
-pub targets-start : (m : MapView) (cells : List ℕ) → AreNamed (is_covered m.info.names) cells → AreNamed (also (is_covered m.info.names) (is_referenced_below m 0)) cells
-targets-start m cells named = named-as (is_covered m.info.names) (also (is_covered m.info.names) (is_referenced_below m 0)) cells (λ a room. sym (or-false (is_covered m.info.names a)) ∙ ap (λ (q : Bool). is_covered m.info.names a || q) (sym (referenced-none m a))) named
-
-pub targets-next : (m : MapView) (n item : ℕ) (cells : List ℕ) → n < length m.image.bytes → item ≡ m.image.start + n → AreNamed (also (also (is_covered m.info.names) (is_referenced_below m n)) (λ a. refers m a item)) cells → AreNamed (also (is_covered m.info.names) (is_referenced_below m (n + 1))) cells
-targets-next m n item cells low is named =
-    named-as _ (also (is_covered m.info.names) (is_referenced_below m (n + 1))) cells
-    (λ a room.
-    or_assoc (is_covered m.info.names a) (is_referenced_below m n a) (refers m a item)
-    ∙ ap (λ (q : Bool). is_covered m.info.names a || q) (ap (λ (k : ℕ). is_referenced_below m n a || refers m a k) is ∙ sym (referenced-next m n a low)))
-    named
-
-pub targets-end : (m : MapView) (n : ℕ) (cells : List ℕ) → length m.image.bytes ≤ n → AreNamed (also (is_covered m.info.names) (is_referenced_below m n)) cells → AreNamed (has_name m) cells
-targets-end m n cells is named = named-as (also (is_covered m.info.names) (is_referenced_below m n)) (has_name m) cells (λ a room. referenced-all m n a is) named
+-- an address has a name if a given name covers it or an item refers to it
+pub referenced-end : (m : MapView) (n : ℕ) (old new : List ℕ) → length m.image.bytes ≤ n → AreNamed (is_covered m.info.names) old → Changes with_name (is_referenced_below m n) old new → AreNamed (has_name m) new
+unfolding is_referenced
+referenced-end m n old new all named h =
+    named-as (λ a. is_covered m.info.names a || is_referenced_below m n a) (has_name m) new
+    (λ a room. ap (λ l. is_covered m.info.names a || list_any (refers m a) l) (take_all n (addresses (length m.image.bytes) m.image.start) (omega (arith, all, address-count (length m.image.bytes) m.image.start))) ∙ sym (named-is m a))
+    (names-added (is_covered m.info.names) (is_referenced_below m n) old new h named)
 
 -- ---- the item that a cell holds
 

@@ -16,31 +16,21 @@ use Rattle.map65.specs.Segments.{borders, is_border}
 
 -- ---- roles
 
-pub role_in-first : (r : RangeSpec) (rs : List RangeSpec) (a : ℕ) → has_address r a ≡ true → role_in (r ∷ rs) a ≡ r.role
-unfolding role_in
-role_in-first r rs a has = cond-true (has_address r a) r.role (role_in rs a) has
-
-pub role_in-rest : (r : RangeSpec) (rs : List RangeSpec) (a : ℕ) → has_address r a ≡ false → role_in (r ∷ rs) a ≡ role_in rs a
-unfolding role_in
-role_in-rest r rs a has = cond-false (has_address r a) r.role (role_in rs a) has
-
-role_in-none : (a : ℕ) → role_in [] a ≡ Code
-unfolding role_in
-role_in-none a = refl
-
 role-within : (ranges : List RangeSpec) → AllPairs AreApart ranges → All (λ r. (a : ℕ) → has_address r a ≡ true → role_in ranges a ≡ r.role) ranges
+unfolding role_in
 role-within [] apart k d below = absurd (omega arith)
-role-within (r ∷ rs) apart zero d below = λ a has. role_in-first r rs a has
+role-within (r ∷ rs) apart zero d below = λ a has. cond-true (has_address r a) r.role (role_in rs a) has
 role-within (r ∷ rs) apart (suc k) d below = λ a has.
     let rest : role_in rs a ≡ _ = role-within rs (λ i j e low high. apart (suc i) (suc j) e (omega arith) (omega arith)) k d (omega arith) a has in
     ⊎_elim
     (λ both. absurd (apart 0 (suc k) d (omega arith) below a both has))
-    (λ one. role_in-rest r rs a one ∙ rest)
+    (λ one. cond-false (has_address r a) r.role (role_in rs a) one ∙ rest)
     (cases_Bool (has_address r a))
 
 role-outside : (ranges : List RangeSpec) (a : ℕ) → All (λ r. has_address r a ≡ false) ranges → role_in ranges a ≡ Code
-role-outside [] a none = role_in-none a
-role-outside (r ∷ rs) a none = role_in-rest r rs a (none 0 r (omega arith)) ∙ role-outside rs a (λ k d below. none (suc k) d (omega arith))
+unfolding role_in
+role-outside [] a none = refl
+role-outside (r ∷ rs) a none = cond-false (has_address r a) r.role (role_in rs a) (none 0 r (omega arith)) ∙ role-outside rs a (λ k d below. none (suc k) d (omega arith))
 
 pub role_law : (ranges : List RangeSpec) → RoleLaw ranges
 role_law ranges disjoint = record { within = role-within ranges disjoint.each; outside = role-outside ranges }

@@ -17,10 +17,6 @@ use Rattle.map65.specs.declared.image.ImageFault.TheVariants.{Empty, TooLarge, S
 
 -- ---- reads, one after the other
 
--- two pieces are one
-pub took_more : (old mid new : Option (List ℕ)) (a b : List ℕ) → Consumes old mid a → Consumes mid new b → Consumes old new (a ++ b)
-took_more = Consumes-trans
-
 -- at the end, all was taken
 pub took_all : (old new : Option (List ℕ)) (bytes : List ℕ) (limit : ℕ) → Consumes old new bytes → IsAtEnd new → length bytes ≤ limit → IfSome old (λ xs. bytes ≡ take limit xs)
 took_all None new bytes limit f e h = tt
@@ -52,12 +48,14 @@ rest_limit None new bytes limit f h = tt
 rest_limit (Some xs) None bytes limit f h = absurd f
 rest_limit (Some xs) (Some ys) bytes limit f h = ap Some (sym (ap (drop limit) f ∙ drop_at bytes ys limit h))
 
+pub ruleset takes = (Consumes-trans, took_all, took_limit, rest_end, rest_limit)
+
 -- what was taken at first, and then in a read, is within the limit
 pub took_up_to : (old mid new : Option (List ℕ)) (a b : List ℕ) (limit : ℕ) → Consumes old mid a → Consumes mid new b → length a + length b ≤ limit → TakesUpTo limit old new
 took_up_to old mid new a b limit f g h = record {
   bytes = a ++ b;
   bound = omega (arith, length-append a b);
-  taken = took_more old mid new a b f g;
+  taken = Consumes-trans old mid new a b f g;
 }
 
 -- ---- bytes that are passed over
@@ -66,7 +64,7 @@ pub takes_more : (old mid new : Option (List ℕ)) (b : List ℕ) (n m : ℕ) �
 takes_more old mid new b n m t g is = record {
   bytes = t.bytes ++ b;
   count_is = omega (arith, length-append t.bytes b, t.count_is, is);
-  taken = took_more old mid new t.bytes b t.taken g;
+  taken = Consumes-trans old mid new t.bytes b t.taken g;
 }
 
 -- ---- which image some bytes give
@@ -98,31 +96,20 @@ pub of_bytes : (start size : Option ℕ) (xs : List ℕ) (n : ℕ) → ReadCount
 of_bytes start size xs n = image_cases (λ r. ReadCount r n n) start size xs refl refl refl (λ v. refl)
 
 -- reading went as far as it had to
-stops_there : (start size : Option ℕ) (xs : List ℕ) (limit : ℕ) (old new : Option (List ℕ)) (failed : Bool) → IsReadTo limit old new → StopsAt (image_by start size xs) limit old new failed
-stops_there start size xs limit old new failed is = image_cases (λ r. StopsAt r limit old new failed) start size xs is is is (λ v. is)
-
 pub stops_here : (s : SettingsView) (offset most : ℕ) (start size : Option ℕ) (xs : List ℕ) (old new : Option (List ℕ)) (failed : Bool) (answer : Result ImageView ImageFault) → answer ≡ image_by start size xs → offset ≡ s.offset → most ≡ most_of s.size → IsReadTo (offset + most) old new → StopsAt answer (read_limit s) old new failed
 stops_here s offset most start size xs old new failed answer is at many p =
-    rw is (stops_there start size xs (read_limit s) old new failed (subst (λ n. IsReadTo n old new) (ap₂ (λ a b. a + b) at many) p))
-
--- an answer is its own
-gives_same : (start size : Option ℕ) (xs : List ℕ) → GivesImage (image_by start size xs) (image_by start size xs)
-gives_same start size xs = image_cases (λ r. GivesImage r r) start size xs refl refl refl (λ v. refl)
-
-image_calm : (s : SettingsView) (xs : List ℕ) (b : Bool) → b ≡ false → image_of s xs b ≡ image_by s.start s.size (asked_of s xs)
-unfolding image_of
-image_calm s xs b is = rw is refl
+    let to : IsReadTo (read_limit s) old new = subst (λ n. IsReadTo n old new) (ap₂ (λ a b. a + b) at many) p in
+    rw is (image_cases (λ r. StopsAt r (read_limit s) old new failed) start size xs to to to (λ v. to))
 
 -- the answer to the bytes that were taken is that to all of them
 pub image_seen : (left : Option (List ℕ)) (old new : ℕ) (s : SettingsView) (offset most : ℕ) (bytes : List ℕ) (answer : Result ImageView ImageFault) → new ≡ old → answer ≡ image_by s.start s.size bytes → offset ≡ s.offset → most ≡ most_of s.size → IfSome left (λ xs. bytes ≡ take most (drop offset xs)) → IfSome left (λ xs. GivesImage answer (image_of s xs (nat_lt old new)))
+unfolding image_of
 image_seen None old new s offset most bytes answer same is at many all = tt
 image_seen (Some xs) old new s offset most bytes answer same is at many all =
     let calm : nat_lt old new ≡ false = le-ltb old new (omega arith) in
     let there : bytes ≡ take (most_of s.size) (drop s.offset xs) = all ∙ ap (λ n. take n (drop offset xs)) many ∙ ap (λ n. take (most_of s.size) (drop n xs)) at in
-    let whole : image_of s xs (nat_lt old new) ≡ image_by s.start s.size bytes =
-    image_calm s xs (nat_lt old new) calm ∙ sym (image_by-take s.start s.size (drop s.offset xs)) ∙ ap (image_by s.start s.size) (sym there)
-    in
-    rw (whole, is) (gives_same s.start s.size bytes)
+    let whole : image_by s.start s.size (asked_of s xs) ≡ image_by s.start s.size bytes = sym (image_by-take s.start s.size (drop s.offset xs)) ∙ ap (image_by s.start s.size) (sym there) in
+    rw (calm, whole, is) (image_cases (λ r. GivesImage r r) s.start s.size bytes refl refl refl (λ v. refl))
 
 -- ---- what is taken after bytes that were passed over
 

@@ -86,10 +86,6 @@ has-role m a r =
 same-code : (r q : Option RangeType) → code_of r ≡ code_of q → r ≡ q
 same-code r q is = sym (coded-code r) ∙ ap coded is ∙ coded-code q
 
-no-code : code_of None ≡ 0
-unfolding code_of
-no-code = refl
-
 some-code : (r : RangeType) → 0 < code_of (Some r)
 unfolding code_of
 some-code Code = omega arith
@@ -100,42 +96,35 @@ pub plain-code : (c : ℕ) (r : Option RangeType) (n : ℕ) → n < 8 → c % 12
 unfolding cell_of
 plain-code c r n small is = omega (arith, is, code-small r)
 
-same-role : (c d : ℕ) → is_same_role c d ≡ true → c % 16 ≡ d % 16
-unfolding is_same_role
-same-role c d is = eqb-true (c % 16) (d % 16) is
-
-role-same : (c d : ℕ) → c % 16 ≡ d % 16 → is_same_role c d ≡ true
-unfolding is_same_role
-role-same c d is = eq-eqb (c % 16) (d % 16) is
-
 -- ---- the cells of an address and of the one before it
 
 module _ (m : MapView) (a c d : ℕ) (some : 0 < a) (before : c % 16 ≡ code_of (role_at m (a - 1))) (here : d % 16 ≡ code_of (role_at m a)) (border : d / 256 ≡ bit (is_border m.info.segments a)) where
   alike-by : (o : Option RangeType) → role_at m a ≡ o → role_at m (a - 1) ≡ o → code_of o ≢ 0 → is_border m.info.segments a ≡ false → is_in_run m a ≡ true
-  alike-by None is is_before some_code unbroken = absurd (some_code no-code)
+  unfolding code_of
+  alike-by None is is_before some_code unbroken = absurd (some_code refl)
   alike-by (Some r) is is_before some_code unbroken =
       let at = has-role m a r is in
       let past = has-role m (a - 1) r is_before in
       run-if m a (record { low = omega (arith, some, past.low); high = at.high; same = past.is ∙ sym at.is; unbroken = unbroken })
 
   run-alike : are_one_run c d ≡ true → is_in_run m a ≡ true
-  unfolding are_one_run
+  unfolding are_one_run is_same_role
   run-alike is =
       let outer = and_parts (is_same_role c d) (not (d % 16 == 0) && not (has_border d)) is in
       let inner = and_parts (not (d % 16 == 0)) (not (has_border d)) outer.1 in
-      let same : role_at m (a - 1) ≡ role_at m a = same-code _ _ (sym before ∙ same-role c d outer.0 ∙ here) in
+      let same : role_at m (a - 1) ≡ role_at m a = same-code _ _ (sym before ∙ eqb-true (c % 16) (d % 16) outer.0 ∙ here) in
       let some_code : code_of (role_at m a) ≢ 0 = λ none. false≢true (sym (not-true (d % 16 == 0) inner.0) ∙ eq-eqb (d % 16) 0 (here ∙ none)) in
       alike-by (role_at m a) refl same some_code (sym (has_border-is d (is_border m.info.segments a) border) ∙ not-true (has_border d) inner.1)
 
   alike-run : is_in_run m a ≡ true → are_one_run c d ≡ true
-  unfolding are_one_run
+  unfolding are_one_run is_same_role
   alike-run run =
       let at = in-run m a run in
       let first : role_at m (a - 1) ≡ Some (role_of m.info (a - 1)) = role_at-inside m (a - 1) (omega (arith, at.low)) (omega (arith, at.high)) in
       let second : role_at m a ≡ Some (role_of m.info a) = role_at-inside m a (omega (arith, at.low)) at.high in
       let same : c % 16 ≡ d % 16 = before ∙ ap code_of (first ∙ ap Some at.same ∙ sym second) ∙ sym here in
       let code : d % 16 ≡ code_of (Some (role_of m.info a)) = here ∙ ap code_of second in
-      and_from _ _ (role-same c d same)
+      and_from _ _ (eq-eqb (c % 16) (d % 16) same)
       (and_from _ _ (ap not (ne_eqb (d % 16) 0 (λ none. omega (arith, code, none, some-code (role_of m.info a)))))
       (ap not (has_border-is d (is_border m.info.segments a) border ∙ at.unbroken)))
 

@@ -1,8 +1,9 @@
 //! Marks the segment borders in the cells of a map.
 
-ghost use Rattle.std.specs.Prelude.{◌≡◌, ◌+◌, ◌==◌, ◌||◌, ◌<◌, ◌≤◌, ℕ, length, slice_index};
+ghost use Rattle.std.specs.Prelude.{◌≡◌, ◌+◌, ◌==◌, ◌||◌, length};
 ghost use Rattle.info65.specs.Segments.{AreSegments};
-ghost use Rattle.map65.specs.Code.Marking.{bordered};
+ghost use Rattle.map65.specs.Code.Cells.{with_border};
+ghost use Rattle.map65.specs.Code.Marking.{Changes};
 ghost use Rattle.map65.specs.Segments.{is_border};
 
 use crate::cells::with_border;
@@ -11,9 +12,8 @@ use std::alloc::Allocator;
 
 /// Marks a border before an address. Nothing is marked for $10000, which is no address.
 fn mark_border(cells: &mut [u16], at: usize)
-    requires count { length cells.old ≡ 65536 }
-    ensures count { length cells.new ≡ 65536 }
-    ensures each { (a : ℕ) → a < 65536 → slice_index cells.new a ≡ bordered (at == a) (slice_index cells.old a) }
+    requires { length cells.old ≡ 65536 }
+    ensures { Changes with_border (λ a. at == a) cells.old cells.new }
 {
     if at < cells.len() {
         cells[at] = with_border(cells[at]);
@@ -22,9 +22,8 @@ fn mark_border(cells: &mut [u16], at: usize)
 
 /// Marks the borders of a segment: before its first address, and after its last.
 fn mark_segment(cells: &mut [u16], first: u16, last: u16)
-    requires count { length cells.old ≡ 65536 }
-    ensures count { length cells.new ≡ 65536 }
-    ensures each { (a : ℕ) → a < 65536 → slice_index cells.new a ≡ bordered (first == a || last + 1 == a) (slice_index cells.old a) }
+    requires { length cells.old ≡ 65536 }
+    ensures { Changes with_border (λ a. first == a || last + 1 == a) cells.old cells.new }
 {
     mark_border(cells, usize::from(first));
     mark_border(cells, usize::from(last) + 1);
@@ -32,9 +31,8 @@ fn mark_segment(cells: &mut [u16], first: u16, last: u16)
 
 /// Marks the borders of all segments.
 pub fn mark_borders<A: Allocator>(cells: &mut [u16], info: &Info<A>)
-    requires count { length cells.old ≡ 65536 }
-    ensures count { length cells.new ≡ 65536 }
-    ensures each { (a : ℕ) → a < 65536 → slice_index cells.new a ≡ bordered (is_border info.now.segments a) (slice_index cells.old a) }
+    requires { length cells.old ≡ 65536 }
+    ensures marked { Changes with_border (is_border info.now.segments) cells.old cells.new }
     ensures sound { AreSegments info.now.segments }
 {
     let segments = info.segments();

@@ -1,12 +1,13 @@
 //! Writes roles, and then the lengths of items, into the cells of a map.
 
-ghost use Rattle.std.specs.Prelude.{◌≡◌, ◌+◌, ◌-◌, ◌<◌, ◌≤◌, ℕ, [], length, slice_index};
+ghost use Rattle.std.specs.Prelude.{◌≡◌, ◌+◌, ◌-◌, ◌<◌, ◌≤◌, ◌&&◌, ℕ, [], length, slice_index};
 ghost use Rattle.isa65.specs.Cpu.{table_of};
 ghost use Rattle.isa65.specs.Opcodes.{decoded};
+ghost use Rattle.info65.specs.Ranges.{has_address};
 ghost use Rattle.info65.specs.Segments.{AreSegments};
 ghost use Rattle.map65.specs.Code.Cells.{AreNamed, IsLaid, is_cut, nowhere};
-ghost use Rattle.map65.specs.Code.Marking.{AreMarkedBelow, ArePainted, is_joined_in, painted, painted_by};
-ghost use Rattle.map65.specs.ImageView.{IsPlaced, end_of};
+ghost use Rattle.map65.specs.Code.Marking.{AreMarkedBelow, ArePainted, Changes, is_joined_in, is_within, painted};
+ghost use Rattle.map65.specs.ImageView.{IsPlaced, end_of, is_inside};
 ghost use Rattle.map65.specs.Items.{code_size, item_start, size_at, full_len_at};
 ghost use Rattle.map65.specs.Pieces.{is_own};
 ghost use Rattle.map65.specs.Roles.{role_of};
@@ -24,10 +25,8 @@ use std::alloc::Allocator;
 /// Writes the role into the cells from `from` to before `to`.
 fn paint(cells: &mut [u16], from: usize, to: usize, role: RangeType)
     requires count { length cells.old ≡ 65536 }
-    requires order { from ≤ to }
     requires room { to ≤ 65536 }
-    ensures count { length cells.new ≡ 65536 }
-    ensures each { (a : ℕ) → a < 65536 → slice_index cells.new a ≡ painted from to role (slice_index cells.old a) a }
+    ensures { Changes (painted role) (is_within from to) cells.old cells.new }
 {
     let cell = cell_of(Some(role), 0);
     for at in from..to {
@@ -37,9 +36,8 @@ fn paint(cells: &mut [u16], from: usize, to: usize, role: RangeType)
 
 /// Writes the role of the range into the cells of those addresses of the image that belong to it.
 fn paint_range<A: Allocator>(cells: &mut [u16], image: &Image<A>, range: RangeSpec)
-    requires count { length cells.old ≡ 65536 }
-    ensures count { length cells.new ≡ 65536 }
-    ensures each { (a : ℕ) → a < 65536 → slice_index cells.new a ≡ painted_by image.now range (slice_index cells.old a) a }
+    requires { length cells.old ≡ 65536 }
+    ensures { Changes (painted range.role) (λ a. is_inside image.now a && has_address range a) cells.old cells.new }
 {
     let start = usize::from(image.start());
     let end = start + image.bytes().len();

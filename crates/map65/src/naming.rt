@@ -1,10 +1,10 @@
 //! Marks the addresses that have a name in the cells of a map.
 
-ghost use Rattle.std.specs.Prelude.{◌≡◌, ◌+◌, ◌<◌, ◌≤◌, ℕ, Bool, length, max, set, slice_index};
+ghost use Rattle.std.specs.Prelude.{◌≡◌, ◌==◌, ◌+◌, ◌<◌, ◌≤◌, length, max};
 ghost use Rattle.info65.specs.Code.Names.{given_seen};
 ghost use Rattle.info65.specs.Names.{AreNames, name_at};
 ghost use Rattle.map65.specs.Code.Cells.{AreCells, AreNamed, IsLaid, nowhere, with_name};
-ghost use Rattle.map65.specs.Code.Marking.{KeepsLay, Reaches, also, is_covered, is_covered_below, is_within};
+ghost use Rattle.map65.specs.Code.Marking.{Changes, KeepsLay, is_covered, is_within};
 ghost use Rattle.map65.specs.ImageView.{IsPlaced, end_of};
 ghost use Rattle.map65.specs.MapView.{MapView};
 ghost use Rattle.map65.specs.Names.{entry_start, refers};
@@ -20,7 +20,7 @@ use std::alloc::Allocator;
 /// Sets the bit for a name in the address's cell.
 fn mark(cells: &mut [u16], address: u16)
     requires { length cells.old ≡ 65536 }
-    ensures { cells.new ≡ set cells.old address (with_name (slice_index cells.old address)) }
+    ensures { Changes with_name (λ a. address == a) cells.old cells.new }
 {
     let at = usize::from(address);
     cells[at] = with_name(cells[at]);
@@ -45,8 +45,7 @@ pub fn mark_own<A: Allocator>(cells: &mut [u16], info: &Info<A>)
 fn mark_span(cells: &mut [u16], from: usize, to: usize)
     requires count { length cells.old ≡ 65536 }
     requires room { to ≤ 65536 }
-    ensures keeps { KeepsLay cells.old cells.new }
-    ensures named { (p : ℕ → Bool) → AreNamed p cells.old → AreNamed (also p (is_within from to)) cells.new }
+    ensures { Changes with_name (is_within from to) cells.old cells.new }
 {
     for at in from..to {
         cells[at] = with_name(cells[at]);
@@ -58,9 +57,7 @@ fn mark_span(cells: &mut [u16], from: usize, to: usize)
 fn mark_name(cells: &mut [u16], name: Given<'_>, reach: usize) -> usize
     requires count { length cells.old ≡ 65536 }
     requires room { name.address + name.size ≤ 65536 }
-    ensures keeps { KeepsLay cells.old cells.new }
-    ensures named { (p : ℕ → Bool) → AreNamed p cells.old
-        → AreNamed (also p (is_within (max name.entry.address reach) (name.entry.address + name.entry.size))) cells.new }
+    ensures marked { Changes with_name (is_within (max name.entry.address reach) (name.entry.address + name.entry.size)) cells.old cells.new }
     ensures reach { result ≡ max reach (name.entry.address + name.entry.size) }
 {
     let first = usize::from(name.address);
@@ -117,9 +114,7 @@ fn mark_target<A: Allocator>(
     requires low { image.now.start ≤ address }
     requires high { address < end_of image.now }
     requires laid { IsLaid (record { info = info.now; image = image.now }) cells.old }
-    ensures laid { IsLaid (record { info = info.now; image = image.now }) cells.new }
-    ensures named { (p : ℕ → Bool) → AreNamed p cells.old
-        → AreNamed (also p (λ a. refers (record { info = info.now; image = image.now }) a address)) cells.new }
+    ensures { Changes with_name (λ a. refers (record { info = info.now; image = image.now }) a address) cells.old cells.new }
 {
     let cell = cells[usize::from(address)];
     let len = len_in(cell);

@@ -3,6 +3,7 @@ use Rattle.std.proofs.Common.{◌≡◌, ◌∙◌, ℕ, zero, suc, ◌+◌, ◌
 use Rattle.std.proofs.lemmas.Bool.{and_from, and_parts, and_right, cases_Bool, cases_eq, cases_lt, cond-false, cond_both, le-leb, leb-true, lt-ltb, ltb-true, not-false, not_from_true, or_parts, or_right}
 use Rattle.std.proofs.lemmas.List.Folds.{Any-from_list_any, list_any_at}
 use Rattle.isa65.specs.Mode.{len_of}
+use Rattle.isa65.proofs.ModeLaws.{len-positive}
 use Rattle.isa65.specs.Opcodes.{decoded}
 use Rattle.isa65.specs.Cpu.{table_of}
 use Rattle.isa65.specs.declared.op.Op.{Op}
@@ -11,7 +12,7 @@ use Rattle.info65.specs.Views.{InfoView}
 use Rattle.info65.specs.declared.information.range.RangeSpec.{RangeSpec}
 use Rattle.info65.specs.declared.information.range.RangeType.{RangeType}
 use Rattle.info65.specs.declared.information.range.RangeType.TheVariants as role
-use Rattle.map65.proofs.Public.{address-at, address-count, has-role, in-run, inside-if, item_law, joined-if, joined-in, joined-run, len-positive, one-run-role, run-if, within}
+use Rattle.map65.proofs.Public.{address-at, address-count, has-role, in-run, inside-if, item_law, joined-if, joined-in, joined-run, one-run-role, run-if, within}
 use Rattle.map65.specs.ImageView.{IsPlaced, byte_at, end_of, is_inside}
 use Rattle.map65.specs.Items.{CanBegin, EndsBefore, full_len_at, item_len}
 use Rattle.map65.specs.MapView.{MapView, opcodes}

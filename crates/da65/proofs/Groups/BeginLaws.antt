@@ -9,7 +9,7 @@ use Rattle.map65.specs.Pieces.{AreOnePiece}
 use Rattle.map65.specs.Roles.{is_skip, role_of, unit_of}
 use Rattle.map65.specs.Spans.{left_at}
 use Rattle.map65.proofs.Public.{begun as item-begun, one-role}
-use Rattle.da65.specs.Groups.{BeginsFullLine, BeginsLine, GroupLaw, IsGroupPlace, begins, group_len, is_whole, limit_at, limit_of, stride_at}
+use Rattle.da65.specs.Groups.{BeginsFullLine, BeginsItem, BeginsLine, GroupLaw, IsGroupPlace, begins, group_len, is_whole, limit_at, limit_of, stride_at}
 use Rattle.da65.proofs.Groups.DefinedLemmas.{IsTable, group-unnamed}
 use Rattle.da65.proofs.Groups.GroupLemmas.{begins-true, group-begun, holder, item-begins, item-goes-on, place-of, stride-group, stride-skip}
 use Rattle.da65.proofs.Groups.InsideLemmas.{Further, group-piece, item-inside}
@@ -56,7 +56,7 @@ record IsPast (m : MapView) (p k : ℕ) : Type 0 where
   high : k < p + group_len m (m.image.start + p)
   inside : k < length m.image.bytes
   shown : is_skip (role_of m.info (m.image.start + p)) ≡ false
-  item : left_at (size_at m) m.image.start k ≡ 0
+  item : BeginsItem m k
 
 piece-inside : (m : MapView) (p k : ℕ) → IsPast m p k → AreOnePiece m (m.image.start + p) (m.image.start + k)
 piece-inside m p k h x low high = group-piece m p h.here (omega (arith, h.low, h.inside)) h.shown x low (omega (arith, high, h.high))
@@ -106,7 +106,7 @@ no-line m p k h line = go (role_of m.info (m.image.start + k)) refl line
     go role.Skip e line = true≢false (sym (ap is_skip (role-inside m p k h ∙ e)) ∙ h.shown)
     go r e line = no-table m p k h r e (record { sizes = λ b. refl; listed = refl; other = refl }) line
 
-begins-at : (m : MapView) (k : ℕ) → k < length m.image.bytes → is_skip (role_of m.info (m.image.start + k)) ≡ false → left_at (size_at m) m.image.start k ≡ 0
+begins-at : (m : MapView) (k : ℕ) → k < length m.image.bytes → is_skip (role_of m.info (m.image.start + k)) ≡ false → BeginsItem m k
     → BeginsLine m (m.image.start + k) (role_of m.info (m.image.start + k)) → begins m (m.image.start + k) ≡ true
 begins-at m k low shown none line =
     let held = holder m k low in
@@ -128,7 +128,7 @@ begins-if m a some line =
     let low : k < length m.image.bytes = omega (arith, known.low, known.high) in
     let shown : is_skip (role_of m.info (m.image.start + k)) ≡ false = ap (λ (a : ℕ). is_skip (role_of m.info a)) place ∙ known.shown in
     let line' : BeginsLine m (m.image.start + k) (role_of m.info (m.image.start + k)) = subst (λ (a : ℕ). BeginsLine m a (role_of m.info a)) (sym place) line in
-    sym (ap (begins m) place) ∙ begins-at m k low shown known.none line'
+    sym (ap (begins m) place) ∙ begins-at m k low shown (rw place known.own) line'
 
 pub group_law : (m : MapView) → GroupLaw m
 group_law m a = (begins-then m a, λ both. begins-if m a both.0 both.1)

@@ -71,7 +71,7 @@ group-unnamed m r p x here inside shown role-is table low high = go (is_defined 
     not-item : 0 < item_len m x → is_defined m x ≡ true → ⊥
     not-item some named =
         let begun = item-begun m x some in
-        let further : Further m _ _ i r = item-inside m p i r here inside shown role-is (omega (arith, low, place)) (omega (arith, high, place)) begun.none in
+        let further : Further m _ _ i r = item-inside m p i r here inside shown role-is (omega (arith, low, place)) (omega (arith, high, place)) (rw place begun.own) in
         true≢false (sym named ∙ sym (ap (is_defined m) place) ∙ (item-goes-on m (m.image.start + i) further.goes).unnamed)
 
     not-code : IsInCode m x → ⊥

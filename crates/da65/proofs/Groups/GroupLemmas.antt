@@ -8,8 +8,8 @@ use Rattle.map65.specs.MapView.{MapView}
 use Rattle.map65.specs.Pieces.{is_joined}
 use Rattle.map65.specs.Roles.{is_skip, role_of, unit_of}
 use Rattle.map65.specs.Spans.{addresses, left_at}
-use Rattle.map65.proofs.Public.{begun as item-begun, item-len-at, left-begun, left-first, left-going, left-inside, left-past, size-fits, size-positive, skip-size, inside-index}
-use Rattle.da65.specs.Groups.{IsGroupPlace, begins, goes_on, group_addresses, group_len, groups_from, is_defined, is_whole, limit_at, more_at, stride_at}
+use Rattle.map65.proofs.Public.{begun as item-begun, inside-index, item-len-at, item_start-after, item_start-within, left-begun, left-first, left-going, left-inside, size-fits, size-positive, skip-size, start-own}
+use Rattle.da65.specs.Groups.{BeginsItem, IsGroupPlace, begins, goes_on, group_addresses, group_len, groups_from, is_defined, is_whole, limit_at, more_at, stride_at}
 
 -- ---- the items that go on
 
@@ -43,26 +43,31 @@ more-false m n a is = cond-false (goes_on m a) _ _ is
 -- where an item begins with the k-th byte, or so many items, they end where none is under way
 record ItemEnds (m : MapView) (k len : ℕ) : Type 0 where
   fits : k + len ≤ length m.image.bytes
-  item : left_at (size_at m) m.image.start (k + len) ≡ 0
+  item : BeginsItem m (k + len)
 
-none-ends : (m : MapView) (n k a : ℕ) → more_at m n a ≡ 0 → k ≤ length m.image.bytes → left_at (size_at m) m.image.start k ≡ 0 → ItemEnds m k (more_at m n a)
+none-ends : (m : MapView) (n k a : ℕ) → more_at m n a ≡ 0 → k ≤ length m.image.bytes → BeginsItem m k → ItemEnds m k (more_at m n a)
 none-ends m n k a none bound item =
     let place : k + more_at m n a ≡ k = omega (arith, none) in
-    record { fits = omega (arith, none, bound); item = ap (left_at (size_at m) m.image.start) place ∙ item }
+    record { fits = omega (arith, none, bound); item = subst (BeginsItem m) (sym place) item }
 
-item-ends : (m : MapView) (k len : ℕ) → k < length m.image.bytes → len ≡ size_at m (m.image.start + k) → left_at (size_at m) m.image.start k ≡ 0 → ItemEnds m k len
-item-ends m k len low same none =
-    let place : k + len ≡ k + size_at m (m.image.start + k) = omega (arith, same) in
-    record {
-      fits = omega (arith, same, size-fits m k low);
-      item = ap (left_at (size_at m) m.image.start) place ∙ left-past (size_at m) (size-positive m) m.image.start k none;
-    }
+-- where an item ends the next one begins
+pub next-item : (m : MapView) (k len : ℕ) → len ≡ size_at m (m.image.start + k) → BeginsItem m k → BeginsItem m (k + len)
+next-item m k len same begins =
+    let place : m.image.start + (k + len) ≡ m.image.start + k + size_at m (m.image.start + k) = omega (arith, same) in
+    rw place (item_start-after m (m.image.start + k) begins)
 
-more-ends : (m : MapView) (n k a : ℕ) → a ≡ m.image.start + k → k ≤ length m.image.bytes → left_at (size_at m) m.image.start k ≡ 0 → ItemEnds m k (more_at m n a)
+-- and none begins within it
+pub item-apart : (m : MapView) (p k : ℕ) → BeginsItem m p → p < k → k < p + size_at m (m.image.start + p) → BeginsItem m k → ⊥
+item-apart m p k here low high there = omega (arith, low, there, item_start-within m (m.image.start + p) (m.image.start + k) here (omega (arith, low)) (omega (arith, high)))
+
+item-ends : (m : MapView) (k len : ℕ) → k < length m.image.bytes → len ≡ size_at m (m.image.start + k) → BeginsItem m k → ItemEnds m k len
+item-ends m k len low same begins = record { fits = omega (arith, same, size-fits m k low); item = next-item m k len same begins }
+
+more-ends : (m : MapView) (n k a : ℕ) → a ≡ m.image.start + k → k ≤ length m.image.bytes → BeginsItem m k → ItemEnds m k (more_at m n a)
 more-ends m zero k a e bound item = none-ends m zero k a (more-none m a) bound item
 more-ends m (suc n) k a e bound item = go (goes_on m a) refl (more-ends m n)
   where
-    go : (t : Bool) → goes_on m a ≡ t → ((k a : ℕ) → a ≡ m.image.start + k → k ≤ length m.image.bytes → left_at (size_at m) m.image.start k ≡ 0 → ItemEnds m k (more_at m n a)) → ItemEnds m k (more_at m (suc n) a)
+    go : (t : Bool) → goes_on m a ≡ t → ((k a : ℕ) → a ≡ m.image.start + k → k ≤ length m.image.bytes → BeginsItem m k → ItemEnds m k (more_at m n a)) → ItemEnds m k (more_at m (suc n) a)
     go false is past = none-ends m (suc n) k a (more-false m n a is) bound item
     go true is past =
         let begun = item-begun m a (item-goes-on m a is).some in
@@ -71,7 +76,7 @@ more-ends m (suc n) k a e bound item = go (goes_on m a) refl (more-ends m n)
         let others = past (k + item_len m a) (a + item_len m a) (omega (arith, e)) ends.fits ends.item in
         let more = more-true m n a is in
         let place : k + more_at m (suc n) a ≡ k + item_len m a + more_at m n (a + item_len m a) = omega (arith, more) in
-        record { fits = omega (arith, others.fits, more); item = ap (left_at (size_at m) m.image.start) place ∙ others.item }
+        record { fits = omega (arith, others.fits, more); item = subst (BeginsItem m) (sym place) others.item }
 
 -- ---- the group at a place
 
@@ -86,7 +91,7 @@ group-ends m k here low shown =
     let first = item-ends m k (item_len m a) low (item-len-at m k low shown here.item) here.item in
     let others = more-ends m (limit_at m a - 1) (k + item_len m a) (a + item_len m a) (omega arith) first.fits first.item in
     let place : k + (item_len m a + more_at m (limit_at m a - 1) (a + item_len m a)) ≡ k + item_len m a + more_at m (limit_at m a - 1) (a + item_len m a) = omega arith in
-    record { fits = omega (arith, others.fits); item = ap (left_at (size_at m) m.image.start) place ∙ others.item }
+    record { fits = omega (arith, others.fits); item = subst (BeginsItem m) (sym place) others.item }
 
 pub group-fits : (m : MapView) (k : ℕ) → IsGroupPlace m k → k < length m.image.bytes → is_skip (role_of m.info (m.image.start + k)) ≡ false → k + group_len m (m.image.start + k) ≤ length m.image.bytes
 group-fits m k here low shown = (group-ends m k here low shown).fits
@@ -112,13 +117,13 @@ unfolding stride_at
 stride-group m a is = cond-false (is_skip (role_of m.info a)) _ _ is
 
 pub first_place : (m : MapView) → IsGroupPlace m 0
-first_place m = record { bound = omega arith; group = left-first (stride_at m) m.image.start; item = left-first (size_at m) m.image.start }
+first_place m = record { bound = omega arith; group = left-first (stride_at m) m.image.start; item = start-own m }
 
 pub place-skip : (m : MapView) (k : ℕ) → IsGroupPlace m k → k < length m.image.bytes → is_skip (role_of m.info (m.image.start + k)) ≡ true → IsGroupPlace m (k + 1)
 place-skip m k here low skip = record {
   bound = omega (arith, low);
   group = left-step (stride_at m) m.image.start k 1 (sym (stride-skip m (m.image.start + k) skip)) (omega arith) here.group;
-  item = left-step (size_at m) m.image.start k 1 (sym (skip-size m (m.image.start + k) skip)) (omega arith) here.item;
+  item = next-item m k 1 (sym (skip-size m (m.image.start + k) skip)) here.item;
 }
 
 pub place-next : (m : MapView) (k : ℕ) → IsGroupPlace m k → k < length m.image.bytes → is_skip (role_of m.info (m.image.start + k)) ≡ false → IsGroupPlace m (k + group_len m (m.image.start + k))

@@ -6,10 +6,9 @@ use Rattle.map65.specs.Items.{item_len, size_at}
 use Rattle.map65.specs.MapView.{MapView}
 use Rattle.map65.specs.Pieces.{AreOnePiece, is_joined}
 use Rattle.map65.specs.Roles.{is_skip, role_of, unit_of}
-use Rattle.map65.specs.Spans.{left_at}
-use Rattle.map65.proofs.Public.{begun as item-begun, item-len-at, left-past, size-one-piece, size-positive}
-use Rattle.da65.specs.Groups.{IsGroupPlace, goes_on, group_len, limit_at, more_at}
-use Rattle.da65.proofs.Groups.GroupLemmas.{item-goes-on, left-within, more-false, more-none, more-true}
+use Rattle.map65.proofs.Public.{begun as item-begun, item-len-at, size-one-piece, size-positive}
+use Rattle.da65.specs.Groups.{BeginsItem, IsGroupPlace, goes_on, group_len, limit_at, more_at}
+use Rattle.da65.proofs.Groups.GroupLemmas.{item-apart, item-goes-on, more-false, more-none, more-true, next-item}
 use Rattle.da65.proofs.Groups.ShapeLemmas.{role-past, one-more}
 
 -- ---- a group lies in one piece
@@ -75,7 +74,7 @@ pub record Further (m : MapView) (n b i : ℕ) (r : RangeType) : Type 0 where
   pub place : i ≡ b + count * unit_of r
 
 further : (m : MapView) (n b i : ℕ) (r : RangeType) → (is_joined m (m.image.start + b) ≡ true → role_of m.info (m.image.start + b) ≡ r)
-    → b ≤ i → i < b + more_at m n (m.image.start + b) → left_at (size_at m) m.image.start b ≡ 0 → left_at (size_at m) m.image.start i ≡ 0 → Further m n b i r
+    → b ≤ i → i < b + more_at m n (m.image.start + b) → BeginsItem m b → BeginsItem m i → Further m n b i r
 further m zero b i r same low high here there = absurd (omega (arith, low, high, more-none m (m.image.start + b)))
 further m (suc n) b i r same low high here there = go (goes_on m (m.image.start + b)) refl (further m n)
   where
@@ -84,7 +83,7 @@ further m (suc n) b i r same low high here there = go (goes_on m (m.image.start 
 
     go : (t : Bool) → goes_on m (m.image.start + b) ≡ t
         → ((b i : ℕ) (r : RangeType) → (is_joined m (m.image.start + b) ≡ true → role_of m.info (m.image.start + b) ≡ r)
-        → b ≤ i → i < b + more_at m n (m.image.start + b) → left_at (size_at m) m.image.start b ≡ 0 → left_at (size_at m) m.image.start i ≡ 0 → Further m n b i r)
+        → b ≤ i → i < b + more_at m n (m.image.start + b) → BeginsItem m b → BeginsItem m i → Further m n b i r)
         → Further m (suc n) b i r
     go false is past = absurd (omega (arith, low, high, more-false m n a is))
     go true is past =
@@ -98,12 +97,12 @@ further m (suc n) b i r same low high here there = go (goes_on m (m.image.start 
         ⊎_elim
         (λ equal. record { count = 0; bound = omega arith; goes = ap (λ (i : ℕ). goes_on m (m.image.start + i)) equal ∙ is; place = omega (arith, equal) })
         (λ other. ⊎_elim
-        (λ within. absurd (left-within (size_at m) m.image.start b i here (omega (arith, low, other)) (omega (arith, within, size)) there))
+        (λ within. absurd (item-apart m b i here (omega (arith, low, other)) (omega (arith, within, size)) there))
         (λ beyond.
         let role-next : is_joined m (m.image.start + next) ≡ true → role_of m.info (m.image.start + next) ≡ r =
         λ joined. ap (role_of m.info) (sym address) ∙ role-past m a (item_len m a) begun.len (ap (is_joined m) address ∙ joined) ∙ role-is in
         let more : more_at m n (a + item_len m a) ≡ more_at m n (m.image.start + next) = ap (more_at m n) address in
-        let rest = past next i r role-next beyond (omega (arith, high, more-true m n a is, more)) (ap (left_at (size_at m) m.image.start) size ∙ left-past (size_at m) (size-positive m) m.image.start b here) there in
+        let rest = past next i r role-next beyond (omega (arith, high, more-true m n a is, more)) (next-item m b (item_len m a) begun.len here) there in
         let sum : item_len m a + rest.count * unit_of r ≡ suc rest.count * unit_of r = one-more (item_len m a) (unit_of r) rest.count (rest.count * unit_of r) whole refl in
         record { count = suc rest.count; bound = omega (arith, rest.bound); goes = rest.goes; place = omega (arith, rest.place, sum) })
         (cases_lt i next))
@@ -111,7 +110,7 @@ further m (suc n) b i r same low high here there = go (goes_on m (m.image.start 
 
 -- an item that begins within a group, after its first byte
 pub item-inside : (m : MapView) (p i : ℕ) (r : RangeType) → IsGroupPlace m p → p < length m.image.bytes → is_skip (role_of m.info (m.image.start + p)) ≡ false → role_of m.info (m.image.start + p) ≡ r
-    → p < i → i < p + group_len m (m.image.start + p) → left_at (size_at m) m.image.start i ≡ 0 → Further m (limit_at m (m.image.start + p) - 1) (p + item_len m (m.image.start + p)) i r
+    → p < i → i < p + group_len m (m.image.start + p) → BeginsItem m i → Further m (limit_at m (m.image.start + p) - 1) (p + item_len m (m.image.start + p)) i r
 unfolding group_len
 item-inside m p i r here inside shown role-is low high there =
     let a : ℕ = m.image.start + p in
@@ -120,10 +119,10 @@ item-inside m p i r here inside shown role-is low high there =
     let address : a + item_len m a ≡ m.image.start + next = omega arith in
     let size : next ≡ p + size_at m a = omega (arith, begun) in
     ⊎_elim
-    (λ within. absurd (left-within (size_at m) m.image.start p i here.item low (omega (arith, within, size)) there))
+    (λ within. absurd (item-apart m p i here.item low (omega (arith, within, size)) there))
     (λ beyond.
     let role-next : is_joined m (m.image.start + next) ≡ true → role_of m.info (m.image.start + next) ≡ r =
     λ joined. ap (role_of m.info) (sym address) ∙ role-past m a (item_len m a) begun (ap (is_joined m) address ∙ joined) ∙ role-is in
     let more : more_at m (limit_at m a - 1) (a + item_len m a) ≡ more_at m (limit_at m a - 1) (m.image.start + next) = ap (more_at m (limit_at m a - 1)) address in
-    further m (limit_at m a - 1) next i r role-next beyond (omega (arith, high, more)) (ap (left_at (size_at m) m.image.start) size ∙ left-past (size_at m) (size-positive m) m.image.start p here.item) there)
+    further m (limit_at m a - 1) next i r role-next beyond (omega (arith, high, more)) (next-item m p (item_len m a) begun here.item) there)
     (cases_lt i next)

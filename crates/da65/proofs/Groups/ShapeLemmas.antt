@@ -5,6 +5,7 @@ use Rattle.std.proofs.lemmas.Bool.{cond-true, cond-false, cond_both, eqb-true, l
 use Rattle.std.proofs.Math.Nat.{mul-le-mul_right, mul-mod_left}
 use Rattle.std.proofs.lemmas.List.{get_or-drop, get_or-take, length-take-le}
 use Rattle.isa65.specs.Mode.{len_of}
+use Rattle.isa65.proofs.ModeLaws.{len-positive}
 use Rattle.isa65.specs.Opcodes.{Table, decoded}
 use Rattle.isa65.specs.declared.op.Op.{Op}
 use Rattle.info65.proofs.Public.{layout_line}
@@ -15,7 +16,7 @@ use Rattle.map65.specs.Items.{code_size, item_len, size_at, size_for, full_len_a
 use Rattle.map65.specs.MapView.{MapView, opcodes}
 use Rattle.map65.specs.Pieces.{are_joined, is_joined}
 use Rattle.map65.specs.Roles.{is_skip, role_of, unit_of}
-use Rattle.map65.proofs.Public.{begun as item-begun, item-len-at, joined-in, one-role, size-one-piece, size-positive, len-positive}
+use Rattle.map65.proofs.Public.{begun as item-begun, item-len-at, joined-in, one-role, size-one-piece, size-positive}
 use Rattle.da65.specs.Groups.{IsGroupPlace, goes_on, group_bytes, group_len, is_whole, limit_at, limit_of, more_at}
 use Rattle.da65.specs.Instructions.{instruction_in, whole_in}
 use Rattle.da65.specs.ReassemblyLaw.{GroupsAreGroups, IsGroup}

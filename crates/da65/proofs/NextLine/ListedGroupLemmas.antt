@@ -23,7 +23,7 @@ use Rattle.da65.specs.declared.listing.style.Style.{Style}
 use Rattle.da65.proofs.Groups.GroupLemmas.{group-fits, group-some}
 use Rattle.da65.proofs.NextLine.NextLemmas.{few-bytes}
 use Rattle.da65.proofs.Groups.ShapeLemmas.{group-shape}
-use Rattle.da65.proofs.Statements.EachStatement.{len-small}
+use Rattle.isa65.proofs.ModeLaws.{len-small}
 use Rattle.map65.specs.Items.{code_size}
 
 pub has-bytes : (m : MapView) (g : Group) → IsGroupIn m g → 0 < length g.bytes.now

@@ -32,7 +32,7 @@ use Rattle.da65.specs.declared.listing.style.Style.{Style}
 use Rattle.da65.proofs.Statements.EntryLemmas.{few_entries}
 use Rattle.da65.proofs.Groups.GroupLemmas.{group-some, groups-end, groups-first, groups-next, groups-skip, place-next}
 use Rattle.da65.proofs.Groups.ShapeLemmas.{group-shape}
-use Rattle.da65.proofs.Statements.EachStatement.{len-small}
+use Rattle.isa65.proofs.ModeLaws.{len-small}
 use Rattle.da65.proofs.Statements.LabelLaws.{group_takes}
 use Rattle.da65.proofs.NextLine.SegmentLemmas.{same-segment, segment-next}
 use Rattle.stmt65.specs.Columns.{fits_label}

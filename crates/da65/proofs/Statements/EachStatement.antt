@@ -4,9 +4,8 @@ use Rattle.std.specs.Prelude.{nat_lt}
 use Rattle.std.proofs.lemmas.Bool.{cond_both, eqb-false, eqb-true, ltb-false, ltb-true}
 use Rattle.std.proofs.lemmas.List.{take_all}
 use Rattle.isa65.specs.Mode.{len_of}
+use Rattle.isa65.proofs.ModeLaws.{len-positive, len-small}
 use Rattle.isa65.specs.Opcodes.{Table}
-use Rattle.isa65.specs.declared.mode.Mode.{Mode}
-use Rattle.isa65.specs.declared.mode.Mode.TheVariants.{Imp}
 use Rattle.isa65.specs.declared.op.Op.{Op}
 use Rattle.info65.proofs.Public.{layout_entry}
 use Rattle.info65.specs.Layouts.{IsEntry, layout_of}
@@ -18,7 +17,6 @@ use Rattle.stmt65.specs.declared.directive.Directive.TheVariants.{Word}
 use Rattle.stmt65.specs.Printable.{IsTable}
 use Rattle.stmt65.specs.Views as view
 use Rattle.stmt65.specs.Views.{OperandsView, StatementView}
-use Rattle.map65.proofs.Public.{len-positive}
 use Rattle.map65.specs.Items.{code_size}
 use Rattle.map65.specs.Names.{Base}
 use Rattle.map65.specs.Roles.{unit_of}
@@ -31,10 +29,6 @@ use Rattle.da65.specs.Shapes.{IsGroupOf, IsLineOf}
 use Rattle.da65.specs.Statements.{addr_from, address_entry, bytes_statement, directive_of, entries_or_byte, is_forced, operands_of, return_entry, rts_from, rts_to, statement_by, statement_for, statement_in, statement_of, target_by, written}
 use Rattle.da65.proofs.Statements.EntryLemmas.{address_bytes, are_table, directive_is, few_entries, number_small}
 use Rattle.da65.proofs.Statements.StandsLaws.{begins_with}
-
-pub len-small : (x : Mode) → len_of x ≤ 3
-len-small Imp = omega arith
-len-small _ = omega arith
 
 -- of the statements that an item of code can have, each with its bytes: some of the first bytes, or an instruction
 pub record OfCode (m : Names) (t : Table) (a : ℕ) (bytes : List ℕ) (P : StatementView → List ℕ → Type 0) : Type 0 where

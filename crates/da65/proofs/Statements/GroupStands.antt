@@ -38,7 +38,7 @@ use Rattle.da65.proofs.Instructions.ValueLaws.{IsWorth, before_worth, name_worth
 use Rattle.da65.proofs.Statements.StandsLaws.{Stands, after_is, begins_with, bytes_are, data_stands, no_fault}
 use Rattle.da65.proofs.Instructions.WrittenLaws.{first_byte, other_bytes}
 use Rattle.da65.proofs.Statements.TableLaws.{entries_give, text_give}
-use Rattle.map65.proofs.Public.{len-positive}
+use Rattle.isa65.proofs.ModeLaws.{len-positive}
 use Rattle.map65.specs.Items.{code_size}
 
 -- ---- instructions

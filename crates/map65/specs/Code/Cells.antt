@@ -60,7 +60,7 @@ is_named c = c / 128 % 2 == 1
 
 -- the cell with its bit for a name
 unfoldable pub with_name : ℕ → ℕ
-with_name c = if is_named c then c else c + 128
+with_name c = c / 256 * 256 + 128 + c % 128
 
 -- a cell has its bit for a segment border before the address
 unfoldable pub has_border : ℕ → Bool

@@ -1,9 +1,8 @@
--- Cells while they are written: first the roles, range by range, then the borders, segment by segment, then the lengths, item by item.
+-- Cells while they are written: first the roles, range by range, then the borders, segment by segment, then the lengths, item by item, and the names.
 use Rattle.std.specs.Prelude.{◌≡◌, ◌-◌, ◌/◌, ◌%◌, ◌<◌, ◌≤◌, ◌&&◌, ◌||◌, not, ℕ, Bool, true, false, nat_le, nat_lt, List, length, slice_index, take, Option, Some, None, is_some, if◌then◌else◌}
 use Rattle.std.specs.List.{list_any}
 use Rattle.info65.specs.Names.{covering, covers, name_at}
 use Rattle.info65.specs.Views.{NameView}
-use Rattle.info65.specs.Ranges.{has_address}
 use Rattle.info65.specs.declared.information.range.RangeSpec.{RangeSpec}
 use Rattle.info65.specs.declared.information.range.RangeType.{RangeType}
 use Rattle.map65.specs.ImageView.{ImageView, is_inside}
@@ -11,15 +10,27 @@ use Rattle.map65.specs.MapView.{MapView}
 use Rattle.map65.specs.Names.{refers}
 use Rattle.map65.specs.Roles.{role_at, role_in}
 use Rattle.map65.specs.Spans.{addresses}
-use Rattle.map65.specs.Code.Cells.{HasBorders, are_one_run, cell_of, is_cut, lay_at, with_border}
+use Rattle.map65.specs.Code.Cells.{HasBorders, are_one_run, cell_of, is_cut, lay_at}
 
--- the cell of the role at the addresses from `from` to before `to`, else what it was
-unfoldable pub painted : ℕ → ℕ → RangeType → ℕ → ℕ → ℕ
-painted from to r old a = if nat_le from a && nat_lt a to then cell_of (Some r) 0 else old
+-- f of the cell, if the test holds
+abbrev pub changed : (ℕ → ℕ) → Bool → ℕ → ℕ
+changed f true c = f c
+changed f false c = c
 
--- the same, at the addresses of the image that belong to the range
-unfoldable pub painted_by : ImageView → RangeSpec → ℕ → ℕ → ℕ
-painted_by image range old a = if is_inside image a && has_address range a then cell_of (Some range.role) 0 else old
+-- each cell for whose address the test holds becomes f of what it was, and the others stay
+pub record Changes (f : ℕ → ℕ) (test : ℕ → Bool) (old new : List ℕ) : Type 0 where
+  pub count : length new ≡ 65536
+  pub each : (a : ℕ) → a < 65536 → slice_index new a ≡ changed f (test a) (slice_index old a)
+
+-- the address lies from `from` to before `to`
+abbrev pub is_within : ℕ → ℕ → ℕ → Bool
+is_within from to a = nat_le from a && nat_lt a to
+
+-- ---- roles and lengths
+
+-- the cell of a role, whatever it was before
+abbrev pub painted : RangeType → ℕ → ℕ
+painted r c = cell_of (Some r) 0
 
 -- the role of an address by some of the ranges alone
 unfoldable pub role_by : ImageView → List RangeSpec → ℕ → Option RangeType
@@ -28,11 +39,6 @@ role_by image ranges a = if is_inside image a then Some (role_in ranges a) else 
 pub record ArePainted (image : ImageView) (ranges : List RangeSpec) (cells : List ℕ) : Type 0 where
   pub count : length cells ≡ 65536
   pub each : (a : ℕ) → a < 65536 → slice_index cells a ≡ cell_of (role_by image ranges a) 0
-
--- the cell with its bit for a border, if one stands there
-unfoldable pub bordered : Bool → ℕ → ℕ
-bordered true c = with_border c
-bordered false c = c
 
 -- the lower seven bits of all cells hold the role, those of the cells below an address the length too, and the highest the border
 pub record AreMarkedBelow (m : MapView) (at : ℕ) (cells : List ℕ) : Type 0 where
@@ -49,17 +55,9 @@ is_joined_in cells a = nat_lt a (length cells) && (are_one_run (slice_index cell
 
 -- all bits but those for names stay
 pub record KeepsLay (old new : List ℕ) : Type 0 where
-  pub count : length new ≡ length old
+  pub count : length new ≡ 65536
   pub each : (a : ℕ) → a < 65536 → slice_index new a % 128 ≡ slice_index old a % 128
   pub borders : (a : ℕ) → a < 65536 → slice_index new a / 256 ≡ slice_index old a / 256
-
--- one test or the other
-abbrev pub also : (ℕ → Bool) → (ℕ → Bool) → ℕ → Bool
-also p q a = p a || q a
-
--- the address lies from `from` to before `to`
-abbrev pub is_within : ℕ → ℕ → ℕ → Bool
-is_within from to a = nat_le from a && nat_lt a to
 
 -- a given name covers the address
 abbrev pub is_covered : List NameView → ℕ → Bool
@@ -74,5 +72,5 @@ abbrev pub Reaches : List NameView → ℕ → ℕ → Type 0
 Reaches names n reach = (a : ℕ) → ((i : ℕ) → i < n → (name_at names i).address ≤ a) → a < reach → is_covered_below names n a ≡ true
 
 -- one of the first n items of the image refers to the address
-unfoldable pub is_referenced_below : MapView → ℕ → ℕ → Bool
+abbrev pub is_referenced_below : MapView → ℕ → ℕ → Bool
 is_referenced_below m n a = list_any (refers m a) (take n (addresses (length m.image.bytes) m.image.start))

@@ -61,7 +61,7 @@ pub fn pass_over<R: Source>(input: &mut R, count: usize) -> Result<bool, DeviceF
 }
 
 /// Reads up to the end of the input, or up to `limit` bytes. A read that fails is not tried again.
-#[tactic(auto, using(crate::proofs::ReadLemmas::took_more, crate::proofs::ReadLemmas::took_all, crate::proofs::ReadLemmas::took_limit, crate::proofs::ReadLemmas::rest_end, crate::proofs::ReadLemmas::rest_limit))]
+#[tactic(auto, using(crate::proofs::ReadLemmas::takes))]
 pub fn take_up_to<A: Allocator, R: Source>(
     alloc: A,
     input: &mut R,

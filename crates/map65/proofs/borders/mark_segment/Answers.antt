@@ -1,13 +1,11 @@
-use Rattle.std.proofs.Common.{◌∙◌, ◌+◌, ◌==◌, ap, get_or, ℕ}
-use Rattle.map65.specs.Code.Marking.{bordered}
-use Rattle.map65.proofs.PaintLemmas.{bordered-or}
+use Rattle.std.proofs.Common.{◌+◌, ◌==◌}
+use Rattle.map65.specs.Code.Cells.{with_border}
+use Rattle.map65.proofs.CellLemmas.{with_border-again}
+use Rattle.map65.proofs.ChangeLemmas.{changes-then}
 use Rattle.map65.proofs.borders.mark_segment.Goals as goal
 
-pub returns-clause-each : goal.returns-clause-each
-returns-clause-each c = λ a below.
-    let old = get_or c.args.cells.now a 0 in
-    c.mark_border-2.ensures.each a below
-    ∙ ap (bordered (c.from-2.result + 1 == a)) (c.mark_border.ensures.each a below)
-    ∙ ap (λ (n : ℕ). bordered (n + 1 == a) (bordered (c.from.result == a) old)) c.from-2.ensures
-    ∙ ap (λ (n : ℕ). bordered (c.args.last + 1 == a) (bordered (n == a) old)) c.from.ensures
-    ∙ bordered-or (c.args.first == a) (c.args.last + 1 == a) old
+pub returns : goal.returns
+returns c =
+    changes-then with_border with_border-again (λ a. c.args.first == a) (λ a. c.args.last + 1 == a) c.args.cells.now c.mark_border.new.cells c.mark_border-2.new.cells
+    (rw c.from.ensures at c.mark_border.ensures)
+    (rw c.from-2.ensures at c.mark_border-2.ensures)

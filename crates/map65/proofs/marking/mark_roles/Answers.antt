@@ -22,7 +22,7 @@ painting-preserved g c =
     record {
       bound = omega (arith, c.painting.invariant.bound);
       painted = subst (λ (l : List RangeSpec). ArePainted c.args.image.now (drop (left - 1) l) c.paint_range.new.cells) same
-          (painted-more c.args.image.now ranges (left - 1) blank_range c.painting.cells c.paint_range.new.cells below before c.paint_range.ensures.count c.paint_range.ensures.each);
+          (painted-more c.args.image.now ranges (left - 1) blank_range c.painting.cells c.paint_range.new.cells below before c.paint_range.ensures);
     }
 
 pub returns : goal.returns
@@ -31,6 +31,6 @@ returns g c =
     let none : c.painting.left ≡ 0 = omega (arith, c.painting-test.false) in
     record {
       sound = c.mark_borders.ensures.sound;
-      marked = none-marked m c.painting.left c.painting.cells c.mark_borders.new.cells none c.painting.invariant.painted c.mark_borders.ensures.count c.mark_borders.ensures.each;
-      named = none-named m c.painting.left c.painting.cells c.mark_borders.new.cells none c.painting.invariant.painted c.mark_borders.ensures.count c.mark_borders.ensures.each;
+      marked = none-marked m c.painting.left c.painting.cells c.mark_borders.new.cells none c.painting.invariant.painted c.mark_borders.ensures.marked;
+      named = none-named m c.painting.left c.painting.cells c.mark_borders.new.cells none c.painting.invariant.painted c.mark_borders.ensures.marked;
     }

@@ -1,7 +1,7 @@
-use Rattle.std.proofs.Common.{◌≡◌, ◌+◌, ◌-◌, ◌<◌}
+use Rattle.std.proofs.Common.{◌+◌, ◌-◌, ◌<◌}
 use Rattle.map65.specs.ImageView.{end_of}
 use Rattle.map65.specs.MapView.{MapView}
-use Rattle.map65.specs.Pieces.{are_joined}
+use Rattle.map65.specs.Pieces.{AreOnePiece}
 use Rattle.map65.proofs.marking.size_at.Given as goal
 
 abbrev pub invariant-loop-i : goal.invariant-loop-i
@@ -9,5 +9,5 @@ invariant-loop-i g l =
     let m : MapView = record { info = l.info; image = l.image } in
     record {
       inside : l.address + l.i < end_of l.image;
-      same : are_joined m (l.full_len - 1 - l.i) (l.address + l.i) ≡ are_joined m (l.full_len - 1) l.address;
+      piece : AreOnePiece m l.address (l.address + l.i);
     }

@@ -1,9 +1,8 @@
-use Rattle.std.proofs.Common.{◌≡◌, ◌∙◌, ◌<◌, ap, refl, sym, subst, arith, get_or}
-use Rattle.std.specs.Prelude.{IsSome, Some}
+use Rattle.std.proofs.Common.{◌≡◌, ◌∙◌, ap, refl, sym, subst, arith, get_or}
+use Rattle.std.specs.Prelude.{IsSome}
 use Rattle.map65.specs.Items.{item_len}
 use Rattle.map65.specs.MapView.{MapView}
-use Rattle.map65.specs.Targets.{target_at}
-use Rattle.map65.proofs.NamingLemmas.{laid-known, laid-fits, laid-item, refers-none, target-named, target-laid}
+use Rattle.map65.proofs.NamingLemmas.{laid-known, laid-fits, laid-item, refers-none, refers-some}
 use Rattle.map65.proofs.RunLemmas.{some-same}
 use Rattle.map65.proofs.TargetLemmas.{short-at}
 use Rattle.map65.proofs.naming.mark_target.Goals as goal
@@ -13,11 +12,11 @@ target_at-requires-clause-len g c =
     let m : MapView = record { info = c.args.info.now; image = c.args.image.now } in
     laid-item m c.args.cells.now c.args.address (get_or c.args.cells.now c.from.result 0) c.len_in-len.result c.requires.laid (omega arith) (ap (λ k. get_or c.args.cells.now k 0) c.from.ensures) c.len_in-len.ensures.value
 
-pub returns-then-len-lt2-clause-named : goal.returns-then-len-lt2-clause-named
-returns-then-len-lt2-clause-named g c = λ p named.
+pub returns-then-len-lt2 : goal.returns-then-len-lt2
+returns-then-len-lt2 g c =
     let m : MapView = record { info = c.args.info.now; image = c.args.image.now } in
     let len : c.len_in-len.result ≡ item_len m c.args.address = laid-item m c.args.cells.now c.args.address (get_or c.args.cells.now c.from.result 0) c.len_in-len.result c.requires.laid (omega arith) (ap (λ k. get_or c.args.cells.now k 0) c.from.ensures) c.len_in-len.ensures.value in
-    refers-none m c.args.address p c.args.cells.now (short-at m c.args.address (omega (arith, len, c.if-len-lt2.true))) named
+    refers-none m c.args.address c.args.cells.now c.requires.laid.count (short-at m c.args.address (omega (arith, len, c.if-len-lt2.true)))
 
 pub target_at-requires-clause-room : goal.target_at-requires-clause-room
 target_at-requires-clause-room g c =
@@ -37,15 +36,9 @@ target_at-requires-clause-role g c =
 pub returns-in-Some : goal.returns-in-Some
 returns-in-Some g c =
     let m : MapView = record { info = c.args.info.now; image = c.args.image.now } in
-    let t : c.in-Some.target < 65536 = omega arith in
-    let is : target_at m c.args.address ≡ Some c.in-Some.target = sym c.target_at.ensures ∙ c.in-Some.is in
-    let first = c.entry_start_of-first.ensures.value m c.requires.laid in
-    record {
-      laid = target-laid m c.args.address c.in-Some.target c.entry_start_of-first.result c.args.cells.now c.mark.new.cells c.mark-in-Some.new.cells c.requires.laid t (omega (arith, c.entry_start_of-first.ensures.below)) is first c.mark.ensures c.mark-in-Some.ensures;
-      named = target-named m c.args.address c.in-Some.target c.entry_start_of-first.result c.args.cells.now c.mark.new.cells c.mark-in-Some.new.cells c.requires.laid t (omega (arith, c.entry_start_of-first.ensures.below)) is first c.mark.ensures c.mark-in-Some.ensures;
-    }
+    refers-some m c.args.address c.in-Some.target c.entry_start_of-first.result c.args.cells.now c.mark.new.cells c.mark-in-Some.new.cells (sym c.target_at.ensures ∙ c.in-Some.is) (c.entry_start_of-first.ensures.value m c.requires.laid) c.mark.ensures c.mark-in-Some.ensures
 
-pub returns-in_default-clause-named : goal.returns-in_default-clause-named
-returns-in_default-clause-named g c = λ p named.
+pub returns-in_default : goal.returns-in_default
+returns-in_default g c =
     let m : MapView = record { info = c.args.info.now; image = c.args.image.now } in
-    refers-none m c.args.address p c.args.cells.now (sym c.target_at.ensures ∙ c.in_default.is) named
+    refers-none m c.args.address c.args.cells.now c.requires.laid.count (sym c.target_at.ensures ∙ c.in_default.is)
