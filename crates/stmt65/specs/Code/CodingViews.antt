@@ -82,6 +82,10 @@ pub record Puts (answer fits : Bool) (bytes old new : List ℕ) : Type 0 where
   pub says : answer ≡ fits
   pub adds : OnTrue answer (new ≡ old ++ bytes)
 
+-- the same of the bytes of a fragment, with the address after its statement
+abbrev pub PutsOne : Bool → List Definition → ℕ → Fragment → List ℕ → List ℕ → Type 0
+PutsOne answer all next f old new = Puts answer (fragment_fits all next f) (fragment_bytes all next f) old new
+
 -- the same of the bytes of a coding, with the address after it
 abbrev pub PutsAll : Bool → List Definition → ℕ → List Fragment → List ℕ → List ℕ → Type 0
 PutsAll answer all next fs old new = Puts answer (list_all (fragment_fits all next) fs) (flat_map (fragment_bytes all next) fs) old new

@@ -1,18 +1,19 @@
 -- What the assembler's values stand for.
-use Rattle.std.specs.Prelude.{◌≡◌, ◌+◌, ◌≤◌, ◌++◌, List, [], ◌∷◌, length, map, take, Option, Some, None, unwrap_or}
+use Rattle.std.specs.Prelude.{◌≡◌, ℕ, ◌+◌, ◌≤◌, ◌++◌, List, [], ◌∷◌, length, map, take, Option, Some, None, IfNone, unwrap_or}
 use Rattle.std.specs.Option.{option_map, option_to_list}
 use Rattle.stmt65.specs.declared.assembling.coding.Coded.{Coded as CodeCoded}
 use Rattle.stmt65.specs.declared.assembling.symbols.Definition.{Definition as CodeDefinition}
 use Rattle.stmt65.specs.declared.assembling.state.State.{State as CodeState}
 use Rattle.stmt65.specs.declared.assembling.state.Placed.{Placed}
 use Rattle.stmt65.specs.declared.assembling.assembler.Pass.{Pass}
+use Rattle.stmt65.specs.declared.assembling.fault.AsmFaultKind.{AsmFaultKind}
 use Rattle.stmt65.specs.SourceLine.{SourceLine}
 use Rattle.stmt65.specs.Symbols.{Definition}
 use Rattle.stmt65.specs.Code.SymbolViews.{definition_of}
 use Rattle.stmt65.specs.Coding.{Fragment, coding}
 use Rattle.stmt65.specs.Code.CodingViews.{coded_of}
 use Rattle.stmt65.specs.Code.Held.{held}
-use Rattle.stmt65.specs.Meaning.{State, after, next_of, cpu_after, operation_in, defined_by}
+use Rattle.stmt65.specs.Meaning.{State, after, bytes_of, next_of, cpu_after, operation_in, defined_by}
 
 -- ---- a line
 
@@ -55,6 +56,10 @@ state_in p = state_of p.state (take p.count p.names.now)
 abbrev pub defined_in : State → Option SourceLine → List Definition
 defined_in s None = []
 defined_in s (Some source) = map held_definition (defined_by s.at source)
+
+-- the bytes of this line from the state of the pass are added, unless it has a fault
+abbrev pub PutsLine : {A : Type 0} → Option AsmFaultKind → Pass A → Option SourceLine → List ℕ → List ℕ → Type 0
+PutsLine fault p line old new = IfNone fault (new ≡ old ++ bytes_of p.names.now (state_in p) line)
 
 -- the pass has gone on below a line; its definitions are counted if the names have them
 pub record GoesOn {A : Type 0} (p q : Pass A) (line : Option SourceLine) : Type 0 where

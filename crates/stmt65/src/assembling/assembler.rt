@@ -5,8 +5,8 @@ ghost use Rattle.stmt65.specs.Lexing.{parts};
 ghost use Rattle.stmt65.specs.Reading.{reading_of};
 ghost use Rattle.stmt65.specs.Code.SourceLineViews.{source_of};
 ghost use Rattle.stmt65.specs.Code.CodingViews.{PutsAll};
-ghost use Rattle.stmt65.specs.Meaning.{bytes_of, fault_of, initial, meaning, readings};
-ghost use Rattle.stmt65.specs.Code.MeaningViews.{GoesOn, state_in, state_of, definitions_in, fragments_in, held_after, held_final};
+ghost use Rattle.stmt65.specs.Meaning.{fault_of, initial, meaning, readings};
+ghost use Rattle.stmt65.specs.Code.MeaningViews.{GoesOn, PutsLine, state_in, state_of, definitions_in, fragments_in, held_after, held_final};
 ghost use Rattle.stmt65.specs.Answer.{Assembles};
 
 use crate::assembling::emit::put_coded;
@@ -120,7 +120,7 @@ fn code_source<'a, A: Allocator + Clone, B: Allocator, C: Allocator>(
     out: &mut Vec<u8, C>,
 ) -> Result<Option<AsmFaultKind>, AllocError>
     ensures fault { IfOk result (λ kind. kind ≡ fault_of pass.old.names.now (state_in pass.old) (Some (source_of source.now))) }
-    ensures bytes { IfOk result (λ kind. IfNone kind (out.new.items ≡ out.old.items ++ bytes_of pass.old.names.now (state_in pass.old) (Some (source_of source.now)))) }
+    ensures bytes { IfOk result (λ kind. PutsLine kind pass.old (Some (source_of source.now)) out.old.items out.new.items) }
     ensures below { IfOk result (λ kind. IfNone kind (GoesOn pass.old pass.new (Some (source_of source.now)))) }
 {
     let names = pass.names;
@@ -145,7 +145,7 @@ fn code_line<'a, 'b, A: Allocator, C: Allocator>(
     out: &mut Vec<u8, C>,
 ) -> Result<Option<AsmFaultKind>, AllocError>
     ensures fault { IfOk result (λ kind. kind ≡ fault_of pass.old.names.now (state_in pass.old) (reading_of (parts line.now))) }
-    ensures bytes { IfOk result (λ kind. IfNone kind (out.new.items ≡ out.old.items ++ bytes_of pass.old.names.now (state_in pass.old) (reading_of (parts line.now)))) }
+    ensures bytes { IfOk result (λ kind. PutsLine kind pass.old (reading_of (parts line.now)) out.old.items out.new.items) }
     ensures below { IfOk result (λ kind. IfNone kind (GoesOn pass.old pass.new (reading_of (parts line.now)))) }
 {
     match read_line(alloc, line)? {

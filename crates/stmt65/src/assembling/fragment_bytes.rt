@@ -3,8 +3,8 @@
 ghost use Rattle.std.specs.Prelude.{◌≡◌, [], ◌∷◌, Some, true, is_some, unwrap_or, IfOk};
 ghost use Rattle.stmt65.specs.Code.SourceLineViews.{value_of};
 ghost use Rattle.stmt65.specs.Symbols.{below};
-ghost use Rattle.stmt65.specs.Coding.{is_fragment_known, is_near, fragment_fits, low, distance, entry_bytes, fragment_bytes};
-ghost use Rattle.stmt65.specs.Code.CodingViews.{Puts, fragment_of};
+ghost use Rattle.stmt65.specs.Coding.{is_fragment_known, is_near, low, distance, entry_bytes};
+ghost use Rattle.stmt65.specs.Code.CodingViews.{Puts, PutsOne, fragment_of};
 
 use crate::assembling::coding::Fragment;
 use crate::assembling::entries::put_number;
@@ -100,7 +100,7 @@ pub fn put_fragment<A: Allocator + Clone, B: Allocator>(
     next: u64,
     fragment: Fragment,
 ) -> Result<bool, AllocError>
-    ensures { IfOk result (λ fits. Puts fits (fragment_fits names.now next (fragment_of fragment.entry)) (fragment_bytes names.now next (fragment_of fragment.entry)) out.old.items out.new.items) }
+    ensures { IfOk result (λ fits. PutsOne fits names.now next (fragment_of fragment.entry) out.old.items out.new.items) }
 {
     match fragment {
         Fragment::Fixed(byte) => put_one(out, byte),
