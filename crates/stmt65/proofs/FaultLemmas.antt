@@ -1,9 +1,11 @@
 -- The tests of a line are the rules of its faults.
-use Rattle.std.proofs.Common.{◌≡◌, ℕ, Bool, true, false, cond, ltb, leb, ◌+◌, ◌<◌, ◌≤◌, List, [], ◌∷◌, ◌++◌, map, Option, Some, None, ◌⊎◌, inl, inr, refl, sym, ap, subst, ◌∙◌, arith}
+use Rattle.std.proofs.Common.{◌≡◌, ℕ, suc, Bool, true, false, cond, ltb, leb, ◌+◌, ◌<◌, ◌≤◌, List, [], ◌∷◌, ◌++◌, map, Option, Some, None, ◌⊎◌, inl, inr, refl, sym, ap, subst, ◌∙◌, arith}
 use Rattle.std.specs.Prelude.{not, ◌&&◌, ◌||◌, is_some, unwrap_or}
-use Rattle.std.specs.List.{Any, list_any, list_all, flat_map}
-use Rattle.std.proofs.lemmas.Bool.{ltb-true, lt-ltb}
-use Rattle.std.proofs.lemmas.Bool.Decides.{nat_tests}
+use Rattle.std.specs.List.{Any, list_any, list_all, flat_map, slice_get}
+use Rattle.std.specs.Bool.{Decides}
+use Rattle.std.proofs.lemmas.Bool.{cases_lt, ltb-true}
+use Rattle.std.proofs.lemmas.Bool.Decides.{nat_tests, Decides-at, Decides-like, Decides-ltb, Decides-not, Decides-or}
+use Rattle.std.proofs.lemmas.Option.{same_Some}
 use Rattle.std.proofs.lemmas.List.Folds.{Any-from_list_any, list_any-from_Any, list_all-map, list_all-append}
 use Rattle.isa65.specs.declared.cpu.Cpu.{Cpu}
 use Rattle.isa65.specs.declared.mnemonic.Mnemonic.{Mnemonic}
@@ -15,35 +17,28 @@ use Rattle.stmt65.specs.SourceLine.{Value, NumberValue, NameValue, Form, Empty, 
 use Rattle.stmt65.specs.declared.source_line.AddressSize.TheVariants.{Absolute, Automatic}
 use Rattle.stmt65.specs.Symbols.{Definition, find_name, value_in, is_known, below, word_in, has_zero_page_size}
 use Rattle.stmt65.specs.Coding.{entry_limit, Fragment, Fixed, Single, ZeroPage, Oversized, Entry, Distance, Way, zero_page, datum_fragments, is_fragment_known, is_near, fragment_fits, entry_in, ways, first_way, coding}
-use Rattle.stmt65.specs.Meaning.{State, operation_in, fragments_of, next_of, defined_by, has_unknown_cpu, has_no_form, is_undefined, is_twice, is_out_of_range, is_past_end, first_of, fault_of}
+use Rattle.stmt65.specs.Meaning.{State, operation_in, fragments_of, next_of, defined_by, has_unknown_cpu, has_no_form, is_undefined, is_twice, is_out_of_range, is_past_end, Test, first_of, tests_of, fault_of}
 use Rattle.stmt65.specs.Forms.{form_values}
-use Rattle.stmt65.specs.FaultLaws.{rank, operation_values, NamesNoCpu, HasNoMode, IsUnknown, HasRoom, HasFault, FindsLowest, FindsNone}
+use Rattle.stmt65.specs.FaultLaws.{rank, operation_values, NamesNoCpu, HasNoMode, IsUnknown, HasRoom, HasFault, LineHasFault, FindsLowest, FindsNone}
+use Rattle.stmt65.proofs.Cases.{by_test}
 use Rattle.stmt65.proofs.CodingLemmas.{string_known}
 use Rattle.stmt65.proofs.ModeLemmas.{by_sizes, false_true, first_case, needs_mode}
 
 -- ---- a test and its rule
 
-pub record Tied (test : Bool) (Rule : Type 0) : Type 0 where
-  pub to : test ≡ true → Rule
-  pub from : Rule → test ≡ true
+never : Decides false ⊥
+never = (λ e. false_true e, λ h. absurd h)
 
-never : Tied false ⊥
-never = record { to = λ e. false_true e; from = λ h. absurd h }
-
-none_tied : {A : Type 0} (o : Option A) → Tied (not (is_some o)) (o ≡ None)
-none_tied None = record { to = λ e. refl; from = λ e. refl }
-none_tied (Some x) = record { to = λ e. false_true e; from = λ e. absurd cc }
-
-not_tied : (b : Bool) (P : Type 0) → Tied b P → Tied (not b) (¬ P)
-not_tied true P h = record { to = λ e. false_true e; from = λ deny. absurd (deny (h.to refl)) }
-not_tied false P h = record { to = λ e p. false_true (h.from p); from = λ deny. refl }
+none_tied : {A : Type 0} (o : Option A) → Decides (not (is_some o)) (o ≡ None)
+none_tied None = (λ e. refl, λ e. refl)
+none_tied (Some x) = (λ e. false_true e, λ e. absurd cc)
 
 -- a test of some element
-any_tied : {X : Type 0} (p : X → Bool) (P : X → Type 0) (xs : List X) → ((x : X) → Tied (p x) (P x)) → Tied (list_any p xs) (Any P xs)
-any_tied p P xs h = record {
-  to = λ e. let a = Any-from_list_any p xs e in (a.0, a.1, a.2, a.3, (h a.1).to a.4);
-  from = λ a. list_any-from_Any p xs (a.0, a.1, a.2, a.3, (h a.1).from a.4);
-}
+any_tied : {X : Type 0} (p : X → Bool) (P : X → Type 0) (xs : List X) → ((x : X) → Decides (p x) (P x)) → Decides (list_any p xs) (Any P xs)
+any_tied p P xs h = (
+  λ e. let a = Any-from_list_any p xs e in (a.0, a.1, a.2, a.3, (h a.1).0 a.4),
+  λ a. list_any-from_Any p xs (a.0, a.1, a.2, a.3, (h a.1).1 a.4),
+)
 
 not_all : {X : Type 0} (p : X → Bool) (xs : List X) → not (list_all p xs) ≡ list_any (λ x. not (p x)) xs
 not_all p [] = refl
@@ -53,21 +48,18 @@ not_all p (x ∷ xs) = go (p x) refl (not_all p xs)
     go true e ih = rw e ih
     go false e ih = rw e refl
 
-by_equal : (a b : Bool) (P : Type 0) → a ≡ b → Tied b P → Tied a P
-by_equal a b P e h = record { to = λ f. h.to (sym e ∙ f); from = λ p. e ∙ h.from p }
-
 -- ---- CPUs and forms
 
-cpu_tied : (o : Operation) → Tied (has_unknown_cpu o) (NamesNoCpu o)
+cpu_tied : (o : Operation) → Decides (has_unknown_cpu o) (NamesNoCpu o)
 unfolding has_unknown_cpu
 cpu_tied (SetCpu text) = none_tied (cpu_named text)
 cpu_tied _ = never
 
-form_tied : (cpu : Cpu) (above : List Definition) (o : Operation) → Tied (not (is_some (coding cpu above o))) (HasNoMode cpu o)
+form_tied : (cpu : Cpu) (above : List Definition) (o : Operation) → Decides (not (is_some (coding cpu above o))) (HasNoMode cpu o)
 unfolding coding
 form_tied cpu above (Instr m form) =
     let none = none_tied (coding cpu above (Instr m form)) in
-    record { to = λ e. (needs_mode cpu above m form).0 (none.to e); from = λ h. none.from ((needs_mode cpu above m form).1 h) }
+    (λ e. (needs_mode cpu above m form).0 (none.0 e), λ h. none.1 ((needs_mode cpu above m form).1 h))
 form_tied cpu above _ = never
 
 -- ---- names
@@ -120,239 +112,163 @@ fragments_known all cpu above (Data ds) fragments e = let same : flat_map datum_
 fragments_known all cpu above (Values d vs) fragments e = let same : map (Entry d) vs ≡ fragments = cc in rw (← same) (list_all-map (is_fragment_known all) (Entry d) vs)
 fragments_known all cpu above _ fragments e = let same : [] ≡ fragments = cc in rw (← same) refl
 
-unknown_tied : (all : List Definition) (v : Value) → Tied (not (is_known all v)) (IsUnknown all v)
+unknown_tied : (all : List Definition) (v : Value) → Decides (not (is_known all v)) (IsUnknown all v)
 unfolding is_known
 unknown_tied all (NumberValue n) = never
 unknown_tied all (NameValue w n minus) = none_tied (find_name w all)
 
-undefined_tied : (all : List Definition) (s : State) (source : SourceLine) → has_no_form s source ≡ false → Tied (is_undefined all s source) (Any (IsUnknown all) (operation_values (operation_in source)))
+undefined_tied : (all : List Definition) (s : State) (source : SourceLine) → has_no_form s source ≡ false → Decides (is_undefined all s source) (Any (IsUnknown all) (operation_values (operation_in source)))
 unfolding has_no_form is_undefined fragments_of
 undefined_tied all s source h = go (coding s.cpu s.above (operation_in source)) refl
   where
     go : (o : Option (List Fragment)) → coding s.cpu s.above (operation_in source) ≡ o
-        → Tied (not (list_all (is_fragment_known all) (unwrap_or (coding s.cpu s.above (operation_in source)) []))) (Any (IsUnknown all) (operation_values (operation_in source)))
+        → Decides (not (list_all (is_fragment_known all) (unwrap_or (coding s.cpu s.above (operation_in source)) []))) (Any (IsUnknown all) (operation_values (operation_in source)))
     go None e = let h' = rw e at h in false_true (sym h')
     go (Some fragments) e =
         let known : not (list_all (is_fragment_known all) (unwrap_or (coding s.cpu s.above (operation_in source)) [])) ≡ list_any (λ v. not (is_known all v)) (operation_values (operation_in source)) =
         rw e (ap not (fragments_known all s.cpu s.above (operation_in source) fragments e) ∙ not_all (is_known all) (operation_values (operation_in source))) in
-        by_equal _ _ _ known (any_tied (λ v. not (is_known all v)) (IsUnknown all) (operation_values (operation_in source)) (unknown_tied all))
+        Decides-at _ _ known (any_tied (λ v. not (is_known all v)) (IsUnknown all) (operation_values (operation_in source)) (unknown_tied all))
 
 -- ---- values
 
-byte_tied : (o : Option ℕ) → Tied (is_some (below 256 (below 65536 o))) ((n : ℕ) × (o ≡ Some n) × (n ≤ 255))
-byte_tied None = record { to = λ e. false_true e; from = λ h. absurd (let e = h.1 in cc) }
-byte_tied (Some n) = go (ltb n 65536) refl (ltb n 256) refl
-  where
-    go : (b : Bool) → ltb n 65536 ≡ b → (c : Bool) → ltb n 256 ≡ c → Tied (is_some (below 256 (below 65536 (Some n)))) ((m : ℕ) × (Some n ≡ Some m) × (m ≤ 255))
-    go true e true f = let lt = ltb-true n 256 f in rw e (rw f (record { to = λ p. (n, refl, omega arith); from = λ h. refl }))
-    go true e false f = rw e (rw f (record { to = λ p. false_true p; from = λ h. absurd (let g = h.1 in let same : n ≡ h.0 = cc in let le = h.2 in let t : ltb n 256 ≡ true = grind (arith, nat_tests) in let no : ⊥ = cc in no) }))
-    go false e c f = rw e (record { to = λ p. false_true p; from = λ h. absurd (let g = h.1 in let same : n ≡ h.0 = cc in let le = h.2 in let t : ltb n 65536 ≡ true = grind (arith, nat_tests) in let no : ⊥ = cc in no) })
+-- a test of a value, if there is one
+value_tied : (test : Option ℕ → Bool) (P : ℕ → Type 0) → test None ≡ false → ((n : ℕ) → Decides (test (Some n)) (P n)) → (o : Option ℕ) → Decides (test o) ((n : ℕ) × (o ≡ Some n) × P n)
+value_tied test P none each None = (λ e. false_true (sym none ∙ e), λ h. absurd (let e = h.1 in cc))
+value_tied test P none each (Some n) = Decides-like (test (Some n)) (λ p. (n, refl, p)) (λ h. subst P (sym (same_Some n h.0 h.1)) h.2) (each n)
 
-below_tied : (limit : ℕ) (o : Option ℕ) → Tied (is_some (below limit o)) ((n : ℕ) × (o ≡ Some n) × (n < limit))
-below_tied limit None = record { to = λ e. false_true e; from = λ h. absurd (let e = h.1 in cc) }
-below_tied limit (Some n) = go (ltb n limit) refl
-  where
-    go : (b : Bool) → ltb n limit ≡ b → Tied (is_some (below limit (Some n))) ((m : ℕ) × (Some n ≡ Some m) × (m < limit))
-    go true e = let lt = ltb-true n limit e in rw e (record { to = λ p. (n, refl, lt); from = λ h. refl })
-    go false e = rw e (record { to = λ p. false_true p; from = λ h. absurd (let g = h.1 in let same : n ≡ h.0 = cc in let t : ltb n limit ≡ true = ap (λ (m : ℕ). ltb m limit) same ∙ lt-ltb h.0 limit h.2 in let no : ⊥ = cc in no) })
+byte_tied : (n : ℕ) → Decides (is_some (below 256 (below 65536 (Some n)))) (n ≤ 255)
+byte_tied n =
+    by_test (ltb n 65536)
+    (λ e. rw e (by_test (ltb n 256) (λ f. rw f (λ p. grind (arith, nat_tests), λ h. refl)) (λ f. rw f (λ p. false_true p, λ h. grind (arith, nat_tests)))))
+    (λ e. rw e (λ p. false_true p, λ h. grind (arith, nat_tests)))
 
-near_tied : (next : ℕ) (o : Option ℕ) → Tied (is_near next (below 65536 o)) ((n : ℕ) × (o ≡ Some n) × (n ≤ 65535) × (next ≤ n + 128) × (n ≤ next + 127))
-near_tied next None = record { to = λ e. false_true e; from = λ h. absurd (let e = h.1 in cc) }
-near_tied next (Some n) = go (ltb n 65536) refl (leb next (n + 128)) refl (leb n (next + 127)) refl
-  where
-    go : (a : Bool) → ltb n 65536 ≡ a → (b : Bool) → leb next (n + 128) ≡ b → (c : Bool) → leb n (next + 127) ≡ c
-        → Tied (is_near next (below 65536 (Some n))) ((m : ℕ) × (Some n ≡ Some m) × (m ≤ 65535) × (next ≤ m + 128) × (m ≤ next + 127))
-    go true e true f true g =
-        let lt = ltb-true n 65536 e in
-        let from_below : next ≤ n + 128 = grind (arith, nat_tests) in
-        let to_above : n ≤ next + 127 = grind (arith, nat_tests) in
-        rw e (rw (f, g) (record { to = λ p. (n, refl, omega arith, from_below, to_above); from = λ h. refl }))
-    go true e true f false g = rw e (rw (f, g) (record { to = λ p. false_true p; from = λ h. absurd (let i = h.1 in let same : n ≡ h.0 = cc in let le = h.4 in let t : leb n (next + 127) ≡ true = grind (arith, nat_tests) in let no : ⊥ = cc in no) }))
-    go true e false f c g = rw e (rw f (record { to = λ p. false_true p; from = λ h. absurd (let i = h.1 in let same : n ≡ h.0 = cc in let le = h.3 in let t : leb next (n + 128) ≡ true = grind (arith, nat_tests) in let no : ⊥ = cc in no) }))
-    go false e b f c g = rw e (record { to = λ p. false_true p; from = λ h. absurd (let i = h.1 in let same : n ≡ h.0 = cc in let le = h.2 in let t : ltb n 65536 ≡ true = grind (arith, nat_tests) in let no : ⊥ = cc in no) })
+below_tied : (limit n : ℕ) → Decides (is_some (below limit (Some n))) (n < limit)
+below_tied limit n = by_test (ltb n limit) (λ e. rw e (λ p. ltb-true n limit e, λ h. refl)) (λ e. rw e (λ p. false_true p, λ h. grind (arith, nat_tests)))
 
-room_tied : (all : List Definition) (next : ℕ) (f : Fragment) → Tied (fragment_fits all next f) (HasRoom all next f)
+near_tied : (next n : ℕ) → Decides (is_near next (below 65536 (Some n))) ((n ≤ 65535) × (next ≤ n + 128) × (n ≤ next + 127))
+near_tied next n =
+    by_test (ltb n 65536)
+    (λ e. rw e (λ p. (grind (arith, nat_tests), grind (arith, nat_tests), grind (arith, nat_tests)), λ h. let low = h.1 in let high = h.2 in grind (arith, nat_tests)))
+    (λ e. rw e (λ p. false_true p, λ h. let le = h.0 in grind (arith, nat_tests)))
+
+room_tied : (all : List Definition) (next : ℕ) (f : Fragment) → Decides (fragment_fits all next f) (HasRoom all next f)
 unfolding fragment_fits word_in entry_in
-room_tied all next (Fixed b) = record { to = λ e. tt; from = λ h. refl }
-room_tied all next (Single v) = byte_tied (value_in all v)
-room_tied all next (ZeroPage v) = byte_tied (value_in all v)
+room_tied all next (Fixed b) = (λ e. tt, λ h. refl)
+room_tied all next (Single v) = value_tied (λ o. is_some (below 256 (below 65536 o))) (λ n. n ≤ 255) refl byte_tied (value_in all v)
+room_tied all next (ZeroPage v) = value_tied (λ o. is_some (below 256 (below 65536 o))) (λ n. n ≤ 255) refl byte_tied (value_in all v)
 room_tied all next (Oversized v) = never
-room_tied all next (Entry d v) = below_tied (entry_limit d) (value_in all v)
-room_tied all next (Distance v) = near_tied next (value_in all v)
-
-less_tied : (m n : ℕ) → Tied (ltb m n) (m < n)
-less_tied m n = record { to = λ e. ltb-true m n e; from = λ h. lt-ltb m n h }
-
-or_tied : (a b : Bool) (P Q : Type 0) → Tied a P → Tied b Q → Tied (a || b) (P ⊎ Q)
-or_tied true b P Q h g = record { to = λ e. inl (h.to refl); from = λ p. refl }
-or_tied false b P Q h g = record { to = λ e. inr (g.to e); from = λ p. elim p [ inl x ↦ false_true (h.from x) | inr y ↦ g.from y ] }
+room_tied all next (Entry d v) = value_tied (λ o. is_some (below (entry_limit d) o)) (λ n. n < entry_limit d) refl (below_tied (entry_limit d)) (value_in all v)
+room_tied all next (Distance v) =
+    Decides-like _ (λ x. (x.0, x.1, x.2.0, x.2.1, x.2.2)) (λ h. (h.0, h.1, (h.2, h.3, h.4)))
+    (value_tied (λ o. is_near next (below 65536 o)) (λ n. (n ≤ 65535) × (next ≤ n + 128) × (n ≤ next + 127)) refl (near_tied next) (value_in all v))
 
 pub range_tied : (all : List Definition) (s : State) (source : SourceLine)
-    → Tied (is_out_of_range all s source) (Any (λ d. 65535 < d.value) (defined_by s.at source) ⊎ Any (λ f. ¬ HasRoom all (next_of s source) f) (fragments_of s source))
+    → Decides (is_out_of_range all s source) (Any (λ d. 65535 < d.value) (defined_by s.at source) ⊎ Any (λ f. ¬ HasRoom all (next_of s source) f) (fragments_of s source))
 unfolding is_out_of_range
 range_tied all s source =
-    or_tied _ _ _ _ (any_tied (λ d. ltb 65535 d.value) (λ d. 65535 < d.value) (defined_by s.at source) (λ d. less_tied 65535 d.value))
-    (by_equal _ _ _ (not_all (fragment_fits all (next_of s source)) (fragments_of s source))
-    (any_tied (λ f. not (fragment_fits all (next_of s source) f)) (λ f. ¬ HasRoom all (next_of s source) f) (fragments_of s source) (λ f. not_tied _ _ (room_tied all (next_of s source) f))))
+    Decides-or _ _ (any_tied (λ d. ltb 65535 d.value) (λ d. 65535 < d.value) (defined_by s.at source) (λ d. Decides-ltb 65535 d.value))
+    (Decides-at _ _ (not_all (fragment_fits all (next_of s source)) (fragments_of s source))
+    (any_tied (λ f. not (fragment_fits all (next_of s source) f)) (λ f. ¬ HasRoom all (next_of s source) f) (fragments_of s source) (λ f. Decides-not _ (room_tied all (next_of s source) f))))
 
 -- ---- the first test that holds
 
--- the test of a kind among the six of a line
-abbrev test : Bool → Bool → Bool → Bool → Bool → Bool → AsmFaultKind → Bool
-test u n d t o p Syntax = false
-test u n d t o p UnknownCpu = u
-test u n d t o p NoSuchForm = n
-test u n d t o p Undefined = d
-test u n d t o p DefinedTwice = t
-test u n d t o p OutOfRange = o
-test u n d t o p PastEnd = p
-test u n d t o p Memory = false
+-- the kinds by their ranks, so that there is one of a rank
+abbrev kinds : List AsmFaultKind
+kinds = Syntax ∷ UnknownCpu ∷ NoSuchForm ∷ Undefined ∷ DefinedTwice ∷ OutOfRange ∷ PastEnd ∷ Memory ∷ []
 
--- the first kind of the six whose test holds
-abbrev lowest : Bool → Bool → Bool → Bool → Bool → Bool → Option AsmFaultKind
-lowest u n d t o p = first_of ((UnknownCpu, u) ∷ (NoSuchForm, n) ∷ (Undefined, d) ∷ (DefinedTwice, t) ∷ (OutOfRange, o) ∷ (PastEnd, p) ∷ [])
+at_rank : (kind : AsmFaultKind) → slice_get kinds (rank kind) ≡ Some kind
+at_rank Syntax = refl
+at_rank _ = refl
 
--- the test holds, and none of a lower kind
-record IsFirst (u n d t o p : Bool) (kind : AsmFaultKind) : Type 0 where
-  holds : test u n d t o p kind ≡ true
-  lower : (other : AsmFaultKind) → rank other < rank kind → test u n d t o p other ≡ false
+same_rank : (j k : AsmFaultKind) → rank j ≡ rank k → j ≡ k
+same_rank j k e = same_Some j k (sym (at_rank j) ∙ ap (slice_get kinds) e ∙ at_rank k)
 
-lower_false : (u n d t o p : Bool) (k : ℕ) → (1 < k → u ≡ false) → (2 < k → n ≡ false) → (3 < k → d ≡ false) → (4 < k → t ≡ false) → (5 < k → o ≡ false) → (6 < k → p ≡ false)
-    → (other : AsmFaultKind) → rank other < k → test u n d t o p other ≡ false
-lower_false u n d t o p k a b c e f g Syntax lt = refl
-lower_false u n d t o p k a b c e f g UnknownCpu lt = a lt
-lower_false u n d t o p k a b c e f g NoSuchForm lt = b lt
-lower_false u n d t o p k a b c e f g Undefined lt = c lt
-lower_false u n d t o p k a b c e f g DefinedTwice lt = e lt
-lower_false u n d t o p k a b c e f g OutOfRange lt = f lt
-lower_false u n d t o p k a b c e f g PastEnd lt = g lt
-lower_false u n d t o p k a b c e f g Memory lt = refl
+-- the lowest kind from rank n on that has a fault, or none if no kind has one
+abbrev Lowest : (AsmFaultKind → Type 0) → ℕ → Option AsmFaultKind → Type 0
+Lowest Has n None = (kind : AsmFaultKind) → n ≤ rank kind → ¬ Has kind
+Lowest Has n (Some kind) = (n ≤ rank kind) × Has kind × ((other : AsmFaultKind) → n ≤ rank other → rank other < rank kind → ¬ Has other)
 
-same_kind : (P : AsmFaultKind → Type 0) (k kind : AsmFaultKind) → Some k ≡ Some kind → P k → P kind
-same_kind P k kind e h = let same : k ≡ kind = cc in subst P same h
+-- the tests of all kinds from rank n on, each where none before it holds
+abbrev AreTests : (AsmFaultKind → Type 0) → ℕ → List Test → Type 0
+AreTests Has n [] = (kind : AsmFaultKind) → n ≤ rank kind → ¬ Has kind
+AreTests Has n (t ∷ ts) = (rank t.0 ≡ n) × Decides t.1 (Has t.0) × (t.1 ≡ false → AreTests Has (suc n) ts)
 
-lowest-first : (u n d t o p : Bool) (kind : AsmFaultKind) → lowest u n d t o p ≡ Some kind → IsFirst u n d t o p kind
-lowest-first true n d t o p kind e = same_kind (IsFirst true n d t o p) UnknownCpu kind e (record { holds = refl; lower = lower_false true n d t o p 1 (λ l. absurd (omega arith)) (λ l. absurd (omega arith)) (λ l. absurd (omega arith)) (λ l. absurd (omega arith)) (λ l. absurd (omega arith)) (λ l. absurd (omega arith)) })
-lowest-first false true d t o p kind e = same_kind (IsFirst false true d t o p) NoSuchForm kind e (record { holds = refl; lower = lower_false false true d t o p 2 (λ l. refl) (λ l. absurd (omega arith)) (λ l. absurd (omega arith)) (λ l. absurd (omega arith)) (λ l. absurd (omega arith)) (λ l. absurd (omega arith)) })
-lowest-first false false true t o p kind e = same_kind (IsFirst false false true t o p) Undefined kind e (record { holds = refl; lower = lower_false false false true t o p 3 (λ l. refl) (λ l. refl) (λ l. absurd (omega arith)) (λ l. absurd (omega arith)) (λ l. absurd (omega arith)) (λ l. absurd (omega arith)) })
-lowest-first false false false true o p kind e = same_kind (IsFirst false false false true o p) DefinedTwice kind e (record { holds = refl; lower = lower_false false false false true o p 4 (λ l. refl) (λ l. refl) (λ l. refl) (λ l. absurd (omega arith)) (λ l. absurd (omega arith)) (λ l. absurd (omega arith)) })
-lowest-first false false false false true p kind e = same_kind (IsFirst false false false false true p) OutOfRange kind e (record { holds = refl; lower = lower_false false false false false true p 5 (λ l. refl) (λ l. refl) (λ l. refl) (λ l. refl) (λ l. absurd (omega arith)) (λ l. absurd (omega arith)) })
-lowest-first false false false false false true kind e = same_kind (IsFirst false false false false false true) PastEnd kind e (record { holds = refl; lower = lower_false false false false false false true 6 (λ l. refl) (λ l. refl) (λ l. refl) (λ l. refl) (λ l. refl) (λ l. absurd (omega arith)) })
-lowest-first false false false false false false kind e = absurd cc
+first_is_lowest : (Has : AsmFaultKind → Type 0) (n : ℕ) (ts : List Test) → AreTests Has n ts → Lowest Has n (first_of ts)
+first_is_lowest Has n [] h = h
+first_is_lowest Has n (t ∷ ts) h =
+    by_test t.1
+    (λ e. rw e (omega (arith, h.0), h.1.0 e, λ other le lt. absurd (omega (arith, h.0))))
+    (λ e. rw e (later e (first_of ts) (first_is_lowest Has (suc n) ts (h.2 e))))
+  where
+    past : t.1 ≡ false → (other : AsmFaultKind) → n ≤ rank other → (n < rank other → ¬ Has other) → ¬ Has other
+    past e other le more = λ has. elim (cases_lt n (rank other)) [
+      | inl lt ↦ more lt has
+      | inr ge ↦ false_true (sym e ∙ h.1.1 (subst Has (same_rank other t.0 (omega (arith, h.0))) has))
+    ]
 
-first-lowest : (u n d t o p : Bool) (kind : AsmFaultKind) → IsFirst u n d t o p kind → lowest u n d t o p ≡ Some kind
-first-lowest u n d t o p Syntax h = false_true h.holds
-first-lowest u n d t o p UnknownCpu h = let a : u ≡ true = h.holds in rw a refl
-first-lowest u n d t o p NoSuchForm h = let a : u ≡ false = h.lower UnknownCpu (omega arith) in let b : n ≡ true = h.holds in rw (a, b) refl
-first-lowest u n d t o p Undefined h =
-    let a : u ≡ false = h.lower UnknownCpu (omega arith) in
-    let b : n ≡ false = h.lower NoSuchForm (omega arith) in
-    let c : d ≡ true = h.holds in
-    rw (a, b, c) refl
-first-lowest u n d t o p DefinedTwice h =
-    let a : u ≡ false = h.lower UnknownCpu (omega arith) in
-    let b : n ≡ false = h.lower NoSuchForm (omega arith) in
-    let c : d ≡ false = h.lower Undefined (omega arith) in
-    let e : t ≡ true = h.holds in
-    rw (a, b, c, e) refl
-first-lowest u n d t o p OutOfRange h =
-    let a : u ≡ false = h.lower UnknownCpu (omega arith) in
-    let b : n ≡ false = h.lower NoSuchForm (omega arith) in
-    let c : d ≡ false = h.lower Undefined (omega arith) in
-    let e : t ≡ false = h.lower DefinedTwice (omega arith) in
-    let f : o ≡ true = h.holds in
-    rw (a, b, c, e, f) refl
-first-lowest u n d t o p PastEnd h =
-    let a : u ≡ false = h.lower UnknownCpu (omega arith) in
-    let b : n ≡ false = h.lower NoSuchForm (omega arith) in
-    let c : d ≡ false = h.lower Undefined (omega arith) in
-    let e : t ≡ false = h.lower DefinedTwice (omega arith) in
-    let f : o ≡ false = h.lower OutOfRange (omega arith) in
-    let g : p ≡ true = h.holds in
-    rw (a, b, c, e, f, g) refl
-first-lowest u n d t o p Memory h = false_true h.holds
+    later : t.1 ≡ false → (o : Option AsmFaultKind) → Lowest Has (suc n) o → Lowest Has n o
+    later e None l = λ kind le. past e kind le (λ lt. l kind (omega arith))
+    later e (Some kind) l = (omega (arith, l.0), l.1, λ other le lt. past e other le (λ more. l.2 other (omega arith) lt))
+
+one_lowest : (Has : AsmFaultKind → Type 0) (o p : Option AsmFaultKind) → Lowest Has 0 o → Lowest Has 0 p → o ≡ p
+one_lowest Has None None h g = refl
+one_lowest Has None (Some k) h g = absurd (h k (omega arith) g.1)
+one_lowest Has (Some j) None h g = absurd (g j (omega arith) h.1)
+one_lowest Has (Some j) (Some k) h g = elim (cases_lt (rank j) (rank k)) [
+  | inl lt ↦ absurd (g.2 j (omega arith) lt h.1)
+  | inr le ↦ elim (cases_lt (rank k) (rank j)) [
+    | inl lt ↦ absurd (h.2 k (omega arith) lt g.1)
+    | inr ge ↦ ap (λ (x : AsmFaultKind). Some x) (same_rank j k (omega arith))
+  ]
+]
 
 -- ---- the rules of a line
 
-abbrev tests : List Definition → State → SourceLine → AsmFaultKind → Bool
-tests all s source = test (has_unknown_cpu (operation_in source)) (has_no_form s source) (is_undefined all s source) (is_twice s source) (is_out_of_range all s source) (is_past_end s source)
-
-no_form_tied : (s : State) (source : SourceLine) → Tied (has_no_form s source) (HasNoMode s.cpu (operation_in source))
+no_form_tied : (s : State) (source : SourceLine) → Decides (has_no_form s source) (HasNoMode s.cpu (operation_in source))
 unfolding has_no_form
 no_form_tied s source = form_tied s.cpu s.above (operation_in source)
 
-twice_tied : (s : State) (source : SourceLine) → Tied (is_twice s source) (Any (λ d. is_some (find_name d.name s.above) ≡ true) (defined_by s.at source))
+twice_tied : (s : State) (source : SourceLine) → Decides (is_twice s source) (Any (λ d. is_some (find_name d.name s.above) ≡ true) (defined_by s.at source))
 unfolding is_twice
-twice_tied s source = record { to = Any-from_list_any (λ d. is_some (find_name d.name s.above)) (defined_by s.at source); from = list_any-from_Any (λ d. is_some (find_name d.name s.above)) (defined_by s.at source) }
+twice_tied s source = (Any-from_list_any _ (defined_by s.at source), list_any-from_Any _ (defined_by s.at source))
 
-end_tied : (s : State) (source : SourceLine) → Tied (is_past_end s source) (65536 < next_of s source)
+end_tied : (s : State) (source : SourceLine) → Decides (is_past_end s source) (65536 < next_of s source)
 unfolding is_past_end
-end_tied s source = less_tied 65536 (next_of s source)
+end_tied s source = Decides-ltb 65536 (next_of s source)
 
--- the test of a kind is its rule, where the line has a form
-tied : (all : List Definition) (s : State) (source : SourceLine) (kind : AsmFaultKind) → (2 < rank kind → has_no_form s source ≡ false) → Tied (tests all s source kind) (HasFault all s source kind)
-tied all s source Syntax h = never
-tied all s source UnknownCpu h = cpu_tied (operation_in source)
-tied all s source NoSuchForm h = no_form_tied s source
-tied all s source Undefined h = undefined_tied all s source (h (omega arith))
-tied all s source DefinedTwice h = twice_tied s source
-tied all s source OutOfRange h = range_tied all s source
-tied all s source PastEnd h = end_tied s source
-tied all s source Memory h = never
+none_after : (all : List Definition) (s : State) (source : SourceLine) (kind : AsmFaultKind) → 7 ≤ rank kind → ¬ HasFault all s source kind
+none_after all s source Memory le = λ h. h
+none_after all s source _ le = absurd (omega arith)
 
-from_not : (b : Bool) (P : Type 0) → Tied b P → ¬ P → b ≡ false
-from_not true P h deny = absurd (deny (h.to refl))
-from_not false P h deny = refl
-
-not_from : (b : Bool) (P : Type 0) → Tied b P → b ≡ false → P → ⊥
-not_from b P h e p = false_true (sym e ∙ h.from p)
+lowest : (all : List Definition) (s : State) (line : Option SourceLine) → Lowest (LineHasFault all s line) 0 (fault_of all s line)
+unfolding fault_of
+lowest all s None = (omega arith, refl, λ other le lt. absurd (omega arith))
+lowest all s (Some source) = first_is_lowest (HasFault all s source) 0 ((Syntax, false) ∷ tests_of all s source) (
+  refl,
+  never,
+  λ _. (
+    refl,
+    cpu_tied (operation_in source),
+    λ _. (
+      refl,
+      no_form_tied s source,
+      λ form. (
+        refl,
+        undefined_tied all s source form,
+        λ _. (refl, twice_tied s source, λ _. (refl, range_tied all s source, λ _. (refl, end_tied s source, λ _. none_after all s source))),
+      ),
+    ),
+  ),
+)
 
 pub finds_lowest : FindsLowest
-unfolding fault_of
-finds_lowest all s None kind = (
-  λ e. (same_kind (λ k. k ≡ Syntax) Syntax kind e refl, λ other lt h. let same : kind ≡ Syntax = same_kind (λ k. k ≡ Syntax) Syntax kind e refl in let lt' = rw (h, same) at lt in absurd (omega arith)),
-  λ h. ap (λ (k : AsmFaultKind). Some k) (sym h.0),
+finds_lowest all s line kind = (
+  λ e. let found = rw e at (lowest all s line) in (found.1, λ other lt. found.2 other (omega arith) lt),
+  λ h. one_lowest (LineHasFault all s line) (fault_of all s line) (Some kind) (lowest all s line) (omega arith, h.0, λ other le lt. h.1 other lt),
 )
-finds_lowest all s (Some source) kind = (
-  λ e. let first = lowest-first (has_unknown_cpu (operation_in source)) (has_no_form s source) (is_undefined all s source) (is_twice s source) (is_out_of_range all s source) (is_past_end s source) kind e in (
-    (tied all s source kind (first.lower NoSuchForm)).to first.holds,
-    λ other lt h. not_from (tests all s source other) (HasFault all s source other) (tied all s source other (λ l. first.lower NoSuchForm (omega arith))) (first.lower other lt) h,
-  ),
-  λ h. let form : 2 < rank kind → has_no_form s source ≡ false = λ l. from_not (has_no_form s source) (HasNoMode s.cpu (operation_in source)) (no_form_tied s source) (h.1 NoSuchForm l) in
-      first-lowest (has_unknown_cpu (operation_in source)) (has_no_form s source) (is_undefined all s source) (is_twice s source) (is_out_of_range all s source) (is_past_end s source) kind (record {
-        holds = (tied all s source kind form).from h.0;
-        lower = λ other lt. from_not (tests all s source other) (HasFault all s source other) (tied all s source other (λ l. form (omega arith))) (h.1 other lt);
-      }),
-)
-
--- some fault, then the lowest one
-none_lowest : (u n d t o p : Bool) → ((kind : AsmFaultKind) → test u n d t o p kind ≡ false) → lowest u n d t o p ≡ None
-none_lowest u n d t o p h =
-    let a : u ≡ false = h UnknownCpu in
-    let b : n ≡ false = h NoSuchForm in
-    let c : d ≡ false = h Undefined in
-    let e : t ≡ false = h DefinedTwice in
-    let f : o ≡ false = h OutOfRange in
-    let g : p ≡ false = h PastEnd in
-    rw (a, b, c, e, f, g) refl
-
-lowest-none : (u n d t o p : Bool) → lowest u n d t o p ≡ None → (kind : AsmFaultKind) → test u n d t o p kind ≡ false
-lowest-none true n d t o p e kind = absurd cc
-lowest-none false true d t o p e kind = absurd cc
-lowest-none false false true t o p e kind = absurd cc
-lowest-none false false false true o p e kind = absurd cc
-lowest-none false false false false true p e kind = absurd cc
-lowest-none false false false false false true e kind = absurd cc
-lowest-none false false false false false false e Syntax = refl
-lowest-none false false false false false false e _ = refl
 
 pub finds_none : FindsNone
-unfolding fault_of
-finds_none all s None = (λ e. absurd cc, λ h. absurd (h Syntax refl))
-finds_none all s (Some source) = (
-  λ e kind h. let none = lowest-none (has_unknown_cpu (operation_in source)) (has_no_form s source) (is_undefined all s source) (is_twice s source) (is_out_of_range all s source) (is_past_end s source) e in
-      not_from (tests all s source kind) (HasFault all s source kind) (tied all s source kind (λ l. none NoSuchForm)) (none kind) h,
-  λ h. let form : has_no_form s source ≡ false = from_not (has_no_form s source) (HasNoMode s.cpu (operation_in source)) (no_form_tied s source) (h NoSuchForm) in
-      none_lowest (has_unknown_cpu (operation_in source)) (has_no_form s source) (is_undefined all s source) (is_twice s source) (is_out_of_range all s source) (is_past_end s source)
-      (λ kind. from_not (tests all s source kind) (HasFault all s source kind) (tied all s source kind (λ l. form)) (h kind)),
+finds_none all s line = (
+  λ e kind. let found = rw e at (lowest all s line) in found kind (omega arith),
+  λ h. one_lowest (LineHasFault all s line) (fault_of all s line) None (lowest all s line) (λ kind le. h kind),
 )
