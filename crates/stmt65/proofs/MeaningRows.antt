@@ -1,5 +1,5 @@
 -- Worked rows of the meaning: what a few lines mean from a start.
-use Rattle.std.specs.Prelude.{◌≡◌, ℕ, List, [], ◌∷◌, codes, Option, Some, None, Result, Ok, Err, refl}
+use Rattle.std.specs.Prelude.{◌≡◌, ℕ, List, [], ◌∷◌, map, codes, Option, Some, None, Result, Ok, Err, refl}
 use Rattle.isa65.specs.declared.mnemonic.Mnemonic.{Mnemonic}
 use Rattle.isa65.specs.declared.mnemonic.Mnemonic.TheVariants.{Bne, Bra, Asl, Jmp, Lda, Nop, Smb0, Sta, Stx}
 use Rattle.stmt65.specs.declared.assembling.fault.AsmFault.{AsmFault}
@@ -43,88 +43,57 @@ op m form = line (Instr m form)
 abbrev at_line : ℕ → AsmFaultKind → Result (List ℕ) AsmFault
 at_line n kind = Err (record { line = n; kind = kind })
 
--- ---- the rows
-record WorkedMeanings : Type 0 where
-  -- `lda $12`, `lda a:$12`, `sta $12,y`
-  two_sizes : meaning_of 0x1000 (op Lda (Direct Automatic (NumberValue 0x12)) ∷ op Lda (Direct Absolute (NumberValue 0x12)) ∷ op Sta (DirectY Automatic (NumberValue 0x12)) ∷ [])
-      ≡ Ok (0xA5 ∷ 0x12 ∷ 0xAD ∷ 0x12 ∷ 0 ∷ 0x99 ∷ 0x12 ∷ 0 ∷ [])
-  -- a constant below its use has absolute size, and one above has zero-page size
-  constant_below : meaning_of 0x1000 (op Lda (Direct Automatic (name foo)) ∷ Some (Assignment foo 0x12) ∷ []) ≡ Ok (0xAD ∷ 0x12 ∷ 0 ∷ [])
-  constant_above : meaning_of 0x1000 (Some (Assignment foo 0x12) ∷ op Lda (Direct Automatic (name foo)) ∷ []) ≡ Ok (0xA5 ∷ 0x12 ∷ [])
-  -- a label in the zero page has absolute size all the same, which `stx foo,y` has not
-  label_in_zero_page : meaning_of 0x12 (label foo (Instr Lda (Direct Automatic (name foo))) ∷ op Stx (DirectY Automatic (name foo)) ∷ []) ≡ at_line 2 OutOfRange
-  -- `bne foo`, a line that is none, `foo:`; and `jmp foo`, `foo: asl`
-  syntax_first : meaning_of 0x1000 (op Bne (Direct Automatic (name foo)) ∷ None ∷ label foo Nothing ∷ []) ≡ at_line 2 Syntax
-  -- a line that is none defines nothing, one without such a form stands as a label
-  none_defines_nothing : meaning_of 0x1000 (op Jmp (Direct Automatic (name foo)) ∷ None ∷ []) ≡ at_line 1 Undefined
-  label_stands : meaning_of 0x1000 (op Jmp (Direct Automatic (name foo)) ∷ label foo (Instr Asl Empty) ∷ []) ≡ at_line 2 NoSuchForm
-  -- `.setcpu "6809"`; `bra $1000`; `jmp foo`; `foo:` and `foo: nop`; `bne $2000`; `lda #1` from $FFFF
-  unknown_cpu : meaning_of 0x1000 (line (SetCpu (codes "6809")) ∷ []) ≡ at_line 1 UnknownCpu
-  branch_always : meaning_of 0x1000 (op Bra (Direct Automatic (NumberValue 0x1000)) ∷ []) ≡ at_line 1 NoSuchForm
-  twice : meaning_of 0x1000 (label foo Nothing ∷ label foo (Instr Nop Empty) ∷ []) ≡ at_line 2 DefinedTwice
-  far_branch : meaning_of 0x1000 (op Bne (Direct Automatic (NumberValue 0x2000)) ∷ []) ≡ at_line 1 OutOfRange
-  near_branches : meaning_of 0x1000 (op Bne (Direct Automatic (NumberValue 0x0F82)) ∷ op Bne (Direct Automatic (NumberValue 0x1083)) ∷ op Bne (Direct Automatic (NumberValue 0x1004)) ∷ []) ≡ Ok (0xD0 ∷ 0x80 ∷ 0xD0 ∷ 0x7F ∷ 0xD0 ∷ 0xFE ∷ [])
-  past_end : meaning_of 0xFFFF (op Lda (Immediate (NumberValue 1)) ∷ []) ≡ at_line 1 PastEnd
-  -- a label after the last byte
-  label_after_the_last_byte : meaning_of 0xFFFF (op Nop Empty ∷ label foo Nothing ∷ []) ≡ at_line 2 OutOfRange
-  -- `foo-1` where foo is 0 has zero-page size and fits nowhere; where foo is 1 it is 0
-  below_zero : meaning_of 0x1000 (Some (Assignment foo 0) ∷ op Lda (Direct Automatic (NameValue foo 0 One)) ∷ []) ≡ at_line 2 OutOfRange
-  one_less : meaning_of 0x1000 (Some (Assignment foo 1) ∷ op Lda (Direct Automatic (NameValue foo 0 One)) ∷ line (Values Word (NameValue foo 1 One ∷ [])) ∷ []) ≡ Ok (0xA5 ∷ 0 ∷ 1 ∷ 0 ∷ [])
-  -- `foo-1` where foo is 0 counts as zero page all the same, so the label below it is at $FFFF and the entry above has room for it
-  size_below_zero : meaning_of 0xFFFB (Some (Assignment foo 0) ∷ line (Values Addr (name bar ∷ [])) ∷ op Lda (Direct Automatic (NameValue foo 0 One)) ∷ label bar Nothing ∷ []) ≡ at_line 3 OutOfRange
-  -- below an unknown CPU the one above it counts, so `smb0 $12` has two bytes, and the label below it no room in the entry above
-  cpu_below_an_unknown_one : meaning_of 0xFFFC (line (Values Addr (name bar ∷ [])) ∷ line (SetCpu (codes "65C02")) ∷ line (SetCpu (codes "6809")) ∷ op Smb0 (Direct Automatic (NumberValue 0x12)) ∷ label bar Nothing ∷ []) ≡ at_line 1 OutOfRange
-  -- of two definitions the first counts
-  first_definition : meaning_of 0x1000 (op Lda (Immediate (name foo)) ∷ Some (Assignment foo 0x100) ∷ Some (Assignment foo 1) ∷ []) ≡ at_line 1 OutOfRange
-  -- data, and lines without bytes
-  data_lines : meaning_of 0x1000 (line (Data (NumberDatum 1 ∷ StringDatum (codes "AB") ∷ StringDatum [] ∷ [])) ∷ line Code ∷ line (Segment foo) ∷ line (Values Dbyt (NumberValue 0x1234 ∷ [])) ∷ line (Values Addr (NumberValue 0x1234 ∷ [])) ∷ Some (PlaceAssignment foo 2) ∷ line (Values Word (name foo ∷ NumberValue 0xFFFF ∷ [])) ∷ [])
-      ≡ Ok (1 ∷ 65 ∷ 66 ∷ 0x12 ∷ 0x34 ∷ 0x34 ∷ 0x12 ∷ 0x09 ∷ 0x10 ∷ 0xFF ∷ 0xFF ∷ [])
-  double_words : meaning_of 0x1000 (line (Values Dword (NumberValue 0x12345678 ∷ NumberValue 1 ∷ [])) ∷ []) ≡ Ok (0x78 ∷ 0x56 ∷ 0x34 ∷ 0x12 ∷ 1 ∷ 0 ∷ 0 ∷ 0 ∷ [])
-  large_double_word : meaning_of 0x1000 (line (Values Dword (NumberValue 0x100000000 ∷ [])) ∷ []) ≡ at_line 1 OutOfRange
-  large_word : meaning_of 0x1000 (line (Values Word (NumberValue 0xFFFF ∷ [])) ∷ line (Values Word (NumberValue 0x10000 ∷ [])) ∷ []) ≡ at_line 2 OutOfRange
-  large_dbyt : meaning_of 0x1000 (line (Values Dbyt (NumberValue 0xFFFF ∷ [])) ∷ line (Values Dbyt (NumberValue 0x10000 ∷ [])) ∷ []) ≡ at_line 2 OutOfRange
-  large_address : meaning_of 0x1000 (line (Values Addr (NumberValue 0xFFFF ∷ [])) ∷ line (Values Addr (NumberValue 0x10000 ∷ [])) ∷ []) ≡ at_line 2 OutOfRange
-  -- a byte that is too large; `a:` before a branch; nothing at all
-  large_byte : meaning_of 0x1000 (line (Data (NumberDatum 0x100 ∷ [])) ∷ []) ≡ at_line 1 OutOfRange
-  long_branch : meaning_of 0x1000 (op Bne (Direct Absolute (NumberValue 0x1000)) ∷ []) ≡ at_line 1 NoSuchForm
-  no_line : meaning_of 0x1000 [] ≡ Ok []
-  -- the same from a text
-  data_from_text : meaning 0x1000 (codes ".byte $01,\"AB\"\n.word $1234\n.ADDR 4660\n.dbyt $1234\n.dword $12345678\n") ≡ Ok (1 ∷ 65 ∷ 66 ∷ 0x34 ∷ 0x12 ∷ 0x34 ∷ 0x12 ∷ 0x12 ∷ 0x34 ∷ 0x78 ∷ 0x56 ∷ 0x34 ∷ 0x12 ∷ [])
+-- ---- the rows: what lines mean, and their bytes or their fault
+abbrev rows : List (Result (List ℕ) AsmFault × Result (List ℕ) AsmFault)
+rows =
+    -- `lda $12`, `lda a:$12`, `sta $12,y`
+    (meaning_of 0x1000 (op Lda (Direct Automatic (NumberValue 0x12)) ∷ op Lda (Direct Absolute (NumberValue 0x12)) ∷ op Sta (DirectY Automatic (NumberValue 0x12)) ∷ []), Ok (0xA5 ∷ 0x12 ∷ 0xAD ∷ 0x12 ∷ 0 ∷ 0x99 ∷ 0x12 ∷ 0 ∷ [])) ∷
+    -- a constant below its use has absolute size, and one above has zero-page size
+    (meaning_of 0x1000 (op Lda (Direct Automatic (name foo)) ∷ Some (Assignment foo 0x12) ∷ []), Ok (0xAD ∷ 0x12 ∷ 0 ∷ [])) ∷
+    (meaning_of 0x1000 (Some (Assignment foo 0x12) ∷ op Lda (Direct Automatic (name foo)) ∷ []), Ok (0xA5 ∷ 0x12 ∷ [])) ∷
+    -- a label in the zero page has absolute size all the same, which `stx foo,y` has not
+    (meaning_of 0x12 (label foo (Instr Lda (Direct Automatic (name foo))) ∷ op Stx (DirectY Automatic (name foo)) ∷ []), at_line 2 OutOfRange) ∷
+    -- `bne foo`, a line that is none, `foo:`; and `jmp foo`, `foo: asl`
+    (meaning_of 0x1000 (op Bne (Direct Automatic (name foo)) ∷ None ∷ label foo Nothing ∷ []), at_line 2 Syntax) ∷
+    -- a line that is none defines nothing, one without such a form stands as a label
+    (meaning_of 0x1000 (op Jmp (Direct Automatic (name foo)) ∷ None ∷ []), at_line 1 Undefined) ∷
+    (meaning_of 0x1000 (op Jmp (Direct Automatic (name foo)) ∷ label foo (Instr Asl Empty) ∷ []), at_line 2 NoSuchForm) ∷
+    -- `.setcpu "6809"`; `bra $1000`; `jmp foo`; `foo:` and `foo: nop`; `bne $2000`; `lda #1` from $FFFF
+    (meaning_of 0x1000 (line (SetCpu (codes "6809")) ∷ []), at_line 1 UnknownCpu) ∷
+    (meaning_of 0x1000 (op Bra (Direct Automatic (NumberValue 0x1000)) ∷ []), at_line 1 NoSuchForm) ∷
+    (meaning_of 0x1000 (label foo Nothing ∷ label foo (Instr Nop Empty) ∷ []), at_line 2 DefinedTwice) ∷
+    (meaning_of 0x1000 (op Bne (Direct Automatic (NumberValue 0x2000)) ∷ []), at_line 1 OutOfRange) ∷
+    (meaning_of 0x1000 (op Bne (Direct Automatic (NumberValue 0x0F82)) ∷ op Bne (Direct Automatic (NumberValue 0x1083)) ∷ op Bne (Direct Automatic (NumberValue 0x1004)) ∷ []), Ok (0xD0 ∷ 0x80 ∷ 0xD0 ∷ 0x7F ∷ 0xD0 ∷ 0xFE ∷ [])) ∷
+    (meaning_of 0xFFFF (op Lda (Immediate (NumberValue 1)) ∷ []), at_line 1 PastEnd) ∷
+    -- a label after the last byte
+    (meaning_of 0xFFFF (op Nop Empty ∷ label foo Nothing ∷ []), at_line 2 OutOfRange) ∷
+    -- `foo-1` where foo is 0 has zero-page size and fits nowhere; where foo is 1 it is 0
+    (meaning_of 0x1000 (Some (Assignment foo 0) ∷ op Lda (Direct Automatic (NameValue foo 0 One)) ∷ []), at_line 2 OutOfRange) ∷
+    (meaning_of 0x1000 (Some (Assignment foo 1) ∷ op Lda (Direct Automatic (NameValue foo 0 One)) ∷ line (Values Word (NameValue foo 1 One ∷ [])) ∷ []), Ok (0xA5 ∷ 0 ∷ 1 ∷ 0 ∷ [])) ∷
+    -- `foo-1` where foo is 0 counts as zero page all the same, so the label below it is at $FFFF and the entry above has room for it
+    (meaning_of 0xFFFB (Some (Assignment foo 0) ∷ line (Values Addr (name bar ∷ [])) ∷ op Lda (Direct Automatic (NameValue foo 0 One)) ∷ label bar Nothing ∷ []), at_line 3 OutOfRange) ∷
+    -- below an unknown CPU the one above it counts, so `smb0 $12` has two bytes, and the label below it no room in the entry above
+    (meaning_of 0xFFFC (line (Values Addr (name bar ∷ [])) ∷ line (SetCpu (codes "65C02")) ∷ line (SetCpu (codes "6809")) ∷ op Smb0 (Direct Automatic (NumberValue 0x12)) ∷ label bar Nothing ∷ []), at_line 1 OutOfRange) ∷
+    -- of two definitions the first counts
+    (meaning_of 0x1000 (op Lda (Immediate (name foo)) ∷ Some (Assignment foo 0x100) ∷ Some (Assignment foo 1) ∷ []), at_line 1 OutOfRange) ∷
+    -- data, and lines without bytes
+    (meaning_of 0x1000 (line (Data (NumberDatum 1 ∷ StringDatum (codes "AB") ∷ StringDatum [] ∷ [])) ∷ line Code ∷ line (Segment foo) ∷ line (Values Dbyt (NumberValue 0x1234 ∷ [])) ∷ line (Values Addr (NumberValue 0x1234 ∷ [])) ∷ Some (PlaceAssignment foo 2) ∷ line (Values Word (name foo ∷ NumberValue 0xFFFF ∷ [])) ∷ []), Ok (1 ∷ 65 ∷ 66 ∷ 0x12 ∷ 0x34 ∷ 0x34 ∷ 0x12 ∷ 0x09 ∷ 0x10 ∷ 0xFF ∷ 0xFF ∷ [])) ∷
+    (meaning_of 0x1000 (line (Values Dword (NumberValue 0x12345678 ∷ NumberValue 1 ∷ [])) ∷ []), Ok (0x78 ∷ 0x56 ∷ 0x34 ∷ 0x12 ∷ 1 ∷ 0 ∷ 0 ∷ 0 ∷ [])) ∷
+    (meaning_of 0x1000 (line (Values Dword (NumberValue 0x100000000 ∷ [])) ∷ []), at_line 1 OutOfRange) ∷
+    (meaning_of 0x1000 (line (Values Word (NumberValue 0xFFFF ∷ [])) ∷ line (Values Word (NumberValue 0x10000 ∷ [])) ∷ []), at_line 2 OutOfRange) ∷
+    (meaning_of 0x1000 (line (Values Dbyt (NumberValue 0xFFFF ∷ [])) ∷ line (Values Dbyt (NumberValue 0x10000 ∷ [])) ∷ []), at_line 2 OutOfRange) ∷
+    (meaning_of 0x1000 (line (Values Addr (NumberValue 0xFFFF ∷ [])) ∷ line (Values Addr (NumberValue 0x10000 ∷ [])) ∷ []), at_line 2 OutOfRange) ∷
+    -- a byte that is too large; `a:` before a branch; nothing at all
+    (meaning_of 0x1000 (line (Data (NumberDatum 0x100 ∷ [])) ∷ []), at_line 1 OutOfRange) ∷
+    (meaning_of 0x1000 (op Bne (Direct Absolute (NumberValue 0x1000)) ∷ []), at_line 1 NoSuchForm) ∷
+    (meaning_of 0x1000 [], Ok []) ∷
+    -- the same from a text
+    (meaning 0x1000 (codes ".byte $01,\"AB\"\n.word $1234\n.ADDR 4660\n.dbyt $1234\n.dword $12345678\n"), Ok (1 ∷ 65 ∷ 66 ∷ 0x34 ∷ 0x12 ∷ 0x34 ∷ 0x12 ∷ 0x12 ∷ 0x34 ∷ 0x78 ∷ 0x56 ∷ 0x34 ∷ 0x12 ∷ [])) ∷ []
 
-worked_meanings : WorkedMeanings
+worked_meanings : map (λ r. r.0) rows ≡ map (λ r. r.1) rows
 unfolding find_name value_in is_known word_in has_zero_page_size cpu_named fragment_fits fragment_bytes entry_in ways coding coding_len fragments_of
     next_of defined_by has_unknown_cpu has_no_form is_undefined is_twice is_out_of_range is_past_end fault_of bytes_of cpu_after after final
     coded meaning_of text_lines part_at parts_after number_of is_name has_name_form is_reserved_word less_one named_at next_value tail_at
     inner_at form_of joined next_datum text_in other_at operation_at operation_of constant_of line_at reading_of directive_named mnemonic_named
     meaning
-worked_meanings = record {
-  two_sizes = refl;
-  constant_below = refl;
-  constant_above = refl;
-  label_in_zero_page = refl;
-  syntax_first = refl;
-  none_defines_nothing = refl;
-  label_stands = refl;
-  unknown_cpu = refl;
-  branch_always = refl;
-  twice = refl;
-  far_branch = refl;
-  near_branches = refl;
-  past_end = refl;
-  label_after_the_last_byte = refl;
-  below_zero = refl;
-  one_less = refl;
-  size_below_zero = refl;
-  cpu_below_an_unknown_one = refl;
-  first_definition = refl;
-  data_lines = refl;
-  double_words = refl;
-  large_double_word = refl;
-  large_word = refl;
-  large_dbyt = refl;
-  large_address = refl;
-  large_byte = refl;
-  long_branch = refl;
-  no_line = refl;
-  data_from_text = refl;
-}
+worked_meanings = refl

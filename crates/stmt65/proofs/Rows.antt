@@ -41,66 +41,39 @@ at_level level =
     line_of default_columns (view.instr (record { mnemonic = Lda; mode = Imm }) false (view.one (view.number 0x41)))
     (record { level = level; hexoffs = false; address = 0x1000; bytes = 0xA9 ∷ 0x41 ∷ []; label = None })
 
--- ---- the rows
-record WorkedLines : Type 0 where
-  -- hex digits of an offset: two below $100, else four
-  offset_digits : map (offset_text true) (1 ∷ 0xFF ∷ 0x100 ∷ 0xFFFF ∷ []) ≡ codes "$01" ∷ codes "$FF" ∷ codes "$0100" ∷ codes "$FFFF" ∷ []
-  row : shown (view.instr (record { mnemonic = Lda; mode = Abs }) true (view.one (view.number 0x12))) ≡ codes "        lda     a:$0012"
-  row_y : shown (view.instr (record { mnemonic = Sta; mode = Absy }) false (view.one (view.number 0x12))) ≡ codes "        sta     $0012,y"
-  set_cpu : shown (view.set_cpu M6502) ≡ codes "        .setcpu \"6502\""
-  branch_to_itself : labelled (codes "L1000") (view.instr (record { mnemonic = Bne; mode = Rel }) false (view.one (view.name (codes "L1000") 0))) ≡ codes "L1000:  bne     L1000"
-  long_label : shown (view.label (codes "longname")) ≡ codes "longname:"
-  label_of_seven_bytes : labelled (codes "chrout7") (view.instr (record { mnemonic = Lda; mode = Imm }) false (view.one (view.number 1))) ≡ codes "chrout7: lda    #$01"
-  assignment : shown (view.assignment (codes "buf") 0xFE) ≡ codes "buf             := $00FE"
-  forward : shown (view.forward (codes "L1001") 1) ≡ codes "L1001           := * + " ++ decimal 1
-  forward_in_hex : hex_shown (view.forward (codes "L1001") 1) ≡ codes "L1001           := * + $0001"
-  address_entry : shown (view.addr (target (codes "L2002") 0)) ≡ codes "        .addr   L2002"
-  address_entry_in_hex : hex_shown (view.addr (target (codes "L2002") 1)) ≡ codes "        .addr   L2002+$01"
-  segment : shown (view.segment (codes "DATA")) ≡ codes "        .segment \"DATA\""
-  default_segment : shown view.code ≡ codes "        .code"
-  separator_level : at_level 1 ≡ codes "        lda     #$41"
-  address_level : at_level 2 ≡ codes "        lda     #$41                            ; 1000"
-  bytes_level : at_level 3 ≡ codes "        lda     #$41                            ; 1000 A9 41"
-  full_remarks : at_level 4 ≡ codes "        lda     #$41                            ; 1000 A9 41                    .A"
-  -- a statement without bytes, at the last level
-  bare_segment : line_of default_columns view.code (record { level = 4; hexoffs = false; address = 0x1000; bytes = 0xEA ∷ []; label = None }) ≡ codes "        .code"
-  return_entry : shown (view.rts (Some (target (codes "L1000") 0))) ≡ codes "        .word   L1000-1"
-  last_return_entry : labelled (codes "L1000") (view.rts None) ≡ codes "L1000:  .word   $FFFF"
-  text : data_text (cut_text (0x48 ∷ 0x22 ∷ 0x5C ∷ 0x49 ∷ 0x0D ∷ [])) ≡ codes "\"H\",$22,$5C,\"I\",$0D"
-  directive_words : directive_text Word ∷ directive_text Dbyt ∷ directive_text Addr ∷ directive_text Dword ∷ [] ≡ codes ".word" ∷ codes ".dbyt" ∷ codes ".addr" ∷ codes ".dword" ∷ []
-  words : numbers_text Word (0x01 ∷ 0x02 ∷ 0x03 ∷ 0x04 ∷ []) ≡ codes "$0201,$0403"
-  dbyts : numbers_text Dbyt (0x01 ∷ 0x02 ∷ []) ≡ codes "$0102"
-  dwords : numbers_text Dword (0x01 ∷ 0x02 ∷ 0x03 ∷ 0x04 ∷ 0 ∷ 0 ∷ 0 ∷ 0x80 ∷ []) ≡ codes "$04030201,$80000000"
-  dword_line : shown (view.numbers Dword (0x01 ∷ 0x02 ∷ 0x03 ∷ 0x04 ∷ [])) ≡ codes "        .dword  $04030201"
+-- ---- the rows: what is shown, and its text
+abbrev rows : List (List ℕ × List ℕ)
+rows =
+    -- hex digits of an offset: two below $100, else four
+    (comma_list (offset_text true) (1 ∷ 0xFF ∷ 0x100 ∷ 0xFFFF ∷ []), codes "$01,$FF,$0100,$FFFF") ∷
+    (shown (view.instr (record { mnemonic = Lda; mode = Abs }) true (view.one (view.number 0x12))), codes "        lda     a:$0012") ∷
+    (shown (view.instr (record { mnemonic = Sta; mode = Absy }) false (view.one (view.number 0x12))), codes "        sta     $0012,y") ∷
+    (shown (view.set_cpu M6502), codes "        .setcpu \"6502\"") ∷
+    (labelled (codes "L1000") (view.instr (record { mnemonic = Bne; mode = Rel }) false (view.one (view.name (codes "L1000") 0))), codes "L1000:  bne     L1000") ∷
+    (shown (view.label (codes "longname")), codes "longname:") ∷
+    (labelled (codes "chrout7") (view.instr (record { mnemonic = Lda; mode = Imm }) false (view.one (view.number 1))), codes "chrout7: lda    #$01") ∷
+    (shown (view.assignment (codes "buf") 0xFE), codes "buf             := $00FE") ∷
+    (shown (view.forward (codes "L1001") 1), codes "L1001           := * + " ++ decimal 1) ∷
+    (hex_shown (view.forward (codes "L1001") 1), codes "L1001           := * + $0001") ∷
+    (shown (view.addr (target (codes "L2002") 0)), codes "        .addr   L2002") ∷
+    (hex_shown (view.addr (target (codes "L2002") 1)), codes "        .addr   L2002+$01") ∷
+    (shown (view.segment (codes "DATA")), codes "        .segment \"DATA\"") ∷
+    (shown view.code, codes "        .code") ∷
+    (at_level 1, codes "        lda     #$41") ∷
+    (at_level 2, codes "        lda     #$41                            ; 1000") ∷
+    (at_level 3, codes "        lda     #$41                            ; 1000 A9 41") ∷
+    (at_level 4, codes "        lda     #$41                            ; 1000 A9 41                    .A") ∷
+    -- a statement without bytes, at the last level
+    (line_of default_columns view.code (record { level = 4; hexoffs = false; address = 0x1000; bytes = 0xEA ∷ []; label = None }), codes "        .code") ∷
+    (shown (view.rts (Some (target (codes "L1000") 0))), codes "        .word   L1000-1") ∷
+    (labelled (codes "L1000") (view.rts None), codes "L1000:  .word   $FFFF") ∷
+    (data_text (cut_text (0x48 ∷ 0x22 ∷ 0x5C ∷ 0x49 ∷ 0x0D ∷ [])), codes "\"H\",$22,$5C,\"I\",$0D") ∷
+    (comma_list directive_text (Word ∷ Dbyt ∷ Addr ∷ Dword ∷ []), codes ".word,.dbyt,.addr,.dword") ∷
+    (numbers_text Word (0x01 ∷ 0x02 ∷ 0x03 ∷ 0x04 ∷ []), codes "$0201,$0403") ∷
+    (numbers_text Dbyt (0x01 ∷ 0x02 ∷ []), codes "$0102") ∷
+    (numbers_text Dword (0x01 ∷ 0x02 ∷ 0x03 ∷ 0x04 ∷ 0 ∷ 0 ∷ 0 ∷ 0x80 ∷ []), codes "$04030201,$80000000") ∷
+    (shown (view.numbers Dword (0x01 ∷ 0x02 ∷ 0x03 ∷ 0x04 ∷ [])), codes "        .dword  $04030201") ∷ []
 
-worked_lines : WorkedLines
+worked_lines : map (λ r. r.0) rows ≡ map (λ r. r.1) rows
 unfolding shown remarks line_of filled operand_text labelled hex_shown target at_level comma_list cut_text entries pieces
-worked_lines = record {
-  offset_digits = refl;
-  row = refl;
-  row_y = refl;
-  set_cpu = refl;
-  branch_to_itself = refl;
-  long_label = refl;
-  label_of_seven_bytes = refl;
-  assignment = refl;
-  forward = refl;
-  forward_in_hex = refl;
-  address_entry = refl;
-  address_entry_in_hex = refl;
-  segment = refl;
-  default_segment = refl;
-  separator_level = refl;
-  address_level = refl;
-  bytes_level = refl;
-  full_remarks = refl;
-  bare_segment = refl;
-  return_entry = refl;
-  last_return_entry = refl;
-  text = refl;
-  directive_words = refl;
-  words = refl;
-  dbyts = refl;
-  dwords = refl;
-  dword_line = refl;
-}
+worked_lines = refl
