@@ -151,10 +151,10 @@ number_of-hex4 n lt = rw (hex_value (n / 4096 % 16) (below_16 (n / 4096)), hex_v
 
 -- ---- numbers in decimal
 
-pub is_digit : (d : ℕ) → digit_value d < 10 → is_ascii_digit d ≡ true
+is_digit : (d : ℕ) → digit_value d < 10 → is_ascii_digit d ≡ true
 is_digit d h = let r = digit_from_value d h in grind (arith, nat_tests)
 
-digits_pass : (ds : List ℕ) → AllDigits 10 ds → list_all is_ascii_digit ds ≡ true
+pub digits_pass : (ds : List ℕ) → AllDigits 10 ds → list_all is_ascii_digit ds ≡ true
 digits_pass [] h = refl
 digits_pass (d ∷ ds) h = rw (is_digit d h.0, digits_pass ds h.1) refl
 
