@@ -1,11 +1,11 @@
 -- What the code holds of a text is enough for its meaning.
-use Rattle.std.proofs.Common.{◌≡◌, ◌++◌, ℕ, Bool, true, false, cond, eqb, ltb, leb, ◌+◌, ◌-◌, ◌<◌, ◌≤◌, List, [], ◌∷◌, map, Option, Some, None, refl, sym, ap, ◌∙◌, arith}
+use Rattle.std.proofs.Common.{◌≡◌, ◌++◌, ℕ, Bool, true, false, cond, eqb, ltb, leb, ◌+◌, ◌-◌, ◌<◌, ◌≤◌, List, [], ◌∷◌, map, min, Option, Some, None, refl, sym, ap, ◌∙◌, arith, inl, inr}
 use Rattle.std.specs.Prelude.{unwrap_or, is_some, not, ◌&&◌, ◌||◌, option_and_then}
 use Rattle.std.specs.List.{list_any, list_all, flat_map}
 use Rattle.std.specs.Option.{option_map}
 use Rattle.std.specs.Str.{bytes_eq}
 use Rattle.std.proofs.lemmas.List.{map-append}
-use Rattle.std.proofs.lemmas.Bool.{ltb-false, ltb-true, or_parts}
+use Rattle.std.proofs.lemmas.Bool.{cases_lt, ltb-false, ltb-true, or_parts}
 use Rattle.std.proofs.lemmas.Bool.Decides.{nat_tests}
 use Rattle.isa65.specs.declared.cpu.Cpu.{Cpu}
 use Rattle.stmt65.specs.declared.assembling.coding.Coded.{Coded}
@@ -52,123 +52,91 @@ unfolding is_known
 is_known-held ds (NumberValue n) = refl
 is_known-held ds (NameValue w n less) = rw (find_name-held w ds) (is_some-map held_definition (find_name w ds))
 
--- a limit that is far below what is held
-abbrev IsFarBelow : ℕ → Type 0
-IsFarBelow limit = limit ≤ 4294967296
+-- ---- the value of an expression, by definitions and by a number that are held
 
--- a value that is held has room where the value has
-lowered-held : (limit : ℕ) → IsFarBelow limit → (less : Minus) (v n : ℕ) → below limit (lowered less (held v + n)) ≡ below limit (lowered less (v + n))
-lowered-held limit far Zero v n = small_or (ltb v limit) refl
+-- a test that all numbers from 2^32 on pass alike
+abbrev IsFar : {X : Type 0} → (Option ℕ → X) → Type 0
+IsFar test = (v w : ℕ) → 4294967296 ≤ v → 4294967296 ≤ w → test (Some v) ≡ test (Some w)
+
+below_far : (limit : ℕ) → limit ≤ 4294967296 → IsFar (below limit)
+below_far limit far v w h g =
+    let a : ltb v limit ≡ false = grind (arith, nat_tests) in
+    let b : ltb w limit ≡ false = grind (arith, nat_tests) in
+    rw (a, b) refl
+
+word_far : IsFar (below 65536)
+word_far = below_far 65536 (omega arith)
+
+entry_far : (d : Directive) → IsFar (below (entry_limit d))
+entry_far Word = below_far 65536 (omega arith)
+entry_far _ = below_far _ (omega arith)
+
+small_far : IsFar is_small
+small_far v w h g = grind (arith, nat_tests)
+
+-- two numbers that are one, or both past 2^32
+lowered_far : {X : Type 0} (test : Option ℕ → X) → IsFar test → (less : Minus) (v w : ℕ) → min v 4294967297 ≡ min w 4294967297 → test (lowered less v) ≡ test (lowered less w)
+lowered_far test far less v w e = elim (cases_lt v 4294967297) [
+  | inl lt ↦ let same : v ≡ w = omega arith in rw same refl
+  | inr le ↦ large less le (omega arith)
+]
   where
-    small_or : (b : Bool) → ltb v limit ≡ b → below limit (Some (held v + n)) ≡ below limit (Some (v + n))
-    small_or true e = let lt = ltb-true v limit e in let same : held v ≡ v = omega arith in rw same refl
-    small_or false e =
-        let ge = ltb-false v limit e in
-        let left : ltb (held v + n) limit ≡ false = grind (arith, nat_tests) in
-        let right : ltb (v + n) limit ≡ false = grind (arith, nat_tests) in
-        rw (left, right) refl
-lowered-held limit far One v n = small_or (ltb v (limit + 1)) refl
-  where
-    large : (m : ℕ) → limit + 1 ≤ m → below limit (lowered One m) ≡ None
-    large m h =
-        let zero : eqb m 0 ≡ false = grind (arith, nat_tests) in
-        let over : ltb (m - 1) limit ≡ false = grind (arith, nat_tests) in
-        rw (zero, over) refl
+    large : (less : Minus) → 4294967297 ≤ v → 4294967297 ≤ w → test (lowered less v) ≡ test (lowered less w)
+    large Zero h g = far v w (omega arith) (omega arith)
+    large One h g =
+        let a : eqb v 0 ≡ false = grind (arith, nat_tests) in
+        let b : eqb w 0 ≡ false = grind (arith, nat_tests) in
+        rw (a, b) (far (v - 1) (w - 1) (omega arith) (omega arith))
 
-    small_or : (b : Bool) → ltb v (limit + 1) ≡ b → below limit (lowered One (held v + n)) ≡ below limit (lowered One (v + n))
-    small_or true e = let lt = ltb-true v (limit + 1) e in let same : held v ≡ v = omega arith in rw same refl
-    small_or false e = let ge = ltb-false v (limit + 1) e in large (held v + n) (omega arith) ∙ sym (large (v + n) (omega arith))
-
-value_in-held : (limit : ℕ) → IsFarBelow limit → (ds : List Definition) (v : Value) → below limit (value_in (map held_definition ds) v) ≡ below limit (value_in ds v)
+value_in-held : {X : Type 0} (test : Option ℕ → X) → IsFar test → (ds : List Definition) (v : Value) → test (value_in (map held_definition ds) v) ≡ test (value_in ds v)
 unfolding value_in
-value_in-held limit far ds (NumberValue n) = refl
-value_in-held limit far ds (NameValue w n less) = rw (find_name-held w ds) (go (find_name w ds))
+value_in-held test far ds (NumberValue n) = refl
+value_in-held test far ds (NameValue w n less) = rw (find_name-held w ds) (go (find_name w ds))
   where
-    go : (o : Option Definition) → below limit (option_and_then (λ d. lowered less (d.value + n)) (option_map held_definition o)) ≡ below limit (option_and_then (λ d. lowered less (d.value + n)) o)
+    go : (o : Option Definition) → test (option_and_then (λ d. lowered less (d.value + n)) (option_map held_definition o)) ≡ test (option_and_then (λ d. lowered less (d.value + n)) o)
     go None = refl
-    go (Some d) = lowered-held limit far less d.value n
+    go (Some d) = lowered_far test far less (held d.value + n) (d.value + n) (omega arith)
 
-word_far : IsFarBelow 65536
-word_far = omega arith
-
-entry_far : (d : Directive) → IsFarBelow (entry_limit d)
-entry_far Word = omega arith
-entry_far _ = omega arith
+value_in-held_value : {X : Type 0} (test : Option ℕ → X) → IsFar test → (ds : List Definition) (v : Value) → test (value_in ds (held_value v)) ≡ test (value_in ds v)
+unfolding value_in
+value_in-held_value test far ds (NumberValue n) = lowered_far test far Zero (held n) n (omega arith)
+value_in-held_value test far ds (NameValue w n less) = go (find_name w ds)
+  where
+    go : (o : Option Definition) → test (option_and_then (λ d. lowered less (d.value + held n)) o) ≡ test (option_and_then (λ d. lowered less (d.value + n)) o)
+    go None = refl
+    go (Some d) = lowered_far test far less (d.value + held n) (d.value + n) (omega arith)
 
 pub word_in-held : (ds : List Definition) (v : Value) → word_in (map held_definition ds) v ≡ word_in ds v
 unfolding word_in
-word_in-held ds v = value_in-held 65536 word_far ds v
+word_in-held ds v = value_in-held (below 65536) word_far ds v
 
 pub ruleset helds = (is_known-held, word_in-held)
 
 entry_in-held : (ds : List Definition) (d : Directive) (v : Value) → entry_in (map held_definition ds) d v ≡ entry_in ds d v
 unfolding entry_in
-entry_in-held ds d v = value_in-held (entry_limit d) (entry_far d) ds v
+entry_in-held ds d v = value_in-held (below (entry_limit d)) (entry_far d) ds v
 
-small-held : (less : Minus) (v n : ℕ) → is_small (lowered less (held v + n)) ≡ is_small (lowered less (v + n))
-small-held Zero v n = grind (arith, nat_tests)
-small-held One v n = small_or (ltb v 257) refl
-  where
-    large : (m : ℕ) → 257 ≤ m → is_small (lowered One m) ≡ false
-    large m h =
-        let zero : eqb m 0 ≡ false = grind (arith, nat_tests) in
-        let over : ltb (m - 1) 256 ≡ false = grind (arith, nat_tests) in
-        rw (zero) over
-
-    small_or : (b : Bool) → ltb v 257 ≡ b → is_small (lowered One (held v + n)) ≡ is_small (lowered One (v + n))
-    small_or true e = let lt = ltb-true v 257 e in let same : held v ≡ v = omega arith in rw same refl
-    small_or false e = let ge = ltb-false v 257 e in large (held v + n) (omega arith) ∙ sym (large (v + n) (omega arith))
+constant-held : (o : Option Definition) → is_constant (option_map held_definition o) ≡ is_constant o
+constant-held None = refl
+constant-held (Some d) = refl
 
 size-held : (ds : List Definition) (v : Value) → has_zero_page_size (map held_definition ds) v ≡ has_zero_page_size ds v
-unfolding has_zero_page_size value_in
+unfolding has_zero_page_size
 size-held ds (NumberValue n) = refl
-size-held ds (NameValue w n less) = rw (find_name-held w ds) (go (find_name w ds))
-  where
-    go : (o : Option Definition) → (is_constant (option_map held_definition o) && is_small (option_and_then (λ d. lowered less (d.value + n)) (option_map held_definition o)))
-        ≡ (is_constant o && is_small (option_and_then (λ d. lowered less (d.value + n)) o))
-    go None = refl
-    go (Some d) = ap (λ (b : Bool). d.constant && b) (small-held less d.value n)
-
--- ---- the number of an expression, held
-
-below-held_value : (limit : ℕ) → IsFarBelow limit → (ds : List Definition) (v : Value) → below limit (value_in ds (held_value v)) ≡ below limit (value_in ds v)
-unfolding value_in
-below-held_value limit far ds (NumberValue n) = small_or (ltb n limit) refl
-  where
-    small_or : (b : Bool) → ltb n limit ≡ b → below limit (Some (held n)) ≡ below limit (Some n)
-    small_or true e = let lt = ltb-true n limit e in let same : held n ≡ n = omega arith in rw same refl
-    small_or false e =
-        let ge = ltb-false n limit e in
-        let left : ltb (held n) limit ≡ false = grind (arith, nat_tests) in
-        rw (left, e) refl
-below-held_value limit far ds (NameValue w n minus) = go (find_name w ds)
-  where
-    go : (o : Option Definition) → below limit (option_and_then (λ d. lowered minus (d.value + held n)) o) ≡ below limit (option_and_then (λ d. lowered minus (d.value + n)) o)
-    go None = refl
-    go (Some d) =
-        let left : d.value + held n ≡ held n + d.value = omega arith in
-        let right : n + d.value ≡ d.value + n = omega arith in
-        ap (λ (k : ℕ). below limit (lowered minus k)) left ∙ lowered-held limit far minus n d.value ∙ ap (λ (k : ℕ). below limit (lowered minus k)) right
+size-held ds (NameValue w n less) = rw (value_in-held is_small small_far ds (NameValue w n less), find_name-held w ds, constant-held (find_name w ds)) refl
 
 pub word_in-held_value : (ds : List Definition) (v : Value) → below 65536 (value_in ds (held_value v)) ≡ word_in ds v
 unfolding word_in
-word_in-held_value ds v = below-held_value 65536 word_far ds v
+word_in-held_value ds v = value_in-held_value (below 65536) word_far ds v
 
 pub entry_in-held_value : (ds : List Definition) (d : Directive) (v : Value) → below (entry_limit d) (value_in ds (held_value v)) ≡ entry_in ds d v
 unfolding entry_in
-entry_in-held_value ds d v = below-held_value (entry_limit d) (entry_far d) ds v
+entry_in-held_value ds d v = value_in-held_value (below (entry_limit d)) (entry_far d) ds v
 
 pub size-held_value : (ds : List Definition) (v : Value) → has_zero_page_size ds (held_value v) ≡ has_zero_page_size ds v
-unfolding has_zero_page_size value_in
+unfolding has_zero_page_size
 size-held_value ds (NumberValue n) = grind (arith, nat_tests)
-size-held_value ds (NameValue w n minus) = go (find_name w ds)
-  where
-    go : (o : Option Definition) → (is_constant o && is_small (option_and_then (λ d. lowered minus (d.value + held n)) o)) ≡ (is_constant o && is_small (option_and_then (λ d. lowered minus (d.value + n)) o))
-    go None = refl
-    go (Some d) =
-        let left : d.value + held n ≡ held n + d.value = omega arith in
-        let right : n + d.value ≡ d.value + n = omega arith in
-        ap (λ (k : ℕ). d.constant && is_small (lowered minus k)) left ∙ ap (λ (b : Bool). d.constant && b) (small-held minus n d.value) ∙ ap (λ (k : ℕ). d.constant && is_small (lowered minus k)) right
+size-held_value ds (NameValue w n less) = ap (λ (b : Bool). is_constant (find_name w ds) && b) (value_in-held_value is_small small_far ds (NameValue w n less))
 
 pub ruleset held_values = (word_in-held_value, entry_in-held_value, size-held_value)
 
