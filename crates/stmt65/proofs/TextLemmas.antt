@@ -9,8 +9,8 @@ use Rattle.stmt65.specs.SourceLine.{SourceLine}
 use Rattle.stmt65.proofs.EntryLaws.{entry_bytes-length}
 use Rattle.stmt65.specs.Symbols.{Definition}
 use Rattle.stmt65.specs.Coding.{Fragment, Entry, entry_or_zero, fragment_len, fragment_bytes, coding_len}
-use Rattle.stmt65.specs.Meaning.{State, initial, after, fault_of, fragments_of, next_of, bytes_of, coded, meaning_of, with_front}
-use Rattle.stmt65.specs.TextLaws.{Line, lines_below, names_of, IsFaultless, line_bytes, MeansBytes, MeansFault, StandsAtItsBytes}
+use Rattle.stmt65.specs.Meaning.{State, initial, after, fault_of, fragments_of, next_of, bytes_of, coded, meaning_of, unless, with_front}
+use Rattle.stmt65.specs.TextLaws.{Line, lines_below, lines_of, names_of, IsFaultless, line_bytes, MeansBytes, MeansFault, StandsAtItsBytes}
 
 -- ---- lengths
 
@@ -54,35 +54,44 @@ stands_at_its_bytes all start ls above below line e = stands all (initial start)
 no_lines : (all : List Definition) → All (IsFaultless all) []
 no_lines all k d lt = absurd (omega arith)
 
-front_ok : (front : List ℕ) (m : Result (List ℕ) AsmFault) (bytes : List ℕ) → with_front front m ≡ Ok bytes → (rest : List ℕ) × (m ≡ Ok rest) × (bytes ≡ front ++ rest)
-front_ok front (Ok rest) bytes e = (rest, refl, cc)
-front_ok front (Err f) bytes e = absurd cc
+-- lines of which the n-th, as they are counted, is the first that has a fault
+record IsFirstFrom (all : List Definition) (lines : List Line) (n : ℕ) (fault : AsmFault) : Type 0 where
+  above : List Line
+  line : Line
+  below : List Line
+  parts : lines ≡ above ++ line ∷ below
+  number : fault.line ≡ length above + n
+  fault_is : fault_of all line.state line.says ≡ Some fault.kind
+  none_above : All (IsFaultless all) above
 
-front_err : (front : List ℕ) (m : Result (List ℕ) AsmFault) (f : AsmFault) → with_front front m ≡ Err f → m ≡ Err f
-front_err front (Ok rest) f e = absurd cc
-front_err front (Err g) f e = let same : g ≡ f = cc in ap (λ (x : AsmFault). Err x) same
+-- what lines mean that are counted from n on
+abbrev MeansFrom : List Definition → List Line → ℕ → Result (List ℕ) AsmFault → Type 0
+MeansFrom all lines n (Ok bytes) = All (IsFaultless all) lines × (bytes ≡ flat_map (line_bytes all) lines)
+MeansFrom all lines n (Err fault) = IsFirstFrom all lines n fault
 
-err_same : (n : ℕ) (k : AsmFaultKind) (m : ℕ) (kind : AsmFaultKind) → with_front [] (Err (record { line = n; kind = k })) ≡ Err (record { line = m; kind = kind }) → (n ≡ m) × (k ≡ kind)
-err_same n k m kind e =
-    let f : AsmFault = record { line = n; kind = k } in
-    let g : AsmFault = record { line = m; kind = kind } in
-    let same : f ≡ g = cc in
-    (ap (λ (x : AsmFault). x.line) same, ap (λ (x : AsmFault). x.kind) same)
-
-coded-bytes : (all : List Definition) (n : ℕ) (s : State) (ls : List (Option SourceLine)) (bytes : List ℕ)
-    → coded all n s ls ≡ Ok bytes → All (IsFaultless all) (lines_below s ls) × (bytes ≡ flat_map (line_bytes all) (lines_below s ls))
+means_from : (all : List Definition) (n : ℕ) (s : State) (ls : List (Option SourceLine)) → MeansFrom all (lines_below s ls) n (coded all n s ls)
 unfolding coded lines_below
-coded-bytes all n s [] bytes e = (no_lines all, cc)
-coded-bytes all n s (l ∷ ls) bytes e = go (coded-bytes all (n + 1) (after s l) ls) (fault_of all s l) refl
+means_from all n s [] = (no_lines all, refl)
+means_from all n s (l ∷ ls) = go (fault_of all s l) refl (coded all (n + 1) (after s l) ls) (means_from all (n + 1) (after s l) ls)
   where
-    go : ((rest : List ℕ) → coded all (n + 1) (after s l) ls ≡ Ok rest → All (IsFaultless all) (lines_below (after s l) ls) × (rest ≡ flat_map (line_bytes all) (lines_below (after s l) ls)))
-        → (o : Option AsmFaultKind) → fault_of all s l ≡ o → All (IsFaultless all) (lines_below s (l ∷ ls)) × (bytes ≡ flat_map (line_bytes all) (lines_below s (l ∷ ls)))
-    go more (Some kind) f = let e' = rw f at e in absurd cc
-    go more None f =
-        let e' = rw f at e in
-        let found = front_ok (bytes_of all s l) (coded all (n + 1) (after s l) ls) bytes e' in
-        let ih = more found.0 found.1 in
-        (All-cons (IsFaultless all) (record { state = s; says = l }) (lines_below (after s l) ls) f ih.0, found.2 ∙ ap (λ (rest : List ℕ). bytes_of all s l ++ rest) ih.1)
+    line : Line
+    line = record { state = s; says = l }
+
+    go : (o : Option AsmFaultKind) → fault_of all s l ≡ o → (m : Result (List ℕ) AsmFault) → MeansFrom all (lines_below (after s l) ls) (n + 1) m
+        → MeansFrom all (line ∷ lines_below (after s l) ls) n (unless n o (with_front (bytes_of all s l) m))
+    go (Some kind) f m h = record { above = []; line = line; below = lines_below (after s l) ls; parts = refl; number = omega arith; fault_is = f; none_above = no_lines all }
+    go None f (Ok bytes) h = (All-cons (IsFaultless all) line (lines_below (after s l) ls) f h.0, ap (λ (rest : List ℕ). bytes_of all s l ++ rest) h.1)
+    go None f (Err fault) h =
+        let number = h.number in
+        record {
+          above = line ∷ h.above;
+          line = h.line;
+          below = h.below;
+          parts = ap (λ (xs : List Line). line ∷ xs) h.parts;
+          number = omega arith;
+          fault_is = h.fault_is;
+          none_above = All-cons (IsFaultless all) line h.above f h.none_above;
+        }
 
 bytes-coded : (all : List Definition) (n : ℕ) (s : State) (ls : List (Option SourceLine)) → All (IsFaultless all) (lines_below s ls) → coded all n s ls ≡ Ok (flat_map (line_bytes all) (lines_below s ls))
 unfolding coded lines_below
@@ -95,57 +104,11 @@ bytes-coded all n s (l ∷ ls) h =
 pub means_bytes : MeansBytes
 unfolding meaning_of
 means_bytes start ls bytes = (
-  λ e. coded-bytes (names_of start ls) 1 (initial start) ls bytes e,
+  λ e. rw e at (means_from (names_of start ls) 1 (initial start) ls),
   λ h. bytes-coded (names_of start ls) 1 (initial start) ls h.0 ∙ ap (λ (bs : List ℕ). Ok bs) (sym h.1),
 )
 
 -- ---- the first fault
-
--- the same of lines that are counted from n on
-record IsFirstFrom (all : List Definition) (lines : List Line) (n m : ℕ) (kind : AsmFaultKind) : Type 0 where
-  above : List Line
-  line : Line
-  below : List Line
-  parts : lines ≡ above ++ line ∷ below
-  number : m ≡ length above + n
-  fault : fault_of all line.state line.says ≡ Some kind
-  none_above : All (IsFaultless all) above
-
-coded-fault : (all : List Definition) (n : ℕ) (s : State) (ls : List (Option SourceLine)) (m : ℕ) (kind : AsmFaultKind)
-    → coded all n s ls ≡ Err (record { line = m; kind = kind }) → IsFirstFrom all (lines_below s ls) n m kind
-unfolding coded lines_below
-coded-fault all n s [] m kind e = absurd cc
-coded-fault all n s (l ∷ ls) m kind e = go (coded-fault all (n + 1) (after s l) ls m kind) (fault_of all s l) refl
-  where
-    go : (coded all (n + 1) (after s l) ls ≡ Err (record { line = m; kind = kind }) → IsFirstFrom all (lines_below (after s l) ls) (n + 1) m kind)
-        → (o : Option AsmFaultKind) → fault_of all s l ≡ o → IsFirstFrom all (lines_below s (l ∷ ls)) n m kind
-    go more (Some k) f =
-        let e' = rw f at e in
-        let same = err_same n k m kind e' in
-        let number : m ≡ 0 + n = omega (arith, same.0) in
-        record {
-          above = [];
-          line = record { state = s; says = l };
-          below = lines_below (after s l) ls;
-          parts = refl;
-          number = number;
-          fault = f ∙ ap (λ (x : AsmFaultKind). Some x) same.1;
-          none_above = no_lines all;
-        }
-    go more None f =
-        let e' = rw f at e in
-        let found = front_err (bytes_of all s l) (coded all (n + 1) (after s l) ls) (record { line = m; kind = kind }) e' in
-        let ih = more found in
-        let number = ih.number in
-        record {
-          above = record { state = s; says = l } ∷ ih.above;
-          line = ih.line;
-          below = ih.below;
-          parts = ap (λ (xs : List Line). record { state = s; says = l } ∷ xs) ih.parts;
-          number = omega arith;
-          fault = ih.fault;
-          none_above = All-cons (IsFaultless all) (record { state = s; says = l }) ih.above f ih.none_above;
-        }
 
 fault-coded : (all : List Definition) (n : ℕ) (s : State) (ls : List (Option SourceLine)) (m : ℕ) (kind : AsmFaultKind) (above below : List Line) (line : Line)
     → lines_below s ls ≡ above ++ line ∷ below → m ≡ length above + n → fault_of all line.state line.says ≡ Some kind → All (IsFaultless all) above
@@ -169,13 +132,13 @@ fault-coded all n s (l ∷ ls) m kind (x ∷ above) below line e number fault no
 pub means_fault : MeansFault
 unfolding meaning_of
 means_fault start ls n kind = (
-  λ e. let found = coded-fault (names_of start ls) 1 (initial start) ls n kind e in record {
+  λ e. let found : IsFirstFrom (names_of start ls) (lines_of start ls) 1 (record { line = n; kind = kind }) = rw e at (means_from (names_of start ls) 1 (initial start) ls) in record {
     above = found.above;
     line = found.line;
     below = found.below;
     parts = found.parts;
     number = found.number;
-    fault = found.fault;
+    fault = found.fault_is;
     none_above = found.none_above;
   },
   λ h. fault-coded (names_of start ls) 1 (initial start) ls n kind h.above h.below h.line h.parts h.number h.fault h.none_above,
