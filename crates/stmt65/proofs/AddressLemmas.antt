@@ -17,7 +17,6 @@ use Rattle.stmt65.specs.LineAddresses.{FindsLine, GivesByte, address_after, line
 use Rattle.stmt65.specs.Code.Held.{held}
 use Rattle.stmt65.specs.Code.MeaningViews.{held_after}
 use Rattle.stmt65.proofs.HeldLemmas.{after-held, held_state, initial-held, none_fits, small_same}
-use Rattle.stmt65.proofs.PassLaws.{readings_more, readings_nil}
 use Rattle.stmt65.proofs.TextLemmas.{at-after, means_bytes}
 
 -- ---- the addresses as the code holds them
@@ -26,26 +25,12 @@ unfoldable pub held_addresses : State → List (Option SourceLine) → List ℕ
 held_addresses s [] = []
 held_addresses s (l ∷ ls) = (held_after s l).at ∷ held_addresses (held_after s l) ls
 
-addresses_cons : (s : State) (r : Option SourceLine) (rs : List (Option SourceLine)) → held_addresses s (r ∷ rs) ≡ (held_after s r).at ∷ held_addresses (held_after s r) rs
-unfolding held_addresses
-addresses_cons s r rs = refl
-
-addresses_nil : (s : State) → held_addresses s [] ≡ []
-unfolding held_addresses
-addresses_nil s = refl
-
 pub addresses_step : (s t : State) (text line rest found : List ℕ) (all : List ℕ) → found ++ held_addresses s (readings text) ≡ all → text_lines text ≡ line ∷ text_lines rest → t ≡ held_after s (reading_of (parts line))
     → (found ++ t.at ∷ []) ++ held_addresses t (readings rest) ≡ all
+unfolding held_addresses
 addresses_step s t text line rest found all h e k =
-    append_assoc found (t.at ∷ []) (held_addresses t (readings rest))
-    ∙ ap (λ (u : State). found ++ u.at ∷ held_addresses u (readings rest)) k
-    ∙ ap (λ (l : List ℕ). found ++ l) (sym (addresses_cons s (reading_of (parts line)) (readings rest)))
-    ∙ ap (λ (rs : List (Option SourceLine)). found ++ held_addresses s rs) (sym (readings_more text line rest e)) ∙ h
-
-addresses_end : (s : State) (text found : List ℕ) (all : List ℕ) → found ++ held_addresses s (readings text) ≡ all → text_lines text ≡ [] → found ≡ all
-addresses_end s text found all h e =
-    sym (append-nil found) ∙ ap (λ (l : List ℕ). found ++ l) (sym (addresses_nil s))
-    ∙ ap (λ (rs : List (Option SourceLine)). found ++ held_addresses s rs) (sym (readings_nil text e)) ∙ h
+    let h' = rw e at h in
+    append_assoc found (t.at ∷ []) (held_addresses t (readings rest)) ∙ ap (λ (u : State). found ++ u.at ∷ held_addresses u (readings rest)) k ∙ h'
 
 -- ---- and those of the meaning
 
@@ -56,10 +41,10 @@ addresses-held s (l ∷ ls) = rw (after-held s l) (ap (λ (more : List ℕ). hel
 
 pub found_lines : (start : ℕ) (s : State) (whole text found : List ℕ) → start < 65536 → found ++ held_addresses s (readings text) ≡ held_addresses (initial start) (readings whole) → text_lines text ≡ []
     → found ≡ map held (line_addresses start (readings whole))
-unfolding line_addresses
+unfolding held_addresses line_addresses
 found_lines start s whole text found small h e =
-    addresses_end s text found (held_addresses (initial start) (readings whole)) h e
-    ∙ ap (λ (t : State). held_addresses t (readings whole)) (sym (initial-held start small)) ∙ addresses-held (initial start) (readings whole)
+    let h' = rw (e, append-nil found) at h in
+    h' ∙ ap (λ (t : State). held_addresses t (readings whole)) (sym (initial-held start small)) ∙ addresses-held (initial start) (readings whole)
 
 -- ---- of a text that has bytes
 

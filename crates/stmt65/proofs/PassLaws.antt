@@ -11,32 +11,19 @@ use Rattle.stmt65.specs.Reading.{reading_of}
 use Rattle.stmt65.specs.Symbols.{Definition}
 use Rattle.stmt65.specs.declared.assembling.state.State.{State as CodeState}
 use Rattle.stmt65.specs.declared.assembling.state.Placed.{Placed}
-use Rattle.stmt65.specs.Meaning.{State, after, cpu_after, operation_in, bytes_of, coded, fault_of, final, initial, meaning, meaning_of, readings, unless, with_front}
+use Rattle.stmt65.specs.Meaning.{State, after, cpu_after, operation_in, bytes_of, coded, fault_of, final, initial, meaning, meaning_of, readings, with_front}
 use Rattle.stmt65.specs.Code.MeaningViews.{IsPlaced, defined_in, state_of, held_after, held_definition, held_final}
 use Rattle.stmt65.proofs.HeldLemmas.{after_exact, fault-all, bytes-all}
 
-pub readings_more : (text line rest : List ℕ) → text_lines text ≡ line ∷ text_lines rest → readings text ≡ reading_of (parts line) ∷ readings rest
-readings_more text line rest e = ap (map (λ l. reading_of (parts l))) e
-
-pub readings_nil : (text : List ℕ) → text_lines text ≡ [] → readings text ≡ []
-readings_nil text e = ap (map (λ l. reading_of (parts l))) e
-
 -- ---- the first pass
 
-final_cons : (s : State) (r : Option SourceLine) (rs : List (Option SourceLine)) → held_final s (r ∷ rs) ≡ held_final (held_after s r) rs
-unfolding held_final
-final_cons s r rs = refl
-
-final_nil : (s : State) → held_final s [] ≡ s
-unfolding held_final
-final_nil s = refl
-
 pub final_step : (s t : State) (text line rest : List ℕ) (all : State) → held_final s (readings text) ≡ all → text_lines text ≡ line ∷ text_lines rest → t ≡ held_after s (reading_of (parts line)) → held_final t (readings rest) ≡ all
-final_step s t text line rest all h e k =
-    ap (λ (u : State). held_final u (readings rest)) k ∙ sym (final_cons s (reading_of (parts line)) (readings rest)) ∙ ap (held_final s) (sym (readings_more text line rest e)) ∙ h
+unfolding held_final
+final_step s t text line rest all h e k = let h' = rw e at h in rw k h'
 
 pub final_end : (s : State) (text : List ℕ) (all : State) → held_final s (readings text) ≡ all → text_lines text ≡ [] → s.above ≡ all.above
-final_end s text all h e = ap (λ (t : State). t.above) (sym (final_nil s) ∙ ap (held_final s) (sym (readings_nil text e)) ∙ h)
+unfolding held_final
+final_end s text all h e = let h' = rw e at h in ap (λ (t : State). t.above) h'
 
 pub ruleset finals = (final_step, final_end)
 
@@ -62,10 +49,11 @@ pub record AtNext (names : List Definition) (n : ℕ) (s : State) (r : Option So
 
 pub names_next : (names : List Definition) (n : ℕ) (s : State) (text line rest : List ℕ) → s.above ≡ take n names → n ≤ length names → (held_final s (readings text)).above ≡ names → text_lines text ≡ line ∷ text_lines rest
     → AtNext names n s (reading_of (parts line)) rest
+unfolding held_final
 names_next names n s text line rest e h all f =
     let r = reading_of (parts line) in
     let next = held_after s r in
-    let below : (held_final next (readings rest)).above ≡ names = ap (λ (t : State). t.above) (sym (final_cons s r (readings rest)) ∙ ap (held_final s) (sym (readings_more text line rest f))) ∙ all in
+    let below : (held_final next (readings rest)).above ≡ names = rw f at all in
     let more = final_above next (readings rest) in
     let whole : names ≡ next.above ++ more.0 = sym below ∙ more.1 in
     let len : length next.above ≡ n + length (defined_in s r) = omega (arith, ap length (held_above s r), length-append s.above (defined_in s r), ap length e, length-take-le n names h) in
@@ -82,14 +70,6 @@ unfolding after held_after
 gone_on all s q p source placed none address cpu = rw (address ∙ placed.next ∙ ap (λ (t : State). t.at) (after_exact all s source none), cpu) refl
 
 -- ---- the second pass; the code has the definitions `names` of all lines, held
-
-coded_cons : (all : List Definition) (n : ℕ) (s : State) (r : Option SourceLine) (rs : List (Option SourceLine)) → coded all n s (r ∷ rs) ≡ unless n (fault_of all s r) (with_front (bytes_of all s r) (coded all (n + 1) (after s r) rs))
-unfolding coded
-coded_cons all n s r rs = refl
-
-coded_nil : (all : List Definition) (n : ℕ) (s : State) → coded all n s [] ≡ Ok []
-unfolding coded
-coded_nil all n s = refl
 
 front-front : (a b : List ℕ) (m : Result (List ℕ) AsmFault) → with_front a (with_front b m) ≡ with_front (a ++ b) m
 front-front a b (Ok bytes) = ap (λ (l : List ℕ). Ok l) (sym (append_assoc a b bytes))
@@ -108,25 +88,25 @@ pub coded_step : (all names : List Definition) (n : ℕ) (s t : State) (text lin
     → names ≡ map held_definition all → with_front out (coded all n s (readings text)) ≡ total → text_lines text ≡ line ∷ text_lines rest
     → None ≡ fault_of names s (reading_of (parts line)) → more ≡ out ++ bytes_of names s (reading_of (parts line)) → t ≡ after s (reading_of (parts line))
     → with_front more (coded all (n + 1) t (readings rest)) ≡ total
+unfolding coded
 coded_step all names n s t text line rest out more total same h e f g k =
     let r = reading_of (parts line) in
-    let tail = coded all (n + 1) (after s r) (readings rest) in
-    let f' : None ≡ fault_of all s r = f ∙ ap (λ (ds : List Definition). fault_of ds s r) same ∙ fault-all all s r in
+    let f' : fault_of all s r ≡ None = sym (f ∙ ap (λ (ds : List Definition). fault_of ds s r) same ∙ fault-all all s r) in
     let g' : more ≡ out ++ bytes_of all s r = g ∙ ap (λ (ds : List Definition). out ++ bytes_of ds s r) same ∙ ap (λ (l : List ℕ). out ++ l) (bytes-all all s r) in
-    rw (g', k) (sym (front-front out (bytes_of all s r) tail)
-    ∙ ap (λ (o : Option AsmFaultKind). with_front out (unless n o (with_front (bytes_of all s r) tail))) f'
-    ∙ ap (with_front out) (sym (coded_cons all n s r (readings rest)) ∙ ap (coded all n s) (sym (readings_more text line rest e))) ∙ h)
+    let h' = rw (e, f') at h in
+    rw (g', k) (sym (front-front out (bytes_of all s r) (coded all (n + 1) (after s r) (readings rest))) ∙ h')
 
 pub coded_fault : (all names : List Definition) (n : ℕ) (s : State) (text line rest : List ℕ) (out : List ℕ) (kind : AsmFaultKind) (total : Result (List ℕ) AsmFault)
     → names ≡ map held_definition all → with_front out (coded all n s (readings text)) ≡ total → text_lines text ≡ line ∷ text_lines rest
     → Some kind ≡ fault_of names s (reading_of (parts line)) → total ≡ Err (record { line = n; kind = kind })
+unfolding coded
 coded_fault all names n s text line rest out kind total same h e f =
     let r = reading_of (parts line) in
-    let f' : Some kind ≡ fault_of all s r = f ∙ ap (λ (ds : List Definition). fault_of ds s r) same ∙ fault-all all s r in
-    sym h ∙ ap (with_front out) (ap (coded all n s) (readings_more text line rest e) ∙ coded_cons all n s r (readings rest)
-    ∙ ap (λ (o : Option AsmFaultKind). unless n o (with_front (bytes_of all s r) (coded all (n + 1) (after s r) (readings rest)))) (sym f'))
+    let f' : fault_of all s r ≡ Some kind = sym (f ∙ ap (λ (ds : List Definition). fault_of ds s r) same ∙ fault-all all s r) in
+    let h' = rw (e, f') at h in
+    sym h'
 
 pub coded_end : (all : List Definition) (n : ℕ) (s : State) (text : List ℕ) (out : List ℕ) (total : Result (List ℕ) AsmFault)
     → with_front out (coded all n s (readings text)) ≡ total → text_lines text ≡ [] → total ≡ Ok out
-coded_end all n s text out total h e =
-    sym h ∙ ap (with_front out) (ap (coded all n s) (readings_nil text e) ∙ coded_nil all n s) ∙ ap (λ (l : List ℕ). Ok l) (append-nil out)
+unfolding coded
+coded_end all n s text out total h e = let h' = rw (e, append-nil out) at h in sym h'
