@@ -59,7 +59,7 @@ parts_blanks (suc n) rest = parts_blank 32 (replicate n 32 ++ rest) refl ∙ par
 -- ---- bytes by themselves
 
 -- what a byte would be the first of
-abbrev begun : ℕ → List Bool
+abbrev pub begun : ℕ → List Bool
 begun b = is_blank b ∷ eqb b 59 ∷ is_word_start b ∷ is_ascii_digit b ∷ eqb b 36 ∷ eqb b 34 ∷ eqb b 58 ∷ []
 
 pub parts_mark : (b : ℕ) (rest : List ℕ) → begun b ≡ replicate 7 false → parts (b ∷ rest) ≡ Mark b ∷ parts rest

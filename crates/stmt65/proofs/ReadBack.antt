@@ -43,18 +43,18 @@ use Rattle.stmt65.specs.Parts.{Part, Word, Number, Text, Define, Mark, begins_wi
 use Rattle.stmt65.specs.Lexing.{is_word_start, is_text_byte, parts}
 use Rattle.stmt65.specs.Names.{is_name}
 use Rattle.stmt65.specs.Reading.{reading_of}
-use Rattle.stmt65.specs.Spelling as item
 use Rattle.stmt65.specs.Spelling.{Item, word, mark, define, number, string, quoted_name, value, data_list, value_list, IsValue, IsItem, Spells, prefix_items, form_items, operation_items, IsSpelling}
 use Rattle.stmt65.specs.Printed.{entry_value, source_value, pattern_form, row_form, source_form, source_line, with_label, HasName, HasNamesIn, HasNames, HasLabelName}
 use Rattle.stmt65.specs.Code.Widths.{IsWordWide, AreWordWide, AreBytes, IsInWidth}
 use Rattle.stmt65.specs.Views.{ExprView, OperandsView, TargetView, StatementView, RemarksView}
 use Rattle.stmt65.specs.Views as view
+use Rattle.stmt65.proofs.ReadIsSpelled.{at_mark, at_value, at_define, last, word_front, name_front}
 use Rattle.stmt65.proofs.SpelledIsRead.{line_again}
-use Rattle.stmt65.proofs.Lexed.{Ends, IsWordText, parts_word, parts_blanks, parts_mark, parts_define, parts_colon, parts_text, parts_hex2, parts_hex4, number_of-hex2, number_of-hex4, parts_digits, parts_decimal, number_of-decimal, OffsetParts, offset_parts}
+use Rattle.stmt65.proofs.Lexed.{Ends, IsWordText, begun, parts_word, parts_blanks, parts_mark, parts_define, parts_colon, parts_text, parts_hex2, parts_hex4, number_of-hex2, number_of-hex4, parts_digits, parts_decimal, number_of-decimal, OffsetParts, offset_parts}
 use Rattle.stmt65.proofs.PartLemmas.{parts_nil, parts_remark}
 use Rattle.stmt65.proofs.RemarkLemmas.{AreClosed, parts_then, spelled_closed}
 use Rattle.stmt65.proofs.Cases.{by_test}
-use Rattle.stmt65.proofs.TableReads.{bytes_listed, numbers_listed, text_listed}
+use Rattle.stmt65.proofs.TableReads.{TextParts, bytes_listed, numbers_listed, text_listed}
 
 -- ---- items, from the last one to the front
 
@@ -62,13 +62,15 @@ nothing : Spells [] (parts [])
 unfolding Spells
 nothing = parts_nil
 
-marked : (b : ℕ) (is : List Item) (text : List ℕ) (ps : List Part) → parts text ≡ Mark b ∷ ps → Spells is ps → Spells (mark b ∷ is) (parts text)
+marked : (b : ℕ) (is : List Item) (rest : List ℕ) → begun b ≡ replicate 7 false → Spells is (parts rest) → Spells (mark b ∷ is) (parts (b ∷ rest))
 unfolding Spells
-marked b is text ps e h = (Mark b ∷ [], ps, e, refl, h)
+marked b is rest e h = (Mark b ∷ [], parts rest, parts_mark b rest e, refl, h)
 
-worded : (w : List ℕ) (is : List Item) (text : List ℕ) (ps : List Part) → parts text ≡ Word w ∷ ps → Spells is ps → Spells (word w ∷ is) (parts text)
-unfolding Spells
-worded w is text ps e h = (Word w ∷ [], ps, e, (w, (bytes_eq-Decides (str_to_ascii_lowercase w) (str_to_ascii_lowercase w)).1 refl, refl), h)
+a_word : (w : List ℕ) (is : List Item) (ps : List Part) → Spells is ps → Spells (word w ∷ is) (Word w ∷ ps)
+a_word w is ps h = word_front w is w ps ((bytes_eq-Decides (str_to_ascii_lowercase w) (str_to_ascii_lowercase w)).1 refl) h
+
+worded : (w : List ℕ) (is : List Item) (rest : List ℕ) → IsWordText w → Ends rest → Spells is (parts rest) → Spells (word w ∷ is) (parts (w ++ rest))
+worded w is rest i e h = rw (parts_word w rest i e) (a_word w is (parts rest) h)
 
 -- ---- expressions
 
@@ -92,14 +94,11 @@ are_read (view.one e) name wide = is_read e name wide
 are_read (view.two e f) names wide = (is_read e names.0 wide.0, is_read f names.1 wide.1)
 
 -- the text of an expression, and what follows it
-record ValueParts (text : List ℕ) (v : Value) (rest : List ℕ) : Type 0 where
-  front : List Part
-  lexes : parts (text ++ rest) ≡ front ++ parts rest
-  spells : IsValue v front
+abbrev ValueParts : List ℕ → Value → List ℕ → Type 0
+ValueParts text v rest = TextParts IsValue v text rest
 
 valued : (v : Value) (is : List Item) (text rest : List ℕ) → ValueParts text v rest → Spells is (parts rest) → Spells (value v ∷ is) (parts (text ++ rest))
-unfolding Spells
-valued v is text rest p h = (p.front, parts rest, p.lexes, p.spells, h)
+valued v is text rest p h = at_value v is (parts (text ++ rest)) (parts rest) p h
 
 letter_starts : (b : ℕ) → (is_ascii_alphabetic b || eqb b 95) ≡ true → is_word_start b ≡ true
 letter_starts b h = rw h refl
@@ -120,47 +119,46 @@ named_parts h name rest offset n lt e = go (eqb offset 0) refl
     go : (t : Bool) → eqb offset 0 ≡ t → ValueParts (named_text h name offset) (NameValue name offset Zero) rest
     go true f = rw f (record {
       front = Word name ∷ [];
-      lexes = parts_word name rest (name_word name n) e;
-      spells = ([], [], refl, n, inl (eqb-true offset 0 f, refl), refl);
+      split = parts_word name rest (name_word name n) e;
+      is = ([], [], refl, n, inl (eqb-true offset 0 f, refl), refl);
     })
     go false f =
         let o = offset_parts h offset rest lt e in
         let shape : (name ++ (43 ∷ []) ++ offset_text h offset) ++ rest ≡ name ++ (43 ∷ (offset_text h offset ++ rest)) = simp append_assoc in
         rw f (record {
           front = Word name ∷ Mark 43 ∷ Number (offset_text h offset) ∷ [];
-          lexes = ap parts shape ∙ parts_word name (43 ∷ (offset_text h offset ++ rest)) (name_word name n) refl
+          split = ap parts shape ∙ parts_word name (43 ∷ (offset_text h offset ++ rest)) (name_word name n) refl
               ∙ ap (λ (ps : List Part). Word name ∷ ps) (parts_mark 43 (offset_text h offset ++ rest) refl ∙ ap (λ (ps : List Part). Mark 43 ∷ ps) o.lexes);
-          spells = (Mark 43 ∷ Number (offset_text h offset) ∷ [], [], refl, n, inr (offset_text h offset, o.counts, refl), refl);
+          is = (Mark 43 ∷ Number (offset_text h offset) ∷ [], [], refl, n, inr (offset_text h offset, o.counts, refl), refl);
         })
 
 two_parts : (h : Bool) (e : ExprView) (rest : List ℕ) → IsShort e → IsRead e → Ends rest → ValueParts (short_text h e) (source_value e) rest
-two_parts h (view.number n) rest s has e = record { front = Number (hex2 n) ∷ []; lexes = parts_hex2 n rest e; spells = (hex2 n, number_of-hex2 n s, refl) }
+two_parts h (view.number n) rest s has e = record { front = Number (hex2 n) ∷ []; split = parts_hex2 n rest e; is = (hex2 n, number_of-hex2 n s, refl) }
 two_parts h (view.name name offset) rest s has e = named_parts h name rest offset has.0 has.1 e
 
 four_parts : (h : Bool) (e : ExprView) (rest : List ℕ) → IsRead e → Ends rest → ValueParts (long_text h e) (source_value e) rest
-four_parts h (view.number n) rest has e = record { front = Number (hex4 n) ∷ []; lexes = parts_hex4 n rest e; spells = (hex4 n, number_of-hex4 n has, refl) }
+four_parts h (view.number n) rest has e = record { front = Number (hex4 n) ∷ []; split = parts_hex4 n rest e; is = (hex4 n, number_of-hex4 n has, refl) }
 four_parts h (view.name name offset) rest has e = named_parts h name rest offset has.0 has.1 e
 
 -- ---- what stands after an expression
 
 one_word : (b : ℕ) → IsWordText (b ∷ []) → Spells (word (b ∷ []) ∷ []) (parts (b ∷ []))
-one_word b h = worded (b ∷ []) [] (b ∷ []) (parts []) (parts_word (b ∷ []) [] h refl) nothing
+one_word b h = worded (b ∷ []) [] [] h refl nothing
 
 comma_x : Spells (mark 44 ∷ word (codes "x") ∷ []) (parts (codes ",x"))
-comma_x = marked 44 _ (codes ",x") (parts (codes "x")) (parts_mark 44 (codes "x") refl) (one_word 120 (refl, refl))
+comma_x = marked 44 _ (codes "x") refl (one_word 120 (refl, refl))
 
 comma_y : Spells (mark 44 ∷ word (codes "y") ∷ []) (parts (codes ",y"))
-comma_y = marked 44 _ (codes ",y") (parts (codes "y")) (parts_mark 44 (codes "y") refl) (one_word 121 (refl, refl))
+comma_y = marked 44 _ (codes "y") refl (one_word 121 (refl, refl))
 
 close : Spells (mark 41 ∷ []) (parts (codes ")"))
-close = marked 41 [] (codes ")") (parts []) (parts_mark 41 [] refl) nothing
+close = marked 41 [] [] refl nothing
 
 close_y : Spells (mark 41 ∷ mark 44 ∷ word (codes "y") ∷ []) (parts (codes "),y"))
-close_y = marked 41 _ (codes "),y") (parts (codes ",y")) (parts_mark 41 (codes ",y") refl) comma_y
+close_y = marked 41 _ (codes ",y") refl comma_y
 
 x_close : Spells (mark 44 ∷ word (codes "x") ∷ mark 41 ∷ []) (parts (codes ",x)"))
-x_close = marked 44 _ (codes ",x)") (parts (codes "x)")) (parts_mark 44 (codes "x)") refl)
-    (worded (codes "x") _ (codes "x)") (parts (codes ")")) (parts_word (codes "x") (codes ")") (refl, refl) refl) close)
+x_close = marked 44 _ (codes "x)") refl (worded (codes "x") _ (codes ")") (refl, refl) refl close)
 
 -- ---- expressions and what stands around them
 
@@ -177,9 +175,6 @@ kind_parts h kind.Distance e rest s has ends = four_parts h e rest has ends
 kind_then : (h : Bool) (k : OperandKind) (e : ExprView) (is : List Item) (rest : List ℕ) → IsOperand k e → IsRead e → Ends rest → Spells is (parts rest)
     → Spells (value (source_value e) ∷ is) (parts (kind_text h k e ++ rest))
 kind_then h k e is rest s has ends t = valued (source_value e) is (kind_text h k e) rest (kind_parts h k e rest s has ends) t
-
-opened : (is : List Item) (rest : List ℕ) → Spells is (parts rest) → Spells (mark 40 ∷ is) (parts (40 ∷ rest))
-opened is rest t = marked 40 is (40 ∷ rest) (parts rest) (parts_mark 40 rest refl) t
 
 word_no_equals : (b : ℕ) → is_word_start b ≡ true → eqb b 61 ≡ false
 word_no_equals b h = grind (arith, nat_tests)
@@ -199,26 +194,24 @@ forced : (h : Bool) (e : ExprView) (is : List Item) (rest : List ℕ) → IsRead
     → Spells (prefix_items Absolute ++ value (source_value e) ∷ is) (parts (prefix_text true ++ (long_text h e ++ rest)))
 forced h e is rest has ends t =
     let text = long_text h e ++ rest in
-    worded (codes "a") _ (97 ∷ 58 ∷ text) (parts (58 ∷ text)) (parts_word (codes "a") (58 ∷ text) (refl, refl) refl)
-    (marked 58 _ (58 ∷ text) (parts text) (parts_colon text (no_equals h e rest has)) (valued (source_value e) is (long_text h e) rest (four_parts h e rest has ends) t))
+    worded (codes "a") _ (58 ∷ text) (refl, refl) refl
+    (rw (parts_colon text (no_equals h e rest has)) (at_mark 58 _ (Mark 58 ∷ parts text) refl (valued (source_value e) is (long_text h e) rest (four_parts h e rest has ends) t)))
 
 -- ---- the operands of each row
 
 row_spelled : (h : Bool) (r : Row) (os : OperandsView) → AreOperands r os → AreRead os → Spells (form_items (row_form r Automatic os)) (parts (row_operands h r false os))
 row_spelled h row.Implied view.none w n = nothing
 row_spelled h row.Accumulator view.none w n = one_word 97 (refl, refl)
-row_spelled h (row.One pattern.Immediate k) (view.one e) w n =
-    let text = kind_text h k e ++ [] in
-    marked 35 _ (35 ∷ text) (parts text) (parts_mark 35 text refl) (kind_then h k e [] [] w n refl nothing)
+row_spelled h (row.One pattern.Immediate k) (view.one e) w n = marked 35 _ (kind_text h k e ++ []) refl (kind_then h k e [] [] w n refl nothing)
 row_spelled h (row.One pattern.Direct k) (view.one e) w n = kind_then h k e [] [] w n refl nothing
 row_spelled h (row.One pattern.DirectX k) (view.one e) w n = kind_then h k e _ (codes ",x") w n refl comma_x
 row_spelled h (row.One pattern.DirectY k) (view.one e) w n = kind_then h k e _ (codes ",y") w n refl comma_y
-row_spelled h (row.One pattern.Indirect k) (view.one e) w n = opened _ (kind_text h k e ++ codes ")") (kind_then h k e _ (codes ")") w n refl close)
-row_spelled h (row.One pattern.IndirectX k) (view.one e) w n = opened _ (kind_text h k e ++ codes ",x)") (kind_then h k e _ (codes ",x)") w n refl x_close)
-row_spelled h (row.One pattern.IndirectY k) (view.one e) w n = opened _ (kind_text h k e ++ codes "),y") (kind_then h k e _ (codes "),y") w n refl close_y)
+row_spelled h (row.One pattern.Indirect k) (view.one e) w n = marked 40 _ (kind_text h k e ++ codes ")") refl (kind_then h k e _ (codes ")") w n refl close)
+row_spelled h (row.One pattern.IndirectX k) (view.one e) w n = marked 40 _ (kind_text h k e ++ codes ",x)") refl (kind_then h k e _ (codes ",x)") w n refl x_close)
+row_spelled h (row.One pattern.IndirectY k) (view.one e) w n = marked 40 _ (kind_text h k e ++ codes "),y") refl (kind_then h k e _ (codes "),y") w n refl close_y)
 row_spelled h (row.Two k l) (view.two e f) w n =
     let text = kind_text h l f ++ [] in
-    kind_then h k e _ (44 ∷ text) w.0 n.0 refl (marked 44 _ (44 ∷ text) (parts text) (parts_mark 44 text refl) (kind_then h l f [] [] w.1 n.1 refl nothing))
+    kind_then h k e _ (44 ∷ text) w.0 n.0 refl (marked 44 _ text refl (kind_then h l f [] [] w.1 n.1 refl nothing))
 row_spelled h _ _ w n = absurd w
 
 forced_one : (h : Bool) (p : Pattern) (k : OperandKind) (e : ExprView) → IsRead e → IsSome (zero_page_row (row.One p k))
@@ -242,10 +235,6 @@ operand_spelled h m false os w f n = row_spelled h (row_of m) os w n
 operand_spelled h m true os w f n = forced_spelled h (row_of m) os w n (f refl)
 
 -- ---- data
-
-last : (i : Item) (ps : List Part) → IsItem i ps → Spells (i ∷ []) ps
-unfolding Spells
-last i ps h = (ps, [], sym (append-nil ps), h, refl)
 
 bytes_spelled : (bs : List ℕ) → 1 ≤ length bs → AreBytes bs → Spells (data_list (map NumberDatum bs) ∷ []) (parts (bytes_text bs))
 bytes_spelled bs lt h = last (data_list (map NumberDatum bs)) (parts (bytes_text bs)) (bytes_listed bs lt h)
@@ -371,18 +360,10 @@ leads_start : (label : Option (List ℕ)) → HasLabelName label → Leads (with
 leads_start None n = leads_nothing
 leads_start (Some name) n = leads_label name n
 
-named : (w : List ℕ) (is : List Item) (ps qs : List Part) → is_name w ≡ true → qs ≡ Word w ∷ ps → Spells is ps → Spells (item.name w ∷ is) qs
-unfolding Spells
-named w is ps qs n e h = (Word w ∷ [], ps, e, (n, refl), h)
-
-a_mark : (b : ℕ) (is : List Item) (ps : List Part) → Spells is ps → Spells (mark b ∷ is) (Mark b ∷ ps)
-unfolding Spells
-a_mark b is ps h = (Mark b ∷ [], ps, refl, refl, h)
-
 -- an operation is spelled, with the label before it
 labelled : (label : Option (List ℕ)) (o : Operation) (ps : List Part) → HasLabelName label → Spells (operation_items o) ps → IsSpelling (with_label label (Statement None o)) (label_parts label ++ ps)
 labelled None o ps n h = h
-labelled (Some w) o ps n h = named w (mark 58 ∷ operation_items o) (Mark 58 ∷ ps) _ n refl (a_mark 58 (operation_items o) ps h)
+labelled (Some w) o ps n h = name_front _ w (Mark 58 ∷ ps) n (at_mark 58 (operation_items o) (Mark 58 ∷ ps) refl h)
 
 -- ---- operations
 
@@ -395,10 +376,6 @@ parts_with line ps c w operands l h = leads_word line ps c.mnemonic w l h c.argu
 mnemonic_word : (m : Mnemonic) → IsWordText (text_of m)
 mnemonic_word Adc = (refl, refl)
 mnemonic_word _ = (refl, refl)
-
-a_word : (w : List ℕ) (is : List Item) (ps : List Part) → Spells is ps → Spells (word w ∷ is) (Word w ∷ ps)
-unfolding Spells
-a_word w is ps h = (Word w ∷ [], ps, refl, (w, (bytes_eq-Decides (str_to_ascii_lowercase w) (str_to_ascii_lowercase w)).1 refl, refl), h)
 
 -- an operation with operands, after a label or none
 operated : (label : Option (List ℕ)) (c : Columns) (w operands : List ℕ) (o : Operation) (is : List Item) → HasLabelName label → operation_items o ≡ word w ∷ is → IsWordText w → Spells is (parts operands)
@@ -428,8 +405,8 @@ instr_spelled label c h m mode a os l w f n = operated label c (text_of m) (oper
 addr_spelled : (h : Bool) (t : TargetView) → is_name t.name ≡ true → t.offset < 65536 → Spells (value_list (NameValue t.name t.offset Zero ∷ []) ∷ []) (parts (named_text h t.name t.offset))
 addr_spelled h t n w =
     let p = named_parts h t.name [] t.offset n w refl in
-    let shape : parts (named_text h t.name t.offset) ≡ p.front = ap parts (sym (append-nil (named_text h t.name t.offset))) ∙ p.lexes ∙ ap (λ (qs : List Part). p.front ++ qs) parts_nil ∙ append-nil p.front in
-    last (value_list (NameValue t.name t.offset Zero ∷ [])) (parts (named_text h t.name t.offset)) (rw shape p.spells)
+    let shape : parts (named_text h t.name t.offset) ≡ p.front = ap parts (sym (append-nil (named_text h t.name t.offset))) ∙ p.split ∙ ap (λ (qs : List Part). p.front ++ qs) parts_nil ∙ append-nil p.front in
+    last (value_list (NameValue t.name t.offset Zero ∷ [])) (parts (named_text h t.name t.offset)) (rw shape p.is)
 
 minus_one : parts (codes "-1") ≡ Mark 45 ∷ Number (codes "1") ∷ []
 minus_one = parts_mark 45 (codes "1") refl ∙ ap (λ (qs : List Part). Mark 45 ∷ qs) (parts_digits (codes "1") [] (omega arith) refl refl ∙ ap (λ (qs : List Part). Number (codes "1") ∷ qs) parts_nil)
@@ -443,7 +420,7 @@ return_spelled : (h : Bool) (t : TargetView) → is_name t.name ≡ true → t.o
 return_spelled h t n w =
     let p = named_parts h t.name (codes "-1") t.offset n w refl in
     last (value_list (NameValue t.name t.offset One ∷ [])) (parts (return_text h (Some t)))
-    (rw (p.lexes, minus_one) (less_one t.name t.offset p.front p.spells))
+    (rw (p.split, minus_one) (less_one t.name t.offset p.front p.is))
 
 no_target_spelled : Spells (value_list (NumberValue 0xFFFF ∷ []) ∷ []) (parts (codes "$FFFF"))
 no_target_spelled =
@@ -464,15 +441,11 @@ definition_parts c name text n =
     leads_word [] [] 1 name leads_nothing (name_word name n) c.argument (codes ":= " ++ text)
     ∙ ap (λ (qs : List Part). Word name ∷ qs) (parts_define (32 ∷ text) ∙ ap (λ (qs : List Part). Define ∷ qs) (parts_blanks 1 text))
 
-defined : (is : List Item) (ps : List Part) → Spells is ps → Spells (define ∷ is) (Define ∷ ps)
-unfolding Spells
-defined is ps h = (Define ∷ [], ps, refl, refl, h)
-
 assignment_spelled : (c : Columns) (name : List ℕ) (n : ℕ) → is_name name ≡ true → n < 65536 → IsSpelling (Assignment name n) (parts (with_fields [] (definition_fields c name (hex4 n))))
 assignment_spelled c name n is lt =
     let number_parts : parts (hex4 n) ≡ Number (hex4 n) ∷ [] = ap parts (sym (append-nil (hex4 n))) ∙ parts_hex4 n [] refl ∙ ap (λ (qs : List Part). Number (hex4 n) ∷ qs) parts_nil in
     rw (definition_parts c name (hex4 n) is, number_parts)
-    (named name _ (Define ∷ Number (hex4 n) ∷ []) _ is refl (defined _ _ (last (number n) (Number (hex4 n) ∷ []) (hex4 n, number_of-hex4 n lt, refl))))
+    (name_front _ name (Define ∷ Number (hex4 n) ∷ []) is (at_define _ (Define ∷ Number (hex4 n) ∷ []) refl (last (number n) (Number (hex4 n) ∷ []) (hex4 n, number_of-hex4 n lt, refl))))
 
 -- the text of a distance is a number
 distance_parts : (h : Bool) (n : ℕ) → n < 65536 → OffsetParts (distance_text h n) n []
@@ -489,8 +462,8 @@ forward_spelled c h name n is lt =
     let d = distance_parts h n lt in
     let number_parts : parts (distance_text h n) ≡ Number (distance_text h n) ∷ [] = ap parts (sym (append-nil (distance_text h n))) ∙ d.lexes ∙ ap (λ (qs : List Part). Number (distance_text h n) ∷ qs) parts_nil in
     rw (definition_parts c name (codes "* + " ++ distance_text h n) is, place_parts (distance_text h n), number_parts)
-    (named name _ (Define ∷ Mark 42 ∷ Mark 43 ∷ Number (distance_text h n) ∷ []) _ is refl
-    (defined _ _ (a_mark 42 _ _ (a_mark 43 _ _ (last (number n) (Number (distance_text h n) ∷ []) (distance_text h n, d.counts, refl))))))
+    (name_front _ name (Define ∷ Mark 42 ∷ Mark 43 ∷ Number (distance_text h n) ∷ []) is
+    (at_define _ (Define ∷ _) refl (at_mark 42 _ (Mark 42 ∷ _) refl (at_mark 43 _ (Mark 43 ∷ _) refl (last (number n) (Number (distance_text h n) ∷ []) (distance_text h n, d.counts, refl))))))
 
 -- ---- each statement
 

@@ -23,7 +23,7 @@ pub record Fronts (Is : List Part → Type 0) (ps rest : List Part) : Type 0 whe
 
 -- ---- items in front
 
-at_mark : (b : ℕ) (is : List Item) (ps : List Part) → is_mark b ps ≡ true → Spells is (drop 1 ps) → Spells (mark b ∷ is) ps
+pub at_mark : (b : ℕ) (is : List Item) (ps : List Part) → is_mark b ps ≡ true → Spells is (drop 1 ps) → Spells (mark b ∷ is) ps
 unfolding Spells
 at_mark b is ps h g = (Mark b ∷ [], drop 1 ps, mark_is b ps h, refl, g)
 
@@ -31,11 +31,11 @@ at_word : (text : List ℕ) (is : List Item) (ps : List Part) → is_word_here t
 unfolding Spells
 at_word text is ps h g = let w = word_is text ps h in (Word w.0 ∷ [], drop 1 ps, w.2, (w.0, w.1, refl), g)
 
-at_value : (v : Value) (is : List Item) (ps rest : List Part) → Fronts (IsValue v) ps rest → Spells is rest → Spells (value v ∷ is) ps
+pub at_value : (v : Value) (is : List Item) (ps rest : List Part) → Fronts (IsValue v) ps rest → Spells is rest → Spells (value v ∷ is) ps
 unfolding Spells
 at_value v is ps rest f g = (f.front, rest, f.split, f.is, g)
 
-at_end : Spells [] []
+pub at_end : Spells [] []
 unfolding Spells
 at_end = refl
 
@@ -179,32 +179,32 @@ joined_read {A = A} Is read h (suc most) ps =
     (λ comma. rw comma (by_option (joined read most (drop 1 x.1))
     (λ xs g. rw g (more x.0 xs ps x.1 f comma (at (λ xs. IsList Is xs (drop 1 x.1)) (joined read most (drop 1 x.1)) xs g (joined_read Is read h most (drop 1 x.1)))))
     (λ g. rw g tt)))
-    (λ comma. rw comma (by_list x.1 (λ end. rw end (last x.0 ps x.1 f end)) (λ q qs e. rw e tt)))))
+    (λ comma. rw comma (by_list x.1 (λ end. rw end (final x.0 ps x.1 f end)) (λ q qs e. rw e tt)))))
     (λ e. rw e tt)
   where
     more : (x : A) (xs : List A) (ps rest : List Part) → Fronts (Is x) ps rest → is_mark 44 rest ≡ true → IsList Is xs (drop 1 rest) → IsList Is (x ∷ xs) ps
     more x [] ps rest f comma g = absurd g
     more x (y ∷ ys) ps rest f comma g = (f.front, drop 1 rest, f.split ∙ ap (λ (r : List Part). f.front ++ r) (mark_is 44 rest comma), f.is, g)
 
-    last : (x : A) (ps rest : List Part) → Fronts (Is x) ps rest → rest ≡ [] → Is x ps
-    last x ps rest f end = let e : ps ≡ f.front = f.split ∙ ap (λ (r : List Part). f.front ++ r) end ∙ append-nil f.front in rw e f.is
+    final : (x : A) (ps rest : List Part) → Fronts (Is x) ps rest → rest ≡ [] → Is x ps
+    final x ps rest f end = let e : ps ≡ f.front = f.split ∙ ap (λ (r : List Part). f.front ++ r) end ∙ append-nil f.front in rw e f.is
 
 -- ---- operations and lines
 
--- an item after a word
-word_and_item : (text : List ℕ) (i : Item) (w : List ℕ) (ps : List Part) → same w text ≡ true → IsItem i ps → Spells (word text ∷ i ∷ []) (Word w ∷ ps)
+-- an item that is the last
+pub last : (i : Item) (ps : List Part) → IsItem i ps → Spells (i ∷ []) ps
 unfolding Spells
-word_and_item text i w ps h g = (Word w ∷ [], ps, refl, (w, h, refl), (ps, [], sym (append-nil ps), g, refl))
+last i ps h = (ps, [], sym (append-nil ps), h, refl)
 
-word_front : (text : List ℕ) (is : List Item) (w : List ℕ) (ps : List Part) → same w text ≡ true → Spells is ps → Spells (word text ∷ is) (Word w ∷ ps)
+pub word_front : (text : List ℕ) (is : List Item) (w : List ℕ) (ps : List Part) → same w text ≡ true → Spells is ps → Spells (word text ∷ is) (Word w ∷ ps)
 unfolding Spells
 word_front text is w ps h g = (Word w ∷ [], ps, refl, (w, h, refl), g)
 
-name_front : (is : List Item) (w : List ℕ) (ps : List Part) → is_name w ≡ true → Spells is ps → Spells (name w ∷ is) (Word w ∷ ps)
+pub name_front : (is : List Item) (w : List ℕ) (ps : List Part) → is_name w ≡ true → Spells is ps → Spells (name w ∷ is) (Word w ∷ ps)
 unfolding Spells
 name_front is w ps h g = (Word w ∷ [], ps, refl, (h, refl), g)
 
-at_define : (is : List Item) (ps : List Part) → is_define ps ≡ true → Spells is (drop 1 ps) → Spells (define ∷ is) ps
+pub at_define : (is : List Item) (ps : List Part) → is_define ps ≡ true → Spells is (drop 1 ps) → Spells (define ∷ is) ps
 unfolding Spells
 at_define is ps h g = (Define ∷ [], drop 1 ps, define_is ps h, refl, g)
 
@@ -224,21 +224,21 @@ then_read P None make full h k = tt
 then_read P (Some x) make full h k = k x h
 
 data_read : (w : List ℕ) (ps : List Part) → same w (codes ".byte") ≡ true → IfSome (data_of ps) (λ o. Spells (operation_items o) (Word w ∷ ps))
-data_read w ps t = then_read (λ xs. IsList IsDatum xs ps) (list_of next_datum ps) Data (Word w ∷ ps) (joined_read IsDatum next_datum datum_read (suc (length ps)) ps) (λ xs h. word_and_item (codes ".byte") (data_list xs) w ps t h)
+data_read w ps t = then_read (λ xs. IsList IsDatum xs ps) (list_of next_datum ps) Data (Word w ∷ ps) (joined_read IsDatum next_datum datum_read (suc (length ps)) ps) (λ xs h. word_front (codes ".byte") _ w ps t (last (data_list xs) ps h))
 
 values_read : (d : Directive) (w : List ℕ) (ps : List Part) → same w (directive_text d) ≡ true → IfSome (values_of d ps) (λ o. Spells (operation_items o) (Word w ∷ ps))
-values_read d w ps t = then_read (λ vs. IsList IsValue vs ps) (list_of next_value ps) (Values d) (Word w ∷ ps) (joined_read IsValue next_value value_read (suc (length ps)) ps) (λ vs h. word_and_item (directive_text d) (value_list vs) w ps t h)
+values_read d w ps t = then_read (λ vs. IsList IsValue vs ps) (list_of next_value ps) (Values d) (Word w ∷ ps) (joined_read IsValue next_value value_read (suc (length ps)) ps) (λ vs h. word_front (directive_text d) _ w ps t (last (value_list vs) ps h))
 
 segment_read : (w : List ℕ) (ps : List Part) → same w (codes ".segment") ≡ true → IfSome (segment_of ps) (λ o. Spells (operation_items o) (Word w ∷ ps))
 segment_read w ps t =
     by_option (text_in ps)
     (λ name e. rw e (by_test (has_name_form name)
-    (λ n. rw n (word_and_item (codes ".segment") (quoted_name name) w ps t (n, at (λ name. ps ≡ Text name ∷ []) (text_in ps) name e (text_read ps))))
+    (λ n. rw n (word_front (codes ".segment") _ w ps t (last (quoted_name name) ps (n, at (λ name. ps ≡ Text name ∷ []) (text_in ps) name e (text_read ps)))))
     (λ n. rw n tt)))
     (λ e. rw e tt)
 
 set_cpu_read : (w : List ℕ) (ps : List Part) → same w (codes ".setcpu") ≡ true → IfSome (set_cpu_of ps) (λ o. Spells (operation_items o) (Word w ∷ ps))
-set_cpu_read w ps t = then_read (λ name. ps ≡ Text name ∷ []) (text_in ps) SetCpu (Word w ∷ ps) (text_read ps) (λ name h. word_and_item (codes ".setcpu") (string name) w ps t h)
+set_cpu_read w ps t = then_read (λ name. ps ≡ Text name ∷ []) (text_in ps) SetCpu (Word w ∷ ps) (text_read ps) (λ name h. word_front (codes ".setcpu") _ w ps t (last (string name) ps h))
 
 instruction_read : (w : List ℕ) (ps : List Part) → IfSome (instruction_of w ps) (λ o. Spells (operation_items o) (Word w ∷ ps))
 instruction_read w ps =

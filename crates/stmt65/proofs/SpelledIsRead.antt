@@ -1,19 +1,21 @@
 -- What is spelled so is read.
 use Rattle.std.proofs.Common.{◌≡◌, ℕ, zero, suc, true, false, eqb, List, [], ◌∷◌, ◌++◌, length, ◌≤◌, Option, Some, None, refl, sym, ap, ◌∙◌, arith, inl, inr, append_assoc}
 use Rattle.std.specs.Prelude.{codes}
+use Rattle.std.proofs.lemmas.Bool.{eqb-true}
 use Rattle.std.proofs.lemmas.List.{append-nil, length-append}
-use Rattle.isa65.specs.Mnemonic.{text_of}
+use Rattle.isa65.specs.Mnemonic.{text_of, mnemonic_named}
 use Rattle.stmt65.specs.declared.source_line.AddressSize.{AddressSize}
 use Rattle.stmt65.specs.declared.source_line.AddressSize.TheVariants.{Absolute, Automatic}
 use Rattle.stmt65.specs.declared.source_line.Minus.{Minus}
 use Rattle.stmt65.specs.declared.source_line.Minus.TheVariants.{Zero, One}
 use Rattle.stmt65.specs.SourceLine.{Value, NumberValue, NameValue, Form, Empty, Accumulator, Immediate, Direct, DirectX, DirectY, Two, Indirect, IndirectX, IndirectY, Datum, NumberDatum, StringDatum, Operation, Nothing, Instr, Data, Values, Segment, Code, SetCpu, SourceLine, Assignment, PlaceAssignment, Statement}
-use Rattle.stmt65.specs.Directives.{directive_text}
+use Rattle.stmt65.specs.declared.directive.Directive.{Directive}
+use Rattle.stmt65.specs.Directives.{directive_text, directive_named}
 use Rattle.stmt65.specs.Parts.{Part, Word, Number, Define, Mark, number_of}
 use Rattle.stmt65.specs.Names.{same, is_name}
-use Rattle.stmt65.specs.Reading.{is_mark, is_define, is_word_here, is_nil, less_one, named_at, next_value, tail_at, inner_at, form_of, joined, next_datum, text_in, other_at, operation_at, operation_of, constant_of, line_at, reading_of}
+use Rattle.stmt65.specs.Reading.{is_mark, is_define, is_word_here, is_nil, less_one, named_at, next_value, tail_at, inner_at, form_of, joined, next_datum, text_in, data_of, values_of, segment_of, set_cpu_of, whole, other_at, operation_at, operation_of, constant_of, line_at, reading_of}
 use Rattle.stmt65.specs.Spelling.{Item, word, mark, define, name, number, string, quoted_name, value, data_list, value_list, IsPlus, IsMinus, IsValue, IsDatum, prefix_items, IsList, IsItem, Spells, form_items, operation_items, IsSpelling}
-use Rattle.stmt65.proofs.Cases.{other, no_letter, no_dot, mnemonic_again, directive_again, no_directive, other_byte, other_segment, other_code, other_set_cpu}
+use Rattle.stmt65.proofs.Cases.{by_test, by_option, other, no_letter, no_dot, mnemonic_again, directive_again, no_directive, other_byte, other_segment, other_code, other_set_cpu}
 
 -- ---- items in front
 
@@ -81,20 +83,19 @@ unfolding next_value
 value_again (NumberValue n) front rest h stop = rw (h.2, ← h.1) refl
 value_again (NameValue w n less) front rest h stop = rw (h.2, append_assoc h.0 h.1 rest) (rw h.3 (named_again w n less h.0 h.1 rest h.4 h.5 stop))
 
--- what begins with a value begins with no mark, no `:=` and no letter
+-- what begins with a value begins with no mark and no letter
 record Begins (ps : List Part) : Type 0 where
   mark : (b : ℕ) → is_mark b ps ≡ false
-  define : is_define ps ≡ false
   a : is_word_here (codes "a") ps ≡ false
   x : is_word_here (codes "x") ps ≡ false
   y : is_word_here (codes "y") ps ≡ false
   some : is_nil ps ≡ false
 
 word_begins : (w : List ℕ) (rest : List Part) → is_name w ≡ true → Begins (Word w ∷ rest)
-word_begins w rest h = let n = no_letter w h in record { mark = λ b. refl; define = refl; a = n.0; x = n.1; y = n.2; some = refl }
+word_begins w rest h = let n = no_letter w h in record { mark = λ b. refl; a = n.0; x = n.1; y = n.2; some = refl }
 
 value_begins : (v : Value) (front rest : List Part) → IsValue v front → Begins (front ++ rest)
-value_begins (NumberValue n) front rest h = rw h.2 (record { mark = λ b. refl; define = refl; a = refl; x = refl; y = refl; some = refl })
+value_begins (NumberValue n) front rest h = rw h.2 (record { mark = λ b. refl; a = refl; x = refl; y = refl; some = refl })
 value_begins (NameValue w n less) front rest h = rw h.2 (word_begins w ((h.0 ++ h.1) ++ rest) h.3)
 
 -- a value that stands first in an operand
@@ -199,77 +200,32 @@ operation_again (SetCpu t) ps h =
     let w = un_word (codes ".setcpu") (string t ∷ []) ps h in
     rw (w.2, no_directive w.0 _ w.3 other_set_cpu, other w.0 (codes ".setcpu") (codes ".byte") w.3 refl, other w.0 (codes ".setcpu") (codes ".segment") w.3 refl, other w.0 (codes ".setcpu") (codes ".code") w.3 refl, w.3, un_last (string t) w.1 w.4) refl
 
--- what stands after the word of an operation is no `:` and no `:=`
-record IsPlain (ps : List Part) : Type 0 where
-  colon : is_mark 58 ps ≡ false
-  define : is_define ps ≡ false
+-- a word with which nothing can go on is no operation
+none_at : (w : List ℕ) (ps : List Part) → ((d : Directive) → values_of d ps ≡ None) → data_of ps ≡ None → segment_of ps ≡ None → whole Code ps ≡ None → set_cpu_of ps ≡ None → form_of ps ≡ None → operation_at w ps ≡ None
+unfolding operation_at other_at
+none_at w ps values bytes segment code cpu form =
+    by_option (directive_named w) (λ d e. rw (e, values d) refl)
+    (λ e. rw e (by_test (same w (codes ".byte")) (λ t. rw (t, bytes) refl)
+    (λ t. rw t (by_test (same w (codes ".segment")) (λ t. rw (t, segment) refl)
+    (λ t. rw t (by_test (same w (codes ".code")) (λ t. rw (t, code) refl)
+    (λ t. rw t (by_test (same w (codes ".setcpu")) (λ t. rw (t, cpu) refl)
+    (λ t. rw t (by_option (mnemonic_named w) (λ m e. rw (e, form) refl) (λ e. rw e refl)))))))))))
 
-begins_plain : (ps : List Part) → Begins ps → IsPlain ps
-begins_plain ps b = record { colon = b.mark 58; define = b.define }
+-- neither `:` nor `:=` stands after the word of an operation
+no_label : (w : List ℕ) (ps : List Part) (o : Operation) → operation_at w ps ≡ Some o → (is_mark 58 ps ≡ false) × (is_define ps ≡ false)
+unfolding joined next_value next_datum text_in form_of
+no_label w (Mark b ∷ ps) o e =
+    by_test (eqb b 58)
+    (λ m. absurd (let is = eqb-true b 58 m in let e' = rw (is, none_at w (Mark 58 ∷ ps) (λ d. refl) refl refl refl refl refl) at e in cc))
+    (λ m. (m, refl))
+no_label w (Define ∷ ps) o e = absurd (let e' = rw (none_at w (Define ∷ ps) (λ d. refl) refl refl refl refl refl) at e in cc)
+no_label w _ o e = (refl, refl)
 
-value_plain : (v : Value) (is : List Item) (ps : List Part) → Spells (value v ∷ is) ps → IsPlain ps
-value_plain v is ps h = let e = un_value v is ps h in rw e.2 (begins_plain (e.0 ++ e.1) (value_begins v e.0 e.1 e.3))
-
-mark_plain : (b : ℕ) (is : List Item) (ps : List Part) → eqb b 58 ≡ false → Spells (mark b ∷ is) ps → IsPlain ps
-mark_plain b is ps e h = let m = un_mark b is ps h in rw m.1 (record { colon = e; define = refl })
-
-word_plain : (text : List ℕ) (is : List Item) (ps : List Part) → Spells (word text ∷ is) ps → IsPlain ps
-word_plain text is ps h = let w = un_word text is ps h in rw w.2 (record { colon = refl; define = refl })
-
-prefix_plain : (size : AddressSize) (v : Value) (is : List Item) (ps : List Part) → Spells (prefix_items size ++ value v ∷ is) ps → IsPlain ps
-prefix_plain Absolute v is ps h = word_plain (codes "a") _ ps h
-prefix_plain Automatic v is ps h = value_plain v is ps h
-
-form_plain : (f : Form) (ps : List Part) → Spells (form_items f) ps → IsPlain ps
-form_plain Empty ps h = rw (nothing_left ps h) (record { colon = refl; define = refl })
-form_plain Accumulator ps h = word_plain (codes "a") [] ps h
-form_plain (Immediate v) ps h = mark_plain 35 _ ps refl h
-form_plain (Direct size v) ps h = prefix_plain size v _ ps h
-form_plain (DirectX size v) ps h = prefix_plain size v _ ps h
-form_plain (DirectY size v) ps h = prefix_plain size v _ ps h
-form_plain (Two v u) ps h = value_plain v _ ps h
-form_plain (Indirect v) ps h = mark_plain 40 _ ps refl h
-form_plain (IndirectX v) ps h = mark_plain 40 _ ps refl h
-form_plain (IndirectY v) ps h = mark_plain 40 _ ps refl h
-
-list_plain : {A : Type 0} (Is : A → List Part → Type 0) → ((x : A) (front rest : List Part) → Is x front → IsPlain (front ++ rest)) → (xs : List A) (ps : List Part) → IsList Is xs ps → IsPlain ps
-list_plain Is plain [] ps h = absurd h
-list_plain Is plain (x ∷ []) ps h = rw (sym (append-nil ps)) (plain x ps [] h)
-list_plain Is plain (x ∷ y ∷ ys) ps h = rw h.2 (plain x h.0 (Mark 44 ∷ h.1) h.3)
-
-datum_plain : (x : Datum) (front rest : List Part) → IsDatum x front → IsPlain (front ++ rest)
-datum_plain (NumberDatum n) front rest h = rw h.2 (record { colon = refl; define = refl })
-datum_plain (StringDatum t) front rest h = rw h (record { colon = refl; define = refl })
-
-value_front_plain : (v : Value) (front rest : List Part) → IsValue v front → IsPlain (front ++ rest)
-value_front_plain v front rest h = begins_plain (front ++ rest) (value_begins v front rest h)
-
--- an operation without a label
-unlabelled : (o : Operation) (w : List ℕ) (rest : List Part) → IsPlain rest → operation_of (Word w ∷ rest) ≡ Some o → reading_of (Word w ∷ rest) ≡ Some (Statement None o)
+stated_again : (o : Operation) (ps : List Part) → operation_of ps ≡ Some o → reading_of ps ≡ Some (Statement None o)
 unfolding reading_of line_at operation_of
-unlabelled o w rest p e = rw (p.colon, p.define, e) refl
-
-stated_again : (o : Operation) (ps : List Part) → Spells (operation_items o) ps → reading_of ps ≡ Some (Statement None o)
-unfolding reading_of
-stated_again Nothing ps h = rw (nothing_left ps h) refl
-stated_again (Instr m f) ps h =
-    let w = un_word (text_of m) (form_items f) ps h in
-    rw w.2 (unlabelled (Instr m f) w.0 w.1 (form_plain f w.1 w.4) (rw w.2 at (operation_again (Instr m f) ps h)))
-stated_again (Data xs) ps h =
-    let w = un_word (codes ".byte") (data_list xs ∷ []) ps h in
-    rw w.2 (unlabelled (Data xs) w.0 w.1 (list_plain IsDatum datum_plain xs w.1 (un_last (data_list xs) w.1 w.4)) (rw w.2 at (operation_again (Data xs) ps h)))
-stated_again (Values d vs) ps h =
-    let w = un_word (directive_text d) (value_list vs ∷ []) ps h in
-    rw w.2 (unlabelled (Values d vs) w.0 w.1 (list_plain IsValue value_front_plain vs w.1 (un_last (value_list vs) w.1 w.4)) (rw w.2 at (operation_again (Values d vs) ps h)))
-stated_again (Segment t) ps h =
-    let w = un_word (codes ".segment") (quoted_name t ∷ []) ps h in
-    rw w.2 (unlabelled (Segment t) w.0 w.1 (rw (un_last (quoted_name t) w.1 w.4).1 (record { colon = refl; define = refl })) (rw w.2 at (operation_again (Segment t) ps h)))
-stated_again Code ps h =
-    let w = un_word (codes ".code") [] ps h in
-    rw w.2 (unlabelled Code w.0 w.1 (rw (nothing_left w.1 w.4) (record { colon = refl; define = refl })) (rw w.2 at (operation_again Code ps h)))
-stated_again (SetCpu t) ps h =
-    let w = un_word (codes ".setcpu") (string t ∷ []) ps h in
-    rw w.2 (unlabelled (SetCpu t) w.0 w.1 (rw (un_last (string t) w.1 w.4) (record { colon = refl; define = refl })) (rw w.2 at (operation_again (SetCpu t) ps h)))
+stated_again o [] e = cc
+stated_again o (Word w ∷ ps) e = let p = no_label w ps o e in rw (p.0, p.1, e) refl
+stated_again o _ e = absurd cc
 
 pub line_again : (r : SourceLine) (ps : List Part) → IsSpelling r ps → reading_of ps ≡ Some r
 unfolding reading_of line_at constant_of
@@ -282,7 +238,7 @@ line_again (PlaceAssignment w n) ps h =
     let star = un_mark 42 _ d.0 d.2 in let plus = un_mark 43 _ star.0 star.2 in
     let t = un_number n plus.0 plus.2 in
     rw (name.1, d.1, star.1, plus.1, t.2) (rw (name.2, ← t.1) refl)
-line_again (Statement None o) ps h = stated_again o ps h
+line_again (Statement None o) ps h = stated_again o ps (operation_again o ps h)
 line_again (Statement (Some w) o) ps h =
     let name = un_name w _ ps h in let colon = un_mark 58 _ name.0 name.3 in
     rw (name.1, colon.1) (rw (name.2, operation_again o colon.0 colon.2) refl)

@@ -26,33 +26,32 @@ use Rattle.stmt65.specs.Tables.{entry_len, order_of, in_order, low_number, piece
 use Rattle.stmt65.specs.Code.Widths.{AreBytes}
 use Rattle.stmt65.proofs.Lexed.{Ends, parts_mark, parts_text, hex_is_digit, hex_value, below_16, parts_hex, parts_hex2, number_of-hex2}
 use Rattle.stmt65.proofs.PartLemmas.{parts_nil}
+use Rattle.stmt65.proofs.ReadIsSpelled.{Fronts}
 use Rattle.stmt65.proofs.EntryLaws.{in_order-length, entries_more}
 use Rattle.stmt65.proofs.TableLists.{cut_nil, cut_single, cut_onto}
 
 -- ---- lists joined by commas
 
 -- the parts of a text that spell x, and what follows it
-record TextParts {A : Type 0} (Is : A → List Part → Type 0) (x : A) (text rest : List ℕ) : Type 0 where
-  front : List Part
-  lexes : parts (text ++ rest) ≡ front ++ parts rest
-  spells : Is x front
+abbrev pub TextParts : {A : Type 0} → (A → List Part → Type 0) → A → List ℕ → List ℕ → Type 0
+TextParts Is x text rest = Fronts (Is x) (parts (text ++ rest)) (parts rest)
 
 listed : {A B : Type 0} (f : A → B) (Is : B → List Part → Type 0) (text : A → List ℕ) (p : A → Bool)
     → ((x : A) → p x ≡ true → (rest : List ℕ) → Ends rest → TextParts Is (f x) (text x) rest)
     → (x : A) (xs : List A) → list_all p (x ∷ xs) ≡ true → IsList Is (map f (x ∷ xs)) (parts (text x ++ flat_map (λ y. 44 ∷ text y) xs))
 listed f Is text p each x [] h =
     let t = each x (and_parts (p x) true h).0 [] refl in
-    rw (t.lexes, parts_nil, append-nil) t.spells
+    rw (t.split, parts_nil, append-nil) t.is
 listed f Is text p each x (y ∷ ys) h =
     let more = and_parts (p x) (list_all p (y ∷ ys)) h in
     let rest = text y ++ flat_map (λ y. 44 ∷ text y) ys in
     let t = each x more.0 (44 ∷ rest) refl in
-    (t.front, parts rest, t.lexes ∙ ap (λ (ps : List Part). t.front ++ ps) (parts_mark 44 rest refl), t.spells, listed f Is text p each y ys more.1)
+    (t.front, parts rest, t.split ∙ ap (λ (ps : List Part). t.front ++ ps) (parts_mark 44 rest refl), t.is, listed f Is text p each y ys more.1)
 
 -- ---- bytes
 
 each_byte : (b : ℕ) → ltb b 256 ≡ true → (rest : List ℕ) → Ends rest → TextParts IsDatum (NumberDatum b) (hex2 b) rest
-each_byte b h rest e = record { front = Number (hex2 b) ∷ []; lexes = parts_hex2 b rest e; spells = (hex2 b, number_of-hex2 b (ltb-true b 256 h), refl) }
+each_byte b h rest e = record { front = Number (hex2 b) ∷ []; split = parts_hex2 b rest e; is = (hex2 b, number_of-hex2 b (ltb-true b 256 h), refl) }
 
 pub bytes_listed : (bs : List ℕ) → 1 ≤ length bs → AreBytes bs → IsList IsDatum (map NumberDatum bs) (parts (bytes_text bs))
 unfolding comma_list
@@ -122,8 +121,8 @@ each_entry d bytes h rest e =
     let count : length digits ≡ 2 * entry_len d = digits_len (reverse low) ∙ rw (length-reverse low, in_order-length (order_of d) bytes, long) refl in
     record {
       front = Number (entry_text d bytes) ∷ [];
-      lexes = parts_hex digits rest (digits_pass (reverse low)) (omega (arith, count, entry_some d)) (omega (arith, count, entry_short d)) e;
-      spells = (entry_text d bytes, sym (digits_count low (ordered_bytes (order_of d) bytes is.1)), refl);
+      split = parts_hex digits rest (digits_pass (reverse low)) (omega (arith, count, entry_some d)) (omega (arith, count, entry_short d)) e;
+      is = (entry_text d bytes, sym (digits_count low (ordered_bytes (order_of d) bytes is.1)), refl);
     }
 
 take_bytes : (n : ℕ) (bs : List ℕ) → AreBytes bs → AreBytes (take n bs)
@@ -183,8 +182,8 @@ each_datum : (d : Datum) → is_sound d ≡ true → (rest : List ℕ) → Ends 
 each_datum (NumberDatum b) h rest e = each_byte b h rest e
 each_datum (StringDatum t) h rest e = record {
   front = Text t ∷ [];
-  lexes = ap (λ (l : List ℕ). parts (34 ∷ l)) (append_assoc t (34 ∷ []) rest) ∙ parts_text t rest h;
-  spells = refl;
+  split = ap (λ (l : List ℕ). parts (34 ∷ l)) (append_assoc t (34 ∷ []) rest) ∙ parts_text t rest h;
+  is = refl;
 }
 
 map_same : (ds : List Datum) → map (λ d. d) ds ≡ ds
