@@ -16,6 +16,7 @@ use Rattle.stmt65.specs.SourceLine.{Value, NumberValue, NameValue}
 use Rattle.stmt65.specs.Symbols.{Definition, below, find_name, is_known, lowered, value_in, word_in}
 use Rattle.stmt65.specs.Coding.{Fragment, Fixed, Single, ZeroPage, Oversized, Entry, Distance, entry_in, entry_limit, is_near, fragment_len, Way, first_way, coded_so, is_fragment_known, fragment_fits, fragment_bytes, coding_len}
 use Rattle.stmt65.specs.Code.Held.{held}
+use Rattle.stmt65.proofs.Cases.{by_option}
 
 abbrev pub or_way : Option (List Fragment) → Option (List Fragment) → Option (List Fragment)
 or_way None other = other
@@ -24,12 +25,7 @@ or_way (Some fragments) other = Some fragments
 -- ways after ways
 pub first_way_append : (cpu : Cpu) (m : Mnemonic) (ws vs : List Way) → first_way cpu m (ws ++ vs) ≡ or_way (first_way cpu m ws) (first_way cpu m vs)
 first_way_append cpu m [] vs = refl
-first_way_append cpu m (w ∷ ws) vs = go (encoded (table_of cpu) m w.0) refl (first_way_append cpu m ws vs)
-  where
-    go : (o : Option ℕ) → encoded (table_of cpu) m w.0 ≡ o → first_way cpu m (ws ++ vs) ≡ or_way (first_way cpu m ws) (first_way cpu m vs)
-        → coded_so (encoded (table_of cpu) m w.0) w.1 (first_way cpu m (ws ++ vs)) ≡ or_way (coded_so (encoded (table_of cpu) m w.0) w.1 (first_way cpu m ws)) (first_way cpu m vs)
-    go None e ih = rw e ih
-    go (Some b) e ih = rw e refl
+first_way_append cpu m (w ∷ ws) vs = by_option (encoded (table_of cpu) m w.0) (λ b e. rw e refl) (λ e. rw e (first_way_append cpu m ws vs))
 
 -- a way that gives a coding is taken, and one that gives none is passed over
 pub first_found : (o : Option ℕ) (fragments : List Fragment) (others : Option (List Fragment)) (x : List Fragment) → Some x ≡ coded_so o fragments None → Some x ≡ coded_so o fragments others

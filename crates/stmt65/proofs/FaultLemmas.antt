@@ -42,11 +42,7 @@ any_tied p P xs h = (
 
 not_all : {X : Type 0} (p : X → Bool) (xs : List X) → not (list_all p xs) ≡ list_any (λ x. not (p x)) xs
 not_all p [] = refl
-not_all p (x ∷ xs) = go (p x) refl (not_all p xs)
-  where
-    go : (b : Bool) → p x ≡ b → not (list_all p xs) ≡ list_any (λ y. not (p y)) xs → not (p x && list_all p xs) ≡ (not (p x) || list_any (λ y. not (p y)) xs)
-    go true e ih = rw e ih
-    go false e ih = rw e refl
+not_all p (x ∷ xs) = by_test (p x) (λ e. rw e (not_all p xs)) (λ e. rw e refl)
 
 -- ---- CPUs and forms
 
@@ -65,11 +61,7 @@ form_tied cpu above _ = never
 -- ---- names
 
 zero_page_known : (all above : List Definition) (v : Value) → is_fragment_known all (zero_page above v) ≡ is_known all v
-zero_page_known all above v = go (has_zero_page_size above v)
-  where
-    go : (b : Bool) → is_fragment_known all (cond b (ZeroPage v) (Oversized v)) ≡ is_known all v
-    go true = refl
-    go false = refl
+zero_page_known all above v = by_test (has_zero_page_size above v) (λ t. rw t refl) (λ t. rw t refl)
 
 EachKnown : List Definition → Form → List Way → Type 0
 EachKnown all form [] = Unit {0}

@@ -24,6 +24,7 @@ use Rattle.stmt65.specs.Code.CodingViews.{PutsAll, coded_of}
 use Rattle.stmt65.specs.Code.Held.{held, held_value}
 use Rattle.stmt65.specs.Meaning.{State, operation_in, fragments_of, next_of, defined_by, has_unknown_cpu, has_no_form, is_undefined, is_twice, is_out_of_range, is_past_end, first_of, fault_of, bytes_of, after, final, initial}
 use Rattle.stmt65.specs.Code.MeaningViews.{fragments_in, definitions_in, held_definition, IsPlaced, held_after, held_final}
+use Rattle.stmt65.proofs.Cases.{by_test}
 
 -- the address after a line
 pub next_held : (s : State) (source : SourceLine) (coded : Option Coded) (len : ℕ) → option_map coded_of coded ≡ coding s.cpu s.above (operation_in source) → len ≡ held (coding_len (fragments_in coded))
@@ -36,12 +37,7 @@ next_held s source coded len e f = rw (f, ← e) (omega arith)
 find_name-held : (w : List ℕ) (ds : List Definition) → find_name w (map held_definition ds) ≡ option_map held_definition (find_name w ds)
 unfolding find_name
 find_name-held w [] = refl
-find_name-held w (d ∷ ds) = go (bytes_eq d.name w) refl (find_name-held w ds)
-  where
-    go : (b : Bool) → bytes_eq d.name w ≡ b → find_name w (map held_definition ds) ≡ option_map held_definition (find_name w ds)
-        → cond (bytes_eq d.name w) (Some (held_definition d)) (find_name w (map held_definition ds)) ≡ option_map held_definition (cond (bytes_eq d.name w) (Some d) (find_name w ds))
-    go true e ih = rw e refl
-    go false e ih = rw e ih
+find_name-held w (d ∷ ds) = by_test (bytes_eq d.name w) (λ e. rw e refl) (λ e. rw e (find_name-held w ds))
 
 is_some-map : {A B : Type 0} (f : A → B) (o : Option A) → is_some (option_map f o) ≡ is_some o
 is_some-map f None = refl
@@ -155,16 +151,14 @@ any_large-held (d ∷ ds) = rw (large-held d.value) (ap (λ (b : Bool). ltb 6553
 
 near-held : (next : ℕ) (o : Option ℕ) → is_near (held next) (below 65536 o) ≡ is_near next (below 65536 o)
 near-held next None = refl
-near-held next (Some n) = go (ltb n 65536) refl
-  where
-    go : (b : Bool) → ltb n 65536 ≡ b → is_near (held next) (below 65536 (Some n)) ≡ is_near next (below 65536 (Some n))
-    go true e =
-        let lt = ltb-true n 65536 e in
-        let from : leb (held next) (n + 128) ≡ leb next (n + 128) = grind (arith, nat_tests) in
-        let to : ltb (held next + 127) n ≡ ltb (next + 127) n = grind (arith, nat_tests) in
-        let to' : leb n (held next + 127) ≡ leb n (next + 127) = grind (arith, nat_tests) in
-        rw (e, from, to') refl
-    go false e = rw e refl
+near-held next (Some n) =
+    by_test (ltb n 65536)
+    (λ e.
+    let lt = ltb-true n 65536 e in
+    let from : leb (held next) (n + 128) ≡ leb next (n + 128) = grind (arith, nat_tests) in
+    let to : leb n (held next + 127) ≡ leb n (next + 127) = grind (arith, nat_tests) in
+    rw (e, from, to) refl)
+    (λ e. rw e refl)
 
 fits-held : (all : List Definition) (next : ℕ) (f : Fragment) → fragment_fits all (held next) f ≡ fragment_fits all next f
 unfolding fragment_fits word_in
@@ -236,14 +230,10 @@ small_same n limit h e = omega (arith, ltb-false limit n e)
 
 definitions_same : (ds : List Definition) → list_any (λ d. ltb 65535 d.value) ds ≡ false → map held_definition ds ≡ ds
 definitions_same [] h = refl
-definitions_same (d ∷ ds) h = go (ltb 65535 d.value) refl (definitions_same ds)
-  where
-    go : (b : Bool) → ltb 65535 d.value ≡ b → (list_any (λ x. ltb 65535 x.value) ds ≡ false → map held_definition ds ≡ ds) → map held_definition (d ∷ ds) ≡ d ∷ ds
-    go true e ih = let h' = rw e at h in absurd cc
-    go false e ih =
-        let h' = rw e at h in
-        let same : held d.value ≡ d.value = omega (arith, ltb-false 65535 d.value e) in
-        ap (λ (n : ℕ). record { name = d.name; value = n; constant = d.constant } ∷ map held_definition ds) same ∙ ap (λ (l : List Definition). d ∷ l) (ih h')
+definitions_same (d ∷ ds) h =
+    let each = or_parts (ltb 65535 d.value) (list_any (λ x. ltb 65535 x.value) ds) h in
+    let same : held d.value ≡ d.value = small_same d.value 65535 (omega arith) each.0 in
+    ap (λ (n : ℕ). record { name = d.name; value = n; constant = d.constant } ∷ map held_definition ds) same ∙ ap (λ (l : List Definition). d ∷ l) (definitions_same ds each.1)
 
 pub bytes_exact : (all : List Definition) (p : Placed) (s : State) (source : SourceLine) (answer : Bool) (old new : List ℕ) → IsPlaced p s source → None ≡ fault_of all s (Some source)
     → PutsAll answer all p.next (fragments_in p.coded) old new → new ≡ old ++ bytes_of all s (Some source)

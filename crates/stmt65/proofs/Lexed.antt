@@ -14,6 +14,7 @@ use Rattle.text65.specs.Names.{is_blank, is_word_byte}
 use Rattle.stmt65.specs.Digits.{hex2, hex4, offset_text}
 use Rattle.stmt65.specs.Lexing.{is_word_start, is_text_byte, part_at, parts}
 use Rattle.stmt65.specs.Parts.{Word, Number, Text, Define, Mark, begins_with, number_of}
+use Rattle.stmt65.proofs.Cases.{by_test}
 use Rattle.stmt65.proofs.PartLemmas.{parts_blank, parts_part}
 
 -- whether the list begins with an element that passes
@@ -204,8 +205,7 @@ pub record OffsetParts (text : List ℕ) (n : ℕ) (rest : List ℕ) : Type 0 wh
 
 pub offset_parts : (h : Bool) (n : ℕ) (rest : List ℕ) → n < 65536 → Ends rest → OffsetParts (offset_text h n) n rest
 offset_parts false n rest lt e = record { lexes = parts_decimal n rest lt e; counts = number_of-decimal n lt }
-offset_parts true n rest lt e = go (ltb n 256) refl
-  where
-    go : (t : Bool) → ltb n 256 ≡ t → OffsetParts (offset_text true n) n rest
-    go true f = rw f (record { lexes = parts_hex2 n rest e; counts = number_of-hex2 n (ltb-true n 256 f) })
-    go false f = rw f (record { lexes = parts_hex4 n rest e; counts = number_of-hex4 n lt })
+offset_parts true n rest lt e =
+    by_test (ltb n 256)
+    (λ f. rw f (record { lexes = parts_hex2 n rest e; counts = number_of-hex2 n (ltb-true n 256 f) }))
+    (λ f. rw f (record { lexes = parts_hex4 n rest e; counts = number_of-hex4 n lt }))

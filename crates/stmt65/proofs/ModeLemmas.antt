@@ -19,6 +19,7 @@ use Rattle.stmt65.specs.declared.source_line.AddressSize.TheVariants.{Absolute, 
 use Rattle.stmt65.specs.Symbols.{Definition, has_zero_page_size}
 use Rattle.stmt65.specs.Coding.{Fragment, Fixed, ZeroPage, Oversized, fragment_len, word_operand, Distance, Way, zero_page, by_size, ways, first_way, coding, coding_len}
 use Rattle.stmt65.specs.Forms.{form_text, form_values}
+use Rattle.stmt65.proofs.Cases.{by_test}
 use Rattle.stmt65.specs.ModeLaws.{has_prefix, IsModeOf, IsWay, EachWay, WaysAreModes, is_way, ModesAreWays, HasMode, is_short, mode_fragments, TakesMode, TakesModes, LacksForm, NeedsMode}
 
 pub false_true : {P : Type 0} → false ≡ true → P
@@ -31,20 +32,12 @@ plain : (form : Form) (way : Way) → has_prefix form ≡ false → written way.
 plain form way none alike length = record { of_form = (alike, λ p. false_true (sym none ∙ p)); length = length }
 
 zero_page_len : (above : List Definition) (v : Value) → fragment_len (zero_page above v) ≡ 1
-zero_page_len above v = go (has_zero_page_size above v)
-  where
-    go : (b : Bool) → fragment_len (cond b (ZeroPage v) (Oversized v)) ≡ 1
-    go true = refl
-    go false = refl
+zero_page_len above v = by_test (has_zero_page_size above v) (λ t. rw t refl) (λ t. rw t refl)
 
 -- what holds of the ways of both sizes, whichever goes first
 pub by_sizes : (P : List Way → Type 0) (above : List Definition) (short long : Mode) (v : Value) → P ((short, ZeroPage v ∷ []) ∷ (long, word_operand v ∷ []) ∷ [])
     → P ((long, word_operand v ∷ []) ∷ (short, Oversized v ∷ []) ∷ []) → P (by_size above short long v)
-by_sizes P above short long v first second = go (has_zero_page_size above v)
-  where
-    go : (b : Bool) → P (cond b ((short, ZeroPage v ∷ []) ∷ (long, word_operand v ∷ []) ∷ []) ((long, word_operand v ∷ []) ∷ (short, Oversized v ∷ []) ∷ []))
-    go true = first
-    go false = second
+by_sizes P above short long v first second = by_test (has_zero_page_size above v) (λ t. rw t first) (λ t. rw t second)
 
 pub ways_are_modes : WaysAreModes
 unfolding ways coding_len
@@ -176,37 +169,24 @@ lacks_it : (cpu : Cpu) (m : Mnemonic) (x z : Mode) → encoded (table_of cpu) m 
 lacks_it cpu m x z none same h = let h' = rw (same, none) at h in false_true h'
 
 module _ (cpu : Cpu) (above : List Definition) (m : Mnemonic) (form : Form) (fragments : List Fragment) where
-  -- a mode of one size alone
-  lone : (x : Mode) (b : ℕ) → is_zero x ≡ false → zero_page_of x ≡ None → IsModeOf form x → encoded (table_of cpu) m x ≡ Some b
+  -- a mode that has none of another size beside it
+  lone : (x : Mode) (b : ℕ) → is_zero x ≡ false → ((y : Mode) → zero_page_of x ≡ Some y → IsModeOf form y → ⊥) → IsModeOf form x → encoded (table_of cpu) m x ≡ Some b
       → fragments ≡ Fixed b ∷ mode_fragments above x (form_values form) → TakesMode cpu above m form fragments
-  lone x b z n of_form has coded = record {
+  lone x b z alone of_form has coded = record {
     mode = x;
     opcode = b;
     of_form = of_form;
     has = has;
     coded = coded;
     short = λ y e f g. false_true (sym z ∙ zero_is y x e);
-    long = λ y e f g. absurd cc;
+    long = λ y e f g. absurd (alone y e f);
   }
 
   -- the one way of a form
-  by_one : (x : Mode) (fs : List Fragment) → first_way cpu m ((x, fs) ∷ []) ≡ Some fragments → is_zero x ≡ false → zero_page_of x ≡ None → IsModeOf form x
+  by_one : (x : Mode) (fs : List Fragment) → first_way cpu m ((x, fs) ∷ []) ≡ Some fragments → is_zero x ≡ false → ((y : Mode) → zero_page_of x ≡ Some y → IsModeOf form y → ⊥) → IsModeOf form x
       → fs ≡ mode_fragments above x (form_values form) → TakesMode cpu above m form fragments
-  by_one x fs e z n of_form same =
-      first_case cpu m (x, fs) [] fragments e (λ b has coded. lone x b z n of_form has (coded ∙ ap (λ (gs : List Fragment). Fixed b ∷ gs) same)) (λ gone e'. absurd cc)
-
-  -- the absolute mode after `a:`
-  after_prefix : (x : Mode) (b : ℕ) → has_prefix form ≡ true → is_zero x ≡ false → IsModeOf form x → encoded (table_of cpu) m x ≡ Some b
-      → fragments ≡ Fixed b ∷ mode_fragments above x (form_values form) → TakesMode cpu above m form fragments
-  after_prefix x b p z of_form has coded = record {
-    mode = x;
-    opcode = b;
-    of_form = of_form;
-    has = has;
-    coded = coded;
-    short = λ y e f g. false_true (sym z ∙ zero_is y x e);
-    long = λ y e f g. absurd (no_zero x y e (f.1 p));
-  }
+  by_one x fs e z alone of_form same =
+      first_case cpu m (x, fs) [] fragments e (λ b has coded. lone x b z alone of_form has (coded ∙ ap (λ (gs : List Fragment). Fixed b ∷ gs) same)) (λ gone e'. absurd cc)
 
   -- one of the two sizes, or another way
   sized : (short long : Mode) (v : Value) (rest : List Way) → zero_page_of long ≡ Some short → zero_page_of short ≡ None → is_zero long ≡ false
@@ -252,29 +232,29 @@ module _ (cpu : Cpu) (above : List Definition) (m : Mnemonic) (form : Form) (fra
 
 pub takes_modes : TakesModes
 unfolding coding ways
-takes_modes cpu above m Empty fragments e = by_one cpu above m Empty fragments Imp [] e refl refl (refl, λ p. false_true p) refl
-takes_modes cpu above m Accumulator fragments e = by_one cpu above m Accumulator fragments Acc [] e refl refl (refl, λ p. false_true p) refl
-takes_modes cpu above m (Immediate v) fragments e = by_one cpu above m (Immediate v) fragments Imm _ e refl refl (refl, λ p. false_true p) refl
+takes_modes cpu above m Empty fragments e = by_one cpu above m Empty fragments Imp [] e refl (λ y e f. absurd cc) (refl, λ p. false_true p) refl
+takes_modes cpu above m Accumulator fragments e = by_one cpu above m Accumulator fragments Acc [] e refl (λ y e f. absurd cc) (refl, λ p. false_true p) refl
+takes_modes cpu above m (Immediate v) fragments e = by_one cpu above m (Immediate v) fragments Imm _ e refl (λ y e f. absurd cc) (refl, λ p. false_true p) refl
 takes_modes cpu above m (Direct Absolute v) fragments e =
-    first_case cpu m (Abs, word_operand v ∷ []) [] fragments e (λ b has coded. after_prefix cpu above m (Direct Absolute v) fragments Abs b refl refl (refl, λ p. refl) has coded) (λ gone e'. absurd cc)
+    by_one cpu above m (Direct Absolute v) fragments Abs _ e refl (λ y e f. no_zero Abs y e (f.1 refl)) (refl, λ p. refl) refl
 takes_modes cpu above m (Direct Automatic v) fragments e =
     sized cpu above m (Direct Automatic v) fragments Zp Abs v ((Rel, Distance v ∷ []) ∷ []) refl refl refl (refl, λ p. false_true p) (refl, λ p. false_true p) refl refl refl e
-    (λ e'. by_one cpu above m (Direct Automatic v) fragments Rel _ e' refl refl (refl, λ p. false_true p) refl)
+    (λ e'. by_one cpu above m (Direct Automatic v) fragments Rel _ e' refl (λ y e f. absurd cc) (refl, λ p. false_true p) refl)
 takes_modes cpu above m (DirectX Absolute v) fragments e =
-    first_case cpu m (Absx, word_operand v ∷ []) [] fragments e (λ b has coded. after_prefix cpu above m (DirectX Absolute v) fragments Absx b refl refl (refl, λ p. refl) has coded) (λ gone e'. absurd cc)
+    by_one cpu above m (DirectX Absolute v) fragments Absx _ e refl (λ y e f. no_zero Absx y e (f.1 refl)) (refl, λ p. refl) refl
 takes_modes cpu above m (DirectX Automatic v) fragments e =
     sized cpu above m (DirectX Automatic v) fragments Zpx Absx v [] refl refl refl (refl, λ p. false_true p) (refl, λ p. false_true p) refl refl refl (rw append-nil e) (λ e'. absurd cc)
 takes_modes cpu above m (DirectY Absolute v) fragments e =
-    first_case cpu m (Absy, word_operand v ∷ []) [] fragments e (λ b has coded. after_prefix cpu above m (DirectY Absolute v) fragments Absy b refl refl (refl, λ p. refl) has coded) (λ gone e'. absurd cc)
+    by_one cpu above m (DirectY Absolute v) fragments Absy _ e refl (λ y e f. no_zero Absy y e (f.1 refl)) (refl, λ p. refl) refl
 takes_modes cpu above m (DirectY Automatic v) fragments e =
     sized cpu above m (DirectY Automatic v) fragments Zpy Absy v [] refl refl refl (refl, λ p. false_true p) (refl, λ p. false_true p) refl refl refl (rw append-nil e) (λ e'. absurd cc)
-takes_modes cpu above m (Two v w) fragments e = by_one cpu above m (Two v w) fragments Zprel _ e refl refl (refl, λ p. false_true p) refl
+takes_modes cpu above m (Two v w) fragments e = by_one cpu above m (Two v w) fragments Zprel _ e refl (λ y e f. absurd cc) (refl, λ p. false_true p) refl
 takes_modes cpu above m (Indirect v) fragments e =
     first_case cpu m (Zpind, zero_page above v ∷ []) ((Ind, word_operand v ∷ []) ∷ []) fragments e
-    (λ b has coded. lone cpu above m (Indirect v) fragments Zpind b refl refl (refl, λ p. false_true p) has coded)
-    (λ gone e'. by_one cpu above m (Indirect v) fragments Ind _ e' refl refl (refl, λ p. false_true p) refl)
+    (λ b has coded. lone cpu above m (Indirect v) fragments Zpind b refl (λ y e f. absurd cc) (refl, λ p. false_true p) has coded)
+    (λ gone e'. by_one cpu above m (Indirect v) fragments Ind _ e' refl (λ y e f. absurd cc) (refl, λ p. false_true p) refl)
 takes_modes cpu above m (IndirectX v) fragments e =
     first_case cpu m (Indx, zero_page above v ∷ []) ((Absindx, word_operand v ∷ []) ∷ []) fragments e
-    (λ b has coded. lone cpu above m (IndirectX v) fragments Indx b refl refl (refl, λ p. false_true p) has coded)
-    (λ gone e'. by_one cpu above m (IndirectX v) fragments Absindx _ e' refl refl (refl, λ p. false_true p) refl)
-takes_modes cpu above m (IndirectY v) fragments e = by_one cpu above m (IndirectY v) fragments Indy _ e refl refl (refl, λ p. false_true p) refl
+    (λ b has coded. lone cpu above m (IndirectX v) fragments Indx b refl (λ y e f. absurd cc) (refl, λ p. false_true p) has coded)
+    (λ gone e'. by_one cpu above m (IndirectX v) fragments Absindx _ e' refl (λ y e f. absurd cc) (refl, λ p. false_true p) refl)
+takes_modes cpu above m (IndirectY v) fragments e = by_one cpu above m (IndirectY v) fragments Indy _ e refl (λ y e f. absurd cc) (refl, λ p. false_true p) refl

@@ -93,18 +93,12 @@ hex4_line n = rw (hex (n / 4096 % 16), hex (n / 256 % 16), hex (n / 16 % 16), he
 
 offset_line : (h : Bool) (n : ℕ) → n < 65536 → InLine (offset_text h n)
 offset_line false n lt = all_as is_ascii_digit digit (decimal n) (digits_pass (decimal n) (decimal_is_IsNumeral n (omega arith)).0.1)
-offset_line true n lt = go (ltb n 256) refl
-  where
-    go : (t : Bool) → ltb n 256 ≡ t → InLine (offset_text true n)
-    go true f = rw f (digits2_line n)
-    go false f = rw f (hex4_line n)
+offset_line true n lt = by_test (ltb n 256) (λ f. rw f (digits2_line n)) (λ f. rw f (hex4_line n))
 
 named_line : (h : Bool) (name : List ℕ) (offset : ℕ) → is_name name ≡ true → offset < 65536 → InLine (named_text h name offset)
-named_line h name offset n lt = go (eqb offset 0) refl
-  where
-    go : (t : Bool) → eqb offset 0 ≡ t → InLine (named_text h name offset)
-    go true f = rw f (name_line name n)
-    go false f = rw f (joined (name ++ codes "+") (offset_text h offset) (joined name (codes "+") (name_line name n) refl) (offset_line h offset lt))
+named_line h name offset n lt =
+    by_test (eqb offset 0) (λ f. rw f (name_line name n))
+    (λ f. rw f (joined (name ++ codes "+") (offset_text h offset) (joined name (codes "+") (name_line name n) refl) (offset_line h offset lt)))
 
 two_line : (h : Bool) (e : ExprView) → IsRead e → InLine (short_text h e)
 two_line h (view.number n) has = digits2_line n
@@ -208,12 +202,9 @@ mnemonic_line _ = refl
 
 filled_line : (line : List ℕ) (column : ℕ) → InLine line → InLine (filled line column)
 unfolding filled
-filled_line line column h = go (ltb (length line) (column - 1)) (eqb (length line) 0) refl refl
-  where
-    go : (t u : Bool) → ltb (length line) (column - 1) ≡ t → eqb (length line) 0 ≡ u → InLine (filled line column)
-    go true u e f = rw e (joined line (replicate (column - 1 - length line) 32) h (blanks_line (column - 1 - length line)))
-    go false true e f = rw (e, f) refl
-    go false false e f = rw (e, f) (joined line (codes " ") h refl)
+filled_line line column h =
+    by_test (ltb (length line) (column - 1)) (λ e. rw e (joined line (replicate (column - 1 - length line) 32) h (blanks_line (column - 1 - length line))))
+    (λ e. by_test (eqb (length line) 0) (λ f. rw (e, f) refl) (λ f. rw (e, f) (joined line (codes " ") h refl)))
 
 -- the texts of fields
 abbrev texts : List Field → List (List ℕ)

@@ -114,23 +114,22 @@ name_word (b ∷ w) h =
     (letter_starts b parts.0, parts.1)
 
 named_parts : (h : Bool) (name rest : List ℕ) (offset : ℕ) → is_name name ≡ true → offset < 65536 → Ends rest → ValueParts (named_text h name offset) (NameValue name offset Zero) rest
-named_parts h name rest offset n lt e = go (eqb offset 0) refl
-  where
-    go : (t : Bool) → eqb offset 0 ≡ t → ValueParts (named_text h name offset) (NameValue name offset Zero) rest
-    go true f = rw f (record {
+named_parts h name rest offset n lt e =
+    by_test (eqb offset 0)
+    (λ f. rw f (record {
       front = Word name ∷ [];
       split = parts_word name rest (name_word name n) e;
       is = ([], [], refl, n, inl (eqb-true offset 0 f, refl), refl);
-    })
-    go false f =
-        let o = offset_parts h offset rest lt e in
-        let shape : (name ++ (43 ∷ []) ++ offset_text h offset) ++ rest ≡ name ++ (43 ∷ (offset_text h offset ++ rest)) = simp append_assoc in
-        rw f (record {
-          front = Word name ∷ Mark 43 ∷ Number (offset_text h offset) ∷ [];
-          split = ap parts shape ∙ parts_word name (43 ∷ (offset_text h offset ++ rest)) (name_word name n) refl
-              ∙ ap (λ (ps : List Part). Word name ∷ ps) (parts_mark 43 (offset_text h offset ++ rest) refl ∙ ap (λ (ps : List Part). Mark 43 ∷ ps) o.lexes);
-          is = (Mark 43 ∷ Number (offset_text h offset) ∷ [], [], refl, n, inr (offset_text h offset, o.counts, refl), refl);
-        })
+    }))
+    (λ f.
+    let o = offset_parts h offset rest lt e in
+    let shape : (name ++ (43 ∷ []) ++ offset_text h offset) ++ rest ≡ name ++ (43 ∷ (offset_text h offset ++ rest)) = simp append_assoc in
+    rw f (record {
+      front = Word name ∷ Mark 43 ∷ Number (offset_text h offset) ∷ [];
+      split = ap parts shape ∙ parts_word name (43 ∷ (offset_text h offset ++ rest)) (name_word name n) refl
+          ∙ ap (λ (ps : List Part). Word name ∷ ps) (parts_mark 43 (offset_text h offset ++ rest) refl ∙ ap (λ (ps : List Part). Mark 43 ∷ ps) o.lexes);
+      is = (Mark 43 ∷ Number (offset_text h offset) ∷ [], [], refl, n, inr (offset_text h offset, o.counts, refl), refl);
+    }))
 
 two_parts : (h : Bool) (e : ExprView) (rest : List ℕ) → IsShort e → IsRead e → Ends rest → ValueParts (short_text h e) (source_value e) rest
 two_parts h (view.number n) rest s has e = record { front = Number (hex2 n) ∷ []; split = parts_hex2 n rest e; is = (hex2 n, number_of-hex2 n s, refl) }
@@ -288,11 +287,7 @@ record IsBlanks (text : List ℕ) : Type 0 where
 
 blank_start : (column : ℕ) → IsBlanks (filled [] column)
 unfolding filled
-blank_start column = go (ltb 0 (column - 1)) refl
-  where
-    go : (t : Bool) → ltb 0 (column - 1) ≡ t → IsBlanks (filled [] column)
-    go true e = record { count = column - 1 - 0; blanks = rw e refl }
-    go false e = record { count = 0; blanks = rw e refl }
+blank_start column = by_test (ltb 0 (column - 1)) (λ e. record { count = column - 1 - 0; blanks = rw e refl }) (λ e. record { count = 0; blanks = rw e refl })
 
 record IsBlankAfter (line text : List ℕ) : Type 0 where
   count : ℕ
@@ -301,13 +296,12 @@ record IsBlankAfter (line text : List ℕ) : Type 0 where
 blank_between : (line : List ℕ) (column : ℕ) → 0 < length line → IsBlankAfter line (filled line column)
 unfolding filled
 blank_between [] column lt = absurd (omega arith)
-blank_between (b ∷ bs) column lt = go (ltb (suc (length bs)) (column - 1)) refl
-  where
-    go : (t : Bool) → ltb (suc (length bs)) (column - 1) ≡ t → IsBlankAfter (b ∷ bs) (filled (b ∷ bs) column)
-    go true e =
-        let k : column - 1 - suc (length bs) ≡ suc (column - 2 - suc (length bs)) = omega (arith, ltb-true (suc (length bs)) (column - 1) e)
-        in record { count = column - 2 - suc (length bs); blanks = rw (e, k) refl }
-    go false e = record { count = 0; blanks = rw (e, ne_eqb (suc (length bs)) 0 (λ z. absurd (omega arith))) refl }
+blank_between (b ∷ bs) column lt =
+    by_test (ltb (suc (length bs)) (column - 1))
+    (λ e.
+    let k : column - 1 - suc (length bs) ≡ suc (column - 2 - suc (length bs)) = omega (arith, ltb-true (suc (length bs)) (column - 1) e) in
+    record { count = column - 2 - suc (length bs); blanks = rw (e, k) refl })
+    (λ e. record { count = 0; blanks = rw (e, ne_eqb (suc (length bs)) 0 (λ z. absurd (omega arith))) refl })
 
 -- the line has these parts, and a field that follows it has its own
 abbrev pub Leads : List ℕ → List Part → Type 0

@@ -4,6 +4,7 @@ use Rattle.std.proofs.Common.{◌≡◌, ℕ, suc, Bool, true, false, ◌+◌, �
 use Rattle.std.specs.List.{prefix_len, list_all}
 use Rattle.stmt65.specs.SourceLine.{NumberDatum, StringDatum}
 use Rattle.stmt65.specs.Tables.{is_plain, onto_stretch, cut_text}
+use Rattle.stmt65.proofs.Cases.{by_test}
 use Rattle.stmt65.proofs.Lexed.{begins}
 
 -- ---- text
@@ -38,8 +39,6 @@ cut_stretch (b ∷ c ∷ t) rest lt h e =
 -- where a run ends, what follows does not pass
 pub run_ends : (p : ℕ → Bool) (xs : List ℕ) → begins p (drop (prefix_len p xs) xs) ≡ false
 run_ends p [] = refl
-run_ends p (x ∷ xs) = go (p x) refl (run_ends p xs)
-  where
-    go : (t : Bool) → p x ≡ t → begins p (drop (prefix_len p xs) xs) ≡ false → begins p (drop (prefix_len p (x ∷ xs)) (x ∷ xs)) ≡ false
-    go true e ih = let k : 1 + prefix_len p xs ≡ suc (prefix_len p xs) = omega arith in rw (e, k) ih
-    go false e ih = rw e e
+run_ends p (x ∷ xs) =
+    let k : 1 + prefix_len p xs ≡ suc (prefix_len p xs) = omega arith in
+    by_test (p x) (λ e. rw (e, k) (run_ends p xs)) (λ e. rw e e)

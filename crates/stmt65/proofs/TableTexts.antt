@@ -8,6 +8,7 @@ use Rattle.stmt65.specs.SourceLine.{Datum, NumberDatum, StringDatum}
 use Rattle.stmt65.specs.Digits.{hex2}
 use Rattle.stmt65.specs.Statements.{comma_list, data_text, datum_text, entry_text, next_text, numbers_text, quoted}
 use Rattle.stmt65.specs.Tables.{entry_len, entries, is_plain, cut_text}
+use Rattle.stmt65.proofs.Cases.{by_test}
 use Rattle.stmt65.proofs.SpacingLemmas.{run_passes}
 use Rattle.stmt65.proofs.EntryLaws.{entries_none, entries_more}
 use Rattle.stmt65.proofs.TableLists.{cut_nil, cut_single, cut_stretch, run_ends}
@@ -39,11 +40,7 @@ entries_end d bytes out text lt e = rw (entries_none d bytes lt, append-nil) at 
 first_single : (bytes : List ℕ) → 1 ≤ length bytes → prefix_len is_plain bytes ≡ 0 → data_text (cut_text bytes) ≡ hex2 (get_or bytes 0 0) ++ flat_map (next_text datum_text) (cut_text (drop 1 bytes))
 unfolding comma_list
 first_single [] lt e = absurd (omega arith)
-first_single (b ∷ bs) lt e = go (is_plain b) refl
-  where
-    go : (t : Bool) → is_plain b ≡ t → data_text (cut_text (b ∷ bs)) ≡ hex2 b ++ flat_map (next_text datum_text) (cut_text bs)
-    go true h = let e' = rw h at e in absurd (omega arith)
-    go false h = rw (cut_single b bs h) refl
+first_single (b ∷ bs) lt e = by_test (is_plain b) (λ h. let e' = rw h at e in absurd (omega arith)) (λ h. rw (cut_single b bs h) refl)
 
 -- a byte that is not plain is put, and the others are left
 pub single_put : (bytes rest old new : List ℕ) → 1 ≤ length bytes → prefix_len is_plain bytes ≡ 0 → rest ≡ drop 1 bytes → new ≡ old ++ hex2 (get_or bytes 0 0)
