@@ -92,21 +92,9 @@ pub no_directive : (w t : List ℕ) → same w t ≡ true → directive_named t 
 no_directive w t h e = named_alike w t h ∙ e
 
 -- the other operations that begin with a dot
-pub other_byte : directive_named (codes ".byte") ≡ None
+pub no_directives : (directive_named (codes ".byte") ≡ None) × (directive_named (codes ".segment") ≡ None) × (directive_named (codes ".code") ≡ None) × (directive_named (codes ".setcpu") ≡ None)
 unfolding directive_named
-other_byte = refl
-
-pub other_segment : directive_named (codes ".segment") ≡ None
-unfolding directive_named
-other_segment = refl
-
-pub other_code : directive_named (codes ".code") ≡ None
-unfolding directive_named
-other_code = refl
-
-pub other_set_cpu : directive_named (codes ".setcpu") ≡ None
-unfolding directive_named
-other_set_cpu = refl
+no_directives = (refl, refl, refl, refl)
 
 -- what is none of the operations that begin with a dot
 pub record HasNoDot (t : List ℕ) : Type 0 where

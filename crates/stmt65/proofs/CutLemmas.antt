@@ -5,29 +5,21 @@ use Rattle.stmt65.specs.SourceLine.{Datum, NumberDatum, StringDatum}
 use Rattle.stmt65.specs.TableLaws.{datum_bytes, EndsStretch, IsCut, CutsTexts}
 use Rattle.stmt65.specs.Tables.{is_plain, cut_text}
 use Rattle.stmt65.proofs.Lexed.{begins}
-use Rattle.stmt65.proofs.TableLists.{cut_nil, cut_single, cut_onto, cut_stretch}
+use Rattle.stmt65.proofs.TableLists.{cut_nil, cut_single, cut_case, cut_stretch}
 
 -- ---- a text is cut, and in no other way
 
 pub cut_bytes : (bs : List ℕ) → flat_map datum_bytes (cut_text bs) ≡ bs
 cut_bytes [] = rw cut_nil refl
-cut_bytes (b ∷ bs) = go (is_plain b) (cut_text bs) refl refl (cut_bytes bs)
-  where
-    go : (t : Bool) (ds : List Datum) → is_plain b ≡ t → cut_text bs ≡ ds → flat_map datum_bytes (cut_text bs) ≡ bs → flat_map datum_bytes (cut_text (b ∷ bs)) ≡ b ∷ bs
-    go false ds p e ih = rw (cut_single b bs p) (ap (λ (l : List ℕ). b ∷ l) ih)
-    go true [] p e ih = let k = rw e at ih in rw (cut_onto b bs p, e) (ap (λ (l : List ℕ). b ∷ l) k)
-    go true (NumberDatum c ∷ ds) p e ih = let k = rw e at ih in rw (cut_onto b bs p, e) (ap (λ (l : List ℕ). b ∷ l) k)
-    go true (StringDatum t ∷ ds) p e ih = let k = rw e at ih in rw (cut_onto b bs p, e) (ap (λ (l : List ℕ). b ∷ l) k)
+cut_bytes (b ∷ bs) =
+    cut_case (λ ds. flat_map datum_bytes ds ≡ b ∷ bs) b bs (λ p. ap (λ (l : List ℕ). b ∷ l) (cut_bytes bs)) (λ p ends. ap (λ (l : List ℕ). b ∷ l) (cut_bytes bs))
+    (λ t ds p e. let k = rw e at (cut_bytes bs) in ap (λ (l : List ℕ). b ∷ l) k)
 
 pub cut_is_cut : (bs : List ℕ) → IsCut (cut_text bs)
 cut_is_cut [] = rw cut_nil tt
-cut_is_cut (b ∷ bs) = go (is_plain b) (cut_text bs) refl refl (cut_is_cut bs)
-  where
-    go : (t : Bool) (ds : List Datum) → is_plain b ≡ t → cut_text bs ≡ ds → IsCut (cut_text bs) → IsCut (cut_text (b ∷ bs))
-    go false ds p e ih = rw (cut_single b bs p) (p, ih)
-    go true [] p e ih = rw (cut_onto b bs p, e) (omega arith, rw p refl, tt, tt)
-    go true (NumberDatum c ∷ ds) p e ih = let k = rw e at ih in rw (cut_onto b bs p, e) (omega arith, rw p refl, tt, k)
-    go true (StringDatum t ∷ ds) p e ih = let k = rw e at ih in rw (cut_onto b bs p, e) (omega arith, rw p k.1, k.2, k.3)
+cut_is_cut (b ∷ bs) =
+    cut_case IsCut b bs (λ p. (p, cut_is_cut bs)) (λ p ends. (omega arith, rw p refl, ends, cut_is_cut bs))
+    (λ t ds p e. let k = rw e at (cut_is_cut bs) in (omega arith, rw p k.1, k.2, k.3))
 
 no_stretch : (ds : List Datum) → EndsStretch ds → IsCut ds → begins is_plain (flat_map datum_bytes ds) ≡ false
 no_stretch [] s h = refl

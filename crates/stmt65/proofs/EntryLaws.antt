@@ -2,7 +2,6 @@
 use Rattle.std.proofs.Common.{◌≡◌, ℕ, suc, ◌+◌, ◌*◌, ◌/◌, ◌<◌, ◌≤◌, List, [], ◌∷◌, length, take, drop, refl, ap, arith}
 use Rattle.std.specs.List.{All}
 use Rattle.std.proofs.lemmas.List.{length-reverse, length-drop}
-use Rattle.std.proofs.lemmas.List.Elements.{All-head, All-tail}
 use Rattle.isa65.specs.declared.byte_order.ByteOrder.{ByteOrder}
 use Rattle.isa65.specs.declared.byte_order.ByteOrder.TheVariants.{LittleEndian, BigEndian}
 use Rattle.stmt65.specs.declared.directive.Directive.{Directive}
@@ -55,10 +54,6 @@ words_back : (a b : ℕ) → a < 256 → b < 256 → CodesBack Word (a ∷ b ∷
 unfolding low_number
 words_back a b h g = let is = pair_of a b h g in record { back = rw (is.first, is.second) refl; fits = is.room }
 
-addrs_back : (a b : ℕ) → a < 256 → b < 256 → CodesBack Addr (a ∷ b ∷ [])
-unfolding low_number
-addrs_back a b h g = let is = pair_of a b h g in record { back = rw (is.first, is.second) refl; fits = is.room }
-
 dbyts_back : (a b : ℕ) → a < 256 → b < 256 → CodesBack Dbyt (a ∷ b ∷ [])
 unfolding low_number
 dbyts_back a b h g = let is = pair_of b a g h in record { back = rw (is.first, is.second) refl; fits = is.room }
@@ -70,34 +65,13 @@ dwords_back a b c e h g i j = let is = quad_of a b c e h g i j in record { back 
 abbrev AreBytes : List ℕ → Type 0
 AreBytes bytes = All (λ b. b < 256) bytes
 
-head : (b : ℕ) (bytes : List ℕ) → AreBytes (b ∷ bytes) → b < 256
-head b bytes are = All-head (λ b. b < 256) b bytes are
-
-tail : (b : ℕ) (bytes : List ℕ) → AreBytes (b ∷ bytes) → AreBytes bytes
-tail b bytes are = All-tail (λ b. b < 256) b bytes are
-
-two_bytes : (P : List ℕ → Type 0) (bytes : List ℕ) → length bytes ≡ 2 → AreBytes bytes → ((a b : ℕ) → a < 256 → b < 256 → P (a ∷ b ∷ [])) → P bytes
-two_bytes P (a ∷ b ∷ []) long are all = all a b (head a (b ∷ []) are) (head b [] (tail a (b ∷ []) are))
-two_bytes P _ long are all = absurd (omega (arith, long))
-
-four_bytes : (P : List ℕ → Type 0) (bytes : List ℕ) → length bytes ≡ 4 → AreBytes bytes → ((a b c e : ℕ) → a < 256 → b < 256 → c < 256 → e < 256 → P (a ∷ b ∷ c ∷ e ∷ [])) → P bytes
-four_bytes P [] long are all = absurd (omega (arith, long))
-four_bytes P (a ∷ bytes) long are all =
-    let rest = tail a bytes are in
-    three bytes (omega (arith, long)) rest
-  where
-    first : a < 256
-    first = head a bytes are
-
-    three : (bytes : List ℕ) → length bytes ≡ 3 → AreBytes bytes → P (a ∷ bytes)
-    three [] long are = absurd (omega (arith, long))
-    three (b ∷ bytes) long are = two_bytes (λ cs. P (a ∷ b ∷ cs)) bytes (omega (arith, long)) (tail b bytes are) (λ c e i j. all a b c e first (head b bytes are) i j)
-
 codes_back : (d : Directive) (entry : List ℕ) → length entry ≡ entry_len d → AreBytes entry → CodesBack d entry
-codes_back Word entry long are = two_bytes (CodesBack Word) entry long are words_back
-codes_back Dbyt entry long are = two_bytes (CodesBack Dbyt) entry long are dbyts_back
-codes_back Addr entry long are = two_bytes (CodesBack Addr) entry long are addrs_back
-codes_back Dword entry long are = four_bytes (CodesBack Dword) entry long are dwords_back
+codes_back Word (a ∷ b ∷ []) long are = words_back a b (are 0 0 (omega arith)) (are 1 0 (omega arith))
+codes_back Dbyt (a ∷ b ∷ []) long are = dbyts_back a b (are 0 0 (omega arith)) (are 1 0 (omega arith))
+codes_back Addr (a ∷ b ∷ []) long are = let is = words_back a b (are 0 0 (omega arith)) (are 1 0 (omega arith)) in record { back = is.back; fits = is.fits }
+codes_back Dword (a ∷ b ∷ c ∷ e ∷ []) long are = dwords_back a b c e (are 0 0 (omega arith)) (are 1 0 (omega arith)) (are 2 0 (omega arith)) (are 3 0 (omega arith))
+codes_back Dword _ long are = absurd (omega (arith, long))
+codes_back _ _ long are = absurd (omega (arith, long))
 
 -- the bytes of the number of an entry are those of the entry
 pub bytes_back : (d : Directive) (entry : List ℕ) → length entry ≡ entry_len d → All (λ b. b < 256) entry → entry_bytes d (entry_number d entry) ≡ entry

@@ -281,14 +281,6 @@ cpu_spelled cpu =
 
 -- ---- fields
 
-record IsBlanks (text : List ℕ) : Type 0 where
-  count : ℕ
-  blanks : text ≡ replicate count 32
-
-blank_start : (column : ℕ) → IsBlanks (filled [] column)
-unfolding filled
-blank_start column = by_test (ltb 0 (column - 1)) (λ e. record { count = column - 1 - 0; blanks = rw e refl }) (λ e. record { count = 0; blanks = rw e refl })
-
 record IsBlankAfter (line text : List ℕ) : Type 0 where
   count : ℕ
   blanks : text ≡ line ++ 32 ∷ replicate count 32
@@ -308,8 +300,8 @@ abbrev pub Leads : List ℕ → List Part → Type 0
 Leads line ps = (column : ℕ) (rest : List ℕ) → parts (filled line column ++ rest) ≡ ps ++ parts rest
 
 leads_nothing : Leads [] []
-leads_nothing column rest =
-    let b = blank_start column in ap (λ (l : List ℕ). parts (l ++ rest)) b.blanks ∙ parts_blanks b.count rest
+unfolding filled
+leads_nothing column rest = by_test (ltb 0 (column - 1)) (λ e. rw e (parts_blanks (column - 1 - 0) rest)) (λ e. rw e refl)
 
 -- a blank follows a line that is not empty
 leads_by_blank : (line : List ℕ) (ps : List Part) → 0 < length line → ((rest : List ℕ) → parts (line ++ (32 ∷ rest)) ≡ ps ++ parts (32 ∷ rest)) → Leads line ps

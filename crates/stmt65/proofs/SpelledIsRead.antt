@@ -15,7 +15,7 @@ use Rattle.stmt65.specs.Parts.{Part, Word, Number, Define, Mark, number_of}
 use Rattle.stmt65.specs.Names.{same, is_name}
 use Rattle.stmt65.specs.Reading.{is_mark, is_define, is_word_here, is_nil, less_one, named_at, next_value, tail_at, inner_at, form_of, joined, next_datum, text_in, data_of, values_of, segment_of, set_cpu_of, whole, other_at, operation_at, operation_of, constant_of, line_at, reading_of}
 use Rattle.stmt65.specs.Spelling.{Item, word, mark, define, name, number, string, quoted_name, value, data_list, value_list, IsPlus, IsMinus, IsValue, IsDatum, prefix_items, IsList, IsItem, Spells, form_items, operation_items, IsSpelling}
-use Rattle.stmt65.proofs.Cases.{by_test, by_option, other, no_letter, no_dot, mnemonic_again, directive_again, no_directive, other_byte, other_segment, other_code, other_set_cpu}
+use Rattle.stmt65.proofs.Cases.{by_test, by_option, other, no_letter, no_dot, mnemonic_again, directive_again, no_directive, no_directives}
 
 -- ---- items in front
 
@@ -185,20 +185,20 @@ operation_again (Instr m f) ps h =
     rw w.2 (rw (no_directive w.0 (text_of m) w.3 d.directive, not _ d.byte, not _ d.segment, not _ d.code, not _ d.set_cpu, mnemonic_again w.0 m w.3, form_again f w.1 w.4) refl)
 operation_again (Data xs) ps h =
     let w = un_word (codes ".byte") (data_list xs ∷ []) ps h in
-    rw (w.2, no_directive w.0 _ w.3 other_byte, w.3, joined_again IsDatum next_datum datum_again xs (length w.1) w.1 (un_last (data_list xs) w.1 w.4) (omega arith)) refl
+    rw (w.2, no_directive w.0 _ w.3 no_directives.0, w.3, joined_again IsDatum next_datum datum_again xs (length w.1) w.1 (un_last (data_list xs) w.1 w.4) (omega arith)) refl
 operation_again (Values d vs) ps h =
     let w = un_word (directive_text d) (value_list vs ∷ []) ps h in
     rw (w.2, directive_again w.0 d w.3, joined_again IsValue next_value value_again vs (length w.1) w.1 (un_last (value_list vs) w.1 w.4) (omega arith)) refl
 operation_again (Segment t) ps h =
     let w = un_word (codes ".segment") (quoted_name t ∷ []) ps h in
     let q = un_last (quoted_name t) w.1 w.4 in
-    rw (w.2, no_directive w.0 _ w.3 other_segment, other w.0 (codes ".segment") (codes ".byte") w.3 refl, w.3, q.1, q.0) refl
+    rw (w.2, no_directive w.0 _ w.3 no_directives.1, other w.0 (codes ".segment") (codes ".byte") w.3 refl, w.3, q.1, q.0) refl
 operation_again Code ps h =
     let w = un_word (codes ".code") [] ps h in
-    rw (w.2, no_directive w.0 _ w.3 other_code, other w.0 (codes ".code") (codes ".byte") w.3 refl, other w.0 (codes ".code") (codes ".segment") w.3 refl, w.3, nothing_left w.1 w.4) refl
+    rw (w.2, no_directive w.0 _ w.3 no_directives.2, other w.0 (codes ".code") (codes ".byte") w.3 refl, other w.0 (codes ".code") (codes ".segment") w.3 refl, w.3, nothing_left w.1 w.4) refl
 operation_again (SetCpu t) ps h =
     let w = un_word (codes ".setcpu") (string t ∷ []) ps h in
-    rw (w.2, no_directive w.0 _ w.3 other_set_cpu, other w.0 (codes ".setcpu") (codes ".byte") w.3 refl, other w.0 (codes ".setcpu") (codes ".segment") w.3 refl, other w.0 (codes ".setcpu") (codes ".code") w.3 refl, w.3, un_last (string t) w.1 w.4) refl
+    rw (w.2, no_directive w.0 _ w.3 no_directives.3, other w.0 (codes ".setcpu") (codes ".byte") w.3 refl, other w.0 (codes ".setcpu") (codes ".segment") w.3 refl, other w.0 (codes ".setcpu") (codes ".code") w.3 refl, w.3, un_last (string t) w.1 w.4) refl
 
 -- a word with which nothing can go on is no operation
 none_at : (w : List ℕ) (ps : List Part) → ((d : Directive) → values_of d ps ≡ None) → data_of ps ≡ None → segment_of ps ≡ None → whole Code ps ≡ None → set_cpu_of ps ≡ None → form_of ps ≡ None → operation_at w ps ≡ None

@@ -17,6 +17,7 @@ use Rattle.std.proofs.Math.Seq.{take-length}
 use Rattle.stmt65.specs.Symbols.{Definition, find_name}
 use Rattle.stmt65.specs.declared.assembling.symbols.Definition.{Definition as CodeDefinition}
 use Rattle.stmt65.specs.Code.SymbolViews.{definition_of, first_at, if_named, is_named, number_of, place_of, IsIndex}
+use Rattle.stmt65.proofs.Cases.{by_option, by_test}
 
 -- no names in no definitions
 pub index_empty : (ds : List CodeDefinition) (numbered : BTreeMap ℕ ℕ) (others : BTreeMap (Bor (List ℕ)) ℕ) → ds ≡ [] → numbered.entries ≡ [] → others.entries ≡ [] → IsIndex ds (get nat_cmp numbered) (place_of others)
@@ -31,13 +32,12 @@ found : (q : List ℕ) (ds : List Definition) (n i : ℕ) → first_at q ds ≡ 
 unfolding find_name first_at
 found q [] n i e h = cc
 found q (x ∷ ds) zero i e h = absurd (omega arith)
-found q (x ∷ ds) (suc n) i e h = go (bytes_eq x.name q) refl (first_at q ds) refl (found q ds n)
-  where
-    go : (b : Bool) → bytes_eq x.name q ≡ b → (o : Option ℕ) → first_at q ds ≡ o → ((j : ℕ) → first_at q ds ≡ Some j → j < n → find_name q (take n ds) ≡ slice_get ds j)
-        → cond (bytes_eq x.name q) (Some x) (find_name q (take n ds)) ≡ slice_get (x ∷ ds) i
-    go true f o k ih = let e' = rw f at e in let same : i ≡ 0 = cc in rw (f, same) refl
-    go false f None k ih = let e' = rw (f, k) at e in absurd cc
-    go false f (Some j) k ih = let e' = rw (f, k) at e in let same : i ≡ suc j = cc in rw (f, same) (ih j k (omega arith))
+found q (x ∷ ds) (suc n) i e h =
+    by_test (bytes_eq x.name q)
+    (λ f. let e' = rw f at e in let same : i ≡ 0 = cc in rw (f, same) refl)
+    (λ f. by_option (first_at q ds)
+    (λ j k. let e' = rw (f, k) at e in let same : i ≡ suc j = cc in rw (f, same) (found q ds n j k (omega arith)))
+    (λ k. let e' = rw (f, k) at e in absurd cc))
 
 -- a name that stands nowhere there
 missed : (q : List ℕ) (ds : List Definition) (n : ℕ) → ((i : ℕ) → first_at q ds ≡ Some i → n ≤ i) → find_name q (take n ds) ≡ None
@@ -45,11 +45,10 @@ unfolding find_name first_at
 missed q [] zero h = refl
 missed q [] (suc n) h = refl
 missed q (x ∷ ds) zero h = refl
-missed q (x ∷ ds) (suc n) h = go (bytes_eq x.name q) refl (missed q ds n)
-  where
-    go : (b : Bool) → bytes_eq x.name q ≡ b → (((i : ℕ) → first_at q ds ≡ Some i → n ≤ i) → find_name q (take n ds) ≡ None) → cond (bytes_eq x.name q) (Some x) (find_name q (take n ds)) ≡ None
-    go true f ih = absurd (let k = h 0 (rw f refl) in omega arith)
-    go false f ih = rw f (ih (λ i e. let k = h (suc i) (rw (f, e) refl) in omega arith))
+missed q (x ∷ ds) (suc n) h =
+    by_test (bytes_eq x.name q)
+    (λ f. absurd (let k = h 0 (rw f refl) in omega arith))
+    (λ f. rw f (missed q ds n (λ i e. let k = h (suc i) (rw (f, e) refl) in omega arith)))
 
 pub find_within : (q : List ℕ) (ds : List Definition) (n i : ℕ) (o : Option ℕ) → o ≡ first_at q ds → o ≡ Some i → i < n → slice_get ds i ≡ find_name q (take n ds)
 find_within q ds n i o e f h = sym (found q ds n i (sym e ∙ f) h)

@@ -2,7 +2,8 @@
 use Rattle.std.proofs.lemmas.Bool.{and_parts}
 use Rattle.std.proofs.Common.{◌≡◌, ℕ, suc, Bool, true, false, ◌+◌, ◌≤◌, List, [], ◌∷◌, ◌++◌, length, drop, refl, ap, ◌∙◌, arith}
 use Rattle.std.specs.List.{prefix_len, list_all}
-use Rattle.stmt65.specs.SourceLine.{NumberDatum, StringDatum}
+use Rattle.stmt65.specs.SourceLine.{Datum, NumberDatum, StringDatum}
+use Rattle.stmt65.specs.TableLaws.{EndsStretch}
 use Rattle.stmt65.specs.Tables.{is_plain, onto_stretch, cut_text}
 use Rattle.stmt65.proofs.Cases.{by_test}
 use Rattle.stmt65.proofs.Lexed.{begins}
@@ -35,6 +36,17 @@ cut_stretch (b ∷ []) rest lt h e = cut_last b rest (and_parts (is_plain b) tru
 cut_stretch (b ∷ c ∷ t) rest lt h e =
     let p = and_parts (is_plain b) (list_all is_plain (c ∷ t)) h in
     cut_onto b (c ∷ (t ++ rest)) p.0 ∙ ap (onto_stretch b) (cut_stretch (c ∷ t) rest (omega arith) p.1 e)
+
+-- a byte before a text: by itself, as a stretch of its own, or joined to the stretch that follows
+pub cut_case : (P : List Datum → Type 0) (b : ℕ) (bs : List ℕ) → (is_plain b ≡ false → P (NumberDatum b ∷ cut_text bs))
+    → (is_plain b ≡ true → EndsStretch (cut_text bs) → P (StringDatum (b ∷ []) ∷ cut_text bs))
+    → ((t : List ℕ) (ds : List Datum) → is_plain b ≡ true → cut_text bs ≡ StringDatum t ∷ ds → P (StringDatum (b ∷ t) ∷ ds)) → P (cut_text (b ∷ bs))
+cut_case P b bs single own joined = by_test (is_plain b) (λ p. rw (cut_onto b bs p) (go p (cut_text bs) refl)) (λ p. rw (cut_single b bs p) (single p))
+  where
+    go : is_plain b ≡ true → (ds : List Datum) → cut_text bs ≡ ds → P (onto_stretch b ds)
+    go p [] e = rw e at (own p (rw e tt))
+    go p (NumberDatum c ∷ ds) e = rw e at (own p (rw e tt))
+    go p (StringDatum t ∷ ds) e = joined t ds p e
 
 -- where a run ends, what follows does not pass
 pub run_ends : (p : ℕ → Bool) (xs : List ℕ) → begins p (drop (prefix_len p xs) xs) ≡ false

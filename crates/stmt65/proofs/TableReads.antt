@@ -28,7 +28,7 @@ use Rattle.stmt65.proofs.Lexed.{Ends, parts_mark, parts_text, hex_is_digit, hex_
 use Rattle.stmt65.proofs.PartLemmas.{parts_nil}
 use Rattle.stmt65.proofs.ReadIsSpelled.{Fronts}
 use Rattle.stmt65.proofs.EntryLaws.{in_order-length, entries_more}
-use Rattle.stmt65.proofs.TableLists.{cut_nil, cut_single, cut_onto}
+use Rattle.stmt65.proofs.TableLists.{cut_nil, cut_case}
 
 -- ---- lists joined by commas
 
@@ -170,13 +170,10 @@ plain_text b h = grind (arith, nat_tests)
 
 pub cut_sound : (bs : List ℕ) → AreBytes bs → list_all is_sound (cut_text bs) ≡ true
 cut_sound [] h = rw cut_nil refl
-cut_sound (b ∷ bs) h = let a = and_parts (ltb b 256) (list_all (λ b. ltb b 256) bs) h in go (is_plain b) (cut_text bs) refl refl a.0 (cut_sound bs a.1)
-  where
-    go : (t : Bool) (ds : List Datum) → is_plain b ≡ t → cut_text bs ≡ ds → ltb b 256 ≡ true → list_all is_sound (cut_text bs) ≡ true → list_all is_sound (cut_text (b ∷ bs)) ≡ true
-    go false ds p e lt ih = rw (cut_single b bs p, lt) ih
-    go true [] p e lt ih = rw (cut_onto b bs p, e, plain_text b p) refl
-    go true (NumberDatum c ∷ ds) p e lt ih = let k = rw e at ih in rw (cut_onto b bs p, e, plain_text b p) k
-    go true (StringDatum t ∷ ds) p e lt ih = let k = rw e at ih in rw (cut_onto b bs p, e, plain_text b p) k
+cut_sound (b ∷ bs) h =
+    let a = and_parts (ltb b 256) (list_all (λ b. ltb b 256) bs) h in
+    let more = cut_sound bs a.1 in
+    cut_case (λ ds. list_all is_sound ds ≡ true) b bs (λ p. rw a.0 more) (λ p ends. rw (plain_text b p) more) (λ t ds p e. let k = rw e at more in rw (plain_text b p) k)
 
 each_datum : (d : Datum) → is_sound d ≡ true → (rest : List ℕ) → Ends rest → TextParts IsDatum d (datum_text d) rest
 each_datum (NumberDatum b) h rest e = each_byte b h rest e
@@ -196,10 +193,6 @@ data_listed d ds h = subst (λ (l : List Datum). IsList IsDatum l (parts (data_t
 
 pub text_listed : (bs : List ℕ) → 1 ≤ length bs → AreBytes bs → IsList IsDatum (cut_text bs) (parts (data_text (cut_text bs)))
 text_listed [] lt h = absurd (omega arith)
-text_listed (b ∷ bs) lt h = go (is_plain b) (cut_text bs) refl refl (cut_sound (b ∷ bs) h)
-  where
-    go : (t : Bool) (ds : List Datum) → is_plain b ≡ t → cut_text bs ≡ ds → list_all is_sound (cut_text (b ∷ bs)) ≡ true → IsList IsDatum (cut_text (b ∷ bs)) (parts (data_text (cut_text (b ∷ bs))))
-    go false ds p e s = let k = rw (cut_single b bs p) at s in rw (cut_single b bs p) (data_listed (NumberDatum b) (cut_text bs) k)
-    go true [] p e s = let k = rw (cut_onto b bs p, e) at s in rw (cut_onto b bs p, e) (data_listed (StringDatum (b ∷ [])) [] k)
-    go true (NumberDatum c ∷ ds) p e s = let k = rw (cut_onto b bs p, e) at s in rw (cut_onto b bs p, e) (data_listed (StringDatum (b ∷ [])) (NumberDatum c ∷ ds) k)
-    go true (StringDatum t ∷ ds) p e s = let k = rw (cut_onto b bs p, e) at s in rw (cut_onto b bs p, e) (data_listed (StringDatum (b ∷ t)) ds k)
+text_listed (b ∷ bs) lt h =
+    cut_case (λ ds. list_all is_sound ds ≡ true → IsList IsDatum ds (parts (data_text ds))) b bs
+    (λ p. data_listed (NumberDatum b) (cut_text bs)) (λ p ends. data_listed (StringDatum (b ∷ [])) (cut_text bs)) (λ t ds p e. data_listed (StringDatum (b ∷ t)) ds) (cut_sound (b ∷ bs) h)

@@ -11,7 +11,7 @@ use Rattle.stmt65.specs.Tables.{entry_len, entries, is_plain, cut_text}
 use Rattle.stmt65.proofs.Cases.{by_test}
 use Rattle.stmt65.proofs.SpacingLemmas.{run_passes}
 use Rattle.stmt65.proofs.EntryLaws.{entries_none, entries_more}
-use Rattle.stmt65.proofs.TableLists.{cut_nil, cut_single, cut_stretch, run_ends}
+use Rattle.stmt65.proofs.TableLists.{cut_nil, cut_single, cut_case, cut_stretch, run_ends}
 
 -- ---- numbers
 
@@ -62,15 +62,9 @@ pub stretch_put : (bytes front rest old new : List ℕ) (n : ℕ) → n ≡ pref
 stretch_put bytes front rest old new n e lt f r w = rw (w, f, r, e, first_stretch bytes (omega arith)) (simp append_assoc)
 
 next_texts : (bytes : List ℕ) → 1 ≤ length bytes → flat_map (next_text datum_text) (cut_text bytes) ≡ 44 ∷ data_text (cut_text bytes)
-unfolding cut_text comma_list
+unfolding comma_list
 next_texts [] lt = absurd (omega arith)
-next_texts (b ∷ bs) lt = go (is_plain b) (cut_text bs) refl refl
-  where
-    go : (t : Bool) (ds : List Datum) → is_plain b ≡ t → cut_text bs ≡ ds → flat_map (next_text datum_text) (cut_text (b ∷ bs)) ≡ 44 ∷ data_text (cut_text (b ∷ bs))
-    go false ds h e = rw h refl
-    go true [] h e = rw (h, e) refl
-    go true (NumberDatum c ∷ ds) h e = rw (h, e) refl
-    go true (StringDatum t ∷ ds) h e = rw (h, e) refl
+next_texts (b ∷ bs) lt = cut_case (λ ds. flat_map (next_text datum_text) ds ≡ 44 ∷ data_text ds) b bs (λ p. refl) (λ p ends. refl) (λ t ds p e. refl)
 
 -- a comma is put, and the text that is left
 pub text_step : (bytes out new text : List ℕ) → 1 ≤ length bytes → out ++ flat_map (next_text datum_text) (cut_text bytes) ≡ text → new ≡ (out ++ 44 ∷ []) ++ data_text (cut_text bytes) → new ≡ text
