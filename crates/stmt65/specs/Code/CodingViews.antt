@@ -3,11 +3,10 @@ use Rattle.std.specs.Prelude.{◌≡◌, ℕ, suc, Bool, List, [], ◌∷◌, �
 use Rattle.std.specs.Option.{option_map}
 use Rattle.std.specs.Bool.{OnTrue}
 use Rattle.std.specs.List.{flat_map, list_all}
-use Rattle.isa65.specs.declared.cpu.Cpu.{Cpu}
-use Rattle.isa65.specs.declared.mnemonic.Mnemonic.{Mnemonic}
 use Rattle.isa65.specs.declared.mode.Mode.{Mode}
 use Rattle.stmt65.specs.declared.assembling.coding.Fragment.{Fragment as CodeFragment}
 use Rattle.stmt65.specs.declared.assembling.coding.Fragment.TheVariants as code_fragment
+use Rattle.stmt65.specs.declared.assembling.coding.Coder.{Coder}
 use Rattle.stmt65.specs.declared.assembling.coding.Operand.{Operand as CodeOperand}
 use Rattle.stmt65.specs.declared.assembling.coding.Operand.TheVariants as code_operand
 use Rattle.stmt65.specs.declared.assembling.coding.Instruction.{Instruction as CodeInstruction}
@@ -42,9 +41,9 @@ instruction_of i = Fixed i.opcode ∷ operand_of i.operand
 abbrev pub way_of : Mode × CodeOperand → Way
 way_of w = (w.0, operand_of w.1)
 
--- the instruction is that of the first of these ways whose mode the mnemonic has
-abbrev pub IsFirstWay : Option CodeInstruction → Cpu → Mnemonic → List Way → Type 0
-IsFirstWay found cpu m ws = option_map instruction_of found ≡ first_way cpu m ws
+-- the instruction is that of the first of these ways whose mode the mnemonic has on the CPU
+abbrev pub IsFirstWay : {A : Type 0} → Option CodeInstruction → Coder A → List Way → Type 0
+IsFirstWay found coder ws = option_map instruction_of found ≡ first_way coder.opcodes.now coder.mnemonic ws
 
 abbrev pub data_fragments : List CodeDatum → List Fragment
 data_fragments ds = flat_map datum_fragments (map datum_of ds)

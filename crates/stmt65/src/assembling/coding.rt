@@ -65,28 +65,38 @@ pub enum Coded<'s, 'a> {
 /// A mode, and what then follows the opcode.
 type Way<'a> = (Mode, Operand<'a>);
 
-fn way<'a>(opcodes: &EncodeTable, mnemonic: Mnemonic, way: Way<'a>) -> Option<Instruction<'a>>
-    ensures { IsFirstWay result opcodes.now mnemonic (way_of way.entry ∷ []) }
+/// What an instruction is coded by: the opcodes of the CPU, its mnemonic, and the definitions above it.
+#[derive(Clone, Copy)]
+struct Coder<'c, 'n, 't, A: Allocator + Clone> {
+    opcodes: &'c EncodeTable,
+    mnemonic: Mnemonic,
+    above: &'c Names<'n, 't, A>,
+}
+
+fn way<'a, A: Allocator + Clone>(
+    coder: &Coder<'_, '_, '_, A>,
+    way: Way<'a>,
+) -> Option<Instruction<'a>>
+    ensures { IsFirstWay result coder.now (way_of way.entry ∷ []) }
 {
     let (mode, operand) = way;
-    let opcode = opcodes.encode(mnemonic, mode)?;
+    let opcode = coder.opcodes.encode(coder.mnemonic, mode)?;
     Some(Instruction { opcode, operand })
 }
 
 /// The first of two ways whose mode the mnemonic has.
 #[tactic(auto, using(crate::proofs::CodingLemmas::tries))]
-fn first_way<'a>(
-    opcodes: &EncodeTable,
-    mnemonic: Mnemonic,
+fn first_way<'a, A: Allocator + Clone>(
+    coder: &Coder<'_, '_, '_, A>,
     first: Way<'a>,
     second: Way<'a>,
 ) -> Option<Instruction<'a>>
-    ensures { IsFirstWay result opcodes.now mnemonic (way_of first.entry ∷ way_of second.entry ∷ []) }
+    ensures { IsFirstWay result coder.now (way_of first.entry ∷ way_of second.entry ∷ []) }
 {
-    if let Some(found) = way(opcodes, mnemonic, first) {
+    if let Some(found) = way(coder, first) {
         return Some(found);
     }
-    way(opcodes, mnemonic, second)
+    way(coder, second)
 }
 
 /// An operand of 16 bits, as `.addr` gives it.
@@ -109,120 +119,89 @@ fn zero_page<'a, A: Allocator + Clone>(above: &Names<'_, '_, A>, value: Value<'a
 
 /// The zero-page mode first if the operand has that size, else the absolute one.
 fn by_size<'a, A: Allocator + Clone>(
-    opcodes: &EncodeTable,
-    above: &Names<'_, '_, A>,
-    mnemonic: Mnemonic,
+    coder: &Coder<'_, '_, '_, A>,
     short: Mode,
     long: Mode,
     value: Value<'a>,
 ) -> Option<Instruction<'a>>
-    ensures { IsFirstWay result opcodes.now mnemonic (by_size above.now short long (value_of value.entry)) }
+    ensures { IsFirstWay result coder.now (by_size coder.now.above.now short long (value_of value.entry)) }
 {
     let absolute = (long, Operand::One(word_operand(value)));
-    if has_zero_page_size(above, value) {
-        let zero_page = (short, Operand::One(Fragment::ZeroPage(value)));
-        return first_way(opcodes, mnemonic, zero_page, absolute);
+    if has_zero_page_size(coder.above, value) {
+        return first_way(
+            coder,
+            (short, Operand::One(Fragment::ZeroPage(value))),
+            absolute,
+        );
     }
-    let zero_page = (short, Operand::One(Fragment::Oversized(value)));
-    first_way(opcodes, mnemonic, absolute, zero_page)
+    first_way(
+        coder,
+        absolute,
+        (short, Operand::One(Fragment::Oversized(value))),
+    )
 }
 
 /// An expression alone: by size, else relative.
 #[tactic(auto, using(crate::proofs::CodingLemmas::after_sizes), unfolding(crate::specs::Coding::ways))]
 fn direct<'a, A: Allocator + Clone>(
-    opcodes: &EncodeTable,
-    above: &Names<'_, '_, A>,
-    mnemonic: Mnemonic,
+    coder: &Coder<'_, '_, '_, A>,
     value: Value<'a>,
 ) -> Option<Instruction<'a>>
-    ensures { IsFirstWay result opcodes.now mnemonic (ways above.now (Direct Automatic (value_of value.entry))) }
+    ensures { IsFirstWay result coder.now (ways coder.now.above.now (Direct Automatic (value_of value.entry))) }
 {
-    if let Some(found) = by_size(opcodes, above, mnemonic, Mode::Zp, Mode::Abs, value) {
+    if let Some(found) = by_size(coder, Mode::Zp, Mode::Abs, value) {
         return Some(found);
     }
-    way(
-        opcodes,
-        mnemonic,
-        (Mode::Rel, Operand::One(Fragment::Distance(value))),
-    )
-}
-
-/// The absolute mode alone, as after `a:`.
-fn absolute<'a>(
-    opcodes: &EncodeTable,
-    mnemonic: Mnemonic,
-    mode: Mode,
-    value: Value<'a>,
-) -> Option<Instruction<'a>>
-    ensures { IsFirstWay result opcodes.now mnemonic ((mode, word_operand (value_of value.entry) ∷ []) ∷ []) }
-{
-    way(opcodes, mnemonic, (mode, Operand::One(word_operand(value))))
+    way(coder, (Mode::Rel, Operand::One(Fragment::Distance(value))))
 }
 
 /// A mode that only the zero page has, else one that takes either size.
 fn indirect<'a, A: Allocator + Clone>(
-    opcodes: &EncodeTable,
-    above: &Names<'_, '_, A>,
-    mnemonic: Mnemonic,
+    coder: &Coder<'_, '_, '_, A>,
     short: Mode,
     long: Mode,
     value: Value<'a>,
 ) -> Option<Instruction<'a>>
-    ensures { IsFirstWay result opcodes.now mnemonic (zero_page_first above.now short long (value_of value.entry)) }
+    ensures { IsFirstWay result coder.now (zero_page_first coder.now.above.now short long (value_of value.entry)) }
 {
-    let zero_page = (short, Operand::One(zero_page(above, value)));
-    let absolute = (long, Operand::One(word_operand(value)));
-    first_way(opcodes, mnemonic, zero_page, absolute)
+    let zero_page = (short, Operand::One(zero_page(coder.above, value)));
+    first_way(coder, zero_page, (long, Operand::One(word_operand(value))))
 }
 
-/// The coding of an instruction, or `None` if the mnemonic has no mode of the written form.
+/// The coding of an instruction, or `None` if the mnemonic has no mode of the written form; after `a:` the absolute mode alone.
 #[tactic(auto, unfolding(crate::specs::Coding::ways))]
 fn instruction_in<'a, A: Allocator + Clone>(
-    opcodes: &EncodeTable,
-    above: &Names<'_, '_, A>,
-    mnemonic: Mnemonic,
+    coder: &Coder<'_, '_, '_, A>,
     form: Form<'a>,
 ) -> Option<Instruction<'a>>
-    ensures { IsFirstWay result opcodes.now mnemonic (ways above.now (form_of form.entry)) }
+    ensures { IsFirstWay result coder.now (ways coder.now.above.now (form_of form.entry)) }
 {
     match form {
-        Form::Empty => way(opcodes, mnemonic, (Mode::Imp, Operand::None)),
-        Form::Accumulator => way(opcodes, mnemonic, (Mode::Acc, Operand::None)),
-        Form::Immediate(v) => way(
-            opcodes,
-            mnemonic,
-            (Mode::Imm, Operand::One(Fragment::Single(v))),
+        Form::Empty => way(coder, (Mode::Imp, Operand::None)),
+        Form::Accumulator => way(coder, (Mode::Acc, Operand::None)),
+        Form::Immediate(v) => way(coder, (Mode::Imm, Operand::One(Fragment::Single(v)))),
+        Form::Direct(AddressSize::Absolute, v) => way(
+            coder,
+            (Mode::Abs, Operand::One(word_operand(v))),
         ),
-        Form::Direct(AddressSize::Absolute, v) => absolute(opcodes, mnemonic, Mode::Abs, v),
-        Form::Direct(AddressSize::Automatic, v) => direct(opcodes, above, mnemonic, v),
-        Form::DirectX(AddressSize::Absolute, v) => absolute(opcodes, mnemonic, Mode::Absx, v),
-        Form::DirectX(AddressSize::Automatic, v) => by_size(
-            opcodes,
-            above,
-            mnemonic,
-            Mode::Zpx,
-            Mode::Absx,
-            v,
+        Form::Direct(AddressSize::Automatic, v) => direct(coder, v),
+        Form::DirectX(AddressSize::Absolute, v) => way(
+            coder,
+            (Mode::Absx, Operand::One(word_operand(v))),
         ),
-        Form::DirectY(AddressSize::Absolute, v) => absolute(opcodes, mnemonic, Mode::Absy, v),
-        Form::DirectY(AddressSize::Automatic, v) => by_size(
-            opcodes,
-            above,
-            mnemonic,
-            Mode::Zpy,
-            Mode::Absy,
-            v,
+        Form::DirectX(AddressSize::Automatic, v) => by_size(coder, Mode::Zpx, Mode::Absx, v),
+        Form::DirectY(AddressSize::Absolute, v) => way(
+            coder,
+            (Mode::Absy, Operand::One(word_operand(v))),
         ),
+        Form::DirectY(AddressSize::Automatic, v) => by_size(coder, Mode::Zpy, Mode::Absy, v),
         Form::Two(v, w) => {
-            let operand = Operand::Two(zero_page(above, v), Fragment::Distance(w));
-            way(opcodes, mnemonic, (Mode::Zprel, operand))
+            let operand = Operand::Two(zero_page(coder.above, v), Fragment::Distance(w));
+            way(coder, (Mode::Zprel, operand))
         }
-        Form::Indirect(v) => indirect(opcodes, above, mnemonic, Mode::Zpind, Mode::Ind, v),
-        Form::IndirectX(v) => indirect(opcodes, above, mnemonic, Mode::Indx, Mode::Absindx, v),
-        Form::IndirectY(v) => {
-            let operand = Operand::One(zero_page(above, v));
-            way(opcodes, mnemonic, (Mode::Indy, operand))
-        }
+        Form::Indirect(v) => indirect(coder, Mode::Zpind, Mode::Ind, v),
+        Form::IndirectX(v) => indirect(coder, Mode::Indx, Mode::Absindx, v),
+        Form::IndirectY(v) => way(coder, (Mode::Indy, Operand::One(zero_page(coder.above, v)))),
     }
 }
 
@@ -237,7 +216,12 @@ pub fn coding<'s, 'a, A: Allocator + Clone, B: Allocator>(
 {
     match operation {
         Operation::Instr(mnemonic, form) => {
-            let instruction = instruction_in(opcodes, above, *mnemonic, *form)?;
+            let coder = Coder {
+                opcodes,
+                mnemonic: *mnemonic,
+                above,
+            };
+            let instruction = instruction_in(&coder, *form)?;
             Some(Coded::Instruction(instruction))
         }
         Operation::Data(data) => Some(Coded::Data(data)),
