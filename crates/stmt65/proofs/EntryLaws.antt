@@ -70,7 +70,6 @@ codes_back Word (a ∷ b ∷ []) long are = words_back a b (are 0 0 (omega arith
 codes_back Dbyt (a ∷ b ∷ []) long are = dbyts_back a b (are 0 0 (omega arith)) (are 1 0 (omega arith))
 codes_back Addr (a ∷ b ∷ []) long are = let is = words_back a b (are 0 0 (omega arith)) (are 1 0 (omega arith)) in record { back = is.back; fits = is.fits }
 codes_back Dword (a ∷ b ∷ c ∷ e ∷ []) long are = dwords_back a b c e (are 0 0 (omega arith)) (are 1 0 (omega arith)) (are 2 0 (omega arith)) (are 3 0 (omega arith))
-codes_back Dword _ long are = absurd (omega (arith, long))
 codes_back _ _ long are = absurd (omega (arith, long))
 
 -- the bytes of the number of an entry are those of the entry

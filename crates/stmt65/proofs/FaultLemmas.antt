@@ -69,19 +69,14 @@ EachKnown all form (way ∷ others) = (list_all (is_fragment_known all) way.1 �
 
 ways_known : (all above : List Definition) (form : Form) → EachKnown all form (ways above form)
 unfolding ways EachKnown
-ways_known all above Empty = (refl, tt)
-ways_known all above Accumulator = (refl, tt)
-ways_known all above (Immediate v) = (refl, tt)
-ways_known all above (Direct Absolute v) = (refl, tt)
 ways_known all above (Direct Automatic v) = by_sizes (λ ws. EachKnown all (Direct Automatic v) (ws ++ (Rel, Distance v ∷ []) ∷ [])) above Zp Abs v (refl, (refl, (refl, tt))) (refl, (refl, (refl, tt)))
-ways_known all above (DirectX Absolute v) = (refl, tt)
 ways_known all above (DirectX Automatic v) = by_sizes (EachKnown all (DirectX Automatic v)) above Zpx Absx v (refl, (refl, tt)) (refl, (refl, tt))
-ways_known all above (DirectY Absolute v) = (refl, tt)
 ways_known all above (DirectY Automatic v) = by_sizes (EachKnown all (DirectY Automatic v)) above Zpy Absy v (refl, (refl, tt)) (refl, (refl, tt))
 ways_known all above (Two v w) = (rw (zero_page_known all above v) refl, tt)
 ways_known all above (Indirect v) = (rw (zero_page_known all above v) refl, (refl, tt))
 ways_known all above (IndirectX v) = (rw (zero_page_known all above v) refl, (refl, tt))
 ways_known all above (IndirectY v) = (rw (zero_page_known all above v) refl, tt)
+ways_known all above _ = (refl, tt)
 
 first_known : (all : List Definition) (cpu : Cpu) (m : Mnemonic) (form : Form) (ws : List Way) (fragments : List Fragment) → EachKnown all form ws → first_way cpu m ws ≡ Some fragments
     → list_all (is_fragment_known all) fragments ≡ list_all (is_known all) (form_values form)

@@ -36,13 +36,19 @@ prefix_stop p [] [] h g = refl
 prefix_stop p [] (y ∷ ys) h g = rw g refl
 prefix_stop p (x ∷ xs) ys h g = let a = and_parts (p x) (list_all p xs) h in rw a.0 (omega (arith, prefix_stop p xs ys a.1 g))
 
+-- a test that passes where another one does
+pub all_as : (p q : ℕ → Bool) → ((b : ℕ) → p b ≡ true → q b ≡ true) → (xs : List ℕ) → list_all p xs ≡ true → list_all q xs ≡ true
+all_as p q k [] h = refl
+all_as p q k (x ∷ xs) h = let a = and_parts (p x) (list_all p xs) h in rw (k x a.0, all_as p q k xs a.1) refl
+
 -- ---- words
 
-no_blank : (b : ℕ) → is_word_start b ≡ true → is_blank b ≡ false
-no_blank b h = grind (arith, nat_tests)
+-- neither a blank nor a `;` begins a word or a number
+pub word_begins : (b : ℕ) → is_word_start b ≡ true → (is_blank b ≡ false) × (eqb b 59 ≡ false)
+word_begins b h = (grind (arith, nat_tests), grind (arith, nat_tests))
 
-no_remark : (b : ℕ) → is_word_start b ≡ true → eqb b 59 ≡ false
-no_remark b h = grind (arith, nat_tests)
+pub digit_begins : (b : ℕ) → is_ascii_digit b ≡ true → (is_blank b ≡ false) × (eqb b 59 ≡ false)
+digit_begins b h = (grind (arith, nat_tests), grind (arith, nat_tests))
 
 word_part : (b : ℕ) (w rest : List ℕ) → is_word_start b ≡ true → list_all is_word_byte w ≡ true → Ends rest → part_at b (w ++ rest) ≡ (Word (b ∷ w), length w)
 unfolding part_at
@@ -51,7 +57,8 @@ word_part b w rest h g e = rw (h, prefix_stop is_word_byte w rest g e, take_at w
 pub parts_word : (w rest : List ℕ) → IsWordText w → Ends rest → parts (w ++ rest) ≡ Word w ∷ parts rest
 parts_word [] rest h e = absurd h
 parts_word (b ∷ w) rest h e =
-    parts_part b (w ++ rest) (no_blank b h.0) (no_remark b h.0) ∙ rw (word_part b w rest h.0 h.1 e, drop_at w rest (length w) refl) refl
+    let front = word_begins b h.0 in
+    parts_part b (w ++ rest) front.0 front.1 ∙ rw (word_part b w rest h.0 h.1 e, drop_at w rest (length w) refl) refl
 
 pub parts_blanks : (n : ℕ) (rest : List ℕ) → parts (replicate n 32 ++ rest) ≡ parts rest
 parts_blanks zero rest = refl
@@ -162,12 +169,6 @@ digits_pass (d ∷ ds) h = rw (is_digit d h.0, digits_pass ds h.1) refl
 pub digit_no_word : (d : ℕ) → is_ascii_digit d ≡ true → is_word_start d ≡ false
 digit_no_word d h = grind (arith, nat_tests)
 
-digit_no_blank : (b : ℕ) → is_ascii_digit b ≡ true → is_blank b ≡ false
-digit_no_blank b h = grind (arith, nat_tests)
-
-digit_no_remark : (b : ℕ) → is_ascii_digit b ≡ true → eqb b 59 ≡ false
-digit_no_remark b h = grind (arith, nat_tests)
-
 digit_no_dollar : (b : ℕ) → is_ascii_digit b ≡ true → eqb b 36 ≡ false
 digit_no_dollar b h = grind (arith, nat_tests)
 
@@ -180,8 +181,8 @@ decimal_part d ds rest h e =
 pub parts_digits : (ds rest : List ℕ) → 0 < length ds → list_all is_ascii_digit ds ≡ true → Ends rest → parts (ds ++ rest) ≡ Number ds ∷ parts rest
 parts_digits [] rest lt h e = absurd (omega arith)
 parts_digits (d ∷ ds) rest lt h e =
-    let f = (and_parts (is_ascii_digit d) (list_all is_ascii_digit ds) h).0 in
-    parts_part d (ds ++ rest) (digit_no_blank d f) (digit_no_remark d f) ∙ rw (decimal_part d ds rest h e, drop_at ds rest (length ds) refl) refl
+    let front = digit_begins d (and_parts (is_ascii_digit d) (list_all is_ascii_digit ds) h).0 in
+    parts_part d (ds ++ rest) front.0 front.1 ∙ rw (decimal_part d ds rest h e, drop_at ds rest (length ds) refl) refl
 
 pub parts_decimal : (n : ℕ) (rest : List ℕ) → n < 65536 → Ends rest → parts (decimal n ++ rest) ≡ Number (decimal n) ∷ parts rest
 parts_decimal n rest lt e =

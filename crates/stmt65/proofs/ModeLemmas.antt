@@ -41,9 +41,6 @@ by_sizes P above short long v first second = by_test (has_zero_page_size above v
 
 pub ways_are_modes : WaysAreModes
 unfolding ways coding_len
-ways_are_modes above Empty = (plain Empty (Imp, []) refl refl refl, tt)
-ways_are_modes above Accumulator = (plain Accumulator (Acc, []) refl refl refl, tt)
-ways_are_modes above (Immediate v) = (plain (Immediate v) _ refl refl refl, tt)
 ways_are_modes above (Direct Absolute v) = (record { of_form = (refl, λ p. refl); length = refl }, tt)
 ways_are_modes above (Direct Automatic v) =
     by_sizes (λ ws. EachWay (Direct Automatic v) (ws ++ (Rel, Distance v ∷ []) ∷ [])) above Zp Abs v
@@ -57,46 +54,35 @@ ways_are_modes above (Two v w) = (plain (Two v w) _ refl refl (rw (zero_page_len
 ways_are_modes above (Indirect v) = (plain (Indirect v) _ refl refl (rw (zero_page_len above v) refl), (plain (Indirect v) _ refl refl refl, tt))
 ways_are_modes above (IndirectX v) = (plain (IndirectX v) _ refl refl (rw (zero_page_len above v) refl), (plain (IndirectX v) _ refl refl refl, tt))
 ways_are_modes above (IndirectY v) = (plain (IndirectY v) _ refl refl (rw (zero_page_len above v) refl), tt)
+ways_are_modes above _ = (plain _ _ refl refl refl, tt)
 
 -- a mode that is written so is among the ways
 among : (above : List Definition) (form : Form) (x : Mode) → (has_prefix form ≡ true → IsSome (zero_page_of x)) → bytes_eq (written x) (form_text form) ≡ true → list_any (is_way x) (ways above form) ≡ true
 unfolding ways
 among above Empty Imp p same = refl
-among above Empty _ p same = false_true same
 among above Accumulator Acc p same = refl
-among above Accumulator _ p same = false_true same
 among above (Immediate v) Imm p same = refl
-among above (Immediate v) _ p same = false_true same
 among above (Direct Absolute v) Abs p same = refl
 among above (Direct Absolute v) Zp p same = false_true (p refl)
 among above (Direct Absolute v) Rel p same = false_true (p refl)
-among above (Direct Absolute v) _ p same = false_true same
 among above (Direct Automatic v) Zp p same = by_sizes (λ ws. list_any (is_way Zp) (ws ++ (Rel, Distance v ∷ []) ∷ []) ≡ true) above Zp Abs v refl refl
 among above (Direct Automatic v) Abs p same = by_sizes (λ ws. list_any (is_way Abs) (ws ++ (Rel, Distance v ∷ []) ∷ []) ≡ true) above Zp Abs v refl refl
 among above (Direct Automatic v) Rel p same = by_sizes (λ ws. list_any (is_way Rel) (ws ++ (Rel, Distance v ∷ []) ∷ []) ≡ true) above Zp Abs v refl refl
-among above (Direct Automatic v) _ p same = false_true same
 among above (DirectX Absolute v) Absx p same = refl
 among above (DirectX Absolute v) Zpx p same = false_true (p refl)
-among above (DirectX Absolute v) _ p same = false_true same
 among above (DirectX Automatic v) Zpx p same = by_sizes (λ ws. list_any (is_way Zpx) ws ≡ true) above Zpx Absx v refl refl
 among above (DirectX Automatic v) Absx p same = by_sizes (λ ws. list_any (is_way Absx) ws ≡ true) above Zpx Absx v refl refl
-among above (DirectX Automatic v) _ p same = false_true same
 among above (DirectY Absolute v) Absy p same = refl
 among above (DirectY Absolute v) Zpy p same = false_true (p refl)
-among above (DirectY Absolute v) _ p same = false_true same
 among above (DirectY Automatic v) Zpy p same = by_sizes (λ ws. list_any (is_way Zpy) ws ≡ true) above Zpy Absy v refl refl
 among above (DirectY Automatic v) Absy p same = by_sizes (λ ws. list_any (is_way Absy) ws ≡ true) above Zpy Absy v refl refl
-among above (DirectY Automatic v) _ p same = false_true same
 among above (Two v w) Zprel p same = refl
-among above (Two v w) _ p same = false_true same
 among above (Indirect v) Ind p same = refl
 among above (Indirect v) Zpind p same = refl
-among above (Indirect v) _ p same = false_true same
 among above (IndirectX v) Indx p same = refl
 among above (IndirectX v) Absindx p same = refl
-among above (IndirectX v) _ p same = false_true same
 among above (IndirectY v) Indy p same = refl
-among above (IndirectY v) _ p same = false_true same
+among above _ _ p same = false_true same
 
 pub modes_are_ways : ModesAreWays
 modes_are_ways above form x h = among above form x h.1 ((bytes_eq-Decides (written x) (form_text form)).1 h.0)
@@ -160,10 +146,7 @@ only_long : (y short long : Mode) → zero_page_of y ≡ Some short → zero_pag
 only_long Abs short Abs e f = refl
 only_long Absx short Absx e f = refl
 only_long Absy short Absy e f = refl
-only_long Abs short _ e f = absurd cc
-only_long Absx short _ e f = absurd cc
-only_long Absy short _ e f = absurd cc
-only_long _ short long e f = absurd cc
+only_long _ short _ e f = absurd cc
 
 lacks_it : (cpu : Cpu) (m : Mnemonic) (x z : Mode) → encoded (table_of cpu) m x ≡ None → z ≡ x → HasMode cpu m z → ⊥
 lacks_it cpu m x z none same h = let h' = rw (same, none) at h in false_true h'

@@ -31,7 +31,7 @@ use Rattle.stmt65.specs.Directives.{directive_text}
 use Rattle.stmt65.specs.Digits.{digits2, hex2, hex4, offset_text}
 use Rattle.stmt65.specs.Levels.{address_text, spaced_byte, address_and_bytes, character, level_fields}
 use Rattle.stmt65.specs.Line.{filled, with_fields, plain_line, line_of}
-use Rattle.stmt65.specs.Operands.{named_text, short_text, long_text, kind_text, kind_texts, prefix_text, in_pattern, operand_text}
+use Rattle.stmt65.specs.Operands.{named_text, kind_text, kind_texts, prefix_text, in_pattern, operand_text}
 use Rattle.stmt65.specs.Printable.{IsPrintable}
 use Rattle.stmt65.specs.SourceLine.{Datum}
 use Rattle.stmt65.specs.SourceLine as source
@@ -43,7 +43,7 @@ use Rattle.stmt65.specs.Printed.{HasNames, HasLabelName}
 use Rattle.stmt65.specs.Code.Widths.{IsInWidth}
 use Rattle.stmt65.specs.Views.{ExprView, OperandsView, StatementView, RemarksView}
 use Rattle.stmt65.specs.Views as view
-use Rattle.stmt65.proofs.Lexed.{digits_pass}
+use Rattle.stmt65.proofs.Lexed.{all_as, digits_pass}
 use Rattle.stmt65.proofs.ReadBack.{IsRead, AreRead, are_read, name_quotes}
 use Rattle.stmt65.proofs.TableReads.{is_sound, cut_sound}
 use Rattle.stmt65.proofs.Cases.{by_test}
@@ -56,10 +56,6 @@ InLine text = list_all in_line text ≡ true
 
 joined : (xs ys : List ℕ) → InLine xs → InLine ys → InLine (xs ++ ys)
 joined xs ys h g = list_all-append in_line xs ys ∙ rw (h, g) refl
-
-all_as : (p : ℕ → Bool) → ((b : ℕ) → p b ≡ true → in_line b ≡ true) → (xs : List ℕ) → list_all p xs ≡ true → InLine xs
-all_as p k [] h = refl
-all_as p k (x ∷ xs) h = let a = and_parts (p x) (list_all p xs) h in rw (k x a.0, all_as p k xs a.1) refl
 
 text_byte : (b : ℕ) → is_text_byte b ≡ true → in_line b ≡ true
 text_byte b h = grind (arith, nat_tests)
@@ -77,7 +73,7 @@ each_line text each (b ∷ bs) = joined (text b) (flat_map text bs) (each b) (ea
 
 name_line : (name : List ℕ) → is_name name ≡ true → InLine name
 unfolding is_name
-name_line name n = all_as is_text_byte text_byte name (name_quotes name (and_parts (has_name_form name) _ n).0)
+name_line name n = all_as is_text_byte in_line text_byte name (name_quotes name (and_parts (has_name_form name) _ n).0)
 
 blanks_line : (n : ℕ) → InLine (replicate n 32)
 blanks_line zero = refl
@@ -92,21 +88,13 @@ hex4_line : (n : ℕ) → InLine (hex4 n)
 hex4_line n = rw (hex (n / 4096 % 16), hex (n / 256 % 16), hex (n / 16 % 16), hex (n % 16)) refl
 
 offset_line : (h : Bool) (n : ℕ) → n < 65536 → InLine (offset_text h n)
-offset_line false n lt = all_as is_ascii_digit digit (decimal n) (digits_pass (decimal n) (decimal_is_IsNumeral n (omega arith)).0.1)
+offset_line false n lt = all_as is_ascii_digit in_line digit (decimal n) (digits_pass (decimal n) (decimal_is_IsNumeral n (omega arith)).0.1)
 offset_line true n lt = by_test (ltb n 256) (λ f. rw f (digits2_line n)) (λ f. rw f (hex4_line n))
 
 named_line : (h : Bool) (name : List ℕ) (offset : ℕ) → is_name name ≡ true → offset < 65536 → InLine (named_text h name offset)
 named_line h name offset n lt =
     by_test (eqb offset 0) (λ f. rw f (name_line name n))
     (λ f. rw f (joined (name ++ codes "+") (offset_text h offset) (joined name (codes "+") (name_line name n) refl) (offset_line h offset lt)))
-
-two_line : (h : Bool) (e : ExprView) → IsRead e → InLine (short_text h e)
-two_line h (view.number n) has = digits2_line n
-two_line h (view.name name offset) has = named_line h name offset has.0 has.1
-
-four_line : (h : Bool) (e : ExprView) → IsRead e → InLine (long_text h e)
-four_line h (view.number n) has = hex4_line n
-four_line h (view.name name offset) has = named_line h name offset has.0 has.1
 
 prefix_line : (a : Bool) → InLine (prefix_text a)
 prefix_line true = refl
@@ -115,10 +103,11 @@ prefix_line false = refl
 -- ---- operands
 
 kind_line : (h : Bool) (k : OperandKind) (e : ExprView) → IsRead e → InLine (kind_text h k e)
-kind_line h kind.Byte e n = two_line h e n
-kind_line h kind.ZeroPage e n = two_line h e n
-kind_line h kind.Word e n = four_line h e n
-kind_line h kind.Distance e n = four_line h e n
+kind_line h kind.Byte (view.number n) has = digits2_line n
+kind_line h kind.ZeroPage (view.number n) has = digits2_line n
+kind_line h _ (view.number n) has = hex4_line n
+kind_line h kind.Byte (view.name name offset) has = named_line h name offset has.0 has.1
+kind_line h _ (view.name name offset) has = named_line h name offset has.0 has.1
 
 abbrev AreInLine : List (List ℕ) → Type 0
 AreInLine [] = Unit {0}
@@ -182,7 +171,7 @@ directive_line directive.Word = refl
 directive_line _ = refl
 
 quoted_line : (text : List ℕ) → list_all is_text_byte text ≡ true → InLine (quoted text)
-quoted_line text h = joined text (codes "\"") (all_as is_text_byte text_byte text h) refl
+quoted_line text h = joined text (codes "\"") (all_as is_text_byte in_line text_byte text h) refl
 
 datum_line : (d : Datum) → is_sound d ≡ true → InLine (datum_text d)
 datum_line (source.NumberDatum b) h = digits2_line b

@@ -32,8 +32,8 @@ use Rattle.stmt65.specs.declared.printing.columns.Columns.{Columns}
 use Rattle.stmt65.specs.Digits.{hex2, hex4, offset_text}
 use Rattle.stmt65.specs.Levels.{spaced_byte, character, level_fields}
 use Rattle.stmt65.specs.Line.{filled, with_fields, plain_line, line_of}
-use Rattle.stmt65.specs.Operands.{named_text, short_text, long_text, kind_text, prefix_text, row_operands, operand_text}
-use Rattle.stmt65.specs.Printable.{IsByte, IsShort, IsOperand, AreOperands, IsWrittenIn, MayBeForced, IsPrintable, MayBeLabelled}
+use Rattle.stmt65.specs.Operands.{named_text, long_text, kind_text, prefix_text, row_operands, operand_text}
+use Rattle.stmt65.specs.Printable.{IsLong, IsOperand, AreOperands, IsWrittenIn, MayBeForced, IsPrintable, MayBeLabelled}
 use Rattle.stmt65.specs.Statements.{has_bytes, bytes_text, quoted, data_text, numbers_text, alone, with_operands, return_text, distance_text, instr_fields, label_fields, definition_fields, remark_fields, fields_of}
 use Rattle.stmt65.specs.SourceLine.{Value, NumberValue, NameValue, NumberDatum, Empty, Operation, Nothing, Instr, Segment, Code, SetCpu, Assignment, PlaceAssignment, Statement}
 use Rattle.stmt65.specs.declared.source_line.AddressSize.TheVariants.{Absolute, Automatic}
@@ -50,7 +50,7 @@ use Rattle.stmt65.specs.Views.{ExprView, OperandsView, TargetView, StatementView
 use Rattle.stmt65.specs.Views as view
 use Rattle.stmt65.proofs.ReadIsSpelled.{at_mark, at_value, at_define, last, word_front, name_front}
 use Rattle.stmt65.proofs.SpelledIsRead.{line_again}
-use Rattle.stmt65.proofs.Lexed.{Ends, IsWordText, begun, parts_word, parts_blanks, parts_mark, parts_define, parts_colon, parts_text, parts_hex2, parts_hex4, number_of-hex2, number_of-hex4, parts_digits, parts_decimal, number_of-decimal, OffsetParts, offset_parts}
+use Rattle.stmt65.proofs.Lexed.{Ends, IsWordText, all_as, begun, parts_word, parts_blanks, parts_mark, parts_define, parts_colon, parts_text, parts_hex2, parts_hex4, number_of-hex2, number_of-hex4, parts_digits, parts_decimal, number_of-decimal, OffsetParts, offset_parts}
 use Rattle.stmt65.proofs.PartLemmas.{parts_nil, parts_remark}
 use Rattle.stmt65.proofs.RemarkLemmas.{AreClosed, parts_then, spelled_closed}
 use Rattle.stmt65.proofs.Cases.{by_test}
@@ -100,9 +100,6 @@ ValueParts text v rest = TextParts IsValue v text rest
 valued : (v : Value) (is : List Item) (text rest : List ℕ) → ValueParts text v rest → Spells is (parts rest) → Spells (value v ∷ is) (parts (text ++ rest))
 valued v is text rest p h = at_value v is (parts (text ++ rest)) (parts rest) p h
 
-letter_starts : (b : ℕ) → (is_ascii_alphabetic b || eqb b 95) ≡ true → is_word_start b ≡ true
-letter_starts b h = rw h refl
-
 -- a name is a word
 pub name_word : (w : List ℕ) → is_name w ≡ true → IsWordText w
 unfolding is_name has_name_form
@@ -111,7 +108,7 @@ name_word (b ∷ w) h =
     let form = (and_parts (has_name_form (b ∷ w)) _ h).0 in
     let front = (and_parts ((is_ascii_alphabetic b || eqb b 95) && list_all is_word_byte w) _ form).0 in
     let parts = and_parts (is_ascii_alphabetic b || eqb b 95) (list_all is_word_byte w) front in
-    (letter_starts b parts.0, parts.1)
+    (rw parts.0 refl, parts.1)
 
 named_parts : (h : Bool) (name rest : List ℕ) (offset : ℕ) → is_name name ≡ true → offset < 65536 → Ends rest → ValueParts (named_text h name offset) (NameValue name offset Zero) rest
 named_parts h name rest offset n lt e =
@@ -130,14 +127,6 @@ named_parts h name rest offset n lt e =
           ∙ ap (λ (ps : List Part). Word name ∷ ps) (parts_mark 43 (offset_text h offset ++ rest) refl ∙ ap (λ (ps : List Part). Mark 43 ∷ ps) o.lexes);
       is = (Mark 43 ∷ Number (offset_text h offset) ∷ [], [], refl, n, inr (offset_text h offset, o.counts, refl), refl);
     }))
-
-two_parts : (h : Bool) (e : ExprView) (rest : List ℕ) → IsShort e → IsRead e → Ends rest → ValueParts (short_text h e) (source_value e) rest
-two_parts h (view.number n) rest s has e = record { front = Number (hex2 n) ∷ []; split = parts_hex2 n rest e; is = (hex2 n, number_of-hex2 n s, refl) }
-two_parts h (view.name name offset) rest s has e = named_parts h name rest offset has.0 has.1 e
-
-four_parts : (h : Bool) (e : ExprView) (rest : List ℕ) → IsRead e → Ends rest → ValueParts (long_text h e) (source_value e) rest
-four_parts h (view.number n) rest has e = record { front = Number (hex4 n) ∷ []; split = parts_hex4 n rest e; is = (hex4 n, number_of-hex4 n has, refl) }
-four_parts h (view.name name offset) rest has e = named_parts h name rest offset has.0 has.1 e
 
 -- ---- what stands after an expression
 
@@ -161,15 +150,12 @@ x_close = marked 44 _ (codes "x)") refl (worded (codes "x") _ (codes ")") (refl,
 
 -- ---- expressions and what stands around them
 
-byte_short : (e : ExprView) → IsByte e → IsShort e
-byte_short (view.number n) b = b
-byte_short (view.name name offset) b = absurd b
-
 kind_parts : (h : Bool) (k : OperandKind) (e : ExprView) (rest : List ℕ) → IsOperand k e → IsRead e → Ends rest → ValueParts (kind_text h k e) (source_value e) rest
-kind_parts h kind.Byte e rest s has ends = two_parts h e rest (byte_short e s) has ends
-kind_parts h kind.ZeroPage e rest s has ends = two_parts h e rest s has ends
-kind_parts h kind.Word e rest s has ends = four_parts h e rest has ends
-kind_parts h kind.Distance e rest s has ends = four_parts h e rest has ends
+kind_parts h kind.Byte (view.number n) rest s has e = record { front = Number (hex2 n) ∷ []; split = parts_hex2 n rest e; is = (hex2 n, number_of-hex2 n s, refl) }
+kind_parts h kind.ZeroPage (view.number n) rest s has e = record { front = Number (hex2 n) ∷ []; split = parts_hex2 n rest e; is = (hex2 n, number_of-hex2 n s, refl) }
+kind_parts h _ (view.number n) rest s has e = record { front = Number (hex4 n) ∷ []; split = parts_hex4 n rest e; is = (hex4 n, number_of-hex4 n has, refl) }
+kind_parts h kind.Byte (view.name name offset) rest s has e = absurd s
+kind_parts h _ (view.name name offset) rest s has e = named_parts h name rest offset has.0 has.1 e
 
 kind_then : (h : Bool) (k : OperandKind) (e : ExprView) (is : List Item) (rest : List ℕ) → IsOperand k e → IsRead e → Ends rest → Spells is (parts rest)
     → Spells (value (source_value e) ∷ is) (parts (kind_text h k e ++ rest))
@@ -189,12 +175,12 @@ no_equals h (view.name name offset) rest has = go name (name_word name has.0) (e
     go (b ∷ w) i false f = rw f (word_no_equals b i.0)
 
 -- a word after `a:`
-forced : (h : Bool) (e : ExprView) (is : List Item) (rest : List ℕ) → IsRead e → Ends rest → Spells is (parts rest)
+forced : (h : Bool) (e : ExprView) (is : List Item) (rest : List ℕ) → IsLong e → IsRead e → Ends rest → Spells is (parts rest)
     → Spells (prefix_items Absolute ++ value (source_value e) ∷ is) (parts (prefix_text true ++ (long_text h e ++ rest)))
-forced h e is rest has ends t =
+forced h e is rest s has ends t =
     let text = long_text h e ++ rest in
     worded (codes "a") _ (58 ∷ text) (refl, refl) refl
-    (rw (parts_colon text (no_equals h e rest has)) (at_mark 58 _ (Mark 58 ∷ parts text) refl (valued (source_value e) is (long_text h e) rest (four_parts h e rest has ends) t)))
+    (rw (parts_colon text (no_equals h e rest has)) (at_mark 58 _ (Mark 58 ∷ parts text) refl (kind_then h kind.Word e is rest s has ends t)))
 
 -- ---- the operands of each row
 
@@ -213,20 +199,18 @@ row_spelled h (row.Two k l) (view.two e f) w n =
     kind_then h k e _ (44 ∷ text) w.0 n.0 refl (marked 44 _ text refl (kind_then h l f [] [] w.1 n.1 refl nothing))
 row_spelled h _ _ w n = absurd w
 
-forced_one : (h : Bool) (p : Pattern) (k : OperandKind) (e : ExprView) → IsRead e → IsSome (zero_page_row (row.One p k))
+forced_one : (h : Bool) (p : Pattern) (k : OperandKind) (e : ExprView) → IsOperand k e → IsRead e → IsSome (zero_page_row (row.One p k))
     → Spells (form_items (pattern_form p Absolute (source_value e))) (parts (row_operands h (row.One p k) true (view.one e)))
-forced_one h pattern.Direct kind.Word e n f = forced h e [] [] n refl nothing
-forced_one h pattern.DirectX kind.Word e n f = forced h e _ (codes ",x") n refl comma_x
-forced_one h pattern.DirectY kind.Word e n f = forced h e _ (codes ",y") n refl comma_y
-forced_one h _ kind.Word e n f = absurd cc
-forced_one h _ _ e n f = absurd cc
+forced_one h pattern.Direct kind.Word e w n f = forced h e [] [] w n refl nothing
+forced_one h pattern.DirectX kind.Word e w n f = forced h e _ (codes ",x") w n refl comma_x
+forced_one h pattern.DirectY kind.Word e w n f = forced h e _ (codes ",y") w n refl comma_y
+forced_one h _ kind.Word e w n f = absurd cc
+forced_one h _ _ e w n f = absurd cc
 
 forced_spelled : (h : Bool) (r : Row) (os : OperandsView) → AreOperands r os → AreRead os → IsSome (zero_page_row r) → Spells (form_items (row_form r Absolute os)) (parts (row_operands h r true os))
-forced_spelled h (row.One p k) (view.one e) w n f = forced_one h p k e n f
-forced_spelled h row.Implied os w n f = absurd cc
-forced_spelled h row.Accumulator os w n f = absurd cc
-forced_spelled h (row.Two k l) os w n f = absurd cc
-forced_spelled h _ _ w n f = absurd w
+forced_spelled h (row.One p k) (view.one e) w n f = forced_one h p k e w n f
+forced_spelled h (row.One p k) _ w n f = absurd w
+forced_spelled h _ _ w n f = absurd cc
 
 pub operand_spelled : (h : Bool) (m : Mode) (a : Bool) (os : OperandsView) → IsWrittenIn m os → MayBeForced m a → AreRead os → Spells (form_items (source_form m a os)) (parts (operand_text h m a os))
 unfolding operand_text source_form
@@ -254,10 +238,6 @@ directive_word _ = (refl, refl)
 word_quotes : (b : ℕ) → is_word_byte b ≡ true → is_text_byte b ≡ true
 word_quotes b h = grind (arith, nat_tests)
 
-words_quote : (w : List ℕ) → list_all is_word_byte w ≡ true → list_all is_text_byte w ≡ true
-words_quote [] h = refl
-words_quote (b ∷ w) h = let a = and_parts (is_word_byte b) (list_all is_word_byte w) h in rw (word_quotes b a.0, words_quote w a.1) refl
-
 first_quotes : (b : ℕ) → (is_ascii_alphabetic b || eqb b 95) ≡ true → is_text_byte b ≡ true
 first_quotes b h = grind (arith, nat_tests)
 
@@ -267,7 +247,7 @@ name_quotes [] h = absurd cc
 name_quotes (b ∷ w) h =
     let front = (and_parts ((is_ascii_alphabetic b || eqb b 95) && list_all is_word_byte w) _ h).0 in
     let parts = and_parts (is_ascii_alphabetic b || eqb b 95) (list_all is_word_byte w) front in
-    rw (first_quotes b parts.0, words_quote w parts.1) refl
+    rw (first_quotes b parts.0, all_as is_word_byte is_text_byte word_quotes w parts.1) refl
 
 segment_spelled : (name : List ℕ) → has_name_form name ≡ true → Spells (quoted_name name ∷ []) (parts (quoted name))
 segment_spelled name n =
@@ -382,8 +362,7 @@ instr_spelled : (label : Option (List ℕ)) (c : Columns) (h : Bool) (m : Mnemon
     → IsSpelling (with_label label (Statement None (Instr m (source_form mode a os)))) (parts (with_fields (with_fields [] (label_fields label)) (instr_fields c h (record { mnemonic = m; mode = mode }) a os)))
 unfolding source_form
 instr_spelled label c h m Imp a view.none l w f n = unoperated label c (text_of m) (Instr m Empty) l refl (mnemonic_word m)
-instr_spelled label c h m Imp a (view.one e) l w f n = absurd w
-instr_spelled label c h m Imp a (view.two e g) l w f n = absurd w
+instr_spelled label c h m Imp a _ l w f n = absurd w
 instr_spelled label c h m mode a os l w f n = operated label c (text_of m) (operand_text h mode a os) (Instr m (source_form mode a os)) _ l refl (mnemonic_word m) (operand_spelled h mode a os w f n)
 
 -- ---- table entries that are names

@@ -14,7 +14,7 @@ use Rattle.stmt65.specs.Spacing.{IsDecimal, IsHex, is_alone, IsText, IsRemark, I
 use Rattle.stmt65.specs.ReadingLaws.{TakesParts}
 use Rattle.stmt65.proofs.PartLemmas.{parts_nil, parts_blank, parts_remark, parts_part}
 use Rattle.stmt65.proofs.Cases.{by_test, not_true}
-use Rattle.stmt65.proofs.Lexed.{digit_no_word, prefix_stop}
+use Rattle.stmt65.proofs.Lexed.{digit_begins, digit_no_word, prefix_stop, word_begins}
 
 -- ---- runs of bytes
 
@@ -173,12 +173,6 @@ spaced (suc n) (b ∷ bs) le =
       λ q other more e q_is. omega (arith, (best b bs q other more (sym split ∙ e) q_is).bound, length-take-le k bs t.fits),
       spaced n (drop k bs) (omega (arith, length-drop k bs)),
     )))
-
-word_begins : (b : ℕ) → is_word_start b ≡ true → (is_blank b ≡ false) × (eqb b 59 ≡ false)
-word_begins b h = (grind (arith, nat_tests), grind (arith, nat_tests))
-
-digit_begins : (b : ℕ) → is_ascii_digit b ≡ true → (is_blank b ≡ false) × (eqb b 59 ≡ false)
-digit_begins b h = (grind (arith, nat_tests), grind (arith, nat_tests))
 
 number_begins : (t : List ℕ) → IsDecimal t ⊎ IsHex t → (b : ℕ) × (bs : List ℕ) × (t ≡ b ∷ bs) × (is_blank b ≡ false) × (eqb b 59 ≡ false)
 number_begins [] (inl d) = absurd (omega (arith, d.0))

@@ -5,11 +5,12 @@ use Rattle.std.specs.Char.{is_ascii_hexdigit}
 use Rattle.std.specs.Str.Parse.{digits_value}
 use Rattle.std.proofs.Math.Nat.{suc-mul}
 use Rattle.std.proofs.lemmas.Int.Digits.{digits_value_push}
+use Rattle.std.proofs.lemmas.Grind.{flat_map-append}
 use Rattle.std.proofs.lemmas.List.Folds.{list_all-append}
 use Rattle.std.specs.List.{list_all, flat_map}
 use Rattle.std.proofs.lemmas.Bool.{and_parts, ltb-true, eqb-true, eq-eqb}
 use Rattle.std.proofs.lemmas.Bool.Decides.{nat_tests}
-use Rattle.std.proofs.lemmas.List.{append-nil, reverse-append, length-reverse, length-take-le, length-drop}
+use Rattle.std.proofs.lemmas.List.{append-nil, reverse-append, length-reverse, length-take-le, length-drop, take-append-drop}
 use Rattle.text65.specs.Digits.{hex_digit}
 use Rattle.stmt65.specs.declared.directive.Directive.{Directive}
 use Rattle.stmt65.specs.declared.directive.Directive.TheVariants.{Word}
@@ -68,10 +69,6 @@ digits_len : (bs : List ℕ) → length (flat_map digits2 bs) ≡ 2 * length bs
 digits_len [] = refl
 digits_len (b ∷ bs) = let ih = digits_len bs in omega arith
 
-digits_append : (bs cs : List ℕ) → flat_map digits2 (bs ++ cs) ≡ flat_map digits2 bs ++ flat_map digits2 cs
-digits_append [] cs = refl
-digits_append (b ∷ bs) cs = rw (digits_append bs cs) refl
-
 -- the digits of bytes, the high one first, are those of their number
 digits_count : (bs : List ℕ) → AreBytes bs → digits_value 16 (flat_map digits2 (reverse bs)) ≡ low_number bs
 unfolding low_number
@@ -82,7 +79,7 @@ digits_count (b ∷ bs) h =
     let ih = digits_count bs is.1 in
     let front = flat_map digits2 (reverse bs) in
     let split : flat_map digits2 (reverse (b ∷ bs)) ≡ (front ++ hex_digit (b / 16 % 16) ∷ []) ++ hex_digit (b % 16) ∷ [] =
-    ap (flat_map digits2) (reverse-append (b ∷ []) bs) ∙ digits_append (reverse bs) (b ∷ []) ∙ sym (append_assoc front (hex_digit (b / 16 % 16) ∷ []) (hex_digit (b % 16) ∷ [])) in
+    ap (flat_map digits2) (reverse-append (b ∷ []) bs) ∙ flat_map-append digits2 (reverse bs) (b ∷ []) ∙ sym (append_assoc front (hex_digit (b / 16 % 16) ∷ []) (hex_digit (b % 16) ∷ [])) in
     let last = digits_value_push 16 (front ++ hex_digit (b / 16 % 16) ∷ []) (hex_digit (b % 16)) in
     let before = digits_value_push 16 front (hex_digit (b / 16 % 16)) in
     let high = hex_value (b / 16 % 16) (below_16 (b / 16)) in
@@ -125,15 +122,10 @@ each_entry d bytes h rest e =
       is = (entry_text d bytes, sym (digits_count low (ordered_bytes (order_of d) bytes is.1)), refl);
     }
 
-take_bytes : (n : ℕ) (bs : List ℕ) → AreBytes bs → AreBytes (take n bs)
-take_bytes zero bs h = refl
-take_bytes (suc n) [] h = refl
-take_bytes (suc n) (b ∷ bs) h = let is = and_parts (ltb b 256) (list_all (λ b. ltb b 256) bs) h in rw (is.0, take_bytes n bs is.1) refl
-
-drop_bytes : (n : ℕ) (bs : List ℕ) → AreBytes bs → AreBytes (drop n bs)
-drop_bytes zero bs h = h
-drop_bytes (suc n) [] h = refl
-drop_bytes (suc n) (b ∷ bs) h = drop_bytes n bs (and_parts (ltb b 256) (list_all (λ b. ltb b 256) bs) h).1
+split_bytes : (n : ℕ) (bs : List ℕ) → AreBytes bs → AreBytes (take n bs) × AreBytes (drop n bs)
+split_bytes n bs h =
+    and_parts (list_all (λ b. ltb b 256) (take n bs)) (list_all (λ b. ltb b 256) (drop n bs))
+    (sym (list_all-append (λ b. ltb b 256) (take n bs) (drop n bs)) ∙ ap (list_all (λ b. ltb b 256)) (take-append-drop n bs) ∙ h)
 
 pieces_are : (d : Directive) (count : ℕ) (bs : List ℕ) → AreBytes bs → count * entry_len d ≤ length bs → list_all (is_entry d) (pieces count (entry_len d) bs) ≡ true
 unfolding pieces
@@ -142,7 +134,8 @@ pieces_are d (suc count) bs h le =
     let room : entry_len d + count * entry_len d ≤ length bs = omega (arith, suc-mul count (entry_len d)) in
     let long : length (take (entry_len d) bs) ≡ entry_len d = length-take-le (entry_len d) bs (omega arith) in
     let one : (length (take (entry_len d) bs) == entry_len d) ≡ true = eq-eqb (length (take (entry_len d) bs)) (entry_len d) long in
-    rw (one, take_bytes (entry_len d) bs h) (pieces_are d count (drop (entry_len d) bs) (drop_bytes (entry_len d) bs h) (omega (arith, length-drop (entry_len d) bs)))
+    let parts = split_bytes (entry_len d) bs h in
+    rw (one, parts.0) (pieces_are d count (drop (entry_len d) bs) parts.1 (omega (arith, length-drop (entry_len d) bs)))
 
 entries_are : (d : Directive) (bs : List ℕ) → AreBytes bs → list_all (is_entry d) (entries d bs) ≡ true
 unfolding entries
