@@ -1,5 +1,5 @@
 -- The cutting of a text gives its bytes back, and there is no other.
-use Rattle.std.proofs.Common.{◌≡◌, ℕ, Bool, true, false, List, [], ◌∷◌, refl, sym, ap, subst, ◌∙◌, arith}
+use Rattle.std.proofs.Common.{◌≡◌, ℕ, false, List, [], ◌∷◌, refl, sym, ap, subst, ◌∙◌, arith}
 use Rattle.std.specs.List.{flat_map}
 use Rattle.stmt65.specs.SourceLine.{Datum, NumberDatum, StringDatum}
 use Rattle.stmt65.specs.TableLaws.{datum_bytes, EndsStretch, IsCut, CutsTexts}

@@ -1,6 +1,6 @@
 -- The tests of a line are the rules of its faults.
-use Rattle.std.proofs.Common.{◌≡◌, ℕ, suc, Bool, true, false, cond, ltb, leb, ◌+◌, ◌<◌, ◌≤◌, List, [], ◌∷◌, ◌++◌, map, Option, Some, None, ◌⊎◌, inl, inr, refl, sym, ap, subst, ◌∙◌, arith}
-use Rattle.std.specs.Prelude.{not, ◌&&◌, ◌||◌, is_some, unwrap_or}
+use Rattle.std.proofs.Common.{◌≡◌, ℕ, suc, Bool, true, false, ltb, ◌+◌, ◌<◌, ◌≤◌, List, [], ◌∷◌, ◌++◌, map, Option, Some, None, ◌⊎◌, inl, inr, refl, sym, ap, subst, ◌∙◌, arith}
+use Rattle.std.specs.Prelude.{not, is_some, unwrap_or}
 use Rattle.std.specs.List.{Any, list_any, list_all, flat_map, slice_get}
 use Rattle.std.specs.Bool.{Decides}
 use Rattle.std.proofs.lemmas.Bool.{cases_lt, ltb-true}
@@ -13,8 +13,8 @@ use Rattle.isa65.specs.declared.mode.Mode.TheVariants.{Zp, Zpx, Zpy, Abs, Absx, 
 use Rattle.isa65.specs.Cpu.{cpu_named}
 use Rattle.stmt65.specs.declared.assembling.fault.AsmFaultKind.{AsmFaultKind}
 use Rattle.stmt65.specs.declared.assembling.fault.AsmFaultKind.TheVariants.{Syntax, UnknownCpu, NoSuchForm, Undefined, DefinedTwice, OutOfRange, PastEnd, Memory}
-use Rattle.stmt65.specs.SourceLine.{Value, NumberValue, NameValue, Form, Empty, Accumulator, Immediate, Direct, DirectX, DirectY, Two, Indirect, IndirectX, IndirectY, Datum, NumberDatum, StringDatum, Operation, Instr, Data, Values, SetCpu, SourceLine}
-use Rattle.stmt65.specs.declared.source_line.AddressSize.TheVariants.{Absolute, Automatic}
+use Rattle.stmt65.specs.SourceLine.{Value, NumberValue, NameValue, Form, Direct, DirectX, DirectY, Two, Indirect, IndirectX, IndirectY, Datum, NumberDatum, StringDatum, Operation, Instr, Data, Values, SetCpu, SourceLine}
+use Rattle.stmt65.specs.declared.source_line.AddressSize.TheVariants.{Automatic}
 use Rattle.stmt65.specs.Symbols.{Definition, find_name, value_in, is_known, below, word_in, has_zero_page_size}
 use Rattle.stmt65.specs.Coding.{entry_limit, Fragment, Fixed, Single, ZeroPage, Oversized, Entry, Distance, Way, zero_page, datum_fragments, is_fragment_known, is_near, fragment_fits, entry_in, ways, first_way, coding}
 use Rattle.stmt65.specs.Meaning.{State, operation_in, fragments_of, next_of, defined_by, has_unknown_cpu, has_no_form, is_undefined, is_twice, is_out_of_range, is_past_end, Test, first_of, tests_of, fault_of}

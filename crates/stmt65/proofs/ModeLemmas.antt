@@ -215,9 +215,6 @@ module _ (cpu : Cpu) (above : List Definition) (m : Mnemonic) (form : Form) (fra
 
 pub takes_modes : TakesModes
 unfolding coding ways
-takes_modes cpu above m Empty fragments e = by_one cpu above m Empty fragments Imp [] e refl (λ y e f. absurd cc) (refl, λ p. false_true p) refl
-takes_modes cpu above m Accumulator fragments e = by_one cpu above m Accumulator fragments Acc [] e refl (λ y e f. absurd cc) (refl, λ p. false_true p) refl
-takes_modes cpu above m (Immediate v) fragments e = by_one cpu above m (Immediate v) fragments Imm _ e refl (λ y e f. absurd cc) (refl, λ p. false_true p) refl
 takes_modes cpu above m (Direct Absolute v) fragments e =
     by_one cpu above m (Direct Absolute v) fragments Abs _ e refl (λ y e f. no_zero Abs y e (f.1 refl)) (refl, λ p. refl) refl
 takes_modes cpu above m (Direct Automatic v) fragments e =
@@ -231,7 +228,6 @@ takes_modes cpu above m (DirectY Absolute v) fragments e =
     by_one cpu above m (DirectY Absolute v) fragments Absy _ e refl (λ y e f. no_zero Absy y e (f.1 refl)) (refl, λ p. refl) refl
 takes_modes cpu above m (DirectY Automatic v) fragments e =
     sized cpu above m (DirectY Automatic v) fragments Zpy Absy v [] refl refl refl (refl, λ p. false_true p) (refl, λ p. false_true p) refl refl refl (rw append-nil e) (λ e'. absurd cc)
-takes_modes cpu above m (Two v w) fragments e = by_one cpu above m (Two v w) fragments Zprel _ e refl (λ y e f. absurd cc) (refl, λ p. false_true p) refl
 takes_modes cpu above m (Indirect v) fragments e =
     first_case cpu m (Zpind, zero_page above v ∷ []) ((Ind, word_operand v ∷ []) ∷ []) fragments e
     (λ b has coded. lone cpu above m (Indirect v) fragments Zpind b refl (λ y e f. absurd cc) (refl, λ p. false_true p) has coded)
@@ -240,4 +236,4 @@ takes_modes cpu above m (IndirectX v) fragments e =
     first_case cpu m (Indx, zero_page above v ∷ []) ((Absindx, word_operand v ∷ []) ∷ []) fragments e
     (λ b has coded. lone cpu above m (IndirectX v) fragments Indx b refl (λ y e f. absurd cc) (refl, λ p. false_true p) has coded)
     (λ gone e'. by_one cpu above m (IndirectX v) fragments Absindx _ e' refl (λ y e f. absurd cc) (refl, λ p. false_true p) refl)
-takes_modes cpu above m (IndirectY v) fragments e = by_one cpu above m (IndirectY v) fragments Indy _ e refl (λ y e f. absurd cc) (refl, λ p. false_true p) refl
+takes_modes cpu above m _ fragments e = by_one cpu above m _ fragments _ _ e refl (λ y e f. absurd cc) (refl, λ p. false_true p) refl

@@ -43,7 +43,7 @@ use Rattle.stmt65.specs.Parts.{Part, Word, Number, Text, Define, Mark, begins_wi
 use Rattle.stmt65.specs.Lexing.{is_word_start, is_text_byte, parts}
 use Rattle.stmt65.specs.Names.{is_name}
 use Rattle.stmt65.specs.Reading.{reading_of}
-use Rattle.stmt65.specs.Spelling.{Item, word, mark, define, number, string, quoted_name, value, data_list, value_list, IsValue, IsItem, Spells, prefix_items, form_items, operation_items, IsSpelling}
+use Rattle.stmt65.specs.Spelling.{Item, word, mark, number, string, quoted_name, value, data_list, value_list, IsValue, Spells, prefix_items, form_items, operation_items, IsSpelling}
 use Rattle.stmt65.specs.Printed.{entry_value, source_value, pattern_form, row_form, source_form, source_line, with_label, HasName, HasNamesIn, HasNames, HasLabelName}
 use Rattle.stmt65.specs.Code.Widths.{IsWordWide, AreWordWide, AreBytes, IsInWidth}
 use Rattle.stmt65.specs.Views.{ExprView, OperandsView, TargetView, StatementView, RemarksView}

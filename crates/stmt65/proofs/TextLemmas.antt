@@ -10,7 +10,7 @@ use Rattle.stmt65.proofs.EntryLaws.{entry_bytes-length}
 use Rattle.stmt65.specs.Symbols.{Definition}
 use Rattle.stmt65.specs.Coding.{Fragment, Entry, entry_or_zero, fragment_len, fragment_bytes, coding_len}
 use Rattle.stmt65.specs.Meaning.{State, initial, after, fault_of, fragments_of, next_of, bytes_of, coded, meaning_of, unless, with_front}
-use Rattle.stmt65.specs.TextLaws.{Line, lines_below, lines_of, names_of, IsFaultless, line_bytes, MeansBytes, MeansFault, StandsAtItsBytes}
+use Rattle.stmt65.specs.TextLaws.{Line, lines_below, lines_of, names_of, IsFaultless, IsFirstFault, line_bytes, MeansBytes, MeansFault, StandsAtItsBytes}
 
 -- ---- lengths
 
@@ -54,20 +54,10 @@ stands_at_its_bytes all start ls above below line e = stands all (initial start)
 no_lines : (all : List Definition) → All (IsFaultless all) []
 no_lines all k d lt = absurd (omega arith)
 
--- lines of which the n-th, as they are counted, is the first that has a fault
-record IsFirstFrom (all : List Definition) (lines : List Line) (n : ℕ) (fault : AsmFault) : Type 0 where
-  above : List Line
-  line : Line
-  below : List Line
-  parts : lines ≡ above ++ line ∷ below
-  number : fault.line ≡ length above + n
-  fault_is : fault_of all line.state line.says ≡ Some fault.kind
-  none_above : All (IsFaultless all) above
-
 -- what lines mean that are counted from n on
 abbrev MeansFrom : List Definition → List Line → ℕ → Result (List ℕ) AsmFault → Type 0
 MeansFrom all lines n (Ok bytes) = All (IsFaultless all) lines × (bytes ≡ flat_map (line_bytes all) lines)
-MeansFrom all lines n (Err fault) = IsFirstFrom all lines n fault
+MeansFrom all lines n (Err fault) = (k : ℕ) × (fault.line + 1 ≡ k + n) × IsFirstFault all lines k fault.kind
 
 means_from : (all : List Definition) (n : ℕ) (s : State) (ls : List (Option SourceLine)) → MeansFrom all (lines_below s ls) n (coded all n s ls)
 unfolding coded lines_below
@@ -79,19 +69,22 @@ means_from all n s (l ∷ ls) = go (fault_of all s l) refl (coded all (n + 1) (a
 
     go : (o : Option AsmFaultKind) → fault_of all s l ≡ o → (m : Result (List ℕ) AsmFault) → MeansFrom all (lines_below (after s l) ls) (n + 1) m
         → MeansFrom all (line ∷ lines_below (after s l) ls) n (unless n o (with_front (bytes_of all s l) m))
-    go (Some kind) f m h = record { above = []; line = line; below = lines_below (after s l) ls; parts = refl; number = omega arith; fault_is = f; none_above = no_lines all }
+    go (Some kind) f m h = (1, omega arith, record { above = []; line = line; below = lines_below (after s l) ls; parts = refl; number = refl; fault = f; none_above = no_lines all })
     go None f (Ok bytes) h = (All-cons (IsFaultless all) line (lines_below (after s l) ls) f h.0, ap (λ (rest : List ℕ). bytes_of all s l ++ rest) h.1)
     go None f (Err fault) h =
-        let number = h.number in
-        record {
-          above = line ∷ h.above;
-          line = h.line;
-          below = h.below;
-          parts = ap (λ (xs : List Line). line ∷ xs) h.parts;
-          number = omega arith;
-          fault_is = h.fault_is;
-          none_above = All-cons (IsFaultless all) line h.above f h.none_above;
-        }
+        let first = h.2 in (
+          h.0 + 1,
+          omega (arith, h.1),
+          record {
+            above = line ∷ first.above;
+            line = first.line;
+            below = first.below;
+            parts = ap (λ (xs : List Line). line ∷ xs) first.parts;
+            number = omega (arith, first.number);
+            fault = first.fault;
+            none_above = All-cons (IsFaultless all) line first.above f first.none_above;
+          },
+        )
 
 bytes-coded : (all : List Definition) (n : ℕ) (s : State) (ls : List (Option SourceLine)) → All (IsFaultless all) (lines_below s ls) → coded all n s ls ≡ Ok (flat_map (line_bytes all) (lines_below s ls))
 unfolding coded lines_below
@@ -132,14 +125,8 @@ fault-coded all n s (l ∷ ls) m kind (x ∷ above) below line e number fault no
 pub means_fault : MeansFault
 unfolding meaning_of
 means_fault start ls n kind = (
-  λ e. let found : IsFirstFrom (names_of start ls) (lines_of start ls) 1 (record { line = n; kind = kind }) = rw e at (means_from (names_of start ls) 1 (initial start) ls) in record {
-    above = found.above;
-    line = found.line;
-    below = found.below;
-    parts = found.parts;
-    number = found.number;
-    fault = found.fault_is;
-    none_above = found.none_above;
-  },
+  λ e. let found = rw e at (means_from (names_of start ls) 1 (initial start) ls) in
+      let same : found.0 ≡ n = omega (arith, found.1) in
+      rw same at found.2,
   λ h. fault-coded (names_of start ls) 1 (initial start) ls n kind h.above h.below h.line h.parts h.number h.fault h.none_above,
 )
