@@ -3,7 +3,6 @@
 
 ghost use Rattle.std.specs.Prelude.{◌≡◌};
 ghost use Rattle.info65.specs.Attributes.{attribute_named, boolean_named, form_of, group_named, type_named};
-ghost use Rattle.info65.specs.declared.syntax.attribute.GroupKind.TheVariants.{Global, Include, Label, Range, Segment};
 
 use crate::information::range::RangeType;
 
@@ -102,145 +101,82 @@ pub enum Form {
     Character,
 }
 
+// The value beside the first of these words that a text is, with letters of any case.
+macro_rules! word_among {
+    ($text:expr;) => {
+        None
+    };
+    ($text:expr; $word:literal => $value:expr, $($rest:tt)*) => {
+        if $text.eq_ignore_ascii_case($word) {
+            Some($value)
+        } else {
+            word_among!($text; $($rest)*)
+        }
+    };
+}
+
 /// The group of this name, with letters of any case.
 #[tactic(auto, unfolding(crate::specs::Attributes::group_named))]
 pub fn group_named(text: &[u8]) -> Option<GroupKind>
     ensures { result ≡ group_named text.now }
 {
-    if text.eq_ignore_ascii_case(b"GLOBAL") {
-        Some(GroupKind::Global)
-    } else if text.eq_ignore_ascii_case(b"RANGE") {
-        Some(GroupKind::Range)
-    } else if text.eq_ignore_ascii_case(b"LABEL") {
-        Some(GroupKind::Label)
-    } else if text.eq_ignore_ascii_case(b"SEGMENT") {
-        Some(GroupKind::Segment)
-    } else if text.eq_ignore_ascii_case(b"ASMINC") {
-        Some(GroupKind::Include)
-    } else {
-        None
-    }
+    word_among!(text;
+        b"GLOBAL" => GroupKind::Global,
+        b"RANGE" => GroupKind::Range,
+        b"LABEL" => GroupKind::Label,
+        b"SEGMENT" => GroupKind::Segment,
+        b"ASMINC" => GroupKind::Include,
+    )
 }
 
 /// The attribute of a group by its name, with letters of any case.
+#[tactic(auto, unfolding(crate::specs::Attributes::attribute_named))]
 pub fn attribute_named(kind: GroupKind, text: &[u8]) -> Option<Attribute>
     ensures { result ≡ attribute_named kind text.now }
 {
     match kind {
-        GroupKind::Global => global_attribute(text),
-        GroupKind::Range => range_attribute(text),
-        GroupKind::Label => label_attribute(text),
-        GroupKind::Segment => segment_attribute(text),
-        GroupKind::Include => include_attribute(text),
-    }
-}
-
-#[tactic(auto, unfolding(crate::specs::Attributes::attribute_named))]
-fn global_attribute(text: &[u8]) -> Option<Attribute>
-    ensures { result ≡ attribute_named Global text.now }
-{
-    if text.eq_ignore_ascii_case(b"INPUTNAME") {
-        Some(Attribute::InputName)
-    } else if text.eq_ignore_ascii_case(b"OUTPUTNAME") {
-        Some(Attribute::OutputName)
-    } else if text.eq_ignore_ascii_case(b"INPUTOFFS") {
-        Some(Attribute::InputOffset)
-    } else if text.eq_ignore_ascii_case(b"INPUTSIZE") {
-        Some(Attribute::InputSize)
-    } else if text.eq_ignore_ascii_case(b"STARTADDR") {
-        Some(Attribute::StartAddress)
-    } else if text.eq_ignore_ascii_case(b"CPU") {
-        Some(Attribute::Cpu)
-    } else if text.eq_ignore_ascii_case(b"COMMENTS") {
-        Some(Attribute::Comments)
-    } else if text.eq_ignore_ascii_case(b"MNEMONICCOLUMN") {
-        Some(Attribute::MnemonicColumn)
-    } else if text.eq_ignore_ascii_case(b"ARGUMENTCOLUMN") {
-        Some(Attribute::ArgumentColumn)
-    } else if text.eq_ignore_ascii_case(b"COMMENTCOLUMN") {
-        Some(Attribute::CommentColumn)
-    } else if text.eq_ignore_ascii_case(b"TEXTCOLUMN") {
-        Some(Attribute::TextColumn)
-    } else if text.eq_ignore_ascii_case(b"LABELBREAK") {
-        Some(Attribute::LabelBreak)
-    } else if text.eq_ignore_ascii_case(b"HEXOFFS") {
-        Some(Attribute::HexOffsets)
-    } else if text.eq_ignore_ascii_case(b"NEWLINEAFTERJMP") {
-        Some(Attribute::NewlineAfterJmp)
-    } else if text.eq_ignore_ascii_case(b"NEWLINEAFTERRTS") {
-        Some(Attribute::NewlineAfterRts)
-    } else if text.eq_ignore_ascii_case(b"PAGELENGTH") {
-        Some(Attribute::PageLength)
-    } else {
-        None
-    }
-}
-
-#[tactic(auto, unfolding(crate::specs::Attributes::attribute_named))]
-fn range_attribute(text: &[u8]) -> Option<Attribute>
-    ensures { result ≡ attribute_named Range text.now }
-{
-    if text.eq_ignore_ascii_case(b"START") {
-        Some(Attribute::Start)
-    } else if text.eq_ignore_ascii_case(b"END") {
-        Some(Attribute::End)
-    } else if text.eq_ignore_ascii_case(b"SIZE") {
-        Some(Attribute::Size)
-    } else if text.eq_ignore_ascii_case(b"TYPE") {
-        Some(Attribute::Role)
-    } else if text.eq_ignore_ascii_case(b"NAME") {
-        Some(Attribute::Name)
-    } else if text.eq_ignore_ascii_case(b"COMMENT") {
-        Some(Attribute::Comment)
-    } else {
-        None
-    }
-}
-
-#[tactic(auto, unfolding(crate::specs::Attributes::attribute_named))]
-fn label_attribute(text: &[u8]) -> Option<Attribute>
-    ensures { result ≡ attribute_named Label text.now }
-{
-    if text.eq_ignore_ascii_case(b"ADDR") {
-        Some(Attribute::Address)
-    } else if text.eq_ignore_ascii_case(b"NAME") {
-        Some(Attribute::Name)
-    } else if text.eq_ignore_ascii_case(b"SIZE") {
-        Some(Attribute::Size)
-    } else if text.eq_ignore_ascii_case(b"COMMENT") {
-        Some(Attribute::Comment)
-    } else {
-        None
-    }
-}
-
-#[tactic(auto, unfolding(crate::specs::Attributes::attribute_named))]
-fn segment_attribute(text: &[u8]) -> Option<Attribute>
-    ensures { result ≡ attribute_named Segment text.now }
-{
-    if text.eq_ignore_ascii_case(b"START") {
-        Some(Attribute::Start)
-    } else if text.eq_ignore_ascii_case(b"END") {
-        Some(Attribute::End)
-    } else if text.eq_ignore_ascii_case(b"NAME") {
-        Some(Attribute::Name)
-    } else {
-        None
-    }
-}
-
-#[tactic(auto, unfolding(crate::specs::Attributes::attribute_named))]
-fn include_attribute(text: &[u8]) -> Option<Attribute>
-    ensures { result ≡ attribute_named Include text.now }
-{
-    if text.eq_ignore_ascii_case(b"FILE") {
-        Some(Attribute::File)
-    } else if text.eq_ignore_ascii_case(b"COMMENTSTART") {
-        Some(Attribute::CommentStart)
-    } else if text.eq_ignore_ascii_case(b"IGNOREUNKNOWN") {
-        Some(Attribute::IgnoreUnknown)
-    } else {
-        None
+        GroupKind::Global => word_among!(text;
+            b"INPUTNAME" => Attribute::InputName,
+            b"OUTPUTNAME" => Attribute::OutputName,
+            b"INPUTOFFS" => Attribute::InputOffset,
+            b"INPUTSIZE" => Attribute::InputSize,
+            b"STARTADDR" => Attribute::StartAddress,
+            b"CPU" => Attribute::Cpu,
+            b"COMMENTS" => Attribute::Comments,
+            b"MNEMONICCOLUMN" => Attribute::MnemonicColumn,
+            b"ARGUMENTCOLUMN" => Attribute::ArgumentColumn,
+            b"COMMENTCOLUMN" => Attribute::CommentColumn,
+            b"TEXTCOLUMN" => Attribute::TextColumn,
+            b"LABELBREAK" => Attribute::LabelBreak,
+            b"HEXOFFS" => Attribute::HexOffsets,
+            b"NEWLINEAFTERJMP" => Attribute::NewlineAfterJmp,
+            b"NEWLINEAFTERRTS" => Attribute::NewlineAfterRts,
+            b"PAGELENGTH" => Attribute::PageLength,
+        ),
+        GroupKind::Range => word_among!(text;
+            b"START" => Attribute::Start,
+            b"END" => Attribute::End,
+            b"SIZE" => Attribute::Size,
+            b"TYPE" => Attribute::Role,
+            b"NAME" => Attribute::Name,
+            b"COMMENT" => Attribute::Comment,
+        ),
+        GroupKind::Label => word_among!(text;
+            b"ADDR" => Attribute::Address,
+            b"NAME" => Attribute::Name,
+            b"SIZE" => Attribute::Size,
+            b"COMMENT" => Attribute::Comment,
+        ),
+        GroupKind::Segment => word_among!(text;
+            b"START" => Attribute::Start,
+            b"END" => Attribute::End,
+            b"NAME" => Attribute::Name,
+        ),
+        GroupKind::Include => word_among!(text;
+            b"FILE" => Attribute::File,
+            b"COMMENTSTART" => Attribute::CommentStart,
+            b"IGNOREUNKNOWN" => Attribute::IgnoreUnknown,
+        ),
     }
 }
 
@@ -286,27 +222,17 @@ pub fn form_of(attribute: Attribute) -> Form
 pub fn type_named(text: &[u8]) -> Option<RangeType>
     ensures { result ≡ type_named text.now }
 {
-    if text.eq_ignore_ascii_case(b"CODE") {
-        Some(RangeType::Code)
-    } else if text.eq_ignore_ascii_case(b"BYTETABLE") {
-        Some(RangeType::ByteTable)
-    } else if text.eq_ignore_ascii_case(b"WORDTABLE") {
-        Some(RangeType::WordTable)
-    } else if text.eq_ignore_ascii_case(b"DBYTETABLE") {
-        Some(RangeType::DbyteTable)
-    } else if text.eq_ignore_ascii_case(b"DWORDTABLE") {
-        Some(RangeType::DwordTable)
-    } else if text.eq_ignore_ascii_case(b"ADDRTABLE") {
-        Some(RangeType::AddrTable)
-    } else if text.eq_ignore_ascii_case(b"RTSTABLE") {
-        Some(RangeType::RtsTable)
-    } else if text.eq_ignore_ascii_case(b"TEXTTABLE") {
-        Some(RangeType::TextTable)
-    } else if text.eq_ignore_ascii_case(b"SKIP") {
-        Some(RangeType::Skip)
-    } else {
-        None
-    }
+    word_among!(text;
+        b"CODE" => RangeType::Code,
+        b"BYTETABLE" => RangeType::ByteTable,
+        b"WORDTABLE" => RangeType::WordTable,
+        b"DBYTETABLE" => RangeType::DbyteTable,
+        b"DWORDTABLE" => RangeType::DwordTable,
+        b"ADDRTABLE" => RangeType::AddrTable,
+        b"RTSTABLE" => RangeType::RtsTable,
+        b"TEXTTABLE" => RangeType::TextTable,
+        b"SKIP" => RangeType::Skip,
+    )
 }
 
 /// What a boolean word says, with letters of any case.
@@ -314,19 +240,12 @@ pub fn type_named(text: &[u8]) -> Option<RangeType>
 pub fn boolean_named(text: &[u8]) -> Option<bool>
     ensures { result ≡ boolean_named text.now }
 {
-    if text.eq_ignore_ascii_case(b"ON") {
-        Some(true)
-    } else if text.eq_ignore_ascii_case(b"TRUE") {
-        Some(true)
-    } else if text.eq_ignore_ascii_case(b"YES") {
-        Some(true)
-    } else if text.eq_ignore_ascii_case(b"OFF") {
-        Some(false)
-    } else if text.eq_ignore_ascii_case(b"FALSE") {
-        Some(false)
-    } else if text.eq_ignore_ascii_case(b"NO") {
-        Some(false)
-    } else {
-        None
-    }
+    word_among!(text;
+        b"ON" => true,
+        b"TRUE" => true,
+        b"YES" => true,
+        b"OFF" => false,
+        b"FALSE" => false,
+        b"NO" => false,
+    )
 }
