@@ -1,10 +1,9 @@
 -- The definitions of information files, held against small files and published tables.
 use Rattle.std.proofs.Common.{◌≡◌, ℕ, ◌+◌, List, [], ◌∷◌, ◌++◌, refl}
-use Rattle.std.specs.Prelude.{Some, None, Result, Ok, Err, codes, false, flat_map, length, map, option_map, replicate}
+use Rattle.std.specs.Prelude.{Some, Result, Ok, Err, codes, flat_map, length, map, option_map, replicate}
 use Rattle.isa65.specs.declared.byte_order.ByteOrder.TheVariants.{LittleEndian, BigEndian}
 use Rattle.isa65.specs.Cpu.{cpu_named}
 use Rattle.isa65.specs.Mnemonic.{mnemonic_named}
-use Rattle.isa65.specs.declared.cpu.Cpu.TheVariants.{M6502}
 use Rattle.text65.specs.Names.{has_name_form, is_reserved_word}
 use Rattle.info65.specs.Attributes.{attribute_named, boolean_named, form_of, group_named, type_named}
 use Rattle.info65.specs.Closing.{closing_fault}
@@ -23,7 +22,7 @@ use Rattle.info65.specs.Segments.{meets, segment_in, segments_of}
 use Rattle.info65.specs.Settings.{settings_of}
 use Rattle.info65.specs.Tokens.{tokens_after, tokens_of}
 use Rattle.info65.specs.Values.{is_file_name, is_on_command_line, name_value, value_of}
-use Rattle.info65.specs.Views.{IncludeView, NameView, OptionsView, no_options}
+use Rattle.info65.specs.Views.{IncludeView, NameView, OptionsView, default_settings, no_options}
 use Rattle.info65.specs.declared.fault.InfoFault.{InfoFault}
 use Rattle.info65.specs.declared.fault.InfoFaultKind.TheVariants.{BadByte, TooLarge}
 use Rattle.info65.specs.declared.information.range.Entry.{Entry}
@@ -102,10 +101,6 @@ numbers =
     ∷ (codes "GLOBAL { PAGELENGTH 1; };", codes "1: value out of range")
     ∷ []
 
-numbers_hold : map (λ r. tells r.0) numbers ≡ map (λ r. r.1) numbers
-unfolding groups_of read read_from step finish attribute_at value_at tokens_after lexeme_at word_at number_at string_at character_at in_class number_in group_named attribute_named form_of type_named boolean_named global_given value_in has has_instead is_given has_room includes_of include_in closing_fault comment_in lacks_name range_in range_of_parts ranges_of overlaps range_name label_in names_said name_fault is_reserved is_reserved_word is_like_default default_name has_name_form has_comment_form is_file_name is_on_command_line name_value value_of segment_in segments_of meets cpu_named mnemonic_named
-numbers_hold = refl
-
 -- a label of this name, a file name and a comment of so many bytes, and so many include files
 abbrev name_of : ℕ → List ℕ
 name_of n = codes "LABEL { ADDR 1; NAME \"" ++ replicate n 97 ++ codes "\"; };"
@@ -155,29 +150,13 @@ files =
     ∷ (codes "GLOBAL { COMMENTS 1; };\nGLOBAL { COMMENTS", codes "2: attribute given twice")
     ∷ []
 
-files_hold : map (λ r. tells r.0) files ≡ map (λ r. r.1) files
+files_hold : map (λ r. tells r.0) (numbers ++ files) ≡ map (λ r. r.1) (numbers ++ files)
 unfolding groups_of read read_from step finish attribute_at value_at tokens_after lexeme_at word_at number_at string_at character_at in_class number_in group_named attribute_named form_of type_named boolean_named global_given value_in has has_instead is_given has_room includes_of include_in closing_fault comment_in lacks_name range_in range_of_parts ranges_of overlaps range_name label_in names_said name_fault is_reserved is_reserved_word is_like_default default_name has_name_form has_comment_form is_file_name is_on_command_line name_value value_of segment_in segments_of meets cpu_named mnemonic_named
 files_hold = refl
 
 -- ---- defaults
 
-defaults : settings_of no_options [] ≡ record {
-  input = None;
-  output = None;
-  offset = 0;
-  size = None;
-  start = None;
-  cpu = M6502;
-  comments = 0;
-  mnemonic_column = 9;
-  argument_column = 17;
-  comment_column = 49;
-  text_column = 81;
-  label_break = 7;
-  hexoffs = false;
-  newline_after_jmp = false;
-  newline_after_rts = false;
-}
+defaults : settings_of no_options [] ≡ default_settings
 unfolding settings_of value_in
 defaults = refl
 
