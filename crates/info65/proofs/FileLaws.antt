@@ -1,12 +1,12 @@
 -- The laws of information files.
-use Rattle.std.proofs.Common.{◌≡◌, ◌∙◌, ◌≤◌, ℕ, List, [], ◌∷◌, ◌++◌, false, refl, ap, sym, inl, inr, length, arith}
+use Rattle.std.proofs.Common.{◌≡◌, ◌∙◌, ◌≤◌, ℕ, List, [], ◌∷◌, false, refl, ap, sym, inl, inr, length, arith}
 use Rattle.std.specs.Prelude.{Result, Ok, Err, ◌⊎◌, nat_lt}
 use Rattle.std.proofs.lemmas.Bool.{ltb-false}
 use Rattle.std.proofs.lemmas.Bool.Decides.{nat_tests}
 use Rattle.info65.specs.Faults.{fault, ◌>>=◌}
 use Rattle.info65.specs.Grammar.{IsInformation}
 use Rattle.info65.specs.Groups.{GroupView}
-use Rattle.info65.specs.Laws.{AcceptsFiles, IsOfEnd, IsOfToken, Reaches, RefusesFirst}
+use Rattle.info65.specs.Laws.{AcceptsFiles, IsFaultless, IsOfEnd, IsOfToken, RefusesFirst}
 use Rattle.info65.specs.Reader.{Place, State, closed, finish, groups_of, information, outside, read, read_from, step}
 use Rattle.info65.specs.Settings.{info_of}
 use Rattle.info65.specs.Tokens.{TokenView, tokens_of}
@@ -41,33 +41,13 @@ accepts_files o bytes info = (accepted o bytes info, accepts o bytes info)
 
 -- ---- the first fault
 
--- the tokens have no fault from a place on
-abbrev Faultless : OptionsView → Place → List GroupView → List TokenView → Type 0
-Faultless o p before ts = (line : ℕ) → ((groups : List GroupView) × (read_from o p before ts (Ok line) ≡ Ok groups)) ⊎ (read_from o p before ts (Ok line) ≡ Err (fault line Expected))
-
-record OfToken (o : OptionsView) (p : Place) (before : List GroupView) (ts : List TokenView) (e : InfoFault) : Type 0 where
-  front : List TokenView
-  token : TokenView
-  more : List TokenView
-  parts : ts ≡ front ++ token ∷ more
-  faultless : Faultless o p before front
-  place : Place
-  groups : List GroupView
-  reached : Reaches o p before front place groups
-  is : step o place groups token ≡ Err e
-  refuses : (others : List TokenView) (ending : Result ℕ InfoFault) → read_from o p before ((front ++ token ∷ []) ++ others) ending ≡ Err e
-
-record OfEnd (o : OptionsView) (p : Place) (before : List GroupView) (ts : List TokenView) (ending : Result ℕ InfoFault) (e : InfoFault) : Type 0 where
-  faultless : Faultless o p before ts
-  ends : ((line : ℕ) × (ending ≡ Ok line) × (e ≡ fault line Expected)) ⊎ (ending ≡ Err e)
-
-none_faultless : (o : OptionsView) (p : Place) (before : List GroupView) → Faultless o p before []
+none_faultless : (o : OptionsView) (p : Place) (before : List GroupView) → IsFaultless o p before []
 unfolding read_from finish
 none_faultless o outside before line = inl (before, refl)
 none_faultless o closed before line = inl (before, refl)
 none_faultless o _ before line = inr refl
 
-more_faultless : (o : OptionsView) (p : Place) (before : List GroupView) (t : TokenView) (ts : List TokenView) (q : State) → step o p before t ≡ Ok q → Faultless o q.0 q.1 ts → Faultless o p before (t ∷ ts)
+more_faultless : (o : OptionsView) (p : Place) (before : List GroupView) (t : TokenView) (ts : List TokenView) (q : State) → step o p before t ≡ Ok q → IsFaultless o q.0 q.1 ts → IsFaultless o p before (t ∷ ts)
 unfolding read_from
 more_faultless o p before t ts q e h line = rw e (h line)
 
@@ -80,7 +60,7 @@ finish_fault outside before (Err f) e h = let same : f ≡ e = cc in inr (ap (λ
 finish_fault closed before (Err f) e h = let same : f ≡ e = cc in inr (ap (λ x. Err x) same)
 finish_fault _ before (Err f) e h = let same : f ≡ e = cc in inr (ap (λ x. Err x) same)
 
-first : (o : OptionsView) (p : Place) (before : List GroupView) (ts : List TokenView) (ending : Result ℕ InfoFault) (e : InfoFault) → read_from o p before ts ending ≡ Err e → OfToken o p before ts e ⊎ OfEnd o p before ts ending e
+first : (o : OptionsView) (p : Place) (before : List GroupView) (ts : List TokenView) (ending : Result ℕ InfoFault) (e : InfoFault) → read_from o p before ts ending ≡ Err e → IsOfToken o p before ts e ⊎ IsOfEnd o p before ts ending e
 unfolding read_from
 first o p before [] ending e h = inr (record { faultless = none_faultless o p before; ends = finish_fault p before ending e h })
 first o p before (t ∷ ts) ending e h =
@@ -115,10 +95,6 @@ first o p before (t ∷ ts) ending e h =
       refuses = λ others end. rw g i;
     }))
 
-as_law : (o : OptionsView) (ts : List TokenView) (ending : Result ℕ InfoFault) (e : InfoFault) → OfToken o outside [] ts e ⊎ OfEnd o outside [] ts ending e → IsOfToken o ts e ⊎ IsOfEnd o ts ending e
-as_law o ts ending e (inl x) = inl (record { front = x.front; token = x.token; more = x.more; parts = x.parts; faultless = x.faultless; place = x.place; before = x.groups; reached = x.reached; is = x.is; refuses = x.refuses })
-as_law o ts ending e (inr x) = inr (record { faultless = x.faultless; ends = x.ends })
-
 refused_by : (o : OptionsView) (bytes : List ℕ) (e : InfoFault) (r : Result (List GroupView) InfoFault) → groups_of o bytes ≡ r → (r >>= λ groups. Ok (info_of o groups)) ≡ Err e → groups_of o bytes ≡ Err e
 refused_by o bytes e (Ok groups) is h = absurd cc
 refused_by o bytes e (Err f) is h = let same : f ≡ e = cc in is ∙ ap (λ x. Err x) same
@@ -128,4 +104,4 @@ unfolding information groups_of read
 refuses_first o bytes e h =
     by_test (nat_lt 1_048_576 (length bytes))
     (λ large. let f : ◌≡◌ {A = Result InfoView InfoFault} (Err (fault 1 TooLarge)) (Err e) = rw large at h in inl (grind (arith, nat_tests, large), cc))
-    (λ small. inr (ltb-false 1_048_576 (length bytes) small, as_law o (tokens_of 1 bytes).tokens (tokens_of 1 bytes).ending e (first o outside [] (tokens_of 1 bytes).tokens (tokens_of 1 bytes).ending e (refused_by o bytes e (groups_of o bytes) refl (rw small at h)))))
+    (λ small. inr (ltb-false 1_048_576 (length bytes) small, first o outside [] (tokens_of 1 bytes).tokens (tokens_of 1 bytes).ending e (refused_by o bytes e (groups_of o bytes) refl (rw small at h))))

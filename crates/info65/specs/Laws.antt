@@ -21,15 +21,15 @@ use Rattle.info65.specs.declared.information.range.RangeSpec.{RangeSpec}
 abbrev pub AcceptsFiles : Type 0
 AcceptsFiles = (o : OptionsView) (bytes : List ℕ) (info : InfoView) → (information o bytes ≡ Ok info) ↔ IsInformation o bytes info
 
--- These tokens have no fault, at any place: at their end only more can be missing.
-abbrev pub IsFaultless : OptionsView → List TokenView → Type 0
-IsFaultless o ts =
-    (line : ℕ) → ((groups : List GroupView) × (read_from o outside [] ts (Ok line) ≡ Ok groups))
-    ⊎ (read_from o outside [] ts (Ok line) ≡ Err (fault line Expected))
+-- From this place on, after these groups, these tokens have no fault: at their end only more can be missing.
+abbrev pub IsFaultless : OptionsView → Place → List GroupView → List TokenView → Type 0
+IsFaultless o p before ts =
+    (line : ℕ) → ((groups : List GroupView) × (read_from o p before ts (Ok line) ≡ Ok groups))
+    ⊎ (read_from o p before ts (Ok line) ≡ Err (fault line Expected))
 
 -- whatever follows these tokens, the fault is this
-abbrev pub Refuses : OptionsView → List TokenView → InfoFault → Type 0
-Refuses o ts e = (more : List TokenView) (ending : Result ℕ InfoFault) → read_from o outside [] (ts ++ more) ending ≡ Err e
+abbrev pub Refuses : OptionsView → Place → List GroupView → List TokenView → InfoFault → Type 0
+Refuses o p before ts e = (more : List TokenView) (ending : Result ℕ InfoFault) → read_from o p before (ts ++ more) ending ≡ Err e
 
 -- reading goes from one place, after some groups, over these tokens to another
 abbrev pub Reaches : OptionsView → Place → List GroupView → List TokenView → Place → List GroupView → Type 0
@@ -38,22 +38,22 @@ Reaches o p before (t ∷ ts) q after = (next : State) × (step o p before t ≡
 
 -- The fault of a token: those before it have none, and reading them goes to a place where the token has
 -- this fault; whatever follows, it is the refusal.
-pub record IsOfToken (o : OptionsView) (ts : List TokenView) (e : InfoFault) : Type 0 where
+pub record IsOfToken (o : OptionsView) (p : Place) (before : List GroupView) (ts : List TokenView) (e : InfoFault) : Type 0 where
   pub front : List TokenView
   pub token : TokenView
   pub more : List TokenView
   pub parts : ts ≡ front ++ token ∷ more
-  pub faultless : IsFaultless o front
+  pub faultless : IsFaultless o p before front
   pub place : Place
-  pub before : List GroupView
-  pub reached : Reaches o outside [] front place before
-  pub is : step o place before token ≡ Err e
-  pub refuses : Refuses o (front ++ token ∷ []) e
+  pub groups : List GroupView
+  pub reached : Reaches o p before front place groups
+  pub is : step o place groups token ≡ Err e
+  pub refuses : Refuses o p before (front ++ token ∷ []) e
 
 -- the fault of the end: the tokens have none, and where they end something is missing or a token has a
 -- fault of its own
-pub record IsOfEnd (o : OptionsView) (ts : List TokenView) (ending : Result ℕ InfoFault) (e : InfoFault) : Type 0 where
-  pub faultless : IsFaultless o ts
+pub record IsOfEnd (o : OptionsView) (p : Place) (before : List GroupView) (ts : List TokenView) (ending : Result ℕ InfoFault) (e : InfoFault) : Type 0 where
+  pub faultless : IsFaultless o p before ts
   pub ends : ((line : ℕ) × (ending ≡ Ok line) × (e ≡ fault line Expected)) ⊎ (ending ≡ Err e)
 
 -- The refusal of a text is that it is too large, or else the fault of the first token that has one, or
@@ -61,7 +61,7 @@ pub record IsOfEnd (o : OptionsView) (ts : List TokenView) (ending : Result ℕ 
 abbrev pub RefusesFirst : Type 0
 RefusesFirst = (o : OptionsView) (bytes : List ℕ) (e : InfoFault) → information o bytes ≡ Err e
     → ((1_048_576 < length bytes) × (e ≡ fault 1 TooLarge))
-    ⊎ ((length bytes ≤ 1_048_576) × (IsOfToken o (tokens_of 1 bytes).tokens e ⊎ IsOfEnd o (tokens_of 1 bytes).tokens (tokens_of 1 bytes).ending e))
+    ⊎ ((length bytes ≤ 1_048_576) × (IsOfToken o outside [] (tokens_of 1 bytes).tokens e ⊎ IsOfEnd o outside [] (tokens_of 1 bytes).tokens (tokens_of 1 bytes).ending e))
 
 -- no attribute stands twice
 abbrev pub AreOnce : List AssignmentView → Type 0
