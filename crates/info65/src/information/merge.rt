@@ -21,7 +21,7 @@ use isa65::Cpu;
 use std::alloc::Allocator;
 
 /// The settings that options and the groups GLOBAL give: what the command line gives wins.
-#[tactic(auto, unfolding(crate::specs::Settings::settings_of))]
+#[tactic(auto, unfolding(crate::specs::Settings::settings_of, crate::specs::Attributes::form_of))]
 pub fn settings_of<'a, A: Allocator + Copy, B: Allocator>(
     alloc: A,
     options: &Options<B>,

@@ -1,4 +1,4 @@
-use Rattle.std.proofs.Common.{◌∙◌, ◌≤◌, ℕ, ap, arith, map, refl, subst, sym}
+use Rattle.std.proofs.Common.{◌∙◌, ◌≤◌, ℕ, ap, map, refl, subst, sym}
 use Rattle.std.specs.Prelude.{IfSome, Option}
 use Rattle.std.specs.Option.{option_or, unwrap_or}
 use Rattle.info65.specs.Code.Groups.{group_seen}
@@ -18,30 +18,6 @@ first_name-requires g c = lent_name _ _ (c.as_name-input_given.ensures ∙ ap as
 pub first_name-requires-2 : goal.first_name-requires-2
 unfolding form_of
 first_name-requires-2 g c = lent_name _ _ (c.as_name-output_given.ensures ∙ ap as_name c.global_value-2.ensures) (file_name_formed attribute.OutputName (global_given (map group_seen c.args.groups.now)) refl c.requires)
-
-pub number_of-requires-clause-small : goal.number_of-requires-clause-small
-unfolding form_of
-number_of-requires-clause-small g c = omega arith
-
-pub number_of-requires-2-clause-small : goal.number_of-requires-2-clause-small
-unfolding form_of
-number_of-requires-2-clause-small g c = omega arith
-
-pub number_of-requires-3-clause-small : goal.number_of-requires-3-clause-small
-unfolding form_of
-number_of-requires-3-clause-small g c = omega arith
-
-pub number_of-requires-4-clause-small : goal.number_of-requires-4-clause-small
-unfolding form_of
-number_of-requires-4-clause-small g c = omega arith
-
-pub number_of-requires-5-clause-small : goal.number_of-requires-5-clause-small
-unfolding form_of
-number_of-requires-5-clause-small g c = omega arith
-
-pub number_of-requires-6-clause-small : goal.number_of-requires-6-clause-small
-unfolding form_of
-number_of-requires-6-clause-small g c = omega arith
 
 pub invariant_of-result : goal.invariant_of-result
 unfolding settings_of
