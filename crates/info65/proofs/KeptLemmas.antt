@@ -1,5 +1,5 @@
 -- What is kept of closed groups says what all of them say.
-use Rattle.std.proofs.Common.{◌≡◌, ◌∙◌, List, [], ◌∷◌, ◌++◌, ap, ap₂, length, refl}
+use Rattle.std.proofs.Common.{◌≡◌, ◌∙◌, List, [], ◌∷◌, ◌++◌, ap, ap₂, length, refl, sym}
 use Rattle.std.specs.Prelude.{nat_lt}
 use Rattle.std.specs.List.{flat_map}
 use Rattle.std.proofs.lemmas.Grind.{flat_map-append}
@@ -17,34 +17,27 @@ pub kept_more : (before : List GroupView) (g : GroupView) → kept_of (before ++
 unfolding kept_of
 kept_more before g = flat_map-append kept_part before (g ∷ []) ∙ ap (λ l. flat_map kept_part before ++ l) (append-nil (kept_part g))
 
--- what is said by the kept group alone is said by the kept groups
-kept_says : {X : Type 0} (f : GroupView → List X) → ((k : GroupKind) (given : List AssignmentView) → flat_map f (kept_part (record { kind = k; given = given })) ≡ f (record { kind = k; given = given })) → (gs : List GroupView) → flat_map f (flat_map kept_part gs) ≡ flat_map f gs
-kept_says f same [] = refl
-kept_says f same (g ∷ gs) = flat_map-append f (kept_part g) (flat_map kept_part gs) ∙ ap₂ (λ a b. a ++ b) (same g.kind g.given) (kept_says f same gs)
+-- the kept groups say what all of them do, if groups RANGE and LABEL say nothing
+kept_says : {X : Type 0} (f : GroupView → List X) → ((given : List AssignmentView) → (f (record { kind = kind.Range; given = given }) ≡ []) × (f (record { kind = kind.Label; given = given }) ≡ [])) → (gs : List GroupView) → flat_map f (flat_map kept_part gs) ≡ flat_map f gs
+kept_says f none [] = refl
+kept_says f none (g ∷ gs) = flat_map-append f (kept_part g) (flat_map kept_part gs) ∙ ap₂ (λ a b. a ++ b) (same g.kind g.given) (kept_says f none gs)
+  where
+    same : (k : GroupKind) (given : List AssignmentView) → flat_map f (kept_part (record { kind = k; given = given })) ≡ f (record { kind = k; given = given })
+    same kind.Range given = sym (none given).0
+    same kind.Label given = sym (none given).1
+    same k given = append-nil (f (record { kind = k; given = given }))
 
 pub global_kept : (gs : List GroupView) → global_given (kept_of gs) ≡ global_given gs
 unfolding global_given kept_of
-global_kept gs = kept_says global_part same gs
-  where
-    same : (k : GroupKind) (given : List AssignmentView) → flat_map global_part (kept_part (record { kind = k; given = given })) ≡ global_part (record { kind = k; given = given })
-    same kind.Global given = append-nil given
-    same _ given = refl
+global_kept gs = kept_says global_part (λ given. (refl, refl)) gs
 
 pub segments_kept : (gs : List GroupView) → segments_of (kept_of gs) ≡ segments_of gs
 unfolding segments_of kept_of
-segments_kept gs = kept_says segment_part same gs
-  where
-    same : (k : GroupKind) (given : List AssignmentView) → flat_map segment_part (kept_part (record { kind = k; given = given })) ≡ segment_part (record { kind = k; given = given })
-    same kind.Segment given = append-nil (segment_part (record { kind = kind.Segment; given = given }))
-    same _ given = refl
+segments_kept gs = kept_says segment_part (λ given. (refl, refl)) gs
 
 pub includes_kept : (gs : List GroupView) → includes_of (kept_of gs) ≡ includes_of gs
 unfolding includes_of kept_of
-includes_kept gs = kept_says include_part same gs
-  where
-    same : (k : GroupKind) (given : List AssignmentView) → flat_map include_part (kept_part (record { kind = k; given = given })) ≡ include_part (record { kind = k; given = given })
-    same kind.Include given = append-nil (include_part (record { kind = kind.Include; given = given }))
-    same _ given = refl
+includes_kept gs = kept_says include_part (λ given. (refl, refl)) gs
 
 -- so the tests of an attribute need no other groups
 
@@ -67,8 +60,6 @@ formed_kept [] f = f
 formed_kept (g ∷ gs) f = more g.kind g.given f.0 (formed_kept gs f.1)
   where
     more : (k : GroupKind) (given : List AssignmentView) → AreFormed given → AreAllFormed (kept_of gs) → AreAllFormed (kept_part (record { kind = k; given = given }) ++ kept_of gs)
-    more kind.Global given f rest = (f, rest)
     more kind.Range given f rest = rest
     more kind.Label given f rest = rest
-    more kind.Segment given f rest = (f, rest)
-    more kind.Include given f rest = (f, rest)
+    more _ given f rest = (f, rest)
