@@ -1,10 +1,10 @@
 -- Groups RANGE after those of a file: both are accepted, and say what the file says, with the ranges of those groups besides.
-use Rattle.std.proofs.Common.{◌≡◌, ◌∙◌, ◌≤◌, ℕ, zero, suc, Bool, true, false, List, [], ◌∷◌, ◌++◌, append_assoc, ap, arith, length, map, refl, sym, subst}
+use Rattle.std.proofs.Common.{◌≡◌, ◌∙◌, ◌≤◌, ℕ, Bool, true, false, List, [], ◌∷◌, ◌++◌, append_assoc, ap, arith, length, map, refl, sym, subst}
 use Rattle.std.specs.Prelude.{All, None, Result, Ok, Err, IsOk}
 use Rattle.std.specs.List.{flat_map, list_any}
 use Rattle.std.proofs.lemmas.Bool.{le-leb}
 use Rattle.std.proofs.lemmas.List.{append-nil}
-use Rattle.std.proofs.lemmas.List.Elements.{All-append}
+use Rattle.std.proofs.lemmas.List.Elements.{All-push}
 use Rattle.std.proofs.lemmas.List.Folds.{Any-from_list_any, list_any_at}
 use Rattle.std.proofs.lemmas.Grind.{flat_map-append}
 use Rattle.info65.specs.Closing.{closing_fault}
@@ -88,12 +88,8 @@ added-groups before old (r ∷ rs) is ordered added =
     let first = added.0 in
     let none : list_any (overlaps r) (ranges_of before) ≡ false = sym (ap (λ l. list_any (overlaps r) l) is) ∙ overlap-none r old ordered first in (
       record { new = range-new before r; closes = range-closes before r first.ordered first.low none },
-      added-groups (before ++ range_group r ∷ []) (old ++ r ∷ []) rs (ap (λ l. l ++ r ∷ []) is ∙ sym (ranges-of-more before r first.ordered first.low)) (All-append (λ q. q.first ≤ q.last) old (r ∷ []) ordered (one-ordered r first.ordered)) added.1,
+      added-groups (before ++ range_group r ∷ []) (old ++ r ∷ []) rs (ap (λ l. l ++ r ∷ []) is ∙ sym (ranges-of-more before r first.ordered first.low)) (All-push (λ (q : RangeSpec). q.first ≤ q.last) old r ordered first.ordered) added.1,
     )
-  where
-    one-ordered : (r : RangeSpec) → r.first ≤ r.last → All (λ (q : RangeSpec). q.first ≤ q.last) (r ∷ [])
-    one-ordered r is zero d below = is
-    one-ordered r is (suc k) d below = absurd (omega (arith, below))
 
 -- ---- what all groups say
 

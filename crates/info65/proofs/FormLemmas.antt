@@ -4,6 +4,7 @@ use Rattle.std.specs.Prelude.{IfOk, IfSome, option_map, Option, Some, None, Resu
 use Rattle.std.specs.List.{flat_map}
 use Rattle.std.specs.Option.{option_or, unwrap_or}
 use Rattle.std.proofs.lemmas.Bool.Decides.{nat_tests}
+use Rattle.std.proofs.lemmas.List.{append-nil}
 use denote.Bor.{Bor}
 use denote.Enum.Bare.{same_true}
 use Rattle.text65.specs.Names.{has_name_form}
@@ -11,11 +12,11 @@ use Rattle.info65.specs.contracts.syntax.attribute.Attribute as attribute_type
 use Rattle.info65.specs.Code.Groups.{IsAtMost}
 use Rattle.info65.specs.Attributes.{boolean_named, form_of, type_named}
 use Rattle.isa65.specs.Cpu.{cpu_named}
-use Rattle.info65.specs.Grammar.{Item, Spells, end_items, given_items, group_items, without_marks}
+use Rattle.info65.specs.Grammar.{Accepts, AreGroups, IsGroup, Item, Spells, end_items, given_items, group_items, without_marks}
 use Rattle.info65.specs.Groups.{AreAllFormed, AreFormed, AssignmentView, GroupView, global_given, global_part, is_of, value_in}
 use Rattle.info65.specs.Lexemes.{KindView, character, number, string, word}
 use Rattle.info65.specs.Names.{has_comment_form}
-use Rattle.info65.specs.Reader.{groups_of, read}
+use Rattle.info65.specs.Reader.{group, groups_of, read}
 use Rattle.info65.specs.Settings.{settings_of}
 use Rattle.info65.specs.Tokens.{TokenView, tokens_of}
 use Rattle.info65.specs.Values.{HasForm, ValueView, a_number, a_name, as_name, as_number, boolean_of, boolean_value, comment_value, cpu_value, in_form, is_file_name, is_on_command_line, label_value, name_value, type_value, value_of}
@@ -112,21 +113,33 @@ part_formed : (k : GroupKind) (given : List AssignmentView) → AreFormed given 
 part_formed group_kind.Global given h = h
 part_formed _ given h = tt
 
-all_formed : (groups : List GroupView) → AreAllFormed groups → AreFormed (global_given groups)
+-- so has what the groups GLOBAL give
+pub all_formed : (groups : List GroupView) → AreAllFormed groups → AreFormed (global_given groups)
 unfolding global_given
 all_formed [] h = tt
 all_formed (g ∷ gs) h = append_formed (global_part g) (global_given gs) (part_formed g.kind g.given h.0) (all_formed gs h.1)
 
--- what the groups of an accepted text give has the form of its attribute
-pub read_all_formed : (o : OptionsView) (bytes : List ℕ) (groups : List GroupView) → groups_of o bytes ≡ Ok groups → AreAllFormed groups
-unfolding groups_of read
-read_all_formed o bytes groups e =
-    let a = groups_accepted o (tokens_of 1 bytes).tokens (tokens_of 1 bytes).ending groups e in
-    rw a.1.of at (groups_formed o a.1.spelling (tokens_of 1 bytes).tokens a.1.spelled)
+-- groups that are read of a text: they keep every condition, and what they give has the form of its attribute
+pub record AreRead (groups : List GroupView) : Type 0 where
+  pub keeps : AreGroups [] groups
+  pub formed : AreAllFormed groups
 
--- what the groups GLOBAL of an accepted text give has the form of its attribute
-pub read_formed : (o : OptionsView) (bytes : List ℕ) (groups : List GroupView) → groups_of o bytes ≡ Ok groups → AreFormed (global_given groups)
-read_formed o bytes groups e = all_formed groups (read_all_formed o bytes groups e)
+pub accepted_read : (o : OptionsView) (ts : List TokenView) (groups : List GroupView) → Accepts o ts groups → AreRead groups
+accepted_read o ts groups a = record { keeps = a.keeps; formed = rw a.of at (groups_formed o a.spelling ts a.spelled) }
+
+pub text_read : (o : OptionsView) (bytes : List ℕ) (groups : List GroupView) → groups_of o bytes ≡ Ok groups → AreRead groups
+unfolding groups_of read
+text_read o bytes groups e = accepted_read o (tokens_of 1 bytes).tokens groups (groups_accepted o (tokens_of 1 bytes).tokens (tokens_of 1 bytes).ending groups e).1
+
+groups_keep : (P : List GroupView → Type 0) → ((before : List GroupView) (k : GroupKind) (given : List AssignmentView) → IsGroup before (group k given) → AreFormed given → P before → P (before ++ group k given ∷ []))
+    → (before gs : List GroupView) → AreGroups before gs → AreAllFormed gs → P before → P (before ++ gs)
+groups_keep P more before [] h f p = rw (append-nil before) p
+groups_keep P more before (g ∷ gs) h f p = rw (append_assoc before (g ∷ []) gs) at (groups_keep P more (before ++ g ∷ []) gs h.1 f.1 (more before g.kind g.given h.0 f.0 p))
+
+-- what holds of no groups, and with each group more, holds of them
+pub read_keeps : (P : List GroupView → Type 0) → ((before : List GroupView) (k : GroupKind) (given : List AssignmentView) → IsGroup before (group k given) → AreFormed given → P before → P (before ++ group k given ∷ []))
+    → P [] → (groups : List GroupView) → AreRead groups → P groups
+read_keeps P more none groups r = groups_keep P more [] groups r.keeps r.formed none
 
 pub found_formed : (a : Attribute) (given : List AssignmentView) → AreFormed given → IfSome (value_in a given) (HasForm (form_of a))
 unfolding value_in

@@ -2,24 +2,26 @@
 use Rattle.std.proofs.Common.{◌≡◌, ◌≢◌, ◌∙◌, ◌+◌, ◌≤◌, ℕ, Bool, List, [], ◌∷◌, ◌++◌, true, false, ap, append_assoc, arith, get_or, inl, inr, length, refl, subst, sym}
 use Rattle.std.specs.Prelude.{All, Option, Some, None, Result, Ok, Err, nat_lt, option_to_list}
 use Rattle.std.specs.List.{list_all, list_any}
-use Rattle.std.proofs.lemmas.Bool.{eq-eqb, eqb-true, ltb-false, ne_eqb}
+use Rattle.std.proofs.lemmas.Bool.{and_parts, eq-eqb, eqb-true, lt-ltb, ltb-false, ne_eqb}
 use Rattle.std.proofs.lemmas.Bool.Decides.{nat_tests}
 use Rattle.std.proofs.lemmas.List.{append-nil}
-use Rattle.std.proofs.lemmas.List.Folds.{Any-from_list_any, list_any-from_Any}
+use Rattle.std.proofs.lemmas.List.Folds.{Any-from_list_any, list_any-from_Any, list_any_none}
 use Rattle.text65.specs.Lines.{text_lines}
-use Rattle.text65.specs.Names.{is_blank}
+use Rattle.text65.specs.Names.{has_name_form, is_blank, is_word_byte}
 use Rattle.info65.specs.Faults.{fault}
-use Rattle.info65.specs.IncludeLaws.{AreAdded, IncludedNames, IsIncluded, IsPassedOver, IsRefused, IsSpelling, LineAdds}
-use Rattle.info65.specs.Includes.{assignment_in, unless_ignored, line_adds, line_in, name_adds, names_included, names_with, optional_adds, or_bad, without_comment}
-use Rattle.info65.specs.Labels.{by_address, is_at, is_elsewhere}
-use Rattle.info65.specs.Names.{is_reserved}
+use Rattle.info65.specs.IncludeLaws.{AreAdded, IncludedNames, IsIncluded, IsPassedOver, IsRefused, IsFirstFault, IsSpelling, LineAdds, WritesAddress}
+use Rattle.info65.specs.Includes.{assignment_in, is_identifier, unless_ignored, line_adds, line_in, name_adds, names_included, names_with, optional_adds, or_bad, without_comment}
+use Rattle.info65.specs.Labels.{by_address, is_at, is_elsewhere, name_fault}
+use Rattle.info65.specs.Lexemes.{starts_word}
+use Rattle.info65.specs.Names.{AreGiven, IsName, is_reserved}
 use Rattle.info65.specs.Views.{IncludeView, NameView}
 use Rattle.info65.specs.declared.fault.InfoFault.{InfoFault}
 use Rattle.info65.specs.declared.fault.InfoFaultKind.{InfoFaultKind}
 use Rattle.info65.specs.declared.fault.InfoFaultKind.TheVariants.{BadInclude, BadName, NameTwice, ReservedName, TooLarge}
-use Rattle.info65.proofs.Cases.{by_result, by_test, same_ok}
-use Rattle.info65.proofs.IncludedLemmas.{adds_elsewhere, adds_it, adds_nothing}
-use Rattle.info65.proofs.NameFaultLemmas.{all_miss, at_miss, elsewhere_hit, elsewhere_miss, free_is, hit_elsewhere, is_free, miss_elsewhere, none_hit}
+use Rattle.info65.proofs.Cases.{by_result, by_test, same_ok, same_some}
+use Rattle.info65.proofs.IndexLemmas.{no_fault}
+use Rattle.info65.proofs.NamesLemmas.{one_more}
+use Rattle.info65.proofs.NameFaultLemmas.{is_fault, all_miss, at_miss, elsewhere_hit, elsewhere_miss, free_is, hit_elsewhere, is_free, miss_elsewhere}
 use Rattle.info65.proofs.ReservedLemmas.{reserved_names}
 use Rattle.info65.proofs.SpellingLemmas.{lines_spelled}
 
@@ -28,35 +30,28 @@ Added = Result (Option NameView) InfoFaultKind
 
 -- ---- a name
 
-adds_long : (names : List NameView) (n : NameView) → nat_lt 80 (length n.text) ≡ true → name_adds names n ≡ Err BadName
-unfolding name_adds
-adds_long names n long = rw long refl
-
-adds_reserved : (names : List NameView) (n : NameView) → nat_lt 80 (length n.text) ≡ false → is_reserved n.address n.text ≡ true → name_adds names n ≡ Err ReservedName
-unfolding name_adds
-adds_reserved names n short hit = rw (short, hit) refl
-
 name_is : (c : ℕ) (names : List NameView) (line : List ℕ) (n : NameView) → IsSpelling c line n → LineAdds c names line (name_adds names n)
+unfolding name_adds
 name_is c names line n spells =
     by_test (nat_lt 80 (length n.text))
-    (λ long. subst (LineAdds c names line) (sym (adds_long names n long)) (n, spells, grind (arith, nat_tests, long)))
+    (λ long. rw long (n, spells, grind (arith, nat_tests, long)))
     (λ short.
     let few : length n.text ≤ 80 = ltb-false 80 (length n.text) short in
     by_test (is_reserved n.address n.text)
-    (λ hit. subst (LineAdds c names line) (sym (adds_reserved names n short hit)) (n, spells, few, (reserved_names n.address n.text).0 hit))
+    (λ hit. rw (short, hit) (n, spells, few, (reserved_names n.address n.text).0 hit))
     (λ miss.
     let free = free_is n miss in
     by_test (list_any (is_at n.address) names)
     (λ taken.
     let x = Any-from_list_any (is_at n.address) names taken in
-    subst (LineAdds c names line) (sym (adds_nothing names n short miss taken)) (inr (n, spells, few, free, (x.0, x.1, x.2, x.3, eqb-true x.1.address n.address x.4))))
+    rw (short, miss, taken) (inr (n, spells, few, free, (x.0, x.1, x.2, x.3, eqb-true x.1.address n.address x.4))))
     (λ untaken.
     let apart : All (λ m. m.address ≢ n.address) names = λ k d l. at_miss n (get_or names k d) (all_miss (is_at n.address) names untaken k d l) in
     by_test (list_any (is_elsewhere n) names)
     (λ twice.
     let x = Any-from_list_any (is_elsewhere n) names twice in
-    subst (LineAdds c names line) (sym (adds_elsewhere names n short miss untaken twice)) (n, spells, few, free, apart, (x.0, x.1, x.2, x.3, (elsewhere_hit n x.1 x.4).0)))
-    (λ once. subst (LineAdds c names line) (sym (adds_it names n short miss untaken once))
+    rw (short, miss, untaken, twice) (n, spells, few, free, apart, (x.0, x.1, x.2, x.3, (elsewhere_hit n x.1 x.4).0)))
+    (λ once. rw (short, miss, untaken, once)
     (spells, few, free, λ k d l. (λ same. apart k d l (elsewhere_miss n (get_or names k d) (all_miss (is_elsewhere n) names once k d l) same), apart k d l))))))
 
 -- ---- a line
@@ -95,32 +90,39 @@ is_short : (n : NameView) → length n.text ≤ 80 → nat_lt 80 (length n.text)
 is_short n few = grind (arith, nat_tests, few)
 
 is_line : (c : ℕ) (names : List NameView) (line : List ℕ) (r : Added) → LineAdds c names line r → optional_adds names (line_in c line) ≡ r
+unfolding name_adds
 is_line c names line (Ok None) (inl blank) = ap (optional_adds names) ((lines_spelled c line).empty.1 blank)
 is_line c names line (Ok None) (inr h) =
     let n : NameView = h.0 in
     let x = h.4 in
-    spelled c names line n h.1 ∙ adds_nothing names n (is_short n h.2) (is_free n h.3) (list_any-from_Any (is_at n.address) names (x.0, x.1, x.2, x.3, eq-eqb x.1.address n.address x.4))
+    spelled c names line n h.1 ∙ rw (is_short n h.2, is_free n h.3, list_any-from_Any (is_at n.address) names (x.0, x.1, x.2, x.3, eq-eqb x.1.address n.address x.4)) refl
 is_line c names line (Ok (Some n)) h =
     spelled c names line n h.0
-    ∙ adds_it names n (is_short n h.1) (is_free n h.2)
-    (none_hit (is_at n.address) names (λ k d l. ne_eqb (get_or names k d).address n.address (h.3 k d l).1))
-    (none_hit (is_elsewhere n) names (λ k d l. miss_elsewhere n (get_or names k d) (λ same. absurd ((h.3 k d l).0 same))))
+    ∙ rw (
+      is_short n h.1,
+      is_free n h.2,
+      list_any_none (is_at n.address) names (λ k d l. ne_eqb (get_or names k d).address n.address (h.3 k d l).1),
+      list_any_none (is_elsewhere n) names (λ k d l. miss_elsewhere n (get_or names k d) (λ same. absurd ((h.3 k d l).0 same))),
+    ) refl
 is_line c names line (Err BadInclude) h = by_line (line_in c line) refl
   where
     by_line : (r : Added) → line_in c line ≡ r → optional_adds names (line_in c line) ≡ Err BadInclude
     by_line (Ok None) e = absurd (h.0 ((lines_spelled c line).empty.0 e))
     by_line (Ok (Some n)) e = absurd (h.1 n (((lines_spelled c line).gives n).0 e))
     by_line (Err f) e = ap (optional_adds names) (e ∙ ap (λ (g : InfoFaultKind). Err g) (line_bad c line f e))
-is_line c names line (Err BadName) h = spelled c names line h.0 h.1 ∙ adds_long names h.0 (let long = h.2 in grind (arith, nat_tests, long))
-is_line c names line (Err ReservedName) h = spelled c names line h.0 h.1 ∙ adds_reserved names h.0 (is_short h.0 h.2) ((reserved_names h.0.address h.0.text).1 h.3)
+is_line c names line (Err BadName) h = let long : nat_lt 80 (length h.0.text) ≡ true = lt-ltb 80 (length h.0.text) h.2 in spelled c names line h.0 h.1 ∙ rw long refl
+is_line c names line (Err ReservedName) h = spelled c names line h.0 h.1 ∙ rw (is_short h.0 h.2, (reserved_names h.0.address h.0.text).1 h.3) refl
 is_line c names line (Err NameTwice) h =
     let n : NameView = h.0 in
     let x = h.5 in
     let apart : x.1.address ≢ n.address = subst (λ (m : NameView). m.address ≢ n.address) x.3 (h.4 x.0 x.1 x.2) in
     spelled c names line n h.1
-    ∙ adds_elsewhere names n (is_short n h.2) (is_free n h.3)
-    (none_hit (is_at n.address) names (λ k d l. ne_eqb (get_or names k d).address n.address (h.4 k d l)))
-    (list_any-from_Any (is_elsewhere n) names (x.0, x.1, x.2, x.3, hit_elsewhere n x.1 (x.4, apart)))
+    ∙ rw (
+      is_short n h.2,
+      is_free n h.3,
+      list_any_none (is_at n.address) names (λ k d l. ne_eqb (get_or names k d).address n.address (h.4 k d l)),
+      list_any-from_Any (is_elsewhere n) names (x.0, x.1, x.2, x.3, hit_elsewhere n x.1 (x.4, apart)),
+    ) refl
 is_line c names line (Err _) h = absurd h
 
 -- ---- a line of a file
@@ -151,6 +153,49 @@ by_line {P} i names l pass add bad = go (optional_adds names (line_in i.comment_
     go (Ok None) h = pass (inl h)
     go (Ok (Some n)) h = add n h
     go (Err f) h = by_test i.ignore_unknown (λ on. pass (inr (on, (f, h)))) (λ off. bad f off h)
+
+-- ---- names that lines add
+
+identified : (text : List ℕ) → is_identifier text ≡ true → nat_lt 80 (length text) ≡ false → has_name_form text ≡ true
+unfolding is_identifier has_name_form
+identified [] h short = absurd cc
+identified (b ∷ bs) h short =
+    let e = and_parts (starts_word b) (list_all is_word_byte bs) h in
+    let low : nat_lt (length bs) 80 ≡ true = grind (arith, nat_tests, short) in
+    rw (e.0, e.1, low) refl
+
+written_low : (value : List ℕ) (a : ℕ) → WritesAddress value a → a ≤ 0xFFFF
+written_low value a (inl w) = w.in_range
+written_low value a (inr (inl w)) = w.2.in_range
+written_low value a (inr (inr w)) = w.2.in_range
+
+-- a name that a line adds to these names
+pub record Joins (names : List NameView) (n : NameView) : Type 0 where
+  pub fine : name_fault names n ≡ None
+  pub is : IsName n
+
+joins : (c : ℕ) (names : List NameView) (line : List ℕ) (n : NameView) → LineAdds c names line (Ok (Some n)) → Joins names n
+joins c names line n h =
+    let a = h.0.assignment in
+    let low = written_low a.value n.address a.written in
+    let size = ap (λ (x : NameView). x.size) a.plain in
+    record {
+      fine = is_fault names n None (h.2, h.3);
+      is = record {
+        sized = omega (arith, size);
+        room = omega (arith, size, low);
+        form = identified n.text a.form (is_short n h.1);
+        free = is_free n h.2;
+        comment = rw (ap (λ (x : NameView). x.comment) a.plain) tt;
+      };
+    }
+
+pub line_joins : (i : IncludeView) (k : ℕ) (names : List NameView) (l : List ℕ) (n : NameView) → line_adds i k names l ≡ Ok (Some n) → Joins names n
+line_joins i k names l n h =
+    by_line i names l
+    (λ p. let e : ◌≡◌ {A = Result (Option NameView) InfoFault} (Ok None) (Ok (Some n)) = sym (passes i k names l p) ∙ h in absurd cc)
+    (λ m a. subst (Joins names) (same_some (same_ok (sym (adds i k names l m a) ∙ h))) (joins i.comment_start names l m a))
+    (λ f off a. let e : ◌≡◌ {A = Result (Option NameView) InfoFault} (Err (fault k f)) (Ok (Some n)) = sym (fails i k names l f off a) ∙ h in absurd cc)
 
 -- ---- the lines of a file
 
@@ -185,6 +230,17 @@ with_added i k names (l ∷ ls) all h =
     record { added = n ∷ w.added; are = inr (a, w.are); is = w.is ∙ append_assoc names (n ∷ []) w.added })
     (λ f off a. let e : ◌≡◌ {A = Result (List NameView) InfoFault} (Err (fault k f)) (Ok all) = sym (next_bad i k names l ls (fault k f) (fails i k names l f off a)) ∙ h in absurd cc)
 
+added_given : (i : IncludeView) (names : List NameView) (ls : List (List ℕ)) (added : List NameView) → AreAdded i names ls added → AreGiven names → AreGiven (names ++ added)
+added_given i names [] added h g = rw (h, append-nil names) g
+added_given i names (l ∷ ls) [] h g = added_given i names ls [] h.1 g
+added_given i names (l ∷ ls) (n ∷ ns) (inl h) g = added_given i names ls (n ∷ ns) h.1 g
+added_given i names (l ∷ ls) (n ∷ ns) (inr h) g =
+    let j = joins i.comment_start names l n h.0 in
+    rw (append_assoc names (n ∷ []) ns) at (added_given i (names ++ n ∷ []) ls ns h.1 (one_more names n g j.is (no_fault names n j.fine)))
+
+pub all_given : (i : IncludeView) (k : ℕ) (names : List NameView) (ls : List (List ℕ)) (all : List NameView) → AreGiven names → names_with i k names ls ≡ Ok all → AreGiven all
+all_given i k names ls all g h = let w = with_added i k names ls all h in rw w.is (added_given i names ls w.added w.are g)
+
 added_with : (i : IncludeView) (k : ℕ) (names : List NameView) (ls : List (List ℕ)) (added : List NameView) → AreAdded i names ls added → names_with i k names ls ≡ Ok (names ++ added)
 unfolding names_with
 added_with i k names [] added h = ap (λ (ns : List NameView). Ok ns) (sym (ap (λ (ns : List NameView). names ++ ns) h ∙ append-nil names))
@@ -193,20 +249,7 @@ added_with i k names (l ∷ ls) (n ∷ ns) (inl h) = next_passed i k names l ls 
 added_with i k names (l ∷ ls) (n ∷ ns) (inr h) =
     next i k names l ls (Some n) (adds i k names l n h.0) ∙ added_with i (k + 1) (names ++ n ∷ []) ls ns h.1 ∙ ap (λ (all : List NameView). Ok all) (append_assoc names (n ∷ []) ns)
 
--- the first line that has a fault, if the number of the first line is k
-record First (i : IncludeView) (k : ℕ) (names : List NameView) (lines : List (List ℕ)) (e : InfoFault) : Type 0 where
-  front : List (List ℕ)
-  line : List ℕ
-  rest : List (List ℕ)
-  parts : lines ≡ front ++ line ∷ rest
-  added : List NameView
-  are : AreAdded i names front added
-  heeded : i.ignore_unknown ≡ false
-  kind : InfoFaultKind
-  has : LineAdds i.comment_start (names ++ added) line (Err kind)
-  is : e ≡ fault (k + length front) kind
-
-first : (i : IncludeView) (k : ℕ) (names : List NameView) (ls : List (List ℕ)) (e : InfoFault) → names_with i k names ls ≡ Err e → First i k names ls e
+first : (i : IncludeView) (k : ℕ) (names : List NameView) (ls : List (List ℕ)) (e : InfoFault) → names_with i k names ls ≡ Err e → IsFirstFault i k names ls e
 unfolding names_with
 first i k names [] e h = absurd cc
 first i k names (l ∷ ls) e h =
@@ -304,23 +347,7 @@ is_refused i names bytes e h =
     (λ more g. let wrong : ◌≡◌ {A = Result (List NameView) InfoFault} (Ok (by_address more)) (Err e) = rw (small, g) at h in absurd cc)
     (λ f g.
     let same : ◌≡◌ {A = Result (List NameView) InfoFault} (Err f) (Err e) = rw (small, g) at h in
-    let w = first i 1 names (text_lines bytes) e (g ∙ same) in
-    let number : 1 + length w.front ≡ length w.front + 1 = omega arith in
-    inr (
-      ltb-false 1_048_576 (length bytes) small,
-      record {
-        front = w.front;
-        line = w.line;
-        rest = w.rest;
-        parts = w.parts;
-        added = w.added;
-        are = w.are;
-        heeded = w.heeded;
-        kind = w.kind;
-        has = w.has;
-        is = w.is ∙ ap (λ (m : ℕ). fault m w.kind) number;
-      },
-    )))
+    inr (ltb-false 1_048_576 (length bytes) small, first i 1 names (text_lines bytes) e (g ∙ same))))
 
 refused_is : (i : IncludeView) (names : List NameView) (bytes : List ℕ) (e : InfoFault) → IsRefused i names bytes e → names_included i names bytes ≡ Err e
 unfolding names_included
@@ -332,9 +359,8 @@ refused_is i names bytes e (inr h) =
     let low = h.0 in
     let s = h.1 in
     let small : nat_lt 1_048_576 (length bytes) ≡ false = grind (arith, nat_tests, low) in
-    let number : 1 + length s.front ≡ length s.front + 1 = omega arith in
     let lines : names_with i 1 names (text_lines bytes) ≡ Err e =
-    ap (names_with i 1 names) s.parts ∙ first_with i 1 names s.front s.line s.rest s.added s.kind s.are s.heeded s.has ∙ ap (λ (m : ℕ). Err (fault m s.kind)) number ∙ ap (λ (x : InfoFault). Err x) (sym s.is) in
+    ap (names_with i 1 names) s.parts ∙ first_with i 1 names s.front s.line s.rest s.added s.kind s.are s.heeded s.has ∙ ap (λ (x : InfoFault). Err x) (sym s.is) in
     rw (small, lines) refl
 
 pub included_names : IncludedNames

@@ -1,12 +1,12 @@
 -- The include files of an accepted file.
-use Rattle.std.proofs.Common.{◌≡◌, ◌∙◌, ◌<◌, ◌≤◌, ◌+◌, ℕ, Bool, true, false, List, [], ◌∷◌, ◌++◌, zero, suc, ap, append_assoc, arith, drop, get_or, inl, inr, length, length-append, map, refl, subst, sym}
+use Rattle.std.proofs.Common.{◌≡◌, ◌∙◌, ◌<◌, ◌≤◌, ◌+◌, ℕ, Bool, true, false, List, [], ◌∷◌, ◌++◌, zero, suc, ap, arith, drop, get_or, inl, inr, length, length-append, map, refl, subst, sym}
 use Rattle.std.specs.Prelude.{All, IfSome, Option, Some, None, Result, Ok, Err}
 use Rattle.std.specs.List.{flat_map}
 use Rattle.std.specs.Option.{unwrap_or}
 use Rattle.std.proofs.lemmas.Bool.{ltb-true}
 use Rattle.std.proofs.lemmas.Grind.{flat_map-append}
 use Rattle.std.proofs.lemmas.List.{append-nil, at_drop_all, at_drop_more}
-use Rattle.std.proofs.lemmas.List.Elements.{All-append}
+use Rattle.std.proofs.lemmas.List.Elements.{All-append, All-cons, All-nil}
 use denote.Enum.Bare.{same_true}
 use Rattle.info65.specs.contracts.syntax.attribute.Attribute as attribute_type
 use Rattle.info65.specs.Attributes.{form_of}
@@ -16,10 +16,9 @@ use Rattle.info65.specs.Grammar.{AreGroups, AreNew}
 use Rattle.info65.specs.Groups.{AreAllFormed, AreFormed, AssignmentView, GroupView, is_of, value_in}
 use Rattle.info65.specs.IncludeGroups.{AreIncludes, has_room, include_from, include_in, include_part, includes_of}
 use Rattle.info65.specs.IncludeLaws.{AreSaid, IncludesSaid, IsGivenOr, SaysInclude}
-use Rattle.info65.specs.Reader.{groups_of, read}
 use Rattle.info65.specs.Tokens.{tokens_of}
 use Rattle.info65.specs.Values.{HasForm, ValueView, a_boolean, a_character, a_name, as_boolean, as_character, as_name, is_file_name}
-use Rattle.info65.specs.Views.{IncludeView, OptionsView}
+use Rattle.info65.specs.Views.{IncludeView}
 use Rattle.info65.specs.declared.syntax.assignment.Group.{Group}
 use Rattle.info65.specs.declared.syntax.attribute.Attribute.{Attribute}
 use Rattle.info65.specs.declared.syntax.attribute.Attribute.TheVariants as attribute
@@ -27,9 +26,8 @@ use Rattle.info65.specs.declared.syntax.attribute.Form.TheVariants as form
 use Rattle.info65.specs.declared.syntax.attribute.GroupKind.{GroupKind}
 use Rattle.info65.specs.declared.syntax.attribute.GroupKind.TheVariants as kind
 use Rattle.info65.specs.declared.fault.InfoFaultKind.{InfoFaultKind}
-use Rattle.info65.proofs.Accepting.{groups_accepted}
 use Rattle.info65.proofs.Cases.{by_test}
-use Rattle.info65.proofs.FormLemmas.{file_name_formed, found_formed, groups_formed}
+use Rattle.info65.proofs.FormLemmas.{AreRead, accepted_read, file_name_formed, found_formed, read_keeps}
 use Rattle.info65.proofs.SegmentLemmas.{text_is}
 
 -- the group at a place of the list is the next
@@ -47,13 +45,6 @@ includes_none gs i past = at_drop_all (λ l. includes_of (map group_seen l)) gs 
 abbrev Named : List IncludeView → Type 0
 Named is = All (λ i. is_file_name i.file ≡ true) is
 
-none_named : Named []
-none_named k d l = absurd (omega (arith, l))
-
-one_named : (i : IncludeView) → is_file_name i.file ≡ true → Named (i ∷ [])
-one_named i h zero d l = h
-one_named i h (suc k) d l = absurd (omega (arith, l))
-
 -- the file that a group ASMINC says has a file name
 pub named_in : (given : List AssignmentView) (i : IncludeView) → AreFormed given → include_in given ≡ Ok i → is_file_name i.file ≡ true
 unfolding include_in form_of
@@ -64,13 +55,13 @@ named_in given i f is = by_file (as_name (value_in attribute.File given)) (as_ch
     by_file None b o h e = absurd cc
 
 part_named : (k : GroupKind) (given : List AssignmentView) (x : Result IncludeView InfoFaultKind) → AreFormed given → include_in given ≡ x → Named (include_part (record { kind = k; given = given }))
-part_named kind.Include given (Ok i) f e = rw e (one_named i (named_in given i f e))
-part_named kind.Include given (Err w) f e = rw e none_named
-part_named _ given x f e = none_named
+part_named kind.Include given (Ok i) f e = rw e (All-cons (λ (x : IncludeView). is_file_name x.file ≡ true) i [] (named_in given i f e) (All-nil (λ (x : IncludeView). is_file_name x.file ≡ true)))
+part_named kind.Include given (Err w) f e = rw e (All-nil (λ (x : IncludeView). is_file_name x.file ≡ true))
+part_named _ given x f e = All-nil (λ (x : IncludeView). is_file_name x.file ≡ true)
 
 all_named : (groups : List GroupView) → AreAllFormed groups → Named (includes_of groups)
 unfolding includes_of
-all_named [] f = none_named
+all_named [] f = All-nil (λ (x : IncludeView). is_file_name x.file ≡ true)
 all_named (g ∷ gs) f = All-append (λ i. is_file_name i.file ≡ true) (include_part g) (includes_of gs) (part_named g.kind g.given (include_in g.given) f.0 refl) (all_named gs f.1)
 
 -- a group says one include file at most
@@ -131,29 +122,18 @@ part_few before kind.Include given (Ok i) new e few =
 part_few before kind.Include given (Err f) new e few = rw e (omega (arith, few))
 part_few before _ given x new e few = omega (arith, few)
 
-groups_few : (before gs : List GroupView) → AreGroups before gs → length (includes_of before) ≤ 16 → length (includes_of (before ++ gs)) ≤ 16
-groups_few before [] h few = rw (append-nil before) few
-groups_few before (g ∷ gs) h few =
-    let long = ap length (includes_more before g) ∙ length-append (includes_of before) (include_part g) in
-    let part = part_few before g.kind g.given (include_in g.given) h.0.new refl few in
-    let more : length (includes_of (before ++ g ∷ [])) ≤ 16 = omega (arith, long, part) in
-    let all = groups_few (before ++ g ∷ []) gs h.1 more in
-    rw (append_assoc before (g ∷ []) gs) at all
+few_more : (before : List GroupView) (k : GroupKind) (given : List AssignmentView) → AreNew before k [] given → length (includes_of before) ≤ 16 → length (includes_of (before ++ record { kind = k; given = given } ∷ [])) ≤ 16
+few_more before k given new few =
+    let one : GroupView = record { kind = k; given = given } in
+    let part = part_few before k given (include_in given) new refl few in
+    omega (arith, ap length (includes_more before one), length-append (includes_of before) (include_part one), part)
 
 none_few : length (includes_of []) ≤ 16
 unfolding includes_of
 none_few = omega arith
 
-pub includes_sound : (groups : List GroupView) → AreGroups [] groups → AreAllFormed groups → AreIncludes (includes_of groups)
-includes_sound groups h f = record { few = groups_few [] groups h none_few; each = all_named groups f }
-
--- the include files of the groups of an accepted text
-pub read_includes : (o : OptionsView) (bytes : List ℕ) (groups : List GroupView) → groups_of o bytes ≡ Ok groups → AreIncludes (includes_of groups)
-unfolding groups_of read
-read_includes o bytes groups e =
-    let a = groups_accepted o (tokens_of 1 bytes).tokens (tokens_of 1 bytes).ending groups e in
-    let formed : AreAllFormed groups = subst AreAllFormed a.1.of (groups_formed o a.1.spelling (tokens_of 1 bytes).tokens a.1.spelled) in
-    includes_sound groups a.1.keeps formed
+pub includes_sound : (groups : List GroupView) → AreRead groups → AreIncludes (includes_of groups)
+includes_sound groups r = record { few = read_keeps (λ gs. length (includes_of gs) ≤ 16) (λ before k given g f few. few_more before k given g.new few) none_few groups r; each = all_named groups r.formed }
 
 -- ---- what the groups say
 
@@ -208,5 +188,5 @@ groups_said before (g ∷ gs) h f = said_more before g.kind g.given gs f.0 h.0.c
 
 pub includes_said : IncludesSaid
 includes_said o bytes info i =
-    let formed : AreAllFormed i.groups = subst AreAllFormed i.accepts.of (groups_formed o i.accepts.spelling (tokens_of 1 bytes).tokens i.accepts.spelled) in
-    rw i.says (groups_said [] i.groups i.accepts.keeps formed, includes_sound i.groups i.accepts.keeps formed)
+    let r = accepted_read o (tokens_of 1 bytes).tokens i.groups i.accepts in
+    rw i.says (groups_said [] i.groups r.keeps r.formed, includes_sound i.groups r)

@@ -4,7 +4,7 @@ use Rattle.std.specs.Option.{option_or}
 use Rattle.std.specs.Prelude.{All, AllPairs, Option, Some, None, Result, Ok, Err, is_some, option_to_list, nat_le, nat_lt, not, slice_get}
 use Rattle.std.specs.List.{find, flat_map, list_any}
 use Rattle.std.specs.Str.{bytes_eq}
-use Rattle.std.proofs.lemmas.Bool.{eq-eqb, eqb-true, false≢true, or_from, or_left, or_right}
+use Rattle.std.proofs.lemmas.Bool.{cond-false, cond-true, eq-eqb, eqb-true, false≢true, or_from, or_left, or_right}
 use Rattle.std.proofs.lemmas.Bool.Decides.{eqb_tells, nat_tests}
 use Rattle.std.proofs.lemmas.List.Folds.{Any-from_list_any, find-append, list_any_none, list_any-append, list_any_at, list_any-from_Any}
 use Rattle.std.proofs.lemmas.Grind.{flat_map-append}
@@ -23,14 +23,14 @@ use Rattle.info65.specs.Code.Numbers.{IsSet, NumbersView}
 use Rattle.info65.specs.Code.Texts.{AddsText, TextsView}
 use Rattle.info65.specs.Labels.{is_at, is_elsewhere, label_in, name_fault, name_part, named_at, names_from, names_said, range_name}
 use Rattle.info65.specs.Names.{blank_name, is_reserved}
-use Rattle.info65.specs.Ranges.{has_address, overlaps, range_in, ranges_of}
+use Rattle.info65.specs.Ranges.{has_address, overlaps, range_part, ranges_of}
 use Rattle.info65.specs.Views.{NameView}
 use Rattle.info65.specs.declared.fault.InfoFaultKind.{InfoFaultKind}
 use Rattle.info65.specs.declared.fault.InfoFaultKind.TheVariants.{AddressTwice, NameTwice, RangesOverlap, ReservedName}
 use Rattle.info65.specs.declared.information.name.Given.{Given}
 use Rattle.info65.specs.declared.information.range.RangeSpec.{RangeSpec}
 use Rattle.info65.proofs.Cases.{by_test, is_some_find, or_last, some_map}
-use Rattle.info65.proofs.RangeLemmas.{any_shared, closes_range, ordered_in, ranges_more, shared_overlap}
+use Rattle.info65.proofs.RangeLemmas.{any_shared, closes_range, part_ordered, ranges_more, shared_overlap}
 
 pub same_text : (t u : List ℕ) → bytes_eq t u ≡ true → t ≡ u
 same_text t u h = (bytes_eq-Decides t u).0 h
@@ -129,22 +129,6 @@ elsewhere_is (x ∷ xs) n h =
     rw (same, none) (or_last (not (x.address == n.address))))
     (λ other. rw other (elsewhere_is xs n (distinct_tail x xs h)))
 
-pub fault_reserved : (names : List NameView) (n : NameView) → is_reserved n.address n.text ≡ true → Some ReservedName ≡ name_fault names n
-unfolding name_fault
-fault_reserved names n r = rw r refl
-
-pub fault_elsewhere : (names : List NameView) (n : NameView) → is_reserved n.address n.text ≡ false → list_any (is_elsewhere n) names ≡ true → Some NameTwice ≡ name_fault names n
-unfolding name_fault
-fault_elsewhere names n r e = rw (r, e) refl
-
-pub fault_taken : (names : List NameView) (n : NameView) → is_reserved n.address n.text ≡ false → list_any (is_elsewhere n) names ≡ false → list_any (is_at n.address) names ≡ true → Some AddressTwice ≡ name_fault names n
-unfolding name_fault
-fault_taken names n r e t = rw (r, e, t) refl
-
-pub fault_none : (names : List NameView) (n : NameView) → is_reserved n.address n.text ≡ false → list_any (is_elsewhere n) names ≡ false → list_any (is_at n.address) names ≡ false → None ≡ name_fault names n
-unfolding name_fault
-fault_none names n r e t = rw (r, e, t) refl
-
 -- a name without a fault
 pub record IsNew (names : List NameView) (n : NameView) : Type 0 where
   pub free : is_reserved n.address n.text ≡ false
@@ -177,18 +161,18 @@ new_address names n new k d l same =
     let at : ((get_or names k d).address == n.address) ≡ true = rw same (eq-eqb n.address n.address refl) in
     absurd (false≢true (sym new.untaken ∙ list_any_at (is_at n.address) names k d l at))
 
-pub text_free : (names : List NameView) (n : NameView) → IsNew names n → text_at names n.text ≡ None
-text_free names n new =
-    let none : list_any (λ (m : NameView). bytes_eq n.text m.text) names ≡ false = list_any_none (λ (m : NameView). bytes_eq n.text m.text) names (λ k d l.
-    by_test (bytes_eq n.text (get_or names k d).text)
-    (λ hit. absurd (new_text names n new k d l (sym (same_text n.text (get_or names k d).text hit))))
-    (λ miss. miss))
-    in
-    is_none (text_at names n.text) (sym (is_some_find (λ (m : NameView). bytes_eq n.text m.text) names) ∙ none)
+no_find : {X : Type 0} (p : X → Bool) (xs : List X) → list_any p xs ≡ false → find p xs ≡ None
+no_find p xs h = is_none (find p xs) (sym (is_some_find p xs) ∙ h)
   where
-    is_none : (o : Option NameView) → is_some o ≡ false → o ≡ None
+    is_none : {X : Type 0} (o : Option X) → is_some o ≡ false → o ≡ None
     is_none None h = refl
     is_none (Some x) h = absurd (false≢true (sym h))
+
+text_free : (names : List NameView) (n : NameView) → IsNew names n → text_at names n.text ≡ None
+text_free names n new = no_find (λ (m : NameView). bytes_eq n.text m.text) names (list_any_none (λ (m : NameView). bytes_eq n.text m.text) names (λ k d l.
+    by_test (bytes_eq n.text (get_or names k d).text)
+    (λ hit. absurd (new_text names n new k d l (sym (same_text n.text (get_or names k d).text hit))))
+    (λ miss. miss)))
 
 -- ---- what is added
 
@@ -201,12 +185,6 @@ range_added ranges table after r i ordered long marked = record {
   ranged = λ a low. marked a low ∙ ap (λ b. b || has_address r a) (i.ranged a low) ∙ ap (λ b. list_any (λ (x : RangeSpec). has_address x a) ranges || b) (sym (or_last (has_address r a))) ∙ sym (list_any-append (λ (x : RangeSpec). has_address x a) ranges (r ∷ []));
 }
 
-chosen : {X : Type 0} (b : Bool) (x y : X) → b ≡ true → (if b then x else y) ≡ x
-chosen b x y h = rw h refl
-
-passed : {X : Type 0} (b : Bool) (x y : X) → b ≡ false → (if b then x else y) ≡ y
-passed b x y h = rw h refl
-
 find_more : {X : Type 0} (p : X → Bool) (xs : List X) (x : X) → find p xs ≡ None → p x ≡ true → find p (xs ++ x ∷ []) ≡ Some x
 find_more p xs x none hit = find-append p xs (x ∷ []) ∙ rw (none, hit) refl
 
@@ -216,13 +194,6 @@ find_same p xs x miss = find-append p xs (x ∷ []) ∙ rw miss (or_nothing (fin
     or_nothing : {X : Type 0} (o : Option X) → option_or o None ≡ o
     or_nothing None = refl
     or_nothing (Some y) = refl
-
-no_find : {X : Type 0} (p : X → Bool) (xs : List X) → list_any p xs ≡ false → find p xs ≡ None
-no_find p xs h = is_none (find p xs) (sym (is_some_find p xs) ∙ h)
-  where
-    is_none : {X : Type 0} (o : Option X) → is_some o ≡ false → o ≡ None
-    is_none None h = refl
-    is_none (Some x) h = absurd (false≢true (sym h))
 
 -- ---- the index
 
@@ -244,8 +215,11 @@ numbered_map f xs zero = refl
 numbered_map f xs (suc k) = sym (slice_get-map f xs k)
 
 -- what the code finds
+pub found_is : (items : List Given) (numbers : List ℕ) (a : ℕ) (o : Option Given) → IsFoundAt (map given_seen items) numbers a → o ≡ numbered items (get_or numbers a 0) → named_at (map given_seen items) a ≡ option_map given_seen o
+found_is items numbers a o i is = sym i.is ∙ sym (numbered_map given_seen items (get_or numbers a 0)) ∙ ap (option_map given_seen) (sym is)
+
 pub taken_found : (items : List Given) (numbers : List ℕ) (a : ℕ) → IsFoundAt (map given_seen items) numbers a → is_some (numbered items (get_or numbers a 0)) ≡ list_any (is_at a) (map given_seen items)
-taken_found items numbers a i = sym (some_map given_seen _) ∙ ap is_some (numbered_map given_seen items (get_or numbers a 0) ∙ i.is) ∙ sym (taken_is (map given_seen items) a)
+taken_found items numbers a i = sym (some_map given_seen _) ∙ ap is_some (sym (found_is items numbers a _ i refl)) ∙ sym (taken_is (map given_seen items) a)
 
 pub stands_found : (items : List Given) (texts : TextsView) (t : List ℕ) → StandsIn (map given_seen items) texts t
     → stands_by t (texts.others t) (option_map given_seen (numbered items (texts.slotted t))) ≡ option_map (λ (n : NameView). n.address) (text_at (map given_seen items) t)
@@ -272,8 +246,8 @@ text_added names texts told n t i new (inl (free, taken, same)) =
       alone = λ empty. absurd (omega (arith, taken, empty));
       is = ap (stands_by t (told.others t)) last ∙
           by_test (bytes_eq t n.text)
-          (λ at. chosen (bytes_eq t n.text) (Some n.address) (told.others t) at ∙ ap (option_map (λ (m : NameView). m.address)) (sym (find_more (λ (m : NameView). bytes_eq t m.text) names n none at)))
-          (λ off. passed (bytes_eq t n.text) (Some n.address) (told.others t) off ∙ same ∙ i.alone free ∙ ap (option_map (λ (m : NameView). m.address)) (sym (find_same (λ (m : NameView). bytes_eq t m.text) names n off ∙ none)));
+          (λ at. cond-true (bytes_eq t n.text) (Some n.address) (told.others t) at ∙ ap (option_map (λ (m : NameView). m.address)) (sym (find_more (λ (m : NameView). bytes_eq t m.text) names n none at)))
+          (λ off. cond-false (bytes_eq t n.text) (Some n.address) (told.others t) off ∙ same ∙ i.alone free ∙ ap (option_map (λ (m : NameView). m.address)) (sym (find_same (λ (m : NameView). bytes_eq t m.text) names n off ∙ none)));
     }
 text_added names texts told n t i new (inr (inl (some, at, same, beside))) =
     let long = length-append names (n ∷ []) in
@@ -285,7 +259,7 @@ text_added names texts told n t i new (inr (inl (some, at, same, beside))) =
     record {
       low = omega (arith, same, i.low, long);
       alone = λ empty. absurd (some (sym same ∙ empty));
-      is = ap (stands_by t (told.others t)) by ∙ passed (bytes_eq t m.0.text) (Some m.0.address) (told.others t) other ∙ beside
+      is = ap (stands_by t (told.others t)) by ∙ cond-false (bytes_eq t m.0.text) (Some m.0.address) (told.others t) other ∙ beside
           ∙ ap (option_map (λ (m : NameView). m.address)) (sym (find_more (λ (m : NameView). bytes_eq t m.text) names n none at));
     }
 text_added names texts told n t i new (inr (inr (off, same, also))) =
@@ -306,27 +280,25 @@ address_added names numbers more n a i new here =
     let long = length-append names (n ∷ []) in
     by_test (n.address == a)
     (λ at.
-    let now : get_or more a 0 ≡ length names + 1 = here ∙ chosen (n.address == a) (length names + 1) (get_or numbers a 0) at in
+    let now : get_or more a 0 ≡ length names + 1 = here ∙ cond-true (n.address == a) (length names + 1) (get_or numbers a 0) at in
     let same : n.address ≡ a = eqb-true n.address a at in
     let none : find (is_at a) names ≡ None = no_find (is_at a) names (ap (λ (k : ℕ). list_any (is_at k) names) (sym same) ∙ new.untaken) in
     record { low = omega (arith, now, long); is = ap (numbered (names ++ n ∷ [])) now ∙ numbered_last names n ∙ sym (find_more (is_at a) names n none at) })
     (λ off.
-    let still : get_or more a 0 ≡ get_or numbers a 0 = here ∙ passed (n.address == a) (length names + 1) (get_or numbers a 0) off in
+    let still : get_or more a 0 ≡ get_or numbers a 0 = here ∙ cond-false (n.address == a) (length names + 1) (get_or numbers a 0) off in
     record {
       low = omega (arith, still, i.low, long);
       is = ap (numbered (names ++ n ∷ [])) still ∙ numbered_more names n (get_or numbers a 0) i.low ∙ i.is ∙ sym (find_same (is_at a) names n off);
     })
 
-pub name_added : (names : List NameView) (numbers more : NumbersView) (texts told : TextsView) (n : NameView) → IsIndex names numbers texts → name_fault names n ≡ None → n.address < 0x1_0000
+pub name_added : (names : List NameView) (numbers more : NumbersView) (texts told : TextsView) (n : NameView) → IsIndex names numbers texts → name_fault names n ≡ None
     → more.count ≡ numbers.count → IsSet n.address (length names + 1) numbers.cells more.cells
     → ((t : List ℕ) → AddsText texts n.text n.address (length names + 1) told t) → IsIndex (names ++ n ∷ []) more told
-name_added names numbers more texts told n i fine low count here there =
+name_added names numbers more texts told n i fine count here there =
     let new = no_fault names n fine in
     record {
       long = count ∙ i.long;
-      low = All-push (λ (x : NameView). x.address < 0x1_0000) names n i.low low;
       distinct = all_pairs_push (λ (x y : NameView). x.text ≢ y.text) names n i.distinct (new_text names n new);
-      apart = all_pairs_push (λ (x y : NameView). x.address ≢ y.address) names n i.apart (new_address names n new);
       addresses = λ a. address_added names numbers.cells more.cells n a (i.addresses a) new (here a);
       texts = λ t. text_added names texts told n t (i.texts t) new (there t);
     }
@@ -335,9 +307,7 @@ pub no_index : (numbers : NumbersView) (texts : TextsView) → numbers.count ≡
 unfolding named_at
 no_index numbers texts long none empty lone = record {
   long = long;
-  low = λ k d l. absurd (omega (arith, l));
   distinct = λ i j d lt l. absurd (omega (arith, l));
-  apart = λ i j d lt l. absurd (omega (arith, l));
   addresses = λ a. let zero : get_or numbers.cells a 0 ≡ 0 = ap (λ (l : List ℕ). get_or l a 0) none in record { low = omega (arith, zero); is = ap (numbered []) zero };
   texts = λ t. record { low = omega (arith, empty t); alone = λ h. lone t; is = ap (λ (k : ℕ). stands_by t (texts.others t) (numbered [] k)) (empty t) };
 }
@@ -357,19 +327,9 @@ range_apart ranges names given r x is miss = rw (← is) (rw miss refl)
 
 -- ---- what a group adds
 
-ranges_more_range : (before : List GroupView) (given : List AssignmentView) (r : RangeSpec) → range_in given ≡ Ok r → ranges_of (before ++ record { kind = kind.Range; given = given } ∷ []) ≡ ranges_of before ++ r ∷ []
-ranges_more_range before given r is = ranges_more before (record { kind = kind.Range; given = given }) ∙ rw is refl
-
 pub names_more : (before : List GroupView) (g : GroupView) → names_said (before ++ g ∷ []) ≡ names_said before ++ name_part g
 unfolding names_said
 names_more before g = flat_map-append name_part before (g ∷ []) ∙ ap (λ l. flat_map name_part before ++ l) (append-nil (name_part g))
-
-ranges_more_other : (before : List GroupView) (k : GroupKind) (given : List AssignmentView) → (k ≡ kind.Range → ⊥) → ranges_of (before ++ record { kind = k; given = given } ∷ []) ≡ ranges_of before
-ranges_more_other before kind.Range given other = absurd (other refl)
-ranges_more_other before kind.Global given other = ranges_more before (record { kind = kind.Global; given = given }) ∙ append-nil (ranges_of before)
-ranges_more_other before kind.Label given other = ranges_more before (record { kind = kind.Label; given = given }) ∙ append-nil (ranges_of before)
-ranges_more_other before kind.Segment given other = ranges_more before (record { kind = kind.Segment; given = given }) ∙ append-nil (ranges_of before)
-ranges_more_other before kind.Include given other = ranges_more before (record { kind = kind.Include; given = given }) ∙ append-nil (ranges_of before)
 
 pub marked_end : (first last a at : ℕ) → at ≡ last + 1 → (nat_le first a && nat_lt a at) ≡ (nat_le first a && nat_le a last)
 marked_end first last a at is = ap (λ b. nat_le first a && b) (let e : nat_lt a at ≡ nat_le a last = by_test (nat_le a last) (λ h. let f : nat_lt a at ≡ true = grind (arith, nat_tests, h, is) in f ∙ sym h) (λ h. let f : nat_lt a at ≡ false = grind (arith, nat_tests, h, is) in f ∙ sym h) in e)
@@ -414,15 +374,11 @@ name_fine before kind.Global given o is h = ap (optional_name_fault (names_said 
 name_fine before kind.Segment given o is h = ap (optional_name_fault (names_said before)) (one_list o None is)
 name_fine before kind.Include given o is h = ap (optional_name_fault (names_said before)) (one_list o None is)
 
--- a group RANGE with a range marks it
-pub marked_range : (before : List GroupView) (given : List AssignmentView) (r : RangeSpec) (old new : List Bool) → range_in given ≡ Ok r → length new ≡ length old
-    → ((a : ℕ) → a < 0x1_0000 → get_or new a false ≡ (get_or old a false || has_address r a)) → AreRanged (ranges_of before) old → AreRanged (ranges_of (before ++ record { kind = kind.Range; given = given } ∷ [])) new
-marked_range before given r old new is long marked m = rw (ranges_more_range before given r is) (range_added (ranges_of before) old new r m (ordered_in given r is) long marked)
+-- a group that says a range marks it
+pub ranged_more : (before : List GroupView) (g : GroupView) (r : RangeSpec) (old new : List Bool) → r ∷ [] ≡ range_part g → length new ≡ length old
+    → ((a : ℕ) → a < 0x1_0000 → get_or new a false ≡ (get_or old a false || has_address r a)) → AreRanged (ranges_of before) old → AreRanged (ranges_of (before ++ g ∷ [])) new
+ranged_more before g r old new is long marked m = rw (ranges_more before g, ← is) (range_added (ranges_of before) old new r m (part_ordered g r is) long marked)
 
--- one with a fault says none
-pub range_faulty : (before : List GroupView) (given : List AssignmentView) (f : InfoFaultKind) (table : List Bool) → range_in given ≡ Err f → AreRanged (ranges_of before) table → AreRanged (ranges_of (before ++ record { kind = kind.Range; given = given } ∷ [])) table
-range_faulty before given f table is m = rw (ranges_more before (record { kind = kind.Range; given = given })) (rw is (rw (append-nil (ranges_of before)) m))
-
--- and any other group says none
-pub range_other : (before : List GroupView) (k : GroupKind) (given : List AssignmentView) (table : List Bool) → (k ≡ kind.Range → ⊥) → AreRanged (ranges_of before) table → AreRanged (ranges_of (before ++ record { kind = k; given = given } ∷ [])) table
-range_other before k given table other m = rw (ranges_more_other before k given other) m
+-- and one that says none marks none
+pub ranged_same : (before : List GroupView) (g : GroupView) (table : List Bool) → [] ≡ range_part g → AreRanged (ranges_of before) table → AreRanged (ranges_of (before ++ g ∷ [])) table
+ranged_same before g table is m = rw (ranges_more before g, ← is, append-nil (ranges_of before)) m

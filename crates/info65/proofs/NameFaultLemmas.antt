@@ -6,7 +6,7 @@ use Rattle.std.specs.Str.{bytes_eq}
 use Rattle.std.proofs.lemmas.Bool.{and_parts, eq-eqb, eqb-true, false≢true, ne_eqb}
 use Rattle.std.proofs.lemmas.List.{append-nil, get_or_append_left, get_or_at}
 use Rattle.std.proofs.lemmas.List.Elements.{All-push}
-use Rattle.std.proofs.lemmas.List.Folds.{Any-from_list_any, list_any-from_Any, list_any_at}
+use Rattle.std.proofs.lemmas.List.Folds.{Any-from_list_any, list_any-from_Any, list_any_at, list_any_none}
 use Rattle.std.proofs.lemmas.List.Quantifiers.{all_pairs_push}
 use Rattle.std.proofs.lemmas.Slice.Eq.{bytes_eq-Decides}
 use Rattle.info65.specs.Closing.{closing_fault, optional_name_fault}
@@ -22,7 +22,7 @@ use Rattle.info65.specs.declared.fault.InfoFaultKind.{InfoFaultKind}
 use Rattle.info65.specs.declared.fault.InfoFaultKind.TheVariants.{AddressTwice, NameTwice, ReservedName}
 use Rattle.info65.specs.declared.information.range.RangeSpec.{RangeSpec}
 use Rattle.info65.proofs.Cases.{by_test}
-use Rattle.info65.proofs.IndexLemmas.{fault_elsewhere, fault_none, fault_reserved, fault_taken, range_overlaps}
+use Rattle.info65.proofs.IndexLemmas.{range_overlaps}
 use Rattle.info65.proofs.RangeLemmas.{overlaps_share}
 use Rattle.info65.proofs.ReservedLemmas.{reserved_names}
 
@@ -32,12 +32,6 @@ pub all_miss : (p : NameView → Bool) (names : List NameView) → list_any p na
 all_miss p names h k d l =
     by_test (p (get_or names k d))
     (λ hit. absurd (false≢true (sym h ∙ list_any_at p names k d l hit)))
-    (λ miss. miss)
-
-pub none_hit : (p : NameView → Bool) (names : List NameView) → All (λ m. p m ≡ false) names → list_any p names ≡ false
-none_hit p names h =
-    by_test (list_any p names)
-    (λ hit. let x = Any-from_list_any p names hit in let wrong : p x.1 ≡ false = subst (λ (m : NameView). p m ≡ false) x.3 (h x.0 x.1 x.2) in absurd (false≢true (sym wrong ∙ x.4)))
     (λ miss. miss)
 
 -- ---- the three tests
@@ -83,36 +77,40 @@ at_miss n m h same = false≢true (sym h ∙ eq-eqb m.address n.address same)
 -- ---- the fault
 
 fault_is : (before : List NameView) (n : NameView) → HasFault before n (name_fault before n)
+unfolding name_fault
 fault_is before n =
     by_test (is_reserved n.address n.text)
-    (λ hit. subst (HasFault before n) (fault_reserved before n hit) ((reserved_names n.address n.text).0 hit))
+    (λ hit. rw hit ((reserved_names n.address n.text).0 hit))
     (λ miss.
     by_test (list_any (is_elsewhere n) before)
-    (λ hit. let x = Any-from_list_any (is_elsewhere n) before hit in subst (HasFault before n) (fault_elsewhere before n miss hit) (free_is n miss, (x.0, x.1, x.2, x.3, elsewhere_hit n x.1 x.4)))
+    (λ hit. let x = Any-from_list_any (is_elsewhere n) before hit in rw (miss, hit) (free_is n miss, (x.0, x.1, x.2, x.3, elsewhere_hit n x.1 x.4)))
     (λ once.
     by_test (list_any (is_at n.address) before)
     (λ hit.
     let x = Any-from_list_any (is_at n.address) before hit in
-    subst (HasFault before n) (fault_taken before n miss once hit)
+    rw (miss, once, hit)
     (free_is n miss, (λ k d l. elsewhere_miss n (get_or before k d) (all_miss (is_elsewhere n) before once k d l)), (x.0, x.1, x.2, x.3, eqb-true x.1.address n.address x.4)))
     (λ untaken.
     let apart : All (λ m. m.address ≢ n.address) before = λ k d l. at_miss n (get_or before k d) (all_miss (is_at n.address) before untaken k d l) in
-    subst (HasFault before n) (fault_none before n miss once untaken)
+    rw (miss, once, untaken)
     (free_is n miss, λ k d l. (λ same. apart k d l (elsewhere_miss n (get_or before k d) (all_miss (is_elsewhere n) before once k d l) same), apart k d l)))))
 
-is_fault : (before : List NameView) (n : NameView) (fault : Option InfoFaultKind) → HasFault before n fault → name_fault before n ≡ fault
-is_fault before n (Some ReservedName) h = sym (fault_reserved before n ((reserved_names n.address n.text).1 h))
+pub is_fault : (before : List NameView) (n : NameView) (fault : Option InfoFaultKind) → HasFault before n fault → name_fault before n ≡ fault
+unfolding name_fault
+is_fault before n (Some ReservedName) h = rw ((reserved_names n.address n.text).1 h) refl
 is_fault before n (Some NameTwice) h =
     let x = h.1 in
-    sym (fault_elsewhere before n (is_free n h.0) (list_any-from_Any (is_elsewhere n) before (x.0, x.1, x.2, x.3, hit_elsewhere n x.1 x.4)))
+    rw (is_free n h.0, list_any-from_Any (is_elsewhere n) before (x.0, x.1, x.2, x.3, hit_elsewhere n x.1 x.4)) refl
 is_fault before n (Some AddressTwice) h =
     let x = h.2 in
-    sym (fault_taken before n (is_free n h.0) (none_hit (is_elsewhere n) before (λ k d l. miss_elsewhere n (get_or before k d) (h.1 k d l))) (list_any-from_Any (is_at n.address) before (x.0, x.1, x.2, x.3, eq-eqb x.1.address n.address x.4)))
+    rw (is_free n h.0, list_any_none (is_elsewhere n) before (λ k d l. miss_elsewhere n (get_or before k d) (h.1 k d l)), list_any-from_Any (is_at n.address) before (x.0, x.1, x.2, x.3, eq-eqb x.1.address n.address x.4)) refl
 is_fault before n (Some _) h = absurd h
 is_fault before n None h =
-    sym (fault_none before n (is_free n h.0)
-    (none_hit (is_elsewhere n) before (λ k d l. miss_elsewhere n (get_or before k d) (λ same. absurd ((h.1 k d l).0 same))))
-    (none_hit (is_at n.address) before (λ k d l. ne_eqb (get_or before k d).address n.address (h.1 k d l).1)))
+    rw (
+      is_free n h.0,
+      list_any_none (is_elsewhere n) before (λ k d l. miss_elsewhere n (get_or before k d) (λ same. absurd ((h.1 k d l).0 same))),
+      list_any_none (is_at n.address) before (λ k d l. ne_eqb (get_or before k d).address n.address (h.1 k d l).1),
+    ) refl
 
 fault_law : (before : List NameView) (n : NameView) (fault : Option InfoFaultKind) → (name_fault before n ≡ fault) ↔ HasFault before n fault
 fault_law before n fault = (λ e. subst (HasFault before n) e (fault_is before n), is_fault before n fault)

@@ -1,38 +1,32 @@
 -- The names of an accepted file: what holds of those that its groups say, and of all of them by address.
-use Rattle.std.proofs.Common.{◌≡◌, ◌≢◌, ◌∙◌, ◌≤◌, ◌<◌, ◌+◌, ◌==◌, ℕ, zero, suc, Bool, List, [], ◌∷◌, ◌++◌, true, ⊎_elim, ap, ap₂, append_assoc, arith, get_or, length, map, option_map, refl, subst, sym}
+use Rattle.std.proofs.Common.{◌≡◌, ◌≢◌, ◌∙◌, ◌≤◌, ◌<◌, ◌+◌, ◌*◌, ◌/◌, ℕ, zero, suc, Bool, List, [], ◌∷◌, ◌++◌, true, false, ⊎_elim, ap, ap₂, append_assoc, arith, get_or, length, map, option_map, refl, subst, sym}
 use Rattle.std.specs.Prelude.{All, AllPairs, IfSome, Option, Some, None, Result, Ok, Err, nat_le, option_to_list, is_some, ◌↔◌}
-use Rattle.std.specs.List.{Contains, IsDistinct, find}
-use Rattle.std.specs.List.Sorted.{IsNonDecreasing, IsNonDecreasingBy, IsPermutation}
+use Rattle.std.specs.List.{Contains, find}
 use Rattle.std.specs.Option.{unwrap_or}
-use Rattle.std.proofs.lemmas.Bool.Decides.{Decides-eqb, eqb_tells, nat_tests}
+use Rattle.std.proofs.lemmas.Bool.Decides.{eqb_tells, nat_tests}
 use Rattle.std.proofs.lemmas.List.{append-nil}
-use Rattle.std.proofs.lemmas.List.Elements.{All-push, Contains-append_right}
+use Rattle.std.proofs.lemmas.List.Elements.{All-cons, All-push, Contains-append_right}
 use Rattle.std.proofs.lemmas.List.Folds.{list_any_at}
-use Rattle.std.proofs.lemmas.List.Kept.{AllPairs-cons, AllPairs-from_increasing}
+use Rattle.std.proofs.lemmas.List.Kept.{AllPairs-cons}
 use Rattle.std.proofs.lemmas.List.Quantifiers.{all_pairs_push}
 use Rattle.std.proofs.str.Laws.{order}
 use Rattle.std.proofs.lemmas.Bool.{eq-eqb, eqb-true, false≢true}
-use Rattle.std.proofs.lemmas.List.Sorted.{Contains-permutation, IsPermutation-map, IsPermutation-sym}
 use Rattle.std.proofs.lemmas.List.{get_or-map, get_or_default, length-map}
-use Rattle.std.proofs.lemmas.Map.Keys.{IsDistinct-IsPermutation, IsStrictlyIncreasing-from_distinct}
-use Rattle.std.proofs.lemmas.Map.Made.{IsDistinct-from_AllPairs}
 use Rattle.std.proofs.lemmas.Slice.Eq.{bytes_eq-Decides}
 use Rattle.std.specs.Str.{bytes_eq}
-use Rattle.info65.specs.Code.Index.{text_at}
+use Rattle.info65.specs.Code.Index.{IsFoundAt, numbered, text_at}
 use Rattle.info65.specs.Code.Names.{given_seen}
 use Rattle.text65.specs.Names.{has_name_form}
 use Rattle.info65.specs.Attributes.{form_of}
 use Rattle.info65.specs.Closing.{closing_fault, optional_name_fault}
 use Rattle.info65.specs.Comments.{comment_in, unless_empty}
-use Rattle.info65.specs.Grammar.{AreGroups}
-use Rattle.info65.specs.Groups.{AreAllFormed, AreFormed, AssignmentView, GroupView, value_in}
+use Rattle.info65.specs.Groups.{AreFormed, AssignmentView, GroupView, value_in}
 use Rattle.info65.specs.Labels.{by_address, is_at, label_from, label_in, label_sized, name_part, named, named_at, names_from, names_said, range_name}
 use Rattle.info65.specs.NameLaws.{NamesGiven}
-use Rattle.info65.specs.Names.{AreGiven, AreNames, IsComment, IsName, blank_name}
-use Rattle.info65.specs.Reader.{groups_of, read}
+use Rattle.info65.specs.Names.{AreGiven, AreNames, IsComment, IsName}
 use Rattle.info65.specs.Tokens.{tokens_of}
 use Rattle.info65.specs.Values.{HasForm, ValueView, a_comment, a_name, as_address, as_comment, as_name, as_number}
-use Rattle.info65.specs.Views.{NameView, OptionsView}
+use Rattle.info65.specs.Views.{NameView}
 use Rattle.info65.specs.declared.syntax.attribute.Attribute.TheVariants as attribute
 use Rattle.info65.specs.declared.syntax.attribute.Form.TheVariants as form
 use Rattle.info65.specs.declared.syntax.attribute.GroupKind.{GroupKind}
@@ -41,21 +35,16 @@ use Rattle.info65.specs.declared.fault.InfoFaultKind.{InfoFaultKind}
 use Rattle.info65.specs.declared.fault.InfoFaultKind.TheVariants.{OutOfRange}
 use Rattle.info65.specs.declared.information.name.Given.{Given}
 use Rattle.info65.specs.declared.information.range.RangeSpec.{RangeSpec}
-use Rattle.info65.proofs.Accepting.{groups_accepted}
 use Rattle.info65.proofs.Cases.{by_test, is_some_find, same_ok, same_some}
-use Rattle.info65.proofs.FormLemmas.{found_formed, groups_formed, size_in}
-use Rattle.info65.proofs.IndexLemmas.{IsNew, closes_label, names_more, new_address, new_text, no_fault, taken_is}
-use Rattle.info65.proofs.RangeLemmas.{closes_range, low_in, ordered_in}
+use Rattle.info65.proofs.FormLemmas.{AreRead, accepted_read, found_formed, read_keeps, size_in}
+use Rattle.info65.proofs.IndexLemmas.{IsNew, closes_label, found_is, names_more, new_address, new_text, no_fault, taken_is}
+use Rattle.info65.proofs.RangeLemmas.{bounded_in, closes_range}
 
 -- ---- by address
 
-all_cons : (P : NameView → Type 0) (y : NameView) (ys : List NameView) → P y → All P ys → All P (y ∷ ys)
-all_cons P y ys p ps zero d l = p
-all_cons P y ys p ps (suc k) d l = ps k d (omega (arith, l))
-
 all_front : (P : NameView → Type 0) (o : Option NameView) (ys : List NameView) → ((x : NameView) → o ≡ Some x → P x) → All P ys → All P (option_to_list o ++ ys)
 all_front P None ys p ps = ps
-all_front P (Some x) ys p ps = all_cons P x ys (p x refl) ps
+all_front P (Some x) ys p ps = All-cons P x ys (p x refl) ps
 
 all_from : (P : NameView → Type 0) (f : ℕ → Option NameView) (a n : ℕ) → ((b : ℕ) (x : NameView) → a ≤ b → f b ≡ Some x → P x) → All P (names_from f a n)
 unfolding names_from
@@ -93,6 +82,53 @@ named_place : (names : List NameView) (a : ℕ) (x : NameView) → named_at name
 unfolding named_at
 named_place names a x is = found_some (is_at a) names x is
 
+address_of : (names : List NameView) (a : ℕ) (x : NameView) → named_at names a ≡ Some x → x.address ≡ a
+address_of names a x is = eqb-true x.address a (named_place names a x is).passes
+
+-- ---- page by page
+
+names_last : (f : ℕ → Option NameView) (a n b : ℕ) → a + n ≡ b → names_from f a (n + 1) ≡ names_from f a n ++ option_to_list (f b)
+unfolding names_from
+names_last f a zero b at = let e : a ≡ b = omega (arith, at) in rw e (append-nil (option_to_list (f b)))
+names_last f a (suc n) b at =
+    let e : suc n + 1 ≡ suc (n + 1) = omega arith in
+    let h : a + 1 + n ≡ b = omega (arith, at) in
+    rw (e, names_last f (a + 1) n b h) (sym (append_assoc (option_to_list (f a)) (names_from f (a + 1) n) (option_to_list (f b))))
+
+names_passed : (f : ℕ → Option NameView) (m n : ℕ) → ((b : ℕ) → m ≤ b → b < m + n → f b ≡ None) → names_from f 0 (m + n) ≡ names_from f 0 m
+names_passed f m zero none = let e : m + 0 ≡ m = omega arith in ap (names_from f 0) e
+names_passed f m (suc n) none =
+    let e : m + suc n ≡ m + n + 1 = omega arith in
+    let h : 0 + (m + n) ≡ m + n = omega arith in
+    ap (names_from f 0) e ∙ names_last f 0 (m + n) (m + n) h ∙ ap (λ (o : Option NameView). names_from f 0 (m + n) ++ option_to_list o) (none (m + n) (omega arith) (omega arith))
+    ∙ append-nil (names_from f 0 (m + n)) ∙ names_passed f m n (λ b low high. none b low (omega (arith, high)))
+
+-- the names up to an address and those of the address
+pub names_next : (items : List Given) (numbers : List ℕ) (a : ℕ) (o : Option Given) → IsFoundAt (map given_seen items) numbers a → o ≡ numbered items (get_or numbers a 0)
+    → names_from (named_at (map given_seen items)) 0 (a + 1) ≡ names_from (named_at (map given_seen items)) 0 a ++ option_to_list (option_map given_seen o)
+names_next items numbers a o i is =
+    let h : 0 + a ≡ a = omega arith in
+    names_last (named_at (map given_seen items)) 0 a a h ∙ ap (λ (q : Option NameView). names_from (named_at (map given_seen items)) 0 a ++ option_to_list q) (found_is items numbers a o i is)
+
+given_at : (items : List Given) (k : ℕ) (x : NameView) → k < length (map given_seen items) → get_or (map given_seen items) k x ≡ x → (d : Given) × (k < length items) × (given_seen (get_or items k d) ≡ x)
+given_at [] k x low is = absurd (omega (arith, low))
+given_at (y ∷ ys) k x low is = let here : k < length (y ∷ ys) = omega (arith, low, length-map (y ∷ ys) given_seen) in (y, here, sym (get_or-map given_seen (y ∷ ys) k y x here) ∙ is)
+
+-- a page without a name adds none
+pub page_passed : (items : List Given) (pages : List Bool) (p : ℕ) → ((k : ℕ) (d : Given) → k < length items → get_or pages ((get_or items k d).address / 256) false ≡ true) → get_or pages p false ≡ false
+    → names_from (named_at (map given_seen items)) 0 ((p + 1) * 256) ≡ names_from (named_at (map given_seen items)) 0 (p * 256)
+page_passed items pages p marked off =
+    let e : (p + 1) * 256 ≡ p * 256 + 256 = omega arith in
+    rw e (names_passed (named_at (map given_seen items)) (p * 256) 256 (λ b low high. none b low high (named_at (map given_seen items) b) refl))
+  where
+    none : (b : ℕ) → p * 256 ≤ b → b < p * 256 + 256 → (o : Option NameView) → named_at (map given_seen items) b ≡ o → o ≡ None
+    none b low high None is = refl
+    none b low high (Some x) is =
+        let at = (named_place (map given_seen items) b x is).place in
+        let g = given_at items at.index x at.low (at.is x) in
+        let page : (get_or items at.index g.0).address / 256 ≡ p = omega (arith, low, high, address_of (map given_seen items) b x is, ap (λ (n : NameView). n.address) g.2) in
+        absurd (false≢true (sym off ∙ ap (λ (q : ℕ). get_or pages q false) (sym page) ∙ marked at.index g.0 g.1))
+
 -- ---- what holds of the names that groups say
 
 -- names that are told apart by this are one name where it is the same
@@ -112,9 +148,6 @@ same_name key names apart n m h k same =
 
 abbrev Rising : List NameView → Type 0
 Rising names = AllPairs (λ n m. n.address < m.address) names
-
-address_of : (names : List NameView) (a : ℕ) (x : NameView) → named_at names a ≡ Some x → x.address ≡ a
-address_of names a x is = eqb-true x.address a (named_place names a x is).passes
 
 rises : (names : List NameView) → Rising (by_address names)
 unfolding by_address
@@ -224,9 +257,8 @@ given_optional names given r f low g (Some n) is fine =
 given_more : (before : List GroupView) (k : GroupKind) (given : List AssignmentView) → AreFormed given → closing_fault before k given ≡ None → AreGiven (names_said before) → AreGiven (names_said before ++ name_part (record { kind = k; given = given }))
 given_more before kind.Range given f h g =
     let c = closes_range before given h in
-    let low = low_in given c.range c.is in
-    let ordered = ordered_in given c.range c.is in
-    rw c.is (given_optional (names_said before) given c.range f (omega (arith, low, ordered)) g (range_name given c.range) refl c.named)
+    let b = bounded_in given c.range c.is in
+    rw c.is (given_optional (names_said before) given c.range f (omega (arith, b.low, b.ordered)) g (range_name given c.range) refl c.named)
 given_more before kind.Label given f h g =
     let c = closes_label before given h in
     let new = no_fault (names_said before) c.name c.fine in
@@ -234,26 +266,12 @@ given_more before kind.Label given f h g =
     rw c.is (one_more (names_said before) c.name g (record { sized = rw x.size (size_some given f); room = x.room; form = name_formed given c.name.text f x.text; free = new.free; comment = rw x.comment (comment_is given f) }) new)
 given_more before _ given f h g = rw (append-nil (names_said before)) g
 
-groups_given : (before gs : List GroupView) → AreGroups before gs → AreAllFormed gs → AreGiven (names_said before) → AreGiven (names_said (before ++ gs))
-groups_given before [] h f g = rw (append-nil before) g
-groups_given before (x ∷ xs) h f g =
-    let more : AreGiven (names_said (before ++ x ∷ [])) = rw (names_more before x) (given_more before x.kind x.given f.0 h.0.closes g) in
-    let all = groups_given (before ++ x ∷ []) xs h.1 f.1 more in rw (append_assoc before (x ∷ []) xs) at all
-
 none_said : AreGiven (names_said [])
 unfolding names_said
 none_said = none_given
 
-pub accepted_given : (groups : List GroupView) → AreGroups [] groups → AreAllFormed groups → AreGiven (names_said groups)
-accepted_given groups h f = groups_given [] groups h f none_said
-
--- the names of an accepted text
-pub read_named : (o : OptionsView) (bytes : List ℕ) (groups : List GroupView) → groups_of o bytes ≡ Ok groups → AreNames (by_address (names_said groups))
-unfolding groups_of read
-read_named o bytes groups e =
-    let a = groups_accepted o (tokens_of 1 bytes).tokens (tokens_of 1 bytes).ending groups e in
-    let formed : AreAllFormed groups = subst AreAllFormed a.1.of (groups_formed o a.1.spelling (tokens_of 1 bytes).tokens a.1.spelled) in
-    sorted_names (names_said groups) (accepted_given groups a.1.keeps formed)
+pub read_given : (groups : List GroupView) → AreRead groups → AreGiven (names_said groups)
+read_given groups r = read_keeps (λ gs. AreGiven (names_said gs)) (λ before k given h f g. rw (names_more before (record { kind = k; given = given })) (given_more before k given f h.closes g)) none_said groups r
 
 -- ---- by address there are exactly these names
 
@@ -280,17 +298,14 @@ found_itself names n apart h = itself (named_at names n.address) refl
         let p = (named_place names n.address x is).place in
         ap (λ (v : NameView). Some v) (same_name (λ v. v.address) names apart x n (p.index, p.low, p.is x) h (address_of names n.address x is))
 
-exactly : (names : List NameView) → All (λ n. n.address < 0x1_0000) names → AllPairs (λ n m. n.address ≢ m.address) names → (n : NameView) → Contains (by_address names) n ↔ Contains names n
+exactly_given : (names : List NameView) → AreGiven names → (n : NameView) → Contains (by_address names) n ↔ Contains names n
 unfolding by_address
-exactly names low apart n = (
+exactly_given names g n = (
   λ h. subst (Contains names) h.2 (all_from (Contains names) (named_at names) 0 0x1_0000 (λ b x low is. let r = (named_place names b x is).place in (r.index, r.low, r.is x)) h.0 n h.1),
   λ h.
-      let there : n.address < 0x1_0000 = subst (λ (x : NameView). x.address < 0x1_0000) h.2 (low h.0 n h.1) in
-      in_from (named_at names) 0 0x1_0000 n.address n (omega arith) (omega (arith, there)) (found_itself names n apart h),
+      let is = subst IsName h.2 (g.each h.0 n h.1) in
+      in_from (named_at names) 0 0x1_0000 n.address n (omega arith) (omega (arith, is.sized, is.room)) (found_itself names n g.addresses h),
 )
-
-exactly_given : (names : List NameView) → AreGiven names → (n : NameView) → Contains (by_address names) n ↔ Contains names n
-exactly_given names g = exactly names (λ k d l. let is = g.each k d l in omega (arith, is.sized, is.room)) g.addresses
 
 -- ---- lists that rise by address
 
@@ -328,47 +343,9 @@ names_sorted names are =
     let g = given_names names are in
     rising_same (by_address names) names (rises names) are.rising (λ n. (exactly_given names g n).0) (λ n. (exactly_given names g n).1)
 
-abbrev addresses : List NameView → List ℕ
-addresses ns = map (λ (n : NameView). n.address) ns
-
--- names that are put in the order of their addresses are those by address
-pub sorted_is : (xs ys : List NameView) → IsPermutation xs ys → IsNonDecreasingBy (λ (n : NameView). n.address) ys → All (λ n. n.address < 0x1_0000) xs → AllPairs (λ n m. n.address ≢ m.address) xs → by_address xs ≡ ys
-sorted_is xs ys moved up low apart =
-    rising_same (by_address xs) ys (rises xs) (λ i j d lt l.
-    let lower : get_or (addresses ys) i 0 < get_or (addresses ys) j 0 = AllPairs-from_increasing (addresses ys) (IsStrictlyIncreasing-from_distinct (addresses ys) flat distinct) i j 0 lt (omega (arith, l, length-map ys (λ n. n.address))) in
-    omega (arith, lower, get_or-map (λ n. n.address) ys i d 0 (omega (arith, lt, l)), get_or-map (λ n. n.address) ys j d 0 l))
-    (λ n h. Contains-permutation xs ys n moved ((exactly xs low apart n).0 h))
-    (λ n h. (exactly xs low apart n).1 (Contains-permutation ys xs n (IsPermutation-sym xs ys moved) h))
-  where
-    flips : (a b : ℕ) → (a == b) ≡ (b == a)
-    flips a b = ⊎_elim (λ same. ap₂ (λ (x y : ℕ). x == y) same.1 (sym same.1)) (λ other. other.0 ∙ sym (⊎_elim (λ back. absurd (other.1 (sym back.1))) (λ back. back.0) (eqb_tells b a))) (eqb_tells a b)
-
-    flat : IsNonDecreasing (addresses ys)
-    flat i j d le l =
-        let high : j < length ys = omega (arith, l, length-map ys (λ n. n.address)) in
-        let rise : (get_or ys i blank_name).address ≤ (get_or ys j blank_name).address = up i j blank_name le high in
-        let all : get_or (addresses ys) i d ≤ get_or (addresses ys) j d = omega (arith, rise, get_or-map (λ n. n.address) ys i blank_name d (omega (arith, le, high)), get_or-map (λ n. n.address) ys j blank_name d high) in
-        all
-
-    distinct : IsDistinct (λ a b. a == b) (addresses ys)
-    distinct = IsDistinct-IsPermutation (λ a b. a == b) flips (addresses xs) (addresses ys) (IsPermutation-map (λ n. n.address) xs ys moved) (IsDistinct-from_AllPairs Decides-eqb (addresses xs) (λ i j d lt l same.
-        let high : j < length xs = omega (arith, l, length-map xs (λ n. n.address)) in
-        apart i j blank_name lt high (sym (get_or-map (λ n. n.address) xs i blank_name d (omega (arith, lt, high))) ∙ same ∙ get_or-map (λ n. n.address) xs j blank_name d high)))
-
-pub order_seen : (xs : List Given) → IsNonDecreasingBy (λ (n : Given). n.address) xs → IsNonDecreasingBy (λ (n : NameView). n.address) (map given_seen xs)
-order_seen [] up i j d le l = absurd (omega (arith, l))
-order_seen (x ∷ xs) up i j d le l =
-    let high : j < length (x ∷ xs) = omega (arith, l, length-map (x ∷ xs) given_seen) in
-    let a = ap (λ (n : NameView). n.address) (get_or-map given_seen (x ∷ xs) i x d (omega (arith, le, high))) in
-    let b = ap (λ (n : NameView). n.address) (get_or-map given_seen (x ∷ xs) j x d high) in
-    let rise : (get_or (x ∷ xs) i x).address ≤ (get_or (x ∷ xs) j x).address = up i j x le high in
-    let all : (get_or (map given_seen (x ∷ xs)) i d).address ≤ (get_or (map given_seen (x ∷ xs)) j d).address = omega (arith, a, b, rise) in
-    all
-
 pub names_given : NamesGiven
 names_given o bytes info i =
-    let formed : AreAllFormed i.groups = subst AreAllFormed i.accepts.of (groups_formed o i.accepts.spelling (tokens_of 1 bytes).tokens i.accepts.spelled) in
-    let given = accepted_given i.groups i.accepts.keeps formed in
+    let given = read_given i.groups (accepted_read o (tokens_of 1 bytes).tokens i.groups i.accepts) in
     rw i.says (sorted_names (names_said i.groups) given, exactly_given (names_said i.groups) given)
 
 -- ---- the same names in another order

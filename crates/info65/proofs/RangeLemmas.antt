@@ -1,10 +1,10 @@
 -- The ranges of an accepted file: what their groups say, and that no two share an address.
-use Rattle.std.proofs.Common.{◌≡◌, ◌∙◌, ◌≤◌, ◌<◌, ◌+◌, ◌-◌, ◌&&◌, ℕ, zero, suc, List, [], ◌∷◌, ◌++◌, true, false, ap, append_assoc, arith, get_or, inl, inr, length, refl, subst, sym}
+use Rattle.std.proofs.Common.{◌≡◌, ◌∙◌, ◌≤◌, ◌<◌, ◌+◌, ◌-◌, ◌&&◌, ℕ, List, [], ◌∷◌, ◌++◌, true, false, ap, arith, get_or, inl, inr, length, refl, subst, sym}
 use Rattle.std.specs.Prelude.{All, AllPairs, Any, IfSome, Option, Some, None, Result, Ok, Err, ◌⊎◌, nat_le}
 use Rattle.std.specs.List.{flat_map, list_any}
 use Rattle.std.proofs.lemmas.Bool.Decides.{nat_tests}
 use Rattle.std.proofs.lemmas.List.{append-nil}
-use Rattle.std.proofs.lemmas.List.Elements.{All-append}
+use Rattle.std.proofs.lemmas.List.Elements.{All-append, All-cons, All-nil}
 use Rattle.std.proofs.lemmas.List.Folds.{Any-from_list_any, list_any_at, list_any-from_Any}
 use Rattle.std.proofs.lemmas.List.Quantifiers.{all_pairs_push}
 use Rattle.std.proofs.lemmas.Grind.{flat_map-append}
@@ -18,10 +18,9 @@ use Rattle.info65.specs.Labels.{is_at, is_elsewhere, name_fault, names_said, ran
 use Rattle.info65.specs.Laws.{AreSaid, OverlapsShare, RangesApart, SaysRange, Share}
 use Rattle.info65.specs.Names.{is_reserved}
 use Rattle.info65.specs.Ranges.{AreApart, AreRanges, last_from, overlaps, range_between, range_from, range_in, range_of_parts, range_part, ranges_of}
-use Rattle.info65.specs.Reader.{groups_of, read}
 use Rattle.info65.specs.Tokens.{tokens_of}
 use Rattle.info65.specs.Values.{ValueView, a_number, a_type, an_address, as_address, as_number, as_type}
-use Rattle.info65.specs.Views.{NameView, OptionsView}
+use Rattle.info65.specs.Views.{NameView}
 use Rattle.info65.specs.declared.syntax.attribute.Attribute.TheVariants as attribute
 use Rattle.info65.specs.declared.syntax.attribute.GroupKind.{GroupKind}
 use Rattle.info65.specs.declared.syntax.attribute.GroupKind.TheVariants as kind
@@ -29,9 +28,8 @@ use Rattle.info65.specs.declared.fault.InfoFaultKind.{InfoFaultKind}
 use Rattle.info65.specs.declared.fault.InfoFaultKind.TheVariants.{AddressTwice, Missing, NameTwice, OutOfRange, RangesOverlap, ReservedName}
 use Rattle.info65.specs.declared.information.range.RangeSpec.{RangeSpec}
 use Rattle.info65.specs.declared.information.range.RangeType.{RangeType}
-use Rattle.info65.proofs.Accepting.{groups_accepted}
 use Rattle.info65.proofs.Cases.{by_test}
-use Rattle.info65.proofs.FormLemmas.{found_formed, groups_formed, size_in}
+use Rattle.info65.proofs.FormLemmas.{AreRead, accepted_read, found_formed, read_keeps, size_in}
 
 -- ---- group by group
 
@@ -104,49 +102,37 @@ says given r f h =
 
 -- ---- each range is ordered
 
-ordered_between : (f : ℕ) (t : RangeType) (l : Option ℕ) (r : RangeSpec) → range_between f t l ≡ Ok r → r.first ≤ r.last
-ordered_between f t (Some l) r h = let b = between f l t r h in rw (b.0, b.1) b.3
-ordered_between f t None r h = absurd cc
+pub record IsBounded (r : RangeSpec) : Type 0 where
+  pub ordered : r.first ≤ r.last
+  pub low : r.last ≤ 0xFFFF
 
-ordered_from : (s e z : Option ℕ) (t : Option RangeType) (r : RangeSpec) → range_from s e z t ≡ Ok r → r.first ≤ r.last
-ordered_from (Some f) e z (Some t) r h = ordered_between f t (last_from f e z) r h
-ordered_from _ e z _ r h = absurd cc
+bounded_between : (f : ℕ) (t : RangeType) (l : Option ℕ) (r : RangeSpec) → range_between f t l ≡ Ok r → IsBounded r
+bounded_between f t (Some l) r h = let b = between f l t r h in record { ordered = rw (b.0, b.1) b.3; low = rw b.1 b.4 }
+bounded_between f t None r h = absurd cc
 
-pub ordered_in : (given : List AssignmentView) (r : RangeSpec) → range_in given ≡ Ok r → r.first ≤ r.last
+bounded_from : (s e z : Option ℕ) (t : Option RangeType) (r : RangeSpec) → range_from s e z t ≡ Ok r → IsBounded r
+bounded_from (Some f) e z (Some t) r h = bounded_between f t (last_from f e z) r h
+bounded_from _ e z _ r h = absurd cc
+
+-- a range does not end before it begins, nor past $FFFF
+pub bounded_in : (given : List AssignmentView) (r : RangeSpec) → range_in given ≡ Ok r → IsBounded r
 unfolding range_of_parts
-ordered_in given r h = ordered_from (as_address (value_in attribute.Start given)) (as_address (value_in attribute.End given)) (as_number (value_in attribute.Size given)) (as_type (value_in attribute.Role given)) r (range_parts given r h)
-
-low_between : (f : ℕ) (t : RangeType) (l : Option ℕ) (r : RangeSpec) → range_between f t l ≡ Ok r → r.last ≤ 0xFFFF
-low_between f t (Some l) r h = let b = between f l t r h in rw b.1 b.4
-low_between f t None r h = absurd cc
-
-low_from : (s e z : Option ℕ) (t : Option RangeType) (r : RangeSpec) → range_from s e z t ≡ Ok r → r.last ≤ 0xFFFF
-low_from (Some f) e z (Some t) r h = low_between f t (last_from f e z) r h
-low_from _ e z _ r h = absurd cc
-
--- a range ends at or below $FFFF
-pub low_in : (given : List AssignmentView) (r : RangeSpec) → range_in given ≡ Ok r → r.last ≤ 0xFFFF
-unfolding range_of_parts
-low_in given r h = low_from (as_address (value_in attribute.Start given)) (as_address (value_in attribute.End given)) (as_number (value_in attribute.Size given)) (as_type (value_in attribute.Role given)) r (range_parts given r h)
+bounded_in given r h = bounded_from (as_address (value_in attribute.Start given)) (as_address (value_in attribute.End given)) (as_number (value_in attribute.Size given)) (as_type (value_in attribute.Role given)) r (range_parts given r h)
 
 abbrev Ordered : List RangeSpec → Type 0
 Ordered rs = All (λ r. r.first ≤ r.last) rs
 
-ordered_none : Ordered []
-ordered_none k d l = absurd (omega (arith, l))
-
-ordered_one : (r : RangeSpec) → r.first ≤ r.last → Ordered (r ∷ [])
-ordered_one r h zero d l = h
-ordered_one r h (suc k) d l = absurd (omega (arith, l))
-
 ordered_part : (k : GroupKind) (given : List AssignmentView) (x : Result RangeSpec InfoFaultKind) → range_in given ≡ x → Ordered (range_part (record { kind = k; given = given }))
-ordered_part kind.Range given (Ok r) e = rw e (ordered_one r (ordered_in given r e))
-ordered_part kind.Range given (Err f) e = rw e ordered_none
-ordered_part _ given x e = ordered_none
+ordered_part kind.Range given (Ok r) e = rw e (All-cons (λ (x : RangeSpec). x.first ≤ x.last) r [] (bounded_in given r e).ordered (All-nil (λ (x : RangeSpec). x.first ≤ x.last)))
+ordered_part kind.Range given (Err f) e = rw e (All-nil (λ (x : RangeSpec). x.first ≤ x.last))
+ordered_part _ given x e = All-nil (λ (x : RangeSpec). x.first ≤ x.last)
+
+pub part_ordered : (g : GroupView) (r : RangeSpec) → r ∷ [] ≡ range_part g → r.first ≤ r.last
+part_ordered g r is = (rw (← is) at (ordered_part g.kind g.given (range_in g.given) refl)) 0 r (omega arith)
 
 pub ranges_ordered : (groups : List GroupView) → Ordered (ranges_of groups)
 unfolding ranges_of
-ranges_ordered [] = ordered_none
+ranges_ordered [] = All-nil (λ (x : RangeSpec). x.first ≤ x.last)
 ranges_ordered (g ∷ gs) = All-append (λ r. r.first ≤ r.last) (range_part g) (ranges_of gs) (ordered_part g.kind g.given (range_in g.given) refl) (ranges_ordered gs)
 
 -- ---- two ranges overlap where they share an address
@@ -204,7 +190,7 @@ pub overlaps_share : OverlapsShare
 unfolding closing_fault
 overlaps_share before given r is = (
   λ h. let i : range_fault (ranges_of before) (names_said before) given (Ok r) ≡ Some RangesOverlap = rw is at h in
-      any_shared r (ranges_of before) (ordered_in given r is) (ranges_ordered before) (Any-from_list_any (overlaps r) (ranges_of before) (refused_overlap r (ranges_of before) (names_said before) given i)),
+      any_shared r (ranges_of before) (bounded_in given r is).ordered (ranges_ordered before) (Any-from_list_any (overlaps r) (ranges_of before) (refused_overlap r (ranges_of before) (names_said before) given i)),
   λ h. let yes = list_any-from_Any (overlaps r) (ranges_of before) (shared_any r (ranges_of before) h) in rw (is, yes) refl,
 )
 
@@ -238,19 +224,16 @@ pairs_more before kind.Range given h old =
     rw c.is (all_pairs_push AreApart (ranges_of before) c.range old (apart_from c.range (ranges_of before) c.free))
 pairs_more before _ given h old = rw (append-nil (ranges_of before)) old
 
-groups_apart : (before gs : List GroupView) → AreGroups before gs → AllPairs AreApart (ranges_of before) → AllPairs AreApart (ranges_of (before ++ gs))
-groups_apart before [] h old = rw (append-nil before) old
-groups_apart before (g ∷ gs) h old =
-    let more : AllPairs AreApart (ranges_of (before ++ g ∷ [])) = rw (ranges_more before g) (pairs_more before g.kind g.given h.0.closes old) in
-    let all = groups_apart (before ++ g ∷ []) gs h.1 more in rw (append_assoc before (g ∷ []) gs) at all
-
 none_apart : AllPairs AreApart (ranges_of [])
 unfolding ranges_of
 none_apart i j d lt l = absurd (omega (arith, l))
 
 -- groups that keep every condition have such ranges
-pub groups_sound : (groups : List GroupView) → AreGroups [] groups → AreRanges (ranges_of groups)
-groups_sound groups h = record { disjoint = record { each = groups_apart [] groups h none_apart }; ordered = ranges_ordered groups }
+pub ranges_sound : (groups : List GroupView) → AreRead groups → AreRanges (ranges_of groups)
+ranges_sound groups r = record {
+  disjoint = record { each = read_keeps (λ gs. AllPairs AreApart (ranges_of gs)) (λ before k given g f old. rw (ranges_more before (record { kind = k; given = given })) (pairs_more before k given g.closes old)) none_apart groups r };
+  ordered = ranges_ordered groups;
+}
 
 said_more : (before : List GroupView) (k : GroupKind) (given : List AssignmentView) (gs : List GroupView) → closing_fault before k given ≡ None → AreFormed given → AreSaid gs (ranges_of gs) → AreSaid (record { kind = k; given = given } ∷ gs) (range_part (record { kind = k; given = given }) ++ ranges_of gs)
 said_more before kind.Range given gs h f said = let c = closes_range before given h in rw c.is (says given c.range f c.is, said)
@@ -263,11 +246,5 @@ groups_said before (g ∷ gs) h f = said_more before g.kind g.given gs h.0.close
 
 pub ranges_apart : RangesApart
 ranges_apart o bytes info i =
-    let formed : AreAllFormed i.groups = subst AreAllFormed i.accepts.of (groups_formed o i.accepts.spelling (tokens_of 1 bytes).tokens i.accepts.spelled) in
-    rw i.says (groups_said [] i.groups i.accepts.keeps formed, groups_sound i.groups i.accepts.keeps)
-
--- the ranges of the groups of an accepted text
-pub read_sound : (o : OptionsView) (bytes : List ℕ) (groups : List GroupView) → groups_of o bytes ≡ Ok groups → AreRanges (ranges_of groups)
-unfolding groups_of read
-read_sound o bytes groups e =
-    let a = groups_accepted o (tokens_of 1 bytes).tokens (tokens_of 1 bytes).ending groups e in groups_sound groups a.1.keeps
+    let r = accepted_read o (tokens_of 1 bytes).tokens i.groups i.accepts in
+    rw i.says (groups_said [] i.groups r.keeps r.formed, ranges_sound i.groups r)

@@ -1,10 +1,10 @@
 -- The segments of an accepted file: what their groups say, and that no two share an address.
-use Rattle.std.proofs.Common.{◌≡◌, ◌∙◌, ◌≤◌, ◌<◌, ◌+◌, ◌-◌, ◌||◌, ℕ, zero, suc, Bool, List, [], ◌∷◌, ◌++◌, true, false, ap, append_assoc, arith, drop, get_or, length, map, refl, subst, sym}
+use Rattle.std.proofs.Common.{◌≡◌, ◌∙◌, ◌≤◌, ◌<◌, ◌+◌, ◌-◌, ◌||◌, ℕ, Bool, List, [], ◌∷◌, ◌++◌, true, false, ap, arith, drop, get_or, length, map, refl, subst, sym}
 use Rattle.std.specs.Prelude.{All, Any, IfSome, Option, Some, None, Result, Ok, Err, nat_le}
 use Rattle.std.specs.List.{flat_map, list_any}
 use Rattle.std.proofs.lemmas.Bool.Decides.{nat_tests}
 use Rattle.std.proofs.lemmas.List.{append-nil, at_drop_all, at_drop_more}
-use Rattle.std.proofs.lemmas.List.Elements.{All-append, All-map, All-push}
+use Rattle.std.proofs.lemmas.List.Elements.{All-append, All-cons, All-map, All-nil, All-push}
 use Rattle.std.proofs.lemmas.List.Folds.{Any-from_list_any, list_any-append, list_any-from_Any, list_any_at}
 use Rattle.std.proofs.lemmas.List.Quantifiers.{all_pairs_push}
 use Rattle.std.proofs.lemmas.Grind.{flat_map-append}
@@ -13,14 +13,13 @@ use Rattle.info65.specs.Closing.{closing_fault, segment_fault}
 use Rattle.info65.specs.Code.Groups.{group_seen}
 use Rattle.info65.specs.Code.Index.{AreMarked, any_in}
 use Rattle.info65.specs.Grammar.{AreGroups}
-use Rattle.info65.specs.Groups.{AreAllFormed, AreFormed, AssignmentView, GroupView, value_in}
+use Rattle.info65.specs.Groups.{AreFormed, AssignmentView, GroupView, value_in}
 use Rattle.info65.specs.Ranges.{has_address, overlaps}
-use Rattle.info65.specs.Reader.{groups_of, read}
 use Rattle.info65.specs.SegmentLaws.{AreSaid, SaysSegment, SegmentsApart, SegmentsShare, Share}
 use Rattle.info65.specs.Segments.{AreApart, AreSegments, IsSegment, contains, meets, segment_from, segment_in, segment_part, segments_of}
 use Rattle.info65.specs.Tokens.{tokens_of}
 use Rattle.info65.specs.Values.{HasForm, ValueView, a_name, an_address, as_address, as_name}
-use Rattle.info65.specs.Views.{OptionsView, SegmentView}
+use Rattle.info65.specs.Views.{SegmentView}
 use Rattle.info65.specs.declared.syntax.assignment.Group.{Group}
 use Rattle.info65.specs.declared.syntax.attribute.Attribute.TheVariants as attribute
 use Rattle.info65.specs.declared.syntax.attribute.Form.TheVariants as form
@@ -30,9 +29,8 @@ use Rattle.info65.specs.declared.fault.InfoFaultKind.{InfoFaultKind}
 use Rattle.info65.specs.declared.fault.InfoFaultKind.TheVariants.{OutOfRange, SegmentsOverlap}
 use Rattle.info65.specs.declared.information.range.RangeSpec.{RangeSpec}
 use Rattle.info65.specs.declared.information.range.RangeType.TheVariants as role
-use Rattle.info65.proofs.Accepting.{groups_accepted}
 use Rattle.info65.proofs.Cases.{by_test, or_last, same_ok}
-use Rattle.info65.proofs.FormLemmas.{found_formed, groups_formed}
+use Rattle.info65.proofs.FormLemmas.{AreRead, accepted_read, found_formed, read_keeps}
 use Rattle.info65.proofs.IndexLemmas.{overlaps_marked}
 use Rattle.info65.proofs.NamesLemmas.{name_formed}
 use Rattle.info65.proofs.RangeLemmas.{address_is, overlap_shared, shared_overlap}
@@ -144,26 +142,22 @@ segment_apart segments s x is miss = rw is (rw miss refl)
 
 -- ---- marking
 
-segments_moved : (xs ys : List SegmentView) (table : List Bool) → ys ≡ xs → AreMarked xs table → AreMarked ys table
-segments_moved xs ys table e m = rw e m
+ordered_part : (k : GroupKind) (given : List AssignmentView) (x : Result SegmentView InfoFaultKind) → segment_in given ≡ x → All (λ (s : SegmentView). s.first ≤ s.last) (segment_part (record { kind = k; given = given }))
+ordered_part kind.Segment given (Ok s) e = rw e (All-cons (λ (x : SegmentView). x.first ≤ x.last) s [] (segment_is given s e).ordered (All-nil (λ (x : SegmentView). x.first ≤ x.last)))
+ordered_part kind.Segment given (Err f) e = rw e (All-nil (λ (x : SegmentView). x.first ≤ x.last))
+ordered_part _ given x e = All-nil (λ (x : SegmentView). x.first ≤ x.last)
 
--- a group SEGMENT with a segment marks it
-pub marked_segment : (before : List GroupView) (given : List AssignmentView) (s : SegmentView) (old new : List Bool) → segment_in given ≡ Ok s → length new ≡ length old
-    → ((a : ℕ) → a < 0x1_0000 → get_or new a false ≡ (get_or old a false || contains s a)) → AreMarked (segments_of before) old → AreMarked (segments_of (before ++ record { kind = kind.Segment; given = given } ∷ [])) new
-marked_segment before given s old new is long marked m =
-    segments_moved _ _ new (segments_more before (record { kind = kind.Segment; given = given }) ∙ rw is refl) (segment_marked (segments_of before) s old new m (segment_is given s is).ordered long marked)
+pub part_ordered : (g : GroupView) (s : SegmentView) → s ∷ [] ≡ segment_part g → s.first ≤ s.last
+part_ordered g s is = (rw (← is) at (ordered_part g.kind g.given (segment_in g.given) refl)) 0 s (omega arith)
 
--- one with a fault says none
-pub marked_fault : (before : List GroupView) (given : List AssignmentView) (f : InfoFaultKind) (table : List Bool) → segment_in given ≡ Err f → AreMarked (segments_of before) table → AreMarked (segments_of (before ++ record { kind = kind.Segment; given = given } ∷ [])) table
-marked_fault before given f table is m = segments_moved _ _ table (segments_more before (record { kind = kind.Segment; given = given }) ∙ rw is (append-nil (segments_of before))) m
+-- a group that says a segment marks it
+pub marked_more : (before : List GroupView) (g : GroupView) (s : SegmentView) (old new : List Bool) → s ∷ [] ≡ segment_part g → length new ≡ length old
+    → ((a : ℕ) → a < 0x1_0000 → get_or new a false ≡ (get_or old a false || contains s a)) → AreMarked (segments_of before) old → AreMarked (segments_of (before ++ g ∷ [])) new
+marked_more before g s old new is long marked m = rw (segments_more before g, ← is) (segment_marked (segments_of before) s old new m (part_ordered g s is) long marked)
 
--- and any other group says none
-pub marked_other : (before : List GroupView) (k : GroupKind) (given : List AssignmentView) (table : List Bool) → (k ≡ kind.Segment → ⊥) → AreMarked (segments_of before) table → AreMarked (segments_of (before ++ record { kind = k; given = given } ∷ [])) table
-marked_other before k given table other m = segments_moved _ _ table (segments_more before (record { kind = k; given = given }) ∙ none k other) m
-  where
-    none : (k : GroupKind) → (k ≡ kind.Segment → ⊥) → segments_of before ++ segment_part (record { kind = k; given = given }) ≡ segments_of before
-    none kind.Segment other = absurd (other refl)
-    none _ other = append-nil (segments_of before)
+-- and one that says none marks none
+pub marked_same : (before : List GroupView) (g : GroupView) (table : List Bool) → [] ≡ segment_part g → AreMarked (segments_of before) table → AreMarked (segments_of (before ++ g ∷ [])) table
+marked_same before g table is m = rw (segments_more before g, ← is, append-nil (segments_of before)) m
 
 -- ---- no two share an address
 
@@ -198,23 +192,12 @@ good_more before kind.Segment given f h old =
     })
 good_more before _ given f h old = rw (append-nil (segments_of before)) old
 
-groups_good : (before gs : List GroupView) → AreGroups before gs → AreAllFormed gs → AreSegments (segments_of before) → AreSegments (segments_of (before ++ gs))
-groups_good before [] h f old = rw (append-nil before) old
-groups_good before (g ∷ gs) h f old =
-    let more : AreSegments (segments_of (before ++ g ∷ [])) = rw (segments_more before g) (good_more before g.kind g.given f.0 h.0.closes old) in
-    let all = groups_good (before ++ g ∷ []) gs h.1 f.1 more in rw (append_assoc before (g ∷ []) gs) at all
-
 none_said : AreSegments (segments_of [])
 unfolding segments_of
 none_said = record { each = λ k d l. absurd (omega (arith, l)); apart = λ i j d lt l. absurd (omega (arith, l)) }
 
--- the segments of the groups of an accepted text
-pub read_segments : (o : OptionsView) (bytes : List ℕ) (groups : List GroupView) → groups_of o bytes ≡ Ok groups → AreSegments (segments_of groups)
-unfolding groups_of read
-read_segments o bytes groups e =
-    let a = groups_accepted o (tokens_of 1 bytes).tokens (tokens_of 1 bytes).ending groups e in
-    let formed : AreAllFormed groups = subst AreAllFormed a.1.of (groups_formed o a.1.spelling (tokens_of 1 bytes).tokens a.1.spelled) in
-    groups_good [] groups a.1.keeps formed none_said
+pub segments_sound : (groups : List GroupView) → AreRead groups → AreSegments (segments_of groups)
+segments_sound groups r = read_keeps (λ gs. AreSegments (segments_of gs)) (λ before k given g f old. rw (segments_more before (record { kind = k; given = given })) (good_more before k given f g.closes old)) none_said groups r
 
 -- ---- the laws
 
@@ -229,22 +212,12 @@ groups_said before (g ∷ gs) h = said_more before g.kind g.given gs h.0.closes 
 
 pub segments_apart : SegmentsApart
 segments_apart o bytes info i =
-    let formed : AreAllFormed i.groups = subst AreAllFormed i.accepts.of (groups_formed o i.accepts.spelling (tokens_of 1 bytes).tokens i.accepts.spelled) in
-    rw i.says (groups_said [] i.groups i.accepts.keeps, groups_good [] i.groups i.accepts.keeps formed none_said)
+    rw i.says (groups_said [] i.groups i.accepts.keeps, segments_sound i.groups (accepted_read o (tokens_of 1 bytes).tokens i.groups i.accepts))
 
 segments_ordered : (groups : List GroupView) → All (λ (s : SegmentView). s.first ≤ s.last) (segments_of groups)
 unfolding segments_of
-segments_ordered [] = λ k d l. absurd (omega (arith, l))
-segments_ordered (g ∷ gs) = All-append (λ (s : SegmentView). s.first ≤ s.last) (segment_part g) (segments_of gs) (part g.kind g.given (segment_in g.given) refl) (segments_ordered gs)
-  where
-    one : (s : SegmentView) → s.first ≤ s.last → All (λ (s : SegmentView). s.first ≤ s.last) (s ∷ [])
-    one s h zero d l = h
-    one s h (suc k) d l = absurd (omega (arith, l))
-
-    part : (k : GroupKind) (given : List AssignmentView) (x : Result SegmentView InfoFaultKind) → segment_in given ≡ x → All (λ (s : SegmentView). s.first ≤ s.last) (segment_part (record { kind = k; given = given }))
-    part kind.Segment given (Ok s) e = rw e (one s (segment_is given s e).ordered)
-    part kind.Segment given (Err f) e = rw e (λ k d l. absurd (omega (arith, l)))
-    part _ given x e = λ k d l. absurd (omega (arith, l))
+segments_ordered [] = All-nil (λ (x : SegmentView). x.first ≤ x.last)
+segments_ordered (g ∷ gs) = All-append (λ (s : SegmentView). s.first ≤ s.last) (segment_part g) (segments_of gs) (ordered_part g.kind g.given (segment_in g.given) refl) (segments_ordered gs)
 
 refused_meets : (s : SegmentView) (ss : List SegmentView) → segment_fault ss (Ok s) ≡ Some SegmentsOverlap → list_any (meets s) ss ≡ true
 refused_meets s ss h =

@@ -152,8 +152,8 @@ pub record IsIncluded (i : IncludeView) (names : List NameView) (bytes : List �
   pub are : AreAdded i names (text_lines bytes) added
   pub is : all ≡ by_address (names ++ added)
 
--- the fault of the first line that has one, at the number of that line
-pub record IsFirstFault (i : IncludeView) (names : List NameView) (lines : List (List ℕ)) (e : InfoFault) : Type 0 where
+-- the fault of the first line that has one, at the number of that line, if the first of these lines has the number k
+pub record IsFirstFault (i : IncludeView) (k : ℕ) (names : List NameView) (lines : List (List ℕ)) (e : InfoFault) : Type 0 where
   pub front : List (List ℕ)
   pub line : List ℕ
   pub rest : List (List ℕ)
@@ -163,12 +163,12 @@ pub record IsFirstFault (i : IncludeView) (names : List NameView) (lines : List 
   pub heeded : i.ignore_unknown ≡ false
   pub kind : InfoFaultKind
   pub has : LineAdds i.comment_start (names ++ added) line (Err kind)
-  pub is : e ≡ fault (length front + 1) kind
+  pub is : e ≡ fault (k + length front) kind
 
 -- it is too large, whatever it holds, or a line of it has a fault
 abbrev pub IsRefused : IncludeView → List NameView → List ℕ → InfoFault → Type 0
 IsRefused i names bytes e =
-    ((1_048_576 < length bytes) × (e ≡ fault 1 TooLarge)) ⊎ ((length bytes ≤ 1_048_576) × IsFirstFault i names (text_lines bytes) e)
+    ((1_048_576 < length bytes) × (e ≡ fault 1 TooLarge)) ⊎ ((length bytes ≤ 1_048_576) × IsFirstFault i 1 names (text_lines bytes) e)
 
 -- An include file adds exactly the names of its lines, in their order, or is refused for exactly the first line that has a fault.
 pub record IsFileLaw (i : IncludeView) (names : List NameView) (bytes : List ℕ) : Type 0 where

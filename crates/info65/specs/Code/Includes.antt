@@ -14,19 +14,9 @@ use Rattle.info65.specs.declared.information.name.Given.{Given}
 abbrev pub named_seen : NamedFile → IncludeView
 named_seen n = record { file = n.file.now; comment_start = n.comment_start; ignore_unknown = n.ignore_unknown }
 
--- a call returns the include file that the definition gives, or its fault
-abbrev pub SeesInclude : Result NamedFile InfoFaultKind → Result IncludeView InfoFaultKind → Type 0
-SeesInclude (Ok n) defined = defined ≡ Ok (named_seen n)
-SeesInclude (Err f) defined = defined ≡ Err f
-
 abbrev pub name_result_seen : Result (Option Given) InfoFaultKind → Result (Option NameView) InfoFaultKind
 name_result_seen (Ok n) = Ok (option_map given_seen n)
 name_result_seen (Err f) = Err f
-
--- a call returns the name that the definition gives, if it gives one, or its fault
-abbrev pub SeesName : Result (Option Given) InfoFaultKind → Result (Option NameView) InfoFaultKind → Type 0
-SeesName (Ok n) defined = defined ≡ Ok (option_map given_seen n)
-SeesName (Err f) defined = defined ≡ Err f
 
 -- the names with what a line adds
 abbrev pub with_added : List NameView → Result (Option NameView) InfoFault → Result (List NameView) InfoFault

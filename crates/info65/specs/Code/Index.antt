@@ -35,12 +35,10 @@ pub record StandsIn (names : List NameView) (texts : TextsView) (t : List ℕ) :
   pub alone : texts.slotted t ≡ 0 → texts.others t ≡ None
   pub is : stands_by t (texts.others t) (numbered names (texts.slotted t)) ≡ option_map (λ n. n.address) (text_at names t)
 
--- no two of the names have one text or one address, and each is found by both
+-- no two of the names have one text, and each is found by its address and by its text
 pub record IsIndex (names : List NameView) (numbers : NumbersView) (seen : TextsView) : Type 0 where
   pub long : numbers.count ≡ 0x1_0000
-  pub low : All (λ n. n.address < 0x1_0000) names
   pub distinct : AllPairs (λ n m. n.text ≢ m.text) names
-  pub apart : AllPairs (λ n m. n.address ≢ m.address) names
   pub addresses : (a : ℕ) → IsFoundAt names numbers.cells a
   pub texts : (t : List ℕ) → StandsIn names seen t
 

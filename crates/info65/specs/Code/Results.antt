@@ -11,3 +11,8 @@ Fails e defined = (defined ≡ Err e) ⊎ (e ≡ out_of_memory)
 abbrev pub Gives : {X A : Type 0} → (X → A) → Result X InfoFault → Result A InfoFault → Type 0
 Gives seen (Ok x) defined = defined ≡ Ok (seen x)
 Gives seen (Err e) defined = Fails e defined
+
+-- the same for a call that takes no memory, whatever its faults are
+abbrev pub Sees : {X A E : Type 0} → (X → A) → Result X E → Result A E → Type 0
+Sees seen (Ok x) defined = defined ≡ Ok (seen x)
+Sees seen (Err e) defined = defined ≡ Err e

@@ -22,11 +22,6 @@ kind_seen kind.Semicolon = semicolon
 abbrev pub lexeme_seen : Lexeme → LexemeView
 lexeme_seen l = record { kind = kind_seen l.kind; more = l.more }
 
--- what a call returns, seen as the definition sees it, is what the definition gives
-abbrev pub Sees : {X A : Type 0} → (X → A) → Result X InfoFault → Result A InfoFault → Type 0
-Sees seen (Ok x) defined = defined ≡ Ok (seen x)
-Sees seen (Err e) defined = defined ≡ Err e
-
 abbrev pub seen : Token → TokenView
 seen t = record { kind = kind_seen t.kind; text = t.text.now; line = t.line }
 

@@ -13,7 +13,7 @@ use crate::groups::group_list::GroupList;
 use crate::groups::group_values::is_given;
 use crate::groups::include_groups::{has_room, include_in};
 use crate::groups::label_groups::{label_in, range_name};
-use crate::groups::range_groups::{mark_range, push_range, range_fault, range_in};
+use crate::groups::range_groups::{add_range, range_fault, range_in};
 use crate::groups::segment_groups::{mark_segment, segment_fault};
 use crate::information::name::Given;
 use crate::information::pool::NamePool;
@@ -165,9 +165,8 @@ impl<'a, A: Allocator + Copy> Closed<'a, A> {
             mut segmented,
         } = self;
         let names = names.with_optional(name_part(group.kind, group.given.as_slice()))?;
-        mark_range(ranged.as_mut_slice(), group.kind, group.given.as_slice());
-        mark_segment(segmented.as_mut_slice(), group.kind, group.given.as_slice());
-        push_range(&mut ranges, &group)?;
+        add_range(&mut ranges, ranged.as_mut_slice(), &group)?;
+        mark_segment(segmented.as_mut_slice(), &group);
         let groups = groups.with(&group);
         keep(&mut kept, group)?;
         Ok(Closed {

@@ -2,9 +2,9 @@
 
 ghost use Rattle.std.specs.Prelude.{◌≡◌, ◌<◌, ◌+◌, ◌^◌, ◌++◌, IfErr, IfOk, Ok, length, map, option_map, option_to_list};
 ghost use Rattle.info65.specs.Code.Groups.{assignment_seen, group_seen};
-ghost use Rattle.info65.specs.Code.Includes.{SeesInclude, named_seen};
+ghost use Rattle.info65.specs.Code.Includes.{named_seen};
 ghost use Rattle.info65.specs.Faults.{out_of_memory};
-ghost use Rattle.info65.specs.Code.Results.{Gives};
+ghost use Rattle.info65.specs.Code.Results.{Gives, Sees};
 ghost use Rattle.info65.specs.Groups.{AreAllFormed, AreFormed};
 ghost use Rattle.info65.specs.IncludeGroups.{has_room, include_in, include_part, includes_of};
 
@@ -30,7 +30,7 @@ pub struct NamedFile<'a> {
 /// The include file that a group ASMINC says by what is given in it. It is Missing if FILE is not given.
 #[tactic(auto, unfolding(crate::specs::IncludeGroups::include_in))]
 pub fn include_in<'a>(given: &[Assignment<'a>]) -> Result<NamedFile<'a>, InfoFaultKind>
-    ensures { SeesInclude result (include_in (map assignment_seen given.now)) }
+    ensures { Sees named_seen result (include_in (map assignment_seen given.now)) }
 {
     let comment_start = as_character(value_in(given, Attribute::CommentStart));
     let ignore_unknown = as_boolean(value_in(given, Attribute::IgnoreUnknown));

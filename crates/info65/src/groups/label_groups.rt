@@ -1,9 +1,10 @@
 //! The names that groups LABEL and RANGE say.
 
-ghost use Rattle.std.specs.Prelude.{◌≡◌, ◌≤◌, ◌<◌, IfOk, Ok, map, option_map};
+ghost use Rattle.std.specs.Prelude.{◌≡◌, ◌<◌, Ok, map, option_map};
 ghost use Rattle.info65.specs.Code.Groups.{assignment_seen};
-ghost use Rattle.info65.specs.Code.Names.{SeesName, given_seen};
-ghost use Rattle.info65.specs.Labels.{label_from, label_in, label_sized, range_name};
+ghost use Rattle.info65.specs.Code.Names.{given_seen};
+ghost use Rattle.info65.specs.Code.Results.{Sees};
+ghost use Rattle.info65.specs.Labels.{label_in, label_sized, range_name};
 
 use crate::fault::InfoFaultKind;
 use crate::groups::comments::comment_in;
@@ -17,7 +18,7 @@ use crate::syntax::attribute::Attribute;
 /// and OutOfRange where its addresses go past $FFFF.
 #[tactic(auto, unfolding(crate::specs::Labels::label_in))]
 pub fn label_in<'a>(given: &[Assignment<'a>]) -> Result<Given<'a>, InfoFaultKind>
-    ensures { SeesName result (label_in (map assignment_seen given.now)) }
+    ensures { Sees given_seen result (label_in (map assignment_seen given.now)) }
 {
     let address = as_address(value_in(given, Attribute::Address));
     let text = as_name(value_in(given, Attribute::Name));
@@ -36,7 +37,7 @@ fn label_sized<'a>(
     size: u32,
     comment: Option<&'a [u8]>,
 ) -> Result<Given<'a>, InfoFaultKind>
-    ensures { SeesName result (label_sized address text.entry.now size (option_map (λ s. s.now) comment.entry)) }
+    ensures { Sees given_seen result (label_sized address text.entry.now size (option_map (λ s. s.now) comment.entry)) }
 {
     if u64::from(address) + u64::from(size) <= 0x1_0000 {
         Ok(Given {

@@ -1,14 +1,11 @@
 //! The ranges that groups RANGE say.
 
-ghost use Rattle.std.specs.Prelude.{◌≡◌, ◌++◌, ◌∷◌, [], IfErr, IfOk, List, length, map, option_to_list};
+ghost use Rattle.std.specs.Prelude.{◌≡◌, ◌++◌, IfErr, IfOk, length, map, option_to_list};
 ghost use Rattle.info65.specs.Closing.{range_fault};
 ghost use Rattle.info65.specs.Code.Groups.{assignment_seen, group_seen};
 ghost use Rattle.info65.specs.Code.Lookup.{IsRangeFault, RangesToo};
 ghost use Rattle.info65.specs.Faults.{out_of_memory};
-ghost use Rattle.info65.specs.Groups.{GroupView};
-ghost use Rattle.info65.specs.Ranges.{last_from, range_between, range_in, range_of_parts, range_part, ranges_of};
-ghost use Rattle.info65.specs.Reader.{group};
-ghost use Rattle.info65.specs.Views.{NameView};
+ghost use Rattle.info65.specs.Ranges.{last_from, range_between, range_in, range_of_parts, range_part};
 ghost use Rattle.info65.specs.declared.information.range.RangeSpec.{RangeSpec};
 
 use crate::fault::{InfoFault, InfoFaultKind};
@@ -100,19 +97,6 @@ pub fn range_fault<'a, A: Allocator + Copy>(
     }
 }
 
-/// Marks the range of a group that has no fault, if it says one.
-pub fn mark_range(table: &mut [bool], kind: GroupKind, given: &[Assignment])
-    requires { length table.old ≡ 0x1_0000 }
-    ensures size { length table.new ≡ length table.old }
-    ensures marked { RangesToo (group kind (map assignment_seen given.now)) table.old table.new }
-{
-    if let GroupKind::Range = kind {
-        if let Ok(range) = range_in(given) {
-            mark(table, range.first, range.last);
-        }
-    }
-}
-
 // The range of a group RANGE.
 fn range_part<A: Allocator>(group: &Group<A>) -> Option<RangeSpec>
     ensures { option_to_list result ≡ range_part (group_seen group.now) }
@@ -123,19 +107,21 @@ fn range_part<A: Allocator>(group: &Group<A>) -> Option<RangeSpec>
     }
 }
 
-/// Adds the range of the group, if it says one.
-pub fn push_range<A: Allocator, B: Allocator>(
+/// Adds and marks the range of the group, if it says one.
+pub fn add_range<A: Allocator, B: Allocator>(
     ranges: &mut Vec<RangeSpec, A>,
+    table: &mut [bool],
     group: &Group<B>,
 ) -> Result<(), InfoFault>
+    requires { length table.old ≡ 0x1_0000 }
     ensures done { IfOk result (λ _. ranges.new.items ≡ ranges.old.items ++ range_part (group_seen group.now)) }
+    ensures size { length table.new ≡ length table.old }
+    ensures marked { IfOk result (λ _. RangesToo (group_seen group.now) table.old table.new) }
     ensures err { IfErr result (λ e. e ≡ out_of_memory) }
 {
-    match range_part(group) {
-        Some(range) => {
-            ranges.push(range)?;
-            Ok(())
-        }
-        None => Ok(()),
+    if let Some(range) = range_part(group) {
+        ranges.push(range)?;
+        mark(table, range.first, range.last);
     }
+    Ok(())
 }

@@ -1,16 +1,13 @@
 //! The segments that groups SEGMENT say.
 
-ghost use Rattle.std.specs.Prelude.{◌≡◌, ◌≤◌, ◌∷◌, ◌++◌, IfErr, IfOk, List, None, Ok, Some, [], length, map, option_map, option_to_list};
-ghost use Rattle.info65.specs.Closing.{closing_fault, segment_fault};
+ghost use Rattle.std.specs.Prelude.{◌≡◌, ◌≤◌, IfErr, IfOk, None, Ok, Some, length, map, option_map, option_to_list};
+ghost use Rattle.info65.specs.Closing.{segment_fault};
 ghost use Rattle.info65.specs.Code.Groups.{assignment_seen, group_seen};
 ghost use Rattle.info65.specs.Code.Lookup.{IsSegmentFault, SegmentsToo};
-ghost use Rattle.info65.specs.Code.Segments.{SeesSegment, parts_seen, segment_seen};
+ghost use Rattle.info65.specs.Code.Segments.{parts_seen, segment_seen};
 ghost use Rattle.info65.specs.Faults.{out_of_memory};
-ghost use Rattle.info65.specs.Code.Results.{Gives};
-ghost use Rattle.info65.specs.Groups.{GroupView};
-ghost use Rattle.info65.specs.Reader.{group};
+ghost use Rattle.info65.specs.Code.Results.{Gives, Sees};
 ghost use Rattle.info65.specs.Segments.{segment_from, segment_in, segment_part, segments_of};
-ghost use Rattle.info65.specs.Views.{SegmentView};
 
 use crate::fault::{InfoFault, InfoFaultKind};
 use crate::groups::group_values::value_in;
@@ -32,7 +29,7 @@ pub struct SegmentParts<'a> {
 /// not given, and OutOfRange where it ends before it begins.
 #[tactic(auto, unfolding(crate::specs::Segments::segment_in))]
 pub fn segment_in<'a>(given: &[Assignment<'a>]) -> Result<SegmentParts<'a>, InfoFaultKind>
-    ensures value { SeesSegment result (segment_in (map assignment_seen given.now)) }
+    ensures value { Sees parts_seen result (segment_in (map assignment_seen given.now)) }
     ensures room { IfOk result (λ s. s.last ≤ 0xFFFF) }
 {
     let first = as_address(value_in(given, Attribute::Start));
@@ -49,7 +46,7 @@ fn segment_from<'a>(
     last: u16,
     name: &'a [u8],
 ) -> Result<SegmentParts<'a>, InfoFaultKind>
-    ensures value { SeesSegment result (segment_from (Some first) (Some last) (Some name.entry.now)) }
+    ensures value { Sees parts_seen result (segment_from (Some first) (Some last) (Some name.entry.now)) }
     ensures room { IfOk result (λ s. s.last ≤ 0xFFFF) }
 {
     if first <= last {
@@ -76,19 +73,6 @@ pub fn segment_fault(table: &[bool], given: &[Assignment]) -> Option<InfoFaultKi
     }
 }
 
-/// Marks the segment of a group that has no fault, if it says one.
-pub fn mark_segment(table: &mut [bool], kind: GroupKind, given: &[Assignment])
-    requires { length table.old ≡ 0x1_0000 }
-    ensures size { length table.new ≡ length table.old }
-    ensures marked { SegmentsToo (group kind (map assignment_seen given.now)) table.old table.new }
-{
-    if let GroupKind::Segment = kind {
-        if let Ok(segment) = segment_in(given) {
-            mark(table, segment.first, segment.last);
-        }
-    }
-}
-
 // The segment of a group SEGMENT.
 fn segment_part<'a, A: Allocator>(group: &Group<'a, A>) -> Option<SegmentParts<'a>>
     ensures { option_to_list (option_map parts_seen result) ≡ segment_part (group_seen group.now) }
@@ -96,6 +80,17 @@ fn segment_part<'a, A: Allocator>(group: &Group<'a, A>) -> Option<SegmentParts<'
     match group.kind {
         GroupKind::Segment => segment_in(group.given.as_slice()).ok(),
         GroupKind::Global | GroupKind::Range | GroupKind::Label | GroupKind::Include => None,
+    }
+}
+
+/// Marks the segment of the group, if it says one.
+pub fn mark_segment<A: Allocator>(table: &mut [bool], group: &Group<A>)
+    requires { length table.old ≡ 0x1_0000 }
+    ensures size { length table.new ≡ length table.old }
+    ensures marked { SegmentsToo (group_seen group.now) table.old table.new }
+{
+    if let Some(segment) = segment_part(group) {
+        mark(table, segment.first, segment.last);
     }
 }
 

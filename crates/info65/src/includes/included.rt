@@ -1,10 +1,9 @@
 //! The names of an information with those of an include file.
 
 ghost use Rattle.std.specs.Prelude.{Ok, option_map};
-ghost use Rattle.info65.specs.Code.Includes.{ReadsFile, SeesName, name_result_seen, with_added};
+ghost use Rattle.info65.specs.Code.Includes.{ReadsFile, name_result_seen, with_added};
 ghost use Rattle.info65.specs.Code.Names.{given_seen};
-ghost use Rattle.info65.specs.Code.Results.{Gives};
-ghost use Rattle.info65.specs.Code.Steps.{Sees};
+ghost use Rattle.info65.specs.Code.Results.{Gives, Sees};
 ghost use Rattle.info65.specs.Includes.{unless_ignored, line_adds, optional_adds};
 ghost use Rattle.info65.specs.Names.{AreNames};
 
@@ -50,7 +49,7 @@ fn optional_adds<'a, A: Allocator + Copy>(
     index: &Index<'a, A>,
     said: Result<Option<Given<'a>>, InfoFaultKind>,
 ) -> Result<Option<Given<'a>>, InfoFaultKind>
-    ensures { SeesName result (optional_adds index.now (name_result_seen said.entry)) }
+    ensures { Sees (option_map given_seen) result (optional_adds index.now (name_result_seen said.entry)) }
 {
     match said? {
         Some(name) => index.name_adds(name),

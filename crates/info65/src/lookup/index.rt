@@ -1,10 +1,10 @@
 //! An index of names.
 
-ghost use Rattle.std.specs.Prelude.{◌≡◌, Ok, map};
-ghost use Rattle.std.specs.List.Sorted.{IsNonDecreasingBy, IsPermutation};
-ghost use Rattle.info65.specs.Code.Index.{numbered};
+ghost use Rattle.std.specs.Prelude.{◌≡◌, ◌<◌, ◌/◌, ℕ, Ok, get_or, length, map, true, false};
+ghost use Rattle.info65.specs.Code.Index.{IsFoundAt, numbered};
 ghost use Rattle.info65.specs.Code.Names.{given_seen};
 ghost use Rattle.info65.specs.Code.Results.{Gives};
+ghost use Rattle.info65.specs.Labels.{by_address};
 ghost use Rattle.info65.specs.declared.information.name.Given.{Given};
 
 use crate::fault::{InfoFault, InfoFaultKind};
@@ -21,6 +21,11 @@ use std::marker::Model;
 
 // The bytes of the longest name.
 const LONGEST_NAME: usize = 80;
+
+// How many pages of addresses there are, and how many addresses each has.
+const PAGES: usize = 256;
+
+const PAGE: usize = 256;
 
 /// Names, found by their addresses and by their texts without reading again what gives them. A contract sees the list of
 /// them, in the order in which they were added.
@@ -64,10 +69,9 @@ impl<'a, A: Allocator + Copy> Index<'a, A> {
     ghost use Rattle.std.specs.List.{list_any};
     ghost use Rattle.info65.specs.Closing.{label_fault, optional_name_fault};
     ghost use Rattle.info65.specs.Code.Groups.{assignment_seen};
-    ghost use Rattle.info65.specs.Code.Includes.{SeesName};
     ghost use Rattle.info65.specs.Code.Index.{text_at};
     ghost use Rattle.info65.specs.Code.Names.{given_seen};
-    ghost use Rattle.info65.specs.Code.Results.{Gives};
+    ghost use Rattle.info65.specs.Code.Results.{Gives, Sees};
     ghost use Rattle.info65.specs.Includes.{name_adds};
     ghost use Rattle.info65.specs.Labels.{by_address, is_at, is_elsewhere, label_in, name_fault};
 
@@ -139,7 +143,7 @@ impl<'a, A: Allocator + Copy> Index<'a, A> {
     /// What a name of an include line adds, or its fault. A name of an address that has a name adds nothing.
     #[tactic(auto, unfolding(crate::specs::Includes::name_adds))]
     pub fn name_adds(&self, name: Given<'a>) -> Result<Option<Given<'a>>, InfoFaultKind>
-        ensures { SeesName result (name_adds self.now (given_seen name.entry)) }
+        ensures { Sees (option_map given_seen) result (name_adds self.now (given_seen name.entry)) }
     {
         if name.text.len() > LONGEST_NAME {
             return Err(InfoFaultKind::BadName);
@@ -213,33 +217,48 @@ impl<'a, A: Allocator + Copy> Index<'a, A> {
         ensures { Gives (λ p. p) result (Ok (by_address self.entry)) }
     {
         let Index {
-            mut names,
+            names,
             numbers,
             texts,
         } = self;
         // What is not read again is given back before the pool grows.
-        drop(numbers);
         drop(texts);
-        sort(&mut names);
-        pooled(alloc, names.as_slice())
+        pooled(alloc, names.as_slice(), &numbers)
     }
 }
 
-// Puts names in the order of their addresses.
-fn sort<A: Allocator>(names: &mut Vec<Given, A>)
-    ensures permutation { IsPermutation names.old.items names.new.items }
-    ensures rising { IsNonDecreasingBy (λ (n : Given). n.address) names.new.items }
+// For each page, whether it has the address of one of these names.
+fn named_pages(names: &[Given]) -> [bool; PAGES]
+    ensures { (k : ℕ) (d : Given) → k < length names.now → get_or result ((get_or names.now k d).address / 256) false ≡ true }
 {
-    names.sort_unstable_by_key(|name| name.address);
+    let mut named = [false; PAGES];
+    for place in 0..names.len() {
+        named[usize::from(names[place].address) / PAGE] = true;
+    }
+    named
 }
 
-// The names in a pool.
-fn pooled<A: Allocator + Copy>(alloc: A, names: &[Given]) -> Result<NamePool<A>, InfoFault>
-    ensures { Gives (λ p. p) result (Ok (map given_seen names.now)) }
+// The names by address, in a pool. Pages without a name are passed over.
+fn pooled<A: Allocator + Copy>(
+    alloc: A,
+    names: &[Given],
+    numbers: &Numbers<A>,
+) -> Result<NamePool<A>, InfoFault>
+    requires { (a : ℕ) → IsFoundAt (map given_seen names.now) numbers.now.cells a }
+    ensures { Gives (λ p. p) result (Ok (by_address (map given_seen names.now))) }
 {
+    let named = named_pages(names);
     let mut pool = NamePool::new(alloc);
-    for place in 0..names.len() {
-        pool = pool.with(names[place])?;
+    for page in 0..PAGES {
+        if !named[page] {
+            continue;
+        }
+        for address in page * PAGE..(page + 1) * PAGE {
+            let Some(name) = numbered(names, numbers.at(address)) else {
+                continue;
+            };
+            pool = pool.with(name)?;
+        }
     }
     Ok(pool)
 }

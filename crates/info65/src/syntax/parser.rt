@@ -3,12 +3,12 @@
 ghost use Rattle.std.specs.Prelude.{◌≡◌, ◌≤◌, ◌∷◌, ◌++◌, IfErr, IfOk, List, None, Ok, [], length, map};
 ghost use Rattle.info65.specs.Closing.{closing_fault};
 ghost use Rattle.info65.specs.Faults.{fault};
-ghost use Rattle.info65.specs.Code.Results.{Gives};
+ghost use Rattle.info65.specs.Code.Results.{Gives, Sees};
 ghost use Rattle.info65.specs.Code.Groups.{assignment_seen, value_seen};
 ghost use Rattle.info65.specs.Groups.{AssignmentView, GroupView};
 ghost use Rattle.info65.specs.Code.Reading.{AlwaysMoves, Leads, Moves, ReadsGroup, TakesToken, is_semicolon};
 ghost use Rattle.info65.specs.Reader.{attribute_at, assigned, closed, closed_by, group, groups_of, inside, one, opening, outside, read, read_token, value_at, valued, wanted};
-ghost use Rattle.info65.specs.Code.Steps.{Sees, kind_seen, seen};
+ghost use Rattle.info65.specs.Code.Steps.{kind_seen, seen};
 ghost use Rattle.info65.specs.Tokens.{with_token};
 ghost use Rattle.info65.specs.declared.syntax.attribute.GroupKind.{GroupKind};
 ghost use Rattle.info65.specs.declared.syntax.attribute.Attribute.{Attribute};

@@ -3,7 +3,8 @@ use Rattle.std.specs.Prelude.{Err, Ok}
 use Rattle.std.proofs.lemmas.Bool.Decides.{nat_tests}
 use Rattle.std.proofs.lemmas.Result.{err_from_is_err_and}
 use Rattle.text65.specs.Lines.{text_lines}
-use Rattle.info65.proofs.IncludedLemmas.{accepted, all_given, last_line, next_lines, refused}
+use Rattle.info65.proofs.IncludeFileLemmas.{all_given}
+use Rattle.info65.proofs.IncludedLemmas.{accepted, last_line, next_lines, refused}
 use Rattle.info65.proofs.includes.included.with_file.Goals as goal
 
 pub lines-init : goal.lines-init

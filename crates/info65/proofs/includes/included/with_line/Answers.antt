@@ -7,7 +7,7 @@ use Rattle.info65.specs.Includes.{line_adds}
 use Rattle.info65.specs.Views.{NameView}
 use Rattle.info65.specs.declared.fault.InfoFault.{InfoFault}
 use Rattle.info65.specs.declared.information.name.Given.{Given}
-use Rattle.info65.proofs.IncludedLemmas.{line_joins}
+use Rattle.info65.proofs.IncludeFileLemmas.{line_joins}
 use Rattle.info65.proofs.includes.included.with_line.Goals as goal
 
 pub returns-in_err-name : goal.returns-in_err-name

@@ -4,7 +4,7 @@ use Rattle.std.proofs.lemmas.Result.{err_from_is_err_and}
 use Rattle.std.proofs.lemmas.Bool.Decides.{nat_tests}
 use Rattle.info65.specs.Code.Kept.{kept_of}
 use Rattle.info65.specs.Code.Results.{Fails}
-use Rattle.info65.specs.Groups.{AreFormed, GroupView, global_given}
+use Rattle.info65.specs.Groups.{GroupView, global_given}
 use Rattle.info65.specs.IncludeGroups.{AreIncludes, includes_of}
 use Rattle.info65.specs.Labels.{by_address, names_said}
 use Rattle.info65.specs.Names.{AreNames}
@@ -14,20 +14,20 @@ use Rattle.info65.specs.Reader.{groups_of, information}
 use Rattle.info65.specs.Settings.{settings_of}
 use Rattle.info65.specs.Views.{AreInLimits, InfoView, OptionsView}
 use Rattle.info65.specs.declared.fault.InfoFault.{InfoFault}
-use Rattle.info65.proofs.FormLemmas.{read_all_formed, read_formed, settings_in_limits}
-use Rattle.info65.proofs.IncludeLemmas.{read_includes}
+use Rattle.info65.proofs.FormLemmas.{all_formed, settings_in_limits, text_read}
+use Rattle.info65.proofs.IncludeLemmas.{includes_sound}
 use Rattle.info65.proofs.KeptLemmas.{formed_kept, global_kept, includes_kept, segments_kept}
-use Rattle.info65.proofs.NamesLemmas.{read_named}
-use Rattle.info65.proofs.RangeLemmas.{read_sound}
-use Rattle.info65.proofs.SegmentLemmas.{read_segments}
+use Rattle.info65.proofs.NamesLemmas.{read_given, sorted_names}
+use Rattle.info65.proofs.RangeLemmas.{ranges_sound}
+use Rattle.info65.proofs.SegmentLemmas.{segments_sound}
 use Rattle.info65.proofs.information.info.read_info.Goals as goal
 use Rattle.info65.proofs.Cases.{same_ok}
 
 pub settings_of-requires : goal.settings_of-requires
-settings_of-requires g c = rw (c.kept.ensures, global_kept c.in_ok-closed.closed) (read_formed c.args.options.now c.args.bytes.now c.in_ok-closed.closed c.in_ok-closed.ensures)
+settings_of-requires g c = rw (c.kept.ensures, global_kept c.in_ok-closed.closed) (all_formed c.in_ok-closed.closed (text_read c.args.options.now c.args.bytes.now c.in_ok-closed.closed c.in_ok-closed.ensures).formed)
 
 pub includes_of-requires : goal.includes_of-requires
-includes_of-requires g c = rw c.kept-3.ensures (formed_kept c.in_ok-closed.closed (read_all_formed c.args.options.now c.args.bytes.now c.in_ok-closed.closed c.in_ok-closed.ensures))
+includes_of-requires g c = rw c.kept-3.ensures (formed_kept c.in_ok-closed.closed (text_read c.args.options.now c.args.bytes.now c.in_ok-closed.closed c.in_ok-closed.ensures).formed)
 
 -- what the kept groups say, they all say
 settings_said : (o : OptionsView) (groups kept : List GroupView) → kept ≡ kept_of groups → settings_of o (global_given kept) ≡ settings_of o (global_given groups)
@@ -42,14 +42,14 @@ includes_said groups kept is = rw (is, includes_kept groups) refl
 pub invariant_of-result : goal.invariant_of-result
 invariant_of-result g c =
     let groups = c.in_ok-closed.closed in
-    let formed : AreFormed (global_given groups) = read_formed c.args.options.now c.args.bytes.now groups c.in_ok-closed.ensures in
+    let read = text_read c.args.options.now c.args.bytes.now groups c.in_ok-closed.ensures in
     let segmented : segments_of groups ≡ c.in_ok-segments.segments = sym (segments_said groups _ c.kept-2.ensures) ∙ same_ok c.in_ok-said.ensures ∙ same_ok c.in_ok-segments.ensures in
     record {
-      limits = subst AreInLimits (sym (settings_said c.args.options.now groups _ c.kept.ensures) ∙ same_ok c.in_ok-settings.ensures) (settings_in_limits c.args.options.now (global_given groups) c.limits.ensures formed);
-      ranges = subst AreRanges (sym c.in_ok-ranges.ensures.ranges) (read_sound c.args.options.now c.args.bytes.now groups c.in_ok-closed.ensures);
-      segments = subst AreSegments segmented (read_segments c.args.options.now c.args.bytes.now groups c.in_ok-closed.ensures);
-      includes = subst AreIncludes (sym (includes_said groups _ c.kept-3.ensures) ∙ same_ok c.in_ok-includes.ensures) (read_includes c.args.options.now c.args.bytes.now groups c.in_ok-closed.ensures);
-      names = subst AreNames (sym c.in_ok-ranges.ensures.names) (read_named c.args.options.now c.args.bytes.now groups c.in_ok-closed.ensures);
+      limits = subst AreInLimits (sym (settings_said c.args.options.now groups _ c.kept.ensures) ∙ same_ok c.in_ok-settings.ensures) (settings_in_limits c.args.options.now (global_given groups) c.limits.ensures (all_formed groups read.formed));
+      ranges = subst AreRanges (sym c.in_ok-ranges.ensures.ranges) (ranges_sound groups read);
+      segments = subst AreSegments segmented (segments_sound groups read);
+      includes = subst AreIncludes (sym (includes_said groups _ c.kept-3.ensures) ∙ same_ok c.in_ok-includes.ensures) (includes_sound groups read);
+      names = subst AreNames (sym c.in_ok-ranges.ensures.names) (sorted_names (names_said groups) (read_given groups read));
     }
 
 -- the parts are those of the groups

@@ -25,15 +25,13 @@ pub invariant_of-result : goal.invariant_of-result
 invariant_of-result g c =
     let gs : List GroupView = c.self.inside.groups in
     let one = group_seen c.args.group in
-    let ranged_written = take_at c.mark_range.new.table _ c.self.inside.ranged.len (c.mark_range.ensures.size ∙ c.as_mut_slice.ensures.len) in
-    let ranges = c.mark_range.ensures.marked gs (subst (AreRanged (ranges_of gs)) (sym c.as_mut_slice.ensures.value) c.self.invariant.ranged) in
-    let ranged : AreRanged (ranges_of (gs ++ one ∷ [])) c.mark_range.new.table = rw c.as_slice-2.ensures.value at ranges in
+    let ranged_written = take_at c.add_range.new.table _ c.self.inside.ranged.len (c.in_ok-add_range.ensures.size ∙ c.as_mut_slice.ensures.len) in
+    let ranged : AreRanged (ranges_of (gs ++ one ∷ [])) c.add_range.new.table = c.in_ok-add_range.ensures.marked gs (subst (AreRanged (ranges_of gs)) (sym c.as_mut_slice.ensures.value) c.self.invariant.ranged) in
     let written = take_at c.mark_segment.new.table _ c.self.inside.segmented.len (c.mark_segment.ensures.size ∙ c.as_mut_slice-2.ensures.len) in
-    let marks = c.mark_segment.ensures.marked gs (subst (AreMarked (segments_of gs)) (sym c.as_mut_slice-2.ensures.value) c.self.invariant.marks) in
-    let marked : AreMarked (segments_of (gs ++ one ∷ [])) c.mark_segment.new.table = rw c.as_slice-3.ensures.value at marks in
+    let marked : AreMarked (segments_of (gs ++ one ∷ [])) c.mark_segment.new.table = c.mark_segment.ensures.marked gs (subst (AreMarked (segments_of gs)) (sym c.as_mut_slice-2.ensures.value) c.self.invariant.marks) in
     rw c.with-groups.ensures (record {
       again = c.in_ok-keep.ensures.done ∙ ap (λ l. l ++ kept_part one) c.self.invariant.again ∙ sym (kept_more gs one);
-      said = c.in_ok-push_range.ensures.done ∙ ap (λ l. l ++ range_part one) c.self.invariant.said ∙ sym (ranges_more gs one);
+      said = c.in_ok-add_range.ensures.done ∙ ap (λ l. l ++ range_part one) c.self.invariant.said ∙ sym (ranges_more gs one);
       named = sym (same_ok c.in_ok-names.ensures) ∙ ap₂ (λ (x y : List NameView). x ++ y) c.self.invariant.named (rw c.as_slice.ensures.value at c.name_part.ensures) ∙ sym (names_more gs one);
       ranged = subst (AreRanged (ranges_of (gs ++ one ∷ []))) (sym ranged_written) ranged;
       marks = subst (AreMarked (segments_of (gs ++ one ∷ []))) (sym written) marked;

@@ -1,4 +1,4 @@
-use Rattle.std.proofs.Common.{◌≡◌, ◌∙◌, ◌++◌, ◌∷◌, ◌+◌, ◌<◌, ℕ, [], List, ap, arith, length, length-append, map, subst, sym}
+use Rattle.std.proofs.Common.{◌≡◌, ◌∙◌, ◌++◌, ◌∷◌, ◌+◌, ℕ, [], List, ap, arith, length, length-append, map, subst, sym}
 use Rattle.std.specs.Prelude.{None, Ok}
 use Rattle.std.proofs.lemmas.List.{length-map, map-append}
 use Rattle.info65.specs.Code.Names.{given_seen}
@@ -19,9 +19,8 @@ invariant_of-result g c =
     let fine : name_fault names n ≡ None = ap (λ (l : List NameView). name_fault l n) c.self.view_is ∙ c.requires in
     let grown : map given_seen c.push.new.self.items ≡ names ++ n ∷ [] = ap (λ l. map given_seen l) c.in_ok-push.ensures.items ∙ map-append given_seen items (c.args.name ∷ []) in
     let number : c.len-number.result ≡ length names + 1 = omega (arith, c.len-number.ensures, ap length c.in_ok-push.ensures.items, length-append items (c.args.name ∷ []), length-map items given_seen) in
-    let low : n.address < 0x1_0000 = omega arith in
     let set : IsSet n.address (length names + 1) old.cells c.set.new.self.cells = rw (number, c.from.ensures) at c.in_ok-set.ensures.done in
-    rw grown (name_added names old c.set.new.self (texts_seen c.self.inside.texts) (texts_seen c.add.new.self) n c.self.invariant fine low c.set.ensures.count set
+    rw grown (name_added names old c.set.new.self (texts_seen c.self.inside.texts) (texts_seen c.add.new.self) n c.self.invariant fine c.set.ensures.count set
     (λ t. subst (λ (k : ℕ). AddsText (texts_seen c.self.inside.texts) n.text n.address k (texts_seen c.add.new.self) t) number (c.in_ok-add.ensures.done t)))
 
 pub returns : goal.returns
