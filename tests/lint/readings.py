@@ -21,7 +21,7 @@ isa65.Rockwell65C02
 stmt65.Directives directive_named directive_text
 stmt65.Names is_name same
 stmt65.SourceLine * Accumulator Assignment Code Data Datum Direct DirectX DirectY Empty Form Immediate Indirect IndirectX IndirectY Instr NameValue Nothing NumberDatum NumberValue Operation PlaceAssignment Segment SetCpu SourceLine Statement StringDatum Two Value Values is_absolute
-text65.Names has_name_form is_reserved_word is_word_byte
+text65.Names has_name_form is_blank is_reserved_word is_word_byte
 """
 
 

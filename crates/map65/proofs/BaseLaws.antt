@@ -1,8 +1,8 @@
 -- The laws of base names.
-use Rattle.std.proofs.Common.{◌≡◌, ◌∙◌, ◌⊎◌, inl, inr, ℕ, ◌-◌, ◌/◌, ◌%◌, ◌<◌, ◌≤◌, ◌&&◌, ◌||◌, ◌==◌, Bool, true, false, not, List, Option, Some, None, length, get_or, nat_lt, refl, ap, ap₂, sym, subst, arith, ⊎_elim}
+use Rattle.std.proofs.Common.{◌≡◌, ◌∙◌, ◌⊎◌, inl, inr, ℕ, ◌/◌, ◌%◌, ◌<◌, ◌≤◌, ◌&&◌, ◌||◌, Bool, true, false, not, List, Option, Some, None, length, get_or, nat_lt, refl, ap, ap₂, sym, subst, arith, ⊎_elim}
 use Rattle.std.specs.Str.{bytes_eq}
 use Rattle.std.proofs.lemmas.Slice.Eq.{bytes_eq-Decides}
-use Rattle.std.proofs.lemmas.Bool.{and_from, both_ways, cases_Bool, cases_eq, cases_lt, cond_both, eq-eqb, false_from_ne_true, false≢true, ne_eqb}
+use Rattle.std.proofs.lemmas.Bool.{and_from, both_ways, cases_Bool, cases_eq, cases_lt, eq-eqb, false_from_ne_true, false≢true, ne_eqb}
 use Rattle.std.proofs.lemmas.Bool.Decides.{nat_tests}
 use Rattle.text65.specs.Digits.{hex_digit}
 use Rattle.text65.specs.Names.{is_reserved_word}
@@ -21,11 +21,9 @@ use Rattle.map65.specs.Bases.{BaseLaw, IsInCode, LiesBy, PlaceLaw}
 use Rattle.map65.specs.ImageView.{byte_at, is_inside}
 use Rattle.map65.specs.Items.{item_len, item_start, size_at, size_for, full_len_at}
 use Rattle.map65.specs.MapView.{MapView}
-use Rattle.map65.specs.Names.{Base, IsInner, base_at, base_by, default_base, given_base, entry_start, entry_base, is_referenced, place_in, place_of}
-use Rattle.map65.specs.Pieces.{are_joined, is_joined, is_own}
+use Rattle.map65.specs.Names.{Base, IsInner, base_at, base_by, default_base, given_base, entry_start, entry_base, is_referenced, place_of}
+use Rattle.map65.specs.Pieces.{is_joined, is_own}
 use Rattle.map65.specs.Roles.{is_skip, is_wide, role_at, role_of, unit_of}
-use Rattle.map65.specs.declared.name.Place.{Place}
-use Rattle.map65.specs.declared.name.Place.TheVariants.{Constant, Forward, Label}
 
 -- ---- where a base comes from
 
@@ -151,23 +149,6 @@ base_law m are = record { low = base-low m; own = base-own m are; distinct = bas
 
 -- ---- where a base lies
 
-place-outside : (m : MapView) (n : ℕ) → is_inside m.image n ≡ false → place_of m n ≡ Constant
-unfolding place_of role_at
-place-outside m n out = rw out refl
-
-place-shown : (m : MapView) (n : ℕ) → is_inside m.image n ≡ true → place_of m n ≡ place_in (Some (role_of m.info n)) (item_len m n)
-unfolding place_of role_at
-place-shown m n inside = rw inside refl
-
-place-skip : (m : MapView) (n : ℕ) → is_inside m.image n ≡ true → is_skip (role_of m.info n) ≡ true → place_of m n ≡ Constant
-place-skip m n inside skip = place-shown m n inside ∙ rw skip refl
-
-place-label : (m : MapView) (n : ℕ) → is_inside m.image n ≡ true → is_skip (role_of m.info n) ≡ false → 0 < item_len m n → place_of m n ≡ Label
-place-label m n inside shown some = let other : (item_len m n == 0) ≡ false = ne_eqb (item_len m n) 0 (λ is. absurd (omega (arith, is, some))) in place-shown m n inside ∙ rw (shown, other) refl
-
-place-forward : (m : MapView) (n : ℕ) → is_inside m.image n ≡ true → is_skip (role_of m.info n) ≡ false → item_len m n ≡ 0 → place_of m n ≡ Forward
-place-forward m n inside shown none = let zero_is : (item_len m n == 0) ≡ true = eq-eqb (item_len m n) 0 none in place-shown m n inside ∙ rw (shown, zero_is) refl
-
 -- in a table with entries of more than one byte an item begins at each base
 abbrev IsFree : MapView → ℕ → Type 0
 IsFree m n = is_inside m.image n ≡ true → is_wide (role_of m.info n) ≡ true → 0 < item_len m n
@@ -213,26 +194,20 @@ in-code m n inside shown none narrow =
     absurd (omega (arith, single, (begun m (item_start m n) u.begins).len, u.after, u.before)))
     (code-or-byte m (role_of m.info n) narrow)
 
-lies : (m : MapView) (n : ℕ) (p : Place) → place_of m n ≡ p → LiesBy p m n → LiesBy (place_of m n) m n
-lies m n p is there = subst (λ (q : Place). LiesBy q m n) (sym is) there
-
-placed-inside : (m : MapView) (n : ℕ) → IsFree m n → is_inside m.image n ≡ true → is_skip (role_of m.info n) ≡ false → LiesBy (place_of m n) m n
-placed-inside m n unhidden inside shown =
-    ⊎_elim
-    (λ none.
-    let narrow : is_wide (role_of m.info n) ≡ false = false_from_ne_true (is_wide (role_of m.info n)) (λ wide. absurd (omega (arith, none, unhidden inside wide))) in
-    lies m n Forward (place-forward m n inside shown none) (in-code m n inside shown none narrow))
-    (λ some. let begins : 0 < item_len m n = omega (arith, some) in lies m n Label (place-label m n inside shown begins) begins)
-    (cases_eq (item_len m n) 0)
+-- its place says where it lies
+lies : (m : MapView) (n : ℕ) → IsFree m n → LiesBy (place_of m n) m n
+unfolding place_of role_at
+lies m n unhidden = elim (cases_Bool (is_inside m.image n)) [
+  | inl inside ↦ elim (cases_Bool (is_skip (role_of m.info n))) [
+    | inl skip ↦ rw (inside, skip) (inr skip)
+    | inr shown ↦ elim (cases_eq (item_len m n) 0) [
+      | inl none ↦ (let narrow = false_from_ne_true (is_wide (role_of m.info n)) (λ wide. absurd (omega (arith, none, unhidden inside wide))) in
+          rw (inside, shown, eq-eqb (item_len m n) 0 none) (in-code m n inside shown none narrow))
+      | inr some ↦ rw (inside, shown, ne_eqb (item_len m n) 0 some) (omega (arith, some))
+    ]
+  ]
+  | inr out ↦ rw out (inl out)
+]
 
 pub place_law : (m : MapView) → PlaceLaw m
-place_law m a b is =
-    let n : ℕ = b.address in
-    ⊎_elim
-    (λ inside.
-    ⊎_elim
-    (λ skip. lies m n Constant (place-skip m n inside skip) (inr skip))
-    (λ shown. placed-inside m n (base-free m a b is) inside shown)
-    (cases_Bool (is_skip (role_of m.info n))))
-    (λ out. lies m n Constant (place-outside m n out) (inl out))
-    (cases_Bool (is_inside m.image n))
+place_law m a b is = lies m b.address (base-free m a b is)

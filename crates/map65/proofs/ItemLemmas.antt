@@ -78,20 +78,21 @@ joined-piece m (suc n) a are x low high =
     (λ other. joined-piece m n (a + 1) parts.1 x (omega (arith, other)) (omega arith))
     (cases_eq x (a + 1))
 
-role-after : (m : MapView) (n b : ℕ) → AreOneRun m b (b + n) → role_of m.info (b + n) ≡ role_of m.info b
-role-after m zero b run = let place : b + 0 ≡ b = omega arith in ap (role_of m.info) place
-role-after m (suc n) b run =
-    let before = role-after m n b (λ x low high. run x low (omega arith)) in
-    let joined = in-run m (b + suc n) (run (b + suc n) (omega arith) (omega arith)) in
+run-after : {X : Type 0} (m : MapView) (f : ℕ → X) → ((a : ℕ) → InRun m a → f (a - 1) ≡ f a) → (n b : ℕ) → AreOneRun m b (b + n) → f (b + n) ≡ f b
+run-after m f same zero b run = let place : b + 0 ≡ b = omega arith in ap f place
+run-after m f same (suc n) b run =
     let place : b + suc n - 1 ≡ b + n = omega arith in
-    sym joined.same ∙ ap (role_of m.info) place ∙ before
+    sym (same (b + suc n) (in-run m (b + suc n) (run (b + suc n) (omega arith) (omega arith)))) ∙ ap f place ∙ run-after m f same n b (λ x low high. run x low (omega arith))
+
+-- what each address of a run has in common with the one before it, all have in common
+pub one-run : {X : Type 0} (m : MapView) (f : ℕ → X) → ((a : ℕ) → InRun m a → f (a - 1) ≡ f a) → (b a : ℕ) → AreOneRun m b a → (x : ℕ) → b ≤ x → x ≤ a → f x ≡ f b
+one-run m f same b a run x low high =
+    let place : x ≡ b + (x - b) = omega arith in
+    ap f place ∙ run-after m f same (x - b) b (λ y above upto. run y above (omega arith))
 
 -- a run has one role
 pub one-run-role : (m : MapView) (b a : ℕ) → b ≤ a → AreOneRun m b a → role_of m.info a ≡ role_of m.info b
-one-run-role m b a le run =
-    let n : ℕ = a - b in
-    let place : a ≡ b + n = omega arith in
-    ap (role_of m.info) place ∙ role-after m n b (λ x low high. run x low (omega arith))
+one-run-role m b a le run = one-run m (role_of m.info) (λ x here. here.same) b a run a le (omega arith)
 
 -- and so has a piece
 pub one-role : (m : MapView) (b a : ℕ) → b ≤ a → AreOnePiece m b a → role_of m.info a ≡ role_of m.info b

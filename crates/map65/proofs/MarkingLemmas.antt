@@ -1,14 +1,15 @@
 -- Items that are marked in cells.
-use Rattle.std.proofs.Common.{◌≡◌, ◌≢◌, ◌∙◌, ℕ, suc, ◌+◌, ◌-◌, ◌/◌, ◌%◌, ◌<◌, ◌≤◌, ◌&&◌, ◌==◌, nat_lt, not, Bool, true, false, Option, Some, None, List, length, get_or, set, refl, ap, sym, arith, ⊎_elim}
+use Rattle.std.proofs.Common.{◌≡◌, ◌≢◌, ◌∙◌, ℕ, ◌+◌, ◌-◌, ◌/◌, ◌%◌, ◌<◌, ◌≤◌, ◌&&◌, ◌==◌, nat_lt, not, Bool, true, false, Option, Some, List, length, get_or, set, ap, ap₂, sym, arith, ⊎_elim}
+use Rattle.std.proofs.Math.Bool.{and_comm}
 use Rattle.std.proofs.Math.ListN.{length-set}
-use Rattle.std.proofs.lemmas.Bool.{and_parts, and_from, cases_eq, cases_lt, cond-true, cond-false, cond_both, false≢true, lt-ltb, ltb-true, not-true}
+use Rattle.std.proofs.lemmas.Bool.{and_parts, and_from, cases_eq, cases_lt, cond_both, false≢true, lt-ltb, ltb-true, not-true}
 use Rattle.std.specs.Cmp.{both_ways}
 use Rattle.info65.specs.declared.information.range.RangeType.{RangeType}
 use Rattle.map65.proofs.CellLemmas.{named-test, cell-role, cell-wide, set-cell, with_len-lay, with_len-rest}
 use Rattle.map65.proofs.ItemLaws.{Begun, begun}
 use Rattle.map65.proofs.ItemLemmas.{in-run, is_cut_at, inside-if, item-len-own, item_start-after, item_start-apart, item_start-within, joined-high, joined-if, joined-run, joined-uncut, size-fits, size-is, size-positive, start-apart}
 use Rattle.map65.proofs.RunLemmas.{plain-code, role_at-inside, run-cells, some-same}
-use Rattle.map65.specs.Code.Cells.{AreNamed, IsLaid, are_one_run, cell_of, is_named, is_cut, is_wide_cell, is_wide_role, lay_at, role_in_cell, with_len}
+use Rattle.map65.specs.Code.Cells.{AreNamed, IsLaid, are_one_run, cell_of, is_cut, is_wide_cell, is_wide_role, lay_at, role_in_cell, with_len}
 use Rattle.map65.specs.Cells.{bit}
 use Rattle.map65.specs.Code.Marking.{AreMarkedBelow, is_joined_in}
 use Rattle.map65.specs.ImageView.{end_of, is_inside}
@@ -32,12 +33,6 @@ role-here m a at cells o r place low high room old says is = some-same r (role_o
 
 -- ---- pieces
 
-and-turned : (p q r s : Bool) → p ≡ s → q ≡ r → (p && q) ≡ (r && s)
-and-turned true true r s first second = rw (sym first, sym second) refl
-and-turned true false r s first second = rw (sym first, sym second) refl
-and-turned false true r s first second = rw (sym first, sym second) refl
-and-turned false false r s first second = rw (sym first, sym second) refl
-
 module _ (m : MapView) (n a : ℕ) (cells : List ℕ) (old : AreMarkedBelow m n cells) (own : AreNamed (is_own m.info.names) cells) (room : end_of m.image ≤ 65536) (low : m.image.start ≤ n) (after : n < a) (high : a - 1 < end_of m.image) where
   -- the cells say where a run ends
   run-here : a < 65536 → are_one_run (get_or cells (a - 1) 0) (get_or cells a 0) ≡ is_in_run m a
@@ -52,7 +47,7 @@ module _ (m : MapView) (n a : ℕ) (cells : List ℕ) (old : AreMarkedBelow m n 
   cut-cell last =
       let below : a < 65536 = omega (arith, room, last) in
       let wide : is_wide_cell (get_or cells a 0) ≡ is_wide (role_of m.info a) = cell-wide (get_or cells a 0) (role_at m a) 0 (omega arith) (old.plain a below (omega (arith, after))) ∙ ap is_wide_role (role_at-inside m a (omega (arith, low, after)) last) in
-      and-turned (is_named (get_or cells a 0)) (is_wide_cell (get_or cells a 0)) (is_wide (role_of m.info a)) (is_own m.info.names a) (named-test (is_own m.info.names) cells a own below) wide
+      ap₂ (λ p q. p && q) (named-test (is_own m.info.names) cells a own below) wide ∙ and_comm (is_own m.info.names a) (is_wide (role_of m.info a))
 
   joined-alike : is_joined_in cells a ≡ true → is_joined m a ≡ true
   unfolding is_joined_in

@@ -10,7 +10,7 @@ use Rattle.map65.proofs.ItemLemmas.{belongs, inside-if, item_start-within, one-r
 use Rattle.map65.proofs.NameLemmas.{base-covered, base-unreferenced, base-referenced, not-some}
 use Rattle.map65.proofs.NamingLemmas.{address-at, address-count, entry_start-narrow, entry_start-wide, wide-shown}
 use Rattle.map65.proofs.MarkingLemmas.{item-fits}
-use Rattle.map65.proofs.TargetLemmas.{none-at}
+use Rattle.map65.proofs.TargetLemmas.{short-at}
 use Rattle.map65.specs.ImageView.{is_inside}
 use Rattle.map65.specs.Items.{item_len, item_start}
 use Rattle.map65.specs.MapView.{MapView}
@@ -84,7 +84,7 @@ entry_start-entry_start m a =
 target-item : (m : MapView) (item t : ℕ) → target_at m item ≡ Some t → IsTarget m t
 target-item m item t has =
     ⊎_elim
-    (λ none. absurd (not-some t (sym (none-at m item none) ∙ has)))
+    (λ none. absurd (not-some t (sym (short-at m item (omega (arith, none))) ∙ has)))
     (λ some. record { item = item; begins = omega (arith, some); has = has })
     (cases_eq (item_len m item) 0)
 

@@ -6,13 +6,13 @@ use Rattle.info65.specs.Ranges.{AreApart, has_address}
 use Rattle.info65.specs.declared.information.range.RangeSpec.{RangeSpec}
 use Rattle.info65.specs.declared.information.range.RangeType.TheVariants.{Code}
 use Rattle.info65.specs.Views.{NameView, SegmentView}
-use Rattle.map65.proofs.ItemLemmas.{in-run, is_cut_at, joined-if, joined-run, joined-uncut, one-run-role, run-if, within}
-use Rattle.map65.proofs.RunLemmas.{one-run-segment}
+use Rattle.map65.proofs.ItemLemmas.{in-run, is_cut_at, joined-if, joined-run, joined-uncut, one-run, run-if, within}
+use Rattle.map65.proofs.RunLemmas.{segment-before}
 use Rattle.map65.specs.ImageView.{is_inside}
 use Rattle.map65.specs.MapView.{MapView}
 use Rattle.map65.specs.Pieces.{AreAlike, AreOnePiece, AreOneRun, AreUnnamed, PieceLaw, RunLaw, is_own}
 use Rattle.map65.specs.Roles.{RoleLaw, is_wide, role_in, role_of}
-use Rattle.map65.specs.Segments.{borders, is_border}
+use Rattle.map65.specs.Segments.{borders, is_border, segment_at}
 
 -- ---- roles
 
@@ -38,7 +38,7 @@ role_law ranges disjoint = record { within = role-within ranges disjoint.each; o
 -- ---- runs
 
 run-same : (m : MapView) (b a : ℕ) → AreOneRun m b a → (x : ℕ) → b ≤ x → x ≤ a → role_of m.info x ≡ role_of m.info b
-run-same m b a run x low high = one-run-role m b x low (λ y above below. run y above (omega arith))
+run-same m b a run = one-run m (role_of m.info) (λ x here. here.same) b a run
 
 -- no segment of a list has a border before the address
 border-none : (segments : List SegmentView) (a : ℕ) → All (λ (s : SegmentView). s.first ≡ a → ⊥) segments → All (λ (s : SegmentView). s.last + 1 ≡ a → ⊥) segments → is_border segments a ≡ false
@@ -78,23 +78,19 @@ alike-run m b a b_inside a_inside alike x low high =
 pub run_law : (m : MapView) → RunLaw m
 run_law m = record {
   run = λ b a le b_inside a_inside. (run-alike m b a, alike-run m b a b_inside a_inside);
-  segment = one-run-segment m;
+  segment = λ b a x run low high. one-run m (segment_at m) (segment-before m) b a run x low high;
 }
 
 -- ---- pieces
-
--- an address that no name has as its own
-pub own-none : (names : List NameView) (a : ℕ) → ((i : ℕ) (d : NameView) → i < length names → (get_or names i d).address ≡ a → ⊥) → is_own names a ≡ false
-unfolding is_own
-own-none names a none = list_any_none (λ (n : NameView). n.address == a) names (λ i d below. ne_eqb (get_or names i d).address a (λ same. none i d below same))
 
 pub own-some : (names : List NameView) (a i : ℕ) (d : NameView) → i < length names → (get_or names i d).address ≡ a → is_own names a ≡ true
 unfolding is_own
 own-some names a i d below is = list_any_at (λ (n : NameView). n.address == a) names i d below (eq-eqb (get_or names i d).address a is)
 
 unnamed-uncut : (m : MapView) (b a : ℕ) → AreUnnamed m b a → (x : ℕ) → b < x → x ≤ a → is_cut_at m x ≡ false
+unfolding is_own
 unnamed-uncut m b a none x low high =
-    and_right _ _ (own-none m.info.names x (λ i d below is. none i d below (omega (arith, is, low)) (omega (arith, is, high))))
+    and_right _ _ (list_any_none (λ (n : NameView). n.address == x) m.info.names (λ i d below. ne_eqb _ x (λ is. none i d below (omega (arith, is, low)) (omega (arith, is, high)))))
 
 narrow-uncut : (m : MapView) (b x : ℕ) → is_wide (role_of m.info b) ≡ false → role_of m.info x ≡ role_of m.info b → is_cut_at m x ≡ false
 narrow-uncut m b x narrow role = ap (λ (w : Bool). w && is_own m.info.names x) (ap is_wide role ∙ narrow)

@@ -1,5 +1,5 @@
 -- Runs: what their definition says of segments, and how they are read from cells.
-use Rattle.std.proofs.Common.{◌≡◌, ◌≢◌, ◌∙◌, ℕ, zero, suc, ◌+◌, ◌-◌, ◌/◌, ◌%◌, ◌<◌, ◌≤◌, ◌&&◌, ◌==◌, not, Bool, true, false, Option, Some, None, List, [], ◌∷◌, refl, ap, sym, arith, if◌then◌else◌}
+use Rattle.std.proofs.Common.{◌≡◌, ◌≢◌, ◌∙◌, ℕ, ◌-◌, ◌/◌, ◌%◌, ◌<◌, ◌≤◌, ◌&&◌, ◌==◌, not, Bool, true, false, Option, Some, None, List, [], ◌∷◌, refl, ap, ap₂, sym, arith, if◌then◌else◌}
 use Rattle.std.specs.List.{find}
 use Rattle.std.specs.Option.{option_map}
 use Rattle.std.proofs.lemmas.Bool.{and_from, and_parts, cond-true, cond_both, eq-eqb, eqb-true, false_from_ne_true, false≢true, ne_eqb, not-true, or_parts}
@@ -11,11 +11,11 @@ use Rattle.info65.specs.declared.information.range.RangeType.{RangeType}
 use Rattle.info65.specs.declared.information.range.RangeType.TheVariants.{Code}
 use Rattle.map65.proofs.CellLemmas.{code-small, coded-code, has_border-is}
 use Rattle.map65.proofs.ItemLemmas.{InRun, in-run, inside-if, run-if, within}
-use Rattle.map65.specs.Code.Cells.{are_one_run, cell_of, coded, has_border, is_same_role}
+use Rattle.map65.specs.Code.Cells.{are_one_run, cell_of, coded, has_border}
 use Rattle.map65.specs.Cells.{bit, code_of}
 use Rattle.map65.specs.ImageView.{end_of, is_inside}
 use Rattle.map65.specs.MapView.{MapView}
-use Rattle.map65.specs.Pieces.{AreOneRun, is_in_run}
+use Rattle.map65.specs.Pieces.{is_in_run}
 use Rattle.map65.specs.Roles.{role_at, role_of}
 use Rattle.map65.specs.Segments.{borders, is_border, segment_at}
 
@@ -25,34 +25,16 @@ use Rattle.map65.specs.Segments.{borders, is_border, segment_at}
 contains-same : (s : SegmentView) (a : ℕ) → 0 < a → borders s a ≡ false → contains s a ≡ contains s (a - 1)
 contains-same s a some none = grind (arith, nat_tests, some, none)
 
-cond-same : {X : Type 0} (p q : Bool) (x y z : X) → p ≡ q → y ≡ z → (if p then x else y) ≡ (if q then x else z)
-cond-same p q x y z first second = rw (first, second) refl
-
 found-same : (segments : List SegmentView) (a : ℕ) → 0 < a → is_border segments a ≡ false → find (λ s. contains s a) segments ≡ find (λ s. contains s (a - 1)) segments
 unfolding is_border
 found-same [] a some none = refl
 found-same (s ∷ rest) a some none =
     let parts = or_parts (borders s a) (is_border rest a) none in
-    cond-same (contains s a) (contains s (a - 1)) (Some s) (find (λ s. contains s a) rest) (find (λ s. contains s (a - 1)) rest) (contains-same s a some parts.0) (found-same rest a some parts.1)
+    ap₂ (λ (t : Bool) (o : Option SegmentView). if t then Some s else o) (contains-same s a some parts.0) (found-same rest a some parts.1)
 
-segment-before : (m : MapView) (a : ℕ) → InRun m a → segment_at m a ≡ segment_at m (a - 1)
+pub segment-before : (m : MapView) (a : ℕ) → InRun m a → segment_at m (a - 1) ≡ segment_at m a
 unfolding segment_at segment_covering
-segment-before m a here = ap (option_map (λ (s : SegmentView). s.name)) (found-same m.info.segments a (omega (arith, here.low)) here.unbroken)
-
-segment-after : (m : MapView) (n b : ℕ) → AreOneRun m b (b + n) → segment_at m (b + n) ≡ segment_at m b
-segment-after m zero b run = let place : b + 0 ≡ b = omega arith in ap (segment_at m) place
-segment-after m (suc n) b run =
-    let place : b + suc n - 1 ≡ b + n = omega arith in
-    segment-before m (b + suc n) (in-run m (b + suc n) (run (b + suc n) (omega arith) (omega arith)))
-    ∙ ap (segment_at m) place
-    ∙ segment-after m n b (λ x low high. run x low (omega arith))
-
--- a run lies in one segment
-pub one-run-segment : (m : MapView) (b a x : ℕ) → AreOneRun m b a → b ≤ x → x ≤ a → segment_at m x ≡ segment_at m b
-one-run-segment m b a x run low high =
-    let n : ℕ = x - b in
-    let place : x ≡ b + n = omega arith in
-    ap (segment_at m) place ∙ segment-after m n b (λ y above upto. run y above (omega arith))
+segment-before m a here = sym (ap (option_map (λ (s : SegmentView). s.name)) (found-same m.info.segments a (omega (arith, here.low)) here.unbroken))
 
 -- address 0 is the first of its run
 pub first-run : (m : MapView) (a : ℕ) → a ≡ 0 → is_in_run m a ≡ false
@@ -108,16 +90,16 @@ module _ (m : MapView) (a c d : ℕ) (some : 0 < a) (before : c % 16 ≡ code_of
       run-if m a (record { low = omega (arith, some, past.low); high = at.high; same = past.is ∙ sym at.is; unbroken = unbroken })
 
   run-alike : are_one_run c d ≡ true → is_in_run m a ≡ true
-  unfolding are_one_run is_same_role
+  unfolding are_one_run
   run-alike is =
-      let outer = and_parts (is_same_role c d) (not (d % 16 == 0) && not (has_border d)) is in
+      let outer = and_parts (c % 16 == d % 16) (not (d % 16 == 0) && not (has_border d)) is in
       let inner = and_parts (not (d % 16 == 0)) (not (has_border d)) outer.1 in
       let same : role_at m (a - 1) ≡ role_at m a = same-code _ _ (sym before ∙ eqb-true (c % 16) (d % 16) outer.0 ∙ here) in
       let some_code : code_of (role_at m a) ≢ 0 = λ none. false≢true (sym (not-true (d % 16 == 0) inner.0) ∙ eq-eqb (d % 16) 0 (here ∙ none)) in
       alike-by (role_at m a) refl same some_code (sym (has_border-is d (is_border m.info.segments a) border) ∙ not-true (has_border d) inner.1)
 
   alike-run : is_in_run m a ≡ true → are_one_run c d ≡ true
-  unfolding are_one_run is_same_role
+  unfolding are_one_run
   alike-run run =
       let at = in-run m a run in
       let first : role_at m (a - 1) ≡ Some (role_of m.info (a - 1)) = role_at-inside m (a - 1) (omega (arith, at.low)) (omega (arith, at.high)) in

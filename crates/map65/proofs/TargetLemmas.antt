@@ -4,7 +4,6 @@ use Rattle.std.proofs.lemmas.Bool.{eqb-true, ne_eqb}
 use Rattle.isa65.specs.Mode.{len_of, row_len, row_of, size_of}
 use Rattle.isa65.specs.Opcodes.{decoded}
 use Rattle.isa65.specs.declared.mnemonic.Mnemonic.{Mnemonic}
-use Rattle.isa65.specs.declared.mode.Mode.{Mode}
 use Rattle.isa65.specs.declared.op.Op.{Op}
 use Rattle.isa65.specs.declared.row.OperandKind.{OperandKind}
 use Rattle.isa65.specs.declared.row.OperandKind.TheVariants.{Byte}
@@ -32,19 +31,16 @@ row-alone image m Accumulator next bytes short = refl
 row-alone image m (One p k) next bytes short = absurd (omega (arith, short, size-some k))
 row-alone image m (Two k l) next bytes short = absurd (omega (arith, short, size-some k))
 
-none-alone : (image : ImageView) (m : Mnemonic) (x : Mode) (a : ℕ) (bytes : List ℕ) → len_of x < 2 → operand_target image m x a bytes ≡ None
-unfolding operand_target
-none-alone image m x a bytes short = row-alone image m (row_of x) (a + len_of x) bytes short
-
 none-if : (b : Bool) (o : Option ℕ) → (b ≡ true → o ≡ None) → (if b then o else None) ≡ None
 none-if true o is = is refl
 none-if false o is = refl
 
 code-short : (image : ImageView) (o : Option Op) (n a : ℕ) (bytes : List ℕ) → n < 2 → code_target image o n a bytes ≡ None
+unfolding operand_target
 code-short image None n a bytes short = refl
 code-short image (Some op) n a bytes short =
     none-if (n == len_of op.mode) (operand_target image op.mnemonic op.mode a bytes)
-    (λ same. none-alone image op.mnemonic op.mode a bytes (omega (arith, eqb-true n (len_of op.mode) same, short)))
+    (λ same. row-alone image op.mnemonic (row_of op.mode) (a + len_of op.mode) bytes (omega (arith, eqb-true n (len_of op.mode) same, short)))
 
 entry-short : (m : MapView) (e : Entry) (n a : ℕ) (bytes : List ℕ) → n < 2 → entry_target m e n a bytes ≡ None
 entry-short m Instruction n a bytes short = code-short m.image (decoded (opcodes m) (get_or bytes 0 0)) n a bytes short
@@ -59,6 +55,3 @@ target-short m r n a bytes short = entry-short m (layout_of r).entry n a bytes s
 pub short-at : (m : MapView) (a : ℕ) → item_len m a < 2 → target_at m a ≡ None
 unfolding target_at
 short-at m a short = target-short m (role_of m.info a) (item_len m a) a (bytes_from m.image a) short
-
-pub none-at : (m : MapView) (a : ℕ) → item_len m a ≡ 0 → target_at m a ≡ None
-none-at m a none = short-at m a (omega (arith, none))

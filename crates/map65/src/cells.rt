@@ -3,7 +3,7 @@
 //! From the lowest bit on: four bits for the code of the role, three for the length, one for a name, one for a border.
 
 ghost use Rattle.std.specs.Prelude.{◌≡◌, ◌<◌, ℕ, IfOk, slice_index, vec_len};
-ghost use Rattle.map65.specs.Code.Cells.{are_one_run, cell_of, coded, is_named, has_border, is_same_role, is_wide_cell, len_in_cell, role_in_cell, with_name, with_border, with_len};
+ghost use Rattle.map65.specs.Code.Cells.{are_one_run, cell_of, coded, is_named, has_border, is_wide_cell, len_in_cell, role_in_cell, with_name, with_border, with_len};
 ghost use Rattle.map65.specs.Cells.{code_of};
 
 use crate::roles::is_wide;
@@ -78,14 +78,6 @@ pub fn role_in(cell: u16) -> Option<RangeType>
     coded(cell % LENGTH)
 }
 
-/// Whether both cells hold the same role.
-#[tactic(auto, unfolding(crate::specs::Code::Cells::is_same_role))]
-fn is_same_role(cell: u16, other: u16) -> bool
-    ensures { result ≡ is_same_role cell other }
-{
-    cell % LENGTH == other % LENGTH
-}
-
 /// Returns the length of an item that a cell holds.
 #[tactic(auto, unfolding(crate::specs::Code::Cells::len_in_cell))]
 pub fn len_in(cell: u16) -> u8
@@ -153,7 +145,7 @@ pub fn with_border(cell: u16) -> u16
 pub fn are_one_run(before: u16, cell: u16) -> bool
     ensures { result ≡ are_one_run before cell }
 {
-    is_same_role(before, cell) && (cell % LENGTH != 0 && !has_border(cell))
+    before % LENGTH == cell % LENGTH && (cell % LENGTH != 0 && !has_border(cell))
 }
 
 /// Returns cells that hold 0.

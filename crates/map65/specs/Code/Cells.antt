@@ -38,10 +38,6 @@ role_in_cell c = coded (c % 16)
 unfoldable pub len_in_cell : ℕ → ℕ
 len_in_cell c = c / 16 % 8
 
--- both cells have the same role
-unfoldable pub is_same_role : ℕ → ℕ → Bool
-is_same_role c d = c % 16 == d % 16
-
 -- whether a role is a table whose entries have more than one byte
 abbrev pub is_wide_role : Option RangeType → Bool
 is_wide_role None = false
@@ -72,7 +68,7 @@ with_border c = c % 256 + 256
 
 -- the address of the second cell lies in the run of the address before it, which is that of the first
 unfoldable pub are_one_run : ℕ → ℕ → Bool
-are_one_run c d = is_same_role c d && (not (d % 16 == 0) && not (has_border d))
+are_one_run c d = c % 16 == d % 16 && (not (d % 16 == 0) && not (has_border d))
 
 -- while items are marked, the bit for a name says that a given name has the address as its own; in a table whose entries have more than one byte
 -- it then cuts the run

@@ -1,4 +1,4 @@
-use Rattle.std.proofs.Common.{◌+◌, ◌-◌, ◌<◌}
+use Rattle.std.proofs.Common.{◌+◌, ◌<◌}
 use Rattle.map65.specs.ImageView.{end_of}
 use Rattle.map65.specs.MapView.{MapView}
 use Rattle.map65.specs.Pieces.{AreOnePiece}

@@ -1,4 +1,4 @@
-use Rattle.std.proofs.Common.{◌∙◌, ◌+◌, ◌<◌, ℕ, ap, arith, length, max, subst, sym}
+use Rattle.std.proofs.Common.{◌∙◌, ◌+◌, ◌<◌, ap, arith, length, max, subst, sym}
 use Rattle.info65.specs.Names.{name_at}
 use Rattle.info65.specs.Views.{NameView}
 use Rattle.map65.specs.Code.Cells.{with_name}

@@ -1,6 +1,6 @@
-use Rattle.std.proofs.Common.{◌≡◌, ◌==◌, List, ap, arith, subst, take, ℕ}
+use Rattle.std.proofs.Common.{◌==◌, List, ap, arith, subst, ℕ}
 use Rattle.std.proofs.lemmas.List.{take_all}
-use Rattle.info65.specs.Names.{blank_name, name_at}
+use Rattle.info65.specs.Names.{blank_name}
 use Rattle.info65.specs.Views.{NameView}
 use Rattle.map65.specs.Code.Cells.{nowhere, with_name}
 use Rattle.map65.specs.Code.Marking.{Changes}
