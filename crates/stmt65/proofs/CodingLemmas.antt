@@ -99,11 +99,7 @@ near_some next (Some n) h = refl
 value_known : (all : List Definition) (v : Value) → is_some (value_in all v) ≡ true → is_known all v ≡ true
 unfolding value_in is_known
 value_known all (NumberValue n) h = refl
-value_known all (NameValue w n minus) h = go (find_name w all) h
-  where
-    go : (o : Option Definition) → is_some (option_and_then (λ d. lowered minus (d.value + n)) o) ≡ true → is_some o ≡ true
-    go None h = cc
-    go (Some d) h = refl
+value_known all (NameValue w n minus) h = by_option (find_name w all) (λ d e. rw e refl) (λ e. let h' = rw e at h in absurd cc)
 
 word_known : (all : List Definition) (v : Value) → is_some (word_in all v) ≡ true → is_known all v ≡ true
 unfolding word_in

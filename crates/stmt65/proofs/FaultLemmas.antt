@@ -20,7 +20,7 @@ use Rattle.stmt65.specs.Coding.{entry_limit, Fragment, Fixed, Single, ZeroPage, 
 use Rattle.stmt65.specs.Meaning.{State, operation_in, fragments_of, next_of, defined_by, has_unknown_cpu, has_no_form, is_undefined, is_twice, is_out_of_range, is_past_end, Test, first_of, tests_of, fault_of}
 use Rattle.stmt65.specs.Forms.{form_values}
 use Rattle.stmt65.specs.FaultLaws.{rank, operation_values, NamesNoCpu, HasNoMode, IsUnknown, HasRoom, HasFault, LineHasFault, FindsLowest, FindsNone}
-use Rattle.stmt65.proofs.Cases.{by_test}
+use Rattle.stmt65.proofs.Cases.{by_option, by_test}
 use Rattle.stmt65.proofs.CodingLemmas.{string_known}
 use Rattle.stmt65.proofs.ModeLemmas.{by_sizes, false_true, first_case, needs_mode}
 
@@ -106,15 +106,14 @@ unknown_tied all (NameValue w n minus) = none_tied (find_name w all)
 
 undefined_tied : (all : List Definition) (s : State) (source : SourceLine) → has_no_form s source ≡ false → Decides (is_undefined all s source) (Any (IsUnknown all) (operation_values (operation_in source)))
 unfolding has_no_form is_undefined fragments_of
-undefined_tied all s source h = go (coding s.cpu s.above (operation_in source)) refl
-  where
-    go : (o : Option (List Fragment)) → coding s.cpu s.above (operation_in source) ≡ o
-        → Decides (not (list_all (is_fragment_known all) (unwrap_or (coding s.cpu s.above (operation_in source)) []))) (Any (IsUnknown all) (operation_values (operation_in source)))
-    go None e = let h' = rw e at h in false_true (sym h')
-    go (Some fragments) e =
-        let known : not (list_all (is_fragment_known all) (unwrap_or (coding s.cpu s.above (operation_in source)) [])) ≡ list_any (λ v. not (is_known all v)) (operation_values (operation_in source)) =
-        rw e (ap not (fragments_known all s.cpu s.above (operation_in source) fragments e) ∙ not_all (is_known all) (operation_values (operation_in source))) in
-        Decides-at _ _ known (any_tied (λ v. not (is_known all v)) (IsUnknown all) (operation_values (operation_in source)) (unknown_tied all))
+undefined_tied all s source h =
+    let values = operation_values (operation_in source) in
+    by_option (coding s.cpu s.above (operation_in source))
+    (λ fragments e.
+    let known : not (list_all (is_fragment_known all) (unwrap_or (coding s.cpu s.above (operation_in source)) [])) ≡ list_any (λ v. not (is_known all v)) values =
+    rw e (ap not (fragments_known all s.cpu s.above (operation_in source) fragments e) ∙ not_all (is_known all) values) in
+    Decides-at _ _ known (any_tied (λ v. not (is_known all v)) (IsUnknown all) values (unknown_tied all)))
+    (λ e. let h' = rw e at h in false_true (sym h'))
 
 -- ---- values
 

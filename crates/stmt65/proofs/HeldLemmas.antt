@@ -24,7 +24,7 @@ use Rattle.stmt65.specs.Code.CodingViews.{PutsAll, coded_of}
 use Rattle.stmt65.specs.Code.Held.{held, held_value}
 use Rattle.stmt65.specs.Meaning.{State, operation_in, fragments_of, next_of, defined_by, has_unknown_cpu, has_no_form, is_undefined, is_twice, is_out_of_range, is_past_end, first_of, fault_of, bytes_of, after, final, initial}
 use Rattle.stmt65.specs.Code.MeaningViews.{fragments_in, definitions_in, held_definition, IsPlaced, held_after, held_final}
-use Rattle.stmt65.proofs.Cases.{by_test}
+use Rattle.stmt65.proofs.Cases.{by_option, by_test}
 
 -- the address after a line
 pub next_held : (s : State) (source : SourceLine) (coded : Option Coded) (len : ℕ) → option_map coded_of coded ≡ coding s.cpu s.above (operation_in source) → len ≡ held (coding_len (fragments_in coded))
@@ -87,20 +87,14 @@ lowered_far test far less v w e = elim (cases_lt v 4294967297) [
 value_in-held : {X : Type 0} (test : Option ℕ → X) → IsFar test → (ds : List Definition) (v : Value) → test (value_in (map held_definition ds) v) ≡ test (value_in ds v)
 unfolding value_in
 value_in-held test far ds (NumberValue n) = refl
-value_in-held test far ds (NameValue w n less) = rw (find_name-held w ds) (go (find_name w ds))
-  where
-    go : (o : Option Definition) → test (option_and_then (λ d. lowered less (d.value + n)) (option_map held_definition o)) ≡ test (option_and_then (λ d. lowered less (d.value + n)) o)
-    go None = refl
-    go (Some d) = lowered_far test far less (held d.value + n) (d.value + n) (omega arith)
+value_in-held test far ds (NameValue w n less) =
+    rw (find_name-held w ds) (by_option (find_name w ds) (λ d e. rw e (lowered_far test far less (held d.value + n) (d.value + n) (omega arith))) (λ e. rw e refl))
 
 value_in-held_value : {X : Type 0} (test : Option ℕ → X) → IsFar test → (ds : List Definition) (v : Value) → test (value_in ds (held_value v)) ≡ test (value_in ds v)
 unfolding value_in
 value_in-held_value test far ds (NumberValue n) = lowered_far test far Zero (held n) n (omega arith)
-value_in-held_value test far ds (NameValue w n less) = go (find_name w ds)
-  where
-    go : (o : Option Definition) → test (option_and_then (λ d. lowered less (d.value + held n)) o) ≡ test (option_and_then (λ d. lowered less (d.value + n)) o)
-    go None = refl
-    go (Some d) = lowered_far test far less (d.value + held n) (d.value + n) (omega arith)
+value_in-held_value test far ds (NameValue w n less) =
+    by_option (find_name w ds) (λ d e. rw e (lowered_far test far less (d.value + held n) (d.value + n) (omega arith))) (λ e. rw e refl)
 
 pub word_in-held : (ds : List Definition) (v : Value) → word_in (map held_definition ds) v ≡ word_in ds v
 unfolding word_in

@@ -19,7 +19,7 @@ use Rattle.stmt65.specs.declared.source_line.AddressSize.TheVariants.{Absolute, 
 use Rattle.stmt65.specs.Symbols.{Definition, has_zero_page_size}
 use Rattle.stmt65.specs.Coding.{Fragment, Fixed, ZeroPage, Oversized, fragment_len, word_operand, Distance, Way, zero_page, by_size, ways, first_way, coding, coding_len}
 use Rattle.stmt65.specs.Forms.{form_text, form_values}
-use Rattle.stmt65.proofs.Cases.{by_test}
+use Rattle.stmt65.proofs.Cases.{by_option, by_test}
 use Rattle.stmt65.specs.ModeLaws.{has_prefix, IsModeOf, IsWay, EachWay, WaysAreModes, is_way, ModesAreWays, HasMode, is_short, mode_fragments, TakesMode, TakesModes, LacksForm, NeedsMode}
 
 pub false_true : {P : Type 0} → false ≡ true → P
@@ -91,13 +91,11 @@ modes_are_ways above form x h = among above form x h.1 ((bytes_eq-Decides (writt
 
 none_missed : (cpu : Cpu) (m : Mnemonic) (ws : List Way) (x : Mode) → first_way cpu m ws ≡ None → list_any (is_way x) ws ≡ true → encoded (table_of cpu) m x ≡ None
 none_missed cpu m [] x e f = false_true f
-none_missed cpu m (w ∷ ws) x e f = go (encoded (table_of cpu) m w.0) refl (sameb mode.the_type w.0 x) refl (none_missed cpu m ws x)
-  where
-    go : (o : Option ℕ) → encoded (table_of cpu) m w.0 ≡ o → (b : Bool) → sameb mode.the_type w.0 x ≡ b
-        → (first_way cpu m ws ≡ None → list_any (is_way x) ws ≡ true → encoded (table_of cpu) m x ≡ None) → encoded (table_of cpu) m x ≡ None
-    go (Some n) g b h ih = let e' = rw g at e in absurd cc
-    go None g true h ih = ap (encoded (table_of cpu) m) (sym (same_true mode.the_type tt w.0 x h)) ∙ g
-    go None g false h ih = ih (rw g at e) (rw h at f)
+none_missed cpu m (w ∷ ws) x e f =
+    by_option (encoded (table_of cpu) m w.0) (λ n g. let e' = rw g at e in absurd cc)
+    (λ g. by_test (sameb mode.the_type w.0 x)
+    (λ h. ap (encoded (table_of cpu) m) (sym (same_true mode.the_type tt w.0 x h)) ∙ g)
+    (λ h. none_missed cpu m ws x (rw g at e) (rw h at f)))
 
 none_found : (cpu : Cpu) (m : Mnemonic) (form : Form) (ws : List Way) → EachWay form ws → LacksForm cpu m form → first_way cpu m ws ≡ None
 none_found cpu m form [] each lacks = refl
@@ -116,11 +114,7 @@ needs_mode cpu above m form = (
 pub first_case : {P : Type 0} (cpu : Cpu) (m : Mnemonic) (w : Way) (ws : List Way) (fragments : List Fragment) → first_way cpu m (w ∷ ws) ≡ Some fragments
     → ((b : ℕ) → encoded (table_of cpu) m w.0 ≡ Some b → fragments ≡ Fixed b ∷ w.1 → P)
     → (encoded (table_of cpu) m w.0 ≡ None → first_way cpu m ws ≡ Some fragments → P) → P
-first_case {P} cpu m w ws fragments e found missed = go (encoded (table_of cpu) m w.0) refl
-  where
-    go : (o : Option ℕ) → encoded (table_of cpu) m w.0 ≡ o → P
-    go (Some b) g = let e' = rw g at e in found b g cc
-    go None g = missed g (rw g at e)
+first_case cpu m w ws fragments e found missed = by_option (encoded (table_of cpu) m w.0) (λ b g. let e' = rw g at e in found b g cc) (λ g. missed g (rw g at e))
 
 -- a zero-page mode that has an absolute one beside it
 abbrev is_zero : Mode → Bool
