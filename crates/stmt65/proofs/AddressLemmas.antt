@@ -16,6 +16,7 @@ use Rattle.stmt65.specs.TextLaws.{Line, IsFaultless, line_bytes, lines_below, li
 use Rattle.stmt65.specs.LineAddresses.{FindsLine, GivesByte, address_after, line_addresses, line_past}
 use Rattle.stmt65.specs.Code.Held.{held}
 use Rattle.stmt65.specs.Code.MeaningViews.{held_after}
+use Rattle.stmt65.proofs.Cases.{by_test}
 use Rattle.stmt65.proofs.HeldLemmas.{after-held, held_state, initial-held, none_fits, small_same}
 use Rattle.stmt65.proofs.TextLemmas.{at-after, means_bytes}
 
@@ -76,46 +77,32 @@ finds_from : (all : List Definition) (s : State) (ls : List (Option SourceLine))
     → GivesByte all (lines_below s ls) offset (line_past (s.at + offset) (map address_after (lines_below s ls)))
 unfolding lines_below
 finds_from all s [] offset h = absurd (omega arith)
-finds_from all s (l ∷ ls) offset h = go (finds_from all (after s l) ls) (leb (after s l).at (s.at + offset)) refl
-  where
-    line : Line
-    line = record { state = s; says = l }
-
-    go : ((k : ℕ) → k < length (flat_map (line_bytes all) (lines_below (after s l) ls)) → GivesByte all (lines_below (after s l) ls) k (line_past ((after s l).at + k) (map address_after (lines_below (after s l) ls))))
-        → (b : Bool) → leb (after s l).at (s.at + offset) ≡ b → GivesByte all (line ∷ lines_below (after s l) ls) offset (line_past (s.at + offset) (map address_after (line ∷ lines_below (after s l) ls)))
-    go more true e =
-        let next = at-after all s l in
-        let here : length (line_bytes all line) ≤ offset = omega (arith, leb-true (after s l).at (s.at + offset) e) in
-        let parts' = length-append (bytes_of all s l) (flat_map (line_bytes all) (lines_below (after s l) ls)) in
-        let less : offset - length (bytes_of all s l) < length (flat_map (line_bytes all) (lines_below (after s l) ls)) = omega (arith, here, parts', h) in
-        let ih = more (offset - length (bytes_of all s l)) less in
-        let same : (after s l).at + (offset - length (bytes_of all s l)) ≡ s.at + offset = omega (arith, here, next) in
-        let count : prefix_len (λ a. leb a (s.at + offset)) (map address_after (lines_below (after s l) ls)) + 1 ≡ length ih.above + 1 =
-        ap (λ (n : ℕ). line_past n (map address_after (lines_below (after s l) ls))) (sym same) ∙ ih.number in
-        let front = length-append (bytes_of all s l) (flat_map (line_bytes all) ih.above) in
-        let low = ih.begins in
-        let high = ih.ends in
-        record {
-          above = line ∷ ih.above;
-          line = ih.line;
-          below = ih.below;
-          parts = ap (λ (xs : List Line). line ∷ xs) ih.parts;
-          number = rw e (omega (arith, count));
-          begins = omega (arith, front, low, here);
-          ends = omega (arith, front, high, here);
-        }
-    go more false e =
-        let next = at-after all s l in
-        let past = leb-false (after s l).at (s.at + offset) e in
-        record {
-          above = [];
-          line = line;
-          below = lines_below (after s l) ls;
-          parts = refl;
-          number = rw e refl;
-          begins = omega arith;
-          ends = omega (arith, next, past);
-        }
+finds_from all s (l ∷ ls) offset h =
+    let line : Line = record { state = s; says = l } in
+    let lines = lines_below (after s l) ls in
+    let next = at-after all s l in
+    by_test (leb (after s l).at (s.at + offset))
+    (λ e.
+    let here : length (line_bytes all line) ≤ offset = omega (arith, leb-true (after s l).at (s.at + offset) e) in
+    let parts' = length-append (bytes_of all s l) (flat_map (line_bytes all) lines) in
+    let ih = finds_from all (after s l) ls (offset - length (bytes_of all s l)) (omega (arith, here, parts', h)) in
+    let same : (after s l).at + (offset - length (bytes_of all s l)) ≡ s.at + offset = omega (arith, here, next) in
+    let count : prefix_len (λ a. leb a (s.at + offset)) (map address_after lines) + 1 ≡ length ih.above + 1 = ap (λ (n : ℕ). line_past n (map address_after lines)) (sym same) ∙ ih.number in
+    let front = length-append (bytes_of all s l) (flat_map (line_bytes all) ih.above) in
+    let low = ih.begins in
+    let high = ih.ends in
+    record {
+      above = line ∷ ih.above;
+      line = ih.line;
+      below = ih.below;
+      parts = ap (λ (xs : List Line). line ∷ xs) ih.parts;
+      number = rw e (omega (arith, count));
+      begins = omega (arith, front, low, here);
+      ends = omega (arith, front, high, here);
+    })
+    (λ e.
+    let past = leb-false (after s l).at (s.at + offset) e in
+    record { above = []; line = line; below = lines; parts = refl; number = rw e refl; begins = omega arith; ends = omega (arith, next, past) })
 
 pub finds_line : FindsLine
 unfolding line_addresses

@@ -1,5 +1,5 @@
 -- What is read is spelled so.
-use Rattle.std.proofs.Common.{◌≡◌, ℕ, zero, suc, true, cond, append_assoc, List, [], ◌∷◌, ◌++◌, length, drop, Option, Some, None, refl, sym, ap, ◌∙◌, inl, inr}
+use Rattle.std.proofs.Common.{◌≡◌, ℕ, zero, suc, Bool, true, false, cond, append_assoc, List, [], ◌∷◌, ◌++◌, length, drop, Option, Some, None, refl, sym, ap, ◌∙◌, inl, inr}
 use Rattle.std.specs.Prelude.{codes, IfSome}
 use Rattle.std.proofs.lemmas.List.{append-nil}
 use Rattle.isa65.specs.Mnemonic.{text_of, mnemonic_named}
@@ -20,6 +20,23 @@ pub record Fronts (Is : List Part → Type 0) (ps rest : List Part) : Type 0 whe
   pub front : List Part
   pub split : ps ≡ front ++ rest
   pub is : Is front
+
+-- ---- what holds of what is read, step by step
+
+-- of what follows something that was read
+given : {A B : Type 0} (Q : B → Type 0) (o : Option A) (k : A → Option B) → ((x : A) → o ≡ Some x → IfSome (k x) Q) → IfSome (o >>= k) Q
+given Q None k h = tt
+given Q (Some x) k h = h x refl
+
+-- of what is read if a test passes
+tested : {A : Type 0} (Q : A → Type 0) (b : Bool) (o : Option A) → (b ≡ true → IfSome o Q) → IfSome (cond b o None) Q
+tested Q true o h = h refl
+tested Q false o h = tt
+
+-- of what is read if nothing is left
+ended : {A : Type 0} (Q : A → Type 0) (x : A) (ps : List Part) → (ps ≡ [] → Q x) → IfSome (whole x ps) Q
+ended Q x [] h = h refl
+ended Q x (p ∷ ps) h = tt
 
 -- ---- items in front
 
@@ -87,11 +104,9 @@ at P o x e h = rw e at h
 second_read : (size : AddressSize) (v : Value) (ps : List Part) → is_mark 44 ps ≡ true
     → IfSome (cond (is_absolute size) None (next_value (drop 1 ps) >>= λ w. whole (Two v w.0) w.1)) (λ f. (is : List Item) × (form_items f ≡ prefix_items size ++ value v ∷ is) × Spells is ps)
 second_read Absolute v ps comma = tt
-second_read Automatic v ps comma =
-    by_option (next_value (drop 1 ps))
-    (λ w e. let f = at (λ w. Fronts (IsValue w.0) (drop 1 ps) w.1) (next_value (drop 1 ps)) w e (value_read (drop 1 ps)) in
-    rw e (by_list w.1 (λ end. rw end (mark 44 ∷ value w.0 ∷ [], refl, at_mark 44 _ ps comma (at_value w.0 [] (drop 1 ps) w.1 f (rw end at_end)))) (λ q qs e. rw e tt)))
-    (λ e. rw e tt)
+second_read Automatic v ps comma = given _ (next_value (drop 1 ps)) _ (λ w e.
+    let f = at (λ w. Fronts (IsValue w.0) (drop 1 ps) w.1) (next_value (drop 1 ps)) w e (value_read (drop 1 ps)) in
+    ended _ _ w.1 (λ end. (mark 44 ∷ value w.0 ∷ [], refl, at_mark 44 _ ps comma (at_value w.0 [] (drop 1 ps) w.1 f (rw end at_end)))))
 
 tail_read : (size : AddressSize) (v : Value) (ps : List Part) → IfSome (tail_at size v ps) (λ f. (is : List Item) × (form_items f ≡ prefix_items size ++ value v ∷ is) × Spells is ps)
 unfolding tail_at
@@ -110,33 +125,21 @@ unfolding inner_at
 inner_read v ps =
     by_test (is_mark 41 ps)
     (λ close. rw close (by_test (is_mark 44 (drop 1 ps))
-    (λ comma. rw comma (by_test (is_word_here (codes "y") (drop 1 (drop 1 ps)))
-    (λ y. rw y (by_list (drop 1 (drop 1 (drop 1 ps)))
-    (λ end. rw end (mark 41 ∷ mark 44 ∷ word (codes "y") ∷ [], refl, at_mark 41 _ ps close (at_mark 44 _ (drop 1 ps) comma (at_word (codes "y") [] (drop 1 (drop 1 ps)) y (rw end at_end)))))
-    (λ q qs e. rw e tt)))
-    (λ y. rw y tt)))
-    (λ comma. rw comma (by_list (drop 1 ps) (λ end. rw end (mark 41 ∷ [], refl, at_mark 41 [] ps close (rw end at_end))) (λ q qs e. rw e tt)))))
-    (λ close. rw close (by_test (is_mark 44 ps)
-    (λ comma. rw comma (by_test (is_word_here (codes "x") (drop 1 ps))
-    (λ x. rw x (by_test (is_mark 41 (drop 1 (drop 1 ps)))
-    (λ late. rw late (by_list (drop 1 (drop 1 (drop 1 ps)))
-    (λ end. rw end (mark 44 ∷ word (codes "x") ∷ mark 41 ∷ [], refl, at_mark 44 _ ps comma (at_word (codes "x") _ (drop 1 ps) x (at_mark 41 [] (drop 1 (drop 1 ps)) late (rw end at_end)))))
-    (λ q qs e. rw e tt)))
-    (λ late. rw late tt)))
-    (λ x. rw x tt)))
-    (λ comma. rw comma tt)))
+    (λ comma. rw comma (tested _ (is_word_here (codes "y") (drop 1 (drop 1 ps))) _ (λ y. ended _ _ (drop 1 (drop 1 (drop 1 ps))) (λ end.
+    (mark 41 ∷ mark 44 ∷ word (codes "y") ∷ [], refl, at_mark 41 _ ps close (at_mark 44 _ (drop 1 ps) comma (at_word (codes "y") [] (drop 1 (drop 1 ps)) y (rw end at_end))))))))
+    (λ comma. rw comma (ended _ _ (drop 1 ps) (λ end. (mark 41 ∷ [], refl, at_mark 41 [] ps close (rw end at_end)))))))
+    (λ close. rw close (tested _ (is_mark 44 ps) _ (λ comma. tested _ (is_word_here (codes "x") (drop 1 ps)) _ (λ x. tested _ (is_mark 41 (drop 1 (drop 1 ps))) _ (λ late. ended _ _ (drop 1 (drop 1 (drop 1 ps))) (λ end.
+    (mark 44 ∷ word (codes "x") ∷ mark 41 ∷ [], refl, at_mark 44 _ ps comma (at_word (codes "x") _ (drop 1 ps) x (at_mark 41 [] (drop 1 (drop 1 ps)) late (rw end at_end))))))))))
 
 -- a value, and then what is read after it
 value_then : (ps : List Part) (k : Value → List Part → Option Form) (before : List Item)
     → ((v : Value) (rest : List Part) → IfSome (k v rest) (λ f. (is : List Item) × (form_items f ≡ before ++ value v ∷ is) × Spells is rest))
     → IfSome (next_value ps >>= λ v. k v.0 v.1) (λ f. (is : List Item) × (form_items f ≡ before ++ is) × Spells is ps)
-value_then ps k before h =
-    by_option (next_value ps)
-    (λ v e. rw e (by_option (k v.0 v.1)
+value_then ps k before h = given _ (next_value ps) _ (λ v e.
+    by_option (k v.0 v.1)
     (λ f g. let q = at (λ f. (is : List Item) × (form_items f ≡ before ++ value v.0 ∷ is) × Spells is v.1) (k v.0 v.1) f g (h v.0 v.1) in
     rw g (value v.0 ∷ q.0, q.1, at_value v.0 q.0 ps v.1 (at (λ w. Fronts (IsValue w.0) ps w.1) (next_value ps) v e (value_read ps)) q.2))
-    (λ g. rw g tt)))
-    (λ e. rw e tt)
+    (λ g. rw g tt))
 
 -- such items after the items of what stands before them
 joins : (o : Option Form) (before : List Item) (ps full : List Part)
@@ -172,15 +175,12 @@ pub joined_read : {A : Type 0} (Is : A → List Part → Type 0) (read : List Pa
     → (most : ℕ) (ps : List Part) → IfSome (joined read most ps) (λ xs. IsList Is xs ps)
 unfolding joined
 joined_read {A = A} Is read h zero ps = tt
-joined_read {A = A} Is read h (suc most) ps =
-    by_option (read ps)
-    (λ x e. let f = at (λ x. Fronts (Is x.0) ps x.1) (read ps) x e (h ps) in
-    rw e (by_test (is_mark 44 x.1)
-    (λ comma. rw comma (by_option (joined read most (drop 1 x.1))
-    (λ xs g. rw g (more x.0 xs ps x.1 f comma (at (λ xs. IsList Is xs (drop 1 x.1)) (joined read most (drop 1 x.1)) xs g (joined_read Is read h most (drop 1 x.1)))))
-    (λ g. rw g tt)))
-    (λ comma. rw comma (by_list x.1 (λ end. rw end (final x.0 ps x.1 f end)) (λ q qs e. rw e tt)))))
-    (λ e. rw e tt)
+joined_read {A = A} Is read h (suc most) ps = given _ (read ps) _ (λ x e.
+    let f = at (λ x. Fronts (Is x.0) ps x.1) (read ps) x e (h ps) in
+    by_test (is_mark 44 x.1)
+    (λ comma. rw comma (given _ (joined read most (drop 1 x.1)) _ (λ xs g.
+    more x.0 xs ps x.1 f comma (at (λ xs. IsList Is xs (drop 1 x.1)) (joined read most (drop 1 x.1)) xs g (joined_read Is read h most (drop 1 x.1))))))
+    (λ comma. rw comma (ended _ _ x.1 (λ end. final x.0 ps x.1 f end))))
   where
     more : (x : A) (xs : List A) (ps rest : List Part) → Fronts (Is x) ps rest → is_mark 44 rest ≡ true → IsList Is xs (drop 1 rest) → IsList Is (x ∷ xs) ps
     more x [] ps rest f comma g = absurd g
@@ -230,21 +230,15 @@ values_read : (d : Directive) (w : List ℕ) (ps : List Part) → same w (direct
 values_read d w ps t = then_read (λ vs. IsList IsValue vs ps) (list_of next_value ps) (Values d) (Word w ∷ ps) (joined_read IsValue next_value value_read (suc (length ps)) ps) (λ vs h. word_front (directive_text d) _ w ps t (last (value_list vs) ps h))
 
 segment_read : (w : List ℕ) (ps : List Part) → same w (codes ".segment") ≡ true → IfSome (segment_of ps) (λ o. Spells (operation_items o) (Word w ∷ ps))
-segment_read w ps t =
-    by_option (text_in ps)
-    (λ name e. rw e (by_test (has_name_form name)
-    (λ n. rw n (word_front (codes ".segment") _ w ps t (last (quoted_name name) ps (n, at (λ name. ps ≡ Text name ∷ []) (text_in ps) name e (text_read ps)))))
-    (λ n. rw n tt)))
-    (λ e. rw e tt)
+segment_read w ps t = given _ (text_in ps) _ (λ name e. tested _ (has_name_form name) _ (λ n.
+    word_front (codes ".segment") _ w ps t (last (quoted_name name) ps (n, at (λ name. ps ≡ Text name ∷ []) (text_in ps) name e (text_read ps)))))
 
 set_cpu_read : (w : List ℕ) (ps : List Part) → same w (codes ".setcpu") ≡ true → IfSome (set_cpu_of ps) (λ o. Spells (operation_items o) (Word w ∷ ps))
 set_cpu_read w ps t = then_read (λ name. ps ≡ Text name ∷ []) (text_in ps) SetCpu (Word w ∷ ps) (text_read ps) (λ name h. word_front (codes ".setcpu") _ w ps t (last (string name) ps h))
 
 instruction_read : (w : List ℕ) (ps : List Part) → IfSome (instruction_of w ps) (λ o. Spells (operation_items o) (Word w ∷ ps))
-instruction_read w ps =
-    by_option (mnemonic_named w)
-    (λ m e. rw e (then_read (λ f. Spells (form_items f) ps) (form_of ps) (Instr m) (Word w ∷ ps) (form_read ps) (λ f h. word_front (text_of m) (form_items f) w ps (mnemonic_is w m e) h)))
-    (λ e. rw e tt)
+instruction_read w ps = given _ (mnemonic_named w) _ (λ m e.
+    then_read (λ f. Spells (form_items f) ps) (form_of ps) (Instr m) (Word w ∷ ps) (form_read ps) (λ f h. word_front (text_of m) (form_items f) w ps (mnemonic_is w m e) h))
 
 other_read : (w : List ℕ) (ps : List Part) → IfSome (other_at w ps) (λ o. Spells (operation_items o) (Word w ∷ ps))
 unfolding other_at
@@ -269,35 +263,19 @@ constant_read : (w : List ℕ) (ps : List Part) → is_name w ≡ true → is_de
 unfolding constant_of
 constant_read w ps n d =
     by_test (is_mark 42 (drop 1 ps))
-    (λ star. rw star (by_test (is_mark 43 (drop 1 (drop 1 ps)))
-    (λ plus. rw plus (by_option (number_in (drop 1 (drop 1 (drop 1 ps))))
-    (λ k e. rw e (by_list k.1
-    (λ end. rw end (name_front _ w ps n (at_define _ ps d (at_mark 42 _ (drop 1 ps) star (at_mark 43 _ (drop 1 (drop 1 ps)) plus (at_number [] (drop 1 (drop 1 (drop 1 ps))) k e (rw end at_end)))))))
-    (λ q qs g. rw g tt)))
-    (λ e. rw e tt)))
-    (λ plus. rw plus tt)))
-    (λ star. rw star (by_option (number_in (drop 1 ps))
-    (λ k e. rw e (by_list k.1
-    (λ end. rw end (name_front _ w ps n (at_define _ ps d (at_number [] (drop 1 ps) k e (rw end at_end)))))
-    (λ q qs g. rw g tt)))
-    (λ e. rw e tt)))
+    (λ star. rw star (tested _ (is_mark 43 (drop 1 (drop 1 ps))) _ (λ plus. given _ (number_in (drop 1 (drop 1 (drop 1 ps)))) _ (λ k e. ended _ _ k.1 (λ end.
+    name_front _ w ps n (at_define _ ps d (at_mark 42 _ (drop 1 ps) star (at_mark 43 _ (drop 1 (drop 1 ps)) plus (at_number [] (drop 1 (drop 1 (drop 1 ps))) k e (rw end at_end))))))))))
+    (λ star. rw star (given _ (number_in (drop 1 ps)) _ (λ k e. ended _ _ k.1 (λ end. name_front _ w ps n (at_define _ ps d (at_number [] (drop 1 ps) k e (rw end at_end)))))))
 
 line_read : (w : List ℕ) (ps : List Part) → IfSome (line_at w ps) (λ r. IsSpelling r (Word w ∷ ps))
 unfolding line_at
 line_read w ps =
     by_test (is_mark 58 ps)
-    (λ colon. rw colon (by_test (is_name w)
-    (λ n. rw n (by_option (operation_of (drop 1 ps))
-    (λ o e. rw e (name_front _ w ps n (at_mark 58 _ ps colon (at (λ o. Spells (operation_items o) (drop 1 ps)) (operation_of (drop 1 ps)) o e (operation_of_read (drop 1 ps))))))
-    (λ e. rw e tt)))
-    (λ n. rw n tt)))
+    (λ colon. rw colon (tested _ (is_name w) _ (λ n. given _ (operation_of (drop 1 ps)) _ (λ o e.
+    name_front _ w ps n (at_mark 58 _ ps colon (at (λ o. Spells (operation_items o) (drop 1 ps)) (operation_of (drop 1 ps)) o e (operation_of_read (drop 1 ps))))))))
     (λ colon. rw colon (by_test (is_define ps)
-    (λ d. rw d (by_test (is_name w)
-    (λ n. rw n (constant_read w ps n d))
-    (λ n. rw n tt)))
-    (λ d. rw d (by_option (operation_at w ps)
-    (λ o e. rw e (at (λ o. Spells (operation_items o) (Word w ∷ ps)) (operation_at w ps) o e (operation_read w ps)))
-    (λ e. rw e tt)))))
+    (λ d. rw d (tested _ (is_name w) _ (λ n. constant_read w ps n d)))
+    (λ d. rw d (given _ (operation_at w ps) _ (λ o e. at (λ o. Spells (operation_items o) (Word w ∷ ps)) (operation_at w ps) o e (operation_read w ps))))))
 
 pub reading_read : (ps : List Part) → IfSome (reading_of ps) (λ r. IsSpelling r ps)
 unfolding reading_of

@@ -1,12 +1,13 @@
 -- A line that says something has the same parts where a blank and a remark follow it.
 use Rattle.std.proofs.lemmas.List.Sums.{prefix_len-le-length}
-use Rattle.std.proofs.Common.{◌≡◌, ℕ, zero, suc, Bool, true, false, eqb, ◌+◌, ◌<◌, ◌≤◌, List, [], ◌∷◌, ◌++◌, length, drop, refl, ap, arith, inl, inr}
+use Rattle.std.proofs.Common.{◌∙◌, ◌≡◌, ℕ, zero, suc, Bool, true, false, eqb, ◌+◌, ◌<◌, ◌≤◌, List, [], ◌∷◌, ◌++◌, length, drop, refl, ap, arith, inl, inr}
 use Rattle.std.specs.Prelude.{not, Some, None}
 use Rattle.std.specs.List.{prefix_len, list_all}
 use Rattle.std.specs.Char.{is_ascii_digit, is_ascii_hexdigit}
 use Rattle.std.proofs.lemmas.Bool.{and_parts, eqb-true}
 use Rattle.std.proofs.lemmas.List.{take-append-le, drop-append-le, length-drop}
-use Rattle.std.proofs.lemmas.List.Folds.{list_all-append}
+use Rattle.std.proofs.lemmas.Bool.Decides.{nat_tests}
+use Rattle.std.proofs.lemmas.List.Folds.{list_all-append, prefix_len-append}
 use Rattle.text65.specs.Names.{is_blank, is_word_byte}
 use Rattle.stmt65.specs.Lexing.{is_word_start, is_text_byte, hex_len, part_at, parts, parts_after}
 use Rattle.stmt65.specs.Parts.{Part, Mark, begins_with}
@@ -33,10 +34,7 @@ run_same p (x ∷ xs) more e = by_test (p x) (λ t. rw (t, run_same p xs more e)
 
 -- a run that ends before the blank
 run_before : (p : ℕ → Bool) (xs more : List ℕ) → prefix_len p xs < length xs → prefix_len p (xs ++ more) ≡ prefix_len p xs
-run_before p [] more lt = absurd (omega arith)
-run_before p (x ∷ xs) more lt = by_test (p x)
-    (λ t. let lt : 1 + prefix_len p xs < suc (length xs) = rw t at lt in rw (t, run_before p xs more (omega arith)) refl)
-    (λ t. rw t refl)
+run_before p xs more lt = prefix_len-append p xs more ∙ let no : eqb (prefix_len p xs) (length xs) ≡ false = grind (arith, nat_tests) in rw no refl
 
 begins_some : (b : ℕ) (bs : List ℕ) → begins_with b bs ≡ true → 0 < length bs
 begins_some b [] h = absurd cc

@@ -39,13 +39,9 @@ pub record Takes (b : ℕ) (bs : List ℕ) (p : Part) (k : ℕ) : Type 0 where
 stays_alone : (b : ℕ) → is_blank b ≡ false → eqb b 59 ≡ false → is_word_start b ≡ false → is_ascii_digit b ≡ false → is_alone b ≡ true
 stays_alone b h g w d = rw (h, g, w, d) refl
 
-quoted : (bs : List ℕ) → begins_with 34 bs ≡ true → bs ≡ 34 ∷ drop 1 bs
-quoted [] h = absurd cc
-quoted (c ∷ cs) h = ap (λ (d : ℕ). d ∷ cs) (eqb-true c 34 h)
-
-equals : (bs : List ℕ) → begins_with 61 bs ≡ true → bs ≡ 61 ∷ drop 1 bs
-equals [] h = absurd cc
-equals (c ∷ cs) h = ap (λ (d : ℕ). d ∷ cs) (eqb-true c 61 h)
+begun : (b : ℕ) (bs : List ℕ) → begins_with b bs ≡ true → bs ≡ b ∷ drop 1 bs
+begun b [] h = absurd cc
+begun b (c ∷ cs) h = ap (λ (d : ℕ). d ∷ cs) (eqb-true c b h)
 
 pub taken : (b : ℕ) (bs : List ℕ) → is_blank b ≡ false → eqb b 59 ≡ false → Takes b bs (part_at b bs).0 (part_at b bs).1
 unfolding part_at
@@ -60,9 +56,9 @@ taken b bs h g =
     rw x (record { text = (refl, inr (take (hex_len bs) bs, ap (λ (c : ℕ). c ∷ take (hex_len bs) bs) (eqb-true b 36 e.0), omega (arith, long, prefix_len-le-length is_ascii_hexdigit bs), omega (arith, long), run_passes is_ascii_hexdigit (hex_len bs) bs (omega arith))); fits = omega (arith, prefix_len-le-length is_ascii_hexdigit bs) }))
     (λ x. rw x (by_test (eqb b 34 && begins_with 34 (drop (prefix_len is_text_byte bs) bs))
     (λ t. let e = and_parts (eqb b 34) (begins_with 34 (drop (prefix_len is_text_byte bs) bs)) t in
-    rw t (text_taken b bs (prefix_len is_text_byte bs) (eqb-true b 34 e.0) (quoted _ e.1) (run_passes is_text_byte (prefix_len is_text_byte bs) bs (omega arith)) (prefix_len-le-length is_text_byte bs)))
+    rw t (text_taken b bs (prefix_len is_text_byte bs) (eqb-true b 34 e.0) (begun 34 _ e.1) (run_passes is_text_byte (prefix_len is_text_byte bs) bs (omega arith)) (prefix_len-le-length is_text_byte bs)))
     (λ t. rw t (by_test (eqb b 58 && begins_with 61 bs)
-    (λ c. let e = and_parts (eqb b 58) (begins_with 61 bs) c in rw c (define_taken b bs (eqb-true b 58 e.0) (equals bs e.1)))
+    (λ c. let e = and_parts (eqb b 58) (begins_with 61 bs) c in rw c (define_taken b bs (eqb-true b 58 e.0) (begun 61 bs e.1)))
     (λ c. rw c (record { text = (refl, stays_alone b h g w d); fits = omega arith }))))))))))
   where
     text_taken : (b : ℕ) (bs : List ℕ) (n : ℕ) → b ≡ 34 → drop n bs ≡ 34 ∷ drop 1 (drop n bs) → list_all is_text_byte (take n bs) ≡ true → n ≤ length bs → Takes b bs (Text (take n bs)) (n + 1)
