@@ -5,8 +5,7 @@ ghost use Rattle.stmt65.specs.Parts.{Part};
 ghost use Rattle.stmt65.specs.Code.Found.{Reads, Gives};
 ghost use Rattle.stmt65.specs.Code.Shortens.{Shortens};
 ghost use Rattle.stmt65.specs.Code.SourceLineViews.{operation_of as operation_of_code};
-ghost use Rattle.stmt65.specs.Reading.{list_of, text_in, data_of, values_of, segment_of, set_cpu_of, instruction_of, whole, other_at, operation_at, operation_of};
-ghost use Rattle.stmt65.specs.SourceLine.{Code};
+ghost use Rattle.stmt65.specs.Reading.{list_of, text_in, segment_of, instruction_of, other_at, operation_at, operation_of};
 
 use crate::directive::Directive;
 use crate::reading::expressions::next_value;
@@ -115,31 +114,6 @@ fn text_in<'a>(parts: &mut Parts<'a>) -> Option<&'a [u8]>
     None
 }
 
-fn data<'a, A: Allocator>(
-    alloc: A,
-    parts: &mut Parts<'a>,
-) -> Result<Option<Operation<'a, A>>, AllocError>
-    ensures { IfOk result (λ found. Gives operation_of_code found (data_of parts.old)) }
-{
-    match list_in(alloc, parts)? {
-        Some(data) => Ok(Some(Operation::Data(data))),
-        None => Ok(None),
-    }
-}
-
-fn values<'a, A: Allocator>(
-    alloc: A,
-    directive: Directive,
-    parts: &mut Parts<'a>,
-) -> Result<Option<Operation<'a, A>>, AllocError>
-    ensures { IfOk result (λ found. Gives operation_of_code found (values_of directive parts.old)) }
-{
-    match list_in(alloc, parts)? {
-        Some(values) => Ok(Some(Operation::Values(directive, values))),
-        None => Ok(None),
-    }
-}
-
 fn segment<'a, A: Allocator>(parts: &mut Parts<'a>) -> Option<Operation<'a, A>>
     ensures { Gives operation_of_code result (segment_of parts.old) }
 {
@@ -149,23 +123,6 @@ fn segment<'a, A: Allocator>(parts: &mut Parts<'a>) -> Option<Operation<'a, A>>
     } else {
         None
     }
-}
-
-fn code<'a, A: Allocator>(parts: &Parts<'a>) -> Option<Operation<'a, A>>
-    ensures { Gives operation_of_code result (whole Code parts.now) }
-{
-    if parts.is_done() {
-        Some(Operation::Code)
-    } else {
-        None
-    }
-}
-
-fn set_cpu<'a, A: Allocator>(parts: &mut Parts<'a>) -> Option<Operation<'a, A>>
-    ensures { Gives operation_of_code result (set_cpu_of parts.old) }
-{
-    let text = text_in(parts)?;
-    Some(Operation::SetCpu(text))
 }
 
 fn instruction<'a, A: Allocator>(word: &[u8], parts: &mut Parts<'a>) -> Option<Operation<'a, A>>
@@ -186,16 +143,26 @@ fn other_at<'a, A: Allocator>(
     ensures { IfOk result (λ found. Gives operation_of_code found (other_at word.now parts.old)) }
 {
     if is_word(word, b".byte") {
-        return data(alloc, parts);
+        return match list_in(alloc, parts)? {
+            Some(data) => Ok(Some(Operation::Data(data))),
+            None => Ok(None),
+        };
     }
     if is_word(word, b".segment") {
         return Ok(segment(parts));
     }
     if is_word(word, b".code") {
-        return Ok(code(parts));
+        return Ok(if parts.is_done() {
+            Some(Operation::Code)
+        } else {
+            None
+        });
     }
     if is_word(word, b".setcpu") {
-        return Ok(set_cpu(parts));
+        return match text_in(parts) {
+            Some(text) => Ok(Some(Operation::SetCpu(text))),
+            None => Ok(None),
+        };
     }
     Ok(instruction(word, parts))
 }
@@ -210,7 +177,10 @@ pub fn operation_at<'a, A: Allocator>(
     ensures { IfOk result (λ found. Gives operation_of_code found (operation_at word.now parts.old)) }
 {
     match Directive::from_word(word) {
-        Some(directive) => values(alloc, directive, parts),
+        Some(directive) => match list_in(alloc, parts)? {
+            Some(values) => Ok(Some(Operation::Values(directive, values))),
+            None => Ok(None),
+        },
         None => other_at(alloc, word, parts),
     }
 }
