@@ -1,9 +1,9 @@
 -- Going by what a test, an option or a list turns out to be; what stands in front; words in any case.
 use Rattle.std.proofs.Common.{◌≡◌, ℕ, Bool, true, false, List, [], ◌∷◌, drop, Option, Some, None, refl, sym, ap, ◌∙◌}
-use Rattle.std.specs.Prelude.{not, codes, is_some}
+use Rattle.std.specs.Prelude.{codes, is_some}
 use Rattle.std.specs.List.{list_any, find}
 use Rattle.std.specs.Str.{bytes_eq, str_to_ascii_lowercase}
-use Rattle.std.proofs.lemmas.Bool.{and_parts, eqb-true, or_parts}
+use Rattle.std.proofs.lemmas.Bool.{and_parts, eqb-true, not-true, or_parts}
 use Rattle.std.proofs.lemmas.Slice.Eq.{bytes_eq-Decides}
 use Rattle.isa65.specs.declared.mnemonic.Mnemonic.{Mnemonic}
 use Rattle.isa65.specs.declared.mnemonic.Mnemonic.TheVariants.{Adc}
@@ -30,10 +30,6 @@ by_option None f g = g refl
 pub by_list : {A P : Type 0} (xs : List A) → (xs ≡ [] → P) → ((y : A) → (ys : List A) → xs ≡ y ∷ ys → P) → P
 by_list [] f g = f refl
 by_list (x ∷ xs) f g = g x xs refl
-
-pub not_true : (b : Bool) → not b ≡ true → b ≡ false
-not_true true h = absurd cc
-not_true false h = refl
 
 pub mark_is : (b : ℕ) (ps : List Part) → is_mark b ps ≡ true → ps ≡ Mark b ∷ drop 1 ps
 mark_is b (Mark c ∷ ps) e = ap (λ (d : ℕ). Mark d ∷ ps) (eqb-true c b e)
@@ -113,7 +109,7 @@ no_dot _ = record { directive = refl; byte = refl; segment = refl; code = refl; 
 pub no_letter : (w : List ℕ) → is_name w ≡ true → (same w (codes "a") ≡ false) × (same w (codes "x") ≡ false) × (same w (codes "y") ≡ false)
 unfolding is_name is_reserved_word
 no_letter w h =
-    let any = (or_parts (list_any (same w) registers) (is_some (mnemonic_named w)) (not_true _ (and_parts (has_name_form w) _ h).1)).0 in
+    let any = (or_parts (list_any (same w) registers) (is_some (mnemonic_named w)) (not-true _ (and_parts (has_name_form w) _ h).1)).0 in
     let a = or_parts (same w (codes "a")) _ any in let f = or_parts (same w (codes "f")) _ a.1 in let s = or_parts (same w (codes "s")) _ f.1 in
     let x = or_parts (same w (codes "x")) _ s.1 in let y = or_parts (same w (codes "y")) _ x.1 in
     (a.0, x.0, y.0)

@@ -50,26 +50,17 @@ record CodesBack (d : Directive) (entry : List ℕ) : Type 0 where
   back : entry_bytes d (entry_number d entry) ≡ entry
   fits : entry_number d entry < entry_limit d
 
-words_back : (a b : ℕ) → a < 256 → b < 256 → CodesBack Word (a ∷ b ∷ [])
-unfolding low_number
-words_back a b h g = let is = pair_of a b h g in record { back = rw (is.first, is.second) refl; fits = is.room }
-
-dbyts_back : (a b : ℕ) → a < 256 → b < 256 → CodesBack Dbyt (a ∷ b ∷ [])
-unfolding low_number
-dbyts_back a b h g = let is = pair_of b a g h in record { back = rw (is.first, is.second) refl; fits = is.room }
-
-dwords_back : (a b c e : ℕ) → a < 256 → b < 256 → c < 256 → e < 256 → CodesBack Dword (a ∷ b ∷ c ∷ e ∷ [])
-unfolding low_number
-dwords_back a b c e h g i j = let is = quad_of a b c e h g i j in record { back = rw (is.first, is.second, is.third, is.fourth) refl; fits = is.room }
-
 abbrev AreBytes : List ℕ → Type 0
 AreBytes bytes = All (λ b. b < 256) bytes
 
 codes_back : (d : Directive) (entry : List ℕ) → length entry ≡ entry_len d → AreBytes entry → CodesBack d entry
-codes_back Word (a ∷ b ∷ []) long are = words_back a b (are 0 0 (omega arith)) (are 1 0 (omega arith))
-codes_back Dbyt (a ∷ b ∷ []) long are = dbyts_back a b (are 0 0 (omega arith)) (are 1 0 (omega arith))
-codes_back Addr (a ∷ b ∷ []) long are = let is = words_back a b (are 0 0 (omega arith)) (are 1 0 (omega arith)) in record { back = is.back; fits = is.fits }
-codes_back Dword (a ∷ b ∷ c ∷ e ∷ []) long are = dwords_back a b c e (are 0 0 (omega arith)) (are 1 0 (omega arith)) (are 2 0 (omega arith)) (are 3 0 (omega arith))
+unfolding low_number
+codes_back Word (a ∷ b ∷ []) long are = let is = pair_of a b (are 0 0 (omega arith)) (are 1 0 (omega arith)) in record { back = rw (is.first, is.second) refl; fits = is.room }
+codes_back Dbyt (a ∷ b ∷ []) long are = let is = pair_of b a (are 1 0 (omega arith)) (are 0 0 (omega arith)) in record { back = rw (is.first, is.second) refl; fits = is.room }
+codes_back Addr (a ∷ b ∷ []) long are = let is = pair_of a b (are 0 0 (omega arith)) (are 1 0 (omega arith)) in record { back = rw (is.first, is.second) refl; fits = is.room }
+codes_back Dword (a ∷ b ∷ c ∷ e ∷ []) long are =
+    let is = quad_of a b c e (are 0 0 (omega arith)) (are 1 0 (omega arith)) (are 2 0 (omega arith)) (are 3 0 (omega arith)) in
+    record { back = rw (is.first, is.second, is.third, is.fourth) refl; fits = is.room }
 codes_back _ _ long are = absurd (omega (arith, long))
 
 -- the bytes of the number of an entry are those of the entry

@@ -4,7 +4,7 @@ use Rattle.std.proofs.Common.{◌≡◌, ℕ, zero, suc, Bool, true, false, eqb,
 use Rattle.std.specs.Prelude.{◌⊎◌, ◌&&◌, ◌||◌, nat_lt}
 use Rattle.std.specs.List.{prefix_len, list_all}
 use Rattle.std.specs.Char.{is_ascii_digit, is_ascii_hexdigit}
-use Rattle.std.proofs.lemmas.Bool.{and_parts, ltb-true, lt-ltb, eqb-true, or_parts}
+use Rattle.std.proofs.lemmas.Bool.{and_parts, ltb-true, lt-ltb, eqb-true, not-true, or_parts}
 use Rattle.std.proofs.lemmas.List.{take_at, drop_at, length-append, length-drop, length-take, length-take-le, take-append-drop}
 use Rattle.text65.specs.Names.{is_blank, is_word_byte}
 use Rattle.stmt65.specs.Parts.{Part, Word, Number, Text, Define, Mark, begins_with}
@@ -12,7 +12,7 @@ use Rattle.stmt65.specs.Lexing.{is_word_start, is_text_byte, hex_len, part_at, p
 use Rattle.stmt65.specs.Spacing.{IsDecimal, IsHex, is_alone, IsText, IsRemark, IsSpacing}
 use Rattle.stmt65.specs.ReadingLaws.{TakesParts}
 use Rattle.stmt65.proofs.PartLemmas.{parts_nil, parts_blank, parts_remark, parts_part}
-use Rattle.stmt65.proofs.Cases.{by_test, not_true}
+use Rattle.stmt65.proofs.Cases.{by_test}
 use Rattle.stmt65.proofs.Lexed.{digit_begins, digit_no_word, prefix_stop, word_begins}
 
 -- ---- runs of bytes
@@ -103,7 +103,7 @@ unfolding part_at
 best_define more = record { bound = omega arith; same = λ e. refl }
 
 alone_begins : (b : ℕ) → is_alone b ≡ true → (is_word_start b ≡ false) × (is_ascii_digit b ≡ false)
-alone_begins b h = let n = or_parts (eqb b 59) _ (or_parts (is_blank b) _ (not_true (is_blank b || (eqb b 59 || (is_word_start b || is_ascii_digit b))) h)).1 in or_parts (is_word_start b) _ n.1
+alone_begins b h = let n = or_parts (eqb b 59) _ (or_parts (is_blank b) _ (not-true (is_blank b || (eqb b 59 || (is_word_start b || is_ascii_digit b))) h)).1 in or_parts (is_word_start b) _ n.1
 
 best_mark : (b : ℕ) (bs : List ℕ) → is_alone b ≡ true → IsBest (part_at b bs) (Mark b) 1
 unfolding part_at
@@ -181,7 +181,7 @@ text_begins (Number t) text h = rw h.0 (number_begins t h.1)
 text_begins (Text t) text h = (34, t ++ 34 ∷ [], h.0, refl, refl)
 text_begins Define text h = (58, 61 ∷ [], h, refl, refl)
 text_begins (Mark b) text h =
-    let n = or_parts (is_blank b) _ (not_true (is_blank b || (eqb b 59 || (is_word_start b || is_ascii_digit b))) h.1) in
+    let n = or_parts (is_blank b) _ (not-true (is_blank b || (eqb b 59 || (is_word_start b || is_ascii_digit b))) h.1) in
     (b, [], h.0, n.0, (or_parts (eqb b 59) (is_word_start b || is_ascii_digit b) n.1).0)
 
 again : (ps : List Part) (line : List ℕ) → IsSpacing ps line → parts line ≡ ps

@@ -116,27 +116,24 @@ pub index_known : (ds : List CodeDefinition) (numbered : ℕ → Option ℕ) (ot
     → IsIndex (ds ++ d ∷ []) numbered others
 index_known ds numbered others d h known = record {
   within = λ n i e. within_more ds d i (h.within n i e);
-  finds = λ q. ap (λ (o : Option ℕ). option_or o (others q)) (stays q ds d (numbered (number_of q)) (h.within (number_of q))) ∙ h.finds q ∙ go q (bytes_eq d.name.now q) refl (first_at q (map definition_of ds)) refl ∙ sym (pushed q ds d);
+  finds = λ q. ap (λ (o : Option ℕ). option_or o (others q)) (stays q ds d (numbered (number_of q)) (h.within (number_of q))) ∙ h.finds q
+      ∙ by_test (bytes_eq d.name.now q)
+      (λ e. by_option (first_at q (map definition_of ds)) (λ i f. rw (e, f) refl) (λ f. absurd (let k = rw (same_name d q e, f) at known in cc)))
+      (λ e. rw e (other (first_at q (map definition_of ds)) (length ds)))
+      ∙ sym (pushed q ds d);
 }
-  where
-    go : (q : List ℕ) (b : Bool) → bytes_eq d.name.now q ≡ b → (o : Option ℕ) → first_at q (map definition_of ds) ≡ o
-        → first_at q (map definition_of ds) ≡ or_here (first_at q (map definition_of ds)) (bytes_eq d.name.now q) (length ds)
-    go q true e None f = absurd (let k = rw (same_name d q e, f) at known in cc)
-    go q true e (Some i) f = rw (e, f) refl
-    go q false e o f = rw e (other (first_at q (map definition_of ds)) (length ds))
 
 pub index_other : (ds : List CodeDefinition) (numbered : ℕ → Option ℕ) (others next : List ℕ → Option ℕ) (d : CodeDefinition) (n : ℕ) → IsIndex ds numbered others → is_some (first_at d.name.now (map definition_of ds)) ≡ false → n ≡ length ds
     → ((q : List ℕ) → next q ≡ update bytes_eq others d.name.now (Some n) q) → IsIndex (ds ++ d ∷ []) numbered next
 index_other ds numbered others next d n h unknown is now = record {
   within = λ m i e. within_more ds d i (h.within m i e);
-  finds = λ q. ap (λ (o : Option ℕ). option_or o (next q)) (stays q ds d (numbered (number_of q)) (h.within (number_of q))) ∙ go q (bytes_eq d.name.now q) refl (if_named q ds (numbered (number_of q))) (h.finds q) ∙ sym (pushed q ds d);
+  finds = λ q. ap (λ (o : Option ℕ). option_or o (next q)) (stays q ds d (numbered (number_of q)) (h.within (number_of q)))
+      ∙ by_test (bytes_eq d.name.now q)
+      (λ e. let gone = none _ (rw (same_name d q e) at unknown) in
+      by_option (if_named q ds (numbered (number_of q))) (λ i f. absurd (let k = rw f at (h.finds q) in cc)) (λ f. rw (f, now q, e, gone, is) refl))
+      (λ e. rw (now q, e) (h.finds q ∙ other (first_at q (map definition_of ds)) (length ds)))
+      ∙ sym (pushed q ds d);
 }
-  where
-    go : (q : List ℕ) (b : Bool) → bytes_eq d.name.now q ≡ b → (o : Option ℕ) → option_or o (others q) ≡ first_at q (map definition_of ds)
-        → option_or o (next q) ≡ or_here (first_at q (map definition_of ds)) (bytes_eq d.name.now q) (length ds)
-    go q true e None f = let k = none _ (rw (same_name d q e) at unknown) in rw (now q, e, k, is) refl
-    go q true e (Some i) f = absurd (let k = none _ (rw (same_name d q e) at unknown) in cc)
-    go q false e o f = rw (now q, e) (f ∙ other (first_at q (map definition_of ds)) (length ds))
 
 -- the number of a name, if it is that of no other
 pub index_numbered : (ds : List CodeDefinition) (numbered next : ℕ → Option ℕ) (others : List ℕ → Option ℕ) (d : CodeDefinition) (m n : ℕ) → IsIndex ds numbered others → is_some (first_at d.name.now (map definition_of ds)) ≡ false → n ≡ length ds

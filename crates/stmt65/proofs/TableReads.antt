@@ -10,7 +10,7 @@ use Rattle.std.proofs.lemmas.List.Folds.{list_all-append}
 use Rattle.std.specs.List.{list_all, flat_map}
 use Rattle.std.proofs.lemmas.Bool.{and_parts, ltb-true, eqb-true, eq-eqb}
 use Rattle.std.proofs.lemmas.Bool.Decides.{nat_tests}
-use Rattle.std.proofs.lemmas.List.{append-nil, reverse-append, length-reverse, length-take-le, length-drop, take-append-drop}
+use Rattle.std.proofs.lemmas.List.{append-nil, reverse-append, length-reverse, length-take-le, length-drop, map-id, take-append-drop}
 use Rattle.text65.specs.Digits.{hex_digit}
 use Rattle.stmt65.specs.declared.directive.Directive.{Directive}
 use Rattle.stmt65.specs.declared.directive.Directive.TheVariants.{Word}
@@ -176,13 +176,9 @@ each_datum (StringDatum t) h rest e = record {
   is = refl;
 }
 
-map_same : (ds : List Datum) → map (λ d. d) ds ≡ ds
-map_same [] = refl
-map_same (d ∷ ds) = ap (λ (l : List Datum). d ∷ l) (map_same ds)
-
 data_listed : (d : Datum) (ds : List Datum) → list_all is_sound (d ∷ ds) ≡ true → IsList IsDatum (d ∷ ds) (parts (data_text (d ∷ ds)))
 unfolding comma_list
-data_listed d ds h = subst (λ (l : List Datum). IsList IsDatum l (parts (data_text (d ∷ ds)))) (map_same (d ∷ ds)) (listed (λ d. d) IsDatum datum_text is_sound each_datum d ds h)
+data_listed d ds h = subst (λ (l : List Datum). IsList IsDatum l (parts (data_text (d ∷ ds)))) (map-id (d ∷ ds)) (listed (λ d. d) IsDatum datum_text is_sound each_datum d ds h)
 
 pub text_listed : (bs : List ℕ) → 1 ≤ length bs → AreBytes bs → IsList IsDatum (cut_text bs) (parts (data_text (cut_text bs)))
 text_listed [] lt h = absurd (omega arith)
