@@ -177,12 +177,6 @@ datum_line : (d : Datum) → is_sound d ≡ true → InLine (datum_text d)
 datum_line (source.NumberDatum b) h = digits2_line b
 datum_line (source.StringDatum t) h = quoted_line t h
 
-data_line : (ds : List Datum) → list_all is_sound ds ≡ true → InLine (data_text ds)
-data_line ds h = list_line datum_text is_sound datum_line ds h
-
-cpu_line : (cpu : Cpu) → InLine (quoted (cpu_text cpu))
-cpu_line cpu = quoted_line (cpu_text cpu) (cpu_name cpu).quotable
-
 mnemonic_line : (m : Mnemonic) → InLine (text_of m)
 mnemonic_line Adc = refl
 mnemonic_line _ = refl
@@ -218,7 +212,7 @@ distance_line false n lt = offset_line false n lt
 statement_texts : (c : Columns) (h : Bool) (s : StatementView) → IsPrintable s → IsInWidth s → HasNames s → AreInLine (texts (fields_of c h s))
 statement_texts c h (view.instr op a os) p w n = instr_texts c h op.mnemonic op.mode a os (are_read os n w)
 statement_texts c h (view.bytes bs) p w n = (refl, (bytes_line bs, tt))
-statement_texts c h (view.text bs) p w n = (refl, (data_line (cut_text bs) (cut_sound bs w), tt))
+statement_texts c h (view.text bs) p w n = (refl, (list_line datum_text is_sound datum_line (cut_text bs) (cut_sound bs w), tt))
 statement_texts c h (view.numbers d bs) p w n = (directive_line d, (numbers_line d bs, tt))
 statement_texts c h (view.addr t) p w n = (refl, (named_line h t.name t.offset n w, tt))
 statement_texts c h (view.rts None) p w n = (refl, (refl, tt))
@@ -228,7 +222,7 @@ statement_texts c h (view.assignment name m) p w n = (name_line name n, (hex4_li
 statement_texts c h (view.forward name m) p w n = (name_line name n, (distance_line h m w, tt))
 statement_texts c h (view.segment name) p w n = (refl, (quoted_line name (name_quotes name n), tt))
 statement_texts c h view.code p w n = (refl, tt)
-statement_texts c h (view.set_cpu cpu) p w n = (refl, (cpu_line cpu, tt))
+statement_texts c h (view.set_cpu cpu) p w n = (refl, (quoted_line (cpu_text cpu) (cpu_name cpu).quotable, tt))
 statement_texts c h view.blank p w n = tt
 statement_texts c h (view.remark text) p w n = (p.1, tt)
 

@@ -93,13 +93,6 @@ are_read view.none names wide = tt
 are_read (view.one e) name wide = is_read e name wide
 are_read (view.two e f) names wide = (is_read e names.0 wide.0, is_read f names.1 wide.1)
 
--- the text of an expression, and what follows it
-abbrev ValueParts : List ℕ → Value → List ℕ → Type 0
-ValueParts text v rest = TextParts IsValue v text rest
-
-valued : (v : Value) (is : List Item) (text rest : List ℕ) → ValueParts text v rest → Spells is (parts rest) → Spells (value v ∷ is) (parts (text ++ rest))
-valued v is text rest p h = at_value v is (parts (text ++ rest)) (parts rest) p h
-
 -- a name is a word
 pub name_word : (w : List ℕ) → is_name w ≡ true → IsWordText w
 unfolding is_name has_name_form
@@ -110,7 +103,7 @@ name_word (b ∷ w) h =
     let parts = and_parts (is_ascii_alphabetic b || eqb b 95) (list_all is_word_byte w) front in
     (rw parts.0 refl, parts.1)
 
-named_parts : (h : Bool) (name rest : List ℕ) (offset : ℕ) → is_name name ≡ true → offset < 65536 → Ends rest → ValueParts (named_text h name offset) (NameValue name offset Zero) rest
+named_parts : (h : Bool) (name rest : List ℕ) (offset : ℕ) → is_name name ≡ true → offset < 65536 → Ends rest → TextParts IsValue (NameValue name offset Zero) (named_text h name offset) rest
 named_parts h name rest offset n lt e =
     by_test (eqb offset 0)
     (λ f. rw f (record {
@@ -150,7 +143,7 @@ x_close = marked 44 _ (codes "x)") refl (worded (codes "x") _ (codes ")") (refl,
 
 -- ---- expressions and what stands around them
 
-kind_parts : (h : Bool) (k : OperandKind) (e : ExprView) (rest : List ℕ) → IsOperand k e → IsRead e → Ends rest → ValueParts (kind_text h k e) (source_value e) rest
+kind_parts : (h : Bool) (k : OperandKind) (e : ExprView) (rest : List ℕ) → IsOperand k e → IsRead e → Ends rest → TextParts IsValue (source_value e) (kind_text h k e) rest
 kind_parts h kind.Byte (view.number n) rest s has e = record { front = Number (hex2 n) ∷ []; split = parts_hex2 n rest e; is = (hex2 n, number_of-hex2 n s, refl) }
 kind_parts h kind.ZeroPage (view.number n) rest s has e = record { front = Number (hex2 n) ∷ []; split = parts_hex2 n rest e; is = (hex2 n, number_of-hex2 n s, refl) }
 kind_parts h _ (view.number n) rest s has e = record { front = Number (hex4 n) ∷ []; split = parts_hex4 n rest e; is = (hex4 n, number_of-hex4 n has, refl) }
@@ -159,7 +152,7 @@ kind_parts h _ (view.name name offset) rest s has e = named_parts h name rest of
 
 kind_then : (h : Bool) (k : OperandKind) (e : ExprView) (is : List Item) (rest : List ℕ) → IsOperand k e → IsRead e → Ends rest → Spells is (parts rest)
     → Spells (value (source_value e) ∷ is) (parts (kind_text h k e ++ rest))
-kind_then h k e is rest s has ends t = valued (source_value e) is (kind_text h k e) rest (kind_parts h k e rest s has ends) t
+kind_then h k e is rest s has ends t = at_value (source_value e) is (parts (kind_text h k e ++ rest)) (parts rest) (kind_parts h k e rest s has ends) t
 
 word_no_equals : (b : ℕ) → is_word_start b ≡ true → eqb b 61 ≡ false
 word_no_equals b h = grind (arith, nat_tests)
@@ -218,15 +211,6 @@ operand_spelled h m false os w f n = row_spelled h (row_of m) os w n
 operand_spelled h m true os w f n = forced_spelled h (row_of m) os w n (f refl)
 
 -- ---- data
-
-bytes_spelled : (bs : List ℕ) → 1 ≤ length bs → AreBytes bs → Spells (data_list (map NumberDatum bs) ∷ []) (parts (bytes_text bs))
-bytes_spelled bs lt h = last (data_list (map NumberDatum bs)) (parts (bytes_text bs)) (bytes_listed bs lt h)
-
-text_spelled : (bs : List ℕ) → 1 ≤ length bs → AreBytes bs → Spells (data_list (cut_text bs) ∷ []) (parts (data_text (cut_text bs)))
-text_spelled bs lt h = last (data_list (cut_text bs)) (parts (data_text (cut_text bs))) (text_listed bs lt h)
-
-numbers_spelled : (d : Directive) (bs : List ℕ) → entry_len d ≤ length bs → AreBytes bs → Spells (value_list (map (entry_value d) (entries d bs)) ∷ []) (parts (numbers_text d bs))
-numbers_spelled d bs le h = last (value_list (map (entry_value d) (entries d bs))) (parts (numbers_text d bs)) (numbers_listed d bs le h)
 
 directive_word : (d : Directive) → IsWordText (directive_text d)
 directive_word directive.Word = (refl, refl)
@@ -440,9 +424,9 @@ remark_spelled text = parts_remark (32 ∷ text)
 spelled_back : (c : Columns) (h : Bool) (label : Option (List ℕ)) (s : StatementView) → IsPrintable s → IsInWidth s → HasNames s → MayBeLabelled c label s → HasLabelName label
     → IsSpelling (with_label label (source_line s)) (parts (with_fields (with_fields [] (label_fields label)) (fields_of c h s)))
 spelled_back c h label (view.instr op a os) p w n m l = instr_spelled label c h op.mnemonic op.mode a os l p.0 p.1 (are_read os n w)
-spelled_back c h label (view.bytes bs) p w n m l = operated label c (codes ".byte") (bytes_text bs) _ _ l refl (refl, refl) (bytes_spelled bs p.0 w)
-spelled_back c h label (view.text bs) p w n m l = operated label c (codes ".byte") (data_text (cut_text bs)) _ _ l refl (refl, refl) (text_spelled bs p.0 w)
-spelled_back c h label (view.numbers d bs) p w n m l = operated label c (directive_text d) (numbers_text d bs) _ _ l refl (directive_word d) (numbers_spelled d bs p.1.0 w)
+spelled_back c h label (view.bytes bs) p w n m l = operated label c (codes ".byte") (bytes_text bs) _ _ l refl (refl, refl) (last (data_list (map NumberDatum bs)) _ (bytes_listed bs p.0 w))
+spelled_back c h label (view.text bs) p w n m l = operated label c (codes ".byte") (data_text (cut_text bs)) _ _ l refl (refl, refl) (last (data_list (cut_text bs)) _ (text_listed bs p.0 w))
+spelled_back c h label (view.numbers d bs) p w n m l = operated label c (directive_text d) (numbers_text d bs) _ _ l refl (directive_word d) (last (value_list (map (entry_value d) (entries d bs))) _ (numbers_listed d bs p.1.0 w))
 spelled_back c h label (view.addr t) p w n m l = operated label c (codes ".addr") (named_text h t.name t.offset) _ _ l refl (refl, refl) (addr_spelled h t n w)
 spelled_back c h label (view.rts None) p w n m l = operated label c (codes ".word") (codes "$FFFF") _ _ l refl (refl, refl) no_target_spelled
 spelled_back c h label (view.rts (Some t)) p w n m l = operated label c (codes ".word") (return_text h (Some t)) _ _ l refl (refl, refl) (return_spelled h t n w)

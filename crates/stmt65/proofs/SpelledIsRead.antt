@@ -91,12 +91,9 @@ record Begins (ps : List Part) : Type 0 where
   y : is_word_here (codes "y") ps ≡ false
   some : is_nil ps ≡ false
 
-word_begins : (w : List ℕ) (rest : List Part) → is_name w ≡ true → Begins (Word w ∷ rest)
-word_begins w rest h = let n = no_letter w h in record { mark = λ b. refl; a = n.0; x = n.1; y = n.2; some = refl }
-
 value_begins : (v : Value) (front rest : List Part) → IsValue v front → Begins (front ++ rest)
 value_begins (NumberValue n) front rest h = rw h.2 (record { mark = λ b. refl; a = refl; x = refl; y = refl; some = refl })
-value_begins (NameValue w n less) front rest h = rw h.2 (word_begins w ((h.0 ++ h.1) ++ rest) h.3)
+value_begins (NameValue w n less) front rest h = let no = no_letter w h.3 in rw h.2 (record { mark = λ b. refl; a = no.0; x = no.1; y = no.2; some = refl })
 
 -- a value that stands first in an operand
 first_value : (v : Value) (front rest : List Part) → IsValue v front → Stops rest → form_of (front ++ rest) ≡ tail_at Automatic v rest
