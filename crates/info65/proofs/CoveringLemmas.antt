@@ -98,10 +98,7 @@ covers_highest names sorted = record { some = highest names sorted; none = none_
 -- ---- an own address
 
 covers_own : (low size : ℕ) → 1 ≤ size → (nat_le low low && nat_lt low (low + size)) ≡ true
-covers_own low size some =
-    let e : nat_le low low ≡ true = grind (arith, nat_tests) in
-    let f : nat_lt low (low + size) ≡ true = grind (arith, nat_tests, some) in
-    rw (e, f) refl
+covers_own low size some = grind (arith, nat_tests, some)
 
 own_of : (names : List NameView) → AreNames names → (i : ℕ) → i < length names → (o : Option NameView) → covering names (name_at names i).address ≡ o → o ≡ Some (name_at names i)
 own_of names sorted i here None is =

@@ -62,10 +62,7 @@ bad_only (Some n) f h = absurd cc
 
 line_bad : (c : ℕ) (line : List ℕ) (f : InfoFaultKind) → line_in c line ≡ Err f → f ≡ BadInclude
 unfolding line_in
-line_bad c line f h =
-    by_test (list_all is_blank (without_comment c line))
-    (λ yes. let e : ◌≡◌ {A = Added} (Ok None) (Err f) = rw yes at h in absurd cc)
-    (λ no. bad_only (assignment_in (without_comment c line)) f (rw no at h))
+line_bad c line f h = grind (arith, bad_only (assignment_in (without_comment c line)) f)
 
 not_none : (f : InfoFaultKind) → ◌≡◌ {A = Added} (Err f) (Ok None) → ⊥
 not_none f e = cc

@@ -1,6 +1,5 @@
 -- The index of closed groups.
 use Rattle.std.proofs.Common.{◌≡◌, ◌≢◌, ◌∙◌, ◌≤◌, ◌<◌, ◌+◌, ◌-◌, ◌==◌, ◌&&◌, ◌||◌, ℕ, zero, suc, Bool, List, [], ◌∷◌, ◌++◌, true, false, ⊎_elim, ap, ap₂, arith, get_or, inl, inr, length, length-append, map, option_map, refl, sym, if◌then◌else◌}
-use Rattle.std.specs.Option.{option_or}
 use Rattle.std.specs.Prelude.{All, AllPairs, Option, Some, None, Result, Ok, Err, is_some, option_to_list, nat_le, nat_lt, not, slice_get}
 use Rattle.std.specs.List.{find, flat_map, list_any}
 use Rattle.std.specs.Str.{bytes_eq}
@@ -26,7 +25,7 @@ use Rattle.info65.specs.Names.{blank_name, is_reserved}
 use Rattle.info65.specs.Ranges.{has_address, overlaps, range_part, ranges_of}
 use Rattle.info65.specs.Views.{NameView}
 use Rattle.info65.specs.declared.fault.InfoFaultKind.{InfoFaultKind}
-use Rattle.info65.specs.declared.fault.InfoFaultKind.TheVariants.{AddressTwice, NameTwice, RangesOverlap, ReservedName}
+use Rattle.info65.specs.declared.fault.InfoFaultKind.TheVariants.{RangesOverlap}
 use Rattle.info65.specs.declared.information.name.Given.{Given}
 use Rattle.info65.specs.declared.information.range.RangeSpec.{RangeSpec}
 use Rattle.info65.proofs.Cases.{by_test, is_some_find, or_last, some_map}
@@ -63,15 +62,10 @@ any_in_no table first zero h = refl
 any_in_no table first (suc n) h = or_from (get_or table first false) (any_in table (first + 1) n) (h first (omega arith) (omega arith)) (any_in_no table (first + 1) n (λ a low high. h a (omega arith) (omega arith)))
 
 within : (r : RangeSpec) (a : ℕ) → has_address r a ≡ true → (r.first ≤ a) × (a ≤ r.last)
-within r a h = by_test (nat_le r.first a)
-    (λ low. let high : nat_le a r.last ≡ true = rw low at h in (grind (arith, nat_tests, low), grind (arith, nat_tests, high)))
-    (λ out. absurd (let i : false ≡ true = rw out at h in false≢true i))
+within r a h = (grind (arith, nat_tests), grind (arith, nat_tests))
 
 inside : (r : RangeSpec) (a : ℕ) → r.first ≤ a → a ≤ r.last → has_address r a ≡ true
-inside r a low high =
-    let e : nat_le r.first a ≡ true = grind (arith, nat_tests, low) in
-    let f : nat_le a r.last ≡ true = grind (arith, nat_tests, high) in
-    rw (e, f) refl
+inside r a low high = grind (arith, nat_tests)
 
 -- a range overlaps one of the ranges exactly where one of its addresses is marked
 pub overlaps_marked : (ranges : List RangeSpec) (table : List Bool) (r : RangeSpec) → All (λ (q : RangeSpec). q.first ≤ q.last) ranges → ((a : ℕ) → a < 0x1_0000 → get_or table a false ≡ list_any (λ (q : RangeSpec). has_address q a) ranges) → r.first ≤ r.last → r.last < 0x1_0000
@@ -137,14 +131,7 @@ pub record IsNew (names : List NameView) (n : NameView) : Type 0 where
 
 pub no_fault : (names : List NameView) (n : NameView) → name_fault names n ≡ None → IsNew names n
 unfolding name_fault
-no_fault names n h =
-    by_test (is_reserved n.address n.text)
-    (λ hit. let i : ◌≡◌ {A = Option InfoFaultKind} (Some ReservedName) None = rw hit at h in absurd cc)
-    (λ miss. by_test (list_any (is_elsewhere n) names)
-    (λ hit. let i : ◌≡◌ {A = Option InfoFaultKind} (Some NameTwice) None = rw (miss, hit) at h in absurd cc)
-    (λ once. by_test (list_any (is_at n.address) names)
-    (λ hit. let i : ◌≡◌ {A = Option InfoFaultKind} (Some AddressTwice) None = rw (miss, once, hit) at h in absurd cc)
-    (λ free. record { free = miss; only = once; untaken = free })))
+no_fault names n h = record { free = grind arith; only = grind arith; untaken = grind arith }
 
 -- its text is new
 pub new_text : (names : List NameView) (n : NameView) → IsNew names n → (k : ℕ) (d : NameView) → k < length names → (get_or names k d).text ≢ n.text
@@ -162,11 +149,8 @@ new_address names n new k d l same =
     absurd (false≢true (sym new.untaken ∙ list_any_at (is_at n.address) names k d l at))
 
 no_find : {X : Type 0} (p : X → Bool) (xs : List X) → list_any p xs ≡ false → find p xs ≡ None
-no_find p xs h = is_none (find p xs) (sym (is_some_find p xs) ∙ h)
-  where
-    is_none : {X : Type 0} (o : Option X) → is_some o ≡ false → o ≡ None
-    is_none None h = refl
-    is_none (Some x) h = absurd (false≢true (sym h))
+no_find p [] h = refl
+no_find p (x ∷ xs) h = grind (arith, no_find p xs)
 
 text_free : (names : List NameView) (n : NameView) → IsNew names n → text_at names n.text ≡ None
 text_free names n new = no_find (λ (m : NameView). bytes_eq n.text m.text) names (list_any_none (λ (m : NameView). bytes_eq n.text m.text) names (λ k d l.
@@ -186,14 +170,11 @@ range_added ranges table after r i ordered long marked = record {
 }
 
 find_more : {X : Type 0} (p : X → Bool) (xs : List X) (x : X) → find p xs ≡ None → p x ≡ true → find p (xs ++ x ∷ []) ≡ Some x
-find_more p xs x none hit = find-append p xs (x ∷ []) ∙ rw (none, hit) refl
+find_more p xs x none hit = grind (arith, find-append p xs (x ∷ []))
 
 find_same : {X : Type 0} (p : X → Bool) (xs : List X) (x : X) → p x ≡ false → find p (xs ++ x ∷ []) ≡ find p xs
-find_same p xs x miss = find-append p xs (x ∷ []) ∙ rw miss (or_nothing (find p xs))
-  where
-    or_nothing : {X : Type 0} (o : Option X) → option_or o None ≡ o
-    or_nothing None = refl
-    or_nothing (Some y) = refl
+find_same p [] x miss = grind arith
+find_same p (y ∷ ys) x miss = grind (arith, find_same p ys x miss)
 
 -- ---- the index
 
@@ -332,7 +313,7 @@ unfolding names_said
 names_more before g = flat_map-append name_part before (g ∷ []) ∙ ap (λ l. flat_map name_part before ++ l) (append-nil (name_part g))
 
 pub marked_end : (first last a at : ℕ) → at ≡ last + 1 → (nat_le first a && nat_lt a at) ≡ (nat_le first a && nat_le a last)
-marked_end first last a at is = ap (λ b. nat_le first a && b) (let e : nat_lt a at ≡ nat_le a last = by_test (nat_le a last) (λ h. let f : nat_lt a at ≡ true = grind (arith, nat_tests, h, is) in f ∙ sym h) (λ h. let f : nat_lt a at ≡ false = grind (arith, nat_tests, h, is) in f ∙ sym h) in e)
+marked_end first last a at is = grind (arith, nat_tests)
 
 -- ---- names by address
 

@@ -1,9 +1,9 @@
 -- Which fault a name has after others, and which names have none.
-use Rattle.std.proofs.Common.{◌≡◌, ◌≢◌, ◌∙◌, ◌==◌, ◌<◌, ℕ, Bool, true, false, not, List, [], ◌∷◌, ◌++◌, ap, append_assoc, arith, get_or, length, length-append, refl, subst, sym}
+use Rattle.std.proofs.Common.{◌≡◌, ◌≢◌, ◌∙◌, ◌<◌, ℕ, Bool, true, false, List, [], ◌∷◌, ◌++◌, ap, append_assoc, arith, get_or, length, length-append, refl, subst, sym}
 use Rattle.std.specs.Prelude.{◌↔◌, All, Any, Option, Some, None, Ok}
 use Rattle.std.specs.List.{list_any}
-use Rattle.std.specs.Str.{bytes_eq}
-use Rattle.std.proofs.lemmas.Bool.{and_parts, eq-eqb, eqb-true, false≢true, ne_eqb}
+use Rattle.std.proofs.lemmas.Bool.{eq-eqb, eqb-true, false≢true, ne_eqb}
+use Rattle.std.proofs.lemmas.Bool.Decides.{nat_tests}
 use Rattle.std.proofs.lemmas.List.{append-nil, get_or_append_left, get_or_at}
 use Rattle.std.proofs.lemmas.List.Elements.{All-push}
 use Rattle.std.proofs.lemmas.List.Folds.{Any-from_list_any, list_any-from_Any, list_any_at, list_any_none}
@@ -29,10 +29,7 @@ use Rattle.info65.proofs.ReservedLemmas.{reserved_names}
 -- ---- tests of all names
 
 pub all_miss : (p : NameView → Bool) (names : List NameView) → list_any p names ≡ false → All (λ m. p m ≡ false) names
-all_miss p names h k d l =
-    by_test (p (get_or names k d))
-    (λ hit. absurd (false≢true (sym h ∙ list_any_at p names k d l hit)))
-    (λ miss. miss)
+all_miss p names h k d l = grind (arith, list_any_at p names k d l)
 
 -- ---- the three tests
 
@@ -40,36 +37,22 @@ pub free_is : (n : NameView) → is_reserved n.address n.text ≡ false → IsFr
 free_is n miss r = false≢true (sym miss ∙ (reserved_names n.address n.text).1 r)
 
 pub is_free : (n : NameView) → IsFree n → is_reserved n.address n.text ≡ false
-is_free n free =
-    by_test (is_reserved n.address n.text)
-    (λ hit. absurd (free ((reserved_names n.address n.text).0 hit)))
-    (λ miss. miss)
+is_free n free = grind (arith, reserved_names n.address n.text, free)
 
 abbrev pub IsElsewhere : NameView → NameView → Type 0
 IsElsewhere n m = (m.text ≡ n.text) × (m.address ≢ n.address)
 
 pub elsewhere_hit : (n m : NameView) → is_elsewhere n m ≡ true → IsElsewhere n m
-elsewhere_hit n m h =
-    let p = and_parts (bytes_eq n.text m.text) (not (m.address == n.address)) h in
-    (sym ((bytes_eq-Decides n.text m.text).0 p.0), λ same. let hit = eq-eqb m.address n.address same in let wrong : false ≡ true = rw hit at p.1 in absurd cc)
+elsewhere_hit n m h = (grind (arith, bytes_eq-Decides n.text m.text), grind (arith, nat_tests))
 
 pub hit_elsewhere : (n m : NameView) → IsElsewhere n m → is_elsewhere n m ≡ true
-hit_elsewhere n m h =
-    let text : bytes_eq n.text m.text ≡ true = (bytes_eq-Decides n.text m.text).1 (sym h.0) in
-    let apart = ne_eqb m.address n.address h.1 in
-    rw (text, apart) refl
+hit_elsewhere n m h = grind (arith, nat_tests, bytes_eq-Decides n.text m.text, h.0, h.1)
 
 pub elsewhere_miss : (n m : NameView) → is_elsewhere n m ≡ false → m.text ≡ n.text → m.address ≡ n.address
-elsewhere_miss n m h same =
-    by_test (m.address == n.address)
-    (λ at. eqb-true m.address n.address at)
-    (λ apart. let text : bytes_eq n.text m.text ≡ true = (bytes_eq-Decides n.text m.text).1 (sym same) in let hit : is_elsewhere n m ≡ true = rw (text, apart) refl in absurd (false≢true (sym h ∙ hit)))
+elsewhere_miss n m h same = grind (arith, nat_tests, bytes_eq-Decides n.text m.text)
 
 pub miss_elsewhere : (n m : NameView) → (m.text ≡ n.text → m.address ≡ n.address) → is_elsewhere n m ≡ false
-miss_elsewhere n m h =
-    by_test (is_elsewhere n m)
-    (λ hit. let e = elsewhere_hit n m hit in absurd (e.1 (h e.0)))
-    (λ miss. miss)
+miss_elsewhere n m h = grind (arith, nat_tests, bytes_eq-Decides n.text m.text, h)
 
 pub at_miss : (n m : NameView) → is_at n.address m ≡ false → m.address ≢ n.address
 at_miss n m h same = false≢true (sym h ∙ eq-eqb m.address n.address same)

@@ -1,6 +1,6 @@
 -- The names of an accepted file: what holds of those that its groups say, and of all of them by address.
 use Rattle.std.proofs.Common.{◌≡◌, ◌≢◌, ◌∙◌, ◌≤◌, ◌<◌, ◌+◌, ◌*◌, ◌/◌, ℕ, zero, suc, Bool, List, [], ◌∷◌, ◌++◌, true, false, ⊎_elim, ap, ap₂, append_assoc, arith, get_or, length, map, option_map, refl, subst, sym}
-use Rattle.std.specs.Prelude.{All, AllPairs, IfSome, Option, Some, None, Result, Ok, Err, nat_le, option_to_list, is_some, ◌↔◌}
+use Rattle.std.specs.Prelude.{All, AllPairs, IfSome, Option, Some, None, Ok, option_to_list, is_some, ◌↔◌}
 use Rattle.std.specs.List.{Contains, find}
 use Rattle.std.specs.Option.{unwrap_or}
 use Rattle.std.proofs.lemmas.Bool.Decides.{eqb_tells, nat_tests}
@@ -31,11 +31,9 @@ use Rattle.info65.specs.declared.syntax.attribute.Attribute.TheVariants as attri
 use Rattle.info65.specs.declared.syntax.attribute.Form.TheVariants as form
 use Rattle.info65.specs.declared.syntax.attribute.GroupKind.{GroupKind}
 use Rattle.info65.specs.declared.syntax.attribute.GroupKind.TheVariants as kind
-use Rattle.info65.specs.declared.fault.InfoFaultKind.{InfoFaultKind}
-use Rattle.info65.specs.declared.fault.InfoFaultKind.TheVariants.{OutOfRange}
 use Rattle.info65.specs.declared.information.name.Given.{Given}
 use Rattle.info65.specs.declared.information.range.RangeSpec.{RangeSpec}
-use Rattle.info65.proofs.Cases.{by_test, is_some_find, same_ok, same_some}
+use Rattle.info65.proofs.Cases.{by_test, is_some_find, same_some}
 use Rattle.info65.proofs.FormLemmas.{AreRead, accepted_read, found_formed, read_keeps, size_in}
 use Rattle.info65.proofs.IndexLemmas.{IsNew, closes_label, found_is, names_more, new_address, new_text, no_fault, taken_is}
 use Rattle.info65.proofs.RangeLemmas.{bounded_in, closes_range}
@@ -217,10 +215,7 @@ record IsLabel (given : List AssignmentView) (n : NameView) : Type 0 where
   comment : n.comment ≡ comment_in given
 
 sized_is : (a : ℕ) (t : List ℕ) (size : ℕ) (c : Option (List ℕ)) (n : NameView) → label_sized a t size c ≡ Ok n → (n ≡ named a size c t) × (a + size ≤ 0x1_0000)
-sized_is a t size c n is =
-    by_test (nat_le (a + size) 0x1_0000)
-    (λ fits. let e : ◌≡◌ {A = Result NameView InfoFaultKind} (Ok (named a size c t)) (Ok n) = rw fits at is in (sym (same_ok e), grind (arith, nat_tests, fits)))
-    (λ out. let e : ◌≡◌ {A = Result NameView InfoFaultKind} (Err OutOfRange) (Ok n) = rw out at is in absurd cc)
+sized_is a t size c n is = (grind arith, grind (arith, nat_tests))
 
 label_is : (given : List AssignmentView) (n : NameView) → label_in given ≡ Ok n → IsLabel given n
 unfolding label_in

@@ -2,10 +2,9 @@
 use Rattle.std.proofs.Common.{◌≡◌, ◌∙◌, ◌==◌, ℕ, true, false, refl, sym, ◌+◌, ◌*◌, ◌≤◌, ◌<◌, List, [], ◌∷◌, length, get_or, drop, min, ap, arith, ⊎_elim, ◌&&◌, lt-ltb}
 use Rattle.std.proofs.lemmas.List.{at_drop_more}
 use Rattle.std.proofs.lemmas.Bool.Decides.{nat_tests}
-use Rattle.std.specs.Prelude.{Option, Some, None, nat_le, if◌then◌else◌}
+use Rattle.std.specs.Prelude.{Some, None, nat_le, if◌then◌else◌}
 use Rattle.info65.specs.Digits.{number_of_digits}
 use Rattle.info65.specs.Lexemes.{are_digits}
-use Rattle.info65.proofs.Cases.{by_test}
 use Rattle.std.proofs.Math.Nat.{mul-le-mul_left}
 use Rattle.std.proofs.str.Laws.{order}
 use Rattle.std.specs.Char.{digit_value}
@@ -45,12 +44,7 @@ number_upto bad high good radix most ds =
 
 pub number_none : {R : Type 0} (bad high : R) (good : ℕ → R) (radix most : ℕ) (ds : List ℕ) → None ≡ number_of_digits radix ds → bad ≡ number_upto bad high good radix most ds
 unfolding number_of_digits
-number_none bad high good radix most ds h =
-    by_test (length ds == 0)
-    (λ none. rw none refl)
-    (λ some. by_test (are_digits radix ds)
-    (λ yes. let wrong : ◌≡◌ {A = Option ℕ} None (Some (min (digits_value radix ds) 0x1_0000_0000)) = rw (some, yes) at h in absurd cc)
-    (λ no_digits. rw (some, no_digits) refl))
+number_none bad high good radix most ds h = grind arith
 
 record IsNumber (radix : ℕ) (ds : List ℕ) (value : ℕ) : Type 0 where
   some : (length ds == 0) ≡ false
@@ -59,12 +53,7 @@ record IsNumber (radix : ℕ) (ds : List ℕ) (value : ℕ) : Type 0 where
 
 number_is : (radix : ℕ) (ds : List ℕ) (value : ℕ) → Some value ≡ number_of_digits radix ds → IsNumber radix ds value
 unfolding number_of_digits
-number_is radix ds value h =
-    by_test (length ds == 0)
-    (λ none. let wrong : ◌≡◌ {A = Option ℕ} (Some value) None = rw none at h in absurd cc)
-    (λ some. by_test (are_digits radix ds)
-    (λ yes. let is : ◌≡◌ {A = Option ℕ} (Some value) (Some (min (digits_value radix ds) 0x1_0000_0000)) = rw (some, yes) at h in record { some = some; digits = yes; is = cc })
-    (λ no_digits. let wrong : ◌≡◌ {A = Option ℕ} (Some value) None = rw (some, no_digits) at h in absurd cc))
+number_is radix ds value h = record { some = grind arith; digits = grind arith; is = grind arith }
 
 pub number_small : {R : Type 0} (bad high : R) (good : ℕ → R) (radix most : ℕ) (ds : List ℕ) (value : ℕ)
     → Some value ≡ number_of_digits radix ds → most < 0x1_0000_0000 → value ≤ most → good value ≡ number_upto bad high good radix most ds

@@ -1,6 +1,6 @@
 -- The ranges of an accepted file: what their groups say, and that no two share an address.
-use Rattle.std.proofs.Common.{◌≡◌, ◌∙◌, ◌≤◌, ◌<◌, ◌+◌, ◌-◌, ◌&&◌, ℕ, List, [], ◌∷◌, ◌++◌, true, false, ap, arith, get_or, inl, inr, length, refl, subst, sym}
-use Rattle.std.specs.Prelude.{All, AllPairs, Any, IfSome, Option, Some, None, Result, Ok, Err, ◌⊎◌, nat_le}
+use Rattle.std.proofs.Common.{◌≡◌, ◌∙◌, ◌≤◌, ◌<◌, ◌+◌, ◌-◌, max, ℕ, List, [], ◌∷◌, ◌++◌, true, false, ap, arith, get_or, inl, inr, length, refl, subst, sym}
+use Rattle.std.specs.Prelude.{All, AllPairs, Any, IfSome, Option, Some, None, Result, Ok, Err, ◌⊎◌}
 use Rattle.std.specs.List.{flat_map, list_any}
 use Rattle.std.proofs.lemmas.Bool.Decides.{nat_tests}
 use Rattle.std.proofs.lemmas.List.{append-nil}
@@ -8,15 +8,12 @@ use Rattle.std.proofs.lemmas.List.Elements.{All-append, All-cons, All-nil}
 use Rattle.std.proofs.lemmas.List.Folds.{Any-from_list_any, list_any_at, list_any-from_Any}
 use Rattle.std.proofs.lemmas.List.Quantifiers.{all_pairs_push}
 use Rattle.std.proofs.lemmas.Grind.{flat_map-append}
-use Rattle.std.proofs.lemmas.Bool.{and_parts}
 use Rattle.info65.specs.Attributes.{form_of}
 use Rattle.info65.specs.Closing.{closing_fault, optional_name_fault, range_fault}
-use Rattle.info65.specs.Comments.{lacks_name}
 use Rattle.info65.specs.Grammar.{AreGroups}
 use Rattle.info65.specs.Groups.{AreAllFormed, AreFormed, AssignmentView, GroupView, value_in}
-use Rattle.info65.specs.Labels.{is_at, is_elsewhere, name_fault, names_said, range_name}
+use Rattle.info65.specs.Labels.{name_fault, names_said, range_name}
 use Rattle.info65.specs.Laws.{AreSaid, OverlapsShare, RangesApart, SaysRange, Share}
-use Rattle.info65.specs.Names.{is_reserved}
 use Rattle.info65.specs.Ranges.{AreApart, AreRanges, last_from, overlaps, range_between, range_from, range_in, range_of_parts, range_part, ranges_of}
 use Rattle.info65.specs.Tokens.{tokens_of}
 use Rattle.info65.specs.Values.{ValueView, a_number, a_type, an_address, as_address, as_number, as_type}
@@ -25,10 +22,9 @@ use Rattle.info65.specs.declared.syntax.attribute.Attribute.TheVariants as attri
 use Rattle.info65.specs.declared.syntax.attribute.GroupKind.{GroupKind}
 use Rattle.info65.specs.declared.syntax.attribute.GroupKind.TheVariants as kind
 use Rattle.info65.specs.declared.fault.InfoFaultKind.{InfoFaultKind}
-use Rattle.info65.specs.declared.fault.InfoFaultKind.TheVariants.{AddressTwice, Missing, NameTwice, OutOfRange, RangesOverlap, ReservedName}
+use Rattle.info65.specs.declared.fault.InfoFaultKind.TheVariants.{RangesOverlap}
 use Rattle.info65.specs.declared.information.range.RangeSpec.{RangeSpec}
 use Rattle.info65.specs.declared.information.range.RangeType.{RangeType}
-use Rattle.info65.proofs.Cases.{by_test}
 use Rattle.info65.proofs.FormLemmas.{AreRead, accepted_read, found_formed, read_keeps, size_in}
 
 -- ---- group by group
@@ -46,12 +42,7 @@ record IsFrom (s e z : Option ℕ) (t : Option RangeType) (r : RangeSpec) : Type
   ordered : r.first ≤ r.last
 
 between : (f l : ℕ) (t : RangeType) (r : RangeSpec) → range_between f t (Some l) ≡ Ok r → (r.first ≡ f) × (r.last ≡ l) × (r.role ≡ t) × (f ≤ l) × (l ≤ 0xFFFF)
-between f l t r h =
-    by_test (nat_le f l && nat_le l 0xFFFF)
-    (λ within. let p = and_parts (nat_le f l) (nat_le l 0xFFFF) within in
-    let i : ◌≡◌ {A = Result RangeSpec InfoFaultKind} (Ok (record { first = f; last = l; role = t })) (Ok r) = rw within at h in
-    (cc, cc, cc, grind (arith, nat_tests, p.0), grind (arith, nat_tests, p.1)))
-    (λ out. let i : ◌≡◌ {A = Result RangeSpec InfoFaultKind} (Err OutOfRange) (Ok r) = rw out at h in absurd cc)
+between f l t r h = (grind (arith, nat_tests), grind (arith, nat_tests), grind (arith, nat_tests), grind (arith, nat_tests), grind (arith, nat_tests))
 
 from : (s e z : Option ℕ) (t : Option RangeType) (r : RangeSpec) → IfSome z (λ n. 1 ≤ n) → range_from s e z t ≡ Ok r → IsFrom s e z t r
 from (Some f) (Some l) z (Some t) r h i =
@@ -87,7 +78,7 @@ last_is e z l n (inr h) = inr (number_is z n h)
 -- the range of an accepted group is that of its parts
 range_parts : (given : List AssignmentView) (r : RangeSpec) → range_in given ≡ Ok r → range_of_parts given ≡ Ok r
 unfolding range_in
-range_parts given r h = by_test (lacks_name given) (λ yes. let i : ◌≡◌ {A = Result RangeSpec InfoFaultKind} (Err Missing) (Ok r) = rw yes at h in absurd cc) (λ no. rw no at h)
+range_parts given r h = grind arith
 
 says : (given : List AssignmentView) (r : RangeSpec) → AreFormed given → range_in given ≡ Ok r → SaysRange given r
 unfolding range_of_parts form_of
@@ -139,21 +130,11 @@ ranges_ordered (g ∷ gs) = All-append (λ r. r.first ≤ r.last) (range_part g)
 
 pub overlap_shared : (r q : RangeSpec) → r.first ≤ r.last → q.first ≤ q.last → overlaps r q ≡ true → Share r q
 unfolding overlaps
-overlap_shared r q ro qo h =
-    let p = and_parts (nat_le r.first q.last) (nat_le q.first r.last) h in
-    by_test (nat_le r.first q.first)
-    (λ low. (q.first, rw (low, p.1) refl, let e : nat_le q.first q.first ≡ true = grind (arith, nat_tests) in let f : nat_le q.first q.last ≡ true = grind (arith, nat_tests, qo) in rw (e, f) refl))
-    (λ high. let g : nat_le q.first r.first ≡ true = grind (arith, nat_tests, high) in
-    let e : nat_le r.first r.first ≡ true = grind (arith, nat_tests) in let f : nat_le r.first r.last ≡ true = grind (arith, nat_tests, ro) in (r.first, rw (e, f) refl, rw (g, p.0) refl))
+overlap_shared r q ro qo h = (max r.first q.first, grind (arith, nat_tests), grind (arith, nat_tests))
 
 pub shared_overlap : (r q : RangeSpec) → Share r q → overlaps r q ≡ true
 unfolding overlaps
-shared_overlap r q h =
-    let a = and_parts (nat_le r.first h.0) (nat_le h.0 r.last) h.1 in
-    let b = and_parts (nat_le q.first h.0) (nat_le h.0 q.last) h.2 in
-    let e : nat_le r.first q.last ≡ true = grind (arith, nat_tests, a.0, b.1) in
-    let f : nat_le q.first r.last ≡ true = grind (arith, nat_tests, a.1, b.0) in
-    rw (e, f) refl
+shared_overlap r q h = grind (arith, nat_tests, h.1, h.2)
 
 -- an overlap with one of some ranges
 pub any_shared : (r : RangeSpec) (rs : List RangeSpec) → r.first ≤ r.last → Ordered rs → Any (λ q. overlaps r q ≡ true) rs → Any (Share r) rs
@@ -167,24 +148,14 @@ shared_any r rs h = (h.0, h.1, h.2, h.3, shared_overlap r h.1 h.4)
 -- a name is not refused for an overlap
 other_fault : (names : List NameView) (n : NameView) → name_fault names n ≡ Some RangesOverlap → ⊥
 unfolding name_fault
-other_fault names n h =
-    by_test (is_reserved n.address n.text)
-    (λ yes. let i : ◌≡◌ {A = Option InfoFaultKind} (Some ReservedName) (Some RangesOverlap) = rw yes at h in absurd cc)
-    (λ no. by_test (list_any (is_elsewhere n) names)
-    (λ yes. let i : ◌≡◌ {A = Option InfoFaultKind} (Some NameTwice) (Some RangesOverlap) = rw (no, yes) at h in absurd cc)
-    (λ once. by_test (list_any (is_at n.address) names)
-    (λ yes. let i : ◌≡◌ {A = Option InfoFaultKind} (Some AddressTwice) (Some RangesOverlap) = rw (no, once, yes) at h in absurd cc)
-    (λ free. let i : ◌≡◌ {A = Option InfoFaultKind} None (Some RangesOverlap) = rw (no, once, free) at h in absurd cc)))
+other_fault names n h = grind arith
 
 other_fault_of : (names : List NameView) (n : Option NameView) → optional_name_fault names n ≡ Some RangesOverlap → ⊥
 other_fault_of names None h = absurd cc
 other_fault_of names (Some n) h = other_fault names n h
 
 refused_overlap : (r : RangeSpec) (rs : List RangeSpec) (names : List NameView) (given : List AssignmentView) → range_fault rs names given (Ok r) ≡ Some RangesOverlap → list_any (overlaps r) rs ≡ true
-refused_overlap r rs names given h =
-    by_test (list_any (overlaps r) rs)
-    (λ yes. yes)
-    (λ no. let i : optional_name_fault names (range_name given r) ≡ Some RangesOverlap = rw no at h in absurd (other_fault_of names (range_name given r) i))
+refused_overlap r rs names given h = grind (arith, other_fault_of names (range_name given r))
 
 pub overlaps_share : OverlapsShare
 unfolding closing_fault
@@ -205,10 +176,7 @@ pub record ClosesRange (ranges : List RangeSpec) (names : List NameView) (given 
 
 closed_range : (ranges : List RangeSpec) (names : List NameView) (given : List AssignmentView) (x : Result RangeSpec InfoFaultKind) → range_in given ≡ x → range_fault ranges names given x ≡ None → ClosesRange ranges names given
 closed_range ranges names given (Err f) e h = absurd cc
-closed_range ranges names given (Ok r) e h =
-    by_test (list_any (overlaps r) ranges)
-    (λ yes. let i : ◌≡◌ {A = Option InfoFaultKind} (Some RangesOverlap) None = rw yes at h in absurd cc)
-    (λ no. record { range = r; is = e; free = no; named = rw no at h })
+closed_range ranges names given (Ok r) e h = record { range = r; is = e; free = grind arith; named = grind arith }
 
 pub closes_range : (before : List GroupView) (given : List AssignmentView) → closing_fault before kind.Range given ≡ None → ClosesRange (ranges_of before) (names_said before) given
 unfolding closing_fault

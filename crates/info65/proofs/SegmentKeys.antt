@@ -1,7 +1,7 @@
 -- Keys of the names of segments.
 use Rattle.std.proofs.Common.{◌≡◌, ◌∙◌, ◌≤◌, ◌<◌, ◌+◌, ℕ, zero, suc, Bool, List, [], ◌∷◌, ◌++◌, ⊎_elim, true, false, ap, arith, cond, drop, get_or, length, map, refl, subst, sym}
 use Rattle.std.specs.Option.{option_or}
-use Rattle.std.specs.Prelude.{Option, Some, None, is_some, option_and_then, unwrap_or, nat_le}
+use Rattle.std.specs.Prelude.{Option, Some, None, is_some, option_and_then, unwrap_or}
 use Rattle.std.specs.Str.{bytes_eq}
 use Rattle.std.proofs.lemmas.Bool.Decides.{eqb_tells, nat_tests}
 use Rattle.std.proofs.lemmas.List.{at_drop_more, drop_all, get_or-map, get_or_default, get_or_append_left, get_or_push}
@@ -22,7 +22,7 @@ is_name t u h = (bytes_eq-Decides t u).1 h
 
 named_head : (s : SegmentView) (ss : List SegmentView) (t : List ℕ) → first_named (s ∷ ss) t ≡ cond (bytes_eq s.name t) (Some s.first) (first_named ss t)
 unfolding first_named
-named_head s ss t = by_test (bytes_eq s.name t) (λ yes. rw yes refl) (λ no. rw no refl)
+named_head s ss t = grind arith
 
 named_at : (segments : List SegmentView) (k : ℕ) (t : List ℕ) → k < length segments
     → first_named (drop k segments) t ≡ cond (bytes_eq (segment_at segments k).name t) (Some (segment_at segments k).first) (first_named (drop (k + 1) segments) t)
@@ -88,12 +88,7 @@ named_by (s ∷ ss) name key e =
     (λ no. let n = named_by ss name key (rw no at e) in record { place = suc n.place; low = omega (arith, n.low); named = n.named; first = n.first })
 
 first_within : (segments : List SegmentView) (k : ℕ) → AreSegments segments → k < length segments → contains (segment_at segments k) (segment_at segments k).first ≡ true
-first_within segments k are low =
-    let s : SegmentView = segment_at segments k in
-    let ordered : s.first ≤ s.last = (are.each k blank_segment low).ordered in
-    let e : nat_le s.first s.first ≡ true = grind (arith, nat_tests) in
-    let f : nat_le s.first s.last ≡ true = grind (arith, nat_tests, ordered) in
-    rw (e, f) refl
+first_within segments k are low = grind (arith, nat_tests, (are.each k blank_segment low).ordered)
 
 -- two names that have one key are one
 pub one_key : (segments : List SegmentView) (n t : List ℕ) (key : ℕ) → AreSegments segments → first_named segments n ≡ Some key → first_named segments t ≡ Some key → n ≡ t

@@ -1,6 +1,6 @@
 -- The segments of an accepted file: what their groups say, and that no two share an address.
 use Rattle.std.proofs.Common.{◌≡◌, ◌∙◌, ◌≤◌, ◌<◌, ◌+◌, ◌-◌, ◌||◌, ℕ, Bool, List, [], ◌∷◌, ◌++◌, true, false, ap, arith, drop, get_or, length, map, refl, subst, sym}
-use Rattle.std.specs.Prelude.{All, Any, IfSome, Option, Some, None, Result, Ok, Err, nat_le}
+use Rattle.std.specs.Prelude.{All, Any, IfSome, Option, Some, None, Result, Ok, Err}
 use Rattle.std.specs.List.{flat_map, list_any}
 use Rattle.std.proofs.lemmas.Bool.Decides.{nat_tests}
 use Rattle.std.proofs.lemmas.List.{append-nil, at_drop_all, at_drop_more}
@@ -26,10 +26,10 @@ use Rattle.info65.specs.declared.syntax.attribute.Form.TheVariants as form
 use Rattle.info65.specs.declared.syntax.attribute.GroupKind.{GroupKind}
 use Rattle.info65.specs.declared.syntax.attribute.GroupKind.TheVariants as kind
 use Rattle.info65.specs.declared.fault.InfoFaultKind.{InfoFaultKind}
-use Rattle.info65.specs.declared.fault.InfoFaultKind.TheVariants.{OutOfRange, SegmentsOverlap}
+use Rattle.info65.specs.declared.fault.InfoFaultKind.TheVariants.{SegmentsOverlap}
 use Rattle.info65.specs.declared.information.range.RangeSpec.{RangeSpec}
 use Rattle.info65.specs.declared.information.range.RangeType.TheVariants as role
-use Rattle.info65.proofs.Cases.{by_test, or_last, same_ok}
+use Rattle.info65.proofs.Cases.{by_test, or_last}
 use Rattle.info65.proofs.FormLemmas.{AreRead, accepted_read, found_formed, read_keeps}
 use Rattle.info65.proofs.IndexLemmas.{overlaps_marked}
 use Rattle.info65.proofs.NamesLemmas.{name_formed}
@@ -90,10 +90,7 @@ record IsSaid (given : List AssignmentView) (s : SegmentView) : Type 0 where
   ordered : s.first ≤ s.last
 
 from : (f l : ℕ) (n : List ℕ) (s : SegmentView) → segment_from (Some f) (Some l) (Some n) ≡ Ok s → (s ≡ record { first = f; last = l; name = n }) × (f ≤ l)
-from f l n s h =
-    by_test (nat_le f l)
-    (λ yes. let i : ◌≡◌ {A = Result SegmentView InfoFaultKind} (Ok (record { first = f; last = l; name = n })) (Ok s) = rw yes at h in (sym (same_ok i), grind (arith, nat_tests, yes)))
-    (λ no. let i : ◌≡◌ {A = Result SegmentView InfoFaultKind} (Err OutOfRange) (Ok s) = rw no at h in absurd cc)
+from f l n s h = (grind arith, grind (arith, nat_tests))
 
 segment_is : (given : List AssignmentView) (s : SegmentView) → segment_in given ≡ Ok s → IsSaid given s
 unfolding segment_in
@@ -169,10 +166,7 @@ record ClosesSegment (segments : List SegmentView) (given : List AssignmentView)
 
 closed_segment : (segments : List SegmentView) (given : List AssignmentView) (x : Result SegmentView InfoFaultKind) → segment_in given ≡ x → segment_fault segments x ≡ None → ClosesSegment segments given
 closed_segment segments given (Err f) e h = absurd cc
-closed_segment segments given (Ok s) e h =
-    by_test (list_any (meets s) segments)
-    (λ yes. let i : ◌≡◌ {A = Option InfoFaultKind} (Some SegmentsOverlap) None = rw yes at h in absurd cc)
-    (λ no. record { segment = s; is = e; free = no })
+closed_segment segments given (Ok s) e h = record { segment = s; is = e; free = grind arith }
 
 closes_segment : (before : List GroupView) (given : List AssignmentView) → closing_fault before kind.Segment given ≡ None → ClosesSegment (segments_of before) given
 unfolding closing_fault
@@ -220,10 +214,7 @@ segments_ordered [] = All-nil (λ (x : SegmentView). x.first ≤ x.last)
 segments_ordered (g ∷ gs) = All-append (λ (s : SegmentView). s.first ≤ s.last) (segment_part g) (segments_of gs) (ordered_part g.kind g.given (segment_in g.given) refl) (segments_ordered gs)
 
 refused_meets : (s : SegmentView) (ss : List SegmentView) → segment_fault ss (Ok s) ≡ Some SegmentsOverlap → list_any (meets s) ss ≡ true
-refused_meets s ss h =
-    by_test (list_any (meets s) ss)
-    (λ yes. yes)
-    (λ no. let i : ◌≡◌ {A = Option InfoFaultKind} None (Some SegmentsOverlap) = rw no at h in absurd cc)
+refused_meets s ss h = grind arith
 
 any_shares : (s : SegmentView) (ss : List SegmentView) → s.first ≤ s.last → All (λ (t : SegmentView). t.first ≤ t.last) ss → Any (λ t. meets s t ≡ true) ss → Any (Share s) ss
 unfolding meets overlaps

@@ -1,8 +1,7 @@
 -- What a line of an include file spells.
 use Rattle.std.proofs.Common.{◌≡◌, ◌∙◌, ◌==◌, ◌<◌, ◌≤◌, ◌+◌, ◌-◌, ℕ, zero, suc, Bool, true, false, not, List, [], ◌∷◌, ◌++◌, ⊎_elim, ap, append_assoc, arith, drop, get_or, inl, inr, length, length-append, refl, sym, take}
-use Rattle.std.specs.Prelude.{◌⊎◌, ◌&&◌, ◌↔◌, Option, Some, None, Result, Ok, codes, nat_le, nat_lt, option_map, reverse}
+use Rattle.std.specs.Prelude.{◌⊎◌, ◌↔◌, Option, Some, None, Result, Ok, codes, nat_le, nat_lt, option_map, reverse}
 use Rattle.std.specs.Char.{is_digit}
-use Rattle.std.specs.Str.Parse.{digits_value}
 use Rattle.std.specs.Io.BufRead.{ends_with_byte, strip_last}
 use Rattle.std.specs.List.{after_first, before_first, list_all, position_or_len, prefix_len, suffix_len}
 use Rattle.std.proofs.Math.ListN.{drop_of_length-le}
@@ -36,29 +35,23 @@ all_parts p xs ys h = and_parts (list_all p xs) (list_all p ys) (sym (list_all-a
 
 all_more : (p q : ℕ → Bool) → ((b : ℕ) → p b ≡ true → q b ≡ true) → (xs : List ℕ) → list_all p xs ≡ true → list_all q xs ≡ true
 all_more p q h [] e = refl
-all_more p q h (x ∷ xs) e = let r = and_parts (p x) (list_all p xs) e in rw (h x r.0, all_more p q h xs r.1) refl
+all_more p q h (x ∷ xs) e = grind (arith, h x, all_more p q h xs)
 
 all_reverse : (p : ℕ → Bool) (xs : List ℕ) → list_all p xs ≡ true → list_all p (reverse xs) ≡ true
 all_reverse p [] e = refl
-all_reverse p (x ∷ xs) e =
-    let r = and_parts (p x) (list_all p xs) e in
-    let one : list_all p (x ∷ []) ≡ true = rw r.0 refl in
-    ap (list_all p) (reverse-append (x ∷ []) xs) ∙ all_both p (reverse xs) (x ∷ []) (all_reverse p xs r.1) one
+all_reverse p (x ∷ xs) e = grind (arith, reverse-append (x ∷ []) xs, list_all-append p (reverse xs) (x ∷ []), all_reverse p xs)
 
 prefix_over : (p : ℕ → Bool) (xs ys : List ℕ) → list_all p xs ≡ true → prefix_len p (xs ++ ys) ≡ length xs + prefix_len p ys
-prefix_over p [] ys h = omega arith
-prefix_over p (x ∷ xs) ys h = let r = and_parts (p x) (list_all p xs) h in rw r.0 (omega (arith, prefix_over p xs ys r.1))
+prefix_over p [] ys h = grind arith
+prefix_over p (x ∷ xs) ys h = grind (arith, prefix_over p xs ys)
 
 prefix_none : (p : ℕ → Bool) (xs : List ℕ) → list_all (λ b. not (p b)) xs ≡ true → prefix_len p xs ≡ 0
 prefix_none p [] h = refl
-prefix_none p (x ∷ xs) h =
-    by_test (p x)
-    (λ hit. let wrong : (false && list_all (λ b. not (p b)) xs) ≡ true = rw hit at h in absurd (false≢true wrong))
-    (λ miss. rw miss refl)
+prefix_none p (x ∷ xs) h = grind arith
 
 prefix_all : (p : ℕ → Bool) (xs : List ℕ) → list_all p xs ≡ true → prefix_len p xs ≡ length xs
 prefix_all p [] h = refl
-prefix_all p (x ∷ xs) h = let r = and_parts (p x) (list_all p xs) h in rw r.0 (omega (arith, prefix_all p xs r.1))
+prefix_all p (x ∷ xs) h = grind (arith, prefix_all p xs)
 
 all_prefix : (p : ℕ → Bool) (xs : List ℕ) → list_all p (take (prefix_len p xs) xs) ≡ true
 all_prefix p [] = refl
@@ -272,19 +265,11 @@ name_solid : (m : List ℕ) → is_identifier m ≡ true → Solid m
 name_solid m h = let p = name_bytes m h in record { some = p.0; seen = all_more is_word_byte visible name_visible m p.1 }
 
 digit_visible : (radix b : ℕ) → radix ≤ 16 → is_digit b radix ≡ true → visible b ≡ true
-digit_visible radix b low h =
-    by_test (nat_lt b 48)
-    (λ less. let shown : nat_lt 36 radix ≡ true = rw less at h in absurd (let high : 36 < radix = grind (arith, nat_tests, shown) in omega (arith, high, low)))
-    (λ more. grind (arith, nat_tests, more))
+digit_visible radix b low h = grind (arith, nat_tests, h, low)
 
 number_solid : (radix : ℕ) (ds : List ℕ) (a : ℕ) → radix ≤ 16 → as_address (number_in radix ds) ≡ Some a → Solid ds
 unfolding number_in
-number_solid radix ds a low is =
-    by_test (length ds == 0)
-    (λ none. let wrong : ◌≡◌ {A = Option ℕ} None (Some a) = rw none at is in absurd cc)
-    (λ some. by_test (are_digits radix ds)
-    (λ hit. record { some = grind (arith, nat_tests, some); seen = all_more (λ d. is_digit d radix) visible (λ d. digit_visible radix d low) ds hit })
-    (λ miss. let wrong : ◌≡◌ {A = Option ℕ} None (Some a) = rw (some, miss) at is in absurd cc))
+number_solid radix ds a low is = record { some = grind (arith, nat_tests); seen = all_more (λ d. is_digit d radix) visible (λ d. digit_visible radix d low) ds (grind (arith, nat_tests)) }
 
 after_sign_solid : (b : ℕ) (bs : List ℕ) → visible b ≡ true → Solid bs → Solid (b ∷ bs)
 after_sign_solid b bs h s = record { some = omega arith; seen = rw (h, s.seen) refl }
@@ -318,18 +303,7 @@ name_no_colon b h = grind (arith, nat_tests, h)
 
 number_writes : (radix : ℕ) (ds : List ℕ) (a : ℕ) → as_address (number_in radix ds) ≡ Some a → AreDigitsOf radix ds a
 unfolding number_in
-number_writes radix ds a is =
-    by_test (length ds == 0)
-    (λ none. let wrong : ◌≡◌ {A = Option ℕ} None (Some a) = rw none at is in absurd cc)
-    (λ some. by_test (are_digits radix ds)
-    (λ hit. by_test (nat_le (digits_value radix ds) 0xFFFF_FFFF)
-    (λ fits. by_test (nat_le (digits_value radix ds) 0xFFFF)
-    (λ low. let same : ◌≡◌ {A = Option ℕ} (Some (digits_value radix ds)) (Some a) = rw (some, hit, fits, low) at is in
-    let number : digits_value radix ds ≡ a = cc in
-    record { some = grind (arith, nat_tests, some); each = hit; number = number; in_range = grind (arith, nat_tests, low, number) })
-    (λ high. let wrong : ◌≡◌ {A = Option ℕ} None (Some a) = rw (some, hit, fits, high) at is in absurd cc))
-    (λ large. let wrong : ◌≡◌ {A = Option ℕ} None (Some a) = rw (some, hit, large) at is in absurd cc))
-    (λ miss. let wrong : ◌≡◌ {A = Option ℕ} None (Some a) = rw (some, miss) at is in absurd cc))
+number_writes radix ds a is = record { some = grind (arith, nat_tests); each = grind (arith, nat_tests); number = grind (arith, nat_tests); in_range = grind (arith, nat_tests) }
 
 number_written : (radix : ℕ) (ds : List ℕ) (a : ℕ) → AreDigitsOf radix ds a → as_address (number_in radix ds) ≡ Some a
 unfolding number_in
@@ -350,10 +324,7 @@ writes (b ∷ bs) a is =
     (λ decimal. inl (number_writes 10 (b ∷ bs) a (rw (other_one, decimal) at is))))
 
 digit_high : (b : ℕ) → is_digit b 10 ≡ true → 48 ≤ b
-digit_high b h =
-    by_test (nat_lt b 48)
-    (λ less. let wrong : nat_lt 36 10 ≡ true = rw less at h in absurd (false≢true wrong))
-    (λ more. grind (arith, nat_tests, more))
+digit_high b h = grind (arith, nat_tests, h)
 
 decimal_written : (v : List ℕ) (a : ℕ) → AreDigitsOf 10 v a → address_written v ≡ Some a
 unfolding address_written
