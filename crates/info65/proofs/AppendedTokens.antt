@@ -1,18 +1,17 @@
 -- A text after a file: the tokens of both are those of the file and then those of the text. The text begins with a `#`, so whatever the
 -- file ends with, a comment begins or goes on there.
-use Rattle.std.proofs.Common.{◌≡◌, ◌∙◌, ◌==◌, ◌&&◌, ◌||◌, ◌+◌, ◌-◌, ◌<◌, ◌≤◌, ℕ, zero, suc, Bool, true, false, List, [], ◌∷◌, ◌++◌, ap, arith, length, length-append, take, refl, sym, inl, inr, cond, nat_le}
+use Rattle.std.proofs.Common.{◌≡◌, ◌∙◌, ◌==◌, ◌+◌, ◌-◌, ◌<◌, ◌≤◌, ℕ, zero, suc, Bool, true, false, List, [], ◌∷◌, ◌++◌, ap, arith, length, length-append, take, refl, sym, inl, inr, cond}
 use Rattle.std.specs.Prelude.{Option, Some, None, Result, Ok, Err, slice_index}
 use Rattle.std.specs.List.{prefix_len}
 use Rattle.std.specs.Char.{is_ascii_digit}
-use Rattle.std.proofs.lemmas.Bool.{cases_lt, cond-false, eqb-false, le-leb, ne_eqb}
+use Rattle.std.proofs.lemmas.Bool.Decides.{nat_tests}
+use Rattle.std.proofs.lemmas.Bool.{cases_lt, cond-false, ne_eqb}
 use Rattle.std.proofs.lemmas.List.{get_or_append_left, get_or-append_right, get_or_past, take-append-le}
 use Rattle.std.proofs.lemmas.List.Folds.{prefix_len-append}
 use Rattle.std.proofs.lemmas.List.Sums.{prefix_len-le-length}
-use Rattle.info65.specs.Lexemes.{LexemeView, character, closing_brace, mark, number, opening_brace, semicolon, string, word, character_at, in_class, lexeme_at, number_at, number_in, starts_word, string_at, word_at}
+use Rattle.info65.specs.Lexemes.{LexemeView, closing_brace, mark, number, opening_brace, semicolon, word, character_at, in_class, lexeme_at, number_at, number_in, starts_word, string_at, word_at}
 use Rattle.info65.specs.Tokens.{Stream, TokenView, found, is_blank, opens_comment, tokens_after}
-use Rattle.info65.specs.Faults.{fault}
 use Rattle.info65.specs.declared.fault.InfoFault.{InfoFault}
-use Rattle.info65.specs.declared.fault.InfoFaultKind.TheVariants.{BadByte}
 use Rattle.info65.specs.declared.syntax.lexeme.Class.{Class}
 use Rattle.info65.specs.declared.syntax.lexeme.Class.TheVariants as class
 use Rattle.info65.proofs.Cases.{by_test}
@@ -86,34 +85,16 @@ unfolding string_at
 string-kept line bs rest p is =
     let n : ℕ = prefix_len (in_class class.Text) bs in
     let upto : n ≤ length bs = prefix_len-le-length (in_class class.Text) bs in
-    by_test (n == length bs)
-    (λ ends. not-ok _ p (rw ends at is))
-    (λ some.
-    let low : n < length bs = omega (arith, upto, eqb-false n (length bs) some) in
+    let low : n < length bs = grind (arith, nat_tests) in
     let same : prefix_len (in_class class.Text) (bs ++ 35 ∷ rest) ≡ n = prefix-inside (in_class class.Text) bs (35 ∷ rest) low in
-    let more : (n == length (bs ++ 35 ∷ rest)) ≡ false = ne_eqb n (length (bs ++ 35 ∷ rest)) (λ e. omega (arith, e, low, length-append bs (35 ∷ rest))) in
-    let next : slice_index (bs ++ 35 ∷ rest) n ≡ slice_index bs n = byte-inside bs (35 ∷ rest) n low in
-    let text : take n (bs ++ 35 ∷ rest) ≡ take n bs = take-append-le n bs (35 ∷ rest) upto in
-    by_test (slice_index bs n == 34)
-    (λ closed. kept-as _ (record { kind = string (take n bs); more = n + 1 }) p (length bs) (rw (same, more, next, text, closed) refl) (rw (some, closed) at is) (omega (arith, low)))
-    (λ bad. by_test (slice_index bs n == 13 || slice_index bs n == 10)
-    (λ line_end. not-ok _ p (rw (some, bad, line_end) at is))
-    (λ other. not-ok _ p (rw (some, bad, other) at is))))
+    let more : (n == length (bs ++ 35 ∷ rest)) ≡ (n == length bs) = grind (arith, nat_tests, length-append bs (35 ∷ rest)) in
+    record { same = rw (same, more, byte-inside bs (35 ∷ rest) n low, take-append-le n bs (35 ∷ rest) upto) is; fits = grind (arith, nat_tests) }
 
 character-kept : (line : ℕ) (bs rest : List ℕ) (p : LexemeView) → character_at line bs ≡ Ok p → IsKept (character_at line (bs ++ 35 ∷ rest)) p (length bs)
 unfolding character_at
 character-kept line [] rest p is = not-ok _ p is
 character-kept line (x ∷ []) rest p is = not-ok _ p is
-character-kept line (x ∷ (y ∷ ys)) rest p is =
-    by_test (nat_le 0x20 x && (nat_le x 0x7E && y == 39))
-    (λ good. kept-as _ (record { kind = character x; more = 2 }) p (length (x ∷ (y ∷ ys))) (at-two x y (ys ++ 35 ∷ rest) good) (sym (at-two x y ys good) ∙ is) (omega arith))
-    (λ bad. not-ok _ p (sym (not-two x y ys bad) ∙ is))
-  where
-    at-two : (x y : ℕ) (zs : List ℕ) → (nat_le 0x20 x && (nat_le x 0x7E && y == 39)) ≡ true → cond {A = Result LexemeView InfoFault} (nat_le 2 (length (x ∷ (y ∷ zs))) && (nat_le 0x20 x && (nat_le x 0x7E && y == 39))) (Ok (record { kind = character x; more = 2 })) (Err (fault line BadByte)) ≡ Ok (record { kind = character x; more = 2 })
-    at-two x y zs good = let two : nat_le 2 (length (x ∷ (y ∷ zs))) ≡ true = le-leb 2 _ (omega arith) in rw (two, good) refl
-
-    not-two : (x y : ℕ) (zs : List ℕ) → (nat_le 0x20 x && (nat_le x 0x7E && y == 39)) ≡ false → cond {A = Result LexemeView InfoFault} (nat_le 2 (length (x ∷ (y ∷ zs))) && (nat_le 0x20 x && (nat_le x 0x7E && y == 39))) (Ok (record { kind = character x; more = 2 })) (Err (fault line BadByte)) ≡ Err (fault line BadByte)
-    not-two x y zs bad = let two : nat_le 2 (length (x ∷ (y ∷ zs))) ≡ true = le-leb 2 _ (omega arith) in rw (two, bad) refl
+character-kept line (x ∷ (y ∷ ys)) rest p is = record { same = grind (arith, nat_tests, length-append ys (35 ∷ rest)); fits = grind (arith, nat_tests) }
 
 mark-kept : (q p : LexemeView) (most : ℕ) → q.more ≡ 0 → ◌≡◌ {A = Result LexemeView InfoFault} (Ok q) (Ok p) → IsKept (Ok q) p most
 mark-kept q p most none is = kept-as (Ok q) q p most refl is (omega (arith, none))

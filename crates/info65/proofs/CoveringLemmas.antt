@@ -44,11 +44,7 @@ some_below names a (suc n) v is =
       low = omega (arith, r.low);
       covers_it = r.covers_it;
       is = r.is;
-      later = λ i after before.
-          ⊎_elim
-          (λ same. ap (λ (k : ℕ). covers (name_at names k) a) same.1 ∙ miss)
-          (λ other. r.later i after (omega (arith, other.1)))
-          (eqb_tells i n);
+      later = λ i after before. grind (arith, miss, r.later i after);
     })
 
 none_below : (names : List NameView) (a n : ℕ) → covering_below names n a ≡ None → (i : ℕ) → i < n → covers (name_at names i) a ≡ false
@@ -56,11 +52,7 @@ none_below names a zero is i below = absurd (omega arith)
 none_below names a (suc n) is i below =
     by_test (covers (name_at names n) a)
     (λ hit. absurd (not_some _ (sym is ∙ below_hits names a n hit)))
-    (λ miss.
-    ⊎_elim
-    (λ same. ap (λ (k : ℕ). covers (name_at names k) a) same.1 ∙ miss)
-    (λ other. none_below names a n (sym (below_misses names a n miss) ∙ is) i (omega (arith, other.1)))
-    (eqb_tells i n))
+    (λ miss. grind (arith, miss, none_below names a n (sym (below_misses names a n miss) ∙ is) i))
 
 covering_is : (names : List NameView) (a : ℕ) → covering names a ≡ covering_below names (length names) a
 unfolding covering

@@ -1,10 +1,10 @@
 -- The index of closed groups.
-use Rattle.std.proofs.Common.{◌≡◌, ◌≢◌, ◌∙◌, ◌≤◌, ◌<◌, ◌+◌, ◌-◌, ◌==◌, ◌&&◌, ◌||◌, ℕ, zero, suc, Bool, List, [], ◌∷◌, ◌++◌, true, false, ⊎_elim, ap, ap₂, arith, get_or, inl, inr, length, length-append, map, option_map, refl, sym, if◌then◌else◌}
-use Rattle.std.specs.Prelude.{All, AllPairs, Option, Some, None, Result, Ok, Err, is_some, option_to_list, nat_le, nat_lt, not, slice_get}
+use Rattle.std.proofs.Common.{◌≡◌, ◌≢◌, ◌∙◌, ◌≤◌, ◌<◌, ◌+◌, ◌-◌, ◌==◌, ◌&&◌, ◌||◌, ℕ, zero, suc, Bool, List, [], ◌∷◌, ◌++◌, true, false, ap, ap₂, arith, get_or, inl, inr, length, length-append, map, option_map, refl, sym, if◌then◌else◌}
+use Rattle.std.specs.Prelude.{All, AllPairs, Option, Some, None, Result, Ok, Err, is_some, option_to_list, nat_le, nat_lt, not}
 use Rattle.std.specs.List.{find, flat_map, list_any}
 use Rattle.std.specs.Str.{bytes_eq}
-use Rattle.std.proofs.lemmas.Bool.{cond-false, cond-true, eq-eqb, eqb-true, false≢true, or_from, or_left, or_right}
-use Rattle.std.proofs.lemmas.Bool.Decides.{eqb_tells, nat_tests}
+use Rattle.std.proofs.lemmas.Bool.{cond-false, cond-true, eqb-true, false≢true}
+use Rattle.std.proofs.lemmas.Bool.Decides.{nat_tests}
 use Rattle.std.proofs.lemmas.List.Folds.{Any-from_list_any, find-append, list_any_none, list_any-append, list_any_at, list_any-from_Any}
 use Rattle.std.proofs.lemmas.Grind.{flat_map-append}
 use Rattle.std.proofs.lemmas.List.{append-nil}
@@ -50,16 +50,12 @@ any_over table a end le = let e : end - a ≡ 0 = omega arith in rw e refl
 any_in_yes : (table : List Bool) (first n a : ℕ) → first ≤ a → a < first + n → get_or table a false ≡ true → any_in table first n ≡ true
 unfolding any_in
 any_in_yes table first zero a low high is = absurd (omega arith)
-any_in_yes table first (suc n) a low high is =
-    ⊎_elim
-    (λ same. or_left (get_or table first false) (any_in table (first + 1) n) (ap (λ (k : ℕ). get_or table k false) (sym same.1) ∙ is))
-    (λ other. or_right (get_or table first false) (any_in table (first + 1) n) (any_in_yes table (first + 1) n a (omega (arith, other.1)) (omega arith) is))
-    (eqb_tells a first)
+any_in_yes table first (suc n) a low high is = grind (arith, any_in_yes table (first + 1) n a)
 
 any_in_no : (table : List Bool) (first n : ℕ) → ((a : ℕ) → first ≤ a → a < first + n → get_or table a false ≡ false) → any_in table first n ≡ false
 unfolding any_in
 any_in_no table first zero h = refl
-any_in_no table first (suc n) h = or_from (get_or table first false) (any_in table (first + 1) n) (h first (omega arith) (omega arith)) (any_in_no table (first + 1) n (λ a low high. h a (omega arith) (omega arith)))
+any_in_no table first (suc n) h = grind (arith, h first, any_in_no table (first + 1) n (λ a low high. h a (omega arith) (omega arith)))
 
 within : (r : RangeSpec) (a : ℕ) → has_address r a ≡ true → (r.first ≤ a) × (a ≤ r.last)
 within r a h = (grind (arith, nat_tests), grind (arith, nat_tests))
@@ -135,18 +131,11 @@ no_fault names n h = record { free = grind arith; only = grind arith; untaken = 
 
 -- its text is new
 pub new_text : (names : List NameView) (n : NameView) → IsNew names n → (k : ℕ) (d : NameView) → k < length names → (get_or names k d).text ≢ n.text
-new_text names n new k d l same =
-    let m = get_or names k d in
-    let equal : bytes_eq n.text m.text ≡ true = (bytes_eq-Decides n.text m.text).1 (sym same) in
-    by_test (m.address == n.address)
-    (λ at. absurd (false≢true (sym new.untaken ∙ list_any_at (is_at n.address) names k d l at)))
-    (λ apart. absurd (false≢true (sym new.only ∙ list_any_at (is_elsewhere n) names k d l (rw (equal, apart) refl))))
+new_text names n new k d l same = grind (arith, nat_tests, new.untaken, new.only, bytes_eq-Decides n.text (get_or names k d).text, list_any_at (is_at n.address) names k d l, list_any_at (is_elsewhere n) names k d l)
 
 -- and so is its address
 pub new_address : (names : List NameView) (n : NameView) → IsNew names n → (k : ℕ) (d : NameView) → k < length names → (get_or names k d).address ≢ n.address
-new_address names n new k d l same =
-    let at : ((get_or names k d).address == n.address) ≡ true = rw same (eq-eqb n.address n.address refl) in
-    absurd (false≢true (sym new.untaken ∙ list_any_at (is_at n.address) names k d l at))
+new_address names n new k d l same = grind (arith, nat_tests, new.untaken, list_any_at (is_at n.address) names k d l)
 
 no_find : {X : Type 0} (p : X → Bool) (xs : List X) → list_any p xs ≡ false → find p xs ≡ None
 no_find p [] h = refl
@@ -185,11 +174,8 @@ numbered_more (x ∷ xs) n (suc zero) low = refl
 numbered_more (x ∷ xs) n (suc (suc k)) low = numbered_more xs n (suc k) (omega (arith, low))
 
 numbered_last : (names : List NameView) (n : NameView) → numbered (names ++ n ∷ []) (length names + 1) ≡ Some n
-numbered_last names n = let e : length names + 1 ≡ suc (length names) = omega arith in ap (numbered (names ++ n ∷ [])) e ∙ at_end names
-  where
-    at_end : (xs : List NameView) → slice_get (xs ++ n ∷ []) (length xs) ≡ Some n
-    at_end [] = refl
-    at_end (x ∷ xs) = at_end xs
+numbered_last [] n = refl
+numbered_last (x ∷ xs) n = grind (arith, numbered_last xs n)
 
 numbered_map : {X Y : Type 0} (f : X → Y) (xs : List X) (k : ℕ) → option_map f (numbered xs k) ≡ numbered (map f xs) k
 numbered_map f xs zero = refl

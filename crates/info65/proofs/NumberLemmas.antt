@@ -1,5 +1,5 @@
 -- A number that is read digit by digit, and kept no greater than a limit.
-use Rattle.std.proofs.Common.{◌≡◌, ◌∙◌, ◌==◌, ℕ, true, false, refl, sym, ◌+◌, ◌*◌, ◌≤◌, ◌<◌, List, [], ◌∷◌, length, get_or, drop, min, ap, arith, ⊎_elim, ◌&&◌, lt-ltb}
+use Rattle.std.proofs.Common.{◌≡◌, ◌∙◌, ◌==◌, ℕ, ◌+◌, ◌*◌, ◌≤◌, ◌<◌, List, [], ◌∷◌, length, get_or, drop, min, ap, arith, ⊎_elim, ◌&&◌, lt-ltb}
 use Rattle.std.proofs.lemmas.List.{at_drop_more}
 use Rattle.std.proofs.lemmas.Bool.Decides.{nat_tests}
 use Rattle.std.specs.Prelude.{Some, None, nat_le, if◌then◌else◌}
@@ -46,27 +46,12 @@ pub number_none : {R : Type 0} (bad high : R) (good : ℕ → R) (radix most : �
 unfolding number_of_digits
 number_none bad high good radix most ds h = grind arith
 
-record IsNumber (radix : ℕ) (ds : List ℕ) (value : ℕ) : Type 0 where
-  some : (length ds == 0) ≡ false
-  digits : are_digits radix ds ≡ true
-  is : value ≡ min (digits_value radix ds) 0x1_0000_0000
-
-number_is : (radix : ℕ) (ds : List ℕ) (value : ℕ) → Some value ≡ number_of_digits radix ds → IsNumber radix ds value
-unfolding number_of_digits
-number_is radix ds value h = record { some = grind arith; digits = grind arith; is = grind arith }
-
 pub number_small : {R : Type 0} (bad high : R) (good : ℕ → R) (radix most : ℕ) (ds : List ℕ) (value : ℕ)
     → Some value ≡ number_of_digits radix ds → most < 0x1_0000_0000 → value ≤ most → good value ≡ number_upto bad high good radix most ds
-number_small bad high good radix most ds value h room small =
-    let n = number_is radix ds value h in
-    let same : digits_value radix ds ≡ value = omega (arith, n.is, small, room) in
-    let fits : nat_le (digits_value radix ds) most ≡ true = grind (arith, nat_tests, same, small) in
-    rw (n.some, n.digits, fits) (ap good (sym same))
+unfolding number_of_digits
+number_small bad high good radix most ds value h room small = grind (arith, nat_tests)
 
 pub number_great : {R : Type 0} (bad high : R) (good : ℕ → R) (radix most : ℕ) (ds : List ℕ) (value : ℕ)
     → Some value ≡ number_of_digits radix ds → most < value → high ≡ number_upto bad high good radix most ds
-number_great bad high good radix most ds value h great =
-    let n = number_is radix ds value h in
-    let past : most < digits_value radix ds = omega (arith, n.is, great) in
-    let out : nat_le (digits_value radix ds) most ≡ false = grind (arith, nat_tests, past) in
-    rw (n.some, n.digits, out) refl
+unfolding number_of_digits
+number_great bad high good radix most ds value h great = grind (arith, nat_tests)

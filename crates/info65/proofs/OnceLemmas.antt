@@ -15,6 +15,7 @@ use Rattle.info65.specs.declared.syntax.attribute.Attribute.{Attribute}
 use Rattle.info65.specs.declared.syntax.attribute.Attribute.TheVariants as attribute
 use Rattle.info65.specs.declared.syntax.attribute.GroupKind.{GroupKind}
 use Rattle.info65.specs.declared.syntax.attribute.GroupKind.TheVariants as group
+use Rattle.info65.proofs.FormLemmas.{accepted_read, read_keeps}
 use Rattle.info65.proofs.Cases.{or_last}
 
 other : (a b : Attribute) → sameb attribute_type.the_type a b ≡ false → sameb attribute_type.the_type b a ≡ false
@@ -64,15 +65,9 @@ group_once before group.Global given h once =
     rw (global_more before (record { kind = group.Global; given = given })) (new_once before group.Global [] given h start)
 group_once before k given h once = rw (global_more before (record { kind = k; given = given })) (rw (append-nil (global_given before)) once)
 
-groups_once : (before gs : List GroupView) → AreGroups before gs → AreOnce (global_given before) → AreOnce (global_given (before ++ gs))
-groups_once before [] h once = rw (append-nil before) once
-groups_once before (g ∷ gs) h once =
-    let all = groups_once (before ++ g ∷ []) gs h.1 (group_once before g.kind g.given h.0.new once) in
-    rw (append_assoc before (g ∷ []) gs) at all
-
 pub global_once : GlobalOnce
 unfolding global_given
-global_once o ts groups a = groups_once [] groups a.keeps tt
+global_once o ts groups a = read_keeps (λ gs. AreOnce (global_given gs)) (λ before k given g f once. group_once before k given g.new once) tt groups (accepted_read o ts groups a)
 
 -- ---- each group by itself
 

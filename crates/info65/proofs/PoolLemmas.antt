@@ -4,7 +4,6 @@ use Rattle.std.specs.Prelude.{IfSome, Option, None, Some, nat_le, nat_lt}
 use Rattle.std.specs.List.Sorted.{IsNonDecreasingBy}
 use Rattle.std.proofs.lemmas.List.Sorted.{IsNonDecreasingBy-from_default}
 use Rattle.std.proofs.lemmas.List.{append-nil, drop-append-le, drop_at, get_or-map, get_or_append_left, get_or_at, length-map, map-append, take-append-le, take_at}
-use Rattle.std.proofs.lemmas.Bool.{false≢true}
 use Rattle.std.proofs.lemmas.Bool.Decides.{eqb_tells, nat_tests}
 use Rattle.info65.specs.Code.Pool.{AreAbove, IsPool, IsWithin, ReachTo, blank_entry, block_start, bytes_of, entry_seen, optional, reach_of, span_of}
 use Rattle.info65.specs.Names.{AreNames, blank_name, covering, covering_below, covers, name_at}
@@ -49,8 +48,7 @@ entries_rise pool es names = IsNonDecreasingBy-from_default (λ e. e.address) es
     (eqb_tells i j))
 
 missed : (x y : Bool) → x ≡ false → (x && y) ≡ false
-missed true y is = absurd (false≢true (sym is))
-missed false y is = refl
+missed x y is = grind arith
 
 below_rest : (pool : List ℕ) (es : List Entry) (n a d : ℕ) → AreAbove es n a → n + d ≤ length es → covering_below (map (entry_seen pool) es) (n + d) a ≡ covering_below (map (entry_seen pool) es) n a
 below_rest pool es n a zero above le = let place : n + 0 ≡ n = omega arith in ap (λ (k : ℕ). covering_below (map (entry_seen pool) es) k a) place
@@ -75,10 +73,7 @@ below_skip names n a (suc d) miss =
     ∙ below_skip names n a d (λ i low high. miss i low (omega arith))
 
 ended : (low reach : ℕ) (a : ℕ) → reach ≤ a → (nat_le low a && nat_lt a reach) ≡ false
-ended low reach a past = let no_more : nat_lt a reach ≡ false = grind (arith, nat_tests) in off (nat_le low a) (nat_lt a reach) no_more where
-  off : (x y : Bool) → y ≡ false → (x && y) ≡ false
-  off true y is = is
-  off false y is = refl
+ended low reach a past = grind (arith, nat_tests)
 
 -- entries that end at or before the address
 pub passed_over : (pool : List ℕ) (es : List Entry) (n i a : ℕ) → n ≤ i → i ≤ length es → ReachTo es n i a → covering_below (map (entry_seen pool) es) i a ≡ covering_below (map (entry_seen pool) es) n a

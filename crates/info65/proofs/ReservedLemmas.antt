@@ -127,14 +127,12 @@ elsewhere_is : (address : ℕ) (text : List ℕ) → (is_like_default text && no
 elsewhere_is address text h =
     let p = and_parts (is_like_default text) (not (bytes_eq text (default_name address))) h in
     let d = default_is text p.0 in
-    (d.address, d.low, d.is, λ own. let hit : bytes_eq text (default_name address) ≡ true = (bytes_eq-Decides text (default_name address)).1 own in let wrong : false ≡ true = rw hit at p.1 in absurd cc)
+    (d.address, d.low, d.is, λ own. grind (arith, h, bytes_eq-Decides text (default_name address)))
 
 is_elsewhere : (address : ℕ) (text : List ℕ) → IsDefaultElsewhere address text → (is_like_default text && not (bytes_eq text (default_name address))) ≡ true
 is_elsewhere address text h =
     let like : is_like_default text ≡ true = ap is_like_default h.2 ∙ like_default h.0 in
-    by_test (bytes_eq text (default_name address))
-    (λ own. absurd (h.3 ((bytes_eq-Decides text (default_name address)).0 own)))
-    (λ other. rw (like, other) refl)
+    grind (arith, like, bytes_eq-Decides text (default_name address), h.3)
 
 one_of : (p q r : Bool) {P Q R : Type 0} → (p ≡ true → P) → (q ≡ true → Q) → (r ≡ true → R) → ((p || q) || r) ≡ true → P ⊎ (Q ⊎ R)
 one_of true q r f g h e = inl (f refl)
@@ -143,18 +141,9 @@ one_of false false true f g h e = inr (inr (h refl))
 one_of false false false f g h e = absurd cc
 
 any_of : (p q r : Bool) {P Q R : Type 0} → (P → p ≡ true) → (Q → q ≡ true) → (R → r ≡ true) → P ⊎ (Q ⊎ R) → ((p || q) || r) ≡ true
-any_of p q r f g h (inl x) = rw (f x) refl
-any_of p q r f g h (inr (inl x)) = rw (g x) (of p)
-  where
-    of : (b : Bool) → ((b || true) || r) ≡ true
-    of true = refl
-    of false = refl
-any_of p q r f g h (inr (inr x)) = rw (h x) (of p q)
-  where
-    of : (b c : Bool) → ((b || c) || true) ≡ true
-    of true c = refl
-    of false true = refl
-    of false false = refl
+any_of p q r f g h (inl x) = grind (arith, f x)
+any_of p q r f g h (inr (inl x)) = grind (arith, g x)
+any_of p q r f g h (inr (inr x)) = grind (arith, h x)
 
 pub reserved_names : ReservedNames
 unfolding is_reserved is_reserved_word

@@ -1,8 +1,8 @@
 -- The segment of an address is the one that contains it.
-use Rattle.std.proofs.Common.{◌≡◌, ◌<◌, ℕ, zero, suc, ⊎_elim, List, [], ◌∷◌, true, false, ap, arith, length, refl}
-use Rattle.std.specs.Prelude.{All, AllPairs, Option, Some, None, nat_lt, option_map}
+use Rattle.std.proofs.Common.{◌≡◌, ◌<◌, ℕ, zero, suc, List, [], ◌∷◌, true, false, ap, arith, length, refl}
+use Rattle.std.specs.Prelude.{All, AllPairs, Option, Some, None, option_map}
 use Rattle.std.specs.List.{find}
-use Rattle.std.proofs.lemmas.Bool.Decides.{eqb_tells, nat_tests}
+use Rattle.std.proofs.lemmas.List.Elements.{All-cons}
 use Rattle.info65.specs.SegmentLaws.{CoversOne}
 use Rattle.info65.specs.Segments.{AreApart, AreSegments, blank_segment, contains, segment_at, segment_covering}
 use Rattle.info65.specs.Views.{SegmentView}
@@ -52,21 +52,10 @@ none_found [] a e = λ k d l. absurd (omega (arith, l))
 none_found (s ∷ ss) a e =
     by_test (contains s a)
     (λ yes. let wrong : ◌≡◌ {A = Option (List ℕ)} (Some s.name) None = rw yes at e in absurd cc)
-    (λ miss. first_miss miss (none_found ss a (rw miss at e)))
-  where
-    first_miss : contains s a ≡ false → All (λ s. contains s a ≡ false) ss → All (λ s. contains s a ≡ false) (s ∷ ss)
-    first_miss miss rest zero d l = miss
-    first_miss miss rest (suc k) d l = rest k d (omega (arith, l))
+    (λ miss. All-cons (λ (t : SegmentView). contains t a ≡ false) s ss miss (none_found ss a (rw miss at e)))
 
 pub one_contains : (segments : List SegmentView) (a i j : ℕ) → AreSegments segments → i < length segments → j < length segments → contains (segment_at segments i) a ≡ true → contains (segment_at segments j) a ≡ true → i ≡ j
-one_contains segments a i j are li lj here there =
-    ⊎_elim
-    (λ same. same.1)
-    (λ other.
-    by_test (nat_lt i j)
-    (λ below. absurd (are.apart i j blank_segment (grind (arith, nat_tests, below)) lj a here there))
-    (λ above. absurd (are.apart j i blank_segment (grind (arith, nat_tests, above, other.1)) li a there here)))
-    (eqb_tells i j)
+one_contains segments a i j are li lj here there = grind (arith, are.apart i j blank_segment, are.apart j i blank_segment)
 
 pub covers_one : CoversOne
 covers_one segments are a = record {

@@ -1,9 +1,9 @@
 -- Keys of the names of segments.
-use Rattle.std.proofs.Common.{◌≡◌, ◌∙◌, ◌≤◌, ◌<◌, ◌+◌, ℕ, zero, suc, Bool, List, [], ◌∷◌, ◌++◌, ⊎_elim, true, false, ap, arith, cond, drop, get_or, length, map, refl, subst, sym}
+use Rattle.std.proofs.Common.{◌≡◌, ◌∙◌, ◌≤◌, ◌<◌, ◌+◌, ℕ, zero, suc, Bool, List, [], ◌∷◌, ◌++◌, true, false, ap, arith, cond, drop, get_or, length, map, refl, subst, sym}
 use Rattle.std.specs.Option.{option_or}
 use Rattle.std.specs.Prelude.{Option, Some, None, is_some, option_and_then, unwrap_or}
 use Rattle.std.specs.Str.{bytes_eq}
-use Rattle.std.proofs.lemmas.Bool.Decides.{eqb_tells, nat_tests}
+use Rattle.std.proofs.lemmas.Bool.Decides.{nat_tests}
 use Rattle.std.proofs.lemmas.List.{at_drop_more, drop_all, get_or-map, get_or_default, get_or_append_left, get_or_push}
 use Rattle.std.proofs.lemmas.Slice.Eq.{bytes_eq-Decides}
 use Rattle.info65.specs.Code.SegmentTable.{AreKeys, IsHolder}
@@ -102,12 +102,8 @@ one_key segments n t key are is_n is_t =
 pub keys_more : (segments : List SegmentView) (keys more : List ℕ) (n key : ℕ) → length keys ≡ n → more ≡ keys ++ key ∷ [] → ((k : ℕ) → k < n → first_named segments (segment_at segments k).name ≡ Some (get_or keys k 0)) → first_named segments (segment_at segments n).name ≡ Some key
     → (k : ℕ) → k < n + 1 → first_named segments (segment_at segments k).name ≡ Some (get_or more k 0)
 keys_more segments keys more n key long is each last k low =
-    ⊎_elim
-    (λ same. ap (λ (i : ℕ). first_named segments (segment_at segments i).name) same.1 ∙ last ∙ ap (λ (x : ℕ). Some x) (sym (ap (λ (l : List ℕ). get_or l k 0) is ∙ get_or_push keys key 0 k (long ∙ sym same.1))))
-    (λ other.
-    let below : k < length keys = omega (arith, low, long, other.1) in
-    each k (omega (arith, low, other.1)) ∙ ap (λ (x : ℕ). Some x) (sym (ap (λ (l : List ℕ). get_or l k 0) is ∙ get_or_append_left keys (key ∷ []) 0 k below)))
-    (eqb_tells k n)
+    let at = ap (λ (l : List ℕ). get_or l k 0) is in
+    grind (arith, at, each k, last, get_or_push keys key 0 k, get_or_append_left keys (key ∷ []) 0 k)
 
 -- the list that is seen, at a place
 pub seen_at : {Z : Type 0} (specs : List (SegmentSpec Z)) (k : ℕ) (s : SegmentSpec Z) → k < length specs → segment_at (map segment_seen specs) k ≡ segment_seen (get_or specs k s)

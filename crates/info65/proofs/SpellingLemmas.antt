@@ -184,12 +184,7 @@ strip_end b t =
     stripped b (t ++ b ∷ []) hit ∙ ap (λ i. take i (t ++ b ∷ [])) len ∙ take-append_seam t (b ∷ [])
 
 strip_none : (b : ℕ) (xs : List ℕ) → list_all (other b) xs ≡ true → strip_last b xs ≡ xs
-strip_none b xs h =
-    by_test (ends_with_byte b xs)
-    (λ hit. let e = ends b xs hit in
-    let wrong : list_all (other b) xs ≡ false = list_all_at (other b) xs (length xs - 1) 0 (omega (arith, e.some)) (ap not e.at) in
-    absurd (false≢true (sym wrong ∙ h)))
-    (λ miss. kept b xs miss)
+strip_none b xs h = grind (arith, nat_tests, list_all_at (other b) xs (length xs - 1) 0)
 
 strip_comment : (b c : ℕ) (t more : List ℕ) → (strip_last b (t ++ c ∷ more) ≡ t ++ c ∷ more) ⊎ (strip_last b (t ++ c ∷ more) ≡ t ++ take (length more) (c ∷ more))
 strip_comment b c t more =
