@@ -5,7 +5,7 @@ use Rattle.std.specs.List.{filter}
 use Rattle.isa65.specs.Mnemonic.{mnemonic_named}
 use Rattle.text65.specs.Digits.{digits4, hex_digit}
 use Rattle.text65.specs.Lines.{text_lines}
-use Rattle.text65.specs.Names.{has_name_form, is_reserved_word, is_word_byte}
+use Rattle.text65.specs.Names.{has_name_form, is_blank, is_reserved_word, is_word_byte}
 
 -- the numbers below this one
 abbrev below : ℕ → List ℕ
@@ -16,6 +16,9 @@ below (suc n) = below n ++ n ∷ []
 reserved_bytes : filter (λ b. is_reserved_word (b ∷ [])) (below 256) ≡ codes "AFSXYZafsxyz"
 unfolding is_reserved_word mnemonic_named
 reserved_bytes = refl
+
+blanks : filter is_blank (below 256) ≡ 9 ∷ 32 ∷ []
+blanks = refl
 
 word_bytes : filter is_word_byte (below 256) ≡ codes "0123456789ABCDEFGHIJKLMNOPQRSTUVWXYZ_abcdefghijklmnopqrstuvwxyz"
 word_bytes = refl

@@ -1,6 +1,6 @@
 // The form of a name, reserved words and hex digits.
 use crate::tests::asserts::{assert_equal, assert_that, assert_that_at};
-use text65::{are_word_bytes, has_name_form, hex_digit, is_reserved_word, is_word_byte};
+use text65::{are_word_bytes, has_name_form, hex_digit, is_blank, is_reserved_word, is_word_byte};
 
 /// Texts that have the form of a name. The last one has 80 bytes.
 const NAMES: &[&str] = &[
@@ -34,6 +34,8 @@ fn names_have_a_form(rt: HostRuntime) {
     assert_that(&rt, !are_word_bytes(b"a.b"));
     assert_that(&rt, is_word_byte(b'_'));
     assert_that(&rt, !is_word_byte(b'.'));
+    assert_that(&rt, is_blank(b'\t'));
+    assert_that(&rt, !is_blank(b'\n'));
 }
 
 const RESERVED: &[&str] = &["a", "F", "s", "X", "y", "Z", "lda", "Jmp", "SMB7", "bbr0"];
