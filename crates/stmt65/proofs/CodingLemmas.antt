@@ -4,7 +4,7 @@ use Rattle.isa65.specs.declared.cpu.Cpu.{Cpu}
 use Rattle.isa65.specs.declared.mnemonic.Mnemonic.{Mnemonic}
 use Rattle.isa65.specs.Cpu.{table_of}
 use Rattle.isa65.specs.Opcodes.{encoded}
-use Rattle.std.specs.Prelude.{◌&&◌, is_some, option_and_then}
+use Rattle.std.specs.Prelude.{◌&&◌, is_some}
 use Rattle.std.proofs.lemmas.Bool.{and_parts}
 use Rattle.std.proofs.Math.Bool.{and-true}
 use Rattle.std.proofs.lemmas.List.{append-nil}
@@ -13,7 +13,7 @@ use Rattle.std.specs.Bool.{OnTrue}
 use Rattle.stmt65.specs.Code.CodingViews.{Puts, PutsAll}
 use Rattle.std.specs.List.{list_all, flat_map}
 use Rattle.stmt65.specs.SourceLine.{Value, NumberValue, NameValue}
-use Rattle.stmt65.specs.Symbols.{Definition, below, find_name, is_known, lowered, value_in, word_in}
+use Rattle.stmt65.specs.Symbols.{Definition, below, find_name, is_known, value_in, word_in}
 use Rattle.stmt65.specs.Coding.{Fragment, Fixed, Single, ZeroPage, Oversized, Entry, Distance, entry_in, entry_limit, is_near, fragment_len, Way, first_way, coded_so, is_fragment_known, fragment_fits, fragment_bytes, coding_len}
 use Rattle.stmt65.specs.Code.Held.{held}
 use Rattle.stmt65.proofs.Cases.{by_option}

@@ -11,7 +11,6 @@ use Rattle.std.proofs.lemmas.Fmt.{decimal_is_IsNumeral}
 use Rattle.isa65.specs.Cpu.{cpu_text}
 use Rattle.isa65.specs.Mnemonic.{text_of}
 use Rattle.isa65.specs.Mode.{expression, row_of, row_text}
-use Rattle.isa65.specs.declared.cpu.Cpu.{Cpu}
 use Rattle.isa65.proofs.CpuNames.{cpu_name}
 use Rattle.isa65.specs.declared.mnemonic.Mnemonic.{Mnemonic}
 use Rattle.isa65.specs.declared.mnemonic.Mnemonic.TheVariants.{Adc}
@@ -36,7 +35,7 @@ use Rattle.stmt65.specs.Printable.{IsPrintable}
 use Rattle.stmt65.specs.SourceLine.{Datum}
 use Rattle.stmt65.specs.SourceLine as source
 use Rattle.stmt65.specs.Tables.{order_of, in_order, entries, cut_text}
-use Rattle.stmt65.specs.Statements.{Field, has_bytes, next_text, comma_list, bytes_text, quoted, datum_text, data_text, entry_text, numbers_text, distance_text, instr_fields, label_fields, fields_of}
+use Rattle.stmt65.specs.Statements.{Field, has_bytes, next_text, comma_list, bytes_text, quoted, datum_text, entry_text, numbers_text, distance_text, instr_fields, label_fields, fields_of}
 use Rattle.stmt65.specs.Lexing.{is_text_byte}
 use Rattle.stmt65.specs.Names.{is_name}
 use Rattle.stmt65.specs.Printed.{HasNames, HasLabelName}

@@ -1,5 +1,5 @@
 -- The line of a statement is a spelling of that statement, so it reads as it.
-use Rattle.std.proofs.Common.{◌≡◌, ℕ, suc, Bool, Option, None, true, false, eqb, ltb, ◌-◌, ◌<◌, ◌≤◌, List, [], ◌∷◌, ◌++◌, length, replicate, refl, sym, ap, ◌∙◌, arith, inl, inr, append_assoc}
+use Rattle.std.proofs.Common.{◌≡◌, ℕ, suc, Bool, Option, None, true, false, eqb, ltb, ◌-◌, ◌<◌, List, [], ◌∷◌, ◌++◌, length, replicate, refl, sym, ap, ◌∙◌, arith, inl, inr, append_assoc}
 use Rattle.std.specs.Prelude.{◌&&◌, ◌||◌, codes, map, Some, IsSome}
 use Rattle.std.specs.List.{list_all, flat_map}
 use Rattle.std.specs.Str.{str_to_ascii_lowercase}
@@ -35,17 +35,17 @@ use Rattle.stmt65.specs.Line.{filled, with_fields, plain_line, line_of}
 use Rattle.stmt65.specs.Operands.{named_text, long_text, kind_text, prefix_text, row_operands, operand_text}
 use Rattle.stmt65.specs.Printable.{IsLong, IsOperand, AreOperands, IsWrittenIn, MayBeForced, IsPrintable, MayBeLabelled}
 use Rattle.stmt65.specs.Statements.{has_bytes, bytes_text, quoted, data_text, numbers_text, alone, with_operands, return_text, distance_text, instr_fields, label_fields, definition_fields, remark_fields, fields_of}
-use Rattle.stmt65.specs.SourceLine.{Value, NumberValue, NameValue, NumberDatum, Empty, Operation, Nothing, Instr, Segment, Code, SetCpu, Assignment, PlaceAssignment, Statement}
+use Rattle.stmt65.specs.SourceLine.{NumberValue, NameValue, NumberDatum, Empty, Operation, Nothing, Instr, Segment, Code, SetCpu, Assignment, PlaceAssignment, Statement}
 use Rattle.stmt65.specs.declared.source_line.AddressSize.TheVariants.{Absolute, Automatic}
 use Rattle.stmt65.specs.declared.source_line.Minus.TheVariants.{Zero, One}
-use Rattle.stmt65.specs.Tables.{entry_len, entries, cut_text}
+use Rattle.stmt65.specs.Tables.{entries, cut_text}
 use Rattle.stmt65.specs.Parts.{Part, Word, Number, Text, Define, Mark, begins_with}
 use Rattle.stmt65.specs.Lexing.{is_word_start, is_text_byte, parts}
 use Rattle.stmt65.specs.Names.{is_name}
 use Rattle.stmt65.specs.Reading.{reading_of}
 use Rattle.stmt65.specs.Spelling.{Item, word, mark, number, string, quoted_name, value, data_list, value_list, IsValue, Spells, prefix_items, form_items, operation_items, IsSpelling}
 use Rattle.stmt65.specs.Printed.{entry_value, source_value, pattern_form, row_form, source_form, source_line, with_label, HasName, HasNamesIn, HasNames, HasLabelName}
-use Rattle.stmt65.specs.Code.Widths.{IsWordWide, AreWordWide, AreBytes, IsInWidth}
+use Rattle.stmt65.specs.Code.Widths.{IsWordWide, AreWordWide, IsInWidth}
 use Rattle.stmt65.specs.Views.{ExprView, OperandsView, TargetView, StatementView, RemarksView}
 use Rattle.stmt65.specs.Views as view
 use Rattle.stmt65.proofs.ReadIsSpelled.{at_mark, at_value, at_define, last, word_front, name_front}

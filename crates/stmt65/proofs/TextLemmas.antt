@@ -10,7 +10,7 @@ use Rattle.stmt65.proofs.EntryLaws.{entry_bytes-length}
 use Rattle.stmt65.specs.Symbols.{Definition}
 use Rattle.stmt65.specs.Coding.{Fragment, Entry, entry_or_zero, fragment_len, fragment_bytes, coding_len}
 use Rattle.stmt65.specs.Meaning.{State, initial, after, fault_of, fragments_of, next_of, bytes_of, coded, meaning_of, unless, with_front}
-use Rattle.stmt65.specs.TextLaws.{Line, lines_below, lines_of, names_of, IsFaultless, IsFirstFault, line_bytes, MeansBytes, MeansFault, StandsAtItsBytes}
+use Rattle.stmt65.specs.TextLaws.{Line, lines_below, names_of, IsFaultless, IsFirstFault, line_bytes, MeansBytes, MeansFault, StandsAtItsBytes}
 
 -- ---- lengths
 
