@@ -1,9 +1,8 @@
 -- Which of the names that cover an address is its name.
-use Rattle.std.proofs.Common.{◌≡◌, ◌∙◌, ℕ, zero, suc, ◌+◌, ◌<◌, ◌≤◌, ◌&&◌, true, false, List, length, refl, ap, sym, arith, ⊎_elim}
+use Rattle.std.proofs.Common.{◌≡◌, ◌∙◌, ℕ, zero, suc, ◌+◌, ◌<◌, ◌≤◌, ◌&&◌, true, false, List, length, refl, ap, sym, arith}
 use Rattle.std.specs.Prelude.{Option, Some, None, nat_le, nat_lt}
 use Rattle.std.proofs.lemmas.Bool.{and_parts, false≢true}
-use Rattle.std.proofs.lemmas.Bool.Decides.{eqb_tells, nat_tests}
-use Rattle.std.proofs.str.Laws.{order}
+use Rattle.std.proofs.lemmas.Bool.Decides.{nat_tests}
 use Rattle.info65.specs.NameLaws.{CoversHighest, IsHighest, OwnAddressWins}
 use Rattle.info65.specs.Names.{AreNames, blank_name, covering, covering_below, covers, name_at}
 use Rattle.info65.specs.Views.{NameView}
@@ -70,15 +69,7 @@ highest names sorted a v is =
       low = r.low;
       is = r.is;
       covers_it = ap (λ (x : NameView). covers x a) r.is ∙ r.covers_it;
-      highest = λ i here hit.
-          ⊎_elim
-          (λ before. omega (arith, own, sorted.rising i r.index blank_name before r.low))
-          (λ after.
-          ⊎_elim
-          (λ same. let at = ap (λ (k : ℕ). (name_at names k).address) same.1 in omega (arith, own, at))
-          (λ other. absurd (false≢true (sym (r.later i (omega (arith, other.1)) here) ∙ hit)))
-          (eqb_tells i r.index))
-          (order i r.index);
+      highest = λ i here hit. grind (arith, own, hit, r.low, r.later i, sorted.rising i r.index blank_name);
     }
 
 pub none_covers : (names : List NameView) (a : ℕ) → covering names a ≡ None → (i : ℕ) → i < length names → covers (name_at names i) a ≡ false
@@ -102,14 +93,8 @@ own_of names sorted i here (Some b) is =
     let w = name_at names r.index in
     let begun = (and_parts (nat_le w.address v.address) (nat_lt v.address (w.address + w.size)) r.covers_it).0 in
     let below : w.address ≤ v.address = grind (arith, nat_tests, begun) in
-    ⊎_elim
-    (λ before. absurd (false≢true (sym (r.later i before here) ∙ covers_own v.address v.size (sorted.each i blank_name here).sized)))
-    (λ after.
-    ⊎_elim
-    (λ same. ap (λ (x : NameView). Some x) (r.is ∙ ap (λ (k : ℕ). name_at names k) (sym same.1)))
-    (λ other. let rise = sorted.rising i r.index blank_name (omega (arith, other.1)) r.low in absurd (omega (arith, below, rise)))
-    (eqb_tells i r.index))
-    (order r.index i)
+    let own = covers_own v.address v.size (sorted.each i blank_name here).sized in
+    grind (arith, r.is, r.low, below, own, r.later i, sorted.rising i r.index blank_name)
 
 pub own_address_wins : OwnAddressWins
 own_address_wins names sorted i here = own_of names sorted i here (covering names (name_at names i).address) refl

@@ -9,7 +9,6 @@ use Rattle.std.proofs.lemmas.List.Elements.{All-cons, All-push, Contains-append_
 use Rattle.std.proofs.lemmas.List.Folds.{list_any_at}
 use Rattle.std.proofs.lemmas.List.Kept.{AllPairs-cons}
 use Rattle.std.proofs.lemmas.List.Quantifiers.{all_pairs_push}
-use Rattle.std.proofs.str.Laws.{order}
 use Rattle.std.proofs.lemmas.Bool.{eq-eqb, eqb-true, false≢true}
 use Rattle.std.proofs.lemmas.List.{get_or-map, get_or_default, length-map}
 use Rattle.std.proofs.lemmas.Slice.Eq.{bytes_eq-Decides}
@@ -132,17 +131,8 @@ page_passed items pages p marked off =
 -- names that are told apart by this are one name where it is the same
 same_name : {K : Type 0} (key : NameView → K) (names : List NameView) → AllPairs (λ n m. key n ≢ key m) names → (n m : NameView) → Contains names n → Contains names m → key n ≡ key m → n ≡ m
 same_name key names apart n m h k same =
-    let i : ℕ = h.0 in
-    let j : ℕ = k.0 in
-    let there : get_or names j n ≡ m = get_or_default names j n m k.1 ∙ k.2 in
-    ⊎_elim
-    (λ at. sym h.2 ∙ ap (λ (p : ℕ). get_or names p n) at.1 ∙ there)
-    (λ other.
-    ⊎_elim
-    (λ before. absurd (apart i j n (omega (arith, before, other.1)) k.1 (ap key h.2 ∙ same ∙ sym (ap key there))))
-    (λ after. absurd (apart j i n (omega (arith, after, other.1)) h.1 (ap key there ∙ sym same ∙ sym (ap key h.2))))
-    (order i j))
-    (eqb_tells i j)
+    let there : get_or names k.0 n ≡ m = get_or_default names k.0 n m k.1 ∙ k.2 in
+    grind (arith, h.1, h.2, k.1, there, same, apart h.0 k.0 n, apart k.0 h.0 n)
 
 abbrev Rising : List NameView → Type 0
 Rising names = AllPairs (λ n m. n.address < m.address) names

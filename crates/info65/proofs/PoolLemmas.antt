@@ -37,15 +37,7 @@ covering_all pool es n a is = ap (λ m. covering_below (map (entry_seen pool) es
 -- names ascend, and so do the entries
 pub entries_rise : (pool : List ℕ) (es : List Entry) → AreNames (map (entry_seen pool) es) → IsNonDecreasingBy (λ e. e.address) es
 entries_rise pool es names = IsNonDecreasingBy-from_default (λ e. e.address) es blank_entry (λ i j le high.
-    ⊎_elim
-    (λ same. omega (arith, ap (λ (k : ℕ). (get_or es k blank_entry).address) same.1))
-    (λ other.
-    let long = length-map es (entry_seen pool) in
-    let low = ap (λ (v : NameView). v.address) (seen_at pool es i blank_entry (omega (arith, le, high))) in
-    let up = ap (λ (v : NameView). v.address) (seen_at pool es j blank_entry high) in
-    let rise = names.rising i j blank_name (omega (arith, le, other.1)) (omega (arith, high, long)) in
-    omega (arith, low, up, rise))
-    (eqb_tells i j))
+    grind (arith, length-map es (entry_seen pool), seen_at pool es i blank_entry, seen_at pool es j blank_entry, names.rising i j blank_name))
 
 missed : (x y : Bool) → x ≡ false → (x && y) ≡ false
 missed x y is = grind arith

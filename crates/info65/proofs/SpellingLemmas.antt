@@ -178,10 +178,7 @@ strip_cases b xs =
 strip_end : (b : ℕ) (t : List ℕ) → strip_last b (t ++ b ∷ []) ≡ t
 strip_end b t =
     let len : length (t ++ b ∷ []) - 1 ≡ length t = omega (arith, length-append t (b ∷ [])) in
-    let some : nat_lt 0 (length (t ++ b ∷ [])) ≡ true = grind (arith, nat_tests, length-append t (b ∷ [])) in
-    let at : get_or (t ++ b ∷ []) (length (t ++ b ∷ []) - 1) 0 ≡ b = ap (λ i. get_or (t ++ b ∷ []) i 0) len ∙ get_or-append_seam t b [] 0 in
-    let hit : ends_with_byte b (t ++ b ∷ []) ≡ true = rw (some, at, same_byte b) refl in
-    stripped b (t ++ b ∷ []) hit ∙ ap (λ i. take i (t ++ b ∷ [])) len ∙ take-append_seam t (b ∷ [])
+    grind (arith, nat_tests, len, length-append t (b ∷ []), get_or-append_seam t b [] 0, take-append_seam t (b ∷ []))
 
 strip_none : (b : ℕ) (xs : List ℕ) → list_all (other b) xs ≡ true → strip_last b xs ≡ xs
 strip_none b xs h = grind (arith, nat_tests, list_all_at (other b) xs (length xs - 1) 0)
