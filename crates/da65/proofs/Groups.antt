@@ -2,7 +2,6 @@
 pub mod RoleLemmas
 pub mod GroupLemmas
 pub mod StepLemmas
-pub mod PlaceLemmas
 pub mod ShapeLemmas
 pub mod InsideLemmas
 pub mod DefinedLemmas

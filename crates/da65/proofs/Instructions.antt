@@ -1,5 +1,4 @@
 -- An instruction as text: its operands, its mode, and the bytes that the text gives.
-pub mod WrittenOps
 pub mod WrittenLaws
 pub mod ValueLaws
 pub mod WorthLaws

@@ -1,6 +1,5 @@
 -- The names of addresses: their texts, and what they stand for.
 pub mod NameTexts
 pub mod BaseLemmas
-pub mod BareLemmas
 pub mod TargetBounds
 pub mod MapNames

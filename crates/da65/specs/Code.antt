@@ -7,5 +7,4 @@ pub mod NamedCells
 pub mod Preparing
 pub mod Refusals
 pub mod SegmentReentry
-pub mod SkipRanges
 pub mod WrittenOps

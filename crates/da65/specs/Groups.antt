@@ -6,6 +6,7 @@
 use Rattle.std.specs.Prelude.{◌≡◌, ◌↔◌, ◌⊎◌, ℕ, zero, suc, ◌+◌, ◌-◌, ◌*◌, ◌%◌, ◌<◌, ◌≤◌, ◌==◌, ◌&&◌, not, Bool, true, false, List, length, take, if◌then◌else◌}
 use Rattle.std.specs.List.{filter, list_any}
 use Rattle.info65.specs.Layouts.{layout_of}
+use Rattle.info65.specs.declared.information.range.RangeSpec.{RangeSpec}
 use Rattle.info65.specs.declared.information.range.RangeType.{RangeType}
 use Rattle.info65.specs.declared.information.range.RangeType.TheVariants as role
 use Rattle.map65.specs.ImageView.{bytes_from, is_inside}
@@ -82,6 +83,10 @@ pub record IsGroupPlace (m : MapView) (k : ℕ) : Type 0 where
 -- a byte of the image is skipped
 unfoldable pub skips : MapView → Bool
 skips m = list_any (λ a. is_skip (role_of m.info a)) (addresses (length m.image.bytes) m.image.start)
+
+-- the bytes of a range are skipped
+abbrev pub is_skip_range : RangeSpec → Bool
+is_skip_range r = is_skip r.role
 
 -- ---- the law
 

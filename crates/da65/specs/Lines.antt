@@ -5,9 +5,8 @@ use Rattle.isa65.specs.declared.cpu.Cpu.{Cpu}
 use Rattle.map65.specs.MapView.{IsSoundMap, MapView}
 use Rattle.map65.specs.Roles.{is_skip, role_of}
 use Rattle.da65.specs.BaseNames.{names_of}
-use Rattle.da65.specs.Code.SkipRanges.{is_skip_range}
 use Rattle.da65.specs.Comments.{comment_at}
-use Rattle.da65.specs.Groups.{IsGroupPlace, group_bytes, group_len, groups_from}
+use Rattle.da65.specs.Groups.{IsGroupPlace, group_bytes, group_len, groups_from, is_skip_range}
 use Rattle.da65.specs.Listing.{ListingLine, assignment_line, comments, constants, ending_lines, forwards, group_line, group_lines, has_constant_line, line_text, listing, opening_lines, plain, segment_lines, statement_lines, with_empty_line}
 use Rattle.da65.specs.Marks.{has_marks}
 use Rattle.da65.specs.Segments.{segment_before}
@@ -49,9 +48,6 @@ after_group m k = ending_lines m (m.image.start + k) ++ groups_left m (k + group
 abbrev pub labelled_left : MapView → ℕ → Option (List ℕ) → List ListingLine
 labelled_left m k label = group_line label (statement_at m (m.image.start + k)) (m.image.start + k) (group_bytes m (m.image.start + k)) ∷ after_group m k
 
-abbrev pub statement_left : MapView → ℕ → List ListingLine
-statement_left m k = labelled_left m k None
-
 -- from the forward line of the address v in that group on
 unfoldable pub group_left : MapView → ℕ → ℕ → List ListingLine
 group_left m k v =
@@ -76,7 +72,7 @@ left_from (Group k) m = groups_left m k
 left_from (Segment k) m = segment_left m k
 left_from (Comment k v) m = comments_left m k v
 left_from (Forward k v) m = group_left m k v
-left_from (Statement k) m = statement_left m k
+left_from (Statement k) m = labelled_left m k None
 left_from (Ending k) m = plain view.blank ∷ groups_left m k
 
 -- the same as text

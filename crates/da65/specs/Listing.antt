@@ -52,11 +52,11 @@ comment_line None = []
 comment_line (Some text) = plain (view.remark text) ∷ []
 
 -- the comment of the name of an address, if it has one
-unfoldable pub comment_lines : MapView → ℕ → List ListingLine
+abbrev pub comment_lines : MapView → ℕ → List ListingLine
 comment_lines m a = comment_line (comment_at m a)
 
 -- of the n addresses from one on, in their order
-unfoldable pub comments : MapView → ℕ → ℕ → List ListingLine
+abbrev pub comments : MapView → ℕ → ℕ → List ListingLine
 comments m n a = flat_map (comment_lines m) (addresses n a)
 
 -- ---- constant lines
@@ -70,11 +70,11 @@ abbrev pub assignment_line : Names → ℕ → ListingLine
 assignment_line m v = plain (view.assignment (base_name m v) v)
 
 -- it stands after the comment of its name
-unfoldable pub constant_lines : MapView → ℕ → List ListingLine
+abbrev pub constant_lines : MapView → ℕ → List ListingLine
 constant_lines m v = if has_constant_line (names_of m) v then comment_lines m v ++ assignment_line (names_of m) v ∷ [] else []
 
 -- of the n addresses from one on, in their order
-unfoldable pub constants : MapView → ℕ → ℕ → List ListingLine
+abbrev pub constants : MapView → ℕ → ℕ → List ListingLine
 constants m n v = flat_map (constant_lines m) (addresses n v)
 
 -- with an empty line after the last, if there is one
@@ -92,7 +92,7 @@ separator = view.remark (replicate 76 45)
 abbrev pub has_separator : MapView → ℕ → Bool
 has_separator m a = nat_lt 0 (style_of m.info.settings).level && not (is_in_run m a)
 
-unfoldable pub separator_lines : MapView → ℕ → List ListingLine
+abbrev pub separator_lines : MapView → ℕ → List ListingLine
 separator_lines m a = if has_separator m a then plain separator ∷ [] else []
 
 -- A group enters its segment if that is not the segment of the group before it. The first group is compared with the default.
@@ -110,11 +110,11 @@ opening_lines m a = separator_lines m a ++ (segment_lines m a ++ comments m (gro
 abbrev pub forward_line : Names → ℕ → ℕ → ListingLine
 forward_line m first v = plain (view.forward (base_name m v) (v - first))
 
-unfoldable pub forward_lines : Names → ℕ → ℕ → List ListingLine
+abbrev pub forward_lines : Names → ℕ → ℕ → List ListingLine
 forward_lines m first v = if is_base m v then forward_line m first v ∷ [] else []
 
 -- of the n addresses from one on, in their order
-unfoldable pub forwards : Names → ℕ → ℕ → ℕ → List ListingLine
+abbrev pub forwards : Names → ℕ → ℕ → ℕ → List ListingLine
 forwards m first n v = flat_map (forward_lines m first) (addresses n v)
 
 -- the label of an address

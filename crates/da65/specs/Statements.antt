@@ -105,21 +105,17 @@ statement_in m t a bytes = statement_of m t a bytes (instruction_in t bytes)
 abbrev pub target_by : ℕ → Base → TargetView
 target_by a b = record { name = b.text; offset = a - b.address }
 
--- an entry by the name of its target, or as a number
-abbrev pub addr_from : List ℕ → ℕ → Option Base → StatementView
-addr_from bytes a None = view.numbers Word bytes
-addr_from bytes a (Some b) = view.addr (target_by a b)
+-- an entry in this form, by the name of its target, or as a number
+abbrev pub entry_by : (TargetView → StatementView) → List ℕ → Option TargetView → StatementView
+entry_by form bytes None = view.numbers Word bytes
+entry_by form bytes (Some t) = form t
 
 unfoldable pub address_entry : Names → List ℕ → StatementView
-address_entry m bytes = addr_from bytes (entry_of bytes) (m.base_at (entry_of bytes))
-
-abbrev pub rts_from : List ℕ → ℕ → Option Base → StatementView
-rts_from bytes a None = view.numbers Word bytes
-rts_from bytes a (Some b) = view.rts (Some (target_by a b))
+address_entry m bytes = entry_by (λ t. view.addr t) bytes (option_map (target_by (entry_of bytes)) (m.base_at (entry_of bytes)))
 
 abbrev pub rts_to : Names → List ℕ → Option ℕ → StatementView
 rts_to m bytes None = view.rts None
-rts_to m bytes (Some a) = rts_from bytes a (m.base_at a)
+rts_to m bytes (Some a) = entry_by (λ t. view.rts (Some t)) bytes (option_map (target_by a) (m.base_at a))
 
 -- the entry $FFFF leads to no address
 unfoldable pub return_entry : Names → List ℕ → StatementView

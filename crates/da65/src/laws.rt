@@ -6,12 +6,14 @@ ghost use Rattle.da65.specs.ListingRows.{WorkedListings};
 ghost use Rattle.da65.specs.ReassemblyLaw.{NamesAreSound, NamesAreDefinedOnce, ExpressionsHaveTheirValues, WrittenIsInstruction, UnwrittenIsBytes, ModeIsChosenBack, ForcedWhereNeeded, TargetIsInRange, ItemGivesItsBytes, GroupsAreGroups, GroupGivesItsBytes, ListingGivesImage, TextGivesImage};
 
 /// The worked examples have these listings.
+#[tactic(auto, using(crate::proofs::Worked::ListingRows::worked_listings))]
 pub fn worked_listings()
     ensures { WorkedListings }
 {}
 
 /// A group begins where an item begins that is of code, is left over, or is item k of its piece, counted
 /// again from each item that is defined by name, and the items of a line divide k.
+#[tactic(auto, using(crate::proofs::Groups::BeginLaws::group_law))]
 pub fn group_law()
     ensures { (m : MapView) → GroupLaw m }
 {}
@@ -23,16 +25,19 @@ pub fn groups_are_groups()
 
 /// No two bases of a map share a text, each lies in the address space, and none after the address that it
 /// is for.
+#[tactic(auto, using(crate::proofs::Names::MapNames::names_are_sound))]
 pub fn names_are_sound()
     ensures { NamesAreSound }
 {}
 
 /// Each base is defined in the listing exactly once, and its value is its address.
+#[tactic(auto, using(crate::proofs::Blocks::WholeBlock::names_are_defined_once))]
 pub fn names_are_defined_once()
     ensures { NamesAreDefinedOnce }
 {}
 
 /// Each expression has the address or the word that it stands for.
+#[tactic(auto, using(crate::proofs::Instructions::ValueLaws::expressions_have_their_values))]
 pub fn expressions_have_their_values()
     ensures { ExpressionsHaveTheirValues }
 {}
@@ -48,6 +53,7 @@ pub fn unwritten_is_bytes()
 {}
 
 /// Each instruction is coded in the mode that it was decoded from.
+#[tactic(auto, using(crate::proofs::Statements::GroupStands::mode_is_chosen_back))]
 pub fn mode_is_chosen_back()
     ensures { ModeIsChosenBack }
 {}
@@ -75,11 +81,13 @@ pub fn group_gives_its_bytes()
 
 /// The statements of the listing of an image without skipped bytes, assembled from the image's start, give the
 /// image's bytes.
+#[tactic(auto, using(crate::proofs::Blocks::WholeBlock::listing_gives_image))]
 pub fn listing_gives_image()
     ensures { ListingGivesImage }
 {}
 
 /// The text of such a listing, assembled from the image's start, gives the image's bytes.
+#[tactic(auto, using(crate::proofs::Blocks::TextLaws::text_gives_image))]
 pub fn text_gives_image()
     ensures { TextGivesImage }
 {}

@@ -1,5 +1,6 @@
 -- What holds of each of some lines, and of the lines that stand beside those of names and bytes.
 use Rattle.std.proofs.Common.{◌≡◌, ℕ, Bool, true, List, ◌∷◌, ◌++◌, Option, Some, None, refl, []}
+pub use Rattle.std.specs.List.{AllByRecursion as Each}
 use Rattle.std.specs.List.{filter, flat_map}
 use Rattle.std.proofs.lemmas.Bool.{cond_both}
 use Rattle.stmt65.specs.Views as view
@@ -8,14 +9,10 @@ use Rattle.map65.specs.Segments.{segment_at}
 use Rattle.map65.specs.Spans.{addresses}
 use Rattle.da65.specs.Comments.{comment_at}
 use Rattle.da65.specs.Groups.{group_len}
-use Rattle.da65.specs.Listing.{ListingLine, comment_line, comment_lines, comments, ending_lines, has_empty_line, has_separator, opening_lines, plain, segment_lines, separator, separator_lines}
+use Rattle.da65.specs.Listing.{ListingLine, comment_line, comment_lines, ending_lines, has_empty_line, has_separator, opening_lines, plain, segment_lines, separator, separator_lines}
 use Rattle.da65.specs.Segments.{segment_statement}
 use Rattle.da65.specs.Statements.{statement_at}
 use Rattle.da65.specs.Style.{style_of}
-
-abbrev pub Each : (ListingLine → Type 0) → List ListingLine → Type 0
-Each P [] = Unit {0}
-Each P (l ∷ ls) = P l × Each P ls
 
 pub each_append : (P : ListingLine → Type 0) (xs ys : List ListingLine) → Each P xs → Each P ys → Each P (xs ++ ys)
 each_append P [] ys h g = g
@@ -41,7 +38,6 @@ pub record HoldsBeside (m : MapView) (P : ListingLine → Type 0) : Type 0 where
 
 module _ (m : MapView) (P : ListingLine → Type 0) (h : HoldsBeside m P) where
   pub each_comment : (a : ℕ) → Each P (comment_lines m a)
-  unfolding comment_lines
   each_comment a = go (comment_at m a) refl
     where
       go : (o : Option (List ℕ)) → comment_at m a ≡ o → Each P (comment_line o)
@@ -49,7 +45,7 @@ module _ (m : MapView) (P : ListingLine → Type 0) (h : HoldsBeside m P) where
       go (Some text) e = (h.comment a text e, tt)
 
   pub each_opening : (a : ℕ) → Each P (opening_lines m a)
-  unfolding opening_lines separator_lines segment_lines comments
+  unfolding opening_lines segment_lines
   each_opening a =
       each_append P (separator_lines m a) _ (cond_both (has_separator m a) (plain separator ∷ []) [] (Each P) (λ _. (h.separates, tt)) (λ _. tt))
       (each_append P (segment_lines m a) _ (cond_both _ [] (plain (segment_statement (segment_at m a)) ∷ []) (Each P) (λ _. tt) (λ _. (h.enters a, tt)))

@@ -1,18 +1,19 @@
 -- Which names the lines above define: one fact for each base, both ways.
-use Rattle.std.proofs.Common.{◌≡◌, ℕ, Bool, true, false, cond, eqb, List, ◌∷◌, ◌++◌, Option, Some, None, refl, sym, ap, ◌∙◌, []}
+use Rattle.std.proofs.Common.{◌≡◌, ℕ, Bool, true, false, cond, eqb, List, ◌∷◌, ◌++◌, Option, Some, None, refl, ap, ◌∙◌, []}
 use Rattle.std.specs.Prelude.{◌||◌}
 use Rattle.std.specs.Str.{bytes_eq}
 use Rattle.std.proofs.lemmas.Slice.Eq.{bytes_eq-Decides}
-use Rattle.std.proofs.lemmas.Bool.{eqb-true, eq-eqb, ne_eqb}
+use Rattle.std.proofs.lemmas.Bool.{eqb-true, eq-eqb}
+use Rattle.std.proofs.lemmas.Bool.Decides.{same_from_decides}
 use Rattle.std.proofs.lemmas.List.Elements.{filter-append}
 use Rattle.stmt65.specs.Symbols.{Definition, find_name}
 use Rattle.map65.specs.ImageView.{ImageView}
 use Rattle.da65.specs.BaseNames.{AreSound, Names, base_name, is_base}
-use Rattle.da65.specs.KnownNames.{Knows, KnowsAll, definition_of, definitions_of}
+use Rattle.da65.specs.KnownNames.{Knows, definition_of, definitions_of}
 
 -- ---- the first definition
 
-abbrev first_of : List Definition → Option Definition
+abbrev pub first_of : List Definition → Option Definition
 first_of [] = None
 first_of (d ∷ ds) = Some d
 
@@ -28,11 +29,9 @@ first-is w (d ∷ ds) = elim (bytes_eq d.name w) as (λ t. cond t (Some d) (find
 
 -- the names of two bases are one where the bases are
 name-test : (image : ImageView) (m : Names) (u v : ℕ) → AreSound image m → is_base m u ≡ true → is_base m v ≡ true → bytes_eq (base_name m u) (base_name m v) ≡ eqb u v
-name-test image m u v names hu hv = go (bytes_eq (base_name m u) (base_name m v)) refl
-  where
-    go : (t : Bool) → bytes_eq (base_name m u) (base_name m v) ≡ t → bytes_eq (base_name m u) (base_name m v) ≡ eqb u v
-    go true e = e ∙ sym (eq-eqb u v (names.distinct u v hu hv ((bytes_eq-Decides (base_name m u) (base_name m v)).0 e)))
-    go false e = e ∙ sym (ne_eqb u v (λ h. let k = (bytes_eq-Decides (base_name m u) (base_name m v)).1 (ap (base_name m) h) in absurd cc))
+name-test image m u v names hu hv =
+    same_from_decides (bytes_eq (base_name m u) (base_name m v)) (eqb u v) (bytes_eq-Decides (base_name m u) (base_name m v))
+    (λ e. ap (base_name m) (eqb-true u v e), λ same. eq-eqb u v (names.distinct u v hu hv same))
 
 pub knows_nothing : (m : Names) → Knows m (λ v. false) []
 knows_nothing m = record { found = λ v h. refl }
@@ -57,12 +56,6 @@ knows_more image m p ds u names k hu new = record {
     joined v false true known e = ap (λ (w : ℕ). definition_of m w ∷ []) (eqb-true u v e)
     joined v false false known e = refl
 
--- a base that passes the test is found, and one that does not is not
-pub knows_there : (m : Names) (p : ℕ → Bool) (ds : List Definition) (v : ℕ) → Knows m p ds → is_base m v ≡ true → p v ≡ true → find_name (base_name m v) ds ≡ Some (definition_of m v)
-knows_there m p ds v k h passes = first-is (base_name m v) ds ∙ ap first_of (k.found v h) ∙ ap (λ (t : Bool). first_of (cond t (definition_of m v ∷ []) [])) passes
-
-pub knows_not : (m : Names) (p : ℕ → Bool) (ds : List Definition) (v : ℕ) → Knows m p ds → is_base m v ≡ true → p v ≡ false → find_name (base_name m v) ds ≡ None
-knows_not m p ds v k h fails = first-is (base_name m v) ds ∙ ap first_of (k.found v h) ∙ ap (λ (t : Bool). first_of (cond t (definition_of m v ∷ []) [])) fails
-
-pub knows_all : (m : Names) (all : List Definition) (v : ℕ) → KnowsAll m all → is_base m v ≡ true → find_name (base_name m v) all ≡ Some (definition_of m v)
-knows_all m all v k h = knows_there m (λ v. true) all v k h refl
+-- what is found of a base, if it passes the test or not
+pub knows_found : (m : Names) (p : ℕ → Bool) (ds : List Definition) (v : ℕ) (t : Bool) → Knows m p ds → is_base m v ≡ true → p v ≡ t → find_name (base_name m v) ds ≡ first_of (cond t (definition_of m v ∷ []) [])
+knows_found m p ds v t k h is = first-is (base_name m v) ds ∙ ap first_of (k.found v h) ∙ ap (λ (t : Bool). first_of (cond t (definition_of m v ∷ []) [])) is

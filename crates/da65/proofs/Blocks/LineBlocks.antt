@@ -21,7 +21,7 @@ use Rattle.da65.specs.KnownNames.{Knows, KnowsAll, definition_of}
 use Rattle.da65.specs.Listing.{ListingLine, plain, separator, with_empty_line}
 use Rattle.da65.specs.Segments.{segment_statement}
 use Rattle.da65.proofs.Blocks.EachLine.{Each, HoldsBeside}
-use Rattle.da65.proofs.Blocks.Knowledge.{knows_more, knows_not}
+use Rattle.da65.proofs.Blocks.Knowledge.{knows_found, knows_more}
 use Rattle.da65.proofs.Blocks.LineLaws.{Gives, Point, gives_append, gives_none, point, state}
 use Rattle.da65.proofs.Statements.FragmentLaws.{no_fragments}
 use Rattle.da65.proofs.Statements.StandsLaws.{Stands, StandsTo, after_is, bytes_are, no_fault}
@@ -74,7 +74,7 @@ base_gives image m p l source bytes at u names says stands base new e next room 
     line_gives m p l source bytes at p.cpu _ says stands
     (λ above known. record {
       known = rw e (knows_more image m p.knows above u names known base new);
-      new = rw (e, knows_not m p.knows above u known base new) refl;
+      new = rw (e, knows_found m p.knows above u false known base new) refl;
       in_space = rw (e, le-ltb 65535 u (omega arith)) refl;
     })
     next room

@@ -1,7 +1,8 @@
 -- The lines of constants, and the forward lines of groups.
 use Rattle.std.proofs.Common.{◌≡◌, ℕ, zero, suc, Bool, true, false, eqb, ◌+◌, ◌-◌, ◌<◌, ◌≤◌, ◌∷◌, ◌++◌, refl, ap, ◌∙◌, arith, []}
 use Rattle.std.specs.Prelude.{◌||◌, ◌&&◌, nat_lt, if◌then◌else◌}
-use Rattle.std.proofs.lemmas.Bool.{and_parts, eqb-true, le-ltb, le-leb, lt-ltb}
+use Rattle.std.proofs.Math.Bool.{or-false}
+use Rattle.std.proofs.lemmas.Bool.{and_parts, eqb-true, false_from_ne_true, le-ltb, le-leb, lt-ltb}
 use Rattle.std.proofs.lemmas.Bool.Decides.{nat_tests}
 use Rattle.isa65.specs.declared.cpu.Cpu.{Cpu}
 use Rattle.stmt65.specs.SourceLine.{Assignment, PlaceAssignment}
@@ -43,11 +44,7 @@ constants_step m k v h = go (eqb k v) refl
         let same : k ≡ v = eqb-true k v e in
         let h' : m.has_constant v ≡ true = rw (← same) h in
         rw (e, h', ← same, lt-ltb k (k + 1) (omega arith), le-ltb k k (omega arith)) refl
-    go false e = rw (e, ← apart k v e) (plus (constants_to m k v))
-      where
-        plus : (t : Bool) → (t || false) ≡ t
-        plus true = refl
-        plus false = refl
+    go false e = rw (e, ← apart k v e) (or-false (constants_to m k v))
 
 constants_skip : (m : Names) (k v : ℕ) → has_constant_line m k ≡ false → is_base m v ≡ true → constants_to m k v ≡ constants_to m (k + 1) v
 constants_skip m k v h b = go (eqb k v) refl
@@ -71,11 +68,7 @@ forwards_step : (m : Names) (at u v : ℕ) → at < u → (forwards_to m at u v 
 forwards_step m at u v h = grind (arith, nat_tests)
 
 forwards_skip : (m : Names) (at u v : ℕ) → is_base m u ≡ false → is_base m v ≡ true → forwards_to m at u v ≡ forwards_to m at (u + 1) v
-forwards_skip m at u v h b = ap (λ (t : Bool). m.has_constant v || (nat_lt v at || (nat_lt at v && t))) (apart u v (go (eqb u v) refl))
-  where
-    go : (t : Bool) → eqb u v ≡ t → eqb u v ≡ false
-    go true e = let base : is_base m u ≡ true = rw (eqb-true u v e) b in absurd cc
-    go false e = e
+forwards_skip m at u v h b = ap (λ (t : Bool). m.has_constant v || (nat_lt v at || (nat_lt at v && t))) (apart u v (false_from_ne_true (eqb u v) (λ e. let base : is_base m u ≡ true = rw (eqb-true u v e) b in absurd cc)))
 
 forwards_new : (m : Names) (at u : ℕ) → m.has_constant u ≡ false → at < u → forwards_to m at u u ≡ false
 forwards_new m at u out low = rw (out, le-ltb u at (omega arith), le-ltb u u (omega arith), lt-ltb at u low) refl
@@ -87,7 +80,7 @@ module _ (m : MapView) (names : AreSound m.image (names_of m)) (at : ℕ) (room 
   n = names_of m
 
   constant_gives : (v : ℕ) → Gives n (point at cpu (constants_to n v)) (constant_lines m v) [] (point at cpu (constants_to n (v + 1)))
-  unfolding constant_lines defined_by
+  unfolding defined_by
   constant_gives v = go (has_constant_line n v) refl
     where
       go : (t : Bool) → has_constant_line n v ≡ t → Gives n (point at cpu (constants_to n v)) (if t then comment_lines m v ++ assignment_line n v ∷ [] else []) [] (point at cpu (constants_to n (v + 1)))
@@ -101,14 +94,14 @@ module _ (m : MapView) (names : AreSound m.image (names_of m)) (at : ℕ) (room 
       go false is = gives_from (constants_to n v) (λ w b. constants_skip n v w is b) (gives_none n (point at cpu (constants_to n (v + 1))))
 
   pub constants_give : (count v : ℕ) → Gives n (point at cpu (constants_to n v)) (constants m count v) [] (point at cpu (constants_to n (v + count)))
-  unfolding constants addresses
+  unfolding addresses
   constants_give zero v = let z : v + 0 ≡ v = omega arith in rw z (gives_none n (point at cpu (constants_to n v)))
   constants_give (suc count) v =
       let next : v + 1 + count ≡ v + suc count = omega arith in
       rw (← next) (gives_append (constant_lines m v) (constants m count (v + 1)) (constant_gives v) (constants_give count (v + 1)))
 
   forward_gives : (u : ℕ) → m.image.start ≤ at → at < u → u < end_of m.image → Gives n (point at cpu (forwards_to n at u)) (forward_lines n at u) [] (point at cpu (forwards_to n at (u + 1)))
-  unfolding forward_lines defined_by
+  unfolding defined_by
   forward_gives u low up high = go (is_base n u) refl
     where
       go : (t : Bool) → is_base n u ≡ t → Gives n (point at cpu (forwards_to n at u)) (if t then forward_line n at u ∷ [] else []) [] (point at cpu (forwards_to n at (u + 1)))
@@ -121,7 +114,7 @@ module _ (m : MapView) (names : AreSound m.image (names_of m)) (at : ℕ) (room 
       go false none = gives_from (forwards_to n at u) (λ v b. forwards_skip n at u v none b) (gives_none n (point at cpu (forwards_to n at (u + 1))))
 
   pub forwards_give : (count u : ℕ) → m.image.start ≤ at → at < u → u + count ≤ end_of m.image → Gives n (point at cpu (forwards_to n at u)) (forwards n at count u) [] (point at cpu (forwards_to n at (u + count)))
-  unfolding forwards addresses
+  unfolding addresses
   forwards_give zero u low up high = let z : u + 0 ≡ u = omega arith in rw z (gives_none n (point at cpu (forwards_to n at u)))
   forwards_give (suc count) u low up high =
       let next : u + 1 + count ≡ u + suc count = omega arith in

@@ -35,7 +35,7 @@ use Rattle.da65.proofs.Groups.DefinedLemmas.{Defined, defined-base}
 use Rattle.da65.proofs.Statements.LabelLaws.{group_takes}
 use Rattle.da65.proofs.Blocks.WholeBlock.{listing_gives_image}
 use Rattle.da65.proofs.Names.NameTexts.{IsNameText, base-text}
-use Rattle.da65.proofs.Statements.PrintLaws.{CanPrint, HaveTexts, StatementPrints, group_prints, prints}
+use Rattle.da65.proofs.Statements.PrintLaws.{CanPrint, StatementPrints, prints, statement_prints}
 use Rattle.da65.proofs.Groups.ShapeLemmas.{groups_are_groups}
 use Rattle.da65.proofs.Names.TargetBounds.{base-small}
 
@@ -92,9 +92,6 @@ module _ (m : MapView) (placed : IsPlaced m.image) (are : AreBytes m.image.bytes
   abbrev style : Style
   style = style_of m.info.settings
 
-  have_texts : HaveTexts (names_of m)
-  have_texts = record { texts = λ a b e. base-text m a b names e }
-
   -- the text of a base, and where it lies
   base_is : (v : ℕ) → is_base (names_of m) v ≡ true → IsNameText (base_name (names_of m) v) × (v < 65536)
   base_is v is =
@@ -115,7 +112,6 @@ module _ (m : MapView) (placed : IsPlaced m.image) (are : AreBytes m.image.bytes
   }
 
   constant_prints : (v : ℕ) → Each (CanPrint style) (constant_lines m v)
-  unfolding constant_lines
   constant_prints v =
       cond_both (has_constant_line (names_of m) v) (comment_lines m v ++ assignment_line (names_of m) v ∷ []) [] (Each (CanPrint style))
       (λ is.
@@ -125,7 +121,6 @@ module _ (m : MapView) (placed : IsPlaced m.image) (are : AreBytes m.image.bytes
       (λ _. tt)
 
   forward_prints : (first v : ℕ) → Each (CanPrint style) (forward_lines (names_of m) first v)
-  unfolding forward_lines
   forward_prints first v =
       cond_both (is_base (names_of m) v) (plain (view.forward (base_name (names_of m) v) (v - first)) ∷ []) [] (Each (CanPrint style))
       (λ is.
@@ -137,12 +132,10 @@ module _ (m : MapView) (placed : IsPlaced m.image) (are : AreBytes m.image.bytes
   label_text a = cond_both (is_base (names_of m) a) (Some (base_name (names_of m) a)) None (λ o. IfSome o IsNameText) (λ is. (base_is a is).0) (λ _. tt)
 
   group_print : (a : ℕ) → begins m a ≡ true → Each (CanPrint style) (group_lines m a)
-  unfolding group_lines statement_lines forwards
+  unfolding group_lines statement_lines
   group_print a is =
       let group = groups_are_groups m a is in
-      let statement : StatementPrints (statement_at m a) =
-      group_prints (names_of m) have_texts (opcodes m) (role_of m.info a) a (group_bytes m a) (All-take (λ b. b < 256) (group_len m a) (bytes_from m.image a) (All-drop (λ b. b < 256) (a - m.image.start) m.image.bytes are))
-      group.some (omega (arith, group.long, group.room, placed.room)) group.of in
+      let statement = statement_prints m a names placed (All-take (λ b. b < 256) (group_len m a) (bytes_from m.image a) (All-drop (λ b. b < 256) (a - m.image.start) m.image.bytes are)) is in
       each_append (CanPrint style) (opening_lines m a) _ (each_opening m (CanPrint style) beside_prints a)
       (each_append (CanPrint style) (forwards (names_of m) a (group_len m a - 1) (a + 1)) _ (each_flat (CanPrint style) (forward_lines (names_of m) a) (forward_prints a) (addresses (group_len m a - 1) (a + 1)))
       (each_append (CanPrint style) (labelled style.columns (label_at (names_of m) a) (statement_at m a) a (group_bytes m a)) (ending_lines m a)
@@ -154,7 +147,7 @@ module _ (m : MapView) (placed : IsPlaced m.image) (are : AreBytes m.image.bytes
   groups_print = each_filtered (CanPrint style) (group_lines m) (begins m) group_print (addresses (length m.image.bytes) m.image.start)
 
   below_prints : (limit : ℕ) → Each (CanPrint style) (listing_below limit m)
-  unfolding listing_below constants
+  unfolding listing_below
   below_prints limit =
       let title : CanPrint style (plain (view.remark (codes "da65 listing"))) = remark_prints style (codes "da65 listing") (omega arith, refl) in
       let set_cpu : CanPrint style (plain (view.set_cpu m.info.settings.cpu)) = plain_prints style (view.set_cpu m.info.settings.cpu) (record { printable = tt; width = tt; names = tt }) in

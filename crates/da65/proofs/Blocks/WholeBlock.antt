@@ -1,7 +1,8 @@
 -- A listing, from its first line to its last.
-use Rattle.std.proofs.Common.{◌≡◌, ℕ, Bool, true, false, ◌+◌, ◌<◌, ◌≤◌, ◌∷◌, length, refl, arith, []}
+use Rattle.std.proofs.Common.{◌≡◌, ℕ, true, false, ◌+◌, ◌<◌, ◌≤◌, ◌∷◌, length, sym, arith, []}
 use Rattle.std.specs.Prelude.{◌||◌, ◌&&◌, not, nat_lt, nat_le, codes}
 use Rattle.std.specs.List.{flat_map}
+use Rattle.std.proofs.Math.Bool.{and-false}
 use Rattle.std.proofs.lemmas.Bool.{le-ltb}
 use Rattle.std.proofs.lemmas.Bool.Decides.{nat_tests}
 use Rattle.isa65.specs.declared.cpu.Cpu.{Cpu}
@@ -24,11 +25,7 @@ use Rattle.da65.proofs.Groups.GroupLemmas.{first_place, groups-first}
 use Rattle.da65.proofs.Names.MapNames.{names_are_sound}
 
 no-constants : (m : Names) (v : ℕ) → false ≡ constants_to m 0 v
-no-constants m v = rw (le-ltb v 0 (omega arith)) (none (m.has_constant v))
-  where
-    none : (t : Bool) → false ≡ (t && false)
-    none true = refl
-    none false = refl
+no-constants m v = rw (le-ltb v 0 (omega arith)) (sym (and-false (m.has_constant v)))
 
 -- below all constants those of the addresses before the image are known, since all bases there are constants
 all-constants : (image : ImageView) (m : Names) (v n : ℕ) → AreSound image m → is_base m v ≡ true → v < n → constants_to m n v ≡ names_to m image.start v
@@ -38,11 +35,7 @@ all-constants image m v n names base h = rw (names.constants v base) (below-all 
     below-all h = grind (arith, nat_tests)
 
 all-names : (image : ImageView) (m : Names) (v : ℕ) → AreSound image m → is_base m v ≡ true → names_to m (end_of image) v ≡ true
-all-names image m v names base = rw (names.constants v base) (any (nat_le image.start v) (nat_lt v (end_of image)))
-  where
-    any : (t u : Bool) → (not (t && u) || u) ≡ true
-    any true true = refl
-    any _ _ = refl
+all-names image m v names base = rw (names.constants v base) (grind (arith, nat_tests))
 
 module _ (m : MapView) (placed : IsPlaced m.image) (are : AreBytes m.image.bytes) (known : given.AreNames m.info.names) (none : skips m ≡ false) where
   abbrev n : Names

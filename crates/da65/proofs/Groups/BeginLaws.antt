@@ -1,6 +1,6 @@
 -- Where groups begin, in terms of items and pieces.
 use Rattle.std.proofs.Common.{◌≡◌, ◌∙◌, ◌⊎◌, inl, inr, ℕ, suc, ◌+◌, ◌-◌, ◌*◌, ◌%◌, ◌<◌, Bool, true, false, length, refl, sym, ap, subst, arith, ⊎_elim}
-use Rattle.std.proofs.lemmas.Bool.{cases_eq, eq-eqb, eqb-true, true≢false}
+use Rattle.std.proofs.lemmas.Bool.{cond-false, cond-true, cases_eq, eq-eqb, eqb-true, true≢false}
 use Rattle.info65.specs.declared.information.range.RangeType.{RangeType}
 use Rattle.info65.specs.declared.information.range.RangeType.TheVariants as role
 use Rattle.map65.specs.Items.{item_len, size_at}
@@ -14,7 +14,7 @@ use Rattle.da65.proofs.Groups.DefinedLemmas.{IsTable, group-unnamed}
 use Rattle.da65.proofs.Groups.GroupLemmas.{begins-true, group-begun, holder, item-begins, item-goes-on, place-of, stride-group, stride-skip}
 use Rattle.da65.proofs.Groups.InsideLemmas.{Further, group-piece, item-inside}
 use Rattle.da65.proofs.Groups.PieceLines.{each-full, further-item, not-full, one-count}
-use Rattle.da65.proofs.Groups.ShapeLemmas.{limit-code, limit-other, limit-whole}
+use Rattle.da65.proofs.Groups.ShapeLemmas.{limit-code}
 
 -- a byte that is left over, or item k of its piece, where the items of a line divide k
 abbrev pub BeginsTable : MapView → ℕ → RangeType → Type 0
@@ -86,10 +86,10 @@ module _ (m : MapView) (p k : ℕ) (h : IsPast m p k) (r : RangeType) (role-is :
   no-table table (inr own) = go (is_whole m a) refl
     where
       go : (t : Bool) → is_whole m a ≡ t → ⊥
-      go false is = no-code (limit-other m a is)
+      go false is = no-code (cond-false (is_whole m a) _ _ is)
       go true is =
           let unit : item_len m a ≡ unit_of r = eqb-true (item_len m a) (unit_of (role_of m.info a)) is ∙ ap unit_of role-a in
-          let limit : limit_at m a ≡ limit_of r = limit-whole m a is ∙ ap limit_of role-a in
+          let limit : limit_at m a ≡ limit_of r = cond-true (is_whole m a) _ _ is ∙ ap limit_of role-a in
           let line = each-full m r table p h.here inside role-a is in
           let i : ℕ = suc further.count in
           let step : i * unit_of r ≡ further.count * unit_of r + unit_of r = omega arith in

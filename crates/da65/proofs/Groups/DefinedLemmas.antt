@@ -1,6 +1,6 @@
 -- Which addresses of a group are defined by name.
 use Rattle.std.proofs.Common.{◌≡◌, ◌∙◌, inl, inr, ℕ, ◌+◌, ◌-◌, ◌<◌, Bool, true, false, length, Option, Some, None, refl, sym, ap, subst, arith}
-use Rattle.std.proofs.lemmas.Bool.{eqb-true, true≢false}
+use Rattle.std.proofs.lemmas.Bool.{eqb-true, false_from_ne_true, true≢false}
 use Rattle.info65.specs.declared.information.range.RangeType.{RangeType}
 use Rattle.info65.specs.declared.information.range.RangeType.TheVariants as role
 use Rattle.map65.specs.Bases.{IsInCode, IsOutside, LiesBy}
@@ -43,7 +43,7 @@ pub record IsTable (m : MapView) (r : RangeType) : Type 0 where
 -- after its first byte no address of a group of a table is defined by name
 pub group-unnamed : (m : MapView) (r : RangeType) (p x : ℕ) → IsGroupPlace m p → p < length m.image.bytes → is_skip (role_of m.info (m.image.start + p)) ≡ false → role_of m.info (m.image.start + p) ≡ r → IsTable m r
     → m.image.start + p < x → x < m.image.start + p + group_len m (m.image.start + p) → is_defined m x ≡ false
-group-unnamed m r p x here inside shown role-is table low high = go (is_defined m x) refl
+group-unnamed m r p x here inside shown role-is table low high = false_from_ne_true (is_defined m x) none
   where
     a : ℕ
     a = m.image.start + p
@@ -86,7 +86,3 @@ group-unnamed m r p x here inside shown role-is table low high = go (is_defined 
     none named =
         let d = defined-base m x named in
         lies (place_of m x) (subst (λ (y : ℕ). LiesBy (place_of m y) m y) d.own (place_law m x d.base d.is)) named
-
-    go : (t : Bool) → is_defined m x ≡ t → is_defined m x ≡ false
-    go false e = e
-    go true e = absurd (none e)

@@ -1,6 +1,6 @@
 -- Groups, byte by byte.
 use Rattle.std.proofs.Common.{◌≡◌, ◌≢◌, ◌∙◌, ℕ, zero, suc, ◌+◌, ◌-◌, ◌<◌, ◌≤◌, ◌&&◌, ◌==◌, nat_le, nat_lt, not, Bool, true, false, List, ◌∷◌, length, refl, ap, sym, subst, arith, ⊎_elim, if◌then◌else◌, []}
-use Rattle.std.proofs.lemmas.Bool.{and_parts, and_from, cond-true, cond-false, cases_eq, cases_lt, eq-eqb, ne_eqb, eqb-true, ltb-true, leb-true, not-true}
+use Rattle.std.proofs.lemmas.Bool.{and_parts, and_from, and_right, cond-true, cond-false, cases_eq, cases_lt, eq-eqb, ne_eqb, eqb-true, ltb-true, leb-true, not-true}
 use Rattle.info65.proofs.Public.{layout_some}
 use Rattle.map65.specs.ImageView.{end_of, is_inside}
 use Rattle.map65.specs.Items.{item_len, size_at}
@@ -151,12 +151,7 @@ pub begins-skip : (m : MapView) (k : ℕ) → k < length m.image.bytes → is_sk
 begins-skip m k low skip = begins-index m k ∙ rw (inside-index m k low, skip) refl
 
 pub begins-inside : (m : MapView) (k : ℕ) → k < length m.image.bytes → left_at (stride_at m) m.image.start k ≢ 0 → begins m (m.image.start + k) ≡ false
-begins-inside m k low some = begins-index m k ∙ rw (ne_eqb (left_at (stride_at m) m.image.start k) 0 some) (and-false (is_inside m.image (m.image.start + k)) (not (is_skip (role_of m.info (m.image.start + k)))))
-  where
-    and-false : (s t : Bool) → (s && (t && false)) ≡ false
-    and-false true true = refl
-    and-false true false = refl
-    and-false false t = refl
+begins-inside m k low some = begins-index m k ∙ and_right _ _ (and_right _ _ (ne_eqb (left_at (stride_at m) m.image.start k) 0 some))
 
 -- ---- the groups that are left
 
@@ -167,12 +162,6 @@ groups-step m k low =
     let next : m.image.start + k + 1 ≡ m.image.start + (k + 1) = omega arith in
     rw (more, next) refl
 
-groups-yes : (m : MapView) (k : ℕ) → k < length m.image.bytes → begins m (m.image.start + k) ≡ true → groups_from m k ≡ (m.image.start + k) ∷ groups_from m (k + 1)
-groups-yes m k low is = groups-step m k low ∙ cond-true _ _ _ is
-
-groups-no : (m : MapView) (k : ℕ) → k < length m.image.bytes → begins m (m.image.start + k) ≡ false → groups_from m k ≡ groups_from m (k + 1)
-groups-no m k low is = groups-step m k low ∙ cond-false _ _ _ is
-
 -- no group begins before the one that is under way ends
 groups-pass : (m : MapView) (n k : ℕ) → left_at (stride_at m) m.image.start k ≡ n → k + n ≤ length m.image.bytes → groups_from m k ≡ groups_from m (k + n)
 groups-pass m zero k is low = let place : k ≡ k + 0 = omega arith in ap (groups_from m) place
@@ -182,7 +171,7 @@ groups-pass m (suc n) k is low =
     let left : left_at (stride_at m) m.image.start (k + 1) ≡ n = ap (left_at (stride_at m) m.image.start) next ∙ left-going (stride_at m) m.image.start k some ∙ omega (arith, is) in
     let place : k + 1 + n ≡ k + suc n = omega arith in
     let inside : k < length m.image.bytes = omega (arith, low) in
-    groups-no m k inside (begins-inside m k inside some) ∙ groups-pass m n (k + 1) left (omega (arith, low)) ∙ ap (groups_from m) place
+    groups-step m k inside ∙ cond-false _ _ _ (begins-inside m k inside some) ∙ groups-pass m n (k + 1) left (omega (arith, low)) ∙ ap (groups_from m) place
 
 -- the groups of the whole image
 pub groups-first : (m : MapView) → group_addresses m ≡ groups_from m 0
@@ -198,7 +187,7 @@ groups-end m k end = let none : length m.image.bytes - k ≡ 0 = omega (arith, e
 
 -- a skipped byte is passed over
 pub groups-skip : (m : MapView) (k : ℕ) → IsGroupPlace m k → k < length m.image.bytes → is_skip (role_of m.info (m.image.start + k)) ≡ true → groups_from m k ≡ groups_from m (k + 1)
-groups-skip m k here low skip = groups-no m k low (begins-skip m k low skip)
+groups-skip m k here low skip = groups-step m k low ∙ cond-false _ _ _ (begins-skip m k low skip)
 
 -- the group of the k-th byte, and those after it
 pub groups-next : (m : MapView) (k : ℕ) → IsGroupPlace m k → k < length m.image.bytes → is_skip (role_of m.info (m.image.start + k)) ≡ false
@@ -211,7 +200,7 @@ groups-next m k here low shown =
     let left : left_at (stride_at m) m.image.start (k + 1) ≡ len - 1 =
     ap (left_at (stride_at m) m.image.start) next ∙ left-begun (stride_at m) m.image.start k here.group ∙ ap (λ (n : ℕ). n - 1) (stride-group m (m.image.start + k) shown) in
     let place : k + 1 + (len - 1) ≡ k + len = omega (arith, some) in
-    groups-yes m k low (begins-true m k low shown here.group) ∙ ap (λ (rest : List ℕ). (m.image.start + k) ∷ rest) (groups-pass m (len - 1) (k + 1) left (omega (arith, some, fits)) ∙ ap (groups_from m) place)
+    groups-step m k low ∙ cond-true _ _ _ (begins-true m k low shown here.group) ∙ ap (λ (rest : List ℕ). (m.image.start + k) ∷ rest) (groups-pass m (len - 1) (k + 1) left (omega (arith, some, fits)) ∙ ap (groups_from m) place)
 
 -- ---- a group begins at a place alone
 

@@ -1,7 +1,7 @@
 -- The lines of a table: a group begins with each so-manieth item of its piece.
 use Rattle.std.proofs.Common.{◌≡◌, ◌∙◌, inl, inr, ℕ, suc, ◌+◌, ◌-◌, ◌*◌, ◌/◌, ◌%◌, ◌<◌, ◌≤◌, not, Bool, true, false, length, refl, sym, ap, arith, ⊎_elim}
 use Rattle.std.proofs.Math.Nat.{add-mod_right, add-mul, mod-add-mod, mod-eq_of_lt, mul-div_cancel}
-use Rattle.std.proofs.lemmas.Bool.{and_from, cases_eq, cases_lt, eq-eqb, eqb-true, true≢false}
+use Rattle.std.proofs.lemmas.Bool.{and_from, cond-false, cond-true, cases_eq, cases_lt, eq-eqb, eqb-true, true≢false}
 use Rattle.info65.proofs.Public.{layout_line, layout_some}
 use Rattle.info65.specs.declared.information.range.RangeType.{RangeType}
 use Rattle.map65.specs.Items.{item_len, size_at, full_len_at}
@@ -13,9 +13,8 @@ use Rattle.da65.specs.Groups.{IsGroupPlace, IsItemOf, IsStart, goes_on, group_le
 use Rattle.da65.proofs.Groups.GroupLemmas.{group-some, stride-group, stride-skip}
 use Rattle.da65.proofs.Groups.InsideLemmas.{full-more, group-piece}
 use Rattle.da65.proofs.Groups.DefinedLemmas.{IsTable, group-unnamed}
-use Rattle.da65.proofs.Groups.PlaceLemmas.{Leads, each-place}
-use Rattle.da65.proofs.Groups.ShapeLemmas.{role-past, limit-other, limit-whole, one-more, size-is, full_len-of}
-use Rattle.da65.proofs.Groups.StepLemmas.{group_one}
+use Rattle.da65.proofs.Groups.ShapeLemmas.{role-past, one-more, size-is, full_len-of}
+use Rattle.da65.proofs.Groups.StepLemmas.{Leads, each-place, group_one}
 
 none-over : (r : RangeType) → 0 % limit_of r ≡ 0
 none-over r = mod-eq_of_lt (omega (arith, layout_line r))
@@ -104,7 +103,7 @@ module _ (m : MapView) (r : RangeType) (table : IsTable m r) where
       size cut = ⊎_elim
           (λ all. all ∙ full_len)
           (λ one.
-          let alone : group_len m a ≡ item_len m a = group_one m a (limit-other m a cut) in
+          let alone : group_len m a ≡ item_len m a = group_one m a (cond-false (is_whole m a) _ _ cut) in
           let place : a + 1 ≡ next = omega (arith, len, alone, begun, one) in
           let after : item_len m next ≡ unit_of r = eqb-true (item_len m next) (unit_of (role_of m.info next)) whole ∙ ap unit_of role-is in
           let after-size : size_at m next ≡ unit_of r = sym (item-begun m next (omega (arith, after, layout_some r))).len ∙ after in
@@ -119,7 +118,7 @@ module _ (m : MapView) (r : RangeType) (table : IsTable m r) where
       long : is_whole m a ≡ true → n ≡ limit_of r * unit_of r
       long is =
           let unit : item_len m a ≡ unit_of r = eqb-true (item_len m a) (unit_of (role_of m.info a)) is ∙ ap unit_of role-a in
-          let limit : limit_at m a ≡ limit_of r = limit-whole m a is ∙ ap limit_of role-a in
+          let limit : limit_at m a ≡ limit_of r = cond-true (is_whole m a) _ _ is ∙ ap limit_of role-a in
           let others : ℕ = more_at m (limit_at m a - 1) (a + item_len m a) in
           let place : a + item_len m a + others ≡ next = omega (arith, len, group-is m a) in
           let more : others ≡ (limit_at m a - 1) * unit_of r =

@@ -115,12 +115,6 @@ pub full_len-of : (m : MapView) (a : ℕ) (r : RangeType) → role_of m.info a �
 unfolding full_len_at
 full_len-of m a r e = ap (λ (r : RangeType). size_for m r (byte_at m.image a)) e
 
-pub limit-whole : (m : MapView) (a : ℕ) → is_whole m a ≡ true → limit_at m a ≡ limit_of (role_of m.info a)
-limit-whole m a e = cond-true (is_whole m a) _ _ e
-
-pub limit-other : (m : MapView) (a : ℕ) → is_whole m a ≡ false → limit_at m a ≡ 1
-limit-other m a e = cond-false (is_whole m a) _ _ e
-
 -- of a role whose items all have the same size
 table-long : (m : MapView) (a : ℕ) (r : RangeType) → role_of m.info a ≡ r → full_len_at m a ≡ unit_of r → item_len m a ≡ size_at m a → IsLong r (group_len m a)
 unfolding group_len
@@ -131,11 +125,11 @@ table-long m a r e full_len begun = go (is_whole m a) refl
     single (inl whole) h = absurd (true≢false (sym (eq-eqb (item_len m a) (unit_of (role_of m.info a)) (begun ∙ whole ∙ full_len ∙ sym (ap unit_of e))) ∙ h))
 
     go : (t : Bool) → is_whole m a ≡ t → IsLong r (item_len m a + more_at m (limit_at m a - 1) (a + item_len m a))
-    go false h = inl (group_one m a (limit-other m a h) ∙ single (size-is m a) h)
+    go false h = inl (group_one m a (cond-false (is_whole m a) _ _ h) ∙ single (size-is m a) h)
     go true h =
         let unit : item_len m a ≡ unit_of r = eqb-true (item_len m a) (unit_of (role_of m.info a)) h ∙ ap unit_of e in
         let others = many m (limit_at m a - 1) (a + item_len m a) r (λ joined. role-past m a (item_len m a) begun joined ∙ e) in
-        let limit : limit_at m a ≡ limit_of r = limit-whole m a h ∙ ap limit_of e in
+        let limit : limit_at m a ≡ limit_of r = cond-true (is_whole m a) _ _ h ∙ ap limit_of e in
         inr (record { count = others.count; bound = omega (arith, others.bound, limit); is = one-more (item_len m a) (unit_of r) others.count _ unit others.is })
 
 -- an instruction stands alone

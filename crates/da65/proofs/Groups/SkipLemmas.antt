@@ -1,15 +1,15 @@
 -- Without a range SKIP no byte is skipped.
-use Rattle.std.proofs.Common.{◌≡◌, ℕ, suc, zero, ◌+◌, Bool, true, false, List, ◌∷◌, length, refl, []}
+use Rattle.std.proofs.Common.{◌≡◌, ℕ, Bool, true, false, List, ◌∷◌, length, refl, []}
 use Rattle.std.specs.Prelude.{if◌then◌else◌}
 use Rattle.std.specs.List.{list_any}
 use Rattle.std.proofs.lemmas.Bool.{or_parts}
+use Rattle.std.proofs.lemmas.List.Folds.{list_any_none}
 use Rattle.info65.specs.Ranges.{has_address}
 use Rattle.info65.specs.declared.information.range.RangeSpec.{RangeSpec}
 use Rattle.map65.specs.MapView.{MapView}
 use Rattle.map65.specs.Roles.{is_skip, role_in, role_of}
 use Rattle.map65.specs.Spans.{addresses}
-use Rattle.da65.specs.Code.SkipRanges.{is_skip_range}
-use Rattle.da65.specs.Groups.{skips}
+use Rattle.da65.specs.Groups.{is_skip_range, skips}
 
 pub skip-in : (ranges : List RangeSpec) (a : ℕ) → list_any is_skip_range ranges ≡ false → is_skip (role_in ranges a) ≡ false
 unfolding role_in
@@ -22,11 +22,6 @@ skip-in (r ∷ rs) a none =
     go true here past = here
     go false here past = past
 
-none-skipped : (p : ℕ → Bool) → ((a : ℕ) → p a ≡ false) → (n a : ℕ) → list_any p (addresses n a) ≡ false
-unfolding addresses
-none-skipped p none zero a = refl
-none-skipped p none (suc n) a = rw (none a) (none-skipped p none n (a + 1))
-
 pub no_skips : (m : MapView) → list_any is_skip_range m.info.ranges ≡ false → skips m ≡ false
 unfolding skips
-no_skips m none = none-skipped (λ a. is_skip (role_of m.info a)) (λ a. skip-in m.info.ranges a none) (length m.image.bytes) m.image.start
+no_skips m none = list_any_none (λ a. is_skip (role_of m.info a)) (addresses (length m.image.bytes) m.image.start) (λ k d low. skip-in m.info.ranges _ none)

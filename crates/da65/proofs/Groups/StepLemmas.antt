@@ -1,11 +1,11 @@
--- Items that go on, and skipped bytes, one after the other.
-use Rattle.std.proofs.Common.{◌≡◌, ◌∙◌, ℕ, suc, ◌+◌, ◌-◌, ◌<◌, ◌≤◌, Bool, true, false, ◌∷◌, refl, ap, sym, arith, []}
-use Rattle.std.specs.List.{list_any}
+-- Items that go on, addresses, and places of groups, one after the other.
+use Rattle.std.proofs.Common.{◌≡◌, ◌∙◌, ℕ, zero, suc, ◌+◌, ◌-◌, ◌<◌, ◌≤◌, true, ◌∷◌, length, refl, ap, sym, subst, arith, ⊎_elim, []}
+use Rattle.std.proofs.lemmas.Bool.{cases_eq, cases_lt}
 use Rattle.map65.specs.Items.{item_len}
 use Rattle.map65.specs.MapView.{MapView}
 use Rattle.map65.specs.Spans.{addresses}
-use Rattle.da65.specs.Groups.{goes_on, group_len, limit_at, more_at}
-use Rattle.da65.proofs.Groups.GroupLemmas.{more-true}
+use Rattle.da65.specs.Groups.{IsGroupPlace, goes_on, group_len, limit_at, more_at, stride_at}
+use Rattle.da65.proofs.Groups.GroupLemmas.{first_place, left-within, more-true, place-step}
 
 -- ---- the items that go on
 
@@ -23,26 +23,37 @@ group_one m a one =
     let no_more : more_at m (limit_at m a - 1) (a + item_len m a) ≡ 0 = ap (λ (n : ℕ). more_at m n (a + item_len m a)) none in
     omega (arith, no_more)
 
--- ---- skipped bytes
+-- ---- addresses, one after the other
 
-addresses-step : (n start k : ℕ) → k < n → addresses (n - k) (start + k) ≡ (start + k) ∷ addresses (n - (k + 1)) (start + (k + 1))
+pub addresses-here : (end a : ℕ) → a < end → addresses (end - a) a ≡ a ∷ addresses (end - (a + 1)) (a + 1)
 unfolding addresses
-addresses-step n start k low =
-    let more : n - k ≡ suc (n - (k + 1)) = omega (arith, low) in
-    let next : start + k + 1 ≡ start + (k + 1) = omega arith in
-    rw (more, next) refl
+addresses-here end a low = let more : end - a ≡ suc (end - (a + 1)) = omega (arith, low) in rw more refl
 
-addresses-end : (n start k : ℕ) → n ≤ k → addresses (n - k) (start + k) ≡ []
+pub addresses-end : (end a : ℕ) → end ≤ a → addresses (end - a) a ≡ []
 unfolding addresses
-addresses-end n start k high = let none : n - k ≡ 0 = omega (arith, high) in rw none refl
+addresses-end end a high = let none : end - a ≡ 0 = omega (arith, high) in rw none refl
 
--- the k-th address passes the test
-pub any-here : (p : ℕ → Bool) (n start k : ℕ) → k < n → p (start + k) ≡ true → list_any p (addresses (n - k) (start + k)) ≡ true
-any-here p n start k low is = ap (list_any p) (addresses-step n start k low) ∙ rw is refl
+-- ---- places of groups
 
--- it does not, so only those after it may
-pub any-past : (p : ℕ → Bool) (n start k : ℕ) → k < n → p (start + k) ≡ false → list_any p (addresses (n - k) (start + k)) ≡ list_any p (addresses (n - (k + 1)) (start + (k + 1)))
-any-past p n start k low is = ap (list_any p) (addresses-step n start k low) ∙ rw is refl
+-- it holds of a place, and leads to the next one
+abbrev pub Leads : (m : MapView) → (ℕ → Type 0) → Type 0
+Leads m P = (p : ℕ) → IsGroupPlace m p → p < length m.image.bytes → P p → P (p + stride_at m (m.image.start + p))
 
-pub any-end : (p : ℕ → Bool) (n start k : ℕ) → n ≤ k → list_any p (addresses (n - k) (start + k)) ≡ false
-any-end p n start k high = ap (list_any p) (addresses-end n start k high)
+walk : (m : MapView) (P : ℕ → Type 0) → Leads m P → (n p k : ℕ) → k < p + n → p ≤ k → IsGroupPlace m p → P p → IsGroupPlace m k → P k
+walk m P leads zero p k fuel low here known there = absurd (omega (arith, fuel, low))
+walk m P leads (suc n) p k fuel low here known there =
+    ⊎_elim
+    (λ same. subst P (sym same) known)
+    (λ other.
+    let inside : p < length m.image.bytes = omega (arith, low, other, there.bound) in
+    let step = place-step m p here inside in
+    let next : ℕ = p + stride_at m (m.image.start + p) in
+    ⊎_elim
+    (λ within. absurd (left-within (stride_at m) m.image.start p k here.group (omega (arith, low, other)) within there.group))
+    (λ past. walk m P leads n next k (omega (arith, fuel, step.some)) past step.next (leads p here inside known) there)
+    (cases_lt k next))
+    (cases_eq k p)
+
+-- what holds of the first place, and of the next one where it holds of one, holds of all
+pub each-place : (m : MapView) (P : ℕ → Type 0) → P 0 → Leads m P → (k : ℕ) → IsGroupPlace m k → P k
+each-place m P first leads k there = walk m P leads (suc k) 0 k (omega arith) (omega arith) (first_place m) first there

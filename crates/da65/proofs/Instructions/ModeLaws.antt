@@ -2,7 +2,7 @@
 use Rattle.std.proofs.Common.{◌≡◌, ℕ, ◌+◌, ◌≤◌, Bool, true, false, inl, inr, List, ◌∷◌, length, Option, Some, None, refl, sym, ap, subst, ◌∙◌, []}
 use Rattle.std.specs.Prelude.{IfSome, IsSome, is_some, nat_lt, slice_index}
 use Rattle.std.specs.Option.{option_map}
-use Rattle.std.proofs.lemmas.Bool.{lt-ltb}
+use Rattle.std.proofs.lemmas.Bool.{false_from_ne_true, lt-ltb}
 use Rattle.isa65.specs.Cpu.{table_of}
 use Rattle.isa65.specs.CpuLaws.{table_of-sound}
 use Rattle.isa65.specs.Mode.{len_of, pattern_text, row_of, row_text, size_of, zero_page_of, zero_page_row, IsZeroPageOf}
@@ -60,16 +60,10 @@ prefix_is true = refl
 prefix_is false = refl
 
 pub row_prefix : (r : Row) (a : Bool) (os : OperandsView) → has_prefix (row_form r (address_size a) os) ≡ true → a ≡ true
-row_prefix row.Implied a os h = absurd cc
-row_prefix row.Accumulator a view.none h = absurd cc
-row_prefix row.Accumulator a (view.one e) h = absurd cc
-row_prefix row.Accumulator a (view.two e f) h = absurd cc
-row_prefix (row.One p k) a view.none h = absurd cc
 row_prefix (row.One p k) a (view.one e) h = sym (prefix_is a) ∙ pattern_prefix p (address_size a) (source_value e) h
-row_prefix (row.One p k) a (view.two e f) h = absurd cc
+row_prefix row.Accumulator a view.none h = absurd cc
 row_prefix (row.Two k l) a view.none h = absurd cc
-row_prefix (row.Two k l) a (view.one e) h = absurd cc
-row_prefix (row.Two k l) a (view.two e f) h = absurd cc
+row_prefix _ a _ h = absurd cc
 
 -- it is written as its mode is
 row_is : (P : OperandKind → ℕ → ExprView → Type 0) (r : Row) (size : AddressSize) (os : OperandsView) → AreAll P r os → row_text r ≡ form_text (row_form r size os)
@@ -100,13 +94,6 @@ pair (row.One _ kind.Word) x e = absurd cc
 pair _ x e = absurd cc
 
 -- ---- how an instruction is coded
-
-by_test : (u : Bool) → (u ≡ true → ⊥) → (u ≡ false → ⊥) → ⊥
-by_test true f g = f refl
-by_test false f g = g refl
-
-some_is : {A : Type 0} (o : Option A) (x : A) → o ≡ Some x → IsSome o
-some_is o x e = ap is_some e
 
 module _ (image : ImageView) (n : Names) (p : ℕ → Bool) (names : AreSound image n) (cpu : Cpu) (above : List Definition) (known : KnowsConstants n p above) where
   -- an operand in the zero page has that size
@@ -192,24 +179,24 @@ module _ (image : ImageView) (n : Names) (p : ℕ → Bool) (names : AreSound im
       not_short : IsZeroPageOf takes.mode x → ⊥
       not_short short =
           let h = pair (row_of x) takes.mode short in
-          by_test u
+          let free : u ≡ false = false_from_ne_true u
           (λ e. let prefix : has_prefix (form u) ≡ true = rw e (forced_prefix h.direct (row_of x) h.long h.prefix IsSmall os all_small) in
-          let no : false ≡ true = ap (λ (o : Option Mode). is_some o) (sym h.alone) ∙ takes.of_form.1 prefix in cc)
-          (λ e. let large : nat_lt (word_of bytes) 256 ≡ false = sym (small_forced takes.mode takes.opcode short takes.has) ∙ forced ∙ e in
-          let size = sym (takes.short x short (of_form u may) (some_is (encoded (table_of cpu) m x) b is))
+          let no : false ≡ true = ap (λ (o : Option Mode). is_some o) (sym h.alone) ∙ takes.of_form.1 prefix in cc) in
+          let large : nat_lt (word_of bytes) 256 ≡ false = sym (small_forced takes.mode takes.opcode short takes.has) ∙ forced ∙ free in
+          let size = sym (takes.short x short (of_form u may) (ap is_some is))
           ∙ word_size h.direct (row_of x) h.long (address_size u) (a + len_of x) bytes os has ∙ address_large image n p above (word_of bytes) names known.knows large in
-          cc)
+          cc
 
       -- nor in the absolute one
       not_long : IsZeroPageOf x takes.mode → ⊥
       not_long long =
           let h = pair (row_of takes.mode) x long in
-          let size = sym (takes.long x long (of_form u may) (some_is (encoded (table_of cpu) m x) b is)) ∙ small_short h.direct (row_of x) h.short (address_size u) os all_small in
+          let size = sym (takes.long x long (of_form u may) (ap is_some is)) ∙ small_short h.direct (row_of x) h.short (address_size u) os all_small in
           cc
 
       in_mode : fragments ≡ Fixed b ∷ fragments_in x os
       in_mode =
-          let alike = written_alike (table_of cpu) (table_of-sound cpu) m takes.mode x (some_is (encoded (table_of cpu) m takes.mode) takes.opcode takes.has) (some_is (encoded (table_of cpu) m x) b is)
+          let alike = written_alike (table_of cpu) (table_of-sound cpu) m takes.mode x (ap is_some takes.has) (ap is_some is)
           (takes.of_form.0 ∙ sym (of_form u may).0) in
           elim alike [ inl same ↦ own same | inr other ↦ elim other [ inl short ↦ absurd (not_short short) | inr long ↦ absurd (not_long long) ] ]
 

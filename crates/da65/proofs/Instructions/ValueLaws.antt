@@ -1,6 +1,7 @@
 -- Expressions: their values, and their sizes.
-use Rattle.std.proofs.Common.{◌≡◌, ℕ, Bool, true, false, cond, eqb, ◌+◌, ◌-◌, ◌<◌, ◌≤◌, List, Option, Some, None, refl, subst, arith}
-use Rattle.std.specs.Prelude.{◌&&◌, nat_lt, IfSome}
+use Rattle.std.proofs.Common.{◌≡◌, ℕ, Bool, true, false, cond, eqb, ◌+◌, ◌-◌, ◌<◌, ◌≤◌, List, Option, Some, None, refl, subst, arith, ◌∷◌, []}
+use Rattle.std.specs.Prelude.{nat_lt, IfSome}
+use Rattle.std.proofs.Math.Bool.{and-false}
 use Rattle.std.proofs.lemmas.Bool.{eq-eqb, ne_eqb}
 use Rattle.stmt65.specs.SourceLine.{Value, NumberValue, NameValue}
 use Rattle.stmt65.specs.declared.source_line.Minus.TheVariants.{Zero, One}
@@ -12,7 +13,7 @@ use Rattle.da65.specs.BaseNames.{AreSound, IsBaseOf, Names, base_name, is_base}
 use Rattle.da65.specs.Statements.{address_expr, constant_base, expr_from, zero_page_expr}
 use Rattle.da65.specs.KnownNames.{Knows, KnowsAll, KnowsConstants, definition_of}
 use Rattle.da65.specs.ReassemblyLaw.{ExpressionsHaveTheirValues}
-use Rattle.da65.proofs.Blocks.Knowledge.{knows_all, knows_not, knows_there}
+use Rattle.da65.proofs.Blocks.Knowledge.{first_of, knows_found}
 
 -- ---- bases
 
@@ -22,15 +23,10 @@ own-base m a b is = rw is.base (eq-eqb b.address b.address refl)
 own-name : (m : Names) (a : ℕ) (b : Base) → IsBaseOf m a b → base_name m b.address ≡ b.text
 own-name m a b is = rw is.base refl
 
--- the definition of an address's base
-base-all : (m : Names) (all : List Definition) (a : ℕ) (b : Base) → KnowsAll m all → IsBaseOf m a b → find_name b.text all ≡ Some (definition_of m b.address)
-base-all m all a b k is = subst (λ (w : List ℕ). find_name w all ≡ Some (definition_of m b.address)) (own-name m a b is) (knows_all m all b.address k (own-base m a b is))
-
-base-there : (m : Names) (p : ℕ → Bool) (ds : List Definition) (a : ℕ) (b : Base) → Knows m p ds → IsBaseOf m a b → p b.address ≡ true → find_name b.text ds ≡ Some (definition_of m b.address)
-base-there m p ds a b k is passes = subst (λ (w : List ℕ). find_name w ds ≡ Some (definition_of m b.address)) (own-name m a b is) (knows_there m p ds b.address k (own-base m a b is) passes)
-
-base-not : (m : Names) (p : ℕ → Bool) (ds : List Definition) (a : ℕ) (b : Base) → Knows m p ds → IsBaseOf m a b → p b.address ≡ false → find_name b.text ds ≡ None
-base-not m p ds a b k is fails = subst (λ (w : List ℕ). find_name w ds ≡ None) (own-name m a b is) (knows_not m p ds b.address k (own-base m a b is) fails)
+-- the definition of an address's base, if that passes the test
+base-found : (m : Names) (p : ℕ → Bool) (ds : List Definition) (a : ℕ) (b : Base) (t : Bool) → Knows m p ds → IsBaseOf m a b → p b.address ≡ t → find_name b.text ds ≡ first_of (cond t (definition_of m b.address ∷ []) [])
+base-found m p ds a b t k is e =
+    subst (λ (w : List ℕ). find_name w ds ≡ first_of (cond t (definition_of m b.address ∷ []) [])) (own-name m a b is) (knows_found m p ds b.address t k (own-base m a b is) e)
 
 -- ---- values
 
@@ -48,7 +44,7 @@ unfolding is_known value_in
 name_worth m all a b k is =
     let low : b.address ≤ a = is.before in
     let same : b.address + (a - b.address) ≡ a = omega arith in
-    let found = base-all m all a b k is in
+    let found = base-found m (λ v. true) all a b true k is refl in
     record { known = rw found refl; value = rw (found, same) refl }
 
 -- the address before
@@ -58,7 +54,7 @@ before_worth m all a b k is some =
     let low : b.address ≤ a = is.before in
     let same : b.address + (a - b.address) ≡ a = omega arith in
     let not-none : eqb a 0 ≡ false = ne_eqb a 0 (λ e. absurd (omega (arith, e, some))) in
-    let found = base-all m all a b k is in
+    let found = base-found m (λ v. true) all a b true k is refl in
     record { known = rw found refl; value = rw (found, same, not-none) refl }
 
 -- ---- expressions
@@ -120,12 +116,8 @@ large_from m p above a (Some b) k large is = go (p b.address) refl
     same = omega (arith, low)
 
     go : (t : Bool) → p b.address ≡ t → has_zero_page_size above (NameValue b.text (a - b.address) Zero) ≡ false
-    go true e = rw (base-there m p above a b k is e, same, large) (off (m.has_constant b.address))
-      where
-        off : (t : Bool) → (t && false) ≡ false
-        off true = refl
-        off false = refl
-    go false e = rw (base-not m p above a b k is e) refl
+    go true e = rw (base-found m p above a b true k is e, same, large) (and-false (m.has_constant b.address))
+    go false e = rw (base-found m p above a b false k is e) refl
 
 pub address_large : (image : ImageView) (m : Names) (p : ℕ → Bool) (above : List Definition) (a : ℕ) → AreSound image m → Knows m p above → nat_lt a 256 ≡ false → has_zero_page_size above (source_value (address_expr m a)) ≡ false
 unfolding address_expr
@@ -139,7 +131,7 @@ small_from m p above a None k small is = small
 small_from m p above a (Some b) k small is =
     let low : b.address ≤ a = is.is.before in
     let same : b.address + (a - b.address) ≡ a = omega arith in
-    rw (base-there m p above a b k.knows is.is (k.constants b.address is.constant), is.constant, same, small) refl
+    rw (base-found m p above a b true k.knows is.is (k.constants b.address is.constant), is.constant, same, small) refl
 
 pub zero_page_small : (image : ImageView) (m : Names) (p : ℕ → Bool) (above : List Definition) (a : ℕ) → AreSound image m → KnowsConstants m p above → nat_lt a 256 ≡ true → has_zero_page_size above (source_value (zero_page_expr m a)) ≡ true
 unfolding zero_page_expr

@@ -5,10 +5,13 @@ use Rattle.std.specs.Prelude.{if◌then◌else◌}
 use Rattle.std.specs.Option.{option_map}
 use Rattle.std.proofs.lemmas.Bool.{cases_eq, eq-eqb, ne_eqb}
 use Rattle.info65.specs.Names.{AreNames}
+use Rattle.info65.specs.declared.information.range.RangeType.{RangeType}
 use Rattle.map65.proofs.Public.{base-none, base_law}
 use Rattle.map65.specs.MapView.{MapView}
-use Rattle.map65.specs.Names.{Base, base_at, has_name, kind_at, kind_by, place_of, text_at, text_by}
+use Rattle.map65.specs.Names.{Base, base_at, has_name, kind_at, kind_by, place_in, place_of, text_at, text_by}
+use Rattle.map65.specs.Roles.{is_skip, role_at}
 use Rattle.map65.specs.declared.name.NameKind.{NameKind}
+use Rattle.map65.specs.declared.name.Place.TheVariants as place
 use Rattle.stmt65.specs.Printable.{IsNameLong}
 use Rattle.stmt65.specs.Views as view
 use Rattle.stmt65.specs.Views.{TargetView}
@@ -41,7 +44,7 @@ unnamed m a is = go (base_at m a) is
     go None is = refl
     go (Some b) is = absurd cc
 
-pub text_long : (m : MapView) (a : ℕ) (k : NameKind) → AreNames m.info.names → kind_at m a ≡ Some k → IsNameLong (text_at m a)
+text_long : (m : MapView) (a : ℕ) (k : NameKind) → AreNames m.info.names → kind_at m a ≡ Some k → IsNameLong (text_at m a)
 unfolding text_at
 text_long m a k are is = let b = named m a k is in rw b.is (base-text m a b.base are b.is).long
 
@@ -86,6 +89,24 @@ pub put_long : (m : MapView) (a : ℕ) (t : Bool) (items : List ℕ) → AreName
 put_long m a false items are base is = tt
 put_long m a true items are base is = subst IsNameLong (sym is) (own-long m a (kind_at m a) (base_own m a are ∙ sym base) refl are)
 
+-- ---- where bases are constant
+
+constant-in : (r : RangeType) (len : ℕ) → is_constant (place_in (Some r) len) ≡ is_skip r
+constant-in r len = go (is_skip r) (len == 0)
+  where
+    go : (s none : Bool) → is_constant (if s then place.Constant else (if none then place.Forward else place.Label)) ≡ s
+    go true none = refl
+    go false true = refl
+    go false false = refl
+
+pub constant_some : (m : MapView) (a : ℕ) (r : RangeType) → role_at m a ≡ Some r → is_constant (place_of m a) ≡ is_skip r
+unfolding place_of
+constant_some m a r is = rw is (constant-in r _)
+
+pub constant_none : (m : MapView) (a : ℕ) → role_at m a ≡ None → is_constant (place_of m a) ≡ true
+unfolding place_of
+constant_none m a is = rw is refl
+
 -- ---- expressions
 
 pub expr_named : (m : MapView) (a : ℕ) (k : NameKind) → kind_at m a ≡ Some k → address_expr (names_of m) a ≡ view.name (text_at m a) k.offset
@@ -119,13 +140,6 @@ zero_named m a n is = zero-by m a n (base_at m a) is
 pub zero_number : (m : MapView) (a : ℕ) → constant_offset (kind_at m a) ≡ None → zero_page_expr (names_of m) a ≡ view.number a
 unfolding zero_page_expr kind_at
 zero_number m a is = zero-none m a (base_at m a) is
-
-some-kind : (m : MapView) (a n : ℕ) (o : Option NameKind) → constant_offset o ≡ Some n → kind_at m a ≡ o → AreNames m.info.names → IsNameLong (text_at m a)
-some-kind m a n None is e are = absurd cc
-some-kind m a n (Some k) is e are = text_long m a k are e
-
-pub zero_long : (m : MapView) (a n : ℕ) → AreNames m.info.names → constant_offset (kind_at m a) ≡ Some n → IsNameLong (text_at m a)
-zero_long m a n are is = some-kind m a n (kind_at m a) is refl are
 
 -- ---- targets
 

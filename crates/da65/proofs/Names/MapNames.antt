@@ -1,7 +1,7 @@
 -- The names of a map are such that its listing assembles back.
-use Rattle.std.proofs.Common.{◌≡◌, ◌∙◌, inl, inr, ℕ, zero, suc, ◌+◌, ◌-◌, ◌<◌, Bool, true, false, not, length, Some, refl, sym, ap, subst, arith}
-use Rattle.std.specs.List.{list_any}
-use Rattle.std.proofs.lemmas.Bool.{or_parts, true≢false}
+use Rattle.std.proofs.Common.{◌≡◌, ◌∙◌, inl, inr, ℕ, ◌+◌, ◌-◌, ◌<◌, Bool, true, false, not, length, Some, refl, sym, ap, subst, arith}
+use Rattle.std.proofs.lemmas.Bool.{false_from_ne_true, true≢false}
+use Rattle.std.proofs.lemmas.List.Folds.{list_any_at}
 use Rattle.map65.specs.Bases.{BaseLaw, IsInCode, IsOutside, LiesBy}
 use Rattle.map65.specs.ImageView.{is_inside}
 use Rattle.map65.specs.Items.{item_len, size_at}
@@ -11,32 +11,27 @@ use Rattle.map65.specs.Roles.{is_skip, role_of}
 use Rattle.map65.specs.Spans.{addresses}
 use Rattle.map65.specs.declared.name.Place.{Place}
 use Rattle.map65.specs.declared.name.Place.TheVariants as place
-use Rattle.map65.proofs.Public.{base_law, begun, inside-if, place_law, size-fits}
+use Rattle.map65.proofs.Public.{address-at, address-count, base_law, begun, inside-if, place_law, size-fits, within}
 use Rattle.da65.specs.BaseNames.{base_name, is_constant, names_of}
 use Rattle.da65.specs.Groups.{skips}
 use Rattle.da65.specs.ReassemblyLaw.{NamesAreSound}
 use Rattle.da65.proofs.Groups.DefinedLemmas.{Defined, defined-base}
-use Rattle.da65.proofs.Groups.RoleLemmas.{inside-bounds}
 use Rattle.da65.proofs.Names.TargetBounds.{base-small}
 
 -- ---- skipped bytes
 
-none-of : (p : ℕ → Bool) (n a k : ℕ) → list_any p (addresses n a) ≡ false → k < n → p (a + k) ≡ false
-unfolding addresses
-none-of p zero a k none low = absurd (omega (arith, low))
-none-of p (suc n) a zero none low = let place : a + 0 ≡ a = omega arith in ap p place ∙ (or_parts (p a) (list_any p (addresses n (a + 1))) none).0
-none-of p (suc n) a (suc k) none low =
-    let place : a + suc k ≡ a + 1 + k = omega arith in
-    ap p place ∙ none-of p n (a + 1) k (or_parts (p a) (list_any p (addresses n (a + 1))) none).1 (omega (arith, low))
-
 pub none-skipped : (m : MapView) (k : ℕ) → skips m ≡ false → k < length m.image.bytes → is_skip (role_of m.info (m.image.start + k)) ≡ false
 unfolding skips
-none-skipped m k none low = none-of (λ a. is_skip (role_of m.info a)) (length m.image.bytes) m.image.start k none low
+none-skipped m k none low =
+    let p : ℕ → Bool = λ a. is_skip (role_of m.info a) in
+    let inside : k < length (addresses (length m.image.bytes) m.image.start) = omega (arith, low, address-count (length m.image.bytes) m.image.start) in
+    false_from_ne_true (p (m.image.start + k)) (λ skip.
+    true≢false (sym (list_any_at p (addresses (length m.image.bytes) m.image.start) k 0 inside (ap p (address-at (length m.image.bytes) k m.image.start 0 low) ∙ skip)) ∙ none))
 
 -- the same of an address
 pub shown-inside : (m : MapView) (a : ℕ) → skips m ≡ false → is_inside m.image a ≡ true → is_skip (role_of m.info a) ≡ false
 shown-inside m a none inside =
-    let bounds = inside-bounds m a inside in
+    let bounds = within m a inside in
     let same : m.image.start + (a - m.image.start) ≡ a = omega (arith, bounds.low) in
     sym (ap (λ (x : ℕ). is_skip (role_of m.info x)) same) ∙ none-skipped m (a - m.image.start) none (omega (arith, bounds.low, bounds.high))
 

@@ -16,7 +16,7 @@ use Rattle.map65.specs.MapView.{MapView}
 use Rattle.da65.specs.Comments.{comment_at, comment_by}
 use Rattle.map65.specs.Segments.{segment_at}
 use Rattle.da65.proofs.Names.NameTexts.{text_long}
-use Rattle.da65.specs.Listing.{comment_line, comment_lines}
+use Rattle.da65.proofs.Statements.StandsLaws.{at_some}
 
 -- ---- comments
 
@@ -35,10 +35,6 @@ comment-text text is =
     let both = and_parts (nat_le (length text) 200) (list_all is_comment_byte text) is.form in
     (leb-true (length text) 200 both.0, no-feeds text both.1)
 
-if-comment : (o : Option (List ℕ)) (text : List ℕ) → IfSome o IsComment → o ≡ Some text → IsComment text
-if-comment None text is e = absurd cc
-if-comment (Some t) text is e = let same : t ≡ text = cc in subst IsComment same is
-
 pub comment-printable : (m : MapView) (a : ℕ) (text : List ℕ) → AreNames m.info.names → comment_at m a ≡ Some text → IsPrintable (view.remark text)
 unfolding comment_at
 comment-printable m a text are e = go (covering m.info.names a) refl e
@@ -49,7 +45,7 @@ comment-printable m a text are e = go (covering m.info.names a) refl e
         subst (λ (n : NameView). IfSome n.comment IsComment) (sym last.is) (are.each last.index blank_name last.low).comment
 
     of : (n : NameView) → covering m.info.names a ≡ Some n → (own : Bool) → (if own then n.comment else None) ≡ Some text → IsPrintable (view.remark text)
-    of n f true e = comment-text text (if-comment n.comment text (has n f) e)
+    of n f true e = comment-text text (at_some IsComment n.comment text e (has n f))
     of n f false e = absurd cc
 
     go : (o : Option NameView) → covering m.info.names a ≡ o → comment_by a o ≡ Some text → IsPrintable (view.remark text)
@@ -89,7 +85,3 @@ given_told i m a o is same = is ∙ ap (λ (i : InfoView). comment_by a (coverin
 -- what a map tells of it
 pub segment_told : (n m : MapView) (a : ℕ) (o : Option (List ℕ)) → o ≡ segment_at n a → n ≡ m → o ≡ segment_at m a
 segment_told n m a o is same = is ∙ ap (λ (m : MapView). segment_at m a) same
-
-pub comment-none : (m : MapView) (a : ℕ) → comment_at m a ≡ None → comment_lines m a ≡ []
-unfolding comment_lines
-comment-none m a is = ap comment_line is

@@ -1,36 +1,26 @@
 -- No address of an image has a constant line if each byte of it is listed.
-use Rattle.std.proofs.Common.{◌≡◌, ◌∙◌, ℕ, zero, suc, ◌+◌, ◌-◌, ◌<◌, ◌≤◌, ◌&&◌, Bool, true, false, List, Option, Some, None, ap, arith, drop, get_or, length, refl, sym, take, []}
-use Rattle.std.proofs.lemmas.Bool.{cond-true}
-use Rattle.std.proofs.lemmas.Bool.{false≢true}
+use Rattle.std.proofs.Common.{◌≡◌, ◌∙◌, ℕ, zero, suc, ◌+◌, ◌-◌, ◌<◌, ◌≤◌, Bool, true, false, List, Option, Some, None, ap, arith, drop, get_or, length, refl, sym, take, []}
+use Rattle.std.proofs.lemmas.Bool.{and_right, cond-false, false≢true}
 use Rattle.std.proofs.lemmas.List.{get_or-drop, get_or-take, length-drop, length-take-le}
 use Rattle.std.proofs.lemmas.List.Sums.{prefix_len-le-length, prefix_len_passes}
 use Rattle.std.specs.List.{list_any, prefix_len}
 use Rattle.std.specs.Prelude.{◌/◌, ◌%◌, ◌==◌, MatchOption, slice_index}
 use Rattle.map65.specs.Cells.{AreCellsOf, bit}
-use Rattle.map65.specs.ImageView.{end_of, is_inside}
+use Rattle.map65.specs.ImageView.{end_of}
 use Rattle.map65.specs.MapView.{MapView}
 use Rattle.map65.specs.Names.{has_name}
-use Rattle.map65.specs.Roles.{role_at, role_of}
+use Rattle.map65.specs.Roles.{role_of}
 use Rattle.da65.specs.BaseNames.{names_of}
 use Rattle.da65.specs.Code.NamedCells.{is_unnamed}
-use Rattle.da65.specs.Code.SkipRanges.{is_skip_range}
-use Rattle.da65.specs.Listing.{constants, has_constant_line}
-use Rattle.da65.proofs.Names.BareLemmas.{constant_some}
-use Rattle.da65.proofs.Names.BaseLemmas.{base_unnamed}
-use Rattle.da65.proofs.NextLine.NextLemmas.{constants-end, constants-next, line_none}
+use Rattle.da65.specs.Groups.{is_skip_range}
+use Rattle.da65.specs.Listing.{constant_lines, constants, has_constant_line}
+use Rattle.da65.proofs.Names.BaseLemmas.{base_unnamed, constant_some}
+use Rattle.da65.proofs.NextLine.NextLemmas.{line_none, lines-here, lines-none}
 use Rattle.da65.proofs.Groups.SkipLemmas.{skip-in}
-use Rattle.map65.proofs.Public.{inside-if}
-
-and-none : (s t : Bool) → t ≡ false → (s && t) ≡ false
-and-none true t none = none
-and-none false t none = refl
-
-role-listed : (m : MapView) (a : ℕ) → m.image.start ≤ a → a < end_of m.image → role_at m a ≡ Some (role_of m.info a)
-unfolding role_at
-role-listed m a low high = cond-true (is_inside m.image a) _ _ (inside-if m a low high)
+use Rattle.map65.proofs.Public.{role_at-inside}
 
 none-listed : (m : MapView) (a : ℕ) → list_any is_skip_range m.info.ranges ≡ false → m.image.start ≤ a → a < end_of m.image → has_constant_line (names_of m) a ≡ false
-none-listed m a all low high = and-none _ _ (constant_some m a (role_of m.info a) (role-listed m a low high) ∙ skip-in m.info.ranges a all)
+none-listed m a all low high = and_right _ _ (constant_some m a (role_of m.info a) (role_at-inside m a low high) ∙ skip-in m.info.ranges a all)
 
 same-place : (m : MapView) (v u : ℕ) → v ≡ u → constants m (65536 - v) v ≡ constants m (65536 - u) u
 same-place m v u same = ap (λ (k : ℕ). constants m (65536 - k) k) same
@@ -38,7 +28,7 @@ same-place m v u same = ap (λ (k : ℕ). constants m (65536 - k) k) same
 constants-over : (m : MapView) (n v : ℕ) → v + n ≤ 65536 → ((a : ℕ) → v ≤ a → a < v + n → has_constant_line (names_of m) a ≡ false) → constants m (65536 - v) v ≡ constants m (65536 - (v + n)) (v + n)
 constants-over m zero v bound none = same-place m v (v + 0) (omega arith)
 constants-over m (suc n) v bound none =
-    constants-next m v (omega (arith, bound)) (none v (omega arith) (omega arith))
+    lines-here (constant_lines m) 65536 v [] (omega (arith, bound)) (cond-false _ _ _ (none v (omega arith) (omega arith)))
     ∙ constants-over m n (v + 1) (omega (arith, bound)) (λ a low high. none a (omega (arith, low)) (omega (arith, high)))
     ∙ same-place m (v + 1 + n) (v + suc n) (omega arith)
 
@@ -76,5 +66,5 @@ constants_listed m v end is bound all low high =
 pub first_constant : (m : MapView) (from after : ℕ) (found : Option ℕ) → constants m (65536 - from) from ≡ constants m (65536 - after) after
     → MatchOption found (constants m (65536 - after) after ≡ constants m (65536 - 65536) 65536) (λ v. constants m (65536 - after) after ≡ constants m (65536 - v) v)
     → MatchOption found (constants m (65536 - from) from ≡ []) (λ v. constants m (65536 - from) from ≡ constants m (65536 - v) v)
-first_constant m from after None same none = same ∙ none ∙ constants-end m 65536 (omega arith)
+first_constant m from after None same none = same ∙ none ∙ lines-none (constant_lines m) 65536 65536 (omega arith)
 first_constant m from after (Some v) same some = same ∙ some

@@ -16,12 +16,11 @@ use Rattle.map65.specs.Spans.{addresses}
 use Rattle.da65.specs.Comments.{comment_at, comment_by}
 use Rattle.da65.specs.Groups.{group_len}
 use Rattle.da65.specs.Lines.{IsUnmarked}
-use Rattle.da65.specs.Listing.{ListingLine, comment_lines, comments, opening_lines, segment_lines, separator_lines}
+use Rattle.da65.specs.Listing.{ListingLine, comment_line, comment_lines, comments, opening_lines, segment_lines, separator_lines}
 use Rattle.da65.specs.Marks.{has_comment, has_marks}
 use Rattle.map65.specs.Segments.{segment_at}
 use Rattle.da65.specs.Style.{style_of}
 use Rattle.da65.proofs.NextLine.SegmentLemmas.{segment-none, bare-segment}
-use Rattle.da65.proofs.NextLine.CommentLemmas.{comment-none}
 
 bare-comment : (m : MapView) (a : ℕ) → list_any has_comment m.info.names ≡ false → comment_at m a ≡ None
 unfolding comment_at
@@ -46,15 +45,13 @@ flat-nothing f none [] = refl
 flat-nothing f none (x ∷ xs) = ap (λ (ls : List ListingLine). ls ++ flat_map f xs) (none x) ∙ flat-nothing f none xs
 
 bare-comments : (m : MapView) (n a : ℕ) → ((a : ℕ) → comment_at m a ≡ None) → comments m n a ≡ []
-unfolding comments
-bare-comments m n a none = flat-nothing (comment_lines m) (λ a. comment-none m a (none a)) (addresses n a)
+bare-comments m n a none = flat-nothing (comment_lines m) (λ a. ap comment_line (none a)) (addresses n a)
 
 bare-segments : (m : MapView) (a : ℕ) → ((a : ℕ) → segment_at m a ≡ None) → segment_lines m a ≡ []
 unfolding segment_lines
 bare-segments m a none = rw (none a, segment-none m (a - m.image.start) none) refl
 
 bare-separator : (m : MapView) (a : ℕ) → (style_of m.info.settings).level ≡ 0 → separator_lines m a ≡ []
-unfolding separator_lines
 bare-separator m a none = rw none refl
 
 pub unmarked : (m : MapView) → has_marks m.info (style_of m.info.settings) ≡ false → IsUnmarked m

@@ -1,46 +1,35 @@
 -- The next of the lines that are left.
-use Rattle.std.proofs.Common.{◌≡◌, ◌∙◌, ℕ, suc, ◌+◌, ◌-◌, ◌<◌, ◌≤◌, ◌∷◌, ◌++◌, ◌&&◌, Bool, true, false, List, Option, Some, None, length, map, refl, ap, sym, subst, codes, arith, append_assoc, []}
+use Rattle.std.proofs.Common.{◌≡◌, ◌∙◌, ℕ, ◌+◌, ◌-◌, ◌<◌, ◌≤◌, ◌∷◌, ◌++◌, ◌&&◌, Bool, true, false, List, Option, Some, None, length, map, refl, ap, sym, subst, codes, arith, append_assoc, []}
 use Rattle.std.specs.Prelude.{MatchOption}
 use Rattle.std.specs.List.{flat_map}
-use Rattle.std.proofs.lemmas.Bool.{and_parts, cond-false, cond-true}
-use Rattle.isa65.specs.Opcodes.{Table}
-use Rattle.isa65.specs.declared.op.Op.{Op}
+use Rattle.std.proofs.Math.Bool.{and-true}
+use Rattle.std.proofs.lemmas.Bool.{and_parts, and_right, cond-false, cond-true}
 use Rattle.info65.specs.Views.{SettingsView}
-use Rattle.info65.proofs.Public.{layout_entry}
-use Rattle.info65.specs.Layouts.{IsEntry, layout_of}
-use Rattle.info65.specs.declared.information.range.Entry.{Entry}
-use Rattle.info65.specs.declared.information.range.Entry.TheVariants.{Instruction, Number, Address, Return, Character, Skipped}
-use Rattle.info65.specs.declared.information.range.RangeType.{RangeType}
 use Rattle.map65.specs.MapView.{MapView, opcodes}
 use Rattle.map65.specs.Names.{place_of}
-use Rattle.map65.specs.Roles.{is_skip, role_of, unit_of}
+use Rattle.map65.specs.Roles.{is_skip, role_of}
 use Rattle.map65.specs.Spans.{addresses}
-use Rattle.da65.specs.BaseNames.{Names, base_name, is_base, is_constant, names_of}
+use Rattle.da65.specs.BaseNames.{base_name, is_base, is_constant, names_of}
 use Rattle.da65.specs.Comments.{comment_at}
-use Rattle.da65.specs.Groups.{IsGroupPlace, group_bytes, group_len, groups_from, limit_of}
+use Rattle.da65.specs.Groups.{IsGroupPlace, group_bytes, group_len, groups_from}
 use Rattle.da65.specs.Lines.{IsConstant, IsFirstOf, IsGroupStart, IsInGroup, IsNext, IsPlace, IsUnmarked, after_group, with_blank_after, comments_left, constants_left, group_left, groups_left, left_from, lines_from, segment_left, segment_of, IsLabelNext, IsNextIn}
-use Rattle.da65.specs.Listing.{ListingLine, assignment_line, comment_line, comment_lines, comments, constant_lines, constants, ending_lines, forward_lines, forwards, group_line, group_lines, has_constant_line, has_empty_line, has_separator, label_at, labelled, line_text, listing, listing_below, opening_lines, plain, segment_lines, separator, separator_lines, statement_lines}
+use Rattle.da65.specs.Listing.{ListingLine, assignment_line, comment_line, comment_lines, comments, constant_lines, constants, ending_lines, forwards, group_line, group_lines, has_constant_line, has_empty_line, has_separator, label_at, labelled, line_text, listing, listing_below, opening_lines, plain, segment_lines, separator, separator_lines, statement_lines}
 use Rattle.da65.specs.Segments.{is_same_segment, segment_before, segment_statement}
 use Rattle.map65.specs.Segments.{segment_at}
-use Rattle.da65.specs.Instructions.{instruction_in}
-use Rattle.da65.specs.Shapes.{IsGroupOf, IsLineOf}
 use Rattle.da65.specs.Statements.{statement_at}
 use Rattle.da65.specs.Style.{style_of}
 use Rattle.da65.specs.declared.listing.place.ListingPlace.{ListingPlace}
 use Rattle.da65.specs.declared.listing.place.ListingPlace.TheVariants.{AfterTitle, Constant, Group, Comment, Ending}
 use Rattle.da65.specs.declared.listing.style.Style.{Style}
-use Rattle.da65.proofs.Statements.EntryLemmas.{few_entries}
 use Rattle.da65.proofs.Groups.GroupLemmas.{group-some, groups-end, groups-first, groups-next, groups-skip, place-next}
 use Rattle.da65.proofs.Groups.ShapeLemmas.{group-shape}
-use Rattle.isa65.proofs.ModeLaws.{len-small}
+use Rattle.da65.proofs.Groups.StepLemmas.{addresses-end, addresses-here}
 use Rattle.da65.proofs.Statements.LabelLaws.{group_takes}
 use Rattle.da65.proofs.NextLine.SegmentLemmas.{same-segment, segment-next}
 use Rattle.stmt65.specs.Columns.{fits_label}
 use Rattle.stmt65.specs.Printable.{TakesLabel}
 use Rattle.stmt65.specs.Views as view
 use Rattle.stmt65.specs.Views.{StatementView}
-use Rattle.da65.proofs.NextLine.CommentLemmas.{comment-none}
-use Rattle.map65.specs.Items.{code_size}
 
 -- ---- one line after the other
 
@@ -81,76 +70,18 @@ pub match-moved : (m : MapView) (left same : List ListingLine) (text : List ℕ)
 match-moved m left same text None segment is known = is ∙ known
 match-moved m left same text (Some next) segment is known = next-moved m left same text next segment is known
 
--- ---- addresses
+-- ---- lines of the addresses from one on and before an end
 
-addresses-suc : (n a : ℕ) → addresses (suc n) a ≡ a ∷ addresses n (a + 1)
-unfolding addresses
-addresses-suc n a = refl
+-- those of the first, and those of the addresses after it
+pub lines-here : (f : ℕ → List ListingLine) (end v : ℕ) (ls : List ListingLine) → v < end → f v ≡ ls → flat_map f (addresses (end - v) v) ≡ ls ++ flat_map f (addresses (end - (v + 1)) (v + 1))
+lines-here f end v ls low is = ap (flat_map f) (addresses-here end v low) ∙ ap (λ (ls : List ListingLine). ls ++ flat_map f (addresses (end - (v + 1)) (v + 1))) is
 
-addresses-more : (n a : ℕ) → 0 < n → addresses n a ≡ a ∷ addresses (n - 1) (a + 1)
-addresses-more n a some = let more : n ≡ suc (n - 1) = omega (arith, some) in ap (λ (n : ℕ). addresses n a) more ∙ addresses-suc (n - 1) a
-
-addresses-none : (n a : ℕ) → n ≡ 0 → addresses n a ≡ []
-unfolding addresses
-addresses-none n a none = rw none refl
-
--- of the addresses from one on below an end: the lines of the first, and those of the addresses after it
-flat-here : (f : ℕ → List ListingLine) (end v : ℕ) (ls : List ListingLine) → v < end → f v ≡ ls → flat_map f (addresses (end - v) v) ≡ ls ++ flat_map f (addresses (end - (v + 1)) (v + 1))
-flat-here f end v ls low is =
-    let count : end - v - 1 ≡ end - (v + 1) = omega arith in
-    ap (flat_map f) (addresses-more (end - v) v (omega (arith, low))) ∙ ap (λ (n : ℕ). f v ++ flat_map f (addresses n (v + 1))) count
-    ∙ ap (λ (ls : List ListingLine). ls ++ flat_map f (addresses (end - (v + 1)) (v + 1))) is
-
-flat-none : (f : ℕ → List ListingLine) (end v : ℕ) → end ≤ v → flat_map f (addresses (end - v) v) ≡ []
-flat-none f end v high = ap (flat_map f) (addresses-none (end - v) v (omega (arith, high)))
-
--- ---- constant lines
+pub lines-none : (f : ℕ → List ListingLine) (end v : ℕ) → end ≤ v → flat_map f (addresses (end - v) v) ≡ []
+lines-none f end v high = ap (flat_map f) (addresses-end end v high)
 
 pub constants-here : (m : MapView) (v : ℕ) → IsConstant m v
     → constants m (65536 - v) v ≡ comment_lines m v ++ assignment_line (names_of m) v ∷ constants m (65536 - (v + 1)) (v + 1)
-unfolding constants constant_lines
-constants-here m v is = flat-here (constant_lines m) 65536 v _ is.low (cond-true _ _ _ is.has) ∙ append_assoc (comment_lines m v) (assignment_line (names_of m) v ∷ []) _
-
-pub constants-next : (m : MapView) (v : ℕ) → v < 65536 → has_constant_line (names_of m) v ≡ false → constants m (65536 - v) v ≡ constants m (65536 - (v + 1)) (v + 1)
-unfolding constants constant_lines
-constants-next m v low is = flat-here (constant_lines m) 65536 v [] low (cond-false _ _ _ is)
-
-pub constants-end : (m : MapView) (v : ℕ) → 65536 ≤ v → constants m (65536 - v) v ≡ []
-unfolding constants
-constants-end m v high = flat-none (constant_lines m) 65536 v high
-
--- ---- comments
-
-pub comment-some : (m : MapView) (a : ℕ) (text : List ℕ) → comment_at m a ≡ Some text → comment_lines m a ≡ plain (view.remark text) ∷ []
-unfolding comment_lines
-comment-some m a text is = ap comment_line is
-
-pub comments-here : (m : MapView) (end v : ℕ) (text : List ℕ) → v < end → comment_at m v ≡ Some text → comments m (end - v) v ≡ plain (view.remark text) ∷ comments m (end - (v + 1)) (v + 1)
-unfolding comments
-comments-here m end v text low is = flat-here (comment_lines m) end v _ low (comment-some m v text is)
-
-pub comments-next : (m : MapView) (end v : ℕ) → v < end → comment_at m v ≡ None → comments m (end - v) v ≡ comments m (end - (v + 1)) (v + 1)
-unfolding comments
-comments-next m end v low is = flat-here (comment_lines m) end v [] low (comment-none m v is)
-
-pub comments-end : (m : MapView) (end v : ℕ) → end ≤ v → comments m (end - v) v ≡ []
-unfolding comments
-comments-end m end v high = flat-none (comment_lines m) end v high
-
--- ---- forward lines
-
-pub forwards-here : (m : Names) (first end v : ℕ) → v < end → is_base m v ≡ true
-    → forwards m first (end - v) v ≡ plain (view.forward (base_name m v) (v - first)) ∷ forwards m first (end - (v + 1)) (v + 1)
-unfolding forwards forward_lines
-forwards-here m first end v low is = flat-here (forward_lines m first) end v _ low (cond-true _ _ _ is)
-
-pub forwards-next : (m : Names) (first end v : ℕ) → v < end → is_base m v ≡ false → forwards m first (end - v) v ≡ forwards m first (end - (v + 1)) (v + 1)
-unfolding forwards forward_lines
-forwards-next m first end v low is = flat-here (forward_lines m first) end v [] low (cond-false _ _ _ is)
-
-pub forwards-end : (m : Names) (first end v : ℕ) → end ≤ v → forwards m first (end - v) v ≡ []
-unfolding forwards
-forwards-end m first end v high = flat-none (forward_lines m first) end v high
+constants-here m v is = lines-here (constant_lines m) 65536 v _ is.low (cond-true _ _ _ is.has) ∙ append_assoc (comment_lines m v) (assignment_line (names_of m) v ∷ []) _
 
 -- ---- the lines of a group
 
@@ -194,16 +125,10 @@ lines-opening m k start =
     rw (← count) (lines-group m k start ∙ simp append_assoc)
 
 pub separator-yes : (m : MapView) (k : ℕ) → has_separator m (m.image.start + k) ≡ true → IsGroupStart m k → groups_left m k ≡ plain separator ∷ segment_left m k
-unfolding separator_lines
-separator-yes m k is start =
-    let some : separator_lines m (m.image.start + k) ≡ plain separator ∷ [] = rw is refl in
-    lines-opening m k start ∙ ap (λ (ls : List ListingLine). ls ++ segment_left m k) some
+separator-yes m k is start = lines-opening m k start ∙ ap (λ (ls : List ListingLine). ls ++ segment_left m k) (cond-true _ _ _ is)
 
 pub separator-no : (m : MapView) (k : ℕ) → has_separator m (m.image.start + k) ≡ false → IsGroupStart m k → groups_left m k ≡ segment_left m k
-unfolding separator_lines
-separator-no m k none start =
-    let no : separator_lines m (m.image.start + k) ≡ [] = rw none refl in
-    lines-opening m k start ∙ ap (λ (ls : List ListingLine). ls ++ segment_left m k) no
+separator-no m k none start = lines-opening m k start ∙ ap (λ (ls : List ListingLine). ls ++ segment_left m k) (cond-false _ _ _ none)
 
 segment-spot : (m : MapView) (k : ℕ) → segment_before m (m.image.start + k - m.image.start) ≡ segment_before m k
 segment-spot m k = let same : m.image.start + k - m.image.start ≡ k = omega arith in ap (segment_before m) same
@@ -263,12 +188,12 @@ constants-first m v any head ls is = ap (λ (ls : List ListingLine). with_blank_
 pub constant-comment : (m : MapView) (v : ℕ) (any : Bool) (text : List ℕ) → IsConstant m v → comment_at m v ≡ Some text
     → constants_left m v any ≡ plain (view.remark text) ∷ assignment_line (names_of m) v ∷ constants_left m (v + 1) true
 unfolding constants_left
-constant-comment m v any text is comment = constants-first m v any _ _ (constants-here m v is ∙ ap (λ (ls : List ListingLine). ls ++ assignment_line (names_of m) v ∷ constants m (65536 - (v + 1)) (v + 1)) (comment-some m v text comment))
+constant-comment m v any text is comment = constants-first m v any _ _ (constants-here m v is ∙ ap (λ (o : Option (List ℕ)). comment_line o ++ assignment_line (names_of m) v ∷ constants m (65536 - (v + 1)) (v + 1)) comment)
 
-pub constant-bare : (m : MapView) (v : ℕ) (any : Bool) → IsConstant m v → comment_lines m v ≡ []
+pub constant-bare : (m : MapView) (v : ℕ) (any : Bool) → IsConstant m v → comment_at m v ≡ None
     → constants_left m v any ≡ assignment_line (names_of m) v ∷ constants_left m (v + 1) true
 unfolding constants_left
-constant-bare m v any is none = constants-first m v any _ _ (constants-here m v is ∙ ap (λ (ls : List ListingLine). ls ++ assignment_line (names_of m) v ∷ constants m (65536 - (v + 1)) (v + 1)) none)
+constant-bare m v any is none = constants-first m v any _ _ (constants-here m v is ∙ ap (λ (o : Option (List ℕ)). comment_line o ++ assignment_line (names_of m) v ∷ constants m (65536 - (v + 1)) (v + 1)) none)
 
 pub constant-moved : (m : MapView) (v u : ℕ) (any : Bool) → constants m (65536 - v) v ≡ constants m (65536 - u) u → constants_left m v any ≡ constants_left m u any
 unfolding constants_left
@@ -292,18 +217,10 @@ label-some m a some = rw some refl
 
 -- whether the address has a constant line, by where its base is defined
 pub line_left : (m : MapView) (a : ℕ) → is_constant (place_of m a) ≡ false → has_constant_line (names_of m) a ≡ false
-line_left m a other = go (is_base (names_of m) a)
-  where
-    go : (t : Bool) → (t && is_constant (place_of m a)) ≡ false
-    go true = other
-    go false = refl
+line_left m a other = and_right (is_base (names_of m) a) _ other
 
 pub line_kept : (m : MapView) (a : ℕ) → is_constant (place_of m a) ≡ true → has_constant_line (names_of m) a ≡ is_base (names_of m) a
-line_kept m a is = go (is_base (names_of m) a)
-  where
-    go : (t : Bool) → (t && is_constant (place_of m a)) ≡ t
-    go true = is
-    go false = refl
+line_kept m a is = ap (λ (t : Bool). is_base (names_of m) a && t) is ∙ and-true (is_base (names_of m) a)
 
 pub line_none : (m : MapView) (a : ℕ) → is_base (names_of m) a ≡ false → has_constant_line (names_of m) a ≡ false
 line_none m a none = rw none refl
@@ -327,32 +244,24 @@ takes-label m k start = group_takes (names_of m) (opcodes m) (role_of m.info (m.
 
 -- ---- after the statement of a group
 
-place-at : (m : MapView) (k len : ℕ) → IsGroupStart m k → len ≡ group_len m (m.image.start + k) → IsGroupPlace m (k + len)
-place-at m k len start same = subst (λ (n : ℕ). IsGroupPlace m (k + n)) (sym same) (place-next m k start.place start.inside start.shown)
-
-segment-there : (m : MapView) (k len : ℕ) → IsGroupStart m k → len ≡ group_len m (m.image.start + k) → segment_before m (k + len) ≡ segment_at m (m.image.start + k)
-segment-there m k len start same = ap (λ (n : ℕ). segment_before m (k + n)) same ∙ segment-next m k start
-
 -- the next group follows its line
-pub then-group : (m : MapView) (k len : ℕ) (text : List ℕ) (l : ListingLine) → IsGroupStart m k → len ≡ group_len m (m.image.start + k)
-    → has_empty_line (style_of m.info.settings) (statement_at m (m.image.start + k)) ≡ false
-    → text ≡ line_text (style_of m.info.settings) l → IsNext m (l ∷ after_group m k) text (Group (k + len)) (segment_at m (m.image.start + k))
+pub then-group : (m : MapView) (k : ℕ) (text : List ℕ) (l : ListingLine) → IsGroupStart m k → has_empty_line (style_of m.info.settings) (statement_at m (m.image.start + k)) ≡ false
+    → text ≡ line_text (style_of m.info.settings) l → IsNext m (l ∷ after_group m k) text (Group (k + group_len m (m.image.start + k))) (segment_at m (m.image.start + k))
 unfolding after_group ending_lines
-then-group m k len text l start same none is = record {
-  lines = record { head = l; lines = rw none (ap (λ (n : ℕ). l ∷ groups_left m (k + n)) (sym same)); text_is = is };
-  place = place-at m k len start same;
-  segment_is = segment-there m k len start same;
+then-group m k text l start none is = record {
+  lines = record { head = l; lines = rw none refl; text_is = is };
+  place = place-next m k start.place start.inside start.shown;
+  segment_is = segment-next m k start;
 }
 
 -- an empty line follows its line
-pub then-empty : (m : MapView) (k len : ℕ) (text : List ℕ) (l : ListingLine) → IsGroupStart m k → len ≡ group_len m (m.image.start + k)
-    → has_empty_line (style_of m.info.settings) (statement_at m (m.image.start + k)) ≡ true
-    → text ≡ line_text (style_of m.info.settings) l → IsNext m (l ∷ after_group m k) text (Ending (k + len)) (segment_at m (m.image.start + k))
+pub then-empty : (m : MapView) (k : ℕ) (text : List ℕ) (l : ListingLine) → IsGroupStart m k → has_empty_line (style_of m.info.settings) (statement_at m (m.image.start + k)) ≡ true
+    → text ≡ line_text (style_of m.info.settings) l → IsNext m (l ∷ after_group m k) text (Ending (k + group_len m (m.image.start + k))) (segment_at m (m.image.start + k))
 unfolding after_group ending_lines
-then-empty m k len text l start same some is = record {
-  lines = record { head = l; lines = rw some (ap (λ (n : ℕ). l ∷ plain view.blank ∷ groups_left m (k + n)) (sym same)); text_is = is };
-  place = place-at m k len start same;
-  segment_is = segment-there m k len start same;
+then-empty m k text l start some is = record {
+  lines = record { head = l; lines = rw some refl; text_is = is };
+  place = place-next m k start.place start.inside start.shown;
+  segment_is = segment-next m k start;
 }
 
 -- ---- what is known of the parts of what is listed
@@ -413,20 +322,3 @@ pub inside-start : (m : MapView) (k a : ℕ) → IsGroupStart m k → a ≡ m.im
 inside-start m k a start place =
     let some = group-some m k start.place start.inside start.shown in
     record { group = start; after = omega (arith, place); before = omega (arith, place, some) }
-
--- ---- few bytes
-
-few-in : (t : Table) (unit per_line : ℕ) (e : Entry) (bytes : List ℕ) → IsEntry unit per_line e → IsLineOf t unit per_line e bytes → length bytes ≤ 16
-few-in t unit per_line Instruction bytes is of = small (instruction_in t bytes) of
-  where
-    small : (o : Option Op) → code_size o ≡ length bytes → length bytes ≤ 16
-    small None e = omega (arith, e)
-    small (Some op) e = omega (arith, e, len-small op.mode)
-few-in t unit per_line (Number order) bytes is of = few_entries unit per_line 16 bytes (omega arith) (omega (arith, is.1)) of
-few-in t unit per_line Address bytes is of = few_entries unit per_line 16 bytes (omega arith) (omega (arith, is.1)) of
-few-in t unit per_line Return bytes is of = few_entries unit per_line 16 bytes (omega arith) (omega (arith, is.1)) of
-few-in t unit per_line Character bytes is of = few_entries unit per_line 16 bytes (omega arith) is.1 of
-few-in t unit per_line Skipped bytes is of = absurd of
-
-pub few-bytes : (t : Table) (r : RangeType) (bytes : List ℕ) → IsGroupOf t r bytes → length bytes ≤ 16
-few-bytes t r bytes of = few-in t (unit_of r) (limit_of r) (layout_of r).entry bytes (layout_entry r) of

@@ -3,7 +3,9 @@ use Rattle.std.proofs.Common.{◌≡◌, ◌∙◌, ◌+◌, ◌<◌, ◌&&◌, 
 use Rattle.std.specs.Prelude.{◌==◌, Option, None, Some, codes, is_some}
 use Rattle.std.specs.Option.{option_or}
 use Rattle.std.specs.Str.{bytes_eq}
+use Rattle.std.proofs.Math.Bool.{and-or_distrib_right, and-true}
 use Rattle.std.proofs.lemmas.Bool.{eq-eqb, eqb-true, false≢true, false_from_ne_true}
+use Rattle.std.proofs.lemmas.Bool.Decides.{same_from_decides}
 use Rattle.std.proofs.lemmas.Slice.Eq.{bytes_eq-Decides}
 use Rattle.info65.specs.Code.Segments.{segment_seen}
 use Rattle.info65.specs.Segments.{AreSegments, first_named, segment_covering, segment_key}
@@ -25,20 +27,15 @@ use Rattle.da65.proofs.NextLine.SegmentLemmas.{bare-segment}
 
 -- ---- keys
 
-alike : (b c : Bool) → (b ≡ true → c ≡ true) → (c ≡ true → b ≡ true) → b ≡ c
-alike true false f g = absurd (false≢true (f refl))
-alike false true f g = absurd (false≢true (g refl))
-alike _ _ f g = refl
-
 same_some : {X : Type 0} {x y : X} → ◌≡◌ {A = Option X} (Some x) (Some y) → x ≡ y
 same_some is = cc
 
 -- the keys of two names are equal exactly if the names are
 key-tells : (segments : List SegmentView) (n t : List ℕ) (k l : ℕ) → AreSegments segments → first_named segments n ≡ Some k → first_named segments t ≡ Some l → (k == l) ≡ bytes_eq n t
 key-tells segments n t k l are is also =
-    alike (k == l) (bytes_eq n t)
-    (λ yes. (bytes_eq-Decides n t).1 (one_key segments n t k are is (also ∙ ap (λ (x : ℕ). Some x) (sym (eqb-true k l yes)))))
-    (λ yes. eq-eqb k l (same_some (sym is ∙ ap (first_named segments) ((bytes_eq-Decides n t).0 yes) ∙ also)))
+    same_from_decides {P = n ≡ t} (k == l) (bytes_eq n t)
+    (λ yes. one_key segments n t k are is (also ∙ ap (λ (x : ℕ). Some x) (sym (eqb-true k l yes))), λ same. eq-eqb k l (same_some (sym is ∙ ap (first_named segments) same ∙ also)))
+    (bytes_eq-Decides n t)
 
 -- names whose keys are not equal are not
 key-apart : (segments : List SegmentView) (n t : List ℕ) (o p : Option ℕ) → first_named segments n ≡ o → first_named segments t ≡ p → (o ≡ p → ⊥) → bytes_eq n t ≡ false
@@ -63,8 +60,7 @@ name-keyed segments (Some n) (Some k) code is also = record { is = is; code = λ
 name-keyed segments _ _ code is also = absurd is
 
 code-name : (n : List ℕ) (b : Bool) → n ≡ codes "CODE" → (b && bytes_eq (codes "CODE") n) ≡ b
-code-name n true is = (bytes_eq-Decides (codes "CODE") n).1 (sym is)
-code-name n false is = refl
+code-name n b is = ap (λ (t : Bool). b && t) ((bytes_eq-Decides (codes "CODE") n).1 (sym is)) ∙ and-true b
 
 -- what is asked of a name is asked of its key
 asked-by-key : (segments : List SegmentView) (test : Option ℕ → Bool) (n : List ℕ) (key : Option ℕ) → IsNameKey segments n key → of_name segments test n ≡ test key
@@ -81,12 +77,6 @@ name-tells segments n t key are name = go key (first_named segments t) name refl
     go (Some j) None name is = key-apart segments n t (Some j) None name.is is (λ e. absurd cc)
     go (Some j) (Some k) name is = sym (key-tells segments n t j k are name.is is)
 
-or-and : (a b c : Bool) → ((a || b) && c) ≡ ((a && c) || (b && c))
-or-and false b c = refl
-or-and true b true = refl
-or-and true true false = refl
-or-and true false false = refl
-
 -- one name more, by its key
 added-by-key : (segments : List SegmentView) (test more : Option ℕ → Bool) (n t : List ℕ) (key : Option ℕ) → AreSegments segments → IsNameKey segments n key → ((k : Option ℕ) → more k ≡ (is_same_key key k || test k))
     → of_name segments more t ≡ (bytes_eq n t || of_name segments test t)
@@ -94,7 +84,7 @@ added-by-key segments test more n t key are name after = joined (first_named seg
   where
     joined : (o : Option ℕ) → by_key more o t ≡ (by_key (is_same_key key) o t || by_key test o t)
     joined (Some k) = after (Some k)
-    joined None = ap (λ (b : Bool). b && bytes_eq (codes "CODE") t) (after None) ∙ or-and (is_same_key key None) (test None) (bytes_eq (codes "CODE") t)
+    joined None = ap (λ (b : Bool). b && bytes_eq (codes "CODE") t) (after None) ∙ and-or_distrib_right (is_same_key key None) (test None) (bytes_eq (codes "CODE") t)
 
 none-asked : (segments : List SegmentView) (test : Option ℕ → Bool) (t : List ℕ) → ((k : Option ℕ) → test k ≡ false) → of_name segments test t ≡ false
 none-asked segments test t none = none_by (first_named segments t)

@@ -1,6 +1,7 @@
 -- What holds of each statement that an item of code or a group can have, form by form.
 use Rattle.std.proofs.Common.{◌≡◌, ◌∙◌, ℕ, ◌+◌, ◌<◌, ◌≤◌, ◌==◌, List, length, take, Option, Some, None, refl, ap, subst, arith}
 use Rattle.std.specs.Prelude.{nat_lt}
+use Rattle.std.specs.Option.{option_map}
 use Rattle.std.proofs.lemmas.Bool.{cond_both, eqb-false, eqb-true, ltb-false, ltb-true}
 use Rattle.std.proofs.lemmas.List.{take_all}
 use Rattle.isa65.specs.Mode.{len_of}
@@ -26,7 +27,7 @@ use Rattle.da65.specs.Groups.{limit_of}
 use Rattle.da65.specs.Instructions.{instruction_in}
 use Rattle.da65.specs.ReassemblyLaw.{item_in}
 use Rattle.da65.specs.Shapes.{IsGroupOf, IsLineOf}
-use Rattle.da65.specs.Statements.{addr_from, address_entry, bytes_statement, directive_of, entries_or_byte, is_forced, operands_of, return_entry, rts_from, rts_to, statement_by, statement_for, statement_in, statement_of, target_by, written}
+use Rattle.da65.specs.Statements.{address_entry, bytes_statement, directive_of, entries_or_byte, entry_by, is_forced, operands_of, return_entry, rts_to, statement_by, statement_for, statement_in, statement_of, target_by, written}
 use Rattle.da65.proofs.Statements.EntryLemmas.{address_bytes, are_table, directive_is, few_entries, number_small}
 use Rattle.da65.proofs.Statements.StandsLaws.{begins_with}
 
@@ -71,7 +72,7 @@ module _ (m : Names) (t : Table) (a : ℕ) (bytes : List ℕ) (P : StatementView
   unfolding address_entry
   address two = go (m.base_at (entry_of bytes)) refl
     where
-      go : (o : Option Base) → m.base_at (entry_of bytes) ≡ o → P (addr_from bytes (entry_of bytes) o) bytes
+      go : (o : Option Base) → m.base_at (entry_of bytes) ≡ o → P (entry_by (λ t. view.addr t) bytes (option_map (target_by (entry_of bytes)) o)) bytes
       go None e = word two
       go (Some b) e = table.address b two e
 
@@ -82,7 +83,7 @@ module _ (m : Names) (t : Table) (a : ℕ) (bytes : List ℕ) (P : StatementView
       (λ is. table.nowhere two (eqb-true (entry_of bytes) 65535 is))
       (λ other. go (eqb-false (entry_of bytes) 65535 other) (m.base_at (entry_of bytes + 1)) refl)
     where
-      go : (entry_of bytes ≡ 65535 → ⊥) → (o : Option Base) → m.base_at (entry_of bytes + 1) ≡ o → P (rts_from bytes (entry_of bytes + 1) o) bytes
+      go : (entry_of bytes ≡ 65535 → ⊥) → (o : Option Base) → m.base_at (entry_of bytes + 1) ≡ o → P (entry_by (λ t. view.rts (Some t)) bytes (option_map (target_by (entry_of bytes + 1)) o)) bytes
       go other None e = word two
       go other (Some b) e = table.return b two other e
 

@@ -1,43 +1,22 @@
--- Entries of tables: by the targets that a map tells, and by the bytes of a line.
-use Rattle.std.proofs.Common.{◌≡◌, ◌≢◌, ◌∙◌, inl, inr, ℕ, ◌==◌, ◌*◌, ◌%◌, ◌<◌, ◌≤◌, false, List, length, Option, Some, None, refl, sym, ap, subst, arith}
-use Rattle.std.specs.Option.{option_map}
-use Rattle.std.proofs.lemmas.Bool.{cond_both, eqb-false}
+-- Entries of tables, by the bytes of a line.
+use Rattle.std.proofs.Common.{◌≡◌, ◌≢◌, ◌∙◌, inl, inr, ℕ, ◌==◌, ◌*◌, ◌%◌, ◌<◌, ◌≤◌, false, List, length, refl, sym, ap, subst, arith}
+use Rattle.std.proofs.lemmas.Bool.{cond-true, eqb-false, lt-ltb}
 use Rattle.isa65.specs.declared.byte_order.ByteOrder.{ByteOrder}
 use Rattle.isa65.specs.declared.byte_order.ByteOrder.TheVariants.{LittleEndian, BigEndian}
 use Rattle.isa65.specs.Opcodes.{Table}
 use Rattle.info65.proofs.Public.{layout_entry}
 use Rattle.info65.specs.Layouts.{IsEntry, IsNumber, layout_of}
 use Rattle.info65.specs.declared.information.range.Entry.{Entry}
-use Rattle.info65.specs.declared.information.range.Entry.TheVariants.{Instruction, Number, Address, Return, Character, Skipped}
+use Rattle.info65.specs.declared.information.range.Entry.TheVariants.{Instruction, Address, Return, Skipped}
 use Rattle.info65.specs.declared.information.range.RangeType.{RangeType}
-use Rattle.info65.specs.declared.information.range.RangeType.TheVariants.{Code, Skip}
-use Rattle.map65.specs.Names.{Base}
+use Rattle.info65.specs.declared.information.range.RangeType.TheVariants.{Code, Skip, TextTable}
 use Rattle.stmt65.specs.declared.directive.Directive.{Directive}
-use Rattle.stmt65.specs.declared.directive.Directive.TheVariants.{Word}
 use Rattle.stmt65.specs.Tables.{entry_len}
-use Rattle.stmt65.specs.Printable.{IsPrintable, IsTable}
+use Rattle.stmt65.specs.Printable.{IsTable}
 use Rattle.stmt65.specs.Views as view
-use Rattle.stmt65.specs.Views.{TargetView}
+use Rattle.da65.specs.BaseNames.{Names}
 use Rattle.da65.specs.Shapes.{AreEntries, IsGroupOf, IsLineOf}
-use Rattle.da65.specs.Statements.{addr_from, directive_of, numbers, rts_from, target_by}
-
-pub addr_some : (bytes : List ℕ) (a : ℕ) (o : Option Base) (t : TargetView) → option_map (target_by a) o ≡ Some t → addr_from bytes a o ≡ view.addr t
-addr_some bytes a None t is = absurd cc
-addr_some bytes a (Some b) t is = let same : target_by a b ≡ t = cc in ap view.addr same
-
-pub addr_none : (bytes : List ℕ) (a : ℕ) (o : Option Base) → option_map (target_by a) o ≡ None → addr_from bytes a o ≡ view.numbers Word bytes
-addr_none bytes a None is = refl
-addr_none bytes a (Some b) is = absurd cc
-
-pub rts_some : (bytes : List ℕ) (a : ℕ) (o : Option Base) (t : TargetView) → option_map (target_by a) o ≡ Some t → rts_from bytes a o ≡ view.rts (Some t)
-rts_some bytes a None t is = absurd cc
-rts_some bytes a (Some b) t is = let same : target_by a b ≡ t = cc in ap (λ (t : TargetView). view.rts (Some t)) same
-
-pub rts_none : (bytes : List ℕ) (a : ℕ) (o : Option Base) → option_map (target_by a) o ≡ None → rts_from bytes a o ≡ view.numbers Word bytes
-rts_none bytes a None is = refl
-rts_none bytes a (Some b) is = absurd cc
-
--- ---- lines of tables
+use Rattle.da65.specs.Statements.{directive_of, statement_for}
 
 -- an entry of a directive has so many bytes, more than one
 pub record IsEntryOf (unit : ℕ) (d : Directive) : Type 0 where
@@ -63,12 +42,6 @@ pub few_entries : (unit per_line most : ℕ) (bytes : List ℕ) → 1 ≤ most �
 few_entries unit per_line most bytes some line (inl one) = omega (arith, one, some)
 few_entries unit per_line most bytes some line (inr are) = omega (arith, are.1, line)
 
-pub numbers_print : (unit per_line : ℕ) (order : ByteOrder) (bytes : List ℕ) → IsEntry unit per_line (Number order) → AreEntries unit per_line bytes → 0 < length bytes → unit ≤ length bytes → IsPrintable (numbers unit order bytes)
-numbers_print unit per_line order bytes is are some more =
-    cond_both (unit == 1) (view.bytes bytes) (view.numbers (directive_of unit order) bytes) IsPrintable
-    (λ _. (omega (arith, some), few_entries unit per_line 8 bytes (omega arith) is.1 are))
-    (λ other. are_table unit per_line (directive_of unit order) bytes (directive_is unit order is.0 other) is.1 are more)
-
 pub number_small : (unit : ℕ) (order : ByteOrder) → IsNumber unit order → unit ≤ 8
 number_small unit order (inl one) = omega (arith, one)
 number_small unit order (inr (inl two)) = omega (arith, two)
@@ -87,18 +60,20 @@ entry_is r e is = subst (IsEntry (layout_of r).unit (layout_of r).per_line) is (
 line_is : (t : Table) (r : RangeType) (bytes : List ℕ) (e : Entry) → (layout_of r).entry ≡ e → IsGroupOf t r bytes → IsLineOf t (layout_of r).unit (layout_of r).per_line e bytes
 line_is t r bytes e is of = subst (λ (e : Entry). IsLineOf t (layout_of r).unit (layout_of r).per_line e bytes) is of
 
-pub numbers_of_role : (t : Table) (r : RangeType) (order : ByteOrder) (bytes : List ℕ) → (layout_of r).entry ≡ Number order → IsGroupOf t r bytes → 0 < length bytes → (layout_of r).unit ≤ length bytes
-    → IsPrintable (numbers (layout_of r).unit order bytes)
-numbers_of_role t r order bytes is of some more = numbers_print _ _ order bytes (entry_is r (Number order) is) (line_is t r bytes (Number order) is of) some more
-
 pub address_of_role : (t : Table) (r : RangeType) (bytes : List ℕ) → (layout_of r).entry ≡ Address → IsGroupOf t r bytes → (layout_of r).unit ≤ length bytes → length bytes ≡ 2
 address_of_role t r bytes is of more = address_bytes _ _ bytes (entry_is r Address is) (line_is t r bytes Address is of) more
 
 pub return_of_role : (t : Table) (r : RangeType) (bytes : List ℕ) → (layout_of r).entry ≡ Return → IsGroupOf t r bytes → (layout_of r).unit ≤ length bytes → length bytes ≡ 2
 return_of_role t r bytes is of more = address_bytes _ _ bytes (entry_is r Return is) (line_is t r bytes Return is of) more
 
-pub text_of_role : (t : Table) (r : RangeType) (bytes : List ℕ) → (layout_of r).entry ≡ Character → IsGroupOf t r bytes → length bytes ≤ 16
-text_of_role t r bytes is of = few_entries _ _ 16 bytes (omega arith) (entry_is r Character is).1 (line_is t r bytes Character is of)
+-- a line without a whole entry is a leftover byte
+pub leftover : (t u : Table) (n : Names) (r : RangeType) (a : ℕ) (bytes : List ℕ) → r ≢ Code → IsGroupOf t r bytes → 0 < length bytes → length bytes < (layout_of r).unit
+    → view.bytes bytes ≡ statement_for n u r a bytes
+unfolding statement_for
+leftover t u n Code a bytes other is some few = absurd (other refl)
+leftover t u n Skip a bytes other is some few = absurd is
+leftover t u n TextTable a bytes other is some few = absurd (omega (arith, some, few))
+leftover t u n _ a bytes other is some few = sym (cond-true _ _ _ (lt-ltb (length bytes) _ few))
 
 -- a line of a table is one whatever the opcodes are
 pub group_of_table : (t u : Table) (r : RangeType) (bytes : List ℕ) → r ≢ Code → IsGroupOf t r bytes → IsGroupOf u r bytes
@@ -113,6 +88,4 @@ no_instruction _ other is = absurd cc
 pub no_skipped : (t : Table) (r : RangeType) (bytes : List ℕ) → IsGroupOf t r bytes → (layout_of r).entry ≡ Skipped → ⊥
 no_skipped t r bytes of is = line_is t r bytes Skipped is of
 
-pub ruleset lines = (numbers_of_role, address_of_role, return_of_role, text_of_role, no_instruction, no_skipped)
-
-pub ruleset entries = (addr_some, addr_none, rts_some, rts_none)
+pub ruleset lines = (address_of_role, leftover, return_of_role, no_instruction, no_skipped)

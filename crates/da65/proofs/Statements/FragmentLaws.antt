@@ -1,8 +1,9 @@
 -- The bytes of fragments whose values are numbers.
-use Rattle.std.proofs.Common.{◌≡◌, ℕ, true, cond, ◌+◌, ◌-◌, ◌%◌, ◌<◌, ◌≤◌, List, ◌∷◌, ◌++◌, length, map, Option, Some, None, refl, sym, ap, arith, length-append, []}
+use Rattle.std.proofs.Common.{◌≡◌, ℕ, true, cond, ◌+◌, ◌-◌, ◌%◌, ◌<◌, ◌≤◌, List, ◌∷◌, ◌++◌, length, map, Option, Some, None, refl, sym, ap, subst, arith, length-append, []}
 use Rattle.std.specs.Prelude.{nat_lt, nat_le}
 use Rattle.std.specs.List.{list_all, flat_map}
 use Rattle.std.proofs.lemmas.Bool.{lt-ltb, le-leb, ltb-true, ltb-false, leb-true, and_from, cond_both}
+use Rattle.std.proofs.lemmas.Option.{cond_some}
 use Rattle.std.proofs.lemmas.List.Elements.{All-head, All-tail}
 use Rattle.stmt65.specs.SourceLine.{NumberValue, NumberDatum}
 use Rattle.stmt65.specs.Symbols.{Definition, value_in, is_known, word_in}
@@ -91,12 +92,12 @@ pub target_is : (next b target : ℕ) → next ≤ 65536 → b < 256 → target_
 unfolding target_of
 target_is next b target room h =
     cond_both (nat_lt b 128) (cond (nat_lt (next + b) 65536) (Some (next + b)) None) (cond (nat_le (256 - b) next) (Some (next - (256 - b))) None) (λ (o : Option ℕ). o ≡ Some target → IsTarget next b target)
-    (λ low. cond_both (nat_lt (next + b) 65536) (Some (next + b)) None (λ (o : Option ℕ). o ≡ Some target → IsTarget next b target)
-    (λ inside e. let same : next + b ≡ target = cc in rw (← same) (forward_target next b (ltb-true b 128 low) (ltb-true (next + b) 65536 inside)))
-    (λ outside e. absurd cc))
-    (λ high. cond_both (nat_le (256 - b) next) (Some (next - (256 - b))) None (λ (o : Option ℕ). o ≡ Some target → IsTarget next b target)
-    (λ inside e. let same : next - (256 - b) ≡ target = cc in rw (← same) (backward_target next b (ltb-false b 128 high) h room (leb-true (256 - b) next inside)))
-    (λ outside e. absurd cc))
+    (λ low e.
+    let is = cond_some (nat_lt (next + b) 65536) (next + b) target e in
+    subst (IsTarget next b) is.1 (forward_target next b (ltb-true b 128 low) (ltb-true (next + b) 65536 is.0)))
+    (λ high e.
+    let is = cond_some (nat_le (256 - b) next) (next - (256 - b)) target e in
+    subst (IsTarget next b) is.1 (backward_target next b (ltb-false b 128 high) h room (leb-true (256 - b) next is.0)))
 
 -- ---- data
 

@@ -13,6 +13,7 @@ use Rattle.isa65.specs.declared.row.OperandKind.{OperandKind}
 use Rattle.isa65.specs.declared.row.OperandKind.TheVariants as kind
 use Rattle.isa65.specs.declared.row.Row.{Row}
 use Rattle.isa65.specs.declared.row.Row.TheVariants as row
+use Rattle.info65.specs.Names.{AreNames}
 use Rattle.info65.specs.declared.information.range.RangeType.{RangeType}
 use Rattle.stmt65.specs.Views as view
 use Rattle.stmt65.specs.Views.{ExprView, OperandsView, StatementView}
@@ -21,17 +22,21 @@ use Rattle.stmt65.specs.Printable.{AreOperands, IsOperand, IsPrintable, MayBeLab
 use Rattle.stmt65.specs.Printed.{HasLabelName, HasName, HasNames, HasNamesIn, PrintsAs, source_line, with_label}
 use Rattle.stmt65.specs.Code.Widths.{AreWordWide, IsInWidth, IsWordWide}
 use Rattle.stmt65.proofs.Public.{one_line, reads_back}
-use Rattle.map65.specs.ImageView.{AreBytes}
+use Rattle.map65.specs.ImageView.{AreBytes, IsPlaced}
+use Rattle.map65.specs.MapView.{MapView, opcodes}
 use Rattle.map65.specs.Names.{Base}
+use Rattle.map65.specs.Roles.{role_of}
 use Rattle.map65.specs.Targets.{entry_of, target_of}
-use Rattle.da65.specs.BaseNames.{Names}
+use Rattle.da65.specs.BaseNames.{Names, names_of}
+use Rattle.da65.specs.Groups.{begins, group_bytes}
 use Rattle.da65.specs.Listing.{ListingLine, line_text, remarks_of}
-use Rattle.da65.specs.Statements.{address_expr, constant_base, expr_from, operand_expr, operands_of, statement_for, zero_page_expr}
+use Rattle.da65.specs.Statements.{address_expr, constant_base, expr_from, operand_expr, operands_of, statement_at, statement_for, zero_page_expr}
 use Rattle.da65.specs.Shapes.{IsGroupOf}
 use Rattle.da65.specs.declared.listing.style.Style.{Style}
 use Rattle.da65.proofs.Statements.EachStatement.{of_group}
 use Rattle.da65.proofs.Statements.FragmentLaws.{target_is}
-use Rattle.da65.proofs.Names.NameTexts.{IsNameText}
+use Rattle.da65.proofs.Groups.ShapeLemmas.{groups_are_groups}
+use Rattle.da65.proofs.Names.NameTexts.{IsNameText, base-text}
 use Rattle.da65.proofs.Names.TargetBounds.{byte-small, entry-small}
 use Rattle.da65.proofs.Statements.StandsLaws.{at_some, begins_with}
 use Rattle.da65.proofs.Instructions.WrittenLaws.{AreAll, may_be_forced, of_each}
@@ -66,8 +71,8 @@ bytes_pass (b ∷ bytes) h = and_from _ _ (lt-ltb b 256 (All-head (λ b. b < 256
 -- ---- expressions
 
 -- the names have texts that read as names
-pub record HaveTexts (m : Names) : Type 0 where
-  pub texts : (a : ℕ) (b : Base) → m.base_at a ≡ Some b → IsNameText b.text
+record HaveTexts (m : Names) : Type 0 where
+  texts : (a : ℕ) (b : Base) → m.base_at a ≡ Some b → IsNameText b.text
 
 -- what an operand of a kind keeps, and the operands of a row
 record OperandPrints (k : OperandKind) (e : ExprView) : Type 0 where
@@ -136,7 +141,7 @@ operands_print m h mode a bytes os are long room e =
 data_prints : (bytes : List ℕ) → AreBytes bytes → 1 ≤ length bytes → length bytes ≤ 8 → StatementPrints (view.bytes bytes)
 data_prints bytes are some high = record { printable = (some, high); width = bytes_pass bytes are; names = tt }
 
-pub group_prints : (m : Names) → HaveTexts m → (t : Table) (r : RangeType) (a : ℕ) (bytes : List ℕ) → AreBytes bytes → 0 < length bytes → a + length bytes ≤ 65536 → IsGroupOf t r bytes → StatementPrints (statement_for m t r a bytes)
+group_prints : (m : Names) → HaveTexts m → (t : Table) (r : RangeType) (a : ℕ) (bytes : List ℕ) → AreBytes bytes → 0 < length bytes → a + length bytes ≤ 65536 → IsGroupOf t r bytes → StatementPrints (statement_for m t r a bytes)
 group_prints m h t r a bytes are some room of =
     of_group m t a bytes (λ s bs. StatementPrints s)
     (record {
@@ -160,3 +165,9 @@ group_prints m h t r a bytes are some room of =
           record { printable = text.long; width = omega (arith, low); names = text.name };
     })
     r of
+
+-- the statement of each group of a map
+pub statement_prints : (m : MapView) (a : ℕ) → AreNames m.info.names → IsPlaced m.image → AreBytes (group_bytes m a) → begins m a ≡ true → StatementPrints (statement_at m a)
+statement_prints m a names placed are is =
+    let group = groups_are_groups m a is in
+    group_prints (names_of m) (record { texts = λ a b e. base-text m a b names e }) (opcodes m) (role_of m.info a) a (group_bytes m a) are group.some (omega (arith, group.long, group.room, placed.room)) group.of

@@ -1,14 +1,40 @@
--- The laws of reassembly.
-use Rattle.std.proofs.Common.{◌≡◌, refl, take, Option, Some, None}
+-- What an item of code is written as, and the laws of reassembly.
+use Rattle.std.proofs.Common.{◌≡◌, ◌∙◌, ℕ, false, List, length, Option, Some, None, ap, refl, sym, take, arith}
+use Rattle.std.specs.Prelude.{is_some}
+use Rattle.std.proofs.lemmas.List.{take_all}
 use Rattle.isa65.specs.Mode.{len_of}
+use Rattle.isa65.specs.Opcodes.{Table}
 use Rattle.isa65.specs.declared.op.Op.{Op}
 use Rattle.stmt65.specs.Views as view
 use Rattle.stmt65.specs.Views.{OperandsView}
+use Rattle.da65.specs.BaseNames.{Names}
 use Rattle.da65.specs.Instructions.{instruction_in}
 use Rattle.da65.specs.ReassemblyLaw.{TargetIsInRange, UnwrittenIsBytes, WrittenIsInstruction}
-use Rattle.da65.specs.Statements.{operands_of, statement_in, statement_of, written}
+use Rattle.da65.specs.Statements.{bytes_statement, is_forced, operands_of, statement_in, statement_of, written}
 use Rattle.da65.proofs.Statements.FragmentLaws.{target_is}
 use Rattle.map65.specs.Items.{code_size}
+
+-- all bytes of an item, if there are that many
+whole-item : (count : ℕ) (bytes : List ℕ) → count ≡ length bytes → bytes_statement count bytes ≡ view.bytes bytes
+whole-item count bytes e = ap view.bytes (take_all count bytes (omega (arith, e)))
+
+pub undefined : (n : Names) (t : Table) (a : ℕ) (bytes : List ℕ) → instruction_in t bytes ≡ None → code_size (instruction_in t bytes) ≡ length bytes → statement_in n t a bytes ≡ view.bytes bytes
+unfolding statement_in
+undefined n t a bytes none whole = ap (statement_of n t a bytes) none ∙ whole-item 1 bytes (sym (ap code_size none) ∙ whole)
+
+unwritten : (t : Table) (op : Op) (bytes : List ℕ) (o : Option OperandsView) → false ≡ is_some o → len_of op.mode ≡ length bytes → written t op bytes o ≡ view.bytes bytes
+unwritten t op bytes None h e = whole-item (len_of op.mode) bytes e
+unwritten t op bytes (Some os) h e = absurd cc
+
+pub unreached : (n : Names) (t : Table) (a : ℕ) (bytes : List ℕ) (op : Op) → instruction_in t bytes ≡ Some op → false ≡ is_some (operands_of n op.mode a bytes) → code_size (instruction_in t bytes) ≡ length bytes → statement_in n t a bytes ≡ view.bytes bytes
+unfolding statement_in
+unreached n t a bytes op some out whole = ap (statement_of n t a bytes) some ∙ unwritten t op bytes (operands_of n op.mode a bytes) out (sym (ap code_size some) ∙ whole)
+
+pub as-instruction : (n : Names) (t : Table) (a : ℕ) (bytes : List ℕ) (op : Op) (os : OperandsView) → instruction_in t bytes ≡ Some op → Some os ≡ operands_of n op.mode a bytes → view.instr op (is_forced t op bytes) os ≡ statement_in n t a bytes
+unfolding statement_in
+as-instruction n t a bytes op os some is = ap (written t op bytes) is ∙ sym (ap (statement_of n t a bytes) some)
+
+-- ---- the laws
 
 pub written_is_instruction : WrittenIsInstruction
 unfolding statement_in

@@ -1,8 +1,9 @@
 -- One statement in its state: it has no fault, and gives its bytes.
-use Rattle.std.proofs.Common.{◌≡◌, ℕ, false, ◌+◌, ◌≤◌, List, ◌∷◌, ◌++◌, length, map, Option, Some, None, refl, subst, []}
+use Rattle.std.proofs.Common.{◌≡◌, ℕ, false, ◌+◌, ◌≤◌, List, ◌∷◌, ◌++◌, length, map, Option, Some, None, refl, ap, subst, []}
 use Rattle.std.specs.Prelude.{nat_le, nat_lt, IfSome}
 use Rattle.std.specs.List.{flat_map, list_any}
-use Rattle.std.proofs.lemmas.Bool.{le-ltb, leb-true, cond_both}
+use Rattle.std.proofs.lemmas.Bool.{le-ltb, leb-true}
+use Rattle.std.proofs.lemmas.Option.{cond_some}
 use Rattle.isa65.specs.Mode.{len_of}
 use Rattle.isa65.specs.Opcodes.{Table, decoded}
 use Rattle.isa65.specs.declared.cpu.Cpu.{Cpu}
@@ -92,9 +93,8 @@ pub record BeginsWith (t : Table) (bytes : List ℕ) (op : Op) : Type 0 where
 whole_is : (count : ℕ) (o : Option Op) (op : Op) → whole_in count o ≡ Some op → (o ≡ Some op) × (len_of op.mode ≤ count)
 whole_is count None op e = absurd cc
 whole_is count (Some p) op e =
-    cond_both (nat_le (len_of p.mode) count) (Some p) None (λ (o : Option Op). o ≡ Some op → (Some p ≡ Some op) × (len_of op.mode ≤ count))
-    (λ fits f. let same : p ≡ op = cc in (f, subst (λ (q : Op). len_of q.mode ≤ count) same (leb-true (len_of p.mode) count fits)))
-    (λ _ f. absurd cc) e
+    let is = cond_some (nat_le (len_of p.mode) count) p op e in
+    (ap Some is.1, subst (λ (q : Op). len_of q.mode ≤ count) is.1 (leb-true (len_of p.mode) count is.0))
 
 pub begins_with : (t : Table) (bytes : List ℕ) (op : Op) → instruction_in t bytes ≡ Some op → BeginsWith t bytes op
 unfolding instruction_in

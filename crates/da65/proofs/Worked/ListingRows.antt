@@ -19,7 +19,7 @@ use Rattle.map65.specs.Targets.{operand_target, target_at, target_for, target_of
 use Rattle.da65.specs.Comments.{comment_at}
 use Rattle.da65.specs.Groups.{begins, goes_on, group_addresses, group_len, more_at, stride_at}
 use Rattle.da65.specs.Instructions.{instruction_in}
-use Rattle.da65.specs.Listing.{comment_lines, comments, constant_lines, constants, ending_lines, forward_lines, forwards, group_lines, line_text, listing_below, opening_lines, segment_lines, separator, separator_lines, statement_lines, text_of}
+use Rattle.da65.specs.Listing.{ending_lines, group_lines, line_text, listing_below, opening_lines, segment_lines, separator, statement_lines, text_of}
 use Rattle.da65.specs.ListingRows.{WorkedListings, Example, IsListed, code_at, label, range, with_labels, with_ranges}
 use Rattle.da65.specs.Segments.{segment_before}
 use Rattle.da65.specs.Style.{style_of}
@@ -40,11 +40,11 @@ abbrev HasOperand : Example → List ℕ → List ℕ → List ℕ → Type 0
 HasOperand e before after number = HasNumber e before after (number ++ [])
 
 pub worked_listings : WorkedListings
-unfolding addresses are_joined base_at begins comma_list comment_at comment_lines comments covering covering_below cut_text default_name entries
-    pieces address_entry address_expr constant_lines constants ending_lines forward_lines forwards goes_on group_addresses group_len group_lines
+unfolding addresses are_joined base_at begins comma_list comment_at covering covering_below cut_text default_name entries
+    pieces address_entry address_expr ending_lines goes_on group_addresses group_len group_lines
     filled has_name entry_start entry_base instruction_in is_border is_in_run is_joined is_own is_referenced item_len item_start left_at line_of
     line_text listing_below more_at opening_lines operand_target operand_text operands_of place_of refers return_entry role_at role_in
-    segment_at segment_before segment_covering segment_lines separator separator_lines size_at statement_for statement_in statement_lines
+    segment_at segment_before segment_covering segment_lines separator size_at statement_for statement_in statement_lines
     stride_at style_of target_at target_for target_of text_of full_len_at zero_page_expr
 worked_listings = record {
   three_bytes = refl;

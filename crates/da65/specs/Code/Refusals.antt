@@ -16,7 +16,5 @@ Tells (Err Write) expected messages old new = ⊥
 
 -- the same of a refusal, or memory ran out before and nothing was written
 abbrev pub RefusesOrGivesUp : Result Status RunFault → List ℕ → Option (List ℕ) → Option (List ℕ) → Type 0
-RefusesOrGivesUp (Ok status) message old new = (status ≡ Refused) × Appends old new message
-RefusesOrGivesUp (Err Messages) message old new = AppendsFront old new message × (0 < length message)
 RefusesOrGivesUp (Err Memory) message old new = Keeps old new
-RefusesOrGivesUp (Err Write) message old new = ⊥
+RefusesOrGivesUp result message old new = Tells result Refused message old new

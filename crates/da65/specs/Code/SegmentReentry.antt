@@ -1,5 +1,6 @@
 -- What is known, before a group, of the segments of the groups before it. A segment is known by the key of its name.
-use Rattle.std.specs.Prelude.{◌≡◌, ◌==◌, ℕ, ◌&&◌, ◌||◌, not, Bool, true, false, List, Option, None, Some, codes, map}
+use Rattle.std.specs.Prelude.{◌≡◌, ℕ, ◌&&◌, ◌||◌, nat_eq, not, Bool, false, List, Option, None, Some, codes, map}
+use Rattle.std.specs.Option.{option_eq}
 use Rattle.std.specs.Str.{bytes_eq}
 use Rattle.info65.specs.Segments.{first_named}
 use Rattle.info65.specs.Views.{SegmentView}
@@ -17,9 +18,7 @@ IsKeyed segments (Some name) (Some key) = first_named segments name ≡ Some key
 IsKeyed segments _ _ = ⊥
 
 abbrev pub is_same_key : Option ℕ → Option ℕ → Bool
-is_same_key None None = true
-is_same_key (Some k) (Some l) = k == l
-is_same_key _ _ = false
+is_same_key one other = option_eq nat_eq one other
 
 -- the key is in the set, or there is none and the default had a group
 abbrev pub has_key : List ℕ → Bool → Option ℕ → Bool

@@ -1,10 +1,10 @@
 //! Addresses by their names.
 
-ghost use Rattle.std.specs.Prelude.{◌≡◌, ◌<◌, ◌≤◌, length, IfSome, option_map};
+ghost use Rattle.std.specs.Prelude.{◌≡◌, option_map};
 ghost use Rattle.std.specs.Bool.{OnTrue};
 ghost use Rattle.info65.specs.Names.{AreNames};
 ghost use Rattle.map65.specs.Names.{base_at};
-ghost use Rattle.stmt65.specs.Printable.{IsLong, IsNameLong, IsShort};
+ghost use Rattle.stmt65.specs.Printable.{IsNameLong};
 ghost use Rattle.stmt65.specs.Code.StatementViews.{expr_seen, target_seen};
 ghost use Rattle.da65.specs.BaseNames.{base_name, is_base, names_of};
 ghost use Rattle.da65.specs.Code.Bases.{constant_offset, is_own_name};
@@ -62,15 +62,14 @@ pub fn is_defined<A: Allocator>(map: &Map<'_, A>, address: u16) -> bool
 }
 
 /// The address by its name, if it has one.
-#[tactic(auto, using(crate::proofs::Names::BaseLemmas::expr_named, crate::proofs::Names::BaseLemmas::expr_number, crate::proofs::Names::BaseLemmas::text_long))]
+#[tactic(auto, using(crate::proofs::Names::BaseLemmas::expr_named, crate::proofs::Names::BaseLemmas::expr_number))]
 pub fn address_expr<'n, A: Allocator>(
     map: &Map<'_, A>,
     address: u16,
     name: &'n mut NameBuf,
 ) -> Expr<'n>
     requires { AreNames map.now.info.names }
-    ensures value { expr_seen result ≡ address_expr (names_of map.now) address }
-    ensures long { IsLong (expr_seen result) }
+    ensures { expr_seen result ≡ address_expr (names_of map.now) address }
 {
     match map.name(address, name) {
         Some(kind) => Expr::Name(name.as_slice(), kind.offset),
@@ -79,15 +78,14 @@ pub fn address_expr<'n, A: Allocator>(
 }
 
 /// The address of a zero-page operand: by its name only if a constant line defines the base of that name.
-#[tactic(auto, using(crate::proofs::Names::BaseLemmas::zero_named, crate::proofs::Names::BaseLemmas::zero_number, crate::proofs::Names::BaseLemmas::zero_long))]
+#[tactic(auto, using(crate::proofs::Names::BaseLemmas::zero_named, crate::proofs::Names::BaseLemmas::zero_number))]
 pub fn zero_page_expr<'n, A: Allocator>(
     map: &Map<'_, A>,
     address: u8,
     name: &'n mut NameBuf,
 ) -> Expr<'n>
     requires { AreNames map.now.info.names }
-    ensures value { expr_seen result ≡ zero_page_expr (names_of map.now) address }
-    ensures short { IsShort (expr_seen result) }
+    ensures { expr_seen result ≡ zero_page_expr (names_of map.now) address }
 {
     let address = u16::from(address);
     match constant_offset(map.name(address, name)) {
@@ -97,15 +95,14 @@ pub fn zero_page_expr<'n, A: Allocator>(
 }
 
 /// The address as a target, if it has a name.
-#[tactic(auto, using(crate::proofs::Names::BaseLemmas::target_named, crate::proofs::Names::BaseLemmas::target_none, crate::proofs::Names::BaseLemmas::text_long))]
+#[tactic(auto, using(crate::proofs::Names::BaseLemmas::target_named, crate::proofs::Names::BaseLemmas::target_none))]
 pub fn target<'n, A: Allocator>(
     map: &Map<'_, A>,
     address: u16,
     name: &'n mut NameBuf,
 ) -> Option<Target<'n>>
     requires { AreNames map.now.info.names }
-    ensures value { option_map target_seen result ≡ option_map (target_by address) (base_at map.now address) }
-    ensures long { IfSome result (λ t. IsNameLong t.name.now) }
+    ensures { option_map target_seen result ≡ option_map (target_by address) (base_at map.now address) }
 {
     match map.name(address, name) {
         Some(kind) => Some(Target {

@@ -1,6 +1,6 @@
 //! The comments of given names.
 
-ghost use Rattle.std.specs.Prelude.{◌≡◌, ◌+◌, ◌-◌, ◌<◌, ◌≤◌, IfSome};
+ghost use Rattle.std.specs.Prelude.{◌≡◌, ◌-◌, ◌<◌, ◌≤◌, IfSome};
 ghost use Rattle.std.specs.Option.{option_copied};
 ghost use Rattle.stmt65.specs.Printable.{IsPrintable};
 ghost use Rattle.stmt65.specs.Views as view;
@@ -52,13 +52,11 @@ pub fn put_comment<A: Allocator>(
     ensures low { IfSome result (λ v. from ≤ v) }
     ensures high { IfSome result (λ v. v < end) }
 {
-    let mut at = from;
-    'addresses: while at < end {
+    for at in from..end {
         if let Some(text) = comment_at(listed, at as u16) {
             put_plain(out, listed.style(), &Statement::Remark(text));
             return Some(at);
         }
-        at += 1;
     }
     None
 }

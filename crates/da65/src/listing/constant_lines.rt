@@ -1,6 +1,6 @@
 //! The constant lines of a listing.
 
-ghost use Rattle.std.specs.Prelude.{◌≡◌, ◌+◌, ◌-◌, ◌<◌, ◌≤◌, ℕ, [], ◌∷◌, IfSome, MatchOption, None, false, length, true};
+ghost use Rattle.std.specs.Prelude.{◌≡◌, ◌+◌, ◌-◌, ◌<◌, ◌≤◌, ℕ, [], IfSome, MatchOption, None, false, length, true};
 ghost use Rattle.std.specs.Bool.{OnTrue};
 ghost use Rattle.std.specs.List.{prefix_len};
 ghost use Rattle.stmt65.specs.Printable.{IsNameLong};
@@ -9,7 +9,6 @@ ghost use Rattle.da65.specs.BaseNames.{base_name, is_constant, names_of};
 ghost use Rattle.da65.specs.Code.NamedCells.{is_unnamed};
 ghost use Rattle.da65.specs.Lines.{IsAssignmentNext, IsConstant, IsConstantNext, PassesOver, constants_from};
 ghost use Rattle.da65.specs.Listing.{has_constant_line};
-ghost use Rattle.da65.specs.Style.{style_of};
 
 use crate::listing::base_names::put_base;
 use crate::listing::comment_lines::comment_at;
@@ -22,7 +21,7 @@ use stmt65::{Line, Statement};
 
 /// Whether a constant line defines the base that stands for the address, if there is one: the address lies outside
 /// the image, or its byte is skipped.
-#[tactic(auto, using(crate::proofs::Names::BareLemmas::constant_some, crate::proofs::Names::BareLemmas::constant_none))]
+#[tactic(auto, using(crate::proofs::Names::BaseLemmas::constant_some, crate::proofs::Names::BaseLemmas::constant_none))]
 fn has_constant<A: Allocator>(map: &Map<'_, A>, address: u16) -> bool
     ensures { result ≡ is_constant (place_of map.now address) }
 {
@@ -44,13 +43,7 @@ fn is_named_constant<A: Allocator>(
     ensures long { OnTrue result (IsNameLong name.new.items) }
 {
     let map = listed.map();
-    if !map.has_name(address) {
-        return false;
-    }
-    if !has_constant(map, address) {
-        return false;
-    }
-    put_base(map, address, name)
+    map.has_name(address) && has_constant(map, address) && put_base(map, address, name)
 }
 
 /// How many of these cells of a map stand before the first whose address has a name.

@@ -4,7 +4,8 @@ ghost use Rattle.std.specs.Prelude.{◌≡◌, ◌≢◌, ◌+◌, ◌-◌, ◌<
 ghost use Rattle.std.specs.Option.{option_copied};
 ghost use Rattle.std.specs.Bool.{OnTrue};
 ghost use Rattle.stmt65.specs.Code.StatementViews.{statement_seen};
-ghost use Rattle.stmt65.specs.Printable.{IsNameLong, IsPrintable};
+ghost use Rattle.stmt65.specs.Printable.{IsNameLong};
+ghost use Rattle.map65.specs.ImageView.{AreBytes};
 ghost use Rattle.da65.specs.BaseNames.{is_base, names_of};
 ghost use Rattle.da65.specs.Code.ListedGroups.{IsGroupIn};
 ghost use Rattle.da65.specs.Groups.{group_len};
@@ -67,15 +68,19 @@ fn put_forward<A: Allocator>(
     ensures low { IfSome result (λ v. from ≤ v) }
     ensures high { IfSome result (λ v. v < end) }
 {
-    let mut at = from;
-    'addresses: while at < end {
+    for at in from..end {
         if listed.map().has_name(at as u16) && put_forward_at(out, listed, first, at as u16) {
             return Some(at);
         }
-        at += 1;
     }
     None
 }
+
+/// Bytes are numbers below 256.
+#[inline(always)]
+fn are_bytes(bytes: &[u8])
+    ensures { AreBytes bytes.now }
+{}
 
 /// The group that begins with the byte of this index.
 #[inline(always)]
@@ -92,6 +97,7 @@ pub fn group_at<'a, A: Allocator>(listed: &ListedImage<'a, A>, index: usize) -> 
     let len = group_len(map, role, address as usize);
     let (_, rest) = listed.bytes().split_at(index);
     let (bytes, _) = rest.split_at(len);
+    are_bytes(bytes);
     Group {
         index,
         address,
@@ -111,7 +117,6 @@ fn put_group_statement<A: Allocator>(
 ) -> ListingPlace
     requires group { IsGroupIn listed.now group }
     requires statement { statement_seen statement.now ≡ statement_at listed.now (listed.now.image.start + group.index) }
-    requires printable { IsPrintable (statement_seen statement.now) }
     requires label { MayFollow listed.now group.index (option_copied label) }
     ensures { IsStatementNext listed.now group.entry.index (option_copied label.entry) out.new.items result }
 {

@@ -115,10 +115,7 @@ fn has_separator<A: Allocator>(listed: &ListedImage<'_, A>, index: usize) -> boo
     requires { IsGroupStart listed.now index }
     ensures { result ≡ has_separator listed.now (listed.now.image.start + index) }
 {
-    if listed.style().level.get() == 0 {
-        return false;
-    }
-    !listed.map().is_in_run(listed.address(index))
+    listed.style().level.get() != 0 && !listed.map().is_in_run(listed.address(index))
 }
 
 /// Replaces the buffer by the first line of a group, and returns the next place. `segment` is that of the group before, and becomes

@@ -12,14 +12,10 @@ use std::alloc::Allocator;
 fn has_comment<A: Allocator>(info: &Info<A>) -> bool
     ensures { result ≡ list_any has_comment info.now.names }
 {
-    let count = info.given_count();
-    let mut at = 0;
-    'names: while at < count {
-        let given = info.given(at);
-        if given.comment.is_some() {
+    for at in 0..info.given_count() {
+        if info.given(at).comment.is_some() {
             return true;
         }
-        at += 1;
     }
     false
 }
@@ -35,11 +31,5 @@ fn has_segments<A: Allocator>(info: &Info<A>) -> bool
 pub fn has_marks<A: Allocator>(info: &Info<A>, style: &Style) -> bool
     ensures { result ≡ has_marks info.now style.now }
 {
-    if style.level.get() != 0 {
-        return true;
-    }
-    if has_segments(info) {
-        return true;
-    }
-    has_comment(info)
+    style.level.get() != 0 || has_segments(info) || has_comment(info)
 }

@@ -6,8 +6,7 @@ ghost use Rattle.info65.specs.Names.{AreNames};
 ghost use Rattle.map65.specs.ImageView.{IsPlaced, end_of, is_inside};
 ghost use Rattle.map65.specs.Items.{item_len};
 ghost use Rattle.map65.specs.Roles.{is_skip, role_at, role_of};
-ghost use Rattle.da65.specs.Code.SkipRanges.{is_skip_range};
-ghost use Rattle.da65.specs.Groups.{goes_on, group_len, is_whole, limit_at, limit_of, more_at, skips};
+ghost use Rattle.da65.specs.Groups.{goes_on, group_len, is_skip_range, is_whole, limit_at, limit_of, more_at, skips};
 
 use crate::listing::base_names::is_defined;
 use info65::{RangeSpec, RangeType};
@@ -62,6 +61,7 @@ fn is_whole<A: Allocator>(map: &Map<'_, A>, role: RangeType, address: usize) -> 
 /// Whether the item at an address may stand on the line of the one before it: it is of the same piece,
 /// whole, and not defined by name. A given name that cuts a run defines its address, so that the run is
 /// looked at here, and not the piece.
+#[tactic(auto, using(crate::proofs::Groups::RoleLemmas::outside_stops, crate::proofs::Groups::RoleLemmas::role_some, crate::proofs::Groups::RoleLemmas::role_low, crate::proofs::Groups::RoleLemmas::goes_run))]
 fn goes_on<A: Allocator>(map: &Map<'_, A>, address: usize) -> bool
     requires placed { IsPlaced map.now.image }
     requires names { AreNames map.now.info.names }
@@ -70,13 +70,9 @@ fn goes_on<A: Allocator>(map: &Map<'_, A>, address: usize) -> bool
     let Some(role) = role_of(map, address) else {
         return false;
     };
-    if !map.is_in_run(address as u16) {
-        return false;
-    }
-    if !is_whole(map, role, address) {
-        return false;
-    }
-    !is_defined(map, address as u16)
+    map.is_in_run(address as u16)
+        && is_whole(map, role, address)
+        && !is_defined(map, address as u16)
 }
 
 /// How many bytes the items have that go on from an address, of so many at most.
@@ -141,14 +137,12 @@ pub fn group_len<A: Allocator>(map: &Map<'_, A>, role: RangeType, address: usize
 }
 
 /// The role of an address of the image.
+#[tactic(auto, using(crate::proofs::Groups::RoleLemmas::role_there))]
 pub fn role_inside<A: Allocator>(map: &Map<'_, A>, address: u16) -> RangeType
     requires { is_inside map.now.image address ≡ true }
     ensures { result ≡ role_of map.now.info address }
 {
-    let Some(role) = map.role(address) else {
-        unreachable!()
-    };
-    role
+    map.role(address).unwrap()
 }
 
 /// Whether the byte at an address of the image is skipped.
@@ -171,10 +165,7 @@ pub fn has_skip_range(ranges: &[RangeSpec]) -> bool
 pub fn has_skipped<A: Allocator>(map: &Map<'_, A>) -> bool
     ensures { result ≡ skips map.now }
 {
-    if !has_skip_range(map.info().ranges()) {
-        return false;
-    }
-    is_any_skipped(map)
+    has_skip_range(map.info().ranges()) && is_any_skipped(map)
 }
 
 /// Whether a byte of the image is skipped, by each byte.
@@ -184,13 +175,11 @@ fn is_any_skipped<A: Allocator>(map: &Map<'_, A>) -> bool
 {
     let image = map.image();
     let start = image.start() as usize;
-    let count = image.bytes().len();
-    let mut at = 0;
-    'bytes: while at < count {
-        if is_skipped(map, (start + at) as u16) {
+    let end = start + image.bytes().len();
+    for address in start..end {
+        if is_skipped(map, address as u16) {
             return true;
         }
-        at += 1;
     }
     false
 }

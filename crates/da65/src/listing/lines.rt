@@ -55,13 +55,10 @@ fn shown_from<A: Allocator>(listed: &ListedImage<'_, A>, from: usize) -> Option<
     ensures segment { IfSome result (λ at. segment_before listed.now at ≡ segment_before listed.now from) }
     ensures start { IfSome result (IsGroupStart listed.now) }
 {
-    let count = listed.bytes().len();
-    let mut at = from;
-    'bytes: while at < count {
+    for at in from..listed.bytes().len() {
         if !is_skipped(listed.map(), listed.address(at)) {
             return Some(at);
         }
-        at += 1;
     }
     None
 }

@@ -5,7 +5,7 @@ ghost use Rattle.std.specs.List.{list_any};
 ghost use Rattle.info65.specs.Names.{AreNames};
 ghost use Rattle.info65.specs.Segments.{AreSegments};
 ghost use Rattle.map65.specs.ImageView.{IsPlaced};
-ghost use Rattle.da65.specs.Code.SkipRanges.{is_skip_range};
+ghost use Rattle.da65.specs.Groups.{is_skip_range};
 ghost use Rattle.da65.specs.Marks.{has_marks};
 ghost use Rattle.da65.specs.Style.{style_of};
 

@@ -6,7 +6,6 @@ ghost use Rattle.isa65.specs.Mode.{len_of, row_len, size_of};
 ghost use Rattle.isa65.specs.Opcodes.{Table};
 ghost use Rattle.isa65.specs.declared.row.Row.TheVariants.{Two};
 ghost use Rattle.map65.specs.Targets.{entry_of, target_of};
-ghost use Rattle.stmt65.specs.Printable.{AreOperands, IsOperand, IsPrintable, IsWrittenIn};
 ghost use Rattle.stmt65.specs.SourceLine.{is_absolute};
 ghost use Rattle.stmt65.specs.Code.StatementViews.{expr_seen, operands_seen, statement_seen};
 ghost use Rattle.da65.specs.BaseNames.{Names, names_of};
@@ -104,18 +103,6 @@ pub fn written_op<S: OpcodeSet>(set: &S, address: u16, bytes: &[u8]) -> Option<O
     }
 }
 
-/// The address that a branch leads to, which lies in the address space.
-fn branch_target(next: u32, offset: u8) -> u16
-    requires small { next ≤ 65536 }
-    requires inside { is_some (target_of next offset) ≡ true }
-    ensures { Some result ≡ target_of next offset }
-{
-    match target_of(next, offset) {
-        Some(target) => target,
-        None => unreachable!(),
-    }
-}
-
 /// The word whose bytes begin at an index, low byte first.
 fn word_at(bytes: &[u8], at: usize) -> u16
     requires { at + 2 ≤ length bytes.now }
@@ -138,14 +125,13 @@ fn operand_expr<'n, A: Allocator>(
     requires all { at + size_of kind ≤ length bytes.now }
     requires room { next ≤ 65536 }
     requires inside { is_some (operand_expr (names_of map.now) kind next at bytes.now) ≡ true }
-    ensures value { Some (expr_seen result) ≡ operand_expr (names_of map.now) kind next at bytes.now }
-    ensures written { IsOperand kind (expr_seen result) }
+    ensures { Some (expr_seen result) ≡ operand_expr (names_of map.now) kind next at bytes.now }
 {
     match kind {
         OperandKind::Byte => Expr::Number(u16::from(bytes[at])),
         OperandKind::ZeroPage => zero_page_expr(map, bytes[at], name),
         OperandKind::Word => address_expr(map, word_at(bytes, at), name),
-        OperandKind::Distance => address_expr(map, branch_target(next, bytes[at]), name),
+        OperandKind::Distance => address_expr(map, target_of(next, bytes[at]).unwrap(), name),
     }
 }
 
@@ -164,8 +150,7 @@ fn two_operands<'n, A: Allocator>(
     requires all { row_len (Two first second) ≤ length bytes.now }
     requires room { next ≤ 65536 }
     requires inside { is_some (row_operands (names_of map.now) (Two first second) next bytes.now) ≡ true }
-    ensures value { Some (operands_seen result) ≡ row_operands (names_of map.now) (Two first second) next bytes.now }
-    ensures written { AreOperands (Two first second) (operands_seen result) }
+    ensures { Some (operands_seen result) ≡ row_operands (names_of map.now) (Two first second) next bytes.now }
 {
     let at = 1 + usize::from(first.size());
     let tested = operand_expr(map, first, next, 1, bytes, &mut names.first);
@@ -189,8 +174,7 @@ fn operands_of<'n, A: Allocator>(
     requires all { len_of mode ≤ length bytes.now }
     requires room { address + length bytes.now ≤ 65536 }
     requires inside { is_some (operands_of (names_of map.now) mode address bytes.now) ≡ true }
-    ensures value { Some (operands_seen result) ≡ operands_of (names_of map.now) mode address bytes.now }
-    ensures written { IsWrittenIn mode (operands_seen result) }
+    ensures { Some (operands_seen result) ≡ operands_of (names_of map.now) mode address bytes.now }
 {
     let next = u32::from(address) + u32::from(mode.len());
     match mode.row() {
@@ -244,8 +228,7 @@ pub fn instruction<'a, S: OpcodeSet, A: Allocator>(
     requires names { AreNames map.now.info.names }
     requires room { address + length bytes.now ≤ 65536 }
     requires written { IsWrittenOp (S.table set.now) address bytes.now (Some op) }
-    ensures value { statement_seen result ≡ statement_in (names_of map.now) (S.table set.now) address bytes.now }
-    ensures printable { IsPrintable (statement_seen result) }
+    ensures { statement_seen result ≡ statement_in (names_of map.now) (S.table set.now) address bytes.now }
 {
     Statement::Instr {
         op,
@@ -255,7 +238,7 @@ pub fn instruction<'a, S: OpcodeSet, A: Allocator>(
 }
 
 /// The entry of an address table.
-#[tactic(auto, using(crate::proofs::Statements::EntryLemmas::entries), unfolding(crate::specs::Statements::address_entry))]
+#[tactic(auto, unfolding(crate::specs::Statements::address_entry))]
 fn address_entry<'a, A: Allocator>(
     map: &Map<'_, A>,
     bytes: &'a [u8],
@@ -263,8 +246,7 @@ fn address_entry<'a, A: Allocator>(
 ) -> Statement<'a>
     requires names { AreNames map.now.info.names }
     requires word { length bytes.now ≡ 2 }
-    ensures value { statement_seen result ≡ address_entry (names_of map.now) bytes.entry.now }
-    ensures printable { IsPrintable (statement_seen result) }
+    ensures { statement_seen result ≡ address_entry (names_of map.now) bytes.entry.now }
 {
     match target(map, entry_of(bytes), name) {
         Some(target) => Statement::Addr(target),
@@ -273,7 +255,7 @@ fn address_entry<'a, A: Allocator>(
 }
 
 /// The entry of a return table.
-#[tactic(auto, using(crate::proofs::Statements::EntryLemmas::entries), unfolding(crate::specs::Statements::return_entry))]
+#[tactic(auto, unfolding(crate::specs::Statements::return_entry))]
 fn return_entry<'a, A: Allocator>(
     map: &Map<'_, A>,
     bytes: &'a [u8],
@@ -281,8 +263,7 @@ fn return_entry<'a, A: Allocator>(
 ) -> Statement<'a>
     requires names { AreNames map.now.info.names }
     requires word { length bytes.now ≡ 2 }
-    ensures value { statement_seen result ≡ return_entry (names_of map.now) bytes.entry.now }
-    ensures printable { IsPrintable (statement_seen result) }
+    ensures { statement_seen result ≡ return_entry (names_of map.now) bytes.entry.now }
 {
     let entry = entry_of(bytes);
     if entry == 0xFFFF {
@@ -296,22 +277,13 @@ fn return_entry<'a, A: Allocator>(
 
 /// The numbers of a line of a table, each of `unit` bytes in this order.
 fn numbers(unit: u8, order: ByteOrder, bytes: &[u8]) -> Statement<'_>
-    requires { IsPrintable (numbers unit order bytes.now) }
-    ensures value { statement_seen result ≡ numbers unit order bytes.entry.now }
-    ensures printable { IsPrintable (statement_seen result) }
+    ensures { statement_seen result ≡ numbers unit order bytes.entry.now }
 {
-    if unit == 1 {
-        return Statement::Bytes(bytes);
-    }
-    match order {
-        ByteOrder::LittleEndian => {
-            if unit == 4 {
-                Statement::Dwords(bytes)
-            } else {
-                Statement::Words(bytes)
-            }
-        }
-        ByteOrder::BigEndian => Statement::Dbyts(bytes),
+    match (unit, order) {
+        (1, _) => Statement::Bytes(bytes),
+        (4, ByteOrder::LittleEndian) => Statement::Dwords(bytes),
+        (_, ByteOrder::LittleEndian) => Statement::Words(bytes),
+        (_, ByteOrder::BigEndian) => Statement::Dbyts(bytes),
     }
 }
 
@@ -327,33 +299,16 @@ pub fn table_statement<'a, A: Allocator>(
     requires some { 0 < length bytes.now }
     requires table { role ≢ RangeType.Code }
     requires shape { IsGroupOf [] role bytes.now }
-    ensures value { (t : Table) (address : ℕ) → statement_seen result ≡ statement_for (names_of map.now) t role address bytes.entry.now }
-    ensures printable { IsPrintable (statement_seen result) }
+    ensures { (t : Table) (address : ℕ) → statement_seen result ≡ statement_for (names_of map.now) t role address bytes.entry.now }
 {
     let layout = role.layout();
-    let is_leftover = bytes.len() < usize::from(layout.unit);
+    if bytes.len() < usize::from(layout.unit) {
+        return Statement::Bytes(bytes);
+    }
     match layout.entry {
-        Entry::Number(order) => {
-            if is_leftover {
-                Statement::Bytes(bytes)
-            } else {
-                numbers(layout.unit, order, bytes)
-            }
-        }
-        Entry::Address => {
-            if is_leftover {
-                Statement::Bytes(bytes)
-            } else {
-                address_entry(map, bytes, &mut names.first)
-            }
-        }
-        Entry::Return => {
-            if is_leftover {
-                Statement::Bytes(bytes)
-            } else {
-                return_entry(map, bytes, &mut names.first)
-            }
-        }
+        Entry::Number(order) => numbers(layout.unit, order, bytes),
+        Entry::Address => address_entry(map, bytes, &mut names.first),
+        Entry::Return => return_entry(map, bytes, &mut names.first),
         Entry::Character => Statement::Text(bytes),
         Entry::Instruction | Entry::Skipped => unreachable!(),
     }

@@ -1,6 +1,6 @@
 //! What the settings say of the lines of a listing.
 
-ghost use Rattle.std.specs.Prelude.{◌≡◌, ◌≤◌};
+ghost use Rattle.std.specs.Prelude.{◌≡◌};
 ghost use Rattle.da65.specs.Listing.{has_empty_line};
 ghost use Rattle.da65.specs.Style.{columns_of, style_of};
 ghost use Rattle.info65.specs.Views.{AreInLimits};
@@ -28,51 +28,17 @@ pub struct Style {
     pub after_rts: bool,
 }
 
-/// The column of this number.
-fn column(number: u8) -> Column
-    requires least { 1 ≤ number }
-    requires greatest { number ≤ 120 }
-    ensures { result ≡ number }
-{
-    match Column::try_from(number) {
-        Ok(column) => column,
-        Err(_) => unreachable!(),
-    }
-}
-
-/// The label break of this number.
-fn label_break(number: u8) -> LabelBreak
-    requires { number ≤ 120 }
-    ensures { result ≡ number }
-{
-    match LabelBreak::try_from(number) {
-        Ok(length) => length,
-        Err(_) => unreachable!(),
-    }
-}
-
-/// The comment level of this number.
-fn level(number: u8) -> Level
-    requires { number ≤ 4 }
-    ensures { result ≡ number }
-{
-    match Level::try_from(number) {
-        Ok(level) => level,
-        Err(_) => unreachable!(),
-    }
-}
-
 /// The columns that these settings ask for.
 fn columns_of<A: Allocator>(settings: &Settings<A>) -> Columns
     requires { AreInLimits settings.now }
     ensures { result ≡ columns_of settings.now }
 {
     Columns {
-        mnemonic: column(settings.mnemonic_column),
-        argument: column(settings.argument_column),
-        comment: column(settings.comment_column),
-        text: column(settings.text_column),
-        label_break: label_break(settings.label_break),
+        mnemonic: Column::try_from(settings.mnemonic_column).unwrap(),
+        argument: Column::try_from(settings.argument_column).unwrap(),
+        comment: Column::try_from(settings.comment_column).unwrap(),
+        text: Column::try_from(settings.text_column).unwrap(),
+        label_break: LabelBreak::try_from(settings.label_break).unwrap(),
     }
 }
 
@@ -85,7 +51,7 @@ pub fn style_of<A: Allocator>(settings: &Settings<A>) -> Style
     Style {
         cpu: settings.cpu,
         columns: columns_of(settings),
-        level: level(settings.comments),
+        level: Level::try_from(settings.comments).unwrap(),
         hexoffs: settings.hexoffs,
         after_jmp: settings.newline_after_jmp,
         after_rts: settings.newline_after_rts,

@@ -24,15 +24,15 @@ use info65::{Info, InfoFault, Options, read_info};
 use map65::{ImageFault, Map, Sink, Source, read_image, write_whole};
 use std::alloc::Allocator;
 
-/// Writes the message of a refusal, which is its only one.
-fn refuse<M: Sink>(msgs: &mut M, message: &[u8]) -> Result<Status, RunFault>
-    requires { length message.now ≤ 320 }
-    ensures text { Tells result Status.Refused message.now (M.taken msgs.old) (M.taken msgs.new) }
+/// Writes the messages of a run that ends with this status.
+fn tell<M: Sink>(msgs: &mut M, messages: &[u8], status: Status) -> Result<Status, RunFault>
+    requires { length messages.now ≤ 320 }
+    ensures text { Tells result status messages.now (M.taken msgs.old) (M.taken msgs.new) }
     ensures few { WritesFew (M.taken msgs.old) (M.taken msgs.new) }
     ensures count { MessagesCount result (M.faults msgs.old) (M.faults msgs.new) }
 {
-    match write_whole(msgs, message) {
-        Ok(()) => Ok(Status::Refused),
+    match write_whole(msgs, messages) {
+        Ok(()) => Ok(status),
         Err(_) => Err(RunFault::Messages),
     }
 }
@@ -47,7 +47,7 @@ fn refuse_image<M: Sink>(msgs: &mut M, fault: ImageFault) -> Result<Status, RunF
 {
     match fault {
         ImageFault::Memory => Err(RunFault::Memory),
-        _ => refuse(msgs, image_message(fault)),
+        _ => tell(msgs, image_message(fault), Status::Refused),
     }
 }
 
@@ -56,19 +56,6 @@ fn warnings_of<A: Allocator>(map: &Map<'_, A>) -> Message
     ensures { result.items ≡ warnings map.now }
 {
     warnings(has_skipped(map), is_entered_again(map))
-}
-
-/// Writes the warnings after a listing.
-fn warn<M: Sink>(msgs: &mut M, warnings: &[u8]) -> Result<Status, RunFault>
-    requires { length warnings.now ≤ 320 }
-    ensures text { Tells result Status.Done warnings.now (M.taken msgs.old) (M.taken msgs.new) }
-    ensures few { WritesFew (M.taken msgs.old) (M.taken msgs.new) }
-    ensures count { MessagesCount result (M.faults msgs.old) (M.faults msgs.new) }
-{
-    match write_whole(msgs, warnings) {
-        Ok(()) => Ok(Status::Done),
-        Err(_) => Err(RunFault::Messages),
-    }
 }
 
 /// Writes the listing of an image and then its warnings. Allocates nothing.
@@ -89,7 +76,7 @@ fn write_listing<A: Allocator, W: Sink, M: Sink>(
     ensures messages_count { MessagesCount result (M.faults msgs.old) (M.faults msgs.new) }
 {
     match write_lines(Lines::new(map.info(), map.image(), map), out) {
-        Ok(()) => warn(msgs, messages),
+        Ok(()) => tell(msgs, messages, Status::Done),
         Err(_) => Err(RunFault::Write),
     }
 }
@@ -216,7 +203,7 @@ pub fn run_read<A: Allocator + Copy, R: Source, W: Sink, M: Sink>(
 {
     match prepare(alloc, read, files) {
         Ok(info) => list_input(alloc, &info, input, out, msgs),
-        Err(Stop::Refused(message)) => refuse(msgs, message.as_slice()),
+        Err(Stop::Refused(message)) => tell(msgs, message.as_slice(), Status::Refused),
         Err(Stop::Memory) => Err(RunFault::Memory),
     }
 }

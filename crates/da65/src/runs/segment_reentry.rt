@@ -1,8 +1,7 @@
 //! Whether a segment is entered again.
 
-ghost use Rattle.std.specs.Prelude.{◌≡◌, ◌||◌, List, Option, ℕ};
+ghost use Rattle.std.specs.Prelude.{◌≡◌, ◌||◌, Option, ℕ};
 ghost use Rattle.std.specs.Bool.{OnFalse};
-ghost use Rattle.std.specs.Option.{option_or};
 ghost use Rattle.da65.specs.Code.SegmentReentry.{IsAfter, IsKeyed, IsNew, has_had, is_back, is_same_key};
 ghost use Rattle.da65.specs.SegmentReentry.{is_entered_again};
 ghost use Rattle.map65.specs.Segments.{segment_at};
@@ -31,26 +30,6 @@ fn segment_key<A: Allocator>(map: &Map<'_, A>, address: u16) -> Option<u16>
     map.info().segment_key(address)
 }
 
-fn is_same_key(one: Option<u16>, other: Option<u16>) -> bool
-    ensures { result ≡ is_same_key one other }
-{
-    match (one, other) {
-        (None, None) => true,
-        (Some(key), Some(other)) => key == other,
-        _ => false,
-    }
-}
-
-/// The key of the name by which a segment is compared with those of earlier groups: the default counts as CODE.
-fn name_key(segment: Option<u16>, code: Option<u16>) -> Option<u16>
-    ensures { result ≡ option_or segment code }
-{
-    match segment {
-        Some(key) => Some(key),
-        None => code,
-    }
-}
-
 impl Entered {
     fn none() -> Self
         ensures { IsNew result }
@@ -76,7 +55,7 @@ impl Entered {
     fn is_back(&self, segment: Option<u16>, name: Option<u16>) -> bool
         ensures { result ≡ is_back self.now segment name }
     {
-        !is_same_key(self.last, segment) && self.has_had(name)
+        self.last != segment && self.has_had(name)
     }
 
     /// Keeps the name of the segment of a group.
@@ -128,7 +107,8 @@ pub fn is_entered_again<A: Allocator>(map: &Map<'_, A>) -> bool
             at += 1;
         } else {
             let segment = segment_key(map, address);
-            if entered.add(segment, name_key(segment, code)) {
+            // The name by which a segment is compared with those of earlier groups: the default counts as CODE.
+            if entered.add(segment, segment.or(code)) {
                 return true;
             }
             at += group_len(map, role_inside(map, address), start + at);

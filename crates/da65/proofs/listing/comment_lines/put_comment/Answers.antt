@@ -1,20 +1,17 @@
-use Rattle.std.proofs.Common.{◌∙◌, ap, arith, option_copied, sym}
-use Rattle.da65.proofs.NextLine.NextLemmas.{comments-end, comments-here, comments-next, first-text}
+use Rattle.std.proofs.Common.{◌∙◌, ap, option_copied, sym}
+use Rattle.da65.specs.Listing.{comment_line, comment_lines}
+use Rattle.da65.proofs.NextLine.NextLemmas.{first-text, lines-here, lines-none}
 use Rattle.da65.proofs.listing.comment_lines.put_comment.Goals as goal
 
 pub returns-in-Some-clause-line : goal.returns-in-Some-clause-line
 returns-in-Some-clause-line g c =
     first-text _ _ _ _ _ _
-    (sym c.addresses.invariant.same ∙ comments-here _ _ c.addresses.at _ c.addresses-test.true (sym c.comment_at.ensures.comment ∙ ap option_copied c.in-Some.is))
+    (sym c.loop-at.invariant ∙ lines-here (comment_lines _) _ c.loop-at.at _ c.loop-at-test.true (ap comment_line (sym c.comment_at.ensures.comment ∙ ap option_copied c.in-Some.is)))
     c.put_plain.ensures
     c.style.ensures.style
 
-pub addresses-preserved : goal.addresses-preserved
-addresses-preserved g c = record {
-  same = sym (comments-next _ _ c.addresses.at c.addresses-test.true (sym c.comment_at.ensures.comment ∙ ap option_copied c.in_default.is)) ∙ c.addresses.invariant.same;
-  low = omega arith;
-  bound = omega arith;
-}
+pub loop-at-preserved : goal.loop-at-preserved
+loop-at-preserved g c = sym (lines-here (comment_lines _) _ c.loop-at.at _ c.loop-at-test.true (ap comment_line (sym c.comment_at.ensures.comment ∙ ap option_copied c.in_default.is))) ∙ c.loop-at.invariant
 
 pub returns-clause-line : goal.returns-clause-line
-returns-clause-line g c = sym c.addresses.invariant.same ∙ comments-end _ _ c.addresses.at c.addresses-test.false
+returns-clause-line g c = sym c.loop-at.invariant ∙ lines-none (comment_lines _) _ c.loop-at.at c.loop-at-test.false

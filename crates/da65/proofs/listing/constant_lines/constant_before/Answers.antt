@@ -1,9 +1,10 @@
-use Rattle.std.proofs.Common.{◌≡◌, ◌∙◌, ◌-◌, ◌+◌, ℕ, ap, arith, false, subst, sym}
+use Rattle.std.proofs.Common.{◌≡◌, ◌∙◌, ◌-◌, ◌+◌, ℕ, ap, arith, false, subst, sym, []}
+use Rattle.std.proofs.lemmas.Bool.{cond-false}
 use Rattle.map65.specs.MapView.{MapView}
 use Rattle.map65.specs.Names.{has_name}
-use Rattle.da65.specs.Listing.{constants}
+use Rattle.da65.specs.Listing.{constant_lines, constants}
 use Rattle.da65.proofs.NextLine.ConstantLemmas.{constants-unnamed}
-use Rattle.da65.proofs.NextLine.NextLemmas.{constants-next}
+use Rattle.da65.proofs.NextLine.NextLemmas.{lines-here}
 use Rattle.da65.proofs.listing.constant_lines.constant_before.Goals as goal
 
 pub addresses-init : goal.addresses-init
@@ -14,7 +15,7 @@ addresses-init g c = record {
 
 pub addresses-preserved : goal.addresses-preserved
 addresses-preserved g c = record {
-  same = c.addresses.invariant.same ∙ constants-next _ c.addresses.at (omega (arith, c.addresses-test.true, c.requires.bound)) (sym c.is_named_constant.ensures.is ∙ c.if-is_named_constant.false)
+  same = c.addresses.invariant.same ∙ lines-here (constant_lines _) 65536 c.addresses.at [] (omega (arith, c.addresses-test.true, c.requires.bound)) (cond-false _ _ _ (sym c.is_named_constant.ensures.is ∙ c.if-is_named_constant.false))
       ∙ constants-unnamed _ (c.addresses.at + 1) c.named_from-at-in-addresses.result c.named_from-at-in-addresses.ensures.low (omega (arith, c.named_from-at-in-addresses.ensures.high, c.requires.bound)) (λ a low high. subst (λ (m : MapView). has_name m a ≡ false) c.map-map.ensures.map (c.named_from-at-in-addresses.ensures.between a low high));
   bound = c.named_from-at-in-addresses.ensures.high;
 }

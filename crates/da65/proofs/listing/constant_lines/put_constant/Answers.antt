@@ -1,7 +1,6 @@
 use Rattle.std.proofs.Common.{◌∙◌, ap, option_copied, refl, sym}
 use Rattle.da65.proofs.NextLine.NextLemmas.{constant-bare, constant-comment, next-moved, next-plain}
 use Rattle.da65.proofs.listing.constant_lines.put_constant.Goals as goal
-use Rattle.da65.proofs.NextLine.CommentLemmas.{comment-none}
 
 pub returns-in-Some : goal.returns-in-Some
 returns-in-Some g c =
@@ -9,4 +8,4 @@ returns-in-Some g c =
 
 pub returns : goal.returns
 returns g c =
-    next-moved _ _ _ _ _ _ (constant-bare _ _ _ c.requires.is (comment-none _ _ (sym c.comment_at.ensures.comment ∙ ap option_copied c.in_default.is))) c.put_definition.ensures
+    next-moved _ _ _ _ _ _ (constant-bare _ _ _ c.requires.is (sym c.comment_at.ensures.comment ∙ ap option_copied c.in_default.is)) c.put_definition.ensures

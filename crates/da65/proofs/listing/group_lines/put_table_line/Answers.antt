@@ -15,4 +15,4 @@ table_statement-statement-requires-clause-shape g c =
 pub put_group_statement-requires-clause-statement : goal.put_group_statement-requires-clause-statement
 put_group_statement-requires-clause-statement g c =
     let m = c.args.listed.now in
-    statement-is _ m m.info.settings.cpu c.args.group _ c.map.ensures.map refl c.requires.group (c.table_statement-statement.ensures.value (opcodes m) c.args.group.address)
+    statement-is _ m m.info.settings.cpu c.args.group _ c.map.ensures.map refl c.requires.group (c.table_statement-statement.ensures (opcodes m) c.args.group.address)

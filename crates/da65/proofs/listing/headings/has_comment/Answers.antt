@@ -9,14 +9,12 @@ use Rattle.da65.proofs.listing.headings.has_comment.Goals as goal
 
 pub returns-then-is_some : goal.returns-then-is_some
 returns-then-is_some g c =
-    sym (list_any_at has_comment c.args.info.now.names c.names.at blank_name (omega arith) (comment-shown c.given-given.result _ c.given-given.ensures.name ∙ sym c.is_some.ensures ∙ c.if-is_some.true))
+    sym (list_any_at has_comment c.args.info.now.names c.loop-at.at blank_name (omega arith) (comment-shown c.given.result _ c.given.ensures.name ∙ sym c.is_some.ensures ∙ c.if-is_some.true))
 
-pub names-preserved : goal.names-preserved
-names-preserved g c = record {
-  none = list_any_more has_comment c.args.info.now.names c.names.at blank_name (omega arith)
-      ∙ rw (c.names.invariant.none, comment-shown c.given-given.result _ c.given-given.ensures.name ∙ sym c.is_some.ensures ∙ c.if-is_some.false) refl;
-  bound = omega arith;
-}
+pub loop-at-preserved : goal.loop-at-preserved
+loop-at-preserved g c =
+    list_any_more has_comment c.args.info.now.names c.loop-at.at blank_name (omega arith)
+    ∙ rw (c.loop-at.invariant, comment-shown c.given.result _ c.given.ensures.name ∙ sym c.is_some.ensures ∙ c.if-is_some.false) refl
 
 pub returns : goal.returns
-returns g c = sym c.names.invariant.none ∙ ap (list_any has_comment) (take_all c.names.at c.args.info.now.names (omega arith))
+returns g c = sym c.loop-at.invariant ∙ ap (list_any has_comment) (take_all c.loop-at.at c.args.info.now.names (omega arith))

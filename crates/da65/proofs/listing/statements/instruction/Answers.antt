@@ -1,4 +1,4 @@
-use Rattle.da65.proofs.Instructions.WrittenOps.{as-instruction}
+use Rattle.da65.proofs.Statements.Reassembly.{as-instruction}
 use Rattle.da65.proofs.Statements.StandsLaws.{begins_with}
 use Rattle.da65.proofs.listing.statements.instruction.Goals as goal
 
@@ -8,5 +8,5 @@ written_size-requires g c = (begins_with _ _ _ c.requires.written.0).long
 pub operands_of-requires-clause-all : goal.operands_of-requires-clause-all
 operands_of-requires-clause-all g c = (begins_with _ _ _ c.requires.written.0).long
 
-pub returns-clause-value : goal.returns-clause-value
-returns-clause-value g c = rw c.written_size.ensures (as-instruction _ _ _ _ _ _ c.requires.written.0 c.operands_of.ensures.value)
+pub returns : goal.returns
+returns g c = rw c.written_size.ensures (as-instruction _ _ _ _ _ _ c.requires.written.0 c.operands_of.ensures)

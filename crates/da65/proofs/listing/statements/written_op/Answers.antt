@@ -1,6 +1,6 @@
 use Rattle.std.proofs.Common.{◌≡◌, ◌∙◌, None, Some, rules, sym}
 use Rattle.da65.specs.Instructions.{instruction_in}
-use Rattle.da65.proofs.Instructions.WrittenOps.{undefined, unreached}
+use Rattle.da65.proofs.Statements.Reassembly.{undefined, unreached}
 use Rattle.da65.proofs.Statements.StandsLaws.{begins_with}
 use Rattle.da65.proofs.listing.statements.written_op.Goals as goal
 

@@ -15,4 +15,4 @@ returns-in-Ok-clause-reassembles g c defined gives = rw (c.in-Ok.ensures defined
 pub returns-in-Err-Refused-clause-answer : goal.returns-in-Err-Refused-clause-answer
 returns-in-Err-Refused-clause-answer g c defined gives =
     let refused : ◌≡◌ {A = Result InfoView (List ℕ)} (prepared_by defined (files_seen c.args.files.now)) (Err c.in-Err-Refused.message.items) = rw (c.in-Err-Refused.is, c.in-Err-Refused.field-0-is) at (c.prepare.ensures defined gives) in
-    rw refused (λ few. refused_writes _ _ _ _ _ _ (rw (c.as_slice.ensures.value, c.in-Err-Refused.field-0-is) at c.refuse.ensures.text))
+    rw refused (λ few. refused_writes _ _ _ _ _ _ (rw (c.as_slice.ensures.value, c.in-Err-Refused.field-0-is) at c.tell.ensures.text))
