@@ -97,15 +97,9 @@ module _ (m : MapView) (names : AreSound m.image (names_of m)) (placed : IsPlace
         line_gives n (point a cpu knows) _ (Statement None (operation_in (source_line (statement_at m a)))) (group_bytes m a) next cpu knows (label_read (statement_at m a) None takes)
         (stands knows sees) (λ above known. defines_nothing n _ _ knows known) (omega (arith, group.long)) room
 
-    sees-forwards : (v : ℕ) → n.has_constant v ≡ true → forwards_to n a end v ≡ true
-    sees-forwards v h = rw h refl
-
     module _ (base : is_base n a ≡ true) where
       out : n.has_constant a ≡ false
       out = no-constant m.image n a names base low (omega (arith, group.room, some))
-
-      sees-label : (v : ℕ) → n.has_constant v ≡ true → (forwards_to n a end v || eqb a v) ≡ true
-      sees-label v h = rw h refl
 
       -- a line with the label, and its operation
       label_gives : (l : ListingLine) (o : Operation) (bytes : List ℕ) (at : ℕ) → Says l (Statement (Some (base_name n a)) o)
@@ -117,10 +111,10 @@ module _ (m : MapView) (names : AreSound m.image (names_of m)) (placed : IsPlace
       below : (fits : Bool) → Gives n (point a cpu (forwards_to n a end))
           (if fits then group_line (Some (base_name n a)) (statement_at m a) a (group_bytes m a) ∷ [] else plain (view.label (base_name n a)) ∷ group_line None (statement_at m a) a (group_bytes m a) ∷ [])
           (group_bytes m a) (point next cpu (λ v. forwards_to n a end v || eqb a v))
-      below true = label_gives _ (operation_in (source_line (statement_at m a))) (group_bytes m a) next (label_read (statement_at m a) (Some (base_name n a)) takes) (stands (forwards_to n a end) sees-forwards) (omega (arith, group.long)) room
+      below true = label_gives _ (operation_in (source_line (statement_at m a))) (group_bytes m a) next (label_read (statement_at m a) (Some (base_name n a)) takes) (stands (forwards_to n a end) (λ v h. rw h refl)) (omega (arith, group.long)) room
       below false =
           gives_append (plain (view.label (base_name n a)) ∷ []) (group_line None (statement_at m a) a (group_bytes m a) ∷ [])
-          (label_gives _ Nothing [] a refl (λ above known. nothing_stands _ _) (omega arith) (omega (arith, room))) (unlabelled _ sees-label)
+          (label_gives _ Nothing [] a refl (λ above known. nothing_stands _ _) (omega arith) (omega (arith, room))) (unlabelled (λ v. forwards_to n a end v || eqb a v) (λ v h. rw h refl))
 
     statement_gives : Gives n (point a cpu (forwards_to n a end)) (statement_lines m a) (group_bytes m a) (point next cpu (names_to n next))
     unfolding statement_lines
@@ -128,7 +122,7 @@ module _ (m : MapView) (names : AreSound m.image (names_of m)) (placed : IsPlace
       where
         go : (t : Bool) → is_base n a ≡ t → Gives n (point a cpu (forwards_to n a end)) (labelled (style_of m.info.settings).columns (if t then Some (base_name n a) else None) (statement_at m a) a (group_bytes m a)) (group_bytes m a) (point next cpu (names_to n next))
         go true base = gives_to (names_to n next) (λ v b. below-label n a (group_len m a) v some) (below base (fits_label (style_of m.info.settings).columns (base_name n a)))
-        go false none = gives_to (names_to n next) (λ v b. without-label n a (group_len m a) v some none b) (unlabelled (forwards_to n a end) sees-forwards)
+        go false none = gives_to (names_to n next) (λ v b. without-label n a (group_len m a) v some none b) (unlabelled (forwards_to n a end) (λ v h. rw h refl))
 
     group_gives : Gives n (point a cpu (names_to n a)) (group_lines m a) (group_bytes m a) (point next cpu (names_to n next))
     unfolding group_lines

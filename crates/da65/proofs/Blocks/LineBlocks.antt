@@ -123,10 +123,7 @@ empty_line_gives m p (l ∷ ls) at cpu knows room h = gives_append (l ∷ ls) (p
 
 -- ---- `.setcpu`
 
-cpu_stands : (Full : List Definition → Type 0) (s : State) (cpu : Cpu) → StandsTo Full s (SetCpu (cpu_text cpu)) cpu []
-unfolding has_unknown_cpu cpu_after coding
-cpu_stands Full s cpu = record { fragments = []; known_cpu = rw (cpu_name cpu).named refl; next_cpu = rw (cpu_name cpu).named refl; coded = refl; gives = no_fragments Full (s.at + 0) }
-
 pub cpu_gives : (m : Names) (at : ℕ) (old cpu : Cpu) (knows : ℕ → Bool) → at ≤ 65536 → Gives m (point at old knows) (plain (view.set_cpu cpu) ∷ []) [] (point at cpu knows)
+unfolding has_unknown_cpu cpu_after coding
 cpu_gives m at old cpu knows room =
-    line_gives m (point at old knows) (plain (view.set_cpu cpu)) (Statement None (SetCpu (cpu_text cpu))) [] at cpu knows refl (λ above known. cpu_stands _ _ cpu) (λ above known. defines_nothing m _ _ knows known) (omega arith) room
+    line_gives m (point at old knows) (plain (view.set_cpu cpu)) (Statement None (SetCpu (cpu_text cpu))) [] at cpu knows refl (λ above known. record { fragments = []; known_cpu = rw ((cpu_name cpu).named) refl; next_cpu = rw ((cpu_name cpu).named) refl; coded = refl; gives = no_fragments _ _ }) (λ above known. defines_nothing m _ _ knows known) (omega arith) room

@@ -35,7 +35,7 @@ group-line m k here low shown = go (role_of m.info (m.image.start + k)) refl
     go : (r : RangeType) → role_of m.info (m.image.start + k) ≡ r → BeginsLine m (m.image.start + k) r
     go role.Code e = tt
     go role.Skip e = absurd (true≢false (sym (ap is_skip e) ∙ shown))
-    go r e = table-line m k r (record { sizes = λ b. refl; listed = refl; other = refl }) here low e
+    go r e = table-line m k r (record { sizes = λ b. refl; listed = refl; other = λ no. cc }) here low e
 
 begins-then : (m : MapView) (a : ℕ) → begins m a ≡ true → (0 < item_len m a) × BeginsLine m a (role_of m.info a)
 begins-then m a is =
@@ -104,7 +104,7 @@ no-line m p k h line = go (role_of m.info (m.image.start + k)) refl line
     go : (r : RangeType) → role_of m.info (m.image.start + k) ≡ r → BeginsLine m (m.image.start + k) r → ⊥
     go role.Code e line = no-code m p k h role.Code e (limit-code m (m.image.start + p) (role-inside m p k h ∙ e))
     go role.Skip e line = true≢false (sym (ap is_skip (role-inside m p k h ∙ e)) ∙ h.shown)
-    go r e line = no-table m p k h r e (record { sizes = λ b. refl; listed = refl; other = refl }) line
+    go r e line = no-table m p k h r e (record { sizes = λ b. refl; listed = refl; other = λ no. cc }) line
 
 begins-at : (m : MapView) (k : ℕ) → k < length m.image.bytes → is_skip (role_of m.info (m.image.start + k)) ≡ false → BeginsItem m k
     → BeginsLine m (m.image.start + k) (role_of m.info (m.image.start + k)) → begins m (m.image.start + k) ≡ true

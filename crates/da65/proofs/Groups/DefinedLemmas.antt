@@ -1,5 +1,5 @@
 -- Which addresses of a group are defined by name.
-use Rattle.std.proofs.Common.{◌≡◌, ◌∙◌, inl, inr, ℕ, ◌+◌, ◌-◌, ◌<◌, Bool, true, false, length, Option, Some, None, refl, sym, ap, subst, arith}
+use Rattle.std.proofs.Common.{◌≡◌, ◌∙◌, inl, inr, ℕ, ◌+◌, ◌-◌, ◌<◌, true, false, length, Option, Some, None, refl, sym, ap, subst, arith}
 use Rattle.std.proofs.lemmas.Bool.{eqb-true, false_from_ne_true, true≢false}
 use Rattle.info65.specs.declared.information.range.RangeType.{RangeType}
 use Rattle.info65.specs.declared.information.range.RangeType.TheVariants as role
@@ -30,15 +30,11 @@ defined-base m a h = go (base_at m a) refl h
     go None e h = absurd cc
     go (Some b) e h = record { base = b; is = e; own = eqb-true b.address a h }
 
-abbrev is_code : RangeType → Bool
-is_code role.Code = true
-is_code _ = false
-
 -- a table: each item of the role has the same size, but a leftover byte
 pub record IsTable (m : MapView) (r : RangeType) : Type 0 where
   pub sizes : (b : ℕ) → size_for m r b ≡ unit_of r
   pub listed : is_skip r ≡ false
-  pub other : is_code r ≡ false
+  pub other : r ≡ role.Code → ⊥
 
 -- after its first byte no address of a group of a table is defined by name
 pub group-unnamed : (m : MapView) (r : RangeType) (p x : ℕ) → IsGroupPlace m p → p < length m.image.bytes → is_skip (role_of m.info (m.image.start + p)) ≡ false → role_of m.info (m.image.start + p) ≡ r → IsTable m r
@@ -75,7 +71,7 @@ group-unnamed m r p x here inside shown role-is table low high = false_from_ne_t
         true≢false (sym named ∙ sym (ap (is_defined m) place) ∙ (item-goes-on m (m.image.start + i) further.goes).unnamed)
 
     not-code : IsInCode m x → ⊥
-    not-code code = true≢false (sym (ap is_code code.code) ∙ ap is_code role-x ∙ table.other)
+    not-code code = table.other (sym role-x ∙ code.code)
 
     lies : (p : Place) → LiesBy p m x → is_defined m x ≡ true → ⊥
     lies defined.Constant out named = outside out

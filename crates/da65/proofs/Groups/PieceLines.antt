@@ -16,9 +16,6 @@ use Rattle.da65.proofs.Groups.DefinedLemmas.{IsTable, group-unnamed}
 use Rattle.da65.proofs.Groups.ShapeLemmas.{role-past, one-more, size-is, full_len-of}
 use Rattle.da65.proofs.Groups.StepLemmas.{Leads, each-place, group_one}
 
-none-over : (r : RangeType) → 0 % limit_of r ≡ 0
-none-over r = mod-eq_of_lt (omega (arith, layout_line r))
-
 goes-on-if : (m : MapView) (a : ℕ) → is_joined m a ≡ true → is_whole m a ≡ true → is_defined m a ≡ false → goes_on m a ≡ true
 unfolding goes_on
 goes-on-if m a joined whole unnamed = and_from _ _ joined (and_from _ _ whole (ap not unnamed))
@@ -49,7 +46,7 @@ first-full m r k start = record {
     unnamed = λ x low high. absurd (omega (arith, low, high));
     place = omega arith;
   };
-  full = none-over r;
+  full = mod-eq_of_lt (omega (arith, layout_line r));
 }
 
 -- pieces that meet are one

@@ -1,7 +1,7 @@
 -- Where `a:` stands, an assembler would take another mode without it.
 use Rattle.std.proofs.Common.{◌≡◌, ℕ, ◌+◌, Bool, true, false, cond, List, ◌∷◌, Option, Some, None, refl, sym, ap, subst, ◌∙◌}
 use Rattle.std.specs.Prelude.{IsSome, is_some, nat_lt, option_and_then}
-use Rattle.std.proofs.lemmas.Bool.{and_parts}
+use Rattle.std.proofs.lemmas.Bool.{and_parts, false_from_ne_true}
 use Rattle.isa65.specs.Cpu.{table_of}
 use Rattle.isa65.specs.CpuLaws.{table_of-sound}
 use Rattle.isa65.specs.Mode.{len_of, row_of, row_text, written, zero_page_of}
@@ -87,10 +87,6 @@ not_forced image m p cpu above a bytes op os names known h sized codes forced =
 
 pub forced_where_needed : ForcedWhereNeeded
 forced_where_needed image m p cpu above a bytes op os names known h sized = (
-  λ codes. go codes (is_forced (table_of cpu) op bytes) refl,
+  λ codes. false_from_ne_true (is_forced (table_of cpu) op bytes) (not_forced image m p cpu above a bytes op os names known h sized codes),
   λ e. subst (λ (t : Bool). CodesInMode cpu above op t os) e (mode_is_chosen_back image m p cpu above a bytes op os names known h),
 )
-  where
-    go : CodesInMode cpu above op false os → (t : Bool) → is_forced (table_of cpu) op bytes ≡ t → is_forced (table_of cpu) op bytes ≡ false
-    go codes false e = e
-    go codes true e = absurd (not_forced image m p cpu above a bytes op os names known h sized codes e)

@@ -36,29 +36,21 @@ text-of-form text form free = record { name = and_from (has_name_form text) (not
 
 -- ---- names that are given
 
-no-word : (address : ℕ) (text : List ℕ) → is_reserved address text ≡ false → is_reserved_word text ≡ false
-unfolding is_reserved
-no-word address text h = (or_parts (is_reserved_word text) _ h).0
-
 given-text : (n : NameView) → IsName n → IsNameText n.text
-given-text n is = text-of-form n.text is.form (no-word n.address n.text is.free)
+unfolding is_reserved
+given-text n is = text-of-form n.text is.form (or_parts (is_reserved_word n.text) _ is.free).0
 
 -- ---- default names
 
 hex-word : (d : ℕ) → d < 16 → is_word_byte (hex_digit d) ≡ true
 hex-word d low = grind (arith, nat_tests)
 
-default-form : (a : ℕ) → has_name_form (default_name a) ≡ true
-unfolding has_name_form default_name
-default-form a =
-    rw (hex-word (a / 4096 % 16) (omega arith), hex-word (a / 256 % 16) (omega arith), hex-word (a / 16 % 16) (omega arith), hex-word (a % 16) (omega arith)) refl
-
-default-free : (a : ℕ) → is_reserved_word (default_name a) ≡ false
-unfolding default_name
-default-free a = long_word (default_name a) (omega arith)
-
 default-text : (a : ℕ) → IsNameText (default_name a)
-default-text a = text-of-form (default_name a) (default-form a) (default-free a)
+unfolding has_name_form default_name
+default-text a =
+    let form : has_name_form (default_name a) ≡ true =
+    rw (hex-word (a / 4096 % 16) (omega arith), hex-word (a / 256 % 16) (omega arith), hex-word (a / 16 % 16) (omega arith), hex-word (a % 16) (omega arith)) refl in
+    text-of-form (default_name a) form (long_word (default_name a) (omega arith))
 
 -- ---- the names of a map
 

@@ -44,9 +44,6 @@ flat-nothing : (f : ℕ → List ListingLine) → ((a : ℕ) → f a ≡ []) →
 flat-nothing f none [] = refl
 flat-nothing f none (x ∷ xs) = ap (λ (ls : List ListingLine). ls ++ flat_map f xs) (none x) ∙ flat-nothing f none xs
 
-bare-comments : (m : MapView) (n a : ℕ) → ((a : ℕ) → comment_at m a ≡ None) → comments m n a ≡ []
-bare-comments m n a none = flat-nothing (comment_lines m) (λ a. ap comment_line (none a)) (addresses n a)
-
 bare-segments : (m : MapView) (a : ℕ) → ((a : ℕ) → segment_at m a ≡ None) → segment_lines m a ≡ []
 unfolding segment_lines
 bare-segments m a none = rw (none a, segment-none m (a - m.image.start) none) refl
@@ -67,7 +64,7 @@ unmarked m none =
       opening = λ a.
           ap (λ (ls : List ListingLine). ls ++ (segment_lines m a ++ comments m (group_len m a) a)) (bare-separator m a low)
           ∙ ap (λ (ls : List ListingLine). ls ++ comments m (group_len m a) a) (bare-segments m a default)
-          ∙ bare-comments m (group_len m a) a quiet;
+          ∙ flat-nothing (comment_lines m) (λ a. ap comment_line (quiet a)) (addresses (group_len m a) a);
       comments = quiet;
       segments = default;
     }

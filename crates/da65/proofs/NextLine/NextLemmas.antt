@@ -199,13 +199,9 @@ pub constant-moved : (m : MapView) (v u : ℕ) (any : Bool) → constants m (655
 unfolding constants_left
 constant-moved m v u any same = ap (λ (ls : List ListingLine). with_blank_after any ls ++ groups_left m 0) same
 
-pub constant-blank : (m : MapView) (v : ℕ) → constants m (65536 - v) v ≡ [] → constants_left m v true ≡ plain view.blank ∷ groups_left m 0
+pub constant-end : (m : MapView) (v : ℕ) (any : Bool) → constants m (65536 - v) v ≡ [] → constants_left m v any ≡ with_blank_after any [] ++ groups_left m 0
 unfolding constants_left
-constant-blank m v none = ap (λ (ls : List ListingLine). with_blank_after true ls ++ groups_left m 0) none
-
-pub constant_none : (m : MapView) (v : ℕ) → constants m (65536 - v) v ≡ [] → constants_left m v false ≡ groups_left m 0
-unfolding constants_left
-constant_none m v none = ap (λ (ls : List ListingLine). with_blank_after false ls ++ groups_left m 0) none
+constant-end m v any none = ap (λ (ls : List ListingLine). with_blank_after any ls ++ groups_left m 0) none
 
 -- ---- the label and the statement
 

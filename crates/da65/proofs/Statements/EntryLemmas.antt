@@ -1,21 +1,19 @@
 -- Entries of tables, by the bytes of a line.
-use Rattle.std.proofs.Common.{◌≡◌, ◌≢◌, ◌∙◌, inl, inr, ℕ, ◌==◌, ◌*◌, ◌%◌, ◌<◌, ◌≤◌, false, List, length, refl, sym, ap, subst, arith}
+use Rattle.std.proofs.Common.{◌≡◌, ◌≢◌, ◌∙◌, inl, inr, ℕ, ◌==◌, ◌*◌, ◌%◌, ◌<◌, ◌≤◌, false, List, length, refl, sym, ap, arith}
 use Rattle.std.proofs.lemmas.Bool.{cond-true, eqb-false, lt-ltb}
 use Rattle.isa65.specs.declared.byte_order.ByteOrder.{ByteOrder}
 use Rattle.isa65.specs.declared.byte_order.ByteOrder.TheVariants.{LittleEndian, BigEndian}
 use Rattle.isa65.specs.Opcodes.{Table}
-use Rattle.info65.proofs.Public.{layout_entry}
-use Rattle.info65.specs.Layouts.{IsEntry, IsNumber, layout_of}
-use Rattle.info65.specs.declared.information.range.Entry.{Entry}
+use Rattle.info65.specs.Layouts.{IsNumber, layout_of}
 use Rattle.info65.specs.declared.information.range.Entry.TheVariants.{Instruction, Address, Return, Skipped}
 use Rattle.info65.specs.declared.information.range.RangeType.{RangeType}
-use Rattle.info65.specs.declared.information.range.RangeType.TheVariants.{Code, Skip, TextTable}
+use Rattle.info65.specs.declared.information.range.RangeType.TheVariants.{AddrTable, Code, RtsTable, Skip, TextTable}
 use Rattle.stmt65.specs.declared.directive.Directive.{Directive}
 use Rattle.stmt65.specs.Tables.{entry_len}
 use Rattle.stmt65.specs.Printable.{IsTable}
 use Rattle.stmt65.specs.Views as view
 use Rattle.da65.specs.BaseNames.{Names}
-use Rattle.da65.specs.Shapes.{AreEntries, IsGroupOf, IsLineOf}
+use Rattle.da65.specs.Shapes.{AreEntries, IsGroupOf}
 use Rattle.da65.specs.Statements.{directive_of, statement_for}
 
 -- an entry of a directive has so many bytes, more than one
@@ -54,17 +52,13 @@ address_bytes unit per_line bytes is (inr are) more = omega (arith, are.1, is.0,
 
 -- ---- the same, by the role of the line
 
-entry_is : (r : RangeType) (e : Entry) → (layout_of r).entry ≡ e → IsEntry (layout_of r).unit (layout_of r).per_line e
-entry_is r e is = subst (IsEntry (layout_of r).unit (layout_of r).per_line) is (layout_entry r)
-
-line_is : (t : Table) (r : RangeType) (bytes : List ℕ) (e : Entry) → (layout_of r).entry ≡ e → IsGroupOf t r bytes → IsLineOf t (layout_of r).unit (layout_of r).per_line e bytes
-line_is t r bytes e is of = subst (λ (e : Entry). IsLineOf t (layout_of r).unit (layout_of r).per_line e bytes) is of
-
 pub address_of_role : (t : Table) (r : RangeType) (bytes : List ℕ) → (layout_of r).entry ≡ Address → IsGroupOf t r bytes → (layout_of r).unit ≤ length bytes → length bytes ≡ 2
-address_of_role t r bytes is of more = address_bytes _ _ bytes (entry_is r Address is) (line_is t r bytes Address is of) more
+address_of_role t AddrTable bytes is of more = address_bytes 2 1 bytes (refl, omega arith) of more
+address_of_role t _ bytes is of more = absurd cc
 
 pub return_of_role : (t : Table) (r : RangeType) (bytes : List ℕ) → (layout_of r).entry ≡ Return → IsGroupOf t r bytes → (layout_of r).unit ≤ length bytes → length bytes ≡ 2
-return_of_role t r bytes is of more = address_bytes _ _ bytes (entry_is r Return is) (line_is t r bytes Return is of) more
+return_of_role t RtsTable bytes is of more = address_bytes 2 1 bytes (refl, omega arith) of more
+return_of_role t _ bytes is of more = absurd cc
 
 -- a line without a whole entry is a leftover byte
 pub leftover : (t u : Table) (n : Names) (r : RangeType) (a : ℕ) (bytes : List ℕ) → r ≢ Code → IsGroupOf t r bytes → 0 < length bytes → length bytes < (layout_of r).unit
@@ -86,6 +80,7 @@ no_instruction Code other is = other refl
 no_instruction _ other is = absurd cc
 
 pub no_skipped : (t : Table) (r : RangeType) (bytes : List ℕ) → IsGroupOf t r bytes → (layout_of r).entry ≡ Skipped → ⊥
-no_skipped t r bytes of is = line_is t r bytes Skipped is of
+no_skipped t Skip bytes of is = of
+no_skipped t _ bytes of is = cc
 
 pub ruleset lines = (address_of_role, leftover, return_of_role, no_instruction, no_skipped)

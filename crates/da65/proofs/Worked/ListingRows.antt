@@ -35,10 +35,6 @@ two_digit = decimal-digits_of 2 (omega arith) (omega arith)
 abbrev HasNumber : Example → List ℕ → List ℕ → List ℕ → Type 0
 HasNumber e before after number = IsListed e (before ++ ((number ++ codes "\n") ++ after))
 
--- the same, of a number at the end of an operand
-abbrev HasOperand : Example → List ℕ → List ℕ → List ℕ → Type 0
-HasOperand e before after number = HasNumber e before after (number ++ [])
-
 pub worked_listings : WorkedListings
 unfolding addresses are_joined base_at begins comma_list comment_at covering covering_below cut_text default_name entries
     pieces address_entry address_expr ending_lines goes_on group_addresses group_len group_lines
@@ -68,11 +64,11 @@ worked_listings = record {
   word_table_cut_before_a_name = refl;
   target_inside_a_word =
       let e = with_ranges (range 0x2002 0x2003 role.WordTable ∷ []) (code_at 0x1FFF (0xAD ∷ 3 ∷ 0x20 ∷ 0x34 ∷ 0x12 ∷ [])) in
-      subst (λ n. HasOperand e (codes "        lda     L2002+") (codes "L2002:  .word   $1234\n") n) one_digit refl;
+      subst (λ n. HasNumber e (codes "        lda     L2002+") (codes "L2002:  .word   $1234\n") (n ++ [])) one_digit refl;
   target_inside_a_word_hexoffs = refl;
   sized_name_across_the_zero_page =
       let e = with_labels (label 0xFE 4 (codes "buf") ∷ []) (code_at 0xFFFB (0xA5 ∷ 0xFF ∷ 0xAD ∷ 0 ∷ 1 ∷ [])) in
-      let P : List ℕ → List ℕ → Type 0 = λ n k. HasOperand e (codes "buf             := $00FE\n\n        lda     buf+") (codes "        lda     buf+" ++ (((k ++ []) ++ codes "\n") ++ codes "")) n in
+      let P : List ℕ → List ℕ → Type 0 = λ n k. HasNumber e (codes "buf             := $00FE\n\n        lda     buf+") (codes "        lda     buf+" ++ (((k ++ []) ++ codes "\n") ++ codes "")) (n ++ []) in
       subst (λ k. P (codes "1") k) two_digit (subst (λ n. P n (decimal 2)) one_digit refl);
   unused_names = refl;
   byte_table_counted_again = refl;

@@ -2,7 +2,7 @@
 
 ghost use Rattle.std.specs.Prelude.{◌≡◌, ◌+◌, ◌≤◌, ◌++◌, decimal, length};
 ghost use Rattle.arrayvec.specs.ArrayVec.{array_vec_len};
-ghost use Rattle.da65.specs.Outcome.{entered_warning, image_message, include_message, info_message, missing_message, no_input_message, skipped_warning, warnings_for};
+ghost use Rattle.da65.specs.Outcome.{image_message, include_message, info_message, missing_message, no_input_message, warnings_for};
 
 use arrayvec::ArrayVec;
 use info65::InfoFault;
@@ -98,22 +98,6 @@ pub fn image_message(fault: ImageFault) -> &'static [u8]
     }
 }
 
-/// The warning that bytes are skipped.
-#[tactic(auto, unfolding(crate::specs::Outcome::skipped_warning))]
-pub fn skipped_warning() -> &'static [u8]
-    ensures { result.now ≡ skipped_warning }
-{
-    b"da65: warning: skipped bytes, the listing does not assemble to the image\n"
-}
-
-/// The warning that a segment is entered again.
-#[tactic(auto, unfolding(crate::specs::Outcome::entered_warning))]
-pub fn entered_warning() -> &'static [u8]
-    ensures { result.now ≡ entered_warning }
-{
-    b"da65: warning: a segment is entered again\n"
-}
-
 /// The warnings after a listing.
 #[tactic(auto, unfolding(crate::specs::Outcome::entered_warning, crate::specs::Outcome::skipped_warning))]
 pub fn warnings(has_skipped: bool, is_entered_again: bool) -> Message
@@ -121,10 +105,13 @@ pub fn warnings(has_skipped: bool, is_entered_again: bool) -> Message
 {
     let mut out = Message::new();
     if has_skipped {
-        put(&mut out, skipped_warning());
+        put(
+            &mut out,
+            b"da65: warning: skipped bytes, the listing does not assemble to the image\n",
+        );
     }
     if is_entered_again {
-        put(&mut out, entered_warning());
+        put(&mut out, b"da65: warning: a segment is entered again\n");
     }
     out
 }

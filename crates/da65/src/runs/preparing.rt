@@ -1,6 +1,6 @@
 //! What a run lists its input by: what the information file says, with the names of its include files.
 
-ghost use Rattle.std.specs.Prelude.{◌≡◌, ◌≢◌, ◌<◌, Result, get_or, is_some, length};
+ghost use Rattle.std.specs.Prelude.{◌≡◌, ◌≢◌, ◌<◌, Result, get_or, length};
 ghost use Rattle.info65.specs.Code.Results.{Gives};
 ghost use Rattle.info65.specs.Views.{IncludeView, InfoView};
 ghost use Rattle.info65.specs.declared.fault.InfoFault.{InfoFault};
@@ -37,19 +37,12 @@ fn stop_of(fault: InfoFault, message: Message) -> Stop
     }
 }
 
-/// The command line or the information file names an input.
-fn names_input<A: Allocator>(info: &Info<A>) -> bool
-    ensures { result ≡ is_some info.now.settings.input }
-{
-    info.settings().input.is_some()
-}
-
-/// What the information file says, if it was not refused and an input is named.
+/// What the information file says, if it was not refused and the command line or the file names an input.
 fn accept<A: Allocator>(read: Result<Info<A>, InfoFault>) -> Result<Info<A>, Stop>
     ensures { (defined : Result InfoView InfoFault) → Gives (λ i. i) read defined → Prepares result (accepted defined) }
 {
     match read {
-        Ok(info) if names_input(&info) => Ok(info),
+        Ok(info) if info.settings().input.is_some() => Ok(info),
         Ok(_) => Err(Stop::Refused(no_input_message())),
         Err(fault) => Err(stop_of(fault, info_message(fault))),
     }
