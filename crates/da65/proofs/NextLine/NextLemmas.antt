@@ -205,19 +205,6 @@ constant-end m v any none = ap (λ (ls : List ListingLine). with_blank_after any
 
 -- ---- the label and the statement
 
-pub label-none : (m : MapView) (a : ℕ) → is_base (names_of m) a ≡ false → label_at (names_of m) a ≡ None
-label-none m a none = rw none refl
-
-pub label-some : (m : MapView) (a : ℕ) → is_base (names_of m) a ≡ true → label_at (names_of m) a ≡ Some (base_name (names_of m) a)
-label-some m a some = rw some refl
-
--- whether the address has a constant line, by where its base is defined
-pub line_left : (m : MapView) (a : ℕ) → is_constant (place_of m a) ≡ false → has_constant_line (names_of m) a ≡ false
-line_left m a other = and_right (is_base (names_of m) a) _ other
-
-pub line_kept : (m : MapView) (a : ℕ) → is_constant (place_of m a) ≡ true → has_constant_line (names_of m) a ≡ is_base (names_of m) a
-line_kept m a is = ap (λ (t : Bool). is_base (names_of m) a && t) is ∙ and-true (is_base (names_of m) a)
-
 pub line_none : (m : MapView) (a : ℕ) → is_base (names_of m) a ≡ false → has_constant_line (names_of m) a ≡ false
 line_none m a none = rw none refl
 

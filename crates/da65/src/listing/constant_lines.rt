@@ -32,7 +32,7 @@ fn has_constant<A: Allocator>(map: &Map<'_, A>, address: u16) -> bool
 }
 
 /// Whether the address has a constant line. Then the buffer holds the name.
-#[tactic(auto, using(crate::proofs::NextLine::NextLemmas::line_none, crate::proofs::NextLine::NextLemmas::line_left, crate::proofs::NextLine::NextLemmas::line_kept, crate::proofs::Names::BaseLemmas::base_unnamed))]
+#[tactic(auto, using(crate::proofs::NextLine::NextLemmas::line_none, crate::proofs::Names::BaseLemmas::base_unnamed))]
 fn is_named_constant<A: Allocator>(
     listed: &ListedImage<'_, A>,
     address: u16,
