@@ -1,15 +1,13 @@
 -- The next of the lines that are left.
-use Rattle.std.proofs.Common.{◌≡◌, ◌∙◌, ℕ, ◌+◌, ◌-◌, ◌<◌, ◌≤◌, ◌∷◌, ◌++◌, ◌&&◌, Bool, true, false, List, Option, Some, None, length, map, refl, ap, sym, subst, codes, arith, append_assoc, []}
+use Rattle.std.proofs.Common.{◌≡◌, ◌∙◌, ℕ, ◌+◌, ◌-◌, ◌<◌, ◌≤◌, ◌∷◌, ◌++◌, Bool, true, false, List, Option, Some, None, length, map, refl, ap, sym, subst, codes, arith, append_assoc, []}
 use Rattle.std.specs.Prelude.{MatchOption}
 use Rattle.std.specs.List.{flat_map}
-use Rattle.std.proofs.Math.Bool.{and-true}
-use Rattle.std.proofs.lemmas.Bool.{and_parts, and_right, cond-false, cond-true}
+use Rattle.std.proofs.lemmas.Bool.{and_parts, cond-false, cond-true}
 use Rattle.info65.specs.Views.{SettingsView}
 use Rattle.map65.specs.MapView.{MapView, opcodes}
-use Rattle.map65.specs.Names.{place_of}
 use Rattle.map65.specs.Roles.{is_skip, role_of}
 use Rattle.map65.specs.Spans.{addresses}
-use Rattle.da65.specs.BaseNames.{base_name, is_base, is_constant, names_of}
+use Rattle.da65.specs.BaseNames.{base_name, is_base, names_of}
 use Rattle.da65.specs.Comments.{comment_at}
 use Rattle.da65.specs.Groups.{IsGroupPlace, group_bytes, group_len, groups_from}
 use Rattle.da65.specs.Lines.{IsConstant, IsFirstOf, IsGroupStart, IsInGroup, IsNext, IsPlace, IsUnmarked, after_group, with_blank_after, comments_left, constants_left, group_left, groups_left, left_from, lines_from, segment_left, segment_of, IsLabelNext, IsNextIn}

@@ -49,6 +49,7 @@ fn accept<A: Allocator>(read: Result<Info<A>, InfoFault>) -> Result<Info<A>, Sto
 }
 
 /// With the names of the include file at this index.
+#[tactic(auto, using(crate::proofs::Outcomes::IncludeFacts::short_name))]
 fn with_include<'a, 'f: 'a, A: Allocator + Copy>(
     included: Inclusion<'a, A>,
     index: usize,
