@@ -26,8 +26,7 @@ da65 run_read 2
 da65 stop_of 2
 da65_cli Failure::from 1
 files65 FileFault::from 1
-files65 FileFault::of_creating 2
-files65 FileFault::of_reading 2
+files65 FileFault::of_error 2
 files65 contents 2
 files65 read_from 2
 info65 InfoFault::MEMORY 1

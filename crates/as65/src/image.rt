@@ -48,7 +48,7 @@ pub fn image(rt: &HostRuntime, name: &str, info: &Info) -> Result<Image, Failure
         Ok(mut input) => image_in(rt.alloc(), info, &mut input, name),
         Err(error) => {
             let name = String::from_str(rt.alloc(), name)?;
-            Err(Failure::File(FileFault::of_reading(&error, name)))
+            Err(Failure::File(FileFault::of_error(&error, FileFault::Reading(name))))
         }
     }
 }

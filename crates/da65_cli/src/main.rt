@@ -71,7 +71,7 @@ fn devices(
     };
     match Input::open(rt, name.as_str()) {
         Ok(input) => Ok((input, Output::create(rt, output)?)),
-        Err(error) => Err(FileFault::of_reading(&error, name)),
+        Err(error) => Err(FileFault::of_error(&error, FileFault::Reading(name))),
     }
 }
 

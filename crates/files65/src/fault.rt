@@ -22,25 +22,14 @@ impl FileFault {
     ghost use Rattle.std.specs.Prelude.{◌≡◌, ◌≢◌};
     ghost use Rattle.std.specs.IoError.{error_kind};
 
-    /// The fault of a file of this name that can't be opened.
-    pub fn of_reading(error: &IoError, name: String) -> FileFault
+    /// The fault of a file that can't be opened or created: this one, which has its name, unless memory ran out.
+    pub fn of_error(error: &IoError, named: FileFault) -> FileFault
         ensures memory { error_kind error.now ≡ ErrorKind.OutOfMemory → result ≡ FileFault.Memory }
-        ensures name { error_kind error.now ≢ ErrorKind.OutOfMemory → result ≡ FileFault.Reading name }
+        ensures name { error_kind error.now ≢ ErrorKind.OutOfMemory → result ≡ named }
     {
         match error.kind() {
             ErrorKind::OutOfMemory => FileFault::Memory,
-            _ => FileFault::Reading(name),
-        }
-    }
-
-    /// The fault of a file of this name that can't be created.
-    pub fn of_creating(error: &IoError, name: String) -> FileFault
-        ensures memory { error_kind error.now ≡ ErrorKind.OutOfMemory → result ≡ FileFault.Memory }
-        ensures name { error_kind error.now ≢ ErrorKind.OutOfMemory → result ≡ FileFault.Creating name }
-    {
-        match error.kind() {
-            ErrorKind::OutOfMemory => FileFault::Memory,
-            _ => FileFault::Creating(name),
+            _ => named,
         }
     }
 }

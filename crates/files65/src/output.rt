@@ -29,7 +29,7 @@ impl Output {
         };
         match File::create(rt, name.as_str()) {
             Ok(file) => Ok(Output::File(Told::new(file))),
-            Err(error) => Err(FileFault::of_creating(&error, name)),
+            Err(error) => Err(FileFault::of_error(&error, FileFault::Creating(name))),
         }
     }
 }

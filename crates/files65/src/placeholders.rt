@@ -37,7 +37,7 @@ fn opened(rt: &HostRuntime, name: &str) -> Result<File, FileFault>
         Ok(file) => Ok(file),
         Err(error) => {
             let name = String::from_str(rt.alloc(), name)?;
-            Err(FileFault::of_reading(&error, name))
+            Err(FileFault::of_error(&error, FileFault::Reading(name)))
         }
     }
 }

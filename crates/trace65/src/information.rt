@@ -57,7 +57,7 @@ pub fn image(rt: &HostRuntime, info: &Info) -> Result<Image, Failure> {
         Ok(mut input) => Ok(read_image(rt.alloc(), info, &mut input)?),
         Err(error) => {
             let name = String::from_str(rt.alloc(), name.as_str())?;
-            Err(Failure::File(FileFault::of_reading(&error, name)))
+            Err(Failure::File(FileFault::of_error(&error, FileFault::Reading(name))))
         }
     }
 }

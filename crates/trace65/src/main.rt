@@ -60,7 +60,7 @@ fn trace(rt: &HostRuntime, tracing: Tracing) -> Result<(), Failure> {
     };
     match File::create_new(rt, name.as_str()) {
         Ok(file) => write(file, &text),
-        Err(error) => Err(Failure::File(FileFault::of_creating(&error, name))),
+        Err(error) => Err(Failure::File(FileFault::of_error(&error, FileFault::Creating(name)))),
     }
 }
 
