@@ -27,7 +27,7 @@ mod status;
 mod stretches;
 
 use assembled::Assembled;
-use command::{help_text, version_text};
+use command::this_program;
 use comparison::compare;
 use failure::Failure;
 use files65::{Output, Placeholders};
@@ -45,8 +45,8 @@ use std::process::ExitCode;
 use usage65::words_of;
 
 /// Writes a text about the program on standard output.
-fn tell(rt: &HostRuntime, text: &str) -> Result<Ended, Failure> {
-    match rt.stdout().write_all(text.as_bytes()) {
+fn tell(rt: &HostRuntime, text: &[u8]) -> Result<Ended, Failure> {
+    match rt.stdout().write_all(text) {
         Ok(()) => Ok(Ended::Done),
         Err(_) => Err(Failure::Writing),
     }
@@ -116,8 +116,8 @@ fn program(rt: &HostRuntime, words: &[String]) -> Result<Ended, Failure> {
     // Messages to a closed standard error must not end up in the output file.
     let _placeholders = Placeholders::take(rt)?;
     match request_of(rt.alloc(), words)? {
-        Request::Help => tell(rt, help_text()),
-        Request::Version => tell(rt, version_text()),
+        Request::Help => tell(rt, &this_program().help_text(rt.alloc())?),
+        Request::Version => tell(rt, &this_program().version_text(rt.alloc())?),
         Request::Write(writing) => write_image(rt, writing),
         Request::Compare(comparing) => compare_with(rt, &comparing),
     }

@@ -5,7 +5,7 @@ ghost use Rattle.std.specs.String.{string_bytes};
 ghost use Rattle.clap.specs.Words.{found_of, rows_of};
 ghost use Rattle.as65.specs.Request.{Gives, asked, asked_in, asked_of, input_named, is_compare_word, is_comparing, is_info, is_taken, output_named, to_compare, to_write, to_write_into};
 
-use crate::command::matches_of_words;
+use crate::command::this_program;
 use crate::failure::Failure;
 use clap::ArgMatches;
 use std::alloc::Global;
@@ -66,11 +66,11 @@ fn is_compare_word(word: &String) -> bool
 /// Each option and the name of the listing may be given once. Help comes first, then the version, both before any value
 /// is looked at. Then the start is read, no output may stand beside an image, and without one there must be a start. The
 /// output may not have the name of the listing, nor may standard input be both the listing and the image.
-#[tactic(auto, unfolding(crate::specs::Request::asked))]
+#[tactic(auto, unfolding(crate::specs::Request::asked), using(crate::proofs::CommandLemmas::app_is_plain))]
 pub fn request_of(alloc: Global, words: &[String]) -> Result<Request, Failure>
     ensures { Gives asked_of result (asked (map string_bytes words.now)) }
 {
-    let matches = matches_of_words(alloc, words)?;
+    let matches = this_program().matches(alloc, words)?;
     request_in(alloc, &matches)
 }
 

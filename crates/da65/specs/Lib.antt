@@ -2,11 +2,9 @@ pub mod BaseNames
 pub mod Choices
 pub mod Code
 pub mod Comments
-pub mod Command
 pub mod SegmentReentry
 pub mod Files
 pub mod Groups
-pub mod Help
 pub mod Instructions
 pub mod KnownNames
 pub mod Lines

@@ -2,8 +2,7 @@
 use Rattle.std.specs.Prelude.{ℕ, List, Result, Ok}
 use Rattle.clap.specs.Words.{Row, Text, first_of}
 use Rattle.info65.specs.Views.{OptionsView}
-use Rattle.da65.specs.Choices.{argument_column_choice, comment_column_choice, comments_choice, hexoffs_choice, input_id, label_break_choice, mnemonic_column_choice, text_column_choice}
-use Rattle.da65.specs.Command.{app}
+use Rattle.da65.specs.Choices.{app, argument_column_choice, comment_column_choice, comments_choice, hexoffs_choice, input_id, label_break_choice, mnemonic_column_choice, text_column_choice}
 use Rattle.usage65.specs.Choices.{cpu_choice, help_choice, info_choice, output_choice, start_choice, version_choice}
 use Rattle.usage65.specs.Number.{address_in, decimal_in}
 use Rattle.usage65.specs.Values.{◌>>=◌, accepted, cpu_in, given, is_set}

@@ -1,4 +1,4 @@
-//! From the words of a command line to options, and the texts that the program prints about itself.
+//! The table of the options, and from the words of a command line to their values.
 
 pub(crate) mod command;
 pub(crate) mod usage;

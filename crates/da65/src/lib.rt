@@ -12,7 +12,7 @@ mod laws;
 mod listing;
 mod runs;
 
-pub use command_line::command::{help_text, version_text};
+pub use command_line::command::this_program;
 pub use command_line::usage::options_of;
 pub use info65::{Info, InfoFault, Options, read_info};
 pub use laws::{

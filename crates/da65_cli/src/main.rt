@@ -15,8 +15,8 @@ mod listing;
 mod message_buffer;
 
 use da65::{
-    File, Info, InfoFault, Needs, Options, RunFault, Status, Told, help_text, needs_read,
-    options_of, read_info, version_text,
+    File, Info, InfoFault, Needs, Options, RunFault, Status, Told, needs_read, options_of,
+    read_info, this_program,
 };
 use failure::Failure;
 use files65::{FileFault, Input, Output, Placeholders};
@@ -34,8 +34,8 @@ fn options(rt: &HostRuntime) -> Result<Options, Failure> {
 }
 
 /// Writes a text about the program on standard output.
-fn tell(rt: &HostRuntime, text: &str) -> Result<Status, Failure> {
-    match rt.stdout().write_all(text.as_bytes()) {
+fn tell(rt: &HostRuntime, text: &[u8]) -> Result<Status, Failure> {
+    match rt.stdout().write_all(text) {
         Ok(()) => Ok(Status::Done),
         Err(_) => Err(Failure::Run(RunFault::Messages)),
     }
@@ -99,10 +99,10 @@ fn program(rt: &HostRuntime) -> Result<Status, Failure> {
     let _placeholders = Placeholders::take(rt)?;
     let options = options(rt)?;
     if options.help {
-        return tell(rt, help_text());
+        return tell(rt, &this_program().help_text(rt.alloc())?);
     }
     if options.version {
-        return tell(rt, version_text());
+        return tell(rt, &this_program().version_text(rt.alloc())?);
     }
     list_under(rt, &options)
 }

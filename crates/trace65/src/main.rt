@@ -17,7 +17,7 @@ mod ranges;
 mod report;
 mod request;
 
-use command::{help_text, version_text};
+use command::this_program;
 use failure::Failure;
 use files65::{FileFault, Placeholders};
 use information::{image, information};
@@ -68,8 +68,8 @@ fn program(rt: &HostRuntime) -> Result<(), Failure> {
     // Messages to a closed standard error must not end up in the output file.
     let _placeholders = Placeholders::take(rt)?;
     match requested(rt)? {
-        Request::Help => write(rt.stdout(), help_text().as_bytes()),
-        Request::Version => write(rt.stdout(), version_text().as_bytes()),
+        Request::Help => write(rt.stdout(), &this_program().help_text(rt.alloc())?),
+        Request::Version => write(rt.stdout(), &this_program().version_text(rt.alloc())?),
         Request::Trace(tracing) => trace(rt, tracing),
     }
 }

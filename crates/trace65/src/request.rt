@@ -7,7 +7,7 @@ ghost use Rattle.clap.specs.Words.{found_of, rows_of};
 ghost use Rattle.usage65.specs.Values.{Gives};
 ghost use Rattle.trace65.specs.Request.{addresses_in, asked, asked_in, asked_of, entries_given, entries_in, is_comma, traced_in};
 
-use crate::command::matches_of_words;
+use crate::command::this_program;
 use clap::ArgMatches;
 use info65::Options;
 use std::alloc::{AllocError, Global};
@@ -36,11 +36,11 @@ pub struct Tracing {
 ///
 /// Each option and the name of the image may be given once. Help comes first, then the version, both before any value is
 /// looked at. Then the start, the CPU and the entries are read, in this order. `Memory` is returned only if memory ran out.
-#[tactic(auto, unfolding(crate::specs::Request::asked))]
+#[tactic(auto, unfolding(crate::specs::Request::asked), using(crate::proofs::CommandLemmas::app_is_plain))]
 pub fn request_of(alloc: Global, words: &[String]) -> Result<Request, UsageFault>
     ensures { Gives asked_of result (asked (map string_bytes words.now)) }
 {
-    let matches = matches_of_words(alloc, words)?;
+    let matches = this_program().matches(alloc, words)?;
     request_in(alloc, &matches)
 }
 

@@ -1,33 +1,42 @@
 -- An option of a command line, and those that several programs have.
-use Rattle.std.specs.Prelude.{[], codes}
+use Rattle.std.specs.Prelude.{ℕ, List, [], ◌∷◌, Option, Some, None, codes}
 use Rattle.clap.specs.Words.{Text}
 
--- an option: its id, its letter, its long name, what its value is called, and what it is for
-pub record Choice : Type 0 where
+-- an option: its id, its letter, its long name, what its value is called, and what it is for; one without a value is a flag
+pub record ChoiceView : Type 0 where
   pub id : Text
-  pub short : Text
-  pub long : Text
-  pub value : Text
+  pub short : Option ℕ
+  pub long : Option Text
+  pub value : Option Text
   pub purpose : Text
 
--- in place of a letter, a long name or a value that an option does not have
-abbrev pub none : Text
-none = []
+-- the letter of a text of one letter
+abbrev pub letter : Text → Option ℕ
+letter [] = None
+letter (c ∷ cs) = Some c
 
-abbrev pub info_choice : Choice
-info_choice = record { id = codes "info"; short = codes "i"; long = codes "info"; value = codes "name"; purpose = codes "information file" }
+abbrev pub info_choice : ChoiceView
+info_choice = record { id = codes "info"; short = letter (codes "i"); long = Some (codes "info"); value = Some (codes "name"); purpose = codes "information file" }
 
-abbrev pub output_choice : Choice
-output_choice = record { id = codes "output"; short = codes "o"; long = none; value = codes "name"; purpose = codes "output file" }
+abbrev pub output_choice : ChoiceView
+output_choice = record { id = codes "output"; short = letter (codes "o"); long = None; value = Some (codes "name"); purpose = codes "output file" }
 
-abbrev pub start_choice : Choice
-start_choice = record { id = codes "start"; short = codes "S"; long = codes "start-addr"; value = codes "addr"; purpose = codes "start address" }
+abbrev pub start_choice : ChoiceView
+start_choice = record { id = codes "start"; short = letter (codes "S"); long = Some (codes "start-addr"); value = Some (codes "addr"); purpose = codes "start address" }
 
-abbrev pub cpu_choice : Choice
-cpu_choice = record { id = codes "cpu"; short = none; long = codes "cpu"; value = codes "type"; purpose = codes "6502, 65SC02 or 65C02" }
+abbrev pub cpu_choice : ChoiceView
+cpu_choice = record { id = codes "cpu"; short = None; long = Some (codes "cpu"); value = Some (codes "type"); purpose = codes "6502, 65SC02 or 65C02" }
 
-abbrev pub help_choice : Choice
-help_choice = record { id = codes "help"; short = codes "h"; long = codes "help"; value = none; purpose = codes "this text" }
+abbrev pub help_choice : ChoiceView
+help_choice = record { id = codes "help"; short = letter (codes "h"); long = Some (codes "help"); value = None; purpose = codes "this text" }
 
-abbrev pub version_choice : Choice
-version_choice = record { id = codes "version"; short = codes "V"; long = codes "version"; value = none; purpose = codes "version" }
+abbrev pub version_choice : ChoiceView
+version_choice = record { id = codes "version"; short = letter (codes "V"); long = Some (codes "version"); value = None; purpose = codes "version" }
+
+-- a program's command line: its name, what its help text says before the options, the options in the order of that text, and
+-- the id of a name without an option, which may be left out
+pub record ProgramView : Type 0 where
+  pub name : Text
+  pub usage : Text
+  pub choices : List ChoiceView
+  pub input : Text

@@ -1,2 +1,2 @@
 -- What ties the code to the rules.
-pub mod CommandRules
+pub mod Rows

@@ -1,7 +1,7 @@
--- The text that a program prints about its options.
-use Rattle.std.specs.Prelude.{ℕ, List, [], ◌∷◌, ◌++◌, ◌-◌, codes, flat_map, length, replicate}
+-- The texts that a program prints about itself.
+use Rattle.std.specs.Prelude.{ℕ, [], ◌∷◌, Option, Some, None, ◌++◌, ◌-◌, codes, flat_map, length, replicate}
 use Rattle.clap.specs.Words.{Text}
-use Rattle.usage65.specs.Choices.{Choice}
+use Rattle.usage65.specs.Choices.{ChoiceView, ProgramView}
 
 -- the text as a line
 abbrev pub with_line_feed : Text → Text
@@ -12,20 +12,27 @@ abbrev pub filled : ℕ → Text → Text
 filled columns text = text ++ replicate (columns - length text) 32
 
 -- `-i, --info`, or the one of the two that there is
-abbrev pub names : Text → Text → Text
-names [] long = codes "--" ++ long
-names (c ∷ cs) [] = codes "-" ++ c ∷ cs
-names (c ∷ cs) (l ∷ ls) = codes "-" ++ c ∷ cs ++ codes ", --" ++ l ∷ ls
+abbrev pub names : Option ℕ → Option Text → Text
+names (Some letter) (Some long) = codes "-" ++ letter ∷ codes ", --" ++ long
+names (Some letter) None = codes "-" ++ letter ∷ []
+names None (Some long) = codes "--" ++ long
+names None None = []
 
 -- the blank and the value after the names
-abbrev pub with_value : Text → Text
-with_value [] = []
-with_value (c ∷ cs) = codes " " ++ c ∷ cs
+abbrev pub with_value : Option Text → Text
+with_value None = []
+with_value (Some value) = codes " " ++ value
+
+abbrev pub names_and_value : ChoiceView → Text
+names_and_value c = names c.short c.long ++ with_value c.value
 
 -- an option's line: two blanks, its names and value in 25 columns, then its purpose
-abbrev pub help_line : Choice → Text
-help_line c = with_line_feed (codes "  " ++ filled 25 (names c.short c.long ++ with_value c.value) ++ c.purpose)
+abbrev pub help_line : ChoiceView → Text
+help_line c = with_line_feed (codes "  " ++ filled 25 (names_and_value c) ++ c.purpose)
 
--- the usage line, and a line for each option
-abbrev pub help_of : Text → List Choice → Text
-help_of usage choices = with_line_feed usage ++ flat_map help_line choices
+-- what stands before the options, and a line for each option
+unfoldable pub help_of : ProgramView → Text
+help_of p = with_line_feed p.usage ++ flat_map help_line p.choices
+
+unfoldable pub version_of : ProgramView → Text
+version_of p = with_line_feed (p.name ++ codes " profile 1")

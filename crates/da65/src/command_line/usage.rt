@@ -8,7 +8,7 @@ ghost use Rattle.usage65.specs.Values.{Gives, given};
 ghost use Rattle.da65.specs.Code.Layout.{IsLayout};
 ghost use Rattle.da65.specs.Usage.{layout_in, options_in, usage_of};
 
-use crate::command_line::command::matches_of_words;
+use crate::command_line::command::this_program;
 use clap::ArgMatches;
 use info65::Options;
 use std::alloc::Global;
@@ -21,11 +21,11 @@ use usage65::{UsageFault, address_of, cpu_of, decimal_in, is_set, owned, text_of
 /// `BadNumber` if it is not a number, `OutOfRange` if the number is outside its limits or the CPU is unknown.
 /// Help and version are options like the others: the other words are checked beside them. `Memory` is
 /// returned only if memory ran out.
-#[tactic(auto, unfolding(crate::specs::Usage::usage_of))]
+#[tactic(auto, unfolding(crate::specs::Usage::usage_of), using(crate::proofs::CommandLemmas::app_is_plain))]
 pub fn options_of(alloc: Global, words: &[String]) -> Result<Options, UsageFault>
     ensures { Gives (λ o. o) result (usage_of (map string_bytes words.now)) }
 {
-    let matches = matches_of_words(alloc, words)?;
+    let matches = this_program().matches(alloc, words)?;
     options_in(alloc, &matches)
 }
 

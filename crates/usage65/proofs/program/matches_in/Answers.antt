@@ -1,5 +1,5 @@
 use Rattle.std.proofs.lemmas.Result.{IfOk-weaker}
-use Rattle.usage65.proofs.command.matches_in.Goals as goal
+use Rattle.usage65.proofs.program.matches_in.Goals as goal
 
 pub returns : goal.returns
 returns c = record {

@@ -1,5 +1,0 @@
-use Rattle.usage65.proofs.CommandLemmas.{arg_added, with_long, with_short}
-use Rattle.usage65.proofs.command.with_short_option.Goals as goal
-
-pub returns : goal.returns
-returns c = arg_added _ c.arg.result c.arg.ensures (with_long c.long.ensures (with_short c.short.ensures (record { rule = c.new.ensures.rule; here = c.new.ensures.optional.1 })))

@@ -1,0 +1,10 @@
+use Rattle.std.proofs.Common.{◌≡◌, drop, map}
+use Rattle.clap.specs.Words.{app_of}
+use Rattle.usage65.specs.Code.Rows.{choice_of}
+use Rattle.usage65.specs.Command.{with_choices}
+use Rattle.usage65.proofs.program.with_choices.Given as goal
+
+-- the command so far, and then the options that are left
+abbrev pub invariant-choices : goal.invariant-choices
+invariant-choices l =
+    with_choices (app_of l.command) (map choice_of (drop l.choice-index l.choices)) ≡ with_choices (app_of l.initial.command) (map choice_of l.choices)
