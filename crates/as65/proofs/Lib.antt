@@ -1,7 +1,6 @@
 pub mod CommandLemmas
 pub mod FilledLemmas
 pub mod LineForLine
-pub mod NamedStartLemmas
 pub mod OriginLemmas
 pub mod PassingLemmas
 pub mod PieceLemmas

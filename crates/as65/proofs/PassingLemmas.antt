@@ -1,5 +1,5 @@
 -- The lines are passed over once, as the stretches rise.
-use Rattle.std.proofs.Common.{◌≡◌, ◌∙◌, ◌+◌, ◌-◌, ◌<◌, ◌≤◌, ℕ, zero, suc, Bool, true, false, cond, List, [], ◌∷◌, ap, arith, drop, get_or, length, nat_le, refl, subst, ap₂, append_assoc, flat_map, ◌++◌}
+use Rattle.std.proofs.Common.{◌≡◌, ◌∙◌, ◌+◌, ◌-◌, ◌<◌, ◌≤◌, ℕ, zero, suc, Bool, true, false, cond, List, [], ◌∷◌, ap, arith, drop, get_or, length, nat_le, refl, ap₂}
 use Rattle.std.proofs.lemmas.Bool.Decides.{nat_tests}
 use Rattle.std.proofs.lemmas.List.{drop-drop, get_or-drop}
 use Rattle.std.specs.List.{prefix_len}
@@ -20,14 +20,10 @@ prefix_left p zero xs few = omega arith
 prefix_left p (suc k) [] few = absurd (omega arith)
 prefix_left p (suc k) (x ∷ xs) few = prefix_left_in p k x xs (p x) refl (prefix_left p k xs) few
 
-prefix_rises_in : (m n x : ℕ) (xs : List ℕ) → m ≤ n → prefix_len (λ a. nat_le a m) xs ≤ prefix_len (λ a. nat_le a n) xs
-    → cond (nat_le x m) (1 + prefix_len (λ a. nat_le a m) xs) 0 ≤ cond (nat_le x n) (1 + prefix_len (λ a. nat_le a n) xs) 0
-prefix_rises_in m n x xs less rest = grind (arith, nat_tests)
-
 -- more addresses come before a greater one
 pub prefix_rises : (m n : ℕ) (xs : List ℕ) → m ≤ n → prefix_len (λ a. nat_le a m) xs ≤ prefix_len (λ a. nat_le a n) xs
 prefix_rises m n [] less = omega arith
-prefix_rises m n (x ∷ xs) less = prefix_rises_in m n x xs less (prefix_rises m n xs less)
+prefix_rises m n (x ∷ xs) less = let rest = prefix_rises m n xs less in grind (arith, nat_tests)
 
 -- where rows differ both have a byte
 below_one : (one other : List ℕ) (i : ℕ) → differs one other i ≡ true → i < length one
@@ -41,36 +37,17 @@ in_both one other s some all =
     let last : differs one other (s.end - 1) ≡ true = all (s.end - 1) (omega arith) (omega arith) in
     record { order = omega arith; in_one = omega (arith, below_one one other (s.end - 1) last); in_other = omega (arith, below_other one other (s.end - 1) last) }
 
-ready_more : (c : Compared) (passed : ℕ) (s : Stretch) (later : List Stretch) → passed ≤ passed_at c s → IsInBoth c.image c.bytes s → IsReady c (passed_at c s) later → IsReady c passed (s ∷ later)
-unfolding IsReady
-ready_more c passed s later few both rest = (few, both, rest)
-
-ready_none : (c : Compared) (passed : ℕ) → IsReady c passed []
-unfolding IsReady
-ready_none c passed = tt
-
 -- all runs, of which the lines before the first offset may have been passed over
 pub runs_are_ready : (c : Compared) (from passed : ℕ) (found : List Stretch) → passed ≤ prefix_len (λ a. nat_le a (c.start + from)) c.ends
     → AreRuns (differs c.image c.bytes) from found → IsReady c passed found
-unfolding AreRuns
-runs_are_ready c from passed [] few runs = ready_none c passed
+unfolding AreRuns IsReady
+runs_are_ready c from passed [] few runs = tt
 runs_are_ready c from passed (s ∷ later) few (low, before, some, inside, after, rest) =
-    let rises : prefix_len (λ a. nat_le a (c.start + from)) c.ends ≤ passed_at c s = prefix_rises (c.start + from) (c.start + s.at) c.ends (omega arith) in
-    ready_more c passed s later (omega arith) (in_both c.image c.bytes s some inside)
-    (runs_are_ready c s.end (passed_at c s) later (prefix_rises (c.start + s.at) (c.start + s.end) c.ends (omega arith)) rest)
-
--- the parts of what is ready
-pub ready_first : (c : Compared) (passed : ℕ) (s : Stretch) (later : List Stretch) → IsReady c passed (s ∷ later) → passed ≤ passed_at c s
-unfolding IsReady
-ready_first c passed s later ready = ready.0
-
-pub ready_both : (c : Compared) (passed : ℕ) (s : Stretch) (later : List Stretch) → IsReady c passed (s ∷ later) → IsInBoth c.image c.bytes s
-unfolding IsReady
-ready_both c passed s later ready = ready.1
-
-pub ready_later : (c : Compared) (passed : ℕ) (s : Stretch) (later : List Stretch) → IsReady c passed (s ∷ later) → IsReady c (passed_at c s) later
-unfolding IsReady
-ready_later c passed s later ready = ready.2
+    let rises : prefix_len (λ a. nat_le a (c.start + from)) c.ends ≤ passed_at c s = prefix_rises (c.start + from) (c.start + s.at) c.ends (omega arith) in (
+      omega arith,
+      in_both c.image c.bytes s some inside,
+      runs_are_ready c s.end (passed_at c s) later (prefix_rises (c.start + s.at) (c.start + s.end) c.ends (omega arith)) rest,
+    )
 
 -- those of all lines that are left
 pub record AreLeft (c : Compared) (o : OriginsView) : Type 0 where
@@ -107,17 +84,3 @@ line_is c s o left is =
     ap (λ l. get_or l 0 []) left.lines ∙ get_or-drop o.passed c.lines 0 [] ∙ (let same : o.passed + 0 ≡ passed_at c s + 1 - 1 = omega arith in ap (λ n. get_or c.lines n []) same) in
     let number : o.passed + 1 ≡ passed_at c s + 1 = omega arith in
     ap₂ (λ n l. stretch_line (c.start + s.at) (stretch_bytes s c.image) (stretch_bytes s c.bytes) n l) number line
-
--- one line more, of the first stretch
-pub text_more : (f : Stretch → List ℕ) (s : Stretch) (rest later : List Stretch) (out more all line : List ℕ) → rest ≡ s ∷ later → more ≡ out ++ line → line ≡ f s
-    → out ++ flat_map f rest ≡ all → more ++ flat_map f later ≡ all
-text_more f s rest later out more all line is puts here before = rw (puts, append_assoc, here) (rw is at before)
-
--- all runs are ready before any line was passed over
-pub ready_at_first : (c : Compared) (one other : List ℕ) (found all : List Stretch) → one ≡ c.image → other ≡ c.bytes → found ≡ all
-    → AreRuns (differs one other) 0 found → IsReady c 0 all
-ready_at_first c one other found all image bytes same runs =
-    let P : List Stretch → Type 0 = λ l. IsReady c 0 l in
-    let Q : List ℕ → Type 0 = λ l. AreRuns (differs c.image l) 0 found in
-    let R : List ℕ → Type 0 = λ l. AreRuns (differs l other) 0 found in
-    subst P same (runs_are_ready c 0 0 found (omega arith) (subst Q bytes (subst R image runs)))

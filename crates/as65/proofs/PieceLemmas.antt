@@ -1,12 +1,10 @@
 -- The pieces of a line, one after the other.
-use Rattle.std.proofs.Common.{◌≡◌, ℕ, zero, suc, Bool, true, false, ◌+◌, ◌-◌, ◌<◌, List, [], ◌∷◌, ◌++◌, length, drop, take, get_or, Option, refl, ap, sym, ◌∙◌, arith, add-one, append_assoc}
+use Rattle.std.proofs.Common.{◌≡◌, ℕ, zero, suc, Bool, true, false, ◌+◌, ◌-◌, ◌<◌, List, [], ◌∷◌, length, drop, take, get_or, refl, ap, ◌∙◌, arith, add-one}
 use Rattle.std.specs.List.{prefix_len}
 use Rattle.std.specs.Str.{str_eq_ignore_ascii_case}
-use Rattle.std.proofs.lemmas.List.{append-nil, take_rest}
+use Rattle.std.proofs.lemmas.List.{take_rest}
 use Rattle.text65.specs.Names.{is_word_byte}
-use Rattle.stmt65.specs.Symbols.{Definition}
-use Rattle.stmt65.specs.declared.assembling.fault.AsmFaultKind.{AsmFaultKind}
-use Rattle.as65.specs.Halves.{Piece, Step, is_remark, is_word_at, lower, lowest, piece_fault, piece_text, pieces_after, pieces_text, step_at}
+use Rattle.as65.specs.Halves.{Piece, Step, is_remark, is_word_at, pieces_after, step_at}
 use Rattle.as65.specs.declared.halves.Place.{Place}
 
 after-drop : (skip : ℕ) (place : Place) (bs : List ℕ) → pieces_after skip place bs ≡ pieces_after 0 place (drop skip bs)
@@ -55,30 +53,3 @@ word_here bytes word n same some len is =
     let len' = rw take_rest at len in
     is ∙ ap (λ (l : List ℕ). str_eq_ignore_ascii_case l word) (take_first bytes n some)
     ∙ ap (λ (m : ℕ). str_eq_ignore_ascii_case (get_or bytes 0 0 ∷ take m (drop 1 bytes)) word) len'
-
--- ---- what pieces are written as, and their faults
-
-pub text_step : (all : Option (List Definition)) (p : Piece) (rest left : List Piece) (out more whole : List ℕ)
-    → left ≡ p ∷ rest → more ≡ out ++ piece_text all p → out ++ pieces_text all left ≡ whole → more ++ pieces_text all rest ≡ whole
-text_step all p rest left out more whole is put so =
-    ap (λ (l : List ℕ). l ++ pieces_text all rest) put ∙ append_assoc out (piece_text all p) (pieces_text all rest)
-    ∙ ap (λ (l : List Piece). out ++ pieces_text all l) (sym is) ∙ so
-
-pub text_end : (all : Option (List Definition)) (left : List Piece) (out whole : List ℕ) → left ≡ [] → out ++ pieces_text all left ≡ whole → out ≡ whole
-text_end all left out whole none so = sym (append-nil out) ∙ ap (λ (l : List Piece). out ++ pieces_text all l) (sym none) ∙ so
-
-lowest_more : (all : Option (List Definition)) (found : Option AsmFaultKind) (p : Piece) (ps : List Piece) → lowest all found (p ∷ ps) ≡ lowest all (lower found (piece_fault all p)) ps
-unfolding lowest
-lowest_more all found p ps = refl
-
-lowest_none : (all : Option (List Definition)) (found : Option AsmFaultKind) → lowest all found [] ≡ found
-unfolding lowest
-lowest_none all found = refl
-
-pub fault_step : (all : Option (List Definition)) (p : Piece) (rest left : List Piece) (found next whole : Option AsmFaultKind)
-    → left ≡ p ∷ rest → next ≡ lower found (piece_fault all p) → lowest all found left ≡ whole → lowest all next rest ≡ whole
-fault_step all p rest left found next whole is put so =
-    ap (λ (k : Option AsmFaultKind). lowest all k rest) put ∙ sym (lowest_more all found p rest) ∙ ap (lowest all found) (sym is) ∙ so
-
-pub fault_end : (all : Option (List Definition)) (left : List Piece) (found whole : Option AsmFaultKind) → left ≡ [] → lowest all found left ≡ whole → found ≡ whole
-fault_end all left found whole none so = sym (lowest_none all found) ∙ ap (lowest all found) (sym none) ∙ so
