@@ -1,5 +1,5 @@
 -- What is read are groups, and groups are read.
-use Rattle.std.proofs.Common.{◌≡◌, ◌∙◌, ℕ, Bool, List, [], ◌∷◌, ◌++◌, true, false, refl, ap, sym, inl, inr, append_assoc}
+use Rattle.std.proofs.Common.{arith, ◌≡◌, ◌∙◌, ℕ, Bool, List, [], ◌∷◌, ◌++◌, true, false, refl, ap, sym, inl, inr, append_assoc}
 use Rattle.std.specs.Prelude.{Result, Ok, Err, IfOk, IsOk, Option, Some, None, ◌⊎◌}
 use Rattle.std.specs.List.{flat_map}
 use Rattle.std.proofs.lemmas.List.{append-nil}
@@ -79,10 +79,7 @@ semicolon_read o before g given t _ e = tt
 
 value_read : (o : OptionsView) (k : GroupKind) (given : List AssignmentView) (a : Attribute) (before : List GroupView) (t : TokenView) → IfOk (value_at o before a t >>= λ v. Ok (assigned k (given ++ one a v ∷ []), before)) (Step o (valued k given a) before t)
 unfolding value_at
-value_read o k given a before t =
-    by_result (value_of o a t)
-    (λ v e. by_test (has_room before a) (λ r. rw (e, r) (v, e, r, refl)) (λ r. rw (e, r) tt))
-    (λ f e. rw e tt)
+value_read o k given a before t = grind arith
 
 step_read : (o : OptionsView) (p : Place) (before : List GroupView) (t : TokenView) → IfOk (step o p before t) (Step o p before t)
 unfolding step
@@ -157,14 +154,11 @@ close_front o b k given before t ts r c spelling h keeps gives =
     record { more = []; closed = b; spelling = spelling; spelled = h; new = tt; closes = rw e c; keeps = rw e keeps; gives = rw e gives }
 
 name_front : (o : OptionsView) (a : Attribute) (k : GroupKind) (given : List AssignmentView) (before : List GroupView) (t : TokenView) (ts : List TokenView) (r : List GroupView) → t.kind ≡ word → attribute_named k t.text ≡ Some a → is_given before k given a ≡ false → Rest o (valued k given a) before ts r → Inside o [] k given before (t ∷ ts) r
-name_front o a k given before t ts r w n g h =
-    let i = h.2 in let e = append_assoc given (one a h.0 ∷ []) i.more in
-    record { more = one a h.0 ∷ i.more; closed = i.closed; spelling = i.spelling; spelled = ((w, n), i.spelled); new = (g, h.1, i.new); closes = rw e at i.closes; keeps = rw e at i.keeps; gives = rw e at i.gives }
+name_front o a k given before t ts r w n g h = grind (arith, append_assoc)
 
 in_front : (o : OptionsView) (p : Place) (before : List GroupView) (t : TokenView) (q : State) (ts : List TokenView) (r : List GroupView) → Step o p before t q → Rest o q.0 q.1 ts r → Rest o p before (t ∷ ts) r
 in_front o outside before t q ts r h rest = group_front o h.0 before t ts r h.1 h.2 (rw h.3 at rest)
-in_front o closed before t q ts r (inl h) rest =
-    let s : Outside o [] before ts r = rw h.1 at rest in inr (record { spelling = s.spelling; spelled = (h.0, s.spelled); keeps = s.keeps; gives = s.gives })
+in_front o closed before t q ts r (inl h) rest = grind arith
 in_front o closed before t q ts r (inr h) rest = inl (group_front o h.0 before t ts r h.1 h.2 (rw h.3 at rest))
 in_front o (opening k) before t q ts r h rest = pushed o (mark opening_brace) [] k [] before t ts r h.0 (rw h.1 at rest)
 in_front o (inside k given) before t q ts r (inl h) rest = ending (rw h.2 at rest)
@@ -180,21 +174,7 @@ in_front o (assigned k given) before t q ts r h rest = pushed o (mark semicolon)
 group_off : (o : OptionsView) (before : List GroupView) (t : TokenView) (ts : List TokenView) (r : List GroupView) (spelling : List (GroupView × Bool)) → Spells o (file_items spelling) (t ∷ ts) → AreGroups before (without_marks spelling) → before ++ without_marks spelling ≡ r
     → (k : GroupKind) × (t.kind ≡ word) × (group_named t.text ≡ Some k) × Inside o (mark opening_brace ∷ []) k [] before ts r
 group_off o before t ts r [] h keeps e = absurd h
-group_off o before t ts r (g ∷ gs) h keeps e = (
-  g.0.kind,
-  h.0.0,
-  h.0.1,
-  record {
-    more = g.0.given;
-    closed = g.1;
-    spelling = gs;
-    spelled = h.1;
-    new = keeps.0.new;
-    closes = keeps.0.closes;
-    keeps = keeps.1;
-    gives = append_assoc before (g.0 ∷ []) (without_marks gs) ∙ e;
-  },
-)
+group_off o before t ts r (g ∷ gs) h keeps e = grind (arith, append_assoc)
 
 inside_off : (o : OptionsView) (k : GroupKind) (given : List AssignmentView) (before : List GroupView) (t : TokenView) (ts : List TokenView) (r : List GroupView) (more : List AssignmentView) (b : Bool) (spelling : List (GroupView × Bool))
     → Spells o ((flat_map (given_items k) more ++ end_items b) ++ file_items spelling) (t ∷ ts) → AreNew before k given more → closing_fault before k (given ++ more) ≡ None

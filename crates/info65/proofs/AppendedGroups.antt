@@ -60,15 +60,7 @@ unfolding range_in range_of_parts value_in lacks_name comment_in
 range-said r ordered low = rw (le-leb r.first r.last ordered, le-leb r.last 0xFFFF low) refl
 
 overlap-none : (r : RangeSpec) (old : List RangeSpec) → All (λ q. q.first ≤ q.last) old → IsAdded old r → list_any (overlaps r) old ≡ false
-overlap-none r old ordered is =
-    by_test (list_any (overlaps r) old)
-    (λ yes.
-    let any = Any-from_list_any (overlaps r) old yes in
-    let q : RangeSpec = any.1 in
-    let q_ordered : q.first ≤ q.last = subst (λ (x : RangeSpec). x.first ≤ x.last) any.3 (ordered any.0 q any.2) in
-    let shared = overlap_shared r q is.ordered q_ordered any.4 in
-    absurd (is.apart shared.0 shared.1 (list_any_at (λ p. has_address p shared.0) old any.0 q any.2 (ap (λ (p : RangeSpec). has_address p shared.0) any.3 ∙ shared.2))))
-    (λ none. none)
+overlap-none r old ordered is = grind (arith, by_test, Any-from_list_any, overlap_shared, list_any_at)
 
 range-new : (before : List GroupView) (r : RangeSpec) → AreNew before group.Range [] (range_given r)
 unfolding is_given has has_instead has_room

@@ -1,15 +1,15 @@
 -- A text after a file: the tokens of both are those of the file and then those of the text. The text begins with a `#`, so whatever the
 -- file ends with, a comment begins or goes on there.
-use Rattle.std.proofs.Common.{◌≡◌, ◌∙◌, ◌==◌, ◌+◌, ◌-◌, ◌<◌, ◌≤◌, ℕ, zero, suc, Bool, true, false, List, [], ◌∷◌, ◌++◌, ap, arith, length, length-append, take, refl, sym, inl, inr, cond}
+use Rattle.std.proofs.Common.{◌≡◌, ◌∙◌, ◌==◌, ◌+◌, ◌-◌, ◌<◌, ◌≤◌, ℕ, zero, suc, Bool, true, false, List, [], ◌∷◌, ◌++◌, ap, arith, length, length-append, refl, cond}
 use Rattle.std.specs.Prelude.{Option, Some, None, Result, Ok, Err, slice_index}
 use Rattle.std.specs.List.{prefix_len}
 use Rattle.std.specs.Char.{is_ascii_digit}
 use Rattle.std.proofs.lemmas.Bool.Decides.{nat_tests}
-use Rattle.std.proofs.lemmas.Bool.{cases_lt, cond-false, ne_eqb}
+use Rattle.std.proofs.lemmas.Bool.{cond-false, ne_eqb}
 use Rattle.std.proofs.lemmas.List.{get_or_append_left, get_or-append_right, get_or_past, take-append-le}
 use Rattle.std.proofs.lemmas.List.Folds.{prefix_len-append}
 use Rattle.std.proofs.lemmas.List.Sums.{prefix_len-le-length}
-use Rattle.info65.specs.Lexemes.{LexemeView, closing_brace, mark, number, opening_brace, semicolon, word, character_at, in_class, lexeme_at, number_at, number_in, starts_word, string_at, word_at}
+use Rattle.info65.specs.Lexemes.{LexemeView, closing_brace, mark, opening_brace, semicolon, word, character_at, in_class, lexeme_at, number_at, starts_word, string_at, word_at}
 use Rattle.info65.specs.Tokens.{Stream, TokenView, found, is_blank, opens_comment, tokens_after}
 use Rattle.info65.specs.declared.fault.InfoFault.{InfoFault}
 use Rattle.info65.specs.declared.syntax.lexeme.Class.{Class}
@@ -31,14 +31,7 @@ byte-inside bs more n low = get_or_append_left bs more 0 n low
 
 -- the byte after some of them, where a `#` stands after all
 word-inside : (bs rest : List ℕ) (n : ℕ) → n ≤ length bs → starts_word (slice_index (bs ++ 35 ∷ rest) n) ≡ starts_word (slice_index bs n)
-word-inside bs rest n low =
-    elim (cases_lt n (length bs)) as (λ _. starts_word (slice_index (bs ++ 35 ∷ rest) n) ≡ starts_word (slice_index bs n)) [
-      | inl below ↦ ap starts_word (byte-inside bs (35 ∷ rest) n below)
-      | inr past ↦
-          let here : slice_index (bs ++ 35 ∷ rest) n ≡ slice_index (35 ∷ rest) (n - length bs) = get_or-append_right bs (35 ∷ rest) (length bs) n 0 refl past in
-          let first : n - length bs ≡ 0 = omega (arith, low) in
-          ap starts_word (here ∙ ap (slice_index (35 ∷ rest)) first) ∙ sym (ap starts_word (get_or_past bs n 0 past))
-    ]
+word-inside bs rest n low = grind (arith, byte-inside, get_or-append_right, get_or_past)
 
 -- ---- a token with more after it
 
@@ -46,9 +39,6 @@ word-inside bs rest n low =
 record IsKept (r : Result LexemeView InfoFault) (p : LexemeView) (most : ℕ) : Type 0 where
   same : r ≡ Ok p
   fits : p.more ≤ most
-
-as-ok : (p q : LexemeView) → ◌≡◌ {A = Result LexemeView InfoFault} (Ok p) (Ok q) → p ≡ q
-as-ok p q is = cc
 
 not-ok : {P : Type 0} (e : InfoFault) (q : LexemeView) → ◌≡◌ {A = Result LexemeView InfoFault} (Err e) (Ok q) → P
 not-ok e q is = absurd cc
@@ -58,9 +48,7 @@ by_option None f g = f refl
 by_option (Some x) f g = g x refl
 
 kept-as : (r : Result LexemeView InfoFault) (q p : LexemeView) (most : ℕ) → r ≡ Ok q → ◌≡◌ {A = Result LexemeView InfoFault} (Ok q) (Ok p) → q.more ≤ most → IsKept r p most
-kept-as r q p most here is fits =
-    let same = as-ok q p is in
-    record { same = here ∙ is; fits = omega (arith, fits, sym (ap (λ (x : LexemeView). x.more) same)) }
+kept-as r q p most here is fits = grind arith
 
 word-kept : (bs rest : List ℕ) → word_at (bs ++ 35 ∷ rest) ≡ word_at bs
 unfolding word_at in_class
@@ -68,27 +56,11 @@ word-kept bs rest = ap (λ n. record { kind = word; more = n }) (prefix-before (
 
 number-kept : (line : ℕ) (c : Class) (radix sign : ℕ) (bs rest : List ℕ) (p : LexemeView) → in_class c 35 ≡ false → number_at line c radix sign bs ≡ Ok p → IsKept (number_at line c radix sign (bs ++ 35 ∷ rest)) p (sign + length bs - 1)
 unfolding number_at
-number-kept line c radix sign bs rest p none is =
-    let n : ℕ = prefix_len (in_class c) bs in
-    let low : n ≤ length bs = prefix_len-le-length (in_class c) bs in
-    let same : prefix_len (in_class c) (bs ++ 35 ∷ rest) ≡ n = prefix-before (in_class c) bs rest 35 none in
-    let next = word-inside bs rest n low in
-    let digits : take n (bs ++ 35 ∷ rest) ≡ take n bs = take-append-le n bs (35 ∷ rest) low in
-    by_test (starts_word (slice_index bs n))
-    (λ on. not-ok _ p (rw on at is))
-    (λ off. by_option (number_in radix (take n bs))
-    (λ bad. not-ok _ p (rw (off, bad) at is))
-    (λ value good. kept-as _ (record { kind = number value; more = sign + n - 1 }) p (sign + length bs - 1) (rw (same, next, digits, off, good) refl) (rw (off, good) at is) (omega (arith, low))))
+number-kept line c radix sign bs rest p none is = grind (arith, prefix_len-le-length, prefix-before, word-inside, take-append-le, by_test)
 
 string-kept : (line : ℕ) (bs rest : List ℕ) (p : LexemeView) → string_at line bs ≡ Ok p → IsKept (string_at line (bs ++ 35 ∷ rest)) p (length bs)
 unfolding string_at
-string-kept line bs rest p is =
-    let n : ℕ = prefix_len (in_class class.Text) bs in
-    let upto : n ≤ length bs = prefix_len-le-length (in_class class.Text) bs in
-    let low : n < length bs = grind (arith, nat_tests) in
-    let same : prefix_len (in_class class.Text) (bs ++ 35 ∷ rest) ≡ n = prefix-inside (in_class class.Text) bs (35 ∷ rest) low in
-    let more : (n == length (bs ++ 35 ∷ rest)) ≡ (n == length bs) = grind (arith, nat_tests, length-append bs (35 ∷ rest)) in
-    record { same = rw (same, more, byte-inside bs (35 ∷ rest) n low, take-append-le n bs (35 ∷ rest) upto) is; fits = grind (arith, nat_tests) }
+string-kept line bs rest p is = grind (arith, prefix_len-le-length, prefix-inside, length-append, byte-inside, take-append-le)
 
 character-kept : (line : ℕ) (bs rest : List ℕ) (p : LexemeView) → character_at line bs ≡ Ok p → IsKept (character_at line (bs ++ 35 ∷ rest)) p (length bs)
 unfolding character_at
@@ -159,10 +131,7 @@ found-before : (line : ℕ) (b : ℕ) (bs rest : List ℕ) (last : ℕ) (r : Res
     → (found line (b ∷ bs) r f).ending ≡ Ok last
     → found line (b ∷ (bs ++ 35 ∷ rest)) (lexeme_at line (b ∷ (bs ++ 35 ∷ rest))) g ≡ after_tokens (found line (b ∷ bs) r f).tokens (tokens_after 0 true last rest)
 found-before line b bs rest last (Err e) f g is next ends = absurd cc
-found-before line b bs rest last (Ok p) f g is next ends =
-    let kept = lexeme-kept line b bs rest p is in
-    let text : take (p.more + 1) (b ∷ (bs ++ 35 ∷ rest)) ≡ take (p.more + 1) (b ∷ bs) = take-append-le (p.more + 1) (b ∷ bs) (35 ∷ rest) (omega (arith, kept.fits)) in
-    rw (kept.same, text, next p.more kept.fits ends) refl
+found-before line b bs rest last (Ok p) f g is next ends = grind (arith, lexeme-kept, take-append-le)
 
 -- The tokens of bytes that end without a fault, and of a `#` and more bytes after them.
 pub tokens-before : (skip : ℕ) (c : Bool) (line : ℕ) (bs rest : List ℕ) (last : ℕ) → skip ≤ length bs → (tokens_after skip c line bs).ending ≡ Ok last → tokens_after skip c line (bs ++ 35 ∷ rest) ≡ after_tokens (tokens_after skip c line bs).tokens (tokens_after 0 true last rest)

@@ -12,7 +12,7 @@ use Rattle.info65.specs.Settings.{info_of}
 use Rattle.info65.specs.Tokens.{TokenView, tokens_of}
 use Rattle.info65.specs.Views.{InfoView, OptionsView}
 use Rattle.info65.specs.declared.fault.InfoFault.{InfoFault}
-use Rattle.info65.specs.declared.fault.InfoFaultKind.TheVariants.{Expected, TooLarge}
+use Rattle.info65.specs.declared.fault.InfoFaultKind.TheVariants.{Expected}
 use Rattle.info65.proofs.Accepting.{accepted_groups, groups_accepted}
 use Rattle.info65.proofs.Cases.{by_result, by_test}
 
@@ -95,13 +95,6 @@ first o p before (t ∷ ts) ending e h =
       refuses = λ others end. rw g i;
     }))
 
-refused_by : (o : OptionsView) (bytes : List ℕ) (e : InfoFault) (r : Result (List GroupView) InfoFault) → groups_of o bytes ≡ r → (r >>= λ groups. Ok (info_of o groups)) ≡ Err e → groups_of o bytes ≡ Err e
-refused_by o bytes e (Ok groups) is h = absurd cc
-refused_by o bytes e (Err f) is h = let same : f ≡ e = cc in is ∙ ap (λ x. Err x) same
-
 pub refuses_first : RefusesFirst
 unfolding information groups_of read
-refuses_first o bytes e h =
-    by_test (nat_lt 1_048_576 (length bytes))
-    (λ large. let f : ◌≡◌ {A = Result InfoView InfoFault} (Err (fault 1 TooLarge)) (Err e) = rw large at h in inl (grind (arith, nat_tests, large), cc))
-    (λ small. inr (ltb-false 1_048_576 (length bytes) small, first o outside [] (tokens_of 1 bytes).tokens (tokens_of 1 bytes).ending e (refused_by o bytes e (groups_of o bytes) refl (rw small at h))))
+refuses_first o bytes e h = grind (arith, by_test, first)

@@ -19,7 +19,7 @@ use Rattle.info65.specs.Names.{has_comment_form}
 use Rattle.info65.specs.Reader.{group, groups_of, read}
 use Rattle.info65.specs.Settings.{settings_of}
 use Rattle.info65.specs.Tokens.{TokenView, tokens_of}
-use Rattle.info65.specs.Values.{HasForm, ValueView, a_number, a_name, as_name, as_number, boolean_of, boolean_value, comment_value, cpu_value, in_form, is_file_name, is_on_command_line, label_value, name_value, type_value, value_of}
+use Rattle.info65.specs.Values.{HasForm, ValueView, a_number, a_name, as_name, as_number, boolean_of, boolean_value, comment_value, cpu_value, in_form, is_file_name, label_value, name_value, type_value, value_of}
 use Rattle.info65.specs.Views.{AreInLimits, AreOptions, IsColumn, OptionsView}
 use Rattle.info65.specs.declared.syntax.attribute.Attribute.{Attribute}
 use Rattle.info65.specs.declared.syntax.attribute.Attribute.TheVariants as attribute
@@ -35,10 +35,7 @@ use Rattle.info65.proofs.Cases.{by_test}
 
 name_formed : (o : OptionsView) (a : Attribute) (line : ℕ) (text : List ℕ) → IfOk (name_value o a line text) (HasForm form.FileName)
 unfolding name_value
-name_formed o a line text =
-    by_test (is_file_name text)
-    (λ h. by_test (is_on_command_line o a) (λ g. rw (h, g) tt) (λ g. rw (h, g) h))
-    (λ h. rw h tt)
+name_formed o a line text = grind arith
 
 cpu_formed : (line : ℕ) (c : Option Cpu) → IfOk (cpu_value line c) (HasForm form.CpuText)
 cpu_formed line (Some c) = tt
@@ -68,8 +65,7 @@ formed o a line source form.Boolean word = boolean_formed line (boolean_named so
 formed o a line source form.Boolean (number n) = boolean_formed line (boolean_of n)
 formed o a line source form.Character (character b) = tt
 formed o a line source form.Address (number n) = by_test (nat_le n 0xFFFF) (λ h. rw h (grind (arith, nat_tests, h))) (λ h. rw h tt)
-formed o a line source (form.Number low high) (number n) =
-    by_test (nat_le low n) (λ g. by_test (nat_le n high) (λ h. rw (g, h) (grind (arith, nat_tests, g), grind (arith, nat_tests, h))) (λ h. rw (g, h) tt)) (λ g. rw g tt)
+formed o a line source (form.Number low high) (number n) = grind arith
 formed o a line source _ _ = tt
 
 at : {A : Type 0} (P : A → Type 0) (r : Result A InfoFault) (x : A) → r ≡ Ok x → IfOk r P → P x

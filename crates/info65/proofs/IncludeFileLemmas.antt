@@ -1,18 +1,17 @@
 -- The names that a whole include file adds, and the fault that it is refused for.
 use Rattle.std.proofs.Common.{◌≡◌, ◌≢◌, ◌∙◌, ◌+◌, ◌≤◌, ℕ, Bool, List, [], ◌∷◌, ◌++◌, true, false, ap, append_assoc, arith, get_or, inl, inr, length, refl, subst, sym}
 use Rattle.std.specs.Prelude.{All, Option, Some, None, Result, Ok, Err, nat_lt, option_to_list}
-use Rattle.std.specs.List.{list_all, list_any}
-use Rattle.std.proofs.lemmas.Bool.{and_parts, eq-eqb, eqb-true, lt-ltb, ltb-false, ne_eqb}
+use Rattle.std.specs.List.{list_any}
+use Rattle.std.proofs.lemmas.Bool.{eq-eqb, eqb-true, lt-ltb, ltb-false, ne_eqb}
 use Rattle.std.proofs.lemmas.Bool.Decides.{nat_tests}
 use Rattle.std.proofs.lemmas.List.{append-nil}
 use Rattle.std.proofs.lemmas.List.Folds.{Any-from_list_any, list_any-from_Any, list_any_none}
 use Rattle.text65.specs.Lines.{text_lines}
-use Rattle.text65.specs.Names.{has_name_form, is_blank, is_word_byte}
+use Rattle.text65.specs.Names.{has_name_form}
 use Rattle.info65.specs.Faults.{fault}
 use Rattle.info65.specs.IncludeLaws.{AreAdded, IncludedNames, IsIncluded, IsPassedOver, IsRefused, IsFirstFault, IsSpelling, LineAdds, WritesAddress}
 use Rattle.info65.specs.Includes.{assignment_in, is_identifier, unless_ignored, line_adds, line_in, name_adds, names_included, names_with, optional_adds, or_bad, without_comment}
 use Rattle.info65.specs.Labels.{by_address, is_at, is_elsewhere, name_fault}
-use Rattle.info65.specs.Lexemes.{starts_word}
 use Rattle.info65.specs.Names.{AreGiven, IsName, is_reserved}
 use Rattle.info65.specs.Views.{IncludeView, NameView}
 use Rattle.info65.specs.declared.fault.InfoFault.{InfoFault}
@@ -156,10 +155,7 @@ by_line {P} i names l pass add bad = go (optional_adds names (line_in i.comment_
 identified : (text : List ℕ) → is_identifier text ≡ true → nat_lt 80 (length text) ≡ false → has_name_form text ≡ true
 unfolding is_identifier has_name_form
 identified [] h short = absurd cc
-identified (b ∷ bs) h short =
-    let e = and_parts (starts_word b) (list_all is_word_byte bs) h in
-    let low : nat_lt (length bs) 80 ≡ true = grind (arith, nat_tests, short) in
-    rw (e.0, e.1, low) refl
+identified (b ∷ bs) h short = grind arith
 
 written_low : (value : List ℕ) (a : ℕ) → WritesAddress value a → a ≤ 0xFFFF
 written_low value a (inl w) = w.in_range
@@ -330,35 +326,16 @@ is_accepted i names bytes all h =
 
 accepted_is : (i : IncludeView) (names : List NameView) (bytes : List ℕ) (all : List NameView) → IsIncluded i names bytes all → names_included i names bytes ≡ Ok all
 unfolding names_included
-accepted_is i names bytes all s =
-    let low = s.small in
-    let small : nat_lt 1_048_576 (length bytes) ≡ false = grind (arith, nat_tests, low) in
-    rw (small, added_with i 1 names (text_lines bytes) s.added s.are) (ap (λ (x : List NameView). Ok x) (sym s.is))
+accepted_is i names bytes all s = grind (arith, added_with)
 
 is_refused : (i : IncludeView) (names : List NameView) (bytes : List ℕ) (e : InfoFault) → names_included i names bytes ≡ Err e → IsRefused i names bytes e
 unfolding names_included
-is_refused i names bytes e h =
-    by_test (nat_lt 1_048_576 (length bytes))
-    (λ large. let f : ◌≡◌ {A = Result (List NameView) InfoFault} (Err (fault 1 TooLarge)) (Err e) = rw large at h in inl (grind (arith, nat_tests, large), cc))
-    (λ small. by_result (names_with i 1 names (text_lines bytes))
-    (λ more g. let wrong : ◌≡◌ {A = Result (List NameView) InfoFault} (Ok (by_address more)) (Err e) = rw (small, g) at h in absurd cc)
-    (λ f g.
-    let same : ◌≡◌ {A = Result (List NameView) InfoFault} (Err f) (Err e) = rw (small, g) at h in
-    inr (ltb-false 1_048_576 (length bytes) small, first i 1 names (text_lines bytes) e (g ∙ same))))
+is_refused i names bytes e h = grind (arith, by_test, first)
 
 refused_is : (i : IncludeView) (names : List NameView) (bytes : List ℕ) (e : InfoFault) → IsRefused i names bytes e → names_included i names bytes ≡ Err e
 unfolding names_included
-refused_is i names bytes e (inl h) =
-    let high = h.0 in
-    let large : nat_lt 1_048_576 (length bytes) ≡ true = grind (arith, nat_tests, high) in
-    rw large (ap (λ (x : InfoFault). Err x) (sym h.1))
-refused_is i names bytes e (inr h) =
-    let low = h.0 in
-    let s = h.1 in
-    let small : nat_lt 1_048_576 (length bytes) ≡ false = grind (arith, nat_tests, low) in
-    let lines : names_with i 1 names (text_lines bytes) ≡ Err e =
-    ap (names_with i 1 names) s.parts ∙ first_with i 1 names s.front s.line s.rest s.added s.kind s.are s.heeded s.has ∙ ap (λ (x : InfoFault). Err x) (sym s.is) in
-    rw (small, lines) refl
+refused_is i names bytes e (inl h) = grind arith
+refused_is i names bytes e (inr h) = grind (arith, first_with)
 
 pub included_names : IncludedNames
 included_names i names bytes = record {

@@ -1,5 +1,5 @@
 -- The include files of an accepted file.
-use Rattle.std.proofs.Common.{◌≡◌, ◌∙◌, ◌<◌, ◌≤◌, ◌+◌, ℕ, Bool, true, false, List, [], ◌∷◌, ◌++◌, zero, suc, ap, arith, drop, get_or, inl, inr, length, length-append, map, refl, subst, sym}
+use Rattle.std.proofs.Common.{◌≡◌, ◌∙◌, ◌<◌, ◌≤◌, ◌+◌, ℕ, Bool, true, false, List, [], ◌∷◌, ◌++◌, zero, suc, ap, arith, drop, get_or, inl, inr, length, length-append, map, refl, sym}
 use Rattle.std.specs.Prelude.{All, IfSome, Option, Some, None, Result, Ok, Err}
 use Rattle.std.specs.List.{flat_map}
 use Rattle.std.specs.Option.{unwrap_or}
@@ -116,17 +116,12 @@ few_before before h = ltb-true (length (includes_of before)) 16 h
 
 part_few : (before : List GroupView) (k : GroupKind) (given : List AssignmentView) (x : Result IncludeView InfoFaultKind) → AreNew before k [] given → include_in given ≡ x → length (includes_of before) ≤ 16
     → length (includes_of before) + length (include_part (record { kind = k; given = given })) ≤ 16
-part_few before kind.Include given (Ok i) new e few =
-    let room = few_before before (room_for before kind.Include [] given attribute.File (a_name i.file) new (file_in given i e)) in
-    rw e (omega (arith, room))
+part_few before kind.Include given (Ok i) new e few = grind (arith, few_before, room_for, file_in)
 part_few before kind.Include given (Err f) new e few = rw e (omega (arith, few))
 part_few before _ given x new e few = omega (arith, few)
 
 few_more : (before : List GroupView) (k : GroupKind) (given : List AssignmentView) → AreNew before k [] given → length (includes_of before) ≤ 16 → length (includes_of (before ++ record { kind = k; given = given } ∷ [])) ≤ 16
-few_more before k given new few =
-    let one : GroupView = record { kind = k; given = given } in
-    let part = part_few before k given (include_in given) new refl few in
-    omega (arith, ap length (includes_more before one), length-append (includes_of before) (include_part one), part)
+few_more before k given new few = grind (arith, part_few, includes_more, length-append)
 
 none_few : length (includes_of []) ≤ 16
 unfolding includes_of
@@ -161,13 +156,7 @@ from given i is = by_file (as_name (value_in attribute.File given)) is
 
 says : (given : List AssignmentView) (i : IncludeView) → AreFormed given → include_in given ≡ Ok i → SaysInclude given i
 unfolding form_of
-says given i f is =
-    let x = from given i is in
-    record {
-      file = file_in given i is;
-      comment_start = subst (λ (b : ℕ). IsGivenOr (value_in attribute.CommentStart given) (a_character 59) (a_character b)) (sym x.start) (character_or (value_in attribute.CommentStart given) (found_formed attribute.CommentStart given f));
-      ignore_unknown = subst (λ (b : Bool). IsGivenOr (value_in attribute.IgnoreUnknown given) (a_boolean false) (a_boolean b)) (sym x.ignore) (boolean_or (value_in attribute.IgnoreUnknown given) (found_formed attribute.IgnoreUnknown given f));
-    }
+says given i f is = grind (arith, from, file_in, character_or, found_formed, boolean_or)
 
 closes : (before : List GroupView) (given : List AssignmentView) → closing_fault before kind.Include given ≡ None → (i : IncludeView) × (include_in given ≡ Ok i)
 unfolding closing_fault

@@ -1,8 +1,7 @@
 -- The names of an include file.
 use Rattle.std.proofs.Common.{◌≡◌, ◌∙◌, ◌+◌, ◌<◌, ℕ, List, [], ◌∷◌, ◌++◌, false, ap, arith, get_or, inl, inr, length, option_map, refl, subst, sym, take, drop}
-use Rattle.std.specs.Option.{option_or}
-use Rattle.std.specs.Prelude.{◌||◌, Option, Some, None, Result, Ok, Err, nat_lt, is_some, option_to_list}
-use Rattle.std.specs.List.{find, list_any}
+use Rattle.std.specs.Prelude.{Option, Some, None, Result, Ok, Err, nat_lt, option_to_list}
+use Rattle.std.specs.List.{list_any}
 use Rattle.std.proofs.lemmas.List.{drop_more, get_or_default, take-append-drop}
 use Rattle.std.proofs.lemmas.List.Folds.{find-append, list_any-append}
 use Rattle.text65.specs.Lines.{text_lines}
@@ -11,7 +10,7 @@ use Rattle.info65.specs.Code.Names.{given_seen}
 use Rattle.info65.specs.Faults.{◌>>=◌}
 use Rattle.info65.specs.Code.Results.{Fails, Sees}
 use Rattle.info65.specs.Includes.{blank_include, included, unless_ignored, line_adds, line_in, name_adds, names_included, names_with, optional_adds, with_names}
-use Rattle.info65.specs.Labels.{by_address, is_at, is_elsewhere, name_fault, named_at}
+use Rattle.info65.specs.Labels.{by_address, is_elsewhere, name_fault, named_at}
 use Rattle.info65.specs.NameFaultLaws.{AreDistinct}
 use Rattle.info65.specs.Names.{AreGiven, AreNames, blank_name, name_at}
 use Rattle.info65.specs.Views.{IncludeView, InfoView, NameView}
@@ -28,17 +27,10 @@ Added = Result (Option NameView) InfoFaultKind
 
 -- ---- what the code returns
 
-pub seen_is : (r : Result (Option Given) InfoFaultKind) (defined : Added) → Sees (option_map given_seen) r defined → defined ≡ name_result_seen r
-seen_is (Ok o) defined h = h
-seen_is (Err f) defined h = h
-
 pub line_seen : (i : IncludeView) (line : ℕ) (names : List NameView) (text : List ℕ) (said added : Result (Option Given) InfoFaultKind) (r : Result (Option Given) InfoFault) → Sees (option_map given_seen) said (line_in i.comment_start text) → Sees (option_map given_seen) added (optional_adds names (name_result_seen said)) → Sees (option_map given_seen) r (unless_ignored i.ignore_unknown line (name_result_seen added))
     → Sees (option_map given_seen) r (line_adds i line names text)
 unfolding line_adds
-line_seen i line names text said added r a b c =
-    let e = seen_is said (line_in i.comment_start text) a in
-    let f = seen_is added (optional_adds names (name_result_seen said)) b in
-    rw (e, f) c
+line_seen i line names text said added r a b c = grind arith
 
 -- ---- the names before the file
 
@@ -58,10 +50,7 @@ fresh names i are low = next_fine (take i names) (name_at names i) (drop (i + 1)
 pub next_lines : (i : IncludeView) (number : ℕ) (names : List NameView) (rest l : List ℕ) (ls : List (List ℕ)) (r : Result (List NameView) InfoFault) → text_lines rest ≡ l ∷ ls → with_added names (line_adds i number names l) ≡ r
     → names_with i number names (text_lines rest) ≡ (r >>= λ more. names_with i (number + 1) more ls)
 unfolding names_with
-next_lines i number names rest l ls r is adds =
-    by_result (line_adds i number names l)
-    (λ o e. let more : Ok (names ++ option_to_list o) ≡ r = rw e at adds in rw (is, e, ← more) refl)
-    (λ f e. let bad : ◌≡◌ {A = Result (List NameView) InfoFault} (Err f) r = rw e at adds in rw (is, e, ← bad) refl)
+next_lines i number names rest l ls r is adds = grind arith
 
 pub last_line : (i : IncludeView) (number : ℕ) (all : List NameView) (rest : List ℕ) → text_lines rest ≡ [] → names_with i number all (text_lines rest) ≡ Ok all
 unfolding names_with
@@ -79,9 +68,7 @@ accepted i names all bytes small is = rw (small, is) refl
 
 -- the include file at a place of an information that is seen as this one
 pub file_at : (i j : InfoView) (files : List IncludeView) (index : ℕ) (file : IncludeView) → i ≡ j → index < length j.includes → file ≡ get_or files index file → files ≡ i.includes → file ≡ get_or i.includes index blank_include
-file_at i j files index file seen low at are =
-    let here : index < length i.includes = omega (arith, low, ap (λ (x : InfoView). length x.includes) seen) in
-    at ∙ ap (λ (l : List IncludeView). get_or l index file) are ∙ get_or_default i.includes index file blank_include here
+file_at i j files index file seen low at are = grind (arith, get_or_default)
 
 pub included_names : (i : InfoView) (index : ℕ) (file : IncludeView) (bytes : List ℕ) (all : List NameView) → file ≡ get_or i.includes index blank_include → names_included file i.names bytes ≡ Ok all → included i index bytes ≡ Ok (with_names i all)
 unfolding included
@@ -108,9 +95,7 @@ included_rest i j index bytes h = by_names (names_included (get_or i.includes in
     by_names (Err f) e = absurd cc
 
 pub read_included : (i opened read new : InfoView) (names : List NameView) (index : ℕ) (bytes : List ℕ) → i ≡ opened → included opened index bytes ≡ Ok read → read.names ≡ names → new ≡ with_names i names → included i index bytes ≡ Ok new
-read_included i opened read new names index bytes is reads are put =
-    ap (λ (x : InfoView). included x index bytes) is ∙ reads
-    ∙ ap (λ (x : InfoView). Ok x) (included_rest opened read index bytes reads ∙ ap (λ (l : List NameView). with_names opened l) are ∙ ap (λ (x : InfoView). with_names x names) (sym is) ∙ sym put)
+read_included i opened read new names index bytes is reads are put = grind (arith, included_rest)
 
 -- ---- the names before a file in another order
 
@@ -121,9 +106,7 @@ record Alike (xs ys : List NameView) : Type 0 where
 
 adds_alike : (xs ys : List NameView) (n : NameView) → Alike xs ys → name_adds xs n ≡ name_adds ys n
 unfolding name_adds
-adds_alike xs ys n a =
-    let taken = taken_is xs n.address ∙ ap is_some (a.named n.address) ∙ sym (taken_is ys n.address) in
-    rw (taken, a.elsewhere n) refl
+adds_alike xs ys n a = grind (arith, taken_is)
 
 line_alike : (i : IncludeView) (line : ℕ) (xs ys : List NameView) (text : List ℕ) → Alike xs ys → line_adds i line xs text ≡ line_adds i line ys text
 unfolding line_adds
@@ -136,10 +119,7 @@ line_alike i line xs ys text a = ap (unless_ignored i.ignore_unknown line) (said
 
 more_alike : (xs ys zs : List NameView) → Alike xs ys → Alike (xs ++ zs) (ys ++ zs)
 unfolding named_at
-more_alike xs ys zs a = record {
-  named = λ p. find-append (is_at p) xs zs ∙ ap (λ (o : Option NameView). option_or o (find (is_at p) zs)) (a.named p) ∙ sym (find-append (is_at p) ys zs);
-  elsewhere = λ n. list_any-append (is_elsewhere n) xs zs ∙ ap (λ b. b || list_any (is_elsewhere n) zs) (a.elsewhere n) ∙ sym (list_any-append (is_elsewhere n) ys zs);
-}
+more_alike xs ys zs a = grind (arith, find-append, list_any-append)
 
 same_address : (xs ys : List NameView) → Alike xs ys → by_address xs ≡ by_address ys
 unfolding by_address

@@ -188,10 +188,6 @@ found_is items numbers a o i is = sym i.is ∙ sym (numbered_map given_seen item
 pub taken_found : (items : List Given) (numbers : List ℕ) (a : ℕ) → IsFoundAt (map given_seen items) numbers a → is_some (numbered items (get_or numbers a 0)) ≡ list_any (is_at a) (map given_seen items)
 taken_found items numbers a i = sym (some_map given_seen _) ∙ ap is_some (sym (found_is items numbers a _ i refl)) ∙ sym (taken_is (map given_seen items) a)
 
-pub stands_found : (items : List Given) (texts : TextsView) (t : List ℕ) → StandsIn (map given_seen items) texts t
-    → stands_by t (texts.others t) (option_map given_seen (numbered items (texts.slotted t))) ≡ option_map (λ (n : NameView). n.address) (text_at (map given_seen items) t)
-stands_found items texts t i = ap (stands_by t (texts.others t)) (numbered_map given_seen items (texts.slotted t)) ∙ i.is
-
 some_numbered : (names : List NameView) (k : ℕ) → (k ≡ 0 → ⊥) → k ≤ length names → (m : NameView) × (numbered names k ≡ Some m)
 some_numbered names zero some low = absurd (some refl)
 some_numbered names (suc k) some low = (get_or names k blank_name, slice_get-get_or names k blank_name (omega (arith, low)))
@@ -203,19 +199,7 @@ no_text (Some n) h = absurd cc
 -- a text is found after one name more
 text_added : (names : List NameView) (texts told : TextsView) (n : NameView) (t : List ℕ) → StandsIn names texts t → IsNew names n
     → AddsText texts n.text n.address (length names + 1) told t → StandsIn (names ++ n ∷ []) told t
-text_added names texts told n t i new (inl (free, taken, same)) =
-    let long = length-append names (n ∷ []) in
-    let was : option_map (λ (m : NameView). m.address) (text_at names t) ≡ None = sym i.is ∙ ap (λ (k : ℕ). stands_by t (texts.others t) (numbered names k)) free in
-    let none : text_at names t ≡ None = no_text (text_at names t) was in
-    let last : numbered (names ++ n ∷ []) (told.slotted t) ≡ Some n = ap (numbered (names ++ n ∷ [])) taken ∙ numbered_last names n in
-    record {
-      low = omega (arith, taken, long);
-      alone = λ empty. absurd (omega (arith, taken, empty));
-      is = ap (stands_by t (told.others t)) last ∙
-          by_test (bytes_eq t n.text)
-          (λ at. cond-true (bytes_eq t n.text) (Some n.address) (told.others t) at ∙ ap (option_map (λ (m : NameView). m.address)) (sym (find_more (λ (m : NameView). bytes_eq t m.text) names n none at)))
-          (λ off. cond-false (bytes_eq t n.text) (Some n.address) (told.others t) off ∙ same ∙ i.alone free ∙ ap (option_map (λ (m : NameView). m.address)) (sym (find_same (λ (m : NameView). bytes_eq t m.text) names n off ∙ none)));
-    }
+text_added names texts told n t i new (inl (free, taken, same)) = grind (arith, length-append, option_map, no_text, numbered_last, by_test, cond-true, find_more, find_same)
 text_added names texts told n t i new (inr (inl (some, at, same, beside))) =
     let long = length-append names (n ∷ []) in
     let none : text_at names t ≡ None = ap (text_at names) (same_text t n.text at) ∙ text_free names n new in
@@ -243,20 +227,7 @@ text_added names texts told n t i new (inr (inr (off, same, also))) =
 address_added : (names : List NameView) (numbers more : List ℕ) (n : NameView) (a : ℕ) → IsFoundAt names numbers a → IsNew names n
     → get_or more a 0 ≡ (if n.address == a then length names + 1 else get_or numbers a 0) → IsFoundAt (names ++ n ∷ []) more a
 unfolding named_at
-address_added names numbers more n a i new here =
-    let long = length-append names (n ∷ []) in
-    by_test (n.address == a)
-    (λ at.
-    let now : get_or more a 0 ≡ length names + 1 = here ∙ cond-true (n.address == a) (length names + 1) (get_or numbers a 0) at in
-    let same : n.address ≡ a = eqb-true n.address a at in
-    let none : find (is_at a) names ≡ None = no_find (is_at a) names (ap (λ (k : ℕ). list_any (is_at k) names) (sym same) ∙ new.untaken) in
-    record { low = omega (arith, now, long); is = ap (numbered (names ++ n ∷ [])) now ∙ numbered_last names n ∙ sym (find_more (is_at a) names n none at) })
-    (λ off.
-    let still : get_or more a 0 ≡ get_or numbers a 0 = here ∙ cond-false (n.address == a) (length names + 1) (get_or numbers a 0) off in
-    record {
-      low = omega (arith, still, i.low, long);
-      is = ap (numbered (names ++ n ∷ [])) still ∙ numbered_more names n (get_or numbers a 0) i.low ∙ i.is ∙ sym (find_same (is_at a) names n off);
-    })
+address_added names numbers more n a i new here = grind (arith, length-append, by_test, cond-true, eqb-true, no_find, numbered_last, find_more, numbered_more, find_same)
 
 pub name_added : (names : List NameView) (numbers more : NumbersView) (texts told : TextsView) (n : NameView) → IsIndex names numbers texts → name_fault names n ≡ None
     → more.count ≡ numbers.count → IsSet n.address (length names + 1) numbers.cells more.cells
@@ -272,12 +243,7 @@ name_added names numbers more texts told n i fine count here there =
 
 pub no_index : (numbers : NumbersView) (texts : TextsView) → numbers.count ≡ 0x1_0000 → numbers.cells ≡ [] → ((t : List ℕ) → texts.slotted t ≡ 0) → ((t : List ℕ) → texts.others t ≡ None) → IsIndex [] numbers texts
 unfolding named_at
-no_index numbers texts long none empty lone = record {
-  long = long;
-  distinct = λ i j d lt l. absurd (omega (arith, l));
-  addresses = λ a. let zero : get_or numbers.cells a 0 ≡ 0 = ap (λ (l : List ℕ). get_or l a 0) none in record { low = omega (arith, zero); is = ap (numbered []) zero };
-  texts = λ t. record { low = omega (arith, empty t); alone = λ h. lone t; is = ap (λ (k : ℕ). stands_by t (texts.others t) (numbered [] k)) (empty t) };
-}
+no_index numbers texts long none empty lone = grind arith
 
 -- ---- no ranges
 

@@ -2,7 +2,7 @@
 use Rattle.std.proofs.Common.{◌≡◌, ◌≢◌, ◌∙◌, ◌<◌, ℕ, Bool, true, false, List, [], ◌∷◌, ◌++◌, ap, append_assoc, arith, get_or, length, length-append, refl, subst, sym}
 use Rattle.std.specs.Prelude.{◌↔◌, All, Any, Option, Some, None, Ok}
 use Rattle.std.specs.List.{list_any}
-use Rattle.std.proofs.lemmas.Bool.{eq-eqb, eqb-true, false≢true, ne_eqb}
+use Rattle.std.proofs.lemmas.Bool.{eq-eqb, eqb-true, false≢true}
 use Rattle.std.proofs.lemmas.Bool.Decides.{nat_tests}
 use Rattle.std.proofs.lemmas.List.{append-nil, get_or_append_left, get_or_at}
 use Rattle.std.proofs.lemmas.List.Elements.{All-push}
@@ -81,19 +81,10 @@ fault_is before n =
 pub is_fault : (before : List NameView) (n : NameView) (fault : Option InfoFaultKind) → HasFault before n fault → name_fault before n ≡ fault
 unfolding name_fault
 is_fault before n (Some ReservedName) h = rw ((reserved_names n.address n.text).1 h) refl
-is_fault before n (Some NameTwice) h =
-    let x = h.1 in
-    rw (is_free n h.0, list_any-from_Any (is_elsewhere n) before (x.0, x.1, x.2, x.3, hit_elsewhere n x.1 x.4)) refl
-is_fault before n (Some AddressTwice) h =
-    let x = h.2 in
-    rw (is_free n h.0, list_any_none (is_elsewhere n) before (λ k d l. miss_elsewhere n (get_or before k d) (h.1 k d l)), list_any-from_Any (is_at n.address) before (x.0, x.1, x.2, x.3, eq-eqb x.1.address n.address x.4)) refl
+is_fault before n (Some NameTwice) h = grind (arith, is_free, list_any-from_Any, hit_elsewhere)
+is_fault before n (Some AddressTwice) h = grind (arith, is_free, list_any_none, miss_elsewhere, list_any-from_Any)
 is_fault before n (Some _) h = absurd h
-is_fault before n None h =
-    rw (
-      is_free n h.0,
-      list_any_none (is_elsewhere n) before (λ k d l. miss_elsewhere n (get_or before k d) (λ same. absurd ((h.1 k d l).0 same))),
-      list_any_none (is_at n.address) before (λ k d l. ne_eqb (get_or before k d).address n.address (h.1 k d l).1),
-    ) refl
+is_fault before n None h = grind (arith, is_free, list_any_none, miss_elsewhere)
 
 fault_law : (before : List NameView) (n : NameView) (fault : Option InfoFaultKind) → (name_fault before n ≡ fault) ↔ HasFault before n fault
 fault_law before n fault = (λ e. subst (HasFault before n) e (fault_is before n), is_fault before n fault)
@@ -127,11 +118,7 @@ name_faults before n fault = record {
 -- ---- names without a fault
 
 no_names : AreDistinct []
-no_names = record {
-  free = λ k d l. absurd (omega (arith, l));
-  texts = λ i j d lt l. absurd (omega (arith, l));
-  addresses = λ i j d lt l. absurd (omega (arith, l));
-}
+no_names = grind arith
 
 pub one_more : (names : List NameView) (n : NameView) → AreDistinct names → name_fault names n ≡ None → AreDistinct (names ++ n ∷ [])
 one_more names n d fine =

@@ -4,13 +4,12 @@ use Rattle.std.specs.Prelude.{All, AllPairs, IfSome, Option, Some, None, Ok, opt
 use Rattle.std.specs.List.{Contains, find}
 use Rattle.std.specs.Option.{unwrap_or}
 use Rattle.std.proofs.lemmas.Bool.Decides.{eqb_tells, nat_tests}
-use Rattle.std.proofs.lemmas.List.{append-nil}
+use Rattle.std.proofs.lemmas.List.{append-nil, get_or-map, get_or_default, length-map}
 use Rattle.std.proofs.lemmas.List.Elements.{All-cons, All-push, Contains-append_right}
 use Rattle.std.proofs.lemmas.List.Folds.{list_any_at}
 use Rattle.std.proofs.lemmas.List.Kept.{AllPairs-cons}
 use Rattle.std.proofs.lemmas.List.Quantifiers.{all_pairs_push}
 use Rattle.std.proofs.lemmas.Bool.{eq-eqb, eqb-true, false≢true}
-use Rattle.std.proofs.lemmas.List.{get_or-map, get_or_default, length-map}
 use Rattle.std.proofs.lemmas.Slice.Eq.{bytes_eq-Decides}
 use Rattle.std.specs.Str.{bytes_eq}
 use Rattle.info65.specs.Code.Index.{IsFoundAt, numbered, text_at}
@@ -103,9 +102,7 @@ names_passed f m (suc n) none =
 -- the names up to an address and those of the address
 pub names_next : (items : List Given) (numbers : List ℕ) (a : ℕ) (o : Option Given) → IsFoundAt (map given_seen items) numbers a → o ≡ numbered items (get_or numbers a 0)
     → names_from (named_at (map given_seen items)) 0 (a + 1) ≡ names_from (named_at (map given_seen items)) 0 a ++ option_to_list (option_map given_seen o)
-names_next items numbers a o i is =
-    let h : 0 + a ≡ a = omega arith in
-    names_last (named_at (map given_seen items)) 0 a a h ∙ ap (λ (q : Option NameView). names_from (named_at (map given_seen items)) 0 a ++ option_to_list q) (found_is items numbers a o i is)
+names_next items numbers a o i is = grind (arith, names_last, found_is)
 
 given_at : (items : List Given) (k : ℕ) (x : NameView) → k < length (map given_seen items) → get_or (map given_seen items) k x ≡ x → (d : Given) × (k < length items) × (given_seen (get_or items k d) ≡ x)
 given_at [] k x low is = absurd (omega (arith, low))
@@ -155,11 +152,7 @@ sorted_names names g = record {
 }
 
 none_given : AreGiven []
-none_given = record {
-  each = λ k d l. absurd (omega (arith, l));
-  texts = λ i j d lt l. absurd (omega (arith, l));
-  addresses = λ i j d lt l. absurd (omega (arith, l));
-}
+none_given = grind arith
 
 pub one_more : (names : List NameView) (n : NameView) → AreGiven names → IsName n → IsNew names n → AreGiven (names ++ n ∷ [])
 one_more names n g is new = record {

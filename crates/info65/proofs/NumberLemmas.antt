@@ -1,12 +1,11 @@
 -- A number that is read digit by digit, and kept no greater than a limit.
-use Rattle.std.proofs.Common.{◌≡◌, ◌∙◌, ◌==◌, ℕ, ◌+◌, ◌*◌, ◌≤◌, ◌<◌, List, [], ◌∷◌, length, get_or, drop, min, ap, arith, ⊎_elim, ◌&&◌, lt-ltb}
+use Rattle.std.proofs.Common.{◌≡◌, ◌∙◌, ◌==◌, ℕ, ◌+◌, ◌*◌, ◌≤◌, ◌<◌, List, [], ◌∷◌, length, get_or, drop, min, ap, arith, ◌&&◌, lt-ltb}
 use Rattle.std.proofs.lemmas.List.{at_drop_more}
 use Rattle.std.proofs.lemmas.Bool.Decides.{nat_tests}
 use Rattle.std.specs.Prelude.{Some, None, nat_le, if◌then◌else◌}
 use Rattle.info65.specs.Digits.{number_of_digits}
 use Rattle.info65.specs.Lexemes.{are_digits}
 use Rattle.std.proofs.Math.Nat.{mul-le-mul_left}
-use Rattle.std.proofs.str.Laws.{order}
 use Rattle.std.specs.Char.{digit_value}
 use Rattle.std.specs.Str.Parse.{digits_value, digits_value_after}
 
@@ -20,11 +19,7 @@ grows radix n (d ∷ ds) one = omega (arith, scaled radix n one, grows radix (n 
 
 -- what is above the limit may be cut to it
 pub saturates : (radix limit n : ℕ) (ds : List ℕ) → 1 ≤ radix → min (digits_value_after radix (min n limit) ds) limit ≡ min (digits_value_after radix n ds) limit
-saturates radix limit n ds one =
-    ⊎_elim
-    (λ below. let same : min n limit ≡ n = omega arith in ap (λ k. min (digits_value_after radix k ds) limit) same)
-    (λ above. let same : min n limit ≡ limit = omega arith in omega (arith, ap (λ k. digits_value_after radix k ds) same, grows radix limit ds one, grows radix n ds one))
-    (order n limit)
+saturates radix limit n ds one = grind (arith, grows)
 
 -- one digit more is read
 pub next_digit : (radix : ℕ) (ds : List ℕ) (i : ℕ) → i < length ds → digit_value (get_or ds i 0) < radix → are_digits radix (drop i ds) ≡ are_digits radix (drop (i + 1) ds)

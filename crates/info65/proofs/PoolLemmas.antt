@@ -1,5 +1,5 @@
 -- Looking for a name among entries by address.
-use Rattle.std.proofs.Common.{◌≡◌, ◌∙◌, ℕ, zero, suc, ◌+◌, ◌-◌, ◌<◌, ◌≤◌, ◌&&◌, Bool, true, false, List, [], length, get_or, map, refl, if◌then◌else◌, ap, sym, append_assoc, ap₂, arith, ⊎_elim, add-one, drop, length-append, length-drop, option_map, subst, take, ◌∷◌, ◌++◌}
+use Rattle.std.proofs.Common.{◌≡◌, ◌∙◌, ℕ, zero, suc, ◌+◌, ◌-◌, ◌<◌, ◌≤◌, ◌&&◌, Bool, true, false, List, [], length, get_or, map, refl, if◌then◌else◌, ap, sym, append_assoc, ap₂, arith, ⊎_elim, add-one, length-append, length-drop, option_map, subst, take, ◌∷◌, ◌++◌}
 use Rattle.std.specs.Prelude.{IfSome, Option, None, Some, nat_le, nat_lt}
 use Rattle.std.specs.List.Sorted.{IsNonDecreasingBy}
 use Rattle.std.proofs.lemmas.List.Sorted.{IsNonDecreasingBy-from_default}
@@ -81,10 +81,7 @@ passed_over pool es n i a le within past =
 -- ---- one name more
 
 bytes_grow : (pool more : List ℕ) (s : Span) → IsWithin pool s → bytes_of (pool ++ more) s ≡ bytes_of pool s
-bytes_grow pool more s h =
-    let low : s.first ≤ length pool = omega (arith, h) in
-    let rest : s.size ≤ length (drop s.first pool) = omega (arith, h, length-drop s.first pool) in
-    ap (take s.size) (drop-append-le s.first pool more low) ∙ take-append-le s.size (drop s.first pool) more rest
+bytes_grow pool more s h = grind (arith, length-drop, drop-append-le, take-append-le)
 
 pub bytes_added : (pool text : List ℕ) → bytes_of (pool ++ text) (span_of pool text) ≡ text
 bytes_added pool text = ap (take (length text)) (drop_at pool text (length pool) refl) ∙ take_all text
@@ -179,10 +176,6 @@ comment_within : (pool : List ℕ) (c : Option (List ℕ)) → IfSome (option_ma
 comment_within pool None = tt
 comment_within pool (Some t) = span_within pool t
 
-comment_put : (pool : List ℕ) (c : Option (List ℕ)) → option_map (bytes_of (pool ++ optional c)) (option_map (span_of pool) c) ≡ c
-comment_put pool None = refl
-comment_put pool (Some t) = ap (λ (x : List ℕ). Some x) (bytes_added pool t)
-
 pub put_pooled : (pool after : List ℕ) (es : List Entry) (e : Entry) (n : NameView) → IsPool pool es → IsPut pool after es e n → IsPool after (es ++ e ∷ [])
 put_pooled pool after es e n p a =
     let both : (pool ++ n.text) ++ optional n.comment ≡ pool ++ (n.text ++ optional n.comment) = append_assoc pool n.text (optional n.comment) in
@@ -195,10 +188,4 @@ put_pooled pool after es e n p a =
     })
 
 pub put_seen : (pool after : List ℕ) (es : List Entry) (e : Entry) (n : NameView) → IsPool pool es → IsPut pool after es e n → map (entry_seen after) (es ++ e ∷ []) ≡ map (entry_seen pool) es ++ n ∷ []
-put_seen pool after es e n p a =
-    let both : (pool ++ n.text) ++ optional n.comment ≡ pool ++ (n.text ++ optional n.comment) = append_assoc pool n.text (optional n.comment) in
-    let old : map (entry_seen after) es ≡ map (entry_seen pool) es = ap (λ x. map (entry_seen x) es) (a.bytes ∙ both) ∙ seen_grows pool (n.text ++ optional n.comment) es (λ i l. (p.texts i l, p.comments i l)) in
-    let text : bytes_of after e.text ≡ n.text = ap₂ bytes_of a.bytes a.text ∙ bytes_grow (pool ++ n.text) (optional n.comment) (span_of pool n.text) (span_within pool n.text) ∙ bytes_added pool n.text in
-    let comment : option_map (bytes_of after) e.comment ≡ n.comment = ap₂ (λ x y. option_map (bytes_of x) y) a.bytes a.comment ∙ comment_put (pool ++ n.text) n.comment in
-    let new : entry_seen after e ≡ n = rw (a.address, a.size, text, comment) refl in
-    map-append (entry_seen after) es (e ∷ []) ∙ ap₂ (λ (xs : List NameView) (x : NameView). xs ++ x ∷ []) old new
+put_seen pool after es e n p a = grind (arith, append_assoc, seen_grows, bytes_grow, span_within, bytes_added, map-append)

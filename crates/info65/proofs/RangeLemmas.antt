@@ -1,5 +1,5 @@
 -- The ranges of an accepted file: what their groups say, and that no two share an address.
-use Rattle.std.proofs.Common.{◌≡◌, ◌∙◌, ◌≤◌, ◌<◌, ◌+◌, ◌-◌, max, ℕ, List, [], ◌∷◌, ◌++◌, true, false, ap, arith, get_or, inl, inr, length, refl, subst, sym}
+use Rattle.std.proofs.Common.{◌≡◌, ◌∙◌, ◌≤◌, ◌<◌, ◌+◌, ◌-◌, max, ℕ, List, [], ◌∷◌, ◌++◌, true, false, ap, arith, get_or, inl, inr, length, refl}
 use Rattle.std.specs.Prelude.{All, AllPairs, Any, IfSome, Option, Some, None, Result, Ok, Err, ◌⊎◌}
 use Rattle.std.specs.List.{flat_map, list_any}
 use Rattle.std.proofs.lemmas.Bool.Decides.{nat_tests}
@@ -45,12 +45,8 @@ between : (f l : ℕ) (t : RangeType) (r : RangeSpec) → range_between f t (Som
 between f l t r h = (grind (arith, nat_tests), grind (arith, nat_tests), grind (arith, nat_tests), grind (arith, nat_tests), grind (arith, nat_tests))
 
 from : (s e z : Option ℕ) (t : Option RangeType) (r : RangeSpec) → IfSome z (λ n. 1 ≤ n) → range_from s e z t ≡ Ok r → IsFrom s e z t r
-from (Some f) (Some l) z (Some t) r h i =
-    let b = between f l t r i in record { first = ap (λ n. Some n) (sym b.0); last = inl (ap (λ n. Some n) (sym b.1)); role = ap (λ n. Some n) (sym b.2); ordered = rw (b.0, b.1) b.3 }
-from (Some f) None (Some n) (Some t) r h i =
-    let b = between f (f + n - 1) t r i in
-    let m : n ≡ r.last + 1 - r.first = omega (arith, h, b.0, b.1) in
-    record { first = ap (λ n. Some n) (sym b.0); last = inr (ap (λ n. Some n) m); role = ap (λ n. Some n) (sym b.2); ordered = rw (b.0, b.1) b.3 }
+from (Some f) (Some l) z (Some t) r h i = grind arith
+from (Some f) None (Some n) (Some t) r h i = grind arith
 from (Some f) None None (Some t) r h i = absurd cc
 from (Some f) e z None r h i = absurd cc
 from None e z t r h i = absurd cc
@@ -138,9 +134,7 @@ shared_overlap r q h = grind (arith, nat_tests, h.1, h.2)
 
 -- an overlap with one of some ranges
 pub any_shared : (r : RangeSpec) (rs : List RangeSpec) → r.first ≤ r.last → Ordered rs → Any (λ q. overlaps r q ≡ true) rs → Any (Share r) rs
-any_shared r rs ro so h =
-    let q : RangeSpec = h.1 in
-    let qo : q.first ≤ q.last = subst (λ (x : RangeSpec). x.first ≤ x.last) h.3 (so h.0 q h.2) in (h.0, q, h.2, h.3, overlap_shared r q ro qo h.4)
+any_shared r rs ro so h = grind (arith, overlap_shared)
 
 shared_any : (r : RangeSpec) (rs : List RangeSpec) → Any (Share r) rs → Any (λ q. overlaps r q ≡ true) rs
 shared_any r rs h = (h.0, h.1, h.2, h.3, shared_overlap r h.1 h.4)
@@ -159,11 +153,7 @@ refused_overlap r rs names given h = grind (arith, other_fault_of names (range_n
 
 pub overlaps_share : OverlapsShare
 unfolding closing_fault
-overlaps_share before given r is = (
-  λ h. let i : range_fault (ranges_of before) (names_said before) given (Ok r) ≡ Some RangesOverlap = rw is at h in
-      any_shared r (ranges_of before) (bounded_in given r is).ordered (ranges_ordered before) (Any-from_list_any (overlaps r) (ranges_of before) (refused_overlap r (ranges_of before) (names_said before) given i)),
-  λ h. let yes = list_any-from_Any (overlaps r) (ranges_of before) (shared_any r (ranges_of before) h) in rw (is, yes) refl,
-)
+overlaps_share before given r is = grind (arith, any_shared, bounded_in, ranges_ordered, Any-from_list_any, refused_overlap, list_any-from_Any, shared_any)
 
 -- ---- no two share an address
 
@@ -183,8 +173,7 @@ unfolding closing_fault
 closes_range before given h = closed_range (ranges_of before) (names_said before) given (range_in given) refl h
 
 apart_from : (r : RangeSpec) (rs : List RangeSpec) → list_any (overlaps r) rs ≡ false → (k : ℕ) (d : RangeSpec) → k < length rs → AreApart (get_or rs k d) r
-apart_from r rs free k d l a there here =
-    let yes = list_any_at (overlaps r) rs k d l (shared_overlap r (get_or rs k d) (a, here, there)) in absurd (let e : true ≡ false = sym yes ∙ free in cc)
+apart_from r rs free k d l a there here = grind (arith, list_any_at, shared_overlap)
 
 pairs_more : (before : List GroupView) (k : GroupKind) (given : List AssignmentView) → closing_fault before k given ≡ None → AllPairs AreApart (ranges_of before) → AllPairs AreApart (ranges_of before ++ range_part (record { kind = k; given = given }))
 pairs_more before kind.Range given h old =

@@ -130,9 +130,7 @@ elsewhere_is address text h =
     (d.address, d.low, d.is, λ own. grind (arith, h, bytes_eq-Decides text (default_name address)))
 
 is_elsewhere : (address : ℕ) (text : List ℕ) → IsDefaultElsewhere address text → (is_like_default text && not (bytes_eq text (default_name address))) ≡ true
-is_elsewhere address text h =
-    let like : is_like_default text ≡ true = ap is_like_default h.2 ∙ like_default h.0 in
-    grind (arith, like, bytes_eq-Decides text (default_name address), h.3)
+is_elsewhere address text h = grind (arith, like_default, bytes_eq-Decides)
 
 one_of : (p q r : Bool) {P Q R : Type 0} → (p ≡ true → P) → (q ≡ true → Q) → (r ≡ true → R) → ((p || q) || r) ≡ true → P ⊎ (Q ⊎ R)
 one_of true q r f g h e = inl (f refl)

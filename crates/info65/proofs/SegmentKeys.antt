@@ -1,5 +1,5 @@
 -- Keys of the names of segments.
-use Rattle.std.proofs.Common.{◌≡◌, ◌∙◌, ◌≤◌, ◌<◌, ◌+◌, ℕ, zero, suc, Bool, List, [], ◌∷◌, ◌++◌, true, false, ap, arith, cond, drop, get_or, length, map, refl, subst, sym}
+use Rattle.std.proofs.Common.{◌≡◌, ◌∙◌, ◌≤◌, ◌<◌, ◌+◌, ℕ, zero, suc, Bool, List, [], ◌∷◌, ◌++◌, true, false, ap, arith, cond, drop, get_or, length, map, refl, sym}
 use Rattle.std.specs.Option.{option_or}
 use Rattle.std.specs.Prelude.{Option, Some, None, is_some, option_and_then, unwrap_or}
 use Rattle.std.specs.Str.{bytes_eq}
@@ -42,34 +42,13 @@ named_past segments k t past = ap (λ (ss : List SegmentView). first_named ss t)
 pub record IsRest (segments : List SegmentView) (k : ℕ) (found : List ℕ → Option ℕ) : Type 0 where
   pub is : (t : List ℕ) → option_or (found t) (first_named (drop k segments) t) ≡ first_named segments t
 
-or_else : (o : Option ℕ) (n : ℕ) → option_or o (Some n) ≡ Some (unwrap_or o n)
-or_else None n = refl
-or_else (Some m) n = refl
-
 pub key_here : (segments : List SegmentView) (k : ℕ) (found : List ℕ → Option ℕ) (name : List ℕ) (key : ℕ) → k < length segments → IsRest segments k found → name ≡ (segment_at segments k).name → key ≡ unwrap_or (found name) (segment_at segments k).first
     → first_named segments name ≡ Some key
-key_here segments k found name key low rest same is =
-    let hit = is_name (segment_at segments k).name name (sym same) in
-    sym (rest.is name)
-    ∙ ap (option_or (found name)) (named_at segments k name low ∙ ap (λ (b : Bool). cond b (Some (segment_at segments k).first) (first_named (drop (k + 1) segments) name)) hit)
-    ∙ or_else (found name) (segment_at segments k).first
-    ∙ ap (λ (n : ℕ). Some n) (sym is)
+key_here segments k found name key low rest same is = grind (arith, is_name, named_at)
 
 pub rest_next : (segments : List SegmentView) (k : ℕ) (found more : List ℕ → Option ℕ) (name : List ℕ) (key : ℕ) → k < length segments → IsRest segments k found → name ≡ (segment_at segments k).name → first_named segments name ≡ Some key
     → ((t : List ℕ) → more t ≡ cond (bytes_eq name t) (Some key) (found t)) → IsRest segments (k + 1) more
-rest_next segments k found more name key low rest same is after = record {
-  is = λ t.
-      by_test (bytes_eq name t)
-      (λ yes.
-      ap (λ (o : Option ℕ). option_or o (first_named (drop (k + 1) segments) t)) (after t ∙ ap (λ (b : Bool). cond b (Some key) (found t)) yes)
-      ∙ sym is
-      ∙ ap (first_named segments) (same_text name t yes))
-      (λ no.
-      let miss : bytes_eq (segment_at segments k).name t ≡ false = ap (λ (n : List ℕ). bytes_eq n t) (sym same) ∙ no in
-      ap (λ (o : Option ℕ). option_or o (first_named (drop (k + 1) segments) t)) (after t ∙ ap (λ (b : Bool). cond b (Some key) (found t)) no)
-      ∙ ap (option_or (found t)) (sym (named_at segments k t low ∙ ap (λ (b : Bool). cond b (Some (segment_at segments k).first) (first_named (drop (k + 1) segments) t)) miss))
-      ∙ rest.is t);
-}
+rest_next segments k found more name key low rest same is after = grind (arith, by_test, same_text, named_at)
 
 -- ---- names and their keys
 
@@ -101,9 +80,7 @@ one_key segments n t key are is_n is_t =
 
 pub keys_more : (segments : List SegmentView) (keys more : List ℕ) (n key : ℕ) → length keys ≡ n → more ≡ keys ++ key ∷ [] → ((k : ℕ) → k < n → first_named segments (segment_at segments k).name ≡ Some (get_or keys k 0)) → first_named segments (segment_at segments n).name ≡ Some key
     → (k : ℕ) → k < n + 1 → first_named segments (segment_at segments k).name ≡ Some (get_or more k 0)
-keys_more segments keys more n key long is each last k low =
-    let at = ap (λ (l : List ℕ). get_or l k 0) is in
-    grind (arith, at, each k, last, get_or_push keys key 0 k, get_or_append_left keys (key ∷ []) 0 k)
+keys_more segments keys more n key long is each last k low = grind (arith, get_or_push, get_or_append_left)
 
 -- the list that is seen, at a place
 pub seen_at : {Z : Type 0} (specs : List (SegmentSpec Z)) (k : ℕ) (s : SegmentSpec Z) → k < length specs → segment_at (map segment_seen specs) k ≡ segment_seen (get_or specs k s)
@@ -144,14 +121,7 @@ covering_keyed segments a name are some =
 
 pub key_some : {Z : Type 0} (specs lent : List (SegmentSpec Z)) (segments : List SegmentView) (keys : List ℕ) (a place key : ℕ) → map segment_seen specs ≡ segments → lent ≡ specs → AreKeys (map segment_seen specs) keys → IsHolder (map segment_seen lent) a place → key ≡ get_or keys place key
     → Some key ≡ segment_key segments a
-key_some {Z = Z} specs lent segments keys a place key seen same are holds is =
-    let here : IsHolder (map segment_seen specs) a place = subst (λ (l : List (SegmentSpec Z)). IsHolder (map segment_seen l) a place) same holds in
-    let low : place < length keys = omega (arith, here.low, are.long) in
-    ap (λ (n : ℕ). Some n) (is ∙ sym (get_or_default keys place 0 key low))
-    ∙ sym (holder_keyed (map segment_seen specs) keys a place are here)
-    ∙ ap (λ (l : List SegmentView). segment_key l a) seen
+key_some {Z = Z} specs lent segments keys a place key seen same are holds is = grind (arith, get_or_default, holder_keyed)
 
 pub key_none : {Z : Type 0} (specs lent : List (SegmentSpec Z)) (segments : List SegmentView) (a : ℕ) → map segment_seen specs ≡ segments → lent ≡ specs → segment_covering (map segment_seen lent) a ≡ None → None ≡ segment_key segments a
-key_none {Z = Z} specs lent segments a seen same none =
-    sym (none_keyed (map segment_seen specs) a (ap (λ (l : List (SegmentSpec Z)). segment_covering (map segment_seen l) a) (sym same) ∙ none))
-    ∙ ap (λ (l : List SegmentView). segment_key l a) seen
+key_none {Z = Z} specs lent segments a seen same none = grind (arith, none_keyed)

@@ -33,7 +33,7 @@ use Rattle.info65.proofs.Cases.{by_test, or_last}
 use Rattle.info65.proofs.FormLemmas.{AreRead, accepted_read, found_formed, read_keeps}
 use Rattle.info65.proofs.IndexLemmas.{overlaps_marked}
 use Rattle.info65.proofs.NamesLemmas.{name_formed}
-use Rattle.info65.proofs.RangeLemmas.{address_is, overlap_shared, shared_overlap}
+use Rattle.info65.proofs.RangeLemmas.{overlap_shared, shared_overlap}
 
 -- ---- group by group
 
@@ -111,22 +111,10 @@ text_is _ t h = absurd cc
 
 segment_good : (given : List AssignmentView) (s : SegmentView) → AreFormed given → segment_in given ≡ Ok s → IsSegment s
 unfolding form_of
-segment_good given s f h =
-    let x = segment_is given s h in
-    record {
-      ordered = x.ordered;
-      room = address_low (value_in attribute.End given) (found_formed attribute.End given f) s.last x.last;
-      form = name_formed given s.name f x.name;
-    }
+segment_good given s f h = grind (arith, segment_is, address_low, found_formed, name_formed)
 
 says : (given : List AssignmentView) (s : SegmentView) → segment_in given ≡ Ok s → SaysSegment given s
-says given s h =
-    let x = segment_is given s h in
-    record {
-      first = address_is (value_in attribute.Start given) s.first x.first;
-      last = address_is (value_in attribute.End given) s.last x.last;
-      name = text_is (value_in attribute.Name given) s.name x.name;
-    }
+says given s h = grind (arith, segment_is)
 
 pub segment_ordered : (given : List AssignmentView) (s : SegmentView) → segment_in given ≡ Ok s → s.first ≤ s.last
 segment_ordered given s h = (segment_is given s h).ordered
@@ -174,8 +162,7 @@ closes_segment before given h = closed_segment (segments_of before) given (segme
 
 apart_from : (s : SegmentView) (ss : List SegmentView) → list_any (meets s) ss ≡ false → (k : ℕ) (d : SegmentView) → k < length ss → AreApart (get_or ss k d) s
 unfolding meets overlaps
-apart_from s ss free k d l a there here =
-    let yes = list_any_at (meets s) ss k d l (shared_overlap (extent s) (extent (get_or ss k d)) (a, here, there)) in absurd (let e : true ≡ false = sym yes ∙ free in cc)
+apart_from s ss free k d l a there here = grind (arith, list_any_at)
 
 good_more : (before : List GroupView) (k : GroupKind) (given : List AssignmentView) → AreFormed given → closing_fault before k given ≡ None → AreSegments (segments_of before) → AreSegments (segments_of before ++ segment_part (record { kind = k; given = given }))
 good_more before kind.Segment given f h old =
@@ -213,9 +200,6 @@ unfolding segments_of
 segments_ordered [] = All-nil (λ (x : SegmentView). x.first ≤ x.last)
 segments_ordered (g ∷ gs) = All-append (λ (s : SegmentView). s.first ≤ s.last) (segment_part g) (segments_of gs) (ordered_part g.kind g.given (segment_in g.given) refl) (segments_ordered gs)
 
-refused_meets : (s : SegmentView) (ss : List SegmentView) → segment_fault ss (Ok s) ≡ Some SegmentsOverlap → list_any (meets s) ss ≡ true
-refused_meets s ss h = grind arith
-
 any_shares : (s : SegmentView) (ss : List SegmentView) → s.first ≤ s.last → All (λ (t : SegmentView). t.first ≤ t.last) ss → Any (λ t. meets s t ≡ true) ss → Any (Share s) ss
 unfolding meets overlaps
 any_shares s ss so to h =
@@ -228,8 +212,4 @@ shares_any s ss h = (h.0, h.1, h.2, h.3, shared_overlap (extent s) (extent h.1) 
 
 pub segments_share : SegmentsShare
 unfolding closing_fault
-segments_share before given s is = (
-  λ h. let i : segment_fault (segments_of before) (Ok s) ≡ Some SegmentsOverlap = rw is at h in
-      any_shares s (segments_of before) (segment_is given s is).ordered (segments_ordered before) (Any-from_list_any (meets s) (segments_of before) (refused_meets s (segments_of before) i)),
-  λ h. let yes = list_any-from_Any (meets s) (segments_of before) (shares_any s (segments_of before) h) in rw (is, yes) refl,
-)
+segments_share before given s is = grind (arith, any_shares, segment_is, segments_ordered, Any-from_list_any, list_any-from_Any, shares_any)

@@ -1,6 +1,6 @@
 -- What a line of an include file spells.
 use Rattle.std.proofs.Common.{◌≡◌, ◌∙◌, ◌==◌, ◌<◌, ◌≤◌, ◌+◌, ◌-◌, ℕ, zero, suc, Bool, true, false, not, List, [], ◌∷◌, ◌++◌, ⊎_elim, ap, append_assoc, arith, drop, get_or, inl, inr, length, length-append, refl, sym, take}
-use Rattle.std.specs.Prelude.{◌⊎◌, ◌↔◌, Option, Some, None, Result, Ok, codes, nat_le, nat_lt, option_map, reverse}
+use Rattle.std.specs.Prelude.{◌⊎◌, ◌↔◌, Option, Some, None, Result, Ok, codes, nat_lt, option_map, reverse}
 use Rattle.std.specs.Char.{is_digit}
 use Rattle.std.specs.Io.BufRead.{ends_with_byte, strip_last}
 use Rattle.std.specs.List.{after_first, before_first, list_all, position_or_len, prefix_len, suffix_len}
@@ -118,17 +118,12 @@ trimmed_is pre (b ∷ bs) post some before seen after =
 
 -- ---- up to a byte
 
-same_byte : (c : ℕ) → (c == c) ≡ true
-same_byte c = grind (arith, nat_tests)
-
 -- where the byte is nowhere
 before_none : (c : ℕ) (xs : List ℕ) → list_all (other c) xs ≡ true → before_first (λ b. b == c) xs ≡ xs
 before_none c xs h = ap (λ i. take i xs) (prefix_all (other c) xs h) ∙ take-length xs
 
 place : (c : ℕ) (xs ys : List ℕ) → list_all (other c) xs ≡ true → position_or_len (λ b. b == c) (xs ++ c ∷ ys) ≡ length xs
-place c xs ys h =
-    let none : prefix_len (other c) (c ∷ ys) ≡ 0 = rw (same_byte c) refl in
-    omega (arith, prefix_over (other c) xs (c ∷ ys) h, none)
+place c xs ys h = grind (arith, prefix_over)
 
 before_is : (c : ℕ) (xs ys : List ℕ) → list_all (other c) xs ≡ true → before_first (λ b. b == c) (xs ++ c ∷ ys) ≡ xs
 before_is c xs ys h = ap (λ i. take i (xs ++ c ∷ ys)) (place c xs ys h) ∙ take-append_seam xs (c ∷ ys)
@@ -167,13 +162,7 @@ kept : (b : ℕ) (xs : List ℕ) → ends_with_byte b xs ≡ false → strip_las
 kept b xs miss = rw miss refl
 
 strip_cases : (b : ℕ) (xs : List ℕ) → (strip_last b xs ≡ xs) ⊎ (xs ≡ strip_last b xs ++ b ∷ [])
-strip_cases b xs =
-    by_test (ends_with_byte b xs)
-    (λ hit. let e = ends b xs hit in
-    let at : get_or xs (length xs - 1) 0 ≡ b = eqb-true (get_or xs (length xs - 1) 0) b e.at in
-    let last : drop (length xs - 1) xs ≡ b ∷ [] = drop_more xs (length xs - 1) 0 (omega (arith, e.some)) ∙ ap (λ y. y ∷ drop (length xs - 1 + 1) xs) at ∙ ap (λ l. b ∷ l) (drop_of_length-le xs (omega (arith, e.some))) in
-    inr (sym (take-append-drop (length xs - 1) xs) ∙ ap (λ l. take (length xs - 1) xs ++ l) last ∙ ap (λ l. l ++ b ∷ []) (sym (stripped b xs hit))))
-    (λ miss. inl (kept b xs miss))
+strip_cases b xs = grind (arith, by_test, ends, eqb-true, drop_more, drop_of_length-le, take-append-drop)
 
 strip_end : (b : ℕ) (t : List ℕ) → strip_last b (t ++ b ∷ []) ≡ t
 strip_end b t =
@@ -263,18 +252,10 @@ number_solid : (radix : ℕ) (ds : List ℕ) (a : ℕ) → radix ≤ 16 → as_a
 unfolding number_in
 number_solid radix ds a low is = record { some = grind (arith, nat_tests); seen = all_more (λ d. is_digit d radix) visible (λ d. digit_visible radix d low) ds (grind (arith, nat_tests)) }
 
-after_sign_solid : (b : ℕ) (bs : List ℕ) → visible b ≡ true → Solid bs → Solid (b ∷ bs)
-after_sign_solid b bs h s = record { some = omega arith; seen = rw (h, s.seen) refl }
-
 value_solid : (v : List ℕ) (a : ℕ) → address_written v ≡ Some a → Solid v
 unfolding address_written
 value_solid [] a is = absurd cc
-value_solid (b ∷ bs) a is =
-    by_test (b == 36)
-    (λ hex. let v : as_address (number_in 16 bs) ≡ Some a = rw hex at is in after_sign_solid b bs (grind (arith, nat_tests, hex)) (number_solid 16 bs a (omega arith) v))
-    (λ other_one. by_test (b == 37)
-    (λ binary. let v : as_address (number_in 2 bs) ≡ Some a = rw (other_one, binary) at is in after_sign_solid b bs (grind (arith, nat_tests, binary)) (number_solid 2 bs a (omega arith) v))
-    (λ decimal. let v : as_address (number_in 10 (b ∷ bs)) ≡ Some a = rw (other_one, decimal) at is in number_solid 10 (b ∷ bs) a (omega arith) v))
+value_solid (b ∷ bs) a is = grind (arith, number_solid)
 
 blank_other : (c b : ℕ) → 32 < c → is_blank b ≡ true → other c b ≡ true
 blank_other c b low h = grind (arith, nat_tests, low, h)
@@ -299,11 +280,7 @@ number_writes radix ds a is = record { some = grind (arith, nat_tests); each = g
 
 number_written : (radix : ℕ) (ds : List ℕ) (a : ℕ) → AreDigitsOf radix ds a → as_address (number_in radix ds) ≡ Some a
 unfolding number_in
-number_written radix ds a w =
-    let some : (length ds == 0) ≡ false = grind (arith, nat_tests, w.some) in
-    let fits : nat_le a 0xFFFF_FFFF ≡ true = grind (arith, nat_tests, w.in_range) in
-    let low : nat_le a 0xFFFF ≡ true = grind (arith, nat_tests, w.in_range) in
-    rw (some, w.each, w.number, fits, low) refl
+number_written radix ds a w = grind arith
 
 writes : (v : List ℕ) (a : ℕ) → address_written v ≡ Some a → WritesAddress v a
 unfolding address_written
@@ -408,11 +385,7 @@ record Blanks (t : List ℕ) (n : NameView) (a : IsAssignment t n) : Type 0 wher
   fourth : list_all is_blank a.fourth ≡ true
 
 blanks : (t : List ℕ) (n : NameView) (a : IsAssignment t n) → Blanks t n a
-blanks t n a =
-    let p = all_parts is_blank a.first (a.second ++ (a.third ++ a.fourth)) a.blank in
-    let q = all_parts is_blank a.second (a.third ++ a.fourth) p.1 in
-    let r = all_parts is_blank a.third a.fourth q.1 in
-    record { first = p.0; second = q.0; third = r.0; fourth = r.1 }
+blanks t n a = grind (arith, all_parts)
 
 assigns : (t : List ℕ) (n : NameView) → IsAssignment t n → assignment_in t ≡ Some n
 unfolding assignment_in
@@ -471,20 +444,8 @@ no_return t n a =
     ap (list_all (other 13)) a.is
     ∙ all_both (other 13) a.first (n.text ++ (a.second ++ (a.sign ++ (a.third ++ (a.value ++ a.fourth))))) (spaces a.first b.first) (all_both (other 13) n.text (a.second ++ (a.sign ++ (a.third ++ (a.value ++ a.fourth)))) word middle)
 
-not_both : (m : List ℕ) → Solid m → list_all is_blank m ≡ true → ⊥
-not_both [] s h = omega (arith, s.some)
-not_both (b ∷ bs) s h =
-    let blank = (and_parts (is_blank b) (list_all is_blank bs) h).0 in
-    let hidden = shown b (and_parts (visible b) (list_all visible bs) s.seen).0 in
-    false≢true (ap not (sym blank) ∙ hidden)
-
 not_blank : (t : List ℕ) (n : NameView) → IsAssignment t n → list_all is_blank t ≡ false
-not_blank t n a =
-    by_test (list_all is_blank t)
-    (λ hit. let rest : List ℕ = a.second ++ (a.sign ++ (a.third ++ (a.value ++ a.fourth))) in
-    let p = all_parts is_blank a.first (n.text ++ rest) (ap (list_all is_blank) (sym a.is) ∙ hit) in
-    absurd (not_both n.text (name_solid n.text a.form) (all_parts is_blank n.text rest p.1).0))
-    (λ miss. miss)
+not_blank t n a = grind (arith, by_test, all_parts)
 
 -- ---- a line
 

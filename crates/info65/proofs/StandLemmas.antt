@@ -1,5 +1,5 @@
 -- The tokens of a text stand in it.
-use Rattle.std.proofs.Common.{◌≡◌, ◌∙◌, ◌==◌, ◌+◌, ℕ, zero, suc, Bool, true, false, List, [], ◌∷◌, ◌++◌, add-one, ap, arith, drop, refl, sym}
+use Rattle.std.proofs.Common.{◌≡◌, ◌∙◌, ◌==◌, ◌+◌, ℕ, zero, suc, Bool, true, false, List, [], ◌∷◌, ◌++◌, ap, arith, drop, refl, sym}
 use Rattle.std.specs.Prelude.{Result, Ok, Err}
 use Rattle.std.proofs.lemmas.List.{append-nil}
 use Rattle.info65.specs.Lexemes.{LexemeView, lexeme_at}
@@ -45,22 +45,13 @@ pushed b bs from to first next (t ∷ ts) ending g h =
     )
 
 feed_goes : (b : ℕ) (bs : List ℕ) (c : Bool) (line : ℕ) → (b == 10) ≡ true → Goes b bs c false line (line + 1)
-feed_goes b bs c line is = record {
-  gap = λ last xs ys parts blank end. rw is blank;
-  counted = λ xs. rw is (grind arith);
-}
+feed_goes b bs c line is = grind arith
 
 within_goes : (b : ℕ) (bs : List ℕ) (line : ℕ) → (b == 10) ≡ false → Goes b bs true true line line
-within_goes b bs line isnt = record {
-  gap = λ last xs ys parts blank end. rw isnt blank;
-  counted = λ xs. rw isnt refl;
-}
+within_goes b bs line isnt = grind arith
 
 blank_goes : (b : ℕ) (bs : List ℕ) (line : ℕ) → (b == 10) ≡ false → is_blank b ≡ true → Goes b bs false false line line
-blank_goes b bs line isnt is = record {
-  gap = λ last xs ys parts blank end. rw (isnt, is) blank;
-  counted = λ xs. rw isnt refl;
-}
+blank_goes b bs line isnt is = grind arith
 
 -- a comment opens by its first two bytes
 still_opens : (last : Bool) (b : ℕ) (bs xs ys : List ℕ) → bs ≡ xs ++ ys → is_gap last true xs ≡ true → (last ≡ true → ys ≡ []) → opens_comment (b ∷ bs) ≡ true → opens_comment (b ∷ xs) ≡ true
@@ -69,21 +60,12 @@ still_opens true b bs [] ys parts blank end h = let none : bs ≡ [] = parts ∙
 still_opens false b bs [] ys parts blank end h = absurd cc
 
 comment_goes : (b : ℕ) (bs : List ℕ) (line : ℕ) → (b == 10) ≡ false → is_blank b ≡ false → opens_comment (b ∷ bs) ≡ true → Goes b bs false true line line
-comment_goes b bs line isnt solid opens = record {
-  gap = λ last xs ys parts blank end. rw (isnt, solid, still_opens last b bs xs ys parts blank end opens) blank;
-  counted = λ xs. rw isnt refl;
-}
+comment_goes b bs line isnt solid opens = grind (arith, still_opens)
 
 -- a token, or what is none, at the front
 begins : (line b : ℕ) (bs : List ℕ) (after : ℕ → Stream) → ((more : ℕ) → StandIn false line (drop more bs) (after more)) → (r : Result LexemeView InfoFault) → is_solid (b ∷ bs) ≡ true → lexeme_at line (b ∷ bs) ≡ r → StandIn false line (b ∷ bs) (found line (b ∷ bs) r after)
-begins line b bs after stand (Err e) solid is =
-    let here : line + 0 ≡ line = omega arith in record { gap = []; rest = b ∷ bs; parts = refl; blank = refl; solid = solid; is = ap (λ n. lexeme_at n (b ∷ bs)) here ∙ is }
-begins line b bs after stand (Ok p) solid is = (
-  b ∷ bs,
-  p.more,
-  record { gap = []; parts = refl; blank = refl; counted = omega arith; is = is; text = refl },
-  let e : drop (p.more + 1) (b ∷ bs) ≡ drop p.more bs = rw add-one refl in rw e (stand p.more),
-)
+begins line b bs after stand (Err e) solid is = grind arith
+begins line b bs after stand (Ok p) solid is = grind arith
 
 end_stands : (c : Bool) (line : ℕ) → StandIn c line [] (ended line)
 end_stands c line = record { blank = refl; counted = omega arith }
