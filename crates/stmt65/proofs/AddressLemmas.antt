@@ -29,9 +29,7 @@ held_addresses s (l ∷ ls) = (held_after s l).at ∷ held_addresses (held_after
 pub addresses_step : (s t : State) (text line rest found : List ℕ) (all : List ℕ) → found ++ held_addresses s (readings text) ≡ all → text_lines text ≡ line ∷ text_lines rest → t ≡ held_after s (reading_of (parts line))
     → (found ++ t.at ∷ []) ++ held_addresses t (readings rest) ≡ all
 unfolding held_addresses
-addresses_step s t text line rest found all h e k =
-    let h' = rw e at h in
-    append_assoc found (t.at ∷ []) (held_addresses t (readings rest)) ∙ ap (λ (u : State). found ++ u.at ∷ held_addresses u (readings rest)) k ∙ h'
+addresses_step s t text line rest found all h e k = grind (arith, append_assoc)
 
 -- ---- and those of the meaning
 

@@ -1,8 +1,7 @@
 -- Going by what a test, an option or a list turns out to be; what stands in front; words in any case.
-use Rattle.std.proofs.Common.{◌≡◌, ℕ, Bool, true, false, List, [], ◌∷◌, drop, Option, Some, None, refl, sym, ap, ◌∙◌}
-use Rattle.std.specs.Prelude.{codes, is_some}
-use Rattle.std.specs.List.{list_any, find}
-use Rattle.std.specs.Str.{bytes_eq, str_to_ascii_lowercase}
+use Rattle.std.proofs.Common.{arith, ◌≡◌, ℕ, Bool, true, false, List, [], ◌∷◌, drop, Option, Some, None, refl, sym, ap, ◌∙◌}
+use Rattle.std.specs.Prelude.{codes}
+use Rattle.std.specs.Str.{str_to_ascii_lowercase}
 use Rattle.std.proofs.lemmas.Bool.{and_parts, eqb-true, not-true, or_parts}
 use Rattle.std.proofs.lemmas.Slice.Eq.{bytes_eq-Decides}
 use Rattle.isa65.specs.declared.mnemonic.Mnemonic.{Mnemonic}
@@ -10,7 +9,7 @@ use Rattle.isa65.specs.declared.mnemonic.Mnemonic.TheVariants.{Adc}
 use Rattle.isa65.specs.Mnemonic.{text_of, mnemonic_named}
 use Rattle.isa65.proofs.MnemonicLaws.{lowercase-text_of, mnemonic_named-is}
 use Rattle.isa65.proofs.Finding.{find-passes}
-use Rattle.text65.specs.Names.{has_name_form, is_reserved_word, registers}
+use Rattle.text65.specs.Names.{is_reserved_word}
 use Rattle.stmt65.specs.declared.directive.Directive.{Directive}
 use Rattle.stmt65.specs.declared.directive.Directive.TheVariants as directive
 use Rattle.stmt65.specs.declared.directive.TheConstants.{ALL}
@@ -44,9 +43,7 @@ word_is text (Word w ∷ ps) e = (w, e, refl)
 word_is text _ e = absurd cc
 
 pub number_is : (ps : List Part) (n : ℕ × List Part) → number_in ps ≡ Some n → (text : List ℕ) × (n.0 ≡ number_of text) × (ps ≡ Number text ∷ n.1)
-number_is (Number t ∷ ps) n e =
-    let s : (number_of t, ps) ≡ n = cc in
-    (t, sym (ap (λ (m : ℕ × List Part). m.0) s), ap (λ (m : ℕ × List Part). Number t ∷ m.1) s)
+number_is (Number t ∷ ps) n e = grind arith
 number_is _ n e = absurd cc
 
 pub number_here_is : (text : List ℕ) (ps : List Part) → is_number_here text ps ≡ true → ps ≡ Number text ∷ drop 1 ps
@@ -66,9 +63,7 @@ mnemonic_again w m h = (mnemonic_named-is w m).1 ((bytes_eq-Decides _ _).0 h ∙
 -- two spellings of one word name the same directive
 named_alike : (w t : List ℕ) → same w t ≡ true → directive_named w ≡ directive_named t
 unfolding directive_named
-named_alike w t h =
-    let e : str_to_ascii_lowercase w ≡ str_to_ascii_lowercase t = (bytes_eq-Decides _ _).0 h in
-    ap (λ (l : List ℕ). find (λ d. bytes_eq l (str_to_ascii_lowercase (directive_text d))) ALL) e
+named_alike w t h = grind (arith, bytes_eq-Decides)
 
 -- what is written of a directive names it
 text_names : (d : Directive) → directive_named (directive_text d) ≡ Some d
@@ -108,8 +103,4 @@ no_dot _ = record { directive = refl; byte = refl; segment = refl; code = refl; 
 -- a name is none of the operand words
 pub no_letter : (w : List ℕ) → is_name w ≡ true → (same w (codes "a") ≡ false) × (same w (codes "x") ≡ false) × (same w (codes "y") ≡ false)
 unfolding is_name is_reserved_word
-no_letter w h =
-    let any = (or_parts (list_any (same w) registers) (is_some (mnemonic_named w)) (not-true _ (and_parts (has_name_form w) _ h).1)).0 in
-    let a = or_parts (same w (codes "a")) _ any in let f = or_parts (same w (codes "f")) _ a.1 in let s = or_parts (same w (codes "s")) _ f.1 in
-    let x = or_parts (same w (codes "x")) _ s.1 in let y = or_parts (same w (codes "y")) _ x.1 in
-    (a.0, x.0, y.0)
+no_letter w h = grind (arith, or_parts, not-true, and_parts)

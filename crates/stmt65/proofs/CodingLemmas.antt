@@ -1,5 +1,5 @@
 -- How codings are found and how long they are.
-use Rattle.std.proofs.Common.{◌≡◌, ℕ, Bool, true, false, ◌+◌, List, [], ◌∷◌, ◌++◌, length, map, Option, Some, None, refl, ap, sym, ◌∙◌, append_assoc, arith}
+use Rattle.std.proofs.Common.{◌≡◌, ℕ, Bool, true, ◌+◌, List, [], ◌∷◌, ◌++◌, length, map, Option, Some, None, refl, ap, sym, append_assoc, arith}
 use Rattle.isa65.specs.declared.cpu.Cpu.{Cpu}
 use Rattle.isa65.specs.declared.mnemonic.Mnemonic.{Mnemonic}
 use Rattle.isa65.specs.Cpu.{table_of}
@@ -9,7 +9,6 @@ use Rattle.std.proofs.lemmas.Bool.{and_parts}
 use Rattle.std.proofs.Math.Bool.{and-true}
 use Rattle.std.proofs.lemmas.List.{append-nil}
 use Rattle.std.proofs.lemmas.List.Folds.{list_all-append}
-use Rattle.std.specs.Bool.{OnTrue}
 use Rattle.stmt65.specs.Code.CodingViews.{Puts, PutsAll}
 use Rattle.std.specs.List.{list_all, flat_map}
 use Rattle.stmt65.specs.SourceLine.{Value, NumberValue, NameValue}
@@ -73,14 +72,11 @@ pub ruleset instruction_lens = (opcode_len, with_operand_len)
 -- a sum that is held at its limit, one piece on
 pub len_step : (all piece rest : List Fragment) (len more new total : ℕ) → all ≡ piece ++ rest → more ≡ coding_len piece → new ≡ held (len + more)
     → held (len + coding_len all) ≡ total → held (new + coding_len rest) ≡ total
-len_step all piece rest len more new total cut e sum so_far =
-    let both : coding_len all ≡ coding_len piece + coding_len rest = ap (λ (fs : List Fragment). coding_len fs) cut ∙ coding_len_append piece rest in
-    omega arith
+len_step all piece rest len more new total cut e sum so_far = grind (arith, coding_len_append)
 
 pub len_end : (rest : List Fragment) (len total : ℕ) → rest ≡ [] → held len ≡ len → held (len + coding_len rest) ≡ total → len ≡ total
 unfolding coding_len
-len_end rest len total e small so_far =
-    let none : coding_len rest ≡ 0 = ap (λ (fs : List Fragment). coding_len fs) e in omega arith
+len_end rest len total e small so_far = grind arith
 
 -- ---- tests of each fragment
 
@@ -139,28 +135,15 @@ string_bytes all next (b ∷ bs) = ap (λ (l : List ℕ). b ∷ l) (string_bytes
 
 -- ---- bytes, and whether they have room
 
-on_true : (answer : Bool) {P Q : Type 0} → (P → Q) → OnTrue answer P → OnTrue answer Q
-on_true true f h = f h
-on_true false f h = tt
-
 -- one fragment
 pub one_put : (all : List Definition) (next : ℕ) (f : Fragment) (answer : Bool) (old new : List ℕ) → Puts answer (fragment_fits all next f) (fragment_bytes all next f) old new → PutsAll answer all next (f ∷ []) old new
-one_put all next f answer old new puts = record {
-  says = puts.says ∙ sym (and-true (fragment_fits all next f));
-  adds = on_true answer (λ e. e ∙ ap (λ (bs : List ℕ). old ++ bs) (sym (append-nil (fragment_bytes all next f)))) puts.adds;
-}
+one_put all next f answer old new puts = grind (arith, and-true, append-nil)
 
 -- the bytes of a string
 pub string_put : (all : List Definition) (next : ℕ) (bs old new : List ℕ) → new ≡ old ++ bs → PutsAll true all next (map Fixed bs) old new
-string_put all next bs old new e = record {
-  says = sym (string_fits all next bs);
-  adds = e ∙ ap (λ (l : List ℕ). old ++ l) (sym (string_bytes all next bs));
-}
+string_put all next bs old new e = grind (arith, string_fits, string_bytes)
 
 -- an opcode, and its operand
 pub opcode_put : (all : List Definition) (next b : ℕ) (fs : List Fragment) (answer : Bool) (old with_opcode new : List ℕ) → with_opcode ≡ old ++ b ∷ [] → PutsAll answer all next fs with_opcode new → PutsAll answer all next (Fixed b ∷ fs) old new
 unfolding fragment_fits fragment_bytes
-opcode_put all next b fs answer old with_opcode new e puts = record {
-  says = puts.says;
-  adds = on_true answer (λ h. h ∙ ap (λ (l : List ℕ). l ++ flat_map (fragment_bytes all next) fs) e ∙ append_assoc old (b ∷ []) (flat_map (fragment_bytes all next) fs)) puts.adds;
-}
+opcode_put all next b fs answer old with_opcode new e puts = grind (arith, append_assoc)

@@ -1,5 +1,5 @@
 -- The cutting of a text gives its bytes back, and there is no other.
-use Rattle.std.proofs.Common.{◌≡◌, ℕ, false, List, [], ◌∷◌, refl, sym, ap, subst, ◌∙◌, arith}
+use Rattle.std.proofs.Common.{◌≡◌, ℕ, false, List, [], ◌∷◌, refl, ap, ◌∙◌, arith}
 use Rattle.std.specs.List.{flat_map}
 use Rattle.stmt65.specs.SourceLine.{Datum, NumberDatum, StringDatum}
 use Rattle.stmt65.specs.TableLaws.{datum_bytes, EndsStretch, IsCut, CutsTexts}
@@ -32,7 +32,4 @@ cut_again (NumberDatum b ∷ ds) h = cut_single b (flat_map datum_bytes ds) h.0 
 cut_again (StringDatum t ∷ ds) h = cut_stretch t (flat_map datum_bytes ds) h.0 h.1 (no_stretch ds h.2 h.3) ∙ ap (λ (l : List Datum). StringDatum t ∷ l) (cut_again ds h.3)
 
 pub cuts_texts : CutsTexts
-cuts_texts bytes ds = (
-  λ e. (ap (flat_map datum_bytes) (sym e) ∙ cut_bytes bytes, subst IsCut e (cut_is_cut bytes)),
-  λ h. ap cut_text (sym h.0) ∙ cut_again ds h.1,
-)
+cuts_texts bytes ds = grind (arith, cut_bytes, cut_is_cut, cut_again)

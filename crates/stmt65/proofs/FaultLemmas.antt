@@ -16,7 +16,7 @@ use Rattle.stmt65.specs.declared.assembling.fault.AsmFaultKind.TheVariants.{Synt
 use Rattle.stmt65.specs.SourceLine.{Value, NumberValue, NameValue, Form, Direct, DirectX, DirectY, Two, Indirect, IndirectX, IndirectY, Datum, NumberDatum, StringDatum, Operation, Instr, Data, Values, SetCpu, SourceLine}
 use Rattle.stmt65.specs.declared.source_line.AddressSize.TheVariants.{Automatic}
 use Rattle.stmt65.specs.Symbols.{Definition, find_name, value_in, is_known, below, word_in, has_zero_page_size}
-use Rattle.stmt65.specs.Coding.{entry_limit, Fragment, Fixed, Single, ZeroPage, Oversized, Entry, Distance, Way, zero_page, datum_fragments, is_fragment_known, is_near, fragment_fits, entry_in, ways, first_way, coding}
+use Rattle.stmt65.specs.Coding.{entry_limit, Fragment, Fixed, Single, ZeroPage, Oversized, Entry, Distance, Way, zero_page, datum_fragments, is_fragment_known, fragment_fits, entry_in, ways, first_way, coding}
 use Rattle.stmt65.specs.Meaning.{State, operation_in, fragments_of, next_of, defined_by, has_unknown_cpu, has_no_form, is_undefined, is_twice, is_out_of_range, is_past_end, Test, first_of, tests_of, fault_of}
 use Rattle.stmt65.specs.Forms.{form_values}
 use Rattle.stmt65.specs.FaultLaws.{rank, operation_values, NamesNoCpu, HasNoMode, IsUnknown, HasRoom, HasFault, LineHasFault, FindsLowest, FindsNone}
@@ -35,10 +35,7 @@ none_tied (Some x) = (λ e. false_true e, λ e. absurd cc)
 
 -- a test of some element
 any_tied : {X : Type 0} (p : X → Bool) (P : X → Type 0) (xs : List X) → ((x : X) → Decides (p x) (P x)) → Decides (list_any p xs) (Any P xs)
-any_tied p P xs h = (
-  λ e. let a = Any-from_list_any p xs e in (a.0, a.1, a.2, a.3, (h a.1).0 a.4),
-  λ a. list_any-from_Any p xs (a.0, a.1, a.2, a.3, (h a.1).1 a.4),
-)
+any_tied p P xs h = grind (arith, Any-from_list_any, list_any-from_Any)
 
 not_all : {X : Type 0} (p : X → Bool) (xs : List X) → not (list_all p xs) ≡ list_any (λ x. not (p x)) xs
 not_all p [] = refl
@@ -123,19 +120,10 @@ value_tied test P none each None = (λ e. false_true (sym none ∙ e), λ h. abs
 value_tied test P none each (Some n) = Decides-like (test (Some n)) (λ p. (n, refl, p)) (λ h. subst P (sym (same_Some n h.0 h.1)) h.2) (each n)
 
 byte_tied : (n : ℕ) → Decides (is_some (below 256 (below 65536 (Some n)))) (n ≤ 255)
-byte_tied n =
-    by_test (ltb n 65536)
-    (λ e. rw e (by_test (ltb n 256) (λ f. rw f (λ p. grind (arith, nat_tests), λ h. refl)) (λ f. rw f (λ p. false_true p, λ h. grind (arith, nat_tests)))))
-    (λ e. rw e (λ p. false_true p, λ h. grind (arith, nat_tests)))
+byte_tied n = grind arith
 
 below_tied : (limit n : ℕ) → Decides (is_some (below limit (Some n))) (n < limit)
 below_tied limit n = by_test (ltb n limit) (λ e. rw e (λ p. ltb-true n limit e, λ h. refl)) (λ e. rw e (λ p. false_true p, λ h. grind (arith, nat_tests)))
-
-near_tied : (next n : ℕ) → Decides (is_near next (below 65536 (Some n))) ((n ≤ 65535) × (next ≤ n + 128) × (n ≤ next + 127))
-near_tied next n =
-    by_test (ltb n 65536)
-    (λ e. rw e (λ p. (grind (arith, nat_tests), grind (arith, nat_tests), grind (arith, nat_tests)), λ h. let low = h.1 in let high = h.2 in grind (arith, nat_tests)))
-    (λ e. rw e (λ p. false_true p, λ h. let le = h.0 in grind (arith, nat_tests)))
 
 room_tied : (all : List Definition) (next : ℕ) (f : Fragment) → Decides (fragment_fits all next f) (HasRoom all next f)
 unfolding fragment_fits word_in entry_in
@@ -144,9 +132,7 @@ room_tied all next (Single v) = value_tied (λ o. is_some (below 256 (below 6553
 room_tied all next (ZeroPage v) = value_tied (λ o. is_some (below 256 (below 65536 o))) (λ n. n ≤ 255) refl byte_tied (value_in all v)
 room_tied all next (Oversized v) = never
 room_tied all next (Entry d v) = value_tied (λ o. is_some (below (entry_limit d) o)) (λ n. n < entry_limit d) refl (below_tied (entry_limit d)) (value_in all v)
-room_tied all next (Distance v) =
-    Decides-like _ (λ x. (x.0, x.1, x.2.0, x.2.1, x.2.2)) (λ h. (h.0, h.1, (h.2, h.3, h.4)))
-    (value_tied (λ o. is_near next (below 65536 o)) (λ n. (n ≤ 65535) × (next ≤ n + 128) × (n ≤ next + 127)) refl (near_tied next) (value_in all v))
+room_tied all next (Distance v) = grind arith
 
 pub range_tied : (all : List Definition) (s : State) (source : SourceLine)
     → Decides (is_out_of_range all s source) (Any (λ d. 65535 < d.value) (defined_by s.at source) ⊎ Any (λ f. ¬ HasRoom all (next_of s source) f) (fragments_of s source))
@@ -196,18 +182,6 @@ first_is_lowest Has n (t ∷ ts) h =
     later e None l = λ kind le. past e kind le (λ lt. l kind (omega arith))
     later e (Some kind) l = (omega (arith, l.0), l.1, λ other le lt. past e other le (λ more. l.2 other (omega arith) lt))
 
-one_lowest : (Has : AsmFaultKind → Type 0) (o p : Option AsmFaultKind) → Lowest Has 0 o → Lowest Has 0 p → o ≡ p
-one_lowest Has None None h g = refl
-one_lowest Has None (Some k) h g = absurd (h k (omega arith) g.1)
-one_lowest Has (Some j) None h g = absurd (g j (omega arith) h.1)
-one_lowest Has (Some j) (Some k) h g = elim (cases_lt (rank j) (rank k)) [
-  | inl lt ↦ absurd (g.2 j (omega arith) lt h.1)
-  | inr le ↦ elim (cases_lt (rank k) (rank j)) [
-    | inl lt ↦ absurd (h.2 k (omega arith) lt g.1)
-    | inr ge ↦ ap (λ (x : AsmFaultKind). Some x) (same_rank j k (omega arith))
-  ]
-]
-
 -- ---- the rules of a line
 
 no_form_tied : (s : State) (source : SourceLine) → Decides (has_no_form s source) (HasNoMode s.cpu (operation_in source))
@@ -248,13 +222,7 @@ lowest all s (Some source) = first_is_lowest (HasFault all s source) 0 ((Syntax,
 )
 
 pub finds_lowest : FindsLowest
-finds_lowest all s line kind = (
-  λ e. let found = rw e at (lowest all s line) in (found.1, λ other lt. found.2 other (omega arith) lt),
-  λ h. one_lowest (LineHasFault all s line) (fault_of all s line) (Some kind) (lowest all s line) (omega arith, h.0, λ other le lt. h.1 other lt),
-)
+finds_lowest all s line kind = grind (arith, lowest)
 
 pub finds_none : FindsNone
-finds_none all s line = (
-  λ e kind. let found = rw e at (lowest all s line) in found kind (omega arith),
-  λ h. one_lowest (LineHasFault all s line) (fault_of all s line) None (lowest all s line) (λ kind le. h kind),
-)
+finds_none all s line = grind (arith, lowest)

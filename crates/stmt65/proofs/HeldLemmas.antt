@@ -1,11 +1,11 @@
 -- What the code holds of a text is enough for its meaning.
-use Rattle.std.proofs.Common.{◌≡◌, ◌++◌, ℕ, Bool, true, false, cond, eqb, ltb, leb, ◌+◌, ◌-◌, ◌<◌, ◌≤◌, List, [], ◌∷◌, map, min, Option, Some, None, refl, sym, ap, ◌∙◌, arith, inl, inr}
+use Rattle.std.proofs.Common.{◌≡◌, ◌++◌, ℕ, Bool, true, false, cond, eqb, ltb, ◌+◌, ◌-◌, ◌<◌, ◌≤◌, List, [], ◌∷◌, map, min, Option, Some, None, refl, sym, ap, ◌∙◌, arith, inl, inr}
 use Rattle.std.specs.Prelude.{unwrap_or, is_some, not, ◌&&◌, ◌||◌}
 use Rattle.std.specs.List.{list_any, list_all, flat_map}
 use Rattle.std.specs.Option.{option_map}
 use Rattle.std.specs.Str.{bytes_eq}
 use Rattle.std.proofs.lemmas.List.{map-append}
-use Rattle.std.proofs.lemmas.Bool.{cases_lt, ltb-false, ltb-true, or_parts}
+use Rattle.std.proofs.lemmas.Bool.{cases_lt, ltb-false, or_parts}
 use Rattle.std.proofs.lemmas.Bool.Decides.{nat_tests}
 use Rattle.isa65.specs.declared.cpu.Cpu.{Cpu}
 use Rattle.stmt65.specs.declared.assembling.coding.Coded.{Coded}
@@ -55,10 +55,7 @@ abbrev IsFar : {X : Type 0} → (Option ℕ → X) → Type 0
 IsFar test = (v w : ℕ) → 4294967296 ≤ v → 4294967296 ≤ w → test (Some v) ≡ test (Some w)
 
 below_far : (limit : ℕ) → limit ≤ 4294967296 → IsFar (below limit)
-below_far limit far v w h g =
-    let a : ltb v limit ≡ false = grind (arith, nat_tests) in
-    let b : ltb w limit ≡ false = grind (arith, nat_tests) in
-    rw (a, b) refl
+below_far limit far v w h g = grind arith
 
 word_far : IsFar (below 65536)
 word_far = below_far 65536 (omega arith)
@@ -87,14 +84,12 @@ lowered_far test far less v w e = elim (cases_lt v 4294967297) [
 value_in-held : {X : Type 0} (test : Option ℕ → X) → IsFar test → (ds : List Definition) (v : Value) → test (value_in (map held_definition ds) v) ≡ test (value_in ds v)
 unfolding value_in
 value_in-held test far ds (NumberValue n) = refl
-value_in-held test far ds (NameValue w n less) =
-    rw (find_name-held w ds) (by_option (find_name w ds) (λ d e. rw e (lowered_far test far less (held d.value + n) (d.value + n) (omega arith))) (λ e. rw e refl))
+value_in-held test far ds (NameValue w n less) = grind (arith, find_name-held, by_option, lowered_far)
 
 value_in-held_value : {X : Type 0} (test : Option ℕ → X) → IsFar test → (ds : List Definition) (v : Value) → test (value_in ds (held_value v)) ≡ test (value_in ds v)
 unfolding value_in
 value_in-held_value test far ds (NumberValue n) = lowered_far test far Zero (held n) n (omega arith)
-value_in-held_value test far ds (NameValue w n less) =
-    by_option (find_name w ds) (λ d e. rw e (lowered_far test far less (d.value + held n) (d.value + n) (omega arith))) (λ e. rw e refl)
+value_in-held_value test far ds (NameValue w n less) = grind (arith, by_option, lowered_far)
 
 pub word_in-held : (ds : List Definition) (v : Value) → word_in (map held_definition ds) v ≡ word_in ds v
 unfolding word_in
@@ -145,14 +140,7 @@ any_large-held (d ∷ ds) = rw (large-held d.value) (ap (λ (b : Bool). ltb 6553
 
 near-held : (next : ℕ) (o : Option ℕ) → is_near (held next) (below 65536 o) ≡ is_near next (below 65536 o)
 near-held next None = refl
-near-held next (Some n) =
-    by_test (ltb n 65536)
-    (λ e.
-    let lt = ltb-true n 65536 e in
-    let from : leb (held next) (n + 128) ≡ leb next (n + 128) = grind (arith, nat_tests) in
-    let to : leb n (held next + 127) ≡ leb n (next + 127) = grind (arith, nat_tests) in
-    rw (e, from, to) refl)
-    (λ e. rw e refl)
+near-held next (Some n) = grind arith
 
 fits-held : (all : List Definition) (next : ℕ) (f : Fragment) → fragment_fits all (held next) f ≡ fragment_fits all next f
 unfolding fragment_fits word_in
@@ -209,15 +197,7 @@ pub record Fits (all : List Definition) (s : State) (source : SourceLine) : Type
 
 pub none_fits : (all : List Definition) (s : State) (source : SourceLine) → None ≡ fault_of all s (Some source) → Fits all s source
 unfolding fault_of is_out_of_range is_past_end
-none_fits all s source h =
-    let a = passed (has_unknown_cpu (operation_in source)) UnknownCpu _ h in
-    let b = passed (has_no_form s source) NoSuchForm _ a.1 in
-    let c = passed (is_undefined all s source) Undefined _ b.1 in
-    let d = passed (is_twice s source) DefinedTwice _ c.1 in
-    let e = passed (is_out_of_range all s source) OutOfRange _ d.1 in
-    let f = passed (is_past_end s source) PastEnd None e.1 in
-    let g = or_parts (list_any (λ x. ltb 65535 x.value) (defined_by s.at source)) _ e.0 in
-    record { values = g.0; room = flip false _ (sym g.1); past = f.0 }
+none_fits all s source h = grind arith
 
 pub small_same : (n limit : ℕ) → limit ≤ 65536 → ltb limit n ≡ false → held n ≡ n
 small_same n limit h e = omega (arith, ltb-false limit n e)
@@ -274,10 +254,7 @@ defined-held at (Statement (Some w) operation) = let same : held (held at) ≡ h
 pub after-held : (s : State) (source : Option SourceLine) → held_after (held_state s) source ≡ held_state (after s source)
 unfolding held_after after held_state next_of fragments_of
 after-held s None = refl
-after-held s (Some source) =
-    let len = coding_len (unwrap_or (coding s.cpu s.above (operation_in source)) []) in
-    let next : held (held s.at + len) ≡ held (s.at + len) = omega arith in
-    rw (coding-held s.cpu s.above (operation_in source), next, defined-held s.at source, map-append {A = Definition} held_definition s.above (defined_by s.at source)) refl
+after-held s (Some source) = grind (arith, coding-held, defined-held, map-append)
 
 final-held : (s : State) (ls : List (Option SourceLine)) → held_final (held_state s) ls ≡ held_state (final s ls)
 unfolding held_final final

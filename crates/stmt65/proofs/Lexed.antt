@@ -4,7 +4,7 @@ use Rattle.std.specs.List.{prefix_len, list_all}
 use Rattle.std.specs.Char.{digit_value, is_ascii_hexdigit, is_ascii_digit}
 use Rattle.std.specs.Str.Parse.{AllDigits}
 use Rattle.std.specs.Fmt.{decimal}
-use Rattle.std.proofs.lemmas.Bool.{and_parts, lt-ltb, ltb-true}
+use Rattle.std.proofs.lemmas.Bool.{and_parts, ltb-true}
 use Rattle.std.proofs.lemmas.Bool.Decides.{nat_tests}
 use Rattle.std.proofs.lemmas.Fmt.{decimal_is_IsNumeral, decimal_nonempty}
 use Rattle.std.proofs.lemmas.List.{take_at, drop_at, drop-drop}
@@ -56,9 +56,7 @@ word_part b w rest h g e = rw (h, prefix_stop is_word_byte w rest g e, take_at w
 
 pub parts_word : (w rest : List ℕ) → IsWordText w → Ends rest → parts (w ++ rest) ≡ Word w ∷ parts rest
 parts_word [] rest h e = absurd h
-parts_word (b ∷ w) rest h e =
-    let front = word_begins b h.0 in
-    parts_part b (w ++ rest) front.0 front.1 ∙ rw (word_part b w rest h.0 h.1 e, drop_at w rest (length w) refl) refl
+parts_word (b ∷ w) rest h e = grind (arith, word_begins, parts_part, word_part, drop_at)
 
 pub parts_blanks : (n : ℕ) (rest : List ℕ) → parts (replicate n 32 ++ rest) ≡ parts rest
 parts_blanks zero rest = refl
@@ -72,15 +70,7 @@ begun b = is_blank b ∷ eqb b 59 ∷ is_word_start b ∷ is_ascii_digit b ∷ e
 
 pub parts_mark : (b : ℕ) (rest : List ℕ) → begun b ≡ replicate 7 false → parts (b ∷ rest) ≡ Mark b ∷ parts rest
 unfolding part_at
-parts_mark b rest h =
-    let blank : is_blank b ≡ false = cc in
-    let remark : eqb b 59 ≡ false = cc in
-    let word : is_word_start b ≡ false = cc in
-    let digit : is_ascii_digit b ≡ false = cc in
-    let hex : eqb b 36 ≡ false = cc in
-    let text : eqb b 34 ≡ false = cc in
-    let define : eqb b 58 ≡ false = cc in
-    parts_part b rest blank remark ∙ rw (word, digit, hex, text, define) refl
+parts_mark b rest h = grind (arith, parts_part)
 
 -- `:=`
 pub parts_define : (rest : List ℕ) → parts (58 ∷ 61 ∷ rest) ≡ Define ∷ parts rest
@@ -96,8 +86,7 @@ parts_colon rest h = parts_part 58 rest refl refl ∙ rw h refl
 
 text_part : (t rest : List ℕ) → list_all is_text_byte t ≡ true → part_at 34 (t ++ 34 ∷ rest) ≡ (Text t, length t + 1)
 unfolding part_at
-text_part t rest h =
-    rw (prefix_stop is_text_byte t (34 ∷ rest) h refl, take_at t (34 ∷ rest) (length t) refl, drop_at t (34 ∷ rest) (length t) refl) refl
+text_part t rest h = grind (arith, prefix_stop, take_at, drop_at)
 
 pub parts_text : (t rest : List ℕ) → list_all is_text_byte t ≡ true → parts (34 ∷ (t ++ 34 ∷ rest)) ≡ Text t ∷ parts rest
 parts_text t rest h =
@@ -115,28 +104,16 @@ hex_value d lt = grind (arith, nat_tests)
 hex_is_word : (b : ℕ) → is_word_byte b ≡ false → is_ascii_hexdigit b ≡ false
 hex_is_word b h = grind (arith, nat_tests)
 
-digit_is_word : (b : ℕ) → is_word_byte b ≡ false → is_ascii_digit b ≡ false
-digit_is_word b h = grind (arith, nat_tests)
-
 ends_hex : (rest : List ℕ) → Ends rest → begins is_ascii_hexdigit rest ≡ false
 ends_hex [] h = refl
 ends_hex (b ∷ rest) h = hex_is_word b h
 
-ends_digit : (rest : List ℕ) → Ends rest → begins is_ascii_digit rest ≡ false
-ends_digit [] h = refl
-ends_digit (b ∷ rest) h = digit_is_word b h
-
 hex_part : (ds rest : List ℕ) → list_all is_ascii_hexdigit ds ≡ true → 0 < length ds → length ds ≤ 8 → Ends rest → part_at 36 (ds ++ rest) ≡ (Number (36 ∷ ds), length ds)
 unfolding part_at
-hex_part ds rest h pos le e =
-    let a = prefix_stop is_ascii_hexdigit ds rest h (ends_hex rest e) in
-    let m : min 8 (length ds) ≡ length ds = omega arith in
-    let t : ltb 0 (length ds) ≡ true = lt-ltb 0 (length ds) pos in
-    rw (a, m, t, take_at ds rest (length ds) refl) refl
+hex_part ds rest h pos le e = grind (arith, prefix_stop, ends_hex, min, ltb, take_at)
 
 pub parts_hex : (ds rest : List ℕ) → list_all is_ascii_hexdigit ds ≡ true → 0 < length ds → length ds ≤ 8 → Ends rest → parts (36 ∷ (ds ++ rest)) ≡ Number (36 ∷ ds) ∷ parts rest
-parts_hex ds rest h pos le e =
-    parts_part 36 (ds ++ rest) refl refl ∙ rw (hex_part ds rest h pos le e, drop_at ds rest (length ds) refl) refl
+parts_hex ds rest h pos le e = grind (arith, parts_part, hex_part, drop_at)
 
 pub below_16 : (n : ℕ) → n % 16 < 16
 below_16 n = omega arith
@@ -174,19 +151,14 @@ digit_no_dollar b h = grind (arith, nat_tests)
 
 decimal_part : (d : ℕ) (ds rest : List ℕ) → list_all is_ascii_digit (d ∷ ds) ≡ true → Ends rest → part_at d (ds ++ rest) ≡ (Number (d ∷ ds), length ds)
 unfolding part_at
-decimal_part d ds rest h e =
-    let a = and_parts (is_ascii_digit d) (list_all is_ascii_digit ds) h in
-    rw (digit_no_word d a.0, a.0, prefix_stop is_ascii_digit ds rest a.1 (ends_digit rest e), take_at ds rest (length ds) refl) refl
+decimal_part d ds rest h e = grind (arith, and_parts, digit_no_word, prefix_stop, take_at)
 
 pub parts_digits : (ds rest : List ℕ) → 0 < length ds → list_all is_ascii_digit ds ≡ true → Ends rest → parts (ds ++ rest) ≡ Number ds ∷ parts rest
 parts_digits [] rest lt h e = absurd (omega arith)
-parts_digits (d ∷ ds) rest lt h e =
-    let front = digit_begins d (and_parts (is_ascii_digit d) (list_all is_ascii_digit ds) h).0 in
-    parts_part d (ds ++ rest) front.0 front.1 ∙ rw (decimal_part d ds rest h e, drop_at ds rest (length ds) refl) refl
+parts_digits (d ∷ ds) rest lt h e = grind (arith, digit_begins, and_parts, parts_part, decimal_part, drop_at)
 
 pub parts_decimal : (n : ℕ) (rest : List ℕ) → n < 65536 → Ends rest → parts (decimal n ++ rest) ≡ Number (decimal n) ∷ parts rest
-parts_decimal n rest lt e =
-    parts_digits (decimal n) rest (decimal_nonempty n (omega arith)) (digits_pass (decimal n) (decimal_is_IsNumeral n (omega arith)).0.1) e
+parts_decimal n rest lt e = grind (arith, parts_digits, decimal_nonempty, digits_pass, decimal_is_IsNumeral)
 
 no_dollar : (ds : List ℕ) → list_all is_ascii_digit ds ≡ true → begins_with 36 ds ≡ false
 no_dollar [] h = refl
@@ -206,7 +178,4 @@ pub record OffsetParts (text : List ℕ) (n : ℕ) (rest : List ℕ) : Type 0 wh
 
 pub offset_parts : (h : Bool) (n : ℕ) (rest : List ℕ) → n < 65536 → Ends rest → OffsetParts (offset_text h n) n rest
 offset_parts false n rest lt e = record { lexes = parts_decimal n rest lt e; counts = number_of-decimal n lt }
-offset_parts true n rest lt e =
-    by_test (ltb n 256)
-    (λ f. rw f (record { lexes = parts_hex2 n rest e; counts = number_of-hex2 n (ltb-true n 256 f) }))
-    (λ f. rw f (record { lexes = parts_hex4 n rest e; counts = number_of-hex4 n lt }))
+offset_parts true n rest lt e = grind (arith, by_test, ltb, parts_hex2, number_of-hex2, ltb-true, parts_hex4, number_of-hex4)

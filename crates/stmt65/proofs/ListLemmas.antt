@@ -46,8 +46,7 @@ list_next {B = B} f read s before ps rest left x e h l =
 
 pub list_last : {A B : Type 0} (f : A → B) (read : List Part → Option (B × List Part)) (before : List A) (ps rest left : List Part) (x : A) → read ps ≡ Some (f x, rest) → is_mark 44 rest ≡ false → left ≡ rest → is_nil left ≡ true → fronted (map f before) (list_of read ps) ≡ Some (map f (before ++ x ∷ []))
 unfolding joined
-list_last f read before ps rest left x e h l d =
-    rw (e, h, ← l, map-append f before (x ∷ [])) (by_list left (λ n. rw n refl) (λ p ps n. let d' = rw n at d in absurd cc))
+list_last f read before ps rest left x e h l d = grind (arith, map-append, by_list)
 
 pub list_more : {A B : Type 0} (f : A → B) (read : List Part → Option (B × List Part)) (before : List A) (ps rest left : List Part) (x : A) → read ps ≡ Some (f x, rest) → is_mark 44 rest ≡ false → left ≡ rest → is_nil left ≡ false → fronted (map f before) (list_of read ps) ≡ None
 unfolding joined

@@ -1,5 +1,5 @@
 -- The ways of a form are its modes, and which of them is taken.
-use Rattle.std.proofs.Common.{◌≡◌, ℕ, suc, Bool, true, false, cond, List, [], ◌∷◌, ◌++◌, Some, None, refl, sym, ap, ◌∙◌}
+use Rattle.std.proofs.Common.{arith, ◌≡◌, ℕ, suc, Bool, true, false, cond, List, [], ◌∷◌, ◌++◌, Some, None, refl, sym, ap, ◌∙◌}
 use Rattle.std.specs.Prelude.{IsSome}
 use Rattle.std.specs.Str.{bytes_eq}
 use Rattle.std.specs.List.{list_any}
@@ -42,10 +42,7 @@ by_sizes P above short long v first second = by_test (has_zero_page_size above v
 pub ways_are_modes : WaysAreModes
 unfolding ways coding_len
 ways_are_modes above (Direct Absolute v) = (record { of_form = (refl, λ p. refl); length = refl }, tt)
-ways_are_modes above (Direct Automatic v) =
-    by_sizes (λ ws. EachWay (Direct Automatic v) (ws ++ (Rel, Distance v ∷ []) ∷ [])) above Zp Abs v
-    (plain (Direct Automatic v) _ refl refl refl, (plain (Direct Automatic v) _ refl refl refl, (plain (Direct Automatic v) _ refl refl refl, tt)))
-    (plain (Direct Automatic v) _ refl refl refl, (plain (Direct Automatic v) _ refl refl refl, (plain (Direct Automatic v) _ refl refl refl, tt)))
+ways_are_modes above (Direct Automatic v) = grind arith
 ways_are_modes above (DirectX Absolute v) = (record { of_form = (refl, λ p. refl); length = refl }, tt)
 ways_are_modes above (DirectX Automatic v) = by_sizes (EachWay (DirectX Automatic v)) above Zpx Absx v (plain (DirectX Automatic v) _ refl refl refl, (plain (DirectX Automatic v) _ refl refl refl, tt)) (plain (DirectX Automatic v) _ refl refl refl, (plain (DirectX Automatic v) _ refl refl refl, tt))
 ways_are_modes above (DirectY Absolute v) = (record { of_form = (refl, λ p. refl); length = refl }, tt)

@@ -1,23 +1,15 @@
 -- A number that is read digit by digit, and stops at the greatest number of 64 bits.
-use Rattle.std.proofs.Common.{◌≡◌, ℕ, ◌+◌, ◌*◌, ◌<◌, ◌≤◌, List, [], ◌∷◌, ◌++◌, length, min, take, get_or, refl, ap, ◌∙◌, arith, inl, inr}
+use Rattle.std.proofs.Common.{◌≡◌, ℕ, ◌+◌, ◌*◌, ◌<◌, List, [], ◌∷◌, ◌++◌, length, min, take, get_or, refl, ap, ◌∙◌, arith}
 use Rattle.std.specs.Char.{digit_value}
 use Rattle.std.specs.Str.Parse.{digits_value, digits_value_after}
-use Rattle.std.proofs.lemmas.Bool.{cases_lt}
 use Rattle.std.proofs.lemmas.List.{take_more}
-use Rattle.std.proofs.Math.Nat.{mul-le-mul_left}
 
 digits_value_after-push : (r n : ℕ) (xs : List ℕ) (d : ℕ) → digits_value_after r n (xs ++ d ∷ []) ≡ digits_value_after r n xs * r + digit_value d
 digits_value_after-push r n [] d = refl
 digits_value_after-push r n (x ∷ xs) d = digits_value_after-push r (n * r + digit_value x) xs d
 
 step : (v r d limit : ℕ) → 0 < r → min (v * r + d) limit ≡ min (min (min v limit * r) limit + d) limit
-step v r d limit pos = elim (cases_lt v limit) [
-  | inl lt ↦ let e : min v limit ≡ v = omega arith in rw e (omega arith)
-  | inr le ↦ let e : min v limit ≡ limit = omega arith in
-      let a : limit ≤ limit * r = omega (arith, mul-le-mul_left limit pos) in
-      let b : limit * r ≤ v * r = omega (arith, mul-le-mul_left r le) in
-      rw e (omega arith)
-]
+step v r d limit pos = grind arith
 
 pub capped_more : (r : ℕ) (ds : List ℕ) (i limit : ℕ) → 0 < r → i < length ds → min (digits_value r (take (i + 1) ds)) limit ≡ min (min (min (digits_value r (take i ds)) limit * r) limit + digit_value (get_or ds i 0)) limit
 capped_more r ds i limit pos lt =

@@ -1,7 +1,7 @@
 -- A printed line has no line feed before its end.
 use Rattle.std.proofs.lemmas.List.Folds.{list_all-append}
 use Rattle.std.proofs.lemmas.Bool.{and_parts}
-use Rattle.std.proofs.Common.{◌≡◌, ℕ, zero, suc, Bool, true, false, eqb, ltb, ◌-◌, ◌/◌, ◌%◌, ◌<◌, List, [], ◌∷◌, ◌++◌, length, reverse, replicate, Option, Some, None, refl, ◌∙◌, arith}
+use Rattle.std.proofs.Common.{◌≡◌, ℕ, zero, suc, Bool, true, false, eqb, ltb, ◌-◌, ◌/◌, ◌%◌, ◌<◌, List, [], ◌∷◌, ◌++◌, reverse, replicate, Option, Some, None, refl, ◌∙◌, arith}
 use Rattle.std.specs.Prelude.{◌==◌, not, codes, map}
 use Rattle.std.specs.List.{list_all, flat_map}
 use Rattle.std.specs.Char.{is_ascii_digit}
@@ -10,7 +10,7 @@ use Rattle.std.proofs.lemmas.Bool.Decides.{nat_tests}
 use Rattle.std.proofs.lemmas.Fmt.{decimal_is_IsNumeral}
 use Rattle.isa65.specs.Cpu.{cpu_text}
 use Rattle.isa65.specs.Mnemonic.{text_of}
-use Rattle.isa65.specs.Mode.{expression, row_of, row_text}
+use Rattle.isa65.specs.Mode.{expression}
 use Rattle.isa65.proofs.CpuNames.{cpu_name}
 use Rattle.isa65.specs.declared.mnemonic.Mnemonic.{Mnemonic}
 use Rattle.isa65.specs.declared.mnemonic.Mnemonic.TheVariants.{Adc}
@@ -18,7 +18,6 @@ use Rattle.isa65.specs.declared.mode.Mode.{Mode}
 use Rattle.isa65.specs.declared.mode.Mode.TheVariants.{Imp}
 use Rattle.isa65.specs.declared.row.OperandKind.{OperandKind}
 use Rattle.isa65.specs.declared.row.OperandKind.TheVariants as kind
-use Rattle.isa65.specs.declared.row.Pattern.TheVariants as pattern
 use Rattle.isa65.specs.declared.row.Row.{Row}
 use Rattle.isa65.specs.declared.row.Row.TheVariants as row
 use Rattle.text65.specs.Digits.{hex_digit}
@@ -28,14 +27,14 @@ use Rattle.stmt65.specs.declared.directive.Directive.{Directive}
 use Rattle.stmt65.specs.declared.directive.Directive.TheVariants as directive
 use Rattle.stmt65.specs.Directives.{directive_text}
 use Rattle.stmt65.specs.Digits.{digits2, hex2, hex4, offset_text}
-use Rattle.stmt65.specs.Levels.{address_text, spaced_byte, address_and_bytes, character, level_fields}
-use Rattle.stmt65.specs.Line.{filled, with_fields, plain_line, line_of}
+use Rattle.stmt65.specs.Levels.{character, level_fields}
+use Rattle.stmt65.specs.Line.{filled, with_fields, line_of}
 use Rattle.stmt65.specs.Operands.{named_text, kind_text, kind_texts, prefix_text, in_pattern, operand_text}
 use Rattle.stmt65.specs.Printable.{IsPrintable}
 use Rattle.stmt65.specs.SourceLine.{Datum}
 use Rattle.stmt65.specs.SourceLine as source
 use Rattle.stmt65.specs.Tables.{order_of, in_order, entries, cut_text}
-use Rattle.stmt65.specs.Statements.{Field, has_bytes, next_text, comma_list, bytes_text, quoted, datum_text, entry_text, numbers_text, distance_text, instr_fields, label_fields, fields_of}
+use Rattle.stmt65.specs.Statements.{Field, next_text, comma_list, bytes_text, quoted, datum_text, entry_text, numbers_text, distance_text, instr_fields, label_fields, fields_of}
 use Rattle.stmt65.specs.Lexing.{is_text_byte}
 use Rattle.stmt65.specs.Names.{is_name}
 use Rattle.stmt65.specs.Printed.{HasNames, HasLabelName}
@@ -91,9 +90,7 @@ offset_line false n lt = all_as is_ascii_digit in_line digit (decimal n) (digits
 offset_line true n lt = by_test (ltb n 256) (λ f. rw f (digits2_line n)) (λ f. rw f (hex4_line n))
 
 named_line : (h : Bool) (name : List ℕ) (offset : ℕ) → is_name name ≡ true → offset < 65536 → InLine (named_text h name offset)
-named_line h name offset n lt =
-    by_test (eqb offset 0) (λ f. rw f (name_line name n))
-    (λ f. rw f (joined (name ++ codes "+") (offset_text h offset) (joined name (codes "+") (name_line name n) refl) (offset_line h offset lt)))
+named_line h name offset n lt = grind (arith, by_test, eqb, name_line, joined, offset_line)
 
 prefix_line : (a : Bool) → InLine (prefix_text a)
 prefix_line true = refl
@@ -117,11 +114,6 @@ texts_line h (row.One p k) (view.one e) n = (kind_line h k e n, tt)
 texts_line h (row.Two k l) (view.two e f) n = (kind_line h k e n.0, (kind_line h l f n.1, tt))
 texts_line h _ _ n = tt
 
-row_line : (r : Row) → InLine (row_text r)
-row_line (row.One pattern.Immediate k) = refl
-row_line (row.One _ k) = refl
-row_line _ = refl
-
 pattern_line : (pattern : List ℕ) (texts : List (List ℕ)) → InLine pattern → AreInLine texts → InLine (in_pattern pattern texts)
 pattern_line [] texts h g = refl
 pattern_line (c ∷ pattern) [] h g = let a = and_parts (in_line c) (list_all in_line pattern) h in rw (a.0, pattern_line pattern [] a.1 g) refl
@@ -133,9 +125,7 @@ pattern_line (c ∷ pattern) (t ∷ texts) h g =
 
 operand_line : (h : Bool) (m : Mode) (a : Bool) (os : OperandsView) → AreRead os → InLine (operand_text h m a os)
 unfolding operand_text
-operand_line h m a os n =
-    let row = row_of m in
-    joined (prefix_text a) (in_pattern (row_text row) (kind_texts h row os)) (prefix_line a) (pattern_line (row_text row) (kind_texts h row os) (row_line row) (texts_line h row os n))
+operand_line h m a os n = grind (arith, joined, prefix_line, pattern_line, texts_line)
 
 -- ---- the other texts
 
@@ -148,9 +138,7 @@ more_line text p each (x ∷ xs) h =
 list_line : {A : Type 0} (text : A → List ℕ) (p : A → Bool) → ((x : A) → p x ≡ true → InLine (text x)) → (xs : List A) → list_all p xs ≡ true → InLine (comma_list text xs)
 unfolding comma_list
 list_line text p each [] h = refl
-list_line text p each (x ∷ xs) h =
-    let a = and_parts (p x) (list_all p xs) h in
-    joined (text x) (flat_map (next_text text) xs) (each x a.0) (more_line text p each xs a.1)
+list_line text p each (x ∷ xs) h = grind (arith, and_parts, joined, more_line)
 
 any_of : {A : Type 0} (xs : List A) → list_all (λ x. true) xs ≡ true
 any_of [] = refl
@@ -184,9 +172,7 @@ mnemonic_line _ = refl
 
 filled_line : (line : List ℕ) (column : ℕ) → InLine line → InLine (filled line column)
 unfolding filled
-filled_line line column h =
-    by_test (ltb (length line) (column - 1)) (λ e. rw e (joined line (replicate (column - 1 - length line) 32) h (blanks_line (column - 1 - length line))))
-    (λ e. by_test (eqb (length line) 0) (λ f. rw (e, f) refl) (λ f. rw (e, f) (joined line (codes " ") h refl)))
+filled_line line column h = grind (arith, by_test, ltb, joined, replicate, blanks_line)
 
 -- the texts of fields
 abbrev texts : List Field → List (List ℕ)
@@ -235,17 +221,9 @@ characters_line [] = refl
 characters_line (b ∷ bs) = rw (character_line b, characters_line bs) refl
 
 level_texts : (c : Columns) (level address : ℕ) (bytes : List ℕ) → AreInLine (texts (level_fields c level address bytes))
-level_texts c level address bytes =
-    let shown : InLine (address_and_bytes address bytes) = joined (address_text address) (flat_map spaced_byte bytes) (hex4_line address) (each_line spaced_byte digits2_line bytes) in
-    by_test (ltb level 2) (λ t. rw t tt) (λ t.
-    by_test (ltb level 3) (λ u. rw (t, u) (hex4_line address, tt)) (λ u.
-    by_test (ltb level 4) (λ v. rw (t, u, v) (shown, tt)) (λ v.
-    rw (t, u, v) (shown, (characters_line bytes, tt)))))
+level_texts c level address bytes = grind (arith, joined, hex4_line, each_line, digits2_line, by_test, characters_line)
 
 -- the line of a statement is one line
 pub one_line : (c : Columns) (s : StatementView) (r : RemarksView) → IsPrintable s → IsInWidth s → HasNames s → HasLabelName r.label → InLine (line_of c s r)
 unfolding line_of
-one_line c s r p w n label =
-    let start = fields_line [] (label_fields r.label) refl (label_texts r.label label) in
-    let plain = fields_line (with_fields [] (label_fields r.label)) (fields_of c r.hexoffs s) start (statement_texts c r.hexoffs s p w n) in
-    by_test (has_bytes s) (λ t. rw t (fields_line (plain_line c s r) (level_fields c r.level r.address r.bytes) plain (level_texts c r.level r.address r.bytes))) (λ t. rw t plain)
+one_line c s r p w n label = grind (arith, fields_line, label_texts, statement_texts, level_texts)

@@ -89,22 +89,13 @@ pub coded_step : (all names : List Definition) (n : ℕ) (s t : State) (text lin
     → None ≡ fault_of names s (reading_of (parts line)) → more ≡ out ++ bytes_of names s (reading_of (parts line)) → t ≡ after s (reading_of (parts line))
     → with_front more (coded all (n + 1) t (readings rest)) ≡ total
 unfolding coded
-coded_step all names n s t text line rest out more total same h e f g k =
-    let r = reading_of (parts line) in
-    let f' : fault_of all s r ≡ None = sym (f ∙ ap (λ (ds : List Definition). fault_of ds s r) same ∙ fault-all all s r) in
-    let g' : more ≡ out ++ bytes_of all s r = g ∙ ap (λ (ds : List Definition). out ++ bytes_of ds s r) same ∙ ap (λ (l : List ℕ). out ++ l) (bytes-all all s r) in
-    let h' = rw (e, f') at h in
-    rw (g', k) (sym (front-front out (bytes_of all s r) (coded all (n + 1) (after s r) (readings rest))) ∙ h')
+coded_step all names n s t text line rest out more total same h e f g k = grind (arith, None, fault-all, bytes-all, front-front)
 
 pub coded_fault : (all names : List Definition) (n : ℕ) (s : State) (text line rest : List ℕ) (out : List ℕ) (kind : AsmFaultKind) (total : Result (List ℕ) AsmFault)
     → names ≡ map held_definition all → with_front out (coded all n s (readings text)) ≡ total → text_lines text ≡ line ∷ text_lines rest
     → Some kind ≡ fault_of names s (reading_of (parts line)) → total ≡ Err (record { line = n; kind = kind })
 unfolding coded
-coded_fault all names n s text line rest out kind total same h e f =
-    let r = reading_of (parts line) in
-    let f' : fault_of all s r ≡ Some kind = sym (f ∙ ap (λ (ds : List Definition). fault_of ds s r) same ∙ fault-all all s r) in
-    let h' = rw (e, f') at h in
-    sym h'
+coded_fault all names n s text line rest out kind total same h e f = grind (arith, fault-all)
 
 pub coded_end : (all : List Definition) (n : ℕ) (s : State) (text : List ℕ) (out : List ℕ) (total : Result (List ℕ) AsmFault)
     → with_front out (coded all n s (readings text)) ≡ total → text_lines text ≡ [] → total ≡ Ok out

@@ -1,7 +1,7 @@
 -- The line of a statement is a spelling of that statement, so it reads as it.
 use Rattle.std.proofs.Common.{◌≡◌, ℕ, suc, Bool, Option, None, true, false, eqb, ltb, ◌-◌, ◌<◌, List, [], ◌∷◌, ◌++◌, length, replicate, refl, sym, ap, ◌∙◌, arith, inl, inr, append_assoc}
-use Rattle.std.specs.Prelude.{◌&&◌, ◌||◌, codes, map, Some, IsSome}
-use Rattle.std.specs.List.{list_all, flat_map}
+use Rattle.std.specs.Prelude.{◌||◌, codes, map, Some, IsSome}
+use Rattle.std.specs.List.{list_all}
 use Rattle.std.specs.Str.{str_to_ascii_lowercase}
 use Rattle.std.specs.Char.{is_ascii_alphabetic}
 use Rattle.std.proofs.lemmas.Bool.{and_parts, ltb-true, ne_eqb, eqb-true}
@@ -12,7 +12,6 @@ use Rattle.isa65.specs.Cpu.{cpu_text}
 use Rattle.isa65.specs.Mnemonic.{text_of}
 use Rattle.isa65.specs.Mode.{row_of, zero_page_row}
 use Rattle.isa65.specs.declared.cpu.Cpu.{Cpu}
-use Rattle.isa65.proofs.CpuNames.{cpu_name}
 use Rattle.isa65.specs.declared.mnemonic.Mnemonic.{Mnemonic}
 use Rattle.isa65.specs.declared.mnemonic.Mnemonic.TheVariants.{Adc}
 use Rattle.isa65.specs.declared.mode.Mode.{Mode}
@@ -23,14 +22,13 @@ use Rattle.isa65.specs.declared.row.Pattern.{Pattern}
 use Rattle.isa65.specs.declared.row.Pattern.TheVariants as pattern
 use Rattle.isa65.specs.declared.row.Row.{Row}
 use Rattle.isa65.specs.declared.row.Row.TheVariants as row
-use Rattle.text65.specs.Digits.{digits4}
 use Rattle.text65.specs.Names.{has_name_form, is_word_byte}
 use Rattle.stmt65.specs.declared.directive.Directive.{Directive}
 use Rattle.stmt65.specs.declared.directive.Directive.TheVariants as directive
 use Rattle.stmt65.specs.Directives.{directive_text}
 use Rattle.stmt65.specs.declared.printing.columns.Columns.{Columns}
 use Rattle.stmt65.specs.Digits.{hex2, hex4, offset_text}
-use Rattle.stmt65.specs.Levels.{spaced_byte, character, level_fields}
+use Rattle.stmt65.specs.Levels.{level_fields}
 use Rattle.stmt65.specs.Line.{filled, with_fields, plain_line, line_of}
 use Rattle.stmt65.specs.Operands.{named_text, long_text, kind_text, prefix_text, row_operands, operand_text}
 use Rattle.stmt65.specs.Printable.{IsLong, IsOperand, AreOperands, IsWrittenIn, MayBeForced, IsPrintable, MayBeLabelled}
@@ -39,7 +37,7 @@ use Rattle.stmt65.specs.SourceLine.{NumberValue, NameValue, NumberDatum, Empty, 
 use Rattle.stmt65.specs.declared.source_line.AddressSize.TheVariants.{Absolute, Automatic}
 use Rattle.stmt65.specs.declared.source_line.Minus.TheVariants.{Zero, One}
 use Rattle.stmt65.specs.Tables.{entries, cut_text}
-use Rattle.stmt65.specs.Parts.{Part, Word, Number, Text, Define, Mark, begins_with}
+use Rattle.stmt65.specs.Parts.{Part, Word, Number, Define, Mark, begins_with}
 use Rattle.stmt65.specs.Lexing.{is_word_start, is_text_byte, parts}
 use Rattle.stmt65.specs.Names.{is_name}
 use Rattle.stmt65.specs.Reading.{reading_of}
@@ -97,11 +95,7 @@ are_read (view.two e f) names wide = (is_read e names.0 wide.0, is_read f names.
 pub name_word : (w : List ℕ) → is_name w ≡ true → IsWordText w
 unfolding is_name has_name_form
 name_word [] h = absurd cc
-name_word (b ∷ w) h =
-    let form = (and_parts (has_name_form (b ∷ w)) _ h).0 in
-    let front = (and_parts ((is_ascii_alphabetic b || eqb b 95) && list_all is_word_byte w) _ form).0 in
-    let parts = and_parts (is_ascii_alphabetic b || eqb b 95) (list_all is_word_byte w) front in
-    (rw parts.0 refl, parts.1)
+name_word (b ∷ w) h = grind (arith, and_parts, eqb)
 
 named_parts : (h : Bool) (name rest : List ℕ) (offset : ℕ) → is_name name ≡ true → offset < 65536 → Ends rest → TextParts IsValue (NameValue name offset Zero) (named_text h name offset) rest
 named_parts h name rest offset n lt e =
@@ -187,9 +181,7 @@ row_spelled h (row.One pattern.DirectY k) (view.one e) w n = kind_then h k e _ (
 row_spelled h (row.One pattern.Indirect k) (view.one e) w n = marked 40 _ (kind_text h k e ++ codes ")") refl (kind_then h k e _ (codes ")") w n refl close)
 row_spelled h (row.One pattern.IndirectX k) (view.one e) w n = marked 40 _ (kind_text h k e ++ codes ",x)") refl (kind_then h k e _ (codes ",x)") w n refl x_close)
 row_spelled h (row.One pattern.IndirectY k) (view.one e) w n = marked 40 _ (kind_text h k e ++ codes "),y") refl (kind_then h k e _ (codes "),y") w n refl close_y)
-row_spelled h (row.Two k l) (view.two e f) w n =
-    let text = kind_text h l f ++ [] in
-    kind_then h k e _ (44 ∷ text) w.0 n.0 refl (marked 44 _ text refl (kind_then h l f [] [] w.1 n.1 refl nothing))
+row_spelled h (row.Two k l) (view.two e f) w n = grind (arith, kind_then, marked, nothing)
 row_spelled h _ _ w n = absurd w
 
 forced_one : (h : Bool) (p : Pattern) (k : OperandKind) (e : ExprView) → IsOperand k e → IsRead e → IsSome (zero_page_row (row.One p k))
@@ -228,20 +220,13 @@ first_quotes b h = grind (arith, nat_tests)
 pub name_quotes : (w : List ℕ) → has_name_form w ≡ true → list_all is_text_byte w ≡ true
 unfolding has_name_form
 name_quotes [] h = absurd cc
-name_quotes (b ∷ w) h =
-    let front = (and_parts ((is_ascii_alphabetic b || eqb b 95) && list_all is_word_byte w) _ h).0 in
-    let parts = and_parts (is_ascii_alphabetic b || eqb b 95) (list_all is_word_byte w) front in
-    rw (first_quotes b parts.0, all_as is_word_byte is_text_byte word_quotes w parts.1) refl
+name_quotes (b ∷ w) h = grind (arith, and_parts, eqb, first_quotes, all_as, word_quotes)
 
 segment_spelled : (name : List ℕ) → has_name_form name ≡ true → Spells (quoted_name name ∷ []) (parts (quoted name))
-segment_spelled name n =
-    last (quoted_name name) (parts (quoted name))
-    (n, parts_text name [] (name_quotes name n) ∙ ap (λ (ps : List Part). Text name ∷ ps) parts_nil)
+segment_spelled name n = grind (arith, last, parts_text, name_quotes, parts_nil)
 
 cpu_spelled : (cpu : Cpu) → Spells (string (cpu_text cpu) ∷ []) (parts (quoted (cpu_text cpu)))
-cpu_spelled cpu =
-    last (string (cpu_text cpu)) (parts (quoted (cpu_text cpu)))
-    (parts_text (cpu_text cpu) [] (cpu_name cpu).quotable ∙ ap (λ (ps : List Part). Text (cpu_text cpu) ∷ ps) parts_nil)
+cpu_spelled cpu = grind (arith, last, parts_text, parts_nil)
 
 -- ---- fields
 
@@ -280,20 +265,14 @@ long_word line (b ∷ w) h = omega (arith, length-append line (b ∷ w))
 
 -- a line, and a word as its next field
 word_after : (line : List ℕ) (ps : List Part) (column : ℕ) (w rest : List ℕ) → Leads line ps → IsWordText w → Ends rest → parts ((filled line column ++ w) ++ rest) ≡ ps ++ Word w ∷ parts rest
-word_after line ps column w rest l h e =
-    ap parts (append_assoc (filled line column) w rest) ∙ l column (w ++ rest) ∙ ap (λ (qs : List Part). ps ++ qs) (parts_word w rest h e)
+word_after line ps column w rest l h e = grind (arith, append_assoc, parts_word)
 
 leads_word : (line : List ℕ) (ps : List Part) (column : ℕ) (w : List ℕ) → Leads line ps → IsWordText w → Leads (filled line column ++ w) (ps ++ Word w ∷ [])
-leads_word line ps column w l h =
-    leads_by_blank (filled line column ++ w) (ps ++ Word w ∷ []) (long_word (filled line column) w h)
-    (λ rest. word_after line ps column w (32 ∷ rest) l h refl ∙ sym (append_assoc ps (Word w ∷ []) (parts (32 ∷ rest))))
+leads_word line ps column w l h = grind (arith, leads_by_blank, long_word, word_after, append_assoc)
 
 -- a name and `:`
 colon_after : (column : ℕ) (name rest : List ℕ) → is_name name ≡ true → begins_with 61 rest ≡ false → parts ((filled [] column ++ (name ++ codes ":")) ++ rest) ≡ Word name ∷ Mark 58 ∷ parts rest
-colon_after column name rest n e =
-    let shape : (filled [] column ++ (name ++ codes ":")) ++ rest ≡ filled [] column ++ (name ++ (58 ∷ rest)) = simp append_assoc in
-    ap parts shape ∙ leads_nothing column (name ++ (58 ∷ rest)) ∙ parts_word name (58 ∷ rest) (name_word name n) refl
-    ∙ ap (λ (qs : List Part). Word name ∷ qs) (parts_colon rest e)
+colon_after column name rest n e = grind (arith, append_assoc, leads_nothing, parts_word, name_word, parts_colon)
 
 leads_label : (name : List ℕ) → is_name name ≡ true → Leads (with_fields [] (label_fields (Some name))) (Word name ∷ Mark 58 ∷ [])
 leads_label name n =
@@ -361,15 +340,10 @@ minus_one : parts (codes "-1") ≡ Mark 45 ∷ Number (codes "1") ∷ []
 minus_one = parts_mark 45 (codes "1") refl ∙ ap (λ (qs : List Part). Mark 45 ∷ qs) (parts_digits (codes "1") [] (omega arith) refl refl ∙ ap (λ (qs : List Part). Number (codes "1") ∷ qs) parts_nil)
 
 less_one : (w : List ℕ) (n : ℕ) (front : List Part) → IsValue (NameValue w n Zero) front → IsValue (NameValue w n One) (front ++ (Mark 45 ∷ Number (codes "1") ∷ []))
-less_one w n front v =
-    let minus : List Part = Mark 45 ∷ Number (codes "1") ∷ [] in
-    (v.0, minus, rw (v.2, v.5) (ap (λ (qs : List Part). Word w ∷ qs) (append_assoc v.0 [] minus)), v.3, v.4, refl)
+less_one w n front v = grind arith
 
 return_spelled : (h : Bool) (t : TargetView) → is_name t.name ≡ true → t.offset < 65536 → Spells (value_list (NameValue t.name t.offset One ∷ []) ∷ []) (parts (return_text h (Some t)))
-return_spelled h t n w =
-    let p = named_parts h t.name (codes "-1") t.offset n w refl in
-    last (value_list (NameValue t.name t.offset One ∷ [])) (parts (return_text h (Some t)))
-    (rw (p.split, minus_one) (less_one t.name t.offset p.front p.is))
+return_spelled h t n w = grind (arith, named_parts, last, minus_one)
 
 no_target_spelled : Spells (value_list (NumberValue 0xFFFF ∷ []) ∷ []) (parts (codes "$FFFF"))
 no_target_spelled =
@@ -391,10 +365,7 @@ definition_parts c name text n =
     ∙ ap (λ (qs : List Part). Word name ∷ qs) (parts_define (32 ∷ text) ∙ ap (λ (qs : List Part). Define ∷ qs) (parts_blanks 1 text))
 
 assignment_spelled : (c : Columns) (name : List ℕ) (n : ℕ) → is_name name ≡ true → n < 65536 → IsSpelling (Assignment name n) (parts (with_fields [] (definition_fields c name (hex4 n))))
-assignment_spelled c name n is lt =
-    let number_parts : parts (hex4 n) ≡ Number (hex4 n) ∷ [] = ap parts (sym (append-nil (hex4 n))) ∙ parts_hex4 n [] refl ∙ ap (λ (qs : List Part). Number (hex4 n) ∷ qs) parts_nil in
-    rw (definition_parts c name (hex4 n) is, number_parts)
-    (name_front _ name (Define ∷ Number (hex4 n) ∷ []) is (at_define _ (Define ∷ Number (hex4 n) ∷ []) refl (last (number n) (Number (hex4 n) ∷ []) (hex4 n, number_of-hex4 n lt, refl))))
+assignment_spelled c name n is lt = grind (arith, append-nil, parts_hex4, parts_nil, definition_parts, name_front, at_define, last, number_of-hex4)
 
 -- the text of a distance is a number
 distance_parts : (h : Bool) (n : ℕ) → n < 65536 → OffsetParts (distance_text h n) n []
@@ -458,12 +429,7 @@ field_after line column other text more h =
     ap parts shape ∙ remark_after line column (text ++ ((32 ∷ replicate f.count 32) ++ more)) h
 
 level_parts : (line : List ℕ) (c : Columns) (level address : ℕ) (bytes : List ℕ) → AreClosed (parts line) → parts (with_fields line (level_fields c level address bytes)) ≡ parts line
-level_parts line c level address bytes h =
-    by_test (ltb level 2) (λ t. rw t refl) (λ t.
-    by_test (ltb level 3) (λ u. rw (t, u) (remark_after line c.comment (32 ∷ digits4 address) h)) (λ u.
-    let text = 32 ∷ (digits4 address ++ flat_map spaced_byte bytes) in
-    by_test (ltb level 4) (λ v. rw (t, u, v) (remark_after line c.comment text h)) (λ v.
-    rw (t, u, v) (field_after line c.comment c.text text (map character bytes) h))))
+level_parts line c level address bytes h = grind (arith, by_test, ltb, remark_after, field_after)
 
 -- the parts of the line are those of its label and statement
 line_parts : (c : Columns) (s : StatementView) (r : RemarksView) → AreClosed (parts (plain_line c s r)) → parts (line_of c s r) ≡ parts (plain_line c s r)

@@ -1,5 +1,5 @@
 -- What is read is spelled so.
-use Rattle.std.proofs.Common.{◌≡◌, ℕ, zero, suc, Bool, true, false, cond, append_assoc, List, [], ◌∷◌, ◌++◌, length, drop, Option, Some, None, refl, sym, ap, ◌∙◌, inl, inr}
+use Rattle.std.proofs.Common.{arith, ◌≡◌, ℕ, zero, suc, Bool, true, false, cond, append_assoc, List, [], ◌∷◌, ◌++◌, length, drop, Option, Some, None, refl, sym, ap, ◌∙◌, inl, inr}
 use Rattle.std.specs.Prelude.{codes, IfSome}
 use Rattle.std.proofs.lemmas.List.{append-nil}
 use Rattle.isa65.specs.Mnemonic.{text_of, mnemonic_named}
@@ -242,12 +242,7 @@ instruction_read w ps = given _ (mnemonic_named w) _ (λ m e.
 
 other_read : (w : List ℕ) (ps : List Part) → IfSome (other_at w ps) (λ o. Spells (operation_items o) (Word w ∷ ps))
 unfolding other_at
-other_read w ps =
-    by_test (same w (codes ".byte")) (λ t. rw t (data_read w ps t))
-    (λ f. rw f (by_test (same w (codes ".segment")) (λ t. rw t (segment_read w ps t))
-    (λ f. rw f (by_test (same w (codes ".code")) (λ t. rw t (by_list ps (λ end. rw end (word_front (codes ".code") [] w [] t at_end)) (λ q qs e. rw e tt)))
-    (λ f. rw f (by_test (same w (codes ".setcpu")) (λ t. rw t (set_cpu_read w ps t))
-    (λ f. rw f (instruction_read w ps))))))))
+other_read w ps = grind (arith, by_test, data_read, segment_read, by_list, word_front, at_end, set_cpu_read, instruction_read)
 
 operation_read : (w : List ℕ) (ps : List Part) → IfSome (operation_at w ps) (λ o. Spells (operation_items o) (Word w ∷ ps))
 unfolding operation_at
@@ -261,11 +256,7 @@ operation_of_read _ = tt
 
 constant_read : (w : List ℕ) (ps : List Part) → is_name w ≡ true → is_define ps ≡ true → IfSome (constant_of w (drop 1 ps)) (λ r. IsSpelling r (Word w ∷ ps))
 unfolding constant_of
-constant_read w ps n d =
-    by_test (is_mark 42 (drop 1 ps))
-    (λ star. rw star (tested _ (is_mark 43 (drop 1 (drop 1 ps))) _ (λ plus. given _ (number_in (drop 1 (drop 1 (drop 1 ps)))) _ (λ k e. ended _ _ k.1 (λ end.
-    name_front _ w ps n (at_define _ ps d (at_mark 42 _ (drop 1 ps) star (at_mark 43 _ (drop 1 (drop 1 ps)) plus (at_number [] (drop 1 (drop 1 (drop 1 ps))) k e (rw end at_end))))))))))
-    (λ star. rw star (given _ (number_in (drop 1 ps)) _ (λ k e. ended _ _ k.1 (λ end. name_front _ w ps n (at_define _ ps d (at_number [] (drop 1 ps) k e (rw end at_end)))))))
+constant_read w ps n d = grind (arith, by_test, tested, given, ended, name_front, at_define, at_mark, at_number, at_end)
 
 line_read : (w : List ℕ) (ps : List Part) → IfSome (line_at w ps) (λ r. IsSpelling r (Word w ∷ ps))
 unfolding line_at

@@ -3,13 +3,12 @@ use Rattle.std.proofs.lemmas.List.Sums.{prefix_len-le-length}
 use Rattle.std.proofs.Common.{◌∙◌, ◌≡◌, ℕ, zero, suc, Bool, true, false, eqb, ◌+◌, ◌<◌, ◌≤◌, List, [], ◌∷◌, ◌++◌, length, drop, refl, ap, arith, inl, inr}
 use Rattle.std.specs.Prelude.{not, Some, None}
 use Rattle.std.specs.List.{prefix_len, list_all}
-use Rattle.std.specs.Char.{is_ascii_digit, is_ascii_hexdigit}
 use Rattle.std.proofs.lemmas.Bool.{and_parts, eqb-true}
 use Rattle.std.proofs.lemmas.List.{take-append-le, drop-append-le, length-drop}
 use Rattle.std.proofs.lemmas.Bool.Decides.{nat_tests}
 use Rattle.std.proofs.lemmas.List.Folds.{list_all-append, prefix_len-append}
-use Rattle.text65.specs.Names.{is_blank, is_word_byte}
-use Rattle.stmt65.specs.Lexing.{is_word_start, is_text_byte, hex_len, part_at, parts, parts_after}
+use Rattle.text65.specs.Names.{is_blank}
+use Rattle.stmt65.specs.Lexing.{is_text_byte, part_at, parts, parts_after}
 use Rattle.stmt65.specs.Parts.{Part, Mark, begins_with}
 use Rattle.stmt65.specs.SourceLine.{Value, NumberValue, NameValue, Form, Direct, DirectX, DirectY, Datum, NumberDatum, StringDatum, Operation, Nothing, Instr, SourceLine, Assignment, PlaceAssignment, Statement}
 use Rattle.stmt65.specs.Spelling as item
@@ -44,43 +43,24 @@ begins_same : (b : ℕ) (bs more : List ℕ) → begins_with b bs ≡ true → b
 begins_same b [] more h = absurd cc
 begins_same b (c ∷ bs) more h = h
 
--- the first byte of what follows
-begins_blank : (b : ℕ) (bs more : List ℕ) → eqb 32 b ≡ false → begins_with b (bs ++ 32 ∷ more) ≡ begins_with b bs
-begins_blank b [] more e = e
-begins_blank b (c ∷ bs) more e = refl
-
 -- a string that is closed in front
 text_same : (bs more : List ℕ) → begins_with 34 (drop (prefix_len is_text_byte bs) bs) ≡ true → part_at 34 (bs ++ more) ≡ part_at 34 bs
 unfolding part_at
-text_same bs more h =
-    let n = prefix_len is_text_byte bs in
-    let some = begins_some 34 (drop n bs) h in
-    let inside : prefix_len is_text_byte bs < length bs = omega (arith, length-drop n bs) in
-    let closed : begins_with 34 (drop n bs ++ more) ≡ true = begins_same 34 (drop n bs) more h in
-    rw (run_before is_text_byte bs more inside, take-append-le n bs more (omega arith), drop-append-le n bs more (omega arith), closed, h) refl
+text_same bs more h = grind (arith, begins_some, length-drop, begins_same, run_before, take-append-le, drop-append-le)
 
 unclosed : (bs : List ℕ) → begins_with 34 (drop (prefix_len is_text_byte bs) bs) ≡ false → is_closed (part_at 34 bs).0 ≡ false
 unfolding part_at
 unclosed bs t = rw t refl
 
 quote_same : (bs more : List ℕ) → is_closed (part_at 34 bs).0 ≡ true → part_at 34 (bs ++ more) ≡ part_at 34 bs
-quote_same bs more h =
-    by_test (begins_with 34 (drop (prefix_len is_text_byte bs) bs)) (λ t. text_same bs more t) (λ t. let e = unclosed bs t in absurd cc)
+quote_same bs more h = grind (arith, by_test, text_same, unclosed)
 
 other_same : (b : ℕ) (bs more : List ℕ) → eqb b 34 ≡ false → part_at b (bs ++ 32 ∷ more) ≡ part_at b bs
 unfolding part_at
-other_same b bs more q =
-    by_test (is_word_start b)
-    (λ w. rw (w, run_same is_word_byte bs more refl, take-append-le (prefix_len is_word_byte bs) bs (32 ∷ more) (prefix_len-le-length is_word_byte bs)) refl)
-    (λ w. rw w (by_test (is_ascii_digit b)
-    (λ d. rw (d, run_same is_ascii_digit bs more refl, take-append-le (prefix_len is_ascii_digit bs) bs (32 ∷ more) (prefix_len-le-length is_ascii_digit bs)) refl)
-    (λ d. rw (d, q, run_same is_ascii_hexdigit bs more refl, take-append-le (hex_len bs) bs (32 ∷ more) (omega (arith, prefix_len-le-length is_ascii_hexdigit bs)), begins_blank 61 bs more refl) refl)))
+other_same b bs more q = grind (arith, by_test, run_same, take-append-le, prefix_len-le-length)
 
 part_same : (b : ℕ) (bs more : List ℕ) → is_closed (part_at b bs).0 ≡ true → part_at b (bs ++ 32 ∷ more) ≡ part_at b bs
-part_same b bs more h =
-    by_test (eqb b 34)
-    (λ q. let e = eqb-true b 34 q in let h' = rw e at h in rw e (quote_same bs (32 ∷ more) h'))
-    (λ q. other_same b bs more q)
+part_same b bs more h = grind (arith, by_test, eqb, eqb-true, quote_same, other_same)
 
 -- ---- a line and what follows it
 

@@ -4,7 +4,7 @@ use Rattle.std.proofs.Common.{◌≡◌, ℕ, zero, suc, Bool, true, false, eqb,
 use Rattle.std.specs.Prelude.{◌⊎◌, ◌&&◌, ◌||◌, nat_lt}
 use Rattle.std.specs.List.{prefix_len, list_all}
 use Rattle.std.specs.Char.{is_ascii_digit, is_ascii_hexdigit}
-use Rattle.std.proofs.lemmas.Bool.{and_parts, ltb-true, lt-ltb, eqb-true, not-true, or_parts}
+use Rattle.std.proofs.lemmas.Bool.{and_parts, ltb-true, eqb-true, not-true, or_parts}
 use Rattle.std.proofs.lemmas.List.{take_at, drop_at, length-append, length-drop, length-take, length-take-le, take-append-drop}
 use Rattle.text65.specs.Names.{is_blank, is_word_byte}
 use Rattle.stmt65.specs.Parts.{Part, Word, Number, Text, Define, Mark, begins_with}
@@ -89,10 +89,7 @@ best_decimal b ds more h g = rw (digit_no_word b h, h) (record { bound = omega (
 
 best_hex : (ds more : List ℕ) → list_all is_ascii_hexdigit ds ≡ true → 0 < length ds → length ds ≤ 8 → IsBest (part_at 36 (ds ++ more)) (Number (36 ∷ ds)) (suc (length ds))
 unfolding part_at
-best_hex ds more g pos le =
-    let l = at_least is_ascii_hexdigit ds more g in
-    let t : nat_lt 0 (hex_len (ds ++ more)) ≡ true = lt-ltb 0 (hex_len (ds ++ more)) (omega arith) in
-    rw t (record { bound = omega arith; same = λ e. let k : hex_len (ds ++ more) ≡ length ds = omega arith in rw (k, take_at ds more (length ds) refl) refl })
+best_hex ds more g pos le = grind (arith, at_least, take_at)
 
 best_text : (t more : List ℕ) → list_all is_text_byte t ≡ true → IsBest (part_at 34 (t ++ 34 ∷ more)) (Text t) (suc (length t + 1))
 unfolding part_at
@@ -107,15 +104,7 @@ alone_begins b h = let n = or_parts (eqb b 59) _ (or_parts (is_blank b) _ (not-t
 
 best_mark : (b : ℕ) (bs : List ℕ) → is_alone b ≡ true → IsBest (part_at b bs) (Mark b) 1
 unfolding part_at
-best_mark b bs h =
-    let a = alone_begins b h in
-    rw (a.0, a.1) (by_test (eqb b 36 && nat_lt 0 (hex_len bs))
-    (λ x. let e = ltb-true 0 (hex_len bs) (and_parts (eqb b 36) (nat_lt 0 (hex_len bs)) x).1 in rw x (record { bound = omega arith; same = λ k. absurd (omega arith) }))
-    (λ x. rw x (by_test (eqb b 34 && begins_with 34 (drop (prefix_len is_text_byte bs) bs))
-    (λ t. rw t (record { bound = omega arith; same = λ k. absurd (omega arith) }))
-    (λ t. rw t (by_test (eqb b 58 && begins_with 61 bs)
-    (λ c. rw c (record { bound = omega arith; same = λ k. absurd (omega arith) }))
-    (λ c. rw c (record { bound = omega arith; same = λ k. refl })))))))
+best_mark b bs h = grind (arith, alone_begins, by_test, eqb)
 
 abbrev IsBestOf : List ℕ → Part → ℕ → Type 0
 IsBestOf [] q n = Unit {0}
@@ -180,9 +169,7 @@ text_begins (Word (c ∷ w)) text h = let e = word_begins c h.1.0 in (c, w, h.0,
 text_begins (Number t) text h = rw h.0 (number_begins t h.1)
 text_begins (Text t) text h = (34, t ++ 34 ∷ [], h.0, refl, refl)
 text_begins Define text h = (58, 61 ∷ [], h, refl, refl)
-text_begins (Mark b) text h =
-    let n = or_parts (is_blank b) _ (not-true (is_blank b || (eqb b 59 || (is_word_start b || is_ascii_digit b))) h.1) in
-    (b, [], h.0, n.0, (or_parts (eqb b 59) (is_word_start b || is_ascii_digit b) n.1).0)
+text_begins (Mark b) text h = grind (arith, or_parts, not-true, eqb)
 
 again : (ps : List Part) (line : List ℕ) → IsSpacing ps line → parts line ≡ ps
 again [] line s = rw s.2 (parts_blanks s.0 s.1 s.3 ∙ go s.4)

@@ -1,21 +1,20 @@
 -- What is spelled so is read.
 use Rattle.std.proofs.Common.{◌≡◌, ℕ, zero, suc, true, false, eqb, List, [], ◌∷◌, ◌++◌, length, ◌≤◌, Option, Some, None, refl, sym, ap, ◌∙◌, arith, inl, inr, append_assoc}
 use Rattle.std.specs.Prelude.{codes}
-use Rattle.std.proofs.lemmas.Bool.{eqb-true}
 use Rattle.std.proofs.lemmas.List.{append-nil, length-append}
-use Rattle.isa65.specs.Mnemonic.{text_of, mnemonic_named}
+use Rattle.isa65.specs.Mnemonic.{text_of}
 use Rattle.stmt65.specs.declared.source_line.AddressSize.{AddressSize}
 use Rattle.stmt65.specs.declared.source_line.AddressSize.TheVariants.{Absolute, Automatic}
 use Rattle.stmt65.specs.declared.source_line.Minus.{Minus}
 use Rattle.stmt65.specs.declared.source_line.Minus.TheVariants.{Zero, One}
 use Rattle.stmt65.specs.SourceLine.{Value, NumberValue, NameValue, Form, Empty, Accumulator, Immediate, Direct, DirectX, DirectY, Two, Indirect, IndirectX, IndirectY, Datum, NumberDatum, StringDatum, Operation, Nothing, Instr, Data, Values, Segment, Code, SetCpu, SourceLine, Assignment, PlaceAssignment, Statement}
 use Rattle.stmt65.specs.declared.directive.Directive.{Directive}
-use Rattle.stmt65.specs.Directives.{directive_text, directive_named}
+use Rattle.stmt65.specs.Directives.{directive_text}
 use Rattle.stmt65.specs.Parts.{Part, Word, Number, Define, Mark, number_of}
 use Rattle.stmt65.specs.Names.{same, is_name}
 use Rattle.stmt65.specs.Reading.{is_mark, is_define, is_word_here, is_nil, less_one, named_at, next_value, tail_at, inner_at, form_of, joined, next_datum, text_in, data_of, values_of, segment_of, set_cpu_of, whole, other_at, operation_at, operation_of, constant_of, line_at, reading_of}
 use Rattle.stmt65.specs.Spelling.{Item, word, mark, define, name, number, string, quoted_name, value, data_list, value_list, IsPlus, IsMinus, IsValue, IsDatum, prefix_items, IsList, IsItem, Spells, form_items, operation_items, IsSpelling}
-use Rattle.stmt65.proofs.Cases.{by_test, by_option, other, no_letter, no_dot, mnemonic_again, directive_again, no_directive, no_directives}
+use Rattle.stmt65.proofs.Cases.{by_test, other, no_letter, no_dot, mnemonic_again, directive_again, no_directive, no_directives}
 
 -- ---- items in front
 
@@ -98,8 +97,7 @@ value_begins (NameValue w n less) front rest h = let no = no_letter w h.3 in rw 
 -- a value that stands first in an operand
 first_value : (v : Value) (front rest : List Part) → IsValue v front → Stops rest → form_of (front ++ rest) ≡ tail_at Automatic v rest
 unfolding form_of
-first_value v front rest h stop =
-    let b = value_begins v front rest h in rw (b.mark 35, b.mark 40, b.a, b.some, value_again v front rest h stop) refl
+first_value v front rest h stop = grind (arith, value_begins, value_again)
 
 -- ---- operands
 
@@ -109,12 +107,8 @@ direct : (size : AddressSize) (v : Value) (is : List Item) (ps : List Part) (f :
     → ((rest : List Part) → Spells is rest → Stops rest × (tail_at size v rest ≡ Some f))
     → form_of ps ≡ Some f
 unfolding form_of
-direct Absolute v is ps f h k =
-    let a = un_word (codes "a") _ ps h in let c = un_mark 58 _ a.1 a.4 in let e = un_value v is c.0 c.2 in let t = k e.1 e.4 in
-    rw (a.2, c.1, e.2, a.3, value_again v e.0 e.1 e.3 t.0) t.1
-direct Automatic v is ps f h k =
-    let e = un_value v is ps h in let t = k e.1 e.4 in
-    rw e.2 (first_value v e.0 e.1 e.3 t.0 ∙ t.1)
+direct Absolute v is ps f h k = grind (arith, un_word, un_mark, un_value, value_again)
+direct Automatic v is ps f h k = grind (arith, un_value, first_value)
 
 -- an operand that begins with `(` and a value
 bracketed : (v : Value) (is : List Item) (ps : List Part) (f : Form)
@@ -122,17 +116,13 @@ bracketed : (v : Value) (is : List Item) (ps : List Part) (f : Form)
     → ((rest : List Part) → Spells is rest → Stops rest × (inner_at v rest ≡ Some f))
     → form_of ps ≡ Some f
 unfolding form_of
-bracketed v is ps f h k =
-    let m = un_mark 40 _ ps h in let e = un_value v is m.0 m.2 in let t = k e.1 e.4 in
-    rw (m.1, e.2, value_again v e.0 e.1 e.3 t.0) t.1
+bracketed v is ps f h k = grind (arith, un_mark, un_value, value_again)
 
 pub form_again : (f : Form) (ps : List Part) → Spells (form_items f) ps → form_of ps ≡ Some f
 unfolding form_of tail_at inner_at
 form_again Empty ps h = rw (nothing_left ps h) refl
 form_again Accumulator ps h = let a = un_word (codes "a") [] ps h in rw (a.2, nothing_left a.1 a.4, a.3) refl
-form_again (Immediate v) ps h =
-    let m = un_mark 35 _ ps h in let e = un_value v [] m.0 m.2 in
-    rw (m.1, e.2, nothing_left e.1 e.4, value_again v e.0 [] e.3 stops_nil) refl
+form_again (Immediate v) ps h = grind (arith, un_mark, un_value, nothing_left, value_again)
 form_again (Direct size v) ps h = direct size v [] ps _ h (λ rest g. rw (nothing_left rest g) (stops_nil, refl))
 form_again (DirectX size v) ps h =
     direct size v _ ps _ h (λ rest g. let c = un_mark 44 _ rest g in let x = un_word (codes "x") [] c.0 c.2 in
@@ -200,21 +190,12 @@ operation_again (SetCpu t) ps h =
 -- a word with which nothing can go on is no operation
 none_at : (w : List ℕ) (ps : List Part) → ((d : Directive) → values_of d ps ≡ None) → data_of ps ≡ None → segment_of ps ≡ None → whole Code ps ≡ None → set_cpu_of ps ≡ None → form_of ps ≡ None → operation_at w ps ≡ None
 unfolding operation_at other_at
-none_at w ps values bytes segment code cpu form =
-    by_option (directive_named w) (λ d e. rw (e, values d) refl)
-    (λ e. rw e (by_test (same w (codes ".byte")) (λ t. rw (t, bytes) refl)
-    (λ t. rw t (by_test (same w (codes ".segment")) (λ t. rw (t, segment) refl)
-    (λ t. rw t (by_test (same w (codes ".code")) (λ t. rw (t, code) refl)
-    (λ t. rw t (by_test (same w (codes ".setcpu")) (λ t. rw (t, cpu) refl)
-    (λ t. rw t (by_option (mnemonic_named w) (λ m e. rw (e, form) refl) (λ e. rw e refl)))))))))))
+none_at w ps values bytes segment code cpu form = grind arith
 
 -- neither `:` nor `:=` stands after the word of an operation
 no_label : (w : List ℕ) (ps : List Part) (o : Operation) → operation_at w ps ≡ Some o → (is_mark 58 ps ≡ false) × (is_define ps ≡ false)
 unfolding joined next_value next_datum text_in form_of
-no_label w (Mark b ∷ ps) o e =
-    by_test (eqb b 58)
-    (λ m. absurd (let is = eqb-true b 58 m in let e' = rw (is, none_at w (Mark 58 ∷ ps) (λ d. refl) refl refl refl refl refl) at e in cc))
-    (λ m. (m, refl))
+no_label w (Mark b ∷ ps) o e = grind (arith, by_test, eqb, none_at)
 no_label w (Define ∷ ps) o e = absurd (let e' = rw (none_at w (Define ∷ ps) (λ d. refl) refl refl refl refl refl) at e in cc)
 no_label w _ o e = (refl, refl)
 
@@ -226,16 +207,7 @@ stated_again o _ e = absurd cc
 
 pub line_again : (r : SourceLine) (ps : List Part) → IsSpelling r ps → reading_of ps ≡ Some r
 unfolding reading_of line_at constant_of
-line_again (Assignment w n) ps h =
-    let name = un_name w _ ps h in let d = un_define _ name.0 name.3 in
-    let t = un_number n d.0 d.2 in
-    rw (name.1, d.1, t.2) (rw (name.2, ← t.1) refl)
-line_again (PlaceAssignment w n) ps h =
-    let name = un_name w _ ps h in let d = un_define _ name.0 name.3 in
-    let star = un_mark 42 _ d.0 d.2 in let plus = un_mark 43 _ star.0 star.2 in
-    let t = un_number n plus.0 plus.2 in
-    rw (name.1, d.1, star.1, plus.1, t.2) (rw (name.2, ← t.1) refl)
+line_again (Assignment w n) ps h = grind (arith, un_name, un_define, un_number)
+line_again (PlaceAssignment w n) ps h = grind (arith, un_name, un_define, un_mark, un_number)
 line_again (Statement None o) ps h = stated_again o ps (operation_again o ps h)
-line_again (Statement (Some w) o) ps h =
-    let name = un_name w _ ps h in let colon = un_mark 58 _ name.0 name.3 in
-    rw (name.1, colon.1) (rw (name.2, operation_again o colon.0 colon.2) refl)
+line_again (Statement (Some w) o) ps h = grind (arith, un_name, un_mark, operation_again)

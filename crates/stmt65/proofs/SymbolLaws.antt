@@ -116,23 +116,14 @@ pub index_known : (ds : List CodeDefinition) (numbered : ℕ → Option ℕ) (ot
     → IsIndex (ds ++ d ∷ []) numbered others
 index_known ds numbered others d h known = record {
   within = λ n i e. within_more ds d i (h.within n i e);
-  finds = λ q. ap (λ (o : Option ℕ). option_or o (others q)) (stays q ds d (numbered (number_of q)) (h.within (number_of q))) ∙ h.finds q
-      ∙ by_test (bytes_eq d.name.now q)
-      (λ e. by_option (first_at q (map definition_of ds)) (λ i f. rw (e, f) refl) (λ f. absurd (let k = rw (same_name d q e, f) at known in cc)))
-      (λ e. rw e (other (first_at q (map definition_of ds)) (length ds)))
-      ∙ sym (pushed q ds d);
+  finds = grind (arith, Option, stays, by_test, by_option, same_name, other, pushed);
 }
 
 pub index_other : (ds : List CodeDefinition) (numbered : ℕ → Option ℕ) (others next : List ℕ → Option ℕ) (d : CodeDefinition) (n : ℕ) → IsIndex ds numbered others → is_some (first_at d.name.now (map definition_of ds)) ≡ false → n ≡ length ds
     → ((q : List ℕ) → next q ≡ update bytes_eq others d.name.now (Some n) q) → IsIndex (ds ++ d ∷ []) numbered next
 index_other ds numbered others next d n h unknown is now = record {
   within = λ m i e. within_more ds d i (h.within m i e);
-  finds = λ q. ap (λ (o : Option ℕ). option_or o (next q)) (stays q ds d (numbered (number_of q)) (h.within (number_of q)))
-      ∙ by_test (bytes_eq d.name.now q)
-      (λ e. let gone = none _ (rw (same_name d q e) at unknown) in
-      by_option (if_named q ds (numbered (number_of q))) (λ i f. absurd (let k = rw f at (h.finds q) in cc)) (λ f. rw (f, now q, e, gone, is) refl))
-      (λ e. rw (now q, e) (h.finds q ∙ other (first_at q (map definition_of ds)) (length ds)))
-      ∙ sym (pushed q ds d);
+  finds = grind (arith, Option, stays, by_test, same_name, by_option, other, pushed);
 }
 
 -- the number of a name, if it is that of no other

@@ -18,7 +18,7 @@ use Rattle.isa65.specs.declared.byte_order.ByteOrder.{ByteOrder}
 use Rattle.isa65.specs.declared.byte_order.ByteOrder.TheVariants.{LittleEndian, BigEndian}
 use Rattle.stmt65.specs.Digits.{digits2, hex2}
 use Rattle.stmt65.specs.SourceLine.{Datum, NumberDatum, StringDatum}
-use Rattle.stmt65.specs.Parts.{Part, Number, Text, number_of}
+use Rattle.stmt65.specs.Parts.{Part, Number, number_of}
 use Rattle.stmt65.specs.Lexing.{is_text_byte, parts}
 use Rattle.stmt65.specs.Spelling.{IsValue, IsDatum, IsList}
 use Rattle.stmt65.specs.Printed.{entry_value}
@@ -40,9 +40,7 @@ TextParts Is x text rest = Fronts (Is x) (parts (text ++ rest)) (parts rest)
 listed : {A B : Type 0} (f : A → B) (Is : B → List Part → Type 0) (text : A → List ℕ) (p : A → Bool)
     → ((x : A) → p x ≡ true → (rest : List ℕ) → Ends rest → TextParts Is (f x) (text x) rest)
     → (x : A) (xs : List A) → list_all p (x ∷ xs) ≡ true → IsList Is (map f (x ∷ xs)) (parts (text x ++ flat_map (λ y. 44 ∷ text y) xs))
-listed f Is text p each x [] h =
-    let t = each x (and_parts (p x) true h).0 [] refl in
-    rw (t.split, parts_nil, append-nil) t.is
+listed f Is text p each x [] h = grind (arith, and_parts, parts_nil, append-nil)
 listed f Is text p each x (y ∷ ys) h =
     let more = and_parts (p x) (list_all p (y ∷ ys)) h in
     let rest = text y ++ flat_map (λ y. 44 ∷ text y) ys in
@@ -170,11 +168,7 @@ cut_sound (b ∷ bs) h =
 
 each_datum : (d : Datum) → is_sound d ≡ true → (rest : List ℕ) → Ends rest → TextParts IsDatum d (datum_text d) rest
 each_datum (NumberDatum b) h rest e = each_byte b h rest e
-each_datum (StringDatum t) h rest e = record {
-  front = Text t ∷ [];
-  split = ap (λ (l : List ℕ). parts (34 ∷ l)) (append_assoc t (34 ∷ []) rest) ∙ parts_text t rest h;
-  is = refl;
-}
+each_datum (StringDatum t) h rest e = grind (arith, append_assoc, parts_text)
 
 data_listed : (d : Datum) (ds : List Datum) → list_all is_sound (d ∷ ds) ≡ true → IsList IsDatum (d ∷ ds) (parts (data_text (d ∷ ds)))
 unfolding comma_list

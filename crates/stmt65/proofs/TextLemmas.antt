@@ -10,7 +10,7 @@ use Rattle.stmt65.proofs.EntryLaws.{entry_bytes-length}
 use Rattle.stmt65.specs.Symbols.{Definition}
 use Rattle.stmt65.specs.Coding.{Fragment, Entry, entry_or_zero, fragment_len, fragment_bytes, coding_len}
 use Rattle.stmt65.specs.Meaning.{State, initial, after, fault_of, fragments_of, next_of, bytes_of, coded, meaning_of, unless, with_front}
-use Rattle.stmt65.specs.TextLaws.{Line, lines_below, names_of, IsFaultless, IsFirstFault, line_bytes, MeansBytes, MeansFault, StandsAtItsBytes}
+use Rattle.stmt65.specs.TextLaws.{Line, lines_below, IsFaultless, IsFirstFault, line_bytes, MeansBytes, MeansFault, StandsAtItsBytes}
 
 -- ---- lengths
 
@@ -96,10 +96,7 @@ bytes-coded all n s (l ∷ ls) h =
 
 pub means_bytes : MeansBytes
 unfolding meaning_of
-means_bytes start ls bytes = (
-  λ e. rw e at (means_from (names_of start ls) 1 (initial start) ls),
-  λ h. bytes-coded (names_of start ls) 1 (initial start) ls h.0 ∙ ap (λ (bs : List ℕ). Ok bs) (sym h.1),
-)
+means_bytes start ls bytes = grind (arith, means_from, bytes-coded)
 
 -- ---- the first fault
 
@@ -109,11 +106,7 @@ fault-coded : (all : List Definition) (n : ℕ) (s : State) (ls : List (Option S
 unfolding coded lines_below
 fault-coded all n s [] m kind [] below line e number fault none = cc
 fault-coded all n s [] m kind (x ∷ above) below line e number fault none = cc
-fault-coded all n s (l ∷ ls) m kind [] below line e number fault none =
-    let same : record { state = s; says = l } ≡ line = cc in
-    let here : fault_of all s l ≡ Some kind = ap (λ (x : Line). fault_of all x.state x.says) same ∙ fault in
-    let first : n ≡ m = omega arith in
-    rw (here, first) refl
+fault-coded all n s (l ∷ ls) m kind [] below line e number fault none = grind arith
 fault-coded all n s (l ∷ ls) m kind (x ∷ above) below line e number fault none =
     let same : record { state = s; says = l } ≡ x = cc in
     let rest : lines_below (after s l) ls ≡ above ++ line ∷ below = cc in
@@ -124,9 +117,4 @@ fault-coded all n s (l ∷ ls) m kind (x ∷ above) below line e number fault no
 
 pub means_fault : MeansFault
 unfolding meaning_of
-means_fault start ls n kind = (
-  λ e. let found = rw e at (means_from (names_of start ls) 1 (initial start) ls) in
-      let same : found.0 ≡ n = omega (arith, found.1) in
-      rw same at found.2,
-  λ h. fault-coded (names_of start ls) 1 (initial start) ls n kind h.above h.below h.line h.parts h.number h.fault h.none_above,
-)
+means_fault start ls n kind = grind (arith, means_from, fault-coded)
