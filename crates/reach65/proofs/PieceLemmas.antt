@@ -1,5 +1,5 @@
 -- One piece after the other.
-use Rattle.std.proofs.Common.{All, zero, suc, ◌≡◌, ◌+◌, ◌<◌, ◌≤◌, ◌∙◌, ◌&&◌, not, nat_le, nat_lt, ℕ, true, false, List, [], ◌∷◌, ◌++◌, append_assoc, arith, inl, inr, refl, subst, sym}
+use Rattle.std.proofs.Common.{All, zero, suc, ◌≡◌, ◌+◌, ◌<◌, ◌≤◌, ◌∙◌, ◌&&◌, not, nat_le, nat_lt, ℕ, true, false, List, [], ◌∷◌, ◌++◌, append_assoc, arith, inl, inr, refl, sym}
 use Rattle.std.proofs.lemmas.Bool.{and_left, and_parts, and_right, cases_lt, le-leb, leb-true, lt-leb, ltb-true, le-ltb, not-false, not_from_false, not_from_true, or_from, or_left, or_parts}
 use Rattle.std.proofs.lemmas.List.{append-nil}
 use Rattle.info65.specs.Ranges.{has_address}
@@ -49,29 +49,20 @@ piece-free g _ from end a piece low high = absurd piece
 
 -- ---- pieces in order
 
-pieces-none : (g : Ground) (from : ℕ) → ((a : ℕ) → from ≤ a → is_free g a ≡ false) → ArePieces g from []
-unfolding ArePieces
-pieces-none g from none = none
-
-pieces-more : (g : Ground) (from : ℕ) (r : RangeSpec) (later : List RangeSpec) → from ≤ r.first → ((a : ℕ) → from ≤ a → a < r.first → is_free g a ≡ false)
-    → r.first ≤ r.last → IsPiece g r.role r.first (r.last + 1) → ArePieces g (r.last + 1) later → ArePieces g from (r ∷ later)
-unfolding ArePieces
-pieces-more g from r later low before ordered piece rest = (low, before, ordered, piece, rest)
-
 -- those that were found and the next one
 pub pieces-pushed : (g : Ground) (from next : ℕ) (r : RangeSpec) (found all : List RangeSpec)
     → ((later : List RangeSpec) → ArePieces g from later → ArePieces g 0 (found ++ later)) → all ≡ found ++ r ∷ [] → next ≡ r.last + 1
     → from ≤ r.first → ((a : ℕ) → from ≤ a → a < r.first → is_free g a ≡ false) → r.first ≤ r.last → IsPiece g r.role r.first (r.last + 1)
     → (later : List RangeSpec) → ArePieces g next later → ArePieces g 0 (all ++ later)
+unfolding ArePieces
 pieces-pushed g from next r found all old is place low before ordered piece later rest =
-    rw (is, append_assoc) (old (r ∷ later) (pieces-more g from r later low before ordered piece (subst (λ n. ArePieces g n later) place rest)))
+    rw (is, append_assoc) (old (r ∷ later) (low, before, ordered, piece, rw place at rest))
 
 -- those that were found, if nothing is free after them
 pub pieces-end : (g : Ground) (from : ℕ) (found : List RangeSpec)
     → ((later : List RangeSpec) → ArePieces g from later → ArePieces g 0 (found ++ later)) → ((a : ℕ) → from ≤ a → is_free g a ≡ false) → ArePieces g 0 found
-pieces-end g from found old none =
-    let P : List RangeSpec → Type 0 = λ l. ArePieces g 0 l in
-    subst P (append-nil found) (old [] (pieces-none g from none))
+unfolding ArePieces
+pieces-end g from found old none = rw append-nil at (old [] none)
 
 -- ---- what they cover
 

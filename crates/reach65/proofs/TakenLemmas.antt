@@ -1,6 +1,7 @@
 -- Marks of addresses that are spoken for.
 use Rattle.std.proofs.Common.{◌≡◌, ◌∙◌, ◌||◌, ℕ, Bool, false, List, length, replicate, ap, arith, inl, inr}
 use Rattle.std.proofs.lemmas.List.{get_or-replicate, get_or_past, length-replicate}
+use Rattle.std.proofs.Math.Bool.{or_comm}
 use Rattle.std.proofs.lemmas.Bool.{cases_lt}
 use Rattle.map65.specs.MapView.{MapView}
 use Rattle.reach65.specs.Reached.{is_marked}
@@ -15,22 +16,19 @@ blank-false marks a is =
     ] in
     ap (λ l. is_marked l a) is ∙ none
 
-pub taken-all : (m : MapView) (reached blank given marks : List Bool) (ranges : List RangeSpec) → blank ≡ replicate 65536 false → ranges ≡ m.info.ranges → length marks ≡ 65536
-    → ((a : ℕ) → is_marked given a ≡ (is_marked blank a || is_given ranges a))
-    → ((a : ℕ) → is_marked marks a ≡ (is_marked given a || is_code m reached a))
-    → AreMarkedBy (is_taken m reached) marks
-unfolding is_taken
-taken-all m reached blank given marks ranges empty said count first second = record {
-  count = count;
-  each = λ a _.
-      let one : is_marked given a ≡ is_given m.info.ranges a = first a ∙ ap (λ b. b || is_given ranges a) (blank-false blank a empty) ∙ ap (λ l. is_given l a) said in
-      second a ∙ ap (λ b. b || is_code m reached a) one;
-}
-
-pub code-all : (m : MapView) (reached blank marks : List Bool) → blank ≡ replicate 65536 false → length marks ≡ 65536
+pub code_all : (m : MapView) (reached blank marks : List Bool) → blank ≡ replicate 65536 false → length marks ≡ 65536
     → ((a : ℕ) → is_marked marks a ≡ (is_marked blank a || is_code m reached a))
     → AreMarkedBy (is_code m reached) marks
-code-all m reached blank marks empty count each = record {
+code_all m reached blank marks empty count each = record {
   count = count;
   each = λ a _. each a ∙ ap (λ b. b || is_code m reached a) (blank-false blank a empty);
+}
+
+pub taken_all : (m : MapView) (reached code marks : List Bool) (ranges : List RangeSpec) → AreMarkedBy (is_code m reached) code → ranges ≡ m.info.ranges → length marks ≡ 65536
+    → ((a : ℕ) → is_marked marks a ≡ (is_marked code a || is_given ranges a))
+    → AreMarkedBy (is_taken m reached) marks
+unfolding is_taken
+taken_all m reached code marks ranges first said count second = record {
+  count = count;
+  each = λ a low. second a ∙ rw (first.each a low, said) (or_comm (is_code m reached a) (is_given m.info.ranges a));
 }

@@ -1,6 +1,6 @@
 //! Which addresses are spoken for.
 
-ghost use Rattle.std.specs.Prelude.{◌≡◌, ◌+◌, ◌<◌, ◌≤◌, ◌&&◌, ◌||◌, ℕ, IfOk, false, length, nat_le, nat_lt, replicate};
+ghost use Rattle.std.specs.Prelude.{◌≡◌, ◌+◌, ◌<◌, ◌≤◌, ◌&&◌, ◌||◌, ℕ, IfOk, length, nat_le, nat_lt};
 ghost use Rattle.info65.specs.Ranges.{has_address};
 ghost use Rattle.map65.specs.ImageView.{end_of};
 ghost use Rattle.reach65.specs.Reached.{is_marked};
@@ -95,15 +95,19 @@ fn mark_code<A: Allocator>(marks: &mut [bool], flow: &Flow<'_, '_, A>, reached: 
     }
 }
 
-/// Marks each address that is spoken for, where none is marked.
-#[tactic(auto, unfolding(crate::specs::Taken::is_taken))]
-fn mark_all<A: Allocator>(marks: &mut [bool], flow: &Flow<'_, '_, A>, reached: &[bool])
-    requires blank { marks.old ≡ replicate 65536 false }
-    requires reached { length reached.now ≡ 65536 }
-    ensures { AreMarkedBy (is_taken flow.now reached.now) marks.new }
+/// Marks each address that a reached instruction has. There is a mark for each address from $0000 to $FFFF. Fails only if an
+/// allocation failed.
+pub fn mark_instructions<A: Allocator, B: Allocator>(
+    alloc: A,
+    flow: &Flow<'_, '_, B>,
+    reached: &[bool],
+) -> Result<Vec<bool, A>, AllocError>
+    requires { length reached.now ≡ 65536 }
+    ensures { IfOk result (λ marks. AreMarkedBy (is_code flow.now reached.now) marks.items) }
 {
-    mark_ranges(marks, flow.map().info().ranges());
-    mark_code(marks, flow, reached);
+    let mut marks = blank_marks(alloc, ADDRESSES)?;
+    mark_code(marks.as_mut_slice(), flow, reached);
+    Ok(marks)
 }
 
 /// Marks each address that is spoken for: it belongs to a range of the information file, or to a reached instruction. There is a
@@ -117,31 +121,7 @@ pub fn mark_taken<A: Allocator, B: Allocator>(
     requires { length reached.now ≡ 65536 }
     ensures { IfOk result (λ marks. AreMarkedBy (is_taken flow.now reached.now) marks.items) }
 {
-    let mut marks = blank_marks(alloc, ADDRESSES)?;
-    mark_all(marks.as_mut_slice(), flow, reached);
-    Ok(marks)
-}
-
-/// Marks each address that a reached instruction has, where none is marked.
-fn mark_bytes<A: Allocator>(marks: &mut [bool], flow: &Flow<'_, '_, A>, reached: &[bool])
-    requires blank { marks.old ≡ replicate 65536 false }
-    requires reached { length reached.now ≡ 65536 }
-    ensures { AreMarkedBy (is_code flow.now reached.now) marks.new }
-{
-    mark_code(marks, flow, reached);
-}
-
-/// Marks each address that a reached instruction has. There is a mark for each address from $0000 to $FFFF. Fails only if an
-/// allocation failed.
-pub fn mark_instructions<A: Allocator, B: Allocator>(
-    alloc: A,
-    flow: &Flow<'_, '_, B>,
-    reached: &[bool],
-) -> Result<Vec<bool, A>, AllocError>
-    requires { length reached.now ≡ 65536 }
-    ensures { IfOk result (λ marks. AreMarkedBy (is_code flow.now reached.now) marks.items) }
-{
-    let mut marks = blank_marks(alloc, ADDRESSES)?;
-    mark_bytes(marks.as_mut_slice(), flow, reached);
+    let mut marks = mark_instructions(alloc, flow, reached)?;
+    mark_ranges(marks.as_mut_slice(), flow.map().info().ranges());
     Ok(marks)
 }

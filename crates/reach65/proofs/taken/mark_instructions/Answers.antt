@@ -1,8 +1,10 @@
-use Rattle.std.proofs.Common.{◌≡◌, false, replicate}
+use Rattle.std.proofs.Common.{◌≡◌, ◌++◌, ◌∙◌, arith, drop, length, take}
+use Rattle.std.proofs.lemmas.Grind.{common_steps}
+use Rattle.reach65.proofs.TakenLemmas.{code_all}
 use Rattle.reach65.proofs.taken.mark_instructions.Goals as goal
 
-pub mark_bytes-requires-clause-blank : goal.mark_bytes-requires-clause-blank
-mark_bytes-requires-clause-blank g c =
-    let value = c.as_mut_slice.ensures.value in
-    let blank : c.in_ok-marks.marks.items ≡ replicate 65536 false = c.in_ok-marks.ensures in
-    cc
+pub returns : goal.returns
+returns g c =
+    let new = c.mark_code.new.marks in
+    let whole : take c.in_ok-marks.marks.len (new ++ drop (length new) c.in_ok-marks.marks.items) ≡ new = grind (arith, common_steps, c.mark_code.ensures.count) in
+    rw whole (code_all c.args.flow.now c.args.reached.now c.as_mut_slice.result.now new (c.as_mut_slice.ensures.value ∙ c.in_ok-marks.ensures) c.mark_code.ensures.count c.mark_code.ensures.each)
