@@ -1,7 +1,7 @@
 -- No line ends within a comment.
 use Rattle.std.proofs.Common.{◌≡◌, ◌∙◌, ◌+◌, ◌-◌, ◌*◌, ◌/◌, ◌%◌, ◌<◌, ◌≤◌, ℕ, Bool, true, false, not, List, [], ◌∷◌, ◌++◌, ap, arith, length, map, nat_lt, refl}
 use Rattle.std.specs.Prelude.{◌==◌, ◌&&◌, ◌||◌, Option, Some, None, codes, decimal, nat_le, if◌then◌else◌}
-use Rattle.std.specs.List.{list_all, list_any}
+use Rattle.std.specs.List.{list_all, list_any, range_with_len}
 use Rattle.std.specs.Char.{digit_value, is_ascii_alphabetic}
 use Rattle.std.specs.Str.Parse.{AllDigits}
 use Rattle.std.proofs.lemmas.Bool.{and_parts, ltb-true}
@@ -15,7 +15,6 @@ use Rattle.info65.proofs.Public.{last_name}
 use Rattle.info65.specs.Names.{AreNames, blank_name, covering, name_at}
 use Rattle.info65.specs.Views.{NameView}
 use Rattle.map65.specs.MapView.{MapView}
-use Rattle.map65.specs.Spans.{addresses}
 use Rattle.reach65.specs.TextLaws.{AreLines, is_line}
 use Rattle.reach65.specs.declared.pairs.Pair.{Pair}
 use Rattle.trace65.specs.PairComments.{name_text, offset_text, pair_comment, pair_comments}
@@ -114,9 +113,9 @@ cell-line code taken = by_tests (list_all (λ b. b) code) (list_any (λ b. b) co
 row-line : (address : ℕ) (code taken : List Bool) → is_line (row_comment address code taken) ≡ true
 unfolding row_comment
 row-line address code taken =
-    let cells = map (cell_at code taken) (addresses ((length code + 63) / 64) 0) in
+    let cells = map (cell_at code taken) (range_with_len 0 ((length code + 63) / 64)) in
     joined (digits4 address) (codes " " ++ cells) (hex4-line address)
-    (mapped (cell_at code taken) (λ k. cell-line (part (64 * k) 64 code) (part (64 * k) 64 taken)) (addresses ((length code + 63) / 64) 0))
+    (mapped (cell_at code taken) (λ k. cell-line (part (64 * k) 64 code) (part (64 * k) 64 taken)) (range_with_len 0 ((length code + 63) / 64)))
 
 rows-lines : (start : ℕ) (code taken : List Bool) (ks : List ℕ) → AreLines (map (row_at start code taken) ks)
 rows-lines start code taken [] = tt
@@ -142,5 +141,5 @@ lines-end (l ∷ lines) line are is = (are.0, lines-end lines line are.1 is)
 pub picture-lines : (start : ℕ) (code taken : List Bool) → length code ≤ 65536 → length taken ≤ 65536 → AreLines (picture_comments start code taken ++ counts_comment code taken ∷ [])
 unfolding picture_comments
 picture-lines start code taken few few_too =
-    lines-end (map (row_at start code taken) (addresses ((length code + 1023) / 1024) 0)) (counts_comment code taken)
-    (rows-lines start code taken (addresses ((length code + 1023) / 1024) 0)) (counts-line code taken few few_too)
+    lines-end (map (row_at start code taken) (range_with_len 0 ((length code + 1023) / 1024))) (counts_comment code taken)
+    (rows-lines start code taken (range_with_len 0 ((length code + 1023) / 1024))) (counts-line code taken few few_too)

@@ -4,7 +4,6 @@ use Rattle.std.specs.Prelude.{codes}
 use Rattle.info65.specs.Names.{covering, covering_below}
 use Rattle.info65.specs.Views.{default_settings}
 use Rattle.map65.specs.MapView.{MapView}
-use Rattle.map65.specs.Spans.{addresses}
 use Rattle.trace65.specs.PairComments.{name_text, offset_text, pair_comment}
 use Rattle.trace65.specs.Picture.{cell_character, picture_comments, row_comment}
 
@@ -29,17 +28,17 @@ unfolding pair_comment name_text offset_text covering covering_below
 unnamed = refl
 
 whole : picture_comments 0x1000 (true ∷ true ∷ []) (true ∷ true ∷ []) ≡ codes " $1000 #" ∷ []
-unfolding picture_comments row_comment cell_character addresses
+unfolding picture_comments row_comment cell_character
 whole = refl
 
 partly : picture_comments 0xFF00 (true ∷ false ∷ []) (true ∷ true ∷ []) ≡ codes " $FF00 +" ∷ []
-unfolding picture_comments row_comment cell_character addresses
+unfolding picture_comments row_comment cell_character
 partly = refl
 
 in_range : picture_comments 0x1000 (false ∷ false ∷ []) (false ∷ true ∷ []) ≡ codes " $1000 r" ∷ []
-unfolding picture_comments row_comment cell_character addresses
+unfolding picture_comments row_comment cell_character
 in_range = refl
 
 neither : picture_comments 0x1000 (false ∷ []) (false ∷ []) ≡ codes " $1000 ." ∷ []
-unfolding picture_comments row_comment cell_character addresses
+unfolding picture_comments row_comment cell_character
 neither = refl

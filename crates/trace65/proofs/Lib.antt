@@ -2,5 +2,4 @@ mod CommandLemmas
 mod AppendLemmas
 mod CommentLemmas
 mod CommentRows
-mod PictureLemmas
 mod ReportLemmas

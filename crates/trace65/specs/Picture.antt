@@ -2,10 +2,9 @@
 --
 -- Each byte has two marks: whether a reached instruction has it, and whether that or a range of the information file has it.
 use Rattle.std.specs.Prelude.{ℕ, ◌+◌, ◌-◌, ◌*◌, ◌/◌, Bool, List, ◌++◌, codes, decimal, drop, length, map, take, if◌then◌else◌}
-use Rattle.std.specs.List.{count_by, list_all, list_any}
+use Rattle.std.specs.List.{count_by, list_all, list_any, range_with_len}
 use Rattle.text65.specs.Digits.{digits4}
 use Rattle.map65.specs.ImageView.{ImageView}
-use Rattle.map65.specs.Spans.{addresses}
 
 -- this many elements, from one on
 abbrev pub part : {A : Type 0} → ℕ → ℕ → List A → List A
@@ -32,7 +31,7 @@ cell_at code taken k = cell_character (part (64 * k) 64 code) (part (64 * k) 64 
 -- ` $hhhh `, and a character for 64 bytes, the last one for those that are left
 unfoldable pub row_comment : ℕ → List Bool → List Bool → List ℕ
 row_comment address code taken =
-    codes " $" ++ digits4 address ++ codes " " ++ map (cell_at code taken) (addresses ((length code + 63) / 64) 0)
+    codes " $" ++ digits4 address ++ codes " " ++ map (cell_at code taken) (range_with_len 0 ((length code + 63) / 64))
 
 -- the k-th line, for 1024 bytes
 abbrev pub row_at : ℕ → List Bool → List Bool → ℕ → List ℕ
@@ -40,7 +39,7 @@ row_at start code taken k = row_comment (start + 1024 * k) (part (1024 * k) 1024
 
 -- a line for 1024 bytes, the last one for those that are left
 unfoldable pub picture_comments : ℕ → List Bool → List Bool → List (List ℕ)
-picture_comments start code taken = map (row_at start code taken) (addresses ((length code + 1023) / 1024) 0)
+picture_comments start code taken = map (row_at start code taken) (range_with_len 0 ((length code + 1023) / 1024))
 
 -- ---- the counts
 

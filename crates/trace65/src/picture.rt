@@ -1,8 +1,7 @@
 //! A picture of an image: a character for 64 bytes, and the counts of its bytes.
 
 ghost use Rattle.std.specs.Prelude.{◌≡◌, ◌+◌, ◌/◌, ◌++◌, ◌≤◌, OnOk, flat_map, length, map};
-ghost use Rattle.std.specs.List.{list_all, list_any};
-ghost use Rattle.map65.specs.Spans.{addresses};
+ghost use Rattle.std.specs.List.{list_all, list_any, range_with_len};
 ghost use Rattle.reach65.specs.TextLaws.{comment_line};
 ghost use Rattle.trace65.specs.Picture.{cell_at, cell_character, counts_comment, image_marks, picture_comments, row_comment, set_count};
 
@@ -56,7 +55,7 @@ fn cell_character(code: &[bool], taken: &[bool]) -> u8
 /// Appends the characters of a line.
 fn put_cells(out: &mut Vec<u8>, code: &[bool], taken: &[bool]) -> Result<(), AllocError>
     requires { length code.now ≤ 65536 }
-    ensures { OnOk result (out.new.items ≡ out.old.items ++ map (cell_at code.now taken.now) (addresses ((length code.now + 63) / 64) 0)) }
+    ensures { OnOk result (out.new.items ≡ out.old.items ++ map (cell_at code.now taken.now) (range_with_len 0 ((length code.now + 63) / 64))) }
 {
     'cells: for k in 0..(code.len() + (CELL - 1)) / CELL {
         let at = CELL * k;
