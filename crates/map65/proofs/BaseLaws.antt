@@ -1,13 +1,11 @@
 -- The laws of base names.
-use Rattle.std.proofs.Common.{◌≡◌, ◌∙◌, ◌⊎◌, inl, inr, ℕ, ◌/◌, ◌%◌, ◌<◌, ◌≤◌, ◌&&◌, ◌||◌, Bool, true, false, not, List, Option, Some, None, length, get_or, nat_lt, refl, ap, ap₂, sym, subst, arith, ⊎_elim}
-use Rattle.std.specs.Str.{bytes_eq}
+use Rattle.std.proofs.Common.{◌≡◌, ◌∙◌, ◌⊎◌, inl, inr, ℕ, ◌<◌, ◌≤◌, ◌&&◌, ◌||◌, Bool, true, false, not, List, Option, Some, None, length, nat_lt, refl, ap, ap₂, sym, arith, ⊎_elim}
 use Rattle.std.proofs.lemmas.Slice.Eq.{bytes_eq-Decides}
-use Rattle.std.proofs.lemmas.Bool.{and_from, both_ways, cases_Bool, cases_eq, cases_lt, eq-eqb, false_from_ne_true, false≢true, ne_eqb}
+use Rattle.std.proofs.lemmas.Bool.{and_from, both_ways, cases_eq, eq-eqb, false_from_ne_true, false≢true, ne_eqb}
 use Rattle.std.proofs.lemmas.Bool.Decides.{nat_tests}
 use Rattle.text65.specs.Digits.{hex_digit}
-use Rattle.text65.specs.Names.{is_reserved_word}
 use Rattle.info65.proofs.Public.{last_name, layout_some, own_address_wins, like_default}
-use Rattle.info65.specs.Names.{AreNames, blank_name, covering, default_name, is_like_default, is_reserved, name_at}
+use Rattle.info65.specs.Names.{AreNames, blank_name, covering, default_name, is_reserved, name_at}
 use Rattle.info65.specs.Views.{NameView}
 use Rattle.info65.specs.declared.information.range.RangeType.{RangeType}
 use Rattle.info65.specs.declared.information.range.RangeType.TheVariants.{Code}
@@ -54,8 +52,7 @@ from-name m a at b v low covers_it is =
 
 from-entry_start : (m : MapView) (a : ℕ) (b : Base) → is_referenced m a ≡ true → entry_base m a ≡ b → (o : Option NameView) → covering m.info.names (entry_start m a) ≡ o → FromName m a b ⊎ FromAddress m a b
 from-entry_start m a b referenced is (Some v) covers_it = inl (from-name m a (entry_start m a) b v (entry_start-low m a) covers_it (sym (entry_start-given m a v covers_it) ∙ is))
-from-entry_start m a b referenced is None none =
-    inr (subst (FromAddress m a) (sym (entry_start-default m a none) ∙ is) (record { low = entry_start-low m a; none = none; referenced = entry_start-referenced m a referenced; start_is = entry_start-entry_start m a; text = refl }))
+from-entry_start m a b referenced is None none = grind (arith, entry_start-default, entry_start-low, entry_start-referenced, entry_start-entry_start)
 
 from : (m : MapView) (a : ℕ) (b : Base) (o : Option NameView) (w : Bool) → covering m.info.names a ≡ o → is_referenced m a ≡ w → base_by o w (entry_base m a) ≡ Some b → FromName m a b ⊎ FromAddress m a b
 from m a b (Some v) w covers_it referenced is = inl (from-name m a a b v (omega arith) covers_it (some-base _ b is))
@@ -92,12 +89,7 @@ digit-same a b low also_low is = grind (arith, nat_tests)
 
 pub default-same : (u v : ℕ) → u < 65536 → v < 65536 → default_name u ≡ default_name v → u ≡ v
 unfolding default_name
-default-same u v low also_low is =
-    let first = digit-same (u / 4096 % 16) (v / 4096 % 16) (omega arith) (omega arith) (ap (λ (l : List ℕ). get_or l 1 0) is) in
-    let second = digit-same (u / 256 % 16) (v / 256 % 16) (omega arith) (omega arith) (ap (λ (l : List ℕ). get_or l 2 0) is) in
-    let third = digit-same (u / 16 % 16) (v / 16 % 16) (omega arith) (omega arith) (ap (λ (l : List ℕ). get_or l 3 0) is) in
-    let fourth = digit-same (u % 16) (v % 16) (omega arith) (omega arith) (ap (λ (l : List ℕ). get_or l 4 0) is) in
-    omega (arith, first, second, third, fourth)
+default-same u v low also_low is = grind (arith, digit-same)
 
 or-last : (p q r : Bool) → (p || (q && not r)) ≡ false → q ≡ true → r ≡ true
 or-last true q r is like = absurd (false≢true (sym is))
@@ -108,26 +100,14 @@ or-last false false r is like = absurd (false≢true like)
 -- a name of the form of a default name stands for its own address
 reserved-same : (address v : ℕ) (text : List ℕ) → address < 65536 → v < 65536 → is_reserved address text ≡ false → text ≡ default_name v → address ≡ v
 unfolding is_reserved
-reserved-same address v text low also_low unreserved is =
-    let own = or-last (is_reserved_word text) (is_like_default text) (bytes_eq text (default_name address)) unreserved (ap is_like_default is ∙ like_default v) in
-    default-same address v low also_low (sym ((bytes_eq-Decides text (default_name address)).0 own) ∙ is)
+reserved-same address v text low also_low unreserved is = grind (arith, or-last, like_default, default-same, bytes_eq-Decides)
 
 same-name : (names : List NameView) → AreNames names → (i j : ℕ) → i < length names → j < length names → (name_at names i).text ≡ (name_at names j).text → name_at names i ≡ name_at names j
-same-name names are i j low also_low is =
-    ⊎_elim
-    (λ same. ap (name_at names) same)
-    (λ other.
-    ⊎_elim
-    (λ below. absurd (are.distinct i j blank_name below also_low is))
-    (λ above. absurd (are.distinct j i blank_name (omega (arith, above, other)) low (sym is)))
-    (cases_lt i j))
-    (cases_eq i j)
+same-name names are i j low also_low is = grind arith
 
 -- a name that is given is not the default name of another address
 name-default : (m : MapView) (a c : ℕ) (b d : Base) → AreNames m.info.names → c < 65536 → FromName m a b → FromAddress m c d → b.text ≡ d.text → b.address ≡ d.address
-name-default m a c b d are low n f is =
-    let v = are.each n.index blank_name n.bound in
-    n.address ∙ reserved-same (name_at m.info.names n.index).address d.address (name_at m.info.names n.index).text (omega (arith, v.room, v.sized)) (omega (arith, f.low, low)) v.free (sym n.text ∙ is ∙ f.text)
+name-default m a c b d are low n f is = grind (arith, reserved-same)
 
 name-name : (m : MapView) (a c : ℕ) (b d : Base) → AreNames m.info.names → FromName m a b → FromName m c d → b.text ≡ d.text → b.address ≡ d.address
 name-name m a c b d are n o is = n.address ∙ ap (λ (v : NameView). v.address) (same-name m.info.names are n.index o.index n.bound o.bound (sym n.text ∙ is ∙ o.text)) ∙ sym o.address
@@ -197,17 +177,7 @@ in-code m n inside shown none narrow =
 -- its place says where it lies
 lies : (m : MapView) (n : ℕ) → IsFree m n → LiesBy (place_of m n) m n
 unfolding place_of role_at
-lies m n unhidden = elim (cases_Bool (is_inside m.image n)) [
-  | inl inside ↦ elim (cases_Bool (is_skip (role_of m.info n))) [
-    | inl skip ↦ rw (inside, skip) (inr skip)
-    | inr shown ↦ elim (cases_eq (item_len m n) 0) [
-      | inl none ↦ (let narrow = false_from_ne_true (is_wide (role_of m.info n)) (λ wide. absurd (omega (arith, none, unhidden inside wide))) in
-          rw (inside, shown, eq-eqb (item_len m n) 0 none) (in-code m n inside shown none narrow))
-      | inr some ↦ rw (inside, shown, ne_eqb (item_len m n) 0 some) (omega (arith, some))
-    ]
-  ]
-  | inr out ↦ rw out (inl out)
-]
+lies m n unhidden = grind (arith, false_from_ne_true, eq-eqb, in-code, ne_eqb)
 
 pub place_law : (m : MapView) → PlaceLaw m
 place_law m a b is = lies m b.address (base-free m a b is)

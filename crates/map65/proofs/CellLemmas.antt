@@ -1,6 +1,6 @@
 -- Cells, address by address.
-use Rattle.std.proofs.Common.{◌≡◌, ◌≢◌, ◌∙◌, ℕ, ◌/◌, ◌%◌, ◌<◌, Bool, true, false, List, Option, Some, None, length, get_or, set, refl, ap, sym, subst, arith, ⊎_elim}
-use Rattle.std.proofs.lemmas.Bool.{cases_eq, eq-eqb, ne_eqb}
+use Rattle.std.proofs.Common.{◌≡◌, ◌≢◌, ◌∙◌, ℕ, ◌/◌, ◌%◌, ◌<◌, Bool, true, false, List, Option, Some, None, length, get_or, set, refl, ap, arith}
+use Rattle.std.proofs.lemmas.Bool.{eq-eqb, ne_eqb}
 use Rattle.std.proofs.lemmas.List.{get_or-set_other, get_or-set_same}
 use Rattle.info65.specs.declared.information.range.RangeType.{RangeType}
 use Rattle.info65.specs.declared.information.range.RangeType.TheVariants.{Code}
@@ -37,10 +37,7 @@ unfolding cell_of
 cell-small r n small = omega (arith, code-small r)
 
 pub cell_law : CellLaw
-cell_law r n small =
-    let low : cell_of r n < 128 = cell-small r n small in
-    let whole : cell_of r n % 128 ≡ cell_of r n = omega (arith, low) in
-    record { role = cell-role (cell_of r n) r n small whole; len = cell-len (cell_of r n) r n small whole; rest = omega (arith, low) }
+cell_law r n small = grind (arith, cell-small, cell-role, cell-len)
 
 pub cell-wide : (c : ℕ) (r : Option RangeType) (n : ℕ) → n < 8 → c % 128 ≡ cell_of r n → is_wide_cell c ≡ is_wide_role r
 cell-wide c r n small is = ap is_wide_role (cell-role c r n small is)
@@ -95,8 +92,4 @@ named-as p q cells same named = record { each = λ a room. named.each a room ∙
 
 -- what holds of each cell after one was set: it holds of that one, and of the others as they were
 pub set-cell : (P : ℕ → ℕ → Type 0) (cells : List ℕ) (n c : ℕ) → n < length cells → P n c → ((a : ℕ) → a < 65536 → a ≢ n → P a (get_or cells a 0)) → (a : ℕ) → a < 65536 → P a (get_or (set cells n c) a 0)
-set-cell P cells n c room here others a below =
-    ⊎_elim
-    (λ same. subst (λ (x : ℕ). P x (get_or (set cells n c) x 0)) (sym same) (subst (P n) (sym (get_or-set_same cells n c 0 room)) here))
-    (λ other. subst (P a) (sym (get_or-set_other cells n a c 0 other)) (others a below other))
-    (cases_eq a n)
+set-cell P cells n c room here others a below = grind (arith, get_or-set_same, get_or-set_other)

@@ -20,9 +20,7 @@ pub record Begun (m : MapView) (a : ℕ) : Type 0 where
 
 item-test : (m : MapView) (a : ℕ) → 0 < item_len m a → (is_inside m.image a && (not (is_skip (role_of m.info a)) && item_start m a == a)) ≡ true
 unfolding item_len
-item-test m a some =
-    let test : Bool = is_inside m.image a && (not (is_skip (role_of m.info a)) && item_start m a == a) in
-    cond_both test (size_at m a) 0 (λ n. 0 < n → test ≡ true) (λ is _. is) (λ _ none. absurd (omega (arith, none))) some
+item-test m a some = grind (arith, Bool, cond_both)
 
 pub begun : (m : MapView) (a : ℕ) → 0 < item_len m a → Begun m a
 begun m a some =
@@ -73,16 +71,7 @@ item-then m (suc a) some =
     record { inside = is.inside; shown = is.shown; place = ⊎_elim (λ joined. inr (ends-before m a is joined)) (λ apart. inl (inr apart)) (cases_Bool (is_joined m (suc a))) }
 
 item-if : (m : MapView) (a : ℕ) → CanBegin m (item_len m) a → 0 < item_len m a
-item-if m a is =
-    let own : item_start m a ≡ a =
-    ⊎_elim
-    (λ first. item_start-apart m a (⊎_elim (λ same. start-apart m a same) (λ apart. apart) first))
-    (λ past.
-    let before = begun m past.item past.begins in
-    let place : past.item + size_at m past.item ≡ a = omega (arith, before.len, past.ends) in
-    sym (ap (item_start m) place) ∙ item_start-after m past.item before.own ∙ place)
-    is.place in
-    omega (arith, item-len-own m a is.inside is.shown own, size-positive m a)
+item-if m a is = grind (arith, item_start-apart, start-apart, begun, item_start-after, item-len-own, size-positive)
 
 -- ---- how long it is
 
@@ -94,59 +83,29 @@ piece-joined m (suc n) a piece =
 
 pub size-whole : (m : MapView) (a : ℕ) → AreOnePiece m a (a + full_len_at m a - 1) → size_at m a ≡ full_len_at m a
 unfolding size_at
-size-whole m a piece =
-    cond-true _ (full_len_at m a) 1 (piece-joined m (full_len_at m a - 1) a (λ x low high. piece x low (omega (arith, high, full_len-is m a))))
+size-whole m a piece = grind (arith, cond-true, piece-joined, full_len-is)
 
 pub size-cut : (m : MapView) (a : ℕ) → (AreOnePiece m a (a + full_len_at m a - 1) → ⊥) → size_at m a ≡ 1
 unfolding size_at
-size-cut m a apart =
-    cond_both (are_joined m (full_len_at m a - 1) a) (full_len_at m a) 1 (λ (n : ℕ). n ≡ 1)
-    (λ are. absurd (apart (λ x low high. joined-piece m (full_len_at m a - 1) a are x low (omega (arith, high, full_len-is m a)))))
-    (λ _. refl)
+size-cut m a apart = grind (arith, cond_both, joined-piece, full_len-is)
 
 counted : (m : MapView) → AreItems m (item_len m)
-counted m = record {
-  begins = λ a. (item-then m a, item-if m a);
-  whole = λ a some piece. (begun m a some).len ∙ size-whole m a piece;
-  cut = λ a some apart. (begun m a some).len ∙ size-cut m a apart;
-}
+counted m = grind (arith, item-then, item-if, begun, size-whole, size-cut)
 
 -- ---- no others
 
 -- an item that one of two lengths has before the address, the other has too
 moved-end : (m : MapView) (len other : ℕ → ℕ) (a : ℕ) → ((b : ℕ) → b < a → len b ≡ other b) → EndsBefore m len a → EndsBefore m other a
-moved-end m len other a same e =
-    let here : len e.item ≡ other e.item = same e.item (omega (arith, e.begins, e.ends)) in
-    record { item = e.item; begins = omega (arith, e.begins, here); ends = omega (arith, e.ends, here); piece = e.piece }
+moved-end m len other a same e = grind arith
 
 moved : (m : MapView) (len other : ℕ → ℕ) (a : ℕ) → ((b : ℕ) → b < a → len b ≡ other b) → CanBegin m len a → CanBegin m other a
-moved m len other a same is = record {
-  inside = is.inside;
-  shown = is.shown;
-  place = ⊎_elim (λ first. inl first) (λ after. inr (moved-end m len other a same after)) is.place;
-}
+moved m len other a same is = grind (arith, moved-end)
 
 same-size : (m : MapView) (len other : ℕ → ℕ) → AreItems m len → AreItems m other → (a : ℕ) → 0 < len a → 0 < other a → len a ≡ other a
-same-size m len other are are_too a some some_too =
-    ⊎_elim
-    (λ joined.
-    let piece : AreOnePiece m a (a + full_len_at m a - 1) = λ x low high. joined-piece m (full_len_at m a - 1) a joined x low (omega (arith, high, full_len-is m a)) in
-    are.whole a some piece ∙ sym (are_too.whole a some_too piece))
-    (λ apart.
-    let cut : AreOnePiece m a (a + full_len_at m a - 1) → ⊥ = λ piece. both_ways (are_joined m (full_len_at m a - 1) a) apart (piece-joined m (full_len_at m a - 1) a (λ x low high. piece x low (omega (arith, high, full_len-is m a)))) in
-    are.cut a some cut ∙ sym (are_too.cut a some_too cut))
-    (cases_Bool (are_joined m (full_len_at m a - 1) a))
+same-size m len other are are_too a some some_too = grind (arith, joined-piece, full_len-is, both_ways, piece-joined)
 
 same-len : (m : MapView) (len other : ℕ → ℕ) → AreItems m len → AreItems m other → (a : ℕ) → ((b : ℕ) → b < a → len b ≡ other b) → len a ≡ other a
-same-len m len other are are_too a same =
-    ⊎_elim
-    (λ none.
-    ⊎_elim
-    (λ none_too. none ∙ sym none_too)
-    (λ some_too. absurd (omega (arith, none, (are.begins a).1 (moved m other len a (λ b below. sym (same b below)) ((are_too.begins a).0 (omega (arith, some_too)))))))
-    (cases_eq (other a) 0))
-    (λ some. same-size m len other are are_too a (omega (arith, some)) ((are_too.begins a).1 (moved m len other a same ((are.begins a).0 (omega (arith, some))))))
-    (cases_eq (len a) 0)
+same-len m len other are are_too a same = grind (arith, moved, same-size)
 
 same-below : (m : MapView) (len other : ℕ → ℕ) → AreItems m len → AreItems m other → (n a : ℕ) → a < n → len a ≡ other a
 same-below m len other are are_too zero a below = absurd (omega arith)

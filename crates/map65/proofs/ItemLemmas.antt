@@ -5,14 +5,13 @@ use denote.Enum.Bare.{same_true, true_same}
 use Rattle.isa65.proofs.ModeLaws.{len-positive, len-small}
 use Rattle.isa65.specs.declared.op.Op.{Op}
 use Rattle.isa65.specs.Opcodes.{decoded}
-use Rattle.info65.specs.contracts.information.range.RangeType as range_type
 use Rattle.info65.specs.declared.information.range.RangeType.{RangeType}
 use Rattle.info65.specs.declared.information.range.RangeType.TheVariants.{Code, Skip}
 use Rattle.map65.specs.ImageView.{byte_at, end_of, is_inside}
-use Rattle.map65.specs.Items.{code_size, item_len, item_start, size_at, size_for, full_len_at, start_over}
+use Rattle.map65.specs.Items.{code_size, item_len, item_start, size_at, size_for, full_len_at}
 use Rattle.map65.specs.MapView.{MapView, opcodes}
 use Rattle.map65.specs.Pieces.{AreOnePiece, AreOneRun, are_joined, is_in_run, is_joined, is_own}
-use Rattle.map65.specs.Roles.{is_role, is_skip, is_wide, role_of}
+use Rattle.map65.specs.Roles.{is_skip, is_wide, role_of}
 use Rattle.map65.specs.Segments.{is_border}
 use Rattle.map65.specs.Spans.{left_at}
 
@@ -27,23 +26,11 @@ pub record InRun (m : MapView) (a : ℕ) : Type 0 where
 
 pub in-run : (m : MapView) (a : ℕ) → is_in_run m a ≡ true → InRun m a
 unfolding is_in_run
-in-run m a is =
-    let alike : Bool = is_role (role_of m.info (a - 1)) (role_of m.info a) in
-    let unbroken : Bool = not (is_border m.info.segments a) in
-    let first = and_parts (nat_lt m.image.start a) (nat_lt a (end_of m.image) && (alike && unbroken)) is in
-    let second = and_parts (nat_lt a (end_of m.image)) (alike && unbroken) first.1 in
-    let third = and_parts alike unbroken second.1 in
-    record {
-      low = ltb-true m.image.start a first.0;
-      high = ltb-true a (end_of m.image) second.0;
-      same = same_true range_type.the_type tt (role_of m.info (a - 1)) (role_of m.info a) third.0;
-      unbroken = not-true (is_border m.info.segments a) third.1;
-    }
+in-run m a is = grind (arith, Bool, and_parts, nat_lt, ltb-true, not-true)
 
 pub run-if : (m : MapView) (a : ℕ) → InRun m a → is_in_run m a ≡ true
 unfolding is_in_run
-run-if m a here =
-    and_from _ _ (lt-ltb m.image.start a here.low) (and_from _ _ (lt-ltb a (end_of m.image) here.high) (and_from _ _ (true_same range_type.the_type (role_of m.info (a - 1)) (role_of m.info a) here.same) (ap not here.unbroken)))
+run-if m a here = grind (arith, and_from, lt-ltb)
 
 -- a given name cuts the run before the address
 abbrev pub is_cut_at : MapView → ℕ → Bool
@@ -137,8 +124,7 @@ skip-size m a skip = one-size m a (size_for-skip m (role_of m.info a) (byte_at m
 
 size-joined : (m : MapView) (a : ℕ) → are_joined m (size_at m a - 1) a ≡ true
 unfolding size_at are_joined
-size-joined m a =
-    cond_both (are_joined m (full_len_at m a - 1) a) (full_len_at m a) 1 (λ n. are_joined m (n - 1) a ≡ true) (λ are. are) (λ _. refl)
+size-joined m a = grind (arith, cond_both)
 
 -- the bytes of an item lie in one piece
 pub size-one-piece : (m : MapView) (a : ℕ) → AreOnePiece m a (a + size_at m a - 1)
@@ -196,8 +182,7 @@ item_start-apart m (suc a) apart = cond-false (is_joined m (suc a)) _ _ apart
 -- where the item before ends
 item_start-past : (m : MapView) (a : ℕ) → item_start m a + size_at m (item_start m a) ≤ suc a → item_start m (suc a) ≡ suc a
 unfolding item_start
-item_start-past m a past =
-    cond_both (is_joined m (suc a)) (start_over m (item_start m a) (suc a)) (suc a) (λ n. n ≡ suc a) (λ _. cond-false _ _ _ (le-ltb (suc a) _ past)) (λ _. refl)
+item_start-past m a past = grind (arith, cond_both, cond-false, le-ltb)
 
 -- at a further byte
 pub item_start-further : (m : MapView) (a : ℕ) → suc a < item_start m a + size_at m (item_start m a) → is_joined m (suc a) ≡ true → item_start m (suc a) ≡ item_start m a
@@ -266,9 +251,7 @@ pub record IsWithin (m : MapView) (a : ℕ) : Type 0 where
   pub high : a < end_of m.image
 
 pub within : (m : MapView) (a : ℕ) → is_inside m.image a ≡ true → IsWithin m a
-within m a inside =
-    let parts = and_parts (nat_le m.image.start a) (nat_lt a (end_of m.image)) inside in
-    record { low = leb-true m.image.start a parts.0; high = ltb-true a (end_of m.image) parts.1 }
+within m a inside = grind (arith, and_parts, nat_le, nat_lt, leb-true, ltb-true)
 
 pub inside-index : (m : MapView) (k : ℕ) → k < length m.image.bytes → is_inside m.image (m.image.start + k) ≡ true
 inside-index m k low = and_from _ _ (le-leb m.image.start (m.image.start + k) (omega arith)) (lt-ltb (m.image.start + k) (end_of m.image) (omega arith))

@@ -1,5 +1,5 @@
 -- Items that are marked in cells.
-use Rattle.std.proofs.Common.{◌≡◌, ◌≢◌, ◌∙◌, ℕ, ◌+◌, ◌-◌, ◌/◌, ◌%◌, ◌<◌, ◌≤◌, ◌&&◌, ◌==◌, nat_lt, not, Bool, true, false, Option, Some, List, length, get_or, set, ap, ap₂, sym, arith, ⊎_elim}
+use Rattle.std.proofs.Common.{◌≡◌, ◌≢◌, ◌∙◌, ℕ, ◌+◌, ◌-◌, ◌/◌, ◌%◌, ◌<◌, ◌≤◌, ◌&&◌, nat_lt, not, Bool, true, false, Option, Some, List, length, get_or, set, ap, ap₂, sym, arith, ⊎_elim}
 use Rattle.std.proofs.Math.Bool.{and_comm}
 use Rattle.std.proofs.Math.ListN.{length-set}
 use Rattle.std.proofs.lemmas.Bool.{and_parts, and_from, cases_eq, cases_lt, cond_both, false≢true, lt-ltb, ltb-true, not-true}
@@ -12,7 +12,7 @@ use Rattle.map65.proofs.RunLemmas.{plain-code, role_at-inside, run-cells, some-s
 use Rattle.map65.specs.Code.Cells.{AreNamed, IsLaid, are_one_run, cell_of, is_cut, is_wide_cell, is_wide_role, lay_at, role_in_cell, with_len}
 use Rattle.map65.specs.Cells.{bit}
 use Rattle.map65.specs.Code.Marking.{AreMarkedBelow, is_joined_in}
-use Rattle.map65.specs.ImageView.{end_of, is_inside}
+use Rattle.map65.specs.ImageView.{end_of}
 use Rattle.map65.specs.Items.{item_len, item_start, size_at}
 use Rattle.map65.specs.MapView.{MapView}
 use Rattle.map65.specs.Pieces.{is_in_run, is_joined, is_own}
@@ -23,10 +23,7 @@ use Rattle.map65.specs.Segments.{is_border}
 
 -- a cell without a length holds its role
 pub role-known : (m : MapView) (a at : ℕ) (cells : List ℕ) (o : Option RangeType) → at ≡ a → m.image.start ≤ a → a < end_of m.image → a < 65536 → AreMarkedBelow m a cells → o ≡ role_in_cell (get_or cells at 0) → o ≡ Some (role_of m.info a)
-role-known m a at cells o place low high room old says =
-    let cell : get_or cells at 0 % 128 ≡ cell_of (role_at m a) 0 = ap (λ (k : ℕ). get_or cells k 0 % 128) place ∙ old.plain a room (omega arith) in
-    let role : role_in_cell (get_or cells at 0) ≡ role_at m a = cell-role (get_or cells at 0) (role_at m a) 0 (omega arith) cell in
-    says ∙ role ∙ role_at-inside m a low high
+role-known m a at cells o place low high room old says = grind (arith, cell-role, role_at-inside)
 
 pub role-here : (m : MapView) (a at : ℕ) (cells : List ℕ) (o : Option RangeType) (r : RangeType) → at ≡ a → m.image.start ≤ a → a < end_of m.image → a < 65536 → AreMarkedBelow m a cells → o ≡ role_in_cell (get_or cells at 0) → o ≡ Some r → r ≡ role_of m.info a
 role-here m a at cells o r place low high room old says is = some-same r (role_of m.info a) (sym is ∙ role-known m a at cells o place low high room old says)
@@ -75,8 +72,7 @@ joined-answer m n a at cells answer b place old own room low after high says is 
 
 pub item-small : (m : MapView) (a : ℕ) → item_len m a ≤ 4
 unfolding item_len
-item-small m a =
-    cond_both (is_inside m.image a && (not (is_skip (role_of m.info a)) && item_start m a == a)) (size_at m a) 0 (λ n. n ≤ 4) (λ _. (size-is m a).1) (λ _. omega arith)
+item-small m a = grind (arith, cond_both, size-is)
 
 -- an item ends in the image
 pub item-fits : (m : MapView) (a : ℕ) → 0 < item_len m a → a + item_len m a ≤ end_of m.image
@@ -165,20 +161,7 @@ pub first-begins : (m : MapView) (n : ℕ) → n ≡ m.image.start → item_star
 first-begins m n is = item_start-apart m n (start-apart m n is)
 
 pub marked-none : (m : MapView) (n : ℕ) (cells : List ℕ) → n ≡ m.image.start → AreMarkedBelow m 0 cells → AreMarkedBelow m n cells
-marked-none m n cells is old = record {
-  count = old.count;
-  marked = λ a below before. old.plain a below (omega arith) ∙ sym (ap (cell_of (role_at m a)) (no-item m a (λ b. omega (arith, is, before, b.low))));
-  plain = λ a below after. old.plain a below (omega arith);
-  borders = old.borders;
-}
+marked-none m n cells is old = grind (arith, no-item)
 
 pub all-marked : (m : MapView) (n : ℕ) (cells : List ℕ) → end_of m.image ≤ n → AreMarkedBelow m n cells → IsLaid m cells
-all-marked m n cells past old = record {
-  count = old.count;
-  borders = old.borders;
-  each = λ a below.
-      ⊎_elim
-      (λ before. old.marked a below before)
-      (λ after. old.plain a below after ∙ sym (ap (cell_of (role_at m a)) (no-item m a (λ b. omega (arith, past, after, b.high)))))
-      (cases_lt a n);
-}
+all-marked m n cells past old = grind (arith, no-item)

@@ -1,5 +1,5 @@
 -- The laws of targets and names.
-use Rattle.std.proofs.Common.{◌≡◌, ◌∙◌, ◌⊎◌, inl, inr, ℕ, ◌+◌, ◌-◌, ◌<◌, ◌&&◌, ◌==◌, Bool, true, false, List, Option, Some, None, length, get_or, refl, ap, sym, subst, arith, ⊎_elim}
+use Rattle.std.proofs.Common.{◌≡◌, ◌∙◌, ◌⊎◌, inl, inr, ℕ, ◌+◌, ◌-◌, ◌<◌, ◌&&◌, ◌==◌, Bool, true, false, List, Option, Some, None, length, get_or, refl, ap, sym, arith, ⊎_elim}
 use Rattle.std.proofs.lemmas.Bool.{and_from, and_parts, both_ways, cases_Bool, cases_eq, cases_lt, eq-eqb, eqb-true, false≢true, or_cases, or_left, or_right}
 use Rattle.std.proofs.lemmas.List.Folds.{Any-from_list_any, list_any_at}
 use Rattle.info65.specs.Names.{AreNames, blank_name, covering, covers, name_at}
@@ -46,11 +46,7 @@ entry_start-inner m a first i =
 
 -- the first byte of an item is its own entry start
 pub entry_start-item : (m : MapView) (a : ℕ) → 0 < item_len m a → entry_start m a ≡ a
-entry_start-item m a begins =
-    ⊎_elim
-    (λ is. entry_start-wide m a is ∙ (begun m a begins).own)
-    (λ is. entry_start-narrow m a is)
-    (cases_Bool (is_inside m.image a && is_wide (role_of m.info a)))
+entry_start-item m a begins = grind (arith, entry_start-wide, begun, entry_start-narrow)
 
 -- an address is its own entry start, or lies inside an item
 pub entry_start-cases : (m : MapView) (a : ℕ) → (entry_start m a ≡ a) ⊎ ((first : ℕ) × IsInner m a first)
@@ -73,29 +69,17 @@ entry_start_law m = record { inner = entry_start-inner m; other = entry_start-ot
 
 -- the entry start of an address is its own entry start
 pub entry_start-entry_start : (m : MapView) (a : ℕ) → entry_start m (entry_start m a) ≡ entry_start m a
-entry_start-entry_start m a =
-    ⊎_elim
-    (λ same. ap (entry_start m) same)
-    (λ inner. let is = entry_start-inner m a inner.0 inner.1 in ap (entry_start m) is ∙ entry_start-item m inner.0 inner.1.begins ∙ sym is)
-    (entry_start-cases m a)
+entry_start-entry_start m a = grind (arith, entry_start-inner, entry_start-item, entry_start-cases)
 
 -- ---- targets
 
 target-item : (m : MapView) (item t : ℕ) → target_at m item ≡ Some t → IsTarget m t
-target-item m item t has =
-    ⊎_elim
-    (λ none. absurd (not-some t (sym (short-at m item (omega (arith, none))) ∙ has)))
-    (λ some. record { item = item; begins = omega (arith, some); has = has })
-    (cases_eq (item_len m item) 0)
+target-item m item t has = grind (arith, not-some, short-at)
 
 -- ---- what is referenced
 
 entry_start-place : (m : MapView) (t a : ℕ) → entry_start m t ≡ a → (a ≡ t) ⊎ IsInner m t a
-entry_start-place m t a is =
-    ⊎_elim
-    (λ same. inl (sym is ∙ same))
-    (λ inner. inr (subst (IsInner m t) (sym (entry_start-inner m t inner.0 inner.1) ∙ is) inner.1))
-    (entry_start-cases m t)
+entry_start-place m t a is = grind (arith, entry_start-inner, entry_start-cases)
 
 referenced-by : (m : MapView) (a item : ℕ) (o : Option ℕ) → target_at m item ≡ o → refers_by m o a ≡ true → IsReferenced m a
 referenced-by m a item None has is = absurd (false≢true is)
@@ -108,14 +92,11 @@ referenced-by m a item (Some t) has is =
 
 referenced-then : (m : MapView) (a : ℕ) → is_referenced m a ≡ true → IsReferenced m a
 unfolding is_referenced refers
-referenced-then m a is =
-    let found = Any-from_list_any (refers m a) (addresses (length m.image.bytes) m.image.start) is in
-    referenced-by m a found.1 (target_at m found.1) refl found.4
+referenced-then m a is = grind (arith, Any-from_list_any, referenced-by)
 
 refers-if : (m : MapView) (item t a : ℕ) → target_at m item ≡ Some t → (t ≡ a) ⊎ (entry_start m t ≡ a) → refers m a item ≡ true
 unfolding refers
-refers-if m item t a has is =
-    ap (λ o. refers_by m o a) has ∙ ⊎_elim (λ same. or_left (t == a) (entry_start m t == a) (eq-eqb t a same)) (λ moved. or_right (t == a) (entry_start m t == a) (eq-eqb (entry_start m t) a moved)) is
+refers-if m item t a has is = grind (arith, or_left, eq-eqb, or_right)
 
 pub referenced-if : (m : MapView) (t a : ℕ) → IsTarget m t → (t ≡ a) ⊎ (entry_start m t ≡ a) → is_referenced m a ≡ true
 unfolding is_referenced
@@ -195,17 +176,10 @@ name-inner m a first none target inner =
     ∙ sym (base-is m first first_referenced ∙ ap (base_by (covering m.info.names first) true) (entry_base-at m first first stays) ∙ either (covering m.info.names first) (default_base first))
 
 name-default : (m : MapView) (a : ℕ) → IsUncovered m.info.names a → IsReferenced m a → ((first : ℕ) → IsInner m a first → ⊥) → base_at m a ≡ Some (default_base a)
-name-default m a none referenced other =
-    let is = free m.info.names a none in
-    base-referenced m a is (referenced-from m a referenced)
-    ∙ ap (λ (b : Base). Some b) (entry_base-at m a a (entry_start-other m a other) ∙ ap (λ o. base_or o (default_base a)) is)
+name-default m a none referenced other = grind (arith, free, base-referenced, referenced-from, Some, entry_base-at, entry_start-other)
 
 name-none : (m : MapView) (a : ℕ) → IsUncovered m.info.names a → (IsReferenced m a → ⊥) → base_at m a ≡ None
-name-none m a none unreferenced =
-    ⊎_elim
-    (λ is. absurd (unreferenced (referenced-then m a is)))
-    (λ is. base-unreferenced m a (free m.info.names a none) is)
-    (cases_Bool (is_referenced m a))
+name-none m a none unreferenced = grind (arith, referenced-then, base-unreferenced, free)
 
 pub name_law : (m : MapView) → AreNames m.info.names → NameLaw m
 name_law m are = record { given = name-given m are; inner = name-inner m; default = name-default m; none = name-none m }

@@ -46,21 +46,13 @@ changed-bit p true c is = with_name-bit c ∙ ap bit (sym (or_right p true refl)
 changed-bit p false c is = is ∙ ap bit (sym (or-false p))
 
 pub names-keep : (p : ℕ → Bool) (old new : List ℕ) → Changes with_name p old new → KeepsLay old new
-names-keep p old new h = record {
-  count = h.count;
-  each = λ a room. ap (λ (x : ℕ). x % 128) (h.each a room) ∙ changed-lay (p a) (get_or old a 0);
-  borders = λ a room. ap (λ (x : ℕ). x / 256) (h.each a room) ∙ changed-border (p a) (get_or old a 0);
-}
+names-keep p old new h = grind (arith, changed-lay, changed-border)
 
 pub names-added : (p q : ℕ → Bool) (old new : List ℕ) → Changes with_name q old new → AreNamed p old → AreNamed (λ a. p a || q a) new
 names-added p q old new h named = record { each = λ a room. ap (λ (x : ℕ). x / 128 % 2) (h.each a room) ∙ changed-bit (p a) (q a) (get_or old a 0) (named.each a room) }
 
 pub laid-keeps : (m : MapView) (old new : List ℕ) → KeepsLay old new → IsLaid m old → IsLaid m new
-laid-keeps m old new keeps laid = record {
-  count = keeps.count;
-  each = λ a room. keeps.each a room ∙ laid.each a room;
-  borders = record { each = λ a room. keeps.borders a room ∙ laid.borders.each a room };
-}
+laid-keeps m old new keeps laid = grind arith
 
 -- ---- names that cover addresses
 
@@ -167,16 +159,7 @@ laid-len m cells a laid room = cell-len (get_or cells a 0) (role_at m a) (item_l
 -- the cells of a map describe its addresses
 pub described : (m : MapView) (cells : List ℕ) → AreCells m cells → AreCellsOf m cells
 unfolding len_in_cell
-described m cells are =
-    record {
-      count = are.laid.count;
-      each = λ a room.
-          record {
-            role = laid-plain m cells a are.laid room;
-            len = laid-len m cells a are.laid room;
-            named = are.named.each a room;
-          };
-    }
+described m cells are = grind (arith, laid-plain, laid-len)
 
 laid-wide : (m : MapView) (cells : List ℕ) (a : ℕ) → IsLaid m cells → a < 65536 → is_wide_cell (get_or cells a 0) ≡ is_wide_role (role_at m a)
 laid-wide m cells a laid room = cell-wide (get_or cells a 0) (role_at m a) (item_len m a) (laid-small m a) (laid.each a room)
@@ -243,9 +226,7 @@ refers-none m item cells count is = changes-as with_name nowhere (λ a. refers_b
 -- a target and the first byte of its item are marked
 pub refers-some : (m : MapView) (item t h : ℕ) (old mid new : List ℕ) → target_at m item ≡ Some t → h ≡ entry_start m t → Changes with_name (λ a. t == a) old mid → Changes with_name (λ a. h == a) mid new → Changes with_name (λ a. refers m a item) old new
 unfolding refers
-refers-some m item t h old mid new is at first second =
-    changes-as with_name (λ a. t == a || h == a) (λ a. refers_by m (target_at m item) a) old new (λ a room. ap (λ (k : ℕ). t == a || k == a) at ∙ ap (λ o. refers_by m o a) (sym is))
-    (changes-then with_name with_name-again (λ a. t == a) (λ a. h == a) old mid new first second)
+refers-some m item t h old mid new is at first second = grind (arith, changes-as, changes-then, with_name-again)
 
 pub address-at : (n k a d : ℕ) → k < n → get_or (addresses n a) k d ≡ a + k
 unfolding addresses
@@ -280,8 +261,4 @@ pub laid-item : (m : MapView) (cells : List ℕ) (a c n : ℕ) → IsLaid m cell
 laid-item m cells a c n laid room cell says = says ∙ ap len_in_cell cell ∙ laid-len m cells a laid room
 
 pub laid-fits : (m : MapView) (a n : ℕ) → a < end_of m.image → n ≡ item_len m a → a + n ≤ end_of m.image
-laid-fits m a n high is =
-    ⊎_elim
-    (λ none. omega (arith, none, is))
-    (λ some. omega (arith, item-fits m a (omega (arith, some)), is))
-    (cases_eq (item_len m a) 0)
+laid-fits m a n high is = grind (arith, item-fits)

@@ -1,5 +1,5 @@
 -- Roles that are written into cells.
-use Rattle.std.proofs.Common.{◌≡◌, ◌∙◌, ℕ, ◌+◌, ◌/◌, ◌%◌, ◌<◌, ◌&&◌, Bool, true, false, Some, None, List, [], ◌∷◌, drop, length, get_or, refl, ap, sym, arith, max, min, if◌then◌else◌}
+use Rattle.std.proofs.Common.{◌≡◌, ◌∙◌, ℕ, ◌+◌, ◌/◌, ◌%◌, ◌<◌, ◌&&◌, Bool, true, false, Some, None, List, [], ◌∷◌, drop, length, get_or, refl, ap, arith, max, min}
 use Rattle.std.proofs.lemmas.Bool.Decides.{nat_tests}
 use Rattle.std.proofs.lemmas.List.{drop_more}
 use Rattle.info65.specs.Ranges.{has_address}
@@ -22,44 +22,25 @@ range-within image range from to a low high = grind (arith, nat_tests)
 
 painted-next : (image : ImageView) (r : RangeSpec) (rs : List RangeSpec) (a : ℕ) → changed (painted r.role) (is_inside image a && has_address r a) (cell_of (role_by image rs a) 0) ≡ cell_of (role_by image (r ∷ rs) a) 0
 unfolding role_by role_in
-painted-next image r rs a = by_tests (is_inside image a) (has_address r a) where
-  by_tests : (inside has : Bool) → changed (painted r.role) (inside && has) (cell_of (if inside then Some (role_in rs a) else None) 0) ≡ cell_of (if inside then Some (if has then r.role else role_in rs a) else None) 0
-  by_tests true true = refl
-  by_tests true false = refl
-  by_tests false has = refl
+painted-next image r rs a = grind (arith, Bool, Some, None)
 
 pub painted-more : (image : ImageView) (ranges : List RangeSpec) (n : ℕ) (d : RangeSpec) (old new : List ℕ) → n < length ranges → ArePainted image (drop (n + 1) ranges) old → Changes (painted (get_or ranges n d).role) (λ a. is_inside image a && has_address (get_or ranges n d) a) old new → ArePainted image (drop n ranges) new
-painted-more image ranges n d old new below so_far h = record {
-  count = h.count;
-  each = λ a room.
-      let r : RangeSpec = get_or ranges n d in
-      h.each a room
-      ∙ ap (changed (painted r.role) (is_inside image a && has_address r a)) (so_far.each a room)
-      ∙ painted-next image r (drop (n + 1) ranges) a
-      ∙ sym (ap (λ (rs : List RangeSpec). cell_of (role_by image rs a) 0) (drop_more ranges n d below));
-}
+painted-more image ranges n d old new below so_far h = grind (arith, painted-next, drop_more)
 
 painted-code : (image : ImageView) (a : ℕ) → changed (painted Code) (is_inside image a) 0 ≡ cell_of (role_by image [] a) 0
 unfolding role_by role_in cell_of code_of
-painted-code image a = by_test (is_inside image a) where
-  by_test : (inside : Bool) → changed (painted Code) inside 0 ≡ cell_of (if inside then Some Code else None) 0
-  by_test true = refl
-  by_test false = refl
+painted-code image a = grind (arith, Bool, Some, None)
 
 -- before the ranges, the image is code
 pub code-painted : (image : ImageView) (old new : List ℕ) → ((a : ℕ) → a < 65536 → get_or old a 0 ≡ 0) → Changes (painted Code) (is_inside image) old new → ArePainted image [] new
-code-painted image old new blank h = record {
-  count = h.count;
-  each = λ a room. h.each a room ∙ ap (changed (painted Code) (is_inside image a)) (blank a room) ∙ painted-code image a;
-}
+code-painted image old new blank h = grind (arith, painted-code)
 
 role_by-all : (m : MapView) (a : ℕ) → role_by m.image m.info.ranges a ≡ role_at m a
 unfolding role_by role_at
 role_by-all m a = refl
 
 plain-cell : (m : MapView) (n a : ℕ) (cells : List ℕ) → n ≡ 0 → ArePainted m.image (drop n m.info.ranges) cells → a < 65536 → get_or cells a 0 ≡ cell_of (role_at m a) 0
-plain-cell m n a cells none are room =
-    are.each a room ∙ ap (λ (k : ℕ). cell_of (role_by m.image (drop k m.info.ranges) a) 0) none ∙ ap (λ r. cell_of r 0) (role_by-all m a)
+plain-cell m n a cells none are room = grind (arith, role_by-all)
 
 -- ---- borders
 

@@ -1,5 +1,5 @@
 -- What a reader has left after one read and then another, and which image its bytes give.
-use Rattle.std.proofs.Common.{◌≡◌, ℕ, ◌+◌, ◌<◌, ◌≤◌, ◌==◌, ◌||◌, refl, Bool, false, nat_lt, arith, length-append, List, ◌++◌, length, take, drop, Option, None, Some, IfSome, Result, Ok, Err, sym, ◌∙◌, ap, ap₂, subst, ⊎_elim}
+use Rattle.std.proofs.Common.{◌≡◌, ℕ, ◌+◌, ◌<◌, ◌≤◌, refl, Bool, nat_lt, arith, length-append, List, ◌++◌, length, take, drop, Option, None, Some, IfSome, Result, Ok, Err, sym, ◌∙◌, ap, ap₂, subst, ⊎_elim}
 use Rattle.std.proofs.Math.Seq.{drop-append_seam}
 use Rattle.std.proofs.lemmas.List.{append-nil, take_at, take_all, length-take, drop_all}
 use Rattle.std.proofs.lemmas.Bool.{le-ltb, cases_lt, cond_both}
@@ -8,7 +8,7 @@ use Rattle.std.specs.Io.KnownBytes.{Consumes, IsAtEnd}
 use Rattle.std.proofs.KnownBytes.{Consumes-trans}
 use Rattle.info65.specs.Views.{SettingsView}
 use Rattle.map65.specs.Device.{TakesUpTo}
-use Rattle.map65.specs.Image.{GivesImage, ReadCount, StopsAt, asked_of, image_by, image_of, is_short, most_of, read_limit, sized, start_of}
+use Rattle.map65.specs.Image.{GivesImage, ReadCount, StopsAt, image_by, image_of, most_of, read_limit, sized}
 use Rattle.map65.specs.ImageView.{ImageView}
 use Rattle.map65.specs.Taking.{IsReadTo}
 use Rattle.map65.specs.Code.Passing.{Takes}
@@ -21,9 +21,7 @@ use Rattle.map65.specs.declared.image.ImageFault.TheVariants.{Empty, TooLarge, S
 pub took_all : (old new : Option (List ℕ)) (bytes : List ℕ) (limit : ℕ) → Consumes old new bytes → IsAtEnd new → length bytes ≤ limit → IfSome old (λ xs. bytes ≡ take limit xs)
 took_all None new bytes limit f e h = tt
 took_all (Some xs) None bytes limit f e h = absurd f
-took_all (Some xs) (Some ys) bytes limit f e h =
-    let whole : xs ≡ bytes = f ∙ (ap (λ r. bytes ++ r) e ∙ append-nil bytes) in
-    rw whole (sym (take_all limit bytes h))
+took_all (Some xs) (Some ys) bytes limit f e h = grind (arith, append-nil, take_all)
 
 -- at the limit, that much was
 pub took_limit : (old new : Option (List ℕ)) (bytes : List ℕ) (limit : ℕ) → Consumes old new bytes → length bytes ≡ limit → IfSome old (λ xs. bytes ≡ take limit xs)
@@ -35,9 +33,7 @@ took_limit (Some xs) (Some ys) bytes limit f h = rw f (sym (take_at bytes ys lim
 pub rest_end : (old new : Option (List ℕ)) (bytes : List ℕ) (limit : ℕ) → Consumes old new bytes → IsAtEnd new → length bytes ≤ limit → IsReadTo limit old new
 rest_end None new bytes limit f e h = tt
 rest_end (Some xs) None bytes limit f e h = absurd f
-rest_end (Some xs) (Some ys) bytes limit f e h =
-    let whole : xs ≡ bytes = f ∙ (ap (λ r. bytes ++ r) e ∙ append-nil bytes) in
-    ap Some (e ∙ sym (ap (drop limit) whole ∙ drop_all limit bytes h))
+rest_end (Some xs) (Some ys) bytes limit f e h = grind (arith, append-nil, drop_all)
 
 drop_at : (bytes ys : List ℕ) (limit : ℕ) → length bytes ≡ limit → drop limit (bytes ++ ys) ≡ ys
 drop_at bytes ys limit is = rw (← is) (drop-append_seam bytes ys)
@@ -52,30 +48,19 @@ pub ruleset takes = (Consumes-trans, took_all, took_limit, rest_end, rest_limit)
 
 -- what was taken at first, and then in a read, is within the limit
 pub took_up_to : (old mid new : Option (List ℕ)) (a b : List ℕ) (limit : ℕ) → Consumes old mid a → Consumes mid new b → length a + length b ≤ limit → TakesUpTo limit old new
-took_up_to old mid new a b limit f g h = record {
-  bytes = a ++ b;
-  bound = omega (arith, length-append a b);
-  taken = Consumes-trans old mid new a b f g;
-}
+took_up_to old mid new a b limit f g h = grind (arith, length-append, Consumes-trans)
 
 -- ---- bytes that are passed over
 
 pub takes_more : (old mid new : Option (List ℕ)) (b : List ℕ) (n m : ℕ) → Takes n old mid → Consumes mid new b → n + length b ≡ m → Takes m old new
-takes_more old mid new b n m t g is = record {
-  bytes = t.bytes ++ b;
-  count_is = omega (arith, length-append t.bytes b, t.count_is, is);
-  taken = Consumes-trans old mid new t.bytes b t.taken g;
-}
+takes_more old mid new b n m t g is = grind (arith, length-append, Consumes-trans)
 
 -- ---- which image some bytes give
 
 -- what holds of each answer holds of the image of some bytes
 image_cases : (P : Result ImageView ImageFault → Type 0) (start size : Option ℕ) (xs : List ℕ) → P (Err Short) → P (Err Empty) → P (Err TooLarge) → ((v : ImageView) → P (Ok v)) → P (image_by start size xs)
 unfolding image_by
-image_cases P start size xs short empty large ok =
-    cond_both (is_short size (length xs)) _ _ P (λ _. short)
-    (λ _. cond_both (length xs == 0) _ _ P (λ _. empty)
-    (λ _. cond_both (nat_lt 65536 (length xs) || nat_lt 65536 (start_of start (length xs) + length xs)) _ _ P (λ _. large) (λ _. ok _)))
+image_cases P start size xs short empty large ok = grind (arith, cond_both, nat_lt)
 
 -- more bytes than an image may have are too many, from any start
 too_large : (start : Option ℕ) (xs : List ℕ) → 65536 < length xs → image_by start None xs ≡ Err TooLarge
@@ -105,11 +90,7 @@ stops_here s offset most start size xs old new failed answer is at many p =
 pub image_seen : (left : Option (List ℕ)) (old new : ℕ) (s : SettingsView) (offset most : ℕ) (bytes : List ℕ) (answer : Result ImageView ImageFault) → new ≡ old → answer ≡ image_by s.start s.size bytes → offset ≡ s.offset → most ≡ most_of s.size → IfSome left (λ xs. bytes ≡ take most (drop offset xs)) → IfSome left (λ xs. GivesImage answer (image_of s xs (nat_lt old new)))
 unfolding image_of
 image_seen None old new s offset most bytes answer same is at many all = tt
-image_seen (Some xs) old new s offset most bytes answer same is at many all =
-    let calm : nat_lt old new ≡ false = le-ltb old new (omega arith) in
-    let there : bytes ≡ take (most_of s.size) (drop s.offset xs) = all ∙ ap (λ n. take n (drop offset xs)) many ∙ ap (λ n. take (most_of s.size) (drop n xs)) at in
-    let whole : image_by s.start s.size (asked_of s xs) ≡ image_by s.start s.size bytes = sym (image_by-take s.start s.size (drop s.offset xs)) ∙ ap (image_by s.start s.size) (sym there) in
-    rw (calm, whole, is) (image_cases (λ r. GivesImage r r) s.start s.size bytes refl refl refl (λ v. refl))
+image_seen (Some xs) old new s offset most bytes answer same is at many all = grind (arith, nat_lt, le-ltb, image_by-take, image_cases)
 
 -- ---- what is taken after bytes that were passed over
 

@@ -58,10 +58,7 @@ some-same r q is = cc
 
 pub has-role : (m : MapView) (a : ℕ) (r : RangeType) → role_at m a ≡ Some r → HasRole m a r
 unfolding role_at
-has-role m a r =
-    cond_both (is_inside m.image a) (Some (role_of m.info a)) None (λ (o : Option RangeType). o ≡ Some r → HasRole m a r)
-    (λ inside is. let at = within m a inside in record { inside = inside; low = at.low; high = at.high; is = some-same _ _ is })
-    (λ _ none. absurd cc)
+has-role m a r = grind (arith, cond_both, Some, None, Option, within, some-same)
 
 -- ---- codes
 

@@ -1,7 +1,7 @@
 -- Where no item begins there is no target, and none where one of a single byte does.
-use Rattle.std.proofs.Common.{◌≡◌, ℕ, ◌==◌, ◌+◌, ◌<◌, ◌≤◌, Bool, if◌then◌else◌, true, false, List, None, Option, Some, arith, get_or, refl}
+use Rattle.std.proofs.Common.{◌≡◌, ℕ, ◌==◌, ◌<◌, ◌≤◌, Bool, if◌then◌else◌, true, false, List, None, Option, Some, arith, get_or, refl}
 use Rattle.std.proofs.lemmas.Bool.{eqb-true, ne_eqb}
-use Rattle.isa65.specs.Mode.{len_of, row_len, row_of, size_of}
+use Rattle.isa65.specs.Mode.{row_len, size_of}
 use Rattle.isa65.specs.Opcodes.{decoded}
 use Rattle.isa65.specs.declared.mnemonic.Mnemonic.{Mnemonic}
 use Rattle.isa65.specs.declared.op.Op.{Op}
@@ -38,9 +38,7 @@ none-if false o is = refl
 code-short : (image : ImageView) (o : Option Op) (n a : ℕ) (bytes : List ℕ) → n < 2 → code_target image o n a bytes ≡ None
 unfolding operand_target
 code-short image None n a bytes short = refl
-code-short image (Some op) n a bytes short =
-    none-if (n == len_of op.mode) (operand_target image op.mnemonic op.mode a bytes)
-    (λ same. row-alone image op.mnemonic (row_of op.mode) (a + len_of op.mode) bytes (omega (arith, eqb-true n (len_of op.mode) same, short)))
+code-short image (Some op) n a bytes short = grind (arith, none-if, row-alone, eqb-true)
 
 entry-short : (m : MapView) (e : Entry) (n a : ℕ) (bytes : List ℕ) → n < 2 → entry_target m e n a bytes ≡ None
 entry-short m Instruction n a bytes short = code-short m.image (decoded (opcodes m) (get_or bytes 0 0)) n a bytes short
