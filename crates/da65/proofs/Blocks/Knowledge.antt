@@ -1,5 +1,5 @@
 -- Which names the lines above define: one fact for each base, both ways.
-use Rattle.std.proofs.Common.{◌≡◌, ℕ, Bool, true, false, cond, eqb, List, ◌∷◌, ◌++◌, Option, Some, None, refl, ap, ◌∙◌, []}
+use Rattle.std.proofs.Common.{arith, ◌≡◌, ℕ, Bool, true, false, cond, eqb, List, ◌∷◌, ◌++◌, Option, Some, None, refl, ap, ◌∙◌, []}
 use Rattle.std.specs.Prelude.{◌||◌}
 use Rattle.std.specs.Str.{bytes_eq}
 use Rattle.std.proofs.lemmas.Slice.Eq.{bytes_eq-Decides}
@@ -29,9 +29,7 @@ first-is w (d ∷ ds) = elim (bytes_eq d.name w) as (λ t. cond t (Some d) (find
 
 -- the names of two bases are one where the bases are
 name-test : (image : ImageView) (m : Names) (u v : ℕ) → AreSound image m → is_base m u ≡ true → is_base m v ≡ true → bytes_eq (base_name m u) (base_name m v) ≡ eqb u v
-name-test image m u v names hu hv =
-    same_from_decides (bytes_eq (base_name m u) (base_name m v)) (eqb u v) (bytes_eq-Decides (base_name m u) (base_name m v))
-    (λ e. ap (base_name m) (eqb-true u v e), λ same. eq-eqb u v (names.distinct u v hu hv same))
+name-test image m u v names hu hv = grind (arith, same_from_decides, eqb, bytes_eq-Decides, eqb-true, eq-eqb)
 
 pub knows_nothing : (m : Names) → Knows m (λ v. false) []
 knows_nothing m = record { found = λ v h. refl }

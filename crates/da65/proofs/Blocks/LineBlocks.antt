@@ -1,6 +1,6 @@
 -- Single lines of a listing with names, and lines that say nothing of names and bytes.
-use Rattle.std.proofs.Common.{◌≡◌, ℕ, Bool, true, false, eqb, ◌+◌, ◌<◌, ◌≤◌, List, ◌∷◌, ◌++◌, length, Option, Some, None, refl, ap, ◌∙◌, arith, []}
-use Rattle.std.specs.Prelude.{◌||◌, nat_lt, Ok}
+use Rattle.std.proofs.Common.{◌≡◌, ℕ, Bool, true, false, eqb, ◌+◌, ◌<◌, ◌≤◌, List, ◌∷◌, ◌++◌, length, Option, Some, None, refl, arith, []}
+use Rattle.std.specs.Prelude.{◌||◌, nat_lt}
 use Rattle.std.specs.List.{list_any}
 use Rattle.std.proofs.lemmas.Bool.{le-ltb}
 use Rattle.std.proofs.lemmas.List.{append-nil}
@@ -42,19 +42,7 @@ pub line_gives : (m : Names) (p : Point) (l : ListingLine) (source : SourceLine)
     → ((above : List Definition) → Knows m p.knows above → Defines m (state p above) source knows)
     → p.at + length bytes ≡ at → at ≤ 65536 → Gives m p (l ∷ []) bytes (point at cpu knows)
 unfolding final coded
-line_gives m p l source bytes at cpu knows says stands defines next room = record {
-  leads = λ above known.
-      let h = stands above known in
-      let d = defines above known in
-      record {
-        all_above = above ++ defined_by p.at source;
-        known = d.known;
-        reaches = rw says (after_is (λ all. KnowsAll m all) (state p above) source cpu bytes h ∙ rw next refl);
-        codes = λ all k n.
-            rw (says, no_fault (λ all. KnowsAll m all) (state p above) source cpu bytes h all k d.new d.in_space (omega (arith, next, room)), bytes_are (λ all. KnowsAll m all) (state p above) source cpu bytes h all k)
-            (ap (λ (bs : List ℕ). Ok bs) (append-nil bytes));
-      };
-}
+line_gives m p l source bytes at cpu knows says stands defines next room = grind (arith, after_is, state, no_fault, bytes_are, append-nil)
 
 -- ---- what a line defines
 

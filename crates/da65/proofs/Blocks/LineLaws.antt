@@ -1,5 +1,5 @@
 -- Lines that follow each other: where they lead, what is known of names there, and their bytes.
-use Rattle.std.proofs.Common.{◌≡◌, ℕ, ◌+◌, Bool, true, List, ◌∷◌, ◌++◌, map, Option, Some, None, refl, ap, ◌∙◌, append_assoc, []}
+use Rattle.std.proofs.Common.{arith, ◌≡◌, ℕ, ◌+◌, Bool, true, List, ◌∷◌, ◌++◌, map, Option, Some, None, refl, append_assoc, []}
 use Rattle.std.specs.Prelude.{Result, Ok, Err}
 use Rattle.std.proofs.lemmas.List.{map-append}
 use Rattle.isa65.specs.declared.cpu.Cpu.{Cpu}
@@ -68,31 +68,13 @@ coded-append all n s (x ∷ xs) ys bs cs h g =
     go (Some k) e r f h ih = let h' = rw e at h in absurd cc
 
 pub gives_append : {m : Names} {p q r : Point} {bs cs : List ℕ} (xs ys : List ListingLine) → Gives m p xs bs q → Gives m q ys cs r → Gives m p (xs ++ ys) (bs ++ cs) r
-gives_append {m} {p} {q} {r} {bs} {cs} xs ys g h = record {
-  leads = λ above known.
-      let first = g.leads above known in
-      let others = h.leads first.all_above first.known in
-      record {
-        all_above = others.all_above;
-        known = others.known;
-        reaches =
-            ap (final (state p above)) (map-append reading_of_line xs ys) ∙ final-append (state p above) (map reading_of_line xs) (map reading_of_line ys)
-            ∙ ap (λ (s : State). final s (map reading_of_line ys)) first.reaches ∙ others.reaches;
-        codes = λ all k n.
-            ap (coded all n (state p above)) (map-append reading_of_line xs ys)
-            ∙ coded-append all n (state p above) (map reading_of_line xs) (map reading_of_line ys) bs cs (first.codes all k n) (λ i. rw first.reaches (others.codes all k i));
-      };
-}
+gives_append {m} {p} {q} {r} {bs} {cs} xs ys g h = grind (arith, map-append, final-append, coded-append)
 
 -- ---- what is known, in other words
 
 pub gives_to : {m : Names} {p : Point} {at : ℕ} {cpu : Cpu} {knows : ℕ → Bool} {ls : List ListingLine} {bytes : List ℕ} (same : ℕ → Bool)
     → ((v : ℕ) → is_base m v ≡ true → knows v ≡ same v) → Gives m p ls bytes (point at cpu knows) → Gives m p ls bytes (point at cpu same)
-gives_to {m} same is g = record {
-  leads = λ above known.
-      let h = g.leads above known in
-      record { all_above = h.all_above; known = knows_same m _ same h.all_above h.known is; reaches = h.reaches; codes = h.codes };
-}
+gives_to {m} same is g = grind (arith, knows_same)
 
 pub gives_from : {m : Names} {q : Point} {at : ℕ} {cpu : Cpu} {knows : ℕ → Bool} {ls : List ListingLine} {bytes : List ℕ} (same : ℕ → Bool)
     → ((v : ℕ) → is_base m v ≡ true → same v ≡ knows v) → Gives m (point at cpu knows) ls bytes q → Gives m (point at cpu same) ls bytes q

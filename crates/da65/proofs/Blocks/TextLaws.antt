@@ -51,11 +51,7 @@ unfolding text_lines
 no_lines = refl
 
 first_reading : (bytes : List ℕ) (r : SourceLine) (rest : List ℕ) → PrintsAs bytes r → readings (bytes ++ rest) ≡ Some r ∷ readings rest
-first_reading bytes r rest h =
-    ap (λ (front : List ℕ). readings (front ++ rest)) h.ends
-    ∙ ap readings (append_assoc h.line (10 ∷ []) rest)
-    ∙ ap (λ (ls : List (List ℕ)). map (λ l. reading_of (parts l)) ls) (first_line h.line rest h.one_line)
-    ∙ ap (λ (o : Option SourceLine). o ∷ readings rest) h.reads
+first_reading bytes r rest h = grind (arith, append_assoc, first_line, Option)
 
 -- ---- the lines of a listing
 

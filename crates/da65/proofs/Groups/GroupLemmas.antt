@@ -9,7 +9,7 @@ use Rattle.map65.specs.Pieces.{is_joined}
 use Rattle.map65.specs.Roles.{is_skip, role_of, unit_of}
 use Rattle.map65.specs.Spans.{addresses, left_at}
 use Rattle.map65.proofs.Public.{begun as item-begun, inside-index, item-len-at, item_start-after, item_start-within, left-begun, left-first, left-going, left-inside, size-fits, size-positive, skip-size, start-own}
-use Rattle.da65.specs.Groups.{BeginsItem, IsGroupPlace, begins, goes_on, group_addresses, group_len, groups_from, is_defined, is_whole, limit_at, more_at, stride_at}
+use Rattle.da65.specs.Groups.{BeginsItem, IsGroupPlace, begins, goes_on, group_addresses, group_len, groups_from, is_defined, limit_at, more_at, stride_at}
 
 -- ---- the items that go on
 
@@ -22,11 +22,7 @@ pub record GoesOn (m : MapView) (a : ℕ) : Type 0 where
 
 pub item-goes-on : (m : MapView) (a : ℕ) → goes_on m a ≡ true → GoesOn m a
 unfolding goes_on
-item-goes-on m a is =
-    let both = and_parts (is_joined m a) (is_whole m a && not (is_defined m a)) is in
-    let more = and_parts (is_whole m a) (not (is_defined m a)) both.1 in
-    let whole : item_len m a ≡ unit_of (role_of m.info a) = eqb-true (item_len m a) (unit_of (role_of m.info a)) more.0 in
-    record { joined = both.0; whole = whole; some = omega (arith, whole, layout_some (role_of m.info a)); unnamed = not-true (is_defined m a) more.1 }
+item-goes-on m a is = grind (arith, and_parts, eqb-true, layout_some, not-true)
 
 pub more-none : (m : MapView) (a : ℕ) → more_at m 0 a ≡ 0
 unfolding more_at
@@ -46,9 +42,7 @@ record ItemEnds (m : MapView) (k len : ℕ) : Type 0 where
   item : BeginsItem m (k + len)
 
 none-ends : (m : MapView) (n k a : ℕ) → more_at m n a ≡ 0 → k ≤ length m.image.bytes → BeginsItem m k → ItemEnds m k (more_at m n a)
-none-ends m n k a none bound item =
-    let place : k + more_at m n a ≡ k = omega (arith, none) in
-    record { fits = omega (arith, none, bound); item = subst (BeginsItem m) (sym place) item }
+none-ends m n k a none bound item = grind arith
 
 -- where an item ends the next one begins
 pub next-item : (m : MapView) (k len : ℕ) → len ≡ size_at m (m.image.start + k) → BeginsItem m k → BeginsItem m (k + len)
@@ -120,32 +114,19 @@ pub first_place : (m : MapView) → IsGroupPlace m 0
 first_place m = record { bound = omega arith; group = left-first (stride_at m) m.image.start; item = start-own m }
 
 pub place-skip : (m : MapView) (k : ℕ) → IsGroupPlace m k → k < length m.image.bytes → is_skip (role_of m.info (m.image.start + k)) ≡ true → IsGroupPlace m (k + 1)
-place-skip m k here low skip = record {
-  bound = omega (arith, low);
-  group = left-step (stride_at m) m.image.start k 1 (sym (stride-skip m (m.image.start + k) skip)) (omega arith) here.group;
-  item = next-item m k 1 (sym (skip-size m (m.image.start + k) skip)) here.item;
-}
+place-skip m k here low skip = grind (arith, left-step, stride-skip, next-item, skip-size)
 
 pub place-next : (m : MapView) (k : ℕ) → IsGroupPlace m k → k < length m.image.bytes → is_skip (role_of m.info (m.image.start + k)) ≡ false → IsGroupPlace m (k + group_len m (m.image.start + k))
-place-next m k here low shown =
-    let ends = group-ends m k here low shown in
-    record {
-      bound = ends.fits;
-      group = left-step (stride_at m) m.image.start k (group_len m (m.image.start + k)) (sym (stride-group m (m.image.start + k) shown)) (group-some m k here low shown) here.group;
-      item = ends.item;
-    }
+place-next m k here low shown = grind (arith, group-ends, left-step, stride-group, group-some)
 
 -- ---- where a group begins, by the byte's index
 
 begins-index : (m : MapView) (k : ℕ) → begins m (m.image.start + k) ≡ (is_inside m.image (m.image.start + k) && (not (is_skip (role_of m.info (m.image.start + k))) && left_at (stride_at m) m.image.start k == 0))
 unfolding begins
-begins-index m k =
-    let same : m.image.start + k - m.image.start ≡ k = omega arith in
-    ap (λ (n : ℕ). is_inside m.image (m.image.start + k) && (not (is_skip (role_of m.info (m.image.start + k))) && left_at (stride_at m) m.image.start n == 0)) same
+begins-index m k = grind arith
 
 pub begins-true : (m : MapView) (k : ℕ) → k < length m.image.bytes → is_skip (role_of m.info (m.image.start + k)) ≡ false → left_at (stride_at m) m.image.start k ≡ 0 → begins m (m.image.start + k) ≡ true
-begins-true m k low shown none =
-    begins-index m k ∙ and_from _ _ (inside-index m k low) (and_from _ _ (ap not shown) (eq-eqb (left_at (stride_at m) m.image.start k) 0 none))
+begins-true m k low shown none = grind (arith, begins-index, and_from, inside-index, eq-eqb)
 
 pub begins-skip : (m : MapView) (k : ℕ) → k < length m.image.bytes → is_skip (role_of m.info (m.image.start + k)) ≡ true → begins m (m.image.start + k) ≡ false
 begins-skip m k low skip = begins-index m k ∙ rw (inside-index m k low, skip) refl
@@ -157,10 +138,7 @@ begins-inside m k low some = begins-index m k ∙ and_right _ _ (and_right _ _ (
 
 groups-step : (m : MapView) (k : ℕ) → k < length m.image.bytes → groups_from m k ≡ (if begins m (m.image.start + k) then (m.image.start + k) ∷ groups_from m (k + 1) else groups_from m (k + 1))
 unfolding groups_from addresses
-groups-step m k low =
-    let more : length m.image.bytes - k ≡ suc (length m.image.bytes - (k + 1)) = omega (arith, low) in
-    let next : m.image.start + k + 1 ≡ m.image.start + (k + 1) = omega arith in
-    rw (more, next) refl
+groups-step m k low = grind arith
 
 -- no group begins before the one that is under way ends
 groups-pass : (m : MapView) (n k : ℕ) → left_at (stride_at m) m.image.start k ≡ n → k + n ≤ length m.image.bytes → groups_from m k ≡ groups_from m (k + n)
@@ -176,10 +154,7 @@ groups-pass m (suc n) k is low =
 -- the groups of the whole image
 pub groups-first : (m : MapView) → group_addresses m ≡ groups_from m 0
 unfolding groups_from group_addresses
-groups-first m =
-    let place : m.image.start + 0 ≡ m.image.start = omega arith in
-    let count : length m.image.bytes - 0 ≡ length m.image.bytes = omega arith in
-    rw (place, count) refl
+groups-first m = grind arith
 
 pub groups-end : (m : MapView) (k : ℕ) → k ≡ length m.image.bytes → groups_from m k ≡ []
 unfolding groups_from addresses
@@ -213,16 +188,7 @@ pub record GroupBegins (m : MapView) (a : ℕ) : Type 0 where
 
 pub group-begun : (m : MapView) (a : ℕ) → begins m a ≡ true → GroupBegins m a
 unfolding begins
-group-begun m a is =
-    let both = and_parts (is_inside m.image a) (not (is_skip (role_of m.info a)) && left_at (stride_at m) m.image.start (a - m.image.start) == 0) is in
-    let bounds = and_parts (nat_le m.image.start a) (nat_lt a (end_of m.image)) both.0 in
-    let past = and_parts (not (is_skip (role_of m.info a))) (left_at (stride_at m) m.image.start (a - m.image.start) == 0) both.1 in
-    record {
-      low = leb-true m.image.start a bounds.0;
-      high = ltb-true a (end_of m.image) bounds.1;
-      shown = not-true (is_skip (role_of m.info a)) past.0;
-      none = eqb-true (left_at (stride_at m) m.image.start (a - m.image.start)) 0 past.1;
-    }
+group-begun m a is = grind (arith, and_parts, nat_le, nat_lt, leb-true, ltb-true, not-true, eqb-true)
 
 -- the step from a place: to the next one, which lies after it
 pub record Step (m : MapView) (p : ℕ) : Type 0 where

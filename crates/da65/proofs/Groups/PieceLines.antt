@@ -1,5 +1,5 @@
 -- The lines of a table: a group begins with each so-manieth item of its piece.
-use Rattle.std.proofs.Common.{◌≡◌, ◌∙◌, inl, inr, ℕ, suc, ◌+◌, ◌-◌, ◌*◌, ◌/◌, ◌%◌, ◌<◌, ◌≤◌, not, Bool, true, false, length, refl, sym, ap, arith, ⊎_elim}
+use Rattle.std.proofs.Common.{◌≡◌, ◌∙◌, inl, inr, ℕ, suc, ◌+◌, ◌-◌, ◌*◌, ◌%◌, ◌<◌, ◌≤◌, not, Bool, true, false, length, refl, sym, ap, arith, ⊎_elim}
 use Rattle.std.proofs.Math.Nat.{add-mod_right, add-mul, mod-add-mod, mod-eq_of_lt, mul-div_cancel}
 use Rattle.std.proofs.lemmas.Bool.{and_from, cond-false, cond-true, cases_eq, cases_lt, eq-eqb, eqb-true, true≢false}
 use Rattle.info65.proofs.Public.{layout_line, layout_some}
@@ -37,17 +37,7 @@ abbrev pub FullAt : MapView → RangeType → ℕ → Type 0
 FullAt m r k = k < length m.image.bytes → role_of m.info (m.image.start + k) ≡ r → is_whole m (m.image.start + k) ≡ true → BeginsFull m r k
 
 first-full : (m : MapView) (r : RangeType) (k : ℕ) → IsStart m (m.image.start + k) → BeginsFull m r k
-first-full m r k start = record {
-  count = 0;
-  item = record {
-    first = m.image.start + k;
-    is_start = start;
-    one_piece = λ x low high. absurd (omega (arith, low, high));
-    unnamed = λ x low high. absurd (omega (arith, low, high));
-    place = omega arith;
-  };
-  full = mod-eq_of_lt (omega (arith, layout_line r));
-}
+first-full m r k start = grind (arith, mod-eq_of_lt, layout_line)
 
 -- pieces that meet are one
 pub join : (m : MapView) (b a c : ℕ) → AreOnePiece m b a → AreOnePiece m a c → AreOnePiece m b c
@@ -55,21 +45,11 @@ join m b a c front back x low high = ⊎_elim (λ past. back x past high) (λ be
 
 -- with one more byte that is joined
 join-one : (m : MapView) (b a c : ℕ) → AreOnePiece m b (a - 1) → a ≡ c → is_joined m c ≡ true → AreOnePiece m b c
-join-one m b a c front same joined x low high =
-    ⊎_elim (λ equal. ap (is_joined m) equal ∙ joined) (λ other. front x low (omega (arith, high, same, other))) (cases_eq x c)
+join-one m b a c front same joined x low high = grind arith
 
 -- so many items further in the piece
 pub further-item : (m : MapView) (r : RangeType) (a c k i : ℕ) → IsItemOf m a k → role_of m.info a ≡ r → role_of m.info c ≡ r → AreOnePiece m a c → ((x : ℕ) → a < x → x ≤ c → is_defined m x ≡ false) → c ≡ a + i * unit_of r → IsItemOf m c (k + i)
-further-item m r a c k i item role-a role-c piece unnamed place =
-    let before : a ≡ item.first + k * unit_of r = item.place ∙ ap (λ (r : RangeType). item.first + k * unit_of r) role-a in
-    let all : c ≡ item.first + (k + i) * unit_of r = omega (arith, add-mul k i (unit_of r), before, place) in
-    record {
-      first = item.first;
-      is_start = item.is_start;
-      one_piece = join m item.first a c item.one_piece piece;
-      unnamed = λ x after before. ⊎_elim (λ past. unnamed x past before) (λ here. item.unnamed x after here) (cases_lt a x);
-      place = all ∙ sym (ap (λ (r : RangeType). item.first + (k + i) * unit_of r) role-c);
-    }
+further-item m r a c k i item role-a role-c piece unnamed place = grind (arith, add-mul, join)
 
 module _ (m : MapView) (r : RangeType) (table : IsTable m r) where
   -- after a group of the piece
@@ -173,9 +153,7 @@ one-first m a k c item other low_f low_g =
     (cases_lt item.first other.first)
 
 same-count : (f a u k c : ℕ) → 1 ≤ u → a ≡ f + k * u → a ≡ f + c * u → k ≡ c
-same-count f a u k c some h g =
-    let same : k * u ≡ c * u = omega (arith, h, g) in
-    sym (mul-div_cancel k (omega (arith, some))) ∙ ap (λ (n : ℕ). n / u) same ∙ mul-div_cancel c (omega (arith, some))
+same-count f a u k c some h g = grind (arith, mul-div_cancel)
 
 pub one-count : (m : MapView) (a k c : ℕ) → IsItemOf m a k → IsItemOf m a c → k ≡ c
 one-count m a k c item other =
@@ -184,8 +162,4 @@ one-count m a k c item other =
     same-count other.first a unit k c (layout_some (role_of m.info a)) (item.place ∙ ap (λ (f : ℕ). f + k * unit) first) other.place
 
 pub not-full : (limit c i : ℕ) → c % limit ≡ 0 → (c + i) % limit ≡ 0 → 1 ≤ i → i < limit → ⊥
-not-full limit c i full again some low =
-    let same : (c % limit + i) % limit ≡ (c + i) % limit = mod-add-mod c limit i in
-    let alone : c % limit + i ≡ i = omega (arith, full) in
-    let rest : (c % limit + i) % limit ≡ i = ap (λ (n : ℕ). n % limit) alone ∙ mod-eq_of_lt low in
-    omega (arith, same, rest, again, some)
+not-full limit c i full again some low = grind (arith, mod-add-mod, mod-eq_of_lt)

@@ -35,8 +35,7 @@ role_there m a is = cond-true (is_inside m.image a) _ _ is
 
 role_none : (m : MapView) (a : ℕ) → role_at m a ≡ None → is_inside m.image a ≡ false
 unfolding role_at
-role_none m a =
-    cond_both (is_inside m.image a) (Some (role_of m.info a)) None (λ o. o ≡ None → is_inside m.image a ≡ false) (λ _ e. absurd (none-some _ (sym e))) (λ is _. is)
+role_none m a = grind (arith, cond_both, Some, None, none-some)
 
 pub role_outside : (m : MapView) (a : ℕ) → IsPlaced m.image → 65536 ≤ a → role_at m a ≡ None
 unfolding role_at

@@ -14,7 +14,7 @@ use Rattle.info65.specs.declared.information.range.RangeType.TheVariants as role
 use Rattle.map65.specs.ImageView.{byte_at, bytes_from}
 use Rattle.map65.specs.Items.{code_size, item_len, size_at, size_for, full_len_at}
 use Rattle.map65.specs.MapView.{MapView, opcodes}
-use Rattle.map65.specs.Pieces.{are_joined, is_joined}
+use Rattle.map65.specs.Pieces.{is_joined}
 use Rattle.map65.specs.Roles.{is_skip, role_of, unit_of}
 use Rattle.map65.proofs.Public.{begun as item-begun, item-len-at, joined-in, one-role, size-one-piece, size-positive}
 use Rattle.da65.specs.Groups.{IsGroupPlace, goes_on, group_bytes, group_len, is_whole, limit_at, limit_of, more_at}
@@ -35,8 +35,7 @@ pub group-index : (m : MapView) (k : ℕ) → group_bytes m (m.image.start + k) 
 group-index m k = ap (take (group_len m (m.image.start + k))) (from-index m k)
 
 pub group-long : (m : MapView) (k : ℕ) → k + group_len m (m.image.start + k) ≤ length m.image.bytes → length (group_bytes m (m.image.start + k)) ≡ group_len m (m.image.start + k)
-group-long m k fits =
-    ap length (group-index m k) ∙ length-take-le (group_len m (m.image.start + k)) (drop k m.image.bytes) (omega (arith, fits, length-drop k m.image.bytes))
+group-long m k fits = grind (arith, group-index, length-take-le, length-drop)
 
 -- ---- code
 
@@ -108,8 +107,7 @@ IsLong r len = (len ≡ 1) ⊎ Counted r len
 
 pub size-is : (m : MapView) (a : ℕ) → (size_at m a ≡ full_len_at m a) ⊎ (size_at m a ≡ 1)
 unfolding size_at
-size-is m a =
-    cond_both (are_joined m (full_len_at m a - 1) a) (full_len_at m a) 1 (λ n. (n ≡ full_len_at m a) ⊎ (n ≡ 1)) (λ _. inl refl) (λ _. inr refl)
+size-is m a = grind (arith, cond_both)
 
 pub full_len-of : (m : MapView) (a : ℕ) (r : RangeType) → role_of m.info a ≡ r → full_len_at m a ≡ size_for m r (byte_at m.image a)
 unfolding full_len_at
@@ -143,9 +141,7 @@ either e f g (inr h) = inr (e ∙ h)
 -- ---- the bytes of each group
 
 byte-first : (m : MapView) (k n : ℕ) → 1 ≤ n → slice_index (take n (drop k m.image.bytes)) 0 ≡ byte_at m.image (m.image.start + k)
-byte-first m k n some =
-    let same : m.image.start + k - m.image.start ≡ k = omega arith in
-    get_or-take n (drop k m.image.bytes) 0 0 (omega (arith, some)) ∙ get_or-drop k m.image.bytes 0 0 ∙ ap (slice_index m.image.bytes) (omega (arith, same))
+byte-first m k n some = grind (arith, get_or-take, get_or-drop)
 
 module _ (m : MapView) (k : ℕ) (here : IsGroupPlace m k) (low : k < length m.image.bytes) (shown : is_skip (role_of m.info (m.image.start + k)) ≡ false) where
   begun : item_len m (m.image.start + k) ≡ size_at m (m.image.start + k)

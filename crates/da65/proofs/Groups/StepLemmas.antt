@@ -18,10 +18,7 @@ more-step m n a len some is same =
 -- a line that takes one item has no more
 pub group_one : (m : MapView) (a : ℕ) → limit_at m a ≡ 1 → group_len m a ≡ item_len m a
 unfolding group_len more_at
-group_one m a one =
-    let none : limit_at m a - 1 ≡ 0 = omega (arith, one) in
-    let no_more : more_at m (limit_at m a - 1) (a + item_len m a) ≡ 0 = ap (λ (n : ℕ). more_at m n (a + item_len m a)) none in
-    omega (arith, no_more)
+group_one m a one = grind arith
 
 -- ---- addresses, one after the other
 

@@ -1,5 +1,5 @@
 -- Expressions: their values, and their sizes.
-use Rattle.std.proofs.Common.{◌≡◌, ℕ, Bool, true, false, cond, eqb, ◌+◌, ◌-◌, ◌<◌, ◌≤◌, List, Option, Some, None, refl, subst, arith, ◌∷◌, []}
+use Rattle.std.proofs.Common.{◌≡◌, ℕ, Bool, true, false, cond, eqb, ◌+◌, ◌-◌, ◌<◌, ◌≤◌, List, Option, Some, None, refl, arith, ◌∷◌, []}
 use Rattle.std.specs.Prelude.{nat_lt, IfSome}
 use Rattle.std.proofs.Math.Bool.{and-false}
 use Rattle.std.proofs.lemmas.Bool.{eq-eqb, ne_eqb}
@@ -25,8 +25,7 @@ own-name m a b is = rw is.base refl
 
 -- the definition of an address's base, if that passes the test
 base-found : (m : Names) (p : ℕ → Bool) (ds : List Definition) (a : ℕ) (b : Base) (t : Bool) → Knows m p ds → IsBaseOf m a b → p b.address ≡ t → find_name b.text ds ≡ first_of (cond t (definition_of m b.address ∷ []) [])
-base-found m p ds a b t k is e =
-    subst (λ (w : List ℕ). find_name w ds ≡ first_of (cond t (definition_of m b.address ∷ []) [])) (own-name m a b is) (knows_found m p ds b.address t k (own-base m a b is) e)
+base-found m p ds a b t k is e = grind (arith, first_of, own-name, knows_found, own-base)
 
 -- ---- values
 

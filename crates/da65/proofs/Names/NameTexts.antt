@@ -1,8 +1,5 @@
 -- The texts of a map's names are names, and none of them is reserved.
-use Rattle.std.proofs.Common.{◌≡◌, ℕ, ◌/◌, ◌%◌, ◌<◌, Bool, true, false, not, List, ◌∷◌, length, Option, Some, None, nat_lt, refl, sym, ap, subst, arith, []}
-use Rattle.std.specs.Prelude.{◌||◌, ◌&&◌, ◌==◌}
-use Rattle.std.specs.List.{list_all}
-use Rattle.std.specs.Char.{is_ascii_alphabetic}
+use Rattle.std.proofs.Common.{◌≡◌, ℕ, ◌<◌, Bool, true, false, not, List, ◌∷◌, Option, Some, None, nat_lt, refl, sym, ap, subst, arith, []}
 use Rattle.std.proofs.lemmas.Bool.{and_from, and_parts, ltb-true, or_parts}
 use Rattle.std.proofs.lemmas.Bool.Decides.{nat_tests}
 use Rattle.text65.specs.Digits.{hex_digit}
@@ -25,10 +22,7 @@ pub record IsNameText (text : List ℕ) : Type 0 where
 pub text_long : (text : List ℕ) → has_name_form text ≡ true → IsNameLong text
 unfolding has_name_form
 text_long [] h = absurd cc
-text_long (b ∷ w) h =
-    let both = and_parts ((is_ascii_alphabetic b || b == 95) && list_all is_word_byte w) (nat_lt (length w) 80) h in
-    let short = ltb-true (length w) 80 both.1 in
-    (omega arith, omega (arith, short))
+text_long (b ∷ w) h = grind (arith, and_parts, nat_lt, ltb-true)
 
 text-of-form : (text : List ℕ) → has_name_form text ≡ true → is_reserved_word text ≡ false → IsNameText text
 unfolding is_name
@@ -47,10 +41,7 @@ hex-word d low = grind (arith, nat_tests)
 
 default-text : (a : ℕ) → IsNameText (default_name a)
 unfolding has_name_form default_name
-default-text a =
-    let form : has_name_form (default_name a) ≡ true =
-    rw (hex-word (a / 4096 % 16) (omega arith), hex-word (a / 256 % 16) (omega arith), hex-word (a / 16 % 16) (omega arith), hex-word (a % 16) (omega arith)) refl in
-    text-of-form (default_name a) form (long_word (default_name a) (omega arith))
+default-text a = grind (arith, hex-word, text-of-form, long_word)
 
 -- ---- the names of a map
 

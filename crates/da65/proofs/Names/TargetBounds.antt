@@ -3,7 +3,7 @@ use Rattle.std.proofs.Common.{◌≡◌, ◌∙◌, ℕ, zero, suc, ◌+◌, ◌
 use Rattle.std.specs.Prelude.{IfSome, slice_index}
 use Rattle.std.proofs.lemmas.Bool.{and_parts, cond_both, eqb-true, eqb-false, ltb-true}
 use Rattle.std.proofs.lemmas.List.Elements.{All-drop, All-head, All-tail}
-use Rattle.isa65.specs.Mode.{len_of, row_of, size_of}
+use Rattle.isa65.specs.Mode.{size_of}
 use Rattle.isa65.specs.Opcodes.{decoded}
 use Rattle.isa65.specs.declared.mnemonic.Mnemonic.{Mnemonic}
 use Rattle.isa65.specs.declared.op.Op.{Op}
@@ -69,10 +69,7 @@ row-small image m _ next bytes are room = tt
 code-small : (image : ImageView) (o : Option Op) (n a : ℕ) (bytes : List ℕ) → AreBytes bytes → a + n ≤ 65536 → IsSmall (code_target image o n a bytes)
 unfolding operand_target
 code-small image None n a bytes are room = tt
-code-small image (Some op) n a bytes are room =
-    cond_both (n == len_of op.mode) (operand_target image op.mnemonic op.mode a bytes) None IsSmall
-    (λ whole. row-small image op.mnemonic (row_of op.mode) (a + len_of op.mode) bytes are (omega (arith, room, eqb-true n (len_of op.mode) whole)))
-    (λ _. tt)
+code-small image (Some op) n a bytes are room = grind (arith, cond_both, None, row-small, eqb-true)
 
 return-small : (w : ℕ) → w < 65536 → IsSmall (return_target w)
 return-small w low = cond_both (w == 65535) None (Some (w + 1)) IsSmall (λ _. tt) (λ other. omega (arith, low, eqb-false w 65535 other))

@@ -1,12 +1,12 @@
 -- The comments of given names, and the names of segments, can be printed.
-use Rattle.std.proofs.Common.{◌≡◌, ◌∙◌, ℕ, Bool, true, false, not, List, ◌∷◌, length, Option, Some, None, All, nat_le, refl, ap, sym, subst, arith, []}
+use Rattle.std.proofs.Common.{◌≡◌, ◌∙◌, ℕ, Bool, true, false, not, List, ◌∷◌, Option, Some, None, All, nat_le, refl, ap, sym, subst, arith, []}
 use Rattle.std.specs.Prelude.{IfSome, ◌==◌, if◌then◌else◌, option_map}
 use Rattle.std.specs.List.{find, list_all}
 use Rattle.std.proofs.lemmas.Bool.{and_from, and_parts, leb-true}
 use Rattle.std.proofs.lemmas.Bool.Decides.{nat_tests}
 use Rattle.text65.specs.Names.{has_name_form}
 use Rattle.info65.specs.Names.{AreNames, IsComment, blank_name, covering, has_comment_form, is_comment_byte}
-use Rattle.info65.specs.Segments.{AreSegments, IsSegment, contains, segment_covering}
+use Rattle.info65.specs.Segments.{AreSegments, IsSegment, segment_covering}
 use Rattle.info65.specs.Views.{InfoView, NameView, SegmentView}
 use Rattle.stmt65.specs.Printable.{IsNameLong, IsPrintable}
 use Rattle.stmt65.specs.Views as view
@@ -31,9 +31,7 @@ no-feeds (b ∷ bs) are =
 
 comment-text : (text : List ℕ) → IsComment text → IsPrintable (view.remark text)
 unfolding has_comment_form
-comment-text text is =
-    let both = and_parts (nat_le (length text) 200) (list_all is_comment_byte text) is.form in
-    (leb-true (length text) 200 both.0, no-feeds text both.1)
+comment-text text is = grind (arith, and_parts, nat_le, leb-true, no-feeds)
 
 pub comment-printable : (m : MapView) (a : ℕ) (text : List ℕ) → AreNames m.info.names → comment_at m a ≡ Some text → IsPrintable (view.remark text)
 unfolding comment_at
@@ -70,9 +68,7 @@ found-segment f (s ∷ segments) name each e = of (f s) e (found-segment f segme
 
 pub segment-printable : (m : MapView) (a : ℕ) (name : List ℕ) → AreSegments m.info.segments → segment_at m a ≡ Some name → IsNameLong name × (has_name_form name ≡ true)
 unfolding segment_at segment_covering
-segment-printable m a name are e =
-    let form = found-segment (λ s. contains s a) m.info.segments name are.each e in
-    (text_long name form, form)
+segment-printable m a name are e = grind (arith, found-segment, text_long)
 
 pub some_segment : (m : MapView) (a : ℕ) (o : Option (List ℕ)) → AreSegments m.info.segments → o ≡ segment_at m a → IfSome o IsNameLong
 some_segment m a None are e = tt

@@ -1,6 +1,6 @@
 -- A listing at comment level 0, without segments and comments, has no lines at the heads of its groups.
-use Rattle.std.proofs.Common.{◌≡◌, ◌∙◌, ◌++◌, ◌-◌, ℕ, Bool, true, false, List, ◌∷◌, Option, Some, None, refl, sym, ap, []}
-use Rattle.std.specs.Prelude.{if◌then◌else◌, ◌==◌, is_some, length, not, option_map}
+use Rattle.std.proofs.Common.{arith, ◌≡◌, ◌∙◌, ◌++◌, ◌-◌, ℕ, Bool, true, false, List, ◌∷◌, Option, Some, None, refl, sym, ap, []}
+use Rattle.std.specs.Prelude.{if◌then◌else◌, ◌==◌, is_some, option_map}
 use Rattle.std.specs.List.{flat_map, list_any}
 use Rattle.std.proofs.lemmas.Bool.{eqb-true, not-false, or_parts, true≢false}
 use Rattle.std.proofs.lemmas.List.{nil_from_length}
@@ -12,11 +12,9 @@ use Rattle.info65.specs.Names.{blank_name, covering}
 use Rattle.info65.specs.Views.{NameView}
 use Rattle.info65.proofs.Public.{last_name}
 use Rattle.map65.specs.MapView.{MapView}
-use Rattle.map65.specs.Spans.{addresses}
 use Rattle.da65.specs.Comments.{comment_at, comment_by}
-use Rattle.da65.specs.Groups.{group_len}
 use Rattle.da65.specs.Lines.{IsUnmarked}
-use Rattle.da65.specs.Listing.{ListingLine, comment_line, comment_lines, comments, opening_lines, segment_lines, separator_lines}
+use Rattle.da65.specs.Listing.{ListingLine, opening_lines, segment_lines, separator_lines}
 use Rattle.da65.specs.Marks.{has_comment, has_marks}
 use Rattle.map65.specs.Segments.{segment_at}
 use Rattle.da65.specs.Style.{style_of}
@@ -53,21 +51,7 @@ bare-separator m a none = rw none refl
 
 pub unmarked : (m : MapView) → has_marks m.info (style_of m.info.settings) ≡ false → IsUnmarked m
 unfolding opening_lines
-unmarked m none =
-    let level = or_parts (not ((style_of m.info.settings).level == 0)) _ none in
-    let others = or_parts (not (length m.info.segments == 0)) _ level.1 in
-    let low = eqb-true (style_of m.info.settings).level 0 (not-false _ level.0) in
-    let segments = nil_from_length m.info.segments (eqb-true (length m.info.segments) 0 (not-false _ others.0)) in
-    let quiet : (a : ℕ) → comment_at m a ≡ None = λ a. bare-comment m a others.1 in
-    let default : (a : ℕ) → segment_at m a ≡ None = λ a. bare-segment m a segments in
-    record {
-      opening = λ a.
-          ap (λ (ls : List ListingLine). ls ++ (segment_lines m a ++ comments m (group_len m a) a)) (bare-separator m a low)
-          ∙ ap (λ (ls : List ListingLine). ls ++ comments m (group_len m a) a) (bare-segments m a default)
-          ∙ flat-nothing (comment_lines m) (λ a. ap comment_line (quiet a)) (addresses (group_len m a) a);
-      comments = quiet;
-      segments = default;
-    }
+unmarked m none = grind (arith, or_parts, eqb-true, not-false, nil_from_length, None, bare-comment, bare-segment, bare-separator, bare-segments, flat-nothing)
 
 -- a name that is looked at has a comment where the name that was given has one
 pub comment-shown : (given : Given) (n : NameView) → given_seen given ≡ n → has_comment n ≡ is_some given.comment

@@ -1,5 +1,5 @@
 -- The next of the lines that are left.
-use Rattle.std.proofs.Common.{◌≡◌, ◌∙◌, ℕ, ◌+◌, ◌-◌, ◌<◌, ◌≤◌, ◌∷◌, ◌++◌, Bool, true, false, List, Option, Some, None, length, map, refl, ap, sym, subst, codes, arith, append_assoc, []}
+use Rattle.std.proofs.Common.{◌≡◌, ◌∙◌, ℕ, ◌+◌, ◌-◌, ◌<◌, ◌≤◌, ◌∷◌, ◌++◌, Bool, true, false, List, Option, Some, None, length, refl, ap, sym, subst, codes, arith, append_assoc, []}
 use Rattle.std.specs.Prelude.{MatchOption}
 use Rattle.std.specs.List.{flat_map}
 use Rattle.std.proofs.lemmas.Bool.{and_parts, cond-false, cond-true}
@@ -9,7 +9,7 @@ use Rattle.map65.specs.Roles.{is_skip, role_of}
 use Rattle.map65.specs.Spans.{addresses}
 use Rattle.da65.specs.BaseNames.{base_name, is_base, names_of}
 use Rattle.da65.specs.Comments.{comment_at}
-use Rattle.da65.specs.Groups.{IsGroupPlace, group_bytes, group_len, groups_from}
+use Rattle.da65.specs.Groups.{IsGroupPlace, group_bytes, group_len}
 use Rattle.da65.specs.Lines.{IsConstant, IsFirstOf, IsGroupStart, IsInGroup, IsNext, IsPlace, IsUnmarked, after_group, with_blank_after, comments_left, constants_left, group_left, groups_left, left_from, lines_from, segment_left, segment_of, IsLabelNext, IsNextIn}
 use Rattle.da65.specs.Listing.{ListingLine, assignment_line, comment_line, comment_lines, comments, constant_lines, constants, ending_lines, forwards, group_line, group_lines, has_constant_line, has_empty_line, has_separator, label_at, labelled, line_text, listing, listing_below, opening_lines, plain, segment_lines, separator, separator_lines, statement_lines}
 use Rattle.da65.specs.Segments.{is_same_segment, segment_before, segment_statement}
@@ -37,18 +37,12 @@ first-text t u left text rest l lines is same = record { head = l; lines = lines
 
 -- the lines that are left as text
 pub next_lines : (m : MapView) (p next : ListingPlace) (text : List ℕ) (segment : Option (List ℕ)) → IsNext m (left_from p m) text next segment → lines_from p m ≡ text ∷ lines_from next m
-next_lines m p next text segment is =
-    let t : Style = style_of m.info.settings in
-    ap (map (line_text t)) is.lines.lines ∙ ap (λ (t : List ℕ). t ∷ lines_from next m) (sym is.lines.text_is)
+next_lines m p next text segment is = grind arith
 
 -- a plain line
 pub next-plain : (m : MapView) (left : List ListingLine) (text : List ℕ) (next : ListingPlace) (segment : Option (List ℕ)) (t : Style) (s : StatementView)
     → left ≡ plain s ∷ left_from next m → text ≡ line_text t (plain s) → t ≡ style_of m.info.settings → IsPlace next m → segment_of next m ≡ segment → IsNext m left text next segment
-next-plain m left text next segment t s lines is same place where_is = record {
-  lines = first-text t (style_of m.info.settings) left text (left_from next m) (plain s) lines is same;
-  place = place;
-  segment_is = where_is;
-}
+next-plain m left text next segment t s lines is same place where_is = grind (arith, first-text)
 
 -- the same lines
 pub next-moved : (m : MapView) (left same : List ListingLine) (text : List ℕ) (next : ListingPlace) (segment : Option (List ℕ)) → left ≡ same → IsNext m same text next segment → IsNext m left text next segment
@@ -101,26 +95,16 @@ regroup opening forward statement ending rest = simp append_assoc
 
 pub lines-group : (m : MapView) (k : ℕ) → IsGroupStart m k → groups_left m k ≡ opening_lines m (m.image.start + k) ++ group_left m k (m.image.start + k + 1)
 unfolding groups_left group_left group_lines after_group
-lines-group m k start =
-    let a : ℕ = m.image.start + k in
-    let count : group_len m a - 1 ≡ a + group_len m a - (a + 1) = omega arith in
-    let rest : List ListingLine = flat_map (group_lines m) (groups_from m (k + group_len m a)) in
-    ap (flat_map (group_lines m)) (groups-next m k start.place start.inside start.shown)
-    ∙ regroup (opening_lines m a) (forwards (names_of m) a (group_len m a - 1) (a + 1)) (statement_lines m a) (ending_lines m a) rest
-    ∙ ap (λ (n : ℕ). opening_lines m a ++ ((forwards (names_of m) a n (a + 1) ++ statement_lines m a) ++ (ending_lines m a ++ rest))) count
+lines-group m k start = grind (arith, groups-next, regroup)
 
 -- without separators, segments and comments
 pub lines-unmarked : (m : MapView) (k : ℕ) → IsUnmarked m → IsGroupStart m k → groups_left m k ≡ group_left m k (m.image.start + k + 1)
-lines-unmarked m k none start =
-    lines-group m k start ∙ ap (λ (ls : List ListingLine). ls ++ group_left m k (m.image.start + k + 1)) (none.opening (m.image.start + k))
+lines-unmarked m k none start = grind (arith, lines-group)
 
 -- the separator, the segment, the comments
 pub lines-opening : (m : MapView) (k : ℕ) → IsGroupStart m k → groups_left m k ≡ separator_lines m (m.image.start + k) ++ segment_left m k
 unfolding opening_lines segment_left comments_left
-lines-opening m k start =
-    let a : ℕ = m.image.start + k in
-    let count : group_len m a ≡ a + group_len m a - a = omega arith in
-    rw (← count) (lines-group m k start ∙ simp append_assoc)
+lines-opening m k start = grind (arith, lines-group, append_assoc)
 
 pub separator-yes : (m : MapView) (k : ℕ) → has_separator m (m.image.start + k) ≡ true → IsGroupStart m k → groups_left m k ≡ plain separator ∷ segment_left m k
 separator-yes m k is start = lines-opening m k start ∙ ap (λ (ls : List ListingLine). ls ++ segment_left m k) (cond-true _ _ _ is)
@@ -150,11 +134,7 @@ comment-end m k v end there none = rw (← there) (ap (λ (ls : List ListingLine
 pub comment-first : (m : MapView) (k v u end : ℕ) (t : Style) (text : List ℕ) → end ≡ m.image.start + k + group_len m (m.image.start + k)
     → IsFirstOf t (comments m (end - v) v) text (comments m (end - (u + 1)) (u + 1)) → IsFirstOf t (comments_left m k v) text (comments_left m k (u + 1))
 unfolding comments_left
-comment-first m k v u end t text there is = record {
-  head = is.head;
-  lines = rw (← there) (ap (λ (ls : List ListingLine). ls ++ group_left m k (m.image.start + k + 1)) is.lines);
-  text_is = is.text_is;
-}
+comment-first m k v u end t text there is = grind arith
 
 -- ---- the forward lines of a group
 
@@ -167,11 +147,7 @@ pub forward-first : (m : MapView) (k v u first end : ℕ) (t : Style) (text : Li
     → IsFirstOf t (forwards (names_of m) first (end - v) v) text (forwards (names_of m) first (end - (u + 1)) (u + 1))
     → IsFirstOf t (group_left m k v) text (group_left m k (u + 1))
 unfolding group_left
-forward-first m k v u first end t text here there is = record {
-  head = is.head;
-  lines = rw (← there, ← here) (ap (λ (ls : List ListingLine). (ls ++ statement_lines m first) ++ after_group m k) is.lines);
-  text_is = is.text_is;
-}
+forward-first m k v u first end t text here there is = grind arith
 
 -- ---- constant lines, and what follows
 
@@ -229,21 +205,13 @@ takes-label m k start = group_takes (names_of m) (opcodes m) (role_of m.info (m.
 pub then-group : (m : MapView) (k : ℕ) (text : List ℕ) (l : ListingLine) → IsGroupStart m k → has_empty_line (style_of m.info.settings) (statement_at m (m.image.start + k)) ≡ false
     → text ≡ line_text (style_of m.info.settings) l → IsNext m (l ∷ after_group m k) text (Group (k + group_len m (m.image.start + k))) (segment_at m (m.image.start + k))
 unfolding after_group ending_lines
-then-group m k text l start none is = record {
-  lines = record { head = l; lines = rw none refl; text_is = is };
-  place = place-next m k start.place start.inside start.shown;
-  segment_is = segment-next m k start;
-}
+then-group m k text l start none is = grind (arith, place-next, segment-next)
 
 -- an empty line follows its line
 pub then-empty : (m : MapView) (k : ℕ) (text : List ℕ) (l : ListingLine) → IsGroupStart m k → has_empty_line (style_of m.info.settings) (statement_at m (m.image.start + k)) ≡ true
     → text ≡ line_text (style_of m.info.settings) l → IsNext m (l ∷ after_group m k) text (Ending (k + group_len m (m.image.start + k))) (segment_at m (m.image.start + k))
 unfolding after_group ending_lines
-then-empty m k text l start some is = record {
-  lines = record { head = l; lines = rw some refl; text_is = is };
-  place = place-next m k start.place start.inside start.shown;
-  segment_is = segment-next m k start;
-}
+then-empty m k text l start some is = grind (arith, place-next, segment-next)
 
 -- ---- what is known of the parts of what is listed
 
@@ -254,18 +222,12 @@ style_cpu s = refl
 -- a name as the address has it
 pub assignment_told : (m : MapView) (v : ℕ) (t : Style) (text name : List ℕ) → t ≡ style_of m.info.settings → name ≡ base_name (names_of m) v
     → text ≡ line_text t (plain (view.assignment name v)) → text ≡ line_text (style_of m.info.settings) (assignment_line (names_of m) v)
-assignment_told m v t text name same is told =
-    told ∙ ap (λ (u : Style). line_text u (plain (view.assignment name v))) same
-    ∙ ap (λ (bs : List ℕ). line_text (style_of m.info.settings) (plain (view.assignment bs v))) is
+assignment_told m v t text name same is told = grind arith
 
 -- the constant line of an address, and the next ones
 pub then_constant : (m : MapView) (v : ℕ) (left : List ListingLine) (text : List ℕ) → v < 65536 → left ≡ assignment_line (names_of m) v ∷ constants_left m (v + 1) true
     → text ≡ line_text (style_of m.info.settings) (assignment_line (names_of m) v) → IsNext m left text (Constant (v + 1) true) None
-then_constant m v left text low lines is = record {
-  lines = record { head = assignment_line (names_of m) v; lines = lines; text_is = is };
-  place = omega (arith, low);
-  segment_is = refl;
-}
+then_constant m v left text low lines is = grind arith
 
 pub constant-base : (m : MapView) (v : ℕ) → IsConstant m v → is_base (names_of m) v ≡ true
 constant-base m v is = (and_parts (is_base (names_of m) v) _ is.has).0
@@ -275,31 +237,14 @@ constant-base m v is = (and_parts (is_base (names_of m) v) _ is.has).0
 -- the line that enters it
 pub enter-segment : (m : MapView) (k a : ℕ) (t : Style) (text : List ℕ) (here : Option (List ℕ)) → IsGroupStart m k → a ≡ m.image.start + k → t ≡ style_of m.info.settings
     → here ≡ segment_at m a → is_same_segment here (segment_before m k) ≡ false → text ≡ line_text t (plain (segment_statement here)) → IsNext m (segment_left m k) text (Comment k a) here
-enter-segment m k a t text here start place same is other told =
-    let at : here ≡ segment_at m (m.image.start + k) = is ∙ ap (segment_at m) place in
-    record {
-      lines = first-text t _ _ text _ (plain (segment_statement here))
-          (segment-yes m k (sym (ap (λ (s : Option (List ℕ)). is_same_segment s (segment_before m k)) at) ∙ other)
-          ∙ ap (λ (s : Option (List ℕ)). plain (segment_statement s) ∷ comments_left m k (m.image.start + k)) (sym at)
-          ∙ ap (λ (n : ℕ). plain (segment_statement here) ∷ comments_left m k n) (sym place))
-          told same;
-      place = record { group = start; from = omega (arith, place); before = omega (arith, place) };
-      segment_is = sym at;
-    }
+enter-segment m k a t text here start place same is other told = grind (arith, first-text, segment-yes, Option)
 
 -- it goes on
 pub stay-in-segment : (m : MapView) (k a : ℕ) (text : List ℕ) (next : ListingPlace) (here old : Option (List ℕ)) → a ≡ m.image.start + k
     → here ≡ segment_at m a → old ≡ segment_before m k → is_same_segment here old ≡ true → IsNext m (comments_left m k a) text next (segment_at m (m.image.start + k)) → IsNext m (segment_left m k) text next old
-stay-in-segment m k a text next here old place is before same known =
-    let at : here ≡ segment_at m (m.image.start + k) = is ∙ ap (segment_at m) place in
-    let both : is_same_segment (segment_at m (m.image.start + k)) (segment_before m k) ≡ true =
-    sym (ap (λ (s : Option (List ℕ)). is_same_segment s (segment_before m k)) at) ∙ sym (ap (is_same_segment here) before) ∙ same in
-    next-there m (segment_left m k) text next (segment_at m (m.image.start + k)) old (sym at ∙ same-segment here old same)
-    (next-moved m (segment_left m k) (comments_left m k a) text next _ (segment-no m k both ∙ ap (comments_left m k) (sym place)) known)
+stay-in-segment m k a text next here old place is before same known = grind (arith, Option, next-there, same-segment, next-moved, segment-no)
 
 -- ---- where a group begins
 
 pub inside-start : (m : MapView) (k a : ℕ) → IsGroupStart m k → a ≡ m.image.start + k → IsInGroup m k (a + 1)
-inside-start m k a start place =
-    let some = group-some m k start.place start.inside start.shown in
-    record { group = start; after = omega (arith, place); before = omega (arith, place, some) }
+inside-start m k a start place = grind (arith, group-some)

@@ -1,8 +1,7 @@
 -- What a run that is done wrote, assembled, gives back its image.
-use Rattle.std.proofs.Common.{◌≡◌, ℕ, false, List, Option, ap, ◌∙◌}
+use Rattle.std.proofs.Common.{arith, ◌≡◌, ℕ, false, List, Option}
 use Rattle.std.specs.Prelude.{IfOk, Result, Ok, Err}
 use Rattle.std.specs.Io.KnownBytes.{Appends}
-use Rattle.stmt65.specs.Meaning.{meaning}
 use Rattle.map65.specs.ImageView.{AreBytes}
 use Rattle.map65.specs.MapView.{IsSoundMap, MapView}
 use Rattle.da65.specs.Groups.{skips}
@@ -14,11 +13,7 @@ use Rattle.da65.proofs.Blocks.TextLaws.{text_gives_image}
 
 -- the lines of a map without skipped bytes were written, so the image is meant
 pub lines_took : (m : MapView) (lines : List (List ℕ)) (old new : Option (List ℕ)) → IsSoundMap m → AreBytes m.image.bytes → lines ≡ lines_of m → Appends old new (text_of lines) → skips m ≡ false → Took m.image old new
-lines_took m lines old new sound are l taken none = record {
-  text = text_of lines;
-  taken = taken;
-  means = ap (λ (ls : List (List ℕ)). meaning m.image.start (text_of ls)) l ∙ text_gives_image m sound.placed are sound.names sound.segments none;
-}
+lines_took m lines old new sound are l taken none = grind (arith, text_gives_image)
 
 -- the same of a run that was done
 pub listing_took : (result : Result Status RunFault) (m : MapView) (lines : List (List ℕ)) (old new : Option (List ℕ)) → IsSoundMap m → AreBytes m.image.bytes → lines ≡ lines_of m → Appends old new (text_of lines)

@@ -1,7 +1,6 @@
 -- Sets of numbers by bits.
 use Rattle.std.proofs.Common.{◌≡◌, ◌≢◌, ◌∙◌, ◌<◌, ◌*◌, ◌/◌, ◌%◌, ◌^◌, ◌==◌, ◌||◌, ℕ, List, false, ⊎_elim, ap, arith, bit_and, bit_or, get_or, length, slice_set, sym, nat_eq, w64}
 use Rattle.std.specs.Int.{bit_at}
-use Rattle.std.proofs.lemmas.Bool.{cases_lt}
 use Rattle.std.proofs.lemmas.Bool.Decides.{eqb_tells}
 use Rattle.std.proofs.lemmas.List.{get_or-replicate, get_or_past, length-replicate, get_or-set_same, get_or-set_other}
 use Rattle.std.proofs.lemmas.Nat.Bits.{bit_at-zero, bit_at_set_other, bit_at_set_same, shr_and_one}
@@ -9,11 +8,7 @@ use Rattle.std.proofs.Math.ListN.{replicate}
 use Rattle.da65.specs.Code.KeySet.{has_bit}
 
 no_word : (n i : ℕ) → ◌≡◌ {A = ℕ} (get_or (replicate n 0) i 0) 0
-no_word n i =
-    ⊎_elim
-    (λ low. get_or-replicate n i 0 0 low)
-    (λ past. get_or_past (replicate n 0) i 0 (omega (arith, length-replicate {A = ℕ} n 0, past)))
-    (cases_lt i n)
+no_word n i = grind (arith, get_or-replicate, get_or_past, replicate, length-replicate)
 
 pub no_bit : (n k : ℕ) → has_bit (replicate n 0) k ≡ false
 unfolding has_bit

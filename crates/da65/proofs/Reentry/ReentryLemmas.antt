@@ -1,5 +1,5 @@
 -- Which groups are left to decide whether a segment is entered again.
-use Rattle.std.proofs.Common.{◌≡◌, ◌∙◌, ◌+◌, ◌<◌, ◌&&◌, ◌||◌, ℕ, Bool, List, ◌∷◌, true, false, ap, length, map, not, refl, subst, sym, []}
+use Rattle.std.proofs.Common.{arith, ◌≡◌, ◌∙◌, ◌+◌, ◌<◌, ◌&&◌, ◌||◌, ℕ, Bool, List, ◌∷◌, true, false, ap, length, map, refl, subst, sym, []}
 use Rattle.std.specs.Prelude.{◌==◌, Option, None, Some, codes, is_some}
 use Rattle.std.specs.Option.{option_or}
 use Rattle.std.specs.Str.{bytes_eq}
@@ -32,10 +32,7 @@ same_some is = cc
 
 -- the keys of two names are equal exactly if the names are
 key-tells : (segments : List SegmentView) (n t : List ℕ) (k l : ℕ) → AreSegments segments → first_named segments n ≡ Some k → first_named segments t ≡ Some l → (k == l) ≡ bytes_eq n t
-key-tells segments n t k l are is also =
-    same_from_decides {P = n ≡ t} (k == l) (bytes_eq n t)
-    (λ yes. one_key segments n t k are is (also ∙ ap (λ (x : ℕ). Some x) (sym (eqb-true k l yes))), λ same. eq-eqb k l (same_some (sym is ∙ ap (first_named segments) same ∙ also)))
-    (bytes_eq-Decides n t)
+key-tells segments n t k l are is also = grind (arith, same_from_decides, one_key, eqb-true, eq-eqb, same_some, bytes_eq-Decides)
 
 -- names whose keys are not equal are not
 key-apart : (segments : List SegmentView) (n t : List ℕ) (o p : Option ℕ) → first_named segments n ≡ o → first_named segments t ≡ p → (o ≡ p → ⊥) → bytes_eq n t ≡ false
@@ -101,10 +98,7 @@ keyed-by segments (Some n) None none some = let h = some n refl in absurd (false
 keyed-by segments (Some n) (Some k) none some = sym (some n refl).0
 
 keyed-at : (segments : List SegmentView) (a : ℕ) (key : Option ℕ) → AreSegments segments → key ≡ segment_key segments a → IsKeyed segments (segment_covering segments a) key
-keyed-at segments a key are is =
-    keyed-by segments (segment_covering segments a) key
-    (λ none. is ∙ none_keyed segments a none)
-    (λ n some. (is ∙ some_keyed segments a n some, covering_keyed segments a n are some))
+keyed-at segments a key are is = grind (arith, keyed-by, none_keyed, some_keyed, covering_keyed)
 
 pub keyed_map : (m : MapView) (i : InfoView) (a : ℕ) (key : Option ℕ) → m.info ≡ i → AreSegments i.segments → key ≡ segment_key i.segments a → IsKeyed m.info.segments (segment_at m a) key
 unfolding segment_at
@@ -131,10 +125,7 @@ pub record IsByte (m : MapView) (k a : ℕ) : Type 0 where
   pub low : k < length m.image.bytes
 
 pub byte-told : (m : MapView) (image : ImageView) (bytes : List ℕ) (start k : ℕ) → m.image ≡ image → bytes ≡ image.bytes → start ≡ image.start → k < length bytes → IsByte m k (start + k)
-byte-told m image bytes start k same are is low = record {
-  address = ap (λ (n : ℕ). n + k) (is ∙ ap (λ (i : ImageView). i.start) (sym same));
-  low = subst (λ (n : ℕ). k < n) (count-told m image bytes same are) low;
-}
+byte-told m image bytes start k same are is low = grind (arith, count-told)
 
 -- what is asked of its address is so of that byte
 pub skip-told : (m : MapView) (k a : ℕ) (result t : Bool) → IsByte m k a → result ≡ is_skip (role_of m.info a) → result ≡ t → is_skip (role_of m.info (m.image.start + k)) ≡ t
@@ -156,48 +147,19 @@ pub record HasKeys (m : MapView) (k : ℕ) (segment name : Option ℕ) : Type 0 
 
 pub keys-told : (m : MapView) (i : InfoView) (k a : ℕ) (segment name code : Option ℕ) → m.info ≡ i → AreSegments i.segments → IsByte m k a → IsKeyed m.info.segments (segment_at m a) segment → code ≡ first_named i.segments (codes "CODE") → name ≡ option_or segment code
     → HasKeys m k segment name
-keys-told m i k a segment name code same are here keyed first is =
-    let segments : List SegmentView = m.info.segments in
-    let s : Option (List ℕ) = segment_at m (m.image.start + k) in
-    let keys : IsKeyed segments s segment = subst (λ (n : ℕ). IsKeyed segments (segment_at m n) segment) here.address keyed in
-    record {
-      sound = segments-told m i same are;
-      keyed = keys;
-      named = subst (IsNameKey segments (segment_name s)) (sym is) (name-keyed segments s segment code keys (first ∙ ap (λ (x : InfoView). first_named x.segments (codes "CODE")) (sym same)));
-    }
+keys-told m i k a segment name code same are here keyed first is = grind (arith, segments-told, name-keyed)
 
 pub known-first : (m : MapView) (e : Entered) → IsNew e → IsKnownFrom m 0 e
 unfolding is_entered_again
-known-first m e new = record {
-  segment = None;
-  keyed = subst (λ (k : Option ℕ). IsKeyed m.info.segments None k) (sym new.last) tt;
-  had = [];
-  same = λ t. sym (none-asked m.info.segments (has_had e) t new.had);
-  rest = ap (λ (gs : List ℕ). enters_again None [] (map (segment_at m) gs)) (sym (groups-first m));
-}
+known-first m e new = grind (arith, none-asked, groups-first)
 
 pub known-skip : (m : MapView) (k : ℕ) (e : Entered) → IsGroupPlace m k → k < length m.image.bytes → is_skip (role_of m.info (m.image.start + k)) ≡ true → IsKnownFrom m k e → IsKnownFrom m (k + 1) e
-known-skip m k e place low skip known = record {
-  segment = known.segment;
-  keyed = known.keyed;
-  had = known.had;
-  same = known.same;
-  rest = ap (λ (gs : List ℕ). enters_again known.segment known.had (map (segment_at m) gs)) (sym (groups-skip m k place low skip)) ∙ known.rest;
-}
+known-skip m k e place low skip known = grind (arith, groups-skip)
 
 -- the group that begins with the k-th byte leads back, or those after it decide
 known-here : (m : MapView) (k : ℕ) (e : Entered) (segment name : Option ℕ) → IsGroupStart m k → HasKeys m k segment name → (known : IsKnownFrom m k e)
     → (is_back e segment name || enters_again (segment_at m (m.image.start + k)) (segment_name (segment_at m (m.image.start + k)) ∷ known.had) (map (segment_at m) (groups_from m (k + group_len m (m.image.start + k))))) ≡ is_entered_again m
-known-here m k e segment name start keys known =
-    let segments : List SegmentView = m.info.segments in
-    let s : Option (List ℕ) = segment_at m (m.image.start + k) in
-    let ss : List (Option (List ℕ)) = map (segment_at m) (groups_from m (k + group_len m (m.image.start + k))) in
-    let rest : Bool = enters_again s (segment_name s ∷ known.had) ss in
-    ap (λ (b : Bool). (not b && has_had e name) || rest) (same-keys segments known.segment s e.last segment keys.sound known.keyed keys.keyed)
-    ∙ ap (λ (b : Bool). (not (is_same_segment known.segment s) && b) || rest) (sym (asked-by-key segments (has_had e) (segment_name s) name keys.named) ∙ sym (known.same (segment_name s)))
-    ∙ sym (enters-step known.segment s known.had ss)
-    ∙ ap (λ (gs : List ℕ). enters_again known.segment known.had (map (segment_at m) gs)) (sym (groups-next m k start.place start.inside start.shown))
-    ∙ known.rest
+known-here m k e segment name start keys known = grind (arith, Bool, same-keys, asked-by-key, enters-step, groups-next)
 
 pub known-back : (m : MapView) (k : ℕ) (e : Entered) (segment name : Option ℕ) → IsGroupStart m k → HasKeys m k segment name → IsKnownFrom m k e → is_back e segment name ≡ true → true ≡ is_entered_again m
 known-back m k e segment name start keys known back = rw back at (known-here m k e segment name start keys known)
@@ -216,8 +178,7 @@ known-next m k len e new segment name start keys known back is_len after =
     }
 
 pub known-end : (m : MapView) (k : ℕ) (e : Entered) → k ≡ length m.image.bytes → IsKnownFrom m k e → false ≡ is_entered_again m
-known-end m k e end known =
-    sym (enters-none known.segment known.had) ∙ ap (λ (gs : List ℕ). enters_again known.segment known.had (map (segment_at m) gs)) (sym (groups-end m k end)) ∙ known.rest
+known-end m k e end known = grind (arith, enters-none, groups-end)
 
 -- ---- no segments
 

@@ -1,6 +1,5 @@
 -- The bytes of fragments whose values are numbers.
-use Rattle.std.proofs.Common.{◌≡◌, ℕ, true, cond, ◌+◌, ◌-◌, ◌%◌, ◌<◌, ◌≤◌, List, ◌∷◌, ◌++◌, length, map, Option, Some, None, refl, sym, ap, subst, arith, length-append, []}
-use Rattle.std.specs.Prelude.{nat_lt, nat_le}
+use Rattle.std.proofs.Common.{◌≡◌, ℕ, true, ◌+◌, ◌-◌, ◌%◌, ◌<◌, ◌≤◌, List, ◌∷◌, ◌++◌, length, map, Option, Some, None, refl, ap, arith, length-append, []}
 use Rattle.std.specs.List.{list_all, flat_map}
 use Rattle.std.proofs.lemmas.Bool.{lt-ltb, le-leb, ltb-true, ltb-false, leb-true, and_from, cond_both}
 use Rattle.std.proofs.lemmas.Option.{cond_some}
@@ -41,12 +40,7 @@ pub more_fragments : (Full : List Definition → Type 0) (next : ℕ) (f : Fragm
     → ((all : List Definition) → Full all → is_fragment_known all f ≡ true) → ((all : List Definition) → Full all → fragment_fits all next f ≡ true)
     → ((all : List Definition) → Full all → fragment_bytes all next f ≡ front) → FragmentsGive Full next fragments bytes → FragmentsGive Full next (f ∷ fragments) (front ++ bytes)
 unfolding coding_len
-more_fragments Full next f fragments front bytes long known fits gives rest = record {
-  long = rw (long, rest.long) (sym (length-append front bytes));
-  known = λ all full. and_from _ _ (known all full) (rest.known all full);
-  fits = λ all full. and_from _ _ (fits all full) (rest.fits all full);
-  gives = λ all full. rw (gives all full, rest.gives all full) refl;
-}
+more_fragments Full next f fragments front bytes long known fits gives rest = grind (arith, length-append, and_from)
 
 pub fixed_gives : (Full : List Definition → Type 0) (next b : ℕ) (fragments : List Fragment) (bytes : List ℕ) → FragmentsGive Full next fragments bytes → FragmentsGive Full next (Fixed b ∷ fragments) (b ∷ bytes)
 unfolding fragment_fits fragment_bytes
@@ -71,33 +65,14 @@ pub record IsTarget (next b target : ℕ) : Type 0 where
   pub back : distance next target ≡ b
 
 forward_target : (next b : ℕ) → b < 128 → next + b < 65536 → IsTarget next b (next + b)
-forward_target next b h room =
-    let k : next + b + 256 - next ≡ b + 256 = omega arith in
-    record {
-      room = room;
-      near = and_from _ _ (le-leb next (next + b + 128) (omega arith)) (le-leb (next + b) (next + 127) (omega arith));
-      back = rw k (omega arith);
-    }
+forward_target next b h room = grind (arith, and_from, le-leb)
 
 backward_target : (next b : ℕ) → 128 ≤ b → b < 256 → next ≤ 65536 → 256 - b ≤ next → IsTarget next b (next - (256 - b))
-backward_target next b h g room low =
-    let k : next - (256 - b) + 256 - next ≡ b = omega arith in
-    record {
-      room = omega arith;
-      near = and_from _ _ (le-leb next (next - (256 - b) + 128) (omega arith)) (le-leb (next - (256 - b)) (next + 127) (omega arith));
-      back = rw k (omega arith);
-    }
+backward_target next b h g room low = grind (arith, and_from, le-leb)
 
 pub target_is : (next b target : ℕ) → next ≤ 65536 → b < 256 → target_of next b ≡ Some target → IsTarget next b target
 unfolding target_of
-target_is next b target room h =
-    cond_both (nat_lt b 128) (cond (nat_lt (next + b) 65536) (Some (next + b)) None) (cond (nat_le (256 - b) next) (Some (next - (256 - b))) None) (λ (o : Option ℕ). o ≡ Some target → IsTarget next b target)
-    (λ low e.
-    let is = cond_some (nat_lt (next + b) 65536) (next + b) target e in
-    subst (IsTarget next b) is.1 (forward_target next b (ltb-true b 128 low) (ltb-true (next + b) 65536 is.0)))
-    (λ high e.
-    let is = cond_some (nat_le (256 - b) next) (next - (256 - b)) target e in
-    subst (IsTarget next b) is.1 (backward_target next b (ltb-false b 128 high) h room (leb-true (256 - b) next is.0)))
+target_is next b target room h = grind (arith, cond_both, Some, None, Option, cond_some, forward_target, ltb-true, backward_target, ltb-false, leb-true)
 
 -- ---- data
 

@@ -1,5 +1,5 @@
 -- Each line of a listing can be printed, and reads as its statement with its label.
-use Rattle.std.proofs.Common.{◌≡◌, ℕ, true, ◌+◌, ◌*◌, ◌<◌, ◌≤◌, List, ◌∷◌, length, take, Option, Some, None, refl, arith, []}
+use Rattle.std.proofs.Common.{◌≡◌, ℕ, true, ◌+◌, ◌<◌, ◌≤◌, List, ◌∷◌, length, take, Option, Some, None, refl, arith, []}
 use Rattle.std.specs.Prelude.{IfSome, nat_lt, slice_index}
 use Rattle.std.specs.List.{list_all}
 use Rattle.std.specs.Option.{option_map}
@@ -17,7 +17,6 @@ use Rattle.info65.specs.Names.{AreNames}
 use Rattle.info65.specs.declared.information.range.RangeType.{RangeType}
 use Rattle.stmt65.specs.Views as view
 use Rattle.stmt65.specs.Views.{ExprView, OperandsView, StatementView}
-use Rattle.stmt65.specs.Line.{line_of}
 use Rattle.stmt65.specs.Printable.{AreOperands, IsOperand, IsPrintable, MayBeLabelled}
 use Rattle.stmt65.specs.Printed.{HasLabelName, HasName, HasNames, HasNamesIn, PrintsAs, source_line, with_label}
 use Rattle.stmt65.specs.Code.Widths.{AreWordWide, IsInWidth, IsWordWide}
@@ -29,7 +28,7 @@ use Rattle.map65.specs.Roles.{role_of}
 use Rattle.map65.specs.Targets.{entry_of, target_of}
 use Rattle.da65.specs.BaseNames.{Names, names_of}
 use Rattle.da65.specs.Groups.{begins, group_bytes}
-use Rattle.da65.specs.Listing.{ListingLine, line_text, remarks_of}
+use Rattle.da65.specs.Listing.{ListingLine, line_text}
 use Rattle.da65.specs.Statements.{address_expr, constant_base, expr_from, operand_expr, operands_of, statement_at, statement_for, zero_page_expr}
 use Rattle.da65.specs.Shapes.{IsGroupOf}
 use Rattle.da65.specs.declared.listing.style.Style.{Style}
@@ -55,12 +54,7 @@ pub record CanPrint (t : Style) (l : ListingLine) : Type 0 where
 
 pub prints : (t : Style) (l : ListingLine) → CanPrint t l → PrintsAs (line_text t l) (with_label l.label (source_line l.statement))
 unfolding line_text
-prints t l h = record {
-  line = line_of t.columns l.statement (remarks_of t l);
-  ends = refl;
-  one_line = one_line t.columns l.statement (remarks_of t l) h.statement.printable h.statement.width h.statement.names h.label;
-  reads = reads_back t.columns l.statement (remarks_of t l) h.statement.printable h.statement.width h.statement.names h.room h.label;
-}
+prints t l h = grind (arith, one_line, reads_back)
 
 -- ---- bytes
 
@@ -112,8 +106,7 @@ operand_prints : (m : Names) → HaveTexts m → (next : ℕ) (bytes : List ℕ)
     → IfSome (operand_expr m k next at bytes) (OperandPrints k)
 operand_prints m h next bytes are room kind.Byte at long = let small = byte-small bytes are at in record { form = small; width = omega (arith, small); name = tt }
 operand_prints m h next bytes are room kind.ZeroPage at long = short_prints_expr m (slice_index bytes at) h (byte-small bytes are at)
-operand_prints m h next bytes are room kind.Word at long =
-    long_prints_expr m (slice_index bytes at + 256 * slice_index bytes (at + 1)) h (omega (arith, byte-small bytes are at, byte-small bytes are (at + 1)))
+operand_prints m h next bytes are room kind.Word at long = grind (arith, long_prints_expr, byte-small)
 operand_prints m h next bytes are room kind.Distance at long = go (target_of next (slice_index bytes at)) refl
   where
     go : (o : Option ℕ) → target_of next (slice_index bytes at) ≡ o → IfSome (option_map (address_expr m) o) (OperandPrints kind.Distance)

@@ -1,5 +1,5 @@
 -- One statement in its state: it has no fault, and gives its bytes.
-use Rattle.std.proofs.Common.{◌≡◌, ℕ, false, ◌+◌, ◌≤◌, List, ◌∷◌, ◌++◌, length, map, Option, Some, None, refl, ap, subst, []}
+use Rattle.std.proofs.Common.{arith, ◌≡◌, ℕ, false, ◌+◌, ◌≤◌, List, ◌∷◌, ◌++◌, length, map, Option, Some, None, refl, ap, subst, []}
 use Rattle.std.specs.Prelude.{nat_le, nat_lt, IfSome}
 use Rattle.std.specs.List.{flat_map, list_any}
 use Rattle.std.proofs.lemmas.Bool.{le-ltb, leb-true}
@@ -99,9 +99,7 @@ whole_is count (Some p) op e =
 pub begins_with : (t : Table) (bytes : List ℕ) (op : Op) → instruction_in t bytes ≡ Some op → BeginsWith t bytes op
 unfolding instruction_in
 begins_with t [] op e = absurd cc
-begins_with t (b ∷ bytes) op e =
-    let is = whole_is (length (b ∷ bytes)) (decoded t b) op e in
-    record { first = b; past = bytes; bytes_are = refl; opcode = is.0; long = is.1 }
+begins_with t (b ∷ bytes) op e = grind (arith, whole_is)
 
 -- what is known of all that IfSome speaks of
 pub at_some : {A : Type 0} (P : A → Type 0) (o : Option A) (x : A) → o ≡ Some x → IfSome o P → P x
