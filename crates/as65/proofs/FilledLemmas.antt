@@ -85,3 +85,5 @@ or_or (Some a) b c = refl
 pub or_none : (a : Option AsmFault) → option_or a None ≡ a
 or_none None = refl
 or_none (Some a) = refl
+
+pub ruleset first_of_faults = (or_none, or_or)

@@ -17,3 +17,5 @@ drop_zero (suc k) all none = absurd (omega arith)
 -- no line left
 pub drop_none : (k : ℕ) (all : List (List ℕ)) → all ≡ [] → all ≡ drop k all
 drop_none k all is = is ∙ sym (ap (drop k) is ∙ drop-nil k)
+
+pub ruleset passing = (drop_line, drop_none, drop_zero)

@@ -50,6 +50,7 @@ fn put_piece(
 }
 
 /// Appends the pieces of a line, and returns the lowest fault of its halves.
+#[tactic(auto, unfolding(crate::specs::Halves::lowest))]
 fn put_pieces(
     alloc: Global,
     out: &mut Vec<u8>,
@@ -154,6 +155,7 @@ fn fault_at(line: usize, kind: Option<AsmFaultKind>) -> Option<AsmFault>
 }
 
 /// Each line with a number for each half, and the first fault of a half.
+#[tactic(auto, unfolding(crate::specs::Filled::first_fault), using(crate::proofs::FilledLemmas::first_of_faults))]
 fn filled_lines(
     alloc: Global,
     text: &[u8],
@@ -190,7 +192,7 @@ fn unfilled(alloc: Global, text: &[u8]) -> Result<FilledText, AllocError>
 }
 
 /// The text with a number for each half, line for line, and the first fault of a half. A text without halves stays as it is.
-#[tactic(auto, unfolding(crate::specs::Filled::filled))]
+#[tactic(auto, unfolding(crate::specs::Filled::filled), using(crate::proofs::FilledLemmas::no_faults))]
 pub fn filled(
     alloc: Global,
     text: &[u8],

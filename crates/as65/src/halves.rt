@@ -130,6 +130,7 @@ fn is_word(text: &[u8], word: &[u8]) -> bool
 }
 
 /// Whether the bytes begin with this word, in any letter case.
+#[tactic(auto, using(crate::proofs::PieceLemmas::word_here))]
 fn is_word_at(word: &[u8], bytes: &[u8]) -> bool
     requires { 0 < length bytes.now }
     ensures { result ≡ is_word_at word.now (slice_index bytes.now 0) (drop 1 bytes.now) }

@@ -91,6 +91,7 @@ fn put_start(out: &mut Vec<u16>, start: Option<u16>) -> Result<(), AllocError>
 }
 
 /// The starts for which the labels of a text speak, by the address after each of its lines.
+#[tactic(auto, unfolding(crate::specs::NamedStart::starts_in))]
 fn starts_in(alloc: Global, start: u16, text: &[u8], ends: &[u64]) -> Result<Vec<u16>, AllocError>
     ensures { IfOk result (λ found. found.items ≡ starts_in start start (readings text.now) ends.now) }
 {
