@@ -1,7 +1,6 @@
 pub mod CommandLemmas
 pub mod FilledLemmas
 pub mod LineForLine
-pub mod OriginLemmas
 pub mod PassingLemmas
 pub mod PieceLemmas
 pub mod StretchLemmas

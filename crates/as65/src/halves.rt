@@ -221,7 +221,7 @@ impl<'a> Pieces<'a> {
     }
 
     /// Takes the next piece.
-    #[tactic(auto, using(crate::proofs::PieceLemmas::scanning))]
+    #[tactic(auto, using(crate::proofs::PieceLemmas::scanning, crate::proofs::PieceLemmas::next_step))]
     pub fn next(&mut self) -> Option<Piece<'a>>
         ensures { MatchOption result (self.old ≡ []) (λ piece. self.old ≡ piece_of piece ∷ self.new) }
     {

@@ -39,7 +39,6 @@ impl<'a> Model for Origins<'a> {
 }
 
 /// The text after this many lines.
-#[tactic(auto, using(crate::proofs::OriginLemmas::passing))]
 fn after_lines(text: &[u8], count: usize) -> &[u8]
     ensures { text_lines result.now ≡ drop count (text_lines text.now) }
 {
