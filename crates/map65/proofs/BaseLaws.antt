@@ -1,7 +1,7 @@
 -- The laws of base names.
-use Rattle.std.proofs.Common.{◌≡◌, ◌∙◌, ◌⊎◌, inl, inr, ℕ, ◌<◌, ◌≤◌, ◌&&◌, ◌||◌, Bool, true, false, not, List, Option, Some, None, length, nat_lt, refl, ap, ap₂, sym, arith, ⊎_elim}
+use Rattle.std.proofs.Common.{◌≡◌, ◌∙◌, ◌⊎◌, inl, inr, ℕ, ◌<◌, ◌≤◌, Bool, true, false, List, Option, Some, None, length, nat_lt, refl, ap, ap₂, sym, arith, ⊎_elim}
 use Rattle.std.proofs.lemmas.Slice.Eq.{bytes_eq-Decides}
-use Rattle.std.proofs.lemmas.Bool.{and_from, both_ways, cases_eq, eq-eqb, false_from_ne_true, false≢true, ne_eqb}
+use Rattle.std.proofs.lemmas.Bool.{and_from, both_ways, cases_eq, false_from_ne_true}
 use Rattle.std.proofs.lemmas.Bool.Decides.{nat_tests}
 use Rattle.text65.specs.Digits.{hex_digit}
 use Rattle.info65.proofs.Public.{last_name, layout_some, own_address_wins, like_default}
@@ -91,16 +91,10 @@ pub default-same : (u v : ℕ) → u < 65536 → v < 65536 → default_name u �
 unfolding default_name
 default-same u v low also_low is = grind (arith, digit-same)
 
-or-last : (p q r : Bool) → (p || (q && not r)) ≡ false → q ≡ true → r ≡ true
-or-last true q r is like = absurd (false≢true (sym is))
-or-last false true true is like = refl
-or-last false true false is like = absurd (false≢true (sym is))
-or-last false false r is like = absurd (false≢true like)
-
 -- a name of the form of a default name stands for its own address
 reserved-same : (address v : ℕ) (text : List ℕ) → address < 65536 → v < 65536 → is_reserved address text ≡ false → text ≡ default_name v → address ≡ v
 unfolding is_reserved
-reserved-same address v text low also_low unreserved is = grind (arith, or-last, like_default, default-same, bytes_eq-Decides)
+reserved-same address v text low also_low unreserved is = grind (arith, like_default, default-same, bytes_eq-Decides)
 
 same-name : (names : List NameView) → AreNames names → (i j : ℕ) → i < length names → j < length names → (name_at names i).text ≡ (name_at names j).text → name_at names i ≡ name_at names j
 same-name names are i j low also_low is = grind arith
@@ -177,7 +171,7 @@ in-code m n inside shown none narrow =
 -- its place says where it lies
 lies : (m : MapView) (n : ℕ) → IsFree m n → LiesBy (place_of m n) m n
 unfolding place_of role_at
-lies m n unhidden = grind (arith, false_from_ne_true, eq-eqb, in-code, ne_eqb)
+lies m n unhidden = grind (arith, in-code)
 
 pub place_law : (m : MapView) → PlaceLaw m
 place_law m a b is = lies m b.address (base-free m a b is)

@@ -1,7 +1,7 @@
 -- The law of items.
-use Rattle.std.proofs.Common.{◌≡◌, refl, ◌∙◌, inl, inr, ℕ, zero, suc, ◌+◌, ◌-◌, ◌<◌, ◌≤◌, ◌&&◌, ◌==◌, not, Bool, true, false, ap, sym, arith, ⊎_elim}
-use Rattle.std.proofs.lemmas.Bool.{and_from, and_parts, both_ways, cases_Bool, cases_eq, cases_lt, cond-true, cond_both, eqb-true, not-true}
-use Rattle.map65.proofs.ItemLemmas.{belongs, inside-if, item-len-own, item_start-after, item_start-apart, item_start-further, joined-in, joined-piece, one-role, size-positive, start-apart, start-piece, full_len-is, within}
+use Rattle.std.proofs.Common.{◌≡◌, refl, ◌∙◌, inl, inr, ℕ, zero, suc, ◌+◌, ◌-◌, ◌<◌, ◌≤◌, ◌&&◌, ◌==◌, not, true, false, ap, sym, arith, ⊎_elim}
+use Rattle.std.proofs.lemmas.Bool.{and_from, and_parts, cases_Bool, cases_eq, cases_lt, eqb-true, not-true}
+use Rattle.map65.proofs.ItemLemmas.{belongs, inside-if, item-len-own, item_start-after, item_start-apart, item_start-further, joined-in, joined-piece, one-role, size-positive, start-apart, start-piece, within}
 use Rattle.map65.specs.ImageView.{end_of, is_inside}
 use Rattle.map65.specs.Items.{AreItems, CanBegin, EndsBefore, ItemLaw, item_len, item_start, size_at, full_len_at}
 use Rattle.map65.specs.MapView.{MapView}
@@ -20,7 +20,7 @@ pub record Begun (m : MapView) (a : ℕ) : Type 0 where
 
 item-test : (m : MapView) (a : ℕ) → 0 < item_len m a → (is_inside m.image a && (not (is_skip (role_of m.info a)) && item_start m a == a)) ≡ true
 unfolding item_len
-item-test m a some = grind (arith, Bool, cond_both)
+item-test m a some = grind arith
 
 pub begun : (m : MapView) (a : ℕ) → 0 < item_len m a → Begun m a
 begun m a some =
@@ -83,29 +83,22 @@ piece-joined m (suc n) a piece =
 
 pub size-whole : (m : MapView) (a : ℕ) → AreOnePiece m a (a + full_len_at m a - 1) → size_at m a ≡ full_len_at m a
 unfolding size_at
-size-whole m a piece = grind (arith, cond-true, piece-joined, full_len-is)
+size-whole m a piece = grind (arith, piece-joined)
 
 pub size-cut : (m : MapView) (a : ℕ) → (AreOnePiece m a (a + full_len_at m a - 1) → ⊥) → size_at m a ≡ 1
 unfolding size_at
-size-cut m a apart = grind (arith, cond_both, joined-piece, full_len-is)
+size-cut m a apart = grind (arith, joined-piece)
 
 counted : (m : MapView) → AreItems m (item_len m)
 counted m = grind (arith, item-then, item-if, begun, size-whole, size-cut)
 
 -- ---- no others
 
--- an item that one of two lengths has before the address, the other has too
-moved-end : (m : MapView) (len other : ℕ → ℕ) (a : ℕ) → ((b : ℕ) → b < a → len b ≡ other b) → EndsBefore m len a → EndsBefore m other a
-moved-end m len other a same e = grind arith
-
 moved : (m : MapView) (len other : ℕ → ℕ) (a : ℕ) → ((b : ℕ) → b < a → len b ≡ other b) → CanBegin m len a → CanBegin m other a
-moved m len other a same is = grind (arith, moved-end)
-
-same-size : (m : MapView) (len other : ℕ → ℕ) → AreItems m len → AreItems m other → (a : ℕ) → 0 < len a → 0 < other a → len a ≡ other a
-same-size m len other are are_too a some some_too = grind (arith, joined-piece, full_len-is, both_ways, piece-joined)
+moved m len other a same is = grind arith
 
 same-len : (m : MapView) (len other : ℕ → ℕ) → AreItems m len → AreItems m other → (a : ℕ) → ((b : ℕ) → b < a → len b ≡ other b) → len a ≡ other a
-same-len m len other are are_too a same = grind (arith, moved, same-size)
+same-len m len other are are_too a same = grind arith
 
 same-below : (m : MapView) (len other : ℕ → ℕ) → AreItems m len → AreItems m other → (n a : ℕ) → a < n → len a ≡ other a
 same-below m len other are are_too zero a below = absurd (omega arith)

@@ -1,6 +1,6 @@
 -- Items, byte by byte.
-use Rattle.std.proofs.Common.{◌≡◌, ◌≢◌, ◌∙◌, ℕ, zero, suc, ◌+◌, ◌-◌, ◌<◌, ◌≤◌, ◌&&◌, ◌==◌, nat_le, nat_lt, not, Bool, true, false, length, Option, Some, None, refl, ap, sym, arith, ⊎_elim}
-use Rattle.std.proofs.lemmas.Bool.{false≢true, and_parts, and_from, cases_eq, cases_lt, cond-true, cond-false, cond_both, eq-eqb, false_from_ne_true, ne_eqb, lt-ltb, ltb-true, le-leb, le-ltb, leb-true, not-true}
+use Rattle.std.proofs.Common.{◌≡◌, ◌≢◌, ◌∙◌, ℕ, zero, suc, ◌+◌, ◌-◌, ◌<◌, ◌≤◌, ◌&&◌, ◌==◌, not, Bool, true, false, length, Option, Some, None, refl, ap, sym, arith, ⊎_elim}
+use Rattle.std.proofs.lemmas.Bool.{false≢true, and_parts, and_from, cases_eq, cases_lt, cond-true, cond-false, cond_both, eq-eqb, false_from_ne_true, ne_eqb, lt-ltb, le-leb, not-true}
 use denote.Enum.Bare.{same_true, true_same}
 use Rattle.isa65.proofs.ModeLaws.{len-positive, len-small}
 use Rattle.isa65.specs.declared.op.Op.{Op}
@@ -26,11 +26,11 @@ pub record InRun (m : MapView) (a : ℕ) : Type 0 where
 
 pub in-run : (m : MapView) (a : ℕ) → is_in_run m a ≡ true → InRun m a
 unfolding is_in_run
-in-run m a is = grind (arith, Bool, and_parts, nat_lt, ltb-true, not-true)
+in-run m a is = grind (arith, and_parts)
 
 pub run-if : (m : MapView) (a : ℕ) → InRun m a → is_in_run m a ≡ true
 unfolding is_in_run
-run-if m a here = grind (arith, and_from, lt-ltb)
+run-if m a here = grind arith
 
 -- a given name cuts the run before the address
 abbrev pub is_cut_at : MapView → ℕ → Bool
@@ -124,7 +124,7 @@ skip-size m a skip = one-size m a (size_for-skip m (role_of m.info a) (byte_at m
 
 size-joined : (m : MapView) (a : ℕ) → are_joined m (size_at m a - 1) a ≡ true
 unfolding size_at are_joined
-size-joined m a = grind (arith, cond_both)
+size-joined m a = grind arith
 
 -- the bytes of an item lie in one piece
 pub size-one-piece : (m : MapView) (a : ℕ) → AreOnePiece m a (a + size_at m a - 1)
@@ -182,7 +182,7 @@ item_start-apart m (suc a) apart = cond-false (is_joined m (suc a)) _ _ apart
 -- where the item before ends
 item_start-past : (m : MapView) (a : ℕ) → item_start m a + size_at m (item_start m a) ≤ suc a → item_start m (suc a) ≡ suc a
 unfolding item_start
-item_start-past m a past = grind (arith, cond_both, cond-false, le-ltb)
+item_start-past m a past = grind arith
 
 -- at a further byte
 pub item_start-further : (m : MapView) (a : ℕ) → suc a < item_start m a + size_at m (item_start m a) → is_joined m (suc a) ≡ true → item_start m (suc a) ≡ item_start m a
@@ -251,7 +251,7 @@ pub record IsWithin (m : MapView) (a : ℕ) : Type 0 where
   pub high : a < end_of m.image
 
 pub within : (m : MapView) (a : ℕ) → is_inside m.image a ≡ true → IsWithin m a
-within m a inside = grind (arith, and_parts, nat_le, nat_lt, leb-true, ltb-true)
+within m a inside = grind arith
 
 pub inside-index : (m : MapView) (k : ℕ) → k < length m.image.bytes → is_inside m.image (m.image.start + k) ≡ true
 inside-index m k low = and_from _ _ (le-leb m.image.start (m.image.start + k) (omega arith)) (lt-ltb (m.image.start + k) (end_of m.image) (omega arith))

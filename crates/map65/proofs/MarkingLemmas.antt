@@ -2,7 +2,7 @@
 use Rattle.std.proofs.Common.{◌≡◌, ◌≢◌, ◌∙◌, ℕ, ◌+◌, ◌-◌, ◌/◌, ◌%◌, ◌<◌, ◌≤◌, ◌&&◌, nat_lt, not, Bool, true, false, Option, Some, List, length, get_or, set, ap, ap₂, sym, arith, ⊎_elim}
 use Rattle.std.proofs.Math.Bool.{and_comm}
 use Rattle.std.proofs.Math.ListN.{length-set}
-use Rattle.std.proofs.lemmas.Bool.{and_parts, and_from, cases_eq, cases_lt, cond_both, false≢true, lt-ltb, ltb-true, not-true}
+use Rattle.std.proofs.lemmas.Bool.{and_parts, and_from, cases_eq, cases_lt, false≢true, lt-ltb, ltb-true, not-true}
 use Rattle.std.specs.Cmp.{both_ways}
 use Rattle.info65.specs.declared.information.range.RangeType.{RangeType}
 use Rattle.map65.proofs.CellLemmas.{named-test, cell-role, cell-wide, set-cell, with_len-lay, with_len-rest}
@@ -72,7 +72,7 @@ joined-answer m n a at cells answer b place old own room low after high says is 
 
 pub item-small : (m : MapView) (a : ℕ) → item_len m a ≤ 4
 unfolding item_len
-item-small m a = grind (arith, cond_both, size-is)
+item-small m a = grind (arith, size-is)
 
 -- an item ends in the image
 pub item-fits : (m : MapView) (a : ℕ) → 0 < item_len m a → a + item_len m a ≤ end_of m.image

@@ -1,13 +1,13 @@
 -- The laws of targets and names.
 use Rattle.std.proofs.Common.{◌≡◌, ◌∙◌, ◌⊎◌, inl, inr, ℕ, ◌+◌, ◌-◌, ◌<◌, ◌&&◌, ◌==◌, Bool, true, false, List, Option, Some, None, length, get_or, refl, ap, sym, arith, ⊎_elim}
-use Rattle.std.proofs.lemmas.Bool.{and_from, and_parts, both_ways, cases_Bool, cases_eq, cases_lt, eq-eqb, eqb-true, false≢true, or_cases, or_left, or_right}
+use Rattle.std.proofs.lemmas.Bool.{and_from, and_parts, both_ways, cases_Bool, cases_eq, cases_lt, eqb-true, false≢true, or_cases}
 use Rattle.std.proofs.lemmas.List.Folds.{Any-from_list_any, list_any_at}
 use Rattle.info65.specs.Names.{AreNames, blank_name, covering, covers, name_at}
 use Rattle.info65.specs.Views.{NameView}
 use Rattle.info65.proofs.Public.{last_name, none_covers}
 use Rattle.map65.proofs.ItemLaws.{begun, start-len}
 use Rattle.map65.proofs.ItemLemmas.{belongs, inside-if, item_start-within, one-role, size-positive, start-piece}
-use Rattle.map65.proofs.NameLemmas.{base-covered, base-unreferenced, base-referenced, not-some}
+use Rattle.map65.proofs.NameLemmas.{base-covered, base-unreferenced, base-referenced}
 use Rattle.map65.proofs.NamingLemmas.{address-at, address-count, entry_start-narrow, entry_start-wide, wide-shown}
 use Rattle.map65.proofs.MarkingLemmas.{item-fits}
 use Rattle.map65.proofs.TargetLemmas.{short-at}
@@ -74,7 +74,7 @@ entry_start-entry_start m a = grind (arith, entry_start-inner, entry_start-item,
 -- ---- targets
 
 target-item : (m : MapView) (item t : ℕ) → target_at m item ≡ Some t → IsTarget m t
-target-item m item t has = grind (arith, not-some, short-at)
+target-item m item t has = grind (arith, short-at)
 
 -- ---- what is referenced
 
@@ -96,7 +96,7 @@ referenced-then m a is = grind (arith, Any-from_list_any, referenced-by)
 
 refers-if : (m : MapView) (item t a : ℕ) → target_at m item ≡ Some t → (t ≡ a) ⊎ (entry_start m t ≡ a) → refers m a item ≡ true
 unfolding refers
-refers-if m item t a has is = grind (arith, or_left, eq-eqb, or_right)
+refers-if m item t a has is = grind arith
 
 pub referenced-if : (m : MapView) (t a : ℕ) → IsTarget m t → (t ≡ a) ⊎ (entry_start m t ≡ a) → is_referenced m a ≡ true
 unfolding is_referenced
@@ -176,7 +176,7 @@ name-inner m a first none target inner =
     ∙ sym (base-is m first first_referenced ∙ ap (base_by (covering m.info.names first) true) (entry_base-at m first first stays) ∙ either (covering m.info.names first) (default_base first))
 
 name-default : (m : MapView) (a : ℕ) → IsUncovered m.info.names a → IsReferenced m a → ((first : ℕ) → IsInner m a first → ⊥) → base_at m a ≡ Some (default_base a)
-name-default m a none referenced other = grind (arith, free, base-referenced, referenced-from, Some, entry_base-at, entry_start-other)
+name-default m a none referenced other = grind (arith, free, base-referenced, referenced-from, entry_base-at, entry_start-other)
 
 name-none : (m : MapView) (a : ℕ) → IsUncovered m.info.names a → (IsReferenced m a → ⊥) → base_at m a ≡ None
 name-none m a none unreferenced = grind (arith, referenced-then, base-unreferenced, free)

@@ -1,7 +1,7 @@
 -- The name of one address.
 use Rattle.std.proofs.Common.{◌≡◌, ◌∙◌, ℕ, ◌+◌, ◌≤◌, ◌||◌, Bool, true, false, List, [], ◌∷◌, Option, Some, None, length, nat_le, nat_lt, is_some, refl, ap, sym, arith}
 use Rattle.std.specs.Option.{option_map}
-use Rattle.std.proofs.lemmas.Bool.{and_parts, false≢true, leb-true, ltb-true}
+use Rattle.std.proofs.lemmas.Bool.{and_parts, false≢true, leb-true}
 use Rattle.text65.specs.Names.{has_name_form}
 use Rattle.info65.specs.Names.{AreNames, blank_name, covering, name_at}
 use Rattle.info65.specs.Views.{NameView}
@@ -25,7 +25,7 @@ name-low names a v is =
 form-short : (text : List ℕ) → has_name_form text ≡ true → length text ≤ 80
 unfolding has_name_form
 form-short [] is = omega arith
-form-short (b ∷ bs) is = grind (arith, ltb-true, and_parts, nat_lt)
+form-short (b ∷ bs) is = grind arith
 
 -- and its text has at most 80 bytes
 pub name-short : (names : List NameView) (a : ℕ) (v : NameView) → AreNames names → covering names a ≡ Some v → length v.text ≤ 80

@@ -226,7 +226,7 @@ refers-none m item cells count is = changes-as with_name nowhere (λ a. refers_b
 -- a target and the first byte of its item are marked
 pub refers-some : (m : MapView) (item t h : ℕ) (old mid new : List ℕ) → target_at m item ≡ Some t → h ≡ entry_start m t → Changes with_name (λ a. t == a) old mid → Changes with_name (λ a. h == a) mid new → Changes with_name (λ a. refers m a item) old new
 unfolding refers
-refers-some m item t h old mid new is at first second = grind (arith, changes-as, changes-then, with_name-again)
+refers-some m item t h old mid new is at first second = grind (arith, with_name-again)
 
 pub address-at : (n k a d : ℕ) → k < n → get_or (addresses n a) k d ≡ a + k
 unfolding addresses

@@ -1,5 +1,5 @@
 -- Roles that are written into cells.
-use Rattle.std.proofs.Common.{◌≡◌, ◌∙◌, ℕ, ◌+◌, ◌/◌, ◌%◌, ◌<◌, ◌&&◌, Bool, true, false, Some, None, List, [], ◌∷◌, drop, length, get_or, refl, ap, arith, max, min}
+use Rattle.std.proofs.Common.{◌≡◌, ◌∙◌, ℕ, ◌+◌, ◌/◌, ◌%◌, ◌<◌, ◌&&◌, Bool, true, false, List, [], ◌∷◌, drop, length, get_or, refl, ap, arith, max, min}
 use Rattle.std.proofs.lemmas.Bool.Decides.{nat_tests}
 use Rattle.std.proofs.lemmas.List.{drop_more}
 use Rattle.info65.specs.Ranges.{has_address}
@@ -22,14 +22,14 @@ range-within image range from to a low high = grind (arith, nat_tests)
 
 painted-next : (image : ImageView) (r : RangeSpec) (rs : List RangeSpec) (a : ℕ) → changed (painted r.role) (is_inside image a && has_address r a) (cell_of (role_by image rs a) 0) ≡ cell_of (role_by image (r ∷ rs) a) 0
 unfolding role_by role_in
-painted-next image r rs a = grind (arith, Bool, Some, None)
+painted-next image r rs a = grind arith
 
 pub painted-more : (image : ImageView) (ranges : List RangeSpec) (n : ℕ) (d : RangeSpec) (old new : List ℕ) → n < length ranges → ArePainted image (drop (n + 1) ranges) old → Changes (painted (get_or ranges n d).role) (λ a. is_inside image a && has_address (get_or ranges n d) a) old new → ArePainted image (drop n ranges) new
 painted-more image ranges n d old new below so_far h = grind (arith, painted-next, drop_more)
 
 painted-code : (image : ImageView) (a : ℕ) → changed (painted Code) (is_inside image a) 0 ≡ cell_of (role_by image [] a) 0
 unfolding role_by role_in cell_of code_of
-painted-code image a = grind (arith, Bool, Some, None)
+painted-code image a = grind arith
 
 -- before the ranges, the image is code
 pub code-painted : (image : ImageView) (old new : List ℕ) → ((a : ℕ) → a < 65536 → get_or old a 0 ≡ 0) → Changes (painted Code) (is_inside image) old new → ArePainted image [] new

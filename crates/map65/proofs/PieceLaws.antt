@@ -1,6 +1,6 @@
 -- The laws of roles and of pieces.
 use Rattle.std.proofs.Common.{◌≡◌, ◌∙◌, ℕ, zero, suc, ◌+◌, ◌-◌, ◌==◌, ◌<◌, ◌≤◌, ◌&&◌, Bool, true, false, List, [], ◌∷◌, All, AllPairs, length, get_or, refl, ap, arith, ⊎_elim}
-use Rattle.std.proofs.lemmas.Bool.{and_from, and_right, both_ways, cases_Bool, cond-true, cond-false, eq-eqb, ne_eqb, or_from, or_left, or_right}
+use Rattle.std.proofs.lemmas.Bool.{and_from, both_ways, cases_Bool, cond-true, cond-false, eq-eqb, or_left, or_right}
 use Rattle.std.proofs.lemmas.List.Folds.{list_any_at, list_any_none}
 use Rattle.info65.specs.Ranges.{AreApart, has_address}
 use Rattle.info65.specs.declared.information.range.RangeSpec.{RangeSpec}
@@ -43,7 +43,7 @@ run-same m b a run = one-run m (role_of m.info) (λ x here. here.same) b a run
 -- no segment of a list has a border before the address
 border-none : (segments : List SegmentView) (a : ℕ) → All (λ (s : SegmentView). s.first ≡ a → ⊥) segments → All (λ (s : SegmentView). s.last + 1 ≡ a → ⊥) segments → is_border segments a ≡ false
 unfolding is_border
-border-none segments a starts ends = grind (arith, list_any_none, or_from, ne_eqb)
+border-none segments a starts ends = grind (arith, list_any_none)
 
 border-some : (segments : List SegmentView) (a i : ℕ) (d : SegmentView) → i < length segments → borders (get_or segments i d) a ≡ true → is_border segments a ≡ true
 unfolding is_border
@@ -61,7 +61,7 @@ run-alike m b a run = record {
 }
 
 alike-run : (m : MapView) (b a : ℕ) → is_inside m.image b ≡ true → is_inside m.image a ≡ true → AreAlike m b a → AreOneRun m b a
-alike-run m b a b_inside a_inside alike x low high = grind (arith, within, run-if, border-none)
+alike-run m b a b_inside a_inside alike x low high = grind (arith, run-if, border-none)
 
 pub run_law : (m : MapView) → RunLaw m
 run_law m = record {
@@ -77,7 +77,7 @@ own-some names a i d below is = list_any_at (λ (n : NameView). n.address == a) 
 
 unnamed-uncut : (m : MapView) (b a : ℕ) → AreUnnamed m b a → (x : ℕ) → b < x → x ≤ a → is_cut_at m x ≡ false
 unfolding is_own
-unnamed-uncut m b a none x low high = grind (arith, and_right, list_any_none, ne_eqb)
+unnamed-uncut m b a none x low high = grind (arith, list_any_none)
 
 narrow-uncut : (m : MapView) (b x : ℕ) → is_wide (role_of m.info b) ≡ false → role_of m.info x ≡ role_of m.info b → is_cut_at m x ≡ false
 narrow-uncut m b x narrow role = ap (λ (w : Bool). w && is_own m.info.names x) (ap is_wide role ∙ narrow)

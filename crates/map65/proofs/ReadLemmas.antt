@@ -2,7 +2,7 @@
 use Rattle.std.proofs.Common.{◌≡◌, ℕ, ◌+◌, ◌<◌, ◌≤◌, refl, Bool, nat_lt, arith, length-append, List, ◌++◌, length, take, drop, Option, None, Some, IfSome, Result, Ok, Err, sym, ◌∙◌, ap, ap₂, subst, ⊎_elim}
 use Rattle.std.proofs.Math.Seq.{drop-append_seam}
 use Rattle.std.proofs.lemmas.List.{append-nil, take_at, take_all, length-take, drop_all}
-use Rattle.std.proofs.lemmas.Bool.{le-ltb, cases_lt, cond_both}
+use Rattle.std.proofs.lemmas.Bool.{cases_lt}
 use Rattle.std.proofs.lemmas.Bool.Decides.{nat_tests}
 use Rattle.std.specs.Io.KnownBytes.{Consumes, IsAtEnd}
 use Rattle.std.proofs.KnownBytes.{Consumes-trans}
@@ -60,7 +60,7 @@ takes_more old mid new b n m t g is = grind (arith, length-append, Consumes-tran
 -- what holds of each answer holds of the image of some bytes
 image_cases : (P : Result ImageView ImageFault → Type 0) (start size : Option ℕ) (xs : List ℕ) → P (Err Short) → P (Err Empty) → P (Err TooLarge) → ((v : ImageView) → P (Ok v)) → P (image_by start size xs)
 unfolding image_by
-image_cases P start size xs short empty large ok = grind (arith, cond_both, nat_lt)
+image_cases P start size xs short empty large ok = grind arith
 
 -- more bytes than an image may have are too many, from any start
 too_large : (start : Option ℕ) (xs : List ℕ) → 65536 < length xs → image_by start None xs ≡ Err TooLarge
@@ -90,7 +90,7 @@ stops_here s offset most start size xs old new failed answer is at many p =
 pub image_seen : (left : Option (List ℕ)) (old new : ℕ) (s : SettingsView) (offset most : ℕ) (bytes : List ℕ) (answer : Result ImageView ImageFault) → new ≡ old → answer ≡ image_by s.start s.size bytes → offset ≡ s.offset → most ≡ most_of s.size → IfSome left (λ xs. bytes ≡ take most (drop offset xs)) → IfSome left (λ xs. GivesImage answer (image_of s xs (nat_lt old new)))
 unfolding image_of
 image_seen None old new s offset most bytes answer same is at many all = tt
-image_seen (Some xs) old new s offset most bytes answer same is at many all = grind (arith, nat_lt, le-ltb, image_by-take, image_cases)
+image_seen (Some xs) old new s offset most bytes answer same is at many all = grind (arith, image_by-take)
 
 -- ---- what is taken after bytes that were passed over
 

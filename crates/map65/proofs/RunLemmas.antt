@@ -2,7 +2,7 @@
 use Rattle.std.proofs.Common.{◌≡◌, ◌≢◌, ◌∙◌, ℕ, ◌-◌, ◌/◌, ◌%◌, ◌<◌, ◌≤◌, ◌&&◌, ◌==◌, not, Bool, true, false, Option, Some, None, List, [], ◌∷◌, refl, ap, ap₂, sym, arith, if◌then◌else◌}
 use Rattle.std.specs.List.{find}
 use Rattle.std.specs.Option.{option_map}
-use Rattle.std.proofs.lemmas.Bool.{and_from, and_parts, cond-true, cond_both, eq-eqb, eqb-true, false_from_ne_true, false≢true, ne_eqb, not-true, or_parts}
+use Rattle.std.proofs.lemmas.Bool.{and_from, and_parts, cond-true, eq-eqb, eqb-true, false_from_ne_true, false≢true, ne_eqb, not-true, or_parts}
 use Rattle.std.proofs.lemmas.Bool.Decides.{nat_tests}
 use Rattle.std.specs.Cmp.{both_ways}
 use Rattle.info65.specs.Segments.{contains, segment_covering}
@@ -10,7 +10,7 @@ use Rattle.info65.specs.Views.{SegmentView}
 use Rattle.info65.specs.declared.information.range.RangeType.{RangeType}
 use Rattle.info65.specs.declared.information.range.RangeType.TheVariants.{Code}
 use Rattle.map65.proofs.CellLemmas.{code-small, coded-code, has_border-is}
-use Rattle.map65.proofs.ItemLemmas.{InRun, in-run, inside-if, run-if, within}
+use Rattle.map65.proofs.ItemLemmas.{InRun, in-run, inside-if, run-if}
 use Rattle.map65.specs.Code.Cells.{are_one_run, cell_of, coded, has_border}
 use Rattle.map65.specs.Cells.{bit, code_of}
 use Rattle.map65.specs.ImageView.{end_of, is_inside}
@@ -58,7 +58,7 @@ some-same r q is = cc
 
 pub has-role : (m : MapView) (a : ℕ) (r : RangeType) → role_at m a ≡ Some r → HasRole m a r
 unfolding role_at
-has-role m a r = grind (arith, cond_both, Some, None, Option, within, some-same)
+has-role m a r = grind arith
 
 -- ---- codes
 

@@ -1,14 +1,8 @@
 -- Where no item begins there is no target, and none where one of a single byte does.
-use Rattle.std.proofs.Common.{◌≡◌, ℕ, ◌==◌, ◌<◌, ◌≤◌, Bool, if◌then◌else◌, true, false, List, None, Option, Some, arith, get_or, refl}
+use Rattle.std.proofs.Common.{◌≡◌, ℕ, ◌==◌, ◌<◌, false, List, None, Option, Some, arith, get_or, refl}
 use Rattle.std.proofs.lemmas.Bool.{eqb-true, ne_eqb}
-use Rattle.isa65.specs.Mode.{row_len, size_of}
 use Rattle.isa65.specs.Opcodes.{decoded}
-use Rattle.isa65.specs.declared.mnemonic.Mnemonic.{Mnemonic}
 use Rattle.isa65.specs.declared.op.Op.{Op}
-use Rattle.isa65.specs.declared.row.OperandKind.{OperandKind}
-use Rattle.isa65.specs.declared.row.OperandKind.TheVariants.{Byte}
-use Rattle.isa65.specs.declared.row.Row.{Row}
-use Rattle.isa65.specs.declared.row.Row.TheVariants.{Implied, Accumulator, One, Two}
 use Rattle.info65.specs.Layouts.{layout_of}
 use Rattle.info65.specs.declared.information.range.Entry.{Entry}
 use Rattle.info65.specs.declared.information.range.Entry.TheVariants.{Address, Instruction, Return}
@@ -17,28 +11,12 @@ use Rattle.map65.specs.ImageView.{ImageView, bytes_from}
 use Rattle.map65.specs.Items.{item_len}
 use Rattle.map65.specs.MapView.{MapView, opcodes}
 use Rattle.map65.specs.Roles.{role_of}
-use Rattle.map65.specs.Targets.{code_target, entry_target, operand_target, row_target, target_at, target_for}
-
--- an operand has a byte
-size-some : (k : OperandKind) → 1 ≤ size_of k
-size-some Byte = omega arith
-size-some _ = omega arith
-
--- an instruction without operands has no target
-row-alone : (image : ImageView) (m : Mnemonic) (r : Row) (next : ℕ) (bytes : List ℕ) → row_len r < 2 → row_target image m r next bytes ≡ None
-row-alone image m Implied next bytes short = refl
-row-alone image m Accumulator next bytes short = refl
-row-alone image m (One p k) next bytes short = absurd (omega (arith, short, size-some k))
-row-alone image m (Two k l) next bytes short = absurd (omega (arith, short, size-some k))
-
-none-if : (b : Bool) (o : Option ℕ) → (b ≡ true → o ≡ None) → (if b then o else None) ≡ None
-none-if true o is = is refl
-none-if false o is = refl
+use Rattle.map65.specs.Targets.{code_target, entry_target, operand_target, target_at, target_for}
 
 code-short : (image : ImageView) (o : Option Op) (n a : ℕ) (bytes : List ℕ) → n < 2 → code_target image o n a bytes ≡ None
 unfolding operand_target
 code-short image None n a bytes short = refl
-code-short image (Some op) n a bytes short = grind (arith, none-if, row-alone, eqb-true)
+code-short image (Some op) n a bytes short = grind (arith, eqb-true)
 
 entry-short : (m : MapView) (e : Entry) (n a : ℕ) (bytes : List ℕ) → n < 2 → entry_target m e n a bytes ≡ None
 entry-short m Instruction n a bytes short = code-short m.image (decoded (opcodes m) (get_or bytes 0 0)) n a bytes short

@@ -3,8 +3,7 @@ use Rattle.std.proofs.Common.{arith, ◌≡◌, ℕ, Bool, true, false, cond, eq
 use Rattle.std.specs.Prelude.{◌||◌}
 use Rattle.std.specs.Str.{bytes_eq}
 use Rattle.std.proofs.lemmas.Slice.Eq.{bytes_eq-Decides}
-use Rattle.std.proofs.lemmas.Bool.{eqb-true, eq-eqb}
-use Rattle.std.proofs.lemmas.Bool.Decides.{same_from_decides}
+use Rattle.std.proofs.lemmas.Bool.{eqb-true}
 use Rattle.std.proofs.lemmas.List.Elements.{filter-append}
 use Rattle.stmt65.specs.Symbols.{Definition, find_name}
 use Rattle.map65.specs.ImageView.{ImageView}
@@ -29,7 +28,7 @@ first-is w (d ∷ ds) = elim (bytes_eq d.name w) as (λ t. cond t (Some d) (find
 
 -- the names of two bases are one where the bases are
 name-test : (image : ImageView) (m : Names) (u v : ℕ) → AreSound image m → is_base m u ≡ true → is_base m v ≡ true → bytes_eq (base_name m u) (base_name m v) ≡ eqb u v
-name-test image m u v names hu hv = grind (arith, same_from_decides, eqb, bytes_eq-Decides, eqb-true, eq-eqb)
+name-test image m u v names hu hv = grind (arith, bytes_eq-Decides)
 
 pub knows_nothing : (m : Names) → Knows m (λ v. false) []
 knows_nothing m = record { found = λ v h. refl }

@@ -42,7 +42,7 @@ pub line_gives : (m : Names) (p : Point) (l : ListingLine) (source : SourceLine)
     → ((above : List Definition) → Knows m p.knows above → Defines m (state p above) source knows)
     → p.at + length bytes ≡ at → at ≤ 65536 → Gives m p (l ∷ []) bytes (point at cpu knows)
 unfolding final coded
-line_gives m p l source bytes at cpu knows says stands defines next room = grind (arith, after_is, state, no_fault, bytes_are, append-nil)
+line_gives m p l source bytes at cpu knows says stands defines next room = grind (arith, after_is, no_fault, bytes_are, append-nil)
 
 -- ---- what a line defines
 

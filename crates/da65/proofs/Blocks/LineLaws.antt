@@ -74,7 +74,7 @@ gives_append {m} {p} {q} {r} {bs} {cs} xs ys g h = grind (arith, map-append, fin
 
 pub gives_to : {m : Names} {p : Point} {at : ℕ} {cpu : Cpu} {knows : ℕ → Bool} {ls : List ListingLine} {bytes : List ℕ} (same : ℕ → Bool)
     → ((v : ℕ) → is_base m v ≡ true → knows v ≡ same v) → Gives m p ls bytes (point at cpu knows) → Gives m p ls bytes (point at cpu same)
-gives_to {m} same is g = grind (arith, knows_same)
+gives_to {m} same is g = grind arith
 
 pub gives_from : {m : Names} {q : Point} {at : ℕ} {cpu : Cpu} {knows : ℕ → Bool} {ls : List ListingLine} {bytes : List ℕ} (same : ℕ → Bool)
     → ((v : ℕ) → is_base m v ≡ true → same v ≡ knows v) → Gives m (point at cpu knows) ls bytes q → Gives m (point at cpu same) ls bytes q

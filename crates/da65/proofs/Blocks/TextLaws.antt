@@ -51,7 +51,7 @@ unfolding text_lines
 no_lines = refl
 
 first_reading : (bytes : List ℕ) (r : SourceLine) (rest : List ℕ) → PrintsAs bytes r → readings (bytes ++ rest) ≡ Some r ∷ readings rest
-first_reading bytes r rest h = grind (arith, append_assoc, first_line, Option)
+first_reading bytes r rest h = grind (arith, append_assoc, first_line)
 
 -- ---- the lines of a listing
 

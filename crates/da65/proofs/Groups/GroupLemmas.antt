@@ -1,7 +1,6 @@
 -- Groups, byte by byte.
-use Rattle.std.proofs.Common.{◌≡◌, ◌≢◌, ◌∙◌, ℕ, zero, suc, ◌+◌, ◌-◌, ◌<◌, ◌≤◌, ◌&&◌, ◌==◌, nat_le, nat_lt, not, Bool, true, false, List, ◌∷◌, length, refl, ap, sym, subst, arith, ⊎_elim, if◌then◌else◌, []}
-use Rattle.std.proofs.lemmas.Bool.{and_parts, and_from, and_right, cond-true, cond-false, cases_eq, cases_lt, eq-eqb, ne_eqb, eqb-true, ltb-true, leb-true, not-true}
-use Rattle.info65.proofs.Public.{layout_some}
+use Rattle.std.proofs.Common.{◌≡◌, ◌≢◌, ◌∙◌, ℕ, zero, suc, ◌+◌, ◌-◌, ◌<◌, ◌≤◌, ◌&&◌, ◌==◌, not, Bool, true, false, List, ◌∷◌, length, refl, ap, sym, subst, arith, ⊎_elim, if◌then◌else◌, []}
+use Rattle.std.proofs.lemmas.Bool.{and_right, cond-true, cond-false, cases_eq, cases_lt, ne_eqb}
 use Rattle.map65.specs.ImageView.{end_of, is_inside}
 use Rattle.map65.specs.Items.{item_len, size_at}
 use Rattle.map65.specs.MapView.{MapView}
@@ -22,7 +21,7 @@ pub record GoesOn (m : MapView) (a : ℕ) : Type 0 where
 
 pub item-goes-on : (m : MapView) (a : ℕ) → goes_on m a ≡ true → GoesOn m a
 unfolding goes_on
-item-goes-on m a is = grind (arith, and_parts, eqb-true, layout_some, not-true)
+item-goes-on m a is = grind arith
 
 pub more-none : (m : MapView) (a : ℕ) → more_at m 0 a ≡ 0
 unfolding more_at
@@ -117,7 +116,7 @@ pub place-skip : (m : MapView) (k : ℕ) → IsGroupPlace m k → k < length m.i
 place-skip m k here low skip = grind (arith, left-step, stride-skip, next-item, skip-size)
 
 pub place-next : (m : MapView) (k : ℕ) → IsGroupPlace m k → k < length m.image.bytes → is_skip (role_of m.info (m.image.start + k)) ≡ false → IsGroupPlace m (k + group_len m (m.image.start + k))
-place-next m k here low shown = grind (arith, group-ends, left-step, stride-group, group-some)
+place-next m k here low shown = grind (arith, group-ends, left-step, stride-group)
 
 -- ---- where a group begins, by the byte's index
 
@@ -126,7 +125,7 @@ unfolding begins
 begins-index m k = grind arith
 
 pub begins-true : (m : MapView) (k : ℕ) → k < length m.image.bytes → is_skip (role_of m.info (m.image.start + k)) ≡ false → left_at (stride_at m) m.image.start k ≡ 0 → begins m (m.image.start + k) ≡ true
-begins-true m k low shown none = grind (arith, begins-index, and_from, inside-index, eq-eqb)
+begins-true m k low shown none = grind (arith, begins-index)
 
 pub begins-skip : (m : MapView) (k : ℕ) → k < length m.image.bytes → is_skip (role_of m.info (m.image.start + k)) ≡ true → begins m (m.image.start + k) ≡ false
 begins-skip m k low skip = begins-index m k ∙ rw (inside-index m k low, skip) refl
@@ -188,7 +187,7 @@ pub record GroupBegins (m : MapView) (a : ℕ) : Type 0 where
 
 pub group-begun : (m : MapView) (a : ℕ) → begins m a ≡ true → GroupBegins m a
 unfolding begins
-group-begun m a is = grind (arith, and_parts, nat_le, nat_lt, leb-true, ltb-true, not-true, eqb-true)
+group-begun m a is = grind arith
 
 -- the step from a place: to the next one, which lies after it
 pub record Step (m : MapView) (p : ℕ) : Type 0 where

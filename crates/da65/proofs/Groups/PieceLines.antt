@@ -1,6 +1,6 @@
 -- The lines of a table: a group begins with each so-manieth item of its piece.
 use Rattle.std.proofs.Common.{◌≡◌, ◌∙◌, inl, inr, ℕ, suc, ◌+◌, ◌-◌, ◌*◌, ◌%◌, ◌<◌, ◌≤◌, not, Bool, true, false, length, refl, sym, ap, arith, ⊎_elim}
-use Rattle.std.proofs.Math.Nat.{add-mod_right, add-mul, mod-add-mod, mod-eq_of_lt, mul-div_cancel}
+use Rattle.std.proofs.Math.Nat.{add-mod_right}
 use Rattle.std.proofs.lemmas.Bool.{and_from, cond-false, cond-true, cases_eq, cases_lt, eq-eqb, eqb-true, true≢false}
 use Rattle.info65.proofs.Public.{layout_line, layout_some}
 use Rattle.info65.specs.declared.information.range.RangeType.{RangeType}
@@ -37,7 +37,7 @@ abbrev pub FullAt : MapView → RangeType → ℕ → Type 0
 FullAt m r k = k < length m.image.bytes → role_of m.info (m.image.start + k) ≡ r → is_whole m (m.image.start + k) ≡ true → BeginsFull m r k
 
 first-full : (m : MapView) (r : RangeType) (k : ℕ) → IsStart m (m.image.start + k) → BeginsFull m r k
-first-full m r k start = grind (arith, mod-eq_of_lt, layout_line)
+first-full m r k start = grind arith
 
 -- pieces that meet are one
 pub join : (m : MapView) (b a c : ℕ) → AreOnePiece m b a → AreOnePiece m a c → AreOnePiece m b c
@@ -49,7 +49,7 @@ join-one m b a c front same joined x low high = grind arith
 
 -- so many items further in the piece
 pub further-item : (m : MapView) (r : RangeType) (a c k i : ℕ) → IsItemOf m a k → role_of m.info a ≡ r → role_of m.info c ≡ r → AreOnePiece m a c → ((x : ℕ) → a < x → x ≤ c → is_defined m x ≡ false) → c ≡ a + i * unit_of r → IsItemOf m c (k + i)
-further-item m r a c k i item role-a role-c piece unnamed place = grind (arith, add-mul, join)
+further-item m r a c k i item role-a role-c piece unnamed place = grind arith
 
 module _ (m : MapView) (r : RangeType) (table : IsTable m r) where
   -- after a group of the piece
@@ -153,7 +153,7 @@ one-first m a k c item other low_f low_g =
     (cases_lt item.first other.first)
 
 same-count : (f a u k c : ℕ) → 1 ≤ u → a ≡ f + k * u → a ≡ f + c * u → k ≡ c
-same-count f a u k c some h g = grind (arith, mul-div_cancel)
+same-count f a u k c some h g = grind arith
 
 pub one-count : (m : MapView) (a k c : ℕ) → IsItemOf m a k → IsItemOf m a c → k ≡ c
 one-count m a k c item other =
@@ -162,4 +162,4 @@ one-count m a k c item other =
     same-count other.first a unit k c (layout_some (role_of m.info a)) (item.place ∙ ap (λ (f : ℕ). f + k * unit) first) other.place
 
 pub not-full : (limit c i : ℕ) → c % limit ≡ 0 → (c + i) % limit ≡ 0 → 1 ≤ i → i < limit → ⊥
-not-full limit c i full again some low = grind (arith, mod-add-mod, mod-eq_of_lt)
+not-full limit c i full again some low = grind arith

@@ -2,8 +2,7 @@
 use Rattle.std.proofs.Common.{◌≡◌, ◌∙◌, ℕ, ◌<◌, ◌≤◌, ◌&&◌, ◌==◌, not, Bool, true, false, Option, Some, None, refl, ap, sym, arith}
 use Rattle.std.proofs.lemmas.List.{get_or_default}
 use Rattle.std.proofs.lemmas.List.Folds.{Any-from_list_any}
-use Rattle.std.proofs.lemmas.Option.{none-some}
-use Rattle.std.proofs.lemmas.Bool.{both_ways, cond-false, cond-true, cond_both, eq-eqb, eqb-true, false_from_ne_true}
+use Rattle.std.proofs.lemmas.Bool.{both_ways, cond-false, cond-true, eq-eqb, eqb-true, false_from_ne_true}
 use Rattle.info65.proofs.Public.{own_address_wins}
 use Rattle.info65.specs.Names.{AreNames, blank_name, covering, name_at}
 use Rattle.info65.specs.Views.{NameView}
@@ -35,7 +34,7 @@ role_there m a is = cond-true (is_inside m.image a) _ _ is
 
 role_none : (m : MapView) (a : ℕ) → role_at m a ≡ None → is_inside m.image a ≡ false
 unfolding role_at
-role_none m a = grind (arith, cond_both, Some, None, none-some)
+role_none m a = grind arith
 
 pub role_outside : (m : MapView) (a : ℕ) → IsPlaced m.image → 65536 ≤ a → role_at m a ≡ None
 unfolding role_at

@@ -35,7 +35,7 @@ pub group-index : (m : MapView) (k : ℕ) → group_bytes m (m.image.start + k) 
 group-index m k = ap (take (group_len m (m.image.start + k))) (from-index m k)
 
 pub group-long : (m : MapView) (k : ℕ) → k + group_len m (m.image.start + k) ≤ length m.image.bytes → length (group_bytes m (m.image.start + k)) ≡ group_len m (m.image.start + k)
-group-long m k fits = grind (arith, group-index, length-take-le, length-drop)
+group-long m k fits = grind (arith, length-take-le, length-drop)
 
 -- ---- code
 
@@ -107,7 +107,7 @@ IsLong r len = (len ≡ 1) ⊎ Counted r len
 
 pub size-is : (m : MapView) (a : ℕ) → (size_at m a ≡ full_len_at m a) ⊎ (size_at m a ≡ 1)
 unfolding size_at
-size-is m a = grind (arith, cond_both)
+size-is m a = grind arith
 
 pub full_len-of : (m : MapView) (a : ℕ) (r : RangeType) → role_of m.info a ≡ r → full_len_at m a ≡ size_for m r (byte_at m.image a)
 unfolding full_len_at

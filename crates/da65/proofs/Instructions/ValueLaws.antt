@@ -2,14 +2,14 @@
 use Rattle.std.proofs.Common.{◌≡◌, ℕ, Bool, true, false, cond, eqb, ◌+◌, ◌-◌, ◌<◌, ◌≤◌, List, Option, Some, None, refl, arith, ◌∷◌, []}
 use Rattle.std.specs.Prelude.{nat_lt, IfSome}
 use Rattle.std.proofs.Math.Bool.{and-false}
-use Rattle.std.proofs.lemmas.Bool.{eq-eqb, ne_eqb}
+use Rattle.std.proofs.lemmas.Bool.{ne_eqb}
 use Rattle.stmt65.specs.SourceLine.{Value, NumberValue, NameValue}
 use Rattle.stmt65.specs.declared.source_line.Minus.TheVariants.{Zero, One}
 use Rattle.stmt65.specs.Printed.{source_value}
 use Rattle.stmt65.specs.Symbols.{Definition, find_name, has_zero_page_size, is_known, value_in}
 use Rattle.map65.specs.ImageView.{ImageView}
 use Rattle.map65.specs.Names.{Base}
-use Rattle.da65.specs.BaseNames.{AreSound, IsBaseOf, Names, base_name, is_base}
+use Rattle.da65.specs.BaseNames.{AreSound, IsBaseOf, Names}
 use Rattle.da65.specs.Statements.{address_expr, constant_base, expr_from, zero_page_expr}
 use Rattle.da65.specs.KnownNames.{Knows, KnowsAll, KnowsConstants, definition_of}
 use Rattle.da65.specs.ReassemblyLaw.{ExpressionsHaveTheirValues}
@@ -17,15 +17,9 @@ use Rattle.da65.proofs.Blocks.Knowledge.{first_of, knows_found}
 
 -- ---- bases
 
-own-base : (m : Names) (a : ℕ) (b : Base) → IsBaseOf m a b → is_base m b.address ≡ true
-own-base m a b is = rw is.base (eq-eqb b.address b.address refl)
-
-own-name : (m : Names) (a : ℕ) (b : Base) → IsBaseOf m a b → base_name m b.address ≡ b.text
-own-name m a b is = rw is.base refl
-
 -- the definition of an address's base, if that passes the test
 base-found : (m : Names) (p : ℕ → Bool) (ds : List Definition) (a : ℕ) (b : Base) (t : Bool) → Knows m p ds → IsBaseOf m a b → p b.address ≡ t → find_name b.text ds ≡ first_of (cond t (definition_of m b.address ∷ []) [])
-base-found m p ds a b t k is e = grind (arith, first_of, own-name, knows_found, own-base)
+base-found m p ds a b t k is e = grind (arith, knows_found)
 
 -- ---- values
 

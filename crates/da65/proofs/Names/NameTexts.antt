@@ -1,6 +1,6 @@
 -- The texts of a map's names are names, and none of them is reserved.
-use Rattle.std.proofs.Common.{◌≡◌, ℕ, ◌<◌, Bool, true, false, not, List, ◌∷◌, Option, Some, None, nat_lt, refl, sym, ap, subst, arith, []}
-use Rattle.std.proofs.lemmas.Bool.{and_from, and_parts, ltb-true, or_parts}
+use Rattle.std.proofs.Common.{◌≡◌, ℕ, ◌<◌, Bool, true, false, not, List, ◌∷◌, Option, Some, None, refl, sym, ap, subst, arith, []}
+use Rattle.std.proofs.lemmas.Bool.{and_from, or_parts}
 use Rattle.std.proofs.lemmas.Bool.Decides.{nat_tests}
 use Rattle.text65.specs.Digits.{hex_digit}
 use Rattle.text65.specs.Names.{has_name_form, is_reserved_word, is_word_byte}
@@ -22,7 +22,7 @@ pub record IsNameText (text : List ℕ) : Type 0 where
 pub text_long : (text : List ℕ) → has_name_form text ≡ true → IsNameLong text
 unfolding has_name_form
 text_long [] h = absurd cc
-text_long (b ∷ w) h = grind (arith, and_parts, nat_lt, ltb-true)
+text_long (b ∷ w) h = grind arith
 
 text-of-form : (text : List ℕ) → has_name_form text ≡ true → is_reserved_word text ≡ false → IsNameText text
 unfolding is_name

@@ -69,7 +69,7 @@ row-small image m _ next bytes are room = tt
 code-small : (image : ImageView) (o : Option Op) (n a : ℕ) (bytes : List ℕ) → AreBytes bytes → a + n ≤ 65536 → IsSmall (code_target image o n a bytes)
 unfolding operand_target
 code-small image None n a bytes are room = tt
-code-small image (Some op) n a bytes are room = grind (arith, cond_both, None, row-small, eqb-true)
+code-small image (Some op) n a bytes are room = grind (arith, row-small, eqb-true)
 
 return-small : (w : ℕ) → w < 65536 → IsSmall (return_target w)
 return-small w low = cond_both (w == 65535) None (Some (w + 1)) IsSmall (λ _. tt) (λ other. omega (arith, low, eqb-false w 65535 other))

@@ -1,8 +1,8 @@
 -- The comments of given names, and the names of segments, can be printed.
-use Rattle.std.proofs.Common.{◌≡◌, ◌∙◌, ℕ, Bool, true, false, not, List, ◌∷◌, Option, Some, None, All, nat_le, refl, ap, sym, subst, arith, []}
+use Rattle.std.proofs.Common.{◌≡◌, ◌∙◌, ℕ, Bool, true, false, not, List, ◌∷◌, Option, Some, None, All, refl, ap, sym, subst, arith, []}
 use Rattle.std.specs.Prelude.{IfSome, ◌==◌, if◌then◌else◌, option_map}
 use Rattle.std.specs.List.{find, list_all}
-use Rattle.std.proofs.lemmas.Bool.{and_from, and_parts, leb-true}
+use Rattle.std.proofs.lemmas.Bool.{and_from, and_parts}
 use Rattle.std.proofs.lemmas.Bool.Decides.{nat_tests}
 use Rattle.text65.specs.Names.{has_name_form}
 use Rattle.info65.specs.Names.{AreNames, IsComment, blank_name, covering, has_comment_form, is_comment_byte}
@@ -31,7 +31,7 @@ no-feeds (b ∷ bs) are =
 
 comment-text : (text : List ℕ) → IsComment text → IsPrintable (view.remark text)
 unfolding has_comment_form
-comment-text text is = grind (arith, and_parts, nat_le, leb-true, no-feeds)
+comment-text text is = grind (arith, no-feeds)
 
 pub comment-printable : (m : MapView) (a : ℕ) (text : List ℕ) → AreNames m.info.names → comment_at m a ≡ Some text → IsPrintable (view.remark text)
 unfolding comment_at

@@ -14,7 +14,7 @@ use Rattle.info65.proofs.Public.{last_name}
 use Rattle.map65.specs.MapView.{MapView}
 use Rattle.da65.specs.Comments.{comment_at, comment_by}
 use Rattle.da65.specs.Lines.{IsUnmarked}
-use Rattle.da65.specs.Listing.{ListingLine, opening_lines, segment_lines, separator_lines}
+use Rattle.da65.specs.Listing.{ListingLine, opening_lines, segment_lines}
 use Rattle.da65.specs.Marks.{has_comment, has_marks}
 use Rattle.map65.specs.Segments.{segment_at}
 use Rattle.da65.specs.Style.{style_of}
@@ -46,12 +46,9 @@ bare-segments : (m : MapView) (a : ℕ) → ((a : ℕ) → segment_at m a ≡ No
 unfolding segment_lines
 bare-segments m a none = rw (none a, segment-none m (a - m.image.start) none) refl
 
-bare-separator : (m : MapView) (a : ℕ) → (style_of m.info.settings).level ≡ 0 → separator_lines m a ≡ []
-bare-separator m a none = rw none refl
-
 pub unmarked : (m : MapView) → has_marks m.info (style_of m.info.settings) ≡ false → IsUnmarked m
 unfolding opening_lines
-unmarked m none = grind (arith, or_parts, eqb-true, not-false, nil_from_length, None, bare-comment, bare-segment, bare-separator, bare-segments, flat-nothing)
+unmarked m none = grind (arith, or_parts, eqb-true, not-false, nil_from_length, bare-comment, bare-segment, bare-segments, flat-nothing)
 
 -- a name that is looked at has a comment where the name that was given has one
 pub comment-shown : (given : Given) (n : NameView) → given_seen given ≡ n → has_comment n ≡ is_some given.comment

@@ -42,7 +42,7 @@ next_lines m p next text segment is = grind arith
 -- a plain line
 pub next-plain : (m : MapView) (left : List ListingLine) (text : List ℕ) (next : ListingPlace) (segment : Option (List ℕ)) (t : Style) (s : StatementView)
     → left ≡ plain s ∷ left_from next m → text ≡ line_text t (plain s) → t ≡ style_of m.info.settings → IsPlace next m → segment_of next m ≡ segment → IsNext m left text next segment
-next-plain m left text next segment t s lines is same place where_is = grind (arith, first-text)
+next-plain m left text next segment t s lines is same place where_is = grind arith
 
 -- the same lines
 pub next-moved : (m : MapView) (left same : List ListingLine) (text : List ℕ) (next : ListingPlace) (segment : Option (List ℕ)) → left ≡ same → IsNext m same text next segment → IsNext m left text next segment
@@ -237,12 +237,12 @@ constant-base m v is = (and_parts (is_base (names_of m) v) _ is.has).0
 -- the line that enters it
 pub enter-segment : (m : MapView) (k a : ℕ) (t : Style) (text : List ℕ) (here : Option (List ℕ)) → IsGroupStart m k → a ≡ m.image.start + k → t ≡ style_of m.info.settings
     → here ≡ segment_at m a → is_same_segment here (segment_before m k) ≡ false → text ≡ line_text t (plain (segment_statement here)) → IsNext m (segment_left m k) text (Comment k a) here
-enter-segment m k a t text here start place same is other told = grind (arith, first-text, segment-yes, Option)
+enter-segment m k a t text here start place same is other told = grind (arith, segment-yes)
 
 -- it goes on
 pub stay-in-segment : (m : MapView) (k a : ℕ) (text : List ℕ) (next : ListingPlace) (here old : Option (List ℕ)) → a ≡ m.image.start + k
     → here ≡ segment_at m a → old ≡ segment_before m k → is_same_segment here old ≡ true → IsNext m (comments_left m k a) text next (segment_at m (m.image.start + k)) → IsNext m (segment_left m k) text next old
-stay-in-segment m k a text next here old place is before same known = grind (arith, Option, next-there, same-segment, next-moved, segment-no)
+stay-in-segment m k a text next here old place is before same known = grind (arith, same-segment, segment-no)
 
 -- ---- where a group begins
 

@@ -13,4 +13,4 @@ line_taken {old} {mid} {new} {text} lines rest line h e w = grind (arith, append
 -- a prefix of it is
 pub front_taken : {old mid new : Option (List ℕ)} {text : List ℕ} (lines rest : List (List ℕ)) (line : List ℕ) → HasTaken old mid text (text_of lines) → lines ≡ line ∷ rest → AppendsFront mid new line → AppendsFront old new text
 unfolding text_of
-front_taken {old} {mid} {new} {text} lines rest line h e w = grind (arith, append_assoc, Appends-trans)
+front_taken {old} {mid} {new} {text} lines rest line h e w = grind (arith, append_assoc)

@@ -1,5 +1,5 @@
 -- Preparing a run: its information file, and then one include file after the other.
-use Rattle.std.proofs.Common.{arith, ◌≡◌, ◌∙◌, ◌<◌, ◌≤◌, ◌+◌, ℕ, List, get_or, length, add-one, ap, drop, drop-cons}
+use Rattle.std.proofs.Common.{arith, ◌≡◌, ◌∙◌, ◌<◌, ◌≤◌, ◌+◌, ℕ, List, get_or, length, ap, drop, drop-cons}
 use Rattle.std.proofs.lemmas.List.{drop_all, get_or_default}
 use Rattle.std.specs.Prelude.{Ok, Result}
 use Rattle.info65.specs.Includes.{blank_include}
@@ -23,7 +23,7 @@ is_at i k h = get_or_default i.includes k blank_include (include_at i k) h
 comes_first : (fs : List FileView) (k : ℕ) (i : InfoView) → k < length i.includes
     → with_includes fs k (drop k i.includes) i ≡ (with_file fs k (include_at i k) i >>= with_includes fs (k + 1) (drop (k + 1) i.includes))
 unfolding with_includes
-comes_first fs k i h = grind (arith, add-one, drop-cons)
+comes_first fs k i h = grind (arith, drop-cons)
 
 -- its names were added
 pub included_on : (fs : List FileView) (k : ℕ) (i j : InfoView) → k < length i.includes → j.includes ≡ i.includes → with_file fs k (include_at i k) i ≡ Ok j

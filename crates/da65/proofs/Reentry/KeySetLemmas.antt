@@ -8,7 +8,7 @@ use Rattle.std.proofs.Math.ListN.{replicate}
 use Rattle.da65.specs.Code.KeySet.{has_bit}
 
 no_word : (n i : ℕ) → ◌≡◌ {A = ℕ} (get_or (replicate n 0) i 0) 0
-no_word n i = grind (arith, get_or-replicate, get_or_past, replicate, length-replicate)
+no_word n i = grind (arith, get_or-replicate, get_or_past, length-replicate)
 
 pub no_bit : (n k : ℕ) → has_bit (replicate n 0) k ≡ false
 unfolding has_bit

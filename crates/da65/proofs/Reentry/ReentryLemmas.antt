@@ -3,9 +3,8 @@ use Rattle.std.proofs.Common.{arith, ◌≡◌, ◌∙◌, ◌+◌, ◌<◌, ◌
 use Rattle.std.specs.Prelude.{◌==◌, Option, None, Some, codes, is_some}
 use Rattle.std.specs.Option.{option_or}
 use Rattle.std.specs.Str.{bytes_eq}
-use Rattle.std.proofs.Math.Bool.{and-or_distrib_right, and-true}
-use Rattle.std.proofs.lemmas.Bool.{eq-eqb, eqb-true, false≢true, false_from_ne_true}
-use Rattle.std.proofs.lemmas.Bool.Decides.{same_from_decides}
+use Rattle.std.proofs.Math.Bool.{and-or_distrib_right}
+use Rattle.std.proofs.lemmas.Bool.{false≢true, false_from_ne_true}
 use Rattle.std.proofs.lemmas.Slice.Eq.{bytes_eq-Decides}
 use Rattle.info65.specs.Code.Segments.{segment_seen}
 use Rattle.info65.specs.Segments.{AreSegments, first_named, segment_covering, segment_key}
@@ -32,7 +31,7 @@ same_some is = cc
 
 -- the keys of two names are equal exactly if the names are
 key-tells : (segments : List SegmentView) (n t : List ℕ) (k l : ℕ) → AreSegments segments → first_named segments n ≡ Some k → first_named segments t ≡ Some l → (k == l) ≡ bytes_eq n t
-key-tells segments n t k l are is also = grind (arith, same_from_decides, one_key, eqb-true, eq-eqb, same_some, bytes_eq-Decides)
+key-tells segments n t k l are is also = grind (arith, one_key, bytes_eq-Decides)
 
 -- names whose keys are not equal are not
 key-apart : (segments : List SegmentView) (n t : List ℕ) (o p : Option ℕ) → first_named segments n ≡ o → first_named segments t ≡ p → (o ≡ p → ⊥) → bytes_eq n t ≡ false
@@ -50,19 +49,6 @@ same-keys segments s t k l are is also = refl
 pub record IsNameKey (segments : List SegmentView) (n : List ℕ) (key : Option ℕ) : Type 0 where
   pub is : first_named segments n ≡ key
   pub code : key ≡ None → n ≡ codes "CODE"
-
-name-keyed : (segments : List SegmentView) (s : Option (List ℕ)) (k code : Option ℕ) → IsKeyed segments s k → code ≡ first_named segments (codes "CODE") → IsNameKey segments (segment_name s) (option_or k code)
-name-keyed segments None None code is also = record { is = sym also; code = λ none. refl }
-name-keyed segments (Some n) (Some k) code is also = record { is = is; code = λ none. absurd cc }
-name-keyed segments _ _ code is also = absurd is
-
-code-name : (n : List ℕ) (b : Bool) → n ≡ codes "CODE" → (b && bytes_eq (codes "CODE") n) ≡ b
-code-name n b is = ap (λ (t : Bool). b && t) ((bytes_eq-Decides (codes "CODE") n).1 (sym is)) ∙ and-true b
-
--- what is asked of a name is asked of its key
-asked-by-key : (segments : List SegmentView) (test : Option ℕ → Bool) (n : List ℕ) (key : Option ℕ) → IsNameKey segments n key → of_name segments test n ≡ test key
-asked-by-key segments test n None k = ap (λ (o : Option ℕ). by_key test o n) k.is ∙ code-name n (test None) (k.code refl)
-asked-by-key segments test n (Some key) k = ap (λ (o : Option ℕ). by_key test o n) k.is
 
 -- a name is this one exactly if its key is that of this one
 name-tells : (segments : List SegmentView) (n t : List ℕ) (key : Option ℕ) → AreSegments segments → IsNameKey segments n key → bytes_eq n t ≡ of_name segments (is_same_key key) t
@@ -125,7 +111,7 @@ pub record IsByte (m : MapView) (k a : ℕ) : Type 0 where
   pub low : k < length m.image.bytes
 
 pub byte-told : (m : MapView) (image : ImageView) (bytes : List ℕ) (start k : ℕ) → m.image ≡ image → bytes ≡ image.bytes → start ≡ image.start → k < length bytes → IsByte m k (start + k)
-byte-told m image bytes start k same are is low = grind (arith, count-told)
+byte-told m image bytes start k same are is low = grind arith
 
 -- what is asked of its address is so of that byte
 pub skip-told : (m : MapView) (k a : ℕ) (result t : Bool) → IsByte m k a → result ≡ is_skip (role_of m.info a) → result ≡ t → is_skip (role_of m.info (m.image.start + k)) ≡ t
@@ -136,9 +122,6 @@ start-told m k a result place here is shown = record { place = place; inside = h
 
 -- ---- what is known by keys
 
-pub segments-told : (m : MapView) (i : InfoView) → m.info ≡ i → AreSegments i.segments → AreSegments m.info.segments
-segments-told m i same are = subst (λ (x : InfoView). AreSegments x.segments) (sym same) are
-
 -- the keys of the segment of this byte, and of its name
 pub record HasKeys (m : MapView) (k : ℕ) (segment name : Option ℕ) : Type 0 where
   pub sound : AreSegments m.info.segments
@@ -147,7 +130,7 @@ pub record HasKeys (m : MapView) (k : ℕ) (segment name : Option ℕ) : Type 0 
 
 pub keys-told : (m : MapView) (i : InfoView) (k a : ℕ) (segment name code : Option ℕ) → m.info ≡ i → AreSegments i.segments → IsByte m k a → IsKeyed m.info.segments (segment_at m a) segment → code ≡ first_named i.segments (codes "CODE") → name ≡ option_or segment code
     → HasKeys m k segment name
-keys-told m i k a segment name code same are here keyed first is = grind (arith, segments-told, name-keyed)
+keys-told m i k a segment name code same are here keyed first is = grind arith
 
 pub known-first : (m : MapView) (e : Entered) → IsNew e → IsKnownFrom m 0 e
 unfolding is_entered_again
@@ -159,7 +142,7 @@ known-skip m k e place low skip known = grind (arith, groups-skip)
 -- the group that begins with the k-th byte leads back, or those after it decide
 known-here : (m : MapView) (k : ℕ) (e : Entered) (segment name : Option ℕ) → IsGroupStart m k → HasKeys m k segment name → (known : IsKnownFrom m k e)
     → (is_back e segment name || enters_again (segment_at m (m.image.start + k)) (segment_name (segment_at m (m.image.start + k)) ∷ known.had) (map (segment_at m) (groups_from m (k + group_len m (m.image.start + k))))) ≡ is_entered_again m
-known-here m k e segment name start keys known = grind (arith, Bool, same-keys, asked-by-key, enters-step, groups-next)
+known-here m k e segment name start keys known = grind (arith, same-keys, enters-step, groups-next)
 
 pub known-back : (m : MapView) (k : ℕ) (e : Entered) (segment name : Option ℕ) → IsGroupStart m k → HasKeys m k segment name → IsKnownFrom m k e → is_back e segment name ≡ true → true ≡ is_entered_again m
 known-back m k e segment name start keys known back = rw back at (known-here m k e segment name start keys known)

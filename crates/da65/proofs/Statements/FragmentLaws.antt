@@ -1,8 +1,7 @@
 -- The bytes of fragments whose values are numbers.
-use Rattle.std.proofs.Common.{◌≡◌, ℕ, true, ◌+◌, ◌-◌, ◌%◌, ◌<◌, ◌≤◌, List, ◌∷◌, ◌++◌, length, map, Option, Some, None, refl, ap, arith, length-append, []}
+use Rattle.std.proofs.Common.{◌≡◌, ℕ, true, ◌+◌, ◌-◌, ◌%◌, ◌<◌, ◌≤◌, List, ◌∷◌, ◌++◌, length, map, Some, refl, ap, arith, length-append, []}
 use Rattle.std.specs.List.{list_all, flat_map}
-use Rattle.std.proofs.lemmas.Bool.{lt-ltb, le-leb, ltb-true, ltb-false, leb-true, and_from, cond_both}
-use Rattle.std.proofs.lemmas.Option.{cond_some}
+use Rattle.std.proofs.lemmas.Bool.{lt-ltb}
 use Rattle.std.proofs.lemmas.List.Elements.{All-head, All-tail}
 use Rattle.stmt65.specs.SourceLine.{NumberValue, NumberDatum}
 use Rattle.stmt65.specs.Symbols.{Definition, value_in, is_known, word_in}
@@ -40,7 +39,7 @@ pub more_fragments : (Full : List Definition → Type 0) (next : ℕ) (f : Fragm
     → ((all : List Definition) → Full all → is_fragment_known all f ≡ true) → ((all : List Definition) → Full all → fragment_fits all next f ≡ true)
     → ((all : List Definition) → Full all → fragment_bytes all next f ≡ front) → FragmentsGive Full next fragments bytes → FragmentsGive Full next (f ∷ fragments) (front ++ bytes)
 unfolding coding_len
-more_fragments Full next f fragments front bytes long known fits gives rest = grind (arith, length-append, and_from)
+more_fragments Full next f fragments front bytes long known fits gives rest = grind (arith, length-append)
 
 pub fixed_gives : (Full : List Definition → Type 0) (next b : ℕ) (fragments : List Fragment) (bytes : List ℕ) → FragmentsGive Full next fragments bytes → FragmentsGive Full next (Fixed b ∷ fragments) (b ∷ bytes)
 unfolding fragment_fits fragment_bytes
@@ -64,15 +63,9 @@ pub record IsTarget (next b target : ℕ) : Type 0 where
   pub near : is_near next (Some target) ≡ true
   pub back : distance next target ≡ b
 
-forward_target : (next b : ℕ) → b < 128 → next + b < 65536 → IsTarget next b (next + b)
-forward_target next b h room = grind (arith, and_from, le-leb)
-
-backward_target : (next b : ℕ) → 128 ≤ b → b < 256 → next ≤ 65536 → 256 - b ≤ next → IsTarget next b (next - (256 - b))
-backward_target next b h g room low = grind (arith, and_from, le-leb)
-
 pub target_is : (next b target : ℕ) → next ≤ 65536 → b < 256 → target_of next b ≡ Some target → IsTarget next b target
 unfolding target_of
-target_is next b target room h = grind (arith, cond_both, Some, None, Option, cond_some, forward_target, ltb-true, backward_target, ltb-false, leb-true)
+target_is next b target room h = grind arith
 
 -- ---- data
 

@@ -106,7 +106,7 @@ operand_prints : (m : Names) → HaveTexts m → (next : ℕ) (bytes : List ℕ)
     → IfSome (operand_expr m k next at bytes) (OperandPrints k)
 operand_prints m h next bytes are room kind.Byte at long = let small = byte-small bytes are at in record { form = small; width = omega (arith, small); name = tt }
 operand_prints m h next bytes are room kind.ZeroPage at long = short_prints_expr m (slice_index bytes at) h (byte-small bytes are at)
-operand_prints m h next bytes are room kind.Word at long = grind (arith, long_prints_expr, byte-small)
+operand_prints m h next bytes are room kind.Word at long = grind (arith, long_prints_expr)
 operand_prints m h next bytes are room kind.Distance at long = go (target_of next (slice_index bytes at)) refl
   where
     go : (o : Option ℕ) → target_of next (slice_index bytes at) ≡ o → IfSome (option_map (address_expr m) o) (OperandPrints kind.Distance)

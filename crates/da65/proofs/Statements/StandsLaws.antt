@@ -1,9 +1,8 @@
 -- One statement in its state: it has no fault, and gives its bytes.
-use Rattle.std.proofs.Common.{arith, ◌≡◌, ℕ, false, ◌+◌, ◌≤◌, List, ◌∷◌, ◌++◌, length, map, Option, Some, None, refl, ap, subst, []}
-use Rattle.std.specs.Prelude.{nat_le, nat_lt, IfSome}
+use Rattle.std.proofs.Common.{arith, ◌≡◌, ℕ, false, ◌+◌, ◌≤◌, List, ◌∷◌, ◌++◌, length, map, Option, Some, None, refl, subst, []}
+use Rattle.std.specs.Prelude.{nat_lt, IfSome}
 use Rattle.std.specs.List.{flat_map, list_any}
-use Rattle.std.proofs.lemmas.Bool.{le-ltb, leb-true}
-use Rattle.std.proofs.lemmas.Option.{cond_some}
+use Rattle.std.proofs.lemmas.Bool.{le-ltb}
 use Rattle.isa65.specs.Mode.{len_of}
 use Rattle.isa65.specs.Opcodes.{Table, decoded}
 use Rattle.isa65.specs.declared.cpu.Cpu.{Cpu}
@@ -13,7 +12,7 @@ use Rattle.stmt65.specs.Symbols.{Definition}
 use Rattle.stmt65.specs.Coding.{Fragment, coding, datum_fragments}
 use Rattle.stmt65.specs.Meaning.{State, fragments_of, next_of, defined_by, has_unknown_cpu, has_no_form, is_undefined, is_twice, is_out_of_range, is_past_end, fault_of, bytes_of, cpu_after, after, operation_in}
 use Rattle.map65.specs.ImageView.{AreBytes}
-use Rattle.da65.specs.Instructions.{instruction_in, whole_in}
+use Rattle.da65.specs.Instructions.{instruction_in}
 use Rattle.da65.proofs.Statements.FragmentLaws.{FragmentsGive, data_give}
 
 -- The operation is coded by fragments that give these bytes, and leads to the CPU.
@@ -90,16 +89,10 @@ pub record BeginsWith (t : Table) (bytes : List ℕ) (op : Op) : Type 0 where
   pub opcode : decoded t first ≡ Some op
   pub long : len_of op.mode ≤ length bytes
 
-whole_is : (count : ℕ) (o : Option Op) (op : Op) → whole_in count o ≡ Some op → (o ≡ Some op) × (len_of op.mode ≤ count)
-whole_is count None op e = absurd cc
-whole_is count (Some p) op e =
-    let is = cond_some (nat_le (len_of p.mode) count) p op e in
-    (ap Some is.1, subst (λ (q : Op). len_of q.mode ≤ count) is.1 (leb-true (len_of p.mode) count is.0))
-
 pub begins_with : (t : Table) (bytes : List ℕ) (op : Op) → instruction_in t bytes ≡ Some op → BeginsWith t bytes op
 unfolding instruction_in
 begins_with t [] op e = absurd cc
-begins_with t (b ∷ bytes) op e = grind (arith, whole_is)
+begins_with t (b ∷ bytes) op e = grind arith
 
 -- what is known of all that IfSome speaks of
 pub at_some : {A : Type 0} (P : A → Type 0) (o : Option A) (x : A) → o ≡ Some x → IfSome o P → P x
