@@ -1,6 +1,6 @@
 -- With the ranges that are proposed each reached instruction is an item.
-use Rattle.std.proofs.Common.{◌≡◌, ◌∙◌, ℕ, zero, suc, ◌+◌, ◌-◌, ◌<◌, ◌≤◌, ◌&&◌, ◌||◌, nat_le, nat_lt, Bool, true, false, List, [], ◌∷◌, ◌++◌, length, get_or, Option, Some, None, refl, ap, sym, subst, arith, inl, inr, ◌⊎◌, cond}
-use Rattle.std.proofs.lemmas.Bool.{and_from, and_parts, and_right, cases_Bool, cases_eq, cases_lt, cond-false, cond_both, le-leb, leb-true, lt-ltb, ltb-true, not-false, not_from_true, or_parts, or_right}
+use Rattle.std.proofs.Common.{◌≡◌, ◌∙◌, ℕ, zero, suc, ◌+◌, ◌-◌, ◌<◌, ◌≤◌, ◌&&◌, ◌||◌, nat_le, Bool, true, false, List, [], ◌∷◌, ◌++◌, length, get_or, Option, Some, None, refl, ap, sym, subst, arith, inl, inr, ◌⊎◌, cond}
+use Rattle.std.proofs.lemmas.Bool.{and_from, and_right, cases_Bool, cases_eq, cases_lt, cond-false, cond_both, le-leb, leb-true, lt-ltb, not-false, not_from_true, or_parts, or_right}
 use Rattle.std.proofs.lemmas.List.Folds.{Any-from_list_any, list_any_at}
 use Rattle.isa65.specs.Mode.{len_of}
 use Rattle.isa65.proofs.ModeLaws.{len-positive}
@@ -100,9 +100,7 @@ record Holds (m : MapView) (b a : ℕ) : Type 0 where
 
 holds-by : (m : MapView) (b a : ℕ) (o : Option Op) → instruction_at m b ≡ o → is_within b o a ≡ true → Holds m b a
 holds-by m b a None is within = cc
-holds-by m b a (Some op) is has =
-    let parts = and_parts (nat_le b a) (nat_lt a (b + len_of op.mode)) has in
-    record { op = op; is = is; low = leb-true b a parts.0; high = ltb-true a (b + len_of op.mode) parts.1 }
+holds-by m b a (Some op) is has = grind arith
 
 holds : (m : MapView) (b a : ℕ) → has_byte m b a ≡ true → Holds m b a
 unfolding has_byte
@@ -116,10 +114,7 @@ has-if m b a op is low high = ap (λ o. is_within b o a) is ∙ and_from _ _ (le
 
 given-taken : (m : MapView) (marks : List Bool) (a : ℕ) → is_taken m marks a ≡ true → is_given m.info.ranges a ≡ false → IsOfCode m marks a
 unfolding is_taken is_code is_of_code
-given-taken m marks a is none =
-    let any = Any-from_list_any (is_of_code m marks a) (addresses (length m.image.bytes) m.image.start) (rw none at is) in
-    let parts = and_parts (is_marked marks any.1) (has_byte m any.1 a) any.4 in
-    record { at = any.1; marked = parts.0; has = parts.1 }
+given-taken m marks a is none = grind (arith, Any-from_list_any)
 
 code-taken : (m : MapView) (marks : List Bool) (a : ℕ) → IsOfCode m marks a → is_taken m marks a ≡ true
 unfolding is_taken is_code is_of_code

@@ -1,25 +1,21 @@
 -- What the entry of a table refers to.
-use Rattle.std.proofs.Common.{◌≡◌, ◌<◌, ◌≤◌, ◌∙◌, ℕ, Option, Some, None, ap, sym}
+use Rattle.std.proofs.Common.{arith, ◌≡◌, ◌<◌, ◌≤◌, ℕ, Option, Some, None}
 use Rattle.info65.specs.Layouts.{layout_of}
 use Rattle.info65.specs.declared.information.range.RangeType.{RangeType}
 use Rattle.map65.specs.ImageView.{bytes_from, end_of}
 use Rattle.map65.specs.Items.{item_len}
 use Rattle.map65.specs.MapView.{MapView}
-use Rattle.map65.specs.Roles.{role_at, role_of}
+use Rattle.map65.specs.Roles.{role_at}
 use Rattle.map65.specs.Targets.{target_at, target_for}
 use Rattle.reach65.specs.Entries.{pointer_at, pointer_for}
 use Rattle.map65.proofs.Public.{role_at-inside}
 
 -- an address of the image has a role
 pub has-role : (m : MapView) (a : ℕ) (o : Option RangeType) → m.image.start ≤ a → a < end_of m.image → o ≡ role_at m a → o ≡ None → ⊥
-has-role m a o low high known none =
-    let both : None ≡ Some (role_of m.info a) = sym none ∙ known ∙ role_at-inside m a low high in cc
+has-role m a o low high known none = grind (arith, role_at-inside)
 
 -- what a table's entry refers to follows from its role, its length and its bytes
 pub pointer-here : (m : MapView) (a : ℕ) (o : Option RangeType) (r : RangeType) → m.image.start ≤ a → a < end_of m.image → o ≡ role_at m a → o ≡ Some r
     → pointer_for m a (layout_of r).entry (item_len m a) (bytes_from m.image a) ≡ pointer_at m a
 unfolding pointer_at pointer_for target_at target_for
-pointer-here m a o r low high known some =
-    let both : Some r ≡ Some (role_of m.info a) = sym some ∙ known ∙ role_at-inside m a low high in
-    let same : r ≡ role_of m.info a = cc in
-    ap (λ q. pointer_for m a (layout_of q).entry (item_len m a) (bytes_from m.image a)) same
+pointer-here m a o r low high known some = grind (arith, role_at-inside)

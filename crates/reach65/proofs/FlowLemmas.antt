@@ -1,24 +1,18 @@
 -- Where instructions lead.
-use Rattle.std.proofs.Common.{◌≡◌, ◌+◌, ◌<◌, ℕ, true, subst, inl, inr, Option, Some, None, option_and_then, arith}
-use Rattle.std.proofs.lemmas.Bool.{cond_both}
+use Rattle.std.proofs.Common.{◌≡◌, ◌<◌, ℕ, true, inl, inr, Option, Some, None, option_and_then, arith}
 use Rattle.map65.proofs.Public.{within}
 use Rattle.map65.specs.ImageView.{bytes_from, ImageView, IsPlaced, is_inside}
 use Rattle.map65.specs.MapView.{MapView}
 use Rattle.map65.specs.Targets.{only_inside}
-use Rattle.isa65.specs.Mode.{len_of}
 use Rattle.isa65.specs.declared.op.Op.{Op}
-use Rattle.reach65.specs.Flow.{LeadsTo, goal_at, goal_by, goal_of, instruction_at, is_last, next_at, next_of}
+use Rattle.reach65.specs.Flow.{LeadsTo, goal_at, goal_by, goal_of, instruction_at, next_at, next_of}
 
 only_inside-is : (image : ImageView) (t b : ℕ) → only_inside image t ≡ Some b → is_inside image b ≡ true
-only_inside-is image t b =
-    cond_both (is_inside image t) (Some t) None (λ v. v ≡ Some b → is_inside image b ≡ true)
-    (λ inside is. let same : t ≡ b = cc in subst (λ k. is_inside image k ≡ true) same inside) (λ _ is. cc)
+only_inside-is image t b = grind arith
 
 next_of-inside : (m : MapView) (a : ℕ) (o : Option Op) (b : ℕ) → next_of m a o ≡ Some b → is_inside m.image b ≡ true
 next_of-inside m a None b is = cc
-next_of-inside m a (Some op) b is =
-    cond_both (is_last op.mnemonic) None (only_inside m.image (a + len_of op.mode)) (λ v. v ≡ Some b → is_inside m.image b ≡ true)
-    (λ _ none. cc) (λ _ some. only_inside-is m.image (a + len_of op.mode) b some) is
+next_of-inside m a (Some op) b is = grind (arith, only_inside-is)
 
 then-inside : (image : ImageView) (o : Option ℕ) (b : ℕ) → option_and_then (only_inside image) o ≡ Some b → is_inside image b ≡ true
 then-inside image None b is = cc

@@ -1,7 +1,6 @@
 -- What a loop over a list has collected, one element after the other, and the addresses of an image as such a list.
-use Rattle.std.proofs.Common.{◌≡◌, ◌∙◌, ◌+◌, ◌<◌, ◌≤◌, ◌||◌, ℕ, Bool, List, [], ◌∷◌, ◌++◌, append_assoc, ap, get_or, length, sym, take}
+use Rattle.std.proofs.Common.{arith, ◌≡◌, ◌∙◌, ◌+◌, ◌<◌, ◌≤◌, ◌||◌, ℕ, Bool, List, [], ◌∷◌, ◌++◌, append_assoc, ap, get_or, length, sym, take}
 use Rattle.std.specs.List.{flat_map, list_any}
-use Rattle.std.proofs.Math.Bool.{or_assoc}
 use Rattle.std.proofs.lemmas.Grind.{flat_map-append}
 use Rattle.std.proofs.lemmas.List.{append-nil, take_all, take_more}
 use Rattle.std.proofs.lemmas.List.Folds.{list_any_more}
@@ -13,9 +12,7 @@ use Rattle.map65.specs.Spans.{addresses}
 
 pub any-next : {X : Type 0} (p : X → Bool) (xs : List X) (k : ℕ) (x d : X) (first old new : Bool) → k < length xs → x ≡ get_or xs k d → new ≡ (old || p x)
     → old ≡ (first || list_any p (take k xs)) → new ≡ (first || list_any p (take (k + 1) xs))
-any-next p xs k x d first old new low here is before =
-    is ∙ ap (λ b. b || p x) before ∙ or_assoc first (list_any p (take k xs)) (p x)
-    ∙ ap (λ v. first || (list_any p (take k xs) || p v)) here ∙ ap (λ b. first || b) (sym (list_any_more p xs k d low))
+any-next p xs k x d first old new low here is before = grind (arith, list_any_more)
 
 pub any-end : {X : Type 0} (p : X → Bool) (xs : List X) (k : ℕ) (first now : Bool) → length xs ≤ k → now ≡ (first || list_any p (take k xs)) → now ≡ (first || list_any p xs)
 any-end p xs k first now done before = before ∙ ap (λ l. first || list_any p l) (take_all k xs done)

@@ -1,12 +1,12 @@
 -- One piece after the other.
 use Rattle.std.proofs.Common.{All, zero, suc, ◌≡◌, ◌+◌, ◌<◌, ◌≤◌, ◌∙◌, ◌&&◌, not, nat_le, nat_lt, ℕ, true, false, List, [], ◌∷◌, ◌++◌, append_assoc, arith, inl, inr, refl, sym}
-use Rattle.std.proofs.lemmas.Bool.{and_left, and_parts, and_right, cases_lt, le-leb, leb-true, lt-leb, ltb-true, le-ltb, not-false, not_from_false, not_from_true, or_from, or_left, or_parts}
+use Rattle.std.proofs.lemmas.Bool.{and_left, and_parts, and_right, cases_lt, le-leb, lt-leb, le-ltb, not-false, not_from_false, not_from_true, or_from, or_left, or_parts}
 use Rattle.std.proofs.lemmas.List.{append-nil}
 use Rattle.info65.specs.Ranges.{has_address}
 use Rattle.info65.specs.declared.information.range.RangeSpec.{RangeSpec}
 use Rattle.info65.specs.declared.information.range.RangeType.{RangeType}
 use Rattle.info65.specs.declared.information.range.RangeType.TheVariants as role
-use Rattle.map65.specs.ImageView.{byte_at, end_of, is_inside}
+use Rattle.map65.specs.ImageView.{byte_at, end_of}
 use Rattle.reach65.specs.Pieces.{ArePieces, Ground, IsPiece, LiesIn, is_break, is_char, is_free, is_text}
 use Rattle.reach65.specs.Taken.{is_given}
 
@@ -55,8 +55,7 @@ pub pieces-pushed : (g : Ground) (from next : ℕ) (r : RangeSpec) (found all : 
     → from ≤ r.first → ((a : ℕ) → from ≤ a → a < r.first → is_free g a ≡ false) → r.first ≤ r.last → IsPiece g r.role r.first (r.last + 1)
     → (later : List RangeSpec) → ArePieces g next later → ArePieces g 0 (all ++ later)
 unfolding ArePieces
-pieces-pushed g from next r found all old is place low before ordered piece later rest =
-    rw (is, append_assoc) (old (r ∷ later) (low, before, ordered, piece, rw place at rest))
+pieces-pushed g from next r found all old is place low before ordered piece later rest = grind (arith, append_assoc)
 
 -- those that were found, if nothing is free after them
 pub pieces-end : (g : Ground) (from : ℕ) (found : List RangeSpec)
@@ -100,19 +99,13 @@ pieces-cover g rs are a = covers-from g 0 a rs (omega arith) are
 
 -- nothing is free from an address on, if nothing is up to an address past the image
 pub free-none : (g : Ground) (from at : ℕ) → end_of g.image ≤ at → ((a : ℕ) → from ≤ a → a < at → is_free g a ≡ false) → (a : ℕ) → from ≤ a → is_free g a ≡ false
-free-none g from at past before a low =
-    elim (cases_lt a at) as (λ _. is_free g a ≡ false) [
-      | inl below ↦ before a low below
-      | inr after ↦ past-free g a (omega (arith, past, after))
-    ]
+free-none g from at past before a low = grind (arith, past-free)
 
 -- ---- pieces in the image
 
 free-within : (g : Ground) (a : ℕ) → is_free g a ≡ true → (g.image.start ≤ a) × (a < end_of g.image)
 unfolding is_free
-free-within g a free =
-    let parts = and_parts (nat_le g.image.start a) (nat_lt a (end_of g.image)) (and_parts (is_inside g.image a) _ free).0 in
-    (leb-true g.image.start a parts.0, ltb-true a (end_of g.image) parts.1)
+free-within g a free = grind arith
 
 pub piece-lies : (g : Ground) (r : RangeSpec) → r.first ≤ r.last → IsPiece g r.role r.first (r.last + 1) → LiesIn g.image r
 piece-lies g r order piece = record {

@@ -1,8 +1,8 @@
 -- One step of a search after the other.
 use Rattle.std.proofs.Common.{◌≡◌, ◌≢◌, ◌⊎◌, ◌+◌, ◌<◌, ◌≤◌, ◌∙◌, ℕ, Bool, true, false, not, List, [], ◌∷◌, ◌++◌, length, get_or, set, replicate, Option, Some, None, ap, arith, sym, subst, inl, inr, cond, length-append}
 use Rattle.std.specs.List.{Contains, count_by, sum_by}
-use Rattle.std.proofs.lemmas.Bool.{both_ways, cond_both, cases_eq, cases_lt}
-use Rattle.std.proofs.lemmas.List.{get_or-set_same, get_or-set_other, length-replicate, get_or_default}
+use Rattle.std.proofs.lemmas.Bool.{both_ways, cond_both}
+use Rattle.std.proofs.lemmas.List.{get_or-set_same, get_or-set_other, get_or_default}
 use Rattle.std.proofs.Math.ListN.{length-set}
 use Rattle.std.proofs.lemmas.List.Elements.{Contains-append_left, Contains-get_or, Contains-push, Contains-push_cases}
 use Rattle.std.proofs.lemmas.List.Sums.{sum_by-set}
@@ -19,11 +19,7 @@ use Rattle.reach65.specs.Reached.{AreReached, Reached, entry, led, is_marked}
 
 -- the marks after an address is marked, for an address that is another one or not
 marks_set : (marks : List Bool) (a b : ℕ) (P : Bool → Type 0) → a < length marks → (b ≡ a → P true) → (b ≢ a → P (is_marked marks b)) → P (is_marked (set marks a true) b)
-marks_set marks a b P room here there =
-    elim (cases_eq b a) as (λ _. P (is_marked (set marks a true) b)) [
-      | inl is ↦ subst P (sym (ap (is_marked (set marks a true)) is ∙ get_or-set_same marks a true false room)) (here is)
-      | inr other ↦ subst P (sym (get_or-set_other marks a b true false other)) (there other)
-    ]
+marks_set marks a b P room here there = grind (arith, get_or-set_same, get_or-set_other)
 
 -- a step either does nothing, since the address is marked, or marks it
 by_put : (s : State) (a : ℕ) (P : State → Type 0)
@@ -72,12 +68,7 @@ contains-nil : (a : ℕ) → Contains no_address a → ⊥
 contains-nil a has = omega (arith, has.1)
 
 pub search-new : (m : MapView) (entries : List ℕ) (s : State) → s.marks ≡ replicate 65536 false → s.todo ≡ [] → IsSearch m entries Nothing s
-search-new m entries s marks todo = record {
-  count = ap length marks ∙ length-replicate 65536 false;
-  reached = λ a is. absurd (blank-unmarked s.marks a marks is);
-  todo = λ a has. absurd (contains-nil a (subst (λ l. Contains l a) todo has));
-  followed = λ a is. absurd (blank-unmarked s.marks a marks is);
-}
+search-new m entries s marks todo = grind (arith, blank-unmarked)
 
 pub search-put : (m : MapView) (entries : List ℕ) (Now : ℕ → Type 0) (s : State) (a : ℕ) → a < 65536 → Reached m entries a → IsSearch m entries Now s → IsSearch m entries Now (put s a)
 search-put m entries Now s a small is old =
@@ -123,18 +114,7 @@ next-reached m entries old new a todo was = was.todo a (subst (λ l. Contains l 
 
 -- it was followed
 pub search-followed : (m : MapView) (entries : List ℕ) (a : ℕ) (s : State) → IsFollowed m s.marks a → IsSearch m entries (λ b. b ≡ a) s → IsSearch m entries Nothing s
-search-followed m entries a s done was = record {
-  count = was.count;
-  reached = was.reached;
-  todo = was.todo;
-  followed = λ b is. elim (was.followed b is) as (λ _. Contains s.todo b ⊎ (Nothing b ⊎ IsFollowed m s.marks b)) [
-    | inl before ↦ inl before
-    | inr rest ↦ elim rest as (λ _. Contains s.todo b ⊎ (Nothing b ⊎ IsFollowed m s.marks b)) [
-      | inl now ↦ inr (inr (subst (IsFollowed m s.marks) (sym now) done))
-      | inr old ↦ inr (inr old)
-    ]
-  ];
-}
+search-followed m entries a s done was = grind arith
 
 -- ---- the end
 
@@ -151,10 +131,7 @@ reached-marked m entries s todo was all _ (led b a from leads) =
     ]
 
 pub search-end : (m : MapView) (entries : List ℕ) (s : State) → s.todo ≡ [] → IsSearch m entries Nothing s → HasEntries m entries s.marks → AreReached m entries s.marks
-search-end m entries s todo was all = record {
-  count = was.count;
-  each = λ a. (was.reached a, reached-marked m entries s todo was all a);
-}
+search-end m entries s todo was all = grind (arith, reached-marked)
 
 -- ---- one instruction
 
@@ -224,22 +201,7 @@ module _ (m : MapView) (entries : List ℕ) (old new mid end : State) (a : ℕ) 
 -- ---- the entries
 
 entries-put : (m : MapView) (entries : List ℕ) (k : ℕ) (s : State) (a : ℕ) → a < length s.marks → get_or entries k 0 ≡ a → HasEntriesTo m entries k s.marks → HasEntriesTo m entries (k + 1) (put s a).marks
-entries-put m entries k s a room here old = record {
-  each = λ i below inside. elim (cases_lt i k) as (λ _. is_marked (put s a).marks (get_or entries i 0) ≡ true) [
-    | inl before ↦ put-grows s a (get_or entries i 0) room (old.each i before inside)
-    | inr past ↦ let same : i ≡ k = omega (arith, below, past) in
-        subst (λ x. is_marked (put s a).marks x ≡ true) (sym here ∙ ap (λ j. get_or entries j 0) (sym same)) (put-marked s a room)
-  ];
-}
-
-entries-passed : (m : MapView) (entries : List ℕ) (k : ℕ) (marks : List Bool) → is_inside m.image (get_or entries k 0) ≡ false → HasEntriesTo m entries k marks → HasEntriesTo m entries (k + 1) marks
-entries-passed m entries k marks outside old = record {
-  each = λ i below inside. elim (cases_lt i k) as (λ _. is_marked marks (get_or entries i 0) ≡ true) [
-    | inl before ↦ old.each i before inside
-    | inr past ↦ let same : i ≡ k = omega (arith, below, past) in
-        let no : false ≡ true = sym outside ∙ ap (λ j. is_inside m.image (get_or entries j 0)) (sym same) ∙ inside in cc
-  ];
-}
+entries-put m entries k s a room here old = grind (arith, put-grows, put-marked)
 
 -- an entry is marked if it lies in the image
 pub entries-search : (m : MapView) (entries : List ℕ) (k : ℕ) (s : State) (a : ℕ) → IsPlaced m.image → k < length entries → get_or entries k 0 ≡ a
@@ -253,14 +215,7 @@ entries-search m entries k s a placed low here old =
 pub entries-next : (m : MapView) (entries : List ℕ) (k : ℕ) (s : State) (a : ℕ) → IsPlaced m.image → get_or entries k 0 ≡ a
     → IsSearch m entries Nothing s → HasEntriesTo m entries k s.marks → HasEntriesTo m entries (k + 1) (put_inside m.image s a).marks
 unfolding put_inside
-entries-next m entries k s a placed here was old =
-    cond_both (is_inside m.image a) (put s a) s (λ t. HasEntriesTo m entries (k + 1) t.marks)
-    (λ inside. entries-put m entries k s a (omega (arith, was.count, placed.room, (within m a inside).high)) here old)
-    (λ outside. entries-passed m entries k s.marks (ap (is_inside m.image) here ∙ outside) old)
+entries-next m entries k s a placed here was old = grind (arith, entries-put)
 
 pub entries-all : (m : MapView) (entries : List ℕ) (k : ℕ) (marks : List Bool) → length entries ≤ k → HasEntriesTo m entries k marks → HasEntries m entries marks
-entries-all m entries k marks whole old = record {
-  each = λ a has inside.
-      let here : get_or entries has.0 0 ≡ a = get_or_default entries has.0 0 a has.1 ∙ has.2 in
-      subst (λ x. is_marked marks x ≡ true) here (old.each has.0 (omega (arith, whole, has.1)) (ap (is_inside m.image) here ∙ inside));
-}
+entries-all m entries k marks whole old = grind (arith, get_or_default)

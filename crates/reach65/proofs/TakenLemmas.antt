@@ -1,7 +1,6 @@
 -- Marks of addresses that are spoken for.
 use Rattle.std.proofs.Common.{◌≡◌, ◌∙◌, ◌||◌, ℕ, Bool, false, List, length, replicate, ap, arith, inl, inr}
 use Rattle.std.proofs.lemmas.List.{get_or-replicate, get_or_past, length-replicate}
-use Rattle.std.proofs.Math.Bool.{or_comm}
 use Rattle.std.proofs.lemmas.Bool.{cases_lt}
 use Rattle.map65.specs.MapView.{MapView}
 use Rattle.reach65.specs.Reached.{is_marked}
@@ -19,16 +18,10 @@ blank-false marks a is =
 pub code_all : (m : MapView) (reached blank marks : List Bool) → blank ≡ replicate 65536 false → length marks ≡ 65536
     → ((a : ℕ) → is_marked marks a ≡ (is_marked blank a || is_code m reached a))
     → AreMarkedBy (is_code m reached) marks
-code_all m reached blank marks empty count each = record {
-  count = count;
-  each = λ a _. each a ∙ ap (λ b. b || is_code m reached a) (blank-false blank a empty);
-}
+code_all m reached blank marks empty count each = grind (arith, blank-false)
 
 pub taken_all : (m : MapView) (reached code marks : List Bool) (ranges : List RangeSpec) → AreMarkedBy (is_code m reached) code → ranges ≡ m.info.ranges → length marks ≡ 65536
     → ((a : ℕ) → is_marked marks a ≡ (is_marked code a || is_given ranges a))
     → AreMarkedBy (is_taken m reached) marks
 unfolding is_taken
-taken_all m reached code marks ranges first said count second = record {
-  count = count;
-  each = λ a low. second a ∙ rw (first.each a low, said) (or_comm (is_code m reached a) (is_given m.info.ranges a));
-}
+taken_all m reached code marks ranges first said count second = grind arith

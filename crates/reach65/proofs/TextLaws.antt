@@ -1,9 +1,8 @@
 -- The text that is proposed is accepted after the file, and adds its ranges.
-use Rattle.std.proofs.Common.{◌≡◌, ◌∙◌, ◌+◌, ◌≤◌, ◌&&◌, ◌||◌, ℕ, Bool, true, false, not, List, [], ◌∷◌, ◌++◌, append_assoc, ap, arith, inl, inr, length, nat_le, refl, subst, sym}
+use Rattle.std.proofs.Common.{◌≡◌, ◌∙◌, ◌+◌, ◌≤◌, ℕ, Bool, true, false, List, [], ◌∷◌, ◌++◌, append_assoc, ap, arith, inl, inr, length, nat_le, refl, subst, sym}
 use Rattle.std.specs.Prelude.{Ok}
 use Rattle.std.specs.List.{flat_map, list_any}
-use Rattle.std.proofs.Math.Bool.{or-false}
-use Rattle.std.proofs.lemmas.Bool.{and_left, and_parts, and_right, both_ways, cases_Bool, leb-true, not_from_true, or_left}
+use Rattle.std.proofs.lemmas.Bool.{and_parts, both_ways, leb-true}
 use Rattle.std.proofs.lemmas.List.{append-nil}
 use Rattle.std.proofs.lemmas.List.Folds.{list_any-append}
 use Rattle.info65.specs.Grammar.{Item}
@@ -14,16 +13,14 @@ use Rattle.info65.specs.Views.{OptionsView}
 use Rattle.info65.specs.declared.information.range.RangeSpec.{RangeSpec}
 use Rattle.info65.specs.declared.information.range.RangeType.{RangeType}
 use Rattle.info65.specs.declared.information.range.RangeType.TheVariants as role
-use Rattle.map65.specs.ImageView.{IsPlaced, is_inside}
+use Rattle.map65.specs.ImageView.{IsPlaced}
 use Rattle.map65.specs.MapView.{MapView}
 use Rattle.info65.proofs.Public.{AreAdded, Gives, information-more, range_items, with_ranges}
-use Rattle.map65.proofs.Public.{within}
 use Rattle.reach65.proofs.PieceLemmas.{above-range, piece-free, piece-lies}
 use Rattle.reach65.proofs.TextLemmas.{AreTables, IsTable, Later, comment-passed, comments-open, later-then, ranges-open}
 use Rattle.reach65.specs.TextLaws.{IsProposal, TextLaw, comment_line}
 use Rattle.reach65.specs.Pieces.{ArePieces, Ground, IsPiece, is_free}
 use Rattle.reach65.specs.RangeLines.{range_lines}
-use Rattle.reach65.specs.Reached.{is_marked}
 use Rattle.reach65.specs.Taken.{AreMarkedBy, is_given, is_taken}
 
 -- ---- pieces as ranges that are added
@@ -46,8 +43,7 @@ abbrev ArePast : Ground → ℕ → List RangeSpec → Type 0
 ArePast g from old = (a : ℕ) → from ≤ a → list_any (λ q. has_address q a) old ≡ true → is_free g a ≡ false
 
 any-append : (old : List RangeSpec) (r : RangeSpec) (a : ℕ) → list_any (λ q. has_address q a) (old ++ r ∷ []) ≡ true → has_address r a ≡ false → list_any (λ q. has_address q a) old ≡ true
-any-append old r a is none =
-    sym (or-false _) ∙ ap (λ b. list_any (λ q. has_address q a) old || (b || false)) (sym none) ∙ sym (list_any-append (λ q. has_address q a) old (r ∷ [])) ∙ is
+any-append old r a is none = grind (arith, list_any-append)
 
 pieces-added : (g : Ground) (from : ℕ) (old rs : List RangeSpec) → IsPlaced g.image → ArePieces g from rs → ArePast g from old → AreAdded old rs
 unfolding ArePieces
@@ -69,9 +65,7 @@ pieces-added g from old (r ∷ rs) placed are past = (
 
 gives-of : (o : OptionsView) (ranges : List RangeSpec) (all : Stream) → Later o (range_items ranges) all [] → Gives o ranges all
 unfolding tokens_after
-gives-of o ranges all later =
-    let P : Stream → Type 0 = λ s. Gives o ranges s in
-    subst P (sym later.opens.is) (record { whole = refl; spelled = rw (append-nil later.opens.tokens) later.opens.spelled })
+gives-of o ranges all later = grind (arith, append-nil)
 
 text-gives : (o : OptionsView) (m : MapView) (ranges : List RangeSpec) (text : List ℕ) (p : IsProposal m.image ranges text) → AreTables ranges → (line : ℕ)
     → Gives o ranges (tokens_after 0 true line ((p.first ++ 10 ∷ []) ++ (flat_map comment_line p.before ++ (range_lines m.image ranges ++ flat_map comment_line p.after))))
@@ -93,11 +87,7 @@ text-gives o m ranges text p tables line =
 -- what a range of the file has is not free
 given-past : (m : MapView) (marks taken : List Bool) → IsPlaced m.image → AreMarkedBy (is_taken m marks) taken → ArePast (record { image = m.image; taken = taken }) 0 m.info.ranges
 unfolding is_free is_taken is_given
-given-past m marks taken placed spoken a low given =
-    elim (cases_Bool (is_inside m.image a)) as (λ _. (is_inside m.image a && not (is_marked taken a)) ≡ false) [
-      | inr out ↦ and_left _ _ out
-      | inl inside ↦ and_right _ _ (not_from_true (is_marked taken a) (spoken.each a (omega (arith, placed.room, (within m a inside).high)) ∙ or_left _ _ given))
-    ]
+given-past m marks taken placed spoken a low given = grind arith
 
 pub text_law : (m : MapView) → TextLaw m
 text_law m o file text info marks taken pieces accepted same placed spoken are p small =

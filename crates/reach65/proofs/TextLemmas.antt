@@ -1,16 +1,15 @@
 -- The text that is proposed, as the reader of information files sees it.
-use Rattle.std.proofs.Common.{◌≡◌, ◌∙◌, ◌==◌, ◌+◌, ◌*◌, ◌/◌, ◌%◌, ◌<◌, ◌≤◌, ◌⊎◌, ℕ, Bool, true, false, not, List, [], ◌∷◌, ◌++◌, append_assoc, ap, arith, inl, inr, length, map, nat_le, nat_lt, refl, take}
+use Rattle.std.proofs.Common.{◌≡◌, ◌∙◌, ◌==◌, ◌+◌, ◌*◌, ◌/◌, ◌%◌, ◌<◌, ◌≤◌, ◌⊎◌, ℕ, Bool, true, false, not, List, [], ◌∷◌, ◌++◌, append_assoc, ap, arith, inl, inr, length, map, nat_lt, refl, take}
 use Rattle.std.specs.Prelude.{Some, Ok, codes, if◌then◌else◌}
 use Rattle.std.specs.Char.{digit_value, is_ascii_hexdigit}
 use Rattle.std.specs.List.{flat_map}
-use Rattle.std.specs.Str.Parse.{digits_value}
-use Rattle.std.proofs.lemmas.Bool.{and_from, and_parts, le-leb, lt-ltb, not-true}
+use Rattle.std.proofs.lemmas.Bool.{and_from, and_parts, le-leb, not-true}
 use Rattle.std.proofs.lemmas.Bool.Decides.{nat_tests}
 use Rattle.std.proofs.lemmas.List.Folds.{list_all-append}
 use Rattle.text65.specs.Digits.{digits4, hex_digit}
 use Rattle.info65.specs.Attributes.{attribute_named, form_of, group_named, type_named}
 use Rattle.info65.specs.Grammar.{Item, Spells, attribute_name, group_name, value, mark}
-use Rattle.info65.specs.Lexemes.{are_digits, closing_brace, in_class, lexeme_at, number, number_at, number_in, opening_brace, semicolon, word, word_at}
+use Rattle.info65.specs.Lexemes.{closing_brace, in_class, lexeme_at, number, number_at, number_in, opening_brace, semicolon, word, word_at}
 use Rattle.info65.specs.Tokens.{Stream, TokenView, tokens_after, tokens_of}
 use Rattle.info65.specs.Values.{a_type, an_address, value_of}
 use Rattle.info65.specs.Views.{OptionsView}
@@ -37,11 +36,7 @@ pub opens-none : (o : OptionsView) (s : Stream) → Opens o [] s s
 opens-none o s = record { tokens = []; is = refl; spelled = tt }
 
 opens-then : (o : OptionsView) (items more : List Item) (all middle rest : Stream) → Opens o items all middle → Opens o more middle rest → Opens o (items ++ more) all rest
-opens-then o items more all middle rest first second = record {
-  tokens = first.tokens ++ second.tokens;
-  is = first.is ∙ ap (after_tokens first.tokens) second.is ∙ rw (append_assoc first.tokens second.tokens rest.tokens) refl;
-  spelled = spells-append o items more first.tokens second.tokens first.spelled second.spelled;
-}
+opens-then o items more all middle rest first second = grind (arith, append_assoc, spells-append)
 
 -- ---- the words of a line
 
@@ -100,11 +95,7 @@ below-16 n = omega arith
 digits-number : (a b c d va vb vc vd : ℕ) → digit_value a ≡ va → digit_value b ≡ vb → digit_value c ≡ vc → digit_value d ≡ vd → va < 16 → vb < 16 → vc < 16 → vd < 16
     → number_in 16 (a ∷ b ∷ c ∷ d ∷ []) ≡ Some (((va * 16 + vb) * 16 + vc) * 16 + vd)
 unfolding number_in
-digits-number a b c d va vb vc vd a_is b_is c_is d_is a_low b_low c_low d_low =
-    let total : digits_value 16 (a ∷ b ∷ c ∷ d ∷ []) ≡ ((va * 16 + vb) * 16 + vc) * 16 + vd = rw (a_is, b_is, c_is, d_is) (omega arith) in
-    let digits : are_digits 16 (a ∷ b ∷ c ∷ d ∷ []) ≡ true = rw (a_is, b_is, c_is, d_is, lt-ltb va 16 a_low, lt-ltb vb 16 b_low, lt-ltb vc 16 c_low, lt-ltb vd 16 d_low) refl in
-    let small : nat_le (((va * 16 + vb) * 16 + vc) * 16 + vd) 0xFFFF_FFFF ≡ true = le-leb _ _ (omega (arith, a_low, b_low, c_low, d_low)) in
-    rw (digits, total, small) refl
+digits-number a b c d va vb vc vd a_is b_is c_is d_is a_low b_low c_low d_low = grind (arith, le-leb)
 
 hex-lexeme : (line a b c d v : ℕ) (rest : List ℕ) → is_ascii_hexdigit a ≡ true → is_ascii_hexdigit b ≡ true → is_ascii_hexdigit c ≡ true → is_ascii_hexdigit d ≡ true → number_in 16 (a ∷ b ∷ c ∷ d ∷ []) ≡ Some v
     → lexeme_at line (36 ∷ a ∷ b ∷ c ∷ d ∷ 59 ∷ rest) ≡ Ok (record { kind = number v; more = 4 })
@@ -203,9 +194,7 @@ regroup a b c d e = simp append_assoc
 
 range-line : (image : ImageView) (r : RangeSpec) (rest : List ℕ) → range_line image r ++ rest ≡ up-to-type r (type_line r.role (shown_bytes (range_bytes image r) ++ 10 ∷ rest))
 unfolding range_line
-range-line image r rest =
-    ap (λ l. codes "RANGE { START $" ++ (digits4 r.first ++ (codes "; END $" ++ (digits4 r.last ++ (codes "; TYPE " ++ l)))))
-    (regroup (type_text r.role) (codes "; }; # ") (shown_bytes (range_bytes image r)) (10 ∷ []) rest)
+range-line image r rest = grind (arith, regroup)
 
 -- the rest of a line, from its type on
 rest-opens : (o : OptionsView) (line : ℕ) (t : RangeType) (all : Stream) (bs rest : List ℕ) → is_line bs ≡ true → Opens o (type_items t) all (tokens_after 0 true line (bs ++ 10 ∷ rest)) → Opens o (type_items t) all (tokens_of (line + 1) rest)
