@@ -448,7 +448,7 @@ work() {
     counts '64 KiB' 0 4 17 97 202000 411000 large.bin
     given=large.bin counts '64 KiB of standard input' 0 3 17 97 202000 411000 /dev/stdin
     given=all.info counts 'an information file of standard input' 0 7 9 1 930000 4486000 -i /dev/stdin
-    counts 'help' 0 3 0 1 18000 21500 -h
+    counts 'help' 0 3 0 1 18000 22500 -h
     counts 'the version' 0 3 0 1 18000 21500 -V
     counts 'an information file and include files' 0 8 9 1 930000 4486000 -i all.info
     counts 'large files and a long name' 0 7 152 1 1388000 3248500 -i wide.info -o out.s "$long"
@@ -673,9 +673,9 @@ speed() {
     done
     compares 'nop' 33.8 -S 0 nop.bin
     compares 'mixed bytes, without ranges' 24.5 -S 0 mixed.bin
-    compares "mixed bytes, $(wc -l <mixed.info) ranges" 26.1 -S 0 -i mixed.info mixed.bin
+    compares "mixed bytes, $(wc -l <mixed.info) ranges" 25.9 -S 0 -i mixed.info mixed.bin
     compares 'a byte table' 17.5 -S 0 -i table.info nop.bin
-    compares 'a byte table in 1,024 segments' 38.0 -S 0 -i segments.info nop.bin
+    compares 'a byte table in 1,024 segments' 37.7 -S 0 -i segments.info nop.bin
 
     # What people run: a few bytes, a few tables and names. What is done once whatever there is shows most. (cc65's has no SIZE.)
     printf '%s\n' 'GLOBAL { STARTADDR $F000; };' \
@@ -686,29 +686,29 @@ speed() {
         'RANGE { START $F022; END $F02B; TYPE ByteTable; };' \
         'LABEL { ADDR $FFD2; NAME "CHROUT"; };' >hello.info
     echo 'LABEL { ADDR $1000; NAME "entry"; };' >label.info
-    compares '44 bytes with five tables and three names' 76.2 -i hello.info "$root/examples/hello.bin"
-    compares '1 KiB with one label' 48.8 -S 0 -i label.info kilobyte.bin
+    compares '44 bytes with five tables and three names' 76.9 -i hello.info "$root/examples/hello.bin"
+    compares '1 KiB with one label' 49.1 -S 0 -i label.info kilobyte.bin
     includes 16 1 10 >small.info
-    compares '1 KiB with 16 include files of a line' 55.4 -S 0 -i small.info kilobyte.bin
+    compares '1 KiB with 16 include files of a line' 55.7 -S 0 -i small.info kilobyte.bin
     includes 16 4096 230 >large.info
-    compares '1 KiB with 16 include files of 1 MiB' 48.1 -S 0 -i large.info kilobyte.bin
+    compares '1 KiB with 16 include files of 1 MiB' 48.3 -S 0 -i large.info kilobyte.bin
 
     printf 'MEMORY { MAIN: start = 0, size = $10000, file = %%O; }\nSEGMENTS { CODE: load = MAIN, type = ro; }\n' >flat.cfg
     printf '\n%-44s %12s %12s %8s\n' 'instructions for the listing of 64 KiB' 'as65' 'ca65, ld65' 'ratio'
     "$program" -S 0 random.bin -o random.s
     "$program" -S 0 nop.bin -o nop.s
     "$program" -S 0 -i mixed.info mixed.bin -o mixed.s
-    assembles 'random bytes' 43.5 random.s
-    assembles 'nop' 33.7 nop.s
-    assembles "mixed bytes, $(wc -l <mixed.info) ranges" 44.7 mixed.s
+    assembles 'random bytes' 43.8 random.s
+    assembles 'nop' 34.7 nop.s
+    assembles "mixed bytes, $(wc -l <mixed.info) ranges" 45.0 mixed.s
 
     printf '\xea' >one.bin
     printf '\n%-28s %12s %12s %8s %8s %8s %9s\n' 'instructions and kilobytes' 'here' 'cc65' 'ratio' 'here' 'cc65' 'ratio'
-    doubles 76.4 76.2 labels 20000
-    doubles 82.2 82.2 shuffled 20000
-    doubles 109.3 112.9 colliding 20000
-    doubles 80.1 85.6 definitions 60000
-    doubles 89.2 89.7 ranges 20000
+    doubles 76.7 76.4 labels 20000
+    doubles 79.2 77.8 shuffled 20000
+    doubles 109.5 113.1 colliding 20000
+    doubles 80.8 86.2 definitions 60000
+    doubles 85.9 86.4 ranges 20000
 }
 
 for part in "${parts[@]}"; do
