@@ -464,7 +464,10 @@ work() {
 
     refuses_options
     refuses_in_turn 'the command line' 40 0 1 --cpu 65c02 -S 0x1000 --comments 4 --text-column 60 three.bin
+    refuses_in_turn 'the help text' 40 0 1 -h
+    refuses_in_turn 'the version' 20 0 1 -V
     refuses_in_turn 'an information file and include files' 60 0 1 -i all.info
+    program=$assembler refuses_in_turn 'the help text of as65' 20 0 1 -h
     program=$assembler refuses_in_turn 'a listing' 30 0 1 -S 0x1000 -o - short.s
     # Without its words it does not know that it compares: the status is 1 then.
     program=$assembler refuses_in_turn 'differences' 30 1 '[12]' --compare three.bin short.s
