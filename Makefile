@@ -21,8 +21,10 @@ SHELL := bash
 .SHELLFLAGS := -eu -o pipefail -c
 .PHONY: all test check contracts manual speed install uninstall clean help
 
-# One crate at a time: rt keeps others out of the crates that it reads, and has up to four jobs in one.
-.NOTPARALLEL:
+# Crates that do not stand on each other are proved side by side, each with up to four jobs of its own; `make -j1` proves one at a time.
+ifeq ($(shell [ "$$(nproc)" -gt 1 ] && awk '/^MemTotal/ { exit $$2 < 12000000 }' /proc/meminfo && echo wide),wide)
+MAKEFLAGS += -j3
+endif
 
 all: bin/da65 bin/as65 bin/trace65
 	bin/da65 examples/three.bin
@@ -34,14 +36,19 @@ bin/as65 bin/trace65: bin/%: bin/made/%
 	@cp crates/$*/out/$* $@
 
 # A crate is proved once those that it stands on are, by the lines of crates.txt; a program is run too, for its version. A line on the
-# screen says how long that took, and bin/made/CRATE has what the prover says.
+# screen says how long that took, and bin/made/CRATE has what the prover says. rt keeps others out of the crates that it reads, so a
+# crate is proved in a room of its own, with links to its sources and to the libraries below.
 crates := $(shell sed -nE 's/^([a-z0-9_]+):.*/\1/p' crates.txt)
 programs := da65_cli as65 trace65
-below = $(filter $(crates),$(shell sed -nE 's/^$(1)://p' crates.txt))
+direct = $(filter $(crates),$(shell sed -nE 's/^$(1)://p' crates.txt))
+below = $(sort $(foreach name,$(call direct,$(1)),$(name) $(call below,$(name))))
 define crate
-bin/made/$(1): $(patsubst %,bin/made/%,$(call below,$(1))) $(shell find crates/$(1) -name out -prune -o -path '*/src/*' -print -o -name '*.antt' -print)
-	@mkdir -p bin/made; begin=$$$$SECONDS; \
-	    (cd crates/$(1) && rt $(if $(filter $(1),$(programs)),run $$(RTFLAGS) -- --version,lib $$(RTFLAGS))) >$$@.log 2>&1 || { tail -n 20 $$@.log; exit 1; }; \
+bin/made/$(1): $(patsubst %,bin/made/%,$(call direct,$(1))) $(shell find crates/$(1) -name out -prune -o -path '*/src/*' -print -o -name '*.antt' -print)
+	@begin=$$$$SECONDS; room=bin/made/$(1).room; rm -rf $$$$room; mkdir -p $$$$room; \
+	    cp -al --parents crates.txt HANDLES crates/*/{src,specs,proofs} $(patsubst %,crates/%/out/rlib,$(call below,$(1))) $$$$room; \
+	    [ ! -d crates/$(1)/out ] || mv crates/$(1)/out $$$$room/crates/$(1); \
+	    trap "[ ! -d $$$$room/crates/$(1)/out ] || mv $$$$room/crates/$(1)/out crates/$(1); rm -r $$$$room" EXIT; \
+	    (cd $$$$room/crates/$(1) && rt $(if $(filter $(1),$(programs)),run $$(RTFLAGS) -- --version,lib $$(RTFLAGS))) >$$@.log 2>&1 || { tail -n 20 $$@.log; exit 1; }; \
 	    printf '%-10s proved in %d seconds\n' $(1) $$$$((SECONDS - begin)); mv $$@.log $$@
 endef
 $(foreach name,$(crates),$(eval $(call crate,$(name))))
@@ -49,6 +56,7 @@ $(foreach name,$(crates),$(eval $(call crate,$(name))))
 test:
 	@mkdir -p bin
 	@python3 tests/lint
+	tests/make.sh
 	@echo 'Everything from nothing: docs/PROOFS.md, "The gate", says how long that takes. bin/gate.log keeps what the prover says.'
 	@rt ci 2>&1 | tee bin/gate.log
 	@cp crates/da65_cli/out/da65_cli bin/da65

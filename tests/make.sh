@@ -1,0 +1,71 @@
+#!/usr/bin/env bash
+# What `make` does with the prover, and in which order: a stand-in for `rt` notes in which crate it is run, wants the libraries below it,
+# and proves nothing. stmt65 and info65, which do not stand on each other, each wait for the other to begin.
+# Usage: tests/make.sh
+set -u
+root=$(realpath "$(dirname "$0")/..")
+program=$root/tests/make.sh
+. "$root/tests/rows.sh"
+
+mkdir -p path checkout/crates
+cat >path/rt <<'END'
+#!/usr/bin/env bash
+set -eu
+crate=$(basename "$PWD")
+echo "$crate" >>"$NOTES"
+for name in $(sed -n "s/^$crate://p" ../../crates.txt); do
+    [ ! -d ../"$name" ] || [ -d ../"$name"/out/rlib ] || { echo "$crate: no library $name"; exit 1; }
+done
+case $crate in
+stmt65) other=info65 ;;
+info65) other=stmt65 ;;
+*) other=$crate ;;
+esac
+for _ in $(seq "${WAITS-100}"); do
+    ! grep -qx "$other" "$NOTES" || break
+    sleep 0.1
+done
+grep -qx "$other" "$NOTES" || [ "${WAITS-}" = 0 ] || { echo "$crate: $other does not begin"; exit 1; }
+mkdir -p out/incremental out/rlib
+cat src/*.rt >>out/incremental/kept
+[ "$crate" != "${REFUSED-}" ] || { echo "$crate: not proved"; exit 1; }
+printf '#!/bin/sh\necho "%s"\n' "$crate" >out/"$crate"
+chmod +x out/"$crate"
+END
+chmod +x path/rt
+export PATH=$work/path:$PATH NOTES=$work/notes
+cd checkout || exit 1
+cp "$root"/{Makefile,crates.txt,HANDLES} .
+for folder in "$root"/crates/*; do
+    mkdir -p "crates/$(basename "$folder")/"{src,specs,proofs}
+    echo "// one" >"crates/$(basename "$folder")/src/lib.rt"
+done
+
+# makes NAME STATUS LAST CRATES WORD..: make on the words ends with this status, prints this line last of those that are no error of its own,
+# and has the prover run once in each of these crates, and in no other.
+makes() {
+    local name=$1 status=$2 last=$3 crates=$4 got
+    shift 4
+    : >"$NOTES"
+    make -s "$@" >../printed 2>&1
+    got=$?
+    [ "$got" = "$status" ] || fails "$name" "status $got and not $status: $(cat ../printed)"
+    [ "$(grep -v '^make' ../printed | tail -n 1)" = "$last" ] || fails "$name" "printed: $(cat ../printed)"
+    [ "$(sort "$NOTES" | xargs)" = "$crates" ] || fails "$name" "proved: $(sort "$NOTES" | xargs)"
+    ls bin/made/*.room >/dev/null 2>&1 && fails "$name" 'a room is left'
+}
+
+all='as65 da65 da65_cli files65 info65 isa65 map65 reach65 stmt65 text65 trace65 usage65'
+makes 'the first time' 0 da65_cli "$all" -j3
+for name in da65 as65 trace65; do
+    [ -x "bin/$name" ] || fails 'the first time' "no bin/$name"
+done
+makes 'nothing changed' 0 da65_cli '' -j3
+echo '// two' >crates/map65/src/lib.rt
+makes 'map65 changed' 0 da65_cli 'as65 da65 da65_cli files65 map65 reach65 trace65' -j3
+holds 'what was kept' crates/map65/out/incremental/kept '// one\n// two\n'
+echo '// three' >crates/text65/src/lib.rt
+REFUSED=text65 makes 'text65 is not proved' 2 'text65: not proved' text65 -j3
+holds 'what was kept of text65' crates/text65/out/incremental/kept '// one\n// three\n'
+WAITS=0 makes 'one at a time' 0 da65_cli "$(echo "$all" | sed 's/ isa65//')" -j1
+exit "$failed"
