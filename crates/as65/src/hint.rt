@@ -5,9 +5,13 @@ ghost use Rattle.std.specs.Prelude.{◌≡◌, ◌-◌, ◌≤◌, IfOk, length,
 ghost use Rattle.std.specs.List.{flat_map, prefix_len, slice_get};
 ghost use Rattle.text65.specs.Names.{is_word_byte};
 ghost use Rattle.stmt65.specs.Code.SourceLineViews.{form_of, operation_of, source_of, value_of};
+ghost use Rattle.stmt65.specs.Code.Held.{held};
 ghost use Rattle.stmt65.specs.FaultLaws.{operation_values};
 ghost use Rattle.stmt65.specs.Forms.{form_values};
-ghost use Rattle.stmt65.specs.Meaning.{operation_in};
+ghost use Rattle.stmt65.specs.Lexing.{parts};
+ghost use Rattle.stmt65.specs.LineAddresses.{line_addresses};
+ghost use Rattle.stmt65.specs.Meaning.{operation_in, readings};
+ghost use Rattle.stmt65.specs.Reading.{reading_of};
 ghost use Rattle.stmt65.specs.Symbols.{word_in};
 ghost use Rattle.as65.specs.Code.HalfViews.{IsUnknownFirst, piece_of};
 ghost use Rattle.as65.specs.Halves.{pieces};
@@ -206,17 +210,16 @@ fn unknown_in_halves(
     Ok(Vec::new(alloc))
 }
 
-/// The first name of a line, which says this, that has no definition.
+/// The first name of a line that has no definition.
 fn name_hint(
     alloc: Global,
     names: &Definitions<'_, '_, Global>,
     line: &[u8],
-    source: &Option<SourceLine<'_>>,
 ) -> Result<Vec<u8>, AllocError>
-    ensures { IfOk result (λ name. name.items ≡ name_hint names.now line.now (option_map source_of source.now)) }
+    ensures { IfOk result (λ name. name.items ≡ name_hint names.now line.now (reading_of (parts line.now))) }
 {
-    match source {
-        Some(source) => owned(alloc, unknown_in_line(names, source)),
+    match read_line(alloc, line)? {
+        Some(source) => owned(alloc, unknown_in_line(names, &source)),
         None => unknown_in_halves(alloc, names, line),
     }
 }
@@ -231,11 +234,9 @@ fn name_hint_in(
 ) -> Result<Vec<u8>, AllocError>
     ensures { IfOk result (λ name. name.items ≡ name_hint_in number start text.now) }
 {
-    let line = line_at(text, number);
-    let source = read_line(alloc, line)?;
     let zeros = zeroed(alloc, text)?;
     let names = Definitions::new(&alloc, &zeros.text, start)?;
-    Ok(name_hint(alloc, &names, line, &source)?)
+    name_hint(alloc, &names, line_at(text, number))
 }
 
 /// Where a branch leads.
@@ -296,13 +297,14 @@ fn target_in(names: &Definitions<'_, '_, Global>, source: &SourceLine<'_>) -> Op
 }
 
 /// The address after a line of a text.
-fn address_after(ends: &[u64], number: usize) -> u64
-    ensures { result ≡ unwrap_or (slice_get ends.now (number - 1)) 0 }
+fn address_after(alloc: Global, text: &[u8], start: u16, number: usize) -> Result<u64, AllocError>
+    ensures { IfOk result (λ next. next ≡ unwrap_or (slice_get (map held (line_addresses start (readings text.now))) (number - 1)) 0) }
 {
-    match ends.get(number.saturating_sub(1)) {
+    let ends = line_addresses(alloc, text, start)?;
+    Ok(match ends.get(number.saturating_sub(1)) {
         Some(end) => *end,
         None => 0,
-    }
+    })
 }
 
 /// How far the branch in a line would go, if it goes too far.
@@ -311,12 +313,12 @@ fn branch_hint(
     alloc: Global,
     names: &Definitions<'_, '_, Global>,
     next: u64,
-    source: &Option<SourceLine<'_>>,
+    line: &[u8],
 ) -> Result<Vec<u8>, AllocError>
-    ensures { IfOk result (λ h. h.items ≡ branch_hint names.now next (option_map source_of source.now)) }
+    ensures { IfOk result (λ h. h.items ≡ branch_hint names.now next (reading_of (parts line.now))) }
 {
-    match source {
-        Some(source) => distance_hint(alloc, next, target_in(names, source)),
+    match read_line(alloc, line)? {
+        Some(source) => distance_hint(alloc, next, target_in(names, &source)),
         None => Ok(Vec::new(alloc)),
     }
 }
@@ -331,11 +333,10 @@ fn branch_hint_in(
 ) -> Result<Vec<u8>, AllocError>
     ensures { IfOk result (λ h. h.items ≡ branch_hint_in number start text.now) }
 {
-    let source = read_line(alloc, line_at(text, number))?;
     let zeros = zeroed(alloc, text)?;
+    let next = address_after(alloc, &zeros.text, start, number)?;
     let names = Definitions::new(&alloc, &zeros.text, start)?;
-    let ends = line_addresses(alloc, &zeros.text, start)?;
-    Ok(branch_hint(alloc, &names, address_after(&ends, number), &source)?)
+    branch_hint(alloc, &names, next, line_at(text, number))
 }
 
 /// What the fault of a line of a text is about; empty if the line itself says it.

@@ -69,16 +69,31 @@ fn keep_inputs(rt: &HostRuntime, writing: &Writing) -> Result<(), Failure> {
     keep_input(rt, output, writing.listing.as_str())
 }
 
-/// Writes the bytes of the listing. The output is created once they are there.
+/// Writes the bytes of the listing of this name. The output is created once they are there.
+fn write_bytes(
+    rt: &HostRuntime,
+    name: &str,
+    text: &[u8],
+    start: u16,
+    output: Option<String>,
+) -> Result<Ended, Failure> {
+    let assembled = Assembled::new(rt.alloc(), text, start, name)?;
+    let mut output = Output::create(rt, output)?;
+    assembled.write(&mut output)?;
+    Ok(Ended::Done)
+}
+
+/// Reads the listing, and writes its bytes.
 fn write_image(rt: &HostRuntime, writing: Writing) -> Result<Ended, Failure> {
     keep_inputs(rt, &writing)?;
     let start = start_of(rt, writing.info.as_deref(), writing.start)?;
-    let name = writing.listing.as_str();
-    let text = listing(rt, name)?;
-    let assembled = Assembled::new(rt.alloc(), &text, start, name)?;
-    let mut output = Output::create(rt, writing.output)?;
-    assembled.write(&mut output)?;
-    Ok(Ended::Done)
+    let Writing {
+        listing: name,
+        output,
+        ..
+    } = writing;
+    let text = listing(rt, name.as_str())?;
+    write_bytes(rt, name.as_str(), &text, start, output)
 }
 
 /// The image to compare with, and whether its start is only assumed.
@@ -98,26 +113,45 @@ fn say_assumed(rt: &HostRuntime, name: &str, assembled: &Assembled<'_>) -> Resul
     Ok(())
 }
 
-/// Writes on standard output where the bytes of the listing differ from those of the image.
+/// Writes on standard output where the bytes of a listing differ from those of the image.
+fn compare_text(
+    rt: &HostRuntime,
+    comparing: &Comparing,
+    image: &Image,
+    is_assumed: bool,
+    text: &[u8],
+) -> Result<Ended, Failure> {
+    let assembled = Assembled::new(rt.alloc(), text, image.start(), comparing.listing.as_str())?;
+    if is_assumed && image.bytes() != assembled.bytes() {
+        say_assumed(rt, comparing.image.as_str(), &assembled)?;
+    }
+    compare(rt.alloc(), image, &assembled, &mut Output::standard(rt))
+}
+
+/// Reads the image and the listing, and compares them.
 fn compare_with(rt: &HostRuntime, comparing: &Comparing) -> Result<Ended, Failure> {
     let name = comparing.listing.as_str();
     keep_input(rt, None, comparing.image.as_str())?;
     keep_input(rt, None, name)?;
     let (image, is_assumed) = image_to_compare(rt, comparing)?;
     let text = listing(rt, name)?;
-    let assembled = Assembled::new(rt.alloc(), &text, image.start(), name)?;
-    if is_assumed && image.bytes() != assembled.bytes() {
-        say_assumed(rt, comparing.image.as_str(), &assembled)?;
-    }
-    compare(rt.alloc(), &image, &assembled, &mut Output::standard(rt))
+    compare_text(rt, comparing, &image, is_assumed, &text)
+}
+
+fn help(rt: &HostRuntime) -> Result<Ended, Failure> {
+    tell(rt, &this_program().help_text(rt.alloc())?)
+}
+
+fn version(rt: &HostRuntime) -> Result<Ended, Failure> {
+    tell(rt, &this_program().version_text(rt.alloc())?)
 }
 
 fn program(rt: &HostRuntime, words: &[String]) -> Result<Ended, Failure> {
     // Messages to a closed standard error must not end up in the output file.
     let _placeholders = Placeholders::take(rt)?;
     match request_of(rt.alloc(), words)? {
-        Request::Help => tell(rt, &this_program().help_text(rt.alloc())?),
-        Request::Version => tell(rt, &this_program().version_text(rt.alloc())?),
+        Request::Help => help(rt),
+        Request::Version => version(rt),
         Request::Write(writing) => write_image(rt, writing),
         Request::Compare(comparing) => compare_with(rt, &comparing),
     }

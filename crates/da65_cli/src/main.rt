@@ -15,12 +15,12 @@ mod listing;
 mod message_buffer;
 
 use da65::{
-    File, Info, InfoFault, Needs, Options, RunFault, Status, Told, needs_read, options_of,
-    read_info, this_program,
+    File, Info, InfoFault, Options, RunFault, Status, Told, needs_read, options_of, read_info,
+    this_program,
 };
 use failure::Failure;
 use files65::{FileFault, Input, Output, Placeholders};
-use include_files::{files_for_run, include_files};
+use include_files::{Content, files_for_run, include_files};
 use information::information;
 use listing::{Listed, run_read_buffered};
 use std::io::Write;
@@ -75,36 +75,51 @@ fn devices(
     }
 }
 
-/// Reads the include files, opens the input and the output, and lists.
+/// Opens the input and the output, and lists.
 fn list_with(
     rt: &HostRuntime,
     read: Result<Info, InfoFault>,
-    needs: Needs,
+    contents: &[Content],
+    input: Option<String>,
+    output: Option<String>,
 ) -> Result<Status, Failure> {
-    let contents = include_files(rt, needs.includes)?;
-    let files = files_for_run(rt.alloc(), &contents)?;
-    let (input, output) = devices(rt, needs.input, needs.output)?;
+    let files = files_for_run(rt.alloc(), contents)?;
+    let (input, output) = devices(rt, input, output)?;
     list(rt, read, &files, input, output)
 }
 
-/// Reads the information file, and lists under it.
+/// Reads the information file and its include files, and lists under them.
 fn list_under(rt: &HostRuntime, options: &Options) -> Result<Status, Failure> {
     let read = read_info(rt.alloc(), options, &information(rt, &options.info)?);
     let needs = needs_read(rt.alloc(), &read)?;
-    list_with(rt, read, needs)
+    let contents = include_files(rt, needs.includes)?;
+    list_with(rt, read, &contents, needs.input, needs.output)
+}
+
+fn help(rt: &HostRuntime) -> Result<Status, Failure> {
+    tell(rt, &this_program().help_text(rt.alloc())?)
+}
+
+fn version(rt: &HostRuntime) -> Result<Status, Failure> {
+    tell(rt, &this_program().version_text(rt.alloc())?)
+}
+
+/// Does what the options ask for.
+fn run_options(rt: &HostRuntime, options: &Options) -> Result<Status, Failure> {
+    if options.help {
+        return help(rt);
+    }
+    if options.version {
+        return version(rt);
+    }
+    list_under(rt, options)
 }
 
 fn program(rt: &HostRuntime) -> Result<Status, Failure> {
     // Messages to a closed standard error must not end up in the output file.
     let _placeholders = Placeholders::take(rt)?;
     let options = options(rt)?;
-    if options.help {
-        return tell(rt, &this_program().help_text(rt.alloc())?);
-    }
-    if options.version {
-        return tell(rt, &this_program().version_text(rt.alloc())?);
-    }
-    list_under(rt, &options)
+    run_options(rt, &options)
 }
 
 fn main(rt: HostRuntime) -> ExitCode {

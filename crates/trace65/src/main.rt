@@ -20,6 +20,7 @@ mod request;
 use command::this_program;
 use failure::Failure;
 use files65::{FileFault, Placeholders};
+use info65::Info;
 use information::{image, information};
 use map65::Map;
 use report::report;
@@ -43,33 +44,50 @@ fn write<W: Write + Drop>(mut out: W, text: &[u8]) -> Result<(), Failure> {
     }
 }
 
-/// Writes what is found in the image. The output is created once the text is there. It must not be there yet, so that no input
-/// is written over, whatever its name.
-fn trace(rt: &HostRuntime, tracing: Tracing) -> Result<(), Failure> {
-    let Tracing {
-        options,
-        entries,
-        output,
-    } = tracing;
-    let info = information(rt, &options)?;
-    let image = image(rt, &info)?;
-    let map = Map::build(rt.alloc(), &info, &image)?;
-    let text = report(rt.alloc(), &map, entries.as_slice())?;
+/// The text of what is found in the image, from these entries and those of the information file.
+fn found_text(rt: &HostRuntime, info: &Info, entries: &[u16]) -> Result<Vec<u8>, Failure> {
+    let image = image(rt, info)?;
+    let map = Map::build(rt.alloc(), info, &image)?;
+    Ok(report(rt.alloc(), &map, entries)?)
+}
+
+/// The text of what is found under what the information file says.
+fn traced_text(rt: &HostRuntime, tracing: &Tracing) -> Result<Vec<u8>, Failure> {
+    let info = information(rt, &tracing.options)?;
+    found_text(rt, &info, tracing.entries.as_slice())
+}
+
+/// Creates the output and writes the text on it. It must not be there yet, so that no input is written over, whatever its name.
+fn create(rt: &HostRuntime, output: Option<String>, text: &[u8]) -> Result<(), Failure> {
     let Some(name) = output else {
-        return write(rt.stdout(), &text);
+        return write(rt.stdout(), text);
     };
     match File::create_new(rt, name.as_str()) {
-        Ok(file) => write(file, &text),
+        Ok(file) => write(file, text),
         Err(error) => Err(Failure::File(FileFault::of_error(&error, FileFault::Creating(name)))),
     }
+}
+
+/// Writes what is found in the image. The output is created once the text is there.
+fn trace(rt: &HostRuntime, mut tracing: Tracing) -> Result<(), Failure> {
+    let text = traced_text(rt, &tracing)?;
+    create(rt, tracing.output.take(), &text)
+}
+
+fn help(rt: &HostRuntime) -> Result<(), Failure> {
+    write(rt.stdout(), &this_program().help_text(rt.alloc())?)
+}
+
+fn version(rt: &HostRuntime) -> Result<(), Failure> {
+    write(rt.stdout(), &this_program().version_text(rt.alloc())?)
 }
 
 fn program(rt: &HostRuntime) -> Result<(), Failure> {
     // Messages to a closed standard error must not end up in the output file.
     let _placeholders = Placeholders::take(rt)?;
     match requested(rt)? {
-        Request::Help => write(rt.stdout(), &this_program().help_text(rt.alloc())?),
-        Request::Version => write(rt.stdout(), &this_program().version_text(rt.alloc())?),
+        Request::Help => help(rt),
+        Request::Version => version(rt),
         Request::Trace(tracing) => trace(rt, tracing),
     }
 }

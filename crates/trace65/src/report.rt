@@ -1,7 +1,9 @@
 //! What is found of an image, as text of an information file.
 
 ghost use Rattle.std.specs.Prelude.{◌≡◌, ◌+◌, ◌++◌, ◌≤◌, IfOk, OnOk, flat_map, length};
+ghost use Rattle.reach65.specs.Entries.{entries_of};
 ghost use Rattle.reach65.specs.Pieces.{LieIn};
+ghost use Rattle.reach65.specs.Reached.{AreReached};
 ghost use Rattle.reach65.specs.TextLaws.{comment_line};
 ghost use Rattle.trace65.specs.Findings.{AreFindings};
 ghost use Rattle.trace65.specs.Report.{IsReport, legend, legend_more, picture_and_counts, report_text};
@@ -35,14 +37,25 @@ impl Model for Findings {
     ghost view = { λ f. record { reached = f.reached.items; code = f.code.items; taken = f.taken.items; ranges = f.ranges.items; pairs = f.pairs.items } };
 }
 
+/// Marks of where the instructions begin that are reached from the entries that are given and those of the information file and the image.
+fn reached_from(
+    alloc: Global,
+    map: &Map<'_>,
+    flow: &Flow<'_, '_>,
+    given: &[u16],
+) -> Result<Vec<bool>, AllocError>
+    ensures { IfOk result (λ marks. AreReached flow.now (entries_of map.now given.now) marks.items) }
+{
+    reached(alloc, flow, &entries_of(alloc, map, given)?)
+}
+
 /// What is found from the entries that are given and those of the information file and the image.
 fn search_image(alloc: Global, map: &Map<'_>, given: &[u16]) -> Result<Findings, AllocError>
     ensures found { IfOk result (λ f. AreFindings map.now given.now f) }
     ensures inside { IfOk result (λ f. LieIn map.now.image f.ranges) }
 {
     let flow = Flow::new(map);
-    let entries = entries_of(alloc, map, given)?;
-    let reached = reached(alloc, &flow, &entries)?;
+    let reached = reached_from(alloc, map, &flow, given)?;
     let code = mark_instructions(alloc, &flow, &reached)?;
     let taken = mark_taken(alloc, &flow, &reached)?;
     let ranges = Ground::new(map.image(), &taken).pieces(alloc)?;

@@ -4,12 +4,14 @@ ghost use Rattle.std.specs.Prelude.{◌≡◌, IfOk, map, option_map};
 ghost use Rattle.std.specs.List.{slice_split};
 ghost use Rattle.std.specs.String.{string_bytes};
 ghost use Rattle.clap.specs.Words.{found_of, rows_of};
+ghost use Rattle.info65.specs.Views.{name_seen, no_options};
 ghost use Rattle.usage65.specs.Values.{Gives};
 ghost use Rattle.trace65.specs.Request.{addresses_in, asked, asked_in, asked_of, entries_given, entries_in, is_comma, traced_in};
 
 use crate::command::this_program;
 use clap::ArgMatches;
 use info65::Options;
+use isa65::Cpu;
 use std::alloc::{AllocError, Global};
 use usage65::{UsageFault, address_in, address_of, cpu_of, is_set, owned, text_of};
 
@@ -58,6 +60,23 @@ fn request_in(alloc: Global, matches: &ArgMatches) -> Result<Request, UsageFault
     traced_in(alloc, matches)
 }
 
+/// The options of da65 that have these values, and no others.
+fn options_with(
+    info: Option<String>,
+    input: Option<String>,
+    start: Option<u16>,
+    cpu: Option<Cpu>,
+) -> Options
+    ensures { result ≡ record no_options { info = name_seen info; input = name_seen input; start = start; cpu = cpu } }
+{
+    let mut options = Options::none();
+    options.info = info;
+    options.input = input;
+    options.start = start;
+    options.cpu = cpu;
+    options
+}
+
 /// The image that is to be traced.
 #[tactic(auto, unfolding(crate::specs::Request::traced_in))]
 fn traced_in(alloc: Global, matches: &ArgMatches) -> Result<Request, UsageFault>
@@ -69,13 +88,8 @@ fn traced_in(alloc: Global, matches: &ArgMatches) -> Result<Request, UsageFault>
     let info = owned(alloc, text_of(matches, "info"))?;
     let input = owned(alloc, text_of(matches, "image"))?;
     let output = owned(alloc, text_of(matches, "output"))?;
-    let mut options = Options::none();
-    options.info = info;
-    options.input = input;
-    options.start = start;
-    options.cpu = cpu;
     Ok(Request::Trace(Tracing {
-        options,
+        options: options_with(info, input, start, cpu),
         entries,
         output,
     }))
