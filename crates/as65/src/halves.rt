@@ -11,7 +11,7 @@ use std::marker::Model;
 use text65::is_word_byte;
 
 /// Where a byte of a line stands.
-#[derive(Clone, Copy, Debug)]
+#[derive(Clone, Copy)]
 pub enum Place {
     /// Neither in a string nor in a list of halves.
     Outside,
@@ -22,7 +22,7 @@ pub enum Place {
 }
 
 /// A half of a value.
-#[derive(Clone, Copy, Debug)]
+#[derive(Clone, Copy)]
 pub struct Half<'a> {
     /// What is written before its number.
     pub before: &'a [u8],
@@ -34,7 +34,7 @@ pub struct Half<'a> {
 }
 
 /// What stands in a line.
-#[derive(Clone, Copy, Debug)]
+#[derive(Clone, Copy)]
 pub enum Piece<'a> {
     /// A byte that stays as it is.
     Plain(u8),
@@ -43,7 +43,7 @@ pub enum Piece<'a> {
 }
 
 /// A piece, how many bytes it takes after its first, and where the next byte stands.
-#[derive(Clone, Copy, Debug)]
+#[derive(Clone, Copy)]
 struct Step<'a> {
     piece: Piece<'a>,
     more: usize,

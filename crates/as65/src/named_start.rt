@@ -13,7 +13,7 @@ use stmt65::{SourceLine, line_addresses, read_line};
 use text65::first_line;
 
 /// A start, and how many labels `LXXXX` would be at $XXXX from there.
-#[derive(Clone, Copy, Debug, PartialEq, Eq)]
+#[derive(Clone, Copy)]
 pub struct NamedStart {
     pub start: u16,
     pub labels: usize,

@@ -10,7 +10,7 @@ use std::marker::Model;
 use text65::first_line;
 
 /// A line of a listing, and its number, from 1.
-#[derive(Clone, Copy, Debug)]
+#[derive(Clone, Copy)]
 pub struct Origin<'a> {
     pub number: usize,
     pub line: &'a [u8],

@@ -15,7 +15,7 @@ use usage65::{UsageFault, address_of, is_set, owned, text_of};
 const STANDARD_INPUT: &str = "/dev/stdin";
 
 /// What a command line asks for.
-#[derive(Debug, Drop)]
+#[derive(Drop)]
 pub enum Request {
     Help,
     Version,
@@ -24,7 +24,7 @@ pub enum Request {
 }
 
 /// The bytes of a listing are to be written.
-#[derive(Debug, Drop)]
+#[derive(Drop)]
 pub struct Writing {
     pub listing: String,
     pub info: Option<String>,
@@ -35,7 +35,7 @@ pub struct Writing {
 }
 
 /// A listing is to be compared with an image.
-#[derive(Debug, Drop)]
+#[derive(Drop)]
 pub struct Comparing {
     pub listing: String,
     pub info: Option<String>,

@@ -6,7 +6,7 @@ ghost use Rattle.as65.specs.Stretches.{AreRuns, differs};
 use std::alloc::{AllocError, Global};
 
 /// Bytes that differ, from an offset up to before another.
-#[derive(Clone, Copy, Debug, PartialEq, Eq)]
+#[derive(Clone, Copy)]
 pub struct Stretch {
     pub at: usize,
     pub end: usize,

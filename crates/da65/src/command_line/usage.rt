@@ -30,7 +30,7 @@ pub fn options_of(alloc: Global, words: &[String]) -> Result<Options, UsageFault
 }
 
 /// What the options say of a listing's layout.
-#[derive(Clone, Copy, Debug, PartialEq, Eq)]
+#[derive(Clone, Copy)]
 struct Layout {
     comments: Option<u8>,
     mnemonic_column: Option<u8>,

@@ -3,7 +3,7 @@
 use info65::RangeType;
 
 /// The group that a line lists: bytes of one role that follow each other.
-#[derive(Clone, Copy, Debug, PartialEq, Eq)]
+#[derive(Clone, Copy)]
 pub struct Group<'a> {
     /// The index of its first byte in the image.
     pub index: usize,

@@ -2,7 +2,7 @@
 
 /// Where the next line comes from. An index is that of a byte in the image, and an address one from 0 to 65,536. A group is
 /// known by the index of its first byte.
-#[derive(Clone, Copy, Debug, PartialEq, Eq)]
+#[derive(Clone, Copy)]
 pub enum ListingPlace {
     /// The remark at the head.
     Title,

@@ -12,7 +12,7 @@ use std::alloc::Allocator;
 use stmt65::{Column, Columns, LabelBreak, Level, Statement};
 
 /// What the settings say of the lines of a listing.
-#[derive(Clone, Copy, Debug, PartialEq, Eq)]
+#[derive(Clone, Copy)]
 pub struct Style {
     /// The CPU that `.setcpu` names.
     pub cpu: Cpu,

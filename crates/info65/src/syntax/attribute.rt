@@ -7,7 +7,7 @@ ghost use Rattle.info65.specs.Attributes.{attribute_named, boolean_named, form_o
 use crate::information::range::RangeType;
 
 /// What a group is about.
-#[derive(Clone, Copy, Debug, PartialEq, Eq)]
+#[derive(Clone, Copy)]
 pub enum GroupKind {
     /// GLOBAL: the settings.
     Global,
@@ -22,7 +22,7 @@ pub enum GroupKind {
 }
 
 /// An attribute of a group.
-#[derive(Clone, Copy, Debug, PartialEq, Eq)]
+#[derive(Clone, Copy)]
 pub enum Attribute {
     /// INPUTNAME: the name of the input file.
     InputName,
@@ -79,7 +79,7 @@ pub enum Attribute {
 }
 
 /// What the value of an attribute has to be.
-#[derive(Clone, Copy, Debug, PartialEq, Eq)]
+#[derive(Clone, Copy)]
 pub enum Form {
     /// A string that can name a file.
     FileName,

@@ -9,7 +9,7 @@ use crate::syntax::token::Token;
 use std::marker::Model;
 
 /// What comes next: a token, or the end, on this line.
-#[derive(Clone, Copy, Debug)]
+#[derive(Clone, Copy)]
 pub(crate) enum Next<'a> {
     Token(Token<'a>),
     End(u32),

@@ -16,7 +16,7 @@ use isa65::{EncodeTable, Mnemonic, Mode};
 use std::alloc::Allocator;
 
 /// What bytes of a statement stand for.
-#[derive(Clone, Copy, Debug)]
+#[derive(Clone, Copy)]
 pub enum Fragment<'a> {
     /// A byte that the line itself gives: an opcode, or a byte of a string.
     Fixed(u8),
@@ -33,7 +33,7 @@ pub enum Fragment<'a> {
 }
 
 /// What follows an opcode.
-#[derive(Clone, Copy, Debug)]
+#[derive(Clone, Copy)]
 pub enum Operand<'a> {
     None,
     One(Fragment<'a>),
@@ -41,14 +41,14 @@ pub enum Operand<'a> {
 }
 
 /// An opcode and its operand.
-#[derive(Clone, Copy, Debug)]
+#[derive(Clone, Copy)]
 pub struct Instruction<'a> {
     pub opcode: u8,
     pub operand: Operand<'a>,
 }
 
 /// The coding of an operation, or what is left of it.
-#[derive(Clone, Copy, Debug)]
+#[derive(Clone, Copy)]
 pub enum Coded<'s, 'a> {
     /// No bytes.
     Nothing,

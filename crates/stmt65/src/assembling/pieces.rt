@@ -8,7 +8,7 @@ use crate::directive::Directive;
 use crate::source_line::{Datum, Value};
 
 /// The first of a coding.
-#[derive(Clone, Copy, Debug)]
+#[derive(Clone, Copy)]
 pub enum Piece<'a> {
     /// One fragment.
     One(Fragment<'a>),

@@ -27,7 +27,7 @@ pub struct State {
 
 /// A line in its state: what its bytes stand for, or `None` if the CPU has no such form, the
 /// address after it, and what it defines.
-#[derive(Clone, Copy, Debug)]
+#[derive(Clone, Copy)]
 pub struct Placed<'s, 'a> {
     pub coded: Option<Coded<'s, 'a>>,
     pub next: u64,

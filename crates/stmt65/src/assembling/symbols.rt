@@ -13,7 +13,7 @@ use std::collections::BTreeMap;
 use std::marker::Model;
 
 /// A name, its value, and whether a line `name := number` gives it.
-#[derive(Clone, Copy, Debug)]
+#[derive(Clone, Copy)]
 pub struct Definition<'a> {
     pub name: &'a [u8],
     /// 2^64 - 1 in place of every greater value.

@@ -13,7 +13,7 @@ use itoa::Buffer;
 use text65::hex_digit;
 
 /// How offsets and distances are written.
-#[derive(Clone, Copy, Debug, PartialEq, Eq)]
+#[derive(Clone, Copy)]
 pub enum Offsets {
     /// In decimal.
     Decimal,

@@ -11,7 +11,7 @@ use text65::{is_blank, is_word_byte};
 
 /// What stands in a line: words and numbers as they are written, the bytes between the quotes of a
 /// string, `:=`, and any other byte by itself.
-#[derive(Clone, Copy, Debug)]
+#[derive(Clone, Copy)]
 pub enum Part<'a> {
     Word(&'a [u8]),
     Number(&'a [u8]),
