@@ -1,4 +1,6 @@
-# make               proves the programs, builds them into bin/da65, bin/as65 and bin/trace65, and lists an example
+# make               proves the programs, builds them into bin/da65, bin/as65 and bin/trace65, and lists an example. Three crates are
+#                    proved at a time where there are two processors and 12 GB of memory, or as many as -j says.
+# make try           lists the example by the program as it is before any proof, in half a minute
 # make test          the merge gate: every proof from nothing, the edits that must fail, the tests and the stored runs; then the programs
 #                    that this built on real files, and listings through ca65. The result of `rt ci` is its last line.
 #                    CA65=skip leaves out what needs cc65, and CC=skip what needs a C compiler.
@@ -19,7 +21,7 @@ PROGRAM_PREFIX ?=
 DESTDIR ?=
 SHELL := bash
 .SHELLFLAGS := -eu -o pipefail -c
-.PHONY: all test check contracts manual speed install uninstall clean help
+.PHONY: all try test check contracts manual speed install uninstall clean help
 
 # Crates that do not stand on each other are proved side by side, each with up to four jobs of its own; `make -j1` proves one at a time.
 ifeq ($(shell [ "$$(nproc)" -gt 1 ] && awk '/^MemTotal/ { exit $$2 < 12000000 }' /proc/meminfo && echo wide),wide)
@@ -52,6 +54,9 @@ bin/made/$(1): $(patsubst %,bin/made/%,$(call direct,$(1))) $(shell find crates/
 	    printf '%-10s proved in %d seconds\n' $(1) $$$$((SECONDS - begin)); mv $$@.log $$@
 endef
 $(foreach name,$(crates),$(eval $(call crate,$(name))))
+
+try:
+	@cd crates/da65_cli && rt try --data three.bin=../../examples/three.bin -- three.bin
 
 test:
 	@mkdir -p bin

@@ -13,6 +13,7 @@ cat >path/rt <<'END'
 set -eu
 crate=$(basename "$PWD")
 echo "$crate" >>"$NOTES"
+[ "$1" != try ] || { echo "$*"; exit; }
 for name in $(sed -n "s/^$crate://p" ../../crates.txt); do
     [ ! -d ../"$name" ] || [ -d ../"$name"/out/rlib ] || { echo "$crate: no library $name"; exit 1; }
 done
@@ -61,6 +62,7 @@ for name in da65 as65 trace65; do
     [ -x "bin/$name" ] || fails 'the first time' "no bin/$name"
 done
 makes 'nothing changed' 0 da65_cli '' -j3
+makes 'before any proof' 0 'try --data three.bin=../../examples/three.bin -- three.bin' da65_cli try
 echo '// two' >crates/map65/src/lib.rt
 makes 'map65 changed' 0 da65_cli 'as65 da65 da65_cli files65 map65 reach65 trace65' -j3
 holds 'what was kept' crates/map65/out/incremental/kept '// one\n// two\n'

@@ -1,6 +1,9 @@
 # What tests of a program on real files have in common, for scripts to source that have set `program`: a folder of its own, in which
 # the script goes on and from which it is taken away at the end, and the rows of its table. `failed` is 1 once a row failed.
 
+# A make that is run here is none of that which runs the script.
+unset MAKEFLAGS MAKELEVEL
+
 work=$(mktemp -d)
 trap 'rm -rf "$work"' EXIT
 cd "$work" || exit 1
