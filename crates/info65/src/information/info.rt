@@ -1,9 +1,15 @@
 //! What an information file says.
 
-ghost use Rattle.std.specs.Prelude.{◌≡◌, ◌<◌, length};
+ghost use Rattle.std.specs.Prelude.{◌≡◌, ◌<◌, IfErr, IfOk, Ok, length, map};
+ghost use Rattle.info65.specs.Code.Groups.{group_seen};
 ghost use Rattle.info65.specs.Code.Includes.{Includes};
 ghost use Rattle.info65.specs.Code.Results.{Gives};
+ghost use Rattle.info65.specs.Faults.{out_of_memory};
+ghost use Rattle.info65.specs.Groups.{AreAllFormed, AreFormed, global_given};
+ghost use Rattle.info65.specs.IncludeGroups.{includes_of};
 ghost use Rattle.info65.specs.Reader.{information};
+ghost use Rattle.info65.specs.Segments.{segments_of};
+ghost use Rattle.info65.specs.Settings.{settings_of};
 
 use crate::fault::{InfoFault, InfoFaultKind};
 use crate::groups::include_groups::includes_of;
@@ -18,6 +24,7 @@ use crate::information::range::RangeSpec;
 use crate::information::segment::SegmentSpec;
 use crate::information::segment_table::SegmentTable;
 use crate::information::settings::Settings;
+use crate::syntax::assignment::Group;
 use crate::syntax::parser::read_groups;
 use std::alloc::{Allocator, Global};
 use std::marker::Model;
@@ -152,6 +159,47 @@ impl<A: Allocator> Info<A> {
     }
 }
 
+// What the groups say that are read again.
+#[derive(Drop)]
+struct Said<A: Allocator> {
+    settings: Settings<A>,
+    segments: SegmentTable<A>,
+    includes: Vec<IncludeSpec<A>, A>,
+}
+
+// The segments of these groups.
+fn segments_in<A: Allocator + Copy, B: Allocator>(
+    alloc: A,
+    groups: &[Group<B>],
+) -> Result<SegmentTable<A>, InfoFault>
+    ensures { Gives (λ t. t) result (Ok (segments_of (map group_seen groups.now))) }
+{
+    SegmentTable::new(alloc, segments_of(alloc, groups)?)
+}
+
+// The settings, segments and include files of the groups that are read again.
+fn said_again<A: Allocator + Copy, B: Allocator>(
+    alloc: A,
+    options: &Options<B>,
+    groups: &[Group<A>],
+) -> Result<Said<A>, InfoFault>
+    requires settings { AreFormed (global_given (map group_seen groups.now)) }
+    requires includes { AreAllFormed (map group_seen groups.now) }
+    ensures settings { IfOk result (λ said. settings_of options.now (global_given (map group_seen groups.now)) ≡ said.settings) }
+    ensures segments { IfOk result (λ said. segments_of (map group_seen groups.now) ≡ said.segments) }
+    ensures includes { IfOk result (λ said. includes_of (map group_seen groups.now) ≡ said.includes.items) }
+    ensures err { IfErr result (λ e. e ≡ out_of_memory) }
+{
+    let settings = settings_of(alloc, options, groups)?;
+    let segments = segments_in(alloc, groups)?;
+    let includes = includes_of(alloc, groups)?;
+    Ok(Said {
+        settings,
+        segments,
+        includes,
+    })
+}
+
 /// Reads an information file under the options of the command line. No information file is the empty one.
 ///
 /// The grammar is that of the da65 Users Guide, with these groups and attributes: GLOBAL with INPUTNAME,
@@ -176,17 +224,14 @@ pub fn read_info<A: Allocator + Copy, B: Allocator>(
     }
     options.limits();
     let closed = read_groups(alloc, options, bytes)?;
-    let settings = settings_of(alloc, options, closed.kept())?;
-    let said = segments_of(alloc, closed.kept())?;
-    let segments = SegmentTable::new(alloc, said)?;
-    let includes = includes_of(alloc, closed.kept())?;
+    let said = said_again(alloc, options, closed.kept())?;
     let (ranges, names) = closed.ranges_and_names(alloc)?;
     Ok(Info {
-        settings,
+        settings: said.settings,
         ranges,
-        segments,
+        segments: said.segments,
         names,
-        includes,
+        includes: said.includes,
     })
 }
 

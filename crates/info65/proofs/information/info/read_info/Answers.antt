@@ -1,9 +1,7 @@
-use Rattle.std.proofs.Common.{◌≡◌, ◌∙◌, arith, false, length, nat_lt, refl, subst, sym, ℕ, inl, inr}
-use Rattle.std.specs.Prelude.{List, Ok, Result}
-use Rattle.std.proofs.lemmas.Result.{err_from_is_err_and}
+use Rattle.std.proofs.Common.{◌≡◌, ◌∙◌, arith, false, length, nat_lt, refl, subst, sym, ℕ}
+use Rattle.std.specs.Prelude.{List, Ok}
 use Rattle.std.proofs.lemmas.Bool.Decides.{nat_tests}
 use Rattle.info65.specs.Code.Kept.{kept_of}
-use Rattle.info65.specs.Code.Results.{Fails}
 use Rattle.info65.specs.Groups.{GroupView, global_given}
 use Rattle.info65.specs.IncludeGroups.{AreIncludes, includes_of}
 use Rattle.info65.specs.Labels.{by_address, names_said}
@@ -13,7 +11,6 @@ use Rattle.info65.specs.Segments.{AreSegments, segments_of}
 use Rattle.info65.specs.Reader.{groups_of, information}
 use Rattle.info65.specs.Settings.{settings_of}
 use Rattle.info65.specs.Views.{AreInLimits, InfoView, OptionsView}
-use Rattle.info65.specs.declared.fault.InfoFault.{InfoFault}
 use Rattle.info65.proofs.FormLemmas.{all_formed, settings_in_limits, text_read}
 use Rattle.info65.proofs.IncludeLemmas.{includes_sound}
 use Rattle.info65.proofs.KeptLemmas.{formed_kept, global_kept, includes_kept, segments_kept}
@@ -21,13 +18,12 @@ use Rattle.info65.proofs.NamesLemmas.{read_given, sorted_names}
 use Rattle.info65.proofs.RangeLemmas.{ranges_sound}
 use Rattle.info65.proofs.SegmentLemmas.{segments_sound}
 use Rattle.info65.proofs.information.info.read_info.Goals as goal
-use Rattle.info65.proofs.Cases.{same_ok}
 
-pub settings_of-requires : goal.settings_of-requires
-settings_of-requires g c = rw (c.kept.ensures, global_kept c.in_ok-closed.closed) (all_formed c.in_ok-closed.closed (text_read c.args.options.now c.args.bytes.now c.in_ok-closed.closed c.in_ok-closed.ensures).formed)
-
-pub includes_of-requires : goal.includes_of-requires
-includes_of-requires g c = rw c.kept-3.ensures (formed_kept c.in_ok-closed.closed (text_read c.args.options.now c.args.bytes.now c.in_ok-closed.closed c.in_ok-closed.ensures).formed)
+pub said_again-requires : goal.said_again-requires
+said_again-requires g c = record {
+  settings = rw (c.kept.ensures, global_kept c.in_ok-closed.closed) (all_formed c.in_ok-closed.closed (text_read c.args.options.now c.args.bytes.now c.in_ok-closed.closed c.in_ok-closed.ensures).formed);
+  includes = rw c.kept.ensures (formed_kept c.in_ok-closed.closed (text_read c.args.options.now c.args.bytes.now c.in_ok-closed.closed c.in_ok-closed.ensures).formed);
+}
 
 -- what the kept groups say, they all say
 settings_said : (o : OptionsView) (groups kept : List GroupView) → kept ≡ kept_of groups → settings_of o (global_given kept) ≡ settings_of o (global_given groups)
@@ -43,12 +39,11 @@ pub invariant_of-result : goal.invariant_of-result
 invariant_of-result g c =
     let groups = c.in_ok-closed.closed in
     let read = text_read c.args.options.now c.args.bytes.now groups c.in_ok-closed.ensures in
-    let segmented : segments_of groups ≡ c.in_ok-segments.segments = sym (segments_said groups _ c.kept-2.ensures) ∙ same_ok c.in_ok-said.ensures ∙ same_ok c.in_ok-segments.ensures in
     record {
-      limits = subst AreInLimits (sym (settings_said c.args.options.now groups _ c.kept.ensures) ∙ same_ok c.in_ok-settings.ensures) (settings_in_limits c.args.options.now (global_given groups) c.limits.ensures (all_formed groups read.formed));
+      limits = subst AreInLimits (sym (settings_said c.args.options.now groups _ c.kept.ensures) ∙ c.in_ok-said.ensures.settings) (settings_in_limits c.args.options.now (global_given groups) c.limits.ensures (all_formed groups read.formed));
       ranges = subst AreRanges (sym c.in_ok-ranges.ensures.ranges) (ranges_sound groups read);
-      segments = subst AreSegments segmented (segments_sound groups read);
-      includes = subst AreIncludes (sym (includes_said groups _ c.kept-3.ensures) ∙ same_ok c.in_ok-includes.ensures) (includes_sound groups read);
+      segments = subst AreSegments (sym (segments_said groups _ c.kept.ensures) ∙ c.in_ok-said.ensures.segments) (segments_sound groups read);
+      includes = subst AreIncludes (sym (includes_said groups _ c.kept.ensures) ∙ c.in_ok-said.ensures.includes) (includes_sound groups read);
       names = subst AreNames (sym c.in_ok-ranges.ensures.names) (sorted_names (names_said groups) (read_given groups read));
     }
 
@@ -62,18 +57,8 @@ pub returns : goal.returns
 returns g c =
     let groups = c.in_ok-closed.closed in
     together c.args.options.now c.args.bytes.now groups _ (grind (arith, nat_tests, c.if-bytes-gt-MOST_BYTES.false)) c.in_ok-closed.ensures
-    (sym (settings_said c.args.options.now groups _ c.kept.ensures) ∙ same_ok c.in_ok-settings.ensures)
+    (sym (settings_said c.args.options.now groups _ c.kept.ensures) ∙ c.in_ok-said.ensures.settings)
     (sym c.in_ok-ranges.ensures.ranges)
-    (sym (segments_said groups _ c.kept-2.ensures) ∙ same_ok c.in_ok-said.ensures ∙ same_ok c.in_ok-segments.ensures)
+    (sym (segments_said groups _ c.kept.ensures) ∙ c.in_ok-said.ensures.segments)
     (sym c.in_ok-ranges.ensures.names)
-    (sym (includes_said groups _ c.kept-3.ensures) ∙ same_ok c.in_ok-includes.ensures)
-
--- what the rules accept is refused only if an allocation failed
-lost : {A B : Type 0} {given : A} {e : InfoFault} {r : Result B InfoFault} → Fails e (Ok given) → Fails e r
-lost (inl wrong) = absurd cc
-lost (inr memory) = inr memory
-
-pub returns-in_err-includes : goal.returns-in_err-includes
-returns-in_err-includes g c =
-    let p = err_from_is_err_and c.from_residual-in_err-includes.result c.from_residual-in_err-includes.ensures.1 in
-    rw (p.1, p.2) (lost c.in_err-includes.ensures)
+    (sym (includes_said groups _ c.kept.ensures) ∙ c.in_ok-said.ensures.includes)

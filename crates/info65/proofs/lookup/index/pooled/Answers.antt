@@ -1,4 +1,4 @@
-use Rattle.std.proofs.Common.{◌≡◌, ◌∙◌, ◌*◌, ◌++◌, ◌∷◌, [], ap, arith, false, get_or, map, sym}
+use Rattle.std.proofs.Common.{◌≡◌, ◌∙◌, ◌*◌, ◌++◌, ◌∷◌, [], ap, arith, map, sym}
 use Rattle.std.specs.Prelude.{List, None, Ok, Some}
 use Rattle.std.proofs.lemmas.List.{append-nil}
 use Rattle.info65.specs.Code.Index.{numbered}
