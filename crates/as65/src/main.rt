@@ -32,6 +32,7 @@ use comparison::compare;
 use failure::Failure;
 use files65::{Output, Placeholders};
 use image::image;
+use info65::Info;
 use information::{information, placed_at};
 use listing::listing;
 use map65::Image;
@@ -54,10 +55,8 @@ fn tell(rt: &HostRuntime, text: &[u8]) -> Result<Ended, Failure> {
 
 /// The start of a listing that is not compared.
 fn start_of(rt: &HostRuntime, info: Option<&str>, start: Option<u16>) -> Result<u16, Failure> {
-    match placed_at(information(rt, info, start)?.settings()) {
-        Some(start) => Ok(start),
-        None => Err(Failure::NoStart),
-    }
+    let info = information(rt, info, start)?;
+    placed_at(info.settings()).ok_or(Failure::NoStart)
 }
 
 /// Refuses an output that is an input.
@@ -96,13 +95,6 @@ fn write_image(rt: &HostRuntime, writing: Writing) -> Result<Ended, Failure> {
     write_bytes(rt, name.as_str(), &text, start, output)
 }
 
-/// The image to compare with, and whether its start is only assumed.
-fn image_to_compare(rt: &HostRuntime, comparing: &Comparing) -> Result<(Image, bool), Failure> {
-    let info = information(rt, comparing.info.as_deref(), comparing.start)?;
-    let image = image(rt, comparing.image.as_str(), &info)?;
-    Ok((image, info.settings().start.is_none()))
-}
-
 /// Says on standard error where an image is taken to begin whose start nobody gave, and what the names of the listing say of that.
 fn say_assumed(rt: &HostRuntime, name: &str, assembled: &Assembled<'_>) -> Result<(), Failure> {
     let named = named_start(rt.alloc(), assembled.listing(), assembled.start())?;
@@ -129,13 +121,24 @@ fn compare_text(
 }
 
 /// Reads the image and the listing, and compares them.
+fn compare_under(rt: &HostRuntime, comparing: &Comparing, info: &Info) -> Result<Ended, Failure> {
+    let image = image(rt, comparing.image.as_str(), info)?;
+    let text = listing(rt, comparing.listing.as_str())?;
+    compare_text(
+        rt,
+        comparing,
+        &image,
+        info.settings().start.is_none(),
+        &text,
+    )
+}
+
+/// Reads what says where the image is, and compares. The output is standard output.
 fn compare_with(rt: &HostRuntime, comparing: &Comparing) -> Result<Ended, Failure> {
-    let name = comparing.listing.as_str();
     keep_input(rt, None, comparing.image.as_str())?;
-    keep_input(rt, None, name)?;
-    let (image, is_assumed) = image_to_compare(rt, comparing)?;
-    let text = listing(rt, name)?;
-    compare_text(rt, comparing, &image, is_assumed, &text)
+    keep_input(rt, None, comparing.listing.as_str())?;
+    let info = information(rt, comparing.info.as_deref(), comparing.start)?;
+    compare_under(rt, comparing, &info)
 }
 
 fn help(rt: &HostRuntime) -> Result<Ended, Failure> {

@@ -11,11 +11,12 @@ mod input;
 mod of_address;
 
 use by_line::longest_line;
-use da65::{Needs, Options, needs, options_of};
+use da65::{Options, needs, options_of};
 use failure::Failure;
 use in_memory::listing_of;
 use input::input;
 use of_address::facts_of;
+use std::alloc::Global;
 use std::process::ExitCode;
 use std::{env, fs};
 use stmt65::assemble;
@@ -41,25 +42,35 @@ struct Report {
     facts: String,
 }
 
-fn program(rt: &HostRuntime) -> Result<Report, Failure> {
-    let alloc = rt.alloc();
-    let options = options(rt)?;
-    let Needs {
-        input: name,
-        output: _output,
-        includes: _includes,
-    } = needs(alloc, &options, INFO)?;
-    let image = input(rt, &name)?;
-    let listing = listing_of(alloc, &options, &image)?;
-    let by_line = longest_line(alloc, &options, &image)?;
-    let bytes = assemble(alloc, &listing, by_line.start)?;
-    let facts = facts_of(alloc, &options, &image)?;
+/// The bytes of the image that the options name.
+fn image(rt: &HostRuntime, options: &Options) -> Result<Vec<u8>, Failure> {
+    let needs = needs(rt.alloc(), options, INFO)?;
+    input(rt, &needs.input)
+}
+
+/// Lists the image, assembles the listing from the image's start, and compares.
+fn compared(alloc: Global, options: &Options, image: &[u8]) -> Result<Report, Failure> {
+    let listing = listing_of(alloc, options, image)?;
+    let by_line = longest_line(alloc, options, image)?;
+    let same = gives_image(alloc, &listing, by_line.start, image)?;
+    let facts = facts_of(alloc, options, image)?;
     Ok(Report {
         size: listing.len(),
         longest: by_line.longest,
-        same: bytes == image,
+        same,
         facts,
     })
+}
+
+/// Whether the listing, assembled from the start, is the image.
+fn gives_image(alloc: Global, listing: &[u8], start: u16, image: &[u8]) -> Result<bool, Failure> {
+    Ok(assemble(alloc, listing, start)?.as_slice() == image)
+}
+
+fn program(rt: &HostRuntime) -> Result<Report, Failure> {
+    let options = options(rt)?;
+    let image = image(rt, &options)?;
+    compared(rt.alloc(), &options, &image)
 }
 
 /// Takes the number of a standard stream that is closed, which would else go to the next file.

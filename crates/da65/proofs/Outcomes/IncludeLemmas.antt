@@ -1,12 +1,14 @@
 -- Preparing a run: its information file, and then one include file after the other.
-use Rattle.std.proofs.Common.{arith, ◌≡◌, ◌∙◌, ◌<◌, ◌≤◌, ◌+◌, ℕ, List, get_or, length, ap, drop, drop-cons}
+use Rattle.std.proofs.Common.{arith, ◌≡◌, ◌∙◌, ◌<◌, ◌≤◌, ◌+◌, ℕ, List, get_or, length, ap, drop, drop-cons, refl}
 use Rattle.std.proofs.lemmas.List.{drop_all, get_or_default}
-use Rattle.std.specs.Prelude.{Ok, Result}
+use Rattle.std.specs.Prelude.{None, Ok, Option, Result, Some, String, is_some, true}
+use Rattle.info65.specs.Code.Results.{Gives}
 use Rattle.info65.specs.Includes.{blank_include}
-use Rattle.info65.specs.Views.{IncludeView, InfoView}
-use Rattle.da65.specs.Code.Preparing.{Stops}
+use Rattle.info65.specs.Views.{IncludeView, InfoView, name_seen}
+use Rattle.info65.specs.declared.fault.InfoFault.{InfoFault}
+use Rattle.da65.specs.Code.Preparing.{Stops, listed_by}
 use Rattle.da65.specs.Files.{FileView}
-use Rattle.da65.specs.Outcome.{◌>>=◌, with_file, with_includes}
+use Rattle.da65.specs.Outcome.{◌>>=◌, info_message, or_message, prepared_by, with_all_includes, with_file, with_includes, with_input}
 use Rattle.da65.specs.declared.runs.preparing.Stop.{Stop}
 use Rattle.da65.specs.declared.runs.preparing.Stop.TheVariants.{Memory, Refused}
 
@@ -39,3 +41,25 @@ stops_at Memory fs k i h is = tt
 pub all_included : (fs : List FileView) (k : ℕ) (i : InfoView) → length i.includes ≤ k → with_includes fs k (drop k i.includes) i ≡ Ok i
 unfolding with_includes
 all_included fs k i h = ap (λ (xs : List IncludeView). with_includes fs k xs i) (drop_all k i.includes h)
+
+-- a name is there for a contract as it is there for the code
+pub seen_alike : {Z : Type 0} (name : Option (String Z)) → is_some (name_seen name) ≡ is_some name
+seen_alike (Some name) = refl
+seen_alike None = refl
+
+-- there is none
+pub all_of_none : (fs : List FileView) (i : InfoView) → is_some i.settings.input ≡ true → length i.includes ≡ 0 → listed_by fs i ≡ Ok i
+all_of_none fs i named none = rw named (all_included fs 0 i (omega (arith, none)))
+
+-- ---- the information file
+
+-- it was accepted
+pub listed_as : (fs : List FileView) (i : InfoView) (read defined : Result InfoView InfoFault) → read ≡ Ok i → Gives (λ x. x) read defined → prepared_by defined fs ≡ listed_by fs i
+unfolding prepared_by
+listed_as fs i read defined is gives = rw (rw is at gives) refl
+
+-- it was refused
+pub stops_first : (stop : Stop) (fs : List FileView) (defined : Result InfoView InfoFault) → Stops stop (or_message info_message defined) → Stops stop (prepared_by defined fs)
+unfolding prepared_by
+stops_first (Refused message) fs defined is = ap (λ (r : Result InfoView (List ℕ)). r >>= with_input >>= with_all_includes fs) is
+stops_first Memory fs defined is = tt

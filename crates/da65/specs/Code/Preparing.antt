@@ -5,7 +5,8 @@ use Rattle.info65.specs.Names.{AreNames}
 use Rattle.info65.specs.Views.{InfoView, NameView}
 use Rattle.info65.specs.Code.Results.{Fails}
 use Rattle.info65.specs.declared.fault.InfoFault.{InfoFault}
-use Rattle.da65.specs.Outcome.{or_message}
+use Rattle.da65.specs.Files.{FileView}
+use Rattle.da65.specs.Outcome.{◌>>=◌, or_message, with_all_includes, with_input}
 use Rattle.da65.specs.declared.runs.preparing.Stop.{Stop}
 use Rattle.da65.specs.declared.runs.preparing.Stop.TheVariants.{Memory, Refused}
 
@@ -28,3 +29,12 @@ Prepares (Err stop) expected = Stops stop expected
 abbrev pub Names : Result (List NameView) Stop → InfoView → Result InfoView (List ℕ) → Type 0
 Names (Ok names) i expected = (expected ≡ Ok (with_names i names)) × AreNames names
 Names (Err stop) i expected = Stops stop expected
+
+-- what an information that was accepted gives with the files that are handed in
+abbrev pub listed_by : List FileView → InfoView → Result InfoView (List ℕ)
+listed_by files i = with_input i >>= with_all_includes files
+
+-- the same of a call that makes the information what is expected
+abbrev pub Adds : {U : Type 0} → Result U Stop → InfoView → Result InfoView (List ℕ) → Type 0
+Adds (Ok x) now expected = expected ≡ Ok now
+Adds (Err stop) now expected = Stops stop expected

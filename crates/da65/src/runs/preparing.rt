@@ -1,12 +1,12 @@
 //! What a run lists its input by: what the information file says, with the names of its include files.
 
-ghost use Rattle.std.specs.Prelude.{◌≡◌, ◌≢◌, ◌<◌, Result, get_or, length};
+ghost use Rattle.std.specs.Prelude.{◌≡◌, ◌≢◌, ◌<◌, ◌≤◌, Result, Some, get_or, length};
 ghost use Rattle.info65.specs.Code.Results.{Gives};
 ghost use Rattle.info65.specs.Views.{IncludeView, InfoView};
 ghost use Rattle.info65.specs.declared.fault.InfoFault.{InfoFault};
-ghost use Rattle.da65.specs.Code.Preparing.{Names, Prepares, StopsFor};
+ghost use Rattle.da65.specs.Code.Preparing.{Adds, Names, Prepares, StopsFor, listed_by};
 ghost use Rattle.da65.specs.Files.{files_seen};
-ghost use Rattle.da65.specs.Outcome.{accepted, prepared_by, with_all_includes, with_file};
+ghost use Rattle.da65.specs.Outcome.{prepared_by, with_all_includes, with_file, with_include};
 
 use crate::runs::files::{File, file_named};
 use crate::runs::messages::{
@@ -37,19 +37,35 @@ fn stop_of(fault: InfoFault, message: Message) -> Stop
     }
 }
 
-/// What the information file says, if it was not refused and the command line or the file names an input.
-fn accept<A: Allocator>(read: Result<Info<A>, InfoFault>) -> Result<Info<A>, Stop>
-    ensures { (defined : Result InfoView InfoFault) → Gives (λ i. i) read defined → Prepares result (accepted defined) }
+/// With the names of the include file at this index, which has this name and these bytes.
+fn with_bytes<'a, A: Allocator + Copy>(
+    included: Inclusion<'a, A>,
+    index: usize,
+    name: &[u8],
+    bytes: &'a [u8],
+) -> Result<Inclusion<'a, A>, Stop>
+    requires place { index < length included.includes }
+    requires name { length name.now ≤ 255 }
+    ensures { Prepares result (with_include index name.now included.entry (Some bytes.entry.now)) }
 {
-    match read {
-        Ok(info) if info.settings().input.is_some() => Ok(info),
-        Ok(_) => Err(Stop::Refused(no_input_message())),
-        Err(fault) => Err(stop_of(fault, info_message(fault))),
+    match included.with(index, bytes) {
+        Ok(more) => Ok(more),
+        Err(fault) => Err(stop_of(fault, include_message(name, fault))),
     }
 }
 
-/// With the names of the include file at this index.
+/// The name of the include file at this index.
 #[tactic(auto, using(crate::proofs::Outcomes::IncludeFacts::short_name))]
+fn name_at<'a, A: Allocator + Copy>(included: &Inclusion<'a, A>, index: usize) -> &'a str
+    requires { index < length included.now.includes }
+    ensures name { (x : IncludeView) → x ≡ get_or included.now.includes index x → result.now ≡ x.file }
+    ensures short { length result.now ≤ 255 }
+{
+    let include = &included.includes()[index];
+    include.file.as_str()
+}
+
+/// With the names of the include file at this index.
 fn with_include<'a, 'f: 'a, A: Allocator + Copy>(
     included: Inclusion<'a, A>,
     index: usize,
@@ -58,14 +74,10 @@ fn with_include<'a, 'f: 'a, A: Allocator + Copy>(
     requires { index < length included.includes }
     ensures { (x : IncludeView) → x ≡ get_or included.entry.includes index x → Prepares result (with_file (files_seen files.now) index x included.entry) }
 {
-    let include = &included.includes()[index];
-    let name = include.file.as_str();
-    let Some(bytes) = file_named(files, name) else {
-        return Err(Stop::Refused(missing_message(name.as_bytes())));
-    };
-    match included.with(index, bytes) {
-        Ok(more) => Ok(more),
-        Err(fault) => Err(stop_of(fault, include_message(name.as_bytes(), fault))),
+    let name = name_at(&included, index);
+    match file_named(files, name) {
+        Some(bytes) => with_bytes(included, index, name.as_bytes(), bytes),
+        None => Err(Stop::Refused(missing_message(name.as_bytes()))),
     }
 }
 
@@ -98,24 +110,26 @@ fn all_names<'a, 'f: 'a, A: Allocator + Copy>(
     }
 }
 
-/// With the names of all include files, if there are some.
-fn with_includes<A: Allocator + Copy>(
+/// Adds the names of all include files, if an input is named and no file is refused.
+fn add_includes<A: Allocator + Copy>(
     alloc: A,
-    mut info: Info<A>,
+    info: &mut Info<A>,
     files: &[File<'_>],
-) -> Result<Info<A>, Stop>
-    ensures { Prepares result (with_all_includes (files_seen files.now) info) }
+) -> Result<(), Stop>
+    ensures { Adds result info.new (listed_by (files_seen files.now) info.old) }
 {
-    if info.includes().is_empty() {
-        return Ok(info);
+    if info.settings().input.is_none() {
+        return Err(Stop::Refused(no_input_message()));
     }
-    let names = all_names(alloc, &info, files)?;
+    if info.includes().is_empty() {
+        return Ok(());
+    }
+    let names = all_names(alloc, info, files)?;
     info.set_names(names);
-    Ok(info)
+    Ok(())
 }
 
 /// Asks for an input name, and adds the names of the include files to what the information file says.
-#[tactic(auto, unfolding(crate::specs::Outcome::prepared_by))]
 pub(crate) fn prepare<A: Allocator + Copy>(
     alloc: A,
     read: Result<Info<A>, InfoFault>,
@@ -123,6 +137,11 @@ pub(crate) fn prepare<A: Allocator + Copy>(
 ) -> Result<Info<A>, Stop>
     ensures { (defined : Result InfoView InfoFault) → Gives (λ i. i) read defined → Prepares result (prepared_by defined (files_seen files.now)) }
 {
-    let info = accept(read)?;
-    with_includes(alloc, info, files)
+    match read {
+        Ok(mut info) => match add_includes(alloc, &mut info, files) {
+            Ok(()) => Ok(info),
+            Err(stop) => Err(stop),
+        },
+        Err(fault) => Err(stop_of(fault, info_message(fault))),
+    }
 }
