@@ -129,88 +129,54 @@ pub fn group_named(text: &[u8]) -> Option<GroupKind>
     )
 }
 
-#[tactic(auto, unfolding(crate::specs::Attributes::attribute_named))]
-fn global_attribute(text: &[u8]) -> Option<Attribute>
-    ensures { result ≡ attribute_named GroupKind.Global text.now }
-{
-    word_among!(text;
-        b"INPUTNAME" => Attribute::InputName,
-        b"OUTPUTNAME" => Attribute::OutputName,
-        b"INPUTOFFS" => Attribute::InputOffset,
-        b"INPUTSIZE" => Attribute::InputSize,
-        b"STARTADDR" => Attribute::StartAddress,
-        b"CPU" => Attribute::Cpu,
-        b"COMMENTS" => Attribute::Comments,
-        b"MNEMONICCOLUMN" => Attribute::MnemonicColumn,
-        b"ARGUMENTCOLUMN" => Attribute::ArgumentColumn,
-        b"COMMENTCOLUMN" => Attribute::CommentColumn,
-        b"TEXTCOLUMN" => Attribute::TextColumn,
-        b"LABELBREAK" => Attribute::LabelBreak,
-        b"HEXOFFS" => Attribute::HexOffsets,
-        b"NEWLINEAFTERJMP" => Attribute::NewlineAfterJmp,
-        b"NEWLINEAFTERRTS" => Attribute::NewlineAfterRts,
-        b"PAGELENGTH" => Attribute::PageLength,
-    )
-}
-
-#[tactic(auto, unfolding(crate::specs::Attributes::attribute_named))]
-fn range_attribute(text: &[u8]) -> Option<Attribute>
-    ensures { result ≡ attribute_named GroupKind.Range text.now }
-{
-    word_among!(text;
-        b"START" => Attribute::Start,
-        b"END" => Attribute::End,
-        b"SIZE" => Attribute::Size,
-        b"TYPE" => Attribute::Role,
-        b"NAME" => Attribute::Name,
-        b"COMMENT" => Attribute::Comment,
-    )
-}
-
-#[tactic(auto, unfolding(crate::specs::Attributes::attribute_named))]
-fn label_attribute(text: &[u8]) -> Option<Attribute>
-    ensures { result ≡ attribute_named GroupKind.Label text.now }
-{
-    word_among!(text;
-        b"ADDR" => Attribute::Address,
-        b"NAME" => Attribute::Name,
-        b"SIZE" => Attribute::Size,
-        b"COMMENT" => Attribute::Comment,
-    )
-}
-
-#[tactic(auto, unfolding(crate::specs::Attributes::attribute_named))]
-fn segment_attribute(text: &[u8]) -> Option<Attribute>
-    ensures { result ≡ attribute_named GroupKind.Segment text.now }
-{
-    word_among!(text;
-        b"START" => Attribute::Start,
-        b"END" => Attribute::End,
-        b"NAME" => Attribute::Name,
-    )
-}
-
-#[tactic(auto, unfolding(crate::specs::Attributes::attribute_named))]
-fn include_attribute(text: &[u8]) -> Option<Attribute>
-    ensures { result ≡ attribute_named GroupKind.Include text.now }
-{
-    word_among!(text;
-        b"FILE" => Attribute::File,
-        b"COMMENTSTART" => Attribute::CommentStart,
-        b"IGNOREUNKNOWN" => Attribute::IgnoreUnknown,
-    )
-}
-
 /// The attribute of a group by its name, with letters of any case.
+#[tactic(auto, unfolding(crate::specs::Attributes::attribute_named))]
 pub fn attribute_named(kind: GroupKind, text: &[u8]) -> Option<Attribute>
     ensures { result ≡ attribute_named kind text.now }
 {
     match kind {
-        GroupKind::Global => global_attribute(text),
-        GroupKind::Range => range_attribute(text),
-        GroupKind::Label => label_attribute(text),
-        GroupKind::Segment => segment_attribute(text),
-        GroupKind::Include => include_attribute(text),
+        GroupKind::Global => word_among!(text;
+            b"INPUTNAME" => Attribute::InputName,
+            b"OUTPUTNAME" => Attribute::OutputName,
+            b"INPUTOFFS" => Attribute::InputOffset,
+            b"INPUTSIZE" => Attribute::InputSize,
+            b"STARTADDR" => Attribute::StartAddress,
+            b"CPU" => Attribute::Cpu,
+            b"COMMENTS" => Attribute::Comments,
+            b"MNEMONICCOLUMN" => Attribute::MnemonicColumn,
+            b"ARGUMENTCOLUMN" => Attribute::ArgumentColumn,
+            b"COMMENTCOLUMN" => Attribute::CommentColumn,
+            b"TEXTCOLUMN" => Attribute::TextColumn,
+            b"LABELBREAK" => Attribute::LabelBreak,
+            b"HEXOFFS" => Attribute::HexOffsets,
+            b"NEWLINEAFTERJMP" => Attribute::NewlineAfterJmp,
+            b"NEWLINEAFTERRTS" => Attribute::NewlineAfterRts,
+            b"PAGELENGTH" => Attribute::PageLength,
+        ),
+        GroupKind::Range => word_among!(text;
+            b"START" => Attribute::Start,
+            b"END" => Attribute::End,
+            b"SIZE" => Attribute::Size,
+            b"TYPE" => Attribute::Role,
+            b"NAME" => Attribute::Name,
+            b"COMMENT" => Attribute::Comment,
+        ),
+        GroupKind::Label => word_among!(text;
+            b"ADDR" => Attribute::Address,
+            b"NAME" => Attribute::Name,
+            b"SIZE" => Attribute::Size,
+            b"COMMENT" => Attribute::Comment,
+        ),
+        GroupKind::Segment => word_among!(text;
+            b"START" => Attribute::Start,
+            b"END" => Attribute::End,
+            b"NAME" => Attribute::Name,
+        ),
+        GroupKind::Include => word_among!(text;
+            b"FILE" => Attribute::File,
+            b"COMMENTSTART" => Attribute::CommentStart,
+            b"IGNOREUNKNOWN" => Attribute::IgnoreUnknown,
+        ),
     }
 }
 

@@ -6,7 +6,7 @@ ghost use Rattle.info65.specs.Faults.{fault};
 ghost use Rattle.info65.specs.Code.Results.{Gives, Sees};
 ghost use Rattle.info65.specs.Code.Groups.{assignment_seen, value_seen};
 ghost use Rattle.info65.specs.Groups.{AssignmentView, GroupView};
-ghost use Rattle.info65.specs.Code.Reading.{AlwaysMoves, Grows, Leads, Moves, ReadsGroup, TakesToken, is_semicolon};
+ghost use Rattle.info65.specs.Code.Reading.{AlwaysMoves, Leads, Moves, ReadsGroup, TakesToken, is_semicolon};
 ghost use Rattle.info65.specs.Reader.{attribute_at, assigned, closed, closed_by, group, groups_of, inside, one, opening, outside, read, read_token, value_at, valued, wanted};
 ghost use Rattle.info65.specs.Code.Steps.{kind_seen, seen};
 ghost use Rattle.info65.specs.Tokens.{with_token};
@@ -44,27 +44,13 @@ pub fn read_groups<'a, A: Allocator + Copy, B: Allocator>(
                 if after_group && is_semicolon(token.kind) {
                     after_group = false;
                 } else {
-                    groups = with_group(alloc, options, &mut lexer, groups, token)?;
+                    let next = group(alloc, options, &mut lexer, &groups, token)?;
+                    groups = groups.with(next)?;
                     after_group = true;
                 }
             }
         }
     }
-}
-
-// These groups and the one of which this token is the name.
-fn with_group<'a, A: Allocator + Copy, B: Allocator>(
-    alloc: A,
-    options: &Options<B>,
-    lexer: &mut Lexer<'a>,
-    groups: Closed<'a, A>,
-    name: Token<'a>,
-) -> Result<Closed<'a, A>, InfoFault>
-    ensures read { Grows (read_token options.now outside groups.entry (seen name.entry) lexer.old) result (λ groups. read options.now closed groups lexer.new) }
-    ensures shorter { length lexer.new.tokens ≤ length lexer.old.tokens }
-{
-    let next = group(alloc, options, lexer, &groups, name)?;
-    groups.with(next)
 }
 
 fn is_semicolon(kind: TokenKind) -> bool
