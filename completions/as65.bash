@@ -4,8 +4,8 @@ _as65() {
     COMPREPLY=()
     case $before in
     -i | --info | --compare | -o) return ;;
-    -S | --start-addr) compopt +o default; return ;;
+    -S | --start-addr | --fill) compopt +o default; return ;;
     esac
-    [[ $word != -* ]] || COMPREPLY=($(compgen -W '-i --info -S --start-addr -o --compare -h --help -V --version' -- "$word"))
+    [[ $word != -* ]] || COMPREPLY=($(compgen -W '-i --info -S --start-addr --fill -o --compare -h --help -V --version' -- "$word"))
 }
 complete -o default -F _as65 as65

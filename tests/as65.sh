@@ -29,12 +29,13 @@ help="as65 reads ca65's language as far as listings need it; for everything else
 help+='Usage: as65 [options] [listing]\n'
 help+='  -i, --info name          information file of da65, for the start and the part\n'
 help+='  -S, --start-addr addr    start address\n'
+help+='  --fill byte              begin segments at their START, with this byte between\n'
 help+='  -o name                  output file\n'
 help+='  --compare image          print where the bytes differ from an image\n'
 help+='  -h, --help               this text\n'
 help+='  -V, --version            version\n'
 no_start='as65: no start address: give -S, or --compare an image that ends at $FFFF\n'
-no_line='syntax error: not a line of a listing: rts2'
+no_line='syntax error: no such operation: rts2'
 
 three='; da65 listing\n\n        .setcpu "6502"\n\n        lda     #$01\n        rts\n'
 bytes='\xa9\x01\x60'
@@ -45,7 +46,7 @@ head -c 65536 /dev/zero >zeros.bin
 mkdir folder
 head -c 65536 /dev/zero | tr '\0' '\352' >large.bin
 yes '        nop' | head -n 65536 >large.s
-head -c 67108864 /dev/zero | tr '\0' '\n' >lines.s
+{ printf ' rts\n'; head -c 67108859 /dev/zero | tr '\0' '\n'; } >lines.s
 { cat lines.s; echo; } >too_large.s
 
 runs 'help' 0 "$help" '' -h
@@ -67,10 +68,9 @@ gives 'a last line without a line feed' '\n rts' '\x60' -S 0
 gives 'all of it' \
     'one := $10\nTwo := * + $01\n.setcpu "65c02" ; \xff\n.segment "S"\nlong: lda one\n lda a:one\n.code\n bra long-1\n.word Two,$1234\n.dbyt $5678\n.addr long\n.byte "A;",$22\n' \
     '\xa5\x10\xad\x10\x00\x80\xf8\x01\x10\x34\x12\x56\x78\x00\x10A;\x22' -S 0x1000
-gives 'a listing without an operation has no bytes' '; nothing\n' '' -S 0
 runs '64 KiB' 0 '' '' -S 0 -o out.bin large.s
 same '64 KiB' out.bin large.bin
-runs 'the largest listing' 0 '' '' -S 0 lines.s
+runs 'the largest listing' 0 '\x60' '' -S 0 lines.s
 
 for words in "/dev/stdin" "-" ""; do
     "$program" -S 0x1000 $words <three.s >stdout 2>stderr
@@ -109,13 +109,33 @@ runs 'more than 64 KiB' 1 '' 'as65: large.s:65536: past the end of the address s
 
 # What a fault is about, by the text of its line.
 refuses 'a byte order mark' '\xef\xbb\xbf rts\n' 1 'syntax error: a byte order mark: \xef\xbb\xbf rts'
-refuses 'a character constant' " lda #'a'\n" 1 "syntax error: character constants (see ca65): lda #'a'"
-refuses 'a binary number' ' nop\n lda #%101 ; five\n' 2 'syntax error: binary numbers (see ca65): lda #%101 ; five'
+for text in "lda #'ab'" "lda #'a" ".byte ''" ".byte 'a',b'"; do
+    refuses "a character that is none in $text" " $text\n" 1 "syntax error: a character is written 'A': $text"
+done
+for text in 'lda #%102' '.byte %' '.word % 1' 'lda #%12 ; five'; do
+    refuses "a binary number that is none in $text" " nop\n $text\n" 2 "syntax error: a binary number is written %1010: $text"
+done
 refuses 'an origin' '*=$1000\n' 1 'syntax error: * and other expressions (see ca65): *=$1000'
-refuses 'a constant of another assembler' 'x1 = 5\n' 1 'syntax error: a constant is NAME := NUMBER: x1 = 5'
+for text in 'x1 = x1' 'lda = 5' 'x1: y1 = 5' 'x1 == 5' 'x1 = 5+1' 'x1 =' '= 5'; do
+    refuses "a constant that is no number in $text" "$text\n" 1 "syntax error: a constant is NAME := NUMBER: $text"
+done
+refuses 'a place of another assembler' 'x1 = * + 1\n' 1 'syntax error: * and other expressions (see ca65): x1 = * + 1'
 refuses 'a constant that is no number' 'x1 := 5\nx2 := x1\n' 2 'syntax error: a constant is NAME := NUMBER: x2 := x1'
-refuses 'a directive of ca65' 'room: .res 5\n' 1 'syntax error: other directives and operands (see ca65): room: .res 5'
+refuses 'a directive of ca65' 'room: .align 4\n' 1 'syntax error: other directives and operands (see ca65): room: .align 4'
 refuses 'a label without a colon' 'loop lda #1\n' 1 'syntax error: a label needs a colon: loop lda #1'
+refuses 'an operation that is none' ' rst\n' 1 'syntax error: no such operation: rst'
+refuses 'an operation that is none after a label' '\tloop: rst $10 ; twice\n' 1 'syntax error: no such operation: loop: rst $10 ; twice'
+for number in 'lda #0x01' '.byte 1,0X1F' 'x1 := 0x5'; do
+    refuses "a number of C in $number" " $number\n" 1 "syntax error: hexadecimal is \$01, not 0x01: $number"
+done
+refuses '0x inside of names' 'a0x := b0x5\n' 1 'syntax error: a constant is NAME := NUMBER: a0x := b0x5'
+refuses 'a cheap local' '@loop: rts\n' 1 'syntax error: cheap locals (see ca65): @loop: rts'
+refuses 'a branch to a cheap local' ' bne @loop\n' 1 'syntax error: cheap locals (see ca65): bne @loop'
+for string in '"SAY "HI"",0' '"a""b"' '"a;"b"' '"it'\''s" 0,"a"b' '"a\\"b"'; do
+    refuses "a quote inside $string" ".byte $string\n" 1 "syntax error: a quote inside a string is written \$22: .byte $string"
+done
+refuses 'strings that end' '.byte "a" , "b";"c"d\n.byte "a" 1' 2 'syntax error: other directives and operands (see ca65): .byte "a" 1'
+refuses 'a quote in a comment' ' rts2 ; "a"b\n' 1 "$no_line ; \"a\"b"
 refuses 'a mnemonic at the beginning' 'lda #1 2\n' 1 'syntax error: not a line of a listing: lda #1 2'
 refuses 'marks in a comment' " rts2 ; a.b = 'c' * %1\n" 1 "$no_line ; a.b = 'c' * %1"
 for operand in '#nowhere' 'nowhere+1' 'nowhere,x' 'nowhere,y' '(nowhere,x)' '(nowhere),y'; do
@@ -143,13 +163,14 @@ for len in 80 81 5000; do
         "$no_line ;$(head -c 74 /dev/zero | tr '\0' x)$dots"
 done
 refuses 'a faulty line that is no text' ' rts2 ; \xff\n' 1 "$no_line ; \\xff"
+refuses 'control bytes of eight bits' ' rts2 ; ~\x7f\x80\x9b\x9f\xa0\n' 1 "$no_line ; ~????\\xa0"
 refuses 'a faulty line of control bytes' '\x01' 1 'syntax error: not a line of a listing: ?'
 
 # ---- halves of values
 
 gives 'halves' 'put := $1234\n lda #<put ; low\n ldx # >put\n .byte <put,"<;,", > put,1\n' '\xa9\x34\xa2\x12\x34<;,\x12\x01' -S 0x1000
 gives 'tables of halves' 'put := $1234\nlow: .lobytes put,low-1,put+$CD,$1FF ; <\nhigh:.HiBytes put, high+1-1 ,put+$CD\n' '\x34\xff\x01\xff\x12\x10\x13' -S 0x1000
-gives 'halves of a later name' ' lda #<later\n ldx #>later\n ldy #<later-1\n .byte <later+1-1\nlater: nop\n' '\xa9\x02\xa2\x11\xa0\x01\x02\xea' -S 0x10FB
+gives 'halves of a later name' ' lda #<later\n ldx #>later\n ldy #<(later-1)\n .byte <(later+1-1)\nlater: nop\n' '\xa9\x02\xa2\x11\xa0\x01\x02\xea' -S 0x10FB
 gives 'halves of sums in parentheses' ' lda #>(later-1)\n pha\n lda #<(later-1)\nlater: .byte >(later+$FF),<( $1234 )\n' '\xa9\x10\x48\xa9\xff\x11\x34' -S 0x10FB
 gives 'a half is one byte' 'zp := $12\n lda #<zp\n lda zp\nhere: jmp here\n' '\xa9\x12\xa5\x12\x4c\x04\x10' -S 0x1000
 gives 'lines with and without halves' ' nop\n .byte >far\n .byte ">"\nfar: bne far' '\xea\x10>\xd0\xfe' -S 0x1000
@@ -158,7 +179,9 @@ refuses 'one less after >' 'put := $1234\n .byte >put-1\n' 2 'syntax error: othe
 refuses 'a half in a sum' 'put := $1234\n lda #put+<put\n' 2 'syntax error: not a line of a listing: lda #put+<put'
 refuses 'a half as an address' 'put := $1234\n lda <put\n' 2 'syntax error: not a line of a listing: lda <put'
 refuses 'a half of .word' 'put := $1234\n .word <put\n' 2 'syntax error: other directives and operands (see ca65): .word <put'
-refuses 'a half of a difference' 'put := $1234\n lda #<put-put\n' 2 'syntax error: not a line of a listing: lda #<put-put'
+refuses 'a sum after <, which ca65 reads otherwise' 'put := $1234\n lda #<put+1\n' 2 'syntax error: not a line of a listing: lda #<put+1'
+refuses 'one less after <' 'put := $1234\n .byte <put-1\n' 2 'syntax error: other directives and operands (see ca65): .byte <put-1'
+refuses 'a half of a difference without parentheses' 'put := $1234\n lda #<put-put\n' 2 'syntax error: not a line of a listing: lda #<put-put'
 refuses 'a half of a half' 'put := $1234\n .lobytes <put\n' 2 'syntax error: other directives and operands (see ca65): .lobytes <put'
 refuses 'half of nothing' ' nop\n lda #<\n' 2 'syntax error: not a line of a listing: lda #<'
 refuses 'a table of nothing' ' .lobytes\n' 1 'syntax error: other directives and operands (see ca65): .lobytes'
@@ -170,7 +193,7 @@ refuses 'an undefined name in .byte' 'put := $1234\n .byte <put,>pet\n' 2 'undef
 refuses 'the first of the undefined names in halves' 'put := $1234\n .byte <put,>pet,1,<pot\n' 2 'undefined name: pet: .byte <put,>pet,1,<pot'
 refuses 'a branch too far below a half' ' lda #<far\n bne far\nfar := $2000\n' 2 'value out of range: branch too far: 4092 bytes: bne far'
 refuses 'a half of a value that has no room' ' nop\n .lobytes $FFFF,$10000\n' 2 'value out of range: .lobytes $FFFF,$10000'
-refuses 'a half of a value below 0' 'zero := 0\n lda #<zero-1\n' 2 'value out of range: lda #<zero-1'
+refuses 'a half of a value below 0' 'zero := 0\n lda #<(zero-1)\n' 2 'value out of range: lda #<(zero-1)'
 refuses 'the lowest kind of the halves of a line' ' .byte <$10000,<pet\n' 1 'undefined name: pet: .byte <$10000,<pet'
 refuses 'a half before another fault' ' lda #<pet\n rts2\n' 1 'undefined name: pet: lda #<pet'
 refuses 'a half after another fault' ' jmp nowhere\n .byte <$10000\n' 1 'undefined name: nowhere: jmp nowhere'
@@ -180,6 +203,105 @@ refuses 'an undefined half under a label that is defined twice' 'x1:\nx1: .byte 
 refuses 'a half out of range under a label that is defined twice' 'x1:\nx1: .byte <$10000\n' 2 'name defined twice: x1: .byte <$10000'
 refuses 'a half of a form that the CPU lacks' ' stz #<pet\n' 1 'no such form: stz #<pet'
 refuses 'a half out of range with others that are not' ' .byte <1,>$10000,<2\n' 1 'value out of range: .byte <1,>$10000,<2'
+
+# ---- what people write when they edit
+
+gives 'a value as a number' 'small := $20\n lda #small\n ldx #small+2-1\n .byte small,"A",small+$DF,1,later-1\nlater := 1\n' \
+    '\xa9\x20\xa2\x21\x20A\xff\x01\x00' -S 0x1000
+gives 'differences' 'start: lda #end-start\n ldx #<(end-start)\n ldy #>(end-start)\n .byte end-start,>(end-start),<(far-end)\nend:\nfar := $2009\n' \
+    '\xa9\x09\xa2\x09\xa0\x00\x09\x00\x00' -S 0x2000
+gives 'differences in tables' 'here:\nfar := $3234\n.word far-here,here-here\n.dbyt far - here\n.addr far-here\n.dword far-here\n.lobytes far-here\n.hibytes far-here\n' \
+    '\x34\x12\x00\x00\x12\x34\x34\x12\x34\x12\x00\x00\x34\x12' -S 0x2000
+gives 'the largest difference of a byte' 'a1 := $1000\nb1 := $10FF\n lda #b1-a1\n .byte b1-a1\n' '\xa9\xff\xff' -S 0
+gives 'the largest difference' 'a1 := 0\nb1 := $FFFF\n.word b1-a1\n' '\xff\xff' -S 0
+gives 'reserved bytes' 'first: .res 3\n.RES 2,$FF\n.res 0\n.res 1 , %11 ; three\nlast: .addr first,last\n' '\x00\x00\x00\xff\xff\x03\x00\x10\x06\x10' -S 0x1000
+"$program" -S 0 <<<' .res 65535' >stdout 2>stderr
+ends 'the most bytes that are reserved' 0 $? ''
+same 'the most bytes that are reserved' stdout <(head -c 65535 /dev/zero)
+gives 'binary numbers' ' lda #%1010\n ldx #%0\n .byte %11111111,%00000000001\n .word %1000000000000000\n' '\xa9\x0a\xa2\x00\xff\x01\x00\x80' -S 0
+gives 'characters' " lda #'A'\n .byte 'a',' ','~','\"',';',''',\"'\"\n lda 'A'\n .word 'A'\n" '\xa9A\x61 ~\x22;\x27\x27\xa5AA\x00' -S 0
+gives 'constants with =' 'zp=$20\nfar = $1234 ; a constant\n lda zp\n lda far\n lda later\nlater = $30\n' '\xa5\x20\xad\x34\x12\xad\x30\x00' -S 0x1000
+gives 'the accumulator without a' ' asl\n lsr\n ROL\n ror ; twice\nlabel: asl\n .setcpu "65sc02"\n inc\n dec\n' '\x0a\x4a\x2a\x6a\x0a\x1a\x3a' -S 0
+refuses 'an accumulator that the CPU lacks' ' nop\n inc\n' 2 'no such form: inc'
+refuses 'an instruction without its operand' ' lda\n' 1 'no such form: lda'
+refuses 'a value that is no byte' 'small := $20\n lda #small+$E0\n' 2 'value out of range: lda #small+$E0'
+refuses 'an address as a byte' 'here: .byte here\n' 1 'value out of range: here: .byte here'
+refuses 'an undefined name in a list of bytes' ' .byte 1,nowhere+1\n' 1 'undefined name: nowhere: .byte 1,nowhere+1'
+for text in '.word a1-b1' 'lda #a1-b1' '.byte b1-a1,a1-b1' '.lobytes a1-b1' 'lda #>(a1-b1)' '.dword b1-a1 , a1-b1'; do
+    refuses "a difference below 0 in $text" "a1 := 1\nb1 := 4\n $text\n" 3 "value out of range: the difference is -3: $text"
+done
+refuses 'a difference that is no byte' 'a1 := $1000\nb1 := $1100\n lda #b1-a1\n' 3 'value out of range: lda #b1-a1'
+refuses 'a difference of a name that is no address' ' .word big-one\nbig := $10000\none := 1\n' 1 'value out of range: .word big-one'
+for text in '.word one-two' 'lda #one-here' '.byte here-here,here-one,two' '.hibytes one' 'lda #<(here-one)'; do
+    refuses "an undefined name of a difference in $text" "here:\n $text\n" 2 "undefined name: one: $text"
+done
+for text in 'lda a1-b1' 'jmp a1-b1' 'lda a1-b1,x' 'lda (a1-b1),y' 'lda a:a1-b1' 'lda #(a1-b1)' 'lda #a1-b1-1' 'lda #a1-b1+1' 'lda #5-a1' 'lda #a1+1-b1' 'lda #a1-2' 'lda #<<a1' 'lda #<(a1' 'lda #<()'; do
+    refuses "what is no value in $text" "a1 := 4\nb1 := 1\n $text\n" 3 "syntax error: not a line of a listing: $text"
+done
+for text in '.word (a1-b1)' '.byte (a1)' '.byte a1-b1-b1' '.word <a1' '.byte <a1,' '.byte <"A"' '.lobytes "A"' '.res' '.res a1' '.res 1,a1' '.res 1,2,3' '.res 1,' '.res "A"' '.word "A"'; do
+    refuses "what is no value in $text" "a1 := 4\nb1 := 1\n $text\n" 3 "syntax error: other directives and operands (see ca65): $text"
+done
+for text in '.res 65536' '.res 1,256' '.res 70000,70000'; do
+    refuses "reserved bytes out of range in $text" " $text\n" 1 "value out of range: at most 65535 bytes, each from 0 to 255: $text"
+done
+refuses 'reserved bytes past the end' ' nop\n.res $F000\n' 2 'past the end of the address space: .res $F000'
+printf 'start: lda #end-start\n.res 3\nend:\n.segment "TWO"\n asl\n' >edited.s
+printf '\xa9\x04\x00\x01\x00\x4a' >edited.bin
+runs 'an edited listing that differs' 1 '$1001: 04 -> 05, line 1: start: lda #end-start\n$1003: 01 -> 00, line 2: .res 3\n$1005: 4A -> 0A, line 5: asl\n' '' \
+    -S 0x1000 --compare edited.bin edited.s
+
+# ---- segments that stay at their place
+
+{
+    echo 'GLOBAL { STARTADDR $1000; };'
+    echo 'SEGMENT { START $1004; END $1005; NAME "TWO"; };'
+    echo 'SEGMENT { START $1008; END $1009; NAME "VECTORS"; };'
+} >places.info
+printf ' nop\n.segment "TWO"\n rts\n.segment "VECTORS"\nlast: .addr last\n' >places.s
+placed='\xea\xff\xff\xff\x60\xff\xff\xff\x08\x10'
+printf "$placed" >places.bin
+runs 'segments at their place' 0 "$placed" '' -i places.info --fill '$FF' places.s
+runs 'segments at their place, filled with 0' 0 "${placed//xff/x00}" '' --info=places.info --fill=0 places.s
+runs 'segments at their place, in a file' 0 '' '' -i places.info --fill 255 -o out.bin places.s
+same 'segments at their place, in a file' out.bin places.bin
+runs 'segments without --fill' 0 '\xea\x60\x02\x10' '' -i places.info places.s
+runs 'segments at their place, from another start' 0 '\xea\xff\x60\xff\xff\xff\x08\x10' '' -i places.info -S 0x1002 --fill 0xff places.s
+runs 'segments of no information file' 0 '\xea\x60\x02\x10' '' -S 0x1000 --fill 0xff places.s
+
+# places NAME TEXT STDOUT: with the segments at their place the text gives these bytes.
+places() {
+    printf '%b' "$2" >text.s
+    runs "$1" 0 "$3" '' -i places.info --fill 0xff text.s
+}
+
+# refuses_place NAME TEXT LINE CAUSE: so it is refused at this line, as it is beside an image.
+refuses_place() {
+    printf '%b' "$2" >text.s
+    echo old >out.bin
+    runs "$1" 1 '' "as65: text.s:$3: $4\n" -i places.info --fill 0xff -o out.bin text.s
+    holds "$1" out.bin 'old\n'
+    runs "$1, beside an image" 2 '' "as65: text.s:$3: $4\n" -i places.info --fill 0xff --compare places.bin text.s
+}
+
+places 'a segment that begins at its place by itself' ' .res 4\n.segment "TWO"\n rts\n' '\x00\x00\x00\x00\x60'
+places 'a segment that is entered twice without bytes' ' .segment "TWO"\n.segment "TWO"\n rts\n' '\xff\xff\xff\xff\x60'
+places 'a label before a segment is not moved' 'here: .segment "TWO"\nthere: .addr here,there\n' '\xff\xff\xff\xff\x00\x10\x04\x10'
+places 'a segment of another name, and .code' ' nop\n.segment "two"\n nop\n.code\n nop\n' '\xea\xea\xea'
+places 'a distance over what is filled' 'a1: nop\n.segment "TWO"\nb1: lda #b1-a1\n' '\xea\xff\xff\xff\xa9\x04'
+refuses_place 'a segment past its start' ' .res 7\n.segment "TWO" ; here\n' 2 'segment past its start: 3 bytes past $1004: .segment "TWO" ; here'
+refuses_place 'a segment that is entered again' ' .segment "TWO"\n rts\n.segment "TWO"\n' 3 'segment past its start: 1 bytes past $1004: .segment "TWO"'
+refuses_place 'a segment after a later one' ' .segment "VECTORS"\nx1: .segment "TWO"\n' 2 'segment past its start: 4 bytes past $1004: x1: .segment "TWO"'
+refuses_place 'a label defined twice before a segment past its start' 'x1: .res 7\nx1: .segment "TWO"\n' 2 'name defined twice: x1: .segment "TWO"'
+printf 'SEGMENT { START $FFFA; END $FFFF; NAME "VECTORS"; };' >vectors.info
+printf ' nop\n nop\n nop\n.segment "VECTORS"\n .word 1,2,3\n' >vectors.s
+runs 'vectors past their start' 1 '' 'as65: vectors.s:4: segment past its start: 3 bytes past $FFFA: .segment "VECTORS"\n' -S 0xFFFA -i vectors.info --fill 0 vectors.s
+runs 'vectors at their start' 0 '\xea\xea\xea\x01\x00\x02\x00\x03\x00' '' -S 0xFFF7 -i vectors.info --fill 0 vectors.s
+printf 'SEGMENT { START $1004; END $1004; NAME "TWO"; };\nSEGMENT { START $1008; END $1008; NAME "TWO"; };' >again.info
+printf ' nop\n.segment "TWO"\n rts\n' >again.s
+runs 'the first of the segments of a name' 0 '\xea\xff\xff\xff\x60' '' -S 0x1000 -i again.info --fill 0xff again.s
+runs 'segments at their place do not differ' 0 '' '' -i places.info --fill 0xff --compare places.bin places.s
+runs 'segments at their place, with another byte between' 1 '$1001: FF FF FF -> EA EA EA, line 2: .segment "TWO"\n$1005: FF FF FF -> EA EA EA, line 4: .segment "VECTORS"\n' '' \
+    -i places.info --fill 0xea --compare places.bin places.s
 
 # ---- a comparison
 
@@ -226,7 +348,7 @@ runs 'a listing with more bytes' 1 'the image has 2 bytes, the listing 3\n' '' -
 printf '\xa9\x02\x60\xea' >long.bin
 runs 'a listing with fewer bytes' 1 '$0001: 02 -> 01, line 5: lda     #$01\nthe image has 4 bytes, the listing 3\n' '' -S 0 --compare long.bin three.s
 printf '; nothing\n' >nothing.s
-runs 'a listing without bytes' 1 'the image has 3 bytes, the listing 0\n' '' -S 0 --compare three.bin nothing.s
+runs 'a listing that gives no byte, beside an image' 2 '' 'as65: nothing.s: no bytes\n' -S 0 --compare three.bin nothing.s
 runs '64 KiB that do not differ' 0 '' '' --compare large.bin large.s
 runs '64 KiB that differ' 1 '$0000: 00 00 00 00 00 00 00 00 .. -> EA EA EA EA EA EA EA EA .., line 1: nop\n' 'as65: zeros.bin is taken to begin at $0000\n' --compare zeros.bin large.s
 "$program" --compare other.bin <three.s >stdout 2>stderr
@@ -259,9 +381,13 @@ speaks 'a label of another start, and a constant' 'L2000 := $2000\nfirst: lda #$
 speaks 'labels of two starts' 'L2000: lda #$01\nL1002:\nL2002: rts\n' 'as65: 2 of the labels LXXXX would be at $XXXX with -S 0x2000\n'
 speaks 'a label at its place before one that is not' 'LFFFD: lda #$01\nL1002: rts\n' ''
 speaks 'names of another form' 'l1000:\nL100:\nLABCG:\nL10_0:\nLabcd:\nM1000: lda #$01\nL10000: rts\n' ''
-speaks 'a name whose start would be below 0' ' lda #$01\nL0001:\nL1002: rts\n' 'as65: 1 of the labels LXXXX would be at $XXXX with -S 0x1000\n'
+speaks 'a first name whose start would be below 0' ' lda #$01\nL0001:\nL1002: rts\n' ''
+speaks 'a name whose start would be below 0 after another' ' lda #$01\nL1002:\nL0001: rts\n' 'as65: 1 of the labels LXXXX would be at $XXXX with -S 0x1000\n'
+speaks 'a start from which the image has no room' 'LFFFE: lda #$01\n' ''
+speaks 'a start from which the image has just room' 'LFFFC: lda #$01\n' 'as65: 1 of the labels LXXXX would be at $XXXX with -S 0xFFFC\n'
 speaks 'a name whose start would be 0' ' lda #$01\nL0002: rts\n' 'as65: 1 of the labels LXXXX would be at $XXXX with -S 0x0000\n'
 printf 'L1000: lda #$01\nL1002: rts\n' >named.s
+cp named.s labels.s
 runs 'labels of another start, and a start' 1 '$2001: 02 -> 01, line 1: L1000: lda #$01\n' '' -S 0x2000 --compare other.bin named.s
 runs 'labels of another start where nothing differs' 0 '' '' --compare three.bin named.s
 
@@ -272,6 +398,7 @@ printf 'GLOBAL { INPUTSIZE 3; };' >size.info
 printf 'GLOBAL { INPUTOFFS 2; };' >header.info
 printf 'GLOBAL { INPUTOFFS 2; INPUTSIZE 3; STARTADDR $1000; };' >part.info
 printf 'GLOBAL { INPUTSIZE 9; };' >nine.info
+printf 'GLOBAL { INPUTNAME "new.bin"; STARTADDR $1000; };' >named.info
 printf 'GLOBAL { STARTADDR F000; };' >bad.info
 printf '\x01\x10\xa9\x02\x60' >header.prg
 printf '\x01\x10\xa9\x02\x60\x00\x00' >part.prg
@@ -290,6 +417,28 @@ runs 'a part of a file, at another start' 1 '$2001: 02 -> 01, line 5: lda     #$
 runs 'a file that is shorter than its part' 2 '' 'as65: the image is too short\n' -i nine.info --compare part.prg three.s
 runs 'an output that is the information file' 1 '' 'as65: the output is an input: start.info\n' -i start.info -o start.info here.s
 runs 'an output that is the information file by another name' 1 '' 'as65: the output is an input: ./start.info\n' -i start.info -o ./start.info here.s
+runs 'an output that is the input of the information file' 1 '' 'as65: the output is an input: new.bin\n' -i named.info -o new.bin here.s
+is_absent 'an output that is the input of the information file' new.bin
+cp three.bin new.bin
+ln -s new.bin link.bin
+for name in ./new.bin link.bin; do
+    runs "an output that is the input of the information file, $name" 1 '' "as65: the output is an input: $name\n" -i named.info -o $name here.s
+    same "an output that is the input of the information file, $name" new.bin three.bin
+done
+for words in '' '--compare other.bin'; do
+    "$program" -i named.info $words here.s >>new.bin 2>stderr
+    ends "the input of the information file as standard output $words" $((1 + ${#words} / 19)) $? 'as65: the output is an input: new.bin\n'
+    same "the input of the information file as standard output $words" new.bin three.bin
+done
+rm new.bin link.bin
+for words in '-S 0x1000' '--info=-' '-i - -S 0x1000'; do
+    "$program" ${words/#-S/-i - -S} here.s <start.info >stdout 2>stderr
+    ends "an information file on standard input, $words" 0 $? ''
+    holds "an information file on standard input, $words" stdout '\x4c\x00\x10'
+done
+"$program" -i - --compare part.prg three.s <part.info >stdout 2>stderr
+ends 'an information file on standard input, beside an image' 1 $? ''
+runs 'an information file and a listing on standard input, by -' 1 '' 'as65: standard input can be only one of the inputs\n' -i - -
 runs 'an information file and a listing on standard input' 1 '' 'as65: standard input can be only one of the inputs\n' -i /dev/stdin -
 runs 'an information file and an image on standard input' 2 '' 'as65: standard input can be only one of the inputs\n' \
     -i /dev/stdin --compare - three.s
@@ -318,9 +467,34 @@ runs 'trouble with a listing called --compare' 1 '' 'as65: cannot read --compare
 for words in '/dev/stdin' '- -' '/dev/stdin /dev/stdin' '-- -'; do
     runs "standard input as image and listing, $words" 2 '' 'as65: standard input can be only one of the inputs\n' --compare=${words/#-- /- }
 done
+# A pipe has its bytes once, by whichever names.
+mkfifo pipe
+for words in '/dev/fd/0 -' '- /proc/self/fd/0' '/dev/fd/0 /dev/stdin' '/dev/../dev/fd/0 /dev/fd/0'; do
+    cat three.bin three.s | "$program" --compare $words >stdout 2>stderr
+    ends "one pipe as image and listing, $words" 2 $? "as65: $(sed 's:^- :/dev/stdin :; s: .*::' <<<"$words") can be only one of the inputs\n"
+done
+timeout 5 "$program" --compare pipe ./pipe >stdout 2>stderr
+ends 'a pipe with a name as image and listing' 2 $? 'as65: pipe can be only one of the inputs\n'
+timeout 5 "$program" -i pipe pipe >stdout 2>stderr
+ends 'a pipe as information file and listing' 1 $? 'as65: pipe can be only one of the inputs\n'
+timeout 5 "$program" -i pipe --compare pipe three.s >stdout 2>stderr
+ends 'a pipe as information file and image' 2 $? 'as65: pipe can be only one of the inputs\n'
+"$program" -S 0x1000 --compare <(cat three.bin) <(cat three.s) >stdout 2>stderr
+ends 'two pipes' 0 $? ''
 runs 'an argument that is no text' 1 '' 'as65: bad arguments\n' "$(printf 'a\xff')"
+runs 'an argument that is no text beside an image' 2 '' 'as65: bad arguments\n' -S 0 --compare three.bin "$(printf 'a\xff')"
+runs 'an image that is no text' 2 '' 'as65: bad arguments\n' --compare="$(printf 'a\xff')" three.s
+runs 'an argument that is no text, and a listing called --compare' 1 '' 'as65: bad arguments\n' -S 0 "$(printf 'a\xff')" -- --compare
 runs 'a bad number' 1 '' 'as65: bad number\n' -S 1000h three.s
 runs 'an argument out of range' 1 '' 'as65: argument out of range\n' -S 65536 three.s
+for byte in '$FF' 0xff 255 0377 0; do
+    runs "$byte between segments" 0 "$bytes" '' -S 0x1000 --fill $byte three.s
+done
+runs 'a byte that is no number' 1 '' 'as65: bad number\n' -S 0 --fill FF three.s
+runs 'a byte out of range' 1 '' 'as65: argument out of range\n' -S 0 --fill 256 three.s
+runs 'a byte out of range beside an image' 2 '' 'as65: argument out of range\n' --fill=0x100 --compare three.bin three.s
+runs 'a byte given twice' 1 '' 'as65: bad arguments\n' -S 0 --fill 0 --fill 0 three.s
+runs 'a start that is no number before a byte that is none' 1 '' 'as65: argument out of range\n' -S 65536 --fill FF three.s
 
 # ---- files that can't be used
 
@@ -332,6 +506,13 @@ runs 'an empty name' 1 '' 'as65: cannot read \n' -S 0 -o out.bin ''
 holds 'a listing that can not be used leaves the output' out.bin 'old\n'
 runs 'an empty listing' 1 '' 'as65: empty: no bytes\n' -S 0 -o out.bin empty
 holds 'an empty listing leaves the output' out.bin 'old\n'
+refuses_nothing() {
+    printf '%b' "$2" >nothing.s
+    runs "$1" 1 '' 'as65: nothing.s: no bytes\n' -S 0 -o out.bin nothing.s
+    holds "$1" out.bin 'old\n'
+}
+refuses_nothing 'a listing of comments' '; nothing\n\n'
+refuses_nothing 'a listing of names' 'here:\nthere := $1234\n.setcpu "65c02"\n.code\n'
 runs 'an empty listing beside an image' 2 '' 'as65: empty: no bytes\n' --compare three.bin empty
 runs 'a name of two lines' 1 '' 'as65: cannot read a\\nb\n' -S 0 $'a\nb'
 cp three.s $'a\nb'
@@ -433,6 +614,9 @@ if [ -e /dev/full ]; then
     ends 'help on a full output' 1 $? 'as65: cannot write the output\n'
     "$program" -S 0 no.s 2>/dev/full
     [ $? = 1 ] || fails 'a full standard error' 'status'
+    "$program" --compare other.bin three.s >stdout 2>/dev/full
+    [ $? = 2 ] || fails 'a full standard error before differences' 'status'
+    holds 'a full standard error before differences' stdout ''
 fi
 # The file may have 32 KiB, which is in the middle of the bytes.
 (trap '' XFSZ; ulimit -f 32; exec "$program" -S 0 -o cut.bin large.s 2>stderr)
@@ -488,8 +672,15 @@ if has_shim; then
     # /dev/null is opened three times, for standard streams that are closed. 4 KiB a read and one read at the end, and one write for all.
     counts 'bytes' 5 193 1 2400000 -S 0 -o out.bin large.s
     counts 'one stretch' 5 210 1 3600000 -S 0 --compare zeros.bin large.s
-    counts 'every second byte' 5 106 1 16900000 -S 0 --compare zeros.bin every.s
+    counts 'every second byte' 5 106 1 29300000 -S 0 --compare zeros.bin every.s
     counts 'nothing that differs' 5 210 0 3300000 --compare large.bin large.s
+    # A message is one write, and after one that fails there is none.
+    printf ' nop\n rts2\n' >faulty.s
+    counts 'a message' 4 2 1 200000 -S 0 -o out.bin faulty.s
+    counts 'messages and differences' 5 4 3 200000 --compare other.bin labels.s
+    LD_PRELOAD=$work/shim.so SHIM_COUNTS=$work/counts "$program" --compare other.bin labels.s >stdout 2>/dev/full
+    read -r _ _ writes _ <counts
+    [ "$writes" = 1 ] || fails 'a message that fails' "$writes writes"
 else
     echo 'as65: calls and memory are left out, since CC=skip is set'
 fi

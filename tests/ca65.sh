@@ -4,16 +4,17 @@
 # listings compare. With `rows` in place of a count the rows that were found are printed, and nothing else is done.
 # Then random images of each CPU with random ranges, names, segments, comments and columns, and every example, are listed, and each
 # listing is assembled with the real ca65 and ld65, and with the as65 beside the program: the result must be the image. Then
-# random texts, most of them right and many with halves of values, go to both: where both give bytes, these are the same. The same seed
-# gives the same images and texts.
-# Left out, since ca65 treats them in its own way: a segment named ZEROPAGE, and a byte $FF in a comment.
+# random texts go to both, as people write them who edit a listing, most of them right: both give the same bytes, or both refuse
+# the text. The same seed gives the same images and texts. At last a text has its segments at their place in both.
+# Left out, since ca65 treats them in its own way: a segment named ZEROPAGE, a byte $FF in a comment, and what `excused` names.
 # Without ca65 and ld65 it fails, unless CA65=skip is set.
-# Usage: tests/ca65.sh PROGRAM [COUNT [SEED]]      PEER is cc65's da65, /usr/bin/da65 if it is not set
+# Usage: tests/ca65.sh PROGRAM [COUNT [SEED [TEXTS]]]      COUNT is that of images; PEER is cc65's da65, /usr/bin/da65 if it is not set
 set -u
 program=$(realpath "$1")
 as65=$(dirname "$program")/as65
 count=${2:-10}
 first_seed=${3:-1}
+texts=${4:-$((count * 5))}
 peer=${PEER:-/usr/bin/da65}
 root=$(realpath "$(dirname "$0")/..")
 if [ "${CA65-}" = skip ]; then
@@ -105,7 +106,7 @@ segments() {
             if (mode) { current = "stretch_" ++count; print " .segment \"" current "\""; next }
         }
         mode { print; next }
-        $1 == ".segment" || $1 == ".code" || $1 == ".setcpu" || $1 == "" || $1 ~ /^;/ || $2 == ":=" { next }
+        $1 == ".segment" || $1 == ".code" || $1 == ".setcpu" || $1 == "" || $1 ~ /^;/ || $2 == ":=" || /^ *[A-Za-z_0-9]+ *=/ { next }
         !entered { print current; entered = 1 }'
 }
 
@@ -288,7 +289,7 @@ done
 # ---- random texts
 
 agreed=0
-texts=$((count * 5))
+refused=0
 
 any_form=(adc and cmp eor lda ora sbc sta)
 implied=(brk clc cld cli clv dex dey inx iny nop pha php pla plp rti rts sec sed sei tax tay tsx txa txs tya)
@@ -301,12 +302,26 @@ pick() {
     word=$1
 }
 
-# Sets `word` to a number below this one, in decimal or hexadecimal.
+# Sets `word` to a number below this one: in decimal, hexadecimal or binary, or as a character.
 draw_number() {
+    local value digits=
     draw "$1"
-    word=$number
-    draw 3
-    [ $number = 0 ] || printf -v word '$%0*X' $number "$word"
+    value=$number
+    draw 6
+    case $number in
+    0) word=$value ;;
+    4)
+        for ((; value > 0 || ${#digits} == 0; value /= 2)); do digits=$((value % 2))$digits; done
+        word=%$digits
+        ;;
+    5)
+        word=$((32 + value % 95))
+        [ "$word" -lt "$1" ] || word=32
+        printf -v word '%x' "$word"
+        printf -v word "'%b'" "\\x$word"
+        ;;
+    *) printf -v word '$%0*X' $number "$value" ;;
+    esac
 }
 
 # Sets `word` to a name: mostly to one that was defined, else to one that a later line may define.
@@ -339,29 +354,104 @@ draw_value() {
     word=$value
 }
 
-# Sets `word` to a value with `<` or `>` before it. A sum after `>` needs parentheses, any other value may have them.
+# Sets `word` to the difference of two names: mostly of a line and one before it.
+draw_difference() {
+    local first minus
+    pick - - ' - '
+    minus=$word
+    draw 8
+    if [ $number != 0 ]; then
+        draw $lines
+        first=$((number + 1))
+        draw $((lines - first + 1))
+        word=here$((first + number))${minus}here$first
+    else
+        draw_name
+        first=$word
+        draw_name
+        word=$first$minus$word
+    fi
+}
+
+# Sets `word` to an expression: a value or a difference.
+draw_expression() {
+    draw 3
+    if [ $number = 0 ]; then draw_difference; else draw_value; fi
+}
+
+# Sets `word` to an expression that mostly fits a byte.
+draw_byte() {
+    draw 12
+    case $number in
+    0) draw_expression ;;
+    1 | 2 | 3) draw_difference ;;
+    *) draw_number 256 ;;
+    esac
+}
+
+# Sets `word` to a half of a value. A number and a name may stand in parentheses; anything else needs them.
 draw_half() {
     local sign
     pick '<' '>' '< ' '> '
     sign=$word
-    draw_value
+    draw_expression
     draw 3
-    case $sign$word in
-    \>*[-+]*) number=0 ;;
+    case $word in
+    *[-+]*) number=0 ;;
     esac
-    [ $number = 0 ] && word="($word)"
+    [ $number != 0 ] || word="($word)"
     word=$sign$word
 }
 
-# Sets `line` to a statement with halves.
-draw_halves() {
-    local mnemonic
-    draw 3
+# Sets `word` to an operand of `.byte`.
+draw_datum() {
+    draw 6
     case $number in
-    0) pick adc and cmp cpx cpy eor lda ldx ldy ora sbc; mnemonic=$word; draw_half; line="$mnemonic #$word" ;;
-    1) draw_half; line=".byte $word"; draw_half; line+=", $word,\"<;\","; draw_number 256; line+=$word ;;
-    2) pick .lobytes .hibytes .LoBytes .HIBYTES; line="$word "; draw_value; line+=$word; draw_value; line+=", $word" ;;
+    0 | 1) draw_half ;;
+    2) pick '"<;"' '"A"' '"%'\''"' ;;
+    *) draw_byte ;;
     esac
+}
+
+# Sets `word` to words joined by commas, at most four, each drawn so.
+draw_list() {
+    local count list
+    draw 4
+    count=$number
+    "$1"
+    list=$word
+    for (( ; count > 0; count--)); do
+        "$1"
+        list+=", $word"
+    done
+    word=$list
+}
+
+# Sets `line` to a statement that no listing has.
+draw_repair() {
+    local mnemonic
+    draw 12
+    case $number in
+    0 | 1 | 2) pick adc and cmp cpx cpy eor lda ldx ldy ora sbc; mnemonic=$word; draw_half; line="$mnemonic #$word" ;;
+    3 | 4) pick adc and cmp cpx cpy eor lda ldx ldy ora sbc; mnemonic=$word; draw_byte; line="$mnemonic #$word" ;;
+    5 | 6) draw_list draw_datum; line=".byte $word" ;;
+    7) pick .lobytes .hibytes .LoBytes .HIBYTES; mnemonic=$word; draw_list draw_expression; line="$mnemonic $word" ;;
+    8) pick .word .addr .dbyt .dword; mnemonic=$word; draw_list draw_difference; line="$mnemonic $word" ;;
+    9 | 10) draw_reserve ;;
+    11) pick asl lsr rol ror ASL Ror "$newer"; line=$word ;;
+    esac
+}
+
+# Sets `line` to a `.res`, mostly of a few bytes.
+draw_reserve() {
+    draw 40
+    if [ $number = 0 ]; then draw_number 70000; else draw_number 20; fi
+    line=".res $word"
+    draw 2
+    if [ $number = 0 ]; then
+        draw_number 260
+        line+=", $word"
+    fi
 }
 
 # Sets `word` to an operand of `any_form`.
@@ -385,11 +475,11 @@ draw_operand() {
 draw_statement() {
     local mnemonic newer
     # Only the newer CPUs have these.
-    pick 'bra here1' 'stz $10' 'lda ($20)' 'rmb3 $40' 'bbs7 $12,here1' 'inc a'
+    pick 'bra here1' 'stz $10' 'lda ($20)' 'rmb3 $40' 'bbs7 $12,here1' 'inc a' inc dec
     newer=$word
-    draw 16
+    draw 18
     case $number in
-    14 | 15) draw_halves ;;
+    13 | 14 | 15 | 16 | 17) draw_repair ;;
     0) draw_number 256; line=".byte $word"; draw_number 256; line+=", $word, \"A;b\"" ;;
     1) pick .word .addr .dbyt .dword .WORD; line="$word "; draw_value; line+=$word; draw_number 65536; line+=,$word ;;
     2) pick 6502 65SC02 65C02 65c02; line=".setcpu \"$word\"" ;;
@@ -412,7 +502,14 @@ make_text() {
     for ((lines = 1; lines <= most; lines++)); do
         draw 12
         case $number in
-        0) draw 3; draw_number $((number == 0 ? 65536 : 256)); line="k$lines := $word ; a constant"; defined[k$lines]=yes ;;
+        0)
+            pick ' := ' ' = ' =
+            line=k$lines$word
+            draw 3
+            draw_number $((number == 0 ? 65536 : 256))
+            line+="$word ; a constant"
+            defined[k$lines]=yes
+            ;;
         1) draw_number 20; line="p$lines := * + $word"; defined[p$lines]=yes ;;
         *)
             draw_statement
@@ -428,20 +525,48 @@ make_text() {
     done
 }
 
+# excused MESSAGE: as65 refuses for this what ca65 takes: a value below 0 or above $FFFF whose half is taken or that .dbyt has, a value
+# below 0 in .dword, of which ca65 takes the low bytes, and a text without a byte.
+excused() {
+    grep -qE ': value out of range: .*([<>]|\.lobytes|\.hibytes|\.dbyt|\.dword)|: no bytes$' <<<"${1,,}"
+}
+
+# links START: ca65 and ld65 make listing.out of text.s, with the segments in the order in which they are entered.
+links() {
+    segments renamed <text.s >renamed.s
+    printf 'MEMORY { MAIN: start = $%04X, size = $%X, file = %%O; }\n' "$1" $((65536 - $1)) >listing.cfg
+    printf 'SEGMENTS {\n%s\n}\n' "$(segments <renamed.s | sed 's/.*/    &: load = MAIN, type = ro;/')" >>listing.cfg
+    ca65 --relax-checks -o listing.o renamed.s 2>theirs && ld65 -C listing.cfg -o listing.out listing.o 2>theirs
+}
+
 for ((text = 1; text <= texts; text++)); do
     make_text "${cpus[text % ${#cpus[@]}]}"
     draw 60000
     start=$number
     rm -f listing.o listing.out
-    "$as65" -S "$start" -o text.out text.s 2>messages || continue
-    segments renamed <text.s >renamed.s
-    printf 'MEMORY { MAIN: start = $%04X, size = $%X, file = %%O; }\n' "$start" $((65536 - start)) >listing.cfg
-    printf 'SEGMENTS {\n%s\n}\n' "$(segments <renamed.s | sed 's/.*/    &: load = MAIN, type = ro;/')" >>listing.cfg
-    ca65 --relax-checks -o listing.o renamed.s 2>messages && ld65 -C listing.cfg -o listing.out listing.o 2>messages || continue
-    cmp listing.out text.out >messages 2>&1 || stops "text $text of seed $first_seed" "$(cat messages)"
-    agreed=$((agreed + 1))
+    if "$as65" -S "$start" -o text.out text.s 2>ours; then
+        links "$start" || stops "text $text of seed $first_seed" "as65 takes it from $start, and not ca65: $(head -n 3 theirs)"
+        cmp listing.out text.out >messages 2>&1 || stops "text $text of seed $first_seed" "from $start: $(cat messages)"
+        agreed=$((agreed + 1))
+    elif ! links "$start"; then
+        refused=$((refused + 1))
+    elif ! excused "$(cat ours)"; then
+        stops "text $text of seed $first_seed" "ca65 takes it from $start, and not as65: $(cat ours)"
+    fi
 done
 [ $((agreed * 2)) -ge "$texts" ] || stops "seed $first_seed" "$agreed of $texts texts have bytes for both"
 
-[ "$failed" = 0 ] && echo "ca65: each of $compared listings assembles to its image, and $agreed of $texts texts give the same bytes"
+# ---- segments at their place
+
+printf 'SEGMENT { START $1010; END $1FFF; NAME "TABLES"; };\nSEGMENT { START $2FFA; END $2FFF; NAME "VECTORS"; };\n' >places.info
+printf 'start: lda #<last\n ldx #last-start\nlast:\n.segment "TABLES"\nthere: .addr start,there,last\n .res 3\n' >places.s
+printf '.segment "VECTORS"\nend: .word end-there,end,start\n' >>places.s
+printf 'MEMORY { ROM: start = $1000, size = $2000, file = %%O, fill = yes, fillval = $EA; }\n' >places.cfg
+printf 'SEGMENTS { CODE: load = ROM, type = ro; TABLES: load = ROM, type = ro, start = $1010; VECTORS: load = ROM, type = ro, start = $2FFA; }\n' >>places.cfg
+sed 's/\.res 3/.res 3,$00/' places.s >linked.s
+ca65 -o places.o linked.s && ld65 -C places.cfg -o linked.out places.o || stops 'segments at their place' 'ca65 and ld65'
+"$as65" -S 0x1000 -i places.info --fill '$EA' -o places.out places.s || stops 'segments at their place' 'as65'
+cmp linked.out places.out || stops 'segments at their place' 'other bytes'
+
+[ "$failed" = 0 ] && echo "ca65: each of $compared listings assembles to its image, $agreed of $texts texts give the same bytes, and both refuse $refused"
 exit "$failed"

@@ -28,7 +28,7 @@ groups() {
             a = kind == "descending" ? count - 1 - k : kind == "shuffled" ? k * 40503 % 65536 : k
             size = kind == "ends" ? count - k : kind == "nested" ? 65536 - 2 * k : 1
             if (kind == "ranges") printf "RANGE { START $%04X; END $%04X; TYPE CODE; };\n", a, a
-            else if (kind == "segments") printf "SEGMENT{START $%04X;END $%04X;NAME \"s%04x\";}\n", a, a, a
+            else if (kind == "segments") printf "SEGMENT{START $%04X;END $%04X;NAME \"s%04x\";};\n", a, a, a
             else if (kind == "definitions") printf "n%04x := $%04X\n", a, a
             else if (size == 1) printf "LABEL { ADDR $%04X; NAME \"n%04x\"; };\n", a, a
             else printf "LABEL{ADDR $%04X;NAME \"n%04x\";SIZE %d;}\n", a, a, size
@@ -441,22 +441,22 @@ work() {
     printf ' jmp nowhere\n' >faulty.s
 
     # /dev/null is opened three times, for standard streams that are closed. 4 KiB a read and one read at the end, 8 KiB a write. The
-    # map of an image has two bytes for each address, and so have the tables of an information file, which are given back before. Only
-    # names need the tables that find them. What has been read is given back before the run, and copied no more often than it must be.
-    counts 'three bytes' 0 4 2 1 133000 284000 three.bin
-    counts 'three bytes in a file' 0 5 2 1 133000 286000 -o out.s three.bin
-    counts '64 KiB' 0 4 17 97 202000 411000 large.bin
-    given=large.bin counts '64 KiB of standard input' 0 3 17 97 202000 411000 /dev/stdin
-    given=all.info counts 'an information file of standard input' 0 7 9 1 930000 4486000 -i /dev/stdin
+    # map of an image has two bytes for each address. A table of ranges, and one of segments, has one, if there are any, and is given back
+    # before. Only names need the tables that find them. What has been read is given back before the run, and copied no more often than it must be.
+    counts 'three bytes' 0 4 2 1 136500 152000 three.bin
+    counts 'three bytes in a file' 0 5 2 1 136500 154000 -o out.s three.bin
+    counts '64 KiB' 0 4 17 97 202000 280000 large.bin
+    given=large.bin counts '64 KiB of standard input' 0 3 17 97 202000 280000 /dev/stdin
+    given=all.info counts 'an information file of standard input' 0 7 9 1 404000 820000 -i /dev/stdin
     counts 'help' 0 3 0 1 18000 22500 -h
     counts 'the version' 0 3 0 1 18000 21500 -V
-    counts 'an information file and include files' 0 8 9 1 930000 4486000 -i all.info
-    counts 'large files and a long name' 0 7 152 1 1388000 3248500 -i wide.info -o out.s "$long"
-    counts 'a warning' 0 5 4 2 133000 286500 -i skip.info three.bin
-    counts 'no input name' 1 3 0 1 133000 152500
-    counts 'an empty input' 1 4 1 1 133000 153000 empty.bin
-    counts 'a refused information file' 1 4 2 1 133000 155000 -i bad.info three.bin
-    counts 'an input that is not there' 1 4 0 1 133000 153000 no.bin
+    counts 'an information file and include files' 0 8 9 1 404000 820000 -i all.info
+    counts 'large files and a long name' 0 7 152 1 1106000 2855000 -i wide.info -o out.s "$long"
+    counts 'a warning' 0 5 4 2 136500 220500 -i skip.info three.bin
+    counts 'no input name' 1 3 0 1 15200 19000
+    counts 'an empty input' 1 4 1 1 15500 19700 empty.bin
+    counts 'a refused information file' 1 4 2 1 16000 21400 -i bad.info three.bin
+    counts 'an input that is not there' 1 4 0 1 15500 19700 no.bin
 
     # as65 holds a listing, its names, its bytes, and the image beside it.
     program=$assembler counts 'labels that are assembled' 0 5 99 1 2750000 11870000 -S 0 -o out.bin labels.s
@@ -469,8 +469,7 @@ work() {
     refuses_in_turn 'an information file and include files' 60 0 1 -i all.info
     program=$assembler refuses_in_turn 'the help text of as65' 20 0 1 -h
     program=$assembler refuses_in_turn 'a listing' 30 0 1 -S 0x1000 -o - short.s
-    # Without its words it does not know that it compares: the status is 1 then.
-    program=$assembler refuses_in_turn 'differences' 30 1 '[12]' --compare three.bin short.s
+    program=$assembler refuses_in_turn 'differences' 30 1 2 --compare three.bin short.s
     program=$assembler refuses_in_turn 'a faulty line' 30 1 1 -S 0x1000 -o - faulty.s
     refuses_files 'an information file, include files and an output' -i all.info -o out.s
 }
@@ -543,20 +542,26 @@ growing() {
     # A look-up of an address without a name passes over the labels that end before it all at once.
     finds_labels 'addresses after many labels' ends
     finds_labels 'addresses inside of many labels' nested
-    for count in 25000 50000; do groups definitions $count >$count.s; done
+    for count in 25000 50000; do { groups definitions $count; echo ' nop'; } >$count.s; done
     keeps_pace 'definitions that are assembled' 25000 "$assembler" -S 0 -o out.bin @.s
     for count in 8000 16000; do
         head -c $((2 * count)) /dev/zero >$count.bin
         yes ' .byte 0,1' | head -n $count >$count.s
     done
     keeps_pace 'stretches that differ' 8000 differ "$assembler" -S 0 --compare @.bin @.s
+    for count in 16384 32768; do
+        head -c $((2 * count)) /dev/zero >$count.bin
+        { printf ' .byte 0,1'; yes ,0,1 | head -n $((count - 1)) | tr -d '\n'; echo; } >$count.s
+    done
+    keeps_pace 'stretches in one line that differ' 16384 differ "$assembler" -S 0 --compare @.bin @.s
 }
 
 # ---- speed
 
-# instructions COMMAND..: sets `count` to how many instructions the command takes.
+# instructions COMMAND..: sets `count` to how many instructions the command takes, which ends with the status `wanted`, or 0 if that is not set.
 instructions() {
-    if ! valgrind --tool=callgrind --callgrind-out-file=callgrind.out "$@" >/dev/null 2>valgrind.log; then
+    valgrind --tool=callgrind --callgrind-out-file=callgrind.out "$@" >/dev/null 2>valgrind.log
+    if [ $? != "${wanted:-0}" ]; then
         echo "growth: $* failed: $(grep -v '^==' valgrind.log)"
         exit 1
     fi
@@ -582,7 +587,7 @@ compares() {
     shows "$name" "$limit" "$ours" "$count" 44
 }
 
-# assembles NAME LIMIT LISTING: those of as65, and those of ca65 and ld65 together, for the listing of 64 KiB.
+# assembles NAME LIMIT LISTING: those of as65, and those of ca65 and ld65 together, for the listing.
 assembles() {
     local ours theirs
     instructions "$assembler" -S 0 -o ours.bin "$3"
@@ -612,6 +617,20 @@ reads() {
     shows "$1" "$2" "$ours" "$count" 28 "$(awk "BEGIN { printf \" %8d %8d %7.1f %%\", $here, $peak, 100 * $here / $peak }")"
 }
 
+# lengthens NAME STATUS BEFORE: as65 ends with this status for a line with 128 KiB of digits after this text, and takes at most 2.3 times
+# the instructions that it takes for one with 64 KiB.
+lengthens() {
+    local size half wanted=$2
+    for size in 65536 131072; do
+        { printf '%b' "$3"; head -c "$size" /dev/zero | tr '\0' 0; echo 1; } >"$size.s"
+    done
+    instructions "$assembler" -S 0 -o ours.bin 65536.s
+    half=$count
+    instructions "$assembler" -S 0 -o ours.bin 131072.s
+    printf '%-44s %12d %12d\n' "$1" "$half" "$count"
+    awk "BEGIN { exit !($count > 2.3 * $half) }" && fails "$1" 'more than 2.3 times the instructions of half as many'
+}
+
 # doubles HALF LIMIT KIND COUNT: the same with that many groups or lines, and with half as many, each with its limit.
 doubles() {
     local half ours
@@ -635,9 +654,27 @@ includes() {
     done
 }
 
+# remarked COUNT NAMES: prints an information file with that many include files, and writes them, each with that many names and then lines
+# of comment up to 1 MiB.
+remarked() {
+    local k
+    for ((k = 0; k < $1; k++)); do
+        awk -v from=$((k * $2)) -v names="$2" 'BEGIN {
+            for (a = from; a < from + names; a++) {
+                name = sprintf("n%04x := $%04X", a, a)
+                print name
+                size += length(name) + 1
+            }
+            line = "; a line of comment that says something about what stands below it"
+            for (; size + length(line) + 1 <= 1048576; size += length(line) + 1) print line
+        }' >"$k.inc"
+        echo "ASMINC { FILE \"$k.inc\"; };"
+    done
+}
+
 speed() {
     local tool cpu from ours bytes=
-    local -A random=([6502]=24.6 [65SC02]=25.4 [65C02]=26.4)
+    local -A random=([6502]=24.4 [65SC02]=25.2 [65C02]=26.2)
     for tool in valgrind da65 ca65 ld65 /usr/bin/time; do
         command -v $tool >/dev/null || { echo "growth: speed is left out, since $tool is not installed"; return; }
     done
@@ -674,11 +711,17 @@ speed() {
     for cpu in "${cpus[@]}"; do
         compares "random bytes, $cpu" "${random[$cpu]}" -S 0 --cpu "$cpu" random.bin
     done
-    compares 'nop' 33.8 -S 0 nop.bin
-    compares 'mixed bytes, without ranges' 24.5 -S 0 mixed.bin
-    compares "mixed bytes, $(wc -l <mixed.info) ranges" 25.9 -S 0 -i mixed.info mixed.bin
-    compares 'a byte table' 17.5 -S 0 -i table.info nop.bin
-    compares 'a byte table in 1,024 segments' 37.7 -S 0 -i segments.info nop.bin
+    compares 'nop' 33.7 -S 0 nop.bin
+    compares 'mixed bytes, without ranges' 24.4 -S 0 mixed.bin
+    compares "mixed bytes, $(wc -l <mixed.info) ranges" 25.3 -S 0 -i mixed.info mixed.bin
+    compares 'a byte table' 17.2 -S 0 -i table.info nop.bin
+    compares 'a byte table in 1,024 segments' 33.5 -S 0 -i segments.info nop.bin
+    grep SEGMENT segments.info >borders.info
+    echo 'SEGMENT { START $1000; END $1001; NAME "S"; };' >segment.info
+    echo 'LABEL { ADDR $1000; NAME "entry"; COMMENT "the entry"; };' >comment.info
+    compares 'nop, one segment of two bytes' 52.1 -S 0 -i segment.info nop.bin
+    compares 'nop, one name with a comment' 52.0 -S 0 -i comment.info nop.bin
+    compares 'nop, 1,024 segments' 58.9 -S 0 -i borders.info nop.bin
 
     # What people run: a few bytes, a few tables and names. What is done once whatever there is shows most. (cc65's has no SIZE.)
     printf '%s\n' 'GLOBAL { STARTADDR $F000; };' \
@@ -689,29 +732,44 @@ speed() {
         'RANGE { START $F022; END $F02B; TYPE ByteTable; };' \
         'LABEL { ADDR $FFD2; NAME "CHROUT"; };' >hello.info
     echo 'LABEL { ADDR $1000; NAME "entry"; };' >label.info
-    compares '44 bytes with five tables and three names' 76.9 -i hello.info "$root/examples/hello.bin"
-    compares '1 KiB with one label' 49.1 -S 0 -i label.info kilobyte.bin
+    printf '\xea' >one.bin
+    compares 'one byte' 33.5 -S 0 one.bin
+    compares '44 bytes with five tables and three names' 54.8 -i hello.info "$root/examples/hello.bin"
+    compares '1 KiB with one label' 35.6 -S 0 -i label.info kilobyte.bin
     includes 16 1 10 >small.info
-    compares '1 KiB with 16 include files of a line' 55.7 -S 0 -i small.info kilobyte.bin
+    compares '1 KiB with 16 include files of a line' 42.5 -S 0 -i small.info kilobyte.bin
     includes 16 4096 230 >large.info
-    compares '1 KiB with 16 include files of 1 MiB' 48.3 -S 0 -i large.info kilobyte.bin
+    compares '1 KiB with 16 include files of 1 MiB' 33.3 -S 0 -i large.info kilobyte.bin
+    remarked 16 250 >remarked.info
+    compares '1 KiB with 16 MiB of comment, 4,000 names' 59.1 -S 0 -i remarked.info kilobyte.bin
 
     printf 'MEMORY { MAIN: start = 0, size = $10000, file = %%O; }\nSEGMENTS { CODE: load = MAIN, type = ro; }\n' >flat.cfg
-    printf '\n%-44s %12s %12s %8s\n' 'instructions for the listing of 64 KiB' 'as65' 'ca65, ld65' 'ratio'
+    printf '\n%-44s %12s %12s %8s\n' 'instructions for a listing' 'as65' 'ca65, ld65' 'ratio'
     "$program" -S 0 random.bin -o random.s
     "$program" -S 0 nop.bin -o nop.s
     "$program" -S 0 -i mixed.info mixed.bin -o mixed.s
-    assembles 'random bytes' 43.8 random.s
-    assembles 'nop' 34.7 nop.s
-    assembles "mixed bytes, $(wc -l <mixed.info) ranges" 45.0 mixed.s
+    assembles 'random bytes' 41.6 random.s
+    assembles 'nop' 39.5 nop.s
+    assembles "mixed bytes, $(wc -l <mixed.info) ranges" 39.3 mixed.s
+    # What people write when they edit, and the shortest listing.
+    awk 'BEGIN { for (n = 0; n < 8000; n++) printf "n%d: lda #<n%d\n ldx #>n%d\n", n, n * 7919 % 8000, n * 7919 % 8000 }' >halves.s
+    awk 'BEGIN { for (n = 0; n < 3000; n++) printf "n%d := %d\n", n, 8192 + n
+        for (n = 0; n < 3000; n++) printf n % 8 ? ",n%d" : "\n .lobytes n%d", n * 7919 % 3000; print "" }' >lobytes.s
+    printf 'here:   lda     #$01\n        sta     $10\n        jmp     here\n' >three.s
+    assembles '8,000 pairs of halves' 34.9 halves.s
+    assembles 'low bytes of 3,000 names' 44.5 lobytes.s
+    assembles 'three lines' 50.7 three.s
+    printf '\n%-44s %12s %12s\n' 'instructions for a line' '64 KiB' '128 KiB'
+    lengthens 'a line that is one word' 1 n
+    lengthens 'a long number after a half' 0 'x1 := 1\n .byte <x1,'
 
-    printf '\xea' >one.bin
     printf '\n%-28s %12s %12s %8s %8s %8s %9s\n' 'instructions and kilobytes' 'here' 'cc65' 'ratio' 'here' 'cc65' 'ratio'
-    doubles 76.7 76.4 labels 20000
-    doubles 79.2 77.8 shuffled 20000
-    doubles 109.5 113.1 colliding 20000
-    doubles 80.8 86.2 definitions 60000
-    doubles 85.9 86.4 ranges 20000
+    doubles 71.4 71.3 labels 20000
+    doubles 74.3 72.9 shuffled 20000
+    doubles 103.1 106.8 colliding 20000
+    doubles 80.9 86.6 definitions 60000
+    doubles 72.2 72.7 ranges 20000
+    doubles 88.3 87.3 segments 20000
 }
 
 for part in "${parts[@]}"; do

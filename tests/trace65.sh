@@ -18,12 +18,28 @@ proposes() {
     [ "$got" = "$wanted" ] || fails "$name" "proposed: $got"
 }
 
-# pairs NAME WANTED WORD..: exactly these comments for pairs of halves are printed, each without what all begin with.
-pairs() {
+# halves NAME WANTED WORD..: exactly these pairs of halves are proposed, each as LOW,HIGH: ADDRESS and its name.
+halves() {
     local name=$1 wanted=$2 got
     shift 2
-    got=$("$program" "$@" | sed -n 's/^# low byte at //p' | tr '\n' ';')
-    [ "$got" = "$wanted" ] || fails "$name" "pairs: $got"
+    got=$("$program" "$@" | sed -nE 's/^#: HALVES \{ LOW \$(....); HIGH \$(....); \}; # \$/\1,\2: /p' | tr '\n' ';')
+    [ "$got" = "$wanted" ] || fails "$name" "halves: $got"
+}
+
+# labels NAME WANTED WORD..: exactly these labels are proposed, each as ADDRESS NAME.
+labels() {
+    local name=$1 wanted=$2 got
+    shift 2
+    got=$("$program" "$@" | sed -nE 's/^LABEL \{ ADDR \$(....); NAME "(.*)"; \};$/\1 \2/p' | tr '\n' ';')
+    [ "$got" = "$wanted" ] || fails "$name" "labels: $got"
+}
+
+# after NAME WANTED WORD..: this is said to lie after the image, as FIRST-LAST.
+after() {
+    local name=$1 wanted=$2 got
+    shift 2
+    got=$("$program" "$@" | sed -nE 's/^#: AFTER \{ START \$(....); END \$(....); \};$/\1-\2/p' | tr '\n' ';')
+    [ "$got" = "$wanted" ] || fails "$name" "after: $got"
 }
 
 # comes_back NAME START IMAGE WORD..: da65 accepts what is proposed on the words after the information file that was given, and the
@@ -70,7 +86,8 @@ help+='  -i, --info name          information file\n'
 help+='  -o name                  output file, which must not be there yet\n'
 help+='  -S, --start-addr addr    start address\n'
 help+='  --cpu type               6502, 65SC02 or 65C02\n'
-help+='  --entry addr[,addr..]    entries of code\n'
+help+='  --entry addr[,addr..]    further entries of code\n'
+help+='  --plain                  follow no more than the entries\n'
 help+='  -h, --help               this text\n'
 help+='  -V, --version            version\n'
 
@@ -151,67 +168,222 @@ image cut.bin '\xea\x20\x00'
 proposes 'an instruction that leaves the image is none' '1001-1002 ByteTable;' -S 0x1000 cut.bin
 # lda #$ea; rts: the operand is an instruction too
 image inside.bin '\xa9\xea\x60\xff'
-proposes 'an entry in the middle of an instruction' '1000-1000 ByteTable;1003-1003 ByteTable;' -S 0x1000 --entry 0x1001 inside.bin
-proposes 'and at its head too' '1003-1003 ByteTable;' -S 0x1000 --entry 0x1001,0x1000 inside.bin
-image four.bin 'ABCD\x01ABCDE\x7f'
-proposes 'five characters are a text' '1000-1004 ByteTable;1005-1009 TextTable;100A-100A ByteTable;' -S 0x1000 --entry 0 four.bin
+proposes 'an entry in the middle of an instruction, and its head' '1003-1003 ByteTable;' -S 0x1000 --entry 0x1001 inside.bin
+image given.bin '\x60\xff\xea\x60'
+proposes 'an entry that is given adds to the first address' '1001-1001 ByteTable;' -S 0x1000 --entry 0x1002 given.bin
+image four.bin '\x02ABCD\x01ABCDE\x7f'
+proposes 'five characters are a text' '1000-1005 ByteTable;1006-100A TextTable;100B-100B ByteTable;' -S 0x1000 four.bin
 
 # rts at $1000; entries by a table of addresses, one of returns, and a range of code
 image table.bin '\x06\x10\x06\x10\xff\xff\x60\x60\x60\xff'
 image table.info 'RANGE { START $1000; END $1001; TYPE AddrTable; };\nRANGE { START $1002; END $1003; TYPE RtsTable; };\nRANGE { START $1008; END $1008; TYPE Code; };\n'
-proposes 'entries of the information file' '1004-1005 ByteTable;1009-1009 ByteTable;' -S 0x1000 -i table.info table.bin
+proposes 'entries of the information file' '1004-1005 ByteTable;1009-1009 ByteTable;' -S 0x1000 --plain -i table.info table.bin
+proposes 'rts alone is no sound beginning' '1004-1007 ByteTable;1009-1009 ByteTable;' -S 0x1000 -i table.info table.bin
 
 # the image ends at $FFFF, and its vectors lead to rts at $FFF8, $FFF7 and $FFF9
 image vectors.bin '\xff\x60\x60\x60\xf8\xff\xf7\xff\xf9\xff'
-proposes 'vectors' 'FFF6-FFF6 ByteTable;FFFA-FFFF ByteTable;' vectors.bin
+proposes 'vectors' 'FFF6-FFF6 ByteTable;FFFA-FFFF AddrTable;' vectors.bin
 
 # What the monitor of the board has besides its tables and what the vectors and the command table reach: the routines that programs call,
 # and the jumps to them.
-proposes 'the monitor with its information file' 'FE3B-FE42 ByteTable;FEA0-FEC1 ByteTable;FEC8-FED6 ByteTable;FFDF-FFF9 ByteTable;' -i examples/board/board.info
-proposes 'and with these routines as entries' 'FFDF-FFF9 ByteTable;' -i examples/board/board.info --entry 0xFE3B,0xFEA0,0xFEAB,0xFED0
+proposes 'the monitor with its information file' 'FE3B-FE42 ByteTable;FEA0-FEC1 ByteTable;FEC8-FED6 ByteTable;FFDF-FFF9 ByteTable;' --plain -i examples/board/board.info
+proposes 'and with these routines as entries' 'FFDF-FFF9 ByteTable;' --plain -i examples/board/board.info --entry 0xFE3B,0xFEA0,0xFEAB,0xFED0
+
+# ---- sound beginnings
+
+# rts; lda #1; sta $0200; inx; rts
+image after.bin '\x60\xa9\x01\x8d\x00\x02\xe8\x60'
+proposes 'four instructions right after reached code' '' -S 0x1000 after.bin
+proposes 'plainly they are bytes' '1001-1007 ByteTable;' -S 0x1000 --plain after.bin
+image three.bin '\x60\xa9\x01\xe8\x60\xff'
+proposes 'three are not enough' '1001-1005 ByteTable;' -S 0x1000 three.bin
+image brk.bin '\x60\xea\xea\xea\xea\x00'
+proposes 'brk is none of them' '1001-1005 ByteTable;' -S 0x1000 brk.bin
+image out.bin '\x60\xea\xea\xea\xea'
+proposes 'nor what goes on out of the image' '1001-1004 ByteTable;' -S 0x1000 out.bin
+# nop; nop; nop; jmp $2000, and jmp $0020
+image rom.bin '\x60\xea\xea\xea\x4c\x00\x20'
+proposes 'a jump out of the image is one of them' '' -S 0x1000 rom.bin
+image zero.bin '\x60\xea\xea\xea\x4c\x20\x00'
+proposes 'unless it is into the zero page' '1001-1006 ByteTable;' -S 0x1000 zero.bin
+# bne into the operand of bit; nop; rts
+image overlap.bin '\x60\xd0\x01\x2c\xea\xea\xea\x60'
+proposes 'two that share a byte' '1001-1007 ByteTable;' -S 0x1000 overlap.bin
+# lda #$08; ldx #$10; rts; two bytes; nop; nop; nop; rts
+image halves.bin '\xa9\x07\xa2\x10\x60\xff\xff\xea\xea\xea\x60'
+proposes 'an address in halves' '1005-1006 ByteTable;' -S 0x1000 halves.bin
+proposes 'plainly it leads nowhere' '1005-100A ByteTable;' -S 0x1000 --plain halves.bin
+# a table of $1004 and $1009: nop; nop; nop; rts; a byte; a text
+image refers.bin '\x04\x10\x09\x10\xea\xea\xea\x60\xffHELLO'
+image refers.info 'RANGE { START $1000; END $1003; TYPE AddrTable; };\n'
+proposes 'a table leads to sound beginnings alone' '1008-1008 ByteTable;1009-100D TextTable;' -S 0x1000 -i refers.info refers.bin
+
+# ---- filler
+
+# filler COUNT BYTE: that many of the byte, in octal.
+filler() {
+    head -c "$1" /dev/zero | tr '\0' "\\$2"
+}
+
+{ printf '\x60\x01'; filler 16 377; printf '\x02'; } >filler.bin
+proposes '16 equal bytes are filler' '1001-1001 ByteTable;1002-1011 ByteTable;1012-1012 ByteTable;' -S 0x1000 filler.bin
+{ printf '\x60\x01'; filler 15 377; printf '\x02'; } >filler.bin
+proposes '15 are not' '1001-1011 ByteTable;' -S 0x1000 filler.bin
+{ printf '\x60'; filler 16 377; filler 17 000; } >filler.bin
+proposes 'filler of two bytes' '1001-1010 ByteTable;1011-1021 ByteTable;' -S 0x1000 filler.bin
+{ printf '\x60ABCDE'; filler 16 040; } >filler.bin
+proposes 'a text before filler' '1001-1005 TextTable;1006-1015 ByteTable;' -S 0x1000 filler.bin
+
+# ---- vectors
+
+image half.bin '\xff\x60\x60\x60\xf8\xff\x00\x00\xf9\xff'
+proposes 'a vector that leads nowhere' 'FFF6-FFF7 ByteTable;FFFA-FFFB AddrTable;FFFC-FFFD ByteTable;FFFE-FFFF AddrTable;' half.bin
+image byte.info 'RANGE { START $FFFB; END $FFFB; TYPE ByteTable; };\n'
+proposes 'a vector that a range has a byte of' 'FFF6-FFF6 ByteTable;FFFA-FFFA ByteTable;FFFC-FFFF AddrTable;' -i byte.info vectors.bin
+
+# ---- rows of words
+
+# rts; the words $1007 and $100B; two bytes; rts; three bytes; rts
+image rows.bin '\x60\x07\x10\x0b\x10\xff\xff\x60\xff\xff\xff\x60'
+proposes 'two words that are addresses of routines' '1001-1004 AddrTable;1005-1006 ByteTable;1008-100A ByteTable;' -S 0x1000 --entry 0x1007,0x100b rows.bin
+proposes 'plainly too' '1001-1004 AddrTable;1005-1006 ByteTable;1008-100A ByteTable;' -S 0x1000 --plain --entry 0x1000,0x1007,0x100b rows.bin
+proposes 'one is no row' '1001-1006 ByteTable;1008-100B ByteTable;' -S 0x1000 --entry 0x1007 rows.bin
+image row.info 'RANGE { START $1004; END $1004; TYPE ByteTable; };\n'
+proposes 'nor with a byte in a range' '1001-1003 ByteTable;1005-1006 ByteTable;1008-100A ByteTable;' -S 0x1000 -i row.info --entry 0x1007,0x100b rows.bin
+image equal.bin '\x60\x07\x10\x07\x10\xff\xff\x60\xff\xff\xff\x60'
+proposes 'nor are two equal words' '1001-1006 ByteTable;1008-100A ByteTable;' -S 0x1000 --entry 0x1007,0x100b equal.bin
+# rts; the words $1007 and $1008; two bytes; nop; rts
+image onward.bin '\x60\x07\x10\x08\x10\xff\xff\xea\x60'
+proposes 'nor is one of what another instruction goes on to' '1001-1006 ByteTable;' -S 0x1000 --entry 0x1007 onward.bin
+# rts; the words $100B, $1007, $100B; rts; three bytes; rts
+image words.bin '\x60\x0b\x10\x07\x10\x0b\x10\x60\xff\xff\xff\x60'
+proposes 'three words' '1001-1006 AddrTable;1008-100A ByteTable;' -S 0x1000 --entry 0x1007,0x100b words.bin
+# rts at $FFF4 and $FFF5; their addresses, and again as vectors
+image rows_end.bin '\x60\x60\xf4\xff\xf5\xff\xf4\xff\xf5\xff\xf4\xff'
+proposes 'a row before the vectors' 'FFF6-FFFF AddrTable;' rows_end.bin
 
 # ---- pairs of halves
 
 # lda #$05; ldx #$10; rts; a byte at $1005
 image loads.bin '\xa9\x05\xa2\x10\x60\xff'
-pairs 'two loads, the low byte first' '$1001, high byte at $1003: $1005;' -S 0x1000 loads.bin
+halves 'two loads, the low byte first' '1001,1003: 1005;' -S 0x1000 loads.bin
 image text.info 'LABEL { ADDR $1005; NAME "text"; };\n'
-pairs 'and the name of the address' '$1001, high byte at $1003: $1005 text;' -S 0x1000 -i text.info loads.bin
+halves 'and the name of the address' '1001,1003: 1005 text;' -S 0x1000 -i text.info loads.bin
 image part.info 'LABEL { ADDR $1003; NAME "part"; SIZE 3; };\n'
-pairs 'and a name before it with a size' '$1001, high byte at $1003: $1005 part+2;' -S 0x1000 -i part.info loads.bin
+halves 'and a name before it with a size' '1001,1003: 1005 part+2;' -S 0x1000 -i part.info loads.bin
 image high.bin '\xa0\x10\xa9\x05\x60\xff'
-pairs 'two loads, the high byte first' '$1003, high byte at $1001: $1005;' -S 0x1000 high.bin
-image either.bin '\xa2\x10\xa0\x10\x60'
-pairs 'two loads of one number' '$1001, high byte at $1003: $1010;$1003, high byte at $1001: $1010;' -S 0x1000 either.bin
+halves 'two loads, the high byte first' '1003,1001: 1005;' -S 0x1000 high.bin
 image same.bin '\xa9\x05\xa9\x10\x60\xff'
-pairs 'two loads of one register are none' '' -S 0x1000 same.bin
+halves 'two loads of one register are none' '' -S 0x1000 same.bin
 image between.bin '\xa9\x06\xea\xa2\x10\x60\xff'
-pairs 'nor are loads with something between them' '' -S 0x1000 between.bin
+halves 'nor are loads with something between them' '' -S 0x1000 between.bin
 # lda #$09; sta $f4; lda #$10; sta $f5; rts; a byte at $1009
 image stores.bin '\xa9\x09\x85\xf4\xa9\x10\x85\xf5\x60\xff'
-pairs 'two stores, the low byte first' '$1001, high byte at $1005: $1009;' -S 0x1000 stores.bin
+halves 'two stores, the low byte first' '1001,1005: 1009;' -S 0x1000 stores.bin
 image high.bin '\xa2\x10\x86\xf5\xa2\x09\x86\xf4\x60\xff'
-pairs 'two stores, the high byte first' '$1005, high byte at $1001: $1009;' -S 0x1000 high.bin
+halves 'two stores, the high byte first' '1005,1001: 1009;' -S 0x1000 high.bin
 image absolute.bin '\xa0\x0b\x8c\xff\x02\xa0\x10\x8c\x00\x03\x60\xff'
-pairs 'stores to absolute addresses' '$1001, high byte at $1006: $100B;' -S 0x1000 absolute.bin
+halves 'stores to absolute addresses' '1001,1006: 100B;' -S 0x1000 absolute.bin
 image apart.bin '\xa9\x09\x85\xf4\xa9\x10\x85\xf6\x60\xff'
-pairs 'stores to addresses that are not neighbours' '' -S 0x1000 apart.bin
+halves 'stores to addresses that are not neighbours' '' -S 0x1000 apart.bin
 image other.bin '\xa9\x09\x85\xf4\xa2\x10\x86\xf5\x60\xff'
-pairs 'stores of two registers' '' -S 0x1000 other.bin
+halves 'stores of two registers' '' -S 0x1000 other.bin
 image far.bin '\xa9\x04\xa2\x11\x60'
-pairs 'the last address after the image' '$1001, high byte at $1003: $1104;' -S 0x1000 far.bin
+halves 'the last address after the image' '1001,1003: 1104;' -S 0x1000 far.bin
 image far.bin '\xa9\x05\xa2\x11\x60'
-pairs 'and the one after that' '' -S 0x1000 far.bin
+halves 'and the one after that' '' -S 0x1000 far.bin
 image before.bin '\xa9\xff\xa2\x0f\x60'
-pairs 'an address before the image' '' -S 0x1000 before.bin
+halves 'an address before the image' '' -S 0x1000 before.bin
 # jmp $1007 over the loads
-image jumped.bin '\x4c\x07\x10\xa9\x07\xa2\x10\x60'
-pairs 'loads that nothing reaches' '' -S 0x1000 jumped.bin
-pairs 'and with an entry' '$1004, high byte at $1006: $1007;' -S 0x1000 --entry 0x1003 jumped.bin
-pairs 'the monitor' '$FEA1, high byte at $FEA6: $FE17 put;$FED1, high byte at $FED3: $FE90 usage;' -i examples/board/board.info --entry 0xFE3B,0xFEA0,0xFEAB,0xFED0
+image jumped.bin '\x4c\x07\x10\xa9\x08\xa2\x10\x60\xff'
+halves 'loads that nothing reaches' '' -S 0x1000 jumped.bin
+halves 'and with an entry' '1004,1006: 1008;' -S 0x1000 --entry 0x1003 jumped.bin
+
+# Of a pair that shares a byte with another one the likelier is kept.
+image either.bin '\xa2\x10\xa0\x10\x60'
+halves 'two loads of one number: X is the low byte before Y' '1001,1003: 1010;' -S 0x1000 either.bin
+# ldy #$10; lda #$08; ldx #$10; rts
+image three.bin '\xa0\x10\xa9\x08\xa2\x10\x60\xff\xff'
+halves 'A and X before A and Y' '1003,1005: 1008;' -S 0x1000 three.bin
+# ldx #$10; lda #$0d; sta $80; lda #$10; sta $81; rts
+image first.bin '\xa2\x10\xa9\x0d\x85\x80\xa9\x10\x85\x81\x60\xff\xff\xff'
+halves 'stores to neighbours before loads' '1003,1007: 100D;' -S 0x1000 first.bin
+
+# Where an address may lie in code.
+image within.bin '\xa9\x01\xa2\x10\x60'
+halves 'an address within an instruction' '' -S 0x1000 within.bin
+image onward.bin '\xa9\x04\xa2\x10\x60'
+halves 'an instruction after another one' '' -S 0x1000 onward.bin
+# lda #$07; ldx #$10; beq $1007; rts; rts
+image branched.bin '\xa9\x07\xa2\x10\xf0\x01\x60\x60'
+halves 'an instruction that a branch leads to' '' -S 0x1000 branched.bin
+# lda #$08; ldx #$10; jsr $1008; rts; rts
+image called.bin '\xa9\x08\xa2\x10\x20\x08\x10\x60\x60'
+halves 'a routine' '1001,1003: 1008;' -S 0x1000 called.bin
+halves 'the monitor' 'FEA1,FEA6: FE17 put;FED1,FED3: FE90 usage;' -i examples/board/board.info --entry 0xFE3B,0xFEA0,0xFEAB,0xFED0
+
+# ---- labels, and what lies after the image
+
+labels 'the address of a pair' '1005 L1005;' -S 0x1000 loads.bin
+labels 'that has a name' '' -S 0x1000 -i text.info loads.bin
+labels 'that a name with a size covers' '' -S 0x1000 -i part.info loads.bin
+after 'a pair in the image' '' -S 0x1000 loads.bin
+image far.bin '\xa9\x04\xa2\x11\x60'
+labels 'the address of a pair after the image' '1104 L1104;' -S 0x1000 far.bin
+after 'a pair after the image' '1005-1104;' -S 0x1000 far.bin
+# sta to a variable; rts
+image variable.bin '\x8d\x10\x10\x60'
+labels 'a variable' '1010 L1010;' -S 0x1000 variable.bin
+after 'a variable' '1004-1010;' -S 0x1000 variable.bin
+image buffer.info 'LABEL { ADDR $1010; NAME "buffer"; };\n'
+labels 'a variable with a name' '' -S 0x1000 -i buffer.info variable.bin
+after 'a variable with a name' '1004-1010;' -S 0x1000 -i buffer.info variable.bin
+image variable.bin '\x8d\x03\x11\x60'
+labels 'a variable 256 bytes after the last one of the image' '1103 L1103;' -S 0x1000 variable.bin
+image variable.bin '\x8d\x04\x11\x60'
+labels 'and one byte further' '' -S 0x1000 variable.bin
+after 'and one byte further' '' -S 0x1000 variable.bin
+image variables.bin '\x8d\x03\x11\xee\x03\x12\x60'
+labels 'a variable 256 bytes after another one' '1103 L1103;1203 L1203;' -S 0x1000 variables.bin
+image variables.bin '\x8d\x03\x11\xee\x04\x12\x60'
+labels 'and a byte further' '1103 L1103;' -S 0x1000 variables.bin
+# lda $1010,x; jmp ($1012)
+image modes.bin '\xbd\x10\x10\x6c\x12\x10'
+labels 'indexed and indirect operands' '1010 L1010;1012 L1012;' -S 0x1000 modes.bin
+after 'up to the last of them' '1006-1012;' -S 0x1000 modes.bin
+image inside.bin '\xad\x03\x10\x60'
+labels 'an operand in the image' '' -S 0x1000 inside.bin
+
+# ---- what the file says in lines `#: ..`
+
+image entry.info '#: ENTRY { ADDR $1003; };\n'
+halves 'an entry of the file' '1004,1006: 1008;' -S 0x1000 -i entry.info jumped.bin
+image entry.info '# : ENTRY { ADDR $1003; };\n #: ENTRY { ADDR $1003; };\n'
+halves 'other comments are none' '' -S 0x1000 -i entry.info jumped.bin
+image known.info '#: HALVES { LOW $1003; HIGH $1005; };\n'
+halves 'halves of the file are not proposed again' '' -S 0x1000 -i known.info three.bin
+image known.info '#: HALVES { LOW $1003; HIGH $1001; };\n'
+halves 'nor others with a byte of them' '' -S 0x1000 -i known.info three.bin
+image known.info '#: HALVES { LOW $1004; HIGH $1000; SIZE 2; };\n'
+halves 'nor with one of several' '' -S 0x1000 -i known.info three.bin
+image known.info '#: HALVES { LOW $1000; HIGH $1002; };\n'
+halves 'bytes beside them' '1003,1005: 1008;' -S 0x1000 -i known.info three.bin
+image known.info '#: AFTER { START $1006; END $2000; };\n'
+after 'what lies after the image is known' '' -S 0x1000 -i known.info modes.bin
+labels 'and labels are proposed' '1010 L1010;1012 L1012;' -S 0x1000 -i known.info modes.bin
+image bad.info '\n#: EXIT { };\n'
+runs 'an unknown group' 1 '' 'trace65: info:2: unknown group\n' -i bad.info three.bin
+image bad.info '#: ENTRY { ADDR $10000; };\n'
+runs 'a group with a fault' 1 '' 'trace65: info:1: value out of range\n' -i bad.info three.bin
+image bad.info '#: ENTRY { ADDR 1; };\nFOO\n'
+runs 'a fault of the file comes first' 1 '' 'trace65: info:2: unknown group\n' -i bad.info three.bin
+
 image end.info 'LABEL { ADDR $1009; NAME "end"; };\n'
-runs 'the whole text' 0 "$legend# \$1000 +\n# 9 bytes of code that is reached, 0 in ranges, 1 in neither\nRANGE { START \$1009; END \$1009; TYPE ByteTable; }; # .\n# low byte at \$1001, high byte at \$1005: \$1009 end\n" '' \
+runs 'the whole text' 0 "$legend# \$1000 +\n# 9 bytes of code that is reached, 0 in ranges, 1 in neither\nRANGE { START \$1009; END \$1009; TYPE ByteTable; }; # .\n#: HALVES { LOW \$1001; HIGH \$1005; }; # \$1009 end\n" '' \
     -S 0x1000 -i end.info stores.bin
+image variable.bin '\x8d\x10\x10\x60'
+runs 'and with a label and a variable' 0 "$legend# \$1000 #\n# 4 bytes of code that is reached, 0 in ranges, 0 in neither\nLABEL { ADDR \$1010; NAME \"L1010\"; };\n#: AFTER { START \$1004; END \$1010; };\n" '' \
+    -S 0x1000 variable.bin
 
 # ---- less and less memory
 
@@ -248,6 +420,10 @@ comes_back 'an information file before it' 0x1000 table.bin -i table.info
 image comment.info 'LABEL { ADDR $1005; NAME "text"; }; # a comment that is not ended'
 comes_back 'an information file that ends within a comment' 0x1000 loads.bin -i comment.info
 comes_back 'the monitor of the board' 0xFC00 examples/board/monitor.bin
+comes_back 'a pair, labels and variables' 0x1000 far.bin
+comes_back 'vectors' 0xFFF6 half.bin
+comes_back 'a row of words' 0x1000 rows.bin --entry 0x1007,0x100b
+comes_back 'a row before the vectors' 0xFFF4 rows_end.bin
 for cpu in 6502 65SC02 65C02; do
     for seed in 1 2 3 4 5; do
         image random.bin "$(awk -v seed="$seed$cpu" 'BEGIN {
@@ -265,7 +441,8 @@ done
 for seed in $(seq 20); do
     program_text "$seed" >code.s
     "$as65" -S 0x2000 -o code.bin code.s || fails "random program $seed" 'not assembled'
-    comes_back "random program $seed" 0x2000 code.bin
+    comes_back "random program $seed with sound beginnings" 0x2000 code.bin
+    comes_back "random program $seed" 0x2000 code.bin --plain
     mnemonics code.s >wanted.txt
     mnemonics both.s >got.txt
     same "instructions of random program $seed" got.txt wanted.txt

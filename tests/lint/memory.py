@@ -11,12 +11,9 @@ ANSWERS = ("AllocError", "AllocFailed", "OutOfMemory", "out_of_memory")
 # Those that stand after `::` alone.
 VARIANTS = ("Memory", "MEMORY")
 ALLOWED = """
-as65 Assembled::new 2
 as65 Failure::from 3
 as65 failure_of 5
 as65 information_in 2
-as65 is_memory 1
-as65 rank 1
 da65 all_names 2
 da65 image_message 1
 da65 list_input 1

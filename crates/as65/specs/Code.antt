@@ -1,5 +1,4 @@
--- What ties the code to the rules: in which order its lines are passed over, what its halves are, and what its values stand for.
-pub mod HalfViews
-pub mod Listings
+-- What ties the code to the rules: in which order its lines are passed over, and what its values stand for.
 pub mod NamedStarts
 pub mod Passing
+pub mod Requests

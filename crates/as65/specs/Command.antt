@@ -11,13 +11,16 @@ place_choice = record info_choice { purpose = codes "information file of da65, f
 abbrev pub compare_choice : ChoiceView
 compare_choice = record { id = codes "compare"; short = None; long = Some (codes "compare"); value = Some (codes "image"); purpose = codes "print where the bytes differ from an image" }
 
+abbrev pub fill_choice : ChoiceView
+fill_choice = record { id = codes "fill"; short = None; long = Some (codes "fill"); value = Some (codes "byte"); purpose = codes "begin segments at their START, with this byte between" }
+
 -- what listings are and the usage line, the options in the order of the help text, and an optional listing
 abbrev pub this_program : ProgramView
 this_program = record {
   name = codes "as65";
   usage = with_line_feed (codes "as65 reads ca65's language as far as listings need it; for everything else there is ca65.")
       ++ codes "Usage: as65 [options] [listing]";
-  choices = place_choice ∷ start_choice ∷ output_choice ∷ compare_choice ∷ help_choice ∷ version_choice ∷ [];
+  choices = place_choice ∷ start_choice ∷ fill_choice ∷ output_choice ∷ compare_choice ∷ help_choice ∷ version_choice ∷ [];
   input = codes "listing";
 }
 

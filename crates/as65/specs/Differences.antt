@@ -1,15 +1,13 @@
 -- The lines that say where a listing and an image differ.
-use Rattle.std.specs.Prelude.{◌≡◌, ◌==◌, ℕ, ◌+◌, ◌-◌, List, [], ◌∷◌, ◌++◌, codes, decimal, drop, flat_map, get_or, length, map, nat_lt, take, if◌then◌else◌}
+use Rattle.std.specs.Prelude.{◌≡◌, ◌==◌, ◌&&◌, ◌||◌, ℕ, ◌+◌, ◌-◌, Bool, List, [], ◌∷◌, ◌++◌, codes, decimal, drop, flat_map, get_or, length, map, nat_le, nat_lt, take, if◌then◌else◌}
 use Rattle.std.specs.Char.{is_ascii_control, is_ascii_whitespace}
 use Rattle.std.specs.List.{prefix_len, suffix_len}
 use Rattle.text65.specs.Digits.{digits4}
 use Rattle.text65.specs.Lines.{text_lines}
 use Rattle.map65.specs.ImageView.{ImageView}
 use Rattle.stmt65.specs.Digits.{digits2}
-use Rattle.stmt65.specs.LineAddresses.{line_addresses, line_past}
-use Rattle.stmt65.specs.Meaning.{readings}
+use Rattle.stmt65.specs.LineAddresses.{line_past}
 use Rattle.as65.specs.Assembled.{AssembledView}
-use Rattle.as65.specs.Filled.{replaced}
 use Rattle.as65.specs.Stretches.{AreRuns, differs}
 use Rattle.as65.specs.declared.stretches.Stretch.{Stretch}
 
@@ -36,9 +34,13 @@ dots_above most len = if nat_lt most len then codes " .." else []
 abbrev pub shown_bytes : List ℕ → List ℕ
 shown_bytes bytes = flat_map spaced (take 8 bytes) ++ dots_above 8 (length bytes)
 
+-- a control byte of a terminal: below a blank, $7F, or $80 to $9F
+abbrev pub is_control : ℕ → Bool
+is_control b = is_ascii_control b || nat_le 128 b && nat_le b 159
+
 -- a control byte is shown as `?`
 abbrev pub shown_byte : ℕ → ℕ
-shown_byte b = if is_ascii_control b then 63 else b
+shown_byte b = if is_control b then 63 else b
 
 -- without the blanks at its end
 abbrev pub without_last_blanks : List ℕ → List ℕ
@@ -48,9 +50,13 @@ without_last_blanks line = take (length line - suffix_len is_ascii_whitespace li
 abbrev pub trimmed : List ℕ → List ℕ
 trimmed line = without_last_blanks (drop (prefix_len is_ascii_whitespace line) line)
 
--- at most 80 characters of a line
-unfoldable pub shown_line : List ℕ → List ℕ
-shown_line line = map shown_byte (take 80 (trimmed line)) ++ dots_above 80 (length (trimmed line))
+-- at most 80 characters
+unfoldable pub shown : List ℕ → List ℕ
+shown line = map shown_byte (take 80 line) ++ dots_above 80 (length line)
+
+-- the beginning of a line, without the blanks around it
+abbrev pub shown_line : List ℕ → List ℕ
+shown_line line = shown (trimmed line)
 
 -- ---- the lines
 
@@ -62,13 +68,13 @@ stretch_bytes s bytes = take (s.end - s.at) (drop s.at bytes)
 unfoldable pub change_text : ℕ → List ℕ → List ℕ → List ℕ
 change_text address image bytes = codes "$" ++ digits4 address ++ codes ":" ++ shown_bytes image ++ codes " ->" ++ shown_bytes bytes
 
--- `, line n: ..`, and the end of the line
+-- `, line n: ..`, of a line without the blanks around it, and the end of the line
 unfoldable pub origin_text : ℕ → List ℕ → List ℕ
-origin_text number line = codes ", line " ++ decimal number ++ codes ": " ++ shown_line line ++ codes "\n"
+origin_text number line = codes ", line " ++ decimal number ++ codes ": " ++ shown line ++ codes "\n"
 
 -- `$hhhh: hh hh -> hh hh, line n: ..`
 abbrev pub stretch_line : ℕ → List ℕ → List ℕ → ℕ → List ℕ → List ℕ
-stretch_line address image bytes number line = change_text address image bytes ++ origin_text number line
+stretch_line address image bytes number line = change_text address image bytes ++ origin_text number (trimmed line)
 
 -- the line that gives the first byte of a stretch, from 1
 abbrev pub number_of : Compared → Stretch → ℕ
@@ -87,14 +93,14 @@ lengths_line had has = if had == has then [] else codes "the image has " ++ deci
 abbrev pub difference_lines : Compared → List Stretch → List ℕ
 difference_lines c found = flat_map (line_of c) found ++ lengths_line (length c.image) (length c.bytes)
 
--- an image and a listing as what is compared; the lines are shown as they were given, and the listing that they stand for has one for each
+-- an image and a listing as what is compared
 abbrev pub compared : ImageView → AssembledView → Compared
 compared image a = record {
   start = image.start;
   image = image.bytes;
   bytes = a.bytes;
   lines = text_lines a.text;
-  ends = line_addresses a.start (readings (replaced a.start a.text));
+  ends = a.ends;
 }
 
 -- the text has a line for each run of bytes that differ, in order, and one for lengths that differ

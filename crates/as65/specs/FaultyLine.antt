@@ -2,9 +2,10 @@
 use Rattle.std.specs.Prelude.{◌≡◌, ◌==◌, ◌⊎◌, ℕ, List, [], ◌++◌, Err, codes, length, if◌then◌else◌}
 use Rattle.std.specs.String.{string_bytes}
 use Rattle.stmt65.specs.Answer.{out_of_memory}
+use Rattle.stmt65.specs.Sources.{source_meaning}
+use Rattle.stmt65.specs.declared.assembling.assembler.Source.{Source}
 use Rattle.stmt65.specs.declared.assembling.fault.AsmFault.{AsmFault}
 use Rattle.as65.specs.Differences.{shown_line}
-use Rattle.as65.specs.Filled.{meaning_with_halves}
 use Rattle.as65.specs.Hint.{hint, line_at}
 use Rattle.as65.specs.declared.failure.Failure.{Failure}
 use Rattle.as65.specs.declared.failure.Failure.TheVariants.{Memory, Line}
@@ -14,18 +15,18 @@ abbrev pub hint_text : List ℕ → List ℕ
 hint_text hint = if length hint == 0 then [] else codes ": " ++ hint
 
 -- what comes after the text of a fault: what it is about, and the line
-unfoldable pub about : AsmFault → ℕ → List ℕ → List ℕ
-about fault start text = hint_text (hint fault start text) ++ codes ": " ++ shown_line (line_at fault.line text)
+unfoldable pub about : {L : Type 0} → AsmFault → Source L → List ℕ
+about fault s = hint_text (hint fault s) ++ codes ": " ++ shown_line (line_at fault.line s.text.now)
 
--- a text has this fault from a start, or memory ran out
-abbrev pub FailsWith : AsmFault → ℕ → List ℕ → Type 0
-FailsWith fault start text = (meaning_with_halves start text ≡ Err fault) ⊎ (fault ≡ out_of_memory)
+-- a source has this fault, or memory ran out
+abbrev pub FailsWith : {L : Type 0} → AsmFault → Source L → Type 0
+FailsWith fault s = (source_meaning s ≡ Err fault) ⊎ (fault ≡ out_of_memory)
 
--- the failure reports the fault of the listing of this name and text, with what it is about, unless memory ran out
-abbrev pub Reports : List ℕ → ℕ → List ℕ → Failure → Type 0
-Reports name start text Memory = Unit {0}
-Reports name start text (Line listing fault said) = (string_bytes listing ≡ name) × (meaning_with_halves start text ≡ Err fault) × (said.items ≡ about fault start text)
-Reports name start text _ = ⊥
+-- the failure reports the fault of the listing of this name, with what it is about, unless memory ran out
+abbrev pub Reports : {L : Type 0} → List ℕ → Source L → Failure → Type 0
+Reports name s Memory = Unit {0}
+Reports name s (Line listing fault said) = (string_bytes listing ≡ name) × (source_meaning s ≡ Err fault) × (said.items ≡ about fault s)
+Reports name s _ = ⊥
 
 -- what is said after the text of a failure
 abbrev pub said_after : Failure → List ℕ

@@ -3,14 +3,15 @@ pub mod Code
 pub mod Command
 pub mod Comparison
 pub mod Differences
-pub mod Filled
-pub mod Halves
 pub mod FaultyLine
 pub mod Hint
 pub mod Image
 pub mod Information
+pub mod Listing
+pub mod Message
 pub mod NamedStart
 pub mod Origins
 pub mod Request
+pub mod SegmentStarts
 pub mod Status
 pub mod Stretches

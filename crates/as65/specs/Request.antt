@@ -4,7 +4,7 @@ use Rattle.std.specs.List.{list_any, starts_with, take_while}
 use Rattle.std.specs.Str.{bytes_eq}
 use Rattle.std.specs.String.{string_bytes}
 use Rattle.clap.specs.Words.{Row, Text, first_of}
-use Rattle.usage65.specs.Number.{address_in}
+use Rattle.usage65.specs.Number.{address_in, byte_in}
 use Rattle.usage65.specs.Values.{◌>>=◌, accepted, given, is_set}
 use Rattle.usage65.specs.declared.fault.UsageFault.{UsageFault}
 use Rattle.usage65.specs.declared.fault.UsageFault.TheVariants.{Memory, Words}
@@ -14,12 +14,19 @@ use Rattle.as65.specs.declared.failure.Failure.TheVariants as failure
 use Rattle.as65.specs.declared.request.Request.{Request}
 use Rattle.as65.specs.declared.request.Request.TheVariants.{Help, Version, Write, Compare}
 
--- what is asked for: a listing with the information file, the start and the output, or the same with an image
+-- a listing, the information file, the start, and the byte before segments that begin at their START
+pub record Given : Type 0 where
+  pub listing : Text
+  pub info : Option Text
+  pub start : Option ℕ
+  pub fill : Option ℕ
+
+-- what is asked for: the bytes of a listing, with the output, or a comparison, with an image
 pub data Asked : Type 0 where
   AskHelp : Asked
   AskVersion : Asked
-  AskWrite : Text → Option Text → Option ℕ → Option Text → Asked
-  AskCompare : Text → Option Text → Option ℕ → Text → Asked
+  AskWrite : Given → Option Text → Asked
+  AskCompare : Given → Text → Asked
 
 -- why a command line is refused
 pub data Refusal : Type 0 where
@@ -37,8 +44,8 @@ failure_for e = failure.Usage e
 abbrev pub asked_of : Request → Asked
 asked_of Help = AskHelp
 asked_of Version = AskVersion
-asked_of (Write w) = AskWrite (string_bytes w.listing) (option_map string_bytes w.info) w.start (option_map string_bytes w.output)
-asked_of (Compare c) = AskCompare (string_bytes c.listing) (option_map string_bytes c.info) c.start (string_bytes c.image)
+asked_of (Write w) = AskWrite (record { listing = string_bytes w.listing; info = option_map string_bytes w.info; start = w.start; fill = w.fill }) (option_map string_bytes w.output)
+asked_of (Compare c) = AskCompare (record { listing = string_bytes c.listing; info = option_map string_bytes c.info; start = c.start; fill = c.fill }) (string_bytes c.image)
 
 -- the failure is the refusal of the definition, unless memory ran out
 abbrev pub Fails : {A : Type 0} → Failure → Result A Refusal → Type 0
@@ -72,47 +79,52 @@ abbrev pub input_named : Option Text → Text
 input_named None = standard_input
 input_named (Some name) = if is_standard name then standard_input else name
 
+-- the name of the information file, if there is one
+abbrev pub info_named : Option Text → Option Text
+info_named None = None
+info_named (Some name) = Some (input_named (Some name))
+
 -- the name of the output; None is standard output
 abbrev pub output_named : Option Text → Option Text
 output_named None = None
 output_named (Some name) = if is_standard name then None else Some name
 
--- whether a name is that of the information file
-abbrev pub is_info : Option Text → Text → Bool
-is_info None name = false
-is_info (Some info) name = bytes_eq info name
+-- whether this is the name of the information file or of the output, if there is one
+abbrev pub is_name : Option Text → Text → Bool
+is_name None name = false
+is_name (Some given) name = bytes_eq given name
 
 -- whether standard input would have to be this input and the information file
 abbrev pub is_taken : Option Text → Text → Bool
-is_taken info name = bytes_eq name standard_input && is_info info standard_input
+is_taken info name = bytes_eq name standard_input && is_name info standard_input
 
 -- the output is none of the inputs
-unfoldable pub to_write_into : Text → Option Text → Option ℕ → Option Text → Result Asked Refusal
-to_write_into listing info start None = Ok (AskWrite listing info start None)
-to_write_into listing info start (Some output) =
-    if bytes_eq output listing || is_info info output then Err (SameName output) else Ok (AskWrite listing info start (Some output))
+unfoldable pub to_write_into : Given → Option Text → Result Asked Refusal
+to_write_into given None = Ok (AskWrite given None)
+to_write_into given (Some output) =
+    if bytes_eq output given.listing || is_name given.info output then Err (SameName output) else Ok (AskWrite given (Some output))
 
 -- the bytes of a listing are to be written: there is a start, or an information file that may have one
-unfoldable pub to_write : Text → Option Text → Option ℕ → Option Text → Result Asked Refusal
-to_write listing info start output =
-    if not (is_some start || is_some info) then Err LacksStart
-    else (if is_taken info listing then Err TwoOfStandardInput else to_write_into listing info start output)
+unfoldable pub to_write : Given → Option Text → Result Asked Refusal
+to_write given output =
+    if not (is_some given.start || is_some given.info) then Err LacksStart
+    else (if is_taken given.info given.listing then Err TwoOfStandardInput else to_write_into given output)
 
 -- a listing is to be compared with an image; standard input can be only one of the inputs
-unfoldable pub to_compare : Text → Option Text → Option ℕ → Text → Result Asked Refusal
-to_compare listing info start image =
-    if bytes_eq listing standard_input && bytes_eq image standard_input then Err TwoOfStandardInput
-    else (if is_taken info listing || is_taken info image then Err TwoOfStandardInput else Ok (AskCompare listing info start image))
+unfoldable pub to_compare : Given → Text → Result Asked Refusal
+to_compare given image =
+    if bytes_eq given.listing standard_input && bytes_eq image standard_input then Err TwoOfStandardInput
+    else (if is_taken given.info given.listing || is_taken given.info image then Err TwoOfStandardInput else Ok (AskCompare given image))
 
 -- an image, and whether there is no output beside it
-abbrev pub to_compare_beside : Text → Option Text → Option ℕ → Option Text → Text → Result Asked Refusal
-to_compare_beside listing info start None image = to_compare listing info start image
-to_compare_beside listing info start (Some output) image = Err (BadUsage Words)
+abbrev pub to_compare_beside : Given → Option Text → Text → Result Asked Refusal
+to_compare_beside given None image = to_compare given image
+to_compare_beside given (Some output) image = Err (BadUsage Words)
 
 -- with an image it is a comparison
-abbrev pub asked_beside : Text → Option Text → Option ℕ → Option Text → Option Text → Result Asked Refusal
-asked_beside listing info start output None = to_write listing info start output
-asked_beside listing info start output (Some image) = to_compare_beside listing info start output (input_named (Some image))
+abbrev pub asked_beside : Given → Option Text → Option Text → Result Asked Refusal
+asked_beside given output None = to_write given output
+asked_beside given output (Some image) = to_compare_beside given output (input_named (Some image))
 
 -- help comes first, then the version; both before the value of any option
 unfoldable pub asked_in : List Row → Result Asked Refusal
@@ -120,16 +132,18 @@ asked_in rows =
     if is_set (codes "help") rows then Ok AskHelp
     else (if is_set (codes "version") rows then Ok AskVersion
     else (or_refused (given address_in (first_of (codes "start") rows)) >>= λ start.
-    asked_beside (input_named (first_of (codes "listing") rows)) (first_of (codes "info") rows) start (output_named (first_of (codes "output") rows)) (first_of (codes "compare") rows)))
+    or_refused (given byte_in (first_of (codes "fill") rows)) >>= λ fill.
+    asked_beside (record { listing = input_named (first_of (codes "listing") rows); info = info_named (first_of (codes "info") rows); start = start; fill = fill })
+    (output_named (first_of (codes "output") rows)) (first_of (codes "compare") rows)))
 
 -- what the words ask for, of which the first is the program's name
 unfoldable pub asked : List Text → Result Asked Refusal
 asked words = or_refused (accepted app words) >>= asked_in
 
 -- `--compare`, with its image in the same word or in the next
-abbrev pub is_compare_word : {Z : Type 0} → String Z → Bool
-is_compare_word word = bytes_eq (string_bytes word) (codes "--compare") || starts_with nat_eq (string_bytes word) (codes "--compare=")
+abbrev pub is_compare_word : Text → Bool
+is_compare_word word = bytes_eq word (codes "--compare") || starts_with nat_eq word (codes "--compare=")
 
 -- whether a comparison is asked for, however well; after `--` there are names alone
 abbrev pub is_comparing : {Z : Type 0} → List (String Z) → Bool
-is_comparing words = list_any is_compare_word (take_while (λ word. not (bytes_eq (string_bytes word) (codes "--"))) (drop 1 words))
+is_comparing words = list_any (λ word. is_compare_word (string_bytes word)) (take_while (λ word. not (bytes_eq (string_bytes word) (codes "--"))) (drop 1 words))

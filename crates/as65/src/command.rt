@@ -7,12 +7,19 @@ ghost use Rattle.as65.specs.Command.{this_program};
 use usage65::{Choice, HELP, INFO, OUTPUT, Program, START, VERSION};
 
 /// The options, in the order of the help text.
-static CHOICES: [Choice<'static>; 6] = [
+static CHOICES: [Choice<'static>; 7] = [
     Choice {
         purpose: "information file of da65, for the start and the part",
         ..INFO
     },
     START,
+    Choice {
+        id: "fill",
+        short: None,
+        long: Some("fill"),
+        value: Some("byte"),
+        purpose: "begin segments at their START, with this byte between",
+    },
     OUTPUT,
     Choice {
         id: "compare",

@@ -15,7 +15,7 @@ use std::alloc::Global;
 pub fn compare<W: Sink>(
     alloc: Global,
     image: &Image,
-    assembled: &Assembled<'_>,
+    assembled: &Assembled<'_, '_, '_, '_>,
     out: &mut W,
 ) -> Result<Ended, Failure>
     ensures answer { Compares (compared image.now assembled.now) (W.taken out.old) (W.taken out.new) result }

@@ -2,7 +2,7 @@
 
 ghost use Rattle.std.specs.Prelude.{◌≡◌, ◌+◌, ◌++◌, IfOk, OnOk, decimal, flat_map, map, take};
 ghost use Rattle.text65.specs.Digits.{digits4};
-ghost use Rattle.as65.specs.Differences.{IsDifferences, change_text, compared, dots_above, lengths_line, line_of, origin_text, shown_byte, shown_bytes, shown_line, spaced, trimmed};
+ghost use Rattle.as65.specs.Differences.{IsDifferences, change_text, compared, dots_above, is_control, lengths_line, line_of, origin_text, shown, shown_byte, shown_bytes, shown_line, spaced, trimmed};
 ghost use Rattle.as65.specs.Origins.{Moves};
 ghost use Rattle.as65.specs.Code.Passing.{IsInBoth, IsReady, beside, line_left};
 
@@ -60,35 +60,48 @@ fn put_bytes(out: &mut Vec<u8>, bytes: &[u8]) -> Result<(), AllocError>
     put_dots(out, SHOWN_BYTES, bytes.len())
 }
 
+/// Whether a terminal may take a byte for a command: those from $80 on are the controls of 8 bits.
+fn is_control(byte: u8) -> bool
+    ensures { result ≡ is_control byte }
+{
+    byte.is_ascii_control() || 128 <= byte && byte <= 159
+}
+
 /// Appends bytes, with `?` for each control byte.
 fn put_characters(out: &mut Vec<u8>, line: &[u8]) -> Result<(), AllocError>
     ensures { OnOk result (out.new.items ≡ out.old.items ++ map shown_byte line.now) }
 {
     'characters: for byte in line {
-        out.push(if byte.is_ascii_control() { b'?' } else { *byte })?;
+        out.push(if is_control(*byte) { b'?' } else { *byte })?;
     }
     Ok(())
 }
 
 /// The line without the blanks around it.
-fn trimmed(line: &[u8]) -> &[u8]
+pub(crate) fn trimmed(line: &[u8]) -> &[u8]
     ensures { result.now ≡ trimmed line.now }
 {
     line.trim_ascii()
 }
 
-/// Appends the beginning of a line.
-#[tactic(auto, unfolding(crate::specs::Differences::shown_line))]
-pub(crate) fn put_line(out: &mut Vec<u8>, line: &[u8]) -> Result<(), AllocError>
-    ensures { OnOk result (out.new.items ≡ out.old.items ++ shown_line line.now) }
+/// Appends the first characters.
+#[tactic(auto, unfolding(crate::specs::Differences::shown))]
+fn put_shown(out: &mut Vec<u8>, line: &[u8]) -> Result<(), AllocError>
+    ensures { OnOk result (out.new.items ≡ out.old.items ++ shown line.now) }
 {
-    let line = trimmed(line);
     put_characters(out, at_most(line, SHOWN_CHARACTERS))?;
     put_dots(out, SHOWN_CHARACTERS, line.len())
 }
 
+/// Appends the beginning of a line.
+pub(crate) fn put_line(out: &mut Vec<u8>, line: &[u8]) -> Result<(), AllocError>
+    ensures { OnOk result (out.new.items ≡ out.old.items ++ shown_line line.now) }
+{
+    put_shown(out, trimmed(line))
+}
+
 /// Appends four hex digits.
-fn put_address(out: &mut Vec<u8>, address: usize) -> Result<(), AllocError>
+pub(crate) fn put_address(out: &mut Vec<u8>, address: usize) -> Result<(), AllocError>
     ensures { OnOk result (out.new.items ≡ out.old.items ++ digits4 address) }
 {
     let text = [
@@ -133,7 +146,7 @@ fn put_origin(out: &mut Vec<u8>, origin: &Origin<'_>) -> Result<(), AllocError>
     out.extend_from_slice(b", line ")?;
     put_decimal(out, origin.number)?;
     out.extend_from_slice(b": ")?;
-    put_line(out, origin.line)?;
+    put_shown(out, origin.line)?;
     out.extend_from_slice(b"\n")
 }
 
@@ -196,13 +209,13 @@ fn put_all(
 pub fn differences(
     alloc: Global,
     image: &Image,
-    assembled: &Assembled<'_>,
+    assembled: &Assembled<'_, '_, '_, '_>,
 ) -> Result<Vec<u8>, AllocError>
     ensures { IfOk result (λ text. IsDifferences (compared image.now assembled.now) text.items) }
 {
     let found = stretches(alloc, image.bytes(), assembled.bytes())?;
-    let ends = line_addresses(alloc, assembled.listing(), assembled.start())?;
-    let mut origins = Origins::new(assembled.text(), &ends);
+    let ends = line_addresses(alloc, assembled.source())?;
+    let mut origins = Origins::new(assembled.source().text, &ends);
     let mut out = Vec::new(alloc);
     put_all(&mut out, image, assembled.bytes(), &found, &mut origins)?;
     put_lengths(&mut out, image.bytes().len(), assembled.bytes().len())?;

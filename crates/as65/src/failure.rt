@@ -25,6 +25,9 @@ pub enum Failure {
     /// Standard input would have to be two of the inputs.
     #[error("standard input can be only one of the inputs")]
     StandardTwice,
+    /// The stream of this name would have to be two of the inputs.
+    #[error("{0} can be only one of the inputs")]
+    StreamTwice(String),
     /// The information file is refused.
     #[error("info:{0}")]
     Info(InfoFault),
@@ -43,7 +46,7 @@ pub enum Failure {
     /// The image to compare with has more than 65,536 bytes, or extends past $FFFF.
     #[error("the image is too large")]
     LargeImage,
-    /// The listing of this name has no byte.
+    /// The listing of this name has no byte, or gives none.
     #[error("{0}: no bytes")]
     EmptyListing(String),
     /// The listing has more than 64 MiB.
@@ -55,6 +58,9 @@ pub enum Failure {
     /// A write of the bytes, of the differences, of the help text or of the version failed.
     #[error("cannot write the output")]
     Writing,
+    /// A write of a message failed, so nothing more is said.
+    #[error("cannot write a message")]
+    Silent,
 }
 
 impl Failure {

@@ -8,7 +8,7 @@ use crate::failure::Failure;
 use crate::hint::hint;
 use crate::origins::line_at;
 use std::alloc::{AllocError, Global};
-use stmt65::{AsmFault, AsmFaultKind};
+use stmt65::{AsmFault, AsmFaultKind, Source};
 
 /// Appends what a fault is about, if the line does not say it.
 fn put_hint(out: &mut Vec<u8>, hint: &[u8]) -> Result<(), AllocError>
@@ -23,29 +23,31 @@ fn put_hint(out: &mut Vec<u8>, hint: &[u8]) -> Result<(), AllocError>
 
 /// What comes after the text of a fault: what it is about, and the line.
 #[tactic(auto, unfolding(crate::specs::FaultyLine::about))]
-fn about(alloc: Global, fault: AsmFault, text: &[u8], start: u16) -> Result<Vec<u8>, AllocError>
-    ensures { IfOk result (λ said. said.items ≡ about fault start text.now) }
+fn about(alloc: Global, fault: AsmFault, source: &Source<'_, '_, '_>) -> Result<Vec<u8>, AllocError>
+    ensures { IfOk result (λ said. said.items ≡ about fault source.now) }
 {
-    let hint = hint(alloc, fault, text, start)?;
+    let hint = hint(alloc, fault, source)?;
     let mut out = Vec::new(alloc);
     put_hint(&mut out, &hint)?;
     out.extend_from_slice(b": ")?;
-    put_line(&mut out, line_at(text, fault.line))?;
+    put_line(&mut out, line_at(source.text, fault.line))?;
     Ok(out)
 }
 
-/// The failure of a listing of this name and text.
-pub fn failure_of(alloc: Global, fault: AsmFault, name: &str, text: &[u8], start: u16) -> Failure
-    requires { FailsWith fault start text.now }
-    ensures { Reports name.now start text.now result }
+/// The failure of the listing of this name.
+pub fn failure_of(
+    alloc: Global,
+    fault: AsmFault,
+    name: &str,
+    source: &Source<'_, '_, '_>,
+) -> Failure
+    requires { FailsWith fault source.now }
+    ensures { Reports name.now source.now result }
 {
     if fault.kind == AsmFaultKind::Memory {
         return Failure::Memory;
     }
-    match (
-        String::from_str(alloc, name),
-        about(alloc, fault, text, start),
-    ) {
+    match (String::from_str(alloc, name), about(alloc, fault, source)) {
         (Ok(name), Ok(said)) => Failure::Line(name, fault, said),
         _ => Failure::Memory,
     }

@@ -1,34 +1,31 @@
 //! What the fault of a line is about: the name that is undefined, how far a branch would go, or a guess from the text of the line.
 //! No fault depends on it.
 
-ghost use Rattle.std.specs.Prelude.{◌≡◌, ◌-◌, ◌≤◌, IfOk, length, map, option_and_then, option_map, unwrap_or};
+ghost use Rattle.std.specs.Prelude.{◌≡◌, ◌==◌, ◌||◌, ◌-◌, ◌≤◌, IfOk, OnOk, Some, [], ◌∷◌, ◌++◌, false, get_or, length, map, option_and_then, option_map, unwrap_or};
 ghost use Rattle.std.specs.List.{flat_map, prefix_len, slice_get};
-ghost use Rattle.text65.specs.Names.{is_word_byte};
-ghost use Rattle.stmt65.specs.Code.SourceLineViews.{form_of, operation_of, source_of, value_of};
+ghost use Rattle.text65.specs.Digits.{digits4};
+ghost use Rattle.text65.specs.Names.{is_blank, is_word_byte};
+ghost use Rattle.stmt65.specs.Code.SourceLineViews.{datum_of, form_of, operation_of, source_of, value_of};
 ghost use Rattle.stmt65.specs.Code.Held.{held};
-ghost use Rattle.stmt65.specs.FaultLaws.{operation_values};
+ghost use Rattle.stmt65.specs.FaultLaws.{datum_values, operation_values};
 ghost use Rattle.stmt65.specs.Forms.{form_values};
 ghost use Rattle.stmt65.specs.Lexing.{parts};
-ghost use Rattle.stmt65.specs.LineAddresses.{line_addresses};
-ghost use Rattle.stmt65.specs.Meaning.{operation_in, readings};
+ghost use Rattle.stmt65.specs.Layout.{start_of};
 ghost use Rattle.stmt65.specs.Reading.{reading_of};
+ghost use Rattle.stmt65.specs.Sources.{source_addresses, source_definitions};
 ghost use Rattle.stmt65.specs.Symbols.{word_in};
-ghost use Rattle.as65.specs.Code.HalfViews.{IsUnknownFirst, piece_of};
-ghost use Rattle.as65.specs.Halves.{pieces};
-ghost use Rattle.as65.specs.Hint.{branch_hint, branch_hint_in, branch_target, code_of, distance_hint, first_unknown, first_word, has, hint, hint_in, is_code, lacks_colon, name_hint, name_hint_in, name_in, piece_values, too_far};
+ghost use Rattle.stmt65.specs.declared.language.Language.TheVariants.{Repair};
+ghost use Rattle.as65.specs.Hint.{address_after, after_blanks, after_label, alone, below_zero, branch_hint, branch_target, code_of, difference_hint, distance_hint, ends_string, first_difference, first_unknown, first_word, has, has_0x, has_inner_quote, has_unknown_operation, hint, hint_for, hint_in, is_code, lacks_colon, name_in, operation_hint, past_start, range_by, read_hint, reading_at, segment_by, too_far};
 
-use crate::differences::put_decimal;
-use crate::filled::zeroed;
-use crate::half_values::{half_line, operand_value};
-use crate::halves::{Piece, Pieces};
+use crate::differences::{put_address, put_decimal};
 use crate::origins::line_at;
 use isa65::{Cpu, Mode, OpcodeSet};
 use std::alloc::{AllocError, Global};
 use stmt65::{
-    AsmFault, AsmFaultKind, Definitions, Form, Operation, SourceLine, Value, line_addresses,
-    read_line,
+    AsmFault, AsmFaultKind, Datum, Definitions, Form, Language, Layout, Minus, Numeral, Operation,
+    Source, SourceLine, Value, line_addresses, read_line,
 };
-use text65::{has_name_form, is_reserved_word, is_word_byte};
+use text65::{has_name_form, is_blank, is_reserved_word, is_word_byte};
 
 /// How many bytes come before the comment of a line.
 fn code_len(line: &[u8]) -> usize
@@ -68,6 +65,95 @@ fn first_word(line: &[u8]) -> &[u8]
     &line[..len]
 }
 
+/// The line without the blanks at its beginning.
+fn after_blanks(line: &[u8]) -> &[u8]
+    ensures { result.now ≡ after_blanks line.now }
+{
+    let len = blank_len(line);
+    &line[len..]
+}
+
+/// How many blanks are at the beginning of a line.
+fn blank_len(line: &[u8]) -> usize
+    ensures value { result ≡ prefix_len is_blank line.now }
+    ensures fits { result ≤ length line.now }
+{
+    line.iter().take_while(|b| is_blank(**b)).count()
+}
+
+/// What comes after the first word and a colon; without a colon after that word the whole line.
+fn after_label(line: &[u8]) -> &[u8]
+    ensures { result.now ≡ after_label line.now }
+{
+    let len = word_len(line);
+    match line.get(len) {
+        Some(b':') => after_blanks(&line[len + 1..]),
+        _ => line,
+    }
+}
+
+/// Whether a line has a word that may be a name where an operation is wanted.
+#[tactic(auto, unfolding(crate::specs::Hint::has_unknown_operation))]
+fn has_unknown_operation(line: &[u8]) -> bool
+    ensures { result ≡ has_unknown_operation line.now }
+{
+    let word = first_word(after_label(after_blanks(line)));
+    has_name_form(word) && !is_reserved_word(word)
+}
+
+/// Whether a word begins as a hexadecimal number does in other languages.
+#[tactic(auto, unfolding(crate::specs::Hint::has_0x))]
+fn has_0x(line: &[u8]) -> bool
+    ensures { result ≡ has_0x false line.now }
+{
+    let mut inside = false;
+    let mut rest = line;
+    'bytes: while let Some((byte, later)) = rest.split_first() {
+        if !inside && *byte == b'0' && is_x(later) {
+            return true;
+        }
+        inside = is_word_byte(*byte);
+        rest = later;
+    }
+    false
+}
+
+fn is_x(bytes: &[u8]) -> bool
+    ensures { result ≡ (get_or bytes.now 0 0 == 120 || get_or bytes.now 0 0 == 88) }
+{
+    matches!(bytes.first(), Some(b'x' | b'X'))
+}
+
+/// Whether what comes after a string may do so.
+fn ends_string(bytes: &[u8]) -> bool
+    ensures { result ≡ ends_string bytes.now }
+{
+    match bytes.first() {
+        Some(byte) => is_blank(*byte) || matches!(*byte, b'\r' | b',' | b';'),
+        None => true,
+    }
+}
+
+/// Whether the quote at the end of a string has something else after it.
+#[tactic(auto, unfolding(crate::specs::Hint::has_inner_quote))]
+fn has_inner_quote(line: &[u8]) -> bool
+    ensures { result ≡ has_inner_quote false line.now }
+{
+    let mut inside = false;
+    let mut rest = line;
+    'bytes: while let Some((byte, later)) = rest.split_first() {
+        if *byte == b';' && !inside {
+            return false;
+        }
+        if *byte == b'"' && inside && !ends_string(later) {
+            return true;
+        }
+        inside = inside != (*byte == b'"');
+        rest = later;
+    }
+    false
+}
+
 /// Whether a line begins with a name, and has no colon.
 #[tactic(auto, unfolding(crate::specs::Hint::lacks_colon))]
 fn lacks_colon(line: &[u8]) -> bool
@@ -87,20 +173,37 @@ fn hint_in(line: &[u8]) -> &'static [u8]
     } else if has(b'\r', line) {
         b"a carriage return ends the line: lines end with a line feed"
     } else if has(b'\'', line) {
-        b"character constants (see ca65)"
+        b"a character is written 'A'"
     } else if has(b'%', line) {
-        b"binary numbers (see ca65)"
+        b"a binary number is written %1010"
     } else if has(b'*', line) {
         b"* and other expressions (see ca65)"
+    } else if has_0x(line) {
+        b"hexadecimal is $01, not 0x01"
+    } else if has(b'@', line) {
+        b"cheap locals (see ca65)"
     } else if has(b'=', line) {
         b"a constant is NAME := NUMBER"
     } else if has(b'.', line) {
         b"other directives and operands (see ca65)"
     } else if lacks_colon(line) {
         b"a label needs a colon"
+    } else if has_unknown_operation(line) {
+        b"no such operation"
     } else {
         b"not a line of a listing"
     }
+}
+
+/// The hint for a line. The code of one with a quote inside a string may end in that string, so the whole line is looked at.
+#[tactic(auto, unfolding(crate::specs::Hint::hint_for))]
+fn hint_for(line: &[u8]) -> &'static [u8]
+    ensures { result.now ≡ hint_for line.now }
+{
+    if has_inner_quote(line) {
+        return b"a quote inside a string is written $22";
+    }
+    hint_in(code_of(line))
 }
 
 fn owned(alloc: Global, bytes: &[u8]) -> Result<Vec<u8>, AllocError>
@@ -111,143 +214,133 @@ fn owned(alloc: Global, bytes: &[u8]) -> Result<Vec<u8>, AllocError>
     Ok(copy)
 }
 
-/// The name of an expression; empty if it is a number.
-fn name_in<'a>(value: Value<'a>) -> &'a [u8]
-    ensures { result.now ≡ name_in (value_of value.entry) }
+/// All names of a text.
+type Names<'t, 'l, 'n, 'b> = Definitions<'t, 'l, 'n, 'b, Global, Global>;
+
+fn alone(name: &[u8]) -> Value<'_>
+    ensures { value_of result ≡ alone name.now }
 {
-    match value {
-        Value::Number(_) => &[],
-        Value::Name(name, _, _) => name,
-    }
+    Value::Name(name, Numeral::zero(), Minus::Zero)
 }
 
-/// The name of the first expression whose name has no definition.
-#[tactic(auto, unfolding(crate::specs::Hint::first_unknown))]
-fn first_unknown<'a>(names: &Definitions<'_, '_, Global>, values: &[Value<'a>]) -> &'a [u8]
-    ensures { result.now ≡ first_unknown names.now (map value_of values.now) }
-{
-    'values: for value in values {
-        if !names.is_known(*value) {
-            return name_in(*value);
-        }
-    }
-    &[]
-}
+// ---- the expressions of a line
 
-#[tactic(auto, unfolding(crate::specs::Hint::first_unknown))]
-fn unknown_in_form<'a>(names: &Definitions<'_, '_, Global>, form: Form<'a>) -> &'a [u8]
-    ensures { result.now ≡ first_unknown names.now (form_values (form_of form.entry)) }
+fn form_values<'a>(alloc: Global, form: Form<'a>) -> Result<Vec<Value<'a>>, AllocError>
+    ensures { IfOk result (λ values. map value_of values.items ≡ form_values (form_of form.entry)) }
 {
+    let mut values = Vec::new(alloc);
     match form {
-        Form::Empty | Form::Accumulator => &[],
-        Form::Two(v, w) => first_unknown(names, &[v, w]),
+        Form::Empty | Form::Accumulator => {}
+        Form::Two(v, w) => {
+            values.push(v)?;
+            values.push(w)?;
+        }
         Form::Immediate(v)
+        | Form::ImmediateHalf(_, v)
         | Form::Direct(_, v)
         | Form::DirectX(_, v)
         | Form::DirectY(_, v)
         | Form::Indirect(v)
         | Form::IndirectX(v)
-        | Form::IndirectY(v) => first_unknown(names, &[v]),
+        | Form::IndirectY(v) => values.push(v)?,
     }
+    Ok(values)
 }
 
-#[tactic(auto, unfolding(crate::specs::Hint::first_unknown))]
-fn unknown_in<'a>(names: &Definitions<'_, '_, Global>, operation: &Operation<'a>) -> &'a [u8]
-    ensures { result.now ≡ first_unknown names.now (operation_values (operation_of operation.now)) }
+/// Appends the expression of an operand of `.byte`, if it is none but a number.
+fn put_datum<'a>(out: &mut Vec<Value<'a>>, datum: Datum<'a>) -> Result<(), AllocError>
+    ensures { OnOk result (map value_of out.new.items ≡ map value_of out.old.items ++ datum_values (datum_of datum.entry)) }
+{
+    match datum {
+        Datum::Value(value) | Datum::Half(_, value) => out.push(value)?,
+        Datum::Number(_) | Datum::String(_) => {}
+    }
+    Ok(())
+}
+
+fn data_values<'a>(alloc: Global, data: &[Datum<'a>]) -> Result<Vec<Value<'a>>, AllocError>
+    ensures { IfOk result (λ values. map value_of values.items ≡ flat_map datum_values (map datum_of data.now)) }
+{
+    let mut values = Vec::new(alloc);
+    'data: for datum in data {
+        put_datum(&mut values, *datum)?;
+    }
+    Ok(values)
+}
+
+fn copied<'a>(alloc: Global, given: &[Value<'a>]) -> Result<Vec<Value<'a>>, AllocError>
+    ensures { IfOk result (λ values. map value_of values.items ≡ map value_of given.now) }
+{
+    let mut values = Vec::new(alloc);
+    values.extend_from_slice(given)?;
+    Ok(values)
+}
+
+fn operation_values<'a>(
+    alloc: Global,
+    operation: &Operation<'a>,
+) -> Result<Vec<Value<'a>>, AllocError>
+    ensures { IfOk result (λ values. map value_of values.items ≡ operation_values (operation_of operation.now)) }
 {
     match operation {
-        Operation::Instr(_, form) => unknown_in_form(names, *form),
-        Operation::Values(_, values) => first_unknown(names, values.as_slice()),
-        _ => &[],
+        Operation::Instr(_, form) => form_values(alloc, *form),
+        Operation::Data(data) => data_values(alloc, data),
+        Operation::Values(_, values) => copied(alloc, values),
+        _ => Ok(Vec::new(alloc)),
     }
 }
 
-#[tactic(auto, unfolding(crate::specs::Hint::first_unknown))]
-fn unknown_in_line<'a>(names: &Definitions<'_, '_, Global>, source: &SourceLine<'a>) -> &'a [u8]
-    ensures { result.now ≡ first_unknown names.now (operation_values (operation_in (source_of source.now))) }
-{
-    match source {
-        SourceLine::Statement { operation, .. } => unknown_in(names, operation),
-        _ => &[],
-    }
-}
+// ---- a name that is undefined
 
-/// The name in a half, if it has no definition.
-#[tactic(auto, unfolding(crate::specs::Hint::first_unknown))]
-fn unknown_half(
-    alloc: Global,
-    names: &Definitions<'_, '_, Global>,
-    piece: Piece<'_>,
-) -> Result<Option<Vec<u8>>, AllocError>
-    ensures { IfOk result (IsUnknownFirst names.now (piece_values (piece_of piece.entry))) }
+/// A name of an expression that has no definition, if there is one, or else its last; empty if it is a number.
+fn name_in<'a>(names: &Names<'_, '_, '_, '_>, value: Value<'a>) -> &'a [u8]
+    ensures { result.now ≡ name_in names.now (value_of value.entry) }
 {
-    let Piece::Half(half) = piece else {
-        return Ok(None);
-    };
-    let line = half_line(alloc, &half)?;
-    let source = read_line(alloc, &line)?;
-    match operand_value(&half, &source) {
-        Some(value) if !names.is_known(value) => Ok(Some(owned(alloc, name_in(value))?)),
-        _ => Ok(None),
-    }
-}
-
-/// The first name in the halves of a line that has no definition.
-#[tactic(auto, unfolding(crate::specs::Hint::first_unknown))]
-fn unknown_in_halves(
-    alloc: Global,
-    names: &Definitions<'_, '_, Global>,
-    line: &[u8],
-) -> Result<Vec<u8>, AllocError>
-    ensures { IfOk result (λ name. name.items ≡ first_unknown names.now (flat_map piece_values (pieces line.now))) }
-{
-    let mut pieces = Pieces::new(line);
-    'pieces: while let Some(piece) = pieces.next() {
-        if let Some(name) = unknown_half(alloc, names, piece)? {
-            return Ok(name);
+    match value {
+        Value::Number(_) => &[],
+        Value::Name(name, _, _) => name,
+        Value::Difference(name, other) => {
+            if names.is_known(alone(name)) {
+                other
+            } else {
+                name
+            }
         }
     }
-    Ok(Vec::new(alloc))
 }
 
-/// The first name of a line that has no definition.
+/// The name of the first expression whose name has no definition.
+#[tactic(auto, unfolding(crate::specs::Hint::first_unknown))]
+fn first_unknown<'a>(names: &Names<'_, '_, '_, '_>, values: &[Value<'a>]) -> &'a [u8]
+    ensures { result.now ≡ first_unknown names.now (map value_of values.now) }
+{
+    'values: for value in values {
+        if !names.is_known(*value) {
+            return name_in(names, *value);
+        }
+    }
+    &[]
+}
+
+/// The first name of an operation that has no definition.
 fn name_hint(
     alloc: Global,
-    names: &Definitions<'_, '_, Global>,
-    line: &[u8],
+    names: &Names<'_, '_, '_, '_>,
+    operation: &Operation<'_>,
 ) -> Result<Vec<u8>, AllocError>
-    ensures { IfOk result (λ name. name.items ≡ name_hint names.now line.now (reading_of (parts line.now))) }
+    ensures { IfOk result (λ name. name.items ≡ first_unknown names.now (operation_values (operation_of operation.now))) }
 {
-    match read_line(alloc, line)? {
-        Some(source) => owned(alloc, unknown_in_line(names, &source)),
-        None => unknown_in_halves(alloc, names, line),
-    }
+    let values = operation_values(alloc, operation)?;
+    owned(alloc, first_unknown(names, &values))
 }
 
-/// The first name of the line of this number that has no definition.
-#[tactic(auto, unfolding(crate::specs::Filled::names_of))]
-fn name_hint_in(
-    alloc: Global,
-    text: &[u8],
-    start: u16,
-    number: usize,
-) -> Result<Vec<u8>, AllocError>
-    ensures { IfOk result (λ name. name.items ≡ name_hint_in number start text.now) }
-{
-    let zeros = zeroed(alloc, text)?;
-    let names = Definitions::new(&alloc, &zeros.text, start)?;
-    name_hint(alloc, &names, line_at(text, number))
-}
+// ---- a branch that goes too far
 
 /// Where a branch leads.
-fn branch_target<'a>(source: &SourceLine<'a>) -> Option<Value<'a>>
-    ensures { option_map value_of result ≡ branch_target (operation_in (source_of source.now)) }
+fn branch_target<'a>(operation: &Operation<'a>) -> Option<Value<'a>>
+    ensures { option_map value_of result ≡ branch_target (operation_of operation.now) }
 {
-    let SourceLine::Statement {
-        operation: Operation::Instr(mnemonic, form),
-        ..
-    } = source
-    else {
+    let Operation::Instr(mnemonic, form) = operation else {
         return None;
     };
     match form {
@@ -286,69 +379,196 @@ fn distance_hint(alloc: Global, next: u64, target: Option<u16>) -> Result<Vec<u8
     Ok(Vec::new(alloc))
 }
 
-/// The address of the target of the branch in a line.
-fn target_in(names: &Definitions<'_, '_, Global>, source: &SourceLine<'_>) -> Option<u16>
-    ensures { result ≡ option_and_then (word_in names.now) (branch_target (operation_in (source_of source.now))) }
+/// The address of the target of a branch.
+fn target_in(names: &Names<'_, '_, '_, '_>, operation: &Operation<'_>) -> Option<u16>
+    ensures { result ≡ option_and_then (word_in names.now) (branch_target (operation_of operation.now)) }
 {
-    match branch_target(source) {
+    match branch_target(operation) {
         Some(value) => names.word(value),
         None => None,
     }
 }
 
-/// The address after a line of a text.
-fn address_after(alloc: Global, text: &[u8], start: u16, number: usize) -> Result<u64, AllocError>
-    ensures { IfOk result (λ next. next ≡ unwrap_or (slice_get (map held (line_addresses start (readings text.now))) (number - 1)) 0) }
+fn branch_hint(
+    alloc: Global,
+    names: &Names<'_, '_, '_, '_>,
+    next: u64,
+    operation: &Operation<'_>,
+) -> Result<Vec<u8>, AllocError>
+    ensures { IfOk result (λ h. h.items ≡ branch_hint names.now next (operation_of operation.now)) }
 {
-    let ends = line_addresses(alloc, text, start)?;
+    distance_hint(alloc, next, target_in(names, operation))
+}
+
+// ---- a difference that is below 0
+
+/// How far the second of two addresses is past the first.
+fn below_zero(alloc: Global, one: Option<u16>, other: Option<u16>) -> Result<Vec<u8>, AllocError>
+    ensures { IfOk result (λ h. h.items ≡ below_zero one other) }
+{
+    match (one, other) {
+        (Some(one), Some(other)) if one < other => {
+            let mut out = owned(alloc, b"the difference is -")?;
+            put_decimal(&mut out, usize::from(other - one))?;
+            Ok(out)
+        }
+        _ => Ok(Vec::new(alloc)),
+    }
+}
+
+fn difference_hint(
+    alloc: Global,
+    names: &Names<'_, '_, '_, '_>,
+    value: Value<'_>,
+) -> Result<Vec<u8>, AllocError>
+    ensures { IfOk result (λ h. h.items ≡ difference_hint names.now (value_of value.entry)) }
+{
+    match value {
+        Value::Difference(name, other) => {
+            below_zero(alloc, names.word(alone(name)), names.word(alone(other)))
+        }
+        _ => Ok(Vec::new(alloc)),
+    }
+}
+
+/// That of the first expression that has one.
+#[tactic(auto, unfolding(crate::specs::Hint::first_difference))]
+fn first_difference(
+    alloc: Global,
+    names: &Names<'_, '_, '_, '_>,
+    values: &[Value<'_>],
+) -> Result<Vec<u8>, AllocError>
+    ensures { IfOk result (λ h. h.items ≡ first_difference names.now (map value_of values.now)) }
+{
+    'values: for value in values {
+        let hint = difference_hint(alloc, names, *value)?;
+        if !hint.is_empty() {
+            return Ok(hint);
+        }
+    }
+    Ok(Vec::new(alloc))
+}
+
+// ---- a value that has no room
+
+fn range_hint(
+    alloc: Global,
+    names: &Names<'_, '_, '_, '_>,
+    next: u64,
+    operation: &Operation<'_>,
+) -> Result<Vec<u8>, AllocError>
+    ensures { IfOk result (λ h. h.items ≡ range_by names.now next (operation_of operation.now)) }
+{
+    if matches!(operation, Operation::Reserve(_, _)) {
+        return owned(alloc, b"at most 65535 bytes, each from 0 to 255");
+    }
+    let branch = branch_hint(alloc, names, next, operation)?;
+    if !branch.is_empty() {
+        return Ok(branch);
+    }
+    let values = operation_values(alloc, operation)?;
+    first_difference(alloc, names, &values)
+}
+
+// ---- a segment that is entered past its start
+
+/// How many bytes the address is past the start.
+fn past_start(alloc: Global, at: u64, start: Option<u16>) -> Result<Vec<u8>, AllocError>
+    ensures { IfOk result (λ h. h.items ≡ past_start at start) }
+{
+    let mut out = Vec::new(alloc);
+    if let Some(start) = start {
+        let past = at.saturating_sub(u64::from(start));
+        put_decimal(&mut out, past as usize)?;
+        out.extend_from_slice(b" bytes past $")?;
+        put_address(&mut out, usize::from(start))?;
+    }
+    Ok(out)
+}
+
+fn segment_hint(
+    alloc: Global,
+    layout: &Layout<'_>,
+    at: u64,
+    operation: &Operation<'_>,
+) -> Result<Vec<u8>, AllocError>
+    ensures { IfOk result (λ h. h.items ≡ segment_by layout.now at (operation_of operation.now)) }
+{
+    match operation {
+        Operation::Segment(name) => past_start(alloc, at, layout.start_of(name)),
+        _ => Ok(Vec::new(alloc)),
+    }
+}
+
+// ---- a line with a fault of any kind
+
+/// The address after the line of this number.
+fn address_after(
+    alloc: Global,
+    source: &Source<'_, '_, '_>,
+    number: usize,
+) -> Result<u64, AllocError>
+    ensures { IfOk result (λ next. next ≡ address_after number source.now) }
+{
+    let ends = line_addresses(alloc, source)?;
     Ok(match ends.get(number.saturating_sub(1)) {
         Some(end) => *end,
         None => 0,
     })
 }
 
-/// How far the branch in a line would go, if it goes too far.
-#[tactic(auto, unfolding(crate::specs::Hint::branch_hint))]
-fn branch_hint(
+/// What the fault of an operation is about that stands in the line of this number.
+fn operation_hint(
     alloc: Global,
-    names: &Definitions<'_, '_, Global>,
-    next: u64,
-    line: &[u8],
+    fault: AsmFault,
+    source: &Source<'_, '_, '_>,
+    operation: &Operation<'_>,
 ) -> Result<Vec<u8>, AllocError>
-    ensures { IfOk result (λ h. h.items ≡ branch_hint names.now next (reading_of (parts line.now))) }
+    ensures { IfOk result (λ h. h.items ≡ operation_hint fault source.now (operation_of operation.now)) }
 {
-    match read_line(alloc, line)? {
-        Some(source) => distance_hint(alloc, next, target_in(names, &source)),
-        None => Ok(Vec::new(alloc)),
+    let names = Definitions::new(&alloc, source)?;
+    match fault.kind {
+        AsmFaultKind::Undefined => name_hint(alloc, &names, operation),
+        AsmFaultKind::OutOfRange => {
+            let next = address_after(alloc, source, fault.line)?;
+            range_hint(alloc, &names, next, operation)
+        }
+        AsmFaultKind::PastStart => {
+            let at = address_after(alloc, source, fault.line)?;
+            segment_hint(alloc, source.layout, at, operation)
+        }
+        _ => Ok(Vec::new(alloc)),
     }
 }
 
-/// How far the branch in the line of this number would go, if it goes too far.
-#[tactic(auto, unfolding(crate::specs::Filled::names_of))]
-fn branch_hint_in(
+/// The same of what the line says.
+fn read_hint(
     alloc: Global,
-    text: &[u8],
-    start: u16,
-    number: usize,
+    fault: AsmFault,
+    source: &Source<'_, '_, '_>,
 ) -> Result<Vec<u8>, AllocError>
-    ensures { IfOk result (λ h. h.items ≡ branch_hint_in number start text.now) }
+    ensures { IfOk result (λ h. h.items ≡ read_hint fault source.now (reading_at fault.line source.now.text.now)) }
 {
-    let zeros = zeroed(alloc, text)?;
-    let next = address_after(alloc, &zeros.text, start, number)?;
-    let names = Definitions::new(&alloc, &zeros.text, start)?;
-    branch_hint(alloc, &names, next, line_at(text, number))
+    match read_line(alloc, Language::Repair, line_at(source.text, fault.line))? {
+        Some(SourceLine::Statement { operation, .. }) => {
+            operation_hint(alloc, fault, source, &operation)
+        }
+        _ => Ok(Vec::new(alloc)),
+    }
 }
 
 /// What the fault of a line of a text is about; empty if the line itself says it.
 #[tactic(auto, unfolding(crate::specs::Hint::hint))]
-pub fn hint(alloc: Global, fault: AsmFault, text: &[u8], start: u16) -> Result<Vec<u8>, AllocError>
-    ensures { IfOk result (λ h. h.items ≡ hint fault start text.now) }
+pub fn hint(
+    alloc: Global,
+    fault: AsmFault,
+    source: &Source<'_, '_, '_>,
+) -> Result<Vec<u8>, AllocError>
+    ensures { IfOk result (λ h. h.items ≡ hint fault source.now) }
 {
     match fault.kind {
-        AsmFaultKind::Syntax => owned(alloc, hint_in(code_of(line_at(text, fault.line)))),
+        AsmFaultKind::Syntax => owned(alloc, hint_for(line_at(source.text, fault.line))),
         AsmFaultKind::UnknownCpu => owned(alloc, b"6502, 65SC02 or 65C02"),
-        AsmFaultKind::Undefined => name_hint_in(alloc, text, start, fault.line),
-        AsmFaultKind::OutOfRange => branch_hint_in(alloc, text, start, fault.line),
-        _ => Ok(Vec::new(alloc)),
+        _ => read_hint(alloc, fault, source),
     }
 }

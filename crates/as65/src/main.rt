@@ -1,7 +1,7 @@
 //! Assembles a listing: `as65 [options] [listing]`.
 //!
-//! In order: the options, then help or version, whether the output is an input, the information file, the image to compare with, the listing,
-//! its bytes, and the output, which is created only now. With `--compare` nothing is written but the differences from the
+//! In order: the options, then help or version, whether the output is an input, the information file and whether the output is its input, the
+//! image to compare with, the listing, its bytes, and the output, which is created only now. With `--compare` nothing is written but the differences from the
 //! image, on standard output. `status` has the statuses.
 #![tactic(auto)]
 
@@ -11,9 +11,6 @@ mod comparison;
 mod differences;
 mod failure;
 mod faulty_line;
-mod filled;
-mod half_values;
-mod halves;
 mod hint;
 mod image;
 mod information;
@@ -23,6 +20,7 @@ mod named_start;
 mod origins;
 mod request;
 mod same_file;
+mod segment_starts;
 mod status;
 mod stretches;
 
@@ -34,15 +32,17 @@ use files65::{Output, Placeholders};
 use image::image;
 use info65::Info;
 use information::{information, placed_at};
-use listing::listing;
+use listing::{listing, need_bytes};
 use map65::Image;
 use message::{say, say_named_start, say_start};
 use named_start::named_start;
-use request::{Comparing, Request, Writing, is_comparing, request_of};
-use same_file::keep_input;
+use request::{Comparing, Request, Writing, is_compared_by, is_comparing, request_of};
+use same_file::{keep_apart, keep_input, keep_source};
+use segment_starts::layout_of;
 use status::{Ended, status_of};
 use std::io::Write;
 use std::process::ExitCode;
+use stmt65::{Language, Layout, Source};
 use usage65::words_of;
 
 /// Writes a text about the program on standard output.
@@ -53,56 +53,79 @@ fn tell(rt: &HostRuntime, text: &[u8]) -> Result<Ended, Failure> {
     }
 }
 
-/// The start of a listing that is not compared.
-fn start_of(rt: &HostRuntime, info: Option<&str>, start: Option<u16>) -> Result<u16, Failure> {
-    let info = information(rt, info, start)?;
+/// The start of a listing that is not compared. Its output may not be the input of the information file.
+fn start_under(rt: &HostRuntime, writing: &Writing, info: &Info) -> Result<u16, Failure> {
+    keep_source(rt, writing.output.as_deref(), info.settings())?;
     placed_at(info.settings()).ok_or(Failure::NoStart)
 }
 
-/// Refuses an output that is an input.
+/// Refuses an output that is an input, and two inputs that are one stream.
 fn keep_inputs(rt: &HostRuntime, writing: &Writing) -> Result<(), Failure> {
     let output = writing.output.as_deref();
     if let Some(info) = writing.info.as_deref() {
         keep_input(rt, output, info)?;
+        keep_apart(rt, info, writing.listing.as_str())?;
     }
     keep_input(rt, output, writing.listing.as_str())
+}
+
+/// A text as people edit it, with segments that begin where the layout says.
+fn repair<'t, 'l, 'n>(layout: &'l Layout<'n>, start: u16, text: &'t [u8]) -> Source<'t, 'l, 'n> {
+    Source {
+        language: Language::Repair,
+        layout,
+        start,
+        text,
+    }
 }
 
 /// Writes the bytes of the listing of this name. The output is created once they are there.
 fn write_bytes(
     rt: &HostRuntime,
     name: &str,
-    text: &[u8],
-    start: u16,
+    source: &Source<'_, '_, '_>,
     output: Option<String>,
 ) -> Result<Ended, Failure> {
-    let assembled = Assembled::new(rt.alloc(), text, start, name)?;
+    let assembled = Assembled::new(rt.alloc(), source, name)?;
+    need_bytes(rt.alloc(), &assembled, name)?;
     let mut output = Output::create(rt, output)?;
     assembled.write(&mut output)?;
     Ok(Ended::Done)
 }
 
 /// Reads the listing, and writes its bytes.
-fn write_image(rt: &HostRuntime, writing: Writing) -> Result<Ended, Failure> {
-    keep_inputs(rt, &writing)?;
-    let start = start_of(rt, writing.info.as_deref(), writing.start)?;
+fn write_under(rt: &HostRuntime, writing: Writing, info: &Info) -> Result<Ended, Failure> {
+    let start = start_under(rt, &writing, info)?;
+    let layout = layout_of(rt.alloc(), info.segments(), writing.fill)?;
     let Writing {
         listing: name,
         output,
         ..
     } = writing;
     let text = listing(rt, name.as_str())?;
-    write_bytes(rt, name.as_str(), &text, start, output)
+    write_bytes(rt, name.as_str(), &repair(&layout, start, &text), output)
+}
+
+/// Reads what says where the image is, and writes it.
+fn write_image(rt: &HostRuntime, writing: Writing) -> Result<Ended, Failure> {
+    keep_inputs(rt, &writing)?;
+    let info = information(rt, writing.info.as_deref(), writing.start)?;
+    write_under(rt, writing, &info)
 }
 
 /// Says on standard error where an image is taken to begin whose start nobody gave, and what the names of the listing say of that.
-fn say_assumed(rt: &HostRuntime, name: &str, assembled: &Assembled<'_>) -> Result<(), Failure> {
-    let named = named_start(rt.alloc(), assembled.listing(), assembled.start())?;
-    say_start(rt, name, assembled.start());
-    if let Some(named) = &named {
-        say_named_start(rt, named);
+fn say_assumed(
+    rt: &HostRuntime,
+    name: &str,
+    image: &Image,
+    source: &Source<'_, '_, '_>,
+) -> Result<(), Failure> {
+    let named = named_start(rt.alloc(), source, image.bytes().len())?;
+    say_start(rt, name, image.start())?;
+    match &named {
+        Some(named) => say_named_start(rt, named),
+        None => Ok(()),
     }
-    Ok(())
 }
 
 /// Writes on standard output where the bytes of a listing differ from those of the image.
@@ -111,11 +134,13 @@ fn compare_text(
     comparing: &Comparing,
     image: &Image,
     is_assumed: bool,
-    text: &[u8],
+    source: &Source<'_, '_, '_>,
 ) -> Result<Ended, Failure> {
-    let assembled = Assembled::new(rt.alloc(), text, image.start(), comparing.listing.as_str())?;
+    let name = comparing.listing.as_str();
+    let assembled = Assembled::new(rt.alloc(), source, name)?;
+    need_bytes(rt.alloc(), &assembled, name)?;
     if is_assumed && image.bytes() != assembled.bytes() {
-        say_assumed(rt, comparing.image.as_str(), &assembled)?;
+        say_assumed(rt, comparing.image.as_str(), image, source)?;
     }
     compare(rt.alloc(), image, &assembled, &mut Output::standard(rt))
 }
@@ -123,21 +148,35 @@ fn compare_text(
 /// Reads the image and the listing, and compares them.
 fn compare_under(rt: &HostRuntime, comparing: &Comparing, info: &Info) -> Result<Ended, Failure> {
     let image = image(rt, comparing.image.as_str(), info)?;
+    let layout = layout_of(rt.alloc(), info.segments(), comparing.fill)?;
     let text = listing(rt, comparing.listing.as_str())?;
     compare_text(
         rt,
         comparing,
         &image,
         info.settings().start.is_none(),
-        &text,
+        &repair(&layout, image.start(), &text),
     )
 }
 
-/// Reads what says where the image is, and compares. The output is standard output.
+/// Refuses an output, which is standard output, that is an input, and two inputs that are one stream.
+fn keep_compared(rt: &HostRuntime, comparing: &Comparing) -> Result<(), Failure> {
+    let (image, listing) = (comparing.image.as_str(), comparing.listing.as_str());
+    keep_input(rt, None, image)?;
+    keep_input(rt, None, listing)?;
+    if let Some(info) = comparing.info.as_deref() {
+        keep_input(rt, None, info)?;
+        keep_apart(rt, info, image)?;
+        keep_apart(rt, info, listing)?;
+    }
+    keep_apart(rt, image, listing)
+}
+
+/// Reads what says where the image is, and compares.
 fn compare_with(rt: &HostRuntime, comparing: &Comparing) -> Result<Ended, Failure> {
-    keep_input(rt, None, comparing.image.as_str())?;
-    keep_input(rt, None, comparing.listing.as_str())?;
+    keep_compared(rt, comparing)?;
     let info = information(rt, comparing.info.as_deref(), comparing.start)?;
+    keep_source(rt, None, info.settings())?;
     compare_under(rt, comparing, &info)
 }
 
@@ -171,6 +210,6 @@ fn end(rt: &HostRuntime, is_comparing: bool, outcome: Result<Ended, Failure>) ->
 fn main(rt: HostRuntime) -> ExitCode {
     match words_of(&rt) {
         Ok(words) => end(&rt, is_comparing(&words), program(&rt, &words)),
-        Err(fault) => end(&rt, false, Err(Failure::from(fault))),
+        Err(fault) => end(&rt, is_compared_by(&rt), Err(Failure::from(fault))),
     }
 }

@@ -1,15 +1,14 @@
 //! The start that the names of a listing speak for: da65 calls an address `LXXXX` that has no name.
 
-ghost use Rattle.std.specs.Prelude.{◌≡◌, ◌<◌, ◌==◌, ◌++◌, IfOk, IfSome, OnOk, count_by, option_map, option_to_list};
-ghost use Rattle.stmt65.specs.LineAddresses.{line_addresses};
+ghost use Rattle.std.specs.Prelude.{◌≡◌, ◌<◌, ◌≤◌, ◌++◌, IfOk, IfSome, OnOk, count_by, option_map, option_to_list};
 ghost use Rattle.stmt65.specs.Lexing.{parts};
-ghost use Rattle.stmt65.specs.Meaning.{meaning, readings};
+ghost use Rattle.stmt65.specs.Sources.{source_meaning, source_readings};
 ghost use Rattle.stmt65.specs.Reading.{reading_of};
-ghost use Rattle.as65.specs.NamedStart.{address_in_name, digit, first_of, moved, named_start, start_in_line, starts_in};
+ghost use Rattle.as65.specs.NamedStart.{address_in_name, digit, first_of, is_start, moved, named_start, start_for, start_in_line, starts_in};
 ghost use Rattle.as65.specs.Code.NamedStarts.{named_start_of};
 
 use std::alloc::{AllocError, Global};
-use stmt65::{SourceLine, line_addresses, read_line};
+use stmt65::{Source, SourceLine, line_addresses, read_line};
 use text65::first_line;
 
 /// A start, and how many labels `LXXXX` would be at $XXXX from there.
@@ -52,11 +51,11 @@ fn address_in_name(name: &[u8]) -> Option<u64>
 }
 
 /// The start from which what is at `at` would be at an address.
-fn moved(start: u16, at: u64, address: Option<u64>) -> Option<u16>
-    requires low { IfSome address (λ a. a < 65536) }
+fn moved(start: u16, at: u64, address: u64) -> Option<u16>
+    requires low { address < 65536 }
     ensures { result ≡ moved start at address }
 {
-    let there = u64::from(start) + address?;
+    let there = u64::from(start) + address;
     if at <= there && there - at < 65536 {
         Some((there - at) as u16)
     } else {
@@ -64,24 +63,39 @@ fn moved(start: u16, at: u64, address: Option<u64>) -> Option<u16>
     }
 }
 
-/// The start from which the label of a line would be at the address in its name. The line is at `at`.
-#[tactic(auto, unfolding(crate::specs::NamedStart::start_in_line))]
-fn start_in_line(alloc: Global, start: u16, at: u64, line: &[u8]) -> Result<Option<u16>, AllocError>
-    ensures { IfOk result (λ found. found ≡ start_in_line start at (reading_of (parts line.now))) }
+/// Of an address in a label's name, the start from which the label would be there, if there is one. The label is at `at`.
+fn start_for(start: u16, at: u64, name: &[u8]) -> Option<Option<u16>>
+    ensures { result ≡ start_for start at (address_in_name name.now) }
 {
-    match read_line(alloc, line)? {
+    match address_in_name(name) {
+        Some(address) => Some(moved(start, at, address)),
+        None => None,
+    }
+}
+
+/// The same of the label of a line at `at`, if it has a name of that form.
+#[tactic(auto, unfolding(crate::specs::NamedStart::start_in_line))]
+fn start_in_line(
+    alloc: Global,
+    source: &Source<'_, '_, '_>,
+    at: u64,
+    line: &[u8],
+) -> Result<Option<Option<u16>>, AllocError>
+    ensures { IfOk result (λ found. found ≡ start_in_line source.now.start at (reading_of source.now.language (parts source.now.language line.now))) }
+{
+    match read_line(alloc, source.language, line)? {
         Some(
             SourceLine::Statement {
                 label: Some(name),
                 ..
             },
-        ) => Ok(moved(start, at, address_in_name(name))),
+        ) => Ok(start_for(source.start, at, name)),
         _ => Ok(None),
     }
 }
 
-/// Appends a start, if there is one.
-fn put_start(out: &mut Vec<u16>, start: Option<u16>) -> Result<(), AllocError>
+/// Appends what a label speaks for, if it has a name of that form.
+fn put_start(out: &mut Vec<Option<u16>>, start: Option<Option<u16>>) -> Result<(), AllocError>
     ensures { OnOk result (out.new.items ≡ out.old.items ++ option_to_list start) }
 {
     if let Some(start) = start {
@@ -92,18 +106,22 @@ fn put_start(out: &mut Vec<u16>, start: Option<u16>) -> Result<(), AllocError>
 
 /// The starts for which the labels of a text speak, by the address after each of its lines.
 #[tactic(auto, unfolding(crate::specs::NamedStart::starts_in))]
-fn starts_in(alloc: Global, start: u16, text: &[u8], ends: &[u64]) -> Result<Vec<u16>, AllocError>
-    ensures { IfOk result (λ found. found.items ≡ starts_in start start (readings text.now) ends.now) }
+fn starts_in(
+    alloc: Global,
+    source: &Source<'_, '_, '_>,
+    ends: &[u64],
+) -> Result<Vec<Option<u16>>, AllocError>
+    ensures { IfOk result (λ found. found.items ≡ starts_in source.now.start source.now.start (source_readings source.now) ends.now) }
 {
     let mut found = Vec::new(alloc);
-    let mut at = u64::from(start);
-    let mut rest = text;
+    let mut at = u64::from(source.start);
+    let mut rest = source.text;
     let mut left = ends;
     'lines: while let Some((line, after)) = first_line(rest) {
         let Some((end, later)) = left.split_first() else {
             return Ok(found);
         };
-        put_start(&mut found, start_in_line(alloc, start, at, line)?)?;
+        put_start(&mut found, start_in_line(alloc, source, at, line)?)?;
         at = *end;
         rest = after;
         left = later;
@@ -112,37 +130,54 @@ fn starts_in(alloc: Global, start: u16, text: &[u8], ends: &[u64]) -> Result<Vec
 }
 
 /// How many starts are this one.
-fn count_of(starts: &[u16], start: u16) -> usize
-    ensures { result ≡ count_by (λ other. other == start) starts.now }
+fn count_of(starts: &[Option<u16>], start: u16) -> usize
+    ensures { result ≡ count_by (is_start start) starts.now }
 {
     let mut count = 0;
     'starts: for other in starts {
-        if *other == start {
+        if is_start(start, *other) {
             count += 1;
         }
     }
     count
 }
 
-/// The first start, unless it is the one that was taken.
-fn first_of(start: u16, starts: &[u16]) -> Option<NamedStart>
-    ensures { option_map named_start_of result ≡ first_of start starts.now }
+fn is_start(start: u16, other: Option<u16>) -> bool
+    ensures { result ≡ is_start start other }
+{
+    match other {
+        Some(other) => other == start,
+        None => false,
+    }
+}
+
+/// The first start, unless it is the one that was taken or bytes of this size have no room there.
+fn first_of(start: u16, size: usize, starts: &[Option<u16>]) -> Option<NamedStart>
+    requires { size ≤ 65536 }
+    ensures { option_map named_start_of result ≡ first_of start size starts.now }
 {
     match starts.first() {
-        Some(first) if *first != start => Some(NamedStart {
-            start: *first,
-            labels: count_of(starts, *first),
-        }),
+        Some(Some(first)) if *first != start && usize::from(*first) + size <= 65536 => {
+            Some(NamedStart {
+                start: *first,
+                labels: count_of(starts, *first),
+            })
+        }
         _ => None,
     }
 }
 
 /// The start from which the first label `LXXXX` of a text that assembles would be at $XXXX, and how many such labels would. None if it is
-/// there already.
-pub fn named_start(alloc: Global, text: &[u8], start: u16) -> Result<Option<NamedStart>, AllocError>
-    ensures { IfOk (meaning start text.now) (λ _. IfOk result (λ found. option_map named_start_of found ≡ named_start start text.now)) }
+/// there already, if it would be there from no start, or if an image of this size has no room from there on.
+pub fn named_start(
+    alloc: Global,
+    source: &Source<'_, '_, '_>,
+    size: usize,
+) -> Result<Option<NamedStart>, AllocError>
+    requires { size ≤ 65536 }
+    ensures { IfOk (source_meaning source.now) (λ _. IfOk result (λ found. option_map named_start_of found ≡ named_start source.now size)) }
 {
-    let ends = line_addresses(alloc, text, start)?;
-    let starts = starts_in(alloc, start, text, &ends)?;
-    Ok(first_of(start, &starts))
+    let ends = line_addresses(alloc, source)?;
+    let starts = starts_in(alloc, source, &ends)?;
+    Ok(first_of(source.start, size, &starts))
 }

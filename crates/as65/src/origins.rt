@@ -3,13 +3,15 @@
 ghost use Rattle.std.specs.Prelude.{◌≡◌, ◌+◌, ◌≤◌, [], drop, get_or, length, nat_le};
 ghost use Rattle.std.specs.List.{prefix_len};
 ghost use Rattle.text65.specs.Lines.{text_lines};
+ghost use Rattle.as65.specs.Differences.{trimmed};
 ghost use Rattle.as65.specs.Origins.{Moves};
 ghost use Rattle.as65.specs.Hint.{line_at};
 
+use crate::differences::trimmed;
 use std::marker::Model;
 use text65::first_line;
 
-/// A line of a listing, and its number, from 1.
+/// A line of a listing without the blanks around it, and its number, from 1.
 #[derive(Clone, Copy)]
 pub struct Origin<'a> {
     pub number: usize,
@@ -22,20 +24,22 @@ pub struct Origins<'a> {
     /// The text from the first line on that was not passed over, and the address after each of its lines.
     rest: &'a [u8],
     ends: &'a [u64],
+    /// The first of these lines as it is shown. It is kept, since many stretches may lie in one long line.
+    first: &'a [u8],
     /// How many lines were passed over.
     passed: usize,
 }
 
 impl<'a> Model for Origins<'a> {
-    ghost use Rattle.std.specs.Prelude.{◌<◌, ◌+◌, ◌^◌, length};
     ghost use Rattle.text65.specs.Lines.{text_lines};
+    ghost use Rattle.as65.specs.Code.Passing.{IsAtLine};
     ghost use Rattle.as65.specs.Origins.{OriginsView};
 
     ghost Value = { OriginsView };
 
     ghost view = { λ o. record { lines = text_lines o.rest.now; ends = o.ends.now; passed = o.passed } };
 
-    ghost invariant = { λ o. o.passed + length o.ends.now < 2 ^ 63 };
+    ghost invariant = { λ o. IsAtLine (text_lines o.rest.now) o.ends.now o.first.now o.passed };
 }
 
 /// The text after this many lines.
@@ -54,14 +58,21 @@ fn after_lines(text: &[u8], count: usize) -> &[u8]
     rest
 }
 
+/// The first line of a text; empty if there is none.
+fn first_of(text: &[u8]) -> &[u8]
+    ensures { result.now ≡ get_or (text_lines text.now) 0 [] }
+{
+    match first_line(text) {
+        Some((line, _)) => line,
+        None => &[],
+    }
+}
+
 /// The line of this number, from 1; empty if there is none.
 pub(crate) fn line_at(text: &[u8], number: usize) -> &[u8]
     ensures { result.now ≡ line_at number text.now }
 {
-    match first_line(after_lines(text, number.saturating_sub(1))) {
-        Some((line, _)) => line,
-        None => &[],
-    }
+    first_of(after_lines(text, number.saturating_sub(1)))
 }
 
 /// How many addresses come before the first that is greater than this one.
@@ -80,6 +91,7 @@ impl<'a> Origins<'a> {
         Origins {
             rest: text,
             ends,
+            first: trimmed(first_of(text)),
             passed: 0,
         }
     }
@@ -88,19 +100,28 @@ impl<'a> Origins<'a> {
     pub fn of_byte(&mut self, address: u64) -> Origin<'a>
         ensures moves { Moves address self.old self.new }
         ensures number { result.number ≡ self.new.passed + 1 }
-        ensures line { result.line.now ≡ get_or self.new.lines 0 [] }
+        ensures line { result.line.now ≡ trimmed (get_or self.new.lines 0 []) }
     {
         let count = count_up_to(self.ends, address);
-        self.ends = &self.ends[count..];
-        self.rest = after_lines(self.rest, count);
-        self.passed += count;
-        let line = match first_line(self.rest) {
-            Some((line, _)) => line,
-            None => &[],
-        };
+        if 0 < count {
+            self.pass(count);
+        }
         Origin {
             number: self.passed + 1,
-            line,
+            line: self.first,
         }
+    }
+
+    /// Passes over this many lines.
+    fn pass(&mut self, count: usize)
+        requires { count ≤ length self.old.ends }
+        ensures passed { self.new.passed ≡ self.old.passed + count }
+        ensures ends { self.new.ends ≡ drop count self.old.ends }
+        ensures lines { self.new.lines ≡ drop count self.old.lines }
+    {
+        self.ends = &self.ends[count..];
+        self.rest = after_lines(self.rest, count);
+        self.first = trimmed(first_of(self.rest));
+        self.passed += count;
     }
 }

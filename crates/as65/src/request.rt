@@ -3,16 +3,21 @@
 ghost use Rattle.std.specs.Prelude.{◌≡◌, map, option_map};
 ghost use Rattle.std.specs.String.{string_bytes};
 ghost use Rattle.clap.specs.Words.{found_of, rows_of};
-ghost use Rattle.as65.specs.Request.{Gives, asked, asked_in, asked_of, input_named, is_compare_word, is_comparing, is_info, is_taken, output_named, to_compare, to_write, to_write_into};
+ghost use Rattle.as65.specs.Code.Requests.{given_of};
+ghost use Rattle.as65.specs.Request.{Gives, asked, asked_in, asked_of, info_named, input_named, is_compare_word, is_comparing, is_name, is_taken, output_named, to_compare, to_write, to_write_into};
 
 use crate::command::this_program;
 use crate::failure::Failure;
 use clap::ArgMatches;
 use std::alloc::Global;
-use usage65::{UsageFault, address_of, is_set, owned, text_of};
+use std::env::{Env, FillError};
+use usage65::{UsageFault, address_of, byte_of, is_set, owned, text_of};
 
 /// What a listing without a name is read from.
 const STANDARD_INPUT: &str = "/dev/stdin";
+
+/// The length of `--compare=`, which is the longest that is looked for in a word.
+const LONGEST: usize = 10;
 
 /// What a command line asks for.
 #[derive(Drop)]
@@ -30,6 +35,8 @@ pub struct Writing {
     pub info: Option<String>,
     /// The address of the first byte; without one the information file says where it is.
     pub start: Option<u16>,
+    /// The byte between segments that begin at their START; without one the segments move nothing.
+    pub fill: Option<u8>,
     /// The file that they are written to; without one standard output.
     pub output: Option<String>,
 }
@@ -41,7 +48,17 @@ pub struct Comparing {
     pub info: Option<String>,
     /// The start of both; without one it is that of the information file, or the image ends at $FFFF.
     pub start: Option<u16>,
+    pub fill: Option<u8>,
     pub image: String,
+}
+
+/// What is given for both: the listing, and what says where its bytes belong.
+#[derive(Clone, Copy)]
+struct Given<'a> {
+    listing: &'a str,
+    info: Option<&'a str>,
+    start: Option<u16>,
+    fill: Option<u8>,
 }
 
 /// Whether a comparison is asked for, however well: trouble then has a status of its own.
@@ -52,13 +69,34 @@ pub fn is_comparing(words: &[String]) -> bool
         .iter()
         .skip(1)
         .take_while(|word| word.as_str() != "--")
-        .any(|word| is_compare_word(word))
+        .any(|word| is_compare_word(word.as_str().as_bytes()))
 }
 
-fn is_compare_word(word: &String) -> bool
+fn is_compare_word(word: &[u8]) -> bool
     ensures { result ≡ is_compare_word word.now }
 {
-    word.as_str() == "--compare" || word.as_str().as_bytes().starts_with(b"--compare=")
+    word == b"--compare".as_slice() || word.starts_with(b"--compare=")
+}
+
+/// The same by the words of the process, of which only the first bytes are looked at, so that it takes no memory. No contract can say
+/// what these words are.
+pub fn is_compared_by<E: Env>(process: &E) -> bool {
+    let mut word = [0u8; LONGEST];
+    for at in 1..usize::MAX {
+        let len = match process.arg(at, &mut word) {
+            Ok(len) => len,
+            // Its first bytes are there.
+            Err(FillError::TooLong) => LONGEST,
+            Err(FillError::NotPresent) => return false,
+        };
+        if &word[..len] == b"--".as_slice() {
+            return false;
+        }
+        if is_compare_word(&word[..len]) {
+            return true;
+        }
+    }
+    false
 }
 
 /// What the words ask for. The first word is the program's name.
@@ -86,22 +124,29 @@ fn request_in(alloc: Global, matches: &ArgMatches) -> Result<Request, Failure>
         return Ok(Request::Version);
     }
     let start = address_of(matches, "start")?;
-    let info = text_of(matches, "info");
+    let fill = byte_of(matches, "fill")?;
+    let info = info_named(text_of(matches, "info"));
     let listing = input_named(text_of(matches, "listing"));
+    let given = Given {
+        listing,
+        info,
+        start,
+        fill,
+    };
     let output = output_named(text_of(matches, "output"));
     match text_of(matches, "compare") {
         Some(_) if output.is_some() => Err(Failure::Usage(UsageFault::Words)),
-        Some(image) => to_compare(alloc, listing, info, start, input_named(Some(image))),
-        None => to_write(alloc, listing, info, start, output),
+        Some(image) => to_compare(alloc, given, input_named(Some(image))),
+        None => to_write(alloc, given, output),
     }
 }
 
-/// Whether a name is that of the information file.
-fn is_info(info: Option<&str>, name: &str) -> bool
-    ensures { result ≡ is_info (option_map (λ s. s.now) info.entry) name.now }
+/// Whether this is the name of the information file or of the output, if there is one.
+pub fn is_name(given: Option<&str>, name: &str) -> bool
+    ensures { result ≡ is_name (option_map (λ s. s.now) given.entry) name.now }
 {
-    match info {
-        Some(info) => info == name,
+    match given {
+        Some(given) => given == name,
         None => false,
     }
 }
@@ -110,42 +155,36 @@ fn is_info(info: Option<&str>, name: &str) -> bool
 fn is_taken(info: Option<&str>, name: &str) -> bool
     ensures { result ≡ is_taken (option_map (λ s. s.now) info.entry) name.now }
 {
-    name == STANDARD_INPUT && is_info(info, STANDARD_INPUT)
+    name == STANDARD_INPUT && is_name(info, STANDARD_INPUT)
 }
 
 /// The bytes of a listing are to be written: there is a start, or an information file that may have one.
 #[tactic(auto, unfolding(crate::specs::Request::to_write))]
-fn to_write(
-    alloc: Global,
-    listing: &str,
-    info: Option<&str>,
-    start: Option<u16>,
-    output: Option<&str>,
-) -> Result<Request, Failure>
-    ensures { Gives asked_of result (to_write listing.now (option_map (λ s. s.now) info.entry) start (option_map (λ s. s.now) output.entry)) }
+fn to_write(alloc: Global, given: Given<'_>, output: Option<&str>) -> Result<Request, Failure>
+    ensures { Gives asked_of result (to_write (given_of given.entry) (option_map (λ s. s.now) output.entry)) }
 {
-    if !(start.is_some() || info.is_some()) {
+    if !(given.start.is_some() || given.info.is_some()) {
         return Err(Failure::NoStart);
     }
-    if is_taken(info, listing) {
+    if is_taken(given.info, given.listing) {
         return Err(Failure::StandardTwice);
     }
-    to_write_into(alloc, listing, info, start, output)
+    to_write_into(alloc, given, output)
 }
 
 /// The output is none of the inputs.
 #[tactic(auto, unfolding(crate::specs::Request::to_write_into))]
-fn to_write_into(
-    alloc: Global,
-    listing: &str,
-    info: Option<&str>,
-    start: Option<u16>,
-    output: Option<&str>,
-) -> Result<Request, Failure>
-    ensures { Gives asked_of result (to_write_into listing.now (option_map (λ s. s.now) info.entry) start (option_map (λ s. s.now) output.entry)) }
+fn to_write_into(alloc: Global, given: Given<'_>, output: Option<&str>) -> Result<Request, Failure>
+    ensures { Gives asked_of result (to_write_into (given_of given.entry) (option_map (λ s. s.now) output.entry)) }
 {
+    let Given {
+        listing,
+        info,
+        start,
+        fill,
+    } = given;
     if let Some(name) = output {
-        if name == listing || is_info(info, name) {
+        if name == listing || is_name(info, name) {
             return Err(Failure::OutputIsInput(String::from_str(alloc, name)?));
         }
     }
@@ -156,21 +195,22 @@ fn to_write_into(
         listing,
         info,
         start,
+        fill,
         output,
     }))
 }
 
 /// A listing is to be compared with an image. Standard input can be only one of the inputs.
 #[tactic(auto, unfolding(crate::specs::Request::to_compare))]
-fn to_compare(
-    alloc: Global,
-    listing: &str,
-    info: Option<&str>,
-    start: Option<u16>,
-    image: &str,
-) -> Result<Request, Failure>
-    ensures { Gives asked_of result (to_compare listing.now (option_map (λ s. s.now) info.entry) start image.now) }
+fn to_compare(alloc: Global, given: Given<'_>, image: &str) -> Result<Request, Failure>
+    ensures { Gives asked_of result (to_compare (given_of given.entry) image.now) }
 {
+    let Given {
+        listing,
+        info,
+        start,
+        fill,
+    } = given;
     if listing == STANDARD_INPUT && image == STANDARD_INPUT {
         return Err(Failure::StandardTwice);
     }
@@ -184,6 +224,7 @@ fn to_compare(
         listing,
         info,
         start,
+        fill,
         image,
     }))
 }
@@ -195,6 +236,16 @@ fn input_named(name: Option<&str>) -> &str
     match name {
         Some(name) if name != "-" => name,
         _ => STANDARD_INPUT,
+    }
+}
+
+/// The name of the information file, if there is one.
+fn info_named(name: Option<&str>) -> Option<&str>
+    ensures { option_map (λ s. s.now) result ≡ info_named (option_map (λ s. s.now) name.entry) }
+{
+    match name {
+        Some(_) => Some(input_named(name)),
+        None => None,
     }
 }
 

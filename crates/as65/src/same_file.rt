@@ -1,18 +1,31 @@
-//! Whether an output is an input.
+//! Whether files are one: an output that is an input, and a stream that two inputs would be read from.
 
 use crate::failure::Failure;
-use std::fs::metadata;
+use crate::request::is_name;
+use info65::Settings;
+use std::fs::{Metadata, metadata};
 use std::os::unix::fs::MetadataExt;
 
 /// What standard output is called.
 const STANDARD_OUTPUT: &str = "/dev/stdout";
 
+/// Whether both are the same for the system.
+fn are_one(one: &Metadata, other: &Metadata) -> bool {
+    one.dev() == other.dev() && one.ino() == other.ino()
+}
+
 /// Whether two names are of one file, through links too. A terminal or a pipe can be both an input and an output.
 fn are_one_file(rt: &HostRuntime, one: &str, other: &str) -> bool {
     match (metadata(rt, one), metadata(rt, other)) {
-        (Ok(one), Ok(other)) => {
-            one.is_file() && one.dev() == other.dev() && one.ino() == other.ino()
-        }
+        (Ok(one), Ok(other)) => one.is_file() && are_one(&one, &other),
+        _ => false,
+    }
+}
+
+/// Whether two names are of one pipe, terminal or the like, whose bytes are read only once.
+fn are_one_stream(rt: &HostRuntime, one: &str, other: &str) -> bool {
+    match (metadata(rt, one), metadata(rt, other)) {
+        (Ok(one), Ok(other)) => !one.is_file() && !one.is_dir() && are_one(&one, &other),
         _ => false,
     }
 }
@@ -22,6 +35,29 @@ pub fn keep_input(rt: &HostRuntime, output: Option<&str>, input: &str) -> Result
     if are_one_file(rt, output.unwrap_or(STANDARD_OUTPUT), input) {
         let name = output.unwrap_or(input);
         return Err(Failure::OutputIsInput(String::from_str(rt.alloc(), name)?));
+    }
+    Ok(())
+}
+
+/// Refuses an output that is the input of an information file, whether it is there or not.
+pub fn keep_source(
+    rt: &HostRuntime,
+    output: Option<&str>,
+    settings: &Settings,
+) -> Result<(), Failure> {
+    let Some(source) = settings.input.as_deref() else {
+        return Ok(());
+    };
+    if is_name(output, source) {
+        return Err(Failure::OutputIsInput(String::from_str(rt.alloc(), source)?));
+    }
+    keep_input(rt, output, source)
+}
+
+/// Refuses two inputs that are one stream: the second would be empty.
+pub fn keep_apart(rt: &HostRuntime, one: &str, other: &str) -> Result<(), Failure> {
+    if are_one_stream(rt, one, other) {
+        return Err(Failure::StreamTwice(String::from_str(rt.alloc(), one)?));
     }
     Ok(())
 }

@@ -16,8 +16,9 @@ use Rattle.stmt65.specs.SourceLine.{Instr, NameValue, SourceLine}
 use Rattle.stmt65.specs.declared.source_line.Minus.TheVariants.{One}
 use Rattle.stmt65.specs.Printed.{source_value, source_form, source_line, with_label}
 use Rattle.stmt65.specs.Symbols.{Definition, value_in}
-use Rattle.stmt65.specs.Coding.{Fragment, Fixed, Single, ZeroPage, word_operand, Distance, coding, distance, is_near}
-use Rattle.stmt65.specs.Meaning.{State, fault_of, bytes_of, after, final, initial, meaning, meaning_of}
+use Rattle.stmt65.specs.Layout.{free}
+use Rattle.stmt65.specs.Coding.{State, Fragment, Fixed, Single, ZeroPage, word_operand, Distance, coding, distance, is_near}
+use Rattle.stmt65.specs.Meaning.{fault_of, bytes_of, after, final, initial, meaning, meaning_of}
 use Rattle.info65.specs.Names as given
 use Rattle.info65.specs.Segments.{AreSegments}
 use Rattle.info65.specs.declared.information.range.RangeType.{RangeType}
@@ -56,7 +57,7 @@ NamesAreSound = (m : MapView) → IsPlaced m.image → AreBytes m.image.bytes �
 abbrev pub NamesAreDefinedOnce : Type 0
 NamesAreDefinedOnce = (m : MapView) (b : ℕ) → IsPlaced m.image → AreBytes m.image.bytes → given.AreNames m.info.names → skips m ≡ false
     → is_base (names_of m) b ≡ true
-    → definitions_of (base_name (names_of m) b) (final (initial m.image.start) (readings_of m)).above ≡ definition_of (names_of m) b ∷ []
+    → definitions_of (base_name (names_of m) b) (final (initial free m.image.start) (readings_of m)).above ≡ definition_of (names_of m) b ∷ []
 
 -- ---- expressions
 
@@ -93,10 +94,10 @@ abbrev pub fragments_in : Mode → OperandsView → List Fragment
 fragments_in m os = row_fragments (row_of m) os
 
 -- written with `a:` or without, the instruction is coded by an opcode of its own mnemonic and mode, with the fragments of that mode
-pub record CodesInMode (cpu : Cpu) (above : List Definition) (op : Op) (absolute : Bool) (os : OperandsView) : Type 0 where
+pub record CodesInMode (s : State) (op : Op) (absolute : Bool) (os : OperandsView) : Type 0 where
   pub opcode : ℕ
-  pub is_opcode : encoded (table_of cpu) op.mnemonic op.mode ≡ Some opcode
-  pub coded : coding cpu above (Instr op.mnemonic (source_form op.mode absolute os)) ≡ Some (Fixed opcode ∷ fragments_in op.mode os)
+  pub is_opcode : encoded (table_of s.cpu) op.mnemonic op.mode ≡ Some opcode
+  pub coded : coding s (Instr op.mnemonic (source_form op.mode absolute os)) ≡ Some (Fixed opcode ∷ fragments_in op.mode os)
 
 -- bytes that begin with an instruction whose operands can be written
 pub record IsWritten (m : Names) (t : Table) (a : ℕ) (bytes : List ℕ) (op : Op) (os : OperandsView) : Type 0 where
@@ -116,8 +117,8 @@ UnwrittenIsBytes = (m : Names) (t : Table) (a : ℕ) (bytes : List ℕ) → AreB
 
 -- Each instruction is coded in the mode that it was decoded from, below the constant lines: zero page or absolute is chosen back.
 abbrev pub ModeIsChosenBack : Type 0
-ModeIsChosenBack = (image : ImageView) (m : Names) (p : ℕ → Bool) (cpu : Cpu) (above : List Definition) (a : ℕ) (bytes : List ℕ) (op : Op) (os : OperandsView)
-    → AreSound image m → KnowsConstants m p above → IsWritten m (table_of cpu) a bytes op os → CodesInMode cpu above op (is_forced (table_of cpu) op bytes) os
+ModeIsChosenBack = (image : ImageView) (m : Names) (p : ℕ → Bool) (s : State) (a : ℕ) (bytes : List ℕ) (op : Op) (os : OperandsView)
+    → AreSound image m → KnowsConstants m p s.above → IsWritten m (table_of s.cpu) a bytes op os → CodesInMode s op (is_forced (table_of s.cpu) op bytes) os
 
 -- an address without a name, or with one whose base a constant line defines: an assembler knows whether it lies in the zero page
 abbrev pub HasKnownSize : Names → ℕ → Type 0
@@ -126,9 +127,9 @@ HasKnownSize m a = (b : Base) → m.base_at a ≡ Some b → m.has_constant b.ad
 -- `a:` stands exactly where without it another mode would be taken, unless the operand goes by the name of a label, which is never taken
 -- for an address in the zero page.
 abbrev pub ForcedWhereNeeded : Type 0
-ForcedWhereNeeded = (image : ImageView) (m : Names) (p : ℕ → Bool) (cpu : Cpu) (above : List Definition) (a : ℕ) (bytes : List ℕ) (op : Op) (os : OperandsView)
-    → AreSound image m → KnowsConstants m p above → IsWritten m (table_of cpu) a bytes op os → HasKnownSize m (word_of bytes)
-    → CodesInMode cpu above op false os ↔ (is_forced (table_of cpu) op bytes ≡ false)
+ForcedWhereNeeded = (image : ImageView) (m : Names) (p : ℕ → Bool) (s : State) (a : ℕ) (bytes : List ℕ) (op : Op) (os : OperandsView)
+    → AreSound image m → KnowsConstants m p s.above → IsWritten m (table_of s.cpu) a bytes op os → HasKnownSize m (word_of bytes)
+    → CodesInMode s op false os ↔ (is_forced (table_of s.cpu) op bytes ≡ false)
 
 -- A target that is written lies in the address space and in range, and its distance is the byte that was decoded.
 abbrev pub TargetIsInRange : Type 0
@@ -141,7 +142,7 @@ TargetIsInRange = (next b target : ℕ) → next ≤ 65536 → b < 256 → targe
 pub record GivesBytes (all : List Definition) (s : State) (source : SourceLine) (bytes : List ℕ) : Type 0 where
   pub no_fault : fault_of all s (Some source) ≡ None
   pub gives : bytes_of all s (Some source) ≡ bytes
-  pub leads : after s (Some source) ≡ record { at = s.at + length bytes; cpu = s.cpu; above = s.above }
+  pub leads : after s (Some source) ≡ record { at = s.at + length bytes; cpu = s.cpu; above = s.above; layout = s.layout }
 
 -- a place for bytes below the constant lines, in a text that defines all names
 pub record IsPlaceFor (image : ImageView) (m : Names) (all : List Definition) (s : State) (bytes : List ℕ) : Type 0 where
@@ -183,7 +184,7 @@ GroupGivesItsBytes = (image : ImageView) (m : Names) (all : List Definition) (s 
 -- What the lines of a listing without skipped bytes say means, from the image's start, the image's bytes.
 abbrev pub ListingGivesImage : Type 0
 ListingGivesImage = (m : MapView) → IsPlaced m.image → AreBytes m.image.bytes → given.AreNames m.info.names → skips m ≡ false
-    → meaning_of m.image.start (readings_of m) ≡ Ok m.image.bytes
+    → meaning_of free m.image.start (readings_of m) ≡ Ok m.image.bytes
 
 -- The text of such a listing means, from the image's start, the image's bytes.
 abbrev pub TextGivesImage : Type 0

@@ -109,7 +109,7 @@ name-none : (r : RangeSpec) → name_part (range_group r) ≡ []
 unfolding range_name value_in
 name-none r = by_result (range_in (range_given r)) (λ q is. rw is refl) (λ f is. rw is refl)
 
-names-more : (groups : List GroupView) (ranges : List RangeSpec) → names_said (groups ++ range_groups ranges) ≡ names_said groups
+pub names-more : (groups : List GroupView) (ranges : List RangeSpec) → names_said (groups ++ range_groups ranges) ≡ names_said groups
 unfolding names_said
 names-more groups ranges = none-more name_part groups ranges name-none
 
@@ -125,7 +125,7 @@ ranges-more groups old ranges added = flat_map-append range_part groups (range_g
 abbrev pub with_ranges : InfoView → List RangeSpec → InfoView
 with_ranges info ranges = record info { ranges = info.ranges ++ ranges }
 
-info-more : (o : OptionsView) (groups : List GroupView) (old ranges : List RangeSpec) → AreAdded old ranges → info_of o (groups ++ range_groups ranges) ≡ with_ranges (info_of o groups) ranges
+pub info-more : (o : OptionsView) (groups : List GroupView) (old ranges : List RangeSpec) → AreAdded old ranges → info_of o (groups ++ range_groups ranges) ≡ with_ranges (info_of o groups) ranges
 info-more o groups old ranges added = rw (global-more groups ranges, segments-more groups ranges, includes-more groups ranges, names-more groups ranges, ranges-more groups old ranges added) refl
 
 -- ---- tokens that spell more groups
@@ -136,7 +136,7 @@ spells-append o [] more (t ∷ ts) us first second = absurd first
 spells-append o (i ∷ items) more [] us first second = absurd first
 spells-append o (i ∷ items) more (t ∷ ts) us first second = (first.0, spells-append o items more ts us first.1 second)
 
-groups-append : (before gs hs : List GroupView) → AreGroups before gs → AreGroups (before ++ gs) hs → AreGroups before (gs ++ hs)
+pub groups-append : (before gs hs : List GroupView) → AreGroups before gs → AreGroups (before ++ gs) hs → AreGroups before (gs ++ hs)
 groups-append before [] hs first second = let P : List GroupView → Type 0 = λ l. AreGroups l hs in subst P (append-nil before) second
 groups-append before (g ∷ gs) hs first second =
     let P : List GroupView → Type 0 = λ l. AreGroups l hs in
@@ -154,7 +154,7 @@ marks-append (x ∷ xs) ranges = ap (λ l. x.0 ∷ l) (marks-append xs ranges)
 abbrev pub range_items : List RangeSpec → List Item
 range_items ranges = flat_map group_items (range_spelling ranges)
 
-accepts-more : (o : OptionsView) (ts us : List TokenView) (groups : List GroupView) (ranges : List RangeSpec) → Accepts o ts groups → AreAdded (ranges_of groups) ranges → Spells o (range_items ranges) us
+pub accepts-more : (o : OptionsView) (ts us : List TokenView) (groups : List GroupView) (ranges : List RangeSpec) → Accepts o ts groups → AreAdded (ranges_of groups) ranges → Spells o (range_items ranges) us
     → Accepts o (ts ++ us) (groups ++ range_groups ranges)
 accepts-more o ts us groups ranges a added spelled = record {
   spelling = a.spelling ++ range_spelling ranges;
@@ -163,35 +163,6 @@ accepts-more o ts us groups ranges a added spelled = record {
   keeps = groups-append [] groups (range_groups ranges) a.keeps (added-groups groups (ranges_of groups) ranges refl (ranges_ordered groups) added);
 }
 
--- ---- the law
-
--- the tokens of a stream are these groups, and nothing else
-pub record Gives (o : OptionsView) (ranges : List RangeSpec) (s : Stream) : Type 0 where
-  pub whole : IsOk s.ending
-  pub spelled : Spells o (range_items ranges) s.tokens
-
-ok-line : (r : Result ℕ InfoFault) → IsOk r → (line : ℕ) × (r ≡ Ok line)
+pub ok-line : (r : Result ℕ InfoFault) → IsOk r → (line : ℕ) × (r ≡ Ok line)
 ok-line (Ok line) is = (line, refl)
 ok-line (Err e) is = absurd cc
-
-information-with : (o : OptionsView) (file text : List ℕ) (info : InfoView) (ranges : List RangeSpec) → IsInformation o file info → AreAdded info.ranges ranges → length (file ++ 35 ∷ text) ≤ 1_048_576
-    → ((line : ℕ) → Gives o ranges (tokens_after 0 true line text)) → IsInformation o (file ++ 35 ∷ text) (with_ranges info ranges)
-information-with o file text info ranges i added small gives =
-    let old : ranges_of i.groups ≡ info.ranges = sym (ap (λ (v : InfoView). v.ranges) i.says) in
-    let end = ok-line (tokens_of 1 file).ending i.whole in
-    let given = gives end.0 in
-    let all : tokens_of 1 (file ++ 35 ∷ text) ≡ after_tokens (tokens_of 1 file).tokens (tokens_after 0 true end.0 text) = tokens-before 0 false 1 file text end.0 (omega arith) end.1 in
-    let P : List RangeSpec → Type 0 = λ l. AreAdded l ranges in
-    record {
-      small = small;
-      whole = rw all given.whole;
-      groups = i.groups ++ range_groups ranges;
-      accepts = rw all (accepts-more o (tokens_of 1 file).tokens (tokens_after 0 true end.0 text).tokens i.groups ranges i.accepts (subst P (sym old) added) given.spelled);
-      says = ap (λ (v : InfoView). with_ranges v ranges) i.says ∙ sym (info-more o i.groups info.ranges ranges added);
-    }
-
--- A file that is accepted, and a text after it that gives ranges: both are accepted, and say what the file says, with these ranges besides.
-pub information-more : (o : OptionsView) (file text : List ℕ) (info : InfoView) (ranges : List RangeSpec) → information o file ≡ Ok info → AreAdded info.ranges ranges → length (file ++ 35 ∷ text) ≤ 1_048_576
-    → ((line : ℕ) → Gives o ranges (tokens_after 0 true line text)) → information o (file ++ 35 ∷ text) ≡ Ok (with_ranges info ranges)
-information-more o file text info ranges accepted added small gives =
-    (accepts_files o (file ++ 35 ∷ text) (with_ranges info ranges)).1 (information-with o file text info ranges ((accepts_files o file info).0 accepted) added small gives)

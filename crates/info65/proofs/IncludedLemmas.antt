@@ -133,19 +133,23 @@ lines_alike i line xs ys (l ∷ ls) a =
     (λ o e. rw (line_alike i line xs ys l a, e) (lines_alike i (line + 1) (xs ++ option_to_list o) (ys ++ option_to_list o) ls (more_alike xs ys (option_to_list o) a)))
     (λ f e. rw (line_alike i line xs ys l a, e) refl)
 
+alike : (names : List NameView) → AreGiven names → Alike (by_address names) names
+alike names g = record {
+  named = named_alike names g;
+  elsewhere = λ n.
+      elsewhere_is (by_address names) n (sorted_names names g).distinct
+      ∙ ap (λ (o : Option NameView). elsewhere_by n.address (option_map (λ (m : NameView). m.address) o)) (text_alike names g n.text)
+      ∙ sym (elsewhere_is names n g.texts);
+}
+
+-- names that are added to those that are sorted by address
+pub names_alike : (names more : List NameView) → AreGiven names → by_address (by_address names ++ more) ≡ by_address (names ++ more)
+names_alike names more g = same_address (by_address names ++ more) (names ++ more) (more_alike (by_address names) names more (alike names g))
+
 -- a file adds the same names to those that are sorted by address
 pub file_sorted : (i : IncludeView) (names : List NameView) (bytes : List ℕ) → AreGiven names → names_included i (by_address names) bytes ≡ names_included i names bytes
 unfolding names_included
 file_sorted i names bytes g =
     by_test (nat_lt 1_048_576 (length bytes))
     (λ large. rw large refl)
-    (λ small. rw small (lines_alike i 1 (by_address names) names (text_lines bytes) alike))
-  where
-    alike : Alike (by_address names) names
-    alike = record {
-      named = named_alike names g;
-      elsewhere = λ n.
-          elsewhere_is (by_address names) n (sorted_names names g).distinct
-          ∙ ap (λ (o : Option NameView). elsewhere_by n.address (option_map (λ (m : NameView). m.address) o)) (text_alike names g n.text)
-          ∙ sym (elsewhere_is names n g.texts);
-    }
+    (λ small. rw small (lines_alike i 1 (by_address names) names (text_lines bytes) (alike names g)))

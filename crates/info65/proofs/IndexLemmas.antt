@@ -1,5 +1,5 @@
 -- The index of closed groups.
-use Rattle.std.proofs.Common.{◌≡◌, ◌≢◌, ◌∙◌, ◌≤◌, ◌<◌, ◌+◌, ◌-◌, ◌==◌, ◌&&◌, ◌||◌, ℕ, zero, suc, Bool, List, [], ◌∷◌, ◌++◌, true, false, ap, ap₂, arith, get_or, inl, inr, length, length-append, map, option_map, refl, sym, if◌then◌else◌}
+use Rattle.std.proofs.Common.{◌≡◌, ◌≢◌, ◌∙◌, ◌≤◌, ◌<◌, ◌+◌, ◌-◌, ◌==◌, ◌&&◌, ◌||◌, ℕ, zero, suc, Bool, List, [], ◌∷◌, ◌++◌, true, false, ap, ap₂, arith, get_or, inl, inr, length, length-append, map, min, option_map, refl, sym, if◌then◌else◌}
 use Rattle.std.specs.Prelude.{All, AllPairs, Option, Some, None, Result, Ok, Err, is_some, option_to_list, nat_le, nat_lt, not}
 use Rattle.std.specs.List.{find, flat_map, list_any}
 use Rattle.std.specs.Str.{bytes_eq}
@@ -7,6 +7,7 @@ use Rattle.std.proofs.lemmas.Bool.{cond-false, cond-true, eqb-true, false≢true
 use Rattle.std.proofs.lemmas.Bool.Decides.{nat_tests}
 use Rattle.std.proofs.lemmas.List.Folds.{Any-from_list_any, find-append, list_any_none, list_any-append, list_any_at, list_any-from_Any}
 use Rattle.std.proofs.lemmas.Grind.{flat_map-append}
+use Rattle.std.proofs.Math.ListN.{get_or-eq_default}
 use Rattle.std.proofs.lemmas.List.{append-nil}
 use Rattle.std.proofs.lemmas.List.Elements.{All-push}
 use Rattle.std.proofs.lemmas.List.Quantifiers.{all_pairs_push}
@@ -56,6 +57,10 @@ any_in_no : (table : List Bool) (first n : ℕ) → ((a : ℕ) → first ≤ a �
 unfolding any_in
 any_in_no table first zero h = refl
 any_in_no table first (suc n) h = grind (arith, h first, any_in_no table (first + 1) n (λ a low high. h a (omega arith) (omega arith)))
+
+-- the cells from one on of which none is left in the table, or of which none is asked for
+pub any_end : (table : List Bool) (a end : ℕ) → min (length table) end ≤ a → any_in table a (end - a) ≡ false
+any_end table a end past = any_in_no table a (end - a) (λ x low high. get_or-eq_default table false (omega (arith, past, low, high)))
 
 within : (r : RangeSpec) (a : ℕ) → has_address r a ≡ true → (r.first ≤ a) × (a ≤ r.last)
 within r a h = (grind (arith, nat_tests), grind (arith, nat_tests))
@@ -150,11 +155,10 @@ text_free names n new = no_find (λ (m : NameView). bytes_eq n.text m.text) name
 -- ---- what is added
 
 -- the ranges of one range more
-range_added : (ranges : List RangeSpec) (table after : List Bool) (r : RangeSpec) → AreRanged ranges table → r.first ≤ r.last → length after ≡ length table
+range_added : (ranges : List RangeSpec) (table after : List Bool) (r : RangeSpec) → AreRanged ranges table → r.first ≤ r.last
     → ((a : ℕ) → a < 0x1_0000 → get_or after a false ≡ (get_or table a false || has_address r a)) → AreRanged (ranges ++ r ∷ []) after
-range_added ranges table after r i ordered long marked = record {
+range_added ranges table after r i ordered marked = record {
   ordered = All-push (λ (x : RangeSpec). x.first ≤ x.last) ranges r i.ordered ordered;
-  size = long ∙ i.size;
   ranged = λ a low. marked a low ∙ ap (λ b. b || has_address r a) (i.ranged a low) ∙ ap (λ b. list_any (λ (x : RangeSpec). has_address x a) ranges || b) (sym (or_last (has_address r a))) ∙ sym (list_any-append (λ (x : RangeSpec). has_address x a) ranges (r ∷ []));
 }
 
@@ -247,8 +251,8 @@ no_index numbers texts long none empty lone = grind arith
 
 -- ---- no ranges
 
-pub no_ranges : (table : List Bool) → length table ≡ 0x1_0000 → ((a : ℕ) → get_or table a false ≡ false) → AreRanged [] table
-no_ranges table size blank = record { ordered = λ k d l. absurd (omega (arith, l)); size = size; ranged = λ a low. blank a }
+pub no_ranges : AreRanged [] []
+no_ranges = record { ordered = λ k d l. absurd (omega (arith, l)); ranged = λ a low. refl }
 
 -- ---- the faults of a group
 
@@ -308,9 +312,9 @@ name_fine before kind.Segment given o is h = ap (optional_name_fault (names_said
 name_fine before kind.Include given o is h = ap (optional_name_fault (names_said before)) (one_list o None is)
 
 -- a group that says a range marks it
-pub ranged_more : (before : List GroupView) (g : GroupView) (r : RangeSpec) (old new : List Bool) → r ∷ [] ≡ range_part g → length new ≡ length old
+pub ranged_more : (before : List GroupView) (g : GroupView) (r : RangeSpec) (old new : List Bool) → r ∷ [] ≡ range_part g
     → ((a : ℕ) → a < 0x1_0000 → get_or new a false ≡ (get_or old a false || has_address r a)) → AreRanged (ranges_of before) old → AreRanged (ranges_of (before ++ g ∷ [])) new
-ranged_more before g r old new is long marked m = rw (ranges_more before g, ← is) (range_added (ranges_of before) old new r m (part_ordered g r is) long marked)
+ranged_more before g r old new is marked m = rw (ranges_more before g, ← is) (range_added (ranges_of before) old new r m (part_ordered g r is) marked)
 
 -- and one that says none marks none
 pub ranged_same : (before : List GroupView) (g : GroupView) (table : List Bool) → [] ≡ range_part g → AreRanged (ranges_of before) table → AreRanged (ranges_of (before ++ g ∷ [])) table

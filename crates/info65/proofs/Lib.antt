@@ -1,7 +1,9 @@
 mod Accepting
 mod AppendedGroups
+mod AppendedLabels
 mod AppendedTokens
 mod Cases
+mod ClassLemmas
 mod CoveringLemmas
 mod FormLemmas
 mod GroupLemmas
@@ -29,5 +31,7 @@ mod SegmentLemmas
 mod SegmentTableLemmas
 mod SpellingLemmas
 mod StandLemmas
+mod TagLemmas
+mod TagRows
 mod TokenLemmas
 pub mod Public

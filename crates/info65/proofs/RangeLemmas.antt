@@ -1,6 +1,6 @@
 -- The ranges of an accepted file: what their groups say, and that no two share an address.
 use Rattle.std.proofs.Common.{◌≡◌, ◌∙◌, ◌≤◌, ◌<◌, ◌+◌, ◌-◌, max, ℕ, List, [], ◌∷◌, ◌++◌, true, false, ap, arith, get_or, inl, inr, length, refl}
-use Rattle.std.specs.Prelude.{All, AllPairs, Any, IfSome, Option, Some, None, Result, Ok, Err, ◌⊎◌}
+use Rattle.std.specs.Prelude.{All, AllPairs, Any, IfSome, Option, Some, None, Result, Ok, Err, option_to_list, ◌⊎◌}
 use Rattle.std.specs.List.{flat_map, list_any}
 use Rattle.std.proofs.lemmas.Bool.Decides.{nat_tests}
 use Rattle.std.proofs.lemmas.List.{append-nil}
@@ -116,6 +116,10 @@ ordered_part _ given x e = All-nil (λ (x : RangeSpec). x.first ≤ x.last)
 
 pub part_ordered : (g : GroupView) (r : RangeSpec) → r ∷ [] ≡ range_part g → r.first ≤ r.last
 part_ordered g r is = (rw (← is) at (ordered_part g.kind g.given (range_in g.given) refl)) 0 r (omega arith)
+
+pub some_ordered : (g : GroupView) (o : Option RangeSpec) → option_to_list o ≡ range_part g → IfSome o (λ r. r.first ≤ r.last)
+some_ordered g None is = tt
+some_ordered g (Some r) is = part_ordered g r is
 
 pub ranges_ordered : (groups : List GroupView) → Ordered (ranges_of groups)
 unfolding ranges_of

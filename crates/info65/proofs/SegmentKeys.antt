@@ -1,22 +1,33 @@
 -- Keys of the names of segments.
-use Rattle.std.proofs.Common.{◌≡◌, ◌∙◌, ◌≤◌, ◌<◌, ◌+◌, ℕ, zero, suc, Bool, List, [], ◌∷◌, ◌++◌, true, false, ap, arith, cond, drop, get_or, length, map, refl, sym}
+use Rattle.std.proofs.Common.{◌≡◌, ◌∙◌, ◌≤◌, ◌<◌, ◌+◌, ◌-◌, ℕ, zero, suc, Bool, List, [], ◌∷◌, ◌++◌, true, false, ap, ap₂, arith, cond, drop, inl, inr, get_or, length, map, refl, sym}
 use Rattle.std.specs.Option.{option_or}
-use Rattle.std.specs.Prelude.{Option, Some, None, is_some, option_and_then, unwrap_or}
+use Rattle.std.specs.Prelude.{Option, Some, None, IfSome, is_some, nat_lt, option_and_then, option_map}
+use denote.Bor.{Bor}
 use Rattle.std.specs.Str.{bytes_eq}
 use Rattle.std.proofs.lemmas.Bool.Decides.{nat_tests}
-use Rattle.std.proofs.lemmas.List.{at_drop_more, drop_all, get_or-map, get_or_default, get_or_append_left, get_or_push}
+use Rattle.std.proofs.lemmas.List.{at_drop_more, drop_all, get_or-map, get_or_default, get_or_append_left, get_or_push, length-map}
+use Rattle.std.proofs.lemmas.Option.{slice_get-get_or, slice_get_past}
 use Rattle.std.proofs.lemmas.Slice.Eq.{bytes_eq-Decides}
-use Rattle.info65.specs.Code.SegmentTable.{AreKeys, IsHolder}
+use Rattle.info65.specs.Code.Index.{numbered}
+use Rattle.info65.specs.Code.SegmentTable.{AreKeys, AreFound, IsHolder, IsRest, IsSlotted, key_by, key_found}
+use Rattle.info65.specs.Code.Texts.{AddsText, TextsView}
 use Rattle.info65.specs.Code.Segments.{segment_seen}
 use Rattle.info65.specs.Segments.{AreSegments, blank_segment, contains, first_named, segment_at, segment_covering, segment_key}
 use Rattle.info65.specs.Views.{SegmentView}
 use Rattle.info65.specs.declared.information.segment.SegmentSpec.{SegmentSpec}
 use Rattle.info65.proofs.Cases.{by_test}
 use Rattle.info65.proofs.SegmentCovering.{covers_one, one_contains}
-use Rattle.info65.proofs.IndexLemmas.{same_text}
+use Rattle.info65.proofs.IndexLemmas.{other_way, same_text}
 
 is_name : (t u : List ℕ) → t ≡ u → bytes_eq t u ≡ true
 is_name t u h = (bytes_eq-Decides t u).1 h
+
+-- the segment with a number
+number_at : (segments : List SegmentView) (k : ℕ) → k < length segments → numbered segments (k + 1) ≡ Some (segment_at segments k)
+number_at segments k low = let next : k + 1 ≡ suc k = omega arith in ap (numbered segments) next ∙ slice_get-get_or segments k blank_segment low
+
+some_number : (segments : List SegmentView) (n : ℕ) → (n ≡ 0 → ⊥) → n ≤ length segments → numbered segments n ≡ Some (segment_at segments (n - 1))
+some_number segments n some low = let next : n ≡ n - 1 + 1 = omega (arith, some) in ap (numbered segments) next ∙ number_at segments (n - 1) (omega (arith, some, low))
 
 -- ---- the keys of a list, in its order
 
@@ -38,17 +49,84 @@ pub named_past : (segments : List SegmentView) (k : ℕ) (t : List ℕ) → leng
 unfolding first_named
 named_past segments k t past = ap (λ (ss : List SegmentView). first_named ss t) (drop_all k segments past)
 
--- what was found of a name, or else the first of the segments from this place on, is the first of all
-pub record IsRest (segments : List SegmentView) (k : ℕ) (found : List ℕ → Option ℕ) : Type 0 where
-  pub is : (t : List ℕ) → option_or (found t) (first_named (drop k segments) t) ≡ first_named segments t
+-- the key of the next name, where it was found, and where it was not
+pub key_again : (segments : List SegmentView) (k : ℕ) (found : List ℕ → Option ℕ) (name : List ℕ) (key : ℕ) → IsRest segments k found → found name ≡ Some key → first_named segments name ≡ Some key
+key_again segments k found name key rest is = grind arith
 
-pub key_here : (segments : List SegmentView) (k : ℕ) (found : List ℕ → Option ℕ) (name : List ℕ) (key : ℕ) → k < length segments → IsRest segments k found → name ≡ (segment_at segments k).name → key ≡ unwrap_or (found name) (segment_at segments k).first
-    → first_named segments name ≡ Some key
-key_here segments k found name key low rest same is = grind (arith, is_name, named_at)
+pub key_first : (segments : List SegmentView) (k : ℕ) (found : List ℕ → Option ℕ) (name : List ℕ) → k < length segments → IsRest segments k found → name ≡ (segment_at segments k).name → found name ≡ None
+    → first_named segments name ≡ Some (segment_at segments k).first
+key_first segments k found name low rest same none = grind (arith, is_name, named_at)
+
+pub rest_again : (segments : List SegmentView) (k : ℕ) (found : List ℕ → Option ℕ) (name : List ℕ) (key : ℕ) → k < length segments → IsRest segments k found → name ≡ (segment_at segments k).name → found name ≡ Some key → IsRest segments (k + 1) found
+rest_again segments k found name key low rest same is = grind (arith, by_test, same_text, named_at)
 
 pub rest_next : (segments : List SegmentView) (k : ℕ) (found more : List ℕ → Option ℕ) (name : List ℕ) (key : ℕ) → k < length segments → IsRest segments k found → name ≡ (segment_at segments k).name → first_named segments name ≡ Some key
     → ((t : List ℕ) → more t ≡ cond (bytes_eq name t) (Some key) (found t)) → IsRest segments (k + 1) more
 rest_next segments k found more name key low rest same is after = grind (arith, by_test, same_text, named_at)
+
+-- ---- where keys are found
+
+slotted_more : (k : ℕ) (texts : TextsView) → IsSlotted k texts → IsSlotted (k + 1) texts
+slotted_more k texts are = record { low = λ t. omega (arith, are.low t); alone = are.alone }
+
+-- no name yet
+pub none_found : (segments : List SegmentView) (texts : TextsView) → ((t : List ℕ) → texts.slotted t ≡ 0) → ((t : List ℕ) → texts.others t ≡ None) → AreFound segments 0 texts
+none_found segments texts empty lone = record {
+  slots = record { low = λ t. omega (arith, empty t); alone = λ t free. lone t };
+  rest = record { is = λ t. ap (λ (n : ℕ). option_or (key_by t (texts.others t) (numbered segments n)) (first_named segments t)) (empty t) };
+}
+
+-- the name of the k-th segment again
+pub found_again : (segments : List SegmentView) (k : ℕ) (name : List ℕ) (texts : TextsView) (key : ℕ) → k < length segments → name ≡ (segment_at segments k).name → AreFound segments k texts → key_found segments texts name ≡ Some key → AreFound segments (k + 1) texts
+found_again segments k name texts key low named are is = record { slots = slotted_more k texts are.slots; rest = rest_again segments k (key_found segments texts) name key low are.rest named is }
+
+-- the k-th segment has a new name, which is added
+record IsAdded (segments : List SegmentView) (k : ℕ) (name : List ℕ) (texts told : TextsView) (t : List ℕ) : Type 0 where
+  low : told.slotted t ≤ k + 1
+  alone : told.slotted t ≡ 0 → told.others t ≡ None
+  is : key_found segments told t ≡ cond (bytes_eq name t) (Some (segment_at segments k).first) (key_found segments texts t)
+
+added : (segments : List SegmentView) (k : ℕ) (name : List ℕ) (texts told : TextsView) (t : List ℕ) → k < length segments → name ≡ (segment_at segments k).name → IsSlotted k texts → key_found segments texts name ≡ None
+    → AddsText texts name (segment_at segments k).first (k + 1) told t → IsAdded segments k name texts told t
+added segments k name texts told t low named are none (inl (free, taken, same)) =
+    let here : numbered segments (told.slotted t) ≡ Some (segment_at segments k) = ap (numbered segments) taken ∙ number_at segments k low in
+    let bare : key_found segments texts t ≡ None = ap (λ (n : ℕ). key_by t (texts.others t) (numbered segments n)) free in
+    let off : told.others t ≡ None = same ∙ are.alone t free in
+    record {
+      low = omega (arith, taken);
+      alone = λ empty. off;
+      is = ap₂ (λ (o : Option ℕ) (s : Option SegmentView). key_by t o s) off here
+          ∙ by_test (bytes_eq name t)
+          (λ yes. rw (yes, is_name t (segment_at segments k).name (sym (same_text name t yes) ∙ named)) refl)
+          (λ no. rw (no, ← named, other_way name t no, bare) refl);
+    }
+added segments k name texts told t low named are none (inr (inl (some, at, same, beside))) =
+    let is : t ≡ name = same_text t name at in
+    let s : SegmentView = segment_at segments (texts.slotted t - 1) in
+    let has : numbered segments (texts.slotted t) ≡ Some s = some_number segments (texts.slotted t) some (omega (arith, are.low t, low)) in
+    let bare : key_by t (texts.others t) (Some s) ≡ None = ap (key_by t (texts.others t)) (sym has) ∙ ap (key_found segments texts) is ∙ none in
+    let other : bytes_eq t s.name ≡ false = by_test (bytes_eq t s.name) (λ hit. let wrong : ◌≡◌ {A = Option ℕ} (Some s.first) None = rw hit at bare in absurd cc) (λ miss. miss) in
+    record {
+      low = omega (arith, same, are.low t);
+      alone = λ empty. absurd (some (sym same ∙ empty));
+      is = ap₂ (λ (o : Option ℕ) (n : ℕ). key_by t o (numbered segments n)) beside same ∙ ap (key_by t (Some (segment_at segments k).first)) has ∙ rw (other, is_name name t (sym is)) refl;
+    }
+added segments k name texts told t low named are none (inr (inr (off, same, also))) = record {
+  low = omega (arith, same, are.low t);
+  alone = λ empty. also ∙ are.alone t (sym same ∙ empty);
+  is = ap₂ (λ (o : Option ℕ) (n : ℕ). key_by t o (numbered segments n)) also same ∙ rw (other_way t name off) refl;
+}
+
+key_added : (segments : List SegmentView) (k : ℕ) (name : List ℕ) (texts told : TextsView) → k < length segments → name ≡ (segment_at segments k).name → IsSlotted k texts → key_found segments texts name ≡ None
+    → ((t : List ℕ) → AddsText texts name (segment_at segments k).first (k + 1) told t) → (t : List ℕ) → key_found segments told t ≡ cond (bytes_eq name t) (Some (segment_at segments k).first) (key_found segments texts t)
+key_added segments k name texts told low named are none adds t = (added segments k name texts told t low named are none (adds t)).is
+
+slotted_added : (segments : List SegmentView) (k : ℕ) (name : List ℕ) (texts told : TextsView) → k < length segments → name ≡ (segment_at segments k).name → IsSlotted k texts → key_found segments texts name ≡ None
+    → ((t : List ℕ) → AddsText texts name (segment_at segments k).first (k + 1) told t) → IsSlotted (k + 1) told
+slotted_added segments k name texts told low named are none adds = record {
+  low = λ t. (added segments k name texts told t low named are none (adds t)).low;
+  alone = λ t. (added segments k name texts told t low named are none (adds t)).alone;
+}
 
 -- ---- names and their keys
 
@@ -78,6 +156,19 @@ one_key segments n t key are is_n is_t =
     let same = one_contains segments (segment_at segments x.place).first x.place y.place are x.low y.low (first_within segments x.place are x.low) there in
     sym x.named ∙ ap (λ (k : ℕ). (segment_at segments k).name) same ∙ y.named
 
+-- a new name, which is added
+pub found_first : (segments : List SegmentView) (k : ℕ) (name : List ℕ) (texts told : TextsView) → k < length segments → name ≡ (segment_at segments k).name → AreFound segments k texts → key_found segments texts name ≡ None
+    → ((t : List ℕ) → AddsText texts name (segment_at segments k).first (k + 1) told t) → AreFound segments (k + 1) told
+found_first segments k name texts told low named are none adds = record {
+  slots = slotted_added segments k name texts told low named are.slots none adds;
+  rest = rest_next segments k (key_found segments texts) (key_found segments told) name (segment_at segments k).first low are.rest named (key_first segments k (key_found segments texts) name low are.rest named none)
+      (key_added segments k name texts told low named are.slots none adds);
+}
+
+-- what the code finds by a number
+pub found_by : (segments : List SegmentView) (texts : TextsView) (t : List ℕ) (o : Option SegmentView) → numbered segments (texts.slotted t) ≡ o → key_found segments texts t ≡ key_by t (texts.others t) o
+found_by segments texts t o is = ap (key_by t (texts.others t)) is
+
 pub keys_more : (segments : List SegmentView) (keys more : List ℕ) (n key : ℕ) → length keys ≡ n → more ≡ keys ++ key ∷ [] → ((k : ℕ) → k < n → first_named segments (segment_at segments k).name ≡ Some (get_or keys k 0)) → first_named segments (segment_at segments n).name ≡ Some key
     → (k : ℕ) → k < n + 1 → first_named segments (segment_at segments k).name ≡ Some (get_or more k 0)
 keys_more segments keys more n key long is each last k low = grind (arith, get_or_push, get_or_append_left)
@@ -88,6 +179,23 @@ seen_at specs k s low = get_or-map segment_seen specs k s blank_segment low
 
 pub seen_item : {Z : Type 0} (specs : List (SegmentSpec Z)) (k : ℕ) (s : SegmentSpec Z) → k < length specs → s ≡ get_or specs k s → segment_at (map segment_seen specs) k ≡ segment_seen s
 seen_item specs k s low is = seen_at specs k s low ∙ ap segment_seen (sym is)
+
+-- what the code finds by a number
+pub number_seen : {Z : Type 0} (specs : List (SegmentSpec Z)) (n : ℕ) (s : SegmentSpec Z) → (n ≡ 0 → ⊥) → n - 1 < length specs → s ≡ get_or specs (n - 1) s → Some (segment_seen s) ≡ numbered (map segment_seen specs) n
+number_seen {Z = Z} specs n s some low is =
+    let long = length-map specs (segment_seen {Z = Z}) in
+    sym (some_number (map segment_seen specs) n some (omega (arith, low, long)) ∙ ap (λ (x : SegmentView). Some x) (seen_item specs (n - 1) s low is))
+
+pub number_past : {Z : Type 0} (specs : List (SegmentSpec Z)) (n : ℕ) → (n ≡ 0 → ⊥) → length specs ≤ n - 1 → None ≡ numbered (map segment_seen specs) n
+number_past {Z = Z} specs n some past =
+    let long = length-map specs (segment_seen {Z = Z}) in
+    let next : n ≡ suc (n - 1) = omega (arith, some) in
+    sym (ap (numbered (map segment_seen specs)) next ∙ slice_get_past (map segment_seen specs) (n - 1) (omega (arith, past, long)))
+
+pub number_found : {Z : Type 0} (specs : List (SegmentSpec Z)) (n : ℕ) (o : Option (Bor (SegmentSpec Z))) → (n ≡ 0 → ⊥) → IfSome o (λ x. x.now ≡ get_or specs (n - 1) x.now) → is_some o ≡ nat_lt (n - 1) (length specs)
+    → option_map (λ s. segment_seen s.now) o ≡ numbered (map segment_seen specs) n
+number_found specs n None some is low = number_past specs n some (grind (arith, nat_tests))
+number_found specs n (Some x) some is low = number_seen specs n x.now some (grind (arith, nat_tests)) is
 
 -- ---- the key of an address
 

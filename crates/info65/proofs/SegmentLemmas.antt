@@ -70,14 +70,13 @@ meets_marked segments table s m ordered low =
     overlaps_marked (map extent segments) table (extent s) (All-map (λ (r : RangeSpec). r.first ≤ r.last) extent segments m.ordered) (λ a la. m.marked a la ∙ any_extents (λ r. has_address r a) segments) ordered low
     ∙ sym (any_extents (overlaps (extent s)) segments)
 
-pub no_marks : (table : List Bool) → length table ≡ 0x1_0000 → ((a : ℕ) → get_or table a false ≡ false) → AreMarked [] table
-no_marks table size blank = record { ordered = λ k d l. absurd (omega (arith, l)); size = size; marked = λ a low. blank a }
+pub no_marks : AreMarked [] []
+no_marks = record { ordered = λ k d l. absurd (omega (arith, l)); marked = λ a low. refl }
 
-segment_marked : (segments : List SegmentView) (s : SegmentView) (old new : List Bool) → AreMarked segments old → s.first ≤ s.last → length new ≡ length old
+segment_marked : (segments : List SegmentView) (s : SegmentView) (old new : List Bool) → AreMarked segments old → s.first ≤ s.last
     → ((a : ℕ) → a < 0x1_0000 → get_or new a false ≡ (get_or old a false || contains s a)) → AreMarked (segments ++ s ∷ []) new
-segment_marked segments s old new m ordered long marked = record {
+segment_marked segments s old new m ordered marked = record {
   ordered = All-push (λ (x : SegmentView). x.first ≤ x.last) segments s m.ordered ordered;
-  size = long ∙ m.size;
   marked = λ a low. marked a low ∙ ap (λ b. b || contains s a) (m.marked a low) ∙ ap (λ b. list_any (λ (x : SegmentView). contains x a) segments || b) (sym (or_last (contains s a))) ∙ sym (list_any-append (λ (x : SegmentView). contains x a) segments (s ∷ []));
 }
 
@@ -136,9 +135,9 @@ pub part_ordered : (g : GroupView) (s : SegmentView) → s ∷ [] ≡ segment_pa
 part_ordered g s is = (rw (← is) at (ordered_part g.kind g.given (segment_in g.given) refl)) 0 s (omega arith)
 
 -- a group that says a segment marks it
-pub marked_more : (before : List GroupView) (g : GroupView) (s : SegmentView) (old new : List Bool) → s ∷ [] ≡ segment_part g → length new ≡ length old
+pub marked_more : (before : List GroupView) (g : GroupView) (s : SegmentView) (old new : List Bool) → s ∷ [] ≡ segment_part g
     → ((a : ℕ) → a < 0x1_0000 → get_or new a false ≡ (get_or old a false || contains s a)) → AreMarked (segments_of before) old → AreMarked (segments_of (before ++ g ∷ [])) new
-marked_more before g s old new is long marked m = rw (segments_more before g, ← is) (segment_marked (segments_of before) s old new m (part_ordered g s is) long marked)
+marked_more before g s old new is marked m = rw (segments_more before g, ← is) (segment_marked (segments_of before) s old new m (part_ordered g s is) marked)
 
 -- and one that says none marks none
 pub marked_same : (before : List GroupView) (g : GroupView) (table : List Bool) → [] ≡ segment_part g → AreMarked (segments_of before) table → AreMarked (segments_of (before ++ g ∷ [])) table

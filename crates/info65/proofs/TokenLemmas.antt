@@ -1,5 +1,5 @@
 -- The tokens of what is left.
-use Rattle.std.proofs.Common.{add-one, ◌≡◌, ◌+◌, ◌<◌, ℕ, suc, Bool, true, false, List, [], ◌∷◌, length, drop, refl, arith}
+use Rattle.std.proofs.Common.{add-one, ◌≡◌, ◌∙◌, ◌+◌, ◌<◌, ◌≤◌, ℕ, zero, suc, Bool, true, false, List, [], ◌∷◌, length, drop, get_or, refl, sym, arith}
 use Rattle.std.proofs.lemmas.Bool.{ne_eqb, or_parts}
 use Rattle.info65.specs.Tokens.{ended, found, is_blank, opens_comment, stops, tokens_after, tokens_of}
 use Rattle.info65.specs.Lexemes.{lexeme_at}
@@ -33,6 +33,16 @@ at_line_feed in_comment line b bs is = rw is refl
 pub in_comment_on : (line b : ℕ) (bs : List ℕ) → (b ≡ 10 → ⊥) → tokens_after 0 true line (b ∷ bs) ≡ tokens_after 0 true line bs
 unfolding tokens_after
 in_comment_on line b bs isnt = rw (ne_eqb b 10 isnt) refl
+
+-- a comment ends at the first line feed, and with the text if there is none
+pub to_line_feed : (line n : ℕ) (bs : List ℕ) → n ≤ length bs → ((k : ℕ) → k < n → get_or bs k 0 ≡ 10 → ⊥) → (n < length bs → get_or bs n 0 ≡ 10) → tokens_after 0 true line bs ≡ tokens_of line (drop n bs)
+unfolding tokens_after
+to_line_feed line zero [] low before here = refl
+to_line_feed line zero (b ∷ bs) low before here = let feed : b ≡ 10 = here (omega arith) in at_line_feed true line b bs feed ∙ sym (at_line_feed false line b bs feed)
+to_line_feed line (suc n) [] low before here = absurd (omega (arith, low))
+to_line_feed line (suc n) (b ∷ bs) low before here =
+    in_comment_on line b bs (before 0 (omega arith))
+    ∙ to_line_feed line n bs (omega (arith, low)) (λ k lt. before (suc k) (omega (arith, lt))) (λ lt. here (omega (arith, lt)))
 
 pub at_blank : (line b : ℕ) (bs : List ℕ) → (b ≡ 10 → ⊥) → is_blank b ≡ true → tokens_of line (b ∷ bs) ≡ tokens_of line bs
 unfolding tokens_after

@@ -1,4 +1,5 @@
 -- What ties the code to the rules: what contracts see of the code's own types, and what its parts return.
+pub mod Classes
 pub mod GroupLists
 pub mod Groups
 pub mod Includes
@@ -14,3 +15,4 @@ pub mod SegmentTable
 pub mod Segments
 pub mod Steps
 pub mod Texts
+pub mod Turns

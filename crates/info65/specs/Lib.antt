@@ -26,3 +26,4 @@ pub mod Standing
 pub mod Tokens
 pub mod Values
 pub mod Views
+pub mod Tags

@@ -13,6 +13,10 @@ use Rattle.info65.specs.Views.{NameView}
 unfoldable pub default_name : ℕ → List ℕ
 default_name a = 76 ∷ digits4 a
 
+-- the name that the default name of an address is as a label
+abbrev pub default_label : ℕ → NameView
+default_label a = record { address = a; size = 1; text = default_name a; comment = None }
+
 -- 0 to 9 or A to F
 abbrev pub is_upper_hex : ℕ → Bool
 is_upper_hex b = (nat_le 48 b && nat_le b 57) || (nat_le 65 b && nat_le b 70)

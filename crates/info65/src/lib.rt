@@ -20,6 +20,7 @@ mod information;
 mod laws;
 mod lookup;
 mod syntax;
+mod tags;
 
 pub use fault::{InfoFault, InfoFaultKind};
 pub use includes::include::IncludeSpec;
@@ -41,3 +42,4 @@ pub use syntax::digits::number_of_digits;
 pub use syntax::lexer::Lexer;
 pub use syntax::names::default_name;
 pub use syntax::token::{Token, TokenKind};
+pub use tags::{Tag, TagKind, read_tags};

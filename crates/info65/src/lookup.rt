@@ -3,4 +3,4 @@
 pub(crate) mod index;
 pub(crate) mod marks;
 pub(crate) mod numbers;
-mod texts;
+pub mod texts;

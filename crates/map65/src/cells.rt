@@ -153,5 +153,7 @@ pub fn blank_cells<A: Allocator>(alloc: A, count: usize) -> Result<Vec<u16, A>, 
     ensures count { IfOk result (λ v. vec_len v ≡ count) }
     ensures blank { IfOk result (λ v. (a : ℕ) → a < count → slice_index v.items a ≡ 0) }
 {
-    vec![in alloc; 0u16; count]
+    let mut cells = Vec::new(alloc);
+    cells.resize(count, 0)?;
+    Ok(cells)
 }

@@ -135,9 +135,9 @@ joined-code m a run code = joined-if m a run (ap (λ r. is_wide r && is_own m.in
 
 -- ---- with the ranges that are proposed
 
-module _ (m : MapView) (marks taken : List Bool) (pieces : List RangeSpec) (info : InfoView) (placed : IsPlaced m.image) (spoken : AreMarkedBy (is_taken m marks) taken) (are : ArePieces (record { image = m.image; taken = taken }) 0 pieces) (new : IsWith m.info info pieces) (whole : AreWhole m marks) where
+module _ (m : MapView) (marks taken words : List Bool) (pieces : List RangeSpec) (info : InfoView) (placed : IsPlaced m.image) (spoken : AreMarkedBy (is_taken m marks) taken) (are : ArePieces (record { image = m.image; taken = taken; words = words }) 0 pieces) (new : IsWith m.info info pieces) (whole : AreWhole m marks) where
   abbrev ground : Ground
-  ground = record { image = m.image; taken = taken }
+  ground = record { image = m.image; taken = taken; words = words }
 
   abbrev all : MapView
   all = with_info m info
@@ -252,6 +252,6 @@ module _ (m : MapView) (marks taken : List Bool) (pieces : List RangeSpec) (info
       })
 
 pub code_law : (m : MapView) → CodeLaw m
-code_law m entries marks taken pieces info placed reached spoken are new whole = record {
-  each = λ a op marked is before. items-below m marks taken pieces info placed spoken are new whole (suc a) a op (omega arith) marked is before;
+code_law m entries marks taken words pieces info placed reached spoken are new whole = record {
+  each = λ a op marked is before. items-below m marks taken words pieces info placed spoken are new whole (suc a) a op (omega arith) marked is before;
 }

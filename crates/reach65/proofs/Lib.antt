@@ -1,11 +1,18 @@
 pub mod EntryLemmas
 pub mod FlowLemmas
 pub mod SearchLemmas
+pub mod TrialLemmas
+pub mod ApartLemmas
+pub mod GrowthLemmas
+pub mod RowLemmas
+pub mod WorkedRows
 pub mod TakenLemmas
-pub mod LoopLemmas
+pub mod LabelLemmas
+mod LoopLemmas
 pub mod PieceLemmas
 pub mod CodeLemmas
 pub mod CodeRows
 pub mod TextLemmas
 pub mod TextLaws
 pub mod TextRows
+mod VariableLemmas

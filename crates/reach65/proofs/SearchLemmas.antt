@@ -8,7 +8,7 @@ use Rattle.std.proofs.lemmas.List.Elements.{Contains-append_left, Contains-get_o
 use Rattle.std.proofs.lemmas.List.Sums.{sum_by-set}
 use Rattle.map65.specs.ImageView.{IsPlaced, is_inside}
 use Rattle.map65.specs.MapView.{MapView}
-use Rattle.reach65.specs.Code.Searching.{HasEntries, HasEntriesTo, IsFollowed, IsSearch, Nothing, State, put, put_inside, put_some}
+use Rattle.reach65.specs.Code.Searching.{HasEntries, HasNext, IsAtEnd, IsBegun, IsDone, IsFollowed, IsSearch, Nothing, State, put, put_entry, put_inside, put_some}
 use Rattle.reach65.specs.Flow.{goal_at, next_at}
 use Rattle.map65.proofs.Public.{within}
 use Rattle.reach65.proofs.FlowLemmas.{leads-below}
@@ -18,14 +18,14 @@ use Rattle.reach65.specs.Reached.{AreReached, Reached, entry, led, is_marked}
 -- ---- what a step does
 
 -- the marks after an address is marked, for an address that is another one or not
-marks_set : (marks : List Bool) (a b : ℕ) (P : Bool → Type 0) → a < length marks → (b ≡ a → P true) → (b ≢ a → P (is_marked marks b)) → P (is_marked (set marks a true) b)
+pub marks_set : (marks : List Bool) (a b : ℕ) (P : Bool → Type 0) → a < length marks → (b ≡ a → P true) → (b ≢ a → P (is_marked marks b)) → P (is_marked (set marks a true) b)
 marks_set marks a b P room here there = grind (arith, get_or-set_same, get_or-set_other)
 
 -- a step either does nothing, since the address is marked, or marks it
-by_put : (s : State) (a : ℕ) (P : State → Type 0)
-    → (is_marked s.marks a ≡ true → P s) → (is_marked s.marks a ≡ false → P (record { marks = set s.marks a true; todo = s.todo ++ a ∷ [] })) → P (put s a)
+pub by_put : (s : State) (a : ℕ) (P : State → Type 0)
+    → (is_marked s.marks a ≡ true → P s) → (is_marked s.marks a ≡ false → P (record s { marks = set s.marks a true; todo = s.todo ++ a ∷ []; added = s.added ++ a ∷ [] })) → P (put s a)
 unfolding put
-by_put s a P old new = cond_both (is_marked s.marks a) s (record { marks = set s.marks a true; todo = s.todo ++ a ∷ [] }) P old new
+by_put s a P old new = cond_both (is_marked s.marks a) s (record s { marks = set s.marks a true; todo = s.todo ++ a ∷ []; added = s.added ++ a ∷ [] }) P old new
 
 pub put-marked : (s : State) (a : ℕ) → a < length s.marks → is_marked (put s a).marks a ≡ true
 put-marked s a room = by_put s a (λ t. is_marked t.marks a ≡ true) (λ is. is) (λ _. get_or-set_same s.marks a true false room)
@@ -64,7 +64,7 @@ blank-unmarked marks a is marked = both_ways (is_marked marks a) (blank-false ma
 abbrev no_address : List ℕ
 no_address = []
 
-contains-nil : (a : ℕ) → Contains no_address a → ⊥
+pub contains-nil : (a : ℕ) → Contains no_address a → ⊥
 contains-nil a has = omega (arith, has.1)
 
 pub search-new : (m : MapView) (entries : List ℕ) (s : State) → s.marks ≡ replicate 65536 false → s.todo ≡ [] → IsSearch m entries Nothing s
@@ -200,22 +200,102 @@ module _ (m : MapView) (entries : List ℕ) (old new mid end : State) (a : ℕ) 
 
 -- ---- the entries
 
-entries-put : (m : MapView) (entries : List ℕ) (k : ℕ) (s : State) (a : ℕ) → a < length s.marks → get_or entries k 0 ≡ a → HasEntriesTo m entries k s.marks → HasEntriesTo m entries (k + 1) (put s a).marks
-entries-put m entries k s a room here old = grind (arith, put-grows, put-marked)
+pub put-entries : (s : State) (a : ℕ) → (put s a).entries ≡ s.entries
+put-entries s a = by_put s a (λ t. t.entries ≡ s.entries) (λ _ i. s.entries) (λ _ i. s.entries)
 
--- an entry is marked if it lies in the image
-pub entries-search : (m : MapView) (entries : List ℕ) (k : ℕ) (s : State) (a : ℕ) → IsPlaced m.image → k < length entries → get_or entries k 0 ≡ a
-    → IsSearch m entries Nothing s → IsSearch m entries Nothing (put_inside m.image s a)
-unfolding put_inside
-entries-search m entries k s a placed low here old =
-    cond_both (is_inside m.image a) (put s a) s (IsSearch m entries Nothing)
-    (λ inside. search-put m entries Nothing s a (omega (arith, placed.room, (within m a inside).high)) (entry a (subst (Contains entries) here (Contains-get_or entries k 0 low)) inside) old)
-    (λ _. old)
+put_some-entries : (s : State) (o : Option ℕ) → (put_some s o).entries ≡ s.entries
+put_some-entries s None = λ i. s.entries
+put_some-entries s (Some a) = put-entries s a
 
-pub entries-next : (m : MapView) (entries : List ℕ) (k : ℕ) (s : State) (a : ℕ) → IsPlaced m.image → get_or entries k 0 ≡ a
-    → IsSearch m entries Nothing s → HasEntriesTo m entries k s.marks → HasEntriesTo m entries (k + 1) (put_inside m.image s a).marks
-unfolding put_inside
-entries-next m entries k s a placed here was old = grind (arith, entries-put)
+reached-more : (m : MapView) (entries : List ℕ) (a b : ℕ) → Reached m entries b → Reached m (entries ++ a ∷ []) b
+reached-more m entries a _ (entry b has inside) = entry b (Contains-append_left entries (a ∷ []) b has) inside
+reached-more m entries a _ (led c b from leads) = led c b (reached-more m entries a c from) leads
 
-pub entries-all : (m : MapView) (entries : List ℕ) (k : ℕ) (marks : List Bool) → length entries ≤ k → HasEntriesTo m entries k marks → HasEntries m entries marks
-entries-all m entries k marks whole old = grind (arith, get_or_default)
+-- a search without entries
+pub new-begun : (m : MapView) (s : State) → s.entries ≡ [] → s.marks ≡ replicate 65536 false → s.todo ≡ [] → IsBegun m s
+new-begun m s entries marks todo = record {
+  search = search-new m s.entries s marks todo;
+  entries = record { each = λ x has _. absurd (contains-nil x (subst (λ l. Contains l x) entries has)) };
+}
+
+-- an address joins the entries
+module _ (m : MapView) (s : State) (a : ℕ) (placed : IsPlaced m.image) (old : IsBegun m s) where
+  abbrev with_entry : State
+  with_entry = record s { entries = s.entries ++ a ∷ [] }
+
+  going_on : IsSearch m (s.entries ++ a ∷ []) Nothing with_entry
+  going_on = record {
+    count = old.search.count;
+    reached = λ b is. reached-more m s.entries a b (old.search.reached b is);
+    todo = λ b has. reached-more m s.entries a b (old.search.todo b has);
+    followed = old.search.followed;
+  }
+
+  pub entry-begun : IsBegun m (put_entry m.image s a)
+  unfolding put_entry put_inside
+  entry-begun =
+      cond_both (is_inside m.image a) (put with_entry a) with_entry (IsBegun m)
+      (λ inside.
+      let small : a < 65536 = omega (arith, placed.room, (within m a inside).high) in
+      let room : a < length s.marks = omega (arith, small, old.search.count) in
+      record {
+        search = subst (λ l. IsSearch m l Nothing (put with_entry a)) (sym (put-entries with_entry a)) (search-put m (s.entries ++ a ∷ []) Nothing with_entry a small (entry a (Contains-push s.entries a) inside) going_on);
+        entries = record {
+          each = λ x has there. elim (Contains-push_cases s.entries a x (subst (λ l. Contains l x) (put-entries with_entry a) has)) as (λ _. is_marked (put with_entry a).marks x ≡ true) [
+            | inl before ↦ put-grows with_entry a x room (old.entries.each x before there)
+            | inr here ↦ subst (λ k. is_marked (put with_entry a).marks k ≡ true) here (put-marked with_entry a room)
+          ];
+        };
+      })
+      (λ outside. record {
+        search = going_on;
+        entries = record {
+          each = λ x has there. elim (Contains-push_cases s.entries a x has) as (λ _. is_marked s.marks x ≡ true) [
+            | inl before ↦ old.entries.each x before there
+            | inr here ↦ absurd (both_ways (is_inside m.image a) outside (subst (λ k. is_inside m.image k ≡ true) (sym here) there))
+          ];
+        };
+      })
+
+pub entry-entries : (m : MapView) (s : State) (a : ℕ) → (put_entry m.image s a).entries ≡ s.entries ++ a ∷ []
+unfolding put_entry put_inside
+entry-entries m s a =
+    let t : State = record s { entries = s.entries ++ a ∷ [] } in
+    cond_both (is_inside m.image a) (put t a) t (λ u. u.entries ≡ s.entries ++ a ∷ []) (λ _. put-entries t a) (λ _ i. s.entries ++ a ∷ [])
+
+-- ---- one instruction of a search
+
+module _ (m : MapView) (old new end : State) (a : ℕ) (placed : IsPlaced m.image) (next : HasNext old new a) (leads : end ≡ put_some (put_some new (next_at m a)) (goal_at m a)) (was : IsBegun m old) where
+  pub leads-entries : end.entries ≡ old.entries
+  leads-entries = ap (λ s. s.entries) leads ∙ put_some-entries (put_some new (next_at m a)) (goal_at m a) ∙ put_some-entries new (next_at m a) ∙ next.entries
+
+  pub leads-begun : IsBegun m end
+  leads-begun = record {
+    search = subst (λ l. IsSearch m l Nothing end) (sym leads-entries) (followed-both m old.entries old new (put_some new (next_at m a)) end a placed next.marks next.todo (λ i. put_some new (next_at m a)) leads was.search);
+    entries = subst (λ l. HasEntries m l end.marks) (sym leads-entries) (followed-entries m old.entries old new (put_some new (next_at m a)) end a placed next.marks next.todo (λ i. put_some new (next_at m a)) leads was.search was.entries);
+  }
+
+  pub leads-left : left_to_do end + 1 ≡ left_to_do old
+  leads-left = followed-left m old.entries old new (put_some new (next_at m a)) end a placed next.marks next.todo (λ i. put_some new (next_at m a)) leads was.search
+
+at-end : (m : MapView) (old new : State) → IsAtEnd old new → IsBegun m old → IsBegun m new
+at-end m old new end was = record {
+  search = record {
+    count = ap length end.marks ∙ was.search.count;
+    reached = λ b is. subst (λ l. Reached m l b) (sym end.entries) (was.search.reached b (sym (ap (λ l. is_marked l b) end.marks) ∙ is));
+    todo = λ b has. absurd (contains-nil b (subst (λ l. Contains l b) end.todo has));
+    followed = λ b is. elim (was.search.followed b (sym (ap (λ l. is_marked l b) end.marks) ∙ is)) as (λ _. Contains new.todo b ⊎ (Nothing b ⊎ IsFollowed m new.marks b)) [
+      | inl before ↦ absurd (contains-nil b (subst (λ l. Contains l b) end.none before))
+      | inr rest ↦ elim rest as (λ _. Contains new.todo b ⊎ (Nothing b ⊎ IsFollowed m new.marks b)) [
+        | inl never ↦ absurd never
+        | inr done ↦ inr (inr (subst (λ l. IsFollowed m l b) (sym end.marks) done))
+      ]
+    ];
+  };
+  entries = record { each = λ x has inside. ap (λ l. is_marked l x) end.marks ∙ was.entries.each x (subst (λ l. Contains l x) end.entries has) inside };
+}
+
+pub begun_done : (m : MapView) (old new : State) → IsAtEnd old new → IsBegun m old → IsDone m new
+begun_done m old new end was =
+    let here : IsBegun m new = at-end m old new end was in
+    record { reached = search-end m new.entries new end.todo here.search here.entries; todo = end.todo }

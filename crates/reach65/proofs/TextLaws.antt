@@ -1,7 +1,7 @@
 -- The text that is proposed is accepted after the file, and adds its ranges.
 use Rattle.std.proofs.Common.{◌≡◌, ◌∙◌, ◌+◌, ◌≤◌, ℕ, Bool, true, false, List, [], ◌∷◌, ◌++◌, append_assoc, ap, arith, inl, inr, length, nat_le, refl, subst, sym}
 use Rattle.std.specs.Prelude.{Ok}
-use Rattle.std.specs.List.{flat_map, list_any}
+use Rattle.std.specs.List.{AllByRecursion, flat_map, list_any}
 use Rattle.std.proofs.lemmas.Bool.{and_parts, both_ways, leb-true}
 use Rattle.std.proofs.lemmas.List.{append-nil}
 use Rattle.std.proofs.lemmas.List.Folds.{list_any-append}
@@ -15,10 +15,12 @@ use Rattle.info65.specs.declared.information.range.RangeType.{RangeType}
 use Rattle.info65.specs.declared.information.range.RangeType.TheVariants as role
 use Rattle.map65.specs.ImageView.{IsPlaced}
 use Rattle.map65.specs.MapView.{MapView}
-use Rattle.info65.proofs.Public.{AreAdded, Gives, information-more, range_items, with_ranges}
+use Rattle.info65.proofs.Public.{AreAdded, GivesBoth, information-both, label_items, range_items}
 use Rattle.reach65.proofs.PieceLemmas.{above-range, piece-free, piece-lies}
-use Rattle.reach65.proofs.TextLemmas.{AreTables, IsTable, Later, comment-passed, comments-open, later-then, ranges-open}
-use Rattle.reach65.specs.TextLaws.{IsProposal, TextLaw, comment_line}
+use Rattle.reach65.proofs.LabelLemmas.{new-apart, new-low, new-rising}
+use Rattle.reach65.proofs.TextLemmas.{AreTables, IsTable, Later, Opens, comment-passed, comments-open, labels-open, later-then, opens-then, ranges-open}
+use Rattle.reach65.specs.Labels.{label_lines}
+use Rattle.reach65.specs.TextLaws.{IsProposal, TextLaw, comment_line, with_found}
 use Rattle.reach65.specs.Pieces.{ArePieces, Ground, IsPiece, is_free}
 use Rattle.reach65.specs.RangeLines.{range_lines}
 use Rattle.reach65.specs.Taken.{AreMarkedBy, is_given, is_taken}
@@ -30,7 +32,8 @@ piece-low g r placed ordered piece = omega (arith, placed.room, (piece-lies g r 
 
 piece-table : (g : Ground) (t : RangeType) (from end : ℕ) → IsPiece g t from end → IsTable t
 piece-table g role.TextTable from end piece = inl refl
-piece-table g role.ByteTable from end piece = inr refl
+piece-table g role.ByteTable from end piece = inr (inl refl)
+piece-table g role.AddrTable from end piece = inr (inr refl)
 piece-table g _ from end piece = absurd piece
 
 pieces-tables : (g : Ground) (from : ℕ) (rs : List RangeSpec) → IsPlaced g.image → ArePieces g from rs → AreTables rs
@@ -63,39 +66,50 @@ pieces-added g from old (r ∷ rs) placed are past = (
 
 -- ---- the text
 
-gives-of : (o : OptionsView) (ranges : List RangeSpec) (all : Stream) → Later o (range_items ranges) all [] → Gives o ranges all
+gives-both : (o : OptionsView) (ranges : List RangeSpec) (labels : List ℕ) (all middle : Stream) → Opens o (range_items ranges) all middle → Later o (label_items labels) middle [] → GivesBoth o ranges labels all
 unfolding tokens_after
-gives-of o ranges all later = grind (arith, append-nil)
+gives-both o ranges labels all middle first second = record {
+  whole = grind arith;
+  first = first.tokens;
+  second = second.opens.tokens;
+  are = grind (arith, append-nil);
+  ranges_spelled = first.spelled;
+  labels_spelled = second.opens.spelled;
+}
 
-text-gives : (o : OptionsView) (m : MapView) (ranges : List RangeSpec) (text : List ℕ) (p : IsProposal m.image ranges text) → AreTables ranges → (line : ℕ)
-    → Gives o ranges (tokens_after 0 true line ((p.first ++ 10 ∷ []) ++ (flat_map comment_line p.before ++ (range_lines m.image ranges ++ flat_map comment_line p.after))))
-text-gives o m ranges text p tables line =
+text-gives : (o : OptionsView) (m : MapView) (ranges : List RangeSpec) (labels text : List ℕ) (p : IsProposal m.image ranges labels text) → AreTables ranges → AllByRecursion (λ a. a ≤ 0xFFFF) labels → (line : ℕ)
+    → GivesBoth o ranges labels (tokens_after 0 true line ((p.first ++ 10 ∷ []) ++ (flat_map comment_line p.before ++ (range_lines m.image ranges ++ (label_lines labels ++ flat_map comment_line p.after)))))
+text-gives o m ranges labels text p tables low line =
     let last : List ℕ = flat_map comment_line p.after in
-    let middle : List ℕ = range_lines m.image ranges ++ last in
+    let tail : List ℕ = label_lines labels ++ last in
+    let middle : List ℕ = range_lines m.image ranges ++ tail in
     let rest : List ℕ = flat_map comment_line p.before ++ middle in
     let second = comments-open o (line + 1) p.before middle p.lines.1 in
-    let third = ranges-open o m.image second.line ranges last tables in
-    let fourth = comments-open o third.line p.after [] p.last_lines in
-    let fourth_is : Later o [] (tokens_of third.line last) [] = rw (append-nil last) at fourth in
-    let both : Later o (range_items ranges ++ []) (tokens_of second.line middle) [] = later-then o (range_items ranges) [] (tokens_of second.line middle) third.line last [] third.opens fourth_is in
-    let from_before : Later o (range_items ranges ++ []) (tokens_of (line + 1) rest) [] = later-then o [] (range_items ranges ++ []) (tokens_of (line + 1) rest) second.line middle [] second.opens both in
+    let third = ranges-open o m.image second.line ranges tail tables in
+    let fourth = labels-open o third.line labels last low in
+    let fifth = comments-open o fourth.line p.after [] p.last_lines in
+    let fifth_is : Later o [] (tokens_of fourth.line last) [] = rw (append-nil last) at fifth in
+    let ends : Later o (label_items labels ++ []) (tokens_of third.line tail) [] = later-then o (label_items labels) [] (tokens_of third.line tail) fourth.line last [] fourth.opens fifth_is in
+    let begins : Opens o ([] ++ range_items ranges) (tokens_of (line + 1) rest) (tokens_of third.line tail) = opens-then o [] (range_items ranges) (tokens_of (line + 1) rest) (tokens_of second.line middle) (tokens_of third.line tail) second.opens third.opens in
     let all : tokens_after 0 true line ((p.first ++ 10 ∷ []) ++ rest) ≡ tokens_of (line + 1) rest = ap (tokens_after 0 true line) (append_assoc p.first (10 ∷ []) rest) ∙ comment-passed line p.first rest p.lines.0 in
-    let P : List Item → Type 0 = λ l. Later o l (tokens_of (line + 1) rest) [] in
-    let Q : Stream → Type 0 = λ s. Gives o ranges s in
-    subst Q (sym all) (gives-of o ranges (tokens_of (line + 1) rest) (subst P (append-nil (range_items ranges)) from_before))
+    let P : List Item → Type 0 = λ l. Later o l (tokens_of third.line tail) [] in
+    let Q : Stream → Type 0 = λ s. GivesBoth o ranges labels s in
+    subst Q (sym all) (gives-both o ranges labels (tokens_of (line + 1) rest) (tokens_of third.line tail) begins (subst P (append-nil (label_items labels)) ends))
 
 -- what a range of the file has is not free
-given-past : (m : MapView) (marks taken : List Bool) → IsPlaced m.image → AreMarkedBy (is_taken m marks) taken → ArePast (record { image = m.image; taken = taken }) 0 m.info.ranges
+given-past : (m : MapView) (marks taken words : List Bool) → IsPlaced m.image → AreMarkedBy (is_taken m marks) taken → ArePast (record { image = m.image; taken = taken; words = words }) 0 m.info.ranges
 unfolding is_free is_taken is_given
-given-past m marks taken placed spoken a low given = grind arith
+given-past m marks taken words placed spoken a low given = grind arith
 
 pub text_law : (m : MapView) → TextLaw m
-text_law m o file text info marks taken pieces accepted same placed spoken are p small =
-    let g : Ground = record { image = m.image; taken = taken } in
+text_law m o file text info marks taken words pieces labels accepted same among named placed spoken are new p small =
+    let g : Ground = record { image = m.image; taken = taken; words = words } in
     let P : List RangeSpec → Type 0 = λ l. ArePast g 0 l in
-    let past : ArePast g 0 info.ranges = subst P same (given-past m marks taken placed spoken) in
+    let past : ArePast g 0 info.ranges = subst P same (given-past m marks taken words placed spoken) in
     let added = pieces-added g 0 info.ranges pieces placed are past in
-    let tail : List ℕ = (p.first ++ 10 ∷ []) ++ (flat_map comment_line p.before ++ (range_lines m.image pieces ++ flat_map comment_line p.after)) in
+    let tail : List ℕ = (p.first ++ 10 ∷ []) ++ (flat_map comment_line p.before ++ (range_lines m.image pieces ++ (label_lines labels ++ flat_map comment_line p.after))) in
     let R : List ℕ → Type 0 = λ t. length (file ++ t) ≤ 1_048_576 in
-    let Q : List ℕ → Type 0 = λ t. information o (file ++ t) ≡ Ok (with_ranges info pieces) in
-    subst Q (sym p.parts) (information-more o file tail info pieces accepted added (subst R p.parts small) (λ line. text-gives o m pieces text p (pieces-tables g 0 pieces placed are) line))
+    let Q : List ℕ → Type 0 = λ t. information o (file ++ t) ≡ Ok (with_found info pieces labels) in
+    subst Q (sym p.parts)
+    (information-both o file tail info pieces labels accepted added (new-rising m.info.names 0 labels new) (new-apart info.names m.info.names 0 labels among named new) (subst R p.parts small)
+    (λ line. text-gives o m pieces labels text p (pieces-tables g 0 pieces placed are) (new-low m.info.names 0 labels new) line))

@@ -2,26 +2,29 @@
 use Rattle.std.proofs.Common.{◌≡◌, ◌∙◌, ◌==◌, ◌+◌, ◌*◌, ◌/◌, ◌%◌, ◌<◌, ◌≤◌, ◌⊎◌, ℕ, Bool, true, false, not, List, [], ◌∷◌, ◌++◌, append_assoc, ap, arith, inl, inr, length, map, nat_lt, refl, take}
 use Rattle.std.specs.Prelude.{Some, Ok, codes, if◌then◌else◌}
 use Rattle.std.specs.Char.{digit_value, is_ascii_hexdigit}
-use Rattle.std.specs.List.{flat_map}
+use Rattle.std.specs.List.{AllByRecursion, flat_map}
 use Rattle.std.proofs.lemmas.Bool.{and_from, and_parts, le-leb, not-true}
 use Rattle.std.proofs.lemmas.Bool.Decides.{nat_tests}
 use Rattle.std.proofs.lemmas.List.Folds.{list_all-append}
 use Rattle.text65.specs.Digits.{digits4, hex_digit}
 use Rattle.info65.specs.Attributes.{attribute_named, form_of, group_named, type_named}
 use Rattle.info65.specs.Grammar.{Item, Spells, attribute_name, group_name, value, mark}
-use Rattle.info65.specs.Lexemes.{closing_brace, in_class, lexeme_at, number, number_at, number_in, opening_brace, semicolon, word, word_at}
+use Rattle.info65.specs.Lexemes.{closing_brace, in_class, lexeme_at, number, number_at, number_in, opening_brace, semicolon, string, string_at, word, word_at}
+use Rattle.info65.specs.Names.{default_name}
 use Rattle.info65.specs.Tokens.{Stream, TokenView, tokens_after, tokens_of}
-use Rattle.info65.specs.Values.{a_type, an_address, value_of}
+use Rattle.info65.specs.Values.{a_name, a_type, an_address, value_of}
 use Rattle.info65.specs.Views.{OptionsView}
 use Rattle.info65.specs.declared.syntax.attribute.Attribute.{Attribute}
 use Rattle.info65.specs.declared.syntax.attribute.Attribute.TheVariants as attribute
 use Rattle.info65.specs.declared.syntax.attribute.Form.TheVariants as form
 use Rattle.info65.specs.declared.syntax.attribute.GroupKind.TheVariants as group
+use Rattle.info65.specs.declared.syntax.lexeme.Class.TheVariants as class
 use Rattle.info65.specs.declared.information.range.RangeSpec.{RangeSpec}
 use Rattle.info65.specs.declared.information.range.RangeType.{RangeType}
 use Rattle.info65.specs.declared.information.range.RangeType.TheVariants as role
 use Rattle.map65.specs.ImageView.{ImageView}
-use Rattle.info65.proofs.Public.{after_tokens, range_items, spells-append}
+use Rattle.info65.proofs.Public.{after_tokens, default-form, label_items, range_items, spells-append}
+use Rattle.reach65.specs.Labels.{label_line, label_lines}
 use Rattle.reach65.specs.TextLaws.{AreLines, comment_line, is_line}
 use Rattle.reach65.specs.RangeLines.{dots_above, range_bytes, range_line, range_lines, shown_byte, shown_bytes, type_text}
 
@@ -35,7 +38,7 @@ pub record Opens (o : OptionsView) (items : List Item) (all rest : Stream) : Typ
 pub opens-none : (o : OptionsView) (s : Stream) → Opens o [] s s
 opens-none o s = record { tokens = []; is = refl; spelled = tt }
 
-opens-then : (o : OptionsView) (items more : List Item) (all middle rest : Stream) → Opens o items all middle → Opens o more middle rest → Opens o (items ++ more) all rest
+pub opens-then : (o : OptionsView) (items more : List Item) (all middle rest : Stream) → Opens o items all middle → Opens o more middle rest → Opens o (items ++ more) all rest
 opens-then o items more all middle rest first second = grind (arith, append_assoc, spells-append)
 
 -- ---- the words of a line
@@ -66,9 +69,9 @@ type_tokens line text =
     a_word line (codes "TYPE") ∷ a_word line text ∷ record { kind = semicolon; text = codes ";"; line = line } ∷ record { kind = closing_brace; text = codes "}"; line = line }
     ∷ record { kind = semicolon; text = codes ";"; line = line } ∷ []
 
--- a range that is proposed has one of two types
+-- a range that is proposed has one of three types
 abbrev pub IsTable : RangeType → Type 0
-IsTable t = (t ≡ role.TextTable) ⊎ (t ≡ role.ByteTable)
+IsTable t = (t ≡ role.TextTable) ⊎ ((t ≡ role.ByteTable) ⊎ (t ≡ role.AddrTable))
 
 -- the type of a range, up to the comment
 abbrev type_line : RangeType → List ℕ → List ℕ
@@ -78,8 +81,10 @@ type-opens : (o : OptionsView) (line : ℕ) (t : RangeType) (rest : List ℕ) �
 unfolding tokens_after lexeme_at word_at in_class attribute_named value_of form_of type_named
 type-opens o line role.TextTable rest table = record { tokens = type_tokens line (codes "TextTable"); is = refl; spelled = ((refl, refl), (refl, (refl, (refl, (refl, tt))))) }
 type-opens o line role.ByteTable rest table = record { tokens = type_tokens line (codes "ByteTable"); is = refl; spelled = ((refl, refl), (refl, (refl, (refl, (refl, tt))))) }
+type-opens o line role.AddrTable rest table = record { tokens = type_tokens line (codes "AddrTable"); is = refl; spelled = ((refl, refl), (refl, (refl, (refl, (refl, tt))))) }
 type-opens o line _ rest (inl is) = cc
-type-opens o line _ rest (inr is) = cc
+type-opens o line _ rest (inr (inl is)) = cc
+type-opens o line _ rest (inr (inr is)) = cc
 
 -- ---- a number of four hex digits
 
@@ -207,6 +212,87 @@ range-opens o image line r rest table first_low last_low =
     let tail = rest-opens o line r.role _ shown rest (shown-is-line (range_bytes image r)) (type-opens o line r.role (shown ++ 10 ∷ rest) table) in
     rw (range-line image r rest) (opens-then o (range_front r) (type_items r.role) _ _ _ (front-opens o line r (type_line r.role (shown ++ 10 ∷ rest)) first_low last_low) tail)
 
+-- ---- the line of a label
+
+abbrev label_start : List Item
+label_start = group_name group.Label ∷ mark opening_brace ∷ attribute_name group.Label attribute.Address ∷ []
+
+label-start : (o : OptionsView) (line : ℕ) (rest : List ℕ) → Opens o label_start (tokens_of line (codes "LABEL { ADDR " ++ rest)) (tokens_of line rest)
+unfolding tokens_after lexeme_at word_at in_class group_named attribute_named
+label-start o line rest = record {
+  tokens = a_word line (codes "LABEL") ∷ record { kind = opening_brace; text = codes "{"; line = line } ∷ a_word line (codes "ADDR") ∷ [];
+  is = refl;
+  spelled = ((refl, refl), (refl, ((refl, refl), tt)));
+}
+
+name-opens : (o : OptionsView) (line : ℕ) (rest : List ℕ) → Opens o (attribute_name group.Label attribute.Name ∷ []) (tokens_of line (codes " NAME " ++ rest)) (tokens_of line rest)
+unfolding tokens_after lexeme_at word_at in_class attribute_named
+name-opens o line rest = record { tokens = a_word line (codes "NAME") ∷ []; is = refl; spelled = ((refl, refl), tt) }
+
+address-form : form_of attribute.Address ≡ form.Address
+unfolding form_of
+address-form = refl
+
+name-form : form_of attribute.Name ≡ form.Name
+unfolding form_of
+name-form = refl
+
+-- a digit can stand in a string
+hex-text : (d : ℕ) → d < 16 → in_class class.Text (hex_digit d) ≡ true
+unfolding in_class
+hex-text d low = grind (arith, nat_tests)
+
+string-of : (line a b c d : ℕ) (rest : List ℕ) → in_class class.Text a ≡ true → in_class class.Text b ≡ true → in_class class.Text c ≡ true → in_class class.Text d ≡ true
+    → lexeme_at line (34 ∷ 76 ∷ a ∷ b ∷ c ∷ d ∷ 34 ∷ rest) ≡ Ok (record { kind = string (76 ∷ a ∷ b ∷ c ∷ d ∷ []); more = 6 })
+unfolding lexeme_at string_at in_class
+string-of line a b c d rest a_is b_is c_is d_is =
+    let longer : (5 == length (76 ∷ a ∷ b ∷ c ∷ d ∷ 34 ∷ rest)) ≡ false = grind (arith, nat_tests) in
+    rw (a_is, b_is, c_is, d_is, longer) refl
+
+name-string : (line n : ℕ) (rest : List ℕ) → lexeme_at line (34 ∷ (default_name n ++ 34 ∷ rest)) ≡ Ok (record { kind = string (default_name n); more = 6 })
+unfolding default_name
+name-string line n rest =
+    string-of line (hex_digit (n / 4096 % 16)) (hex_digit (n / 256 % 16)) (hex_digit (n / 16 % 16)) (hex_digit (n % 16)) rest
+    (hex-text (n / 4096 % 16) (below-16 (n / 4096))) (hex-text (n / 256 % 16) (below-16 (n / 256))) (hex-text (n / 16 % 16) (below-16 (n / 16))) (hex-text (n % 16) (below-16 n))
+
+name-value : (o : OptionsView) (line n : ℕ) (text : List ℕ) → value_of o attribute.Name (record { kind = string (default_name n); text = text; line = line }) ≡ Ok (a_name (default_name n))
+unfolding value_of
+name-value o line n text = rw (name-form, default-form n) refl
+
+abbrev label_end : ℕ → List Item
+label_end n = value attribute.Name (a_name (default_name n)) ∷ mark semicolon ∷ mark closing_brace ∷ mark semicolon ∷ []
+
+abbrev end-tokens : ℕ → List TokenView
+end-tokens line = record { kind = semicolon; text = codes ";"; line = line } ∷ record { kind = closing_brace; text = codes "}"; line = line } ∷ record { kind = semicolon; text = codes ";"; line = line } ∷ []
+
+-- what follows the string, up to the end of the line
+brace-opens : (o : OptionsView) (line : ℕ) (rest : List ℕ) → Opens o (mark semicolon ∷ mark closing_brace ∷ mark semicolon ∷ []) (tokens_of line (codes "; };\n" ++ rest)) (tokens_of (line + 1) rest)
+unfolding tokens_after lexeme_at
+brace-opens o line rest = record { tokens = end-tokens line; is = refl; spelled = (refl, (refl, (refl, tt))) }
+
+abbrev name-token : ℕ → ℕ → List ℕ → TokenView
+name-token line n rest = record { kind = string (default_name n); text = take 7 (34 ∷ (default_name n ++ 34 ∷ rest)); line = line }
+
+quote-passed : (line n : ℕ) (rest : List ℕ) → tokens_of line (34 ∷ (default_name n ++ 34 ∷ rest)) ≡ after_tokens (name-token line n rest ∷ []) (tokens_of line rest)
+unfolding tokens_after default_name
+quote-passed line n rest = rw (name-string line n rest) refl
+
+quote-opens : (o : OptionsView) (line n : ℕ) (rest : List ℕ) → Opens o (value attribute.Name (a_name (default_name n)) ∷ []) (tokens_of line (34 ∷ (default_name n ++ 34 ∷ rest))) (tokens_of line rest)
+quote-opens o line n rest = record { tokens = name-token line n rest ∷ []; is = quote-passed line n rest; spelled = (name-value o line n (take 7 (34 ∷ (default_name n ++ 34 ∷ rest))), tt) }
+
+label-line : (n : ℕ) (rest : List ℕ) → label_line n ++ rest ≡ codes "LABEL { ADDR " ++ (36 ∷ (digits4 n ++ 59 ∷ (codes " NAME " ++ (34 ∷ (default_name n ++ 34 ∷ (codes "; };\n" ++ rest))))))
+unfolding label_line
+label-line n rest = simp append_assoc
+
+label-opens : (o : OptionsView) (line n : ℕ) (rest : List ℕ) → n ≤ 0xFFFF → Opens o (label_items (n ∷ [])) (tokens_of line (label_line n ++ rest)) (tokens_of (line + 1) rest)
+label-opens o line n rest low =
+    let five = brace-opens o line rest in
+    let four = quote-opens o line n (codes "; };\n" ++ rest) in
+    let three = name-opens o line (34 ∷ (default_name n ++ 34 ∷ (codes "; };\n" ++ rest))) in
+    let two = number-opens o attribute.Address line n (codes " NAME " ++ (34 ∷ (default_name n ++ 34 ∷ (codes "; };\n" ++ rest)))) address-form low in
+    let one = label-start o line (36 ∷ (digits4 n ++ 59 ∷ (codes " NAME " ++ (34 ∷ (default_name n ++ 34 ∷ (codes "; };\n" ++ rest)))))) in
+    rw (label-line n rest) (opens-then o _ _ _ _ _ one (opens-then o _ _ _ _ _ two (opens-then o _ _ _ _ _ three (opens-then o _ _ _ _ _ four five))))
+
 -- ---- lines of ranges, and of comments
 
 -- ranges of these types within the address space
@@ -236,3 +322,10 @@ comments-open o line [] rest are = record { line = line; opens = opens-none o (t
 comments-open o line (c ∷ cs) rest are =
     let more = comments-open o (line + 1) cs rest are.1 in
     rw (append_assoc c (10 ∷ []) (flat_map comment_line cs), append_assoc c (10 ∷ flat_map comment_line cs) rest, comment-passed line c (flat_map comment_line cs ++ rest) are.0) more
+
+pub labels-open : (o : OptionsView) (line : ℕ) (labels : List ℕ) (rest : List ℕ) → AllByRecursion (λ a. a ≤ 0xFFFF) labels → Later o (label_items labels) (tokens_of line (label_lines labels ++ rest)) rest
+unfolding label_lines
+labels-open o line [] rest low = record { line = line; opens = opens-none o (tokens_of line rest) }
+labels-open o line (a ∷ labels) rest low =
+    rw (append_assoc (label_line a) (label_lines labels) rest)
+    (later-then o (label_items (a ∷ [])) (label_items labels) _ (line + 1) (label_lines labels ++ rest) rest (label-opens o line a (label_lines labels ++ rest) low.0) (labels-open o (line + 1) labels rest low.1))

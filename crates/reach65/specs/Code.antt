@@ -1,2 +1,4 @@
 -- what the code computes beside the definitions
 pub mod Searching
+pub mod Apart
+pub mod Growing

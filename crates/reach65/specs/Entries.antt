@@ -60,6 +60,14 @@ abbrev pub or_start : ImageView → List ℕ → List ℕ
 or_start image [] = image.start ∷ []
 or_start image entries = entries
 
--- those that are given, and those that the information file and the image have
+-- those that the information file and the image have, with these of its tables, and then those that are given
+unfoldable pub entries_with : MapView → List ℕ → List ℕ → List ℕ
+entries_with m tables given = or_start m.image (tables ++ code_starts m.info.ranges ++ vectors m.image) ++ given
+
+-- without what the tables of addresses and of returns refer to
 unfoldable pub entries_of : MapView → List ℕ → List ℕ
-entries_of m given = or_start m.image (given ++ pointers m ++ code_starts m.info.ranges ++ vectors m.image)
+entries_of m given = entries_with m [] given
+
+-- with it
+unfoldable pub plain_entries_of : MapView → List ℕ → List ℕ
+plain_entries_of m given = entries_with m (pointers m) given

@@ -49,7 +49,7 @@ pub record KeepsItems (m : MapView) (marks : List Bool) (info : InfoView) : Type
       → item_len (with_info m info) a ≡ len_of op.mode
 
 abbrev pub CodeLaw : MapView → Type 0
-CodeLaw m = (entries : List ℕ) (marks taken : List Bool) (pieces : List RangeSpec) (info : InfoView)
+CodeLaw m = (entries : List ℕ) (marks taken words : List Bool) (pieces : List RangeSpec) (info : InfoView)
     → IsPlaced m.image → AreReached m entries marks → AreMarkedBy (is_taken m marks) taken
-    → ArePieces (record { image = m.image; taken = taken }) 0 pieces → IsWith m.info info pieces
+    → ArePieces (record { image = m.image; taken = taken; words = words }) 0 pieces → IsWith m.info info pieces
     → AreWhole m marks → KeepsItems m marks info

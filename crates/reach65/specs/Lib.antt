@@ -4,6 +4,16 @@ pub mod Entries
 pub mod Reached
 pub mod Taken
 pub mod Pairs
+pub mod Sound
+pub mod Growth
+pub mod Worked
+pub mod Routines
+pub mod Halves
+pub mod Rows
+pub mod Said
+pub mod Variables
+pub mod Labels
+pub mod Vectors
 pub mod Pieces
 pub mod RangeLines
 pub mod TextLaws

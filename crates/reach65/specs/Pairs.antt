@@ -36,10 +36,10 @@ is_near image a = nat_le image.start a && nat_lt a (end_of image + 256)
 abbrev pub formed : ImageView → ℕ → ℕ → ℕ
 formed image low high = byte_at image low + 256 * byte_at image high
 
--- the pair with its bytes at these places, if they form such an address
-unfoldable pub joined : ImageView → ℕ → ℕ → List Pair
-joined image low high =
-    if is_near image (formed image low high) then record { low = low; high = high; address = formed image low high } ∷ [] else []
+-- the pair of this rank with its bytes at these places, if they form such an address
+unfoldable pub joined : ImageView → ℕ → ℕ → ℕ → List Pair
+joined image rank low high =
+    if is_near image (formed image low high) then record { low = low; high = high; address = formed image low high; rank = rank } ∷ [] else []
 
 -- ---- loads and stores
 
@@ -93,16 +93,26 @@ store_at m marks a = store_of m a (reached_op m marks a)
 abbrev pub is_same : Register → Register → Bool
 is_same r s = sameb register.the_type r s
 
+-- The rank of a pair by the registers of its low and its high byte: which of two pairs of the same bytes is likelier, the lower one.
+abbrev pub rank_of : Register → Register → ℕ
+rank_of A X = 1
+rank_of X Y = 2
+rank_of A Y = 3
+rank_of X A = 4
+rank_of Y A = 5
+rank_of _ _ = 6
+
 -- Two loads of different registers, the first at this address: the byte of each may be the low one.
 abbrev pub by_loads : ImageView → ℕ → Register → Option Register → List Pair
 by_loads image a r None = []
-by_loads image a r (Some s) = if is_same r s then [] else joined image (a + 1) (a + 3) ++ joined image (a + 3) (a + 1)
+by_loads image a r (Some s) =
+    if is_same r s then [] else joined image (rank_of r s) (a + 1) (a + 3) ++ joined image (rank_of s r) (a + 3) (a + 1)
 
--- two bytes by the addresses that they are stored to
+-- two bytes by the addresses that they are stored to: no pair is likelier
 unfoldable pub by_places : ImageView → ℕ → ℕ → ℕ → ℕ → List Pair
 by_places image one other to then_to =
-    if then_to == to + 1 then joined image one other
-    else (if to == then_to + 1 then joined image other one else [])
+    if then_to == to + 1 then joined image 0 one other
+    else (if to == then_to + 1 then joined image 0 other one else [])
 
 -- a load and a store, after these of the same register
 abbrev pub by_again : ImageView → ℕ → Store → Option Register → Option Store → List Pair

@@ -22,9 +22,10 @@ shown_bytes bytes = map shown_byte (take 32 bytes) ++ dots_above (length bytes)
 abbrev pub range_bytes : ImageView → RangeSpec → List ℕ
 range_bytes image r = take (r.last + 1 - r.first) (bytes_from image r.first)
 
--- a table of bytes, unless it is a text
+-- a table of bytes, unless it is a text or a table of addresses
 abbrev pub type_text : RangeType → List ℕ
 type_text role.TextTable = codes "TextTable"
+type_text role.AddrTable = codes "AddrTable"
 type_text _ = codes "ByteTable"
 
 -- `RANGE { START $hhhh; END $hhhh; TYPE t; }; # ..`, and the end of the line

@@ -1,11 +1,14 @@
 -- The text that is proposed, after the information file that was given.
-use Rattle.std.specs.Prelude.{◌≡◌, ℕ, ◌≤◌, ◌==◌, Bool, true, not, List, [], ◌∷◌, ◌++◌, length, Ok}
-use Rattle.std.specs.List.{AllByRecursion, flat_map, list_all}
+use Rattle.std.specs.Prelude.{◌≡◌, ℕ, ◌≤◌, ◌==◌, Bool, true, not, List, [], ◌∷◌, ◌++◌, length, map, Ok}
+use Rattle.std.specs.List.{AllByRecursion, Contains, flat_map, list_all}
+use Rattle.info65.specs.Labels.{by_address}
+use Rattle.info65.specs.Names.{AreNames, default_label}
 use Rattle.info65.specs.declared.information.range.RangeSpec.{RangeSpec}
 use Rattle.info65.specs.Reader.{information}
-use Rattle.info65.specs.Views.{InfoView, OptionsView}
+use Rattle.info65.specs.Views.{InfoView, NameView, OptionsView}
 use Rattle.map65.specs.ImageView.{ImageView, IsPlaced}
 use Rattle.map65.specs.MapView.{MapView}
+use Rattle.reach65.specs.Labels.{AreNewLabels, label_lines}
 use Rattle.reach65.specs.Pieces.{ArePieces}
 use Rattle.reach65.specs.RangeLines.{range_lines}
 use Rattle.reach65.specs.Taken.{AreMarkedBy, is_taken}
@@ -21,20 +24,30 @@ AreLines lines = AllByRecursion (λ l. is_line l ≡ true) lines
 abbrev pub comment_line : List ℕ → List ℕ
 comment_line comment = 35 ∷ (comment ++ 10 ∷ [])
 
--- Lines of comments, one at least, then those of the ranges, and lines of comments again.
-pub record IsProposal (image : ImageView) (ranges : List RangeSpec) (text : List ℕ) : Type 0 where
+-- Lines of comments, one at least, then those of the ranges, those of the labels, and lines of comments again.
+pub record IsProposal (image : ImageView) (ranges : List RangeSpec) (labels : List ℕ) (text : List ℕ) : Type 0 where
   pub first : List ℕ
   pub before : List (List ℕ)
   pub after : List (List ℕ)
-  pub parts : text ≡ comment_line first ++ (flat_map comment_line before ++ (range_lines image ranges ++ flat_map comment_line after))
+  pub parts : text ≡ comment_line first ++ (flat_map comment_line before ++ (range_lines image ranges ++ (label_lines labels ++ flat_map comment_line after)))
   pub lines : AreLines (first ∷ before)
   pub last_lines : AreLines after
 
--- A file that is accepted, and after it a text of the ranges that are proposed beside those of the file: both are accepted, and say what
--- the file says, with these ranges after its own. The file may end within a comment: the text begins with one.
+-- each name of the first is one of the second
+abbrev pub AreAmong : List NameView → List NameView → Type 0
+AreAmong names all = (n : NameView) → Contains names n → Contains all n
+
+-- what an information file says, with more ranges, and with the default names of more addresses
+abbrev pub with_found : InfoView → List RangeSpec → List ℕ → InfoView
+with_found info ranges labels = record info { ranges = info.ranges ++ ranges; names = by_address (info.names ++ map default_label labels) }
+
+-- A file that is accepted, and after it a text of the ranges that are proposed beside those of the file, and of labels at addresses without a
+-- name: both are accepted, and say what the file says, with these ranges and names besides. The file may end within a comment: the text
+-- begins with one. The map may have more names than the file: those of include files.
 abbrev pub TextLaw : MapView → Type 0
-TextLaw m = (o : OptionsView) (file text : List ℕ) (info : InfoView) (marks taken : List Bool) (pieces : List RangeSpec)
-    → information o file ≡ Ok info → m.info.ranges ≡ info.ranges
-    → IsPlaced m.image → AreMarkedBy (is_taken m marks) taken → ArePieces (record { image = m.image; taken = taken }) 0 pieces
-    → IsProposal m.image pieces text → length (file ++ text) ≤ 1_048_576
-    → information o (file ++ text) ≡ Ok (record info { ranges = info.ranges ++ pieces })
+TextLaw m = (o : OptionsView) (file text : List ℕ) (info : InfoView) (marks taken words : List Bool) (pieces : List RangeSpec) (labels : List ℕ)
+    → information o file ≡ Ok info → m.info.ranges ≡ info.ranges → AreAmong info.names m.info.names → AreNames m.info.names
+    → IsPlaced m.image → AreMarkedBy (is_taken m marks) taken → ArePieces (record { image = m.image; taken = taken; words = words }) 0 pieces
+    → AreNewLabels m.info.names 0 labels
+    → IsProposal m.image pieces labels text → length (file ++ text) ≤ 1_048_576
+    → information o (file ++ text) ≡ Ok (with_found info pieces labels)

@@ -4,7 +4,7 @@ ghost use Rattle.std.specs.Prelude.{◌≡◌, ◌+◌, ◌++◌, ◌<◌, ◌�
 ghost use Rattle.std.specs.Option.{option_to_list};
 ghost use Rattle.map65.specs.ImageView.{end_of};
 ghost use Rattle.map65.specs.MapView.{MapView};
-ghost use Rattle.reach65.specs.Entries.{code_start, code_starts, entries_of, has_vectors, pointer_at, pointer_for, pointers, vectors, word_at};
+ghost use Rattle.reach65.specs.Entries.{code_start, code_starts, entries_of, entries_with, has_vectors, plain_entries_of, pointer_at, pointer_for, pointers, vectors, word_at};
 
 use crate::flow::{byte_at, bytes_from};
 use info65::{Entry, RangeSpec, RangeType};
@@ -48,6 +48,18 @@ fn pointer_at<A: Allocator>(map: &Map<'_, A>, address: u16) -> Option<u16>
     let role = map.role(address)?;
     let bytes = bytes_from(map.image(), address);
     pointer_for(role.layout().entry, map.item_len(address), bytes)
+}
+
+/// Returns what the tables of addresses and of returns refer to, in the order of their entries. Fails only if an allocation failed.
+pub fn pointers_of<A: Allocator, B: Allocator>(
+    alloc: A,
+    map: &Map<'_, B>,
+) -> Result<Vec<u16, A>, AllocError>
+    ensures { IfOk result (λ found. found.items ≡ pointers map.now) }
+{
+    let mut found = Vec::new(alloc);
+    put_pointers(&mut found, map)?;
+    Ok(found)
 }
 
 /// Adds what the tables of addresses and of returns refer to.
@@ -94,14 +106,14 @@ fn put_code_starts<A: Allocator>(
 // ---- vectors
 
 /// Whether the image has the bytes at $FFFA to $FFFF.
-fn has_vectors<A: Allocator>(image: &Image<A>) -> bool
+pub fn has_vectors<A: Allocator>(image: &Image<A>) -> bool
     ensures { result ≡ has_vectors image.now }
 {
     image.start() <= 0xFFFA && usize::from(image.start()) + image.bytes().len() == 0x1_0000
 }
 
 /// The word at an address of the image, low byte first.
-fn word_at<A: Allocator>(image: &Image<A>, address: u16) -> u16
+pub fn word_at<A: Allocator>(image: &Image<A>, address: u16) -> u16
     requires low { image.now.start ≤ address }
     requires high { address + 1 < end_of image.now }
     ensures { result ≡ word_at image.now address }
@@ -128,9 +140,26 @@ fn put_vectors<A: Allocator, B: Allocator>(
 
 // ---- all
 
-/// Returns where reading begins: the addresses that are given; what the entries of the tables of addresses and of returns refer to; the
-/// first address of each range of code; the vectors, if the image has $FFFA to $FFFF; and without any of these the first address
-/// of the image. Fails only if an allocation failed.
+/// Where reading begins, with these addresses of tables.
+#[tactic(auto, unfolding(crate::specs::Entries::entries_with))]
+fn entries_with<A: Allocator, B: Allocator>(
+    mut tables: Vec<u16, A>,
+    map: &Map<'_, B>,
+    given: &[u16],
+) -> Result<Vec<u16, A>, AllocError>
+    ensures { IfOk result (λ found. found.items ≡ entries_with map.now tables.items given.now) }
+{
+    put_code_starts(&mut tables, map.info().ranges())?;
+    put_vectors(&mut tables, map.image())?;
+    if tables.is_empty() {
+        tables.push(map.image().start())?;
+    }
+    tables.extend_from_slice(given)?;
+    Ok(tables)
+}
+
+/// Returns where reading begins: the first address of each range of code; the vectors, if the image has $FFFA to $FFFF; without any of
+/// these the first address of the image; and the addresses that are given. Fails only if an allocation failed.
 #[tactic(auto, unfolding(crate::specs::Entries::entries_of))]
 pub fn entries_of<A: Allocator, B: Allocator>(
     alloc: A,
@@ -139,13 +168,18 @@ pub fn entries_of<A: Allocator, B: Allocator>(
 ) -> Result<Vec<u16, A>, AllocError>
     ensures { IfOk result (λ found. found.items ≡ entries_of map.now given.now) }
 {
-    let mut found = Vec::new(alloc);
-    found.extend_from_slice(given)?;
-    put_pointers(&mut found, map)?;
-    put_code_starts(&mut found, map.info().ranges())?;
-    put_vectors(&mut found, map.image())?;
-    if found.is_empty() {
-        found.push(map.image().start())?;
-    }
-    Ok(found)
+    entries_with(Vec::new(alloc), map, given)
+}
+
+/// Returns where reading begins if tables are followed, too: what the entries of the tables of addresses and of returns refer to
+/// comes first, and with any of them the first address of the image is no entry. Fails only if an allocation failed.
+#[tactic(auto, unfolding(crate::specs::Entries::plain_entries_of))]
+pub fn plain_entries_of<A: Allocator, B: Allocator>(
+    alloc: A,
+    map: &Map<'_, B>,
+    given: &[u16],
+) -> Result<Vec<u16, A>, AllocError>
+    ensures { IfOk result (λ found. found.items ≡ plain_entries_of map.now given.now) }
+{
+    entries_with(pointers_of(alloc, map)?, map, given)
 }

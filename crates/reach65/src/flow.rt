@@ -1,9 +1,9 @@
 //! Where instructions lead.
 
-ghost use Rattle.std.specs.Prelude.{◌≡◌, ◌+◌, ◌≤◌, ◌<◌, length, IfSome};
+ghost use Rattle.std.specs.Prelude.{◌≡◌, ◌+◌, ◌≤◌, ◌<◌, length, IfSome, Some};
 ghost use Rattle.isa65.specs.Mode.{len_of, row_len};
 ghost use Rattle.map65.specs.ImageView.{byte_at, bytes_from, end_of};
-ghost use Rattle.reach65.specs.Flow.{goal_at, goal_of, instruction_at, is_last, next_at, row_goal};
+ghost use Rattle.reach65.specs.Flow.{goal_at, goal_by, goal_of, instruction_at, is_last, next_at, next_of, row_goal};
 
 use info65::RangeType;
 use isa65::{DecodeTable, Mnemonic, Op, OpcodeSet, OperandKind, Pattern, Row};
@@ -30,7 +30,7 @@ impl<'a, 'm, A: Allocator> Model for Flow<'a, 'm, A> {
 }
 
 /// Whether the next instruction does not run after it.
-fn is_last(mnemonic: Mnemonic) -> bool
+pub fn is_last(mnemonic: Mnemonic) -> bool
     ensures { result ≡ is_last mnemonic }
 {
     mnemonic == Mnemonic::Jmp
@@ -82,7 +82,7 @@ fn row_goal(mnemonic: Mnemonic, row: Row, next: u32, bytes: &[u8]) -> Option<u16
 
 /// The address that an instruction of these bytes goes to by its operand.
 #[tactic(auto, unfolding(crate::specs::Flow::goal_of))]
-fn goal_of(op: Op, address: u16, bytes: &[u8]) -> Option<u16>
+pub fn goal_of(op: Op, address: u16, bytes: &[u8]) -> Option<u16>
     requires all { len_of op.mode ≤ length bytes.now }
     requires room { address + len_of op.mode ≤ 65536 }
     ensures { result ≡ goal_of op.mnemonic op.mode address bytes.now }
@@ -132,13 +132,18 @@ impl<'a, 'm, A: Allocator> Flow<'a, 'm, A> {
         ensures { result ≡ next_at self.now address }
     {
         let op = self.instruction_at(address)?;
+        self.next_of(address, op)
+    }
+
+    /// Returns the address after this instruction of the address, if it leads there.
+    pub fn next_of(&self, address: u16, op: Op) -> Option<u16>
+        ensures { result ≡ next_of self.now address (Some op) }
+    {
         if is_last(op.mnemonic) {
             return None;
         }
-        only_inside(
-            self.map.image(),
-            usize::from(address) + usize::from(op.mode.len()),
-        )
+        let next = usize::from(address) + usize::from(op.mode.len());
+        only_inside(self.map.image(), next)
     }
 
     /// Returns the address that the instruction goes to by its operand, if it lies in the image.
@@ -147,6 +152,16 @@ impl<'a, 'm, A: Allocator> Flow<'a, 'm, A> {
         ensures { result ≡ goal_at self.now address }
     {
         let op = self.instruction_at(address)?;
+        self.goal_by(address, op)
+    }
+
+    /// Returns the address that this instruction of the address goes to by its operand, if it lies in the image.
+    pub fn goal_by(&self, address: u16, op: Op) -> Option<u16>
+        requires low { self.now.image.start ≤ address }
+        requires high { address < end_of self.now.image }
+        requires whole { address + len_of op.mode ≤ end_of self.now.image }
+        ensures { result ≡ goal_by self.now address (Some op) }
+    {
         let image = self.map.image();
         let goal = goal_of(op, address, bytes_from(image, address))?;
         only_inside(image, usize::from(goal))

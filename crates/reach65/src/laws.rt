@@ -3,6 +3,7 @@
 ghost use Rattle.map65.specs.MapView.{MapView};
 ghost use Rattle.reach65.specs.Laws.{CodeLaw};
 ghost use Rattle.reach65.specs.TextLaws.{TextLaw};
+ghost use Rattle.reach65.specs.Worked.{WorkedCode};
 
 /// With the ranges that are proposed besides those that were given, each reached instruction is an item of the map, if no
 /// two of them share a byte and each lies in one run.
@@ -14,4 +15,10 @@ pub fn code_law()
 /// with the ranges that are proposed after its own.
 pub fn text_law()
     ensures { (m : MapView) → TextLaw m }
+{}
+
+/// Worked examples: where instructions lead, which entries there are, what a sound beginning is, and which words make a row.
+#[tactic(auto, using(crate::proofs::WorkedRows::worked_code))]
+pub fn worked_code()
+    ensures { WorkedCode }
 {}

@@ -5,15 +5,32 @@
 
 mod entries;
 mod flow;
+mod growth;
+mod halves;
+mod labels;
 pub mod laws;
 mod pairs;
 mod pieces;
+mod routines;
+mod rows;
+mod said;
 mod search;
+mod sound;
 mod taken;
+mod variables;
+mod vectors;
 
-pub use entries::entries_of;
+pub use entries::{entries_of, plain_entries_of, pointers_of};
 pub use flow::Flow;
+pub use growth::{Extent, follow};
+pub use halves::{CodeMarks, halves_of};
+pub use labels::labels_of;
 pub use pairs::{Pair, Register, Store, pairs_of};
 pub use pieces::Ground;
-pub use search::reached;
+pub use routines::{mark_called, mark_gone_on};
+pub use rows::{Words, mark_tables};
+pub use said::mark_said;
+pub use search::{blank_marks, reached};
 pub use taken::{mark_instructions, mark_taken};
+pub use variables::{mark_operands, variables_of};
+pub use vectors::mark_vectors;

@@ -3,7 +3,7 @@
 ghost use Rattle.std.specs.Prelude.{◌≡◌, ◌+◌, ◌++◌, ◌<◌, ◌≤◌, ◌==◌, IfOk, IfSome, OnOk, IsTrue, length};
 ghost use Rattle.isa65.specs.Mode.{len_of};
 ghost use Rattle.map65.specs.ImageView.{end_of, is_inside};
-ghost use Rattle.reach65.specs.Pairs.{by_again, by_loads, by_places, by_stores, is_near, joined, load_at, loaded, operand_address, pairs_at, pairs_of, reached_op, store_at, stored};
+ghost use Rattle.reach65.specs.Pairs.{by_again, by_loads, by_places, by_stores, is_near, joined, load_at, loaded, operand_address, pairs_at, pairs_of, rank_of, reached_op, store_at, stored};
 
 use crate::flow::{Flow, byte_at, bytes_from};
 use isa65::{Mnemonic, Mode, Op};
@@ -35,6 +35,9 @@ pub struct Pair {
     pub high: u16,
     /// The address that they form.
     pub address: u16,
+    /// How likely it is meant, if other pairs have one of its bytes: of two the one of the lower rank is likelier. It is 0 for bytes
+    /// that are stored to neighbours, and 1 to 6 by the registers otherwise.
+    pub rank: u8,
 }
 
 // ---- loads and stores
@@ -140,17 +143,18 @@ fn is_near<A: Allocator>(image: &Image<A>, address: usize) -> bool
         && address < usize::from(image.start()) + image.bytes().len() + 256
 }
 
-/// Adds the pair with its bytes at these places, if they form such an address.
+/// Adds the pair of this rank with its bytes at these places, if they form such an address.
 #[tactic(auto, unfolding(crate::specs::Pairs::joined))]
 fn put_joined<A: Allocator, B: Allocator>(
     found: &mut Vec<Pair, A>,
     image: &Image<B>,
+    rank: u8,
     low: usize,
     high: usize,
 ) -> Result<(), AllocError>
     requires low { IsTrue (is_inside image.now low) }
     requires high { IsTrue (is_inside image.now high) }
-    ensures { OnOk result (found.new.items ≡ found.old.items ++ joined image.now low high) }
+    ensures { OnOk result (found.new.items ≡ found.old.items ++ joined image.now rank low high) }
 {
     let address = usize::from(byte_at(image, low)) + 256 * usize::from(byte_at(image, high));
     if is_near(image, address) {
@@ -158,9 +162,24 @@ fn put_joined<A: Allocator, B: Allocator>(
             low: low as u16,
             high: high as u16,
             address: address as u16,
+            rank,
         })?;
     }
     Ok(())
+}
+
+/// The rank of a pair by the registers of its low and its high byte.
+fn rank_of(low: Register, high: Register) -> u8
+    ensures { result ≡ rank_of low high }
+{
+    match (low, high) {
+        (Register::A, Register::X) => 1,
+        (Register::X, Register::Y) => 2,
+        (Register::A, Register::Y) => 3,
+        (Register::X, Register::A) => 4,
+        (Register::Y, Register::A) => 5,
+        _ => 6,
+    }
 }
 
 /// Adds the pairs of two loads, the first of them at the address.
@@ -182,8 +201,20 @@ fn put_by_loads<A: Allocator, B: Allocator>(
     if first == second {
         return Ok(());
     }
-    put_joined(found, image, address + 1, address + 3)?;
-    put_joined(found, image, address + 3, address + 1)
+    put_joined(
+        found,
+        image,
+        rank_of(first, second),
+        address + 1,
+        address + 3,
+    )?;
+    put_joined(
+        found,
+        image,
+        rank_of(second, first),
+        address + 3,
+        address + 1,
+    )
 }
 
 /// Adds the pair of two bytes by the addresses that they are stored to.
@@ -201,9 +232,9 @@ fn put_by_places<A: Allocator, B: Allocator>(
     ensures { OnOk result (found.new.items ≡ found.old.items ++ by_places image.now one other to then_to) }
 {
     if usize::from(then_to) == usize::from(to) + 1 {
-        put_joined(found, image, one, other)
+        put_joined(found, image, 0, one, other)
     } else if usize::from(to) == usize::from(then_to) + 1 {
-        put_joined(found, image, other, one)
+        put_joined(found, image, 0, other, one)
     } else {
         Ok(())
     }
@@ -272,7 +303,7 @@ fn put_by_stores<A: Allocator, B: Allocator>(
 
 /// Adds the pairs of which the first instruction begins at the address.
 #[tactic(auto, unfolding(crate::specs::Pairs::pairs_at))]
-fn put_pairs_at<A: Allocator, B: Allocator>(
+pub fn put_pairs_at<A: Allocator, B: Allocator>(
     found: &mut Vec<Pair, A>,
     flow: &Flow<'_, '_, B>,
     reached: &[bool],

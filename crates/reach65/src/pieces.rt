@@ -2,20 +2,26 @@
 
 ghost use Rattle.std.specs.Prelude.{◌≡◌, ◌+◌, ◌<◌, ◌≤◌, ℕ, IfNone, IfOk, IfSome, IsTrue, false, true, length};
 ghost use Rattle.map65.specs.ImageView.{IsPlaced, byte_at, end_of, is_inside};
-ghost use Rattle.reach65.specs.Pieces.{ArePieces, IsPiece, LieIn, is_break, is_char, is_free, is_text};
+ghost use Rattle.reach65.specs.Pieces.{ArePieces, IsPiece, LieIn, are_same, is_break, is_char, is_filler, is_free, is_plain, is_same, is_text, is_word, is_written};
+ghost use Rattle.reach65.specs.Rows.{free_word};
 ghost use Rattle.reach65.specs.Taken.{is_given};
 
+use crate::entries::word_at;
 use crate::flow::byte_at;
 use info65::{RangeSpec, RangeType};
 use map65::{Image, is_inside};
 use std::alloc::{AllocError, Allocator, Global};
 use std::marker::Model;
 
-/// An image, and the addresses that something speaks for.
+/// The least number of equal bytes that are filler.
+const FILLER: usize = 16;
+
+/// An image, the addresses that something speaks for, and those of words that are addresses.
 #[derive(Drop)]
 pub struct Ground<'a, A: Allocator = Global> {
     image: &'a Image<A>,
     taken: &'a [bool],
+    words: &'a [bool],
 }
 
 impl<'a, A: Allocator> Model for Ground<'a, A> {
@@ -24,18 +30,39 @@ impl<'a, A: Allocator> Model for Ground<'a, A> {
 
     ghost Value = { Ground };
 
-    ghost view = { λ g. record { image = g.image.now; taken = g.taken.now } };
+    ghost view = { λ g. record { image = g.image.now; taken = g.taken.now; words = g.words.now } };
 
-    ghost invariant = { λ g. length g.taken.now ≡ 65536 };
+    ghost invariant = { λ g. (length g.taken.now ≡ 65536) × (length g.words.now ≡ 65536) };
 }
 
 impl<'a, A: Allocator> Ground<'a, A> {
-    /// An image, and the marks of the addresses that something speaks for, one for each address from $0000 to $FFFF.
-    pub fn new(image: &'a Image<A>, taken: &'a [bool]) -> Ground<'a, A>
-        requires { length taken.now ≡ 65536 }
-        ensures { result ≡ record { image = image.now; taken = taken.now } }
+    /// An image, and marks of the addresses that something speaks for and of those of words that are addresses, one for each address from
+    /// $0000 to $FFFF.
+    pub fn new(image: &'a Image<A>, taken: &'a [bool], words: &'a [bool]) -> Ground<'a, A>
+        requires taken { length taken.now ≡ 65536 }
+        requires words { length words.now ≡ 65536 }
+        ensures { result ≡ record { image = image.now; taken = taken.now; words = words.now } }
     {
-        Ground { image, taken }
+        Ground {
+            image,
+            taken,
+            words,
+        }
+    }
+
+    /// Returns the word at the address, low byte first, if nothing speaks for its two bytes and neither is marked as one of a word.
+    #[tactic(auto, unfolding(crate::specs::Rows::free_word))]
+    pub fn word(&self, address: usize) -> Option<u16>
+        requires { address < 65540 }
+        ensures value { result ≡ free_word self.now address }
+        ensures below { IfSome result (λ _. address + 1 < 65536) }
+    {
+        let _end = self.image_end();
+        if self.is_plain(address) && self.is_plain(address + 1) {
+            Some(word_at(self.image, address as u16))
+        } else {
+            None
+        }
     }
 
     /// Returns whether the address is one of the image that nothing speaks for. It may lie past $FFFF.
@@ -44,20 +71,89 @@ impl<'a, A: Allocator> Ground<'a, A> {
         ensures value { result ≡ is_free self.now address }
         ensures low { IsTrue result → self.now.image.start ≤ address }
         ensures high { IsTrue result → address < end_of self.now.image }
+        ensures fits { IsTrue result → address < 65536 }
     {
         is_inside(self.image, address) && !self.taken[address]
     }
 
-    /// Whether a character stands at such an address.
+    /// Whether the address is a free one of a word.
+    #[tactic(auto, unfolding(crate::specs::Pieces::is_word))]
+    fn is_word(&self, address: usize) -> bool
+        ensures { result ≡ is_word self.now address }
+    {
+        self.is_free(address) && self.words[address]
+    }
+
+    /// Whether the address is a free one of no word.
+    #[tactic(auto, unfolding(crate::specs::Pieces::is_plain))]
+    fn is_plain(&self, address: usize) -> bool
+        ensures value { result ≡ is_plain self.now address }
+        ensures low { IsTrue result → self.now.image.start ≤ address }
+        ensures high { IsTrue result → address < end_of self.now.image }
+    {
+        self.is_free(address) && !self.words[address]
+    }
+
+    /// Whether the byte of the first address stands at the second, which is plain.
+    #[tactic(auto, unfolding(crate::specs::Pieces::is_same))]
+    fn is_same(&self, from: usize, address: usize) -> bool
+        requires low { self.now.image.start ≤ from }
+        requires high { from < end_of self.now.image }
+        ensures { result ≡ is_same self.now from address }
+    {
+        if !self.is_plain(address) {
+            return false;
+        }
+        byte_at(self.image, address) == byte_at(self.image, from)
+    }
+
+    /// Whether the byte of the first address stands at this many from the second on.
+    fn are_same(&self, from: usize, address: usize, count: usize) -> bool
+        requires low { self.now.image.start ≤ from }
+        requires high { from < end_of self.now.image }
+        requires room { address + count < 131072 }
+        ensures { result ≡ are_same self.now from address count }
+    {
+        'same: for k in 0..count {
+            if !self.is_same(from, address + k) {
+                return false;
+            }
+        }
+        true
+    }
+
+    /// Whether 16 equal bytes stand from the address on.
+    #[tactic(auto, unfolding(crate::specs::Pieces::is_filler))]
+    fn is_filler(&self, address: usize) -> bool
+        requires low { self.now.image.start ≤ address }
+        requires high { address < end_of self.now.image }
+        requires room { address < 65536 }
+        ensures { result ≡ is_filler self.now address }
+    {
+        self.are_same(address, address, FILLER)
+    }
+
+    /// Whether a character stands at a plain address.
     #[tactic(auto, unfolding(crate::specs::Pieces::is_char))]
     fn is_char(&self, address: usize) -> bool
         ensures value { result ≡ is_char self.now address }
+        ensures low { IsTrue result → self.now.image.start ≤ address }
+        ensures high { IsTrue result → address < end_of self.now.image }
     {
-        if !self.is_free(address) {
+        if !self.is_plain(address) {
             return false;
         }
         let byte = byte_at(self.image, address);
         0x1F < byte && byte < 0x7F
+    }
+
+    /// Whether a character stands at the address, and no filler begins there.
+    #[tactic(auto, unfolding(crate::specs::Pieces::is_written))]
+    fn is_written(&self, address: usize) -> bool
+        requires { address < 65536 }
+        ensures { result ≡ is_written self.now address }
+    {
+        self.is_char(address) && !self.is_filler(address)
     }
 
     /// Whether five characters stand from the address on.
@@ -78,11 +174,11 @@ impl<'a, A: Allocator> Ground<'a, A> {
         requires { address < 65536 }
         ensures { result ≡ is_break self.now address }
     {
-        !self.is_free(address) || self.is_text(address)
+        !self.is_plain(address) || (self.is_filler(address) || self.is_text(address))
     }
 
     /// The first address after the image.
-    fn image_end(&self) -> usize
+    pub fn image_end(&self) -> usize
         ensures value { result ≡ end_of self.now.image }
         ensures room { result ≤ 65536 }
     {
@@ -92,6 +188,7 @@ impl<'a, A: Allocator> Ground<'a, A> {
     /// The first free address from this one on, if there is one.
     fn first_free(&self, from: usize) -> Option<usize>
         ensures low { IfSome result (λ at. from ≤ at) }
+        ensures start { IfSome result (λ at. self.now.image.start ≤ at) }
         ensures below { IfSome result (λ at. at < end_of self.now.image) }
         ensures room { IfSome result (λ at. at < 65536) }
         ensures before { IfSome result (λ at. (a : ℕ) → from ≤ a → a < at → is_free self.now a ≡ false) }
@@ -107,25 +204,62 @@ impl<'a, A: Allocator> Ground<'a, A> {
         None
     }
 
-    /// Where the text ends that has a character at the address: the first address after it without a character.
-    fn text_end(&self, from: usize) -> usize
+    /// Where the words end that have the address: the first address after it of no word.
+    fn words_end(&self, from: usize) -> usize
         requires below { from < end_of self.now.image }
-        requires here { is_char self.now from ≡ true }
+        requires here { is_word self.now from ≡ true }
         ensures low { from < result }
         ensures high { result ≤ 65536 }
-        ensures inside { (a : ℕ) → from ≤ a → a < result → is_char self.now a ≡ true }
-        ensures after { is_char self.now result ≡ false }
+        ensures inside { (a : ℕ) → from ≤ a → a < result → is_word self.now a ≡ true }
+        ensures after { is_word self.now result ≡ false }
     {
         let end = self.image_end();
-        'characters: for at in from + 1..end {
-            if !self.is_char(at) {
+        'words: for at in from + 1..end {
+            if !self.is_word(at) {
                 return at;
             }
         }
         end
     }
 
-    /// Where the table of bytes ends that has the address: the first address after it that is not free, or where a text begins.
+    /// Where the filler ends that begins at the address: the first address after it with another byte.
+    fn filler_end(&self, from: usize) -> usize
+        requires start { self.now.image.start ≤ from }
+        requires below { from < end_of self.now.image }
+        requires here { is_same self.now from from ≡ true }
+        ensures low { from < result }
+        ensures high { result ≤ 65536 }
+        ensures inside { (a : ℕ) → from ≤ a → a < result → is_same self.now from a ≡ true }
+        ensures after { is_same self.now from result ≡ false }
+    {
+        let end = self.image_end();
+        'filler: for at in from + 1..end {
+            if !self.is_same(from, at) {
+                return at;
+            }
+        }
+        end
+    }
+
+    /// Where the text ends that has a character at the address: the first address after it without one, or where filler begins.
+    fn text_end(&self, from: usize) -> usize
+        requires below { from < end_of self.now.image }
+        requires here { is_written self.now from ≡ true }
+        ensures low { from < result }
+        ensures high { result ≤ 65536 }
+        ensures inside { (a : ℕ) → from ≤ a → a < result → is_written self.now a ≡ true }
+        ensures after { is_written self.now result ≡ false }
+    {
+        let end = self.image_end();
+        'characters: for at in from + 1..end {
+            if !self.is_written(at) {
+                return at;
+            }
+        }
+        end
+    }
+
+    /// Where the table of bytes ends that has the address: the first address after it that is not plain, or where filler or a text begins.
     fn bytes_end(&self, from: usize) -> usize
         requires below { from < end_of self.now.image }
         requires here { is_break self.now from ≡ false }
@@ -143,8 +277,54 @@ impl<'a, A: Allocator> Ground<'a, A> {
         end
     }
 
+    /// Where the filler ends that begins at the address.
+    fn filler_piece(&self, first: usize) -> usize
+        requires start { self.now.image.start ≤ first }
+        requires below { first < end_of self.now.image }
+        requires filler { is_filler self.now first ≡ true }
+        ensures low { first < result }
+        ensures high { result ≤ 65536 }
+        ensures piece { IsPiece self.now RangeType.ByteTable first result }
+    {
+        self.filler_end(first)
+    }
+
+    /// Where the table of bytes ends that begins at the address.
+    fn bytes_piece(&self, first: usize) -> usize
+        requires below { first < end_of self.now.image }
+        requires here { is_break self.now first ≡ false }
+        ensures low { first < result }
+        ensures high { result ≤ 65536 }
+        ensures piece { IsPiece self.now RangeType.ByteTable first result }
+    {
+        self.bytes_end(first)
+    }
+
+    /// The type of the piece that begins at a free address, and the address after it.
+    fn role_and_end(&self, first: usize) -> (RangeType, usize)
+        requires start { self.now.image.start ≤ first }
+        requires below { first < end_of self.now.image }
+        requires free { is_free self.now first ≡ true }
+        ensures low { first < result.1 }
+        ensures high { result.1 ≤ 65536 }
+        ensures piece { IsPiece self.now result.0 first result.1 }
+    {
+        self.image_end();
+        if self.is_word(first) {
+            return (RangeType::AddrTable, self.words_end(first));
+        }
+        if self.is_filler(first) {
+            return (RangeType::ByteTable, self.filler_piece(first));
+        }
+        if self.is_text(first) {
+            return (RangeType::TextTable, self.text_end(first));
+        }
+        (RangeType::ByteTable, self.bytes_piece(first))
+    }
+
     /// The piece that begins at a free address.
     fn piece_at(&self, first: usize) -> RangeSpec
+        requires start { self.now.image.start ≤ first }
         requires below { first < end_of self.now.image }
         requires free { is_free self.now first ≡ true }
         ensures first { result.first ≡ first }
@@ -152,20 +332,11 @@ impl<'a, A: Allocator> Ground<'a, A> {
         ensures room { result.last < 65536 }
         ensures piece { IsPiece self.now result.role result.first (result.last + 1) }
     {
-        self.image_end();
-        if self.is_text(first) {
-            let end = self.text_end(first);
-            return RangeSpec {
-                first: first as u16,
-                last: (end - 1) as u16,
-                role: RangeType::TextTable,
-            };
-        }
-        let end = self.bytes_end(first);
+        let (role, end) = self.role_and_end(first);
         RangeSpec {
             first: first as u16,
             last: (end - 1) as u16,
-            role: RangeType::ByteTable,
+            role,
         }
     }
 
@@ -184,9 +355,9 @@ impl<'a, A: Allocator> Ground<'a, A> {
         }
     }
 
-    /// Returns what is proposed: for each longest stretch of addresses of the image that nothing speaks for, a TEXTTABLE for each
-    /// stretch of at least five characters in it, and a BYTETABLE for each stretch between these. The ranges ascend. Fails only
-    /// if an allocation failed.
+    /// Returns what is proposed for the addresses of the image that nothing speaks for: an ADDRTABLE for words that are addresses, a BYTETABLE
+    /// for each stretch of at least 16 equal bytes, a TEXTTABLE for each stretch of at least five characters, and a BYTETABLE for each stretch
+    /// between these. The ranges ascend. Fails only if an allocation failed.
     pub fn pieces<B: Allocator>(&self, alloc: B) -> Result<Vec<RangeSpec, B>, AllocError>
         ensures pieces { IfOk result (λ found. ArePieces self.now 0 found.items) }
 

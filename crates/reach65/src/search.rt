@@ -1,21 +1,26 @@
 //! The search of what is reached.
 
-ghost use Rattle.std.specs.Prelude.{◌≡◌, ◌++◌, ◌∷◌, [], ℕ, None, Some, IfOk, IfNone, IfSome, OnOk, false, replicate};
+ghost use Rattle.std.specs.Prelude.{◌≡◌, ◌++◌, ◌∷◌, [], ℕ, Bool, true, List, Ok, None, Some, IfOk, IfNone, IfSome, OnOk, false, length, replicate, slice_set};
 ghost use Rattle.map65.specs.ImageView.{is_inside};
-ghost use Rattle.reach65.specs.Code.Searching.{HasEntries, IsSearch, Nothing, put, put_inside, put_some};
-ghost use Rattle.reach65.specs.Reached.{AreReached};
+ghost use Rattle.reach65.specs.Code.Searching.{AreSound, HasBegun, HasNext, IsAtEnd, IsBegun, IsDone, IsTrial, IsTried, put, put_entry, put_inside, put_some, unset};
+ghost use Rattle.reach65.specs.Flow.{goal_at, next_at};
+ghost use Rattle.reach65.specs.Reached.{AreReached, is_marked};
 
 use crate::flow::Flow;
+use crate::sound::{are_sound, is_fine};
 use map65::{ADDRESSES, Image, is_inside};
 use std::alloc::{AllocError, Allocator, Global};
 use std::marker::Model;
 
-/// The addresses that are marked, and those of them that are still to be looked at. An address is to be looked at from when it is
-/// marked, so each is looked at once.
+/// The entries; the addresses that are marked, and those of them that are still to be looked at; and those that were marked since the
+/// last trial began; how many instructions the trials that failed have looked at. An address is to be looked at from when it is marked, so each is looked at once.
 #[derive(Drop)]
-struct Search<A: Allocator = Global> {
-    marks: Vec<bool, A>,
+pub struct Search<A: Allocator = Global> {
+    pub entries: Vec<u16, A>,
+    pub marks: Vec<bool, A>,
     todo: Vec<u16, A>,
+    added: Vec<u16, A>,
+    wasted: usize,
 }
 
 impl<A: Allocator> Model for Search<A> {
@@ -24,7 +29,12 @@ impl<A: Allocator> Model for Search<A> {
 
     ghost Value = { State };
 
-    ghost view = { λ s. record { marks = s.marks.items; todo = s.todo.items } };
+    ghost view = { λ s. record {
+      entries = s.entries.items;
+      marks = s.marks.items;
+      todo = s.todo.items;
+      added = s.added.items;
+    } };
 
     ghost invariant = { λ s. length s.marks.items ≡ 65536 };
 }
@@ -41,12 +51,21 @@ impl<A: Allocator> Search<A> {
     fn new(alloc: A) -> Result<Search<A>, AllocError>
     where
         A: Copy,
+        ensures entries { IfOk result (λ s. s.entries ≡ []) }
         ensures marks { IfOk result (λ s. s.marks ≡ replicate 65536 false) }
         ensures todo { IfOk result (λ s. s.todo ≡ []) }
     {
         let marks = blank_marks(alloc, ADDRESSES)?;
+        let entries = Vec::new(alloc);
         let todo = Vec::new(alloc);
-        Ok(Search { marks, todo })
+        let added = Vec::new(alloc);
+        Ok(Search {
+            entries,
+            marks,
+            todo,
+            added,
+            wasted: 0,
+        })
     }
 
     /// Marks an address that is to be looked at, unless it is marked.
@@ -60,6 +79,7 @@ impl<A: Allocator> Search<A> {
         }
         self.marks[index] = true;
         self.todo.push(address)?;
+        self.added.push(address)?;
         Ok(())
     }
 
@@ -85,13 +105,188 @@ impl<A: Allocator> Search<A> {
         }
     }
 
+    /// Adds an address to the entries, and marks it if it lies in the image.
+    #[tactic(auto, unfolding(crate::specs::Code::Searching::put_entry))]
+    fn put_entry<B: Allocator>(&mut self, image: &Image<B>, address: u16) -> Result<(), AllocError>
+        ensures { OnOk result (self.new ≡ put_entry image.now self.old address) }
+    {
+        self.entries.push(address)?;
+        self.put_inside(image, address)
+    }
+
     /// Returns an address that is to be looked at, if there is one.
     fn next(&mut self) -> Option<u16>
-        ensures none { IfNone result (self.old.todo ≡ []) }
-        ensures some { IfSome result (λ a. self.old.todo ≡ self.new.todo ++ a ∷ []) }
-        ensures marks { self.new.marks ≡ self.old.marks }
+        ensures none { IfNone result (IsAtEnd self.old self.new) }
+        ensures some { IfSome result (HasNext self.old self.new) }
     {
         self.todo.pop()
+    }
+
+    /// Marks what the instruction of an address leads to.
+    #[tactic(auto, unfolding(crate::specs::Flow::next_at, crate::specs::Flow::goal_at))]
+    fn put_leads<B: Allocator>(
+        &mut self,
+        flow: &Flow<'_, '_, B>,
+        address: u16,
+    ) -> Result<(), AllocError>
+        ensures { OnOk result (self.new ≡ put_some (put_some self.old (next_at flow.now address)) (goal_at flow.now address)) }
+    {
+        let Some(op) = flow.instruction_at(address) else {
+            return Ok(());
+        };
+        self.put_some(flow.next_of(address, op))?;
+        self.put_some(flow.goal_by(address, op))
+    }
+
+    /// Marks all that is reached.
+    fn finish<B: Allocator>(&mut self, flow: &Flow<'_, '_, B>) -> Result<(), AllocError>
+        requires { IsBegun flow.now self.old }
+        ensures done { OnOk result (IsDone flow.now self.new) }
+        ensures entries { OnOk result (self.new.entries ≡ self.old.entries) }
+    {
+        let _image = flow.map().image();
+        'search: while let Some(address) = self.next() {
+            self.put_leads(flow, address)?;
+        }
+        Ok(())
+    }
+
+    // ---- trials
+
+    /// Forgets what was added.
+    fn clear_added(&mut self)
+        ensures { self.new ≡ record self.old { added = [] } }
+    {
+        self.added.clear();
+    }
+
+    /// Adds an address to the entries and begins a trial.
+    fn begin_trial<B: Allocator>(
+        &mut self,
+        flow: &Flow<'_, '_, B>,
+        address: u16,
+    ) -> Result<(), AllocError>
+        requires { IsDone flow.now self.old }
+        ensures { OnOk result (HasBegun flow.now self.old address self.new) }
+    {
+        let image = flow.map().image();
+        self.clear_added();
+        self.put_entry(image, address)?;
+        Ok(())
+    }
+
+    /// Marks all that is reached, or stops at the first instruction that is not fine: then it returns `false`.
+    fn finish_trial<B: Allocator>(&mut self, flow: &Flow<'_, '_, B>) -> Result<bool, AllocError>
+        requires { IsBegun flow.now self.old }
+        ensures done { result ≡ Ok true → IsDone flow.now self.new }
+        ensures entries { OnOk result (self.new.entries ≡ self.old.entries) }
+        ensures trial { (before : List Bool) → IsTrial before self.old → OnOk result (IsTrial before self.new) }
+    {
+        let _image = flow.map().image();
+        'search: while let Some(address) = self.next() {
+            if !is_fine(flow, address) {
+                return Ok(false);
+            }
+            self.put_leads(flow, address)?;
+        }
+        Ok(true)
+    }
+
+    /// Returns the address that was added last, if there is one.
+    fn pop_added(&mut self) -> Option<u16>
+        ensures none { IfNone result (self.old.added ≡ []) }
+        ensures some { IfSome result (λ a. self.old.added ≡ self.new.added ++ a ∷ []) }
+        ensures marks { self.new.marks ≡ self.old.marks }
+        ensures entries { self.new.entries ≡ self.old.entries }
+    {
+        self.added.pop()
+    }
+
+    /// Takes the mark of an address away.
+    fn unmark(&mut self, address: u16)
+        ensures { self.new ≡ record self.old { marks = slice_set self.old.marks address false } }
+    {
+        self.marks[usize::from(address)] = false;
+    }
+
+    /// Unmarks what was added.
+    fn unmark_added(&mut self)
+        ensures marks { self.new.marks ≡ unset self.old.marks self.old.added }
+        ensures entries { self.new.entries ≡ self.old.entries }
+    {
+        'undo: while let Some(address) = self.pop_added() {
+            self.unmark(address);
+        }
+    }
+
+    /// Takes the last entry back, and what was added since.
+    fn undo(&mut self)
+        ensures entries { (l : List ℕ) (a : ℕ) → self.old.entries ≡ l ++ a ∷ [] → self.new.entries ≡ l }
+        ensures marks { self.new.marks ≡ unset self.old.marks self.old.added }
+        ensures todo { self.new.todo ≡ [] }
+    {
+        self.unmark_added();
+        self.todo.clear();
+        self.entries.pop();
+    }
+
+    /// Whether a trial has found a sound beginning.
+    fn is_sound_trial<B: Allocator>(&mut self, flow: &Flow<'_, '_, B>) -> Result<bool, AllocError>
+        requires { IsBegun flow.now self.old }
+        ensures sound { result ≡ Ok true → IsDone flow.now self.new }
+        ensures are { result ≡ Ok true → AreSound flow.now self.new.marks self.new.added }
+        ensures entries { OnOk result (self.new.entries ≡ self.old.entries) }
+        ensures trial { (before : List Bool) → IsTrial before self.old → OnOk result (IsTrial before self.new) }
+    {
+        if self.finish_trial(flow)? {
+            Ok(are_sound(flow, &self.marks, &self.added))
+        } else {
+            Ok(false)
+        }
+    }
+
+    /// Adds an address to the entries, with what is reached from it, and returns `true`, if it is a sound beginning.
+    #[tactic(auto, using(crate::proofs::TrialLemmas::trial_joined, crate::proofs::TrialLemmas::trial_undone))]
+    pub fn try_entry<B: Allocator>(
+        &mut self,
+        flow: &Flow<'_, '_, B>,
+        address: u16,
+    ) -> Result<bool, AllocError>
+        requires { IsDone flow.now self.old }
+        ensures { IfOk result (IsTried flow.now self.old address self.new) }
+    {
+        self.begin_trial(flow, address)?;
+        if self.is_sound_trial(flow)? {
+            return Ok(true);
+        }
+        self.wasted = self.wasted.saturating_add(self.added.len());
+        self.undo();
+        Ok(false)
+    }
+
+    /// Returns the marks.
+    pub fn marks(&self) -> &[bool]
+        ensures marks { result.now ≡ self.now.marks }
+        ensures count { length result.now ≡ 65536 }
+    {
+        self.marks.as_slice()
+    }
+
+    /// Whether the address is marked.
+    pub fn is_marked(&self, address: u16) -> bool
+        ensures { result ≡ is_marked self.now.marks address }
+    {
+        self.marks[usize::from(address)]
+    }
+
+    /// Returns how many instructions the trials that failed have looked at.
+    pub fn wasted(&self) -> usize {
+        self.wasted
+    }
+
+    /// Returns the addresses that were marked since the last trial began, in the order in which they were.
+    pub fn added(&self) -> &[u16] {
+        &self.added
     }
 }
 
@@ -101,19 +296,34 @@ fn put_entries<A: Allocator, B: Allocator>(
     flow: &Flow<'_, '_, B>,
     entries: &[u16],
 ) -> Result<(), AllocError>
-    requires search { IsSearch flow.now entries.now Nothing search.old }
-    ensures search { OnOk result (IsSearch flow.now entries.now Nothing search.new) }
-    ensures entries { OnOk result (HasEntries flow.now entries.now search.new.marks) }
+    requires { IsBegun flow.now search.old }
+    ensures begun { OnOk result (IsBegun flow.now search.new) }
+    ensures entries { OnOk result (search.new.entries ≡ search.old.entries ++ entries.now) }
 {
     let image = flow.map().image();
     'entries: for &entry in entries {
-        search.put_inside(image, entry)?;
+        search.put_entry(image, entry)?;
     }
     Ok(())
 }
 
-/// Marks each address that is reached from the entries: there is a mark for each address from $0000 to $FFFF. An
-/// address is looked at once, so the time grows with the number of entries and of addresses that are reached. Fails only if an
+/// Searches all that is reached from the entries. An address is looked at once, so the time grows with the number of entries and of
+/// addresses that are reached. Fails only if an allocation failed.
+pub fn search_from<A: Allocator + Copy, B: Allocator>(
+    alloc: A,
+    flow: &Flow<'_, '_, B>,
+    entries: &[u16],
+) -> Result<Search<A>, AllocError>
+    ensures done { IfOk result (IsDone flow.now) }
+    ensures entries { IfOk result (λ s. s.entries ≡ entries.now) }
+{
+    let mut search = Search::new(alloc)?;
+    put_entries(&mut search, flow, entries)?;
+    search.finish(flow)?;
+    Ok(search)
+}
+
+/// Marks each address that is reached from the entries: there is a mark for each address from $0000 to $FFFF. Fails only if an
 /// allocation failed.
 pub fn reached<A: Allocator + Copy, B: Allocator>(
     alloc: A,
@@ -122,12 +332,6 @@ pub fn reached<A: Allocator + Copy, B: Allocator>(
 ) -> Result<Vec<bool, A>, AllocError>
     ensures { IfOk result (λ marks. AreReached flow.now entries.now marks.items) }
 {
-    let mut search = Search::new(alloc)?;
-    put_entries(&mut search, flow, entries)?;
-    let _image = flow.map().image();
-    'search: while let Some(address) = search.next() {
-        search.put_some(flow.next_at(address))?;
-        search.put_some(flow.goal_at(address))?;
-    }
+    let search = search_from(alloc, flow, entries)?;
     Ok(search.marks)
 }

@@ -13,7 +13,7 @@ use map65::ADDRESSES;
 use std::alloc::{AllocError, Allocator};
 
 /// Marks the addresses from `from` to before `to`.
-fn mark_span(marks: &mut [bool], from: usize, to: usize)
+pub fn mark_span(marks: &mut [bool], from: usize, to: usize)
     requires count { length marks.old ≡ 65536 }
     requires order { from ≤ to }
     requires room { to ≤ 65536 }
@@ -26,7 +26,7 @@ fn mark_span(marks: &mut [bool], from: usize, to: usize)
 }
 
 /// Marks the addresses of a range.
-fn mark_range(marks: &mut [bool], range: RangeSpec)
+pub fn mark_range(marks: &mut [bool], range: RangeSpec)
     requires count { length marks.old ≡ 65536 }
     ensures count { length marks.new ≡ 65536 }
     ensures each { (a : ℕ) → is_marked marks.new a ≡ (is_marked marks.old a || has_address range a) }

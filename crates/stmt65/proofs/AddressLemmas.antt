@@ -11,7 +11,10 @@ use Rattle.text65.specs.Lines.{text_lines}
 use Rattle.stmt65.specs.Lexing.{parts}
 use Rattle.stmt65.specs.Reading.{reading_of}
 use Rattle.stmt65.specs.Symbols.{Definition}
-use Rattle.stmt65.specs.Meaning.{State, after, bytes_of, fault_of, initial, meaning, readings}
+use Rattle.stmt65.specs.declared.language.Language.{Language}
+use Rattle.stmt65.specs.Layout.{Layout}
+use Rattle.stmt65.specs.Coding.{State}
+use Rattle.stmt65.specs.Meaning.{after, bytes_of, fault_of, initial, meaning_in, readings}
 use Rattle.stmt65.specs.TextLaws.{Line, IsFaultless, line_bytes, lines_below, lines_of, names_of}
 use Rattle.stmt65.specs.LineAddresses.{FindsLine, GivesByte, address_after, line_addresses, line_past}
 use Rattle.stmt65.specs.Code.Held.{held}
@@ -26,10 +29,10 @@ unfoldable pub held_addresses : State → List (Option SourceLine) → List ℕ
 held_addresses s [] = []
 held_addresses s (l ∷ ls) = (held_after s l).at ∷ held_addresses (held_after s l) ls
 
-pub addresses_step : (s t : State) (text line rest found : List ℕ) (all : List ℕ) → found ++ held_addresses s (readings text) ≡ all → text_lines text ≡ line ∷ text_lines rest → t ≡ held_after s (reading_of (parts line))
-    → (found ++ t.at ∷ []) ++ held_addresses t (readings rest) ≡ all
+pub addresses_step : (l : Language) (s t : State) (text line rest found : List ℕ) (all : List ℕ) → found ++ held_addresses s (readings l text) ≡ all → text_lines text ≡ line ∷ text_lines rest → t ≡ held_after s (reading_of l (parts l line))
+    → (found ++ t.at ∷ []) ++ held_addresses t (readings l rest) ≡ all
 unfolding held_addresses
-addresses_step s t text line rest found all h e k = grind (arith, append_assoc)
+addresses_step l s t text line rest found all h e k = grind (arith, append_assoc)
 
 -- ---- and those of the meaning
 
@@ -38,12 +41,12 @@ unfolding held_addresses lines_below held_state
 addresses-held s [] = refl
 addresses-held s (l ∷ ls) = rw (after-held s l) (ap (λ (more : List ℕ). held (after s l).at ∷ more) (addresses-held (after s l) ls))
 
-pub found_lines : (start : ℕ) (s : State) (whole text found : List ℕ) → start < 65536 → found ++ held_addresses s (readings text) ≡ held_addresses (initial start) (readings whole) → text_lines text ≡ []
-    → found ≡ map held (line_addresses start (readings whole))
+pub found_lines : (l : Language) (layout : Layout) (start : ℕ) (s : State) (whole text found : List ℕ) → start < 65536 → found ++ held_addresses s (readings l text) ≡ held_addresses (initial layout start) (readings l whole) → text_lines text ≡ []
+    → found ≡ map held (line_addresses layout start (readings l whole))
 unfolding held_addresses line_addresses
-found_lines start s whole text found small h e =
+found_lines l layout start s whole text found small h e =
     let h' = rw (e, append-nil found) at h in
-    h' ∙ ap (λ (t : State). held_addresses t (readings whole)) (sym (initial-held start small)) ∙ addresses-held (initial start) (readings whole)
+    h' ∙ ap (λ (t : State). held_addresses t (readings l whole)) (sym (initial-held layout start small)) ∙ addresses-held (initial layout start) (readings l whole)
 
 -- ---- of a text that has bytes
 
@@ -61,13 +64,13 @@ addresses-exact all s (l ∷ ls) h =
     let more = addresses-exact all (after s l) ls (All-tail (IsFaultless all) line (lines_below (after s l) ls) h) in
     rw (here, more) refl
 
-exact : (start : ℕ) (text bytes found : List ℕ) → meaning start text ≡ Ok bytes → found ≡ map held (line_addresses start (readings text)) → found ≡ line_addresses start (readings text)
-unfolding meaning line_addresses
-exact start text bytes found e h = h ∙ addresses-exact (names_of start (readings text)) (initial start) (readings text) ((means_bytes start (readings text) bytes).0 e).0
+exact : (l : Language) (layout : Layout) (start : ℕ) (text bytes found : List ℕ) → meaning_in l layout start text ≡ Ok bytes → found ≡ map held (line_addresses layout start (readings l text)) → found ≡ line_addresses layout start (readings l text)
+unfolding meaning_in line_addresses
+exact l layout start text bytes found e h = h ∙ addresses-exact (names_of layout start (readings l text)) (initial layout start) (readings l text) ((means_bytes layout start (readings l text) bytes).0 e).0
 
-pub lines_exact : (start : ℕ) (text found : List ℕ) → found ≡ map held (line_addresses start (readings text)) → (m : Result (List ℕ) AsmFault) → meaning start text ≡ m → IfOk m (λ _. found ≡ line_addresses start (readings text))
-lines_exact start text found h (Ok bytes) e = exact start text bytes found e h
-lines_exact start text found h (Err fault) e = tt
+pub lines_exact : (l : Language) (layout : Layout) (start : ℕ) (text found : List ℕ) → found ≡ map held (line_addresses layout start (readings l text)) → (m : Result (List ℕ) AsmFault) → meaning_in l layout start text ≡ m → IfOk m (λ _. found ≡ line_addresses layout start (readings l text))
+lines_exact l layout start text found h (Ok bytes) e = exact l layout start text bytes found e h
+lines_exact l layout start text found h (Err fault) e = tt
 
 -- ---- the line of a byte
 
@@ -104,7 +107,7 @@ finds_from all s (l ∷ ls) offset h =
 
 pub finds_line : FindsLine
 unfolding line_addresses
-finds_line start ls bytes offset e h =
-    let all = names_of start ls in
-    let are : bytes ≡ flat_map (line_bytes all) (lines_of start ls) = ((means_bytes start ls bytes).0 e).1 in
-    finds_from all (initial start) ls offset (rw are at h)
+finds_line layout start ls bytes offset e h =
+    let all = names_of layout start ls in
+    let are : bytes ≡ flat_map (line_bytes all) (lines_of layout start ls) = ((means_bytes layout start ls bytes).0 e).1 in
+    finds_from all (initial layout start) ls offset (rw are at h)

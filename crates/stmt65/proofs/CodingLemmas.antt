@@ -1,5 +1,5 @@
 -- How codings are found and how long they are.
-use Rattle.std.proofs.Common.{◌≡◌, ℕ, Bool, true, ◌+◌, List, [], ◌∷◌, ◌++◌, length, map, Option, Some, None, refl, ap, sym, append_assoc, arith}
+use Rattle.std.proofs.Common.{◌≡◌, ℕ, Bool, true, false, ◌+◌, ◌*◌, List, [], ◌∷◌, ◌++◌, length, map, drop, get_or, ◌<◌, Option, Some, None, refl, ap, sym, append_assoc, arith}
 use Rattle.isa65.specs.declared.cpu.Cpu.{Cpu}
 use Rattle.isa65.specs.declared.mnemonic.Mnemonic.{Mnemonic}
 use Rattle.isa65.specs.Cpu.{table_of}
@@ -9,11 +9,17 @@ use Rattle.std.proofs.lemmas.Bool.{and_parts}
 use Rattle.std.proofs.Math.Bool.{and-true}
 use Rattle.std.proofs.lemmas.List.{append-nil}
 use Rattle.std.proofs.lemmas.List.Folds.{list_all-append}
-use Rattle.stmt65.specs.Code.CodingViews.{Puts, PutsAll}
+use Rattle.stmt65.specs.Code.CodingViews.{Puts, PutsAll, data_fragments, entry_fragments}
+use Rattle.stmt65.specs.declared.source_line.Value.{Value as CodeValue}
+use Rattle.stmt65.specs.declared.source_line.Datum.{Datum as CodeDatum}
+use Rattle.stmt65.specs.Code.SourceLineViews.{datum_of}
+use Rattle.std.proofs.lemmas.List.{drop_more}
 use Rattle.std.specs.List.{list_all, flat_map}
-use Rattle.stmt65.specs.SourceLine.{Value, NumberValue, NameValue}
-use Rattle.stmt65.specs.Symbols.{Definition, below, find_name, is_known, value_in, word_in}
-use Rattle.stmt65.specs.Coding.{Fragment, Fixed, Single, ZeroPage, Oversized, Entry, Distance, entry_in, entry_limit, is_near, fragment_len, Way, first_way, coded_so, is_fragment_known, fragment_fits, fragment_bytes, coding_len}
+use Rattle.stmt65.specs.SourceLine.{Value, NumberValue, NameValue, DifferenceValue}
+use Rattle.stmt65.specs.Symbols.{Definition, below, address_of, apart, find_name, is_known, value_in, word_in}
+use Rattle.stmt65.specs.Coding.{datum_fragments, Fragment, Fixed, Single, ZeroPage, Oversized, Entry, Distance, HalfOf, Fill, entry_in, entry_bytes, entry_limit, is_near, fragment_len, Way, first_way, coded_so, is_fragment_known, fragment_fits, fragment_bytes, coding_len}
+use Rattle.std.proofs.Math.Nat.{suc-mul, zero-mul}
+use Rattle.stmt65.specs.declared.directive.Directive.{Directive}
 use Rattle.stmt65.specs.Code.Held.{held}
 use Rattle.stmt65.proofs.Cases.{by_option}
 
@@ -58,25 +64,47 @@ unfolding coding_len
 datum_len [] = refl
 datum_len (b ∷ bs) = let ih = datum_len bs in omega arith
 
--- an instruction without an operand, and with one
-pub opcode_len : (b : ℕ) → 1 ≡ held (coding_len (Fixed b ∷ []))
+-- an operand, and its opcode before it
+pub operand_len-none : 0 ≡ held (coding_len [])
 unfolding coding_len
-opcode_len b = refl
+operand_len-none = refl
 
-pub with_operand_len : (b : ℕ) (f : Fragment) (len n : ℕ) → len ≡ fragment_len f → n ≡ held (len + 1) → n ≡ held (coding_len (Fixed b ∷ f ∷ []))
+pub operand_len-one : (f : Fragment) (n : ℕ) → n ≡ held (fragment_len f) → n ≡ held (coding_len (f ∷ []))
 unfolding coding_len
-with_operand_len b f len n e h = omega (arith, e, h)
+operand_len-one f n e = omega (arith, e)
 
-pub ruleset instruction_lens = (opcode_len, with_operand_len)
+pub operand_len-two : (f g : Fragment) (m k n : ℕ) → m ≡ held (fragment_len f) → k ≡ held (fragment_len g) → n ≡ held (m + k) → n ≡ held (coding_len (f ∷ g ∷ []))
+unfolding coding_len
+operand_len-two f g m k n e h s = omega (arith, e, h, s)
+
+pub ruleset operand_lens = (operand_len-none, operand_len-one, operand_len-two)
+
+pub opcode_len : (b : ℕ) (fs : List Fragment) (len n : ℕ) → len ≡ held (coding_len fs) → n ≡ held (len + 1) → n ≡ held (coding_len (Fixed b ∷ fs))
+unfolding coding_len
+opcode_len b fs len n e h = omega (arith, e, h)
+
+-- the entries of a directive are alike
+entries_sum : (d : Directive) (vs : List CodeValue) → coding_len (entry_fragments d vs) ≡ length vs * length (entry_bytes d 0)
+unfolding coding_len
+entries_sum d [] = sym (zero-mul (length (entry_bytes d 0)))
+entries_sum d (v ∷ vs) = let ih = entries_sum d vs in rw (suc-mul (length vs) (length (entry_bytes d 0))) (omega (arith, ih))
+
+pub entries_len : (d : Directive) (vs : List CodeValue) (size n : ℕ) → size ≡ length (entry_bytes d 0) → n ≡ held (length vs * size) → n ≡ held (coding_len (entry_fragments d vs))
+entries_len d vs size n e h = rw (entries_sum d vs, ← e) h
 
 -- a sum that is held at its limit, one piece on
-pub len_step : (all piece rest : List Fragment) (len more new total : ℕ) → all ≡ piece ++ rest → more ≡ coding_len piece → new ≡ held (len + more)
+pub len_step : (all piece rest : List Fragment) (len more new total : ℕ) → all ≡ piece ++ rest → more ≡ held (coding_len piece) → new ≡ held (len + more)
     → held (len + coding_len all) ≡ total → held (new + coding_len rest) ≡ total
 len_step all piece rest len more new total cut e sum so_far = grind (arith, coding_len_append)
 
 pub len_end : (rest : List Fragment) (len total : ℕ) → rest ≡ [] → held len ≡ len → held (len + coding_len rest) ≡ total → len ≡ total
 unfolding coding_len
 len_end rest len total e small so_far = grind arith
+
+pub data_step : (ds : List CodeDatum) (i len more new total : ℕ) (d : CodeDatum) → i < length ds → more ≡ held (coding_len (datum_fragments (datum_of (get_or ds i d)))) → new ≡ held (len + more)
+    → held (len + coding_len (data_fragments (drop i ds))) ≡ total → held (new + coding_len (data_fragments (drop (i + 1) ds))) ≡ total
+data_step ds i len more new total d inside e sum so_far =
+    len_step (data_fragments (drop i ds)) (datum_fragments (datum_of (get_or ds i d))) (data_fragments (drop (i + 1) ds)) len more new total (ap data_fragments (drop_more ds i d inside)) e sum so_far
 
 -- ---- tests of each fragment
 
@@ -92,9 +120,20 @@ near_some : (next : ℕ) (o : Option ℕ) → is_near next o ≡ true → is_som
 near_some next None h = cc
 near_some next (Some n) h = refl
 
+-- two names of which both have an address
+apart_known : (a b : Option Definition) → is_some (apart (address_of a) (address_of b)) ≡ true → (is_some a && is_some b) ≡ true
+apart_known None b h = absurd cc
+apart_known (Some d) (Some e) h = refl
+apart_known (Some d) None h = go (address_of (Some d)) h
+  where
+    go : (o : Option ℕ) → is_some (apart o None) ≡ true → (true && false) ≡ true
+    go None h = absurd cc
+    go (Some n) h = absurd cc
+
 value_known : (all : List Definition) (v : Value) → is_some (value_in all v) ≡ true → is_known all v ≡ true
 unfolding value_in is_known
 value_known all (NumberValue n) h = refl
+value_known all (DifferenceValue w v) h = apart_known (find_name w all) (find_name v all) h
 value_known all (NameValue w n minus) h = by_option (find_name w all) (λ d e. rw e refl) (λ e. let h' = rw e at h in absurd cc)
 
 word_known : (all : List Definition) (v : Value) → is_some (word_in all v) ≡ true → is_known all v ≡ true
@@ -108,6 +147,8 @@ fragment_known all next (Single v) h = word_known all v (below_some 256 (word_in
 fragment_known all next (ZeroPage v) h = word_known all v (below_some 256 (word_in all v) h)
 fragment_known all next (Oversized v) h = cc
 fragment_known all next (Entry d v) h = value_known all v (below_some (entry_limit d) (value_in all v) h)
+fragment_known all next (HalfOf half v) h = word_known all v h
+fragment_known all next (Fill n b) h = refl
 fragment_known all next (Distance v) h = word_known all v (near_some next (word_in all v) h)
 
 -- so has a coding that has room for its values
@@ -147,3 +188,11 @@ string_put all next bs old new e = grind (arith, string_fits, string_bytes)
 pub opcode_put : (all : List Definition) (next b : ℕ) (fs : List Fragment) (answer : Bool) (old with_opcode new : List ℕ) → with_opcode ≡ old ++ b ∷ [] → PutsAll answer all next fs with_opcode new → PutsAll answer all next (Fixed b ∷ fs) old new
 unfolding fragment_fits fragment_bytes
 opcode_put all next b fs answer old with_opcode new e puts = grind (arith, append_assoc)
+
+-- one fragment, and another one after it
+pub two_put : (all : List Definition) (next : ℕ) (f g : Fragment) (one other : Bool) (old between new : List ℕ) → Puts one (fragment_fits all next f) (fragment_bytes all next f) old between
+    → one ≡ true → Puts other (fragment_fits all next g) (fragment_bytes all next g) between new → PutsAll other all next (f ∷ g ∷ []) old new
+two_put all next f g one other old between new puts e more = grind (arith, and-true, append-nil, append_assoc)
+
+pub first_missed_put : (all : List Definition) (next : ℕ) (f : Fragment) (fs : List Fragment) (old between new : List ℕ) → Puts false (fragment_fits all next f) (fragment_bytes all next f) old between → PutsAll false all next (f ∷ fs) old new
+first_missed_put all next f fs old between new puts = grind arith

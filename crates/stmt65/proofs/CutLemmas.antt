@@ -1,7 +1,7 @@
 -- The cutting of a text gives its bytes back, and there is no other.
 use Rattle.std.proofs.Common.{◌≡◌, ℕ, false, List, [], ◌∷◌, refl, ap, ◌∙◌, arith}
 use Rattle.std.specs.List.{flat_map}
-use Rattle.stmt65.specs.SourceLine.{Datum, NumberDatum, StringDatum}
+use Rattle.stmt65.specs.SourceLine.{Datum, NumberDatum, StringDatum, ValueDatum, HalfDatum}
 use Rattle.stmt65.specs.TableLaws.{datum_bytes, EndsStretch, IsCut, CutsTexts}
 use Rattle.stmt65.specs.Tables.{is_plain, cut_text}
 use Rattle.stmt65.proofs.Lexed.{begins}
@@ -25,10 +25,14 @@ no_stretch : (ds : List Datum) → EndsStretch ds → IsCut ds → begins is_pla
 no_stretch [] s h = refl
 no_stretch (NumberDatum b ∷ ds) s h = h.0
 no_stretch (StringDatum t ∷ ds) s h = absurd s
+no_stretch (ValueDatum v ∷ ds) s h = absurd h
+no_stretch (HalfDatum half v ∷ ds) s h = absurd h
 
 cut_again : (ds : List Datum) → IsCut ds → cut_text (flat_map datum_bytes ds) ≡ ds
 cut_again [] h = cut_nil
 cut_again (NumberDatum b ∷ ds) h = cut_single b (flat_map datum_bytes ds) h.0 ∙ ap (λ (l : List Datum). NumberDatum b ∷ l) (cut_again ds h.1)
+cut_again (ValueDatum v ∷ ds) h = absurd h
+cut_again (HalfDatum half v ∷ ds) h = absurd h
 cut_again (StringDatum t ∷ ds) h = cut_stretch t (flat_map datum_bytes ds) h.0 h.1 (no_stretch ds h.2 h.3) ∙ ap (λ (l : List Datum). StringDatum t ∷ l) (cut_again ds h.3)
 
 pub cuts_texts : CutsTexts

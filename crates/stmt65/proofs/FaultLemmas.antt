@@ -1,10 +1,10 @@
 -- The tests of a line are the rules of its faults.
 use Rattle.std.proofs.Common.{◌≡◌, ℕ, suc, Bool, true, false, ltb, ◌+◌, ◌<◌, ◌≤◌, List, [], ◌∷◌, ◌++◌, map, Option, Some, None, ◌⊎◌, inl, inr, refl, sym, ap, subst, ◌∙◌, arith}
-use Rattle.std.specs.Prelude.{not, is_some, unwrap_or}
+use Rattle.std.specs.Prelude.{◌&&◌, not, is_some, unwrap_or}
 use Rattle.std.specs.List.{Any, list_any, list_all, flat_map, slice_get}
 use Rattle.std.specs.Bool.{Decides}
 use Rattle.std.proofs.lemmas.Bool.{cases_lt, ltb-true}
-use Rattle.std.proofs.lemmas.Bool.Decides.{nat_tests, Decides-at, Decides-like, Decides-ltb, Decides-not, Decides-or}
+use Rattle.std.proofs.lemmas.Bool.Decides.{nat_tests, Decides-at, Decides-like, Decides-ltb, Decides-not, Decides-or, Decides-and}
 use Rattle.std.proofs.lemmas.Option.{same_Some}
 use Rattle.std.proofs.lemmas.List.Folds.{Any-from_list_any, list_any-from_Any, list_all-map, list_all-append}
 use Rattle.isa65.specs.declared.cpu.Cpu.{Cpu}
@@ -12,14 +12,15 @@ use Rattle.isa65.specs.declared.mnemonic.Mnemonic.{Mnemonic}
 use Rattle.isa65.specs.declared.mode.Mode.TheVariants.{Zp, Zpx, Zpy, Abs, Absx, Absy, Rel}
 use Rattle.isa65.specs.Cpu.{cpu_named}
 use Rattle.stmt65.specs.declared.assembling.fault.AsmFaultKind.{AsmFaultKind}
-use Rattle.stmt65.specs.declared.assembling.fault.AsmFaultKind.TheVariants.{Syntax, UnknownCpu, NoSuchForm, Undefined, DefinedTwice, OutOfRange, PastEnd, Memory}
-use Rattle.stmt65.specs.SourceLine.{Value, NumberValue, NameValue, Form, Direct, DirectX, DirectY, Two, Indirect, IndirectX, IndirectY, Datum, NumberDatum, StringDatum, Operation, Instr, Data, Values, SetCpu, SourceLine}
+use Rattle.stmt65.specs.declared.assembling.fault.AsmFaultKind.TheVariants.{Syntax, UnknownCpu, NoSuchForm, Undefined, DefinedTwice, OutOfRange, PastStart, PastEnd, Memory}
+use Rattle.stmt65.specs.SourceLine.{Value, NumberValue, NameValue, DifferenceValue, Form, Direct, DirectX, DirectY, Two, Indirect, IndirectX, IndirectY, Datum, NumberDatum, StringDatum, ValueDatum, HalfDatum, Operation, Instr, Data, Values, Reserve, Segment, SetCpu, SourceLine}
 use Rattle.stmt65.specs.declared.source_line.AddressSize.TheVariants.{Automatic}
 use Rattle.stmt65.specs.Symbols.{Definition, find_name, value_in, is_known, below, word_in, has_zero_page_size}
-use Rattle.stmt65.specs.Coding.{entry_limit, Fragment, Fixed, Single, ZeroPage, Oversized, Entry, Distance, Way, zero_page, datum_fragments, is_fragment_known, fragment_fits, entry_in, ways, first_way, coding}
-use Rattle.stmt65.specs.Meaning.{State, operation_in, fragments_of, next_of, defined_by, has_unknown_cpu, has_no_form, is_undefined, is_twice, is_out_of_range, is_past_end, Test, first_of, tests_of, fault_of}
+use Rattle.stmt65.specs.Coding.{State, entry_limit, Fragment, Fixed, Single, ZeroPage, Oversized, Entry, Distance, HalfOf, Fill, Way, gap, zero_page, datum_fragments, is_fragment_known, fragment_fits, entry_in, ways, first_way, coding}
+use Rattle.stmt65.specs.Meaning.{operation_in, fragments_of, next_of, defined_by, has_unknown_cpu, has_no_form, is_undefined, is_twice, is_out_of_range, is_past_start, is_past_end, Test, first_of, tests_of, fault_of}
 use Rattle.stmt65.specs.Forms.{form_values}
-use Rattle.stmt65.specs.FaultLaws.{rank, operation_values, NamesNoCpu, HasNoMode, IsUnknown, HasRoom, HasFault, LineHasFault, FindsLowest, FindsNone}
+use Rattle.stmt65.specs.Layout.{start_of, is_before}
+use Rattle.stmt65.specs.FaultLaws.{rank, datum_values, operation_values, EntersPast, NamesNoCpu, HasNoMode, IsUnknown, HasRoom, HasFault, LineHasFault, FindsLowest, FindsNone}
 use Rattle.stmt65.proofs.Cases.{by_option, by_test}
 use Rattle.stmt65.proofs.CodingLemmas.{string_known}
 use Rattle.stmt65.proofs.ModeLemmas.{by_sizes, false_true, first_case, needs_mode}
@@ -48,12 +49,12 @@ unfolding has_unknown_cpu
 cpu_tied (SetCpu text) = none_tied (cpu_named text)
 cpu_tied _ = never
 
-form_tied : (cpu : Cpu) (above : List Definition) (o : Operation) → Decides (not (is_some (coding cpu above o))) (HasNoMode cpu o)
+form_tied : (s : State) (o : Operation) → Decides (not (is_some (coding s o))) (HasNoMode s.cpu o)
 unfolding coding
-form_tied cpu above (Instr m form) =
-    let none = none_tied (coding cpu above (Instr m form)) in
-    (λ e. (needs_mode cpu above m form).0 (none.0 e), λ h. none.1 ((needs_mode cpu above m form).1 h))
-form_tied cpu above _ = never
+form_tied s (Instr m form) =
+    let none = none_tied (coding s (Instr m form)) in
+    (λ e. (needs_mode s m form).0 (none.0 e), λ h. none.1 ((needs_mode s m form).1 h))
+form_tied s _ = never
 
 -- ---- names
 
@@ -82,33 +83,51 @@ first_known all cpu m form [] fragments each e = absurd cc
 first_known all cpu m form (w ∷ ws) fragments each e =
     first_case cpu m w ws fragments e (λ b has coded. rw coded each.0) (λ none e'. first_known all cpu m form ws fragments each.1 e')
 
-data_known : (all : List Definition) (ds : List Datum) → list_all (is_fragment_known all) (flat_map datum_fragments ds) ≡ true
+data_known : (all : List Definition) (ds : List Datum) → list_all (is_fragment_known all) (flat_map datum_fragments ds) ≡ list_all (is_known all) (flat_map datum_values ds)
 unfolding is_known
 data_known all [] = refl
 data_known all (NumberDatum n ∷ ds) = data_known all ds
 data_known all (StringDatum t ∷ ds) = list_all-append (is_fragment_known all) (map Fixed t) (flat_map datum_fragments ds) ∙ rw (string_known all t, data_known all ds) refl
+data_known all (ValueDatum v ∷ ds) = ap (λ (b : Bool). is_known all v && b) (data_known all ds)
+data_known all (HalfDatum half v ∷ ds) = ap (λ (b : Bool). is_known all v && b) (data_known all ds)
 
-fragments_known : (all : List Definition) (cpu : Cpu) (above : List Definition) (o : Operation) (fragments : List Fragment) → coding cpu above o ≡ Some fragments
+gap_known : (all : List Definition) (s : State) (o : Option ℕ) → list_all (is_fragment_known all) (gap s.layout s.at o) ≡ true
+gap_known all s None = refl
+gap_known all s (Some start) = refl
+
+fragments_known : (all : List Definition) (s : State) (o : Operation) (fragments : List Fragment) → coding s o ≡ Some fragments
     → list_all (is_fragment_known all) fragments ≡ list_all (is_known all) (operation_values o)
 unfolding coding
-fragments_known all cpu above (Instr m form) fragments e = first_known all cpu m form (ways above form) fragments (ways_known all above form) e
-fragments_known all cpu above (Data ds) fragments e = let same : flat_map datum_fragments ds ≡ fragments = cc in rw (← same) (data_known all ds)
-fragments_known all cpu above (Values d vs) fragments e = let same : map (Entry d) vs ≡ fragments = cc in rw (← same) (list_all-map (is_fragment_known all) (Entry d) vs)
-fragments_known all cpu above _ fragments e = let same : [] ≡ fragments = cc in rw (← same) refl
+fragments_known all s (Instr m form) fragments e = first_known all s.cpu m form (ways s.above form) fragments (ways_known all s.above form) e
+fragments_known all s (Data ds) fragments e = let same : flat_map datum_fragments ds ≡ fragments = cc in rw (← same) (data_known all ds)
+fragments_known all s (Values d vs) fragments e = let same : map (Entry d) vs ≡ fragments = cc in rw (← same) (list_all-map (is_fragment_known all) (Entry d) vs)
+fragments_known all s (Reserve n b) fragments e = let same : Fill n b ∷ [] ≡ fragments = cc in rw (← same) refl
+fragments_known all s (Segment name) fragments e = let same : gap s.layout s.at (start_of s.layout name) ≡ fragments = cc in rw (← same) (gap_known all s (start_of s.layout name))
+fragments_known all s _ fragments e = let same : [] ≡ fragments = cc in rw (← same) refl
+
+either_tied : {A : Type 0} (a b : Option A) → Decides (not (is_some a && is_some b)) ((a ≡ None) ⊎ (b ≡ None))
+either_tied None b = (λ e. inl refl, λ h. refl)
+either_tied (Some x) None = (λ e. inr refl, λ h. refl)
+either_tied (Some x) (Some y) = (λ e. false_true e, λ h. some_none h)
+  where
+    some_none : {P : Type 0} → (Some x ≡ None) ⊎ (Some y ≡ None) → P
+    some_none (inl e) = absurd cc
+    some_none (inr e) = absurd cc
 
 unknown_tied : (all : List Definition) (v : Value) → Decides (not (is_known all v)) (IsUnknown all v)
 unfolding is_known
 unknown_tied all (NumberValue n) = never
 unknown_tied all (NameValue w n minus) = none_tied (find_name w all)
+unknown_tied all (DifferenceValue w v) = either_tied (find_name w all) (find_name v all)
 
 undefined_tied : (all : List Definition) (s : State) (source : SourceLine) → has_no_form s source ≡ false → Decides (is_undefined all s source) (Any (IsUnknown all) (operation_values (operation_in source)))
 unfolding has_no_form is_undefined fragments_of
 undefined_tied all s source h =
     let values = operation_values (operation_in source) in
-    by_option (coding s.cpu s.above (operation_in source))
+    by_option (coding s (operation_in source))
     (λ fragments e.
-    let known : not (list_all (is_fragment_known all) (unwrap_or (coding s.cpu s.above (operation_in source)) [])) ≡ list_any (λ v. not (is_known all v)) values =
-    rw e (ap not (fragments_known all s.cpu s.above (operation_in source) fragments e) ∙ not_all (is_known all) values) in
+    let known : not (list_all (is_fragment_known all) (unwrap_or (coding s (operation_in source)) [])) ≡ list_any (λ v. not (is_known all v)) values =
+    rw e (ap not (fragments_known all s (operation_in source) fragments e) ∙ not_all (is_known all) values) in
     Decides-at _ _ known (any_tied (λ v. not (is_known all v)) (IsUnknown all) values (unknown_tied all)))
     (λ e. let h' = rw e at h in false_true (sym h'))
 
@@ -125,6 +144,12 @@ byte_tied n = grind arith
 below_tied : (limit n : ℕ) → Decides (is_some (below limit (Some n))) (n < limit)
 below_tied limit n = by_test (ltb n limit) (λ e. rw e (λ p. ltb-true n limit e, λ h. refl)) (λ e. rw e (λ p. false_true p, λ h. grind (arith, nat_tests)))
 
+word_tied : (n : ℕ) → Decides (is_some (below 65536 (Some n))) (n ≤ 65535)
+word_tied n = grind arith
+
+at_most_tied : (limit n : ℕ) → Decides (ltb n (limit + 1)) (n ≤ limit)
+at_most_tied limit n = by_test (ltb n (limit + 1)) (λ e. rw e (λ p. omega (arith, ltb-true n (limit + 1) e), λ h. refl)) (λ e. rw e (λ p. false_true p, λ h. grind (arith, nat_tests)))
+
 room_tied : (all : List Definition) (next : ℕ) (f : Fragment) → Decides (fragment_fits all next f) (HasRoom all next f)
 unfolding fragment_fits word_in entry_in
 room_tied all next (Fixed b) = (λ e. tt, λ h. refl)
@@ -133,6 +158,8 @@ room_tied all next (ZeroPage v) = value_tied (λ o. is_some (below 256 (below 65
 room_tied all next (Oversized v) = never
 room_tied all next (Entry d v) = value_tied (λ o. is_some (below (entry_limit d) o)) (λ n. n < entry_limit d) refl (below_tied (entry_limit d)) (value_in all v)
 room_tied all next (Distance v) = grind arith
+room_tied all next (HalfOf half v) = value_tied (λ o. is_some (below 65536 o)) (λ n. n ≤ 65535) refl word_tied (value_in all v)
+room_tied all next (Fill n b) = Decides-and _ _ (at_most_tied 65535 n) (at_most_tied 255 b)
 
 pub range_tied : (all : List Definition) (s : State) (source : SourceLine)
     → Decides (is_out_of_range all s source) (Any (λ d. 65535 < d.value) (defined_by s.at source) ⊎ Any (λ f. ¬ HasRoom all (next_of s source) f) (fragments_of s source))
@@ -146,7 +173,7 @@ range_tied all s source =
 
 -- the kinds by their ranks, so that there is one of a rank
 abbrev kinds : List AsmFaultKind
-kinds = Syntax ∷ UnknownCpu ∷ NoSuchForm ∷ Undefined ∷ DefinedTwice ∷ OutOfRange ∷ PastEnd ∷ Memory ∷ []
+kinds = Syntax ∷ UnknownCpu ∷ NoSuchForm ∷ Undefined ∷ DefinedTwice ∷ OutOfRange ∷ PastStart ∷ PastEnd ∷ Memory ∷ []
 
 at_rank : (kind : AsmFaultKind) → slice_get kinds (rank kind) ≡ Some kind
 at_rank Syntax = refl
@@ -186,17 +213,25 @@ first_is_lowest Has n (t ∷ ts) h =
 
 no_form_tied : (s : State) (source : SourceLine) → Decides (has_no_form s source) (HasNoMode s.cpu (operation_in source))
 unfolding has_no_form
-no_form_tied s source = form_tied s.cpu s.above (operation_in source)
+no_form_tied s source = form_tied s (operation_in source)
 
 twice_tied : (s : State) (source : SourceLine) → Decides (is_twice s source) (Any (λ d. is_some (find_name d.name s.above) ≡ true) (defined_by s.at source))
 unfolding is_twice
 twice_tied s source = (Any-from_list_any _ (defined_by s.at source), list_any-from_Any _ (defined_by s.at source))
 
+before_tied : (o : Option ℕ) (at : ℕ) → Decides (is_before o at) ((start : ℕ) × (o ≡ Some start) × (start < at))
+before_tied o at = value_tied (λ o. is_before o at) (λ n. n < at) refl (λ n. Decides-ltb n at) o
+
+start_tied : (s : State) (o : Operation) → Decides (is_past_start s o) (EntersPast s o)
+unfolding is_past_start
+start_tied s (Segment name) = before_tied (start_of s.layout name) s.at
+start_tied s _ = never
+
 end_tied : (s : State) (source : SourceLine) → Decides (is_past_end s source) (65536 < next_of s source)
 unfolding is_past_end
 end_tied s source = Decides-ltb 65536 (next_of s source)
 
-none_after : (all : List Definition) (s : State) (source : SourceLine) (kind : AsmFaultKind) → 7 ≤ rank kind → ¬ HasFault all s source kind
+none_after : (all : List Definition) (s : State) (source : SourceLine) (kind : AsmFaultKind) → 8 ≤ rank kind → ¬ HasFault all s source kind
 none_after all s source Memory le = λ h. h
 none_after all s source _ le = absurd (omega arith)
 
@@ -215,7 +250,11 @@ lowest all s (Some source) = first_is_lowest (HasFault all s source) 0 ((Syntax,
       λ form. (
         refl,
         undefined_tied all s source form,
-        λ _. (refl, twice_tied s source, λ _. (refl, range_tied all s source, λ _. (refl, end_tied s source, λ _. none_after all s source))),
+        λ _. (
+          refl,
+          twice_tied s source,
+          λ _. (refl, range_tied all s source, λ _. (refl, start_tied s (operation_in source), λ _. (refl, end_tied s source, λ _. none_after all s source))),
+        ),
       ),
     ),
   ),

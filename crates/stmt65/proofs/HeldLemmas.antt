@@ -5,29 +5,30 @@ use Rattle.std.specs.List.{list_any, list_all, flat_map}
 use Rattle.std.specs.Option.{option_map}
 use Rattle.std.specs.Str.{bytes_eq}
 use Rattle.std.proofs.lemmas.List.{map-append}
-use Rattle.std.proofs.lemmas.Bool.{cases_lt, ltb-false, or_parts}
+use Rattle.std.proofs.lemmas.Bool.{cases_lt, ltb-false, ltb-true, or_parts}
 use Rattle.std.proofs.lemmas.Bool.Decides.{nat_tests}
 use Rattle.isa65.specs.declared.cpu.Cpu.{Cpu}
 use Rattle.stmt65.specs.declared.assembling.coding.Coded.{Coded}
 use Rattle.stmt65.specs.declared.assembling.state.Placed.{Placed}
 use Rattle.stmt65.specs.declared.assembling.fault.AsmFaultKind.{AsmFaultKind}
-use Rattle.stmt65.specs.declared.assembling.fault.AsmFaultKind.TheVariants.{UnknownCpu, NoSuchForm, Undefined, DefinedTwice, OutOfRange, PastEnd}
+use Rattle.stmt65.specs.declared.assembling.fault.AsmFaultKind.TheVariants.{UnknownCpu, NoSuchForm, Undefined, DefinedTwice, OutOfRange, PastStart, PastEnd}
 use Rattle.stmt65.specs.declared.source_line.Minus.{Minus}
 use Rattle.stmt65.specs.declared.source_line.Minus.TheVariants.{Zero, One}
-use Rattle.stmt65.specs.SourceLine.{SourceLine, Assignment, PlaceAssignment, Statement, Value, NumberValue, NameValue, Form, Empty, Accumulator, Immediate, Direct, DirectX, DirectY, Operation, Instr}
+use Rattle.stmt65.specs.SourceLine.{SourceLine, Assignment, PlaceAssignment, Statement, Value, NumberValue, NameValue, DifferenceValue, Form, Empty, Accumulator, Immediate, ImmediateHalf, Direct, DirectX, DirectY, Operation, Instr, Segment}
 use Rattle.stmt65.specs.declared.source_line.AddressSize.TheVariants.{Absolute}
 use Rattle.stmt65.specs.declared.directive.Directive.{Directive}
 use Rattle.stmt65.specs.declared.directive.Directive.TheVariants.{Word}
-use Rattle.stmt65.specs.Symbols.{Definition, find_name, below, lowered, value_in, is_known, word_in, is_small, is_constant, has_zero_page_size}
-use Rattle.stmt65.specs.Coding.{entry_limit, Fragment, Fixed, Oversized, Entry, Distance, entry_in, is_fragment_known, is_near, fragment_fits, fragment_bytes, ways, first_way, coding, coding_len}
+use Rattle.stmt65.specs.Symbols.{Definition, find_name, below, address_of, lowered, value_in, is_known, word_in, is_small, is_constant, has_zero_page_size}
+use Rattle.stmt65.specs.Coding.{State, entry_limit, Fragment, Fixed, Oversized, Entry, Distance, Fill, entry_in, is_fragment_known, is_near, fragment_fits, fragment_bytes, ways, first_way, gap, coding, coding_len}
+use Rattle.stmt65.specs.Layout.{Layout, start_of}
 use Rattle.stmt65.specs.Code.CodingViews.{PutsAll, coded_of}
 use Rattle.stmt65.specs.Code.Held.{held, held_value}
-use Rattle.stmt65.specs.Meaning.{State, operation_in, fragments_of, next_of, defined_by, has_unknown_cpu, has_no_form, is_undefined, is_twice, is_out_of_range, is_past_end, first_of, fault_of, bytes_of, after, final, initial}
+use Rattle.stmt65.specs.Meaning.{operation_in, fragments_of, next_of, defined_by, has_unknown_cpu, has_no_form, is_undefined, is_twice, is_out_of_range, is_past_start, is_past_end, first_of, fault_of, bytes_of, after, final, initial}
 use Rattle.stmt65.specs.Code.MeaningViews.{fragments_in, definitions_in, held_definition, IsPlaced, held_after, held_final}
 use Rattle.stmt65.proofs.Cases.{by_option, by_test}
 
 -- the address after a line
-pub next_held : (s : State) (source : SourceLine) (coded : Option Coded) (len : ℕ) → option_map coded_of coded ≡ coding s.cpu s.above (operation_in source) → len ≡ held (coding_len (fragments_in coded))
+pub next_held : (s : State) (source : SourceLine) (coded : Option Coded) (len : ℕ) → option_map coded_of coded ≡ coding s (operation_in source) → len ≡ held (coding_len (fragments_in coded))
     → held (s.at + len) ≡ held (next_of s source)
 unfolding next_of fragments_of
 next_held s source coded len e f = rw (f, ← e) (omega arith)
@@ -47,6 +48,13 @@ pub is_known-held : (ds : List Definition) (v : Value) → is_known (map held_de
 unfolding is_known
 is_known-held ds (NumberValue n) = refl
 is_known-held ds (NameValue w n less) = rw (find_name-held w ds) (is_some-map held_definition (find_name w ds))
+is_known-held ds (DifferenceValue w v) =
+    rw (find_name-held w ds, find_name-held v ds, is_some-map held_definition (find_name w ds), is_some-map held_definition (find_name v ds)) refl
+
+-- the address of a name, held
+address-held : (o : Option Definition) → address_of (option_map held_definition o) ≡ address_of o
+address-held None = refl
+address-held (Some d) = by_test (ltb d.value 65536) (λ e. grind (arith, nat_tests)) (λ e. grind (arith, nat_tests))
 
 -- ---- the value of an expression, by definitions and by a number that are held
 
@@ -85,11 +93,13 @@ value_in-held : {X : Type 0} (test : Option ℕ → X) → IsFar test → (ds : 
 unfolding value_in
 value_in-held test far ds (NumberValue n) = refl
 value_in-held test far ds (NameValue w n less) = grind (arith, find_name-held, by_option, lowered_far)
+value_in-held test far ds (DifferenceValue w v) = rw (find_name-held w ds, find_name-held v ds, address-held (find_name w ds), address-held (find_name v ds)) refl
 
 value_in-held_value : {X : Type 0} (test : Option ℕ → X) → IsFar test → (ds : List Definition) (v : Value) → test (value_in ds (held_value v)) ≡ test (value_in ds v)
 unfolding value_in
 value_in-held_value test far ds (NumberValue n) = lowered_far test far Zero (held n) n (omega arith)
 value_in-held_value test far ds (NameValue w n less) = grind (arith, by_option, lowered_far)
+value_in-held_value test far ds (DifferenceValue w v) = refl
 
 pub word_in-held : (ds : List Definition) (v : Value) → word_in (map held_definition ds) v ≡ word_in ds v
 unfolding word_in
@@ -108,6 +118,7 @@ constant-held (Some d) = refl
 size-held : (ds : List Definition) (v : Value) → has_zero_page_size (map held_definition ds) v ≡ has_zero_page_size ds v
 unfolding has_zero_page_size
 size-held ds (NumberValue n) = refl
+size-held ds (DifferenceValue w v) = refl
 size-held ds (NameValue w n less) = rw (value_in-held is_small small_far ds (NameValue w n less), find_name-held w ds, constant-held (find_name w ds)) refl
 
 pub word_in-held_value : (ds : List Definition) (v : Value) → below 65536 (value_in ds (held_value v)) ≡ word_in ds v
@@ -121,6 +132,7 @@ entry_in-held_value ds d v = value_in-held_value (below (entry_limit d)) (entry_
 pub size-held_value : (ds : List Definition) (v : Value) → has_zero_page_size ds (held_value v) ≡ has_zero_page_size ds v
 unfolding has_zero_page_size
 size-held_value ds (NumberValue n) = grind (arith, nat_tests)
+size-held_value ds (DifferenceValue w v) = refl
 size-held_value ds (NameValue w n less) = ap (λ (b : Bool). is_constant (find_name w ds) && b) (value_in-held_value is_small small_far ds (NameValue w n less))
 
 pub ruleset held_values = (word_in-held_value, entry_in-held_value, size-held_value)
@@ -163,15 +175,15 @@ flip a true e = rw e refl
 flip a false e = rw e refl
 
 -- the tests of the code are those of the line
-pub fault_is : (all : List Definition) (p : Placed) (s : State) (source : SourceLine) → IsPlaced p s source → (none known twice out past : Bool)
+pub fault_is : (all : List Definition) (p : Placed) (s : State) (source : SourceLine) → IsPlaced p s source → (none known twice out past end : Bool)
     → is_some p.coded ≡ not none → known ≡ list_all (is_fragment_known all) (fragments_in p.coded)
     → twice ≡ list_any (λ d. is_some (find_name d.name s.above)) (definitions_in p.definition)
     → out ≡ (list_any (λ d. ltb 65535 d.value) (definitions_in p.definition) || not (list_all (fragment_fits all p.next) (fragments_in p.coded)))
-    → past ≡ ltb 65536 p.next
-    → first_of ((UnknownCpu, has_unknown_cpu (operation_in source)) ∷ (NoSuchForm, none) ∷ (Undefined, not known) ∷ (DefinedTwice, twice) ∷ (OutOfRange, out) ∷ (PastEnd, past) ∷ []) ≡ fault_of all s (Some source)
+    → past ≡ p.is_past_start → end ≡ ltb 65536 p.next
+    → first_of ((UnknownCpu, has_unknown_cpu (operation_in source)) ∷ (NoSuchForm, none) ∷ (Undefined, not known) ∷ (DefinedTwice, twice) ∷ (OutOfRange, out) ∷ (PastStart, past) ∷ (PastEnd, end) ∷ []) ≡ fault_of all s (Some source)
 unfolding fault_of has_no_form is_undefined is_twice is_out_of_range is_past_end
-fault_is all p s source h none known twice out past a b c d e =
-    let none' : none ≡ not (is_some (coding s.cpu s.above (operation_in source))) = flip (is_some p.coded) none a ∙ ap not (sym (is_some-map coded_of p.coded) ∙ ap is_some h.coded) in
+fault_is all p s source h none known twice out past end a b c d f e =
+    let none' : none ≡ not (is_some (coding s (operation_in source))) = flip (is_some p.coded) none a ∙ ap not (sym (is_some-map coded_of p.coded) ∙ ap is_some h.coded) in
     let fragments = fragments-placed p s source h in
     let known' : known ≡ list_all (is_fragment_known all) (fragments_of s source) = b ∙ ap (list_all (is_fragment_known all)) fragments in
     let twice' : twice ≡ list_any (λ d. is_some (find_name d.name s.above)) (defined_by s.at source) =
@@ -180,8 +192,8 @@ fault_is all p s source h none known twice out past a b c d e =
     ap (list_any (λ d. ltb 65535 d.value)) h.definition ∙ any_large-held (defined_by s.at source) in
     let room : list_all (fragment_fits all p.next) (fragments_in p.coded) ≡ list_all (fragment_fits all (next_of s source)) (fragments_of s source) =
     ap (λ (n : ℕ). list_all (fragment_fits all n) (fragments_in p.coded)) h.next ∙ ap (list_all (fragment_fits all (held (next_of s source)))) fragments ∙ all_fit-held all (next_of s source) (fragments_of s source) in
-    let past' : past ≡ ltb 65536 (next_of s source) = e ∙ ap (ltb 65536) h.next ∙ past-held (next_of s source) in
-    rw (none', known', twice', d, large, room, past') refl
+    let end' : end ≡ ltb 65536 (next_of s source) = e ∙ ap (ltb 65536) h.next ∙ past-held (next_of s source) in
+    rw (none', known', twice', d, large, room, f ∙ h.past, end') refl
 
 -- ---- a line that has no fault
 
@@ -227,22 +239,40 @@ after_exact all s source none =
 -- ---- a state, held
 
 unfoldable pub held_state : State → State
-held_state s = record { at = held s.at; cpu = s.cpu; above = map held_definition s.above }
+held_state s = record { at = held s.at; cpu = s.cpu; above = map held_definition s.above; layout = s.layout }
 
 ways-held : (ds : List Definition) (form : Form) → ways (map held_definition ds) form ≡ ways ds form
 unfolding ways
 ways-held ds Empty = refl
 ways-held ds Accumulator = refl
 ways-held ds (Immediate v) = refl
+ways-held ds (ImmediateHalf half v) = refl
 ways-held ds (Direct Absolute v) = refl
 ways-held ds (DirectX Absolute v) = refl
 ways-held ds (DirectY Absolute v) = refl
 ways-held ds _ = rw size-held refl
 
-coding-held : (cpu : Cpu) (ds : List Definition) (operation : Operation) → coding cpu (map held_definition ds) operation ≡ coding cpu ds operation
-unfolding coding
-coding-held cpu ds (Instr m form) = ap (first_way cpu m) (ways-held ds form)
-coding-held cpu ds _ = refl
+-- what is missing before an address, from an address that is held
+gap-held : (layout : Layout) (at : ℕ) (o : Option ℕ) → below 65536 o ≡ o → gap layout (held at) o ≡ gap layout at o
+gap-held layout at None h = refl
+gap-held layout at (Some start) h =
+    let small : start < 65536 = below_small start h in
+    let same : start - held at ≡ start - at = omega arith in
+    ap (λ (n : ℕ). Fill n layout.fill ∷ []) same
+  where
+    below_small : (n : ℕ) → below 65536 (Some n) ≡ Some n → n < 65536
+    below_small n e = by_test (ltb n 65536) (λ t. ltb-true n 65536 t) (λ t. let e' = rw t at e in absurd cc)
+
+-- an address is one
+address-small : (o : Option Definition) → below 65536 (address_of o) ≡ address_of o
+address-small None = refl
+address-small (Some d) = by_test (ltb d.value 65536) (λ e. rw e (rw e refl)) (λ e. rw e refl)
+
+coding-held : (s : State) (operation : Operation) → coding (held_state s) operation ≡ coding s operation
+unfolding coding held_state
+coding-held s (Instr m form) = ap (first_way s.cpu m) (ways-held s.above form)
+coding-held s (Segment name) = ap (λ (fs : List Fragment). Some fs) (gap-held s.layout s.at (start_of s.layout name) (address-small (find_name name s.layout.starts)))
+coding-held s _ = refl
 
 defined-held : (at : ℕ) (source : SourceLine) → map held_definition (defined_by (held at) source) ≡ map held_definition (defined_by at source)
 unfolding defined_by
@@ -261,25 +291,27 @@ unfolding held_final final
 final-held s [] = refl
 final-held s (l ∷ ls) = rw (after-held s l) (final-held (after s l) ls)
 
-pub initial-held : (start : ℕ) → start < 65536 → held_state (initial start) ≡ initial start
+pub initial-held : (layout : Layout) (start : ℕ) → start < 65536 → held_state (initial layout start) ≡ initial layout start
 unfolding held_state
-initial-held start h = let same : held start ≡ start = omega arith in rw same refl
+initial-held layout start h = let same : held start ≡ start = omega arith in rw same refl
 
 -- the definitions that the first pass finds
-pub definitions_held : (start : ℕ) (ls : List (Option SourceLine)) → start < 65536 → (held_final (initial start) ls).above ≡ map held_definition (final (initial start) ls).above
+pub definitions_held : (layout : Layout) (start : ℕ) (ls : List (Option SourceLine)) → start < 65536 → (held_final (initial layout start) ls).above ≡ map held_definition (final (initial layout start) ls).above
 unfolding held_state
-definitions_held start ls h =
-    ap (λ (s : State). s.above) (ap (λ (s : State). held_final s ls) (sym (initial-held start h)) ∙ final-held (initial start) ls)
+definitions_held layout start ls h =
+    ap (λ (s : State). s.above) (ap (λ (s : State). held_final s ls) (sym (initial-held layout start h)) ∙ final-held (initial layout start) ls)
 
 -- ---- a line, by the definitions that are held
 
 fragment_known-held : (all : List Definition) (f : Fragment) → is_fragment_known (map held_definition all) f ≡ is_fragment_known all f
 fragment_known-held all (Fixed b) = refl
+fragment_known-held all (Fill n b) = refl
 fragment_known-held all _ = is_known-held all _
 
 fragment_fits-all : (all : List Definition) (next : ℕ) (f : Fragment) → fragment_fits (map held_definition all) next f ≡ fragment_fits all next f
 unfolding fragment_fits
 fragment_fits-all all next (Fixed b) = refl
+fragment_fits-all all next (Fill n b) = refl
 fragment_fits-all all next (Oversized v) = refl
 fragment_fits-all all next (Entry d v) = rw (entry_in-held all d v) refl
 fragment_fits-all all next _ = rw word_in-held refl
@@ -287,6 +319,7 @@ fragment_fits-all all next _ = rw word_in-held refl
 fragment_bytes-all : (all : List Definition) (next : ℕ) (f : Fragment) → fragment_bytes (map held_definition all) next f ≡ fragment_bytes all next f
 unfolding fragment_bytes
 fragment_bytes-all all next (Fixed b) = refl
+fragment_bytes-all all next (Fill n b) = refl
 fragment_bytes-all all next (Entry d v) = rw (entry_in-held all d v) refl
 fragment_bytes-all all next _ = rw word_in-held refl
 

@@ -11,6 +11,7 @@ use Rattle.std.proofs.lemmas.List.{take_at, drop_at, drop-drop}
 use Rattle.std.proofs.lemmas.Str.Parse.{digit_from_value}
 use Rattle.text65.specs.Digits.{hex_digit}
 use Rattle.text65.specs.Names.{is_blank, is_word_byte}
+use Rattle.stmt65.specs.declared.language.Language.TheVariants.{Listing}
 use Rattle.stmt65.specs.Digits.{hex2, hex4, offset_text}
 use Rattle.stmt65.specs.Lexing.{is_word_start, is_text_byte, part_at, parts}
 use Rattle.stmt65.specs.Parts.{Word, Number, Text, Define, Mark, begins_with, number_of}
@@ -50,17 +51,17 @@ word_begins b h = (grind (arith, nat_tests), grind (arith, nat_tests))
 pub digit_begins : (b : ℕ) → is_ascii_digit b ≡ true → (is_blank b ≡ false) × (eqb b 59 ≡ false)
 digit_begins b h = (grind (arith, nat_tests), grind (arith, nat_tests))
 
-word_part : (b : ℕ) (w rest : List ℕ) → is_word_start b ≡ true → list_all is_word_byte w ≡ true → Ends rest → part_at b (w ++ rest) ≡ (Word (b ∷ w), length w)
+word_part : (b : ℕ) (w rest : List ℕ) → is_word_start b ≡ true → list_all is_word_byte w ≡ true → Ends rest → part_at Listing b (w ++ rest) ≡ (Word (b ∷ w), length w)
 unfolding part_at
 word_part b w rest h g e = rw (h, prefix_stop is_word_byte w rest g e, take_at w rest (length w) refl) refl
 
-pub parts_word : (w rest : List ℕ) → IsWordText w → Ends rest → parts (w ++ rest) ≡ Word w ∷ parts rest
+pub parts_word : (w rest : List ℕ) → IsWordText w → Ends rest → parts Listing (w ++ rest) ≡ Word w ∷ parts Listing rest
 parts_word [] rest h e = absurd h
 parts_word (b ∷ w) rest h e = grind (arith, word_begins, parts_part, word_part, drop_at)
 
-pub parts_blanks : (n : ℕ) (rest : List ℕ) → parts (replicate n 32 ++ rest) ≡ parts rest
+pub parts_blanks : (n : ℕ) (rest : List ℕ) → parts Listing (replicate n 32 ++ rest) ≡ parts Listing rest
 parts_blanks zero rest = refl
-parts_blanks (suc n) rest = parts_blank 32 (replicate n 32 ++ rest) refl ∙ parts_blanks n rest
+parts_blanks (suc n) rest = parts_blank Listing 32 (replicate n 32 ++ rest) refl ∙ parts_blanks n rest
 
 -- ---- bytes by themselves
 
@@ -68,30 +69,30 @@ parts_blanks (suc n) rest = parts_blank 32 (replicate n 32 ++ rest) refl ∙ par
 abbrev pub begun : ℕ → List Bool
 begun b = is_blank b ∷ eqb b 59 ∷ is_word_start b ∷ is_ascii_digit b ∷ eqb b 36 ∷ eqb b 34 ∷ eqb b 58 ∷ []
 
-pub parts_mark : (b : ℕ) (rest : List ℕ) → begun b ≡ replicate 7 false → parts (b ∷ rest) ≡ Mark b ∷ parts rest
+pub parts_mark : (b : ℕ) (rest : List ℕ) → begun b ≡ replicate 7 false → parts Listing (b ∷ rest) ≡ Mark b ∷ parts Listing rest
 unfolding part_at
 parts_mark b rest h = grind (arith, parts_part)
 
 -- `:=`
-pub parts_define : (rest : List ℕ) → parts (58 ∷ 61 ∷ rest) ≡ Define ∷ parts rest
+pub parts_define : (rest : List ℕ) → parts Listing (58 ∷ 61 ∷ rest) ≡ Define ∷ parts Listing rest
 unfolding part_at
-parts_define rest = parts_part 58 (61 ∷ rest) refl refl
+parts_define rest = parts_part Listing 58 (61 ∷ rest) refl refl
 
 -- the `:` of a label or of `a:`, where no `=` follows
-pub parts_colon : (rest : List ℕ) → begins_with 61 rest ≡ false → parts (58 ∷ rest) ≡ Mark 58 ∷ parts rest
+pub parts_colon : (rest : List ℕ) → begins_with 61 rest ≡ false → parts Listing (58 ∷ rest) ≡ Mark 58 ∷ parts Listing rest
 unfolding part_at
-parts_colon rest h = parts_part 58 rest refl refl ∙ rw h refl
+parts_colon rest h = parts_part Listing 58 rest refl refl ∙ rw h refl
 
 -- ---- strings
 
-text_part : (t rest : List ℕ) → list_all is_text_byte t ≡ true → part_at 34 (t ++ 34 ∷ rest) ≡ (Text t, length t + 1)
+text_part : (t rest : List ℕ) → list_all is_text_byte t ≡ true → part_at Listing 34 (t ++ 34 ∷ rest) ≡ (Text t, length t + 1)
 unfolding part_at
 text_part t rest h = grind (arith, prefix_stop, take_at, drop_at)
 
-pub parts_text : (t rest : List ℕ) → list_all is_text_byte t ≡ true → parts (34 ∷ (t ++ 34 ∷ rest)) ≡ Text t ∷ parts rest
+pub parts_text : (t rest : List ℕ) → list_all is_text_byte t ≡ true → parts Listing (34 ∷ (t ++ 34 ∷ rest)) ≡ Text t ∷ parts Listing rest
 parts_text t rest h =
     let d : drop (length t + 1) (t ++ 34 ∷ rest) ≡ rest = sym (drop-drop 1 (length t) (t ++ 34 ∷ rest)) ∙ ap (drop 1) (drop_at t (34 ∷ rest) (length t) refl) in
-    parts_part 34 (t ++ 34 ∷ rest) refl refl ∙ rw (text_part t rest h, d) refl
+    parts_part Listing 34 (t ++ 34 ∷ rest) refl refl ∙ rw (text_part t rest h, d) refl
 
 -- ---- numbers in hex digits
 
@@ -108,21 +109,21 @@ ends_hex : (rest : List ℕ) → Ends rest → begins is_ascii_hexdigit rest ≡
 ends_hex [] h = refl
 ends_hex (b ∷ rest) h = hex_is_word b h
 
-hex_part : (ds rest : List ℕ) → list_all is_ascii_hexdigit ds ≡ true → 0 < length ds → length ds ≤ 8 → Ends rest → part_at 36 (ds ++ rest) ≡ (Number (36 ∷ ds), length ds)
+hex_part : (ds rest : List ℕ) → list_all is_ascii_hexdigit ds ≡ true → 0 < length ds → length ds ≤ 8 → Ends rest → part_at Listing 36 (ds ++ rest) ≡ (Number (36 ∷ ds), length ds)
 unfolding part_at
 hex_part ds rest h pos le e = grind (arith, prefix_stop, ends_hex, min, ltb, take_at)
 
-pub parts_hex : (ds rest : List ℕ) → list_all is_ascii_hexdigit ds ≡ true → 0 < length ds → length ds ≤ 8 → Ends rest → parts (36 ∷ (ds ++ rest)) ≡ Number (36 ∷ ds) ∷ parts rest
+pub parts_hex : (ds rest : List ℕ) → list_all is_ascii_hexdigit ds ≡ true → 0 < length ds → length ds ≤ 8 → Ends rest → parts Listing (36 ∷ (ds ++ rest)) ≡ Number (36 ∷ ds) ∷ parts Listing rest
 parts_hex ds rest h pos le e = grind (arith, parts_part, hex_part, drop_at)
 
 pub below_16 : (n : ℕ) → n % 16 < 16
 below_16 n = omega arith
 
-pub parts_hex2 : (n : ℕ) (rest : List ℕ) → Ends rest → parts (hex2 n ++ rest) ≡ Number (hex2 n) ∷ parts rest
+pub parts_hex2 : (n : ℕ) (rest : List ℕ) → Ends rest → parts Listing (hex2 n ++ rest) ≡ Number (hex2 n) ∷ parts Listing rest
 parts_hex2 n rest e =
     parts_hex (hex_digit (n / 16 % 16) ∷ hex_digit (n % 16) ∷ []) rest (rw (hex_is_digit (n / 16 % 16) (below_16 (n / 16)), hex_is_digit (n % 16) (below_16 n)) refl) (omega arith) (omega arith) e
 
-pub parts_hex4 : (n : ℕ) (rest : List ℕ) → Ends rest → parts (hex4 n ++ rest) ≡ Number (hex4 n) ∷ parts rest
+pub parts_hex4 : (n : ℕ) (rest : List ℕ) → Ends rest → parts Listing (hex4 n ++ rest) ≡ Number (hex4 n) ∷ parts Listing rest
 parts_hex4 n rest e =
     parts_hex (hex_digit (n / 4096 % 16) ∷ hex_digit (n / 256 % 16) ∷ hex_digit (n / 16 % 16) ∷ hex_digit (n % 16) ∷ []) rest (rw (hex_is_digit (n / 4096 % 16) (below_16 (n / 4096)), hex_is_digit (n / 256 % 16) (below_16 (n / 256)), hex_is_digit (n / 16 % 16) (below_16 (n / 16)), hex_is_digit (n % 16) (below_16 n)) refl) (omega arith) (omega arith) e
 
@@ -146,34 +147,35 @@ digits_pass (d ∷ ds) h = rw (is_digit d h.0, digits_pass ds h.1) refl
 pub digit_no_word : (d : ℕ) → is_ascii_digit d ≡ true → is_word_start d ≡ false
 digit_no_word d h = grind (arith, nat_tests)
 
-digit_no_dollar : (b : ℕ) → is_ascii_digit b ≡ true → eqb b 36 ≡ false
-digit_no_dollar b h = grind (arith, nat_tests)
+digit_no_sign : (b : ℕ) → is_ascii_digit b ≡ true → (eqb b 36 ≡ false) × (eqb b 37 ≡ false) × (eqb b 39 ≡ false)
+digit_no_sign b h = (grind (arith, nat_tests), grind (arith, nat_tests), grind (arith, nat_tests))
 
-decimal_part : (d : ℕ) (ds rest : List ℕ) → list_all is_ascii_digit (d ∷ ds) ≡ true → Ends rest → part_at d (ds ++ rest) ≡ (Number (d ∷ ds), length ds)
+decimal_part : (d : ℕ) (ds rest : List ℕ) → list_all is_ascii_digit (d ∷ ds) ≡ true → Ends rest → part_at Listing d (ds ++ rest) ≡ (Number (d ∷ ds), length ds)
 unfolding part_at
 decimal_part d ds rest h e = grind (arith, and_parts, digit_no_word, prefix_stop, take_at)
 
-pub parts_digits : (ds rest : List ℕ) → 0 < length ds → list_all is_ascii_digit ds ≡ true → Ends rest → parts (ds ++ rest) ≡ Number ds ∷ parts rest
+pub parts_digits : (ds rest : List ℕ) → 0 < length ds → list_all is_ascii_digit ds ≡ true → Ends rest → parts Listing (ds ++ rest) ≡ Number ds ∷ parts Listing rest
 parts_digits [] rest lt h e = absurd (omega arith)
 parts_digits (d ∷ ds) rest lt h e = grind (arith, digit_begins, and_parts, parts_part, decimal_part, drop_at)
 
-pub parts_decimal : (n : ℕ) (rest : List ℕ) → n < 65536 → Ends rest → parts (decimal n ++ rest) ≡ Number (decimal n) ∷ parts rest
+pub parts_decimal : (n : ℕ) (rest : List ℕ) → n < 65536 → Ends rest → parts Listing (decimal n ++ rest) ≡ Number (decimal n) ∷ parts Listing rest
 parts_decimal n rest lt e = grind (arith, parts_digits, decimal_nonempty, digits_pass, decimal_is_IsNumeral)
 
-no_dollar : (ds : List ℕ) → list_all is_ascii_digit ds ≡ true → begins_with 36 ds ≡ false
-no_dollar [] h = refl
-no_dollar (d ∷ ds) h = digit_no_dollar d (and_parts (is_ascii_digit d) (list_all is_ascii_digit ds) h).0
+no_sign : (ds : List ℕ) → list_all is_ascii_digit ds ≡ true → (begins_with 36 ds ≡ false) × (begins_with 37 ds ≡ false) × (begins_with 39 ds ≡ false)
+no_sign [] h = (refl, refl, refl)
+no_sign (d ∷ ds) h = digit_no_sign d (and_parts (is_ascii_digit d) (list_all is_ascii_digit ds) h).0
 
 pub number_of-decimal : (n : ℕ) → n < 65536 → n ≡ number_of (decimal n)
 unfolding number_of
 number_of-decimal n lt =
     let d = decimal_is_IsNumeral n (omega arith) in
-    rw (no_dollar (decimal n) (digits_pass (decimal n) d.0.1), d.1) (omega arith)
+    let sign = no_sign (decimal n) (digits_pass (decimal n) d.0.1) in
+    rw (sign.0, sign.1, sign.2, d.1) (omega arith)
 
 -- ---- what is added to a name
 
 pub record OffsetParts (text : List ℕ) (n : ℕ) (rest : List ℕ) : Type 0 where
-  pub lexes : parts (text ++ rest) ≡ Number text ∷ parts rest
+  pub lexes : parts Listing (text ++ rest) ≡ Number text ∷ parts Listing rest
   pub counts : n ≡ number_of text
 
 pub offset_parts : (h : Bool) (n : ℕ) (rest : List ℕ) → n < 65536 → Ends rest → OffsetParts (offset_text h n) n rest

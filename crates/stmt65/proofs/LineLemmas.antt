@@ -1,6 +1,7 @@
 -- A line is read as r exactly where it is a spelling of r.
 use Rattle.std.proofs.Common.{refl, sym, ◌∙◌}
 use Rattle.std.proofs.lemmas.Option.{same_Some}
+use Rattle.stmt65.specs.declared.language.Language.TheVariants.{Listing}
 use Rattle.stmt65.specs.Reading.{reading_of}
 use Rattle.stmt65.specs.Spelling.{IsSpelling}
 use Rattle.stmt65.specs.ReadingLaws.{ReadsSpellings, SpellsOne, ReadsLines}
@@ -10,13 +11,13 @@ use Rattle.stmt65.proofs.ReadIsSpelled.{at, reading_read}
 use Rattle.stmt65.proofs.SpelledIsRead.{line_again}
 
 pub reads_spellings : ReadsSpellings
-reads_spellings ps r = (λ e. at (λ r. IsSpelling r ps) (reading_of ps) r e (reading_read ps), λ h. line_again r ps h)
+reads_spellings ps r = (λ e. at (λ r. IsSpelling r ps) (reading_of Listing ps) r e (reading_read ps), λ h. line_again r ps h)
 
 pub spells_one : SpellsOne
 spells_one ps r s h g = same_Some r s (sym (line_again r ps h) ∙ line_again s ps g)
 
 pub reads_lines : ReadsLines
 reads_lines line r = (
-  λ e. (parts line, (takes_parts line (parts line)).0 refl, (reads_spellings (parts line) r).0 e),
-  λ h. (reads_spellings (parts line) r).1 (rw ((takes_parts line h.0).1 h.1) h.2),
+  λ e. (parts Listing line, (takes_parts line (parts Listing line)).0 refl, (reads_spellings (parts Listing line) r).0 e),
+  λ h. (reads_spellings (parts Listing line) r).1 (rw ((takes_parts line h.0).1 h.1) h.2),
 )

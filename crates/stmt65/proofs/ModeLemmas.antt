@@ -14,10 +14,10 @@ use Rattle.isa65.specs.contracts.mode.Mode as mode
 use Rattle.isa65.specs.Cpu.{table_of}
 use Rattle.isa65.specs.Mode.{len_of, written, zero_page_of}
 use Rattle.isa65.specs.Opcodes.{encoded}
-use Rattle.stmt65.specs.SourceLine.{Value, Form, Empty, Accumulator, Immediate, Direct, DirectX, DirectY, Two, Indirect, IndirectX, IndirectY}
+use Rattle.stmt65.specs.SourceLine.{Value, Form, Empty, Accumulator, Immediate, ImmediateHalf, Direct, DirectX, DirectY, Two, Indirect, IndirectX, IndirectY}
 use Rattle.stmt65.specs.declared.source_line.AddressSize.TheVariants.{Absolute, Automatic}
 use Rattle.stmt65.specs.Symbols.{Definition, has_zero_page_size}
-use Rattle.stmt65.specs.Coding.{Fragment, Fixed, ZeroPage, Oversized, fragment_len, word_operand, Distance, Way, zero_page, by_size, ways, first_way, coding, coding_len}
+use Rattle.stmt65.specs.Coding.{State, Fragment, Fixed, ZeroPage, Oversized, fragment_len, word_operand, Distance, Way, zero_page, by_size, ways, first_way, coding, coding_len}
 use Rattle.stmt65.specs.Forms.{form_text, form_values}
 use Rattle.stmt65.proofs.Cases.{by_option, by_test}
 use Rattle.stmt65.specs.ModeLaws.{has_prefix, IsModeOf, IsWay, EachWay, WaysAreModes, is_way, ModesAreWays, HasMode, is_short, mode_fragments, TakesMode, TakesModes, LacksForm, NeedsMode}
@@ -59,6 +59,7 @@ unfolding ways
 among above Empty Imp p same = refl
 among above Accumulator Acc p same = refl
 among above (Immediate v) Imm p same = refl
+among above (ImmediateHalf half v) Imm p same = refl
 among above (Direct Absolute v) Abs p same = refl
 among above (Direct Absolute v) Zp p same = false_true (p refl)
 among above (Direct Absolute v) Rel p same = false_true (p refl)
@@ -100,9 +101,9 @@ none_found cpu m form (w ∷ ws) each lacks = rw (lacks w.0 each.0.of_form) (non
 
 pub needs_mode : NeedsMode
 unfolding coding
-needs_mode cpu above m form = (
-  λ e x h. none_missed cpu m (ways above form) x e (modes_are_ways above form x h),
-  λ lacks. none_found cpu m form (ways above form) (ways_are_modes above form) lacks,
+needs_mode s m form = (
+  λ e x h. none_missed s.cpu m (ways s.above form) x e (modes_are_ways s.above form x h),
+  λ lacks. none_found s.cpu m form (ways s.above form) (ways_are_modes s.above form) lacks,
 )
 
 -- ---- the mode that is taken
@@ -145,7 +146,7 @@ lacks_it cpu m x z none same h = let h' = rw (same, none) at h in false_true h'
 module _ (cpu : Cpu) (above : List Definition) (m : Mnemonic) (form : Form) (fragments : List Fragment) where
   -- a mode that has none of another size beside it
   lone : (x : Mode) (b : ℕ) → is_zero x ≡ false → ((y : Mode) → zero_page_of x ≡ Some y → IsModeOf form y → ⊥) → IsModeOf form x → encoded (table_of cpu) m x ≡ Some b
-      → fragments ≡ Fixed b ∷ mode_fragments above x (form_values form) → TakesMode cpu above m form fragments
+      → fragments ≡ Fixed b ∷ mode_fragments above form x → TakesMode cpu above m form fragments
   lone x b z alone of_form has coded = record {
     mode = x;
     opcode = b;
@@ -158,14 +159,14 @@ module _ (cpu : Cpu) (above : List Definition) (m : Mnemonic) (form : Form) (fra
 
   -- the one way of a form
   by_one : (x : Mode) (fs : List Fragment) → first_way cpu m ((x, fs) ∷ []) ≡ Some fragments → is_zero x ≡ false → ((y : Mode) → zero_page_of x ≡ Some y → IsModeOf form y → ⊥) → IsModeOf form x
-      → fs ≡ mode_fragments above x (form_values form) → TakesMode cpu above m form fragments
+      → fs ≡ mode_fragments above form x → TakesMode cpu above m form fragments
   by_one x fs e z alone of_form same =
       first_case cpu m (x, fs) [] fragments e (λ b has coded. lone x b z alone of_form has (coded ∙ ap (λ (gs : List Fragment). Fixed b ∷ gs) same)) (λ gone e'. absurd cc)
 
   -- one of the two sizes, or another way
   sized : (short long : Mode) (v : Value) (rest : List Way) → zero_page_of long ≡ Some short → zero_page_of short ≡ None → is_zero long ≡ false
       → IsModeOf form short → IsModeOf form long → is_short above (form_values form) ≡ has_zero_page_size above v
-      → mode_fragments above short (form_values form) ≡ zero_page above v ∷ [] → mode_fragments above long (form_values form) ≡ word_operand v ∷ []
+      → mode_fragments above form short ≡ zero_page above v ∷ [] → mode_fragments above form long ≡ word_operand v ∷ []
       → first_way cpu m (by_size above short long v ++ rest) ≡ Some fragments → (first_way cpu m rest ≡ Some fragments → TakesMode cpu above m form fragments) → TakesMode cpu above m form fragments
   sized short long v rest pair lone_short not_zero of_short of_long size zf lf e other = go (has_zero_page_size above v) refl
     where
@@ -206,25 +207,25 @@ module _ (cpu : Cpu) (above : List Definition) (m : Mnemonic) (form : Form) (fra
 
 pub takes_modes : TakesModes
 unfolding coding ways
-takes_modes cpu above m (Direct Absolute v) fragments e =
-    by_one cpu above m (Direct Absolute v) fragments Abs _ e refl (λ y e f. no_zero Abs y e (f.1 refl)) (refl, λ p. refl) refl
-takes_modes cpu above m (Direct Automatic v) fragments e =
-    sized cpu above m (Direct Automatic v) fragments Zp Abs v ((Rel, Distance v ∷ []) ∷ []) refl refl refl (refl, λ p. false_true p) (refl, λ p. false_true p) refl refl refl e
-    (λ e'. by_one cpu above m (Direct Automatic v) fragments Rel _ e' refl (λ y e f. absurd cc) (refl, λ p. false_true p) refl)
-takes_modes cpu above m (DirectX Absolute v) fragments e =
-    by_one cpu above m (DirectX Absolute v) fragments Absx _ e refl (λ y e f. no_zero Absx y e (f.1 refl)) (refl, λ p. refl) refl
-takes_modes cpu above m (DirectX Automatic v) fragments e =
-    sized cpu above m (DirectX Automatic v) fragments Zpx Absx v [] refl refl refl (refl, λ p. false_true p) (refl, λ p. false_true p) refl refl refl (rw append-nil e) (λ e'. absurd cc)
-takes_modes cpu above m (DirectY Absolute v) fragments e =
-    by_one cpu above m (DirectY Absolute v) fragments Absy _ e refl (λ y e f. no_zero Absy y e (f.1 refl)) (refl, λ p. refl) refl
-takes_modes cpu above m (DirectY Automatic v) fragments e =
-    sized cpu above m (DirectY Automatic v) fragments Zpy Absy v [] refl refl refl (refl, λ p. false_true p) (refl, λ p. false_true p) refl refl refl (rw append-nil e) (λ e'. absurd cc)
-takes_modes cpu above m (Indirect v) fragments e =
-    first_case cpu m (Zpind, zero_page above v ∷ []) ((Ind, word_operand v ∷ []) ∷ []) fragments e
-    (λ b has coded. lone cpu above m (Indirect v) fragments Zpind b refl (λ y e f. absurd cc) (refl, λ p. false_true p) has coded)
-    (λ gone e'. by_one cpu above m (Indirect v) fragments Ind _ e' refl (λ y e f. absurd cc) (refl, λ p. false_true p) refl)
-takes_modes cpu above m (IndirectX v) fragments e =
-    first_case cpu m (Indx, zero_page above v ∷ []) ((Absindx, word_operand v ∷ []) ∷ []) fragments e
-    (λ b has coded. lone cpu above m (IndirectX v) fragments Indx b refl (λ y e f. absurd cc) (refl, λ p. false_true p) has coded)
-    (λ gone e'. by_one cpu above m (IndirectX v) fragments Absindx _ e' refl (λ y e f. absurd cc) (refl, λ p. false_true p) refl)
-takes_modes cpu above m _ fragments e = by_one cpu above m _ fragments _ _ e refl (λ y e f. absurd cc) (refl, λ p. false_true p) refl
+takes_modes s m (Direct Absolute v) fragments e =
+    by_one s.cpu s.above m (Direct Absolute v) fragments Abs _ e refl (λ y e f. no_zero Abs y e (f.1 refl)) (refl, λ p. refl) refl
+takes_modes s m (Direct Automatic v) fragments e =
+    sized s.cpu s.above m (Direct Automatic v) fragments Zp Abs v ((Rel, Distance v ∷ []) ∷ []) refl refl refl (refl, λ p. false_true p) (refl, λ p. false_true p) refl refl refl e
+    (λ e'. by_one s.cpu s.above m (Direct Automatic v) fragments Rel _ e' refl (λ y e f. absurd cc) (refl, λ p. false_true p) refl)
+takes_modes s m (DirectX Absolute v) fragments e =
+    by_one s.cpu s.above m (DirectX Absolute v) fragments Absx _ e refl (λ y e f. no_zero Absx y e (f.1 refl)) (refl, λ p. refl) refl
+takes_modes s m (DirectX Automatic v) fragments e =
+    sized s.cpu s.above m (DirectX Automatic v) fragments Zpx Absx v [] refl refl refl (refl, λ p. false_true p) (refl, λ p. false_true p) refl refl refl (rw append-nil e) (λ e'. absurd cc)
+takes_modes s m (DirectY Absolute v) fragments e =
+    by_one s.cpu s.above m (DirectY Absolute v) fragments Absy _ e refl (λ y e f. no_zero Absy y e (f.1 refl)) (refl, λ p. refl) refl
+takes_modes s m (DirectY Automatic v) fragments e =
+    sized s.cpu s.above m (DirectY Automatic v) fragments Zpy Absy v [] refl refl refl (refl, λ p. false_true p) (refl, λ p. false_true p) refl refl refl (rw append-nil e) (λ e'. absurd cc)
+takes_modes s m (Indirect v) fragments e =
+    first_case s.cpu m (Zpind, zero_page s.above v ∷ []) ((Ind, word_operand v ∷ []) ∷ []) fragments e
+    (λ b has coded. lone s.cpu s.above m (Indirect v) fragments Zpind b refl (λ y e f. absurd cc) (refl, λ p. false_true p) has coded)
+    (λ gone e'. by_one s.cpu s.above m (Indirect v) fragments Ind _ e' refl (λ y e f. absurd cc) (refl, λ p. false_true p) refl)
+takes_modes s m (IndirectX v) fragments e =
+    first_case s.cpu m (Indx, zero_page s.above v ∷ []) ((Absindx, word_operand v ∷ []) ∷ []) fragments e
+    (λ b has coded. lone s.cpu s.above m (IndirectX v) fragments Indx b refl (λ y e f. absurd cc) (refl, λ p. false_true p) has coded)
+    (λ gone e'. by_one s.cpu s.above m (IndirectX v) fragments Absindx _ e' refl (λ y e f. absurd cc) (refl, λ p. false_true p) refl)
+takes_modes s m _ fragments e = by_one s.cpu s.above m _ fragments _ _ e refl (λ y e f. absurd cc) (refl, λ p. false_true p) refl

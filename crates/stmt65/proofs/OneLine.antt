@@ -163,6 +163,7 @@ quoted_line text h = joined text (codes "\"") (all_as is_text_byte in_line text_
 datum_line : (d : Datum) → is_sound d ≡ true → InLine (datum_text d)
 datum_line (source.NumberDatum b) h = digits2_line b
 datum_line (source.StringDatum t) h = quoted_line t h
+datum_line _ h = refl
 
 mnemonic_line : (m : Mnemonic) → InLine (text_of m)
 mnemonic_line Adc = refl

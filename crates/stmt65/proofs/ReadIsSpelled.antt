@@ -4,6 +4,7 @@ use Rattle.std.specs.Prelude.{codes, IfSome}
 use Rattle.std.proofs.lemmas.List.{append-nil}
 use Rattle.isa65.specs.Mnemonic.{text_of, mnemonic_named}
 use Rattle.text65.specs.Names.{has_name_form}
+use Rattle.stmt65.specs.declared.language.Language.TheVariants.{Listing}
 use Rattle.stmt65.specs.declared.source_line.AddressSize.{AddressSize}
 use Rattle.stmt65.specs.declared.source_line.AddressSize.TheVariants.{Absolute, Automatic}
 use Rattle.stmt65.specs.SourceLine.{is_absolute, Value, Form, Immediate, Two, Operation, Instr, Data, Values, SetCpu}
@@ -11,7 +12,7 @@ use Rattle.stmt65.specs.declared.directive.Directive.{Directive}
 use Rattle.stmt65.specs.Directives.{directive_text, directive_named}
 use Rattle.stmt65.specs.Parts.{Part, Word, Number, Text, Define, Mark}
 use Rattle.stmt65.specs.Names.{same, is_name}
-use Rattle.stmt65.specs.Reading.{is_mark, is_define, is_word_here, is_number_here, number_in, ◌>>=◌, less_one, named_at, next_value, whole, tail_at, inner_at, form_of, joined, list_of, next_datum, text_in, data_of, segment_of, values_of, set_cpu_of, instruction_of, other_at, operation_at, operation_of, constant_of, line_at, reading_of}
+use Rattle.stmt65.specs.Reading.{is_mark, is_define, is_word_here, is_number_here, number_in, ◌>>=◌, less_one, named_at, next_value, whole, tail_at, inner_at, immediate_of, form_of, joined, list_of, word_datum, mark_datum, next_datum, text_in, data_of, segment_of, values_of, set_cpu_of, instruction_of, further_at, other_at, operation_at, operation_of, constant_of, line_at, reading_of}
 use Rattle.stmt65.specs.Spelling.{Item, word, mark, define, name, number, string, quoted_name, value, data_list, value_list, IsPlus, IsValue, IsDatum, prefix_items, IsList, IsItem, Spells, form_items, operation_items, IsSpelling}
 use Rattle.stmt65.proofs.Cases.{by_test, by_option, by_list, mark_is, define_is, word_is, number_is, number_here_is, mnemonic_is, directive_is}
 
@@ -59,7 +60,7 @@ at_end = refl
 -- ---- values
 
 -- the parts after a name and what is added to it
-less_read : (w : List ℕ) (n : ℕ) (plus ps rest : List Part) → is_name w ≡ true → IsPlus n plus → ps ≡ Word w ∷ (plus ++ rest) → IfSome (less_one w n rest) (λ v. Fronts (IsValue v.0) ps v.1)
+less_read : (w : List ℕ) (n : ℕ) (plus ps rest : List Part) → is_name w ≡ true → IsPlus n plus → ps ≡ Word w ∷ (plus ++ rest) → IfSome (less_one Listing w n rest) (λ v. Fronts (IsValue v.0) ps v.1)
 unfolding less_one
 less_read w n plus ps rest named p e =
     by_test (is_mark 45 rest)
@@ -72,7 +73,7 @@ less_read w n plus ps rest named p e =
     (λ one. rw one tt)))
     (λ m. rw m (record { front = Word w ∷ (plus ++ []); split = e ∙ ap (λ (r : List Part). Word w ∷ (r ++ rest)) (sym (append-nil plus)); is = (plus, [], refl, named, p, refl) }))
 
-named_read : (w : List ℕ) (ps : List Part) → is_name w ≡ true → IfSome (named_at w ps) (λ v. Fronts (IsValue v.0) (Word w ∷ ps) v.1)
+named_read : (w : List ℕ) (ps : List Part) → is_name w ≡ true → IfSome (named_at Listing w ps) (λ v. Fronts (IsValue v.0) (Word w ∷ ps) v.1)
 unfolding named_at
 named_read w ps n =
     by_test (is_mark 43 ps)
@@ -82,14 +83,14 @@ named_read w ps n =
     (λ e. rw e tt)))
     (λ plus. rw plus (less_read w 0 [] (Word w ∷ ps) ps n (inl (refl, refl)) refl))
 
-pub value_read : (ps : List Part) → IfSome (next_value ps) (λ v. Fronts (IsValue v.0) ps v.1)
+pub value_read : (ps : List Part) → IfSome (next_value Listing ps) (λ v. Fronts (IsValue v.0) ps v.1)
 unfolding next_value
 value_read (Number t ∷ ps) = record { front = Number t ∷ []; split = refl; is = (t, refl, refl) }
 value_read (Word w ∷ ps) = by_test (is_name w) (λ n. rw n (named_read w ps n)) (λ n. rw n tt)
 value_read _ = tt
 
-pub datum_read : (ps : List Part) → IfSome (next_datum ps) (λ x. Fronts (IsDatum x.0) ps x.1)
-unfolding next_datum
+pub datum_read : (ps : List Part) → IfSome (next_datum Listing ps) (λ x. Fronts (IsDatum x.0) ps x.1)
+unfolding next_datum word_datum mark_datum
 datum_read (Number t ∷ ps) = record { front = Number t ∷ []; split = refl; is = (t, refl, refl) }
 datum_read (Text t ∷ ps) = record { front = Text t ∷ []; split = refl; is = refl }
 datum_read _ = tt
@@ -102,10 +103,10 @@ at P o x e h = rw e at h
 
 -- the items after a value that stands first
 second_read : (size : AddressSize) (v : Value) (ps : List Part) → is_mark 44 ps ≡ true
-    → IfSome (cond (is_absolute size) None (next_value (drop 1 ps) >>= λ w. whole (Two v w.0) w.1)) (λ f. (is : List Item) × (form_items f ≡ prefix_items size ++ value v ∷ is) × Spells is ps)
+    → IfSome (cond (is_absolute size) None (next_value Listing (drop 1 ps) >>= λ w. whole (Two v w.0) w.1)) (λ f. (is : List Item) × (form_items f ≡ prefix_items size ++ value v ∷ is) × Spells is ps)
 second_read Absolute v ps comma = tt
-second_read Automatic v ps comma = given _ (next_value (drop 1 ps)) _ (λ w e.
-    let f = at (λ w. Fronts (IsValue w.0) (drop 1 ps) w.1) (next_value (drop 1 ps)) w e (value_read (drop 1 ps)) in
+second_read Automatic v ps comma = given _ (next_value Listing (drop 1 ps)) _ (λ w e.
+    let f = at (λ w. Fronts (IsValue w.0) (drop 1 ps) w.1) (next_value Listing (drop 1 ps)) w e (value_read (drop 1 ps)) in
     ended _ _ w.1 (λ end. (mark 44 ∷ value w.0 ∷ [], refl, at_mark 44 _ ps comma (at_value w.0 [] (drop 1 ps) w.1 f (rw end at_end)))))
 
 tail_read : (size : AddressSize) (v : Value) (ps : List Part) → IfSome (tail_at size v ps) (λ f. (is : List Item) × (form_items f ≡ prefix_items size ++ value v ∷ is) × Spells is ps)
@@ -134,11 +135,11 @@ inner_read v ps =
 -- a value, and then what is read after it
 value_then : (ps : List Part) (k : Value → List Part → Option Form) (before : List Item)
     → ((v : Value) (rest : List Part) → IfSome (k v rest) (λ f. (is : List Item) × (form_items f ≡ before ++ value v ∷ is) × Spells is rest))
-    → IfSome (next_value ps >>= λ v. k v.0 v.1) (λ f. (is : List Item) × (form_items f ≡ before ++ is) × Spells is ps)
-value_then ps k before h = given _ (next_value ps) _ (λ v e.
+    → IfSome (next_value Listing ps >>= λ v. k v.0 v.1) (λ f. (is : List Item) × (form_items f ≡ before ++ is) × Spells is ps)
+value_then ps k before h = given _ (next_value Listing ps) _ (λ v e.
     by_option (k v.0 v.1)
     (λ f g. let q = at (λ f. (is : List Item) × (form_items f ≡ before ++ value v.0 ∷ is) × Spells is v.1) (k v.0 v.1) f g (h v.0 v.1) in
-    rw g (value v.0 ∷ q.0, q.1, at_value v.0 q.0 ps v.1 (at (λ w. Fronts (IsValue w.0) ps w.1) (next_value ps) v e (value_read ps)) q.2))
+    rw g (value v.0 ∷ q.0, q.1, at_value v.0 q.0 ps v.1 (at (λ w. Fronts (IsValue w.0) ps w.1) (next_value Listing ps) v e (value_read ps)) q.2))
     (λ g. rw g tt))
 
 -- such items after the items of what stands before them
@@ -153,8 +154,8 @@ hash_read : (v : Value) (ps : List Part) → IfSome (whole (Immediate v) ps) (λ
 hash_read v [] = ([], refl, at_end)
 hash_read v (p ∷ ps) = tt
 
-pub form_read : (ps : List Part) → IfSome (form_of ps) (λ f. Spells (form_items f) ps)
-unfolding form_of
+pub form_read : (ps : List Part) → IfSome (form_of Listing ps) (λ f. Spells (form_items f) ps)
+unfolding form_of immediate_of
 form_read ps =
     by_test (is_mark 35 ps)
     (λ hash. rw hash (joins _ (mark 35 ∷ []) (drop 1 ps) ps (λ is h. at_mark 35 is ps hash h) (value_then (drop 1 ps) (λ v rest. whole (Immediate v) rest) (mark 35 ∷ []) hash_read)))
@@ -223,11 +224,11 @@ then_read : {A : Type 0} (P : A → Type 0) (o : Option A) (make : A → Operati
 then_read P None make full h k = tt
 then_read P (Some x) make full h k = k x h
 
-data_read : (w : List ℕ) (ps : List Part) → same w (codes ".byte") ≡ true → IfSome (data_of ps) (λ o. Spells (operation_items o) (Word w ∷ ps))
-data_read w ps t = then_read (λ xs. IsList IsDatum xs ps) (list_of next_datum ps) Data (Word w ∷ ps) (joined_read IsDatum next_datum datum_read (suc (length ps)) ps) (λ xs h. word_front (codes ".byte") _ w ps t (last (data_list xs) ps h))
+data_read : (w : List ℕ) (ps : List Part) → same w (codes ".byte") ≡ true → IfSome (data_of (next_datum Listing) ps) (λ o. Spells (operation_items o) (Word w ∷ ps))
+data_read w ps t = then_read (λ xs. IsList IsDatum xs ps) (list_of (next_datum Listing) ps) Data (Word w ∷ ps) (joined_read IsDatum (next_datum Listing) datum_read (suc (length ps)) ps) (λ xs h. word_front (codes ".byte") _ w ps t (last (data_list xs) ps h))
 
-values_read : (d : Directive) (w : List ℕ) (ps : List Part) → same w (directive_text d) ≡ true → IfSome (values_of d ps) (λ o. Spells (operation_items o) (Word w ∷ ps))
-values_read d w ps t = then_read (λ vs. IsList IsValue vs ps) (list_of next_value ps) (Values d) (Word w ∷ ps) (joined_read IsValue next_value value_read (suc (length ps)) ps) (λ vs h. word_front (directive_text d) _ w ps t (last (value_list vs) ps h))
+values_read : (d : Directive) (w : List ℕ) (ps : List Part) → same w (directive_text d) ≡ true → IfSome (values_of Listing d ps) (λ o. Spells (operation_items o) (Word w ∷ ps))
+values_read d w ps t = then_read (λ vs. IsList IsValue vs ps) (list_of (next_value Listing) ps) (Values d) (Word w ∷ ps) (joined_read IsValue (next_value Listing) value_read (suc (length ps)) ps) (λ vs h. word_front (directive_text d) _ w ps t (last (value_list vs) ps h))
 
 segment_read : (w : List ℕ) (ps : List Part) → same w (codes ".segment") ≡ true → IfSome (segment_of ps) (λ o. Spells (operation_items o) (Word w ∷ ps))
 segment_read w ps t = given _ (text_in ps) _ (λ name e. tested _ (has_name_form name) _ (λ n.
@@ -236,19 +237,19 @@ segment_read w ps t = given _ (text_in ps) _ (λ name e. tested _ (has_name_form
 set_cpu_read : (w : List ℕ) (ps : List Part) → same w (codes ".setcpu") ≡ true → IfSome (set_cpu_of ps) (λ o. Spells (operation_items o) (Word w ∷ ps))
 set_cpu_read w ps t = then_read (λ name. ps ≡ Text name ∷ []) (text_in ps) SetCpu (Word w ∷ ps) (text_read ps) (λ name h. word_front (codes ".setcpu") _ w ps t (last (string name) ps h))
 
-instruction_read : (w : List ℕ) (ps : List Part) → IfSome (instruction_of w ps) (λ o. Spells (operation_items o) (Word w ∷ ps))
+instruction_read : (w : List ℕ) (ps : List Part) → IfSome (instruction_of Listing w ps) (λ o. Spells (operation_items o) (Word w ∷ ps))
 instruction_read w ps = given _ (mnemonic_named w) _ (λ m e.
-    then_read (λ f. Spells (form_items f) ps) (form_of ps) (Instr m) (Word w ∷ ps) (form_read ps) (λ f h. word_front (text_of m) (form_items f) w ps (mnemonic_is w m e) h))
+    then_read (λ f. Spells (form_items f) ps) (form_of Listing ps) (Instr m) (Word w ∷ ps) (form_read ps) (λ f h. word_front (text_of m) (form_items f) w ps (mnemonic_is w m e) h))
 
-other_read : (w : List ℕ) (ps : List Part) → IfSome (other_at w ps) (λ o. Spells (operation_items o) (Word w ∷ ps))
-unfolding other_at
+other_read : (w : List ℕ) (ps : List Part) → IfSome (other_at Listing w ps) (λ o. Spells (operation_items o) (Word w ∷ ps))
+unfolding other_at further_at
 other_read w ps = grind (arith, by_test, data_read, segment_read, by_list, word_front, at_end, set_cpu_read, instruction_read)
 
-operation_read : (w : List ℕ) (ps : List Part) → IfSome (operation_at w ps) (λ o. Spells (operation_items o) (Word w ∷ ps))
+operation_read : (w : List ℕ) (ps : List Part) → IfSome (operation_at Listing w ps) (λ o. Spells (operation_items o) (Word w ∷ ps))
 unfolding operation_at
 operation_read w ps = by_option (directive_named w) (λ d e. rw e (values_read d w ps (directive_is w d e))) (λ e. rw e (other_read w ps))
 
-operation_of_read : (ps : List Part) → IfSome (operation_of ps) (λ o. Spells (operation_items o) ps)
+operation_of_read : (ps : List Part) → IfSome (operation_of Listing ps) (λ o. Spells (operation_items o) ps)
 unfolding operation_of
 operation_of_read [] = at_end
 operation_of_read (Word w ∷ ps) = operation_read w ps
@@ -258,17 +259,17 @@ constant_read : (w : List ℕ) (ps : List Part) → is_name w ≡ true → is_de
 unfolding constant_of
 constant_read w ps n d = grind (arith, by_test, tested, given, ended, name_front, at_define, at_mark, at_number, at_end)
 
-line_read : (w : List ℕ) (ps : List Part) → IfSome (line_at w ps) (λ r. IsSpelling r (Word w ∷ ps))
+line_read : (w : List ℕ) (ps : List Part) → IfSome (line_at Listing w ps) (λ r. IsSpelling r (Word w ∷ ps))
 unfolding line_at
 line_read w ps =
     by_test (is_mark 58 ps)
-    (λ colon. rw colon (tested _ (is_name w) _ (λ n. given _ (operation_of (drop 1 ps)) _ (λ o e.
-    name_front _ w ps n (at_mark 58 _ ps colon (at (λ o. Spells (operation_items o) (drop 1 ps)) (operation_of (drop 1 ps)) o e (operation_of_read (drop 1 ps))))))))
+    (λ colon. rw colon (tested _ (is_name w) _ (λ n. given _ (operation_of Listing (drop 1 ps)) _ (λ o e.
+    name_front _ w ps n (at_mark 58 _ ps colon (at (λ o. Spells (operation_items o) (drop 1 ps)) (operation_of Listing (drop 1 ps)) o e (operation_of_read (drop 1 ps))))))))
     (λ colon. rw colon (by_test (is_define ps)
     (λ d. rw d (tested _ (is_name w) _ (λ n. constant_read w ps n d)))
-    (λ d. rw d (given _ (operation_at w ps) _ (λ o e. at (λ o. Spells (operation_items o) (Word w ∷ ps)) (operation_at w ps) o e (operation_read w ps))))))
+    (λ d. rw d (given _ (operation_at Listing w ps) _ (λ o e. at (λ o. Spells (operation_items o) (Word w ∷ ps)) (operation_at Listing w ps) o e (operation_read w ps))))))
 
-pub reading_read : (ps : List Part) → IfSome (reading_of ps) (λ r. IsSpelling r ps)
+pub reading_read : (ps : List Part) → IfSome (reading_of Listing ps) (λ r. IsSpelling r ps)
 unfolding reading_of
 reading_read [] = at_end
 reading_read (Word w ∷ ps) = line_read w ps

@@ -8,9 +8,10 @@ use Rattle.std.proofs.lemmas.List.{take-append-le, drop-append-le, length-drop}
 use Rattle.std.proofs.lemmas.Bool.Decides.{nat_tests}
 use Rattle.std.proofs.lemmas.List.Folds.{list_all-append, prefix_len-append}
 use Rattle.text65.specs.Names.{is_blank}
+use Rattle.stmt65.specs.declared.language.Language.TheVariants.{Listing}
 use Rattle.stmt65.specs.Lexing.{is_text_byte, part_at, parts, parts_after}
 use Rattle.stmt65.specs.Parts.{Part, Mark, begins_with}
-use Rattle.stmt65.specs.SourceLine.{Value, NumberValue, NameValue, Form, Direct, DirectX, DirectY, Datum, NumberDatum, StringDatum, Operation, Nothing, Instr, SourceLine, Assignment, PlaceAssignment, Statement}
+use Rattle.stmt65.specs.SourceLine.{Value, NumberValue, NameValue, DifferenceValue, Form, Direct, DirectX, DirectY, Datum, NumberDatum, StringDatum, ValueDatum, HalfDatum, Operation, Nothing, Instr, SourceLine, Assignment, PlaceAssignment, Statement}
 use Rattle.stmt65.specs.Spelling as item
 use Rattle.stmt65.specs.Spelling.{Item, IsPlus, IsMinus, IsValue, IsDatum, IsList, IsItem, Spells, IsSpelling, form_items, operation_items, line_items}
 use Rattle.stmt65.specs.declared.source_line.AddressSize.TheVariants.{Absolute}
@@ -44,28 +45,28 @@ begins_same b [] more h = absurd cc
 begins_same b (c ∷ bs) more h = h
 
 -- a string that is closed in front
-text_same : (bs more : List ℕ) → begins_with 34 (drop (prefix_len is_text_byte bs) bs) ≡ true → part_at 34 (bs ++ more) ≡ part_at 34 bs
+text_same : (bs more : List ℕ) → begins_with 34 (drop (prefix_len is_text_byte bs) bs) ≡ true → part_at Listing 34 (bs ++ more) ≡ part_at Listing 34 bs
 unfolding part_at
 text_same bs more h = grind (arith, begins_some, length-drop, begins_same, run_before, take-append-le, drop-append-le)
 
-unclosed : (bs : List ℕ) → begins_with 34 (drop (prefix_len is_text_byte bs) bs) ≡ false → is_closed (part_at 34 bs).0 ≡ false
+unclosed : (bs : List ℕ) → begins_with 34 (drop (prefix_len is_text_byte bs) bs) ≡ false → is_closed (part_at Listing 34 bs).0 ≡ false
 unfolding part_at
 unclosed bs t = rw t refl
 
-quote_same : (bs more : List ℕ) → is_closed (part_at 34 bs).0 ≡ true → part_at 34 (bs ++ more) ≡ part_at 34 bs
+quote_same : (bs more : List ℕ) → is_closed (part_at Listing 34 bs).0 ≡ true → part_at Listing 34 (bs ++ more) ≡ part_at Listing 34 bs
 quote_same bs more h = grind (arith, by_test, text_same, unclosed)
 
-other_same : (b : ℕ) (bs more : List ℕ) → eqb b 34 ≡ false → part_at b (bs ++ 32 ∷ more) ≡ part_at b bs
+other_same : (b : ℕ) (bs more : List ℕ) → eqb b 34 ≡ false → part_at Listing b (bs ++ 32 ∷ more) ≡ part_at Listing b bs
 unfolding part_at
 other_same b bs more q = grind (arith, by_test, run_same, take-append-le, prefix_len-le-length)
 
-part_same : (b : ℕ) (bs more : List ℕ) → is_closed (part_at b bs).0 ≡ true → part_at b (bs ++ 32 ∷ more) ≡ part_at b bs
+part_same : (b : ℕ) (bs more : List ℕ) → is_closed (part_at Listing b bs).0 ≡ true → part_at Listing b (bs ++ 32 ∷ more) ≡ part_at Listing b bs
 part_same b bs more h = grind (arith, by_test, eqb, eqb-true, quote_same, other_same)
 
 -- ---- a line and what follows it
 
 -- a blank and a remark have no parts
-pub parts_then : (skip : ℕ) (xs more : List ℕ) → skip ≤ length xs → list_all is_closed (parts_after skip xs) ≡ true → parts more ≡ [] → parts_after skip (xs ++ 32 ∷ more) ≡ parts_after skip xs
+pub parts_then : (skip : ℕ) (xs more : List ℕ) → skip ≤ length xs → list_all is_closed (parts_after Listing skip xs) ≡ true → parts Listing more ≡ [] → parts_after Listing skip (xs ++ 32 ∷ more) ≡ parts_after Listing skip xs
 unfolding parts_after
 parts_then zero [] more le h e = e
 parts_then (suc skip) [] more le h e = absurd (omega arith)
@@ -77,9 +78,9 @@ parts_then zero (x ∷ xs) more le h e =
     (λ s. rw (t, s) refl)
     (λ s.
     let h' = rw (t, s) at h in
-    let k = and_parts (is_closed (part_at x xs).0) (list_all is_closed (parts_after (part_at x xs).1 xs)) h' in
+    let k = and_parts (is_closed (part_at Listing x xs).0) (list_all is_closed (parts_after Listing (part_at Listing x xs).1 xs)) h' in
     let front = taken x xs t s in
-    rw (t, s, part_same x xs more k.0) (ap (λ (ps : List Part). (part_at x xs).0 ∷ ps) (parts_then (part_at x xs).1 xs more front.fits k.1 e))))
+    rw (t, s, part_same x xs more k.0) (ap (λ (ps : List Part). (part_at Listing x xs).0 ∷ ps) (parts_then (part_at Listing x xs).1 xs more front.fits k.1 e))))
 
 -- ---- what is spelled has no open string
 
@@ -100,10 +101,13 @@ minus_closed Zero ps h = rw h refl
 value_closed : (v : Value) (ps : List Part) → IsValue v ps → AreClosed ps
 value_closed (NumberValue n) ps h = rw h.2 refl
 value_closed (NameValue w n less) ps h = rw h.2 (both_closed h.0 h.1 (plus_closed n h.0 h.4) (minus_closed less h.1 h.5))
+value_closed (DifferenceValue w v) ps h = absurd h
 
 datum_closed : (d : Datum) (ps : List Part) → IsDatum d ps → AreClosed ps
 datum_closed (NumberDatum n) ps h = rw h.2 refl
 datum_closed (StringDatum t) ps h = rw h refl
+datum_closed (ValueDatum v) ps h = absurd h
+datum_closed (HalfDatum half v) ps h = absurd h
 
 list_closed : {A : Type 0} (Is : A → List Part → Type 0) → ((x : A) (ps : List Part) → Is x ps → AreClosed ps) → (xs : List A) (ps : List Part) → IsList Is xs ps → AreClosed ps
 list_closed Is each [] ps h = absurd h
@@ -125,6 +129,7 @@ item_closed (item.quoted_name t) ps k h = rw h.1 refl
 item_closed (item.value v) ps k h = value_closed v ps h
 item_closed (item.data_list xs) ps k h = list_closed IsDatum datum_closed xs ps h
 item_closed (item.value_list vs) ps k h = list_closed IsValue value_closed vs ps h
+item_closed item.unwritten ps k h = absurd h
 
 spells_closed : (is : List Item) (ps : List Part) → list_all is_closed_item is ≡ true → Spells is ps → AreClosed ps
 unfolding Spells

@@ -7,6 +7,7 @@ use Rattle.std.specs.Char.{is_ascii_digit, is_ascii_hexdigit}
 use Rattle.std.proofs.lemmas.Bool.{and_parts, ltb-true, eqb-true, not-true, or_parts}
 use Rattle.std.proofs.lemmas.List.{take_at, drop_at, length-append, length-drop, length-take, length-take-le, take-append-drop}
 use Rattle.text65.specs.Names.{is_blank, is_word_byte}
+use Rattle.stmt65.specs.declared.language.Language.TheVariants.{Listing}
 use Rattle.stmt65.specs.Parts.{Part, Word, Number, Text, Define, Mark, begins_with}
 use Rattle.stmt65.specs.Lexing.{is_word_start, is_text_byte, hex_len, part_at, parts}
 use Rattle.stmt65.specs.Spacing.{IsDecimal, IsHex, is_alone, IsText, IsRemark, IsSpacing}
@@ -43,7 +44,7 @@ begun : (b : ℕ) (bs : List ℕ) → begins_with b bs ≡ true → bs ≡ b ∷
 begun b [] h = absurd cc
 begun b (c ∷ cs) h = ap (λ (d : ℕ). d ∷ cs) (eqb-true c b h)
 
-pub taken : (b : ℕ) (bs : List ℕ) → is_blank b ≡ false → eqb b 59 ≡ false → Takes b bs (part_at b bs).0 (part_at b bs).1
+pub taken : (b : ℕ) (bs : List ℕ) → is_blank b ≡ false → eqb b 59 ≡ false → Takes b bs (part_at Listing b bs).0 (part_at Listing b bs).1
 unfolding part_at
 taken b bs h g =
     by_test (is_word_start b)
@@ -79,36 +80,36 @@ record IsBest (found : Part × ℕ) (q : Part) (n : ℕ) : Type 0 where
   bound : n ≤ found.1 + 1
   same : n ≡ found.1 + 1 → q ≡ found.0
 
-best_word : (b : ℕ) (w more : List ℕ) → is_word_start b ≡ true → list_all is_word_byte w ≡ true → IsBest (part_at b (w ++ more)) (Word (b ∷ w)) (suc (length w))
+best_word : (b : ℕ) (w more : List ℕ) → is_word_start b ≡ true → list_all is_word_byte w ≡ true → IsBest (part_at Listing b (w ++ more)) (Word (b ∷ w)) (suc (length w))
 unfolding part_at
 best_word b w more h g = rw h (record { bound = omega (arith, at_least is_word_byte w more g); same = λ e. let k : prefix_len is_word_byte (w ++ more) ≡ length w = omega arith in rw (k, take_at w more (length w) refl) refl })
 
-best_decimal : (b : ℕ) (ds more : List ℕ) → is_ascii_digit b ≡ true → list_all is_ascii_digit ds ≡ true → IsBest (part_at b (ds ++ more)) (Number (b ∷ ds)) (suc (length ds))
+best_decimal : (b : ℕ) (ds more : List ℕ) → is_ascii_digit b ≡ true → list_all is_ascii_digit ds ≡ true → IsBest (part_at Listing b (ds ++ more)) (Number (b ∷ ds)) (suc (length ds))
 unfolding part_at
 best_decimal b ds more h g = rw (digit_no_word b h, h) (record { bound = omega (arith, at_least is_ascii_digit ds more g); same = λ e. let k : prefix_len is_ascii_digit (ds ++ more) ≡ length ds = omega arith in rw (k, take_at ds more (length ds) refl) refl })
 
-best_hex : (ds more : List ℕ) → list_all is_ascii_hexdigit ds ≡ true → 0 < length ds → length ds ≤ 8 → IsBest (part_at 36 (ds ++ more)) (Number (36 ∷ ds)) (suc (length ds))
+best_hex : (ds more : List ℕ) → list_all is_ascii_hexdigit ds ≡ true → 0 < length ds → length ds ≤ 8 → IsBest (part_at Listing 36 (ds ++ more)) (Number (36 ∷ ds)) (suc (length ds))
 unfolding part_at
 best_hex ds more g pos le = grind (arith, at_least, take_at)
 
-best_text : (t more : List ℕ) → list_all is_text_byte t ≡ true → IsBest (part_at 34 (t ++ 34 ∷ more)) (Text t) (suc (length t + 1))
+best_text : (t more : List ℕ) → list_all is_text_byte t ≡ true → IsBest (part_at Listing 34 (t ++ 34 ∷ more)) (Text t) (suc (length t + 1))
 unfolding part_at
 best_text t more g = rw (prefix_stop is_text_byte t (34 ∷ more) g refl, drop_at t (34 ∷ more) (length t) refl, take_at t (34 ∷ more) (length t) refl) (record { bound = omega arith; same = λ e. refl })
 
-best_define : (more : List ℕ) → IsBest (part_at 58 (61 ∷ more)) Define 2
+best_define : (more : List ℕ) → IsBest (part_at Listing 58 (61 ∷ more)) Define 2
 unfolding part_at
 best_define more = record { bound = omega arith; same = λ e. refl }
 
 alone_begins : (b : ℕ) → is_alone b ≡ true → (is_word_start b ≡ false) × (is_ascii_digit b ≡ false)
 alone_begins b h = let n = or_parts (eqb b 59) _ (or_parts (is_blank b) _ (not-true (is_blank b || (eqb b 59 || (is_word_start b || is_ascii_digit b))) h)).1 in or_parts (is_word_start b) _ n.1
 
-best_mark : (b : ℕ) (bs : List ℕ) → is_alone b ≡ true → IsBest (part_at b bs) (Mark b) 1
+best_mark : (b : ℕ) (bs : List ℕ) → is_alone b ≡ true → IsBest (part_at Listing b bs) (Mark b) 1
 unfolding part_at
 best_mark b bs h = grind (arith, alone_begins, by_test, eqb)
 
 abbrev IsBestOf : List ℕ → Part → ℕ → Type 0
 IsBestOf [] q n = Unit {0}
-IsBestOf (b ∷ bs) q n = IsBest (part_at b bs) q n
+IsBestOf (b ∷ bs) q n = IsBest (part_at Listing b bs) q n
 
 best_number : (t more : List ℕ) → IsDecimal t ⊎ IsHex t → IsBestOf (t ++ more) (Number t) (length t)
 best_number [] more (inl d) = absurd (omega (arith, d.0))
@@ -124,30 +125,30 @@ best_of Define text more h = rw h (best_define more)
 best_of (Mark b) text more h = rw h.0 (best_mark b more h.1)
 
 -- a part in front of these bytes
-best : (b : ℕ) (bs : List ℕ) (q : Part) (text more : List ℕ) → b ∷ bs ≡ text ++ more → IsText q text → IsBest (part_at b bs) q (length text)
+best : (b : ℕ) (bs : List ℕ) (q : Part) (text more : List ℕ) → b ∷ bs ≡ text ++ more → IsText q text → IsBest (part_at Listing b bs) q (length text)
 best b bs q text more e h = subst (λ (l : List ℕ). IsBestOf l q (length text)) (sym e) (best_of q text more h)
 
 -- ---- the law
 
-parts_blanks : (blanks rest : List ℕ) → list_all is_blank blanks ≡ true → parts (blanks ++ rest) ≡ parts rest
+parts_blanks : (blanks rest : List ℕ) → list_all is_blank blanks ≡ true → parts Listing (blanks ++ rest) ≡ parts Listing rest
 parts_blanks [] rest h = refl
-parts_blanks (b ∷ bs) rest h = let e = and_parts (is_blank b) (list_all is_blank bs) h in parts_blank b (bs ++ rest) e.0 ∙ parts_blanks bs rest e.1
+parts_blanks (b ∷ bs) rest h = let e = and_parts (is_blank b) (list_all is_blank bs) h in parts_blank Listing b (bs ++ rest) e.0 ∙ parts_blanks bs rest e.1
 
 blank_in_front : (ps : List Part) (b : ℕ) (bs : List ℕ) → is_blank b ≡ true → IsSpacing ps bs → IsSpacing ps (b ∷ bs)
 blank_in_front [] b bs h s = (b ∷ s.0, s.1, ap (λ (r : List ℕ). b ∷ r) s.2, rw h s.3, s.4)
 blank_in_front (p ∷ ps) b bs h s = (b ∷ s.0, s.1, s.2, ap (λ (r : List ℕ). b ∷ r) s.3, rw h s.4, s.5, s.6, s.7)
 
-spaced : (n : ℕ) (line : List ℕ) → length line ≤ n → IsSpacing (parts line) line
-spaced n [] le = rw parts_nil ([], [], refl, refl, inl refl)
+spaced : (n : ℕ) (line : List ℕ) → length line ≤ n → IsSpacing (parts Listing line) line
+spaced n [] le = rw (parts_nil Listing) ([], [], refl, refl, inl refl)
 spaced zero (b ∷ bs) le = absurd (omega arith)
 spaced (suc n) (b ∷ bs) le =
     by_test (is_blank b)
-    (λ h. rw (parts_blank b bs h) (blank_in_front (parts bs) b bs h (spaced n bs (omega arith))))
+    (λ h. rw (parts_blank Listing b bs h) (blank_in_front (parts Listing bs) b bs h (spaced n bs (omega arith))))
     (λ h. by_test (eqb b 59)
-    (λ g. let e = eqb-true b 59 g in rw e (rw (parts_remark bs) ([], 59 ∷ bs, refl, refl, inr (bs, refl))))
-    (λ g. let t = taken b bs h g in let k = (part_at b bs).1 in
+    (λ g. let e = eqb-true b 59 g in rw e (rw (parts_remark Listing bs) ([], 59 ∷ bs, refl, refl, inr (bs, refl))))
+    (λ g. let t = taken b bs h g in let k = (part_at Listing b bs).1 in
     let split : b ∷ (take k bs ++ drop k bs) ≡ b ∷ bs = ap (λ (r : List ℕ). b ∷ r) (take-append-drop k bs) in
-    rw (parts_part b bs h g) (
+    rw (parts_part Listing b bs h g) (
       [],
       b ∷ take k bs,
       drop k bs,
@@ -171,25 +172,25 @@ text_begins (Text t) text h = (34, t ++ 34 ∷ [], h.0, refl, refl)
 text_begins Define text h = (58, 61 ∷ [], h, refl, refl)
 text_begins (Mark b) text h = grind (arith, or_parts, not-true, eqb)
 
-again : (ps : List Part) (line : List ℕ) → IsSpacing ps line → parts line ≡ ps
+again : (ps : List Part) (line : List ℕ) → IsSpacing ps line → parts Listing line ≡ ps
 again [] line s = rw s.2 (parts_blanks s.0 s.1 s.3 ∙ go s.4)
   where
-    go : {rest : List ℕ} → IsRemark rest → parts rest ≡ []
-    go (inl e) = rw e parts_nil
-    go (inr e) = rw e.1 (parts_remark e.0)
+    go : {rest : List ℕ} → IsRemark rest → parts Listing rest ≡ []
+    go (inl e) = rw e (parts_nil Listing)
+    go (inr e) = rw e.1 (parts_remark Listing e.0)
 again (p ∷ ps) line s =
     let t = text_begins p s.1 s.5 in
-    let k = (part_at t.0 (t.1 ++ s.2)).1 in
+    let k = (part_at Listing t.0 (t.1 ++ s.2)).1 in
     let whole : s.1 ++ s.2 ≡ t.0 ∷ (t.1 ++ s.2) = ap (λ (r : List ℕ). r ++ s.2) t.2 in
     let found = taken t.0 (t.1 ++ s.2) t.3 t.4 in
     let split : t.0 ∷ (t.1 ++ s.2) ≡ (t.0 ∷ take k (t.1 ++ s.2)) ++ drop k (t.1 ++ s.2) = ap (λ (r : List ℕ). t.0 ∷ r) (sym (take-append-drop k (t.1 ++ s.2))) in
-    let low = s.6 (part_at t.0 (t.1 ++ s.2)).0 (t.0 ∷ take k (t.1 ++ s.2)) (drop k (t.1 ++ s.2)) (whole ∙ split) found.text in
+    let low = s.6 (part_at Listing t.0 (t.1 ++ s.2)).0 (t.0 ∷ take k (t.1 ++ s.2)) (drop k (t.1 ++ s.2)) (whole ∙ split) found.text in
     let b = best t.0 (t.1 ++ s.2) p s.1 s.2 (sym whole) s.5 in
     let len : length s.1 ≡ k + 1 = omega (arith, b.bound, low, length-take-le k (t.1 ++ s.2) found.fits) in
     let more : length t.1 ≡ k = omega (arith, len, ap length t.2) in
-    rw s.3 (parts_blanks s.0 (s.1 ++ s.2) s.4 ∙ ap parts whole ∙ parts_part t.0 (t.1 ++ s.2) t.3 t.4
-    ∙ ap (λ (q : Part). q ∷ parts (drop k (t.1 ++ s.2))) (sym (b.same len))
-    ∙ ap (λ (r : List ℕ). p ∷ parts r) (drop_at t.1 s.2 k more)
+    rw s.3 (parts_blanks s.0 (s.1 ++ s.2) s.4 ∙ ap (parts Listing) whole ∙ parts_part Listing t.0 (t.1 ++ s.2) t.3 t.4
+    ∙ ap (λ (q : Part). q ∷ parts Listing (drop k (t.1 ++ s.2))) (sym (b.same len))
+    ∙ ap (λ (r : List ℕ). p ∷ parts Listing r) (drop_at t.1 s.2 k more)
     ∙ ap (λ (qs : List Part). p ∷ qs) (again ps s.2 s.7))
 
 pub takes_parts : TakesParts

@@ -3,17 +3,18 @@ use Rattle.std.proofs.Common.{◌≡◌, ℕ, zero, suc, true, false, eqb, List,
 use Rattle.std.specs.Prelude.{codes}
 use Rattle.std.proofs.lemmas.List.{append-nil, length-append}
 use Rattle.isa65.specs.Mnemonic.{text_of}
+use Rattle.stmt65.specs.declared.language.Language.TheVariants.{Listing}
 use Rattle.stmt65.specs.declared.source_line.AddressSize.{AddressSize}
 use Rattle.stmt65.specs.declared.source_line.AddressSize.TheVariants.{Absolute, Automatic}
 use Rattle.stmt65.specs.declared.source_line.Minus.{Minus}
 use Rattle.stmt65.specs.declared.source_line.Minus.TheVariants.{Zero, One}
-use Rattle.stmt65.specs.SourceLine.{Value, NumberValue, NameValue, Form, Empty, Accumulator, Immediate, Direct, DirectX, DirectY, Two, Indirect, IndirectX, IndirectY, Datum, NumberDatum, StringDatum, Operation, Nothing, Instr, Data, Values, Segment, Code, SetCpu, SourceLine, Assignment, PlaceAssignment, Statement}
+use Rattle.stmt65.specs.SourceLine.{Value, NumberValue, NameValue, DifferenceValue, Form, Empty, Accumulator, Immediate, ImmediateHalf, Direct, DirectX, DirectY, Two, Indirect, IndirectX, IndirectY, Datum, NumberDatum, StringDatum, ValueDatum, HalfDatum, Operation, Nothing, Instr, Data, Values, Reserve, Segment, Code, SetCpu, SourceLine, Assignment, PlaceAssignment, Statement}
 use Rattle.stmt65.specs.declared.directive.Directive.{Directive}
 use Rattle.stmt65.specs.Directives.{directive_text}
 use Rattle.stmt65.specs.Parts.{Part, Word, Number, Define, Mark, number_of}
 use Rattle.stmt65.specs.Names.{same, is_name}
-use Rattle.stmt65.specs.Reading.{is_mark, is_define, is_word_here, is_nil, less_one, named_at, next_value, tail_at, inner_at, form_of, joined, next_datum, text_in, data_of, values_of, segment_of, set_cpu_of, whole, other_at, operation_at, operation_of, constant_of, line_at, reading_of}
-use Rattle.stmt65.specs.Spelling.{Item, word, mark, define, name, number, string, quoted_name, value, data_list, value_list, IsPlus, IsMinus, IsValue, IsDatum, prefix_items, IsList, IsItem, Spells, form_items, operation_items, IsSpelling}
+use Rattle.stmt65.specs.Reading.{is_mark, is_define, is_word_here, is_nil, less_one, named_at, next_value, tail_at, inner_at, immediate_of, form_of, joined, word_datum, mark_datum, next_datum, text_in, data_of, values_of, segment_of, set_cpu_of, whole, further_at, other_at, operation_at, operation_of, constant_of, line_at, reading_of}
+use Rattle.stmt65.specs.Spelling.{Item, word, mark, define, name, number, string, quoted_name, value, data_list, value_list, unwritten, IsPlus, IsMinus, IsValue, IsDatum, prefix_items, IsList, IsItem, Spells, form_items, operation_items, IsSpelling}
 use Rattle.stmt65.proofs.Cases.{by_test, other, no_letter, no_dot, mnemonic_again, directive_again, no_directive, no_directives}
 
 -- ---- items in front
@@ -63,7 +64,7 @@ stops_nil = record { plus = refl; minus = refl }
 stops_mark : (b : ℕ) (ps : List Part) → eqb b 43 ≡ false → eqb b 45 ≡ false → Stops (Mark b ∷ ps)
 stops_mark b ps p m = record { plus = p; minus = m }
 
-less_again : (w : List ℕ) (n : ℕ) (less : Minus) (minus rest : List Part) → IsMinus less minus → Stops rest → less_one w n (minus ++ rest) ≡ Some (NameValue w n less, rest)
+less_again : (w : List ℕ) (n : ℕ) (less : Minus) (minus rest : List Part) → IsMinus less minus → Stops rest → less_one Listing w n (minus ++ rest) ≡ Some (NameValue w n less, rest)
 unfolding less_one
 less_again w n One minus rest h stop = rw h refl
 less_again w n Zero minus rest h stop = rw h (rw stop.minus refl)
@@ -72,15 +73,16 @@ no_plus : (less : Minus) (minus rest : List Part) → IsMinus less minus → Sto
 no_plus One minus rest h stop = rw h refl
 no_plus Zero minus rest h stop = rw h stop.plus
 
-named_again : (w : List ℕ) (n : ℕ) (less : Minus) (plus minus rest : List Part) → IsPlus n plus → IsMinus less minus → Stops rest → named_at w (plus ++ (minus ++ rest)) ≡ Some (NameValue w n less, rest)
+named_again : (w : List ℕ) (n : ℕ) (less : Minus) (plus minus rest : List Part) → IsPlus n plus → IsMinus less minus → Stops rest → named_at Listing w (plus ++ (minus ++ rest)) ≡ Some (NameValue w n less, rest)
 unfolding named_at
 named_again w n less plus minus rest (inl e) h stop = rw (e.0, e.1) (rw (no_plus less minus rest h stop) (less_again w 0 less minus rest h stop))
 named_again w n less plus minus rest (inr e) h stop = rw (e.2, ← e.1) (less_again w n less minus rest h stop)
 
-pub value_again : (v : Value) (front rest : List Part) → IsValue v front → Stops rest → next_value (front ++ rest) ≡ Some (v, rest)
+pub value_again : (v : Value) (front rest : List Part) → IsValue v front → Stops rest → next_value Listing (front ++ rest) ≡ Some (v, rest)
 unfolding next_value
 value_again (NumberValue n) front rest h stop = rw (h.2, ← h.1) refl
 value_again (NameValue w n less) front rest h stop = rw (h.2, append_assoc h.0 h.1 rest) (rw h.3 (named_again w n less h.0 h.1 rest h.4 h.5 stop))
+value_again (DifferenceValue w v) front rest h stop = absurd h
 
 -- what begins with a value begins with no mark and no letter
 record Begins (ps : List Part) : Type 0 where
@@ -93,9 +95,10 @@ record Begins (ps : List Part) : Type 0 where
 value_begins : (v : Value) (front rest : List Part) → IsValue v front → Begins (front ++ rest)
 value_begins (NumberValue n) front rest h = rw h.2 (record { mark = λ b. refl; a = refl; x = refl; y = refl; some = refl })
 value_begins (NameValue w n less) front rest h = let no = no_letter w h.3 in rw h.2 (record { mark = λ b. refl; a = no.0; x = no.1; y = no.2; some = refl })
+value_begins (DifferenceValue w v) front rest h = absurd h
 
 -- a value that stands first in an operand
-first_value : (v : Value) (front rest : List Part) → IsValue v front → Stops rest → form_of (front ++ rest) ≡ tail_at Automatic v rest
+first_value : (v : Value) (front rest : List Part) → IsValue v front → Stops rest → form_of Listing (front ++ rest) ≡ tail_at Automatic v rest
 unfolding form_of
 first_value v front rest h stop = grind (arith, value_begins, value_again)
 
@@ -105,7 +108,7 @@ first_value v front rest h stop = grind (arith, value_begins, value_again)
 direct : (size : AddressSize) (v : Value) (is : List Item) (ps : List Part) (f : Form)
     → Spells (prefix_items size ++ value v ∷ is) ps
     → ((rest : List Part) → Spells is rest → Stops rest × (tail_at size v rest ≡ Some f))
-    → form_of ps ≡ Some f
+    → form_of Listing ps ≡ Some f
 unfolding form_of
 direct Absolute v is ps f h k = grind (arith, un_word, un_mark, un_value, value_again)
 direct Automatic v is ps f h k = grind (arith, un_value, first_value)
@@ -114,15 +117,16 @@ direct Automatic v is ps f h k = grind (arith, un_value, first_value)
 bracketed : (v : Value) (is : List Item) (ps : List Part) (f : Form)
     → Spells (mark 40 ∷ value v ∷ is) ps
     → ((rest : List Part) → Spells is rest → Stops rest × (inner_at v rest ≡ Some f))
-    → form_of ps ≡ Some f
+    → form_of Listing ps ≡ Some f
 unfolding form_of
 bracketed v is ps f h k = grind (arith, un_mark, un_value, value_again)
 
-pub form_again : (f : Form) (ps : List Part) → Spells (form_items f) ps → form_of ps ≡ Some f
-unfolding form_of tail_at inner_at
+pub form_again : (f : Form) (ps : List Part) → Spells (form_items f) ps → form_of Listing ps ≡ Some f
+unfolding form_of immediate_of tail_at inner_at
 form_again Empty ps h = rw (nothing_left ps h) refl
 form_again Accumulator ps h = let a = un_word (codes "a") [] ps h in rw (a.2, nothing_left a.1 a.4, a.3) refl
 form_again (Immediate v) ps h = grind (arith, un_mark, un_value, nothing_left, value_again)
+form_again (ImmediateHalf half v) ps h = absurd (un_last unwritten ps h)
 form_again (Direct size v) ps h = direct size v [] ps _ h (λ rest g. rw (nothing_left rest g) (stops_nil, refl))
 form_again (DirectX size v) ps h =
     direct size v _ ps _ h (λ rest g. let c = un_mark 44 _ rest g in let x = un_word (codes "x") [] c.0 c.2 in
@@ -144,10 +148,12 @@ form_again (IndirectY v) ps h =
 
 -- ---- lists
 
-datum_again : (x : Datum) (front rest : List Part) → IsDatum x front → Stops rest → next_datum (front ++ rest) ≡ Some (x, rest)
+datum_again : (x : Datum) (front rest : List Part) → IsDatum x front → Stops rest → next_datum Listing (front ++ rest) ≡ Some (x, rest)
 unfolding next_datum
 datum_again (NumberDatum n) front rest h stop = rw (h.2, ← h.1) refl
 datum_again (StringDatum t) front rest h stop = rw h refl
+datum_again (ValueDatum v) front rest h stop = absurd h
+datum_again (HalfDatum half v) front rest h stop = absurd h
 
 joined_again : {A : Type 0} (Is : A → List Part → Type 0) (read : List Part → Option (A × List Part))
     → ((x : A) (front rest : List Part) → Is x front → Stops rest → read (front ++ rest) ≡ Some (x, rest))
@@ -162,8 +168,8 @@ joined_again Is read again (x ∷ y ∷ ys) (suc most) ps h le =
 
 -- ---- operations and lines
 
-operation_again : (o : Operation) (ps : List Part) → Spells (operation_items o) ps → operation_of ps ≡ Some o
-unfolding operation_of operation_at other_at text_in
+operation_again : (o : Operation) (ps : List Part) → Spells (operation_items o) ps → operation_of Listing ps ≡ Some o
+unfolding operation_of operation_at other_at further_at text_in
 operation_again Nothing ps h = rw (nothing_left ps h) refl
 operation_again (Instr m f) ps h =
     let w = un_word (text_of m) (form_items f) ps h in
@@ -172,10 +178,11 @@ operation_again (Instr m f) ps h =
     rw w.2 (rw (no_directive w.0 (text_of m) w.3 d.directive, not _ d.byte, not _ d.segment, not _ d.code, not _ d.set_cpu, mnemonic_again w.0 m w.3, form_again f w.1 w.4) refl)
 operation_again (Data xs) ps h =
     let w = un_word (codes ".byte") (data_list xs ∷ []) ps h in
-    rw (w.2, no_directive w.0 _ w.3 no_directives.0, w.3, joined_again IsDatum next_datum datum_again xs (length w.1) w.1 (un_last (data_list xs) w.1 w.4) (omega arith)) refl
+    rw (w.2, no_directive w.0 _ w.3 no_directives.0, w.3, joined_again IsDatum (next_datum Listing) datum_again xs (length w.1) w.1 (un_last (data_list xs) w.1 w.4) (omega arith)) refl
 operation_again (Values d vs) ps h =
     let w = un_word (directive_text d) (value_list vs ∷ []) ps h in
-    rw (w.2, directive_again w.0 d w.3, joined_again IsValue next_value value_again vs (length w.1) w.1 (un_last (value_list vs) w.1 w.4) (omega arith)) refl
+    rw (w.2, directive_again w.0 d w.3, joined_again IsValue (next_value Listing) value_again vs (length w.1) w.1 (un_last (value_list vs) w.1 w.4) (omega arith)) refl
+operation_again (Reserve n v) ps h = absurd (un_last unwritten ps h)
 operation_again (Segment t) ps h =
     let w = un_word (codes ".segment") (quoted_name t ∷ []) ps h in
     let q = un_last (quoted_name t) w.1 w.4 in
@@ -188,24 +195,24 @@ operation_again (SetCpu t) ps h =
     rw (w.2, no_directive w.0 _ w.3 no_directives.3, other w.0 (codes ".setcpu") (codes ".byte") w.3 refl, other w.0 (codes ".setcpu") (codes ".segment") w.3 refl, other w.0 (codes ".setcpu") (codes ".code") w.3 refl, w.3, un_last (string t) w.1 w.4) refl
 
 -- a word with which nothing can go on is no operation
-none_at : (w : List ℕ) (ps : List Part) → ((d : Directive) → values_of d ps ≡ None) → data_of ps ≡ None → segment_of ps ≡ None → whole Code ps ≡ None → set_cpu_of ps ≡ None → form_of ps ≡ None → operation_at w ps ≡ None
-unfolding operation_at other_at
+none_at : (w : List ℕ) (ps : List Part) → ((d : Directive) → values_of Listing d ps ≡ None) → data_of (next_datum Listing) ps ≡ None → segment_of ps ≡ None → whole Code ps ≡ None → set_cpu_of ps ≡ None → form_of Listing ps ≡ None → operation_at Listing w ps ≡ None
+unfolding operation_at other_at further_at
 none_at w ps values bytes segment code cpu form = grind arith
 
 -- neither `:` nor `:=` stands after the word of an operation
-no_label : (w : List ℕ) (ps : List Part) (o : Operation) → operation_at w ps ≡ Some o → (is_mark 58 ps ≡ false) × (is_define ps ≡ false)
-unfolding joined next_value next_datum text_in form_of
+no_label : (w : List ℕ) (ps : List Part) (o : Operation) → operation_at Listing w ps ≡ Some o → (is_mark 58 ps ≡ false) × (is_define ps ≡ false)
+unfolding joined next_value next_datum word_datum mark_datum text_in form_of immediate_of
 no_label w (Mark b ∷ ps) o e = grind (arith, by_test, eqb, none_at)
 no_label w (Define ∷ ps) o e = absurd (let e' = rw (none_at w (Define ∷ ps) (λ d. refl) refl refl refl refl refl) at e in cc)
 no_label w _ o e = (refl, refl)
 
-stated_again : (o : Operation) (ps : List Part) → operation_of ps ≡ Some o → reading_of ps ≡ Some (Statement None o)
+stated_again : (o : Operation) (ps : List Part) → operation_of Listing ps ≡ Some o → reading_of Listing ps ≡ Some (Statement None o)
 unfolding reading_of line_at operation_of
 stated_again o [] e = cc
 stated_again o (Word w ∷ ps) e = let p = no_label w ps o e in rw (p.0, p.1, e) refl
 stated_again o _ e = absurd cc
 
-pub line_again : (r : SourceLine) (ps : List Part) → IsSpelling r ps → reading_of ps ≡ Some r
+pub line_again : (r : SourceLine) (ps : List Part) → IsSpelling r ps → reading_of Listing ps ≡ Some r
 unfolding reading_of line_at constant_of
 line_again (Assignment w n) ps h = grind (arith, un_name, un_define, un_number)
 line_again (PlaceAssignment w n) ps h = grind (arith, un_name, un_define, un_mark, un_number)

@@ -2,7 +2,7 @@
 use Rattle.std.proofs.lemmas.Bool.{and_parts}
 use Rattle.std.proofs.Common.{◌≡◌, ℕ, suc, Bool, true, false, ◌+◌, ◌≤◌, List, [], ◌∷◌, ◌++◌, length, drop, refl, ap, ◌∙◌, arith}
 use Rattle.std.specs.List.{prefix_len, list_all}
-use Rattle.stmt65.specs.SourceLine.{Datum, NumberDatum, StringDatum}
+use Rattle.stmt65.specs.SourceLine.{Datum, NumberDatum, StringDatum, ValueDatum, HalfDatum}
 use Rattle.stmt65.specs.TableLaws.{EndsStretch}
 use Rattle.stmt65.specs.Tables.{is_plain, onto_stretch, cut_text}
 use Rattle.stmt65.proofs.Cases.{by_test}
@@ -46,6 +46,8 @@ cut_case P b bs single own joined = by_test (is_plain b) (λ p. rw (cut_onto b b
     go : is_plain b ≡ true → (ds : List Datum) → cut_text bs ≡ ds → P (onto_stretch b ds)
     go p [] e = rw e at (own p (rw e tt))
     go p (NumberDatum c ∷ ds) e = rw e at (own p (rw e tt))
+    go p (ValueDatum v ∷ ds) e = rw e at (own p (rw e tt))
+    go p (HalfDatum half v ∷ ds) e = rw e at (own p (rw e tt))
     go p (StringDatum t ∷ ds) e = joined t ds p e
 
 -- where a run ends, what follows does not pass

@@ -1,5 +1,5 @@
 -- The texts of tables are lists, joined by commas, of what the tables say.
-use Rattle.std.proofs.Common.{◌≡◌, ℕ, zero, suc, Bool, true, ltb, ◌+◌, ◌*◌, ◌/◌, ◌%◌, ◌<◌, ◌≤◌, List, [], ◌∷◌, ◌++◌, length, reverse, take, drop, refl, sym, ap, subst, ◌∙◌, arith, append_assoc}
+use Rattle.std.proofs.Common.{◌≡◌, ℕ, zero, suc, Bool, true, false, ltb, ◌+◌, ◌*◌, ◌/◌, ◌%◌, ◌<◌, ◌≤◌, List, [], ◌∷◌, ◌++◌, length, reverse, take, drop, refl, sym, ap, subst, ◌∙◌, arith, append_assoc}
 use Rattle.std.specs.Prelude.{map, ◌&&◌, ◌==◌, nat_lt}
 use Rattle.std.specs.Char.{is_ascii_hexdigit}
 use Rattle.std.specs.Str.Parse.{digits_value}
@@ -12,6 +12,7 @@ use Rattle.std.proofs.lemmas.Bool.{and_parts, ltb-true, eqb-true, eq-eqb}
 use Rattle.std.proofs.lemmas.Bool.Decides.{nat_tests}
 use Rattle.std.proofs.lemmas.List.{append-nil, reverse-append, length-reverse, length-take-le, length-drop, map-id, take-append-drop}
 use Rattle.text65.specs.Digits.{hex_digit}
+use Rattle.stmt65.specs.declared.language.Language.TheVariants.{Listing}
 use Rattle.stmt65.specs.declared.directive.Directive.{Directive}
 use Rattle.stmt65.specs.declared.directive.Directive.TheVariants.{Word}
 use Rattle.isa65.specs.declared.byte_order.ByteOrder.{ByteOrder}
@@ -35,24 +36,24 @@ use Rattle.stmt65.proofs.TableLists.{cut_nil, cut_case}
 
 -- the parts of a text that spell x, and what follows it
 abbrev pub TextParts : {A : Type 0} → (A → List Part → Type 0) → A → List ℕ → List ℕ → Type 0
-TextParts Is x text rest = Fronts (Is x) (parts (text ++ rest)) (parts rest)
+TextParts Is x text rest = Fronts (Is x) (parts Listing (text ++ rest)) (parts Listing rest)
 
 listed : {A B : Type 0} (f : A → B) (Is : B → List Part → Type 0) (text : A → List ℕ) (p : A → Bool)
     → ((x : A) → p x ≡ true → (rest : List ℕ) → Ends rest → TextParts Is (f x) (text x) rest)
-    → (x : A) (xs : List A) → list_all p (x ∷ xs) ≡ true → IsList Is (map f (x ∷ xs)) (parts (text x ++ flat_map (λ y. 44 ∷ text y) xs))
+    → (x : A) (xs : List A) → list_all p (x ∷ xs) ≡ true → IsList Is (map f (x ∷ xs)) (parts Listing (text x ++ flat_map (λ y. 44 ∷ text y) xs))
 listed f Is text p each x [] h = grind (arith, and_parts, parts_nil, append-nil)
 listed f Is text p each x (y ∷ ys) h =
     let more = and_parts (p x) (list_all p (y ∷ ys)) h in
     let rest = text y ++ flat_map (λ y. 44 ∷ text y) ys in
     let t = each x more.0 (44 ∷ rest) refl in
-    (t.front, parts rest, t.split ∙ ap (λ (ps : List Part). t.front ++ ps) (parts_mark 44 rest refl), t.is, listed f Is text p each y ys more.1)
+    (t.front, parts Listing rest, t.split ∙ ap (λ (ps : List Part). t.front ++ ps) (parts_mark 44 rest refl), t.is, listed f Is text p each y ys more.1)
 
 -- ---- bytes
 
 each_byte : (b : ℕ) → ltb b 256 ≡ true → (rest : List ℕ) → Ends rest → TextParts IsDatum (NumberDatum b) (hex2 b) rest
 each_byte b h rest e = record { front = Number (hex2 b) ∷ []; split = parts_hex2 b rest e; is = (hex2 b, number_of-hex2 b (ltb-true b 256 h), refl) }
 
-pub bytes_listed : (bs : List ℕ) → 1 ≤ length bs → AreBytes bs → IsList IsDatum (map NumberDatum bs) (parts (bytes_text bs))
+pub bytes_listed : (bs : List ℕ) → 1 ≤ length bs → AreBytes bs → IsList IsDatum (map NumberDatum bs) (parts Listing (bytes_text bs))
 unfolding comma_list
 bytes_listed [] lt h = absurd (omega arith)
 bytes_listed (b ∷ bs) lt h = listed NumberDatum IsDatum hex2 (λ b. ltb b 256) each_byte b bs h
@@ -143,7 +144,7 @@ entries_are d bs h = pieces_are d (length bs / entry_len d) bs h (whole d)
     whole Word = omega arith
     whole _ = omega arith
 
-pub numbers_listed : (d : Directive) (bs : List ℕ) → entry_len d ≤ length bs → AreBytes bs → IsList IsValue (map (entry_value d) (entries d bs)) (parts (numbers_text d bs))
+pub numbers_listed : (d : Directive) (bs : List ℕ) → entry_len d ≤ length bs → AreBytes bs → IsList IsValue (map (entry_value d) (entries d bs)) (parts Listing (numbers_text d bs))
 unfolding comma_list
 numbers_listed d bs le h =
     let are = rw (entries_more d bs le) at (entries_are d bs h) in
@@ -155,6 +156,7 @@ numbers_listed d bs le h =
 abbrev pub is_sound : Datum → Bool
 is_sound (NumberDatum b) = ltb b 256
 is_sound (StringDatum t) = list_all is_text_byte t
+is_sound _ = false
 
 plain_text : (b : ℕ) → is_plain b ≡ true → is_text_byte b ≡ true
 plain_text b h = grind (arith, nat_tests)
@@ -169,13 +171,14 @@ cut_sound (b ∷ bs) h =
 each_datum : (d : Datum) → is_sound d ≡ true → (rest : List ℕ) → Ends rest → TextParts IsDatum d (datum_text d) rest
 each_datum (NumberDatum b) h rest e = each_byte b h rest e
 each_datum (StringDatum t) h rest e = grind (arith, append_assoc, parts_text)
+each_datum _ h rest e = absurd cc
 
-data_listed : (d : Datum) (ds : List Datum) → list_all is_sound (d ∷ ds) ≡ true → IsList IsDatum (d ∷ ds) (parts (data_text (d ∷ ds)))
+data_listed : (d : Datum) (ds : List Datum) → list_all is_sound (d ∷ ds) ≡ true → IsList IsDatum (d ∷ ds) (parts Listing (data_text (d ∷ ds)))
 unfolding comma_list
-data_listed d ds h = subst (λ (l : List Datum). IsList IsDatum l (parts (data_text (d ∷ ds)))) (map-id (d ∷ ds)) (listed (λ d. d) IsDatum datum_text is_sound each_datum d ds h)
+data_listed d ds h = subst (λ (l : List Datum). IsList IsDatum l (parts Listing (data_text (d ∷ ds)))) (map-id (d ∷ ds)) (listed (λ d. d) IsDatum datum_text is_sound each_datum d ds h)
 
-pub text_listed : (bs : List ℕ) → 1 ≤ length bs → AreBytes bs → IsList IsDatum (cut_text bs) (parts (data_text (cut_text bs)))
+pub text_listed : (bs : List ℕ) → 1 ≤ length bs → AreBytes bs → IsList IsDatum (cut_text bs) (parts Listing (data_text (cut_text bs)))
 text_listed [] lt h = absurd (omega arith)
 text_listed (b ∷ bs) lt h =
-    cut_case (λ ds. list_all is_sound ds ≡ true → IsList IsDatum ds (parts (data_text ds))) b bs
+    cut_case (λ ds. list_all is_sound ds ≡ true → IsList IsDatum ds (parts Listing (data_text ds))) b bs
     (λ p. data_listed (NumberDatum b) (cut_text bs)) (λ p ends. data_listed (StringDatum (b ∷ [])) (cut_text bs)) (λ t ds p e. data_listed (StringDatum (b ∷ t)) ds) (cut_sound (b ∷ bs) h)

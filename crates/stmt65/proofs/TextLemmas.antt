@@ -1,6 +1,7 @@
 -- The meaning of a text, line by line.
 use Rattle.std.proofs.Common.{◌≡◌, ℕ, ◌+◌, List, [], ◌∷◌, ◌++◌, length, Option, Some, None, refl, sym, ap, ◌∙◌, arith, length-append}
 use Rattle.std.specs.Prelude.{Result, Ok, Err}
+use Rattle.std.proofs.lemmas.List.{length-replicate}
 use Rattle.std.specs.List.{All, flat_map}
 use Rattle.std.proofs.lemmas.List.Elements.{All-cons, All-head, All-tail}
 use Rattle.stmt65.specs.declared.assembling.fault.AsmFault.{AsmFault}
@@ -8,8 +9,9 @@ use Rattle.stmt65.specs.declared.assembling.fault.AsmFaultKind.{AsmFaultKind}
 use Rattle.stmt65.specs.SourceLine.{SourceLine}
 use Rattle.stmt65.proofs.EntryLaws.{entry_bytes-length}
 use Rattle.stmt65.specs.Symbols.{Definition}
-use Rattle.stmt65.specs.Coding.{Fragment, Entry, entry_or_zero, fragment_len, fragment_bytes, coding_len}
-use Rattle.stmt65.specs.Meaning.{State, initial, after, fault_of, fragments_of, next_of, bytes_of, coded, meaning_of, unless, with_front}
+use Rattle.stmt65.specs.Coding.{Fragment, Entry, Fill, low, entry_or_zero, fragment_len, fragment_bytes, coding_len}
+use Rattle.stmt65.specs.Coding.{State}
+use Rattle.stmt65.specs.Meaning.{initial, after, fault_of, fragments_of, next_of, bytes_of, coded, meaning_of, unless, with_front}
 use Rattle.stmt65.specs.TextLaws.{Line, lines_below, IsFaultless, IsFirstFault, line_bytes, MeansBytes, MeansFault, StandsAtItsBytes}
 
 -- ---- lengths
@@ -17,6 +19,7 @@ use Rattle.stmt65.specs.TextLaws.{Line, lines_below, IsFaultless, IsFirstFault, 
 fragment_len-bytes : (all : List Definition) (next : ℕ) (f : Fragment) → length (fragment_bytes all next f) ≡ fragment_len f
 unfolding fragment_bytes
 fragment_len-bytes all next (Entry d v) = entry_bytes-length d (entry_or_zero all d v)
+fragment_len-bytes all next (Fill n b) = length-replicate n (low b)
 fragment_len-bytes all next _ = refl
 
 coding_len-bytes : (all : List Definition) (next : ℕ) (fs : List Fragment) → length (flat_map (fragment_bytes all next) fs) ≡ coding_len fs
@@ -47,7 +50,7 @@ stands all s (l ∷ ls) (x ∷ above) below line e =
     omega arith
 
 pub stands_at_its_bytes : StandsAtItsBytes
-stands_at_its_bytes all start ls above below line e = stands all (initial start) ls above below line e
+stands_at_its_bytes all layout start ls above below line e = stands all (initial layout start) ls above below line e
 
 -- ---- a list of lines
 
@@ -96,7 +99,7 @@ bytes-coded all n s (l ∷ ls) h =
 
 pub means_bytes : MeansBytes
 unfolding meaning_of
-means_bytes start ls bytes = grind (arith, means_from, bytes-coded)
+means_bytes layout start ls bytes = grind (arith, means_from, bytes-coded)
 
 -- ---- the first fault
 
@@ -117,4 +120,4 @@ fault-coded all n s (l ∷ ls) m kind (x ∷ above) below line e number fault no
 
 pub means_fault : MeansFault
 unfolding meaning_of
-means_fault start ls n kind = grind (arith, means_from, fault-coded)
+means_fault layout start ls n kind = grind (arith, means_from, fault-coded)

@@ -1,5 +1,5 @@
 -- How a statement is coded, as a list of fragments: what each byte of it stands for.
-use Rattle.std.specs.Prelude.{ℕ, ◌+◌, ◌-◌, ◌/◌, ◌%◌, Bool, true, false, ◌&&◌, List, [], ◌∷◌, ◌++◌, length, map, nat_le, if◌then◌else◌, Option, Some, None, is_some, unwrap_or}
+use Rattle.std.specs.Prelude.{ℕ, ◌+◌, ◌-◌, ◌/◌, ◌%◌, Bool, true, false, ◌&&◌, List, [], ◌∷◌, ◌++◌, length, map, replicate, nat_le, nat_lt, if◌then◌else◌, Option, Some, None, is_some, unwrap_or}
 use Rattle.std.specs.List.{flat_map}
 use Rattle.isa65.specs.declared.cpu.Cpu.{Cpu}
 use Rattle.isa65.specs.declared.mnemonic.Mnemonic.{Mnemonic}
@@ -7,7 +7,10 @@ use Rattle.isa65.specs.declared.mode.Mode.{Mode}
 use Rattle.isa65.specs.declared.mode.Mode.TheVariants.{Imp, Acc, Imm, Zp, Zpx, Zpy, Abs, Absx, Absy, Ind, Indx, Indy, Zpind, Absindx, Rel, Zprel}
 use Rattle.isa65.specs.Cpu.{table_of}
 use Rattle.isa65.specs.Opcodes.{encoded}
-use Rattle.stmt65.specs.SourceLine.{Value, NumberValue, Form, Empty, Accumulator, Immediate, Direct, DirectX, DirectY, Two, Indirect, IndirectX, IndirectY, Datum, NumberDatum, StringDatum, Operation, Nothing, Instr, Data, Values, Segment, Code, SetCpu}
+use Rattle.stmt65.specs.SourceLine.{Value, NumberValue, Form, Empty, Accumulator, Immediate, ImmediateHalf, Direct, DirectX, DirectY, Two, Indirect, IndirectX, IndirectY, Datum, NumberDatum, StringDatum, ValueDatum, HalfDatum, Operation, Nothing, Instr, Data, Values, Reserve, Segment, Code, SetCpu}
+use Rattle.stmt65.specs.declared.source_line.Half.{Half}
+use Rattle.stmt65.specs.declared.source_line.Half.TheVariants.{Low, High}
+use Rattle.stmt65.specs.Layout.{Layout, start_of}
 use Rattle.stmt65.specs.declared.source_line.AddressSize.TheVariants.{Absolute, Automatic}
 use Rattle.stmt65.specs.declared.directive.Directive.{Directive}
 use Rattle.stmt65.specs.declared.directive.Directive.TheVariants.{Word, Dbyt, Addr, Dword}
@@ -48,6 +51,10 @@ pub data Fragment : Type 0 where
   Entry : Directive → Value → Fragment
   -- a word, as its signed distance from the address after the statement
   Distance : Value → Fragment
+  -- the low or the high byte of a word
+  HalfOf : Half → Value → Fragment
+  -- so many bytes of one value
+  Fill : ℕ → ℕ → Fragment
 
 abbrev pub fragment_len : Fragment → ℕ
 fragment_len (Fixed b) = 1
@@ -56,6 +63,8 @@ fragment_len (ZeroPage v) = 1
 fragment_len (Oversized v) = 1
 fragment_len (Entry d v) = length (entry_bytes d 0)
 fragment_len (Distance v) = 1
+fragment_len (HalfOf half v) = 1
+fragment_len (Fill n b) = n
 
 -- whether each name in it has a definition
 abbrev pub is_fragment_known : List Definition → Fragment → Bool
@@ -65,6 +74,8 @@ is_fragment_known all (ZeroPage v) = is_known all v
 is_fragment_known all (Oversized v) = is_known all v
 is_fragment_known all (Entry d v) = is_known all v
 is_fragment_known all (Distance v) = is_known all v
+is_fragment_known all (HalfOf half v) = is_known all v
+is_fragment_known all (Fill n b) = true
 
 -- from 128 below the address `next` to 127 above it
 abbrev pub is_near : ℕ → Option ℕ → Bool
@@ -83,6 +94,8 @@ fragment_fits all next (ZeroPage v) = is_some (byte_in all v)
 fragment_fits all next (Oversized v) = false
 fragment_fits all next (Entry d v) = is_some (entry_in all d v)
 fragment_fits all next (Distance v) = is_near next (word_in all v)
+fragment_fits all next (HalfOf half v) = is_some (word_in all v)
+fragment_fits all next (Fill n b) = nat_lt n 65536 && nat_lt b 256
 
 -- the value of a fragment that has room for it
 abbrev pub word_or_zero : List Definition → Value → ℕ
@@ -95,6 +108,11 @@ entry_or_zero all d v = unwrap_or (entry_in all d v) 0
 abbrev pub distance : ℕ → ℕ → ℕ
 distance next n = low (n + 256 - next)
 
+-- the low or the high byte of a word
+abbrev pub half_of : Half → ℕ → ℕ
+half_of Low n = low n
+half_of High n = n / 0x100
+
 -- the bytes of a fragment that has room for its value
 unfoldable pub fragment_bytes : List Definition → ℕ → Fragment → List ℕ
 fragment_bytes all next (Fixed b) = b ∷ []
@@ -103,6 +121,8 @@ fragment_bytes all next (ZeroPage v) = low (word_or_zero all v) ∷ []
 fragment_bytes all next (Oversized v) = low (word_or_zero all v) ∷ []
 fragment_bytes all next (Entry d v) = entry_bytes d (entry_or_zero all d v)
 fragment_bytes all next (Distance v) = distance next (word_or_zero all v) ∷ []
+fragment_bytes all next (HalfOf half v) = half_of half (word_or_zero all v) ∷ []
+fragment_bytes all next (Fill n b) = replicate n (low b)
 
 -- ---- instructions
 
@@ -133,6 +153,7 @@ unfoldable pub ways : List Definition → Form → List Way
 ways above Empty = (Imp, []) ∷ []
 ways above Accumulator = (Acc, []) ∷ []
 ways above (Immediate v) = (Imm, Single v ∷ []) ∷ []
+ways above (ImmediateHalf half v) = (Imm, HalfOf half v ∷ []) ∷ []
 ways above (Direct Absolute v) = (Abs, word_operand v ∷ []) ∷ []
 ways above (Direct Automatic v) = by_size above Zp Abs v ++ (Rel, Distance v ∷ []) ∷ []
 ways above (DirectX Absolute v) = (Absx, word_operand v ∷ []) ∷ []
@@ -159,18 +180,33 @@ first_way cpu m (w ∷ ws) = coded_so (encoded (table_of cpu) m w.0) w.1 (first_
 abbrev pub datum_fragments : Datum → List Fragment
 datum_fragments (NumberDatum n) = Single (NumberValue n) ∷ []
 datum_fragments (StringDatum bs) = map Fixed bs
+datum_fragments (ValueDatum v) = Single v ∷ []
+datum_fragments (HalfDatum half v) = HalfOf half v ∷ []
 
 -- ---- operations
 
+-- what stands above a line: its address, the CPU, the definitions in their order, and where segments begin
+pub record State : Type 0 where
+  pub at : ℕ
+  pub cpu : Cpu
+  pub above : List Definition
+  pub layout : Layout
+
+-- what is missing before a segment's start
+abbrev pub gap : Layout → ℕ → Option ℕ → List Fragment
+gap layout at None = []
+gap layout at (Some start) = Fill (start - at) layout.fill ∷ []
+
 -- the coding of an operation, or none if a mnemonic has no mode of the written form
-unfoldable pub coding : Cpu → List Definition → Operation → Option (List Fragment)
-coding cpu above Nothing = Some []
-coding cpu above (Instr m form) = first_way cpu m (ways above form)
-coding cpu above (Data ds) = Some (flat_map datum_fragments ds)
-coding cpu above (Values d vs) = Some (map (Entry d) vs)
-coding cpu above (Segment name) = Some []
-coding cpu above Code = Some []
-coding cpu above (SetCpu text) = Some []
+unfoldable pub coding : State → Operation → Option (List Fragment)
+coding s Nothing = Some []
+coding s (Instr m form) = first_way s.cpu m (ways s.above form)
+coding s (Data ds) = Some (flat_map datum_fragments ds)
+coding s (Values d vs) = Some (map (Entry d) vs)
+coding s (Reserve n b) = Some (Fill n b ∷ [])
+coding s (Segment name) = Some (gap s.layout s.at (start_of s.layout name))
+coding s Code = Some []
+coding s (SetCpu text) = Some []
 
 -- how many bytes a coding has
 unfoldable pub coding_len : List Fragment → ℕ

@@ -2,13 +2,14 @@
 use Rattle.std.specs.Prelude.{ℕ, List, [], ◌∷◌, codes}
 use Rattle.stmt65.specs.declared.source_line.AddressSize.{AddressSize}
 use Rattle.stmt65.specs.declared.source_line.AddressSize.TheVariants.{Automatic}
-use Rattle.stmt65.specs.SourceLine.{Value, Form, Empty, Accumulator, Immediate, Direct, DirectX, DirectY, Two, Indirect, IndirectX, IndirectY}
+use Rattle.stmt65.specs.SourceLine.{Value, Form, Empty, Accumulator, Immediate, ImmediateHalf, Direct, DirectX, DirectY, Two, Indirect, IndirectX, IndirectY}
 
--- the pattern of a form, without `a:`
+-- the pattern of a form, without `a:` and without the `<` or `>` of a half
 abbrev pub form_text : Form → List ℕ
 form_text Empty = codes ""
 form_text Accumulator = codes "a"
 form_text (Immediate v) = codes "#E"
+form_text (ImmediateHalf half v) = codes "#E"
 form_text (Direct size v) = codes "E"
 form_text (DirectX size v) = codes "E,x"
 form_text (DirectY size v) = codes "E,y"
@@ -22,6 +23,7 @@ abbrev pub form_values : Form → List Value
 form_values Empty = []
 form_values Accumulator = []
 form_values (Immediate v) = v ∷ []
+form_values (ImmediateHalf half v) = v ∷ []
 form_values (Direct size v) = v ∷ []
 form_values (DirectX size v) = v ∷ []
 form_values (DirectY size v) = v ∷ []

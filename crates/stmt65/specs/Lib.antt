@@ -21,6 +21,7 @@ pub mod Spelling
 pub mod ReadingLaws
 pub mod Printed
 pub mod Symbols
+pub mod Layout
 pub mod Coding
 pub mod TableLaws
 pub mod Meaning
@@ -30,4 +31,5 @@ pub mod TextLaws
 pub mod LineAddresses
 pub mod ModeLaws
 pub mod FaultLaws
+pub mod Sources
 pub mod Code

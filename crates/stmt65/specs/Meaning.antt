@@ -1,24 +1,22 @@
--- What a text means from a start: its bytes, or the lowest fault of the lowest line that has one.
+-- What a text means from a start: its bytes, or the lowest fault of the lowest line that has one. In which language it is read and where
+-- its segments begin is given; that of a listing is `meaning`.
 use Rattle.std.specs.Prelude.{ℕ, ◌+◌, Bool, true, false, ◌||◌, not, List, [], ◌∷◌, ◌++◌, map, nat_lt, if◌then◌else◌, Option, Some, None, is_some, unwrap_or, Result, Ok, Err}
 use Rattle.std.specs.List.{list_any, list_all, flat_map}
 use Rattle.isa65.specs.declared.cpu.Cpu.{Cpu}
 use Rattle.isa65.specs.declared.cpu.Cpu.TheVariants.{M6502}
 use Rattle.stmt65.specs.declared.assembling.fault.AsmFault.{AsmFault}
 use Rattle.stmt65.specs.declared.assembling.fault.AsmFaultKind.{AsmFaultKind}
-use Rattle.stmt65.specs.declared.assembling.fault.AsmFaultKind.TheVariants.{Syntax, UnknownCpu, NoSuchForm, Undefined, DefinedTwice, OutOfRange, PastEnd}
-use Rattle.stmt65.specs.SourceLine.{Operation, Nothing, SetCpu, SourceLine, Assignment, PlaceAssignment, Statement}
+use Rattle.stmt65.specs.declared.assembling.fault.AsmFaultKind.TheVariants.{Syntax, UnknownCpu, NoSuchForm, Undefined, DefinedTwice, OutOfRange, PastStart, PastEnd}
+use Rattle.stmt65.specs.SourceLine.{Operation, Nothing, Segment, SetCpu, SourceLine, Assignment, PlaceAssignment, Statement}
 use Rattle.text65.specs.Lines.{text_lines}
 use Rattle.stmt65.specs.Lexing.{parts}
 use Rattle.stmt65.specs.Reading.{reading_of}
 use Rattle.stmt65.specs.Symbols.{Definition, find_name}
 use Rattle.isa65.specs.Cpu.{cpu_named}
-use Rattle.stmt65.specs.Coding.{Fragment, fragment_fits, fragment_bytes, is_fragment_known, coding, coding_len}
-
--- what stands above a line: its address, the CPU, and the definitions in their order
-pub record State : Type 0 where
-  pub at : ℕ
-  pub cpu : Cpu
-  pub above : List Definition
+use Rattle.stmt65.specs.Layout.{Layout, free, start_of, is_before}
+use Rattle.stmt65.specs.declared.language.Language.{Language}
+use Rattle.stmt65.specs.declared.language.Language.TheVariants.{Listing}
+use Rattle.stmt65.specs.Coding.{State, Fragment, fragment_fits, fragment_bytes, is_fragment_known, coding, coding_len}
 
 -- ---- a line in its state
 
@@ -29,7 +27,7 @@ operation_in (Statement label operation) = operation
 
 -- what each byte of the line stands for; a form that the CPU has not gives none
 unfoldable pub fragments_of : State → SourceLine → List Fragment
-fragments_of s source = unwrap_or (coding s.cpu s.above (operation_in source)) []
+fragments_of s source = unwrap_or (coding s (operation_in source)) []
 
 -- the address after the line
 unfoldable pub next_of : State → SourceLine → ℕ
@@ -55,7 +53,7 @@ has_unknown_cpu _ = false
 
 -- a mnemonic without this form on the CPU
 unfoldable pub has_no_form : State → SourceLine → Bool
-has_no_form s source = not (is_some (coding s.cpu s.above (operation_in source)))
+has_no_form s source = not (is_some (coding s (operation_in source)))
 
 -- a name that no line of the text defines
 unfoldable pub is_undefined : List Definition → State → SourceLine → Bool
@@ -69,6 +67,11 @@ is_twice s source = list_any (λ d. is_some (find_name d.name s.above)) (defined
 unfoldable pub is_out_of_range : List Definition → State → SourceLine → Bool
 is_out_of_range all s source =
     list_any (λ d. nat_lt 65535 d.value) (defined_by s.at source) || not (list_all (fragment_fits all (next_of s source)) (fragments_of s source))
+
+-- a segment that is entered past its start
+unfoldable pub is_past_start : State → Operation → Bool
+is_past_start s (Segment name) = is_before (start_of s.layout name) s.at
+is_past_start s _ = false
 
 -- a byte past $FFFF
 unfoldable pub is_past_end : State → SourceLine → Bool
@@ -91,6 +94,7 @@ tests_of all s source =
     (Undefined, is_undefined all s source) ∷
     (DefinedTwice, is_twice s source) ∷
     (OutOfRange, is_out_of_range all s source) ∷
+    (PastStart, is_past_start s (operation_in source)) ∷
     (PastEnd, is_past_end s source) ∷ []
 
 -- the lowest fault of a line
@@ -115,7 +119,7 @@ cpu_after cpu _ = cpu
 -- a line that is none defines nothing and has no length
 unfoldable pub after : State → Option SourceLine → State
 after s None = s
-after s (Some source) = record { at = next_of s source; cpu = cpu_after s.cpu (operation_in source); above = s.above ++ defined_by s.at source }
+after s (Some source) = record { at = next_of s source; cpu = cpu_after s.cpu (operation_in source); above = s.above ++ defined_by s.at source; layout = s.layout }
 
 -- below all lines
 unfoldable pub final : State → List (Option SourceLine) → State
@@ -139,17 +143,21 @@ coded all n s (l ∷ ls) = unless n (fault_of all s l) (with_front (bytes_of all
 -- ---- a text
 
 -- before the first line; the CPU is the 6502
-abbrev pub initial : ℕ → State
-initial start = record { at = start; cpu = M6502; above = [] }
+abbrev pub initial : Layout → ℕ → State
+initial layout start = record { at = start; cpu = M6502; above = []; layout = layout }
 
 -- what lines mean that are read already
-unfoldable pub meaning_of : ℕ → List (Option SourceLine) → Result (List ℕ) AsmFault
-meaning_of start ls = coded (final (initial start) ls).above 1 (initial start) ls
+unfoldable pub meaning_of : Layout → ℕ → List (Option SourceLine) → Result (List ℕ) AsmFault
+meaning_of layout start ls = coded (final (initial layout start) ls).above 1 (initial layout start) ls
 
 -- what the lines of a text say
-abbrev pub readings : List ℕ → List (Option SourceLine)
-readings text = map (λ l. reading_of (parts l)) (text_lines text)
+abbrev pub readings : Language → List ℕ → List (Option SourceLine)
+readings language text = map (λ l. reading_of language (parts language l)) (text_lines text)
 
--- the meaning of a text from a start
-unfoldable pub meaning : ℕ → List ℕ → Result (List ℕ) AsmFault
-meaning start text = meaning_of start (readings text)
+-- the meaning of a text in a language, with segments that begin where the layout says, from a start
+unfoldable pub meaning_in : Language → Layout → ℕ → List ℕ → Result (List ℕ) AsmFault
+meaning_in language layout start text = meaning_of layout start (readings language text)
+
+-- that of a listing
+abbrev pub meaning : ℕ → List ℕ → Result (List ℕ) AsmFault
+meaning start text = meaning_in Listing free start text

@@ -16,9 +16,9 @@ use Rattle.isa65.specs.Mode.{len_of, row_of, written, zero_page_of, IsZeroPageOf
 use Rattle.isa65.specs.contracts.mode.Mode as mode
 use Rattle.isa65.specs.Opcodes.{encoded}
 use Rattle.stmt65.specs.Forms.{form_text, form_values, form_size}
-use Rattle.stmt65.specs.SourceLine.{is_absolute, Value, Form, Instr}
+use Rattle.stmt65.specs.SourceLine.{is_absolute, Value, Form, ImmediateHalf, Instr}
 use Rattle.stmt65.specs.Symbols.{Definition, has_zero_page_size}
-use Rattle.stmt65.specs.Coding.{Fragment, Fixed, Single, word_operand, Distance, Way, zero_page, ways, coding, coding_len}
+use Rattle.stmt65.specs.Coding.{Fragment, Fixed, Single, HalfOf, State, word_operand, Distance, Way, zero_page, ways, coding, coding_len}
 
 -- whether `a:` stands before the expression
 abbrev pub has_prefix : Form → Bool
@@ -61,21 +61,26 @@ abbrev pub is_short : List Definition → List Value → Bool
 is_short above [] = false
 is_short above (v ∷ vs) = has_zero_page_size above v
 
--- what an operand of a kind is coded as
-abbrev pub kind_fragment : List Definition → OperandKind → Value → Fragment
-kind_fragment above kind.Byte v = Single v
-kind_fragment above kind.ZeroPage v = zero_page above v
-kind_fragment above kind.Word v = word_operand v
-kind_fragment above kind.Distance v = Distance v
+-- a byte, or with `<` or `>` before it a half
+abbrev pub byte_fragment : Form → Value → Fragment
+byte_fragment (ImmediateHalf half v) w = HalfOf half w
+byte_fragment form w = Single w
 
-abbrev pub row_fragments : List Definition → Row → List Value → List Fragment
-row_fragments above (row.One pattern kind) (v ∷ []) = kind_fragment above kind v ∷ []
-row_fragments above (row.Two first second) (v ∷ w ∷ []) = kind_fragment above first v ∷ kind_fragment above second w ∷ []
-row_fragments above _ _ = []
+-- what an operand of a kind is coded as in a form
+abbrev pub kind_fragment : List Definition → Form → OperandKind → Value → Fragment
+kind_fragment above form kind.Byte v = byte_fragment form v
+kind_fragment above form kind.ZeroPage v = zero_page above v
+kind_fragment above form kind.Word v = word_operand v
+kind_fragment above form kind.Distance v = Distance v
+
+abbrev pub row_fragments : List Definition → Form → Row → List Value → List Fragment
+row_fragments above form (row.One pattern kind) (v ∷ []) = kind_fragment above form kind v ∷ []
+row_fragments above form (row.Two first second) (v ∷ w ∷ []) = kind_fragment above form first v ∷ kind_fragment above form second w ∷ []
+row_fragments above form _ _ = []
 
 -- what stands after the opcode in a mode
-abbrev pub mode_fragments : List Definition → Mode → List Value → List Fragment
-mode_fragments above m vs = row_fragments above (row_of m) vs
+abbrev pub mode_fragments : List Definition → Form → Mode → List Fragment
+mode_fragments above form m = row_fragments above form (row_of m) (form_values form)
 
 -- The fragments are those of one mode of the form. If the mnemonic has a zero-page and an absolute mode that are written so, it is
 -- the one of the operand's size.
@@ -84,13 +89,13 @@ pub record TakesMode (cpu : Cpu) (above : List Definition) (m : Mnemonic) (form 
   pub opcode : ℕ
   pub of_form : IsModeOf form mode
   pub has : encoded (table_of cpu) m mode ≡ Some opcode
-  pub coded : fragments ≡ Fixed opcode ∷ mode_fragments above mode (form_values form)
+  pub coded : fragments ≡ Fixed opcode ∷ mode_fragments above form mode
   pub short : (y : Mode) → IsZeroPageOf mode y → IsModeOf form y → HasMode cpu m y → is_short above (form_values form) ≡ true
   pub long : (z : Mode) → IsZeroPageOf z mode → IsModeOf form z → HasMode cpu m z → is_short above (form_values form) ≡ false
 
 abbrev pub TakesModes : Type 0
-TakesModes = (cpu : Cpu) (above : List Definition) (m : Mnemonic) (form : Form) (fragments : List Fragment)
-    → coding cpu above (Instr m form) ≡ Some fragments → TakesMode cpu above m form fragments
+TakesModes = (s : State) (m : Mnemonic) (form : Form) (fragments : List Fragment)
+    → coding s (Instr m form) ≡ Some fragments → TakesMode s.cpu s.above m form fragments
 
 -- the mnemonic has no mode of the form
 abbrev pub LacksForm : Cpu → Mnemonic → Form → Type 0
@@ -98,4 +103,4 @@ LacksForm cpu m form = (x : Mode) → IsModeOf form x → encoded (table_of cpu)
 
 -- An instruction has no coding exactly when the mnemonic has no mode of the form.
 abbrev pub NeedsMode : Type 0
-NeedsMode = (cpu : Cpu) (above : List Definition) (m : Mnemonic) (form : Form) → (coding cpu above (Instr m form) ≡ None) ↔ LacksForm cpu m form
+NeedsMode = (s : State) (m : Mnemonic) (form : Form) → (coding s (Instr m form) ≡ None) ↔ LacksForm s.cpu m form

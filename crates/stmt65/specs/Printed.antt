@@ -9,6 +9,7 @@ use Rattle.isa65.specs.declared.row.Pattern.TheVariants as pattern
 use Rattle.isa65.specs.declared.row.Row.{Row}
 use Rattle.isa65.specs.declared.row.Row.TheVariants as row
 use Rattle.text65.specs.Names.{has_name_form}
+use Rattle.stmt65.specs.declared.language.Language.TheVariants.{Listing}
 use Rattle.stmt65.specs.SourceLine.{Value, NumberValue, NameValue, Form, Empty, Accumulator, Immediate, Direct, DirectX, DirectY, Two, Indirect, IndirectX, IndirectY, NumberDatum, Nothing, Instr, Data, Values, Segment, Code, SetCpu, SourceLine, Assignment, PlaceAssignment, Statement}
 use Rattle.stmt65.specs.declared.directive.Directive.{Directive}
 use Rattle.stmt65.specs.declared.directive.Directive.TheVariants.{Word, Addr}
@@ -114,7 +115,7 @@ pub record PrintsAs (bytes : List ℕ) (r : SourceLine) : Type 0 where
   pub line : List ℕ
   pub ends : bytes ≡ line ++ 10 ∷ []
   pub one_line : list_all (λ b. not (b == 10)) line ≡ true
-  pub reads : reading_of (parts line) ≡ Some r
+  pub reads : reading_of Listing (parts Listing line) ≡ Some r
 
 -- With names that are names, the bytes are one line that reads as the statement after this label.
 abbrev pub ReadsBack : StatementView → Option (List ℕ) → List ℕ → Type 0

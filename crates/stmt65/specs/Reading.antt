@@ -1,12 +1,20 @@
 -- What a line says, by its parts, as the reader goes: each step is decided by the next part.
-use Rattle.std.specs.Prelude.{ℕ, zero, suc, Bool, true, false, List, [], ◌∷◌, length, drop, codes, ◌==◌, if◌then◌else◌, Option, Some, None, option_and_then}
+--
+-- A line of a repair can say all that one of a listing can, and more: each row that has more asks for the language.
+use Rattle.std.specs.Prelude.{ℕ, zero, suc, Bool, true, false, List, [], ◌∷◌, length, map, drop, codes, ◌==◌, if◌then◌else◌, Option, Some, None, option_and_then}
 use Rattle.std.specs.Str.{bytes_eq}
 use Rattle.isa65.specs.Mnemonic.{mnemonic_named}
+use Rattle.isa65.specs.declared.mnemonic.Mnemonic.{Mnemonic}
+use Rattle.isa65.specs.declared.mnemonic.Mnemonic.TheVariants.{Asl, Lsr, Rol, Ror, Inc, Dec}
 use Rattle.text65.specs.Names.{has_name_form}
-use Rattle.stmt65.specs.Signs.{hash, left_paren, right_paren, star, plus, comma, minus, colon}
-use Rattle.stmt65.specs.SourceLine.{is_absolute, Value, NumberValue, NameValue, Form, Empty, Accumulator, Immediate, Direct, DirectX, DirectY, Two, Indirect, IndirectX, IndirectY, Datum, NumberDatum, StringDatum, Operation, Nothing, Instr, Data, Values, Segment, Code, SetCpu, SourceLine, Assignment, PlaceAssignment, Statement}
+use Rattle.stmt65.specs.Signs.{hash, left_paren, right_paren, star, plus, comma, minus, colon, less, equals, greater}
+use Rattle.stmt65.specs.declared.language.Language.{Language}
+use Rattle.stmt65.specs.declared.language.Language.TheVariants.{Listing, Repair}
+use Rattle.stmt65.specs.SourceLine.{is_absolute, Value, NumberValue, NameValue, DifferenceValue, Form, Empty, Accumulator, Immediate, ImmediateHalf, Direct, DirectX, DirectY, Two, Indirect, IndirectX, IndirectY, Datum, NumberDatum, StringDatum, ValueDatum, HalfDatum, Operation, Nothing, Instr, Data, Values, Reserve, Segment, Code, SetCpu, SourceLine, Assignment, PlaceAssignment, Statement}
 use Rattle.stmt65.specs.declared.source_line.AddressSize.{AddressSize}
 use Rattle.stmt65.specs.declared.source_line.AddressSize.TheVariants.{Absolute, Automatic}
+use Rattle.stmt65.specs.declared.source_line.Half.{Half}
+use Rattle.stmt65.specs.declared.source_line.Half.TheVariants.{Low, High}
 use Rattle.stmt65.specs.declared.source_line.Minus.TheVariants.{Zero, One}
 use Rattle.stmt65.specs.Parts.{Part, Word, Number, Text, Define, Mark, number_of}
 use Rattle.stmt65.specs.Names.{same, is_name}
@@ -55,20 +63,44 @@ whole x (p ∷ ps) = None
 
 -- ---- expressions
 
+-- a name, and the parts after it
+abbrev pub name_in : List Part → Option (List ℕ × List Part)
+name_in (Word w ∷ ps) = if is_name w then Some (w, ps) else None
+name_in _ = None
+
+-- after a name and `-`: in a repair another name
+abbrev pub less_name : Language → List ℕ → List Part → Option (Value × List Part)
+less_name Listing w ps = None
+less_name Repair w ps = name_in ps >>= λ v. Some (DifferenceValue w v.0, v.1)
+
 -- after a name and what is added to it: `-1`, the digit 1 itself, or nothing
-unfoldable pub less_one : List ℕ → ℕ → List Part → Option (Value × List Part)
-less_one w n ps =
-    if is_mark minus ps then (if is_number_here (codes "1") (drop 1 ps) then Some (NameValue w n One, drop 1 (drop 1 ps)) else None)
+unfoldable pub less_one : Language → List ℕ → ℕ → List Part → Option (Value × List Part)
+less_one language w n ps =
+    if is_mark minus ps then
+    (if is_number_here (codes "1") (drop 1 ps) then Some (NameValue w n One, drop 1 (drop 1 ps)) else less_name language w (drop 1 ps))
     else Some (NameValue w n Zero, ps)
 
--- after a name: `+` and a number, or nothing
-unfoldable pub named_at : List ℕ → List Part → Option (Value × List Part)
-named_at w ps = if is_mark plus ps then (number_in (drop 1 ps) >>= λ n. less_one w n.0 n.1) else less_one w 0 ps
+-- after a name: `+` and a number, or nothing; from a sum no name is subtracted
+unfoldable pub named_at : Language → List ℕ → List Part → Option (Value × List Part)
+named_at language w ps = if is_mark plus ps then (number_in (drop 1 ps) >>= λ n. less_one Listing w n.0 n.1) else less_one language w 0 ps
 
-unfoldable pub next_value : List Part → Option (Value × List Part)
-next_value (Number t ∷ ps) = Some (NumberValue (number_of t), ps)
-next_value (Word w ∷ ps) = if is_name w then named_at w ps else None
-next_value _ = None
+unfoldable pub next_value : Language → List Part → Option (Value × List Part)
+next_value language (Number t ∷ ps) = Some (NumberValue (number_of t), ps)
+next_value language (Word w ∷ ps) = if is_name w then named_at language w ps else None
+next_value language _ = None
+
+-- ---- halves
+
+-- an expression and `)`
+abbrev pub bracketed_in : List Part → Option (Value × List Part)
+bracketed_in ps = next_value Repair ps >>= λ v. if is_mark right_paren v.1 then Some (v.0, drop 1 v.1) else None
+
+-- what `<` and `>` take: a number, a name, or an expression in parentheses, since ca65 reads `<name+1` as one more than the half
+unfoldable pub halved_in : List Part → Option (Value × List Part)
+halved_in (Number t ∷ ps) = Some (NumberValue (number_of t), ps)
+halved_in (Word w ∷ ps) = if is_name w then Some (NameValue w 0 Zero, ps) else None
+halved_in (Mark b ∷ ps) = if b == left_paren then bracketed_in ps else None
+halved_in _ = None
 
 -- ---- operands
 
@@ -78,7 +110,7 @@ tail_at size v ps =
     if is_mark comma ps then
     (if is_word_here (codes "x") (drop 1 ps) then whole (DirectX size v) (drop 1 (drop 1 ps))
     else (if is_word_here (codes "y") (drop 1 ps) then whole (DirectY size v) (drop 1 (drop 1 ps))
-    else (if is_absolute size then None else (next_value (drop 1 ps) >>= λ w. whole (Two v w.0) w.1))))
+    else (if is_absolute size then None else (next_value Listing (drop 1 ps) >>= λ w. whole (Two v w.0) w.1))))
     else whole (Direct size v) ps
 
 -- after `(` and an expression
@@ -91,15 +123,27 @@ inner_at v ps =
     (if is_word_here (codes "x") (drop 1 ps) then (if is_mark right_paren (drop 1 (drop 1 ps)) then whole (IndirectX v) (drop 1 (drop 1 (drop 1 ps))) else None) else None)
     else None)
 
--- everything after a mnemonic
-unfoldable pub form_of : List Part → Option Form
-form_of ps =
-    if is_mark hash ps then (next_value (drop 1 ps) >>= λ v. whole (Immediate v.0) v.1)
-    else (if is_mark left_paren ps then (next_value (drop 1 ps) >>= λ v. inner_at v.0 v.1)
+-- after `#` and `<` or `>`
+abbrev pub half_form : Half → List Part → Option Form
+half_form half ps = halved_in ps >>= λ v. whole (ImmediateHalf half v.0) v.1
+
+-- after `#`
+unfoldable pub immediate_of : Language → List Part → Option Form
+immediate_of Listing ps = next_value Listing ps >>= λ v. whole (Immediate v.0) v.1
+immediate_of Repair ps =
+    if is_mark less ps then half_form Low (drop 1 ps)
+    else (if is_mark greater ps then half_form High (drop 1 ps)
+    else (next_value Repair ps >>= λ v. whole (Immediate v.0) v.1))
+
+-- everything after a mnemonic; an address is written as in a listing
+unfoldable pub form_of : Language → List Part → Option Form
+form_of language ps =
+    if is_mark hash ps then immediate_of language (drop 1 ps)
+    else (if is_mark left_paren ps then (next_value Listing (drop 1 ps) >>= λ v. inner_at v.0 v.1)
     else (if is_word_here (codes "a") ps then
-    (if is_mark colon (drop 1 ps) then (next_value (drop 1 (drop 1 ps)) >>= λ v. tail_at Absolute v.0 v.1) else whole Accumulator (drop 1 ps))
+    (if is_mark colon (drop 1 ps) then (next_value Listing (drop 1 (drop 1 ps)) >>= λ v. tail_at Absolute v.0 v.1) else whole Accumulator (drop 1 ps))
     else (if is_nil ps then Some Empty
-    else (next_value ps >>= λ v. tail_at Automatic v.0 v.1))))
+    else (next_value Listing ps >>= λ v. tail_at Automatic v.0 v.1))))
 
 -- ---- lists joined by commas
 
@@ -114,10 +158,30 @@ joined read (suc most) ps =
 abbrev pub list_of : {A : Type 0} → (List Part → Option (A × List Part)) → List Part → Option (List A)
 list_of read ps = joined read (suc (length ps)) ps
 
-unfoldable pub next_datum : List Part → Option (Datum × List Part)
-next_datum (Number t ∷ ps) = Some (NumberDatum (number_of t), ps)
-next_datum (Text t ∷ ps) = Some (StringDatum t, ps)
-next_datum _ = None
+-- after the word w: in a repair an expression with this name
+unfoldable pub word_datum : Language → List ℕ → List Part → Option (Datum × List Part)
+word_datum Listing w ps = None
+word_datum Repair w ps = if is_name w then (named_at Repair w ps >>= λ v. Some (ValueDatum v.0, v.1)) else None
+
+-- after `<` or `>`
+abbrev pub half_datum : Half → List Part → Option (Datum × List Part)
+half_datum half ps = halved_in ps >>= λ v. Some (HalfDatum half v.0, v.1)
+
+-- after this byte by itself: in a repair a half
+unfoldable pub mark_datum : Language → ℕ → List Part → Option (Datum × List Part)
+mark_datum Listing b ps = None
+mark_datum Repair b ps = if b == less then half_datum Low ps else (if b == greater then half_datum High ps else None)
+
+unfoldable pub next_datum : Language → List Part → Option (Datum × List Part)
+next_datum language (Number t ∷ ps) = Some (NumberDatum (number_of t), ps)
+next_datum language (Text t ∷ ps) = Some (StringDatum t, ps)
+next_datum language (Word w ∷ ps) = word_datum language w ps
+next_datum language (Mark b ∷ ps) = mark_datum language b ps
+next_datum language _ = None
+
+-- the half of an expression in a list of halves
+unfoldable pub next_half : Half → List Part → Option (Datum × List Part)
+next_half half ps = next_value Repair ps >>= λ v. Some (HalfDatum half v.0, v.1)
 
 -- ---- operations
 
@@ -125,11 +189,11 @@ unfoldable pub text_in : List Part → Option (List ℕ)
 text_in (Text t ∷ ps) = whole t ps
 text_in _ = None
 
-abbrev pub data_of : List Part → Option Operation
-data_of ps = list_of next_datum ps >>= λ xs. Some (Data xs)
+abbrev pub data_of : (List Part → Option (Datum × List Part)) → List Part → Option Operation
+data_of read ps = list_of read ps >>= λ xs. Some (Data xs)
 
-abbrev pub values_of : Directive → List Part → Option Operation
-values_of d ps = list_of next_value ps >>= λ vs. Some (Values d vs)
+abbrev pub values_of : Language → Directive → List Part → Option Operation
+values_of language d ps = list_of (next_value language) ps >>= λ vs. Some (Values d vs)
 
 -- a string of the form of a name, reserved or not
 abbrev pub segment_of : List Part → Option Operation
@@ -138,53 +202,92 @@ segment_of ps = text_in ps >>= λ t. if has_name_form t then Some (Segment t) el
 abbrev pub set_cpu_of : List Part → Option Operation
 set_cpu_of ps = text_in ps >>= λ t. Some (SetCpu t)
 
-abbrev pub instruction_of : List ℕ → List Part → Option Operation
-instruction_of w ps = mnemonic_named w >>= λ m. form_of ps >>= λ f. Some (Instr m f)
+-- a number of bytes, and after a comma their value, which is else 0
+abbrev pub reserve_of : List Part → Option Operation
+reserve_of ps = number_in ps >>= λ n.
+    if is_mark comma n.1 then (number_in (drop 1 n.1) >>= λ v. whole (Reserve n.0 v.0) v.1) else whole (Reserve n.0 0) n.1
+
+-- an instruction that can work on the accumulator
+abbrev pub takes_accumulator : Mnemonic → Bool
+takes_accumulator Asl = true
+takes_accumulator Lsr = true
+takes_accumulator Rol = true
+takes_accumulator Ror = true
+takes_accumulator Inc = true
+takes_accumulator Dec = true
+takes_accumulator _ = false
+
+-- without an operand, in a repair, it does
+abbrev pub operand_in : Language → Mnemonic → Form → Form
+operand_in Repair m Empty = if takes_accumulator m then Accumulator else Empty
+operand_in language m form = form
+
+abbrev pub instruction_of : Language → List ℕ → List Part → Option Operation
+instruction_of language w ps = mnemonic_named w >>= λ m. form_of language ps >>= λ f. Some (Instr m (operand_in language m f))
+
+-- in a repair a list of halves or reserved bytes; else an instruction
+unfoldable pub further_at : Language → List ℕ → List Part → Option Operation
+further_at Listing w ps = instruction_of Listing w ps
+further_at Repair w ps =
+    if same w (codes ".lobytes") then data_of (next_half Low) ps
+    else (if same w (codes ".hibytes") then data_of (next_half High) ps
+    else (if same w (codes ".res") then reserve_of ps
+    else instruction_of Repair w ps))
 
 -- an operation that begins with the word w, which is none of the directives that give numbers
-unfoldable pub other_at : List ℕ → List Part → Option Operation
-other_at w ps =
-    if same w (codes ".byte") then data_of ps
+unfoldable pub other_at : Language → List ℕ → List Part → Option Operation
+other_at language w ps =
+    if same w (codes ".byte") then data_of (next_datum language) ps
     else (if same w (codes ".segment") then segment_of ps
     else (if same w (codes ".code") then whole Code ps
     else (if same w (codes ".setcpu") then set_cpu_of ps
-    else instruction_of w ps)))
+    else further_at language w ps)))
 
 -- with a directive its numbers, without one another operation
-abbrev pub values_or : Option Directive → List Part → Option Operation → Option Operation
-values_or None ps other = other
-values_or (Some d) ps other = values_of d ps
+abbrev pub values_or : Language → Option Directive → List Part → Option Operation → Option Operation
+values_or language None ps other = other
+values_or language (Some d) ps other = values_of language d ps
 
 -- an operation that begins with the word w
-unfoldable pub operation_at : List ℕ → List Part → Option Operation
-operation_at w ps = values_or (directive_named w) ps (other_at w ps)
+unfoldable pub operation_at : Language → List ℕ → List Part → Option Operation
+operation_at language w ps = values_or language (directive_named w) ps (other_at language w ps)
 
-unfoldable pub operation_of : List Part → Option Operation
-operation_of [] = Some Nothing
-operation_of (Word w ∷ ps) = operation_at w ps
-operation_of _ = None
+unfoldable pub operation_of : Language → List Part → Option Operation
+operation_of language [] = Some Nothing
+operation_of language (Word w ∷ ps) = operation_at language w ps
+operation_of language _ = None
 
 -- ---- lines
+
+-- after the name w, to which a number is given
+abbrev pub number_of_name : List ℕ → List Part → Option SourceLine
+number_of_name w ps = number_in ps >>= λ n. whole (Assignment w n.0) n.1
 
 -- after the name w and `:=`
 unfoldable pub constant_of : List ℕ → List Part → Option SourceLine
 constant_of w ps =
     if is_mark star ps then (if is_mark plus (drop 1 ps) then (number_in (drop 1 (drop 1 ps)) >>= λ n. whole (PlaceAssignment w n.0) n.1) else None)
-    else (number_in ps >>= λ n. whole (Assignment w n.0) n.1)
+    else number_of_name w ps
 
 -- an operation, if it is one, after an optional label
 abbrev pub stated : Option (List ℕ) → Option Operation → Option SourceLine
 stated label operation = operation >>= λ o. Some (Statement label o)
 
+-- whether `=` stands here, which in a repair is as good as `:=` before a number
+abbrev pub is_equals : Language → List Part → Bool
+is_equals Listing ps = false
+is_equals Repair ps = is_mark equals ps
+
 -- a line that begins with the word w
-unfoldable pub line_at : List ℕ → List Part → Option SourceLine
-line_at w ps =
-    if is_mark colon ps then (if is_name w then stated (Some w) (operation_of (drop 1 ps)) else None)
+unfoldable pub line_at : Language → List ℕ → List Part → Option SourceLine
+line_at language w ps =
+    if is_mark colon ps then (if is_name w then stated (Some w) (operation_of language (drop 1 ps)) else None)
     else (if is_define ps then (if is_name w then constant_of w (drop 1 ps) else None)
-    else stated None (operation_at w ps))
+    else (if is_equals language ps then (if is_name w then number_of_name w (drop 1 ps) else None)
+    else stated None (operation_at language w ps)))
 
 -- what the parts of a line say, or nothing if they are no line
-unfoldable pub reading_of : List Part → Option SourceLine
-reading_of [] = Some (Statement None Nothing)
-reading_of (Word w ∷ ps) = line_at w ps
-reading_of _ = None
+unfoldable pub reading_of : Language → List Part → Option SourceLine
+reading_of language [] = Some (Statement None Nothing)
+reading_of language (Word w ∷ ps) = line_at language w ps
+reading_of language _ = None

@@ -1,5 +1,6 @@
 -- What the reading of a line is to what is written.
 use Rattle.std.specs.Prelude.{◌≡◌, ◌↔◌, ℕ, List, Some}
+use Rattle.stmt65.specs.declared.language.Language.TheVariants.{Listing}
 use Rattle.stmt65.specs.SourceLine.{SourceLine}
 use Rattle.stmt65.specs.Parts.{Part}
 use Rattle.stmt65.specs.Lexing.{parts}
@@ -9,7 +10,7 @@ use Rattle.stmt65.specs.Spelling.{IsSpelling}
 
 -- Parts are read as r exactly when they are a spelling of r.
 abbrev pub ReadsSpellings : Type 0
-ReadsSpellings = (ps : List Part) (r : SourceLine) → (reading_of ps ≡ Some r) ↔ IsSpelling r ps
+ReadsSpellings = (ps : List Part) (r : SourceLine) → (reading_of Listing ps ≡ Some r) ↔ IsSpelling r ps
 
 -- Parts are a spelling of one thing at most.
 abbrev pub SpellsOne : Type 0
@@ -17,8 +18,8 @@ SpellsOne = (ps : List Part) (r s : SourceLine) → IsSpelling r ps → IsSpelli
 
 -- The lexer takes the parts of the line.
 abbrev pub TakesParts : Type 0
-TakesParts = (line : List ℕ) (ps : List Part) → (parts line ≡ ps) ↔ IsSpacing ps line
+TakesParts = (line : List ℕ) (ps : List Part) → (parts Listing line ≡ ps) ↔ IsSpacing ps line
 
 -- A line of bytes is read as r exactly when it is a spacing of a spelling of r.
 abbrev pub ReadsLines : Type 0
-ReadsLines = (line : List ℕ) (r : SourceLine) → (reading_of (parts line) ≡ Some r) ↔ ((ps : List Part) × IsSpacing ps line × IsSpelling r ps)
+ReadsLines = (line : List ℕ) (r : SourceLine) → (reading_of Listing (parts Listing line) ≡ Some r) ↔ ((ps : List Part) × IsSpacing ps line × IsSpelling r ps)

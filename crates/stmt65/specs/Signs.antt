@@ -10,6 +10,12 @@ hash = 35
 abbrev pub dollar : ℕ
 dollar = 36
 
+abbrev pub percent : ℕ
+percent = 37
+
+abbrev pub apostrophe : ℕ
+apostrophe = 39
+
 abbrev pub left_paren : ℕ
 left_paren = 40
 
@@ -37,8 +43,14 @@ colon = 58
 abbrev pub semicolon : ℕ
 semicolon = 59
 
+abbrev pub less : ℕ
+less = 60
+
 abbrev pub equals : ℕ
 equals = 61
+
+abbrev pub greater : ℕ
+greater = 62
 
 abbrev pub underscore : ℕ
 underscore = 95

@@ -4,6 +4,7 @@ use Rattle.isa65.specs.declared.mnemonic.Mnemonic.{Mnemonic}
 use Rattle.stmt65.specs.declared.directive.Directive.{Directive}
 use Rattle.stmt65.specs.declared.source_line.AddressSize.{AddressSize}
 use Rattle.stmt65.specs.declared.source_line.AddressSize.TheVariants.{Absolute, Automatic}
+use Rattle.stmt65.specs.declared.source_line.Half.{Half}
 use Rattle.stmt65.specs.declared.source_line.Minus.{Minus}
 
 -- whether `a:` stands before an expression
@@ -11,16 +12,18 @@ abbrev pub is_absolute : AddressSize → Bool
 is_absolute Absolute = true
 is_absolute Automatic = false
 
--- an expression: a number; or a name, the number that is added to its value, and what is subtracted
+-- an expression: a number; a name, the number that is added to its value, and what is subtracted; or the difference of two names
 pub data Value : Type 0 where
   NumberValue : ℕ → Value
   NameValue : List ℕ → ℕ → Minus → Value
+  DifferenceValue : List ℕ → List ℕ → Value
 
--- the written forms of an operand: no operand, `a`, `#E`, `E`, `E,x`, `E,y`, `E,E`, `(E)`, `(E,x)`, `(E),y`
+-- the written forms of an operand: no operand, `a`, `#E`, `#<E` or `#>E`, `E`, `E,x`, `E,y`, `E,E`, `(E)`, `(E,x)`, `(E),y`
 pub data Form : Type 0 where
   Empty : Form
   Accumulator : Form
   Immediate : Value → Form
+  ImmediateHalf : Half → Value → Form
   Direct : AddressSize → Value → Form
   DirectX : AddressSize → Value → Form
   DirectY : AddressSize → Value → Form
@@ -29,17 +32,20 @@ pub data Form : Type 0 where
   IndirectX : Value → Form
   IndirectY : Value → Form
 
--- an operand of `.byte`: a number, or the bytes between the quotes of a string
+-- an operand of `.byte`: a number, the bytes between the quotes of a string, another expression, or a half of one
 pub data Datum : Type 0 where
   NumberDatum : ℕ → Datum
   StringDatum : List ℕ → Datum
+  ValueDatum : Value → Datum
+  HalfDatum : Half → Value → Datum
 
--- no operation, an instruction, or an operation of the assembler with its operands
+-- no operation, an instruction, or an operation of the assembler with its operands; of `.res` a number of bytes and their value
 pub data Operation : Type 0 where
   Nothing : Operation
   Instr : Mnemonic → Form → Operation
   Data : List Datum → Operation
   Values : Directive → List Value → Operation
+  Reserve : ℕ → ℕ → Operation
   Segment : List ℕ → Operation
   Code : Operation
   SetCpu : List ℕ → Operation

@@ -1,4 +1,4 @@
--- How a line is spelled: what is written, item by item.
+-- How a line of a listing is spelled: what is written, item by item. What only a repair says is not spelled there.
 use Rattle.std.specs.Prelude.{◌≡◌, ◌⊎◌, ℕ, true, List, [], ◌∷◌, ◌++◌, codes, ◌==◌, if◌then◌else◌, Some, None}
 use Rattle.std.specs.Char.{is_ascii_alphabetic}
 use Rattle.isa65.specs.Mnemonic.{text_of}
@@ -9,14 +9,14 @@ use Rattle.stmt65.specs.declared.source_line.AddressSize.{AddressSize}
 use Rattle.stmt65.specs.declared.source_line.AddressSize.TheVariants.{Absolute, Automatic}
 use Rattle.stmt65.specs.declared.source_line.Minus.{Minus}
 use Rattle.stmt65.specs.declared.source_line.Minus.TheVariants.{Zero, One}
-use Rattle.stmt65.specs.SourceLine.{Value, NumberValue, NameValue, Form, Datum, NumberDatum, StringDatum, Operation, Nothing, Instr, Data, Values, Segment, Code, SetCpu, SourceLine, Assignment, PlaceAssignment, Statement}
+use Rattle.stmt65.specs.SourceLine.{Value, NumberValue, NameValue, DifferenceValue, Form, ImmediateHalf, Datum, NumberDatum, StringDatum, ValueDatum, HalfDatum, Operation, Nothing, Instr, Data, Values, Reserve, Segment, Code, SetCpu, SourceLine, Assignment, PlaceAssignment, Statement}
 use Rattle.stmt65.specs.Forms.{form_text, form_values, form_size}
 use Rattle.stmt65.specs.Parts.{Part, Word, Number, Text, Define, Mark, number_of}
 use Rattle.stmt65.specs.Directives.{directive_text}
 use Rattle.stmt65.specs.Names.{same, is_name}
 
 -- what can stand in a line: a word in any case, a character, `:=`, a name with its case, a number, a string,
--- a string of the form of a name, an expression, and lists joined by commas
+-- a string of the form of a name, an expression, and lists joined by commas; and what no listing can have
 pub data Item : Type 0 where
   word : List ℕ → Item
   mark : ℕ → Item
@@ -28,6 +28,7 @@ pub data Item : Type 0 where
   value : Value → Item
   data_list : List Datum → Item
   value_list : List Value → Item
+  unwritten : Item
 
 -- a number of this value, however it is written
 abbrev pub IsNumber : ℕ → List Part → Type 0
@@ -46,11 +47,14 @@ IsMinus Zero ps = ps ≡ []
 abbrev pub IsValue : Value → List Part → Type 0
 IsValue (NumberValue n) ps = IsNumber n ps
 IsValue (NameValue w n less) ps = (added : List Part) × (taken : List Part) × (ps ≡ Word w ∷ (added ++ taken)) × (is_name w ≡ true) × IsPlus n added × IsMinus less taken
+IsValue (DifferenceValue w v) ps = ⊥
 
 -- a number or a string
 abbrev pub IsDatum : Datum → List Part → Type 0
 IsDatum (NumberDatum n) ps = IsNumber n ps
 IsDatum (StringDatum t) ps = ps ≡ Text t ∷ []
+IsDatum (ValueDatum v) ps = ⊥
+IsDatum (HalfDatum half v) ps = ⊥
 
 -- one or more, joined by commas
 abbrev pub IsList : {A : Type 0} → (A → List Part → Type 0) → List A → List Part → Type 0
@@ -70,6 +74,7 @@ IsItem (quoted_name t) ps = (has_name_form t ≡ true) × (ps ≡ Text t ∷ [])
 IsItem (value v) ps = IsValue v ps
 IsItem (data_list xs) ps = IsList IsDatum xs ps
 IsItem (value_list vs) ps = IsList IsValue vs ps
+IsItem unwritten ps = ⊥
 
 -- the parts of the items, one after the other
 unfoldable pub Spells : List Item → List Part → Type 0
@@ -93,6 +98,7 @@ pattern_items (c ∷ pattern) (v ∷ vs) = if c == expression then value v ∷ p
 
 -- an operand: its pattern, after an optional `a:`
 abbrev pub form_items : Form → List Item
+form_items (ImmediateHalf half v) = unwritten ∷ []
 form_items form = prefix_items (form_size form) ++ pattern_items (form_text form) (form_values form)
 
 -- a mnemonic and its operand, or an operation of the assembler and what it takes
@@ -101,6 +107,7 @@ operation_items Nothing = []
 operation_items (Instr m f) = word (text_of m) ∷ form_items f
 operation_items (Data xs) = word (codes ".byte") ∷ data_list xs ∷ []
 operation_items (Values d vs) = word (directive_text d) ∷ value_list vs ∷ []
+operation_items (Reserve n v) = unwritten ∷ []
 operation_items (Segment t) = word (codes ".segment") ∷ quoted_name t ∷ []
 operation_items Code = word (codes ".code") ∷ []
 operation_items (SetCpu t) = word (codes ".setcpu") ∷ string t ∷ []

@@ -48,10 +48,11 @@ bytes_text = comma_list hex2
 abbrev pub quoted : List ℕ → List ℕ
 quoted text = codes "\"" ++ text ++ codes "\""
 
--- a byte in two hex digits, a stretch of text in double quotes
+-- a byte in two hex digits, a stretch of text in double quotes; a listing has no other data
 abbrev pub datum_text : Datum → List ℕ
 datum_text (source.NumberDatum b) = hex2 b
 datum_text (source.StringDatum stretch) = quoted stretch
+datum_text _ = []
 
 -- bytes and stretches of text
 abbrev pub data_text : List Datum → List ℕ

@@ -1,9 +1,9 @@
 -- The names that a text defines, and the value and size of an expression.
-use Rattle.std.specs.Prelude.{ℕ, ◌+◌, ◌-◌, Bool, true, false, ◌&&◌, List, [], ◌∷◌, nat_lt, ◌==◌, if◌then◌else◌, Option, Some, None, is_some, option_and_then}
+use Rattle.std.specs.Prelude.{ℕ, ◌+◌, ◌-◌, Bool, true, false, ◌&&◌, List, [], ◌∷◌, nat_le, nat_lt, ◌==◌, if◌then◌else◌, Option, Some, None, is_some, option_and_then}
 use Rattle.std.specs.Str.{bytes_eq}
 use Rattle.stmt65.specs.declared.source_line.Minus.{Minus}
 use Rattle.stmt65.specs.declared.source_line.Minus.TheVariants.{Zero, One}
-use Rattle.stmt65.specs.SourceLine.{Value, NumberValue, NameValue}
+use Rattle.stmt65.specs.SourceLine.{Value, NumberValue, NameValue, DifferenceValue}
 
 -- a name, its value, and whether a line `name := number` gives it
 pub record Definition : Type 0 where
@@ -21,19 +21,31 @@ abbrev pub lowered : Minus → ℕ → Option ℕ
 lowered Zero v = Some v
 lowered One v = if v == 0 then None else Some (v - 1)
 
--- the value of an expression; none if it is below 0 or the name is undefined
+abbrev pub below : ℕ → Option ℕ → Option ℕ
+below limit None = None
+below limit (Some n) = if nat_lt n limit then Some n else None
+
+-- the address that a name has, if there is one
+abbrev pub address_of : Option Definition → Option ℕ
+address_of None = None
+address_of (Some d) = below 65536 (Some d.value)
+
+-- how far an address is past another one, or none if it is before it
+abbrev pub apart : Option ℕ → Option ℕ → Option ℕ
+apart (Some a) (Some b) = if nat_le b a then Some (a - b) else None
+apart _ _ = None
+
+-- the value of an expression; none if it is below 0, a name is undefined, or one of two names has no address
 unfoldable pub value_in : List Definition → Value → Option ℕ
 value_in all (NumberValue n) = Some n
 value_in all (NameValue w n minus) = option_and_then (λ d. lowered minus (d.value + n)) (find_name w all)
+value_in all (DifferenceValue w v) = apart (address_of (find_name w all)) (address_of (find_name v all))
 
 -- whether each name in the expression has a definition
 unfoldable pub is_known : List Definition → Value → Bool
 is_known all (NumberValue n) = true
 is_known all (NameValue w n minus) = is_some (find_name w all)
-
-abbrev pub below : ℕ → Option ℕ → Option ℕ
-below limit None = None
-below limit (Some n) = if nat_lt n limit then Some n else None
+is_known all (DifferenceValue w v) = is_some (find_name w all) && is_some (find_name v all)
 
 -- the value if it is from 0 to $FFFF
 unfoldable pub word_in : List Definition → Value → Option ℕ
@@ -52,7 +64,9 @@ abbrev pub is_constant : Option Definition → Bool
 is_constant None = false
 is_constant (Some d) = d.constant
 
--- zero-page size, by the lines above: the value is below $100, and a name has its first definition as `name := number` there
+-- zero-page size, by the lines above: the value is below $100, and a name has its first definition as `name := number` there; a difference
+-- has none
 unfoldable pub has_zero_page_size : List Definition → Value → Bool
 has_zero_page_size above (NumberValue n) = nat_lt n 256
+has_zero_page_size above (DifferenceValue w v) = false
 has_zero_page_size above (NameValue w n minus) = is_constant (find_name w above) && is_small (value_in above (NameValue w n minus))

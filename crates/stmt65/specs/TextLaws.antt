@@ -6,7 +6,9 @@ use Rattle.std.specs.List.{All, flat_map}
 use Rattle.stmt65.specs.declared.assembling.fault.AsmFaultKind.{AsmFaultKind}
 use Rattle.stmt65.specs.SourceLine.{SourceLine}
 use Rattle.stmt65.specs.Symbols.{Definition}
-use Rattle.stmt65.specs.Meaning.{State, initial, after, final, fault_of, bytes_of, meaning_of}
+use Rattle.stmt65.specs.Layout.{Layout}
+use Rattle.stmt65.specs.Coding.{State}
+use Rattle.stmt65.specs.Meaning.{initial, after, final, fault_of, bytes_of, meaning_of}
 
 -- a line, and what stands above it
 pub record Line : Type 0 where
@@ -19,12 +21,12 @@ lines_below s [] = []
 lines_below s (l ∷ ls) = record { state = s; says = l } ∷ lines_below (after s l) ls
 
 -- the lines of a text
-abbrev pub lines_of : ℕ → List (Option SourceLine) → List Line
-lines_of start ls = lines_below (initial start) ls
+abbrev pub lines_of : Layout → ℕ → List (Option SourceLine) → List Line
+lines_of layout start ls = lines_below (initial layout start) ls
 
 -- the names that a text defines
-abbrev pub names_of : ℕ → List (Option SourceLine) → List Definition
-names_of start ls = (final (initial start) ls).above
+abbrev pub names_of : Layout → ℕ → List (Option SourceLine) → List Definition
+names_of layout start ls = (final (initial layout start) ls).above
 
 -- `all` are the names of the text
 abbrev pub IsFaultless : List Definition → Line → Type 0
@@ -35,8 +37,9 @@ line_bytes all line = bytes_of all line.state line.says
 
 -- A text means these bytes exactly when no line has a fault and they are the bytes of its lines in order.
 abbrev pub MeansBytes : Type 0
-MeansBytes = (start : ℕ) (ls : List (Option SourceLine)) (bytes : List ℕ)
-    → (meaning_of start ls ≡ Ok bytes) ↔ (All (IsFaultless (names_of start ls)) (lines_of start ls) × (bytes ≡ flat_map (line_bytes (names_of start ls)) (lines_of start ls)))
+MeansBytes = (layout : Layout) (start : ℕ) (ls : List (Option SourceLine)) (bytes : List ℕ)
+    → (meaning_of layout start ls ≡ Ok bytes)
+    ↔ (All (IsFaultless (names_of layout start ls)) (lines_of layout start ls) × (bytes ≡ flat_map (line_bytes (names_of layout start ls)) (lines_of layout start ls)))
 
 -- Line n, counted from 1, has the fault, and no line above it has one.
 pub record IsFirstFault (all : List Definition) (lines : List Line) (n : ℕ) (kind : AsmFaultKind) : Type 0 where
@@ -50,10 +53,10 @@ pub record IsFirstFault (all : List Definition) (lines : List Line) (n : ℕ) (k
 
 -- A text has this fault exactly when it is the fault of the first line that has one.
 abbrev pub MeansFault : Type 0
-MeansFault = (start : ℕ) (ls : List (Option SourceLine)) (n : ℕ) (kind : AsmFaultKind)
-    → (meaning_of start ls ≡ Err (record { line = n; kind = kind })) ↔ IsFirstFault (names_of start ls) (lines_of start ls) n kind
+MeansFault = (layout : Layout) (start : ℕ) (ls : List (Option SourceLine)) (n : ℕ) (kind : AsmFaultKind)
+    → (meaning_of layout start ls ≡ Err (record { line = n; kind = kind })) ↔ IsFirstFault (names_of layout start ls) (lines_of layout start ls) n kind
 
 -- Each line stands at the start plus the number of bytes of the lines above it.
 abbrev pub StandsAtItsBytes : Type 0
-StandsAtItsBytes = (all : List Definition) (start : ℕ) (ls : List (Option SourceLine)) (above below : List Line) (line : Line)
-    → lines_of start ls ≡ above ++ line ∷ below → line.state.at ≡ start + length (flat_map (line_bytes all) above)
+StandsAtItsBytes = (all : List Definition) (layout : Layout) (start : ℕ) (ls : List (Option SourceLine)) (above below : List Line) (line : Line)
+    → lines_of layout start ls ≡ above ++ line ∷ below → line.state.at ≡ start + length (flat_map (line_bytes all) above)

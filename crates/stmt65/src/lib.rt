@@ -1,7 +1,7 @@
 //! Statements of 6502 assembler text in the grammar of ca65: printing, reading and assembling.
 //!
-//! `statement` has what a listing prints, `source_line` what a line is read as, and `directive` the directives of
-//! both.
+//! `statement` has what a listing prints, `source_line` what a line is read as, `directive` the directives of
+//! both, and `language` the two languages in which a line is read.
 //!
 //! `printing`: a [`Statement`] with its [`Expr`]s and [`Operands`] is what one line of a listing says.
 //! [`put_line`] prints it at its [`Columns`], with the [`Remarks`] that stand beside it.
@@ -11,7 +11,8 @@
 //! `operations` and `whole_line` take from it what they are named for.
 //!
 //! `assembling`: [`assemble`] answers the bytes that a text means from a start, or its first fault. It
-//! goes over the lines twice: once for the names (`symbols`), once for the bytes (`coding`, `emit`).
+//! goes over the lines twice: once for the names (`symbols`), once for the bytes (`coding`, `emit`). [`assemble_source`] does it in
+//! either language, with segments that begin where a [`Layout`] says.
 //! [`line_addresses`] returns the address after each line, which says which line gave a byte, and [`Definitions`] the
 //! value of an expression by all names of a text.
 //!
@@ -20,6 +21,7 @@
 
 mod assembling;
 mod directive;
+mod language;
 mod laws;
 mod printing;
 mod reading;
@@ -27,10 +29,12 @@ mod source_line;
 mod statement;
 
 pub use assembling::addresses::line_addresses;
-pub use assembling::assembler::assemble;
+pub use assembling::assembler::{Source, assemble, assemble_source};
 pub use assembling::definitions::Definitions;
 pub use assembling::fault::{AsmFault, AsmFaultKind};
+pub use assembling::layout::Layout;
 pub use directive::Directive;
+pub use language::Language;
 pub use laws::meaning_laws::{
     codes_alike, finds_lowest_fault, means_first_fault, means_its_lines, takes_modes,
 };
@@ -40,6 +44,6 @@ pub use printing::line::{Line, put_line};
 pub use printing::remarks::Remarks;
 pub use reading::numeral::Numeral;
 pub use reading::whole_line::read_line;
-pub use source_line::{AddressSize, Datum, Form, Minus, Operation, SourceLine, Value};
+pub use source_line::{AddressSize, Datum, Form, Half, Minus, Operation, SourceLine, Value};
 pub use statement::{Expr, Operands, Statement, Target};
 pub use text65::first_line;

@@ -21,6 +21,17 @@ pub enum Value<'a> {
     Number(Numeral<'a>),
     /// A name, the number that is added to its value, and what is subtracted.
     Name(&'a [u8], Numeral<'a>, Minus),
+    /// The difference of two names. Only a repair has it.
+    Difference(&'a [u8], &'a [u8]),
+}
+
+/// Which byte of a word is meant.
+#[derive(Clone, Copy, Debug, PartialEq, Eq)]
+pub enum Half {
+    /// `<`: the low byte.
+    Low,
+    /// `>`: the high byte.
+    High,
 }
 
 /// Which size an operand's address has.
@@ -41,6 +52,8 @@ pub enum Form<'a> {
     Accumulator,
     /// `#E`.
     Immediate(Value<'a>),
+    /// `#<E` or `#>E`. Only a repair has it.
+    ImmediateHalf(Half, Value<'a>),
     /// `E` or `a:E`.
     Direct(AddressSize, Value<'a>),
     /// `E,x` or `a:E,x`.
@@ -64,6 +77,10 @@ pub enum Datum<'a> {
     Number(Numeral<'a>),
     /// The bytes between the quotes of a string.
     String(&'a [u8]),
+    /// An expression that is no number. Only a repair has it.
+    Value(Value<'a>),
+    /// `<E`, `>E`, or an expression of `.lobytes` or `.hibytes`. Only a repair has it.
+    Half(Half, Value<'a>),
 }
 
 /// An operation with its operands.
@@ -73,10 +90,12 @@ pub enum Operation<'a, A: Allocator = Global> {
     Nothing,
     /// An instruction.
     Instr(Mnemonic, Form<'a>),
-    /// `.byte` and its operands.
+    /// `.byte`, `.lobytes` or `.hibytes` and its operands.
     Data(Vec<Datum<'a>, A>),
     /// A directive that gives numbers, and its operands.
     Values(Directive, Vec<Value<'a>, A>),
+    /// `.res`, the number of bytes, and the value of each. Only a repair has it.
+    Reserve(Numeral<'a>, Numeral<'a>),
     /// `.segment` and the segment's name.
     Segment(&'a [u8]),
     /// `.code`.
@@ -88,7 +107,7 @@ pub enum Operation<'a, A: Allocator = Global> {
 /// What a line of source says.
 #[derive(Drop)]
 pub enum SourceLine<'a, A: Allocator = Global> {
-    /// `name := number`.
+    /// `name := number`, or `name = number` in a repair.
     Assignment(&'a [u8], Numeral<'a>),
     /// `name := * + number`.
     PlaceAssignment(&'a [u8], Numeral<'a>),

@@ -1,10 +1,11 @@
 -- The first line of a text, and the rest.
-use Rattle.std.proofs.Common.{◌≡◌, ℕ, suc, Bool, ◌+◌, ◌-◌, ◌<◌, ◌≤◌, List, [], ◌∷◌, length, take, drop, refl, ap, ◌∙◌, arith, inl, inr}
+use Rattle.std.proofs.Common.{◌≡◌, ℕ, suc, Bool, ◌+◌, ◌-◌, ◌<◌, ◌≤◌, List, [], ◌∷◌, length, take, drop, refl, ap, ◌∙◌, arith, inl, inr, sym, get_or, true, false}
 use Rattle.std.specs.Prelude.{not, ◌==◌}
 use Rattle.std.specs.List.{prefix_len}
-use Rattle.std.proofs.lemmas.Bool.{cases_Bool}
+use Rattle.std.proofs.lemmas.Bool.{cases_Bool, false_from_ne_true}
 use Rattle.std.proofs.lemmas.List.{take_rest, take_all, drop_all, length-drop}
-use Rattle.std.proofs.lemmas.List.Sums.{prefix_len-le-length}
+use Rattle.std.proofs.lemmas.List.Sums.{prefix_len-le-length, prefix_len_is}
+use Rattle.memchr.specs.Find.{Nowhere, NoneBefore, Passes, is_byte}
 use Rattle.text65.specs.Lines.{text_lines, onto_first}
 
 abbrev pub in_line : ℕ → Bool
@@ -49,3 +50,19 @@ first_is_last text len e le lt =
     (first_of text lt ∙ rw (take_all (prefix_len in_line text) text (omega arith), drop_all (prefix_len in_line text + 1) text (omega arith)) refl, lt)
 
 pub ruleset first_lines = (first_is_none, first_is_cut, first_is_last)
+
+-- the first line ends at the first line feed, and with the text if there is none
+in_line_not : (b : ℕ) → ((b == 10) ≡ true → ⊥) → in_line b ≡ true
+in_line_not b other = rw (false_from_ne_true (b == 10) other) refl
+
+in_line_feed : (b : ℕ) → (b == 10) ≡ true → in_line b ≡ false
+in_line_feed b is = rw is refl
+
+pub no_feed : (text : List ℕ) → Nowhere (Passes (is_byte 10) text) 0 (length text) → length text ≡ prefix_len in_line text
+no_feed text none = sym (prefix_len_is in_line text (length text) 0 (omega arith) (λ k lt. in_line_not (get_or text k 0) (none k (omega arith) lt)) (λ lt. absurd (omega arith)))
+
+pub at_feed : (text : List ℕ) (len : ℕ) → NoneBefore (Passes (is_byte 10) text) 0 (length text) len → Passes (is_byte 10) text len → len ≡ prefix_len in_line text
+at_feed text len first here =
+    sym (prefix_len_is in_line text len 0 (omega arith) (λ k lt. in_line_not (get_or text k 0) (first.before k (omega arith) lt)) (λ _. in_line_feed (get_or text len 0) here))
+
+pub ruleset line_lens = (no_feed, at_feed)

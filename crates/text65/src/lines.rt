@@ -4,6 +4,8 @@ ghost use Rattle.std.specs.Prelude.{◌≡◌, ◌<◌, ◌≤◌, ◌+◌, ◌�
 ghost use Rattle.std.specs.List.{prefix_len};
 ghost use Rattle.text65.specs.Lines.{text_lines};
 
+use memchr::memchr;
+
 /// The first line without its line feed, and the text after it. A last line may lack the line feed.
 #[tactic(auto, using(crate::proofs::LineLaws::first_lines))]
 pub fn first_line(text: &[u8]) -> Option<(&[u8], &[u8])>
@@ -20,9 +22,14 @@ pub fn first_line(text: &[u8]) -> Option<(&[u8], &[u8])>
     Some((text, &[]))
 }
 
+// How many bytes stand before the first line feed.
+#[tactic(auto, using(crate::proofs::LineLaws::line_lens))]
 fn line_len(text: &[u8]) -> usize
     ensures value { result ≡ prefix_len (λ b. not (b == 10)) text.now }
     ensures fits { result ≤ length text.now }
 {
-    text.iter().take_while(|b| !(**b == b'\n')).count()
+    match memchr(b'\n', text) {
+        Some(len) => len,
+        None => text.len(),
+    }
 }

@@ -14,10 +14,13 @@ use Rattle.text65.specs.Names.{has_name_form, is_word_byte}
 use Rattle.info65.proofs.Public.{last_name}
 use Rattle.info65.specs.Names.{AreNames, blank_name, covering, name_at}
 use Rattle.info65.specs.Views.{NameView}
+use Rattle.info65.specs.declared.tags.tag.Tag.{Tag}
+use Rattle.trace65.specs.Said.{has_after}
+use Rattle.map65.specs.ImageView.{ImageView, end_of}
 use Rattle.map65.specs.MapView.{MapView}
 use Rattle.reach65.specs.TextLaws.{AreLines, is_line}
 use Rattle.reach65.specs.declared.pairs.Pair.{Pair}
-use Rattle.trace65.specs.PairComments.{name_text, offset_text, pair_comment, pair_comments}
+use Rattle.trace65.specs.PairComments.{after_comments, name_text, new_after, offset_text, pair_comment, pair_comments}
 use Rattle.trace65.specs.Picture.{cell_at, cell_character, counts_comment, part, picture_comments, row_at, row_comment, set_count}
 
 abbrev in_line : ℕ → Bool
@@ -93,12 +96,35 @@ unfolding pair_comment
 pair-line m p are =
     let name = name_text (covering m.info.names p.address) p.address in
     let address = joined (digits4 p.address) name (hex4-line p.address) (name-line m.info.names are p.address (covering m.info.names p.address) refl) in
-    let high = joined (digits4 p.high) (codes ": $" ++ (digits4 p.address ++ name)) (hex4-line p.high) address in
-    joined (digits4 p.low) (codes ", high byte at $" ++ (digits4 p.high ++ (codes ": $" ++ (digits4 p.address ++ name)))) (hex4-line p.low) high
+    let high = joined (digits4 p.high) (codes "; }; # $" ++ (digits4 p.address ++ name)) (hex4-line p.high) address in
+    joined (digits4 p.low) (codes "; HIGH $" ++ (digits4 p.high ++ (codes "; }; # $" ++ (digits4 p.address ++ name)))) (hex4-line p.low) high
 
-pub pair-lines : (m : MapView) (pairs : List Pair) → AreNames m.info.names → AreLines (pair_comments m pairs)
+pair-lines : (m : MapView) (pairs : List Pair) → AreNames m.info.names → AreLines (pair_comments m pairs)
 pair-lines m [] are = tt
 pair-lines m (p ∷ ps) are = (pair-line m p are, pair-lines m ps are)
+
+lines-joined : (ls ms : List (List ℕ)) → AreLines ls → AreLines ms → AreLines (ls ++ ms)
+lines-joined [] ms first second = second
+lines-joined (l ∷ ls) ms first second = (first.0, lines-joined ls ms first.1 second)
+
+after-lines : (image : ImageView) (last : ℕ) → AreLines (after_comments image last)
+unfolding after_comments
+after-lines image last = by_test (nat_le (end_of image) last)
+  where
+    by_test : (x : Bool) → AreLines (if x then (codes ": AFTER { START $" ++ digits4 (end_of image) ++ codes "; END $" ++ digits4 last ++ codes "; };") ∷ [] else [])
+    by_test true = (joined (digits4 (end_of image)) (codes "; END $" ++ (digits4 last ++ codes "; };")) (hex4-line (end_of image)) (joined (digits4 last) (codes "; };") (hex4-line last) refl), tt)
+    by_test false = tt
+
+new-lines : (tags : List Tag) (image : ImageView) (last : ℕ) → AreLines (new_after tags image last)
+unfolding new_after
+new-lines tags image last = by_test (has_after tags)
+  where
+    by_test : (x : Bool) → AreLines (if x then [] else after_comments image last)
+    by_test true = tt
+    by_test false = after-lines image last
+
+pub found-lines : (m : MapView) (tags : List Tag) (pairs : List Pair) (last : ℕ) → AreNames m.info.names → AreLines (pair_comments m pairs ++ new_after tags m.image last)
+found-lines m tags pairs last are = lines-joined (pair_comments m pairs) (new_after tags m.image last) (pair-lines m pairs are) (new-lines tags m.image last)
 
 cell-line : (code taken : List Bool) → in_line (cell_character code taken) ≡ true
 unfolding cell_character

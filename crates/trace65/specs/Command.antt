@@ -8,14 +8,17 @@ abbrev pub new_file_choice : ChoiceView
 new_file_choice = record output_choice { purpose = codes "output file, which must not be there yet" }
 
 abbrev pub entry_choice : ChoiceView
-entry_choice = record { id = codes "entry"; short = None; long = Some (codes "entry"); value = Some (codes "addr[,addr..]"); purpose = codes "entries of code" }
+entry_choice = record { id = codes "entry"; short = None; long = Some (codes "entry"); value = Some (codes "addr[,addr..]"); purpose = codes "further entries of code" }
+
+abbrev pub plain_choice : ChoiceView
+plain_choice = record { id = codes "plain"; short = None; long = Some (codes "plain"); value = None; purpose = codes "follow no more than the entries" }
 
 -- the usage line, the options in the order of the help text, and an optional image
 abbrev pub this_program : ProgramView
 this_program = record {
   name = codes "trace65";
   usage = codes "Usage: trace65 [options] [image]";
-  choices = info_choice ∷ new_file_choice ∷ start_choice ∷ cpu_choice ∷ entry_choice ∷ help_choice ∷ version_choice ∷ [];
+  choices = info_choice ∷ new_file_choice ∷ start_choice ∷ cpu_choice ∷ entry_choice ∷ plain_choice ∷ help_choice ∷ version_choice ∷ [];
   input = codes "image";
 }
 

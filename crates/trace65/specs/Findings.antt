@@ -1,27 +1,74 @@
 -- What is found of an image.
-use Rattle.std.specs.Prelude.{◌≡◌, ℕ, Bool, List}
+use Rattle.std.specs.Prelude.{◌≡◌, ◌++◌, ◌||◌, ℕ, Bool, true, false, List}
 use Rattle.info65.specs.declared.information.range.RangeSpec.{RangeSpec}
+use Rattle.info65.specs.declared.tags.tag.Tag.{Tag}
+use Rattle.map65.specs.ImageView.{ImageView}
 use Rattle.map65.specs.MapView.{MapView}
-use Rattle.reach65.specs.Entries.{entries_of}
+use Rattle.reach65.specs.Entries.{entries_of, plain_entries_of}
+use Rattle.reach65.specs.Growth.{AreFollowed}
+use Rattle.reach65.specs.Halves.{AreHalves, CodeMarks}
+use Rattle.reach65.specs.Labels.{AreNewLabels, labels_of}
 use Rattle.reach65.specs.Pairs.{pairs_of}
 use Rattle.reach65.specs.Pieces.{ArePieces}
-use Rattle.reach65.specs.Reached.{AreReached}
+use Rattle.reach65.specs.Reached.{AreReached, is_marked}
+use Rattle.reach65.specs.Routines.{is_called, is_gone_on}
+use Rattle.reach65.specs.Rows.{AreRows, is_of_table}
+use Rattle.reach65.specs.Said.{is_said}
 use Rattle.reach65.specs.Taken.{AreMarkedBy, is_code, is_taken}
+use Rattle.reach65.specs.Variables.{is_operand, variables_of}
+use Rattle.reach65.specs.Vectors.{is_of_vector}
 use Rattle.reach65.specs.declared.pairs.Pair.{Pair}
+use Rattle.trace65.specs.Said.{entries_said}
 
--- Marks, one for each address: where a reached instruction begins, what it has, and what that or a range of the information file has. And
--- what is proposed: ranges, and pairs of halves.
+-- Marks, one for each address: where a reached instruction begins, what it has, what it goes on to and calls, what it has as its operand, what that or
+-- a range of the information file has, and what words that are addresses have. And what is proposed: ranges, pairs of halves, variables right after the image, and labels.
 pub record Findings : Type 0 where
   pub reached : List Bool
   pub code : List Bool
+  pub gone_on : List Bool
+  pub called : List Bool
+  pub operands : List Bool
   pub taken : List Bool
+  pub words : List Bool
   pub ranges : List RangeSpec
   pub pairs : List Pair
+  pub variables : List ℕ
+  pub labels : List ℕ
 
--- what is found from the entries that are given and those of the information file and the image
-pub record AreFindings (m : MapView) (given : List ℕ) (f : Findings) : Type 0 where
-  pub reached : AreReached m (entries_of m given) f.reached
+abbrev pub code_marks : Findings → CodeMarks
+code_marks f = record { reached = f.reached; code = f.code; gone_on = f.gone_on; called = f.called }
+
+-- What is marked: what is reached from the entries and from sound beginnings; or, if no more is to be followed, from the entries and
+-- what tables refer to.
+abbrev pub AreTraced : MapView → List ℕ → Bool → List Bool → Type 0
+AreTraced m given true marks = AreReached m (plain_entries_of m given) marks
+AreTraced m given false marks = AreFollowed m (entries_of m given) marks
+
+-- which of these pairs are an address, if no byte is taken that a group HALVES has
+pub record ArePairs (tags : List Tag) (marks : CodeMarks) (pairs found : List Pair) : Type 0 where
+  pub used : List Bool
+  pub said : AreMarkedBy (is_said tags) used
+  pub halves : AreHalves marks used pairs found
+
+-- The words that are addresses: vectors that led to code, and rows of words beside them that are addresses of routines.
+pub record AreWordMarks (image : ImageView) (code : CodeMarks) (taken words : List Bool) : Type 0 where
+  pub vectors : List Bool
+  pub of_vectors : AreMarkedBy (is_of_vector image code.reached taken) vectors
+  pub rows : List RangeSpec
+  pub are_rows : AreRows (record { within = record { image = image; taken = taken; words = vectors }; code = code }) 0 rows
+  pub each : AreMarkedBy (λ a. is_marked vectors a || is_of_table rows a) words
+
+-- what is found from the entries that are given and those of the information file and the image, beside what its groups `#: ..` say
+pub record AreFindings (m : MapView) (given : List ℕ) (plain : Bool) (tags : List Tag) (f : Findings) : Type 0 where
+  pub reached : AreTraced m (given ++ entries_said tags) plain f.reached
   pub code : AreMarkedBy (is_code m f.reached) f.code
+  pub gone_on : AreMarkedBy (is_gone_on m f.reached) f.gone_on
+  pub called : AreMarkedBy (is_called m f.reached) f.called
+  pub operands : AreMarkedBy (is_operand m f.reached) f.operands
   pub taken : AreMarkedBy (is_taken m f.reached) f.taken
-  pub ranges : ArePieces (record { image = m.image; taken = f.taken }) 0 f.ranges
-  pub pairs : f.pairs ≡ pairs_of m f.reached
+  pub words : AreWordMarks m.image (code_marks f) f.taken f.words
+  pub ranges : ArePieces (record { image = m.image; taken = f.taken; words = f.words }) 0 f.ranges
+  pub pairs : ArePairs tags (code_marks f) (pairs_of m f.reached) f.pairs
+  pub variables : f.variables ≡ variables_of m.image f.operands
+  pub labels : f.labels ≡ labels_of m.info.names f.pairs f.variables
+  pub new : AreNewLabels m.info.names 0 f.labels

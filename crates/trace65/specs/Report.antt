@@ -3,11 +3,13 @@ use Rattle.std.specs.Prelude.{◌≡◌, ◌≤◌, ℕ, Bool, Ok, List, [], ◌
 use Rattle.info65.specs.Reader.{information}
 use Rattle.info65.specs.Views.{InfoView, OptionsView}
 use Rattle.info65.specs.declared.information.range.RangeSpec.{RangeSpec}
+use Rattle.info65.specs.declared.tags.tag.Tag.{Tag}
 use Rattle.map65.specs.MapView.{MapView}
 use Rattle.reach65.specs.RangeLines.{range_lines}
-use Rattle.reach65.specs.TextLaws.{comment_line}
+use Rattle.reach65.specs.Labels.{label_lines}
+use Rattle.reach65.specs.TextLaws.{AreAmong, comment_line, with_found}
 use Rattle.trace65.specs.Findings.{AreFindings, Findings}
-use Rattle.trace65.specs.PairComments.{pair_comments}
+use Rattle.trace65.specs.PairComments.{last_wanted, new_after, pair_comments}
 use Rattle.trace65.specs.Picture.{counts_comment, image_marks, picture_comments}
 
 -- what the characters of the picture stand for
@@ -21,21 +23,26 @@ legend_more = codes " r in a range of the information file, . neither"
 abbrev pub picture_and_counts : ℕ → List Bool → List Bool → List (List ℕ)
 picture_and_counts start code taken = legend_more ∷ (picture_comments start code taken ++ counts_comment code taken ∷ [])
 
--- The picture and the counts as comments, a line for each range that is proposed, and a comment for each pair.
-unfoldable pub report_text : MapView → Findings → List ℕ
-report_text m f =
+-- a comment for each pair, and one for what lies after the image
+abbrev pub found_comments : MapView → List Tag → Findings → List (List ℕ)
+found_comments m tags f = pair_comments m f.pairs ++ new_after tags m.image (last_wanted f.pairs f.variables)
+
+-- The picture and the counts as comments, a line for each range that is proposed and for each label, and the comments `#: ..`.
+unfoldable pub report_text : MapView → List Tag → Findings → List ℕ
+report_text m tags f =
     (comment_line legend ++ flat_map comment_line (picture_and_counts m.image.start (image_marks m.image f.code) (image_marks m.image f.taken)))
-    ++ (range_lines m.image f.ranges ++ flat_map comment_line (pair_comments m f.pairs))
+    ++ (range_lines m.image f.ranges ++ (label_lines f.labels ++ flat_map comment_line (found_comments m tags f)))
 
--- After an information file that is accepted, and that has the ranges of the map, the text is accepted, and adds these ranges.
-abbrev pub IsAccepted : MapView → List RangeSpec → List ℕ → Type 0
-IsAccepted m ranges text = (o : OptionsView) (file : List ℕ) (info : InfoView)
-    → information o file ≡ Ok info → m.info.ranges ≡ info.ranges → length (file ++ text) ≤ 1_048_576
-    → information o (file ++ text) ≡ Ok (record info { ranges = info.ranges ++ ranges })
+-- After an information file that is accepted, and that has the ranges of the map and of its names, the text is accepted, and adds these ranges, and
+-- labels with default names at these addresses.
+abbrev pub IsAccepted : MapView → List RangeSpec → List ℕ → List ℕ → Type 0
+IsAccepted m ranges labels text = (o : OptionsView) (file : List ℕ) (info : InfoView)
+    → information o file ≡ Ok info → m.info.ranges ≡ info.ranges → AreAmong info.names m.info.names → length (file ++ text) ≤ 1_048_576
+    → information o (file ++ text) ≡ Ok (with_found info ranges labels)
 
--- the text of what is found in an image
-pub record IsReport (m : MapView) (given : List ℕ) (text : List ℕ) : Type 0 where
+-- the text of what is found in an image, beside what the groups `#: ..` of the file say
+pub record IsReport (m : MapView) (given : List ℕ) (plain : Bool) (tags : List Tag) (text : List ℕ) : Type 0 where
   pub found : Findings
-  pub are : AreFindings m given found
-  pub lines : text ≡ report_text m found
-  pub accepted : IsAccepted m found.ranges text
+  pub are : AreFindings m given plain tags found
+  pub lines : text ≡ report_text m tags found
+  pub accepted : IsAccepted m found.ranges found.labels text

@@ -7,7 +7,7 @@ ghost use Rattle.trace65.specs.Command.{this_program};
 use usage65::{CPU, Choice, HELP, INFO, OUTPUT, Program, START, VERSION};
 
 /// The options, in the order of the help text.
-static CHOICES: [Choice<'static>; 7] = [
+static CHOICES: [Choice<'static>; 8] = [
     INFO,
     Choice {
         purpose: "output file, which must not be there yet",
@@ -20,7 +20,14 @@ static CHOICES: [Choice<'static>; 7] = [
         short: None,
         long: Some("entry"),
         value: Some("addr[,addr..]"),
-        purpose: "entries of code",
+        purpose: "further entries of code",
+    },
+    Choice {
+        id: "plain",
+        short: None,
+        long: Some("plain"),
+        value: None,
+        purpose: "follow no more than the entries",
     },
     HELP,
     VERSION,

@@ -4,7 +4,7 @@ ghost use Rattle.std.specs.Prelude.{◌≡◌, ◌≢◌};
 
 use crate::failure::Failure;
 use files65::{FileFault, INFORMATION_LIMIT, Input, needed_contents};
-use info65::{Info, InfoFault, InfoFaultKind, Options, read_include, read_info};
+use info65::{Info, InfoFault, InfoFaultKind, Options, Tag, read_include, read_info, read_tags};
 use map65::{Image, read_image};
 
 /// The failure for a fault of a file: this one, unless memory ran out.
@@ -32,13 +32,28 @@ fn add_include(rt: &HostRuntime, info: &mut Info, index: usize) -> Result<(), Fa
     }
 }
 
-/// What the information file says under the options, with the names of its include files.
-pub fn information(rt: &HostRuntime, options: &Options) -> Result<Info, Failure> {
-    let bytes = match &options.info {
-        Some(name) => needed_contents(rt, name.as_str(), INFORMATION_LIMIT)?,
-        None => Vec::new(rt.alloc()),
-    };
-    let mut info = match read_info(rt.alloc(), options, &bytes) {
+/// The bytes of the information file; without one there are none.
+pub fn contents(rt: &HostRuntime, options: &Options) -> Result<Vec<u8>, Failure> {
+    match &options.info {
+        Some(name) => Ok(needed_contents(rt, name.as_str(), INFORMATION_LIMIT)?),
+        None => Ok(Vec::new(rt.alloc())),
+    }
+}
+
+/// The groups of the lines `#: ..` of an information file that is not too large.
+pub fn tags(rt: &HostRuntime, bytes: &[u8]) -> Result<Vec<Tag>, Failure> {
+    if bytes.len() > 1_048_576 {
+        return Ok(Vec::new(rt.alloc()));
+    }
+    match read_tags(rt.alloc(), bytes) {
+        Ok(tags) => Ok(tags),
+        Err(fault) => Err(failure_of(fault, Failure::Info(fault))),
+    }
+}
+
+/// What the information file of these bytes says under the options, with the names of its include files.
+pub fn information(rt: &HostRuntime, options: &Options, bytes: &[u8]) -> Result<Info, Failure> {
+    let mut info = match read_info(rt.alloc(), options, bytes) {
         Ok(info) => info,
         Err(fault) => return Err(failure_of(fault, Failure::Info(fault))),
     };

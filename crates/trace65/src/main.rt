@@ -2,7 +2,8 @@
 //!
 //! In order: the options, then help or version, the information file, its include files, the image, what is found, and
 //! the output, which is created only now. The output is text of an information file: a picture of the image as comments, a range
-//! for each stretch of bytes that nothing speaks for, and a comment for each address that code loads in halves. The status is
+//! for each stretch of bytes that nothing speaks for, labels, and lines `#: ..` for addresses that code loads in halves and for
+//! what lies after the image. The status is
 //! 0 if the text, the help text or the version was written, otherwise 1.
 #![tactic(auto)]
 
@@ -10,18 +11,20 @@ mod command;
 mod digits;
 mod failure;
 mod information;
+mod labels;
 mod pair_comments;
 mod part;
 mod picture;
 mod ranges;
 mod report;
 mod request;
+mod said;
 
 use command::this_program;
 use failure::Failure;
 use files65::{FileFault, Placeholders};
-use info65::Info;
-use information::{image, information};
+use info65::{Info, Tag};
+use information::{contents, image, information, tags};
 use map65::Map;
 use report::report;
 use request::{Request, Tracing, request_of};
@@ -44,17 +47,25 @@ fn write<W: Write + Drop>(mut out: W, text: &[u8]) -> Result<(), Failure> {
     }
 }
 
-/// The text of what is found in the image, from these entries and those of the information file.
-fn found_text(rt: &HostRuntime, info: &Info, entries: &[u16]) -> Result<Vec<u8>, Failure> {
+/// The text of what is found in the image, from these entries and those of the information file; `plain` says that no more is followed.
+fn found_text(
+    rt: &HostRuntime,
+    info: &Info,
+    entries: &[u16],
+    plain: bool,
+    tags: &[Tag],
+) -> Result<Vec<u8>, Failure> {
     let image = image(rt, info)?;
     let map = Map::build(rt.alloc(), info, &image)?;
-    Ok(report(rt.alloc(), &map, entries)?)
+    Ok(report(rt.alloc(), &map, entries, plain, tags)?)
 }
 
 /// The text of what is found under what the information file says.
 fn traced_text(rt: &HostRuntime, tracing: &Tracing) -> Result<Vec<u8>, Failure> {
-    let info = information(rt, &tracing.options)?;
-    found_text(rt, &info, tracing.entries.as_slice())
+    let bytes = contents(rt, &tracing.options)?;
+    let info = information(rt, &tracing.options, &bytes)?;
+    let tags = tags(rt, &bytes)?;
+    found_text(rt, &info, tracing.entries.as_slice(), tracing.plain, &tags)
 }
 
 /// Creates the output and writes the text on it. It must not be there yet, so that no input is written over, whatever its name.

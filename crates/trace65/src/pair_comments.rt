@@ -1,13 +1,15 @@
-//! The comments for addresses that code loads in halves.
+//! The lines `#: ..`: for addresses that code loads in halves, and for what lies after the image.
 
 ghost use Rattle.std.specs.Prelude.{◌≡◌, ◌++◌, OnOk, flat_map, option_map};
+ghost use Rattle.std.specs.List.{fold};
 ghost use Rattle.info65.specs.Code.Names.{given_seen};
 ghost use Rattle.reach65.specs.TextLaws.{comment_line};
-ghost use Rattle.trace65.specs.PairComments.{name_text, offset_text, pair_comment, pair_comments};
+ghost use Rattle.trace65.specs.PairComments.{after_comments, greater, last_wanted, name_text, new_after, offset_text, pair_comment, pair_comments};
 
 use crate::digits::{put_address, put_decimal};
-use info65::Given;
-use map65::Map;
+use crate::said::has_after;
+use info65::{Given, Tag};
+use map65::{Image, Map};
 use reach65::Pair;
 use std::alloc::AllocError;
 
@@ -40,9 +42,9 @@ fn put_name(out: &mut Vec<u8>, name: Option<Given<'_>>, address: u16) -> Result<
 fn put_pair(out: &mut Vec<u8>, map: &Map<'_>, pair: Pair) -> Result<(), AllocError>
     ensures { OnOk result (out.new.items ≡ out.old.items ++ comment_line (pair_comment map.now pair)) }
 {
-    put_address(out, b"# low byte at $", pair.low)?;
-    put_address(out, b", high byte at $", pair.high)?;
-    put_address(out, b": $", pair.address)?;
+    put_address(out, b"#: HALVES { LOW $", pair.low)?;
+    put_address(out, b"; HIGH $", pair.high)?;
+    put_address(out, b"; }; # $", pair.address)?;
     put_name(out, map.info().covering(pair.address), pair.address)?;
     out.extend_from_slice(b"\n")
 }
@@ -55,4 +57,73 @@ pub fn put_pairs(out: &mut Vec<u8>, map: &Map<'_>, pairs: &[Pair]) -> Result<(),
         put_pair(out, map, pair)?;
     }
     Ok(())
+}
+
+/// The greatest of an address and these.
+fn last_of(first: u16, addresses: &[u16]) -> u16
+    ensures { result ≡ fold greater first addresses.now }
+{
+    let mut last = first;
+    'addresses: for &address in addresses {
+        last = greater(last, address);
+    }
+    last
+}
+
+/// The greatest of an address and those that these pairs form.
+fn last_formed(first: u16, pairs: &[Pair]) -> u16
+    ensures { result ≡ fold (λ last p. greater last p.address) first pairs.now }
+{
+    let mut last = first;
+    'formed: for &pair in pairs {
+        last = greater(last, pair.address);
+    }
+    last
+}
+
+/// The greater of two addresses.
+fn greater(one: u16, other: u16) -> u16
+    ensures { result ≡ greater one other }
+{
+    if one < other { other } else { one }
+}
+
+/// The greatest address of the pairs and the variables.
+#[tactic(auto, unfolding(crate::specs::PairComments::last_wanted))]
+fn last_wanted(pairs: &[Pair], variables: &[u16]) -> u16
+    ensures { result ≡ last_wanted pairs.now variables.now }
+{
+    last_formed(last_of(0, variables), pairs)
+}
+
+/// Appends the line of what lies after the image, up to an address, if that lies there.
+#[tactic(auto, unfolding(crate::specs::PairComments::after_comments))]
+fn put_after_to(out: &mut Vec<u8>, image: &Image, last: u16) -> Result<(), AllocError>
+    ensures { OnOk result (out.new.items ≡ out.old.items ++ flat_map comment_line (after_comments image.now last)) }
+{
+    let end = usize::from(image.start()) + image.bytes().len();
+    if usize::from(last) < end {
+        return Ok(());
+    }
+    put_address(out, b"#: AFTER { START $", end as u16)?;
+    put_address(out, b"; END $", last)?;
+    out.extend_from_slice(b"; };\n")
+}
+
+/// Appends the line of what lies after the image, up to the greatest address of the pairs and the variables, if one lies there, and unless the
+/// file says it.
+#[tactic(auto, unfolding(crate::specs::PairComments::new_after))]
+pub fn put_after(
+    out: &mut Vec<u8>,
+    image: &Image,
+    tags: &[Tag],
+    pairs: &[Pair],
+    variables: &[u16],
+) -> Result<(), AllocError>
+    ensures { OnOk result (out.new.items ≡ out.old.items ++ flat_map comment_line (new_after tags.now image.now (last_wanted pairs.now variables.now))) }
+{
+    if has_after(tags) {
+        return Ok(());
+    }
+    put_after_to(out, image, last_wanted(pairs, variables))
 }

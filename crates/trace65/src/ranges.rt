@@ -62,6 +62,7 @@ fn type_text(role: RangeType) -> &'static str
 {
     match role {
         RangeType::TextTable => "TextTable",
+        RangeType::AddrTable => "AddrTable",
         _ => "ByteTable",
     }
 }

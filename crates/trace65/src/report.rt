@@ -1,32 +1,43 @@
 //! What is found of an image, as text of an information file.
 
 ghost use Rattle.std.specs.Prelude.{◌≡◌, ◌+◌, ◌++◌, ◌≤◌, IfOk, OnOk, flat_map, length};
-ghost use Rattle.reach65.specs.Entries.{entries_of};
+ghost use Rattle.reach65.specs.Pairs.{pairs_of};
 ghost use Rattle.reach65.specs.Pieces.{LieIn};
-ghost use Rattle.reach65.specs.Reached.{AreReached};
 ghost use Rattle.reach65.specs.TextLaws.{comment_line};
-ghost use Rattle.trace65.specs.Findings.{AreFindings};
-ghost use Rattle.trace65.specs.Report.{IsReport, legend, legend_more, picture_and_counts, report_text};
+ghost use Rattle.trace65.specs.Findings.{AreFindings, ArePairs, AreTraced, AreWordMarks};
+ghost use Rattle.trace65.specs.Report.{IsReport, found_comments, legend, legend_more, picture_and_counts, report_text};
 
-use crate::pair_comments::put_pairs;
+use crate::labels::put_labels;
+use crate::pair_comments::{put_after, put_pairs};
 use crate::picture::{image_marks, put_counts, put_picture};
 use crate::ranges::put_ranges;
-use info65::RangeSpec;
-use map65::Map;
+use crate::said::all_entries;
+use info65::{RangeSpec, Tag};
+use map65::{Image, Map};
 use reach65::laws::text_law;
-use reach65::{Flow, Ground, Pair, entries_of, mark_instructions, mark_taken, pairs_of, reached};
+use reach65::{
+    CodeMarks, Flow, Ground, Pair, Words, entries_of, follow, halves_of, labels_of, mark_called,
+    mark_gone_on, mark_instructions, mark_operands, mark_said, mark_tables, mark_taken,
+    mark_vectors, pairs_of, plain_entries_of, reached, variables_of,
+};
 use std::alloc::{AllocError, Global};
 use std::marker::Model;
 
-/// What is found of an image: marks of where reached instructions begin, of what they have, and of what they or ranges of the
-/// information file have; and the ranges and the pairs of halves that are proposed.
+/// What is found of an image: marks of where reached instructions begin, of what they have, go on to, call and have as operands, of what they or
+/// ranges of the information file have, and of words that are addresses; and the ranges, the pairs of halves, the variables and the labels that are proposed.
 #[derive(Drop)]
 struct Findings {
     reached: Vec<bool>,
     code: Vec<bool>,
+    gone_on: Vec<bool>,
+    called: Vec<bool>,
+    operands: Vec<bool>,
     taken: Vec<bool>,
+    words: Vec<bool>,
     ranges: Vec<RangeSpec>,
     pairs: Vec<Pair>,
+    variables: Vec<u16>,
+    labels: Vec<u16>,
 }
 
 impl Model for Findings {
@@ -34,38 +45,110 @@ impl Model for Findings {
 
     ghost Value = { Findings };
 
-    ghost view = { λ f. record { reached = f.reached.items; code = f.code.items; taken = f.taken.items; ranges = f.ranges.items; pairs = f.pairs.items } };
+    ghost view = { λ f. record {
+      reached = f.reached.items;
+      code = f.code.items;
+      gone_on = f.gone_on.items;
+      called = f.called.items;
+      operands = f.operands.items;
+      taken = f.taken.items;
+      words = f.words.items;
+      ranges = f.ranges.items;
+      pairs = f.pairs.items;
+      variables = f.variables.items;
+      labels = f.labels.items;
+    } };
 }
 
-/// Marks of where the instructions begin that are reached from the entries that are given and those of the information file and the image.
+/// Marks of where the instructions begin that are reached from the entries that are given and those of the information file and the
+/// image, and, unless it is to be plain, from sound beginnings.
 fn reached_from(
     alloc: Global,
-    map: &Map<'_>,
     flow: &Flow<'_, '_>,
     given: &[u16],
+    plain: bool,
 ) -> Result<Vec<bool>, AllocError>
-    ensures { IfOk result (λ marks. AreReached flow.now (entries_of map.now given.now) marks.items) }
+    ensures { IfOk result (λ marks. AreTraced flow.now given.now plain marks.items) }
 {
-    reached(alloc, flow, &entries_of(alloc, map, given)?)
+    let map = flow.map();
+    if plain {
+        return reached(alloc, flow, &plain_entries_of(alloc, map, given)?);
+    }
+    Ok(follow(alloc, flow, &entries_of(alloc, map, given)?)?.into_marks())
+}
+
+/// The pairs of halves that are an address, beside those that the groups `#: ..` of the file have.
+fn halves(
+    alloc: Global,
+    flow: &Flow<'_, '_>,
+    reached: &[bool],
+    marks: &CodeMarks<'_>,
+    tags: &[Tag],
+) -> Result<Vec<Pair>, AllocError>
+    requires { length reached.now ≡ 65536 }
+    ensures { IfOk result (λ found. ArePairs tags.now marks.now (pairs_of flow.now reached.now) found.items) }
+{
+    let used = mark_said(alloc, tags)?;
+    let pairs = pairs_of(alloc, flow, reached)?;
+    let found = halves_of(alloc, marks, used, &pairs)?;
+    Ok(found)
+}
+
+/// Marks of the words that are addresses: of vectors that led to code, and of rows of words that are addresses of routines.
+fn word_marks(
+    alloc: Global,
+    image: &Image,
+    code: &CodeMarks<'_>,
+    reached: &[bool],
+    taken: &[bool],
+) -> Result<Vec<bool>, AllocError>
+    requires reached { length reached.now ≡ 65536 }
+    requires taken { length taken.now ≡ 65536 }
+    requires same { code.now.reached ≡ reached.now }
+    ensures { IfOk result (λ words. AreWordMarks image.now code.now taken.now words.items) }
+{
+    let mut words = mark_vectors(alloc, image, reached, taken)?;
+    let rows = Words::new(Ground::new(image, taken, &words), code).rows(alloc)?;
+    mark_tables(words.as_mut_slice(), &rows);
+    Ok(words)
 }
 
 /// What is found from the entries that are given and those of the information file and the image.
-fn search_image(alloc: Global, map: &Map<'_>, given: &[u16]) -> Result<Findings, AllocError>
-    ensures found { IfOk result (λ f. AreFindings map.now given.now f) }
+fn search_image(
+    alloc: Global,
+    map: &Map<'_>,
+    given: &[u16],
+    plain: bool,
+    tags: &[Tag],
+) -> Result<Findings, AllocError>
+    ensures found { IfOk result (λ f. AreFindings map.now given.now plain tags.now f) }
     ensures inside { IfOk result (λ f. LieIn map.now.image f.ranges) }
 {
     let flow = Flow::new(map);
-    let reached = reached_from(alloc, map, &flow, given)?;
+    let reached = reached_from(alloc, &flow, &all_entries(alloc, given, tags)?, plain)?;
     let code = mark_instructions(alloc, &flow, &reached)?;
+    let gone_on = mark_gone_on(alloc, &flow, &reached)?;
+    let called = mark_called(alloc, &flow, &reached)?;
+    let operands = mark_operands(alloc, &flow, &reached)?;
     let taken = mark_taken(alloc, &flow, &reached)?;
-    let ranges = Ground::new(map.image(), &taken).pieces(alloc)?;
-    let pairs = pairs_of(alloc, &flow, &reached)?;
+    let marks = CodeMarks::new(&reached, &code, &gone_on, &called);
+    let words = word_marks(alloc, map.image(), &marks, &reached, &taken)?;
+    let ranges = Ground::new(map.image(), &taken, &words).pieces(alloc)?;
+    let pairs = halves(alloc, &flow, &reached, &marks, tags)?;
+    let variables = variables_of(alloc, map.image(), &operands)?;
+    let labels = labels_of(alloc, map.info(), &pairs, &variables)?;
     Ok(Findings {
         reached,
         code,
+        gone_on,
+        called,
+        operands,
         taken,
+        words,
         ranges,
         pairs,
+        variables,
+        labels,
     })
 }
 
@@ -92,29 +175,55 @@ fn put_picture_and_counts(
     put_counts(out, code, taken)
 }
 
+/// Appends the lines `#: ..`.
+fn put_comments(
+    out: &mut Vec<u8>,
+    map: &Map<'_>,
+    tags: &[Tag],
+    found: &Findings,
+) -> Result<(), AllocError>
+    ensures { OnOk result (out.new.items ≡ out.old.items ++ flat_map comment_line (found_comments map.now tags.now found.now)) }
+{
+    put_pairs(out, map, &found.pairs)?;
+    put_after(out, map.image(), tags, &found.pairs, &found.variables)
+}
+
 /// Appends the whole text.
 #[tactic(auto, unfolding(crate::specs::Report::report_text))]
-fn put_report(out: &mut Vec<u8>, map: &Map<'_>, found: &Findings) -> Result<(), AllocError>
+fn put_report(
+    out: &mut Vec<u8>,
+    map: &Map<'_>,
+    tags: &[Tag],
+    found: &Findings,
+) -> Result<(), AllocError>
     requires { LieIn map.now.image found.now.ranges }
-    ensures { OnOk result (out.new.items ≡ out.old.items ++ report_text map.now found.now) }
+    ensures { OnOk result (out.new.items ≡ out.old.items ++ report_text map.now tags.now found.now) }
 {
     let image = map.image();
     let code = image_marks(image, &found.code);
     let taken = image_marks(image, &found.taken);
     put_picture_and_counts(out, image.start(), code, taken)?;
     put_ranges(out, image, &found.ranges)?;
-    put_pairs(out, map, &found.pairs)
+    put_labels(out, &found.labels)?;
+    put_comments(out, map, tags, found)
 }
 
 /// Returns the text of what is found in an image, from the entries that are given and those of the information file and the
-/// image. Fails only if an allocation failed.
-pub fn report(alloc: Global, map: &Map<'_>, given: &[u16]) -> Result<Vec<u8>, AllocError>
-    ensures { IfOk result (λ text. IsReport map.now given.now text.items) }
+/// image, and, unless it is to be plain, from sound beginnings, beside what the groups `#: ..` of the file say. Fails only if an allocation
+/// failed.
+pub fn report(
+    alloc: Global,
+    map: &Map<'_>,
+    given: &[u16],
+    plain: bool,
+    tags: &[Tag],
+) -> Result<Vec<u8>, AllocError>
+    ensures { IfOk result (λ text. IsReport map.now given.now plain tags.now text.items) }
 {
     text_law();
     map.info();
-    let found = search_image(alloc, map, given)?;
+    let found = search_image(alloc, map, given, plain, tags)?;
     let mut text = Vec::new(alloc);
-    put_report(&mut text, map, &found)?;
+    put_report(&mut text, map, tags, &found)?;
     Ok(text)
 }

@@ -30,6 +30,8 @@ pub struct Tracing {
     pub options: Options,
     /// The addresses that are given as entries.
     pub entries: Vec<u16>,
+    /// Whether no more than the entries are followed.
+    pub plain: bool,
     /// The file that the text is written to; without one standard output.
     pub output: Option<String>,
 }
@@ -91,6 +93,7 @@ fn traced_in(alloc: Global, matches: &ArgMatches) -> Result<Request, UsageFault>
     Ok(Request::Trace(Tracing {
         options: options_with(info, input, start, cpu),
         entries,
+        plain: is_set(matches, "plain"),
         output,
     }))
 }

@@ -13,13 +13,19 @@ number_in radix most ds =
     else (if are_digits radix ds then (if nat_le (digits_value radix ds) most then Ok (digits_value radix ds) else Err OutOfRange)
     else Err BadNumber)
 
--- hexadecimal after `$`, `0x` or `0X`, octal after `0`, else decimal
-unfoldable pub address_in : List ℕ → Result ℕ UsageFault
-address_in text =
-    if starts_with nat_eq text (codes "$") then number_in 16 0xFFFF (drop 1 text)
-    else (if starts_with nat_eq text (codes "0x") || starts_with nat_eq text (codes "0X") then number_in 16 0xFFFF (drop 2 text)
-    else (if starts_with nat_eq text (codes "0") then number_in 8 0xFFFF text
-    else number_in 10 0xFFFF text))
+-- hexadecimal after `$`, `0x` or `0X`, octal after `0`, else decimal; at most `most`
+unfoldable pub numeral_in : ℕ → List ℕ → Result ℕ UsageFault
+numeral_in most text =
+    if starts_with nat_eq text (codes "$") then number_in 16 most (drop 1 text)
+    else (if starts_with nat_eq text (codes "0x") || starts_with nat_eq text (codes "0X") then number_in 16 most (drop 2 text)
+    else (if starts_with nat_eq text (codes "0") then number_in 8 most text
+    else number_in 10 most text))
+
+abbrev pub address_in : List ℕ → Result ℕ UsageFault
+address_in text = numeral_in 0xFFFF text
+
+abbrev pub byte_in : List ℕ → Result ℕ UsageFault
+byte_in text = numeral_in 0xFF text
 
 -- a number that is too small is out of range
 abbrev pub at_least : ℕ → Result ℕ UsageFault → Result ℕ UsageFault

@@ -1,7 +1,7 @@
 //! Numbers of a command line.
 
 ghost use Rattle.std.specs.Prelude.{IfOk, ◌≡◌, ◌≤◌};
-ghost use Rattle.usage65.specs.Number.{address_in, decimal_in, number_in};
+ghost use Rattle.usage65.specs.Number.{address_in, byte_in, decimal_in, number_in, numeral_in};
 
 use crate::fault::UsageFault;
 use info65::number_of_digits;
@@ -20,11 +20,11 @@ fn number_in(digits: &[u8], radix: u32, most: u32) -> Result<u32, UsageFault>
     }
 }
 
-/// Returns the address that a text writes, as after `-S`: hexadecimal after `$`, `0x` or `0X`, octal after `0`, else
-/// decimal. Fails with `BadNumber` if the text is not a number, and with `OutOfRange` if it is above $FFFF.
-#[tactic(auto, unfolding(crate::specs::Number::address_in))]
-pub fn address_in(text: &[u8]) -> Result<u16, UsageFault>
-    ensures { result ≡ address_in text.now }
+/// The number that a text writes: hexadecimal after `$`, `0x` or `0X`, octal after `0`, else decimal. Fails if it is above `most`.
+#[tactic(auto, unfolding(crate::specs::Number::numeral_in))]
+fn numeral_in(text: &[u8], most: u32) -> Result<u32, UsageFault>
+    ensures value { result ≡ numeral_in most text.now }
+    ensures small { IfOk result (λ n. n ≤ most) }
 {
     let (radix, digits) = if text.starts_with(b"$") {
         (16, &text[1..])
@@ -35,7 +35,23 @@ pub fn address_in(text: &[u8]) -> Result<u16, UsageFault>
     } else {
         (10, text)
     };
-    Ok(number_in(digits, radix, 0xFFFF)? as u16)
+    number_in(digits, radix, most)
+}
+
+/// Returns the address that a text writes, as after `-S`: hexadecimal after `$`, `0x` or `0X`, octal after `0`, else
+/// decimal. Fails with `BadNumber` if the text is not a number, and with `OutOfRange` if it is above $FFFF.
+pub fn address_in(text: &[u8]) -> Result<u16, UsageFault>
+    ensures { result ≡ address_in text.now }
+{
+    Ok(numeral_in(text, 0xFFFF)? as u16)
+}
+
+/// Returns the byte that a text writes in the same way. Fails with `BadNumber` if the text is not a number, and with `OutOfRange` if
+/// it is above $FF.
+pub fn byte_in(text: &[u8]) -> Result<u8, UsageFault>
+    ensures { result ≡ byte_in text.now }
+{
+    Ok(numeral_in(text, 0xFF)? as u8)
 }
 
 /// Returns the number from `least` to `most` that decimal digits write. Fails with `BadNumber` if the text is not a number, and with

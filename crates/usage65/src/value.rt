@@ -3,11 +3,11 @@
 ghost use Rattle.std.specs.Prelude.{IfOk, option_map, ◌≡◌};
 ghost use Rattle.clap.specs.Words.{first_of, found_of, rows_of};
 ghost use Rattle.info65.specs.Views.{name_seen};
-ghost use Rattle.usage65.specs.Number.{address_in};
+ghost use Rattle.usage65.specs.Number.{address_in, byte_in};
 ghost use Rattle.usage65.specs.Values.{cpu_in, given, is_set};
 
 use crate::fault::UsageFault;
-use crate::number::address_in;
+use crate::number::{address_in, byte_in};
 use clap::ArgMatches;
 use isa65::Cpu;
 use std::alloc::{AllocError, Global};
@@ -46,6 +46,16 @@ pub fn address_of(matches: &ArgMatches, id: &str) -> Result<Option<u16>, UsageFa
 {
     match text_of(matches, id) {
         Some(text) => Ok(Some(address_in(text.as_bytes())?)),
+        None => Ok(None),
+    }
+}
+
+/// Returns the byte that an option has, if it is given. Fails as `byte_in` does.
+pub fn byte_of(matches: &ArgMatches, id: &str) -> Result<Option<u8>, UsageFault>
+    ensures { result ≡ given byte_in (first_of id.now (rows_of (found_of matches.now))) }
+{
+    match text_of(matches, id) {
+        Some(text) => Ok(Some(byte_in(text.as_bytes())?)),
         None => Ok(None),
     }
 }

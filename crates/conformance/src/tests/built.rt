@@ -8,7 +8,7 @@ use std::alloc::{Allocator, Global};
 use std::process::Abort;
 
 /// A map has two bytes for each address.
-pub const CELLS: u64 = 131_072;
+const CELLS: u64 = 131_072;
 
 /// Building this map is one allocation.
 pub fn assert_one_allocation<'a>(

@@ -6,7 +6,7 @@ use crate::heap::Refusing;
 use crate::tests::asserts::{
     assert_equal, assert_equal_at, assert_same, assert_that, assert_that_at,
 };
-use crate::tests::built::{CELLS, assert_one_allocation};
+use crate::tests::built::assert_one_allocation;
 use crate::tests::command_lines::options_on;
 use crate::tests::refusals::{MANY, Refusals};
 use crate::tests::runs::{NAMED, run_including, run_with, shown};
@@ -282,7 +282,12 @@ fn all_names<'h>(
     included.names(heap)
 }
 
-/// Calls the parts of a run one after the other, up to the first that refuses, and looks at what each is granted. The table of ranges has as many bytes as a map.
+/// A table of ranges or of segments has a byte for each address, from the first of them on.
+fn address_table(is_empty: bool) -> u64 {
+    if is_empty { 0 } else { 65_536 }
+}
+
+/// Calls the parts of a run one after the other, up to the first that refuses, and looks at what each is granted.
 fn call_parts(
     rt: &impl Abort,
     heap: &Refusing<Global>,
@@ -293,11 +298,14 @@ fn call_parts(
 ) {
     let tables = name_tables(info.len());
     let Ok(mut info) = read_info(heap, options, info) else {
-        assert_granted(rt, heap, 0, CELLS, SMALL);
+        let both = address_table(false).saturating_mul(2);
+        assert_granted(rt, heap, 0, 0, both.saturating_add(SMALL));
         return;
     };
     let tables = if info.given_count() == 0 { 0 } else { tables };
-    assert_granted(rt, heap, 0, CELLS.saturating_add(tables), SMALL);
+    let marks = address_table(info.ranges().is_empty());
+    let marks = marks.saturating_add(address_table(info.segments().is_empty()));
+    assert_granted(rt, heap, 0, marks.saturating_add(tables), SMALL);
     if !info.includes().is_empty() {
         let before = heap.bytes();
         let names = info.given_count().saturating_mul(BYTES_OF_A_NAME);

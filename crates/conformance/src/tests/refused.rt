@@ -6,7 +6,7 @@ use da65::{Told, needs};
 use info65::{InfoFault, InfoFaultKind, Options, read_include, read_info};
 use map65::{ImageFault, Map, read_image};
 use std::alloc::Global;
-use stmt65::{AsmFault, AsmFaultKind, assemble, read_line};
+use stmt65::{AsmFault, AsmFaultKind, Language, assemble, read_line};
 
 #[test]
 fn information_file(rt: HostRuntime) {
@@ -96,7 +96,11 @@ fn line_of_source(rt: HostRuntime) {
     let mut refusals = Refusals::none();
     for granted in 0..MANY {
         let heap = Refusing::after(rt.alloc(), granted);
-        let read = read_line(&heap, b"foo: .byte 1,\"A\",2,3,4,5,6,7,8,9");
+        let read = read_line(
+            &heap,
+            Language::Listing,
+            b"foo: .byte 1,\"A\",2,3,4,5,6,7,8,9",
+        );
         refusals.count(&rt, &heap, granted, read.is_err());
         if let Ok(found) = read {
             assert_that_at(&rt, found.is_some(), &granted);

@@ -10,9 +10,9 @@ use Rattle.isa65.specs.declared.cpu.Cpu.{Cpu}
 use Rattle.stmt65.specs.Views as view
 use Rattle.stmt65.specs.Printed.{source_line, with_label}
 use Rattle.stmt65.specs.SourceLine.{Operation, Nothing, Segment, Code, SetCpu, SourceLine, Statement}
-use Rattle.stmt65.specs.Symbols.{Definition}
-use Rattle.stmt65.specs.Coding.{coding}
-use Rattle.stmt65.specs.Meaning.{State, final, coded, cpu_after, defined_by, has_unknown_cpu, is_twice, operation_in}
+use Rattle.stmt65.specs.Symbols.{Definition, find_name}
+use Rattle.stmt65.specs.Coding.{State, coding}
+use Rattle.stmt65.specs.Meaning.{final, coded, cpu_after, defined_by, has_unknown_cpu, is_past_start, is_twice, operation_in}
 use Rattle.map65.specs.ImageView.{ImageView}
 use Rattle.map65.specs.MapView.{MapView}
 use Rattle.map65.specs.Segments.{segment_at}
@@ -70,28 +70,29 @@ base_gives image m p l source bytes at u names says stands base new e next room 
 -- ---- lines that say nothing of names and bytes
 
 pub nothing_stands : (Full : List Definition → Type 0) (s : State) → Stands Full s Nothing []
-unfolding has_unknown_cpu cpu_after coding
-nothing_stands Full s = record { fragments = []; known_cpu = refl; next_cpu = refl; coded = refl; gives = no_fragments Full (s.at + 0) }
+unfolding has_unknown_cpu cpu_after coding is_past_start
+nothing_stands Full s = record { fragments = []; known_cpu = refl; next_cpu = refl; coded = refl; starts = refl; gives = no_fragments Full (s.at + 0) }
 
 pub record IsQuiet (l : ListingLine) : Type 0 where
   pub operation : Operation
   pub says : Says l (Statement None operation)
   pub known_cpu : has_unknown_cpu operation ≡ false
   pub same_cpu : (cpu : Cpu) → cpu_after cpu operation ≡ cpu
-  pub coded : (cpu : Cpu) (above : List Definition) → coding cpu above operation ≡ Some []
+  pub coded : (p : Point) (above : List Definition) → coding (state p above) operation ≡ Some []
+  pub starts : (p : Point) (above : List Definition) → is_past_start (state p above) operation ≡ false
 
 pub quiet_blank : IsQuiet (plain view.blank)
-unfolding has_unknown_cpu cpu_after coding
-quiet_blank = record { operation = Nothing; says = refl; known_cpu = refl; same_cpu = λ cpu. refl; coded = λ cpu above. refl }
+unfolding has_unknown_cpu cpu_after coding is_past_start
+quiet_blank = record { operation = Nothing; says = refl; known_cpu = refl; same_cpu = λ cpu. refl; coded = λ p above. refl; starts = λ p above. refl }
 
 pub quiet_remark : (text : List ℕ) → IsQuiet (plain (view.remark text))
-unfolding has_unknown_cpu cpu_after coding
-quiet_remark text = record { operation = Nothing; says = refl; known_cpu = refl; same_cpu = λ cpu. refl; coded = λ cpu above. refl }
+unfolding has_unknown_cpu cpu_after coding is_past_start
+quiet_remark text = record { operation = Nothing; says = refl; known_cpu = refl; same_cpu = λ cpu. refl; coded = λ p above. refl; starts = λ p above. refl }
 
 quiet_segment : (o : Option (List ℕ)) → IsQuiet (plain (segment_statement o))
-unfolding has_unknown_cpu cpu_after coding
-quiet_segment None = record { operation = Code; says = refl; known_cpu = refl; same_cpu = λ cpu. refl; coded = λ cpu above. refl }
-quiet_segment (Some name) = record { operation = Segment name; says = refl; known_cpu = refl; same_cpu = λ cpu. refl; coded = λ cpu above. refl }
+unfolding has_unknown_cpu cpu_after coding is_past_start find_name
+quiet_segment None = record { operation = Code; says = refl; known_cpu = refl; same_cpu = λ cpu. refl; coded = λ p above. refl; starts = λ p above. refl }
+quiet_segment (Some name) = record { operation = Segment name; says = refl; known_cpu = refl; same_cpu = λ cpu. refl; coded = λ p above. refl; starts = λ p above. refl }
 
 pub quiet_beside : (m : MapView) → HoldsBeside m IsQuiet
 unfolding separator
@@ -101,7 +102,7 @@ pub quiet_gives : (m : Names) (at : ℕ) (cpu : Cpu) (knows : ℕ → Bool) (ls 
 quiet_gives m at cpu knows [] quiet room = gives_none m (point at cpu knows)
 quiet_gives m at cpu knows (l ∷ ls) quiet room =
     gives_append (l ∷ []) ls
-    (line_gives m (point at cpu knows) l (Statement None quiet.0.operation) [] at cpu knows quiet.0.says (λ above known. record { fragments = []; known_cpu = quiet.0.known_cpu; next_cpu = quiet.0.same_cpu cpu; coded = quiet.0.coded cpu above; gives = no_fragments _ _ }) (λ above known. defines_nothing m _ _ knows known) (omega arith) room)
+    (line_gives m (point at cpu knows) l (Statement None quiet.0.operation) [] at cpu knows quiet.0.says (λ above known. record { fragments = []; known_cpu = quiet.0.known_cpu; next_cpu = quiet.0.same_cpu cpu; coded = quiet.0.coded (point at cpu knows) above; starts = quiet.0.starts (point at cpu knows) above; gives = no_fragments _ _ }) (λ above known. defines_nothing m _ _ knows known) (omega arith) room)
     (quiet_gives m at cpu knows ls quiet.1 room)
 
 -- with an empty line after the last
@@ -112,6 +113,6 @@ empty_line_gives m p (l ∷ ls) at cpu knows room h = gives_append (l ∷ ls) (p
 -- ---- `.setcpu`
 
 pub cpu_gives : (m : Names) (at : ℕ) (old cpu : Cpu) (knows : ℕ → Bool) → at ≤ 65536 → Gives m (point at old knows) (plain (view.set_cpu cpu) ∷ []) [] (point at cpu knows)
-unfolding has_unknown_cpu cpu_after coding
+unfolding has_unknown_cpu cpu_after coding is_past_start
 cpu_gives m at old cpu knows room =
-    line_gives m (point at old knows) (plain (view.set_cpu cpu)) (Statement None (SetCpu (cpu_text cpu))) [] at cpu knows refl (λ above known. record { fragments = []; known_cpu = rw ((cpu_name cpu).named) refl; next_cpu = rw ((cpu_name cpu).named) refl; coded = refl; gives = no_fragments _ _ }) (λ above known. defines_nothing m _ _ knows known) (omega arith) room
+    line_gives m (point at old knows) (plain (view.set_cpu cpu)) (Statement None (SetCpu (cpu_text cpu))) [] at cpu knows refl (λ above known. record { fragments = []; known_cpu = rw ((cpu_name cpu).named) refl; next_cpu = rw ((cpu_name cpu).named) refl; coded = refl; starts = refl; gives = no_fragments _ _ }) (λ above known. defines_nothing m _ _ knows known) (omega arith) room

@@ -7,7 +7,9 @@ use Rattle.stmt65.specs.declared.assembling.fault.AsmFault.{AsmFault}
 use Rattle.stmt65.specs.declared.assembling.fault.AsmFaultKind.{AsmFaultKind}
 use Rattle.stmt65.specs.SourceLine.{SourceLine}
 use Rattle.stmt65.specs.Symbols.{Definition}
-use Rattle.stmt65.specs.Meaning.{State, final, after, coded, unless, with_front, fault_of, bytes_of}
+use Rattle.stmt65.specs.Layout.{free}
+use Rattle.stmt65.specs.Coding.{State}
+use Rattle.stmt65.specs.Meaning.{final, after, coded, unless, with_front, fault_of, bytes_of}
 use Rattle.da65.specs.BaseNames.{Names, is_base}
 use Rattle.da65.specs.KnownNames.{Knows, KnowsAll}
 use Rattle.da65.specs.Listing.{ListingLine}
@@ -25,7 +27,7 @@ point at cpu knows = record { at = at; cpu = cpu; knows = knows }
 
 -- the state there, below these definitions
 abbrev pub state : Point → List Definition → State
-state p above = record { at = p.at; cpu = p.cpu; above = above }
+state p above = record { at = p.at; cpu = p.cpu; above = above; layout = free }
 
 -- From the state at a point the lines lead to another; and in a text that defines all bases they give the bytes without a fault.
 pub record Leads (m : Names) (p : Point) (above : List Definition) (ls : List ListingLine) (bytes : List ℕ) (q : Point) : Type 0 where

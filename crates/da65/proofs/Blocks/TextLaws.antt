@@ -15,7 +15,9 @@ use Rattle.stmt65.specs.Printed.{PrintsAs, source_line, with_label}
 use Rattle.stmt65.specs.Lexing.{parts}
 use Rattle.stmt65.specs.Reading.{reading_of}
 use Rattle.text65.specs.Lines.{onto_first, text_lines}
-use Rattle.stmt65.specs.Meaning.{meaning, meaning_of, readings}
+use Rattle.stmt65.specs.declared.language.Language.TheVariants.{Listing}
+use Rattle.stmt65.specs.Layout.{free}
+use Rattle.stmt65.specs.Meaning.{meaning_in, meaning_of, readings}
 use Rattle.map65.specs.ImageView.{AreBytes, IsPlaced, bytes_from}
 use Rattle.map65.specs.MapView.{MapView, opcodes}
 use Rattle.map65.specs.Roles.{role_of}
@@ -50,14 +52,14 @@ no_lines : text_lines [] ≡ []
 unfolding text_lines
 no_lines = refl
 
-first_reading : (bytes : List ℕ) (r : SourceLine) (rest : List ℕ) → PrintsAs bytes r → readings (bytes ++ rest) ≡ Some r ∷ readings rest
+first_reading : (bytes : List ℕ) (r : SourceLine) (rest : List ℕ) → PrintsAs bytes r → readings Listing (bytes ++ rest) ≡ Some r ∷ readings Listing rest
 first_reading bytes r rest h = grind (arith, append_assoc, first_line)
 
 -- ---- the lines of a listing
 
-text_reads : (t : Style) (ls : List ListingLine) → Each (CanPrint t) ls → readings (text_of (map (line_text t) ls)) ≡ map reading_of_line ls
+text_reads : (t : Style) (ls : List ListingLine) → Each (CanPrint t) ls → readings Listing (text_of (map (line_text t) ls)) ≡ map reading_of_line ls
 unfolding text_of
-text_reads t [] h = ap (λ (ls : List (List ℕ)). map (λ l. reading_of (parts l)) ls) no_lines
+text_reads t [] h = ap (λ (ls : List (List ℕ)). map (λ l. reading_of Listing (parts Listing l)) ls) no_lines
 text_reads t (l ∷ ls) h =
     first_reading (line_text t l) (with_label l.label (source_line l.statement)) (text_of (map (line_text t) ls)) (prints t l h.0)
     ∙ ap (λ (rs : List (Option SourceLine)). reading_of_line l ∷ rs) (text_reads t ls h.1)
@@ -154,6 +156,6 @@ module _ (m : MapView) (placed : IsPlaced m.image) (are : AreBytes m.image.bytes
   listing_prints = below_prints 65536
 
 pub text_gives_image : TextGivesImage
-unfolding meaning lines_of
+unfolding meaning_in lines_of
 text_gives_image m placed are names segments none =
-    ap (meaning_of m.image.start) (text_reads (style_of m.info.settings) (listing m) (listing_prints m placed are names segments)) ∙ listing_gives_image m placed are names none
+    ap (meaning_of free m.image.start) (text_reads (style_of m.info.settings) (listing m) (listing_prints m placed are names segments)) ∙ listing_gives_image m placed are names none

@@ -9,6 +9,7 @@ use Rattle.isa65.specs.declared.cpu.Cpu.{Cpu}
 use Rattle.isa65.specs.declared.cpu.Cpu.TheVariants.{M6502}
 use Rattle.info65.specs.Names as given
 use Rattle.stmt65.specs.Views as view
+use Rattle.stmt65.specs.Layout.{free}
 use Rattle.stmt65.specs.Meaning.{final, initial, meaning_of}
 use Rattle.map65.specs.ImageView.{AreBytes, ImageView, IsPlaced, end_of}
 use Rattle.map65.specs.MapView.{MapView}
@@ -83,4 +84,4 @@ pub listing_gives_image : ListingGivesImage
 unfolding meaning_of
 listing_gives_image m placed are known none =
     let all = all_leads m placed are known none in
-    all.codes (final (initial m.image.start) (readings_of m)).above (rw all.reaches all.known) 1
+    all.codes (final (initial free m.image.start) (readings_of m)).above (rw all.reaches all.known) 1

@@ -15,7 +15,7 @@ use Rattle.stmt65.specs.Views.{OperandsView}
 use Rattle.stmt65.specs.ModeLaws.{IsModeOf}
 use Rattle.stmt65.specs.Printed.{address_size, row_form, source_form, source_value}
 use Rattle.stmt65.specs.Symbols.{Definition, has_zero_page_size}
-use Rattle.stmt65.specs.Coding.{Fixed}
+use Rattle.stmt65.specs.Coding.{State, Fixed}
 use Rattle.stmt65.proofs.Public.{takes_modes}
 use Rattle.map65.specs.ImageView.{ImageView}
 use Rattle.map65.specs.Names.{Base}
@@ -66,27 +66,27 @@ one_mode cpu op y b c h g same =
     ap (λ (o : Op). o.mode) same_op
 
 -- without `a:` it is coded in its mode only where none stands
-not_forced : (image : ImageView) (m : Names) (p : ℕ → Bool) (cpu : Cpu) (above : List Definition) (a : ℕ) (bytes : List ℕ) (op : Op) (os : OperandsView)
-    → AreSound image m → KnowsConstants m p above → IsWritten m (table_of cpu) a bytes op os → HasKnownSize m (word_of bytes) → CodesInMode cpu above op false os → is_forced (table_of cpu) op bytes ≡ true → ⊥
+not_forced : (image : ImageView) (m : Names) (p : ℕ → Bool) (s : State) (a : ℕ) (bytes : List ℕ) (op : Op) (os : OperandsView)
+    → AreSound image m → KnowsConstants m p s.above → IsWritten m (table_of s.cpu) a bytes op os → HasKnownSize m (word_of bytes) → CodesInMode s op false os → is_forced (table_of s.cpu) op bytes ≡ true → ⊥
 unfolding operands_of source_form
-not_forced image m p cpu above a bytes op os names known h sized codes forced =
-    let both = and_parts (is_some (sibling_in (table_of cpu) op)) (nat_lt (word_of bytes) 256) forced in
-    let sibling = has_sibling (table_of cpu) op both.0 in
+not_forced image m p s a bytes op os names known h sized codes forced =
+    let both = and_parts (is_some (sibling_in (table_of s.cpu) op)) (nat_lt (word_of bytes) 256) forced in
+    let sibling = has_sibling (table_of s.cpu) op both.0 in
     let pairs = pair (row_of op.mode) sibling.mode sibling.is in
     let form = row_form (row_of op.mode) (address_size false) os in
-    let long = (begins_with (table_of cpu) bytes op h.begins).long in
-    let takes = takes_modes cpu above op.mnemonic form (Fixed codes.opcode ∷ fragments_in op.mode os) codes.coded in
+    let long = (begins_with (table_of s.cpu) bytes op h.begins).long in
+    let takes = takes_modes s op.mnemonic form (Fixed codes.opcode ∷ fragments_in op.mode os) codes.coded in
     let opcode : codes.opcode ≡ takes.opcode = let coded = takes.coded in cc in
-    let same : takes.mode ≡ op.mode = one_mode cpu op takes.mode codes.opcode takes.opcode codes.is_opcode takes.has opcode in
-    let of : IsModeOf form op.mode = of_form image m p names cpu above known op.mnemonic codes.opcode op.mode codes.is_opcode a bytes h.are_bytes long os h.has false (λ no. absurd cc) in
+    let same : takes.mode ≡ op.mode = one_mode s.cpu op takes.mode codes.opcode takes.opcode codes.is_opcode takes.has opcode in
+    let of : IsModeOf form op.mode = of_form image m p names s.cpu s.above known op.mnemonic codes.opcode op.mode codes.is_opcode a bytes h.are_bytes long os h.has false (λ no. absurd cc) in
     let alike : written sibling.mode ≡ written op.mode = ap (λ (r : Row). row_text r) pairs.short ∙ sym (ap (λ (r : Row). row_text r) pairs.long) in
     let is_long = takes.long sibling.mode (ap (λ (y : Mode). zero_page_of y) same ∙ sibling.is) (alike ∙ of.0, λ prefix. let no = row_prefix (row_of op.mode) false os prefix in absurd cc) sibling.has in
-    let small = ap (λ e. has_zero_page_size above (source_value e)) (sym (one-expr m (word_of bytes) sized)) ∙ zero_page_small image m p above (word_of bytes) names known both.1 in
-    let is_short = word_size image m p names cpu above known pairs.direct (row_of op.mode) pairs.long (address_size false) (a + len_of op.mode) bytes os h.has ∙ small in
+    let small = ap (λ e. has_zero_page_size s.above (source_value e)) (sym (one-expr m (word_of bytes) sized)) ∙ zero_page_small image m p s.above (word_of bytes) names known both.1 in
+    let is_short = word_size image m p names s.cpu s.above known pairs.direct (row_of op.mode) pairs.long (address_size false) (a + len_of op.mode) bytes os h.has ∙ small in
     let no : true ≡ false = sym is_short ∙ is_long in cc
 
 pub forced_where_needed : ForcedWhereNeeded
-forced_where_needed image m p cpu above a bytes op os names known h sized = (
-  λ codes. false_from_ne_true (is_forced (table_of cpu) op bytes) (not_forced image m p cpu above a bytes op os names known h sized codes),
-  λ e. subst (λ (t : Bool). CodesInMode cpu above op t os) e (mode_is_chosen_back image m p cpu above a bytes op os names known h),
+forced_where_needed image m p s a bytes op os names known h sized = (
+  λ codes. false_from_ne_true (is_forced (table_of s.cpu) op bytes) (not_forced image m p s a bytes op os names known h sized codes),
+  λ e. subst (λ (t : Bool). CodesInMode s op t os) e (mode_is_chosen_back image m p s a bytes op os names known h),
 )

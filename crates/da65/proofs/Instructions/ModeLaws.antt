@@ -24,7 +24,8 @@ use Rattle.stmt65.specs.declared.source_line.AddressSize.{AddressSize}
 use Rattle.stmt65.specs.Printed.{address_size, pattern_form, row_form, source_form, source_value}
 use Rattle.stmt65.specs.Forms.{form_text, form_values}
 use Rattle.stmt65.specs.Symbols.{Definition, has_zero_page_size}
-use Rattle.stmt65.specs.Coding.{Fragment, Fixed, coding}
+use Rattle.stmt65.specs.Coding.{State, Fragment, Fixed, Single, coding}
+use Rattle.stmt65.specs.Layout.{Layout}
 use Rattle.stmt65.specs.ModeLaws as mode
 use Rattle.stmt65.specs.ModeLaws.{has_prefix, is_short, IsModeOf, TakesMode}
 use Rattle.stmt65.proofs.Public.{needs_mode, takes_modes}
@@ -111,17 +112,31 @@ module _ (image : ImageView) (n : Names) (p : ℕ → Bool) (names : AreSound im
       go None = tt
       go (Some t) = tt
 
-  operand_codes : (k : OperandKind) (at : ℕ) (e : ExprView) → IsSmall k at e → mode.kind_fragment above k (source_value e) ≡ operand_fragment k e
-  operand_codes kind.Byte at e small = refl
-  operand_codes kind.ZeroPage at e small = rw small refl
-  operand_codes kind.Word at e small = refl
-  operand_codes kind.Distance at e small = refl
+  -- no operand of a listing is a half
+  whole_byte : (q : Pattern) (size : AddressSize) (v w : Value) → mode.byte_fragment (pattern_form q size v) w ≡ Single w
+  whole_byte pattern.Immediate size v w = refl
+  whole_byte pattern.Direct size v w = refl
+  whole_byte pattern.DirectX size v w = refl
+  whole_byte pattern.DirectY size v w = refl
+  whole_byte pattern.Indirect size v w = refl
+  whole_byte pattern.IndirectX size v w = refl
+  whole_byte pattern.IndirectY size v w = refl
 
-  row_codes : (r : Row) (size : AddressSize) (os : OperandsView) → AreAll IsSmall r os → mode.row_fragments above r (form_values (row_form r size os)) ≡ row_fragments r os
+  operand_codes : (f : Form) → ((w : Value) → mode.byte_fragment f w ≡ Single w) → (k : OperandKind) (at : ℕ) (e : ExprView) → IsSmall k at e
+      → mode.kind_fragment above f k (source_value e) ≡ operand_fragment k e
+  operand_codes f whole kind.Byte at e small = whole (source_value e)
+  operand_codes f whole kind.ZeroPage at e small = rw small refl
+  operand_codes f whole kind.Word at e small = refl
+  operand_codes f whole kind.Distance at e small = refl
+
+  row_codes : (r : Row) (size : AddressSize) (os : OperandsView) → AreAll IsSmall r os
+      → mode.row_fragments above (row_form r size os) r (form_values (row_form r size os)) ≡ row_fragments r os
   row_codes row.Implied size view.none h = refl
   row_codes row.Accumulator size view.none h = refl
-  row_codes (row.One q k) size (view.one e) h = rw (pattern_values q size (source_value e), operand_codes k 1 e h) refl
-  row_codes (row.Two k l) size (view.two e f) h = rw (operand_codes k 1 e h.0, operand_codes l (1 + size_of k) f h.1) refl
+  row_codes (row.One q k) size (view.one e) h = rw (pattern_values q size (source_value e), operand_codes (pattern_form q size (source_value e)) (whole_byte q size (source_value e)) k 1 e h) refl
+  row_codes (row.Two k l) size (view.two e f) h =
+      let form : Form = row_form (row.Two k l) size (view.two e f) in
+      rw (operand_codes form (λ w. refl) k 1 e h.0, operand_codes form (λ w. refl) l (1 + size_of k) f h.1) refl
   row_codes _ size _ h = absurd h
 
   -- an operand in the zero page makes a form short
@@ -171,8 +186,8 @@ module _ (image : ImageView) (n : Names) (p : ℕ → Bool) (names : AreSound im
       own same =
           let has : Some takes.opcode ≡ Some b = sym takes.has ∙ ap (encoded (table_of cpu) m) same ∙ is in
           let code : takes.opcode ≡ b = cc in
-          takes.coded ∙ ap (λ (c : ℕ). Fixed c ∷ mode.mode_fragments above takes.mode (form_values (form u))) code
-          ∙ ap (λ (y : Mode). Fixed b ∷ mode.mode_fragments above y (form_values (form u))) same
+          takes.coded ∙ ap (λ (c : ℕ). Fixed c ∷ mode.mode_fragments above (form u) takes.mode) code
+          ∙ ap (λ (y : Mode). Fixed b ∷ mode.mode_fragments above (form u) y) same
           ∙ ap (λ (fs : List Fragment). Fixed b ∷ fs) (row_codes (row_of x) (address_size u) os all_small)
 
       -- not in the zero-page mode that is written alike
@@ -200,16 +215,21 @@ module _ (image : ImageView) (n : Names) (p : ℕ → Bool) (names : AreSound im
           (takes.of_form.0 ∙ sym (of_form u may).0) in
           elim alike [ inl same ↦ own same | inr other ↦ elim other [ inl short ↦ absurd (not_short short) | inr long ↦ absurd (not_long long) ] ]
 
-    chosen : (u : Bool) → needs cpu m x bytes ≡ u → coding cpu above (Instr m (form u)) ≡ Some (Fixed b ∷ fragments_in x os)
-    chosen u forced = go (coding cpu above (Instr m (form u))) refl
+    -- the state of these definitions, at an address
+    abbrev pub here : ℕ → Layout → State
+    here at layout = record { at = at; cpu = cpu; above = above; layout = layout }
+
+    chosen : (at : ℕ) (layout : Layout) (u : Bool) → needs cpu m x bytes ≡ u → coding (here at layout) (Instr m (form u)) ≡ Some (Fixed b ∷ fragments_in x os)
+    chosen at layout u forced = go (coding (here at layout) (Instr m (form u))) refl
       where
-        go : (o : Option (List Fragment)) → coding cpu above (Instr m (form u)) ≡ o → coding cpu above (Instr m (form u)) ≡ Some (Fixed b ∷ fragments_in x os)
+        go : (o : Option (List Fragment)) → coding (here at layout) (Instr m (form u)) ≡ o → coding (here at layout) (Instr m (form u)) ≡ Some (Fixed b ∷ fragments_in x os)
         go None e =
-            let none = (needs_mode cpu above m (form u)).0 e x (of_form u (λ h. may_be_forced (table_of cpu) m x bytes (forced ∙ h))) in
+            let none = (needs_mode (here at layout) m (form u)).0 e x (of_form u (λ h. may_be_forced (table_of cpu) m x bytes (forced ∙ h))) in
             let no = sym is ∙ none in absurd cc
-        go (Some fragments) e = e ∙ ap Some (in_mode u forced fragments (takes_modes cpu above m (form u) fragments e))
+        go (Some fragments) e = e ∙ ap Some (in_mode u forced fragments (takes_modes (here at layout) m (form u) fragments e))
 
   pub coded_in_mode : (m : Mnemonic) (b : ℕ) (x : Mode) → encoded (table_of cpu) m x ≡ Some b → (a : ℕ) (bytes : List ℕ) → AreBytes bytes → len_of x ≤ length bytes → (os : OperandsView)
-      → operands_of n x a bytes ≡ Some os → coding cpu above (Instr m (source_form x (needs cpu m x bytes) os)) ≡ Some (Fixed b ∷ fragments_in x os)
+      → operands_of n x a bytes ≡ Some os → (at : ℕ) (layout : Layout)
+      → coding (record { at = at; cpu = cpu; above = above; layout = layout }) (Instr m (source_form x (needs cpu m x bytes) os)) ≡ Some (Fixed b ∷ fragments_in x os)
   unfolding operands_of source_form
-  coded_in_mode m b x is a bytes are long os has = chosen m b x is a bytes are long os has (needs cpu m x bytes) refl
+  coded_in_mode m b x is a bytes are long os has at layout = chosen m b x is a bytes are long os has at layout (needs cpu m x bytes) refl

@@ -1,9 +1,9 @@
 -- No address of an image has a constant line if each byte of it is listed.
-use Rattle.std.proofs.Common.{◌≡◌, ◌∙◌, ℕ, zero, suc, ◌+◌, ◌-◌, ◌<◌, ◌≤◌, Bool, true, false, List, Option, Some, None, ap, arith, drop, get_or, length, refl, sym, take, []}
-use Rattle.std.proofs.lemmas.Bool.{and_right, cond-false, false≢true}
+use Rattle.std.proofs.Common.{◌≡◌, ◌∙◌, ℕ, zero, suc, ◌+◌, ◌-◌, ◌<◌, ◌≤◌, Bool, true, false, List, Option, Some, None, ap, arith, drop, get_or, length, refl, sym, take, zero-add, ◌∷◌, []}
+use Rattle.std.proofs.lemmas.Bool.{and_parts, and_right, cond-false, false≢true}
 use Rattle.std.proofs.lemmas.List.{get_or-drop, get_or-take, length-drop, length-take-le}
 use Rattle.std.proofs.lemmas.List.Sums.{prefix_len-le-length, prefix_len_passes}
-use Rattle.std.specs.List.{list_any, prefix_len}
+use Rattle.std.specs.List.{list_all, list_any, prefix_len}
 use Rattle.std.specs.Prelude.{◌/◌, ◌%◌, ◌==◌, MatchOption, slice_index}
 use Rattle.map65.specs.Cells.{AreCellsOf, bit}
 use Rattle.map65.specs.ImageView.{end_of}
@@ -37,6 +37,14 @@ pub constants-unnamed : (m : MapView) (from to : ℕ) → from ≤ to → to ≤
 constants-unnamed m from to order bound none =
     constants-over m (to - from) from (omega (arith, order, bound)) (λ a low high. line_none m a (base_unnamed m a (none a low (omega (arith, order, high)))))
     ∙ same-place m (from + (to - from)) to (omega (arith, order))
+
+-- past cells whose addresses have no name
+pub unnamed_past : (n : ℕ) (cells : List ℕ) → n ≤ length cells → list_all is_unnamed (take n cells) ≡ true → prefix_len is_unnamed cells ≡ n + prefix_len is_unnamed (drop n cells)
+unnamed_past zero cells low none = sym (zero-add (prefix_len is_unnamed cells))
+unnamed_past (suc n) [] low none = absurd (omega (arith, low))
+unnamed_past (suc n) (c ∷ cells) low none =
+    let parts = and_parts (is_unnamed c) (list_all is_unnamed (take n cells)) none in
+    rw parts.0 (omega (arith, unnamed_past n cells (omega (arith, low)) parts.1))
 
 named-bit : (named : Bool) (bits : ℕ) → bits ≡ bit named → (bits == 0) ≡ true → named ≡ false
 named-bit false bits is none = refl

@@ -12,6 +12,8 @@ use Rattle.info65.specs.Names.{blank_name, covering}
 use Rattle.info65.specs.Views.{NameView}
 use Rattle.info65.proofs.Public.{last_name}
 use Rattle.map65.specs.MapView.{MapView}
+use Rattle.map65.specs.Names.{Base, given_base, has_name}
+use Rattle.map65.proofs.Public.{base-covered, base-none}
 use Rattle.da65.specs.Comments.{comment_at, comment_by}
 use Rattle.da65.specs.Lines.{IsUnmarked}
 use Rattle.da65.specs.Listing.{ListingLine, opening_lines, segment_lines}
@@ -49,6 +51,15 @@ bare-segments m a none = rw (none a, segment-none m (a - m.image.start) none) re
 pub unmarked : (m : MapView) → has_marks m.info (style_of m.info.settings) ≡ false → IsUnmarked m
 unfolding opening_lines
 unmarked m none = grind (arith, or_parts, eqb-true, not-false, nil_from_length, bare-comment, bare-segment, bare-segments, flat-nothing)
+
+-- an address without a name has no comment
+pub unnamed-comment : (m : MapView) (a : ℕ) → has_name m a ≡ false → comment_at m a ≡ None
+unfolding comment_at
+unnamed-comment m a none = go (covering m.info.names a) refl
+  where
+    go : (o : Option NameView) → covering m.info.names a ≡ o → comment_by a o ≡ None
+    go None e = refl
+    go (Some n) e = let wrong : ◌≡◌ {A = Option Base} (Some (given_base n)) None = sym (base-covered m a n e) ∙ base-none m a none in absurd cc
 
 -- a name that is looked at has a comment where the name that was given has one
 pub comment-shown : (given : Given) (n : NameView) → given_seen given ≡ n → has_comment n ≡ is_some given.comment

@@ -1,16 +1,19 @@
 -- The next of the lines that are left.
 use Rattle.std.proofs.Common.{◌≡◌, ◌∙◌, ℕ, ◌+◌, ◌-◌, ◌<◌, ◌≤◌, ◌∷◌, ◌++◌, Bool, true, false, List, Option, Some, None, length, refl, ap, sym, subst, codes, arith, append_assoc, []}
-use Rattle.std.specs.Prelude.{MatchOption}
+use Rattle.std.specs.Prelude.{MatchOption, not}
 use Rattle.std.specs.List.{flat_map}
-use Rattle.std.proofs.lemmas.Bool.{and_parts, cond-false, cond-true}
+use Rattle.std.proofs.lemmas.Bool.{and_parts, and_right, cond-false, cond-true}
 use Rattle.info65.specs.Views.{SettingsView}
+use Rattle.map65.specs.Items.{item_len}
 use Rattle.map65.specs.MapView.{MapView, opcodes}
+use Rattle.map65.proofs.Public.{begun}
+use Rattle.map65.specs.Pieces.{is_in_run}
 use Rattle.map65.specs.Roles.{is_skip, role_of}
 use Rattle.map65.specs.Spans.{addresses}
 use Rattle.da65.specs.BaseNames.{base_name, is_base, names_of}
 use Rattle.da65.specs.Comments.{comment_at}
 use Rattle.da65.specs.Groups.{IsGroupPlace, group_bytes, group_len}
-use Rattle.da65.specs.Lines.{IsConstant, IsFirstOf, IsGroupStart, IsInGroup, IsNext, IsPlace, IsUnmarked, after_group, with_blank_after, comments_left, constants_left, group_left, groups_left, left_from, lines_from, segment_left, segment_of, IsLabelNext, IsNextIn}
+use Rattle.da65.specs.Lines.{IsConstant, IsFirstOf, IsGroupStart, IsInGroup, IsNext, IsOfGroup, IsPlace, IsUnmarked, after_group, with_blank_after, comments_left, constants_left, group_left, groups_left, left_from, lines_from, segment_left, segment_of, IsLabelNext, IsNextIn}
 use Rattle.da65.specs.Listing.{ListingLine, assignment_line, comment_line, comment_lines, comments, constant_lines, constants, ending_lines, forwards, group_line, group_lines, has_constant_line, has_empty_line, has_separator, label_at, labelled, line_text, listing, listing_below, opening_lines, plain, segment_lines, separator, separator_lines, statement_lines}
 use Rattle.da65.specs.Segments.{is_same_segment, segment_before, segment_statement}
 use Rattle.map65.specs.Segments.{segment_at}
@@ -19,11 +22,11 @@ use Rattle.da65.specs.Style.{style_of}
 use Rattle.da65.specs.declared.listing.place.ListingPlace.{ListingPlace}
 use Rattle.da65.specs.declared.listing.place.ListingPlace.TheVariants.{AfterTitle, Constant, Group, Comment, Ending}
 use Rattle.da65.specs.declared.listing.style.Style.{Style}
-use Rattle.da65.proofs.Groups.GroupLemmas.{group-some, groups-end, groups-first, groups-next, groups-skip, place-next}
+use Rattle.da65.proofs.Groups.GroupLemmas.{group-some, groups-end, groups-first, groups-next, groups-skip, item-begins, place-next}
 use Rattle.da65.proofs.Groups.ShapeLemmas.{group-shape}
 use Rattle.da65.proofs.Groups.StepLemmas.{addresses-end, addresses-here}
 use Rattle.da65.proofs.Statements.LabelLaws.{group_takes}
-use Rattle.da65.proofs.NextLine.SegmentLemmas.{same-segment, segment-next}
+use Rattle.da65.proofs.NextLine.SegmentLemmas.{same-segment, segment-itself, segment-next, segment-run}
 use Rattle.stmt65.specs.Columns.{fits_label}
 use Rattle.stmt65.specs.Printable.{TakesLabel}
 use Rattle.stmt65.specs.Views as view
@@ -124,6 +127,12 @@ pub segment-no : (m : MapView) (k : ℕ) → is_same_segment (segment_at m (m.im
     → segment_left m k ≡ comments_left m k (m.image.start + k)
 unfolding segment_left segment_lines
 segment-no m k same = rw (segment-spot m k, same) refl
+
+-- within a run there is neither
+pub lines-run : (m : MapView) (k : ℕ) → IsGroupStart m k → is_in_run m (m.image.start + k) ≡ true → groups_left m k ≡ comments_left m k (m.image.start + k)
+lines-run m k start run =
+    let none : has_separator m (m.image.start + k) ≡ false = and_right _ _ (ap not run) in
+    separator-no m k none start ∙ segment-no m k (rw (segment-run m k start run) (segment-itself (segment_at m (m.image.start + k))))
 
 -- ---- the comments of a group
 
@@ -248,3 +257,13 @@ stay-in-segment m k a text next here old place is before same known = grind (ari
 
 pub inside-start : (m : MapView) (k a : ℕ) → IsGroupStart m k → a ≡ m.image.start + k → IsInGroup m k (a + 1)
 inside-start m k a start place = grind (arith, group-some)
+
+-- an item begins at each group, and none at a skipped byte
+pub shown-start : (m : MapView) (k : ℕ) → IsGroupPlace m k → k < length m.image.bytes → 0 < item_len m (m.image.start + k) → IsGroupStart m k
+shown-start m k place low some = record { place = place; inside = low; shown = (begun m (m.image.start + k) some).shown }
+
+pub not-shown : (m : MapView) (k : ℕ) → item_len m (m.image.start + k) ≡ 0 → IsGroupStart m k → ⊥
+not-shown m k none start = omega (arith, item-begins m k start.place start.inside start.shown, none)
+
+pub of-start : (m : MapView) (k a : ℕ) → IsGroupStart m k → a ≡ m.image.start + k → IsOfGroup m k a
+of-start m k a start place = grind (arith, group-some)

@@ -1,14 +1,17 @@
 -- The segment of the group before.
-use Rattle.std.proofs.Common.{◌≡◌, ◌∙◌, ℕ, zero, suc, ◌+◌, ◌-◌, ◌<◌, true, false, List, length, Option, Some, None, refl, ap, arith, []}
-use Rattle.std.proofs.lemmas.Bool.{cond-true, cond-false, cond_both}
+use Rattle.std.proofs.Common.{◌≡◌, ◌∙◌, ℕ, zero, suc, ◌+◌, ◌-◌, ◌<◌, true, false, List, length, Option, Some, None, refl, ap, arith, sym, ⊎_elim, []}
+use Rattle.std.proofs.lemmas.Bool.{cases_eq, cond-true, cond-false, cond_both, false_from_ne_true, true≢false}
 use Rattle.std.proofs.lemmas.Slice.Eq.{bytes_eq-Decides}
 use Rattle.map65.specs.MapView.{MapView}
+use Rattle.map65.specs.Pieces.{AreOneRun, is_in_run}
 use Rattle.map65.specs.Roles.{is_skip, role_of}
+use Rattle.map65.proofs.Public.{in-run, joined-run, run_law}
 use Rattle.da65.specs.Groups.{begins, group_len, stride_at}
 use Rattle.da65.specs.Lines.{IsGroupStart}
 use Rattle.da65.specs.Segments.{is_same_segment, segment_before}
 use Rattle.map65.specs.Segments.{segment_at}
-use Rattle.da65.proofs.Groups.GroupLemmas.{begins-inside, begins-skip, begins-true, group-fits, group-some, left-within, stride-group}
+use Rattle.da65.proofs.Groups.GroupLemmas.{begins-inside, begins-skip, begins-true, group-fits, group-some, holder, left-within, stride-group, stride-skip}
+use Rattle.da65.proofs.Groups.InsideLemmas.{group-piece}
 use Rattle.info65.specs.Segments.{segment_covering}
 
 segment-here : (m : MapView) (k : ℕ) → begins m (m.image.start + k) ≡ true → segment_before m (suc k) ≡ segment_at m (m.image.start + k)
@@ -48,6 +51,32 @@ segment-next m k start =
     let place : k + group_len m (m.image.start + k) ≡ k + suc (group_len m (m.image.start + k) - 1) = omega (arith, some) in
     ap (segment_before m) place ∙ segment-inside m k (group_len m (m.image.start + k) - 1) start (omega (arith, some))
 
+-- the group before one that goes on with its run has the same segment
+pub segment-run : (m : MapView) (k : ℕ) → IsGroupStart m k → is_in_run m (m.image.start + k) ≡ true → segment_before m k ≡ segment_at m (m.image.start + k)
+segment-run m k start run =
+    let a : ℕ = m.image.start + k in
+    let here = in-run m a run in
+    let i : ℕ = k - 1 in
+    let held = holder m i (omega (arith, start.inside)) in
+    let p : ℕ = held.first in
+    let last : m.image.start + i ≡ a - 1 = omega (arith, here.low) in
+    let shown-last : is_skip (role_of m.info (m.image.start + i)) ≡ false = ap (λ (x : ℕ). is_skip (role_of m.info x)) last ∙ ap is_skip here.same ∙ start.shown in
+    let shown : is_skip (role_of m.info (m.image.start + p)) ≡ false =
+    false_from_ne_true (is_skip (role_of m.info (m.image.start + p))) (λ skip.
+    let alone : p ≡ i = omega (arith, held.low, held.reach, stride-skip m (m.image.start + p) skip) in
+    true≢false (sym skip ∙ ap (λ (x : ℕ). is_skip (role_of m.info (m.image.start + x))) alone ∙ shown-last)) in
+    let low : p < length m.image.bytes = omega (arith, held.low, start.inside, here.low) in
+    let group : IsGroupStart m p = record { place = held.place; inside = low; shown = shown } in
+    let within : i < p + group_len m (m.image.start + p) = omega (arith, held.reach, stride-group m (m.image.start + p) shown) in
+    let after : p + suc (i - p) ≡ k = omega (arith, held.low, here.low) in
+    let piece = group-piece m p held.place low shown in
+    let one : AreOneRun m (m.image.start + p) a = λ x above upto.
+    ⊎_elim
+    (λ same. ap (is_in_run m) same ∙ run)
+    (λ other. joined-run m x (piece x above (omega (arith, upto, other, within, last))))
+    (cases_eq x a) in
+    ap (segment_before m) (sym after) ∙ segment-inside m p (i - p) group (omega (arith, within, held.low)) ∙ sym ((run_law m).segment (m.image.start + p) a a one (omega (arith, held.low)) (omega arith))
+
 -- where each address is of the default
 pub segment-none : (m : MapView) (k : ℕ) → ((a : ℕ) → segment_at m a ≡ None) → segment_before m k ≡ None
 unfolding segment_before
@@ -59,6 +88,10 @@ pub same-segment : (s t : Option (List ℕ)) → is_same_segment s t ≡ true �
 same-segment None None same = refl
 same-segment (Some s) (Some t) same = ap (λ (x : List ℕ). Some x) ((bytes_eq-Decides s t).0 same)
 same-segment _ _ same = absurd cc
+
+pub segment-itself : (s : Option (List ℕ)) → is_same_segment s s ≡ true
+segment-itself None = refl
+segment-itself (Some s) = (bytes_eq-Decides s s).1 refl
 
 -- without segments there is none
 pub bare-segment : (m : MapView) (a : ℕ) → m.info.segments ≡ [] → segment_at m a ≡ None

@@ -1,10 +1,10 @@
 -- Which groups are left to decide whether a segment is entered again.
-use Rattle.std.proofs.Common.{arith, ◌≡◌, ◌∙◌, ◌+◌, ◌<◌, ◌&&◌, ◌||◌, ℕ, Bool, List, ◌∷◌, true, false, ap, length, map, refl, subst, sym, []}
+use Rattle.std.proofs.Common.{arith, ◌≡◌, ◌∙◌, ◌+◌, ◌<◌, ◌&&◌, ◌||◌, ℕ, Bool, List, ◌∷◌, true, false, ap, ap₂, length, map, refl, subst, sym, ⊎_elim, []}
 use Rattle.std.specs.Prelude.{◌==◌, Option, None, Some, codes, is_some}
 use Rattle.std.specs.Option.{option_or}
 use Rattle.std.specs.Str.{bytes_eq}
 use Rattle.std.proofs.Math.Bool.{and-or_distrib_right}
-use Rattle.std.proofs.lemmas.Bool.{false≢true, false_from_ne_true}
+use Rattle.std.proofs.lemmas.Bool.{cases_Bool, false≢true, false_from_ne_true}
 use Rattle.std.proofs.lemmas.Slice.Eq.{bytes_eq-Decides}
 use Rattle.info65.specs.Code.Segments.{segment_seen}
 use Rattle.info65.specs.Segments.{AreSegments, first_named, segment_covering, segment_key}
@@ -13,16 +13,17 @@ use Rattle.info65.specs.declared.information.segment.SegmentSpec.{SegmentSpec}
 use Rattle.info65.proofs.Public.{covering_keyed, none_keyed, one_key, some_keyed}
 use Rattle.map65.specs.ImageView.{ImageView}
 use Rattle.map65.specs.MapView.{MapView}
+use Rattle.map65.specs.Pieces.{is_in_run}
 use Rattle.map65.specs.Roles.{is_skip, role_of}
 use Rattle.da65.specs.SegmentReentry.{enters_again, is_entered_again, leads_back, segment_name}
 use Rattle.da65.specs.Code.SegmentReentry.{IsAfter, IsKeyed, IsKnownFrom, IsNew, by_key, has_had, is_back, is_same_key, of_name}
 use Rattle.da65.specs.declared.runs.segment_reentry.Entered.{Entered}
 use Rattle.da65.specs.Groups.{IsGroupPlace, group_addresses, group_len, groups_from}
 use Rattle.da65.specs.Lines.{IsGroupStart}
-use Rattle.da65.specs.Segments.{is_same_segment}
+use Rattle.da65.specs.Segments.{is_same_segment, segment_before}
 use Rattle.map65.specs.Segments.{segment_at}
 use Rattle.da65.proofs.Groups.GroupLemmas.{groups-end, groups-first, groups-next, groups-skip}
-use Rattle.da65.proofs.NextLine.SegmentLemmas.{bare-segment}
+use Rattle.da65.proofs.NextLine.SegmentLemmas.{bare-segment, segment-first, segment-next, segment-run, segment-skip}
 
 -- ---- keys
 
@@ -134,10 +135,17 @@ keys-told m i k a segment name code same are here keyed first is = grind arith
 
 pub known-first : (m : MapView) (e : Entered) → IsNew e → IsKnownFrom m 0 e
 unfolding is_entered_again
-known-first m e new = grind (arith, none-asked, groups-first)
+known-first m e new = grind (arith, none-asked, groups-first, segment-first)
 
 pub known-skip : (m : MapView) (k : ℕ) (e : Entered) → IsGroupPlace m k → k < length m.image.bytes → is_skip (role_of m.info (m.image.start + k)) ≡ true → IsKnownFrom m k e → IsKnownFrom m (k + 1) e
-known-skip m k e place low skip known = grind (arith, groups-skip)
+known-skip m k e place low skip known =
+    let same = segment-skip m k low skip in
+    record {
+      keyed = subst (λ (s : Option (List ℕ)). IsKeyed m.info.segments s e.last) (sym same) known.keyed;
+      had = known.had;
+      same = known.same;
+      rest = ap₂ (λ (s : Option (List ℕ)) (gs : List ℕ). enters_again s known.had (map (segment_at m) gs)) same (sym (groups-skip m k place low skip)) ∙ known.rest;
+    }
 
 -- the group that begins with the k-th byte leads back, or those after it decide
 known-here : (m : MapView) (k : ℕ) (e : Entered) (segment name : Option ℕ) → IsGroupStart m k → HasKeys m k segment name → (known : IsKnownFrom m k e)
@@ -152,16 +160,28 @@ pub known-next : (m : MapView) (k len : ℕ) (e new : Entered) (segment name : O
 known-next m k len e new segment name start keys known back is_len after =
     let segments : List SegmentView = m.info.segments in
     let s : Option (List ℕ) = segment_at m (m.image.start + k) in
+    let next : segment_before m (k + len) ≡ s = ap (λ (n : ℕ). segment_before m (k + n)) is_len ∙ segment-next m k start in
     record {
-      segment = s;
-      keyed = subst (IsKeyed segments s) (sym after.last) keys.keyed;
+      keyed = rw next (subst (IsKeyed segments s) (sym after.last) keys.keyed);
       had = segment_name s ∷ known.had;
       same = λ t. ap (λ (b : Bool). bytes_eq (segment_name s) t || b) (known.same t) ∙ sym (added-by-key segments (has_had e) (has_had new) (segment_name s) t name keys.sound keys.named after.had);
-      rest = ap (λ (n : ℕ). enters_again s (segment_name s ∷ known.had) (map (segment_at m) (groups_from m (k + n)))) is_len ∙ (rw back at (known-here m k e segment name start keys known));
+      rest = ap (λ (t : Option (List ℕ)). enters_again t (segment_name s ∷ known.had) (map (segment_at m) (groups_from m (k + len)))) next
+          ∙ ap (λ (n : ℕ). enters_again s (segment_name s ∷ known.had) (map (segment_at m) (groups_from m (k + n)))) is_len ∙ (rw back at (known-here m k e segment name start keys known));
     }
 
 pub known-end : (m : MapView) (k : ℕ) (e : Entered) → k ≡ length m.image.bytes → IsKnownFrom m k e → false ≡ is_entered_again m
 known-end m k e end known = grind (arith, enters-none, groups-end)
+
+-- the key of the segment of a group's first byte, by that of the group before where both lie in one run
+pub keyed-after : (m : MapView) (k a : ℕ) (e : Entered) (segment : Option ℕ) → IsGroupStart m k → IsByte m k a → IsKnownFrom m k e
+    → (is_in_run m a ≡ true → segment ≡ e.last) → (is_in_run m a ≡ false → IsKeyed m.info.segments (segment_at m a) segment) → IsKeyed m.info.segments (segment_at m a) segment
+keyed-after m k a e segment start here known run first =
+    ⊎_elim
+    (λ yes.
+    let same : segment_before m k ≡ segment_at m a = segment-run m k start (ap (is_in_run m) (sym here.address) ∙ yes) ∙ ap (segment_at m) (sym here.address) in
+    rw (run yes, ← same) known.keyed)
+    first
+    (cases_Bool (is_in_run m a))
 
 -- ---- no segments
 

@@ -17,9 +17,9 @@ use Rattle.stmt65.specs.declared.source_line.Minus.TheVariants.{Zero, One}
 use Rattle.stmt65.specs.Symbols.{Definition}
 use Rattle.stmt65.specs.declared.directive.Directive.{Directive}
 use Rattle.stmt65.specs.declared.directive.Directive.TheVariants.{Word, Addr}
-use Rattle.stmt65.specs.Coding.{Fixed, Entry, coding, datum_fragments}
+use Rattle.stmt65.specs.Coding.{State, Fixed, Entry, coding, datum_fragments}
 use Rattle.stmt65.specs.Tables.{entry_len, order_of, entries, cut_text}
-use Rattle.stmt65.specs.Meaning.{State, has_unknown_cpu, cpu_after, defined_by, is_twice, operation_in}
+use Rattle.stmt65.specs.Meaning.{has_unknown_cpu, cpu_after, defined_by, is_past_start, is_twice, operation_in}
 use Rattle.map65.specs.ImageView.{AreBytes, ImageView}
 use Rattle.map65.specs.Targets.{entry_of}
 use Rattle.da65.specs.BaseNames.{AreSound, Names}
@@ -44,13 +44,13 @@ use Rattle.map65.specs.Items.{code_size}
 -- ---- instructions
 
 pub mode_is_chosen_back : ModeIsChosenBack
-mode_is_chosen_back image m p cpu above a bytes op os names known h =
-    let is = begins_with (table_of cpu) bytes op h.begins in
-    let opcode = (encoded-decoded (table_of cpu) (table_of-sound cpu) is.first op).1 is.opcode in
+mode_is_chosen_back image m p s a bytes op os names known h =
+    let is = begins_with (table_of s.cpu) bytes op h.begins in
+    let opcode = (encoded-decoded (table_of s.cpu) (table_of-sound s.cpu) is.first op).1 is.opcode in
     record {
       opcode = is.first;
       is_opcode = opcode;
-      coded = coded_in_mode image m p names cpu above known op.mnemonic is.first op.mode opcode a bytes h.are_bytes is.long os h.has;
+      coded = coded_in_mode image m p names s.cpu s.above known op.mnemonic is.first op.mode opcode a bytes h.are_bytes is.long os h.has s.at s.layout;
     }
 
 -- the first of some bytes, and those after it
@@ -64,11 +64,11 @@ module _ (image : ImageView) (m : Names) (names : AreSound image m) where
 
   instruction_stands : (p : ℕ → Bool) (s : State) (bytes : List ℕ) (op : Op) (os : OperandsView) → KnowsConstants m p s.above → IsWritten m (table_of s.cpu) s.at bytes op os → s.at + length bytes ≤ 65536
       → Stands Full s (Instr op.mnemonic (source_form op.mode (is_forced (table_of s.cpu) op bytes) os)) (take (len_of op.mode) bytes)
-  unfolding has_unknown_cpu cpu_after mode_is_chosen_back
+  unfolding has_unknown_cpu cpu_after is_past_start mode_is_chosen_back
   instruction_stands p s bytes op os known h room =
       let is = begins_with (table_of s.cpu) bytes op h.begins in
       let long : len_of op.mode ≤ length bytes = is.long in
-      let codes = mode_is_chosen_back image m p s.cpu s.above s.at bytes op os names known h in
+      let codes = mode_is_chosen_back image m p s s.at bytes op os names known h in
       let give = bytes_of_operands image m names op.mode s.at bytes os h.are_bytes long (omega arith) h.has in
       let all = fixed_gives Full (s.at + len_of op.mode) is.first (fragments_in op.mode os) (drop 1 (take (len_of op.mode) bytes)) give in
       record {
@@ -76,23 +76,24 @@ module _ (image : ImageView) (m : Names) (names : AreSound image m) where
         known_cpu = refl;
         next_cpu = refl;
         coded = codes.coded;
+        starts = refl;
         gives = rw (length-take-le (len_of op.mode) bytes long, ← first_again (len_of op.mode) is.first is.past bytes is.bytes_are (len-positive op.mode)) all;
       }
 
   -- ---- groups
 
   numbers_stand : (d : Directive) (s : State) (bytes : List ℕ) → AreBytes bytes → length bytes % entry_len d ≡ 0 → Stands Full s (Values d (map (entry_value d) (entries d bytes))) bytes
-  unfolding has_unknown_cpu cpu_after coding
-  numbers_stand d s bytes are whole = record { fragments = map (Entry d) (map (entry_value d) (entries d bytes)); known_cpu = refl; next_cpu = refl; coded = refl; gives = entries_give Full (s.at + length bytes) d bytes are whole }
+  unfolding has_unknown_cpu cpu_after coding is_past_start
+  numbers_stand d s bytes are whole = record { fragments = map (Entry d) (map (entry_value d) (entries d bytes)); known_cpu = refl; next_cpu = refl; coded = refl; starts = refl; gives = entries_give Full (s.at + length bytes) d bytes are whole }
 
   text_stands : (s : State) (bytes : List ℕ) → AreBytes bytes → Stands Full s (Data (cut_text bytes)) bytes
-  unfolding has_unknown_cpu cpu_after coding
-  text_stands s bytes are = record { fragments = flat_map datum_fragments (cut_text bytes); known_cpu = refl; next_cpu = refl; coded = refl; gives = text_give Full (s.at + length bytes) bytes are }
+  unfolding has_unknown_cpu cpu_after coding is_past_start
+  text_stands s bytes are = record { fragments = flat_map datum_fragments (cut_text bytes); known_cpu = refl; next_cpu = refl; coded = refl; starts = refl; gives = text_give Full (s.at + length bytes) bytes are }
 
   -- an entry whose expression has the value of its bytes
   entry_stands : (d : Directive) → entry_len d ≡ 2 → order_of d ≡ LittleEndian → (s : State) (v : Value) (bytes : List ℕ) → AreBytes bytes → length bytes ≡ 2 → AlwaysWorth Full v (entry_of bytes) → Stands Full s (Values d (v ∷ [])) bytes
-  unfolding has_unknown_cpu cpu_after coding
-  entry_stands d len low s v bytes are two worth = record { fragments = Entry d v ∷ []; known_cpu = refl; next_cpu = refl; coded = refl; gives = give bytes are two worth }
+  unfolding has_unknown_cpu cpu_after coding is_past_start
+  entry_stands d len low s v bytes are two worth = record { fragments = Entry d v ∷ []; known_cpu = refl; next_cpu = refl; coded = refl; starts = refl; gives = give bytes are two worth }
     where
       give : (bytes : List ℕ) → AreBytes bytes → length bytes ≡ 2 → AlwaysWorth Full v (entry_of bytes) → FragmentsGive Full (s.at + length bytes) (Entry d v ∷ []) bytes
       give [] are two worth = absurd cc

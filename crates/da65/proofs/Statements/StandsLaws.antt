@@ -9,8 +9,8 @@ use Rattle.isa65.specs.declared.cpu.Cpu.{Cpu}
 use Rattle.isa65.specs.declared.op.Op.{Op}
 use Rattle.stmt65.specs.SourceLine.{NumberDatum, Operation, Data, SourceLine}
 use Rattle.stmt65.specs.Symbols.{Definition}
-use Rattle.stmt65.specs.Coding.{Fragment, coding, datum_fragments}
-use Rattle.stmt65.specs.Meaning.{State, fragments_of, next_of, defined_by, has_unknown_cpu, has_no_form, is_undefined, is_twice, is_out_of_range, is_past_end, fault_of, bytes_of, cpu_after, after, operation_in}
+use Rattle.stmt65.specs.Coding.{State, Fragment, coding, datum_fragments}
+use Rattle.stmt65.specs.Meaning.{fragments_of, next_of, defined_by, has_unknown_cpu, has_no_form, is_undefined, is_twice, is_out_of_range, is_past_start, is_past_end, fault_of, bytes_of, cpu_after, after, operation_in}
 use Rattle.map65.specs.ImageView.{AreBytes}
 use Rattle.da65.specs.Instructions.{instruction_in}
 use Rattle.da65.proofs.Statements.FragmentLaws.{FragmentsGive, data_give}
@@ -20,7 +20,8 @@ pub record StandsTo (Full : List Definition → Type 0) (s : State) (o : Operati
   pub fragments : List Fragment
   pub known_cpu : has_unknown_cpu o ≡ false
   pub next_cpu : cpu_after s.cpu o ≡ cpu
-  pub coded : coding s.cpu s.above o ≡ Some fragments
+  pub coded : coding s o ≡ Some fragments
+  pub starts : is_past_start s o ≡ false
   pub gives : FragmentsGive Full (s.at + length bytes) fragments bytes
 
 -- the same of one that says nothing of the CPU
@@ -38,7 +39,7 @@ module _ (Full : List Definition → Type 0) (s : State) (source : SourceLine) (
   unfolding next_of
   next_is = rw (fragments_are, h.gives.long) refl
 
-  pub after_is : after s (Some source) ≡ record { at = s.at + length bytes; cpu = cpu; above = s.above ++ defined_by s.at source }
+  pub after_is : after s (Some source) ≡ record { at = s.at + length bytes; cpu = cpu; above = s.above ++ defined_by s.at source; layout = s.layout }
   unfolding after
   after_is = rw (next_is, h.next_cpu) refl
 
@@ -65,17 +66,18 @@ module _ (Full : List Definition → Type 0) (s : State) (source : SourceLine) (
   -- if it defines nothing twice, and all in the address space
   pub no_fault : (all : List Definition) → Full all → is_twice s source ≡ false → list_any (λ d. nat_lt 65535 d.value) (defined_by s.at source) ≡ false → s.at + length bytes ≤ 65536 → fault_of all s (Some source) ≡ None
   unfolding fault_of
-  no_fault all full new space room = rw (h.known_cpu, has_form, is_defined all full, new, in_range all full space, has_room room) refl
+  no_fault all full new space room = rw (h.known_cpu, has_form, is_defined all full, new, in_range all full space, h.starts, has_room room) refl
 
 -- ---- data
 
 pub data_stands : (Full : List Definition → Type 0) (s : State) (bytes : List ℕ) → AreBytes bytes → Stands Full s (Data (map NumberDatum bytes)) bytes
-unfolding has_unknown_cpu cpu_after coding
+unfolding has_unknown_cpu cpu_after coding is_past_start
 data_stands Full s bytes are = record {
   fragments = flat_map datum_fragments (map NumberDatum bytes);
   known_cpu = refl;
   next_cpu = refl;
   coded = refl;
+  starts = refl;
   gives = data_give Full (s.at + length bytes) bytes are;
 }
 

@@ -24,6 +24,7 @@ onto_fragments : (b : ℕ) (ds : List Datum) → flat_map datum_fragments (onto_
 onto_fragments b [] = refl
 onto_fragments b (NumberDatum n ∷ others) = refl
 onto_fragments b (StringDatum stretch ∷ others) = refl
+onto_fragments b (_ ∷ others) = refl
 
 pub text_give : (Full : List Definition → Type 0) (next : ℕ) (bytes : List ℕ) → AreBytes bytes → FragmentsGive Full next (flat_map datum_fragments (cut_text bytes)) bytes
 unfolding cut_text

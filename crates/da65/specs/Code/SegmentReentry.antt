@@ -9,6 +9,7 @@ use Rattle.da65.specs.Code.KeySet.{has_bit}
 use Rattle.da65.specs.SegmentReentry.{enters_again, is_among, is_entered_again}
 use Rattle.da65.specs.Groups.{groups_from}
 use Rattle.map65.specs.Segments.{segment_at}
+use Rattle.da65.specs.Segments.{segment_before}
 use Rattle.da65.specs.declared.runs.segment_reentry.Entered.{Entered}
 
 -- the key is that of the segment's name; the default has none
@@ -55,8 +56,7 @@ pub record IsNew (e : Entered) : Type 0 where
 -- The groups from the k-th byte on decide the warning, after groups of segments with the names `had`; and all that is asked of these is
 -- known by keys.
 pub record IsKnownFrom (m : MapView) (k : ℕ) (e : Entered) : Type 0 where
-  pub segment : Option (List ℕ)
-  pub keyed : IsKeyed m.info.segments segment e.last
+  pub keyed : IsKeyed m.info.segments (segment_before m k) e.last
   pub had : List (List ℕ)
   pub same : (t : List ℕ) → is_among had t ≡ of_name m.info.segments (has_had e) t
-  pub rest : enters_again segment had (map (segment_at m) (groups_from m k)) ≡ is_entered_again m
+  pub rest : enters_again (segment_before m k) had (map (segment_at m) (groups_from m k)) ≡ is_entered_again m

@@ -36,6 +36,9 @@ pub fn comment_at<'a, A: Allocator>(listed: &ListedImage<'a, A>, address: u16) -
     if !listed.is_marked() {
         return None;
     }
+    if !listed.map().has_name(address) {
+        return None;
+    }
     given_comment(listed.info(), address)
 }
 

@@ -2,7 +2,7 @@
 
 ghost use Rattle.std.specs.Prelude.{◌≡◌, ◌+◌, ◌-◌, ◌<◌, ◌≤◌, ℕ, [], IfSome, MatchOption, None, false, length, true};
 ghost use Rattle.std.specs.Bool.{OnTrue};
-ghost use Rattle.std.specs.List.{prefix_len};
+ghost use Rattle.std.specs.List.{list_all, prefix_len};
 ghost use Rattle.stmt65.specs.Printable.{IsNameLong};
 ghost use Rattle.map65.specs.Names.{has_name, place_of};
 ghost use Rattle.da65.specs.BaseNames.{base_name, is_constant, names_of};
@@ -18,6 +18,9 @@ use crate::listing::statement_line::put_plain;
 use map65::{ADDRESSES, Map, NameBuf, is_skip};
 use std::alloc::Allocator;
 use stmt65::{Line, Statement};
+
+/// How many cells are looked at together: there are long stretches without a name.
+const BLOCK: usize = 32;
 
 /// Whether a constant line defines the base that stands for the address, if there is one: the address lies outside
 /// the image, or its byte is skipped.
@@ -46,8 +49,36 @@ fn is_named_constant<A: Allocator>(
     map.has_name(address) && has_constant(map, address) && put_base(map, address, name)
 }
 
-/// How many of these cells of a map stand before the first whose address has a name.
-fn unnamed_before(cells: &[u16]) -> usize
+/// Whether the address of none of these cells of a map has a name. Each cell is looked at, so that the loop has no second way out and
+/// takes many cells at a time.
+fn are_unnamed(cells: &[u16]) -> bool
+    ensures { result ≡ list_all is_unnamed cells.now }
+{
+    let mut unnamed = true;
+    for cell in cells {
+        unnamed = unnamed & (*cell / 128 % 2 == 0);
+    }
+    unnamed
+}
+
+/// The cells after a block of them without a name, if they begin with one.
+fn after_unnamed(cells: &[u16]) -> Option<&[u16]>
+    ensures len { IfSome result (λ after. length cells.now ≡ BLOCK + length after.now) }
+    ensures unnamed { IfSome result (λ after. prefix_len is_unnamed cells.now ≡ BLOCK + prefix_len is_unnamed after.now) }
+{
+    if cells.len() < BLOCK {
+        return None;
+    }
+    let (block, after) = cells.split_at(BLOCK);
+    if are_unnamed(block) {
+        Some(after)
+    } else {
+        None
+    }
+}
+
+/// How many of these cells stand before the first whose address has a name, by each cell.
+fn unnamed_in(cells: &[u16]) -> usize
     ensures value { result ≡ prefix_len is_unnamed cells.now }
     ensures fits { result ≤ length cells.now }
 {
@@ -55,6 +86,18 @@ fn unnamed_before(cells: &[u16]) -> usize
         .iter()
         .take_while(|cell| **cell / 128 % 2 == 0)
         .count()
+}
+
+/// How many of these cells of a map stand before the first whose address has a name.
+fn unnamed_before(cells: &[u16]) -> usize
+    ensures value { result ≡ prefix_len is_unnamed cells.now }
+    ensures fits { result ≤ length cells.now }
+{
+    let mut rest = cells;
+    'stretches: while let Some(after) = after_unnamed(rest) {
+        rest = after;
+    }
+    cells.len() - rest.len() + unnamed_in(rest)
 }
 
 /// The first address from this one on that has a name, if it lies before `end`, else `end`.

@@ -70,7 +70,14 @@ fn is_shown<A: Allocator>(listed: &ListedImage<'_, A>, index: usize) -> bool
     ensures start { OnTrue result (IsGroupStart listed.now index) }
     ensures none { OnFalse result (IsGroupStart listed.now index → ⊥) }
 {
-    index < listed.bytes().len() && !is_skipped(listed.map(), listed.address(index))
+    if listed.bytes().len() <= index {
+        return false;
+    }
+    // No item begins at a skipped byte.
+    if listed.map().item_len(listed.address(index)) == 0 {
+        return false;
+    }
+    true
 }
 
 /// Replaces the buffer by the first line of the group that begins with the byte of this index, and returns the next place.
@@ -87,16 +94,15 @@ fn put_group_at<'a, A: Allocator>(
     requires segment { option_copied segment.old ≡ segment_before listed.now index }
     ensures { IsNext listed.now (groups_left listed.now index) out.new.items result (option_copied segment.new) }
 {
-    if listed.is_marked() {
-        return put_from_separator(out, listed, segment, names, index);
+    let address = listed.address(index);
+    if !listed.is_marked() {
+        return put_from_forwards(out, listed, names, index, address as usize + 1);
     }
-    put_from_forwards(
-        out,
-        listed,
-        names,
-        index,
-        listed.address(index) as usize + 1,
-    )
+    // A separator or a segment line stands only before the first group of a run.
+    if listed.map().is_in_run(address) {
+        return put_from_comments(out, listed, names, index, address as usize);
+    }
+    put_from_separator(out, listed, segment, names, index)
 }
 
 /// Replaces the buffer by the first line of the next group from this byte on, and returns the next place. `segment` is that of

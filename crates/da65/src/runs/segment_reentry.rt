@@ -1,9 +1,10 @@
 //! Whether a segment is entered again.
 
-ghost use Rattle.std.specs.Prelude.{◌≡◌, ◌||◌, Option, ℕ};
+ghost use Rattle.std.specs.Prelude.{◌≡◌, ◌||◌, Option, ℕ, true, false};
 ghost use Rattle.std.specs.Bool.{OnFalse};
 ghost use Rattle.da65.specs.Code.SegmentReentry.{IsAfter, IsKeyed, IsNew, has_had, is_back, is_same_key};
 ghost use Rattle.da65.specs.SegmentReentry.{is_entered_again};
+ghost use Rattle.map65.specs.Pieces.{is_in_run};
 ghost use Rattle.map65.specs.Segments.{segment_at};
 
 use crate::listing::line_groups::{group_len, is_skipped, role_inside};
@@ -28,6 +29,19 @@ fn segment_key<A: Allocator>(map: &Map<'_, A>, address: u16) -> Option<u16>
     ensures { IsKeyed map.now.info.segments (segment_at map.now address) result }
 {
     map.info().segment_key(address)
+}
+
+/// The key of the segment of a group's first byte: that of the group before, `last`, if both lie in one run, since a run has no
+/// segment border inside.
+fn key_after<A: Allocator>(map: &Map<'_, A>, address: u16, last: Option<u16>) -> Option<u16>
+    ensures run { is_in_run map.now address ≡ true → result ≡ last }
+    ensures first { is_in_run map.now address ≡ false → IsKeyed map.now.info.segments (segment_at map.now address) result }
+{
+    if map.is_in_run(address) {
+        last
+    } else {
+        segment_key(map, address)
+    }
 }
 
 impl Entered {
@@ -86,7 +100,7 @@ impl Entered {
 /// Whether a segment line of the listing leads to a segment that an earlier group had.
 ///
 /// The default counts as CODE. The names of the segments are compared by their keys, of which a set of a fixed
-/// size is kept, so this allocates nothing. The time grows as n log s with n groups and s segments.
+/// size is kept, so this allocates nothing. The time grows as n + r log s with n groups, r runs and s segments.
 #[tactic(auto, unfolding(crate::specs::SegmentReentry::is_entered_again))]
 pub fn is_entered_again<A: Allocator>(map: &Map<'_, A>) -> bool
     ensures { result ≡ is_entered_again map.now }
@@ -106,7 +120,7 @@ pub fn is_entered_again<A: Allocator>(map: &Map<'_, A>) -> bool
         if is_skipped(map, address) {
             at += 1;
         } else {
-            let segment = segment_key(map, address);
+            let segment = key_after(map, address, entered.last);
             // The name by which a segment is compared with those of earlier groups: the default counts as CODE.
             if entered.add(segment, segment.or(code)) {
                 return true;

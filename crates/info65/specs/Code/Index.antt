@@ -1,5 +1,5 @@
 -- The index of names, and the tables that say which addresses belong to a range or to a segment.
-use Rattle.std.specs.Prelude.{◌≡◌, ◌≢◌, ◌≤◌, ◌<◌, ◌+◌, ◌||◌, ℕ, zero, suc, Bool, false, List, Option, Some, None, All, AllPairs, get_or, length, option_map, slice_get, if◌then◌else◌}
+use Rattle.std.specs.Prelude.{◌≡◌, ◌≢◌, ◌≤◌, ◌<◌, ◌+◌, ◌||◌, ◌&&◌, ℕ, zero, suc, Bool, false, List, Option, Some, None, All, AllPairs, get_or, length, nat_le, option_map, slice_get, if◌then◌else◌}
 use Rattle.std.specs.List.{find, list_any}
 use Rattle.std.specs.Str.{bytes_eq}
 use Rattle.info65.specs.Code.Numbers.{NumbersView}
@@ -47,14 +47,16 @@ unfoldable pub any_in : List Bool → ℕ → ℕ → Bool
 any_in table first zero = false
 any_in table first (suc n) = get_or table first false || any_in table (first + 1) n
 
+-- the cells from `first` to `last` are set too
+abbrev pub AreSetToo : ℕ → ℕ → List Bool → List Bool → Type 0
+AreSetToo first last old new = (a : ℕ) → a < 0x1_0000 → get_or new a false ≡ (get_or old a false || (nat_le first a && nat_le a last))
+
 -- the cells say which addresses belong to a range
 pub record AreRanged (ranges : List RangeSpec) (table : List Bool) : Type 0 where
   pub ordered : All (λ r. r.first ≤ r.last) ranges
-  pub size : length table ≡ 0x1_0000
   pub ranged : (a : ℕ) → a < 0x1_0000 → get_or table a false ≡ list_any (λ r. has_address r a) ranges
 
 -- the cells say which addresses belong to a segment
 pub record AreMarked (segments : List SegmentView) (table : List Bool) : Type 0 where
   pub ordered : All (λ s. s.first ≤ s.last) segments
-  pub size : length table ≡ 0x1_0000
   pub marked : (a : ℕ) → a < 0x1_0000 → get_or table a false ≡ list_any (λ s. contains s a) segments

@@ -6,6 +6,7 @@ ghost use Rattle.info65.specs.Code.Kept.{kept_part};
 ghost use Rattle.info65.specs.Code.Names.{given_seen};
 ghost use Rattle.info65.specs.Faults.{out_of_memory};
 ghost use Rattle.info65.specs.Labels.{name_part};
+ghost use Rattle.info65.specs.Ranges.{range_part};
 ghost use Rattle.info65.specs.Reader.{group};
 
 use crate::fault::{InfoFault, InfoFaultKind};
@@ -13,13 +14,12 @@ use crate::groups::group_list::GroupList;
 use crate::groups::group_values::is_given;
 use crate::groups::include_groups::{has_room, include_in};
 use crate::groups::label_groups::{label_in, range_name};
-use crate::groups::range_groups::{add_range, range_fault, range_in};
+use crate::groups::range_groups::{add_range, range_fault, range_part};
 use crate::groups::segment_groups::{mark_segment, segment_fault};
 use crate::information::name::Given;
 use crate::information::pool::NamePool;
 use crate::information::range::RangeSpec;
 use crate::lookup::index::Index;
-use crate::lookup::marks::{ADDRESSES, blank_table};
 use crate::syntax::assignment::{Assignment, Group};
 use crate::syntax::attribute::{Attribute, GroupKind};
 use std::alloc::Allocator;
@@ -70,14 +70,19 @@ fn keep<'a, A: Allocator>(
     }
 }
 
-// The name that a group without a fault says, if it says one.
-fn name_part<'a>(kind: GroupKind, given: &[Assignment<'a>]) -> Option<Given<'a>>
+// The name that a group without a fault says, if it says one. This is the range that it says.
+fn name_part<'a>(
+    kind: GroupKind,
+    given: &[Assignment<'a>],
+    range: Option<RangeSpec>,
+) -> Option<Given<'a>>
+    requires { option_to_list range ≡ range_part (group kind (map assignment_seen given.now)) }
     ensures { option_to_list (option_map given_seen result) ≡ name_part (group kind (map assignment_seen given.now)) }
 {
     match kind {
-        GroupKind::Range => match range_in(given) {
-            Ok(range) => range_name(given, range),
-            Err(_) => None,
+        GroupKind::Range => match range {
+            Some(range) => range_name(given, range),
+            None => None,
         },
         GroupKind::Label => label_in(given).ok(),
         GroupKind::Global | GroupKind::Segment | GroupKind::Include => None,
@@ -103,9 +108,9 @@ impl<'a, A: Allocator + Copy> Closed<'a, A> {
         let groups = GroupList::new();
         let kept = Vec::new(alloc);
         let ranges = Vec::new(alloc);
-        let ranged = blank_table(alloc, ADDRESSES)?;
+        let ranged = Vec::new(alloc);
         let names = Index::new(alloc, bytes);
-        let segmented = blank_table(alloc, ADDRESSES)?;
+        let segmented = Vec::new(alloc);
         Ok(Closed {
             groups,
             kept,
@@ -164,9 +169,11 @@ impl<'a, A: Allocator + Copy> Closed<'a, A> {
             names,
             mut segmented,
         } = self;
-        let names = names.with_optional(name_part(group.kind, group.given.as_slice()))?;
-        add_range(&mut ranges, ranged.as_mut_slice(), &group)?;
-        mark_segment(segmented.as_mut_slice(), &group);
+        let range = range_part(&group);
+        let name = name_part(group.kind, group.given.as_slice(), range);
+        let names = names.with_optional(name)?;
+        add_range(&mut ranges, &mut ranged, range)?;
+        mark_segment(&mut segmented, &group)?;
         let groups = groups.with(&group);
         keep(&mut kept, group)?;
         Ok(Closed {

@@ -1,10 +1,11 @@
 //! The ranges that groups RANGE say.
 
-ghost use Rattle.std.specs.Prelude.{◌≡◌, ◌++◌, IfErr, IfOk, length, map, option_to_list};
+ghost use Rattle.std.specs.Prelude.{◌≡◌, ◌≤◌, ◌++◌, IfErr, IfOk, IfSome, map, option_to_list};
 ghost use Rattle.info65.specs.Closing.{range_fault};
 ghost use Rattle.info65.specs.Code.Groups.{assignment_seen, group_seen};
 ghost use Rattle.info65.specs.Code.Lookup.{IsRangeFault, RangesToo};
 ghost use Rattle.info65.specs.Faults.{out_of_memory};
+ghost use Rattle.info65.specs.Groups.{GroupView};
 ghost use Rattle.info65.specs.Ranges.{last_from, range_between, range_in, range_of_parts, range_part};
 ghost use Rattle.info65.specs.declared.information.range.RangeSpec.{RangeSpec};
 
@@ -82,7 +83,6 @@ pub fn range_fault<'a, A: Allocator + Copy>(
     names: &Index<'a, A>,
     given: &[Assignment<'a>],
 ) -> Option<InfoFaultKind>
-    requires { length table.now ≡ 0x1_0000 }
     ensures { IsRangeFault table.now names.now (map assignment_seen given.now) result }
 {
     match range_in(given) {
@@ -97,8 +97,8 @@ pub fn range_fault<'a, A: Allocator + Copy>(
     }
 }
 
-// The range of a group RANGE.
-fn range_part<A: Allocator>(group: &Group<A>) -> Option<RangeSpec>
+/// The range of a group RANGE.
+pub fn range_part<A: Allocator>(group: &Group<A>) -> Option<RangeSpec>
     ensures { option_to_list result ≡ range_part (group_seen group.now) }
 {
     match group.kind {
@@ -107,21 +107,20 @@ fn range_part<A: Allocator>(group: &Group<A>) -> Option<RangeSpec>
     }
 }
 
-/// Adds and marks the range of the group, if it says one.
-pub fn add_range<A: Allocator, B: Allocator>(
+/// Adds and marks the range of a group, if it says one.
+pub fn add_range<A: Allocator>(
     ranges: &mut Vec<RangeSpec, A>,
-    table: &mut [bool],
-    group: &Group<B>,
+    table: &mut Vec<bool, A>,
+    range: Option<RangeSpec>,
 ) -> Result<(), InfoFault>
-    requires { length table.old ≡ 0x1_0000 }
-    ensures done { IfOk result (λ _. ranges.new.items ≡ ranges.old.items ++ range_part (group_seen group.now)) }
-    ensures size { length table.new ≡ length table.old }
-    ensures marked { IfOk result (λ _. RangesToo (group_seen group.now) table.old table.new) }
+    requires { IfSome range (λ r. r.first ≤ r.last) }
+    ensures done { IfOk result (λ _. ranges.new.items ≡ ranges.old.items ++ option_to_list range) }
+    ensures marked { IfOk result (λ _. (g : GroupView) → option_to_list range ≡ range_part g → RangesToo g table.old.items table.new.items) }
     ensures err { IfErr result (λ e. e ≡ out_of_memory) }
 {
-    if let Some(range) = range_part(group) {
+    if let Some(range) = range {
         ranges.push(range)?;
-        mark(table, range.first, range.last);
+        mark(table, range.first, range.last)?;
     }
     Ok(())
 }

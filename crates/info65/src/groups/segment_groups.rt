@@ -1,6 +1,6 @@
 //! The segments that groups SEGMENT say.
 
-ghost use Rattle.std.specs.Prelude.{◌≡◌, ◌≤◌, IfErr, IfOk, None, Ok, Some, length, map, option_map, option_to_list};
+ghost use Rattle.std.specs.Prelude.{◌≡◌, ◌≤◌, IfErr, IfOk, None, Ok, Some, map, option_map, option_to_list};
 ghost use Rattle.info65.specs.Closing.{segment_fault};
 ghost use Rattle.info65.specs.Code.Groups.{assignment_seen, group_seen};
 ghost use Rattle.info65.specs.Code.Lookup.{IsSegmentFault, SegmentsToo};
@@ -58,7 +58,6 @@ fn segment_from<'a>(
 
 /// The fault of a group SEGMENT at its closing brace, after segments that the table marks.
 pub fn segment_fault(table: &[bool], given: &[Assignment]) -> Option<InfoFaultKind>
-    requires { length table.now ≡ 0x1_0000 }
     ensures { IsSegmentFault table.now (map assignment_seen given.now) result }
 {
     match segment_in(given) {
@@ -84,14 +83,17 @@ fn segment_part<'a, A: Allocator>(group: &Group<'a, A>) -> Option<SegmentParts<'
 }
 
 /// Marks the segment of the group, if it says one.
-pub fn mark_segment<A: Allocator>(table: &mut [bool], group: &Group<A>)
-    requires { length table.old ≡ 0x1_0000 }
-    ensures size { length table.new ≡ length table.old }
-    ensures marked { SegmentsToo (group_seen group.now) table.old table.new }
+pub fn mark_segment<A: Allocator, B: Allocator>(
+    table: &mut Vec<bool, B>,
+    group: &Group<A>,
+) -> Result<(), InfoFault>
+    ensures marked { IfOk result (λ _. SegmentsToo (group_seen group.now) table.old.items table.new.items) }
+    ensures err { IfErr result (λ e. e ≡ out_of_memory) }
 {
     if let Some(segment) = segment_part(group) {
-        mark(table, segment.first, segment.last);
+        mark(table, segment.first, segment.last)?;
     }
+    Ok(())
 }
 
 // The segment with a name of its own.

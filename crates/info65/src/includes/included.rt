@@ -1,7 +1,7 @@
 //! The names of an information with those of an include file.
 
 ghost use Rattle.std.specs.Prelude.{Ok, option_map};
-ghost use Rattle.info65.specs.Code.Includes.{ReadsFile, name_result_seen, with_added};
+ghost use Rattle.info65.specs.Code.Includes.{ReadsFile, name_result_seen};
 ghost use Rattle.info65.specs.Code.Names.{given_seen};
 ghost use Rattle.info65.specs.Code.Results.{Gives, Sees};
 ghost use Rattle.info65.specs.Includes.{unless_ignored, line_adds, optional_adds};
@@ -92,21 +92,6 @@ fn line_adds<'a, A: Allocator + Copy>(
     unless_ignored(include.ignore_unknown, number, added)
 }
 
-// The names with the one that a line of this number adds, if it adds one.
-fn with_line<'a, A: Allocator + Copy>(
-    index: Index<'a, A>,
-    include: &IncludeSpec<A>,
-    number: u32,
-    line: &'a [u8],
-) -> Result<Index<'a, A>, InfoFault>
-    ensures { Gives (λ i. i) result (with_added index.entry (line_adds include.now number index.entry line.now)) }
-{
-    match line_adds(&index, include, number, line)? {
-        Some(name) => index.with(name),
-        None => Ok(index),
-    }
-}
-
 // The names with those of an include file, or its first fault.
 #[tactic(auto, unfolding(crate::specs::Includes::names_included))]
 fn with_file<'a, A: Allocator + Copy>(
@@ -123,9 +108,13 @@ fn with_file<'a, A: Allocator + Copy>(
     let mut rest = bytes;
     let mut number = 1;
     'lines: while let Some((line, after)) = first_line(rest) {
-        names = with_line(names, include, number, line)?;
+        let added = line_adds(&names, include, number, line)?;
         rest = after;
         number += 1;
+        let Some(name) = added else {
+            continue;
+        };
+        names = names.with(name)?;
     }
     Ok(names)
 }

@@ -1,15 +1,15 @@
 //! What a token is, from its first byte on.
 
-ghost use Rattle.std.specs.Prelude.{◌≡◌, ◌+◌, ◌-◌, ◌<◌, ◌≤◌, IfOk, IfSome, length};
+ghost use Rattle.std.specs.Prelude.{◌≡◌, ◌+◌, ◌-◌, ◌<◌, ◌≤◌, IfOk, IfSome, get_or, length};
 ghost use Rattle.std.specs.List.{prefix_len};
 ghost use Rattle.info65.specs.Lexemes.{character_at, in_class, lexeme_at, mark, number_at, number_in, starts_word, string_at, word_at};
+ghost use Rattle.info65.specs.Code.Classes.{bit_of, classes_of};
 ghost use Rattle.info65.specs.Code.Results.{Sees};
 ghost use Rattle.info65.specs.Code.Steps.{kind_seen, lexeme_seen};
 
 use crate::fault::{InfoFault, InfoFaultKind};
 use crate::syntax::digits::number_of_digits;
 use crate::syntax::token::TokenKind;
-use text65::is_word_byte;
 
 /// Bytes that run on within a token.
 #[derive(Clone, Copy)]
@@ -27,16 +27,54 @@ pub struct Lexeme<'a> {
     pub more: usize,
 }
 
-#[tactic(auto, unfolding(crate::specs::Lexemes::in_class))]
+// The classes of each byte: 1 for a word, 2 and 4 for decimal and hexadecimal digits, 8 for a text.
+const CLASSES: [u8; 256] = [
+    0, 0, 0, 0, 0, 0, 0, 0, 0, 8, 0, 0, 0, 0, 0, 0, 0, 0, 0, 0, 0, 0, 0, 0, 0, 0, 0, 0, 0, 0, 0, 0,
+    8, 8, 0, 8, 8, 8, 8, 8, 8, 8, 8, 8, 8, 8, 8, 8, 15, 15, 15, 15, 15, 15, 15, 15, 15, 15, 8, 8,
+    8, 8, 8, 8, 8, 13, 13, 13, 13, 13, 13, 9, 9, 9, 9, 9, 9, 9, 9, 9, 9, 9, 9, 9, 9, 9, 9, 9, 9, 9,
+    9, 8, 8, 8, 8, 9, 8, 13, 13, 13, 13, 13, 13, 9, 9, 9, 9, 9, 9, 9, 9, 9, 9, 9, 9, 9, 9, 9, 9, 9,
+    9, 9, 9, 8, 8, 8, 8, 0, 8, 8, 8, 8, 8, 8, 8, 8, 8, 8, 8, 8, 8, 8, 8, 8, 8, 8, 8, 8, 8, 8, 8, 8,
+    8, 8, 8, 8, 8, 8, 8, 8, 8, 8, 8, 8, 8, 8, 8, 8, 8, 8, 8, 8, 8, 8, 8, 8, 8, 8, 8, 8, 8, 8, 8, 8,
+    8, 8, 8, 8, 8, 8, 8, 8, 8, 8, 8, 8, 8, 8, 8, 8, 8, 8, 8, 8, 8, 8, 8, 8, 8, 8, 8, 8, 8, 8, 8, 8,
+    8, 8, 8, 8, 8, 8, 8, 8, 8, 8, 8, 8, 8, 8, 8, 8, 8, 8, 8, 8, 8, 8, 8, 8, 8, 8, 8, 8, 8, 8, 8, 8,
+    8, 8, 8, 8, 8, 8, 8, 8,
+];
+
+// The bit of a class.
+fn bit_of(class: Class) -> u8
+    ensures value { result ≡ bit_of class }
+    ensures some { 0 < result }
+{
+    match class {
+        Class::Word => 1,
+        Class::Decimal => 2,
+        Class::Hexadecimal => 4,
+        Class::Text => 8,
+    }
+}
+
+fn classes_in(classes: &[u8], byte: u8) -> u8
+    ensures { result ≡ get_or classes.now byte 0 }
+{
+    match classes.get(usize::from(byte)) {
+        Some(classes) => *classes,
+        None => 0,
+    }
+}
+
+// The classes of a byte.
+#[tactic(auto, unfolding(crate::specs::Code::Classes::classes_of))]
+fn classes_of(byte: u8) -> u8
+    ensures { result ≡ classes_of byte }
+{
+    classes_in(&CLASSES, byte)
+}
+
+#[tactic(auto, using(crate::proofs::ClassLemmas::class_told))]
 fn is_in(class: Class, byte: u8) -> bool
     ensures { result ≡ in_class class byte }
 {
-    match class {
-        Class::Word => is_word_byte(byte),
-        Class::Decimal => byte.is_ascii_digit(),
-        Class::Hexadecimal => byte.is_ascii_hexdigit(),
-        Class::Text => byte == b'\t' || byte >= 0x20 && byte < 0x7F && byte != b'"' || byte >= 0x80,
-    }
+    classes_of(byte) / bit_of(class) % 2 == 1
 }
 
 // How many bytes at the front are of the class.

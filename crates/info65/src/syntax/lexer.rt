@@ -1,11 +1,12 @@
 //! The tokens of an information file, one by one.
 
-ghost use Rattle.std.specs.Prelude.{◌≡◌, ◌+◌, ◌≤◌, ◌<◌, ◌^◌, length};
-ghost use Rattle.info65.specs.Tokens.{is_blank, opens_comment, stops, tokens_of};
+ghost use Rattle.std.specs.Prelude.{◌≡◌, ◌+◌, ◌≤◌, ◌<◌, ◌^◌, ℕ, length, true};
+ghost use Rattle.info65.specs.Tokens.{is_blank, opens_comment, stops, tokens_after, tokens_of};
 
 use crate::fault::InfoFault;
 use crate::syntax::lexeme::lexeme_at;
 use crate::syntax::token::Token;
+use memchr::memchr;
 use std::marker::Model;
 
 /// What comes next: a token, or the end, on this line.
@@ -93,6 +94,20 @@ fn opens_comment(bytes: &[u8]) -> bool
     bytes[0] == b'#' || bytes[0] == b'/' && bytes.len() > 1 && bytes[1] == b'/'
 }
 
+// What is left of a text that begins in a comment: from the line feed on that ends it.
+fn after_comment(bytes: &[u8]) -> &[u8]
+    ensures tokens { (line : ℕ) → tokens_after 0 true line bytes.now ≡ tokens_of line result.now }
+    ensures len { length result.now ≤ length bytes.now }
+{
+    match memchr(b'\n', bytes) {
+        Some(len) => {
+            let (_, rest) = bytes.split_at(len);
+            rest
+        }
+        None => &[],
+    }
+}
+
 // What is left after blanks and comments, and its line.
 fn after_blanks(bytes: &[u8], first_line: u32) -> (&[u8], u32)
     requires { first_line + length bytes.now < 2 ^ 32 }
@@ -102,18 +117,17 @@ fn after_blanks(bytes: &[u8], first_line: u32) -> (&[u8], u32)
 {
     let mut rest = bytes;
     let mut line = first_line;
-    let mut in_comment = false;
     'bytes: while let Some((byte, after)) = rest.split_first() {
         if *byte == b'\n' {
             line += 1;
-            in_comment = false;
-        } else if !in_comment && !is_blank(*byte) {
-            if !opens_comment(rest) {
-                return (rest, line);
-            }
-            in_comment = true;
+            rest = after;
+        } else if is_blank(*byte) {
+            rest = after;
+        } else if opens_comment(rest) {
+            rest = after_comment(after);
+        } else {
+            return (rest, line);
         }
-        rest = after;
     }
     (rest, line)
 }

@@ -1,18 +1,24 @@
 -- The steps of a search, and what holds at each.
-use Rattle.std.specs.Prelude.{◌≡◌, ◌⊎◌, ℕ, ◌<◌, length, slice_index, Contains, Bool, true, List, [], ◌∷◌, ◌++◌, if◌then◌else◌, slice_set, Option, Some, None}
+use Rattle.std.specs.Prelude.{◌≡◌, ◌⊎◌, ℕ, ◌+◌, ◌≤◌, length, Contains, Bool, true, false, List, [], ◌∷◌, ◌++◌, if◌then◌else◌, slice_set, Option, Some, None}
 use Rattle.map65.specs.ImageView.{ImageView, is_inside}
 use Rattle.map65.specs.MapView.{MapView}
 use Rattle.reach65.specs.Flow.{LeadsTo}
-use Rattle.reach65.specs.Reached.{Reached, is_marked}
+use Rattle.reach65.specs.Reached.{AreReached, Reached, is_marked}
+use Rattle.reach65.specs.Sound.{IsApart, IsSound, is_fine, marked_count}
 
--- the marks, and the marked addresses that are still to be looked at
+-- The entries, the marks, the marked addresses that are still to be looked at, and those that were marked since the search was last
+-- begun, in order.
 pub record State : Type 0 where
+  pub entries : List ℕ
   pub marks : List Bool
   pub todo : List ℕ
+  pub added : List ℕ
 
 -- after an address was marked, unless it was
 unfoldable pub put : State → ℕ → State
-put s a = if is_marked s.marks a then s else record { marks = slice_set s.marks a true; todo = s.todo ++ a ∷ [] }
+put s a =
+    if is_marked s.marks a then s
+    else record s { marks = slice_set s.marks a true; todo = s.todo ++ a ∷ []; added = s.added ++ a ∷ [] }
 
 -- the same for an address of the image alone
 unfoldable pub put_inside : ImageView → State → ℕ → State
@@ -21,6 +27,10 @@ put_inside image s a = if is_inside image a then put s a else s
 abbrev pub put_some : State → Option ℕ → State
 put_some s None = s
 put_some s (Some a) = put s a
+
+-- an address joins the entries
+unfoldable pub put_entry : ImageView → State → ℕ → State
+put_entry image s a = put_inside image (record s { entries = s.entries ++ a ∷ [] }) a
 
 -- ---- what holds at each step
 
@@ -42,6 +52,69 @@ Nothing a = ⊥
 pub record HasEntries (m : MapView) (entries : List ℕ) (marks : List Bool) : Type 0 where
   pub each : (a : ℕ) → Contains entries a → is_inside m.image a ≡ true → is_marked marks a ≡ true
 
--- the same of the first k entries
-pub record HasEntriesTo (m : MapView) (entries : List ℕ) (k : ℕ) (marks : List Bool) : Type 0 where
-  pub each : (i : ℕ) → i < k → is_inside m.image (slice_index entries i) ≡ true → is_marked marks (slice_index entries i) ≡ true
+-- a search that goes on
+pub record IsBegun (m : MapView) (s : State) : Type 0 where
+  pub search : IsSearch m s.entries Nothing s
+  pub entries : HasEntries m s.entries s.marks
+
+-- a search that has found all
+pub record IsDone (m : MapView) (s : State) : Type 0 where
+  pub reached : AreReached m s.entries s.marks
+  pub todo : s.todo ≡ []
+
+-- an address was taken from the list
+pub record HasNext (old new : State) (a : ℕ) : Type 0 where
+  pub entries : new.entries ≡ old.entries
+  pub marks : new.marks ≡ old.marks
+  pub todo : old.todo ≡ new.todo ++ a ∷ []
+  pub added : new.added ≡ old.added
+
+-- the list is empty
+pub record IsAtEnd (old new : State) : Type 0 where
+  pub none : old.todo ≡ []
+  pub entries : new.entries ≡ old.entries
+  pub marks : new.marks ≡ old.marks
+  pub todo : new.todo ≡ []
+  pub added : new.added ≡ old.added
+
+-- ---- trials
+
+-- without the marks of these addresses
+unfoldable pub unset : List Bool → List ℕ → List Bool
+unset marks [] = marks
+unset marks (a ∷ later) = slice_set (unset marks later) a false
+
+-- what is marked was marked before, or was added
+pub record IsTrial (before : List Bool) (s : State) : Type 0 where
+  pub undone : unset s.marks s.added ≡ before
+  pub count : marked_count s.marks ≡ marked_count before + length s.added
+  pub fresh : (b : ℕ) → is_marked s.marks b ≡ true → is_marked before b ≡ true ⊎ Contains s.added b
+
+-- an address has joined the entries, and a trial begins
+pub record HasBegun (m : MapView) (old : State) (a : ℕ) (new : State) : Type 0 where
+  pub begun : IsBegun m new
+  pub entries : new.entries ≡ old.entries ++ a ∷ []
+  pub trial : IsTrial old.marks new
+
+-- a search as it was, but for what was added
+pub record IsAsBefore (old new : State) : Type 0 where
+  pub entries : new.entries ≡ old.entries
+  pub marks : new.marks ≡ old.marks
+  pub todo : new.todo ≡ []
+
+-- a search that an address has joined
+pub record HasJoined (m : MapView) (old : State) (a : ℕ) (new : State) : Type 0 where
+  pub entries : new.entries ≡ old.entries ++ a ∷ []
+  pub done : IsDone m new
+  pub sound : IsSound m old.marks new.marks
+
+-- an address was tried: it has joined, or all is as before
+abbrev pub IsTried : MapView → State → ℕ → State → Bool → Type 0
+IsTried m old a new true = HasJoined m old a new
+IsTried m old a new false = IsAsBefore old new
+
+-- each of these is fine and apart from all that is marked, and there are four at least
+pub record AreSound (m : MapView) (marks : List Bool) (added : List ℕ) : Type 0 where
+  pub fine : (b : ℕ) → Contains added b → is_fine m b ≡ true
+  pub apart : (b : ℕ) → Contains added b → IsApart m marks b
+  pub four : 4 ≤ length added

@@ -1,5 +1,5 @@
 -- What the fragments of a statement stand for.
-use Rattle.std.specs.Prelude.{◌≡◌, ℕ, suc, Bool, List, [], ◌∷◌, ◌++◌, length, map, Option}
+use Rattle.std.specs.Prelude.{◌≡◌, ℕ, Bool, List, [], ◌∷◌, ◌++◌, map, Option}
 use Rattle.std.specs.Option.{option_map}
 use Rattle.std.specs.Bool.{OnTrue}
 use Rattle.std.specs.List.{flat_map, list_all}
@@ -13,13 +13,11 @@ use Rattle.stmt65.specs.declared.assembling.coding.Instruction.{Instruction as C
 use Rattle.stmt65.specs.declared.directive.Directive.{Directive}
 use Rattle.stmt65.specs.declared.assembling.coding.Coded.{Coded as CodeCoded}
 use Rattle.stmt65.specs.declared.assembling.coding.Coded.TheVariants as code_coded
-use Rattle.stmt65.specs.declared.assembling.pieces.Piece.{Piece as CodePiece}
-use Rattle.stmt65.specs.declared.assembling.pieces.Piece.TheVariants as code_piece
 use Rattle.stmt65.specs.declared.source_line.Value.{Value as CodeValue}
 use Rattle.stmt65.specs.declared.source_line.Datum.{Datum as CodeDatum}
-use Rattle.stmt65.specs.Coding.{Fragment, Fixed, Single, ZeroPage, Oversized, Entry, Distance, Way, datum_fragments, first_way, fragment_fits, fragment_bytes}
+use Rattle.stmt65.specs.Coding.{Fragment, Fixed, Single, ZeroPage, Oversized, Entry, Distance, HalfOf, Fill, Way, datum_fragments, first_way, fragment_fits, fragment_bytes}
 use Rattle.stmt65.specs.Symbols.{Definition}
-use Rattle.stmt65.specs.Code.SourceLineViews.{value_of, datum_of}
+use Rattle.stmt65.specs.Code.SourceLineViews.{numeral_of, value_of, datum_of}
 
 abbrev pub fragment_of : CodeFragment → Fragment
 fragment_of (code_fragment.Fixed b) = Fixed b
@@ -28,6 +26,9 @@ fragment_of (code_fragment.ZeroPage v) = ZeroPage (value_of v)
 fragment_of (code_fragment.Oversized v) = Oversized (value_of v)
 fragment_of (code_fragment.Entry d v) = Entry d (value_of v)
 fragment_of (code_fragment.Distance v) = Distance (value_of v)
+fragment_of (code_fragment.Half half v) = HalfOf half (value_of v)
+fragment_of (code_fragment.Reserved n v) = Fill (numeral_of n) (numeral_of v)
+fragment_of (code_fragment.Gap n b) = Fill n b
 
 abbrev pub operand_of : CodeOperand → List Fragment
 operand_of code_operand.None = []
@@ -57,24 +58,6 @@ coded_of (code_coded.Instruction i) = instruction_of i
 coded_of (code_coded.Operand o) = operand_of o
 coded_of (code_coded.Data ds) = data_fragments ds.now
 coded_of (code_coded.Values d vs) = entry_fragments d vs.now
-
--- the fragments of a piece of a coding
-abbrev pub piece_of : CodePiece → List Fragment
-piece_of (code_piece.One f) = fragment_of f ∷ []
-piece_of (code_piece.String bs) = map Fixed bs.now
-
--- how many pieces are left of a coding
-abbrev pub operands_left : CodeOperand → ℕ
-operands_left code_operand.None = 0
-operands_left (code_operand.One f) = 1
-operands_left (code_operand.Two f g) = 2
-
-abbrev pub pieces_left : CodeCoded → ℕ
-pieces_left code_coded.Nothing = 0
-pieces_left (code_coded.Instruction i) = suc (operands_left i.operand)
-pieces_left (code_coded.Operand o) = operands_left o
-pieces_left (code_coded.Data ds) = length ds.now
-pieces_left (code_coded.Values d vs) = length vs.now
 
 -- Bytes are added, if the values that they stand for have room; the answer says whether they have.
 pub record Puts (answer fits : Bool) (bytes old new : List ℕ) : Type 0 where

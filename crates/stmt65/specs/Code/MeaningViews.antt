@@ -10,15 +10,15 @@ use Rattle.stmt65.specs.declared.assembling.fault.AsmFaultKind.{AsmFaultKind}
 use Rattle.stmt65.specs.SourceLine.{SourceLine}
 use Rattle.stmt65.specs.Symbols.{Definition}
 use Rattle.stmt65.specs.Code.SymbolViews.{definition_of}
-use Rattle.stmt65.specs.Coding.{Fragment, coding}
+use Rattle.stmt65.specs.Coding.{State, Fragment, coding}
 use Rattle.stmt65.specs.Code.CodingViews.{coded_of}
 use Rattle.stmt65.specs.Code.Held.{held}
-use Rattle.stmt65.specs.Meaning.{State, after, bytes_of, next_of, cpu_after, operation_in, defined_by}
+use Rattle.stmt65.specs.Meaning.{after, bytes_of, next_of, cpu_after, operation_in, defined_by, is_past_start}
 
 -- ---- a line
 
-abbrev pub state_of : CodeState → List Definition → State
-state_of s above = record { at = s.address; cpu = s.opcodes; above = above }
+abbrev pub state_of : {A : Type 0} → CodeState A → List Definition → State
+state_of s above = record { at = s.address; cpu = s.opcodes; above = above; layout = s.layout.now }
 
 -- a definition as the code holds it
 abbrev pub held_definition : Definition → Definition
@@ -30,16 +30,17 @@ fragments_in coded = unwrap_or (option_map coded_of coded) []
 abbrev pub definitions_in : Option CodeDefinition → List Definition
 definitions_in d = option_to_list (option_map definition_of d)
 
--- what the bytes of a line stand for in its state, the address after it, and what it defines
+-- what the bytes of a line stand for in its state, the address after it, what it defines, and whether it enters a segment past its start
 pub record IsPlaced (p : Placed) (s : State) (source : SourceLine) : Type 0 where
-  pub coded : option_map coded_of p.coded ≡ coding s.cpu s.above (operation_in source)
+  pub coded : option_map coded_of p.coded ≡ coding s (operation_in source)
   pub next : p.next ≡ held (next_of s source)
   pub definition : definitions_in p.definition ≡ map held_definition (defined_by s.at source)
+  pub past : p.is_past_start ≡ is_past_start s (operation_in source)
 
 -- below a line, as the code holds it
 unfoldable pub held_after : State → Option SourceLine → State
 held_after s None = s
-held_after s (Some source) = record { at = held (next_of s source); cpu = cpu_after s.cpu (operation_in source); above = s.above ++ map held_definition (defined_by s.at source) }
+held_after s (Some source) = record { at = held (next_of s source); cpu = cpu_after s.cpu (operation_in source); above = s.above ++ map held_definition (defined_by s.at source); layout = s.layout }
 
 -- below all lines, as the code holds it
 unfoldable pub held_final : State → List (Option SourceLine) → State
@@ -49,7 +50,7 @@ held_final s (l ∷ ls) = held_final (held_after s l) ls
 -- ---- the second pass
 
 -- what stands above the next line
-abbrev pub state_in : {A : Type 0} → Pass A → State
+abbrev pub state_in : {A L : Type 0} → Pass A L → State
 state_in p = state_of p.state (take p.count p.names.now)
 
 -- what a line defines, as the code holds it
@@ -58,11 +59,11 @@ defined_in s None = []
 defined_in s (Some source) = map held_definition (defined_by s.at source)
 
 -- the bytes of this line from the state of the pass are added, unless it has a fault
-abbrev pub PutsLine : {A : Type 0} → Option AsmFaultKind → Pass A → Option SourceLine → List ℕ → List ℕ → Type 0
+abbrev pub PutsLine : {A L : Type 0} → Option AsmFaultKind → Pass A L → Option SourceLine → List ℕ → List ℕ → Type 0
 PutsLine fault p line old new = IfNone fault (new ≡ old ++ bytes_of p.names.now (state_in p) line)
 
 -- the pass has gone on below a line; its definitions are counted if the names have them
-pub record GoesOn {A : Type 0} (p q : Pass A) (line : Option SourceLine) : Type 0 where
+pub record GoesOn {A L : Type 0} (p q : Pass A L) (line : Option SourceLine) : Type 0 where
   pub names : q.names.now ≡ p.names.now
   pub state : state_of q.state (after (state_in p) line).above ≡ after (state_in p) line
   pub held : held_after (state_in p) line ≡ after (state_in p) line

@@ -2,6 +2,7 @@
 use Rattle.std.specs.Prelude.{ℕ, List, [], ◌∷◌, Option, Some, None}
 use Rattle.stmt65.specs.declared.reading.lexer.Part.{Part as CodePart}
 use Rattle.stmt65.specs.declared.reading.lexer.Part.TheVariants as code
+use Rattle.stmt65.specs.declared.language.Language.{Language}
 use Rattle.stmt65.specs.Lexing.{parts}
 use Rattle.stmt65.specs.Parts.{Part, Word, Number, Text, Define, Mark}
 
@@ -13,6 +14,6 @@ part_of code.Define = Define
 part_of (code.Mark b) = Mark b
 
 -- a part that was cut, if there was one, and those of the bytes after it
-abbrev pub parts_from : Option CodePart → List ℕ → List Part
-parts_from None rest = []
-parts_from (Some part) rest = part_of part ∷ parts rest
+abbrev pub parts_from : Language → Option CodePart → List ℕ → List Part
+parts_from language None rest = []
+parts_from language (Some part) rest = part_of part ∷ parts language rest

@@ -13,7 +13,7 @@ use Rattle.stmt65.specs.declared.source_line.Operation.TheVariants as code_opera
 use Rattle.stmt65.specs.declared.source_line.SourceLine.{SourceLine as CodeSourceLine}
 use Rattle.stmt65.specs.declared.source_line.SourceLine.TheVariants as code_source
 use Rattle.stmt65.specs.Parts.{number_of}
-use Rattle.stmt65.specs.SourceLine.{Value, NumberValue, NameValue, Form, Empty, Accumulator, Immediate, Direct, DirectX, DirectY, Two, Indirect, IndirectX, IndirectY, Datum, NumberDatum, StringDatum, Operation, Nothing, Instr, Data, Values, Segment, Code, SetCpu, SourceLine, Assignment, PlaceAssignment, Statement}
+use Rattle.stmt65.specs.SourceLine.{Value, NumberValue, NameValue, DifferenceValue, Form, Empty, Accumulator, Immediate, ImmediateHalf, Direct, DirectX, DirectY, Two, Indirect, IndirectX, IndirectY, Datum, NumberDatum, StringDatum, ValueDatum, HalfDatum, Operation, Nothing, Instr, Data, Values, Reserve, Segment, Code, SetCpu, SourceLine, Assignment, PlaceAssignment, Statement}
 
 abbrev pub numeral_of : Numeral → ℕ
 numeral_of n = number_of n.text.now
@@ -21,11 +21,13 @@ numeral_of n = number_of n.text.now
 abbrev pub value_of : CodeValue → Value
 value_of (code_value.Number n) = NumberValue (numeral_of n)
 value_of (code_value.Name w n minus) = NameValue w.now (numeral_of n) minus
+value_of (code_value.Difference w v) = DifferenceValue w.now v.now
 
 abbrev pub form_of : CodeForm → Form
 form_of code_form.Empty = Empty
 form_of code_form.Accumulator = Accumulator
 form_of (code_form.Immediate v) = Immediate (value_of v)
+form_of (code_form.ImmediateHalf half v) = ImmediateHalf half (value_of v)
 form_of (code_form.Direct p v) = Direct p (value_of v)
 form_of (code_form.DirectX p v) = DirectX p (value_of v)
 form_of (code_form.DirectY p v) = DirectY p (value_of v)
@@ -37,12 +39,15 @@ form_of (code_form.IndirectY v) = IndirectY (value_of v)
 abbrev pub datum_of : CodeDatum → Datum
 datum_of (code_datum.Number n) = NumberDatum (numeral_of n)
 datum_of (code_datum.String t) = StringDatum t.now
+datum_of (code_datum.Value v) = ValueDatum (value_of v)
+datum_of (code_datum.Half half v) = HalfDatum half (value_of v)
 
 abbrev pub operation_of : {A : Type 0} → CodeOperation A → Operation
 operation_of code_operation.Nothing = Nothing
 operation_of (code_operation.Instr m f) = Instr m (form_of f)
 operation_of (code_operation.Data xs) = Data (map datum_of xs.items)
 operation_of (code_operation.Values d vs) = Values d (map value_of vs.items)
+operation_of (code_operation.Reserve n v) = Reserve (numeral_of n) (numeral_of v)
 operation_of (code_operation.Segment t) = Segment t.now
 operation_of code_operation.Code = Code
 operation_of (code_operation.SetCpu t) = SetCpu t.now

@@ -1,17 +1,22 @@
 //! How a statement is coded: what each of its bytes stands for.
 
-ghost use Rattle.std.specs.Prelude.{◌≡◌, [], ◌∷◌};
+ghost use Rattle.std.specs.Prelude.{◌≡◌, List, [], ◌∷◌};
 ghost use Rattle.std.specs.Option.{option_map};
 ghost use Rattle.stmt65.specs.Code.SourceLineViews.{value_of, form_of, operation_of};
 ghost use Rattle.stmt65.specs.SourceLine.{Direct};
 ghost use Rattle.stmt65.specs.declared.source_line.AddressSize.TheVariants.{Automatic};
-ghost use Rattle.stmt65.specs.Coding.{word_operand, zero_page, zero_page_first, by_size, ways, coding};
+ghost use Rattle.stmt65.specs.Coding.{word_operand, zero_page, zero_page_first, by_size, ways, gap, coding};
+ghost use Rattle.stmt65.specs.Layout.{start_of};
+ghost use Rattle.stmt65.specs.Symbols.{Definition};
 ghost use Rattle.stmt65.specs.Code.CodingViews.{fragment_of, way_of, IsFirstWay, coded_of};
+ghost use Rattle.stmt65.specs.Code.MeaningViews.{state_of};
 
+use crate::assembling::state::State;
 use crate::assembling::symbols::Names;
 use crate::assembling::values::has_zero_page_size;
 use crate::directive::Directive;
-use crate::source_line::{AddressSize, Datum, Form, Operation, Value};
+use crate::reading::numeral::Numeral;
+use crate::source_line::{AddressSize, Datum, Form, Half, Operation, Value};
 use isa65::{EncodeTable, Mnemonic, Mode};
 use std::alloc::Allocator;
 
@@ -30,6 +35,12 @@ pub enum Fragment<'a> {
     Entry(Directive, Value<'a>),
     /// A word, as its signed distance from the address after the statement.
     Distance(Value<'a>),
+    /// The low or the high byte of a word.
+    Half(Half, Value<'a>),
+    /// So many bytes of one value, as they are written.
+    Reserved(Numeral<'a>, Numeral<'a>),
+    /// So many bytes of one value, up to the start of a segment.
+    Gap(u16, u8),
 }
 
 /// What follows an opcode.
@@ -54,7 +65,7 @@ pub enum Coded<'s, 'a> {
     Nothing,
     /// An opcode and its operand.
     Instruction(Instruction<'a>),
-    /// An operand whose opcode has been taken.
+    /// An operand whose opcode has been taken, or bytes that are reserved.
     Operand(Operand<'a>),
     /// Numbers and strings.
     Data(&'s [Datum<'a>]),
@@ -180,6 +191,10 @@ fn instruction_in<'a, A: Allocator + Clone>(
         Form::Empty => way(coder, (Mode::Imp, Operand::None)),
         Form::Accumulator => way(coder, (Mode::Acc, Operand::None)),
         Form::Immediate(v) => way(coder, (Mode::Imm, Operand::One(Fragment::Single(v)))),
+        Form::ImmediateHalf(half, v) => way(
+            coder,
+            (Mode::Imm, Operand::One(Fragment::Half(half, v))),
+        ),
         Form::Direct(AddressSize::Absolute, v) => way(
             coder,
             (Mode::Abs, Operand::One(word_operand(v))),
@@ -205,19 +220,32 @@ fn instruction_in<'a, A: Allocator + Clone>(
     }
 }
 
+/// What is missing before the start of a segment.
+fn gap<'s, 'a, L: Allocator + Clone>(state: &State<'_, '_, L>, name: &[u8]) -> Coded<'s, 'a>
+    ensures { (above : List Definition) → coded_of result ≡ gap (state_of state.now above).layout state.now.address (start_of state.now.layout.now name.now) }
+{
+    match state.layout.start_of(name) {
+        Some(start) => {
+            let missing = u64::from(start).saturating_sub(state.address);
+            Coded::Operand(Operand::One(Fragment::Gap(missing as u16, state.layout.fill())))
+        }
+        None => Coded::Nothing,
+    }
+}
+
 /// The coding of an operation, or `None` if a mnemonic has no mode of the written form.
 #[tactic(auto, unfolding(crate::specs::Coding::coding))]
-pub fn coding<'s, 'a, A: Allocator + Clone, B: Allocator>(
-    opcodes: &EncodeTable,
+pub fn coding<'s, 'a, L: Allocator + Clone, A: Allocator + Clone, B: Allocator>(
+    state: &State<'_, '_, L>,
     above: &Names<'_, '_, A>,
     operation: &'s Operation<'a, B>,
 ) -> Option<Coded<'s, 'a>>
-    ensures { option_map coded_of result ≡ coding opcodes.now above.now (operation_of operation.now) }
+    ensures { option_map coded_of result ≡ coding (state_of state.now above.now) (operation_of operation.now) }
 {
     match operation {
         Operation::Instr(mnemonic, form) => {
             let coder = Coder {
-                opcodes,
+                opcodes: &state.opcodes,
                 mnemonic: *mnemonic,
                 above,
             };
@@ -226,8 +254,11 @@ pub fn coding<'s, 'a, A: Allocator + Clone, B: Allocator>(
         }
         Operation::Data(data) => Some(Coded::Data(data)),
         Operation::Values(directive, values) => Some(Coded::Values(*directive, values)),
-        Operation::Nothing | Operation::Segment(_) | Operation::Code | Operation::SetCpu(_) => {
-            Some(Coded::Nothing)
+        Operation::Reserve(count, value) => {
+            let reserved = Fragment::Reserved(*count, *value);
+            Some(Coded::Operand(Operand::One(reserved)))
         }
+        Operation::Segment(name) => Some(gap(state, name)),
+        Operation::Nothing | Operation::Code | Operation::SetCpu(_) => Some(Coded::Nothing),
     }
 }

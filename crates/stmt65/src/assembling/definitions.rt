@@ -2,46 +2,45 @@
 
 ghost use Rattle.std.specs.Prelude.{◌≡◌, IfOk};
 ghost use Rattle.stmt65.specs.Code.SourceLineViews.{value_of};
-ghost use Rattle.stmt65.specs.Definitions.{definitions_of};
+ghost use Rattle.stmt65.specs.Sources.{source_definitions};
 ghost use Rattle.stmt65.specs.Symbols.{is_known, word_in};
 
-use crate::assembling::assembler::names_of;
+use crate::assembling::assembler::{Source, names_of};
 use crate::assembling::symbols::Symbols;
 use crate::assembling::values::{is_known, word_in};
 use crate::source_line::Value;
-use std::alloc::{AllocError, Allocator};
+use std::alloc::{AllocError, Allocator, Global};
 use std::marker::Model;
 
 /// All names that a text defines. Contracts see the definitions in their order.
 #[derive(Drop)]
-pub struct Definitions<'a, 'b, A: Allocator> {
-    text: &'a [u8],
-    start: u16,
-    names: Symbols<'a, &'b A>,
+pub struct Definitions<'t, 'l, 'n, 'b, L: Allocator = Global, A: Allocator = Global> {
+    source: &'b Source<'t, 'l, 'n, L>,
+    names: Symbols<'t, &'b A>,
 }
 
-impl<'a, 'b, A: Allocator> Model for Definitions<'a, 'b, A> {
+impl<'t, 'l, 'n, 'b, L: Allocator, A: Allocator> Model for Definitions<'t, 'l, 'n, 'b, L, A> {
     ghost use Rattle.std.specs.Prelude.{◌≡◌, List, map};
     ghost use Rattle.stmt65.specs.Symbols.{Definition};
-    ghost use Rattle.stmt65.specs.Definitions.{definitions_of};
+    ghost use Rattle.stmt65.specs.Sources.{source_definitions};
     ghost use Rattle.stmt65.specs.Code.MeaningViews.{held_definition};
 
     ghost Value = { List Definition };
 
-    ghost view = { λ d. definitions_of d.start d.text.now };
+    ghost view = { λ d. source_definitions d.source.now };
 
-    ghost invariant = { λ d. d.names ≡ map held_definition (definitions_of d.start d.text.now) };
+    ghost invariant = { λ d. d.names ≡ map held_definition (source_definitions d.source.now) };
 }
 
-impl<'a, 'b, A: Allocator> Definitions<'a, 'b, A> {
-    /// The definitions of all lines of a text that begins at `start`. A line that is none defines nothing.
+impl<'t, 'l, 'n, 'b, L: Allocator + Clone, A: Allocator> Definitions<'t, 'l, 'n, 'b, L, A> {
+    /// The definitions of all lines of a text. A line that is none defines nothing.
     ///
     /// Fails if an allocation is refused.
-    pub fn new(alloc: &'b A, text: &'a [u8], start: u16) -> Result<Self, AllocError>
-        ensures { IfOk result (λ d. d ≡ definitions_of start text.entry.now) }
+    pub fn new(alloc: &'b A, source: &'b Source<'t, 'l, 'n, L>) -> Result<Self, AllocError>
+        ensures { IfOk result (λ d. d ≡ source_definitions source.now) }
     {
-        let names = names_of(alloc, text, start)?;
-        Ok(Definitions { text, start, names })
+        let names = names_of(alloc, source)?;
+        Ok(Definitions { source, names })
     }
 
     /// Whether each name in the expression has a definition.

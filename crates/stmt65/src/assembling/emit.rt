@@ -1,24 +1,30 @@
 //! The length of a coding, whether it can be emitted, and its bytes.
 
-ghost use Rattle.std.specs.Prelude.{◌≡◌, IfOk};
+ghost use Rattle.std.specs.Prelude.{◌≡◌, [], ◌∷◌, IfOk};
 ghost use Rattle.std.specs.List.{list_all};
-ghost use Rattle.stmt65.specs.Coding.{is_fragment_known, fragment_len, coding_len};
-ghost use Rattle.stmt65.specs.Code.CodingViews.{PutsAll, fragment_of, operand_of, instruction_of, piece_of, coded_of};
+ghost use Rattle.stmt65.specs.Coding.{datum_fragments, is_fragment_known, fragment_len, coding_len};
+ghost use Rattle.stmt65.specs.Code.CodingViews.{PutsAll, fragment_of, operand_of, instruction_of, data_fragments, entry_fragments, coded_of};
 ghost use Rattle.stmt65.specs.Code.Held.{held};
+ghost use Rattle.stmt65.specs.Code.SourceLineViews.{datum_of};
 
 use crate::assembling::coding::{Coded, Fragment, Instruction, Operand};
 use crate::assembling::entries::size;
 use crate::assembling::fragment_bytes::{is_fragment_known, put_fragment};
-use crate::assembling::pieces::{Piece, first_piece};
 use crate::assembling::symbols::Names;
+use crate::assembling::values::is_known;
+use crate::directive::Directive;
+use crate::source_line::{Datum, Value};
 use std::alloc::{AllocError, Allocator};
 
 fn fragment_len(fragment: Fragment) -> u64
-    ensures { result ≡ fragment_len (fragment_of fragment.entry) }
+    ensures { result ≡ held (fragment_len (fragment_of fragment.entry)) }
 {
     match fragment {
         Fragment::Entry(directive, _) => size(directive),
-        Fragment::Fixed(_)
+        Fragment::Reserved(count, _) => count.value(),
+        Fragment::Gap(count, _) => u64::from(count),
+        Fragment::Half(_, _)
+        | Fragment::Fixed(_)
         | Fragment::Single(_)
         | Fragment::ZeroPage(_)
         | Fragment::Oversized(_)
@@ -26,39 +32,51 @@ fn fragment_len(fragment: Fragment) -> u64
     }
 }
 
+// ---- how many bytes
+
 #[tactic(auto, using(crate::proofs::CodingLemmas::datum_len), unfolding(crate::specs::Coding::coding_len))]
-fn piece_len(piece: Piece) -> u64
-    ensures { result ≡ coding_len (piece_of piece.entry) }
+fn datum_len(datum: Datum) -> u64
+    ensures { result ≡ held (coding_len (datum_fragments (datum_of datum.entry))) }
 {
-    match piece {
-        Piece::One(fragment) => fragment_len(fragment),
-        Piece::String(bytes) => bytes.len() as u64,
+    match datum {
+        Datum::String(bytes) => bytes.len() as u64,
+        Datum::Number(_) | Datum::Value(_) | Datum::Half(_, _) => 1,
     }
 }
 
-/// The same piece by piece.
-fn pieces_len(coded: Coded) -> u64
-    ensures { result ≡ held (coding_len (coded_of coded.entry)) }
+fn data_len(items: &[Datum]) -> u64
+    ensures { result ≡ held (coding_len (data_fragments items.now)) }
 {
     let mut len: u64 = 0;
-    let mut rest = coded;
-    'pieces: while let Some((piece, after)) = first_piece(rest) {
-        len = len.saturating_add(piece_len(piece));
-        rest = after;
+    'data: for datum in items {
+        len = len.saturating_add(datum_len(*datum));
     }
     len
 }
 
-/// An instruction with one operand, as most have, is not taken apart.
-#[tactic(auto, using(crate::proofs::CodingLemmas::instruction_lens))]
+#[tactic(auto, using(crate::proofs::CodingLemmas::entries_len))]
+fn values_len(directive: Directive, values: &[Value]) -> u64
+    ensures { result ≡ held (coding_len (entry_fragments directive values.now)) }
+{
+    (values.len() as u64).saturating_mul(size(directive))
+}
+
+#[tactic(auto, using(crate::proofs::CodingLemmas::operand_lens))]
+fn operand_len(operand: Operand) -> u64
+    ensures { result ≡ held (coding_len (operand_of operand.entry)) }
+{
+    match operand {
+        Operand::None => 0,
+        Operand::One(fragment) => fragment_len(fragment),
+        Operand::Two(first, second) => fragment_len(first).saturating_add(fragment_len(second)),
+    }
+}
+
+#[tactic(auto, using(crate::proofs::CodingLemmas::opcode_len))]
 fn instruction_len(instruction: Instruction) -> u64
     ensures { result ≡ held (coding_len (instruction_of instruction.entry)) }
 {
-    match instruction.operand {
-        Operand::None => 1,
-        Operand::One(fragment) => fragment_len(fragment).saturating_add(1),
-        Operand::Two(_, _) => pieces_len(Coded::Instruction(instruction)),
-    }
+    operand_len(instruction.operand).saturating_add(1)
 }
 
 /// How many bytes the coding has; 2^64 - 1 in place of every greater length.
@@ -69,68 +87,130 @@ pub fn coded_len(coded: Coded) -> u64
     match coded {
         Coded::Nothing => 0,
         Coded::Instruction(instruction) => instruction_len(instruction),
-        Coded::Operand(_) | Coded::Data(_) | Coded::Values(_, _) => pieces_len(coded),
+        Coded::Operand(operand) => operand_len(operand),
+        Coded::Data(data) => data_len(data),
+        Coded::Values(directive, values) => values_len(directive, values),
     }
 }
 
-fn is_piece_known<A: Allocator + Clone>(names: &Names<'_, '_, A>, piece: Piece) -> bool
-    ensures { result ≡ list_all (is_fragment_known names.now) (piece_of piece.entry) }
+// ---- whether each name has a definition
+
+fn is_datum_known<A: Allocator + Clone>(names: &Names<'_, '_, A>, datum: Datum) -> bool
+    ensures { result ≡ list_all (is_fragment_known names.now) (datum_fragments (datum_of datum.entry)) }
 {
-    match piece {
-        Piece::One(fragment) => is_fragment_known(names, fragment),
-        Piece::String(_) => true,
+    match datum {
+        Datum::Number(number) => is_known(names, Value::Number(number)),
+        Datum::Value(value) | Datum::Half(_, value) => is_known(names, value),
+        Datum::String(_) => true,
     }
 }
 
-/// Whether each name in the coding has a definition.
 #[tactic(auto, using(crate::proofs::CodingLemmas::list_all_append))]
-pub fn are_known<A: Allocator + Clone>(names: &Names<'_, '_, A>, coded: Coded) -> bool
-    ensures { result ≡ list_all (is_fragment_known names.now) (coded_of coded.entry) }
+fn are_data_known<A: Allocator + Clone>(names: &Names<'_, '_, A>, items: &[Datum]) -> bool
+    ensures { result ≡ list_all (is_fragment_known names.now) (data_fragments items.now) }
 {
-    let mut rest = coded;
-    'pieces: while let Some((piece, after)) = first_piece(rest) {
-        if !is_piece_known(names, piece) {
+    'data: for datum in items {
+        if !is_datum_known(names, *datum) {
             return false;
         }
-        rest = after;
     }
     true
 }
 
-#[tactic(auto, using(crate::proofs::CodingLemmas::one_put))]
-fn put_piece<A: Allocator + Clone, B: Allocator>(
+fn are_values_known<A: Allocator + Clone>(
+    names: &Names<'_, '_, A>,
+    directive: Directive,
+    values: &[Value],
+) -> bool
+    ensures { result ≡ list_all (is_fragment_known names.now) (entry_fragments directive values.now) }
+{
+    'values: for value in values {
+        if !is_fragment_known(names, Fragment::Entry(directive, *value)) {
+            return false;
+        }
+    }
+    true
+}
+
+fn is_operand_known<A: Allocator + Clone>(names: &Names<'_, '_, A>, operand: Operand) -> bool
+    ensures { result ≡ list_all (is_fragment_known names.now) (operand_of operand.entry) }
+{
+    match operand {
+        Operand::None => true,
+        Operand::One(fragment) => is_fragment_known(names, fragment),
+        Operand::Two(first, second) => {
+            is_fragment_known(names, first) && is_fragment_known(names, second)
+        }
+    }
+}
+
+/// Whether each name in the coding has a definition.
+pub fn are_known<A: Allocator + Clone>(names: &Names<'_, '_, A>, coded: Coded) -> bool
+    ensures { result ≡ list_all (is_fragment_known names.now) (coded_of coded.entry) }
+{
+    match coded {
+        Coded::Nothing => true,
+        Coded::Instruction(instruction) => is_operand_known(names, instruction.operand),
+        Coded::Operand(operand) => is_operand_known(names, operand),
+        Coded::Data(data) => are_data_known(names, data),
+        Coded::Values(directive, values) => are_values_known(names, directive, values),
+    }
+}
+
+// ---- the bytes
+
+#[tactic(auto, using(crate::proofs::CodingLemmas::one_put, crate::proofs::CodingLemmas::string_put))]
+fn put_datum<A: Allocator + Clone, B: Allocator>(
     out: &mut Vec<u8, B>,
     names: &Names<'_, '_, A>,
     next: u64,
-    piece: Piece,
+    datum: Datum,
 ) -> Result<bool, AllocError>
-    ensures { IfOk result (λ fits. PutsAll fits names.now next (piece_of piece.entry) out.old.items out.new.items) }
+    ensures { IfOk result (λ fits. PutsAll fits names.now next (datum_fragments (datum_of datum.entry)) out.old.items out.new.items) }
 {
-    match piece {
-        Piece::One(fragment) => put_fragment(out, names, next, fragment),
-        Piece::String(bytes) => {
+    match datum {
+        Datum::Number(number) => {
+            put_fragment(out, names, next, Fragment::Single(Value::Number(number)))
+        }
+        Datum::Value(value) => put_fragment(out, names, next, Fragment::Single(value)),
+        Datum::Half(half, value) => put_fragment(out, names, next, Fragment::Half(half, value)),
+        Datum::String(bytes) => {
             out.extend_from_slice(bytes)?;
             Ok(true)
         }
     }
 }
 
-/// The same piece by piece.
 #[tactic(auto, using(crate::proofs::CodingLemmas::list_all_append))]
-fn put_pieces<A: Allocator + Clone, B: Allocator>(
+fn put_data<A: Allocator + Clone, B: Allocator>(
     out: &mut Vec<u8, B>,
     names: &Names<'_, '_, A>,
     next: u64,
-    coded: Coded,
+    items: &[Datum],
 ) -> Result<bool, AllocError>
-    ensures { IfOk result (λ fits. PutsAll fits names.now next (coded_of coded.entry) out.old.items out.new.items) }
+    ensures { IfOk result (λ fits. PutsAll fits names.now next (data_fragments items.now) out.old.items out.new.items) }
 {
-    let mut rest = coded;
-    'pieces: while let Some((piece, after)) = first_piece(rest) {
-        if !put_piece(out, names, next, piece)? {
+    'data: for datum in items {
+        if !put_datum(out, names, next, *datum)? {
             return Ok(false);
         }
-        rest = after;
+    }
+    Ok(true)
+}
+
+fn put_values<A: Allocator + Clone, B: Allocator>(
+    out: &mut Vec<u8, B>,
+    names: &Names<'_, '_, A>,
+    next: u64,
+    directive: Directive,
+    values: &[Value],
+) -> Result<bool, AllocError>
+    ensures { IfOk result (λ fits. PutsAll fits names.now next (entry_fragments directive values.now) out.old.items out.new.items) }
+{
+    'values: for value in values {
+        if !put_fragment(out, names, next, Fragment::Entry(directive, *value))? {
+            return Ok(false);
+        }
     }
     Ok(true)
 }
@@ -147,8 +227,24 @@ fn put_operand<A: Allocator + Clone, B: Allocator>(
     match operand {
         Operand::None => Ok(true),
         Operand::One(fragment) => put_fragment(out, names, next, fragment),
-        Operand::Two(_, _) => put_pieces(out, names, next, Coded::Operand(operand)),
+        Operand::Two(first, second) => put_two(out, names, next, first, second),
     }
+}
+
+#[tactic(auto, using(crate::proofs::CodingLemmas::two_put, crate::proofs::CodingLemmas::first_missed_put))]
+fn put_two<A: Allocator + Clone, B: Allocator>(
+    out: &mut Vec<u8, B>,
+    names: &Names<'_, '_, A>,
+    next: u64,
+    first: Fragment,
+    second: Fragment,
+) -> Result<bool, AllocError>
+    ensures { IfOk result (λ fits. PutsAll fits names.now next (fragment_of first.entry ∷ fragment_of second.entry ∷ []) out.old.items out.new.items) }
+{
+    if !put_fragment(out, names, next, first)? {
+        return Ok(false);
+    }
+    put_fragment(out, names, next, second)
 }
 
 #[tactic(auto, using(crate::proofs::CodingLemmas::opcode_put))]
@@ -176,8 +272,8 @@ pub fn put_coded<A: Allocator + Clone, B: Allocator>(
     match coded {
         Coded::Nothing => Ok(true),
         Coded::Instruction(instruction) => put_instruction(out, names, next, instruction),
-        Coded::Operand(_) | Coded::Data(_) | Coded::Values(_, _) => {
-            put_pieces(out, names, next, coded)
-        }
+        Coded::Operand(operand) => put_operand(out, names, next, operand),
+        Coded::Data(data) => put_data(out, names, next, data),
+        Coded::Values(directive, values) => put_values(out, names, next, directive, values),
     }
 }

@@ -26,6 +26,9 @@ pub enum AsmFaultKind {
     /// A value that has no room.
     #[error("value out of range")]
     OutOfRange,
+    /// A segment that is entered past its start.
+    #[error("segment past its start")]
+    PastStart,
     /// A byte past $FFFF.
     #[error("past the end of the address space")]
     PastEnd,

@@ -1,9 +1,9 @@
 //! The bytes of one fragment of a statement.
 
-ghost use Rattle.std.specs.Prelude.{◌≡◌, [], ◌∷◌, Some, true, is_some, unwrap_or, IfOk};
+ghost use Rattle.std.specs.Prelude.{◌≡◌, [], ◌∷◌, ◌&&◌, nat_lt, replicate, Some, true, is_some, unwrap_or, IfOk};
 ghost use Rattle.stmt65.specs.Code.SourceLineViews.{value_of};
 ghost use Rattle.stmt65.specs.Symbols.{below};
-ghost use Rattle.stmt65.specs.Coding.{is_fragment_known, is_near, low, distance, entry_bytes};
+ghost use Rattle.stmt65.specs.Coding.{is_fragment_known, is_near, low, half_of, distance, entry_bytes};
 ghost use Rattle.stmt65.specs.Code.CodingViews.{Puts, PutsOne, fragment_of};
 
 use crate::assembling::coding::Fragment;
@@ -11,7 +11,7 @@ use crate::assembling::entries::put_number;
 use crate::assembling::symbols::Names;
 use crate::assembling::values::{entry_in, is_known, word_in};
 use crate::directive::Directive;
-use crate::source_line::Value;
+use crate::source_line::Half;
 use std::alloc::{AllocError, Allocator};
 
 /// Whether each name in the fragment has a definition.
@@ -25,6 +25,8 @@ pub fn is_fragment_known<A: Allocator + Clone>(names: &Names<'_, '_, A>, fragmen
         Fragment::Oversized(v) => is_known(names, v),
         Fragment::Entry(_, v) => is_known(names, v),
         Fragment::Distance(v) => is_known(names, v),
+        Fragment::Half(_, v) => is_known(names, v),
+        Fragment::Reserved(_, _) | Fragment::Gap(_, _) => true,
     }
 }
 
@@ -75,6 +77,42 @@ fn put_distance<A: Allocator>(
     }
 }
 
+/// The low or the high byte.
+fn half_of(half: Half, word: u16) -> u8
+    ensures { result ≡ half_of half word }
+{
+    match half {
+        Half::Low => (word % 256) as u8,
+        Half::High => (word / 256) as u8,
+    }
+}
+
+/// The half of a value, if it has one.
+fn put_half<A: Allocator>(
+    out: &mut Vec<u8, A>,
+    half: Half,
+    word: Option<u16>,
+) -> Result<bool, AllocError>
+    ensures { IfOk result (λ fits. Puts fits (is_some word) (half_of half (unwrap_or word 0) ∷ []) out.old.items out.new.items) }
+{
+    match word {
+        Some(word) => put_one(out, half_of(half, word)),
+        None => Ok(false),
+    }
+}
+
+/// So many bytes of one value.
+fn put_fill<A: Allocator>(out: &mut Vec<u8, A>, count: u64, value: u64) -> Result<bool, AllocError>
+    ensures { IfOk result (λ fits. Puts fits (nat_lt count 65536 && nat_lt value 256) (replicate count (low value)) out.old.items out.new.items) }
+{
+    if count < 65536 && value < 256 {
+        let len = out.len() + count as usize;
+        out.resize(len, value as u8)?;
+        return Ok(true);
+    }
+    Ok(false)
+}
+
 /// The value as an entry, if there is one.
 fn put_entry<A: Allocator>(
     out: &mut Vec<u8, A>,
@@ -109,5 +147,8 @@ pub fn put_fragment<A: Allocator + Clone, B: Allocator>(
         Fragment::Oversized(_) => Ok(false),
         Fragment::Entry(directive, v) => put_entry(out, directive, entry_in(names, directive, v)),
         Fragment::Distance(v) => put_distance(out, next, word_in(names, v)),
+        Fragment::Half(half, v) => put_half(out, half, word_in(names, v)),
+        Fragment::Reserved(count, value) => put_fill(out, count.value(), value.value()),
+        Fragment::Gap(count, value) => put_fill(out, u64::from(count), u64::from(value)),
     }
 }

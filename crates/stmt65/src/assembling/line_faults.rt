@@ -4,8 +4,8 @@ ghost use Rattle.std.specs.Prelude.{◌≡◌, ◌||◌, not, nat_lt, is_some, S
 ghost use Rattle.std.specs.List.{list_any, list_all};
 ghost use Rattle.stmt65.specs.Code.SourceLineViews.{source_of};
 ghost use Rattle.stmt65.specs.Symbols.{find_name};
-ghost use Rattle.stmt65.specs.Coding.{is_fragment_known, fragment_fits};
-ghost use Rattle.stmt65.specs.Meaning.{State, operation_in, has_unknown_cpu, first_of, fault_of};
+ghost use Rattle.stmt65.specs.Coding.{State, is_fragment_known, fragment_fits};
+ghost use Rattle.stmt65.specs.Meaning.{operation_in, has_unknown_cpu, first_of, fault_of};
 ghost use Rattle.stmt65.specs.Code.MeaningViews.{fragments_in, definitions_in, IsPlaced};
 
 use crate::assembling::emit::are_known;
@@ -30,9 +30,9 @@ fn has_unknown_cpu<'a, B: Allocator>(source: &SourceLine<'a, B>) -> bool
 
 /// Whether each name in the coding has a definition: so it has if the values have room, and then it is not looked up again.
 #[tactic(auto, using(crate::proofs::CodingLemmas::known_where_fit))]
-fn is_known<A: Allocator + Clone>(all: &Names<'_, '_, A>, placed: Placed, has_room: bool) -> bool
-    requires { has_room ≡ list_all (fragment_fits all.now placed.next) (fragments_in placed.coded) }
-    ensures { result ≡ list_all (is_fragment_known all.now) (fragments_in placed.entry.coded) }
+fn is_known<A: Allocator + Clone>(all: &Names<'_, '_, A>, placed: &Placed, has_room: bool) -> bool
+    requires { has_room ≡ list_all (fragment_fits all.now placed.now.next) (fragments_in placed.now.coded) }
+    ensures { result ≡ list_all (is_fragment_known all.now) (fragments_in placed.now.coded) }
 {
     if has_room {
         return true;
@@ -84,11 +84,11 @@ pub fn fault_of<'a, A: Allocator + Clone, B: Allocator>(
     all: &Names<'_, '_, A>,
     above: &Names<'_, '_, A>,
     source: &SourceLine<'a, B>,
-    placed: Placed<'_, 'a>,
+    placed: &Placed<'_, 'a>,
     has_room: bool,
 ) -> Option<AsmFaultKind>
-    requires { has_room ≡ list_all (fragment_fits all.now placed.next) (fragments_in placed.coded) }
-    ensures { (s : State) → s.above ≡ above.now → IsPlaced placed.entry s (source_of source.now) → result ≡ fault_of all.now s (Some (source_of source.now)) }
+    requires { has_room ≡ list_all (fragment_fits all.now placed.now.next) (fragments_in placed.now.coded) }
+    ensures { (s : State) → s.above ≡ above.now → IsPlaced placed.now s (source_of source.now) → result ≡ fault_of all.now s (Some (source_of source.now)) }
 {
     first_of(&[
         (AsmFaultKind::UnknownCpu, has_unknown_cpu(source)),
@@ -102,6 +102,7 @@ pub fn fault_of<'a, A: Allocator + Clone, B: Allocator>(
             AsmFaultKind::OutOfRange,
             is_out_of_range(placed.definition, has_room),
         ),
+        (AsmFaultKind::PastStart, placed.is_past_start),
         (AsmFaultKind::PastEnd, placed.next > 65536),
     ])
 }

@@ -1,16 +1,18 @@
 //! What stands above a line, and what the line adds.
 
-ghost use Rattle.std.specs.Prelude.{◌≡◌, [], map, unwrap_or};
+ghost use Rattle.std.specs.Prelude.{◌≡◌, List, [], map, unwrap_or};
 ghost use Rattle.std.specs.Option.{option_map};
 ghost use Rattle.stmt65.specs.Code.SourceLineViews.{source_of};
 ghost use Rattle.stmt65.specs.Coding.{coding, coding_len};
 ghost use Rattle.stmt65.specs.Code.CodingViews.{coded_of};
 ghost use Rattle.stmt65.specs.Code.Held.{held};
-ghost use Rattle.stmt65.specs.Meaning.{cpu_set, cpu_after, operation_in, defined_by, initial};
+ghost use Rattle.stmt65.specs.Meaning.{cpu_set, cpu_after, operation_in, defined_by, is_past_start, initial};
+ghost use Rattle.stmt65.specs.Symbols.{Definition as ADefinition};
 ghost use Rattle.stmt65.specs.Code.MeaningViews.{state_of, held_definition, definitions_in, fragments_in, IsPlaced};
 
 use crate::assembling::coding::{Coded, coding};
 use crate::assembling::emit::coded_len;
+use crate::assembling::layout::Layout;
 use crate::assembling::symbols::{Definition, Names};
 use crate::source_line::{Operation, SourceLine};
 use isa65::{Cpu, EncodeTable};
@@ -18,42 +20,46 @@ use std::alloc::Allocator;
 
 /// What stands above a line beside the definitions.
 #[derive(Drop)]
-pub struct State {
+pub struct State<'l, 'n, L: Allocator> {
     /// 2^64 - 1 in place of every greater address.
     pub address: u64,
     /// The opcodes of the CPU.
     pub opcodes: EncodeTable,
+    /// Where segments begin.
+    pub layout: &'l Layout<'n, L>,
 }
 
 /// A line in its state: what its bytes stand for, or `None` if the CPU has no such form, the
-/// address after it, and what it defines.
+/// address after it, what it defines, and whether it enters a segment past its start.
 #[derive(Clone, Copy)]
 pub struct Placed<'s, 'a> {
     pub coded: Option<Coded<'s, 'a>>,
     pub next: u64,
     pub definition: Option<Definition<'a>>,
+    pub is_past_start: bool,
 }
 
 /// Before the first line; the CPU is the 6502.
-pub fn first_state(start: u16) -> State
-    ensures { state_of result [] ≡ initial start }
+pub fn first_state<'l, 'n, L: Allocator>(layout: &'l Layout<'n, L>, start: u16) -> State<'l, 'n, L>
+    ensures { state_of result [] ≡ initial layout.now start }
 {
     State {
         address: u64::from(start),
         opcodes: EncodeTable::new(Cpu::M6502),
+        layout,
     }
 }
 
 #[tactic(auto, unfolding(crate::specs::Coding::coding))]
-fn coding_in<'s, 'a, A: Allocator + Clone, B: Allocator>(
-    opcodes: &EncodeTable,
+fn coding_in<'s, 'a, L: Allocator + Clone, A: Allocator + Clone, B: Allocator>(
+    state: &State<'_, '_, L>,
     above: &Names<'_, '_, A>,
     source: &'s SourceLine<'a, B>,
 ) -> Option<Coded<'s, 'a>>
-    ensures { option_map coded_of result ≡ coding opcodes.now above.now (operation_in (source_of source.now)) }
+    ensures { option_map coded_of result ≡ coding (state_of state.now above.now) (operation_in (source_of source.now)) }
 {
     match source {
-        SourceLine::Statement { operation, .. } => coding(opcodes, above, operation),
+        SourceLine::Statement { operation, .. } => coding(state, above, operation),
         SourceLine::Assignment(_, _) | SourceLine::PlaceAssignment(_, _) => Some(Coded::Nothing),
     }
 }
@@ -99,19 +105,40 @@ fn definition_in<'a, B: Allocator>(
     }
 }
 
+/// Whether the line enters a segment past its start.
+#[tactic(auto, unfolding(crate::specs::Meaning::is_past_start))]
+fn is_past_start<'a, L: Allocator + Clone, B: Allocator>(
+    state: &State<'_, '_, L>,
+    source: &SourceLine<'a, B>,
+) -> bool
+    ensures { (above : List ADefinition) → result ≡ is_past_start (state_of state.now above) (operation_in (source_of source.now)) }
+{
+    match source {
+        SourceLine::Statement {
+            operation: Operation::Segment(name),
+            ..
+        } => match state.layout.start_of(name) {
+            Some(start) => u64::from(start) < state.address,
+            None => false,
+        },
+        _ => false,
+    }
+}
+
 /// The line in its state.
-pub fn place<'s, 'a, A: Allocator + Clone, B: Allocator>(
-    state: &State,
+pub fn place<'s, 'a, L: Allocator + Clone, A: Allocator + Clone, B: Allocator>(
+    state: &State<'_, '_, L>,
     above: &Names<'_, '_, A>,
     source: &'s SourceLine<'a, B>,
 ) -> Placed<'s, 'a>
     ensures { IsPlaced result (state_of state.now above.now) (source_of source.now) }
 {
-    let coded = coding_in(&state.opcodes, above, source);
+    let coded = coding_in(state, above, source);
     Placed {
         coded,
         next: state.address.saturating_add(length_of(coded)),
         definition: definition_in(state.address, source),
+        is_past_start: is_past_start(state, source),
     }
 }
 
@@ -149,12 +176,13 @@ fn follow<'a, B: Allocator>(opcodes: &mut EncodeTable, source: &SourceLine<'a, B
 }
 
 /// Goes on below the line, whose definition is added elsewhere.
-pub fn advance<'a, B: Allocator>(
-    state: &mut State,
+pub fn advance<'a, L: Allocator, B: Allocator>(
+    state: &mut State<'_, '_, L>,
     source: &SourceLine<'a, B>,
-    placed: Placed<'_, 'a>,
+    placed: &Placed<'_, 'a>,
 )
-    ensures address { state.new.address ≡ placed.entry.next }
+    ensures address { state.new.address ≡ placed.now.next }
+    ensures layout { state.new.layout.now ≡ state.old.layout.now }
     ensures cpu { state.new.opcodes ≡ cpu_after state.old.opcodes (operation_in (source_of source.now)) }
 {
     follow(&mut state.opcodes, source);

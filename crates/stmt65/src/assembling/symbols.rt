@@ -1,11 +1,11 @@
 //! The names that a text defines.
 
-ghost use Rattle.std.specs.Prelude.{◌≡◌, ◌<◌, ◌++◌, [], ◌∷◌, IfOk, OnOk, length, take};
+ghost use Rattle.std.specs.Prelude.{◌≡◌, ◌<◌, ◌++◌, [], ◌∷◌, Some, IfOk, OnOk, length, take};
 ghost use Rattle.std.specs.BTreeMap.{get};
 ghost use Rattle.std.specs.List.{slice_get};
 ghost use Rattle.std.specs.Option.{option_map};
 ghost use Rattle.std.specs.Ordering.{nat_cmp};
-ghost use Rattle.stmt65.specs.Symbols.{find_name};
+ghost use Rattle.stmt65.specs.Symbols.{find_name, address_of};
 ghost use Rattle.stmt65.specs.Code.SymbolViews.{definition_of, first_at, if_named, number_of};
 
 use std::alloc::{AllocError, Allocator, Global};
@@ -19,6 +19,19 @@ pub struct Definition<'a> {
     /// 2^64 - 1 in place of every greater value.
     pub value: u64,
     pub constant: bool,
+}
+
+impl Definition<'_> {
+    /// The value, if it is an address.
+    pub fn address(self) -> Option<u16>
+        ensures { result ≡ address_of (Some (definition_of self.entry)) }
+    {
+        if self.value < 65536 {
+            Some(self.value as u16)
+        } else {
+            None
+        }
+    }
 }
 
 /// Definitions in their order, and the first one of each name. Mostly a number tells a name from all others, and numbers are compared

@@ -1,10 +1,10 @@
 //! The value and size of an expression.
 
-ghost use Rattle.std.specs.Prelude.{◌≡◌, ◌+◌};
+ghost use Rattle.std.specs.Prelude.{◌≡◌, ◌+◌, Some};
 ghost use Rattle.stmt65.specs.Code.SourceLineViews.{numeral_of, value_of};
 ghost use Rattle.stmt65.specs.Code.Held.{held, held_value};
 ghost use Rattle.stmt65.specs.Coding.{entry_limit, entry_in};
-ghost use Rattle.stmt65.specs.Symbols.{below, lowered, value_in, is_known, word_in, is_small, has_zero_page_size};
+ghost use Rattle.stmt65.specs.Symbols.{below, apart, lowered, value_in, is_known, word_in, is_small, has_zero_page_size};
 
 use crate::assembling::entries::limit;
 use crate::assembling::symbols::{Definition, Names};
@@ -25,7 +25,20 @@ fn value_in<A: Allocator + Clone>(names: &Names<'_, '_, A>, value: Value) -> Opt
             let definition = names.find(name)?;
             value_from(definition, n, minus)
         }
+        Value::Difference(name, other) => {
+            let address = names.find(name)?.address()?;
+            let base = names.find(other)?.address()?;
+            apart(address, base)
+        }
     }
+}
+
+/// How far an address is past another one, or `None` if it is before it.
+fn apart(address: u16, base: u16) -> Option<u128>
+    ensures { result ≡ apart (Some address) (Some base) }
+{
+    let difference = address.checked_sub(base)?;
+    Some(u128::from(difference))
 }
 
 /// The value of a name with this definition, and of what is added to it.
@@ -53,6 +66,9 @@ pub fn is_known<A: Allocator + Clone>(names: &Names<'_, '_, A>, value: Value) ->
     match value {
         Value::Number(_) => true,
         Value::Name(name, _, _) => names.find(name).is_some(),
+        Value::Difference(name, other) => {
+            names.find(name).is_some() && names.find(other).is_some()
+        }
     }
 }
 
@@ -113,6 +129,7 @@ fn held_zero_page_size<A: Allocator + Clone>(above: &Names<'_, '_, A>, value: Va
             }
             None => false,
         },
+        Value::Difference(_, _) => false,
     }
 }
 

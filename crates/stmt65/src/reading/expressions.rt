@@ -1,46 +1,65 @@
-//! Expressions: a number, or a name with an optional number added and an optional `-1`.
+//! Expressions: a number, a name with an optional number added and an optional `-1`, or the difference of two names; and what is halved.
 
 ghost use Rattle.std.specs.Prelude.{◌≡◌};
 ghost use Rattle.stmt65.specs.Code.Found.{Reads};
 ghost use Rattle.stmt65.specs.Code.SourceLineViews.{numeral_of, value_of};
-ghost use Rattle.stmt65.specs.Reading.{less_one, named_at, next_value};
+ghost use Rattle.stmt65.specs.Reading.{less_name, less_one, named_at, next_value, halved_in, bracketed_in};
 
+use crate::language::Language;
 use crate::reading::lexer::Part;
 use crate::reading::names::is_name;
 use crate::reading::numeral::Numeral;
 use crate::reading::parts::Parts;
 use crate::source_line::{Minus, Value};
 
+/// After a name and `-`: in a repair another name.
+fn less_name<'a>(language: Language, name: &'a [u8], parts: &mut Parts<'a>) -> Option<Value<'a>>
+    ensures { Reads value_of result (less_name language name.now parts.old) parts.new }
+{
+    if language == Language::Listing {
+        return None;
+    }
+    match parts.next()? {
+        Part::Word(word) if is_name(word) => Some(Value::Difference(name, word)),
+        _ => None,
+    }
+}
+
 /// After a name and what is added to it: `-1`, or nothing.
 #[tactic(auto, unfolding(crate::specs::Reading::less_one))]
-fn less_one<'a>(name: &'a [u8], plus: Numeral<'a>, parts: &mut Parts<'a>) -> Option<Value<'a>>
-    ensures { Reads value_of result (less_one name.now (numeral_of plus.entry) parts.old) parts.new }
+fn less_one<'a>(
+    language: Language,
+    name: &'a [u8],
+    plus: Numeral<'a>,
+    parts: &mut Parts<'a>,
+) -> Option<Value<'a>>
+    ensures { Reads value_of result (less_one language name.now (numeral_of plus.entry) parts.old) parts.new }
 {
     if !parts.eat(b'-') {
         return Some(Value::Name(name, plus, Minus::Zero));
     }
     if !parts.eat_number(b"1") {
-        return None;
+        return less_name(language, name, parts);
     }
     Some(Value::Name(name, plus, Minus::One))
 }
 
 /// After a name.
 #[tactic(auto, unfolding(crate::specs::Reading::named_at))]
-fn named_at<'a>(name: &'a [u8], parts: &mut Parts<'a>) -> Option<Value<'a>>
-    ensures { Reads value_of result (named_at name.now parts.old) parts.new }
+pub fn named_at<'a>(language: Language, name: &'a [u8], parts: &mut Parts<'a>) -> Option<Value<'a>>
+    ensures { Reads value_of result (named_at language name.now parts.old) parts.new }
 {
     if !parts.eat(b'+') {
-        return less_one(name, Numeral::zero(), parts);
+        return less_one(language, name, Numeral::zero(), parts);
     }
     let plus = parts.number()?;
-    less_one(name, plus, parts)
+    less_one(Language::Listing, name, plus, parts)
 }
 
 /// The next expression.
 #[tactic(auto, unfolding(crate::specs::Reading::next_value))]
-pub fn next_value<'a>(parts: &mut Parts<'a>) -> Option<Value<'a>>
-    ensures { Reads value_of result (next_value parts.old) parts.new }
+pub fn next_value<'a>(language: Language, parts: &mut Parts<'a>) -> Option<Value<'a>>
+    ensures { Reads value_of result (next_value language parts.old) parts.new }
 {
     match parts.next()? {
         Part::Number(text) => Some(Value::Number(Numeral { text })),
@@ -48,8 +67,34 @@ pub fn next_value<'a>(parts: &mut Parts<'a>) -> Option<Value<'a>>
             if !is_name(word) {
                 return None;
             }
-            named_at(word, parts)
+            named_at(language, word, parts)
         }
+        _ => None,
+    }
+}
+
+/// An expression and `)`.
+fn bracketed_in<'a>(parts: &mut Parts<'a>) -> Option<Value<'a>>
+    ensures { Reads value_of result (bracketed_in parts.old) parts.new }
+{
+    let value = next_value(Language::Repair, parts)?;
+    if parts.eat(b')') { Some(value) } else { None }
+}
+
+/// What `<` and `>` take: a number, a name, or an expression in parentheses.
+#[tactic(auto, unfolding(crate::specs::Reading::halved_in))]
+pub fn halved_in<'a>(parts: &mut Parts<'a>) -> Option<Value<'a>>
+    ensures { Reads value_of result (halved_in parts.old) parts.new }
+{
+    match parts.next()? {
+        Part::Number(text) => Some(Value::Number(Numeral { text })),
+        Part::Word(word) => {
+            if !is_name(word) {
+                return None;
+            }
+            Some(Value::Name(word, Numeral::zero(), Minus::Zero))
+        }
+        Part::Mark(b'(') => bracketed_in(parts),
         _ => None,
     }
 }

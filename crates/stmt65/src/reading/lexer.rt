@@ -1,12 +1,14 @@
 //! The parts of a line, each taken as long as it can be.
 
-ghost use Rattle.std.specs.Prelude.{◌≡◌, ◌+◌, ◌<◌, ◌≤◌, [], ◌∷◌, length, MatchOption, drop, slice_index, false};
+ghost use Rattle.std.specs.Prelude.{◌≡◌, ◌+◌, ◌<◌, ◌≤◌, [], ◌∷◌, length, MatchOption, drop, slice_index, false, true};
 ghost use Rattle.std.specs.List.{prefix_len};
 ghost use Rattle.std.specs.Char.{is_ascii_digit, is_ascii_hexdigit};
 ghost use Rattle.text65.specs.Names.{is_blank, is_word_byte};
-ghost use Rattle.stmt65.specs.Lexing.{is_word_start, is_text_byte, hex_len, part_at, parts};
+ghost use Rattle.stmt65.specs.Lexing.{is_word_start, is_text_byte, is_binary_digit, is_character, hex_len, alone_at, part_at, parts};
 ghost use Rattle.stmt65.specs.Code.PartViews.{part_of};
+ghost use Rattle.stmt65.specs.declared.language.Language.{Language};
 
+use crate::language::Language;
 use text65::{is_blank, is_word_byte};
 
 /// What stands in a line: words and numbers as they are written, the bytes between the quotes of a
@@ -69,12 +71,61 @@ fn text_len(bytes: &[u8]) -> usize
     bytes.iter().take_while(|b| is_text_byte(**b)).count()
 }
 
+fn is_binary_digit(b: u8) -> bool
+    ensures { result ≡ is_binary_digit b }
+{
+    b == b'0' || b == b'1'
+}
+
+fn binary_len(bytes: &[u8]) -> usize
+    ensures value { result ≡ prefix_len is_binary_digit bytes.now }
+    ensures fits { result ≤ length bytes.now }
+{
+    bytes.iter().take_while(|b| is_binary_digit(**b)).count()
+}
+
+/// A byte from $20 to $7E, and an apostrophe after it.
+fn is_character(bytes: &[u8]) -> bool
+    ensures value { result ≡ is_character bytes.now }
+    ensures two { result ≡ true → 2 ≤ length bytes.now }
+{
+    match bytes {
+        [byte, end, ..] => *byte > 0x1F && *byte < 0x7F && *end == b'\'',
+        _ => false,
+    }
+}
+
+/// The part that begins with the first byte, which begins none of a listing but itself, and how many of the bytes after it belong to it.
+fn alone_at(language: Language, bytes: &[u8]) -> (Part<'_>, usize)
+    requires { 0 < length bytes.now }
+    ensures part { part_of result.0 ≡ (alone_at language (slice_index bytes.now 0) (drop 1 bytes.now)).0 }
+    ensures more { result.1 ≡ (alone_at language (slice_index bytes.now 0) (drop 1 bytes.now)).1 }
+    ensures fits { result.1 < length bytes.now }
+{
+    let [first, after @ ..] = bytes else {
+        unreachable!()
+    };
+    if language == Language::Listing {
+        return (Part::Mark(*first), 0);
+    }
+    if *first == b'%' {
+        let len = binary_len(after);
+        if len > 0 {
+            return (Part::Number(&bytes[..len + 1]), len);
+        }
+    }
+    if *first == b'\'' && is_character(after) {
+        return (Part::Number(&bytes[..3]), 2);
+    }
+    (Part::Mark(*first), 0)
+}
+
 /// The part that begins with the first byte, and how many of the bytes after it belong to it.
 #[tactic(auto, unfolding(crate::specs::Lexing::part_at))]
-fn part_at(bytes: &[u8]) -> (Part<'_>, usize)
+fn part_at(language: Language, bytes: &[u8]) -> (Part<'_>, usize)
     requires { 0 < length bytes.now }
-    ensures part { part_of result.0 ≡ (part_at (slice_index bytes.now 0) (drop 1 bytes.now)).0 }
-    ensures more { result.1 ≡ (part_at (slice_index bytes.now 0) (drop 1 bytes.now)).1 }
+    ensures part { part_of result.0 ≡ (part_at language (slice_index bytes.now 0) (drop 1 bytes.now)).0 }
+    ensures more { result.1 ≡ (part_at language (slice_index bytes.now 0) (drop 1 bytes.now)).1 }
     ensures fits { result.1 < length bytes.now }
 {
     let [first, after @ ..] = bytes else {
@@ -104,13 +155,13 @@ fn part_at(bytes: &[u8]) -> (Part<'_>, usize)
     if first == b':' && !after.is_empty() && after[0] == b'=' {
         return (Part::Define, 1);
     }
-    (Part::Mark(first), 0)
+    alone_at(language, bytes)
 }
 
 /// The bytes from the first on that is no blank.
 #[tactic(auto, using(crate::proofs::PartLemmas::lexing))]
 fn after_blanks(bytes: &[u8]) -> &[u8]
-    ensures parts { parts result.now ≡ parts bytes.now }
+    ensures parts { (language : Language) → parts language result.now ≡ parts language bytes.now }
     ensures stop { 0 < length result.now → is_blank (slice_index result.now 0) ≡ false }
 {
     for (i, b) in bytes.iter().enumerate() {
@@ -123,9 +174,9 @@ fn after_blanks(bytes: &[u8]) -> &[u8]
 
 /// The first part of the line, and the bytes after it.
 #[tactic(auto, using(crate::proofs::PartLemmas::lexing))]
-pub fn first_part(bytes: &[u8]) -> Option<(Part<'_>, &[u8])>
-    ensures { MatchOption result (parts bytes.now ≡ [])
-        (λ found. parts bytes.now ≡ part_of found.0 ∷ parts found.1.now) }
+pub fn first_part(language: Language, bytes: &[u8]) -> Option<(Part<'_>, &[u8])>
+    ensures { MatchOption result (parts language bytes.now ≡ [])
+        (λ found. parts language bytes.now ≡ part_of found.0 ∷ parts language found.1.now) }
 {
     let bytes = after_blanks(bytes);
     match bytes {
@@ -134,7 +185,7 @@ pub fn first_part(bytes: &[u8]) -> Option<(Part<'_>, &[u8])>
             if *first == b';' {
                 return None;
             }
-            let (part, more) = part_at(bytes);
+            let (part, more) = part_at(language, bytes);
             Some((part, &bytes[more + 1..]))
         }
     }

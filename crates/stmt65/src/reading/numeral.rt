@@ -1,13 +1,14 @@
 //! Numbers as they are written.
 
-ghost use Rattle.std.specs.Prelude.{◌≡◌, ◌<◌, min};
+ghost use Rattle.std.specs.Prelude.{◌≡◌, ◌<◌, get_or, min};
 ghost use Rattle.std.specs.Char.{digit_value};
 ghost use Rattle.std.specs.Str.Parse.{digits_value};
 ghost use Rattle.stmt65.specs.Code.Held.{held};
 ghost use Rattle.stmt65.specs.Parts.{number_of};
 ghost use Rattle.stmt65.specs.Code.SourceLineViews.{numeral_of};
 
-/// A number as it is written: decimal digits, or `$` and hex digits. It may be of any size.
+/// A number as it is written: decimal digits, `$` and hex digits, `%` and binary digits, or a character between apostrophes. It may be
+/// of any size.
 #[derive(Clone, Copy, Debug)]
 pub struct Numeral<'a> {
     pub text: &'a [u8],
@@ -29,8 +30,20 @@ impl<'a> Numeral<'a> {
     {
         match self.text {
             [b'$', digits @ ..] => value_of_digits(16, digits),
+            [b'%', digits @ ..] => value_of_digits(2, digits),
+            [b'\'', character @ ..] => u64::from(first_of(character)),
             _ => value_of_digits(10, self.text),
         }
+    }
+}
+
+/// The first byte, or 0 without one.
+fn first_of(bytes: &[u8]) -> u8
+    ensures { result ≡ get_or bytes.now 0 0 }
+{
+    match bytes {
+        [first, ..] => *first,
+        [] => 0,
     }
 }
 

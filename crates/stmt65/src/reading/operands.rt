@@ -4,11 +4,12 @@ ghost use Rattle.std.specs.Prelude.{◌≡◌};
 ghost use Rattle.stmt65.specs.Code.Found.{Gives};
 ghost use Rattle.stmt65.specs.Code.SourceLineViews.{value_of, form_of as form_of_code};
 ghost use Rattle.stmt65.specs.SourceLine.{is_absolute};
-ghost use Rattle.stmt65.specs.Reading.{whole, tail_at, inner_at, form_of};
+ghost use Rattle.stmt65.specs.Reading.{whole, tail_at, inner_at, half_form, immediate_of, form_of};
 
-use crate::reading::expressions::next_value;
+use crate::language::Language;
+use crate::reading::expressions::{halved_in, next_value};
 use crate::reading::parts::Parts;
-use crate::source_line::{AddressSize, Form, Value};
+use crate::source_line::{AddressSize, Form, Half, Value};
 
 /// The form, if nothing is left.
 fn whole<'a>(form: Form<'a>, parts: &Parts<'a>) -> Option<Form<'a>>
@@ -40,7 +41,7 @@ fn tail_at<'a>(size: AddressSize, value: Value<'a>, parts: &mut Parts<'a>) -> Op
     if is_absolute(size) {
         return None;
     }
-    let second = next_value(parts)?;
+    let second = next_value(Language::Listing, parts)?;
     whole(Form::Two(value, second), parts)
 }
 
@@ -70,29 +71,53 @@ fn inner_at<'a>(value: Value<'a>, parts: &mut Parts<'a>) -> Option<Form<'a>>
     whole(Form::IndirectX(value), parts)
 }
 
+/// After `#` and `<` or `>`.
+fn half_form<'a>(half: Half, parts: &mut Parts<'a>) -> Option<Form<'a>>
+    ensures { Gives form_of_code result (half_form half parts.old) }
+{
+    let value = halved_in(parts)?;
+    whole(Form::ImmediateHalf(half, value), parts)
+}
+
+/// After `#`.
+#[tactic(auto, unfolding(crate::specs::Reading::immediate_of))]
+fn immediate_of<'a>(language: Language, parts: &mut Parts<'a>) -> Option<Form<'a>>
+    ensures { Gives form_of_code result (immediate_of language parts.old) }
+{
+    if language == Language::Repair {
+        if parts.eat(b'<') {
+            return half_form(Half::Low, parts);
+        }
+        if parts.eat(b'>') {
+            return half_form(Half::High, parts);
+        }
+    }
+    let value = next_value(language, parts)?;
+    whole(Form::Immediate(value), parts)
+}
+
 /// The operand: everything after a mnemonic.
 #[tactic(auto, unfolding(crate::specs::Reading::form_of))]
-pub fn form_of<'a>(parts: &mut Parts<'a>) -> Option<Form<'a>>
-    ensures { Gives form_of_code result (form_of parts.old) }
+pub fn form_of<'a>(language: Language, parts: &mut Parts<'a>) -> Option<Form<'a>>
+    ensures { Gives form_of_code result (form_of language parts.old) }
 {
     if parts.eat(b'#') {
-        let value = next_value(parts)?;
-        return whole(Form::Immediate(value), parts);
+        return immediate_of(language, parts);
     }
     if parts.eat(b'(') {
-        let value = next_value(parts)?;
+        let value = next_value(Language::Listing, parts)?;
         return inner_at(value, parts);
     }
     if parts.eat_word(b"a") {
         if !parts.eat(b':') {
             return whole(Form::Accumulator, parts);
         }
-        let value = next_value(parts)?;
+        let value = next_value(Language::Listing, parts)?;
         return tail_at(AddressSize::Absolute, value, parts);
     }
     if parts.is_done() {
         return Some(Form::Empty);
     }
-    let value = next_value(parts)?;
+    let value = next_value(Language::Listing, parts)?;
     tail_at(AddressSize::Automatic, value, parts)
 }

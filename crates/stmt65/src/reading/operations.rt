@@ -4,38 +4,39 @@ ghost use Rattle.std.specs.Prelude.{◌≡◌, IfOk, List, Option, map};
 ghost use Rattle.stmt65.specs.Parts.{Part};
 ghost use Rattle.stmt65.specs.Code.Found.{Reads, Gives};
 ghost use Rattle.stmt65.specs.Code.Shortens.{Shortens};
-ghost use Rattle.stmt65.specs.Code.SourceLineViews.{operation_of as operation_of_code};
-ghost use Rattle.stmt65.specs.Reading.{list_of, text_in, segment_of, instruction_of, other_at, operation_at, operation_of};
+ghost use Rattle.stmt65.specs.Code.SourceLineViews.{datum_of, form_of as form_of_code, operation_of as operation_of_code};
+ghost use Rattle.stmt65.specs.Reading.{list_of, text_in, data_of, word_datum, half_datum, mark_datum, next_datum, next_half, reserve_of, segment_of, takes_accumulator, operand_in, instruction_of, further_at, other_at, operation_at, operation_of};
 
 use crate::directive::Directive;
-use crate::reading::expressions::next_value;
+use crate::language::Language;
+use crate::reading::expressions::{halved_in, named_at, next_value};
 use crate::reading::lexer::Part;
-use crate::reading::names::is_word;
+use crate::reading::names::{is_name, is_word};
 use crate::reading::numeral::Numeral;
 use crate::reading::operands::form_of;
 use crate::reading::parts::Parts;
-use crate::source_line::{Datum, Operation, Value};
+use crate::source_line::{Datum, Form, Half, Operation, Value};
 use isa65::Mnemonic;
 use std::alloc::{AllocError, Allocator};
 use text65::has_name_form;
 
-/// What stands in a list.
-trait Listed<'a>: Sized {
+/// What stands in a list. The rule says how it is read.
+trait Listed<'a, R>: Sized {
     /// What it is in the definitions.
     ghost Seen: { Type 0 };
     /// As that.
     ghost seen: { Self → Seen };
     /// The first of it in some parts, and the parts after it.
-    ghost first_in: { List Part → Option (Seen × List Part) };
+    ghost first_in: { R → List Part → Option (Seen × List Part) };
     /// It takes a part at least.
-    ghost shortens: { Shortens first_in };
+    ghost shortens: { (rule : R) → Shortens (first_in rule) };
 
     /// Takes the next of it.
-    fn next_in(parts: &mut Parts<'a>) -> Option<Self>
-        ensures { Reads seen result (first_in parts.old) parts.new };
+    fn next_in(rule: R, parts: &mut Parts<'a>) -> Option<Self>
+        ensures { Reads seen result (first_in rule parts.old) parts.new };
 }
 
-impl<'a> Listed<'a> for Datum<'a> {
+impl<'a> Listed<'a, Language> for Datum<'a> {
     ghost use Rattle.stmt65.specs.SourceLine.{Datum as ADatum};
     ghost use Rattle.stmt65.specs.Code.SourceLineViews.{datum_of};
     ghost use Rattle.stmt65.specs.Reading.{next_datum};
@@ -49,18 +50,12 @@ impl<'a> Listed<'a> for Datum<'a> {
 
     ghost shortens = { next_datum-Shortens };
 
-    /// The next number or string.
-    #[tactic(auto, unfolding(crate::specs::Reading::next_datum))]
-    fn next_in(parts: &mut Parts<'a>) -> Option<Self> {
-        match parts.next()? {
-            Part::Number(text) => Some(Datum::Number(Numeral { text })),
-            Part::Text(text) => Some(Datum::String(text)),
-            _ => None,
-        }
+    fn next_in(language: Language, parts: &mut Parts<'a>) -> Option<Self> {
+        next_datum(language, parts)
     }
 }
 
-impl<'a> Listed<'a> for Value<'a> {
+impl<'a> Listed<'a, Language> for Value<'a> {
     ghost use Rattle.stmt65.specs.SourceLine.{Value as AValue};
     ghost use Rattle.stmt65.specs.Code.SourceLineViews.{value_of};
     ghost use Rattle.stmt65.specs.Reading.{next_value};
@@ -74,21 +69,99 @@ impl<'a> Listed<'a> for Value<'a> {
 
     ghost shortens = { next_value-Shortens };
 
-    fn next_in(parts: &mut Parts<'a>) -> Option<Self> {
-        next_value(parts)
+    fn next_in(language: Language, parts: &mut Parts<'a>) -> Option<Self> {
+        next_value(language, parts)
     }
 }
 
+impl<'a> Listed<'a, Half> for Datum<'a> {
+    ghost use Rattle.stmt65.specs.SourceLine.{Datum as ADatum};
+    ghost use Rattle.stmt65.specs.Code.SourceLineViews.{datum_of};
+    ghost use Rattle.stmt65.specs.Reading.{next_half};
+    ghost use Rattle.stmt65.specs.Code.Shortens.{next_half-Shortens};
+
+    ghost Seen = { ADatum };
+
+    ghost seen = { datum_of };
+
+    ghost first_in = { next_half };
+
+    ghost shortens = { next_half-Shortens };
+
+    fn next_in(half: Half, parts: &mut Parts<'a>) -> Option<Self> {
+        next_half(half, parts)
+    }
+}
+
+/// After a word as an operand of `.byte`: in a repair an expression with this name.
+#[tactic(auto, unfolding(crate::specs::Reading::word_datum))]
+fn word_datum<'a>(language: Language, word: &'a [u8], parts: &mut Parts<'a>) -> Option<Datum<'a>>
+    ensures { Reads datum_of result (word_datum language word.now parts.old) parts.new }
+{
+    if language == Language::Listing || !is_name(word) {
+        return None;
+    }
+    let value = named_at(Language::Repair, word, parts)?;
+    Some(Datum::Value(value))
+}
+
+/// After `<` or `>`.
+fn half_datum<'a>(half: Half, parts: &mut Parts<'a>) -> Option<Datum<'a>>
+    ensures { Reads datum_of result (half_datum half parts.old) parts.new }
+{
+    let value = halved_in(parts)?;
+    Some(Datum::Half(half, value))
+}
+
+/// After a byte by itself as an operand of `.byte`: in a repair a half.
+#[tactic(auto, unfolding(crate::specs::Reading::mark_datum))]
+fn mark_datum<'a>(language: Language, mark: u8, parts: &mut Parts<'a>) -> Option<Datum<'a>>
+    ensures { Reads datum_of result (mark_datum language mark parts.old) parts.new }
+{
+    if language == Language::Listing {
+        return None;
+    }
+    match mark {
+        b'<' => half_datum(Half::Low, parts),
+        b'>' => half_datum(Half::High, parts),
+        _ => None,
+    }
+}
+
+/// The next operand of `.byte`.
+#[tactic(auto, unfolding(crate::specs::Reading::next_datum))]
+fn next_datum<'a>(language: Language, parts: &mut Parts<'a>) -> Option<Datum<'a>>
+    ensures { Reads datum_of result (next_datum language parts.old) parts.new }
+{
+    match parts.next()? {
+        Part::Number(text) => Some(Datum::Number(Numeral { text })),
+        Part::Text(text) => Some(Datum::String(text)),
+        Part::Word(word) => word_datum(language, word, parts),
+        Part::Mark(mark) => mark_datum(language, mark, parts),
+        Part::Define => None,
+    }
+}
+
+/// The half of the next expression.
+#[tactic(auto, unfolding(crate::specs::Reading::next_half))]
+fn next_half<'a>(half: Half, parts: &mut Parts<'a>) -> Option<Datum<'a>>
+    ensures { Reads datum_of result (next_half half parts.old) parts.new }
+{
+    let value = next_value(Language::Repair, parts)?;
+    Some(Datum::Half(half, value))
+}
+
 /// Values or data joined by commas, with nothing after them.
-fn list_in<'a, T: Listed<'a> + Drop, A: Allocator>(
+fn list_in<'a, R: Copy, T: Listed<'a, R> + Drop, A: Allocator>(
     alloc: A,
+    rule: R,
     parts: &mut Parts<'a>,
 ) -> Result<Option<Vec<T, A>>, AllocError>
-    ensures { IfOk result (λ found. Gives (λ v. map T.seen v.items) found (list_of T.first_in parts.old)) }
+    ensures { IfOk result (λ found. Gives (λ v. map T.seen v.items) found (list_of (T.first_in rule) parts.old)) }
 {
     let mut found = Vec::new(alloc);
     'reads: loop {
-        let Some(item) = T::next_in(parts) else {
+        let Some(item) = T::next_in(rule, parts) else {
             return Ok(None);
         };
         found.push(item)?;
@@ -125,28 +198,125 @@ fn segment<'a, A: Allocator>(parts: &mut Parts<'a>) -> Option<Operation<'a, A>>
     }
 }
 
-fn instruction<'a, A: Allocator>(word: &[u8], parts: &mut Parts<'a>) -> Option<Operation<'a, A>>
-    ensures { Gives operation_of_code result (instruction_of word.now parts.old) }
+/// An instruction that can work on the accumulator.
+fn takes_accumulator(mnemonic: Mnemonic) -> bool
+    ensures { result ≡ takes_accumulator mnemonic }
+{
+    matches!(
+        mnemonic,
+        Mnemonic::Asl
+            | Mnemonic::Lsr
+            | Mnemonic::Rol
+            | Mnemonic::Ror
+            | Mnemonic::Inc
+            | Mnemonic::Dec
+    )
+}
+
+/// The operand; without one, in a repair, such an instruction works on the accumulator.
+fn operand_in<'a>(language: Language, mnemonic: Mnemonic, form: Form<'a>) -> Form<'a>
+    ensures { form_of_code result ≡ operand_in language mnemonic (form_of_code form.entry) }
+{
+    match (language, form) {
+        (Language::Repair, Form::Empty) if takes_accumulator(mnemonic) => Form::Accumulator,
+        (_, form) => form,
+    }
+}
+
+fn instruction<'a, A: Allocator>(
+    language: Language,
+    word: &[u8],
+    parts: &mut Parts<'a>,
+) -> Option<Operation<'a, A>>
+    ensures { Gives operation_of_code result (instruction_of language word.now parts.old) }
 {
     let mnemonic = Mnemonic::from_bytes(word)?;
-    let form = form_of(parts)?;
-    Some(Operation::Instr(mnemonic, form))
+    let form = form_of(language, parts)?;
+    Some(Operation::Instr(mnemonic, operand_in(language, mnemonic, form)))
+}
+
+/// A list of data.
+fn data<'a, A: Allocator>(
+    alloc: A,
+    language: Language,
+    parts: &mut Parts<'a>,
+) -> Result<Option<Operation<'a, A>>, AllocError>
+    ensures { IfOk result (λ found. Gives operation_of_code found (data_of (next_datum language) parts.old)) }
+{
+    match list_in(alloc, language, parts)? {
+        Some(data) => Ok(Some(Operation::Data(data))),
+        None => Ok(None),
+    }
+}
+
+/// A list of halves.
+fn halves<'a, A: Allocator>(
+    alloc: A,
+    half: Half,
+    parts: &mut Parts<'a>,
+) -> Result<Option<Operation<'a, A>>, AllocError>
+    ensures { IfOk result (λ found. Gives operation_of_code found (data_of (next_half half) parts.old)) }
+{
+    match list_in(alloc, half, parts)? {
+        Some(data) => Ok(Some(Operation::Data(data))),
+        None => Ok(None),
+    }
+}
+
+/// A number of bytes, and after a comma their value.
+fn reserve<'a, A: Allocator>(parts: &mut Parts<'a>) -> Option<Operation<'a, A>>
+    ensures { Gives operation_of_code result (reserve_of parts.old) }
+{
+    let count = parts.number()?;
+    let value = if parts.eat(b',') {
+        parts.number()?
+    } else {
+        Numeral::zero()
+    };
+    if parts.is_done() {
+        Some(Operation::Reserve(count, value))
+    } else {
+        None
+    }
+}
+
+/// A list of halves or reserved bytes in a repair, or an instruction.
+#[tactic(auto, unfolding(crate::specs::Reading::further_at))]
+fn further_at<'a, A: Allocator>(
+    alloc: A,
+    language: Language,
+    word: &'a [u8],
+    parts: &mut Parts<'a>,
+) -> Result<Option<Operation<'a, A>>, AllocError>
+    ensures { IfOk result (λ found. Gives operation_of_code found (further_at language word.now parts.old)) }
+{
+    if language == Language::Listing {
+        return Ok(instruction(Language::Listing, word, parts));
+    }
+    if is_word(word, b".lobytes") {
+        return halves(alloc, Half::Low, parts);
+    }
+    if is_word(word, b".hibytes") {
+        return halves(alloc, Half::High, parts);
+    }
+    if is_word(word, b".res") {
+        return Ok(reserve(parts));
+    }
+    Ok(instruction(Language::Repair, word, parts))
 }
 
 /// The operation that begins with the word, which is none of the directives that give numbers.
 #[tactic(auto, unfolding(crate::specs::Reading::other_at))]
 fn other_at<'a, A: Allocator>(
     alloc: A,
+    language: Language,
     word: &'a [u8],
     parts: &mut Parts<'a>,
 ) -> Result<Option<Operation<'a, A>>, AllocError>
-    ensures { IfOk result (λ found. Gives operation_of_code found (other_at word.now parts.old)) }
+    ensures { IfOk result (λ found. Gives operation_of_code found (other_at language word.now parts.old)) }
 {
     if is_word(word, b".byte") {
-        return match list_in(alloc, parts)? {
-            Some(data) => Ok(Some(Operation::Data(data))),
-            None => Ok(None),
-        };
+        return data(alloc, language, parts);
     }
     if is_word(word, b".segment") {
         return Ok(segment(parts));
@@ -164,24 +334,25 @@ fn other_at<'a, A: Allocator>(
             None => Ok(None),
         };
     }
-    Ok(instruction(word, parts))
+    further_at(alloc, language, word, parts)
 }
 
 /// The operation that begins with the word.
 #[tactic(auto, unfolding(crate::specs::Reading::operation_at))]
 pub fn operation_at<'a, A: Allocator>(
     alloc: A,
+    language: Language,
     word: &'a [u8],
     parts: &mut Parts<'a>,
 ) -> Result<Option<Operation<'a, A>>, AllocError>
-    ensures { IfOk result (λ found. Gives operation_of_code found (operation_at word.now parts.old)) }
+    ensures { IfOk result (λ found. Gives operation_of_code found (operation_at language word.now parts.old)) }
 {
     match Directive::from_word(word) {
-        Some(directive) => match list_in(alloc, parts)? {
+        Some(directive) => match list_in(alloc, language, parts)? {
             Some(values) => Ok(Some(Operation::Values(directive, values))),
             None => Ok(None),
         },
-        None => other_at(alloc, word, parts),
+        None => other_at(alloc, language, word, parts),
     }
 }
 
@@ -189,13 +360,14 @@ pub fn operation_at<'a, A: Allocator>(
 #[tactic(auto, unfolding(crate::specs::Reading::operation_of))]
 pub fn operation_of<'a, A: Allocator>(
     alloc: A,
+    language: Language,
     parts: &mut Parts<'a>,
 ) -> Result<Option<Operation<'a, A>>, AllocError>
-    ensures { IfOk result (λ found. Gives operation_of_code found (operation_of parts.old)) }
+    ensures { IfOk result (λ found. Gives operation_of_code found (operation_of language parts.old)) }
 {
     match parts.next() {
         None => Ok(Some(Operation::Nothing)),
-        Some(Part::Word(word)) => operation_at(alloc, word, parts),
+        Some(Part::Word(word)) => operation_at(alloc, language, word, parts),
         Some(_) => Ok(None),
     }
 }

@@ -8,6 +8,7 @@ ghost use Rattle.stmt65.specs.Code.Found.{Reads};
 ghost use Rattle.stmt65.specs.Code.SourceLineViews.{numeral_of};
 ghost use Rattle.stmt65.specs.Reading.{is_mark, is_define, is_word_here, is_number_here, is_nil, number_in};
 
+use crate::language::Language;
 use crate::reading::lexer::{Part, first_part};
 use crate::reading::numeral::Numeral;
 use std::marker::Model;
@@ -15,6 +16,7 @@ use std::marker::Model;
 /// The parts of a line that are left, which contracts see as their list. The first of them is cut already, so that each is cut once.
 #[derive(Drop)]
 pub struct Parts<'a> {
+    language: Language,
     first: Option<Part<'a>>,
     rest: &'a [u8],
 }
@@ -26,20 +28,22 @@ impl<'a> Model for Parts<'a> {
 
     ghost Value = { List APart };
 
-    ghost view = { λ p. parts_from p.first p.rest.now };
+    ghost view = { λ p. parts_from p.language p.first p.rest.now };
 }
 
 impl<'a> Parts<'a> {
     /// All parts of the line.
-    pub fn new(line: &'a [u8]) -> Self
-        ensures { result ≡ parts line.now }
+    pub fn new(language: Language, line: &'a [u8]) -> Self
+        ensures { result ≡ parts language line.now }
     {
-        match first_part(line) {
+        match first_part(language, line) {
             Some((part, rest)) => Parts {
+                language,
                 first: Some(part),
                 rest,
             },
             None => Parts {
+                language,
                 first: None,
                 rest: line,
             },
@@ -61,7 +65,7 @@ impl<'a> Parts<'a> {
         ensures { self.new ≡ drop 1 self.old }
     {
         if self.first.is_some() {
-            *self = Parts::new(self.rest);
+            *self = Parts::new(self.language, self.rest);
         }
     }
 

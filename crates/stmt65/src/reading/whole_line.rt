@@ -1,19 +1,35 @@
 //! What a line says.
 
-ghost use Rattle.std.specs.Prelude.{◌≡◌, IfOk, Option, Some, None, if◌then◌else◌};
+ghost use Rattle.std.specs.Prelude.{◌≡◌, IfOk, Option, Some, None, drop, if◌then◌else◌};
+ghost use Rattle.std.specs.Bool.{OnTrue, OnFalse};
 ghost use Rattle.std.specs.Option.{option_copied, option_map};
 ghost use Rattle.stmt65.specs.Code.Found.{Gives};
 ghost use Rattle.stmt65.specs.Code.SourceLineViews.{operation_of, source_of};
 ghost use Rattle.stmt65.specs.Lexing.{parts};
 ghost use Rattle.stmt65.specs.Names.{is_name};
-ghost use Rattle.stmt65.specs.Reading.{constant_of, stated, operation_at, operation_of as operation_read, line_at, reading_of};
+ghost use Rattle.stmt65.specs.Reading.{number_of_name, constant_of, stated, is_equals, operation_at, operation_of as operation_read, line_at, reading_of};
 
+use crate::language::Language;
 use crate::reading::lexer::Part;
 use crate::reading::names::is_name;
 use crate::reading::operations::{operation_at, operation_of};
 use crate::reading::parts::Parts;
 use crate::source_line::{Operation, SourceLine};
 use std::alloc::{AllocError, Allocator};
+
+/// After the name, to which a number is given.
+fn number_of_name<'a, A: Allocator>(
+    name: &'a [u8],
+    parts: &mut Parts<'a>,
+) -> Option<SourceLine<'a, A>>
+    ensures { Gives source_of result (number_of_name name.now parts.old) }
+{
+    let value = parts.number()?;
+    if !parts.is_done() {
+        return None;
+    }
+    Some(SourceLine::Assignment(name, value))
+}
 
 /// After the name and `:=`.
 #[tactic(auto, unfolding(crate::specs::Reading::constant_of))]
@@ -30,11 +46,7 @@ fn constant_of<'a, A: Allocator>(name: &'a [u8], parts: &mut Parts<'a>) -> Optio
         }
         return Some(SourceLine::PlaceAssignment(name, plus));
     }
-    let value = parts.number()?;
-    if !parts.is_done() {
-        return None;
-    }
-    Some(SourceLine::Assignment(name, value))
+    number_of_name(name, parts)
 }
 
 /// The operation, if there is one, after the optional label.
@@ -51,15 +63,16 @@ fn stated<'a, A: Allocator>(
 /// After a label and its colon.
 fn labelled<'a, A: Allocator>(
     alloc: A,
+    language: Language,
     word: &'a [u8],
     parts: &mut Parts<'a>,
 ) -> Result<Option<SourceLine<'a, A>>, AllocError>
-    ensures { IfOk result (λ found. Gives source_of found (if is_name word.now then stated (Some word.now) (operation_read parts.old) else None)) }
+    ensures { IfOk result (λ found. Gives source_of found (if is_name word.now then stated (Some word.now) (operation_read language parts.old) else None)) }
 {
     if !is_name(word) {
         return Ok(None);
     }
-    let operation = operation_of(alloc, parts)?;
+    let operation = operation_of(alloc, language, parts)?;
     Ok(stated(Some(word), operation))
 }
 
@@ -73,64 +86,93 @@ fn defined<'a, A: Allocator>(word: &'a [u8], parts: &mut Parts<'a>) -> Option<So
     constant_of(word, parts)
 }
 
+/// After a name and `=`, if it is one.
+fn equal<'a, A: Allocator>(word: &'a [u8], parts: &mut Parts<'a>) -> Option<SourceLine<'a, A>>
+    ensures { Gives source_of result (if is_name word.now then number_of_name word.now parts.old else None) }
+{
+    if !is_name(word) {
+        return None;
+    }
+    number_of_name(word, parts)
+}
+
 /// After the word of an operation without a label.
 fn unlabelled<'a, A: Allocator>(
     alloc: A,
+    language: Language,
     word: &'a [u8],
     parts: &mut Parts<'a>,
 ) -> Result<Option<SourceLine<'a, A>>, AllocError>
-    ensures { IfOk result (λ found. Gives source_of found (stated None (operation_at word.now parts.old))) }
+    ensures { IfOk result (λ found. Gives source_of found (stated None (operation_at language word.now parts.old))) }
 {
-    let operation = operation_at(alloc, word, parts)?;
+    let operation = operation_at(alloc, language, word, parts)?;
     Ok(stated(None, operation))
+}
+
+/// Takes `=`, which in a repair is as good as `:=` before a number.
+fn eat_equals(language: Language, parts: &mut Parts<'_>) -> bool
+    ensures value { result ≡ is_equals language parts.old }
+    ensures taken { OnTrue result (parts.new ≡ drop 1 parts.old) }
+    ensures left { OnFalse result (parts.new ≡ parts.old) }
+{
+    match language {
+        Language::Listing => false,
+        Language::Repair => parts.eat(b'='),
+    }
 }
 
 /// A line that begins with the word.
 #[tactic(auto, unfolding(crate::specs::Reading::line_at))]
 fn line_at<'a, A: Allocator>(
     alloc: A,
+    language: Language,
     word: &'a [u8],
     parts: &mut Parts<'a>,
 ) -> Result<Option<SourceLine<'a, A>>, AllocError>
-    ensures { IfOk result (λ found. Gives source_of found (line_at word.now parts.old)) }
+    ensures { IfOk result (λ found. Gives source_of found (line_at language word.now parts.old)) }
 {
     if parts.eat(b':') {
-        return labelled(alloc, word, parts);
+        return labelled(alloc, language, word, parts);
     }
     if parts.eat_define() {
         return Ok(defined(word, parts));
     }
-    unlabelled(alloc, word, parts)
+    if eat_equals(language, parts) {
+        return Ok(equal(word, parts));
+    }
+    unlabelled(alloc, language, word, parts)
 }
 
 /// What the parts say.
 #[tactic(auto, unfolding(crate::specs::Reading::reading_of))]
 fn read_parts<'a, A: Allocator>(
     alloc: A,
+    language: Language,
     parts: &mut Parts<'a>,
 ) -> Result<Option<SourceLine<'a, A>>, AllocError>
-    ensures { IfOk result (λ found. Gives source_of found (reading_of parts.old)) }
+    ensures { IfOk result (λ found. Gives source_of found (reading_of language parts.old)) }
 {
     match parts.next() {
         None => Ok(Some(SourceLine::Statement {
             label: None,
             operation: Operation::Nothing,
         })),
-        Some(Part::Word(word)) => line_at(alloc, word, parts),
+        Some(Part::Word(word)) => line_at(alloc, language, word, parts),
         Some(_) => Ok(None),
     }
 }
 
-/// What a line, without its line feed, says; `None` if it is no line of assembler text. The
+/// What a line, without its line feed, says in a language; `None` if it is no line of it. The
 /// names and strings of the answer are borrowed from the line.
 ///
 /// Fails if an allocation for a list of operands is refused.
 pub fn read_line<'a, A: Allocator>(
     alloc: A,
+    language: Language,
     line: &'a [u8],
 ) -> Result<Option<SourceLine<'a, A>>, AllocError>
-    ensures { IfOk result (λ found. Gives source_of found (reading_of (parts line.now))) }
+    ensures { IfOk result (λ found. Gives source_of found (reading_of language (parts language line.now))) }
 {
-    let mut parts = Parts::new(line);
-    read_parts(alloc, &mut parts)
+    let mut parts = Parts::new(language, line);
+    read_parts(alloc, language, &mut parts)
 }

@@ -4,12 +4,18 @@ use crate::tests::asserts::{assert_equal, assert_equal_at, assert_that, assert_t
 use crate::tests::said::file_of;
 use std::alloc::{AllocError, Global};
 use std::process::Abort;
-use stmt65::{AsmFault, AsmFaultKind, assemble, line_addresses};
+use stmt65::{
+    AsmFault, AsmFaultKind, Language, Layout, Source, assemble, assemble_source, line_addresses,
+};
 
 /// The bytes of a text from an address on, or its fault.
 fn assembled(rt: &impl Abort, alloc: Global, start: u16, text: &[u8]) -> String {
+    shown(rt, alloc, assemble(alloc, text, start))
+}
+
+fn shown(rt: &impl Abort, alloc: Global, outcome: Result<Vec<u8>, AsmFault>) -> String {
     let mut out = String::new(alloc);
-    match assemble(alloc, text, start) {
+    match outcome {
         Ok(bytes) => {
             for byte in &bytes {
                 write!(out, " {byte:02X}").expect(rt, "write");
@@ -311,6 +317,7 @@ const TEXTS: &[(AsmFaultKind, &str)] = &[
     (AsmFaultKind::Undefined, "1: undefined name"),
     (AsmFaultKind::DefinedTwice, "1: name defined twice"),
     (AsmFaultKind::OutOfRange, "1: value out of range"),
+    (AsmFaultKind::PastStart, "1: segment past its start"),
     (
         AsmFaultKind::PastEnd,
         "1: past the end of the address space",
@@ -334,7 +341,57 @@ fn texts_of_faults(rt: HostRuntime) {
 #[test]
 fn addresses_after_lines(rt: HostRuntime) {
     let text = b"v := $12\nlda v\n?\n\nl: .word 1,2 ; two\nrts";
-    let found = line_addresses(rt.alloc(), text, 0x1000).expect(&rt, "line_addresses");
+    let layout = Layout::new(rt.alloc(), 0).expect(&rt, "layout");
+    let source = Source {
+        language: Language::Listing,
+        layout: &layout,
+        start: 0x1000,
+        text,
+    };
+    let found = line_addresses(rt.alloc(), &source).expect(&rt, "line_addresses");
     let want = [0x1000, 0x1002, 0x1002, 0x1002, 0x1006, 0x1007];
     assert_equal(&rt, &found.as_slice(), &want.as_slice());
+}
+
+/// Texts of repairs, the segments A at $1010 and B at $1020, and $EE between them.
+const REPAIRS: &str = r#"
+lda #<l|ldx #>l|l: rts| => A9 04 A2 10 60
+.byte <l,>l,l-m,'A',%101|m:|l := $1234| => line 1: value out of range
+m: .byte <l,>l,l-m,'A',%101|l: rts| => 05 10 05 41 05 60
+.lobytes l,m|.hibytes l,m|l:|m := $ABCD| => 04 CD 10 AB
+a0: nop|b0: .word b0-a0|.byte a0-b0| => line 3: value out of range
+.word b0-a0| => line 1: undefined name
+.res 3|.res 2,$AA|rts| => 00 00 00 AA AA 60
+.res 0|.res 1,256| => line 2: value out of range
+.res 65536| => line 1: value out of range
+.res 65535| => line 1: past the end of the address space
+v = $12|lda v|asl| => A5 12 0A
+dec| => line 1: no such form
+.setcpu "65C02"|inc| => 1A
+lda #l|l := 256| => line 1: value out of range
+-- filled up to the starts; of two segments of one name the first counts, and one without a start goes on
+.res 14,1|.segment "A"|l: rts|.res 14,2|.segment "B"|.addr l| => 01 01 01 01 01 01 01 01 01 01 01 01 01 01 EE EE 60 02 02 02 02 02 02 02 02 02 02 02 02 02 02 EE 10 10
+.res 16,1|.segment "A"|.segment "C"|rts| => 01 01 01 01 01 01 01 01 01 01 01 01 01 01 01 01 60
+.res 17|.segment "A"| => line 2: segment past its start
+"#;
+
+#[test]
+fn texts_of_repairs(rt: HostRuntime) {
+    let mut layout = Layout::new(rt.alloc(), 0xEE).expect(&rt, "layout");
+    layout.add(b"A", 0x1010).expect(&rt, "add");
+    layout.add(b"B", 0x1020).expect(&rt, "add");
+    layout.add(b"A", 0x1030).expect(&rt, "add");
+    for row in REPAIRS.lines() {
+        if let Some((text, want)) = row.split_once(" =>") {
+            let file = file_of(rt.alloc(), text).expect(&rt, "file_of");
+            let source = Source {
+                language: Language::Repair,
+                layout: &layout,
+                start: 0x1000,
+                text: &file,
+            };
+            let found = shown(&rt, rt.alloc(), assemble_source(rt.alloc(), &source));
+            assert_equal_at(&rt, &found.as_str(), &want, &text);
+        }
+    }
 }

@@ -1,6 +1,8 @@
-use crate::tests::asserts::{assert_equal, assert_that};
+use crate::tests::asserts::{assert_equal, assert_equal_at, assert_that};
 use std::alloc::{AllocError, Global};
-use stmt65::{AddressSize, Datum, Form, Minus, Operation, SourceLine, Value, read_line};
+use stmt65::{
+    AddressSize, Datum, Form, Half, Language, Minus, Operation, SourceLine, Value, read_line,
+};
 
 fn text(bytes: &[u8]) -> &str {
     str::from_utf8(bytes).unwrap_or("?")
@@ -21,7 +23,20 @@ fn put_value(out: &mut String, value: &Value) -> Result<(), AllocError> {
             };
             write!(out, "{name}+{plus}{minus}")
         }
+        Value::Difference(name, other) => {
+            let name = text(name);
+            let other = text(other);
+            write!(out, "{name}-{other}")
+        }
     }
+}
+
+fn put_half(out: &mut String, half: Half, value: &Value) -> Result<(), AllocError> {
+    out.push_str(match half {
+        Half::Low => "<",
+        Half::High => ">",
+    })?;
+    put_value(out, value)
 }
 
 fn put_values(out: &mut String, values: &[Value]) -> Result<(), AllocError> {
@@ -43,6 +58,14 @@ fn put_data(out: &mut String, data: &[Datum]) -> Result<(), AllocError> {
                 let bytes = text(bytes);
                 write!(out, " \"{bytes}\"")?;
             }
+            Datum::Value(value) => {
+                out.push_str(" ")?;
+                put_value(out, &value)?;
+            }
+            Datum::Half(half, value) => {
+                out.push_str(" ")?;
+                put_half(out, half, &value)?;
+            }
         }
     }
     Ok(())
@@ -62,6 +85,11 @@ fn put_form(out: &mut String, form: &Form) -> Result<(), AllocError> {
         Form::Immediate(value) => {
             out.push_str(" #")?;
             put_value(out, value)?;
+            ""
+        }
+        Form::ImmediateHalf(half, value) => {
+            out.push_str(" #")?;
+            put_half(out, *half, value)?;
             ""
         }
         Form::Direct(size, value) => {
@@ -122,6 +150,11 @@ fn put_operation(out: &mut String, operation: &Operation) -> Result<(), AllocErr
             }
             put_values(out, values)
         }
+        Operation::Reserve(count, value) => {
+            let count = count.value();
+            let value = value.value();
+            write!(out, "res {count} {value}")
+        }
         Operation::Segment(name) => {
             out.push_str("segment ")?;
             out.push_str(text(name))
@@ -134,10 +167,15 @@ fn put_operation(out: &mut String, operation: &Operation) -> Result<(), AllocErr
     }
 }
 
-/// What the line says in one spelling, or `Syntax`.
+/// What the line of a listing says in one spelling, or `Syntax`.
 pub fn source(alloc: Global, line: &[u8]) -> Result<String, AllocError> {
+    source_in(alloc, Language::Listing, line)
+}
+
+/// The same in either language.
+fn source_in(alloc: Global, language: Language, line: &[u8]) -> Result<String, AllocError> {
     let mut out = String::new(alloc);
-    match read_line(alloc, line)? {
+    match read_line(alloc, language, line)? {
         None => out.push_str("Syntax")?,
         Some(SourceLine::Assignment(name, n)) => {
             let name = text(name);
@@ -290,6 +328,97 @@ fn refused_lines(rt: HostRuntime) {
     }
 }
 
+/// Lines of a repair that are none of a listing, and what they say.
+const REPAIRS: &[(&[u8], &str)] = &[
+    (b"lda #<name", "lda #<name+0"),
+    (b" LDX # > $1234 ; high", "ldx #>4660"),
+    (b"lda #<(name+1)", "lda #<name+1"),
+    (b"lda #>(end-start)", "lda #>end-start"),
+    (b"lda #end-start", "lda #end-start"),
+    (b"lda #%1010", "lda #10"),
+    (b"cmp #'A'", "cmp #65"),
+    (b"cmp #'''", "cmp #39"),
+    (b"cmp #';'", "cmp #59"),
+    (
+        b".byte <a0,>a0,a0,a0+2,a0-1,end-start",
+        "byte <a0+0 >a0+0 a0+0 a0+2 a0+0-1 end-start",
+    ),
+    (
+        b".byte 'x',%11,$FF,\"a\",<($1234)",
+        "byte 120 3 255 \"a\" <4660",
+    ),
+    (b".lobytes a0,b0+1,end-start", "byte <a0+0 <b0+1 <end-start"),
+    (b".HiBytes $1234", "byte >4660"),
+    (b".word end-start,name", "word end-start name+0"),
+    (b"l1: .res 3", "l1: res 3 0"),
+    (b".res $10,%1", "res 16 1"),
+    (b"v = 5", "v := 5"),
+    (b"v:='A'", "v := 65"),
+    (b"asl", "asl A"),
+    (b"l1: ROR ; one", "l1: ror A"),
+    (b"inc", "inc A"),
+    (b"rts", "rts"),
+];
+
+#[test]
+fn lines_of_repairs(rt: HostRuntime) {
+    for (line, want) in REPAIRS {
+        let found = source_in(rt.alloc(), Language::Repair, line).expect(&rt, "source_in");
+        assert_equal_at(&rt, &found.as_str(), want, want);
+    }
+}
+
+/// Lines that are none of a repair either.
+const REFUSED_REPAIRS: &[&[u8]] = &[
+    // ca65 reads a sum after the half.
+    b"lda #<name+1",
+    b"lda #>name-1",
+    b".byte <name+1",
+    b"lda #<",
+    b"lda #<(name",
+    b"lda #<<name",
+    b"lda <name",
+    // An address is written as in a listing.
+    b"lda end-start",
+    b"lda (end-start),y",
+    b"jmp >name",
+    b".word <name",
+    // A difference has two names.
+    b"lda #end-$12",
+    b"lda #$12-start",
+    b"lda #end-start-1",
+    b"lda #end+1-start",
+    b"lda #end-a",
+    b".lobytes",
+    b".lobytes <name",
+    b".lobytes \"a\"",
+    b".res",
+    b".res name",
+    b".res 1,",
+    b".res 1,2,3",
+    b"v = name",
+    b"v = * + 1",
+    b"a = 5",
+    b"lda #%",
+    b"lda #%12",
+    b"lda #''",
+    b"lda #'AB'",
+    b"lda #'\t'",
+    b"lda #'\x80'",
+    b"asl (",
+    b"lda #(name)",
+    b".org $1000",
+    b"@loop: nop",
+];
+
+#[test]
+fn refused_repairs(rt: HostRuntime) {
+    for line in REFUSED_REPAIRS {
+        let found = source_in(rt.alloc(), Language::Repair, line).expect(&rt, "source_in");
+        assert_equal_at(&rt, &found.as_str(), &"Syntax", &text(line));
+    }
+}
+
 /// 80 bytes are a name, 81 are none.
 #[test]
 fn longest_name(rt: HostRuntime) {
@@ -321,7 +450,7 @@ fn data_len(operation: &Operation) -> usize {
 }
 
 fn count_of_data(alloc: Global, line: &[u8]) -> Result<usize, AllocError> {
-    match read_line(alloc, line)? {
+    match read_line(alloc, Language::Listing, line)? {
         Some(SourceLine::Statement { label, operation }) => {
             let _ = label;
             Ok(data_len(&operation))
@@ -356,7 +485,7 @@ fn long_lines(rt: HostRuntime) {
     }
     assert_that(
         &rt,
-        read_line(a, line.as_slice())
+        read_line(a, Language::Listing, line.as_slice())
             .expect(&rt, "read_line")
             .is_none(),
     );

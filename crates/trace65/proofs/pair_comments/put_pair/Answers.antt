@@ -13,7 +13,7 @@ returns c =
     on_ok_weaker c.extend_from_slice.result
     (λ last.
     after-five c.args.out.now.items c.put_address.new.out.items c.put_address-2.new.out.items c.put_address-3.new.out.items c.put_name.new.out.items c.extend_from_slice.new.self.items
-    (codes "# low byte at $" ++ digits4 p.low) (codes ", high byte at $" ++ digits4 p.high) (codes ": $" ++ digits4 p.address)
+    (codes "#: HALVES { LOW $" ++ digits4 p.low) (codes "; HIGH $" ++ digits4 p.high) (codes "; }; # $" ++ digits4 p.address)
     (name_text (covering c.args.map.now.info.names p.address) p.address) (10 ∷ [])
     c.in_ok-put_address.ensures c.in_ok-put_address-2.ensures c.in_ok-put_address-3.ensures
     (c.in_ok-put_name.ensures ∙ ap (λ n. c.put_address-3.new.out.items ++ name_text n p.address) (c.covering.ensures.name ∙ ap (λ i. covering i.names p.address) c.info.ensures.info)) last)

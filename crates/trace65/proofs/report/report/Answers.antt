@@ -7,11 +7,11 @@ pub returns : goal.returns
 returns c =
     let m = c.args.map.now in
     let f = c.in_ok-found.found in
-    let lines : c.put_report.new.out.items ≡ report_text m f = c.in_ok-put_report.ensures ∙ ap (λ l. l ++ report_text m f) c.new-text.ensures.items in
-    let P : List ℕ → Type 0 = IsAccepted m f.ranges in
+    let lines : c.put_report.new.out.items ≡ report_text m c.args.tags.now f = c.in_ok-put_report.ensures ∙ ap (λ l. l ++ report_text m c.args.tags.now f) c.new-text.ensures.items in
+    let P : List ℕ → Type 0 = IsAccepted m f.ranges f.labels in
     record {
       found = f;
       are = c.in_ok-found.ensures.found;
       lines = lines;
-      accepted = subst P (sym lines) (accepted m c.args.given.now f c.info.ensures.sound (c.text_law.ensures m) c.in_ok-found.ensures.found);
+      accepted = subst P (sym lines) (accepted m c.args.given.now c.args.plain c.args.tags.now f c.info.ensures.sound (c.text_law.ensures m) c.in_ok-found.ensures.found);
     }

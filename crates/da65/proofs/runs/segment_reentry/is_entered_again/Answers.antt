@@ -5,7 +5,7 @@ use Rattle.std.proofs.lemmas.Bool.{eqb-true, OnFalse_at}
 use Rattle.std.proofs.lemmas.List.{nil_from_length}
 use Rattle.std.specs.Prelude.{ℕ}
 use Rattle.da65.specs.Groups.{IsGroupPlace, group_len}
-use Rattle.da65.proofs.Reentry.ReentryLemmas.{byte-told, count-told, keys-told, known-back, known-end, known-first, known-next, known-skip, never-entered, none-seen, skip-told, start-told}
+use Rattle.da65.proofs.Reentry.ReentryLemmas.{byte-told, count-told, keyed-after, keys-told, known-back, known-end, known-first, known-next, known-skip, never-entered, none-seen, skip-told, start-told}
 use Rattle.da65.proofs.Groups.GroupLemmas.{first_place, group-some, item-begins, place-next, place-skip}
 use Rattle.da65.proofs.runs.segment_reentry.is_entered_again.Goals as goal
 
@@ -30,7 +30,7 @@ returns-then-add g c =
     let m : MapView = c.args.map.now in
     let here = byte-told m _ _ _ _ (sym c.image-image.ensures.image) c.bytes-count.ensures.bytes c.start-start.ensures c.groups-test.true in
     let start = start-told m _ _ _ c.groups.invariant.place here c.is_skipped.ensures c.if-is_skipped.false in
-    let keys = keys-told m _ _ _ _ _ _ (sym c.info-info.ensures.info) c.segments.ensures.sound here c.segment_key-segment.ensures c.first_named-code.ensures.first c.or.ensures in
+    let keys = keys-told m _ _ _ _ _ _ (sym c.info-info.ensures.info) c.segments.ensures.sound here (keyed-after m _ _ c.groups.entered _ start here c.groups.invariant.known c.key_after-segment.ensures.run c.key_after-segment.ensures.first) c.first_named-code.ensures.first c.or.ensures in
     known-back m _ c.groups.entered _ _ start keys c.groups.invariant.known (sym c.add.ensures.back ∙ c.if-add.true)
 
 pub group_len-at-requires-clause-begins : goal.group_len-at-requires-clause-begins
@@ -54,7 +54,7 @@ groups-preserved g c =
     let here = byte-told m _ _ _ _ (sym c.image-image.ensures.image) c.bytes-count.ensures.bytes c.start-start.ensures c.groups-test.true in
     let start = start-told m _ _ _ c.groups.invariant.place here c.is_skipped.ensures c.if-is_skipped.false in
     let len : c.group_len-at.result ≡ group_len m (m.image.start + c.groups.at) = c.group_len-at.ensures.len ∙ ap (group_len m) here.address in
-    let keys = keys-told m _ _ _ _ _ _ (sym c.info-info.ensures.info) c.segments.ensures.sound here c.segment_key-segment.ensures c.first_named-code.ensures.first c.or.ensures in
+    let keys = keys-told m _ _ _ _ _ _ (sym c.info-info.ensures.info) c.segments.ensures.sound here (keyed-after m _ _ c.groups.entered _ start here c.groups.invariant.known c.key_after-segment.ensures.run c.key_after-segment.ensures.first) c.first_named-code.ensures.first c.or.ensures in
     record {
       place = subst (λ (n : ℕ). IsGroupPlace m (c.groups.at + n)) (sym len) (place-next m _ start.place start.inside start.shown);
       known = known-next m _ _ c.groups.entered c.add.new.self _ _ start keys c.groups.invariant.known (sym c.add.ensures.back ∙ c.if-add.false) len (OnFalse_at c.if-add.false c.add.ensures.after);

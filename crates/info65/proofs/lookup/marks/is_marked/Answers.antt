@@ -1,5 +1,5 @@
 use Rattle.std.proofs.Common.{◌≡◌, ◌∙◌, ◌+◌, ◌||◌, Bool, true, false, ap, arith, refl, sym}
-use Rattle.info65.proofs.IndexLemmas.{any_next, any_over}
+use Rattle.info65.proofs.IndexLemmas.{any_end, any_next}
 use Rattle.info65.proofs.lookup.marks.is_marked.Goals as goal
 
 or_twice : (a b d : Bool) → ((a || b) || d) ≡ (a || (b || d))
@@ -16,4 +16,4 @@ loop-address-preserved c =
 
 pub returns : goal.returns
 returns c =
-    sym (or_none c.loop-address.marked) ∙ ap (λ b. c.loop-address.marked || b) (sym (any_over c.args.table.now c.loop-address.address (c.args.last + 1) (omega arith))) ∙ c.loop-address.invariant
+    sym (or_none c.loop-address.marked) ∙ ap (λ b. c.loop-address.marked || b) (sym (any_end c.args.table.now c.loop-address.address (c.args.last + 1) (omega arith))) ∙ c.loop-address.invariant

@@ -1,10 +1,10 @@
 use Rattle.std.proofs.Common.{◌≡◌, ◌+◌, ◌≤◌, length}
-use Rattle.info65.specs.Tokens.{tokens_after, tokens_of}
+use Rattle.info65.specs.Tokens.{tokens_of}
 use Rattle.info65.proofs.syntax.lexer.after_blanks.Given as goal
 
 abbrev pub invariant-bytes : goal.invariant-bytes
 invariant-bytes l = record {
-  tokens : tokens_after 0 l.in_comment l.line l.rest ≡ tokens_of l.first_line l.bytes;
+  tokens : tokens_of l.line l.rest ≡ tokens_of l.first_line l.bytes;
   room : l.line + length l.rest ≤ l.first_line + length l.bytes;
 }
 

@@ -1,4 +1,4 @@
-use Rattle.std.proofs.Common.{◌≡◌, ◌<◌, ◌≤◌, ℕ, false}
+use Rattle.std.proofs.Common.{◌≡◌, ◌<◌, ◌≤◌, ℕ, true, false}
 use Rattle.reach65.specs.Pieces.{is_break}
 use Rattle.reach65.proofs.pieces.Ground.bytes_end.Given as goal
 

@@ -27,7 +27,7 @@ returns-clause-below g c =
     let none : None ≡ fault_of names s (Some source) = rw c.all-all.ensures.names at (c.in_default.ensures s (sym c.first-above.ensures) placed) in
     record {
       names = refl;
-      state = gone_on names s c.advance.new.state c.place-placed.result source placed none c.advance.ensures.address c.advance.ensures.cpu;
+      state = gone_on names s c.advance.new.state c.place-placed.result source placed none c.advance.ensures.address c.advance.ensures.layout c.advance.ensures.cpu;
       held = after_exact names s source none;
       count = λ h. omega (arith, c.all-all.ensures.small, c.count_below-pass.ensures, ap (λ (ds : List Definition). length ds) placed.definition);
     }

@@ -1,10 +1,11 @@
 use Rattle.std.proofs.Common.{◌≡◌, length}
-use Rattle.stmt65.specs.Meaning.{initial, readings}
+use Rattle.stmt65.specs.Meaning.{readings}
+use Rattle.stmt65.specs.Sources.{source_readings, source_state}
 use Rattle.stmt65.specs.Code.MeaningViews.{held_final, state_of}
 use Rattle.stmt65.proofs.assembling.assembler.names_of.Given as goal
 
 abbrev pub invariant-lines : goal.invariant-lines
-invariant-lines g l = held_final (state_of l.state l.names) (readings l.rest) ≡ held_final (initial l.fn.start) (readings l.fn.text)
+invariant-lines g l = held_final (state_of l.state l.names) (readings l.fn.source.language l.rest) ≡ held_final (source_state l.fn.source) (source_readings l.fn.source)
 
 abbrev pub decreases-lines : goal.decreases-lines
 decreases-lines g l = length l.rest

@@ -9,4 +9,5 @@ returns g c = record {
   coded = c.coding_in-coded.ensures;
   next = c.saturating_add.ensures ∙ next_held (state_of c.args.state.now c.args.above.now) (source_of c.args.source.now) c.coding_in-coded.result c.length_of.result c.coding_in-coded.ensures c.length_of.ensures;
   definition = c.definition_in.ensures;
+  past = c.is_past_start.ensures c.args.above.now;
 }

@@ -1,0 +1,10 @@
+use Rattle.std.proofs.Common.{◌≡◌, ◌++◌, drop, map}
+use Rattle.info65.specs.Code.Segments.{segment_seen}
+use Rattle.as65.specs.SegmentStarts.{start_of}
+use Rattle.as65.proofs.segment_starts.filled_by.Given as goal
+
+abbrev pub invariant-segments : goal.invariant-segments
+invariant-segments l = record {
+  starts : l.layout.starts ++ map start_of (map segment_seen (drop l.segment-index l.segments)) ≡ map start_of (map segment_seen l.segments);
+  fill : l.layout.fill ≡ l.fill;
+}

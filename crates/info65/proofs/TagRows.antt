@@ -1,0 +1,59 @@
+-- Lines `#: ..` held against what they say.
+use Rattle.std.proofs.Common.{◌≡◌, ◌++◌, [], ◌∷◌, refl}
+use Rattle.std.specs.Prelude.{None, Some, Ok, Err, codes}
+use Rattle.info65.specs.Faults.{fault}
+use Rattle.info65.specs.Lexemes.{in_class, lexeme_at, number_at, number_in, string_at, word_at}
+use Rattle.info65.specs.Tags.{spot_after, tag_attribute, tag_end, tag_named, tag_step, tagged_byte, tagged_from, tagged_text, tags_from, tags_of}
+use Rattle.info65.specs.Tokens.{tokens_after}
+use Rattle.info65.specs.declared.fault.InfoFaultKind.TheVariants.{BadNumber, Expected, GivenTwice, Missing, OutOfRange, UnknownAttribute, UnknownGroup}
+use Rattle.info65.specs.declared.tags.tag.TagKind.TheVariants as kind
+
+-- only lines that begin with `#:` count, each at its line
+text : tagged_text (codes "a\n#: B {\n# : c\n #: d\n#:") ≡ codes " \n   B {\n     \n     \n  "
+unfolding tagged_from tagged_byte spot_after
+text = refl
+
+-- one group of each kind, one over two lines, and one with halves of an address that is given
+all : tags_of (codes "#: ENTRY { ADDR $FC71; };\nLABEL { ADDR 1; };\n#: inline { addr 1; size 2; }\n#: HALVES { LOW 3;\n#: HIGH 4; }; # $FE17 put\n#: HALVES { ADDR 5; LOW 6; };\n#: AFTER { START $120C; END $15FF; };\n#: DIFFERENCE { ADDR 7; FROM 8; TO 9; };")
+    ≡ Ok (
+    record { kind = kind.Entry; line = 1; address = Some 0xFC71; size = None; low = None; high = None; first = None; last = None }
+    ∷ record { kind = kind.Inline; line = 3; address = Some 1; size = Some 2; low = None; high = None; first = None; last = None }
+    ∷ record { kind = kind.Halves; line = 4; address = None; size = None; low = Some 3; high = Some 4; first = None; last = None }
+    ∷ record { kind = kind.Halves; line = 6; address = Some 5; size = None; low = Some 6; high = None; first = None; last = None }
+    ∷ record { kind = kind.After; line = 7; address = None; size = None; low = None; high = None; first = Some 0x120C; last = Some 0x15FF }
+    ∷ record { kind = kind.Difference; line = 8; address = Some 7; size = None; low = None; high = None; first = Some 8; last = Some 9 } ∷ []
+    )
+unfolding tags_of tags_from tag_step tag_end tag_named tag_attribute tagged_from tagged_byte spot_after tokens_after lexeme_at word_at number_at number_in in_class
+all = refl
+
+unknown : tags_of (codes "\n#: EXIT { };") ≡ Err (fault 2 UnknownGroup)
+unfolding tags_of tags_from tag_step tag_end tag_named tag_attribute tagged_from tagged_byte spot_after tokens_after lexeme_at word_at number_at number_in in_class
+unknown = refl
+
+attribute : tags_of (codes "#: ENTRY { SIZE 1; };") ≡ Err (fault 1 UnknownAttribute)
+unfolding tags_of tags_from tag_step tag_end tag_named tag_attribute tagged_from tagged_byte spot_after tokens_after lexeme_at word_at number_at number_in in_class
+attribute = refl
+
+twice : tags_of (codes "#: AFTER { START 1;\n#: START 1; };") ≡ Err (fault 2 GivenTwice)
+unfolding tags_of tags_from tag_step tag_end tag_named tag_attribute tagged_from tagged_byte spot_after tokens_after lexeme_at word_at number_at number_in in_class
+twice = refl
+
+missing : tags_of (codes "#: HALVES { LOW 1; };") ≡ Err (fault 1 Missing)
+unfolding tags_of tags_from tag_step tag_end tag_named tag_attribute tagged_from tagged_byte spot_after tokens_after lexeme_at word_at number_at number_in in_class
+missing = refl
+
+high : tags_of (codes "#: ENTRY { ADDR $10000; };") ≡ Err (fault 1 OutOfRange)
+unfolding tags_of tags_from tag_step tag_end tag_named tag_attribute tagged_from tagged_byte spot_after tokens_after lexeme_at word_at number_at number_in in_class
+high = refl
+
+wide : tags_of (codes "#: INLINE { ADDR 1; SIZE 257; };") ≡ Err (fault 1 OutOfRange)
+unfolding tags_of tags_from tag_step tag_end tag_named tag_attribute tagged_from tagged_byte spot_after tokens_after lexeme_at word_at number_at number_in in_class
+wide = refl
+
+backward : tags_of (codes "#: AFTER { START 2; END 1; };") ≡ Err (fault 1 OutOfRange)
+unfolding tags_of tags_from tag_step tag_end tag_named tag_attribute tagged_from tagged_byte spot_after tokens_after lexeme_at word_at number_at number_in in_class
+backward = refl
+
+unended : tags_of (codes "#: ENTRY { ADDR 1;\n") ≡ Err (fault 2 Expected)
+unfolding tags_of tags_from tag_step tag_end tag_named tag_attribute tagged_from tagged_byte spot_after tokens_after lexeme_at word_at number_at number_in in_class
+unended = refl

@@ -1,0 +1,16 @@
+-- The classes of bytes, by a table.
+use Rattle.std.specs.Prelude.{ℕ, get_or}
+use Rattle.info65.specs.declared.syntax.lexeme.Class.{Class}
+use Rattle.info65.specs.declared.syntax.lexeme.Class.TheVariants as class
+use Rattle.info65.specs.declared.syntax.lexeme.TheConstants.{CLASSES}
+
+-- the bit of a class
+abbrev pub bit_of : Class → ℕ
+bit_of class.Word = 1
+bit_of class.Decimal = 2
+bit_of class.Hexadecimal = 4
+bit_of class.Text = 8
+
+-- the classes of a byte
+unfoldable pub classes_of : ℕ → ℕ
+classes_of b = get_or CLASSES b 0

@@ -1,0 +1,9 @@
+//! The lines `#: ..` of an information file: groups for programs beside da65, which takes them as comments.
+
+mod place;
+mod reader;
+mod tag;
+mod tagged_text;
+
+pub use reader::read_tags;
+pub use tag::{Tag, TagKind};

@@ -1,0 +1,205 @@
+//! Where the reader of the lines `#: ..` is, and where a token leads from there.
+
+ghost use Rattle.std.specs.Prelude.{◌≡◌};
+ghost use Rattle.info65.specs.Code.Steps.{kind_seen, seen};
+ghost use Rattle.info65.specs.Code.Turns.{done, stepped, turn_of};
+ghost use Rattle.info65.specs.Tags.{at_assigned, at_closed, at_inside, at_opening, at_outside, at_valued, attributed, ended_at, tag_end, tag_step};
+
+use crate::fault::{InfoFault, InfoFaultKind};
+use crate::syntax::lexer::Next;
+use crate::syntax::token::{Token, TokenKind};
+use crate::tags::tag::{Tag, TagAttribute, TagKind, is_value, tag_attribute, tag_named};
+
+/// Where the reader is: outside of groups, right after one, before its brace, inside it, before a value, and after one.
+#[derive(Clone, Copy)]
+pub(crate) enum Place {
+    Outside,
+    Closed,
+    Opening(TagKind),
+    Inside(Tag),
+    Valued(Tag, TagAttribute),
+    Assigned(Tag),
+}
+
+/// Where the reader is after a token, and the group that it closes.
+#[derive(Clone, Copy)]
+pub(crate) struct Outcome {
+    pub(crate) place: Place,
+    pub(crate) closed: Option<Tag>,
+}
+
+/// A fault at a line.
+fn refused(line: u32, kind: InfoFaultKind) -> Result<Outcome, InfoFault>
+    ensures { result ≡ Err (record { line = line; kind = kind }) }
+{
+    Err(InfoFault { line, kind })
+}
+
+/// No group is closed.
+fn at(place: Place) -> Result<Outcome, InfoFault>
+    ensures { result ≡ Ok (record { place = place; closed = None }) }
+{
+    Ok(Outcome {
+        place,
+        closed: None,
+    })
+}
+
+fn outside(token: Token<'_>) -> Result<Outcome, InfoFault>
+    ensures { result ≡ at_outside (kind_seen token.entry.kind) token.entry.line token.entry.text.now }
+{
+    if token.kind != TokenKind::Word {
+        return refused(token.line, InfoFaultKind::Expected);
+    }
+    match tag_named(token.text) {
+        Some(kind) => at(Place::Opening(kind)),
+        None => refused(token.line, InfoFaultKind::UnknownGroup),
+    }
+}
+
+fn closed(token: Token<'_>) -> Result<Outcome, InfoFault>
+    ensures { result ≡ at_closed (kind_seen token.entry.kind) token.entry.line token.entry.text.now }
+{
+    match token.kind {
+        TokenKind::Semicolon => at(Place::Outside),
+        _ => outside(token),
+    }
+}
+
+fn opening(kind: TagKind, token: Token<'_>) -> Result<Outcome, InfoFault>
+    ensures { result ≡ at_opening kind (kind_seen token.entry.kind) token.entry.line }
+{
+    match token.kind {
+        TokenKind::OpenBrace => at(Place::Inside(Tag::new(kind, token.line))),
+        _ => refused(token.line, InfoFaultKind::Expected),
+    }
+}
+
+fn attributed(tag: Tag, line: u32, attribute: Option<TagAttribute>) -> Result<Outcome, InfoFault>
+    ensures { result ≡ attributed tag line attribute }
+{
+    match attribute {
+        Some(attribute) => {
+            if tag.value_at(attribute).is_some() {
+                return refused(line, InfoFaultKind::GivenTwice);
+            }
+            at(Place::Valued(tag, attribute))
+        }
+        None => refused(line, InfoFaultKind::UnknownAttribute),
+    }
+}
+
+fn ended_at(tag: Tag, line: u32) -> Result<Outcome, InfoFault>
+    ensures { result ≡ ended_at tag line }
+{
+    if tag.lacks() {
+        return refused(line, InfoFaultKind::Missing);
+    }
+    if tag.is_backward() {
+        return refused(line, InfoFaultKind::OutOfRange);
+    }
+    Ok(Outcome {
+        place: Place::Closed,
+        closed: Some(tag),
+    })
+}
+
+fn inside(tag: Tag, token: Token<'_>) -> Result<Outcome, InfoFault>
+    ensures { result ≡ at_inside tag (kind_seen token.entry.kind) token.entry.line token.entry.text.now }
+{
+    match token.kind {
+        TokenKind::Word => attributed(tag, token.line, tag_attribute(tag.kind, token.text)),
+        TokenKind::CloseBrace => ended_at(tag, token.line),
+        _ => refused(token.line, InfoFaultKind::Expected),
+    }
+}
+
+fn valued(tag: Tag, attribute: TagAttribute, token: Token<'_>) -> Result<Outcome, InfoFault>
+    ensures { result ≡ at_valued tag attribute (kind_seen token.entry.kind) token.entry.line }
+{
+    match token.kind {
+        TokenKind::Number(number) => {
+            if is_value(attribute, number) {
+                return at(Place::Assigned(tag.with_value(attribute, number as u16)));
+            }
+            refused(token.line, InfoFaultKind::OutOfRange)
+        }
+        _ => refused(token.line, InfoFaultKind::Expected),
+    }
+}
+
+fn assigned(tag: Tag, token: Token<'_>) -> Result<Outcome, InfoFault>
+    ensures { result ≡ at_assigned tag (kind_seen token.entry.kind) token.entry.line }
+{
+    match token.kind {
+        TokenKind::Semicolon => at(Place::Inside(tag)),
+        _ => refused(token.line, InfoFaultKind::Expected),
+    }
+}
+
+/// Where a token leads.
+#[tactic(auto, unfolding(crate::specs::Tags::tag_step))]
+pub(crate) fn step(place: Place, token: Token<'_>) -> Result<Outcome, InfoFault>
+    ensures { result ≡ tag_step place (seen token.entry) }
+{
+    match place {
+        Place::Outside => outside(token),
+        Place::Closed => closed(token),
+        Place::Opening(kind) => opening(kind, token),
+        Place::Inside(tag) => inside(tag, token),
+        Place::Valued(tag, attribute) => valued(tag, attribute, token),
+        Place::Assigned(tag) => assigned(tag, token),
+    }
+}
+
+/// Whether the end may stand here.
+#[tactic(auto, unfolding(crate::specs::Tags::tag_end))]
+pub(crate) fn end(place: Place, line: u32) -> Result<bool, InfoFault>
+    ensures { result ≡ tag_end place line }
+{
+    match place {
+        Place::Outside | Place::Closed => Ok(true),
+        _ => Err(InfoFault {
+            line,
+            kind: InfoFaultKind::Expected,
+        }),
+    }
+}
+
+/// What the reader does next: it goes on, or it is done.
+#[derive(Clone, Copy)]
+pub(crate) enum Turn {
+    Step(Outcome),
+    Done,
+}
+
+/// The turn of a token.
+fn stepped(outcome: Result<Outcome, InfoFault>) -> Result<Turn, InfoFault>
+    ensures { result ≡ stepped outcome }
+{
+    match outcome {
+        Ok(outcome) => Ok(Turn::Step(outcome)),
+        Err(fault) => Err(fault),
+    }
+}
+
+/// The turn of the end.
+fn done(end: Result<bool, InfoFault>) -> Result<Turn, InfoFault>
+    ensures { result ≡ done end }
+{
+    match end {
+        Ok(_) => Ok(Turn::Done),
+        Err(fault) => Err(fault),
+    }
+}
+
+/// What the reader does with what it has read.
+pub(crate) fn turn_of(place: Place, read: Result<Next<'_>, InfoFault>) -> Result<Turn, InfoFault>
+    ensures { result ≡ turn_of place read.entry }
+{
+    match read {
+        Ok(Next::Token(token)) => stepped(step(place, token)),
+        Ok(Next::End(line)) => done(end(place, line)),
+        Err(fault) => Err(fault),
+    }
+}

@@ -1,0 +1,186 @@
+//! Groups of the lines `#: ..`, and what is given in them.
+
+ghost use Rattle.std.specs.Prelude.{◌≡◌, ◌≤◌, IsTrue};
+ghost use Rattle.info65.specs.Tags.{blank_tag, is_backward, is_value, lacks, tag_attribute, tag_named, value_at, with_value};
+
+/// What a group says.
+#[derive(Clone, Copy, Debug, PartialEq, Eq)]
+pub enum TagKind {
+    /// Code begins at the address.
+    Entry,
+    /// A call of the address is followed by text up to and with a zero byte, or by this many bytes.
+    Inline,
+    /// Bytes at these places are the low and the high byte of an address.
+    Halves,
+    /// Variables lie there, which move with the end of the image.
+    After,
+    /// The word at the address is the distance of two others.
+    Difference,
+}
+
+/// What can be given in a group. `First` and `Last` are START and END, or FROM and TO.
+#[derive(Clone, Copy)]
+pub(crate) enum TagAttribute {
+    Address,
+    Size,
+    Low,
+    High,
+    First,
+    Last,
+}
+
+/// A group, the line where it begins, and what is given in it.
+#[derive(Clone, Copy, Debug, PartialEq, Eq)]
+pub struct Tag {
+    pub kind: TagKind,
+    pub line: u32,
+    pub address: Option<u16>,
+    pub size: Option<u16>,
+    pub low: Option<u16>,
+    pub high: Option<u16>,
+    /// START or FROM.
+    pub first: Option<u16>,
+    /// END or TO.
+    pub last: Option<u16>,
+}
+
+/// The first of these words that is the text, with letters of any case.
+macro_rules! tag_word {
+    ($text:ident; $($word:literal => $value:expr,)*) => {{
+        $(if $text.eq_ignore_ascii_case($word) {
+            return Some($value);
+        })*
+        None
+    }};
+}
+
+/// The group of this name, with letters of any case.
+#[tactic(auto, unfolding(crate::specs::Tags::tag_named))]
+pub(crate) fn tag_named(text: &[u8]) -> Option<TagKind>
+    ensures { result ≡ tag_named text.now }
+{
+    tag_word!(text;
+        b"ENTRY" => TagKind::Entry,
+        b"INLINE" => TagKind::Inline,
+        b"HALVES" => TagKind::Halves,
+        b"AFTER" => TagKind::After,
+        b"DIFFERENCE" => TagKind::Difference,
+    )
+}
+
+/// The attribute of a group by its name, with letters of any case.
+#[tactic(auto, unfolding(crate::specs::Tags::tag_attribute))]
+pub(crate) fn tag_attribute(kind: TagKind, text: &[u8]) -> Option<TagAttribute>
+    ensures { result ≡ tag_attribute kind text.now }
+{
+    match kind {
+        TagKind::Entry => tag_word!(text;
+            b"ADDR" => TagAttribute::Address,
+        ),
+        TagKind::Inline => tag_word!(text;
+            b"ADDR" => TagAttribute::Address,
+            b"SIZE" => TagAttribute::Size,
+        ),
+        TagKind::Halves => tag_word!(text;
+            b"LOW" => TagAttribute::Low,
+            b"HIGH" => TagAttribute::High,
+            b"SIZE" => TagAttribute::Size,
+            b"ADDR" => TagAttribute::Address,
+        ),
+        TagKind::After => tag_word!(text;
+            b"START" => TagAttribute::First,
+            b"END" => TagAttribute::Last,
+        ),
+        TagKind::Difference => tag_word!(text;
+            b"ADDR" => TagAttribute::Address,
+            b"FROM" => TagAttribute::First,
+            b"TO" => TagAttribute::Last,
+        ),
+    }
+}
+
+/// Whether the number is a value of the attribute.
+pub(crate) fn is_value(attribute: TagAttribute, number: u32) -> bool
+    ensures value { result ≡ is_value attribute number }
+    ensures fits { IsTrue result → number ≤ 65535 }
+{
+    match attribute {
+        TagAttribute::Size => 1 <= number && number <= 256,
+        _ => number <= 0xFFFF,
+    }
+}
+
+impl Tag {
+    /// A group that begins on this line.
+    pub(crate) fn new(kind: TagKind, line: u32) -> Tag
+        ensures { result ≡ blank_tag kind line }
+    {
+        Tag {
+            kind,
+            line,
+            address: None,
+            size: None,
+            low: None,
+            high: None,
+            first: None,
+            last: None,
+        }
+    }
+
+    /// What an attribute was given.
+    pub(crate) fn value_at(self, attribute: TagAttribute) -> Option<u16>
+        ensures { result ≡ value_at self attribute }
+    {
+        match attribute {
+            TagAttribute::Address => self.address,
+            TagAttribute::Size => self.size,
+            TagAttribute::Low => self.low,
+            TagAttribute::High => self.high,
+            TagAttribute::First => self.first,
+            TagAttribute::Last => self.last,
+        }
+    }
+
+    /// The group with this value of an attribute.
+    pub(crate) fn with_value(self, attribute: TagAttribute, value: u16) -> Tag
+        ensures { result ≡ with_value self attribute value }
+    {
+        let mut tag = self;
+        match attribute {
+            TagAttribute::Address => tag.address = Some(value),
+            TagAttribute::Size => tag.size = Some(value),
+            TagAttribute::Low => tag.low = Some(value),
+            TagAttribute::High => tag.high = Some(value),
+            TagAttribute::First => tag.first = Some(value),
+            TagAttribute::Last => tag.last = Some(value),
+        }
+        tag
+    }
+
+    /// Whether something that the group needs is missing.
+    pub(crate) fn lacks(self) -> bool
+        ensures { result ≡ lacks self }
+    {
+        match self.kind {
+            TagKind::Entry | TagKind::Inline => self.address.is_none(),
+            TagKind::Halves => {
+                !((self.low.is_some() && self.high.is_some())
+                    || (self.address.is_some() && (self.low.is_some() || self.high.is_some())))
+            }
+            TagKind::After => !(self.first.is_some() && self.last.is_some()),
+            TagKind::Difference => {
+                !(self.address.is_some() && (self.first.is_some() && self.last.is_some()))
+            }
+        }
+    }
+
+    /// Whether the last address of what lies after the image is below the first.
+    pub(crate) fn is_backward(self) -> bool
+        ensures { result ≡ is_backward self }
+    {
+        match (self.kind, self.first, self.last) {
+            (TagKind::After, Some(first), Some(last)) => last < first,
+            _ => false,
+        }
+    }
+}

@@ -1,0 +1,74 @@
+-- Instructions that share no byte.
+use Rattle.std.proofs.Common.{◌≡◌, ◌⊎◌, ◌+◌, ◌-◌, ◌<◌, ◌≤◌, ℕ, Bool, true, false, List, [], ◌∷◌, Option, Some, None, ap, arith, sym, subst, inl, inr}
+use Rattle.std.proofs.lemmas.Bool.{both_ways, cases_order}
+use Rattle.std.proofs.lemmas.Bool.Decides.{nat_tests}
+use Rattle.isa65.specs.Mode.{len_of}
+use Rattle.isa65.specs.declared.mode.Mode.{Mode}
+use Rattle.isa65.specs.declared.mode.Mode.TheVariants.{Imp, Acc, Imm, Zp, Zpx, Zpy, Abs, Absx, Absy, Ind, Indx, Indy, Zpind, Absindx, Rel, Zprel}
+use Rattle.isa65.specs.declared.op.Op.{Op}
+use Rattle.map65.specs.MapView.{MapView}
+use Rattle.reach65.specs.Code.Apart.{is_after, is_before, len_at, op_len}
+use Rattle.reach65.specs.Flow.{instruction_at}
+use Rattle.reach65.specs.Reached.{is_marked}
+use Rattle.reach65.specs.Sound.{IsApart}
+use Rattle.reach65.specs.Taken.{has_byte, is_within}
+
+-- an instruction has at most three bytes
+pub mode-short : (mode : Mode) → len_of mode ≤ 3
+mode-short Imp = omega arith
+mode-short Acc = omega arith
+mode-short Imm = omega arith
+mode-short Zp = omega arith
+mode-short Zpx = omega arith
+mode-short Zpy = omega arith
+mode-short Abs = omega arith
+mode-short Absx = omega arith
+mode-short Absy = omega arith
+mode-short Ind = omega arith
+mode-short Indx = omega arith
+mode-short Indy = omega arith
+mode-short Zpind = omega arith
+mode-short Absindx = omega arith
+mode-short Rel = omega arith
+mode-short Zprel = omega arith
+
+op-short : (o : Option Op) → op_len o ≤ 3
+op-short None = omega arith
+op-short (Some op) = mode-short op.mode
+
+pub record IsSpan (b x len : ℕ) : Type 0 where
+  pub low : b ≤ x
+  pub high : x < b + len
+
+within-span : (b : ℕ) (o : Option Op) (x : ℕ) → is_within b o x ≡ true → IsSpan b x (op_len o)
+within-span b None x is = cc
+within-span b (Some op) x is = record { low = grind (arith, nat_tests); high = grind (arith, nat_tests) }
+
+has-span : (m : MapView) (b x : ℕ) → has_byte m b x ≡ true → IsSpan b x (len_at m b)
+unfolding has_byte
+has-span m b x is = within-span b (instruction_at m b) x is
+
+-- a marked address among the later bytes of an instruction
+after-none : (marks : List Bool) (b c len : ℕ) → len ≤ 3 → b < c → c < b + len → is_marked marks c ≡ true
+    → is_after marks b len 1 ≡ false → is_after marks b len 2 ≡ false → ⊥
+after-none marks b c len short low high marked one two = grind (arith, nat_tests)
+
+-- a marked instruction that reaches a later address
+before-none : (m : MapView) (marks : List Bool) (b c : ℕ) → c < b → b < c + len_at m c → is_marked marks c ≡ true
+    → is_before m marks b 1 ≡ false → is_before m marks b 2 ≡ false → ⊥
+before-none m marks b c low high marked one two = grind (arith, nat_tests, op-short)
+
+pub tests_apart : (m : MapView) (marks : List Bool) (b : ℕ) → is_after marks b (len_at m b) 1 ≡ false → is_after marks b (len_at m b) 2 ≡ false
+    → is_before m marks b 1 ≡ false → is_before m marks b 2 ≡ false → IsApart m marks b
+tests_apart m marks b one two three four = record {
+  each = λ c x marked has_b has_c.
+      let mine = has-span m b x has_b in
+      let its = has-span m c x has_c in
+      elim (cases_order b c) as (λ _. b ≡ c) [
+        | inl same ↦ same
+        | inr rest ↦ elim rest as (λ _. b ≡ c) [
+          | inl later ↦ absurd (after-none marks b c (len_at m b) (op-short (instruction_at m b)) later (omega (arith, mine.high, its.low)) marked one two)
+          | inr earlier ↦ absurd (before-none m marks b c earlier (omega (arith, mine.low, its.high)) marked three four)
+        ]
+      ];
+}

@@ -1,0 +1,145 @@
+-- Trials: what they mark, and what is left when it is taken back.
+use Rattle.std.proofs.Common.{◌≡◌, ◌⊎◌, ◌+◌, ◌<◌, ◌≤◌, ◌∙◌, ℕ, Bool, true, false, List, [], ◌∷◌, ◌++◌, length, get_or, set, Option, Some, None, ap, ap₂, arith, sym, subst, inl, inr, cond, length-append}
+use Rattle.std.specs.List.{Contains, count_by, sum_by}
+use Rattle.std.proofs.lemmas.Bool.{both_ways, cond_both}
+use Rattle.std.proofs.lemmas.List.{set-get_or, set-set}
+use Rattle.std.proofs.Math.ListN.{length-set}
+use Rattle.std.proofs.lemmas.List.Elements.{Contains-append_left, Contains-push}
+use Rattle.std.proofs.lemmas.List.Sums.{sum_by-set}
+use Rattle.map65.specs.ImageView.{ImageView, IsPlaced, is_inside}
+use Rattle.map65.specs.MapView.{MapView}
+use Rattle.map65.proofs.Public.{within}
+use Rattle.reach65.specs.Code.Searching.{AreSound, HasEntries, IsAsBefore, IsBegun, IsDone, IsFollowed, IsSearch, IsTrial, Nothing, State, HasBegun, HasJoined, HasNext, IsAtEnd, put, put_entry, put_inside, put_some, unset}
+use Rattle.reach65.specs.Flow.{LeadsTo, goal_at, next_at}
+use Rattle.reach65.specs.Reached.{AreReached, Reached, entry, led, is_marked}
+use Rattle.reach65.specs.Sound.{IsApart, IsSound, is_fine, marked_count}
+use Rattle.reach65.proofs.FlowLemmas.{leads-below}
+use Rattle.reach65.proofs.SearchLemmas.{by_put, contains-nil, entry-begun, entry-entries, marks_set}
+
+-- ---- marks that are taken back
+
+-- the last one is taken back first
+pub unset-push : (marks : List Bool) (l : List ℕ) (a : ℕ) → unset marks (l ++ a ∷ []) ≡ unset (set marks a false) l
+unfolding unset
+unset-push marks [] a = λ i. set marks a false
+unset-push marks (b ∷ l) a = ap (λ k. set k b false) (unset-push marks l a)
+
+-- a mark that was set is taken back
+set-back : (marks : List Bool) (a : ℕ) → is_marked marks a ≡ false → set (set marks a true) a false ≡ marks
+set-back marks a free = set-set marks a true false ∙ ap (λ b. set marks a b) (sym free) ∙ set-get_or marks a false
+
+set-counts : (marks : List Bool) (a : ℕ) → a < length marks → is_marked marks a ≡ false → marked_count (set marks a true) ≡ marked_count marks + 1
+unfolding marked_count
+set-counts marks a room free =
+    let sums : sum_by (λ b. cond b 1 0) (set marks a true) + cond (get_or marks a false) 1 0 ≡ sum_by (λ b. cond b 1 0) marks + 1 = sum_by-set (λ (b : Bool). cond b 1 0) marks a true false room in
+    let none : cond {A = ℕ} (get_or marks a false) 1 0 ≡ 0 = ap (λ (b : Bool). cond b 1 0) free in
+    omega (arith, sums, none)
+
+pub trial-put : (before : List Bool) (s : State) (a : ℕ) → a < length s.marks → IsTrial before s → IsTrial before (put s a)
+unfolding unset
+trial-put before s a room old =
+    by_put s a (IsTrial before) (λ _. old)
+    (λ free. record {
+      undone = unset-push (set s.marks a true) s.added a ∙ ap (λ l. unset l s.added) (set-back s.marks a free) ∙ old.undone;
+      count = omega (arith, set-counts s.marks a room free, old.count, length-append s.added (a ∷ []));
+      fresh = λ b. marks_set s.marks a b (λ v. v ≡ true → is_marked before b ≡ true ⊎ Contains (s.added ++ a ∷ []) b) room
+          (λ here _. inr (subst (Contains (s.added ++ a ∷ [])) (sym here) (Contains-push s.added a)))
+          (λ there marked. elim (old.fresh b marked) as (λ _. is_marked before b ≡ true ⊎ Contains (s.added ++ a ∷ []) b) [
+            | inl was ↦ inl was
+            | inr has ↦ inr (Contains-append_left s.added (a ∷ []) b has)
+          ]);
+    })
+
+put-length : (s : State) (a : ℕ) → length (put s a).marks ≡ length s.marks
+put-length s a = by_put s a (λ t. length t.marks ≡ length s.marks) (λ _ i. length s.marks) (λ _. length-set s.marks a true)
+
+trial-put_some : (before : List Bool) (s : State) (o : Option ℕ) → ((b : ℕ) → o ≡ Some b → b < length s.marks) → IsTrial before s → IsTrial before (put_some s o)
+trial-put_some before s None low old = old
+trial-put_some before s (Some b) low old = trial-put before s b (low b (λ i. Some b)) old
+
+put_some-length : (s : State) (o : Option ℕ) → length (put_some s o).marks ≡ length s.marks
+put_some-length s None = λ i. length s.marks
+put_some-length s (Some a) = put-length s a
+
+-- with the same marks, and the same that were added
+same-trial : (before : List Bool) (old new : State) → new.marks ≡ old.marks → new.added ≡ old.added → IsTrial before old → IsTrial before new
+unfolding unset
+same-trial before old new marks added was = record {
+  undone = ap₂ unset marks added ∙ was.undone;
+  count = ap marked_count marks ∙ was.count ∙ ap (λ l. marked_count before + length l) (sym added);
+  fresh = λ b is. elim (was.fresh b (sym (ap (λ l. is_marked l b) marks) ∙ is)) as (λ _. is_marked before b ≡ true ⊎ Contains new.added b) [
+    | inl marked ↦ inl marked
+    | inr has ↦ inr (subst (λ l. Contains l b) (sym added) has)
+  ];
+}
+
+pub trial-next : (before : List Bool) (old new : State) (a : ℕ) → HasNext old new a → IsTrial before old → IsTrial before new
+trial-next before old new a next was = same-trial before old new next.marks next.added was
+
+pub trial-end : (before : List Bool) (old new : State) → IsAtEnd old new → IsTrial before old → IsTrial before new
+trial-end before old new end was = same-trial before old new end.marks end.added was
+
+leads-trial : (m : MapView) (before : List Bool) (new end : State) (a : ℕ) → IsPlaced m.image → length new.marks ≡ 65536
+    → end ≡ put_some (put_some new (next_at m a)) (goal_at m a) → IsTrial before new → IsTrial before end
+leads-trial m before new end a placed count is old =
+    subst (IsTrial before) (sym is)
+    (trial-put_some before (put_some new (next_at m a)) (goal_at m a)
+    (λ b to. omega (arith, leads-below m a b placed (inr to), count, put_some-length new (next_at m a)))
+    (trial-put_some before new (next_at m a) (λ b to. omega (arith, leads-below m a b placed (inl to), count)) old))
+
+pub trial-leads : (m : MapView) (before : List Bool) (old new end : State) (a : ℕ) → IsPlaced m.image → HasNext old new a
+    → end ≡ put_some (put_some new (next_at m a)) (goal_at m a) → IsBegun m old → IsTrial before old → IsTrial before end
+trial-leads m before old new end a placed next is begun was =
+    leads-trial m before new end a placed (ap length next.marks ∙ begun.search.count) is (trial-next before old new a next was)
+
+-- ---- the beginning of a trial
+
+done-begun : (m : MapView) (s : State) → IsDone m s → IsBegun m (record s { added = [] })
+done-begun m s was = record {
+  search = record {
+    count = was.reached.count;
+    reached = λ b. (was.reached.each b).0;
+    todo = λ b has. absurd (contains-nil b (subst (λ l. Contains l b) was.todo has));
+    followed = λ b is. inr (inr (record { each = λ c leads. (was.reached.each c).1 (led b c ((was.reached.each b).0 is) leads) }));
+  };
+  entries = record { each = λ b has inside. (was.reached.each b).1 (entry b has inside) };
+}
+
+trial-begun : (m : MapView) (s : State) (a : ℕ) → IsPlaced m.image → length s.marks ≡ 65536 → IsTrial s.marks (put_entry m.image (record s { added = [] }) a)
+unfolding put_entry put_inside unset
+trial-begun m s a placed count =
+    let t : State = record s { entries = s.entries ++ a ∷ []; added = [] } in
+    let first : IsTrial s.marks t = record { undone = λ i. s.marks; count = omega arith; fresh = λ b is. inl is } in
+    cond_both (is_inside m.image a) (put t a) t (IsTrial s.marks)
+    (λ inside. trial-put s.marks t a (omega (arith, count, placed.room, (within m a inside).high)) first)
+    (λ _. first)
+
+pub has_begun : (m : MapView) (s t : State) (a : ℕ) → IsPlaced m.image → IsDone m s → t ≡ put_entry m.image (record s { added = [] }) a → HasBegun m s a t
+has_begun m s t a placed done is = subst (HasBegun m s a) (sym is) (record {
+  begun = entry-begun m (record s { added = [] }) a placed (done-begun m s done);
+  entries = entry-entries m (record s { added = [] }) a;
+  trial = trial-begun m s a placed done.reached.count;
+})
+
+-- ---- the end of a trial
+
+sound-trial : (m : MapView) (before : List Bool) (s : State) → IsTrial before s → AreSound m s.marks s.added → IsSound m before s.marks
+sound-trial m before s trial are = record {
+  fine = λ b now was. elim (trial.fresh b now) as (λ _. is_fine m b ≡ true) [
+    | inl marked ↦ absurd (both_ways (is_marked before b) was marked)
+    | inr added ↦ are.fine b added
+  ];
+  apart = λ b now was. elim (trial.fresh b now) as (λ _. IsApart m s.marks b) [
+    | inl marked ↦ absurd (both_ways (is_marked before b) was marked)
+    | inr added ↦ are.apart b added
+  ];
+  four = omega (arith, trial.count, are.four);
+}
+
+pub trial_joined : (m : MapView) (old mid new : State) (a : ℕ) → HasBegun m old a mid → new.entries ≡ mid.entries → IsDone m new → IsTrial old.marks new → AreSound m new.marks new.added
+    → HasJoined m old a new
+trial_joined m old mid new a begun same done trial are = record { entries = same ∙ begun.entries; done = done; sound = sound-trial m old.marks new trial are }
+
+pub trial_undone : (m : MapView) (old mid last new : State) (a : ℕ) → HasBegun m old a mid → last.entries ≡ mid.entries → IsTrial old.marks last
+    → ((l : List ℕ) (b : ℕ) → last.entries ≡ l ++ b ∷ [] → new.entries ≡ l) → new.marks ≡ unset last.marks last.added → new.todo ≡ [] → IsAsBefore old new
+trial_undone m old mid last new a begun same trial entries marks todo = record { entries = entries old.entries a (same ∙ begun.entries); marks = marks ∙ trial.undone; todo = todo }

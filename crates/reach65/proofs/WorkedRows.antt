@@ -1,0 +1,41 @@
+-- The definitions, held against worked examples.
+use Rattle.std.proofs.Common.{◌≡◌, ◌+◌, ◌≤◌, ℕ, true, false, List, [], ◌∷◌, refl, arith}
+use Rattle.map65.specs.Items.{full_len_at, item_len, item_start, size_at}
+use Rattle.map65.specs.Pieces.{are_joined, is_in_run, is_joined, is_own}
+use Rattle.map65.specs.Roles.{role_at, role_in}
+use Rattle.map65.specs.Segments.{is_border}
+use Rattle.map65.specs.Spans.{addresses}
+use Rattle.map65.specs.Targets.{target_at, target_for, target_of}
+use Rattle.reach65.specs.Entries.{code_starts, entries_of, entries_with, plain_entries_of, pointer_at, pointers, vectors}
+use Rattle.reach65.specs.Flow.{goal_at, goal_of, instruction_at, next_at}
+use Rattle.reach65.specs.Halves.{is_routine}
+use Rattle.reach65.specs.Pieces.{is_free, is_plain}
+use Rattle.reach65.specs.Rows.{free_word, is_in_table, is_of_table, is_row, is_word}
+use Rattle.reach65.specs.Sound.{is_fine, marked_count}
+use Rattle.reach65.specs.Taken.{has_byte}
+use Rattle.reach65.specs.Worked.{WorkedCode}
+
+pub worked_code : WorkedCode
+unfolding addresses are_joined code_starts entries_of entries_with free_word full_len_at goal_at goal_of has_byte instruction_at is_border is_fine is_free is_in_run is_in_table is_joined is_of_table is_own is_plain is_routine is_row is_word item_len item_start marked_count next_at plain_entries_of pointer_at pointers role_at role_in size_at target_at target_for target_of vectors
+worked_code = record {
+  nexts = refl;
+  goals = refl;
+  last_ones = refl;
+  branches = refl;
+  first_and_given = refl;
+  range_of_code = refl;
+  three_vectors = refl;
+  table = refl;
+  plain_table = refl;
+  return_table = refl;
+  fine = refl;
+  not_fine = refl;
+  into_a_range = refl;
+  too_few = λ m s. let few : 4 ≤ 3 = s.four in omega (arith, few);
+  rows = refl;
+  return_row = refl;
+  row_taken = refl;
+  row_in_vector = refl;
+  tables = refl;
+  overlapping = λ a. let same : 0 ≡ 1 = a.each 1 1 refl refl refl in omega (arith, same);
+}

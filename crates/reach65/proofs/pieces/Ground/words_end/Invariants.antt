@@ -1,0 +1,6 @@
+use Rattle.std.proofs.Common.{◌≡◌, ◌<◌, ◌≤◌, ℕ, true, false}
+use Rattle.reach65.specs.Pieces.{is_word}
+use Rattle.reach65.proofs.pieces.Ground.words_end.Given as goal
+
+abbrev pub invariant-words : goal.invariant-words
+invariant-words g l = (a : ℕ) → l.from ≤ a → a < l.at → is_word l.self a ≡ true

@@ -1,0 +1,7 @@
+use Rattle.std.proofs.Common.{◌≡◌, ◌||◌, ℕ, take}
+use Rattle.reach65.specs.Reached.{is_marked}
+use Rattle.reach65.specs.Rows.{is_of_table}
+use Rattle.reach65.proofs.rows.mark_tables.Given as goal
+
+abbrev pub invariant-tables : goal.invariant-tables
+invariant-tables l = (a : ℕ) → is_marked l.marks a ≡ (is_marked l.initial.marks a || is_of_table (take l.row-index l.rows) a)

@@ -1,0 +1,14 @@
+use Rattle.std.proofs.Common.{◌≡◌, Bool, List}
+use Rattle.reach65.specs.Code.Searching.{IsBegun, IsTrial}
+use Rattle.reach65.proofs.SearchLemmas.{left_to_do}
+use Rattle.reach65.proofs.search.Search.finish_trial.Given as goal
+
+abbrev pub invariant-search : goal.invariant-search
+invariant-search g l = record {
+  begun : IsBegun l.flow l.self;
+  entries : l.self.entries ≡ l.initial.self.entries;
+  trial : (before : List Bool) → IsTrial before l.initial.self → IsTrial before l.self;
+}
+
+abbrev pub decreases-search : goal.decreases-search
+decreases-search g l = left_to_do l.self

@@ -1,0 +1,20 @@
+-- The growth of a search.
+use Rattle.std.specs.Prelude.{◌≡◌, ℕ, List, Contains}
+use Rattle.map65.specs.MapView.{MapView}
+use Rattle.reach65.specs.Code.Searching.{IsDone, State}
+use Rattle.reach65.specs.Growth.{Extent, Grows}
+use Rattle.reach65.specs.declared.pairs.Pair.{Pair}
+
+abbrev pub extent_of : State → Extent
+extent_of s = record { entries = s.entries; marks = s.marks }
+
+-- a search that candidates have joined
+pub record IsGrown (m : MapView) (old new : State) : Type 0 where
+  pub done : IsDone m new
+  pub grown : (first : Extent) → Grows m first (extent_of old) → Grows m first (extent_of new)
+
+-- one of the pairs has the address
+pub record HasPair (pairs : List Pair) (a : ℕ) : Type 0 where
+  pub pair : Pair
+  pub has : Contains pairs pair
+  pub is : pair.address ≡ a

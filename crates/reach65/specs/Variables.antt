@@ -1,0 +1,51 @@
+-- The variables right after an image: addresses that reached code has as absolute operands, from the end of the image on, each at most 256
+-- after the one before, the first at most 256 after the last address of the image.
+use Rattle.std.specs.Prelude.{ℕ, zero, suc, ◌+◌, ◌-◌, ◌&&◌, Bool, List, [], ◌∷◌, length, if◌then◌else◌, Option, Some, None}
+use Rattle.std.specs.List.{list_any}
+use Rattle.isa65.specs.Mode.{row_of}
+use Rattle.isa65.specs.declared.op.Op.{Op}
+use Rattle.isa65.specs.declared.row.OperandKind.TheVariants.{Word}
+use Rattle.isa65.specs.declared.row.Row.{Row}
+use Rattle.isa65.specs.declared.row.Row.TheVariants.{One}
+use Rattle.map65.specs.ImageView.{ImageView, bytes_from, end_of}
+use Rattle.map65.specs.MapView.{MapView}
+use Rattle.map65.specs.Spans.{addresses}
+use Rattle.map65.specs.Targets.{word_of}
+use Rattle.reach65.specs.Flow.{instruction_at}
+use Rattle.reach65.specs.Reached.{is_marked}
+use Rattle.reach65.specs.Routines.{is_it}
+
+-- ---- operands
+
+-- the word that is the operand, in any mode that has one
+abbrev pub word_in : Row → List ℕ → Option ℕ
+word_in (One pattern Word) bytes = Some (word_of bytes)
+word_in row bytes = None
+
+abbrev pub operand_in : MapView → ℕ → Option Op → Option ℕ
+operand_in m a None = None
+operand_in m a (Some op) = word_in (row_of op.mode) (bytes_from m.image a)
+
+-- the absolute operand of the instruction
+unfoldable pub operand_at : MapView → ℕ → Option ℕ
+operand_at m a = operand_in m a (instruction_at m a)
+
+-- the reached instruction of the second address has the first one as its operand
+unfoldable pub has_operand : MapView → List Bool → ℕ → ℕ → Bool
+has_operand m marks b a = is_marked marks a && is_it (operand_at m a) b
+
+-- a reached instruction has the address as its operand
+unfoldable pub is_operand : MapView → List Bool → ℕ → Bool
+is_operand m marks b = list_any (has_operand m marks b) (addresses (length m.image.bytes) m.image.start)
+
+-- ---- variables
+
+-- Of so many addresses from one on those that pass the test, up to where none of 256 does. So many more may fail before the next.
+unfoldable pub variables_from : (ℕ → Bool) → ℕ → ℕ → ℕ → List ℕ
+variables_from p room a zero = []
+variables_from p zero a (suc count) = []
+variables_from p (suc room) a (suc count) = if p a then a ∷ variables_from p 256 (a + 1) count else variables_from p room (a + 1) count
+
+-- the operands here are marked
+unfoldable pub variables_of : ImageView → List Bool → List ℕ
+variables_of image operands = variables_from (is_marked operands) 256 (end_of image) (0x1_0000 - end_of image)

@@ -1,0 +1,188 @@
+//! Rows of words that are addresses of routines.
+
+ghost use Rattle.std.specs.Prelude.{◌≡◌, ◌+◌, ◌<◌, ◌≤◌, ◌||◌, ℕ, IfNone, IfOk, IfSome, IsTrue, false, length, true};
+ghost use Rattle.map65.specs.ImageView.{end_of};
+ghost use Rattle.reach65.specs.Rows.{AreRows, AreWords, IsRow, are_different, free_word, is_any_row, is_in_table, is_of_table, is_row, is_word};
+ghost use Rattle.reach65.specs.Reached.{is_marked};
+
+use crate::halves::CodeMarks;
+use crate::pieces::Ground;
+use crate::taken::mark_range;
+use info65::{RangeSpec, RangeType};
+use std::alloc::{AllocError, Allocator, Global};
+use std::marker::Model;
+
+/// An image with the addresses that something speaks for and those of vectors, and the marks of what is reached.
+#[derive(Drop)]
+pub struct Words<'a, A: Allocator = Global> {
+    within: Ground<'a, A>,
+    code: &'a CodeMarks<'a>,
+}
+
+impl<'a, A: Allocator> Model for Words<'a, A> {
+    ghost use Rattle.std.specs.Prelude.{◌≡◌};
+    ghost use Rattle.reach65.specs.Rows.{Words};
+
+    ghost Value = { Words };
+
+    ghost view = { λ w. record { within = w.within; code = w.code.now } };
+}
+
+/// Whether there are two words, and they are different.
+fn are_different(one: Option<u16>, other: Option<u16>) -> bool
+    ensures { result ≡ are_different one other }
+{
+    match (one, other) {
+        (Some(one), Some(other)) => one != other,
+        _ => false,
+    }
+}
+
+impl<'a, A: Allocator> Words<'a, A> {
+    /// An image with the addresses that something speaks for and those of vectors, and the marks of what is reached.
+    pub fn new(within: Ground<'a, A>, code: &'a CodeMarks<'a>) -> Words<'a, A>
+        ensures { result ≡ record { within = within.entry; code = code.now } }
+    {
+        Words { within, code }
+    }
+
+    /// The word at the address, if nothing speaks for its two bytes and no vector has them.
+    fn word(&self, address: usize) -> Option<u16>
+        requires { address < 65540 }
+        ensures value { result ≡ free_word self.now.within address }
+        ensures below { IfSome result (λ _. address + 1 < 65536) }
+    {
+        self.within.word(address)
+    }
+
+    /// Whether a word of such bytes stands at the address, this much less than the address of a routine.
+    #[tactic(auto, unfolding(crate::specs::Rows::is_word))]
+    fn is_word(&self, less: u16, address: usize) -> bool
+        requires { address < 65540 }
+        ensures value { result ≡ is_word self.now less address }
+        ensures below { IsTrue result → address + 1 < 65536 }
+    {
+        match self.word(address) {
+            Some(word) => self.code.is_routine(usize::from(word) + usize::from(less)),
+            None => false,
+        }
+    }
+
+    /// Whether a row begins at the address.
+    #[tactic(auto, unfolding(crate::specs::Rows::is_row))]
+    fn is_row(&self, less: u16, address: usize) -> bool
+        requires { address < 65536 }
+        ensures { result ≡ is_row self.now less address }
+    {
+        self.is_word(less, address)
+            && (self.is_word(less, address + 2)
+                && are_different(self.word(address), self.word(address + 2)))
+    }
+
+    /// The first address after the image.
+    fn image_end(&self) -> usize
+        ensures value { result ≡ end_of self.now.within.image }
+        ensures room { result ≤ 65536 }
+    {
+        self.within.image_end()
+    }
+
+    /// Where the words of the row end that begins at the address.
+    fn words_end(&self, less: u16, from: usize) -> usize
+        requires row { is_row self.now less from ≡ true }
+        requires room { from < 65536 }
+        ensures low { from < result }
+        ensures room { result ≤ 65536 }
+        ensures words { AreWords self.now less from result }
+    {
+        let mut count = 0;
+        'words: while self.is_word(less, from + 2 * count) {
+            count += 1;
+        }
+        from + 2 * count
+    }
+
+    /// The row that begins at the address, if one does.
+    #[tactic(auto, unfolding(crate::specs::Rows::is_any_row))]
+    fn row_at(&self, first: usize) -> Option<RangeSpec>
+        requires { first < 65536 }
+        ensures first { IfSome result (λ r. r.first ≡ first) }
+        ensures ordered { IfSome result (λ r. r.first ≤ r.last) }
+        ensures room { IfSome result (λ r. r.last < 65536) }
+        ensures row { IfSome result (λ r. IsRow self.now r.role r.first (r.last + 1)) }
+        ensures none { IfNone result (is_any_row self.now first ≡ false) }
+    {
+        if self.is_row(0, first) {
+            let end = self.words_end(0, first);
+            return Some(RangeSpec {
+                first: first as u16,
+                last: (end - 1) as u16,
+                role: RangeType::AddrTable,
+            });
+        }
+        if self.is_row(1, first) {
+            let end = self.words_end(1, first);
+            return Some(RangeSpec {
+                first: first as u16,
+                last: (end - 1) as u16,
+                role: RangeType::RtsTable,
+            });
+        }
+        None
+    }
+
+    /// The first row from an address on.
+    fn next_row(&self, from: usize) -> Option<RangeSpec>
+        ensures low { IfSome result (λ r. from ≤ r.first) }
+        ensures before { IfSome result (λ r. (a : ℕ) → from ≤ a → a < r.first → is_any_row self.now a ≡ false) }
+        ensures ordered { IfSome result (λ r. r.first ≤ r.last) }
+        ensures room { IfSome result (λ r. r.last < 65536) }
+        ensures row { IfSome result (λ r. IsRow self.now r.role r.first (r.last + 1)) }
+        ensures none { IfNone result ((a : ℕ) → from ≤ a → is_any_row self.now a ≡ false) }
+    {
+        let end = self.image_end();
+        'rows: for at in from..end {
+            if let Some(row) = self.row_at(at) {
+                return Some(row);
+            }
+        }
+        None
+    }
+
+    /// Returns the rows of words that are addresses of routines, or such addresses less one, as ranges of the types AddrTable and RtsTable.
+    /// The ranges ascend. Fails only if an allocation failed.
+    pub fn rows<B: Allocator>(&self, alloc: B) -> Result<Vec<RangeSpec, B>, AllocError>
+        ensures { IfOk result (λ found. AreRows self.now 0 found.items) }
+    {
+        let mut found = Vec::new(alloc);
+        let mut from = 0;
+        'rows: while let Some(row) = self.next_row(from) {
+            found.push(row)?;
+            from = usize::from(row.last) + 1;
+        }
+        Ok(found)
+    }
+}
+
+/// Marks the addresses of the range, if it is a row of addresses.
+#[tactic(auto, unfolding(crate::specs::Rows::is_in_table))]
+fn mark_table(marks: &mut [bool], row: RangeSpec)
+    requires count { length marks.old ≡ 65536 }
+    ensures count { length marks.new ≡ 65536 }
+    ensures each { (a : ℕ) → is_marked marks.new a ≡ (is_marked marks.old a || is_in_table a row) }
+{
+    if row.role == RangeType::AddrTable {
+        mark_range(marks, row);
+    }
+}
+
+/// Marks the addresses of the rows of addresses among these rows.
+pub fn mark_tables(marks: &mut [bool], rows: &[RangeSpec])
+    requires count { length marks.old ≡ 65536 }
+    ensures count { length marks.new ≡ 65536 }
+    ensures each { (a : ℕ) → is_marked marks.new a ≡ (is_marked marks.old a || is_of_table rows.now a) }
+{
+    'tables: for &row in rows {
+        mark_table(marks, row);
+    }
+}

@@ -1,0 +1,61 @@
+//! What the lines `#: ..` of an information file say of halves.
+
+ghost use Rattle.std.specs.Prelude.{◌≡◌, ◌<◌, ◌≤◌, ◌||◌, ℕ, IfOk, IfSome, length};
+ghost use Rattle.reach65.specs.Reached.{is_marked};
+ghost use Rattle.reach65.specs.Said.{has_byte, is_among, is_said};
+ghost use Rattle.reach65.specs.Taken.{AreMarkedBy};
+
+use crate::search::blank_marks;
+use crate::taken::mark_span;
+use info65::{Tag, TagKind};
+use map65::ADDRESSES;
+use std::alloc::{AllocError, Allocator};
+
+/// Marks this many places from one on, if there is one, up to $FFFF.
+fn mark_among(marks: &mut [bool], first: Option<u16>, count: u16)
+    requires count { length marks.old ≡ 65536 }
+    ensures count { length marks.new ≡ 65536 }
+    ensures each { (a : ℕ) → a < 65536 → is_marked marks.new a ≡ (is_marked marks.old a || is_among first count a) }
+{
+    if let Some(first) = first {
+        let from = usize::from(first);
+        let to = from + usize::from(count);
+        mark_span(marks, from, to.min(ADDRESSES));
+    }
+}
+
+/// Marks the places of the bytes of a group of halves.
+#[tactic(auto, unfolding(crate::specs::Said::has_byte))]
+fn mark_tag(marks: &mut [bool], tag: Tag)
+    requires count { length marks.old ≡ 65536 }
+    ensures count { length marks.new ≡ 65536 }
+    ensures each { (a : ℕ) → a < 65536 → is_marked marks.new a ≡ (is_marked marks.old a || has_byte a tag) }
+{
+    if tag.kind == TagKind::Halves {
+        let count = tag.size.unwrap_or(1);
+        mark_among(marks, tag.low, count);
+        mark_among(marks, tag.high, count);
+    }
+}
+
+/// Marks the places of the bytes of these groups.
+#[tactic(auto, unfolding(crate::specs::Said::is_said))]
+fn mark_tags(marks: &mut [bool], tags: &[Tag])
+    requires count { length marks.old ≡ 65536 }
+    ensures count { length marks.new ≡ 65536 }
+    ensures each { (a : ℕ) → a < 65536 → is_marked marks.new a ≡ (is_marked marks.old a || is_said tags.now a) }
+{
+    'tags: for &tag in tags {
+        mark_tag(marks, tag);
+    }
+}
+
+/// Marks each place of which a group HALVES has the byte. There is a mark for each address from $0000 to $FFFF. Fails only if an
+/// allocation failed.
+pub fn mark_said<A: Allocator>(alloc: A, tags: &[Tag]) -> Result<Vec<bool, A>, AllocError>
+    ensures { IfOk result (λ marks. AreMarkedBy (is_said tags.now) marks.items) }
+{
+    let mut marks = blank_marks(alloc, ADDRESSES)?;
+    mark_tags(marks.as_mut_slice(), tags);
+    Ok(marks)
+}

@@ -1,0 +1,85 @@
+//! The vectors of the CPU that led to code.
+
+ghost use Rattle.std.specs.Prelude.{◌≡◌, ◌+◌, ◌<◌, ◌≤◌, ◌||◌, ℕ, IfOk, length};
+ghost use Rattle.reach65.specs.Reached.{is_marked};
+ghost use Rattle.reach65.specs.Taken.{AreMarkedBy};
+ghost use Rattle.reach65.specs.Vectors.{has_vector, is_of_vector, is_vector};
+
+use crate::entries::{has_vectors, word_at};
+use crate::search::blank_marks;
+use crate::taken::mark_span;
+use map65::{ADDRESSES, Image};
+use std::alloc::{AllocError, Allocator};
+
+/// Whether the vector at the address led to code.
+#[tactic(auto, unfolding(crate::specs::Vectors::is_vector))]
+fn is_vector<A: Allocator>(image: &Image<A>, reached: &[bool], taken: &[bool], vector: u16) -> bool
+    requires low { 65530 ≤ vector }
+    requires high { vector < 65535 }
+    requires reached { length reached.now ≡ 65536 }
+    requires taken { length taken.now ≡ 65536 }
+    ensures { result ≡ is_vector image.now reached.now taken.now vector }
+{
+    let at = usize::from(vector);
+    has_vectors(image)
+        && (!taken[at] && (!taken[at + 1] && reached[usize::from(word_at(image, vector))]))
+}
+
+/// Marks the bytes of the vector, if it led to code.
+#[tactic(auto, unfolding(crate::specs::Vectors::has_vector))]
+fn mark_vector<A: Allocator>(
+    marks: &mut [bool],
+    image: &Image<A>,
+    reached: &[bool],
+    taken: &[bool],
+    vector: u16,
+)
+    requires low { 65530 ≤ vector }
+    requires high { vector < 65535 }
+    requires count { length marks.old ≡ 65536 }
+    requires reached { length reached.now ≡ 65536 }
+    requires taken { length taken.now ≡ 65536 }
+    ensures count { length marks.new ≡ 65536 }
+    ensures each { (a : ℕ) → is_marked marks.new a ≡ (is_marked marks.old a || has_vector image.now reached.now taken.now vector a) }
+{
+    if is_vector(image, reached, taken, vector) {
+        let at = usize::from(vector);
+        mark_span(marks, at, at + 2);
+    }
+}
+
+/// Marks the bytes of the vectors that led to code.
+#[tactic(auto, unfolding(crate::specs::Vectors::is_of_vector))]
+fn mark_all_vectors<A: Allocator>(
+    marks: &mut [bool],
+    image: &Image<A>,
+    reached: &[bool],
+    taken: &[bool],
+)
+    requires count { length marks.old ≡ 65536 }
+    requires reached { length reached.now ≡ 65536 }
+    requires taken { length taken.now ≡ 65536 }
+    ensures count { length marks.new ≡ 65536 }
+    ensures each { (a : ℕ) → is_marked marks.new a ≡ (is_marked marks.old a || is_of_vector image.now reached.now taken.now a) }
+{
+    mark_vector(marks, image, reached, taken, 0xFFFA);
+    mark_vector(marks, image, reached, taken, 0xFFFC);
+    mark_vector(marks, image, reached, taken, 0xFFFE);
+}
+
+/// Marks the bytes of the vectors at $FFFA to $FFFF that led to code: nothing speaks for them, and a reached instruction begins at the word.
+/// There is a mark for each address from $0000 to $FFFF. Fails only if an allocation failed.
+pub fn mark_vectors<A: Allocator, B: Allocator>(
+    alloc: A,
+    image: &Image<B>,
+    reached: &[bool],
+    taken: &[bool],
+) -> Result<Vec<bool, A>, AllocError>
+    requires reached { length reached.now ≡ 65536 }
+    requires taken { length taken.now ≡ 65536 }
+    ensures { IfOk result (λ marks. AreMarkedBy (is_of_vector image.now reached.now taken.now) marks.items) }
+{
+    let mut marks = blank_marks(alloc, ADDRESSES)?;
+    mark_all_vectors(marks.as_mut_slice(), image, reached, taken);
+    Ok(marks)
+}
