@@ -364,7 +364,7 @@ const REPAIRS: &[(&[u8], &str)] = &[
 fn lines_of_repairs(rt: HostRuntime) {
     for (line, want) in REPAIRS {
         let found = source_in(rt.alloc(), Language::Repair, line).expect(&rt, "source_in");
-        assert_equal_at(&rt, &found.as_str(), want, want);
+        assert_equal(&rt, &found.as_str(), want);
     }
 }
 
