@@ -1,4 +1,5 @@
 mod Matrix
+mod Rows
 pub mod Opcodes
 mod CandidateLaws
 mod FilledLemmas

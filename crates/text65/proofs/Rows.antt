@@ -32,11 +32,19 @@ names_of_a_byte = refl
 abbrev long : List ℕ
 long = codes "abcdefghijklmnopqrstabcdefghijklmnopqrstabcdefghijklmnopqrstabcdefghijklmnopqrst"
 
-name_forms : map has_name_form ([] ∷ long ∷ (long ++ codes "u") ∷ codes "_1" ∷ codes "1a" ∷ codes "a.b" ∷ []) ≡ false ∷ true ∷ false ∷ true ∷ false ∷ false ∷ []
+name_forms : map has_name_form ([] ∷ long ∷ (long ++ codes "u") ∷ codes "_1" ∷ codes "lda" ∷ codes "1a" ∷ codes "a.b" ∷ codes "a b" ∷ []) ≡ false ∷ true ∷ false ∷ true ∷ true ∷ false ∷ false ∷ false ∷ []
 unfolding has_name_form
 name_forms = refl
 
-line_ends : map text_lines ([] ∷ codes "a\n\nb" ∷ codes "a\n" ∷ codes "\n" ∷ []) ≡ [] ∷ (codes "a" ∷ [] ∷ codes "b" ∷ []) ∷ (codes "a" ∷ []) ∷ ([] ∷ []) ∷ []
+reserved : map is_reserved_word (codes "lda" ∷ codes "Jmp" ∷ codes "SMB7" ∷ codes "bbr0" ∷ []) ≡ true ∷ true ∷ true ∷ true ∷ []
+unfolding is_reserved_word mnemonic_named
+reserved = refl
+
+free : map is_reserved_word ([] ∷ codes "ax" ∷ codes "wai" ∷ codes "stp" ∷ codes "bbr8" ∷ codes "lda_" ∷ codes "bbr00" ∷ []) ≡ false ∷ false ∷ false ∷ false ∷ false ∷ false ∷ false ∷ []
+unfolding is_reserved_word mnemonic_named
+free = refl
+
+line_ends : map text_lines ([] ∷ codes "a\n\nb" ∷ codes "a\r\n" ∷ codes "\n" ∷ []) ≡ [] ∷ (codes "a" ∷ [] ∷ codes "b" ∷ []) ∷ (codes "a\r" ∷ []) ∷ ([] ∷ []) ∷ []
 unfolding text_lines
 line_ends = refl
 

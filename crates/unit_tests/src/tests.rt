@@ -1,6 +1,7 @@
 mod address_names;
 mod assembling;
 mod asserts;
+mod calls;
 mod code;
 mod columns;
 mod comments;
@@ -13,10 +14,7 @@ mod inputs;
 mod items;
 mod levels;
 mod lexing;
-mod lines;
 mod maps;
-mod names;
-mod opcodes;
 mod printed;
 mod printed_names;
 mod printing;

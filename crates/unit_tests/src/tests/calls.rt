@@ -1,0 +1,48 @@
+//! Public functions that allocate nothing, each called once. Proofs hold what they return to worked values, in the files `Rows` of their crates.
+
+use crate::tests::asserts::{assert_equal, assert_that};
+use isa65::{Cpu, DecodeTable, EncodeTable, Mnemonic, Mode, Op, OpcodeSet};
+use text65::{
+    are_word_bytes, first_line, has_name_form, hex_digit, is_blank, is_reserved_word, is_word_byte,
+};
+
+/// `stx` with a zero-page operand that is indexed by Y, and the absolute one that is written like it.
+const SHORT: Op = Op {
+    mnemonic: Mnemonic::Stx,
+    mode: Mode::Zpy,
+};
+
+const LONG: Op = Op {
+    mnemonic: Mnemonic::Stx,
+    mode: Mode::Absy,
+};
+
+#[test]
+fn opcodes(rt: HostRuntime) {
+    let cpu = Cpu::from_bytes(b"65c02").expect(&rt, "a CPU");
+    assert_equal(&rt, &cpu.text(), &b"65C02".as_slice());
+    let stx = Mnemonic::from_bytes(b"Stx").expect(&rt, "a mnemonic");
+    assert_equal(&rt, &stx.text(), &b"stx".as_slice());
+    assert_equal(&rt, &Mode::Zprel.len(), &3);
+    let table = DecodeTable::new(cpu);
+    assert_equal(&rt, &cpu.decode(0x96), &Some(SHORT));
+    assert_equal(&rt, &table.decode(0x96), &Some(SHORT));
+    assert_equal(&rt, &cpu.encode(stx, Mode::Zpy), &Some(0x96));
+    assert_equal(&rt, &table.encode(stx, Mode::Zpy), &Some(0x96));
+    let codes = EncodeTable::new(cpu);
+    assert_equal(&rt, &codes.encode(stx, Mode::Zpy), &Some(0x96));
+    assert_equal(&rt, &LONG.sibling(&cpu), &Some(Mode::Zpy));
+    assert_equal(&rt, &LONG.sibling(&table), &Some(Mode::Zpy));
+}
+
+#[test]
+fn texts(rt: HostRuntime) {
+    let found = first_line(b" rts\r\n\nx");
+    let want: (&[u8], &[u8]) = (b" rts\r", b"\nx");
+    assert_equal(&rt, &found, &Some(want));
+    assert_that(&rt, has_name_form(b"_1") && !has_name_form(b"1_"));
+    assert_that(&rt, is_reserved_word(b"SMB7") && !is_reserved_word(b"smb8"));
+    assert_that(&rt, are_word_bytes(b"1aZ_") && is_word_byte(b'_'));
+    assert_that(&rt, is_blank(b'\t') && !is_blank(b'\n'));
+    assert_equal(&rt, &hex_digit(10), &b'A');
+}
