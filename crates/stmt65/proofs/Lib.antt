@@ -11,6 +11,8 @@ mod EntryLaws
 mod TableTexts
 mod WidthLemmas
 mod Rows
+mod TextRows
+mod ReadRows
 mod Lexed
 mod TableReads
 mod RemarkLemmas
