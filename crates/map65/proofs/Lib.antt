@@ -4,6 +4,8 @@ mod ChangeLemmas
 mod ItemLaws
 mod ItemLemmas
 mod MapRows
+mod ItemRows
+mod NameRows
 mod NameLemmas
 mod NameLaws
 mod NamingLemmas
