@@ -7,7 +7,7 @@ use Rattle.map65.specs.Roles.{is_skip, role_of}
 use Rattle.da65.specs.BaseNames.{names_of}
 use Rattle.da65.specs.Comments.{comment_at}
 use Rattle.da65.specs.Groups.{IsGroupPlace, group_bytes, group_len, groups_from, is_skip_range}
-use Rattle.da65.specs.Listing.{ListingLine, assignment_line, comments, constants, ending_lines, forwards, group_line, group_lines, has_constant_line, line_text, listing, opening_lines, plain, segment_lines, statement_lines, with_empty_line}
+use Rattle.da65.specs.Listing.{ListingLine, assignment_line, comments, constants, ending_lines, forwards, group_line, group_lines, has_constant_line, has_separator, line_text, listing, plain, segment_lines, statement_lines, with_empty_line}
 use Rattle.da65.specs.Marks.{has_marks}
 use Rattle.da65.specs.Segments.{segment_before}
 use Rattle.map65.specs.Segments.{segment_at}
@@ -141,6 +141,11 @@ pub record IsNext (m : MapView) (left : List ListingLine) (text : List ℕ) (nex
 abbrev pub MayBeNext : MapView → List ListingLine → List ℕ → Option ListingPlace → Option (List ℕ) → Type 0
 MayBeNext m left text next segment = MatchOption next (left ≡ []) (λ place. IsNext m left text place segment)
 
+-- neither a separator nor a segment line stands before the group that begins with the k-th byte
+pub record HasNoHead (m : MapView) (k : ℕ) : Type 0 where
+  pub lines : groups_left m k ≡ comments_left m k (m.image.start + k)
+  pub same : segment_before m k ≡ segment_at m (m.image.start + k)
+
 -- the text is that of the first line of the constants from an address on, `any` if one stands above
 abbrev pub IsConstantNext : MapView → ℕ → Bool → List ℕ → ListingPlace → Type 0
 IsConstantNext m v any text next = IsNext m (constants_left m v any) text next None
@@ -175,7 +180,7 @@ IsFirstFrom m lines from end found text = MatchOption found (lines (end - from) 
 
 -- the listing has no separators, no segments but the default, and no comments
 pub record IsUnmarked (m : MapView) : Type 0 where
-  pub opening : (a : ℕ) → opening_lines m a ≡ []
+  pub separators : (a : ℕ) → has_separator m a ≡ false
   pub comments : (a : ℕ) → comment_at m a ≡ None
   pub segments : (a : ℕ) → segment_at m a ≡ None
 

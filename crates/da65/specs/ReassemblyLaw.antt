@@ -3,7 +3,6 @@ use Rattle.std.specs.Prelude.{◌≡◌, ◌↔◌, ℕ, ◌+◌, ◌-◌, ◌<�
 use Rattle.isa65.specs.Cpu.{table_of}
 use Rattle.isa65.specs.Mode.{row_of}
 use Rattle.isa65.specs.Opcodes.{Table, encoded}
-use Rattle.isa65.specs.declared.cpu.Cpu.{Cpu}
 use Rattle.isa65.specs.declared.mode.Mode.{Mode}
 use Rattle.isa65.specs.declared.op.Op.{Op}
 use Rattle.isa65.specs.declared.row.OperandKind.{OperandKind}

@@ -14,7 +14,7 @@ use Rattle.isa65.specs.declared.row.Row.{Row}
 use Rattle.stmt65.specs.Views.{OperandsView}
 use Rattle.stmt65.specs.ModeLaws.{IsModeOf}
 use Rattle.stmt65.specs.Printed.{address_size, row_form, source_form, source_value}
-use Rattle.stmt65.specs.Symbols.{Definition, has_zero_page_size}
+use Rattle.stmt65.specs.Symbols.{has_zero_page_size}
 use Rattle.stmt65.specs.Coding.{State, Fixed}
 use Rattle.stmt65.proofs.Public.{takes_modes}
 use Rattle.map65.specs.ImageView.{ImageView}

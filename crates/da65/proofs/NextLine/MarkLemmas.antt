@@ -1,7 +1,7 @@
 -- A listing at comment level 0, without segments and comments, has no lines at the heads of its groups.
-use Rattle.std.proofs.Common.{arith, ◌≡◌, ◌∙◌, ◌++◌, ◌-◌, ℕ, Bool, true, false, List, ◌∷◌, Option, Some, None, refl, sym, ap, []}
+use Rattle.std.proofs.Common.{arith, ◌≡◌, ◌∙◌, ℕ, Bool, true, false, List, Option, Some, None, refl, sym, ap}
 use Rattle.std.specs.Prelude.{if◌then◌else◌, ◌==◌, is_some, option_map}
-use Rattle.std.specs.List.{flat_map, list_any}
+use Rattle.std.specs.List.{list_any}
 use Rattle.std.proofs.lemmas.Bool.{eqb-true, not-false, or_parts, true≢false}
 use Rattle.std.proofs.lemmas.List.{nil_from_length}
 use Rattle.std.proofs.lemmas.List.Folds.{list_any_at}
@@ -16,11 +16,9 @@ use Rattle.map65.specs.Names.{Base, given_base, has_name}
 use Rattle.map65.proofs.Public.{base-covered, base-none}
 use Rattle.da65.specs.Comments.{comment_at, comment_by}
 use Rattle.da65.specs.Lines.{IsUnmarked}
-use Rattle.da65.specs.Listing.{ListingLine, opening_lines, segment_lines}
 use Rattle.da65.specs.Marks.{has_comment, has_marks}
-use Rattle.map65.specs.Segments.{segment_at}
 use Rattle.da65.specs.Style.{style_of}
-use Rattle.da65.proofs.NextLine.SegmentLemmas.{segment-none, bare-segment}
+use Rattle.da65.proofs.NextLine.SegmentLemmas.{bare-segment}
 
 bare-comment : (m : MapView) (a : ℕ) → list_any has_comment m.info.names ≡ false → comment_at m a ≡ None
 unfolding comment_at
@@ -40,17 +38,8 @@ bare-comment m a none = go (covering m.info.names a) refl
     go None e = refl
     go (Some n) e = of n (n.address == a) (has n e n.comment refl)
 
-flat-nothing : (f : ℕ → List ListingLine) → ((a : ℕ) → f a ≡ []) → (xs : List ℕ) → flat_map f xs ≡ []
-flat-nothing f none [] = refl
-flat-nothing f none (x ∷ xs) = ap (λ (ls : List ListingLine). ls ++ flat_map f xs) (none x) ∙ flat-nothing f none xs
-
-bare-segments : (m : MapView) (a : ℕ) → ((a : ℕ) → segment_at m a ≡ None) → segment_lines m a ≡ []
-unfolding segment_lines
-bare-segments m a none = rw (none a, segment-none m (a - m.image.start) none) refl
-
 pub unmarked : (m : MapView) → has_marks m.info (style_of m.info.settings) ≡ false → IsUnmarked m
-unfolding opening_lines
-unmarked m none = grind (arith, or_parts, eqb-true, not-false, nil_from_length, bare-comment, bare-segment, bare-segments, flat-nothing)
+unmarked m none = grind (arith, or_parts, eqb-true, not-false, nil_from_length, bare-comment, bare-segment)
 
 -- an address without a name has no comment
 pub unnamed-comment : (m : MapView) (a : ℕ) → has_name m a ≡ false → comment_at m a ≡ None

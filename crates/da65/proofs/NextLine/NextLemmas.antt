@@ -13,8 +13,9 @@ use Rattle.map65.specs.Spans.{addresses}
 use Rattle.da65.specs.BaseNames.{base_name, is_base, names_of}
 use Rattle.da65.specs.Comments.{comment_at}
 use Rattle.da65.specs.Groups.{IsGroupPlace, group_bytes, group_len}
-use Rattle.da65.specs.Lines.{IsConstant, IsFirstOf, IsGroupStart, IsInGroup, IsNext, IsOfGroup, IsPlace, IsUnmarked, after_group, with_blank_after, comments_left, constants_left, group_left, groups_left, left_from, lines_from, segment_left, segment_of, IsLabelNext, IsNextIn}
+use Rattle.da65.specs.Lines.{HasNoHead, IsConstant, IsFirstOf, IsGroupStart, IsInGroup, IsNext, IsOfGroup, IsPlace, after_group, with_blank_after, comments_left, constants_left, group_left, groups_left, left_from, lines_from, segment_left, segment_of, IsLabelNext, IsNextIn}
 use Rattle.da65.specs.Listing.{ListingLine, assignment_line, comment_line, comment_lines, comments, constant_lines, constants, ending_lines, forwards, group_line, group_lines, has_constant_line, has_empty_line, has_separator, label_at, labelled, line_text, listing, listing_below, opening_lines, plain, segment_lines, separator, separator_lines, statement_lines}
+use Rattle.da65.specs.Marks.{has_marks}
 use Rattle.da65.specs.Segments.{is_same_segment, segment_before, segment_statement}
 use Rattle.map65.specs.Segments.{segment_at}
 use Rattle.da65.specs.Statements.{statement_at}
@@ -26,7 +27,8 @@ use Rattle.da65.proofs.Groups.GroupLemmas.{group-some, groups-end, groups-first,
 use Rattle.da65.proofs.Groups.ShapeLemmas.{group-shape}
 use Rattle.da65.proofs.Groups.StepLemmas.{addresses-end, addresses-here}
 use Rattle.da65.proofs.Statements.LabelLaws.{group_takes}
-use Rattle.da65.proofs.NextLine.SegmentLemmas.{same-segment, segment-itself, segment-next, segment-run}
+use Rattle.da65.proofs.NextLine.MarkLemmas.{unmarked}
+use Rattle.da65.proofs.NextLine.SegmentLemmas.{same-segment, segment-itself, segment-next, segment-none, segment-run}
 use Rattle.stmt65.specs.Columns.{fits_label}
 use Rattle.stmt65.specs.Printable.{TakesLabel}
 use Rattle.stmt65.specs.Views as view
@@ -100,10 +102,6 @@ pub lines-group : (m : MapView) (k : ℕ) → IsGroupStart m k → groups_left m
 unfolding groups_left group_left group_lines after_group
 lines-group m k start = grind (arith, groups-next, regroup)
 
--- without separators, segments and comments
-pub lines-unmarked : (m : MapView) (k : ℕ) → IsUnmarked m → IsGroupStart m k → groups_left m k ≡ group_left m k (m.image.start + k + 1)
-lines-unmarked m k none start = grind (arith, lines-group)
-
 -- the separator, the segment, the comments
 pub lines-opening : (m : MapView) (k : ℕ) → IsGroupStart m k → groups_left m k ≡ separator_lines m (m.image.start + k) ++ segment_left m k
 unfolding opening_lines segment_left comments_left
@@ -128,11 +126,25 @@ pub segment-no : (m : MapView) (k : ℕ) → is_same_segment (segment_at m (m.im
 unfolding segment_left segment_lines
 segment-no m k same = rw (segment-spot m k, same) refl
 
+-- without separators and segments there is neither
+pub lines-unmarked : (m : MapView) (k : ℕ) → has_marks m.info (style_of m.info.settings) ≡ false → IsGroupStart m k → HasNoHead m k
+lines-unmarked m k bare start =
+    let none = unmarked m bare in
+    let before : segment_before m k ≡ segment_at m (m.image.start + k) = segment-none m k none.segments ∙ sym (none.segments (m.image.start + k)) in
+    record {
+      lines = separator-no m k (none.separators (m.image.start + k)) start ∙ segment-no m k (rw before (segment-itself (segment_at m (m.image.start + k))));
+      same = before;
+    }
+
 -- within a run there is neither
-pub lines-run : (m : MapView) (k : ℕ) → IsGroupStart m k → is_in_run m (m.image.start + k) ≡ true → groups_left m k ≡ comments_left m k (m.image.start + k)
+pub lines-run : (m : MapView) (k : ℕ) → IsGroupStart m k → is_in_run m (m.image.start + k) ≡ true → HasNoHead m k
 lines-run m k start run =
     let none : has_separator m (m.image.start + k) ≡ false = and_right _ _ (ap not run) in
-    separator-no m k none start ∙ segment-no m k (rw (segment-run m k start run) (segment-itself (segment_at m (m.image.start + k))))
+    let before = segment-run m k start run in
+    record {
+      lines = separator-no m k none start ∙ segment-no m k (rw before (segment-itself (segment_at m (m.image.start + k))));
+      same = before;
+    }
 
 -- ---- the comments of a group
 

@@ -1,5 +1,5 @@
 -- The bytes of fragments whose values are numbers.
-use Rattle.std.proofs.Common.{◌≡◌, ℕ, true, ◌+◌, ◌-◌, ◌%◌, ◌<◌, ◌≤◌, List, ◌∷◌, ◌++◌, length, map, Some, refl, ap, arith, length-append, []}
+use Rattle.std.proofs.Common.{◌≡◌, ℕ, true, ◌%◌, ◌<◌, ◌≤◌, List, ◌∷◌, ◌++◌, length, map, Some, refl, ap, arith, length-append, []}
 use Rattle.std.specs.List.{list_all, flat_map}
 use Rattle.std.proofs.lemmas.Bool.{lt-ltb}
 use Rattle.std.proofs.lemmas.List.Elements.{All-head, All-tail}

@@ -63,6 +63,7 @@ fn put_segment_line(out: &mut Line, style: &Style, segment: Option<&[u8]>)
 
 /// Replaces the buffer by the first line of a group from the comment of the name of this address on, and returns the next
 /// place.
+#[inline(always)]
 pub fn put_from_comments<A: Allocator>(
     out: &mut Line,
     listed: &ListedImage<'_, A>,
@@ -80,7 +81,7 @@ pub fn put_from_comments<A: Allocator>(
             index,
             address: next + 1,
         },
-        None => put_from_forwards(out, listed, names, index, first + 1),
+        None => put_from_forwards(out, listed, names, group, first + 1),
     }
 }
 

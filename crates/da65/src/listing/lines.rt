@@ -6,12 +6,12 @@ ghost use Rattle.std.specs.Bool.{OnTrue, OnFalse};
 ghost use Rattle.std.specs.Io.KnownBytes.{Appends};
 ghost use Rattle.map65.specs.Device.{Counts, AppendsFront};
 ghost use Rattle.da65.specs.Groups.{IsGroupPlace};
-ghost use Rattle.da65.specs.Lines.{IsGroupStart, IsNext, IsPlace, MayBeNext, groups_left, constants_left, left_from, segment_of};
+ghost use Rattle.da65.specs.Lines.{HasNoHead, IsGroupStart, IsNext, IsPlace, MayBeNext, groups_left, constants_left, left_from, segment_of};
 ghost use Rattle.da65.specs.Listing.{lines_of, text_of};
 ghost use Rattle.da65.specs.Segments.{segment_before};
 
 use crate::listing::constant_lines::{put_assignment, put_next_constant};
-use crate::listing::group_lines::{put_from_forwards, put_from_statement};
+use crate::listing::group_lines::{group_at, put_from_forwards, put_from_statement};
 use crate::listing::heading_lines::{put_from_comments, put_from_segment, put_from_separator};
 use crate::listing::line_groups::is_skipped;
 use crate::listing::listed_image::ListedImage;
@@ -80,6 +80,22 @@ fn is_shown<A: Allocator>(listed: &ListedImage<'_, A>, index: usize) -> bool
     true
 }
 
+/// Whether a separator or a segment line may stand before the group that begins with the byte of this index. It stands only
+/// before the first group of a run.
+#[inline(always)]
+fn may_have_head<A: Allocator>(listed: &ListedImage<'_, A>, index: usize) -> bool
+    requires { IsGroupStart listed.now index }
+    ensures { OnFalse result (HasNoHead listed.now index) }
+{
+    if !listed.is_marked() {
+        return false;
+    }
+    if listed.map().is_in_run(listed.address(index)) {
+        return false;
+    }
+    true
+}
+
 /// Replaces the buffer by the first line of the group that begins with the byte of this index, and returns the next place.
 /// `segment` is that of the group before, and becomes that of this group where its line is written.
 #[inline(always)]
@@ -94,15 +110,11 @@ fn put_group_at<'a, A: Allocator>(
     requires segment { option_copied segment.old ≡ segment_before listed.now index }
     ensures { IsNext listed.now (groups_left listed.now index) out.new.items result (option_copied segment.new) }
 {
-    let address = listed.address(index);
-    if !listed.is_marked() {
-        return put_from_forwards(out, listed, names, index, address as usize + 1);
+    if may_have_head(listed, index) {
+        return put_from_separator(out, listed, segment, names, index);
     }
-    // A separator or a segment line stands only before the first group of a run.
-    if listed.map().is_in_run(address) {
-        return put_from_comments(out, listed, names, index, address as usize);
-    }
-    put_from_separator(out, listed, segment, names, index)
+    let address = listed.address(index) as usize;
+    put_from_comments(out, listed, names, index, address)
 }
 
 /// Replaces the buffer by the first line of the next group from this byte on, and returns the next place. `segment` is that of
@@ -196,7 +208,8 @@ fn put_next<'a, A: Allocator>(
             Some(put_from_comments(out, listed, names, index, address))
         },
         ListingPlace::Forward { index, address } => {
-            Some(put_from_forwards(out, listed, names, index, address))
+            let group = group_at(listed, index);
+            Some(put_from_forwards(out, listed, names, group, address))
         },
         ListingPlace::Statement { index } => Some(put_from_statement(out, listed, names, index)),
         ListingPlace::Ending { index } => {

@@ -1,4 +1,4 @@
-use Rattle.std.proofs.Common.{◌≡◌, ◌∙◌, ◌+◌, ℕ, List, ap, arith, sym}
+use Rattle.std.proofs.Common.{◌∙◌, ◌+◌, ℕ, List, ap, sym}
 use Rattle.std.specs.List.{list_all, prefix_len}
 use Rattle.da65.specs.Code.NamedCells.{is_unnamed}
 use Rattle.da65.specs.declared.listing.constant_lines.TheConstants.{BLOCK}

@@ -17,16 +17,16 @@ returns-in-Some g c =
       segment_is = refl;
     }
 
-pub put_from_forwards-requires : goal.put_from_forwards-requires
-put_from_forwards-requires g c =
+pub put_from_forwards-requires-clause-inside : goal.put_from_forwards-requires-clause-inside
+put_from_forwards-requires-clause-inside g c =
     let address = rw c.group_at-group.ensures.index at c.group_at-group.ensures.group.address_is in
     let s = c.requires.group in
     let some = group-some c.args.listed.now _ s.place s.inside s.shown in
-    record { group = s; after = omega (arith, address); before = omega (arith, address, some) }
+    rw c.group_at-group.ensures.index (record { group = s; after = omega (arith, address); before = omega (arith, address, some) })
 
 pub returns-in-None : goal.returns-in-None
 returns-in-None g c =
     let address = rw c.group_at-group.ensures.index at c.group_at-group.ensures.group.address_is in
     next-moved _ _ _ _ _ _
     (comment-end _ _ _ _ (omega (arith, address, c.group_at-group.ensures.len)) c.in-None.ensures.line ∙ ap (λ (n : ℕ). group_left c.args.listed.now c.args.index (n + 1)) (sym address))
-    c.put_from_forwards.ensures
+    (rw c.group_at-group.ensures.index at c.put_from_forwards.ensures)
