@@ -53,19 +53,22 @@ impl<'a, A: Allocator> Model for Closed<'a, A> {
     ghost invariant = { λ c. AreKept c.groups (map group_seen c.kept.items) c.ranges.items c.names c.ranged.items c.segmented.items };
 }
 
-// Adds a group to those that are read again, if it is one.
+// Adds a group to those that are read again, if it is one, and returns a list for what is given in the next group: that of
+// this group, if it is not read again.
 fn keep<'a, A: Allocator>(
+    alloc: A,
     kept: &mut Vec<Group<'a, A>, A>,
     group: Group<'a, A>,
-) -> Result<(), InfoFault>
+) -> Result<Vec<Assignment<'a>, A>, InfoFault>
     ensures done { IfOk result (λ _. map group_seen kept.new.items ≡ map group_seen kept.old.items ++ kept_part (group_seen group.entry)) }
     ensures err { IfErr result (λ e. e ≡ out_of_memory) }
 {
-    match group.kind {
-        GroupKind::Range | GroupKind::Label => Ok(()),
+    let Group { kind, given } = group;
+    match kind {
+        GroupKind::Range | GroupKind::Label => Ok(given),
         GroupKind::Global | GroupKind::Segment | GroupKind::Include => {
-            kept.push(group)?;
-            Ok(())
+            kept.push(Group { kind, given })?;
+            Ok(Vec::new(alloc))
         }
     }
 }
@@ -156,10 +159,14 @@ impl<'a, A: Allocator + Copy> Closed<'a, A> {
         }
     }
 
-    /// These groups and one more, which has no fault.
-    pub fn with(self, group: Group<'a, A>) -> Result<Self, InfoFault>
+    /// These groups and one more, which has no fault, and a list for what is given in the next group.
+    pub fn with(
+        self,
+        alloc: A,
+        group: Group<'a, A>,
+    ) -> Result<(Self, Vec<Assignment<'a>, A>), InfoFault>
         requires { closing_fault self group.kind (map assignment_seen group.given.items) ≡ None }
-        ensures { Gives (λ c. c) result (Ok (self.entry ++ group_seen group.entry ∷ [])) }
+        ensures { Gives (λ c. c.0) result (Ok (self.entry ++ group_seen group.entry ∷ [])) }
     {
         let Closed {
             groups,
@@ -175,15 +182,16 @@ impl<'a, A: Allocator + Copy> Closed<'a, A> {
         add_range(&mut ranges, &mut ranged, range)?;
         mark_segment(&mut segmented, &group)?;
         let groups = groups.with(&group);
-        keep(&mut kept, group)?;
-        Ok(Closed {
+        let spare = keep(alloc, &mut kept, group)?;
+        let closed = Closed {
             groups,
             kept,
             ranges,
             ranged,
             names,
             segmented,
-        })
+        };
+        Ok((closed, spare))
     }
 
     /// The ranges of the groups, in their order, and the names that they say, by address.

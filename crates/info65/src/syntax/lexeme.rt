@@ -187,6 +187,7 @@ fn character_at<'a>(line: u32, rest: &'a [u8]) -> Result<Lexeme<'a>, InfoFault>
 
 /// The token at the front of these bytes, or its fault.
 #[tactic(auto, unfolding(crate::specs::Lexemes::lexeme_at))]
+#[inline(always)]
 pub fn lexeme_at<'a>(line: u32, bytes: &'a [u8]) -> Result<Lexeme<'a>, InfoFault>
     requires { 0 < length bytes.now }
     ensures value { Sees lexeme_seen result (lexeme_at line bytes.entry.now) }

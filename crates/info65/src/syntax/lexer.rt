@@ -49,6 +49,8 @@ impl<'a> Lexer<'a> {
 
     /// The next token, or the end and its line: the end of a file has the line that follows its last line
     /// feed. A fault stays.
+    // A caller that wants one kind of token makes no other, since this is inlined.
+    #[inline(always)]
     pub(crate) fn next(&mut self) -> Result<Next<'a>, InfoFault>
         ensures { Steps self.old result self.new }
     {
@@ -81,12 +83,14 @@ impl<'a> Lexer<'a> {
     }
 }
 
+#[inline(always)]
 fn is_blank(byte: u8) -> bool
     ensures { result ≡ is_blank byte }
 {
     byte == b' ' || byte == b'\t' || byte == b'\r'
 }
 
+#[inline(always)]
 fn opens_comment(bytes: &[u8]) -> bool
     requires { 0 < length bytes.now }
     ensures { result ≡ opens_comment bytes.now }
@@ -109,6 +113,7 @@ fn after_comment(bytes: &[u8]) -> &[u8]
 }
 
 // What is left after blanks and comments, and its line.
+#[inline(always)]
 fn after_blanks(bytes: &[u8], first_line: u32) -> (&[u8], u32)
     requires { first_line + length bytes.now < 2 ^ 32 }
     ensures tokens { tokens_of result.1 result.0.now ≡ tokens_of first_line bytes.now }

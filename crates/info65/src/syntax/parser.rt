@@ -36,6 +36,8 @@ pub fn read_groups<'a, A: Allocator + Copy, B: Allocator>(
 {
     let mut lexer = Lexer::new(bytes);
     let mut groups = Closed::new(alloc, bytes.len())?;
+    // One list for what is given in each group: that of most groups is not read again.
+    let mut spare = Vec::new(alloc);
     let mut after_group = false;
     'groups: loop {
         match lexer.next()? {
@@ -44,8 +46,10 @@ pub fn read_groups<'a, A: Allocator + Copy, B: Allocator>(
                 if after_group && is_semicolon(token.kind) {
                     after_group = false;
                 } else {
-                    let next = group(alloc, options, &mut lexer, &groups, token)?;
-                    groups = groups.with(next)?;
+                    let next = group(options, &mut lexer, &groups, token, spare)?;
+                    let (more, list) = groups.with(alloc, next)?;
+                    groups = more;
+                    spare = list;
                     after_group = true;
                 }
             }
@@ -66,6 +70,7 @@ fn expected(line: u32) -> InfoFault
 }
 
 // The token that is due.
+#[inline(always)]
 fn due<'a>(lexer: &mut Lexer<'a>) -> Result<Token<'a>, InfoFault>
     ensures shorter { length lexer.new.tokens ≤ length lexer.old.tokens }
     ensures ok { IfOk result (λ t. lexer.old ≡ with_token (seen t) lexer.new) }
@@ -77,13 +82,13 @@ fn due<'a>(lexer: &mut Lexer<'a>) -> Result<Token<'a>, InfoFault>
     }
 }
 
-// A group after those before it, of which this token is the name.
+// A group after those before it, of which this token is the name. What is given in it replaces what the list has.
 fn group<'a, A: Allocator + Copy, B: Allocator>(
-    alloc: A,
     options: &Options<B>,
     lexer: &mut Lexer<'a>,
     before: &Closed<'a, A>,
     name: Token<'a>,
+    list: Vec<Assignment<'a>, A>,
 ) -> Result<Group<'a, A>, InfoFault>
     ensures closes { IfOk result (λ g. closing_fault before.now g.kind (map assignment_seen g.given.items) ≡ None) }
     ensures read { ReadsGroup options.now before.now (read_token options.now outside before.now (seen name.entry) lexer.old) result lexer.new }
@@ -91,7 +96,7 @@ fn group<'a, A: Allocator + Copy, B: Allocator>(
 {
     let kind = group_kind(name)?;
     brace(lexer)?;
-    attributes(alloc, options, lexer, before, kind)
+    attributes(options, lexer, before, kind, list)
 }
 
 fn group_kind(name: Token) -> Result<GroupKind, InfoFault>
@@ -160,19 +165,20 @@ fn value_at<'a, A: Allocator + Copy, B: Allocator>(
     }
 }
 
-// What is given in a group, up to its closing brace.
+// What is given in a group, up to its closing brace. It replaces what the list has.
 fn attributes<'a, A: Allocator + Copy, B: Allocator>(
-    alloc: A,
     options: &Options<B>,
     lexer: &mut Lexer<'a>,
     before: &Closed<'a, A>,
     kind: GroupKind,
+    list: Vec<Assignment<'a>, A>,
 ) -> Result<Group<'a, A>, InfoFault>
     ensures closes { IfOk result (λ g. closing_fault before.now g.kind (map assignment_seen g.given.items) ≡ None) }
     ensures read { ReadsGroup options.now before.now (read options.now (inside kind []) before.now lexer.old) result lexer.new }
     ensures shorter { length lexer.new.tokens ≤ length lexer.old.tokens }
 {
-    let mut given = Vec::new(alloc);
+    let mut given = list;
+    given.clear();
     'attributes: loop {
         let name = due(lexer)?;
         match name.kind {

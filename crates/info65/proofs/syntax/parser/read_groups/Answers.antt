@@ -47,5 +47,5 @@ groups-preserved g c =
     let mark = is_semicolon (kind_seen c.in-Token.token.kind) in
     let other : (c.groups.after_group && mark) ≡ false = elim c.else-after_group.branch [ else-after_group-via-then-after_group+else-is_semicolon w ↦ and_right c.groups.after_group mark (sym w.is_semicolon.ensures ∙ w.if-is_semicolon.false) | else-after_group-via-else-after_group w ↦ and_left c.groups.after_group mark w.if-after_group.false ] in
     let said = c.in_ok-next-in-Token.ensures.read in
-    let pushed = sym (same_ok c.in_ok-groups-in-Token.ensures) in
+    let pushed = sym (same_ok c.in_ok-more-in-Token.ensures) in
     ap (λ l. read o closed l c.group.new.lexer) pushed ∙ sym said ∙ sym (between_group o c.groups.after_group c.groups.groups _ _ _ at other) ∙ c.groups.invariant

@@ -21,12 +21,12 @@ with_optional-requires g c =
 pub add_range-requires : goal.add_range-requires
 add_range-requires g c = some_ordered (group_seen c.args.group) c.range_part-range.result c.range_part-range.ensures
 
-pub invariant_of-result : goal.invariant_of-result
-invariant_of-result g c =
+pub invariant_of-closed : goal.invariant_of-closed
+invariant_of-closed g c =
     let gs : List GroupView = c.self.inside.groups in
     let one = group_seen c.args.group in
     rw c.with-groups.ensures (record {
-      again = c.in_ok-keep.ensures.done ∙ ap (λ l. l ++ kept_part one) c.self.invariant.again ∙ sym (kept_more gs one);
+      again = c.in_ok-spare.ensures.done ∙ ap (λ l. l ++ kept_part one) c.self.invariant.again ∙ sym (kept_more gs one);
       said = c.in_ok-add_range.ensures.done ∙ ap₂ (λ (x y : List RangeSpec). x ++ y) c.self.invariant.said c.range_part-range.ensures ∙ sym (ranges_more gs one);
       named = sym (same_ok c.in_ok-names.ensures) ∙ ap₂ (λ (x y : List NameView). x ++ y) c.self.invariant.named (rw c.as_slice.ensures.value at c.name_part-name.ensures) ∙ sym (names_more gs one);
       ranged = c.in_ok-add_range.ensures.marked one c.range_part-range.ensures gs c.self.invariant.ranged;
