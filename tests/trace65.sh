@@ -1,6 +1,6 @@
 #!/usr/bin/env bash
 # trace65 on real files: its messages, what it proposes, and that da65 lists each image with what it proposes, and as65 gives the image
-# back.
+# back. The programs of tests/moves go through ca65 and ld65 at two addresses: without these it fails, unless CA65=skip is set.
 # Usage: tests/trace65.sh TRACE65 DA65 AS65
 set -u
 program=$(realpath "$1")
@@ -447,6 +447,60 @@ for seed in $(seq 20); do
     mnemonics both.s >got.txt
     same "instructions of random program $seed" got.txt wanted.txt
 done
+
+# ---- programs at two addresses
+
+# linked NAME START IMAGE WORD..: ca65, with these words, and ld65 make the image of the program at the start.
+linked() {
+    local name=$1 start=$2 image=$3
+    shift 3
+    ca65 -t none "$@" -o program.o "$root/tests/moves/$name.s" &&
+        ld65 -t none -S "$start" -D __STACKSTART__=0x10800 -o "$image" program.o || fails "$name" 'not linked'
+}
+
+# shows NAME START: what is proposed for the program at the start, without plain comments, and its listing with that are the program's text.
+shows() {
+    linked "$1" "$2" program.bin
+    rm -f program.info
+    "$program" -S "$2" -o program.info program.bin && "$da65" -S "$2" -i program.info -o program.s program.bin ||
+        fails "$1" 'not listed'
+    { grep -v '^# ' program.info; sed '1,/\.setcpu/d' program.s; } >program.txt
+    same "$1" program.txt "$root/tests/moves/$1.txt"
+}
+
+# moves NAME START EDIT DIFFERS WORD..: that listing, edited by this script of sed, is the program at the start, but for these bytes.
+moves() {
+    local name=$1 start=$2 edit=$3 differs=$4
+    shift 4
+    linked "$name" "$start" moved.bin "$@"
+    sed "$edit" program.s >moved.s
+    "$as65" -S "$start" --compare moved.bin moved.s >moved.txt
+    holds "$name" moved.txt "$differs"
+}
+
+if [ "${CA65-}" = skip ]; then
+    echo 'trace65: programs at two addresses are left out, since CA65=skip is set'
+elif ! { command -v ca65 && command -v ld65; } >/dev/null; then
+    fails 'programs at two addresses' 'ca65 and ld65 are not there: install cc65, or set CA65=skip'
+else
+    # A label at what halves lead to does not change them: they follow by hand.
+    shows halves 0x1000
+    moves halves 0x2345 '' '$2346: 52 -> 0D, line 5: lda     #$0D\n$234A: 23 -> 10, line 7: lda     #$10\n'
+    moves halves 0x2345 's/#\$0D/#<L100D/; s/#\$10/#>L100D/' ''
+    shows row 0x1000
+    moves row 0x2345 '' ''
+    # The code moves by eight bytes: a line of filler goes.
+    shows vectors 0xFFC0
+    moves vectors 0xFFC0 's/^LFFC0:/        .res 8,$EA\n&/; 0,/$FF,$FF,$FF,$FF/ { //d }' '' -D GAP=8
+    shows filler 0x1000
+    moves filler 0x2345 '' ''
+    # Labels after the image are constants: their lines say where they lie.
+    shows variables 0x1000
+    moves variables 0x2345 '' '$2348: 51 23 -> 0C 10, line 9: sta     L100C\n$234B: 52 23 -> 0D 10, line 10: sta     L100D,x\n$234E: 51 23 -> 0C 10, line 11: inc     L100C\n'
+    moves variables 0x2345 's/:= \$100C/:= $2351/; s/:= \$100D/:= $2352/' ''
+    shows routine 0x1000
+    moves routine 0x2345 '' ''
+fi
 
 [ "$failed" = 0 ] && echo 'trace65: it proposes what it should, and each image comes back'
 exit "$failed"
