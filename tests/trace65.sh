@@ -189,6 +189,30 @@ proposes 'vectors' 'FFF6-FFF6 ByteTable;FFFA-FFFF AddrTable;' vectors.bin
 proposes 'the monitor with its information file' 'FE3B-FE42 ByteTable;FEA0-FEC1 ByteTable;FEC8-FED6 ByteTable;FFDF-FFF9 ByteTable;' --plain -i examples/board/board.info
 proposes 'and with these routines as entries' 'FFDF-FFF9 ByteTable;' --plain -i examples/board/board.info --entry 0xFE3B,0xFEA0,0xFEAB,0xFED0
 
+# ---- what is given at the wrong place
+
+# misplaced NAME WANTED WORD..: exactly these entries and ranges are said to be at the wrong place.
+misplaced() {
+    local name=$1 wanted=$2 got
+    shift 2
+    got=$("$program" "$@" | sed -nE 's/^# ((entry|range) .*)$/\1/p' | tr '\n' ';')
+    [ "$got" = "$wanted" ] || fails "$name" "misplaced: $got"
+}
+
+# lda $1234; nop; rts
+image operand.bin '\xad\x34\x12\xea\x60'
+misplaced 'entries right outside of the image' 'entry $0FFF is outside the image;entry $1005 is outside the image;' -S 0x1000 --entry 0x0fff,0x1000,0x1004,0x1005 operand.bin
+misplaced 'both operands, and the instruction after them' 'entry $1001 is inside the instruction at $1000;entry $1002 is inside the instruction at $1000;' \
+    -S 0x1000 --entry 0x1001,0x1002,0x1003 operand.bin
+# lda $adad; nop; rts; and from the second and the third byte on lda again
+image deep.bin '\xad\xad\xad\xea\x60'
+misplaced 'a byte of two instructions' 'entry $1002 is inside the instruction at $1001;entry $1001 is inside the instruction at $1000;' \
+    -S 0x1000 --entry 0x1002,0x1001 deep.bin
+image wrong.info '#: ENTRY { ADDR $1006; };\nRANGE { START $0F00; END $0FFF; TYPE ByteTable; };\nRANGE { START $1005; END $1005; TYPE ByteTable; };\n'
+misplaced 'an entry of the file and ranges' 'entry $1006 is outside the image;range $0F00-$0FFF is outside the image;range $1005-$1005 is outside the image;' -S 0x1000 -i wrong.info operand.bin
+image wrong.info 'RANGE { START $0F00; END $1000; TYPE Code; };\nRANGE { START $1004; END $2000; TYPE Code; };\n'
+misplaced 'ranges with a byte of the image' 'entry $0F00 is outside the image;' -S 0x1000 -i wrong.info --entry 0xf00 operand.bin
+
 # ---- sound beginnings
 
 # rts; lda #1; sta $0200; inx; rts
@@ -420,6 +444,7 @@ comes_back 'an information file before it' 0x1000 table.bin -i table.info
 image comment.info 'LABEL { ADDR $1005; NAME "text"; }; # a comment that is not ended'
 comes_back 'an information file that ends within a comment' 0x1000 loads.bin -i comment.info
 comes_back 'the monitor of the board' 0xFC00 examples/board/monitor.bin
+comes_back 'entries at wrong places' 0x1000 operand.bin --entry 0xfff,0x1001 -i wrong.info
 comes_back 'a pair, labels and variables' 0x1000 far.bin
 comes_back 'vectors' 0xFFF6 half.bin
 comes_back 'a row of words' 0x1000 rows.bin --entry 0x1007,0x100b

@@ -39,3 +39,12 @@ comments-between first more counts rows old a b now one two three =
     let B : List ℕ = comment_line more in
     let last : flat_map comment_line (rows ++ counts ∷ []) ≡ R ++ C = flat_map-append comment_line rows (counts ∷ []) ∙ ap (λ l. R ++ l) (append-nil C) in
     after-three old a b now (A ++ B) R C one two three ∙ ap (λ l. old ++ l) (append_assoc A B (R ++ C)) ∙ ap (λ l. old ++ (A ++ (B ++ l))) (sym last)
+
+-- comments after a first part, and then more of them
+pub comments-on : (first : List ℕ) (rows more : List (List ℕ)) (old a now : List ℕ)
+    → a ≡ old ++ (first ++ flat_map comment_line rows) → now ≡ a ++ flat_map comment_line more
+    → now ≡ old ++ (first ++ flat_map comment_line (rows ++ more))
+comments-on first rows more old a now one two =
+    let R : List ℕ = flat_map comment_line rows in
+    let M : List ℕ = flat_map comment_line more in
+    after-two old a now (first ++ R) M one two ∙ ap (λ l. old ++ l) (append_assoc first R M ∙ ap (λ l. first ++ l) (sym (flat_map-append comment_line rows more)))

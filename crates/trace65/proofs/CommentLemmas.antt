@@ -1,7 +1,7 @@
 -- No line ends within a comment.
 use Rattle.std.proofs.Common.{◌≡◌, ◌∙◌, ◌+◌, ◌-◌, ◌*◌, ◌/◌, ◌%◌, ◌<◌, ◌≤◌, ℕ, Bool, true, false, not, List, [], ◌∷◌, ◌++◌, ap, arith, length, map, nat_lt, refl}
 use Rattle.std.specs.Prelude.{◌==◌, ◌&&◌, ◌||◌, Option, Some, None, codes, decimal, nat_le, if◌then◌else◌}
-use Rattle.std.specs.List.{list_all, list_any, range_with_len}
+use Rattle.std.specs.List.{flat_map, list_all, list_any, range_with_len}
 use Rattle.std.specs.Char.{digit_value, is_ascii_alphabetic}
 use Rattle.std.specs.Str.Parse.{AllDigits}
 use Rattle.std.proofs.lemmas.Bool.{and_parts, ltb-true}
@@ -14,12 +14,14 @@ use Rattle.text65.specs.Names.{has_name_form, is_word_byte}
 use Rattle.info65.proofs.Public.{last_name}
 use Rattle.info65.specs.Names.{AreNames, blank_name, covering, name_at}
 use Rattle.info65.specs.Views.{NameView}
+use Rattle.info65.specs.declared.information.range.RangeSpec.{RangeSpec}
 use Rattle.info65.specs.declared.tags.tag.Tag.{Tag}
 use Rattle.trace65.specs.Said.{has_after}
-use Rattle.map65.specs.ImageView.{ImageView, end_of}
+use Rattle.map65.specs.ImageView.{ImageView, end_of, is_inside}
 use Rattle.map65.specs.MapView.{MapView}
 use Rattle.reach65.specs.TextLaws.{AreLines, is_line}
 use Rattle.reach65.specs.declared.pairs.Pair.{Pair}
+use Rattle.trace65.specs.Misplaced.{entry_comments, holder_of, inside_comment, inside_comments, is_outside, misplaced_comments, outside_comment, range_comment, range_comments}
 use Rattle.trace65.specs.PairComments.{after_comments, name_text, new_after, offset_text, pair_comment, pair_comments}
 use Rattle.trace65.specs.Picture.{cell_at, cell_character, counts_comment, part, picture_comments, row_at, row_comment, set_count}
 
@@ -103,7 +105,7 @@ pair-lines : (m : MapView) (pairs : List Pair) → AreNames m.info.names → Are
 pair-lines m [] are = tt
 pair-lines m (p ∷ ps) are = (pair-line m p are, pair-lines m ps are)
 
-lines-joined : (ls ms : List (List ℕ)) → AreLines ls → AreLines ms → AreLines (ls ++ ms)
+pub lines-joined : (ls ms : List (List ℕ)) → AreLines ls → AreLines ms → AreLines (ls ++ ms)
 lines-joined [] ms first second = second
 lines-joined (l ∷ ls) ms first second = (first.0, lines-joined ls ms first.1 second)
 
@@ -125,6 +127,42 @@ new-lines tags image last = by_test (has_after tags)
 
 pub found-lines : (m : MapView) (tags : List Tag) (pairs : List Pair) (last : ℕ) → AreNames m.info.names → AreLines (pair_comments m pairs ++ new_after tags m.image last)
 found-lines m tags pairs last are = lines-joined (pair_comments m pairs) (new_after tags m.image last) (pair-lines m pairs are) (new-lines tags m.image last)
+
+-- ---- what counts for nothing
+
+all-lines : {A : Type 0} (f : A → List (List ℕ)) → ((a : A) → AreLines (f a)) → (xs : List A) → AreLines (flat_map f xs)
+all-lines f each [] = tt
+all-lines f each (x ∷ xs) = lines-joined (f x) (flat_map f xs) (each x) (all-lines f each xs)
+
+inside-lines : (a : ℕ) (o : Option ℕ) → AreLines (inside_comments a o)
+unfolding inside_comment
+inside-lines a None = tt
+inside-lines a (Some b) =
+    (joined (digits4 a) (codes " is inside the instruction at $" ++ digits4 b) (hex4-line a) (hex4-line b), tt)
+
+entry-lines : (m : MapView) (marks : List Bool) (a : ℕ) → AreLines (entry_comments m marks a)
+unfolding entry_comments outside_comment
+entry-lines m marks a = by_test (is_inside m.image a)
+  where
+    by_test : (x : Bool) → AreLines (if x then inside_comments a (holder_of m marks a) else outside_comment a ∷ [])
+    by_test true = inside-lines a (holder_of m marks a)
+    by_test false = (joined (digits4 a) (codes " is outside the image") (hex4-line a) refl, tt)
+
+outside-lines : (image : ImageView) (r : RangeSpec) → AreLines (range_comments image r)
+unfolding range_comments range_comment
+outside-lines image r = by_test (is_outside image r)
+  where
+    by_test : (x : Bool) → AreLines (if x then range_comment r ∷ [] else [])
+    by_test true =
+        (joined (digits4 r.first) (codes "-$" ++ (digits4 r.last ++ codes " is outside the image")) (hex4-line r.first) (joined (digits4 r.last) (codes " is outside the image") (hex4-line r.last) refl), tt)
+    by_test false = tt
+
+pub misplaced-lines : (m : MapView) (marks : List Bool) (entries : List ℕ) → AreLines (misplaced_comments m marks entries)
+misplaced-lines m marks entries =
+    lines-joined (flat_map (entry_comments m marks) entries) (flat_map (range_comments m.image) m.info.ranges)
+    (all-lines (entry_comments m marks) (entry-lines m marks) entries) (all-lines (range_comments m.image) (outside-lines m.image) m.info.ranges)
+
+-- ---- the picture
 
 cell-line : (code taken : List Bool) → in_line (cell_character code taken) ≡ true
 unfolding cell_character

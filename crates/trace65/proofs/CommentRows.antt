@@ -1,9 +1,14 @@
 -- Comments, held against published bytes.
-use Rattle.std.proofs.Common.{◌≡◌, true, false, [], ◌∷◌, None, refl}
+use Rattle.std.proofs.Common.{◌≡◌, Bool, true, false, ℕ, List, [], ◌∷◌, None, refl}
 use Rattle.std.specs.Prelude.{codes}
 use Rattle.info65.specs.Names.{covering, covering_below}
 use Rattle.info65.specs.Views.{default_settings}
+use Rattle.info65.specs.declared.information.range.RangeType.TheVariants as role
 use Rattle.map65.specs.MapView.{MapView}
+use Rattle.map65.specs.Roles.{role_at, role_in}
+use Rattle.reach65.specs.Flow.{instruction_at}
+use Rattle.reach65.specs.Taken.{has_byte, is_of_code}
+use Rattle.trace65.specs.Misplaced.{entry_comments, holder_of, holds, inside_comment, is_outside, outside_comment, range_comment, range_comments}
 use Rattle.trace65.specs.PairComments.{after_comments, last_wanted, name_text, offset_text, pair_comment}
 use Rattle.trace65.specs.Picture.{cell_character, picture_comments, row_comment}
 
@@ -59,3 +64,63 @@ first_after = refl
 none_after : after_comments a_map.image (last_wanted (record { low = 0x1001; high = 0x1003; address = 0x1005; rank = 1 } ∷ []) []) ≡ []
 unfolding after_comments last_wanted
 none_after = refl
+
+-- ---- what counts for nothing
+
+-- these bytes from $0000 on, without an information file
+abbrev pub bytes_map : List ℕ → MapView
+bytes_map bytes = record {
+  info = record { settings = default_settings; ranges = []; segments = []; names = []; includes = [] };
+  image = record { start = 0; bytes = bytes };
+}
+
+-- lda $1234; nop; rts: all are reached
+abbrev pub operands : MapView
+operands = bytes_map (0xAD ∷ 0x34 ∷ 0x12 ∷ 0xEA ∷ 0x60 ∷ [])
+
+abbrev pub reached : List Bool
+reached = true ∷ false ∷ false ∷ true ∷ true ∷ []
+
+inside_first : entry_comments operands reached 0x0001 ≡ codes " entry $0001 is inside the instruction at $0000" ∷ []
+unfolding entry_comments has_byte holder_of holds inside_comment instruction_at is_of_code role_at role_in
+inside_first = refl
+
+inside_last : entry_comments operands reached 0x0002 ≡ codes " entry $0002 is inside the instruction at $0000" ∷ []
+unfolding entry_comments has_byte holder_of holds inside_comment instruction_at is_of_code role_at role_in
+inside_last = refl
+
+begins : entry_comments operands reached 0x0000 ≡ []
+unfolding entry_comments has_byte holder_of holds instruction_at is_of_code role_at role_in
+begins = refl
+
+begins_next : entry_comments operands reached 0x0003 ≡ []
+unfolding entry_comments has_byte holder_of holds instruction_at is_of_code role_at role_in
+begins_next = refl
+
+not_reached : entry_comments operands (false ∷ false ∷ false ∷ true ∷ true ∷ []) 0x0001 ≡ []
+unfolding entry_comments has_byte holder_of holds instruction_at is_of_code role_at role_in
+not_reached = refl
+
+last_byte : entry_comments operands reached 0x0004 ≡ []
+unfolding entry_comments has_byte holder_of holds instruction_at is_of_code role_at role_in
+last_byte = refl
+
+past_end : entry_comments operands reached 0x0005 ≡ codes " entry $0005 is outside the image" ∷ []
+unfolding entry_comments outside_comment
+past_end = refl
+
+range_past_end : range_comments operands.image (record { first = 0x0005; last = 0x0010; role = role.ByteTable }) ≡ codes " range $0005-$0010 is outside the image" ∷ []
+unfolding is_outside range_comment range_comments
+range_past_end = refl
+
+range_of_last : range_comments operands.image (record { first = 0x0004; last = 0x0010; role = role.ByteTable }) ≡ []
+unfolding is_outside range_comments
+range_of_last = refl
+
+range_before : range_comments a_map.image (record { first = 0x0F00; last = 0x0FFF; role = role.Code }) ≡ codes " range $0F00-$0FFF is outside the image" ∷ []
+unfolding is_outside range_comment range_comments
+range_before = refl
+
+range_of_first : range_comments a_map.image (record { first = 0x0F00; last = 0x1000; role = role.Code }) ≡ []
+unfolding is_outside range_comments
+range_of_first = refl

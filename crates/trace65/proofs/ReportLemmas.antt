@@ -10,9 +10,10 @@ use Rattle.reach65.specs.RangeLines.{range_lines}
 use Rattle.reach65.specs.TextLaws.{IsProposal, TextLaw, comment_line}
 use Rattle.trace65.specs.Findings.{AreFindings, Findings}
 use Rattle.trace65.specs.PairComments.{last_wanted}
+use Rattle.trace65.specs.Misplaced.{misplaced_comments}
 use Rattle.trace65.specs.Picture.{image_marks}
-use Rattle.trace65.specs.Report.{IsAccepted, found_comments, legend, picture_and_counts, report_text}
-use Rattle.trace65.proofs.CommentLemmas.{found-lines, picture-lines}
+use Rattle.trace65.specs.Report.{IsAccepted, comments_before, found_comments, legend, legend_more, picture_and_counts, report_text}
+use Rattle.trace65.proofs.CommentLemmas.{found-lines, lines-joined, misplaced-lines, picture-lines}
 
 few-marks : (image : ImageView) (marks : List Bool) → IsPlaced image → length (image_marks image marks) ≤ 65536
 few-marks image marks placed = omega (arith, placed.room, length-take (length image.bytes) (drop image.start marks))
@@ -20,13 +21,20 @@ few-marks image marks placed = omega (arith, placed.room, length-take (length im
 proposal : (m : MapView) (tags : List Tag) (f : Findings) → IsSoundMap m → IsProposal m.image f.ranges f.labels (report_text m tags f)
 unfolding report_text
 proposal m tags f sound =
-    let comments : List (List ℕ) = picture_and_counts m.image.start (image_marks m.image f.code) (image_marks m.image f.taken) in
+    let code : List Bool = image_marks m.image f.code in
+    let taken : List Bool = image_marks m.image f.taken in
+    let comments : List (List ℕ) = comments_before m f in
     record {
       first = legend;
       before = comments;
       after = found_comments m tags f;
       parts = append_assoc (comment_line legend) (flat_map comment_line comments) (range_lines m.image f.ranges ++ (label_lines f.labels ++ flat_map comment_line (found_comments m tags f)));
-      lines = (refl, (refl, picture-lines m.image.start (image_marks m.image f.code) (image_marks m.image f.taken) (few-marks m.image f.code sound.placed) (few-marks m.image f.taken sound.placed)));
+      lines = (
+        refl,
+        lines-joined (picture_and_counts m.image.start code taken) (misplaced_comments m f.reached f.entries)
+            (refl, picture-lines m.image.start code taken (few-marks m.image f.code sound.placed) (few-marks m.image f.taken sound.placed))
+            (misplaced-lines m f.reached f.entries),
+      );
       last_lines = found-lines m tags f.pairs (last_wanted f.pairs f.variables) sound.names;
     }
 

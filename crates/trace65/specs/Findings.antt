@@ -20,9 +20,10 @@ use Rattle.reach65.specs.Vectors.{is_of_vector}
 use Rattle.reach65.specs.declared.pairs.Pair.{Pair}
 use Rattle.trace65.specs.Said.{entries_said}
 
--- Marks, one for each address: where a reached instruction begins, what it has, what it goes on to and calls, what it has as its operand, what that or
+-- The entries that are given. Marks, one for each address: where a reached instruction begins, what it has, what it goes on to and calls, what it has as its operand, what that or
 -- a range of the information file has, and what words that are addresses have. And what is proposed: ranges, pairs of halves, variables right after the image, and labels.
 pub record Findings : Type 0 where
+  pub entries : List ℕ
   pub reached : List Bool
   pub code : List Bool
   pub gone_on : List Bool
@@ -60,7 +61,8 @@ pub record AreWordMarks (image : ImageView) (code : CodeMarks) (taken words : Li
 
 -- what is found from the entries that are given and those of the information file and the image, beside what its groups `#: ..` say
 pub record AreFindings (m : MapView) (given : List ℕ) (plain : Bool) (tags : List Tag) (f : Findings) : Type 0 where
-  pub reached : AreTraced m (given ++ entries_said tags) plain f.reached
+  pub entries : f.entries ≡ given ++ entries_said tags
+  pub reached : AreTraced m f.entries plain f.reached
   pub code : AreMarkedBy (is_code m f.reached) f.code
   pub gone_on : AreMarkedBy (is_gone_on m f.reached) f.gone_on
   pub called : AreMarkedBy (is_called m f.reached) f.called

@@ -9,6 +9,7 @@ use Rattle.reach65.specs.RangeLines.{range_lines}
 use Rattle.reach65.specs.Labels.{label_lines}
 use Rattle.reach65.specs.TextLaws.{AreAmong, comment_line, with_found}
 use Rattle.trace65.specs.Findings.{AreFindings, Findings}
+use Rattle.trace65.specs.Misplaced.{misplaced_comments}
 use Rattle.trace65.specs.PairComments.{last_wanted, new_after, pair_comments}
 use Rattle.trace65.specs.Picture.{counts_comment, image_marks, picture_comments}
 
@@ -19,18 +20,23 @@ legend = codes " a character for 64 bytes: # code that is reached, + partly,"
 abbrev pub legend_more : List ℕ
 legend_more = codes " r in a range of the information file, . neither"
 
--- the comments after the first one: the picture, and the counts
+-- the picture, and the counts
 abbrev pub picture_and_counts : ℕ → List Bool → List Bool → List (List ℕ)
 picture_and_counts start code taken = legend_more ∷ (picture_comments start code taken ++ counts_comment code taken ∷ [])
+
+-- the comments after the first one: those, and what is given where it counts for nothing
+abbrev pub comments_before : MapView → Findings → List (List ℕ)
+comments_before m f =
+    picture_and_counts m.image.start (image_marks m.image f.code) (image_marks m.image f.taken) ++ misplaced_comments m f.reached f.entries
 
 -- a comment for each pair, and one for what lies after the image
 abbrev pub found_comments : MapView → List Tag → Findings → List (List ℕ)
 found_comments m tags f = pair_comments m f.pairs ++ new_after tags m.image (last_wanted f.pairs f.variables)
 
--- The picture and the counts as comments, a line for each range that is proposed and for each label, and the comments `#: ..`.
+-- The picture, the counts and what counts for nothing as comments, a line for each range that is proposed and for each label, and the comments `#: ..`.
 unfoldable pub report_text : MapView → List Tag → Findings → List ℕ
 report_text m tags f =
-    (comment_line legend ++ flat_map comment_line (picture_and_counts m.image.start (image_marks m.image f.code) (image_marks m.image f.taken)))
+    (comment_line legend ++ flat_map comment_line (comments_before m f))
     ++ (range_lines m.image f.ranges ++ (label_lines f.labels ++ flat_map comment_line (found_comments m tags f)))
 
 -- After an information file that is accepted, and that has the ranges of the map and of its names, the text is accepted, and adds these ranges, and

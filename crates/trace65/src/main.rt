@@ -12,6 +12,7 @@ mod digits;
 mod failure;
 mod information;
 mod labels;
+mod misplaced;
 mod pair_comments;
 mod part;
 mod picture;

@@ -5,9 +5,10 @@ ghost use Rattle.reach65.specs.Pairs.{pairs_of};
 ghost use Rattle.reach65.specs.Pieces.{LieIn};
 ghost use Rattle.reach65.specs.TextLaws.{comment_line};
 ghost use Rattle.trace65.specs.Findings.{AreFindings, ArePairs, AreTraced, AreWordMarks};
-ghost use Rattle.trace65.specs.Report.{IsReport, found_comments, legend, legend_more, picture_and_counts, report_text};
+ghost use Rattle.trace65.specs.Report.{IsReport, comments_before, found_comments, legend, legend_more, picture_and_counts, report_text};
 
 use crate::labels::put_labels;
+use crate::misplaced::put_misplaced;
 use crate::pair_comments::{put_after, put_pairs};
 use crate::picture::{image_marks, put_counts, put_picture};
 use crate::ranges::put_ranges;
@@ -23,10 +24,11 @@ use reach65::{
 use std::alloc::{AllocError, Global};
 use std::marker::Model;
 
-/// What is found of an image: marks of where reached instructions begin, of what they have, go on to, call and have as operands, of what they or
+/// What is found of an image: the entries that are given; marks of where reached instructions begin, of what they have, go on to, call and have as operands, of what they or
 /// ranges of the information file have, and of words that are addresses; and the ranges, the pairs of halves, the variables and the labels that are proposed.
 #[derive(Drop)]
 struct Findings {
+    entries: Vec<u16>,
     reached: Vec<bool>,
     code: Vec<bool>,
     gone_on: Vec<bool>,
@@ -46,6 +48,7 @@ impl Model for Findings {
     ghost Value = { Findings };
 
     ghost view = { λ f. record {
+      entries = f.entries.items;
       reached = f.reached.items;
       code = f.code.items;
       gone_on = f.gone_on.items;
@@ -123,9 +126,11 @@ fn search_image(
 ) -> Result<Findings, AllocError>
     ensures found { IfOk result (λ f. AreFindings map.now given.now plain tags.now f) }
     ensures inside { IfOk result (λ f. LieIn map.now.image f.ranges) }
+    ensures count { IfOk result (λ f. length f.reached ≡ 65536) }
 {
     let flow = Flow::new(map);
-    let reached = reached_from(alloc, &flow, &all_entries(alloc, given, tags)?, plain)?;
+    let entries = all_entries(alloc, given, tags)?;
+    let reached = reached_from(alloc, &flow, &entries, plain)?;
     let code = mark_instructions(alloc, &flow, &reached)?;
     let gone_on = mark_gone_on(alloc, &flow, &reached)?;
     let called = mark_called(alloc, &flow, &reached)?;
@@ -138,6 +143,7 @@ fn search_image(
     let variables = variables_of(alloc, map.image(), &operands)?;
     let labels = labels_of(alloc, map.info(), &pairs, &variables)?;
     Ok(Findings {
+        entries,
         reached,
         code,
         gone_on,
@@ -175,6 +181,18 @@ fn put_picture_and_counts(
     put_counts(out, code, taken)
 }
 
+/// Appends the picture, the counts, and what is given where it counts for nothing.
+fn put_head(out: &mut Vec<u8>, map: &Map<'_>, found: &Findings) -> Result<(), AllocError>
+    requires { length found.now.reached ≡ 65536 }
+    ensures { OnOk result (out.new.items ≡ out.old.items ++ (comment_line legend ++ flat_map comment_line (comments_before map.now found.now))) }
+{
+    let image = map.image();
+    let code = image_marks(image, &found.code);
+    let taken = image_marks(image, &found.taken);
+    put_picture_and_counts(out, image.start(), code, taken)?;
+    put_misplaced(out, &Flow::new(map), &found.reached, &found.entries)
+}
+
 /// Appends the lines `#: ..`.
 fn put_comments(
     out: &mut Vec<u8>,
@@ -196,14 +214,12 @@ fn put_report(
     tags: &[Tag],
     found: &Findings,
 ) -> Result<(), AllocError>
-    requires { LieIn map.now.image found.now.ranges }
+    requires inside { LieIn map.now.image found.now.ranges }
+    requires count { length found.now.reached ≡ 65536 }
     ensures { OnOk result (out.new.items ≡ out.old.items ++ report_text map.now tags.now found.now) }
 {
-    let image = map.image();
-    let code = image_marks(image, &found.code);
-    let taken = image_marks(image, &found.taken);
-    put_picture_and_counts(out, image.start(), code, taken)?;
-    put_ranges(out, image, &found.ranges)?;
+    put_head(out, map, found)?;
+    put_ranges(out, map.image(), &found.ranges)?;
     put_labels(out, &found.labels)?;
     put_comments(out, map, tags, found)
 }

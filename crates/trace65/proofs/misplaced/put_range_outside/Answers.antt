@@ -1,0 +1,18 @@
+use Rattle.std.proofs.Common.{◌∷◌, ◌++◌, [], codes}
+use Rattle.std.proofs.lemmas.Result.{on_ok_weaker}
+use Rattle.text65.specs.Digits.{digits4}
+use Rattle.trace65.specs.Misplaced.{range_comment}
+use Rattle.trace65.proofs.AppendLemmas.{after-three, appended}
+use Rattle.trace65.proofs.misplaced.put_range_outside.Goals as goal
+
+pub returns : goal.returns
+unfolding range_comment
+returns c =
+    let old = c.args.out.now.items in
+    let one = c.put_address.new.out.items in
+    let two = c.put_address-2.new.out.items in
+    let end = codes " is outside the image" ++ 10 ∷ [] in
+    on_ok_weaker c.extend_from_slice.result
+    (after-three old one two c.extend_from_slice.new.self.items (codes "# range $" ++ digits4 c.args.range.first)
+    (codes "-$" ++ digits4 c.args.range.last) end c.in_ok-put_address.ensures c.in_ok-put_address-2.ensures)
+    (appended c.extend_from_slice.result c.extend_from_slice.new.self.items (two ++ end) two c.extend_from_slice.ensures.items)
