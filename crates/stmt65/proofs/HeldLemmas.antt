@@ -20,11 +20,13 @@ use Rattle.stmt65.specs.declared.directive.Directive.{Directive}
 use Rattle.stmt65.specs.declared.directive.Directive.TheVariants.{Word}
 use Rattle.stmt65.specs.Symbols.{Definition, find_name, below, address_of, lowered, value_in, is_known, word_in, is_small, is_constant, has_zero_page_size}
 use Rattle.stmt65.specs.Coding.{State, entry_limit, Fragment, Fixed, Oversized, Entry, Distance, Fill, entry_in, is_fragment_known, is_near, fragment_fits, fragment_bytes, ways, first_way, gap, coding, coding_len}
-use Rattle.stmt65.specs.Layout.{Layout, start_of}
+use Rattle.stmt65.specs.Layout.{Layout, start_of, is_before}
 use Rattle.stmt65.specs.Code.CodingViews.{PutsAll, coded_of}
 use Rattle.stmt65.specs.Code.Held.{held, held_value}
-use Rattle.stmt65.specs.Meaning.{operation_in, fragments_of, next_of, defined_by, has_unknown_cpu, has_no_form, is_undefined, is_twice, is_out_of_range, is_past_start, is_past_end, first_of, fault_of, bytes_of, after, final, initial}
+use Rattle.stmt65.specs.Meaning.{operation_in, fragments_of, next_of, defined_by, has_unknown_cpu, has_no_form, is_undefined, is_twice, is_out_of_range, is_past_start, is_past_end, first_of, fault_of, bytes_of, after, final, initial, coded, meaning_in, meaning_of, readings}
 use Rattle.stmt65.specs.Code.MeaningViews.{fragments_in, definitions_in, held_definition, IsPlaced, held_after, held_final}
+use Rattle.stmt65.specs.Code.LateViews.{Codes, held_coded}
+use Rattle.stmt65.specs.declared.language.Language.{Language}
 use Rattle.stmt65.proofs.Cases.{by_option, by_test}
 
 -- the address after a line
@@ -166,7 +168,7 @@ all_fit-held all next (f ∷ fs) = rw (fits-held all next f) (ap (λ (b : Bool).
 past-held : (n : ℕ) → ltb 65536 (held n) ≡ ltb 65536 n
 past-held n = grind (arith, nat_tests)
 
-fragments-placed : (p : Placed) (s : State) (source : SourceLine) → IsPlaced p s source → fragments_in p.coded ≡ fragments_of s source
+pub fragments-placed : (p : Placed) (s : State) (source : SourceLine) → IsPlaced p s source → fragments_in p.coded ≡ fragments_of s source
 unfolding fragments_of
 fragments-placed p s source h = ap (λ (o : Option (List Fragment)). unwrap_or o []) h.coded
 
@@ -214,14 +216,7 @@ none_fits all s source h = grind arith
 pub small_same : (n limit : ℕ) → limit ≤ 65536 → ltb limit n ≡ false → held n ≡ n
 small_same n limit h e = omega (arith, ltb-false limit n e)
 
-definitions_same : (ds : List Definition) → list_any (λ d. ltb 65535 d.value) ds ≡ false → map held_definition ds ≡ ds
-definitions_same [] h = refl
-definitions_same (d ∷ ds) h =
-    let each = or_parts (ltb 65535 d.value) (list_any (λ x. ltb 65535 x.value) ds) h in
-    let same : held d.value ≡ d.value = small_same d.value 65535 (omega arith) each.0 in
-    ap (λ (n : ℕ). record { name = d.name; value = n; constant = d.constant } ∷ map held_definition ds) same ∙ ap (λ (l : List Definition). d ∷ l) (definitions_same ds each.1)
-
-pub bytes_exact : (all : List Definition) (p : Placed) (s : State) (source : SourceLine) (answer : Bool) (old new : List ℕ) → IsPlaced p s source → None ≡ fault_of all s (Some source)
+bytes_exact : (all : List Definition) (p : Placed) (s : State) (source : SourceLine) (answer : Bool) (old new : List ℕ) → IsPlaced p s source → None ≡ fault_of all s (Some source)
     → PutsAll answer all p.next (fragments_in p.coded) old new → new ≡ old ++ bytes_of all s (Some source)
 unfolding bytes_of
 bytes_exact all p s source answer old new h none puts =
@@ -230,11 +225,10 @@ bytes_exact all p s source answer old new h none puts =
     let puts' : PutsAll answer all (next_of s source) (fragments_of s source) old new = rw (next, fragments-placed p s source h) at puts in
     rw (puts'.says ∙ fits.room) at puts'.adds
 
-pub after_exact : (all : List Definition) (s : State) (source : SourceLine) → None ≡ fault_of all s (Some source) → held_after s (Some source) ≡ after s (Some source)
-unfolding held_after after
-after_exact all s source none =
-    let fits = none_fits all s source none in
-    rw (definitions_same (defined_by s.at source) fits.values, small_same (next_of s source) 65536 (omega arith) fits.past) refl
+pub codes : (all : List Definition) (p : Placed) (s : State) (source : SourceLine) (answer : Bool) (fault : Option AsmFaultKind) (old new : List ℕ) → IsPlaced p s source → fault ≡ fault_of all s (Some source)
+    → PutsAll answer all p.next (fragments_in p.coded) old new → Codes fault all s source old new
+codes all p s source answer None old new h e puts = record { finds = e; adds = bytes_exact all p s source answer old new h e puts }
+codes all p s source answer (Some k) old new h e puts = record { finds = e; adds = tt }
 
 -- ---- a state, held
 
@@ -335,3 +329,79 @@ pub bytes-all : (all : List Definition) (s : State) (source : Option SourceLine)
 unfolding bytes_of
 bytes-all all s None = refl
 bytes-all all s (Some source) = ap (λ (f : Fragment → List ℕ). flat_map f (fragments_of s source)) (λ i f. fragment_bytes-all all (next_of s source) f i)
+
+-- ---- a line in a state that is held
+
+fragments-state : (s : State) (source : SourceLine) → fragments_of (held_state s) source ≡ fragments_of s source
+unfolding fragments_of
+fragments-state s source = rw (coding-held s (operation_in source)) refl
+
+next-state : (s : State) (source : SourceLine) → held (next_of (held_state s) source) ≡ held (next_of s source)
+unfolding next_of held_state
+next-state s source = rw (fragments-state s source) (omega arith)
+
+named-state : (p : List ℕ → Bool) (at : ℕ) (source : SourceLine) → list_any (λ d. p d.name) (defined_by (held at) source) ≡ list_any (λ d. p d.name) (defined_by at source)
+named-state p at source = sym (any_named-held p (defined_by (held at) source)) ∙ ap (list_any (λ d. p d.name)) (defined-held at source) ∙ any_named-held p (defined_by at source)
+
+twice-state : (s : State) (source : SourceLine) → is_twice (held_state s) source ≡ is_twice s source
+unfolding is_twice held_state
+twice-state s source =
+    let same : (λ (w : List ℕ). is_some (find_name w (map held_definition s.above))) ≡ (λ (w : List ℕ). is_some (find_name w s.above)) = λ i w. (ap is_some (find_name-held w s.above) ∙ is_some-map held_definition (find_name w s.above)) i in
+    ap (λ (p : List ℕ → Bool). list_any (λ d. p d.name) (defined_by (held s.at) source)) same ∙ named-state (λ w. is_some (find_name w s.above)) s.at source
+
+large-state : (at : ℕ) (source : SourceLine) → list_any (λ d. ltb 65535 d.value) (defined_by (held at) source) ≡ list_any (λ d. ltb 65535 d.value) (defined_by at source)
+large-state at source = sym (any_large-held (defined_by (held at) source)) ∙ ap (list_any (λ d. ltb 65535 d.value)) (defined-held at source) ∙ any_large-held (defined_by at source)
+
+room-state : (all : List Definition) (s : State) (source : SourceLine) → list_all (fragment_fits all (next_of (held_state s) source)) (fragments_of s source) ≡ list_all (fragment_fits all (next_of s source)) (fragments_of s source)
+room-state all s source =
+    sym (all_fit-held all (next_of (held_state s) source) (fragments_of s source)) ∙ ap (λ (n : ℕ). list_all (fragment_fits all n) (fragments_of s source)) (next-state s source)
+    ∙ all_fit-held all (next_of s source) (fragments_of s source)
+
+before-held : (at : ℕ) (o : Option ℕ) → below 65536 o ≡ o → is_before o (held at) ≡ is_before o at
+before-held at None h = refl
+before-held at (Some start) h = by_test (ltb start 65536) (λ t. grind (arith, nat_tests)) (λ t. let h' = rw t at h in absurd cc)
+
+past_start-state : (s : State) (operation : Operation) → is_past_start (held_state s) operation ≡ is_past_start s operation
+unfolding is_past_start held_state
+past_start-state s (Segment name) = before-held s.at (start_of s.layout name) (address-small (find_name name s.layout.starts))
+past_start-state s _ = refl
+
+past_end-state : (s : State) (source : SourceLine) → is_past_end (held_state s) source ≡ is_past_end s source
+unfolding is_past_end
+past_end-state s source = sym (past-held (next_of (held_state s) source)) ∙ ap (ltb 65536) (next-state s source) ∙ past-held (next_of s source)
+
+fault-state : (all : List Definition) (s : State) (source : Option SourceLine) → fault_of all (held_state s) source ≡ fault_of all s source
+unfolding fault_of has_no_form is_undefined is_out_of_range held_state
+fault-state all s None = refl
+fault-state all s (Some source) =
+    rw (coding-held s (operation_in source), fragments-state s source, twice-state s source, large-state s.at source, room-state all s source, past_start-state s (operation_in source), past_end-state s source) refl
+
+next-small : (s : State) (source : SourceLine) → next_of s source ≤ 65536 → next_of (held_state s) source ≡ next_of s source
+unfolding next_of held_state
+next-small s source h = rw (fragments-state s source) (omega (arith, h))
+
+bytes-state : (all : List Definition) (s : State) (source : Option SourceLine) → None ≡ fault_of all s source → bytes_of all (held_state s) source ≡ bytes_of all s source
+unfolding bytes_of
+bytes-state all s None h = refl
+bytes-state all s (Some source) h =
+    let next = next-small s source (ltb-false 65536 (next_of s source) (none_fits all s source h).past) in
+    rw (fragments-state s source, next) refl
+
+-- ---- a text, by the definitions that are held
+
+coded-held : (all : List Definition) (n : ℕ) (s : State) (ls : List (Option SourceLine)) → held_coded (map held_definition all) n (held_state s) ls ≡ coded all n s ls
+unfolding held_coded coded
+coded-held all n s [] = refl
+coded-held all n s (l ∷ ls) =
+    let same = fault-all all (held_state s) l ∙ fault-state all s l in
+    by_option (fault_of all s l)
+    (λ k e. rw (same, e) refl)
+    (λ e. rw (same, e, bytes-all all (held_state s) l, bytes-state all s l (sym e), after-held s l, coded-held all (n + 1) (after s l) ls) refl)
+
+pub meaning_held : (l : Language) (layout : Layout) (start : ℕ) (text : List ℕ) → start < 65536
+    → held_coded (held_final (initial layout start) (readings l text)).above 1 (initial layout start) (readings l text) ≡ meaning_in l layout start text
+unfolding meaning_in meaning_of
+meaning_held l layout start text h =
+    let all = (final (initial layout start) (readings l text)).above in
+    rw (definitions_held layout start (readings l text) h)
+    (ap (λ (s : State). held_coded (map held_definition all) 1 s (readings l text)) (sym (initial-held layout start h)) ∙ coded-held all 1 (initial layout start) (readings l text))

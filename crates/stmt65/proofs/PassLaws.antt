@@ -1,41 +1,46 @@
 -- What a pass has done, line after line.
-use Rattle.std.proofs.Common.{◌≡◌, ℕ, ◌+◌, ◌≤◌, List, [], ◌∷◌, ◌++◌, length, map, take, arith, length-append, Option, Some, None, refl, sym, ap, ◌∙◌, append_assoc}
-use Rattle.std.specs.Prelude.{Result, Ok, Err}
-use Rattle.std.proofs.lemmas.List.{append-nil, length-take-le, take_at}
+use Rattle.std.proofs.Common.{◌≡◌, ℕ, zero, suc, Bool, true, false, ◌+◌, ◌≤◌, List, [], ◌∷◌, ◌++◌, length, map, take, drop, get_or, ◌<◌, arith, length-append, Option, Some, None, refl, sym, ap, ◌∙◌, append_assoc, subst}
+use Rattle.std.specs.Prelude.{Result, Ok, Err, ◌&&◌, is_some, IfNone}
+use Rattle.std.specs.List.{list_all, flat_map}
+use Rattle.std.proofs.lemmas.Bool.{and_parts}
+use Rattle.std.proofs.lemmas.List.{append-nil, drop_more, take_at}
+use Rattle.std.proofs.Math.ListN.{drop_of_length-le}
+use Rattle.std.specs.Str.{bytes_eq}
+use Rattle.stmt65.specs.declared.assembling.assembler.Pass.{Pass}
+use Rattle.stmt65.specs.declared.assembling.assembler.Source.{Source}
+use Rattle.stmt65.specs.Sources.{source_meaning, source_readings, source_state}
+use Rattle.stmt65.specs.declared.assembling.late.Late.{Late}
+use Rattle.stmt65.specs.declared.assembling.late.Work.{Work}
 use Rattle.stmt65.specs.declared.assembling.fault.AsmFault.{AsmFault}
 use Rattle.stmt65.specs.declared.assembling.fault.AsmFaultKind.{AsmFaultKind}
-use Rattle.stmt65.specs.SourceLine.{SourceLine}
+use Rattle.stmt65.specs.declared.assembling.fault.AsmFaultKind.TheVariants.{Syntax}
+use Rattle.stmt65.specs.declared.assembling.state.Placed.{Placed}
+use Rattle.stmt65.specs.SourceLine.{SourceLine, Value, NumberValue, NameValue, DifferenceValue}
 use Rattle.text65.specs.Lines.{text_lines}
 use Rattle.stmt65.specs.Lexing.{parts}
 use Rattle.stmt65.specs.Reading.{reading_of}
-use Rattle.stmt65.specs.Symbols.{Definition}
-use Rattle.stmt65.specs.declared.assembling.state.State.{State as CodeState}
-use Rattle.stmt65.specs.declared.assembling.state.Placed.{Placed}
+use Rattle.stmt65.specs.Symbols.{Definition, find_name, value_in, is_known, word_in}
 use Rattle.stmt65.specs.declared.language.Language.{Language}
 use Rattle.stmt65.specs.Layout.{Layout}
-use Rattle.stmt65.specs.Coding.{State}
-use Rattle.stmt65.specs.Meaning.{after, cpu_after, operation_in, bytes_of, coded, fault_of, final, initial, meaning_in, meaning_of, readings, with_front}
-use Rattle.stmt65.specs.Code.MeaningViews.{IsPlaced, defined_in, state_of, held_after, held_definition, held_final}
-use Rattle.stmt65.proofs.HeldLemmas.{after_exact, fault-all, bytes-all}
+use Rattle.stmt65.specs.Coding.{State, Fragment, Fixed, Single, ZeroPage, Oversized, Entry, Distance, HalfOf, Fill, entry_in, is_fragment_known, fragment_fits, fragment_bytes}
+use Rattle.stmt65.specs.Meaning.{bytes_of, fault_of, fragments_of, initial, is_undefined, is_out_of_range, next_of, readings, unless, with_front}
+use Rattle.stmt65.specs.Code.SourceLineViews.{source_of}
+use Rattle.stmt65.specs.Code.MeaningViews.{IsPlaced, defined_in, fragments_in, held_after, held_final}
+use Rattle.stmt65.specs.Code.LateViews.{Codes, GoesOn, IsIdle, IsMarked, IsOf, IsPassed, IsSound, Takes, coded_late, fault_at, fault_or, fronts, held_coded, late_state, state_in, work_of}
+use Rattle.stmt65.proofs.Cases.{by_test}
+use Rattle.stmt65.proofs.HeldLemmas.{fragments-placed, meaning_held}
 
--- ---- the first pass
-
-pub final_step : (l : Language) (s t : State) (text line rest : List ℕ) (all : State) → held_final s (readings l text) ≡ all → text_lines text ≡ line ∷ text_lines rest → t ≡ held_after s (reading_of l (parts l line)) → held_final t (readings l rest) ≡ all
-unfolding held_final
-final_step l s t text line rest all h e k = let h' = rw e at h in rw k h'
-
-pub final_end : (l : Language) (s : State) (text : List ℕ) (all : State) → held_final s (readings l text) ≡ all → text_lines text ≡ [] → s.above ≡ all.above
-unfolding held_final
-final_end l s text all h e = let h' = rw e at h in ap (λ (t : State). t.above) h'
-
-pub ruleset finals = (final_step, final_end)
-
--- ---- the names of the second pass: those of the lines above, then those of the lines from here on
+-- ---- names: those of the lines above, then those of the lines from here on
 
 held_above : (s : State) (r : Option SourceLine) → (held_after s r).above ≡ s.above ++ defined_in s r
 unfolding held_after
 held_above s None = sym (append-nil s.above)
 held_above s (Some source) = refl
+
+layout-after : (s : State) (r : Option SourceLine) → (held_after s r).layout ≡ s.layout
+unfolding held_after
+layout-after s None = refl
+layout-after s (Some source) = refl
 
 final_above : (s : State) (rs : List (Option SourceLine)) → (more : List Definition) × ((held_final s rs).above ≡ s.above ++ more)
 unfolding held_final
@@ -44,63 +49,319 @@ final_above s (r ∷ rs) =
     let ih = final_above (held_after s r) rs in
     (defined_in s r ++ ih.0, ih.1 ∙ ap (λ (ds : List Definition). ds ++ ih.0) (held_above s r) ∙ append_assoc s.above (defined_in s r) ih.0)
 
--- the names at the next line
-pub record AtNext (l : Language) (names : List Definition) (n : ℕ) (s : State) (r : Option SourceLine) (rest : List ℕ) : Type 0 where
-  pub fits : n + length (defined_in s r) ≤ length names
-  pub above : take (n + length (defined_in s r)) names ≡ (held_after s r).above
-  pub whole : (held_final (held_after s r) (readings l rest)).above ≡ names
+-- ---- a line whose names all stand above it means the same by all names
 
-pub names_next : (l : Language) (names : List Definition) (n : ℕ) (s : State) (text line rest : List ℕ) → s.above ≡ take n names → n ≤ length names → (held_final s (readings l text)).above ≡ names → text_lines text ≡ line ∷ text_lines rest
-    → AtNext l names n s (reading_of l (parts l line)) rest
-unfolding held_final
-names_next l names n s text line rest e h all f =
-    let r = reading_of l (parts l line) in
-    let next = held_after s r in
-    let below : (held_final next (readings l rest)).above ≡ names = rw f at all in
-    let more = final_above next (readings l rest) in
-    let whole : names ≡ next.above ++ more.0 = sym below ∙ more.1 in
-    let len : length next.above ≡ n + length (defined_in s r) = omega (arith, ap length (held_above s r), length-append s.above (defined_in s r), ap length e, length-take-le n names h) in
+find_more : (w : List ℕ) (ds more : List Definition) → is_some (find_name w ds) ≡ true → find_name w (ds ++ more) ≡ find_name w ds
+unfolding find_name
+find_more w [] more h = absurd cc
+find_more w (d ∷ ds) more h = by_test (bytes_eq d.name w) (λ e. rw e refl) (λ e. let h' = rw e at h in rw e (find_more w ds more h'))
+
+value_more : (ds more : List Definition) (v : Value) → is_known ds v ≡ true → value_in (ds ++ more) v ≡ value_in ds v
+unfolding value_in is_known
+value_more ds more (NumberValue n) h = refl
+value_more ds more (NameValue w n minus) h = rw (find_more w ds more h) refl
+value_more ds more (DifferenceValue w v) h =
+    let both = and_parts (is_some (find_name w ds)) (is_some (find_name v ds)) h in
+    rw (find_more w ds more both.0, find_more v ds more both.1) refl
+
+known_more : (ds more : List Definition) (v : Value) → is_known ds v ≡ true → is_known (ds ++ more) v ≡ true
+unfolding is_known
+known_more ds more (NumberValue n) h = refl
+known_more ds more (NameValue w n minus) h = rw (find_more w ds more h) h
+known_more ds more (DifferenceValue w v) h =
+    let both = and_parts (is_some (find_name w ds)) (is_some (find_name v ds)) h in
+    rw (find_more w ds more both.0, find_more v ds more both.1) h
+
+fragment_known_more : (ds more : List Definition) (f : Fragment) → is_fragment_known ds f ≡ true → is_fragment_known (ds ++ more) f ≡ true
+fragment_known_more ds more (Fixed b) h = refl
+fragment_known_more ds more (Fill n b) h = refl
+fragment_known_more ds more (Single v) h = known_more ds more v h
+fragment_known_more ds more (ZeroPage v) h = known_more ds more v h
+fragment_known_more ds more (Oversized v) h = known_more ds more v h
+fragment_known_more ds more (Entry d v) h = known_more ds more v h
+fragment_known_more ds more (Distance v) h = known_more ds more v h
+fragment_known_more ds more (HalfOf half v) h = known_more ds more v h
+
+fits_more : (ds more : List Definition) (next : ℕ) (f : Fragment) → is_fragment_known ds f ≡ true → fragment_fits (ds ++ more) next f ≡ fragment_fits ds next f
+unfolding fragment_fits word_in entry_in
+fits_more ds more next (Fixed b) h = refl
+fits_more ds more next (Fill n b) h = refl
+fits_more ds more next (Oversized v) h = refl
+fits_more ds more next (Single v) h = rw (value_more ds more v h) refl
+fits_more ds more next (ZeroPage v) h = rw (value_more ds more v h) refl
+fits_more ds more next (Entry d v) h = rw (value_more ds more v h) refl
+fits_more ds more next (Distance v) h = rw (value_more ds more v h) refl
+fits_more ds more next (HalfOf half v) h = rw (value_more ds more v h) refl
+
+put_more : (ds more : List Definition) (next : ℕ) (f : Fragment) → is_fragment_known ds f ≡ true → fragment_bytes (ds ++ more) next f ≡ fragment_bytes ds next f
+unfolding fragment_bytes word_in entry_in
+put_more ds more next (Fixed b) h = refl
+put_more ds more next (Fill n b) h = refl
+put_more ds more next (Oversized v) h = rw (value_more ds more v h) refl
+put_more ds more next (Single v) h = rw (value_more ds more v h) refl
+put_more ds more next (ZeroPage v) h = rw (value_more ds more v h) refl
+put_more ds more next (Entry d v) h = rw (value_more ds more v h) refl
+put_more ds more next (Distance v) h = rw (value_more ds more v h) refl
+put_more ds more next (HalfOf half v) h = rw (value_more ds more v h) refl
+
+-- the same of each fragment of a line
+pub record Alike (ds all : List Definition) (next : ℕ) (fs : List Fragment) : Type 0 where
+  pub known : list_all (is_fragment_known all) fs ≡ true
+  pub fits : list_all (fragment_fits all next) fs ≡ list_all (fragment_fits ds next) fs
+  pub bytes : flat_map (fragment_bytes all next) fs ≡ flat_map (fragment_bytes ds next) fs
+
+alike : (ds more : List Definition) (next : ℕ) (fs : List Fragment) → list_all (is_fragment_known ds) fs ≡ true → Alike ds (ds ++ more) next fs
+alike ds more next [] h = record { known = refl; fits = refl; bytes = refl }
+alike ds more next (f ∷ fs) h =
+    let both = and_parts (is_fragment_known ds f) (list_all (is_fragment_known ds) fs) h in
+    let ih = alike ds more next fs both.1 in
     record {
-      fits = omega (arith, len, ap length whole, length-append next.above more.0);
-      above = ap (take (n + length (defined_in s r))) whole ∙ take_at next.above more.0 _ len;
-      whole = below;
+      known = rw (fragment_known_more ds more f both.0) ih.known;
+      fits = rw (fits_more ds more next f both.0, ih.fits) refl;
+      bytes = rw (put_more ds more next f both.0, ih.bytes) refl;
     }
 
--- what the code has after a line without a fault
-pub gone_on : {L : Type 0} (all : List Definition) (s : State) (q : CodeState L) (p : Placed) (source : SourceLine) → IsPlaced p s source → None ≡ fault_of all s (Some source)
-    → q.address ≡ p.next → q.layout.now ≡ s.layout → q.opcodes ≡ cpu_after s.cpu (operation_in source) → state_of q (after s (Some source)).above ≡ after s (Some source)
-unfolding after held_after
-gone_on all s q p source placed none address layout cpu = rw (address ∙ placed.next ∙ ap (λ (t : State). t.at) (after_exact all s source none), layout, cpu) refl
+fault_early : (all more : List Definition) (s : State) (source : SourceLine) → all ≡ s.above ++ more → list_all (is_fragment_known s.above) (fragments_of s source) ≡ true
+    → fault_of all s (Some source) ≡ fault_of s.above s (Some source)
+unfolding fault_of is_undefined is_out_of_range
+fault_early all more s source e h =
+    let same = alike s.above more (next_of s source) (fragments_of s source) h in
+    rw (e, same.known, same.fits, h) refl
 
--- ---- the second pass; the code has the definitions `names` of all lines, held
+bytes_early : (all more : List Definition) (s : State) (source : SourceLine) → all ≡ s.above ++ more → list_all (is_fragment_known s.above) (fragments_of s source) ≡ true
+    → bytes_of all s (Some source) ≡ bytes_of s.above s (Some source)
+unfolding bytes_of
+bytes_early all more s source e h = rw e (alike s.above more (next_of s source) (fragments_of s source) h).bytes
+
+-- ---- what is in front
 
 front-front : (a b : List ℕ) (m : Result (List ℕ) AsmFault) → with_front a (with_front b m) ≡ with_front (a ++ b) m
 front-front a b (Ok bytes) = ap (λ (l : List ℕ). Ok l) (sym (append_assoc a b bytes))
 front-front a b (Err f) = refl
 
-front-nil : (m : Result (List ℕ) AsmFault) → with_front [] m ≡ m
+pub front-nil : (m : Result (List ℕ) AsmFault) → with_front [] m ≡ m
 front-nil (Ok bytes) = refl
 front-nil (Err f) = refl
 
-pub pass_start : (l : Language) (layout : Layout) (start : ℕ) (text : List ℕ) (s : State) (out : List ℕ) → s ≡ initial layout start → out ≡ []
-    → with_front out (coded (final (initial layout start) (readings l text)).above 1 s (readings l text)) ≡ meaning_in l layout start text
-unfolding meaning_in meaning_of
-pass_start l layout start text s out e f = rw (e, f) (front-nil (coded (final (initial layout start) (readings l text)).above 1 (initial layout start) (readings l text)))
+front-end : (bytes : List ℕ) → with_front bytes (Ok []) ≡ Ok bytes
+front-end bytes = ap (λ (l : List ℕ). Ok l) (append-nil bytes)
 
-pub coded_step : (l : Language) (all names : List Definition) (n : ℕ) (s t : State) (text line rest : List ℕ) (out more : List ℕ) (total : Result (List ℕ) AsmFault)
-    → names ≡ map held_definition all → with_front out (coded all n s (readings l text)) ≡ total → text_lines text ≡ line ∷ text_lines rest
-    → None ≡ fault_of names s (reading_of l (parts l line)) → more ≡ out ++ bytes_of names s (reading_of l (parts l line)) → t ≡ after s (reading_of l (parts l line))
-    → with_front more (coded all (n + 1) t (readings l rest)) ≡ total
-unfolding coded
-coded_step l all names n s t text line rest out more total same h e f g k = grind (arith, None, fault-all, bytes-all, front-front)
+take_front : (n : ℕ) (xs ys : List ℕ) → n ≤ length xs → take n (xs ++ ys) ≡ take n xs
+take_front zero xs ys h = refl
+take_front (suc n) [] ys h = absurd (omega arith)
+take_front (suc n) (x ∷ xs) ys h = ap (λ (l : List ℕ). x ∷ l) (take_front n xs ys (omega arith))
 
-pub coded_fault : (l : Language) (all names : List Definition) (n : ℕ) (s : State) (text line rest : List ℕ) (out : List ℕ) (kind : AsmFaultKind) (total : Result (List ℕ) AsmFault)
-    → names ≡ map held_definition all → with_front out (coded all n s (readings l text)) ≡ total → text_lines text ≡ line ∷ text_lines rest
-    → Some kind ≡ fault_of names s (reading_of l (parts l line)) → total ≡ Err (record { line = n; kind = kind })
-unfolding coded
-coded_fault l all names n s text line rest out kind total same h e f = grind (arith, fault-all)
+drop_front : (n : ℕ) (xs ys : List ℕ) → n ≤ length xs → drop n (xs ++ ys) ≡ drop n xs ++ ys
+drop_front zero xs ys h = refl
+drop_front (suc n) [] ys h = absurd (omega arith)
+drop_front (suc n) (x ∷ xs) ys h = drop_front n xs ys (omega arith)
 
-pub coded_end : (l : Language) (all : List Definition) (n : ℕ) (s : State) (text : List ℕ) (out : List ℕ) (total : Result (List ℕ) AsmFault)
-    → with_front out (coded all n s (readings l text)) ≡ total → text_lines text ≡ [] → total ≡ Ok out
-unfolding coded
-coded_end l all n s text out total h e = let h' = rw (e, append-nil out) at h in sym h'
+drop_len : (n : ℕ) (xs : List ℕ) → n ≤ length xs → length (drop n xs) + n ≡ length xs
+drop_len zero xs h = omega arith
+drop_len (suc n) [] h = absurd (omega arith)
+drop_len (suc n) (x ∷ xs) h = let ih = drop_len n xs (omega arith) in omega arith
+
+take_whole : (n : ℕ) (xs : List ℕ) → n ≡ length xs → take n xs ≡ xs
+take_whole zero [] h = refl
+take_whole zero (x ∷ xs) h = absurd (omega arith)
+take_whole (suc n) [] h = refl
+take_whole (suc n) (x ∷ xs) h = ap (λ (l : List ℕ). x ∷ l) (take_whole n xs (omega arith))
+
+drop_whole : (n : ℕ) (xs : List ℕ) → n ≡ length xs → drop n xs ≡ []
+drop_whole zero [] h = refl
+drop_whole zero (x ∷ xs) h = absurd (omega arith)
+drop_whole (suc n) [] h = refl
+drop_whole (suc n) (x ∷ xs) h = drop_whole n xs (omega arith)
+
+-- ---- late lines
+
+fronts_push : {A : Type 0} (ls : List (Late A)) (l : Late A) → fronts (ls ++ l ∷ []) ≡ fronts ls + l.front
+unfolding fronts
+fronts_push [] l = omega arith
+fronts_push (k ∷ ls) l = let ih = fronts_push ls l in omega arith
+
+-- more bytes below them all
+late_more : {A : Type 0} (all : List Definition) (layout : Layout) (ls : List (Late A)) (settled bytes : List ℕ) (rest : Result (List ℕ) AsmFault) → fronts ls ≤ length settled
+    → coded_late all layout ls (settled ++ bytes) rest ≡ coded_late all layout ls settled (with_front bytes rest)
+unfolding coded_late fronts
+late_more all layout [] settled bytes rest h = sym (front-front settled bytes rest)
+late_more all layout (l ∷ ls) settled bytes rest h =
+    let fits : l.front ≤ length settled = omega arith in
+    let ih = late_more all layout ls (drop l.front settled) bytes rest (omega (arith, drop_len l.front settled fits)) in
+    rw (take_front l.front settled bytes fits, drop_front l.front settled bytes fits, ih) refl
+
+-- one more of them
+late_push : {A : Type 0} (all : List Definition) (layout : Layout) (ls : List (Late A)) (l : Late A) (settled : List ℕ) (rest : Result (List ℕ) AsmFault) → fronts ls + l.front ≡ length settled
+    → coded_late all layout (ls ++ l ∷ []) settled rest ≡ coded_late all layout ls settled (unless l.number (fault_of all (late_state all layout l) (Some (source_of l.source))) (with_front (bytes_of all (late_state all layout l) (Some (source_of l.source))) rest))
+unfolding coded_late fronts
+late_push all layout [] l settled rest h =
+    let e : l.front ≡ length settled = omega arith in
+    rw (take_whole l.front settled e, drop_whole l.front settled e, front-nil rest) refl
+late_push all layout (k ∷ ls) l settled rest h =
+    let fits : k.front ≤ length settled = omega arith in
+    rw (late_push all layout ls l (drop k.front settled) rest (omega (arith, drop_len k.front settled fits))) refl
+
+-- where a fault is below them, no bytes matter
+late_fault : {A : Type 0} (all : List Definition) (layout : Layout) (ls : List (Late A)) (fault : AsmFault) → (e : AsmFault) × ((settled : List ℕ) → coded_late all layout ls settled (Err fault) ≡ Err e)
+unfolding coded_late
+late_fault all layout [] fault = (fault, λ settled. refl)
+late_fault all layout (l ∷ ls) fault = by_fault (fault_of all (late_state all layout l) (Some (source_of l.source))) refl (late_fault all layout ls fault)
+  where
+    by_fault : (o : Option AsmFaultKind) → fault_of all (late_state all layout l) (Some (source_of l.source)) ≡ o → (e : AsmFault) × ((settled : List ℕ) → coded_late all layout ls settled (Err fault) ≡ Err e)
+        → (e : AsmFault) × ((settled : List ℕ) → coded_late all layout (l ∷ ls) settled (Err fault) ≡ Err e)
+    by_fault None f ih = (ih.0, λ settled. rw (f, ih.1 (drop l.front settled)) refl)
+    by_fault (Some k) f ih = (record { line = l.number; kind = k }, λ settled. rw f refl)
+
+late_hidden : {A : Type 0} (all : List Definition) (layout : Layout) (ls : List (Late A)) (fault : AsmFault) (a b : List ℕ) → coded_late all layout ls a (Err fault) ≡ coded_late all layout ls b (Err fault)
+late_hidden all layout ls fault a b = let h = late_fault all layout ls fault in h.1 a ∙ sym (h.1 b)
+
+-- ---- work
+
+if_none : {F P : Type 0} (o : Option F) → o ≡ None → IfNone o P → P
+if_none None e h = h
+if_none (Some f) e h = absurd cc
+
+none_if : {F P : Type 0} (o : Option F) → P → IfNone o P
+none_if None h = h
+none_if (Some f) h = tt
+
+pub takes_none : {A : Type 0} (p : Work A) (n : ℕ) (s : State) (line : Option SourceLine) (f : AsmFault) → p.fault ≡ Some f → Takes p p n s line
+takes_none p n s line f e = record { sound = λ h. h; same = λ h all more rest g. rw e refl }
+
+-- a fault by the names above is one by all names
+takes_fault : {A : Type 0} (p q : Work A) (n : ℕ) (s : State) (line : Option SourceLine) (kind : AsmFaultKind) → p.fault ≡ None → q.late ≡ p.late → q.fault ≡ fault_at n (Some kind)
+    → ((all more : List Definition) → all ≡ s.above ++ more → fault_of all s line ≡ Some kind) → Takes p q n s line
+takes_fault p q n s line kind e late f h = record {
+  sound = λ g. rw f tt;
+  same = λ g all more rest x. rw (e, late, f, h all more x) (late_hidden all s.layout p.late.items (record { line = n; kind = kind }) q.settled.items p.settled.items);
+}
+
+takes_bytes : {A : Type 0} (p q : Work A) (n : ℕ) (s : State) (line : Option SourceLine) (bytes : List ℕ) → p.fault ≡ None → q.late ≡ p.late → q.mark ≡ p.mark → q.fault ≡ None → q.settled.items ≡ p.settled.items ++ bytes
+    → ((all more : List Definition) → all ≡ s.above ++ more → fault_of all s line ≡ None) → ((all more : List Definition) → all ≡ s.above ++ more → bytes_of all s line ≡ bytes) → Takes p q n s line
+takes_bytes p q n s line bytes e late mark f put h k = record {
+  sound = λ g. let m = if_none p.fault e g in
+      none_if q.fault (record { mark = rw (mark, late) m.mark; within = rw (mark, put) (omega (arith, m.within, length-append p.settled.items bytes)) });
+  same = λ g all more rest x.
+      let m = if_none p.fault e g in
+      let fits : fronts p.late.items ≤ length p.settled.items = omega (arith, m.mark, m.within) in
+      rw (e, late, f, put, h all more x, k all more x) (late_more all s.layout p.late.items p.settled.items bytes rest fits);
+}
+
+pub takes_early : {A : Type 0} (p q : Work A) (n : ℕ) (s : State) (source : SourceLine) (placed : Placed) (kind : Option AsmFaultKind) → p.fault ≡ None → q.late ≡ p.late → q.mark ≡ p.mark → q.fault ≡ fault_at n kind
+    → IsPlaced placed s source → true ≡ list_all (is_fragment_known s.above) (fragments_in placed.coded) → Codes kind s.above s source p.settled.items q.settled.items → Takes p q n s (Some source)
+takes_early p q n s source placed kind e late mark f is known codes = go kind f codes
+  where
+    all_known : list_all (is_fragment_known s.above) (fragments_of s source) ≡ true
+    all_known = ap (list_all (is_fragment_known s.above)) (sym (fragments-placed placed s source is)) ∙ sym known
+
+    go : (kind : Option AsmFaultKind) → q.fault ≡ fault_at n kind → Codes kind s.above s source p.settled.items q.settled.items → Takes p q n s (Some source)
+    go None f codes =
+        takes_bytes p q n s (Some source) (bytes_of s.above s (Some source)) e late mark f codes.adds (λ all more x. fault_early all more s source x all_known ∙ sym codes.finds) (λ all more x. bytes_early all more s source x all_known)
+    go (Some k) f codes = takes_fault p q n s (Some source) k e late f (λ all more x. fault_early all more s source x all_known ∙ sym codes.finds)
+
+pub takes_late : {A : Type 0} (p q : Work A) (l : Late A) (s : State) → p.fault ≡ None → q.fault ≡ p.fault → q.settled ≡ p.settled → q.late.items ≡ p.late.items ++ l ∷ [] → q.mark ≡ length p.settled.items
+    → (p.mark ≤ length p.settled.items → p.mark + l.front ≡ length p.settled.items) → IsOf l s → Takes p q l.number s (Some (source_of l.source))
+takes_late p q l s e f same late mark front is = record {
+  sound = λ g. let m = if_none p.fault e g in
+      none_if q.fault (record { mark = rw (mark, late, fronts_push p.late.items l) (omega (arith, front m.within, m.mark)); within = rw (mark, same) (omega arith) });
+  same = λ g all more rest x.
+      let m = if_none p.fault e g in
+      let fits : fronts p.late.items + l.front ≡ length p.settled.items = omega (arith, front m.within, m.mark) in
+      let state : late_state all s.layout l ≡ s = rw (is.at, is.cpu, x, take_at s.above more l.count (sym is.above)) refl in
+      rw (f, e, same, late) (late_push all s.layout p.late.items l p.settled.items rest fits ∙ ap (λ (t : State). coded_late all s.layout p.late.items p.settled.items (unless l.number (fault_of all t (Some (source_of l.source))) (with_front (bytes_of all t (Some (source_of l.source))) rest))) state);
+}
+
+pub takes_refused : {A : Type 0} (p q : Work A) (n : ℕ) (s : State) → p.fault ≡ None → q.late ≡ p.late → q.fault ≡ fault_at n (Some Syntax) → Takes p q n s None
+unfolding fault_of
+takes_refused p q n s e late f = takes_fault p q n s None Syntax e late f (λ all more x. refl)
+
+takes_so : {A : Type 0} (p q : Work A) (n : ℕ) (s : State) (line : Option SourceLine) (layout : Layout) (all more : List Definition) (rest : Result (List ℕ) AsmFault) → Takes p q n s line → IsSound p → s.layout ≡ layout → all ≡ s.above ++ more
+    → work_of all layout q rest ≡ work_of all layout p (unless n (fault_of all s line) (with_front (bytes_of all s line) rest))
+takes_so p q n s line layout all more rest h g e x = subst (λ (k : Layout). work_of all k q rest ≡ work_of all k p (unless n (fault_of all s line) (with_front (bytes_of all s line) rest))) e (h.same g all more rest x)
+
+-- ---- the first pass
+
+-- before a line: what the lines below bring, and what comes of all lines
+pub record AtLine {A L : Type 0} (l : Language) (end : State) (layout : Layout) (total : Result (List ℕ) AsmFault) (n : ℕ) (p : Pass A L) (text : List ℕ) : Type 0 where
+  pub state : held_final (state_in p) (readings l text) ≡ end
+  pub laid : (state_in p).layout ≡ layout
+  pub sound : IsSound p.work
+  pub work : work_of end.above layout p.work (held_coded end.above n (state_in p) (readings l text)) ≡ total
+
+pub at_start : {A L : Type 0} (l : Language) (layout : Layout) (start : ℕ) (p : Pass A L) (text : List ℕ) → state_in p ≡ initial layout start → IsIdle p.work
+    → AtLine l (held_final (initial layout start) (readings l text)) layout (held_coded (held_final (initial layout start) (readings l text)).above 1 (initial layout start) (readings l text)) 1 p text
+unfolding coded_late fronts
+at_start l layout start p text e idle =
+    let all = (held_final (initial layout start) (readings l text)).above in
+    record {
+      state = ap (λ (s : State). held_final s (readings l text)) e;
+      laid = ap (λ (s : State). s.layout) e;
+      sound = none_if p.work.fault (record { mark = rw (idle.mark, idle.late) refl; within = rw idle.mark (omega arith) });
+      work = rw (idle.late, idle.settled, idle.fault) (front-nil (held_coded all 1 (state_in p) (readings l text)) ∙ ap (λ (s : State). held_coded all 1 s (readings l text)) e);
+    }
+
+pub at_next : {A L : Type 0} (l : Language) (end : State) (layout : Layout) (total : Result (List ℕ) AsmFault) (n : ℕ) (p q : Pass A L) (text line rest : List ℕ) → AtLine l end layout total n p text
+    → text_lines text ≡ line ∷ text_lines rest → GoesOn p q n (reading_of l (parts l line)) → AtLine l end layout total (n + 1) q rest
+unfolding held_final held_coded
+at_next l end layout total n p q text line rest h e goes =
+    let r = reading_of l (parts l line) in
+    let state : held_final (held_after (state_in p) r) (readings l rest) ≡ end = rw e at h.state in
+    let more = final_above (state_in p) (readings l text) in
+    let above : end.above ≡ (state_in p).above ++ more.0 = ap (λ (s : State). s.above) (sym h.state) ∙ more.1 in
+    let work = rw e at h.work in
+    let below = held_coded end.above (n + 1) (held_after (state_in p) r) (readings l rest) in
+    let taken = takes_so p.work q.work n (state_in p) r layout end.above more.0 below goes.work h.sound h.laid above in
+    record {
+      state = ap (λ (s : State). held_final s (readings l rest)) goes.state ∙ state;
+      laid = ap (λ (s : State). s.layout) goes.state ∙ layout-after (state_in p) r ∙ h.laid;
+      sound = goes.work.sound h.sound;
+      work = ap (λ (s : State). work_of end.above layout q.work (held_coded end.above (n + 1) s (readings l rest))) goes.state ∙ taken ∙ work;
+    }
+
+pub passed : {A L M : Type 0} (source : Source M) (n : ℕ) (p : Pass A L) (text : List ℕ)
+    → AtLine source.language (held_final (source_state source) (source_readings source)) source.layout.now (held_coded (held_final (source_state source) (source_readings source)).above 1 (source_state source) (source_readings source)) n p text
+    → text_lines text ≡ [] → IsPassed p source
+unfolding held_final held_coded
+passed source n p text h e =
+    let names : p.names ≡ (held_final (source_state source) (source_readings source)).above = ap (λ (s : State). s.above) (rw e at h.state) in
+    record { names = names; means = rw (names, h.laid) (rw e at h.work) }
+
+-- the pass knows what the text means
+pub means : {A L M : Type 0} (source : Source M) (p : Pass A L) → IsPassed p source → source.start < 65536 → source_meaning source ≡ work_of p.names p.state.layout.now p.work (Ok [])
+means source p h small =
+    sym (h.means ∙ ap (λ (ds : List Definition). held_coded ds 1 (source_state source) (source_readings source)) h.names ∙ meaning_held source.language source.layout.now source.start source.text.now small)
+
+-- ---- the second pass
+
+-- at a late line, with the bytes before it
+late_at : {A : Type 0} (all : List Definition) (layout : Layout) (ls : List (Late A)) (i : ℕ) (l : Late A) (settled out : List ℕ) (rest total : Result (List ℕ) AsmFault) → i < length ls → l ≡ get_or ls i l
+    → with_front out (coded_late all layout (drop i ls) settled rest) ≡ total
+    → with_front (out ++ take l.front settled) (unless l.number (fault_of all (late_state all layout l) (Some (source_of l.source))) (with_front (bytes_of all (late_state all layout l) (Some (source_of l.source))) (coded_late all layout (drop (i + 1) ls) (drop l.front settled) rest))) ≡ total
+unfolding coded_late
+late_at {A = A} all layout ls i l settled out rest total inside is h =
+    let cut : drop i ls ≡ l ∷ drop (i + 1) ls = drop_more ls i l inside ∙ ap (λ (k : Late A). k ∷ drop (i + 1) ls) (sym is) in
+    sym (front-front out (take l.front settled) _) ∙ (rw cut at h)
+
+pub late_faulty : {A : Type 0} (all : List Definition) (layout : Layout) (ls : List (Late A)) (i : ℕ) (l : Late A) (settled out old new : List ℕ) (rest total : Result (List ℕ) AsmFault) (kind : AsmFaultKind) → i < length ls → l ≡ get_or ls i l
+    → with_front out (coded_late all layout (drop i ls) settled rest) ≡ total → Codes (Some kind) all (late_state all layout l) (source_of l.source) old new → total ≡ Err (record { line = l.number; kind = kind })
+late_faulty all layout ls i l settled out old new rest total kind inside is h codes = sym (rw (← codes.finds) at (late_at all layout ls i l settled out rest total inside is h))
+
+pub late_next : {A : Type 0} (all : List Definition) (layout : Layout) (ls : List (Late A)) (i : ℕ) (l : Late A) (settled out front put new more : List ℕ) (rest total : Result (List ℕ) AsmFault) → i < length ls → l ≡ get_or ls i l
+    → with_front out (coded_late all layout (drop i ls) settled rest) ≡ total → front ≡ take l.front settled → more ≡ drop l.front settled → put ≡ out ++ front → Codes None all (late_state all layout l) (source_of l.source) put new
+    → with_front new (coded_late all layout (drop (i + 1) ls) more rest) ≡ total
+late_next all layout ls i l settled out front put new more rest total inside is h f g k codes =
+    let so = rw (← codes.finds) at (late_at all layout ls i l settled out rest total inside is h) in
+    rw (codes.adds, k, f, g) (sym (front-front (out ++ take l.front settled) (bytes_of all (late_state all layout l) (Some (source_of l.source))) _) ∙ so)
+
+late_end : {A : Type 0} (all : List Definition) (layout : Layout) (ls : List (Late A)) (i : ℕ) (settled out : List ℕ) (rest total : Result (List ℕ) AsmFault) → length ls ≤ i
+    → with_front out (coded_late all layout (drop i ls) settled rest) ≡ total → total ≡ with_front (out ++ settled) rest
+unfolding coded_late
+late_end all layout ls i settled out rest total past h = sym (rw (drop_of_length-le ls past) at h) ∙ front-front out settled rest
+
+pub end_faulty : {A : Type 0} (all : List Definition) (layout : Layout) (ls : List (Late A)) (i : ℕ) (settled out : List ℕ) (fault : Option AsmFault) (f : AsmFault) (total : Result (List ℕ) AsmFault) → length ls ≤ i
+    → with_front out (coded_late all layout (drop i ls) settled (fault_or fault (Ok []))) ≡ total → fault ≡ Some f → total ≡ Err f
+end_faulty all layout ls i settled out fault f total past h e = rw e at (late_end all layout ls i settled out (fault_or fault (Ok [])) total past h)
+
+pub end_bytes : {A : Type 0} (all : List Definition) (layout : Layout) (ls : List (Late A)) (i : ℕ) (settled out new : List ℕ) (fault : Option AsmFault) (total : Result (List ℕ) AsmFault) → length ls ≤ i
+    → with_front out (coded_late all layout (drop i ls) settled (fault_or fault (Ok []))) ≡ total → fault ≡ None → new ≡ out ++ settled → total ≡ Ok new
+end_bytes all layout ls i settled out new fault total past h e f = rw e at (late_end all layout ls i settled out (fault_or fault (Ok [])) total past h) ∙ front-end (out ++ settled) ∙ ap (λ (l : List ℕ). Ok l) (sym f)

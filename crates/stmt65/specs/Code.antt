@@ -9,3 +9,4 @@ pub mod SourceLineViews
 pub mod SymbolViews
 pub mod CodingViews
 pub mod MeaningViews
+pub mod LateViews

@@ -47,24 +47,7 @@ unfoldable pub held_final : State → List (Option SourceLine) → State
 held_final s [] = s
 held_final s (l ∷ ls) = held_final (held_after s l) ls
 
--- ---- the second pass
-
--- what stands above the next line
-abbrev pub state_in : {A L : Type 0} → Pass A L → State
-state_in p = state_of p.state (take p.count p.names.now)
-
 -- what a line defines, as the code holds it
 abbrev pub defined_in : State → Option SourceLine → List Definition
 defined_in s None = []
 defined_in s (Some source) = map held_definition (defined_by s.at source)
-
--- the bytes of this line from the state of the pass are added, unless it has a fault
-abbrev pub PutsLine : {A L : Type 0} → Option AsmFaultKind → Pass A L → Option SourceLine → List ℕ → List ℕ → Type 0
-PutsLine fault p line old new = IfNone fault (new ≡ old ++ bytes_of p.names.now (state_in p) line)
-
--- the pass has gone on below a line; its definitions are counted if the names have them
-pub record GoesOn {A L : Type 0} (p q : Pass A L) (line : Option SourceLine) : Type 0 where
-  pub names : q.names.now ≡ p.names.now
-  pub state : state_of q.state (after (state_in p) line).above ≡ after (state_in p) line
-  pub held : held_after (state_in p) line ≡ after (state_in p) line
-  pub count : p.count + length (defined_in (state_in p) line) ≤ length p.names.now → q.count ≡ p.count + length (defined_in (state_in p) line)

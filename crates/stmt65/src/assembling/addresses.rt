@@ -4,9 +4,7 @@ ghost use Rattle.std.specs.Prelude.{◌≡◌, IfOk, map};
 ghost use Rattle.stmt65.specs.Sources.{source_addresses, source_meaning};
 ghost use Rattle.stmt65.specs.Code.Held.{held};
 
-use crate::assembling::assembler::{Source, pass_line};
-use crate::assembling::state::first_state;
-use crate::assembling::symbols::Symbols;
+use crate::assembling::assembler::{Source, begin, pass_line};
 use std::alloc::{AllocError, Allocator};
 use text65::first_line;
 
@@ -21,12 +19,11 @@ pub fn line_addresses<L: Allocator + Clone, A: Allocator + Clone>(
     ensures exact { IfOk result (λ found. IfOk (source_meaning source.now) (λ _. found.items ≡ source_addresses source.now)) }
 {
     let mut found = Vec::new(alloc.clone()?);
-    let mut names = Symbols::new(&alloc)?;
-    let mut state = first_state(source.layout, source.start);
+    let mut pass = begin(&alloc, source)?;
     let mut rest = source.text;
     'lines: while let Some((line, after)) = first_line(rest) {
-        pass_line(&alloc, source.language, &mut state, &mut names, line)?;
-        found.push(state.address)?;
+        pass_line(&alloc, source.language, &mut pass, 0, line)?;
+        found.push(pass.state.address)?;
         rest = after;
     }
     Ok(found)

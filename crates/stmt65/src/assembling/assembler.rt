@@ -1,22 +1,20 @@
 //! The assembler: two passes over the lines of a text.
 
-ghost use Rattle.std.specs.Prelude.{◌≡◌, ◌+◌, ◌<◌, ◌++◌, [], Some, IfOk, OnOk, IfNone, length, min};
+ghost use Rattle.std.specs.Prelude.{◌≡◌, ◌<◌, ◌++◌, [], Some, Ok, IfOk, OnOk};
 ghost use Rattle.stmt65.specs.Lexing.{parts};
 ghost use Rattle.stmt65.specs.Reading.{reading_of};
 ghost use Rattle.stmt65.specs.Code.SourceLineViews.{source_of};
-ghost use Rattle.stmt65.specs.Code.CodingViews.{PutsAll};
-ghost use Rattle.stmt65.specs.Meaning.{fault_of, meaning};
-ghost use Rattle.stmt65.specs.Sources.{source_readings, source_state, source_meaning};
-ghost use Rattle.stmt65.specs.declared.language.Language.{Language};
-ghost use Rattle.stmt65.specs.Code.MeaningViews.{GoesOn, PutsLine, state_in, state_of, definitions_in, fragments_in, held_after, held_final};
+ghost use Rattle.stmt65.specs.Meaning.{meaning};
+ghost use Rattle.stmt65.specs.Sources.{source_state, source_meaning};
+ghost use Rattle.stmt65.specs.Code.MeaningViews.{definitions_in};
+ghost use Rattle.stmt65.specs.Code.LateViews.{GoesOn, IsIdle, IsPassed, TakesEarly, state_in, work_of};
 ghost use Rattle.stmt65.specs.Answer.{Assembles};
 
-use crate::assembling::emit::put_coded;
-use crate::assembling::fault::{AsmFault, AsmFaultKind};
+use crate::assembling::fault::AsmFault;
+use crate::assembling::late::{Late, Work, code_again, code_early, cut, idle, keep, refuse};
 use crate::assembling::layout::Layout;
-use crate::assembling::line_faults::fault_of;
-use crate::assembling::state::{Placed, State, advance, first_state, place};
-use crate::assembling::symbols::{Definition, Names, Symbols};
+use crate::assembling::state::{State, advance, first_state, place};
+use crate::assembling::symbols::{Definition, Symbols};
 use crate::language::Language;
 use crate::reading::whole_line::read_line;
 use crate::source_line::SourceLine;
@@ -32,13 +30,12 @@ pub struct Source<'t, 'l, 'n, L: Allocator = Global> {
     pub text: &'t [u8],
 }
 
-/// How far the second pass has come in a text with these names.
+/// How far the first pass has come: what stands above the next line, and the work on the lines above it.
 #[derive(Drop)]
-struct Pass<'t, 'a, 'l, 'n, A: Allocator, L: Allocator> {
-    names: &'t Symbols<'a, A>,
-    /// How many definitions stand above.
-    count: usize,
-    state: State<'l, 'n, L>,
+pub struct Pass<'a, 'l, 'n, A: Allocator, L: Allocator> {
+    pub state: State<'l, 'n, L>,
+    pub names: Symbols<'a, A>,
+    pub work: Work<'a, A>,
 }
 
 fn define<'a, A: Allocator + Clone>(
@@ -53,19 +50,46 @@ fn define<'a, A: Allocator + Clone>(
     }
 }
 
-/// Goes on below a line.
+/// Goes on below a line, and returns whether it was coded.
 #[tactic(auto, unfolding(crate::specs::Code::MeaningViews::held_after))]
-fn pass_source<'a, L: Allocator + Clone, A: Allocator + Clone, B: Allocator>(
-    state: &mut State<'_, '_, L>,
-    names: &mut Symbols<'a, A>,
+fn pass_over<'a, L: Allocator + Clone, A: Allocator + Clone, B: Allocator>(
+    pass: &mut Pass<'a, '_, '_, A, L>,
+    number: usize,
     source: &SourceLine<'a, B>,
-) -> Result<(), AllocError>
-    ensures { OnOk result (state_of state.new names.new ≡ held_after (state_of state.old names.old) (Some (source_of source.now))) }
+) -> Result<bool, AllocError>
+    ensures { IfOk result (λ is_taken. TakesEarly is_taken pass.old pass.new number (source_of source.now)) }
 {
-    let placed = place(state, &names.all(), source);
-    define(names, placed.definition)?;
-    advance(state, source, &placed);
-    Ok(())
+    let above = pass.names.all();
+    let placed = place(&pass.state, &above, source);
+    let is_taken = code_early(&mut pass.work, number, &pass.state, &above, source, &placed)?;
+    define(&mut pass.names, placed.definition)?;
+    advance(&mut pass.state, source, &placed);
+    Ok(is_taken)
+}
+
+/// Goes on below a line, which is coded or kept for later.
+fn pass_source<'a, L: Allocator + Clone, A: Allocator + Clone>(
+    pass: &mut Pass<'a, '_, '_, A, L>,
+    number: usize,
+    source: SourceLine<'a, A>,
+) -> Result<(), AllocError>
+    ensures { OnOk result (GoesOn pass.old pass.new number (Some (source_of source.entry))) }
+{
+    let address = pass.state.address;
+    let cpu = pass.state.opcodes.cpu();
+    let count = pass.names.len();
+    if pass_over(pass, number, &source)? {
+        return Ok(());
+    }
+    let late = Late {
+        source,
+        number,
+        address,
+        cpu,
+        count,
+        front: 0,
+    };
+    keep(&mut pass.work, late)
 }
 
 /// The same, whatever is written there.
@@ -73,129 +97,82 @@ fn pass_source<'a, L: Allocator + Clone, A: Allocator + Clone, B: Allocator>(
 pub fn pass_line<'a, 'b, L: Allocator + Clone, A: Allocator>(
     alloc: &'b A,
     language: Language,
-    state: &mut State<'_, '_, L>,
-    names: &mut Symbols<'a, &'b A>,
+    pass: &mut Pass<'a, '_, '_, &'b A, L>,
+    number: usize,
     line: &'a [u8],
 ) -> Result<(), AllocError>
-    ensures { OnOk result (state_of state.new names.new ≡ held_after (state_of state.old names.old) (reading_of language (parts language line.now))) }
+    ensures { OnOk result (GoesOn pass.old pass.new number (reading_of language (parts language line.now))) }
 {
     match read_line(alloc, language, line)? {
-        Some(source) => pass_source(state, names, &source),
-        None => Ok(()),
+        Some(source) => pass_source(pass, number, source),
+        None => {
+            refuse(&mut pass.work, number);
+            Ok(())
+        }
     }
 }
 
-/// The names that the text defines.
-#[tactic(auto, using(crate::proofs::PassLaws::finals))]
-pub fn names_of<'a, 'b, L: Allocator + Clone, A: Allocator>(
+/// Before the first line.
+pub fn begin<'a, 'b, 'l, 'n, L: Allocator, A: Allocator>(
     alloc: &'b A,
-    source: &Source<'a, '_, '_, L>,
-) -> Result<Symbols<'a, &'b A>, AllocError>
-    ensures names { IfOk result (λ names. names ≡ (held_final (source_state source.now) (source_readings source.now)).above) }
+    source: &Source<'a, 'l, 'n, L>,
+) -> Result<Pass<'a, 'l, 'n, &'b A, L>, AllocError>
+    ensures state { IfOk result (λ pass. state_in pass ≡ source_state source.now) }
+    ensures work { IfOk result (λ pass. IsIdle pass.work) }
     ensures start { source.now.start < 65536 }
 {
-    let start = source.start;
-    let mut names = Symbols::new(alloc)?;
-    let mut state = first_state(source.layout, start);
-    let mut rest = source.text;
-    'lines: while let Some((line, after)) = first_line(rest) {
-        pass_line(alloc, source.language, &mut state, &mut names, line)?;
-        rest = after;
-    }
-    Ok(names)
-}
-
-fn put_placed<A: Allocator + Clone, B: Allocator>(
-    out: &mut Vec<u8, B>,
-    all: &Names<'_, '_, A>,
-    placed: &Placed,
-) -> Result<bool, AllocError>
-    ensures { IfOk result (λ fits. PutsAll fits all.now placed.now.next (fragments_in placed.now.coded) out.old.items out.new.items) }
-{
-    match placed.coded {
-        Some(coded) => put_coded(out, all, placed.next, coded),
-        None => Ok(true),
-    }
-}
-
-/// How many definitions stand below a line.
-fn count_below(count: usize, definition: Option<Definition>) -> usize
-    ensures { result ≡ min (count + length (definitions_in definition.entry)) 18446744073709551615 }
-{
-    match definition {
-        Some(_) => count.saturating_add(1),
-        None => count,
-    }
-}
-
-/// Adds the bytes of a line and goes on below it, or gives its lowest fault.
-fn code_source<'a, L: Allocator + Clone, A: Allocator + Clone, B: Allocator, C: Allocator>(
-    pass: &mut Pass<'_, 'a, '_, '_, A, L>,
-    source: &SourceLine<'a, B>,
-    out: &mut Vec<u8, C>,
-) -> Result<Option<AsmFaultKind>, AllocError>
-    ensures fault { IfOk result (λ kind. kind ≡ fault_of pass.old.names.now (state_in pass.old) (Some (source_of source.now))) }
-    ensures bytes { IfOk result (λ kind. PutsLine kind pass.old (Some (source_of source.now)) out.old.items out.new.items) }
-    ensures below { IfOk result (λ kind. IfNone kind (GoesOn pass.old pass.new (Some (source_of source.now)))) }
-{
-    let names = pass.names;
-    let all = names.all();
-    let above = names.first(pass.count);
-    let placed = place(&pass.state, &above, source);
-    let has_room = put_placed(out, &all, &placed)?;
-    if let Some(kind) = fault_of(&all, &above, source, &placed, has_room) {
-        return Ok(Some(kind));
-    }
-    pass.count = count_below(pass.count, placed.definition);
-    advance(&mut pass.state, source, &placed);
-    Ok(None)
-}
-
-/// The same of a line as it is written.
-#[tactic(auto, unfolding(crate::specs::Meaning::fault_of))]
-fn code_line<'a, 'b, L: Allocator + Clone, A: Allocator, C: Allocator>(
-    alloc: &'b A,
-    language: Language,
-    pass: &mut Pass<'_, 'a, '_, '_, &'b A, L>,
-    line: &'a [u8],
-    out: &mut Vec<u8, C>,
-) -> Result<Option<AsmFaultKind>, AllocError>
-    ensures fault { IfOk result (λ kind. kind ≡ fault_of pass.old.names.now (state_in pass.old) (reading_of language (parts language line.now))) }
-    ensures bytes { IfOk result (λ kind. PutsLine kind pass.old (reading_of language (parts language line.now)) out.old.items out.new.items) }
-    ensures below { IfOk result (λ kind. IfNone kind (GoesOn pass.old pass.new (reading_of language (parts language line.now)))) }
-{
-    match read_line(alloc, language, line)? {
-        Some(source) => code_source(pass, &source, out),
-        None => Ok(Some(AsmFaultKind::Syntax)),
-    }
-}
-
-/// Adds the bytes of a text by the names that it defines.
-#[tactic(auto, unfolding(crate::specs::Meaning::meaning_in))]
-fn code_text<'a, 'b, L: Allocator + Clone, A: Allocator, C: Allocator + Drop>(
-    alloc: &'b A,
-    names: &Symbols<'a, &'b A>,
-    source: &Source<'a, '_, '_, L>,
-    mut out: Vec<u8, C>,
-) -> Result<Vec<u8, C>, AsmFault>
-    requires names { names.now ≡ (held_final (source_state source.now) (source_readings source.now)).above }
-    requires empty { out.items ≡ [] }
-    ensures { Assembles result (source_meaning source.now) }
-{
-    let mut pass = Pass {
-        names,
-        count: 0,
+    Ok(Pass {
         state: first_state(source.layout, source.start),
-    };
+        names: Symbols::new(alloc)?,
+        work: idle(alloc)?,
+    })
+}
+
+/// The names that the text defines, and the work on its lines.
+pub fn first_pass<'a, 'b, 'l, 'n, L: Allocator + Clone, A: Allocator>(
+    alloc: &'b A,
+    source: &Source<'a, 'l, 'n, L>,
+) -> Result<Pass<'a, 'l, 'n, &'b A, L>, AllocError>
+    ensures passed { IfOk result (λ pass. IsPassed pass source.now) }
+    ensures start { source.now.start < 65536 }
+{
+    let mut pass = begin(alloc, source)?;
     let mut rest = source.text;
     let mut number = 1;
     'lines: while let Some((line, after)) = first_line(rest) {
-        if let Some(kind) = code_line(alloc, source.language, &mut pass, line, &mut out)? {
-            return Err(AsmFault { line: number, kind });
-        }
+        pass_line(alloc, source.language, &mut pass, number, line)?;
         rest = after;
         number += 1;
     }
+    Ok(pass)
+}
+
+/// The bytes of all lines, by all names.
+fn second_pass<'a, L: Allocator + Clone, A: Allocator + Clone, C: Allocator + Drop>(
+    state: &mut State<'_, '_, L>,
+    names: &Symbols<'a, A>,
+    work: &Work<'a, A>,
+    mut out: Vec<u8, C>,
+) -> Result<Vec<u8, C>, AsmFault>
+    requires { out.items ≡ [] }
+    ensures { Assembles result (work_of names.now state.old.layout.now work.now (Ok [])) }
+{
+    let mut rest = work.settled.as_slice();
+    'late: for late in &work.late {
+        let (front, more) = cut(rest, late.front);
+        out.extend_from_slice(front)?;
+        if let Some(kind) = code_again(state, names, late, &mut out)? {
+            return Err(AsmFault {
+                line: late.number,
+                kind,
+            });
+        }
+        rest = more;
+    }
+    if let Some(fault) = work.fault {
+        return Err(fault);
+    }
+    out.extend_from_slice(rest)?;
     Ok(out)
 }
 
@@ -215,8 +192,12 @@ pub fn assemble_source<L: Allocator + Clone, A: Allocator + Clone>(
     ensures { Assembles result (source_meaning source.now) }
 {
     let out = Vec::new(alloc.clone()?);
-    let names = names_of(&alloc, source)?;
-    code_text(&alloc, &names, source, out)
+    let Pass {
+        mut state,
+        names,
+        work,
+    } = first_pass(&alloc, source)?;
+    second_pass(&mut state, &names, &work, out)
 }
 
 /// The bytes that a listing means from a start address, as [`assemble_source`] answers them.

@@ -5,7 +5,7 @@ ghost use Rattle.stmt65.specs.Code.SourceLineViews.{value_of};
 ghost use Rattle.stmt65.specs.Sources.{source_definitions};
 ghost use Rattle.stmt65.specs.Symbols.{is_known, word_in};
 
-use crate::assembling::assembler::{Source, names_of};
+use crate::assembling::assembler::{Source, first_pass};
 use crate::assembling::symbols::Symbols;
 use crate::assembling::values::{is_known, word_in};
 use crate::source_line::Value;
@@ -39,8 +39,11 @@ impl<'t, 'l, 'n, 'b, L: Allocator + Clone, A: Allocator> Definitions<'t, 'l, 'n,
     pub fn new(alloc: &'b A, source: &'b Source<'t, 'l, 'n, L>) -> Result<Self, AllocError>
         ensures { IfOk result (λ d. d ≡ source_definitions source.now) }
     {
-        let names = names_of(alloc, source)?;
-        Ok(Definitions { source, names })
+        let pass = first_pass(alloc, source)?;
+        Ok(Definitions {
+            source,
+            names: pass.names,
+        })
     }
 
     /// Whether each name in the expression has a definition.

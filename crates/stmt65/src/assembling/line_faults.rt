@@ -28,7 +28,17 @@ fn has_unknown_cpu<'a, B: Allocator>(source: &SourceLine<'a, B>) -> bool
     }
 }
 
-/// Whether each name in the coding has a definition: so it has if the values have room, and then it is not looked up again.
+/// Whether each name in the coding has a definition.
+pub fn are_names_known<A: Allocator + Clone>(all: &Names<'_, '_, A>, placed: &Placed) -> bool
+    ensures { result ≡ list_all (is_fragment_known all.now) (fragments_in placed.now.coded) }
+{
+    match placed.coded {
+        Some(coded) => are_known(all, coded),
+        None => true,
+    }
+}
+
+/// The same: so it has if the values have room, and then it is not looked up again.
 #[tactic(auto, using(crate::proofs::CodingLemmas::known_where_fit))]
 fn is_known<A: Allocator + Clone>(all: &Names<'_, '_, A>, placed: &Placed, has_room: bool) -> bool
     requires { has_room ≡ list_all (fragment_fits all.now placed.now.next) (fragments_in placed.now.coded) }
@@ -37,10 +47,7 @@ fn is_known<A: Allocator + Clone>(all: &Names<'_, '_, A>, placed: &Placed, has_r
     if has_room {
         return true;
     }
-    match placed.coded {
-        Some(coded) => are_known(all, coded),
-        None => true,
-    }
+    are_names_known(all, placed)
 }
 
 fn is_above<A: Allocator + Clone>(above: &Names<'_, '_, A>, definition: Option<Definition>) -> bool

@@ -150,7 +150,7 @@ pub fn cpu_set(text: &[u8]) -> Option<Cpu>
 }
 
 /// Selects the opcodes of a CPU, if there is one. They are tabled anew only if it is another one than before.
-fn select(opcodes: &mut EncodeTable, cpu: Option<Cpu>)
+pub fn select(opcodes: &mut EncodeTable, cpu: Option<Cpu>)
     ensures { opcodes.new ≡ unwrap_or cpu opcodes.old }
 {
     let Some(cpu) = cpu else {

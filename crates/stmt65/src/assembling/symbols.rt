@@ -109,6 +109,13 @@ impl<'a, A: Allocator + Clone> Symbols<'a, A> {
         }
     }
 
+    /// How many definitions there are.
+    pub fn len(&self) -> usize
+        ensures { result ≡ length self.now }
+    {
+        self.definitions.len()
+    }
+
     /// All names.
     #[tactic(auto, using(crate::proofs::SymbolLaws::all_names))]
     pub fn all(&self) -> Names<'_, 'a, A>

@@ -1,0 +1,17 @@
+use Rattle.std.proofs.Common.{◌≡◌, ◌≤◌, ◌+◌, length}
+use Rattle.stmt65.specs.Sources.{source_readings, source_state}
+use Rattle.stmt65.specs.Code.MeaningViews.{held_final}
+use Rattle.stmt65.specs.Code.LateViews.{held_coded}
+use Rattle.stmt65.proofs.PassLaws.{AtLine}
+use Rattle.stmt65.proofs.assembling.assembler.first_pass.Given as goal
+
+abbrev pub invariant-lines : goal.invariant-lines
+invariant-lines g l =
+    let end = held_final (source_state l.fn.source) (source_readings l.fn.source) in
+    record {
+      at : AtLine l.fn.source.language end l.fn.source.layout.now (held_coded end.above 1 (source_state l.fn.source) (source_readings l.fn.source)) l.number l.pass l.rest;
+      shorter : l.number + length l.rest ≤ length l.fn.source.text.now + 1;
+    }
+
+abbrev pub decreases-lines : goal.decreases-lines
+decreases-lines g l = length l.rest

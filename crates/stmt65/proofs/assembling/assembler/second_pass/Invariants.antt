@@ -1,0 +1,11 @@
+use Rattle.std.proofs.Common.{◌≡◌, drop, []}
+use Rattle.std.specs.Prelude.{Ok}
+use Rattle.stmt65.specs.Meaning.{with_front}
+use Rattle.stmt65.specs.Code.LateViews.{coded_late, fault_or, work_of}
+use Rattle.stmt65.proofs.assembling.assembler.second_pass.Given as goal
+
+abbrev pub invariant-late : goal.invariant-late
+invariant-late g l = record {
+  same : with_front l.out.items (coded_late l.names l.initial.state.layout.now (drop l.late-index l.work.late.items) l.rest (fault_or l.work.fault (Ok []))) ≡ work_of l.names l.initial.state.layout.now l.work (Ok []);
+  layout : l.state.layout.now ≡ l.initial.state.layout.now;
+}
