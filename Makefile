@@ -1,4 +1,4 @@
-# make               proves the programs, builds them into bin/da65, bin/as65 and bin/trace65, and lists an example. Three crates are
+# make               proves the programs, builds them into bin/ (da65, as65, trace65, name65), and lists an example. Three crates are
 #                    proved at a time where there are two processors and 12 GB of memory, or as many as -j says.
 # make try           lists the example by the program as it is before any proof, in half a minute
 # make test          the merge gate: every proof from nothing, the edits that must fail, the tests and the stored runs; then the programs
@@ -28,20 +28,20 @@ ifeq ($(shell [ "$$(nproc)" -gt 1 ] && awk '/^MemTotal/ { exit $$2 < 12000000 }'
 MAKEFLAGS += -j3
 endif
 
-all: bin/da65 bin/as65 bin/trace65
+all: bin/da65 bin/as65 bin/trace65 bin/name65
 	bin/da65 examples/three.bin
 
 bin/da65: bin/made/da65_cli
 	@cp crates/da65_cli/out/da65_cli $@
 
-bin/as65 bin/trace65: bin/%: bin/made/%
+bin/as65 bin/trace65 bin/name65: bin/%: bin/made/%
 	@cp crates/$*/out/$* $@
 
 # A crate is proved once those that it stands on are, by the lines of crates.txt; a program is run too, for its version. A line on the
 # screen says how long that took, and bin/made/CRATE has what the prover says. rt keeps others out of the crates that it reads, so a
 # crate is proved in a room of its own, with links to its sources and to the libraries below.
 crates := $(shell sed -nE 's/^([a-z0-9_]+):.*/\1/p' crates.txt)
-programs := da65_cli as65 trace65
+programs := da65_cli as65 trace65 name65
 direct = $(filter $(crates),$(shell sed -nE 's/^$(1)://p' crates.txt))
 below = $(sort $(foreach name,$(call direct,$(1)),$(name) $(call below,$(name))))
 define crate
@@ -67,9 +67,11 @@ test:
 	@cp crates/da65_cli/out/da65_cli bin/da65
 	@cp crates/as65/out/as65 bin/as65
 	@cp crates/trace65/out/trace65 bin/trace65
+	@cp crates/name65/out/name65 bin/name65
 	tests/program.sh bin/da65
 	tests/as65.sh bin/as65 bin/da65
 	tests/trace65.sh bin/trace65 bin/da65 bin/as65
+	tests/name65.sh bin/name65 bin/da65 bin/as65 bin/trace65
 	tests/growth.sh bin/da65
 	tests/docs.sh bin/da65
 	tests/ca65.sh bin/da65 10
@@ -89,8 +91,8 @@ speed: bin/da65
 
 share := $(DESTDIR)$(PREFIX)/share
 
-install: bin/da65 bin/as65 bin/trace65
-	@for program in da65 as65 trace65; do \
+install: bin/da65 bin/as65 bin/trace65 bin/name65
+	@for program in da65 as65 trace65 name65; do \
 	    name='$(PROGRAM_PREFIX)'$$program; \
 	    install -D -m 755 bin/$$program "$(DESTDIR)$(PREFIX)/bin/$$name"; \
 	    install -D -m 644 docs/$$program.1 "$(share)/man/man1/$$name.1"; \
@@ -102,7 +104,7 @@ install: bin/da65 bin/as65 bin/trace65
 	@install -D -m 644 docs/da65.info.5 '$(share)/man/man5/$(PROGRAM_PREFIX)da65.info.5'
 
 uninstall:
-	@for name in '$(PROGRAM_PREFIX)da65' '$(PROGRAM_PREFIX)as65' '$(PROGRAM_PREFIX)trace65'; do \
+	@for name in '$(PROGRAM_PREFIX)da65' '$(PROGRAM_PREFIX)as65' '$(PROGRAM_PREFIX)trace65' '$(PROGRAM_PREFIX)name65'; do \
 	    rm -f "$(DESTDIR)$(PREFIX)/bin/$$name" "$(share)/man/man1/$$name.1" \
 	        "$(share)/bash-completion/completions/$$name" "$(share)/zsh/site-functions/_$$name"; \
 	done

@@ -56,15 +56,15 @@ makes() {
     ls bin/made/*.room >/dev/null 2>&1 && fails "$name" 'a room is left'
 }
 
-all='as65 da65 da65_cli files65 info65 isa65 map65 reach65 stmt65 text65 trace65 usage65'
+all='as65 da65 da65_cli files65 info65 isa65 map65 name65 reach65 stmt65 text65 trace65 usage65'
 makes 'the first time' 0 da65_cli "$all" -j3
-for name in da65 as65 trace65; do
+for name in da65 as65 trace65 name65; do
     [ -x "bin/$name" ] || fails 'the first time' "no bin/$name"
 done
 makes 'nothing changed' 0 da65_cli '' -j3
 makes 'before any proof' 0 'try --data three.bin=../../examples/three.bin -- three.bin' da65_cli try
 echo '// two' >crates/map65/src/lib.rt
-makes 'map65 changed' 0 da65_cli 'as65 da65 da65_cli files65 map65 reach65 trace65' -j3
+makes 'map65 changed' 0 da65_cli 'as65 da65 da65_cli files65 map65 name65 reach65 trace65' -j3
 holds 'what was kept' crates/map65/out/incremental/kept '// one\n// two\n'
 echo '// three' >crates/text65/src/lib.rt
 REFUSED=text65 makes 'text65 is not proved' 2 'text65: not proved' text65 -j3

@@ -32,6 +32,11 @@ info65 InfoFaultKind::text 1
 info65 narrow 1
 map65 ImageFault::from 2
 map65 TakeFault::from 1
+name65 Failure::from 5
+name65 Refusal::from 2
+name65 bytes_of 2
+name65 failure_of 2
+name65 means 2
 relist Failure::from 2
 stmt65 AsmFault::from 1
 stmt65 Symbols::define 2

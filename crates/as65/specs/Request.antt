@@ -4,6 +4,7 @@ use Rattle.std.specs.List.{list_any, starts_with, take_while}
 use Rattle.std.specs.Str.{bytes_eq}
 use Rattle.std.specs.String.{string_bytes}
 use Rattle.clap.specs.Words.{Row, Text, first_of}
+use Rattle.usage65.specs.FileNames.{info_named, input_named, is_name, is_taken, output_named, standard_input}
 use Rattle.usage65.specs.Number.{address_in, byte_in}
 use Rattle.usage65.specs.Values.{◌>>=◌, accepted, given, is_set}
 use Rattle.usage65.specs.declared.fault.UsageFault.{UsageFault}
@@ -65,38 +66,6 @@ Gives seen (Err e) defined = Fails e defined
 abbrev pub or_refused : {A : Type 0} → Result A UsageFault → Result A Refusal
 or_refused (Ok x) = Ok x
 or_refused (Err e) = Err (BadUsage e)
-
--- the name of standard input
-abbrev pub standard_input : Text
-standard_input = codes "/dev/stdin"
-
--- `-` stands for a standard stream; a file of that name is `./-`
-abbrev pub is_standard : Text → Bool
-is_standard name = bytes_eq name (codes "-")
-
--- the name of what is read: `-`, and a listing without a name, is standard input
-abbrev pub input_named : Option Text → Text
-input_named None = standard_input
-input_named (Some name) = if is_standard name then standard_input else name
-
--- the name of the information file, if there is one
-abbrev pub info_named : Option Text → Option Text
-info_named None = None
-info_named (Some name) = Some (input_named (Some name))
-
--- the name of the output; None is standard output
-abbrev pub output_named : Option Text → Option Text
-output_named None = None
-output_named (Some name) = if is_standard name then None else Some name
-
--- whether this is the name of the information file or of the output, if there is one
-abbrev pub is_name : Option Text → Text → Bool
-is_name None name = false
-is_name (Some given) name = bytes_eq given name
-
--- whether standard input would have to be this input and the information file
-abbrev pub is_taken : Option Text → Text → Bool
-is_taken info name = bytes_eq name standard_input && is_name info standard_input
 
 -- the output is none of the inputs
 unfoldable pub to_write_into : Given → Option Text → Result Asked Refusal

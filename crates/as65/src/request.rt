@@ -4,17 +4,17 @@ ghost use Rattle.std.specs.Prelude.{◌≡◌, map, option_map};
 ghost use Rattle.std.specs.String.{string_bytes};
 ghost use Rattle.clap.specs.Words.{found_of, rows_of};
 ghost use Rattle.as65.specs.Code.Requests.{given_of};
-ghost use Rattle.as65.specs.Request.{Gives, asked, asked_in, asked_of, info_named, input_named, is_compare_word, is_comparing, is_name, is_taken, output_named, to_compare, to_write, to_write_into};
+ghost use Rattle.as65.specs.Request.{Gives, asked, asked_in, asked_of, is_compare_word, is_comparing, to_compare, to_write, to_write_into};
 
 use crate::command::this_program;
 use crate::failure::Failure;
 use clap::ArgMatches;
 use std::alloc::Global;
 use std::env::{Env, FillError};
-use usage65::{UsageFault, address_of, byte_of, is_set, owned, text_of};
-
-/// What a listing without a name is read from.
-const STANDARD_INPUT: &str = "/dev/stdin";
+use usage65::{
+    STANDARD_INPUT, UsageFault, address_of, byte_of, info_named, input_named, is_name, is_set,
+    is_taken, output_named, owned, text_of,
+};
 
 /// The length of `--compare=`, which is the longest that is looked for in a word.
 const LONGEST: usize = 10;
@@ -141,23 +141,6 @@ fn request_in(alloc: Global, matches: &ArgMatches) -> Result<Request, Failure>
     }
 }
 
-/// Whether this is the name of the information file or of the output, if there is one.
-pub fn is_name(given: Option<&str>, name: &str) -> bool
-    ensures { result ≡ is_name (option_map (λ s. s.now) given.entry) name.now }
-{
-    match given {
-        Some(given) => given == name,
-        None => false,
-    }
-}
-
-/// Whether standard input would have to be this input and the information file.
-fn is_taken(info: Option<&str>, name: &str) -> bool
-    ensures { result ≡ is_taken (option_map (λ s. s.now) info.entry) name.now }
-{
-    name == STANDARD_INPUT && is_name(info, STANDARD_INPUT)
-}
-
 /// The bytes of a listing are to be written: there is a start, or an information file that may have one.
 #[tactic(auto, unfolding(crate::specs::Request::to_write))]
 fn to_write(alloc: Global, given: Given<'_>, output: Option<&str>) -> Result<Request, Failure>
@@ -227,34 +210,4 @@ fn to_compare(alloc: Global, given: Given<'_>, image: &str) -> Result<Request, F
         fill,
         image,
     }))
-}
-
-/// The name of what is read. `-`, and a listing without a name, is standard input.
-fn input_named(name: Option<&str>) -> &str
-    ensures { result.now ≡ input_named (option_map (λ s. s.now) name.entry) }
-{
-    match name {
-        Some(name) if name != "-" => name,
-        _ => STANDARD_INPUT,
-    }
-}
-
-/// The name of the information file, if there is one.
-fn info_named(name: Option<&str>) -> Option<&str>
-    ensures { option_map (λ s. s.now) result ≡ info_named (option_map (λ s. s.now) name.entry) }
-{
-    match name {
-        Some(_) => Some(input_named(name)),
-        None => None,
-    }
-}
-
-/// The name of the output. `-`, and none, is standard output.
-fn output_named(name: Option<&str>) -> Option<&str>
-    ensures { option_map (λ s. s.now) result ≡ output_named (option_map (λ s. s.now) name.entry) }
-{
-    match name {
-        Some(name) if name != "-" => Some(name),
-        _ => None,
-    }
 }

@@ -1,34 +1,9 @@
 //! Whether files are one: an output that is an input, and a stream that two inputs would be read from.
 
 use crate::failure::Failure;
-use crate::request::is_name;
+use files65::{STANDARD_OUTPUT, are_one_file, are_one_stream};
 use info65::Settings;
-use std::fs::{Metadata, metadata};
-use std::os::unix::fs::MetadataExt;
-
-/// What standard output is called.
-const STANDARD_OUTPUT: &str = "/dev/stdout";
-
-/// Whether both are the same for the system.
-fn are_one(one: &Metadata, other: &Metadata) -> bool {
-    one.dev() == other.dev() && one.ino() == other.ino()
-}
-
-/// Whether two names are of one file, through links too. A terminal or a pipe can be both an input and an output.
-fn are_one_file(rt: &HostRuntime, one: &str, other: &str) -> bool {
-    match (metadata(rt, one), metadata(rt, other)) {
-        (Ok(one), Ok(other)) => one.is_file() && are_one(&one, &other),
-        _ => false,
-    }
-}
-
-/// Whether two names are of one pipe, terminal or the like, whose bytes are read only once.
-fn are_one_stream(rt: &HostRuntime, one: &str, other: &str) -> bool {
-    match (metadata(rt, one), metadata(rt, other)) {
-        (Ok(one), Ok(other)) => !one.is_file() && !one.is_dir() && are_one(&one, &other),
-        _ => false,
-    }
-}
+use usage65::is_name;
 
 /// Refuses an output that is this input. Without a name the output is standard output.
 pub fn keep_input(rt: &HostRuntime, output: Option<&str>, input: &str) -> Result<(), Failure> {

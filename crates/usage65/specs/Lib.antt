@@ -4,3 +4,4 @@ pub mod Command
 pub mod Help
 pub mod Number
 pub mod Values
+pub mod FileNames

@@ -1,0 +1,10 @@
+-- The command is one of which `clap` says its matches and faults.
+use Rattle.std.proofs.Common.{refl}
+use Rattle.clap.proofs.OnLiterals.{clap_on_literals}
+use Rattle.usage65.specs.Command.{command_of}
+use Rattle.usage65.specs.Values.{IsPlain}
+use Rattle.name65.specs.Command.{app}
+
+pub app_is_plain : IsPlain app
+unfolding clap_on_literals command_of
+app_is_plain = record { simple = refl; free = refl }

@@ -1,0 +1,3 @@
+-- What ties the code to the rules: what its values stand for.
+pub mod Changes
+pub mod Requests

@@ -1,0 +1,5 @@
+pub mod Code
+pub mod Command
+pub mod Marks
+pub mod NamedText
+pub mod Request

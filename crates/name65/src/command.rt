@@ -1,0 +1,38 @@
+//! The program's command line.
+
+ghost use Rattle.std.specs.Prelude.{◌≡◌};
+ghost use Rattle.usage65.specs.Code.Rows.{program_of};
+ghost use Rattle.name65.specs.Command.{this_program};
+
+use usage65::{Choice, HELP, INFO, OUTPUT, Program, START, VERSION};
+
+/// The options, in the order of the help text.
+static CHOICES: [Choice<'static>; 6] = [
+    Choice {
+        purpose: "information file, for its lines `#: ..` and the start",
+        ..INFO
+    },
+    START,
+    OUTPUT,
+    Choice {
+        id: "used",
+        short: None,
+        long: Some("used"),
+        value: None,
+        purpose: "leave out constant lines of names that no other line uses",
+    },
+    HELP,
+    VERSION,
+];
+
+/// The program: its options, and an optional listing.
+pub fn this_program() -> Program<'static>
+    ensures { program_of result ≡ this_program }
+{
+    Program {
+        name: "name65",
+        usage: "Usage: name65 [options] [listing]",
+        choices: &CHOICES,
+        input: "listing",
+    }
+}

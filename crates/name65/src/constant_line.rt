@@ -1,0 +1,42 @@
+//! Constant lines: as they were, left out, or after the last line.
+
+use crate::rewriting::put_rest;
+use crate::spans::spans_of;
+use itoa::Buffer;
+use std::alloc::{AllocError, Global};
+
+/// A line as it was.
+pub fn kept(alloc: Global, line: &[u8]) -> Result<Vec<u8>, AllocError> {
+    let mut out = Vec::new(alloc);
+    out.extend_from_slice(line)?;
+    out.push(b'\n')?;
+    Ok(out)
+}
+
+/// The place of the first `=`, and of what stands before it, which may be a colon.
+fn operator_of(line: &[u8]) -> (usize, usize) {
+    let equals = line
+        .iter()
+        .position(|byte| *byte == b'=')
+        .unwrap_or(line.len());
+    match equals.checked_sub(1) {
+        Some(before) if line.get(before) == Some(&b':') => (before, equals),
+        _ => (equals, equals),
+    }
+}
+
+/// The constant line of a name whose value is this far from the end of the text: `NAME := * + n`.
+pub fn moved(alloc: Global, line: &[u8], distance: u64) -> Result<Vec<u8>, AllocError> {
+    let (operator, equals) = operator_of(line);
+    let spans = spans_of(alloc, line, equals.saturating_add(1))?;
+    let mut out = Vec::new(alloc);
+    out.extend_from_slice(line.get(..operator).unwrap_or(&[]))?;
+    out.extend_from_slice(b":= * + ")?;
+    let mut buffer = Buffer::new();
+    out.extend_from_slice(buffer.format(distance).as_bytes())?;
+    if let Some(span) = spans.first() {
+        put_rest(&mut out, line, span.to)?;
+    }
+    out.push(b'\n')?;
+    Ok(out)
+}

@@ -1,0 +1,49 @@
+//! What the information file says: the groups of its lines `#: ..`, and where the image begins.
+
+use crate::failure::Failure;
+use files65::{INFORMATION_LIMIT, needed_contents};
+use info65::{InfoFault, InfoFaultKind, Options, Tag, read_info, read_tags};
+use std::alloc::Global;
+
+/// The most that an information file may have: 1 MiB.
+const LIMIT: usize = 1_048_576;
+
+fn failure_of(fault: InfoFault) -> Failure {
+    match fault.kind {
+        InfoFaultKind::Memory => Failure::Memory,
+        _ => Failure::Info(fault),
+    }
+}
+
+/// The bytes of the information file; without one there are none.
+pub fn contents(rt: &HostRuntime, name: Option<&str>) -> Result<Vec<u8>, Failure> {
+    match name {
+        Some(name) => Ok(needed_contents(rt, name, INFORMATION_LIMIT)?),
+        None => Ok(Vec::new(rt.alloc())),
+    }
+}
+
+/// The start that the file of these bytes says, or that of the command line. Refuses a file that da65 refuses.
+pub fn start_given(
+    alloc: Global,
+    start: Option<u16>,
+    bytes: &[u8],
+) -> Result<Option<u16>, Failure> {
+    let mut options: Options = Options::none();
+    options.start = start;
+    match read_info(alloc, &options, bytes) {
+        Ok(info) => Ok(info.settings().start),
+        Err(fault) => Err(failure_of(fault)),
+    }
+}
+
+/// The groups of the lines `#: ..`.
+pub fn tags(alloc: Global, bytes: &[u8]) -> Result<Vec<Tag>, Failure> {
+    if LIMIT < bytes.len() {
+        return Ok(Vec::new(alloc));
+    }
+    match read_tags(alloc, bytes) {
+        Ok(tags) => Ok(tags),
+        Err(fault) => Err(failure_of(fault)),
+    }
+}

@@ -1,0 +1,173 @@
+#!/usr/bin/env bash
+# name65 on real files: its messages, what it writes, and that whatever trace65 proposes, the listing by names gives the image back.
+# Usage: tests/name65.sh NAME65 DA65 AS65 TRACE65
+set -u
+program=$(realpath "$1")
+da65=$(realpath "$2")
+as65=$(realpath "$3")
+trace65=$(realpath "$4")
+root=$(realpath "$(dirname "$0")/..")
+. "$root/tests/rows.sh"
+ln -s "$root/examples" examples
+
+# names NAME GROUPS LISTING TEXT: from $1000 on the listing becomes this text by these groups, each a line `#: ..`, and both have the same
+# bytes.
+names() {
+    printf '%b' "$2" | sed 's/^/#: /' >groups.info
+    printf '%b' "$3" >listing.s
+    "$program" -S 0x1000 -i groups.info -o named.s listing.s 2>stderr || { fails "$1" "refused: $(<stderr)"; return; }
+    holds "$1" named.s "$4"
+    "$as65" -S 0x1000 -o before.bin listing.s && "$as65" -S 0x1000 -o after.bin named.s
+    cmp -s before.bin after.bin || fails "$1" 'other bytes'
+}
+
+# refuses NAME GROUPS LISTING MESSAGE: the same is refused with this message, and a file that is there stays as it was.
+refuses() {
+    printf '%b' "$2" | sed 's/^/#: /' >groups.info
+    printf '%b' "$3" >listing.s
+    echo kept >named.s
+    runs "$1" 1 '' "name65: $4\n" -S 0x1000 -i groups.info -o named.s listing.s
+    holds "$1" named.s 'kept\n'
+}
+
+help='Usage: name65 [options] [listing]\n'
+help+='  -i, --info name          information file, for its lines `#: ..` and the start\n'
+help+='  -S, --start-addr addr    start address\n'
+help+='  -o name                  output file\n'
+help+='  --used                   leave out constant lines of names that no other line uses\n'
+help+='  -h, --help               this text\n'
+help+='  -V, --version            version\n'
+
+# ---- words and files
+
+runs 'help' 0 "$help" '' -h
+runs 'version' 0 'name65 profile 1\n' '' -V
+echo 'nop' >nop.s
+: >empty.s
+printf 'GLOBAL { STARTADDR $2000; };\n' >start.info
+runs 'an unknown option' 1 '' 'name65: bad arguments\n' --fill 0 nop.s
+runs 'a start that is no number' 1 '' 'name65: bad number\n' -S x nop.s
+runs 'a start past $FFFF' 1 '' 'name65: argument out of range\n' -S 0x10000 nop.s
+runs 'both inputs are standard input' 1 '' 'name65: standard input can be only one of the inputs\n' -i - -
+runs 'the output is the listing' 1 '' 'name65: the output is an input: nop.s\n' -o nop.s nop.s
+ln -s nop.s other.s
+runs 'the output is the listing by another name' 1 '' 'name65: the output is an input: other.s\n' -o other.s nop.s
+runs 'the output is the information file' 1 '' 'name65: the output is an input: start.info\n' -i start.info -o start.info nop.s
+holds 'the listing' nop.s 'nop\n'
+mkdir folder
+runs 'the output is a folder' 1 '' 'name65: the output is no plain file: folder\n' -o folder nop.s
+runs 'no information file' 1 '' 'name65: cannot read absent.info\n' -i absent.info nop.s
+runs 'no listing' 1 '' 'name65: cannot read absent.s\n' absent.s
+runs 'a listing without a byte' 1 '' 'name65: empty.s: no bytes\n' empty.s
+printf 'nop\nlda absent\n' >fault.s
+runs 'a listing with a fault' 1 '' 'name65: fault.s:2: undefined name\n' -o named.s fault.s
+is_absent 'a listing with a fault' named.s
+printf 'RANGE { START 1; }\n' >bad.info
+runs 'a group that da65 refuses' 1 '' "$("$da65" -i bad.info examples/three.bin 2>&1 | sed 's/^da65/name65/')\n" -i bad.info nop.s
+printf '\n#: HALVES { LOW 1; };\n' >bad.info
+runs 'a group that lacks a half' 1 '' 'name65: info:2: attribute missing\n' -i bad.info nop.s
+printf '#: HALF { LOW 1; };\n' >bad.info
+runs 'an unknown group' 1 '' 'name65: info:1: unknown group\n' -i bad.info nop.s
+printf 'nop ; last' >last.s
+runs 'a last line without a line feed' 0 'nop ; last\n' '' last.s
+"$program" <nop.s >stdout 2>stderr
+ends 'standard input' 0 $? ''
+holds 'standard input' stdout 'nop\n'
+"$program" -o - - <nop.s >stdout 2>stderr
+ends 'standard streams by -' 0 $? ''
+holds 'standard streams by -' stdout 'nop\n'
+"$program" nop.s >/dev/full 2>stderr
+ends 'a full device' 1 $? 'name65: cannot write the output\n'
+echo old >named.s
+runs 'a file that is there' 0 '' '' -o named.s nop.s
+holds 'a file that is there' named.s 'nop\n'
+
+# ---- where the listing begins
+
+printf '#: HALVES { LOW $FFFD; HIGH $FFFF; };\n' >halves.info
+printf 'LFFFC: lda #$FC\nldx #$FF\n' >end.s
+runs 'without a start the last byte is at $FFFF' 0 'LFFFC: lda #<LFFFC\nldx #>LFFFC\n' '' -i halves.info end.s
+printf 'GLOBAL { STARTADDR $2000; };\n#: HALVES { LOW $2001; HIGH $2003; };\n' >halves.info
+printf 'L2000: lda #$00\nldx #$20\n' >start.s
+runs 'the start of the information file' 0 'L2000: lda #<L2000\nldx #>L2000\n' '' -i halves.info start.s
+printf 'L3000: lda #$00\nldx #$30\n' >start.s
+runs 'that of the command line comes first' 1 '' 'name65: info:2: no line has the byte at $2001\n' -S 0x3000 -i halves.info start.s
+
+# ---- halves
+
+names 'an immediate pair' 'HALVES { LOW $1001; HIGH $1003; };' \
+    'L1000:  lda     #$00                            ; low\n        LDX # $10;high\n' \
+    'L1000:  lda     #<L1000                         ; low\n        LDX # >L1000;high\n'
+names 'no room before the comment' 'HALVES { LOW $1001; HIGH $1003; };' \
+    'L1000: lda #$00 ; low\nldx #$10\n' 'L1000: lda #<L1000 ; low\nldx #>L1000\n'
+names 'bytes of a table' 'HALVES { LOW $1002; HIGH $1005; };' \
+    "x1: .byte \"a,\",\$00, 5 ; \"\n.byte ';',\$10\n" "x1: .byte \"a,\",<x1, 5 ; \"\n.byte ';',>x1\n"
+names 'a split table' 'HALVES { LOW $1000; HIGH $1003; SIZE 3; };' \
+    'x1:     .byte   $00,$03,$06                     ; low\ny1:     .byte   $10,$10\n        .byte   $10\nz1: rts\n' \
+    'x1:     .lobytes x1,y1,z1                       ; low\ny1:     .hibytes x1,y1\n        .hibytes z1\nz1: rts\n'
+names 'a low half alone' 'HALVES { LOW $1001; ADDR $1002; };' 'cmp #$02\nx1: rts\n' 'cmp #<x1\nx1: rts\n'
+names 'a high half alone, of a constant' 'HALVES { HIGH $1001; ADDR $20FF; };' 'v := $20FF\nlda #$20\n' 'v := $20FF\nlda #>v\n'
+names 'a label comes before a constant, and the first before another' 'HALVES { LOW $1001; HIGH $1003; };' \
+    'c1 := $1004\nlda #$04\nldx #$10\nx1:\nx2: rts\n' 'c1 := $1004\nlda #<x1\nldx #>x1\nx1:\nx2: rts\n'
+
+# ---- variables after the image, and lengths
+
+names 'variables' 'AFTER { START $1003; END $1010; };' \
+    'a1 := $1002\nv1 := $1003 ; one\nv2 = 4112\nfar := $1011\nsta v1\n' \
+    'a1 := $1002\nfar := $1011\nsta v1\nv1 := * + 0 ; one\nv2 := * + 13\n'
+names 'a length' 'DIFFERENCE { ADDR $1002; FROM $1001; TO $1006; };' \
+    'rts\nx1: .byte 1\n.word 5,$1000 ; two\nx2: rts\n' 'rts\nx1: .byte 1\n.word x2 - x1,$1000 ; two\nx2: rts\n'
+printf 'u1 := $12\nv1 := $13\nw1 := $2000\nx1 := $3000\nlda v1\nldx #$00\nldy #$20\n' >used.s
+printf '#: HALVES { LOW $1003; HIGH $1005; };\n' >used.info
+runs 'used names' 0 'v1 := $13\nw1 := $2000\nlda v1\nldx #<w1\nldy #>w1\n' '' -S 0x1000 --used -i used.info used.s
+runs 'used names without a group' 0 'v1 := $13\nlda v1\nldx #$00\nldy #$20\n' '' -S 0x1000 --used used.s
+
+# ---- what is refused
+
+refuses 'a byte after the image' 'HALVES { LOW $1001; HIGH $1002; };' 'x1: lda #$00\n' 'info:1: no line has the byte at $1002'
+refuses 'past $FFFF' 'HALVES { LOW $1001; HIGH $FFFF; SIZE 2; };' 'x1: lda #$00\n' 'info:1: no line has the byte at $FFFF'
+refuses 'a byte of an instruction' 'ENTRY { ADDR 1; };\nHALVES { LOW $1000; HIGH $1002; };' 'x1 := $10A9\nlda #0\n.byte $10\n' \
+    'info:2: no number stands alone for what is at $1000'
+refuses 'a byte of an address' 'HALVES { LOW $1001; HIGH $1002; };' 'x1: jmp $1000\n' 'info:1: no number stands alone for what is at $1001'
+refuses 'a byte of a string' 'HALVES { LOW $1000; HIGH $1001; };' 'x1 := $1041\n.byte "A",$10\n' 'info:1: no number stands alone for what is at $1000'
+refuses 'a byte that is a half already' 'HALVES { LOW $1001; HIGH $1003; };' 'x1: lda #<x1\nldx #$10\n' \
+    'info:1: no number stands alone for what is at $1001'
+refuses 'a byte of two groups' 'HALVES { LOW $1001; HIGH $1003; };\nHALVES { LOW $1001; ADDR $1000; };' 'x1: lda #$00\nldx #$10\n' \
+    'info:2: the byte at $1001 is in two groups'
+refuses 'an address without a name' 'HALVES { LOW $1001; HIGH $1003; };' 'x1: lda #$01\nldx #$10\n' \
+    'info:1: no name at $1001: LABEL { ADDR $1001; NAME "L1001"; };'
+refuses 'another half' 'HALVES { LOW $1001; ADDR $1000; };' 'x1: lda #$10\n' 'info:1: the byte at $1001 is not this half of $1000'
+refuses 'another length' 'DIFFERENCE { ADDR $1000; FROM $1000; TO $1002; };' 'x1: .word 3\nx2: rts\n' 'info:1: the word at $1000 is not TO - FROM'
+refuses 'a length in bytes' 'DIFFERENCE { ADDR $1000; FROM $1000; TO $1002; };' 'x1: .byte 2,0\nx2: rts\n' \
+    'info:1: no number stands alone for what is at $1000'
+refuses 'variables inside the image' 'AFTER { START $1002; END $1010; };' 'lda $1010\n' 'info:1: START is inside the image: $1002'
+printf '#: AFTER { START $20; END $30; };\n' >zero.info
+printf 'v := $20\nlda v\n' >zero.s
+runs 'a variable of the zero page' 1 '' 'name65: by names the listing would not have the same bytes\n' -S 0x10 -i zero.info zero.s
+
+# ---- what trace65 proposes
+
+# moves NAME START IMAGE: by what trace65 proposes the listing by names gives the image back, by as65 and by ca65 with ld65.
+moves() {
+    rm -f found.info
+    "$trace65" -S "$2" -o found.info "$3" && "$da65" -S "$2" -i found.info -o found.s "$3" &&
+        "$program" -S "$2" -i found.info -o named.s found.s || { fails "$1" 'refused'; return; }
+    "$as65" -S "$2" --compare "$3" named.s || fails "$1" 'other bytes by as65'
+    [ "${CA65-}" != skip ] || return
+    ca65 --relax-checks -o named.o named.s && ld65 -t none -S "$2" -D __STACKSTART__=0x10800 -o named.out named.o && cmp -s "$3" named.out ||
+        fails "$1" 'other bytes by ca65 and ld65'
+}
+
+moves 'hello' 0xF000 examples/hello.bin
+moves 'the kernal' 0xC000 examples/kernal.bin
+moves 'the monitor' 0xFC00 examples/board/monitor.bin
+for seed in $(seq 5); do
+    awk -v seed="$seed" 'BEGIN {
+        srand(seed); n = 2 + int(rand() * 30)
+        for (k = 0; k < n; k++) printf "L%d: lda #<L%d\nldx #>L%d\njsr L%d\nsta V+%d\nrts\n.byte \"text\",0\n", k, int(rand() * n), int(rand() * n), int(rand() * n), k
+        print "V := * + 0"
+    }' >code.s
+    "$as65" -S 0x2000 -o code.bin code.s || fails "program $seed" 'not assembled'
+    moves "program $seed" 0x2000 code.bin
+done
+exit "$failed"
