@@ -3,17 +3,18 @@
 #   sizes   each small number and each length, with ample memory. No contract forbids a false answer that memory ran out, so each of
 #           these must list, or be refused for its own reason. What is wanted is made here.
 #   work    the files that the program opens, and the as65 beside it, their reads, writes and memory, which tests/shim.c counts; and each
-#           allocation refused in turn, of both programs and of the test of options_of. Without cc, which makes the shim, it fails,
+#           allocation refused in turn, of these, of name65 and of the test of options_of. Without cc, which makes the shim, it fails,
 #           unless CC=skip is set: then it is left out.
 #   time    twice as many take at most three times as long.
 #   speed   instructions by valgrind's callgrind, beside cc65's da65 on the same bytes; for large information files also the most
-#           memory; as65 beside ca65 and ld65. Each row has the ratio that docs/PROOFS.md gives it: more than a twentieth above it is
-#           a failure. Runs differ by less than a thousandth. Twice as many groups or lines take at most 2.3 times the instructions.
-#           It is left out without valgrind, GNU time or cc65.
+#           memory; as65 beside ca65 and ld65, and name65 beside as65. Each row has the ratio that docs/PROOFS.md gives it: more than
+#           a twentieth above it is a failure. Runs differ by less than a thousandth. Twice as many groups or lines take at most 2.3
+#           times the instructions. It is left out without valgrind, GNU time or cc65.
 # Usage: tests/growth.sh PROGRAM [PART]..
 set -u
 program=$(realpath "$1")
 assembler=$(dirname "$program")/as65
+namer=$(dirname "$program")/name65
 root=$(realpath "$(dirname "$0")/..")
 . "$root/tests/rows.sh"
 . "$root/tests/random.sh"
@@ -471,6 +472,9 @@ work() {
     program=$assembler refuses_in_turn 'a listing' 30 0 1 -S 0x1000 -o - short.s
     program=$assembler refuses_in_turn 'differences' 30 1 2 --compare three.bin short.s
     program=$assembler refuses_in_turn 'a faulty line' 30 1 1 -S 0x1000 -o - faulty.s
+    printf '#: HALVES { LOW $1001; HIGH $1003; };\n#: DIFFERENCE { ADDR $1004; FROM $1000; TO $1006; };\n#: AFTER { START $1007; END $2000; };\n' >moves.info
+    printf 'v1 := $1010\nu1 := $12\nx1: lda #$00\nldx #$10\n.word 6\ny1: rts\n' >moves.s
+    program=$namer refuses_in_turn 'a listing by names' 60 0 1 -S 0x1000 --used -i moves.info moves.s
     refuses_files 'an information file, include files and an output' -i all.info -o out.s
 }
 
@@ -597,6 +601,16 @@ assembles() {
     instructions ld65 -C flat.cfg -o theirs.bin theirs.o
     cmp -s ours.bin theirs.bin || fails "$1" 'as65 and ld65 write other bytes'
     shows "$1" "$2" "$ours" $((theirs + count)) 44
+}
+
+# names NAME LIMIT LISTING WORD..: those of name65 on the listing and the words, and those of as65 for the listing.
+names() {
+    local name=$1 limit=$2 listing=$3 ours
+    shift 3
+    instructions "$namer" -S 0 "$@" -o ours.s "$listing"
+    ours=$count
+    instructions "$assembler" -S 0 -o ours.bin "$listing"
+    shows "$name" "$limit" "$ours" "$count" 44
 }
 
 # memory COMMAND..: sets `peak` to the most memory that the command holds, in kilobytes.
@@ -759,6 +773,18 @@ speed() {
     assembles '8,000 pairs of halves' 34.9 halves.s
     assembles 'low bytes of 3,000 names' 44.5 lobytes.s
     assembles 'three lines' 50.7 three.s
+    # The same pairs as numbers, of which every tenth and then every one gets names; and the listings without a group.
+    "$assembler" -S 0 -o halves.bin halves.s
+    awk 'BEGIN { for (n = 0; n < 8000; n++) printf "LABEL { ADDR $%04X; NAME \"n%d\"; };\n", 4 * n, n }' >numbers.info
+    "$program" -S 0 -i numbers.info halves.bin -o numbers.s
+    awk 'BEGIN { for (n = 0; n < 8000; n++) printf "#: HALVES { LOW $%04X; HIGH $%04X; };\n", 4 * n + 1, 4 * n + 3 }' >pairs.info
+    awk 'NR % 10 == 1' pairs.info >few.info
+    printf '\n%-44s %12s %12s %8s\n' 'instructions for a listing' 'name65' 'as65' 'ratio'
+    names 'three lines' 135 three.s
+    names 'random bytes' 157 random.s
+    names 'random bytes, used names' 197 random.s --used
+    names 'a tenth of 8,000 pairs' 300 numbers.s -i few.info
+    names '8,000 pairs' 430 numbers.s -i pairs.info
     printf '\n%-44s %12s %12s\n' 'instructions for a line' '64 KiB' '128 KiB'
     lengthens 'a line that is one word' 1 n
     lengthens 'a long number after a half' 0 'x1 := 1\n .byte <x1,'
