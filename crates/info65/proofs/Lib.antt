@@ -14,6 +14,9 @@ mod IncludedLemmas
 mod IndexLemmas
 mod FileLaws
 mod FileRows
+mod RefusedRows
+mod AcceptedRows
+mod TokenRows
 mod KeptLemmas
 mod LayoutLemmas
 mod NameFaultLemmas
