@@ -688,7 +688,7 @@ remarked() {
 
 speed() {
     local tool cpu from ours bytes=
-    local -A random=([6502]=24.4 [65SC02]=25.2 [65C02]=26.2)
+    local -A random=([6502]=25.1 [65SC02]=25.8 [65C02]=26.8)
     for tool in valgrind da65 ca65 ld65 /usr/bin/time; do
         command -v $tool >/dev/null || { echo "growth: speed is left out, since $tool is not installed"; return; }
     done
@@ -725,17 +725,17 @@ speed() {
     for cpu in "${cpus[@]}"; do
         compares "random bytes, $cpu" "${random[$cpu]}" -S 0 --cpu "$cpu" random.bin
     done
-    compares 'nop' 33.7 -S 0 nop.bin
-    compares 'mixed bytes, without ranges' 24.4 -S 0 mixed.bin
-    compares "mixed bytes, $(wc -l <mixed.info) ranges" 25.3 -S 0 -i mixed.info mixed.bin
-    compares 'a byte table' 17.2 -S 0 -i table.info nop.bin
-    compares 'a byte table in 1,024 segments' 33.5 -S 0 -i segments.info nop.bin
+    compares 'nop' 35.2 -S 0 nop.bin
+    compares 'mixed bytes, without ranges' 25.1 -S 0 mixed.bin
+    compares "mixed bytes, $(wc -l <mixed.info) ranges" 25.9 -S 0 -i mixed.info mixed.bin
+    compares 'a byte table' 17.6 -S 0 -i table.info nop.bin
+    compares 'a byte table in 1,024 segments' 28.8 -S 0 -i segments.info nop.bin
     grep SEGMENT segments.info >borders.info
     echo 'SEGMENT { START $1000; END $1001; NAME "S"; };' >segment.info
     echo 'LABEL { ADDR $1000; NAME "entry"; COMMENT "the entry"; };' >comment.info
-    compares 'nop, one segment of two bytes' 52.1 -S 0 -i segment.info nop.bin
-    compares 'nop, one name with a comment' 52.0 -S 0 -i comment.info nop.bin
-    compares 'nop, 1,024 segments' 58.9 -S 0 -i borders.info nop.bin
+    compares 'nop, one segment of two bytes' 39.0 -S 0 -i segment.info nop.bin
+    compares 'nop, one name with a comment' 38.9 -S 0 -i comment.info nop.bin
+    compares 'nop, 1,024 segments' 47.4 -S 0 -i borders.info nop.bin
 
     # What people run: a few bytes, a few tables and names. What is done once whatever there is shows most. (cc65's has no SIZE.)
     printf '%s\n' 'GLOBAL { STARTADDR $F000; };' \
@@ -749,9 +749,9 @@ speed() {
     printf '\xea' >one.bin
     compares 'one byte' 33.5 -S 0 one.bin
     compares '44 bytes with five tables and three names' 54.8 -i hello.info "$root/examples/hello.bin"
-    compares '1 KiB with one label' 35.6 -S 0 -i label.info kilobyte.bin
+    compares '1 KiB with one label' 35.9 -S 0 -i label.info kilobyte.bin
     includes 16 1 10 >small.info
-    compares '1 KiB with 16 include files of a line' 42.5 -S 0 -i small.info kilobyte.bin
+    compares '1 KiB with 16 include files of a line' 42.9 -S 0 -i small.info kilobyte.bin
     includes 16 4096 230 >large.info
     compares '1 KiB with 16 include files of 1 MiB' 33.3 -S 0 -i large.info kilobyte.bin
     remarked 16 250 >remarked.info

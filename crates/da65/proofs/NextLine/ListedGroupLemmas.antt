@@ -1,31 +1,25 @@
 -- The groups that the code lists, and their statements.
-use Rattle.std.proofs.Common.{◌≡◌, ◌∙◌, ℕ, ◌+◌, ◌<◌, ◌≤◌, List, Some, length, refl, ap, sym, subst, arith, true}
-use Rattle.std.specs.Prelude.{is_some}
+use Rattle.std.proofs.Common.{◌≡◌, ◌∙◌, ℕ, ◌+◌, ◌<◌, ◌≤◌, List, length, refl, ap, sym, subst, arith}
 use Rattle.std.proofs.lemmas.List.{length-take}
 use Rattle.isa65.specs.Cpu.{table_of}
-use Rattle.isa65.specs.Mode.{len_of, row_len, row_of}
+use Rattle.isa65.specs.Mode.{len_of}
 use Rattle.isa65.specs.Opcodes.{Table}
 use Rattle.isa65.specs.declared.cpu.Cpu.{Cpu}
-use Rattle.isa65.specs.declared.mode.Mode.{Mode}
-use Rattle.isa65.specs.declared.op.Op.{Op}
-use Rattle.isa65.specs.declared.row.Row.{Row}
 use Rattle.info65.specs.declared.information.range.RangeType.{RangeType}
 use Rattle.info65.specs.declared.information.range.RangeType.TheVariants.{Code}
 use Rattle.map65.specs.ImageView.{IsPlaced}
 use Rattle.map65.specs.MapView.{MapView, opcodes}
-use Rattle.stmt65.specs.Views.{OperandsView, StatementView}
+use Rattle.stmt65.specs.Views.{StatementView}
 use Rattle.da65.specs.BaseNames.{Names, names_of}
 use Rattle.da65.specs.Code.ListedGroups.{IsGroupIn}
-use Rattle.da65.specs.Code.WrittenOps.{IsWrittenOp}
 use Rattle.da65.specs.Instructions.{instruction_in}
 use Rattle.da65.specs.Shapes.{IsGroupOf}
-use Rattle.da65.specs.Statements.{operands_of, row_operands, statement_at, statement_for, statement_in}
+use Rattle.da65.specs.Statements.{statement_at, statement_for, statement_in}
 use Rattle.da65.specs.declared.listing.group.Group.{Group}
 use Rattle.da65.proofs.Groups.GroupLemmas.{group-fits, group-some}
 use Rattle.da65.proofs.Groups.ShapeLemmas.{group-shape}
 use Rattle.isa65.proofs.ModeLaws.{len-small}
 use Rattle.da65.proofs.Statements.EachStatement.{of_group}
-use Rattle.da65.proofs.Statements.StandsLaws.{begins_with}
 use Rattle.map65.specs.Items.{code_size}
 
 pub has-bytes : (m : MapView) (g : Group) → IsGroupIn m g → 0 < length g.bytes.now
@@ -59,31 +53,6 @@ is-short m g is =
 -- an item of code is an instruction, or one byte
 pub code-item : (m : MapView) (cpu : Cpu) (g : Group) → cpu ≡ m.info.settings.cpu → g.role ≡ Code → IsGroupIn m g → code_size (instruction_in (table_of cpu) g.bytes.now) ≡ length g.bytes.now
 code-item m cpu g same code is = subst (λ (r : RangeType). IsGroupOf (table_of cpu) r g.bytes.now) code (of-role m cpu g same is)
-
--- what is known of the operands of an instruction that is written, by the row of its mode; `next` is the address after it
-pub record AreWritten (n : Names) (r : Row) (next : ℕ) (bytes : List ℕ) : Type 0 where
-  pub all : row_len r ≤ length bytes
-  pub room : next ≤ 65536
-  pub inside : is_some (row_operands n r next bytes) ≡ true
-
-pub are-written : (n m : MapView) (t : Table) (g : Group) (op : Op) (r : Row) (next : ℕ) → n ≡ m → IsPlaced n.image → IsGroupIn m g
-    → IsWrittenOp t g.address g.bytes.now (Some op) → row_of op.mode ≡ r → next ≡ g.address + len_of op.mode → AreWritten (names_of n) r next g.bytes.now
-unfolding operands_of
-are-written n m t g op r next same placed is written row here =
-    let long = (begins_with t g.bytes.now op written.0).long in
-    let space = in-space m g (subst (λ (m : MapView). IsPlaced m.image) same placed) is in
-    let known : AreWritten (names_of n) (row_of op.mode) (g.address + len_of op.mode) g.bytes.now = record { all = long; room = omega (arith, long, space); inside = written.1 (names_of n) } in
-    subst (λ (r : Row). AreWritten (names_of n) r next g.bytes.now) row (subst (λ (x : ℕ). AreWritten (names_of n) (row_of op.mode) x g.bytes.now) (sym here) known)
-
--- its operands, by the row of its mode
-pub operands-are : (n m : MapView) (mode : Mode) (r : Row) (a next : ℕ) (bytes : List ℕ) (os : OperandsView) → n ≡ m → row_of mode ≡ r → next ≡ a + len_of mode
-    → Some os ≡ row_operands (names_of n) r next bytes → Some os ≡ operands_of (names_of m) mode a bytes
-unfolding operands_of
-operands-are n m mode r a next bytes os same row here told =
-    told
-    ∙ ap (λ (n : MapView). row_operands (names_of n) r next bytes) same
-    ∙ ap (λ (r : Row). row_operands (names_of m) r next bytes) (sym row)
-    ∙ ap (λ (x : ℕ). row_operands (names_of m) (row_of mode) x bytes) here
 
 -- the statement of code is that of a group of its role
 pub code-for : (n : Names) (t : Table) (r : RangeType) (a : ℕ) (bytes : List ℕ) (s : StatementView) → r ≡ Code → s ≡ statement_in n t a bytes → s ≡ statement_for n t r a bytes

@@ -10,12 +10,13 @@ ghost use Rattle.da65.specs.Lines.{IsFirstFrom};
 ghost use Rattle.da65.specs.Listing.{comments};
 
 use crate::listing::listed_image::ListedImage;
-use crate::listing::statement_line::put_plain;
+use crate::listing::statement_line::put_remark;
 use info65::Info;
 use std::alloc::Allocator;
-use stmt65::{Line, Statement};
+use stmt65::Line;
 
-/// The comment of the name that is given to this address, if it has one.
+/// The comment of the name that is given to this address, if it has one. It is kept out of the lines of groups without a name.
+#[inline(never)]
 #[tactic(auto, unfolding(crate::specs::Comments::comment_at))]
 fn given_comment<A: Allocator>(info: &Info<A>, address: u16) -> Option<&[u8]>
     ensures { option_copied result ≡ comment_by address (covering info.now.names address) }
@@ -29,6 +30,7 @@ fn given_comment<A: Allocator>(info: &Info<A>, address: u16) -> Option<&[u8]>
 }
 
 /// The comment of the name that has this address as its own, if it has one.
+#[inline(always)]
 pub fn comment_at<'a, A: Allocator>(listed: &ListedImage<'a, A>, address: u16) -> Option<&'a [u8]>
     ensures comment { option_copied result ≡ comment_at listed.now address }
     ensures printable { IfSome (option_copied result) (λ text. IsPrintable (view.remark text)) }
@@ -57,7 +59,7 @@ pub fn put_comment<A: Allocator>(
 {
     for at in from..end {
         if let Some(text) = comment_at(listed, at as u16) {
-            put_plain(out, listed.style(), &Statement::Remark(text));
+            put_remark(out, listed.style(), text);
             return Some(at);
         }
     }

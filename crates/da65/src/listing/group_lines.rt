@@ -3,17 +3,15 @@
 ghost use Rattle.std.specs.Prelude.{◌≡◌, ◌≢◌, ◌+◌, ◌-◌, ◌<◌, ◌≤◌, IfSome, None, Some, length};
 ghost use Rattle.std.specs.Option.{option_copied};
 ghost use Rattle.std.specs.Bool.{OnTrue};
-ghost use Rattle.stmt65.specs.Code.StatementViews.{operands_seen, statement_seen};
+ghost use Rattle.stmt65.specs.Code.StatementViews.{statement_seen};
 ghost use Rattle.stmt65.specs.Printable.{IsNameLong};
 ghost use Rattle.map65.specs.ImageView.{AreBytes};
 ghost use Rattle.da65.specs.BaseNames.{is_base, names_of};
-ghost use Rattle.map65.specs.MapView.{opcodes};
 ghost use Rattle.da65.specs.Code.ListedGroups.{IsGroupIn};
-ghost use Rattle.da65.specs.Instructions.{instruction_in};
 ghost use Rattle.da65.specs.Groups.{group_len};
 ghost use Rattle.da65.specs.Lines.{IsFirstFrom, IsGroupStart, IsInGroup, IsLabelNext, IsNextIn, IsStatementNext, MayFollow, group_left};
 ghost use Rattle.da65.specs.Listing.{forward_line, forwards, label_at, line_text};
-ghost use Rattle.da65.specs.Statements.{operands_of, statement_at};
+ghost use Rattle.da65.specs.Statements.{statement_at};
 ghost use Rattle.da65.specs.Style.{style_of};
 
 use crate::listing::base_names::put_base;
@@ -22,15 +20,12 @@ use crate::listing::line_groups::{group_len, role_inside};
 use crate::listing::listed_image::ListedImage;
 use crate::listing::place::ListingPlace;
 use crate::listing::statement_line::{put_plain, put_statement};
-use crate::listing::statements::{
-    OperandNames, instruction, one_operand, table_statement, two_operands, written_op,
-};
+use crate::listing::statements::{OperandNames, instruction, table_statement, written_op};
 use crate::listing::style::has_empty_line;
 use info65::RangeType;
-use isa65::{Op, Row};
 use map65::NameBuf;
 use std::alloc::Allocator;
-use stmt65::{Line, Operands, Statement};
+use stmt65::{Line, Statement};
 
 /// Replaces the buffer by the forward line of the address in the group that begins at `first`, if the address is
 /// defined by name. The buffer for the name has a stack frame of its own.
@@ -154,32 +149,8 @@ fn put_table_line<A: Allocator>(
     put_group_statement(out, listed, group, label, &statement)
 }
 
-/// Replaces the buffer by the line of an instruction with these operands, after this label if there is one, and returns the next
-/// place.
+/// Replaces the buffer by the line of an item of code, after this label if there is one, and returns the next place.
 #[inline(always)]
-fn put_instruction<A: Allocator>(
-    out: &mut Line,
-    listed: &ListedImage<'_, A>,
-    group: Group<'_>,
-    label: Option<&[u8]>,
-    op: Op,
-    operands: Operands<'_>,
-) -> ListingPlace
-    requires code { group.role ≡ RangeType.Code }
-    requires group { IsGroupIn listed.now group }
-    requires label { MayFollow listed.now group.index (option_copied label) }
-    requires begins { instruction_in (opcodes listed.now) group.bytes.now ≡ Some op }
-    requires operands { Some (operands_seen operands) ≡ operands_of (names_of listed.now) op.mode group.address group.bytes.now }
-    ensures { IsStatementNext listed.now group.entry.index (option_copied label.entry) out.new.items result }
-{
-    let statement = instruction(listed.opcodes(), op, group.bytes, operands);
-    put_group_statement(out, listed, group, label, &statement)
-}
-
-/// Replaces the buffer by the line of an item of code, after this label if there is one, and returns the next place. Each number
-/// of operands is a case of its own, so that no line moves operands that it does not have.
-#[inline(always)]
-#[tactic(auto, unfolding(crate::specs::Statements::operands_of))]
 fn put_code_line<A: Allocator>(
     out: &mut Line,
     listed: &ListedImage<'_, A>,
@@ -193,23 +164,15 @@ fn put_code_line<A: Allocator>(
     ensures { IsStatementNext listed.now group.entry.index (option_copied label.entry) out.new.items result }
 {
     let map = listed.map();
-    let bytes = group.bytes;
-    let Some(op) = written_op(listed.opcodes(), group.address, bytes) else {
-        let statement = Statement::Bytes(bytes);
-        return put_group_statement(out, listed, group, label, &statement);
-    };
-    let next = u32::from(group.address) + u32::from(op.mode.len());
-    match op.mode.row() {
-        Row::Implied | Row::Accumulator => {
-            put_instruction(out, listed, group, label, op, Operands::None)
+    let opcodes = listed.opcodes();
+    match written_op(opcodes, group.address, group.bytes) {
+        Some(op) => {
+            let statement = instruction(opcodes, map, op, group.address, group.bytes, names);
+            put_group_statement(out, listed, group, label, &statement)
         }
-        Row::One(_, kind) => {
-            let operand = one_operand(map, kind, next, bytes, names);
-            put_instruction(out, listed, group, label, op, operand)
-        }
-        Row::Two(first, second) => {
-            let operands = two_operands(map, first, second, next, bytes, names);
-            put_instruction(out, listed, group, label, op, operands)
+        None => {
+            let statement = Statement::Bytes(group.bytes);
+            put_group_statement(out, listed, group, label, &statement)
         }
     }
 }

@@ -45,7 +45,16 @@ pub fn put_plain(out: &mut Line, style: &Style, statement: &Statement<'_>)
     put_statement(out, style, None, statement, 0, &[]);
 }
 
-// The lines of the header are few. Their statements are kept off the stack frame of all other lines.
+// The lines of the header and remarks are few. Their statements are kept off the stack frame of all other lines.
+
+/// Replaces the buffer by a remark.
+#[inline(never)]
+pub fn put_remark(out: &mut Line, style: &Style, text: &[u8])
+    requires { IsPrintable (view.remark text.now) }
+    ensures { out.new.items ≡ line_text style.now (plain (view.remark text.now)) }
+{
+    put_plain(out, style, &Statement::Remark(text));
+}
 
 /// Replaces the buffer by the first line of a listing.
 #[inline(never)]

@@ -1,13 +1,12 @@
 //! The statement of a group.
 
-ghost use Rattle.std.specs.Prelude.{◌≡◌, ◌≢◌, ◌+◌, ◌*◌, ◌<◌, ◌≤◌, ℕ, [], Some, is_some, length, option_map, slice_index, true};
+ghost use Rattle.std.specs.Prelude.{◌≡◌, ◌≢◌, ◌+◌, ◌*◌, ◌<◌, ◌≤◌, ℕ, [], Some, is_some, length, slice_index, true};
 ghost use Rattle.info65.specs.Names.{AreNames};
 ghost use Rattle.isa65.specs.Mode.{len_of, row_len, size_of};
 ghost use Rattle.isa65.specs.Opcodes.{Table};
 ghost use Rattle.isa65.specs.declared.row.Row.TheVariants.{Two};
 ghost use Rattle.map65.specs.Targets.{entry_of, target_of};
 ghost use Rattle.stmt65.specs.SourceLine.{is_absolute};
-ghost use Rattle.stmt65.specs.Views.{one};
 ghost use Rattle.stmt65.specs.Code.StatementViews.{expr_seen, operands_seen, statement_seen};
 ghost use Rattle.da65.specs.BaseNames.{Names, names_of};
 ghost use Rattle.da65.specs.Code.WrittenOps.{IsWrittenOp};
@@ -136,28 +135,10 @@ fn operand_expr<'n, A: Allocator>(
     }
 }
 
-/// One operand, of this kind.
-#[inline(always)]
-pub fn one_operand<'n, A: Allocator>(
-    map: &Map<'_, A>,
-    kind: OperandKind,
-    next: u32,
-    bytes: &[u8],
-    names: &'n mut OperandNames,
-) -> Operands<'n>
-    requires names { AreNames map.now.info.names }
-    requires all { 1 + size_of kind ≤ length bytes.now }
-    requires room { next ≤ 65536 }
-    requires inside { is_some (operand_expr (names_of map.now) kind next 1 bytes.now) ≡ true }
-    ensures { Some (operands_seen result) ≡ option_map (λ e. one e) (operand_expr (names_of map.now) kind next 1 bytes.now) }
-{
-    Operands::One(operand_expr(map, kind, next, 1, bytes, &mut names.first))
-}
-
 /// Two operands, of these kinds.
 #[inline(never)]
 #[tactic(auto, using(crate::proofs::Instructions::WrittenLaws::are_both))]
-pub fn two_operands<'n, A: Allocator>(
+fn two_operands<'n, A: Allocator>(
     map: &Map<'_, A>,
     first: OperandKind,
     second: OperandKind,
@@ -177,6 +158,37 @@ pub fn two_operands<'n, A: Allocator>(
         tested,
         operand_expr(map, second, next, at, bytes, &mut names.second),
     )
+}
+
+/// The operands of an instruction in this mode at this address, with the names of their addresses.
+#[inline(always)]
+#[tactic(auto, using(crate::proofs::Instructions::WrittenLaws::is_one), unfolding(crate::specs::Statements::operands_of))]
+fn operands_of<'n, A: Allocator>(
+    map: &Map<'_, A>,
+    mode: Mode,
+    address: u16,
+    bytes: &[u8],
+    names: &'n mut OperandNames,
+) -> Operands<'n>
+    requires names { AreNames map.now.info.names }
+    requires all { len_of mode ≤ length bytes.now }
+    requires room { address + length bytes.now ≤ 65536 }
+    requires inside { is_some (operands_of (names_of map.now) mode address bytes.now) ≡ true }
+    ensures { Some (operands_seen result) ≡ operands_of (names_of map.now) mode address bytes.now }
+{
+    let next = u32::from(address) + u32::from(mode.len());
+    match mode.row() {
+        Row::Implied | Row::Accumulator => Operands::None,
+        Row::One(_, kind) => Operands::One(operand_expr(
+            map,
+            kind,
+            next,
+            1,
+            bytes,
+            &mut names.first,
+        )),
+        Row::Two(first, second) => two_operands(map, first, second, next, bytes, names),
+    }
 }
 
 /// Whether `a:` stands before the operand: an assembler would take the zero-page mode without it.
@@ -203,22 +215,25 @@ fn written_size<S: OpcodeSet>(set: &S, op: Op, bytes: &[u8]) -> AddressSize
     }
 }
 
-/// The statement of an item of code that is written as this instruction with these operands.
+/// The statement of an item of code that is written as this instruction.
 #[inline(always)]
-pub fn instruction<'a, S: OpcodeSet>(
+pub fn instruction<'a, S: OpcodeSet, A: Allocator>(
     set: &S,
+    map: &Map<'_, A>,
     op: Op,
+    address: u16,
     bytes: &[u8],
-    operands: Operands<'a>,
+    names: &'a mut OperandNames,
 ) -> Statement<'a>
-    requires { instruction_in (S.table set.now) bytes.now ≡ Some op }
-    ensures { (n : Names) (a : ℕ) → Some (operands_seen operands.entry) ≡ operands_of n op.mode a bytes.now
-        → statement_seen result ≡ statement_in n (S.table set.now) a bytes.now }
+    requires names { AreNames map.now.info.names }
+    requires room { address + length bytes.now ≤ 65536 }
+    requires written { IsWrittenOp (S.table set.now) address bytes.now (Some op) }
+    ensures { statement_seen result ≡ statement_in (names_of map.now) (S.table set.now) address bytes.now }
 {
     Statement::Instr {
         op,
         size: written_size(set, op, bytes),
-        operands,
+        operands: operands_of(map, op.mode, address, bytes, names),
     }
 }
 

@@ -7,7 +7,7 @@ pub returns-in-Some-clause-line : goal.returns-in-Some-clause-line
 returns-in-Some-clause-line g c =
     first-text _ _ _ _ _ _
     (sym c.loop-at.invariant ∙ lines-here (comment_lines _) _ c.loop-at.at _ c.loop-at-test.true (ap comment_line (sym c.comment_at.ensures.comment ∙ ap option_copied c.in-Some.is)))
-    c.put_plain.ensures
+    c.put_remark.ensures
     c.style.ensures.style
 
 pub loop-at-preserved : goal.loop-at-preserved
