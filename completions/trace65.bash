@@ -10,6 +10,6 @@ _trace65() {
     -S | --start-addr | --entry) compopt +o default; return ;;
     --cpu) COMPREPLY=($(compgen -W '6502 65SC02 65C02' -- "$word")); return ;;
     esac
-    [[ $word != -* ]] || COMPREPLY=($(compgen -W '-i --info -o -S --start-addr --cpu --entry --plain -h --help -V --version' -- "$word"))
+    [[ $word != -* ]] || COMPREPLY=($(compgen -W '-i --info -o -S --start-addr --cpu --entry --plain --whole -h --help -V --version' -- "$word"))
 }
 complete -o default -F _trace65 trace65

@@ -256,7 +256,8 @@ for prefix in '' proved-; do
     make -s uninstall DESTDIR="$made" PREFIX=/usr PROGRAM_PREFIX="$prefix" || fails installing "make uninstall PROGRAM_PREFIX=$prefix"
     [ -z "$(find "$made" -type f)" ] || fails installing "left after make uninstall: $(find "$made" -type f)"
 done
-[ "$(options da65 | wc -l)" = 17 ] && [ "$(options as65 | wc -l)" = 11 ] && [ "$(options trace65 | wc -l)" = 12 ] && [ "$(options name65 | wc -l)" = 10 ] || fails installing 'the help texts have other options than these lists'
+[ "$(options da65 | wc -l)" = 17 ] && [ "$(options as65 | wc -l)" = 11 ] && [ "$(options trace65 | wc -l)" = 13 ] &&
+    [ "$(options name65 | wc -l)" = 10 ] || fails installing 'the help texts have other options than these lists'
 
 grep -nE '\.md\b|docs/|crates/|examples/' docs/*.[15] | grep -v ':1:' && fails installing 'a man page refers to what is not installed'
 if command -v mandoc >/dev/null; then

@@ -88,6 +88,7 @@ help+='  -S, --start-addr addr    start address\n'
 help+='  --cpu type               6502, 65SC02 or 65C02\n'
 help+='  --entry addr[,addr..]    further entries of code\n'
 help+='  --plain                  follow no more than the entries\n'
+help+='  --whole                  write the information file first\n'
 help+='  -h, --help               this text\n'
 help+='  -V, --version            version\n'
 
@@ -125,11 +126,12 @@ image bad.info 'ASMINC { FILE "bad.inc"; };\n'
 runs 'a refused include file' 1 '' 'trace65: include bad.inc:2: bad include line\n' -i bad.info examples/three.bin
 
 echo old >out.info
-runs 'an output that is there already' 1 '' 'trace65: cannot create out.info\n' -o out.info examples/three.bin
+runs 'an output that is there already' 1 '' 'trace65: out.info exists\n' -o out.info examples/three.bin
 holds 'an output that is there already' out.info 'old\n'
 cp examples/three.bin three.bin
-runs 'the image as the output, by another name' 1 '' 'trace65: cannot create ./three.bin\n' -o ./three.bin three.bin
+runs 'the image as the output, by another name' 1 '' 'trace65: ./three.bin exists\n' -o ./three.bin three.bin
 same 'the image as the output, by another name' three.bin examples/three.bin
+runs 'an output in a folder that is not there' 1 '' 'trace65: cannot create none/out.info\n' -o none/out.info examples/three.bin
 runs 'a refused run creates no output' 1 '' 'trace65: cannot read none.bin\n' -o new.info none.bin
 is_absent 'a refused run creates no output' new.info
 "$program" examples/three.bin >/dev/full 2>stderr
@@ -408,6 +410,30 @@ runs 'the whole text' 0 "$legend# \$1000 +\n# 9 bytes of code that is reached, 0
 image variable.bin '\x8d\x10\x10\x60'
 runs 'and with a label and a variable' 0 "$legend# \$1000 #\n# 4 bytes of code that is reached, 0 in ranges, 0 in neither\nLABEL { ADDR \$1010; NAME \"L1010\"; };\n#: AFTER { START \$1004; END \$1010; };\n" '' \
     -S 0x1000 variable.bin
+
+# ---- the whole file
+
+# whole NAME WORD..: with --whole the information file, which is given.info, stands before what is written without.
+whole() {
+    local name=$1
+    shift
+    "$program" "$@" >stdout || fails "$name" 'not traced'
+    cat given.info stdout >wanted.txt
+    "$program" --whole "$@" >whole.txt || fails "$name" 'the whole is not traced'
+    same "$name" whole.txt wanted.txt
+}
+
+image given.info '# mine\nLABEL { ADDR $1009; NAME "end"; };\n#: ENTRY { ADDR $1003; };'
+whole 'the whole file' -S 0x1000 -i given.info stores.bin
+cp given.info first.info
+"$program" -S 0x1000 -i first.info --whole -o given.info stores.bin 2>stderr
+ends 'the file that was given as the output' 1 $? 'trace65: given.info exists\n'
+"$program" -S 0x1000 -i first.info --whole -o second.info stores.bin || fails 'the next round' 'not traced'
+proposes 'nothing is left for the next round' '' -S 0x1000 -i second.info stores.bin
+halves 'nor a pair' '' -S 0x1000 -i second.info stores.bin
+: >given.info
+whole 'an empty file' -S 0x1000 -i given.info modes.bin
+whole 'no file' -S 0x1000 modes.bin
 
 # ---- less and less memory
 

@@ -12,7 +12,7 @@ use Rattle.trace65.specs.Findings.{AreFindings, Findings}
 use Rattle.trace65.specs.PairComments.{last_wanted}
 use Rattle.trace65.specs.Misplaced.{misplaced_comments}
 use Rattle.trace65.specs.Picture.{image_marks}
-use Rattle.trace65.specs.Report.{IsAccepted, comments_before, found_comments, legend, legend_more, picture_and_counts, report_text}
+use Rattle.trace65.specs.Report.{IsAccepted, comments_before, found_comments, legend, picture_and_counts, report_text}
 use Rattle.trace65.proofs.CommentLemmas.{found-lines, lines-joined, misplaced-lines, picture-lines}
 
 few-marks : (image : ImageView) (marks : List Bool) → IsPlaced image → length (image_marks image marks) ≤ 65536

@@ -13,12 +13,15 @@ entry_choice = record { id = codes "entry"; short = None; long = Some (codes "en
 abbrev pub plain_choice : ChoiceView
 plain_choice = record { id = codes "plain"; short = None; long = Some (codes "plain"); value = None; purpose = codes "follow no more than the entries" }
 
+abbrev pub whole_choice : ChoiceView
+whole_choice = record { id = codes "whole"; short = None; long = Some (codes "whole"); value = None; purpose = codes "write the information file first" }
+
 -- the usage line, the options in the order of the help text, and an optional image
 abbrev pub this_program : ProgramView
 this_program = record {
   name = codes "trace65";
   usage = codes "Usage: trace65 [options] [image]";
-  choices = info_choice ∷ new_file_choice ∷ start_choice ∷ cpu_choice ∷ entry_choice ∷ plain_choice ∷ help_choice ∷ version_choice ∷ [];
+  choices = info_choice ∷ new_file_choice ∷ start_choice ∷ cpu_choice ∷ entry_choice ∷ plain_choice ∷ whole_choice ∷ help_choice ∷ version_choice ∷ [];
   input = codes "image";
 }
 

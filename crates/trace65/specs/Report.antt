@@ -1,5 +1,5 @@
 -- The text that is written: lines of an information file.
-use Rattle.std.specs.Prelude.{◌≡◌, ◌≤◌, ℕ, Bool, Ok, List, [], ◌∷◌, ◌++◌, codes, flat_map, length}
+use Rattle.std.specs.Prelude.{◌≡◌, ◌≤◌, ℕ, Bool, true, false, Ok, List, [], ◌∷◌, ◌++◌, codes, flat_map, length}
 use Rattle.info65.specs.Reader.{information}
 use Rattle.info65.specs.Views.{InfoView, OptionsView}
 use Rattle.info65.specs.declared.information.range.RangeSpec.{RangeSpec}
@@ -52,3 +52,14 @@ pub record IsReport (m : MapView) (given : List ℕ) (plain : Bool) (tags : List
   pub are : AreFindings m given plain tags found
   pub lines : text ≡ report_text m tags found
   pub accepted : IsAccepted m found.ranges found.labels text
+
+-- the information file, if the whole is to be written
+abbrev pub file_before : Bool → List ℕ → List ℕ
+file_before true file = file
+file_before false file = []
+
+-- what is written: the information file, if the whole is to be written, and then the text of what is found
+pub record IsWritten (m : MapView) (given : List ℕ) (plain whole : Bool) (tags : List Tag) (file text : List ℕ) : Type 0 where
+  pub found : List ℕ
+  pub report : IsReport m given plain tags found
+  pub parts : text ≡ file_before whole file ++ found

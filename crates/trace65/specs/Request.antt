@@ -11,17 +11,18 @@ use Rattle.trace65.specs.Command.{app}
 use Rattle.trace65.specs.declared.request.Request.{Request}
 use Rattle.trace65.specs.declared.request.Request.TheVariants.{Help, Version, Trace}
 
--- what is asked for: the options of da65 that say what the image is, the entries, whether no more is followed, and the output
+-- what is asked for: the options of da65 that say what the image is, the entries, whether no more is followed, whether the information file
+-- is written first, and the output
 pub data Asked : Type 0 where
   AskHelp : Asked
   AskVersion : Asked
-  AskTrace : OptionsView → List ℕ → Bool → Option Text → Asked
+  AskTrace : OptionsView → List ℕ → Bool → Bool → Option Text → Asked
 
 -- a request as what it asks for
 abbrev pub asked_of : Request → Asked
 asked_of Help = AskHelp
 asked_of Version = AskVersion
-asked_of (Trace t) = AskTrace t.options t.entries.items t.plain (option_map string_bytes t.output)
+asked_of (Trace t) = AskTrace t.options t.entries.items t.plain t.whole (option_map string_bytes t.output)
 
 -- ---- the values
 
@@ -51,7 +52,7 @@ traced_in rows = do
   cpu ← given cpu_in (first_of (codes "cpu") rows)
   entries ← entries_given (first_of (codes "entry") rows)
   Ok (AskTrace (record no_options { info = first_of (codes "info") rows; input = first_of (codes "image") rows; start = start; cpu = cpu })
-      entries (is_set (codes "plain") rows) (first_of (codes "output") rows))
+      entries (is_set (codes "plain") rows) (is_set (codes "whole") rows) (first_of (codes "output") rows))
 
 -- help comes first, then the version; both before the value of any option
 unfoldable pub asked_in : List Row → Result Asked UsageFault

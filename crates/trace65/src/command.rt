@@ -7,7 +7,7 @@ ghost use Rattle.trace65.specs.Command.{this_program};
 use usage65::{CPU, Choice, HELP, INFO, OUTPUT, Program, START, VERSION};
 
 /// The options, in the order of the help text.
-static CHOICES: [Choice<'static>; 8] = [
+static CHOICES: [Choice<'static>; 9] = [
     INFO,
     Choice {
         purpose: "output file, which must not be there yet",
@@ -28,6 +28,13 @@ static CHOICES: [Choice<'static>; 8] = [
         long: Some("plain"),
         value: None,
         purpose: "follow no more than the entries",
+    },
+    Choice {
+        id: "whole",
+        short: None,
+        long: Some("whole"),
+        value: None,
+        purpose: "write the information file first",
     },
     HELP,
     VERSION,

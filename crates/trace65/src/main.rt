@@ -22,8 +22,8 @@ mod request;
 mod said;
 
 use command::this_program;
-use failure::Failure;
-use files65::{FileFault, Placeholders};
+use failure::{Failure, not_created};
+use files65::Placeholders;
 use info65::{Info, Tag};
 use information::{contents, image, information, tags};
 use map65::Map;
@@ -48,25 +48,25 @@ fn write<W: Write + Drop>(mut out: W, text: &[u8]) -> Result<(), Failure> {
     }
 }
 
-/// The text of what is found in the image, from these entries and those of the information file; `plain` says that no more is followed.
-fn found_text(
+/// The text that is written of an image, under what the information file of these bytes says.
+fn text_of(
     rt: &HostRuntime,
+    tracing: &Tracing,
     info: &Info,
-    entries: &[u16],
-    plain: bool,
     tags: &[Tag],
+    file: &[u8],
 ) -> Result<Vec<u8>, Failure> {
     let image = image(rt, info)?;
     let map = Map::build(rt.alloc(), info, &image)?;
-    Ok(report(rt.alloc(), &map, entries, plain, tags)?)
+    Ok(report(rt.alloc(), &map, tracing, tags, file)?)
 }
 
-/// The text of what is found under what the information file says.
+/// The text that is written.
 fn traced_text(rt: &HostRuntime, tracing: &Tracing) -> Result<Vec<u8>, Failure> {
     let bytes = contents(rt, &tracing.options)?;
     let info = information(rt, &tracing.options, &bytes)?;
     let tags = tags(rt, &bytes)?;
-    found_text(rt, &info, tracing.entries.as_slice(), tracing.plain, &tags)
+    text_of(rt, tracing, &info, &tags, &bytes)
 }
 
 /// Creates the output and writes the text on it. It must not be there yet, so that no input is written over, whatever its name.
@@ -76,7 +76,7 @@ fn create(rt: &HostRuntime, output: Option<String>, text: &[u8]) -> Result<(), F
     };
     match File::create_new(rt, name.as_str()) {
         Ok(file) => write(file, text),
-        Err(error) => Err(Failure::File(FileFault::of_error(&error, FileFault::Creating(name)))),
+        Err(error) => Err(not_created(&error, name)),
     }
 }
 

@@ -5,13 +5,14 @@ ghost use Rattle.reach65.specs.Pairs.{pairs_of};
 ghost use Rattle.reach65.specs.Pieces.{LieIn};
 ghost use Rattle.reach65.specs.TextLaws.{comment_line};
 ghost use Rattle.trace65.specs.Findings.{AreFindings, ArePairs, AreTraced, AreWordMarks};
-ghost use Rattle.trace65.specs.Report.{IsReport, comments_before, found_comments, legend, legend_more, picture_and_counts, report_text};
+ghost use Rattle.trace65.specs.Report.{IsWritten, comments_before, file_before, found_comments, legend, legend_more, picture_and_counts, report_text};
 
 use crate::labels::put_labels;
 use crate::misplaced::put_misplaced;
 use crate::pair_comments::{put_after, put_pairs};
 use crate::picture::{image_marks, put_counts, put_picture};
 use crate::ranges::put_ranges;
+use crate::request::Tracing;
 use crate::said::all_entries;
 use info65::{RangeSpec, Tag};
 use map65::{Image, Map};
@@ -224,22 +225,33 @@ fn put_report(
     put_comments(out, map, tags, found)
 }
 
-/// Returns the text of what is found in an image, from the entries that are given and those of the information file and the
-/// image, and, unless it is to be plain, from sound beginnings, beside what the groups `#: ..` of the file say. Fails only if an allocation
-/// failed.
+/// The bytes of the information file, if the whole is to be written, else none.
+fn file_before(alloc: Global, whole: bool, file: &[u8]) -> Result<Vec<u8>, AllocError>
+    ensures { IfOk result (λ text. text.items ≡ file_before whole file.now) }
+{
+    let mut text = Vec::new(alloc);
+    if whole {
+        text.extend_from_slice(file)?;
+    }
+    Ok(text)
+}
+
+/// Returns the text that is written: the information file, if the whole is asked for, and then what is found in the image, from the
+/// entries that are given and those of the information file and the image, and, unless it is to be plain, from sound beginnings, beside what
+/// the groups `#: ..` of the file say. Fails only if an allocation failed.
 pub fn report(
     alloc: Global,
     map: &Map<'_>,
-    given: &[u16],
-    plain: bool,
+    tracing: &Tracing,
     tags: &[Tag],
+    file: &[u8],
 ) -> Result<Vec<u8>, AllocError>
-    ensures { IfOk result (λ text. IsReport map.now given.now plain tags.now text.items) }
+    ensures { IfOk result (λ text. IsWritten map.now tracing.now.entries.items tracing.now.plain tracing.now.whole tags.now file.now text.items) }
 {
     text_law();
     map.info();
-    let found = search_image(alloc, map, given, plain, tags)?;
-    let mut text = Vec::new(alloc);
+    let found = search_image(alloc, map, &tracing.entries, tracing.plain, tags)?;
+    let mut text = file_before(alloc, tracing.whole, file)?;
     put_report(&mut text, map, tags, &found)?;
     Ok(text)
 }

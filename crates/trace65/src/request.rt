@@ -32,6 +32,8 @@ pub struct Tracing {
     pub entries: Vec<u16>,
     /// Whether no more than the entries are followed.
     pub plain: bool,
+    /// Whether the information file is written first.
+    pub whole: bool,
     /// The file that the text is written to; without one standard output.
     pub output: Option<String>,
 }
@@ -94,6 +96,7 @@ fn traced_in(alloc: Global, matches: &ArgMatches) -> Result<Request, UsageFault>
         options: options_with(info, input, start, cpu),
         entries,
         plain: is_set(matches, "plain"),
+        whole: is_set(matches, "whole"),
         output,
     }))
 }
