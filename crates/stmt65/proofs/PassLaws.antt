@@ -1,10 +1,9 @@
 -- What a pass has done, line after line.
-use Rattle.std.proofs.Common.{◌≡◌, ℕ, zero, suc, Bool, true, false, ◌+◌, ◌≤◌, List, [], ◌∷◌, ◌++◌, length, map, take, drop, get_or, ◌<◌, arith, length-append, Option, Some, None, refl, sym, ap, ◌∙◌, append_assoc, subst}
+use Rattle.std.proofs.Common.{◌≡◌, ℕ, Bool, true, false, ◌+◌, ◌≤◌, List, [], ◌∷◌, ◌++◌, length, map, take, drop, get_or, ◌<◌, arith, length-append, Option, Some, None, refl, sym, ap, ◌∙◌, append_assoc, subst}
 use Rattle.std.specs.Prelude.{Result, Ok, Err, ◌&&◌, is_some, IfNone}
 use Rattle.std.specs.List.{list_all, flat_map}
 use Rattle.std.proofs.lemmas.Bool.{and_parts}
-use Rattle.std.proofs.lemmas.List.{append-nil, drop_more, take_at}
-use Rattle.std.proofs.Math.ListN.{drop_of_length-le}
+use Rattle.std.proofs.lemmas.List.{append-nil, drop-append-le, drop_all, drop_more, length-drop, take-append-le, take_all, take_at}
 use Rattle.std.specs.Str.{bytes_eq}
 use Rattle.stmt65.specs.declared.assembling.assembler.Pass.{Pass}
 use Rattle.stmt65.specs.declared.assembling.assembler.Source.{Source}
@@ -72,43 +71,29 @@ known_more ds more (DifferenceValue w v) h =
     let both = and_parts (is_some (find_name w ds)) (is_some (find_name v ds)) h in
     rw (find_more w ds more both.0, find_more v ds more both.1) h
 
+-- a fragment whose names are known is the same by more definitions
+pub record Alike (ds all : List Definition) (next : ℕ) (fs : List Fragment) : Type 0 where
+  pub known : list_all (is_fragment_known all) fs ≡ true
+  pub fits : list_all (fragment_fits all next) fs ≡ list_all (fragment_fits ds next) fs
+  pub bytes : flat_map (fragment_bytes all next) fs ≡ flat_map (fragment_bytes ds next) fs
+
 fragment_known_more : (ds more : List Definition) (f : Fragment) → is_fragment_known ds f ≡ true → is_fragment_known (ds ++ more) f ≡ true
 fragment_known_more ds more (Fixed b) h = refl
 fragment_known_more ds more (Fill n b) h = refl
-fragment_known_more ds more (Single v) h = known_more ds more v h
-fragment_known_more ds more (ZeroPage v) h = known_more ds more v h
-fragment_known_more ds more (Oversized v) h = known_more ds more v h
-fragment_known_more ds more (Entry d v) h = known_more ds more v h
-fragment_known_more ds more (Distance v) h = known_more ds more v h
-fragment_known_more ds more (HalfOf half v) h = known_more ds more v h
+fragment_known_more ds more _ h = known_more ds more _ h
 
 fits_more : (ds more : List Definition) (next : ℕ) (f : Fragment) → is_fragment_known ds f ≡ true → fragment_fits (ds ++ more) next f ≡ fragment_fits ds next f
 unfolding fragment_fits word_in entry_in
 fits_more ds more next (Fixed b) h = refl
 fits_more ds more next (Fill n b) h = refl
 fits_more ds more next (Oversized v) h = refl
-fits_more ds more next (Single v) h = rw (value_more ds more v h) refl
-fits_more ds more next (ZeroPage v) h = rw (value_more ds more v h) refl
-fits_more ds more next (Entry d v) h = rw (value_more ds more v h) refl
-fits_more ds more next (Distance v) h = rw (value_more ds more v h) refl
-fits_more ds more next (HalfOf half v) h = rw (value_more ds more v h) refl
+fits_more ds more next _ h = rw (value_more ds more _ h) refl
 
 put_more : (ds more : List Definition) (next : ℕ) (f : Fragment) → is_fragment_known ds f ≡ true → fragment_bytes (ds ++ more) next f ≡ fragment_bytes ds next f
 unfolding fragment_bytes word_in entry_in
 put_more ds more next (Fixed b) h = refl
 put_more ds more next (Fill n b) h = refl
-put_more ds more next (Oversized v) h = rw (value_more ds more v h) refl
-put_more ds more next (Single v) h = rw (value_more ds more v h) refl
-put_more ds more next (ZeroPage v) h = rw (value_more ds more v h) refl
-put_more ds more next (Entry d v) h = rw (value_more ds more v h) refl
-put_more ds more next (Distance v) h = rw (value_more ds more v h) refl
-put_more ds more next (HalfOf half v) h = rw (value_more ds more v h) refl
-
--- the same of each fragment of a line
-pub record Alike (ds all : List Definition) (next : ℕ) (fs : List Fragment) : Type 0 where
-  pub known : list_all (is_fragment_known all) fs ≡ true
-  pub fits : list_all (fragment_fits all next) fs ≡ list_all (fragment_fits ds next) fs
-  pub bytes : flat_map (fragment_bytes all next) fs ≡ flat_map (fragment_bytes ds next) fs
+put_more ds more next _ h = rw (value_more ds more _ h) refl
 
 alike : (ds more : List Definition) (next : ℕ) (fs : List Fragment) → list_all (is_fragment_known ds) fs ≡ true → Alike ds (ds ++ more) next fs
 alike ds more next [] h = record { known = refl; fits = refl; bytes = refl }
@@ -146,33 +131,6 @@ front-nil (Err f) = refl
 front-end : (bytes : List ℕ) → with_front bytes (Ok []) ≡ Ok bytes
 front-end bytes = ap (λ (l : List ℕ). Ok l) (append-nil bytes)
 
-take_front : (n : ℕ) (xs ys : List ℕ) → n ≤ length xs → take n (xs ++ ys) ≡ take n xs
-take_front zero xs ys h = refl
-take_front (suc n) [] ys h = absurd (omega arith)
-take_front (suc n) (x ∷ xs) ys h = ap (λ (l : List ℕ). x ∷ l) (take_front n xs ys (omega arith))
-
-drop_front : (n : ℕ) (xs ys : List ℕ) → n ≤ length xs → drop n (xs ++ ys) ≡ drop n xs ++ ys
-drop_front zero xs ys h = refl
-drop_front (suc n) [] ys h = absurd (omega arith)
-drop_front (suc n) (x ∷ xs) ys h = drop_front n xs ys (omega arith)
-
-drop_len : (n : ℕ) (xs : List ℕ) → n ≤ length xs → length (drop n xs) + n ≡ length xs
-drop_len zero xs h = omega arith
-drop_len (suc n) [] h = absurd (omega arith)
-drop_len (suc n) (x ∷ xs) h = let ih = drop_len n xs (omega arith) in omega arith
-
-take_whole : (n : ℕ) (xs : List ℕ) → n ≡ length xs → take n xs ≡ xs
-take_whole zero [] h = refl
-take_whole zero (x ∷ xs) h = absurd (omega arith)
-take_whole (suc n) [] h = refl
-take_whole (suc n) (x ∷ xs) h = ap (λ (l : List ℕ). x ∷ l) (take_whole n xs (omega arith))
-
-drop_whole : (n : ℕ) (xs : List ℕ) → n ≡ length xs → drop n xs ≡ []
-drop_whole zero [] h = refl
-drop_whole zero (x ∷ xs) h = absurd (omega arith)
-drop_whole (suc n) [] h = refl
-drop_whole (suc n) (x ∷ xs) h = drop_whole n xs (omega arith)
-
 -- ---- late lines
 
 fronts_push : {A : Type 0} (ls : List (Late A)) (l : Late A) → fronts (ls ++ l ∷ []) ≡ fronts ls + l.front
@@ -187,19 +145,18 @@ unfolding coded_late fronts
 late_more all layout [] settled bytes rest h = sym (front-front settled bytes rest)
 late_more all layout (l ∷ ls) settled bytes rest h =
     let fits : l.front ≤ length settled = omega arith in
-    let ih = late_more all layout ls (drop l.front settled) bytes rest (omega (arith, drop_len l.front settled fits)) in
-    rw (take_front l.front settled bytes fits, drop_front l.front settled bytes fits, ih) refl
+    let ih = late_more all layout ls (drop l.front settled) bytes rest (omega (arith, length-drop l.front settled)) in
+    rw (take-append-le l.front settled bytes fits, drop-append-le l.front settled bytes fits, ih) refl
 
 -- one more of them
 late_push : {A : Type 0} (all : List Definition) (layout : Layout) (ls : List (Late A)) (l : Late A) (settled : List ℕ) (rest : Result (List ℕ) AsmFault) → fronts ls + l.front ≡ length settled
     → coded_late all layout (ls ++ l ∷ []) settled rest ≡ coded_late all layout ls settled (unless l.number (fault_of all (late_state all layout l) (Some (source_of l.source))) (with_front (bytes_of all (late_state all layout l) (Some (source_of l.source))) rest))
 unfolding coded_late fronts
 late_push all layout [] l settled rest h =
-    let e : l.front ≡ length settled = omega arith in
-    rw (take_whole l.front settled e, drop_whole l.front settled e, front-nil rest) refl
+    rw (take_all l.front settled (omega arith), drop_all l.front settled (omega arith), front-nil rest) refl
 late_push all layout (k ∷ ls) l settled rest h =
     let fits : k.front ≤ length settled = omega arith in
-    rw (late_push all layout ls l (drop k.front settled) rest (omega (arith, drop_len k.front settled fits))) refl
+    rw (late_push all layout ls l (drop k.front settled) rest (omega (arith, length-drop k.front settled))) refl
 
 -- where a fault is below them, no bytes matter
 late_fault : {A : Type 0} (all : List Definition) (layout : Layout) (ls : List (Late A)) (fault : AsmFault) → (e : AsmFault) × ((settled : List ℕ) → coded_late all layout ls settled (Err fault) ≡ Err e)
@@ -356,7 +313,7 @@ late_next all layout ls i l settled out front put new more rest total inside is 
 late_end : {A : Type 0} (all : List Definition) (layout : Layout) (ls : List (Late A)) (i : ℕ) (settled out : List ℕ) (rest total : Result (List ℕ) AsmFault) → length ls ≤ i
     → with_front out (coded_late all layout (drop i ls) settled rest) ≡ total → total ≡ with_front (out ++ settled) rest
 unfolding coded_late
-late_end all layout ls i settled out rest total past h = sym (rw (drop_of_length-le ls past) at h) ∙ front-front out settled rest
+late_end all layout ls i settled out rest total past h = sym (rw (drop_all i ls past) at h) ∙ front-front out settled rest
 
 pub end_faulty : {A : Type 0} (all : List Definition) (layout : Layout) (ls : List (Late A)) (i : ℕ) (settled out : List ℕ) (fault : Option AsmFault) (f : AsmFault) (total : Result (List ℕ) AsmFault) → length ls ≤ i
     → with_front out (coded_late all layout (drop i ls) settled (fault_or fault (Ok []))) ≡ total → fault ≡ Some f → total ≡ Err f

@@ -11,7 +11,8 @@
 //! `operations` and `whole_line` take from it what they are named for.
 //!
 //! `assembling`: [`assemble`] answers the bytes that a text means from a start, or its first fault. It
-//! goes over the lines twice: once for the names (`symbols`), once for the bytes (`coding`, `emit`). [`assemble_source`] does it in
+//! goes over the lines once, for the names (`symbols`) and the bytes (`coding`, `emit`); what waits for a name below it (`late`)
+//! is coded after that. [`assemble_source`] does it in
 //! either language, with segments that begin where a [`Layout`] says.
 //! [`line_addresses`] returns the address after each line, which says which line gave a byte, and [`Definitions`] the
 //! value of an expression by all names of a text.

@@ -21,13 +21,13 @@ use Rattle.stmt65.specs.Code.SourceLineViews.{numeral_of, value_of, datum_of}
 
 abbrev pub fragment_of : CodeFragment → Fragment
 fragment_of (code_fragment.Fixed b) = Fixed b
-fragment_of (code_fragment.Single v) = Single (value_of v)
-fragment_of (code_fragment.ZeroPage v) = ZeroPage (value_of v)
-fragment_of (code_fragment.Oversized v) = Oversized (value_of v)
-fragment_of (code_fragment.Entry d v) = Entry d (value_of v)
-fragment_of (code_fragment.Distance v) = Distance (value_of v)
-fragment_of (code_fragment.Half half v) = HalfOf half (value_of v)
-fragment_of (code_fragment.Reserved n v) = Fill (numeral_of n) (numeral_of v)
+fragment_of (code_fragment.Single v) = Single (value_of v.now)
+fragment_of (code_fragment.ZeroPage v) = ZeroPage (value_of v.now)
+fragment_of (code_fragment.Oversized v) = Oversized (value_of v.now)
+fragment_of (code_fragment.Entry d v) = Entry d (value_of v.now)
+fragment_of (code_fragment.Distance v) = Distance (value_of v.now)
+fragment_of (code_fragment.Half half v) = HalfOf half (value_of v.now)
+fragment_of (code_fragment.Reserved n v) = Fill (numeral_of n.now) (numeral_of v.now)
 fragment_of (code_fragment.Gap n b) = Fill n b
 
 abbrev pub operand_of : CodeOperand → List Fragment

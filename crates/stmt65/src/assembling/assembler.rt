@@ -1,4 +1,4 @@
-//! The assembler: two passes over the lines of a text.
+//! The assembler: a pass over the lines of a text, and one over those that wait for a name below them.
 
 ghost use Rattle.std.specs.Prelude.{◌≡◌, ◌<◌, ◌++◌, [], Some, Ok, IfOk, OnOk};
 ghost use Rattle.stmt65.specs.Lexing.{parts};

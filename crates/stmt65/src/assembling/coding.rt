@@ -22,40 +22,40 @@ use std::alloc::Allocator;
 
 /// What bytes of a statement stand for.
 #[derive(Clone, Copy)]
-pub enum Fragment<'a> {
+pub enum Fragment<'s, 'a> {
     /// A byte that the line itself gives: an opcode, or a byte of a string.
     Fixed(u8),
     /// A value from 0 to $FF.
-    Single(Value<'a>),
+    Single(&'s Value<'a>),
     /// A zero-page address.
-    ZeroPage(Value<'a>),
+    ZeroPage(&'s Value<'a>),
     /// The operand of a zero-page mode that has not zero-page size, so it never fits.
-    Oversized(Value<'a>),
+    Oversized(&'s Value<'a>),
     /// A number as the directive gives it.
-    Entry(Directive, Value<'a>),
+    Entry(Directive, &'s Value<'a>),
     /// A word, as its signed distance from the address after the statement.
-    Distance(Value<'a>),
+    Distance(&'s Value<'a>),
     /// The low or the high byte of a word.
-    Half(Half, Value<'a>),
+    Half(Half, &'s Value<'a>),
     /// So many bytes of one value, as they are written.
-    Reserved(Numeral<'a>, Numeral<'a>),
+    Reserved(&'s Numeral<'a>, &'s Numeral<'a>),
     /// So many bytes of one value, up to the start of a segment.
     Gap(u16, u8),
 }
 
 /// What follows an opcode.
 #[derive(Clone, Copy)]
-pub enum Operand<'a> {
+pub enum Operand<'s, 'a> {
     None,
-    One(Fragment<'a>),
-    Two(Fragment<'a>, Fragment<'a>),
+    One(Fragment<'s, 'a>),
+    Two(Fragment<'s, 'a>, Fragment<'s, 'a>),
 }
 
 /// An opcode and its operand.
 #[derive(Clone, Copy)]
-pub struct Instruction<'a> {
+pub struct Instruction<'s, 'a> {
     pub opcode: u8,
-    pub operand: Operand<'a>,
+    pub operand: Operand<'s, 'a>,
 }
 
 /// The coding of an operation, or what is left of it.
@@ -64,9 +64,9 @@ pub enum Coded<'s, 'a> {
     /// No bytes.
     Nothing,
     /// An opcode and its operand.
-    Instruction(Instruction<'a>),
+    Instruction(Instruction<'s, 'a>),
     /// An operand whose opcode has been taken, or bytes that are reserved.
-    Operand(Operand<'a>),
+    Operand(Operand<'s, 'a>),
     /// Numbers and strings.
     Data(&'s [Datum<'a>]),
     /// Numbers as the directive gives them.
@@ -74,7 +74,7 @@ pub enum Coded<'s, 'a> {
 }
 
 /// A mode, and what then follows the opcode.
-type Way<'a> = (Mode, Operand<'a>);
+type Way<'s, 'a> = (Mode, Operand<'s, 'a>);
 
 /// What an instruction is coded by: the opcodes of the CPU, its mnemonic, and the definitions above it.
 #[derive(Clone, Copy)]
@@ -84,10 +84,10 @@ struct Coder<'c, 'n, 't, A: Allocator + Clone> {
     above: &'c Names<'n, 't, A>,
 }
 
-fn way<'a, A: Allocator + Clone>(
+fn way<'s, 'a, A: Allocator + Clone>(
     coder: &Coder<'_, '_, '_, A>,
-    way: Way<'a>,
-) -> Option<Instruction<'a>>
+    way: Way<'s, 'a>,
+) -> Option<Instruction<'s, 'a>>
     ensures { IsFirstWay result coder.now (way_of way.entry ∷ []) }
 {
     let (mode, operand) = way;
@@ -97,11 +97,11 @@ fn way<'a, A: Allocator + Clone>(
 
 /// The first of two ways whose mode the mnemonic has.
 #[tactic(auto, using(crate::proofs::CodingLemmas::tries))]
-fn first_way<'a, A: Allocator + Clone>(
+fn first_way<'s, 'a, A: Allocator + Clone>(
     coder: &Coder<'_, '_, '_, A>,
-    first: Way<'a>,
-    second: Way<'a>,
-) -> Option<Instruction<'a>>
+    first: Way<'s, 'a>,
+    second: Way<'s, 'a>,
+) -> Option<Instruction<'s, 'a>>
     ensures { IsFirstWay result coder.now (way_of first.entry ∷ way_of second.entry ∷ []) }
 {
     if let Some(found) = way(coder, first) {
@@ -111,15 +111,18 @@ fn first_way<'a, A: Allocator + Clone>(
 }
 
 /// An operand of 16 bits, as `.addr` gives it.
-fn word_operand(value: Value<'_>) -> Fragment<'_>
-    ensures { fragment_of result ≡ word_operand (value_of value.entry) }
+fn word_operand<'s, 'a>(value: &'s Value<'a>) -> Fragment<'s, 'a>
+    ensures { fragment_of result ≡ word_operand (value_of value.now) }
 {
     Fragment::Entry(Directive::Addr, value)
 }
 
 /// An operand that only the zero page has.
-fn zero_page<'a, A: Allocator + Clone>(above: &Names<'_, '_, A>, value: Value<'a>) -> Fragment<'a>
-    ensures { fragment_of result ≡ zero_page above.now (value_of value.entry) }
+fn zero_page<'s, 'a, A: Allocator + Clone>(
+    above: &Names<'_, '_, A>,
+    value: &'s Value<'a>,
+) -> Fragment<'s, 'a>
+    ensures { fragment_of result ≡ zero_page above.now (value_of value.now) }
 {
     if has_zero_page_size(above, value) {
         Fragment::ZeroPage(value)
@@ -129,13 +132,13 @@ fn zero_page<'a, A: Allocator + Clone>(above: &Names<'_, '_, A>, value: Value<'a
 }
 
 /// The zero-page mode first if the operand has that size, else the absolute one.
-fn by_size<'a, A: Allocator + Clone>(
+fn by_size<'s, 'a, A: Allocator + Clone>(
     coder: &Coder<'_, '_, '_, A>,
     short: Mode,
     long: Mode,
-    value: Value<'a>,
-) -> Option<Instruction<'a>>
-    ensures { IsFirstWay result coder.now (by_size coder.now.above.now short long (value_of value.entry)) }
+    value: &'s Value<'a>,
+) -> Option<Instruction<'s, 'a>>
+    ensures { IsFirstWay result coder.now (by_size coder.now.above.now short long (value_of value.now)) }
 {
     let absolute = (long, Operand::One(word_operand(value)));
     if has_zero_page_size(coder.above, value) {
@@ -154,11 +157,11 @@ fn by_size<'a, A: Allocator + Clone>(
 
 /// An expression alone: by size, else relative.
 #[tactic(auto, using(crate::proofs::CodingLemmas::after_sizes), unfolding(crate::specs::Coding::ways))]
-fn direct<'a, A: Allocator + Clone>(
+fn direct<'s, 'a, A: Allocator + Clone>(
     coder: &Coder<'_, '_, '_, A>,
-    value: Value<'a>,
-) -> Option<Instruction<'a>>
-    ensures { IsFirstWay result coder.now (ways coder.now.above.now (Direct Automatic (value_of value.entry))) }
+    value: &'s Value<'a>,
+) -> Option<Instruction<'s, 'a>>
+    ensures { IsFirstWay result coder.now (ways coder.now.above.now (Direct Automatic (value_of value.now))) }
 {
     if let Some(found) = by_size(coder, Mode::Zp, Mode::Abs, value) {
         return Some(found);
@@ -167,13 +170,13 @@ fn direct<'a, A: Allocator + Clone>(
 }
 
 /// A mode that only the zero page has, else one that takes either size.
-fn indirect<'a, A: Allocator + Clone>(
+fn indirect<'s, 'a, A: Allocator + Clone>(
     coder: &Coder<'_, '_, '_, A>,
     short: Mode,
     long: Mode,
-    value: Value<'a>,
-) -> Option<Instruction<'a>>
-    ensures { IsFirstWay result coder.now (zero_page_first coder.now.above.now short long (value_of value.entry)) }
+    value: &'s Value<'a>,
+) -> Option<Instruction<'s, 'a>>
+    ensures { IsFirstWay result coder.now (zero_page_first coder.now.above.now short long (value_of value.now)) }
 {
     let zero_page = (short, Operand::One(zero_page(coder.above, value)));
     first_way(coder, zero_page, (long, Operand::One(word_operand(value))))
@@ -181,11 +184,11 @@ fn indirect<'a, A: Allocator + Clone>(
 
 /// The coding of an instruction, or `None` if the mnemonic has no mode of the written form; after `a:` the absolute mode alone.
 #[tactic(auto, unfolding(crate::specs::Coding::ways))]
-fn instruction_in<'a, A: Allocator + Clone>(
+fn instruction_in<'s, 'a, A: Allocator + Clone>(
     coder: &Coder<'_, '_, '_, A>,
-    form: Form<'a>,
-) -> Option<Instruction<'a>>
-    ensures { IsFirstWay result coder.now (ways coder.now.above.now (form_of form.entry)) }
+    form: &'s Form<'a>,
+) -> Option<Instruction<'s, 'a>>
+    ensures { IsFirstWay result coder.now (ways coder.now.above.now (form_of form.now)) }
 {
     match form {
         Form::Empty => way(coder, (Mode::Imp, Operand::None)),
@@ -193,7 +196,7 @@ fn instruction_in<'a, A: Allocator + Clone>(
         Form::Immediate(v) => way(coder, (Mode::Imm, Operand::One(Fragment::Single(v)))),
         Form::ImmediateHalf(half, v) => way(
             coder,
-            (Mode::Imm, Operand::One(Fragment::Half(half, v))),
+            (Mode::Imm, Operand::One(Fragment::Half(*half, v))),
         ),
         Form::Direct(AddressSize::Absolute, v) => way(
             coder,
@@ -249,13 +252,13 @@ pub fn coding<'s, 'a, L: Allocator + Clone, A: Allocator + Clone, B: Allocator>(
                 mnemonic: *mnemonic,
                 above,
             };
-            let instruction = instruction_in(&coder, *form)?;
+            let instruction = instruction_in(&coder, form)?;
             Some(Coded::Instruction(instruction))
         }
         Operation::Data(data) => Some(Coded::Data(data)),
         Operation::Values(directive, values) => Some(Coded::Values(*directive, values)),
         Operation::Reserve(count, value) => {
-            let reserved = Fragment::Reserved(*count, *value);
+            let reserved = Fragment::Reserved(count, value);
             Some(Coded::Operand(Operand::One(reserved)))
         }
         Operation::Segment(name) => Some(gap(state, name)),

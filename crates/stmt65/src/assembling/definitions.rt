@@ -51,7 +51,7 @@ impl<'t, 'l, 'n, 'b, L: Allocator + Clone, A: Allocator> Definitions<'t, 'l, 'n,
     pub fn is_known(&self, value: Value<'_>) -> bool
         ensures { result ≡ is_known self.now (value_of value.entry) }
     {
-        is_known(&self.names.all(), value)
+        is_known(&self.names.all(), &value)
     }
 
     /// The value of the expression if it is from 0 to $FFFF, as `.word` takes it.
@@ -59,6 +59,6 @@ impl<'t, 'l, 'n, 'b, L: Allocator + Clone, A: Allocator> Definitions<'t, 'l, 'n,
     pub fn word(&self, value: Value<'_>) -> Option<u16>
         ensures { result ≡ word_in self.now (value_of value.entry) }
     {
-        word_in(&self.names.all(), value)
+        word_in(&self.names.all(), &value)
     }
 }

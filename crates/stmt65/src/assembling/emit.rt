@@ -35,8 +35,8 @@ fn fragment_len(fragment: Fragment) -> u64
 // ---- how many bytes
 
 #[tactic(auto, using(crate::proofs::CodingLemmas::datum_len), unfolding(crate::specs::Coding::coding_len))]
-fn datum_len(datum: Datum) -> u64
-    ensures { result ≡ held (coding_len (datum_fragments (datum_of datum.entry))) }
+fn datum_len(datum: &Datum) -> u64
+    ensures { result ≡ held (coding_len (datum_fragments (datum_of datum.now))) }
 {
     match datum {
         Datum::String(bytes) => bytes.len() as u64,
@@ -49,7 +49,7 @@ fn data_len(items: &[Datum]) -> u64
 {
     let mut len: u64 = 0;
     'data: for datum in items {
-        len = len.saturating_add(datum_len(*datum));
+        len = len.saturating_add(datum_len(datum));
     }
     len
 }
@@ -95,13 +95,13 @@ pub fn coded_len(coded: Coded) -> u64
 
 // ---- whether each name has a definition
 
-fn is_datum_known<A: Allocator + Clone>(names: &Names<'_, '_, A>, datum: Datum) -> bool
-    ensures { result ≡ list_all (is_fragment_known names.now) (datum_fragments (datum_of datum.entry)) }
+fn is_datum_known<A: Allocator + Clone>(names: &Names<'_, '_, A>, datum: &Datum) -> bool
+    ensures { result ≡ list_all (is_fragment_known names.now) (datum_fragments (datum_of datum.now)) }
 {
     match datum {
-        Datum::Number(number) => is_known(names, Value::Number(number)),
-        Datum::Value(value) | Datum::Half(_, value) => is_known(names, value),
+        Datum::Number(number) => is_known(names, &Value::Number(*number)),
         Datum::String(_) => true,
+        Datum::Value(value) | Datum::Half(_, value) => is_known(names, value),
     }
 }
 
@@ -110,7 +110,7 @@ fn are_data_known<A: Allocator + Clone>(names: &Names<'_, '_, A>, items: &[Datum
     ensures { result ≡ list_all (is_fragment_known names.now) (data_fragments items.now) }
 {
     'data: for datum in items {
-        if !is_datum_known(names, *datum) {
+        if !is_datum_known(names, datum) {
             return false;
         }
     }
@@ -125,7 +125,7 @@ fn are_values_known<A: Allocator + Clone>(
     ensures { result ≡ list_all (is_fragment_known names.now) (entry_fragments directive values.now) }
 {
     'values: for value in values {
-        if !is_fragment_known(names, Fragment::Entry(directive, *value)) {
+        if !is_fragment_known(names, Fragment::Entry(directive, value)) {
             return false;
         }
     }
@@ -164,16 +164,17 @@ fn put_datum<A: Allocator + Clone, B: Allocator>(
     out: &mut Vec<u8, B>,
     names: &Names<'_, '_, A>,
     next: u64,
-    datum: Datum,
+    datum: &Datum,
 ) -> Result<bool, AllocError>
-    ensures { IfOk result (λ fits. PutsAll fits names.now next (datum_fragments (datum_of datum.entry)) out.old.items out.new.items) }
+    ensures { IfOk result (λ fits. PutsAll fits names.now next (datum_fragments (datum_of datum.now)) out.old.items out.new.items) }
 {
     match datum {
         Datum::Number(number) => {
-            put_fragment(out, names, next, Fragment::Single(Value::Number(number)))
+            let value = Value::Number(*number);
+            put_fragment(out, names, next, Fragment::Single(&value))
         }
         Datum::Value(value) => put_fragment(out, names, next, Fragment::Single(value)),
-        Datum::Half(half, value) => put_fragment(out, names, next, Fragment::Half(half, value)),
+        Datum::Half(half, value) => put_fragment(out, names, next, Fragment::Half(*half, value)),
         Datum::String(bytes) => {
             out.extend_from_slice(bytes)?;
             Ok(true)
@@ -191,7 +192,7 @@ fn put_data<A: Allocator + Clone, B: Allocator>(
     ensures { IfOk result (λ fits. PutsAll fits names.now next (data_fragments items.now) out.old.items out.new.items) }
 {
     'data: for datum in items {
-        if !put_datum(out, names, next, *datum)? {
+        if !put_datum(out, names, next, datum)? {
             return Ok(false);
         }
     }
@@ -208,7 +209,7 @@ fn put_values<A: Allocator + Clone, B: Allocator>(
     ensures { IfOk result (λ fits. PutsAll fits names.now next (entry_fragments directive values.now) out.old.items out.new.items) }
 {
     'values: for value in values {
-        if !put_fragment(out, names, next, Fragment::Entry(directive, *value))? {
+        if !put_fragment(out, names, next, Fragment::Entry(directive, value))? {
             return Ok(false);
         }
     }

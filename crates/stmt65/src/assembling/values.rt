@@ -16,10 +16,10 @@ use std::alloc::Allocator;
 /// The value, or `None` if it is below 0 or the name is undefined. A number of the expression that
 /// is greater than 2^64 - 1 counts as that.
 #[tactic(auto, unfolding(crate::specs::Symbols::value_in))]
-fn value_in<A: Allocator + Clone>(names: &Names<'_, '_, A>, value: Value) -> Option<u128>
-    ensures { result ≡ value_in names.now (held_value (value_of value.entry)) }
+fn value_in<A: Allocator + Clone>(names: &Names<'_, '_, A>, value: &Value) -> Option<u128>
+    ensures { result ≡ value_in names.now (held_value (value_of value.now)) }
 {
-    match value {
+    match *value {
         Value::Number(n) => Some(u128::from(n.value())),
         Value::Name(name, n, minus) => {
             let definition = names.find(name)?;
@@ -60,10 +60,10 @@ fn lowered(minus: Minus, n: u128) -> Option<u128>
 
 /// Whether each name in the expression has a definition.
 #[tactic(auto, unfolding(crate::specs::Symbols::is_known))]
-pub fn is_known<A: Allocator + Clone>(names: &Names<'_, '_, A>, value: Value) -> bool
-    ensures { result ≡ is_known names.now (value_of value.entry) }
+pub fn is_known<A: Allocator + Clone>(names: &Names<'_, '_, A>, value: &Value) -> bool
+    ensures { result ≡ is_known names.now (value_of value.now) }
 {
-    match value {
+    match *value {
         Value::Number(_) => true,
         Value::Name(name, _, _) => names.find(name).is_some(),
         Value::Difference(name, other) => {
@@ -98,8 +98,8 @@ fn in_an_entry(directive: Directive, value: Option<u128>) -> Option<u32>
 
 /// The value if it is from 0 to $FFFF.
 #[tactic(auto, using(crate::proofs::HeldLemmas::held_values))]
-pub fn word_in<A: Allocator + Clone>(names: &Names<'_, '_, A>, value: Value) -> Option<u16>
-    ensures { result ≡ word_in names.now (value_of value.entry) }
+pub fn word_in<A: Allocator + Clone>(names: &Names<'_, '_, A>, value: &Value) -> Option<u16>
+    ensures { result ≡ word_in names.now (value_of value.now) }
 {
     in_a_word(value_in(names, value))
 }
@@ -109,19 +109,19 @@ pub fn word_in<A: Allocator + Clone>(names: &Names<'_, '_, A>, value: Value) -> 
 pub fn entry_in<A: Allocator + Clone>(
     names: &Names<'_, '_, A>,
     directive: Directive,
-    value: Value,
+    value: &Value,
 ) -> Option<u32>
-    ensures { result ≡ entry_in names.now directive (value_of value.entry) }
+    ensures { result ≡ entry_in names.now directive (value_of value.now) }
 {
     in_an_entry(directive, value_in(names, value))
 }
 
 /// Whether the expression has zero-page size, with its number held in 64 bits.
 #[tactic(auto, unfolding(crate::specs::Symbols::has_zero_page_size, crate::specs::Symbols::value_in))]
-fn held_zero_page_size<A: Allocator + Clone>(above: &Names<'_, '_, A>, value: Value) -> bool
-    ensures { result ≡ has_zero_page_size above.now (held_value (value_of value.entry)) }
+fn held_zero_page_size<A: Allocator + Clone>(above: &Names<'_, '_, A>, value: &Value) -> bool
+    ensures { result ≡ has_zero_page_size above.now (held_value (value_of value.now)) }
 {
-    match value {
+    match *value {
         Value::Number(n) => n.value() < 256,
         Value::Name(name, n, minus) => match above.find(name) {
             Some(definition) => {
@@ -135,8 +135,8 @@ fn held_zero_page_size<A: Allocator + Clone>(above: &Names<'_, '_, A>, value: Va
 
 /// Whether the value is below $100, and a name in it is defined as `name := number`.
 #[tactic(auto, using(crate::proofs::HeldLemmas::held_values))]
-pub fn has_zero_page_size<A: Allocator + Clone>(above: &Names<'_, '_, A>, value: Value) -> bool
-    ensures { result ≡ has_zero_page_size above.now (value_of value.entry) }
+pub fn has_zero_page_size<A: Allocator + Clone>(above: &Names<'_, '_, A>, value: &Value) -> bool
+    ensures { result ≡ has_zero_page_size above.now (value_of value.now) }
 {
     held_zero_page_size(above, value)
 }

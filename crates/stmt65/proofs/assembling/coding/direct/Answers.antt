@@ -7,4 +7,4 @@ use Rattle.stmt65.proofs.assembling.coding.direct.Goals as goal
 
 pub returns-in-Some : goal.returns-in-Some
 unfolding ways
-returns-in-Some g c = found_first c.args.coder.now.opcodes.now c.args.coder.now.mnemonic (by_size c.args.coder.now.above.now Zp Abs (value_of c.args.value)) ((Rel, Distance (value_of c.args.value) ∷ []) ∷ []) _ c.in-Some.ensures
+returns-in-Some g c = found_first c.args.coder.now.opcodes.now c.args.coder.now.mnemonic (by_size c.args.coder.now.above.now Zp Abs (value_of c.args.value.now)) ((Rel, Distance (value_of c.args.value.now) ∷ []) ∷ []) _ c.in-Some.ensures
