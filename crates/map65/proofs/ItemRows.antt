@@ -92,8 +92,10 @@ rows =
     ∷ (items (with (range role.TextTable 0x1000 0x1004 ∷ []) (0x48 ∷ 0x22 ∷ 0x5C ∷ 0x49 ∷ 0x0D ∷ [])), replicate 5 text)
     -- ranges beside the image, and ranges that begin before it and end after it
     ∷ (items_from 7 0x0FFE (with (range role.ByteTable 0 0x0FFF ∷ range role.Skip 0x1003 0xFFFF ∷ []) (0x20 ∷ 1 ∷ 2 ∷ [])), none ∷ none ∷ c 3 ∷ c 0 ∷ c 0 ∷ none ∷ none ∷ [])
-    ∷ (items_from 8 0x0FFF (with (range role.WordTable 0x0FFF 0x1002 ∷ range role.DbyteTable 0x1004 0x1010 ∷ []) (1 ∷ 2 ∷ 3 ∷ 0xEA ∷ 4 ∷ 5 ∷ [])),
-      none ∷ word 2 ∷ word 0 ∷ word 1 ∷ c 1 ∷ dbyte 2 ∷ dbyte 0 ∷ none ∷ [])
+    ∷ (
+      items_from 8 0x0FFF (with (range role.WordTable 0x0FFF 0x1002 ∷ range role.DbyteTable 0x1004 0x1010 ∷ []) (1 ∷ 2 ∷ 3 ∷ 0xEA ∷ 4 ∷ 5 ∷ [])),
+      none ∷ word 2 ∷ word 0 ∷ word 1 ∷ c 1 ∷ dbyte 2 ∷ dbyte 0 ∷ none ∷ [],
+    )
     ∷ []
 
 rows_hold : map (λ r. r.0) rows ≡ map (λ r. r.1) rows

@@ -90,11 +90,15 @@ rows =
     ∷ (names (0x30 ∷ []) (with (range role.Skip 0x1001 0x1002) [] 0x1000 (0xEA ∷ 0x20 ∷ 0x30 ∷ 0xEA ∷ [])), [])
     ∷ (names [] (with (range role.Skip 0x1003 0x1004) (given 0x1004 (codes "gap") 1 ∷ []) 0x1000 (0xAD ∷ 3 ∷ 0x10 ∷ 0x30 ∷ 0xEA ∷ [])), constant 0x1003 (codes "L1003") 0 ∷ constant 0x1004 (codes "gap") 0 ∷ [])
     -- a sized name across the zero page
-    ∷ (names (0xFD ∷ 0xFE ∷ 0xFF ∷ 0x100 ∷ 0x101 ∷ 0x102 ∷ []) (with [] (given 0xFE (codes "buf") 4 ∷ []) 0xFFFB (0xA5 ∷ 0xFF ∷ 0xAD ∷ 0 ∷ 1 ∷ [])),
-      constant 0xFE (codes "buf") 0 ∷ constant 0xFF (codes "buf") 1 ∷ constant 0x100 (codes "buf") 2 ∷ constant 0x101 (codes "buf") 3 ∷ [])
+    ∷ (
+      names (0xFD ∷ 0xFE ∷ 0xFF ∷ 0x100 ∷ 0x101 ∷ 0x102 ∷ []) (with [] (given 0xFE (codes "buf") 4 ∷ []) 0xFFFB (0xA5 ∷ 0xFF ∷ 0xAD ∷ 0 ∷ 1 ∷ [])),
+      constant 0xFE (codes "buf") 0 ∷ constant 0xFF (codes "buf") 1 ∷ constant 0x100 (codes "buf") 2 ∷ constant 0x101 (codes "buf") 3 ∷ [],
+    )
     -- of sized names that overlap the one with the highest address counts
-    ∷ (names [] (with [] (given 0x1000 (codes "all") 5 ∷ given 0x1001 (codes "two") 2 ∷ given 0x1002 (codes "one") 1 ∷ []) 0x1000 (0xEA ∷ 0xEA ∷ 0xEA ∷ 0xEA ∷ 0xEA ∷ [])),
-      label 0x1000 (codes "all") 0 ∷ label 0x1001 (codes "two") 0 ∷ label 0x1002 (codes "one") 0 ∷ label 0x1003 (codes "all") 3 ∷ label 0x1004 (codes "all") 4 ∷ [])
+    ∷ (
+      names [] (with [] (given 0x1000 (codes "all") 5 ∷ given 0x1001 (codes "two") 2 ∷ given 0x1002 (codes "one") 1 ∷ []) 0x1000 (0xEA ∷ 0xEA ∷ 0xEA ∷ 0xEA ∷ 0xEA ∷ [])),
+      label 0x1000 (codes "all") 0 ∷ label 0x1001 (codes "two") 0 ∷ label 0x1002 (codes "one") 0 ∷ label 0x1003 (codes "all") 3 ∷ label 0x1004 (codes "all") 4 ∷ [],
+    )
     -- a name inside an instruction does not cut it
     ∷ (names [] (with [] (given 0x1001 (codes "operand") 2 ∷ []) 0x1000 (0xAD ∷ 0 ∷ 0x20 ∷ [])), forward 0x1001 (codes "operand") 0 ∷ forward 0x1002 (codes "operand") 1 ∷ [])
     -- a name that is the default name of its own address
