@@ -147,27 +147,54 @@ runs 'a variable of the zero page' 1 '' 'name65: by names the listing would not 
 
 # ---- what trace65 proposes
 
-# moves NAME START IMAGE: by what trace65 proposes the listing by names gives the image back, by as65 and by ca65 with ld65.
-moves() {
+# proposes NAME START IMAGE: writes named.s, the listing of the image by names, by what trace65 proposes.
+proposes() {
     rm -f found.info
     "$trace65" -S "$2" -o found.info "$3" && "$da65" -S "$2" -i found.info -o found.s "$3" &&
-        "$program" -S "$2" -i found.info -o named.s found.s || { fails "$1" 'refused'; return; }
+        "$program" -S "$2" -i found.info -o named.s found.s || fails "$1" 'refused'
+}
+
+# comes_back NAME START IMAGE: that listing gives the image back, by as65 and by ca65 with ld65.
+comes_back() {
+    proposes "$@"
     "$as65" -S "$2" --compare "$3" named.s || fails "$1" 'other bytes by as65'
     [ "${CA65-}" != skip ] || return
     ca65 --relax-checks -o named.o named.s && ld65 -t none -S "$2" -D __STACKSTART__=0x10800 -o named.out named.o && cmp -s "$3" named.out ||
         fails "$1" 'other bytes by ca65 and ld65'
 }
 
-moves 'hello' 0xF000 examples/hello.bin
-moves 'the kernal' 0xC000 examples/kernal.bin
-moves 'the monitor' 0xFC00 examples/board/monitor.bin
-for seed in $(seq 5); do
+# moves NAME: of a program of tests/moves the listing by names at $1000, assembled at $2345, is the program there.
+moves() {
+    local start
+    for start in 0x1000 0x2345; do
+        ca65 -t none -o program.o "$root/tests/moves/$1.s" &&
+            ld65 -t none -S "$start" -D __STACKSTART__=0x10800 -o "$start.bin" program.o || fails "$1" 'not linked'
+    done
+    proposes "$1" 0x1000 0x1000.bin
+    "$as65" -S 0x2345 --compare 0x2345.bin named.s || fails "$1" 'it does not move'
+}
+
+comes_back 'hello' 0xF000 examples/hello.bin
+comes_back 'the kernal' 0xC000 examples/kernal.bin
+comes_back 'the monitor' 0xFC00 examples/board/monitor.bin
+for seed in $(seq 28); do
     awk -v seed="$seed" 'BEGIN {
         srand(seed); n = 2 + int(rand() * 30)
-        for (k = 0; k < n; k++) printf "L%d: lda #<L%d\nldx #>L%d\njsr L%d\nsta V+%d\nrts\n.byte \"text\",0\n", k, int(rand() * n), int(rand() * n), int(rand() * n), k
+        for (k = 0; k < n; k++) {
+            a = int(rand() * n); b = rand() < 0.7 ? a : int(rand() * n)
+            printf "L%d: lda #<L%d\nldx #>L%d\njsr L%d\nsta V+%d\nrts\n.byte \"text\",0\n", k, a, b, int(rand() * n), k
+        }
         print "V := * + 0"
     }' >code.s
     "$as65" -S 0x2000 -o code.bin code.s || fails "program $seed" 'not assembled'
-    moves "program $seed" 0x2000 code.bin
+    comes_back "program $seed" 0x2000 code.bin
 done
+if [ "${CA65-}" = skip ]; then
+    echo 'name65: programs at two addresses are left out, since CA65=skip is set'
+else
+    for name in halves row filler variables routine; do
+        moves "$name"
+    done
+fi
+[ "$failed" = 0 ] && echo 'name65: every listing by names gives its image, and moves'
 exit "$failed"

@@ -24,8 +24,8 @@ use Rattle.reach65.proofs.PieceLemmas.{pieces-cover}
 use Rattle.reach65.specs.Flow.{if_whole, instruction_at, op_in}
 use Rattle.reach65.specs.Laws.{AreWhole, CodeLaw, IsOfCode, IsReachedBefore, IsWith, with_info}
 use Rattle.reach65.specs.Pieces.{ArePieces, Ground, IsPiece, is_free}
-use Rattle.reach65.specs.Reached.{is_marked}
-use Rattle.reach65.specs.Taken.{AreMarkedBy, has_byte, is_code, is_given, is_of_code, is_taken, is_within}
+use Rattle.reach65.specs.Reached.{any_marked, is_marked}
+use Rattle.reach65.specs.Taken.{AreMarkedBy, has_byte, is_code, is_given, is_taken, is_within}
 
 -- ---- the roles of ranges after others
 
@@ -113,11 +113,11 @@ has-if m b a op is low high = ap (λ o. is_within b o a) is ∙ and_from _ _ (le
 -- ---- what is spoken for
 
 given-taken : (m : MapView) (marks : List Bool) (a : ℕ) → is_taken m marks a ≡ true → is_given m.info.ranges a ≡ false → IsOfCode m marks a
-unfolding is_taken is_code is_of_code
+unfolding is_taken is_code any_marked
 given-taken m marks a is none = grind (arith, Any-from_list_any)
 
 code-taken : (m : MapView) (marks : List Bool) (a : ℕ) → IsOfCode m marks a → is_taken m marks a ≡ true
-unfolding is_taken is_code is_of_code
+unfolding is_taken is_code any_marked
 code-taken m marks a is =
     let h = holds m is.at a is.has in
     let w = within m is.at (instruction-is m is.at h.op h.is).inside in
@@ -125,7 +125,7 @@ code-taken m marks a is =
     let low : k < length m.image.bytes = omega (arith, w.low, w.high) in
     let here : get_or (addresses (length m.image.bytes) m.image.start) k 0 ≡ is.at = address-at (length m.image.bytes) k m.image.start 0 low ∙ omega (arith, w.low) in
     or_right (is_given m.info.ranges a) _
-    (list_any_at (is_of_code m marks a) (addresses (length m.image.bytes) m.image.start) k 0 (omega (arith, low, address-count (length m.image.bytes) m.image.start)) (ap (is_of_code m marks a) here ∙ and_from _ _ is.marked is.has))
+    (list_any_at (λ b. is_marked marks b && has_byte m b a) (addresses (length m.image.bytes) m.image.start) k 0 (omega (arith, low, address-count (length m.image.bytes) m.image.start)) (ap (λ b. is_marked marks b && has_byte m b a) here ∙ and_from _ _ is.marked is.has))
 
 -- ---- runs
 

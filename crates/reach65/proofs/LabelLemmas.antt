@@ -1,5 +1,5 @@
 -- The addresses that get labels.
-use Rattle.std.proofs.Common.{zero, suc, ◌≡◌, ◌≢◌, ◌∙◌, ◌+◌, ◌-◌, ◌<◌, ◌≤◌, ◌&&◌, ◌||◌, ℕ, Bool, true, false, List, [], ◌∷◌, ◌++◌, append_assoc, ap, arith, inl, inr, length, refl, replicate, subst, sym}
+use Rattle.std.proofs.Common.{zero, suc, ◌≡◌, ◌≢◌, ◌∙◌, ◌+◌, ◌-◌, ◌<◌, ◌≤◌, ◌&&◌, ◌||◌, ℕ, Bool, true, false, List, [], ◌∷◌, ◌++◌, append_assoc, ap, arith, inl, inr, length, refl, subst, sym}
 use Rattle.std.specs.Prelude.{Option, Some, None, is_none}
 use Rattle.std.specs.List.{AllByRecursion, Contains}
 use Rattle.std.proofs.lemmas.Bool.{and_from, and_parts, cases_Bool, false≢true, le-leb, lt-ltb}
@@ -8,12 +8,12 @@ use Rattle.info65.specs.Names.{AreNames, IsName, blank_name, covering, covers, n
 use Rattle.info65.specs.Views.{NameView}
 use Rattle.info65.proofs.Public.{AreApart, AreRising, none_covers}
 use Rattle.reach65.specs.Labels.{AreNewLabels, label_at, is_label, is_unnamed, is_wanted, labels_from, labels_of}
-use Rattle.reach65.specs.Reached.{is_marked}
+use Rattle.reach65.specs.Reached.{is_marked, no_marks}
 use Rattle.reach65.specs.TextLaws.{AreAmong}
 use Rattle.reach65.specs.declared.pairs.Pair.{Pair}
 use Rattle.reach65.proofs.TakenLemmas.{blank-false}
 
-pub wanted-all : (pairs : List Pair) (variables : List ℕ) (blank marks : List Bool) → blank ≡ replicate 65536 false
+pub wanted-all : (pairs : List Pair) (variables : List ℕ) (blank marks : List Bool) → blank ≡ no_marks
     → ((a : ℕ) → is_marked marks a ≡ (is_marked blank a || is_wanted pairs variables a)) → (a : ℕ) → is_marked marks a ≡ is_wanted pairs variables a
 wanted-all pairs variables blank marks empty each a = each a ∙ ap (λ b. b || is_wanted pairs variables a) (blank-false blank a empty)
 

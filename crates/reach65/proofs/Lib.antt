@@ -9,6 +9,7 @@ pub mod WorkedRows
 pub mod TakenLemmas
 pub mod LabelLemmas
 mod LoopLemmas
+pub mod SurveyLemmas
 pub mod PieceLemmas
 pub mod CodeLemmas
 pub mod CodeRows

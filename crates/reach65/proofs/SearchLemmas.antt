@@ -1,5 +1,5 @@
 -- One step of a search after the other.
-use Rattle.std.proofs.Common.{◌≡◌, ◌≢◌, ◌⊎◌, ◌+◌, ◌<◌, ◌≤◌, ◌∙◌, ℕ, Bool, true, false, not, List, [], ◌∷◌, ◌++◌, length, get_or, set, replicate, Option, Some, None, ap, arith, sym, subst, inl, inr, cond, length-append}
+use Rattle.std.proofs.Common.{◌≡◌, ◌≢◌, ◌⊎◌, ◌+◌, ◌<◌, ◌≤◌, ◌∙◌, ℕ, Bool, true, false, not, List, [], ◌∷◌, ◌++◌, length, get_or, set, Option, Some, None, ap, arith, sym, subst, inl, inr, cond, length-append}
 use Rattle.std.specs.List.{Contains, count_by, sum_by}
 use Rattle.std.proofs.lemmas.Bool.{both_ways, cond_both}
 use Rattle.std.proofs.lemmas.List.{get_or-set_same, get_or-set_other, get_or_default}
@@ -13,7 +13,7 @@ use Rattle.reach65.specs.Flow.{goal_at, next_at}
 use Rattle.map65.proofs.Public.{within}
 use Rattle.reach65.proofs.FlowLemmas.{leads-below}
 use Rattle.reach65.proofs.TakenLemmas.{blank-false}
-use Rattle.reach65.specs.Reached.{AreReached, Reached, entry, led, is_marked}
+use Rattle.reach65.specs.Reached.{AreReached, Reached, entry, led, is_marked, no_marks}
 
 -- ---- what a step does
 
@@ -58,7 +58,7 @@ next-left old new a marks todo = omega (arith, ap open_of marks, ap length todo,
 
 -- ---- what holds at each step
 
-blank-unmarked : (marks : List Bool) (a : ℕ) → marks ≡ replicate 65536 false → is_marked marks a ≡ true → ⊥
+blank-unmarked : (marks : List Bool) (a : ℕ) → marks ≡ no_marks → is_marked marks a ≡ true → ⊥
 blank-unmarked marks a is marked = both_ways (is_marked marks a) (blank-false marks a is) marked
 
 abbrev no_address : List ℕ
@@ -67,8 +67,8 @@ no_address = []
 pub contains-nil : (a : ℕ) → Contains no_address a → ⊥
 contains-nil a has = omega (arith, has.1)
 
-pub search-new : (m : MapView) (entries : List ℕ) (s : State) → s.marks ≡ replicate 65536 false → s.todo ≡ [] → IsSearch m entries Nothing s
-search-new m entries s marks todo = grind (arith, blank-unmarked)
+pub search-new : (m : MapView) (entries : List ℕ) (s : State) → length s.marks ≡ 65536 → s.marks ≡ no_marks → s.todo ≡ [] → IsSearch m entries Nothing s
+search-new m entries s count marks todo = grind (arith, blank-unmarked)
 
 pub search-put : (m : MapView) (entries : List ℕ) (Now : ℕ → Type 0) (s : State) (a : ℕ) → a < 65536 → Reached m entries a → IsSearch m entries Now s → IsSearch m entries Now (put s a)
 search-put m entries Now s a small is old =
@@ -212,9 +212,9 @@ reached-more m entries a _ (entry b has inside) = entry b (Contains-append_left 
 reached-more m entries a _ (led c b from leads) = led c b (reached-more m entries a c from) leads
 
 -- a search without entries
-pub new-begun : (m : MapView) (s : State) → s.entries ≡ [] → s.marks ≡ replicate 65536 false → s.todo ≡ [] → IsBegun m s
-new-begun m s entries marks todo = record {
-  search = search-new m s.entries s marks todo;
+pub new-begun : (m : MapView) (s : State) → length s.marks ≡ 65536 → s.entries ≡ [] → s.marks ≡ no_marks → s.todo ≡ [] → IsBegun m s
+new-begun m s count entries marks todo = record {
+  search = search-new m s.entries s count marks todo;
   entries = record { each = λ x has _. absurd (contains-nil x (subst (λ l. Contains l x) entries has)) };
 }
 

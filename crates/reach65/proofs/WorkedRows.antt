@@ -8,15 +8,18 @@ use Rattle.map65.specs.Spans.{addresses}
 use Rattle.map65.specs.Targets.{target_at, target_for, target_of}
 use Rattle.reach65.specs.Entries.{code_starts, entries_of, entries_with, plain_entries_of, pointer_at, pointers, vectors}
 use Rattle.reach65.specs.Flow.{goal_at, goal_of, instruction_at, next_at}
-use Rattle.reach65.specs.Halves.{is_routine}
 use Rattle.reach65.specs.Pieces.{is_free, is_plain}
+use Rattle.reach65.specs.Reached.{any_marked}
+use Rattle.reach65.specs.Routines.{branch_at, call_at, goes_on, is_called, is_gone_on}
 use Rattle.reach65.specs.Rows.{free_word, is_in_table, is_of_table, is_row, is_word}
 use Rattle.reach65.specs.Sound.{is_fine, marked_count}
-use Rattle.reach65.specs.Taken.{has_byte}
+use Rattle.reach65.specs.Survey.{is_likely, is_routine}
+use Rattle.reach65.specs.Taken.{has_byte, is_code}
+use Rattle.reach65.specs.Variables.{is_operand, operand_at}
 use Rattle.reach65.specs.Worked.{WorkedCode}
 
 pub worked_code : WorkedCode
-unfolding addresses are_joined code_starts entries_of entries_with free_word full_len_at goal_at goal_of has_byte instruction_at is_border is_fine is_free is_in_run is_in_table is_joined is_of_table is_own is_plain is_routine is_row is_word item_len item_start marked_count next_at plain_entries_of pointer_at pointers role_at role_in size_at target_at target_for target_of vectors
+unfolding addresses any_marked are_joined branch_at call_at code_starts entries_of entries_with free_word full_len_at goal_at goal_of goes_on has_byte instruction_at is_border is_called is_code is_fine is_free is_gone_on is_in_run is_in_table is_joined is_likely is_of_table is_operand is_own is_plain is_routine is_row is_word item_len item_start marked_count next_at operand_at plain_entries_of pointer_at pointers role_at role_in size_at target_at target_for target_of vectors
 worked_code = record {
   nexts = refl;
   goals = refl;
@@ -32,6 +35,15 @@ worked_code = record {
   not_fine = refl;
   into_a_range = refl;
   too_few = λ m s. let few : 4 ≤ 3 = s.four in omega (arith, few);
+  code = refl;
+  gone_on = refl;
+  called = refl;
+  operands = refl;
+  not_called = refl;
+  branch = refl;
+  no_call = refl;
+  routines = refl;
+  likely = refl;
   rows = refl;
   return_row = refl;
   row_taken = refl;

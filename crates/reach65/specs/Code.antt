@@ -2,3 +2,4 @@
 pub mod Searching
 pub mod Apart
 pub mod Growing
+pub mod Surveying

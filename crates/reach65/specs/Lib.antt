@@ -8,6 +8,7 @@ pub mod Sound
 pub mod Growth
 pub mod Worked
 pub mod Routines
+pub mod Survey
 pub mod Halves
 pub mod Rows
 pub mod Said

@@ -1,7 +1,9 @@
 -- What is reached: the least set of addresses that has the entries in the image, and with an address those that its instruction leads to.
-use Rattle.std.specs.Prelude.{◌≡◌, ◌↔◌, ℕ, Bool, true, false, List, length, get_or, Contains}
+use Rattle.std.specs.Prelude.{◌≡◌, ◌↔◌, ℕ, ◌&&◌, Bool, true, false, List, length, get_or, replicate, Contains}
+use Rattle.std.specs.List.{list_any}
 use Rattle.map65.specs.ImageView.{is_inside}
 use Rattle.map65.specs.MapView.{MapView}
+use Rattle.map65.specs.Spans.{addresses}
 use Rattle.reach65.specs.Flow.{LeadsTo}
 
 pub data Reached (m : MapView) (entries : List ℕ) : ℕ → Type 0 where
@@ -12,7 +14,15 @@ pub data Reached (m : MapView) (entries : List ℕ) : ℕ → Type 0 where
 abbrev pub is_marked : List Bool → ℕ → Bool
 is_marked marks a = get_or marks a false
 
+-- none is set
+unfoldable pub no_marks : List Bool
+no_marks = replicate 65536 false
+
 -- an address is marked exactly when it is reached
 pub record AreReached (m : MapView) (entries : List ℕ) (marks : List Bool) : Type 0 where
   pub count : length marks ≡ 65536
   pub each : (a : ℕ) → is_marked marks a ≡ true ↔ Reached m entries a
+
+-- an address of the image is marked and passes the test
+unfoldable pub any_marked : MapView → List Bool → (ℕ → Bool) → Bool
+any_marked m marks p = list_any (λ a. is_marked marks a && p a) (addresses (length m.image.bytes) m.image.start)

@@ -9,19 +9,19 @@ use Rattle.info65.specs.declared.information.range.RangeSpec.{RangeSpec}
 use Rattle.info65.specs.declared.information.range.RangeType.{RangeType}
 use Rattle.info65.specs.declared.information.range.RangeType.TheVariants as role
 use Rattle.reach65.specs.Entries.{word_at}
-use Rattle.reach65.specs.Halves.{CodeMarks, is_routine}
 use Rattle.reach65.specs.Pieces.{Ground, is_plain}
+use Rattle.reach65.specs.Survey.{Survey, is_routine}
 
 -- the ground, with marks of the vectors that led to code, and the marks of what is reached
 pub record Words : Type 0 where
   pub within : Ground
-  pub code : CodeMarks
+  pub code : Survey
 
 -- the word of two plain bytes
 unfoldable pub free_word : Ground → ℕ → Option ℕ
 free_word g a = if is_plain g a && is_plain g (a + 1) then Some (word_at g.image a) else None
 
-abbrev pub is_less : CodeMarks → ℕ → Option ℕ → Bool
+abbrev pub is_less : Survey → ℕ → Option ℕ → Bool
 is_less marks less None = false
 is_less marks less (Some word) = is_routine marks (word + less)
 

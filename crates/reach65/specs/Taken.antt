@@ -6,9 +6,8 @@ use Rattle.isa65.specs.declared.op.Op.{Op}
 use Rattle.info65.specs.Ranges.{has_address}
 use Rattle.info65.specs.declared.information.range.RangeSpec.{RangeSpec}
 use Rattle.map65.specs.MapView.{MapView}
-use Rattle.map65.specs.Spans.{addresses}
 use Rattle.reach65.specs.Flow.{instruction_at}
-use Rattle.reach65.specs.Reached.{is_marked}
+use Rattle.reach65.specs.Reached.{any_marked, is_marked}
 
 abbrev pub is_within : ℕ → Option Op → ℕ → Bool
 is_within b None a = false
@@ -18,17 +17,13 @@ is_within b (Some op) a = nat_le b a && nat_lt a (b + len_of op.mode)
 unfoldable pub has_byte : MapView → ℕ → ℕ → Bool
 has_byte m b a = is_within b (instruction_at m b) a
 
--- a marked instruction has the address
-unfoldable pub is_of_code : MapView → List Bool → ℕ → ℕ → Bool
-is_of_code m marks a b = is_marked marks b && has_byte m b a
-
 -- a range has the address
 unfoldable pub is_given : List RangeSpec → ℕ → Bool
 is_given ranges a = list_any (λ r. has_address r a) ranges
 
 -- a reached instruction has the address
 unfoldable pub is_code : MapView → List Bool → ℕ → Bool
-is_code m marks a = list_any (is_of_code m marks a) (addresses (length m.image.bytes) m.image.start)
+is_code m marks a = any_marked m marks (λ b. has_byte m b a)
 
 unfoldable pub is_taken : MapView → List Bool → ℕ → Bool
 is_taken m marks a = is_given m.info.ranges a || is_code m marks a

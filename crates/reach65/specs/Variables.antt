@@ -1,7 +1,6 @@
 -- The variables right after an image: addresses that reached code has as absolute operands, from the end of the image on, each at most 256
 -- after the one before, the first at most 256 after the last address of the image.
-use Rattle.std.specs.Prelude.{ℕ, zero, suc, ◌+◌, ◌-◌, ◌&&◌, Bool, List, [], ◌∷◌, length, if◌then◌else◌, Option, Some, None}
-use Rattle.std.specs.List.{list_any}
+use Rattle.std.specs.Prelude.{ℕ, zero, suc, ◌+◌, ◌-◌, Bool, List, [], ◌∷◌, if◌then◌else◌, Option, Some, None}
 use Rattle.isa65.specs.Mode.{row_of}
 use Rattle.isa65.specs.declared.op.Op.{Op}
 use Rattle.isa65.specs.declared.row.OperandKind.TheVariants.{Word}
@@ -9,10 +8,9 @@ use Rattle.isa65.specs.declared.row.Row.{Row}
 use Rattle.isa65.specs.declared.row.Row.TheVariants.{One}
 use Rattle.map65.specs.ImageView.{ImageView, bytes_from, end_of}
 use Rattle.map65.specs.MapView.{MapView}
-use Rattle.map65.specs.Spans.{addresses}
 use Rattle.map65.specs.Targets.{word_of}
 use Rattle.reach65.specs.Flow.{instruction_at}
-use Rattle.reach65.specs.Reached.{is_marked}
+use Rattle.reach65.specs.Reached.{any_marked, is_marked}
 use Rattle.reach65.specs.Routines.{is_it}
 
 -- ---- operands
@@ -30,13 +28,9 @@ operand_in m a (Some op) = word_in (row_of op.mode) (bytes_from m.image a)
 unfoldable pub operand_at : MapView → ℕ → Option ℕ
 operand_at m a = operand_in m a (instruction_at m a)
 
--- the reached instruction of the second address has the first one as its operand
-unfoldable pub has_operand : MapView → List Bool → ℕ → ℕ → Bool
-has_operand m marks b a = is_marked marks a && is_it (operand_at m a) b
-
 -- a reached instruction has the address as its operand
 unfoldable pub is_operand : MapView → List Bool → ℕ → Bool
-is_operand m marks b = list_any (has_operand m marks b) (addresses (length m.image.bytes) m.image.start)
+is_operand m marks b = any_marked m marks (λ a. is_it (operand_at m a) b)
 
 -- ---- variables
 

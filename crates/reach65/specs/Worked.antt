@@ -1,4 +1,5 @@
--- Worked examples: where instructions lead, which entries there are, what a sound beginning is, and which words make a row.
+-- Worked examples: where instructions lead, which entries there are, what a sound beginning is, what reached instructions do, and which words
+-- make a row.
 use Rattle.std.specs.Prelude.{◌≡◌, ℕ, Bool, true, false, List, [], ◌∷◌, map, Option, Some, None}
 use Rattle.isa65.specs.declared.cpu.Cpu.TheVariants.{M6502, M65C02}
 use Rattle.info65.specs.declared.information.range.RangeSpec.{RangeSpec}
@@ -8,8 +9,12 @@ use Rattle.map65.specs.MapRows.{code_at, map_of}
 use Rattle.map65.specs.MapView.{MapView}
 use Rattle.reach65.specs.Entries.{entries_of, plain_entries_of}
 use Rattle.reach65.specs.Flow.{goal_at, next_at}
+use Rattle.reach65.specs.Routines.{is_called, is_gone_on}
 use Rattle.reach65.specs.Rows.{Words, is_of_table, is_row}
 use Rattle.reach65.specs.Sound.{IsApart, IsSound, is_fine}
+use Rattle.reach65.specs.Survey.{Survey, is_likely, is_routine}
+use Rattle.reach65.specs.Taken.{is_code}
+use Rattle.reach65.specs.Variables.{is_operand}
 
 -- ---- how an example is written
 
@@ -31,7 +36,7 @@ a_call = 0x20 ∷ 0x04 ∷ 0x10 ∷ 0xEA ∷ 0x60 ∷ []
 
 -- bytes at $0000, with routines at $0006 and $0007: which bytes something speaks for, and which a vector has
 abbrev pub words_of : List Bool → List Bool → List ℕ → Words
-words_of taken vectors bytes = record { within = record { image = map.image; taken = taken; words = vectors }; code = record { reached = two; code = two; gone_on = []; called = [] } }
+words_of taken vectors bytes = record { within = record { image = map.image; taken = taken; words = vectors }; code = record { reached = two; code = two; gone_on = []; called = []; operands = []; taken = [] } }
   where
     map : MapView
     map = code_at 0 bytes
@@ -46,6 +51,21 @@ begins_row bytes = is_row (words_of [] [] bytes) 0 0
 -- the words $0006 and $0007
 abbrev pub six_and_seven : List ℕ
 six_and_seven = 6 ∷ 0 ∷ 7 ∷ 0 ∷ []
+
+-- jsr $0004; nop; rts at $0000, of which each instruction is reached
+abbrev pub low_call : MapView
+low_call = code_at 0 (0x20 ∷ 0x04 ∷ 0x00 ∷ 0xEA ∷ 0x60 ∷ [])
+
+abbrev pub each_of_it : List Bool
+each_of_it = true ∷ false ∷ false ∷ true ∷ true ∷ []
+
+-- reached instructions at $0000 to $0002: others go on to the first two, and the first is called
+abbrev pub three_reached : Survey
+three_reached =
+    record { reached = all; code = all; gone_on = true ∷ true ∷ []; called = true ∷ []; operands = []; taken = [] }
+  where
+    all : List Bool
+    all = true ∷ true ∷ true ∷ []
 
 -- the fourth byte
 abbrev pub fourth : List Bool
@@ -92,6 +112,19 @@ pub record WorkedCode : Type 0 where
   pub too_few : (m : MapView) → (IsSound m [] (true ∷ true ∷ true ∷ []) → ⊥)
   -- bit $60EA, and nop in it, at $0000
   pub overlapping : (IsApart (code_at 0 (0x2C ∷ 0xEA ∷ 0x60 ∷ [])) (true ∷ true ∷ []) 0 → ⊥)
+  -- what its instructions have, go on to, call, and have as operands
+  pub code : map (is_code low_call each_of_it) (0 ∷ 2 ∷ 3 ∷ 4 ∷ 5 ∷ []) ≡ true ∷ true ∷ true ∷ true ∷ false ∷ []
+  pub gone_on : map (is_gone_on low_call each_of_it) (0 ∷ 3 ∷ 4 ∷ []) ≡ false ∷ true ∷ true ∷ []
+  pub called : map (is_called low_call each_of_it) (0 ∷ 3 ∷ 4 ∷ []) ≡ false ∷ false ∷ true ∷ []
+  pub operands : map (is_operand low_call each_of_it) (0 ∷ 3 ∷ 4 ∷ []) ≡ false ∷ false ∷ true ∷ []
+  -- the call alone is not reached
+  pub not_called : is_called low_call (false ∷ false ∷ false ∷ true ∷ true ∷ []) 4 ≡ false
+  -- a branch to rts is no call, and a jump to it does not go on
+  pub branch : map (λ l. is_gone_on (code_at 0 l) (true ∷ []) 3) ((0xD0 ∷ 0x01 ∷ 0xEA ∷ 0x60 ∷ []) ∷ (0x4C ∷ 0x03 ∷ 0x00 ∷ 0x60 ∷ []) ∷ []) ≡ true ∷ false ∷ []
+  pub no_call : map (λ l. is_called (code_at 0 l) (true ∷ []) 3) ((0xD0 ∷ 0x01 ∷ 0xEA ∷ 0x60 ∷ []) ∷ (0x4C ∷ 0x03 ∷ 0x00 ∷ 0x60 ∷ []) ∷ []) ≡ false ∷ false ∷ []
+  -- one that is called, one that is gone on to, one that is neither, and what is not reached
+  pub routines : map (is_routine three_reached) (0 ∷ 1 ∷ 2 ∷ 3 ∷ []) ≡ true ∷ false ∷ true ∷ false ∷ []
+  pub likely : map (is_likely three_reached) (0 ∷ 1 ∷ 2 ∷ 3 ∷ []) ≡ true ∷ false ∷ true ∷ true ∷ []
   -- two addresses of routines; one twice; one and a number; one and a half
   pub rows :
       map begins_row (six_and_seven ∷ (6 ∷ 0 ∷ 6 ∷ 0 ∷ []) ∷ (6 ∷ 0 ∷ 8 ∷ 0 ∷ []) ∷ (6 ∷ 0 ∷ 7 ∷ []) ∷ []) ≡ true ∷ false ∷ false ∷ false ∷ []

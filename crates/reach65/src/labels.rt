@@ -5,8 +5,8 @@ ghost use Rattle.std.specs.List.{list_any};
 ghost use Rattle.reach65.specs.Labels.{AreNewLabels, is_unnamed, is_wanted, label_at, labels_from, labels_of};
 ghost use Rattle.reach65.specs.Reached.{is_marked};
 
+use crate::marks::blank_marks;
 use crate::pairs::Pair;
-use crate::search::blank_marks;
 use info65::Info;
 use map65::ADDRESSES;
 use std::alloc::{AllocError, Allocator};
@@ -71,7 +71,7 @@ fn wanted<A: Allocator>(
     ensures count { IfOk result (λ marks. length marks.items ≡ 65536) }
     ensures each { IfOk result (λ marks. (a : ℕ) → is_marked marks.items a ≡ is_wanted pairs.now variables.now a) }
 {
-    let mut marks = blank_marks(alloc, ADDRESSES)?;
+    let mut marks = blank_marks(alloc)?;
     mark_wanted(marks.as_mut_slice(), pairs, variables);
     Ok(marks)
 }

@@ -5,21 +5,21 @@ ghost use Rattle.map65.specs.ImageView.{end_of};
 ghost use Rattle.reach65.specs.Rows.{AreRows, AreWords, IsRow, are_different, free_word, is_any_row, is_in_table, is_of_table, is_row, is_word};
 ghost use Rattle.reach65.specs.Reached.{is_marked};
 
-use crate::halves::CodeMarks;
+use crate::marks::mark_range;
 use crate::pieces::Ground;
-use crate::taken::mark_range;
+use crate::survey::Survey;
 use info65::{RangeSpec, RangeType};
 use std::alloc::{AllocError, Allocator, Global};
 use std::marker::Model;
 
 /// An image with the addresses that something speaks for and those of vectors, and the marks of what is reached.
 #[derive(Drop)]
-pub struct Words<'a, A: Allocator = Global> {
+pub struct Words<'a, A: Allocator = Global, B: Allocator = Global> {
     within: Ground<'a, A>,
-    code: &'a CodeMarks<'a>,
+    code: &'a Survey<B>,
 }
 
-impl<'a, A: Allocator> Model for Words<'a, A> {
+impl<'a, A: Allocator, B: Allocator> Model for Words<'a, A, B> {
     ghost use Rattle.std.specs.Prelude.{◌≡◌};
     ghost use Rattle.reach65.specs.Rows.{Words};
 
@@ -38,9 +38,9 @@ fn are_different(one: Option<u16>, other: Option<u16>) -> bool
     }
 }
 
-impl<'a, A: Allocator> Words<'a, A> {
+impl<'a, A: Allocator, B: Allocator> Words<'a, A, B> {
     /// An image with the addresses that something speaks for and those of vectors, and the marks of what is reached.
-    pub fn new(within: Ground<'a, A>, code: &'a CodeMarks<'a>) -> Words<'a, A>
+    pub fn new(within: Ground<'a, A>, code: &'a Survey<B>) -> Words<'a, A, B>
         ensures { result ≡ record { within = within.entry; code = code.now } }
     {
         Words { within, code }
@@ -151,7 +151,7 @@ impl<'a, A: Allocator> Words<'a, A> {
 
     /// Returns the rows of words that are addresses of routines, or such addresses less one, as ranges of the types AddrTable and RtsTable.
     /// The ranges ascend. Fails only if an allocation failed.
-    pub fn rows<B: Allocator>(&self, alloc: B) -> Result<Vec<RangeSpec, B>, AllocError>
+    pub fn rows<C: Allocator>(&self, alloc: C) -> Result<Vec<RangeSpec, C>, AllocError>
         ensures { IfOk result (λ found. AreRows self.now 0 found.items) }
     {
         let mut found = Vec::new(alloc);
@@ -166,10 +166,10 @@ impl<'a, A: Allocator> Words<'a, A> {
 
 /// Marks the addresses of the range, if it is a row of addresses.
 #[tactic(auto, unfolding(crate::specs::Rows::is_in_table))]
-fn mark_table(marks: &mut [bool], row: RangeSpec)
-    requires count { length marks.old ≡ 65536 }
-    ensures count { length marks.new ≡ 65536 }
-    ensures each { (a : ℕ) → is_marked marks.new a ≡ (is_marked marks.old a || is_in_table a row) }
+fn mark_table<A: Allocator>(marks: &mut Vec<bool, A>, row: RangeSpec)
+    requires count { length marks.old.items ≡ 65536 }
+    ensures count { length marks.new.items ≡ 65536 }
+    ensures each { (a : ℕ) → is_marked marks.new.items a ≡ (is_marked marks.old.items a || is_in_table a row) }
 {
     if row.role == RangeType::AddrTable {
         mark_range(marks, row);
@@ -177,10 +177,10 @@ fn mark_table(marks: &mut [bool], row: RangeSpec)
 }
 
 /// Marks the addresses of the rows of addresses among these rows.
-pub fn mark_tables(marks: &mut [bool], rows: &[RangeSpec])
-    requires count { length marks.old ≡ 65536 }
-    ensures count { length marks.new ≡ 65536 }
-    ensures each { (a : ℕ) → is_marked marks.new a ≡ (is_marked marks.old a || is_of_table rows.now a) }
+pub fn mark_tables<A: Allocator>(marks: &mut Vec<bool, A>, rows: &[RangeSpec])
+    requires count { length marks.old.items ≡ 65536 }
+    ensures count { length marks.new.items ≡ 65536 }
+    ensures each { (a : ℕ) → is_marked marks.new.items a ≡ (is_marked marks.old.items a || is_of_table rows.now a) }
 {
     'tables: for &row in rows {
         mark_table(marks, row);

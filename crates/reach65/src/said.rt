@@ -5,17 +5,16 @@ ghost use Rattle.reach65.specs.Reached.{is_marked};
 ghost use Rattle.reach65.specs.Said.{has_byte, is_among, is_said};
 ghost use Rattle.reach65.specs.Taken.{AreMarkedBy};
 
-use crate::search::blank_marks;
-use crate::taken::mark_span;
+use crate::marks::{blank_marks, mark_span};
 use info65::{Tag, TagKind};
 use map65::ADDRESSES;
 use std::alloc::{AllocError, Allocator};
 
 /// Marks this many places from one on, if there is one, up to $FFFF.
-fn mark_among(marks: &mut [bool], first: Option<u16>, count: u16)
-    requires count { length marks.old ≡ 65536 }
-    ensures count { length marks.new ≡ 65536 }
-    ensures each { (a : ℕ) → a < 65536 → is_marked marks.new a ≡ (is_marked marks.old a || is_among first count a) }
+fn mark_among<A: Allocator>(marks: &mut Vec<bool, A>, first: Option<u16>, count: u16)
+    requires count { length marks.old.items ≡ 65536 }
+    ensures count { length marks.new.items ≡ 65536 }
+    ensures each { (a : ℕ) → a < 65536 → is_marked marks.new.items a ≡ (is_marked marks.old.items a || is_among first count a) }
 {
     if let Some(first) = first {
         let from = usize::from(first);
@@ -26,10 +25,10 @@ fn mark_among(marks: &mut [bool], first: Option<u16>, count: u16)
 
 /// Marks the places of the bytes of a group of halves.
 #[tactic(auto, unfolding(crate::specs::Said::has_byte))]
-fn mark_tag(marks: &mut [bool], tag: Tag)
-    requires count { length marks.old ≡ 65536 }
-    ensures count { length marks.new ≡ 65536 }
-    ensures each { (a : ℕ) → a < 65536 → is_marked marks.new a ≡ (is_marked marks.old a || has_byte a tag) }
+fn mark_tag<A: Allocator>(marks: &mut Vec<bool, A>, tag: Tag)
+    requires count { length marks.old.items ≡ 65536 }
+    ensures count { length marks.new.items ≡ 65536 }
+    ensures each { (a : ℕ) → a < 65536 → is_marked marks.new.items a ≡ (is_marked marks.old.items a || has_byte a tag) }
 {
     if tag.kind == TagKind::Halves {
         let count = tag.size.unwrap_or(1);
@@ -40,10 +39,10 @@ fn mark_tag(marks: &mut [bool], tag: Tag)
 
 /// Marks the places of the bytes of these groups.
 #[tactic(auto, unfolding(crate::specs::Said::is_said))]
-fn mark_tags(marks: &mut [bool], tags: &[Tag])
-    requires count { length marks.old ≡ 65536 }
-    ensures count { length marks.new ≡ 65536 }
-    ensures each { (a : ℕ) → a < 65536 → is_marked marks.new a ≡ (is_marked marks.old a || is_said tags.now a) }
+fn mark_tags<A: Allocator>(marks: &mut Vec<bool, A>, tags: &[Tag])
+    requires count { length marks.old.items ≡ 65536 }
+    ensures count { length marks.new.items ≡ 65536 }
+    ensures each { (a : ℕ) → a < 65536 → is_marked marks.new.items a ≡ (is_marked marks.old.items a || is_said tags.now a) }
 {
     'tags: for &tag in tags {
         mark_tag(marks, tag);
@@ -55,7 +54,7 @@ fn mark_tags(marks: &mut [bool], tags: &[Tag])
 pub fn mark_said<A: Allocator>(alloc: A, tags: &[Tag]) -> Result<Vec<bool, A>, AllocError>
     ensures { IfOk result (λ marks. AreMarkedBy (is_said tags.now) marks.items) }
 {
-    let mut marks = blank_marks(alloc, ADDRESSES)?;
-    mark_tags(marks.as_mut_slice(), tags);
+    let mut marks = blank_marks(alloc)?;
+    mark_tags(&mut marks, tags);
     Ok(marks)
 }

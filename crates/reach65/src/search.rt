@@ -1,14 +1,15 @@
 //! The search of what is reached.
 
-ghost use Rattle.std.specs.Prelude.{◌≡◌, ◌++◌, ◌∷◌, [], ℕ, Bool, true, List, Ok, None, Some, IfOk, IfNone, IfSome, OnOk, false, length, replicate, slice_set};
+ghost use Rattle.std.specs.Prelude.{◌≡◌, ◌++◌, ◌∷◌, [], ℕ, Bool, true, List, Ok, None, Some, IfOk, IfNone, IfSome, OnOk, false, length, slice_set};
 ghost use Rattle.map65.specs.ImageView.{is_inside};
 ghost use Rattle.reach65.specs.Code.Searching.{AreSound, HasBegun, HasNext, IsAtEnd, IsBegun, IsDone, IsTrial, IsTried, put, put_entry, put_inside, put_some, unset};
 ghost use Rattle.reach65.specs.Flow.{goal_at, next_at};
-ghost use Rattle.reach65.specs.Reached.{AreReached, is_marked};
+ghost use Rattle.reach65.specs.Reached.{AreReached, is_marked, no_marks};
 
 use crate::flow::Flow;
+use crate::marks::blank_marks;
 use crate::sound::{are_sound, is_fine};
-use map65::{ADDRESSES, Image, is_inside};
+use map65::{Image, is_inside};
 use std::alloc::{AllocError, Allocator, Global};
 use std::marker::Model;
 
@@ -39,23 +40,17 @@ impl<A: Allocator> Model for Search<A> {
     ghost invariant = { λ s. length s.marks.items ≡ 65536 };
 }
 
-/// Marks of which none is set.
-pub fn blank_marks<A: Allocator>(alloc: A, count: usize) -> Result<Vec<bool, A>, AllocError>
-    ensures { IfOk result (λ v. v.items ≡ replicate count false) }
-{
-    vec![in alloc; false; count]
-}
-
 impl<A: Allocator> Search<A> {
     /// A search that has not begun.
     fn new(alloc: A) -> Result<Search<A>, AllocError>
     where
         A: Copy,
         ensures entries { IfOk result (λ s. s.entries ≡ []) }
-        ensures marks { IfOk result (λ s. s.marks ≡ replicate 65536 false) }
+        ensures marks { IfOk result (λ s. s.marks ≡ no_marks) }
+        ensures count { IfOk result (λ s. length s.marks ≡ 65536) }
         ensures todo { IfOk result (λ s. s.todo ≡ []) }
     {
-        let marks = blank_marks(alloc, ADDRESSES)?;
+        let marks = blank_marks(alloc)?;
         let entries = Vec::new(alloc);
         let todo = Vec::new(alloc);
         let added = Vec::new(alloc);

@@ -6,9 +6,8 @@ ghost use Rattle.reach65.specs.Taken.{AreMarkedBy};
 ghost use Rattle.reach65.specs.Vectors.{has_vector, is_of_vector, is_vector};
 
 use crate::entries::{has_vectors, word_at};
-use crate::search::blank_marks;
-use crate::taken::mark_span;
-use map65::{ADDRESSES, Image};
+use crate::marks::{blank_marks, mark_span};
+use map65::Image;
 use std::alloc::{AllocError, Allocator};
 
 /// Whether the vector at the address led to code.
@@ -27,20 +26,20 @@ fn is_vector<A: Allocator>(image: &Image<A>, reached: &[bool], taken: &[bool], v
 
 /// Marks the bytes of the vector, if it led to code.
 #[tactic(auto, unfolding(crate::specs::Vectors::has_vector))]
-fn mark_vector<A: Allocator>(
-    marks: &mut [bool],
-    image: &Image<A>,
+fn mark_vector<A: Allocator, B: Allocator>(
+    marks: &mut Vec<bool, A>,
+    image: &Image<B>,
     reached: &[bool],
     taken: &[bool],
     vector: u16,
 )
     requires low { 65530 ≤ vector }
     requires high { vector < 65535 }
-    requires count { length marks.old ≡ 65536 }
+    requires count { length marks.old.items ≡ 65536 }
     requires reached { length reached.now ≡ 65536 }
     requires taken { length taken.now ≡ 65536 }
-    ensures count { length marks.new ≡ 65536 }
-    ensures each { (a : ℕ) → is_marked marks.new a ≡ (is_marked marks.old a || has_vector image.now reached.now taken.now vector a) }
+    ensures count { length marks.new.items ≡ 65536 }
+    ensures each { (a : ℕ) → is_marked marks.new.items a ≡ (is_marked marks.old.items a || has_vector image.now reached.now taken.now vector a) }
 {
     if is_vector(image, reached, taken, vector) {
         let at = usize::from(vector);
@@ -50,17 +49,17 @@ fn mark_vector<A: Allocator>(
 
 /// Marks the bytes of the vectors that led to code.
 #[tactic(auto, unfolding(crate::specs::Vectors::is_of_vector))]
-fn mark_all_vectors<A: Allocator>(
-    marks: &mut [bool],
-    image: &Image<A>,
+fn mark_all_vectors<A: Allocator, B: Allocator>(
+    marks: &mut Vec<bool, A>,
+    image: &Image<B>,
     reached: &[bool],
     taken: &[bool],
 )
-    requires count { length marks.old ≡ 65536 }
+    requires count { length marks.old.items ≡ 65536 }
     requires reached { length reached.now ≡ 65536 }
     requires taken { length taken.now ≡ 65536 }
-    ensures count { length marks.new ≡ 65536 }
-    ensures each { (a : ℕ) → is_marked marks.new a ≡ (is_marked marks.old a || is_of_vector image.now reached.now taken.now a) }
+    ensures count { length marks.new.items ≡ 65536 }
+    ensures each { (a : ℕ) → is_marked marks.new.items a ≡ (is_marked marks.old.items a || is_of_vector image.now reached.now taken.now a) }
 {
     mark_vector(marks, image, reached, taken, 0xFFFA);
     mark_vector(marks, image, reached, taken, 0xFFFC);
@@ -79,7 +78,7 @@ pub fn mark_vectors<A: Allocator, B: Allocator>(
     requires taken { length taken.now ≡ 65536 }
     ensures { IfOk result (λ marks. AreMarkedBy (is_of_vector image.now reached.now taken.now) marks.items) }
 {
-    let mut marks = blank_marks(alloc, ADDRESSES)?;
-    mark_all_vectors(marks.as_mut_slice(), image, reached, taken);
+    let mut marks = blank_marks(alloc)?;
+    mark_all_vectors(&mut marks, image, reached, taken);
     Ok(marks)
 }

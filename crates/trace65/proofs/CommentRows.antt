@@ -7,7 +7,7 @@ use Rattle.info65.specs.declared.information.range.RangeType.TheVariants as role
 use Rattle.map65.specs.MapView.{MapView}
 use Rattle.map65.specs.Roles.{role_at, role_in}
 use Rattle.reach65.specs.Flow.{instruction_at}
-use Rattle.reach65.specs.Taken.{has_byte, is_of_code}
+use Rattle.reach65.specs.Taken.{has_byte}
 use Rattle.trace65.specs.Misplaced.{entry_comments, holder_of, holds, inside_comment, is_outside, outside_comment, range_comment, range_comments}
 use Rattle.trace65.specs.PairComments.{after_comments, last_wanted, name_text, offset_text, pair_comment}
 use Rattle.trace65.specs.Picture.{cell_character, picture_comments, row_comment}
@@ -82,27 +82,27 @@ abbrev pub reached : List Bool
 reached = true ∷ false ∷ false ∷ true ∷ true ∷ []
 
 inside_first : entry_comments operands reached 0x0001 ≡ codes " entry $0001 is inside the instruction at $0000" ∷ []
-unfolding entry_comments has_byte holder_of holds inside_comment instruction_at is_of_code role_at role_in
+unfolding entry_comments has_byte holder_of holds inside_comment instruction_at role_at role_in
 inside_first = refl
 
 inside_last : entry_comments operands reached 0x0002 ≡ codes " entry $0002 is inside the instruction at $0000" ∷ []
-unfolding entry_comments has_byte holder_of holds inside_comment instruction_at is_of_code role_at role_in
+unfolding entry_comments has_byte holder_of holds inside_comment instruction_at role_at role_in
 inside_last = refl
 
 begins : entry_comments operands reached 0x0000 ≡ []
-unfolding entry_comments has_byte holder_of holds instruction_at is_of_code role_at role_in
+unfolding entry_comments has_byte holder_of holds instruction_at role_at role_in
 begins = refl
 
 begins_next : entry_comments operands reached 0x0003 ≡ []
-unfolding entry_comments has_byte holder_of holds instruction_at is_of_code role_at role_in
+unfolding entry_comments has_byte holder_of holds instruction_at role_at role_in
 begins_next = refl
 
 not_reached : entry_comments operands (false ∷ false ∷ false ∷ true ∷ true ∷ []) 0x0001 ≡ []
-unfolding entry_comments has_byte holder_of holds instruction_at is_of_code role_at role_in
+unfolding entry_comments has_byte holder_of holds instruction_at role_at role_in
 not_reached = refl
 
 last_byte : entry_comments operands reached 0x0004 ≡ []
-unfolding entry_comments has_byte holder_of holds instruction_at is_of_code role_at role_in
+unfolding entry_comments has_byte holder_of holds instruction_at role_at role_in
 last_byte = refl
 
 past_end : entry_comments operands reached 0x0005 ≡ codes " entry $0005 is outside the image" ∷ []

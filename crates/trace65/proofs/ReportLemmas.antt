@@ -21,8 +21,8 @@ few-marks image marks placed = omega (arith, placed.room, length-take (length im
 proposal : (m : MapView) (tags : List Tag) (f : Findings) → IsSoundMap m → IsProposal m.image f.ranges f.labels (report_text m tags f)
 unfolding report_text
 proposal m tags f sound =
-    let code : List Bool = image_marks m.image f.code in
-    let taken : List Bool = image_marks m.image f.taken in
+    let code : List Bool = image_marks m.image f.survey.code in
+    let taken : List Bool = image_marks m.image f.survey.taken in
     let comments : List (List ℕ) = comments_before m f in
     record {
       first = legend;
@@ -31,13 +31,13 @@ proposal m tags f sound =
       parts = append_assoc (comment_line legend) (flat_map comment_line comments) (range_lines m.image f.ranges ++ (label_lines f.labels ++ flat_map comment_line (found_comments m tags f)));
       lines = (
         refl,
-        lines-joined (picture_and_counts m.image.start code taken) (misplaced_comments m f.reached f.entries)
-            (refl, picture-lines m.image.start code taken (few-marks m.image f.code sound.placed) (few-marks m.image f.taken sound.placed))
-            (misplaced-lines m f.reached f.entries),
+        lines-joined (picture_and_counts m.image.start code taken) (misplaced_comments m f.survey.reached f.entries)
+            (refl, picture-lines m.image.start code taken (few-marks m.image f.survey.code sound.placed) (few-marks m.image f.survey.taken sound.placed))
+            (misplaced-lines m f.survey.reached f.entries),
       );
       last_lines = found-lines m tags f.pairs (last_wanted f.pairs f.variables) sound.names;
     }
 
 pub accepted : (m : MapView) (given : List ℕ) (plain : Bool) (tags : List Tag) (f : Findings) → IsSoundMap m → TextLaw m → AreFindings m given plain tags f → IsAccepted m f.ranges f.labels (report_text m tags f)
 accepted m given plain tags f sound law are o file info accepts same among small =
-    law o file (report_text m tags f) info f.reached f.taken f.words f.ranges f.labels accepts same among sound.names sound.placed are.taken are.ranges are.new (proposal m tags f sound) small
+    law o file (report_text m tags f) info f.survey.reached f.survey.taken f.words f.ranges f.labels accepts same among sound.names sound.placed are.survey.taken are.ranges are.new (proposal m tags f sound) small

@@ -6,38 +6,30 @@ use Rattle.map65.specs.ImageView.{ImageView}
 use Rattle.map65.specs.MapView.{MapView}
 use Rattle.reach65.specs.Entries.{entries_of, plain_entries_of}
 use Rattle.reach65.specs.Growth.{AreFollowed}
-use Rattle.reach65.specs.Halves.{AreHalves, CodeMarks}
+use Rattle.reach65.specs.Halves.{AreHalves}
 use Rattle.reach65.specs.Labels.{AreNewLabels, labels_of}
 use Rattle.reach65.specs.Pairs.{pairs_of}
 use Rattle.reach65.specs.Pieces.{ArePieces}
 use Rattle.reach65.specs.Reached.{AreReached, is_marked}
-use Rattle.reach65.specs.Routines.{is_called, is_gone_on}
 use Rattle.reach65.specs.Rows.{AreRows, is_of_table}
 use Rattle.reach65.specs.Said.{is_said}
-use Rattle.reach65.specs.Taken.{AreMarkedBy, is_code, is_taken}
-use Rattle.reach65.specs.Variables.{is_operand, variables_of}
+use Rattle.reach65.specs.Survey.{AreSurvey, Survey}
+use Rattle.reach65.specs.Taken.{AreMarkedBy}
+use Rattle.reach65.specs.Variables.{variables_of}
 use Rattle.reach65.specs.Vectors.{is_of_vector}
 use Rattle.reach65.specs.declared.pairs.Pair.{Pair}
 use Rattle.trace65.specs.Said.{entries_said}
 
--- The entries that are given. Marks, one for each address: where a reached instruction begins, what it has, what it goes on to and calls, what it has as its operand, what that or
--- a range of the information file has, and what words that are addresses have. And what is proposed: ranges, pairs of halves, variables right after the image, and labels.
+-- The entries that are given, what reached instructions do with the addresses, and marks of words that are addresses. And what is proposed: ranges,
+-- pairs of halves, variables right after the image, and labels.
 pub record Findings : Type 0 where
   pub entries : List ℕ
-  pub reached : List Bool
-  pub code : List Bool
-  pub gone_on : List Bool
-  pub called : List Bool
-  pub operands : List Bool
-  pub taken : List Bool
+  pub survey : Survey
   pub words : List Bool
   pub ranges : List RangeSpec
   pub pairs : List Pair
   pub variables : List ℕ
   pub labels : List ℕ
-
-abbrev pub code_marks : Findings → CodeMarks
-code_marks f = record { reached = f.reached; code = f.code; gone_on = f.gone_on; called = f.called }
 
 -- What is marked: what is reached from the entries and from sound beginnings; or, if no more is to be followed, from the entries and
 -- what tables refer to.
@@ -46,31 +38,27 @@ AreTraced m given true marks = AreReached m (plain_entries_of m given) marks
 AreTraced m given false marks = AreFollowed m (entries_of m given) marks
 
 -- which of these pairs are an address, if no byte is taken that a group HALVES has
-pub record ArePairs (tags : List Tag) (marks : CodeMarks) (pairs found : List Pair) : Type 0 where
+pub record ArePairs (tags : List Tag) (survey : Survey) (pairs found : List Pair) : Type 0 where
   pub used : List Bool
   pub said : AreMarkedBy (is_said tags) used
-  pub halves : AreHalves marks used pairs found
+  pub halves : AreHalves survey used pairs found
 
 -- The words that are addresses: vectors that led to code, and rows of words beside them that are addresses of routines.
-pub record AreWordMarks (image : ImageView) (code : CodeMarks) (taken words : List Bool) : Type 0 where
+pub record AreWordMarks (image : ImageView) (survey : Survey) (words : List Bool) : Type 0 where
   pub vectors : List Bool
-  pub of_vectors : AreMarkedBy (is_of_vector image code.reached taken) vectors
+  pub of_vectors : AreMarkedBy (is_of_vector image survey.reached survey.taken) vectors
   pub rows : List RangeSpec
-  pub are_rows : AreRows (record { within = record { image = image; taken = taken; words = vectors }; code = code }) 0 rows
+  pub are_rows : AreRows (record { within = record { image = image; taken = survey.taken; words = vectors }; code = survey }) 0 rows
   pub each : AreMarkedBy (λ a. is_marked vectors a || is_of_table rows a) words
 
 -- what is found from the entries that are given and those of the information file and the image, beside what its groups `#: ..` say
 pub record AreFindings (m : MapView) (given : List ℕ) (plain : Bool) (tags : List Tag) (f : Findings) : Type 0 where
   pub entries : f.entries ≡ given ++ entries_said tags
-  pub reached : AreTraced m f.entries plain f.reached
-  pub code : AreMarkedBy (is_code m f.reached) f.code
-  pub gone_on : AreMarkedBy (is_gone_on m f.reached) f.gone_on
-  pub called : AreMarkedBy (is_called m f.reached) f.called
-  pub operands : AreMarkedBy (is_operand m f.reached) f.operands
-  pub taken : AreMarkedBy (is_taken m f.reached) f.taken
-  pub words : AreWordMarks m.image (code_marks f) f.taken f.words
-  pub ranges : ArePieces (record { image = m.image; taken = f.taken; words = f.words }) 0 f.ranges
-  pub pairs : ArePairs tags (code_marks f) (pairs_of m f.reached) f.pairs
-  pub variables : f.variables ≡ variables_of m.image f.operands
+  pub reached : AreTraced m f.entries plain f.survey.reached
+  pub survey : AreSurvey m f.survey
+  pub words : AreWordMarks m.image f.survey f.words
+  pub ranges : ArePieces (record { image = m.image; taken = f.survey.taken; words = f.words }) 0 f.ranges
+  pub pairs : ArePairs tags f.survey (pairs_of m f.survey.reached) f.pairs
+  pub variables : f.variables ≡ variables_of m.image f.survey.operands
   pub labels : f.labels ≡ labels_of m.info.names f.pairs f.variables
   pub new : AreNewLabels m.info.names 0 f.labels

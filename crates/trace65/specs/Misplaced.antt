@@ -5,13 +5,14 @@ use Rattle.text65.specs.Digits.{digits4}
 use Rattle.info65.specs.declared.information.range.RangeSpec.{RangeSpec}
 use Rattle.map65.specs.ImageView.{ImageView, end_of, is_inside}
 use Rattle.map65.specs.MapView.{MapView}
-use Rattle.reach65.specs.Taken.{is_of_code}
+use Rattle.reach65.specs.Reached.{is_marked}
+use Rattle.reach65.specs.Taken.{has_byte}
 
 -- ---- entries
 
 -- the reached instruction that begins at the second address has the first one, which comes after it
 unfoldable pub holds : MapView → List Bool → ℕ → ℕ → Bool
-holds m marks a b = nat_lt b a && is_of_code m marks a b
+holds m marks a b = nat_lt b a && (is_marked marks b && has_byte m b a)
 
 -- where the reached instruction begins that the address lies inside of: one or two bytes before it, since none has more than three
 unfoldable pub holder_of : MapView → List Bool → ℕ → Option ℕ

@@ -27,7 +27,7 @@ picture_and_counts start code taken = legend_more ∷ (picture_comments start co
 -- the comments after the first one: those, and what is given where it counts for nothing
 abbrev pub comments_before : MapView → Findings → List (List ℕ)
 comments_before m f =
-    picture_and_counts m.image.start (image_marks m.image f.code) (image_marks m.image f.taken) ++ misplaced_comments m f.reached f.entries
+    picture_and_counts m.image.start (image_marks m.image f.survey.code) (image_marks m.image f.survey.taken) ++ misplaced_comments m f.survey.reached f.entries
 
 -- a comment for each pair, and one for what lies after the image
 abbrev pub found_comments : MapView → List Tag → Findings → List (List ℕ)

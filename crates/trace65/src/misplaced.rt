@@ -24,7 +24,7 @@ fn has_byte(flow: &Flow<'_, '_>, first: u16, address: u16) -> bool
 }
 
 /// Whether the reached instruction that begins at the second address has the first one, which comes after it.
-#[tactic(auto, unfolding(crate::specs::Misplaced::holds, reach65::specs::Taken::is_of_code))]
+#[tactic(auto, unfolding(crate::specs::Misplaced::holds))]
 fn holds(flow: &Flow<'_, '_>, reached: &[bool], address: u16, first: u16) -> bool
     requires { length reached.now ≡ 65536 }
     ensures { result ≡ holds flow.now reached.now address first }

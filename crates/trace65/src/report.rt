@@ -5,6 +5,8 @@ ghost use Rattle.reach65.specs.Pairs.{pairs_of};
 ghost use Rattle.reach65.specs.Pieces.{LieIn};
 ghost use Rattle.reach65.specs.TextLaws.{comment_line};
 ghost use Rattle.trace65.specs.Findings.{AreFindings, ArePairs, AreTraced, AreWordMarks};
+ghost use Rattle.trace65.specs.Misplaced.{misplaced_comments};
+ghost use Rattle.trace65.specs.Picture.{image_marks};
 ghost use Rattle.trace65.specs.Report.{IsWritten, comments_before, file_before, found_comments, legend, legend_more, picture_and_counts, report_text};
 
 use crate::labels::put_labels;
@@ -18,24 +20,18 @@ use info65::{RangeSpec, Tag};
 use map65::{Image, Map};
 use reach65::laws::text_law;
 use reach65::{
-    CodeMarks, Flow, Ground, Pair, Words, entries_of, follow, halves_of, labels_of, mark_called,
-    mark_gone_on, mark_instructions, mark_operands, mark_said, mark_tables, mark_taken,
-    mark_vectors, pairs_of, plain_entries_of, reached, variables_of,
+    Flow, Ground, Pair, Survey, Words, entries_of, follow, halves_of, labels_of, mark_said,
+    mark_tables, mark_vectors, pairs_of, plain_entries_of, reached, variables_of,
 };
 use std::alloc::{AllocError, Global};
 use std::marker::Model;
 
-/// What is found of an image: the entries that are given; marks of where reached instructions begin, of what they have, go on to, call and have as operands, of what they or
-/// ranges of the information file have, and of words that are addresses; and the ranges, the pairs of halves, the variables and the labels that are proposed.
+/// What is found of an image: the entries that are given, what reached instructions do with the addresses, marks of words that are addresses,
+/// and the ranges, the pairs of halves, the variables and the labels that are proposed.
 #[derive(Drop)]
 struct Findings {
     entries: Vec<u16>,
-    reached: Vec<bool>,
-    code: Vec<bool>,
-    gone_on: Vec<bool>,
-    called: Vec<bool>,
-    operands: Vec<bool>,
-    taken: Vec<bool>,
+    survey: Survey,
     words: Vec<bool>,
     ranges: Vec<RangeSpec>,
     pairs: Vec<Pair>,
@@ -50,12 +46,7 @@ impl Model for Findings {
 
     ghost view = { λ f. record {
       entries = f.entries.items;
-      reached = f.reached.items;
-      code = f.code.items;
-      gone_on = f.gone_on.items;
-      called = f.called.items;
-      operands = f.operands.items;
-      taken = f.taken.items;
+      survey = f.survey;
       words = f.words.items;
       ranges = f.ranges.items;
       pairs = f.pairs.items;
@@ -85,35 +76,24 @@ fn reached_from(
 fn halves(
     alloc: Global,
     flow: &Flow<'_, '_>,
-    reached: &[bool],
-    marks: &CodeMarks<'_>,
+    survey: &Survey,
     tags: &[Tag],
 ) -> Result<Vec<Pair>, AllocError>
-    requires { length reached.now ≡ 65536 }
-    ensures { IfOk result (λ found. ArePairs tags.now marks.now (pairs_of flow.now reached.now) found.items) }
+    ensures { IfOk result (λ found. ArePairs tags.now survey.now (pairs_of flow.now survey.now.reached) found.items) }
 {
     let used = mark_said(alloc, tags)?;
-    let pairs = pairs_of(alloc, flow, reached)?;
-    let found = halves_of(alloc, marks, used, &pairs)?;
+    let pairs = pairs_of(alloc, flow, &survey.reached)?;
+    let found = halves_of(alloc, survey, used, &pairs)?;
     Ok(found)
 }
 
 /// Marks of the words that are addresses: of vectors that led to code, and of rows of words that are addresses of routines.
-fn word_marks(
-    alloc: Global,
-    image: &Image,
-    code: &CodeMarks<'_>,
-    reached: &[bool],
-    taken: &[bool],
-) -> Result<Vec<bool>, AllocError>
-    requires reached { length reached.now ≡ 65536 }
-    requires taken { length taken.now ≡ 65536 }
-    requires same { code.now.reached ≡ reached.now }
-    ensures { IfOk result (λ words. AreWordMarks image.now code.now taken.now words.items) }
+fn word_marks(alloc: Global, image: &Image, survey: &Survey) -> Result<Vec<bool>, AllocError>
+    ensures { IfOk result (λ words. AreWordMarks image.now survey.now words.items) }
 {
-    let mut words = mark_vectors(alloc, image, reached, taken)?;
-    let rows = Words::new(Ground::new(image, taken, &words), code).rows(alloc)?;
-    mark_tables(words.as_mut_slice(), &rows);
+    let mut words = mark_vectors(alloc, image, &survey.reached, &survey.taken)?;
+    let rows = Words::new(Ground::new(image, &survey.taken, &words), survey).rows(alloc)?;
+    mark_tables(&mut words, &rows);
     Ok(words)
 }
 
@@ -127,30 +107,19 @@ fn search_image(
 ) -> Result<Findings, AllocError>
     ensures found { IfOk result (λ f. AreFindings map.now given.now plain tags.now f) }
     ensures inside { IfOk result (λ f. LieIn map.now.image f.ranges) }
-    ensures count { IfOk result (λ f. length f.reached ≡ 65536) }
 {
     let flow = Flow::new(map);
     let entries = all_entries(alloc, given, tags)?;
     let reached = reached_from(alloc, &flow, &entries, plain)?;
-    let code = mark_instructions(alloc, &flow, &reached)?;
-    let gone_on = mark_gone_on(alloc, &flow, &reached)?;
-    let called = mark_called(alloc, &flow, &reached)?;
-    let operands = mark_operands(alloc, &flow, &reached)?;
-    let taken = mark_taken(alloc, &flow, &reached)?;
-    let marks = CodeMarks::new(&reached, &code, &gone_on, &called);
-    let words = word_marks(alloc, map.image(), &marks, &reached, &taken)?;
-    let ranges = Ground::new(map.image(), &taken, &words).pieces(alloc)?;
-    let pairs = halves(alloc, &flow, &reached, &marks, tags)?;
-    let variables = variables_of(alloc, map.image(), &operands)?;
+    let survey = Survey::of(alloc, &flow, reached)?;
+    let words = word_marks(alloc, map.image(), &survey)?;
+    let ranges = Ground::new(map.image(), &survey.taken, &words).pieces(alloc)?;
+    let pairs = halves(alloc, &flow, &survey, tags)?;
+    let variables = variables_of(alloc, map.image(), &survey.operands)?;
     let labels = labels_of(alloc, map.info(), &pairs, &variables)?;
     Ok(Findings {
         entries,
-        reached,
-        code,
-        gone_on,
-        called,
-        operands,
-        taken,
+        survey,
         words,
         ranges,
         pairs,
@@ -182,16 +151,43 @@ fn put_picture_and_counts(
     put_counts(out, code, taken)
 }
 
+/// Which bytes of the image a reached instruction has.
+fn code_marks<'a>(image: &Image, survey: &'a Survey) -> &'a [bool]
+    ensures marks { result.now ≡ image_marks image.now survey.entry.now.code }
+    ensures few { image.now.start + length result.now ≤ 65536 }
+{
+    image_marks(image, &survey.code)
+}
+
+/// Which bytes of the image are spoken for.
+fn taken_marks<'a>(image: &Image, survey: &'a Survey) -> &'a [bool]
+    ensures marks { result.now ≡ image_marks image.now survey.entry.now.taken }
+    ensures few { image.now.start + length result.now ≤ 65536 }
+{
+    image_marks(image, &survey.taken)
+}
+
+/// Appends what is given where it counts for nothing.
+fn put_misplaced_in(
+    out: &mut Vec<u8>,
+    map: &Map<'_>,
+    survey: &Survey,
+    entries: &[u16],
+) -> Result<(), AllocError>
+    ensures { OnOk result (out.new.items ≡ out.old.items ++ flat_map comment_line (misplaced_comments map.now survey.now.reached entries.now)) }
+{
+    put_misplaced(out, &Flow::new(map), &survey.reached, entries)
+}
+
 /// Appends the picture, the counts, and what is given where it counts for nothing.
 fn put_head(out: &mut Vec<u8>, map: &Map<'_>, found: &Findings) -> Result<(), AllocError>
-    requires { length found.now.reached ≡ 65536 }
     ensures { OnOk result (out.new.items ≡ out.old.items ++ (comment_line legend ++ flat_map comment_line (comments_before map.now found.now))) }
 {
     let image = map.image();
-    let code = image_marks(image, &found.code);
-    let taken = image_marks(image, &found.taken);
+    let code = code_marks(image, &found.survey);
+    let taken = taken_marks(image, &found.survey);
     put_picture_and_counts(out, image.start(), code, taken)?;
-    put_misplaced(out, &Flow::new(map), &found.reached, &found.entries)
+    put_misplaced_in(out, map, &found.survey, &found.entries)
 }
 
 /// Appends the lines `#: ..`.
@@ -215,8 +211,7 @@ fn put_report(
     tags: &[Tag],
     found: &Findings,
 ) -> Result<(), AllocError>
-    requires inside { LieIn map.now.image found.now.ranges }
-    requires count { length found.now.reached ≡ 65536 }
+    requires { LieIn map.now.image found.now.ranges }
     ensures { OnOk result (out.new.items ≡ out.old.items ++ report_text map.now tags.now found.now) }
 {
     put_head(out, map, found)?;

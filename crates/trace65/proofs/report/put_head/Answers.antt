@@ -14,15 +14,15 @@ returns c =
     let f = c.args.found.now in
     let image = c.image-image.ensures.image in
     let start : c.start.result ≡ m.image.start = c.start.ensures ∙ ap (λ i. i.start) image in
-    let code : c.image_marks-code.result.now ≡ image_marks m.image f.code = c.image_marks-code.ensures.marks ∙ ap₂ image_marks image (c.deref.ensures.value ∙ ap (λ g. g.code) c.found.view_is) in
-    let taken : c.image_marks-taken.result.now ≡ image_marks m.image f.taken = c.image_marks-taken.ensures.marks ∙ ap₂ image_marks image (c.deref-2.ensures.value ∙ ap (λ g. g.taken) c.found.view_is) in
+    let code : c.code_marks-code.result.now ≡ image_marks m.image f.survey.code = c.code_marks-code.ensures.marks ∙ ap₂ image_marks image (ap (λ g. g.survey.code) c.found.view_is) in
+    let taken : c.taken_marks-taken.result.now ≡ image_marks m.image f.survey.taken = c.taken_marks-taken.ensures.marks ∙ ap₂ image_marks image (ap (λ g. g.survey.taken) c.found.view_is) in
     let comments = c.in_ok-put_picture_and_counts.ensures in
-    let reached = c.deref-3.ensures.value ∙ ap (λ g. g.reached) c.found.view_is in
-    let entries = c.deref-4.ensures.value ∙ ap (λ g. g.entries) c.found.view_is in
-    on_ok_weaker c.put_misplaced.result
+    let survey = ap (λ g. g.survey.reached) c.found.view_is in
+    let entries = c.deref.ensures.value ∙ ap (λ g. g.entries) c.found.view_is in
+    on_ok_weaker c.put_misplaced_in.result
     (λ last.
-    comments-on (comment_line legend) (picture_and_counts m.image.start (image_marks m.image f.code) (image_marks m.image f.taken)) (misplaced_comments m f.reached f.entries)
-    c.args.out.now.items c.put_picture_and_counts.new.out.items c.put_misplaced.new.out.items
+    comments-on (comment_line legend) (picture_and_counts m.image.start (image_marks m.image f.survey.code) (image_marks m.image f.survey.taken)) (misplaced_comments m f.survey.reached f.entries)
+    c.args.out.now.items c.put_picture_and_counts.new.out.items c.put_misplaced_in.new.out.items
     (rw (start, code, taken) at comments)
-    (last ∙ ap (λ l. c.put_picture_and_counts.new.out.items ++ flat_map comment_line l) (ap (λ g. misplaced_comments g c.deref-3.result.now c.deref-4.result.now) c.new.ensures ∙ ap₂ (misplaced_comments m) reached entries)))
-    c.put_misplaced.ensures
+    (last ∙ ap (λ l. c.put_picture_and_counts.new.out.items ++ flat_map comment_line l) (ap₂ (misplaced_comments m) survey entries)))
+    c.put_misplaced_in.ensures

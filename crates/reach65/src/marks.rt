@@ -1,0 +1,73 @@
+//! Marks of addresses, one for each from $0000 to $FFFF.
+
+ghost use Rattle.std.specs.Prelude.{◌≡◌, ◌≤◌, ◌&&◌, ◌||◌, ℕ, IfOk, false, length, nat_le, nat_lt, replicate};
+ghost use Rattle.info65.specs.Ranges.{has_address};
+ghost use Rattle.reach65.specs.Reached.{is_marked, no_marks};
+ghost use Rattle.reach65.specs.Routines.{is_it};
+ghost use Rattle.reach65.specs.Taken.{is_given};
+
+use info65::RangeSpec;
+use map65::ADDRESSES;
+use std::alloc::{AllocError, Allocator};
+
+/// This many marks, none of which is set.
+fn unset_marks<A: Allocator>(alloc: A, count: usize) -> Result<Vec<bool, A>, AllocError>
+    ensures { IfOk result (λ v. v.items ≡ replicate count false) }
+{
+    vec![in alloc; false; count]
+}
+
+/// Marks of which none is set.
+#[tactic(auto, unfolding(crate::specs::Reached::no_marks))]
+pub fn blank_marks<A: Allocator>(alloc: A) -> Result<Vec<bool, A>, AllocError>
+    ensures marks { IfOk result (λ v. v.items ≡ no_marks) }
+    ensures count { IfOk result (λ v. length v.items ≡ 65536) }
+{
+    unset_marks(alloc, ADDRESSES)
+}
+
+/// Marks the address, if there is one.
+pub fn mark_some<A: Allocator>(marks: &mut Vec<bool, A>, address: Option<u16>)
+    requires count { length marks.old.items ≡ 65536 }
+    ensures count { length marks.new.items ≡ 65536 }
+    ensures each { (b : ℕ) → is_marked marks.new.items b ≡ (is_marked marks.old.items b || is_it address b) }
+{
+    if let Some(address) = address {
+        marks[usize::from(address)] = true;
+    }
+}
+
+/// Marks the addresses from `from` to before `to`.
+pub fn mark_span<A: Allocator>(marks: &mut Vec<bool, A>, from: usize, to: usize)
+    requires count { length marks.old.items ≡ 65536 }
+    requires order { from ≤ to }
+    requires room { to ≤ 65536 }
+    ensures count { length marks.new.items ≡ 65536 }
+    ensures each { (a : ℕ) → is_marked marks.new.items a ≡ (is_marked marks.old.items a || (nat_le from a && nat_lt a to)) }
+{
+    'span: for at in from..to {
+        marks[at] = true;
+    }
+}
+
+/// Marks the addresses of a range.
+pub fn mark_range<A: Allocator>(marks: &mut Vec<bool, A>, range: RangeSpec)
+    requires count { length marks.old.items ≡ 65536 }
+    ensures count { length marks.new.items ≡ 65536 }
+    ensures each { (a : ℕ) → is_marked marks.new.items a ≡ (is_marked marks.old.items a || has_address range a) }
+{
+    let first = usize::from(range.first);
+    let end = usize::from(range.last) + 1;
+    mark_span(marks, first, end.max(first));
+}
+
+/// Marks the addresses of the ranges.
+pub fn mark_ranges<A: Allocator>(marks: &mut Vec<bool, A>, ranges: &[RangeSpec])
+    requires count { length marks.old.items ≡ 65536 }
+    ensures count { length marks.new.items ≡ 65536 }
+    ensures each { (a : ℕ) → is_marked marks.new.items a ≡ (is_marked marks.old.items a || is_given ranges.now a) }
+{
+    'given: for &range in ranges {
+        mark_range(marks, range);
+    }
+}
