@@ -2,6 +2,7 @@
 
 use crate::tests::asserts::{assert_equal, assert_that};
 use isa65::{Cpu, DecodeTable, EncodeTable, Mnemonic, Mode, Op, OpcodeSet};
+use stmt65::{Column, Columns, LabelBreak, Level, LimitError, Line, Remarks, Statement, put_line};
 use text65::{
     are_word_bytes, first_line, has_name_form, hex_digit, is_blank, is_reserved_word, is_word_byte,
 };
@@ -45,4 +46,42 @@ fn texts(rt: HostRuntime) {
     assert_that(&rt, are_word_bytes(b"1aZ_") && is_word_byte(b'_'));
     assert_that(&rt, is_blank(b'\t') && !is_blank(b'\n'));
     assert_equal(&rt, &hex_digit(10), &b'A');
+}
+
+#[test]
+fn lines_of_statements(rt: HostRuntime) {
+    let mut line = Line::new();
+    let remarks = Remarks {
+        level: Level::default(),
+        hexoffs: false,
+        address: 0x1000,
+        bytes: b"",
+        label: None,
+    };
+    put_line(
+        &mut line,
+        &Columns::default(),
+        &Statement::Rts(None),
+        &remarks,
+    );
+    let want = b"        .word   $FFFF\n".as_slice();
+    assert_equal(&rt, &line.as_slice(), &want);
+    assert_that(&rt, Columns::default().fits_label(b"chrout7"));
+    assert_that(&rt, !Columns::default().fits_label(b"longname"));
+}
+
+#[test]
+fn limits_of_columns(rt: HostRuntime) {
+    assert_equal(&rt, &Column::try_from(0), &Err(LimitError(0)));
+    assert_equal(&rt, &Column::try_from(121), &Err(LimitError(121)));
+    assert_equal(&rt, &LabelBreak::try_from(121), &Err(LimitError(121)));
+    assert_equal(&rt, &Level::try_from(5), &Err(LimitError(5)));
+    let text = format!(in rt.alloc(); "{}", LimitError(121)).expect(&rt, "format");
+    assert_equal(&rt, &text.as_str(), &"121 is out of range");
+    let numbers = [
+        Column::try_from(120).expect(&rt, "try_from").get(),
+        LabelBreak::try_from(0).expect(&rt, "try_from").get(),
+        Level::try_from(4).expect(&rt, "try_from").get(),
+    ];
+    assert_equal(&rt, &numbers, &[120, 0, 4]);
 }
