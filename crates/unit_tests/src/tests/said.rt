@@ -1,5 +1,5 @@
-//! What information files and include files say, as text, and tables of such files. Each row of a table is a file, ` => ` and
-//! what it says. In the file `|` stands for a line feed. An empty row counts as none, and so does one that begins with `--`.
+//! What information files and include files say, as text, and tables of include files. Each row of a table is a file, ` => ` and
+//! what it gives. In the file `|` stands for a line feed. An empty row counts as none, and so does one that begins with `--`.
 
 ghost use Rattle.std.specs.Prelude.{IfOk};
 ghost use Rattle.info65.specs.Names.{AreNames};
@@ -161,61 +161,41 @@ fn put_info(out: &mut String, info: &Info) -> Result<(), AllocError> {
     put_includes(out, info)
 }
 
-/// What the command line sets.
-#[derive(Clone, Copy)]
-pub enum CommandLine {
-    Nothing,
-    /// The input `a.bin` and the output `c.s`.
-    Names,
-    /// The same names, and each setting that an information file may set too.
-    Everything,
-}
-
-/// The options of a command line.
-fn options_of(rt: &impl Abort, alloc: Global, line: CommandLine) -> Options {
+/// The options of a command line that sets everything that an information file may set too.
+fn every_option(rt: &impl Abort, alloc: Global) -> Options {
     let mut options = Options::none();
-    if matches!(line, CommandLine::Nothing) {
-        return options;
-    }
     options.input = Some(String::from_str(alloc, "a.bin").expect(rt, "from_str"));
     options.output = Some(String::from_str(alloc, "c.s").expect(rt, "from_str"));
-    if matches!(line, CommandLine::Everything) {
-        options.start = Some(0x2000);
-        options.cpu = Some(Cpu::M65SC02);
-        options.comments = Some(0);
-        options.mnemonic_column = Some(11);
-        options.argument_column = Some(12);
-        options.comment_column = Some(13);
-        options.text_column = Some(14);
-        options.label_break = Some(15);
-        options.hexoffs = true;
-    }
+    options.start = Some(0x2000);
+    options.cpu = Some(Cpu::M65SC02);
+    options.comments = Some(0);
+    options.mnemonic_column = Some(11);
+    options.argument_column = Some(12);
+    options.comment_column = Some(13);
+    options.text_column = Some(14);
+    options.label_break = Some(15);
+    options.hexoffs = true;
     options
 }
 
-/// What an information file says beside defaults, or its fault.
-pub fn said(rt: &impl Abort, alloc: Global, line: CommandLine, file: &[u8]) -> String {
-    let options = options_of(rt, alloc, line);
+/// What an information file says beside defaults, or its fault, with these options.
+fn said_with(rt: &impl Abort, alloc: Global, options: &Options, file: &[u8]) -> String {
     let mut out = String::new(alloc);
-    match read_info(alloc, &options, file) {
+    match read_info(alloc, options, file) {
         Ok(info) => put_info(&mut out, &info).expect(rt, "put_info"),
         Err(fault) => write!(out, " {fault}").expect(rt, "write"),
     }
     out
 }
 
-/// Each information file of the table says what stands in its row.
-pub fn say(rt: &impl Abort, alloc: Global, line: CommandLine, table: &str) {
-    for row in table.lines() {
-        match row.split_once(" =>") {
-            Some((text, want)) => {
-                let file = file_of(alloc, text).expect(rt, "file_of");
-                let found = said(rt, alloc, line, &file);
-                assert_equal_at(rt, &found.as_str(), &want, &text);
-            }
-            None => assert_that_at(rt, row.is_empty() || row.starts_with("--"), &row),
-        }
-    }
+/// The same without options.
+pub fn said(rt: &impl Abort, alloc: Global, file: &[u8]) -> String {
+    said_with(rt, alloc, &Options::none(), file)
+}
+
+/// The same beside a command line that sets everything.
+pub fn said_beside(rt: &impl Abort, alloc: Global, file: &[u8]) -> String {
+    said_with(rt, alloc, &every_option(rt, alloc), file)
 }
 
 /// The faults of the include files, if they have some, and the names once they are added. Each comes with its place among the groups.
