@@ -7,7 +7,8 @@ use info65::{InfoFault, InfoFaultKind, Lexer, TokenKind};
 use std::alloc::{AllocError, Global};
 
 /// Each attribute of a setting, and each kind of group. The names are not in the order of their addresses.
-const EVERYTHING: &[u8] = b"GLOBAL { INPUTNAME \"a.bin\"; OUTPUTNAME \"b.s\"; INPUTOFFS 1; INPUTSIZE 2; };
+const EVERYTHING: &[u8] =
+    b"GLOBAL { INPUTNAME \"a.bin\"; OUTPUTNAME \"b.s\"; INPUTOFFS 1; INPUTSIZE 2; };
 GLOBAL { STARTADDR $1000; CPU \"65C02\"; HEXOFFS on; COMMENTS 4; LABELBREAK 5; };
 GLOBAL { MNEMONICCOLUMN 1; ARGUMENTCOLUMN 2; COMMENTCOLUMN 3; TEXTCOLUMN 4; };
 GLOBAL { NEWLINEAFTERJMP on; NEWLINEAFTERRTS on; };
@@ -19,7 +20,8 @@ ASMINC { FILE \"k.inc\"; COMMENTSTART '*'; IGNOREUNKNOWN on; };";
 #[test]
 fn a_file_with_everything(rt: HostRuntime) {
     let found = said(&rt, rt.alloc(), EVERYTHING);
-    let want = " input a.bin output b.s offset 1 size 2 start 1000 cpu M65C02 hexoffs columns 4 1 2 3 4 5 after jmp after rts \
+    let want =
+        " input a.bin output b.s offset 1 size 2 start 1000 cpu M65C02 hexoffs columns 4 1 2 3 4 5 after jmp after rts \
         WordTable 1000-1001 00FE buf+4 1000 table \"a word\" segment 1000-10FF ROM include k.inc 2A ignoring";
     assert_equal(&rt, &found.as_str(), &want);
 }
@@ -27,7 +29,11 @@ fn a_file_with_everything(rt: HostRuntime) {
 /// A command line that sets everything wins.
 #[test]
 fn the_command_line_wins(rt: HostRuntime) {
-    let found = said_beside(&rt, rt.alloc(), b"GLOBAL { STARTADDR 1; CPU \"65C02\"; COMMENTS 4; };");
+    let found = said_beside(
+        &rt,
+        rt.alloc(),
+        b"GLOBAL { STARTADDR 1; CPU \"65C02\"; COMMENTS 4; };",
+    );
     let want = " input a.bin output c.s start 2000 cpu M65SC02 hexoffs columns 0 11 12 13 14 15";
     assert_equal(&rt, &found.as_str(), &want);
 }
