@@ -671,7 +671,7 @@ if has_shim; then
 
     # /dev/null is opened three times, for standard streams that are closed. 4 KiB a read and one read at the end, and one write for all.
     counts 'bytes' 5 193 1 2400000 -S 0 -o out.bin large.s
-    counts 'one stretch' 5 210 1 3600000 -S 0 --compare zeros.bin large.s
+    counts 'one stretch' 5 210 1 3620000 -S 0 --compare zeros.bin large.s
     counts 'every second byte' 5 106 1 29300000 -S 0 --compare zeros.bin every.s
     counts 'nothing that differs' 5 210 0 3300000 --compare large.bin large.s
     # A message is one write, and after one that fails there is none.
