@@ -762,17 +762,17 @@ speed() {
     "$program" -S 0 random.bin -o random.s
     "$program" -S 0 nop.bin -o nop.s
     "$program" -S 0 -i mixed.info mixed.bin -o mixed.s
-    assembles 'random bytes' 41.6 random.s
-    assembles 'nop' 39.5 nop.s
-    assembles "mixed bytes, $(wc -l <mixed.info) ranges" 39.3 mixed.s
+    assembles 'random bytes' 29.0 random.s
+    assembles 'nop' 19.5 nop.s
+    assembles "mixed bytes, $(wc -l <mixed.info) ranges" 26.3 mixed.s
     # What people write when they edit, and the shortest listing.
     awk 'BEGIN { for (n = 0; n < 8000; n++) printf "n%d: lda #<n%d\n ldx #>n%d\n", n, n * 7919 % 8000, n * 7919 % 8000 }' >halves.s
     awk 'BEGIN { for (n = 0; n < 3000; n++) printf "n%d := %d\n", n, 8192 + n
         for (n = 0; n < 3000; n++) printf n % 8 ? ",n%d" : "\n .lobytes n%d", n * 7919 % 3000; print "" }' >lobytes.s
     printf 'here:   lda     #$01\n        sta     $10\n        jmp     here\n' >three.s
-    assembles '8,000 pairs of halves' 34.9 halves.s
-    assembles 'low bytes of 3,000 names' 44.5 lobytes.s
-    assembles 'three lines' 50.7 three.s
+    assembles '8,000 pairs of halves' 35.5 halves.s
+    assembles 'low bytes of 3,000 names' 35.8 lobytes.s
+    assembles 'three lines' 48.2 three.s
     # The same pairs as numbers, of which every tenth and then every one gets names; and the listings without a group.
     "$assembler" -S 0 -o halves.bin halves.s
     awk 'BEGIN { for (n = 0; n < 8000; n++) printf "LABEL { ADDR $%04X; NAME \"n%d\"; };\n", 4 * n, n }' >numbers.info
@@ -780,11 +780,11 @@ speed() {
     awk 'BEGIN { for (n = 0; n < 8000; n++) printf "#: HALVES { LOW $%04X; HIGH $%04X; };\n", 4 * n + 1, 4 * n + 3 }' >pairs.info
     awk 'NR % 10 == 1' pairs.info >few.info
     printf '\n%-44s %12s %12s %8s\n' 'instructions for a listing' 'name65' 'as65' 'ratio'
-    names 'three lines' 135 three.s
-    names 'random bytes' 157 random.s
-    names 'random bytes, used names' 197 random.s --used
-    names 'a tenth of 8,000 pairs' 300 numbers.s -i few.info
-    names '8,000 pairs' 430 numbers.s -i pairs.info
+    names 'three lines' 138.2 three.s
+    names 'random bytes' 196.3 random.s
+    names 'random bytes, used names' 252.8 random.s --used
+    names 'a tenth of 8,000 pairs' 381.6 numbers.s -i few.info
+    names '8,000 pairs' 624.1 numbers.s -i pairs.info
     printf '\n%-44s %12s %12s\n' 'instructions for a line' '64 KiB' '128 KiB'
     lengthens 'a line that is one word' 1 n
     lengthens 'a long number after a half' 0 'x1 := 1\n .byte <x1,'
