@@ -578,7 +578,7 @@ shows() {
     local ratio
     ratio=$(awk "BEGIN { print 100 * $3 / $4 }")
     printf "%-${5}s %12d %12d %6.1f %%%s\n" "$1" "$3" "$4" "$ratio" "${6-}"
-    awk "BEGIN { exit !($ratio > 1.05 * $2) }" && fails "$1" "$ratio % of cc65's instructions, more than a twentieth above $2 %"
+    awk "BEGIN { exit !($ratio > 1.05 * $2) }" && fails "$1" "$ratio % of the instructions beside it, more than a twentieth above $2 %"
 }
 
 # compares NAME LIMIT WORD..: those of the program and of cc65's da65 on the same words.
