@@ -460,8 +460,8 @@ work() {
     counts 'an input that is not there' 1 4 0 1 15500 19700 no.bin
 
     # as65 holds a listing, its names, its bytes, and the image beside it.
-    program=$assembler counts 'labels that are assembled' 0 5 99 1 2750000 11870000 -S 0 -o out.bin labels.s
-    program=$assembler counts 'labels that differ' 1 5 110 1 3010000 19295000 -S 0 --compare zeros.bin labels.s
+    program=$assembler counts 'labels that are assembled' 0 5 99 1 7700000 13980000 -S 0 -o out.bin labels.s
+    program=$assembler counts 'labels that differ' 1 5 110 1 7960000 27500000 -S 0 --compare zeros.bin labels.s
 
     refuses_options
     refuses_in_turn 'the command line' 40 0 1 --cpu 65c02 -S 0x1000 --comments 4 --text-column 60 three.bin
@@ -727,15 +727,15 @@ speed() {
     done
     compares 'nop' 35.2 -S 0 nop.bin
     compares 'mixed bytes, without ranges' 25.1 -S 0 mixed.bin
-    compares "mixed bytes, $(wc -l <mixed.info) ranges" 25.9 -S 0 -i mixed.info mixed.bin
+    compares "mixed bytes, $(wc -l <mixed.info) ranges" 25.2 -S 0 -i mixed.info mixed.bin
     compares 'a byte table' 17.6 -S 0 -i table.info nop.bin
-    compares 'a byte table in 1,024 segments' 28.8 -S 0 -i segments.info nop.bin
+    compares 'a byte table in 1,024 segments' 28.0 -S 0 -i segments.info nop.bin
     grep SEGMENT segments.info >borders.info
     echo 'SEGMENT { START $1000; END $1001; NAME "S"; };' >segment.info
     echo 'LABEL { ADDR $1000; NAME "entry"; COMMENT "the entry"; };' >comment.info
     compares 'nop, one segment of two bytes' 39.0 -S 0 -i segment.info nop.bin
     compares 'nop, one name with a comment' 38.9 -S 0 -i comment.info nop.bin
-    compares 'nop, 1,024 segments' 47.4 -S 0 -i borders.info nop.bin
+    compares 'nop, 1,024 segments' 46.7 -S 0 -i borders.info nop.bin
 
     # What people run: a few bytes, a few tables and names. What is done once whatever there is shows most. (cc65's has no SIZE.)
     printf '%s\n' 'GLOBAL { STARTADDR $F000; };' \
@@ -748,14 +748,14 @@ speed() {
     echo 'LABEL { ADDR $1000; NAME "entry"; };' >label.info
     printf '\xea' >one.bin
     compares 'one byte' 33.5 -S 0 one.bin
-    compares '44 bytes with five tables and three names' 54.8 -i hello.info "$root/examples/hello.bin"
+    compares '44 bytes with five tables and three names' 54.5 -i hello.info "$root/examples/hello.bin"
     compares '1 KiB with one label' 35.9 -S 0 -i label.info kilobyte.bin
     includes 16 1 10 >small.info
-    compares '1 KiB with 16 include files of a line' 42.9 -S 0 -i small.info kilobyte.bin
+    compares '1 KiB with 16 include files of a line' 42.7 -S 0 -i small.info kilobyte.bin
     includes 16 4096 230 >large.info
-    compares '1 KiB with 16 include files of 1 MiB' 33.3 -S 0 -i large.info kilobyte.bin
+    compares '1 KiB with 16 include files of 1 MiB' 33.2 -S 0 -i large.info kilobyte.bin
     remarked 16 250 >remarked.info
-    compares '1 KiB with 16 MiB of comment, 4,000 names' 59.1 -S 0 -i remarked.info kilobyte.bin
+    compares '1 KiB with 16 MiB of comment, 4,000 names' 57.9 -S 0 -i remarked.info kilobyte.bin
 
     printf 'MEMORY { MAIN: start = 0, size = $10000, file = %%O; }\nSEGMENTS { CODE: load = MAIN, type = ro; }\n' >flat.cfg
     printf '\n%-44s %12s %12s %8s\n' 'instructions for a listing' 'as65' 'ca65, ld65' 'ratio'
@@ -790,12 +790,12 @@ speed() {
     lengthens 'a long number after a half' 0 'x1 := 1\n .byte <x1,'
 
     printf '\n%-28s %12s %12s %8s %8s %8s %9s\n' 'instructions and kilobytes' 'here' 'cc65' 'ratio' 'here' 'cc65' 'ratio'
-    doubles 71.4 71.3 labels 20000
-    doubles 74.3 72.9 shuffled 20000
-    doubles 103.1 106.8 colliding 20000
-    doubles 80.9 86.6 definitions 60000
-    doubles 72.2 72.7 ranges 20000
-    doubles 88.3 87.3 segments 20000
+    doubles 59.9 59.8 labels 20000
+    doubles 62.9 61.3 shuffled 20000
+    doubles 91.9 95.7 colliding 20000
+    doubles 80.3 86.0 definitions 60000
+    doubles 54.4 54.5 ranges 20000
+    doubles 77.0 75.8 segments 20000
 }
 
 for part in "${parts[@]}"; do
