@@ -195,6 +195,17 @@ else
     for name in halves row filler variables routine; do
         moves "$name"
     done
+    # The guide's way: an instruction at the beginning of the monitor, whose filler goes, gives what its source with it gives.
+    nop='s/^reset:  cld/&\n        nop/'
+    "$da65" -i examples/board/board.info -o board.s
+    "$trace65" -i examples/board/board.info --entry 0xFFDF,0xFFE2,0xFFE5 | grep HALVES >board.moves
+    echo '#: HALVES { LOW $FEC2; HIGH $FEC5; SIZE 3; };' >>board.moves
+    "$program" -S 0xFC00 -i board.moves -o named.s board.s
+    sed -i 's/#\$16$/#stopped-texts/; /^free:/,/\.segment/ { /^\(free:\)\? *\.byte *\$FF\(,\$FF\)*$/d }; '"$nop" named.s
+    "$as65" -i examples/board/board.info --fill '$FF' -o moved.bin named.s
+    sed "$nop" examples/board/monitor.s >board.s
+    ca65 -I examples/board -o board.o board.s && ld65 -C examples/board/monitor.cfg -o linked.bin board.o
+    cmp moved.bin linked.bin || fails 'the monitor' 'it does not move'
 fi
 [ "$failed" = 0 ] && echo 'name65: every listing by names gives its image, and moves'
 exit "$failed"
