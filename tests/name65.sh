@@ -60,6 +60,12 @@ runs 'no information file' 1 '' 'name65: cannot read absent.info\n' -i absent.in
 runs 'no listing' 1 '' 'name65: cannot read absent.s\n' absent.s
 runs 'a listing without a byte' 1 '' 'name65: empty.s: no bytes\n' empty.s
 printf 'nop\nlda absent\n' >fault.s
+truncate -s 67108865 large.s
+runs 'more than 64 MiB' 1 '' 'name65: input is too large\n' large.s
+rm large.s
+runs 'an output that cannot be created' 1 '' 'name65: cannot create absent/out.s\n' -o absent/out.s nop.s
+mkfifo pipe
+runs 'a pipe that is both inputs' 1 '' 'name65: pipe can be only one of the inputs\n' -i pipe pipe
 runs 'a listing with a fault' 1 '' 'name65: fault.s:2: undefined name\n' -o named.s fault.s
 is_absent 'a listing with a fault' named.s
 printf 'RANGE { START 1; }\n' >bad.info
@@ -177,7 +183,7 @@ moves() {
 comes_back 'hello' 0xF000 examples/hello.bin
 comes_back 'the kernal' 0xC000 examples/kernal.bin
 comes_back 'the monitor' 0xFC00 examples/board/monitor.bin
-for seed in $(seq 28); do
+for seed in $(seq 5); do
     awk -v seed="$seed" 'BEGIN {
         srand(seed); n = 2 + int(rand() * 30)
         for (k = 0; k < n; k++) {

@@ -1,11 +1,13 @@
 #!/usr/bin/env bash
 # trace65 on real files: its messages, what it proposes, and that da65 lists each image with what it proposes, and as65 gives the image
-# back. The programs of tests/moves go through ca65 and ld65 at two addresses: without these it fails, unless CA65=skip is set.
-# Usage: tests/trace65.sh TRACE65 DA65 AS65
+# back, also from the listing by names of name65. That listing and the programs of tests/moves go through ca65 and ld65: without these it
+# fails, unless CA65=skip is set.
+# Usage: tests/trace65.sh TRACE65 DA65 AS65 NAME65
 set -u
 program=$(realpath "$1")
 da65=$(realpath "$2")
 as65=$(realpath "$3")
+name65=$(realpath "$4")
 root=$(realpath "$(dirname "$0")/..")
 . "$root/tests/rows.sh"
 ln -s "$root/examples" examples
@@ -43,7 +45,7 @@ after() {
 }
 
 # comes_back NAME START IMAGE WORD..: da65 accepts what is proposed on the words after the information file that was given, and the
-# image comes back from its listing.
+# image comes back from its listing, and unless it has 64 KiB from the listing by names, by ca65 and ld65 too.
 comes_back() {
     local name=$1 start=$2 image=$3 given=/dev/null word
     shift 3
@@ -55,6 +57,11 @@ comes_back() {
     cat "$given" proposed.info >both.info
     "$da65" -S "$start" -i both.info -o both.s "$image" 2>errors || { fails "$name" "not listed: $(<errors)"; return; }
     "$as65" -S "$start" --compare "$image" both.s || fails "$name" 'its listing gives other bytes'
+    [ "$(wc -c <"$image")" != 65536 ] || return
+    "$name65" -S "$start" -i both.info -o named.s both.s && "$as65" -S "$start" --compare "$image" named.s || fails "$name" 'not by names'
+    [ "${CA65-}" != skip ] || return
+    ca65 --relax-checks -o named.o named.s && ld65 -t none -S "$start" -D __STACKSTART__=0x10800 -o named.out named.o &&
+        cmp -s "$image" named.out || fails "$name" 'not by names, ca65 and ld65'
 }
 
 # program_text SEED: the text of a random program, whose jumps pass over tables of bytes.
