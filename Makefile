@@ -7,6 +7,7 @@
 # make check         the same
 # make contracts     writes docs/contracts anew, after a change of public contracts that is meant
 # make manual        writes docs/da65.info.5 anew, after a change of docs/INFORMATION_FILE.md
+# make definitions   writes docs/DEFINITIONS.md anew, after a change of the comments at the head of definitions
 # make speed         compares the program with cc65's da65, which needs cc65, valgrind and GNU time
 # make install       puts the programs, their man pages and what bash and zsh complete under PREFIX, /usr/local unless it is given.
 #                    PROGRAM_PREFIX is put before their names, as in `make install PROGRAM_PREFIX=proved-`, and DESTDIR before PREFIX.
@@ -21,7 +22,7 @@ PROGRAM_PREFIX ?=
 DESTDIR ?=
 SHELL := bash
 .SHELLFLAGS := -eu -o pipefail -c
-.PHONY: all try test check contracts manual speed install uninstall clean help
+.PHONY: all try test check contracts manual definitions speed install uninstall clean help
 
 # Crates that do not stand on each other are proved side by side, each with up to four jobs of its own; `make -j1` proves one at a time.
 ifeq ($(shell [ "$$(nproc)" -gt 1 ] && awk '/^MemTotal/ { exit $$2 < 12000000 }' /proc/meminfo && echo wide),wide)
@@ -85,6 +86,9 @@ contracts:
 
 manual:
 	python3 tests/lint --write manual
+
+definitions:
+	python3 tests/lint --write page
 
 speed: bin/da65
 	tests/growth.sh bin/da65 speed

@@ -1,16 +1,16 @@
 """What can be seen of the tree without the prover, in a few seconds: that its public contracts are those of docs/contracts, that each promise
 of docs/PROOFS.md has its clause, that each edit that must fail can be applied, where the code answers out of memory by itself, what a listing
-and the meaning of a text share, and that the man page of information files is made of its page.
+and the meaning of a text share, and that the man page of information files and the page of definitions are made of what they come from.
 
 Usage: python3 tests/lint                    fails if one of these does not hold, and says what
-       python3 tests/lint --write contracts  writes docs/contracts anew, and `manual` the man page
+       python3 tests/lint --write contracts  writes docs/contracts anew, `manual` the man page, and `page` docs/DEFINITIONS.md
 """
 
 import sys
 
 sys.dont_write_bytecode = True
 
-import contracts, edits, manual, memory, promises, readings  # noqa: E401
+import contracts, edits, manual, memory, page, promises, readings  # noqa: E401
 from source import Refused
 
 CHECKS = {
@@ -20,8 +20,9 @@ CHECKS = {
     memory: "every answer out of memory is made in a listed place",
     readings: "a listing and the meaning of a text share no definition but those listed",
     manual: "docs/da65.info.5 is docs/INFORMATION_FILE.md",
+    page: "docs/DEFINITIONS.md is what the definitions say of themselves",
 }
-WRITTEN = {module.__name__: module for module in (contracts, manual)}
+WRITTEN = {module.__name__: module for module in (contracts, manual, page)}
 
 
 def faults(check, write=False):

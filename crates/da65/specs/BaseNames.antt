@@ -1,4 +1,6 @@
 -- The names of addresses: a base, which stands for an address of its own, and how far an address lies after that.
+--
+-- An address is defined by name if a base stands for it. `AreSound` is what names must be for a listing to assemble back.
 use Rattle.std.specs.Prelude.{◌≡◌, ℕ, ◌<◌, ◌≤◌, ◌==◌, not, Bool, true, false, List, Option, Some, None}
 use Rattle.map65.specs.ImageView.{ImageView, is_inside}
 use Rattle.map65.specs.MapView.{MapView}

@@ -1,4 +1,6 @@
 -- The instruction that some bytes begin with.
+--
+-- The opcode is defined on the CPU, and the bytes have all of its operand.
 use Rattle.std.specs.Prelude.{ℕ, nat_le, List, [], ◌∷◌, length, Option, Some, None, if◌then◌else◌}
 use Rattle.isa65.specs.Mode.{len_of}
 use Rattle.isa65.specs.Opcodes.{Table, decoded}

@@ -1,4 +1,7 @@
 -- What a run writes and returns, as a function of its options, its information file, the files that are handed in, and its input.
+--
+-- The refusals in order, each with its one message: the information file, no input name, the include files in the order of their
+-- groups, the image. Otherwise the listing, and the warnings that apply: bytes are skipped, a segment is entered again.
 use Rattle.std.specs.Prelude.{ℕ, ◌+◌, Bool, if◌then◌else◌, List, [], ◌∷◌, ◌++◌, codes, decimal, is_some, Option, Some, None, Result, Ok, Err}
 use Rattle.info65.specs.Faults.{fault_text}
 use Rattle.info65.specs.Includes.{included}

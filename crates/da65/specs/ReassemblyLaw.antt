@@ -1,4 +1,7 @@
 -- The listing of an image, assembled from the image's start, gives the image's bytes.
+--
+-- From the statement of a group to its bytes, from the lines of the listing to the image, and from its text to the image, for images
+-- without skipped bytes.
 use Rattle.std.specs.Prelude.{◌≡◌, ◌↔◌, ℕ, ◌+◌, ◌-◌, ◌<◌, ◌≤◌, Bool, true, false, List, [], ◌∷◌, length, map, take, Option, Some, None, Ok}
 use Rattle.isa65.specs.Cpu.{table_of}
 use Rattle.isa65.specs.Mode.{row_of}

@@ -1,4 +1,7 @@
 -- The table of layouts: how the bytes of each type are cut into entries and lines, and what an entry is.
+--
+-- How many bytes an entry of a type has, how many entries a line takes at most, and what an entry is: a number of 1, 2 or 4 bytes,
+-- an address, an address less one, or a character. A line of numbers has at most 8 bytes.
 use Rattle.std.specs.Prelude.{◌≡◌, ◌⊎◌, ◌*◌, ◌≤◌, ℕ}
 use Rattle.isa65.specs.declared.byte_order.ByteOrder.{ByteOrder}
 use Rattle.isa65.specs.declared.byte_order.ByteOrder.TheVariants.{LittleEndian, BigEndian}

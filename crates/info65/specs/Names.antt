@@ -1,5 +1,7 @@
 -- Names of addresses: which of them are reserved, which addresses a name is for, and what holds of all
 -- names of an information file.
+--
+-- Of the names that cover an address the one with the highest address of its own is the name of that address.
 use Rattle.std.specs.Prelude.{◌≡◌, ◌≢◌, ◌==◌, ◌+◌, ◌<◌, ◌≤◌, ◌&&◌, ◌||◌, ℕ, zero, suc, Bool, true, false, not, List, [], ◌∷◌, Option, Some, None, All, AllPairs, IfSome, drop, get_or, length, nat_le, nat_lt, slice_index, if◌then◌else◌}
 use Rattle.std.specs.List.{list_all}
 use Rattle.std.specs.Str.{bytes_eq}

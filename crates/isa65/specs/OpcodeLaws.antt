@@ -1,4 +1,8 @@
 -- What a test of a whole table says of each entry.
+--
+-- The laws of every set of opcodes are proved once, for any table that passes these tests: an opcode is a byte; a mnemonic in a mode
+-- has an opcode if and only if that opcode stands for them, so no opcode stands for two pairs and no pair has two; and of two modes
+-- of a mnemonic that are written alike one is the zero-page mode of the other, so an operand's text and its size decide the mode.
 use Rattle.std.specs.Prelude.{◌≡◌, ◌⊎◌, ◌↔◌, ◌<◌, ◌||◌, not, nat_lt, IsSome, ℕ, Bool, true, false, ◌&&◌, [], ◌∷◌, ◌++◌, map, Option, Some, None, ◌==◌, refl}
 use Rattle.std.proofs.Common.{inl, inr, ap}
 use Rattle.std.proofs.lemmas.Bool.{cond_both, eqb-true, ltb-true, and_parts, or_cases, both_ways, not-true}

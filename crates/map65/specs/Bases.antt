@@ -1,4 +1,7 @@
 -- Where base names lie. A listing defines each base name once, so that it assembles back.
+--
+-- A base is defined by a constant line outside the image and in skipped bytes, by a label where an item begins, and by a forward
+-- line inside an instruction: for `jmp $1001` at $1000 that is `L1001`.
 use Rattle.std.specs.Prelude.{◌≡◌, ◌⊎◌, ℕ, ◌+◌, ◌<◌, ◌≤◌, true, false, Some}
 use Rattle.info65.specs.declared.information.range.RangeType.TheVariants.{Code}
 use Rattle.map65.specs.ImageView.{is_inside}

@@ -1,4 +1,7 @@
 -- The image that an input gives.
+--
+-- The image is what the settings ask for: INPUTSIZE bytes after the first INPUTOFFS, or all that follow these; or the first of Read,
+-- Short, Empty and TooLarge that holds. By default it ends at $FFFF.
 use Rattle.std.specs.Prelude.{◌≡◌, ℕ, ◌+◌, ◌-◌, ◌==◌, ◌||◌, Bool, true, false, nat_lt, if◌then◌else◌, List, length, drop, take, Option, Some, None, Result, Ok, Err, ⊤}
 use Rattle.info65.specs.Views.{SettingsView}
 use Rattle.map65.specs.declared.image.ImageFault.{ImageFault}

@@ -1,4 +1,6 @@
 -- Segments: the segment of an address, and the borders between segments.
+--
+-- A border stands before the first address of each segment and after its last. The default segment has no name.
 use Rattle.std.specs.Prelude.{◌+◌, ◌==◌, ◌||◌, ℕ, Bool, List, Option}
 use Rattle.std.specs.List.{list_any}
 use Rattle.info65.specs.Segments.{segment_covering}

@@ -1,4 +1,10 @@
 -- How a statement is coded, as a list of fragments: what each byte of it stands for.
+--
+-- A fragment is a fixed byte, a value from 0 to $FF, a zero-page address, a number as a directive gives it, a signed distance, half
+-- of a word, or a number of equal bytes, as `.res` gives and as is missing before a segment. `ways` is the table of the written
+-- forms: for each, the modes that are written so, in the order in which they are tried; the first one that the mnemonic has on the
+-- CPU is taken. The coding depends on the CPU, the earlier lines and the written form alone. It shares no definition with the
+-- printing of a statement, so that the law of reassembly compares two readings.
 use Rattle.std.specs.Prelude.{ℕ, ◌+◌, ◌-◌, ◌/◌, ◌%◌, Bool, true, false, ◌&&◌, List, [], ◌∷◌, ◌++◌, length, map, replicate, nat_le, nat_lt, if◌then◌else◌, Option, Some, None, is_some, unwrap_or}
 use Rattle.std.specs.List.{flat_map}
 use Rattle.isa65.specs.declared.cpu.Cpu.{Cpu}

@@ -1,4 +1,8 @@
 -- The parts of a line, as the lexer takes them: from the left, each as long as it can be.
+--
+-- Words and numbers as they are written, the bytes between the quotes of a string, `:=`, and any other byte by itself. In a repair
+-- `%` and binary digits are a number too, and so is a character between apostrophes. Blanks are no parts, and a `;` outside a string
+-- ends the line.
 use Rattle.std.specs.Prelude.{ℕ, zero, suc, ◌+◌, Bool, false, ◌&&◌, ◌||◌, not, List, [], ◌∷◌, take, drop, min, nat_lt, ◌==◌, if◌then◌else◌}
 use Rattle.std.specs.List.{prefix_len}
 use Rattle.std.specs.Char.{is_ascii_digit, is_ascii_hexdigit, is_ascii_alphabetic}

@@ -1,4 +1,7 @@
 -- How the operands of an instruction are written: as the pattern of the mode, with the expressions in it.
+--
+-- A number has two or four digits by the kind of the operand. A name stands alone or with `+` and an offset; `+0` is not written. An
+-- offset is decimal, or with `hexoffs` `$` and two digits below $100, else four.
 use Rattle.std.specs.Prelude.{ℕ, Bool, true, false, List, [], ◌∷◌, ◌++◌, codes, ◌==◌, if◌then◌else◌}
 use Rattle.isa65.specs.Mode.{expression, row_of, row_text}
 use Rattle.isa65.specs.declared.mode.Mode.{Mode}

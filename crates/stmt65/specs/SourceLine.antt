@@ -1,4 +1,8 @@
 -- What a line of assembler source can say.
+--
+-- An assignment `name := number`, a place assignment `name := * + number`, or an optional label and an operation after it. An
+-- expression is a number, a name with what is added to it, or a difference of two names. An operand after `#` and a datum of `.byte`
+-- may be half of an expression.
 use Rattle.std.specs.Prelude.{ℕ, Bool, true, false, List, Option}
 use Rattle.isa65.specs.declared.mnemonic.Mnemonic.{Mnemonic}
 use Rattle.stmt65.specs.declared.directive.Directive.{Directive}

@@ -1,4 +1,7 @@
 -- How a line of a listing is spelled: what is written, item by item. What only a repair says is not spelled there.
+--
+-- `IndirectY v`, say, is `(`, the expression, `)`, `,` and the word `y`. Words may be written in any letter case, names are exact,
+-- and numbers count by their value.
 use Rattle.std.specs.Prelude.{◌≡◌, ◌⊎◌, ℕ, true, List, [], ◌∷◌, ◌++◌, codes, ◌==◌, if◌then◌else◌, Some, None}
 use Rattle.std.specs.Char.{is_ascii_alphabetic}
 use Rattle.isa65.specs.Mnemonic.{text_of}

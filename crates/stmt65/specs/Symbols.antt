@@ -1,4 +1,9 @@
 -- The names that a text defines, and the value and size of an expression.
+--
+-- A definition is a name, a whole number, and whether a line `name := number` gives it; of two definitions of a name the first
+-- counts. The value of an expression is a whole number, or none if it is below 0 or a name has no definition. A difference has a
+-- value if both names are addresses and the first is not below the second. An operand has zero-page size if its value is below $100,
+-- no `a:` stands before it, and each name in it is defined as `name := number` on an earlier line.
 use Rattle.std.specs.Prelude.{ℕ, ◌+◌, ◌-◌, Bool, true, false, ◌&&◌, List, [], ◌∷◌, nat_le, nat_lt, ◌==◌, if◌then◌else◌, Option, Some, None, is_some, option_and_then}
 use Rattle.std.specs.Str.{bytes_eq}
 use Rattle.stmt65.specs.declared.source_line.Minus.{Minus}

@@ -1,4 +1,6 @@
 -- The lines of a text.
+--
+-- A text is cut at each line feed; a last line without one counts too.
 use Rattle.std.specs.Prelude.{ℕ, List, [], ◌∷◌, ◌==◌, if◌then◌else◌}
 
 -- a byte before the first line
