@@ -9,7 +9,8 @@
 # make manual        writes docs/da65.info.5 anew, after a change of docs/INFORMATION_FILE.md
 # make definitions   writes docs/DEFINITIONS.md anew, after a change of the comments at the head of definitions
 # make speed         compares the program with cc65's da65, which needs cc65, valgrind and GNU time
-# make install       puts the programs, their man pages and what bash and zsh complete under PREFIX, /usr/local unless it is given.
+# make install       puts the programs, their man pages, what bash and zsh complete and the names of machines under PREFIX, /usr/local
+#                    unless it is given.
 #                    PROGRAM_PREFIX is put before their names, as in `make install PROGRAM_PREFIX=proved-`, and DESTDIR before PREFIX.
 # make uninstall     takes them away, with the same PREFIX, PROGRAM_PREFIX and DESTDIR
 # make clean         takes away what was built
@@ -106,13 +107,15 @@ install: bin/da65 bin/as65 bin/trace65 bin/name65
 	        "$(share)/bash-completion/completions/$$name" "$(share)/zsh/site-functions/_$$name"; \
 	done
 	@install -D -m 644 docs/da65.info.5 '$(share)/man/man5/$(PROGRAM_PREFIX)da65.info.5'
+	@install -D -m 644 -t '$(share)/$(PROGRAM_PREFIX)da65/names' names/*.inc
 
 uninstall:
 	@for name in '$(PROGRAM_PREFIX)da65' '$(PROGRAM_PREFIX)as65' '$(PROGRAM_PREFIX)trace65' '$(PROGRAM_PREFIX)name65'; do \
 	    rm -f "$(DESTDIR)$(PREFIX)/bin/$$name" "$(share)/man/man1/$$name.1" \
 	        "$(share)/bash-completion/completions/$$name" "$(share)/zsh/site-functions/_$$name"; \
 	done
-	@rm -f '$(share)/man/man5/$(PROGRAM_PREFIX)da65.info.5'
+	@rm -f '$(share)/man/man5/$(PROGRAM_PREFIX)da65.info.5' $(patsubst names/%,'$(share)/$(PROGRAM_PREFIX)da65/names/%',$(wildcard names/*.inc))
+	@rmdir '$(share)/$(PROGRAM_PREFIX)da65/names' '$(share)/$(PROGRAM_PREFIX)da65' 2>/dev/null || true
 
 help:
 	@sed -n '/^#/!q; s/^#\( \|$$\)//p' Makefile

@@ -2,6 +2,7 @@
 # The programs beside those of cc65. Each information file of tests/peer goes through this program and through cc65's da65, and what they
 # say is compared with the tables of docs/DIFFERENCES.md: each row has the file's name, what this program says, what cc65's says, and how the
 # listings compare. With `rows` in place of a count the rows that were found are printed, and nothing else is done.
+# The names of names/ have the values that they have in the include files of cc65.
 # Then random images of each CPU with random ranges, names, segments, comments and columns, and every example, are listed, and each
 # listing is assembled with the real ca65 and ld65, and with the as65 beside the program: the result must be the image. Then
 # random texts go to both, as people write them who edit a listing, most of them right: both give the same bytes, or both refuse
@@ -91,6 +92,36 @@ if "$peer" --version 2>&1 | grep -q '^da65 V'; then
 else
     echo "ca65: the rows of docs/DIFFERENCES.md are left out, since $peer is not cc65's da65"
 fi
+
+# ---- names of machines
+
+# names_agree FILE COUNT OTHERS INCLUDE..: these include files of cc65 have so many of the names of names/FILE.inc, or more, and give them the
+# same values, but for the others.
+names_agree() {
+    local file=$1 count=$2 others=$3 include both name
+    shift 3
+    {
+        echo 'names_of_both .set 0'
+        for include; do printf '.include "%s.inc"\n' "$include"; done
+        sed -nE 's/^(\w+) += (\$....)  ;.*/.ifdef \1\n.assert \1 = \2, warning, "\1"\nnames_of_both .set names_of_both + 1\n.endif/p' "$root/names/$file.inc"
+        echo '.out .sprintf("%d", names_of_both)'
+    } >names.s
+    both=$(ca65 -o names.o -D "__${file^^}__" names.s 2>messages) || fails "names/$file.inc" "$(cat messages)"
+    [ "$both" -ge "$count" ] || fails "names/$file.inc" "only $both names are cc65's too"
+    for name in $(sed 's/.*: //' messages); do
+        [[ " $others " == *" $name "* ]] || fails "names/$file.inc" "cc65 has another value of $name"
+    done
+}
+
+# cc65 has other names for the NES, and none for the BBC Micro. Its PTRIG6 is PTRIG5, and it has the registers of the TIA that are read at
+# the addresses where others are written.
+names_agree c64 140 '' c64 cbm_kernal
+names_agree vic20 80 '' vic20 cbm_kernal
+names_agree c128 160 '' c128 cbm_kernal
+names_agree pet 30 '' pet cbm_kernal
+names_agree apple2 35 '' apple2
+names_agree atari 350 PTRIG6 atari
+names_agree atari2600 65 'CXM0P CXM1P CXP0FB CXP1FB CXM0FB CXM1FB CXBLPF CXPPMM INPT0 INPT1 INPT2 INPT3 INPT4 INPT5' atari2600
 
 # ---- listings
 

@@ -58,7 +58,7 @@ opens() {
     folder=$work/$(basename "$1")
     mkdir -p "$folder/bin/made" "$folder/docs" "$folder/crates"
     touch "$folder"/bin/made/{da65_cli,as65,trace65,name65}
-    cp -r "$root/examples" "$root/completions" "$root/Makefile" "$folder"
+    cp -r "$root/examples" "$root/names" "$root/completions" "$root/Makefile" "$folder"
     cp "$root"/docs/*.[15] "$folder/docs"
     : >"$folder/crates.txt"
     cp "$programs"/{da65,as65,trace65,name65} "$folder/bin"
@@ -206,7 +206,7 @@ fi
 mkdir -p "$work/installing/bin/made" "$work/installing/crates"
 cd "$work/installing" || exit 1
 touch bin/made/{da65_cli,as65,trace65,name65}
-cp -r "$root/Makefile" "$root/completions" "$root/docs" .
+cp -r "$root/Makefile" "$root/completions" "$root/docs" "$root/names" .
 : >crates.txt
 cp "$programs"/{da65,as65,trace65,name65} bin
 
@@ -217,6 +217,9 @@ installed() {
         printf '%s\n' "bin/$name" "share/man/man1/$name.1" "share/bash-completion/completions/$name" "share/zsh/site-functions/_$name"
     done
     echo "share/man/man5/$1da65.info.5"
+    for name in apple2 atari atari2600 bbc c128 c64 nes pet vic20; do
+        echo "share/$1da65/names/$name.inc"
+    done
 }
 
 # options NAME: those of the help text, one a line.
@@ -254,7 +257,7 @@ for prefix in '' proved-; do
     cpus=$(bash_completes "$made/usr/share/bash-completion/completions/${prefix}da65" "${prefix}da65" --cpu 65 | tr '\n' ' ')
     [ "$cpus" = '6502 65SC02 65C02 ' ] || fails installing "bash completes --cpu to $cpus"
     make -s uninstall DESTDIR="$made" PREFIX=/usr PROGRAM_PREFIX="$prefix" || fails installing "make uninstall PROGRAM_PREFIX=$prefix"
-    [ -z "$(find "$made" -type f)" ] || fails installing "left after make uninstall: $(find "$made" -type f)"
+    [ -z "$(find "$made" -type f -o -name names)" ] || fails installing "left after make uninstall: $(find "$made" -type f -o -name names)"
 done
 [ "$(options da65 | wc -l)" = 17 ] && [ "$(options as65 | wc -l)" = 11 ] && [ "$(options trace65 | wc -l)" = 13 ] &&
     [ "$(options name65 | wc -l)" = 10 ] || fails installing 'the help texts have other options than these lists'

@@ -152,6 +152,15 @@ runs 'sixteen include files' 0 "$header$constants\n$body" '' -i sixteen.info six
 rm k25.inc
 runs 'the last of sixteen include files is missing' 1 '' 'da65: cannot read include k25.inc\n' -i sixteen.info sixteen.bin
 
+# The names of machines: each line of a file is taken, without IGNOREUNKNOWN, and the listing of an image that has none of its addresses
+# defines them all.
+for file in "$root"/names/*.inc; do
+    cp "$file" machine.inc
+    printf 'GLOBAL { STARTADDR $3000; };\nASMINC { FILE "machine.inc"; };' >machine.info
+    constants=$(sed -nE 's/^(\w+) += (\$....)  ;.*/\1 \2/p' machine.inc | while read -r name value; do printf '%-15s := %s\n' "$name" "$value"; done)
+    runs "the names of $(basename "$file")" 0 "$header$constants\n\n        lda     #\$01\n        rts\n" '' -i machine.info three.bin
+done
+
 # ---- names
 
 long=$(printf 'n%.0s' {1..200})
