@@ -1,6 +1,7 @@
 """What can be seen of the tree without the prover, in a few seconds: that its public contracts are those of docs/contracts, that each promise
 of docs/PROOFS.md has its clause, that each edit that must fail can be applied, where the code answers out of memory by itself, what a listing
-and the meaning of a text share, that the man page of information files and the page of definitions are made of what they come from, and
+and the meaning of a text share, that information files have the words of their page, that their man page and the page of definitions are
+made of what they come from, and
 the form of the files of names.
 
 Usage: python3 tests/lint                    fails if one of these does not hold, and says what
@@ -11,7 +12,7 @@ import sys
 
 sys.dont_write_bytecode = True
 
-import contracts, edits, manual, memory, names, page, promises, readings  # noqa: E401
+import contracts, edits, manual, memory, names, page, promises, readings, words  # noqa: E401
 from source import Refused
 
 CHECKS = {
@@ -20,6 +21,7 @@ CHECKS = {
     edits: "each edit that must fail can be applied, and each wrong body has its edit or its test",
     memory: "every answer out of memory is made in a listed place",
     readings: "a listing and the meaning of a text share no definition but those listed",
+    words: "an information file has the words of docs/INFORMATION_FILE.md and no others",
     manual: "docs/da65.info.5 is docs/INFORMATION_FILE.md",
     page: "docs/DEFINITIONS.md is what the definitions say of themselves",
     names: "the files of names have their form",
@@ -35,12 +37,12 @@ def faults(check, write=False):
         return [str(cause)]
 
 
-def main(words):
-    if words[:1] == ["--write"] and words[1:] and set(words[1:]) <= WRITTEN.keys():
-        for name in words[1:]:
+def main(args):
+    if args[:1] == ["--write"] and args[1:] and set(args[1:]) <= WRITTEN.keys():
+        for name in args[1:]:
             print(*faults(WRITTEN[name], write=True), sep="\n")
         return 0
-    if words:
+    if args:
         return __doc__
     failed = False
     for check, holds in CHECKS.items():
