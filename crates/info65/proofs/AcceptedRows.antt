@@ -1,5 +1,5 @@
 -- Information files that are accepted, and what they say.
-use Rattle.std.proofs.Common.{◌≡◌, ℕ, ◌+◌, List, [], ◌∷◌, ◌++◌, refl}
+use Rattle.std.proofs.Common.{◌≡◌, ℕ, List, [], ◌∷◌, ◌++◌, refl}
 use Rattle.std.specs.Prelude.{Some, Ok, codes, map}
 use Rattle.isa65.specs.Cpu.{cpu_named}
 use Rattle.isa65.specs.Mnemonic.{mnemonic_named}

@@ -1,5 +1,5 @@
 -- Groups RANGE after those of a file: both are accepted, and say what the file says, with the ranges of those groups besides.
-use Rattle.std.proofs.Common.{◌≡◌, ◌∙◌, ◌≤◌, ℕ, Bool, true, false, List, [], ◌∷◌, ◌++◌, append_assoc, ap, arith, length, map, refl, sym, subst}
+use Rattle.std.proofs.Common.{◌≡◌, ◌∙◌, ◌≤◌, ℕ, Bool, true, false, List, [], ◌∷◌, ◌++◌, append_assoc, ap, arith, map, refl, sym, subst}
 use Rattle.std.specs.Prelude.{All, None, Result, Ok, Err, IsOk}
 use Rattle.std.specs.List.{flat_map, list_any}
 use Rattle.std.proofs.lemmas.Bool.{le-leb}
@@ -9,24 +9,22 @@ use Rattle.std.proofs.lemmas.List.Folds.{Any-from_list_any, list_any_at}
 use Rattle.std.proofs.lemmas.Grind.{flat_map-append}
 use Rattle.info65.specs.Closing.{closing_fault}
 use Rattle.info65.specs.Comments.{comment_in, lacks_name}
-use Rattle.info65.specs.Grammar.{Accepts, AreGroups, AreNew, IsInformation, Item, Spells, group_items, without_marks}
+use Rattle.info65.specs.Grammar.{Accepts, AreGroups, AreNew, Item, Spells, group_items, without_marks}
 use Rattle.info65.specs.Groups.{AssignmentView, GroupView, global_given, global_part, has, has_instead, is_given, value_in}
 use Rattle.info65.specs.IncludeGroups.{has_room, include_part, includes_of}
 use Rattle.info65.specs.Labels.{name_part, names_said, range_name}
 use Rattle.info65.specs.Ranges.{has_address, overlaps, range_in, range_of_parts, range_part, ranges_of}
-use Rattle.info65.specs.Reader.{information, one}
+use Rattle.info65.specs.Reader.{one}
 use Rattle.info65.specs.Segments.{segment_part, segments_of}
 use Rattle.info65.specs.Settings.{info_of}
-use Rattle.info65.specs.Tokens.{Stream, TokenView, tokens_after, tokens_of}
+use Rattle.info65.specs.Tokens.{TokenView}
 use Rattle.info65.specs.Values.{a_type, an_address}
 use Rattle.info65.specs.Views.{InfoView, OptionsView}
 use Rattle.info65.specs.declared.syntax.attribute.Attribute.TheVariants as attribute
 use Rattle.info65.specs.declared.syntax.attribute.GroupKind.TheVariants as group
 use Rattle.info65.specs.declared.fault.InfoFault.{InfoFault}
 use Rattle.info65.specs.declared.information.range.RangeSpec.{RangeSpec}
-use Rattle.info65.proofs.AppendedTokens.{after_tokens, tokens-before}
 use Rattle.info65.proofs.Cases.{by_result, by_test}
-use Rattle.info65.proofs.FileLaws.{accepts_files}
 use Rattle.info65.proofs.RangeLemmas.{overlap_shared, ranges_ordered}
 
 -- ---- a group of a range

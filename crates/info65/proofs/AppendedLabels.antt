@@ -1,8 +1,8 @@
 -- Groups LABEL with default names after those of a file: both are accepted, and say what the file says, with the names of those groups besides.
-use Rattle.std.proofs.Common.{◌≡◌, ◌≢◌, ◌∙◌, ◌+◌, ◌*◌, ◌/◌, ◌%◌, ◌<◌, ◌≤◌, ◌&&◌, ◌||◌, not, ℕ, Bool, true, false, List, [], ◌∷◌, ◌++◌, append_assoc, ap, arith, get_or, length, map, refl, sym, subst}
+use Rattle.std.proofs.Common.{◌≡◌, ◌≢◌, ◌∙◌, ◌+◌, ◌/◌, ◌%◌, ◌<◌, ◌≤◌, ℕ, Bool, true, false, List, [], ◌∷◌, ◌++◌, append_assoc, ap, arith, get_or, length, map, refl, sym, subst}
 use Rattle.std.specs.Prelude.{All, None, Ok, IsOk, slice_index}
 use Rattle.std.specs.List.{Contains, flat_map}
-use Rattle.std.proofs.lemmas.Bool.{and_right, le-leb}
+use Rattle.std.proofs.lemmas.Bool.{le-leb}
 use Rattle.std.proofs.lemmas.Bool.Decides.{nat_tests}
 use Rattle.std.proofs.lemmas.List.{append-nil, get_or_default}
 use Rattle.std.proofs.lemmas.List.Elements.{All-append, All-nil, All-push}
@@ -10,15 +10,14 @@ use Rattle.std.proofs.lemmas.Grind.{flat_map-append}
 use Rattle.std.proofs.lemmas.Slice.Eq.{bytes_eq-Decides}
 use Rattle.text65.proofs.Public.{long_word}
 use Rattle.text65.specs.Digits.{hex_digit}
-use Rattle.text65.specs.Names.{has_name_form, is_reserved_word, is_word_byte}
+use Rattle.text65.specs.Names.{has_name_form, is_word_byte}
 use Rattle.info65.specs.Closing.{closing_fault}
 use Rattle.info65.specs.Comments.{comment_in}
 use Rattle.info65.specs.Grammar.{Accepts, AreGroups, AreNew, IsInformation, Item, Spells, group_items, without_marks}
 use Rattle.info65.specs.Groups.{AssignmentView, GroupView, global_given, global_part, has, has_instead, is_given, value_in}
 use Rattle.info65.specs.IncludeGroups.{has_room, include_part, includes_of}
-use Rattle.info65.specs.Labels.{by_address, label_in, name_part, names_said}
-use Rattle.info65.specs.NameFaultLaws.{HasFault}
-use Rattle.info65.specs.Names.{AreGiven, IsName, default_label, default_name, is_like_default, is_reserved}
+use Rattle.info65.specs.Labels.{by_address, label_in, name_fault, name_part, names_said}
+use Rattle.info65.specs.Names.{AreGiven, IsName, default_label, default_name, is_like_default, is_reserved, is_upper_hex}
 use Rattle.info65.specs.Ranges.{range_part, ranges_of}
 use Rattle.info65.specs.Reader.{information, one}
 use Rattle.info65.specs.Segments.{segment_part, segments_of}
@@ -34,10 +33,8 @@ use Rattle.info65.proofs.AppendedTokens.{after_tokens, tokens-before}
 use Rattle.info65.proofs.FileLaws.{accepts_files}
 use Rattle.info65.proofs.FormLemmas.{accepted_read}
 use Rattle.info65.proofs.IncludedLemmas.{names_alike}
-use Rattle.info65.proofs.IndexLemmas.{no_fault}
-use Rattle.info65.proofs.NameFaultLemmas.{free_is, is_fault, name_faults}
+use Rattle.info65.proofs.IndexLemmas.{is_fine, no_fault}
 use Rattle.info65.proofs.NamesLemmas.{names_given, one_more, read_given}
-use Rattle.info65.proofs.ReservedLemmas.{like_default}
 
 -- ---- a group of a label
 
@@ -93,6 +90,13 @@ pub default-form : (a : ℕ) → has_name_form (default_name a) ≡ true
 unfolding has_name_form default_name
 default-form a = rw (hex-word (a / 4096 % 16) (omega arith), hex-word (a / 256 % 16) (omega arith), hex-word (a / 16 % 16) (omega arith), hex-word (a % 16) (omega arith)) refl
 
+upper : (d : ℕ) → d < 16 → is_upper_hex (hex_digit d) ≡ true
+upper d low = grind (arith, nat_tests)
+
+pub like_default : (a : ℕ) → is_like_default (default_name a) ≡ true
+unfolding is_like_default default_name
+like_default a = rw (upper (a / 4096 % 16) (omega arith), upper (a / 256 % 16) (omega arith), upper (a / 16 % 16) (omega arith), upper (a % 16) (omega arith)) refl
+
 default-long : (a : ℕ) → length (default_name a) ≡ 5
 unfolding default_name
 default-long a = refl
@@ -118,11 +122,12 @@ label-said : (a : ℕ) → a ≤ 0xFFFF → label_in (label_given a) ≡ Ok (def
 unfolding label_in value_in comment_in
 label-said a low = let room : a + 1 ≤ 0x1_0000 = omega (arith, low) in rw (le-leb (a + 1) 0x1_0000 room) refl
 
-label-faultless : (names : List NameView) (a : ℕ) → AreGiven names → IsUnnamed names a → HasFault names (default_label a) None
-label-faultless names a given is = (free_is (default_label a) (default-free a), λ k d below. (λ same. is.apart k d below (own-default _ a (given.each k d below) is.low same), is.apart k d below))
+label-faultless : (names : List NameView) (a : ℕ) → AreGiven names → IsUnnamed names a → name_fault names (default_label a) ≡ None
+label-faultless names a given is = is_fine names (default_label a) (default-free a) (λ k d below. (λ same. is.apart k d below (own-default _ a (given.each k d below) is.low same), is.apart k d below))
 
 label-closes : (before : List GroupView) (a : ℕ) → AreGiven (names_said before) → IsUnnamed (names_said before) a → closing_fault before group.Label (label_given a) ≡ None
-label-closes before a given is = ((name_faults before (default_label a) None).label (label_given a) (label-said a is.low)).1 (label-faultless (names_said before) a given is)
+unfolding closing_fault
+label-closes before a given is = rw (label-said a is.low) (label-faultless (names_said before) a given is)
 
 label-new : (before : List GroupView) (a : ℕ) → AreNew before group.Label [] (label_given a)
 unfolding is_given has has_instead has_room
@@ -136,7 +141,7 @@ unfolding names_said
 said-more before a low = flat_map-append name_part before (label_group a ∷ []) ∙ ap (λ l. flat_map name_part before ++ l) (rw (label-part a low) refl)
 
 given-more : (names : List NameView) (a : ℕ) → AreGiven names → IsUnnamed names a → AreGiven (names ++ default_label a ∷ [])
-given-more names a given is = one_more names (default_label a) given (default-name a is.low) (no_fault names (default_label a) (is_fault names (default_label a) None (label-faultless names a given is)))
+given-more names a given is = one_more names (default_label a) given (default-name a is.low) (no_fault names (default_label a) (label-faultless names a given is))
 
 labels-groups : (before : List GroupView) (names : List NameView) (labels : List ℕ) → names ≡ names_said before → AreGiven names → AreUnnamed names labels → AreGroups before (label_groups labels)
 labels-groups before names [] is given unnamed = tt

@@ -1,8 +1,8 @@
 -- The names of an include file.
-use Rattle.std.proofs.Common.{◌≡◌, ◌∙◌, ◌+◌, ◌<◌, ℕ, List, [], ◌∷◌, ◌++◌, false, ap, arith, get_or, inl, inr, length, option_map, refl, subst, sym, take, drop}
+use Rattle.std.proofs.Common.{◌≡◌, ◌∙◌, ◌+◌, ◌<◌, ℕ, List, [], ◌∷◌, ◌++◌, false, ap, arith, get_or, inl, inr, length, option_map, refl, subst, sym, take}
 use Rattle.std.specs.Prelude.{Option, Some, None, Result, Ok, Err, nat_lt, option_to_list}
 use Rattle.std.specs.List.{list_any}
-use Rattle.std.proofs.lemmas.List.{drop_more, get_or_default, take-append-drop}
+use Rattle.std.proofs.lemmas.List.{get_or_default, get_or-take, length-take-le}
 use Rattle.std.proofs.lemmas.List.Folds.{find-append, list_any-append}
 use Rattle.text65.specs.Lines.{text_lines}
 use Rattle.info65.specs.Code.Includes.{name_result_seen, with_added}
@@ -11,15 +11,13 @@ use Rattle.info65.specs.Faults.{◌>>=◌}
 use Rattle.info65.specs.Code.Results.{Fails, Sees}
 use Rattle.info65.specs.Includes.{blank_include, included, unless_ignored, line_adds, line_in, name_adds, names_included, names_with, optional_adds, with_names}
 use Rattle.info65.specs.Labels.{by_address, is_elsewhere, name_fault, named_at}
-use Rattle.info65.specs.NameFaultLaws.{AreDistinct}
 use Rattle.info65.specs.Names.{AreGiven, AreNames, blank_name, name_at}
 use Rattle.info65.specs.Views.{IncludeView, InfoView, NameView}
 use Rattle.info65.specs.declared.fault.InfoFault.{InfoFault}
 use Rattle.info65.specs.declared.fault.InfoFaultKind.{InfoFaultKind}
 use Rattle.info65.specs.declared.information.name.Given.{Given}
 use Rattle.info65.proofs.Cases.{by_result, by_test}
-use Rattle.info65.proofs.IndexLemmas.{elsewhere_by, elsewhere_is, names_same, taken_is}
-use Rattle.info65.proofs.NameFaultLemmas.{free_is, next_fine}
+use Rattle.info65.proofs.IndexLemmas.{elsewhere_by, elsewhere_is, is_fine, names_same, taken_is}
 use Rattle.info65.proofs.NamesLemmas.{named_alike, sorted_names, text_alike}
 
 abbrev Added : Type 0
@@ -36,13 +34,11 @@ line_seen i line names text said added r a b c = grind arith
 
 -- a name is new to those before it
 pub fresh : (names : List NameView) (i : ℕ) → AreNames names → i < length names → name_fault (take i names) (name_at names i) ≡ None
-fresh names i are low = next_fine (take i names) (name_at names i) (drop (i + 1) names) (subst AreDistinct parts distinct)
-  where
-    parts : names ≡ take i names ++ name_at names i ∷ drop (i + 1) names
-    parts = sym (take-append-drop i names) ∙ ap (λ (l : List NameView). take i names ++ l) (drop_more names i blank_name low)
-
-    distinct : AreDistinct names
-    distinct = record { free = λ k d l. free_is (get_or names k d) (are.each k d l).free; texts = are.distinct; addresses = λ i j d lt l same. omega (arith, are.rising i j d lt l, same) }
+fresh names i are low =
+    is_fine (take i names) (name_at names i) (are.each i blank_name low).free (λ k d l.
+    let below : k < i = omega (arith, l, length-take-le i names (omega (arith, low))) in
+    let first : get_or (take i names) k d ≡ name_at names k = get_or-take i names k d below ∙ get_or_default names k d blank_name (omega (arith, below, low)) in
+    rw first (are.distinct k i blank_name below low, λ same. omega (arith, are.rising k i blank_name below low, same)))
 
 -- ---- line by line
 

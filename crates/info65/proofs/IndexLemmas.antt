@@ -3,7 +3,7 @@ use Rattle.std.proofs.Common.{◌≡◌, ◌≢◌, ◌∙◌, ◌≤◌, ◌<�
 use Rattle.std.specs.Prelude.{All, AllPairs, Option, Some, None, Result, Ok, Err, is_some, option_to_list, nat_le, nat_lt, not}
 use Rattle.std.specs.List.{find, flat_map, list_any}
 use Rattle.std.specs.Str.{bytes_eq}
-use Rattle.std.proofs.lemmas.Bool.{cond-false, cond-true, eqb-true, false≢true}
+use Rattle.std.proofs.lemmas.Bool.{cond-false, cond-true, eqb-true, false≢true, ne_eqb}
 use Rattle.std.proofs.lemmas.Bool.Decides.{nat_tests}
 use Rattle.std.proofs.lemmas.List.Folds.{Any-from_list_any, find-append, list_any_none, list_any-append, list_any_at, list_any-from_Any}
 use Rattle.std.proofs.lemmas.Grind.{flat_map-append}
@@ -43,10 +43,6 @@ other_way t u apart = by_test (bytes_eq u t) (λ hit. absurd (false≢true (sym 
 pub any_next : (table : List Bool) (a end : ℕ) → a < end → any_in table a (end - a) ≡ (get_or table a false || any_in table (a + 1) (end - (a + 1)))
 unfolding any_in
 any_next table a end lt = let e : end - a ≡ suc (end - (a + 1)) = omega arith in rw e refl
-
-pub any_over : (table : List Bool) (a end : ℕ) → end ≤ a → any_in table a (end - a) ≡ false
-unfolding any_in
-any_over table a end le = let e : end - a ≡ 0 = omega arith in rw e refl
 
 any_in_yes : (table : List Bool) (first n a : ℕ) → first ≤ a → a < first + n → get_or table a false ≡ true → any_in table first n ≡ true
 unfolding any_in
@@ -133,6 +129,19 @@ pub record IsNew (names : List NameView) (n : NameView) : Type 0 where
 pub no_fault : (names : List NameView) (n : NameView) → name_fault names n ≡ None → IsNew names n
 unfolding name_fault
 no_fault names n h = record { free = grind arith; only = grind arith; untaken = grind arith }
+
+-- and the other way round
+pub is_fine : (names : List NameView) (n : NameView) → is_reserved n.address n.text ≡ false → All (λ m. (m.text ≢ n.text) × (m.address ≢ n.address)) names → name_fault names n ≡ None
+unfolding name_fault
+is_fine names n free apart =
+    rw (
+      free,
+      list_any_none (is_elsewhere n) names (λ k d l. text_miss n (get_or names k d) (apart k d l).0),
+      list_any_none (is_at n.address) names (λ k d l. ne_eqb (get_or names k d).address n.address (apart k d l).1),
+    ) refl
+  where
+    text_miss : (x m : NameView) → m.text ≢ x.text → is_elsewhere x m ≡ false
+    text_miss x m other = grind (arith, bytes_eq-Decides x.text m.text, other)
 
 -- its text is new
 pub new_text : (names : List NameView) (n : NameView) → IsNew names n → (k : ℕ) (d : NameView) → k < length names → (get_or names k d).text ≢ n.text

@@ -19,7 +19,6 @@ mod AcceptedRows
 mod TokenRows
 mod KeptLemmas
 mod LayoutLemmas
-mod NameFaultLemmas
 mod NameLemmas
 mod NamesLemmas
 mod NumberLemmas
@@ -27,7 +26,6 @@ mod OnceLemmas
 mod PoolLemmas
 mod RangeLemmas
 mod ReaderLemmas
-mod ReservedLemmas
 mod SegmentCovering
 mod SegmentKeys
 mod SegmentLemmas

@@ -165,10 +165,6 @@ found_first segments k name texts told low named are none adds = record {
       (key_added segments k name texts told low named are.slots none adds);
 }
 
--- what the code finds by a number
-pub found_by : (segments : List SegmentView) (texts : TextsView) (t : List ℕ) (o : Option SegmentView) → numbered segments (texts.slotted t) ≡ o → key_found segments texts t ≡ key_by t (texts.others t) o
-found_by segments texts t o is = ap (key_by t (texts.others t)) is
-
 pub keys_more : (segments : List SegmentView) (keys more : List ℕ) (n key : ℕ) → length keys ≡ n → more ≡ keys ++ key ∷ [] → ((k : ℕ) → k < n → first_named segments (segment_at segments k).name ≡ Some (get_or keys k 0)) → first_named segments (segment_at segments n).name ≡ Some key
     → (k : ℕ) → k < n + 1 → first_named segments (segment_at segments k).name ≡ Some (get_or more k 0)
 keys_more segments keys more n key long is each last k low = grind (arith, get_or_push, get_or_append_left)

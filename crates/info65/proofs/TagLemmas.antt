@@ -1,11 +1,10 @@
 -- The groups of the lines `#: ..`, token by token.
-use Rattle.std.proofs.Common.{◌≡◌, ◌++◌, ◌+◌, ◌<◌, ℕ, Bool, List, arith, refl}
-use Rattle.std.specs.Option.{option_to_list}
+use Rattle.std.proofs.Common.{◌≡◌, ℕ, Bool, arith, refl}
 use Rattle.std.specs.Prelude.{Result, Ok, Err}
 use Rattle.info65.specs.Code.Steps.{Steps, seen}
 use Rattle.info65.specs.Code.Turns.{Turns, done, stepped, turn_of}
 use Rattle.info65.specs.Tags.{tag_end, tag_step, tags_from}
-use Rattle.info65.specs.Tokens.{Stream, TokenView, ended, refused, with_token}
+use Rattle.info65.specs.Tokens.{Stream, TokenView, ended, with_token}
 use Rattle.info65.specs.declared.fault.InfoFault.{InfoFault}
 use Rattle.info65.specs.declared.syntax.lexer.Next.{Next}
 use Rattle.info65.specs.declared.syntax.lexer.Next.TheVariants as next

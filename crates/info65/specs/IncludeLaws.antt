@@ -1,25 +1,18 @@
--- Laws of include files: which there are, what a line of one spells, and which names a whole file adds.
-use Rattle.std.specs.Prelude.{◌≡◌, ◌≢◌, ◌⊎◌, ◌↔◌, ◌++◌, ◌==◌, ◌+◌, ◌<◌, ◌≤◌, ℕ, not, true, false, List, [], ◌∷◌, Option, Some, None, Result, Ok, Err, All, Any, codes, length}
+-- Laws of include files: which there are, and what a line of one spells.
+use Rattle.std.specs.Prelude.{◌≡◌, ◌⊎◌, ◌↔◌, ◌++◌, ◌==◌, ◌<◌, ◌≤◌, ℕ, not, true, false, List, [], ◌∷◌, Option, Some, None, Ok, codes, length}
 use Rattle.std.specs.List.{list_all}
 use Rattle.std.specs.Str.Parse.{digits_value}
-use Rattle.text65.specs.Lines.{text_lines}
 use Rattle.text65.specs.Names.{is_blank}
-use Rattle.info65.specs.Faults.{fault}
 use Rattle.info65.specs.Grammar.{IsInformation}
 use Rattle.info65.specs.Groups.{AssignmentView, GroupView, value_in}
 use Rattle.info65.specs.IncludeGroups.{AreIncludes}
-use Rattle.info65.specs.Includes.{is_identifier, line_in, names_included, plain_name}
-use Rattle.info65.specs.Labels.{by_address}
+use Rattle.info65.specs.Includes.{is_identifier, line_in, plain_name}
 use Rattle.info65.specs.Lexemes.{are_digits}
-use Rattle.info65.specs.NameFaultLaws.{IsFree, IsReserved}
 use Rattle.info65.specs.Values.{ValueView, a_boolean, a_character, a_name}
 use Rattle.info65.specs.Views.{IncludeView, InfoView, NameView, OptionsView}
 use Rattle.info65.specs.declared.syntax.attribute.Attribute.TheVariants as attribute
 use Rattle.info65.specs.declared.syntax.attribute.GroupKind.{GroupKind}
 use Rattle.info65.specs.declared.syntax.attribute.GroupKind.TheVariants as group
-use Rattle.info65.specs.declared.fault.InfoFault.{InfoFault}
-use Rattle.info65.specs.declared.fault.InfoFaultKind.{InfoFaultKind}
-use Rattle.info65.specs.declared.fault.InfoFaultKind.TheVariants.{BadInclude, BadName, NameTwice, ReservedName, TooLarge}
 
 -- ---- the include files of an information file
 
@@ -111,69 +104,3 @@ pub record IsLineLaw (comment_start : ℕ) (line : List ℕ) : Type 0 where
 
 abbrev pub LinesSpelled : Type 0
 LinesSpelled = (comment_start : ℕ) (line : List ℕ) → IsLineLaw comment_start line
-
--- ---- the names of a file
-
--- What a line adds to the names before it, or its fault.
-abbrev pub LineAdds : ℕ → List NameView → List ℕ → Result (Option NameView) InfoFaultKind → Type 0
--- nothing: it is blank, or it spells a name, which is not refused, of an address that has one
-LineAdds start names line (Ok None) =
-    IsBlankLine start line
-    ⊎ ((n : NameView) × IsSpelling start line n × (length n.text ≤ 80) × IsFree n × Any (λ m. m.address ≡ n.address) names)
--- a name that it spells, whose text and address are new
-LineAdds start names line (Ok (Some n)) =
-    IsSpelling start line n × (length n.text ≤ 80) × IsFree n × All (λ m. (m.text ≢ n.text) × (m.address ≢ n.address)) names
-LineAdds start names line (Err BadInclude) = (IsBlankLine start line → ⊥) × ((n : NameView) → IsSpelling start line n → ⊥)
-LineAdds start names line (Err BadName) = (n : NameView) × IsSpelling start line n × (80 < length n.text)
-LineAdds start names line (Err ReservedName) = (n : NameView) × IsSpelling start line n × (length n.text ≤ 80) × IsReserved n.address n.text
-LineAdds start names line (Err NameTwice) =
-    (n : NameView) × IsSpelling start line n × (length n.text ≤ 80) × IsFree n
-    × All (λ m. m.address ≢ n.address) names × Any (λ m. m.text ≡ n.text) names
-LineAdds start names line (Err _) = ⊥
-
--- the line adds nothing, or has a fault where IGNOREUNKNOWN is on
-abbrev pub IsPassedOver : IncludeView → List NameView → List ℕ → Type 0
-IsPassedOver i names line =
-    LineAdds i.comment_start names line (Ok None)
-    ⊎ ((i.ignore_unknown ≡ true) × ((f : InfoFaultKind) × LineAdds i.comment_start names line (Err f)))
-
--- the names that the lines add, one after the other, to those before them
-abbrev pub AreAdded : IncludeView → List NameView → List (List ℕ) → List NameView → Type 0
-AreAdded i names [] added = added ≡ []
-AreAdded i names (l ∷ ls) [] = IsPassedOver i names l × AreAdded i names ls []
-AreAdded i names (l ∷ ls) (n ∷ ns) =
-    (IsPassedOver i names l × AreAdded i names ls (n ∷ ns))
-    ⊎ (LineAdds i.comment_start names l (Ok (Some n)) × AreAdded i (names ++ n ∷ []) ls ns)
-
--- the names of a file of these bytes besides those that were there, in the order of their addresses
-pub record IsIncluded (i : IncludeView) (names : List NameView) (bytes : List ℕ) (all : List NameView) : Type 0 where
-  pub small : length bytes ≤ 1_048_576
-  pub added : List NameView
-  pub are : AreAdded i names (text_lines bytes) added
-  pub is : all ≡ by_address (names ++ added)
-
--- the fault of the first line that has one, at the number of that line, if the first of these lines has the number k
-pub record IsFirstFault (i : IncludeView) (k : ℕ) (names : List NameView) (lines : List (List ℕ)) (e : InfoFault) : Type 0 where
-  pub front : List (List ℕ)
-  pub line : List ℕ
-  pub rest : List (List ℕ)
-  pub parts : lines ≡ front ++ line ∷ rest
-  pub added : List NameView
-  pub are : AreAdded i names front added
-  pub heeded : i.ignore_unknown ≡ false
-  pub kind : InfoFaultKind
-  pub has : LineAdds i.comment_start (names ++ added) line (Err kind)
-  pub is : e ≡ fault (k + length front) kind
-
--- it is too large, whatever it holds, or a line of it has a fault
-abbrev pub IsRefused : IncludeView → List NameView → List ℕ → InfoFault → Type 0
-IsRefused i names bytes e =
-    ((1_048_576 < length bytes) × (e ≡ fault 1 TooLarge)) ⊎ ((length bytes ≤ 1_048_576) × IsFirstFault i 1 names (text_lines bytes) e)
-
--- An include file adds exactly the names of its lines, in their order, or is refused for exactly the first line that has a fault.
-pub record IsFileLaw (i : IncludeView) (names : List NameView) (bytes : List ℕ) : Type 0 where
-  pub accepted : (all : List NameView) → (names_included i names bytes ≡ Ok all) ↔ IsIncluded i names bytes all
-  pub refused : (e : InfoFault) → (names_included i names bytes ≡ Err e) ↔ IsRefused i names bytes e
-
-abbrev pub IncludedNames : Type 0
-IncludedNames = (i : IncludeView) (names : List NameView) (bytes : List ℕ) → IsFileLaw i names bytes

@@ -13,7 +13,6 @@ pub mod Labels
 pub mod Laws
 pub mod Layouts
 pub mod Lexemes
-pub mod NameFaultLaws
 pub mod NameLaws
 pub mod Names
 pub mod Ranges

@@ -4,7 +4,7 @@ use Rattle.std.specs.Option.{option_to_list}
 use Rattle.std.specs.Str.{str_eq_ignore_ascii_case}
 use Rattle.info65.specs.Faults.{fault, ◌>>=◌}
 use Rattle.info65.specs.Lexemes.{KindView, closing_brace, number, opening_brace, semicolon, word}
-use Rattle.info65.specs.Tokens.{Stream, TokenView, tokens_of}
+use Rattle.info65.specs.Tokens.{TokenView, tokens_of}
 use Rattle.info65.specs.declared.fault.InfoFault.{InfoFault}
 use Rattle.info65.specs.declared.fault.InfoFaultKind.TheVariants.{Expected, GivenTwice, Missing, OutOfRange, UnknownAttribute, UnknownGroup}
 use Rattle.info65.specs.declared.tags.place.Outcome.{Outcome}

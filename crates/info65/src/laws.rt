@@ -1,9 +1,8 @@
 //! Laws of information files.
 
-ghost use Rattle.info65.specs.IncludeLaws.{IncludedNames, IncludesSaid, LinesSpelled};
+ghost use Rattle.info65.specs.IncludeLaws.{IncludesSaid, LinesSpelled};
 ghost use Rattle.info65.specs.Laws.{AcceptsFiles, GivenOnce, GlobalOnce, OverlapsShare, RangesApart, RefusesFirst};
 ghost use Rattle.info65.specs.NameLaws.{CoversHighest, NamesGiven, OwnAddressWins};
-ghost use Rattle.info65.specs.NameFaultLaws.{DistinctAccepted, NameFaults, ReservedNames};
 ghost use Rattle.info65.specs.SegmentLaws.{CoversOne, SegmentsApart, SegmentsShare};
 ghost use Rattle.info65.specs.Standing.{TokensStand};
 
@@ -81,26 +80,6 @@ pub fn covers_one()
     ensures { CoversOne }
 {}
 
-/// The names that an address can't have: a register or a mnemonic in any letter case, or the default name of another
-/// address.
-#[tactic(auto, using(crate::proofs::ReservedLemmas::reserved_names))]
-pub fn reserved_names()
-    ensures { ReservedNames }
-{}
-
-/// A name after others has the first of these faults that holds: it is reserved, its text stands at another address, its
-/// address has a name. It has none exactly where none holds.
-#[tactic(auto, using(crate::proofs::NameFaultLemmas::name_faults))]
-pub fn name_faults()
-    ensures { NameFaults }
-{}
-
-/// Names are accepted one after the other exactly where none is reserved and no two have one text or one address.
-#[tactic(auto, using(crate::proofs::NameFaultLemmas::distinct_accepted))]
-pub fn distinct_accepted()
-    ensures { DistinctAccepted }
-{}
-
 /// A line of an include file gives a name exactly where it spells that name and its address: blanks around each part,
 /// `=` or `:=`, a value up to $FFFF that is decimal or follows `$` or `%`, then a comment, one carriage return or nothing.
 /// It gives nothing exactly where it is blank up to there.
@@ -112,12 +91,4 @@ pub fn lines_spelled()
 /// most 16.
 pub fn includes_said()
     ensures { IncludesSaid }
-{}
-
-/// An include file is accepted exactly if no line has a fault that counts, and adds the names that its lines spell, in
-/// their order: a line whose address has a name adds nothing, and with IGNOREUNKNOWN neither does one that has a fault.
-/// Else it is refused for the first line that has one.
-#[tactic(auto, using(crate::proofs::IncludeFileLemmas::included_names))]
-pub fn included_names()
-    ensures { IncludedNames }
 {}

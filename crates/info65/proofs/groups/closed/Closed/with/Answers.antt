@@ -1,4 +1,4 @@
-use Rattle.std.proofs.Common.{◌≡◌, ◌∙◌, ◌++◌, ◌∷◌, [], ap, ap₂, map, sym}
+use Rattle.std.proofs.Common.{◌≡◌, ◌∙◌, ◌++◌, ap, ap₂, map, sym}
 use Rattle.std.specs.Prelude.{List, None}
 use Rattle.info65.specs.Closing.{closing_fault}
 use Rattle.info65.specs.Code.Groups.{assignment_seen, group_seen}
