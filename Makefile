@@ -1,6 +1,7 @@
 # make               proves the programs, builds them into bin/ (da65, as65, trace65, name65), and lists an example. Three crates are
-#                    proved at a time where there are two processors and 12 GB of memory, or as many as -j says.
-# make try           lists the example by the program as it is before any proof, in half a minute
+#                    proved at a time where there are two processors and 12 GB of memory, or as many as -j says. It says how far it
+#                    is on a line that it writes over, or, where there is no terminal, each minute (each EVERY seconds).
+# make try           lists the example by the program as it is before any proof, in one to three minutes
 # make test          the merge gate: every proof from nothing, the edits that must fail, the tests and the stored runs; then the programs
 #                    that this built on real files, and listings through ca65. The result of `rt ci` is its last line.
 #                    CA65=skip leaves out what needs cc65, and CC=skip what needs a C compiler.
@@ -39,21 +40,45 @@ bin/da65: bin/made/da65_cli
 bin/as65 bin/trace65 bin/name65: bin/%: bin/made/%
 	@cp crates/$*/out/$* $@
 
+# How far the crates are that are being proved, by what the prover says in bin/made/CRATE.log: of these crates the first says it for all,
+# until it is proved. On a terminal that is a line that is written over each 2 seconds, elsewhere a line each minute, or each EVERY seconds.
+define PROGRESS
+crate=$$1
+every=$${EVERY:-60}
+[ ! -t 1 ] || every=$${EVERY:-2}
+for ((second = 1; ; second++)); do
+    sleep 1
+    rooms=(bin/made/*.room)
+    [ -e "bin/made/$$crate.room" ] || exit 0
+    [ "$${rooms[0]}" = "bin/made/$$crate.room" ] && ((second % every == 0)) || continue
+    line=
+    for room in "$${rooms[@]}"; do
+        far=$$(sed -nE 's/^so far: ([0-9]+ of [0-9]+) functions checked.*/\1/p' "$${room%.room}.log" 2>/dev/null | tail -n 1)
+        line+=$${far:+$${line:+, }$$(basename "$$room" .room) $$far}
+    done
+    [ -n "$$line" ] || continue
+    if [ -t 1 ]; then printf '\r\033[K%s functions' "$$line"; else echo "$$line functions"; fi
+done
+endef
+export PROGRESS
+
 # A crate is proved once those that it stands on are, by the lines of crates.txt; a program is run too, for its version. A line on the
 # screen says how long that took, and bin/made/CRATE has what the prover says. rt keeps others out of the crates that it reads, so a
-# crate is proved in a room of its own, with links to its sources and to the libraries below.
+# crate is proved in a folder of its own, with links to its sources and to the libraries below.
 crates := $(shell sed -nE 's/^([a-z0-9_]+):.*/\1/p' crates.txt)
 programs := da65_cli as65 trace65 name65
 direct = $(filter $(crates),$(shell sed -nE 's/^$(1)://p' crates.txt))
 below = $(sort $(foreach name,$(call direct,$(1)),$(name) $(call below,$(name))))
+clear_line = if [ -t 1 ]; then printf '\r\033[K'; fi
 define crate
 bin/made/$(1): $(patsubst %,bin/made/%,$(call direct,$(1))) $(shell find crates/$(1) -name out -prune -o -path '*/src/*' -print -o -name '*.antt' -print)
 	@begin=$$$$SECONDS; room=bin/made/$(1).room; rm -rf $$$$room; mkdir -p $$$$room; \
 	    cp -al --parents crates.txt HANDLES crates/*/{src,specs,proofs} $(patsubst %,crates/%/out/rlib,$(call below,$(1))) $$$$room; \
 	    [ ! -d crates/$(1)/out ] || mv crates/$(1)/out $$$$room/crates/$(1); \
+	    bash -c "$$$$PROGRESS" progress $(1) & \
 	    trap "[ ! -d $$$$room/crates/$(1)/out ] || mv $$$$room/crates/$(1)/out crates/$(1); rm -r $$$$room" EXIT; \
-	    (cd $$$$room/crates/$(1) && rt $(if $(filter $(1),$(programs)),run $$(RTFLAGS) -- --version,lib $$(RTFLAGS))) >$$@.log 2>&1 || { tail -n 20 $$@.log; exit 1; }; \
-	    printf '%-10s proved in %d seconds\n' $(1) $$$$((SECONDS - begin)); mv $$@.log $$@
+	    (cd $$$$room/crates/$(1) && rt $(if $(filter $(1),$(programs)),run $$(RTFLAGS) -- --version,lib $$(RTFLAGS))) >$$@.log 2>&1 || { $$(clear_line); tail -n 20 $$@.log; exit 1; }; \
+	    $$(clear_line); printf '%-10s proved in %d seconds\n' $(1) $$$$((SECONDS - begin)); mv $$@.log $$@
 endef
 $(foreach name,$(crates),$(eval $(call crate,$(name))))
 

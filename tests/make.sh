@@ -1,6 +1,7 @@
 #!/usr/bin/env bash
 # What `make` does with the prover, and in which order: a stand-in for `rt` notes in which crate it is run, wants the libraries below it,
-# and proves nothing. stmt65 and info65, which do not stand on each other, each wait for the other to begin.
+# and proves nothing. stmt65 and info65, which do not stand on each other, each wait for the other to begin. How far they are is said once
+# a second here.
 # Usage: tests/make.sh
 set -u
 root=$(realpath "$(dirname "$0")/..")
@@ -27,6 +28,11 @@ for _ in $(seq "${WAITS-100}"); do
     sleep 0.1
 done
 grep -qx "$other" "$NOTES" || [ "${WAITS-}" = 0 ] || { echo "$crate: $other does not begin"; exit 1; }
+case $crate in
+stmt65) echo 'so far: 0 of 66 functions checked; the verdict comes last'; echo 'so far: 10 of 66 functions checked' ;;
+info65) echo 'so far: 7 of 9 functions checked' ;;
+esac
+[ "$other" = "$crate" ] || sleep "${SLOW-0}"
 mkdir -p out/incremental out/rlib
 cat src/*.rt >>out/incremental/kept
 [ "$crate" != "${REFUSED-}" ] || { echo "$crate: not proved"; exit 1; }
@@ -69,5 +75,14 @@ holds 'what was kept' crates/map65/out/incremental/kept '// one\n// two\n'
 echo '// three' >crates/text65/src/lib.rt
 REFUSED=text65 makes 'text65 is not proved' 2 'text65: not proved' text65 -j3
 holds 'what was kept of text65' crates/text65/out/incremental/kept '// one\n// three\n'
+echo '// four' | tee crates/{info65,stmt65}/src/lib.rt >/dev/null
+EVERY=1 SLOW=3 makes 'how far it is' 0 da65_cli "${all/ isa65/}" -j3
+grep -qx 'info65 7 of 9, stmt65 10 of 66 functions' ../printed || fails 'how far it is' "printed: $(cat ../printed)"
+grep -q '^so far: 10 of 66' bin/made/stmt65 || fails 'how far it is' 'the words of the prover are not kept'
+echo '// five' | tee crates/{info65,stmt65}/src/lib.rt >/dev/null
+: >"$NOTES"
+EVERY=1 SLOW=3 script -qec 'make -s -j3' /dev/null >../printed 2>&1 </dev/null || fails 'on a terminal' "$(cat ../printed)"
+grep -qF $'\r\e[Kinfo65 7 of 9, stmt65 10 of 66 functions\r\e[K' ../printed || fails 'on a terminal' "$(cat -v ../printed)"
+echo '// six' >crates/text65/src/lib.rt
 WAITS=0 makes 'one at a time' 0 da65_cli "$(echo "$all" | sed 's/ isa65//')" -j1
 exit "$failed"
