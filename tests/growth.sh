@@ -49,28 +49,36 @@ information() {
     esac
 }
 
-# colliding COUNT: prints that many groups LABEL whose names share one of the slots in which names are looked up by their text.
+# colliding COUNT: prints that many groups LABEL whose names share one of the slots in which names are looked up by their text: the last
+# four letters of each make its hash 0.
 colliding() {
     awk -v count="$1" 'BEGIN {
         letters = "abcdefghijklmnopqrstuvwxyz"
-        factor = 31821
-        slots = 131072
-        for (i = 1; i <= 26; i++) for (j = 1; j <= 26; j++) for (k = 1; k <= 26; k++) {
-            hash = (((96 + i) * factor + 96 + j) % slots * factor + 96 + k) % slots
-            ends[hash] = ends[hash] substr(letters, i, 1) substr(letters, j, 1) substr(letters, k, 1)
-        }
-        cubed = factor * factor % slots * factor % slots
-        for (start = 0; made < count; start++) {
+        factor = 413293
+        slots = 1048576
+        for (end = 0; end < 456976; end++) {
             name = ""
             hash = 0
-            for (rest = start + 456976; rest >= 1; rest = int(rest / 26)) {
+            for (rest = end + 456976; rest > 1; rest = int(rest / 26)) {
                 letter = rest % 26 + 1
                 name = name substr(letters, letter, 1)
                 hash = (hash * factor + 96 + letter) % slots
             }
-            last = ends[(slots - hash * cubed % slots) % slots]
-            for (i = 1; i < length(last) && made < count; i += 3)
-                printf "LABEL { ADDR $%04X; NAME \"%s\"; };\n", made++, name substr(last, i, 3)
+            ends[hash] = ends[hash] name
+        }
+        power = 1
+        for (i = 0; i < 4; i++) power = power * factor % slots
+        for (start = 0; made < count; start++) {
+            name = ""
+            hash = 0
+            for (rest = start + 17576; rest >= 1; rest = int(rest / 26)) {
+                letter = rest % 26 + 1
+                name = name substr(letters, letter, 1)
+                hash = (hash * factor + 96 + letter) % slots
+            }
+            last = ends[(slots - hash * power % slots) % slots]
+            for (i = 1; i < length(last) && made < count; i += 4)
+                printf "LABEL { ADDR $%04X; NAME \"%s\"; };\n", made++, name substr(last, i, 4)
         }
     }'
 }

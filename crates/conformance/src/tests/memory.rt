@@ -219,10 +219,10 @@ fn each_allocation_refused_in_turn(rt: HostRuntime) {
     }
 }
 
-/// Names are found by four bytes for each address, and four for each slot: there is a slot for four bytes of what gives the
-/// names, and there are 16 to 131,072.
+/// Names are found by four bytes for each address, and four for each slot: there is a slot for two bytes of what gives the
+/// names, and there are 16 to 1,048,576.
 fn name_tables(bytes: usize) -> u64 {
-    let slots = (bytes as u64 / 4).clamp(16, 131_072);
+    let slots = (bytes as u64 / 2).clamp(16, 1_048_576);
     slots.saturating_mul(4).saturating_add(262_144)
 }
 

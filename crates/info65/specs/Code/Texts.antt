@@ -9,7 +9,7 @@ use Rattle.info65.specs.declared.lookup.texts.Texts.{Texts}
 -- a hash, with the bytes that follow what it is the hash of
 unfoldable pub hash_from : ℕ → List ℕ → ℕ
 hash_from hash [] = hash
-hash_from hash (b ∷ bs) = hash_from ((hash * 31_821 + b) % 0x2_0000) bs
+hash_from hash (b ∷ bs) = hash_from ((hash * 413_293 + b) % 0x10_0000) bs
 
 -- the slot of a text, one of so many
 unfoldable pub slot_of : ℕ → List ℕ → ℕ
@@ -30,3 +30,7 @@ AddsText old text address number new t =
     ((old.slotted t ≡ 0) × (new.slotted t ≡ number) × (new.others t ≡ old.others t))
     ⊎ (((old.slotted t ≢ 0) × (bytes_eq t text ≡ true) × (new.slotted t ≡ old.slotted t) × (new.others t ≡ Some address))
     ⊎ ((bytes_eq t text ≡ false) × (new.slotted t ≡ old.slotted t) × (new.others t ≡ old.others t)))
+
+-- a text stands where it did
+abbrev pub StandsAlike : TextsView → TextsView → List ℕ → Type 0
+StandsAlike old new t = (new.slotted t ≡ old.slotted t) × (new.others t ≡ old.others t)

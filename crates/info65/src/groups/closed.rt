@@ -11,8 +11,7 @@ ghost use Rattle.info65.specs.Reader.{group};
 
 use crate::fault::{InfoFault, InfoFaultKind};
 use crate::groups::group_list::GroupList;
-use crate::groups::group_values::is_given;
-use crate::groups::include_groups::{has_room, include_in};
+use crate::groups::include_groups::include_in;
 use crate::groups::label_groups::{label_in, range_name};
 use crate::groups::range_groups::{add_range, range_fault, range_part};
 use crate::groups::segment_groups::{mark_segment, segment_fault};
@@ -21,7 +20,7 @@ use crate::information::pool::NamePool;
 use crate::information::range::RangeSpec;
 use crate::lookup::index::Index;
 use crate::syntax::assignment::{Assignment, Group};
-use crate::syntax::attribute::{Attribute, GroupKind};
+use crate::syntax::attribute::GroupKind;
 use std::alloc::Allocator;
 use std::marker::Model;
 
@@ -99,8 +98,7 @@ impl<'a, A: Allocator + Copy> Closed<'a, A> {
     ghost use Rattle.info65.specs.Code.Kept.{kept_of};
     ghost use Rattle.info65.specs.Code.Results.{Gives};
     ghost use Rattle.info65.specs.Faults.{out_of_memory};
-    ghost use Rattle.info65.specs.Groups.{GroupView, is_given};
-    ghost use Rattle.info65.specs.IncludeGroups.{has_room};
+    ghost use Rattle.info65.specs.Groups.{GroupView};
     ghost use Rattle.info65.specs.Labels.{by_address, names_said};
     ghost use Rattle.info65.specs.Ranges.{ranges_of};
 
@@ -131,20 +129,6 @@ impl<'a, A: Allocator + Copy> Closed<'a, A> {
         self.kept.as_slice()
     }
 
-    /// The attribute was given before in its group, where END and SIZE count as one.
-    pub fn is_given(&self, kind: GroupKind, given: &[Assignment], attribute: Attribute) -> bool
-        ensures { result ≡ is_given self.now kind (map assignment_seen given.now) attribute }
-    {
-        is_given(self.kept.as_slice(), kind, given, attribute)
-    }
-
-    /// One more value of the attribute can be given after these groups.
-    pub fn has_room(&self, attribute: Attribute) -> bool
-        ensures { result ≡ has_room self.now attribute }
-    {
-        has_room(self.kept.as_slice(), attribute)
-    }
-
     /// The first fault of a group after these, where it closes.
     #[tactic(auto, unfolding(crate::specs::Closing::closing_fault))]
     pub fn closing_fault(&self, kind: GroupKind, given: &[Assignment<'a>]) -> Option<InfoFaultKind>
@@ -173,12 +157,12 @@ impl<'a, A: Allocator + Copy> Closed<'a, A> {
             mut kept,
             mut ranges,
             mut ranged,
-            names,
+            mut names,
             mut segmented,
         } = self;
         let range = range_part(&group);
         let name = name_part(group.kind, group.given.as_slice(), range);
-        let names = names.with_optional(name)?;
+        names.add_optional(name)?;
         add_range(&mut ranges, &mut ranged, range)?;
         mark_segment(&mut segmented, &group)?;
         let groups = groups.with(&group);

@@ -39,7 +39,7 @@ fn index_of<'a, A: Allocator + Copy>(
         bytes.saturating_add(count.saturating_mul(BYTES_OF_A_NAME)),
     );
     for place in 0..count {
-        index = index.with(info.given(place))?;
+        index.add(info.given(place))?;
     }
     Ok(index)
 }
@@ -114,7 +114,7 @@ fn with_file<'a, A: Allocator + Copy>(
         let Some(name) = added else {
             continue;
         };
-        names = names.with(name)?;
+        names.add(name)?;
     }
     Ok(names)
 }

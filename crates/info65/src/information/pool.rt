@@ -65,9 +65,9 @@ impl<A: Allocator + Copy> NamePool<A> {
 }
 
 impl<A: Allocator> NamePool<A> {
-    ghost use Rattle.std.specs.Prelude.{◌≡◌, ◌<◌, ◌∷◌, ◌++◌, Ok, [], length, option_map};
+    ghost use Rattle.std.specs.Prelude.{◌≡◌, ◌<◌, ◌∷◌, ◌++◌, IfErr, IfOk, [], length, option_map};
     ghost use Rattle.info65.specs.Code.Names.{given_seen};
-    ghost use Rattle.info65.specs.Code.Results.{Gives};
+    ghost use Rattle.info65.specs.Faults.{out_of_memory};
     ghost use Rattle.info65.specs.Names.{AreNames, covering, name_at};
 
     /// How many names there are.
@@ -93,26 +93,24 @@ impl<A: Allocator> NamePool<A> {
         covering_in(self.entries.as_slice(), self.bytes.as_slice(), address)
     }
 
-    /// These names and one more.
-    pub(crate) fn with(self, name: Given<'_>) -> Result<Self, InfoFault>
-        ensures { Gives (λ p. p) result (Ok (self ++ given_seen name.entry ∷ [])) }
+    /// Adds a name at the end.
+    #[inline(always)]
+    pub(crate) fn add(&mut self, name: Given<'_>) -> Result<(), InfoFault>
+        ensures done { IfOk result (λ _. self.new ≡ self.old ++ given_seen name.entry ∷ []) }
+        ensures err { IfErr result (λ e. e ≡ out_of_memory) }
     {
-        let NamePool {
-            mut entries,
-            mut bytes,
-        } = self;
-        let text = put(&mut bytes, name.text)?;
-        let comment = put_optional(&mut bytes, name.comment)?;
+        let text = put(&mut self.bytes, name.text)?;
+        let comment = put_optional(&mut self.bytes, name.comment)?;
         let reach = u64::from(name.address) + u64::from(name.size);
-        let most = narrow(most_reached(entries.as_slice(), reach) as usize)?;
-        entries.push(Entry {
+        let most = narrow(most_reached(self.entries.as_slice(), reach) as usize)?;
+        self.entries.push(Entry {
             address: name.address,
             size: name.size,
             text,
             comment,
             most,
         })?;
-        Ok(NamePool { entries, bytes })
+        Ok(())
     }
 }
 
@@ -120,6 +118,7 @@ impl<A: Allocator> NamePool<A> {
 fn put<A: Allocator>(bytes: &mut Vec<u8, A>, text: &[u8]) -> Result<Span, InfoFault>
     ensures bytes { IfOk result (λ s. bytes.new.items ≡ bytes.old.items ++ text.now) }
     ensures span { IfOk result (λ s. s ≡ span_of bytes.old.items text.now) }
+    ensures same { IfErr result (λ _. bytes.new.items ≡ bytes.old.items) }
     ensures err { IfErr result (λ e. e ≡ out_of_memory) }
 {
     let first = narrow(bytes.len())?;
@@ -135,6 +134,7 @@ fn put_optional<A: Allocator>(
 ) -> Result<Option<Span>, InfoFault>
     ensures bytes { IfOk result (λ s. bytes.new.items ≡ bytes.old.items ++ optional (option_map (λ t. t.now) text.entry)) }
     ensures span { IfOk result (λ s. s ≡ option_map (span_of bytes.old.items) (option_map (λ t. t.now) text.entry)) }
+    ensures same { IfErr result (λ _. bytes.new.items ≡ bytes.old.items) }
     ensures err { IfErr result (λ e. e ≡ out_of_memory) }
 {
     match text {

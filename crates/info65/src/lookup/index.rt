@@ -12,7 +12,7 @@ use crate::groups::label_groups::label_in;
 use crate::information::name::Given;
 use crate::information::pool::NamePool;
 use crate::lookup::marks::ADDRESSES;
-use crate::lookup::numbers::Numbers;
+use crate::lookup::numbers::{Numbers, narrow};
 use crate::lookup::texts::Texts;
 use crate::syntax::assignment::Assignment;
 use crate::syntax::names::is_reserved;
@@ -65,13 +65,14 @@ fn numbered<'a>(names: &[Given<'a>], number: usize) -> Option<Given<'a>>
 }
 
 impl<'a, A: Allocator + Copy> Index<'a, A> {
-    ghost use Rattle.std.specs.Prelude.{◌≡◌, ◌≢◌, ◌++◌, ◌∷◌, AllPairs, None, Ok, [], map, option_map, option_to_list};
+    ghost use Rattle.std.specs.Prelude.{◌≡◌, ◌≢◌, ◌++◌, ◌∷◌, AllPairs, IfErr, IfOk, None, Ok, [], map, option_map, option_to_list};
     ghost use Rattle.std.specs.List.{list_any};
     ghost use Rattle.info65.specs.Closing.{label_fault, optional_name_fault};
     ghost use Rattle.info65.specs.Code.Groups.{assignment_seen};
     ghost use Rattle.info65.specs.Code.Index.{text_at};
     ghost use Rattle.info65.specs.Code.Names.{given_seen};
     ghost use Rattle.info65.specs.Code.Results.{Gives, Sees};
+    ghost use Rattle.info65.specs.Faults.{out_of_memory};
     ghost use Rattle.info65.specs.Includes.{name_adds};
     ghost use Rattle.info65.specs.Labels.{by_address, is_at, is_elsewhere, label_in, name_fault};
 
@@ -114,6 +115,7 @@ impl<'a, A: Allocator + Copy> Index<'a, A> {
     }
 
     // The text of the name stands at another address.
+    #[inline(always)]
     fn is_elsewhere(&self, name: Given<'a>) -> bool
         ensures { result ≡ list_any (is_elsewhere (given_seen name.entry)) self.now }
     {
@@ -180,35 +182,32 @@ impl<'a, A: Allocator + Copy> Index<'a, A> {
         }
     }
 
-    /// These names and one more, which has no fault.
-    pub fn with(self, name: Given<'a>) -> Result<Self, InfoFault>
-        requires { name_fault self (given_seen name) ≡ None }
-        ensures { Gives (λ i. i) result (Ok (self.entry ++ given_seen name.entry ∷ [])) }
+    /// Adds a name, which has no fault.
+    #[inline(always)]
+    pub fn add(&mut self, name: Given<'a>) -> Result<(), InfoFault>
+        requires { name_fault self.old (given_seen name) ≡ None }
+        ensures done { IfOk result (λ _. self.new ≡ self.old ++ given_seen name.entry ∷ []) }
+        ensures err { IfErr result (λ e. e ≡ out_of_memory) }
     {
-        let Index {
-            mut names,
-            mut numbers,
-            mut texts,
-        } = self;
-        names.push(name)?;
-        let number = names.len();
-        numbers.set(usize::from(name.address), number)?;
-        texts.add(name.text, name.address, number)?;
-        Ok(Index {
-            names,
-            numbers,
-            texts,
-        })
+        // What can fail comes first, so that names are found as they stand in the list, whatever fails.
+        self.names.reserve(1)?;
+        let number = narrow(self.names.len() + 1)?;
+        self.numbers.widen()?;
+        self.texts.add(name.text, name.address, number)?;
+        self.numbers.set(usize::from(name.address), number);
+        self.names.push(name)?;
+        Ok(())
     }
 
-    /// These names and, if there is one, one more, which has no fault.
-    pub fn with_optional(self, name: Option<Given<'a>>) -> Result<Self, InfoFault>
-        requires { optional_name_fault self (option_map given_seen name) ≡ None }
-        ensures { Gives (λ i. i) result (Ok (self.entry ++ option_to_list (option_map given_seen name.entry))) }
+    /// Adds a name, which has no fault, if there is one.
+    pub fn add_optional(&mut self, name: Option<Given<'a>>) -> Result<(), InfoFault>
+        requires { optional_name_fault self.old (option_map given_seen name) ≡ None }
+        ensures done { IfOk result (λ _. self.new ≡ self.old ++ option_to_list (option_map given_seen name.entry)) }
+        ensures err { IfErr result (λ e. e ≡ out_of_memory) }
     {
         match name {
-            Some(name) => self.with(name),
-            None => Ok(self),
+            Some(name) => self.add(name),
+            None => Ok(()),
         }
     }
 
@@ -257,7 +256,7 @@ fn pooled<A: Allocator + Copy>(
             let Some(name) = numbered(names, numbers.at(address)) else {
                 continue;
             };
-            pool = pool.with(name)?;
+            pool.add(name)?;
         }
     }
     Ok(pool)

@@ -22,7 +22,7 @@ pub fn narrow(number: usize) -> Result<u32, InfoFault>
 // Adds cells of 0 where there are fewer than that many.
 fn fill_up<A: Allocator>(cells: &mut Vec<u32, A>, count: usize) -> Result<(), InfoFault>
     ensures size { IfOk result (λ _. count ≤ length cells.new.items) }
-    ensures same { IfOk result (λ _. (k : ℕ) → get_or cells.new.items k 0 ≡ get_or cells.old.items k 0) }
+    ensures same { (k : ℕ) → get_or cells.new.items k 0 ≡ get_or cells.old.items k 0 }
     ensures err { IfErr result (λ e. e ≡ out_of_memory) }
 {
     if cells.len() >= count {
@@ -52,7 +52,7 @@ impl<A: Allocator> Model for Numbers<A> {
 }
 
 impl<A: Allocator> Numbers<A> {
-    ghost use Rattle.std.specs.Prelude.{◌≡◌, ◌<◌, [], IfErr, IfOk, get_or};
+    ghost use Rattle.std.specs.Prelude.{◌≡◌, ◌<◌, ◌≤◌, ℕ, [], IfErr, IfOk, get_or, length};
     ghost use Rattle.info65.specs.Code.Numbers.{IsSet};
     ghost use Rattle.info65.specs.Faults.{out_of_memory};
 
@@ -86,16 +86,22 @@ impl<A: Allocator> Numbers<A> {
         }
     }
 
-    /// Sets the number at a place.
-    pub fn set(&mut self, place: usize, number: usize) -> Result<(), InfoFault>
-        requires { place < self.old.count }
+    /// Allocates the row, if that was not done before.
+    pub fn widen(&mut self) -> Result<(), InfoFault>
         ensures count { self.new.count ≡ self.old.count }
-        ensures done { IfOk result (λ _. IsSet place number self.old.cells self.new.cells) }
+        ensures size { IfOk result (λ _. self.new.count ≤ length self.new.cells) }
+        ensures same { (k : ℕ) → get_or self.new.cells k 0 ≡ get_or self.old.cells k 0 }
         ensures err { IfErr result (λ e. e ≡ out_of_memory) }
     {
-        let number = narrow(number)?;
-        fill_up(&mut self.cells, self.count)?;
+        fill_up(&mut self.cells, self.count)
+    }
+
+    /// Sets the number at a place of a row that is allocated.
+    pub fn set(&mut self, place: usize, number: u32)
+        requires { place < length self.old.cells }
+        ensures count { self.new.count ≡ self.old.count }
+        ensures set { IsSet place number self.old.cells self.new.cells }
+    {
         self.cells[place] = number;
-        Ok(())
     }
 }

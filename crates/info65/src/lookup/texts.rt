@@ -11,10 +11,10 @@ use std::collections::BTreeMap;
 // How many slots there are at least and at most.
 const FEWEST: usize = 16;
 
-const MOST: usize = 0x2_0000;
+const MOST: usize = 0x10_0000;
 
-// A name and what else a file says of it have at least so many bytes, most of them more.
-const BYTES_OF_A_SLOT: usize = 4;
+// A name and what else a file says of it have some ten times as many bytes, so few names share a slot.
+const BYTES_OF_A_SLOT: usize = 2;
 
 /// Where names are found by their texts. The slot of a text is found by a hash of its bytes, and the first name whose
 /// text has a slot takes it. The names whose slot was taken before them stand in a tree, so names that share a slot on
@@ -29,7 +29,7 @@ pub struct Texts<'a, A: Allocator> {
 
 impl<'a, A: Allocator + Copy> Texts<'a, A> {
     ghost use Rattle.std.specs.Prelude.{◌≡◌, ℕ, List, None, IfErr, IfOk};
-    ghost use Rattle.info65.specs.Code.Texts.{AddsText, texts_seen};
+    ghost use Rattle.info65.specs.Code.Texts.{AddsText, StandsAlike, texts_seen};
     ghost use Rattle.info65.specs.Faults.{out_of_memory};
 
     /// No texts, where those of a file of that many bytes are to come. Allocates nothing.
@@ -59,28 +59,32 @@ impl<'a, A: Allocator + Copy> Texts<'a, A> {
         }
     }
 
-    /// Adds the text of a name with this address and number.
-    pub fn add(&mut self, text: &'a [u8], address: u16, number: usize) -> Result<(), InfoFault>
+    /// Adds the text of a name with this address and number. After a failure each text stands as before.
+    #[inline(always)]
+    pub fn add(&mut self, text: &'a [u8], address: u16, number: u32) -> Result<(), InfoFault>
         ensures done { IfOk result (λ _. (t : List ℕ) → AddsText (texts_seen self.old) text.entry.now address number (texts_seen self.new) t) }
+        ensures same { IfErr result (λ _. (t : List ℕ) → StandsAlike (texts_seen self.old) (texts_seen self.new) t) }
         ensures err { IfErr result (λ e. e ≡ out_of_memory) }
     {
+        self.slots.widen()?;
         let slot = slot_of(self.slots.count(), text);
         if self.slots.at(slot) == 0 {
-            return self.slots.set(slot, number);
+            self.slots.set(slot, number);
+        } else {
+            self.others.insert(text, address)?;
         }
-        self.others.insert(text, address)?;
         Ok(())
     }
 }
 
 // The hash of a text.
 #[tactic(auto, unfolding(crate::specs::Code::Texts::hash_from))]
-fn hash_of(text: &[u8]) -> u32
+fn hash_of(text: &[u8]) -> usize
     ensures { result ≡ hash_from 0 text.now }
 {
-    let mut hash: u32 = 0;
+    let mut hash: usize = 0;
     for byte in text {
-        hash = (hash * 31_821 + u32::from(*byte)) % 0x2_0000;
+        hash = (hash * 413_293 + usize::from(*byte)) % MOST;
     }
     hash
 }
@@ -92,5 +96,5 @@ fn slot_of(count: usize, text: &[u8]) -> usize
     ensures value { result ≡ slot_of count text.now }
     ensures within { result < count }
 {
-    hash_of(text) as usize % count
+    hash_of(text) % count
 }

@@ -17,6 +17,8 @@ ghost use Rattle.info65.specs.declared.syntax.token.TokenKind.TheVariants.{Word}
 
 use crate::fault::{InfoFault, InfoFaultKind};
 use crate::groups::closed::Closed;
+use crate::groups::group_values::is_given;
+use crate::groups::include_groups::has_room;
 use crate::information::options::Options;
 use crate::syntax::assignment::{Assignment, Group, Value};
 use crate::syntax::attribute::{Attribute, GroupKind, attribute_named, group_named};
@@ -148,7 +150,7 @@ fn value<'a, A: Allocator + Copy, B: Allocator>(
 }
 
 // The value of an attribute, if there is room for one more.
-#[tactic(auto, unfolding(crate::specs::Reader::value_at))]
+#[tactic(auto, using(crate::proofs::KeptLemmas::room_kept), unfolding(crate::specs::Reader::value_at))]
 fn value_at<'a, A: Allocator + Copy, B: Allocator>(
     options: &Options<B>,
     before: &Closed<'a, A>,
@@ -158,7 +160,7 @@ fn value_at<'a, A: Allocator + Copy, B: Allocator>(
     ensures { Sees value_seen result (value_at options.now before.now attribute (seen token.entry)) }
 {
     let value = value_of(options, attribute, token)?;
-    if before.has_room(attribute) {
+    if has_room(before.kept(), attribute) {
         Ok(value)
     } else {
         Err(InfoFault::new(token.line, InfoFaultKind::TooLarge))
@@ -244,7 +246,7 @@ fn attribute_name<'a, A: Allocator + Copy>(
     attribute_at(before, kind, given, name)
 }
 
-#[tactic(auto, unfolding(crate::specs::Reader::attribute_at))]
+#[tactic(auto, using(crate::proofs::KeptLemmas::given_kept), unfolding(crate::specs::Reader::attribute_at))]
 fn attribute_at<'a, A: Allocator + Copy>(
     before: &Closed<'a, A>,
     kind: GroupKind,
@@ -255,7 +257,7 @@ fn attribute_at<'a, A: Allocator + Copy>(
 {
     match attribute_named(kind, name.text) {
         Some(attribute) => {
-            if before.is_given(kind, given, attribute) {
+            if is_given(before.kept(), kind, given, attribute) {
                 Err(InfoFault::new(name.line, InfoFaultKind::GivenTwice))
             } else {
                 Ok(attribute)

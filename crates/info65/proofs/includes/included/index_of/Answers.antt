@@ -4,16 +4,15 @@ use Rattle.std.proofs.lemmas.List.{take_all, take_more}
 use Rattle.info65.specs.Code.Names.{given_seen}
 use Rattle.info65.specs.Names.{blank_name}
 use Rattle.info65.specs.Views.{NameView}
-use Rattle.info65.proofs.Cases.{same_ok}
 use Rattle.info65.proofs.IncludedLemmas.{fresh}
 use Rattle.info65.proofs.includes.included.index_of.Goals as goal
 
-pub with-requires : goal.with-requires
-with-requires g c = rw (c.loop-place.invariant, c.given.ensures.name) (fresh c.args.info.now.names c.loop-place.place c.given_count-count.ensures.sound (omega arith))
+pub add-requires : goal.add-requires
+add-requires g c = rw (c.loop-place.invariant, c.given.ensures.name) (fresh c.args.info.now.names c.loop-place.place c.given_count-count.ensures.sound (omega arith))
 
 pub loop-place-preserved : goal.loop-place-preserved
 loop-place-preserved g c =
-    sym (same_ok c.in_ok-index.ensures)
+    c.in_ok-add.ensures.done
     ∙ ap (λ (l : List NameView). l ++ given_seen c.given.result ∷ []) c.loop-place.invariant
     ∙ ap (λ (x : NameView). take c.loop-place.place c.args.info.now.names ++ x ∷ []) c.given.ensures.name
     ∙ sym (take_more c.args.info.now.names c.loop-place.place blank_name (omega arith))

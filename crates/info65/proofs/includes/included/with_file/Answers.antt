@@ -1,4 +1,4 @@
-use Rattle.std.proofs.Common.{◌≡◌, ◌∙◌, ap, arith, false, inl, length, nat_lt, option_map, refl}
+use Rattle.std.proofs.Common.{◌≡◌, ◌∙◌, ap, arith, false, inl, length, nat_lt, option_map, refl, sym}
 use Rattle.std.specs.Prelude.{Err, List, Ok, Option}
 use Rattle.std.proofs.lemmas.Bool.Decides.{nat_tests}
 use Rattle.std.proofs.lemmas.List.{append-nil}
@@ -39,14 +39,14 @@ lines-preserved-in_default-added g c =
       shorter = omega (arith, c.lines.invariant.shorter, c.in-Some.ensures.1);
     }
 
-pub with-requires : goal.with-requires
-with-requires g c =
+pub add-requires : goal.add-requires
+add-requires g c =
     (line_joins c.args.include.now c.lines.number c.lines.names c.in-Some.line.now (given_seen c.in-Some-added.name) (c.in_ok-added.ensures ∙ ap (λ (o : Option Given). Ok (option_map given_seen o)) c.in-Some-added.is)).fine
 
 pub lines-preserved : goal.lines-preserved
 lines-preserved g c =
-    let some = ap (with_added c.lines.names) (c.in_ok-added.ensures ∙ ap (λ (o : Option Given). Ok (option_map given_seen o)) c.in-Some-added.is) ∙ c.in_ok-names.ensures in
+    let some = ap (with_added c.lines.names) (c.in_ok-added.ensures ∙ ap (λ (o : Option Given). Ok (option_map given_seen o)) c.in-Some-added.is) ∙ ap (λ (l : List NameView). Ok l) (sym c.in_ok-add.ensures.done) in
     record {
-      read = c.lines.invariant.read ∙ next_lines c.args.include.now c.lines.number c.lines.names c.lines.rest.now c.in-Some.line.now (text_lines c.in-Some.after.now) (Ok c.in_ok-names.names) c.in-Some.ensures.0 some;
+      read = c.lines.invariant.read ∙ next_lines c.args.include.now c.lines.number c.lines.names c.lines.rest.now c.in-Some.line.now (text_lines c.in-Some.after.now) (Ok c.add.new.self) c.in-Some.ensures.0 some;
       shorter = omega (arith, c.lines.invariant.shorter, c.in-Some.ensures.1);
     }

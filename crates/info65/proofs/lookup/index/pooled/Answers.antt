@@ -5,7 +5,6 @@ use Rattle.info65.specs.Code.Index.{numbered}
 use Rattle.info65.specs.Code.Names.{given_seen}
 use Rattle.info65.specs.Labels.{by_address, named_at, names_from}
 use Rattle.info65.specs.Views.{NameView}
-use Rattle.info65.proofs.Cases.{same_ok}
 use Rattle.info65.proofs.NamesLemmas.{names_next, page_passed}
 use Rattle.info65.proofs.lookup.index.pooled.Goals as goal
 
@@ -24,7 +23,7 @@ loop-address-preserved-in_default g c =
 pub loop-address-preserved : goal.loop-address-preserved
 loop-address-preserved g c =
     let a = c.loop-address.address in
-    sym (same_ok c.in_ok-pool.ensures) ∙ ap (λ (l : List NameView). l ++ given_seen c.in-Some.name ∷ []) c.loop-address.invariant
+    c.in_ok-add.ensures.done ∙ ap (λ (l : List NameView). l ++ given_seen c.in-Some.name ∷ []) c.loop-address.invariant
     ∙ sym (names_next c.args.names.now c.args.numbers.now.cells a (Some c.in-Some.name) (c.requires a) (c.in-Some.ensures ∙ ap (numbered c.args.names.now) c.at.ensures))
 
 pub returns : goal.returns
