@@ -183,6 +183,36 @@ proposes 'an entry that is given adds to the first address' '1001-1001 ByteTable
 image four.bin '\x02ABCD\x01ABCDE\x7f'
 proposes 'five characters are a text' '1000-1005 ByteTable;1006-100A TextTable;100B-100B ByteTable;' -S 0x1000 four.bin
 
+# ---- texts
+
+# shown NAME WANTED WORD..: what stands behind each range that is proposed.
+shown() {
+    local name=$1 wanted=$2 got
+    shift 2
+    got=$("$program" "$@" | sed -nE 's/^RANGE .*; \}; # (.*)$/\1/p' | tr '\n' '|')
+    [ "$got" = "$wanted" ] || fails "$name" "shown: $got"
+}
+
+# rts; a message in PETSCII, which ends with a return and a zero
+image petscii.bin '\x60\xc8\x45\x4c\x4c\x4f\x2c\x20\xd7\x4f\x52\x4c\x44\x0d\x00'
+proposes 'PETSCII' '1001-100C ByteTable;100D-100E ByteTable;' -S 0x1000 petscii.bin
+shown 'PETSCII' 'text in PETSCII: Hello, World|..|' -S 0x1000 petscii.bin
+# rts; a message with the high bit set, but for its last character; a zero
+image apple.bin '\x60\xc4\xc9\xd3\xcb\xa0\xc5\xd2\xd2\xcf\x52\x00'
+proposes 'the high bit set' '1001-1009 ByteTable;100A-100B ByteTable;' -S 0x1000 apple.bin
+shown 'the high bit set' 'text with the high bit: DISK ERRO|R.|' -S 0x1000 apple.bin
+image mixed.bin '\x60HELLO\x00\xc8\xc5\xcc\xcc\xcf\xa1\x00'
+shown 'texts of two alphabets' 'HELLO|.|text with the high bit: HELLO!|.|' -S 0x1000 mixed.bin
+# eight lines of eight dots
+image ball.bin '\x60\x3c\x7e\x66\x7e\x3c\x24\x3c\x7e'
+proposes 'graphics are no text' '1001-1008 ByteTable;' -S 0x1000 ball.bin
+image letters.bin '\x60A1B23\x00AB12C\x00'
+proposes 'half of the characters are letters' '1001-1006 ByteTable;1007-100B TextTable;100C-100C ByteTable;' -S 0x1000 letters.bin
+image tilde.bin '\x60READY~\x7f'
+shown 'the last character' 'READY~|.|' -S 0x1000 tilde.bin
+
+# ---- entries of the information file
+
 # rts at $1000; entries by a table of addresses, one of returns, and a range of code
 image table.bin '\x06\x10\x06\x10\xff\xff\x60\x60\x60\xff'
 image table.info 'RANGE { START $1000; END $1001; TYPE AddrTable; };\nRANGE { START $1002; END $1003; TYPE RtsTable; };\nRANGE { START $1008; END $1008; TYPE Code; };\n'

@@ -6,10 +6,13 @@ pub mod ApartLemmas
 pub mod GrowthLemmas
 pub mod RowLemmas
 pub mod WorkedRows
+pub mod TextPieceRows
+pub mod FindRows
 pub mod TakenLemmas
 pub mod LabelLemmas
 mod LoopLemmas
 pub mod SurveyLemmas
+pub mod LenLemmas
 pub mod PieceLemmas
 pub mod CodeLemmas
 pub mod CodeRows

@@ -1,13 +1,14 @@
 -- One piece after the other.
-use Rattle.std.proofs.Common.{All, zero, suc, ◌≡◌, ◌+◌, ◌-◌, ◌<◌, ◌≤◌, ◌∙◌, ◌==◌, ◌&&◌, ◌||◌, not, nat_le, nat_lt, ℕ, true, false, List, [], ◌∷◌, ◌++◌, append_assoc, ap, arith, inl, inr, refl, sym}
-use Rattle.std.proofs.lemmas.Bool.{and_from, and_left, and_parts, and_right, cases_lt, le-leb, lt-leb, le-ltb, not-false, not_from_false, not_from_true, or_from, or_left, or_parts}
+use Rattle.std.proofs.Common.{All, zero, suc, ◌≡◌, ◌+◌, ◌-◌, ◌<◌, ◌≤◌, ◌∙◌, ◌==◌, ◌&&◌, ◌||◌, not, nat_le, ℕ, true, false, List, [], ◌∷◌, ◌++◌, append_assoc, ap, arith, inl, inr, refl, sym}
+use Rattle.std.proofs.lemmas.Bool.{and_left, and_parts, and_right, cases_lt, le-leb, lt-leb, le-ltb, not-false, not_from_false, or_left, or_parts}
 use Rattle.std.proofs.lemmas.List.{append-nil}
 use Rattle.info65.specs.Ranges.{has_address}
 use Rattle.info65.specs.declared.information.range.RangeSpec.{RangeSpec}
 use Rattle.info65.specs.declared.information.range.RangeType.{RangeType}
 use Rattle.info65.specs.declared.information.range.RangeType.TheVariants as role
 use Rattle.map65.specs.ImageView.{byte_at, end_of}
-use Rattle.reach65.specs.Pieces.{ArePieces, Ground, IsPiece, LiesIn, are_same, is_break, is_char, is_filler, is_free, is_plain, is_same, is_text, is_word, is_written}
+use Rattle.reach65.specs.Pieces.{ArePieces, Ground, IsPiece, LiesIn, are_same, begins_text, is_break, is_filler, is_free, is_plain, is_same, is_word}
+use Rattle.reach65.proofs.LenLemmas.{plain-free, text-free}
 use Rattle.reach65.specs.Reached.{is_marked}
 use Rattle.reach65.specs.Taken.{is_given}
 
@@ -30,17 +31,9 @@ pub past-same : (g : Ground) (from a : ℕ) → end_of g.image ≤ a → is_same
 unfolding is_same
 past-same g from a past = and_left _ _ (past-plain g a past)
 
-pub past-written : (g : Ground) (a : ℕ) → end_of g.image ≤ a → is_written g a ≡ false
-unfolding is_written is_char
-past-written g a past = and_left _ _ (and_left _ _ (past-plain g a past))
-
 pub past-break : (g : Ground) (a : ℕ) → end_of g.image ≤ a → is_break g a ≡ true
 unfolding is_break
 past-break g a past = or_left _ _ (not_from_false (is_plain g a) (past-plain g a past))
-
-plain-free : (g : Ground) (a : ℕ) → is_plain g a ≡ true → is_free g a ≡ true
-unfolding is_plain
-plain-free g a is = (and_parts (is_free g a) (not (is_marked g.words a)) is).0
 
 word-free : (g : Ground) (a : ℕ) → is_word g a ≡ true → is_free g a ≡ true
 unfolding is_word
@@ -50,15 +43,9 @@ same-free : (g : Ground) (from a : ℕ) → is_same g from a ≡ true → is_fre
 unfolding is_same
 same-free g from a is = plain-free g a (and_parts (is_plain g a) (byte_at g.image a == byte_at g.image from) is).0
 
-written-free : (g : Ground) (a : ℕ) → is_written g a ≡ true → is_free g a ≡ true
-unfolding is_written is_char
-written-free g a is =
-    let char = (and_parts (is_plain g a && (nat_lt 0x1F (byte_at g.image a) && nat_lt (byte_at g.image a) 0x7F)) (not (is_filler g a)) is).0 in
-    plain-free g a (and_parts (is_plain g a) (nat_lt 0x1F (byte_at g.image a) && nat_lt (byte_at g.image a) 0x7F) char).0
-
 break-free : (g : Ground) (a : ℕ) → is_break g a ≡ false → is_free g a ≡ true
 unfolding is_break
-break-free g a is = plain-free g a (not-false (is_plain g a) (or_parts (not (is_plain g a)) (is_filler g a || is_text g a) is).0)
+break-free g a is = plain-free g a (not-false (is_plain g a) (or_parts (not (is_plain g a)) (is_filler g a || begins_text g a) is).0)
 
 -- ---- equal bytes, one after the other
 
@@ -93,20 +80,17 @@ pub filler-same : (g : Ground) (a : ℕ) → is_filler g a ≡ true → is_same 
 unfolding is_filler are_same
 filler-same g a is = (and_parts (is_same g a a) (are_same g a (a + 1) 15) is).0
 
-pub text-written : (g : Ground) (a : ℕ) → is_text g a ≡ true → is_filler g a ≡ false → is_written g a ≡ true
-unfolding is_text is_written
-text-written g a is none = and_from _ _ (and_parts (is_char g a) (is_char g (a + 1) && (is_char g (a + 2) && (is_char g (a + 3) && is_char g (a + 4)))) is).0 (not_from_false (is_filler g a) none)
-
-pub plain-unbroken : (g : Ground) (a : ℕ) → is_free g a ≡ true → is_word g a ≡ false → is_filler g a ≡ false → is_text g a ≡ false → is_break g a ≡ false
+pub plain-unbroken : (g : Ground) (a : ℕ) → is_free g a ≡ true → is_word g a ≡ false → is_filler g a ≡ false → begins_text g a ≡ false → is_break g a ≡ false
 unfolding is_break is_plain is_word
 plain-unbroken g a free word filler text = grind (arith, free, word, filler, text)
 
 -- each address of a piece is free
 pub piece-free : (g : Ground) (r : RangeType) (from end a : ℕ) → IsPiece g r from end → from ≤ a → a < end → is_free g a ≡ true
 piece-free g role.AddrTable from end a piece low high = word-free g a (piece.0 a low high)
-piece-free g role.TextTable from end a piece low high = written-free g a (piece.1 a low high)
+piece-free g role.TextTable from end a piece low high = text-free g from end a piece.0 low high
 piece-free g role.ByteTable from end a (inl piece) low high = same-free g from a (piece.1 a low high)
-piece-free g role.ByteTable from end a (inr piece) low high = break-free g a (piece.0 a low high)
+piece-free g role.ByteTable from end a (inr (inl piece)) low high = break-free g a (piece.0 a low high)
+piece-free g role.ByteTable from end a (inr (inr piece)) low high = text-free g from end a piece.0 low high
 piece-free g _ from end a piece low high = absurd piece
 
 -- ---- pieces in order

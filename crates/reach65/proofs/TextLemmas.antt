@@ -26,7 +26,10 @@ use Rattle.map65.specs.ImageView.{ImageView}
 use Rattle.info65.proofs.Public.{after_tokens, default-form, label_items, range_items, spells-append}
 use Rattle.reach65.specs.Labels.{label_line, label_lines}
 use Rattle.reach65.specs.TextLaws.{AreLines, comment_line, is_line}
-use Rattle.reach65.specs.RangeLines.{dots_above, range_bytes, range_line, range_lines, shown_byte, shown_bytes, type_text}
+use Rattle.reach65.specs.RangeLines.{alphabet_of, dots_above, range_bytes, range_line, range_lines, shown_as, shown_byte, shown_bytes, shown_char, title, type_text}
+use Rattle.reach65.specs.Texts.{in_ascii}
+use Rattle.reach65.specs.declared.texts.Alphabet.{Alphabet}
+use Rattle.reach65.specs.declared.texts.Alphabet.TheVariants as alphabet
 
 -- ---- tokens that are these items, and then those of a stream
 
@@ -159,9 +162,9 @@ comment-passed line (b ∷ bs) rest is =
     let parts = and_parts (not (b == 10)) (is_line bs) is in
     rw (not-true (b == 10) parts.0) (comment-passed line bs rest parts.1)
 
-shown-line : (bs : List ℕ) → is_line (map shown_byte bs) ≡ true
-shown-line [] = refl
-shown-line (b ∷ bs) = rw (shown b, shown-line bs) refl
+shown-line : (t : Alphabet) (bs : List ℕ) → is_line (map (shown_char t) bs) ≡ true
+shown-line t [] = refl
+shown-line t (b ∷ bs) = rw (shown (in_ascii t b), shown-line t bs) refl
   where
     shown : (b : ℕ) → not (shown_byte b == 10) ≡ true
     shown b = grind (arith, nat_tests)
@@ -173,9 +176,16 @@ dots-line n = by_size (nat_lt 32 n)
     by_size true = refl
     by_size false = refl
 
-shown-is-line : (bs : List ℕ) → is_line (shown_bytes bs) ≡ true
+title-line : (t : Alphabet) (bs : List ℕ) → is_line bs ≡ true → is_line (title t ++ bs) ≡ true
+title-line alphabet.Ascii bs is = is
+title-line alphabet.High bs is = is
+title-line alphabet.Petscii bs is = is
+
+shown-is-line : (t : Alphabet) (bs : List ℕ) → is_line (shown_bytes t bs) ≡ true
 unfolding shown_bytes
-shown-is-line bs = list_all-append (λ b. not (b == 10)) (map shown_byte (take 32 bs)) (dots_above (length bs)) ∙ and_from _ _ (shown-line (take 32 bs)) (dots-line (length bs))
+shown-is-line t bs =
+    title-line t (map (shown_char t) (take 32 bs) ++ dots_above (length bs))
+    (list_all-append (λ b. not (b == 10)) (map (shown_char t) (take 32 bs)) (dots_above (length bs)) ∙ and_from _ _ (shown-line t (take 32 bs)) (dots-line (length bs)))
 
 -- ---- the line of a range
 
@@ -197,7 +207,7 @@ front-opens o line r rest first_low last_low =
 regroup : (a b c d e : List ℕ) → (((a ++ b) ++ c) ++ d) ++ e ≡ a ++ (b ++ (c ++ (d ++ e)))
 regroup a b c d e = simp append_assoc
 
-range-line : (image : ImageView) (r : RangeSpec) (rest : List ℕ) → range_line image r ++ rest ≡ up-to-type r (type_line r.role (shown_bytes (range_bytes image r) ++ 10 ∷ rest))
+range-line : (image : ImageView) (r : RangeSpec) (rest : List ℕ) → range_line image r ++ rest ≡ up-to-type r (type_line r.role (shown_as r.role (range_bytes image r) ++ 10 ∷ rest))
 unfolding range_line
 range-line image r rest = grind (arith, regroup)
 
@@ -208,8 +218,9 @@ rest-opens o line t all bs rest is opens = rw (comment-passed line bs rest is) a
 range-opens : (o : OptionsView) (image : ImageView) (line : ℕ) (r : RangeSpec) (rest : List ℕ) → IsTable r.role → r.first ≤ 0xFFFF → r.last ≤ 0xFFFF
     → Opens o (range_items (r ∷ [])) (tokens_of line (range_line image r ++ rest)) (tokens_of (line + 1) rest)
 range-opens o image line r rest table first_low last_low =
-    let shown : List ℕ = shown_bytes (range_bytes image r) in
-    let tail = rest-opens o line r.role _ shown rest (shown-is-line (range_bytes image r)) (type-opens o line r.role (shown ++ 10 ∷ rest) table) in
+    let bytes : List ℕ = range_bytes image r in
+    let shown : List ℕ = shown_as r.role bytes in
+    let tail = rest-opens o line r.role _ shown rest (shown-is-line (alphabet_of r.role bytes) bytes) (type-opens o line r.role (shown ++ 10 ∷ rest) table) in
     rw (range-line image r rest) (opens-then o (range_front r) (type_items r.role) _ _ _ (front-opens o line r (type_line r.role (shown ++ 10 ∷ rest)) first_low last_low) tail)
 
 -- ---- the line of a label

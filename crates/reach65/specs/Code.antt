@@ -3,3 +3,4 @@ pub mod Searching
 pub mod Apart
 pub mod Growing
 pub mod Surveying
+pub mod Cutting

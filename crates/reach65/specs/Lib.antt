@@ -15,8 +15,11 @@ pub mod Said
 pub mod Variables
 pub mod Labels
 pub mod Vectors
+pub mod Texts
 pub mod Pieces
 pub mod RangeLines
 pub mod TextLaws
 pub mod Laws
+pub mod WorkedTexts
+pub mod WorkedFinds
 pub mod Code

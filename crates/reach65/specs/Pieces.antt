@@ -1,13 +1,17 @@
 -- What is proposed for the addresses of the image that nothing speaks for.
 --
 -- Words that are addresses are a table of addresses. Filler is a longest stretch of at least 16 equal bytes. A text is a longest stretch of
--- at least five characters, $20 to $7E, up to where filler begins. What lies between these is a table of bytes.
-use Rattle.std.specs.Prelude.{All, ◌≡◌, ◌⊎◌, ℕ, zero, suc, ◌+◌, ◌<◌, ◌≤◌, ◌==◌, ◌&&◌, ◌||◌, not, nat_lt, Bool, true, false, List, [], ◌∷◌}
+-- characters of one alphabet, up to where filler begins: at least five, half of them letters or blanks. What lies between these is a table of
+-- bytes, and so is a text that has a character beside those of ASCII.
+use Rattle.std.specs.Prelude.{All, ◌≡◌, ◌⊎◌, ℕ, zero, suc, ◌+◌, ◌-◌, ◌<◌, ◌≤◌, ◌==◌, ◌&&◌, ◌||◌, not, nat_lt, Bool, true, false, List, [], ◌∷◌, length, take, if◌then◌else◌}
 use Rattle.info65.specs.declared.information.range.RangeSpec.{RangeSpec}
 use Rattle.info65.specs.declared.information.range.RangeType.{RangeType}
 use Rattle.info65.specs.declared.information.range.RangeType.TheVariants as role
-use Rattle.map65.specs.ImageView.{ImageView, byte_at, end_of, is_inside}
+use Rattle.map65.specs.ImageView.{ImageView, byte_at, bytes_from, end_of, is_inside}
 use Rattle.reach65.specs.Reached.{is_marked}
+use Rattle.reach65.specs.Texts.{are_chars, are_enough, is_char, letter_count}
+use Rattle.reach65.specs.declared.texts.Alphabet.{Alphabet}
+use Rattle.reach65.specs.declared.texts.Alphabet.TheVariants as alphabet
 
 -- the image, the addresses that something speaks for, and those of words that are addresses
 pub record Ground : Type 0 where
@@ -44,23 +48,41 @@ is_filler g a = are_same g a a 16
 
 -- ---- texts
 
--- a character stands at a plain address
-unfoldable pub is_char : Ground → ℕ → Bool
-is_char g a = is_plain g a && (nat_lt 0x1F (byte_at g.image a) && nat_lt (byte_at g.image a) 0x7F)
+-- a character of the alphabet stands at a plain address, and no filler begins there
+unfoldable pub is_written : Ground → Alphabet → ℕ → Bool
+is_written g t a = is_plain g a && (is_char t (byte_at g.image a) && not (is_filler g a))
 
--- characters stand at the address and at those after it, five in all
-unfoldable pub is_text : Ground → ℕ → Bool
-is_text g a = is_char g a && (is_char g (a + 1) && (is_char g (a + 2) && (is_char g (a + 3) && is_char g (a + 4))))
+-- the characters from an address on, at most so many, up to where they end
+unfoldable pub chars_from : Ground → Alphabet → ℕ → ℕ → List ℕ
+chars_from g t a zero = []
+chars_from g t a (suc n) = if is_written g t a then byte_at g.image a ∷ chars_from g t (a + 1) n else []
 
--- a character stands at the address, and no filler begins there
-unfoldable pub is_written : Ground → ℕ → Bool
-is_written g a = is_char g a && not (is_filler g a)
+abbrev pub chars_at : Ground → Alphabet → ℕ → List ℕ
+chars_at g t a = chars_from g t a (end_of g.image - a)
+
+abbrev pub len_if_text : Alphabet → List ℕ → ℕ
+len_if_text t chars = if are_enough (length chars) (letter_count t chars) then length chars else 0
+
+-- how many characters the text of the alphabet has that begins at the address, and 0 if none does
+unfoldable pub len_in : Ground → Alphabet → ℕ → ℕ
+len_in g t a = len_if_text t (chars_at g t a)
+
+abbrev pub longer : ℕ → ℕ → ℕ
+longer n m = if nat_lt n m then m else n
+
+-- how many the longest has
+unfoldable pub text_len : Ground → ℕ → ℕ
+text_len g a = longer (longer (longer 0 (len_in g alphabet.Ascii a)) (len_in g alphabet.High a)) (len_in g alphabet.Petscii a)
+
+-- a text begins at the address
+abbrev pub begins_text : Ground → ℕ → Bool
+begins_text g a = nat_lt 0 (text_len g a)
 
 -- ---- pieces
 
 -- a table of bytes ends before the address
 unfoldable pub is_break : Ground → ℕ → Bool
-is_break g a = not (is_plain g a) || (is_filler g a || is_text g a)
+is_break g a = not (is_plain g a) || (is_filler g a || begins_text g a)
 
 -- the first byte from an address on, as often as it stands there
 abbrev pub IsFiller : Ground → ℕ → ℕ → Type 0
@@ -69,11 +91,19 @@ IsFiller g from end = (is_filler g from ≡ true) × ((a : ℕ) → from ≤ a �
 abbrev pub IsBytes : Ground → ℕ → ℕ → Type 0
 IsBytes g from end = ((a : ℕ) → from ≤ a → a < end → is_break g a ≡ false) × (is_break g end ≡ true)
 
+-- the longest text that begins at an address
+abbrev pub IsText : Ground → ℕ → ℕ → Type 0
+IsText g from end = (begins_text g from ≡ true) × (end ≡ from + text_len g from)
+
+-- its characters are all of ASCII
+abbrev pub is_ascii : Ground → ℕ → Bool
+is_ascii g from = are_chars alphabet.Ascii (take (text_len g from) (bytes_from g.image from))
+
 -- What is proposed for a stretch from a free address on: up to before the second address.
 abbrev pub IsPiece : Ground → RangeType → ℕ → ℕ → Type 0
 IsPiece g role.AddrTable from end = ((a : ℕ) → from ≤ a → a < end → is_word g a ≡ true) × (is_word g end ≡ false)
-IsPiece g role.TextTable from end = (is_text g from ≡ true) × ((a : ℕ) → from ≤ a → a < end → is_written g a ≡ true) × (is_written g end ≡ false)
-IsPiece g role.ByteTable from end = IsFiller g from end ⊎ IsBytes g from end
+IsPiece g role.TextTable from end = IsText g from end × (is_ascii g from ≡ true)
+IsPiece g role.ByteTable from end = IsFiller g from end ⊎ (IsBytes g from end ⊎ (IsText g from end × (is_ascii g from ≡ false)))
 IsPiece g r from end = ⊥
 
 -- The ranges are, in order, all that is proposed from an address on: nothing is free before the first, it is a piece, and the others

@@ -4,6 +4,8 @@ ghost use Rattle.map65.specs.MapView.{MapView};
 ghost use Rattle.reach65.specs.Laws.{CodeLaw};
 ghost use Rattle.reach65.specs.TextLaws.{TextLaw};
 ghost use Rattle.reach65.specs.Worked.{WorkedCode};
+ghost use Rattle.reach65.specs.WorkedFinds.{WorkedFinds};
+ghost use Rattle.reach65.specs.WorkedTexts.{WorkedTexts};
 
 /// With the ranges that are proposed besides those that were given, each reached instruction is an item of the map, if no
 /// two of them share a byte and each lies in one run.
@@ -21,4 +23,16 @@ pub fn text_law()
 #[tactic(auto, using(crate::proofs::WorkedRows::worked_code))]
 pub fn worked_code()
     ensures { WorkedCode }
+{}
+
+/// Worked examples: which bytes are a text, and how ranges are shown.
+#[tactic(auto, using(crate::proofs::TextPieceRows::worked_texts))]
+pub fn worked_texts()
+    ensures { WorkedTexts }
+{}
+
+/// Worked examples: which addresses are in halves, and which are variables and vectors.
+#[tactic(auto, using(crate::proofs::FindRows::worked_finds))]
+pub fn worked_finds()
+    ensures { WorkedFinds }
 {}

@@ -17,6 +17,7 @@ mod said;
 mod search;
 mod sound;
 mod survey;
+mod texts;
 mod variables;
 mod vectors;
 
@@ -31,5 +32,6 @@ pub use rows::{Words, mark_tables};
 pub use said::mark_said;
 pub use search::reached;
 pub use survey::Survey;
+pub use texts::Alphabet;
 pub use variables::variables_of;
 pub use vectors::mark_vectors;

@@ -1,15 +1,17 @@
 //! What is proposed for the addresses that nothing speaks for.
 
-ghost use Rattle.std.specs.Prelude.{◌≡◌, ◌+◌, ◌<◌, ◌≤◌, ℕ, IfNone, IfOk, IfSome, IsTrue, false, true, length};
-ghost use Rattle.map65.specs.ImageView.{IsPlaced, byte_at, end_of, is_inside};
-ghost use Rattle.reach65.specs.Pieces.{ArePieces, IsPiece, LieIn, are_same, is_break, is_char, is_filler, is_free, is_plain, is_same, is_text, is_word, is_written};
+ghost use Rattle.std.specs.Prelude.{◌≡◌, ◌≢◌, ◌+◌, ◌<◌, ◌≤◌, ℕ, IfNone, IfOk, IfSome, IsTrue, false, true, get_or, length, replicate, take};
+ghost use Rattle.map65.specs.ImageView.{byte_at, bytes_from, end_of, is_inside};
+ghost use Rattle.reach65.specs.Code.Cutting.{AreLens, IsTail, no_lens};
+ghost use Rattle.reach65.specs.Pieces.{ArePieces, IsPiece, LieIn, are_same, begins_text, chars_at, is_break, is_filler, is_free, is_plain, is_same, is_word, is_written, len_in, longer, text_len};
 ghost use Rattle.reach65.specs.Rows.{free_word};
 ghost use Rattle.reach65.specs.Taken.{is_given};
 
 use crate::entries::word_at;
 use crate::flow::byte_at;
+use crate::texts::{Alphabet, Tail};
 use info65::{RangeSpec, RangeType};
-use map65::{Image, is_inside};
+use map65::{ADDRESSES, Image, is_inside};
 use std::alloc::{AllocError, Allocator, Global};
 use std::marker::Model;
 
@@ -33,6 +35,35 @@ impl<'a, A: Allocator> Model for Ground<'a, A> {
     ghost view = { λ g. record { image = g.image.now; taken = g.taken.now; words = g.words.now } };
 
     ghost invariant = { λ g. (length g.taken.now ≡ 65536) × (length g.words.now ≡ 65536) };
+}
+
+/// This many lengths, all 0.
+fn zero_lens<A: Allocator>(alloc: A, count: usize) -> Result<Vec<usize, A>, AllocError>
+    ensures { IfOk result (λ lens. lens.items ≡ replicate count 0) }
+{
+    vec![in alloc; 0usize; count]
+}
+
+/// A length for each address, all 0.
+#[tactic(auto, unfolding(crate::specs::Code::Cutting::no_lens))]
+fn no_lens<A: Allocator>(alloc: A) -> Result<Vec<usize, A>, AllocError>
+    ensures lens { IfOk result (λ lens. lens.items ≡ no_lens) }
+    ensures count { IfOk result (λ lens. length lens.items ≡ 65536) }
+{
+    zero_lens(alloc, ADDRESSES)
+}
+
+/// Raises the length at the address to this one.
+fn raise_to<A: Allocator>(lens: &mut Vec<usize, A>, address: usize, len: usize)
+    requires count { length lens.old.items ≡ 65536 }
+    requires low { address < 65536 }
+    ensures count { length lens.new.items ≡ 65536 }
+    ensures here { get_or lens.new.items address 0 ≡ longer (get_or lens.old.items address 0) len }
+    ensures others { (a : ℕ) → a ≢ address → get_or lens.new.items a 0 ≡ get_or lens.old.items a 0 }
+{
+    if lens[address] < len {
+        lens[address] = len;
+    }
 }
 
 impl<'a, A: Allocator> Ground<'a, A> {
@@ -133,48 +164,70 @@ impl<'a, A: Allocator> Ground<'a, A> {
         self.are_same(address, address, FILLER)
     }
 
-    /// Whether a character stands at a plain address.
-    #[tactic(auto, unfolding(crate::specs::Pieces::is_char))]
-    fn is_char(&self, address: usize) -> bool
-        ensures value { result ≡ is_char self.now address }
+    /// Whether a character of the alphabet stands at a plain address, and no filler begins there.
+    #[tactic(auto, unfolding(crate::specs::Pieces::is_written))]
+    fn is_written(&self, alphabet: Alphabet, address: usize) -> bool
+        ensures value { result ≡ is_written self.now alphabet address }
         ensures low { IsTrue result → self.now.image.start ≤ address }
-        ensures high { IsTrue result → address < end_of self.now.image }
     {
         if !self.is_plain(address) {
             return false;
         }
-        let byte = byte_at(self.image, address);
-        0x1F < byte && byte < 0x7F
+        alphabet.is_char(byte_at(self.image, address)) && !self.is_filler(address)
     }
 
-    /// Whether a character stands at the address, and no filler begins there.
-    #[tactic(auto, unfolding(crate::specs::Pieces::is_written))]
-    fn is_written(&self, address: usize) -> bool
-        requires { address < 65536 }
-        ensures { result ≡ is_written self.now address }
+    /// The characters from an address on, of those from the next one on.
+    fn tail_at(&self, alphabet: Alphabet, after: Tail, address: usize) -> Tail
+        requires below { address < end_of self.now.image }
+        requires room { end_of self.now.image ≤ 65536 }
+        requires after { IsTail alphabet (chars_at self.now alphabet (address + 1)) after }
+        ensures { IsTail alphabet (chars_at self.now alphabet address) result }
     {
-        self.is_char(address) && !self.is_filler(address)
+        if !self.is_written(alphabet, address) {
+            return Tail::none();
+        }
+        after.with(alphabet, byte_at(self.image, address))
     }
 
-    /// Whether five characters stand from the address on.
-    #[tactic(auto, unfolding(crate::specs::Pieces::is_text))]
-    fn is_text(&self, address: usize) -> bool
-        requires { address < 65536 }
-        ensures { result ≡ is_text self.now address }
+    /// Raises the lengths of texts to those of the alphabet.
+    fn raise<B: Allocator>(&self, lens: &mut Vec<usize, B>, alphabet: Alphabet)
+        requires count { length lens.old.items ≡ 65536 }
+        ensures count { length lens.new.items ≡ 65536 }
+        ensures each { (a : ℕ) → get_or lens.new.items a 0 ≡ longer (get_or lens.old.items a 0) (len_in self.now alphabet a) }
     {
-        self.is_char(address)
-            && (self.is_char(address + 1)
-                && (self.is_char(address + 2)
-                    && (self.is_char(address + 3) && self.is_char(address + 4))))
+        let start = usize::from(self.image.start());
+        let mut at = self.image_end();
+        let mut tail = Tail::none();
+        'back: while start < at {
+            at -= 1;
+            tail = self.tail_at(alphabet, tail, at);
+            raise_to(lens, at, tail.text_len());
+        }
     }
 
-    /// Whether a table of bytes ends before the address.
-    #[tactic(auto, unfolding(crate::specs::Pieces::is_break))]
-    fn is_break(&self, address: usize) -> bool
-        requires { address < 65536 }
-        ensures { result ≡ is_break self.now address }
+    /// How many characters the longest text has that begins at each address.
+    fn text_lens<B: Allocator>(&self, alloc: B) -> Result<Vec<usize, B>, AllocError>
+        ensures { IfOk result (λ lens. AreLens self.now lens.items) }
     {
-        !self.is_plain(address) || (self.is_filler(address) || self.is_text(address))
+        let mut lens = no_lens(alloc)?;
+        self.raise(&mut lens, Alphabet::Ascii);
+        self.raise(&mut lens, Alphabet::High);
+        self.raise(&mut lens, Alphabet::Petscii);
+        Ok(lens)
+    }
+
+    /// So many bytes from an address on.
+    fn bytes(&self, from: usize, count: usize) -> &'a [u8]
+        requires start { self.now.image.start ≤ from }
+        requires inside { from + count ≤ end_of self.now.image }
+        ensures { result.now ≡ take count (bytes_from self.now.image from) }
+    {
+        let (_, bytes) = self
+            .image
+            .bytes()
+            .split_at(from - usize::from(self.image.start()));
+        let (bytes, _) = bytes.split_at(count);
+        bytes
     }
 
     /// The first address after the image.
@@ -241,22 +294,72 @@ impl<'a, A: Allocator> Ground<'a, A> {
         end
     }
 
-    /// Where the text ends that has a character at the address: the first address after it without one, or where filler begins.
-    fn text_end(&self, from: usize) -> usize
-        requires below { from < end_of self.now.image }
-        requires here { is_written self.now from ≡ true }
-        ensures low { from < result }
+    /// Where the filler ends that begins at the address.
+    fn filler_piece(&self, first: usize) -> usize
+        requires start { self.now.image.start ≤ first }
+        requires below { first < end_of self.now.image }
+        requires filler { is_filler self.now first ≡ true }
+        ensures low { first < result }
         ensures high { result ≤ 65536 }
-        ensures inside { (a : ℕ) → from ≤ a → a < result → is_written self.now a ≡ true }
-        ensures after { is_written self.now result ≡ false }
+        ensures piece { IsPiece self.now RangeType.ByteTable first result }
     {
-        let end = self.image_end();
-        'characters: for at in from + 1..end {
-            if !self.is_written(at) {
-                return at;
-            }
-        }
-        end
+        self.filler_end(first)
+    }
+
+    /// Returns what is proposed for the addresses of the image that nothing speaks for: an ADDRTABLE for words that are addresses, a BYTETABLE
+    /// for each stretch of at least 16 equal bytes, a TEXTTABLE for each text of ASCII, a BYTETABLE for each other text, and a BYTETABLE for each
+    /// stretch between these. The ranges ascend. The time grows with the number of addresses. Fails only if an allocation failed.
+    pub fn pieces<B: Allocator + Copy>(&self, alloc: B) -> Result<Vec<RangeSpec, B>, AllocError>
+        ensures pieces { IfOk result (λ found. ArePieces self.now 0 found.items) }
+
+        // They have exactly the addresses that nothing speaks for.
+        ensures cover { IfOk result (λ found. (a : ℕ) → is_given found.items a ≡ is_free self.now a) }
+        ensures inside { IfOk result (λ found. LieIn self.now.image found.items) }
+    {
+        let lens = self.text_lens(alloc)?;
+        let texts = Texts {
+            ground: self,
+            lens: &lens,
+        };
+        texts.pieces(alloc)
+    }
+}
+
+/// A ground, and how many characters the longest text has that begins at each address.
+#[derive(Drop)]
+struct Texts<'a, 'g, A: Allocator = Global> {
+    ground: &'a Ground<'g, A>,
+    lens: &'a [usize],
+}
+
+impl<'a, 'g, A: Allocator> Model for Texts<'a, 'g, A> {
+    ghost use Rattle.reach65.specs.Code.Cutting.{AreLens};
+    ghost use Rattle.reach65.specs.Pieces.{Ground};
+
+    ghost Value = { Ground };
+
+    ghost view = { λ t. t.ground.now };
+
+    ghost invariant = { λ t. AreLens t.ground.now t.lens.now };
+}
+
+impl<'a, 'g, A: Allocator> Texts<'a, 'g, A> {
+    /// How many characters the longest text has that begins at the address.
+    fn text_len(&self, address: usize) -> usize
+        requires { address < 65536 }
+        ensures { result ≡ text_len self.now address }
+    {
+        self.lens[address]
+    }
+
+    /// Whether a table of bytes ends before the address.
+    #[tactic(auto, unfolding(crate::specs::Pieces::is_break))]
+    fn is_break(&self, address: usize) -> bool
+        requires { address < 65536 }
+        ensures { result ≡ is_break self.now address }
+    {
+        !self.ground.is_plain(address)
+            || (self.ground.is_filler(address) || 0 < self.text_len(address))
     }
 
     /// Where the table of bytes ends that has the address: the first address after it that is not plain, or where filler or a text begins.
@@ -268,25 +371,13 @@ impl<'a, A: Allocator> Ground<'a, A> {
         ensures inside { (a : ℕ) → from ≤ a → a < result → is_break self.now a ≡ false }
         ensures after { is_break self.now result ≡ true }
     {
-        let end = self.image_end();
+        let end = self.ground.image_end();
         'bytes: for at in from + 1..end {
             if self.is_break(at) {
                 return at;
             }
         }
         end
-    }
-
-    /// Where the filler ends that begins at the address.
-    fn filler_piece(&self, first: usize) -> usize
-        requires start { self.now.image.start ≤ first }
-        requires below { first < end_of self.now.image }
-        requires filler { is_filler self.now first ≡ true }
-        ensures low { first < result }
-        ensures high { result ≤ 65536 }
-        ensures piece { IsPiece self.now RangeType.ByteTable first result }
-    {
-        self.filler_end(first)
     }
 
     /// Where the table of bytes ends that begins at the address.
@@ -300,6 +391,25 @@ impl<'a, A: Allocator> Ground<'a, A> {
         self.bytes_end(first)
     }
 
+    /// The type of the text that begins at the address, and the address after it.
+    fn text_piece(&self, first: usize) -> (RangeType, usize)
+        requires start { self.now.image.start ≤ first }
+        requires below { first < end_of self.now.image }
+        requires room { end_of self.now.image ≤ 65536 }
+        requires text { begins_text self.now first ≡ true }
+        ensures low { first < result.1 }
+        ensures high { result.1 ≤ 65536 }
+        ensures piece { IsPiece self.now result.0 first result.1 }
+    {
+        let len = self.text_len(first);
+        let end = first + len;
+        if Alphabet::Ascii.are_chars(self.ground.bytes(first, len)) {
+            (RangeType::TextTable, end)
+        } else {
+            (RangeType::ByteTable, end)
+        }
+    }
+
     /// The type of the piece that begins at a free address, and the address after it.
     fn role_and_end(&self, first: usize) -> (RangeType, usize)
         requires start { self.now.image.start ≤ first }
@@ -309,15 +419,16 @@ impl<'a, A: Allocator> Ground<'a, A> {
         ensures high { result.1 ≤ 65536 }
         ensures piece { IsPiece self.now result.0 first result.1 }
     {
-        self.image_end();
-        if self.is_word(first) {
-            return (RangeType::AddrTable, self.words_end(first));
+        let ground = self.ground;
+        ground.image_end();
+        if ground.is_word(first) {
+            return (RangeType::AddrTable, ground.words_end(first));
         }
-        if self.is_filler(first) {
-            return (RangeType::ByteTable, self.filler_piece(first));
+        if ground.is_filler(first) {
+            return (RangeType::ByteTable, ground.filler_piece(first));
         }
-        if self.is_text(first) {
-            return (RangeType::TextTable, self.text_end(first));
+        if 0 < self.text_len(first) {
+            return self.text_piece(first);
         }
         (RangeType::ByteTable, self.bytes_piece(first))
     }
@@ -349,16 +460,14 @@ impl<'a, A: Allocator> Ground<'a, A> {
         ensures piece { IfSome result (λ r. IsPiece self.now r.role r.first (r.last + 1)) }
         ensures none { IfNone result ((a : ℕ) → from ≤ a → is_free self.now a ≡ false) }
     {
-        match self.first_free(from) {
+        match self.ground.first_free(from) {
             Some(first) => Some(self.piece_at(first)),
             None => None,
         }
     }
 
-    /// Returns what is proposed for the addresses of the image that nothing speaks for: an ADDRTABLE for words that are addresses, a BYTETABLE
-    /// for each stretch of at least 16 equal bytes, a TEXTTABLE for each stretch of at least five characters, and a BYTETABLE for each stretch
-    /// between these. The ranges ascend. Fails only if an allocation failed.
-    pub fn pieces<B: Allocator>(&self, alloc: B) -> Result<Vec<RangeSpec, B>, AllocError>
+    /// The pieces, in order.
+    fn pieces<B: Allocator>(&self, alloc: B) -> Result<Vec<RangeSpec, B>, AllocError>
         ensures pieces { IfOk result (λ found. ArePieces self.now 0 found.items) }
 
         // They have exactly the addresses that nothing speaks for.

@@ -1,28 +1,36 @@
 //! The lines of the ranges that are proposed.
 
-ghost use Rattle.std.specs.Prelude.{◌≡◌, ◌++◌, OnOk, codes, map};
+ghost use Rattle.std.specs.Prelude.{◌≡◌, ◌<◌, ◌++◌, OnOk, codes, length, map};
 ghost use Rattle.reach65.specs.Pieces.{LieIn, LiesIn};
-ghost use Rattle.reach65.specs.RangeLines.{dots_above, range_bytes, range_line, range_lines, shown_byte, shown_bytes, type_text};
+ghost use Rattle.reach65.specs.RangeLines.{alphabet_of, dots_above, range_bytes, range_line, range_lines, shown_as, shown_byte, shown_bytes, shown_char, title, type_text};
 
 use crate::digits::put_address;
 use crate::part::{at_most, part};
 use info65::{RangeSpec, RangeType};
 use map65::Image;
+use reach65::Alphabet;
 use std::alloc::AllocError;
 
 /// How many bytes of a range are shown.
 const SHOWN: usize = 32;
 
-/// Appends bytes as characters, with a dot for each that is none.
-fn put_characters(out: &mut Vec<u8>, bytes: &[u8]) -> Result<(), AllocError>
-    ensures { OnOk result (out.new.items ≡ out.old.items ++ map shown_byte bytes.now) }
+/// A byte as it is shown: a dot stands for what is no character of ASCII.
+fn shown_byte(byte: u8) -> u8
+    ensures { result ≡ shown_byte byte }
 {
-    'characters: for byte in bytes {
-        out.push(if 0x1F < *byte && *byte < 0x7F {
-            *byte
-        } else {
-            b'.'
-        })?;
+    if 0x1F < byte && byte < 0x7F {
+        byte
+    } else {
+        b'.'
+    }
+}
+
+/// Appends bytes as characters of an alphabet.
+fn put_characters(out: &mut Vec<u8>, alphabet: Alphabet, bytes: &[u8]) -> Result<(), AllocError>
+    ensures { OnOk result (out.new.items ≡ out.old.items ++ map (shown_char alphabet) bytes.now) }
+{
+    'characters: for &byte in bytes {
+        out.push(shown_byte(alphabet.in_ascii(byte)))?;
     }
     Ok(())
 }
@@ -37,19 +45,58 @@ fn put_dots(out: &mut Vec<u8>, len: usize) -> Result<(), AllocError>
     Ok(())
 }
 
-/// Appends the first bytes of a range as characters.
-#[tactic(auto, unfolding(reach65::specs::RangeLines::shown_bytes))]
-fn put_shown(out: &mut Vec<u8>, bytes: &[u8]) -> Result<(), AllocError>
-    ensures { OnOk result (out.new.items ≡ out.old.items ++ shown_bytes bytes.now) }
+/// What is said of the alphabet of a text.
+fn title(alphabet: Alphabet) -> &'static str
+    ensures { result.now ≡ title alphabet }
 {
-    put_characters(out, at_most(bytes, SHOWN))?;
+    match alphabet {
+        Alphabet::Ascii => "",
+        Alphabet::High => "text with the high bit: ",
+        Alphabet::Petscii => "text in PETSCII: ",
+    }
+}
+
+/// Appends the first bytes of a range as characters of an alphabet.
+#[tactic(auto, unfolding(reach65::specs::RangeLines::shown_bytes))]
+fn put_shown(out: &mut Vec<u8>, alphabet: Alphabet, bytes: &[u8]) -> Result<(), AllocError>
+    ensures { OnOk result (out.new.items ≡ out.old.items ++ shown_bytes alphabet bytes.now) }
+{
+    out.extend_from_slice(title(alphabet).as_bytes())?;
+    put_characters(out, alphabet, at_most(bytes, SHOWN))?;
     put_dots(out, bytes.len())
+}
+
+/// What the bytes of a range of this type are shown in.
+#[tactic(auto, unfolding(reach65::specs::RangeLines::alphabet_of))]
+fn alphabet_of(role: RangeType, bytes: &[u8]) -> Alphabet
+    requires { length bytes.now < 65537 }
+    ensures { result ≡ alphabet_of role bytes.now }
+{
+    if role != RangeType::ByteTable {
+        return Alphabet::Ascii;
+    }
+    if Alphabet::High.is_text(bytes) {
+        Alphabet::High
+    } else if Alphabet::Petscii.is_text(bytes) {
+        Alphabet::Petscii
+    } else {
+        Alphabet::Ascii
+    }
+}
+
+/// Appends the first bytes of a range of this type as characters.
+fn put_shown_as(out: &mut Vec<u8>, role: RangeType, bytes: &[u8]) -> Result<(), AllocError>
+    requires { length bytes.now < 65537 }
+    ensures { OnOk result (out.new.items ≡ out.old.items ++ shown_as role bytes.now) }
+{
+    put_shown(out, alphabet_of(role, bytes), bytes)
 }
 
 /// The bytes of a range.
 fn range_bytes(image: &Image, range: RangeSpec) -> &[u8]
     requires { LiesIn image.now range }
-    ensures { result.now ≡ range_bytes image.now range }
+    ensures bytes { result.now ≡ range_bytes image.now range }
+    ensures few { length result.now < 65537 }
 {
     let from = range.first - image.start();
     let len = usize::from(range.last) + 1 - usize::from(range.first);
@@ -85,7 +132,7 @@ fn put_range(out: &mut Vec<u8>, image: &Image, range: RangeSpec) -> Result<(), A
     put_address(out, b"RANGE { START $", range.first)?;
     put_address(out, b"; END $", range.last)?;
     put_type(out, range.role)?;
-    put_shown(out, range_bytes(image, range))?;
+    put_shown_as(out, range.role, range_bytes(image, range))?;
     out.extend_from_slice(b"\n")
 }
 

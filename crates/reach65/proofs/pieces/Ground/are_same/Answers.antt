@@ -1,4 +1,4 @@
-use Rattle.std.proofs.Common.{◌∙◌, arith, sym}
+use Rattle.std.proofs.Common.{arith}
 use Rattle.reach65.proofs.PieceLemmas.{same-all, same-on, same-stops}
 use Rattle.reach65.proofs.pieces.Ground.are_same.Goals as goal
 

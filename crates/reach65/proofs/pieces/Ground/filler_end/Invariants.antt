@@ -1,4 +1,4 @@
-use Rattle.std.proofs.Common.{◌≡◌, ◌<◌, ◌≤◌, ℕ, true, false}
+use Rattle.std.proofs.Common.{◌≡◌, ◌<◌, ◌≤◌, ℕ, true}
 use Rattle.reach65.specs.Pieces.{is_same}
 use Rattle.reach65.proofs.pieces.Ground.filler_end.Given as goal
 

@@ -1,4 +1,4 @@
-use Rattle.std.proofs.Common.{◌≡◌, ◌<◌, ◌≤◌, ℕ, true, false}
+use Rattle.std.proofs.Common.{◌≡◌, ◌<◌, ◌≤◌, ℕ, true}
 use Rattle.reach65.specs.Pieces.{is_word}
 use Rattle.reach65.proofs.pieces.Ground.words_end.Given as goal
 

@@ -1,7 +1,7 @@
 use Rattle.std.proofs.Common.{◌-◌, ◌≤◌, ◌++◌, List}
 use Rattle.info65.specs.declared.information.range.RangeSpec.{RangeSpec}
 use Rattle.reach65.specs.Pieces.{ArePieces}
-use Rattle.reach65.proofs.pieces.Ground.pieces.Given as goal
+use Rattle.reach65.proofs.pieces.Texts.pieces.Given as goal
 
 abbrev pub invariant-pieces : goal.invariant-pieces
 invariant-pieces g l = record {

@@ -1,6 +1,6 @@
 use Rattle.std.proofs.Common.{◌+◌, ap, arith}
 use Rattle.reach65.proofs.PieceLemmas.{pieces-cover, pieces-end, pieces-lie, pieces-pushed}
-use Rattle.reach65.proofs.pieces.Ground.pieces.Goals as goal
+use Rattle.reach65.proofs.pieces.Texts.pieces.Goals as goal
 
 pub pieces-preserved : goal.pieces-preserved
 pieces-preserved g c = record {
