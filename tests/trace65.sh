@@ -434,6 +434,22 @@ halves 'bytes beside them' '1003,1005: 1008;' -S 0x1000 -i known.info three.bin
 image known.info '#: AFTER { START $1006; END $2000; };\n'
 after 'what lies after the image is known' '' -S 0x1000 -i known.info modes.bin
 labels 'and labels are proposed' '1010 L1010;1012 L1012;' -S 0x1000 -i known.info modes.bin
+# jsr $1007; "HI", 0; rts; rts
+image print.bin '\x20\x07\x10HI\x00\x60\x60'
+image inline.info '#: INLINE { ADDR $1007; };\n'
+proposes 'a text behind a call' '1003-1005 TextTable;' -S 0x1000 -i inline.info print.bin
+comes_back 'it comes back' 0x1000 print.bin -i inline.info
+image inline.info '#: INLINE { ADDR $1007; SIZE 2; };\n#: INLINE { ADDR $1007; };\n'
+# brk behind the two bytes
+proposes 'of two bytes, of the first of two groups' '1003-1004 ByteTable;1006-1006 ByteTable;' -S 0x1000 -i inline.info print.bin
+image inline.info '#: INLINE { ADDR $1006; };\n'
+proposes 'a group of another address' '' -S 0x1000 -i inline.info --plain print.bin
+# jsr $FF7D; "HI THERE", CR, 0; jmp $1000; jsr $FF7D; "NO END"
+image outside.bin '\x20\x7d\xffHI THERE\x0d\x00\x4c\x00\x10\x20\x7d\xffNO END'
+image inline.info '#: INLINE { ADDR $FF7D; };\n'
+proposes 'a routine outside the image, and a text without a zero byte' '1003-100C TextTable;1013-1018 TextTable;' -S 0x1000 -i inline.info --entry 0x1010 outside.bin
+comes_back 'they come back' 0x1000 outside.bin -i inline.info --entry 0x1010
+proposes 'texts are no code' '1003-100C TextTable;1010-1012 ByteTable;1013-1018 TextTable;' -S 0x1000 -i inline.info outside.bin
 image bad.info '\n#: EXIT { };\n'
 runs 'an unknown group' 1 '' 'trace65: info:2: unknown group\n' -i bad.info three.bin
 image bad.info '#: ENTRY { ADDR $10000; };\n'

@@ -23,7 +23,7 @@ use Rattle.map65.specs.Spans.{addresses}
 use Rattle.reach65.proofs.PieceLemmas.{pieces-cover}
 use Rattle.reach65.specs.Flow.{if_whole, instruction_at, op_in}
 use Rattle.reach65.specs.Laws.{AreWhole, CodeLaw, IsOfCode, IsReachedBefore, IsWith, with_info}
-use Rattle.reach65.specs.Pieces.{ArePieces, Ground, IsPiece, is_free}
+use Rattle.reach65.specs.Pieces.{ArePieces, Ground, IsPiece, IsStretch, is_free}
 use Rattle.reach65.specs.Reached.{any_marked, is_marked}
 use Rattle.reach65.specs.Taken.{AreMarkedBy, has_byte, is_code, is_given, is_taken, is_within}
 
@@ -53,11 +53,15 @@ piece-other : (g : Ground) (r : RangeType) (from end : ℕ) → IsPiece g r from
 piece-other g role.Code from end piece is = piece
 piece-other g _ from end piece is = cc
 
+stretch-other : (g : Ground) (r : RangeType) (from end : ℕ) → IsStretch g r from end → r ≡ role.Code → ⊥
+stretch-other g r from end (inl known) is = let other : role.TextTable ≡ role.Code = sym known.1 ∙ is in cc
+stretch-other g r from end (inr piece) is = piece-other g r from end piece.1 is
+
 pieces-other : (g : Ground) (from a : ℕ) (rs : List RangeSpec) → ArePieces g from rs → is_given rs a ≡ true → role_in rs a ≡ role.Code → ⊥
 unfolding ArePieces is_given role_in
 pieces-other g from a [] are given is = cc
 pieces-other g from a (r ∷ rs) are given is =
-    by_first (has_address r a) (is_given rs a) (role_in rs a) given is (piece-other g r.role r.first (r.last + 1) are.3) (pieces-other g (r.last + 1) a rs are.4)
+    by_first (has_address r a) (is_given rs a) (role_in rs a) given is (stretch-other g r.role r.first (r.last + 1) are.3) (pieces-other g (r.last + 1) a rs are.4)
   where
     by_first : (x y : Bool) (q : RangeType) → (x || y) ≡ true → cond x r.role q ≡ role.Code → (r.role ≡ role.Code → ⊥) → (y ≡ true → q ≡ role.Code → ⊥) → ⊥
     by_first true y q given is first rest = first is
@@ -135,9 +139,9 @@ joined-code m a run code = joined-if m a run (ap (λ r. is_wide r && is_own m.in
 
 -- ---- with the ranges that are proposed
 
-module _ (m : MapView) (marks taken words : List Bool) (pieces : List RangeSpec) (info : InfoView) (placed : IsPlaced m.image) (spoken : AreMarkedBy (is_taken m marks) taken) (are : ArePieces (record { image = m.image; taken = taken; words = words }) 0 pieces) (new : IsWith m.info info pieces) (whole : AreWhole m marks) where
+module _ (m : MapView) (marks taken words texts : List Bool) (pieces : List RangeSpec) (info : InfoView) (placed : IsPlaced m.image) (spoken : AreMarkedBy (is_taken m marks) taken) (are : ArePieces (record { image = m.image; taken = taken; words = words; texts = texts }) 0 pieces) (new : IsWith m.info info pieces) (whole : AreWhole m marks) where
   abbrev ground : Ground
-  ground = record { image = m.image; taken = taken; words = words }
+  ground = record { image = m.image; taken = taken; words = words; texts = texts }
 
   abbrev all : MapView
   all = with_info m info
@@ -252,6 +256,6 @@ module _ (m : MapView) (marks taken words : List Bool) (pieces : List RangeSpec)
       })
 
 pub code_law : (m : MapView) → CodeLaw m
-code_law m entries marks taken words pieces info placed reached spoken are new whole = record {
-  each = λ a op marked is before. items-below m marks taken words pieces info placed spoken are new whole (suc a) a op (omega arith) marked is before;
+code_law m tags entries marks taken words texts pieces info placed reached spoken are new whole = record {
+  each = λ a op marked is before. items-below m marks taken words texts pieces info placed spoken are new whole (suc a) a op (omega arith) marked is before;
 }

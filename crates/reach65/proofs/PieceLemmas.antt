@@ -1,13 +1,13 @@
 -- One piece after the other.
-use Rattle.std.proofs.Common.{All, zero, suc, ◌≡◌, ◌+◌, ◌-◌, ◌<◌, ◌≤◌, ◌∙◌, ◌==◌, ◌&&◌, ◌||◌, not, nat_le, ℕ, true, false, List, [], ◌∷◌, ◌++◌, append_assoc, ap, arith, inl, inr, refl, sym}
-use Rattle.std.proofs.lemmas.Bool.{and_left, and_parts, and_right, cases_lt, le-leb, lt-leb, le-ltb, not-false, not_from_false, or_left, or_parts}
+use Rattle.std.proofs.Common.{All, zero, suc, ◌≡◌, ◌+◌, ◌-◌, ◌<◌, ◌≤◌, ◌∙◌, ◌==◌, ◌&&◌, ◌||◌, not, nat_le, ℕ, true, false, List, [], ◌∷◌, ◌++◌, append_assoc, ap, arith, inl, inr, refl, subst, sym}
+use Rattle.std.proofs.lemmas.Bool.{and_left, and_parts, and_right, cases_lt, cond_both, le-leb, lt-leb, le-ltb, not-false, not_from_false, or_left, or_parts}
 use Rattle.std.proofs.lemmas.List.{append-nil}
 use Rattle.info65.specs.Ranges.{has_address}
 use Rattle.info65.specs.declared.information.range.RangeSpec.{RangeSpec}
 use Rattle.info65.specs.declared.information.range.RangeType.{RangeType}
 use Rattle.info65.specs.declared.information.range.RangeType.TheVariants as role
 use Rattle.map65.specs.ImageView.{byte_at, end_of}
-use Rattle.reach65.specs.Pieces.{ArePieces, Ground, IsPiece, LiesIn, are_same, begins_text, is_break, is_filler, is_free, is_plain, is_same, is_word}
+use Rattle.reach65.specs.Pieces.{ArePieces, Ground, IsKnown, IsPiece, IsStretch, LiesIn, are_same, begins_text, is_break, is_filler, is_free, is_open, is_plain, is_same, is_word, past_zero}
 use Rattle.reach65.proofs.LenLemmas.{plain-free, text-free}
 use Rattle.reach65.specs.Reached.{is_marked}
 use Rattle.reach65.specs.Taken.{is_given}
@@ -85,7 +85,7 @@ unfolding is_break is_plain is_word
 plain-unbroken g a free word filler text = grind (arith, free, word, filler, text)
 
 -- each address of a piece is free
-pub piece-free : (g : Ground) (r : RangeType) (from end a : ℕ) → IsPiece g r from end → from ≤ a → a < end → is_free g a ≡ true
+piece-free : (g : Ground) (r : RangeType) (from end a : ℕ) → IsPiece g r from end → from ≤ a → a < end → is_free g a ≡ true
 piece-free g role.AddrTable from end a piece low high = word-free g a (piece.0 a low high)
 piece-free g role.TextTable from end a piece low high = text-free g from end a piece.0 low high
 piece-free g role.ByteTable from end a (inl piece) low high = same-free g from a (piece.1 a low high)
@@ -93,12 +93,32 @@ piece-free g role.ByteTable from end a (inr (inl piece)) low high = break-free g
 piece-free g role.ByteTable from end a (inr (inr piece)) low high = text-free g from end a piece.0 low high
 piece-free g _ from end a piece low high = absurd piece
 
+-- each address of a text that is known is free
+known-free : (g : Ground) (from end a : ℕ) → IsKnown g from end → from ≤ a → a < end → is_free g a ≡ true
+unfolding is_open past_zero
+known-free g from end a known low high =
+    elim (cases_lt a known.last) as (λ _. is_free g a ≡ true) [
+      | inl before ↦ (and_parts (is_free g a) (not (byte_at g.image a == 0)) (known.before a low before)).0
+      | inr here ↦ cond_both (is_free g known.last) (known.last + 1) known.last (λ e. e ≡ end → is_free g a ≡ true)
+          (λ free ends. subst (λ x. is_free g x ≡ true) (omega (arith, here, high, ends)) free)
+          (λ _ ends. absurd (omega (arith, here, high, ends))) known.ends
+    ]
+
+pub stretch-free : (g : Ground) (r : RangeType) (from end a : ℕ) → IsStretch g r from end → from ≤ a → a < end → is_free g a ≡ true
+stretch-free g r from end a (inl known) low high = known-free g from end a known.2 low high
+stretch-free g r from end a (inr piece) low high = piece-free g r from end a piece.1 low high
+
+-- what lies past the image is not open
+pub past-open : (g : Ground) (a : ℕ) → end_of g.image ≤ a → is_open g a ≡ false
+unfolding is_open
+past-open g a past = and_left _ _ (past-free g a past)
+
 -- ---- pieces in order
 
 -- those that were found and the next one
 pub pieces-pushed : (g : Ground) (from next : ℕ) (r : RangeSpec) (found all : List RangeSpec)
     → ((later : List RangeSpec) → ArePieces g from later → ArePieces g 0 (found ++ later)) → all ≡ found ++ r ∷ [] → next ≡ r.last + 1
-    → from ≤ r.first → ((a : ℕ) → from ≤ a → a < r.first → is_free g a ≡ false) → r.first ≤ r.last → IsPiece g r.role r.first (r.last + 1)
+    → from ≤ r.first → ((a : ℕ) → from ≤ a → a < r.first → is_free g a ≡ false) → r.first ≤ r.last → IsStretch g r.role r.first (r.last + 1)
     → (later : List RangeSpec) → ArePieces g next later → ArePieces g 0 (all ++ later)
 unfolding ArePieces
 pieces-pushed g from next r found all old is place low before ordered piece later rest = grind (arith, append_assoc)
@@ -136,7 +156,7 @@ covers-from g from a (r ∷ rs) low are =
       | inl before ↦ rw (below-range r a before) (no-pieces g (r.last + 1) a rs (omega (arith, before, are.2)) are.4 ∙ sym (are.1 a low before))
       | inr from_first ↦ elim (cases_lt r.last a) as (λ _. is_given (r ∷ rs) a ≡ is_free g a) [
         | inl after ↦ rw (above-range r a after) (covers-from g (r.last + 1) a rs (omega (arith, after)) are.4)
-        | inr inside ↦ rw (in-range r a from_first inside) (sym (piece-free g r.role r.first (r.last + 1) a are.3 from_first (omega (arith, inside))))
+        | inr inside ↦ rw (in-range r a from_first inside) (sym (stretch-free g r.role r.first (r.last + 1) a are.3 from_first (omega (arith, inside))))
       ]
     ]
 
@@ -153,11 +173,11 @@ free-within : (g : Ground) (a : ℕ) → is_free g a ≡ true → (g.image.start
 unfolding is_free
 free-within g a free = grind arith
 
-pub piece-lies : (g : Ground) (r : RangeSpec) → r.first ≤ r.last → IsPiece g r.role r.first (r.last + 1) → LiesIn g.image r
+pub piece-lies : (g : Ground) (r : RangeSpec) → r.first ≤ r.last → IsStretch g r.role r.first (r.last + 1) → LiesIn g.image r
 piece-lies g r order piece = record {
-  low = (free-within g r.first (piece-free g r.role r.first (r.last + 1) r.first piece (omega arith) (omega arith))).0;
+  low = (free-within g r.first (stretch-free g r.role r.first (r.last + 1) r.first piece (omega arith) (omega arith))).0;
   order = order;
-  high = (free-within g r.last (piece-free g r.role r.first (r.last + 1) r.last piece order (omega arith))).1;
+  high = (free-within g r.last (stretch-free g r.role r.first (r.last + 1) r.last piece order (omega arith))).1;
 }
 
 pub pieces-lie : (g : Ground) (from : ℕ) (ranges : List RangeSpec) → ArePieces g from ranges → All (LiesIn g.image) ranges

@@ -1,15 +1,14 @@
 -- One step of a search after the other.
-use Rattle.std.proofs.Common.{◌≡◌, ◌≢◌, ◌⊎◌, ◌+◌, ◌<◌, ◌≤◌, ◌∙◌, ℕ, Bool, true, false, not, List, [], ◌∷◌, ◌++◌, length, get_or, set, Option, Some, None, ap, arith, sym, subst, inl, inr, cond, length-append}
+use Rattle.std.proofs.Common.{◌≡◌, ◌≢◌, ◌⊎◌, ◌+◌, ◌<◌, ◌∙◌, ℕ, Bool, true, false, not, List, [], ◌∷◌, ◌++◌, length, get_or, set, Option, Some, None, ap, arith, sym, subst, inl, inr, cond, length-append}
 use Rattle.std.specs.List.{Contains, count_by, sum_by}
 use Rattle.std.proofs.lemmas.Bool.{both_ways, cond_both}
-use Rattle.std.proofs.lemmas.List.{get_or-set_same, get_or-set_other, get_or_default}
+use Rattle.std.proofs.lemmas.List.{get_or-set_same, get_or-set_other}
 use Rattle.std.proofs.Math.ListN.{length-set}
-use Rattle.std.proofs.lemmas.List.Elements.{Contains-append_left, Contains-get_or, Contains-push, Contains-push_cases}
+use Rattle.std.proofs.lemmas.List.Elements.{Contains-append_left, Contains-push, Contains-push_cases}
 use Rattle.std.proofs.lemmas.List.Sums.{sum_by-set}
 use Rattle.map65.specs.ImageView.{IsPlaced, is_inside}
-use Rattle.map65.specs.MapView.{MapView}
 use Rattle.reach65.specs.Code.Searching.{HasEntries, HasNext, IsAtEnd, IsBegun, IsDone, IsFollowed, IsSearch, Nothing, State, put, put_entry, put_inside, put_some}
-use Rattle.reach65.specs.Flow.{goal_at, next_at}
+use Rattle.reach65.specs.Flow.{FlowView, goal_at, next_at}
 use Rattle.map65.proofs.Public.{within}
 use Rattle.reach65.proofs.FlowLemmas.{leads-below}
 use Rattle.reach65.proofs.TakenLemmas.{blank-false}
@@ -67,22 +66,22 @@ no_address = []
 pub contains-nil : (a : ℕ) → Contains no_address a → ⊥
 contains-nil a has = omega (arith, has.1)
 
-pub search-new : (m : MapView) (entries : List ℕ) (s : State) → length s.marks ≡ 65536 → s.marks ≡ no_marks → s.todo ≡ [] → IsSearch m entries Nothing s
-search-new m entries s count marks todo = grind (arith, blank-unmarked)
+pub search-new : (f : FlowView) (entries : List ℕ) (s : State) → length s.marks ≡ 65536 → s.marks ≡ no_marks → s.todo ≡ [] → IsSearch f entries Nothing s
+search-new f entries s count marks todo = grind (arith, blank-unmarked)
 
-pub search-put : (m : MapView) (entries : List ℕ) (Now : ℕ → Type 0) (s : State) (a : ℕ) → a < 65536 → Reached m entries a → IsSearch m entries Now s → IsSearch m entries Now (put s a)
-search-put m entries Now s a small is old =
+pub search-put : (f : FlowView) (entries : List ℕ) (Now : ℕ → Type 0) (s : State) (a : ℕ) → a < 65536 → Reached f entries a → IsSearch f entries Now s → IsSearch f entries Now (put s a)
+search-put f entries Now s a small is old =
     let room : a < length s.marks = omega (arith, small, old.count) in
-    by_put s a (IsSearch m entries Now) (λ _. old)
+    by_put s a (IsSearch f entries Now) (λ _. old)
     (λ free. record {
       count = length-set s.marks a true ∙ old.count;
-      reached = λ b. marks_set s.marks a b (λ v. v ≡ true → Reached m entries b) room (λ here _. subst (Reached m entries) (sym here) is) (λ there. old.reached b);
-      todo = λ b has. elim (Contains-push_cases s.todo a b has) as (λ _. Reached m entries b) [ inl before ↦ old.todo b before | inr now ↦ subst (Reached m entries) now is ];
-      followed = λ b. marks_set s.marks a b (λ v. v ≡ true → Contains (s.todo ++ a ∷ []) b ⊎ (Now b ⊎ IsFollowed m (set s.marks a true) b)) room
+      reached = λ b. marks_set s.marks a b (λ v. v ≡ true → Reached f entries b) room (λ here _. subst (Reached f entries) (sym here) is) (λ there. old.reached b);
+      todo = λ b has. elim (Contains-push_cases s.todo a b has) as (λ _. Reached f entries b) [ inl before ↦ old.todo b before | inr now ↦ subst (Reached f entries) now is ];
+      followed = λ b. marks_set s.marks a b (λ v. v ≡ true → Contains (s.todo ++ a ∷ []) b ⊎ (Now b ⊎ IsFollowed f (set s.marks a true) b)) room
           (λ here _. inl (subst (Contains (s.todo ++ a ∷ [])) (sym here) (Contains-push s.todo a)))
-          (λ there marked. elim (old.followed b marked) as (λ _. Contains (s.todo ++ a ∷ []) b ⊎ (Now b ⊎ IsFollowed m (set s.marks a true) b)) [
+          (λ there marked. elim (old.followed b marked) as (λ _. Contains (s.todo ++ a ∷ []) b ⊎ (Now b ⊎ IsFollowed f (set s.marks a true) b)) [
             | inl before ↦ inl (Contains-append_left s.todo (a ∷ []) b before)
-            | inr rest ↦ elim rest as (λ _. Contains (s.todo ++ a ∷ []) b ⊎ (Now b ⊎ IsFollowed m (set s.marks a true) b)) [
+            | inr rest ↦ elim rest as (λ _. Contains (s.todo ++ a ∷ []) b ⊎ (Now b ⊎ IsFollowed f (set s.marks a true) b)) [
               | inl now ↦ inr (inl now)
               | inr done ↦ inr (inr (record { each = λ c leads. marks_set s.marks a c (λ v. v ≡ true) room (λ here i. true) (λ _. done.each c leads) }))
             ]
@@ -90,39 +89,39 @@ search-put m entries Now s a small is old =
     })
 
 -- an address that was taken from the list is about to be followed
-pub search-next : (m : MapView) (entries : List ℕ) (old new : State) (a : ℕ) → new.marks ≡ old.marks → old.todo ≡ new.todo ++ a ∷ []
-    → IsSearch m entries Nothing old → IsSearch m entries (λ b. b ≡ a) new
-search-next m entries old new a marks todo was = record {
+pub search-next : (f : FlowView) (entries : List ℕ) (old new : State) (a : ℕ) → new.marks ≡ old.marks → old.todo ≡ new.todo ++ a ∷ []
+    → IsSearch f entries Nothing old → IsSearch f entries (λ b. b ≡ a) new
+search-next f entries old new a marks todo was = record {
   count = ap length marks ∙ was.count;
   reached = λ b is. was.reached b (sym (ap (λ l. is_marked l b) marks) ∙ is);
   todo = λ b has. was.todo b (subst (λ l. Contains l b) (sym todo) (Contains-append_left new.todo (a ∷ []) b has));
-  followed = λ b is. elim (was.followed b (sym (ap (λ l. is_marked l b) marks) ∙ is)) as (λ _. Contains new.todo b ⊎ ((b ≡ a) ⊎ IsFollowed m new.marks b)) [
-    | inl before ↦ elim (Contains-push_cases new.todo a b (subst (λ l. Contains l b) todo before)) as (λ _. Contains new.todo b ⊎ ((b ≡ a) ⊎ IsFollowed m new.marks b)) [
+  followed = λ b is. elim (was.followed b (sym (ap (λ l. is_marked l b) marks) ∙ is)) as (λ _. Contains new.todo b ⊎ ((b ≡ a) ⊎ IsFollowed f new.marks b)) [
+    | inl before ↦ elim (Contains-push_cases new.todo a b (subst (λ l. Contains l b) todo before)) as (λ _. Contains new.todo b ⊎ ((b ≡ a) ⊎ IsFollowed f new.marks b)) [
       | inl there ↦ inl there
       | inr here ↦ inr (inl (sym here))
     ]
-    | inr rest ↦ elim rest as (λ _. Contains new.todo b ⊎ ((b ≡ a) ⊎ IsFollowed m new.marks b)) [
+    | inr rest ↦ elim rest as (λ _. Contains new.todo b ⊎ ((b ≡ a) ⊎ IsFollowed f new.marks b)) [
       | inl never ↦ absurd never
-      | inr done ↦ inr (inr (subst (λ l. IsFollowed m l b) (sym marks) done))
+      | inr done ↦ inr (inr (subst (λ l. IsFollowed f l b) (sym marks) done))
     ]
   ];
 }
 
 -- the one that was taken is reached
-pub next-reached : (m : MapView) (entries : List ℕ) (old new : State) (a : ℕ) → old.todo ≡ new.todo ++ a ∷ [] → IsSearch m entries Nothing old → Reached m entries a
-next-reached m entries old new a todo was = was.todo a (subst (λ l. Contains l a) (sym todo) (Contains-push new.todo a))
+pub next-reached : (f : FlowView) (entries : List ℕ) (old new : State) (a : ℕ) → old.todo ≡ new.todo ++ a ∷ [] → IsSearch f entries Nothing old → Reached f entries a
+next-reached f entries old new a todo was = was.todo a (subst (λ l. Contains l a) (sym todo) (Contains-push new.todo a))
 
 -- it was followed
-pub search-followed : (m : MapView) (entries : List ℕ) (a : ℕ) (s : State) → IsFollowed m s.marks a → IsSearch m entries (λ b. b ≡ a) s → IsSearch m entries Nothing s
-search-followed m entries a s done was = grind arith
+pub search-followed : (f : FlowView) (entries : List ℕ) (a : ℕ) (s : State) → IsFollowed f s.marks a → IsSearch f entries (λ b. b ≡ a) s → IsSearch f entries Nothing s
+search-followed f entries a s done was = grind arith
 
 -- ---- the end
 
-pub reached-marked : (m : MapView) (entries : List ℕ) (s : State) → s.todo ≡ [] → IsSearch m entries Nothing s → HasEntries m entries s.marks
-    → (a : ℕ) → Reached m entries a → is_marked s.marks a ≡ true
-reached-marked m entries s todo was all _ (entry a has inside) = all.each a has inside
-reached-marked m entries s todo was all _ (led b a from leads) =
-    elim (was.followed b (reached-marked m entries s todo was all b from)) as (λ _. is_marked s.marks a ≡ true) [
+pub reached-marked : (f : FlowView) (entries : List ℕ) (s : State) → s.todo ≡ [] → IsSearch f entries Nothing s → HasEntries f entries s.marks
+    → (a : ℕ) → Reached f entries a → is_marked s.marks a ≡ true
+reached-marked f entries s todo was all _ (entry a has inside) = all.each a has inside
+reached-marked f entries s todo was all _ (led b a from leads) =
+    elim (was.followed b (reached-marked f entries s todo was all b from)) as (λ _. is_marked s.marks a ≡ true) [
       | inl before ↦ absurd (contains-nil b (subst (λ l. Contains l b) todo before))
       | inr rest ↦ elim rest as (λ _. is_marked s.marks a ≡ true) [
         | inl never ↦ absurd never
@@ -130,8 +129,8 @@ reached-marked m entries s todo was all _ (led b a from leads) =
       ]
     ]
 
-pub search-end : (m : MapView) (entries : List ℕ) (s : State) → s.todo ≡ [] → IsSearch m entries Nothing s → HasEntries m entries s.marks → AreReached m entries s.marks
-search-end m entries s todo was all = grind (arith, reached-marked)
+pub search-end : (f : FlowView) (entries : List ℕ) (s : State) → s.todo ≡ [] → IsSearch f entries Nothing s → HasEntries f entries s.marks → AreReached f entries s.marks
+search-end f entries s todo was all = grind (arith, reached-marked)
 
 -- ---- one instruction
 
@@ -139,10 +138,10 @@ search-end m entries s todo was all = grind (arith, reached-marked)
 abbrev IsLow : State → Option ℕ → Type 0
 IsLow s o = (b : ℕ) → o ≡ Some b → b < length s.marks
 
-put_some-search : (m : MapView) (entries : List ℕ) (Now : ℕ → Type 0) (s : State) (o : Option ℕ) → IsLow s o → ((b : ℕ) → o ≡ Some b → Reached m entries b)
-    → IsSearch m entries Now s → IsSearch m entries Now (put_some s o)
-put_some-search m entries Now s None low is old = old
-put_some-search m entries Now s (Some b) low is old = search-put m entries Now s b (omega (arith, low b (λ i. Some b), old.count)) (is b (λ i. Some b)) old
+put_some-search : (f : FlowView) (entries : List ℕ) (Now : ℕ → Type 0) (s : State) (o : Option ℕ) → IsLow s o → ((b : ℕ) → o ≡ Some b → Reached f entries b)
+    → IsSearch f entries Now s → IsSearch f entries Now (put_some s o)
+put_some-search f entries Now s None low is old = old
+put_some-search f entries Now s (Some b) low is old = search-put f entries Now s b (omega (arith, low b (λ i. Some b), old.count)) (is b (λ i. Some b)) old
 
 put_some-left : (s : State) (o : Option ℕ) → IsLow s o → left_to_do (put_some s o) ≡ left_to_do s
 put_some-left s None low = λ i. left_to_do s
@@ -157,45 +156,45 @@ put_some-marked s None low b is = cc
 put_some-marked s (Some x) low b is = let same : x ≡ b = cc in subst (λ k. is_marked (put s x).marks k ≡ true) same (put-marked s x (low x (λ i. Some x)))
 
 -- an address that was taken from the list, and both addresses that its instruction can lead to
-module _ (m : MapView) (entries : List ℕ) (old new mid end : State) (a : ℕ) (placed : IsPlaced m.image) (marks : new.marks ≡ old.marks) (todo : old.todo ≡ new.todo ++ a ∷ []) (next : mid ≡ put_some new (next_at m a)) (goal : end ≡ put_some mid (goal_at m a)) (was : IsSearch m entries Nothing old) where
-  here : Reached m entries a
-  here = next-reached m entries old new a todo was
+module _ (f : FlowView) (entries : List ℕ) (old new mid end : State) (a : ℕ) (placed : IsPlaced f.map.image) (marks : new.marks ≡ old.marks) (todo : old.todo ≡ new.todo ++ a ∷ []) (next : mid ≡ put_some new (next_at f a)) (goal : end ≡ put_some mid (goal_at f.map a)) (was : IsSearch f entries Nothing old) where
+  here : Reached f entries a
+  here = next-reached f entries old new a todo was
 
-  taken : IsSearch m entries (λ b. b ≡ a) new
-  taken = search-next m entries old new a marks todo was
+  taken : IsSearch f entries (λ b. b ≡ a) new
+  taken = search-next f entries old new a marks todo was
 
-  next_low : IsLow new (next_at m a)
-  next_low b is = omega (arith, leads-below m a b placed (inl is), taken.count)
+  next_low : IsLow new (next_at f a)
+  next_low b is = omega (arith, leads-below f a b placed (inl is), taken.count)
 
-  halfway : IsSearch m entries (λ b. b ≡ a) mid
-  halfway = subst (IsSearch m entries (λ b. b ≡ a)) (sym next) (put_some-search m entries (λ b. b ≡ a) new (next_at m a) next_low (λ b is. led a b here (inl is)) taken)
+  halfway : IsSearch f entries (λ b. b ≡ a) mid
+  halfway = subst (IsSearch f entries (λ b. b ≡ a)) (sym next) (put_some-search f entries (λ b. b ≡ a) new (next_at f a) next_low (λ b is. led a b here (inl is)) taken)
 
-  goal_low : IsLow mid (goal_at m a)
-  goal_low b is = omega (arith, leads-below m a b placed (inr is), halfway.count)
+  goal_low : IsLow mid (goal_at f.map a)
+  goal_low b is = omega (arith, leads-below f a b placed (inr is), halfway.count)
 
   grows : (b : ℕ) → is_marked mid.marks b ≡ true → is_marked end.marks b ≡ true
-  grows b is = subst (λ t. is_marked t.marks b ≡ true) (sym goal) (put_some-grows mid (goal_at m a) goal_low b is)
+  grows b is = subst (λ t. is_marked t.marks b ≡ true) (sym goal) (put_some-grows mid (goal_at f.map a) goal_low b is)
 
   -- after them the search goes on
-  pub followed-both : IsSearch m entries Nothing end
+  pub followed-both : IsSearch f entries Nothing end
   followed-both =
-      search-followed m entries a end (record {
+      search-followed f entries a end (record {
         each = λ b leads. elim leads as (λ _. is_marked end.marks b ≡ true) [
-          | inl is ↦ grows b (subst (λ t. is_marked t.marks b ≡ true) (sym next) (put_some-marked new (next_at m a) next_low b is))
-          | inr is ↦ subst (λ t. is_marked t.marks b ≡ true) (sym goal) (put_some-marked mid (goal_at m a) goal_low b is)
+          | inl is ↦ grows b (subst (λ t. is_marked t.marks b ≡ true) (sym next) (put_some-marked new (next_at f a) next_low b is))
+          | inr is ↦ subst (λ t. is_marked t.marks b ≡ true) (sym goal) (put_some-marked mid (goal_at f.map a) goal_low b is)
         ];
       })
-      (subst (IsSearch m entries (λ b. b ≡ a)) (sym goal) (put_some-search m entries (λ b. b ≡ a) mid (goal_at m a) goal_low (λ b is. led a b here (inr is)) halfway))
+      (subst (IsSearch f entries (λ b. b ≡ a)) (sym goal) (put_some-search f entries (λ b. b ≡ a) mid (goal_at f.map a) goal_low (λ b is. led a b here (inr is)) halfway))
 
   -- and one address fewer is left
   pub followed-left : left_to_do end + 1 ≡ left_to_do old
-  followed-left = omega (arith, ap left_to_do next, ap left_to_do goal, put_some-left new (next_at m a) next_low, put_some-left mid (goal_at m a) goal_low, next-left old new a marks todo)
+  followed-left = omega (arith, ap left_to_do next, ap left_to_do goal, put_some-left new (next_at f a) next_low, put_some-left mid (goal_at f.map a) goal_low, next-left old new a marks todo)
 
   -- marks stay, so the entries stay marked
-  pub followed-entries : HasEntries m entries old.marks → HasEntries m entries end.marks
+  pub followed-entries : HasEntries f entries old.marks → HasEntries f entries end.marks
   followed-entries all = record {
     each = λ x has inside.
-        grows x (subst (λ t. is_marked t.marks x ≡ true) (sym next) (put_some-grows new (next_at m a) next_low x (ap (λ l. is_marked l x) marks ∙ all.each x has inside)));
+        grows x (subst (λ t. is_marked t.marks x ≡ true) (sym next) (put_some-grows new (next_at f a) next_low x (ap (λ l. is_marked l x) marks ∙ all.each x has inside)));
   }
 
 -- ---- the entries
@@ -207,39 +206,39 @@ put_some-entries : (s : State) (o : Option ℕ) → (put_some s o).entries ≡ s
 put_some-entries s None = λ i. s.entries
 put_some-entries s (Some a) = put-entries s a
 
-reached-more : (m : MapView) (entries : List ℕ) (a b : ℕ) → Reached m entries b → Reached m (entries ++ a ∷ []) b
-reached-more m entries a _ (entry b has inside) = entry b (Contains-append_left entries (a ∷ []) b has) inside
-reached-more m entries a _ (led c b from leads) = led c b (reached-more m entries a c from) leads
+reached-more : (f : FlowView) (entries : List ℕ) (a b : ℕ) → Reached f entries b → Reached f (entries ++ a ∷ []) b
+reached-more f entries a _ (entry b has inside) = entry b (Contains-append_left entries (a ∷ []) b has) inside
+reached-more f entries a _ (led c b from leads) = led c b (reached-more f entries a c from) leads
 
 -- a search without entries
-pub new-begun : (m : MapView) (s : State) → length s.marks ≡ 65536 → s.entries ≡ [] → s.marks ≡ no_marks → s.todo ≡ [] → IsBegun m s
-new-begun m s count entries marks todo = record {
-  search = search-new m s.entries s count marks todo;
+pub new-begun : (f : FlowView) (s : State) → length s.marks ≡ 65536 → s.entries ≡ [] → s.marks ≡ no_marks → s.todo ≡ [] → IsBegun f s
+new-begun f s count entries marks todo = record {
+  search = search-new f s.entries s count marks todo;
   entries = record { each = λ x has _. absurd (contains-nil x (subst (λ l. Contains l x) entries has)) };
 }
 
 -- an address joins the entries
-module _ (m : MapView) (s : State) (a : ℕ) (placed : IsPlaced m.image) (old : IsBegun m s) where
+module _ (f : FlowView) (s : State) (a : ℕ) (placed : IsPlaced f.map.image) (old : IsBegun f s) where
   abbrev with_entry : State
   with_entry = record s { entries = s.entries ++ a ∷ [] }
 
-  going_on : IsSearch m (s.entries ++ a ∷ []) Nothing with_entry
+  going_on : IsSearch f (s.entries ++ a ∷ []) Nothing with_entry
   going_on = record {
     count = old.search.count;
-    reached = λ b is. reached-more m s.entries a b (old.search.reached b is);
-    todo = λ b has. reached-more m s.entries a b (old.search.todo b has);
+    reached = λ b is. reached-more f s.entries a b (old.search.reached b is);
+    todo = λ b has. reached-more f s.entries a b (old.search.todo b has);
     followed = old.search.followed;
   }
 
-  pub entry-begun : IsBegun m (put_entry m.image s a)
+  pub entry-begun : IsBegun f (put_entry f.map.image s a)
   unfolding put_entry put_inside
   entry-begun =
-      cond_both (is_inside m.image a) (put with_entry a) with_entry (IsBegun m)
+      cond_both (is_inside f.map.image a) (put with_entry a) with_entry (IsBegun f)
       (λ inside.
-      let small : a < 65536 = omega (arith, placed.room, (within m a inside).high) in
+      let small : a < 65536 = omega (arith, placed.room, (within f.map a inside).high) in
       let room : a < length s.marks = omega (arith, small, old.search.count) in
       record {
-        search = subst (λ l. IsSearch m l Nothing (put with_entry a)) (sym (put-entries with_entry a)) (search-put m (s.entries ++ a ∷ []) Nothing with_entry a small (entry a (Contains-push s.entries a) inside) going_on);
+        search = subst (λ l. IsSearch f l Nothing (put with_entry a)) (sym (put-entries with_entry a)) (search-put f (s.entries ++ a ∷ []) Nothing with_entry a small (entry a (Contains-push s.entries a) inside) going_on);
         entries = record {
           each = λ x has there. elim (Contains-push_cases s.entries a x (subst (λ l. Contains l x) (put-entries with_entry a) has)) as (λ _. is_marked (put with_entry a).marks x ≡ true) [
             | inl before ↦ put-grows with_entry a x room (old.entries.each x before there)
@@ -252,50 +251,50 @@ module _ (m : MapView) (s : State) (a : ℕ) (placed : IsPlaced m.image) (old : 
         entries = record {
           each = λ x has there. elim (Contains-push_cases s.entries a x has) as (λ _. is_marked s.marks x ≡ true) [
             | inl before ↦ old.entries.each x before there
-            | inr here ↦ absurd (both_ways (is_inside m.image a) outside (subst (λ k. is_inside m.image k ≡ true) (sym here) there))
+            | inr here ↦ absurd (both_ways (is_inside f.map.image a) outside (subst (λ k. is_inside f.map.image k ≡ true) (sym here) there))
           ];
         };
       })
 
-pub entry-entries : (m : MapView) (s : State) (a : ℕ) → (put_entry m.image s a).entries ≡ s.entries ++ a ∷ []
+pub entry-entries : (f : FlowView) (s : State) (a : ℕ) → (put_entry f.map.image s a).entries ≡ s.entries ++ a ∷ []
 unfolding put_entry put_inside
-entry-entries m s a =
+entry-entries f s a =
     let t : State = record s { entries = s.entries ++ a ∷ [] } in
-    cond_both (is_inside m.image a) (put t a) t (λ u. u.entries ≡ s.entries ++ a ∷ []) (λ _. put-entries t a) (λ _ i. s.entries ++ a ∷ [])
+    cond_both (is_inside f.map.image a) (put t a) t (λ u. u.entries ≡ s.entries ++ a ∷ []) (λ _. put-entries t a) (λ _ i. s.entries ++ a ∷ [])
 
 -- ---- one instruction of a search
 
-module _ (m : MapView) (old new end : State) (a : ℕ) (placed : IsPlaced m.image) (next : HasNext old new a) (leads : end ≡ put_some (put_some new (next_at m a)) (goal_at m a)) (was : IsBegun m old) where
+module _ (f : FlowView) (old new end : State) (a : ℕ) (placed : IsPlaced f.map.image) (next : HasNext old new a) (leads : end ≡ put_some (put_some new (next_at f a)) (goal_at f.map a)) (was : IsBegun f old) where
   pub leads-entries : end.entries ≡ old.entries
-  leads-entries = ap (λ s. s.entries) leads ∙ put_some-entries (put_some new (next_at m a)) (goal_at m a) ∙ put_some-entries new (next_at m a) ∙ next.entries
+  leads-entries = ap (λ s. s.entries) leads ∙ put_some-entries (put_some new (next_at f a)) (goal_at f.map a) ∙ put_some-entries new (next_at f a) ∙ next.entries
 
-  pub leads-begun : IsBegun m end
+  pub leads-begun : IsBegun f end
   leads-begun = record {
-    search = subst (λ l. IsSearch m l Nothing end) (sym leads-entries) (followed-both m old.entries old new (put_some new (next_at m a)) end a placed next.marks next.todo (λ i. put_some new (next_at m a)) leads was.search);
-    entries = subst (λ l. HasEntries m l end.marks) (sym leads-entries) (followed-entries m old.entries old new (put_some new (next_at m a)) end a placed next.marks next.todo (λ i. put_some new (next_at m a)) leads was.search was.entries);
+    search = subst (λ l. IsSearch f l Nothing end) (sym leads-entries) (followed-both f old.entries old new (put_some new (next_at f a)) end a placed next.marks next.todo (λ i. put_some new (next_at f a)) leads was.search);
+    entries = subst (λ l. HasEntries f l end.marks) (sym leads-entries) (followed-entries f old.entries old new (put_some new (next_at f a)) end a placed next.marks next.todo (λ i. put_some new (next_at f a)) leads was.search was.entries);
   }
 
   pub leads-left : left_to_do end + 1 ≡ left_to_do old
-  leads-left = followed-left m old.entries old new (put_some new (next_at m a)) end a placed next.marks next.todo (λ i. put_some new (next_at m a)) leads was.search
+  leads-left = followed-left f old.entries old new (put_some new (next_at f a)) end a placed next.marks next.todo (λ i. put_some new (next_at f a)) leads was.search
 
-at-end : (m : MapView) (old new : State) → IsAtEnd old new → IsBegun m old → IsBegun m new
-at-end m old new end was = record {
+at-end : (f : FlowView) (old new : State) → IsAtEnd old new → IsBegun f old → IsBegun f new
+at-end f old new end was = record {
   search = record {
     count = ap length end.marks ∙ was.search.count;
-    reached = λ b is. subst (λ l. Reached m l b) (sym end.entries) (was.search.reached b (sym (ap (λ l. is_marked l b) end.marks) ∙ is));
+    reached = λ b is. subst (λ l. Reached f l b) (sym end.entries) (was.search.reached b (sym (ap (λ l. is_marked l b) end.marks) ∙ is));
     todo = λ b has. absurd (contains-nil b (subst (λ l. Contains l b) end.todo has));
-    followed = λ b is. elim (was.search.followed b (sym (ap (λ l. is_marked l b) end.marks) ∙ is)) as (λ _. Contains new.todo b ⊎ (Nothing b ⊎ IsFollowed m new.marks b)) [
+    followed = λ b is. elim (was.search.followed b (sym (ap (λ l. is_marked l b) end.marks) ∙ is)) as (λ _. Contains new.todo b ⊎ (Nothing b ⊎ IsFollowed f new.marks b)) [
       | inl before ↦ absurd (contains-nil b (subst (λ l. Contains l b) end.none before))
-      | inr rest ↦ elim rest as (λ _. Contains new.todo b ⊎ (Nothing b ⊎ IsFollowed m new.marks b)) [
+      | inr rest ↦ elim rest as (λ _. Contains new.todo b ⊎ (Nothing b ⊎ IsFollowed f new.marks b)) [
         | inl never ↦ absurd never
-        | inr done ↦ inr (inr (subst (λ l. IsFollowed m l b) (sym end.marks) done))
+        | inr done ↦ inr (inr (subst (λ l. IsFollowed f l b) (sym end.marks) done))
       ]
     ];
   };
   entries = record { each = λ x has inside. ap (λ l. is_marked l x) end.marks ∙ was.entries.each x (subst (λ l. Contains l x) end.entries has) inside };
 }
 
-pub begun_done : (m : MapView) (old new : State) → IsAtEnd old new → IsBegun m old → IsDone m new
-begun_done m old new end was =
-    let here : IsBegun m new = at-end m old new end was in
-    record { reached = search-end m new.entries new end.todo here.search here.entries; todo = end.todo }
+pub begun_done : (f : FlowView) (old new : State) → IsAtEnd old new → IsBegun f old → IsDone f new
+begun_done f old new end was =
+    let here : IsBegun f new = at-end f old new end was in
+    record { reached = search-end f new.entries new end.todo here.search here.entries; todo = end.todo }

@@ -16,18 +16,18 @@ use Rattle.info65.specs.declared.information.range.RangeType.TheVariants as role
 use Rattle.map65.specs.ImageView.{IsPlaced}
 use Rattle.map65.specs.MapView.{MapView}
 use Rattle.info65.proofs.Public.{AreAdded, GivesBoth, information-both, label_items, range_items}
-use Rattle.reach65.proofs.PieceLemmas.{above-range, piece-free, piece-lies}
+use Rattle.reach65.proofs.PieceLemmas.{above-range, stretch-free, piece-lies}
 use Rattle.reach65.proofs.LabelLemmas.{new-apart, new-low, new-rising}
 use Rattle.reach65.proofs.TextLemmas.{AreTables, IsTable, Later, Opens, comment-passed, comments-open, labels-open, later-then, opens-then, ranges-open}
 use Rattle.reach65.specs.Labels.{label_lines}
 use Rattle.reach65.specs.TextLaws.{IsProposal, TextLaw, comment_line, with_found}
-use Rattle.reach65.specs.Pieces.{ArePieces, Ground, IsPiece, is_free}
+use Rattle.reach65.specs.Pieces.{ArePieces, Ground, IsPiece, IsStretch, is_free}
 use Rattle.reach65.specs.RangeLines.{range_lines}
 use Rattle.reach65.specs.Taken.{AreMarkedBy, is_given, is_taken}
 
 -- ---- pieces as ranges that are added
 
-piece-low : (g : Ground) (r : RangeSpec) → IsPlaced g.image → r.first ≤ r.last → IsPiece g r.role r.first (r.last + 1) → r.last ≤ 0xFFFF
+piece-low : (g : Ground) (r : RangeSpec) → IsPlaced g.image → r.first ≤ r.last → IsStretch g r.role r.first (r.last + 1) → r.last ≤ 0xFFFF
 piece-low g r placed ordered piece = omega (arith, placed.room, (piece-lies g r ordered piece).high)
 
 piece-table : (g : Ground) (t : RangeType) (from end : ℕ) → IsPiece g t from end → IsTable t
@@ -36,10 +36,14 @@ piece-table g role.ByteTable from end piece = inr (inl refl)
 piece-table g role.AddrTable from end piece = inr (inr refl)
 piece-table g _ from end piece = absurd piece
 
+stretch-table : (g : Ground) (t : RangeType) (from end : ℕ) → IsStretch g t from end → IsTable t
+stretch-table g t from end (inl known) = inl known.1
+stretch-table g t from end (inr piece) = piece-table g t from end piece.1
+
 pieces-tables : (g : Ground) (from : ℕ) (rs : List RangeSpec) → IsPlaced g.image → ArePieces g from rs → AreTables rs
 unfolding ArePieces
 pieces-tables g from [] placed are = tt
-pieces-tables g from (r ∷ rs) placed are = (piece-table g r.role r.first (r.last + 1) are.3, are.2, piece-low g r placed are.2 are.3, pieces-tables g (r.last + 1) rs placed are.4)
+pieces-tables g from (r ∷ rs) placed are = (stretch-table g r.role r.first (r.last + 1) are.3, are.2, piece-low g r placed are.2 are.3, pieces-tables g (r.last + 1) rs placed are.4)
 
 -- no address from this one on is free and in one of these ranges
 abbrev ArePast : Ground → ℕ → List RangeSpec → Type 0
@@ -58,7 +62,7 @@ pieces-added g from old (r ∷ rs) placed are past = (
     apart = λ a has given.
         let parts = and_parts (nat_le r.first a) (nat_le a r.last) has in
         let low = leb-true r.first a parts.0 in
-        let free = piece-free g r.role r.first (r.last + 1) a are.3 low (omega (arith, leb-true a r.last parts.1)) in
+        let free = stretch-free g r.role r.first (r.last + 1) a are.3 low (omega (arith, leb-true a r.last parts.1)) in
         both_ways (is_free g a) (past a (omega (arith, low, are.0)) given) free;
   },
   pieces-added g (r.last + 1) (old ++ r ∷ []) rs placed are.4 (λ a above given. past a (omega (arith, above, are.0, are.2)) (any-append old r a given (above-range r a (omega (arith, above))))),
@@ -97,15 +101,15 @@ text-gives o m ranges labels text p tables low line =
     subst Q (sym all) (gives-both o ranges labels (tokens_of (line + 1) rest) (tokens_of third.line tail) begins (subst P (append-nil (label_items labels)) ends))
 
 -- what a range of the file has is not free
-given-past : (m : MapView) (marks taken words : List Bool) → IsPlaced m.image → AreMarkedBy (is_taken m marks) taken → ArePast (record { image = m.image; taken = taken; words = words }) 0 m.info.ranges
+given-past : (m : MapView) (marks taken words texts : List Bool) → IsPlaced m.image → AreMarkedBy (is_taken m marks) taken → ArePast (record { image = m.image; taken = taken; words = words; texts = texts }) 0 m.info.ranges
 unfolding is_free is_taken is_given
-given-past m marks taken words placed spoken a low given = grind arith
+given-past m marks taken words texts placed spoken a low given = grind arith
 
 pub text_law : (m : MapView) → TextLaw m
-text_law m o file text info marks taken words pieces labels accepted same among named placed spoken are new p small =
-    let g : Ground = record { image = m.image; taken = taken; words = words } in
+text_law m o file text info marks taken words texts pieces labels accepted same among named placed spoken are new p small =
+    let g : Ground = record { image = m.image; taken = taken; words = words; texts = texts } in
     let P : List RangeSpec → Type 0 = λ l. ArePast g 0 l in
-    let past : ArePast g 0 info.ranges = subst P same (given-past m marks taken words placed spoken) in
+    let past : ArePast g 0 info.ranges = subst P same (given-past m marks taken words texts placed spoken) in
     let added = pieces-added g 0 info.ranges pieces placed are past in
     let tail : List ℕ = (p.first ++ 10 ∷ []) ++ (flat_map comment_line p.before ++ (range_lines m.image pieces ++ (label_lines labels ++ flat_map comment_line p.after))) in
     let R : List ℕ → Type 0 = λ t. length (file ++ t) ≤ 1_048_576 in

@@ -1,17 +1,16 @@
 -- Trials: what they mark, and what is left when it is taken back.
-use Rattle.std.proofs.Common.{◌≡◌, ◌⊎◌, ◌+◌, ◌<◌, ◌≤◌, ◌∙◌, ℕ, Bool, true, false, List, [], ◌∷◌, ◌++◌, length, get_or, set, Option, Some, None, ap, ap₂, arith, sym, subst, inl, inr, cond, length-append}
-use Rattle.std.specs.List.{Contains, count_by, sum_by}
+use Rattle.std.proofs.Common.{◌≡◌, ◌⊎◌, ◌+◌, ◌<◌, ◌∙◌, ℕ, Bool, true, false, List, [], ◌∷◌, ◌++◌, length, get_or, set, Option, Some, None, ap, ap₂, arith, sym, subst, inl, inr, cond, length-append}
+use Rattle.std.specs.List.{Contains, sum_by}
 use Rattle.std.proofs.lemmas.Bool.{both_ways, cond_both}
 use Rattle.std.proofs.lemmas.List.{set-get_or, set-set}
 use Rattle.std.proofs.Math.ListN.{length-set}
 use Rattle.std.proofs.lemmas.List.Elements.{Contains-append_left, Contains-push}
 use Rattle.std.proofs.lemmas.List.Sums.{sum_by-set}
-use Rattle.map65.specs.ImageView.{ImageView, IsPlaced, is_inside}
-use Rattle.map65.specs.MapView.{MapView}
+use Rattle.map65.specs.ImageView.{IsPlaced, is_inside}
 use Rattle.map65.proofs.Public.{within}
-use Rattle.reach65.specs.Code.Searching.{AreSound, HasEntries, IsAsBefore, IsBegun, IsDone, IsFollowed, IsSearch, IsTrial, Nothing, State, HasBegun, HasJoined, HasNext, IsAtEnd, put, put_entry, put_inside, put_some, unset}
-use Rattle.reach65.specs.Flow.{LeadsTo, goal_at, next_at}
-use Rattle.reach65.specs.Reached.{AreReached, Reached, entry, led, is_marked}
+use Rattle.reach65.specs.Code.Searching.{AreSound, IsAsBefore, IsBegun, IsDone, IsTrial, State, HasBegun, HasJoined, HasNext, IsAtEnd, put, put_entry, put_inside, put_some, unset}
+use Rattle.reach65.specs.Flow.{FlowView, goal_at, next_at}
+use Rattle.reach65.specs.Reached.{entry, led, is_marked}
 use Rattle.reach65.specs.Sound.{IsApart, IsSound, is_fine, marked_count}
 use Rattle.reach65.proofs.FlowLemmas.{leads-below}
 use Rattle.reach65.proofs.SearchLemmas.{by_put, contains-nil, entry-begun, entry-entries, marks_set}
@@ -79,23 +78,23 @@ trial-next before old new a next was = same-trial before old new next.marks next
 pub trial-end : (before : List Bool) (old new : State) → IsAtEnd old new → IsTrial before old → IsTrial before new
 trial-end before old new end was = same-trial before old new end.marks end.added was
 
-leads-trial : (m : MapView) (before : List Bool) (new end : State) (a : ℕ) → IsPlaced m.image → length new.marks ≡ 65536
-    → end ≡ put_some (put_some new (next_at m a)) (goal_at m a) → IsTrial before new → IsTrial before end
-leads-trial m before new end a placed count is old =
+leads-trial : (f : FlowView) (before : List Bool) (new end : State) (a : ℕ) → IsPlaced f.map.image → length new.marks ≡ 65536
+    → end ≡ put_some (put_some new (next_at f a)) (goal_at f.map a) → IsTrial before new → IsTrial before end
+leads-trial f before new end a placed count is old =
     subst (IsTrial before) (sym is)
-    (trial-put_some before (put_some new (next_at m a)) (goal_at m a)
-    (λ b to. omega (arith, leads-below m a b placed (inr to), count, put_some-length new (next_at m a)))
-    (trial-put_some before new (next_at m a) (λ b to. omega (arith, leads-below m a b placed (inl to), count)) old))
+    (trial-put_some before (put_some new (next_at f a)) (goal_at f.map a)
+    (λ b to. omega (arith, leads-below f a b placed (inr to), count, put_some-length new (next_at f a)))
+    (trial-put_some before new (next_at f a) (λ b to. omega (arith, leads-below f a b placed (inl to), count)) old))
 
-pub trial-leads : (m : MapView) (before : List Bool) (old new end : State) (a : ℕ) → IsPlaced m.image → HasNext old new a
-    → end ≡ put_some (put_some new (next_at m a)) (goal_at m a) → IsBegun m old → IsTrial before old → IsTrial before end
-trial-leads m before old new end a placed next is begun was =
-    leads-trial m before new end a placed (ap length next.marks ∙ begun.search.count) is (trial-next before old new a next was)
+pub trial-leads : (f : FlowView) (before : List Bool) (old new end : State) (a : ℕ) → IsPlaced f.map.image → HasNext old new a
+    → end ≡ put_some (put_some new (next_at f a)) (goal_at f.map a) → IsBegun f old → IsTrial before old → IsTrial before end
+trial-leads f before old new end a placed next is begun was =
+    leads-trial f before new end a placed (ap length next.marks ∙ begun.search.count) is (trial-next before old new a next was)
 
 -- ---- the beginning of a trial
 
-done-begun : (m : MapView) (s : State) → IsDone m s → IsBegun m (record s { added = [] })
-done-begun m s was = record {
+done-begun : (f : FlowView) (s : State) → IsDone f s → IsBegun f (record s { added = [] })
+done-begun f s was = record {
   search = record {
     count = was.reached.count;
     reached = λ b. (was.reached.each b).0;
@@ -105,41 +104,41 @@ done-begun m s was = record {
   entries = record { each = λ b has inside. (was.reached.each b).1 (entry b has inside) };
 }
 
-trial-begun : (m : MapView) (s : State) (a : ℕ) → IsPlaced m.image → length s.marks ≡ 65536 → IsTrial s.marks (put_entry m.image (record s { added = [] }) a)
+trial-begun : (f : FlowView) (s : State) (a : ℕ) → IsPlaced f.map.image → length s.marks ≡ 65536 → IsTrial s.marks (put_entry f.map.image (record s { added = [] }) a)
 unfolding put_entry put_inside unset
-trial-begun m s a placed count =
+trial-begun f s a placed count =
     let t : State = record s { entries = s.entries ++ a ∷ []; added = [] } in
     let first : IsTrial s.marks t = record { undone = λ i. s.marks; count = omega arith; fresh = λ b is. inl is } in
-    cond_both (is_inside m.image a) (put t a) t (IsTrial s.marks)
-    (λ inside. trial-put s.marks t a (omega (arith, count, placed.room, (within m a inside).high)) first)
+    cond_both (is_inside f.map.image a) (put t a) t (IsTrial s.marks)
+    (λ inside. trial-put s.marks t a (omega (arith, count, placed.room, (within f.map a inside).high)) first)
     (λ _. first)
 
-pub has_begun : (m : MapView) (s t : State) (a : ℕ) → IsPlaced m.image → IsDone m s → t ≡ put_entry m.image (record s { added = [] }) a → HasBegun m s a t
-has_begun m s t a placed done is = subst (HasBegun m s a) (sym is) (record {
-  begun = entry-begun m (record s { added = [] }) a placed (done-begun m s done);
-  entries = entry-entries m (record s { added = [] }) a;
-  trial = trial-begun m s a placed done.reached.count;
+pub has_begun : (f : FlowView) (s t : State) (a : ℕ) → IsPlaced f.map.image → IsDone f s → t ≡ put_entry f.map.image (record s { added = [] }) a → HasBegun f s a t
+has_begun f s t a placed done is = subst (HasBegun f s a) (sym is) (record {
+  begun = entry-begun f (record s { added = [] }) a placed (done-begun f s done);
+  entries = entry-entries f (record s { added = [] }) a;
+  trial = trial-begun f s a placed done.reached.count;
 })
 
 -- ---- the end of a trial
 
-sound-trial : (m : MapView) (before : List Bool) (s : State) → IsTrial before s → AreSound m s.marks s.added → IsSound m before s.marks
-sound-trial m before s trial are = record {
-  fine = λ b now was. elim (trial.fresh b now) as (λ _. is_fine m b ≡ true) [
+sound-trial : (f : FlowView) (before : List Bool) (s : State) → IsTrial before s → AreSound f s.marks s.added → IsSound f before s.marks
+sound-trial f before s trial are = record {
+  fine = λ b now was. elim (trial.fresh b now) as (λ _. is_fine f b ≡ true) [
     | inl marked ↦ absurd (both_ways (is_marked before b) was marked)
     | inr added ↦ are.fine b added
   ];
-  apart = λ b now was. elim (trial.fresh b now) as (λ _. IsApart m s.marks b) [
+  apart = λ b now was. elim (trial.fresh b now) as (λ _. IsApart f.map s.marks b) [
     | inl marked ↦ absurd (both_ways (is_marked before b) was marked)
     | inr added ↦ are.apart b added
   ];
   four = omega (arith, trial.count, are.four);
 }
 
-pub trial_joined : (m : MapView) (old mid new : State) (a : ℕ) → HasBegun m old a mid → new.entries ≡ mid.entries → IsDone m new → IsTrial old.marks new → AreSound m new.marks new.added
-    → HasJoined m old a new
-trial_joined m old mid new a begun same done trial are = record { entries = same ∙ begun.entries; done = done; sound = sound-trial m old.marks new trial are }
+pub trial_joined : (f : FlowView) (old mid new : State) (a : ℕ) → HasBegun f old a mid → new.entries ≡ mid.entries → IsDone f new → IsTrial old.marks new → AreSound f new.marks new.added
+    → HasJoined f old a new
+trial_joined f old mid new a begun same done trial are = record { entries = same ∙ begun.entries; done = done; sound = sound-trial f old.marks new trial are }
 
-pub trial_undone : (m : MapView) (old mid last new : State) (a : ℕ) → HasBegun m old a mid → last.entries ≡ mid.entries → IsTrial old.marks last
+pub trial_undone : (f : FlowView) (old mid last new : State) (a : ℕ) → HasBegun f old a mid → last.entries ≡ mid.entries → IsTrial old.marks last
     → ((l : List ℕ) (b : ℕ) → last.entries ≡ l ++ b ∷ [] → new.entries ≡ l) → new.marks ≡ unset last.marks last.added → new.todo ≡ [] → IsAsBefore old new
-trial_undone m old mid last new a begun same trial entries marks todo = record { entries = entries old.entries a (same ∙ begun.entries); marks = marks ∙ trial.undone; todo = todo }
+trial_undone f old mid last new a begun same trial entries marks todo = record { entries = entries old.entries a (same ∙ begun.entries); marks = marks ∙ trial.undone; todo = todo }

@@ -1,5 +1,5 @@
 -- The definitions, held against worked examples.
-use Rattle.std.proofs.Common.{◌≡◌, ◌+◌, ◌≤◌, ℕ, true, false, List, [], ◌∷◌, refl, arith}
+use Rattle.std.proofs.Common.{◌≡◌, ◌≤◌, refl, arith}
 use Rattle.map65.specs.Items.{full_len_at, item_len, item_start, size_at}
 use Rattle.map65.specs.Pieces.{are_joined, is_in_run, is_joined, is_own}
 use Rattle.map65.specs.Roles.{role_at, role_in}
@@ -7,10 +7,11 @@ use Rattle.map65.specs.Segments.{is_border}
 use Rattle.map65.specs.Spans.{addresses}
 use Rattle.map65.specs.Targets.{target_at, target_for, target_of}
 use Rattle.reach65.specs.Entries.{code_starts, entries_of, entries_with, plain_entries_of, pointer_at, pointers, vectors}
-use Rattle.reach65.specs.Flow.{goal_at, goal_of, instruction_at, next_at}
-use Rattle.reach65.specs.Pieces.{is_free, is_plain}
+use Rattle.reach65.specs.Flow.{end_after, goal_at, goal_of, instruction_at, next_at, text_at, text_of}
+use Rattle.reach65.specs.Inlines.{inline_of, is_inline, text_end, zero_end}
+use Rattle.reach65.specs.Pieces.{is_free, is_open, is_plain, past_zero}
 use Rattle.reach65.specs.Reached.{any_marked}
-use Rattle.reach65.specs.Routines.{branch_at, call_at, goes_on, is_called, is_gone_on}
+use Rattle.reach65.specs.Routines.{branch_at, call_at, goes_on, is_called, is_gone_on, is_text_start}
 use Rattle.reach65.specs.Rows.{free_word, is_in_table, is_of_table, is_row, is_word}
 use Rattle.reach65.specs.Sound.{is_fine, marked_count}
 use Rattle.reach65.specs.Survey.{is_likely, is_routine}
@@ -19,7 +20,7 @@ use Rattle.reach65.specs.Variables.{is_operand, operand_at}
 use Rattle.reach65.specs.Worked.{WorkedCode}
 
 pub worked_code : WorkedCode
-unfolding addresses any_marked are_joined branch_at call_at code_starts entries_of entries_with free_word full_len_at goal_at goal_of goes_on has_byte instruction_at is_border is_called is_code is_fine is_free is_gone_on is_in_run is_in_table is_joined is_likely is_of_table is_operand is_own is_plain is_routine is_row is_word item_len item_start marked_count next_at operand_at plain_entries_of pointer_at pointers role_at role_in size_at target_at target_for target_of vectors
+unfolding addresses any_marked are_joined branch_at call_at code_starts end_after entries_of entries_with free_word full_len_at goal_at goal_of goes_on has_byte inline_of instruction_at is_border is_called is_code is_fine is_free is_gone_on is_in_run is_in_table is_inline is_joined is_likely is_of_table is_open is_operand is_own is_plain is_routine is_row is_text_start is_word item_len item_start marked_count next_at operand_at past_zero plain_entries_of pointer_at pointers role_at role_in size_at target_at target_for target_of text_at text_end text_of vectors zero_end
 worked_code = record {
   nexts = refl;
   goals = refl;
@@ -34,6 +35,16 @@ worked_code = record {
   fine = refl;
   not_fine = refl;
   into_a_range = refl;
+  texts = refl;
+  entry = refl;
+  endless = refl;
+  fine_texts = refl;
+  text_addresses = refl;
+  no_text = refl;
+  text_starts = refl;
+  not_reached = refl;
+  open_bytes = refl;
+  after_zero = refl;
   too_few = λ m s. let few : 4 ≤ 3 = s.four in omega (arith, few);
   code = refl;
   gone_on = refl;

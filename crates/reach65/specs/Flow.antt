@@ -2,14 +2,14 @@
 --
 -- The instruction of an address begins there: the address is code of the image, its opcode is defined, and all its bytes lie in the
 -- image. It leads to the address after it, but for `jmp`, `bra`, `rts`, `rti` and `brk`, and to the target of a relative mode, of `jmp`
--- or of `jsr` to an absolute address; to each of them only inside the image.
-use Rattle.std.specs.Prelude.{◌≡◌, ◌⊎◌, ℕ, ◌+◌, ◌||◌, nat_le, Bool, List, if◌then◌else◌, Option, Some, None, option_and_then}
+-- or of `jsr` to an absolute address; to each of them only inside the image. A call that text follows leads to the address after the text.
+use Rattle.std.specs.Prelude.{◌≡◌, ◌⊎◌, ℕ, ◌+◌, ◌&&◌, ◌||◌, nat_le, Bool, false, List, if◌then◌else◌, Option, Some, None, option_and_then, is_none, is_some}
 use denote.Enum.Bare.{sameb}
 use Rattle.isa65.specs.Mode.{len_of, row_of}
 use Rattle.isa65.specs.Opcodes.{decoded}
 use Rattle.isa65.specs.contracts.mnemonic.Mnemonic as mnemonic
 use Rattle.isa65.specs.declared.mnemonic.Mnemonic.{Mnemonic}
-use Rattle.isa65.specs.declared.mnemonic.Mnemonic.TheVariants.{Bra, Brk, Jmp, Rti, Rts}
+use Rattle.isa65.specs.declared.mnemonic.Mnemonic.TheVariants.{Bra, Brk, Jmp, Jsr, Rti, Rts}
 use Rattle.isa65.specs.declared.mode.Mode.{Mode}
 use Rattle.isa65.specs.declared.op.Op.{Op}
 use Rattle.isa65.specs.declared.row.OperandKind.TheVariants.{Word}
@@ -18,10 +18,17 @@ use Rattle.isa65.specs.declared.row.Row.{Row}
 use Rattle.isa65.specs.declared.row.Row.TheVariants.{One}
 use Rattle.info65.specs.declared.information.range.RangeType.{RangeType}
 use Rattle.info65.specs.declared.information.range.RangeType.TheVariants as role
-use Rattle.map65.specs.ImageView.{byte_at, bytes_from, end_of}
+use Rattle.info65.specs.declared.tags.tag.Tag.{Tag}
+use Rattle.map65.specs.ImageView.{ImageView, byte_at, bytes_from, end_of}
 use Rattle.map65.specs.MapView.{MapView, opcodes}
 use Rattle.map65.specs.Roles.{role_at}
 use Rattle.map65.specs.Targets.{branch_target, is_jump, only_inside, word_of}
+use Rattle.reach65.specs.Inlines.{inline_of, text_end}
+
+-- a map, and the groups `#: ..` of its information file
+pub record FlowView : Type 0 where
+  pub map : MapView
+  pub tags : List Tag
 
 -- ---- the instruction of an address
 
@@ -47,14 +54,6 @@ is m n = sameb mnemonic.the_type m n
 abbrev pub is_last : Mnemonic → Bool
 is_last m = is m Jmp || is m Bra || is m Rts || is m Rti || is m Brk
 
-abbrev pub next_of : MapView → ℕ → Option Op → Option ℕ
-next_of m a None = None
-next_of m a (Some op) = if is_last op.mnemonic then None else only_inside m.image (a + len_of op.mode)
-
--- the address after the instruction, if it leads there
-unfoldable pub next_at : MapView → ℕ → Option ℕ
-next_at m a = next_of m a (instruction_at m a)
-
 -- a jump goes to its absolute operand
 abbrev pub row_goal : Mnemonic → Row → ℕ → List ℕ → Option ℕ
 row_goal m (One Direct Word) next bytes = if is_jump m then Some (word_of bytes) else None
@@ -72,6 +71,42 @@ goal_by m a (Some op) = option_and_then (only_inside m.image) (goal_of op.mnemon
 unfoldable pub goal_at : MapView → ℕ → Option ℕ
 goal_at m a = goal_by m a (instruction_at m a)
 
+-- ---- what comes after it
+
+-- what the information file says of the text behind the instruction, if it calls an address with such a group
+unfoldable pub text_of : FlowView → ℕ → Op → Option Tag
+text_of f a op = if is op.mnemonic Jsr then option_and_then (inline_of f.tags) (goal_of op.mnemonic op.mode a (bytes_from f.map.image a)) else None
+
+abbrev pub end_by : ImageView → ℕ → Option Tag → Option ℕ
+end_by image a None = Some a
+end_by image a (Some t) = text_end image t.size a
+
+-- the address after the instruction, and after the text behind it: none if the text does not end
+unfoldable pub end_after : FlowView → ℕ → Op → Option ℕ
+end_after f a op = end_by f.map.image (a + len_of op.mode) (text_of f a op)
+
+abbrev pub next_of : FlowView → ℕ → Option Op → Option ℕ
+next_of f a None = None
+next_of f a (Some op) = if is_last op.mnemonic then None else option_and_then (only_inside f.map.image) (end_after f a op)
+
+-- the address after the instruction and its text, if it leads there
+unfoldable pub next_at : FlowView → ℕ → Option ℕ
+next_at f a = next_of f a (instruction_at f.map a)
+
 -- the instruction at the first address leads to the second, in the image
-abbrev pub LeadsTo : MapView → ℕ → ℕ → Type 0
-LeadsTo m a b = (next_at m a ≡ Some b) ⊎ (goal_at m a ≡ Some b)
+abbrev pub LeadsTo : FlowView → ℕ → ℕ → Type 0
+LeadsTo f a b = (next_at f a ≡ Some b) ⊎ (goal_at f.map a ≡ Some b)
+
+-- ---- texts that end with a zero byte
+
+abbrev pub ends_with_zero : Option Tag → Bool
+ends_with_zero None = false
+ends_with_zero (Some t) = is_none t.size
+
+abbrev pub text_by : FlowView → ℕ → Option Op → Option ℕ
+text_by f a None = None
+text_by f a (Some op) = if ends_with_zero (text_of f a op) && is_some (end_after f a op) then Some (a + len_of op.mode) else None
+
+-- the address of the text behind the instruction, if it ends with a zero byte
+unfoldable pub text_at : FlowView → ℕ → Option ℕ
+text_at f a = text_by f a (instruction_at f.map a)

@@ -1,6 +1,6 @@
 -- Labels with default names, for addresses that a listing has as bare numbers without: those of pairs of halves, and the variables right after
 -- the image. An address that a name of the information file covers gets none.
-use Rattle.std.specs.Prelude.{ℕ, zero, suc, ◌≡◌, ◌+◌, ◌≤◌, ◌==◌, ◌&&◌, ◌||◌, Bool, List, [], ◌∷◌, ◌++◌, codes, if◌then◌else◌, Option, Some, None, is_none}
+use Rattle.std.specs.Prelude.{ℕ, zero, suc, ◌≡◌, ◌+◌, ◌≤◌, ◌==◌, ◌&&◌, ◌||◌, Bool, List, [], ◌∷◌, ◌++◌, codes, if◌then◌else◌, None, is_none}
 use Rattle.std.specs.List.{flat_map, list_any}
 use Rattle.text65.specs.Digits.{digits4}
 use Rattle.info65.specs.Names.{covering, default_name}

@@ -4,6 +4,7 @@ use Rattle.isa65.specs.Mode.{len_of}
 use Rattle.isa65.specs.declared.op.Op.{Op}
 use Rattle.info65.specs.declared.information.range.RangeSpec.{RangeSpec}
 use Rattle.info65.specs.Views.{InfoView}
+use Rattle.info65.specs.declared.tags.tag.Tag.{Tag}
 use Rattle.map65.specs.ImageView.{IsPlaced}
 use Rattle.map65.specs.Items.{item_len}
 use Rattle.map65.specs.MapView.{MapView}
@@ -49,7 +50,7 @@ pub record KeepsItems (m : MapView) (marks : List Bool) (info : InfoView) : Type
       → item_len (with_info m info) a ≡ len_of op.mode
 
 abbrev pub CodeLaw : MapView → Type 0
-CodeLaw m = (entries : List ℕ) (marks taken words : List Bool) (pieces : List RangeSpec) (info : InfoView)
-    → IsPlaced m.image → AreReached m entries marks → AreMarkedBy (is_taken m marks) taken
-    → ArePieces (record { image = m.image; taken = taken; words = words }) 0 pieces → IsWith m.info info pieces
+CodeLaw m = (tags : List Tag) (entries : List ℕ) (marks taken words texts : List Bool) (pieces : List RangeSpec) (info : InfoView)
+    → IsPlaced m.image → AreReached (record { map = m; tags = tags }) entries marks → AreMarkedBy (is_taken m marks) taken
+    → ArePieces (record { image = m.image; taken = taken; words = words; texts = texts }) 0 pieces → IsWith m.info info pieces
     → AreWhole m marks → KeepsItems m marks info

@@ -1,4 +1,5 @@
 -- the rules: where an instruction leads, where reading begins, what is reached
+pub mod Inlines
 pub mod Flow
 pub mod Entries
 pub mod Reached

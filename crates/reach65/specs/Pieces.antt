@@ -2,7 +2,8 @@
 --
 -- Words that are addresses are a table of addresses. Filler is a longest stretch of at least 16 equal bytes. A text is a longest stretch of
 -- characters of one alphabet, up to where filler begins: at least five, half of them letters or blanks. What lies between these is a table of
--- bytes, and so is a text that has a character beside those of ASCII.
+-- bytes, and so is a text that has a character beside those of ASCII. Where a text is known to begin, it goes up to and with its zero byte,
+-- whatever its bytes are.
 use Rattle.std.specs.Prelude.{All, ◌≡◌, ◌⊎◌, ℕ, zero, suc, ◌+◌, ◌-◌, ◌<◌, ◌≤◌, ◌==◌, ◌&&◌, ◌||◌, not, nat_lt, Bool, true, false, List, [], ◌∷◌, length, take, if◌then◌else◌}
 use Rattle.info65.specs.declared.information.range.RangeSpec.{RangeSpec}
 use Rattle.info65.specs.declared.information.range.RangeType.{RangeType}
@@ -13,11 +14,12 @@ use Rattle.reach65.specs.Texts.{are_chars, are_enough, is_char, letter_count}
 use Rattle.reach65.specs.declared.texts.Alphabet.{Alphabet}
 use Rattle.reach65.specs.declared.texts.Alphabet.TheVariants as alphabet
 
--- the image, the addresses that something speaks for, and those of words that are addresses
+-- the image, the addresses that something speaks for, those of words that are addresses, and where texts are known to begin
 pub record Ground : Type 0 where
   pub image : ImageView
   pub taken : List Bool
   pub words : List Bool
+  pub texts : List Bool
 
 -- an address of the image that nothing speaks for
 unfoldable pub is_free : Ground → ℕ → Bool
@@ -78,6 +80,24 @@ text_len g a = longer (longer (longer 0 (len_in g alphabet.Ascii a)) (len_in g a
 abbrev pub begins_text : Ground → ℕ → Bool
 begins_text g a = nat_lt 0 (text_len g a)
 
+-- ---- texts that are known
+
+-- a free address without a zero byte
+unfoldable pub is_open : Ground → ℕ → Bool
+is_open g a = is_free g a && not (byte_at g.image a == 0)
+
+-- the address after the zero byte of this one, if it is free
+unfoldable pub past_zero : Ground → ℕ → ℕ
+past_zero g a = if is_free g a then a + 1 else a
+
+-- free addresses up to and with the first zero byte
+pub record IsKnown (g : Ground) (from end : ℕ) : Type 0 where
+  pub last : ℕ
+  pub low : from ≤ last
+  pub before : (a : ℕ) → from ≤ a → a < last → is_open g a ≡ true
+  pub stops : is_open g last ≡ false
+  pub ends : past_zero g last ≡ end
+
 -- ---- pieces
 
 -- a table of bytes ends before the address
@@ -99,12 +119,17 @@ IsText g from end = (begins_text g from ≡ true) × (end ≡ from + text_len g 
 abbrev pub is_ascii : Ground → ℕ → Bool
 is_ascii g from = are_chars alphabet.Ascii (take (text_len g from) (bytes_from g.image from))
 
--- What is proposed for a stretch from a free address on: up to before the second address.
+-- What is proposed for a stretch from a free address on where no text is known to begin: up to before the second address.
 abbrev pub IsPiece : Ground → RangeType → ℕ → ℕ → Type 0
 IsPiece g role.AddrTable from end = ((a : ℕ) → from ≤ a → a < end → is_word g a ≡ true) × (is_word g end ≡ false)
 IsPiece g role.TextTable from end = IsText g from end × (is_ascii g from ≡ true)
 IsPiece g role.ByteTable from end = IsFiller g from end ⊎ (IsBytes g from end ⊎ (IsText g from end × (is_ascii g from ≡ false)))
 IsPiece g r from end = ⊥
+
+-- the same, or a text that is known to begin there
+abbrev pub IsStretch : Ground → RangeType → ℕ → ℕ → Type 0
+IsStretch g r from end =
+    ((is_marked g.texts from ≡ true) × (r ≡ role.TextTable) × IsKnown g from end) ⊎ ((is_marked g.texts from ≡ false) × IsPiece g r from end)
 
 -- The ranges are, in order, all that is proposed from an address on: nothing is free before the first, it is a piece, and the others
 -- are those after it.
@@ -112,7 +137,7 @@ unfoldable pub ArePieces : Ground → ℕ → List RangeSpec → Type 0
 ArePieces g from [] = (a : ℕ) → from ≤ a → is_free g a ≡ false
 ArePieces g from (r ∷ later) =
     (from ≤ r.first) × ((a : ℕ) → from ≤ a → a < r.first → is_free g a ≡ false)
-    × (r.first ≤ r.last) × IsPiece g r.role r.first (r.last + 1) × ArePieces g (r.last + 1) later
+    × (r.first ≤ r.last) × IsStretch g r.role r.first (r.last + 1) × ArePieces g (r.last + 1) later
 
 -- the image has all addresses of the range
 pub record LiesIn (image : ImageView) (r : RangeSpec) : Type 0 where

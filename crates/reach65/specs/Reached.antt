@@ -4,11 +4,11 @@ use Rattle.std.specs.List.{list_any}
 use Rattle.map65.specs.ImageView.{is_inside}
 use Rattle.map65.specs.MapView.{MapView}
 use Rattle.map65.specs.Spans.{addresses}
-use Rattle.reach65.specs.Flow.{LeadsTo}
+use Rattle.reach65.specs.Flow.{FlowView, LeadsTo}
 
-pub data Reached (m : MapView) (entries : List ℕ) : ℕ → Type 0 where
-  entry : (a : ℕ) → Contains entries a → is_inside m.image a ≡ true → Reached m entries a
-  led : (b a : ℕ) → Reached m entries b → LeadsTo m b a → Reached m entries a
+pub data Reached (f : FlowView) (entries : List ℕ) : ℕ → Type 0 where
+  entry : (a : ℕ) → Contains entries a → is_inside f.map.image a ≡ true → Reached f entries a
+  led : (b a : ℕ) → Reached f entries b → LeadsTo f b a → Reached f entries a
 
 -- there is a mark for each address from $0000 to $FFFF
 abbrev pub is_marked : List Bool → ℕ → Bool
@@ -19,9 +19,9 @@ unfoldable pub no_marks : List Bool
 no_marks = replicate 65536 false
 
 -- an address is marked exactly when it is reached
-pub record AreReached (m : MapView) (entries : List ℕ) (marks : List Bool) : Type 0 where
+pub record AreReached (f : FlowView) (entries : List ℕ) (marks : List Bool) : Type 0 where
   pub count : length marks ≡ 65536
-  pub each : (a : ℕ) → is_marked marks a ≡ true ↔ Reached m entries a
+  pub each : (a : ℕ) → is_marked marks a ≡ true ↔ Reached f entries a
 
 -- an address of the image is marked and passes the test
 unfoldable pub any_marked : MapView → List Bool → (ℕ → Bool) → Bool

@@ -8,7 +8,7 @@ use Rattle.isa65.specs.declared.mnemonic.Mnemonic.TheVariants.{Jsr}
 use Rattle.isa65.specs.declared.op.Op.{Op}
 use Rattle.map65.specs.MapView.{MapView}
 use Rattle.map65.specs.Targets.{is_jump}
-use Rattle.reach65.specs.Flow.{goal_at, instruction_at, is, next_at}
+use Rattle.reach65.specs.Flow.{FlowView, goal_at, instruction_at, is, next_at, text_at}
 use Rattle.reach65.specs.Reached.{any_marked}
 
 abbrev pub branch_of : Option Op → Option ℕ → Option ℕ
@@ -24,12 +24,12 @@ is_it None b = false
 is_it (Some a) b = a == b
 
 -- the instruction of the second address goes on to the first
-unfoldable pub goes_on : MapView → ℕ → ℕ → Bool
-goes_on m b a = is_it (next_at m a) b || is_it (branch_at m a) b
+unfoldable pub goes_on : FlowView → ℕ → ℕ → Bool
+goes_on f b a = is_it (next_at f a) b || is_it (branch_at f.map a) b
 
 -- a reached instruction goes on to the address
-unfoldable pub is_gone_on : MapView → List Bool → ℕ → Bool
-is_gone_on m marks b = any_marked m marks (goes_on m b)
+unfoldable pub is_gone_on : FlowView → List Bool → ℕ → Bool
+is_gone_on f marks b = any_marked f.map marks (goes_on f b)
 
 abbrev pub call_of : Option Op → Option ℕ → Option ℕ
 call_of None goal = None
@@ -42,3 +42,7 @@ call_at m a = call_of (instruction_at m a) (goal_at m a)
 -- a reached instruction calls the address
 unfoldable pub is_called : MapView → List Bool → ℕ → Bool
 is_called m marks b = any_marked m marks (λ a. is_it (call_at m a) b)
+
+-- a text begins at the address, behind a reached instruction, that ends with a zero byte
+unfoldable pub is_text_start : FlowView → List Bool → ℕ → Bool
+is_text_start f marks b = any_marked f.map marks (λ a. is_it (text_at f a) b)

@@ -4,7 +4,7 @@
 -- byte with another reached instruction, and if there are at least four of them. Data and text fail at this nearly always, since two
 -- fifths of all bytes are no opcode.
 use Rattle.std.specs.Prelude.{◌≡◌, ℕ, ◌+◌, ◌≤◌, ◌&&◌, ◌||◌, not, nat_le, Bool, true, false, List, Option, Some, None, count_by, is_some}
-use Rattle.isa65.specs.Mode.{len_of, row_of}
+use Rattle.isa65.specs.Mode.{row_of}
 use Rattle.isa65.specs.declared.mnemonic.Mnemonic.TheVariants.{Brk}
 use Rattle.isa65.specs.declared.op.Op.{Op}
 use Rattle.isa65.specs.declared.row.OperandKind.TheVariants.{Distance}
@@ -13,7 +13,7 @@ use Rattle.isa65.specs.declared.row.Row.TheVariants.{One, Two}
 use Rattle.map65.specs.ImageView.{ImageView, bytes_from, is_inside}
 use Rattle.map65.specs.MapView.{MapView}
 use Rattle.map65.specs.Targets.{only_inside}
-use Rattle.reach65.specs.Flow.{goal_of, instruction_at, is, is_last}
+use Rattle.reach65.specs.Flow.{FlowView, goal_of, instruction_at, is, is_last, next_of}
 use Rattle.reach65.specs.Reached.{is_marked}
 use Rattle.reach65.specs.Taken.{has_byte}
 
@@ -24,9 +24,9 @@ abbrev pub is_begun : MapView → Option ℕ → Bool
 is_begun m None = false
 is_begun m (Some a) = is_some (instruction_at m a)
 
--- the instruction is the last one, or another one begins where it ends
-abbrev pub goes_on : MapView → Op → ℕ → Bool
-goes_on m op a = is_last op.mnemonic || is_begun m (only_inside m.image (a + len_of op.mode))
+-- the instruction is the last one, or another one begins where code goes on
+abbrev pub goes_on : FlowView → Op → ℕ → Bool
+goes_on f op a = is_last op.mnemonic || is_begun f.map (next_of f a (Some op))
 
 -- a branch, by its last operand
 abbrev pub is_branch : Row → Bool
@@ -43,14 +43,14 @@ abbrev pub leads_well : MapView → Row → Option ℕ → Bool
 leads_well m row None = not (is_branch row)
 leads_well m row (Some t) = is_begun m (only_inside m.image t) || (not (is_branch row) && is_beyond m.image t)
 
-abbrev pub is_fine_op : MapView → ℕ → Option Op → Bool
-is_fine_op m a None = false
-is_fine_op m a (Some op) =
-    not (is op.mnemonic Brk) && (goes_on m op a && leads_well m (row_of op.mode) (goal_of op.mnemonic op.mode a (bytes_from m.image a)))
+abbrev pub is_fine_op : FlowView → ℕ → Option Op → Bool
+is_fine_op f a None = false
+is_fine_op f a (Some op) =
+    not (is op.mnemonic Brk) && (goes_on f op a && leads_well f.map (row_of op.mode) (goal_of op.mnemonic op.mode a (bytes_from f.map.image a)))
 
 -- An instruction begins at the address, it is no `brk`, and instructions begin where it leads.
-unfoldable pub is_fine : MapView → ℕ → Bool
-is_fine m a = is_fine_op m a (instruction_at m a)
+unfoldable pub is_fine : FlowView → ℕ → Bool
+is_fine f a = is_fine_op f a (instruction_at f.map a)
 
 -- it shares no byte with another marked instruction
 pub record IsApart (m : MapView) (marks : List Bool) (b : ℕ) : Type 0 where
@@ -63,7 +63,7 @@ unfoldable pub marked_count : List Bool → ℕ
 marked_count marks = count_by (λ b. b) marks
 
 -- a sound beginning: what the marks `after` have beside the marks `before`
-pub record IsSound (m : MapView) (before after : List Bool) : Type 0 where
-  pub fine : (b : ℕ) → is_marked after b ≡ true → is_marked before b ≡ false → is_fine m b ≡ true
-  pub apart : (b : ℕ) → is_marked after b ≡ true → is_marked before b ≡ false → IsApart m after b
+pub record IsSound (f : FlowView) (before after : List Bool) : Type 0 where
+  pub fine : (b : ℕ) → is_marked after b ≡ true → is_marked before b ≡ false → is_fine f b ≡ true
+  pub apart : (b : ℕ) → is_marked after b ≡ true → is_marked before b ≡ false → IsApart f.map after b
   pub four : marked_count before + 4 ≤ marked_count after

@@ -1,15 +1,17 @@
--- Worked examples: where instructions lead, which entries there are, what a sound beginning is, what reached instructions do, and which words
+-- Worked examples: where instructions and texts behind calls lead, which entries there are, what a sound beginning is, what reached instructions do, and which words
 -- make a row.
 use Rattle.std.specs.Prelude.{◌≡◌, ℕ, Bool, true, false, List, [], ◌∷◌, map, Option, Some, None}
 use Rattle.isa65.specs.declared.cpu.Cpu.TheVariants.{M6502, M65C02}
-use Rattle.info65.specs.declared.information.range.RangeSpec.{RangeSpec}
 use Rattle.info65.specs.declared.information.range.RangeType.{RangeType}
 use Rattle.info65.specs.declared.information.range.RangeType.TheVariants as role
+use Rattle.info65.specs.declared.tags.tag.Tag.{Tag}
+use Rattle.info65.specs.declared.tags.tag.TagKind.TheVariants as kind
 use Rattle.map65.specs.MapRows.{code_at, map_of}
 use Rattle.map65.specs.MapView.{MapView}
 use Rattle.reach65.specs.Entries.{entries_of, plain_entries_of}
-use Rattle.reach65.specs.Flow.{goal_at, next_at}
-use Rattle.reach65.specs.Routines.{is_called, is_gone_on}
+use Rattle.reach65.specs.Flow.{FlowView, goal_at, next_at, text_at}
+use Rattle.reach65.specs.Pieces.{Ground, is_open, past_zero}
+use Rattle.reach65.specs.Routines.{is_called, is_gone_on, is_text_start}
 use Rattle.reach65.specs.Rows.{Words, is_of_table, is_row}
 use Rattle.reach65.specs.Sound.{IsApart, IsSound, is_fine}
 use Rattle.reach65.specs.Survey.{Survey, is_likely, is_routine}
@@ -26,17 +28,45 @@ bytes = code_at 0x1000
 abbrev pub with_range : ℕ → ℕ → RangeType → List ℕ → MapView
 with_range first last t = map_of M6502 (record { first = first; last = last; role = t } ∷ []) [] 0x1000
 
+-- without groups `#: ..`
+abbrev pub flow : MapView → FlowView
+flow m = record { map = m; tags = [] }
+
 -- the instruction at $1000 is fine
 abbrev pub is_first_fine : MapView → Bool
-is_first_fine m = is_fine m 0x1000
+is_first_fine m = is_fine (flow m) 0x1000
 
 -- jsr $1004; nop; rts
 abbrev pub a_call : List ℕ
 a_call = 0x20 ∷ 0x04 ∷ 0x10 ∷ 0xEA ∷ 0x60 ∷ []
 
+-- a group INLINE of the address, of this SIZE
+abbrev pub inline : ℕ → Option ℕ → Tag
+inline a size = record { kind = kind.Inline; line = 1; address = Some a; size = size; low = None; high = None; first = None; last = None }
+
+-- bytes at $1000, with these groups
+abbrev pub with_groups : List Tag → List ℕ → FlowView
+with_groups tags l = record { map = bytes l; tags = tags }
+
+-- jsr $1007; "HI" and a zero byte; rts; rts
+abbrev pub a_text : List ℕ
+a_text = 0x20 ∷ 0x07 ∷ 0x10 ∷ 0x48 ∷ 0x49 ∷ 0x00 ∷ 0x60 ∷ 0x60 ∷ []
+
+-- jsr $0006; "H" and a zero byte; rts, at $0000, and a group of the address
+abbrev pub low_text : FlowView
+low_text = record { map = code_at 0 (0x20 ∷ 0x06 ∷ 0x00 ∷ 0x48 ∷ 0x00 ∷ 0x60 ∷ 0x60 ∷ []); tags = inline 6 None ∷ [] }
+
+-- the fourth byte
+abbrev pub fourth : List Bool
+fourth = false ∷ false ∷ false ∷ true ∷ []
+
+-- bytes at $0000, of which something speaks for the fourth
+abbrev pub ground_of : List ℕ → Ground
+ground_of l = record { image = record { start = 0; bytes = l }; taken = fourth; words = []; texts = [] }
+
 -- bytes at $0000, with routines at $0006 and $0007: which bytes something speaks for, and which a vector has
 abbrev pub words_of : List Bool → List Bool → List ℕ → Words
-words_of taken vectors bytes = record { within = record { image = map.image; taken = taken; words = vectors }; code = record { reached = two; code = two; gone_on = []; called = []; operands = []; taken = [] } }
+words_of taken vectors bytes = record { within = record { image = map.image; taken = taken; words = vectors; texts = [] }; code = record { reached = two; code = two; gone_on = []; called = []; operands = []; taken = []; texts = [] } }
   where
     map : MapView
     map = code_at 0 bytes
@@ -62,27 +92,23 @@ each_of_it = true ∷ false ∷ false ∷ true ∷ true ∷ []
 -- reached instructions at $0000 to $0002: others go on to the first two, and the first is called
 abbrev pub three_reached : Survey
 three_reached =
-    record { reached = all; code = all; gone_on = true ∷ true ∷ []; called = true ∷ []; operands = []; taken = [] }
+    record { reached = all; code = all; gone_on = true ∷ true ∷ []; called = true ∷ []; operands = []; taken = []; texts = [] }
   where
     all : List Bool
     all = true ∷ true ∷ true ∷ []
-
--- the fourth byte
-abbrev pub fourth : List Bool
-fourth = false ∷ false ∷ false ∷ true ∷ []
 
 -- ---- the examples
 
 pub record WorkedCode : Type 0 where
   -- a call goes on after it, and rts does not
-  pub nexts : map (next_at (bytes a_call)) (0x1000 ∷ 0x1003 ∷ 0x1004 ∷ []) ≡ Some 0x1003 ∷ Some 0x1004 ∷ None ∷ []
+  pub nexts : map (next_at (flow (bytes a_call))) (0x1000 ∷ 0x1003 ∷ 0x1004 ∷ []) ≡ Some 0x1003 ∷ Some 0x1004 ∷ None ∷ []
   pub goals : map (goal_at (bytes a_call)) (0x1000 ∷ 0x1003 ∷ 0x1004 ∷ []) ≡ Some 0x1004 ∷ None ∷ None ∷ []
   -- nothing comes after jmp, jmp (), rti, brk
   pub last_ones :
-      map (λ b. next_at (bytes (b ∷ 0x00 ∷ 0x10 ∷ 0xEA ∷ [])) 0x1000) (0x4C ∷ 0x6C ∷ 0x40 ∷ 0x00 ∷ []) ≡ None ∷ None ∷ None ∷ None ∷ []
+      map (λ b. next_at (flow (bytes (b ∷ 0x00 ∷ 0x10 ∷ 0xEA ∷ []))) 0x1000) (0x4C ∷ 0x6C ∷ 0x40 ∷ 0x00 ∷ []) ≡ None ∷ None ∷ None ∷ None ∷ []
   -- bra alone of the branches
   pub branches :
-      map (λ b. next_at (map_of M65C02 [] [] 0x1000 (b ∷ 0x00 ∷ 0xEA ∷ [])) 0x1000) (0x80 ∷ 0xD0 ∷ []) ≡ None ∷ Some 0x1002 ∷ []
+      map (λ b. next_at (flow (map_of M65C02 [] [] 0x1000 (b ∷ 0x00 ∷ 0xEA ∷ []))) 0x1000) (0x80 ∷ 0xD0 ∷ []) ≡ None ∷ Some 0x1002 ∷ []
   -- the first address of the image, and what is given
   pub first_and_given : entries_of (bytes (0xEA ∷ [])) (0x1234 ∷ 0x5678 ∷ []) ≡ 0x1000 ∷ 0x1234 ∷ 0x5678 ∷ []
   -- a range of code begins there
@@ -109,18 +135,41 @@ pub record WorkedCode : Type 0 where
   -- nop before a range that is no code
   pub into_a_range : is_first_fine (with_range 0x1001 0x1001 role.ByteTable (0xEA ∷ 0x60 ∷ [])) ≡ false
   -- three instructions are too few
-  pub too_few : (m : MapView) → (IsSound m [] (true ∷ true ∷ true ∷ []) → ⊥)
+  pub too_few : (f : FlowView) → (IsSound f [] (true ∷ true ∷ true ∷ []) → ⊥)
   -- bit $60EA, and nop in it, at $0000
   pub overlapping : (IsApart (code_at 0 (0x2C ∷ 0xEA ∷ 0x60 ∷ [])) (true ∷ true ∷ []) 0 → ⊥)
+  -- Behind a call code goes on after its text: none, if no group has the address; up to and with the zero byte; two bytes; what the first
+  -- of two groups says.
+  pub texts :
+      map (λ t. next_at (with_groups t a_text) 0x1000)
+      ([] ∷ (inline 0x1006 None ∷ []) ∷ (inline 0x1007 None ∷ []) ∷ (inline 0x1007 (Some 2) ∷ []) ∷ (inline 0x1007 (Some 1) ∷ inline 0x1007 None ∷ []) ∷ [])
+      ≡ Some 0x1003 ∷ Some 0x1003 ∷ Some 0x1006 ∷ Some 0x1005 ∷ Some 0x1004 ∷ []
+  -- a group ENTRY says nothing of text
+  pub entry : next_at (with_groups (record (inline 0x1007 None) { kind = kind.Entry } ∷ []) a_text) 0x1000 ≡ Some 0x1003
+  -- a text of a routine outside the image, without a zero byte; one byte of it; more bytes than there are
+  pub endless : map (λ s. next_at (with_groups (inline 0x2000 s ∷ []) (0x20 ∷ 0x00 ∷ 0x20 ∷ 0x48 ∷ 0x49 ∷ [])) 0x1000) (None ∷ Some 1 ∷ Some 2 ∷ []) ≡ None ∷ Some 0x1004 ∷ None ∷ []
+  -- rts behind the text; no zero byte
+  pub fine_texts :
+      map (λ l. is_fine (with_groups (inline 0x2000 None ∷ []) l) 0x1000) ((0x20 ∷ 0x00 ∷ 0x20 ∷ 0xFF ∷ 0x00 ∷ 0x60 ∷ []) ∷ (0x20 ∷ 0x00 ∷ 0x20 ∷ 0x60 ∷ []) ∷ []) ≡ true ∷ false ∷ []
+  -- a text with a zero byte; one of two bytes; none; a jump is no call
+  pub text_addresses :
+      map (λ t. text_at (with_groups t a_text) 0x1000) ((inline 0x1007 None ∷ []) ∷ (inline 0x1007 (Some 2) ∷ []) ∷ [] ∷ []) ≡ Some 0x1003 ∷ None ∷ None ∷ []
+  pub no_text : text_at (with_groups (inline 0x1005 None ∷ []) (0x4C ∷ 0x05 ∷ 0x10 ∷ 0x48 ∷ 0x00 ∷ 0x60 ∷ [])) 0x1000 ≡ None
+  pub text_starts : map (is_text_start low_text (true ∷ [])) (2 ∷ 3 ∷ 4 ∷ []) ≡ false ∷ true ∷ false ∷ []
+  pub not_reached : is_text_start low_text [] 3 ≡ false
+  -- a byte, a zero byte, one that something speaks for, and one past the image
+  pub open_bytes : map (is_open (ground_of (1 ∷ 2 ∷ 0 ∷ 3 ∷ []))) (1 ∷ 2 ∷ 3 ∷ 4 ∷ []) ≡ true ∷ false ∷ false ∷ false ∷ []
+  -- the zero byte belongs to the text, and what something speaks for does not
+  pub after_zero : map (past_zero (ground_of (1 ∷ 2 ∷ 0 ∷ 0 ∷ []))) (2 ∷ 3 ∷ 4 ∷ []) ≡ 3 ∷ 3 ∷ 4 ∷ []
   -- what its instructions have, go on to, call, and have as operands
   pub code : map (is_code low_call each_of_it) (0 ∷ 2 ∷ 3 ∷ 4 ∷ 5 ∷ []) ≡ true ∷ true ∷ true ∷ true ∷ false ∷ []
-  pub gone_on : map (is_gone_on low_call each_of_it) (0 ∷ 3 ∷ 4 ∷ []) ≡ false ∷ true ∷ true ∷ []
+  pub gone_on : map (is_gone_on (flow low_call) each_of_it) (0 ∷ 3 ∷ 4 ∷ []) ≡ false ∷ true ∷ true ∷ []
   pub called : map (is_called low_call each_of_it) (0 ∷ 3 ∷ 4 ∷ []) ≡ false ∷ false ∷ true ∷ []
   pub operands : map (is_operand low_call each_of_it) (0 ∷ 3 ∷ 4 ∷ []) ≡ false ∷ false ∷ true ∷ []
   -- the call alone is not reached
   pub not_called : is_called low_call (false ∷ false ∷ false ∷ true ∷ true ∷ []) 4 ≡ false
   -- a branch to rts is no call, and a jump to it does not go on
-  pub branch : map (λ l. is_gone_on (code_at 0 l) (true ∷ []) 3) ((0xD0 ∷ 0x01 ∷ 0xEA ∷ 0x60 ∷ []) ∷ (0x4C ∷ 0x03 ∷ 0x00 ∷ 0x60 ∷ []) ∷ []) ≡ true ∷ false ∷ []
+  pub branch : map (λ l. is_gone_on (flow (code_at 0 l)) (true ∷ []) 3) ((0xD0 ∷ 0x01 ∷ 0xEA ∷ 0x60 ∷ []) ∷ (0x4C ∷ 0x03 ∷ 0x00 ∷ 0x60 ∷ []) ∷ []) ≡ true ∷ false ∷ []
   pub no_call : map (λ l. is_called (code_at 0 l) (true ∷ []) 3) ((0xD0 ∷ 0x01 ∷ 0xEA ∷ 0x60 ∷ []) ∷ (0x4C ∷ 0x03 ∷ 0x00 ∷ 0x60 ∷ []) ∷ []) ≡ false ∷ false ∷ []
   -- one that is called, one that is gone on to, one that is neither, and what is not reached
   pub routines : map (is_routine three_reached) (0 ∷ 1 ∷ 2 ∷ 3 ∷ []) ≡ true ∷ false ∷ true ∷ false ∷ []

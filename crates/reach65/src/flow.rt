@@ -3,28 +3,30 @@
 ghost use Rattle.std.specs.Prelude.{◌≡◌, ◌+◌, ◌≤◌, ◌<◌, length, IfSome, Some};
 ghost use Rattle.isa65.specs.Mode.{len_of, row_len};
 ghost use Rattle.map65.specs.ImageView.{byte_at, bytes_from, end_of};
-ghost use Rattle.reach65.specs.Flow.{goal_at, goal_by, goal_of, instruction_at, is_last, next_at, next_of, row_goal};
+ghost use Rattle.reach65.specs.Flow.{end_after, goal_at, goal_by, goal_of, instruction_at, is_last, next_at, next_of, row_goal, text_by, text_of};
 
-use info65::RangeType;
+use crate::inlines::{inline_of, text_end, zero_end_in};
+use info65::{RangeType, Tag};
 use isa65::{DecodeTable, Mnemonic, Op, OpcodeSet, OperandKind, Pattern, Row};
 use map65::{Image, Map, branch_target, is_jump, only_inside, word_of};
 use std::alloc::{Allocator, Global};
 use std::marker::Model;
 
-/// The instructions of a map, and where they lead.
+/// The instructions of a map, and where they lead, with the groups `#: ..` of the information file.
 #[derive(Drop)]
 pub struct Flow<'a, 'm, A: Allocator = Global> {
     map: &'a Map<'m, A>,
     opcodes: DecodeTable,
+    tags: &'a [Tag],
 }
 
 impl<'a, 'm, A: Allocator> Model for Flow<'a, 'm, A> {
     ghost use Rattle.std.specs.Prelude.{◌≡◌};
-    ghost use Rattle.map65.specs.MapView.{MapView};
+    ghost use Rattle.reach65.specs.Flow.{FlowView};
 
-    ghost Value = { MapView };
+    ghost Value = { FlowView };
 
-    ghost view = { λ f. f.map.now };
+    ghost view = { λ f. record { map = f.map.now; tags = f.tags.now } };
 
     ghost invariant = { λ f. f.opcodes ≡ f.map.now.info.settings.cpu };
 }
@@ -92,17 +94,17 @@ pub fn goal_of(op: Op, address: u16, bytes: &[u8]) -> Option<u16>
 }
 
 impl<'a, 'm, A: Allocator> Flow<'a, 'm, A> {
-    /// The instructions of a map.
-    pub fn new(map: &'a Map<'m, A>) -> Flow<'a, 'm, A>
-        ensures { result ≡ map.now }
+    /// The instructions of a map; the groups INLINE among these count.
+    pub fn new(map: &'a Map<'m, A>, tags: &'a [Tag]) -> Flow<'a, 'm, A>
+        ensures { result ≡ record { map = map.now; tags = tags.now } }
     {
         let opcodes = DecodeTable::new(map.info().settings().cpu);
-        Flow { map, opcodes }
+        Flow { map, opcodes, tags }
     }
 
     /// Returns the map.
     pub fn map(&self) -> &'a Map<'m, A>
-        ensures { result.now ≡ self.now }
+        ensures { result.now ≡ self.now.map }
     {
         self.map
     }
@@ -111,10 +113,10 @@ impl<'a, 'm, A: Allocator> Flow<'a, 'm, A> {
     /// undefined, or if its bytes do not all lie in the image.
     #[tactic(auto, unfolding(crate::specs::Flow::instruction_at))]
     pub fn instruction_at(&self, address: u16) -> Option<Op>
-        ensures value { result ≡ instruction_at self.now address }
-        ensures low { IfSome result (λ _. self.now.image.start ≤ address) }
-        ensures high { IfSome result (λ _. address < end_of self.now.image) }
-        ensures whole { IfSome result (λ op. address + len_of op.mode ≤ end_of self.now.image) }
+        ensures value { result ≡ instruction_at self.now.map address }
+        ensures low { IfSome result (λ _. self.now.map.image.start ≤ address) }
+        ensures high { IfSome result (λ _. address < end_of self.now.map.image) }
+        ensures whole { IfSome result (λ op. address + len_of op.mode ≤ end_of self.now.map.image) }
     {
         let Some(RangeType::Code) = self.map.role(address) else {
             return None;
@@ -126,7 +128,37 @@ impl<'a, 'm, A: Allocator> Flow<'a, 'm, A> {
         }
     }
 
-    /// Returns the address after the instruction, if it leads there.
+    /// What the information file says of the text behind this instruction of the address.
+    #[tactic(auto, unfolding(crate::specs::Flow::text_of))]
+    fn text_of(&self, address: u16, op: Op) -> Option<Tag>
+        requires low { self.now.map.image.start ≤ address }
+        requires high { address < end_of self.now.map.image }
+        requires whole { address + len_of op.mode ≤ end_of self.now.map.image }
+        ensures { result ≡ text_of self.now address op }
+    {
+        if op.mnemonic != Mnemonic::Jsr {
+            return None;
+        }
+        let goal = goal_of(op, address, bytes_from(self.map.image(), address))?;
+        inline_of(self.tags, goal)
+    }
+
+    /// The address after this instruction of the address, and after the text behind it.
+    #[tactic(auto, unfolding(crate::specs::Flow::end_after))]
+    pub fn end_after(&self, address: u16, op: Op) -> Option<usize>
+        requires low { self.now.map.image.start ≤ address }
+        requires high { address < end_of self.now.map.image }
+        requires whole { address + len_of op.mode ≤ end_of self.now.map.image }
+        ensures { result ≡ end_after self.now address op }
+    {
+        let end = usize::from(address) + usize::from(op.mode.len());
+        match self.text_of(address, op) {
+            Some(tag) => text_end(self.map.image(), tag.size, end),
+            None => Some(end),
+        }
+    }
+
+    /// Returns the address after the instruction and its text, if it leads there.
     #[tactic(auto, unfolding(crate::specs::Flow::next_at))]
     pub fn next_at(&self, address: u16) -> Option<u16>
         ensures { result ≡ next_at self.now address }
@@ -135,21 +167,39 @@ impl<'a, 'm, A: Allocator> Flow<'a, 'm, A> {
         self.next_of(address, op)
     }
 
-    /// Returns the address after this instruction of the address, if it leads there.
+    /// Returns the address after this instruction of the address and its text, if it leads there.
     pub fn next_of(&self, address: u16, op: Op) -> Option<u16>
+        requires low { self.now.map.image.start ≤ address }
+        requires high { address < end_of self.now.map.image }
+        requires whole { address + len_of op.mode ≤ end_of self.now.map.image }
         ensures { result ≡ next_of self.now address (Some op) }
     {
         if is_last(op.mnemonic) {
             return None;
         }
-        let next = usize::from(address) + usize::from(op.mode.len());
-        only_inside(self.map.image(), next)
+        only_inside(self.map.image(), self.end_after(address, op)?)
+    }
+
+    /// Returns the address of the text behind this instruction of the address, if it ends with a zero byte.
+    #[tactic(auto, unfolding(crate::specs::Flow::end_after))]
+    pub fn text_by(&self, address: u16, op: Op) -> Option<u16>
+        requires low { self.now.map.image.start ≤ address }
+        requires high { address < end_of self.now.map.image }
+        requires whole { address + len_of op.mode ≤ end_of self.now.map.image }
+        ensures { result ≡ text_by self.now address (Some op) }
+    {
+        if self.text_of(address, op)?.size.is_some() {
+            return None;
+        }
+        let text = usize::from(address) + usize::from(op.mode.len());
+        zero_end_in(self.map.image(), text)?;
+        Some(text as u16)
     }
 
     /// Returns the address that the instruction goes to by its operand, if it lies in the image.
     #[tactic(auto, unfolding(crate::specs::Flow::goal_at))]
     pub fn goal_at(&self, address: u16) -> Option<u16>
-        ensures { result ≡ goal_at self.now address }
+        ensures { result ≡ goal_at self.now.map address }
     {
         let op = self.instruction_at(address)?;
         self.goal_by(address, op)
@@ -157,10 +207,10 @@ impl<'a, 'm, A: Allocator> Flow<'a, 'm, A> {
 
     /// Returns the address that this instruction of the address goes to by its operand, if it lies in the image.
     pub fn goal_by(&self, address: u16, op: Op) -> Option<u16>
-        requires low { self.now.image.start ≤ address }
-        requires high { address < end_of self.now.image }
-        requires whole { address + len_of op.mode ≤ end_of self.now.image }
-        ensures { result ≡ goal_by self.now address (Some op) }
+        requires low { self.now.map.image.start ≤ address }
+        requires high { address < end_of self.now.map.image }
+        requires whole { address + len_of op.mode ≤ end_of self.now.map.image }
+        ensures { result ≡ goal_by self.now.map address (Some op) }
     {
         let image = self.map.image();
         let goal = goal_of(op, address, bytes_from(image, address))?;

@@ -64,7 +64,7 @@ struct Candidate {
 
 // ---- kinds
 
-/// Whether a reached instruction ends before the address.
+/// Whether a reached instruction, or the text behind it, ends before the address.
 fn is_behind<A: Allocator>(flow: &Flow<'_, '_, A>, marks: &[bool], candidate: Candidate) -> bool
     requires { length marks.now ≡ 65536 }
     ensures { result ≡ true → IsCandidate flow.now marks.now candidate.address }
@@ -73,10 +73,7 @@ fn is_behind<A: Allocator>(flow: &Flow<'_, '_, A>, marks: &[bool], candidate: Ca
         return false;
     }
     match flow.instruction_at(candidate.reason) {
-        Some(op) => {
-            usize::from(candidate.reason) + usize::from(op.mode.len())
-                == usize::from(candidate.address)
-        }
+        Some(op) => { flow.end_after(candidate.reason, op) == Some(usize::from(candidate.address)) }
         None => false,
     }
 }
@@ -221,9 +218,12 @@ fn put_candidates_of<A: Allocator, B: Allocator>(
     let Some(op) = flow.instruction_at(reason) else {
         return Ok(());
     };
-    match reason.checked_add(u16::from(op.mode.len())) {
-        Some(address) => put_candidate(found, marks, Candidate { address, reason }),
-        None => Ok(()),
+    let Some(end) = flow.end_after(reason, op) else {
+        return Ok(());
+    };
+    match u16::try_from(end) {
+        Ok(address) => put_candidate(found, marks, Candidate { address, reason }),
+        Err(_) => Ok(()),
     }
 }
 
@@ -287,7 +287,7 @@ fn grow<A: Allocator + Copy, B: Allocator>(
 }
 
 /// Follows the code from its entries, and from the sound beginnings among what the tables of the information file refer to, the addresses
-/// that reached code has in halves, and those right after a reached instruction. Each is tried once that is known, in the order of the
+/// that reached code has in halves, and those right after a reached instruction and its text. Each is tried once that is known, in the order of the
 /// addresses, until none joins. The time grows with the number of addresses that are reached. Fails only if an allocation failed.
 #[tactic(auto, using(crate::proofs::GrowthLemmas::is_followed, crate::proofs::GrowthLemmas::grown_then))]
 pub fn follow<A: Allocator + Copy, B: Allocator>(

@@ -7,6 +7,7 @@ mod entries;
 mod flow;
 mod growth;
 mod halves;
+mod inlines;
 mod labels;
 pub mod laws;
 mod marks;

@@ -89,10 +89,10 @@ fn operand_address(mode: Mode, bytes: &[u8]) -> Option<u16>
 #[tactic(auto, unfolding(crate::specs::Pairs::reached_op))]
 fn reached_op<A: Allocator>(flow: &Flow<'_, '_, A>, reached: &[bool], address: usize) -> Option<Op>
     requires { length reached.now ≡ 65536 }
-    ensures value { result ≡ reached_op flow.now reached.now address }
-    ensures low { IfSome result (λ _. flow.now.image.start ≤ address) }
+    ensures value { result ≡ reached_op flow.now.map reached.now address }
+    ensures low { IfSome result (λ _. flow.now.map.image.start ≤ address) }
     ensures high { IfSome result (λ _. address < 65536) }
-    ensures whole { IfSome result (λ op. address + len_of op.mode ≤ end_of flow.now.image) }
+    ensures whole { IfSome result (λ op. address + len_of op.mode ≤ end_of flow.now.map.image) }
 {
     if address < ADDRESSES && reached[address] {
         flow.instruction_at(address as u16)
@@ -109,9 +109,9 @@ fn load_at<A: Allocator>(
     address: usize,
 ) -> Option<Register>
     requires { length reached.now ≡ 65536 }
-    ensures value { result ≡ load_at flow.now reached.now address }
-    ensures low { IfSome result (λ _. flow.now.image.start ≤ address) }
-    ensures whole { IfSome result (λ _. address + 2 ≤ end_of flow.now.image) }
+    ensures value { result ≡ load_at flow.now.map reached.now address }
+    ensures low { IfSome result (λ _. flow.now.map.image.start ≤ address) }
+    ensures whole { IfSome result (λ _. address + 2 ≤ end_of flow.now.map.image) }
 {
     let op = reached_op(flow, reached, address)?;
     loaded(op)
@@ -121,7 +121,7 @@ fn load_at<A: Allocator>(
 #[tactic(auto, unfolding(crate::specs::Pairs::store_at))]
 fn store_at<A: Allocator>(flow: &Flow<'_, '_, A>, reached: &[bool], address: usize) -> Option<Store>
     requires { length reached.now ≡ 65536 }
-    ensures value { result ≡ store_at flow.now reached.now address }
+    ensures value { result ≡ store_at flow.now.map reached.now address }
     ensures room { IfSome result (λ s. s.next ≤ 65536) }
     ensures after { IfSome result (λ s. address ≤ s.next) }
 {
@@ -285,10 +285,10 @@ fn put_by_stores<A: Allocator, B: Allocator>(
     store: Option<Store>,
 ) -> Result<(), AllocError>
     requires count { length reached.now ≡ 65536 }
-    requires low { flow.now.image.start ≤ address }
+    requires low { flow.now.map.image.start ≤ address }
     requires after { IfSome store (λ s. address < s.next) }
     requires room { IfSome store (λ s. s.next ≤ 65536) }
-    ensures { OnOk result (found.new.items ≡ found.old.items ++ by_stores flow.now reached.now address register store) }
+    ensures { OnOk result (found.new.items ≡ found.old.items ++ by_stores flow.now.map reached.now address register store) }
 {
     let Some(first) = store else {
         return Ok(());
@@ -311,7 +311,7 @@ pub fn put_pairs_at<A: Allocator, B: Allocator>(
 ) -> Result<(), AllocError>
     requires count { length reached.now ≡ 65536 }
     requires room { address < 65536 }
-    ensures { OnOk result (found.new.items ≡ found.old.items ++ pairs_at flow.now reached.now address) }
+    ensures { OnOk result (found.new.items ≡ found.old.items ++ pairs_at flow.now.map reached.now address) }
 {
     let Some(register) = load_at(flow, reached, address) else {
         return Ok(());
@@ -330,7 +330,7 @@ pub fn pairs_of<A: Allocator, B: Allocator>(
     reached: &[bool],
 ) -> Result<Vec<Pair, A>, AllocError>
     requires { length reached.now ≡ 65536 }
-    ensures { IfOk result (λ found. found.items ≡ pairs_of flow.now reached.now) }
+    ensures { IfOk result (λ found. found.items ≡ pairs_of flow.now.map reached.now) }
 {
     let mut found = Vec::new(alloc);
     let image = flow.map().image();

@@ -3,7 +3,8 @@
 ghost use Rattle.std.specs.Prelude.{◌≡◌, ◌≢◌, ◌+◌, ◌<◌, ◌≤◌, ℕ, IfNone, IfOk, IfSome, IsTrue, false, true, get_or, length, replicate, take};
 ghost use Rattle.map65.specs.ImageView.{byte_at, bytes_from, end_of, is_inside};
 ghost use Rattle.reach65.specs.Code.Cutting.{AreLens, IsTail, no_lens};
-ghost use Rattle.reach65.specs.Pieces.{ArePieces, IsPiece, LieIn, are_same, begins_text, chars_at, is_break, is_filler, is_free, is_plain, is_same, is_word, is_written, len_in, longer, text_len};
+ghost use Rattle.reach65.specs.Pieces.{ArePieces, IsKnown, IsPiece, IsStretch, LieIn, are_same, begins_text, chars_at, is_break, is_filler, is_free, is_open, is_plain, is_same, is_word, is_written, len_in, longer, text_len};
+ghost use Rattle.reach65.specs.Reached.{is_marked};
 ghost use Rattle.reach65.specs.Rows.{free_word};
 ghost use Rattle.reach65.specs.Taken.{is_given};
 
@@ -18,12 +19,13 @@ use std::marker::Model;
 /// The least number of equal bytes that are filler.
 const FILLER: usize = 16;
 
-/// An image, the addresses that something speaks for, and those of words that are addresses.
+/// An image, the addresses that something speaks for, those of words that are addresses, and where texts are known to begin.
 #[derive(Drop)]
 pub struct Ground<'a, A: Allocator = Global> {
     image: &'a Image<A>,
     taken: &'a [bool],
     words: &'a [bool],
+    texts: &'a [bool],
 }
 
 impl<'a, A: Allocator> Model for Ground<'a, A> {
@@ -32,9 +34,9 @@ impl<'a, A: Allocator> Model for Ground<'a, A> {
 
     ghost Value = { Ground };
 
-    ghost view = { λ g. record { image = g.image.now; taken = g.taken.now; words = g.words.now } };
+    ghost view = { λ g. record { image = g.image.now; taken = g.taken.now; words = g.words.now; texts = g.texts.now } };
 
-    ghost invariant = { λ g. (length g.taken.now ≡ 65536) × (length g.words.now ≡ 65536) };
+    ghost invariant = { λ g. (length g.taken.now ≡ 65536) × (length g.words.now ≡ 65536) × (length g.texts.now ≡ 65536) };
 }
 
 /// This many lengths, all 0.
@@ -67,17 +69,24 @@ fn raise_to<A: Allocator>(lens: &mut Vec<usize, A>, address: usize, len: usize)
 }
 
 impl<'a, A: Allocator> Ground<'a, A> {
-    /// An image, and marks of the addresses that something speaks for and of those of words that are addresses, one for each address from
-    /// $0000 to $FFFF.
-    pub fn new(image: &'a Image<A>, taken: &'a [bool], words: &'a [bool]) -> Ground<'a, A>
+    /// An image, and marks of the addresses that something speaks for, of those of words that are addresses, and of those where texts are
+    /// known to begin, one for each address from $0000 to $FFFF.
+    pub fn new(
+        image: &'a Image<A>,
+        taken: &'a [bool],
+        words: &'a [bool],
+        texts: &'a [bool],
+    ) -> Ground<'a, A>
         requires taken { length taken.now ≡ 65536 }
         requires words { length words.now ≡ 65536 }
-        ensures { result ≡ record { image = image.now; taken = taken.now; words = words.now } }
+        requires texts { length texts.now ≡ 65536 }
+        ensures { result ≡ record { image = image.now; taken = taken.now; words = words.now; texts = texts.now } }
     {
         Ground {
             image,
             taken,
             words,
+            texts,
         }
     }
 
@@ -306,9 +315,55 @@ impl<'a, A: Allocator> Ground<'a, A> {
         self.filler_end(first)
     }
 
+    /// Whether a text is known to begin at the address.
+    fn is_known(&self, address: usize) -> bool
+        requires { address < 65536 }
+        ensures { result ≡ is_marked self.now.texts address }
+    {
+        self.texts[address]
+    }
+
+    /// Whether a byte that is not zero stands at a free address.
+    #[tactic(auto, unfolding(crate::specs::Pieces::is_open))]
+    fn is_open(&self, address: usize) -> bool
+        ensures { result ≡ is_open self.now address }
+    {
+        self.is_free(address) && byte_at(self.image, address) != 0
+    }
+
+    /// The first address from this one on that is not free or has a zero byte.
+    fn open_end(&self, from: usize) -> usize
+        requires below { from < end_of self.now.image }
+        ensures low { from ≤ result }
+        ensures high { result ≤ 65536 }
+        ensures inside { (a : ℕ) → from ≤ a → a < result → is_open self.now a ≡ true }
+        ensures stops { is_open self.now result ≡ false }
+    {
+        let end = self.image_end();
+        'open: for at in from..end {
+            if !self.is_open(at) {
+                return at;
+            }
+        }
+        end
+    }
+
+    /// Where the text ends that is known to begin at the address: after its zero byte.
+    #[tactic(auto, unfolding(crate::specs::Pieces::past_zero))]
+    fn known_end(&self, from: usize) -> usize
+        requires below { from < end_of self.now.image }
+        requires here { is_free self.now from ≡ true }
+        ensures low { from < result }
+        ensures high { result ≤ 65536 }
+        ensures known { IsKnown self.now from result }
+    {
+        let last = self.open_end(from);
+        if self.is_free(last) { last + 1 } else { last }
+    }
+
     /// Returns what is proposed for the addresses of the image that nothing speaks for: an ADDRTABLE for words that are addresses, a BYTETABLE
-    /// for each stretch of at least 16 equal bytes, a TEXTTABLE for each text of ASCII, a BYTETABLE for each other text, and a BYTETABLE for each
-    /// stretch between these. The ranges ascend. The time grows with the number of addresses. Fails only if an allocation failed.
+    /// for each stretch of at least 16 equal bytes, a TEXTTABLE for each text of ASCII and each text that is known, a BYTETABLE for each other
+    /// text, and a BYTETABLE for each stretch between these. The ranges ascend. The time grows with the number of addresses. Fails only if an allocation failed.
     pub fn pieces<B: Allocator + Copy>(&self, alloc: B) -> Result<Vec<RangeSpec, B>, AllocError>
         ensures pieces { IfOk result (λ found. ArePieces self.now 0 found.items) }
 
@@ -433,6 +488,23 @@ impl<'a, 'g, A: Allocator> Texts<'a, 'g, A> {
         (RangeType::ByteTable, self.bytes_piece(first))
     }
 
+    /// The same, or a text that is known to begin there.
+    fn stretch_at(&self, first: usize) -> (RangeType, usize)
+        requires start { self.now.image.start ≤ first }
+        requires below { first < end_of self.now.image }
+        requires free { is_free self.now first ≡ true }
+        ensures low { first < result.1 }
+        ensures high { result.1 ≤ 65536 }
+        ensures piece { IsStretch self.now result.0 first result.1 }
+    {
+        self.ground.image_end();
+        if self.ground.is_known(first) {
+            (RangeType::TextTable, self.ground.known_end(first))
+        } else {
+            self.role_and_end(first)
+        }
+    }
+
     /// The piece that begins at a free address.
     fn piece_at(&self, first: usize) -> RangeSpec
         requires start { self.now.image.start ≤ first }
@@ -441,9 +513,9 @@ impl<'a, 'g, A: Allocator> Texts<'a, 'g, A> {
         ensures first { result.first ≡ first }
         ensures ordered { result.first ≤ result.last }
         ensures room { result.last < 65536 }
-        ensures piece { IsPiece self.now result.role result.first (result.last + 1) }
+        ensures piece { IsStretch self.now result.role result.first (result.last + 1) }
     {
-        let (role, end) = self.role_and_end(first);
+        let (role, end) = self.stretch_at(first);
         RangeSpec {
             first: first as u16,
             last: (end - 1) as u16,
@@ -457,7 +529,7 @@ impl<'a, 'g, A: Allocator> Texts<'a, 'g, A> {
         ensures before { IfSome result (λ r. (a : ℕ) → from ≤ a → a < r.first → is_free self.now a ≡ false) }
         ensures ordered { IfSome result (λ r. r.first ≤ r.last) }
         ensures room { IfSome result (λ r. r.last < 65536) }
-        ensures piece { IfSome result (λ r. IsPiece self.now r.role r.first (r.last + 1)) }
+        ensures piece { IfSome result (λ r. IsStretch self.now r.role r.first (r.last + 1)) }
         ensures none { IfNone result ((a : ℕ) → from ≤ a → is_free self.now a ≡ false) }
     {
         match self.ground.first_free(from) {

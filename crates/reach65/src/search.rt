@@ -124,7 +124,7 @@ impl<A: Allocator> Search<A> {
         flow: &Flow<'_, '_, B>,
         address: u16,
     ) -> Result<(), AllocError>
-        ensures { OnOk result (self.new ≡ put_some (put_some self.old (next_at flow.now address)) (goal_at flow.now address)) }
+        ensures { OnOk result (self.new ≡ put_some (put_some self.old (next_at flow.now address)) (goal_at flow.now.map address)) }
     {
         let Some(op) = flow.instruction_at(address) else {
             return Ok(());

@@ -20,7 +20,7 @@ const LEAST: usize = 4;
 
 /// Whether an instruction begins at the address, if there is one.
 fn is_begun<A: Allocator>(flow: &Flow<'_, '_, A>, address: Option<u16>) -> bool
-    ensures { result ≡ is_begun flow.now address }
+    ensures { result ≡ is_begun flow.now.map address }
 {
     match address {
         Some(address) => flow.instruction_at(address).is_some(),
@@ -28,12 +28,14 @@ fn is_begun<A: Allocator>(flow: &Flow<'_, '_, A>, address: Option<u16>) -> bool
     }
 }
 
-/// Whether another instruction begins where this one ends, unless it is the last one.
+/// Whether another instruction begins where code goes on behind this one, unless it is the last one.
 fn goes_on<A: Allocator>(flow: &Flow<'_, '_, A>, op: Op, address: u16) -> bool
+    requires low { flow.now.map.image.start ≤ address }
+    requires high { address < end_of flow.now.map.image }
+    requires whole { address + len_of op.mode ≤ end_of flow.now.map.image }
     ensures { result ≡ goes_on flow.now op address }
 {
-    let end = usize::from(address) + usize::from(op.mode.len());
-    is_last(op.mnemonic) || is_begun(flow, only_inside(flow.map().image(), end))
+    is_last(op.mnemonic) || is_begun(flow, flow.next_of(address, op))
 }
 
 /// Whether instructions of this row are branches.
@@ -56,7 +58,7 @@ fn is_beyond<A: Allocator>(image: &Image<A>, address: u16) -> bool
 
 /// Whether an instruction begins where one of this row leads by its operand, or a jump leads out of the image.
 fn leads_well<A: Allocator>(flow: &Flow<'_, '_, A>, row: Row, goal: Option<u16>) -> bool
-    ensures { result ≡ leads_well flow.now row goal }
+    ensures { result ≡ leads_well flow.now.map row goal }
 {
     let branch = is_branch(row);
     let Some(goal) = goal else {
@@ -68,9 +70,9 @@ fn leads_well<A: Allocator>(flow: &Flow<'_, '_, A>, row: Row, goal: Option<u16>)
 
 /// Whether the instruction of the address is no `brk`, and instructions begin where it leads.
 fn is_fine_op<A: Allocator>(flow: &Flow<'_, '_, A>, address: u16, op: Op) -> bool
-    requires low { flow.now.image.start ≤ address }
-    requires high { address < end_of flow.now.image }
-    requires whole { address + len_of op.mode ≤ end_of flow.now.image }
+    requires low { flow.now.map.image.start ≤ address }
+    requires high { address < end_of flow.now.map.image }
+    requires whole { address + len_of op.mode ≤ end_of flow.now.map.image }
     ensures { result ≡ is_fine_op flow.now address (Some op) }
 {
     if op.mnemonic == Mnemonic::Brk || !goes_on(flow, op, address) {
@@ -95,7 +97,7 @@ pub fn is_fine<A: Allocator>(flow: &Flow<'_, '_, A>, address: u16) -> bool
 
 /// The length of the instruction that begins at the address, and 0 if none does.
 fn len_at<A: Allocator>(flow: &Flow<'_, '_, A>, address: u16) -> u8
-    ensures value { result ≡ len_at flow.now address }
+    ensures value { result ≡ len_at flow.now.map address }
     ensures few { result ≤ 3 }
 {
     match flow.instruction_at(address) {
@@ -121,7 +123,7 @@ fn is_before<A: Allocator>(
     distance: u8,
 ) -> bool
     requires { length marks.now ≡ 65536 }
-    ensures { result ≡ is_before flow.now marks.now address distance }
+    ensures { result ≡ is_before flow.now.map marks.now address distance }
 {
     let distance = u16::from(distance);
     if address < distance {
@@ -135,7 +137,7 @@ fn is_before<A: Allocator>(
 #[tactic(auto, using(crate::proofs::ApartLemmas::tests_apart))]
 fn is_apart<A: Allocator>(flow: &Flow<'_, '_, A>, marks: &[bool], address: u16) -> bool
     requires { length marks.now ≡ 65536 }
-    ensures { result ≡ true → IsApart flow.now marks.now address }
+    ensures { result ≡ true → IsApart flow.now.map marks.now address }
 {
     let len = len_at(flow, address);
     if is_after(marks, address, len, 1) || is_after(marks, address, len, 2) {

@@ -31,6 +31,8 @@ pub struct Survey<A: Allocator = Global> {
     pub operands: Vec<bool, A>,
     /// Something speaks for it: a range of the information file or a reached instruction has it.
     pub taken: Vec<bool, A>,
+    /// A text behind a call begins there that ends with a zero byte.
+    pub texts: Vec<bool, A>,
 }
 
 impl<A: Allocator> Model for Survey<A> {
@@ -46,9 +48,10 @@ impl<A: Allocator> Model for Survey<A> {
       called = s.called.items;
       operands = s.operands.items;
       taken = s.taken.items;
+      texts = s.texts.items;
     } };
 
-    ghost invariant = { λ s. (length s.reached.items ≡ 65536) × (length s.code.items ≡ 65536) × (length s.gone_on.items ≡ 65536) × (length s.called.items ≡ 65536) × (length s.operands.items ≡ 65536) × (length s.taken.items ≡ 65536) };
+    ghost invariant = { λ s. (length s.reached.items ≡ 65536) × (length s.code.items ≡ 65536) × (length s.gone_on.items ≡ 65536) × (length s.called.items ≡ 65536) × (length s.operands.items ≡ 65536) × (length s.taken.items ≡ 65536) × (length s.texts.items ≡ 65536) };
 }
 
 // ---- one instruction
@@ -95,6 +98,7 @@ impl<A: Allocator> Survey<A> {
         let called = blank_marks(alloc)?;
         let operands = blank_marks(alloc)?;
         let taken = blank_marks(alloc)?;
+        let texts = blank_marks(alloc)?;
         Ok(Survey {
             reached,
             code,
@@ -102,6 +106,7 @@ impl<A: Allocator> Survey<A> {
             called,
             operands,
             taken,
+            texts,
         })
     }
 
@@ -114,9 +119,9 @@ impl<A: Allocator> Survey<A> {
 
     /// Marks what this instruction of the address has, and what it leads to.
     fn mark_op<B: Allocator>(&mut self, flow: &Flow<'_, '_, B>, address: u16, op: Op)
-        requires low { flow.now.image.start ≤ address }
-        requires high { address < end_of flow.now.image }
-        requires whole { address + len_of op.mode ≤ end_of flow.now.image }
+        requires low { flow.now.map.image.start ≤ address }
+        requires high { address < end_of flow.now.map.image }
+        requires whole { address + len_of op.mode ≤ end_of flow.now.map.image }
         ensures { AddsOp flow.now address (Some op) self.old self.new }
     {
         let bytes = bytes_from(flow.map().image(), address);
@@ -129,6 +134,7 @@ impl<A: Allocator> Survey<A> {
         mark_some(&mut self.gone_on, branch_of(op, goal));
         mark_some(&mut self.called, call_of(op, goal));
         mark_some(&mut self.operands, word_in(op.mode.row(), bytes));
+        mark_some(&mut self.texts, flow.text_by(address, op));
     }
 
     /// The same of the instruction of the address, if it is reached.
@@ -146,7 +152,7 @@ impl<A: Allocator> Survey<A> {
 
     /// The same of all reached instructions.
     fn mark_all<B: Allocator>(&mut self, flow: &Flow<'_, '_, B>)
-        ensures { Adds flow.now (any_marked flow.now self.old.reached) self.old self.new }
+        ensures { Adds flow.now (any_marked flow.now.map self.old.reached) self.old self.new }
     {
         let image = flow.map().image();
         let start = usize::from(image.start());

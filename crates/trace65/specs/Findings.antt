@@ -5,6 +5,7 @@ use Rattle.info65.specs.declared.tags.tag.Tag.{Tag}
 use Rattle.map65.specs.ImageView.{ImageView}
 use Rattle.map65.specs.MapView.{MapView}
 use Rattle.reach65.specs.Entries.{entries_of, plain_entries_of}
+use Rattle.reach65.specs.Flow.{FlowView}
 use Rattle.reach65.specs.Growth.{AreFollowed}
 use Rattle.reach65.specs.Halves.{AreHalves}
 use Rattle.reach65.specs.Labels.{AreNewLabels, labels_of}
@@ -33,9 +34,9 @@ pub record Findings : Type 0 where
 
 -- What is marked: what is reached from the entries and from sound beginnings; or, if no more is to be followed, from the entries and
 -- what tables refer to.
-abbrev pub AreTraced : MapView → List ℕ → Bool → List Bool → Type 0
-AreTraced m given true marks = AreReached m (plain_entries_of m given) marks
-AreTraced m given false marks = AreFollowed m (entries_of m given) marks
+abbrev pub AreTraced : FlowView → List ℕ → Bool → List Bool → Type 0
+AreTraced f given true marks = AreReached f (plain_entries_of f.map given) marks
+AreTraced f given false marks = AreFollowed f (entries_of f.map given) marks
 
 -- which of these pairs are an address, if no byte is taken that a group HALVES has
 pub record ArePairs (tags : List Tag) (survey : Survey) (pairs found : List Pair) : Type 0 where
@@ -48,16 +49,16 @@ pub record AreWordMarks (image : ImageView) (survey : Survey) (words : List Bool
   pub vectors : List Bool
   pub of_vectors : AreMarkedBy (is_of_vector image survey.reached survey.taken) vectors
   pub rows : List RangeSpec
-  pub are_rows : AreRows (record { within = record { image = image; taken = survey.taken; words = vectors }; code = survey }) 0 rows
+  pub are_rows : AreRows (record { within = record { image = image; taken = survey.taken; words = vectors; texts = survey.texts }; code = survey }) 0 rows
   pub each : AreMarkedBy (λ a. is_marked vectors a || is_of_table rows a) words
 
 -- what is found from the entries that are given and those of the information file and the image, beside what its groups `#: ..` say
 pub record AreFindings (m : MapView) (given : List ℕ) (plain : Bool) (tags : List Tag) (f : Findings) : Type 0 where
   pub entries : f.entries ≡ given ++ entries_said tags
-  pub reached : AreTraced m f.entries plain f.survey.reached
-  pub survey : AreSurvey m f.survey
+  pub reached : AreTraced (record { map = m; tags = tags }) f.entries plain f.survey.reached
+  pub survey : AreSurvey (record { map = m; tags = tags }) f.survey
   pub words : AreWordMarks m.image f.survey f.words
-  pub ranges : ArePieces (record { image = m.image; taken = f.survey.taken; words = f.words }) 0 f.ranges
+  pub ranges : ArePieces (record { image = m.image; taken = f.survey.taken; words = f.words; texts = f.survey.texts }) 0 f.ranges
   pub pairs : ArePairs tags f.survey (pairs_of m f.survey.reached) f.pairs
   pub variables : f.variables ≡ variables_of m.image f.survey.operands
   pub labels : f.labels ≡ labels_of m.info.names f.pairs f.variables

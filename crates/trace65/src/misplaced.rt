@@ -14,7 +14,7 @@ use std::alloc::AllocError;
 /// Whether the instruction that begins at the first address has the second one.
 #[tactic(auto, unfolding(reach65::specs::Taken::has_byte))]
 fn has_byte(flow: &Flow<'_, '_>, first: u16, address: u16) -> bool
-    ensures { result ≡ has_byte flow.now first address }
+    ensures { result ≡ has_byte flow.now.map first address }
 {
     let Some(op) = flow.instruction_at(first) else {
         return false;
@@ -27,7 +27,7 @@ fn has_byte(flow: &Flow<'_, '_>, first: u16, address: u16) -> bool
 #[tactic(auto, unfolding(crate::specs::Misplaced::holds))]
 fn holds(flow: &Flow<'_, '_>, reached: &[bool], address: u16, first: u16) -> bool
     requires { length reached.now ≡ 65536 }
-    ensures { result ≡ holds flow.now reached.now address first }
+    ensures { result ≡ holds flow.now.map reached.now address first }
 {
     first < address && reached[usize::from(first)] && has_byte(flow, first, address)
 }
@@ -36,7 +36,7 @@ fn holds(flow: &Flow<'_, '_>, reached: &[bool], address: u16, first: u16) -> boo
 #[tactic(auto, unfolding(crate::specs::Misplaced::holder_of))]
 fn holder_of(flow: &Flow<'_, '_>, reached: &[bool], address: u16) -> Option<u16>
     requires { length reached.now ≡ 65536 }
-    ensures { result ≡ holder_of flow.now reached.now address }
+    ensures { result ≡ holder_of flow.now.map reached.now address }
 {
     let one = address.saturating_sub(1);
     if holds(flow, reached, address, one) {
@@ -75,7 +75,7 @@ fn put_entry(
     entry: u16,
 ) -> Result<(), AllocError>
     requires { length reached.now ≡ 65536 }
-    ensures { OnOk result (out.new.items ≡ out.old.items ++ flat_map comment_line (entry_comments flow.now reached.now entry)) }
+    ensures { OnOk result (out.new.items ≡ out.old.items ++ flat_map comment_line (entry_comments flow.now.map reached.now entry)) }
 {
     if !is_inside(flow.map().image(), usize::from(entry)) {
         return put_outside(out, entry);
@@ -94,7 +94,7 @@ fn put_entries(
     entries: &[u16],
 ) -> Result<(), AllocError>
     requires { length reached.now ≡ 65536 }
-    ensures { OnOk result (out.new.items ≡ out.old.items ++ flat_map comment_line (flat_map (entry_comments flow.now reached.now) entries.now)) }
+    ensures { OnOk result (out.new.items ≡ out.old.items ++ flat_map comment_line (flat_map (entry_comments flow.now.map reached.now) entries.now)) }
 {
     'entries: for &entry in entries {
         put_entry(out, flow, reached, entry)?;
@@ -149,7 +149,7 @@ pub fn put_misplaced(
     entries: &[u16],
 ) -> Result<(), AllocError>
     requires { length reached.now ≡ 65536 }
-    ensures { OnOk result (out.new.items ≡ out.old.items ++ flat_map comment_line (misplaced_comments flow.now reached.now entries.now)) }
+    ensures { OnOk result (out.new.items ≡ out.old.items ++ flat_map comment_line (misplaced_comments flow.now.map reached.now entries.now)) }
 {
     put_entries(out, flow, reached, entries)?;
     let map = flow.map();

@@ -79,7 +79,7 @@ fn halves(
     survey: &Survey,
     tags: &[Tag],
 ) -> Result<Vec<Pair>, AllocError>
-    ensures { IfOk result (λ found. ArePairs tags.now survey.now (pairs_of flow.now survey.now.reached) found.items) }
+    ensures { IfOk result (λ found. ArePairs tags.now survey.now (pairs_of flow.now.map survey.now.reached) found.items) }
 {
     let used = mark_said(alloc, tags)?;
     let pairs = pairs_of(alloc, flow, &survey.reached)?;
@@ -92,7 +92,11 @@ fn word_marks(alloc: Global, image: &Image, survey: &Survey) -> Result<Vec<bool>
     ensures { IfOk result (λ words. AreWordMarks image.now survey.now words.items) }
 {
     let mut words = mark_vectors(alloc, image, &survey.reached, &survey.taken)?;
-    let rows = Words::new(Ground::new(image, &survey.taken, &words), survey).rows(alloc)?;
+    let rows = Words::new(
+        Ground::new(image, &survey.taken, &words, &survey.texts),
+        survey,
+    )
+    .rows(alloc)?;
     mark_tables(&mut words, &rows);
     Ok(words)
 }
@@ -108,12 +112,12 @@ fn search_image(
     ensures found { IfOk result (λ f. AreFindings map.now given.now plain tags.now f) }
     ensures inside { IfOk result (λ f. LieIn map.now.image f.ranges) }
 {
-    let flow = Flow::new(map);
+    let flow = Flow::new(map, tags);
     let entries = all_entries(alloc, given, tags)?;
     let reached = reached_from(alloc, &flow, &entries, plain)?;
     let survey = Survey::of(alloc, &flow, reached)?;
     let words = word_marks(alloc, map.image(), &survey)?;
-    let ranges = Ground::new(map.image(), &survey.taken, &words).pieces(alloc)?;
+    let ranges = Ground::new(map.image(), &survey.taken, &words, &survey.texts).pieces(alloc)?;
     let pairs = halves(alloc, &flow, &survey, tags)?;
     let variables = variables_of(alloc, map.image(), &survey.operands)?;
     let labels = labels_of(alloc, map.info(), &pairs, &variables)?;
@@ -176,7 +180,7 @@ fn put_misplaced_in(
 ) -> Result<(), AllocError>
     ensures { OnOk result (out.new.items ≡ out.old.items ++ flat_map comment_line (misplaced_comments map.now survey.now.reached entries.now)) }
 {
-    put_misplaced(out, &Flow::new(map), &survey.reached, entries)
+    put_misplaced(out, &Flow::new(map, &[]), &survey.reached, entries)
 }
 
 /// Appends the picture, the counts, and what is given where it counts for nothing.

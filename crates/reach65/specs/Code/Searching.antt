@@ -1,8 +1,7 @@
 -- The steps of a search, and what holds at each.
 use Rattle.std.specs.Prelude.{◌≡◌, ◌⊎◌, ℕ, ◌+◌, ◌≤◌, length, Contains, Bool, true, false, List, [], ◌∷◌, ◌++◌, if◌then◌else◌, slice_set, Option, Some, None}
 use Rattle.map65.specs.ImageView.{ImageView, is_inside}
-use Rattle.map65.specs.MapView.{MapView}
-use Rattle.reach65.specs.Flow.{LeadsTo}
+use Rattle.reach65.specs.Flow.{FlowView, LeadsTo}
 use Rattle.reach65.specs.Reached.{AreReached, Reached, is_marked}
 use Rattle.reach65.specs.Sound.{IsApart, IsSound, is_fine, marked_count}
 
@@ -35,31 +34,31 @@ put_entry image s a = put_inside image (record s { entries = s.entries ++ a ∷ 
 -- ---- what holds at each step
 
 -- the addresses that the instruction of this one leads to are marked
-pub record IsFollowed (m : MapView) (marks : List Bool) (a : ℕ) : Type 0 where
-  pub each : (b : ℕ) → LeadsTo m a b → is_marked marks b ≡ true
+pub record IsFollowed (f : FlowView) (marks : List Bool) (a : ℕ) : Type 0 where
+  pub each : (b : ℕ) → LeadsTo f a b → is_marked marks b ≡ true
 
 -- Marked addresses are reached. Of each the search has followed the instruction, or has still to do so; `Now` is what it is about to follow.
-pub record IsSearch (m : MapView) (entries : List ℕ) (Now : ℕ → Type 0) (s : State) : Type 0 where
+pub record IsSearch (f : FlowView) (entries : List ℕ) (Now : ℕ → Type 0) (s : State) : Type 0 where
   pub count : length s.marks ≡ 65536
-  pub reached : (a : ℕ) → is_marked s.marks a ≡ true → Reached m entries a
-  pub todo : (a : ℕ) → Contains s.todo a → Reached m entries a
-  pub followed : (a : ℕ) → is_marked s.marks a ≡ true → Contains s.todo a ⊎ (Now a ⊎ IsFollowed m s.marks a)
+  pub reached : (a : ℕ) → is_marked s.marks a ≡ true → Reached f entries a
+  pub todo : (a : ℕ) → Contains s.todo a → Reached f entries a
+  pub followed : (a : ℕ) → is_marked s.marks a ≡ true → Contains s.todo a ⊎ (Now a ⊎ IsFollowed f s.marks a)
 
 abbrev pub Nothing : ℕ → Type 0
 Nothing a = ⊥
 
 -- each entry of the image is marked
-pub record HasEntries (m : MapView) (entries : List ℕ) (marks : List Bool) : Type 0 where
-  pub each : (a : ℕ) → Contains entries a → is_inside m.image a ≡ true → is_marked marks a ≡ true
+pub record HasEntries (f : FlowView) (entries : List ℕ) (marks : List Bool) : Type 0 where
+  pub each : (a : ℕ) → Contains entries a → is_inside f.map.image a ≡ true → is_marked marks a ≡ true
 
 -- a search that goes on
-pub record IsBegun (m : MapView) (s : State) : Type 0 where
-  pub search : IsSearch m s.entries Nothing s
-  pub entries : HasEntries m s.entries s.marks
+pub record IsBegun (f : FlowView) (s : State) : Type 0 where
+  pub search : IsSearch f s.entries Nothing s
+  pub entries : HasEntries f s.entries s.marks
 
 -- a search that has found all
-pub record IsDone (m : MapView) (s : State) : Type 0 where
-  pub reached : AreReached m s.entries s.marks
+pub record IsDone (f : FlowView) (s : State) : Type 0 where
+  pub reached : AreReached f s.entries s.marks
   pub todo : s.todo ≡ []
 
 -- an address was taken from the list
@@ -91,8 +90,8 @@ pub record IsTrial (before : List Bool) (s : State) : Type 0 where
   pub fresh : (b : ℕ) → is_marked s.marks b ≡ true → is_marked before b ≡ true ⊎ Contains s.added b
 
 -- an address has joined the entries, and a trial begins
-pub record HasBegun (m : MapView) (old : State) (a : ℕ) (new : State) : Type 0 where
-  pub begun : IsBegun m new
+pub record HasBegun (f : FlowView) (old : State) (a : ℕ) (new : State) : Type 0 where
+  pub begun : IsBegun f new
   pub entries : new.entries ≡ old.entries ++ a ∷ []
   pub trial : IsTrial old.marks new
 
@@ -103,18 +102,18 @@ pub record IsAsBefore (old new : State) : Type 0 where
   pub todo : new.todo ≡ []
 
 -- a search that an address has joined
-pub record HasJoined (m : MapView) (old : State) (a : ℕ) (new : State) : Type 0 where
+pub record HasJoined (f : FlowView) (old : State) (a : ℕ) (new : State) : Type 0 where
   pub entries : new.entries ≡ old.entries ++ a ∷ []
-  pub done : IsDone m new
-  pub sound : IsSound m old.marks new.marks
+  pub done : IsDone f new
+  pub sound : IsSound f old.marks new.marks
 
 -- an address was tried: it has joined, or all is as before
-abbrev pub IsTried : MapView → State → ℕ → State → Bool → Type 0
-IsTried m old a new true = HasJoined m old a new
-IsTried m old a new false = IsAsBefore old new
+abbrev pub IsTried : FlowView → State → ℕ → State → Bool → Type 0
+IsTried f old a new true = HasJoined f old a new
+IsTried f old a new false = IsAsBefore old new
 
 -- each of these is fine and apart from all that is marked, and there are four at least
-pub record AreSound (m : MapView) (marks : List Bool) (added : List ℕ) : Type 0 where
-  pub fine : (b : ℕ) → Contains added b → is_fine m b ≡ true
-  pub apart : (b : ℕ) → Contains added b → IsApart m marks b
+pub record AreSound (f : FlowView) (marks : List Bool) (added : List ℕ) : Type 0 where
+  pub fine : (b : ℕ) → Contains added b → is_fine f b ≡ true
+  pub apart : (b : ℕ) → Contains added b → IsApart f.map marks b
   pub four : 4 ≤ length added

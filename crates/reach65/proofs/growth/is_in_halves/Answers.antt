@@ -7,5 +7,5 @@ pub returns : goal.returns
 returns g c = λ is.
     let yes : c.has_address.result ≡ true = cc in
     is_in_halves c.args.flow.now c.args.marks.now c.args.candidate.address c.from.result c.deref.result.now
-    (c.deref.ensures.value ∙ c.in_ok-put_pairs_at.ensures ∙ ap (λ l. l ++ pairs_at c.args.flow.now c.args.marks.now c.from.result) c.new-pairs.ensures.items)
+    (c.deref.ensures.value ∙ c.in_ok-put_pairs_at.ensures ∙ ap (λ l. l ++ pairs_at c.args.flow.now.map c.args.marks.now c.from.result) c.new-pairs.ensures.items)
     (c.has_address.ensures yes)

@@ -1,4 +1,4 @@
-use Rattle.std.proofs.Common.{◌∙◌, Ok, ap, subst}
+use Rattle.std.proofs.Common.{Ok, ap, subst}
 use Rattle.reach65.specs.Growth.{IsCandidate}
 use Rattle.reach65.proofs.growth.try_candidate.Goals as goal
 

@@ -5,4 +5,4 @@ use Rattle.reach65.proofs.LoopLemmas.{addresses_of}
 use Rattle.reach65.proofs.pairs.pairs_of.Given as goal
 
 abbrev pub invariant-pairs : goal.invariant-pairs
-invariant-pairs g l = l.found.items ≡ flat_map (pairs_at l.flow l.reached) (take l.k (addresses_of l.flow.image))
+invariant-pairs g l = l.found.items ≡ flat_map (pairs_at l.flow.map l.reached) (take l.k (addresses_of l.flow.map.image))

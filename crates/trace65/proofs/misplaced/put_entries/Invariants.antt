@@ -6,4 +6,4 @@ use Rattle.trace65.proofs.misplaced.put_entries.Given as goal
 
 abbrev pub invariant-entries : goal.invariant-entries
 invariant-entries l =
-    l.out.items ≡ l.initial.out.items ++ flat_map comment_line (flat_map (entry_comments l.flow l.reached) (take l.entry-index l.entries))
+    l.out.items ≡ l.initial.out.items ++ flat_map comment_line (flat_map (entry_comments l.flow.map l.reached) (take l.entry-index l.entries))

@@ -9,13 +9,13 @@ returns-then-not-is_fine-clause-trial g c = λ before first. trial-next before c
 
 pub search-smaller : goal.search-smaller
 search-smaller g c =
-    let placed : IsPlaced c.args.flow.now.image = subst (λ m. IsPlaced m.image) c.map.ensures c.image-image.ensures.placed in
+    let placed : IsPlaced c.args.flow.now.map.image = subst (λ m. IsPlaced m.image) c.map.ensures c.image-image.ensures.placed in
     omega (arith, leads-left c.args.flow.now c.search.self c.next.new.self c.put_leads.new.self c.in-Some.address placed c.in-Some.ensures.some c.in_ok-put_leads.ensures c.search.invariant.begun)
 
 pub search-preserved : goal.search-preserved
 search-preserved g c =
     let m = c.args.flow.now in
-    let placed : IsPlaced c.args.flow.now.image = subst (λ m. IsPlaced m.image) c.map.ensures c.image-image.ensures.placed in
+    let placed : IsPlaced c.args.flow.now.map.image = subst (λ m. IsPlaced m.image) c.map.ensures c.image-image.ensures.placed in
     record {
       begun = leads-begun c.args.flow.now c.search.self c.next.new.self c.put_leads.new.self c.in-Some.address placed c.in-Some.ensures.some c.in_ok-put_leads.ensures c.search.invariant.begun;
       entries = leads-entries c.args.flow.now c.search.self c.next.new.self c.put_leads.new.self c.in-Some.address placed c.in-Some.ensures.some c.in_ok-put_leads.ensures c.search.invariant.begun ∙ c.search.invariant.entries;

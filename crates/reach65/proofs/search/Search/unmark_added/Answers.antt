@@ -1,4 +1,4 @@
-use Rattle.std.proofs.Common.{◌≡◌, ◌∙◌, ap, ap₂, sym}
+use Rattle.std.proofs.Common.{◌∙◌, ap, ap₂, sym}
 use Rattle.reach65.specs.Code.Searching.{unset}
 use Rattle.reach65.proofs.TrialLemmas.{unset-push}
 use Rattle.reach65.proofs.search.Search.unmark_added.Goals as goal

@@ -6,4 +6,4 @@ use Rattle.reach65.proofs.LoopLemmas.{addresses_of}
 use Rattle.reach65.proofs.survey.Survey.mark_all.Given as goal
 
 abbrev pub invariant-survey : goal.invariant-survey
-invariant-survey g l = Adds l.flow (λ p. list_any (λ a. is_marked l.initial.self.reached a && p a) (take l.k (addresses_of l.flow.image))) l.initial.self l.self
+invariant-survey g l = Adds l.flow (λ p. list_any (λ a. is_marked l.initial.self.reached a && p a) (take l.k (addresses_of l.flow.map.image))) l.initial.self l.self
