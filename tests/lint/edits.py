@@ -11,9 +11,11 @@ CRATES = ROOT / "crates"
 WRONG_BODIES = {
     "da65": """everything_as_bytes no_forced_absolute always_forced_absolute zero_page_by_image_name inner_label_after
         return_entry_without_minus_one dbyt_low_byte_first listing_before_refusal write_fault_without_a_fault writes_the_image
-        sized_by_base_name words_joined_over_a_name drops_or_repeats_lines""",
+        sized_by_base_name words_joined_over_a_name drops_or_repeats_lines no_line_at_once empty_lines_passed_over
+        lines_after_a_failed_write""",
     "usage65": """always_bad_words""",
-    "map65": """branch_wraps instruction_runs_into_data name_for_every_address write_fault_without_a_fault tries_again_after_a_fault""",
+    "map65": """branch_wraps instruction_runs_into_data name_for_every_address empty_cells write_fault_without_a_fault
+        tries_again_after_a_fault""",
     "info65": """last_range_wins later_include_replaces keeps_names_of_a_refused_include""",
     "stmt65": """zero_page_for_a_later_name refuses_every_text accepts_a_doubled_name sized_by_base_name""",
 }

@@ -12,7 +12,7 @@ use crate::tests::refusals::{MANY, Refusals};
 use crate::tests::runs::{NAMED, run_including, run_with, shown};
 use crate::tests::worked::{Row, rows_of};
 use da65::{File, Options, RunFault, Status, Told};
-use info65::{Inclusion, Info, InfoFault, NamePool, read_info};
+use info65::{Inclusion, Info, InfoFault, NamePool, read_include, read_info};
 use map65::read_image;
 use std::alloc::Global;
 use std::process::Abort;
@@ -282,6 +282,20 @@ fn all_names<'h>(
     included.names(heap)
 }
 
+/// Adds the names of the include files, each of which has these bytes: those of one by itself, and of two over one index, as a run does.
+fn include_all<'h>(
+    heap: &'h Refusing<Global>,
+    info: &mut Info<&'h Refusing<Global>>,
+    include: &[u8],
+) -> Result<(), InfoFault> {
+    if info.includes().len() == 1 {
+        return read_include(heap, info, 0, include);
+    }
+    let names = all_names(heap, info, include)?;
+    info.set_names(names);
+    Ok(())
+}
+
 /// A table of ranges or of segments has a byte for each address, from the first of them on.
 fn address_table(is_empty: bool) -> u64 {
     if is_empty { 0 } else { 65_536 }
@@ -310,11 +324,10 @@ fn call_parts(
         let before = heap.bytes();
         let names = info.given_count().saturating_mul(BYTES_OF_A_NAME);
         let found = name_tables(include.len().saturating_add(names)).saturating_add(LOOKED_UP);
-        let Ok(names) = all_names(heap, &info, include) else {
+        if include_all(heap, &mut info, include).is_err() {
             assert_granted(rt, heap, before, found, 0);
             return;
-        };
-        info.set_names(names);
+        }
         assert_granted(rt, heap, before, found.saturating_add(KEPT), TEXT);
     }
     let before = heap.bytes();

@@ -69,7 +69,7 @@ pub fn gives_from(rt: &impl Abort, alloc: Global, start: u16, info: &str, image:
 /// The listing that a run gives assembles from this start to the image.
 pub fn assert_assembles(rt: &impl Abort, alloc: Global, found: &str, start: u16, image: &[u8]) {
     let listing = match found.split_once("; da65 listing\n") {
-        Some((_, listing)) => listing,
+        Some((before, _)) => found.strip_prefix(before).unwrap_or("?"),
         None => "?",
     };
     let bytes = assemble(alloc, listing.as_bytes(), start).expect(rt, "assemble");

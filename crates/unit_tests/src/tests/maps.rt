@@ -52,11 +52,23 @@ fn put_names(out: &mut String, map: &Map<'_>) -> Result<(), AllocError> {
     Ok(())
 }
 
+/// The cell of each address, without its private bits, if that is not 0.
+fn put_cells(out: &mut String, map: &Map<'_>) -> Result<(), AllocError> {
+    for (address, cell) in map.cells().iter().enumerate() {
+        let public = *cell % 256;
+        if public != 0 {
+            write!(out, " {address:04X} {public}")?;
+        }
+    }
+    Ok(())
+}
+
 /// What is shown of a map.
 #[derive(Clone, Copy)]
 enum Part {
     Items,
     Names,
+    Cells,
 }
 
 /// This part of the map of an image with an information file. Without a start the image ends at $FFFF.
@@ -76,6 +88,7 @@ fn shown(
     match part {
         Part::Items => put_items(&mut out, &map).expect(rt, "put_items"),
         Part::Names => put_names(&mut out, &map).expect(rt, "put_names"),
+        Part::Cells => put_cells(&mut out, &map).expect(rt, "put_cells"),
     }
     out
 }
@@ -172,6 +185,18 @@ fn a_full_image_of_bne(rt: HostRuntime) {
     let want = even_labels(rt.alloc()).expect(&rt, "even_labels");
     let found = shown(&rt, rt.alloc(), Part::Names, "", None, &bytes);
     assert_that(&rt, found.as_str() == want.as_str());
+}
+
+/// `lda #1`, `rts`, a word with a name, and a character.
+#[test]
+fn cells_of_a_small_image(rt: HostRuntime) {
+    let info =
+        "RANGE { START $1003; SIZE 2; TYPE WORDTABLE; NAME \"word\"; }; RANGE { START $1005; SIZE 1; TYPE TEXTTABLE; };";
+    let bytes = [0xA9, 1, 0x60, 0x34, 0x12, 0x41];
+    let found = shown(&rt, rt.alloc(), Part::Cells, info, Some(0x1000), &bytes);
+    // The role, 16 times the length, and 128 for a name.
+    let want = " 1000 33 1001 1 1002 17 1003 163 1004 3 1005 23";
+    assert_equal(&rt, &found.as_str(), &want);
 }
 
 /// 20,000 labels, and one that covers all addresses.
