@@ -89,7 +89,7 @@ test:
 	@mkdir -p bin
 	@python3 tests/lint
 	tests/make.sh
-	@echo 'Everything from nothing: docs/PROOFS.md, "The gate", says how long that takes. bin/gate.log keeps what the prover says.'
+	@echo 'Everything from nothing: docs/GATE.md says how long that takes. bin/gate.log keeps what the prover says.'
 	@rt ci 2>&1 | tee bin/gate.log
 	@cp crates/da65_cli/out/da65_cli bin/da65
 	@cp crates/as65/out/as65 bin/as65

@@ -7,7 +7,7 @@
 #           unless CC=skip is set: then it is left out.
 #   time    twice as many take at most three times as long.
 #   speed   instructions by valgrind's callgrind, beside cc65's da65 on the same bytes; for large information files also the most
-#           memory; as65 beside ca65 and ld65, and name65 beside as65. Each row has the ratio that docs/PROOFS.md gives it: more than
+#           memory; as65 beside ca65 and ld65, and name65 beside as65. Each row has the ratio that docs/GATE.md gives it: more than
 #           a twentieth above it is a failure. Runs differ by less than a thousandth. Twice as many groups or lines take at most 2.3
 #           times the instructions. It is left out without valgrind, GNU time or cc65.
 # Usage: tests/growth.sh PROGRAM [PART]..
