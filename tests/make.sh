@@ -81,8 +81,12 @@ grep -qx 'info65 7 of 9, stmt65 10 of 66 functions' ../printed || fails 'how far
 grep -q '^so far: 10 of 66' bin/made/stmt65 || fails 'how far it is' 'the words of the prover are not kept'
 echo '// five' | tee crates/{info65,stmt65}/src/lib.rt >/dev/null
 : >"$NOTES"
-EVERY=1 SLOW=3 script -qec 'make -s -j3' /dev/null >../printed 2>&1 </dev/null || fails 'on a terminal' "$(cat ../printed)"
-grep -qF $'\r\e[Kinfo65 7 of 9, stmt65 10 of 66 functions\r\e[K' ../printed || fails 'on a terminal' "$(cat -v ../printed)"
+if command -v script >/dev/null; then
+    EVERY=1 SLOW=3 script -qec 'make -s -j3' /dev/null >../printed 2>&1 </dev/null || fails 'on a terminal' "$(cat ../printed)"
+    grep -qF $'\r\e[Kinfo65 7 of 9, stmt65 10 of 66 functions\r\e[K' ../printed || fails 'on a terminal' "$(cat -v ../printed)"
+else
+    echo 'make: script is not installed, so nothing was run on a terminal'
+fi
 echo '// six' >crates/text65/src/lib.rt
 WAITS=0 makes 'one at a time' 0 da65_cli "$(echo "$all" | sed 's/ isa65//')" -j1
 exit "$failed"
