@@ -165,7 +165,7 @@ all_fit-held : (all : List Definition) (next : ℕ) (fs : List Fragment) → lis
 all_fit-held all next [] = refl
 all_fit-held all next (f ∷ fs) = rw (fits-held all next f) (ap (λ (b : Bool). fragment_fits all next f && b) (all_fit-held all next fs))
 
-past-held : (n : ℕ) → ltb 65536 (held n) ≡ ltb 65536 n
+pub past-held : (n : ℕ) → ltb 65536 (held n) ≡ ltb 65536 n
 past-held n = grind (arith, nat_tests)
 
 pub fragments-placed : (p : Placed) (s : State) (source : SourceLine) → IsPlaced p s source → fragments_in p.coded ≡ fragments_of s source

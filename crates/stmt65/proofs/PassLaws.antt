@@ -1,5 +1,5 @@
 -- What a pass has done, line after line.
-use Rattle.std.proofs.Common.{◌≡◌, ℕ, Bool, true, false, ◌+◌, ◌≤◌, List, [], ◌∷◌, ◌++◌, length, map, take, drop, get_or, ◌<◌, arith, length-append, Option, Some, None, refl, sym, ap, ◌∙◌, append_assoc, subst}
+use Rattle.std.proofs.Common.{◌≡◌, ℕ, Bool, true, false, ltb, ◌+◌, ◌≤◌, List, [], ◌∷◌, ◌++◌, length, map, take, drop, get_or, ◌<◌, arith, length-append, Option, Some, None, refl, sym, ap, ◌∙◌, append_assoc, subst}
 use Rattle.std.specs.Prelude.{Result, Ok, Err, ◌&&◌, is_some, IfNone}
 use Rattle.std.specs.List.{list_all, flat_map}
 use Rattle.std.proofs.lemmas.Bool.{and_parts}
@@ -25,9 +25,10 @@ use Rattle.stmt65.specs.Coding.{State, Fragment, Fixed, Single, ZeroPage, Oversi
 use Rattle.stmt65.specs.Meaning.{bytes_of, fault_of, fragments_of, initial, is_undefined, is_out_of_range, next_of, readings, unless, with_front}
 use Rattle.stmt65.specs.Code.SourceLineViews.{source_of}
 use Rattle.stmt65.specs.Code.MeaningViews.{IsPlaced, defined_in, fragments_in, held_after, held_final}
-use Rattle.stmt65.specs.Code.LateViews.{Codes, GoesOn, IsIdle, IsMarked, IsOf, IsPassed, IsSound, Takes, coded_late, fault_at, fault_or, fronts, held_coded, late_state, state_in, work_of}
-use Rattle.stmt65.proofs.Cases.{by_test}
-use Rattle.stmt65.proofs.HeldLemmas.{fragments-placed, meaning_held}
+use Rattle.stmt65.specs.Code.Held.{held}
+use Rattle.stmt65.specs.Code.LateViews.{Codes, GoesOn, IsIdle, IsMarked, IsOf, IsPassed, IsSound, Takes, coded_late, fault_at, fault_or, fault_past, fronts, held_coded, late_state, state_in, work_of}
+use Rattle.stmt65.proofs.Cases.{by_option, by_test}
+use Rattle.stmt65.proofs.HeldLemmas.{fragments-placed, meaning_held, none_fits, past-held}
 
 -- ---- names: those of the lines above, then those of the lines from here on
 
@@ -216,17 +217,38 @@ takes_early p q n s source placed kind e late mark f is known codes = go kind f 
         takes_bytes p q n s (Some source) (bytes_of s.above s (Some source)) e late mark f codes.adds (λ all more x. fault_early all more s source x all_known ∙ sym codes.finds) (λ all more x. bytes_early all more s source x all_known)
     go (Some k) f codes = takes_fault p q n s (Some source) k e late f (λ all more x. fault_early all more s source x all_known ∙ sym codes.finds)
 
-pub takes_late : {A : Type 0} (p q : Work A) (l : Late A) (s : State) → p.fault ≡ None → q.fault ≡ p.fault → q.settled ≡ p.settled → q.late.items ≡ p.late.items ++ l ∷ [] → q.mark ≡ length p.settled.items
-    → (p.mark ≤ length p.settled.items → p.mark + l.front ≡ length p.settled.items) → IsOf l s → Takes p q l.number s (Some (source_of l.source))
-takes_late p q l s e f same late mark front is = record {
+-- a line that ends past $10000 has a fault by whatever names
+past_end : (all : List Definition) (s : State) (source : SourceLine) (next : ℕ) → next ≡ held (next_of s source) → ltb 65536 next ≡ true → is_some (fault_of all s (Some source)) ≡ true
+past_end all s source next e past =
+    by_option (fault_of all s (Some source)) (λ k f. rw f refl)
+    (λ f. absurd (let past' = rw (e, past-held (next_of s source), (none_fits all s source (sym f)).past) at past in cc))
+
+unless_any : (n : ℕ) (fault : Option AsmFaultKind) (a b : Result (List ℕ) AsmFault) → is_some fault ≡ true → unless n fault a ≡ unless n fault b
+unless_any n None a b h = absurd cc
+unless_any n (Some kind) a b h = refl
+
+-- a line is kept; where it ends past $10000, what comes below it is hidden
+pub takes_late : {A : Type 0} (p q : Work A) (l : Late A) (s : State) (next : ℕ) → p.fault ≡ None → q.fault ≡ fault_past l.number next → q.settled ≡ p.settled → q.late.items ≡ p.late.items ++ l ∷ [] → q.mark ≡ length p.settled.items
+    → (p.mark ≤ length p.settled.items → p.mark + l.front ≡ length p.settled.items) → IsOf l s → next ≡ held (next_of s (source_of l.source)) → Takes p q l.number s (Some (source_of l.source))
+takes_late p q l s next e f same late mark front is end = record {
   sound = λ g. let m = if_none p.fault e g in
       none_if q.fault (record { mark = rw (mark, late, fronts_push p.late.items l) (omega (arith, front m.within, m.mark)); within = rw (mark, same) (omega arith) });
   same = λ g all more rest x.
       let m = if_none p.fault e g in
       let fits : fronts p.late.items + l.front ≡ length p.settled.items = omega (arith, front m.within, m.mark) in
       let state : late_state all s.layout l ≡ s = rw (is.at, is.cpu, x, take_at s.above more l.count (sym is.above)) refl in
-      rw (f, e, same, late) (late_push all s.layout p.late.items l p.settled.items rest fits ∙ ap (λ (t : State). coded_late all s.layout p.late.items p.settled.items (unless l.number (fault_of all t (Some (source_of l.source))) (with_front (bytes_of all t (Some (source_of l.source))) rest))) state);
+      rw (e, same, late) (late_push all s.layout p.late.items l p.settled.items (fault_or q.fault rest) fits
+      ∙ ap (λ (t : State). coded_late all s.layout p.late.items p.settled.items (unless l.number (fault_of all t (Some (source_of l.source))) (with_front (bytes_of all t (Some (source_of l.source))) (fault_or q.fault rest)))) state
+      ∙ ap (λ (m : Result (List ℕ) AsmFault). coded_late all s.layout p.late.items p.settled.items m) (hidden all rest));
 }
+  where
+    hidden : (all : List Definition) (rest : Result (List ℕ) AsmFault)
+        → unless l.number (fault_of all s (Some (source_of l.source))) (with_front (bytes_of all s (Some (source_of l.source))) (fault_or q.fault rest))
+        ≡ unless l.number (fault_of all s (Some (source_of l.source))) (with_front (bytes_of all s (Some (source_of l.source))) rest)
+    hidden all rest =
+        by_test (ltb 65536 next)
+        (λ past. unless_any l.number _ _ _ (past_end all s (source_of l.source) next end past))
+        (λ below. let f' = rw below at f in rw f' refl)
 
 pub takes_refused : {A : Type 0} (p q : Work A) (n : ℕ) (s : State) → p.fault ≡ None → q.late ≡ p.late → q.fault ≡ fault_at n (Some Syntax) → Takes p q n s None
 unfolding fault_of

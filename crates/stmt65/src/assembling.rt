@@ -12,5 +12,5 @@ pub(crate) mod late;
 pub(crate) mod layout;
 mod line_faults;
 mod state;
-mod symbols;
+pub(crate) mod symbols;
 mod values;

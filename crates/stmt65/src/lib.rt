@@ -29,11 +29,12 @@ mod reading;
 mod source_line;
 mod statement;
 
-pub use assembling::addresses::line_addresses;
+pub use assembling::addresses::{Assembly, assemble_lines, line_addresses};
 pub use assembling::assembler::{Source, assemble, assemble_source};
 pub use assembling::definitions::Definitions;
 pub use assembling::fault::{AsmFault, AsmFaultKind};
 pub use assembling::layout::Layout;
+pub use assembling::symbols::{Definition, Symbols};
 pub use directive::Directive;
 pub use language::Language;
 pub use laws::meaning_laws::{

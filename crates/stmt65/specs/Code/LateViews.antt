@@ -1,5 +1,5 @@
 -- What the work on lines stands for: those that are coded at once, and those that wait until all names are known.
-use Rattle.std.specs.Prelude.{◌≡◌, ℕ, Bool, ◌+◌, ◌≤◌, ◌++◌, List, [], ◌∷◌, length, take, drop, Option, Some, None, IfNone, Result, Ok, Err}
+use Rattle.std.specs.Prelude.{◌≡◌, ℕ, Bool, ◌+◌, ◌≤◌, ◌++◌, List, [], ◌∷◌, length, nat_lt, take, drop, if◌then◌else◌, Option, Some, None, IfNone, Result, Ok, Err}
 use Rattle.std.specs.Option.{option_map}
 use Rattle.std.specs.Bool.{OnTrue, OnFalse}
 use Rattle.stmt65.specs.declared.assembling.assembler.Pass.{Pass}
@@ -8,6 +8,7 @@ use Rattle.stmt65.specs.declared.assembling.late.Late.{Late}
 use Rattle.stmt65.specs.declared.assembling.late.Work.{Work}
 use Rattle.stmt65.specs.declared.assembling.fault.AsmFault.{AsmFault}
 use Rattle.stmt65.specs.declared.assembling.fault.AsmFaultKind.{AsmFaultKind}
+use Rattle.stmt65.specs.declared.assembling.fault.AsmFaultKind.TheVariants.{PastEnd}
 use Rattle.stmt65.specs.SourceLine.{SourceLine}
 use Rattle.stmt65.specs.Symbols.{Definition}
 use Rattle.stmt65.specs.Layout.{Layout}
@@ -61,6 +62,10 @@ fault_or (Some fault) rest = Err fault
 
 abbrev pub fault_at : ℕ → Option AsmFaultKind → Option AsmFault
 fault_at n kind = option_map (λ k. record { line = n; kind = k }) kind
+
+-- that of a line after which the address is past the end
+abbrev pub fault_past : ℕ → ℕ → Option AsmFault
+fault_past n next = if nat_lt 65536 next then fault_at n (Some PastEnd) else None
 
 -- what comes of the lines so far, with what comes of the lines below
 abbrev pub work_of : {A : Type 0} → List Definition → Layout → Work A → Result (List ℕ) AsmFault → Result (List ℕ) AsmFault

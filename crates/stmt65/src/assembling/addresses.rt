@@ -1,12 +1,15 @@
 //! The address after each line of a text.
 
-ghost use Rattle.std.specs.Prelude.{◌≡◌, IfOk, map};
-ghost use Rattle.stmt65.specs.Sources.{source_addresses, source_meaning};
+ghost use Rattle.std.specs.Prelude.{◌≡◌, ◌⊎◌, Err, IfErr, IfOk, Ok, map};
+ghost use Rattle.stmt65.specs.Answer.{out_of_memory};
+ghost use Rattle.stmt65.specs.Sources.{source_addresses, source_definitions, source_meaning};
 ghost use Rattle.stmt65.specs.Code.Held.{held};
+ghost use Rattle.stmt65.specs.Code.MeaningViews.{held_definition};
 
-use crate::assembling::assembler::{Source, begin, pass_line};
+use crate::assembling::assembler::{Pass, Source, first_pass, second_pass};
+use crate::assembling::fault::AsmFault;
+use crate::assembling::symbols::Symbols;
 use std::alloc::{AllocError, Allocator};
-use text65::first_line;
 
 /// The address after each line of a text, in the order of the lines. A line that is none
 /// has no bytes, and 2^64 - 1 stands for every greater address. Of a text that assembles no address is above $10000,
@@ -19,12 +22,38 @@ pub fn line_addresses<L: Allocator + Clone, A: Allocator + Clone>(
     ensures exact { IfOk result (λ found. IfOk (source_meaning source.now) (λ _. found.items ≡ source_addresses source.now)) }
 {
     let mut found = Vec::new(alloc.clone()?);
-    let mut pass = begin(&alloc, source)?;
-    let mut rest = source.text;
-    'lines: while let Some((line, after)) = first_line(rest) {
-        pass_line(&alloc, source.language, &mut pass, 0, line)?;
-        found.push(pass.state.address)?;
-        rest = after;
-    }
+    let _ = first_pass(&alloc, source, true, &mut found)?;
     Ok(found)
+}
+
+/// What a text that assembles means, line by line.
+#[derive(Drop)]
+pub struct Assembly<'a, 'b, A: Allocator> {
+    /// The bytes.
+    pub bytes: Vec<u8, &'b A>,
+    /// The address after each line, as [`line_addresses`] answers it.
+    pub ends: Vec<u64, &'b A>,
+    /// What the lines define.
+    pub names: Symbols<'a, &'b A>,
+}
+
+/// The bytes that a text means, as [`assemble_source`](crate::assemble_source) answers them, with the address after each line and
+/// what the lines define; all of one reading.
+pub fn assemble_lines<'a, 'b, L: Allocator + Clone, A: Allocator>(
+    alloc: &'b A,
+    source: &Source<'a, '_, '_, L>,
+) -> Result<Assembly<'a, 'b, A>, AsmFault>
+    ensures bytes { IfOk result (λ a. source_meaning source.now ≡ Ok a.bytes.items) }
+    ensures fault { IfErr result (λ e. (source_meaning source.now ≡ Err e) ⊎ (e ≡ out_of_memory)) }
+    ensures ends { IfOk result (λ a. a.ends.items ≡ source_addresses source.now) }
+    ensures names { IfOk result (λ a. a.names ≡ map held_definition (source_definitions source.now)) }
+{
+    let mut ends = Vec::new(alloc);
+    let Pass {
+        mut state,
+        names,
+        work,
+    } = first_pass(alloc, source, true, &mut ends)?;
+    let bytes = second_pass(&mut state, &names, &work, Vec::new(alloc))?;
+    Ok(Assembly { bytes, ends, names })
 }

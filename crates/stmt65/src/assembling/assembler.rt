@@ -1,11 +1,12 @@
 //! The assembler: a pass over the lines of a text, and one over those that wait for a name below them.
 
-ghost use Rattle.std.specs.Prelude.{◌≡◌, ◌<◌, ◌++◌, [], Some, Ok, IfOk, OnOk};
+ghost use Rattle.std.specs.Prelude.{◌≡◌, ◌<◌, ◌++◌, [], ◌∷◌, if◌then◌else◌, map, true, Some, Ok, IfOk, OnOk};
 ghost use Rattle.stmt65.specs.Lexing.{parts};
 ghost use Rattle.stmt65.specs.Reading.{reading_of};
 ghost use Rattle.stmt65.specs.Code.SourceLineViews.{source_of};
 ghost use Rattle.stmt65.specs.Meaning.{meaning};
-ghost use Rattle.stmt65.specs.Sources.{source_state, source_meaning};
+ghost use Rattle.stmt65.specs.Sources.{source_addresses, source_state, source_meaning};
+ghost use Rattle.stmt65.specs.Code.Held.{held};
 ghost use Rattle.stmt65.specs.Code.MeaningViews.{definitions_in};
 ghost use Rattle.stmt65.specs.Code.LateViews.{GoesOn, IsIdle, IsPassed, TakesEarly, state_in, work_of};
 ghost use Rattle.stmt65.specs.Answer.{Assembles};
@@ -89,12 +90,12 @@ fn pass_source<'a, L: Allocator + Clone, A: Allocator + Clone>(
         count,
         front: 0,
     };
-    keep(&mut pass.work, late)
+    keep(&mut pass.work, late, pass.state.address)
 }
 
 /// The same, whatever is written there.
 #[tactic(auto, unfolding(crate::specs::Code::MeaningViews::held_after))]
-pub fn pass_line<'a, 'b, L: Allocator + Clone, A: Allocator>(
+fn pass_line<'a, 'b, L: Allocator + Clone, A: Allocator>(
     alloc: &'b A,
     language: Language,
     pass: &mut Pass<'a, '_, '_, &'b A, L>,
@@ -113,7 +114,7 @@ pub fn pass_line<'a, 'b, L: Allocator + Clone, A: Allocator>(
 }
 
 /// Before the first line.
-pub fn begin<'a, 'b, 'l, 'n, L: Allocator, A: Allocator>(
+fn begin<'a, 'b, 'l, 'n, L: Allocator, A: Allocator>(
     alloc: &'b A,
     source: &Source<'a, 'l, 'n, L>,
 ) -> Result<Pass<'a, 'l, 'n, &'b A, L>, AllocError>
@@ -128,19 +129,38 @@ pub fn begin<'a, 'b, 'l, 'n, L: Allocator, A: Allocator>(
     })
 }
 
-/// The names that the text defines, and the work on its lines.
-pub fn first_pass<'a, 'b, 'l, 'n, L: Allocator + Clone, A: Allocator>(
+/// Takes down the address after a line, if that is wanted.
+fn take_down<A: Allocator>(
+    ends: &mut Vec<u64, A>,
+    is_wanted: bool,
+    address: u64,
+) -> Result<(), AllocError>
+    ensures { OnOk result (ends.new.items ≡ ends.old.items ++ (if is_wanted then address ∷ [] else [])) }
+{
+    if is_wanted {
+        ends.push(address)?;
+    }
+    Ok(())
+}
+
+/// The names that the text defines, and the work on its lines. Takes down the address after each line, if these are wanted.
+pub fn first_pass<'a, 'b, 'l, 'n, L: Allocator + Clone, A: Allocator, C: Allocator>(
     alloc: &'b A,
     source: &Source<'a, 'l, 'n, L>,
+    are_wanted: bool,
+    ends: &mut Vec<u64, C>,
 ) -> Result<Pass<'a, 'l, 'n, &'b A, L>, AllocError>
+    requires { ends.old.items ≡ [] }
     ensures passed { IfOk result (λ pass. IsPassed pass source.now) }
     ensures start { source.now.start < 65536 }
+    ensures ends { OnOk result (are_wanted ≡ true → ends.new.items ≡ map held (source_addresses source.now)) }
 {
     let mut pass = begin(alloc, source)?;
     let mut rest = source.text;
     let mut number = 1;
     'lines: while let Some((line, after)) = first_line(rest) {
         pass_line(alloc, source.language, &mut pass, number, line)?;
+        take_down(ends, are_wanted, pass.state.address)?;
         rest = after;
         number += 1;
     }
@@ -148,7 +168,7 @@ pub fn first_pass<'a, 'b, 'l, 'n, L: Allocator + Clone, A: Allocator>(
 }
 
 /// The bytes of all lines, by all names.
-fn second_pass<'a, L: Allocator + Clone, A: Allocator + Clone, C: Allocator + Drop>(
+pub fn second_pass<'a, L: Allocator + Clone, A: Allocator + Clone, C: Allocator + Drop>(
     state: &mut State<'_, '_, L>,
     names: &Symbols<'a, A>,
     work: &Work<'a, A>,
@@ -192,11 +212,12 @@ pub fn assemble_source<L: Allocator + Clone, A: Allocator + Clone>(
     ensures { Assembles result (source_meaning source.now) }
 {
     let out = Vec::new(alloc.clone()?);
+    let mut ends = Vec::new(&alloc);
     let Pass {
         mut state,
         names,
         work,
-    } = first_pass(&alloc, source)?;
+    } = first_pass(&alloc, source, false, &mut ends)?;
     second_pass(&mut state, &names, &work, out)
 }
 

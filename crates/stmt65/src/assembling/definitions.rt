@@ -39,7 +39,8 @@ impl<'t, 'l, 'n, 'b, L: Allocator + Clone, A: Allocator> Definitions<'t, 'l, 'n,
     pub fn new(alloc: &'b A, source: &'b Source<'t, 'l, 'n, L>) -> Result<Self, AllocError>
         ensures { IfOk result (λ d. d ≡ source_definitions source.now) }
     {
-        let pass = first_pass(alloc, source)?;
+        let mut ends = Vec::new(alloc);
+        let pass = first_pass(alloc, source, false, &mut ends)?;
         Ok(Definitions {
             source,
             names: pass.names,

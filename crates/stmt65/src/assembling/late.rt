@@ -5,8 +5,10 @@ ghost use Rattle.std.specs.List.{list_all};
 ghost use Rattle.stmt65.specs.Code.SourceLineViews.{source_of};
 ghost use Rattle.stmt65.specs.Code.CodingViews.{PutsAll};
 ghost use Rattle.stmt65.specs.Code.MeaningViews.{state_of, fragments_in, IsPlaced};
-ghost use Rattle.stmt65.specs.Code.LateViews.{Codes, CodesEarly, IsIdle, IsOf, Takes, fault_at, late_state};
+ghost use Rattle.stmt65.specs.Code.LateViews.{Codes, CodesEarly, IsIdle, IsOf, Takes, fault_at, fault_past, late_state};
+ghost use Rattle.stmt65.specs.Code.Held.{held};
 ghost use Rattle.stmt65.specs.Coding.{State as AState};
+ghost use Rattle.stmt65.specs.Meaning.{next_of};
 
 use crate::assembling::emit::put_coded;
 use crate::assembling::fault::{AsmFault, AsmFaultKind};
@@ -114,19 +116,32 @@ fn fault_at(number: usize, kind: Option<AsmFaultKind>) -> Option<AsmFault>
     Some(AsmFault { line: number, kind })
 }
 
-/// Keeps a line for later.
+/// A fault of a line after which the address is past the end. It may have a lower one, by all names.
+fn fault_past(number: usize, next: u64) -> Option<AsmFault>
+    ensures { result ≡ fault_past number next }
+{
+    if next > 65536 {
+        return fault_at(number, Some(AsmFaultKind::PastEnd));
+    }
+    None
+}
+
+/// Keeps a line for later, after which the address is `next`. Below one that is past the end no line counts, so none is kept.
 pub fn keep<'a, A: Allocator + Clone>(
     work: &mut Work<'a, A>,
     late: Late<'a, A>,
+    next: u64,
 ) -> Result<(), AllocError>
     requires { work.now.fault ≡ None }
-    ensures { OnOk result ((s : AState) → IsOf late.entry s → Takes work.old work.new late.entry.number s (Some (source_of late.entry.source))) }
+    ensures { OnOk result ((s : AState) → IsOf late.entry s → next ≡ held (next_of s (source_of late.entry.source)) → Takes work.old work.new late.entry.number s (Some (source_of late.entry.source))) }
 {
     let len = work.settled.len();
+    let number = late.number;
     let mut late = late;
     late.front = len.saturating_sub(work.mark);
     work.late.push(late)?;
     work.mark = len;
+    work.fault = fault_past(number, next);
     Ok(())
 }
 

@@ -1,6 +1,6 @@
 //! The names that a text defines.
 
-ghost use Rattle.std.specs.Prelude.{◌≡◌, ◌<◌, ◌++◌, [], ◌∷◌, Some, IfOk, OnOk, length, take};
+ghost use Rattle.std.specs.Prelude.{◌≡◌, ◌<◌, ◌++◌, [], ◌∷◌, Some, IfOk, OnOk, length, map, take};
 ghost use Rattle.std.specs.BTreeMap.{get};
 ghost use Rattle.std.specs.List.{slice_get};
 ghost use Rattle.std.specs.Option.{option_map};
@@ -107,6 +107,13 @@ impl<'a, A: Allocator + Clone> Symbols<'a, A> {
             Some(place) => Some(place),
             None => self.others.get(name).copied(),
         }
+    }
+
+    /// All definitions, in their order.
+    pub fn definitions(&self) -> &[Definition<'a>]
+        ensures { map definition_of result.now ≡ self.now }
+    {
+        self.definitions.as_slice()
     }
 
     /// How many definitions there are.

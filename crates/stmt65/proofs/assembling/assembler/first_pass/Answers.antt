@@ -1,4 +1,9 @@
-use Rattle.std.proofs.Common.{arith}
+use Rattle.std.proofs.Common.{◌++◌, ◌∷◌, ◌∙◌, [], ℕ, List, ap, arith}
+use Rattle.stmt65.specs.Meaning.{readings}
+use Rattle.stmt65.specs.Coding.{State}
+use Rattle.stmt65.specs.Sources.{source_readings}
+use Rattle.stmt65.specs.Code.LateViews.{state_in}
+use Rattle.stmt65.proofs.AddressLemmas.{addresses_step, found_lines, held_addresses}
 use Rattle.stmt65.proofs.PassLaws.{at_start, at_next, passed}
 use Rattle.stmt65.proofs.assembling.assembler.first_pass.Goals as goal
 
@@ -6,13 +11,22 @@ pub lines-init : goal.lines-init
 lines-init g c = record {
   at = at_start c.args.source.now.language c.args.source.now.layout.now c.args.source.now.start _ c.args.source.now.text.now c.in_ok-pass.ensures.state c.in_ok-pass.ensures.work;
   shorter = omega arith;
+  ends = λ _. rw c.requires (ap (λ (s : State). held_addresses s (source_readings c.args.source.now)) c.in_ok-pass.ensures.state);
 }
 
 pub lines-preserved : goal.lines-preserved
 lines-preserved g c = record {
   at = at_next c.args.source.now.language _ _ _ c.lines.number c.lines.pass c.pass_line.new.pass c.lines.rest.now c.in-Some.line.now c.in-Some.after.now c.lines.invariant.at c.in-Some.ensures.0 c.in_ok-pass_line.ensures;
   shorter = omega (arith, c.in-Some.ensures.1);
+  ends = λ wanted.
+      let taken = rw wanted at c.in_ok-take_down.ensures in
+      ap (λ (l : List ℕ). l ++ held_addresses (state_in c.pass_line.new.pass) (readings c.args.source.now.language c.in-Some.after.now)) taken
+      ∙ addresses_step c.args.source.now.language (state_in c.lines.pass) (state_in c.pass_line.new.pass) c.lines.rest.now c.in-Some.line.now c.in-Some.after.now c.lines.ends.items _ (c.lines.invariant.ends wanted) c.in-Some.ensures.0 c.in_ok-pass_line.ensures.state;
 }
 
 pub returns-clause-passed : goal.returns-clause-passed
 returns-clause-passed g c = passed c.args.source.now c.lines.number c.lines.pass c.lines.rest.now c.lines.invariant.at c.in_default.ensures
+
+pub returns-clause-ends : goal.returns-clause-ends
+returns-clause-ends g c = λ wanted.
+    found_lines c.args.source.now.language c.args.source.now.layout.now c.args.source.now.start (state_in c.lines.pass) c.args.source.now.text.now c.lines.rest.now c.lines.ends.items (omega arith) (c.lines.invariant.ends wanted) c.in_default.ensures

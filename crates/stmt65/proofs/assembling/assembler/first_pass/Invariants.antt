@@ -1,7 +1,9 @@
-use Rattle.std.proofs.Common.{◌≡◌, ◌≤◌, ◌+◌, length}
+use Rattle.std.proofs.Common.{◌≡◌, ◌≤◌, ◌+◌, ◌++◌, length, true}
+use Rattle.stmt65.specs.Meaning.{readings}
 use Rattle.stmt65.specs.Sources.{source_readings, source_state}
 use Rattle.stmt65.specs.Code.MeaningViews.{held_final}
-use Rattle.stmt65.specs.Code.LateViews.{held_coded}
+use Rattle.stmt65.specs.Code.LateViews.{held_coded, state_in}
+use Rattle.stmt65.proofs.AddressLemmas.{held_addresses}
 use Rattle.stmt65.proofs.PassLaws.{AtLine}
 use Rattle.stmt65.proofs.assembling.assembler.first_pass.Given as goal
 
@@ -11,6 +13,7 @@ invariant-lines g l =
     record {
       at : AtLine l.fn.source.language end l.fn.source.layout.now (held_coded end.above 1 (source_state l.fn.source) (source_readings l.fn.source)) l.number l.pass l.rest;
       shorter : l.number + length l.rest ≤ length l.fn.source.text.now + 1;
+      ends : l.fn.are_wanted ≡ true → l.ends.items ++ held_addresses (state_in l.pass) (readings l.fn.source.language l.rest) ≡ held_addresses (source_state l.fn.source) (source_readings l.fn.source);
     }
 
 abbrev pub decreases-lines : goal.decreases-lines
