@@ -24,15 +24,21 @@ PROGRAM_PREFIX ?=
 DESTDIR ?=
 SHELL := bash
 .SHELLFLAGS := -eu -o pipefail -c
-.PHONY: all try test check contracts manual definitions speed install uninstall clean help
+.PHONY: all kit try test check contracts manual definitions speed install uninstall clean help
 
 # Crates that do not stand on each other are proved side by side, each with up to four jobs of its own; `make -j1` proves one at a time.
 ifeq ($(shell [ "$$(nproc)" -gt 1 ] && awk '/^MemTotal/ { exit $$2 < 12000000 }' /proc/meminfo && echo wide),wide)
 MAKEFLAGS += -j3
 endif
 
-all: bin/da65 bin/as65 bin/trace65 bin/name65
+all: kit bin/da65 bin/as65 bin/trace65 bin/name65
 	bin/da65 examples/three.bin
+
+# The kits of the prover that all this was proved with.
+kits := rattle-kit-13b rattle-kit-13f
+
+kit:
+	@kit=$$(rt version); kit=$${kit%% *}; case ' $(kits) ' in *" $$kit "*) ;; *) echo "proved with $(kits), not yet with $$kit" ;; esac
 
 bin/da65: bin/made/da65_cli
 	@cp crates/da65_cli/out/da65_cli $@
