@@ -101,6 +101,7 @@ test:
 	@cp crates/as65/out/as65 bin/as65
 	@cp crates/trace65/out/trace65 bin/trace65
 	@cp crates/name65/out/name65 bin/name65
+	tests/files.sh bin/da65 bin/as65 bin/trace65 bin/name65
 	tests/program.sh bin/da65
 	tests/as65.sh bin/as65 bin/da65
 	tests/trace65.sh bin/trace65 bin/da65 bin/as65 bin/name65

@@ -48,24 +48,8 @@ printf 'GLOBAL { STARTADDR $2000; };\n' >start.info
 runs 'an unknown option' 1 '' 'name65: bad arguments\n' --fill 0 nop.s
 runs 'a start that is no number' 1 '' 'name65: bad number\n' -S x nop.s
 runs 'a start past $FFFF' 1 '' 'name65: argument out of range\n' -S 0x10000 nop.s
-runs 'both inputs are standard input' 1 '' 'name65: standard input can be only one of the inputs\n' -i - -
-runs 'the output is the listing' 1 '' 'name65: the output is an input: nop.s\n' -o nop.s nop.s
-ln -s nop.s other.s
-runs 'the output is the listing by another name' 1 '' 'name65: the output is an input: other.s\n' -o other.s nop.s
-runs 'the output is the information file' 1 '' 'name65: the output is an input: start.info\n' -i start.info -o start.info nop.s
-holds 'the listing' nop.s 'nop\n'
-mkdir folder
-runs 'the output is a folder' 1 '' 'name65: the output is no plain file: folder\n' -o folder nop.s
-runs 'no information file' 1 '' 'name65: cannot read absent.info\n' -i absent.info nop.s
-runs 'no listing' 1 '' 'name65: cannot read absent.s\n' absent.s
 runs 'a listing without a byte' 1 '' 'name65: empty.s: no bytes\n' empty.s
 printf 'nop\nlda absent\n' >fault.s
-truncate -s 67108865 large.s
-runs 'more than 64 MiB' 1 '' 'name65: input is too large\n' large.s
-rm large.s
-runs 'an output that cannot be created' 1 '' 'name65: cannot create absent/out.s\n' -o absent/out.s nop.s
-mkfifo pipe
-runs 'a pipe that is both inputs' 1 '' 'name65: pipe can be only one of the inputs\n' -i pipe pipe
 runs 'a listing with a fault' 1 '' 'name65: fault.s:2: undefined name\n' -o named.s fault.s
 is_absent 'a listing with a fault' named.s
 printf 'RANGE { START 1; }\n' >bad.info
@@ -76,18 +60,6 @@ printf '#: HALF { LOW 1; };\n' >bad.info
 runs 'an unknown group' 1 '' 'name65: info:1: unknown group\n' -i bad.info nop.s
 printf 'nop ; last' >last.s
 runs 'a last line without a line feed' 0 'nop ; last\n' '' last.s
-"$program" <nop.s >stdout 2>stderr
-ends 'standard input' 0 $? ''
-holds 'standard input' stdout 'nop\n'
-"$program" -o - - <nop.s >stdout 2>stderr
-ends 'standard streams by -' 0 $? ''
-holds 'standard streams by -' stdout 'nop\n'
-"$program" nop.s >/dev/full 2>stderr
-ends 'a full device' 1 $? 'name65: cannot write the output\n'
-echo old >named.s
-runs 'a file that is there' 0 '' '' -o named.s nop.s
-holds 'a file that is there' named.s 'nop\n'
-
 # ---- where the listing begins
 
 printf '#: HALVES { LOW $FFFD; HIGH $FFFF; };\n' >halves.info

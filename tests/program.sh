@@ -29,9 +29,8 @@ printf 'GLOBAL { INPUTNAME "three.bin"; OUTPUTNAME "three.s"; };' >names.info
 printf 'GLOBAL { OUTPUTNAME "other.s"; };' >output.info
 printf 'GLOBAL { STARTADDR $1000; INPUTOFFS 1; INPUTSIZE 2; }' >settings.info
 printf 'GLOBAL {\n@' >bad.info
-# Too many bytes, and as many as there may be: comments.
+# Too many bytes: comments.
 { printf '#'; head -c 1048576 /dev/zero | tr '\0' '#'; } >large.info
-head -c 1048576 large.info >largest.info
 printf 'GLOBAL { STARTADDR $1000; };\nRANGE { START $1000; SIZE 3; TYPE WordTable; };' >words.info
 printf 'GLOBAL { STARTADDR $1000; };\nRANGE { START $1001; END $1001; TYPE Skip; };' >skip.info
 printf 'RANGE { START $1000; END $10FF; TYPE CODE; };\nRANGE { START $10FF; SIZE 2; TYPE SKIP; };' >overlap.info
@@ -44,13 +43,9 @@ printf 'GLOBAL { STARTADDR $1000; };\nASMINC { FILE "k.inc"; IGNOREUNKNOWN on; }
 printf 'GLOBAL { STARTADDR $1000; };\nASMINC { FILE "k.inc"; };' >strict.info
 printf 'CHROUT = $FFD2\nBSOUT := $FFD2 ; same\n.macro x\n' >k.inc
 printf 'ASMINC { FILE "no.inc"; };\nASMINC { FILE "k.inc"; };' >missing.info
-printf 'ASMINC { FILE "folder"; };' >folder.info
 printf 'GLOBAL { STARTADDR $1000; };\nASMINC { FILE "/dev/stdin"; };\nASMINC { FILE "/dev/stdin"; };' >piped.info
-printf 'GLOBAL { STARTADDR $1000; };\nASMINC { FILE "largest.inc"; };' >largest_include.info
-printf 'ASMINC { FILE "large.inc"; IGNOREUNKNOWN on; };' >large_include.info
-# Too many bytes, and as many as there may be: comments.
+# Too many bytes: comments.
 head -c 1048577 /dev/zero | tr '\0' ';' >large.inc
-head -c 1048576 large.inc >largest.inc
 mkdir folder
 
 runs 'help' 0 "$help" '' -h
@@ -67,7 +62,6 @@ runs 'names in the information file' 0 '' '' --info names.info
 holds 'names in the information file' three.s "$three"
 runs 'settings' 0 "$header        ora     (\$60,x)\n" '' -i settings.info three.bin
 runs 'the command line wins' 0 "$header        ora     (\$60,x)\n" '' -S 0x2000 --cpu 6502 -i settings.info three.bin
-runs 'the largest information file' 0 "$three" '' -i largest.info three.bin
 
 runs 'a range' 0 "$header        .word   \$01A9\n        .byte   \$60\n" '' -i words.info three.bin
 runs 'skipped bytes' 0 "$header        .byte   \$A9\n        rts\n" \
@@ -93,7 +87,6 @@ is_absent 'ranges that overlap' new.s
 # ---- include files
 
 call="${header}CHROUT          := \$FFD2\n\n        jsr     CHROUT\n"
-default="${header}LFFD2           := \$FFD2\n\n        jsr     LFFD2\n"
 runs 'names of an include file' 0 "$call" '' -i include.info call.bin
 (cd "$root" && "$program" -i examples/kernal.info -o "$work/kernal.s") 2>stderr
 ends 'names of the C64 KERNAL' 0 $? ''
@@ -104,21 +97,6 @@ body+='; until a key is pressed, or the STOP key\nwait:   jsr     STOP\n        
 body+='        jsr     GETIN\n        jsr     BSOUT\n        jmp     wait\nLC01F:  rts\n\ntext:   .byte   $93,"PRESS A KEY",$0D,$00\n'
 holds 'names of the C64 KERNAL' kernal.s "$header$constants$body"
 runs 'a faulty line of an include file' 1 '' 'da65: include k.inc:3: bad include line\n' -i strict.info call.bin
-runs 'an include file that is not there' 1 '' 'da65: cannot read include no.inc\n' -i missing.info three.bin
-runs 'an include file that is a folder' 1 '' 'da65: cannot read include folder\n' -i folder.info three.bin
-runs 'the largest include file' 0 "$default" '' -i largest_include.info call.bin
-runs 'an include file above its limit' 1 '' 'da65: include large.inc:1: too large\n' -i large_include.info three.bin
-echo old >out.s
-runs 'the output is created empty before an include file is refused' 1 '' 'da65: cannot read include no.inc\n' -i missing.info -o out.s three.bin
-holds 'the output is created empty before an include file is refused' out.s ''
-# The output has the name of a file that was read before: an include file, or the information file.
-cp k.inc own.inc
-printf 'GLOBAL { STARTADDR $1000; };\nASMINC { FILE "own.inc"; IGNOREUNKNOWN on; };' >own.info
-runs 'an include file is read before the output is created' 0 '' '' -i own.info -o own.inc call.bin
-holds 'an include file is read before the output is created' own.inc "$call"
-cp words.info own.info
-runs 'an information file is read before the output is created' 0 '' '' -i own.info -o own.info three.bin
-holds 'an information file is read before the output is created' own.info "$header        .word   \$01A9\n        .byte   \$60\n"
 runs 'an input that can not be opened comes before an include file' 1 '' 'da65: cannot read no.bin\n' -i missing.info no.bin
 runs 'no input name comes before an include file' 1 '' 'da65: no input file\n' -i missing.info
 # A name that stands twice is that of one file. That it is read once is counted by tests/growth.sh.
@@ -167,15 +145,7 @@ long=$(printf 'n%.0s' {1..200})
 runs 'a missing input with a long name' 1 '' "da65: cannot read $long\n" "$long"
 runs 'a missing information file with a long name' 1 '' "da65: cannot read $long\n" -i "$long" three.bin
 runs 'an output that can not be created, with a long name' 1 '' "da65: cannot create no/$long\n" -o "no/$long" three.bin
-runs 'an empty input name' 1 '' 'da65: cannot read \n' ''
-runs 'an empty information file name' 1 '' 'da65: cannot read \n' -i '' three.bin
-runs 'an empty output name' 1 '' 'da65: cannot create \n' -o '' three.bin
-runs 'a hyphen is a name' 1 '' 'da65: cannot read -\n' -
-runs 'a hyphen as the information file' 1 '' 'da65: cannot read -\n' -i - three.bin
-runs 'a hyphen as the output' 0 '' '' -o - three.bin
-holds 'a hyphen as the output' - "$three"
 runs 'a hyphen as the input' 1 '' 'da65: bad number\n' -S x -
-rm -- -
 printf '\xad\x03\x20\x4c\x01\x20' >inside.bin
 runs 'hexadecimal offsets in a file' 0 '' '' --hexoffs -o out.s -S 0x2000 inside.bin
 holds 'hexadecimal offsets in a file' out.s \
@@ -193,49 +163,6 @@ holds 'every option at once' out.s "$every"
 runs 'thirty words, the last of which is one too many' 1 '' 'da65: bad arguments\n' "${words[@]}" -- three.bin a b c d e f g
 runs 'every option and help, and a name too many' 1 '' 'da65: bad arguments\n' "${words[@]}" -V -h -- three.bin three.bin
 runs 'every option, and help' 0 "$help" '' "${words[@]}" -V -h -- three.bin
-
-# ---- what may not be opened
-
-# Who may not open a file can still be handed it as standard input, so that its name, /dev/stdin, must not be opened.
-as() {
-    "${as_other[@]}" ./copied "$@"
-}
-cp three.bin secret.bin
-cp words.info secret.info
-{ chmod 0 secret.bin; as /dev/stdin >stdout 2>stderr; } <secret.bin
-ends 'an input that only standard input may read' 0 $? ''
-holds 'an input that only standard input may read' stdout "$three"
-{ chmod 0 secret.info; as -i /dev/stdin three.bin >stdout 2>stderr; } <secret.info
-ends 'an information file that only standard input may read' 0 $? ''
-holds 'an information file that only standard input may read' stdout "$header        .word   \$01A9\n        .byte   \$60\n"
-cat three.bin | as /dev/stdin >stdout 2>stderr
-ends "another user's pipe" 0 $? ''
-holds "another user's pipe" stdout "$three"
-cat words.info | as -i /dev/stdin three.bin >stdout 2>stderr
-ends "another user's pipe for the information file" 0 $? ''
-holds "another user's pipe for the information file" stdout "$header        .word   \$01A9\n        .byte   \$60\n"
-as secret.bin >stdout 2>stderr
-ends 'an input that may not be read' 1 $? 'da65: cannot read secret.bin\n'
-as -i secret.info three.bin >stdout 2>stderr
-ends 'an information file that may not be read' 1 $? 'da65: cannot read secret.info\n'
-printf 'ASMINC { FILE "secret.info"; };' >secret_include.info
-as -i secret_include.info three.bin >stdout 2>stderr
-ends 'an include file that may not be read' 1 $? 'da65: cannot read include secret.info\n'
-as -o secret.bin three.bin >stdout 2>stderr
-ends 'an output that may not be written' 1 $? 'da65: cannot create secret.bin\n'
-
-# ---- names of standard streams
-
-# Only /dev/stdin stands for a stream. Any other name is opened, so that a file is read from its first byte on and created empty.
-{ dd bs=1 count=1 of=/dev/null status=none; "$program" /dev/stdin >stdout 2>stderr; } <three.bin
-ends 'standard input from its second byte on' 0 $? ''
-holds 'standard input from its second byte on' stdout "$header        ora     (\$60,x)\n"
-{ dd bs=1 count=1 of=/dev/null status=none; "$program" /dev/fd/0 >stdout 2>stderr; } <three.bin
-ends 'the file behind standard input' 0 $? ''
-holds 'the file behind standard input' stdout "$three"
-{ echo old; "$program" -o /dev/stdout three.bin 2>stderr; } >stdout
-ends 'the file behind standard output' 0 $? ''
-holds 'the file behind standard output' stdout "$three"
 
 # ---- sizes around those of the reads
 
@@ -255,16 +182,6 @@ done
 echo old >out.s
 runs 'the output is created empty before a refusal' 1 '' 'da65: input is empty\n' -o out.s empty.bin
 holds 'the output is created empty before a refusal' out.s ''
-echo old >out.s
-runs 'an input that can not be read' 1 '' 'da65: cannot read the input\n' -o out.s folder
-holds 'an input that can not be read' out.s ''
-echo old >out.s
-runs 'an input that can not be opened' 1 '' 'da65: cannot read no.bin\n' -o out.s no.bin
-holds 'an input that can not be opened leaves the output' out.s 'old\n'
-runs 'an output that can not be created' 1 '' 'da65: cannot create folder/no/out.s\n' -o folder/no/out.s three.bin
-cp three.bin own.bin
-runs 'an output with the name of the input' 1 '' 'da65: input is empty\n' -o own.bin own.bin
-holds 'an output with the name of the input' own.bin ''
 runs 'the input comes before the output' 1 '' 'da65: cannot read no.bin\n' -o folder/no/out.s no.bin
 
 runs 'no input name' 1 '' 'da65: no input file\n' -o new.s
@@ -275,10 +192,6 @@ runs 'a name in both places' 1 '' 'da65: info:1: name given in both places\n' -i
 runs 'an output name in both places' 1 '' 'da65: info:1: name given in both places\n' -i output.info -o new.s three.bin
 is_absent 'an output name in both places' new.s
 is_absent 'an output name in both places' other.s
-runs 'an information file above its limit' 1 '' 'da65: info:1: too large\n' -i large.info three.bin
-runs 'an information file that is not there' 1 '' 'da65: cannot read no.info\n' -i no.info -o new.s three.bin
-is_absent 'an information file that is not there' new.s
-runs 'an information file that is a folder' 1 '' 'da65: cannot read folder\n' -i folder three.bin
 
 runs 'too many words' 1 '' 'da65: bad arguments\n' three.bin three.bin
 runs 'an option that is not known' 1 '' 'da65: bad arguments\n' -h --frob
@@ -346,19 +259,6 @@ holds 'no standard stream' out.s "$skipped"
 "$program" -o out.s /dev/stdin <&- >&- 2>&-
 [ $? = 1 ] || fails 'no standard stream, the output first' 'status'
 holds 'no standard stream, the output first' out.s ''
-if has_shim; then
-    needs_null 'without /dev/null' 1 'da65: cannot read /dev/null\n' null.s -o null.s three.bin
-    needs_null 'with a warning, without /dev/null' 1 'da65: cannot read /dev/null\n' null.s -i skip.info -o null.s three.bin
-    needs_null 'help without /dev/null' 1 'da65: cannot read /dev/null\n' null.s -h
-else
-    echo 'program: what needs the shim is left out, since CC=skip is set'
-fi
-"$program" /dev/stdin <&- >stdout 2>stderr
-ends 'a closed standard input' 1 $? 'da65: input is empty\n'
-holds 'a closed standard input' stdout ''
-[ "$(printf 'abcdef' | { "$program" three.bin >stdout; cat; })" = abcdef ] || fails 'standard input that is not asked for' 'it was read'
-[ "$(printf 'abcdef' | { "$program" -i words.info three.bin >stdout; cat; })" = abcdef ] || fails 'standard input beside files' 'it was read'
-
 # 64 KiB of nop, one line each.
 head -c 65536 /dev/zero | tr '\0' '\352' >large.bin
 "$program" large.bin >large.s 2>stderr
@@ -378,25 +278,6 @@ is_prefix 'no warning after a listing that was cut' cut.s 262144 large.s
 { dd if=/dev/null oflag=nonblock status=none; "$program" large.bin 2>stderr; echo $? >status; } | { sleep 0.5; cat >piped.s; }
 ends 'a write that fails once' 1 "$(cat status)" 'da65: cannot write the listing\n'
 is_prefix 'a write that fails once' piped.s "$(wc -c <piped.s)" large.s
-
-# ---- less and less memory
-
-# Lists or runs out, and never lists a part. Below some limit the program is not even started.
-ran_out=0
-for limit in $(seq 16384 -16 16); do
-    (ulimit -v "$limit"; exec "$program" -i skip_last.info large.bin >stdout 2>stderr) 2>/dev/null
-    got=$?
-    if [ "$got" = 0 ]; then
-        [ "$(wc -l <stdout)" = 65539 ] || fails "memory of $limit KiB" "$(wc -l <stdout) lines and not 65539"
-    elif [ "$got" = 1 ]; then
-        ran_out=1
-        ends "memory of $limit KiB" 1 1 'da65: out of memory\n'
-        holds "memory of $limit KiB" stdout ''
-    else
-        break
-    fi
-done
-[ "$ran_out" = 1 ] || fails 'less and less memory' 'the program never ran out of it'
 
 if [ -e /dev/full ]; then
     "$program" three.bin >/dev/full 2>stderr

@@ -59,36 +59,7 @@ has_shim() {
     [ -e "$work/shim.so" ] || "$compiler" -O1 -shared -fPIC -o "$work/shim.so" "$root/tests/shim.c" -ldl || exit 1
 }
 
-# needs_null NAME STATUS STDERR FILE WORD..: if the program can't open /dev/null, the first time or later, it says so, ends with this status
-# and creates no file of that name; so it does with all standard streams closed.
-needs_null() {
-    local name=$1 wanted=$2 said=$3 file=$4 at got
-    shift 4
-    for at in 1 2 3; do
-        rm -f "$file"
-        # 2 is ENOENT.
-        SHIM_REFUSE_OPEN=$at SHIM_ERROR=2 LD_PRELOAD=$work/shim.so "$program" "$@" >stdout 2>stderr </dev/null
-        ends "$name, time $at" "$wanted" $? "$said"
-        holds "$name, time $at" stdout ''
-        is_absent "$name, time $at" "$file"
-        SHIM_REFUSE_OPEN=$at SHIM_ERROR=2 LD_PRELOAD=$work/shim.so "$program" "$@" <&- >&- 2>&-
-        got=$?
-        [ "$got" = "$wanted" ] || fails "$name, time $at, no standard stream" "status $got and not $wanted"
-        is_absent "$name, time $at, no standard stream" "$file"
-    done
-}
-
 fails() {
     echo "$(basename "$0" .sh): $1: $2"
     failed=1
 }
-
-# The program as a user that may not open what is this one's: another one for root, who may open everything.
-as_other=()
-if [ "$(id -u)" = 0 ]; then
-    command -v setpriv >/dev/null || { echo "$(basename "$0" .sh): root needs setpriv, of util-linux"; exit 1; }
-    as_other=(setpriv --reuid 65534 --regid 65534 --clear-groups)
-fi
-chmod 755 .
-cp "$program" ./copied
-chmod 755 copied

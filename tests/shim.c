@@ -1,8 +1,11 @@
 /* Loaded before the C library (LD_PRELOAD), it counts the files that a program opens, its reads, writes and bytes of memory, and can
-   refuse one allocation, or to open one file.
+   refuse one allocation, or to open, read, write or close one file.
    At the end it writes six numbers on the file that SHIM_COUNTS names: the files opened, the reads, the writes, the greatest number
-   of bytes of memory at one time, the bytes asked for over the whole run, and the allocations. SHIM_REFUSE is the number of the allocation that is refused, and SHIM_REFUSE_OPEN that
-   of the file, both counted from 1. SHIM_ERROR is the number of the error with which the file is refused, ENOMEM if it is not set. */
+   of bytes of memory at one time, the bytes asked for over the whole run, and the allocations. It appends the name of each file that
+   is opened, as a line, to the file that SHIM_OPENS names. SHIM_REFUSE is the number of the allocation that is refused, and
+   SHIM_REFUSE_OPEN, SHIM_REFUSE_READ, SHIM_REFUSE_WRITE and SHIM_REFUSE_CLOSE are those of what is refused of a file, all counted from
+   1. SHIM_ERROR is the number of the error with which that is refused, ENOMEM if it is not set. What SHIM_ELSEWHERE names is said to be
+   on another device. */
 #define _GNU_SOURCE
 #include <dlfcn.h>
 #include <errno.h>
@@ -11,28 +14,37 @@
 #include <stdarg.h>
 #include <stdio.h>
 #include <stdlib.h>
+#include <string.h>
+#include <sys/stat.h>
 #include <sys/syscall.h>
 #include <unistd.h>
 
-static unsigned long opens, reads, writes, held, most, asked, allocations, refused, refused_open;
-static int open_error;
+static unsigned long opens, reads, writes, closes, held, most, asked, allocations;
+static unsigned long refused, refused_open, refused_read, refused_write, refused_close;
+static int file_error;
 static void *(*real_malloc)(size_t);
 static void *(*real_realloc)(void *, size_t);
 static void (*real_free)(void *);
 
+static unsigned long number_in(const char *name, unsigned long otherwise)
+{
+    const char *number = getenv(name);
+
+    return number ? strtoul(number, NULL, 10) : otherwise;
+}
+
 __attribute__((constructor)) static void begin(void)
 {
-    const char *number = getenv("SHIM_REFUSE");
-    const char *number_open = getenv("SHIM_REFUSE_OPEN");
-    const char *number_error = getenv("SHIM_ERROR");
-
     real_malloc = dlsym(RTLD_NEXT, "malloc");
     real_realloc = dlsym(RTLD_NEXT, "realloc");
     real_free = dlsym(RTLD_NEXT, "free");
-    opens = reads = writes = asked = allocations = 0;
-    refused = number ? strtoul(number, NULL, 10) : 0;
-    refused_open = number_open ? strtoul(number_open, NULL, 10) : 0;
-    open_error = number_error ? atoi(number_error) : ENOMEM;
+    opens = reads = writes = closes = asked = allocations = 0;
+    refused = number_in("SHIM_REFUSE", 0);
+    refused_open = number_in("SHIM_REFUSE_OPEN", 0);
+    refused_read = number_in("SHIM_REFUSE_READ", 0);
+    refused_write = number_in("SHIM_REFUSE_WRITE", 0);
+    refused_close = number_in("SHIM_REFUSE_CLOSE", 0);
+    file_error = (int)number_in("SHIM_ERROR", ENOMEM);
 }
 
 __attribute__((destructor)) static void end(void)
@@ -89,15 +101,34 @@ void free(void *block)
     real_free(block);
 }
 
+/* Whether this is the one of its kind that is refused. */
+static int fails(unsigned long at, unsigned long which)
+{
+    if (at == which)
+        errno = file_error;
+    return at == which;
+}
+
+static void note(const char *opened)
+{
+    const char *name = getenv("SHIM_OPENS");
+    int file = name ? (int)syscall(SYS_openat, AT_FDCWD, name, O_WRONLY | O_CREAT | O_APPEND, 0666) : -1;
+
+    if (file < 0)
+        return;
+    syscall(SYS_write, file, opened, strlen(opened));
+    syscall(SYS_write, file, "\n", (size_t)1);
+    syscall(SYS_close, file);
+}
+
 /* The mode of a file that may be created is the last argument. */
 #define OPENS(place)                                                        \
     va_list rest;                                                           \
     mode_t mode;                                                            \
                                                                             \
-    if (++opens == refused_open) {                                          \
-        errno = open_error;                                                 \
+    note(name);                                                             \
+    if (fails(++opens, refused_open))                                       \
         return -1;                                                          \
-    }                                                                       \
     va_start(rest, flags);                                                  \
     mode = flags & (O_CREAT | O_TMPFILE) ? (mode_t)va_arg(rest, int) : 0;   \
     va_end(rest);                                                           \
@@ -120,17 +151,33 @@ int openat(int folder, const char *name, int flags, ...)
 
 ssize_t read(int file, void *bytes, size_t count)
 {
-    reads++;
-    return syscall(SYS_read, file, bytes, count);
+    return fails(++reads, refused_read) ? -1 : syscall(SYS_read, file, bytes, count);
 }
 
 ssize_t write(int file, const void *bytes, size_t count)
 {
-    writes++;
-    return syscall(SYS_write, file, bytes, count);
+    return fails(++writes, refused_write) ? -1 : syscall(SYS_write, file, bytes, count);
 }
 
 ssize_t __write(int file, const void *bytes, size_t count)
 {
     return write(file, bytes, count);
+}
+
+/* The file is closed, as it is where the system says that a write of before has failed. */
+int close(int file)
+{
+    int status = (int)syscall(SYS_close, file);
+
+    return fails(++closes, refused_close) ? -1 : status;
+}
+
+int statx(int folder, const char *restrict name, int flags, unsigned mask, struct statx *restrict found)
+{
+    const char *elsewhere = getenv("SHIM_ELSEWHERE");
+    int status = (int)syscall(SYS_statx, folder, name, flags, mask, found);
+
+    if (status == 0 && elsewhere && strcmp(name, elsewhere) == 0)
+        found->stx_dev_minor ^= 1;
+    return status;
 }

@@ -119,30 +119,13 @@ runs 'help beside a bad value' 0 "$help" '' -S x -h
 runs 'help before the version' 0 "$help" '' -V -h
 runs 'an unknown CPU' 1 '' 'trace65: argument out of range\n' --cpu 8080 examples/three.bin
 runs 'no image' 1 '' 'trace65: no input file\n'
-runs 'no such image' 1 '' 'trace65: cannot read none.bin\n' none.bin
 : >empty
 runs 'an empty image' 1 '' 'trace65: input is empty\n' empty
-head -c 65537 /dev/zero >large
-runs 'an image that is too large' 1 '' 'trace65: input is too large\n' large
 image twice.info '\nLABEL { ADDR 1; ADDR 2; NAME "abc"; };'
 runs 'a refused information file' 1 '' 'trace65: info:2: attribute given twice\n' -i twice.info examples/three.bin
-image lost.info 'ASMINC { FILE "none.inc"; };\n'
-runs 'no such include file' 1 '' 'trace65: cannot read none.inc\n' -i lost.info examples/three.bin
 image bad.inc '\n1\n'
 image bad.info 'ASMINC { FILE "bad.inc"; };\n'
 runs 'a refused include file' 1 '' 'trace65: include bad.inc:2: bad include line\n' -i bad.info examples/three.bin
-
-echo old >out.info
-runs 'an output that is there already' 1 '' 'trace65: out.info exists\n' -o out.info examples/three.bin
-holds 'an output that is there already' out.info 'old\n'
-cp examples/three.bin three.bin
-runs 'the image as the output, by another name' 1 '' 'trace65: ./three.bin exists\n' -o ./three.bin three.bin
-same 'the image as the output, by another name' three.bin examples/three.bin
-runs 'an output in a folder that is not there' 1 '' 'trace65: cannot create none/out.info\n' -o none/out.info examples/three.bin
-runs 'a refused run creates no output' 1 '' 'trace65: cannot read none.bin\n' -o new.info none.bin
-is_absent 'a refused run creates no output' new.info
-"$program" examples/three.bin >/dev/full 2>stderr
-ends 'a full output' 1 $? 'trace65: cannot write the output\n'
 
 # ---- what is proposed
 
