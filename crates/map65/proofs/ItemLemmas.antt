@@ -1,7 +1,6 @@
 -- Items, byte by byte.
 use Rattle.std.proofs.Common.{◌≡◌, ◌≢◌, ◌∙◌, ℕ, zero, suc, ◌+◌, ◌-◌, ◌<◌, ◌≤◌, ◌&&◌, ◌==◌, not, Bool, true, false, length, Option, Some, None, refl, ap, sym, arith, ⊎_elim}
 use Rattle.std.proofs.lemmas.Bool.{false≢true, and_parts, and_from, cases_eq, cases_lt, cond-true, cond-false, cond_both, eq-eqb, false_from_ne_true, ne_eqb, lt-ltb, le-leb, not-true}
-use denote.Enum.Bare.{same_true, true_same}
 use Rattle.isa65.proofs.ModeLaws.{len-positive, len-small}
 use Rattle.isa65.specs.declared.op.Op.{Op}
 use Rattle.isa65.specs.Opcodes.{decoded}

@@ -1,39 +1,15 @@
--- The laws of roles and of pieces.
-use Rattle.std.proofs.Common.{◌≡◌, ◌∙◌, ℕ, zero, suc, ◌+◌, ◌-◌, ◌==◌, ◌<◌, ◌≤◌, ◌&&◌, Bool, true, false, List, [], ◌∷◌, All, AllPairs, length, get_or, refl, ap, arith, ⊎_elim}
-use Rattle.std.proofs.lemmas.Bool.{and_from, both_ways, cases_Bool, cond-true, cond-false, eq-eqb, or_left, or_right}
+-- The laws of runs and of pieces.
+use Rattle.std.proofs.Common.{◌≡◌, ◌∙◌, ℕ, ◌+◌, ◌==◌, ◌<◌, ◌≤◌, ◌&&◌, Bool, true, false, List, All, length, get_or, refl, ap, arith}
+use Rattle.std.proofs.lemmas.Bool.{and_from, both_ways, eq-eqb, or_left, or_right}
 use Rattle.std.proofs.lemmas.List.Folds.{list_any_at, list_any_none}
-use Rattle.info65.specs.Ranges.{AreApart, has_address}
-use Rattle.info65.specs.declared.information.range.RangeSpec.{RangeSpec}
-use Rattle.info65.specs.declared.information.range.RangeType.TheVariants.{Code}
 use Rattle.info65.specs.Views.{NameView, SegmentView}
-use Rattle.map65.proofs.ItemLemmas.{in-run, is_cut_at, joined-if, joined-run, joined-uncut, one-run, run-if, within}
+use Rattle.map65.proofs.ItemLemmas.{in-run, is_cut_at, joined-if, joined-run, joined-uncut, one-run, run-if}
 use Rattle.map65.proofs.RunLemmas.{segment-before}
 use Rattle.map65.specs.ImageView.{is_inside}
 use Rattle.map65.specs.MapView.{MapView}
 use Rattle.map65.specs.Pieces.{AreAlike, AreOnePiece, AreOneRun, AreUnnamed, PieceLaw, RunLaw, is_own}
-use Rattle.map65.specs.Roles.{RoleLaw, is_wide, role_in, role_of}
+use Rattle.map65.specs.Roles.{is_wide, role_of}
 use Rattle.map65.specs.Segments.{borders, is_border, segment_at}
-
--- ---- roles
-
-role-within : (ranges : List RangeSpec) → AllPairs AreApart ranges → All (λ r. (a : ℕ) → has_address r a ≡ true → role_in ranges a ≡ r.role) ranges
-unfolding role_in
-role-within [] apart k d below = absurd (omega arith)
-role-within (r ∷ rs) apart zero d below = λ a has. cond-true (has_address r a) r.role (role_in rs a) has
-role-within (r ∷ rs) apart (suc k) d below = λ a has.
-    let rest : role_in rs a ≡ _ = role-within rs (λ i j e low high. apart (suc i) (suc j) e (omega arith) (omega arith)) k d (omega arith) a has in
-    ⊎_elim
-    (λ both. absurd (apart 0 (suc k) d (omega arith) below a both has))
-    (λ one. cond-false (has_address r a) r.role (role_in rs a) one ∙ rest)
-    (cases_Bool (has_address r a))
-
-role-outside : (ranges : List RangeSpec) (a : ℕ) → All (λ r. has_address r a ≡ false) ranges → role_in ranges a ≡ Code
-unfolding role_in
-role-outside [] a none = refl
-role-outside (r ∷ rs) a none = cond-false (has_address r a) r.role (role_in rs a) (none 0 r (omega arith)) ∙ role-outside rs a (λ k d below. none (suc k) d (omega arith))
-
-pub role_law : (ranges : List RangeSpec) → RoleLaw ranges
-role_law ranges disjoint = record { within = role-within ranges disjoint.each; outside = role-outside ranges }
 
 -- ---- runs
 

@@ -2,11 +2,11 @@
 --
 -- The role of an address of the image is the type of the range that the address belongs to, else code. No address belongs to two
 -- ranges.
-use Rattle.std.specs.Prelude.{◌≡◌, ℕ, Bool, true, false, List, [], ◌∷◌, All, Option, Some, None, nat_lt, if◌then◌else◌}
+use Rattle.std.specs.Prelude.{ℕ, Bool, true, false, List, [], ◌∷◌, Option, Some, None, nat_lt, if◌then◌else◌}
 use denote.Enum.Bare.{sameb}
 use Rattle.info65.specs.contracts.information.range.RangeType as range_type
 use Rattle.info65.specs.Layouts.{layout_of}
-use Rattle.info65.specs.Ranges.{AreDisjoint, has_address}
+use Rattle.info65.specs.Ranges.{has_address}
 use Rattle.info65.specs.Views.{InfoView}
 use Rattle.info65.specs.declared.information.range.Entry.{Entry}
 use Rattle.info65.specs.declared.information.range.Entry.TheVariants.{Skipped}
@@ -46,14 +46,3 @@ unit_of r = (layout_of r).unit
 -- a table whose entries have more than one byte
 abbrev pub is_wide : RangeType → Bool
 is_wide r = nat_lt 1 (unit_of r)
-
--- ---- the law
-
--- The role of an address is the type of the range that it belongs to, and CODE if it belongs to none.
-pub record HasRoles (ranges : List RangeSpec) : Type 0 where
-  pub within : All (λ r. (a : ℕ) → has_address r a ≡ true → role_in ranges a ≡ r.role) ranges
-  pub outside : (a : ℕ) → All (λ r. has_address r a ≡ false) ranges → role_in ranges a ≡ role.Code
-
--- This holds if no address belongs to two ranges, as in an information file.
-abbrev pub RoleLaw : List RangeSpec → Type 0
-RoleLaw ranges = AreDisjoint ranges → HasRoles ranges

@@ -1,8 +1,6 @@
-//! The laws of roles, pieces, items and cells, and the worked examples, each stated by a function that does nothing.
+//! The laws of runs, pieces, items, cells and names, and the worked examples, each stated by a function that does nothing.
 
-ghost use Rattle.std.specs.Prelude.{List};
 ghost use Rattle.info65.specs.Names.{AreNames};
-ghost use Rattle.info65.specs.declared.information.range.RangeSpec.{RangeSpec};
 ghost use Rattle.map65.specs.Bases.{BaseLaw, PlaceLaw};
 ghost use Rattle.map65.specs.Code.Cells.{CellLaw};
 ghost use Rattle.map65.specs.Items.{ItemLaw};
@@ -10,12 +8,6 @@ ghost use Rattle.map65.specs.MapRows.{WorkedMaps};
 ghost use Rattle.map65.specs.MapView.{MapView};
 ghost use Rattle.map65.specs.Names.{EntryStartLaw, NameLaw, ReferenceLaw};
 ghost use Rattle.map65.specs.Pieces.{PieceLaw, RunLaw};
-ghost use Rattle.map65.specs.Roles.{RoleLaw};
-
-/// The role of an address is the type of the range that it belongs to, else CODE.
-pub fn role_law()
-    ensures { (ranges : List RangeSpec) → RoleLaw ranges }
-{}
 
 /// A run is a longest stretch of the image of one role without a segment border inside.
 #[tactic(auto, using(crate::proofs::PieceLaws::run_law))]

@@ -24,7 +24,7 @@ pub use devices::{DeviceFault, Sink, Source, TakeFault, Told, take_up_to, write_
 pub use image::{ADDRESSES, Image, ImageFault};
 pub use laws::{
     base_law, cell_law, entry_start_law, item_law, name_law, piece_law, place_law, reference_law,
-    role_law, run_law, worked_maps,
+    run_law, worked_maps,
 };
 pub use map::Map;
 pub use name::{NameBuf, NameKind, Place};

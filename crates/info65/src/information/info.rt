@@ -222,6 +222,7 @@ pub fn read_info<A: Allocator + Copy, B: Allocator>(
     if bytes.len() > MOST_BYTES {
         return Err(InfoFault::new(1, InfoFaultKind::TooLarge));
     }
+    // This does nothing; its clause says which numbers the options have.
     options.limits();
     let closed = read_groups(alloc, options, bytes)?;
     let said = said_again(alloc, options, closed.kept())?;

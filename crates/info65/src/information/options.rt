@@ -88,7 +88,7 @@ impl<A: Allocator> Options<A> {
         }
     }
 
-    /// The numbers are in their limits.
+    /// Does nothing: its clause says that the numbers are in their limits.
     pub fn limits(&self)
         ensures { AreOptions self.now }
     {
