@@ -19,7 +19,7 @@ a_pair low high address rank = record { low = low; high = high; address = addres
 
 -- nothing is reached
 abbrev pub nothing : Survey
-nothing = record { reached = []; code = []; gone_on = []; called = []; operands = []; taken = [] }
+nothing = record { reached = []; code = []; gone_on = []; called = []; operands = []; taken = []; texts = [] }
 
 abbrev pub eight_unused : List Bool
 eight_unused = false ∷ false ∷ false ∷ false ∷ false ∷ false ∷ false ∷ false ∷ []
