@@ -232,6 +232,8 @@ misplaced 'a byte of two instructions' 'entry $1002 is inside the instruction at
     -S 0x1000 --entry 0x1002,0x1001 deep.bin
 image wrong.info '#: ENTRY { ADDR $1006; };\nRANGE { START $0F00; END $0FFF; TYPE ByteTable; };\nRANGE { START $1005; END $1005; TYPE ByteTable; };\n'
 misplaced 'an entry of the file and ranges' 'entry $1006 is outside the image;range $0F00-$0FFF is outside the image;range $1005-$1005 is outside the image;' -S 0x1000 -i wrong.info operand.bin
+image within.info '#: ENTRY { ADDR $1001; };\n'
+misplaced 'an entry of the file inside an instruction' 'entry $1001 is inside the instruction at $1000;' -S 0x1000 -i within.info operand.bin
 image wrong.info 'RANGE { START $0F00; END $1000; TYPE Code; };\nRANGE { START $1004; END $2000; TYPE Code; };\n'
 misplaced 'ranges with a byte of the image' 'entry $0F00 is outside the image;' -S 0x1000 -i wrong.info --entry 0xf00 operand.bin
 
@@ -282,8 +284,8 @@ proposes 'a text before filler' '1001-1005 TextTable;1006-1015 ByteTable;' -S 0x
 
 # ---- vectors
 
-image half.bin '\xff\x60\x60\x60\xf8\xff\x00\x00\xf9\xff'
-proposes 'a vector that leads nowhere' 'FFF6-FFF7 ByteTable;FFFA-FFFB AddrTable;FFFC-FFFD ByteTable;FFFE-FFFF AddrTable;' half.bin
+image halved.bin '\xff\x60\x60\x60\xf8\xff\x00\x00\xf9\xff'
+proposes 'a vector that leads nowhere' 'FFF6-FFF7 ByteTable;FFFA-FFFB AddrTable;FFFC-FFFD ByteTable;FFFE-FFFF AddrTable;' halved.bin
 image byte.info 'RANGE { START $FFFB; END $FFFB; TYPE ByteTable; };\n'
 proposes 'a vector that a range has a byte of' 'FFF6-FFF6 ByteTable;FFFA-FFFA ByteTable;FFFC-FFFF AddrTable;' -i byte.info vectors.bin
 
@@ -400,6 +402,44 @@ after 'up to the last of them' '1006-1012;' -S 0x1000 modes.bin
 image inside.bin '\xad\x03\x10\x60'
 labels 'an operand in the image' '' -S 0x1000 inside.bin
 
+# ---- what is only likely
+
+# likely NAME WANTED WORD..: exactly this is said to be likely.
+likely() {
+    local name=$1 wanted=$2 got
+    shift 2
+    got=$("$program" "$@" | sed -nE 's/^# ((the word|what follows) .*)$/\1/p' | tr '\n' ';')
+    [ "$got" = "$wanted" ] || fails "$name" "likely: $got"
+}
+
+likely 'a word that is the address of a routine' 'the word at $1001 is $1007: AddrTable?;' -S 0x1000 --entry 0x1007 rows.bin
+likely 'but not in a table' '' -S 0x1000 --entry 0x1007,0x100b rows.bin
+# rts; the word $1004; a byte; a byte at $1004
+image named.bin '\x60\x04\x10\xff\xff'
+image named.info 'LABEL { ADDR $1004; NAME "data"; };\n'
+likely 'a word that is the address of a name' 'the word at $1001 is $1004 data: AddrTable?;' -S 0x1000 -i named.info named.bin
+likely 'without the name' '' -S 0x1000 named.bin
+image named.info 'LABEL { ADDR $1003; NAME "data"; SIZE 2; };\n'
+likely 'within a name' '' -S 0x1000 -i named.info named.bin
+image outside.bin '\x60\x00\x20\xff'
+image outside.info 'LABEL { ADDR $2000; NAME "data"; };\n'
+likely 'a name outside the image' '' -S 0x1000 -i outside.info outside.bin
+image twice.bin '\x60\x10\x10\x60'
+likely 'two equal bytes' '' -S 0x100d --entry 0x1010 twice.bin
+# jsr $1007; pha; an undefined opcode; a zero; rts; rts
+image inline.bin '\x20\x07\x10\x48\xff\x00\x60\x60'
+likely 'a call after which nothing decodes' 'what follows 1 of 1 calls of $1007 does not decode: INLINE?;' -S 0x1000 inline.bin
+image inline.info '#: INLINE { ADDR $1007; };\n'
+likely 'unless the file says so' '' -S 0x1000 -i inline.info inline.bin
+likely 'a call before code' '' -S 0x1000 call.bin
+# jsr three times; rts; rts
+image calls.bin '\x20\x0a\x10\x20\x0a\x10\x20\x0a\x10\x60\x60'
+likely 'three calls before code' '' -S 0x1000 calls.bin
+image half.bin '\x20\x08\x10\x60\x20\x08\x10\xff\x60'
+likely 'half of the calls' 'what follows 1 of 2 calls of $1008 does not decode: INLINE?;' -S 0x1000 --entry 0x1004 half.bin
+image third.bin '\x20\x0c\x10\x60\x20\x0c\x10\x60\x20\x0c\x10\xff\x60'
+likely 'a third of them' '' -S 0x1000 --entry 0x1004,0x1008 third.bin
+
 # ---- what the file says in lines `#: ..`
 
 image entry.info '#: ENTRY { ADDR $1003; };\n'
@@ -508,7 +548,10 @@ comes_back 'an information file that ends within a comment' 0x1000 loads.bin -i 
 comes_back 'the monitor of the board' 0xFC00 examples/board/monitor.bin
 comes_back 'entries at wrong places' 0x1000 operand.bin --entry 0xfff,0x1001 -i wrong.info
 comes_back 'a pair, labels and variables' 0x1000 far.bin
-comes_back 'vectors' 0xFFF6 half.bin
+comes_back 'vectors' 0xFFF6 halved.bin
+comes_back 'texts of two alphabets' 0x1000 mixed.bin
+comes_back 'a likely address' 0x1000 named.bin -i named.info
+comes_back 'a likely text behind a call' 0x1000 inline.bin
 comes_back 'a row of words' 0x1000 rows.bin --entry 0x1007,0x100b
 comes_back 'a row before the vectors' 0xFFF4 rows_end.bin
 for cpu in 6502 65SC02 65C02; do

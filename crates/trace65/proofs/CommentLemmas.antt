@@ -28,7 +28,7 @@ use Rattle.trace65.specs.Picture.{cell_at, cell_character, counts_comment, part,
 abbrev in_line : ℕ → Bool
 in_line b = not (b == 10)
 
-joined : (xs ys : List ℕ) → is_line xs ≡ true → is_line ys ≡ true → is_line (xs ++ ys) ≡ true
+pub joined : (xs ys : List ℕ) → is_line xs ≡ true → is_line ys ≡ true → is_line (xs ++ ys) ≡ true
 joined [] ys first second = second
 joined (x ∷ xs) ys first second = let parts = and_parts (in_line x) (is_line xs) first in rw (parts.0, joined xs ys parts.1 second) refl
 
@@ -45,7 +45,7 @@ mapped f each (k ∷ ks) = rw (each k, mapped f each ks) refl
 hex : (d : ℕ) → in_line (hex_digit d) ≡ true
 hex d = grind (arith, nat_tests)
 
-hex4-line : (n : ℕ) → is_line (digits4 n) ≡ true
+pub hex4-line : (n : ℕ) → is_line (digits4 n) ≡ true
 hex4-line n = rw (hex (n / 4096 % 16), hex (n / 256 % 16), hex (n / 16 % 16), hex (n % 16)) refl
 
 digit-line : (d : ℕ) → digit_value d < 10 → in_line d ≡ true
@@ -55,7 +55,7 @@ digits-line : (ds : List ℕ) → AllDigits 10 ds → is_line ds ≡ true
 digits-line [] all = refl
 digits-line (d ∷ ds) all = rw (digit-line d all.0, digits-line ds all.1) refl
 
-decimal-line : (n : ℕ) → n ≤ 65536 → is_line (decimal n) ≡ true
+pub decimal-line : (n : ℕ) → n ≤ 65536 → is_line (decimal n) ≡ true
 decimal-line n low = digits-line (decimal n) (decimal_is_IsNumeral n (omega (arith, low))).0.1
 
 word-byte : (b : ℕ) → is_word_byte b ≡ true → in_line b ≡ true
@@ -80,7 +80,7 @@ offset-line n low = by_test (n == 0)
     by_test true = refl
     by_test false = decimal-line n low
 
-name-line : (names : List NameView) → AreNames names → (a : ℕ) (o : Option NameView) → covering names a ≡ o → is_line (name_text o a) ≡ true
+pub name-line : (names : List NameView) → AreNames names → (a : ℕ) (o : Option NameView) → covering names a ≡ o → is_line (name_text o a) ≡ true
 unfolding name_text
 name-line names are a None is = refl
 name-line names are a (Some v) is =
@@ -130,7 +130,7 @@ found-lines m tags pairs last are = lines-joined (pair_comments m pairs) (new_af
 
 -- ---- what counts for nothing
 
-all-lines : {A : Type 0} (f : A → List (List ℕ)) → ((a : A) → AreLines (f a)) → (xs : List A) → AreLines (flat_map f xs)
+pub all-lines : {A : Type 0} (f : A → List (List ℕ)) → ((a : A) → AreLines (f a)) → (xs : List A) → AreLines (flat_map f xs)
 all-lines f each [] = tt
 all-lines f each (x ∷ xs) = lines-joined (f x) (flat_map f xs) (each x) (all-lines f each xs)
 

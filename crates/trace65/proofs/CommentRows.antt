@@ -1,13 +1,20 @@
 -- Comments, held against published bytes.
-use Rattle.std.proofs.Common.{◌≡◌, Bool, true, false, ℕ, List, [], ◌∷◌, None, refl}
-use Rattle.std.specs.Prelude.{codes}
+use Rattle.std.proofs.Common.{◌≡◌, Bool, true, false, ℕ, List, [], ◌∷◌, None, map, refl}
+use Rattle.std.specs.Prelude.{Some, codes, replicate}
+use Rattle.info65.specs.declared.tags.tag.Tag.{Tag}
+use Rattle.info65.specs.declared.tags.tag.TagKind.TheVariants as kind
 use Rattle.info65.specs.Names.{covering, covering_below}
 use Rattle.info65.specs.Views.{default_settings}
 use Rattle.info65.specs.declared.information.range.RangeType.TheVariants as role
 use Rattle.map65.specs.MapView.{MapView}
 use Rattle.map65.specs.Roles.{role_at, role_in}
-use Rattle.reach65.specs.Flow.{instruction_at}
+use Rattle.reach65.specs.Flow.{goal_at, goal_of, instruction_at, next_at}
+use Rattle.reach65.specs.Pieces.{is_free, is_plain}
+use Rattle.reach65.specs.Routines.{call_at}
+use Rattle.reach65.specs.Rows.{free_word}
+use Rattle.reach65.specs.Survey.{Survey, is_routine}
 use Rattle.reach65.specs.Taken.{has_byte}
+use Rattle.trace65.specs.Likely.{are_many, call_comment, call_comments, comments_of_calls, fails, has_two_bytes, is_call, is_failing, is_meant, word_comment, word_comments}
 use Rattle.trace65.specs.Misplaced.{entry_comments, holder_of, holds, inside_comment, is_outside, outside_comment, range_comment, range_comments}
 use Rattle.trace65.specs.PairComments.{after_comments, last_wanted, name_text, offset_text, pair_comment}
 use Rattle.trace65.specs.Picture.{cell_character, picture_comments, row_comment}
@@ -35,6 +42,11 @@ unnamed = refl
 whole : picture_comments 0x1000 (true ∷ true ∷ []) (true ∷ true ∷ []) ≡ codes " $1000 #" ∷ []
 unfolding picture_comments row_comment cell_character
 whole = refl
+
+-- 1,025 bytes take two lines
+two_lines : picture_comments 0x1000 (replicate 1025 true) (replicate 1025 true) ≡ codes " $1000 ################" ∷ codes " $1400 #" ∷ []
+unfolding picture_comments row_comment cell_character
+two_lines = refl
 
 partly : picture_comments 0xFF00 (true ∷ false ∷ []) (true ∷ true ∷ []) ≡ codes " $FF00 +" ∷ []
 unfolding picture_comments row_comment cell_character
@@ -124,3 +136,81 @@ range_before = refl
 range_of_first : range_comments a_map.image (record { first = 0x0F00; last = 0x1000; role = role.Code }) ≡ []
 unfolding is_outside range_comments
 range_of_first = refl
+
+-- ---- what is likely
+
+-- `#: INLINE { ADDR a; };`
+abbrev pub inline_at : ℕ → Tag
+inline_at a = record { kind = kind.Inline; line = 1; address = Some a; size = None; low = None; high = None; first = None; last = None }
+
+-- rts at $0000 and $0001, and the word $0001, where a routine begins
+abbrev pub with_word : MapView
+with_word = bytes_map (0x60 ∷ 0x60 ∷ 0x01 ∷ 0x00 ∷ [])
+
+-- these bytes are taken
+abbrev pub survey_of : List Bool → Survey
+survey_of taken = record { reached = one; code = one; gone_on = []; called = []; operands = []; taken = taken }
+  where
+    one : List Bool
+    one = false ∷ true ∷ []
+
+likely_word : word_comments with_word (survey_of (true ∷ true ∷ [])) [] ≡ codes " the word at $0002 is $0001: AddrTable?" ∷ []
+unfolding free_word is_free is_meant is_plain is_routine word_comments word_comment name_text covering covering_below
+likely_word = refl
+
+taken_word : word_comments with_word (survey_of (true ∷ true ∷ false ∷ true ∷ [])) [] ≡ []
+unfolding free_word is_free is_meant is_plain is_routine word_comments
+taken_word = refl
+
+word_of_table : word_comments with_word (survey_of (true ∷ true ∷ [])) (false ∷ false ∷ true ∷ []) ≡ []
+unfolding free_word is_free is_meant is_plain is_routine word_comments
+word_of_table = refl
+
+-- the address of a name, and those beside it; a name outside the image
+named_ones : map (is_meant a_map (survey_of [])) (0x1004 ∷ 0x1005 ∷ 0x1006 ∷ []) ≡ false ∷ true ∷ false ∷ []
+unfolding is_meant is_routine covering covering_below
+named_ones = refl
+
+named_word : word_comment a_map 0x1000 0x1005 ≡ codes " the word at $1000 is $1005 text: AddrTable?"
+unfolding word_comment name_text offset_text covering covering_below
+named_word = refl
+
+equal_bytes : map has_two_bytes (0x0100 ∷ 0x0101 ∷ 0x0001 ∷ []) ≡ true ∷ false ∷ true ∷ []
+equal_bytes = refl
+
+-- rts; brk; an undefined opcode; nop at the end; nop and rts; jmp; seven and eight times nop before an undefined opcode
+follows :
+    map (λ l. fails (bytes_map l) 8 0)
+    ((0x60 ∷ []) ∷ (0x00 ∷ 0x60 ∷ []) ∷ (0xFF ∷ []) ∷ (0xEA ∷ []) ∷ (0xEA ∷ 0x60 ∷ []) ∷ (0x4C ∷ 0x00 ∷ 0x00 ∷ []) ∷ (0xEA ∷ 0xEA ∷ 0xEA ∷ 0xEA ∷ 0xEA ∷ 0xEA ∷ 0xEA ∷ 0xFF ∷ [])
+    ∷ (0xEA ∷ 0xEA ∷ 0xEA ∷ 0xEA ∷ 0xEA ∷ 0xEA ∷ 0xEA ∷ 0xEA ∷ 0xFF ∷ []) ∷ [])
+    ≡ false ∷ true ∷ true ∷ true ∷ false ∷ false ∷ true ∷ false ∷ []
+unfolding fails instruction_at next_at role_at role_in
+follows = refl
+
+-- jsr $0007 before an undefined opcode; jsr $0007 before rts
+abbrev pub two_calls : MapView
+two_calls = bytes_map (0x20 ∷ 0x07 ∷ 0x00 ∷ 0xFF ∷ 0x20 ∷ 0x07 ∷ 0x00 ∷ 0x60 ∷ [])
+
+abbrev pub calls_reached : List Bool
+calls_reached = true ∷ false ∷ false ∷ false ∷ true ∷ false ∷ false ∷ true ∷ []
+
+one_of_two : call_comments two_calls calls_reached [] ≡ call_comment 1 2 7 ∷ []
+unfolding call_comments comments_of_calls is_call is_failing call_at goal_at goal_of fails instruction_at next_at role_at role_in
+one_of_two = refl
+
+-- the first call alone is not reached
+not_called : call_comments two_calls (false ∷ false ∷ false ∷ false ∷ true ∷ false ∷ false ∷ true ∷ []) [] ≡ []
+unfolding call_comments comments_of_calls is_call is_failing call_at goal_at goal_of fails instruction_at next_at role_at role_in
+not_called = refl
+
+-- the file says it of the routine
+said_inline : comments_of_calls (inline_at 7 ∷ []) 3 3 7 ≡ []
+unfolding comments_of_calls
+said_inline = refl
+
+said_of_another : comments_of_calls (inline_at 8 ∷ []) 3 3 7 ≡ call_comment 3 3 7 ∷ []
+unfolding comments_of_calls
+said_of_another = refl
+
+most : are_many 0 0 ∷ are_many 1 2 ∷ are_many 1 3 ∷ [] ≡ false ∷ true ∷ false ∷ []
+most = refl

@@ -2,4 +2,6 @@ mod CommandLemmas
 mod AppendLemmas
 mod CommentLemmas
 mod CommentRows
+mod LikelyLemmas
+mod LikelyLines
 mod ReportLemmas

@@ -12,7 +12,8 @@ use Rattle.trace65.specs.Findings.{AreFindings, Findings}
 use Rattle.trace65.specs.PairComments.{last_wanted}
 use Rattle.trace65.specs.Misplaced.{misplaced_comments}
 use Rattle.trace65.specs.Picture.{image_marks}
-use Rattle.trace65.specs.Report.{IsAccepted, comments_before, found_comments, legend, picture_and_counts, report_text}
+use Rattle.trace65.specs.Report.{IsAccepted, comments_before, found_comments, legend, likely_comments, move_comments, picture_and_counts, report_text}
+use Rattle.trace65.proofs.LikelyLines.{likely-lines}
 use Rattle.trace65.proofs.CommentLemmas.{found-lines, lines-joined, misplaced-lines, picture-lines}
 
 few-marks : (image : ImageView) (marks : List Bool) → IsPlaced image → length (image_marks image marks) ≤ 65536
@@ -35,7 +36,8 @@ proposal m tags f sound =
             (refl, picture-lines m.image.start code taken (few-marks m.image f.survey.code sound.placed) (few-marks m.image f.survey.taken sound.placed))
             (misplaced-lines m f.survey.reached f.entries),
       );
-      last_lines = found-lines m tags f.pairs (last_wanted f.pairs f.variables) sound.names;
+      last_lines = lines-joined (move_comments m tags f) (likely_comments m tags f) (found-lines m tags f.pairs (last_wanted f.pairs f.variables) sound.names)
+          (likely-lines m f.survey f.words f.survey.reached tags sound.placed sound.names);
     }
 
 pub accepted : (m : MapView) (given : List ℕ) (plain : Bool) (tags : List Tag) (f : Findings) → IsSoundMap m → TextLaw m → AreFindings m given plain tags f → IsAccepted m f.ranges f.labels (report_text m tags f)

@@ -4,5 +4,6 @@ pub mod Findings
 pub mod Picture
 pub mod Misplaced
 pub mod PairComments
+pub mod Likely
 pub mod Report
 pub mod Request

@@ -9,6 +9,7 @@ use Rattle.reach65.specs.RangeLines.{range_lines}
 use Rattle.reach65.specs.Labels.{label_lines}
 use Rattle.reach65.specs.TextLaws.{AreAmong, comment_line, with_found}
 use Rattle.trace65.specs.Findings.{AreFindings, Findings}
+use Rattle.trace65.specs.Likely.{call_comments, word_comments}
 use Rattle.trace65.specs.Misplaced.{misplaced_comments}
 use Rattle.trace65.specs.PairComments.{last_wanted, new_after, pair_comments}
 use Rattle.trace65.specs.Picture.{counts_comment, image_marks, picture_comments}
@@ -30,8 +31,16 @@ comments_before m f =
     picture_and_counts m.image.start (image_marks m.image f.survey.code) (image_marks m.image f.survey.taken) ++ misplaced_comments m f.survey.reached f.entries
 
 -- a comment for each pair, and one for what lies after the image
+abbrev pub move_comments : MapView → List Tag → Findings → List (List ℕ)
+move_comments m tags f = pair_comments m f.pairs ++ new_after tags m.image (last_wanted f.pairs f.variables)
+
+-- what is only likely
+abbrev pub likely_comments : MapView → List Tag → Findings → List (List ℕ)
+likely_comments m tags f = word_comments m f.survey f.words ++ call_comments m f.survey.reached tags
+
+-- those after the labels
 abbrev pub found_comments : MapView → List Tag → Findings → List (List ℕ)
-found_comments m tags f = pair_comments m f.pairs ++ new_after tags m.image (last_wanted f.pairs f.variables)
+found_comments m tags f = move_comments m tags f ++ likely_comments m tags f
 
 -- The picture, the counts and what counts for nothing as comments, a line for each range that is proposed and for each label, and the comments `#: ..`.
 unfoldable pub report_text : MapView → List Tag → Findings → List ℕ

@@ -7,11 +7,13 @@
 //! 0 if the text, the help text or the version was written, otherwise 1.
 #![tactic(auto)]
 
+mod calls;
 mod command;
 mod digits;
 mod failure;
 mod information;
 mod labels;
+mod likely;
 mod misplaced;
 mod pair_comments;
 mod part;

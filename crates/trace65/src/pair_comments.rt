@@ -26,7 +26,7 @@ fn put_offset(out: &mut Vec<u8>, offset: u16) -> Result<(), AllocError>
 
 /// Appends the name of an address, if it has one.
 #[tactic(auto, unfolding(crate::specs::PairComments::name_text))]
-fn put_name(out: &mut Vec<u8>, name: Option<Given<'_>>, address: u16) -> Result<(), AllocError>
+pub fn put_name(out: &mut Vec<u8>, name: Option<Given<'_>>, address: u16) -> Result<(), AllocError>
     ensures { OnOk result (out.new.items ≡ out.old.items ++ name_text (option_map given_seen name.entry) address) }
 {
     let Some(name) = name else {

@@ -7,9 +7,11 @@ ghost use Rattle.reach65.specs.TextLaws.{comment_line};
 ghost use Rattle.trace65.specs.Findings.{AreFindings, ArePairs, AreTraced, AreWordMarks};
 ghost use Rattle.trace65.specs.Misplaced.{misplaced_comments};
 ghost use Rattle.trace65.specs.Picture.{image_marks};
-ghost use Rattle.trace65.specs.Report.{IsWritten, comments_before, file_before, found_comments, legend, legend_more, picture_and_counts, report_text};
+ghost use Rattle.trace65.specs.Report.{IsWritten, comments_before, file_before, found_comments, legend, legend_more, likely_comments, move_comments, picture_and_counts, report_text};
 
+use crate::calls::put_calls;
 use crate::labels::put_labels;
+use crate::likely::put_words;
 use crate::misplaced::put_misplaced;
 use crate::pair_comments::{put_after, put_pairs};
 use crate::picture::{image_marks, put_counts, put_picture};
@@ -195,33 +197,66 @@ fn put_head(out: &mut Vec<u8>, map: &Map<'_>, found: &Findings) -> Result<(), Al
 }
 
 /// Appends the lines `#: ..`.
-fn put_comments(
+fn put_moves(
     out: &mut Vec<u8>,
     map: &Map<'_>,
     tags: &[Tag],
     found: &Findings,
 ) -> Result<(), AllocError>
-    ensures { OnOk result (out.new.items ≡ out.old.items ++ flat_map comment_line (found_comments map.now tags.now found.now)) }
+    ensures { OnOk result (out.new.items ≡ out.old.items ++ flat_map comment_line (move_comments map.now tags.now found.now)) }
 {
     put_pairs(out, map, &found.pairs)?;
     put_after(out, map.image(), tags, &found.pairs, &found.variables)
+}
+
+/// Appends what is only likely.
+fn put_likely(
+    out: &mut Vec<u8>,
+    alloc: Global,
+    map: &Map<'_>,
+    tags: &[Tag],
+    found: &Findings,
+) -> Result<(), AllocError>
+    requires { length found.now.words ≡ 65536 }
+    ensures { OnOk result (out.new.items ≡ out.old.items ++ flat_map comment_line (likely_comments map.now tags.now found.now)) }
+{
+    let words: &[bool] = &found.words;
+    put_words(out, map, &found.survey, words)?;
+    put_calls(out, alloc, &Flow::new(map), &found.survey.reached, tags)
+}
+
+/// Appends the comments after the labels.
+fn put_comments(
+    out: &mut Vec<u8>,
+    alloc: Global,
+    map: &Map<'_>,
+    tags: &[Tag],
+    found: &Findings,
+) -> Result<(), AllocError>
+    requires { length found.now.words ≡ 65536 }
+    ensures { OnOk result (out.new.items ≡ out.old.items ++ flat_map comment_line (found_comments map.now tags.now found.now)) }
+{
+    put_moves(out, map, tags, found)?;
+    put_likely(out, alloc, map, tags, found)
 }
 
 /// Appends the whole text.
 #[tactic(auto, unfolding(crate::specs::Report::report_text))]
 fn put_report(
     out: &mut Vec<u8>,
+    alloc: Global,
     map: &Map<'_>,
     tags: &[Tag],
     found: &Findings,
 ) -> Result<(), AllocError>
-    requires { LieIn map.now.image found.now.ranges }
+    requires inside { LieIn map.now.image found.now.ranges }
+    requires words { length found.now.words ≡ 65536 }
     ensures { OnOk result (out.new.items ≡ out.old.items ++ report_text map.now tags.now found.now) }
 {
     put_head(out, map, found)?;
     put_ranges(out, map.image(), &found.ranges)?;
     put_labels(out, &found.labels)?;
-    put_comments(out, map, tags, found)
+    put_comments(out, alloc, map, tags, found)
 }
 
 /// The bytes of the information file, if the whole is to be written, else none.
@@ -251,6 +286,6 @@ pub fn report(
     map.info();
     let found = search_image(alloc, map, &tracing.entries, tracing.plain, tags)?;
     let mut text = file_before(alloc, tracing.whole, file)?;
-    put_report(&mut text, map, tags, &found)?;
+    put_report(&mut text, alloc, map, tags, &found)?;
     Ok(text)
 }

@@ -1,0 +1,12 @@
+use Rattle.std.proofs.Common.{◌≡◌, ◌++◌}
+use Rattle.std.specs.List.{count_by, flat_map}
+use Rattle.reach65.specs.TextLaws.{comment_line}
+use Rattle.trace65.specs.Likely.{all_of, comments_of_calls, first_of, is_call, is_failing}
+use Rattle.trace65.proofs.calls.put_calls.Given as goal
+
+abbrev pub invariant-routines : goal.invariant-routines
+invariant-routines l =
+    l.out.items
+    ≡ l.initial.out.items
+    ++ flat_map comment_line
+    (flat_map (λ t. comments_of_calls l.tags (count_by (is_failing l.flow l.reached t) (all_of l.flow)) (count_by (is_call l.flow l.reached t) (all_of l.flow)) t) (first_of l.flow l.k))

@@ -1,0 +1,131 @@
+-- What is only likely, as plain comments: words in data that are addresses, and calls after which nothing decodes.
+use Rattle.std.specs.Prelude.{ℕ, zero, suc, ◌≡◌, ◌+◌, ◌*◌, ◌/◌, ◌%◌, ◌==◌, ◌&&◌, ◌||◌, not, nat_le, nat_lt, Bool, true, false, List, [], ◌∷◌, ◌++◌, codes, count_by, decimal, get_or, length, map, replicate, if◌then◌else◌, Option, Some, None}
+use Rattle.std.specs.List.{flat_map, list_any, range_with_len}
+use Rattle.isa65.specs.declared.mnemonic.Mnemonic.{Mnemonic}
+use Rattle.isa65.specs.declared.mnemonic.Mnemonic.TheVariants.{Bra, Jmp, Rti, Rts}
+use Rattle.isa65.specs.declared.op.Op.{Op}
+use Rattle.text65.specs.Digits.{digits4}
+use Rattle.info65.specs.Names.{covering}
+use Rattle.info65.specs.Views.{NameView}
+use Rattle.info65.specs.declared.tags.tag.Tag.{Tag}
+use Rattle.info65.specs.declared.tags.tag.TagKind.{TagKind}
+use Rattle.info65.specs.declared.tags.tag.TagKind.TheVariants as kind
+use Rattle.map65.specs.ImageView.{is_inside}
+use Rattle.map65.specs.MapView.{MapView}
+use Rattle.reach65.specs.Flow.{instruction_at, is, next_at}
+use Rattle.reach65.specs.Pieces.{Ground}
+use Rattle.reach65.specs.Reached.{is_marked}
+use Rattle.reach65.specs.Routines.{call_at, is_it}
+use Rattle.reach65.specs.Rows.{free_word}
+use Rattle.reach65.specs.Survey.{Survey, is_routine}
+use Rattle.trace65.specs.PairComments.{name_text}
+
+-- the first so many addresses of the image
+abbrev pub first_of : MapView → ℕ → List ℕ
+first_of m n = map (λ k. m.image.start + k) (range_with_len 0 n)
+
+abbrev pub all_of : MapView → List ℕ
+all_of m = first_of m (length m.image.bytes)
+
+-- ---- words
+
+-- the name begins at the address
+abbrev pub is_own : Option NameView → ℕ → Bool
+is_own None a = false
+is_own (Some n) a = n.address == a
+
+-- the address of a routine, or that of a name, in the image
+unfoldable pub is_meant : MapView → Survey → ℕ → Bool
+is_meant m s a = is_routine s a || (is_inside m.image a && is_own (covering m.info.names a) a)
+
+-- Filler of one byte has no addresses.
+abbrev pub has_two_bytes : ℕ → Bool
+has_two_bytes w = not (w / 256 == w % 256)
+
+-- ` the word at $hhhh is $hhhh name: AddrTable?`
+unfoldable pub word_comment : MapView → ℕ → ℕ → List ℕ
+word_comment m a w =
+    (codes " the word at $" ++ digits4 a) ++ (codes " is $" ++ digits4 w) ++ name_text (covering m.info.names w) w ++ codes ": AddrTable?"
+
+abbrev pub comments_of_word : MapView → Survey → ℕ → Option ℕ → List (List ℕ)
+comments_of_word m s a None = []
+comments_of_word m s a (Some w) = if is_meant m s w && has_two_bytes w then word_comment m a w ∷ [] else []
+
+-- the word of two bytes that nothing speaks for and that are of no proposed table of addresses, where these marks say which are
+abbrev pub word_at : MapView → Survey → List Bool → ℕ → Option ℕ
+word_at m s words a = free_word (record { image = m.image; taken = s.taken; words = words }) a
+
+-- one for each that is an address, in order
+unfoldable pub word_comments : MapView → Survey → List Bool → List (List ℕ)
+word_comments m s words = flat_map (λ a. comments_of_word m s a (word_at m s words a)) (all_of m)
+
+-- ---- calls
+
+-- another instruction runs after it, and not the next one
+abbrev pub is_end : Mnemonic → Bool
+is_end m = is m Jmp || (is m Bra || (is m Rts || is m Rti))
+
+abbrev pub fails_by : (ℕ → Bool) → Option Op → Option ℕ → Bool
+fails_by rest None next = true
+fails_by rest (Some op) None = not (is_end op.mnemonic)
+fails_by rest (Some op) (Some next) = rest next
+
+-- Of so many instructions from the address on, as they follow each other, one does not decode, is `brk`, or is the last of the image.
+unfoldable pub fails : MapView → ℕ → ℕ → Bool
+fails m zero a = false
+fails m (suc n) a = fails_by (fails m n) (instruction_at m a) (next_at m a)
+
+abbrev pub fails_at : MapView → Option ℕ → Bool
+fails_at m None = true
+fails_at m (Some a) = fails m 8 a
+
+-- a reached instruction calls the second address
+unfoldable pub is_call : MapView → List Bool → ℕ → ℕ → Bool
+is_call m marks t a = is_marked marks a && is_it (call_at m a) t
+
+-- and what follows does not decode
+unfoldable pub is_failing : MapView → List Bool → ℕ → ℕ → Bool
+is_failing m marks t a = is_call m marks t a && fails_at m (next_at m a)
+
+abbrev pub is_inline : ℕ → Tag → Bool
+is_inline t tag = by_kind tag.kind
+  where
+    by_kind : TagKind → Bool
+    by_kind kind.Inline = is_it tag.address t
+    by_kind _ = false
+
+-- how many instructions call each address, and after how many of these calls nothing decodes
+pub record Calls : Type 0 where
+  pub all : List ℕ
+  pub failing : List ℕ
+
+-- one more, if that is so
+abbrev pub with_one : Bool → ℕ → ℕ
+with_one x n = if x then suc n else n
+
+-- all are 0
+unfoldable pub no_counts : List ℕ
+no_counts = replicate 65536 0
+
+-- the counts of the calls in the first so many bytes of the image
+pub record AreCounts (m : MapView) (marks : List Bool) (n : ℕ) (c : Calls) : Type 0 where
+  pub all : (t : ℕ) → get_or c.all t 0 ≡ count_by (is_call m marks t) (first_of m n)
+  pub failing : (t : ℕ) → get_or c.failing t 0 ≡ count_by (is_failing m marks t) (first_of m n)
+
+-- half of the calls at least, and one
+abbrev pub are_many : ℕ → ℕ → Bool
+are_many failing calls = nat_lt 0 failing && nat_le calls (2 * failing)
+
+-- ` what follows n of n calls of $hhhh does not decode: INLINE?`
+unfoldable pub call_comment : ℕ → ℕ → ℕ → List ℕ
+call_comment failing calls t =
+    (codes " what follows " ++ decimal failing) ++ (codes " of " ++ decimal calls) ++ (codes " calls of $" ++ digits4 t) ++ codes " does not decode: INLINE?"
+
+-- unless the file says that it is so
+unfoldable pub comments_of_calls : List Tag → ℕ → ℕ → ℕ → List (List ℕ)
+comments_of_calls tags failing calls t = if are_many failing calls && not (list_any (is_inline t) tags) then call_comment failing calls t ∷ [] else []
+
+-- one for each routine of which that holds, in order
+unfoldable pub call_comments : MapView → List Bool → List Tag → List (List ℕ)
+call_comments m marks tags =
+    flat_map (λ t. comments_of_calls tags (count_by (is_failing m marks t) (all_of m)) (count_by (is_call m marks t) (all_of m)) t) (all_of m)

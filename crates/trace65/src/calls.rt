@@ -1,0 +1,240 @@
+//! Comments for calls after which nothing decodes: text that the called routine reads may follow them.
+
+ghost use Rattle.std.specs.Prelude.{◌≡◌, ◌<◌, ◌++◌, ℕ, IfOk, OnOk, Some, flat_map, get_or, length, replicate};
+ghost use Rattle.std.specs.List.{list_any};
+ghost use Rattle.reach65.specs.Routines.{call_at, is_it};
+ghost use Rattle.reach65.specs.TextLaws.{comment_line};
+ghost use Rattle.trace65.specs.Likely.{AreCounts, are_many, call_comment, call_comments, comments_of_calls, fails, fails_at, is_call, is_end, is_failing, is_inline, no_counts, with_one};
+
+use crate::digits::{put_address, put_decimal};
+use info65::{Tag, TagKind};
+use isa65::Mnemonic;
+use map65::ADDRESSES;
+use reach65::Flow;
+use std::alloc::{AllocError, Global};
+use std::marker::Model;
+
+/// How many instructions after a call are looked at.
+const STEPS: usize = 8;
+
+/// Whether another instruction runs after it, and not the next one.
+fn is_end(mnemonic: Mnemonic) -> bool
+    ensures { result ≡ is_end mnemonic }
+{
+    mnemonic == Mnemonic::Jmp
+        || (mnemonic == Mnemonic::Bra || (mnemonic == Mnemonic::Rts || mnemonic == Mnemonic::Rti))
+}
+
+/// Whether of the instructions from the address on one does not decode, is `brk`, or is the last of the image.
+fn fails(flow: &Flow<'_, '_>, from: u16) -> bool
+    ensures { result ≡ fails flow.now 8 from }
+{
+    let mut at = from;
+    let mut left = STEPS;
+    'steps: while 0 < left {
+        let Some(op) = flow.instruction_at(at) else {
+            return true;
+        };
+        let Some(next) = flow.next_of(at, op) else {
+            return !is_end(op.mnemonic);
+        };
+        at = next;
+        left -= 1;
+    }
+    false
+}
+
+/// Whether what follows the instruction does not decode.
+fn fails_at(flow: &Flow<'_, '_>, next: Option<u16>) -> bool
+    ensures { result ≡ fails_at flow.now next }
+{
+    match next {
+        Some(next) => fails(flow, next),
+        None => true,
+    }
+}
+
+/// The address of the image that the instruction calls.
+#[tactic(auto, unfolding(reach65::specs::Routines::call_at))]
+fn call_at(flow: &Flow<'_, '_>, address: u16) -> Option<u16>
+    ensures { result ≡ call_at flow.now address }
+{
+    let op = flow.instruction_at(address)?;
+    if op.mnemonic == Mnemonic::Jsr {
+        flow.goal_at(address)
+    } else {
+        None
+    }
+}
+
+/// Whether a group says that a call of the address is followed by text.
+fn is_inline(address: u16, tag: Tag) -> bool
+    ensures { result ≡ is_inline address tag }
+{
+    match (tag.kind, tag.address) {
+        (TagKind::Inline, Some(inline)) => inline == address,
+        _ => false,
+    }
+}
+
+/// Whether one of these groups says that.
+fn any_inline(address: u16, tags: &[Tag]) -> bool
+    ensures { result ≡ list_any (is_inline address) tags.now }
+{
+    'tags: for &tag in tags {
+        if is_inline(address, tag) {
+            return true;
+        }
+    }
+    false
+}
+
+/// Whether half of the calls fail at least, and one.
+fn are_many(failing: usize, calls: usize) -> bool
+    requires { failing < 65537 }
+    ensures { result ≡ are_many failing calls }
+{
+    0 < failing && calls <= 2 * failing
+}
+
+/// Appends the comment of a routine.
+fn put_call(out: &mut Vec<u8>, failing: usize, calls: usize, routine: u16) -> Result<(), AllocError>
+    ensures { OnOk result (out.new.items ≡ out.old.items ++ comment_line (call_comment failing calls routine)) }
+{
+    put_decimal(out, b"# what follows ", failing)?;
+    put_decimal(out, b" of ", calls)?;
+    put_address(out, b" calls of $", routine)?;
+    out.extend_from_slice(b" does not decode: INLINE?\n")
+}
+
+/// Appends it, if it is likely and the file does not say it.
+#[tactic(auto, unfolding(crate::specs::Likely::comments_of_calls))]
+fn put_if_many(
+    out: &mut Vec<u8>,
+    tags: &[Tag],
+    failing: usize,
+    calls: usize,
+    routine: u16,
+) -> Result<(), AllocError>
+    requires { failing < 65537 }
+    ensures { OnOk result (out.new.items ≡ out.old.items ++ flat_map comment_line (comments_of_calls tags.now failing calls routine)) }
+{
+    if are_many(failing, calls) && !any_inline(routine, tags) {
+        return put_call(out, failing, calls, routine);
+    }
+    Ok(())
+}
+
+/// How many reached instructions call each address, and after how many of these calls nothing decodes.
+#[derive(Drop)]
+struct Calls {
+    all: Vec<usize>,
+    failing: Vec<usize>,
+}
+
+impl Model for Calls {
+    ghost use Rattle.std.specs.Prelude.{◌≡◌, length};
+    ghost use Rattle.trace65.specs.Likely.{Calls};
+
+    ghost Value = { Calls };
+
+    ghost view = { λ c. record { all = c.all.items; failing = c.failing.items } };
+
+    ghost invariant = { λ c. (length c.all.items ≡ 65536) × (length c.failing.items ≡ 65536) };
+}
+
+/// This many counts, all 0.
+fn zero_counts(alloc: Global, count: usize) -> Result<Vec<usize>, AllocError>
+    ensures { IfOk result (λ counts. counts.items ≡ replicate count 0) }
+{
+    vec![in alloc; 0usize; count]
+}
+
+/// A count for each address, all 0.
+#[tactic(auto, unfolding(crate::specs::Likely::no_counts))]
+fn no_counts(alloc: Global) -> Result<Vec<usize>, AllocError>
+    ensures counts { IfOk result (λ counts. counts.items ≡ no_counts) }
+    ensures count { IfOk result (λ counts. length counts.items ≡ 65536) }
+{
+    zero_counts(alloc, ADDRESSES)
+}
+
+/// Adds one to the count of an address.
+fn add_one(counts: &mut Vec<usize>, address: u16)
+    requires count { length counts.old.items ≡ 65536 }
+    requires few { get_or counts.old.items address 0 < 65536 }
+    ensures count { length counts.new.items ≡ 65536 }
+    ensures each { (t : ℕ) → get_or counts.new.items t 0 ≡ with_one (is_it (Some address) t) (get_or counts.old.items t 0) }
+{
+    counts[usize::from(address)] += 1;
+}
+
+impl Calls {
+    /// Counts the instruction of an address, if it is reached and a call.
+    #[tactic(auto, unfolding(crate::specs::Likely::is_call, crate::specs::Likely::is_failing))]
+    fn count(&mut self, flow: &Flow<'_, '_>, reached: &[bool], address: u16)
+        requires reached { length reached.now ≡ 65536 }
+        requires all { (t : ℕ) → get_or self.old.all t 0 < 65536 }
+        requires failing { (t : ℕ) → get_or self.old.failing t 0 < 65536 }
+        ensures all { (t : ℕ) → get_or self.new.all t 0 ≡ with_one (is_call flow.now reached.now t address) (get_or self.old.all t 0) }
+        ensures failing { (t : ℕ) → get_or self.new.failing t 0 ≡ with_one (is_failing flow.now reached.now t address) (get_or self.old.failing t 0) }
+    {
+        if !reached[usize::from(address)] {
+            return;
+        }
+        let Some(routine) = call_at(flow, address) else {
+            return;
+        };
+        add_one(&mut self.all, routine);
+        if fails_at(flow, flow.next_at(address)) {
+            add_one(&mut self.failing, routine);
+        }
+    }
+
+    /// The counts of an image.
+    fn of(alloc: Global, flow: &Flow<'_, '_>, reached: &[bool]) -> Result<Calls, AllocError>
+        requires { length reached.now ≡ 65536 }
+        ensures { IfOk result (AreCounts flow.now reached.now (length flow.now.image.bytes)) }
+    {
+        let image = flow.map().image();
+        let start = usize::from(image.start());
+        let mut calls = Calls {
+            all: no_counts(alloc)?,
+            failing: no_counts(alloc)?,
+        };
+        'calls: for k in 0..image.bytes().len() {
+            calls.count(flow, reached, (start + k) as u16);
+        }
+        Ok(calls)
+    }
+
+    /// Appends the comment of an address.
+    fn put(&self, out: &mut Vec<u8>, tags: &[Tag], address: u16) -> Result<(), AllocError>
+        requires { get_or self.now.failing address 0 < 65537 }
+        ensures { OnOk result (out.new.items ≡ out.old.items ++ flat_map comment_line (comments_of_calls tags.now (get_or self.now.failing address 0) (get_or self.now.all address 0) address)) }
+    {
+        let at = usize::from(address);
+        put_if_many(out, tags, self.failing[at], self.all[at], address)
+    }
+}
+
+/// Appends a comment for each routine of the image after whose calls nothing decodes most often, unless a group INLINE of the file has it.
+#[tactic(auto, unfolding(crate::specs::Likely::call_comments))]
+pub fn put_calls(
+    out: &mut Vec<u8>,
+    alloc: Global,
+    flow: &Flow<'_, '_>,
+    reached: &[bool],
+    tags: &[Tag],
+) -> Result<(), AllocError>
+    requires { length reached.now ≡ 65536 }
+    ensures { OnOk result (out.new.items ≡ out.old.items ++ flat_map comment_line (call_comments flow.now reached.now tags.now)) }
+{
+    let image = flow.map().image();
+    let start = usize::from(image.start());
+    let calls = Calls::of(alloc, flow, reached)?;
+    'routines: for k in 0..image.bytes().len() {
+        calls.put(out, tags, (start + k) as u16)?;
+    }
+    Ok(())
+}

@@ -1,0 +1,91 @@
+//! Comments for words in data that are likely addresses.
+
+ghost use Rattle.std.specs.Prelude.{◌≡◌, ◌<◌, ◌++◌, OnOk, flat_map, length, option_map};
+ghost use Rattle.info65.specs.Code.Names.{given_seen};
+ghost use Rattle.reach65.specs.TextLaws.{comment_line};
+ghost use Rattle.trace65.specs.Likely.{comments_of_word, has_two_bytes, is_meant, is_own, word_at, word_comment, word_comments};
+
+use crate::digits::put_address;
+use crate::pair_comments::put_name;
+use info65::Given;
+use map65::{Map, is_inside};
+use reach65::{Ground, Survey};
+use std::alloc::AllocError;
+
+/// Whether the name begins at the address.
+fn is_own(name: Option<Given<'_>>, address: u16) -> bool
+    ensures { result ≡ is_own (option_map given_seen name.entry) address }
+{
+    match name {
+        Some(name) => name.address == address,
+        None => false,
+    }
+}
+
+/// Whether the address is that of a routine, or that of a name, in the image.
+#[tactic(auto, unfolding(crate::specs::Likely::is_meant))]
+fn is_meant(map: &Map<'_>, survey: &Survey, address: u16) -> bool
+    ensures { result ≡ is_meant map.now survey.now address }
+{
+    let at = usize::from(address);
+    survey.is_routine(at)
+        || (is_inside(map.image(), at) && is_own(map.info().covering(address), address))
+}
+
+/// Whether the bytes of a word differ.
+fn has_two_bytes(word: u16) -> bool
+    ensures { result ≡ has_two_bytes word }
+{
+    word / 256 != word % 256
+}
+
+/// Appends the comment of the word at an address.
+fn put_word(out: &mut Vec<u8>, map: &Map<'_>, address: u16, word: u16) -> Result<(), AllocError>
+    ensures { OnOk result (out.new.items ≡ out.old.items ++ comment_line (word_comment map.now address word)) }
+{
+    put_address(out, b"# the word at $", address)?;
+    put_address(out, b" is $", word)?;
+    put_name(out, map.info().covering(word), word)?;
+    out.extend_from_slice(b": AddrTable?\n")
+}
+
+/// Appends the comment of the word at an address, if there is one and it is likely an address.
+fn put_likely(
+    out: &mut Vec<u8>,
+    map: &Map<'_>,
+    survey: &Survey,
+    address: u16,
+    word: Option<u16>,
+) -> Result<(), AllocError>
+    ensures { OnOk result (out.new.items ≡ out.old.items ++ flat_map comment_line (comments_of_word map.now survey.now address word)) }
+{
+    let Some(word) = word else {
+        return Ok(());
+    };
+    if is_meant(map, survey, word) && has_two_bytes(word) {
+        return put_word(out, map, address, word);
+    }
+    Ok(())
+}
+
+/// Appends a comment for each word that is likely an address: nothing speaks for its bytes, and these marks of words that are addresses are
+/// not set there.
+#[tactic(auto, unfolding(crate::specs::Likely::word_comments))]
+pub fn put_words(
+    out: &mut Vec<u8>,
+    map: &Map<'_>,
+    survey: &Survey,
+    words: &[bool],
+) -> Result<(), AllocError>
+    requires { length words.now ≡ 65536 }
+    ensures { OnOk result (out.new.items ≡ out.old.items ++ flat_map comment_line (word_comments map.now survey.now words.now)) }
+{
+    let image = map.image();
+    let start = usize::from(image.start());
+    let ground = Ground::new(image, &survey.taken, words);
+    'words: for k in 0..image.bytes().len() {
+        let at = start + k;
+        put_likely(out, map, survey, at as u16, ground.word(at))?;
+    }
+    Ok(())
+}
