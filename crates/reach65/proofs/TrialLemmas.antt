@@ -4,11 +4,11 @@ use Rattle.std.specs.List.{Contains, sum_by}
 use Rattle.std.proofs.lemmas.Bool.{both_ways, cond_both}
 use Rattle.std.proofs.lemmas.List.{set-get_or, set-set}
 use Rattle.std.proofs.Math.ListN.{length-set}
-use Rattle.std.proofs.lemmas.List.Elements.{Contains-append_left, Contains-push}
+use Rattle.std.proofs.lemmas.List.Elements.{Contains-append_left, Contains-push, Contains-push_cases}
 use Rattle.std.proofs.lemmas.List.Sums.{sum_by-set}
 use Rattle.map65.specs.ImageView.{IsPlaced, is_inside}
 use Rattle.map65.proofs.Public.{within}
-use Rattle.reach65.specs.Code.Searching.{AreSound, IsAsBefore, IsBegun, IsDone, IsTrial, State, HasBegun, HasJoined, HasNext, IsAtEnd, put, put_entry, put_inside, put_some, unset}
+use Rattle.reach65.specs.Code.Searching.{AreApart, AreChecked, AreSound, IsAsBefore, IsBegun, IsDone, IsTrial, State, HasBegun, HasJoined, HasNext, IsAtEnd, put, put_entry, put_inside, put_some, unset}
 use Rattle.reach65.specs.Flow.{FlowView, goal_at, next_at}
 use Rattle.reach65.specs.Reached.{entry, led, is_marked}
 use Rattle.reach65.specs.Sound.{IsApart, IsSound, is_fine, marked_count}
@@ -75,6 +75,9 @@ same-trial before old new marks added was = record {
 pub trial-next : (before : List Bool) (old new : State) (a : ℕ) → HasNext old new a → IsTrial before old → IsTrial before new
 trial-next before old new a next was = same-trial before old new next.marks next.added was
 
+pub trial-same : (before : List Bool) (old new : State) → new ≡ old → IsTrial before old → IsTrial before new
+trial-same before old new is was = subst (IsTrial before) (sym is) was
+
 pub trial-end : (before : List Bool) (old new : State) → IsAtEnd old new → IsTrial before old → IsTrial before new
 trial-end before old new end was = same-trial before old new end.marks end.added was
 
@@ -90,6 +93,54 @@ pub trial-leads : (f : FlowView) (before : List Bool) (old new end : State) (a :
     → end ≡ put_some (put_some new (next_at f a)) (goal_at f.map a) → IsBegun f old → IsTrial before old → IsTrial before end
 trial-leads f before old new end a placed next is begun was =
     leads-trial f before new end a placed (ap length next.marks ∙ begun.search.count) is (trial-next before old new a next was)
+
+-- ---- what was added is fine, or still to be looked at
+
+checked-put : (f : FlowView) (s : State) (a : ℕ) → AreChecked f s → AreChecked f (put s a)
+checked-put f s a old =
+    by_put s a (AreChecked f) (λ _. old)
+    (λ _. record {
+      each = λ b has. elim (Contains-push_cases s.added a b has) as (λ _. Contains (s.todo ++ a ∷ []) b ⊎ is_fine f b ≡ true) [
+        | inl before ↦ elim (old.each b before) as (λ _. Contains (s.todo ++ a ∷ []) b ⊎ is_fine f b ≡ true) [
+          | inl there ↦ inl (Contains-append_left s.todo (a ∷ []) b there)
+          | inr fine ↦ inr fine
+        ]
+        | inr here ↦ inl (subst (Contains (s.todo ++ a ∷ [])) here (Contains-push s.todo a))
+      ];
+    })
+
+checked-put_some : (f : FlowView) (s : State) (o : Option ℕ) → AreChecked f s → AreChecked f (put_some s o)
+checked-put_some f s None old = old
+checked-put_some f s (Some a) old = checked-put f s a old
+
+checked-next : (f : FlowView) (old new : State) (a : ℕ) → HasNext old new a → is_fine f a ≡ true → AreChecked f old → AreChecked f new
+checked-next f old new a next fine was = record {
+  each = λ b has. elim (was.each b (subst (λ l. Contains l b) next.added has)) as (λ _. Contains new.todo b ⊎ is_fine f b ≡ true) [
+    | inl there ↦ elim (Contains-push_cases new.todo a b (subst (λ l. Contains l b) next.todo there)) as (λ _. Contains new.todo b ⊎ is_fine f b ≡ true) [
+      | inl later ↦ inl later
+      | inr here ↦ inr (subst (λ x. is_fine f x ≡ true) here fine)
+    ]
+    | inr is ↦ inr is
+  ];
+}
+
+pub checked-leads : (f : FlowView) (old new end : State) (a : ℕ) → HasNext old new a → is_fine f a ≡ true → end ≡ put_some (put_some new (next_at f a)) (goal_at f.map a) → AreChecked f old → AreChecked f end
+checked-leads f old new end a next fine is was =
+    subst (AreChecked f) (sym is) (checked-put_some f (put_some new (next_at f a)) (goal_at f.map a) (checked-put_some f new (next_at f a) (checked-next f old new a next fine was)))
+
+pub all-fine : (f : FlowView) (old new : State) → IsAtEnd old new → AreChecked f old → (b : ℕ) → Contains new.added b → is_fine f b ≡ true
+all-fine f old new end was b has =
+    elim (was.each b (subst (λ l. Contains l b) end.added has)) as (λ _. is_fine f b ≡ true) [
+      | inl there ↦ absurd (contains-nil b (subst (λ l. Contains l b) end.none there))
+      | inr fine ↦ fine
+    ]
+
+trial-checked : (f : FlowView) (s : State) (a : ℕ) → AreChecked f (put_entry f.map.image (record s { added = [] }) a)
+unfolding put_entry put_inside
+trial-checked f s a =
+    let t : State = record s { entries = s.entries ++ a ∷ []; added = [] } in
+    let first : AreChecked f t = record { each = λ b has. absurd (contains-nil b has) } in
+    cond_both (is_inside f.map.image a) (put t a) t (AreChecked f) (λ _. checked-put f t a first) (λ _. first)
 
 -- ---- the beginning of a trial
 
@@ -118,9 +169,13 @@ has_begun f s t a placed done is = subst (HasBegun f s a) (sym is) (record {
   begun = entry-begun f (record s { added = [] }) a placed (done-begun f s done);
   entries = entry-entries f (record s { added = [] }) a;
   trial = trial-begun f s a placed done.reached.count;
+  checked = trial-checked f s a;
 })
 
 -- ---- the end of a trial
+
+pub are_sound : (f : FlowView) (marks : List Bool) (added : List ℕ) → ((b : ℕ) → Contains added b → is_fine f b ≡ true) → AreApart f marks added → AreSound f marks added
+are_sound f marks added fine apart = record { fine = fine; apart = apart.each; four = apart.four }
 
 sound-trial : (f : FlowView) (before : List Bool) (s : State) → IsTrial before s → AreSound f s.marks s.added → IsSound f before s.marks
 sound-trial f before s trial are = record {

@@ -1,14 +1,15 @@
 //! The search of what is reached.
 
-ghost use Rattle.std.specs.Prelude.{◌≡◌, ◌++◌, ◌∷◌, [], ℕ, Bool, true, List, Ok, None, Some, IfOk, IfNone, IfSome, OnOk, false, length, slice_set};
+ghost use Rattle.std.specs.Prelude.{◌≡◌, ◌++◌, ◌∷◌, [], ℕ, Bool, true, List, Contains, Ok, None, Some, IfOk, IfNone, IfSome, OnOk, false, length, slice_set};
 ghost use Rattle.map65.specs.ImageView.{is_inside};
-ghost use Rattle.reach65.specs.Code.Searching.{AreSound, HasBegun, HasNext, IsAtEnd, IsBegun, IsDone, IsTrial, IsTried, put, put_entry, put_inside, put_some, unset};
+ghost use Rattle.reach65.specs.Code.Searching.{AreChecked, AreSound, HasBegun, HasNext, IsAtEnd, IsBegun, IsDone, IsTrial, IsTried, put, put_entry, put_inside, put_some, unset};
 ghost use Rattle.reach65.specs.Flow.{goal_at, next_at};
+ghost use Rattle.reach65.specs.Sound.{is_fine};
 ghost use Rattle.reach65.specs.Reached.{AreReached, is_marked, no_marks};
 
 use crate::flow::Flow;
 use crate::marks::blank_marks;
-use crate::sound::{are_sound, is_fine};
+use crate::sound::{are_apart, is_fine_op};
 use map65::{Image, is_inside};
 use std::alloc::{AllocError, Allocator, Global};
 use std::marker::Model;
@@ -117,6 +118,28 @@ impl<A: Allocator> Search<A> {
         self.todo.pop()
     }
 
+    /// Marks what the instruction of an address leads to, if it is fine: else it returns `false`.
+    #[tactic(auto, unfolding(crate::specs::Flow::next_at, crate::specs::Flow::goal_at, crate::specs::Sound::is_fine))]
+    fn put_fine<B: Allocator>(
+        &mut self,
+        flow: &Flow<'_, '_, B>,
+        address: u16,
+    ) -> Result<bool, AllocError>
+        ensures fine { result ≡ Ok true → is_fine flow.now address ≡ true }
+        ensures put { result ≡ Ok true → self.new ≡ put_some (put_some self.old (next_at flow.now address)) (goal_at flow.now.map address) }
+        ensures same { result ≡ Ok false → self.new ≡ self.old }
+    {
+        let Some(op) = flow.instruction_at(address) else {
+            return Ok(false);
+        };
+        if !is_fine_op(flow, address, op) {
+            return Ok(false);
+        }
+        self.put_some(flow.next_of(address, op))?;
+        self.put_some(flow.goal_by(address, op))?;
+        Ok(true)
+    }
+
     /// Marks what the instruction of an address leads to.
     #[tactic(auto, unfolding(crate::specs::Flow::next_at, crate::specs::Flow::goal_at))]
     fn put_leads<B: Allocator>(
@@ -172,17 +195,18 @@ impl<A: Allocator> Search<A> {
 
     /// Marks all that is reached, or stops at the first instruction that is not fine: then it returns `false`.
     fn finish_trial<B: Allocator>(&mut self, flow: &Flow<'_, '_, B>) -> Result<bool, AllocError>
-        requires { IsBegun flow.now self.old }
+        requires begun { IsBegun flow.now self.old }
+        requires checked { AreChecked flow.now self.old }
         ensures done { result ≡ Ok true → IsDone flow.now self.new }
+        ensures fine { result ≡ Ok true → (b : ℕ) → Contains self.new.added b → is_fine flow.now b ≡ true }
         ensures entries { OnOk result (self.new.entries ≡ self.old.entries) }
         ensures trial { (before : List Bool) → IsTrial before self.old → OnOk result (IsTrial before self.new) }
     {
         let _image = flow.map().image();
         'search: while let Some(address) = self.next() {
-            if !is_fine(flow, address) {
+            if !self.put_fine(flow, address)? {
                 return Ok(false);
             }
-            self.put_leads(flow, address)?;
         }
         Ok(true)
     }
@@ -227,14 +251,15 @@ impl<A: Allocator> Search<A> {
 
     /// Whether a trial has found a sound beginning.
     fn is_sound_trial<B: Allocator>(&mut self, flow: &Flow<'_, '_, B>) -> Result<bool, AllocError>
-        requires { IsBegun flow.now self.old }
+        requires begun { IsBegun flow.now self.old }
+        requires checked { AreChecked flow.now self.old }
         ensures sound { result ≡ Ok true → IsDone flow.now self.new }
         ensures are { result ≡ Ok true → AreSound flow.now self.new.marks self.new.added }
         ensures entries { OnOk result (self.new.entries ≡ self.old.entries) }
         ensures trial { (before : List Bool) → IsTrial before self.old → OnOk result (IsTrial before self.new) }
     {
         if self.finish_trial(flow)? {
-            Ok(are_sound(flow, &self.marks, &self.added))
+            Ok(are_apart(flow, &self.marks, &self.added))
         } else {
             Ok(false)
         }

@@ -3,10 +3,10 @@
 ghost use Rattle.std.specs.Prelude.{◌≡◌, ◌+◌, ◌<◌, ◌≤◌, ◌&&◌, true, IfSome, length, nat_lt};
 ghost use Rattle.isa65.specs.Mode.{len_of};
 ghost use Rattle.map65.specs.ImageView.{end_of};
-ghost use Rattle.reach65.specs.Code.Searching.{AreSound};
+ghost use Rattle.reach65.specs.Code.Searching.{AreApart};
 ghost use Rattle.reach65.specs.Code.Apart.{is_after, is_before, len_at};
 ghost use Rattle.reach65.specs.Reached.{is_marked};
-ghost use Rattle.reach65.specs.Sound.{IsApart, goes_on, is_begun, is_beyond, is_branch, is_fine, is_fine_op, leads_well};
+ghost use Rattle.reach65.specs.Sound.{IsApart, goes_on, is_begun, is_beyond, is_branch, is_fine_op, leads_well};
 
 use crate::flow::{Flow, bytes_from, goal_of, is_last};
 use isa65::{Mnemonic, Op, OperandKind, Row};
@@ -69,7 +69,7 @@ fn leads_well<A: Allocator>(flow: &Flow<'_, '_, A>, row: Row, goal: Option<u16>)
 }
 
 /// Whether the instruction of the address is no `brk`, and instructions begin where it leads.
-fn is_fine_op<A: Allocator>(flow: &Flow<'_, '_, A>, address: u16, op: Op) -> bool
+pub fn is_fine_op<A: Allocator>(flow: &Flow<'_, '_, A>, address: u16, op: Op) -> bool
     requires low { flow.now.map.image.start ≤ address }
     requires high { address < end_of flow.now.map.image }
     requires whole { address + len_of op.mode ≤ end_of flow.now.map.image }
@@ -80,17 +80,6 @@ fn is_fine_op<A: Allocator>(flow: &Flow<'_, '_, A>, address: u16, op: Op) -> boo
     }
     let goal = goal_of(op, address, bytes_from(flow.map().image(), address));
     leads_well(flow, op.mode.row(), goal)
-}
-
-/// Whether an instruction begins at the address, it is no `brk`, and instructions begin where it leads.
-#[tactic(auto, unfolding(crate::specs::Sound::is_fine))]
-pub fn is_fine<A: Allocator>(flow: &Flow<'_, '_, A>, address: u16) -> bool
-    ensures { result ≡ is_fine flow.now address }
-{
-    match flow.instruction_at(address) {
-        Some(op) => is_fine_op(flow, address, op),
-        None => false,
-    }
 }
 
 // ---- what shares no byte
@@ -151,13 +140,13 @@ fn is_apart<A: Allocator>(flow: &Flow<'_, '_, A>, marks: &[bool], address: u16) 
 
 // ---- all that is found
 
-/// Whether each of these addresses has a fine instruction that shares no byte with another marked one, and there are four at least.
-pub fn are_sound<A: Allocator>(flow: &Flow<'_, '_, A>, marks: &[bool], added: &[u16]) -> bool
+/// Whether the instruction of each of these addresses shares no byte with another marked one, and there are four at least.
+pub fn are_apart<A: Allocator>(flow: &Flow<'_, '_, A>, marks: &[bool], added: &[u16]) -> bool
     requires { length marks.now ≡ 65536 }
-    ensures { result ≡ true → AreSound flow.now marks.now added.now }
+    ensures { result ≡ true → AreApart flow.now marks.now added.now }
 {
     'added: for &address in added {
-        if !is_fine(flow, address) || !is_apart(flow, marks, address) {
+        if !is_apart(flow, marks, address) {
             return false;
         }
     }

@@ -89,11 +89,16 @@ pub record IsTrial (before : List Bool) (s : State) : Type 0 where
   pub count : marked_count s.marks ≡ marked_count before + length s.added
   pub fresh : (b : ℕ) → is_marked s.marks b ≡ true → is_marked before b ≡ true ⊎ Contains s.added b
 
+-- what was added is fine, or is still to be looked at
+pub record AreChecked (f : FlowView) (s : State) : Type 0 where
+  pub each : (b : ℕ) → Contains s.added b → Contains s.todo b ⊎ is_fine f b ≡ true
+
 -- an address has joined the entries, and a trial begins
 pub record HasBegun (f : FlowView) (old : State) (a : ℕ) (new : State) : Type 0 where
   pub begun : IsBegun f new
   pub entries : new.entries ≡ old.entries ++ a ∷ []
   pub trial : IsTrial old.marks new
+  pub checked : AreChecked f new
 
 -- a search as it was, but for what was added
 pub record IsAsBefore (old new : State) : Type 0 where
@@ -112,7 +117,12 @@ abbrev pub IsTried : FlowView → State → ℕ → State → Bool → Type 0
 IsTried f old a new true = HasJoined f old a new
 IsTried f old a new false = IsAsBefore old new
 
--- each of these is fine and apart from all that is marked, and there are four at least
+-- each of these is apart from all that is marked, and there are four at least
+pub record AreApart (f : FlowView) (marks : List Bool) (added : List ℕ) : Type 0 where
+  pub each : (b : ℕ) → Contains added b → IsApart f.map marks b
+  pub four : 4 ≤ length added
+
+-- and each is fine
 pub record AreSound (f : FlowView) (marks : List Bool) (added : List ℕ) : Type 0 where
   pub fine : (b : ℕ) → Contains added b → is_fine f b ≡ true
   pub apart : (b : ℕ) → Contains added b → IsApart f.map marks b

@@ -1,5 +1,5 @@
 use Rattle.std.proofs.Common.{◌≡◌, Bool, List}
-use Rattle.reach65.specs.Code.Searching.{IsBegun, IsTrial}
+use Rattle.reach65.specs.Code.Searching.{AreChecked, IsBegun, IsTrial}
 use Rattle.reach65.proofs.SearchLemmas.{left_to_do}
 use Rattle.reach65.proofs.search.Search.finish_trial.Given as goal
 
@@ -7,6 +7,7 @@ abbrev pub invariant-search : goal.invariant-search
 invariant-search g l = record {
   begun : IsBegun l.flow l.self;
   entries : l.self.entries ≡ l.initial.self.entries;
+  checked : AreChecked l.flow l.self;
   trial : (before : List Bool) → IsTrial before l.initial.self → IsTrial before l.self;
 }
 
