@@ -109,6 +109,13 @@ impl<'a, 'm, A: Allocator> Flow<'a, 'm, A> {
         self.map
     }
 
+    /// Returns the groups `#: ..`.
+    pub fn tags(&self) -> &'a [Tag]
+        ensures { result.now ≡ self.now.tags }
+    {
+        self.tags
+    }
+
     /// Returns the instruction that begins at the address: `None` if the address is no code of the image, if its opcode is
     /// undefined, or if its bytes do not all lie in the image.
     #[tactic(auto, unfolding(crate::specs::Flow::instruction_at))]

@@ -8,7 +8,8 @@ use Rattle.info65.specs.Views.{default_settings}
 use Rattle.info65.specs.declared.information.range.RangeType.TheVariants as role
 use Rattle.map65.specs.MapView.{MapView}
 use Rattle.map65.specs.Roles.{role_at, role_in}
-use Rattle.reach65.specs.Flow.{goal_at, goal_of, instruction_at, next_at}
+use Rattle.reach65.specs.Flow.{FlowView, end_after, goal_at, goal_of, instruction_at, next_at, text_of}
+use Rattle.reach65.specs.Inlines.{inline_of}
 use Rattle.reach65.specs.Pieces.{is_free, is_plain}
 use Rattle.reach65.specs.Routines.{call_at}
 use Rattle.reach65.specs.Rows.{free_word}
@@ -149,7 +150,7 @@ with_word = bytes_map (0x60 ∷ 0x60 ∷ 0x01 ∷ 0x00 ∷ [])
 
 -- these bytes are taken
 abbrev pub survey_of : List Bool → Survey
-survey_of taken = record { reached = one; code = one; gone_on = []; called = []; operands = []; taken = taken }
+survey_of taken = record { reached = one; code = one; gone_on = []; called = []; operands = []; taken = taken; texts = [] }
   where
     one : List Bool
     one = false ∷ true ∷ []
@@ -178,13 +179,17 @@ named_word = refl
 equal_bytes : map has_two_bytes (0x0100 ∷ 0x0101 ∷ 0x0001 ∷ []) ≡ true ∷ false ∷ true ∷ []
 equal_bytes = refl
 
+-- an information file without groups `#: ..`
+abbrev pub without_groups : MapView → FlowView
+without_groups m = record { map = m; tags = [] }
+
 -- rts; brk; an undefined opcode; nop at the end; nop and rts; jmp; seven and eight times nop before an undefined opcode
 follows :
-    map (λ l. fails (bytes_map l) 8 0)
+    map (λ l. fails (without_groups (bytes_map l)) 8 0)
     ((0x60 ∷ []) ∷ (0x00 ∷ 0x60 ∷ []) ∷ (0xFF ∷ []) ∷ (0xEA ∷ []) ∷ (0xEA ∷ 0x60 ∷ []) ∷ (0x4C ∷ 0x00 ∷ 0x00 ∷ []) ∷ (0xEA ∷ 0xEA ∷ 0xEA ∷ 0xEA ∷ 0xEA ∷ 0xEA ∷ 0xEA ∷ 0xFF ∷ [])
     ∷ (0xEA ∷ 0xEA ∷ 0xEA ∷ 0xEA ∷ 0xEA ∷ 0xEA ∷ 0xEA ∷ 0xEA ∷ 0xFF ∷ []) ∷ [])
     ≡ false ∷ true ∷ true ∷ true ∷ false ∷ false ∷ true ∷ false ∷ []
-unfolding fails instruction_at next_at role_at role_in
+unfolding fails instruction_at next_at end_after text_of goal_of role_at role_in
 follows = refl
 
 -- jsr $0007 before an undefined opcode; jsr $0007 before rts
@@ -194,13 +199,13 @@ two_calls = bytes_map (0x20 ∷ 0x07 ∷ 0x00 ∷ 0xFF ∷ 0x20 ∷ 0x07 ∷ 0x0
 abbrev pub calls_reached : List Bool
 calls_reached = true ∷ false ∷ false ∷ false ∷ true ∷ false ∷ false ∷ true ∷ []
 
-one_of_two : call_comments two_calls calls_reached [] ≡ call_comment 1 2 7 ∷ []
-unfolding call_comments comments_of_calls is_call is_failing call_at goal_at goal_of fails instruction_at next_at role_at role_in
+one_of_two : call_comments (without_groups two_calls) calls_reached ≡ call_comment 1 2 7 ∷ []
+unfolding call_comments comments_of_calls is_call is_failing call_at goal_at goal_of fails instruction_at next_at end_after text_of inline_of role_at role_in
 one_of_two = refl
 
 -- the first call alone is not reached
-not_called : call_comments two_calls (false ∷ false ∷ false ∷ false ∷ true ∷ false ∷ false ∷ true ∷ []) [] ≡ []
-unfolding call_comments comments_of_calls is_call is_failing call_at goal_at goal_of fails instruction_at next_at role_at role_in
+not_called : call_comments (without_groups two_calls) (false ∷ false ∷ false ∷ false ∷ true ∷ false ∷ false ∷ true ∷ []) ≡ []
+unfolding call_comments comments_of_calls is_call is_failing call_at goal_at goal_of fails instruction_at next_at end_after text_of inline_of role_at role_in
 not_called = refl
 
 -- the file says it of the routine

@@ -10,7 +10,7 @@ use Rattle.std.proofs.lemmas.List.Sums.{count_by-le-length, sum_by-append}
 use Rattle.isa65.specs.declared.op.Op.{Op}
 use Rattle.map65.specs.ImageView.{ImageView}
 use Rattle.map65.specs.MapView.{MapView}
-use Rattle.reach65.specs.Flow.{instruction_at, next_at, next_of}
+use Rattle.reach65.specs.Flow.{FlowView, instruction_at, next_at, next_of}
 use Rattle.reach65.specs.Pieces.{Ground}
 use Rattle.reach65.specs.Reached.{is_marked}
 use Rattle.reach65.specs.Routines.{call_at, is_it}
@@ -33,29 +33,29 @@ comments-more m f k a first old new is before more =
 
 -- ---- what follows a call
 
-fails-step : (m : MapView) (n a : ℕ) → 0 < n → fails m n a ≡ fails_by (fails m (n - 1)) (instruction_at m a) (next_at m a)
+fails-step : (f : FlowView) (n a : ℕ) → 0 < n → fails f n a ≡ fails_by (fails f (n - 1)) (instruction_at f.map a) (next_at f a)
 unfolding fails
-fails-step m zero a some = absurd (omega (arith, some))
-fails-step m (suc n) a some = let same : suc n - 1 ≡ n = omega arith in rw same refl
+fails-step f zero a some = absurd (omega (arith, some))
+fails-step f (suc n) a some = let same : suc n - 1 ≡ n = omega arith in rw same refl
 
-pub fails-zero : (m : MapView) (n a : ℕ) → n ≡ 0 → fails m n a ≡ false
+pub fails-zero : (f : FlowView) (n a : ℕ) → n ≡ 0 → fails f n a ≡ false
 unfolding fails
-fails-zero m n a none = rw none refl
+fails-zero f n a none = rw none refl
 
-pub fails-none : (m : MapView) (n a : ℕ) → 0 < n → instruction_at m a ≡ None → fails m n a ≡ true
-fails-none m n a some none = fails-step m n a some ∙ ap (λ o. fails_by (fails m (n - 1)) o (next_at m a)) none
+pub fails-none : (f : FlowView) (n a : ℕ) → 0 < n → instruction_at f.map a ≡ None → fails f n a ≡ true
+fails-none f n a some none = fails-step f n a some ∙ ap (λ o. fails_by (fails f (n - 1)) o (next_at f a)) none
 
-next-is : (m : MapView) (a : ℕ) (op : Op) (next : Option ℕ) → instruction_at m a ≡ Some op → next_of m a (Some op) ≡ next → next_at m a ≡ next
+next-is : (f : FlowView) (a : ℕ) (op : Op) (next : Option ℕ) → instruction_at f.map a ≡ Some op → next_of f a (Some op) ≡ next → next_at f a ≡ next
 unfolding next_at
-next-is m a op next is leads = ap (next_of m a) is ∙ leads
+next-is f a op next is leads = ap (next_of f a) is ∙ leads
 
-pub fails-last : (m : MapView) (n a : ℕ) (op : Op) → 0 < n → instruction_at m a ≡ Some op → next_of m a (Some op) ≡ None → fails m n a ≡ not (is_end op.mnemonic)
-fails-last m n a op some is last =
-    fails-step m n a some ∙ ap (λ o. fails_by (fails m (n - 1)) o (next_at m a)) is ∙ ap (fails_by (fails m (n - 1)) (Some op)) (next-is m a op None is last)
+pub fails-last : (f : FlowView) (n a : ℕ) (op : Op) → 0 < n → instruction_at f.map a ≡ Some op → next_of f a (Some op) ≡ None → fails f n a ≡ not (is_end op.mnemonic)
+fails-last f n a op some is last =
+    fails-step f n a some ∙ ap (λ o. fails_by (fails f (n - 1)) o (next_at f a)) is ∙ ap (fails_by (fails f (n - 1)) (Some op)) (next-is f a op None is last)
 
-pub fails-next : (m : MapView) (n a b : ℕ) (op : Op) → 0 < n → instruction_at m a ≡ Some op → next_of m a (Some op) ≡ Some b → fails m n a ≡ fails m (n - 1) b
-fails-next m n a b op some is next =
-    fails-step m n a some ∙ ap (λ o. fails_by (fails m (n - 1)) o (next_at m a)) is ∙ ap (fails_by (fails m (n - 1)) (Some op)) (next-is m a op (Some b) is next)
+pub fails-next : (f : FlowView) (n a b : ℕ) (op : Op) → 0 < n → instruction_at f.map a ≡ Some op → next_of f a (Some op) ≡ Some b → fails f n a ≡ fails f (n - 1) b
+fails-next f n a b op some is next =
+    fails-step f n a some ∙ ap (λ o. fails_by (fails f (n - 1)) o (next_at f a)) is ∙ ap (fails_by (fails f (n - 1)) (Some op)) (next-is f a op (Some b) is next)
 
 -- ---- counts
 
@@ -81,20 +81,21 @@ count-more m p k =
 pub few-counted : (m : MapView) (p : ℕ → Bool) (k : ℕ) → count_by p (first_of m k) ≤ k
 few-counted m p k = omega (arith, count_by-le-length p (first_of m k), length-map-range_with_len (λ n. m.image.start + n) 0 k)
 
-pub counts-none : (m : MapView) (marks : List Bool) (c : Calls) → c.all ≡ no_counts → c.failing ≡ no_counts → AreCounts m marks 0 c
-counts-none m marks c all failing = record {
+pub counts-none : (f : FlowView) (marks : List Bool) (c : Calls) → c.all ≡ no_counts → c.failing ≡ no_counts → AreCounts f marks 0 c
+counts-none f marks c all failing = record {
   all = λ t. ap (λ l. get_or l t 0) all ∙ none-counted t;
   failing = λ t. ap (λ l. get_or l t 0) failing ∙ none-counted t;
 }
 
-pub counts-more : (m : MapView) (marks : List Bool) (k a : ℕ) (old new : Calls) → a ≡ m.image.start + k → AreCounts m marks k old
-    → ((t : ℕ) → get_or new.all t 0 ≡ with_one (is_call m marks t a) (get_or old.all t 0))
-    → ((t : ℕ) → get_or new.failing t 0 ≡ with_one (is_failing m marks t a) (get_or old.failing t 0)) → AreCounts m marks (k + 1) new
-counts-more m marks k a old new is before all failing = record {
-  all = λ t. all t ∙ ap (λ b. with_one (is_call m marks t b) (get_or old.all t 0)) is ∙ ap (with_one (is_call m marks t (m.image.start + k))) (before.all t) ∙ sym (count-more m (is_call m marks t) k);
-  failing = λ t. failing t ∙ ap (λ b. with_one (is_failing m marks t b) (get_or old.failing t 0)) is ∙ ap (with_one (is_failing m marks t (m.image.start + k))) (before.failing t)
-      ∙ sym (count-more m (is_failing m marks t) k);
+pub counts-more : (f : FlowView) (marks : List Bool) (k a : ℕ) (old new : Calls) → a ≡ f.map.image.start + k → AreCounts f marks k old
+    → ((t : ℕ) → get_or new.all t 0 ≡ with_one (is_call f.map marks t a) (get_or old.all t 0))
+    → ((t : ℕ) → get_or new.failing t 0 ≡ with_one (is_failing f marks t a) (get_or old.failing t 0)) → AreCounts f marks (k + 1) new
+counts-more f marks k a old new is before all failing = record {
+  all = λ t. all t ∙ ap (λ b. with_one (is_call f.map marks t b) (get_or old.all t 0)) is ∙ ap (with_one (is_call f.map marks t (f.map.image.start + k))) (before.all t)
+      ∙ sym (count-more f.map (is_call f.map marks t) k);
+  failing = λ t. failing t ∙ ap (λ b. with_one (is_failing f marks t b) (get_or old.failing t 0)) is ∙ ap (with_one (is_failing f marks t (f.map.image.start + k))) (before.failing t)
+      ∙ sym (count-more f.map (is_failing f marks t) k);
 }
 
-abbrev pub ground-of : ImageView → List Bool → List Bool → Ground
-ground-of image taken words = record { image = image; taken = taken; words = words }
+abbrev pub ground-of : ImageView → List Bool → List Bool → List Bool → Ground
+ground-of image taken words texts = record { image = image; taken = taken; words = words; texts = texts }

@@ -7,6 +7,7 @@ use Rattle.info65.specs.Names.{AreNames, covering}
 use Rattle.info65.specs.declared.tags.tag.Tag.{Tag}
 use Rattle.map65.specs.ImageView.{IsPlaced}
 use Rattle.map65.specs.MapView.{MapView}
+use Rattle.reach65.specs.Flow.{FlowView}
 use Rattle.reach65.specs.Survey.{Survey}
 use Rattle.reach65.specs.TextLaws.{AreLines, is_line}
 use Rattle.trace65.specs.Likely.{all_of, are_many, call_comment, call_comments, comments_of_calls, comments_of_word, has_two_bytes, is_call, is_failing, is_inline, is_meant, word_at, word_comment, word_comments}
@@ -52,15 +53,18 @@ of-calls tags failing calls t few few_too = by_test (are_many failing calls && n
     by_test true = (call-line failing calls t few few_too, tt)
     by_test false = tt
 
-calls-lines : (m : MapView) (marks : List Bool) (tags : List Tag) → IsPlaced m.image → AreLines (call_comments m marks tags)
+calls-lines : (f : FlowView) (marks : List Bool) → IsPlaced f.map.image → AreLines (call_comments f marks)
 unfolding call_comments
-calls-lines m marks tags placed =
-    all-lines (λ t. comments_of_calls tags (count_by (is_failing m marks t) (all_of m)) (count_by (is_call m marks t) (all_of m)) t)
+calls-lines f marks placed =
+    let m = f.map in
+    all-lines (λ t. comments_of_calls f.tags (count_by (is_failing f marks t) (all_of m)) (count_by (is_call m marks t) (all_of m)) t)
     (λ t.
-    of-calls tags (count_by (is_failing m marks t) (all_of m)) (count_by (is_call m marks t) (all_of m)) t (omega (arith, placed.room, few-counted m (is_failing m marks t) (length m.image.bytes)))
+    of-calls f.tags (count_by (is_failing f marks t) (all_of m)) (count_by (is_call m marks t) (all_of m)) t (omega (arith, placed.room, few-counted m (is_failing f marks t) (length m.image.bytes)))
     (omega (arith, placed.room, few-counted m (is_call m marks t) (length m.image.bytes))))
     (all_of m)
 
 pub likely-lines : (m : MapView) (s : Survey) (words marks : List Bool) (tags : List Tag) → IsPlaced m.image → AreNames m.info.names
-    → AreLines (word_comments m s words ++ call_comments m marks tags)
-likely-lines m s words marks tags placed are = lines-joined (word_comments m s words) (call_comments m marks tags) (words-lines m s words are) (calls-lines m marks tags placed)
+    → AreLines (word_comments m s words ++ call_comments (record { map = m; tags = tags }) marks)
+likely-lines m s words marks tags placed are =
+    let f : FlowView = record { map = m; tags = tags } in
+    lines-joined (word_comments m s words) (call_comments f marks) (words-lines m s words are) (calls-lines f marks placed)

@@ -12,7 +12,7 @@ use Rattle.info65.specs.declared.tags.tag.TagKind.{TagKind}
 use Rattle.info65.specs.declared.tags.tag.TagKind.TheVariants as kind
 use Rattle.map65.specs.ImageView.{is_inside}
 use Rattle.map65.specs.MapView.{MapView}
-use Rattle.reach65.specs.Flow.{instruction_at, is, next_at}
+use Rattle.reach65.specs.Flow.{FlowView, instruction_at, is, next_at}
 use Rattle.reach65.specs.Pieces.{Ground}
 use Rattle.reach65.specs.Reached.{is_marked}
 use Rattle.reach65.specs.Routines.{call_at, is_it}
@@ -53,7 +53,7 @@ comments_of_word m s a (Some w) = if is_meant m s w && has_two_bytes w then word
 
 -- the word of two bytes that nothing speaks for and that are of no proposed table of addresses, where these marks say which are
 abbrev pub word_at : MapView → Survey → List Bool → ℕ → Option ℕ
-word_at m s words a = free_word (record { image = m.image; taken = s.taken; words = words }) a
+word_at m s words a = free_word (record { image = m.image; taken = s.taken; words = words; texts = s.texts }) a
 
 -- one for each that is an address, in order
 unfoldable pub word_comments : MapView → Survey → List Bool → List (List ℕ)
@@ -71,21 +71,21 @@ fails_by rest (Some op) None = not (is_end op.mnemonic)
 fails_by rest (Some op) (Some next) = rest next
 
 -- Of so many instructions from the address on, as they follow each other, one does not decode, is `brk`, or is the last of the image.
-unfoldable pub fails : MapView → ℕ → ℕ → Bool
-fails m zero a = false
-fails m (suc n) a = fails_by (fails m n) (instruction_at m a) (next_at m a)
+unfoldable pub fails : FlowView → ℕ → ℕ → Bool
+fails f zero a = false
+fails f (suc n) a = fails_by (fails f n) (instruction_at f.map a) (next_at f a)
 
-abbrev pub fails_at : MapView → Option ℕ → Bool
-fails_at m None = true
-fails_at m (Some a) = fails m 8 a
+abbrev pub fails_at : FlowView → Option ℕ → Bool
+fails_at f None = true
+fails_at f (Some a) = fails f 8 a
 
 -- a reached instruction calls the second address
 unfoldable pub is_call : MapView → List Bool → ℕ → ℕ → Bool
 is_call m marks t a = is_marked marks a && is_it (call_at m a) t
 
 -- and what follows does not decode
-unfoldable pub is_failing : MapView → List Bool → ℕ → ℕ → Bool
-is_failing m marks t a = is_call m marks t a && fails_at m (next_at m a)
+unfoldable pub is_failing : FlowView → List Bool → ℕ → ℕ → Bool
+is_failing f marks t a = is_call f.map marks t a && fails_at f (next_at f a)
 
 abbrev pub is_inline : ℕ → Tag → Bool
 is_inline t tag = by_kind tag.kind
@@ -108,9 +108,9 @@ unfoldable pub no_counts : List ℕ
 no_counts = replicate 65536 0
 
 -- the counts of the calls in the first so many bytes of the image
-pub record AreCounts (m : MapView) (marks : List Bool) (n : ℕ) (c : Calls) : Type 0 where
-  pub all : (t : ℕ) → get_or c.all t 0 ≡ count_by (is_call m marks t) (first_of m n)
-  pub failing : (t : ℕ) → get_or c.failing t 0 ≡ count_by (is_failing m marks t) (first_of m n)
+pub record AreCounts (f : FlowView) (marks : List Bool) (n : ℕ) (c : Calls) : Type 0 where
+  pub all : (t : ℕ) → get_or c.all t 0 ≡ count_by (is_call f.map marks t) (first_of f.map n)
+  pub failing : (t : ℕ) → get_or c.failing t 0 ≡ count_by (is_failing f marks t) (first_of f.map n)
 
 -- half of the calls at least, and one
 abbrev pub are_many : ℕ → ℕ → Bool
@@ -126,6 +126,6 @@ unfoldable pub comments_of_calls : List Tag → ℕ → ℕ → ℕ → List (Li
 comments_of_calls tags failing calls t = if are_many failing calls && not (list_any (is_inline t) tags) then call_comment failing calls t ∷ [] else []
 
 -- one for each routine of which that holds, in order
-unfoldable pub call_comments : MapView → List Bool → List Tag → List (List ℕ)
-call_comments m marks tags =
-    flat_map (λ t. comments_of_calls tags (count_by (is_failing m marks t) (all_of m)) (count_by (is_call m marks t) (all_of m)) t) (all_of m)
+unfoldable pub call_comments : FlowView → List Bool → List (List ℕ)
+call_comments f marks =
+    flat_map (λ t. comments_of_calls f.tags (count_by (is_failing f marks t) (all_of f.map)) (count_by (is_call f.map marks t) (all_of f.map)) t) (all_of f.map)

@@ -57,7 +57,7 @@ fn fails_at(flow: &Flow<'_, '_>, next: Option<u16>) -> bool
 /// The address of the image that the instruction calls.
 #[tactic(auto, unfolding(reach65::specs::Routines::call_at))]
 fn call_at(flow: &Flow<'_, '_>, address: u16) -> Option<u16>
-    ensures { result ≡ call_at flow.now address }
+    ensures { result ≡ call_at flow.now.map address }
 {
     let op = flow.instruction_at(address)?;
     if op.mnemonic == Mnemonic::Jsr {
@@ -176,7 +176,7 @@ impl Calls {
         requires reached { length reached.now ≡ 65536 }
         requires all { (t : ℕ) → get_or self.old.all t 0 < 65536 }
         requires failing { (t : ℕ) → get_or self.old.failing t 0 < 65536 }
-        ensures all { (t : ℕ) → get_or self.new.all t 0 ≡ with_one (is_call flow.now reached.now t address) (get_or self.old.all t 0) }
+        ensures all { (t : ℕ) → get_or self.new.all t 0 ≡ with_one (is_call flow.now.map reached.now t address) (get_or self.old.all t 0) }
         ensures failing { (t : ℕ) → get_or self.new.failing t 0 ≡ with_one (is_failing flow.now reached.now t address) (get_or self.old.failing t 0) }
     {
         if !reached[usize::from(address)] {
@@ -194,7 +194,7 @@ impl Calls {
     /// The counts of an image.
     fn of(alloc: Global, flow: &Flow<'_, '_>, reached: &[bool]) -> Result<Calls, AllocError>
         requires { length reached.now ≡ 65536 }
-        ensures { IfOk result (AreCounts flow.now reached.now (length flow.now.image.bytes)) }
+        ensures { IfOk result (AreCounts flow.now reached.now (length flow.now.map.image.bytes)) }
     {
         let image = flow.map().image();
         let start = usize::from(image.start());
@@ -225,16 +225,15 @@ pub fn put_calls(
     alloc: Global,
     flow: &Flow<'_, '_>,
     reached: &[bool],
-    tags: &[Tag],
 ) -> Result<(), AllocError>
     requires { length reached.now ≡ 65536 }
-    ensures { OnOk result (out.new.items ≡ out.old.items ++ flat_map comment_line (call_comments flow.now reached.now tags.now)) }
+    ensures { OnOk result (out.new.items ≡ out.old.items ++ flat_map comment_line (call_comments flow.now reached.now)) }
 {
     let image = flow.map().image();
     let start = usize::from(image.start());
     let calls = Calls::of(alloc, flow, reached)?;
     'routines: for k in 0..image.bytes().len() {
-        calls.put(out, tags, (start + k) as u16)?;
+        calls.put(out, flow.tags(), (start + k) as u16)?;
     }
     Ok(())
 }

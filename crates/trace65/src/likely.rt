@@ -82,7 +82,7 @@ pub fn put_words(
 {
     let image = map.image();
     let start = usize::from(image.start());
-    let ground = Ground::new(image, &survey.taken, words);
+    let ground = Ground::new(image, &survey.taken, words, &survey.texts);
     'words: for k in 0..image.bytes().len() {
         let at = start + k;
         put_likely(out, map, survey, at as u16, ground.word(at))?;

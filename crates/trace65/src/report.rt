@@ -222,7 +222,7 @@ fn put_likely(
 {
     let words: &[bool] = &found.words;
     put_words(out, map, &found.survey, words)?;
-    put_calls(out, alloc, &Flow::new(map), &found.survey.reached, tags)
+    put_calls(out, alloc, &Flow::new(map, tags), &found.survey.reached)
 }
 
 /// Appends the comments after the labels.

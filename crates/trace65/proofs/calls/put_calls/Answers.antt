@@ -7,18 +7,20 @@ use Rattle.trace65.proofs.calls.put_calls.Goals as goal
 
 pub put-requires : goal.put-requires
 put-requires c =
-    let m = c.args.flow.now in
+    let f = c.args.flow.now in
+    let m = f.map in
     let t = c.from-start.result + c.routines.k in
     let len = ap (λ i. length i.bytes) c.image-image.ensures.image ∙ ap (λ m. length m.image.bytes) c.map.ensures in
-    omega (arith, few-counted m (is_failing m c.args.reached.now t) (length m.image.bytes), c.in_ok-calls.ensures.failing t, len, c.bytes-k-end.ensures.placed.room)
+    omega (arith, few-counted m (is_failing f c.args.reached.now t) (length m.image.bytes), c.in_ok-calls.ensures.failing t, len, c.bytes-k-end.ensures.placed.room)
 
 pub routines-preserved : goal.routines-preserved
 routines-preserved c =
-    let m = c.args.flow.now in
+    let f = c.args.flow.now in
+    let m = f.map in
     let marks = c.args.reached.now in
-    let tags = c.args.tags.now in
+    let tags = f.tags in
     let t = c.from-start.result + c.routines.k in
     let start : c.from-start.result ≡ m.image.start = c.from-start.ensures ∙ c.start.ensures ∙ ap (λ i. i.start) c.image-image.ensures.image ∙ ap (λ m. m.image.start) c.map.ensures in
-    comments-more m (λ b. comments_of_calls tags (count_by (is_failing m marks b) (all_of m)) (count_by (is_call m marks b) (all_of m)) b) c.routines.k t
+    comments-more m (λ b. comments_of_calls tags (count_by (is_failing f marks b) (all_of m)) (count_by (is_call m marks b) (all_of m)) b) c.routines.k t
     c.args.out.now.items c.routines.out.items c.put.new.out.items (ap (λ n. n + c.routines.k) start) c.routines.invariant
     (c.in_ok-put.ensures ∙ ap₂ (λ x y. c.routines.out.items ++ flat_map comment_line (comments_of_calls tags x y t)) (c.in_ok-calls.ensures.failing t) (c.in_ok-calls.ensures.all t))

@@ -9,4 +9,6 @@ invariant-routines l =
     l.out.items
     ≡ l.initial.out.items
     ++ flat_map comment_line
-    (flat_map (λ t. comments_of_calls l.tags (count_by (is_failing l.flow l.reached t) (all_of l.flow)) (count_by (is_call l.flow l.reached t) (all_of l.flow)) t) (first_of l.flow l.k))
+    (flat_map
+    (λ t. comments_of_calls l.flow.tags (count_by (is_failing l.flow l.reached t) (all_of l.flow.map)) (count_by (is_call l.flow.map l.reached t) (all_of l.flow.map)) t)
+    (first_of l.flow.map l.k))

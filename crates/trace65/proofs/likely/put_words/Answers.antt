@@ -15,7 +15,8 @@ words-preserved c =
     let a = c.from-start.result + c.words.k in
     let start : c.from-start.result ≡ m.image.start = c.from-start.ensures ∙ c.start.ensures ∙ ap (λ i. i.start) image in
     let taken : c.deref.result.now ≡ s.taken = c.deref.ensures.value ∙ ap (λ s. s.taken) c.survey.view_is in
-    let ground = c.new-ground.ensures ∙ ap₂ (λ i t. ground-of i t words) image taken in
+    let texts : c.deref-2.result.now ≡ s.texts = c.deref-2.ensures.value ∙ ap (λ s. s.texts) c.survey.view_is in
+    let ground = c.new-ground.ensures ∙ ap₂ (λ i t. ground-of i t words c.deref-2.result.now) image taken ∙ ap (ground-of m.image s.taken words) texts in
     let word : c.word.result ≡ word_at m s words a = c.word.ensures.value ∙ ap (λ g. free_word g a) ground in
     comments-more m (λ b. comments_of_word m s b (word_at m s words b)) c.words.k a c.args.out.now.items c.words.out.items c.put_likely.new.out.items
     (ap (λ n. n + c.words.k) start) c.words.invariant
