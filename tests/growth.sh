@@ -789,10 +789,10 @@ speed() {
     awk 'NR % 10 == 1' pairs.info >few.info
     printf '\n%-44s %12s %12s %8s\n' 'instructions for a listing' 'name65' 'as65' 'ratio'
     names 'three lines' 138.2 three.s
-    names 'random bytes' 196.3 random.s
-    names 'random bytes, used names' 252.8 random.s --used
-    names 'a tenth of 8,000 pairs' 381.6 numbers.s -i few.info
-    names '8,000 pairs' 624.1 numbers.s -i pairs.info
+    names 'random bytes' 115 random.s
+    names 'random bytes, used names' 160 random.s --used
+    names 'a tenth of 8,000 pairs' 230 numbers.s -i few.info
+    names '8,000 pairs' 400 numbers.s -i pairs.info
     printf '\n%-44s %12s %12s\n' 'instructions for a line' '64 KiB' '128 KiB'
     lengthens 'a line that is one word' 1 n
     lengthens 'a long number after a half' 0 'x1 := 1\n .byte <x1,'

@@ -34,7 +34,7 @@ map65 ImageFault::from 2
 map65 TakeFault::from 1
 name65 Failure::from 5
 name65 Refusal::from 2
-name65 bytes_of 2
+name65 assembled 2
 name65 failure_of 2
 name65 means 2
 relist Failure::from 2

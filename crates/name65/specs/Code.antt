@@ -1,3 +1,2 @@
 -- What ties the code to the rules: what its values stand for.
-pub mod Changes
 pub mod Requests

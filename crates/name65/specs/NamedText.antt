@@ -49,15 +49,21 @@ lines_text [] changes = []
 lines_text (l ∷ ls) [] = []
 lines_text (l ∷ ls) (c ∷ cs) = line_text l c ++ lines_text ls cs
 
--- Each line that no group touches stands in the text as it was, in order; something stands in the place of each other one, and after the
--- last.
+-- Each line of a source that is not touched stands in the text as it was, in order; something stands in the place of each other one. Which are
+-- touched is said by the address after each.
+pub record AreLines {L : Type 0} (s : Source L) (marks : List Bool) (used : Bool) (ends : List ℕ) (text : List ℕ) : Type 0 where
+  pub changes : List (Option (List ℕ))
+  pub touched : map is_some changes ≡ touched_from marks used s.start (source_readings s) ends
+  pub whole : text ≡ lines_text (text_lines s.text.now) changes
+
+-- Such lines of those that groups name, and what stands after the last.
 pub record IsNamed {L : Type 0} (s : Source L) (tags : List Tag) (used : Bool) (text : List ℕ) : Type 0 where
   pub marks : List Bool
   pub named : AreNamed tags marks
-  pub changes : List (Option (List ℕ))
-  pub touched : map is_some changes ≡ touched_from marks used s.start (source_readings s) (source_addresses s)
+  pub lines : List ℕ
+  pub written : AreLines s marks used (source_addresses s) lines
   pub tail : List ℕ
-  pub whole : text ≡ lines_text (text_lines s.text.now) changes ++ tail
+  pub whole : text ≡ lines ++ tail
 
 -- The text means the bytes that the listing means.
 pub record MeansTheSame {L : Type 0} (s : Source L) (text : List ℕ) : Type 0 where

@@ -1,12 +1,13 @@
 //! What stands in the place of a line that a group touches.
 
 use crate::complaint::{Complaint, Refusal};
-use crate::constant_line::{kept, moved};
+use crate::constant_line::{moved, put_kept};
 use crate::marks::is_marked;
-use crate::rewriting::{Operand, immediate, table};
+use crate::plan::{PlacedLine, Plan};
+use crate::rewriting::{Operand, put_immediate, put_table};
 use crate::wishes::{Wish, Wished, Wishes};
-use std::alloc::Global;
-use stmt65::{Datum, Directive, Form, Language, Operation, SourceLine, Value, read_line};
+use std::alloc::{AllocError, Global};
+use stmt65::{Datum, Directive, Form, Operation, SourceLine, Value, read_line};
 
 /// The wish can't be followed where it is.
 fn no_number<T>(wished: Wished<'_>, address: u64) -> Result<T, Refusal> {
@@ -106,79 +107,77 @@ fn word_operands<'t>(
     Ok(operands)
 }
 
-/// What stands in the place of a line that gives the bytes from `at` to before `end`.
-fn operation_line(
-    alloc: Global,
-    wishes: &Wishes<'_>,
-    at: u64,
-    end: u64,
+/// Appends what stands in the place of a line that gives bytes.
+fn put_operation(
+    out: &mut Vec<u8>,
+    plan: &Plan<'_, '_>,
+    placed: &PlacedLine<'_>,
     operation: &Operation<'_>,
-    line: &[u8],
-) -> Result<Vec<u8>, Refusal> {
+) -> Result<(), Refusal> {
+    let wishes = plan.wishes;
     match operation {
         Operation::Instr(_, Form::Immediate(Value::Number(_))) => {
-            keep_free(wishes, at, 1)?;
-            let operand = byte_operand(wishes, at.saturating_add(1))?;
-            Ok(immediate(alloc, line, operand)?)
+            keep_free(wishes, placed.at, 1)?;
+            let operand = byte_operand(wishes, placed.at.saturating_add(1))?;
+            put_immediate(out, placed.line, operand)?;
         }
         Operation::Data(data) => {
-            let operands = byte_operands(alloc, wishes, at, data)?;
-            Ok(table(alloc, line, &operands)?)
+            let operands = byte_operands(plan.alloc, wishes, placed.at, data)?;
+            put_table(out, placed.line, &operands)?;
         }
         Operation::Values(Directive::Word, values) => {
-            let operands = word_operands(alloc, wishes, at, values)?;
-            Ok(table(alloc, line, &operands)?)
+            let operands = word_operands(plan.alloc, wishes, placed.at, values)?;
+            put_table(out, placed.line, &operands)?;
         }
         _ => {
-            keep_free(wishes, at, end.saturating_sub(at))?;
-            Ok(kept(alloc, line)?)
+            keep_free(wishes, placed.at, placed.end.saturating_sub(placed.at))?;
+            put_kept(out, placed.line)?;
         }
+    }
+    Ok(())
+}
+
+/// How far the constant line of a name with this value moves from the end of the bytes, if it moves.
+fn distance_of(plan: &Plan<'_, '_>, value: u64) -> Option<u64> {
+    if is_marked(plan.marks, value) {
+        value.checked_sub(plan.wishes.end())
+    } else {
+        None
     }
 }
 
-/// What stands in the place of the constant line of a name with this value. A line that moves is appended to the tail.
-fn constant_line(
-    alloc: Global,
-    wishes: &Wishes<'_>,
-    name: &[u8],
-    value: u64,
-    is_named: bool,
-    line: &[u8],
+/// Appends what stands in the place of the constant line of a name with this value. A line that moves is appended to the tail.
+fn put_constant(
+    out: &mut Vec<u8>,
     tail: &mut Vec<u8>,
-) -> Result<Vec<u8>, Refusal> {
-    if wishes.is_left_out(name) {
-        return Ok(Vec::new(alloc));
+    plan: &Plan<'_, '_>,
+    line: &[u8],
+    (name, value): (&[u8], u64),
+) -> Result<(), AllocError> {
+    if plan.wishes.is_left_out(name) {
+        return Ok(());
     }
-    match value.checked_sub(wishes.end()) {
-        Some(distance) if is_named => {
-            tail.extend_from_slice(&moved(alloc, line, distance)?)?;
-            Ok(Vec::new(alloc))
-        }
-        _ => Ok(kept(alloc, line)?),
+    match distance_of(plan, value) {
+        Some(distance) => tail.extend_from_slice(&moved(plan.alloc, line, distance)?),
+        None => put_kept(out, line),
     }
 }
 
-/// What stands in the place of a line that gives the bytes from `at` to before `end`, or of a constant line; the marks say which values
-/// a group names. A constant line that moves is appended to the tail.
-pub fn changed_line(
-    alloc: Global,
-    wishes: &Wishes<'_>,
-    marks: &[bool],
-    at: u64,
-    end: u64,
-    language: Language,
-    line: &[u8],
+/// Appends what stands in the place of a line. A constant line that moves is appended to the tail.
+pub fn put_changed(
+    out: &mut Vec<u8>,
     tail: &mut Vec<u8>,
-) -> Result<Vec<u8>, Refusal> {
-    match read_line(alloc, language, line)? {
+    plan: &Plan<'_, '_>,
+    placed: &PlacedLine<'_>,
+) -> Result<(), Refusal> {
+    match read_line(plan.alloc, placed.language, placed.line)? {
         Some(SourceLine::Assignment(name, n)) => {
-            let value = n.value();
-            let is_named = is_marked(marks, value);
-            constant_line(alloc, wishes, name, value, is_named, line, tail)
+            put_constant(out, tail, plan, placed.line, (name, n.value()))?;
         }
         Some(SourceLine::Statement { operation, .. }) => {
-            operation_line(alloc, wishes, at, end, &operation, line)
+            put_operation(out, plan, placed, &operation)?;
         }
-        _ => Ok(kept(alloc, line)?),
+        _ => put_kept(out, placed.line)?,
     }
+    Ok(())
 }

@@ -1,16 +1,15 @@
 //! Constant lines: as they were, left out, or after the last line.
 
 use crate::rewriting::put_rest;
-use crate::spans::spans_of;
+use crate::spans::Spans;
 use itoa::Buffer;
 use std::alloc::{AllocError, Global};
 
-/// A line as it was.
-pub fn kept(alloc: Global, line: &[u8]) -> Result<Vec<u8>, AllocError> {
-    let mut out = Vec::new(alloc);
+/// Appends a line as it was.
+pub fn put_kept(out: &mut Vec<u8>, line: &[u8]) -> Result<(), AllocError> {
     out.extend_from_slice(line)?;
     out.push(b'\n')?;
-    Ok(out)
+    Ok(())
 }
 
 /// The place of the first `=`, and of what stands before it, which may be a colon.
@@ -28,13 +27,12 @@ fn operator_of(line: &[u8]) -> (usize, usize) {
 /// The constant line of a name whose value is this far from the end of the text: `NAME := * + n`.
 pub fn moved(alloc: Global, line: &[u8], distance: u64) -> Result<Vec<u8>, AllocError> {
     let (operator, equals) = operator_of(line);
-    let spans = spans_of(alloc, line, equals.saturating_add(1))?;
     let mut out = Vec::new(alloc);
     out.extend_from_slice(line.get(..operator).unwrap_or(&[]))?;
     out.extend_from_slice(b":= * + ")?;
     let mut buffer = Buffer::new();
     out.extend_from_slice(buffer.format(distance).as_bytes())?;
-    if let Some(span) = spans.first() {
+    if let Some(span) = Spans::new(line, equals.saturating_add(1)).next() {
         put_rest(&mut out, line, span.to)?;
     }
     out.push(b'\n')?;

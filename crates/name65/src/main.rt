@@ -5,6 +5,7 @@
 //! is 0 if the text, the help text or the version was written, otherwise 1.
 #![tactic(auto)]
 
+mod by_address;
 mod changed_line;
 mod changes;
 mod command;
@@ -15,6 +16,7 @@ mod information;
 mod marks;
 mod named_text;
 mod names;
+mod plan;
 mod request;
 mod rewriting;
 mod spans;

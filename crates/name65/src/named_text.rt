@@ -2,24 +2,29 @@
 
 ghost use Rattle.std.specs.Prelude.{◌≡◌, IfErr, IfOk, IsTrue, Ok};
 ghost use Rattle.stmt65.specs.Meaning.{meaning_in};
-ghost use Rattle.stmt65.specs.Sources.{source_meaning};
+ghost use Rattle.stmt65.specs.Sources.{source_addresses, source_meaning};
 ghost use Rattle.name65.specs.NamedText.{IsNamed, MeansTheSame, Reports};
 
 use crate::changes::changed_text;
 use crate::failure::Failure;
 use info65::Tag;
 use std::alloc::{AllocError, Global};
-use stmt65::{AsmFaultKind, Source, assemble_source};
+use stmt65::{AsmFaultKind, Assembly, Source, assemble_lines, assemble_source};
 
-/// The bytes of the listing of this name.
-fn bytes_of(alloc: Global, name: &str, source: &Source<'_, '_, '_>) -> Result<Vec<u8>, Failure>
-    ensures bytes { IfOk result (λ bytes. source_meaning source.now ≡ Ok bytes.items) }
+/// What the listing of this name means.
+fn assembled<'t, 'b>(
+    alloc: &'b Global,
+    name: &str,
+    source: &Source<'t, '_, '_>,
+) -> Result<Assembly<'t, 'b, Global>, Failure>
+    ensures bytes { IfOk result (λ a. source_meaning source.now ≡ Ok a.bytes.items) }
+    ensures ends { IfOk result (λ a. a.ends.items ≡ source_addresses source.now) }
     ensures fault { IfErr result (Reports name.now source.now) }
 {
-    match assemble_source(alloc, source) {
-        Ok(bytes) => Ok(bytes),
+    match assemble_lines(alloc, source) {
+        Ok(assembly) => Ok(assembly),
         Err(fault) if fault.kind == AsmFaultKind::Memory => Err(Failure::Memory),
-        Err(fault) => Err(Failure::Line(String::from_str(alloc, name)?, fault)),
+        Err(fault) => Err(Failure::Line(String::from_str(*alloc, name)?, fault)),
     }
 }
 
@@ -59,9 +64,9 @@ pub fn named_text(
     ensures rest { IfOk result (λ text. IsNamed source.now tags.now used text.items) }
     ensures fault { IfErr result (Reports name.now source.now) }
 {
-    let bytes = bytes_of(alloc, name, source)?;
-    let text = changed_text(alloc, source, &bytes, tags, used)?;
-    if !means(alloc, source, &bytes, &text)? {
+    let assembly = assembled(&alloc, name, source)?;
+    let text = changed_text(alloc, source, &assembly, tags, used)?;
+    if !means(alloc, source, &assembly.bytes, &text)? {
         return Err(Failure::Changed);
     }
     Ok(text)

@@ -1,102 +1,59 @@
 //! The names of a listing, and which of them its lines use.
 
+use crate::by_address::ByAddress;
 use std::alloc::{AllocError, Global};
-use std::collections::{BTreeMap, BTreeSet};
-use stmt65::{Datum, Form, Language, Operation, Source, SourceLine, Value, read_line};
+use std::collections::BTreeSet;
+use stmt65::{Datum, Definition, Form, Operation, Source, SourceLine, Value, read_line};
 use text65::first_line;
 
-/// A name of an address, and whether it moves with the lines around it, as a label does.
-#[derive(Clone, Copy)]
-struct Name<'t> {
-    text: &'t [u8],
-    moves: bool,
-}
-
-/// The names of a listing by their values; and the names that its lines use, if that is asked for.
+/// The names of a listing by the addresses that are their values; and the names that its lines use, if that is asked for.
 #[derive(Drop)]
 pub struct Names<'t> {
-    by_value: BTreeMap<u64, Name<'t>>,
+    by_value: ByAddress<Definition<'t>>,
     used: Option<BTreeSet<&'t [u8]>>,
-}
-
-/// Whether a line may define a name.
-fn may_define(line: &[u8]) -> bool {
-    line.iter().any(|byte| *byte == b':' || *byte == b'=')
 }
 
 impl<'t> Names<'t> {
     /// No names yet.
-    pub fn none(alloc: Global, used: bool) -> Names<'t> {
+    pub fn none(alloc: Global) -> Names<'t> {
         Names {
-            by_value: BTreeMap::new(alloc),
-            used: if used {
-                Some(BTreeSet::new(alloc))
-            } else {
-                None
-            },
+            by_value: ByAddress::none(alloc),
+            used: None,
         }
     }
 
-    /// Takes the names of a text, by the address after each of its lines.
-    pub fn read(
+    /// Takes the names of these definitions. Of two names of one value the first counts, but one that moves with the lines around it, as a
+    /// label does, comes before one that does not.
+    pub fn take(&mut self, definitions: &[Definition<'t>]) -> Result<(), AllocError> {
+        for definition in definitions {
+            let Some(address) = definition.address() else {
+                continue;
+            };
+            match self.by_value.get(u64::from(address)) {
+                Some(first) if definition.constant || !first.constant => {}
+                _ => self.by_value.put(address, *definition)?,
+            }
+        }
+        Ok(())
+    }
+
+    /// Takes down which names the lines of a text use.
+    pub fn take_used(
         &mut self,
         alloc: Global,
         source: &Source<'t, '_, '_>,
-        ends: &[u64],
     ) -> Result<(), AllocError> {
-        let mut at = u64::from(source.start);
+        self.used = Some(BTreeSet::new(alloc));
         let mut rest = source.text;
-        let mut left = ends;
         'lines: while let Some((line, after)) = first_line(rest) {
-            let Some((end, later)) = left.split_first() else {
-                return Ok(());
-            };
-            if self.used.is_some() || may_define(line) {
-                self.read_line(alloc, source.language, at, line)?;
-            }
-            at = *end;
-            rest = after;
-            left = later;
-        }
-        Ok(())
-    }
-
-    /// Takes the name that a line at this address defines, and those that it uses.
-    fn read_line(
-        &mut self,
-        alloc: Global,
-        language: Language,
-        at: u64,
-        line: &'t [u8],
-    ) -> Result<(), AllocError> {
-        match read_line(alloc, language, line)? {
-            Some(SourceLine::Assignment(name, n)) => self.define(name, n.value(), false)?,
-            Some(SourceLine::PlaceAssignment(name, n)) => {
-                self.define(name, at.saturating_add(n.value()), true)?;
-            }
-            Some(SourceLine::Statement { label, operation }) => {
-                if let Some(name) = label {
-                    self.define(name, at, true)?;
-                }
+            if let Some(SourceLine::Statement { operation, .. }) = read_line(
+                alloc,
+                source.language,
+                line,
+            )? {
                 self.use_operation(&operation)?;
             }
-            None => {}
-        }
-        Ok(())
-    }
-
-    /// Of two names of one value the first counts, but one that moves comes before one that does not.
-    fn define(&mut self, text: &'t [u8], value: u64, moves: bool) -> Result<(), AllocError> {
-        let name = Name { text, moves };
-        match self.by_value.get_mut(&value) {
-            Some(first) => {
-                if moves && !first.moves {
-                    *first = name;
-                }
-            }
-            None => {
-                self.by_value.insert(value, name)?;
-            }
+            rest = after;
         }
         Ok(())
     }
@@ -164,11 +121,10 @@ impl<'t> Names<'t> {
 
     /// The name of an address, which is used from now on.
     pub fn name_at(&mut self, address: u16) -> Result<Option<&'t [u8]>, AllocError> {
-        match self.by_value.get(&u64::from(address)) {
-            Some(name) => {
-                let text = name.text;
-                self.use_name(text)?;
-                Ok(Some(text))
+        match self.by_value.get(u64::from(address)) {
+            Some(definition) => {
+                self.use_name(definition.name)?;
+                Ok(Some(definition.name))
             }
             None => Ok(None),
         }

@@ -1,7 +1,7 @@
 //! Writes a line anew, with other operands. Its columns stay where the new operands fit.
 
-use crate::spans::{is_blank, spans_of};
-use std::alloc::{AllocError, Global};
+use crate::spans::{Spans, is_blank};
+use std::alloc::AllocError;
 use stmt65::Half;
 
 /// What stands in the place of an operand.
@@ -71,18 +71,19 @@ fn put_operand(
 
 /// Appends the operands of a line from a place on, these in the place of those that it has, and the rest of the line.
 fn put_operands(
-    alloc: Global,
     out: &mut Vec<u8>,
     line: &[u8],
     from: usize,
     operands: &[Operand<'_>],
 ) -> Result<(), AllocError> {
-    let spans = spans_of(alloc, line, from)?;
+    let mut spans = Spans::new(line, from);
     let mut copied = from;
-    for (span, operand) in spans.iter().zip(operands) {
-        put_part(out, line, copied, span.from)?;
-        put_operand(out, line, span.from, span.to, *operand)?;
-        copied = span.to;
+    for operand in operands {
+        if let Some(span) = spans.next() {
+            put_part(out, line, copied, span.from)?;
+            put_operand(out, line, span.from, span.to, *operand)?;
+            copied = span.to;
+        }
     }
     put_rest(out, line, copied)
 }
@@ -115,17 +116,20 @@ fn put_names(out: &mut Vec<u8>, operands: &[Operand<'_>]) -> Result<(), AllocErr
 
 /// The line of a `.byte`, which ends at `word`, with halves of one kind: `.lobytes` or `.hibytes`.
 fn put_halves(
-    alloc: Global,
     out: &mut Vec<u8>,
     line: &[u8],
     word: usize,
     half: Half,
     operands: &[Operand<'_>],
 ) -> Result<(), AllocError> {
-    let spans = spans_of(alloc, line, word)?;
-    let (Some(first), Some(last)) = (spans.first(), spans.last()) else {
+    let mut spans = Spans::new(line, word);
+    let Some(first) = spans.next() else {
         return Ok(());
     };
+    let mut last = first;
+    for _ in 1..operands.len() {
+        last = spans.next().unwrap_or(last);
+    }
     put_part(out, line, 0, word.saturating_sub(b".byte".len()))?;
     out.extend_from_slice(match half {
         Half::Low => b".lobytes",
@@ -144,19 +148,25 @@ fn place_after(line: &[u8], byte: u8) -> usize {
     }
 }
 
-/// The line of an instruction whose operand `#E` becomes this one.
-pub fn immediate(alloc: Global, line: &[u8], operand: Operand<'_>) -> Result<Vec<u8>, AllocError> {
-    let mut out = Vec::new(alloc);
+/// Appends the line of an instruction whose operand `#E` becomes this one.
+pub fn put_immediate(
+    out: &mut Vec<u8>,
+    line: &[u8],
+    operand: Operand<'_>,
+) -> Result<(), AllocError> {
     let from = place_after(line, b'#');
-    put_part(&mut out, line, 0, from)?;
-    put_operands(alloc, &mut out, line, from, &[operand])?;
+    put_part(out, line, 0, from)?;
+    put_operands(out, line, from, &[operand])?;
     out.push(b'\n')?;
-    Ok(out)
+    Ok(())
 }
 
-/// The line of a directive whose operands become these. A `.byte` that has halves of one kind alone becomes `.lobytes` or `.hibytes`.
-pub fn table(alloc: Global, line: &[u8], operands: &[Operand<'_>]) -> Result<Vec<u8>, AllocError> {
-    let mut out = Vec::new(alloc);
+/// Appends the line of a directive whose operands become these. A `.byte` that has halves of one kind alone becomes `.lobytes` or `.hibytes`.
+pub fn put_table(
+    out: &mut Vec<u8>,
+    line: &[u8],
+    operands: &[Operand<'_>],
+) -> Result<(), AllocError> {
     let dot = place_after(line, b'.');
     let letters = line.get(dot..).unwrap_or(&[]);
     let word = dot.saturating_add(
@@ -166,12 +176,12 @@ pub fn table(alloc: Global, line: &[u8], operands: &[Operand<'_>]) -> Result<Vec
             .count(),
     );
     match common_half(operands) {
-        Some(half) => put_halves(alloc, &mut out, line, word, half, operands)?,
+        Some(half) => put_halves(out, line, word, half, operands)?,
         None => {
-            put_part(&mut out, line, 0, word)?;
-            put_operands(alloc, &mut out, line, word, operands)?;
+            put_part(out, line, 0, word)?;
+            put_operands(out, line, word, operands)?;
         }
     }
     out.push(b'\n')?;
-    Ok(out)
+    Ok(())
 }

@@ -1,7 +1,5 @@
 //! Where the operands of a line stand.
 
-use std::alloc::{AllocError, Global};
-
 /// From which byte of a line to before which one an operand stands.
 #[derive(Clone, Copy)]
 pub struct Span {
@@ -52,29 +50,44 @@ pub fn is_blank(byte: u8) -> bool {
     byte == b' ' || byte == b'\t'
 }
 
-/// The operands from a place of a line on, up to its comment, with commas between them.
-pub fn spans_of(alloc: Global, line: &[u8], from: usize) -> Result<Vec<Span>, AllocError> {
-    let mut spans = Vec::new(alloc);
+/// Goes over the operands of a line up to its comment, with commas between them.
+#[derive(Clone, Copy)]
+pub struct Spans<'t> {
+    line: &'t [u8],
+    /// Where the next one begins, if there is one.
+    begin: Option<usize>,
+}
+
+impl<'t> Spans<'t> {
+    /// The operands from a place of a line on. There is at least one, which may be empty.
+    pub fn new(line: &'t [u8], from: usize) -> Spans<'t> {
+        Spans {
+            line,
+            begin: Some(from),
+        }
+    }
+
+    /// The next operand.
+    pub fn next(&mut self) -> Option<Span> {
+        let begin = self.begin?;
+        let end = operand_end(self.line, begin);
+        self.begin = match self.line.get(end) {
+            Some(b',') => Some(end.saturating_add(1)),
+            _ => None,
+        };
+        Some(trimmed(self.line, begin, end))
+    }
+}
+
+/// The place of the comma after an operand, of the comment, or of the end of the line.
+fn operand_end(line: &[u8], begin: usize) -> usize {
     let mut spot = Spot::Plain;
-    let mut begin = from;
-    let mut end = line.len();
-    for at in from..line.len() {
+    for at in begin..line.len() {
         let byte = line[at];
-        if matches!(spot, Spot::Plain | Spot::Character) {
-            match byte {
-                b',' => {
-                    spans.push(trimmed(line, begin, at))?;
-                    begin = at + 1;
-                }
-                b';' | b'\r' => {
-                    end = at;
-                    break;
-                }
-                _ => {}
-            }
+        if matches!(spot, Spot::Plain | Spot::Character) && matches!(byte, b',' | b';' | b'\r') {
+            return at;
         }
         spot = spot_of(spot, byte);
     }
-    spans.push(trimmed(line, begin, end))?;
-    Ok(spans)
+    line.len().max(begin)
 }

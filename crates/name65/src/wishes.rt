@@ -1,11 +1,11 @@
 //! What the groups of the lines `#: ..` wish to stand at which address.
 
+use crate::by_address::ByAddress;
 use crate::complaint::{Complaint, Refusal};
 use crate::names::Names;
 use info65::{Tag, TagKind};
 use std::alloc::Global;
-use std::collections::BTreeMap;
-use stmt65::{Half, Source};
+use stmt65::{Assembly, Half, Source};
 
 /// What is to stand in the place of a byte or a word.
 #[derive(Clone, Copy)]
@@ -28,7 +28,7 @@ pub struct Wished<'t> {
 /// The wishes of all groups, the names of the listing, and the address after its last byte.
 #[derive(Drop)]
 pub struct Wishes<'t> {
-    by_address: BTreeMap<u16, Wished<'t>>,
+    by_address: ByAddress<Wished<'t>>,
     names: Names<'t>,
     end: u64,
 }
@@ -94,22 +94,25 @@ fn half_of(half: Half, address: u16) -> u8 {
 }
 
 impl<'t> Wishes<'t> {
-    /// The wishes of these groups for a text that means these bytes, by the address after each of its lines.
+    /// The wishes of these groups for a text, by what it means.
     pub fn new(
         alloc: Global,
         source: &Source<'t, '_, '_>,
-        ends: &[u64],
-        bytes: &[u8],
+        assembly: &Assembly<'t, '_, Global>,
         tags: &[Tag],
         used: bool,
     ) -> Result<Wishes<'t>, Refusal> {
-        let mut names = Names::none(alloc, used);
-        if used || tags.iter().any(|tag| needs_names(*tag)) {
-            names.read(alloc, source, ends)?;
+        let mut names = Names::none(alloc);
+        if used {
+            names.take_used(alloc, source)?;
         }
+        if tags.iter().any(|tag| needs_names(*tag)) {
+            names.take(assembly.names.definitions())?;
+        }
+        let bytes = assembly.bytes.as_slice();
         let end = u64::from(source.start).saturating_add(bytes.len() as u64);
         let mut wishes = Wishes {
-            by_address: BTreeMap::new(alloc),
+            by_address: ByAddress::none(alloc),
             names,
             end,
         };
@@ -205,18 +208,15 @@ impl<'t> Wishes<'t> {
             line: tag.line,
             wish,
         };
-        match self.by_address.insert(at, wished)? {
-            Some(_) => refused(tag, Complaint::Twice(at)),
-            None => Ok(()),
+        if self.by_address.get(u64::from(at)).is_some() {
+            return refused(tag, Complaint::Twice(at));
         }
+        Ok(self.by_address.put(at, wished)?)
     }
 
     /// What is wished to stand at an address.
     pub fn at(&self, address: u64) -> Option<Wished<'t>> {
-        if 0xFFFF < address {
-            return None;
-        }
-        self.by_address.get(&(address as u16)).copied()
+        self.by_address.get(address)
     }
 
     /// The address after the last byte.

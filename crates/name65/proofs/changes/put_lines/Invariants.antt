@@ -1,12 +1,13 @@
-use Rattle.std.proofs.Common.{◌≡◌, ◌++◌, length, map}
-use Rattle.text65.specs.Lines.{text_lines}
-use Rattle.name65.specs.Code.Changes.{text_seen}
-use Rattle.name65.specs.NamedText.{lines_text}
+use Rattle.std.proofs.Common.{length}
+use Rattle.stmt65.specs.Sources.{source_readings}
+use Rattle.name65.specs.NamedText.{touched_from}
+use Rattle.name65.proofs.ChangeLemmas.{AreAbove}
 use Rattle.name65.proofs.changes.put_lines.Given as goal
 
 abbrev pub invariant-lines : goal.invariant-lines
-invariant-lines l = l.out.items ++ lines_text (text_lines l.rest) (map text_seen l.left)
-    ≡ l.initial.out.items ++ lines_text (text_lines l.fn.text) (map text_seen l.fn.changes)
+invariant-lines l =
+    AreAbove l.fn.source.language l.fn.plan.marks.now l.fn.plan.used (touched_from l.fn.plan.marks.now l.fn.plan.used l.fn.source.start (source_readings l.fn.source) l.fn.ends)
+    l.fn.source.text.now l.out.items l.at l.rest l.left
 
 abbrev pub decreases-lines : goal.decreases-lines
 decreases-lines l = length l.rest

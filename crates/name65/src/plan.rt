@@ -1,0 +1,23 @@
+//! What is asked of the lines of a listing.
+
+use crate::wishes::Wishes;
+use std::alloc::Global;
+use stmt65::Language;
+
+/// Which addresses groups name, whether the constant lines of unused names are left out, and what groups wish.
+#[derive(Clone, Copy)]
+pub struct Plan<'w, 't> {
+    pub alloc: Global,
+    pub marks: &'w [bool],
+    pub used: bool,
+    pub wishes: &'w Wishes<'t>,
+}
+
+/// A line without its line feed, in its language. It gives the bytes from `at` to before `end`.
+#[derive(Clone, Copy)]
+pub struct PlacedLine<'t> {
+    pub language: Language,
+    pub line: &'t [u8],
+    pub at: u64,
+    pub end: u64,
+}
