@@ -352,6 +352,15 @@ own_outputs() {
             [ $run = compare ] && [ "$by" != appending ] || own_output
         done
     done
+    case $run in as65 | name65) ;; *) return ;; esac
+    # One number on two devices is not one file.
+    ! has_shim || {
+        begin
+        ln in/t.s in/link
+        out=in/link
+        LD_PRELOAD=$work/shim.so SHIM_ELSEWHERE=in/link go
+        wrote 'the output is on another device' in/link
+    }
 }
 
 # creates OUTPUT SAID [OF_TRACE65 [OF_NAME65]]: what is said of an output of this name. Where that is nothing, what is written goes there.
