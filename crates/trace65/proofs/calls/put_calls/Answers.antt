@@ -23,4 +23,5 @@ routines-preserved c =
     let start : c.from-start.result ≡ m.image.start = c.from-start.ensures ∙ c.start.ensures ∙ ap (λ i. i.start) c.image-image.ensures.image ∙ ap (λ m. m.image.start) c.map.ensures in
     comments-more m (λ b. comments_of_calls tags (count_by (is_failing f marks b) (all_of m)) (count_by (is_call m marks b) (all_of m)) b) c.routines.k t
     c.args.out.now.items c.routines.out.items c.put.new.out.items (ap (λ n. n + c.routines.k) start) c.routines.invariant
-    (c.in_ok-put.ensures ∙ ap₂ (λ x y. c.routines.out.items ++ flat_map comment_line (comments_of_calls tags x y t)) (c.in_ok-calls.ensures.failing t) (c.in_ok-calls.ensures.all t))
+    (c.in_ok-put.ensures ∙ ap₂ (λ x y. c.routines.out.items ++ flat_map comment_line (comments_of_calls c.tags.result.now x y t)) (c.in_ok-calls.ensures.failing t) (c.in_ok-calls.ensures.all t)
+    ∙ ap (λ l. c.routines.out.items ++ flat_map comment_line (comments_of_calls l (count_by (is_failing f marks t) (all_of m)) (count_by (is_call m marks t) (all_of m)) t)) c.tags.ensures)
