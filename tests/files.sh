@@ -215,7 +215,6 @@ unusable_inputs() {
     rename ''
     go
     refuses 'an input without a name' 'cannot read @'
-    [ $tool = as65 ] || return
     begin
     rename $'in/a\nb\nc'
     go
@@ -339,7 +338,6 @@ own_output() {
         says "the output is $input, by $by" $fine ''
         cp wanted before
         ;;
-    name65-appending-*) says "the output is $input, by $by" $trouble 'the output is an input: /dev/stdout' ;;
     *) says "the output is $input, by $by" $trouble "the output is an input: ${out/none/${name[$input]}}" ;;
     esac
     has "the output is $input, by $by" "${name[$input]}" before
@@ -404,6 +402,16 @@ outputs() {
     go
     [ $run = trace65 ] || wrote 'an output that is there' in/out
     [ $run != trace65 ] || says 'an output that is there' 1 'in/out exists'
+    [ $run = trace65 ] || {
+        begin
+        out=/dev/stdout
+        command_line
+        { echo old; "$program" "${words[@]}" 2>stderr; } >appended
+        status=$?
+        { echo old; wanted; } >wanted
+        says 'an output called /dev/stdout' $fine ''
+        has 'an output called /dev/stdout' appended wanted
+    }
     begin
     chmod 0 in/out 2>/dev/null || : >in/out
     input=out

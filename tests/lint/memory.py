@@ -11,7 +11,7 @@ ANSWERS = ("AllocError", "AllocFailed", "OutOfMemory", "out_of_memory")
 # Those that stand after `::` alone.
 VARIANTS = ("Memory", "MEMORY")
 ALLOWED = """
-as65 Failure::from 3
+as65 Failure::from 1
 as65 failure_of 5
 as65 information_in 2
 da65 all_names 2
@@ -24,6 +24,7 @@ da65 stop_of 2
 da65_cli Failure::from 1
 files65 FileFault::from 1
 files65 FileFault::of_error 2
+files65 FileFault::of_opening 1
 files65 contents 2
 files65 read_from 2
 info65 InfoFault::MEMORY 1
@@ -32,7 +33,7 @@ info65 InfoFaultKind::text 1
 info65 narrow 1
 map65 ImageFault::from 2
 map65 TakeFault::from 1
-name65 Failure::from 5
+name65 Failure::from 3
 name65 Refusal::from 2
 name65 assembled 2
 name65 failure_of 2
@@ -42,6 +43,7 @@ stmt65 AsmFault::from 1
 stmt65 Symbols::define 2
 trace65 Failure::from 1
 trace65 failure_of 2
+usage65 RequestFault::from 3
 usage65 UsageFault::from 2
 usage65 UsageFault::of_words 2
 usage65 accepted 2

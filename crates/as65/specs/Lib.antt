@@ -7,8 +7,6 @@ pub mod FaultyLine
 pub mod Hint
 pub mod Image
 pub mod Information
-pub mod Listing
-pub mod Message
 pub mod NamedStart
 pub mod Origins
 pub mod Request

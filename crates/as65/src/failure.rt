@@ -8,33 +8,21 @@ use info65::InfoFault;
 use std::alloc::AllocError;
 use stmt65::AsmFault;
 use thiserror::Error;
-use usage65::UsageFault;
+use usage65::RequestFault;
 
 /// What ends the program early.
 #[derive(Debug, Drop, Error)]
 pub enum Failure {
-    /// The command line is refused.
+    /// The command line is refused, or nothing says where the bytes begin.
     #[error("{0}")]
-    Usage(UsageFault),
-    /// Neither a start address nor an image is given.
-    #[error("no start address: give -S, or --compare an image that ends at $FFFF")]
-    NoStart,
-    /// The output of this name is the listing or the image.
-    #[error("the output is an input: {0}")]
-    OutputIsInput(String),
-    /// Standard input would have to be two of the inputs.
-    #[error("standard input can be only one of the inputs")]
-    StandardTwice,
-    /// The stream of this name would have to be two of the inputs.
-    #[error("{0} can be only one of the inputs")]
-    StreamTwice(String),
+    Request(RequestFault),
     /// The information file is refused.
     #[error("info:{0}")]
     Info(InfoFault),
     /// Memory ran out.
     #[error("out of memory")]
     Memory,
-    /// A file can't be read or created.
+    /// A file can't be used.
     #[error("{0}")]
     File(FileFault),
     /// The image to compare with has fewer bytes than INPUTSIZE asks for.
@@ -46,16 +34,10 @@ pub enum Failure {
     /// The image to compare with has more than 65,536 bytes, or extends past $FFFF.
     #[error("the image is too large")]
     LargeImage,
-    /// The listing of this name has no byte, or gives none.
-    #[error("{0}: no bytes")]
-    EmptyListing(String),
-    /// The listing has more than 64 MiB.
-    #[error("input is too large")]
-    LargeListing,
     /// A line of the listing of this name has a fault; and what is said after its text.
     #[error("{0}:{1}")]
     Line(String, AsmFault, Vec<u8>),
-    /// A write of the bytes, of the differences, of the help text or of the version failed.
+    /// A write of the bytes or of the differences failed.
     #[error("cannot write the output")]
     Writing,
     /// A write of a message failed, so nothing more is said.
@@ -85,16 +67,13 @@ impl From<AllocError> for Failure {
     }
 }
 
-impl From<UsageFault> for Failure {
-    ghost use Rattle.as65.specs.Request.{failure_for};
+impl From<RequestFault> for Failure {
+    ghost use Rattle.as65.specs.declared.failure.Failure.TheVariants.{Request};
 
-    ghost from_gives = { λ e f. f ≡ failure_for e };
+    ghost from_gives = { λ e f. f ≡ Request e };
 
-    fn from(fault: UsageFault) -> Failure {
-        match fault {
-            UsageFault::Memory => Failure::Memory,
-            _ => Failure::Usage(fault),
-        }
+    fn from(fault: RequestFault) -> Failure {
+        Failure::Request(fault)
     }
 }
 

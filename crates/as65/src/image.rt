@@ -44,11 +44,6 @@ fn image_in<R: Source>(
 
 /// The image of the file of this name.
 pub fn image(rt: &HostRuntime, name: &str, info: &Info) -> Result<Image, Failure> {
-    match Input::open(rt, name) {
-        Ok(mut input) => image_in(rt.alloc(), info, &mut input, name),
-        Err(error) => {
-            let name = String::from_str(rt.alloc(), name)?;
-            Err(Failure::File(FileFault::of_error(&error, FileFault::Reading(name))))
-        }
-    }
+    let mut input = Input::open(rt, name)?;
+    image_in(rt.alloc(), info, &mut input, name)
 }

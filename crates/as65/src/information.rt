@@ -5,7 +5,7 @@ ghost use Rattle.info65.specs.Reader.{information};
 ghost use Rattle.as65.specs.Information.{IsRefused, options_at, placed_at};
 
 use crate::failure::Failure;
-use files65::{INFORMATION_LIMIT, needed_contents};
+use files65::read_information;
 use info65::{Info, InfoFaultKind, Options, Settings, read_info};
 use std::alloc::Global;
 
@@ -15,14 +15,7 @@ pub fn information(
     name: Option<&str>,
     start: Option<u16>,
 ) -> Result<Info, Failure> {
-    match name {
-        Some(name) => information_in(
-            rt.alloc(),
-            start,
-            &needed_contents(rt, name, INFORMATION_LIMIT)?,
-        ),
-        None => information_in(rt.alloc(), start, &[]),
-    }
+    information_in(rt.alloc(), start, &read_information(rt, name)?)
 }
 
 /// What these bytes say, under the start of the command line.

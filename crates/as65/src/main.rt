@@ -19,7 +19,6 @@ mod message;
 mod named_start;
 mod origins;
 mod request;
-mod same_file;
 mod segment_starts;
 mod status;
 mod stretches;
@@ -28,45 +27,25 @@ use assembled::Assembled;
 use command::this_program;
 use comparison::compare;
 use failure::Failure;
-use files65::{Output, Placeholders};
+use files65::{Output, Placeholders, keep_apart, keep_inputs, read_listing, write_text};
 use image::image;
 use info65::Info;
 use information::{information, placed_at};
-use listing::{listing, need_bytes};
+use listing::need_bytes;
 use map65::Image;
 use message::{say, say_named_start, say_start};
 use named_start::named_start;
 use request::{Comparing, Request, Writing, is_compared_by, is_comparing, request_of};
-use same_file::{keep_apart, keep_input, keep_source};
 use segment_starts::layout_of;
 use status::{Ended, status_of};
-use std::io::Write;
 use std::process::ExitCode;
 use stmt65::{Language, Layout, Source};
-use usage65::words_of;
+use usage65::{Names, RequestFault, words_of};
 
 /// Writes a text about the program on standard output.
 fn tell(rt: &HostRuntime, text: &[u8]) -> Result<Ended, Failure> {
-    match rt.stdout().write_all(text) {
-        Ok(()) => Ok(Ended::Done),
-        Err(_) => Err(Failure::Writing),
-    }
-}
-
-/// The start of a listing that is not compared. Its output may not be the input of the information file.
-fn start_under(rt: &HostRuntime, writing: &Writing, info: &Info) -> Result<u16, Failure> {
-    keep_source(rt, writing.output.as_deref(), info.settings())?;
-    placed_at(info.settings()).ok_or(Failure::NoStart)
-}
-
-/// Refuses an output that is an input, and two inputs that are one stream.
-fn keep_inputs(rt: &HostRuntime, writing: &Writing) -> Result<(), Failure> {
-    let output = writing.output.as_deref();
-    if let Some(info) = writing.info.as_deref() {
-        keep_input(rt, output, info)?;
-        keep_apart(rt, info, writing.listing.as_str())?;
-    }
-    keep_input(rt, output, writing.listing.as_str())
+    write_text(&mut Output::standard(rt), text)?;
+    Ok(Ended::Done)
 }
 
 /// A text as people edit it, with segments that begin where the layout says.
@@ -95,21 +74,30 @@ fn write_bytes(
 
 /// Reads the listing, and writes its bytes.
 fn write_under(rt: &HostRuntime, writing: Writing, info: &Info) -> Result<Ended, Failure> {
-    let start = start_under(rt, &writing, info)?;
-    let layout = layout_of(rt.alloc(), info.segments(), writing.fill)?;
-    let Writing {
-        listing: name,
+    let start = placed_at(info.settings()).ok_or(RequestFault::NoStart)?;
+    let Writing { names, place } = writing;
+    let layout = layout_of(rt.alloc(), info.segments(), place.fill)?;
+    let Names {
+        listing,
         output,
         ..
-    } = writing;
-    let text = listing(rt, name.as_str())?;
-    write_bytes(rt, name.as_str(), &repair(&layout, start, &text), output)
+    } = names;
+    let text = read_listing(rt, listing.as_str())?;
+    write_bytes(rt, listing.as_str(), &repair(&layout, start, &text), output)
 }
 
-/// Reads what says where the image is, and writes it.
+/// Reads what says where the image is, and writes it. Its output may not be the input of the information file either.
 fn write_image(rt: &HostRuntime, writing: Writing) -> Result<Ended, Failure> {
-    keep_inputs(rt, &writing)?;
-    let info = information(rt, writing.info.as_deref(), writing.start)?;
+    let Names {
+        listing,
+        info,
+        output,
+    } = &writing.names;
+    let inputs = [info.as_deref(), Some(listing.as_str())];
+    keep_inputs(rt, output.as_deref(), &inputs)?;
+    keep_apart(rt, &inputs)?;
+    let info = information(rt, info.as_deref(), writing.place.start)?;
+    keep_inputs(rt, output.as_deref(), &[info.settings().input.as_deref()])?;
     write_under(rt, writing, &info)
 }
 
@@ -136,7 +124,7 @@ fn compare_text(
     is_assumed: bool,
     source: &Source<'_, '_, '_>,
 ) -> Result<Ended, Failure> {
-    let name = comparing.listing.as_str();
+    let name = comparing.names.listing.as_str();
     let assembled = Assembled::new(rt.alloc(), source, name)?;
     need_bytes(rt.alloc(), &assembled, name)?;
     if is_assumed && image.bytes() != assembled.bytes() {
@@ -148,8 +136,8 @@ fn compare_text(
 /// Reads the image and the listing, and compares them.
 fn compare_under(rt: &HostRuntime, comparing: &Comparing, info: &Info) -> Result<Ended, Failure> {
     let image = image(rt, comparing.image.as_str(), info)?;
-    let layout = layout_of(rt.alloc(), info.segments(), comparing.fill)?;
-    let text = listing(rt, comparing.listing.as_str())?;
+    let layout = layout_of(rt.alloc(), info.segments(), comparing.place.fill)?;
+    let text = read_listing(rt, comparing.names.listing.as_str())?;
     compare_text(
         rt,
         comparing,
@@ -159,41 +147,28 @@ fn compare_under(rt: &HostRuntime, comparing: &Comparing, info: &Info) -> Result
     )
 }
 
-/// Refuses an output, which is standard output, that is an input, and two inputs that are one stream.
-fn keep_compared(rt: &HostRuntime, comparing: &Comparing) -> Result<(), Failure> {
-    let (image, listing) = (comparing.image.as_str(), comparing.listing.as_str());
-    keep_input(rt, None, image)?;
-    keep_input(rt, None, listing)?;
-    if let Some(info) = comparing.info.as_deref() {
-        keep_input(rt, None, info)?;
-        keep_apart(rt, info, image)?;
-        keep_apart(rt, info, listing)?;
-    }
-    keep_apart(rt, image, listing)
-}
-
-/// Reads what says where the image is, and compares.
+/// Reads what says where the image is, and compares. The output is standard output.
 fn compare_with(rt: &HostRuntime, comparing: &Comparing) -> Result<Ended, Failure> {
-    keep_compared(rt, comparing)?;
-    let info = information(rt, comparing.info.as_deref(), comparing.start)?;
-    keep_source(rt, None, info.settings())?;
+    let Comparing {
+        names,
+        place,
+        image,
+    } = comparing;
+    let info = names.info.as_deref();
+    let inputs = [info, Some(image.as_str()), Some(names.listing.as_str())];
+    keep_inputs(rt, None, &inputs)?;
+    keep_apart(rt, &inputs)?;
+    let info = information(rt, info, place.start)?;
+    keep_inputs(rt, None, &[info.settings().input.as_deref()])?;
     compare_under(rt, comparing, &info)
-}
-
-fn help(rt: &HostRuntime) -> Result<Ended, Failure> {
-    tell(rt, &this_program().help_text(rt.alloc())?)
-}
-
-fn version(rt: &HostRuntime) -> Result<Ended, Failure> {
-    tell(rt, &this_program().version_text(rt.alloc())?)
 }
 
 fn program(rt: &HostRuntime, words: &[String]) -> Result<Ended, Failure> {
     // Messages to a closed standard error must not end up in the output file.
     let _placeholders = Placeholders::take(rt)?;
     match request_of(rt.alloc(), words)? {
-        Request::Help => help(rt),
-        Request::Version => version(rt),
+        Request::Help => tell(rt, &this_program().help_text(rt.alloc())?),
+        Request::Version => tell(rt, &this_program().version_text(rt.alloc())?),
         Request::Write(writing) => write_image(rt, writing),
         Request::Compare(comparing) => compare_with(rt, &comparing),
     }
@@ -210,6 +185,10 @@ fn end(rt: &HostRuntime, is_comparing: bool, outcome: Result<Ended, Failure>) ->
 fn main(rt: HostRuntime) -> ExitCode {
     match words_of(&rt) {
         Ok(words) => end(&rt, is_comparing(&words), program(&rt, &words)),
-        Err(fault) => end(&rt, is_compared_by(&rt), Err(Failure::from(fault))),
+        Err(fault) => end(
+            &rt,
+            is_compared_by(&rt),
+            Err(Failure::Request(RequestFault::from(fault))),
+        ),
     }
 }

@@ -1,19 +1,19 @@
 //! What a command line asks for.
 
-ghost use Rattle.std.specs.Prelude.{◌≡◌, map, option_map};
+ghost use Rattle.std.specs.Prelude.{◌≡◌, map};
 ghost use Rattle.std.specs.String.{string_bytes};
 ghost use Rattle.clap.specs.Words.{found_of, rows_of};
+ghost use Rattle.usage65.specs.Requests.{Gives};
 ghost use Rattle.as65.specs.Code.Requests.{given_of};
-ghost use Rattle.as65.specs.Request.{Gives, asked, asked_in, asked_of, is_compare_word, is_comparing, to_compare, to_write, to_write_into};
+ghost use Rattle.as65.specs.Request.{asked, asked_in, asked_of, is_compare_word, is_comparing, to_compare, to_write};
 
 use crate::command::this_program;
-use crate::failure::Failure;
 use clap::ArgMatches;
 use std::alloc::Global;
 use std::env::{Env, FillError};
 use usage65::{
-    STANDARD_INPUT, UsageFault, address_of, byte_of, info_named, input_named, is_name, is_set,
-    is_taken, output_named, owned, text_of,
+    Names, RequestFault, UsageFault, address_of, byte_of, info_named, input_named, is_set,
+    is_taken, names_apart, output_named, text_of,
 };
 
 /// The length of `--compare=`, which is the longest that is looked for in a word.
@@ -28,37 +28,37 @@ pub enum Request {
     Compare(Comparing),
 }
 
-/// The bytes of a listing are to be written.
-#[derive(Drop)]
-pub struct Writing {
-    pub listing: String,
-    pub info: Option<String>,
-    /// The address of the first byte; without one the information file says where it is.
+/// What says where the bytes of a listing belong.
+#[derive(Clone, Copy)]
+pub struct Place {
+    /// The address of the first byte; without one the information file says where it is, or the image ends at $FFFF.
     pub start: Option<u16>,
     /// The byte between segments that begin at their START; without one the segments move nothing.
     pub fill: Option<u8>,
-    /// The file that they are written to; without one standard output.
-    pub output: Option<String>,
 }
 
-/// A listing is to be compared with an image.
+/// The bytes of a listing are to be written.
+#[derive(Drop)]
+pub struct Writing {
+    pub names: Names,
+    pub place: Place,
+}
+
+/// A listing is to be compared with an image. The output is standard output.
 #[derive(Drop)]
 pub struct Comparing {
-    pub listing: String,
-    pub info: Option<String>,
-    /// The start of both; without one it is that of the information file, or the image ends at $FFFF.
-    pub start: Option<u16>,
-    pub fill: Option<u8>,
+    pub names: Names,
+    pub place: Place,
     pub image: String,
 }
 
-/// What is given for both: the listing, and what says where its bytes belong.
+/// What is given for both.
 #[derive(Clone, Copy)]
 struct Given<'a> {
     listing: &'a str,
     info: Option<&'a str>,
-    start: Option<u16>,
-    fill: Option<u8>,
+    output: Option<&'a str>,
+    place: Place,
 }
 
 /// Whether a comparison is asked for, however well: trouble then has a status of its own.
@@ -105,7 +105,7 @@ pub fn is_compared_by<E: Env>(process: &E) -> bool {
 /// is looked at. Then the start is read, no output may stand beside an image, and without one there must be a start. The
 /// output may not have the name of the listing, nor may standard input be both the listing and the image.
 #[tactic(auto, unfolding(crate::specs::Request::asked), using(crate::proofs::CommandLemmas::app_is_plain))]
-pub fn request_of(alloc: Global, words: &[String]) -> Result<Request, Failure>
+pub fn request_of(alloc: Global, words: &[String]) -> Result<Request, RequestFault>
     ensures { Gives asked_of result (asked (map string_bytes words.now)) }
 {
     let matches = this_program().matches(alloc, words)?;
@@ -114,7 +114,7 @@ pub fn request_of(alloc: Global, words: &[String]) -> Result<Request, Failure>
 
 /// What the matches ask for.
 #[tactic(auto, unfolding(crate::specs::Request::asked_in))]
-fn request_in(alloc: Global, matches: &ArgMatches) -> Result<Request, Failure>
+fn request_in(alloc: Global, matches: &ArgMatches) -> Result<Request, RequestFault>
     ensures { Gives asked_of result (asked_in (rows_of (found_of matches.now))) }
 {
     if is_set(matches, "help") {
@@ -125,89 +125,58 @@ fn request_in(alloc: Global, matches: &ArgMatches) -> Result<Request, Failure>
     }
     let start = address_of(matches, "start")?;
     let fill = byte_of(matches, "fill")?;
-    let info = info_named(text_of(matches, "info"));
-    let listing = input_named(text_of(matches, "listing"));
     let given = Given {
-        listing,
-        info,
-        start,
-        fill,
+        listing: input_named(text_of(matches, "listing")),
+        info: info_named(text_of(matches, "info")),
+        output: output_named(text_of(matches, "output")),
+        place: Place { start, fill },
     };
-    let output = output_named(text_of(matches, "output"));
     match text_of(matches, "compare") {
-        Some(_) if output.is_some() => Err(Failure::Usage(UsageFault::Words)),
         Some(image) => to_compare(alloc, given, input_named(Some(image))),
-        None => to_write(alloc, given, output),
+        None => to_write(alloc, given),
     }
 }
 
 /// The bytes of a listing are to be written: there is a start, or an information file that may have one.
 #[tactic(auto, unfolding(crate::specs::Request::to_write))]
-fn to_write(alloc: Global, given: Given<'_>, output: Option<&str>) -> Result<Request, Failure>
-    ensures { Gives asked_of result (to_write (given_of given.entry) (option_map (λ s. s.now) output.entry)) }
-{
-    if !(given.start.is_some() || given.info.is_some()) {
-        return Err(Failure::NoStart);
-    }
-    if is_taken(given.info, given.listing) {
-        return Err(Failure::StandardTwice);
-    }
-    to_write_into(alloc, given, output)
-}
-
-/// The output is none of the inputs.
-#[tactic(auto, unfolding(crate::specs::Request::to_write_into))]
-fn to_write_into(alloc: Global, given: Given<'_>, output: Option<&str>) -> Result<Request, Failure>
-    ensures { Gives asked_of result (to_write_into (given_of given.entry) (option_map (λ s. s.now) output.entry)) }
+fn to_write(alloc: Global, given: Given<'_>) -> Result<Request, RequestFault>
+    ensures { Gives asked_of result (to_write (given_of given.entry)) }
 {
     let Given {
         listing,
         info,
-        start,
-        fill,
-    } = given;
-    if let Some(name) = output {
-        if name == listing || is_name(info, name) {
-            return Err(Failure::OutputIsInput(String::from_str(alloc, name)?));
-        }
-    }
-    let listing = String::from_str(alloc, listing)?;
-    let info = owned(alloc, info)?;
-    let output = owned(alloc, output)?;
-    Ok(Request::Write(Writing {
-        listing,
-        info,
-        start,
-        fill,
         output,
-    }))
+        place,
+    } = given;
+    if !(place.start.is_some() || info.is_some()) {
+        return Err(RequestFault::NoStart);
+    }
+    let names = names_apart(alloc, listing, info, output)?;
+    Ok(Request::Write(Writing { names, place }))
 }
 
-/// A listing is to be compared with an image. Standard input can be only one of the inputs.
+/// A listing is to be compared with an image, without another output. Standard input can be only one of the inputs.
 #[tactic(auto, unfolding(crate::specs::Request::to_compare))]
-fn to_compare(alloc: Global, given: Given<'_>, image: &str) -> Result<Request, Failure>
+fn to_compare(alloc: Global, given: Given<'_>, image: &str) -> Result<Request, RequestFault>
     ensures { Gives asked_of result (to_compare (given_of given.entry) image.now) }
 {
     let Given {
         listing,
         info,
-        start,
-        fill,
+        output,
+        place,
     } = given;
-    if listing == STANDARD_INPUT && image == STANDARD_INPUT {
-        return Err(Failure::StandardTwice);
+    if output.is_some() {
+        return Err(RequestFault::Usage(UsageFault::Words));
     }
-    if is_taken(info, listing) || is_taken(info, image) {
-        return Err(Failure::StandardTwice);
+    if is_taken(Some(listing), image) || is_taken(info, image) {
+        return Err(RequestFault::StandardTwice);
     }
-    let listing = String::from_str(alloc, listing)?;
-    let info = owned(alloc, info)?;
+    let names = names_apart(alloc, listing, info, None)?;
     let image = String::from_str(alloc, image)?;
     Ok(Request::Compare(Comparing {
-        listing,
-        info,
-        start,
-        fill,
+        names,
+        place,
         image,
     }))
 }

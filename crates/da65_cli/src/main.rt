@@ -10,7 +10,6 @@ mod block;
 mod buffered;
 mod failure;
 mod include_files;
-mod information;
 mod listing;
 mod message_buffer;
 
@@ -19,11 +18,9 @@ use da65::{
     this_program,
 };
 use failure::Failure;
-use files65::{FileFault, Input, Output, Placeholders};
+use files65::{FileFault, Input, Output, Placeholders, read_information, say, write_text};
 use include_files::{Content, files_for_run, include_files};
-use information::information;
 use listing::{Listed, run_read_buffered};
-use std::io::Write;
 use std::process::ExitCode;
 use usage65::words_of;
 
@@ -35,7 +32,7 @@ fn options(rt: &HostRuntime) -> Result<Options, Failure> {
 
 /// Writes a text about the program on standard output.
 fn tell(rt: &HostRuntime, text: &[u8]) -> Result<Status, Failure> {
-    match rt.stdout().write_all(text) {
+    match write_text(&mut Output::standard(rt), text) {
         Ok(()) => Ok(Status::Done),
         Err(_) => Err(Failure::Run(RunFault::Messages)),
     }
@@ -69,10 +66,8 @@ fn devices(
     let Some(name) = input else {
         return Ok((Input::Nothing, Output::standard(rt)));
     };
-    match Input::open(rt, name.as_str()) {
-        Ok(input) => Ok((input, Output::create(rt, output)?)),
-        Err(error) => Err(FileFault::of_error(&error, FileFault::Reading(name))),
-    }
+    let input = Input::open(rt, name.as_str())?;
+    Ok((input, Output::create(rt, output)?))
 }
 
 /// Opens the input and the output, and lists.
@@ -90,27 +85,23 @@ fn list_with(
 
 /// Reads the information file and its include files, and lists under them.
 fn list_under(rt: &HostRuntime, options: &Options) -> Result<Status, Failure> {
-    let read = read_info(rt.alloc(), options, &information(rt, &options.info)?);
+    let read = read_info(
+        rt.alloc(),
+        options,
+        &read_information(rt, options.info.as_deref())?,
+    );
     let needs = needs_read(rt.alloc(), &read)?;
     let contents = include_files(rt, needs.includes)?;
     list_with(rt, read, &contents, needs.input, needs.output)
 }
 
-fn help(rt: &HostRuntime) -> Result<Status, Failure> {
-    tell(rt, &this_program().help_text(rt.alloc())?)
-}
-
-fn version(rt: &HostRuntime) -> Result<Status, Failure> {
-    tell(rt, &this_program().version_text(rt.alloc())?)
-}
-
 /// Does what the options ask for.
 fn run_options(rt: &HostRuntime, options: &Options) -> Result<Status, Failure> {
     if options.help {
-        return help(rt);
+        return tell(rt, &this_program().help_text(rt.alloc())?);
     }
     if options.version {
-        return version(rt);
+        return tell(rt, &this_program().version_text(rt.alloc())?);
     }
     list_under(rt, options)
 }
@@ -127,7 +118,7 @@ fn main(rt: HostRuntime) -> ExitCode {
         Ok(Status::Done) => ExitCode::SUCCESS,
         Ok(Status::Refused) | Err(Failure::Run(RunFault::Messages)) => ExitCode::FAILURE,
         Err(failure) => {
-            let _ = eprintln!(rt; "da65: {failure}");
+            let _ = say(&rt, "da65", format!(in rt.alloc(); "{failure}"), &[]);
             ExitCode::FAILURE
         }
     }

@@ -1,10 +1,13 @@
 //! What is read.
 
+ghost use Rattle.std.specs.Prelude.{IfErr};
 ghost use Rattle.files65.specs.Devices.{input_failed, input_faults, input_left};
+ghost use Rattle.files65.specs.Faults.{IsUnread};
 
+use crate::fault::FileFault;
 use map65::{DeviceFault, Source, Told};
 use std::fs::File;
-use std::io::{Result as IoResult, Stdin};
+use std::io::Stdin;
 
 /// What is read. A read that fails is not tried again.
 #[derive(Drop)]
@@ -17,14 +20,26 @@ pub enum Input {
     Nothing,
 }
 
+/// The file of this name, open for reading.
+pub(crate) fn opened(rt: &HostRuntime, name: &str) -> Result<File, FileFault>
+    ensures { IfErr result (IsUnread name.now) }
+{
+    match File::open(rt, name) {
+        Ok(file) => Ok(file),
+        Err(error) => Err(FileFault::of_opening(rt.alloc(), &error, name)),
+    }
+}
+
 impl Input {
-    /// Opens the file of this name. `/dev/stdin` is standard input.
-    pub fn open(rt: &HostRuntime, name: &str) -> IoResult<Input> {
+    /// Opens the file of this name. `/dev/stdin` is standard input. Fails with `Reading`.
+    pub fn open(rt: &HostRuntime, name: &str) -> Result<Input, FileFault>
+        ensures { IfErr result (IsUnread name.now) }
+    {
         // A pipe that another user made can be read, but not opened by its name.
         if name == "/dev/stdin" {
             return Ok(Input::Standard(Told::new(rt.stdin())));
         }
-        Ok(Input::File(Told::new(File::open(rt, name)?)))
+        Ok(Input::File(Told::new(opened(rt, name)?)))
     }
 }
 

@@ -1,12 +1,14 @@
 //! The files of a program, by their names.
 //!
-//! [`Input::open`] opens what is read and [`Output::create`] creates what is written. [`contents`] and
-//! [`needed_contents`] read a whole file up to a limit. [`Placeholders`] stand for standard streams that are
-//! closed. [`are_one_file`] and [`are_one_stream`] say whether two names are of one. A [`FileFault`] is what can go wrong.
+//! [`Input::open`] opens what is read and [`Output::create`] creates what is written, by [`write_text`]. [`read_information`] and [`read_listing`]
+//! read such a file up to its limit, [`contents`] any other. [`Placeholders`] stand for standard streams that are closed. [`keep_inputs`],
+//! [`keep_apart`] and [`need_plain`] refuse an output that is an input, a stream that is two inputs, and an output that is no file. [`say`]
+//! says why a program gives up. A [`FileFault`] is what can go wrong.
 #![tactic(auto)]
 
 mod fault;
 mod input;
+mod message;
 mod output;
 mod placeholders;
 mod reading;
@@ -14,7 +16,10 @@ mod same;
 
 pub use fault::FileFault;
 pub use input::Input;
-pub use output::Output;
+pub use message::say;
+pub use output::{Output, write_text};
 pub use placeholders::Placeholders;
-pub use reading::{INFORMATION_LIMIT, contents, needed_contents, read_from};
-pub use same::{STANDARD_OUTPUT, are_one_file, are_one_stream, is_special};
+pub use reading::{
+    INFORMATION_LIMIT, contents, needed_contents, read_from, read_information, read_listing,
+};
+pub use same::{keep_apart, keep_inputs, need_plain};

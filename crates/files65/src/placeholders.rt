@@ -4,6 +4,7 @@ ghost use Rattle.std.specs.Prelude.{codes, IfErr};
 ghost use Rattle.files65.specs.Faults.{IsUnread};
 
 use crate::fault::FileFault;
+use crate::input::opened;
 use std::fs::File;
 
 /// What takes the numbers of the standard streams that are closed, as long as it lives. Else a file that is
@@ -26,18 +27,5 @@ impl Placeholders {
             output: opened(rt, "/dev/null")?,
             errors: opened(rt, "/dev/null")?,
         })
-    }
-}
-
-/// The file of this name.
-fn opened(rt: &HostRuntime, name: &str) -> Result<File, FileFault>
-    ensures { IfErr result (IsUnread name.now) }
-{
-    match File::open(rt, name) {
-        Ok(file) => Ok(file),
-        Err(error) => {
-            let name = String::from_str(rt.alloc(), name)?;
-            Err(FileFault::of_error(&error, FileFault::Reading(name)))
-        }
     }
 }

@@ -1,17 +1,19 @@
 //! The contents of files.
 
-ghost use Rattle.std.specs.Prelude.{◌≡◌, take, IfErr, IfNone, IfOk, IfSome, IsErr, Ok};
-ghost use Rattle.files65.specs.Faults.{CountsMissing, IsUnread};
+ghost use Rattle.std.specs.Prelude.{◌≡◌, ◌<◌, ◌≤◌, [], length, take, IfErr, IfNone, IfOk, IfSome, IsErr, IsOkAnd, MatchOption, Ok, Err, option_map};
+ghost use Rattle.files65.specs.Faults.{CountsMissing, IsEmpty, IsUnread};
 
 use crate::fault::FileFault;
 use crate::input::Input;
 use map65::{Source, TakeFault, take_up_to};
 use std::alloc::{AllocError, Global};
-use std::io::ErrorKind;
 
 /// The most that is read of an information file or of an include file: one byte more than it may have, so that a longer
 /// one is refused.
 pub const INFORMATION_LIMIT: usize = 1_048_577;
+
+/// The most that a listing may have: 64 MiB.
+const LISTING_LIMIT: usize = 67_108_864;
 
 /// Reads up to the end or the limit. There are no contents if a read fails.
 pub fn read_from<R: Source>(
@@ -34,10 +36,8 @@ pub fn read_from<R: Source>(
 pub fn contents(rt: &HostRuntime, name: &str, limit: usize) -> Result<Option<Vec<u8>>, AllocError> {
     match Input::open(rt, name) {
         Ok(mut input) => read_from(rt.alloc(), &mut input, limit),
-        Err(error) => match error.kind() {
-            ErrorKind::OutOfMemory => Err(AllocError),
-            _ => Ok(None),
-        },
+        Err(FileFault::Memory) => Err(AllocError),
+        Err(_) => Ok(None),
     }
 }
 
@@ -59,4 +59,38 @@ pub fn needed_contents(rt: &HostRuntime, name: &str, limit: usize) -> Result<Vec
 {
     let read = contents(rt, name, limit)?;
     contents_or_fault(rt.alloc(), read, name)
+}
+
+/// The bytes of the information file, of which at most 1,048,577 are read; without a name none. Fails with `Reading` if it can't be
+/// opened or read.
+pub fn read_information(rt: &HostRuntime, name: Option<&str>) -> Result<Vec<u8>, FileFault>
+    ensures { MatchOption (option_map (λ s. s.now) name.entry) (IsOkAnd result (λ bytes. bytes.items ≡ [])) (λ n. IfErr result (IsUnread n)) }
+{
+    match name {
+        Some(name) => needed_contents(rt, name, INFORMATION_LIMIT),
+        None => Ok(Vec::new(rt.alloc())),
+    }
+}
+
+/// The text of the listing of this name, if it has neither too few bytes nor too many.
+fn listing_of(alloc: Global, name: &str, text: Vec<u8>) -> Result<Vec<u8>, FileFault>
+    ensures some { 0 < length text.items → length text.items ≤ 67108864 → result ≡ Ok text }
+    ensures none { length text.items ≡ 0 → IfErr result (IsEmpty name.now) }
+    ensures large { 67108864 < length text.items → result ≡ Err FileFault.TooLarge }
+    ensures empty { length text.items ≡ 0 → IsErr result }
+{
+    if text.is_empty() {
+        return Err(FileFault::Empty(String::from_str(alloc, name)?));
+    }
+    if LISTING_LIMIT < text.len() {
+        return Err(FileFault::TooLarge);
+    }
+    Ok(text)
+}
+
+/// The text of the listing of this name. A listing without a byte is refused, since da65 never writes one: it is what
+/// a refused run leaves. So is one of more than 64 MiB.
+pub fn read_listing(rt: &HostRuntime, name: &str) -> Result<Vec<u8>, FileFault> {
+    let text = needed_contents(rt, name, LISTING_LIMIT + 1)?;
+    listing_of(rt.alloc(), name, text)
 }

@@ -1,5 +1,6 @@
-//! Whether two names are of one file.
+//! Whether names are of one file: an output that is an input, and a stream that two inputs would be read from.
 
+use crate::fault::FileFault;
 use std::fs::{Metadata, metadata};
 use std::os::unix::fs::MetadataExt;
 
@@ -12,7 +13,7 @@ fn are_one(one: &Metadata, other: &Metadata) -> bool {
 }
 
 /// Whether two names are of one file, through links too. A terminal or a pipe can be both an input and an output.
-pub fn are_one_file(rt: &HostRuntime, one: &str, other: &str) -> bool {
+fn are_one_file(rt: &HostRuntime, one: &str, other: &str) -> bool {
     match (metadata(rt, one), metadata(rt, other)) {
         (Ok(one), Ok(other)) => one.is_file() && are_one(&one, &other),
         _ => false,
@@ -20,17 +21,59 @@ pub fn are_one_file(rt: &HostRuntime, one: &str, other: &str) -> bool {
 }
 
 /// Whether two names are of one pipe, terminal or the like, whose bytes are read only once.
-pub fn are_one_stream(rt: &HostRuntime, one: &str, other: &str) -> bool {
+fn are_one_stream(rt: &HostRuntime, one: &str, other: &str) -> bool {
     match (metadata(rt, one), metadata(rt, other)) {
         (Ok(one), Ok(other)) => !one.is_file() && !one.is_dir() && are_one(&one, &other),
         _ => false,
     }
 }
 
-/// Whether something of this name is there that is no plain file, such as a folder or a device.
-pub fn is_special(rt: &HostRuntime, name: &str) -> bool {
+/// Whether the output is this input, by its name or through a link. Without a name it is standard output.
+fn is_input(rt: &HostRuntime, output: Option<&str>, input: &str) -> bool {
+    match output {
+        Some(output) => output == input || are_one_file(rt, output, input),
+        None => are_one_file(rt, STANDARD_OUTPUT, input),
+    }
+}
+
+/// Refuses an output that is one of these inputs, whether they are there or not. Where it has no name, the input is named.
+pub fn keep_inputs(
+    rt: &HostRuntime,
+    output: Option<&str>,
+    inputs: &[Option<&str>],
+) -> Result<(), FileFault> {
+    for input in inputs {
+        let Some(input) = *input else { continue };
+        if is_input(rt, output, input) {
+            let name = String::from_str(rt.alloc(), output.unwrap_or(input))?;
+            return Err(FileFault::OutputIsInput(name));
+        }
+    }
+    Ok(())
+}
+
+/// Refuses two of these inputs that are one stream: the second would be empty.
+pub fn keep_apart(rt: &HostRuntime, inputs: &[Option<&str>]) -> Result<(), FileFault> {
+    for (at, one) in inputs.iter().enumerate() {
+        for other in inputs.iter().skip(at + 1) {
+            let (Some(one), Some(other)) = (*one, *other) else {
+                continue;
+            };
+            if are_one_stream(rt, one, other) {
+                return Err(FileFault::StreamTwice(String::from_str(rt.alloc(), one)?));
+            }
+        }
+    }
+    Ok(())
+}
+
+/// Refuses an output that is there and is no plain file, such as a folder or a device.
+pub fn need_plain(rt: &HostRuntime, output: Option<&str>) -> Result<(), FileFault> {
+    let Some(name) = output else { return Ok(()) };
     match metadata(rt, name) {
-        Ok(found) => !found.is_file(),
-        Err(_) => false,
+        Ok(found) if !found.is_file() && name != STANDARD_OUTPUT => {
+            Err(FileFault::Special(String::from_str(rt.alloc(), name)?))
+        }
+        _ => Ok(()),
     }
 }

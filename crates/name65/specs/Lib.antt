@@ -1,4 +1,3 @@
-pub mod Code
 pub mod Command
 pub mod Marks
 pub mod NamedText

@@ -8,26 +8,14 @@ use info65::InfoFault;
 use std::alloc::AllocError;
 use stmt65::AsmFault;
 use thiserror::Error;
-use usage65::UsageFault;
+use usage65::RequestFault;
 
 /// What ends the program early.
 #[derive(Debug, Drop, Error)]
 pub enum Failure {
     /// The command line is refused.
     #[error("{0}")]
-    Usage(UsageFault),
-    /// The output of this name is the listing or the information file.
-    #[error("the output is an input: {0}")]
-    OutputIsInput(String),
-    /// The output of this name is there, and is no plain file.
-    #[error("the output is no plain file: {0}")]
-    Special(String),
-    /// Standard input would have to be both inputs.
-    #[error("standard input can be only one of the inputs")]
-    StandardTwice,
-    /// The stream of this name would have to be both inputs.
-    #[error("{0} can be only one of the inputs")]
-    StreamTwice(String),
+    Request(RequestFault),
     /// The information file is refused.
     #[error("info:{0}")]
     Info(InfoFault),
@@ -37,24 +25,15 @@ pub enum Failure {
     /// Memory ran out.
     #[error("out of memory")]
     Memory,
-    /// A file can't be read or created.
+    /// A file can't be used.
     #[error("{0}")]
     File(FileFault),
-    /// The listing of this name has no byte.
-    #[error("{0}: no bytes")]
-    EmptyListing(String),
-    /// The listing has more than 64 MiB.
-    #[error("input is too large")]
-    LargeListing,
     /// A line of the listing of this name has a fault.
     #[error("{0}:{1}")]
     Line(String, AsmFault),
     /// By names the listing would have a fault on a line, or other bytes.
     #[error("by names the listing would not have the same bytes")]
     Changed,
-    /// A write of the text, of the help text or of the version failed.
-    #[error("cannot write the output")]
-    Writing,
 }
 
 impl From<AllocError> for Failure {
@@ -80,16 +59,13 @@ impl From<Refusal> for Failure {
     }
 }
 
-impl From<UsageFault> for Failure {
-    ghost use Rattle.name65.specs.Request.{failure_for};
+impl From<RequestFault> for Failure {
+    ghost use Rattle.name65.specs.declared.failure.Failure.TheVariants.{Request};
 
-    ghost from_gives = { λ e f. f ≡ failure_for e };
+    ghost from_gives = { λ e f. f ≡ Request e };
 
-    fn from(fault: UsageFault) -> Failure {
-        match fault {
-            UsageFault::Memory => Failure::Memory,
-            _ => Failure::Usage(fault),
-        }
+    fn from(fault: RequestFault) -> Failure {
+        Failure::Request(fault)
     }
 }
 

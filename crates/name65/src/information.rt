@@ -1,7 +1,6 @@
 //! What the information file says: the groups of its lines `#: ..`, and where the image begins.
 
 use crate::failure::Failure;
-use files65::{INFORMATION_LIMIT, needed_contents};
 use info65::{InfoFault, InfoFaultKind, Options, Tag, read_info, read_tags};
 use std::alloc::Global;
 
@@ -12,14 +11,6 @@ fn failure_of(fault: InfoFault) -> Failure {
     match fault.kind {
         InfoFaultKind::Memory => Failure::Memory,
         _ => Failure::Info(fault),
-    }
-}
-
-/// The bytes of the information file; without one there are none.
-pub fn contents(rt: &HostRuntime, name: Option<&str>) -> Result<Vec<u8>, Failure> {
-    match name {
-        Some(name) => Ok(needed_contents(rt, name, INFORMATION_LIMIT)?),
-        None => Ok(Vec::new(rt.alloc())),
     }
 }
 

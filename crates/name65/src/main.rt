@@ -24,77 +24,16 @@ mod wishes;
 
 use command::this_program;
 use failure::Failure;
-use files65::{Output, Placeholders, are_one_file, are_one_stream, is_special, needed_contents};
-use information::{contents, start_given, tags};
-use map65::write_whole;
+use files65::{
+    Output, Placeholders, keep_apart, keep_inputs, need_plain, read_information, read_listing, say,
+    write_text,
+};
+use information::{start_given, tags};
 use named_text::named_text;
 use request::{Naming, Request, request_of};
-use std::io::Write;
 use std::process::ExitCode;
 use stmt65::{Language, Layout, Source, line_addresses};
-use usage65::words_of;
-
-/// The most that a listing may have: 64 MiB.
-const LIMIT: usize = 67_108_864;
-
-/// Writes a text about the program on standard output.
-fn tell(rt: &HostRuntime, text: &[u8]) -> Result<(), Failure> {
-    match rt.stdout().write_all(text) {
-        Ok(()) => Ok(()),
-        Err(_) => Err(Failure::Writing),
-    }
-}
-
-fn help(rt: &HostRuntime) -> Result<(), Failure> {
-    tell(rt, &this_program().help_text(rt.alloc())?)
-}
-
-fn version(rt: &HostRuntime) -> Result<(), Failure> {
-    tell(rt, &this_program().version_text(rt.alloc())?)
-}
-
-/// Refuses an output that is this input.
-fn keep_input(rt: &HostRuntime, output: &str, input: &str) -> Result<(), Failure> {
-    if are_one_file(rt, output, input) {
-        return Err(Failure::OutputIsInput(String::from_str(rt.alloc(), output)?));
-    }
-    Ok(())
-}
-
-/// Refuses an output that is an input or no plain file. Without a name the output is standard output.
-fn keep_inputs(rt: &HostRuntime, naming: &Naming) -> Result<(), Failure> {
-    let output = naming.output.as_deref().unwrap_or(files65::STANDARD_OUTPUT);
-    keep_input(rt, output, naming.listing.as_str())?;
-    if let Some(info) = naming.info.as_deref() {
-        keep_input(rt, output, info)?;
-    }
-    if naming.output.is_some() && is_special(rt, output) {
-        return Err(Failure::Special(String::from_str(rt.alloc(), output)?));
-    }
-    Ok(())
-}
-
-/// Refuses two inputs that are one stream: the second would be empty.
-fn keep_apart(rt: &HostRuntime, naming: &Naming) -> Result<(), Failure> {
-    match naming.info.as_deref() {
-        Some(info) if are_one_stream(rt, info, naming.listing.as_str()) => {
-            Err(Failure::StreamTwice(String::from_str(rt.alloc(), info)?))
-        }
-        _ => Ok(()),
-    }
-}
-
-/// The text of the listing of this name. One without a byte is what a refused run of da65 leaves.
-fn listing(rt: &HostRuntime, name: &str) -> Result<Vec<u8>, Failure> {
-    let text = needed_contents(rt, name, LIMIT + 1)?;
-    if text.is_empty() {
-        return Err(Failure::EmptyListing(String::from_str(rt.alloc(), name)?));
-    }
-    if LIMIT < text.len() {
-        return Err(Failure::LargeListing);
-    }
-    Ok(text)
-}
+use usage65::{Names, RequestFault, words_of};
 
 /// A text as people edit it, from a start on.
 fn repair<'t, 'l, 'n>(layout: &'l Layout<'n>, start: u16, text: &'t [u8]) -> Source<'t, 'l, 'n> {
@@ -116,46 +55,55 @@ fn start_at_end(rt: &HostRuntime, layout: &Layout<'_>, text: &[u8]) -> Result<u1
     Ok(0)
 }
 
-/// Writes a text. The output is created only now.
-fn write(rt: &HostRuntime, output: Option<String>, text: &[u8]) -> Result<(), Failure> {
-    let mut output = Output::create(rt, output)?;
-    match write_whole(&mut output, text) {
-        Ok(()) => Ok(()),
-        Err(_) => Err(Failure::Writing),
-    }
-}
-
-/// Reads the listing and the groups, and writes the listing by names.
-fn name_listing(rt: &HostRuntime, naming: Naming) -> Result<(), Failure> {
-    keep_inputs(rt, &naming)?;
-    keep_apart(rt, &naming)?;
-    let bytes = contents(rt, naming.info.as_deref())?;
+/// The listing of these files by names.
+fn named_listing(rt: &HostRuntime, naming: &Naming) -> Result<Vec<u8>, Failure> {
+    let Names {
+        listing: name,
+        info,
+        ..
+    } = &naming.names;
+    let bytes = read_information(rt, info.as_deref())?;
     let given = start_given(rt.alloc(), naming.start, &bytes)?;
     let tags = tags(rt.alloc(), &bytes)?;
-    let text = listing(rt, naming.listing.as_str())?;
+    let text = read_listing(rt, name.as_str())?;
     let layout = Layout::new(rt.alloc(), 0)?;
     let start = match given {
         Some(start) => start,
         None => start_at_end(rt, &layout, &text)?,
     };
     let source = repair(&layout, start, &text);
-    let named = named_text(
-        rt.alloc(),
-        naming.listing.as_str(),
-        &source,
-        &tags,
-        naming.used,
-    )?;
-    write(rt, naming.output, &named)
+    named_text(rt.alloc(), name.as_str(), &source, &tags, naming.used)
+}
+
+/// Reads the listing and the groups, and writes the listing by names. The output is created once that is there.
+fn name_listing(rt: &HostRuntime, mut naming: Naming) -> Result<(), Failure> {
+    let names = &naming.names;
+    let inputs = [names.info.as_deref(), Some(names.listing.as_str())];
+    keep_inputs(rt, names.output.as_deref(), &inputs)?;
+    need_plain(rt, names.output.as_deref())?;
+    keep_apart(rt, &inputs)?;
+    let text = named_listing(rt, &naming)?;
+    let mut output = Output::create(rt, naming.names.output.take())?;
+    Ok(write_text(&mut output, &text)?)
+}
+
+/// What the program's words ask for.
+fn requested(rt: &HostRuntime) -> Result<Request, RequestFault> {
+    let words = words_of(rt)?;
+    request_of(rt.alloc(), &words)
+}
+
+/// Writes a text about the program on standard output.
+fn tell(rt: &HostRuntime, text: &[u8]) -> Result<(), Failure> {
+    Ok(write_text(&mut Output::standard(rt), text)?)
 }
 
 fn program(rt: &HostRuntime) -> Result<(), Failure> {
     // Messages to a closed standard error must not end up in the output file.
     let _placeholders = Placeholders::take(rt)?;
-    let words = words_of(rt)?;
-    match request_of(rt.alloc(), &words)? {
-        Request::Help => help(rt),
-        Request::Version => version(rt),
+    match requested(rt)? {
+        Request::Help => tell(rt, &this_program().help_text(rt.alloc())?),
+        Request::Version => tell(rt, &this_program().version_text(rt.alloc())?),
         Request::Name(naming) => name_listing(rt, naming),
     }
 }
@@ -164,7 +112,7 @@ fn main(rt: HostRuntime) -> ExitCode {
     match program(&rt) {
         Ok(()) => ExitCode::SUCCESS,
         Err(failure) => {
-            let _ = eprintln!(rt; "name65: {failure}");
+            let _ = say(&rt, "name65", format!(in rt.alloc(); "{failure}"), &[]);
             ExitCode::FAILURE
         }
     }

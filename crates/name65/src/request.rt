@@ -1,17 +1,17 @@
 //! What a command line asks for.
 
-ghost use Rattle.std.specs.Prelude.{◌≡◌, map, option_map};
+ghost use Rattle.std.specs.Prelude.{map};
 ghost use Rattle.std.specs.String.{string_bytes};
 ghost use Rattle.clap.specs.Words.{found_of, rows_of};
-ghost use Rattle.name65.specs.Code.Requests.{given_of};
-ghost use Rattle.name65.specs.Request.{Gives, asked, asked_in, asked_of, to_name, to_name_into};
+ghost use Rattle.usage65.specs.Requests.{Gives};
+ghost use Rattle.name65.specs.Request.{asked, asked_in, asked_of};
 
 use crate::command::this_program;
-use crate::failure::Failure;
 use clap::ArgMatches;
 use std::alloc::Global;
 use usage65::{
-    address_of, info_named, input_named, is_name, is_set, is_taken, output_named, owned, text_of,
+    Names, RequestFault, address_of, info_named, input_named, is_set, names_apart, output_named,
+    text_of,
 };
 
 /// What a command line asks for.
@@ -25,24 +25,11 @@ pub enum Request {
 /// A listing is to be written by names.
 #[derive(Drop)]
 pub struct Naming {
-    pub listing: String,
-    pub info: Option<String>,
+    pub names: Names,
     /// The address of the first byte; without one the information file says where it is, or the last byte is at $FFFF.
     pub start: Option<u16>,
     /// Whether constant lines of unused names are left out.
     pub used: bool,
-    /// The file that the text is written to; without one standard output.
-    pub output: Option<String>,
-}
-
-/// The same before its names are owned.
-#[derive(Clone, Copy)]
-struct Given<'a> {
-    listing: &'a str,
-    info: Option<&'a str>,
-    start: Option<u16>,
-    used: bool,
-    output: Option<&'a str>,
 }
 
 /// What the words ask for. The first word is the program's name.
@@ -50,7 +37,7 @@ struct Given<'a> {
 /// Each option and the name of the listing may be given once. Help comes first, then the version, both before the start is
 /// read. The output may not have the name of an input, nor may standard input be both the listing and the information file.
 #[tactic(auto, unfolding(crate::specs::Request::asked), using(crate::proofs::CommandLemmas::app_is_plain))]
-pub fn request_of(alloc: Global, words: &[String]) -> Result<Request, Failure>
+pub fn request_of(alloc: Global, words: &[String]) -> Result<Request, RequestFault>
     ensures { Gives asked_of result (asked (map string_bytes words.now)) }
 {
     let matches = this_program().matches(alloc, words)?;
@@ -59,7 +46,7 @@ pub fn request_of(alloc: Global, words: &[String]) -> Result<Request, Failure>
 
 /// What the matches ask for.
 #[tactic(auto, unfolding(crate::specs::Request::asked_in))]
-fn request_in(alloc: Global, matches: &ArgMatches) -> Result<Request, Failure>
+fn request_in(alloc: Global, matches: &ArgMatches) -> Result<Request, RequestFault>
     ensures { Gives asked_of result (asked_in (rows_of (found_of matches.now))) }
 {
     if is_set(matches, "help") {
@@ -69,52 +56,13 @@ fn request_in(alloc: Global, matches: &ArgMatches) -> Result<Request, Failure>
         return Ok(Request::Version);
     }
     let start = address_of(matches, "start")?;
-    let given = Given {
-        listing: input_named(text_of(matches, "listing")),
-        info: info_named(text_of(matches, "info")),
+    let listing = input_named(text_of(matches, "listing"));
+    let info = info_named(text_of(matches, "info"));
+    let output = output_named(text_of(matches, "output"));
+    let names = names_apart(alloc, listing, info, output)?;
+    Ok(Request::Name(Naming {
+        names,
         start,
         used: is_set(matches, "used"),
-        output: output_named(text_of(matches, "output")),
-    };
-    to_name(alloc, given)
-}
-
-/// A listing is to be written by names. Standard input can be only one of the inputs.
-#[tactic(auto, unfolding(crate::specs::Request::to_name))]
-fn to_name(alloc: Global, given: Given<'_>) -> Result<Request, Failure>
-    ensures { Gives asked_of result (to_name (given_of given.entry)) }
-{
-    if is_taken(given.info, given.listing) {
-        return Err(Failure::StandardTwice);
-    }
-    to_name_into(alloc, given)
-}
-
-/// The output is none of the inputs.
-#[tactic(auto, unfolding(crate::specs::Request::to_name_into))]
-fn to_name_into(alloc: Global, given: Given<'_>) -> Result<Request, Failure>
-    ensures { Gives asked_of result (to_name_into (given_of given.entry) (option_map (λ s. s.now) given.entry.output)) }
-{
-    let Given {
-        listing,
-        info,
-        start,
-        used,
-        output,
-    } = given;
-    if let Some(name) = output {
-        if name == listing || is_name(info, name) {
-            return Err(Failure::OutputIsInput(String::from_str(alloc, name)?));
-        }
-    }
-    let listing = String::from_str(alloc, listing)?;
-    let info = owned(alloc, info)?;
-    let output = owned(alloc, output)?;
-    Ok(Request::Name(Naming {
-        listing,
-        info,
-        start,
-        used,
-        output,
     }))
 }

@@ -1,13 +1,11 @@
 //! Why the program gives up.
 
-ghost use Rattle.std.specs.Prelude.{◌≡◌, ◌≢◌};
-ghost use Rattle.std.specs.IoError.{error_kind};
+ghost use Rattle.std.specs.Prelude.{◌≡◌};
 
 use files65::FileFault;
 use info65::InfoFault;
 use map65::ImageFault;
 use std::alloc::AllocError;
-use std::io::{Error as IoError, ErrorKind};
 use thiserror::Error;
 use usage65::UsageFault;
 
@@ -20,12 +18,9 @@ pub enum Failure {
     /// Memory ran out.
     #[error("out of memory")]
     Memory,
-    /// A file can't be read or created.
+    /// A file can't be used.
     #[error("{0}")]
     File(FileFault),
-    /// The output of this name is there already.
-    #[error("{0} exists")]
-    Exists(String),
     /// The information file is refused.
     #[error("info:{0}")]
     Info(InfoFault),
@@ -38,9 +33,6 @@ pub enum Failure {
     /// The input gives no image.
     #[error("{0}")]
     Image(ImageFault),
-    /// A write of the output, of the help text or of the version failed.
-    #[error("cannot write the output")]
-    Writing,
 }
 
 impl From<AllocError> for Failure {
@@ -80,17 +72,5 @@ impl From<ImageFault> for Failure {
 
     fn from(fault: ImageFault) -> Failure {
         Failure::Image(fault)
-    }
-}
-
-/// The failure of an output of this name that can't be created: it exists, memory ran out, or something else.
-pub fn not_created(error: &IoError, name: String) -> Failure
-    ensures exists { error_kind error.now ≡ ErrorKind.AlreadyExists → result ≡ Failure.Exists name }
-    ensures memory { error_kind error.now ≡ ErrorKind.OutOfMemory → result ≡ Failure.File FileFault.Memory }
-    ensures other { error_kind error.now ≢ ErrorKind.AlreadyExists → error_kind error.now ≢ ErrorKind.OutOfMemory → result ≡ Failure.File (FileFault.Creating name) }
-{
-    match error.kind() {
-        ErrorKind::AlreadyExists => Failure::Exists(name),
-        _ => Failure::File(FileFault::of_error(error, FileFault::Creating(name))),
     }
 }

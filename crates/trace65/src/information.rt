@@ -3,7 +3,7 @@
 ghost use Rattle.std.specs.Prelude.{◌≡◌, ◌≢◌};
 
 use crate::failure::Failure;
-use files65::{FileFault, INFORMATION_LIMIT, Input, needed_contents};
+use files65::{INFORMATION_LIMIT, Input, needed_contents};
 use info65::{Info, InfoFault, InfoFaultKind, Options, Tag, read_include, read_info, read_tags};
 use map65::{Image, read_image};
 
@@ -32,14 +32,6 @@ fn add_include(rt: &HostRuntime, info: &mut Info, index: usize) -> Result<(), Fa
     }
 }
 
-/// The bytes of the information file; without one there are none.
-pub fn contents(rt: &HostRuntime, options: &Options) -> Result<Vec<u8>, Failure> {
-    match &options.info {
-        Some(name) => Ok(needed_contents(rt, name.as_str(), INFORMATION_LIMIT)?),
-        None => Ok(Vec::new(rt.alloc())),
-    }
-}
-
 /// The groups of the lines `#: ..` of an information file that is not too large.
 pub fn tags(rt: &HostRuntime, bytes: &[u8]) -> Result<Vec<Tag>, Failure> {
     if bytes.len() > 1_048_576 {
@@ -65,14 +57,9 @@ pub fn information(rt: &HostRuntime, options: &Options, bytes: &[u8]) -> Result<
 
 /// The image that the settings ask for.
 pub fn image(rt: &HostRuntime, info: &Info) -> Result<Image, Failure> {
-    let Some(name) = &info.settings().input else {
+    let Some(name) = info.settings().input.as_deref() else {
         return Err(Failure::NoInput);
     };
-    match Input::open(rt, name.as_str()) {
-        Ok(mut input) => Ok(read_image(rt.alloc(), info, &mut input)?),
-        Err(error) => {
-            let name = String::from_str(rt.alloc(), name.as_str())?;
-            Err(Failure::File(FileFault::of_error(&error, FileFault::Reading(name))))
-        }
-    }
+    let mut input = Input::open(rt, name)?;
+    Ok(read_image(rt.alloc(), info, &mut input)?)
 }

@@ -24,15 +24,13 @@ mod request;
 mod said;
 
 use command::this_program;
-use failure::{Failure, not_created};
-use files65::Placeholders;
+use failure::Failure;
+use files65::{Output, Placeholders, read_information, say, write_text};
 use info65::{Info, Tag};
-use information::{contents, image, information, tags};
+use information::{image, information, tags};
 use map65::Map;
 use report::report;
 use request::{Request, Tracing, request_of};
-use std::fs::File;
-use std::io::Write;
 use std::process::ExitCode;
 use usage65::words_of;
 
@@ -42,12 +40,9 @@ fn requested(rt: &HostRuntime) -> Result<Request, Failure> {
     Ok(request_of(rt.alloc(), &words)?)
 }
 
-/// Writes a text on a file or standard output.
-fn write<W: Write + Drop>(mut out: W, text: &[u8]) -> Result<(), Failure> {
-    match out.write_all(text) {
-        Ok(()) => Ok(()),
-        Err(_) => Err(Failure::Writing),
-    }
+/// Writes a text about the program on standard output.
+fn tell(rt: &HostRuntime, text: &[u8]) -> Result<(), Failure> {
+    Ok(write_text(&mut Output::standard(rt), text)?)
 }
 
 /// The text that is written of an image, under what the information file of these bytes says.
@@ -65,43 +60,25 @@ fn text_of(
 
 /// The text that is written.
 fn traced_text(rt: &HostRuntime, tracing: &Tracing) -> Result<Vec<u8>, Failure> {
-    let bytes = contents(rt, &tracing.options)?;
+    let bytes = read_information(rt, tracing.options.info.as_deref())?;
     let info = information(rt, &tracing.options, &bytes)?;
     let tags = tags(rt, &bytes)?;
     text_of(rt, tracing, &info, &tags, &bytes)
 }
 
-/// Creates the output and writes the text on it. It must not be there yet, so that no input is written over, whatever its name.
-fn create(rt: &HostRuntime, output: Option<String>, text: &[u8]) -> Result<(), Failure> {
-    let Some(name) = output else {
-        return write(rt.stdout(), text);
-    };
-    match File::create_new(rt, name.as_str()) {
-        Ok(file) => write(file, text),
-        Err(error) => Err(not_created(&error, name)),
-    }
-}
-
 /// Writes what is found in the image. The output is created once the text is there.
 fn trace(rt: &HostRuntime, mut tracing: Tracing) -> Result<(), Failure> {
     let text = traced_text(rt, &tracing)?;
-    create(rt, tracing.output.take(), &text)
-}
-
-fn help(rt: &HostRuntime) -> Result<(), Failure> {
-    write(rt.stdout(), &this_program().help_text(rt.alloc())?)
-}
-
-fn version(rt: &HostRuntime) -> Result<(), Failure> {
-    write(rt.stdout(), &this_program().version_text(rt.alloc())?)
+    let mut output = Output::create_new(rt, tracing.output.take())?;
+    Ok(write_text(&mut output, &text)?)
 }
 
 fn program(rt: &HostRuntime) -> Result<(), Failure> {
     // Messages to a closed standard error must not end up in the output file.
     let _placeholders = Placeholders::take(rt)?;
     match requested(rt)? {
-        Request::Help => help(rt),
-        Request::Version => version(rt),
+        Request::Help => tell(rt, &this_program().help_text(rt.alloc())?),
+        Request::Version => tell(rt, &this_program().version_text(rt.alloc())?),
         Request::Trace(tracing) => trace(rt, tracing),
     }
 }
@@ -110,7 +87,7 @@ fn main(rt: HostRuntime) -> ExitCode {
     match program(&rt) {
         Ok(()) => ExitCode::SUCCESS,
         Err(failure) => {
-            let _ = eprintln!(rt; "trace65: {failure}");
+            let _ = say(&rt, "trace65", format!(in rt.alloc(); "{failure}"), &[]);
             ExitCode::FAILURE
         }
     }

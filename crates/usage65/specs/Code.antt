@@ -1,2 +1,3 @@
 -- What ties the code to the rules.
 pub mod Rows
+pub mod Names

@@ -5,3 +5,4 @@ pub mod Help
 pub mod Number
 pub mod Values
 pub mod FileNames
+pub mod Requests

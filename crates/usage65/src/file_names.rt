@@ -4,7 +4,7 @@ ghost use Rattle.std.specs.Prelude.{◌≡◌, option_map};
 ghost use Rattle.usage65.specs.FileNames.{info_named, input_named, is_name, is_taken, output_named};
 
 /// What an input without a name is read from.
-pub const STANDARD_INPUT: &str = "/dev/stdin";
+const STANDARD_INPUT: &str = "/dev/stdin";
 
 /// The name of what is read. `-`, and an input without a name, is standard input.
 pub fn input_named(name: Option<&str>) -> &str

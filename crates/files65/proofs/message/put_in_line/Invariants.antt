@@ -1,6 +1,6 @@
 use Rattle.std.proofs.Common.{◌≡◌, ◌++◌, flat_map, take}
-use Rattle.as65.specs.Message.{in_line}
-use Rattle.as65.proofs.message.put_in_line.Given as goal
+use Rattle.files65.specs.Message.{in_line}
+use Rattle.files65.proofs.message.put_in_line.Given as goal
 
 abbrev pub invariant-bytes : goal.invariant-bytes
 invariant-bytes l = l.out.items ≡ l.initial.out.items ++ flat_map in_line (take l.byte-index l.bytes)

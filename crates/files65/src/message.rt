@@ -1,0 +1,75 @@
+//! Messages on standard error.
+
+ghost use Rattle.std.specs.Prelude.{◌≡◌, ◌++◌, IfOk, OnOk};
+ghost use Rattle.std.specs.List.{flat_map};
+ghost use Rattle.files65.specs.Message.{in_line, message};
+
+use crate::fault::FileFault;
+use crate::output::write_text;
+use arrayvec::ArrayVec;
+use map65::{Sink, Told};
+use std::alloc::{AllocError, Global};
+
+/// Appends bytes, with `\n` for each line feed.
+fn put_in_line(out: &mut Vec<u8>, bytes: &[u8]) -> Result<(), AllocError>
+    ensures { OnOk result (out.new.items ≡ out.old.items ++ flat_map in_line bytes.now) }
+{
+    'bytes: for byte in bytes {
+        put_byte(out, *byte)?;
+    }
+    Ok(())
+}
+
+fn put_byte(out: &mut Vec<u8>, byte: u8) -> Result<(), AllocError>
+    ensures { OnOk result (out.new.items ≡ out.old.items ++ in_line byte) }
+{
+    if byte == b'\n' {
+        return out.extend_from_slice(b"\\n");
+    }
+    out.extend_from_slice(&[byte])
+}
+
+/// A message of a program, as one line: a text, and what is said after it, which need not be valid UTF-8.
+#[tactic(auto, unfolding(crate::specs::Message::message))]
+pub fn message(
+    alloc: Global,
+    program: &str,
+    text: &str,
+    about: &[u8],
+) -> Result<Vec<u8>, AllocError>
+    ensures { IfOk result (λ line. line.items ≡ message program.now text.now about.now) }
+{
+    let mut line = Vec::new(alloc);
+    line.extend_from_slice(program.as_bytes())?;
+    line.extend_from_slice(b": ")?;
+    put_in_line(&mut line, text.as_bytes())?;
+    put_in_line(&mut line, about)?;
+    line.extend_from_slice(b"\n")?;
+    Ok(line)
+}
+
+/// Says that memory ran out, which takes none.
+fn say_out_of_memory<W: Sink>(out: &mut W, program: &str) -> Result<(), FileFault> {
+    let mut line: ArrayVec<u8, 64> = ArrayVec::new();
+    let _ = line.try_extend_from_slice(program.as_bytes());
+    let _ = line.try_extend_from_slice(b": out of memory\n");
+    write_text(out, line.as_slice())
+}
+
+/// Says a text on standard error, by one write; without a text that memory ran out. Where that fails, nothing more is to be written.
+pub fn say(
+    rt: &HostRuntime,
+    program: &str,
+    text: Result<String, AllocError>,
+    about: &[u8],
+) -> Result<(), FileFault> {
+    let mut out = Told::new(rt.stderr());
+    let line = match text {
+        Ok(text) => message(rt.alloc(), program, text.as_str(), about),
+        Err(fault) => Err(fault),
+    };
+    match line {
+        Ok(line) => write_text(&mut out, &line),
+        Err(_) => say_out_of_memory(&mut out, program),
+    }
+}

@@ -1,2 +1,0 @@
--- What ties the code to the rules: what its values stand for.
-pub mod Requests

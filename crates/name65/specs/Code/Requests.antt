@@ -1,7 +1,0 @@
--- What is given, as the rules see it.
-use Rattle.std.specs.Prelude.{option_map}
-use Rattle.name65.specs.Request.{Given}
-use Rattle.name65.specs.declared.request.Given.{Given as CodeGiven}
-
-abbrev pub given_of : CodeGiven → Given
-given_of g = record { listing = g.listing.now; info = option_map (λ s. s.now) g.info; start = g.start; used = g.used; output = option_map (λ s. s.now) g.output }
