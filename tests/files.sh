@@ -531,7 +531,7 @@ less_memory() {
     out=none
     go
     cp stdout whole
-    for limit in $(seq 24576 -256 256); do
+    for limit in $(seq 24576 -64 256); do
         { (ulimit -v $limit; exec "$program" "${words[@]}" >stdout 2>stderr); } 2>/dev/null
         status=$?
         if [ $status = $fine ] && [ ! -s stderr ]; then
@@ -654,7 +654,7 @@ calls_and_memory() {
     each_write
     [ $options = all ] || return
     counts da65 8 9 8 442008
-    counts trace65 8 22 1 1713839
+    counts trace65 8 22 1 3352239
     counts as65 6 4 1 56076
     counts compare 6 10 1 1710374
     counts name65 6 18 1 1094772

@@ -531,14 +531,6 @@ for limit in $(seq 8192 -64 256); do
 done
 [ "$ran_out" = 1 ] || fails 'less and less memory' 'it never ran out'
 
-# ---- closed standard streams
-
-if has_shim; then
-    needs_null 'without /dev/null' 1 'trace65: cannot read /dev/null\n' null.txt -o null.txt examples/three.bin
-else
-    echo 'trace65: what needs the shim is left out, since CC=skip is set'
-fi
-
 # ---- there and back
 
 comes_back 'hello' 0xF000 examples/hello.bin
