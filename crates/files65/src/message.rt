@@ -56,7 +56,8 @@ fn say_out_of_memory<W: Sink>(out: &mut W, program: &str) -> Result<(), FileFaul
     write_text(out, line.as_slice())
 }
 
-/// Says a text on standard error, by one write; without a text that memory ran out. Where that fails, nothing more is to be written.
+/// Says a text on standard error, by one write; if memory runs out for it, that alone is said, and the call fails with `Memory`. After a
+/// failure nothing more is to be written.
 pub fn say(
     rt: &HostRuntime,
     program: &str,
@@ -70,6 +71,9 @@ pub fn say(
     };
     match line {
         Ok(line) => write_text(&mut out, &line),
-        Err(_) => say_out_of_memory(&mut out, program),
+        Err(_) => {
+            say_out_of_memory(&mut out, program)?;
+            Err(FileFault::Memory)
+        }
     }
 }
