@@ -460,7 +460,7 @@ work() {
     counts 'help' 0 3 0 1 18000 22500 -h
     counts 'the version' 0 3 0 1 18000 21500 -V
     counts 'an information file and include files' 0 8 9 1 404000 820000 -i all.info
-    counts 'large files and a long name' 0 7 152 1 1106000 2855000 -i wide.info -o out.s "$long"
+    counts 'large files and a long name' 0 7 152 1 1467000 3282000 -i wide.info -o out.s "$long"
     counts 'a warning' 0 5 4 2 136500 220500 -i skip.info three.bin
     counts 'no input name' 1 3 0 1 15200 19000
     counts 'an empty input' 1 4 1 1 15500 19700 empty.bin
@@ -761,9 +761,9 @@ speed() {
     includes 16 1 10 >small.info
     compares '1 KiB with 16 include files of a line' 42.7 -S 0 -i small.info kilobyte.bin
     includes 16 4096 230 >large.info
-    compares '1 KiB with 16 include files of 1 MiB' 33.2 -S 0 -i large.info kilobyte.bin
+    compares '1 KiB with 16 include files of 1 MiB' 26.0 -S 0 -i large.info kilobyte.bin
     remarked 16 250 >remarked.info
-    compares '1 KiB with 16 MiB of comment, 4,000 names' 57.9 -S 0 -i remarked.info kilobyte.bin
+    compares '1 KiB with 16 MiB of comment, 4,000 names' 64.3 -S 0 -i remarked.info kilobyte.bin
 
     printf 'MEMORY { MAIN: start = 0, size = $10000, file = %%O; }\nSEGMENTS { CODE: load = MAIN, type = ro; }\n' >flat.cfg
     printf '\n%-44s %12s %12s %8s\n' 'instructions for a listing' 'as65' 'ca65, ld65' 'ratio'
@@ -788,20 +788,20 @@ speed() {
     awk 'BEGIN { for (n = 0; n < 8000; n++) printf "#: HALVES { LOW $%04X; HIGH $%04X; };\n", 4 * n + 1, 4 * n + 3 }' >pairs.info
     awk 'NR % 10 == 1' pairs.info >few.info
     printf '\n%-44s %12s %12s %8s\n' 'instructions for a listing' 'name65' 'as65' 'ratio'
-    names 'three lines' 138.2 three.s
-    names 'random bytes' 115 random.s
-    names 'random bytes, used names' 160 random.s --used
-    names 'a tenth of 8,000 pairs' 230 numbers.s -i few.info
-    names '8,000 pairs' 400 numbers.s -i pairs.info
+    names 'three lines' 130.1 three.s
+    names 'random bytes' 108.7 random.s
+    names 'random bytes, used names' 155.9 random.s --used
+    names 'a tenth of 8,000 pairs' 229.6 numbers.s -i few.info
+    names '8,000 pairs' 405.2 numbers.s -i pairs.info
     printf '\n%-44s %12s %12s\n' 'instructions for a line' '64 KiB' '128 KiB'
     lengthens 'a line that is one word' 1 n
     lengthens 'a long number after a half' 0 'x1 := 1\n .byte <x1,'
 
     printf '\n%-28s %12s %12s %8s %8s %8s %9s\n' 'instructions and kilobytes' 'here' 'cc65' 'ratio' 'here' 'cc65' 'ratio'
-    doubles 59.9 59.8 labels 20000
-    doubles 62.9 61.3 shuffled 20000
-    doubles 91.9 95.7 colliding 20000
-    doubles 80.3 86.0 definitions 60000
+    doubles 55.8 56.1 labels 20000
+    doubles 57.7 56.7 shuffled 20000
+    doubles 90.1 94.6 colliding 20000
+    doubles 67.8 68.5 definitions 60000
     doubles 54.4 54.5 ranges 20000
     doubles 77.0 75.8 segments 20000
 }
