@@ -27,6 +27,7 @@ files65 FileFault::of_error 2
 files65 FileFault::of_opening 1
 files65 contents 2
 files65 read_from 2
+files65 say 1
 info65 InfoFault::MEMORY 1
 info65 InfoFault::from 2
 info65 InfoFaultKind::text 1
