@@ -24,7 +24,8 @@ use() {
     case $run in
     da65)
         inputs=(info one two image) unwritten='cannot write the listing'
-        every+=(--cpu 6502 --comments 0 --mnemonic-column 9 --argument-column 17 --comment-column 49 --text-column 81 --label-break 7 --hexoffs)
+        every+=(--cpu 6502 --comments 0 --mnemonic-column 9 --argument-column 17 --comment-column 49 --text-column 81
+            --label-break 7 --hexoffs)
         ;;
     trace65) inputs=(info one two image) every+=(--cpu 6502 --entry 0x1000 --plain --whole) ;;
     as65) inputs=(info listing) every+=(--fill 0) ;;
@@ -266,7 +267,8 @@ from_streams() {
     begin
     out=none
     command_line
-    [ "$(printf 'abcdef' | { "$program" "${words[@]}" >stdout; cat; })" = abcdef ] || fails "$run: standard input that is not asked for" 'it was read'
+    [ "$(printf 'abcdef' | { "$program" "${words[@]}" >stdout; cat; })" = abcdef ] ||
+        fails "$run: standard input that is not asked for" 'it was read'
     [ $main = listing ] || return
     begin
     out=none
@@ -459,6 +461,15 @@ streams() {
     esac
     [ $run = da65 ] || said=${said#!}
     refuses 'a closed standard input' "$said"
+    # What is said there is not in a file that is opened later.
+    begin
+    rm "${name[${inputs[1]}]}"
+    command_line
+    "$program" "${words[@]}" <&- >stdout 2>&-
+    status=$?
+    : >stderr
+    says 'a closed standard input and error' $trouble ''
+    if [ $run = da65 ]; then has 'a closed standard input and error' in/out /dev/null; else keeps 'a closed standard input and error'; fi
     [ -e /dev/full ] || return
     begin
     out=none
@@ -636,7 +647,8 @@ each_write() {
 
 # ---- calls and memory
 
-# counts RUN OPENS READS WRITES MEMORY: what the run takes for large inputs. The bytes of memory are those that it asks for in all.
+# counts RUN OPENS READS WRITES MEMORY TIMES: what the run takes for large inputs. The bytes of memory are those that it asks for in all,
+# by at most that many allocations.
 counts() {
     [ $1 = $run ] || return
     local opens reads writes most asked allocations
@@ -646,6 +658,7 @@ counts() {
     read -r opens reads writes most asked allocations <counts
     [ "$opens $reads $writes" = "$2 $3 $4" ] || fails "$run: calls" "$opens $reads $writes opens, reads and writes, and not $2 $3 $4"
     [ $((asked * 20)) -le $(($5 * 21)) ] || fails "$run: memory" "$asked bytes and not $5"
+    [ "$allocations" -le "$6" ] || fails "$run: memory" "$allocations allocations and not at most $6"
 }
 
 calls_and_memory() {
@@ -653,11 +666,11 @@ calls_and_memory() {
     each_read
     each_write
     [ $options = all ] || return
-    counts da65 8 9 8 442008
-    counts trace65 8 22 1 3352239
-    counts as65 6 4 1 56076
-    counts compare 6 10 1 1710374
-    counts name65 6 18 1 1094772
+    counts da65 8 9 8 442008 186
+    counts trace65 8 22 1 3352239 170
+    counts as65 6 4 1 56076 88
+    counts compare 6 10 1 1710374 125
+    counts name65 6 18 1 1094772 127
 }
 
 # ---- all of it
